@@ -1,0 +1,139 @@
+use Rattle.std.proofs.lemmas.Bool.{false≢true}
+use Rattle.std.proofs.lemmas.Bool.Decides.{nat_tests}
+use Rattle.std.proofs.Common.{IfSome, ◌-◌, ◌↔◌, Contains, ◌≡◌, ℕ, suc, zero, ◌<◌, ◌≤◌, List, [], ◌∷◌, ◌++◌, length, take, Some, refl, ap, sym, ◌∙◌, arith, inl, inr, ⊎_elim, subst, append-nil, Bool, true, false, cond, IsTrue}
+use Rattle.std.specs.List.{slice_get, filter, AllByRecursion}
+use Rattle.std.proofs.lemmas.List.Elements.{filter-append, filter_map-append, Contains-append_left}
+use Rattle.tx_model.specs.declared.event.By.{By}
+use Rattle.tx_model.specs.declared.event.Event.{Event}
+use Rattle.tx_model.specs.declared.report.Line.{Line}
+use Rattle.tx_model.specs.declared.record.Counters.{Counters}
+use Rattle.tx_model.specs.Events.{by_of, same_by, events_of, given, announced_by}
+use Rattle.tx_model.specs.Stance.{Stance, stance_from, after, nothing_yet}
+use Rattle.tx_model.specs.Replies.{MayReply, WasAnnounced, IsGivenAt, IsWarned, seen_id}
+use Rattle.tx_model.specs.Snapshots.{snapshot_data, snapshot_xmax}
+use Rattle.tx_model.specs.Visible.{is_visible}
+use Rattle.tx_model.specs.Limits.{warn_limit}
+use Rattle.tx_model.specs.Horizon.{oldest_id}
+use Rattle.tx_model.specs.declared.command.Command.{Command}
+use Rattle.tx_model.specs.declared.command.Command.TheVariants as commands
+use Rattle.tx_model.specs.declared.reply.Reply.{Reply}
+use Rattle.tx_model.specs.declared.reply.Reply.TheVariants as replies
+use Rattle.tx_model.specs.declared.reply.Refusal.TheVariants as refusals
+use Rattle.xid_order.specs.Nearest.{near_id}
+use Rattle.tx_model.specs.Lines.{is_line_of, stance}
+use Rattle.tx_model.proofs.PlaceLemmas.{slice_get-grows, slice_get-append_cases, take-grows}
+
+pub same_by_refl : (by : By) → same_by by by ≡ true
+same_by_refl by = grind (arith, nat_tests)
+
+-- no event is of this command
+abbrev pub AreOthers : By → List Event → Type 0
+AreOthers by es = AllByRecursion (λ e. same_by (by_of e) by ≡ false) es
+
+pub events_of_others : (by : By) (es : List Event) → AreOthers by es → events_of by es ≡ []
+events_of_others by [] h = refl
+events_of_others by (e ∷ es) h = rw h.0 (events_of_others by es h.1)
+
+pub events_of_own : (by : By) (es : List Event) → AllByRecursion (λ e. same_by (by_of e) by ≡ true) es → events_of by es ≡ es
+events_of_own by [] h = refl
+events_of_own by (e ∷ es) h = rw h.0 (ap (λ t. e ∷ t) (events_of_own by es h.1))
+
+-- events of other commands change nothing of this one's
+pub events_of_grows : (by : By) (h es : List Event) → AreOthers by es → events_of by (h ++ es) ≡ events_of by h
+events_of_grows by h es o = filter-append _ h es ∙ ap (λ t. events_of by h ++ t) (events_of_others by es o) ∙ append-nil (events_of by h)
+
+-- events that are of none of these lines change nothing of how a session stands after them
+pub stance_from_grows : (h es : List Event) (lines : List Line) (s : Stance) → AllByRecursion (λ l. AreOthers l.by es) lines → stance_from s (h ++ es) lines ≡ stance_from s h lines
+stance_from_grows h es [] s o = refl
+stance_from_grows h es (l ∷ lines) s o =
+    stance_from_grows h es lines (after s l.by.command l.command l.reply (given (events_of l.by (h ++ es)))) o.1
+    ∙ ap (λ t. stance_from (after s l.by.command l.command l.reply (given t)) h lines) (events_of_grows l.by h es o.0)
+
+others_filter : (p : Line → Bool) (es : List Event) (lines : List Line) → AllByRecursion (λ l. AreOthers l.by es) lines → AllByRecursion (λ l. AreOthers l.by es) (filter p lines)
+others_filter p es [] o = tt
+others_filter p es (l ∷ lines) o =
+    elim (p l) as (λ b. AllByRecursion (λ l. AreOthers l.by es) (cond b (l ∷ filter p lines) (filter p lines))) [ true ↦ (o.0, others_filter p es lines o.1) | false ↦ others_filter p es lines o.1 ]
+
+pub others_take : (n : ℕ) (es : List Event) (lines : List Line) → AllByRecursion (λ l. AreOthers l.by es) lines → AllByRecursion (λ l. AreOthers l.by es) (take n lines)
+others_take zero es lines o = tt
+others_take (suc n) es [] o = tt
+others_take (suc n) es (l ∷ lines) o = (o.0, others_take n es lines o.1)
+
+pub stance_grows : (h es : List Event) (lines : List Line) (session : ℕ) → AllByRecursion (λ l. AreOthers l.by es) lines → stance (h ++ es) lines session ≡ stance h lines session
+stance_grows h es lines session o = stance_from_grows h es (filter (is_line_of session) lines) nothing_yet (others_filter _ es lines o)
+
+announced_grows : (base : Counters) (h es : List Event) (oldest : ℕ) → WasAnnounced base h oldest → WasAnnounced base (h ++ es) oldest
+announced_grows base h es oldest a =
+    ⊎_elim inl (λ k. inr (subst (λ t. Contains t oldest) (sym (filter_map-append announced_by h es)) (Contains-append_left _ _ oldest k))) a
+
+not_other : (by : By) (es : List Event) (p : ℕ) (e : Event) → AreOthers by es → slice_get es p ≡ Some e → by_of e ≡ by → ⊥
+not_other by [] p e o g i = cc
+not_other by (f ∷ es) zero e o g i =
+    let same : f ≡ e = cc in
+    false≢true (sym o.0 ∙ ap (λ x. same_by (by_of x) by) same ∙ ap (λ b. same_by b by) i ∙ same_by_refl by)
+not_other by (f ∷ es) (suc p) e o g i = not_other by es p e o.1 g i
+
+-- a place of the longer history at which the command is given an id is one of the shorter
+given_before : (h es : List Event) (by : By) (p id : ℕ) → AreOthers by es → IsGivenAt (h ++ es) by p id → IsGivenAt h by p id
+given_before h es by p id o g =
+    ⊎_elim
+    (λ k. record { event = g.event; at = k; own = g.own; gives = g.gives })
+    (λ k. absurd (not_other by es (p - length h) g.event o k g.own))
+    (slice_get-append_cases h es g.event p g.at)
+
+warned_grows : (base : Counters) (h es : List Event) (by : By) (warn : Bool) → AreOthers by es → IsTrue warn ↔ IsWarned base h by → IsTrue warn ↔ IsWarned base (h ++ es) by
+warned_grows base h es by warn o w = (
+  λ t. let k = w.0 t in
+      record {
+        place = k.place;
+        id = k.id;
+        given = record { event = k.given.event; at = slice_get-grows h es _ k.place k.given.at; own = k.given.own; gives = k.given.gives };
+        late = subst (λ t. warn_limit (oldest_id base.oldest t) ≤ k.id) (sym (take-grows h es _ k.place k.given.at)) k.late;
+      },
+  λ k. let g = given_before h es by k.place k.id o k.given in
+      w.1 (record {
+        place = k.place;
+        id = k.id;
+        given = g;
+        late = subst (λ t. warn_limit (oldest_id base.oldest t) ≤ k.id) (take-grows h es _ k.place g.at) k.late;
+      }),
+)
+
+-- what may be answered may be answered when the history has grown by events of other commands
+pub may_reply_grows : (base : Counters) (committed : List ℕ) (h es : List Event) (by : By) (s : Stance) (command : Command) (reply : Reply) → AreOthers by es → MayReply base committed h by s command reply → MayReply base committed (h ++ es) by s command reply
+may_reply_grows base committed h es by s commands.Begin replies.Done o m = m
+may_reply_grows base committed h es by s commands.Begin (replies.Refused refusals.AlreadyOpen) o m = m
+may_reply_grows base committed h es by s commands.Write (replies.Wrote ids warn) o m = (m.0, warned_grows base h es by warn o m.1)
+may_reply_grows base committed h es by s commands.Write (replies.Refused refusals.NoTransaction) o m = m
+may_reply_grows base committed h es by s commands.Commit replies.Done o m = m
+may_reply_grows base committed h es by s commands.Commit (replies.Refused refusals.NoTransaction) o m = m
+may_reply_grows base committed h es by s commands.Abort replies.Done o m = m
+may_reply_grows base committed h es by s commands.Abort (replies.Refused refusals.NoTransaction) o m = m
+may_reply_grows base committed h es by s (commands.Snap name) (replies.Snapped lists) o m =
+    (m.0, m.1, m.2, slice_get-grows h es _ m.2 m.3, m.4 ∙ ap (snapshot_data base.next) (sym (take-grows h es _ m.2 m.3)))
+may_reply_grows base committed h es by s (commands.Snap name) (replies.Refused refusals.NameTaken) o m = m
+may_reply_grows base committed h es by s (commands.Snap name) (replies.Refused refusals.SnapLimit) o m = m
+may_reply_grows base committed h es by s (commands.See name x) (replies.Seen verdict) o m = (
+  m.0,
+  m.1,
+  record {
+    place = m.2.place;
+    taken = slice_get-grows h es _ m.2.place m.2.taken;
+    id = m.2.id;
+    near = ap (λ t. seen_id (snapshot_xmax base.next t) x.number) (take-grows h es _ m.2.place m.2.taken) ∙ m.2.near;
+    exact = m.2.exact ∙ ap (λ t. is_visible committed t m.2.id) (sym (take-grows h es _ m.2.place m.2.taken));
+  },
+)
+may_reply_grows base committed h es by s (commands.See name x) (replies.Refused (refusals.TooOld oldest)) o m = (
+  m.0,
+  m.1,
+  record {
+    place = m.2.place;
+    taken = slice_get-grows h es _ m.2.place m.2.taken;
+    normal = m.2.normal;
+    older = subst (λ t. IfSome (near_id (snapshot_xmax base.next t) x.number) (λ id. id < oldest)) (sym (take-grows h es _ m.2.place m.2.taken)) m.2.older;
+    announced = announced_grows base h es oldest m.2.announced;
+  },
+)
+may_reply_grows base committed h es by s (commands.See name x) (replies.Refused refusals.NoSnapshot) o m = m
+may_reply_grows base committed h es by s command reply o m = absurd m

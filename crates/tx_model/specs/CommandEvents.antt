@@ -1,0 +1,41 @@
+-- Which events a command has, by its reply.
+use Rattle.std.specs.Prelude.{◌≡◌, ℕ, ◌<◌, List, [], ◌∷◌, Option, Some, None, length, ◌⊎◌}
+use Rattle.tx_model.specs.declared.event.By.{By}
+use Rattle.tx_model.specs.declared.event.Event.{Event}
+use Rattle.tx_model.specs.declared.event.Event.TheVariants as events
+use Rattle.tx_model.specs.declared.command.Command.{Command}
+use Rattle.tx_model.specs.declared.command.Command.TheVariants as commands
+use Rattle.tx_model.specs.declared.reply.Reply.{Reply}
+use Rattle.tx_model.specs.declared.reply.Reply.TheVariants as replies
+use Rattle.tx_model.specs.Stance.{Stance, lacking, top_level}
+
+-- an id given below this parent
+abbrev pub giving : By → Option ℕ → ℕ → Event
+giving by None id = events.Id by id
+giving by (Some parent) id = events.Sub by parent id
+
+-- the events that give the ids to the levels that lack one, from the top
+abbrev pub level_events : By → Option ℕ → List (Option ℕ) → List ℕ → List Event
+level_events by parent [] ids = []
+level_events by parent (Some x ∷ levels) ids = level_events by (Some x) levels ids
+level_events by parent (None ∷ levels) [] = []
+level_events by parent (None ∷ levels) (id ∷ ids) = giving by parent id ∷ level_events by (Some id) levels ids
+
+abbrev pub commit_event : By → Option ℕ → List Event
+commit_event by None = []
+commit_event by (Some top) = events.Commit by top ∷ []
+
+abbrev pub abort_event : By → Option ℕ → List Event
+abort_event by None = []
+abort_event by (Some top) = events.Abort by top ∷ []
+
+-- the events that a command has which was answered so
+abbrev pub HasEvents : By → Stance → Command → Reply → List Event → Type 0
+HasEvents by s commands.Write (replies.Wrote ids warn) h = (h ≡ level_events by None s.levels ids) × (length ids ≡ lacking s.levels)
+HasEvents by s commands.Write (replies.Refused refusal) h =
+    (h ≡ []) ⊎ ((ids : List ℕ) × (h ≡ level_events by None s.levels ids) × (length ids < lacking s.levels))
+HasEvents by s commands.Commit replies.Done h = h ≡ commit_event by (top_level s.levels)
+HasEvents by s commands.Abort replies.Done h = h ≡ abort_event by (top_level s.levels)
+HasEvents by s (commands.Snap name) (replies.Snapped lists) h = h ≡ events.Snap by name ∷ []
+HasEvents by s (commands.DropSnap name) replies.Done h = h ≡ events.SnapDrop by name ∷ []
+HasEvents by s command reply h = h ≡ []

@@ -1,0 +1,70 @@
+use crate::sequence::{Copied, Memory, Name, Sequence};
+use xid_order::FullXid;
+
+/// The command that an event belongs to: the session's number, and the number of the command among the
+/// session's commands in this life, from 1.
+#[derive(Clone, Copy, Debug, PartialEq, Eq)]
+pub struct By {
+    pub session: u32,
+    pub command: u64,
+}
+
+/// What happened under the lock of the ProcArray (`src/backend/storage/ipc/procarray.c`, `varsup.c`).
+#[derive(Clone, Drop)]
+pub enum Event {
+    /// A top-level id was given.
+    Id {
+        by: By,
+        id: FullXid,
+    },
+    /// A subtransaction's id was given below `parent`.
+    Sub {
+        by: By,
+        parent: FullXid,
+        id: FullXid,
+    },
+    /// The savepoint of `id` was rolled back.
+    Undo {
+        by: By,
+        id: FullXid,
+    },
+    /// The transaction of `top` committed.
+    Commit {
+        by: By,
+        top: FullXid,
+    },
+    /// The transaction of `top` aborted.
+    Abort {
+        by: By,
+        top: FullXid,
+    },
+    /// A snapshot was taken under this name.
+    Snap {
+        by: By,
+        name: Name,
+    },
+    /// It was dropped.
+    SnapDrop {
+        by: By,
+        name: Name,
+    },
+    /// The oldest id was announced.
+    Oldest {
+        by: By,
+        oldest: FullXid,
+    },
+    /// It was asked how the transaction of `id` stands.
+    Ask {
+        by: By,
+        id: FullXid,
+    },
+}
+
+impl Copied for Event {
+    fn copy(&self) -> Result<Self, Memory> {
+        Ok(self.clone()?)
+    }
+}
+
+/// A history: events in their order.
+pub type EventList = Sequence<Event>;

@@ -1,0 +1,120 @@
+use crate::command::Command;
+use crate::event::{By, EventList};
+use crate::multi::MultiEventList;
+use crate::record::{Counters, RecList};
+use crate::reply::Reply;
+use crate::sequence::{Copied, IdList, Memory, Name, Sequence};
+
+/// What a crash leaves of what wasn't synced.
+#[derive(Clone, Copy, Debug, PartialEq, Eq)]
+pub enum How {
+    Lost,
+    Kept,
+    Torn,
+}
+
+/// What a dump shows bytes of.
+#[derive(Clone, Copy, Debug, PartialEq, Eq)]
+pub enum DumpOf {
+    Log,
+    Xact { page: u32 },
+    Subtrans { page: u32 },
+    Offsets { page: u32 },
+    Members { page: u32 },
+}
+
+/// A command with its reply.
+#[derive(Drop)]
+pub struct Line {
+    pub by: By,
+    pub command: Command,
+    pub reply: Reply,
+}
+
+impl Copied for Line {
+    fn copy(&self) -> Result<Self, Memory> {
+        let command = self.command.copy()?;
+        let reply = self.reply.copy()?;
+        Ok(Line {
+            by: self.by,
+            command,
+            reply,
+        })
+    }
+}
+
+/// The lines of a round, session by session.
+pub type LineList = Sequence<Line>;
+
+/// A step of a life: a round of sessions, or a directive between two rounds.
+#[derive(Clone, Drop)]
+pub enum Step {
+    /// The commands of the sessions that ran beside each other. Rounds count from 1 in each life.
+    Round {
+        number: u64,
+        lines: LineList,
+    },
+    /// A checkpoint.
+    Checkpoint {
+        reply: Reply,
+    },
+    /// `length` bytes from place `at` on.
+    Dump {
+        what: DumpOf,
+        at: u64,
+        length: u32,
+        reply: Reply,
+    },
+}
+
+impl Copied for Step {
+    fn copy(&self) -> Result<Self, Memory> {
+        Ok(self.clone()?)
+    }
+}
+
+/// The steps of a life, in order.
+pub type StepList = Sequence<Step>;
+
+/// What stands between an opening and a crash: the base (counters, committed ids, recorded multixacts), the two
+/// histories and the records appended. `from` is the number of the first record, through all lives; `flushed` that
+/// of the first record not known to be flushed; `end` the position of the log's next gate, in bytes.
+#[derive(Clone, Drop)]
+pub struct Life {
+    pub from: u64,
+    pub base: Counters,
+    pub committed: IdList,
+    pub recorded: RecList,
+    pub events: EventList,
+    pub multis: MultiEventList,
+    pub recs: RecList,
+    pub flushed: u64,
+    pub end: u64,
+}
+
+/// A life with its steps and the crash that ended it, if one did.
+#[derive(Clone, Drop)]
+pub struct LifeReport {
+    pub life: Life,
+    pub steps: StepList,
+    pub crash: Option<How>,
+}
+
+impl Copied for LifeReport {
+    fn copy(&self) -> Result<Self, Memory> {
+        Ok(self.clone()?)
+    }
+}
+
+/// Lives in their order.
+pub type LifeList = Sequence<LifeReport>;
+
+/// Names, by session number.
+pub type NameList = Sequence<Name>;
+
+/// The report of a run.
+#[derive(Clone, Drop)]
+pub struct Report {
+    pub names: NameList,
+    pub lives: LifeList,
+}

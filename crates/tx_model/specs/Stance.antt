@@ -40,7 +40,7 @@ after s number commands.Release replies.Done ids = record s { levels = without_l
 after s number commands.Undo replies.Done ids = record s { levels = without_last s.levels }
 after s number commands.Commit replies.Done ids = record s { levels = [] }
 after s number commands.Abort replies.Done ids = record s { levels = [] }
-after s number (commands.Snap name) (replies.Snapped lists) ids = record s { snaps = (name, number) ∷ s.snaps }
+after s number (commands.Snap name) (replies.Snapped lists) ids = record s { snaps = s.snaps ++ (name, number) ∷ [] }
 after s number (commands.DropSnap name) replies.Done ids = record s { snaps = without_snap name s.snaps }
 after s number command reply ids = s
 

@@ -1,3 +1,6 @@
 pub mod Ids
+pub mod Layouts
 pub mod Nearest
 pub mod Order
+pub mod PageOrder
+pub mod PageWindow

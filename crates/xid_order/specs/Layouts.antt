@@ -1,0 +1,66 @@
+-- Where the stores keep their numbers: the pages, the places on a page, and the pages from which on a store is kept.
+use Rattle.std.specs.Prelude.{ℕ, zero, suc, ◌+◌, ◌-◌, ◌*◌, ◌/◌, ◌%◌, ◌^◌, ◌==◌, if◌then◌else◌, List, slice_index}
+use Rattle.xid_order.specs.Ids.{low_half, id_before}
+
+-- the commit log: two bits an id, 32768 ids a page
+
+abbrev pub xact_page_of : ℕ → ℕ
+xact_page_of id = low_half id / 32768
+
+abbrev pub xact_place_of : ℕ → ℕ
+xact_place_of id = low_half id % 32768
+
+-- the two bits of the k-th of the four ids of a byte
+abbrev pub bits_at : ℕ → ℕ → ℕ
+bits_at byte zero = byte % 4
+bits_at byte (suc k) = bits_at (byte / 4) k
+
+-- the bits of the n-th id of a page
+abbrev pub state_in : List ℕ → ℕ → ℕ
+state_in bytes n = bits_at (slice_index bytes (n / 4)) (n % 4)
+
+-- numbers of four bytes, the low one first
+
+abbrev pub number_in : List ℕ → ℕ → ℕ
+number_in bytes at = slice_index bytes at + 256 * (slice_index bytes (at + 1) + 256 * (slice_index bytes (at + 2) + 256 * slice_index bytes (at + 3)))
+
+-- parents and offsets: four bytes each, 2048 a page
+
+abbrev pub word_page_of : ℕ → ℕ
+word_page_of number = low_half number / 2048
+
+abbrev pub word_place_of : ℕ → ℕ
+word_place_of number = 4 * (low_half number % 2048)
+
+-- members: 409 groups of four a page, each four mode bytes and then four ids of four bytes
+
+abbrev pub member_page_of : ℕ → ℕ
+member_page_of offset = low_half offset / 1636
+
+abbrev pub mode_place_of : ℕ → ℕ
+mode_place_of offset = 20 * (low_half offset % 1636 / 4) + low_half offset % 1636 % 4
+
+abbrev pub member_place_of : ℕ → ℕ
+member_place_of offset = 20 * (low_half offset % 1636 / 4) + 4 + 4 * (low_half offset % 1636 % 4)
+
+-- the cutoff page of each store
+
+-- the oldest id's page
+abbrev pub xact_cutoff : ℕ → ℕ
+xact_cutoff oldest = xact_page_of oldest
+
+-- the page of the id before the oldest xmin
+abbrev pub subtrans_cutoff : ℕ → ℕ
+subtrans_cutoff xmin = word_page_of (id_before xmin)
+
+-- the full multixact id before n, 0 before the first one
+abbrev pub multi_before : ℕ → ℕ
+multi_before n = if low_half (n - 1) == 0 then n - 2 else n - 1
+
+-- the page of the multixact before the oldest one, page 0 where there is none
+abbrev pub offset_cutoff : ℕ → ℕ
+offset_cutoff oldest = word_page_of (multi_before oldest)
+
+-- the oldest member offset's page
+abbrev pub member_cutoff : ℕ → ℕ
+member_cutoff oldest = member_page_of oldest

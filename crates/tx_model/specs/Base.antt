@@ -1,5 +1,5 @@
 -- Which counters a life may start from.
-use Rattle.std.specs.Prelude.{◌≡◌, ℕ, ◌≤◌}
+use Rattle.std.specs.Prelude.{◌≡◌, ◌≤◌}
 use Rattle.xid_order.specs.Ids.{IsFullId}
 use Rattle.tx_model.specs.declared.record.Counters.{Counters}
 use Rattle.tx_model.specs.Limits.{stop_limit, multi_stop_limit, member_stop}

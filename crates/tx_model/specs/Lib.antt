@@ -16,3 +16,5 @@ pub mod Replies
 pub mod Lines
 pub mod LifeLog
 pub mod LawfulLife
+pub mod IdLists
+pub mod Savepoints

@@ -1,6 +1,6 @@
 -- How many bytes the log's records take.
-use Rattle.std.specs.Prelude.{ℕ, ◌+◌, ◌*◌, List, length, map}
-use Rattle.std.specs.List.{sum}
+use Rattle.std.specs.Prelude.{ℕ, ◌+◌, ◌*◌, List, length}
+use Rattle.std.specs.List.{sum_by}
 use Rattle.tx_model.specs.declared.record.Rec.{Rec}
 use Rattle.tx_model.specs.declared.record.Rec.TheVariants as records
 
@@ -13,4 +13,4 @@ record_size (records.Checkpoint number counters) = 57
 record_size (records.Truncate oldest multi offset) = 25
 
 abbrev pub records_size : List Rec → ℕ
-records_size recs = sum (map record_size recs)
+records_size recs = sum_by record_size recs

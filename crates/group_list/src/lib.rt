@@ -12,6 +12,8 @@ mod memory;
 mod order;
 mod plays;
 mod role;
+#[cfg(test)]
+mod tests;
 mod view;
 
 pub use batch::Batch;

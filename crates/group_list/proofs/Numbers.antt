@@ -1,5 +1,5 @@
 -- Lists of numbers: who stands in them, by recursion and by std's words.
-use Rattle.std.proofs.Common.{◌≡◌, ◌≢◌, ℕ, zero, suc, ◌<◌, ◌⊎◌, List, [], ◌∷◌, ◌++◌, length, get_or, All, AllPairs, Contains, refl, sym, ◌∙◌, subst, inl, inr, ⊎_elim, arith}
+use Rattle.std.proofs.Common.{◌≡◌, ◌≢◌, ℕ, zero, suc, ◌+◌, ◌<◌, ◌≤◌, ◌⊎◌, List, [], ◌∷◌, ◌++◌, length, get_or, All, AllPairs, Contains, refl, sym, ◌∙◌, subst, inl, inr, ⊎_elim, arith}
 use Rattle.std.proofs.lemmas.List.Kept.{AllPairs-cons}
 use Rattle.group_list.specs.Log.{without, EachOnce}
 use Rattle.group_list.proofs.Cases.{if_case}
@@ -84,3 +84,8 @@ contains_without xs k j ne c = in_contains (without j xs) k (still_in k j xs ne 
 
 pub contains_last : (xs : List ℕ) (k j : ℕ) → Contains (xs ++ j ∷ []) k → Contains xs k ⊎ (k ≡ j)
 contains_last xs k j c = ⊎_elim (λ t. inl (in_contains xs k t)) (λ e. inr e) (in_last k j xs (contains_in (xs ++ j ∷ []) k c))
+
+-- for a loop that hands a batch back: once the one at i went, those after it are owed still
+pub still_owed : (batch owes : List ℕ) (i : ℕ) → i < length batch → EachOnce batch → ((k : ℕ) → i ≤ k → k < length batch → Contains owes (get_or batch k 0))
+    → (k : ℕ) → i + 1 ≤ k → k < length batch → Contains (without (get_or batch i 0) owes) (get_or batch k 0)
+still_owed batch owes i inside once owed k later lt = contains_without owes (get_or batch k 0) (get_or batch i 0) (λ q. once i k 0 (omega arith) lt (sym q)) (owed k (omega arith) lt)

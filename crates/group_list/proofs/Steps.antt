@@ -1,26 +1,23 @@
 -- Each step of a list keeps its rule.
-use Rattle.std.proofs.Common.{◌≡◌, ℕ, zero, suc, ◌+◌, ◌<◌, ◌≤◌, ◌≢◌, ◌⊎◌, ◌==◌, Bool, true, false, if◌then◌else◌, List, [], ◌∷◌, ◌++◌, length, get_or, set, Contains, refl, sym, ◌∙◌, ap, subst, inl, inr, ⊎_elim, get_or-set_same, get_or-set_other, length-set, arith}
-use mathlib.Core.Option.{some, none, some-injective, some-ne-none}
-use mathlib.Core.Option as maybe
+use Rattle.std.proofs.Common.{◌≡◌, ℕ, zero, suc, ◌+◌, ◌<◌, ◌≤◌, ◌≢◌, ◌⊎◌, ◌==◌, if◌then◌else◌, List, [], ◌∷◌, get_or, set, Contains, refl, sym, ◌∙◌, ap, subst, inl, inr, ⊎_elim, arith}
+use mathlib.Core.Option.{none}
 use mathlib.Core.Logic.{dite}
 use native.Mathlib.Decide.{ℕ_discrete}
-use lib.ListN.{get_elem?}
 use lib.Seq.{set-get_or}
 use Rattle.atomic_table.specs.Table.{State, Me, step, keeps, Allows}
-use Rattle.atomic_table.proofs.Lists.{at_set}
 use Rattle.group_list.specs.declared.view.Event.{Event}
 use Rattle.group_list.specs.declared.view.Event.TheVariants.{Published, Linked, Drained, Unlinked, HandedBack, Observed}
 use Rattle.group_list.specs.declared.view.Stage.{Stage}
 use Rattle.group_list.specs.declared.view.Stage.TheVariants.{Free, Entering, Joined, Leading}
 use Rattle.group_list.specs.declared.view.View.{View}
-use Rattle.group_list.specs.Log.{head_of, rest_of, oldest_of, waiting, due, Phase, idle, published_over, linked_over, taken_by, handed_back_by, link, phase, May, Legal, next_of, answer_of, HasLinked, IsEarlier}
-use Rattle.group_list.specs.Rule.{Holds, Unique, Stands, Knows, Says, Kept}
+use Rattle.group_list.specs.Log.{head_of, rest_of, oldest_of, waiting, due, Phase, idle, published_over, linked_over, taken_by, handed_back_by, link, phase, May, Legal, next_of, answer_of, HasLinked}
+use Rattle.group_list.specs.Rule.{Holds, Stands, Knows, Kept}
 use Rattle.group_list.specs.Told.{stage_of, after_publish, after_link, after_drain, after_unlink, after_hand_back, after_observe, after_look, Moment, PublishStep, LinkStep, DrainStep, UnlinkStep, HandBackStep, ObserveStep}
 use Rattle.group_list.proofs.Places.{back_place}
 use Rattle.group_list.proofs.Cases.{if_case, if_else, if_same}
 use Rattle.group_list.proofs.Numbers.{In, contains_last, without_contains}
 use Rattle.group_list.proofs.Moves.{tail_more, stands_step, says_set, moved, stays}
-use Rattle.group_list.proofs.Chains.{mover, FoundNext, IsChain, clash, phase_other, idle_other, bottom_other, due_other, owed_other, in_chain, sound}
+use Rattle.group_list.proofs.Chains.{mover, FoundNext, IsChain, clash, idle_other, due_other, owed_other, in_chain, sound}
 
 abbrev S' : Type 0
 S' = State Unit View

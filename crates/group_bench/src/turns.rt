@@ -2,7 +2,7 @@
 ghost use Rattle.std.specs.Prelude.{◌≡◌, ℕ, ◌+◌, ◌*◌, ◌<◌, ◌≤◌, All, Contains, IfOk, length};
 ghost use Rattle.group_list.specs.declared.view.Stage.TheVariants.{Free};
 ghost use Rattle.group_list.specs.Log.{EachOnce};
-ghost use Rattle.group_list.specs.Calls.{view, IsOf, IsSame};
+ghost use Rattle.group_list.specs.Calls.{view, members_of, room_of, numbers_of, IsOf, IsSame};
 ghost use Rattle.group_bench.specs.Turns.{IsIdle, JoinedMore};
 
 use group_list::{Batch, GroupList, Member, Memory, Role};
@@ -75,8 +75,8 @@ impl fmt::Display for Outcome {
 // A leader hands all of its batch back.
 fn hand_all_back(list: &GroupList, member: &mut Member, batch: &Batch)
     requires own { IsOf list.now member.old }
-    requires owes { All (Contains (view member.old).owes) batch.now.numbers.items }
-    requires once { EachOnce batch.now.numbers.items }
+    requires owes { All (Contains (view member.old).owes) (numbers_of batch.now) }
+    requires once { EachOnce (numbers_of batch.now) }
     ensures own { IsOf list.now member.new × IsSame member.old member.new }
     ensures stage { (view member.new).stage ≡ (view member.old).stage }
     ensures joined { JoinedMore 0 member.old member.new }
@@ -90,10 +90,10 @@ fn hand_all_back(list: &GroupList, member: &mut Member, batch: &Batch)
 /// Joins, leads where no one waited, and comes back. How many it handed back.
 pub fn take_turn<R: Wait>(rt: &R, list: &GroupList, member: &mut Member, batch: &mut Batch) -> usize
     requires idle { IsIdle list.now member.old }
-    requires batch { batch.old.members ≡ list.now.members }
+    requires batch { room_of batch.old ≡ members_of list.now }
     ensures idle { IsIdle list.now member.new }
     ensures joined { JoinedMore 1 member.old member.new }
-    ensures batch { batch.new.members ≡ batch.old.members }
+    ensures batch { room_of batch.new ≡ room_of batch.old }
 {
     let handed_back = match list.join(member) {
         Role::Leader => {
@@ -116,7 +116,7 @@ fn take_turns<R: Wait>(
     turns: u32,
 ) -> Result<Played, Memory>
     requires idle { IsIdle list.now member }
-    requires size { list.now.members ≡ MEMBERS }
+    requires size { members_of list.now ≡ MEMBERS }
     ensures idle { IfOk result (λ r. IsIdle list.now r.member) }
     ensures joined { IfOk result (λ r. JoinedMore turns member r.member) }
 {
@@ -150,18 +150,18 @@ fn two_take_turns<R: Threads + Wait + Sync>(
 ) -> Result<(Played, Played), Memory>
     requires first { IsIdle list.now a }
     requires second { IsIdle list.now b }
-    requires size { list.now.members ≡ MEMBERS }
+    requires size { members_of list.now ≡ MEMBERS }
     ensures first { IfOk result (λ r. IsIdle list.now r.0.member × JoinedMore turns a r.0.member) }
     ensures second { IfOk result (λ r. IsIdle list.now r.1.member × JoinedMore turns b r.1.member) }
 {
     let (a, b) = join(
         rt,
         || -> Result<Played, Memory>
-            requires { IsIdle list.now a × (list.now.members ≡ MEMBERS) }
+            requires { IsIdle list.now a × (members_of list.now ≡ MEMBERS) }
             ensures { IfOk result (λ r. IsIdle list.entry.now r.member × JoinedMore turns a r.member) }
         { take_turns(rt, alloc, list, a, turns) },
         || -> Result<Played, Memory>
-            requires { IsIdle list.now b × (list.now.members ≡ MEMBERS) }
+            requires { IsIdle list.now b × (members_of list.now ≡ MEMBERS) }
             ensures { IfOk result (λ r. IsIdle list.entry.now r.member × JoinedMore turns b r.member) }
         { take_turns(rt, alloc, list, b, turns) },
     );
@@ -176,7 +176,7 @@ fn finds_no_one<R: Wait>(
     member: &mut Member,
 ) -> Result<bool, Memory>
     requires idle { IsIdle list.now member.old }
-    requires size { list.now.members ≡ MEMBERS }
+    requires size { members_of list.now ≡ MEMBERS }
 {
     let mut batch = Batch::new(alloc, MEMBERS)?;
     let Role::Leader = list.join(member) else {
@@ -218,10 +218,10 @@ pub fn all_take_turns<R: Threads + Wait + Sync>(
             let (two, others) = join(
                 rt,
                 || -> Result<(Played, Played), Memory>
-                    requires { IsIdle list a × IsIdle list b × (list.members ≡ MEMBERS) }
+                    requires { IsIdle list a × IsIdle list b × (members_of list ≡ MEMBERS) }
                 { two_take_turns(rt, alloc, &list, a, b, turns) },
                 || -> Result<(Played, Played), Memory>
-                    requires { IsIdle list c × IsIdle list d × (list.members ≡ MEMBERS) }
+                    requires { IsIdle list c × IsIdle list d × (members_of list ≡ MEMBERS) }
                 { two_take_turns(rt, alloc, &list, c, d, turns) },
             );
             let (a, b) = two?;

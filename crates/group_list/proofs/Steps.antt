@@ -47,9 +47,9 @@ moment m log d l k = record { legal = subst (λ (z : ℕ). Legal z log) (sym k.m
 word_same : (f : Phase → ℕ) (log : List Event) (t i : ℕ) (p q : Phase) → phase log t ≡ q → f p ≡ f q → f (if t == i then p else phase log i) ≡ f (phase log i)
 word_same f log t i p q is same = if_case (λ (z : Phase). f z ≡ f (phase log i)) t i p (phase log i) (λ e. same ∙ sym (ap f (subst (λ (z : ℕ). phase log z ≡ q) e is))) (λ _. refl)
 
-first_bottom : (n : ℕ) (ws : List ℕ) → head_of ws ≡ 0 → oldest_of (n ∷ ws) ≡ n + 1
-first_bottom n [] z = refl
-first_bottom n (x ∷ xs) z = absurd (omega arith)
+first_oldest : (n : ℕ) (ws : List ℕ) → head_of ws ≡ 0 → oldest_of (n ∷ ws) ≡ n + 1
+first_oldest n [] z = refl
+first_oldest n (x ∷ xs) z = absurd (omega arith)
 
 pub head_below : (m : ℕ) (log : List Event) (p : ℕ) (xs : List ℕ) → IsChain m log p xs → head_of xs ≤ m
 head_below m log p [] c = omega arith
@@ -71,7 +71,7 @@ publishes_one mem slots me new m free live new_is s r deep is small =
           record {
             many = k.many;
             below = k.below;
-            stands = (if_same n (published_over (head_of (waiting log))) (phase log n), first_bottom n (waiting log));
+            stands = (if_same n (published_over (head_of (waiting log))) (phase log n), first_oldest n (waiting log));
             due_is = k.due_is;
             owed = own_owed mem log e v may (λ q. omega arith) k;
             ends = ([], refl);
@@ -233,17 +233,17 @@ returns_one mem slots me i new j m owes live many at_i new_is s r deep is small 
       (λ j' at'. let same : j ≡ j' = omega arith in (record { log = log; moment = moment mem log v r.legal k; owed = subst (λ (z : ℕ). phase log z ≡ taken_by n) same taken; view_is = ap (λ (z : ℕ). after_hand_back z log v) same }, refl)),
     )
 
-pub bottom_in : (n : ℕ) (ws : List ℕ) → oldest_of ws ≡ n + 1 → In n ws
-bottom_in n [] e = absurd (omega arith)
-bottom_in n (x ∷ []) e = inl (omega arith)
-bottom_in n (x ∷ y ∷ ws) e = inr (bottom_in n (y ∷ ws) e)
+pub oldest_in : (n : ℕ) (ws : List ℕ) → oldest_of ws ≡ n + 1 → In n ws
+oldest_in n [] e = absurd (omega arith)
+oldest_in n (x ∷ []) e = inl (omega arith)
+oldest_in n (x ∷ y ∷ ws) e = inr (oldest_in n (y ∷ ws) e)
 
 -- who was handed back had joined, and drained where it led
 back_joined : (m : ℕ) (log : List Event) (n l : ℕ) (st : Stage) → Legal m log → phase log n ≡ handed_back_by l → Stands log n st → st ≡ Joined
 back_joined m log n l Free legal is s = absurd (clash (phase log n) (handed_back_by l) idle is s (λ q. omega arith))
 back_joined m log n l (Entering f) legal is s = absurd (clash (phase log n) (handed_back_by l) (published_over f) is s.0 (λ q. omega arith))
 back_joined m log n l Joined legal is s = refl
-back_joined m log n l Leading legal is s = let t = (in_chain m log 0 n (waiting log) (sound m log legal 0) (bottom_in n (waiting log) s.1)).2 in absurd (subst (λ (z : Phase). FoundNext z t.0) is t.1)
+back_joined m log n l Leading legal is s = let t = (in_chain m log 0 n (waiting log) (sound m log legal 0) (oldest_in n (waiting log) s.1)).2 in absurd (subst (λ (z : Phase). FoundNext z t.0) is t.1)
 
 pub observes_one : (mem slots me i new : ℕ) (m : M) → Holds m.0 m.0.number → i ≡ 1 + mem + m.0.number → new ≡ 0 → Allows (Kept mem) slots me m i (λ _. new) (ObserveStep (step slots i new 0 none) m)
 observes_one mem slots me i new m live at_i new_is s r deep is small =

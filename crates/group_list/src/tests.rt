@@ -1,5 +1,5 @@
 //! Members that join, drain and hand back one after the other.
-use crate::{Batch, GroupList, Role};
+use crate::{Batch, GroupList, Memory, Role};
 use std::test::Fail;
 
 #[test]
@@ -67,5 +67,9 @@ fn memory_is_taken_where_there_is_some(rt: HostRuntime) -> Result<(), Fail> {
     assert_eq!(rt; only.number(), 0);
     assert_eq!(rt; batch.numbers().len(), 0);
     drop(list);
+    assert_eq!(rt;
+        format!(in rt.alloc(); "{}", Memory)?.as_str(),
+        "out of memory"
+    );
     Ok(())
 }

@@ -1,0 +1,34 @@
+//! Members of a group list that take turns, in one, two and four threads.
+//!
+//! Without an argument it prints what the turns came to, which is the same in every run. With a
+//! number it makes that many turns a member, and prints how many a second there were.
+#![tactic(auto)]
+
+mod turns;
+
+use anyhow::{Context, Result};
+use std::env;
+use std::time::Instant;
+use turns::{Threading, all_take_turns};
+
+// How many turns each member takes where no number is given.
+const TURNS: u32 = 500;
+
+fn main(rt: HostRuntime) -> Result<()> {
+    let wanted = env::args(&rt)?.nth(1);
+    let turns = match &wanted {
+        Some(word) => word.parse::<u32>().context("the turns of each member")?,
+        None => TURNS,
+    };
+    for threading in [Threading::One, Threading::Two, Threading::Four] {
+        let start = Instant::now(&rt)?;
+        let outcome = all_take_turns(&rt, rt.alloc(), threading, turns)?;
+        let time = start.elapsed(&rt)?;
+        println!(rt; "{outcome}")?;
+        if wanted.is_some() {
+            let rate = outcome.counts.publications as u128 * 1_000_000 / (time.as_micros() + 1);
+            println!(rt; "{rate} turns a second")?;
+        }
+    }
+    Ok(())
+}

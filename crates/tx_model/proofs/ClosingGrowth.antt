@@ -100,11 +100,11 @@ fold_max_split : (p q : ℕ → Bool) (xs : List ℕ) (z : ℕ) →
 fold_max_split p q [] z = refl
 fold_max_split p q (x ∷ xs) z =
     elim (p x) as (λ b. fold max z (cond (not (b && q x)) (x ∷ filter (λ x. not (p x && q x)) xs) (filter (λ x. not (p x && q x)) xs)) ≡ fold max (fold max z (cond (not b) (x ∷ filter (λ x. not (p x)) xs) (filter (λ x. not (p x)) xs))) (filter (λ x. not (q x)) (cond b (x ∷ filter p xs) (filter p xs)))) [
-      true ↦
-        elim (q x) as (λ c. fold max z (cond (not c) (x ∷ filter (λ x. not (p x && q x)) xs) (filter (λ x. not (p x && q x)) xs)) ≡ fold max (fold max z (filter (λ x. not (p x)) xs)) (cond (not c) (x ∷ filter (λ x. not (q x)) (filter p xs)) (filter (λ x. not (q x)) (filter p xs)))) [
-          true ↦ fold_max_split p q xs z
-          | false ↦ fold_max_split p q xs (max z x) ∙ ap (λ m. fold max m (filter (λ x. not (q x)) (filter p xs))) (fold_max_out (filter (λ x. not (p x)) xs) z x)
-        ]
+      | true ↦
+          elim (q x) as (λ c. fold max z (cond (not c) (x ∷ filter (λ x. not (p x && q x)) xs) (filter (λ x. not (p x && q x)) xs)) ≡ fold max (fold max z (filter (λ x. not (p x)) xs)) (cond (not c) (x ∷ filter (λ x. not (q x)) (filter p xs)) (filter (λ x. not (q x)) (filter p xs)))) [
+            | true ↦ fold_max_split p q xs z
+            | false ↦ fold_max_split p q xs (max z x) ∙ ap (λ m. fold max m (filter (λ x. not (q x)) (filter p xs))) (fold_max_out (filter (λ x. not (p x)) xs) z x)
+          ]
       | false ↦ fold_max_split p q xs (max z x)
     ]
 

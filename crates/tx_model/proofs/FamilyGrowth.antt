@@ -37,7 +37,7 @@ sub_family_ids h by parent n t f o =
     ap (filter (λ x. top (h ++ events.Sub by parent n ∷ []) x == t)) (sub_running h by parent n f o)
     ∙ filter-append (λ x. top (h ++ events.Sub by parent n ∷ []) x == t) (running h) (n ∷ [])
     ∙ ap (λ u. u ++ filter (λ x. top (h ++ events.Sub by parent n ∷ []) x == t) (n ∷ []))
-        (filter_agree_on (λ x. x < n) (λ x. top (h ++ events.Sub by parent n ∷ []) x == t) (λ x. top h x == t) (λ x g. ap (λ u. u == t) (sub_family h by parent n x g).same_top) (running h) (running_below n h f))
+    (filter_agree_on (λ x. x < n) (λ x. top (h ++ events.Sub by parent n ∷ []) x == t) (λ x. top h x == t) (λ x g. ap (λ u. u == t) (sub_family h by parent n x g).same_top) (running h) (running_below n h f))
     ∙ ap (λ u. family h t ++ cond (u == t) (n ∷ []) []) (sub_own_top h by parent n)
 
 pub fresh_family : (n : ℕ) (h : List Event) → AreBelow n h → family h n ≡ []
@@ -75,7 +75,7 @@ all_subs P h t f = from (running h) (λ x k. k)
     from : (xs : List ℕ) → ((x : ℕ) → has xs x ≡ true → has (running h) x ≡ true) → AllByRecursion P (filter (λ x. (top h x == t) && not (is_top h x)) xs)
     from [] k = tt
     from (x ∷ xs) k =
-      split ((top h x == t) && not (is_top h x)) refl
+        split ((top h x == t) && not (is_top h x)) refl
         (from xs (λ y g. k y (ap (λ b. (y == x) || b) g ∙ or_true (y == x))))
         (k x (ap (λ b. b || has xs x) (eqb-refl x)))
       where

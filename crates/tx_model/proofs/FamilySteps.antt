@@ -24,7 +24,7 @@ line_parts [] x = refl
 line_parts (events.Sub by parent id ∷ r) x = one (id == x) (line_parts r parent) (line_parts r x)
   where
     one : (b : Bool) → line_up r parent ≡ inner_up r parent ++ top_up r parent ∷ [] → line_up r x ≡ inner_up r x ++ top_up r x ∷ [] →
-      cond b (x ∷ line_up r parent) (line_up r x) ≡ cond b (x ∷ inner_up r parent) (inner_up r x) ++ cond b (top_up r parent) (top_up r x) ∷ []
+        cond b (x ∷ line_up r parent) (line_up r x) ≡ cond b (x ∷ inner_up r parent) (inner_up r x) ++ cond b (top_up r parent) (top_up r x) ∷ []
     one true e f = ap (λ t. x ∷ t) e
     one false e f = f
 line_parts (e ∷ r) x = line_parts r x

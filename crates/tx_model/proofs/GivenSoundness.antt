@@ -25,7 +25,7 @@ owned : (s n x : ℕ) (h : List Event) (e : Event) (b : Bool) → given (filter 
     (has (given_to s h) x ≡ true) ⊎ ((b ≡ true) × (x ≡ n))
 owned s n x h e b g f =
     ⊎_elim inl (λ o. inr (own b o))
-      (or_cases (has (given_to s h) x) (has (cond b (n ∷ []) []) x) (sym (ap (λ t. has t x) (given_to_push s h e ∙ ap (λ t. given_to s h ++ t) g) ∙ list_any-append (λ y. x == y) (given_to s h) (cond b (n ∷ []) [])) ∙ f))
+    (or_cases (has (given_to s h) x) (has (cond b (n ∷ []) []) x) (sym (ap (λ t. has t x) (given_to_push s h e ∙ ap (λ t. given_to s h ++ t) g) ∙ list_any-append (λ y. x == y) (given_to s h) (cond b (n ∷ []) [])) ∙ f))
   where
     own : (b : Bool) → has (cond b (n ∷ []) []) x ≡ true → (b ≡ true) × (x ≡ n)
     own true o = (refl, equal_from x n (sym (or_false (x == n)) ∙ o))
@@ -36,9 +36,9 @@ owners : (n : ℕ) (h : List Event) (e : Event) (session : ℕ) → AreBelow n h
     (x s r : ℕ) → has (given_to s (h ++ e ∷ [])) x ≡ true → has (given_to r (h ++ e ∷ [])) x ≡ true → s ≡ r
 owners n h e session b g one x s r f k =
     ⊎_elim
-      (λ o. ⊎_elim (λ p. one x s r o p) (λ p. not_both (has (given_to s h) n) (not_had n (given_to s h) (given_to_below n s h b)) (subst (λ y. has (given_to s h) y ≡ true) p.1 o)) (owned r n x h e (session == r) (g r) k))
-      (λ o. ⊎_elim (λ p. not_both (has (given_to r h) n) (not_had n (given_to r h) (given_to_below n r h b)) (subst (λ y. has (given_to r h) y ≡ true) o.1 p)) (λ p. sym (equal_from session s o.0) ∙ equal_from session r p.0) (owned r n x h e (session == r) (g r) k))
-      (owned s n x h e (session == s) (g s) f)
+    (λ o. ⊎_elim (λ p. one x s r o p) (λ p. not_both (has (given_to s h) n) (not_had n (given_to s h) (given_to_below n s h b)) (subst (λ y. has (given_to s h) y ≡ true) p.1 o)) (owned r n x h e (session == r) (g r) k))
+    (λ o. ⊎_elim (λ p. not_both (has (given_to r h) n) (not_had n (given_to r h) (given_to_below n r h b)) (subst (λ y. has (given_to r h) y ≡ true) o.1 p)) (λ p. sym (equal_from session s o.0) ∙ equal_from session r p.0) (owned r n x h e (session == r) (g r) k))
+    (owned s n x h e (session == s) (g s) f)
 
 id_to : (by : By) (n s : ℕ) → given (filter (is_of s) (events.Id by n ∷ [])) ≡ cond (by.session == s) (n ∷ []) []
 id_to by n s = elim (by.session == s) as (λ b. given (cond b (events.Id by n ∷ []) []) ≡ cond b (n ∷ []) []) [ true ↦ refl | false ↦ refl ]
@@ -49,21 +49,21 @@ sub_to by parent n s = elim (by.session == s) as (λ b. given (cond b (events.Su
 given_cases : (h : List Event) (e : Event) (n x : ℕ) → given (e ∷ []) ≡ n ∷ [] → has (given (h ++ e ∷ [])) x ≡ true → (has (given h) x ≡ true) ⊎ (x ≡ n)
 given_cases h e n x g f =
     ⊎_elim inl (λ o. inr (equal_from x n (sym (or_false (x == n)) ∙ o)))
-      (or_cases (has (given h) x) (has (n ∷ []) x) (sym (ap (λ l. has l x) (given_push h e ∙ ap (λ t. given h ++ t) g) ∙ list_any-append (λ y. x == y) (given h) (n ∷ [])) ∙ f))
+    (or_cases (has (given h) x) (has (n ∷ []) x) (sym (ap (λ l. has l x) (given_push h e ∙ ap (λ t. given h ++ t) g) ∙ list_any-append (λ y. x == y) (given h) (n ∷ [])) ∙ f))
 
 id_root : (h : List Event) (by : By) (n x : ℕ) → AreBelow n h → ((x : ℕ) → has (given h) x ≡ true → HasRoot h x) → has (given (h ++ events.Id by n ∷ [])) x ≡ true → HasRoot (h ++ events.Id by n ∷ []) x
 id_root h by n x b r a =
     ⊎_elim
-      (λ o. kept_root h (events.Id by n) x (λ y. family_kept h (events.Id by n) y tt) (λ g. ap (λ l. has l (top h x)) (given_push h (events.Id by n)) ∙ had_more (given h) n (top h x) g) (r x o))
-      (λ o.
-        let t : top (h ++ events.Id by n ∷ []) n ≡ n = (family_kept h (events.Id by n) n tt).same_top ∙ fresh_top n h b in
-        subst (HasRoot (h ++ events.Id by n ∷ [])) (sym o)
-          (record {
-            root_given = ap (has (given (h ++ events.Id by n ∷ []))) t ∙ ap (λ l. has l n) (given_push h (events.Id by n)) ∙ had_new (given h) n;
-            root_top = ap (top (h ++ events.Id by n ∷ [])) t;
-            root_to = omega arith;
-          }))
-      (given_cases h (events.Id by n) n x refl a)
+    (λ o. kept_root h (events.Id by n) x (λ y. family_kept h (events.Id by n) y tt) (λ g. ap (λ l. has l (top h x)) (given_push h (events.Id by n)) ∙ had_more (given h) n (top h x) g) (r x o))
+    (λ o.
+    let t : top (h ++ events.Id by n ∷ []) n ≡ n = (family_kept h (events.Id by n) n tt).same_top ∙ fresh_top n h b in
+    subst (HasRoot (h ++ events.Id by n ∷ [])) (sym o)
+    (record {
+      root_given = ap (has (given (h ++ events.Id by n ∷ []))) t ∙ ap (λ l. has l n) (given_push h (events.Id by n)) ∙ had_new (given h) n;
+      root_top = ap (top (h ++ events.Id by n ∷ [])) t;
+      root_to = omega arith;
+    }))
+    (given_cases h (events.Id by n) n x refl a)
 
 -- the root of an id given before is the same after a subid
 old_root : (h : List Event) (by : By) (parent n x : ℕ) → AreBelow n h → has (given h) x ≡ true → top (h ++ events.Sub by parent n ∷ []) x ≡ top h x
@@ -75,17 +75,17 @@ old_root h by parent n x b g = top_sub h by parent n x ∙ ap (λ c. cond c (top
 sub_root : (h : List Event) (by : By) (parent n x : ℕ) → AreBelow n h → parent < n → has (given h) parent ≡ true → ((x : ℕ) → has (given h) x ≡ true → HasRoot h x) → has (given (h ++ events.Sub by parent n ∷ [])) x ≡ true → HasRoot (h ++ events.Sub by parent n ∷ []) x
 sub_root h by parent n x b p g r a =
     ⊎_elim (λ o. from x x (old_root h by parent n x b o) (r x o) (λ k. k))
-      (λ o. subst (HasRoot (h ++ events.Sub by parent n ∷ [])) (sym o)
-        (from n parent (top_sub h by parent n n ∙ ap (λ c. cond c (top h parent) (top h n)) (eqb-refl n)) (r parent g) (λ k. omega arith)))
-      (given_cases h (events.Sub by parent n) n x refl a)
+    (λ o. subst (HasRoot (h ++ events.Sub by parent n ∷ [])) (sym o)
+    (from n parent (top_sub h by parent n n ∙ ap (λ c. cond c (top h parent) (top h n)) (eqb-refl n)) (r parent g) (λ k. omega arith)))
+    (given_cases h (events.Sub by parent n) n x refl a)
   where
     from : (y z : ℕ) → top (h ++ events.Sub by parent n ∷ []) y ≡ top h z → HasRoot h z → (top h z ≤ z → top h z ≤ y) → HasRoot (h ++ events.Sub by parent n ∷ []) y
     from y z e root up =
-      record {
-        root_given = ap (has (given (h ++ events.Sub by parent n ∷ []))) e ∙ ap (λ l. has l (top h z)) (given_push h (events.Sub by parent n)) ∙ had_more (given h) n (top h z) root.root_given;
-        root_top = ap (top (h ++ events.Sub by parent n ∷ [])) e ∙ old_root h by parent n (top h z) b root.root_given ∙ root.root_top ∙ sym e;
-        root_to = subst (λ t. t ≤ y) (sym e) (up root.root_to);
-      }
+        record {
+          root_given = ap (has (given (h ++ events.Sub by parent n ∷ []))) e ∙ ap (λ l. has l (top h z)) (given_push h (events.Sub by parent n)) ∙ had_more (given h) n (top h z) root.root_given;
+          root_top = ap (top (h ++ events.Sub by parent n ∷ [])) e ∙ old_root h by parent n (top h z) b root.root_given ∙ root.root_top ∙ sym e;
+          root_to = subst (λ t. t ≤ y) (sym e) (up root.root_to);
+        }
 
 pub sound_id : (first : ℕ) (h : List Event) (by : By) (n : ℕ) → n ≡ next_given first h → IsSound first h → IsSound first (h ++ events.Id by n ∷ [])
 sound_id first h by n e s =
@@ -110,7 +110,7 @@ sub_inside h by parent n b f x id g =
   where
     split : (c : Bool) → (n == x) ≡ c → list_any (λ y. id == y) (cond c (x ∷ enclosing h parent) (enclosing h x)) ≡ true → cond c (top h parent) (top h x) ≡ cond (n == id) (top h parent) (top h id)
     split true e i =
-      ⊎_elim
+        ⊎_elim
         (λ o. sym (ap (λ b. cond b (top h parent) (top h id)) (ap (λ y. n == y) (equal_from id x o) ∙ e)))
         (λ o. elim (n == id) as (λ b. top h parent ≡ cond b (top h parent) (top h id)) [ true ↦ refl | false ↦ f parent id o ])
         (or_cases (id == x) (is_inside h id parent) i)

@@ -71,17 +71,17 @@ pub fold_max_has : (xs : List ℕ) (z x : ℕ) → has xs x ≡ true → x ≤ f
 fold_max_has [] z x h = absurd (false≢true h)
 fold_max_has (y ∷ xs) z x h =
     ⊎_elim
-      (λ e. let k : x ≡ y = equal_from x y e in let a : max z y ≤ fold max (max z y) xs = fold_max_above xs (max z y) in omega arith)
-      (λ e. fold_max_has xs (max z y) x e)
-      (or_cases (x == y) (has xs x) h)
+    (λ e. let k : x ≡ y = equal_from x y e in let a : max z y ≤ fold max (max z y) xs = fold_max_above xs (max z y) in omega arith)
+    (λ e. fold_max_has xs (max z y) x e)
+    (or_cases (x == y) (has xs x) h)
 
 -- the family is empty after the end of its top, and its greatest id is among the latest
 pub fold_max_is : (xs : List ℕ) (z m : ℕ) → AllByRecursion (λ x. x ≤ m) xs → (m ≤ z) ⊎ (has xs m ≡ true) → fold max z xs ≡ max z m
 fold_max_is xs z m a b =
     ⊎_elim
-      (λ l. let k : fold max z xs ≤ max z m = up_to xs z m a in let g : z ≤ fold max z xs = fold_max_above xs z in omega arith)
-      (λ l. let k : fold max z xs ≤ max z m = up_to xs z m a in let g : z ≤ fold max z xs = fold_max_above xs z in let f : m ≤ fold max z xs = fold_max_has xs z m l in omega arith)
-      b
+    (λ l. let k : fold max z xs ≤ max z m = up_to xs z m a in let g : z ≤ fold max z xs = fold_max_above xs z in omega arith)
+    (λ l. let k : fold max z xs ≤ max z m = up_to xs z m a in let g : z ≤ fold max z xs = fold_max_above xs z in let f : m ≤ fold max z xs = fold_max_has xs z m l in omega arith)
+    b
   where
     up_to : (xs : List ℕ) (z m : ℕ) → AllByRecursion (λ x. x ≤ m) xs → fold max z xs ≤ max z m
     up_to [] z m a = omega arith

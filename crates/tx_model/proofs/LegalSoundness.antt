@@ -57,7 +57,7 @@ pub sound_push : (base : Counters) (h : List Event) (e : Event) → IsSound base
 sound_push base h (events.Id by id) s m = sound_id base.next h by id m.0.next s
 sound_push base h (events.Sub by parent id) s m =
     sound_sub base.next h by parent id m.0.next (subst (λ n. parent < n) (sym m.0.next) (open_below base h by.session parent s m.1))
-      (has_given_to by.session h parent (open_member by.session h parent (has_contains (open_ids by.session h) parent m.1)).0) s
+    (has_given_to by.session h parent (open_member by.session h parent (has_contains (open_ids by.session h) parent m.1)).0) s
 sound_push base h (events.Undo by id) s m = sound_closing base.next h (events.Undo by id) _ (closing_undo h by id) (open_below base h by.session id s m.0) s
 sound_push base h (events.Commit by t) s m = sound_closing base.next h (events.Commit by t) _ (closing_commit h by t) (open_below base h by.session t s m.0) s
 sound_push base h (events.Abort by t) s m = sound_closing base.next h (events.Abort by t) _ (closing_abort h by t) (open_below base h by.session t s m.0) s

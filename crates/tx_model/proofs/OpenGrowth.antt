@@ -111,9 +111,9 @@ pub open_kept : (h : List Event) (e : Event) (x : ℕ) → KeepsFamily h e x →
 open_kept h e x l f =
     ap (λ b. not b && not (is_undone (h ++ e ∷ []) x)) (ended_push h e x l ∙ ap (λ b. is_ended h x || b) (no_end e (top h x) f) ∙ or_false (is_ended h x))
     ∙ ap (λ b. not (is_ended h x) && not b)
-        (undone_push h e x l
-        ∙ ap (λ b. is_undone h x || b) (list_any_agree (λ y. is_undo_of y e) (λ y. false) (λ y. no_undo e y f) (enclosing h x) ∙ list_any_never (enclosing h x))
-        ∙ or_false (is_undone h x))
+    (undone_push h e x l
+    ∙ ap (λ b. is_undone h x || b) (list_any_agree (λ y. is_undo_of y e) (λ y. false) (λ y. no_undo e y f) (enclosing h x) ∙ list_any_never (enclosing h x))
+    ∙ or_false (is_undone h x))
 
 not_or : (a b c : Bool) → (not a && not (b || c)) ≡ ((not a && not b) && not c)
 not_or true b c = refl
@@ -141,9 +141,9 @@ open_after_end h e t x n f u =
     let l = family_kept h e x n in
     ap (λ b. not b && not (is_undone (h ++ e ∷ []) x)) (ended_push h e x l ∙ ap (λ b. is_ended h x || b) f)
     ∙ ap (λ b. not (is_ended h x || (t == top h x)) && not b)
-        (undone_push h e x l
-        ∙ ap (λ b. is_undone h x || b) (list_any_agree (λ y. is_undo_of y e) (λ y. false) u (enclosing h x) ∙ list_any_never (enclosing h x))
-        ∙ or_false (is_undone h x))
+    (undone_push h e x l
+    ∙ ap (λ b. is_undone h x || b) (list_any_agree (λ y. is_undo_of y e) (λ y. false) u (enclosing h x) ∙ list_any_never (enclosing h x))
+    ∙ or_false (is_undone h x))
     ∙ not_or_first (is_ended h x) (is_undone h x) (t == top h x)
 
 pub open_committed : (h : List Event) (by : By) (t x : ℕ) →
@@ -189,15 +189,15 @@ fresh_open n h f =
 pub open_sub : (h : List Event) (by : By) (parent n : ℕ) → AreBelow n h → is_open (h ++ events.Sub by parent n ∷ []) n ≡ is_open h parent
 open_sub h by parent n f =
     ap (λ b. not b && not (is_undone (h ++ events.Sub by parent n ∷ []) n))
-        (ap (λ t. list_any (is_end_of t) (h ++ events.Sub by parent n ∷ [])) (top_sub h by parent n n ∙ ap (λ b. cond b (top h parent) (top h n)) (eqb-refl n))
-        ∙ list_any-push (is_end_of (top h parent)) h (events.Sub by parent n)
-        ∙ or_false (is_ended h parent))
+    (ap (λ t. list_any (is_end_of t) (h ++ events.Sub by parent n ∷ [])) (top_sub h by parent n n ∙ ap (λ b. cond b (top h parent) (top h n)) (eqb-refl n))
+    ∙ list_any-push (is_end_of (top h parent)) h (events.Sub by parent n)
+    ∙ or_false (is_ended h parent))
     ∙ ap (λ b. not (is_ended h parent) && not b)
-        (ap (list_any (λ y. list_any (is_undo_of y) (h ++ events.Sub by parent n ∷ [])))
-            (enclosing_sub h by parent n n ∙ ap (λ b. cond b (n ∷ enclosing h parent) (enclosing h n)) (eqb-refl n))
-        ∙ list_any_agree (λ y. list_any (is_undo_of y) (h ++ events.Sub by parent n ∷ [])) (λ y. list_any (is_undo_of y) h)
-            (λ y. list_any-push (is_undo_of y) h (events.Sub by parent n) ∙ or_false (list_any (is_undo_of y) h)) (n ∷ enclosing h parent)
-        ∙ ap (λ b. b || is_undone h parent) (fresh_no_undo n h f))
+    (ap (list_any (λ y. list_any (is_undo_of y) (h ++ events.Sub by parent n ∷ [])))
+    (enclosing_sub h by parent n n ∙ ap (λ b. cond b (n ∷ enclosing h parent) (enclosing h n)) (eqb-refl n))
+    ∙ list_any_agree (λ y. list_any (is_undo_of y) (h ++ events.Sub by parent n ∷ [])) (λ y. list_any (is_undo_of y) h)
+    (λ y. list_any-push (is_undo_of y) h (events.Sub by parent n) ∙ or_false (list_any (is_undo_of y) h)) (n ∷ enclosing h parent)
+    ∙ ap (λ b. b || is_undone h parent) (fresh_no_undo n h f))
 
 pub given_push : (h : List Event) (e : Event) → given (h ++ e ∷ []) ≡ given h ++ given (e ∷ [])
 given_push h e = filter_map-append given_by h (e ∷ [])

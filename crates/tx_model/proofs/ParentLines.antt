@@ -45,4 +45,3 @@ sub_line base = by_end (λ h. IsLegal base h → (by : By) (parent x : ℕ) → 
     })
     (λ z. absurd z) a)
     (has_cases h (e ∷ []) (events.Sub by parent x) k))
-

@@ -80,5 +80,5 @@ sub_subs h by parent n t f p o =
     ap (filter (λ x. (top (h ++ events.Sub by parent n ∷ []) x == t) && not (is_top (h ++ events.Sub by parent n ∷ []) x))) (sub_running h by parent n f o)
     ∙ filter-append (λ x. (top (h ++ events.Sub by parent n ∷ []) x == t) && not (is_top (h ++ events.Sub by parent n ∷ []) x)) (running h) (n ∷ [])
     ∙ ap (λ u. u ++ filter (λ x. (top (h ++ events.Sub by parent n ∷ []) x == t) && not (is_top (h ++ events.Sub by parent n ∷ []) x)) (n ∷ []))
-        (filter_agree_on (λ x. x < n) (λ x. (top (h ++ events.Sub by parent n ∷ []) x == t) && not (is_top (h ++ events.Sub by parent n ∷ []) x)) (λ x. (top h x == t) && not (is_top h x)) (λ x g. ap (λ u. (u == t) && not (u == x)) (sub_family h by parent n x g).same_top) (running h) (running_below n h f))
+    (filter_agree_on (λ x. x < n) (λ x. (top (h ++ events.Sub by parent n ∷ []) x == t) && not (is_top (h ++ events.Sub by parent n ∷ []) x)) (λ x. (top h x == t) && not (is_top h x)) (λ x g. ap (λ u. (u == t) && not (u == x)) (sub_family h by parent n x g).same_top) (running h) (running_below n h f))
     ∙ ap (λ b. running_subs h t ++ cond b (n ∷ []) []) (and_not_false (top (h ++ events.Sub by parent n ∷ []) n == t) (is_top (h ++ events.Sub by parent n ∷ []) n) (sub_is_no_top h by parent n f p) ∙ ap (λ u. u == t) (sub_own_top h by parent n))

@@ -129,4 +129,3 @@ xmin_from base g legal full =
 pub nth_upto : (first n : ℕ) → nth_id first n ≤ first + 4 * n
 nth_upto first zero = omega arith
 nth_upto first (suc n) = let a = nth_upto first n in let b = next_upto (nth_id first n) in omega arith
-

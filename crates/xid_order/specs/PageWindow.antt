@@ -62,13 +62,13 @@ either_way a b = grind arith
 ahead : (n x o l c : ℕ) → n ≤ 2 ^ 15 → o ≤ x → x + 2 ^ 21 < o + 2 ^ 31 → Places n (low_half x) (low_half o) l c → Ahead n l c
 ahead n x o l c few from to at =
     ⊎_elim (λ (h : low_half o ≤ low_half x). same_lap n (low_half x) (low_half o) l c few h (omega arith) at)
-        (λ (h : low_half x < low_half o). next_lap n (low_half x) (low_half o) l c few (omega arith) h (omega arith) at)
-        (either_way (low_half o) (low_half x))
+    (λ (h : low_half x < low_half o). next_lap n (low_half x) (low_half o) l c few (omega arith) h (omega arith) at)
+    (either_way (low_half o) (low_half x))
 
 past_cut : (shape : Shape) (n l c : ℕ) → Ahead n l c → ring_before (page_number shape n l) (page_number shape n c) ≡ false
 past_cut shape n l c far =
     let way : (l * n + place_of shape ≡ c * n + place_of shape + far.by) ⊎ (l * n + place_of shape + 2 ^ 32 ≡ c * n + place_of shape + far.by) =
-        ⊎_elim (λ (h : l * n ≡ c * n + far.by). inl (omega arith)) (λ (h : l * n + 2 ^ 32 ≡ c * n + far.by). inr (omega arith)) far.is in
+    ⊎_elim (λ (h : l * n ≡ c * n + far.by). inl (omega arith)) (λ (h : l * n + 2 ^ 32 ≡ c * n + far.by). inr (omega arith)) far.is in
     ring_not_before (l * n + place_of shape) (c * n + place_of shape) far.by far.within way
 
 places : (n x o : ℕ) → 1 ≤ n → Places n x o (x / n / 32 * 32 + 31) (o / n)

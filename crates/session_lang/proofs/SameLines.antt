@@ -1,0 +1,82 @@
+-- Bytes begin with one line.
+use Rattle.std.proofs.Common.{◌≡◌, ℕ, List, ◌∷◌, ◌++◌, refl, sym, ap, ◌∙◌, drop, get_or, arith}
+use Rattle.std.specs.Fmt.{decimal}
+use Rattle.tx_model.specs.declared.command.Command.{Command}
+use Rattle.tx_model.specs.declared.command.Command.TheVariants as commands
+use Rattle.session_lang.specs.CommandText.{command_word, command_words}
+use Rattle.session_lang.specs.Lines.{BeginsWithLine, ContinuesLine}
+use Rattle.session_lang.specs.Words.{line_text}
+use Rattle.session_lang.proofs.NameLemmas.{same_names}
+use Rattle.session_lang.proofs.NumberLemmas.{same_numbers}
+use Rattle.session_lang.proofs.LineLemmas.{begin_text, write_text, commit_text, abort_text, snap_text, see_text, line_splits}
+
+-- the first two bytes are those of the command's word
+abbrev HasHead : List ℕ → Command → Type 0
+HasHead bytes d = (get_or bytes 0 0 ≡ get_or (command_word d) 0 0) × (get_or bytes 1 0 ≡ get_or (command_word d) 1 0)
+
+heads : (bytes : List ℕ) (d : Command) (s : List ℕ) → ContinuesLine bytes d s → HasHead bytes d
+unfolding command_word
+heads bytes commands.Begin s k = let e = k.text ∙ begin_text s in (ap (λ b. get_or b 0 0) e, ap (λ b. get_or b 1 0) e)
+heads bytes commands.Write s k = let e = k.text ∙ write_text s in (ap (λ b. get_or b 0 0) e, ap (λ b. get_or b 1 0) e)
+heads bytes commands.Commit s k = let e = k.text ∙ commit_text s in (ap (λ b. get_or b 0 0) e, ap (λ b. get_or b 1 0) e)
+heads bytes commands.Abort s k = let e = k.text ∙ abort_text s in (ap (λ b. get_or b 0 0) e, ap (λ b. get_or b 1 0) e)
+heads bytes (commands.Snap name) s k = let e = k.text ∙ snap_text name s in (ap (λ b. get_or b 0 0) e, ap (λ b. get_or b 1 0) e)
+heads bytes (commands.See name x) s k = let e = k.text ∙ see_text name x.number s in (ap (λ b. get_or b 0 0) e, ap (λ b. get_or b 1 0) e)
+heads bytes d s k = absurd k.read
+
+only_begin : (bytes : List ℕ) (d : Command) (r s : List ℕ) → bytes ≡ line_text (command_words commands.Begin) ++ r → HasHead bytes d → ContinuesLine bytes d s → (commands.Begin ≡ d) × (r ≡ s)
+unfolding command_word
+only_begin bytes commands.Begin r s e h k = (refl, ap (drop 6) (sym (e ∙ begin_text r) ∙ (k.text ∙ begin_text s)))
+only_begin bytes d r s e h k = let a = ap (λ b. get_or b 0 0) (e ∙ begin_text r) in let z = h.0 in absurd (omega arith)
+
+only_write : (bytes : List ℕ) (d : Command) (r s : List ℕ) → bytes ≡ line_text (command_words commands.Write) ++ r → HasHead bytes d → ContinuesLine bytes d s → (commands.Write ≡ d) × (r ≡ s)
+unfolding command_word
+only_write bytes commands.Write r s e h k = (refl, ap (drop 6) (sym (e ∙ write_text r) ∙ (k.text ∙ write_text s)))
+only_write bytes d r s e h k = let a = ap (λ b. get_or b 0 0) (e ∙ write_text r) in let z = h.0 in absurd (omega arith)
+
+only_commit : (bytes : List ℕ) (d : Command) (r s : List ℕ) → bytes ≡ line_text (command_words commands.Commit) ++ r → HasHead bytes d → ContinuesLine bytes d s → (commands.Commit ≡ d) × (r ≡ s)
+unfolding command_word
+only_commit bytes commands.Commit r s e h k = (refl, ap (drop 7) (sym (e ∙ commit_text r) ∙ (k.text ∙ commit_text s)))
+only_commit bytes d r s e h k = let a = ap (λ b. get_or b 0 0) (e ∙ commit_text r) in let z = h.0 in absurd (omega arith)
+
+only_abort : (bytes : List ℕ) (d : Command) (r s : List ℕ) → bytes ≡ line_text (command_words commands.Abort) ++ r → HasHead bytes d → ContinuesLine bytes d s → (commands.Abort ≡ d) × (r ≡ s)
+unfolding command_word
+only_abort bytes commands.Abort r s e h k = (refl, ap (drop 6) (sym (e ∙ abort_text r) ∙ (k.text ∙ abort_text s)))
+only_abort bytes d r s e h k = let a = ap (λ b. get_or b 0 0) (e ∙ abort_text r) in let z = h.0 in absurd (omega arith)
+
+only_snap : (bytes name : List ℕ) (d : Command) (r s : List ℕ) → ContinuesLine bytes (commands.Snap name) r → HasHead bytes d → ContinuesLine bytes d s → (commands.Snap name ≡ d) × (r ≡ s)
+unfolding command_word
+only_snap bytes name (commands.Snap m) r s e h k =
+    let w = same_names 10 name m r s refl e.read k.read (ap (drop 5) (sym (e.text ∙ snap_text name r) ∙ (k.text ∙ snap_text m s))) in
+    (ap (λ n. commands.Snap n) w.0, w.1)
+only_snap bytes name d r s e h k =
+    let t = e.text ∙ snap_text name r in let a = ap (λ b. get_or b 0 0) t in let b = ap (λ b. get_or b 1 0) t in let y = h.0 in let z = h.1 in absurd (omega arith)
+
+only_see : (bytes name : List ℕ) (n : ℕ) (d : Command) (r s : List ℕ) → ContinuesLine bytes (commands.See name (record { number = n })) r → HasHead bytes d → ContinuesLine bytes d s → (commands.See name (record { number = n }) ≡ d) × (r ≡ s)
+unfolding command_word
+only_see bytes name n (commands.See m x) r s e h k =
+    let w = same_names 32 name m (decimal n ++ 10 ∷ r) (decimal x.number ++ 10 ∷ s) refl e.read.0 k.read.0 (ap (drop 4) (sym (e.text ∙ see_text name n r) ∙ (k.text ∙ see_text m x.number s))) in
+    let v = same_numbers n x.number r s e.read.1 k.read.1 w.1 in
+    (rw (w.0, v.0) refl, v.1)
+only_see bytes name n (commands.SeeMulti m x) r s e h k = absurd k.read
+only_see bytes name n d r s e h k =
+    let t = e.text ∙ see_text name n r in let a = ap (λ b. get_or b 0 0) t in let b = ap (λ b. get_or b 1 0) t in let y = h.0 in let z = h.1 in absurd (omega arith)
+
+same_commands : (bytes : List ℕ) (c d : Command) (r s : List ℕ) → ContinuesLine bytes c r → ContinuesLine bytes d s → HasHead bytes d → (c ≡ d) × (r ≡ s)
+same_commands bytes commands.Begin d r s k l h = only_begin bytes d r s k.text h l
+same_commands bytes commands.Write d r s k l h = only_write bytes d r s k.text h l
+same_commands bytes commands.Commit d r s k l h = only_commit bytes d r s k.text h l
+same_commands bytes commands.Abort d r s k l h = only_abort bytes d r s k.text h l
+same_commands bytes (commands.Snap name) d r s k l h = only_snap bytes name d r s k h l
+same_commands bytes (commands.See name x) d r s k l h = only_see bytes name x.number d r s k h l
+same_commands bytes c d r s k l h = absurd k.read
+
+pub same_lines : (bytes m n : List ℕ) (c d : Command) (r s : List ℕ) → BeginsWithLine bytes m c r → BeginsWithLine bytes n d s → (m ≡ n) × (c ≡ d) × (r ≡ s)
+same_lines bytes m n c d r s k l =
+    let a = line_splits bytes m c r k in
+    let b = line_splits bytes n d s l in
+    let w = same_names 32 m n (line_text (command_words c) ++ r) (line_text (command_words d) ++ s) refl a.named b.named (sym a.text ∙ b.text) in
+    let first : ContinuesLine (line_text (command_words c) ++ r) c r = record { read = k.read; text = refl } in
+    let second : ContinuesLine (line_text (command_words c) ++ r) d s = record { read = l.read; text = w.1 } in
+    let v = same_commands (line_text (command_words c) ++ r) c d r s first second (heads _ d s second) in
+    (w.0, v.0, v.1)

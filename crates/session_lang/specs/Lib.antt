@@ -1,0 +1,13 @@
+pub mod Words
+pub mod Names
+pub mod MemberText
+pub mod CommandText
+pub mod ReplyText
+pub mod EventText
+pub mod RecordText
+pub mod ReportText
+pub mod Rounds
+pub mod Script
+pub mod Lines
+pub mod Reading
+pub mod Refused

@@ -1,0 +1,32 @@
+-- The commands of a script, round by round.
+use Rattle.std.specs.Prelude.{ℕ, Bool, List, [], ◌∷◌, ◌++◌, Option, Some, None, ◌==◌}
+use Rattle.std.specs.List.{filter, filter_map}
+use Rattle.tx_model.specs.declared.command.Command.{Command}
+use Rattle.session_lang.specs.declared.script.Item.{Item}
+use Rattle.session_lang.specs.declared.script.Item.TheVariants as items
+
+abbrev pub session_of : Item → Option ℕ
+session_of (items.Run session command) = Some session
+session_of _ = None
+
+-- the session of each command, in order
+abbrev pub sessions_in : List Item → List ℕ
+sessions_in script = filter_map session_of script
+
+-- commands are a round where there are any
+abbrev pub round_of : List (ℕ × Command) → List (List (ℕ × Command))
+round_of [] = []
+round_of (t ∷ turns) = (t ∷ turns) ∷ []
+
+-- a directive ends the round of the commands before it
+abbrev pub rounds_from : List (ℕ × Command) → List Item → List (List (ℕ × Command))
+rounds_from turns [] = round_of turns
+rounds_from turns (items.Run session command ∷ script) = rounds_from (turns ++ (session, command) ∷ []) script
+rounds_from turns (_ ∷ script) = round_of turns ++ rounds_from [] script
+
+abbrev pub rounds_of : List Item → List (List (ℕ × Command))
+rounds_of script = rounds_from [] script
+
+-- a session's commands in a round
+abbrev pub turns_of : ℕ → List (ℕ × Command) → List (ℕ × Command)
+turns_of session turns = filter (λ t. t.0 == session) turns

@@ -1,0 +1,51 @@
+use tx_model::{Command, Copied, Counters, DumpOf, How, Memory, NameList, Sequence};
+
+/// A line of a script that isn't of its header.
+#[derive(Clone, Drop)]
+pub enum Item {
+    /// A command of the session of this number.
+    Run { session: u32, command: Command },
+    /// The end of a round.
+    Round,
+    /// A checkpoint.
+    Checkpoint,
+    /// A crash, and the opening after it.
+    Crash { how: How },
+    /// A dump of `length` bytes from place `at` on.
+    Dump { what: DumpOf, at: u64, length: u32 },
+}
+
+impl Copied for Item {
+    fn copy(&self) -> Result<Self, Memory> {
+        Ok(self.clone()?)
+    }
+}
+
+/// The lines of a script, in order.
+pub type ItemList = Sequence<Item>;
+
+/// A script: the counters and the number of banks that its header gives, the sessions' names in the order in which
+/// they appear, and its lines.
+#[derive(Clone, Drop)]
+pub struct Script {
+    pub base: Counters,
+    pub banks: u32,
+    pub names: NameList,
+    pub items: ItemList,
+}
+
+/// What is wrong with a line.
+#[derive(Clone, Copy, Debug, PartialEq, Eq)]
+pub enum Kind {
+    /// The bytes aren't of the form that is read so far.
+    Form,
+}
+
+/// Why bytes aren't taken as a script.
+#[derive(Clone, Copy, Debug, PartialEq, Eq)]
+pub enum ParseRefusal {
+    /// They are none. Lines count from 1; 0 is the script as a whole.
+    Fault { line: u64, kind: Kind },
+    /// Want of memory.
+    Memory,
+}

@@ -1,0 +1,11 @@
+mod FlatLemmas
+mod FlatSteps
+mod SoundLemmas
+mod LogLemmas
+mod ListLemmas
+mod StandsLemmas
+mod ActsLemmas
+mod ProgressLemmas
+mod RoundLemmas
+mod StreamLemmas
+mod RunLemmas

@@ -1,0 +1,30 @@
+use Rattle.std.proofs.Common.{◌≡◌, ℕ, ◌+◌, ◌≤◌, List, Option, sym, ap, subst, ◌∙◌, take, drop, length, arith, get_or, [], ◌∷◌, ◌<◌, map, refl}
+use Rattle.std.specs.Io.KnownBytes.{Appends}
+use Rattle.std.proofs.KnownBytes.{Appends-trans}
+use Rattle.std.proofs.Math.Seq.{take-add}
+use Rattle.std.proofs.lemmas.Slice.{between_to_end}
+use Rattle.std.specs.List.{between}
+
+-- a front, and then a front of what is left
+pub appends_on : (a b c : Option (List ℕ)) (xs : List ℕ) (at n : ℕ) → Appends a b (take at xs) → Appends b c (take n (drop at xs)) → Appends a c (take (at + n) xs)
+appends_on a b c xs at n f g = subst (Appends a c) (sym (take-add at n xs)) (Appends-trans a b c (take at xs) (take n (drop at xs)) f g)
+
+pub appends_on_rest : (a b c : Option (List ℕ)) (xs : List ℕ) (at n : ℕ) → Appends a b (take at xs) → Appends b c (take n (between at (length xs) xs)) → Appends a c (take (at + n) xs)
+appends_on_rest a b c xs at n f g = appends_on a b c xs at n f (subst (λ t. Appends b c (take n t)) (between_to_end xs at (length xs) (omega arith)) g)
+
+-- a list of one item
+pub only_one : {X : Type 0} (xs : List X) (x : X) → 1 ≤ length xs → length xs < 2 → x ≡ get_or xs 0 x → xs ≡ x ∷ []
+only_one [] x m l e = absurd (omega arith)
+only_one (y ∷ []) x m l e = ap (λ z. z ∷ []) (sym e)
+only_one (y ∷ z ∷ xs) x m l e = absurd (omega arith)
+
+pub one_word : {X : Type 0} (f : X → List ℕ) (xs : List X) (x : X) (w : List ℕ) (b : Type 0) → xs ≡ x ∷ [] → ((b → f x ≡ w) × (f x ≡ w → b)) → ((b → map f xs ≡ w ∷ []) × (map f xs ≡ w ∷ [] → b))
+one_word f xs x w b e h =
+    (λ i. ap (map f) e ∙ ap (λ t. t ∷ []) (h.0 i), λ k. h.1 (head_is (sym (ap (map f) e) ∙ k)))
+  where
+    head_is : f x ∷ [] ≡ w ∷ [] → f x ≡ w
+    head_is k = cc
+
+pub take_whole : (xs : List ℕ) → take (length xs) xs ≡ xs
+take_whole [] = refl
+take_whole (x ∷ xs) = ap (λ t. x ∷ t) (take_whole xs)

@@ -1,0 +1,61 @@
+-- What a run of the tool says.
+use Rattle.std.specs.Prelude.{◌≡◌, ℕ, ◌<◌, ◌⊎◌, List, [], ◌∷◌, ◌++◌, Option, None, take, length, codes, Contains}
+use Rattle.std.specs.Io.KnownBytes.{Consumes, Appends, IsAtEnd}
+use Rattle.tx_model.specs.declared.report.Report.{Report}
+use Rattle.tx_model.specs.declared.report.LifeReport.{LifeReport}
+use Rattle.tx_model.specs.LawfulLife.{IsLawfulLife}
+use Rattle.session_lang.specs.declared.script.Script.{Script}
+use Rattle.session_lang.specs.ReportText.{report_text}
+use Rattle.session_lang.specs.Rounds.{rounds_of}
+use Rattle.session_lang.specs.Script.{IsScript}
+
+-- the report of a run of the script over a new log: one life, from the script's counters
+pub record IsReportOf (s : Script) (r : Report) : Type 0 where
+  pub names : r.names ≡ s.names
+  pub life : LifeReport
+  pub one : r.lives ≡ life ∷ []
+  pub last : life.crash ≡ None
+  pub first : life.life.from ≡ 0
+  pub base : life.life.base ≡ s.base
+  pub nothing_before : life.life.committed ≡ []
+  pub lawful : IsLawfulLife (rounds_of s.items) life
+
+-- the one list of words that is accepted
+abbrev pub IsRun : List (List ℕ) → Type 0
+IsRun words = words ≡ codes "run" ∷ []
+
+-- The source was read to its end and its bytes are a script, and the text is that of a report of this script.
+pub record IsAnswer (left left' : Option (List ℕ)) (text : List ℕ) : Type 0 where
+  pub bytes : List ℕ
+  pub read : Consumes left left' bytes
+  pub ended : IsAtEnd left'
+  pub script : Script
+  pub spelled : IsScript script bytes
+  pub report : Report
+  pub lawful : IsReportOf script report
+  pub exact : text ≡ report_text report
+
+-- The sink holds such a text more.
+pub record IsWholeRun (left left' held held' : Option (List ℕ)) : Type 0 where
+  pub text : List ℕ
+  pub answer : IsAnswer left left' text
+  pub written : Appends held held' text
+
+-- The source was read to its end or past the limit, and its bytes are no script.
+pub record IsNoScript (left left' : Option (List ℕ)) : Type 0 where
+  pub bytes : List ℕ
+  pub read : Consumes left left' bytes
+  pub ended : IsAtEnd left' ⊎ (16777216 < length bytes)
+  pub none : (s : Script) → IsScript s bytes → ⊥
+
+-- the lines that end a run without a report
+abbrev pub last_lines : List (List ℕ)
+last_lines =
+    (codes "script 0 form" ++ 10 ∷ []) ∷ (codes "words" ++ 10 ∷ []) ∷ (codes "read-fault" ++ 10 ∷ []) ∷ (codes "memory" ++ 10 ∷ []) ∷ []
+
+-- The sink holds a front of a run's report more, or of a last line.
+pub record HoldsFront (left left' held held' : Option (List ℕ)) : Type 0 where
+  pub text : List ℕ
+  pub whole : IsAnswer left left' text ⊎ Contains last_lines text
+  pub count : ℕ
+  pub front : Appends held held' (take count text)

@@ -1,0 +1,16 @@
+//! Runs the sessions of a script over a new log, and the tool's top call.
+#![tactic(auto)]
+
+mod plain_log;
+mod rounds;
+mod run;
+mod session;
+mod shared;
+mod stream;
+mod tool;
+
+pub use run::run_script;
+pub use tool::run_tool;
+
+#[cfg(test)]
+mod tests;

@@ -1,0 +1,121 @@
+ghost use Rattle.std.specs.Prelude.{◌≡◌, ℕ, ◌⊎◌, ◌↔◌, List, map, take, string_bytes, IsTrue, IfOk, codes, length, ◌≤◌, ◌≢◌, ◌++◌, ◌∷◌, []};
+ghost use Rattle.std.specs.Io.KnownBytes.{Appends};
+ghost use Rattle.tx_model.specs.declared.report.Report.{Report};
+ghost use Rattle.tx_io.specs.Causes.{Rose};
+ghost use Rattle.session_lang.specs.declared.script.Script.{Script};
+ghost use Rattle.session_lang.specs.ReportText.{report_text};
+ghost use Rattle.session_lang.specs.Script.{IsScript};
+ghost use Rattle.session_run.specs.Tool.{IsRun, IsWholeRun, IsNoScript, IsReportOf, HoldsFront};
+ghost use Rattle.session_run.specs.Ends.{Ends, Answers};
+
+use crate::run::run_script;
+use crate::stream::{ReadStop, read_all, write_all};
+use session_lang::{ParseRefusal, parse, print_report};
+use std::alloc::Global;
+use tx_io::{Failed, Sink, Source};
+
+/// How a run ends.
+#[derive(Drop)]
+enum Ending {
+    Report(Vec<u8>),
+    NoScript,
+    ReadFault,
+    Memory,
+}
+
+fn is_run_word(word: &String) -> bool
+    ensures { IsTrue result ↔ (string_bytes word.now ≡ codes "run") }
+{
+    word.as_str() == "run"
+}
+
+fn is_run(words: &[String]) -> bool
+    ensures { IsTrue result ↔ IsRun (map string_bytes words.now) }
+{
+    match words {
+        [word] => is_run_word(word),
+        _ => false,
+    }
+}
+
+/// What a script's bytes give: the text of its report, or that they are none.
+fn answer(alloc: Global, bytes: &[u8]) -> Ending
+    requires { length bytes.now ≤ 16777216 }
+    ensures { Answers bytes.now result }
+{
+    let script = match parse(alloc, bytes) {
+        Ok(script) => script,
+        Err(ParseRefusal::Fault { .. }) => return Ending::NoScript,
+        Err(ParseRefusal::Memory) => return Ending::Memory,
+    };
+    let Ok(report) = run_script(alloc, &script) else {
+        return Ending::Memory;
+    };
+    let Ok(text) = print_report(alloc, &report) else {
+        return Ending::Memory;
+    };
+    Ending::Report(text)
+}
+
+/// Reads the source and makes the report.
+fn work<S: Source>(alloc: Global, source: &mut S) -> Ending
+    ensures ends { Ends (S.left source.old) (S.left source.new) (S.faults source.old) (S.faults source.new) result }
+    ensures later { S.faults source.old ≤ S.faults source.new }
+{
+    match read_all(alloc, source) {
+        Ok(bytes) => answer(alloc, bytes.as_slice()),
+        Err(ReadStop::Fault) => Ending::ReadFault,
+        Err(ReadStop::TooLong) => Ending::NoScript,
+        Err(ReadStop::Memory) => Ending::Memory,
+    }
+}
+
+/// Writes the last text, and answers the status, or 4 where the sink fails.
+fn finish<K: Sink>(sink: &mut K, text: &[u8], status: u8) -> u8
+    ensures ends { ((result ≡ status) × Appends (K.held sink.old) (K.held sink.new) text.now) ⊎ ((result ≡ 4) × Rose (K.faults sink.old) (K.faults sink.new)) }
+    ensures front { (n : ℕ) × Appends (K.held sink.old) (K.held sink.new) (take n text.now) }
+{
+    match write_all(sink, text) {
+        Ok(()) => status,
+        Err(Failed) => 4,
+    }
+}
+
+/// Runs the tool over the words of its command line, and answers its status: 0 done, 1 the source's bytes aren't a
+/// script, 2 the words are refused, 3 the source failed, 4 the sink failed, 6 want of memory. The only word is `run`.
+pub fn run_tool<S: Source, K: Sink>(
+    alloc: Global,
+    words: &[String],
+    source: &mut S,
+    sink: &mut K,
+) -> u8
+    // The main guarantee: the bytes written report one legal history, each command once and in order, and each
+    // reply lawful.
+    ensures done { result ≡ 0 → IsRun (map string_bytes words.now)
+        × IsWholeRun (S.left source.old) (S.left source.new) (K.held sink.old) (K.held sink.new) }
+
+    // Why it ends otherwise.
+    ensures script { result ≡ 1 → IsRun (map string_bytes words.now) × IsNoScript (S.left source.old) (S.left source.new) }
+    ensures words { result ≡ 2 → IsRun (map string_bytes words.now) → ⊥ }
+    ensures words_only { (IsRun (map string_bytes words.now) → ⊥) → (result ≡ 2) ⊎ (result ≡ 4) }
+    ensures read { result ≡ 3 → Rose (S.faults source.old) (S.faults source.new) }
+    ensures write { result ≡ 4 → Rose (K.faults sink.old) (K.faults sink.new) }
+    ensures front { result ≡ 4 → HoldsFront (S.left source.old) (S.left source.new) (K.held sink.old) (K.held sink.new) }
+    ensures statuses { (result ≤ 6) × (result ≢ 5) }
+
+    // And the line that it then writes.
+    ensures no_script { result ≡ 1 → Appends (K.held sink.old) (K.held sink.new) (codes "script 0 form" ++ 10 ∷ []) }
+    ensures no_words { result ≡ 2 → Appends (K.held sink.old) (K.held sink.new) (codes "words" ++ 10 ∷ []) }
+    ensures read_fault { result ≡ 3 → Appends (K.held sink.old) (K.held sink.new) (codes "read-fault" ++ 10 ∷ []) }
+    ensures no_memory { result ≡ 6 → Appends (K.held sink.old) (K.held sink.new) (codes "memory" ++ 10 ∷ []) }
+{
+    if !is_run(words) {
+        return finish(sink, b"words\n", 2);
+    }
+    match work(alloc, source) {
+        Ending::Report(text) => finish(sink, text.as_slice(), 0),
+        Ending::NoScript => finish(sink, b"script 0 form\n", 1),
+        Ending::ReadFault => finish(sink, b"read-fault\n", 3),
+        Ending::Memory => finish(sink, b"memory\n", 6),
+    }
+}

@@ -1,0 +1,14 @@
+//! Where a program's bytes come from and go to.
+#![tactic(auto)]
+
+mod faults;
+mod memory;
+mod stream;
+mod traits;
+
+pub use memory::{MemSink, MemSource};
+pub use stream::{StdSink, StdSource};
+pub use traits::{Failed, Memory, Sink, Source};
+
+#[cfg(test)]
+mod tests;

@@ -1,0 +1,25 @@
+//! `txid_tool run`: reads a script from standard input and writes its report to standard output.
+#![tactic(auto)]
+
+use session_run::run_tool;
+use std::process::ExitCode;
+use std::{env, io};
+use tx_io::{StdSink, StdSource};
+
+/// The words of the command line behind the program's name.
+fn words(rt: &HostRuntime) -> io::Result<Vec<String>> {
+    let mut words = Vec::new(rt.alloc());
+    for word in env::args(rt)?.skip(1) {
+        words.push(word)?;
+    }
+    Ok(words)
+}
+
+fn main(rt: HostRuntime) -> ExitCode {
+    // Words that aren't text are refused as any other wrong words are.
+    let words = words(&rt).unwrap_or(Vec::new(rt.alloc()));
+    let mut source = StdSource::new(rt.stdin());
+    let mut sink = StdSink::new(rt.stdout());
+    let status = run_tool(rt.alloc(), words.as_slice(), &mut source, &mut sink);
+    ExitCode::from(status)
+}

@@ -1,0 +1,177 @@
+-- The changes of a critical section of a bank keep the invariant.
+use Rattle.std.proofs.Common.{Contains, List, [], ap, arith, inl, inr, refl, subst, sym, ℕ, ⊎_elim, ◌∙◌, ◌∷◌, ◌≡◌}
+use Rattle.std.specs.List.{AllByRecursion}
+use Rattle.tx_model.specs.declared.event.By.{By}
+use Rattle.tx_model.proofs.Membership.{Has, contains_has, has_contains}
+use Rattle.tx_model.specs.Events.{given}
+use Rattle.tx_core.specs.declared.entry.Change.{Change}
+use Rattle.tx_core.specs.declared.entry.Entry.{Entry}
+use Rattle.tx_core.specs.declared.entry.Start.{Start}
+use Rattle.tx_core.specs.declared.entry.State.{State}
+use Rattle.tx_core.proofs.Asking.{has_each}
+use Rattle.tx_core.proofs.Keeping.{keeps}
+use Rattle.tx_core.specs.AbortRule.{AskUnrecorded, AskedOf, IsSameAfter}
+use Rattle.tx_core.specs.Entries.{Link, Mark}
+use Rattle.tx_core.specs.Laws.{AbortedKeeps, AreThere, ChangesKeep, CommittedKeeps, FaultKeeps, MayChange, MayLink, MayMark, ParentKeeps, RequestKeeps, SubCommittedKeeps, all_set, links_of, marks_of}
+use Rattle.tx_core.specs.Lists.{at}
+use Rattle.tx_core.specs.Locks.{subtrans_lock, subtrans_page, xact_lock, xact_lock_of, xact_page}
+use Rattle.tx_core.specs.LogBeforeStatus.{RecordOf, TreeOf}
+use Rattle.tx_core.specs.PagesBeforeIds.{WasMade}
+use Rattle.tx_core.specs.ParentsFollow.{IsGivenBelow}
+use Rattle.tx_core.specs.ProgramOrder.{change_lock}
+use Rattle.tx_core.specs.declared.entry.Change.TheVariants as changes
+use Rattle.tx_core.specs.declared.entry.Kind.TheVariants as kinds
+use Rattle.tx_core.specs.declared.entry.State.TheVariants as states
+
+-- what the parts ask of changes, list by list
+record Asked (start : Start) (seen : List (List Entry)) (before : List Entry) (session : ℕ) (changes : List Change) : Type 0 where
+  made : AllByRecursion (λ mark. WasMade before (xact_page start.base.next) (xact_page mark.id)) (marks_of changes)
+  logged : AllByRecursion (λ mark. RecordOf start seen mark.caller.session mark.id mark.state) (marks_of changes)
+  tree : AllByRecursion (λ mark. TreeOf start seen mark.caller.session mark.id mark.state) (marks_of changes)
+  asked : AllByRecursion (λ mark. AskedOf seen session mark.caller.session mark.id mark.state) (marks_of changes)
+  unrecorded : AllByRecursion (λ mark. AskUnrecorded seen session mark.caller.session mark.id mark.state) (marks_of changes)
+  later : AllByRecursion (λ mark. IsSameAfter before mark) (marks_of changes)
+  alike : AllByRecursion (λ mark. AllByRecursion (λ other. other.id ≡ mark.id → other.state ≡ mark.state) (marks_of changes)) (marks_of changes)
+  made_links : AllByRecursion (λ link. WasMade before (subtrans_page start.base.next) (subtrans_page link.id)) (links_of changes)
+  subs : AllByRecursion (λ link. IsGivenBelow seen link.caller.session link.parent link.id) (links_of changes)
+
+asked_of_each : (start : Start) (seen : List (List Entry)) (lock session : ℕ) (changes : List Change) → MayChange start seen lock session changes → Asked start seen (at seen lock) session changes
+asked_of_each start seen lock session changes may =
+    let before : List Entry = at seen lock in
+    let mark_of_each : (mark : Mark) → Has (marks_of changes) mark → MayMark start seen before session mark = λ mark k. may.marks mark (has_contains (marks_of changes) mark k) in
+    let link_of_each : (link : Link) → Has (links_of changes) link → MayLink start seen before link = λ link k. may.links link (has_contains (links_of changes) link k) in
+    record {
+      made = has_each (λ mark. WasMade before (xact_page start.base.next) (xact_page mark.id)) (marks_of changes) (λ mark k. (mark_of_each mark k).page);
+      logged = has_each (λ mark. RecordOf start seen mark.caller.session mark.id mark.state) (marks_of changes) (λ mark k. (mark_of_each mark k).durable);
+      tree = has_each (λ mark. TreeOf start seen mark.caller.session mark.id mark.state) (marks_of changes) (λ mark k. (mark_of_each mark k).tree);
+      asked = has_each (λ mark. AskedOf seen session mark.caller.session mark.id mark.state) (marks_of changes) (λ mark k. (mark_of_each mark k).asked);
+      unrecorded = has_each (λ mark. AskUnrecorded seen session mark.caller.session mark.id mark.state) (marks_of changes) (λ mark k. (mark_of_each mark k).unrecorded);
+      later = has_each (λ mark. IsSameAfter before mark) (marks_of changes) (λ mark k. (mark_of_each mark k).final);
+      alike = has_each (λ mark. AllByRecursion (λ other. other.id ≡ mark.id → other.state ≡ mark.state) (marks_of changes)) (marks_of changes) (λ mark k.
+          has_each (λ other. other.id ≡ mark.id → other.state ≡ mark.state) (marks_of changes) (λ other j. may.alike mark other (has_contains (marks_of changes) mark k) (has_contains (marks_of changes) other j)));
+      made_links = has_each (λ link. WasMade before (subtrans_page start.base.next) (subtrans_page link.id)) (links_of changes) (λ link k. (link_of_each link k).page);
+      subs = has_each (λ link. IsGivenBelow seen link.caller.session link.parent link.id) (links_of changes) (λ link k. (link_of_each link k).sub);
+    }
+
+pub changes_law : ChangesKeep
+changes_law start seen lock by changes may lists k knows inside whole turn =
+    let a = asked_of_each start seen lock by.session changes may in
+    keeps start lists seen lock (record { by = by; kind = kinds.Set changes }) k knows inside whole (record {
+      events = record { own = tt; rule = λ here. tt };
+      pages = record { ids = tt; changes = record { marks = a.made; links = a.made_links } };
+      parents = a.subs;
+      records = record { parents = tt; event = λ here. tt; ids = λ here. tt };
+      status = record { logged = a.logged; tree = a.tree };
+      commits = tt;
+      aborts = record { closed = tt; asked = a.asked; unasked = λ here. tt; unrecorded = a.unrecorded; final = record { later = a.later; alike = a.alike } };
+      order = record { turn = turn; stands = may.on };
+    })
+
+pub fault_law : FaultKeeps
+fault_law start seen lock by callers changes cut count may named lists k knows inside whole turn =
+    let a = asked_of_each start seen lock by.session changes may in
+    keeps start lists seen lock (record { by = by; kind = kinds.Fault callers changes cut count }) k knows inside whole (record {
+      events = record { own = tt; rule = λ here. tt };
+      pages = record { ids = tt; changes = record { marks = a.made; links = a.made_links } };
+      parents = a.subs;
+      records = record { parents = tt; event = λ here. tt; ids = λ here. tt };
+      status = record { logged = a.logged; tree = a.tree };
+      commits = tt;
+      aborts = record { closed = tt; asked = a.asked; unasked = λ here. tt; unrecorded = a.unrecorded; final = record { later = a.later; alike = a.alike } };
+      order = record { turn = turn; stands = (may.on, named) };
+    })
+
+pub request_law : RequestKeeps
+request_law start seen lock by changes behind unrecorded lists k knows inside whole turn =
+    keeps start lists seen lock (record { by = by; kind = kinds.Request changes }) k knows inside whole (record {
+      events = record { own = tt; rule = λ here. tt };
+      pages = record { ids = tt; changes = record { marks = tt; links = tt } };
+      parents = tt;
+      records = record { parents = tt; event = λ here. tt; ids = λ here. tt };
+      status = record { logged = tt; tree = tt };
+      commits = tt;
+      aborts = record {
+        closed = tt;
+        asked = tt;
+        unasked = λ here. tt;
+        unrecorded = has_each (λ mark. AskUnrecorded seen by.session mark.caller.session mark.id mark.state) (marks_of changes) (λ mark k. unrecorded mark (has_contains (marks_of changes) mark k));
+        final = record { later = tt; alike = tt };
+      };
+      order = record { turn = turn; stands = behind };
+    })
+
+-- the states that a session sets for itself are all one
+all_mark : (by : By) (state : State) (ids : List ℕ) (mark : Mark) → Has (marks_of (all_set by state ids)) mark → (id : ℕ) × Has ids id × (record { caller = by; id = id; state = state } ≡ mark)
+all_mark by state [] mark k = absurd k
+all_mark by state (id ∷ ids) mark k =
+    ⊎_elim (λ (q : record { caller = by; id = id; state = state } ≡ mark). (id, inl refl, q)) (λ t. let r = all_mark by state ids mark t in (r.0, inr r.1, r.2)) k
+
+no_link : (by : By) (state : State) (ids : List ℕ) (link : Link) → Has (links_of (all_set by state ids)) link → ⊥
+no_link by state [] link k = k
+no_link by state (id ∷ ids) link k = no_link by state ids link k
+
+all_on : (start : Start) (by : By) (state : State) (lock : ℕ) (ids : List ℕ) → ((id : ℕ) → Has ids id → xact_lock_of start id ≡ lock) → AllByRecursion (λ change. change_lock start change ≡ lock) (all_set by state ids)
+all_on start by state lock [] each = tt
+all_on start by state lock (id ∷ ids) each = (each id (inl refl), all_on start by state lock ids (λ x k. each x (inr k)))
+
+-- the states of one hold, from what is asked of each id
+all_may : (start : Start) (seen : List (List Entry)) (bank : ℕ) (by : By) (state : State) (ids : List ℕ) → AreThere start seen bank ids
+    → ((id : ℕ) → Contains ids id → MayMark start seen (at seen (xact_lock bank)) by.session (record { caller = by; id = id; state = state }))
+    → MayChange start seen (xact_lock bank) by.session (all_set by state ids)
+all_may start seen bank by state ids there each = record {
+  on = record { bank = record { from = omega arith; to = let z = there.inside in omega arith }; pages = all_on start by state (xact_lock bank) ids (λ id k. there.lock id (has_contains ids id k)) };
+  marks = λ mark c. let r = all_mark by state ids mark (contains_has (marks_of (all_set by state ids)) mark c) in
+      subst (λ (m : Mark). MayMark start seen (at seen (xact_lock bank)) by.session m) r.2 (each r.0 (has_contains ids r.0 r.1));
+  alike = λ mark other c d q.
+      let r = all_mark by state ids mark (contains_has (marks_of (all_set by state ids)) mark c) in
+      let t = all_mark by state ids other (contains_has (marks_of (all_set by state ids)) other d) in
+      ap (λ (m : Mark). m.state) (sym t.2) ∙ ap (λ (m : Mark). m.state) r.2;
+  links = λ link c. absurd (no_link by state ids link (contains_has (links_of (all_set by state ids)) link c));
+}
+
+pub committed_law : CommittedKeeps
+committed_law start seen bank by ids there durable tree only =
+    changes_law start seen (xact_lock bank) by (all_set by states.Committed ids) (all_may start seen bank by states.Committed ids there (λ id c. record {
+      page = there.made id c;
+      durable = durable id c;
+      tree = tree id c;
+      asked = tt;
+      unrecorded = tt;
+      final = λ old j q. only id old c j q;
+    }))
+
+pub sub_committed_law : SubCommittedKeeps
+sub_committed_law start seen bank by ids there durable only =
+    changes_law start seen (xact_lock bank) by (all_set by states.SubCommitted ids) (all_may start seen bank by states.SubCommitted ids there (λ id c. record {
+      page = there.made id c;
+      durable = durable id c;
+      tree = tt;
+      asked = tt;
+      unrecorded = tt;
+      final = λ old j q. only id old c j q;
+    }))
+
+pub aborted_law : AbortedKeeps
+aborted_law start seen bank by ids there given unrecorded only =
+    changes_law start seen (xact_lock bank) by (all_set by states.Aborted ids) (all_may start seen bank by states.Aborted ids there (λ id c. record {
+      page = there.made id c;
+      durable = tt;
+      tree = tt;
+      asked = record { given = given id c; asked = inl refl };
+      unrecorded = λ same top subs a j. unrecorded id top subs c a j;
+      final = λ old j q. only id old c j q;
+    }))
+
+pub parent_law : ParentKeeps
+parent_law start seen bank by id parent within lock made sub =
+    let link : Link = record { caller = by; id = id; parent = parent } in
+    changes_law start seen (subtrans_lock bank) by (changes.Parent by id parent ∷ []) (record {
+      on = record { bank = record { from = omega arith; to = omega arith }; pages = (lock, tt) };
+      marks = λ mark c. absurd (contains_has [] mark c);
+      alike = λ mark other c d q. absurd (contains_has [] mark c);
+      links = λ other c.
+          ⊎_elim
+          (λ (q : link ≡ other). subst (λ (l : Link). MayLink start seen (at seen (subtrans_lock bank)) l) q (record { page = made; sub = sub }))
+          (λ z. absurd z)
+          (contains_has (link ∷ []) other c);
+    })

@@ -1,0 +1,193 @@
+-- An entry that may be added keeps the engine invariant, part by part.
+use Rattle.std.proofs.Common.{List, None, Option, Some, [], ap, append-nil, arith, inl, length, refl, subst, sym, true, ℕ, ⊎_elim, ◌++◌, ◌<◌, ◌==◌, ◌∙◌, ◌∷◌, ◌≡◌, ◌≤◌}
+use Rattle.std.specs.List.{cons_option, filter}
+use mathlib.Core.Logic.{dite}
+use native.Mathlib.Decide.{ℕ_discrete}
+use Rattle.tx_model.specs.declared.event.By.{By}
+use Rattle.tx_model.specs.declared.event.Event.{Event}
+use Rattle.tx_model.specs.declared.record.Rec.{Rec}
+use Rattle.tx_model.proofs.LineGrowth.{legal_push}
+use Rattle.tx_model.proofs.Membership.{Has, filter_has, has_filter, has_filter_map}
+use Rattle.tx_model.specs.Events.{by_of, is_of}
+use Rattle.tx_model.specs.Families.{top}
+use Rattle.tx_model.specs.History.{ComesInTurn, IsLegal, MayCome}
+use Rattle.tx_model.specs.Running.{open_ids}
+use Rattle.tx_core.specs.declared.entry.Entry.{Entry}
+use Rattle.tx_core.specs.declared.entry.Start.{Start}
+use Rattle.tx_core.proofs.Asking.{all_has, append_asks, has_all, ids_of_record, leaves_of, own_event, rule_of, states_of, unasked_of, unrecorded_of, upheld_has}
+use Rattle.tx_core.proofs.Exactness.{Leaves, exact_push}
+use Rattle.tx_core.proofs.Growing.{upheld_add}
+use Rattle.tx_core.proofs.Lasting.{aborts_lasting, asked_lasting, links_lasting, logged_lasting, own_lasting, pages_lasting, places_lasting, same_lasting, stand_lasting, states_lasting, subs_lasting, tree_lasting, turns_lasting}
+use Rattle.tx_core.proofs.Stepping.{appended_cases, asks_cases, history_at, history_off, open_seen, own_appended, own_asks, root_seen}
+use Rattle.tx_core.specs.AbortRule.{AbortRule, AsksAbort, NeedsAborts, NeedsAsked, NeedsSame}
+use Rattle.tx_core.specs.CommitRecordsExact.{CommitRecordsExact, HasNoRecord, IsExactIn, LeavesRecords, NeedsLinks}
+use Rattle.tx_core.specs.EngineInvariant.{EngineInvariant, MayAdd}
+use Rattle.tx_core.specs.Entries.{IsAppended, Mark, asks_in, event_of, events_in, history, session_of}
+use Rattle.tx_core.specs.EventsLegal.{EventsLegal, NeedsOwn}
+use Rattle.tx_core.specs.Lists.{IsLasting, Knows, Upheld, add, at, own}
+use Rattle.tx_core.specs.Locks.{log_lock, proc_lock}
+use Rattle.tx_core.specs.LogBeforeStatus.{LogBeforeStatus, NeedsRecords, NeedsTree}
+use Rattle.tx_core.specs.PagesBeforeIds.{NeedsPages, NeedsPlace, PagesBeforeIds}
+use Rattle.tx_core.specs.ParentsFollow.{NeedsSubs}
+use Rattle.tx_core.specs.ProgramOrder.{IsInTurn, NeedsStand, NeedsTurn, ProgramOrder}
+use Rattle.tx_core.specs.StatusBeforeCommit.{NeedsStates}
+use Rattle.tx_model.specs.declared.event.Event.TheVariants as events
+use Rattle.tx_core.specs.declared.entry.Kind.TheVariants as kinds
+use Rattle.tx_model.specs.declared.record.Rec.TheVariants as records
+use Rattle.tx_core.specs.declared.entry.State.TheVariants as states
+
+-- a session adds an entry: what it needs of the lists that it has seen, while the real lists have grown
+pub record Step (start : Start) (seen lists : List (List Entry)) (lock : ℕ) (e : Entry) : Type 0 where
+  pub k : EngineInvariant start lists
+  pub knows : Knows session_of e.by.session seen lists
+  pub inside : lock < length lists
+  pub whole : at seen lock ≡ at lists lock
+  pub may : MayAdd start seen lock e
+
+-- a need that lasts is met in the real lists too
+need_now : (start : Start) (seen lists : List (List Entry)) (lock : ℕ) (e : Entry) → Step start seen lists lock e → (Need : List (List Entry) → ℕ → List Entry → Entry → Type 0) → IsLasting Need → Need seen lock (at seen lock) e → Need lists lock (at lists lock) e
+need_now start seen lists lock e s Need lasting n = subst (λ (t : List Entry). Need lists lock t e) s.whole (lasting.stays seen lists lock (at seen lock) e s.knows.grows n)
+
+-- and a part that asks for it holds with the entry
+kept : (start : Start) (seen lists : List (List Entry)) (lock : ℕ) (e : Entry) → Step start seen lists lock e → (Need : List (List Entry) → ℕ → List Entry → Entry → Type 0) → IsLasting Need → Upheld Need lists → Need seen lock (at seen lock) e → Upheld Need (add lists lock e)
+kept start seen lists lock e s Need lasting old new = upheld_add Need lasting seen lists lock e s.inside s.knows.grows s.whole old new
+
+-- the history with the entry's event
+history_here : (start : Start) (seen lists : List (List Entry)) (lock : ℕ) (e : Entry) → Step start seen lists lock e → proc_lock ≡ lock → history (add lists lock e) ≡ history lists ++ cons_option (event_of e) []
+history_here start seen lists lock e s q = ap (λ z. history (add lists z e)) (sym q) ∙ history_at lists e (subst (λ z. z < length lists) (sym q) s.inside)
+
+seen_whole : (start : Start) (seen lists : List (List Entry)) (lock : ℕ) (e : Entry) → Step start seen lists lock e → proc_lock ≡ lock → history seen ≡ history lists
+seen_whole start seen lists lock e s q = ap events_in (subst (λ z. at seen z ≡ at lists z) (sym q) s.whole)
+
+-- a session whose entries go by its commands lets its events go by them
+comes_in_turn : (es : List Entry) (by : By) (event : Event) → ((f : Entry) (other : Event) → Has es f → event_of f ≡ Some other → by_of other ≡ f.by) → IsInTurn es by → by_of event ≡ by → ComesInTurn (events_in es) event
+comes_in_turn es by event own turn mine =
+    all_has (λ f. (by_of f).command ≤ (by_of event).command) (filter (is_of (by_of event).session) (events_in es)) (λ f k.
+    let r = has_filter (is_of (by_of event).session) (events_in es) f k in
+    let from = has_filter_map event_of es f r.0 in
+    let his : by_of f ≡ from.0.by = own from.0 f from.1 from.2 in
+    let session : (from.0.by.session == by.session) ≡ true = ap (λ (z : By). z.session == by.session) (sym his) ∙ ap (λ (z : By). (by_of f).session == z.session) (sym mine) ∙ r.1 in
+    let le : from.0.by.command ≤ by.command = has_all (λ g. g.by.command ≤ by.command) (filter (λ g. g.by.session == by.session) es) turn from.0 (filter_has (λ g. g.by.session == by.session) es from.0 from.1 session) in
+    subst (λ (z : By). z.command ≤ (by_of event).command) (sym his) (subst (λ (z : By). from.0.by.command ≤ z.command) (sym mine) le))
+
+events_kept : (start : Start) (seen lists : List (List Entry)) (lock : ℕ) (e : Entry) → Step start seen lists lock e → EventsLegal start (add lists lock e)
+events_kept start seen lists lock e s = record {
+  own = kept start seen lists lock e s NeedsOwn own_lasting s.k.events.own s.may.events.own;
+  legal = dite (ℕ_discrete proc_lock lock)
+      (λ (q : proc_lock ≡ lock).
+      let same = seen_whole start seen lists lock e s q in
+      let step : (o : Option Event) → event_of e ≡ o → IsLegal start.base (history lists ++ cons_option o []) = elim [
+        | None ↦ λ g. subst (IsLegal start.base) (sym (append-nil (history lists))) s.k.events.legal
+        | Some event ↦ λ g. let r = rule_of start seen lock (at seen lock) e event s.may.events (sym q) g in
+            let own : NeedsOwn lists lock (at lists lock) e = need_now start seen lists lock e s NeedsOwn own_lasting s.may.events.own in
+            let turn : IsInTurn (at lists proc_lock) e.by = subst (λ z. IsInTurn (at lists z) e.by) (sym q) (need_now start seen lists lock e s NeedsTurn turns_lasting s.may.order.turn) in
+            legal_push start.base (history lists) event s.k.events.legal (subst (λ t. MayCome start.base t event) same r)
+            (comes_in_turn (at lists proc_lock) e.by event (λ f other k h. own_event lists proc_lock [] f other (upheld_has NeedsOwn lists proc_lock f s.k.events.own k).1 h) turn (own_event lists lock (at lists lock) e event own g))
+      ] in
+      subst (IsLegal start.base) (sym (history_here start seen lists lock e s q)) (step (event_of e) refl))
+      (λ n. subst (IsLegal start.base) (sym (history_off lists lock e n)) s.k.events.legal);
+}
+
+pages_kept : (start : Start) (seen lists : List (List Entry)) (lock : ℕ) (e : Entry) → Step start seen lists lock e → PagesBeforeIds start (add lists lock e)
+pages_kept start seen lists lock e s = record {
+  ids = kept start seen lists lock e s (NeedsPages start) (pages_lasting start) s.k.pages.ids s.may.pages.ids;
+  changes = kept start seen lists lock e s (NeedsPlace start) (places_lasting start) s.k.pages.changes s.may.pages.changes;
+}
+
+status_kept : (start : Start) (seen lists : List (List Entry)) (lock : ℕ) (e : Entry) → Step start seen lists lock e → LogBeforeStatus start (add lists lock e)
+status_kept start seen lists lock e s = record {
+  logged = kept start seen lists lock e s (NeedsRecords start) (logged_lasting start) s.k.status.logged s.may.status.logged;
+  tree = kept start seen lists lock e s (NeedsTree start) (tree_lasting start) s.k.status.tree s.may.status.tree;
+}
+
+order_kept : (start : Start) (seen lists : List (List Entry)) (lock : ℕ) (e : Entry) → Step start seen lists lock e → ProgramOrder start (add lists lock e)
+order_kept start seen lists lock e s = record {
+  turns = kept start seen lists lock e s NeedsTurn turns_lasting s.k.order.turns s.may.order.turn;
+  stand = kept start seen lists lock e s (NeedsStand start) (stand_lasting start) s.k.order.stand s.may.order.stands;
+}
+
+no_record : (start : Start) (seen lists : List (List Entry)) (lock : ℕ) (e : Entry) (by : By) (session top : ℕ) (subs : List ℕ) → Step start seen lists lock e → by ≡ e.by → by.session ≡ session
+    → HasNoRecord seen by.session → IsAppended lists session (records.Commit top subs) → open_ids session (history lists) ≡ top ∷ subs → ⊥
+no_record start seen lists lock e by session top subs s mine same may a q =
+    let n : e.by.session ≡ by.session = ap (λ (z : By). z.session) (sym mine) in
+    let known : Knows session_of by.session seen lists = subst (λ z. Knows session_of z seen lists) n s.knows in
+    may top subs (own_appended by.session seen lists (records.Commit top subs) known (subst (λ z. IsAppended lists z (records.Commit top subs)) (sym same) a))
+    (sym (open_seen start by.session seen lists s.k known) ∙ ap (λ z. open_ids z (history lists)) same ∙ q)
+
+-- what the event of an entry does to a record of its session
+leaves : (start : Start) (seen lists : List (List Entry)) (lock : ℕ) (e : Entry) (event : Event) (session top : ℕ) (subs : List ℕ) → Step start seen lists lock e → event_of e ≡ Some event → by_of event ≡ e.by → (by_of event).session ≡ session
+    → LeavesRecords seen event → NeedsStates start lists proc_lock (at lists proc_lock) e → IsAppended lists session (records.Commit top subs) → open_ids session (history lists) ≡ top ∷ subs → Leaves (history lists) event session top subs
+leaves start seen lists lock e (events.Commit by t) session top subs s g mine same may states a q =
+    let r = states_of start lists proc_lock (at lists proc_lock) e by t states g in (r.0, s.k.records.exact by.session t r.0 r.1)
+leaves start seen lists lock e (events.Sub by parent id) session top subs s g mine same may states a q = no_record start seen lists lock e by session top subs s mine same may a q
+leaves start seen lists lock e (events.Undo by id) session top subs s g mine same may states a q = no_record start seen lists lock e by session top subs s mine same may a q
+leaves start seen lists lock e (events.Abort by t) session top subs s g mine same may states a q = no_record start seen lists lock e by session top subs s mine same may a q
+leaves start seen lists lock e _ session top subs s g mine same may states a q = tt
+
+records_kept : (start : Start) (seen lists : List (List Entry)) (lock : ℕ) (e : Entry) → Step start seen lists lock e → CommitRecordsExact start (add lists lock e)
+records_kept start seen lists lock e s = record {
+  parents = kept start seen lists lock e s (NeedsLinks start) (links_lasting start) s.k.records.parents s.may.records.parents;
+  exact = λ session top subs a.
+      dite (ℕ_discrete proc_lock lock)
+      (λ (q : proc_lock ≡ lock).
+      let same = seen_whole start seen lists lock e s q in
+      let before : IsAppended lists session (records.Commit top subs) = ⊎_elim (λ b. b) (λ b. absurd (let z : proc_lock ≡ log_lock = q ∙ b.0 in omega arith)) (appended_cases lists lock e session (records.Commit top subs) s.inside a) in
+      let exact = s.k.records.exact session top subs before in
+      let own : NeedsOwn lists lock (at lists lock) e = need_now start seen lists lock e s NeedsOwn own_lasting s.may.events.own in
+      let states : NeedsStates start lists lock (at lists lock) e = need_now start seen lists lock e s (NeedsStates start) (states_lasting start) s.may.commits in
+      let step : (o : Option Event) → event_of e ≡ o → IsExactIn (history lists ++ cons_option o []) session top subs = elim [
+        | None ↦ λ g. subst (λ t. IsExactIn t session top subs) (sym (append-nil (history lists))) exact
+        | Some event ↦ λ g. let r = rule_of start seen lock (at seen lock) e event s.may.events (sym q) g in
+            let l = leaves_of start seen lock (at seen lock) e event s.may.records (sym q) g in
+            exact_push start.base (history lists) event session top subs s.k.events.legal (subst (λ t. MayCome start.base t event) same r) exact
+            (λ n w. leaves start seen lists lock e event session top subs s g (own_event lists lock (at lists lock) e event own g) n l (subst (λ z. NeedsStates start lists z (at lists z) e) (sym q) states) before w)
+      ] in
+      subst (λ t. IsExactIn t session top subs) (sym (history_here start seen lists lock e s q)) (step (event_of e) refl))
+      (λ n.
+      let same : history (add lists lock e) ≡ history lists = history_off lists lock e n in
+      subst (λ t. IsExactIn t session top subs) (sym same)
+      (⊎_elim (λ b. s.k.records.exact session top subs b)
+      (λ (b : (lock ≡ log_lock) × (e.by.session ≡ session) × (e.kind ≡ kinds.Append (records.Commit top subs))).
+      let r = ids_of_record start seen lock (at seen lock) e top subs s.may.records b.0 b.2 in
+      record { root = root_seen start e.by.session top subs seen lists s.k s.knows r.0 r.1; ids = inl (ap (λ z. open_ids z (history lists)) (sym b.1) ∙ open_seen start e.by.session seen lists s.k s.knows ∙ r.0) })
+      (appended_cases lists lock e session (records.Commit top subs) s.inside a)));
+}
+
+aborts_kept : (start : Start) (seen lists : List (List Entry)) (lock : ℕ) (e : Entry) → Step start seen lists lock e → AbortRule start (add lists lock e)
+aborts_kept start seen lists lock e s = record {
+  closed = kept start seen lists lock e s (NeedsAborts start) (aborts_lasting start) s.k.aborts.closed s.may.aborts.closed;
+  asked = kept start seen lists lock e s NeedsAsked asked_lasting s.k.aborts.asked s.may.aborts.asked;
+  final = kept start seen lists lock e s NeedsSame same_lasting s.k.aborts.final s.may.aborts.final;
+  apart = λ session top subs id a c m.
+      let rec : Rec = records.Commit top subs in
+      let asks = asks_cases lists lock e session id s.inside m in
+      ⊎_elim
+      (λ (b : IsAppended lists session rec).
+      ⊎_elim
+      (λ old. s.k.aborts.apart session top subs id b c old)
+      (λ (new : (e.by.session ≡ session) × (caller : By) × (caller.session ≡ session) × Has (asks_in e) (record { caller = caller; id = id; state = states.Aborted })).
+      let mark : Mark = record { caller = new.1; id = id; state = states.Aborted } in
+      let mine : IsAppended lists e.by.session rec = subst (λ z. IsAppended lists z rec) (sym new.0) b in
+      unrecorded_of start seen lock (at seen lock) e mark s.may.aborts new.3 refl (new.2 ∙ sym new.0) top subs (own_appended e.by.session seen lists rec s.knows mine) c)
+      asks)
+      (λ (b : (lock ≡ log_lock) × (e.by.session ≡ session) × (e.kind ≡ kinds.Append rec)).
+      ⊎_elim
+      (λ old. unasked_of start seen lock (at seen lock) e top subs s.may.aborts b.0 b.2 id c (own_asks e.by.session id seen lists s.knows (subst (λ z. AsksAbort lists z id) (sym b.1) old)))
+      (λ new. append_asks e rec (record { caller = new.1; id = id; state = states.Aborted }) b.2 new.3)
+      asks)
+      (appended_cases lists lock e session rec s.inside a);
+}
+
+pub keeps : (start : Start) (lists seen : List (List Entry)) (lock : ℕ) (e : Entry) → EngineInvariant start lists → Knows session_of (session_of e) seen lists → lock < length lists → at seen lock ≡ at lists lock → MayAdd start seen lock e → EngineInvariant start (add lists lock e)
+keeps start lists seen lock e k knows inside whole may =
+    let s : Step start seen lists lock e = record { k = k; knows = knows; inside = inside; whole = whole; may = may } in
+    record {
+      events = events_kept start seen lists lock e s;
+      pages = pages_kept start seen lists lock e s;
+      parents = record { each = kept start seen lists lock e s NeedsSubs subs_lasting k.parents.each may.parents };
+      records = records_kept start seen lists lock e s;
+      status = status_kept start seen lists lock e s;
+      commits = record { each = kept start seen lists lock e s (NeedsStates start) (states_lasting start) k.commits.each may.commits };
+      aborts = aborts_kept start seen lists lock e s;
+      order = order_kept start seen lists lock e s;
+    }

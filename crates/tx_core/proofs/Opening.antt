@@ -1,0 +1,74 @@
+-- The invariant holds before the first entry, and keeps commits and aborts apart.
+use Rattle.std.proofs.Common.{Contains, List, None, Some, [], ap, refl, subst, sym, ℕ, ⊎_elim, ◌∙◌, ◌≡◌}
+use Rattle.std.specs.List.{slice_get}
+use Rattle.tx_model.proofs.GivenIds.{one_session}
+use Rattle.tx_model.proofs.Membership.{Has, contains_has, has_contains, has_flat_map}
+use Rattle.tx_model.proofs.PlaceLemmas.{each_place_none}
+use Rattle.tx_model.specs.Events.{given_to}
+use Rattle.tx_model.specs.Families.{top}
+use Rattle.tx_model.specs.History.{ComesInTurn, IsLegal, MayCome}
+use Rattle.tx_core.specs.declared.entry.Entry.{Entry}
+use Rattle.tx_core.proofs.Asking.{aborted_of, asks_marks, upheld_has}
+use Rattle.tx_core.proofs.Exactness.{exact_given}
+use Rattle.tx_core.specs.AbortRule.{AbortedFor, AsksAbort, NeedsAborts, NeedsAsked, NeedsSame}
+use Rattle.tx_core.specs.CommitRecordsExact.{NeedsLinks}
+use Rattle.tx_core.specs.Entries.{Mark, asks_in, events_in, history, marks, marks_in}
+use Rattle.tx_core.specs.EventsLegal.{NeedsOwn}
+use Rattle.tx_core.specs.Laws.{NeverAborted, Opens}
+use Rattle.tx_core.specs.Lists.{Upheld, at}
+use Rattle.tx_core.specs.Locks.{log_lock, proc_lock, xact_lock_of}
+use Rattle.tx_core.specs.LogBeforeStatus.{NeedsRecords, NeedsTree}
+use Rattle.tx_core.specs.PagesBeforeIds.{NeedsPages, NeedsPlace}
+use Rattle.tx_core.specs.ParentsFollow.{NeedsSubs}
+use Rattle.tx_core.specs.ProgramOrder.{NeedsStand, NeedsTurn}
+use Rattle.tx_core.specs.StatusBeforeCommit.{NeedsStates}
+use Rattle.tx_core.specs.declared.entry.Kind.TheVariants as kinds
+use Rattle.tx_model.specs.declared.record.Rec.TheVariants as records
+use Rattle.tx_core.specs.declared.entry.State.TheVariants as states
+
+nothing_upheld : (Need : List (List Entry) → ℕ → List Entry → Entry → Type 0) (lists : List (List Entry)) → ((lock : ℕ) → at lists lock ≡ []) → Upheld Need lists
+nothing_upheld Need lists empty = record { each = λ lock p e g. let z : None ≡ Some e = sym (ap (λ (t : List Entry). slice_get t p) (empty lock)) ∙ g in absurd cc }
+
+pub opens : Opens
+opens start lists empty =
+    let none : history lists ≡ [] = ap events_in (empty proc_lock) in
+    let no : (e : Entry) → Contains (at lists log_lock) e → ⊥ = λ e c. subst (λ (t : List Entry). Has t e) (empty log_lock) (contains_has (at lists log_lock) e c) in
+    record {
+      events = record { legal = subst (IsLegal start.base) (sym none) (record { rules = each_place_none (MayCome start.base); turns = each_place_none ComesInTurn }); own = nothing_upheld NeedsOwn lists empty };
+      pages = record { ids = nothing_upheld (NeedsPages start) lists empty; changes = nothing_upheld (NeedsPlace start) lists empty };
+      parents = record { each = nothing_upheld NeedsSubs lists empty };
+      records = record { exact = λ session top subs a. absurd (no (record { by = a.0; kind = kinds.Append (records.Commit top subs) }) a.2); parents = nothing_upheld (NeedsLinks start) lists empty };
+      status = record { logged = nothing_upheld (NeedsRecords start) lists empty; tree = nothing_upheld (NeedsTree start) lists empty };
+      commits = record { each = nothing_upheld (NeedsStates start) lists empty };
+      aborts = record {
+        closed = nothing_upheld (NeedsAborts start) lists empty;
+        asked = nothing_upheld NeedsAsked lists empty;
+        apart = λ session top subs id a c m. no (record { by = a.0; kind = kinds.Append (records.Commit top subs) }) a.2;
+        final = nothing_upheld NeedsSame lists empty;
+      };
+      order = record { turns = nothing_upheld NeedsTurn lists empty; stand = nothing_upheld (NeedsStand start) lists empty };
+    }
+
+pub never_aborted : NeverAborted
+never_aborted start lists session top subs id k a c m =
+    let lock : ℕ = xact_lock_of start id in
+    let mark : Mark = record { caller = m.0; id = id; state = states.Aborted } in
+    let found = has_flat_map marks_in (at lists lock) mark (contains_has (marks (at lists lock)) mark m.1) in
+    let for : AbortedFor lists found.0.by.session m.0.session id = aborted_of lists lock [] found.0 mark (upheld_has NeedsAsked lists lock found.0 k.aborts.asked found.1).1 found.2 refl in
+    let his : Has (given_to m.0.session (history lists)) id = contains_has (given_to m.0.session (history lists)) id for.given in
+    let mine : Has (given_to session (history lists)) id = exact_given (history lists) session top subs id (k.records.exact session top subs a) c in
+    let same : m.0.session ≡ session = one_session start.base (history lists) k.events.legal m.0.session session id his mine in
+    k.aborts.apart session top subs id a c
+    (⊎_elim
+    (λ (own : m.0.session ≡ found.0.by.session).
+    record {
+      lock = lock;
+      entry = found.0;
+      stands = has_contains (at lists lock) found.0 found.1;
+      own = sym own ∙ same;
+      caller = m.0;
+      same = same;
+      asks = has_contains (asks_in found.0) mark (asks_marks found.0 mark found.2);
+    })
+    (λ (other : AsksAbort lists m.0.session id). subst (λ z. AsksAbort lists z id) same other)
+    for.asked)

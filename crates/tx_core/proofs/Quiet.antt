@@ -1,0 +1,150 @@
+-- Entries that say nothing of ids ask for nothing.
+use Rattle.std.proofs.Common.{Bool, IfSome, List, false, refl, true, ℕ, ◌≡◌}
+use Rattle.std.specs.List.{AllByRecursion, filter_map}
+use Rattle.tx_model.specs.declared.event.By.{By}
+use Rattle.tx_model.specs.declared.event.Event.{Event}
+use Rattle.tx_model.specs.declared.record.Rec.{Rec}
+use Rattle.tx_model.specs.Events.{by_of}
+use Rattle.tx_model.specs.Families.{top}
+use Rattle.tx_model.specs.History.{MayCome}
+use Rattle.tx_core.specs.declared.entry.Entry.{Entry}
+use Rattle.tx_core.specs.declared.entry.Kind.{Kind}
+use Rattle.tx_core.specs.declared.entry.Start.{Start}
+use Rattle.tx_core.proofs.Keeping.{keeps}
+use Rattle.tx_core.specs.AbortRule.{AbortsOf, AskUnrecorded, AskedOf, IsSameAfter, RecordUnasked}
+use Rattle.tx_core.specs.CommitRecordsExact.{LeavesRecords, LinksOf, RecordMay}
+use Rattle.tx_core.specs.Entries.{EachMark, Link, Mark, asked_in, changes_in, event_in, events_in, history, link_of, mark_of}
+use Rattle.tx_core.specs.Laws.{CutKeeps, FlushKeeps, ForgetKeeps, KindKeeps, LogFaultKeeps, LookKeeps, MultiEventKeeps, OtherRecordKeeps, SyncKeeps, ZeroKeeps, is_commit_record}
+use Rattle.tx_core.specs.Lists.{at}
+use Rattle.tx_core.specs.Locks.{log_lock, multi_lock, subtrans_page, xact_page}
+use Rattle.tx_core.specs.LogBeforeStatus.{RecordOf, TreeOf}
+use Rattle.tx_core.specs.PagesBeforeIds.{PagesOf, WasMade}
+use Rattle.tx_core.specs.ParentsFollow.{IsGivenBelow}
+use Rattle.tx_core.specs.ProgramOrder.{MayStand}
+use Rattle.tx_core.specs.StatusBeforeCommit.{StatesOf}
+use Rattle.tx_core.specs.declared.entry.Kind.TheVariants as kinds
+use Rattle.tx_model.specs.declared.record.Rec.TheVariants as records
+
+-- no event, no made page, no commit record, no change
+abbrev pub is_quiet : Kind → Bool
+is_quiet (kinds.Append (records.Commit top subs)) = false
+is_quiet (kinds.Event event) = false
+is_quiet (kinds.Made id) = false
+is_quiet (kinds.Set changes) = false
+is_quiet (kinds.Fault callers changes cut count) = false
+is_quiet (kinds.Request changes) = false
+is_quiet _ = true
+
+quiet_event : (P : Event → Type 0) (kind : Kind) → is_quiet kind ≡ true → IfSome (event_in kind) P
+quiet_event P (kinds.Event event) q = absurd cc
+quiet_event P _ q = tt
+
+quiet_marks : (P : Mark → Type 0) (kind : Kind) → is_quiet kind ≡ true → AllByRecursion P (filter_map mark_of (changes_in kind))
+quiet_marks P (kinds.Set changes) q = absurd cc
+quiet_marks P (kinds.Fault callers changes cut count) q = absurd cc
+quiet_marks P _ q = tt
+
+quiet_asks : (P : Mark → Type 0) (kind : Kind) → is_quiet kind ≡ true → AllByRecursion P (filter_map mark_of (asked_in kind))
+quiet_asks P (kinds.Set changes) q = absurd cc
+quiet_asks P (kinds.Fault callers changes cut count) q = absurd cc
+quiet_asks P (kinds.Request changes) q = absurd cc
+quiet_asks P _ q = tt
+
+quiet_links : (P : Link → Type 0) (kind : Kind) → is_quiet kind ≡ true → AllByRecursion P (filter_map link_of (changes_in kind))
+quiet_links P (kinds.Set changes) q = absurd cc
+quiet_links P (kinds.Fault callers changes cut count) q = absurd cc
+quiet_links P _ q = tt
+
+quiet_pages : (start : Start) (lists : List (List Entry)) (before : List Entry) (kind : Kind) → is_quiet kind ≡ true → PagesOf start lists before kind
+quiet_pages start lists before (kinds.Event event) q = absurd cc
+quiet_pages start lists before (kinds.Made id) q = absurd cc
+quiet_pages start lists before _ q = tt
+
+quiet_parents : (start : Start) (lists : List (List Entry)) (kind : Kind) → is_quiet kind ≡ true → LinksOf start lists kind
+quiet_parents start lists (kinds.Append (records.Commit top subs)) q = absurd cc
+quiet_parents start lists _ q = tt
+
+quiet_record : (lists : List (List Entry)) (session : ℕ) (kind : Kind) → is_quiet kind ≡ true → RecordMay lists session kind
+quiet_record lists session (kinds.Append (records.Commit top subs)) q = absurd cc
+quiet_record lists session _ q = tt
+
+quiet_unasked : (lists : List (List Entry)) (session : ℕ) (kind : Kind) → is_quiet kind ≡ true → RecordUnasked lists session kind
+quiet_unasked lists session (kinds.Append (records.Commit top subs)) q = absurd cc
+quiet_unasked lists session _ q = tt
+
+quiet_states : (start : Start) (lists : List (List Entry)) (kind : Kind) → is_quiet kind ≡ true → StatesOf start lists kind
+quiet_states start lists (kinds.Event event) q = absurd cc
+quiet_states start lists _ q = tt
+
+quiet_closed : (start : Start) (lists : List (List Entry)) (before : List Event) (kind : Kind) → is_quiet kind ≡ true → AbortsOf start lists before kind
+quiet_closed start lists before (kinds.Event event) q = absurd cc
+quiet_closed start lists before _ q = tt
+
+-- so its turn, and that it may stand there, are all that it needs
+pub quiet_keeps : (start : Start) (seen : List (List Entry)) (lock : ℕ) (by : By) (kind : Kind) → is_quiet kind ≡ true → MayStand start lock by kind → KindKeeps start seen lock by kind
+quiet_keeps start seen lock by kind q stands lists k knows inside whole turn =
+    let e : Entry = record { by = by; kind = kind } in
+    let before : List Entry = at seen lock in
+    keeps start lists seen lock e k knows inside whole (record {
+      events = record { own = quiet_event (λ event. by_of event ≡ by) kind q; rule = λ here. quiet_event (λ event. MayCome start.base (history seen) event) kind q };
+      pages = record {
+        ids = quiet_pages start seen before kind q;
+        changes = record {
+          marks = quiet_marks (λ mark. WasMade before (xact_page start.base.next) (xact_page mark.id)) kind q;
+          links = quiet_links (λ link. WasMade before (subtrans_page start.base.next) (subtrans_page link.id)) kind q;
+        };
+      };
+      parents = quiet_links (λ link. IsGivenBelow seen link.caller.session link.parent link.id) kind q;
+      records = record {
+        parents = quiet_parents start seen kind q;
+        event = λ here. quiet_event (λ event. LeavesRecords seen event) kind q;
+        ids = λ here. quiet_record seen by.session kind q;
+      };
+      status = record {
+        logged = quiet_marks (λ mark. RecordOf start seen mark.caller.session mark.id mark.state) kind q;
+        tree = quiet_marks (λ mark. TreeOf start seen mark.caller.session mark.id mark.state) kind q;
+      };
+      commits = quiet_states start seen kind q;
+      aborts = record {
+        closed = quiet_closed start seen (events_in before) kind q;
+        asked = quiet_marks (λ mark. AskedOf seen by.session mark.caller.session mark.id mark.state) kind q;
+        unasked = λ here. quiet_unasked seen by.session kind q;
+        unrecorded = quiet_asks (λ mark. AskUnrecorded seen by.session mark.caller.session mark.id mark.state) kind q;
+        final = record {
+          later = quiet_marks (λ mark. IsSameAfter before mark) kind q;
+          alike = quiet_marks (λ mark. EachMark (λ other. other.id ≡ mark.id → other.state ≡ mark.state) e) kind q;
+        };
+      };
+      order = record { turn = turn; stands = stands };
+    })
+
+quiet_rec : (rec : Rec) → is_commit_record rec ≡ false → is_quiet (kinds.Append rec) ≡ true
+quiet_rec (records.Commit top subs) q = absurd cc
+quiet_rec _ q = refl
+
+pub other_record_law : OtherRecordKeeps
+other_record_law start seen by rec other = quiet_keeps start seen log_lock by (kinds.Append rec) (quiet_rec rec other) refl
+
+pub flush_law : FlushKeeps
+flush_law start seen by to = quiet_keeps start seen log_lock by (kinds.Flush to) refl refl
+
+pub forget_law : ForgetKeeps
+forget_law start seen by number = quiet_keeps start seen log_lock by (kinds.Forget number) refl refl
+
+pub log_fault_law : LogFaultKeeps
+log_fault_law start seen by asked count = quiet_keeps start seen log_lock by (kinds.LogFault asked count) refl refl
+
+pub multi_event_law : MultiEventKeeps
+multi_event_law start seen by event = quiet_keeps start seen multi_lock by (kinds.Multi event) refl refl
+
+pub zero_law : ZeroKeeps
+zero_law start seen lock by page on = quiet_keeps start seen lock by (kinds.Zero page) refl on
+
+pub cut_law : CutKeeps
+cut_law start seen lock by page on = quiet_keeps start seen lock by (kinds.Cut page) refl on
+
+pub sync_law : SyncKeeps
+sync_law start seen lock by on = quiet_keeps start seen lock by kinds.Sync refl on
+
+pub look_law : LookKeeps
+look_law start seen lock by = quiet_keeps start seen lock by kinds.Look refl tt

@@ -1,0 +1,18 @@
+-- What the pages show when a life begins.
+use Rattle.std.specs.Prelude.{◌≡◌, ℕ, ◌+◌, ◌^◌, ◌<◌, ◌≤◌, ◌⊎◌, Option, Some, None, Contains}
+use Rattle.tx_model.specs.Base.{IsBase}
+use Rattle.tx_core.specs.declared.entry.Start.{Start}
+use Rattle.tx_core.specs.declared.entry.State.{State}
+use Rattle.tx_core.specs.declared.entry.State.TheVariants as states
+
+-- The states that the pages of pg_xact show, as far as ids go. It speaks of the start alone, so no entry can change it;
+-- it is a premise of what is said of pages, and no part of what all lists keep.
+pub record CleanStart (start : Start) (shown : ℕ → Option State) : Type 0 where
+  -- the counters are those of a base, and no id from the next one on is committed
+  pub base : IsBase start.base
+  pub before : (x : ℕ) → Contains start.committed x → x < start.base.next
+  -- from the oldest id on the committed ids show committed, and only they show committed or sub-committed
+  pub committed : (x : ℕ) → start.base.oldest ≤ x → Contains start.committed x → shown x ≡ Some states.Committed
+  pub only : (x : ℕ) → start.base.oldest ≤ x → x < start.base.next → (shown x ≡ Some states.Committed) ⊎ (shown x ≡ Some states.SubCommitted) → Contains start.committed x
+  -- the ids that come next show nothing
+  pub clean : (x : ℕ) → start.base.next ≤ x → x < start.base.next + 2 ^ 30 → shown x ≡ None

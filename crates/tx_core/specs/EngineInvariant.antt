@@ -1,0 +1,35 @@
+-- What the lists of all locks keep.
+use Rattle.std.specs.Prelude.{ℕ, List}
+use Rattle.tx_core.specs.declared.entry.Entry.{Entry}
+use Rattle.tx_core.specs.declared.entry.Start.{Start}
+use Rattle.tx_core.specs.Lists.{at}
+use Rattle.tx_core.specs.EventsLegal.{EventsLegal, MayBeLegal}
+use Rattle.tx_core.specs.PagesBeforeIds.{PagesBeforeIds, MayHavePages}
+use Rattle.tx_core.specs.ParentsFollow.{ParentsFollow, NeedsSubs}
+use Rattle.tx_core.specs.CommitRecordsExact.{CommitRecordsExact, MayBeExact}
+use Rattle.tx_core.specs.LogBeforeStatus.{LogBeforeStatus, MayFollowLog}
+use Rattle.tx_core.specs.StatusBeforeCommit.{StatusBeforeCommit, NeedsStates}
+use Rattle.tx_core.specs.AbortRule.{AbortRule, MayAbort}
+use Rattle.tx_core.specs.ProgramOrder.{ProgramOrder, MayComeNext}
+
+-- The engine invariant, part by part. A further part is a field here and one below.
+pub record EngineInvariant (start : Start) (lists : List (List Entry)) : Type 0 where
+  pub events : EventsLegal start lists
+  pub pages : PagesBeforeIds start lists
+  pub parents : ParentsFollow lists
+  pub records : CommitRecordsExact start lists
+  pub status : LogBeforeStatus start lists
+  pub commits : StatusBeforeCommit start lists
+  pub aborts : AbortRule start lists
+  pub order : ProgramOrder start lists
+
+-- what a session shows of the lists that it has seen, before it adds an entry to one of them
+pub record MayAdd (start : Start) (seen : List (List Entry)) (lock : ℕ) (e : Entry) : Type 0 where
+  pub events : MayBeLegal start seen lock (at seen lock) e
+  pub pages : MayHavePages start seen lock (at seen lock) e
+  pub parents : NeedsSubs seen lock (at seen lock) e
+  pub records : MayBeExact start seen lock (at seen lock) e
+  pub status : MayFollowLog start seen lock (at seen lock) e
+  pub commits : NeedsStates start seen lock (at seen lock) e
+  pub aborts : MayAbort start seen lock (at seen lock) e
+  pub order : MayComeNext start seen lock (at seen lock) e

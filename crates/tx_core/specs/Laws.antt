@@ -1,0 +1,250 @@
+-- What the laws say: each kind of entry, with what its session needs of the lists that it has seen, keeps the invariant.
+use Rattle.std.specs.List.{filter_map}
+use Rattle.std.specs.Prelude.{Bool, Contains, List, Option, [], false, length, map, true, ℕ, ◌*◌, ◌+◌, ◌<◌, ◌∷◌, ◌≡◌, ◌≤◌, ◌⊎◌}
+use Rattle.tx_model.specs.declared.event.By.{By}
+use Rattle.tx_model.specs.declared.multi.MultiEvent.{MultiEvent}
+use Rattle.tx_model.specs.declared.record.Rec.{Rec}
+use Rattle.tx_model.specs.Base.{IsBase}
+use Rattle.tx_model.specs.Events.{given_to}
+use Rattle.tx_model.specs.Families.{enclosing, is_top, top}
+use Rattle.tx_model.specs.History.{MayCome, next_given}
+use Rattle.tx_model.specs.Horizon.{LiveSnap, live_snaps, oldest_xmin}
+use Rattle.tx_model.specs.Running.{open_ids}
+use Rattle.tx_core.specs.declared.entry.Change.{Change}
+use Rattle.tx_core.specs.declared.entry.Entry.{Entry}
+use Rattle.tx_core.specs.declared.entry.Kind.{Kind}
+use Rattle.tx_core.specs.declared.entry.LogCall.{LogCall}
+use Rattle.tx_core.specs.declared.entry.Start.{Start}
+use Rattle.tx_core.specs.declared.entry.State.{State}
+use Rattle.tx_core.specs.AbortRule.{AskUnrecorded, AskedOf, AsksAbort, IsSameAfter}
+use Rattle.tx_core.specs.CommitRecordsExact.{HasNoRecord}
+use Rattle.tx_core.specs.EngineInvariant.{EngineInvariant, MayAdd}
+use Rattle.tx_core.specs.Entries.{IsAppended, IsLinked, IsMarked, Link, Mark, history, link_of, mark_of, marks, session_of}
+use Rattle.tx_core.specs.Lists.{Grows, Knows, add, at}
+use Rattle.tx_core.specs.Locks.{IsPageLock, log_lock, multi_lock, proc_lock, subtrans_lock, subtrans_lock_of, subtrans_page, xact_lock, xact_lock_of, xact_page}
+use Rattle.tx_core.specs.LogBeforeStatus.{InTree, IsDurable, RecordOf, TreeOf}
+use Rattle.tx_core.specs.PagesBeforeIds.{IsMade, IsTold, WasMade}
+use Rattle.tx_core.specs.ParentsFollow.{IsGivenBelow}
+use Rattle.tx_core.specs.ProgramOrder.{AreCallers, AreOn, IsInTurn}
+use Rattle.tx_core.specs.declared.entry.Change.TheVariants as changes
+use Rattle.tx_model.specs.declared.event.Event.TheVariants as events
+use Rattle.tx_core.specs.declared.entry.Kind.TheVariants as kinds
+use Rattle.tx_model.specs.declared.record.Rec.TheVariants as records
+use Rattle.tx_core.specs.declared.entry.State.TheVariants as states
+
+-- From any lists that meet the invariant and any beginnings of them that the session has seen, its own entries all seen
+-- and this lock's list whole, an entry that may be added keeps the invariant. The form is that of the lock table's law.
+abbrev pub Keeps : Type 0
+Keeps =
+    (start : Start) (lists seen : List (List Entry)) (lock : ℕ) (e : Entry) → EngineInvariant start lists → Knows session_of (session_of e) seen lists → lock < length lists → at seen lock ≡ at lists lock → MayAdd start seen lock e
+    → EngineInvariant start (add lists lock e)
+
+-- the same of one kind, which the command `by` adds in its turn
+abbrev pub KindKeeps : Start → List (List Entry) → ℕ → By → Kind → Type 0
+KindKeeps start seen lock by kind =
+    (lists : List (List Entry)) → EngineInvariant start lists → Knows session_of by.session seen lists → lock < length lists → at seen lock ≡ at lists lock → IsInTurn (at seen lock) by
+    → EngineInvariant start (add lists lock (record { by = by; kind = kind }))
+
+-- before the first entry
+abbrev pub Opens : Type 0
+Opens = (start : Start) (lists : List (List Entry)) → ((lock : ℕ) → at lists lock ≡ []) → EngineInvariant start lists
+
+-- The log. A commit record names all that its session has open; the parents of the subtransactions were set, and the
+-- session asked for no abort of any of them.
+abbrev pub CommitRecordKeeps : Type 0
+CommitRecordKeeps = (start : Start) (seen : List (List Entry)) (by : By) (top : ℕ) (subs : List ℕ) →
+    open_ids by.session (history seen) ≡ top ∷ subs
+    → is_top (history seen) top ≡ true
+    → ((id : ℕ) → Contains subs id → (parent : ℕ) × IsLinked start seen id parent)
+    → ((id : ℕ) → Contains (top ∷ subs) id → AsksAbort seen by.session id → ⊥)
+    → KindKeeps start seen log_lock by (kinds.Append (records.Commit top subs))
+
+abbrev pub is_commit_record : Rec → Bool
+is_commit_record (records.Commit top subs) = true
+is_commit_record _ = false
+
+-- the other records need nothing yet
+abbrev pub OtherRecordKeeps : Type 0
+OtherRecordKeeps = (start : Start) (seen : List (List Entry)) (by : By) (rec : Rec) → is_commit_record rec ≡ false → KindKeeps start seen log_lock by (kinds.Append rec)
+
+abbrev pub FlushKeeps : Type 0
+FlushKeeps = (start : Start) (seen : List (List Entry)) (by : By) (to : ℕ) → KindKeeps start seen log_lock by (kinds.Flush to)
+
+abbrev pub ForgetKeeps : Type 0
+ForgetKeeps = (start : Start) (seen : List (List Entry)) (by : By) (number : ℕ) → KindKeeps start seen log_lock by (kinds.Forget number)
+
+abbrev pub LogFaultKeeps : Type 0
+LogFaultKeeps = (start : Start) (seen : List (List Entry)) (by : By) (asked : LogCall) (count : ℕ) → KindKeeps start seen log_lock by (kinds.LogFault asked count)
+
+-- The ProcArray. An id comes next, and its pages are made.
+abbrev pub IdEventKeeps : Type 0
+IdEventKeeps = (start : Start) (seen : List (List Entry)) (by : By) (id : ℕ) →
+    MayCome start.base (history seen) (events.Id by id) → IsMade start seen id → IsTold start (at seen proc_lock) id
+    → KindKeeps start seen proc_lock by (kinds.Event (events.Id by id))
+
+-- the session has no commit record of what it has open
+abbrev pub SubEventKeeps : Type 0
+SubEventKeeps = (start : Start) (seen : List (List Entry)) (by : By) (parent id : ℕ) →
+    MayCome start.base (history seen) (events.Sub by parent id) → IsMade start seen id → IsTold start (at seen proc_lock) id → HasNoRecord seen by.session
+    → KindKeeps start seen proc_lock by (kinds.Event (events.Sub by parent id))
+
+-- what the undo closes was set aborted
+abbrev pub UndoEventKeeps : Type 0
+UndoEventKeeps = (start : Start) (seen : List (List Entry)) (by : By) (id : ℕ) →
+    MayCome start.base (history seen) (events.Undo by id) → HasNoRecord seen by.session
+    → ((x : ℕ) → Contains (open_ids by.session (history seen)) x → Contains (enclosing (history seen) x) id → IsMarked start seen x states.Aborted)
+    → KindKeeps start seen proc_lock by (kinds.Event (events.Undo by id))
+
+-- the record stands, and all of its ids were set committed
+abbrev pub CommitEventKeeps : Type 0
+CommitEventKeeps = (start : Start) (seen : List (List Entry)) (by : By) (top : ℕ) (subs : List ℕ) →
+    MayCome start.base (history seen) (events.Commit by top) → IsAppended seen by.session (records.Commit top subs)
+    → ((id : ℕ) → Contains (top ∷ subs) id → IsMarked start seen id states.Committed)
+    → KindKeeps start seen proc_lock by (kinds.Event (events.Commit by top))
+
+abbrev pub AbortEventKeeps : Type 0
+AbortEventKeeps = (start : Start) (seen : List (List Entry)) (by : By) (top : ℕ) →
+    MayCome start.base (history seen) (events.Abort by top) → HasNoRecord seen by.session
+    → ((x : ℕ) → Contains (open_ids by.session (history seen)) x → IsMarked start seen x states.Aborted)
+    → KindKeeps start seen proc_lock by (kinds.Event (events.Abort by top))
+
+abbrev pub SnapEventKeeps : Type 0
+SnapEventKeeps = (start : Start) (seen : List (List Entry)) (by : By) (name : List ℕ) →
+    MayCome start.base (history seen) (events.Snap by name) → KindKeeps start seen proc_lock by (kinds.Event (events.Snap by name))
+
+abbrev pub SnapDropKeeps : Type 0
+SnapDropKeeps = (start : Start) (seen : List (List Entry)) (by : By) (name : List ℕ) →
+    MayCome start.base (history seen) (events.SnapDrop by name) → KindKeeps start seen proc_lock by (kinds.Event (events.SnapDrop by name))
+
+abbrev pub OldestKeeps : Type 0
+OldestKeeps = (start : Start) (seen : List (List Entry)) (by : By) (oldest : ℕ) →
+    MayCome start.base (history seen) (events.Oldest by oldest) → KindKeeps start seen proc_lock by (kinds.Event (events.Oldest by oldest))
+
+abbrev pub AskKeeps : Type 0
+AskKeeps = (start : Start) (seen : List (List Entry)) (by : By) (id : ℕ) → KindKeeps start seen proc_lock by (kinds.Event (events.Ask by id))
+
+-- both pages of the id are made, and it isn't past the next one
+abbrev pub MadeKeeps : Type 0
+MadeKeeps = (start : Start) (seen : List (List Entry)) (by : By) (id : ℕ) →
+    IsMade start seen id → id ≤ next_given start.base.next (history seen) → KindKeeps start seen proc_lock by (kinds.Made id)
+
+abbrev pub MultiEventKeeps : Type 0
+MultiEventKeeps = (start : Start) (seen : List (List Entry)) (by : By) (event : MultiEvent) → KindKeeps start seen multi_lock by (kinds.Multi event)
+
+-- The banks. What each state needs: its page was made; a committed or sub-committed one has its commit record on disk; a
+-- committed one keeps to the order of pages; an aborted one was asked for by the session that was given the id, and that
+-- session, where it is the one that sets it, has no commit record of it; no other final state was set before.
+pub record MayMark (start : Start) (seen : List (List Entry)) (before : List Entry) (session : ℕ) (mark : Mark) : Type 0 where
+  pub page : WasMade before (xact_page start.base.next) (xact_page mark.id)
+  pub durable : RecordOf start seen mark.caller.session mark.id mark.state
+  pub tree : TreeOf start seen mark.caller.session mark.id mark.state
+  pub asked : AskedOf seen session mark.caller.session mark.id mark.state
+  pub unrecorded : AskUnrecorded seen session mark.caller.session mark.id mark.state
+  pub final : IsSameAfter before mark
+
+-- and each parent
+pub record MayLink (start : Start) (seen : List (List Entry)) (before : List Entry) (link : Link) : Type 0 where
+  pub page : WasMade before (subtrans_page start.base.next) (subtrans_page link.id)
+  pub sub : IsGivenBelow seen link.caller.session link.parent link.id
+
+abbrev pub marks_of : List Change → List Mark
+marks_of changes = filter_map mark_of changes
+
+abbrev pub links_of : List Change → List Link
+links_of changes = filter_map link_of changes
+
+-- what a critical section of a bank may change, for its own session and for others
+pub record MayChange (start : Start) (seen : List (List Entry)) (lock session : ℕ) (changes : List Change) : Type 0 where
+  pub on : AreOn start lock changes
+  pub marks : (mark : Mark) → Contains (marks_of changes) mark → MayMark start seen (at seen lock) session mark
+  pub alike : (mark other : Mark) → Contains (marks_of changes) mark → Contains (marks_of changes) other → other.id ≡ mark.id → other.state ≡ mark.state
+  pub links : (link : Link) → Contains (links_of changes) link → MayLink start seen (at seen lock) link
+
+abbrev pub ChangesKeep : Type 0
+ChangesKeep = (start : Start) (seen : List (List Entry)) (lock : ℕ) (by : By) (changes : List Change) →
+    MayChange start seen lock by.session changes → KindKeeps start seen lock by (kinds.Set changes)
+
+-- what a fault leaves changed needs the same
+abbrev pub FaultKeeps : Type 0
+FaultKeeps = (start : Start) (seen : List (List Entry)) (lock : ℕ) (by : By) (callers : List By) (changes : List Change) (cut : Option ℕ) (count : ℕ) →
+    MayChange start seen lock by.session changes → AreCallers by callers changes → KindKeeps start seen lock by (kinds.Fault callers changes cut count)
+
+abbrev pub ZeroKeeps : Type 0
+ZeroKeeps = (start : Start) (seen : List (List Entry)) (lock : ℕ) (by : By) (page : ℕ) → IsPageLock start lock → KindKeeps start seen lock by (kinds.Zero page)
+
+abbrev pub CutKeeps : Type 0
+CutKeeps = (start : Start) (seen : List (List Entry)) (lock : ℕ) (by : By) (page : ℕ) → IsPageLock start lock → KindKeeps start seen lock by (kinds.Cut page)
+
+abbrev pub SyncKeeps : Type 0
+SyncKeeps = (start : Start) (seen : List (List Entry)) (lock : ℕ) (by : By) → IsPageLock start lock → KindKeeps start seen lock by kinds.Sync
+
+-- a session that asks another one for a change to aborted has no commit record of the id
+abbrev pub RequestKeeps : Type 0
+RequestKeeps = (start : Start) (seen : List (List Entry)) (lock : ℕ) (by : By) (changes : List Change) →
+    3 + 4 * start.banks ≤ lock
+    → ((mark : Mark) → Contains (marks_of changes) mark → AskUnrecorded seen by.session mark.caller.session mark.id mark.state)
+    → KindKeeps start seen lock by (kinds.Request changes)
+
+-- any lock may only be looked at
+abbrev pub LookKeeps : Type 0
+LookKeeps = (start : Start) (seen : List (List Entry)) (lock : ℕ) (by : By) → KindKeeps start seen lock by kinds.Look
+
+-- The states of one commit, undo or abort on one bank, set by the session itself.
+abbrev pub all_set : By → State → List ℕ → List Change
+all_set by state ids = map (λ id. changes.State by id state) ids
+
+-- the ids lie on the bank, on pages that were made
+pub record AreThere (start : Start) (seen : List (List Entry)) (bank : ℕ) (ids : List ℕ) : Type 0 where
+  pub inside : bank < start.banks
+  pub lock : (id : ℕ) → Contains ids id → xact_lock_of start id ≡ xact_lock bank
+  pub made : (id : ℕ) → Contains ids id → WasMade (at seen (xact_lock bank)) (xact_page start.base.next) (xact_page id)
+
+-- the bank's earlier states of these ids are this one or sub-committed
+abbrev pub IsOnly : Start → List (List Entry) → ℕ → List ℕ → State → Type 0
+IsOnly start seen bank ids state = (id : ℕ) (old : Mark) → Contains ids id → Contains (marks (at seen (xact_lock bank))) old → old.id ≡ id → (old.state ≡ state) ⊎ (old.state ≡ states.SubCommitted)
+
+abbrev pub CommittedKeeps : Type 0
+CommittedKeeps = (start : Start) (seen : List (List Entry)) (bank : ℕ) (by : By) (ids : List ℕ) →
+    AreThere start seen bank ids
+    → ((id : ℕ) → Contains ids id → IsDurable start seen by.session id)
+    → ((id : ℕ) → Contains ids id → InTree start seen by.session id)
+    → IsOnly start seen bank ids states.Committed
+    → KindKeeps start seen (xact_lock bank) by (kinds.Set (all_set by states.Committed ids))
+
+abbrev pub SubCommittedKeeps : Type 0
+SubCommittedKeeps = (start : Start) (seen : List (List Entry)) (bank : ℕ) (by : By) (ids : List ℕ) →
+    AreThere start seen bank ids
+    → ((id : ℕ) → Contains ids id → IsDurable start seen by.session id)
+    → IsOnly start seen bank ids states.SubCommitted
+    → KindKeeps start seen (xact_lock bank) by (kinds.Set (all_set by states.SubCommitted ids))
+
+abbrev pub AbortedKeeps : Type 0
+AbortedKeeps = (start : Start) (seen : List (List Entry)) (bank : ℕ) (by : By) (ids : List ℕ) →
+    AreThere start seen bank ids
+    → ((id : ℕ) → Contains ids id → Contains (given_to by.session (history seen)) id)
+    → ((id top : ℕ) (subs : List ℕ) → Contains ids id → IsAppended seen by.session (records.Commit top subs) → Contains (top ∷ subs) id → ⊥)
+    → IsOnly start seen bank ids states.Aborted
+    → KindKeeps start seen (xact_lock bank) by (kinds.Set (all_set by states.Aborted ids))
+
+-- the parent of one id
+abbrev pub ParentKeeps : Type 0
+ParentKeeps = (start : Start) (seen : List (List Entry)) (bank : ℕ) (by : By) (id parent : ℕ) →
+    bank < start.banks
+    → subtrans_lock_of start id ≡ subtrans_lock bank
+    → WasMade (at seen (subtrans_lock bank)) (subtrans_page start.base.next) (subtrans_page id)
+    → IsGivenBelow seen by.session parent id
+    → KindKeeps start seen (subtrans_lock bank) by (kinds.Set (changes.Parent by id parent ∷ []))
+
+-- no id of a commit record was set aborted, for whatever session and by whatever session
+abbrev pub NeverAborted : Type 0
+NeverAborted = (start : Start) (lists : List (List Entry)) (session top : ℕ) (subs : List ℕ) (id : ℕ) →
+    EngineInvariant start lists → IsAppended lists session (records.Commit top subs) → Contains (top ∷ subs) id → IsMarked start lists id states.Aborted → ⊥
+
+-- the oldest xmin never falls
+abbrev pub HorizonRises : Type 0
+HorizonRises = (start : Start) (lists more : List (List Entry)) → EngineInvariant start more → Grows lists more → IsBase start.base → oldest_xmin start.base.next (history lists) ≤ oldest_xmin start.base.next (history more)
+
+-- so one that was seen is not past the xmin of any snapshot that is live later
+abbrev pub SnapshotsHold : Type 0
+SnapshotsHold = (start : Start) (lists more : List (List Entry)) (s : LiveSnap) → EngineInvariant start more → Grows lists more → IsBase start.base → Contains (live_snaps start.base.next (history more)) s
+    → oldest_xmin start.base.next (history lists) ≤ s.xmin

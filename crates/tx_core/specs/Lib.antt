@@ -1,0 +1,16 @@
+pub mod Lists
+pub mod Locks
+pub mod Entries
+pub mod EventsLegal
+pub mod PagesBeforeIds
+pub mod ParentsFollow
+pub mod CommitRecordsExact
+pub mod LogBeforeStatus
+pub mod StatusBeforeCommit
+pub mod AbortRule
+pub mod ProgramOrder
+pub mod CleanStart
+pub mod EngineInvariant
+pub mod Verdict
+pub mod Pages
+pub mod Laws

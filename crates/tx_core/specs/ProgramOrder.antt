@@ -1,0 +1,74 @@
+-- A session's entries go by its commands, and each stands where some call may add it.
+use Rattle.std.specs.List.{All, AllByRecursion, filter}
+use Rattle.std.specs.Prelude.{Contains, List, map, ℕ, ◌*◌, ◌+◌, ◌==◌, ◌≡◌, ◌≤◌}
+use Rattle.tx_model.specs.declared.event.By.{By}
+use Rattle.tx_model.specs.Places.{first_seen}
+use Rattle.tx_core.specs.declared.entry.Change.{Change}
+use Rattle.tx_core.specs.declared.entry.Entry.{Entry}
+use Rattle.tx_core.specs.declared.entry.Kind.{Kind}
+use Rattle.tx_core.specs.declared.entry.Start.{Start}
+use Rattle.tx_core.specs.Lists.{Upheld}
+use Rattle.tx_core.specs.Locks.{IsPageLock, log_lock, members_lock_of, multi_lock, offsets_lock_of, proc_lock, subtrans_lock_of, xact_lock_of}
+use Rattle.tx_core.specs.declared.entry.Change.TheVariants as changes
+use Rattle.tx_core.specs.declared.entry.Kind.TheVariants as kinds
+
+-- the command comes after the session's commands before it, or is the last of them
+abbrev pub IsInTurn : List Entry → By → Type 0
+IsInTurn before by = All (λ f. f.by.command ≤ by.command) (filter (λ f. f.by.session == by.session) before)
+
+abbrev pub NeedsTurn : List (List Entry) → ℕ → List Entry → Entry → Type 0
+NeedsTurn lists lock before e = IsInTurn before e.by
+
+-- the lock of the page that a change is made on
+abbrev pub change_lock : Start → Change → ℕ
+change_lock start (changes.State caller id state) = xact_lock_of start id
+change_lock start (changes.Parent caller id parent) = subtrans_lock_of start id
+change_lock start (changes.Offset caller multi offset) = offsets_lock_of start multi
+change_lock start (changes.Slot caller offset member) = members_lock_of start offset
+
+abbrev pub caller_of : Change → By
+caller_of (changes.State caller id state) = caller
+caller_of (changes.Parent caller id parent) = caller
+caller_of (changes.Offset caller multi offset) = caller
+caller_of (changes.Slot caller offset member) = caller
+
+-- the changes are all made on pages of this bank
+pub record AreOn (start : Start) (lock : ℕ) (changes : List Change) : Type 0 where
+  pub bank : IsPageLock start lock
+  pub pages : AllByRecursion (λ change. change_lock start change ≡ lock) changes
+
+-- who met a fault: the session in whose critical section it came, and those for whom it made changes, each session once
+pub record AreCallers (by : By) (callers : List By) (changes : List Change) : Type 0 where
+  pub own : Contains callers by
+  pub once : first_seen (map (λ caller. caller.session) callers) ≡ map (λ caller. caller.session) callers
+  pub each : AllByRecursion (λ change. Contains callers (caller_of change)) changes
+
+-- what may stand in the list of a lock; the requests stand in lists of their own, behind those of the banks
+abbrev pub MayStand : Start → ℕ → By → Kind → Type 0
+MayStand start lock by (kinds.Append rec) = lock ≡ log_lock
+MayStand start lock by (kinds.Flush to) = lock ≡ log_lock
+MayStand start lock by (kinds.Forget number) = lock ≡ log_lock
+MayStand start lock by (kinds.LogFault asked count) = lock ≡ log_lock
+MayStand start lock by (kinds.Event event) = lock ≡ proc_lock
+MayStand start lock by (kinds.Made id) = lock ≡ proc_lock
+MayStand start lock by (kinds.Multi event) = lock ≡ multi_lock
+MayStand start lock by (kinds.Set changes) = AreOn start lock changes
+MayStand start lock by (kinds.Zero page) = IsPageLock start lock
+MayStand start lock by (kinds.Cut page) = IsPageLock start lock
+MayStand start lock by kinds.Sync = IsPageLock start lock
+MayStand start lock by (kinds.Fault callers changes cut count) = AreOn start lock changes × AreCallers by callers changes
+MayStand start lock by (kinds.Request changes) = 3 + 4 * start.banks ≤ lock
+MayStand start lock by kinds.Look = Unit {0}
+
+abbrev pub NeedsStand : Start → List (List Entry) → ℕ → List Entry → Entry → Type 0
+NeedsStand start lists lock before e = MayStand start lock e.by e.kind
+
+-- In each list the command numbers of a session never fall, and each entry is of a kind that some call adds there.
+pub record ProgramOrder (start : Start) (lists : List (List Entry)) : Type 0 where
+  pub turns : Upheld NeedsTurn lists
+  pub stand : Upheld (NeedsStand start) lists
+
+-- what a session knows that adds the entry
+pub record MayComeNext (start : Start) (seen : List (List Entry)) (lock : ℕ) (before : List Entry) (e : Entry) : Type 0 where
+  pub turn : NeedsTurn seen lock before e
+  pub stands : NeedsStand start seen lock before e

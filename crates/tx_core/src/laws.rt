@@ -1,0 +1,179 @@
+ghost use Rattle.tx_core.specs.Laws.{Keeps, Opens, CommitRecordKeeps, OtherRecordKeeps, FlushKeeps, ForgetKeeps, LogFaultKeeps, IdEventKeeps, SubEventKeeps, UndoEventKeeps, CommitEventKeeps, AbortEventKeeps, SnapEventKeeps, SnapDropKeeps, OldestKeeps, AskKeeps, MadeKeeps, MultiEventKeeps, ChangesKeep, CommittedKeeps, SubCommittedKeeps, AbortedKeeps, ParentKeeps, ZeroKeeps, CutKeeps, SyncKeeps, FaultKeeps, RequestKeeps, LookKeeps, NeverAborted, HorizonRises, SnapshotsHold};
+ghost use Rattle.tx_core.specs.Pages.{PagesShow, ParentsShow};
+ghost use Rattle.tx_core.specs.Verdict.{Decides};
+
+/// Any entry that its session may add keeps the engine invariant.
+pub fn keeps()
+    ensures { Keeps }
+{}
+
+/// The invariant holds before the first entry.
+pub fn opens()
+    ensures { Opens }
+{}
+
+/// A commit record is appended to the log (`XactLogCommitRecord` in `xact.c`).
+pub fn commit_record()
+    ensures { CommitRecordKeeps }
+{}
+
+/// Any other record is appended.
+pub fn other_record()
+    ensures { OtherRecordKeeps }
+{}
+
+/// The log is flushed (`XLogFlush` in `xlog.c`).
+pub fn flush()
+    ensures { FlushKeeps }
+{}
+
+/// Records before a checkpoint are forgotten.
+pub fn forget()
+    ensures { ForgetKeeps }
+{}
+
+/// The log's disk fails.
+pub fn log_fault()
+    ensures { LogFaultKeeps }
+{}
+
+/// A top-level id is given (`GetNewTransactionId` in `varsup.c`).
+pub fn id_event()
+    ensures { IdEventKeeps }
+{}
+
+/// A subtransaction's id is given (`AssignTransactionId` in `xact.c`).
+pub fn sub_event()
+    ensures { SubEventKeeps }
+{}
+
+/// A savepoint is rolled back (`XidCacheRemoveRunningXids` in `procarray.c`).
+pub fn undo_event()
+    ensures { UndoEventKeeps }
+{}
+
+/// A transaction commits (`ProcArrayEndTransaction` in `procarray.c`).
+pub fn commit_event()
+    ensures { CommitEventKeeps }
+{}
+
+/// A transaction aborts.
+pub fn abort_event()
+    ensures { AbortEventKeeps }
+{}
+
+/// A snapshot is taken (`GetSnapshotData` in `procarray.c`).
+pub fn snap_event()
+    ensures { SnapEventKeeps }
+{}
+
+/// A snapshot is dropped.
+pub fn snap_drop()
+    ensures { SnapDropKeeps }
+{}
+
+/// The oldest id is announced (`SetTransactionIdLimit` in `varsup.c`).
+pub fn oldest_event()
+    ensures { OldestKeeps }
+{}
+
+/// It is asked how a transaction stands.
+pub fn ask_event()
+    ensures { AskKeeps }
+{}
+
+/// The ProcArray is told that an id's pages are made.
+pub fn made_pages()
+    ensures { MadeKeeps }
+{}
+
+/// Something happens to a multixact.
+pub fn multi_event()
+    ensures { MultiEventKeeps }
+{}
+
+/// A bank is changed, for the session itself and for others that asked for it
+/// (`TransactionGroupUpdateXidStatus` in `clog.c`).
+pub fn changes()
+    ensures { ChangesKeep }
+{}
+
+/// Ids of a commit become committed on one bank (`TransactionIdSetTreeStatus` in `clog.c`).
+pub fn committed_states()
+    ensures { CommittedKeeps }
+{}
+
+/// Subtransactions of a commit become sub-committed on one bank.
+pub fn sub_committed_states()
+    ensures { SubCommittedKeeps }
+{}
+
+/// Ids of an undo or an abort become aborted on one bank (`TransactionIdAbortTree` in `transam.c`).
+pub fn aborted_states()
+    ensures { AbortedKeeps }
+{}
+
+/// The parent of an id is recorded (`SubTransSetParent` in `subtrans.c`).
+pub fn parent()
+    ensures { ParentKeeps }
+{}
+
+/// A page is made (`ExtendCLOG` in `clog.c`, `ExtendSUBTRANS` in `subtrans.c`).
+pub fn zero_page()
+    ensures { ZeroKeeps }
+{}
+
+/// A bank is cut (`SimpleLruTruncate` in `slru.c`).
+pub fn cut_pages()
+    ensures { CutKeeps }
+{}
+
+/// A bank is synced (`SimpleLruWriteAll` in `slru.c`).
+pub fn sync()
+    ensures { SyncKeeps }
+{}
+
+/// A bank's disk fails, after some of the changes.
+pub fn fault()
+    ensures { FaultKeeps }
+{}
+
+/// A session asks another one for changes.
+pub fn request()
+    ensures { RequestKeeps }
+{}
+
+/// A value is only read.
+pub fn look()
+    ensures { LookKeeps }
+{}
+
+/// What a commit record names is never set aborted.
+pub fn never_aborted()
+    ensures { NeverAborted }
+{}
+
+/// A snapshot, with the state and the parents read later, decides whether an id is visible at the snapshot.
+pub fn visibility()
+    ensures { Decides }
+{}
+
+/// The pages of pg_xact show the state that was set last: no page is made late.
+pub fn pages_show()
+    ensures { PagesShow }
+{}
+
+/// The pages of pg_subtrans show the parent that was set last.
+pub fn parents_show()
+    ensures { ParentsShow }
+{}
+
+/// The oldest xmin never falls.
+pub fn horizon_rises()
+    ensures { HorizonRises }
+{}
+
+/// An oldest xmin that was seen is not past the xmin of a snapshot that is live later.
+pub fn snapshots_hold()
+    ensures { SnapshotsHold }
+{}

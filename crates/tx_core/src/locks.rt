@@ -1,0 +1,68 @@
+ghost use Rattle.std.specs.Prelude.{◌≡◌, ℕ, ◌%◌, ◌<◌};
+ghost use Rattle.xid_order.specs.Ids.{low_half};
+ghost use Rattle.tx_model.specs.declared.reply.Lock.TheVariants as locks;
+ghost use Rattle.tx_core.specs.Locks.{number_of, xact_page, subtrans_page, offsets_page, members_page};
+
+use tx_model::Lock;
+use xid_order::{FullMulti, FullXid};
+
+/// How many ids have their states on one page of pg_xact (`CLOG_XACTS_PER_PAGE`).
+const XACTS_PER_PAGE: u32 = 32768;
+
+/// How many ids have their parents on one page of pg_subtrans (`SUBTRANS_XACTS_PER_PAGE`).
+const PARENTS_PER_PAGE: u32 = 2048;
+
+/// How many multixacts have their offsets on one page (`MULTIXACT_OFFSETS_PER_PAGE`).
+const OFFSETS_PER_PAGE: u32 = 2048;
+
+/// How many members one page holds (`MULTIXACT_MEMBERS_PER_PAGE`).
+const MEMBERS_PER_PAGE: u32 = 1636;
+
+/// The number of a lock: the log's, the ProcArray's and the multixacts' first, then bank by bank those of the four
+/// stores.
+pub fn lock_number(lock: Lock) -> u64
+    ensures { result ≡ number_of lock }
+{
+    match lock {
+        Lock::Log => 0,
+        Lock::Proc => 1,
+        Lock::Multi => 2,
+        Lock::Xact(bank) => 3 + 4 * u64::from(bank),
+        Lock::Subtrans(bank) => 4 + 4 * u64::from(bank),
+        Lock::Offsets(bank) => 5 + 4 * u64::from(bank),
+        Lock::Members(bank) => 6 + 4 * u64::from(bank),
+    }
+}
+
+/// The lock under which the state of `id` lies, where each store has this many banks (`SimpleLruGetBankLock`).
+pub fn state_lock(id: FullXid, banks: u32) -> Lock
+    requires { 0 < banks }
+    ensures { result ≡ locks.Xact (xact_page (low_half id) % banks) }
+{
+    Lock::Xact(id.low().number / XACTS_PER_PAGE % banks)
+}
+
+/// The lock under which its parent lies.
+pub fn parent_lock(id: FullXid, banks: u32) -> Lock
+    requires { 0 < banks }
+    ensures { result ≡ locks.Subtrans (subtrans_page (low_half id) % banks) }
+{
+    Lock::Subtrans(id.low().number / PARENTS_PER_PAGE % banks)
+}
+
+/// The lock under which the offset of `multi` lies.
+pub fn offset_lock(multi: FullMulti, banks: u32) -> Lock
+    requires { 0 < banks }
+    ensures { result ≡ locks.Offsets (offsets_page (low_half multi) % banks) }
+{
+    Lock::Offsets(multi.low().number / OFFSETS_PER_PAGE % banks)
+}
+
+/// The lock under which the member at `offset` lies, counted in full.
+pub fn member_lock(offset: u64, banks: u32) -> Lock
+    requires { 0 < banks }
+    ensures { result ≡ locks.Members (members_page (low_half offset) % banks) }
+{
+    let low = (offset & 0xffff_ffff) as u32;
+    Lock::Members(low / MEMBERS_PER_PAGE % banks)
+}

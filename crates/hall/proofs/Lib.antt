@@ -1,0 +1,16 @@
+pub mod Pieces
+pub mod Moves
+pub mod Draws
+pub mod Leaves
+pub mod Posting
+pub mod Merging
+pub mod Splits
+pub mod Joins
+pub mod Opens
+pub mod Ends
+pub mod Fitting
+pub mod Parting
+pub mod Starting
+pub mod Carrying
+pub mod Closing
+pub mod Owning

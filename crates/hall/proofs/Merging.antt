@@ -1,0 +1,78 @@
+-- Lists that are merged, and what stands at a place of a list.
+use Rattle.std.proofs.Common.{◌≡◌, ℕ, zero, suc, ◌+◌, ◌<◌, ◌≤◌, ◌≢◌, ◌⊎◌, ◌||◌, Bool, true, false, List, [], ◌∷◌, ◌++◌, length, get_or, set, replicate, if◌then◌else◌, refl, sym, ◌∙◌, ap, subst, inl, inr, ⊎_elim, le-ltb, lt-ltb, arith, length-append}
+use Rattle.std.proofs.lemmas.List.{get_or_append_left, get_or-append-add}
+use mathlib.Core.Option.{some, some-injective, some-ne-none}
+use mathlib.Core.Logic.{dite}
+use native.Mathlib.Decide.{dec_le}
+use lib.ListN.{get_elem?, length-replicate, get_or-replicate}
+use Rattle.hall.specs.Lists.{at}
+use Rattle.hall.specs.Told.{longer, longer_of, either_of}
+
+module _ {A : Type 0} where
+  pub at_end : (l : List A) (a b : A) (j : ℕ) → get_elem? (l ++ a ∷ []) j ≡ some b → (get_elem? l j ≡ some b) ⊎ ((j ≡ length l) × (a ≡ b))
+  at_end [] a b zero e = inr (refl, some-injective a b e)
+  at_end [] a b (suc j) e = absurd (some-ne-none b (sym e))
+  at_end (x ∷ xs) a b zero e = inl e
+  at_end (x ∷ xs) a b (suc j) e = ⊎_elim (λ h. inl h) (λ h. inr (ap suc h.0, h.1)) (at_end xs a b j e)
+
+  pub set_swap : (l : List A) (i j : ℕ) (a b : A) → i ≢ j → set (set l i a) j b ≡ set (set l j b) i a
+  set_swap [] i j a b ne = refl
+  set_swap (x ∷ xs) zero zero a b ne = absurd (ne refl)
+  set_swap (x ∷ xs) zero (suc j) a b ne = refl
+  set_swap (x ∷ xs) (suc i) zero a b ne = refl
+  set_swap (x ∷ xs) (suc i) (suc j) a b ne = λ k. x ∷ set_swap xs i j a b (λ e. ne (ap suc e)) k
+
+  pub longer_cases : (xs ys : List A) → ((length xs < length ys) × (longer_of xs ys ≡ ys)) ⊎ ((length ys ≤ length xs) × (longer_of xs ys ≡ xs))
+  longer_cases xs ys = dite (dec_le (length ys) (length xs))
+      (λ h. inr (h, ap (λ b. if b then ys else xs) (le-ltb (length xs) (length ys) h)))
+      (λ n. let l : length xs < length ys = omega arith in inl (l, ap (λ b. if b then ys else xs) (lt-ltb (length xs) (length ys) l)))
+
+  none_of : (xs : List A) → length xs ≤ 0 → [] ≡ xs
+  none_of [] h = refl
+  none_of (x ∷ xs) h = absurd (omega arith)
+
+  pub longer_at : (xs ys : List (List A)) (c : ℕ) → at (longer xs ys) c ≡ longer_of (at xs c) (at ys c)
+  longer_at [] ys c = ⊎_elim (λ h. sym h.1) (λ h. sym (h.1 ∙ none_of (at ys c) h.0)) (longer_cases [] (at ys c))
+  longer_at (x ∷ xs) [] c = ⊎_elim (λ h. absurd (let k = h.0 in omega arith)) (λ h. sym h.1) (longer_cases (at (x ∷ xs) c) [])
+  longer_at (x ∷ xs) (y ∷ ys) zero = refl
+  longer_at (x ∷ xs) (y ∷ ys) (suc c) = longer_at xs ys c
+
+pub past : {A : Type 0} (xs : List A) (k : ℕ) (d : A) → length xs ≤ k → get_or xs k d ≡ d
+past [] k d h = refl
+past (x ∷ xs) zero d h = absurd (omega arith)
+past (x ∷ xs) (suc k) d h = past xs k d (omega arith)
+
+pub blank : (n k : ℕ) → get_or (replicate n false) k false ≡ false
+blank n k = dite (dec_le n k) (λ h. past (replicate n false) k false (let e = length-replicate n false in omega arith)) (λ h. get_or-replicate n k false false (omega arith))
+
+-- zeros, and then a list
+pub zeros_first : (n : ℕ) (xs : List ℕ) (k : ℕ) → k < n → get_or (replicate n 0 ++ xs) k 0 ≡ 0
+zeros_first n xs k lt = get_or_append_left (replicate n 0) xs 0 k (subst (λ (z : ℕ). k < z) (sym (length-replicate n 0)) lt) ∙ get_or-replicate n k 0 0 lt
+
+pub zeros_then : (n : ℕ) (xs : List ℕ) (k : ℕ) → get_or (replicate n 0 ++ xs) (n + k) 0 ≡ get_or xs k 0
+zeros_then n xs k = ap (λ (z : ℕ). get_or (replicate n 0 ++ xs) (z + k) 0) (sym (length-replicate n 0)) ∙ get_or-append-add (replicate n 0) xs k 0
+
+pub zeros_length : (n : ℕ) (xs : List ℕ) → length (replicate n 0 ++ xs) ≡ n + length xs
+zeros_length n xs = length-append (replicate n 0) xs ∙ ap (λ (z : ℕ). z + length xs) (length-replicate n 0)
+
+pub either_at : (xs ys : List Bool) (m : ℕ) → get_or (either_of xs ys) m false ≡ (get_or xs m false || get_or ys m false)
+either_at [] ys m = refl
+either_at (x ∷ xs) [] m = elim (get_or (x ∷ xs) m false) as (λ b. b ≡ (b || false)) [ true ↦ refl | false ↦ refl ]
+either_at (x ∷ xs) (y ∷ ys) zero = refl
+either_at (x ∷ xs) (y ∷ ys) (suc m) = either_at xs ys m
+
+pub true_inside : (bs : List Bool) (k : ℕ) → get_or bs k false ≡ true → k < length bs
+true_inside [] k e = absurd (cc)
+true_inside (b ∷ bs) zero e = omega arith
+true_inside (b ∷ bs) (suc k) e = let t = true_inside bs k e in omega arith
+
+pub not_nil : {A : Type 0} (x : A) → [] ≡ x ∷ [] → ⊥
+not_nil {A} x e = let P : List A → Type 0 = λ z. elim z [ [] ↦ Unit {0} | ◌∷◌ _ _ ↦ ⊥ ] in subst P e tt
+
+pub one_of : (a b : Bool) → (a || b) ≡ true → (a ≡ true) ⊎ (b ≡ true)
+one_of true b e = inl refl
+one_of false b e = inr e
+
+pub or_true : (a : Bool) → (a || true) ≡ true
+or_true true = refl
+or_true false = refl

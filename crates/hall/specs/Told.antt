@@ -1,0 +1,160 @@
+-- What each step tells its pass, and the view after it.
+use Rattle.std.specs.Prelude.{◌≡◌, ◌≢◌, ℕ, ◌+◌, ◌-◌, ◌<◌, ltb, Bool, true, false, ◌||◌, if◌then◌else◌, List, [], ◌∷◌, ◌++◌, ◌⊎◌, length, replicate, Some, slice_set}
+use mathlib.Core.Option.{some}
+use Rattle.atomic_table.specs.Table.{Me, Step}
+use Rattle.hall.specs.declared.writer.Writer.{Writer}
+use Rattle.hall.specs.declared.writer.Writer.TheVariants.{Lock}
+use Rattle.hall.specs.declared.view.Stage.TheVariants.{Free, Waiting, Inside}
+use Rattle.hall.specs.declared.view.View.{View}
+use Rattle.hall.specs.declared.view.Merged.{Merged}
+use Rattle.hall.specs.declared.view.Held.{Held}
+use Rattle.hall.specs.declared.note.Note.{Note}
+use Rattle.hall.specs.Lists.{at, Grows, Whole, OwnSeen}
+use Rattle.hall.specs.Rule.{Holds, Writes, Told}
+
+module _ {E : Type 0} where
+  -- the longer of two lists
+  abbrev pub longer_of : List E → List E → List E
+  longer_of xs ys = if ltb (length xs) (length ys) then ys else xs
+
+  -- at each place the longer of two lists
+  abbrev pub longer : List (List E) → List (List E) → List (List E)
+  longer [] ys = ys
+  longer (x ∷ xs) [] = x ∷ xs
+  longer (x ∷ xs) (y ∷ ys) = longer_of x y ∷ longer xs ys
+
+-- at each place whether one of the two is true
+abbrev pub either_of : List Bool → List Bool → List Bool
+either_of [] ys = ys
+either_of (x ∷ xs) [] = x ∷ xs
+either_of (x ∷ xs) (y ∷ ys) = (x || y) ∷ either_of xs ys
+
+module _ {S E : Type 0} where
+  -- the ticket t of the lock c was taken
+  abbrev pub drawn : ℕ → ℕ → View S E → View S E
+  drawn c t v = record v { draws = v.draws - 1; stage = Waiting c t }
+
+  -- a poll read the number r, which is not the ticket
+  abbrev pub missed : ℕ → View S E → View S E
+  missed r v = record v { looks = v.looks + 1; found = r }
+
+  -- a poll read the ticket t, and the histories were then ls
+  abbrev pub entered : ℕ → ℕ → List (List E) → View S E → View S E
+  entered c t ls v = record v { seen = ls; stage = Inside c t; looks = v.looks + 1; found = t }
+
+  -- the history at a place has one entry more
+  abbrev pub added : ℕ → E → View S E → List (List E)
+  added q e v = slice_set v.seen q (at v.seen q ++ e ∷ [])
+
+  -- the lock was released with one entry more
+  abbrev pub left : ℕ → E → View S E → View S E
+  left c e v = record v { seen = added c e v; stage = Free }
+
+  -- a word was published, with one entry more at its place
+  abbrev pub published : ℕ → E → View S E → View S E
+  published q e v = record v { seen = added q e v }
+
+  -- a word was loaded, and the histories were then ls
+  abbrev pub learned : List (List E) → View S E → View S E
+  learned ls v = record v { seen = ls; reads = v.reads + 1 }
+
+  -- the name n was asked for
+  abbrev pub asking : ℕ → View S E → View S E
+  asking n v = record v { asked = n }
+
+  -- the pass gives the name that it asked for
+  abbrev pub giving : View S E → View S E
+  giving v = record v { holds = slice_set v.holds v.asked false; gives = slice_set v.gives v.asked false }
+
+  -- the new pass, which has the name that was asked for
+  abbrev pub given : View S E → View S E
+  given v = record { start = v.start; name = v.asked; holds = slice_set (replicate (length v.holds) false) v.asked true; gives = []; seen = v.seen; draws = 144115188075855872; stage = Free; looks = 0; found = 0; reads = 0; asked = 0; merged = [] }
+
+  -- the pass v took in w
+  abbrev pub joined : View S E → View S E → View S E
+  joined v w = record v { holds = either_of v.holds w.holds; seen = longer v.seen w.seen; merged = record { holds = v.holds; seen = v.seen; other_holds = w.holds; other_seen = w.seen; both = longer v.seen w.seen } ∷ [] }
+
+  -- the histories were then ls, and what was merged is known
+  abbrev pub settled : List (List E) → View S E → View S E
+  settled ls v = record v { seen = ls; merged = [] }
+
+  -- a pass that was taken in
+  abbrev pub spent : View S E
+  spent = record { start = []; name = 0; holds = []; gives = []; seen = []; draws = 0; stage = Free; looks = 0; found = 0; reads = 0; asked = 0; merged = [] }
+
+  -- The histories at one moment, as a pass learns them: the relation holds of them, and each begins with what the pass had seen of it. Where only this pass may write, it had seen all: there are no other entries of its names, and nothing new in its sessions' words, in the lock that it is inside, and in the words that this lock guards
+  pub record Moment (session : E → ℕ) (writer : S → ℕ → Writer) (kept : S → List (List E) → Type 0) (start : S) (v : View S E) (lists : List (List E)) : Type 0 where
+    pub law : kept start lists
+    pub long : length lists ≡ length v.seen
+    pub grows : Grows v.seen lists
+    pub own_seen : (m : ℕ) → Holds v m → OwnSeen session (writer start) m v.seen lists
+    pub locked : (c t : ℕ) → v.stage ≡ Inside c t → Whole (writer start) (Lock c) v.seen lists
+
+-- the place of a published word, by the number of locks and the word's index
+abbrev pub place_of : ℕ → ℕ → ℕ
+place_of n i = i - (n + 1)
+
+-- a seat of the table, as its steps see it
+abbrev Sat : Type 0 → Type 0 → Type 0 → Type 0
+Sat S V E = Me (Held V E) (View S E)
+
+module _ {S V E : Type 0} where
+  -- a ticket of the lock is held
+  abbrev pub drew : Step (Held V E) → Sat S V E → ℕ → Sat S V E → Type 0
+  drew st m r m' = (r + 1 < 18446744073709551616) × (m'.0 ≡ drawn st.word r m.0) × (m'.1 ≡ m.1)
+
+  -- all histories were seen whole, and the slot is with the pass
+  pub record Got (session : E → ℕ) (writer : S → ℕ → Writer) (stands : S → ℕ → V → List E → Type 0) (kept : S → List (List E) → Type 0) (start : S) (c t : ℕ) (m m' : Sat S V E) : Type 0 where
+    pub lists : List (List E)
+    pub value : V
+    pub held : Held V E
+    pub moment : Moment session writer kept start m.0 lists
+    pub stood : stands start c value (at lists c)
+    pub filled : held.value ≡ Some value
+    pub view_is : m'.0 ≡ entered c t lists m.0
+    pub slots_are : m'.1 ≡ (c, held) ∷ m.1
+
+  -- a poll found the ticket served, or another number
+  abbrev pub looked : (E → ℕ) → (S → ℕ → Writer) → (S → ℕ → V → List E → Type 0) → (S → List (List E) → Type 0) → Step (Held V E) → Sat S V E → ℕ → Sat S V E → Type 0
+  looked session writer stands kept st m r m' = (c t : ℕ) (start : S) → m.0.stage ≡ Waiting c t → m.0.start ≡ start ∷ []
+      → ((r ≡ t) × Got session writer stands kept start c t m m') ⊎ ((r ≢ t) × (m'.0 ≡ missed r m.0) × (m'.1 ≡ m.1))
+
+  -- the entry of the slot's note was added
+  abbrev pub went : Step (Held V E) → Sat S V E → ℕ → Sat S V E → Type 0
+  went st m r m' = (c t : ℕ) (h : Held V E) (e : Note E) → m.0.stage ≡ Inside c t → m.1 ≡ (c, h) ∷ [] → h.note ≡ Some e → (m'.0 ≡ left c e.value m.0) × (m'.1 ≡ [])
+
+  -- the name was asked for
+  abbrev pub asks : Step (Held V E) → Sat S V E → ℕ → Sat S V E → Type 0
+  asks st m r m' = (m'.0 ≡ asking st.first m.0) × (m'.1 ≡ m.1)
+
+  -- the histories of this moment, in which the word shows the number r
+  pub record Learnt (session : E → ℕ) (writer : S → ℕ → Writer) (number : S → ℕ → List E → ℕ) (kept : S → List (List E) → Type 0) (start : S) (q r : ℕ) (m m' : Sat S V E) : Type 0 where
+    pub lists : List (List E)
+    pub moment : Moment session writer kept start m.0 lists
+    pub shown : number start q (at lists q) ≡ r
+    pub view_is : m'.0 ≡ learned lists m.0
+    pub slots_are : m'.1 ≡ m.1
+
+  -- a word was loaded
+  abbrev pub reads : (E → ℕ) → (S → ℕ → Writer) → (S → ℕ → List E → ℕ) → (S → List (List E) → Type 0) → Step (Held V E) → Sat S V E → ℕ → Sat S V E → Type 0
+  reads session writer number kept st m r m' = (start : S) → m.0.start ≡ start ∷ [] → Learnt session writer number kept start (place_of st.slots st.word) r m m'
+
+  -- a word that this pass alone publishes shows the number of the history that it has seen
+  abbrev pub checks : (S → ℕ → Writer) → (S → ℕ → List E → ℕ) → Step (Held V E) → Sat S V E → ℕ → Sat S V E → Type 0
+  checks writer number st m r m' = (m' ≡ m) × ((start : S) → m.0.start ≡ start ∷ [] → Writes (writer start (place_of st.slots st.word)) m.0 → number start (place_of st.slots st.word) (at m.0.seen (place_of st.slots st.word)) ≡ r)
+
+  -- the entry of the note that was said was added
+  abbrev pub publishes : Step (Held V E) → Sat S V E → ℕ → Sat S V E → Type 0
+  publishes st m r m' = (h : Held V E) (e : Note E) → st.said ≡ some h → h.note ≡ Some e → m' ≡ (published (place_of st.slots st.word) e.value m.0, m.1)
+
+  -- the histories of the moment at which a join is settled
+  pub record Settled (session : E → ℕ) (writer : S → ℕ → Writer) (kept : S → List (List E) → Type 0) (start : S) (x : Merged E) (m m' : Sat S V E) : Type 0 where
+    pub lists : List (List E)
+    pub moment : Moment session writer kept start m.0 lists
+    pub told : Told session (writer start) (x ∷ [])
+    pub view_is : m'.0 ≡ settled lists m.0
+    pub slots_are : m'.1 ≡ m.1
+
+  -- a join was settled
+  abbrev pub settles : (E → ℕ) → (S → ℕ → Writer) → (S → List (List E) → Type 0) → Step (Held V E) → Sat S V E → ℕ → Sat S V E → Type 0
+  settles session writer kept st m r m' = (start : S) (x : Merged E) → m.0.start ≡ start ∷ [] → m.0.merged ≡ x ∷ [] → Settled session writer kept start x m m'

@@ -1,0 +1,21 @@
+//! What a thread goes through a table with.
+ghost use Rattle.std.specs.Prelude.{◌≡◌};
+ghost use Rattle.hall.specs.Fits.{Fits};
+
+use crate::law::Law;
+use crate::view::{Held, View};
+use atomic_table::Seat;
+
+/// A lock permit. It carries what its thread knows of the table, in contracts alone, and the ticket that
+/// it holds. It names no law, so that a type that holds one needs none.
+#[derive(Drop)]
+pub struct Token<V, E, S> {
+    pub(crate) seat: Seat<Held<V, E>, View<S, E>>,
+    pub(crate) cell: usize,
+    pub(crate) ticket: u64,
+    pub(crate) gives: [bool; 64],
+    ghost fits: { Fits seat.table_id.slots seat.table_id.words cell ticket gives seat.me },
+}
+
+/// The permit of a table over the law `L`.
+pub type Pass<L> = Token<<L as Law>::Value, <L as Law>::Entry, <L as Law>::Start>;

@@ -1,0 +1,64 @@
+//! What a pass knows, and what a slot holds.
+use crate::note::Note;
+use std::collections::LinkedList;
+
+/// Where a pass stands. `Waiting` and `Inside` name a lock and a ticket of it.
+pub enum Stage {
+    /// The pass holds no ticket.
+    Free,
+    /// The pass holds a ticket that it has not found served.
+    Waiting(u64, u64),
+    /// The pass has the lock's value.
+    Inside(u64, u64),
+}
+
+/// What a pass knows. No value of it is made: contracts alone see it.
+pub struct View<S, E> {
+    /// The table's start, or nothing once the pass was joined into another.
+    pub start: LinkedList<S>,
+    /// The session whose entries this pass adds.
+    pub name: u64,
+    /// Of each name, whether this pass has it, and so has seen all of its entries.
+    pub holds: LinkedList<bool>,
+    /// Of each name, whether this pass may still give it to a new pass.
+    pub gives: LinkedList<bool>,
+    /// The observed histories: of each place the beginning that was seen.
+    pub seen: LinkedList<LinkedList<E>>,
+    /// How many tickets it may still take.
+    pub draws: u64,
+    pub stage: Stage,
+    /// How often it polled.
+    pub looks: u64,
+    /// The number that its last poll read.
+    pub found: u64,
+    /// How often it loaded a published word.
+    pub reads: u64,
+    /// The name that it last asked for.
+    pub asked: u64,
+    /// Within a join, what the two passes knew. Else it is empty.
+    pub merged: LinkedList<Merged<E>>,
+}
+
+/// What two passes knew as they were joined, and what the joined pass has seen. No value of it is made.
+pub struct Merged<E> {
+    pub holds: LinkedList<bool>,
+    pub seen: LinkedList<LinkedList<E>>,
+    pub other_holds: LinkedList<bool>,
+    pub other_seen: LinkedList<LinkedList<E>>,
+    pub both: LinkedList<LinkedList<E>>,
+}
+
+/// What a slot holds: a value, with the entry that it was returned with.
+pub struct Held<V, E> {
+    pub value: Option<V>,
+    pub note: Option<Note<E>>,
+}
+
+/// What a table starts from. No value of it is made: contracts alone see it.
+pub struct Opening<S, E> {
+    pub start: S,
+    /// The first histories, those of the locks before those of the words.
+    pub lists: LinkedList<LinkedList<E>>,
+    /// One more than the greatest name of a pass.
+    pub passes: u64,
+}

@@ -1,0 +1,33 @@
+use Rattle.std.proofs.Common.{arith, ap, subst, sym, ◌∙◌, ◌+◌, ◌≡◌, ℕ, List, ◌++◌, ◌∷◌, []}
+use Rattle.hall.specs.Lists.{at}
+use Rattle.hall.specs.declared.writer.Writer.TheVariants.{Lock}
+use Rattle.hall.specs.Calls.{view}
+use Rattle.hall_counts.specs.declared.Entry.{Entry}
+use Rattle.hall_counts.specs.Tally.{total, last, May}
+use Rattle.hall_counts.specs.Keeping.{total_more}
+use Rattle.hall_counts.proofs.Counting.{catches_may}
+use Rattle.hall_counts.proofs.catch_up.Goals as goal
+
+pub leave-requires-clause-may : goal.leave-requires-clause-may
+leave-requires-clause-may g c =
+    let e = c.enter-value.ensures in let i = e.view.2 in let r = c.read_post-said.ensures in let l = r.view in let cells = c.requires.sizes.0 in
+    let same = (l.moment.locked _ _ (ap (λ z. z.stage) i.view_is)).whole 1 (ap Lock (sym c.draw.ensures.cell)) in
+    let seen = ap (λ z. z.seen) i.view_is in
+    let found : c.enter-value.result ≡ total (at (view c.enter-value.new.pass).seen 1) = subst (λ (z : List (List Entry) × ℕ). c.enter-value.result ≡ total (at z.0 z.1)) (λ j. (sym seen j, c.draw.ensures.cell j)) i.stood in
+    let word : c.args.hall.now.cells + 0 ≡ 2 = omega arith in
+    let said : last (at l.lists 2) ≡ c.read_post-said.result = subst (λ (z : ℕ). last (at l.lists z) ≡ c.read_post-said.result) word l.shown in
+    subst (λ (z : List (List Entry)). May z c.read_post-said.new.pass.cell c.by-entry.result.value) (sym (ap (λ z. z.seen) l.view_is))
+    (catches_may l.lists c.enter-value.result c.read_post-said.result _ c.by-entry.result.value l.moment.law (found ∙ ap total same) said (r.ticket.0 ∙ (e.ticket.0 ∙ c.draw.ensures.cell))
+    (ap (λ (z : Entry). z.amount) c.by-entry.ensures ∙ c.saturating_sub-amount.ensures))
+
+pub leave-requires-clause-stands : goal.leave-requires-clause-stands
+leave-requires-clause-stands g c =
+    let e = c.enter-value.ensures in let i = e.view.2 in let r = c.read_post-said.ensures in let l = r.view in
+    let cell = r.ticket.0 ∙ (e.ticket.0 ∙ c.draw.ensures.cell) in
+    let same = (l.moment.locked _ _ (ap (λ z. z.stage) i.view_is)).whole 1 (ap Lock (sym c.draw.ensures.cell)) in
+    let seen = ap (λ z. z.seen) i.view_is in
+    let found : c.enter-value.result ≡ total (at (view c.enter-value.new.pass).seen 1) = subst (λ (z : List (List Entry) × ℕ). c.enter-value.result ≡ total (at z.0 z.1)) (λ j. (sym seen j, c.draw.ensures.cell j)) i.stood in
+    let now : c.enter-value.result ≡ total (at (view c.read_post-said.new.pass).seen 1) = found ∙ (ap total same ∙ sym (ap (λ z. total (at z.seen 1)) l.view_is)) in
+    let more = total_more (at (view c.read_post-said.new.pass).seen 1) c.by-entry.result.value in
+    let much = ap (λ (z : Entry). z.amount) c.by-entry.ensures in
+    subst (λ (z : ℕ). c.enter-value.result + c.saturating_sub-amount.result ≡ total (at (view c.read_post-said.new.pass).seen z ++ c.by-entry.result.value ∷ [])) (sym cell) (omega arith)

@@ -1,0 +1,4 @@
+use Rattle.hall_counts.proofs.catch_up.Given as goal
+
+abbrev pub ghost-by : goal.ghost-by
+ghost-by g a = record { by = a._about.now.0.now.seat.me.0.name; amount = a._about.now.1 }

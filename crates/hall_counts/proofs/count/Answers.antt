@@ -1,0 +1,21 @@
+use Rattle.std.proofs.Common.{arith, ap, subst, sym, ◌∙◌, ◌+◌, ◌≤◌, List}
+use Rattle.hall.specs.Lists.{at}
+use Rattle.hall.specs.Calls.{view}
+use Rattle.hall_counts.specs.declared.Entry.{Entry}
+use Rattle.hall_counts.specs.Tally.{May}
+use Rattle.hall_counts.specs.Keeping.{last_more}
+use Rattle.hall_counts.proofs.Counting.{adds_may}
+use Rattle.hall_counts.proofs.count.Goals as goal
+use Rattle.hall_counts.proofs.count.Goals.{then-value-lt18446744073709551615, else-value-lt18446744073709551615}
+
+pub post-requires-clause-number : goal.post-requires-clause-number
+post-requires-clause-number c = last_more 0 (at (view c.args.pass.now).seen (c.args.hall.now.cells + 0)) c.by-said.result.value ∙ ap (λ (z : Entry). z.amount) c.by-said.ensures
+
+pub leave-requires-clause-may : goal.leave-requires-clause-may
+leave-requires-clause-may c =
+    let cells = c.requires.sizes.0 in
+    let few : c.if-value-lt18446744073709551615.amount ≤ 1 = elim c.if-value-lt18446744073709551615.branch [ then-value-lt18446744073709551615 w ↦ (let a = w.amount-is in omega arith) | else-value-lt18446744073709551615 w ↦ (let a = w.amount-is in omega arith) ] in
+    let much = ap (λ (z : Entry). z.amount) c.by-entry.ensures in
+    subst (λ (z : List (List Entry)). May z c.post.new.pass.cell c.by-entry.result.value) (sym (ap (λ z. z.seen) c.post.ensures.view))
+    (adds_may (view c.args.pass.now).seen (c.args.hall.now.cells + 0) _ c.by-said.result.value c.by-entry.result.value (omega arith) (c.post.ensures.ticket.0 ∙ c.requires.cell) (let w = c.requires.own.wide in let p = c.requires.sizes.1 in omega arith)
+    (ap (λ (z : Entry). z.amount) c.by-said.ensures ∙ c.requires.value) (omega arith))

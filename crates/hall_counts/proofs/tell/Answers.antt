@@ -1,0 +1,9 @@
+use Rattle.std.proofs.Common.{ap, ◌∙◌, ◌+◌}
+use Rattle.hall.specs.Lists.{at}
+use Rattle.hall.specs.Calls.{view}
+use Rattle.hall_counts.specs.declared.Entry.{Entry}
+use Rattle.hall_counts.specs.Keeping.{last_more}
+use Rattle.hall_counts.proofs.tell.Goals as goal
+
+pub post-requires-clause-number : goal.post-requires-clause-number
+post-requires-clause-number c = last_more 0 (at (view c.args.pass.now).seen (c.args.hall.now.cells + 1)) c.by-entry.result.value ∙ ap (λ (z : Entry). z.amount) c.by-entry.ensures

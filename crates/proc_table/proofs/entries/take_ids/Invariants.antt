@@ -1,0 +1,10 @@
+use Rattle.std.proofs.Common.{◌≡◌, ℕ, ◌<◌, ◌≤◌}
+use Rattle.std.specs.List.{slice_index_or}
+use Rattle.proc_table.specs.declared.entry.Entry.{Entry}
+use Rattle.proc_table.specs.Entries.{IsTaken}
+use Rattle.proc_table.proofs.entries.take_ids.Given as goal
+
+abbrev pub invariant-loop-i : goal.invariant-loop-i
+invariant-loop-i l =
+    ((k : ℕ) (d : Entry) → k < l.i → IsTaken l.fn.session l.fn.ids (slice_index_or l.fn.entries.items k d) (slice_index_or l.entries.items k d))
+    × ((k : ℕ) (d : Entry) → l.i ≤ k → slice_index_or l.entries.items k d ≡ slice_index_or l.fn.entries.items k d)

@@ -1,0 +1,18 @@
+use Rattle.std.proofs.Common.{◌≡◌, refl, sym, ◌∙◌, subst, ap, arith, ◌≤◌}
+use Rattle.tx_model.specs.Horizon.{oldest_id, oldest_xmin}
+use Rattle.proc_table.specs.Table.{InTurn, xmin_of}
+use Rattle.proc_table.proofs.EntryLists.{not_lt_cmp}
+use Rattle.proc_table.proofs.QuietStates.{state_raised}
+use Rattle.proc_table.proofs.table.ProcTable.raise_oldest.Goals as goal
+
+pub invariant_of-self-2 : goal.invariant_of-self-2
+invariant_of-self-2 c =
+    let view : c.self.inside.events.items ≡ c.args.self.now.events = ap (λ t. t.events) c.self.view_is in
+    let turn : InTurn c.args.by c.self.inside.events.items = subst (InTurn c.args.by) (sym view) c.requires.turn in
+    let from : oldest_id c.self.inside.base.oldest c.self.inside.events.items ≤ c.args.oldest =
+    subst (λ o. o ≤ c.args.oldest) c.self.invariant.0.oldest_is (not_lt_cmp c.args.oldest c.self.inside.oldest (sym c.lt.ensures ∙ c.if-lt.false)) in
+    let to : c.args.oldest ≤ oldest_xmin c.self.inside.base.next c.self.inside.events.items =
+    subst (λ m. c.args.oldest ≤ m) (c.oldest_xmin-limit.ensures ∙ sym (ap xmin_of c.self.view_is)) (not_lt_cmp c.oldest_xmin-limit.result c.args.oldest (sym c.lt-2.ensures ∙ c.if-lt-2.false)) in (
+      rw (c.push_reserved.ensures.items, c.make_room.ensures.items) (state_raised _ _ _ _ _ _ _ _ c.args.by c.args.oldest c.self.invariant.0 turn from to),
+      omega (arith, c.push_reserved.ensures.len, c.push_reserved.ensures.capacity, c.if-not-make_room.ensures.room refl),
+    )

@@ -1,0 +1,24 @@
+use Rattle.std.proofs.Common.{◌≡◌, sym, ◌∙◌, subst, ap, arith, ◌≤◌, Contains, false}
+use Rattle.std.specs.List.{filter}
+use Rattle.tx_model.specs.Families.{is_top}
+use Rattle.tx_model.specs.Running.{open_ids}
+use Rattle.tx_model.specs.Savepoints.{is_inside}
+use Rattle.proc_table.specs.Table.{InTurn}
+use Rattle.proc_table.proofs.EndStates.{is_promised}
+use Rattle.proc_table.proofs.UndoStates.{state_undo}
+use Rattle.proc_table.proofs.EntryLists.{zip_from_each}
+use Rattle.proc_table.proofs.table.ProcTable.undo.Goals as goal
+
+pub invariant_of-self : goal.invariant_of-self
+invariant_of-self c =
+    let view : c.self.inside.events.items ≡ c.args.self.now.events = ap (λ t. t.events) c.self.view_is in
+    let turn : InTurn c.args.by c.self.inside.events.items = subst (InTurn c.args.by) (sym view) c.requires.turn in
+    let id_open : Contains (open_ids c.args.by.session c.self.inside.events.items) c.args.id = subst (λ h. Contains (open_ids c.args.by.session h) c.args.id) (sym view) c.requires.id_open in
+    let id_sub : is_top c.self.inside.events.items c.args.id ≡ false = ap (λ h. is_top h c.args.id) view ∙ c.requires.id_sub in
+    let ids : c.args.ids.now ≡ filter (is_inside c.self.inside.events.items c.args.id) (open_ids c.args.by.session c.self.inside.events.items) =
+    c.requires.ids ∙ sym (ap (λ h. filter (is_inside h c.args.id) (open_ids c.args.by.session h)) view) in
+    let some : 1 ≤ c.self.inside.promised = is_promised _ _ _ _ _ _ _ _ c.args.by.session c.args.id c.self.invariant.0 id_open in (
+      rw (c.push_reserved.ensures.items, c.greatest-self-inside.ensures)
+          (state_undo _ _ c.args.by c.args.id c.self.inside.next _ _ _ c.args.ids.now _ _ _ c.self.invariant.0 (id_open, id_sub) turn ids (zip_from_each _ _ _ c.take_ids.ensures) some),
+      omega (arith, c.push_reserved.ensures.len, c.push_reserved.ensures.capacity),
+    )

@@ -1,0 +1,5 @@
+pub mod Entries
+pub mod Lists
+pub mod Lives
+pub mod State
+pub mod Table

@@ -1,0 +1,124 @@
+ghost use Rattle.std.specs.Prelude.{◌≡◌, ◌++◌, ◌==◌, ◌^◌, ◌||◌, ◌<◌, [], ◌∷◌, not, true, false, max};
+ghost use Rattle.std.specs.List.{filter, fold};
+ghost use Rattle.std.specs.Vec.{vec_len, vec_capacity};
+ghost use Rattle.tx_model.specs.IdLists.{has, Ascending};
+ghost use Rattle.proc_table.specs.Lists.{count_of};
+ghost use Rattle.proc_table.specs.Entries.{IsSame, IsAdded, IsTaken, HasRoomFor};
+
+use snap_core::is_listed;
+use std::alloc::Global;
+use xid_order::FullXid;
+
+/// How many running subids an entry lists in a snapshot (`PGPROC_MAX_CACHED_SUBXIDS`).
+const MOST_LISTED: usize = 64;
+
+/// A running transaction of a session.
+#[derive(Drop)]
+pub struct Entry {
+    pub session: u32,
+    /// Its top-level id.
+    pub top: FullXid,
+    /// The id that it was given last.
+    pub last: FullXid,
+    /// Its open subids, ascending. PostgreSQL's entry keeps 64 of them and asks `pg_subtrans` of the others; here
+    /// they all stay, so that the table alone tells whether an id runs.
+    pub subs: Vec<FullXid>,
+    /// Whether there were once more than 64 of them.
+    pub overflowed: bool,
+}
+
+impl Entry {
+    /// A transaction that was given its top-level id.
+    pub fn of_top(alloc: Global, session: u32, top: FullXid) -> Entry
+        ensures session { result.session ≡ session }
+        ensures top { result.top ≡ top }
+        ensures last { result.last ≡ top }
+        ensures subs { result.subs.items ≡ [] }
+        ensures overflowed { result.overflowed ≡ false }
+    {
+        Entry {
+            session,
+            top,
+            last: top,
+            subs: Vec::new(alloc),
+            overflowed: false,
+        }
+    }
+
+    /// Makes room for one more subid, if it is the entry of this session. False for want of memory.
+    pub fn make_room(&mut self, session: u32) -> bool
+        ensures same { IsSame self.old self.new }
+        ensures room { result ≡ true → HasRoomFor session self.new }
+    {
+        self.session != session || self.subs.reserve(1).is_ok()
+    }
+
+    /// Takes one more subid, if it is the entry of this session.
+    pub fn add(&mut self, session: u32, id: FullXid)
+        requires { HasRoomFor session self.old }
+        ensures { IsAdded session id self.old self.new }
+    {
+        if self.session == session {
+            self.last = id;
+            self.subs.push_reserved(id);
+            if self.subs.len() > MOST_LISTED {
+                self.overflowed = true;
+            }
+        }
+    }
+
+    /// Loses these subids, if it is the entry of this session.
+    pub fn take(&mut self, session: u32, ids: &[FullXid])
+        ensures { IsTaken session ids.now self.old self.new }
+    {
+        if self.session == session {
+            without(&mut self.subs, ids);
+        }
+    }
+
+    /// How many ids it lists.
+    pub fn count(&self, overflowed: bool) -> usize
+        requires { count_of overflowed self.now < 2 ^ 64 }
+        ensures { result ≡ count_of overflowed self.now }
+    {
+        if overflowed { 1 } else { 1 + self.subs.len() }
+    }
+
+    /// Whether the id is the top-level one or among the subids.
+    pub fn has(&self, id: FullXid) -> bool
+        ensures { Ascending self.now.subs.items → result ≡ (id == self.now.top || has self.now.subs.items id) }
+    {
+        id == self.top || is_listed(&self.subs, id)
+    }
+}
+
+/// Whether the id is among these.
+fn has_id(ids: &[FullXid], id: FullXid) -> bool
+    ensures { result ≡ has ids.now id }
+{
+    for x in ids {
+        if id == *x {
+            return true;
+        }
+    }
+    false
+}
+
+fn without(items: &mut Vec<FullXid>, ids: &[FullXid])
+    ensures { items.new.items ≡ filter (λ x. not (has ids.now x)) items.old.items }
+{
+    items.retain(|x| !has_id(ids, *x));
+}
+
+/// The greatest of an id and these.
+pub fn greatest(from: FullXid, ids: &[FullXid]) -> FullXid
+    ensures { result ≡ fold max from ids.now }
+{
+    let mut most = from;
+    for x in ids {
+        if *x > most {
+            most = *x;
+        }
+    }
+    most
+}

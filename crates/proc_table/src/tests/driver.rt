@@ -1,0 +1,125 @@
+ghost use Rattle.std.specs.Prelude.{◌≡◌, ◌<◌, ◌≤◌};
+ghost use Rattle.std.specs.List.{All};
+ghost use Rattle.tx_model.specs.Events.{by_of};
+ghost use Rattle.proc_table.specs.Table.{InTurn};
+
+use crate::{Asked, Given, ProcTable};
+use snap_core::Snapshot;
+use std::process::Abort;
+use tx_model::{By, Counters, Memory, Name, Refusal, is_base};
+use xid_order::{FullMulti, FullXid};
+
+/// From here on commands have one number.
+const MOST_COMMANDS: u64 = 1_000_000;
+
+fn next_command(command: u64) -> u64
+    ensures { command ≤ result }
+{
+    if command < MOST_COMMANDS {
+        command + 1
+    } else {
+        command
+    }
+}
+
+/// A table for three sessions, called with ever higher command numbers and only where the conditions hold.
+#[derive(Drop)]
+pub struct Driver {
+    pub table: ProcTable,
+    pub command: u64,
+    ghost three: { table.sessions ≡ 3 },
+    ghost in_turn: { All (λ f. (by_of f).command ≤ command) table.events },
+}
+
+impl Driver {
+    /// A table of a life that starts with these ids.
+    pub fn new<R: Abort + AllocGlobal>(rt: &R, next: u64, oldest: u64) -> Driver {
+        let multi = FullMulti::new(1).expect(rt, "a multixact id");
+        let base = Counters {
+            next: FullXid::new(next).expect(rt, "a full id"),
+            oldest: FullXid::new(oldest).expect(rt, "a full id"),
+            multi,
+            offset: 1,
+            oldest_multi: multi,
+            oldest_offset: 1,
+        };
+        assert!(rt; is_base(&base));
+        let table = ProcTable::new(rt.alloc(), base, 3).expect(rt, "memory");
+        Driver { table, command: 0 }
+    }
+
+    /// The session's next command.
+    fn by(&mut self, session: u32) -> By
+        ensures session { result.session ≡ session }
+        ensures command { result.command ≡ self.new.command }
+        ensures turn { InTurn result self.new.table.events }
+        ensures table { self.new.table ≡ self.old.table }
+    {
+        let command = next_command(self.command);
+        self.command = command;
+        By { session, command }
+    }
+
+    /// A top-level id, or where the session has one, a subid below it.
+    pub fn write(&mut self, session: u32) -> Result<Given, Refusal>
+        requires { session < 3 }
+    {
+        let by = self.by(session);
+        match self.table.open_top(session) {
+            Some(top) => self.table.add_sub(by, top),
+            None => self.table.assign(by),
+        }
+    }
+
+    /// The pages of the next id are made.
+    pub fn make_page(&mut self) {
+        let next = self.table.next();
+        self.table.made(next);
+    }
+
+    /// The end of the session's transaction, if it has one.
+    pub fn end(&mut self, session: u32, committed: bool)
+        requires { session < 3 }
+    {
+        let by = self.by(session);
+        if let Some(top) = self.table.open_top(session) {
+            self.table.end(by, top, committed);
+        }
+    }
+
+    /// A snapshot under a name that isn't in use.
+    pub fn snap<R: Abort>(&mut self, rt: &R, session: u32, name: &Name) -> Result<Snapshot, Memory>
+        requires { session < 3 }
+    {
+        let by = self.by(session);
+        match self.table.live_xmin(session, name) {
+            Some(_) => panic!(rt; "the name is in use"),
+            None => self.table.snapshot(by, name),
+        }
+    }
+
+    /// The drop of a live snapshot.
+    pub fn drop_snap<R: Abort>(&mut self, rt: &R, session: u32, name: &Name)
+        requires { session < 3 }
+    {
+        let by = self.by(session);
+        match self.table.live_xmin(session, name) {
+            Some(xmin) => self.table.drop_snapshot(by, name, xmin),
+            None => panic!(rt; "there is no such snapshot"),
+        }
+    }
+
+    pub fn raise(&mut self, session: u32, oldest: FullXid) -> Result<(), Refusal>
+        requires { session < 3 }
+    {
+        let by = self.by(session);
+        self.table.raise_oldest(by, oldest)
+    }
+
+    pub fn ask(&mut self, session: u32, x: FullXid) -> Result<Asked, Memory>
+        requires { session < 3 }
+    {
+        let by = self.by(session);
+        self.table.ask(by, x)
+    }
+}

@@ -1,0 +1,159 @@
+-- What a snapshot says of an id is so.
+use Rattle.snap_core.specs.Says.{says_of, says_top_of, IsSaid, IsSaidOfTop, SaysRight, SaysTopRight}
+use Rattle.snap_core.specs.declared.snapshot.Says.{Says}
+use Rattle.std.proofs.Common.{◌≡◌, ℕ, ◌<◌, ◌≤◌, List, [], ◌∷◌, refl, ap, sym, ◌∙◌, arith, Bool, true, false, not, ◌&&◌, ◌==◌, ◌||◌, cond, subst, inl, inr, ⊎_elim, nat_lt, min}
+use Rattle.std.proofs.lemmas.Bool.{false≢true}
+use Rattle.std.proofs.lemmas.Bool.Decides.{nat_tests}
+use Rattle.std.specs.List.{filter, list_any, fold}
+use Rattle.tx_model.proofs.FamilyGrowth.{equal_swap}
+use Rattle.tx_model.proofs.IdListSteps.{ascending_filtered, has-filter}
+use Rattle.tx_model.proofs.LegalSoundness.{root_runs, legal_sound}
+use Rattle.tx_model.proofs.ListSteps.{list_any_agree, or_cases, equal_from}
+use Rattle.tx_model.proofs.Soundness.{IsSound}
+use Rattle.tx_model.specs.Events.{given}
+use Rattle.tx_model.specs.Families.{top, is_top}
+use Rattle.tx_model.specs.History.{IsLegal}
+use Rattle.tx_model.specs.IdLists.{has, Ascending}
+use Rattle.tx_model.specs.Running.{is_open, running, running_tops}
+use Rattle.tx_model.specs.Snapshots.{snapshot_xmax, snapshot_xips, snapshot_subs, is_overflowed, snapshot_data, snapshot_xmin}
+use Rattle.tx_model.specs.declared.event.Event.{Event}
+use Rattle.tx_model.specs.declared.record.Counters.{Counters}
+use Rattle.tx_model.specs.declared.reply.SnapData.{SnapData}
+use Rattle.snap_core.specs.declared.snapshot.Says.TheVariants as says
+
+fold_min_to : (xs : List ℕ) (z : ℕ) → fold min z xs ≤ z
+fold_min_to [] z = omega arith
+fold_min_to (y ∷ xs) z = let h : fold min (min z y) xs ≤ min z y = fold_min_to xs (min z y) in omega arith
+
+fold_min_has : (xs : List ℕ) (z x : ℕ) → has xs x ≡ true → fold min z xs ≤ x
+fold_min_has [] z x h = absurd (false≢true h)
+fold_min_has (y ∷ xs) z x h =
+    ⊎_elim
+    (λ e. let k : x ≡ y = equal_from x y e in let a : fold min (min z y) xs ≤ min z y = fold_min_to xs (min z y) in omega arith)
+    (λ e. fold_min_has xs (min z y) x e)
+    (or_cases (x == y) (has xs x) h)
+
+-- below the limit, the lists hold what is running
+lists_hold : (first : ℕ) (h : List Event) (x : ℕ) → IsSound first h → is_overflowed first h ≡ false → x < snapshot_xmax first h →
+    (has (snapshot_xips first h) x || has (snapshot_subs first h) x) ≡ has (running h) x
+lists_hold first h x s o l =
+    ap (λ b. has (snapshot_xips first h) x || b) (ap (λ b. has (cond b [] (filter (λ y. not (is_top h y) && list_any (λ t. t == top h y) (snapshot_xips first h)) (running h))) x) o
+    ∙ has-filter (λ y. not (is_top h y) && list_any (λ t. t == top h y) (snapshot_xips first h)) (running h) x)
+    ∙ ap (λ b. b || (has (running h) x && (not (is_top h x) && list_any (λ t. t == top h x) (snapshot_xips first h))))
+    (has-filter (λ y. nat_lt y (snapshot_xmax first h)) (running_tops h) x ∙ ap (λ b. has (running_tops h) x && b) (less x (snapshot_xmax first h) l) ∙ ap (λ b. b && true) (has-filter (is_top h) (running h) x))
+    ∙ split (has (running h) x) refl (is_top h x)
+  where
+    less : (a b : ℕ) → a < b → nat_lt a b ≡ true
+    less a b f = grind (arith, nat_tests)
+
+    low : (a b c : ℕ) → a ≤ b → b < c → a < c
+    low a b c f g = omega arith
+
+    root_in : has (running h) x ≡ true → list_any (λ t. t == top h x) (snapshot_xips first h) ≡ true
+    root_in f =
+        let r = root_runs first h x s f in
+        list_any_agree (λ t. t == top h x) (λ t. top h x == t) (λ t. equal_swap t (top h x)) (snapshot_xips first h)
+        ∙ has-filter (λ y. nat_lt y (snapshot_xmax first h)) (running_tops h) (top h x)
+        ∙ ap (λ b. b && nat_lt (top h x) (snapshot_xmax first h)) r.0
+        ∙ less (top h x) (snapshot_xmax first h) (low (top h x) x (snapshot_xmax first h) r.1 l)
+
+    split : (b : Bool) → has (running h) x ≡ b → (c : Bool) → (((b && c) && true) || (b && (not c && list_any (λ t. t == top h x) (snapshot_xips first h)))) ≡ b
+    split true f true = refl
+    split true f false = root_in f
+    split false f true = refl
+    split false f false = refl
+
+-- what is below all running tops isn't running
+below_ended : (first : ℕ) (h : List Event) (x : ℕ) → IsSound first h → x < snapshot_xmin first h → has (running h) x ≡ false
+below_ended first h x s l = split (has (running h) x) refl
+  where
+    split : (b : Bool) → has (running h) x ≡ b → b ≡ false
+    split false f = refl
+    split true f =
+        let r = root_runs first h x s f in
+        let k : snapshot_xmin first h ≤ top h x = fold_min_has (running_tops h) (snapshot_xmax first h) (top h x) r.0 in
+        let u : top h x ≤ x = r.1 in
+        absurd (omega arith)
+
+is_less : (a b : ℕ) → nat_lt a b ≡ true → a < b
+is_less a b f = grind (arith, nat_tests)
+
+not_less : (a b : ℕ) → nat_lt a b ≡ false → b ≤ a
+not_less a b f = grind (arith, nat_tests)
+
+of_data : (first : ℕ) (h : List Event) (x : ℕ) → IsSound first h → IsSaid first h x (says_of (snapshot_data first h) x)
+of_data first h x s = low (nat_lt x (snapshot_xmin first h)) refl
+  where
+    ends : snapshot_xmin first h ≤ snapshot_xmax first h
+    ends = fold_min_to (running_tops h) (snapshot_xmax first h)
+
+    listed : (b : Bool) → (has (snapshot_xips first h) x || has (snapshot_subs first h) x) ≡ b → is_overflowed first h ≡ false → x < snapshot_xmax first h → IsSaid first h x (cond b says.Running says.Ended)
+    listed true e o l = (λ a. false≢true (sym o ∙ a.0), inl (sym (lists_hold first h x s o l) ∙ e))
+    listed false e o l = (λ a. false≢true (sym o ∙ a.0), sym (lists_hold first h x s o l) ∙ e, l)
+
+    over : (b : Bool) → is_overflowed first h ≡ b → snapshot_xmin first h ≤ x → x < snapshot_xmax first h → IsSaid first h x (cond b says.AskParents (cond (has (snapshot_xips first h) x || has (snapshot_subs first h) x) says.Running says.Ended))
+    over true o m l = (o, m, l)
+    over false o m l = listed (has (snapshot_xips first h) x || has (snapshot_subs first h) x) refl o l
+
+    high : (b : Bool) → nat_lt x (snapshot_xmax first h) ≡ b → snapshot_xmin first h ≤ x → IsSaid first h x (cond b (cond (is_overflowed first h) says.AskParents (cond (has (snapshot_xips first h) x || has (snapshot_subs first h) x) says.Running says.Ended)) says.Running)
+    high true e m = over (is_overflowed first h) refl m (is_less x (snapshot_xmax first h) e)
+    high false e m = let k : snapshot_xmax first h ≤ x = not_less x (snapshot_xmax first h) e in ((λ a. let l : x < snapshot_xmax first h = a.2 in omega arith), inr k)
+
+    low : (b : Bool) → nat_lt x (snapshot_xmin first h) ≡ b → IsSaid first h x (cond b says.Ended (cond (nat_lt x (snapshot_xmax first h)) (cond (is_overflowed first h) says.AskParents (cond (has (snapshot_xips first h) x || has (snapshot_subs first h) x) says.Running says.Ended)) says.Running))
+    low true e =
+        let k : x < snapshot_xmin first h = is_less x (snapshot_xmin first h) e in
+        let u : snapshot_xmin first h ≤ snapshot_xmax first h = ends in
+        ((λ a. let l : snapshot_xmin first h ≤ x = a.1 in omega arith), below_ended first h x s k, omega arith)
+    low false e = high (nat_lt x (snapshot_xmax first h)) refl (not_less x (snapshot_xmin first h) e)
+
+top_of_data : (first : ℕ) (h : List Event) (t : ℕ) → IsSound first h → is_top h t ≡ true → IsSaidOfTop first h t (says_top_of (snapshot_data first h) t)
+top_of_data first h t s is_one = low (nat_lt t (snapshot_xmin first h)) refl
+  where
+    ends : snapshot_xmin first h ≤ snapshot_xmax first h
+    ends = fold_min_to (running_tops h) (snapshot_xmax first h)
+
+    and_true : (b : Bool) → (b && true) ≡ b
+    and_true true = refl
+    and_true false = refl
+
+    holds : nat_lt t (snapshot_xmax first h) ≡ true → has (snapshot_xips first h) t ≡ has (running h) t
+    holds e =
+        has-filter (λ y. nat_lt y (snapshot_xmax first h)) (running_tops h) t ∙ ap (λ b. has (running_tops h) t && b) e ∙ and_true (has (running_tops h) t)
+        ∙ has-filter (is_top h) (running h) t ∙ ap (λ b. has (running h) t && b) is_one ∙ and_true (has (running h) t)
+
+    listed : (b : Bool) → has (snapshot_xips first h) t ≡ b → nat_lt t (snapshot_xmax first h) ≡ true → IsSaidOfTop first h t (cond b says.Running says.Ended)
+    listed true e l = inl (sym (holds l) ∙ e)
+    listed false e l = (sym (holds l) ∙ e, is_less t (snapshot_xmax first h) l)
+
+    high : (b : Bool) → nat_lt t (snapshot_xmax first h) ≡ b → IsSaidOfTop first h t (cond b (cond (has (snapshot_xips first h) t) says.Running says.Ended) says.Running)
+    high true e = listed (has (snapshot_xips first h) t) refl e
+    high false e = inr (not_less t (snapshot_xmax first h) e)
+
+    low : (b : Bool) → nat_lt t (snapshot_xmin first h) ≡ b → IsSaidOfTop first h t (cond b says.Ended (cond (nat_lt t (snapshot_xmax first h)) (cond (has (snapshot_xips first h) t) says.Running says.Ended) says.Running))
+    low true e =
+        let k : t < snapshot_xmin first h = is_less t (snapshot_xmin first h) e in
+        let u : snapshot_xmin first h ≤ snapshot_xmax first h = ends in
+        (below_ended first h t s k, omega arith)
+    low false e = high (nat_lt t (snapshot_xmax first h)) refl
+
+-- what the snapshot lists ascends
+pub xips_ascend : (base : Counters) (h : List Event) → IsLegal base h → Ascending (snapshot_xips base.next h)
+xips_ascend base h l =
+    ascending_filtered (λ x. nat_lt x (snapshot_xmax base.next h)) (running_tops h) (ascending_filtered (is_top h) (running h) (ascending_filtered (is_open h) (given h) (legal_sound base h l).ascending))
+
+pub subs_ascend : (base : Counters) (h : List Event) → IsLegal base h → Ascending (snapshot_subs base.next h)
+subs_ascend base h l = one (is_overflowed base.next h)
+  where
+    one : (b : Bool) → Ascending (cond b [] (filter (λ x. not (is_top h x) && list_any (λ t. t == top h x) (snapshot_xips base.next h)) (running h)))
+    one true = tt
+    one false = ascending_filtered (λ x. not (is_top h x) && list_any (λ t. t == top h x) (snapshot_xips base.next h)) (running h) (ascending_filtered (is_open h) (given h) (legal_sound base h l).ascending)
+
+pub says_right : (d : SnapData) (x : ℕ) (r : Says) → (Ascending d.xip → Ascending d.subxip → r ≡ says_of d x) → SaysRight d x r
+says_right d x r f base h l e =
+    let steps : r ≡ says_of d x = f (subst (λ (d : SnapData). Ascending d.xip) (sym e) (xips_ascend base h l)) (subst (λ (d : SnapData). Ascending d.subxip) (sym e) (subs_ascend base h l)) in
+    subst (IsSaid base.next h x) (sym (steps ∙ ap (λ d. says_of d x) e)) (of_data base.next h x (legal_sound base h l))
+
+pub says_top_right : (d : SnapData) (t : ℕ) (r : Says) → (Ascending d.xip → r ≡ says_top_of d t) → SaysTopRight d t r
+says_top_right d t r f base h l e o =
+    let steps : r ≡ says_top_of d t = f (subst (λ (d : SnapData). Ascending d.xip) (sym e) (xips_ascend base h l)) in
+    subst (IsSaidOfTop base.next h t) (sym (steps ∙ ap (λ d. says_top_of d t) e)) (top_of_data base.next h t (legal_sound base h l) o)

@@ -1,0 +1,11 @@
+ghost use Rattle.std.specs.Prelude.{◌≡◌};
+ghost use Rattle.tx_model.specs.IdLists.{has, Ascending};
+
+use xid_order::FullXid;
+
+/// Whether the id is among these, which ascend. At most the logarithm of their number of comparisons.
+pub fn is_listed(ids: &[FullXid], x: FullXid) -> bool
+    ensures { Ascending ids.now → result ≡ has ids.now x }
+{
+    ids.binary_search(&x).is_ok()
+}

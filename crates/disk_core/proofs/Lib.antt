@@ -1,0 +1,9 @@
+pub mod Overlay
+pub mod Mixed
+pub mod MemLogCrash
+pub mod Clock
+pub mod MemPagesCrash
+pub mod TornPages
+pub mod Banks
+pub mod Fused
+pub mod FuseMoves

@@ -1,0 +1,12 @@
+use Rattle.std.proofs.Common.{◌≡◌, ◌++◌, ◌∷◌, [], sym, subst, arith, length-append, length, ◌+◌, ap, ◌∙◌}
+use Rattle.std.specs.List.{All}
+use Rattle.std.proofs.lemmas.List.Elements.{All-push}
+use Rattle.disk_core.specs.MemMediaViews.{IsEmptyBank}
+use Rattle.disk_core.proofs.mem_banks.new_banks.Goals as goal
+
+pub loop-preserved : goal.loop-preserved
+loop-preserved c =
+    let items = c.in_ok-push.ensures.items in
+    let old = c.loop.banks.items in
+    let long : length c.push.new.self.items ≡ c.loop.counter + 1 = ap length items ∙ omega (arith, length-append old (c.new.result ∷ [])) in
+    (long, subst (All IsEmptyBank) (sym items) (All-push IsEmptyBank old c.new.result c.loop.invariant.1 (c.new.ensures.now, c.new.ensures.synced)))

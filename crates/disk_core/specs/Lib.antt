@@ -1,0 +1,14 @@
+pub mod Faults
+pub mod Images
+pub mod Moments
+pub mod Past
+pub mod Volume
+pub mod Pages
+pub mod MemLog
+pub mod MemLogViews
+pub mod MemPages
+pub mod MemPagesViews
+pub mod Media
+pub mod Fuse
+pub mod FuseMedia
+pub mod MemMediaViews

@@ -1,0 +1,24 @@
+-- What a log volume in memory holds, and its moments.
+use Rattle.std.specs.Prelude.{ℕ, List, ◌++◌, take}
+use Rattle.disk_core.specs.Volume.{Volume}
+use Rattle.disk_core.specs.MemLog.{IsOutcome}
+use Rattle.disk_core.specs.Media.{LogCrashed}
+use Rattle.disk_core.specs.declared.mem_log.MemLog.{MemLog}
+use Rattle.disk_core.specs.declared.mem_log.LogMoment.{LogMoment}
+
+abbrev pub written : MemLog → Volume
+written m = record { start = m.start; bytes = m.bytes.items }
+
+abbrev pub synced : MemLog → Volume
+synced m = record { start = m.synced_start; bytes = take m.low m.bytes.items ++ m.tail.items }
+
+-- what a crash at a moment may have left
+abbrev pub log_left : LogMoment → Volume → Type 0
+log_left m = IsOutcome (record { start = m.synced_start; bytes = m.synced }) (record { start = m.start; bytes = m.bytes })
+
+-- this moment, for the account
+abbrev pub log_moment : MemLog → LogMoment
+log_moment m = record { start = m.start; bytes = m.bytes.items; synced_start = m.synced_start; synced = take m.low m.bytes.items ++ m.tail.items }
+
+abbrev pub log_crashed : MemLog → MemLog → Type 0
+log_crashed = LogCrashed (λ m. written m) (λ m. IsOutcome (synced m) (written m)) (λ m. m.faults)

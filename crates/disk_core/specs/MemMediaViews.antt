@@ -1,0 +1,37 @@
+-- What a media in memory holds.
+use Rattle.std.specs.Prelude.{◌≡◌, ℕ, Bool, not, List, None, is_some, IsSomeAnd, All}
+use Rattle.disk_core.specs.Volume.{Volume}
+use Rattle.disk_core.specs.MemLogViews.{written, synced}
+use Rattle.disk_core.specs.MemPagesViews.{pages_now, pages_synced}
+use Rattle.disk_core.specs.Media.{HasBanks}
+use Rattle.disk_core.specs.declared.media.Volumes.{Volumes}
+use Rattle.disk_core.specs.declared.mem_log.MemLog.{MemLog}
+use Rattle.disk_core.specs.declared.mem_pages.MemPages.{MemPages}
+use Rattle.disk_core.specs.declared.mem_media.MemMedia.{MemMedia}
+
+abbrev pub is_new : MemMedia → Bool
+is_new m = not (is_some m.held)
+
+-- what the next mount gives
+abbrev pub gives : MemMedia → Volumes MemLog MemPages → Type 0
+gives m volumes = IsSomeAnd m.held (λ held. volumes ≡ held)
+
+-- what the log has at the first mount
+abbrev pub first_log : MemMedia → List ℕ
+first_log m = m.log.items
+
+abbrev pub is_idle : MemMedia → Bool
+is_idle m = not m.is_mounted
+
+abbrev pub IsEmptyBank : MemPages → Type 0
+IsEmptyBank p = ((q : ℕ) → pages_now p q ≡ None) × ((q : ℕ) → pages_synced p q ≡ None)
+
+-- the volumes of a first mount: this log, all of it synced, and no pages
+pub record IsFirst (log : List ℕ) (banks : ℕ) (volumes : Volumes MemLog MemPages) : Type 0 where
+  pub has : HasBanks banks volumes
+  pub log_written : written volumes.log ≡ record { start = 0; bytes = log }
+  pub log_synced : synced volumes.log ≡ record { start = 0; bytes = log }
+  pub xact : All IsEmptyBank volumes.xact.items
+  pub subtrans : All IsEmptyBank volumes.subtrans.items
+  pub offsets : All IsEmptyBank volumes.offsets.items
+  pub members : All IsEmptyBank volumes.members.items

@@ -1,0 +1,25 @@
+-- What a page volume in memory holds, and its moments.
+use Rattle.std.specs.Ordering.{nat_cmp}
+use Rattle.std.specs.BTreeMap as tree
+use Rattle.disk_core.specs.Pages.{Pages}
+use Rattle.disk_core.specs.MemPages.{AreOutcomes}
+use Rattle.disk_core.specs.Media.{PagesCrashed}
+use Rattle.disk_core.specs.declared.mem_pages.MemPages.{MemPages}
+use Rattle.disk_core.specs.declared.mem_pages.PageMoment.{PageMoment}
+
+abbrev pub pages_now : MemPages → Pages
+pages_now m q = tree.get nat_cmp m.now q
+
+abbrev pub pages_synced : MemPages → Pages
+pages_synced m q = tree.get nat_cmp m.synced q
+
+-- what a crash at a moment may have left
+abbrev pub pages_left : PageMoment → Pages → Type 0
+pages_left m = AreOutcomes (λ q. tree.get nat_cmp m.synced q) (λ q. tree.get nat_cmp m.now q)
+
+-- this moment, for the account
+abbrev pub page_moment : MemPages → PageMoment
+page_moment m = record { now = m.now; synced = m.synced }
+
+abbrev pub pages_crashed : MemPages → MemPages → Type 0
+pages_crashed = PagesCrashed (λ m. pages_now m) (λ m. AreOutcomes (pages_synced m) (pages_now m)) (λ m. m.faults)

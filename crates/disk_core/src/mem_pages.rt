@@ -1,0 +1,253 @@
+// A page volume in memory. A crash leaves of each page what was synced, what was written, or a mixture.
+ghost use Rattle.std.specs.Prelude.{◌≡◌, ◌⊎◌, ◌≤◌, ◌<◌, ◌^◌, ℕ, Some, None, IfOk, OnOk, OnErr, is_some, replicate, false, IsNone, IsSome, IfSome, IfNone};
+ghost use Rattle.std.specs.Ordering.{nat_cmp};
+ghost use Rattle.std.specs.BTreeMap as tree;
+ghost use Rattle.disk_core.specs.Faults.{CountsFault};
+ghost use Rattle.disk_core.specs.MemLog.{mixed_bytes};
+ghost use Rattle.disk_core.specs.MemPages.{bytes_or_none, mixed_page};
+ghost use Rattle.disk_core.specs.Pages.{HasPage, LacksPage, zero_page, IsPageRead, IsNextPage};
+
+use crate::mem_log::count;
+use crate::note::Note;
+use crate::page_bytes::PageBytes;
+use crate::{Crash, Failed, PageDisk};
+use std::alloc::{AllocError, Global};
+use std::collections::{BTreeMap, LinkedList};
+
+type Map = BTreeMap<u32, PageBytes>;
+
+// What a page volume in memory held at a moment.
+pub struct PageMoment {
+    pub now: BTreeMap<u32, PageBytes>,
+    pub synced: BTreeMap<u32, PageBytes>,
+}
+
+#[derive(Drop)]
+pub struct MemPages {
+    alloc: Global,
+    now: BTreeMap<u32, PageBytes>,
+    synced: BTreeMap<u32, PageBytes>,
+    faults: u64,
+    past: Note<LinkedList<PageMoment>>,
+}
+
+#[tactic(auto, unfolding(crate::specs::Pages::zero_page))]
+fn clear(into: &mut [u8; 8192])
+    ensures { into.new ≡ zero_page }
+{
+    *into = [0; 8192];
+}
+
+fn put_page(alloc: Global, map: &mut Map, page: u32, from: &[u8; 8192]) -> Result<(), AllocError>
+    ensures ok { OnOk result (HasPage page from.now (λ q. tree.get nat_cmp map.old q) (λ q. tree.get nat_cmp map.new q)) }
+    ensures err { OnErr result ((q : ℕ) → tree.get nat_cmp map.new q ≡ tree.get nat_cmp map.old q) }
+{
+    let bytes = PageBytes::new(alloc, from)?;
+    map.insert(page, bytes)?;
+    Ok(())
+}
+
+fn remove_page(map: &mut Map, page: u32)
+    ensures { LacksPage page (λ q. tree.get nat_cmp map.old q) (λ q. tree.get nat_cmp map.new q) }
+{
+    map.remove(&page);
+}
+
+fn keep_pages(copy: &mut Map, map: &Map) -> Result<(), AllocError>
+    ensures ok { OnOk result ((q : ℕ) → tree.get nat_cmp copy.new q ≡ tree.get nat_cmp map.now q) }
+    ensures err { OnErr result ((q : ℕ) → tree.get nat_cmp copy.new q ≡ tree.get nat_cmp copy.old q) }
+{
+    *copy = map.clone()?;
+    Ok(())
+}
+
+fn keep_all(copy: &mut Map, map: &Map, faults: &mut u64) -> Result<(), Failed>
+    ensures ok { OnOk result ((q : ℕ) → tree.get nat_cmp copy.new q ≡ tree.get nat_cmp map.now q) }
+    ensures err { OnErr result ((q : ℕ) → tree.get nat_cmp copy.new q ≡ tree.get nat_cmp copy.old q) }
+    ensures cause { CountsFault result faults.old faults.new }
+{
+    let outcome = keep_pages(copy, map);
+    count(outcome, faults)
+}
+
+// The least present page from a place on.
+fn page_from(map: &Map, low: u32) -> Option<u32>
+    ensures none { IfNone result ((r : ℕ) → low ≤ r → tree.get nat_cmp map.now r ≡ None) }
+    ensures within { IfSome result (λ q. low ≤ q) }
+    ensures present { IfSome result (λ q. IsSome (tree.get nat_cmp map.now q)) }
+    ensures least { IfSome result (λ q. (r : ℕ) → low ≤ r → IsSome (tree.get nat_cmp map.now r) → q ≤ r) }
+{
+    match map.range(low..).next() {
+        Some((key, _)) => Some(*key),
+        None => None,
+    }
+}
+
+fn next_page(map: &Map, page: Option<u32>) -> Option<u32>
+    ensures { IsNextPage (λ q. tree.get nat_cmp map.now q) page result }
+{
+    match page {
+        None => page_from(map, 0),
+        Some(u32::MAX) => None,
+        Some(p) => page_from(map, p + 1),
+    }
+}
+
+fn read_from(map: &Map, page: u32, into: &mut [u8; 8192]) -> bool
+    ensures { IsPageRead result (tree.get nat_cmp map.now page) into.new }
+{
+    match map.get(&page) {
+        Some(bytes) => {
+            bytes.read(into);
+            true
+        }
+        None => {
+            clear(into);
+            false
+        }
+    }
+}
+
+// A page torn over what was synced of it.
+fn tear_page(synced: &Map, page: u32, bytes: &mut PageBytes)
+    ensures { bytes.new ≡ mixed_bytes false (bytes_or_none (tree.get nat_cmp synced.now page)) bytes.old }
+{
+    match synced.get(&page) {
+        Some(old) => bytes.tear(old.bytes()),
+        None => bytes.tear(&[]),
+    }
+}
+
+fn add_page(map: &mut Map, page: u32, bytes: PageBytes) -> Result<(), AllocError>
+    ensures { OnOk result (HasPage page bytes (λ q. tree.get nat_cmp map.old q) (λ q. tree.get nat_cmp map.new q)) }
+{
+    map.insert(page, bytes)?;
+    Ok(())
+}
+
+// What a torn crash leaves of each page.
+fn torn_pages(alloc: Global, synced: &Map, now: &Map) -> Result<Map, AllocError>
+    ensures { IfOk result (λ torn. (q : ℕ) → tree.get nat_cmp torn q ≡ mixed_page (tree.get nat_cmp synced.now q) (tree.get nat_cmp now.now q)) }
+{
+    let mut torn = BTreeMap::new(alloc);
+    let mut rest = now.clone()?;
+    while let Some((page, mut bytes)) = rest.pop_first() {
+        tear_page(synced, page, &mut bytes);
+        add_page(&mut torn, page, bytes)?;
+    }
+    Ok(torn)
+}
+
+fn tear_all(alloc: Global, now: &mut Map, synced: &Map, faults: &mut u64) -> Result<(), Failed>
+    ensures ok { OnOk result ((q : ℕ) → tree.get nat_cmp now.new q ≡ mixed_page (tree.get nat_cmp synced.now q) (tree.get nat_cmp now.old q)) }
+    ensures err { OnErr result ((q : ℕ) → tree.get nat_cmp now.new q ≡ tree.get nat_cmp now.old q) }
+    ensures cause { CountsFault result faults.old faults.new }
+{
+    let torn = torn_pages(alloc, synced, now);
+    match torn {
+        Ok(torn) => {
+            *now = torn;
+            Ok(())
+        }
+        Err(e) => count(Err(e), faults),
+    }
+}
+
+impl PageDisk for MemPages {
+    ghost use Rattle.std.specs.Prelude.{◌≡◌, ◌⊎◌, true, refl, length};
+    ghost use Rattle.std.proofs.Common.{inl};
+    ghost use Rattle.disk_core.specs.Past.{LeftAt, is_now, only_now};
+    ghost use Rattle.disk_core.specs.MemPages.{AreOutcomes};
+    ghost use Rattle.disk_core.specs.MemPagesViews.{pages_now, pages_synced, pages_left};
+
+    ghost tells = { true };
+
+    ghost pages = { λ m. pages_now m };
+
+    ghost images = { λ m. AreOutcomes (pages_synced m) (pages_now m) };
+
+    ghost moment = { λ m. length m.past.value };
+
+    ghost left_at = { λ m t. LeftAt pages_left m.past.value (AreOutcomes (pages_synced m) (pages_now m)) t };
+
+    ghost faults = { λ m. m.faults };
+
+    ghost reads_image = { λ m told q. inl refl };
+
+    ghost counts_now = { λ m c told now. is_now pages_left m.past.value (AreOutcomes (pages_synced m) (pages_now m)) c now };
+
+    ghost only_now = { λ m c told now. only_now pages_left m.past.value (AreOutcomes (pages_synced m) (pages_now m)) c now };
+
+    fn read_page(&mut self, page: u32, into: &mut [u8; 8192]) -> Result<bool, Failed> {
+        Ok(read_from(&self.now, page, into))
+    }
+
+    fn write_page(&mut self, page: u32, from: &[u8; 8192]) -> Result<(), Failed> {
+        let past = Note::by(&*self);
+        let outcome = put_page(self.alloc, &mut self.now, page, from);
+        self.past = past;
+        count(outcome, &mut self.faults)
+    }
+
+    fn remove(&mut self, page: u32) -> Result<(), Failed> {
+        let past = Note::by(&*self);
+        remove_page(&mut self.now, page);
+        self.past = past;
+        Ok(())
+    }
+
+    fn after(&mut self, page: Option<u32>) -> Result<Option<u32>, Failed> {
+        Ok(next_page(&self.now, page))
+    }
+
+    fn sync(&mut self) -> Result<(), Failed> {
+        let past = Note::by(&*self);
+        self.past = past;
+        keep_all(&mut self.synced, &self.now, &mut self.faults)
+    }
+}
+
+impl MemPages {
+    ghost use Rattle.std.specs.Prelude.{◌≡◌, ℕ};
+    ghost use Rattle.disk_core.specs.MemPages.{page_outcome_of};
+    ghost use Rattle.disk_core.specs.MemPagesViews.{pages_now, pages_synced, pages_crashed};
+
+    /// A volume without pages.
+    pub fn new(alloc: Global) -> MemPages
+        ensures now { (q : ℕ) → pages_now result q ≡ None }
+        ensures synced { (q : ℕ) → pages_synced result q ≡ None }
+    {
+        let past = Note::by(&alloc);
+        MemPages {
+            alloc,
+            now: BTreeMap::new(alloc),
+            synced: BTreeMap::new(alloc),
+            faults: 0,
+            past,
+        }
+    }
+
+    fn fall_back(&mut self, how: Crash) -> Result<(), Failed>
+        ensures now { OnOk result ((q : ℕ) → pages_now self.new q ≡ page_outcome_of how (pages_synced self.old q) (pages_now self.old q)) }
+        ensures synced { OnOk result ((q : ℕ) → pages_synced self.new q ≡ pages_now self.new q) }
+        ensures cause { CountsFault result self.old.faults self.new.faults }
+    {
+        match how {
+            Crash::Lost => keep_all(&mut self.now, &self.synced, &mut self.faults),
+            Crash::Kept => keep_all(&mut self.synced, &self.now, &mut self.faults),
+            Crash::Torn => {
+                tear_all(self.alloc, &mut self.now, &self.synced, &mut self.faults)?;
+                keep_all(&mut self.synced, &self.now, &mut self.faults)
+            }
+        }
+    }
+
+    /// What a crash makes of it. It fails only for want of memory.
+    pub fn crash(&mut self, how: Crash) -> Result<(), Failed>
+        ensures now { OnOk result ((q : ℕ) → pages_now self.new q ≡ page_outcome_of how (pages_synced self.old q) (pages_now self.old q)) }
+        ensures crashed { OnOk result (pages_crashed self.old self.new) }
+        ensures cause { CountsFault result self.old.faults self.new.faults }
+    {
+        self.fall_back(how)
+    }
+}

@@ -1,0 +1,5 @@
+use Rattle.std.proofs.Common.{◌≡◌, ◌≤◌, vec_len, vec_capacity}
+use Rattle.hall_bench.proofs.turns.by_mutexes.Given as goal
+
+abbrev pub invariant-loop : goal.invariant-loop
+invariant-loop g l = (vec_len l.mutexes ≡ l.counter) × (l.plan.locks ≤ vec_capacity l.mutexes)

@@ -1,0 +1,35 @@
+-- A law that asks for nothing, and a pass that goes through many critical sections.
+use Rattle.std.specs.Prelude.{◌≡◌, ℕ, ◌+◌, ◌<◌, ◌++◌, List, [], ◌∷◌, length, slice_set, replicate}
+use Rattle.hall.specs.declared.writer.Writer.{Writer}
+use Rattle.hall.specs.declared.writer.Writer.TheVariants.{Lock}
+use Rattle.hall.specs.declared.view.Opening.{Opening}
+use Rattle.hall.specs.declared.view.View.{View}
+use Rattle.hall.specs.declared.view.Stage.TheVariants.{Free}
+use Rattle.hall.specs.Lists.{at, Knows, Whole}
+use Rattle.hall_bench.specs.declared.turns.Turn.{Turn}
+
+-- the session of an entry
+abbrev pub by : Turn → ℕ
+by e = e.by
+
+-- there are no words
+abbrev pub writes : ℕ → Writer
+writes q = Lock q
+
+-- nothing is asked of any history
+abbrev pub Anything : List (List Turn) → Type 0
+Anything ls = Unit {0}
+
+-- so each entry keeps it
+pub keeps : (start : Unit {0}) (ls seen : List (List Turn)) (q : ℕ) (e : Turn) → Anything ls → Knows by writes (by e) seen ls → q < length ls → Whole writes (writes q) seen ls → Unit {0} → Anything (slice_set ls q (at ls q ++ e ∷ []))
+keeps start ls seen q e k n lt w m = tt
+
+-- empty histories, and five names
+abbrev pub opening : ℕ → Opening (Unit {0}) Turn
+opening locks = record { start = tt; lists = replicate locks []; passes = 5 }
+
+-- the pass took this many tickets, and is free again
+pub record Took (turns : ℕ) (v w : View (Unit {0}) Turn) : Type 0 where
+  pub stage : w.stage ≡ Free
+  pub holds : w.holds ≡ v.holds
+  pub draws : w.draws + turns ≡ v.draws

@@ -1,0 +1,3 @@
+pub mod MemberPlaces
+pub mod Changes
+pub mod Slots

@@ -1,0 +1,6 @@
+pub mod ManyStates
+pub mod Mask
+pub mod OneState
+pub mod RunLemmas
+pub mod TrimBits
+pub mod TrimLemmas

@@ -1,0 +1,13 @@
+use Rattle.std.proofs.Common.{◌≡◌, ◌≤◌, ◌<◌, ◌+◌, ◌-◌, ℕ, length, drop}
+use Rattle.pg_xact_log.specs.Plan.{runs}
+use Rattle.pg_xact_log.proofs.plan.count_runs.Given as goal
+
+abbrev pub invariant-loop-first : goal.invariant-loop-first
+invariant-loop-first l = record {
+  within : l.first ≤ length l.subs;
+  few : l.count ≤ l.first;
+  counted : l.count + length (runs l.first (drop l.first l.subs)) ≡ length (runs l.from (drop l.from l.subs));
+}
+
+abbrev pub decreases-loop-first : goal.decreases-loop-first
+decreases-loop-first l = length l.subs - l.first

@@ -1,0 +1,9 @@
+/// What the commit log holds of a transaction (`XidStatus`).
+#[derive(Clone, Copy, Debug, PartialEq, Eq)]
+pub enum State {
+    InProgress,
+    Committed,
+    Aborted,
+    /// Counts as committed exactly where the parent did commit.
+    SubCommitted,
+}

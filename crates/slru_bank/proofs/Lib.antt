@@ -1,0 +1,4 @@
+pub mod BufferLists
+pub mod NumberBytes
+pub mod RemovalLists
+pub mod ZeroBytes

@@ -1,0 +1,4 @@
+pub mod Bank
+pub mod ByteRange
+pub mod Crash
+pub mod Removal

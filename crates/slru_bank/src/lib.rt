@@ -1,0 +1,18 @@
+//! Page buffers over a volume: a bank is a map from pages to 8192 bytes, whatever was evicted. After PostgreSQL's
+//! `src/backend/access/transam/slru.c`.
+#![tactic(auto)]
+
+mod bank;
+mod buffer;
+mod buffers;
+mod numbers;
+mod page_rule;
+mod refusal;
+mod removal;
+#[cfg(test)]
+mod tests;
+
+pub use bank::SlruBank;
+pub use numbers::{put_number, read_number};
+pub use page_rule::PageRule;
+pub use refusal::BankRefusal;

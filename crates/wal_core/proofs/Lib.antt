@@ -1,0 +1,13 @@
+pub mod Loop
+pub mod Fields
+pub mod Records
+pub mod ReadLemmas
+pub mod Gates
+pub mod Steps
+pub mod Walks
+pub mod Flush
+pub mod BaseTests
+pub mod Counts
+pub mod Bodies
+pub mod Scanning
+pub mod News

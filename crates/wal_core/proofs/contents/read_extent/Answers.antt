@@ -1,0 +1,9 @@
+use Rattle.std.proofs.Common.{Ok, sym, ◌∙◌, arith}
+use Rattle.wal_core.proofs.News.{opens_short}
+use Rattle.wal_core.proofs.contents.read_extent.Goals as goal
+
+pub returns-then-extent-le1-clause-read : goal.returns-then-extent-le1-clause-read
+returns-then-extent-le1-clause-read g c told =
+    let v = g.D.LogDisk.reads c.args.disk.now in
+    opens_short v (omega (arith, c.requires.start told)) (omega (arith, c.requires.length told))
+    ∙ (λ i. Ok (record { history = sym c.no_records.ensures.history i; gate = sym c.no_records.ensures.gate i }))

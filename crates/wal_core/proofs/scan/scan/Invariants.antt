@@ -1,0 +1,15 @@
+use Rattle.std.proofs.Common.{◌≡◌, ◌+◌, length, None}
+use Rattle.wal_core.specs.Past.{history_so_far}
+use Rattle.wal_core.specs.Opening.{opened_bytes}
+use Rattle.wal_core.proofs.Scanning.{scanning}
+use Rattle.wal_core.proofs.scan.scan.Given as goal
+
+abbrev pub invariant-loop-after : goal.invariant-loop-after
+invariant-loop-after l = record {
+  sum : l.at + length l.rest ≡ l.start + length l.bytes;
+  so_far : scanning l.start (length l.rest + 1) l.at (history_so_far l.past) l.rest ≡ opened_bytes l.start l.bytes;
+  begins : history_so_far l.past ≡ None → l.at ≡ l.start;
+}
+
+abbrev pub decreases-loop-after : goal.decreases-loop-after
+decreases-loop-after l = length l.rest

@@ -1,0 +1,81 @@
+use Rattle.std.proofs.Common.{◌≡◌, inl, refl, ℕ, ◌+◌, ◌<◌, List, [], ◌∷◌, ◌++◌, length, drop, sym, ◌∙◌, ap, subst, arith}
+use Rattle.std.specs.Prelude.{IsTrue, true}
+use Rattle.std.proofs.lemmas.List.{drop_all, length-drop}
+use Rattle.tx_model.specs.declared.record.Rec.{Rec}
+use Rattle.disk_core.specs.Volume.{Volume}
+use Rattle.disk_core.specs.Moments.{started, leaves_weaker}
+use Rattle.wal_core.specs.Opening.{walked, AtRest, body_in}
+use Rattle.wal_core.specs.Crash.{IsFromImage}
+use Rattle.wal_core.specs.Log.{bytes_of, are_lawful, IsReady, OpensFromImage}
+use Rattle.wal_core.proofs.Gates.{length-behind}
+use Rattle.wal_core.proofs.Flush.{is_behind, long_behind, body_of_next, opens_from, ready_again, nothing_next}
+use Rattle.wal_core.proofs.wal_log.WalLog.flush.Goals as goal
+
+pub returns-then-self-count-clause-any_moment : goal.returns-then-self-count-clause-any_moment
+returns-then-self-count-clause-any_moment g c told up =
+    let d = g.D.LogDisk in let s = c.args.self.now in
+    started d.moment d.left_at s.disk (OpensFromImage (d.images s.disk) s.gate (drop s.flushed s.recs)) (λ x left. (x, g.met.D.LogDisk.only_now s.disk x told left, inl refl))
+
+pub write_batch-requires-clause-behind : goal.write_batch-requires-clause-behind
+write_batch-requires-clause-behind g c = is_behind c.deref.result.now c.args.self.now.behind.items (drop c.args.self.now.flushed c.args.self.now.recs) c.deref.ensures.value c.args.self.now.next_batch
+
+pub clear-requires : goal.clear-requires
+clear-requires g c = omega (arith, long_behind c.args.self.now.behind.items (drop c.args.self.now.flushed c.args.self.now.recs) c.args.self.now.next_batch)
+
+pub returns-in-Ok-clause-any_moment : goal.returns-in-Ok-clause-any_moment
+returns-in-Ok-clause-any_moment g c told up =
+    let d = g.D.LogDisk in let s = c.args.self.now in let pending : List Rec = drop s.flushed s.recs in let body : List ℕ = body_in c.deref.result.now in
+    let some : 0 < length pending = omega (arith, s.counts, c.if-self-count.false, ap length c.items.ensures, length-drop s.flushed s.recs) in
+    let is : body ≡ bytes_of pending = ap body_in c.deref.ensures.value ∙ body_of_next s.behind.items pending s.next_batch in
+    leaves_weaker d.moment d.left_at s.disk c.write_batch.new.disk (IsFromImage (d.images s.disk) s.gate body) (OpensFromImage (d.images s.disk) s.gate pending) (c.write_batch.ensures.any_moment told)
+    (opens_from s.gate pending s.counters (s.from + length s.recs) some (d.images s.disk) (s.ready told up) body is)
+
+pub returns-in-Ok-clause-left : goal.returns-in-Ok-clause-left
+returns-in-Ok-clause-left g c told up x left =
+    let d = g.D.LogDisk in let s = c.args.self.now in let pending : List Rec = drop s.flushed s.recs in let body : List ℕ = body_in c.deref.result.now in
+    let some : 0 < length pending = omega (arith, s.counts, c.if-self-count.false, ap length c.items.ensures, length-drop s.flushed s.recs) in
+    let is : body ≡ bytes_of pending = ap body_in c.deref.ensures.value ∙ body_of_next s.behind.items pending s.next_batch in
+    opens_from s.gate pending s.counters (s.from + length s.recs) some (d.images s.disk) (s.ready told up) body is x (c.write_batch.ensures.left told x left)
+
+pub returns-in-Err-clause-any_moment : goal.returns-in-Err-clause-any_moment
+returns-in-Err-clause-any_moment g c told up =
+    let d = g.D.LogDisk in let s = c.args.self.now in let pending : List Rec = drop s.flushed s.recs in let body : List ℕ = body_in c.deref.result.now in
+    let some : 0 < length pending = omega (arith, s.counts, c.if-self-count.false, ap length c.items.ensures, length-drop s.flushed s.recs) in
+    let is : body ≡ bytes_of pending = ap body_in c.deref.ensures.value ∙ body_of_next s.behind.items pending s.next_batch in
+    leaves_weaker d.moment d.left_at s.disk c.write_batch.new.disk (IsFromImage (d.images s.disk) s.gate body) (OpensFromImage (d.images s.disk) s.gate pending) (c.write_batch.ensures.any_moment told)
+    (opens_from s.gate pending s.counters (s.from + length s.recs) some (d.images s.disk) (s.ready told up) body is)
+
+pub returns-in-Err-clause-left : goal.returns-in-Err-clause-left
+returns-in-Err-clause-left g c told up x left =
+    let d = g.D.LogDisk in let s = c.args.self.now in let pending : List Rec = drop s.flushed s.recs in let body : List ℕ = body_in c.deref.result.now in
+    let some : 0 < length pending = omega (arith, s.counts, c.if-self-count.false, ap length c.items.ensures, length-drop s.flushed s.recs) in
+    let is : body ≡ bytes_of pending = ap body_in c.deref.ensures.value ∙ body_of_next s.behind.items pending s.next_batch in
+    opens_from s.gate pending s.counters (s.from + length s.recs) some (d.images s.disk) (s.ready told up) body is x (c.write_batch.ensures.left told x left)
+
+pub invariant_of-self-in-Ok-clause-numbers : goal.invariant_of-self-in-Ok-clause-numbers
+invariant_of-self-in-Ok-clause-numbers g c =
+    let s = c.args.self.now in
+    omega (arith, s.numbers, c.len.ensures, ap length c.clear.ensures, length-behind [])
+
+pub invariant_of-self-in-Ok-clause-next_batch : goal.invariant_of-self-in-Ok-clause-next_batch
+invariant_of-self-in-Ok-clause-next_batch g c =
+    nothing_next c.clear.new.behind.items (drop (length c.items.result.now) c.args.self.now.recs) (drop_all (length c.items.result.now) c.args.self.now.recs (omega (arith, ap length c.items.ensures))) c.clear.ensures
+
+pub invariant_of-self-in-Ok-clause-lawful : goal.invariant_of-self-in-Ok-clause-lawful
+invariant_of-self-in-Ok-clause-lawful g c =
+    let s = c.args.self.now in
+    ap are_lawful (drop_all (length c.items.result.now) s.recs (omega (arith, ap length c.items.ensures)))
+
+pub invariant_of-self-in-Ok-clause-ready : goal.invariant_of-self-in-Ok-clause-ready
+invariant_of-self-in-Ok-clause-ready g c told up x left =
+    let d = g.D.LogDisk in let s = c.args.self.now in let pending : List Rec = drop s.flushed s.recs in let body : List ℕ = body_in c.deref.result.now in
+    let v : Volume = d.reads s.disk in let w : Volume = d.reads c.write_batch.new.disk in
+    let some : 0 < length pending = omega (arith, s.counts, c.if-self-count.false, ap length c.items.ensures, length-drop s.flushed s.recs) in
+    let is : body ≡ bytes_of pending = ap body_in c.deref.ensures.value ∙ body_of_next s.behind.items pending s.next_batch in
+    let long : length c.deref.result.now ≡ 5 + length (bytes_of pending) = ap length c.deref.ensures.value ∙ long_behind s.behind.items pending s.next_batch in
+    let there : AtRest w ((walked v).bodies ++ body ∷ []) (s.gate + c.len.result) =
+    subst (λ (k : ℕ). AtRest w ((walked v).bodies ++ body ∷ []) (s.gate + k)) (c.deref.ensures.len ∙ sym c.len.ensures) (c.in-Ok.ensures.written told) in
+    let left_2 : List Rec = drop (length c.items.result.now) s.recs in
+    let ready = ready_again s.gate pending s.counters (s.from + length s.recs) some v (s.ready told up v (g.met.D.LogDisk.reads_image s.disk told)) w body (s.gate + c.len.result) left_2 is
+    (ap (λ (k : ℕ). s.gate + k) (c.len.ensures ∙ sym c.deref.ensures.len ∙ long)) there (drop_all (length c.items.result.now) s.recs (omega (arith, ap length c.items.ensures))) in
+    subst (λ (y : Volume). IsReady (s.gate + c.len.result) left_2 s.counters (s.from + length s.recs) y) (sym (c.in-Ok.ensures.synced told x left)) ready

@@ -1,0 +1,11 @@
+pub mod Numbers
+pub mod Spelling
+pub mod Reading
+pub mod ReadRec
+pub mod BaseTest
+pub mod Opening
+pub mod Crash
+pub mod Log
+pub mod LogViews
+pub mod Past
+pub mod Contents

@@ -1,0 +1,27 @@
+-- What was read of a log so far, as a history.
+use Rattle.std.specs.Prelude.{◌≡◌, ℕ, nat_lt, cond, List, [], ◌∷◌, Option, Some, None, Result, Ok, Err}
+use Rattle.tx_model.specs.declared.record.Rec.{Rec}
+use Rattle.wal_core.specs.declared.stop.Stop.{Stop}
+use Rattle.wal_core.specs.declared.past.Past.{Past}
+use Rattle.wal_core.specs.Reading.{◌>>=◌, Stops}
+use Rattle.wal_core.specs.Opening.{History, first_number, began, joined, recs_in}
+
+abbrev pub past_history : Past → History
+past_history p = record { first = p.first; recs = p.recs; counters = p.counters }
+
+abbrev pub history_so_far : Option Past → Option History
+history_so_far None = None
+history_so_far (Some p) = Some (past_history p)
+
+-- so many bytes as records, joined to a history
+abbrev pub joins : ℕ → List ℕ → History → Option History
+joins n bytes h = recs_in n bytes >>= joined h
+
+-- a history that begins with this record, behind this gate
+abbrev pub begun : ℕ → Rec → Option History
+begun at r = first_number (r ∷ []) >>= λ number. cond (nat_lt at number) None (joined (began number) (r ∷ []))
+
+-- what a function returned is this history, unless memory ran out
+abbrev pub GivesPast : Result Past Stop → Option History → Type 0
+GivesPast (Ok p) read = read ≡ Some (past_history p)
+GivesPast (Err e) read = Stops e read

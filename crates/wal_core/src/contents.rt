@@ -1,0 +1,147 @@
+// What a log volume has.
+ghost use Rattle.std.specs.Prelude.{◌≡◌, ◌≢◌, ◌-◌, ◌+◌, ◌<◌, ◌≤◌, ◌^◌, ℕ, length, drop, IsTrue, OnOk, IfOk, Ok, Err, None, ◌⊎◌, true, false};
+ghost use Rattle.disk_core.specs.Faults.{HasRisen};
+ghost use Rattle.disk_core.specs.Images.{Only, NoMore};
+ghost use Rattle.disk_core.specs.Volume.{Volume};
+ghost use Rattle.wal_core.specs.declared.refusal.LogRefusal.TheVariants.{Damaged, LogFault, LogDown, Full};
+ghost use Rattle.wal_core.specs.Opening.{opened, BeginsOpen};
+ghost use Rattle.wal_core.specs.Contents.{history_of};
+
+use crate::refusal::LogRefusal;
+use crate::scan::{Found, behind_open, scan};
+use disk_core::{Extent, Failed, LogDisk};
+use std::alloc::{AllocError, Global};
+use tx_model::{Counters, RecList};
+
+/// The records of a log volume, the number of the first, the counters after them, and the place of the next gate.
+/// A new log has none of them.
+#[derive(Drop)]
+pub struct LogContents {
+    pub recs: RecList,
+    pub first: u64,
+    pub counters: Option<Counters>,
+    pub gate: u64,
+}
+
+fn no_records(alloc: Global) -> LogContents
+    ensures history { history_of result ≡ None }
+    ensures gate { result.gate ≡ 0 }
+{
+    LogContents {
+        recs: RecList::new(alloc),
+        first: 0,
+        counters: None,
+        gate: 0,
+    }
+}
+
+fn zeros(alloc: Global, count: usize) -> Result<Vec<u8>, AllocError>
+    ensures { IfOk result (λ v. length v.items ≡ count) }
+{
+    let mut bytes = Vec::new(alloc);
+    bytes.resize(count, 0)?;
+    Ok(bytes)
+}
+
+// All bytes from the start on.
+fn read_all<D: LogDisk>(alloc: Global, disk: &mut D, extent: Extent) -> Result<Vec<u8>, LogRefusal>
+    requires start { IsTrue D.tells → extent.start ≡ (D.reads disk.old).start }
+    requires length { IsTrue D.tells → extent.length ≡ length (D.reads disk.old).bytes }
+    ensures bytes { IsTrue D.tells → IfOk result (λ v. v.items ≡ drop (D.reads disk.old).start (D.reads disk.old).bytes) }
+    ensures within { IfOk result (λ v. length v.items ≤ extent.length - extent.start) }
+    ensures same { IsTrue D.tells → D.reads disk.new ≡ D.reads disk.old }
+    ensures crash { IsTrue D.tells → NoMore (D.images disk.old) (D.images disk.new) }
+    ensures count { D.faults disk.old ≤ D.faults disk.new }
+    ensures fault { result ≡ Err LogFault → HasRisen (D.faults disk.old) (D.faults disk.new) }
+    ensures others { (result ≢ Err Full) × (((at : ℕ) → result ≢ Err (LogDown at)) × ((at : ℕ) → result ≢ Err (Damaged at))) }
+{
+    let count = extent.length.saturating_sub(extent.start) as usize;
+    let Ok(mut bytes) = zeros(alloc, count) else {
+        return Err(LogRefusal::Memory);
+    };
+    let Ok(read) = disk.read(extent.start, &mut bytes) else {
+        return Err(LogRefusal::LogFault);
+    };
+    bytes.truncate(read);
+    Ok(bytes)
+}
+
+// Whether nothing was ever acknowledged on a volume with these bytes.
+fn is_unwritten(start: u64, bytes: &[u8]) -> bool
+    ensures unwritten { result ≡ true → (start ≡ 0) × ((length bytes.now ≤ 1) ⊎ (BeginsOpen bytes.now → ⊥)) }
+    ensures written { result ≡ false → (start ≢ 0) ⊎ ((1 < length bytes.now) × BeginsOpen bytes.now) }
+{
+    if start != 0 {
+        return false;
+    }
+    match behind_open(bytes) {
+        Some(after) => after.is_empty(),
+        None => true,
+    }
+}
+
+// The bytes of a volume from its start on.
+fn contents(alloc: Global, start: u64, bytes: &[u8]) -> Result<LogContents, LogRefusal>
+    requires { start + length bytes.now < 2 ^ 64 }
+    ensures found { (v : Volume) → v.start ≡ start → drop v.start v.bytes ≡ bytes.now → IfOk result (λ found. opened v ≡ Ok (record { history = history_of found; gate = found.gate })) }
+    ensures damaged { (v : Volume) (at : ℕ) → v.start ≡ start → drop v.start v.bytes ≡ bytes.now → result ≡ Err (Damaged at) → opened v ≡ Err at }
+    ensures others { (result ≢ Err LogFault) × ((result ≢ Err Full) × ((at : ℕ) → result ≢ Err (LogDown at))) }
+{
+    if is_unwritten(start, bytes) {
+        return Ok(no_records(alloc));
+    }
+    match scan(alloc, start, bytes) {
+        Ok(Found { past, gate }) => Ok(LogContents {
+            recs: past.recs,
+            first: past.first,
+            counters: Some(past.counters),
+            gate,
+        }),
+        Err(refusal) => Err(refusal),
+    }
+}
+
+fn read_extent<D: LogDisk>(
+    alloc: Global,
+    disk: &mut D,
+    extent: Extent,
+) -> Result<LogContents, LogRefusal>
+    requires start { IsTrue D.tells → extent.start ≡ (D.reads disk.old).start }
+    requires length { IsTrue D.tells → extent.length ≡ length (D.reads disk.old).bytes }
+    ensures read { IsTrue D.tells → IfOk result (λ found. opened (D.reads disk.old) ≡ Ok (record { history = history_of found; gate = found.gate })) }
+    ensures damaged { IsTrue D.tells → (at : ℕ) → result ≡ Err (Damaged at) → opened (D.reads disk.old) ≡ Err at }
+    ensures fault { result ≡ Err LogFault → HasRisen (D.faults disk.old) (D.faults disk.new) }
+    ensures others { (result ≢ Err Full) × ((at : ℕ) → result ≢ Err (LogDown at)) }
+    ensures same { IsTrue D.tells → D.reads disk.new ≡ D.reads disk.old }
+    ensures crash { IsTrue D.tells → NoMore (D.images disk.old) (D.images disk.new) }
+    ensures count { D.faults disk.old ≤ D.faults disk.new }
+{
+    if extent.start == 0 && extent.length <= 1 {
+        return Ok(no_records(alloc));
+    }
+    match read_all(alloc, disk, extent) {
+        Ok(bytes) => contents(alloc, extent.start, &bytes),
+        Err(refusal) => Err(refusal),
+    }
+}
+
+/// Syncs, and reads what a log volume has: the records of its batches up to the first closed gate, or the place of
+/// the first gate at which it is damaged. Nothing is written.
+pub fn read_log<D: LogDisk>(alloc: Global, disk: &mut D) -> Result<LogContents, LogRefusal>
+    ensures read { IsTrue D.tells → IfOk result (λ found. opened (D.reads disk.old) ≡ Ok (record { history = history_of found; gate = found.gate })) }
+    ensures damaged { IsTrue D.tells → (at : ℕ) → result ≡ Err (Damaged at) → opened (D.reads disk.old) ≡ Err at }
+    ensures fault { result ≡ Err LogFault → HasRisen (D.faults disk.old) (D.faults disk.new) }
+    ensures others { (result ≢ Err Full) × ((at : ℕ) → result ≢ Err (LogDown at)) }
+    ensures same { IsTrue D.tells → D.reads disk.new ≡ D.reads disk.old }
+    ensures crash { IsTrue D.tells → NoMore (D.images disk.old) (D.images disk.new) }
+    ensures synced { IsTrue D.tells → OnOk result (Only (D.reads disk.old) (D.images disk.new)) }
+    ensures count { D.faults disk.old ≤ D.faults disk.new }
+{
+    match disk.sync() {
+        Ok(()) => match disk.extent() {
+            Ok(extent) => read_extent(alloc, disk, extent),
+            Err(Failed) => Err(LogRefusal::LogFault),
+        },
+        Err(Failed) => Err(LogRefusal::LogFault),
+    }
+}

@@ -1,0 +1,79 @@
+// The batches of a log, from its start up to the first closed gate.
+ghost use Rattle.std.specs.Prelude.{◌≡◌, ◌≢◌, ◌+◌, ◌<◌, ◌≤◌, ◌^◌, ◌∷◌, ℕ, length, Ok, Err, Some, None, IsNone, IfSome, IfOk};
+ghost use Rattle.wal_core.specs.Numbers.{le_number};
+ghost use Rattle.wal_core.specs.Opening.{batch_at, opened_bytes, BeginsOpen};
+ghost use Rattle.wal_core.specs.Past.{past_history};
+ghost use Rattle.wal_core.specs.declared.refusal.LogRefusal.TheVariants.{Damaged, LogFault, LogDown, Full};
+
+use crate::past::{Past, read_body};
+use crate::refusal::LogRefusal;
+use crate::stop::Stop;
+use byteorder::{ByteOrder, LittleEndian};
+use std::alloc::Global;
+
+// What was found: the records, and the place of the next gate.
+#[derive(Drop)]
+pub struct Found {
+    pub past: Past,
+    pub gate: u64,
+}
+
+// Takes a batch's length and body off the front.
+#[tactic(auto, unfolding(crate::specs::Opening::batch_at, crate::specs::Numbers::le_number))]
+fn batch_body<'a>(rest: &mut &'a [u8]) -> Option<&'a [u8]>
+    ensures some { IfSome result (λ body. batch_at rest.old.now ≡ Some (body.now, rest.new.now)) }
+    ensures none { IsNone result → batch_at rest.old.now ≡ None }
+{
+    if rest.len() < 4 {
+        return None;
+    }
+    let (front, after) = rest.split_at(4);
+    let count = LittleEndian::read_u32(front) as usize;
+    if after.len() < count {
+        return None;
+    }
+    let (body, left) = after.split_at(count);
+    *rest = left;
+    Some(body)
+}
+
+// What stands behind an open gate.
+pub(crate) fn behind_open<'a>(bytes: &'a [u8]) -> Option<&'a [u8]>
+    ensures some { IfSome result (λ after. bytes.now ≡ 1 ∷ after.now) }
+    ensures none { IsNone result → BeginsOpen bytes.now → ⊥ }
+{
+    match bytes {
+        [1, after @ ..] => Some(after),
+        _ => None,
+    }
+}
+
+// The bytes are those of a volume from its start on.
+pub(crate) fn scan(alloc: Global, start: u64, bytes: &[u8]) -> Result<Found, LogRefusal>
+    requires { start + length bytes.now < 2 ^ 64 }
+    ensures found { IfOk result (λ f. opened_bytes start bytes.now ≡ Ok (record { history = Some (past_history f.past); gate = f.gate })) }
+    ensures damaged { (at : ℕ) → result ≡ Err (Damaged at) → opened_bytes start bytes.now ≡ Err at }
+    ensures others { (result ≢ Err LogFault) × ((result ≢ Err Full) × ((at : ℕ) → result ≢ Err (LogDown at))) }
+    ensures within { IfOk result (λ f. f.gate ≤ start + length bytes.now) }
+{
+    let mut past = None;
+    let mut at = start;
+    let mut rest = bytes;
+    while let Some(after) = behind_open(rest) {
+        let mut left = after;
+        let Some(body) = batch_body(&mut left) else {
+            return Err(LogRefusal::Damaged { at });
+        };
+        match read_body(alloc, past, at, body) {
+            Ok(more) => past = Some(more),
+            Err(Stop::Memory) => return Err(LogRefusal::Memory),
+            Err(Stop::Unlawful) => return Err(LogRefusal::Damaged { at }),
+        }
+        at += 5 + body.len() as u64;
+        rest = left;
+    }
+    match past {
+        Some(past) => Ok(Found { past, gate: at }),
+        None => Err(LogRefusal::Damaged { at: start }),
+    }
+}

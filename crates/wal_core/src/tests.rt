@@ -1,0 +1,128 @@
+// Bytes and places that were worked out by hand from the format.
+ghost use Rattle.std.specs.Prelude.{◌≤◌, ◌<◌, ◌^◌, length};
+
+use super::*;
+use disk_core::MemLog;
+use std::alloc::Global;
+use std::test::Fail;
+use tx_model::{Counters, IdList, Rec};
+use xid_order::{FullMulti, FullXid};
+
+// A batch with a checkpoint of the first counters, a batch with a commit of 3, and a closed gate.
+#[rattlefmt::skip]
+const LOG: [u8; 81] = [
+    1, 57, 0, 0, 0, 4, 0, 0, 0, 0, 0, 0, 0, 0, 3, 0, 0, 0, 0, 0, 0, 0, 3, 0, 0, 0, 0, 0, 0, 0, 1,
+    0, 0, 0, 0, 0, 0, 0, 1, 0, 0, 0, 0, 0, 0, 0, 1, 0, 0, 0, 0, 0, 0, 0, 1, 0, 0, 0, 0, 0, 0, 0, 1,
+    13, 0, 0, 0, 1, 3, 0, 0, 0, 0, 0, 0, 0, 0, 0, 0, 0, 0,
+];
+
+fn first_counters() -> Result<Counters, Fail> {
+    let id = FullXid::new(3).ok_or("3 is an id")?;
+    let multi = FullMulti::new(1).ok_or("1 is a multixact")?;
+    Ok(Counters {
+        next: id,
+        oldest: id,
+        multi,
+        offset: 1,
+        oldest_multi: multi,
+        oldest_offset: 1,
+    })
+}
+
+#[test]
+fn records_have_their_bytes_and_are_read_again(rt: HostRuntime) -> Result<(), Fail> {
+    let alloc = rt.alloc();
+    let mut bytes = Vec::new(alloc);
+    let checkpoint = Rec::Checkpoint {
+        number: 0,
+        counters: first_counters()?,
+    };
+    write_rec(&checkpoint, &mut bytes)?;
+    assert_eq!(rt; bytes.as_slice(), &LOG[5..62]);
+    let commit = Rec::Commit {
+        top: FullXid::new(3).ok_or("3 is an id")?,
+        subs: IdList::new(alloc),
+    };
+    write_rec(&commit, &mut bytes)?;
+    assert_eq!(rt; bytes.len(), 70);
+    assert_eq!(rt; &bytes[57..], &LOG[67..80]);
+
+    let first = read_rec(alloc, &bytes)?.ok_or("a record")?;
+    assert_eq!(rt; first.length, 57);
+    let Rec::Checkpoint { number, counters } = first.rec else {
+        panic!(rt; "a checkpoint")
+    };
+    assert_eq!(rt; number, 0);
+    assert_eq!(rt; counters, first_counters()?);
+    let second = read_rec(alloc, &bytes[57..])?.ok_or("a record")?;
+    assert_eq!(rt; second.length, 13);
+    assert!(rt; read_rec(alloc, &bytes[58..])?.is_none());
+    Ok(())
+}
+
+// How many records a log of these bytes has, or where it is damaged.
+fn opens_to(alloc: Global, bytes: &[u8]) -> Result<Result<usize, u64>, Fail> {
+    let mut disk = MemLog::of(alloc, bytes.to_vec(alloc)?);
+    let found = match read_log(alloc, &mut disk) {
+        Err(LogRefusal::Damaged { at }) => return Ok(Err(at)),
+        other => other?,
+    };
+    Ok(Ok(found.recs.items().len()))
+}
+
+#[test]
+fn a_cut_log_is_damaged_at_the_batch_that_is_cut(rt: HostRuntime) -> Result<(), Fail> {
+    let alloc = rt.alloc();
+    for n in 0..82usize {
+        let want = match n {
+            0 | 1 => Ok(0),
+            62 => Ok(1),
+            80 | 81 => Ok(2),
+            2..=61 => Err(0),
+            _ => Err(62),
+        };
+        assert!(rt; n <= LOG.len());
+        assert_eq!(rt; opens_to(alloc, &LOG[..n])?, want, "{n} bytes");
+    }
+    Ok(())
+}
+
+#[test]
+fn a_changed_byte_is_found_by_its_batch(rt: HostRuntime) -> Result<(), Fail> {
+    let alloc = rt.alloc();
+    let changed = [
+        (0, 0, Ok(0usize)),
+        (1, 58, Err(0)),
+        (5, 5, Err(0)),
+        (6, 1, Err(0)),
+        (14, 2, Err(0)),
+        (30, 0, Err(0)),
+        (62, 2, Ok(1)),
+        (63, 14, Err(62)),
+        (67, 6, Err(62)),
+        (68, 2, Err(62)),
+        (68, 9, Ok(2)),
+        (76, 1, Err(62)),
+        (80, 1, Err(80)),
+    ];
+    for (at, byte, want) in changed {
+        let mut log = LOG;
+        assert!(rt; at < log.len());
+        log[at] = byte;
+        assert_eq!(rt; opens_to(alloc, &log)?, want, "{byte} at {at}");
+    }
+    Ok(())
+}
+
+#[test]
+fn what_is_read_of_a_log(rt: HostRuntime) -> Result<(), Fail> {
+    let alloc = rt.alloc();
+    let mut disk = MemLog::of(alloc, LOG.to_vec(alloc)?);
+    let found = read_log(alloc, &mut disk)?;
+    assert_eq!(rt; found.first, 0);
+    assert_eq!(rt; found.gate, 80);
+    let counters = found.counters.ok_or("counters")?;
+    assert_eq!(rt; counters.next.number(), 4);
+    assert_eq!(rt; counters.oldest.number(), 3);
+    Ok(())
+}

@@ -1,0 +1,141 @@
+ghost use Rattle.std.specs.Prelude.{◌≡◌, ◌+◌, ◌<◌, ◌≤◌, ◌^◌, [], length, drop, IsTrue, None};
+ghost use Rattle.std.proofs.Props.{props};
+ghost use Rattle.disk_core.specs.Volume.{Volume};
+ghost use Rattle.wal_core.specs.Opening.{behind_gate};
+ghost use Rattle.wal_core.specs.Log.{IsReady, IsNextBatch, are_lawful};
+
+use crate::batch::write_batch;
+use crate::refusal::LogRefusal;
+use disk_core::{Failed, LogDisk};
+use tx_model::{Counters, Rec, RecList};
+
+/// The log of a volume (after `src/backend/access/transam/xlog.c`): records in batches.
+#[derive(Drop)]
+pub struct WalLog<D: LogDisk> {
+    pub(crate) disk: D,
+    // The place of the next gate.
+    pub(crate) gate: u64,
+    // What is written behind it: a length, the pending records, and the gate after them.
+    pub(crate) behind: Vec<u8>,
+    // The number of the first of `recs`.
+    pub(crate) from: u64,
+    pub(crate) recs: RecList,
+    // How many of them are flushed.
+    pub(crate) flushed: u64,
+    // After all records, also those that were read at the start.
+    pub(crate) counters: Option<Counters>,
+    // The flushed number at the failure of a call.
+    pub(crate) down: Option<u64>,
+    ghost counts: { flushed ≤ length recs },
+    ghost small: { from + length recs < 2 ^ 64 },
+    ghost numbers: { from + length recs + 5 ≤ gate + length behind.items },
+    ghost next_batch: { IsNextBatch behind.items (drop flushed recs) },
+    ghost few: { flushed < length recs → gate + length behind.items ≤ 2 ^ 40 },
+    ghost lawful: { IsTrue (are_lawful (drop flushed recs)) },
+    ghost ready: { IsTrue D.tells → down ≡ None → (c : Volume) → D.images disk c → IsReady gate (drop flushed recs) counters (from + length recs) c } by { Prim.hlevel props },
+}
+
+// Nothing is pending.
+#[tactic(auto, unfolding(crate::specs::Numbers::le_bytes))]
+fn clear(behind: &mut Vec<u8>)
+    requires { 5 ≤ length behind.old.items }
+    ensures { behind.new.items ≡ behind_gate [] }
+{
+    behind.truncate(5);
+    behind.copy_from_slice(&[0; 5]);
+}
+
+impl<D: LogDisk> WalLog<D> {
+    ghost use Rattle.std.specs.Prelude.{◌≡◌, ◌≢◌, ◌+◌, ◌≤◌, ℕ, length, IsTrue, IsSome, OnOk, Option, None, Some, Ok, Err};
+    ghost use Rattle.disk_core.specs.Faults.{HasRisen};
+    ghost use Rattle.disk_core.specs.Images.{LeavesOnly};
+    ghost use Rattle.disk_core.specs.Volume.{Volume};
+    ghost use Rattle.wal_core.specs.declared.refusal.LogRefusal.TheVariants.{LogDown, LogFault, Full, Memory, Damaged};
+    ghost use Rattle.wal_core.specs.Log.{OpensFromImage};
+    ghost use Rattle.wal_core.specs.LogViews.{log_disk, log_recs, log_pending, log_next, log_flushed, log_end, log_counters, log_down};
+
+    /// Puts the pending records on the disk as one batch, by four device calls; by none where nothing is pending.
+    /// After `LogFault` the log is down: they may or may not be on the disk, in order. Takes no memory.
+    pub fn flush(&mut self) -> Result<(), LogRefusal>
+        ensures recs { log_recs self.new ≡ log_recs self.old }
+        ensures next { log_next self.new ≡ log_next self.old }
+        ensures counters { log_counters self.new ≡ log_counters self.old }
+        ensures ok { OnOk result (log_flushed self.new ≡ log_next self.old) }
+        ensures down { (at : ℕ) → result ≡ Err (LogDown at) → log_down self.old ≡ Some at }
+        ensures is_down { (at : ℕ) → log_down self.old ≡ Some at → result ≡ Err (LogDown at) }
+        ensures no_other { (result ≢ Err Full) × (result ≢ Err Memory) × ((at : ℕ) → result ≢ Err (Damaged at)) }
+        ensures fault { result ≡ Err LogFault → HasRisen (D.faults (log_disk self.old)) (D.faults (log_disk self.new)) }
+        ensures put_down { result ≡ Err LogFault → log_down self.new ≡ Some (log_flushed self.old) }
+        ensures stays { result ≢ Err LogFault → log_down self.new ≡ log_down self.old }
+
+        // A crash at any moment, and one after it, leaves what opens as an image of before, with the pending records
+        // or without.
+        ensures any_moment { IsTrue D.tells → log_down self.old ≡ None → LeavesOnly D.moment D.left_at (log_disk self.old) (log_disk self.new)
+            (OpensFromImage (D.images (log_disk self.old)) (log_end self.old) (log_pending self.old)) }
+        ensures left { IsTrue D.tells → log_down self.old ≡ None → (c : Volume) → D.images (log_disk self.new) c
+            → OpensFromImage (D.images (log_disk self.old)) (log_end self.old) (log_pending self.old) c }
+    {
+        if let Some(at) = self.down {
+            return Err(LogRefusal::LogDown { at });
+        }
+        let count = self.recs.items().len() as u64;
+        if self.flushed == count {
+            return Ok(());
+        }
+        match write_batch(&mut self.disk, self.gate, &self.behind) {
+            Ok(()) => {
+                self.gate += self.behind.len() as u64;
+                clear(&mut self.behind);
+                self.flushed = count;
+                Ok(())
+            }
+            Err(Failed) => {
+                self.down = Some(self.from + self.flushed);
+                Err(LogRefusal::LogFault)
+            }
+        }
+    }
+
+    /// The number of the next record, counted through all lives.
+    pub fn next(&self) -> u64
+        ensures { result ≡ log_next self.now }
+    {
+        self.from + self.recs.items().len() as u64
+    }
+
+    /// The number of the first record that isn't known to be flushed.
+    pub fn flushed(&self) -> u64
+        ensures { result ≡ log_flushed self.now }
+    {
+        self.from + self.flushed
+    }
+
+    /// The place of the next gate.
+    pub fn end(&self) -> u64
+        ensures { result ≡ log_end self.now }
+    {
+        self.gate
+    }
+
+    /// The records appended since the start.
+    pub fn recs(&self) -> &[Rec]
+        ensures { result.now ≡ log_recs self.now }
+    {
+        self.recs.items()
+    }
+
+    /// The counters after all records, of which there has to be one.
+    pub fn counters(&self) -> Counters
+        requires { IsSome (log_counters self.now) }
+        ensures { log_counters self.now ≡ Some result }
+    {
+        self.counters.unwrap()
+    }
+
+    /// The disk, as the log leaves it.
+    pub fn into_disk(self) -> D
+        ensures { result ≡ log_disk self }
+    {
+        self.disk
+    }
+}

@@ -1,3 +1,4 @@
 pub mod Changes
 pub mod Plan
+pub mod PlanLaw
 pub mod States

@@ -12,7 +12,7 @@ mod trim;
 mod xact_state;
 
 pub use pages::{XactPages, xact_page, xact_page_precedes};
-pub use plan::{PlanStep, plan_step};
+pub use plan::{PlanStep, commits_each_once, plan_step};
 pub use states::{set_states, state};
 pub use trim::trim_after;
 pub use xact_state::State;

@@ -1,6 +1,7 @@
 // The tree rule: a commit whose ids lie on several pages changes them in steps.
 ghost use Rattle.std.specs.Prelude.{◌≡◌, ◌≤◌, ◌<◌, ◌+◌, ◌/◌, ℕ, List, ◌∷◌, length, drop, slice_get, slice_index, option_map};
 ghost use Rattle.pg_xact_log.specs.Plan.{Run, full_page, runs, run_at, run_step, top_step, around, plan};
+ghost use Rattle.pg_xact_log.specs.PlanLaw.{times_committed};
 
 use crate::State;
 use xid_order::FullXid;
@@ -103,3 +104,9 @@ pub fn plan_step(top: FullXid, subs: &[FullXid], k: u64) -> Option<PlanStep>
         step_of_run(subs, own, k - others - 1, State::Committed)
     }
 }
+
+/// A law on the plan: each subid becomes committed in exactly one of its steps.
+pub fn commits_each_once(_top: FullXid, _subs: &[FullXid], _i: usize)
+    requires { _i < length _subs.now }
+    ensures { times_committed _i (plan _top _subs.now) ≡ 1 }
+{}

@@ -3,6 +3,7 @@
 #![tactic(auto)]
 
 mod bank;
+mod banks;
 mod buffer;
 mod buffers;
 mod numbers;
@@ -13,6 +14,7 @@ mod removal;
 mod tests;
 
 pub use bank::SlruBank;
+pub use banks::bank_of;
 pub use numbers::{put_number, read_number};
 pub use page_rule::PageRule;
 pub use refusal::BankRefusal;

@@ -46,7 +46,7 @@ pub record Goes (gate : ℕ) (pending : List Rec) (counters : Option Counters) (
   pub counters_are : counters ≡ Some there.counters
   pub next_is : next ≡ next_number there
 
-goes_by : (gate : ℕ) (h : Option History) (r : Rec) (recs : List Rec) (w : Option History) (counters : Option Counters) (next : ℕ) → with_body gate h (bytes_of (r ∷ recs)) ≡ w
+pub goes_by : (gate : ℕ) (h : Option History) (r : Rec) (recs : List Rec) (w : Option History) (counters : Option Counters) (next : ℕ) → with_body gate h (bytes_of (r ∷ recs)) ≡ w
     → (w >>= λ x. Some (end_of (Some x))) ≡ Some (record { counters = counters; next = next }) → (x : History) × (w ≡ Some x) × ((counters ≡ Some x.counters) × (next ≡ next_number x))
 goes_by gate h r recs None counters next is e = absurd cc
 goes_by gate h r recs (Some x) counters next is e = (x, refl, (ap counters_in (sym e), ap next_in (sym e)))

@@ -11,3 +11,4 @@ pub mod Counts
 pub mod Bodies
 pub mod Scanning
 pub mod News
+pub mod Append

@@ -1,5 +1,5 @@
 -- The state of a log over a disk.
-use Rattle.std.specs.Prelude.{◌≡◌, ◌⊎◌, ℕ, ◌+◌, ◌<◌, ◌≤◌, ◌^◌, ◌&&◌, Bool, true, false, IsTrue, List, [], ◌∷◌, length, nat_le, nat_lt, Option, Some, None, Result, Ok, Err, IsNone, IsSome, IfOk}
+use Rattle.std.specs.Prelude.{◌≡◌, ◌⊎◌, ℕ, ◌+◌, ◌<◌, ◌≤◌, ◌^◌, ◌&&◌, Bool, true, false, IsTrue, ◌-◌, List, [], ◌∷◌, ◌++◌, drop, remove, length, nat_le, nat_lt, Option, Some, None, Result, Ok, Err, IsNone, IsSome, IfOk}
 use Rattle.std.specs.List.{flat_map}
 use Rattle.xid_order.specs.Ids.{low_half}
 use Rattle.tx_model.specs.declared.record.Rec.{Rec}
@@ -9,6 +9,7 @@ use Rattle.tx_model.specs.declared.multi.Member.{Member}
 use Rattle.tx_model.specs.After.{after_record}
 use Rattle.tx_model.specs.Base.{IsBase}
 use Rattle.disk_core.specs.Volume.{Volume}
+use Rattle.wal_core.specs.Numbers.{le_bytes}
 use Rattle.wal_core.specs.Spelling.{rec_bytes, IsLawful}
 use Rattle.wal_core.specs.Reading.{◌>>=◌}
 use Rattle.wal_core.specs.Opening.{History, Opened, walked, AtRest, with_body, opened, behind_gate, no_counters, number_fits, first_number, next_number}
@@ -78,6 +79,10 @@ pub record IsReady (gate : ℕ) (pending : List Rec) (counters : Option Counters
 pub record IsNextBatch (behind : List ℕ) (pending : List Rec) : Type 0 where
   pub spelled : behind ≡ behind_gate (bytes_of pending)
   pub few : length (bytes_of pending) < 2 ^ 32
+
+-- with these bytes more before the last gate
+abbrev pub with_more : List ℕ → List ℕ → List ℕ
+with_more behind more = le_bytes 4 (length (behind ++ more) - 5) ++ drop 4 (remove (behind ++ (more ++ 0 ∷ [])) (length behind - 1))
 
 -- ---- what a crash leaves
 

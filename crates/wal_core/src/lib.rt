@@ -1,6 +1,7 @@
 //! The log: records in batches, each behind a gate that opens only once the batch is on the disk.
 #![tactic(auto)]
 
+mod appending;
 mod batch;
 mod contents;
 mod counters;

@@ -4,6 +4,7 @@ ghost use Rattle.disk_core.specs.Volume.{Volume};
 ghost use Rattle.wal_core.specs.Opening.{behind_gate};
 ghost use Rattle.wal_core.specs.Log.{IsReady, IsNextBatch, are_lawful};
 
+use crate::appending::{add_rec, counters_with, is_full, rec_length};
 use crate::batch::write_batch;
 use crate::refusal::LogRefusal;
 use disk_core::{Failed, LogDisk};
@@ -46,13 +47,53 @@ fn clear(behind: &mut Vec<u8>)
 }
 
 impl<D: LogDisk> WalLog<D> {
-    ghost use Rattle.std.specs.Prelude.{◌≡◌, ◌≢◌, ◌+◌, ◌≤◌, ℕ, length, IsTrue, IsSome, OnOk, Option, None, Some, Ok, Err};
+    ghost use Rattle.std.specs.Prelude.{◌≡◌, ◌≢◌, ◌+◌, ◌≤◌, ◌++◌, ◌∷◌, [], ℕ, length, IsTrue, IsSome, IfOk, OnOk, OnErr, Option, None, Some, Ok, Err};
+    ghost use Rattle.tx_model.specs.After.{after_record};
     ghost use Rattle.disk_core.specs.Faults.{HasRisen};
     ghost use Rattle.disk_core.specs.Images.{LeavesOnly};
     ghost use Rattle.disk_core.specs.Volume.{Volume};
     ghost use Rattle.wal_core.specs.declared.refusal.LogRefusal.TheVariants.{LogDown, LogFault, Full, Memory, Damaged};
-    ghost use Rattle.wal_core.specs.Log.{OpensFromImage};
+    ghost use Rattle.wal_core.specs.Log.{OpensFromImage, MayAppend, IsFull, counters_or_none, bytes_of};
+    ghost use Rattle.wal_core.specs.Spelling.{rec_bytes};
     ghost use Rattle.wal_core.specs.LogViews.{log_disk, log_recs, log_pending, log_next, log_flushed, log_end, log_counters, log_down};
+
+    /// Adds a record at the end, and answers its number, counted through all lives. It is pending until the next flush,
+    /// which takes no memory: the room for its bytes is made here. After an error nothing changed.
+    pub fn append(&mut self, rec: &Rec) -> Result<u64, LogRefusal>
+        requires { MayAppend (log_counters self.old) (log_next self.old) rec.now }
+        ensures number { IfOk result (λ n. n ≡ log_next self.old) }
+        ensures recs { OnOk result (log_recs self.new ≡ log_recs self.old ++ rec.now ∷ []) }
+        ensures pending { OnOk result (log_pending self.new ≡ log_pending self.old ++ rec.now ∷ []) }
+        ensures counters { OnOk result (log_counters self.new ≡ Some (after_record (counters_or_none (log_counters self.old)) rec.now)) }
+        ensures next { OnOk result (log_next self.new ≡ log_next self.old + 1) }
+        ensures err_recs { OnErr result ((log_recs self.new ≡ log_recs self.old) × (log_pending self.new ≡ log_pending self.old)) }
+        ensures err_counters { OnErr result ((log_counters self.new ≡ log_counters self.old) × (log_next self.new ≡ log_next self.old)) }
+        ensures flushed { log_flushed self.new ≡ log_flushed self.old }
+        ensures end { log_end self.new ≡ log_end self.old }
+        ensures disk { log_disk self.new ≡ log_disk self.old }
+        ensures stays { log_down self.new ≡ log_down self.old }
+        ensures down { (at : ℕ) → result ≡ Err (LogDown at) → log_down self.old ≡ Some at }
+        ensures is_down { (at : ℕ) → log_down self.old ≡ Some at → result ≡ Err (LogDown at) }
+        ensures full { result ≡ Err Full → IsFull (log_end self.old) (length (bytes_of (log_pending self.old))) (length (rec_bytes rec.now)) }
+        ensures is_full { log_down self.old ≡ None → IsFull (log_end self.old) (length (bytes_of (log_pending self.old))) (length (rec_bytes rec.now)) → result ≡ Err Full }
+        ensures no_other { (result ≢ Err LogFault) × ((at : ℕ) → result ≢ Err (Damaged at)) }
+    {
+        if let Some(at) = self.down {
+            return Err(LogRefusal::LogDown { at });
+        }
+        let pending = self.behind.len() as u64 - 5;
+        if is_full(self.gate, pending, rec_length(rec)) {
+            return Err(LogRefusal::Full);
+        }
+        let number = self.from + self.recs.items().len() as u64;
+        match add_rec(&mut self.behind, &mut self.recs, rec) {
+            Ok(()) => {
+                self.counters = counters_with(self.counters, rec);
+                Ok(number)
+            }
+            Err(_) => Err(LogRefusal::Memory),
+        }
+    }
 
     /// Puts the pending records on the disk as one batch, by four device calls; by none where nothing is pending.
     /// After `LogFault` the log is down: they may or may not be on the disk, in order. Takes no memory.

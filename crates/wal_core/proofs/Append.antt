@@ -1,7 +1,7 @@
 -- One record more may come next: what `append` has to keep.
-use Rattle.std.proofs.Common.{◌≡◌, inl, inr, ℕ, ◌+◌, ◌-◌, ◌*◌, ◌<◌, ◌≤◌, ◌^◌, suc, Bool, true, false, cond, ltb, leb, eqb, ◌&&◌, List, [], ◌∷◌, ◌++◌, length, take, drop, Option, Some, None, Ok, refl, sym, ◌∙◌, ap, subst, arith}
+use Rattle.std.proofs.Common.{◌≡◌, ℕ, ◌+◌, ◌-◌, ◌*◌, ◌<◌, ◌≤◌, ◌^◌, suc, Bool, true, false, cond, ltb, eqb, List, [], ◌∷◌, ◌++◌, length, take, drop, Option, Some, None, refl, sym, ◌∙◌, ap, subst, arith}
 use Rattle.std.specs.List.{AllByRecursion, flat_map}
-use Rattle.std.specs.Prelude.{IsTrue, IsSome, IsNone, IfSome, remove}
+use Rattle.std.specs.Prelude.{IsSome, IsNone, IfSome, remove}
 use Rattle.std.proofs.lemmas.Bool.{leb-true, le-leb, eq-eqb, ltb-true, lt-ltb, le-ltb, and_parts, and_from, eqb-true}
 use Rattle.std.proofs.lemmas.List.{append_assoc, length-append, take_at, drop_at, drop-append-le, append-nil}
 use Rattle.std.proofs.lemmas.Grind.{flat_map-append}

@@ -1,10 +1,8 @@
 -- The test for a base says what a base is.
-use Rattle.std.proofs.Common.{◌≡◌, ◌≢◌, inl, inr, ◌⊎◌, ℕ, ◌≤◌, Bool, true, false, not, leb, eqb, ◌&&◌, ◌||◌, refl, sym, ◌∙◌, ap}
+use Rattle.std.proofs.Common.{◌≡◌, inl, inr, ℕ, Bool, true, false, not, eqb, ◌||◌, refl, sym}
 use Rattle.std.specs.Prelude.{IsTrue, ◌↔◌}
 use Rattle.std.proofs.lemmas.Bool.{leb-true, le-leb, and_parts, and_from, eqb-true, eq-eqb, ne_eqb, cases_eq}
-use Rattle.xid_order.specs.Ids.{low_half}
 use Rattle.tx_model.specs.Base.{IsBase}
-use Rattle.tx_model.specs.Limits.{stop_limit, multi_stop_limit, member_stop}
 use Rattle.tx_model.specs.declared.record.Counters.{Counters}
 use Rattle.wal_core.specs.BaseTest.{is_base_of}
 

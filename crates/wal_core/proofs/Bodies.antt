@@ -1,5 +1,5 @@
 -- Records of a body join a history one by one.
-use Rattle.std.proofs.Common.{◌≡◌, inl, inr, ℕ, zero, suc, ◌+◌, ◌-◌, ◌<◌, ◌≤◌, Bool, true, false, cond, ltb, eqb, List, [], ◌∷◌, ◌++◌, length, max, Option, Some, None, refl, sym, ◌∙◌, ap, subst, arith}
+use Rattle.std.proofs.Common.{◌≡◌, inl, inr, ℕ, zero, suc, ◌+◌, ◌-◌, ◌<◌, ◌≤◌, Bool, true, false, cond, ltb, eqb, List, [], ◌∷◌, length, max, Option, Some, None, refl, sym, ◌∙◌, ap, arith}
 use Rattle.std.proofs.lemmas.Bool.{eq-eqb, ne_eqb, cases_eq, lt-ltb, le-ltb}
 use Rattle.tx_model.specs.After.{after_record}
 use Rattle.tx_model.specs.declared.record.Rec.{Rec}
@@ -9,7 +9,7 @@ use Rattle.wal_core.specs.declared.stop.Stop.{Stop}
 use Rattle.wal_core.specs.declared.stop.Stop.TheVariants as stops
 use Rattle.wal_core.specs.Reading.{◌>>=◌, Stops, rec_at}
 use Rattle.wal_core.specs.BaseTest.{is_base_of}
-use Rattle.wal_core.specs.Opening.{History, next_number, number_fits, may_follow, with_rec, joined, recs_in, recs_of, first_number, began, with_body, no_counters}
+use Rattle.wal_core.specs.Opening.{History, next_number, number_fits, may_follow, with_rec, joined, recs_in, first_number, began, with_body, no_counters}
 use Rattle.wal_core.specs.Past.{begun, joins}
 
 next_is : (n : ℕ) (bytes : List ℕ) (r : Rec) (rest : List ℕ) → rec_at bytes ≡ Some (r, rest) → recs_in (suc n) bytes ≡ (recs_in n rest >>= λ others. Some (r ∷ others))

@@ -1,13 +1,12 @@
 -- From batches to records: what a flush promises.
-use Rattle.std.proofs.Common.{◌≡◌, inl, inr, ℕ, zero, suc, ◌+◌, ◌-◌, ◌<◌, ◌^◌, Bool, true, false, List, [], ◌∷◌, ◌++◌, length, take, drop, Option, Some, None, Ok, refl, sym, ◌∙◌, ap, subst, arith}
+use Rattle.std.proofs.Common.{◌≡◌, inl, inr, ℕ, ◌+◌, ◌-◌, ◌<◌, ◌^◌, List, [], ◌∷◌, ◌++◌, length, take, drop, Option, Some, None, Ok, refl, sym, ◌∙◌, ap, subst, arith}
 use Rattle.std.proofs.lemmas.List.{take_at, drop_at}
 use Rattle.tx_model.specs.declared.record.Rec.{Rec}
 use Rattle.tx_model.specs.declared.record.Counters.{Counters}
 use Rattle.disk_core.specs.Volume.{Volume}
-use Rattle.disk_core.specs.Images.{Only}
 use Rattle.wal_core.specs.Numbers.{le_bytes}
 use Rattle.wal_core.specs.Reading.{◌>>=◌}
-use Rattle.wal_core.specs.Opening.{History, Opened, Walked, walked, AtRest, IsBeforeOrAfter, with_body, opened, behind_gate, body_in, IsBehindGate, next_number}
+use Rattle.wal_core.specs.Opening.{History, Walked, walked, AtRest, IsBeforeOrAfter, with_body, opened, behind_gate, body_in, IsBehindGate, next_number}
 use Rattle.wal_core.specs.Crash.{IsFromImage}
 use Rattle.wal_core.specs.Log.{history_in, history_on, bytes_of, End, end_of, end_with, IsReady, IsNextBatch, OpensBeforeOrAfter, OpensFromImage}
 use Rattle.wal_core.proofs.Fields.{length-le_bytes}

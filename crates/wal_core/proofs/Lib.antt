@@ -12,3 +12,5 @@ pub mod Bodies
 pub mod Scanning
 pub mod News
 pub mod Append
+pub mod Rests
+pub mod Starts

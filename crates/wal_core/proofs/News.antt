@@ -1,8 +1,8 @@
 -- Which volumes are new.
-use Rattle.std.proofs.Common.{◌≡◌, ◌≢◌, ◌⊎◌, inl, inr, ℕ, zero, ◌<◌, ◌≤◌, Bool, true, false, not, cond, eqb, leb, ◌&&◌, ◌||◌, List, [], ◌∷◌, length, drop, slice_index, Option, None, Ok, refl, sym, ◌∙◌, ap, subst, arith}
+use Rattle.std.proofs.Common.{◌≡◌, ◌≢◌, ◌⊎◌, inl, inr, ℕ, ◌<◌, ◌≤◌, Bool, true, false, not, eqb, leb, ◌&&◌, ◌||◌, List, [], ◌∷◌, length, drop, None, Ok, refl, sym, ◌∙◌, ap, arith}
 use Rattle.std.proofs.lemmas.Bool.{ne_eqb, eq-eqb, le-leb, lt-leb, cases_eq}
 use Rattle.disk_core.specs.Volume.{Volume}
-use Rattle.wal_core.specs.Opening.{Opened, BeginsOpen, is_closed, is_new, opened, opened_bytes, opened_as, walk, judged}
+use Rattle.wal_core.specs.Opening.{Opened, BeginsOpen, is_closed, is_new, opened, opened_bytes}
 
 abbrev pub nothing : Opened
 nothing = record { history = None; gate = 0 }

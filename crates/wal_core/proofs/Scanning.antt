@@ -1,9 +1,9 @@
 -- Batches are judged as they are met.
-use Rattle.std.proofs.Common.{◌≡◌, ◌≢◌, inl, inr, ℕ, zero, suc, ◌+◌, ◌<◌, ◌≤◌, Bool, true, false, cond, eqb, ltb, List, [], ◌∷◌, ◌++◌, length, take, drop, Option, Some, None, Result, Ok, Err, refl, sym, ◌∙◌, ap, subst, arith}
+use Rattle.std.proofs.Common.{◌≡◌, inl, inr, ℕ, zero, suc, ◌+◌, ◌<◌, ◌≤◌, Bool, true, false, cond, eqb, ltb, List, [], ◌∷◌, length, take, drop, Option, Some, None, Result, Ok, Err, refl, sym, ◌∙◌, ap, arith}
 use Rattle.std.proofs.lemmas.Bool.{ne_eqb, cases_lt, lt-ltb, le-ltb}
 use Rattle.std.proofs.lemmas.List.{length-drop, length-take}
 use Rattle.wal_core.specs.Numbers.{le_number}
-use Rattle.wal_core.specs.Reading.{◌>>=◌, number_at}
+use Rattle.wal_core.specs.Reading.{◌>>=◌}
 use Rattle.wal_core.specs.Opening.{History, Opened, Walked, ended, behind, walk, batch_at, judged, going_on, with_body, opened_as, opened_bytes, BeginsOpen}
 
 -- what is found from a gate on, in a volume that starts at s
@@ -40,7 +40,7 @@ unfolding rest_of
 counted_off true n l k le = omega arith
 counted_off false n l k le = cut_off (ltb (length l) n) (take n l) (drop n l) k (omega (arith, le, length-drop n l))
 
-shorter : (xs body rest : List ℕ) → batch_at xs ≡ Some (body, rest) → length rest ≤ length xs
+pub shorter : (xs body rest : List ℕ) → batch_at xs ≡ Some (body, rest) → length rest ≤ length xs
 unfolding batch_at rest_of
 shorter xs body rest e =
     let same : rest_of (batch_at xs) ≡ length rest = ap rest_of e in

@@ -1,8 +1,8 @@
 -- Device calls, one after the other.
-use Rattle.std.proofs.Common.{ℕ, subst, Result, Ok, Err}
+use Rattle.std.proofs.Common.{ℕ, Result, Ok, Err}
 use Rattle.std.specs.Prelude.{OnOk}
 use Rattle.disk_core.specs.Volume.{Volume}
-use Rattle.disk_core.specs.Images.{NoMore, Follows, Only, Elapses, LeavesOnly}
+use Rattle.disk_core.specs.Images.{NoMore, Follows, Elapses, LeavesOnly}
 use Rattle.disk_core.specs.Moments.{started, goes_on}
 
 module _ {D : Type 0} (moment : D → ℕ) (left_at : D → ℕ → Volume → Type 0) (images : D → Volume → Type 0) (P : Volume → Type 0) (first : D) where

@@ -1,5 +1,5 @@
 -- The test for a base, as a value.
-use Rattle.std.specs.Prelude.{◌≡◌, ◌&&◌, ◌||◌, ◌==◌, not, Bool, nat_le}
+use Rattle.std.specs.Prelude.{◌&&◌, ◌||◌, ◌==◌, not, Bool, nat_le}
 use Rattle.xid_order.specs.Ids.{low_half}
 use Rattle.tx_model.specs.declared.record.Counters.{Counters}
 use Rattle.tx_model.specs.Limits.{stop_limit, multi_stop_limit, member_stop}

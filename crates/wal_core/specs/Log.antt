@@ -1,5 +1,5 @@
 -- The state of a log over a disk.
-use Rattle.std.specs.Prelude.{◌≡◌, ◌⊎◌, ℕ, ◌+◌, ◌<◌, ◌≤◌, ◌^◌, ◌&&◌, Bool, true, false, IsTrue, ◌-◌, List, [], ◌∷◌, ◌++◌, drop, remove, length, nat_le, nat_lt, Option, Some, None, Result, Ok, Err, IsNone, IsSome, IfOk}
+use Rattle.std.specs.Prelude.{◌≡◌, ◌≢◌, ◌⊎◌, ℕ, ◌+◌, ◌<◌, ◌≤◌, ◌^◌, ◌&&◌, Bool, true, IsTrue, ◌-◌, List, [], ◌∷◌, ◌++◌, take, drop, remove, slice_index, length, nat_le, nat_lt, Option, Some, None, Result, Ok, Err, IsNone, IsSome, IfOk}
 use Rattle.std.specs.List.{flat_map}
 use Rattle.xid_order.specs.Ids.{low_half}
 use Rattle.tx_model.specs.declared.record.Rec.{Rec}
@@ -120,3 +120,12 @@ pub record MayAppend (counters : Option Counters) (number : ℕ) (r : Rec) : Typ
 -- the log would pass its greatest length, or the batch its own
 abbrev pub IsFull : ℕ → ℕ → ℕ → Type 0
 IsFull gate pending more = (2 ^ 40 < gate + 6 + pending + more) ⊎ (2 ^ 32 ≤ pending + more)
+
+-- ---- what is found at the start
+
+-- once a closed gate stands behind these batches, the volume opens as it did and is ready
+pub record GoesOn (gate : ℕ) (counters : Option Counters) (next : ℕ) (v : Volume) : Type 0 where
+  pub within : gate ≤ length v.bytes
+  -- a byte behind an old log, or the first of more than one byte of a new log, is a closed gate
+  pub closed : (counters ≡ None → 1 < length v.bytes) → gate < length v.bytes → slice_index v.bytes gate ≢ 1
+  pub again : (u : Volume) → u.start ≡ v.start → take gate u.bytes ≡ take gate v.bytes → gate < length u.bytes → slice_index u.bytes gate ≢ 1 → (opened u ≡ opened v) × IsReady gate [] counters next u

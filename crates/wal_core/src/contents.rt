@@ -1,11 +1,12 @@
 // What a log volume has.
-ghost use Rattle.std.specs.Prelude.{◌≡◌, ◌≢◌, ◌-◌, ◌+◌, ◌<◌, ◌≤◌, ◌^◌, ℕ, length, drop, IsTrue, OnOk, IfOk, Ok, Err, None, ◌⊎◌, true, false};
+ghost use Rattle.std.specs.Prelude.{◌≡◌, ◌≢◌, ◌-◌, ◌+◌, ◌<◌, ◌≤◌, ◌^◌, ℕ, length, drop, IsTrue, All, replicate, OnOk, IfOk, Ok, Err, None, ◌⊎◌, true, false};
 ghost use Rattle.disk_core.specs.Faults.{HasRisen};
 ghost use Rattle.disk_core.specs.Images.{Only, NoMore};
 ghost use Rattle.disk_core.specs.Volume.{Volume};
 ghost use Rattle.wal_core.specs.declared.refusal.LogRefusal.TheVariants.{Damaged, LogFault, LogDown, Full};
 ghost use Rattle.wal_core.specs.Opening.{opened, BeginsOpen};
 ghost use Rattle.wal_core.specs.Contents.{history_of};
+ghost use Rattle.wal_core.specs.Log.{GoesOn};
 
 use crate::refusal::LogRefusal;
 use crate::scan::{Found, behind_open, scan};
@@ -13,30 +14,34 @@ use disk_core::{Extent, Failed, LogDisk};
 use std::alloc::{AllocError, Global};
 use tx_model::{Counters, RecList};
 
-/// The records of a log volume, the number of the first, the counters after them, and the place of the next gate.
-/// A new log has none of them.
+/// The records of a log volume, the number of the first, the counters after them, the place of the next gate, and how
+/// far the volume reaches. A new log has no records and no counters.
 #[derive(Drop)]
 pub struct LogContents {
     pub recs: RecList,
     pub first: u64,
     pub counters: Option<Counters>,
     pub gate: u64,
+    pub length: u64,
 }
 
-fn no_records(alloc: Global) -> LogContents
+fn no_records(alloc: Global, reach: u64) -> LogContents
     ensures history { history_of result ≡ None }
     ensures gate { result.gate ≡ 0 }
+    ensures none { (result.counters ≡ None) × (result.first + length result.recs ≡ 0) }
+    ensures reach { result.length ≡ reach }
 {
     LogContents {
         recs: RecList::new(alloc),
         first: 0,
         counters: None,
         gate: 0,
+        length: reach,
     }
 }
 
-fn zeros(alloc: Global, count: usize) -> Result<Vec<u8>, AllocError>
-    ensures { IfOk result (λ v. length v.items ≡ count) }
+pub(crate) fn zeros(alloc: Global, count: usize) -> Result<Vec<u8>, AllocError>
+    ensures { IfOk result (λ v. v.items ≡ replicate count 0) }
 {
     let mut bytes = Vec::new(alloc);
     bytes.resize(count, 0)?;
@@ -69,6 +74,7 @@ fn read_all<D: LogDisk>(alloc: Global, disk: &mut D, extent: Extent) -> Result<V
 // Whether nothing was ever acknowledged on a volume with these bytes.
 fn is_unwritten(start: u64, bytes: &[u8]) -> bool
     ensures unwritten { result ≡ true → (start ≡ 0) × ((length bytes.now ≤ 1) ⊎ (BeginsOpen bytes.now → ⊥)) }
+    ensures bytes { All (λ b. b < 2 ^ 8) bytes.now }
     ensures written { result ≡ false → (start ≢ 0) ⊎ ((1 < length bytes.now) × BeginsOpen bytes.now) }
 {
     if start != 0 {
@@ -81,21 +87,26 @@ fn is_unwritten(start: u64, bytes: &[u8]) -> bool
 }
 
 // The bytes of a volume from its start on.
-fn contents(alloc: Global, start: u64, bytes: &[u8]) -> Result<LogContents, LogRefusal>
-    requires { start + length bytes.now < 2 ^ 64 }
-    ensures found { (v : Volume) → v.start ≡ start → drop v.start v.bytes ≡ bytes.now → IfOk result (λ found. opened v ≡ Ok (record { history = history_of found; gate = found.gate })) }
-    ensures damaged { (v : Volume) (at : ℕ) → v.start ≡ start → drop v.start v.bytes ≡ bytes.now → result ≡ Err (Damaged at) → opened v ≡ Err at }
+fn contents(alloc: Global, extent: Extent, bytes: &[u8]) -> Result<LogContents, LogRefusal>
+    requires small { extent.start + length bytes.now < 2 ^ 64 }
+    ensures goes_on { (v : Volume) → v.start ≡ extent.start → drop v.start v.bytes ≡ bytes.now → IfOk result (λ found. GoesOn found.gate found.counters (found.first + length found.recs) v) }
+    ensures numbers { IfOk result (λ found. found.first + length found.recs ≤ found.gate) }
+    ensures place { IfOk result (λ found. found.gate < 2 ^ 64) }
+    ensures reach { IfOk result (λ found. found.length ≡ extent.length) }
+    ensures found { (v : Volume) → v.start ≡ extent.start → drop v.start v.bytes ≡ bytes.now → IfOk result (λ found. opened v ≡ Ok (record { history = history_of found; gate = found.gate })) }
+    ensures damaged { (v : Volume) (at : ℕ) → v.start ≡ extent.start → drop v.start v.bytes ≡ bytes.now → result ≡ Err (Damaged at) → opened v ≡ Err at }
     ensures others { (result ≢ Err LogFault) × ((result ≢ Err Full) × ((at : ℕ) → result ≢ Err (LogDown at))) }
 {
-    if is_unwritten(start, bytes) {
-        return Ok(no_records(alloc));
+    if is_unwritten(extent.start, bytes) {
+        return Ok(no_records(alloc, extent.length));
     }
-    match scan(alloc, start, bytes) {
+    match scan(alloc, extent.start, bytes) {
         Ok(Found { past, gate }) => Ok(LogContents {
             recs: past.recs,
             first: past.first,
             counters: Some(past.counters),
             gate,
+            length: extent.length,
         }),
         Err(refusal) => Err(refusal),
     }
@@ -109,6 +120,10 @@ fn read_extent<D: LogDisk>(
     requires start { IsTrue D.tells → extent.start ≡ (D.reads disk.old).start }
     requires length { IsTrue D.tells → extent.length ≡ length (D.reads disk.old).bytes }
     ensures read { IsTrue D.tells → IfOk result (λ found. opened (D.reads disk.old) ≡ Ok (record { history = history_of found; gate = found.gate })) }
+    ensures goes_on { IsTrue D.tells → IfOk result (λ found. GoesOn found.gate found.counters (found.first + length found.recs) (D.reads disk.old)) }
+    ensures numbers { IfOk result (λ found. found.first + length found.recs ≤ found.gate) }
+    ensures place { IfOk result (λ found. found.gate < 2 ^ 64) }
+    ensures reach { IsTrue D.tells → IfOk result (λ found. found.length ≡ length (D.reads disk.old).bytes) }
     ensures damaged { IsTrue D.tells → (at : ℕ) → result ≡ Err (Damaged at) → opened (D.reads disk.old) ≡ Err at }
     ensures fault { result ≡ Err LogFault → HasRisen (D.faults disk.old) (D.faults disk.new) }
     ensures others { (result ≢ Err Full) × ((at : ℕ) → result ≢ Err (LogDown at)) }
@@ -117,10 +132,10 @@ fn read_extent<D: LogDisk>(
     ensures count { D.faults disk.old ≤ D.faults disk.new }
 {
     if extent.start == 0 && extent.length <= 1 {
-        return Ok(no_records(alloc));
+        return Ok(no_records(alloc, extent.length));
     }
     match read_all(alloc, disk, extent) {
-        Ok(bytes) => contents(alloc, extent.start, &bytes),
+        Ok(bytes) => contents(alloc, extent, &bytes),
         Err(refusal) => Err(refusal),
     }
 }
@@ -129,6 +144,10 @@ fn read_extent<D: LogDisk>(
 /// the first gate at which it is damaged. Nothing is written.
 pub fn read_log<D: LogDisk>(alloc: Global, disk: &mut D) -> Result<LogContents, LogRefusal>
     ensures read { IsTrue D.tells → IfOk result (λ found. opened (D.reads disk.old) ≡ Ok (record { history = history_of found; gate = found.gate })) }
+    ensures goes_on { IsTrue D.tells → IfOk result (λ found. GoesOn found.gate found.counters (found.first + length found.recs) (D.reads disk.old)) }
+    ensures numbers { IfOk result (λ found. found.first + length found.recs ≤ found.gate) }
+    ensures place { IfOk result (λ found. found.gate < 2 ^ 64) }
+    ensures reach { IsTrue D.tells → IfOk result (λ found. found.length ≡ length (D.reads disk.old).bytes) }
     ensures damaged { IsTrue D.tells → (at : ℕ) → result ≡ Err (Damaged at) → opened (D.reads disk.old) ≡ Err at }
     ensures fault { result ≡ Err LogFault → HasRisen (D.faults disk.old) (D.faults disk.new) }
     ensures others { (result ≢ Err Full) × ((at : ℕ) → result ≢ Err (LogDown at)) }

@@ -9,6 +9,7 @@ mod past;
 mod reading;
 mod refusal;
 mod scan;
+mod started;
 mod stop;
 mod wal_log;
 mod writing;
@@ -17,6 +18,7 @@ pub use contents::{LogContents, read_log};
 pub use counters::counters_after;
 pub use reading::{ReadRec, read_rec};
 pub use refusal::LogRefusal;
+pub use started::Started;
 pub use wal_log::WalLog;
 pub use writing::write_rec;
 

@@ -2,7 +2,7 @@
 ghost use Rattle.std.specs.Prelude.{◌≤◌, ◌<◌, ◌^◌, length};
 
 use super::*;
-use disk_core::MemLog;
+use disk_core::{Fuse, LogDisk, Media, MemLog, MemMedia, Which};
 use std::alloc::Global;
 use std::test::Fail;
 use tx_model::{Counters, IdList, Rec};
@@ -47,9 +47,9 @@ fn records_have_their_bytes_and_are_read_again(rt: HostRuntime) -> Result<(), Fa
     assert_eq!(rt; bytes.len(), 70);
     assert_eq!(rt; &bytes[57..], &LOG[67..80]);
 
-    let first = read_rec(alloc, &bytes)?.ok_or("a record")?;
-    assert_eq!(rt; first.length, 57);
-    let Rec::Checkpoint { number, counters } = first.rec else {
+    let ReadRec { rec, length } = read_rec(alloc, &bytes)?.ok_or("a record")?;
+    assert_eq!(rt; length, 57);
+    let Rec::Checkpoint { number, counters } = rec else {
         panic!(rt; "a checkpoint")
     };
     assert_eq!(rt; number, 0);
@@ -124,5 +124,37 @@ fn what_is_read_of_a_log(rt: HostRuntime) -> Result<(), Fail> {
     let counters = found.counters.ok_or("counters")?;
     assert_eq!(rt; counters.next.number(), 4);
     assert_eq!(rt; counters.oldest.number(), 3);
+    Ok(())
+}
+
+#[test]
+fn a_new_log_is_opened_by_four_calls(rt: HostRuntime) -> Result<(), Fail> {
+    let alloc = rt.alloc();
+    for passes in 0..6u64 {
+        let mut media = Fuse::new(alloc, MemMedia::new(alloc), Which::Log, passes);
+        let volumes = media.mount(1)?;
+        let opens = WalLog::start(alloc, volumes.log).is_ok();
+        assert_eq!(rt; opens, passes >= 4, "{passes} calls");
+    }
+    Ok(())
+}
+
+#[test]
+fn a_log_that_ends_with_its_volume_gets_a_closed_gate(rt: HostRuntime) -> Result<(), Fail> {
+    let alloc = rt.alloc();
+    for n in 80..82usize {
+        assert!(rt; n <= LOG.len());
+        let disk = MemLog::of(alloc, LOG[..n].to_vec(alloc)?);
+        let Ok(Started { log, recs, first }) = WalLog::start(alloc, disk) else {
+            panic!(rt; "a log opens")
+        };
+        assert_eq!(rt; first, 0);
+        assert_eq!(rt; recs.items().len(), 2);
+        assert_eq!(rt; log.next(), 2);
+        assert_eq!(rt; log.flushed(), 2);
+        assert_eq!(rt; log.end(), 80);
+        let mut disk = log.into_disk();
+        assert_eq!(rt; disk.extent()?.length, 81);
+    }
     Ok(())
 }

@@ -1,4 +1,4 @@
-use Rattle.std.proofs.Common.{◌≡◌, inl, inr, ◌+◌, ◌*◌, ◌<◌, ◌≤◌, ◌^◌, length, ap, subst, arith}
+use Rattle.std.proofs.Common.{inl, inr, ◌<◌, ◌≤◌, ◌^◌, length, ap, subst, arith}
 use Rattle.tx_model.specs.declared.record.Rec.{Rec}
 use Rattle.wal_core.specs.Spelling.{rec_bytes, HasCounts}
 use Rattle.wal_core.proofs.Append.{length-tree, length-multi, length-checkpoint, length-truncate}

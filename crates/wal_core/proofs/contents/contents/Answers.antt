@@ -1,18 +1,41 @@
-use Rattle.std.proofs.Common.{◌≡◌, Ok, Err, sym, ◌∙◌}
+use Rattle.std.proofs.Common.{◌≡◌, Ok, Err, refl, sym, ◌∙◌, subst, drop}
 use Rattle.wal_core.specs.declared.refusal.LogRefusal.TheVariants.{Damaged}
 use Rattle.wal_core.proofs.News.{opens_new, opens_as_bytes}
+use Rattle.wal_core.proofs.Starts.{goes_on_as, unwritten_goes_on, old_goes_on, old_numbers, fits_all, volume_of, bytes_from}
+use Rattle.wal_core.proofs.Fields.{IsBytes}
+use Rattle.disk_core.specs.Volume.{Volume}
 use Rattle.wal_core.proofs.contents.contents.Goals as goal
 
 pub returns-then-is_unwritten-clause-found : goal.returns-then-is_unwritten-clause-found
 returns-then-is_unwritten-clause-found c v from is =
-    opens_new v c.args.start c.args.bytes.now from is (c.is_unwritten.ensures.unwritten c.if-is_unwritten.true)
+    opens_new v c.args.extent.start c.args.bytes.now from is (c.is_unwritten.ensures.unwritten c.if-is_unwritten.true)
     ∙ (λ i. Ok (record { history = sym c.no_records.ensures.history i; gate = sym c.no_records.ensures.gate i }))
 
 pub returns-in-Ok-clause-found : goal.returns-in-Ok-clause-found
 returns-in-Ok-clause-found c v from is =
-    opens_as_bytes v c.args.start c.args.bytes.now from is (c.is_unwritten.ensures.written c.if-is_unwritten.false) ∙ c.in-Ok.ensures.found
+    opens_as_bytes v c.args.extent.start c.args.bytes.now from is (c.is_unwritten.ensures.written c.if-is_unwritten.false) ∙ c.in-Ok.ensures.found
 
 pub returns-in-Err-clause-damaged : goal.returns-in-Err-clause-damaged
 returns-in-Err-clause-damaged c v at from is e =
     let same : c.in-Err.refusal ≡ Damaged at = cc in
-    opens_as_bytes v c.args.start c.args.bytes.now from is (c.is_unwritten.ensures.written c.if-is_unwritten.false) ∙ c.scan.ensures.damaged at (c.in-Err.is ∙ (λ i. Err (same i)))
+    opens_as_bytes v c.args.extent.start c.args.bytes.now from is (c.is_unwritten.ensures.written c.if-is_unwritten.false) ∙ c.scan.ensures.damaged at (c.in-Err.is ∙ (λ i. Err (same i)))
+
+pub returns-then-is_unwritten-clause-goes_on : goal.returns-then-is_unwritten-clause-goes_on
+returns-then-is_unwritten-clause-goes_on c v from is =
+    goes_on_as _ _ _ v c.no_records.ensures.gate c.no_records.ensures.none.0 c.no_records.ensures.none.1
+    (unwritten_goes_on v c.args.extent.start c.args.bytes.now from is (c.is_unwritten.ensures.unwritten c.if-is_unwritten.true))
+
+pub returns-in-Ok-clause-goes_on : goal.returns-in-Ok-clause-goes_on
+returns-in-Ok-clause-goes_on c v from is =
+    let fit : IsBytes (drop v.start v.bytes) = subst IsBytes (sym is) (fits_all c.args.bytes.now c.is_unwritten.ensures.bytes) in
+    let p = c.in-Ok.field-0.past in
+    old_goes_on v (record { first = p.first; recs = p.recs; counters = p.counters }) c.in-Ok.field-0.gate fit
+    (opens_as_bytes v c.args.extent.start c.args.bytes.now from is (c.is_unwritten.ensures.written c.if-is_unwritten.false) ∙ c.in-Ok.ensures.found)
+
+pub returns-in-Ok-clause-numbers : goal.returns-in-Ok-clause-numbers
+returns-in-Ok-clause-numbers c =
+    let v : Volume = volume_of c.args.extent.start c.args.bytes.now in let is = bytes_from c.args.extent.start c.args.bytes.now in
+    let fit : IsBytes (drop v.start v.bytes) = subst IsBytes (sym is) (fits_all c.args.bytes.now c.is_unwritten.ensures.bytes) in
+    let p = c.in-Ok.field-0.past in
+    old_numbers v (record { first = p.first; recs = p.recs; counters = p.counters }) c.in-Ok.field-0.gate fit
+    (opens_as_bytes v c.args.extent.start c.args.bytes.now refl is (c.is_unwritten.ensures.written c.if-is_unwritten.false) ∙ c.in-Ok.ensures.found)

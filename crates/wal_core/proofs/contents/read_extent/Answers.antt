@@ -1,5 +1,6 @@
 use Rattle.std.proofs.Common.{Ok, sym, ◌∙◌, arith}
 use Rattle.wal_core.proofs.News.{opens_short}
+use Rattle.wal_core.proofs.Starts.{goes_on_as, short_goes_on}
 use Rattle.wal_core.proofs.contents.read_extent.Goals as goal
 
 pub returns-then-extent-le1-clause-read : goal.returns-then-extent-le1-clause-read
@@ -7,3 +8,9 @@ returns-then-extent-le1-clause-read g c told =
     let v = g.D.LogDisk.reads c.args.disk.now in
     opens_short v (omega (arith, c.requires.start told)) (omega (arith, c.requires.length told))
     ∙ (λ i. Ok (record { history = sym c.no_records.ensures.history i; gate = sym c.no_records.ensures.gate i }))
+
+pub returns-then-extent-le1-clause-goes_on : goal.returns-then-extent-le1-clause-goes_on
+returns-then-extent-le1-clause-goes_on g c told =
+    let v = g.D.LogDisk.reads c.args.disk.now in
+    goes_on_as _ _ _ v c.no_records.ensures.gate c.no_records.ensures.none.0 c.no_records.ensures.none.1
+    (short_goes_on v (omega (arith, c.requires.start told)) (omega (arith, c.requires.length told)))

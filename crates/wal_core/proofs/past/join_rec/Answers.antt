@@ -1,4 +1,4 @@
-use Rattle.std.proofs.Common.{◌≡◌, sym, ap, ◌∙◌}
+use Rattle.std.proofs.Common.{sym, ap, ◌∙◌}
 use Rattle.std.proofs.lemmas.Bool.{and_from, and_right}
 use Rattle.tx_model.specs.After.{after_record}
 use Rattle.wal_core.specs.BaseTest.{is_base_of}

@@ -1,7 +1,7 @@
-use Rattle.std.proofs.Common.{◌≡◌, ◌-◌, None, Option, length, sym, subst}
+use Rattle.std.proofs.Common.{Option, length, sym, subst}
 use Rattle.std.proofs.lemmas.Result.{err_from_is_err_and}
-use Rattle.wal_core.specs.Opening.{History, with_body}
-use Rattle.wal_core.specs.Past.{past_history, joins, GivesPast}
+use Rattle.wal_core.specs.Opening.{History}
+use Rattle.wal_core.specs.Past.{past_history, GivesPast}
 use Rattle.wal_core.proofs.Bodies.{first_empty, first_stop, begin_stop, first_begins, empty_length, some_length}
 use Rattle.wal_core.proofs.past.read_first.Goals as goal
 

@@ -1,4 +1,4 @@
-use Rattle.std.proofs.Common.{◌≡◌, ◌-◌, ℕ, Ok, Option, length, arith}
+use Rattle.std.proofs.Common.{◌-◌, Ok, Option, length, arith}
 use Rattle.std.proofs.lemmas.Result.{err_from_is_err_and}
 use Rattle.wal_core.specs.Opening.{History}
 use Rattle.wal_core.specs.Past.{past_history, joins}

@@ -1,7 +1,7 @@
-use Rattle.std.proofs.Common.{◌≡◌, ◌+◌, ℕ, List, ◌∷◌, Option, None, Some, Ok, Err, length, refl, sym, ◌∙◌, ap, arith}
+use Rattle.std.proofs.Common.{◌≡◌, ◌+◌, ℕ, Option, None, Some, Err, length, refl, sym, ◌∙◌, ap, arith}
 use Rattle.std.specs.Prelude.{is_some}
 use Rattle.wal_core.specs.declared.past.Past.{Past}
-use Rattle.wal_core.specs.Opening.{History, batch_at, with_body}
+use Rattle.wal_core.specs.Opening.{History}
 use Rattle.wal_core.specs.Past.{past_history, history_so_far}
 use Rattle.wal_core.proofs.Scanning.{scanning, at_open, batch_long, scan_batch, scan_bad, scan_cut, scan_end, scan_none}
 use Rattle.wal_core.proofs.scan.scan.Goals as goal

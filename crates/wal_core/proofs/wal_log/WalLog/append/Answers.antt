@@ -1,13 +1,12 @@
-use Rattle.std.proofs.Common.{◌≡◌, ◌⊎◌, inl, inr, ℕ, ◌+◌, ◌-◌, ◌<◌, ◌≤◌, ◌^◌, List, [], ◌∷◌, ◌++◌, length, drop, Option, Some, refl, sym, ◌∙◌, ap, subst, arith}
+use Rattle.std.proofs.Common.{◌≡◌, inl, inr, ℕ, ◌+◌, ◌-◌, ◌<◌, ◌≤◌, ◌^◌, List, [], ◌∷◌, ◌++◌, length, drop, sym, ◌∙◌, ap, subst, arith}
 use Rattle.std.proofs.lemmas.List.{length-append}
 use Rattle.std.proofs.lemmas.Bool.{cases_lt}
 use Rattle.tx_model.specs.declared.record.Rec.{Rec}
-use Rattle.tx_model.specs.declared.record.Counters.{Counters}
 use Rattle.wal_core.specs.Spelling.{rec_bytes}
-use Rattle.wal_core.specs.Log.{bytes_of, are_lawful, IsReady, IsNextBatch, IsFull}
+use Rattle.wal_core.specs.Log.{bytes_of, are_lawful, IsNextBatch, IsFull}
 use Rattle.wal_core.proofs.Walks.{some_bytes}
 use Rattle.wal_core.proofs.Flush.{long_behind}
-use Rattle.wal_core.proofs.Append.{has_counts, not_both, next-push, long-push, pending-push, lawful-push, ready-push}
+use Rattle.wal_core.proofs.Append.{not_both, next-push, long-push, pending-push, lawful-push, ready-push}
 use Rattle.wal_core.proofs.wal_log.WalLog.append.Goals as goal
 
 pub overflow_sub-pending : goal.overflow_sub-pending

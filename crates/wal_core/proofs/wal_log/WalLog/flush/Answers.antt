@@ -1,5 +1,4 @@
 use Rattle.std.proofs.Common.{◌≡◌, inl, refl, ℕ, ◌+◌, ◌<◌, List, [], ◌∷◌, ◌++◌, length, drop, sym, ◌∙◌, ap, subst, arith}
-use Rattle.std.specs.Prelude.{IsTrue, true}
 use Rattle.std.proofs.lemmas.List.{drop_all, length-drop}
 use Rattle.tx_model.specs.declared.record.Rec.{Rec}
 use Rattle.disk_core.specs.Volume.{Volume}

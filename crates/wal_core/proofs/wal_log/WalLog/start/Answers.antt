@@ -1,0 +1,28 @@
+use Rattle.std.proofs.Common.{◌≡◌, ℕ, ◌+◌, List, [], length, sym, ◌∙◌, ap, subst, arith}
+use Rattle.tx_model.specs.declared.record.Rec.{Rec}
+use Rattle.disk_core.specs.Volume.{Volume}
+use Rattle.wal_core.specs.Log.{are_lawful, IsReady}
+use Rattle.wal_core.proofs.Flush.{nothing_next}
+use Rattle.wal_core.proofs.Starts.{nothing_behind}
+use Rattle.wal_core.proofs.wal_log.WalLog.start.Goals as goal
+
+pub invariant_of-log : goal.invariant_of-log
+invariant_of-log g c =
+    let found = c.in-Ok.found in let none : c.new.result ≡ [] = c.new.ensures in
+    let empty : length c.new.result ≡ 0 = ap length none in
+    let recs : length c.items.result.now ≡ length found.recs = ap length c.items.ensures in
+    let behind = c.in-Ok-zeros.ensures ∙ nothing_behind in
+    record {
+      counts = omega (arith, empty);
+      small = omega (arith, empty, recs, c.in-Ok.ensures.numbers, c.in-Ok.ensures.place);
+      numbers = omega (arith, empty, recs, c.in-Ok.ensures.numbers, ap length c.in-Ok-zeros.ensures);
+      next_batch = nothing_next c.in-Ok-zeros.behind.items c.new.result none behind;
+      few = λ some. absurd (omega (arith, empty, some));
+      lawful = ap are_lawful none;
+      ready = λ told up v left.
+          let ready = c.in-Ok-close_gate.ensures.ready told in
+          let next : found.first + length found.recs ≡ found.first + length c.items.result.now + length c.new.result = omega (arith, empty, recs) in
+          subst (λ (x : Volume). IsReady found.gate c.new.result found.counters (found.first + length c.items.result.now + length c.new.result) x) (sym (c.in-Ok-close_gate.ensures.synced told v left))
+          (subst (λ (l : List Rec). IsReady found.gate l found.counters (found.first + length c.items.result.now + length c.new.result) (g.D.LogDisk.reads c.close_gate.new.disk)) (sym none)
+          (subst (λ (k : ℕ). IsReady found.gate [] found.counters k (g.D.LogDisk.reads c.close_gate.new.disk)) next ready));
+    }

@@ -1,0 +1,100 @@
+// Opening the log of a volume.
+ghost use Rattle.std.specs.Prelude.{◌≡◌, ◌≢◌, ◌⊎◌, ◌+◌, ◌≤◌, ◌<◌, [], ℕ, length, IsTrue, IfOk, IfErr, OnOk, Ok, Err, None};
+ghost use Rattle.disk_core.specs.Faults.{HasRisen, CountsFault};
+ghost use Rattle.disk_core.specs.Images.{Only};
+ghost use Rattle.disk_core.specs.Volume.{Volume};
+ghost use Rattle.wal_core.specs.declared.refusal.LogRefusal.TheVariants.{LogDown, LogFault, Full, Damaged};
+ghost use Rattle.wal_core.specs.Contents.{history_with};
+ghost use Rattle.wal_core.specs.Opening.{opened, behind_gate};
+ghost use Rattle.wal_core.specs.Log.{GoesOn, IsReady};
+ghost use Rattle.wal_core.specs.LogViews.{log_disk, log_recs, log_next, log_flushed, log_end, log_counters, log_down};
+
+use crate::contents::{LogContents, read_log, zeros};
+use crate::refusal::LogRefusal;
+use crate::wal_log::WalLog;
+use disk_core::{Failed, LogDisk};
+use std::alloc::Global;
+use tx_model::RecList;
+
+/// A log that was started, the records that the volume has, and the number of the first.
+#[derive(Drop)]
+pub struct Started<D: LogDisk> {
+    pub log: WalLog<D>,
+    pub recs: RecList,
+    pub first: u64,
+}
+
+// Puts a closed gate at the end, where there is none yet: so no later write leaves a hole.
+fn close_gate<D: LogDisk>(disk: &mut D, found: &LogContents) -> Result<(), Failed>
+    requires goes_on { IsTrue D.tells → GoesOn found.now.gate found.now.counters (found.now.first + length found.now.recs) (D.reads disk.old) }
+    requires synced { IsTrue D.tells → Only (D.reads disk.old) (D.images disk.old) }
+    requires reach { IsTrue D.tells → found.now.length ≡ length (D.reads disk.old).bytes }
+    ensures opens { IsTrue D.tells → OnOk result (opened (D.reads disk.new) ≡ opened (D.reads disk.old)) }
+    ensures ready { IsTrue D.tells → OnOk result (IsReady found.now.gate [] found.now.counters (found.now.first + length found.now.recs) (D.reads disk.new)) }
+    ensures synced { IsTrue D.tells → OnOk result (Only (D.reads disk.new) (D.images disk.new)) }
+    ensures cause { CountsFault result (D.faults disk.old) (D.faults disk.new) }
+{
+    let least = if found.counters.is_none() { 1 } else { 0 };
+    if found.length > least && found.length > found.gate {
+        return Ok(());
+    }
+    disk.write_at(found.gate, &[0])?;
+    disk.sync()
+}
+
+impl<D: LogDisk> WalLog<D> {
+    ghost use Rattle.std.specs.Prelude.{◌≡◌, ◌≢◌, ◌+◌, [], ℕ, length, IsTrue, IfOk, IfErr, Ok, Err, None};
+    ghost use Rattle.disk_core.specs.Faults.{HasRisen};
+    ghost use Rattle.disk_core.specs.Images.{Only};
+    ghost use Rattle.wal_core.specs.declared.refusal.LogRefusal.TheVariants.{LogDown, LogFault, Full, Damaged};
+    ghost use Rattle.wal_core.specs.Contents.{history_with};
+    ghost use Rattle.wal_core.specs.Opening.{opened};
+    ghost use Rattle.wal_core.specs.LogViews.{log_disk, log_recs, log_next, log_flushed, log_end, log_counters, log_down};
+
+    /// Opens the log of a volume: syncs, and reads its records. Nothing is pending. Where a volume has no closed gate
+    /// yet behind its batches, a byte 0 is written there and synced. An error hands the disk back: `LogFault`, `Damaged`
+    /// with the place of the first gate at which the volume is no lawful log, or `Memory`.
+    pub fn start(alloc: Global, disk: D) -> Result<Started<D>, (D, LogRefusal)>
+        // What the volume has is what it opens to, and it still opens so.
+        ensures history { IsTrue D.tells → IfOk result (λ s. opened (D.reads disk) ≡ Ok (record { history = history_with s.first s.recs (log_counters s.log); gate = log_end s.log })) }
+        ensures opens { IsTrue D.tells → IfOk result (λ s. opened (D.reads (log_disk s.log)) ≡ opened (D.reads disk)) }
+        ensures synced { IsTrue D.tells → IfOk result (λ s. Only (D.reads (log_disk s.log)) (D.images (log_disk s.log))) }
+        ensures next { IfOk result (λ s. log_next s.log ≡ s.first + length s.recs) }
+        ensures clean { IfOk result (λ s. (log_recs s.log ≡ []) × (log_flushed s.log ≡ log_next s.log) × (log_down s.log ≡ None)) }
+
+        ensures damaged { IsTrue D.tells → IfErr result (λ e. (at : ℕ) → e.1 ≡ Damaged at → opened (D.reads disk) ≡ Err at) }
+        ensures fault { IfErr result (λ e. e.1 ≡ LogFault → HasRisen (D.faults disk) (D.faults e.0)) }
+        ensures others { IfErr result (λ e. (e.1 ≢ Full) × ((at : ℕ) → e.1 ≢ LogDown at)) }
+    {
+        let mut disk = disk;
+        let found = match read_log(alloc, &mut disk) {
+            Ok(found) => found,
+            Err(refusal) => return Err((disk, refusal)),
+        };
+        let Ok(behind) = zeros(alloc, 5) else {
+            return Err((disk, LogRefusal::Memory));
+        };
+        let Ok(()) = close_gate(&mut disk, &found) else {
+            return Err((disk, LogRefusal::LogFault));
+        };
+        let LogContents {
+            recs,
+            first,
+            counters,
+            gate,
+            length: _,
+        } = found;
+        let from = first + recs.items().len() as u64;
+        let log = WalLog {
+            disk,
+            gate,
+            behind,
+            from,
+            recs: RecList::new(alloc),
+            flushed: 0,
+            counters,
+            down: None,
+        };
+        Ok(Started { log, recs, first })
+    }
+}

@@ -2,7 +2,7 @@
 ghost use Rattle.std.specs.Prelude.{◌≤◌, ◌<◌, ◌^◌, length};
 
 use super::*;
-use disk_core::{Fuse, LogDisk, Media, MemLog, MemMedia, Which};
+use disk_core::{Fuse, Media, MemLog, MemMedia, Which};
 use std::alloc::Global;
 use std::test::Fail;
 use tx_model::{Counters, IdList, Rec};
@@ -145,7 +145,14 @@ fn a_log_that_ends_with_its_volume_gets_a_closed_gate(rt: HostRuntime) -> Result
     for n in 80..82usize {
         assert!(rt; n <= LOG.len());
         let disk = MemLog::of(alloc, LOG[..n].to_vec(alloc)?);
-        let Ok(Started { log, recs, first }) = WalLog::start(alloc, disk) else {
+        let Ok(
+            Started {
+                mut log,
+                recs,
+                first,
+            },
+        ) = WalLog::start(alloc, disk)
+        else {
             panic!(rt; "a log opens")
         };
         assert_eq!(rt; first, 0);
@@ -153,8 +160,10 @@ fn a_log_that_ends_with_its_volume_gets_a_closed_gate(rt: HostRuntime) -> Result
         assert_eq!(rt; log.next(), 2);
         assert_eq!(rt; log.flushed(), 2);
         assert_eq!(rt; log.end(), 80);
-        let mut disk = log.into_disk();
-        assert_eq!(rt; disk.extent()?.length, 81);
+        let mut bytes = [7; 82];
+        assert_eq!(rt; log.dump(0, &mut bytes)?, 81);
+        assert_eq!(rt; bytes[80], 0);
+        assert_eq!(rt; bytes[81], 7);
     }
     Ok(())
 }

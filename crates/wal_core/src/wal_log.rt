@@ -50,8 +50,8 @@ impl<D: LogDisk> WalLog<D> {
     ghost use Rattle.std.specs.Prelude.{◌≡◌, ◌≢◌, ◌+◌, ◌≤◌, ◌++◌, ◌∷◌, [], ℕ, length, IsTrue, IsSome, IfOk, OnOk, OnErr, Option, None, Some, Ok, Err};
     ghost use Rattle.tx_model.specs.After.{after_record};
     ghost use Rattle.disk_core.specs.Faults.{HasRisen};
-    ghost use Rattle.disk_core.specs.Images.{LeavesOnly};
-    ghost use Rattle.disk_core.specs.Volume.{Volume};
+    ghost use Rattle.disk_core.specs.Images.{LeavesOnly, NoMore};
+    ghost use Rattle.disk_core.specs.Volume.{Volume, IsRead};
     ghost use Rattle.wal_core.specs.declared.refusal.LogRefusal.TheVariants.{LogDown, LogFault, Full, Memory, Damaged};
     ghost use Rattle.wal_core.specs.Log.{OpensFromImage, MayAppend, IsFull, counters_or_none, bytes_of};
     ghost use Rattle.wal_core.specs.Spelling.{rec_bytes};
@@ -134,6 +134,27 @@ impl<D: LogDisk> WalLog<D> {
                 self.down = Some(self.from + self.flushed);
                 Err(LogRefusal::LogFault)
             }
+        }
+    }
+
+    /// Reads the volume's bytes at a place, fewer than asked for only at the end. After `LogFault`, its only error, the
+    /// log is as before: it isn't put down.
+    pub fn dump(&mut self, at: u64, into: &mut [u8]) -> Result<usize, LogRefusal>
+        ensures count { IfOk result (λ n. n ≤ length into.old) }
+        ensures bytes { IsTrue D.tells → IfOk result (λ n. IsRead (D.reads (log_disk self.old)).bytes at into.old n into.new) }
+        ensures same { IsTrue D.tells → D.reads (log_disk self.new) ≡ D.reads (log_disk self.old) }
+        ensures crash { IsTrue D.tells → NoMore (D.images (log_disk self.old)) (D.images (log_disk self.new)) }
+        ensures recs { log_recs self.new ≡ log_recs self.old }
+        ensures next { log_next self.new ≡ log_next self.old }
+        ensures flushed { log_flushed self.new ≡ log_flushed self.old }
+        ensures end { log_end self.new ≡ log_end self.old }
+        ensures counters { log_counters self.new ≡ log_counters self.old }
+        ensures stays { log_down self.new ≡ log_down self.old }
+        ensures fault { OnErr result ((result ≡ Err LogFault) × HasRisen (D.faults (log_disk self.old)) (D.faults (log_disk self.new))) }
+    {
+        match self.disk.read(at, into) {
+            Ok(read) => Ok(read),
+            Err(Failed) => Err(LogRefusal::LogFault),
         }
     }
 

@@ -46,7 +46,7 @@ impl<L: Law> Hall<L> {
     {
         let cells = values.len();
         let words = posts.len();
-        let Ok(starts) = first_words(alloc, cells, posts) else {
+        let Ok(starts) = first_words(alloc, cells, posts.as_slice()) else {
             return Err((values, Memory));
         };
         let Ok(mut slots) = Vec::with_capacity(alloc, cells) else {

@@ -14,7 +14,7 @@ store-requires g c =
     let slots = ap (λ z. z.slots) c.requires.own.table in let words = sized.1 in let deep = sized.0 in let lt = t.2 in (
       x.0 ∙ c.requires.own.table,
       omega arith,
-      leave_allowed _ _ _ _ _ _ f _ _ _ _ _ _ _ _ _ _ _ _ _ (record { value = Some c.args.value; note = Some c.args.entry }) _ c.args.entry (sym slots) (sees_places _ _ _ _ _ _ f _ _ _ (ap (λ z. z.slots) c.requires.own.table ∙ c.args.self.now.sized.0) (ap (λ z. z.words) c.requires.own.table ∙ c.args.self.now.sized.1) c.args.self.now.places) (let p = c.args.self.now.places in omega arith) (omega arith) refl c.requires.inside x.3 refl refl c.requires.session c.requires.stands
+      leave_allowed _ _ _ _ _ _ f _ _ _ _ _ _ _ _ _ _ _ _ _ (record { value = Some c.args.value; note = Some c.args.entry }) _ c.args.entry (sym slots) (sees_places _ _ _ _ _ _ f _ _ _ (ap (λ z. z.words) c.requires.own.table ∙ c.args.self.now.sized.1) c.args.self.now.places) (let p = c.args.self.now.places in omega arith) (omega arith) refl c.requires.inside x.3 refl refl c.requires.session c.requires.stands
           (λ ls k n lt e. g.L.Law.keeps _ ls _ _ c.args.entry.value k n lt e c.requires.may),
     )
 

@@ -10,7 +10,7 @@ load-found-requires g c =
     let deep = sized.0 in let own = c.requires.own.table in let wide = fits.wide in
     let slots = ap (λ z. z.slots) own in
     let lt = t.2 in
-    (own, (let words = sized.1 in omega arith), looks _ _ _ _ _ _ _ _ _ _ _ _ _ _ (sees_places _ _ _ _ _ _ fits _ _ _ (ap (λ z. z.slots) c.requires.own.table ∙ c.args.self.now.sized.0) (ap (λ z. z.words) c.requires.own.table ∙ c.args.self.now.sized.1) c.args.self.now.places) (omega arith) c.requires.waits)
+    (own, (let words = sized.1 in omega arith), looks _ _ _ _ _ _ _ _ _ _ _ _ _ _ (sees_places _ _ _ _ _ _ fits _ _ _ (ap (λ z. z.words) c.requires.own.table ∙ c.args.self.now.sized.1) c.args.self.now.places) (omega arith) c.requires.waits)
 
 pub invariant_of-pass : goal.invariant_of-pass
 invariant_of-pass g c =

@@ -60,13 +60,13 @@ module _ {S V E : Type 0} (cells words cell ticket : ℕ) (names : List Bool) (m
   }
 
   -- the last of a look's steps
-  pub look_tells : (session : E → ℕ) (writer : S → ℕ → Writer) (stands : S → ℕ → V → List E → Type 0) (kept : S → List (List E) → Type 0) (start : S) (m' : Me (Held V E) (View S E)) (h : Held V E) (w : View S E) (A : Type 0) → Got session writer stands kept start cell ticket m m' → m'.1 ≡ (cell, h) ∷ rest m'.1 → w ≡ m'.0
-      → MatchOption h.value A (λ x. Entered session writer stands kept start cell ticket m.0 x w)
-  look_tells session writer stands kept start m' h w A got is same =
+  pub look_tells : (session : E → ℕ) (writer : S → ℕ → Writer) (stands : S → ℕ → V → List E → Type 0) (kept : S → List (List E) → Type 0) (start : S) (m' : Me (Held V E) (View S E)) (h : Held V E) (o : Option V) (w : View S E) (A : Type 0) → Got session writer stands kept start cell ticket m m' → m'.1 ≡ (cell, h) ∷ rest m'.1 → o ≡ h.value → w ≡ m'.0
+      → MatchOption o A (λ x. Entered session writer stands kept start cell ticket m.0 x w)
+  look_tells session writer stands kept start m' h o w A got is out same =
       let e : (cell, h) ∷ rest m'.1 ≡ (cell, got.held) ∷ m.1 = sym is ∙ got.slots_are in
       let h_is : h ≡ got.held = ap (λ (l : List (ℕ × Held V E)). (get_or l 0 (cell, h)).1) e in
-      let v : h.value ≡ Some got.value = ap (λ (z : Held V E). z.value) h_is ∙ got.filled in
-      subst (λ (o : Option V). MatchOption o A (λ x. Entered session writer stands kept start cell ticket m.0 x w)) (sym v) record { lists = got.lists; moment = got.moment; stood = got.stood; view_is = same ∙ got.view_is }
+      let v : o ≡ Some got.value = out ∙ (ap (λ (z : Held V E). z.value) h_is ∙ got.filled) in
+      subst (λ (z : Option V). MatchOption z A (λ x. Entered session writer stands kept start cell ticket m.0 x w)) (sym v) record { lists = got.lists; moment = got.moment; stood = got.stood; view_is = same ∙ got.view_is }
 
   pub slots_out : (m' : Me (Held V E) (View S E)) (session : E → ℕ) (writer : S → ℕ → Writer) (stands : S → ℕ → V → List E → Type 0) (kept : S → List (List E) → Type 0) (start : S) (h : Held V E) → Got session writer stands kept start cell ticket m m' → m.0.stage ≡ Waiting cell ticket → h.value ≡ None → map shown ((cell, h) ∷ rest m'.1) ≡ (cell, false) ∷ []
   slots_out m' session writer stands kept start h got waits empty =

@@ -45,10 +45,7 @@ pub(crate) fn wrap<V, E>(values: &mut Vec<V>, slots: &mut Vec<Held<V, E>>)
 {
     while values.len() > 0 {
         let value = values.remove(0);
-        slots.push_reserved(Held {
-            value: Some(value),
-            note: None,
-        });
+        slots.push_reserved(Held::new(Some(value), None));
     }
 }
 
@@ -60,7 +57,11 @@ pub(crate) fn unwrap<V, E>(mut slots: Vec<Held<V, E>>, values: &mut Vec<V>)
     ensures { map Some values.new.items ≡ map (λ h. h.value) slots.items }
 {
     while slots.len() > 0 {
-        let Held { value, note: _ } = slots.remove(0);
+        let Held {
+            value,
+            note: _,
+            gap: _,
+        } = slots.remove(0);
         let Some(x) = value else { unreachable!() };
         values.push_reserved(x);
     }

@@ -100,7 +100,11 @@ impl<L: Law> Hall<L> {
         } = pass;
         let mut closed = table.close_with(seat);
         for i in 0..cells {
-            let Held { value, note: _ } = closed.take(i);
+            let Held {
+                value,
+                note: _,
+                gap: _,
+            } = closed.take(i);
             let Some(x) = value else { unreachable!() };
             shell.push_reserved(x);
         }

@@ -12,7 +12,6 @@ use crate::layout::{line_at, served_at};
 use crate::note::Note;
 use crate::pass::Pass;
 use crate::plays::{Draw, Leave, Look};
-use crate::view::Held;
 use crossbeam_utils::Backoff;
 use std::sync::Wait;
 
@@ -56,12 +55,7 @@ impl<L: Law> Hall<L> {
         if found != pass.ticket {
             return None;
         }
-        let empty = Held {
-            value: None,
-            note: None,
-        };
-        let Held { value, note: _ } = shared.exchange(&mut pass.seat, pass.cell, empty);
-        value
+        pass.seat.slot_mut(shared, pass.cell).take()
     }
 
     /// Polls until it has the lock's value, and may wait for ever.
@@ -100,14 +94,7 @@ impl<L: Law> Hall<L> {
         ensures view { view pass.new ≡ left pass.old.cell entry.value (view pass.old) }
     {
         let shared = &self.table.shared;
-        let held = Held {
-            value: Some(value),
-            note: Some(entry),
-        };
-        let Held {
-            value: gone,
-            note: _,
-        } = shared.exchange(&mut pass.seat, pass.cell, held);
+        let gone = pass.seat.slot_mut(shared, pass.cell).put(value, entry);
         let None = gone else { unreachable!() };
         shared.store::<Leave>(&mut pass.seat, served_at(pass.cell), pass.ticket + 1);
     }

@@ -49,14 +49,15 @@ impl<L: Law> Hall<L> {
     {
         let at = line_at(self.cells + word as usize);
         let shared = &self.table.shared;
-        let said = Held {
-            value: None,
-            note: Some(entry),
-        };
+        let said = Held::new(None, Some(entry));
         // No other pass changes the word, so the exchange finds what the load found.
         let before = shared.load::<Check<L>>(&mut pass.seat, at);
         shared.compare_exchange_with::<Publish>(&mut pass.seat, at, before, number, &said);
-        let Held { value, note: _ } = said;
+        let Held {
+            value,
+            note: _,
+            gap: _,
+        } = said;
         let None = value else { unreachable!() };
     }
 }

@@ -25,7 +25,12 @@ impl<L: Law> Hall<L> {
     /// first histories, of which the relation holds: the values stand for those of the locks, and
     /// the numbers are what those of the words show.
     ///
-    /// Where there is no memory, the values come back. No other call of a table takes memory.
+    /// A lock takes 144 bytes and twice the size of its value, a word 64 bytes, and the table 64
+    /// more: each lock and each word has a cache line of its own. For the time of this call it takes
+    /// nearly as much again.
+    ///
+    /// Where there is no memory, the values come back. So they do from 2^61 locks and words on, whose
+    /// lines have no room in 2^64 bytes. No other call of a table takes memory.
     pub fn new(
         alloc: Global,
         mut values: Vec<L::Value>,

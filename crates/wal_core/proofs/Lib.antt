@@ -14,3 +14,4 @@ pub mod News
 pub mod Append
 pub mod Rests
 pub mod Starts
+pub mod LawfulTests

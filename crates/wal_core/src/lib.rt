@@ -5,6 +5,7 @@ mod appending;
 mod batch;
 mod contents;
 mod counters;
+mod lawful;
 mod past;
 mod reading;
 mod refusal;

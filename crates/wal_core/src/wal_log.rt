@@ -6,6 +6,7 @@ ghost use Rattle.wal_core.specs.Log.{IsReady, IsNextBatch, are_lawful};
 
 use crate::appending::{add_rec, counters_with, is_full, rec_length};
 use crate::batch::write_batch;
+use crate::lawful::may_come_next;
 use crate::refusal::LogRefusal;
 use disk_core::{Failed, LogDisk};
 use tx_model::{Counters, Rec, RecList};
@@ -47,7 +48,7 @@ fn clear(behind: &mut Vec<u8>)
 }
 
 impl<D: LogDisk> WalLog<D> {
-    ghost use Rattle.std.specs.Prelude.{◌≡◌, ◌≢◌, ◌+◌, ◌≤◌, ◌++◌, ◌∷◌, [], ℕ, length, IsTrue, IsSome, IfOk, OnOk, OnErr, Option, None, Some, Ok, Err};
+    ghost use Rattle.std.specs.Prelude.{◌≡◌, ◌≢◌, ◌↔◌, ◌+◌, ◌≤◌, ◌++◌, ◌∷◌, [], ℕ, length, IsTrue, IsSome, IfOk, OnOk, OnErr, Option, None, Some, Ok, Err};
     ghost use Rattle.tx_model.specs.After.{after_record};
     ghost use Rattle.disk_core.specs.Faults.{HasRisen};
     ghost use Rattle.disk_core.specs.Images.{LeavesOnly, NoMore};
@@ -56,6 +57,14 @@ impl<D: LogDisk> WalLog<D> {
     ghost use Rattle.wal_core.specs.Log.{OpensFromImage, MayAppend, IsFull, counters_or_none, bytes_of};
     ghost use Rattle.wal_core.specs.Spelling.{rec_bytes};
     ghost use Rattle.wal_core.specs.LogViews.{log_disk, log_recs, log_pending, log_next, log_flushed, log_end, log_counters, log_down};
+
+    /// Whether the record may be appended: it is lawful, a checkpoint has the number `next()`, the first record of a new
+    /// log is a checkpoint, and the counters after it are a base.
+    pub fn may_append(&self, rec: &Rec) -> bool
+        ensures { IsTrue result ↔ MayAppend (log_counters self.now) (log_next self.now) rec.now }
+    {
+        may_come_next(self.counters, self.next(), rec)
+    }
 
     /// Adds a record at the end, and answers its number, counted through all lives. It is pending until the next flush,
     /// which takes no memory: the room for its bytes is made here. After an error nothing changed.

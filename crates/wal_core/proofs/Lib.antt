@@ -15,3 +15,5 @@ pub mod Append
 pub mod Rests
 pub mod Starts
 pub mod LawfulTests
+pub mod Begins
+pub mod GateWrites

@@ -3,6 +3,7 @@ use Rattle.std.specs.Prelude.{ℕ, ◌+◌, List, length, drop, Option}
 use Rattle.tx_model.specs.declared.record.Rec.{Rec}
 use Rattle.tx_model.specs.declared.record.Counters.{Counters}
 use Rattle.disk_core.specs.declared.log_disk.LogDisk.{Ghosts}
+use Rattle.wal_core.specs.declared.checkpoint.LastCheckpoint.{LastCheckpoint}
 use Rattle.wal_core.specs.declared.wal_log.WalLog.{WalLog}
 
 module _ {D : Type 0} {g : Ghosts D} where
@@ -36,3 +37,11 @@ module _ {D : Type 0} {g : Ghosts D} where
   -- the flushed number at the failure that put the log down
   abbrev pub log_down : WalLog D g → Option ℕ
   log_down log = log.down
+
+  -- the place from which on the log is kept
+  abbrev pub log_start : WalLog D g → ℕ
+  log_start log = log.start
+
+  -- the last batch, where it was flushed since the start and is a checkpoint alone with the counters of the log
+  abbrev pub log_checkpoint : WalLog D g → Option LastCheckpoint
+  log_checkpoint log = log.checkpoint

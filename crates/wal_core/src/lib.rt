@@ -3,6 +3,7 @@
 
 mod appending;
 mod batch;
+mod checkpoint;
 mod contents;
 mod counters;
 mod lawful;
@@ -15,6 +16,7 @@ mod stop;
 mod wal_log;
 mod writing;
 
+pub use checkpoint::LastCheckpoint;
 pub use contents::{LogContents, read_log};
 pub use counters::counters_after;
 pub use reading::{ReadRec, read_rec};
@@ -23,5 +25,7 @@ pub use started::Started;
 pub use wal_log::WalLog;
 pub use writing::write_rec;
 
+#[cfg(test)]
+mod crash_tests;
 #[cfg(test)]
 mod tests;

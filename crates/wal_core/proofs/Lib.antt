@@ -17,3 +17,4 @@ pub mod Starts
 pub mod LawfulTests
 pub mod Begins
 pub mod GateWrites
+pub mod Keeping

@@ -55,7 +55,7 @@ impl<D: LogDisk> WalLog<D> {
     ghost use Rattle.wal_core.specs.Contents.{history_with};
     ghost use Rattle.wal_core.specs.Opening.{opened};
     ghost use Rattle.wal_core.specs.Log.{EndsWithin, OpensAsBefore};
-    ghost use Rattle.wal_core.specs.LogViews.{log_disk, log_recs, log_next, log_flushed, log_end, log_counters, log_down, log_start, log_checkpoint};
+    ghost use Rattle.wal_core.specs.LogViews.{log_disk, log_recs, log_next, log_flushed, log_end, log_counters, log_down, log_start, log_checkpoint, KeepsAll};
 
     /// Opens the log of a volume: syncs, and reads its records. Nothing is pending. Where a volume has no closed gate
     /// yet behind its batches, a byte 0 is written there and synced. An error hands the disk back: `LogFault`, `Damaged`
@@ -68,6 +68,8 @@ impl<D: LogDisk> WalLog<D> {
         ensures next { IfOk result (λ s. log_next s.log ≡ s.first + length s.recs) }
         ensures clean { IfOk result (λ s. (log_recs s.log ≡ []) × (log_flushed s.log ≡ log_next s.log) × (log_down s.log ≡ None) × (log_checkpoint s.log ≡ None)) }
         ensures start { IsTrue D.tells → IfOk result (λ s. log_start s.log ≡ (D.reads disk).start) }
+        // The promise over the whole list of records begins with those that the volume has.
+        ensures keeps { IsTrue D.tells → IfOk result (λ s. KeepsAll s.first s.recs D.images s.log) }
 
         // A crash at any moment leaves what opens as an image of before, unless the volume ends at the closed gate of an
         // old log.

@@ -69,7 +69,7 @@ fn put_down(down: &mut Option<u64>, flushed: u64) -> LogRefusal
 }
 
 impl<D: LogDisk> WalLog<D> {
-    ghost use Rattle.std.specs.Prelude.{◌≡◌, ◌≢◌, ◌↔◌, ◌+◌, ◌≤◌, ◌++◌, ◌∷◌, [], ℕ, length, IsTrue, IsSome, IfSome, IfOk, OnOk, OnErr, Option, None, Some, Ok, Err};
+    ghost use Rattle.std.specs.Prelude.{◌≡◌, ◌≢◌, ◌↔◌, ◌+◌, ◌≤◌, ◌++◌, ◌∷◌, [], ℕ, List, length, IsTrue, IsSome, IfSome, IfOk, OnOk, OnErr, Option, None, Some, Ok, Err};
     ghost use Rattle.tx_model.specs.After.{after_record};
     ghost use Rattle.disk_core.specs.Faults.{HasRisen};
     ghost use Rattle.disk_core.specs.Images.{LeavesOnly, NoMore};
@@ -79,7 +79,9 @@ impl<D: LogDisk> WalLog<D> {
     ghost use Rattle.wal_core.specs.Spelling.{rec_bytes};
     ghost use Rattle.wal_core.specs.Checkpoint.{IsLastCheckpoint, OpensOrBegins};
     ghost use Rattle.wal_core.specs.declared.checkpoint.LastCheckpoint.{LastCheckpoint};
-    ghost use Rattle.wal_core.specs.LogViews.{log_disk, log_recs, log_pending, log_next, log_flushed, log_end, log_counters, log_down, log_start, log_checkpoint};
+    ghost use Rattle.wal_core.specs.LogViews.{log_disk, log_recs, log_pending, log_next, log_flushed, log_end, log_counters, log_down, log_start, log_checkpoint, KeepsAll};
+    ghost use Rattle.wal_core.specs.Kept.{HasFlushed};
+    ghost use Rattle.tx_model.specs.declared.record.Rec.{Rec};
 
     /// Whether the record may be appended: it is lawful, a checkpoint has the number `next()`, the first record of a new
     /// log is a checkpoint, and the counters after it are a base.
@@ -111,6 +113,10 @@ impl<D: LogDisk> WalLog<D> {
         ensures full { result ≡ Err Full → IsFull (log_end self.old) (length (bytes_of (log_pending self.old))) (length (rec_bytes rec.now)) }
         ensures is_full { log_down self.old ≡ None → IsFull (log_end self.old) (length (bytes_of (log_pending self.old))) (length (rec_bytes rec.now)) → result ≡ Err Full }
         ensures no_other { (result ≢ Err LogFault) × ((at : ℕ) → result ≢ Err (Damaged at)) }
+
+        // The promise over the whole list of records, which has one more.
+        ensures keeps { IsTrue D.tells → OnOk result ((first : ℕ) (all : List Rec) → KeepsAll first all D.images self.old → KeepsAll first (all ++ rec.now ∷ []) D.images self.new) }
+        ensures err_keeps { IsTrue D.tells → OnErr result ((first : ℕ) (all : List Rec) → KeepsAll first all D.images self.old → KeepsAll first all D.images self.new) }
     {
         if let Some(at) = self.down {
             return Err(LogRefusal::LogDown { at });
@@ -156,6 +162,11 @@ impl<D: LogDisk> WalLog<D> {
             (OpensFromImage (D.images (log_disk self.old)) (log_end self.old) (log_pending self.old)) }
         ensures left { IsTrue D.tells → log_down self.old ≡ None → (c : Volume) → D.images (log_disk self.new) c
             → OpensFromImage (D.images (log_disk self.old)) (log_end self.old) (log_pending self.old) c }
+
+        // The promise over the whole list of records: kept by the call, and at each moment of it.
+        ensures keeps { IsTrue D.tells → (first : ℕ) (all : List Rec) → KeepsAll first all D.images self.old → KeepsAll first all D.images self.new }
+        ensures keeps_at_each_moment { IsTrue D.tells → (first : ℕ) (all : List Rec) → KeepsAll first all D.images self.old
+            → LeavesOnly D.moment D.left_at (log_disk self.old) (log_disk self.new) (HasFlushed first all (log_flushed self.old)) }
     {
         if let Some(at) = self.down {
             return Err(LogRefusal::LogDown { at });
@@ -213,6 +224,11 @@ impl<D: LogDisk> WalLog<D> {
             → LeavesOnly D.moment D.left_at (log_disk self.old) (log_disk self.new) (OpensOrBegins (D.images (log_disk self.old)) k (log_end self.old)) }
         ensures left { IsTrue D.tells → log_down self.old ≡ None → (k : LastCheckpoint) → log_checkpoint self.old ≡ Some k
             → (c : Volume) → D.images (log_disk self.new) c → OpensOrBegins (D.images (log_disk self.old)) k (log_end self.old) c }
+
+        // The promise over the whole list of records: kept by the call, and at each moment of it.
+        ensures keeps { IsTrue D.tells → (first : ℕ) (all : List Rec) → KeepsAll first all D.images self.old → KeepsAll first all D.images self.new }
+        ensures keeps_at_each_moment { IsTrue D.tells → (first : ℕ) (all : List Rec) → KeepsAll first all D.images self.old
+            → LeavesOnly D.moment D.left_at (log_disk self.old) (log_disk self.new) (HasFlushed first all (log_flushed self.old)) }
     {
         if let Some(at) = self.down {
             return Err(LogRefusal::LogDown { at });
@@ -246,6 +262,9 @@ impl<D: LogDisk> WalLog<D> {
         ensures checkpoint { log_checkpoint self.new ≡ log_checkpoint self.old }
         ensures stays { log_down self.new ≡ log_down self.old }
         ensures any_moment { IsTrue D.tells → LeavesOnly D.moment D.left_at (log_disk self.old) (log_disk self.new) (D.images (log_disk self.old)) }
+        ensures keeps { IsTrue D.tells → (first : ℕ) (all : List Rec) → KeepsAll first all D.images self.old → KeepsAll first all D.images self.new }
+        ensures keeps_at_each_moment { IsTrue D.tells → (first : ℕ) (all : List Rec) → KeepsAll first all D.images self.old
+            → LeavesOnly D.moment D.left_at (log_disk self.old) (log_disk self.new) (HasFlushed first all (log_flushed self.old)) }
         ensures fault { OnErr result ((result ≡ Err LogFault) × HasRisen (D.faults (log_disk self.old)) (D.faults (log_disk self.new))) }
     {
         match self.disk.read(at, into) {

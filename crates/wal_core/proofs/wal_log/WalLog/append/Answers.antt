@@ -9,6 +9,7 @@ use Rattle.wal_core.proofs.Flush.{long_behind}
 use Rattle.wal_core.proofs.Append.{not_both, next-push, long-push, pending-push, lawful-push, ready-push}
 use Rattle.wal_core.proofs.Begins.{listed-push, begins-push}
 use Rattle.wal_core.specs.Checkpoint.{IsListed, MayBegin}
+use Rattle.wal_core.proofs.Keeping.{append_keeps}
 use Rattle.wal_core.proofs.wal_log.WalLog.append.Goals as goal
 
 pub overflow_sub-pending : goal.overflow_sub-pending
@@ -99,3 +100,9 @@ pub invariant_of-self-in-Err-clause-ready : goal.invariant_of-self-in-Err-clause
 invariant_of-self-in-Err-clause-ready g c told up x left =
     let s = c.args.self.now in
     subst (λ (l : List Rec). IsReady s.gate (drop s.flushed l) s.counters (s.from + length l) x) (sym c.in-Err.ensures.err_recs) (s.ready told up x left)
+
+pub returns-in-Ok-clause-keeps : goal.returns-in-Ok-clause-keeps
+returns-in-Ok-clause-keeps g c told first all keeps =
+    let s = c.args.self.now in let r : Rec = c.args.rec.now in
+    append_keeps first all s.recs c.add_rec.new.recs r (s.from + length s.recs) (s.from + length c.add_rec.new.recs) (s.from + s.flushed) (g.D.LogDisk.images s.disk) c.in-Ok.ensures.recs
+    (omega (arith, ap length c.in-Ok.ensures.recs, length-append s.recs (r ∷ []))) keeps

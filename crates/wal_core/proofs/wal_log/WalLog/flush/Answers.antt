@@ -1,4 +1,4 @@
-use Rattle.std.proofs.Common.{◌≡◌, inl, refl, ℕ, ◌+◌, ◌<◌, List, [], ◌∷◌, ◌++◌, length, drop, Option, Some, sym, ◌∙◌, ap, subst, arith}
+use Rattle.std.proofs.Common.{◌≡◌, inl, refl, ℕ, ◌+◌, ◌<◌, List, [], ◌∷◌, ◌++◌, length, drop, Option, Some, None, sym, ◌∙◌, ap, subst, arith}
 use Rattle.std.proofs.lemmas.List.{drop_all, length-drop, take_rest}
 use Rattle.tx_model.specs.declared.record.Rec.{Rec}
 use Rattle.disk_core.specs.Volume.{Volume}
@@ -12,6 +12,8 @@ use Rattle.wal_core.specs.Checkpoint.{IsLastCheckpoint, MayBegin}
 use Rattle.wal_core.specs.declared.checkpoint.LastCheckpoint.{LastCheckpoint}
 use Rattle.wal_core.proofs.Walks.{gate_is}
 use Rattle.wal_core.proofs.Begins.{Flushed, flushed_alone, stands_at}
+use Rattle.wal_core.specs.Kept.{HasFlushed}
+use Rattle.wal_core.proofs.Keeping.{flush_from, all_flushed}
 use Rattle.wal_core.proofs.wal_log.WalLog.flush.Goals as goal
 
 pub returns-then-self-count-clause-any_moment : goal.returns-then-self-count-clause-any_moment
@@ -120,3 +122,50 @@ invariant_of-self-in-Ok-clause-begins g c told up k e x there =
     flushed_alone k v w s.gate gate_2 s.from s.flushed s.recs left s.counters body last s.lawful (s.ready told up v (g.met.D.LogDisk.reads_image s.disk told)) s.numbered is (ap (λ (n : ℕ). s.gate + n) long)
     (c.in-Ok.ensures.written told) (drop_all (length c.items.result.now) s.recs (omega (arith, ap length c.items.ensures))) in
     subst (λ (n : ℕ). MayBegin k (s.gate + n) left s.counters (s.from + length s.recs) x) (c.deref.ensures.len ∙ sym c.len.ensures) (subst (λ (y : Volume). MayBegin k gate_2 left s.counters (s.from + length s.recs) y) (sym (c.in-Ok.ensures.synced told x there)) f.begins)
+
+pub returns-in-Ok-clause-keeps_at_each_moment : goal.returns-in-Ok-clause-keeps_at_each_moment
+returns-in-Ok-clause-keeps_at_each_moment g c told first all keeps =
+    let d = g.D.LogDisk in let s = c.args.self.now in let pending : List Rec = drop s.flushed s.recs in
+    let some : 0 < length pending = omega (arith, s.counts, c.if-self-count.false, ap length c.items.ensures, length-drop s.flushed s.recs) in
+    let up : s.down ≡ None = c.in_default.is in
+    let stays : (x : Volume) → OpensFromImage (d.images s.disk) s.gate pending x → HasFlushed first all (s.from + s.flushed) x = flush_from first all s.recs s.from s.flushed s.gate s.counters (d.images s.disk) s.lawful s.counts some (s.ready told up) keeps in
+    leaves_weaker d.moment d.left_at s.disk c.write_batch.new.disk (OpensFromImage (d.images s.disk) s.gate pending) (HasFlushed first all (s.from + s.flushed)) (returns-in-Ok-clause-any_moment g c told up) stays
+
+pub returns-in-Err-clause-keeps_at_each_moment : goal.returns-in-Err-clause-keeps_at_each_moment
+returns-in-Err-clause-keeps_at_each_moment g c told first all keeps =
+    let d = g.D.LogDisk in let s = c.args.self.now in let pending : List Rec = drop s.flushed s.recs in
+    let some : 0 < length pending = omega (arith, s.counts, c.if-self-count.false, ap length c.items.ensures, length-drop s.flushed s.recs) in
+    let up : s.down ≡ None = c.in_default.is in
+    let stays : (x : Volume) → OpensFromImage (d.images s.disk) s.gate pending x → HasFlushed first all (s.from + s.flushed) x = flush_from first all s.recs s.from s.flushed s.gate s.counters (d.images s.disk) s.lawful s.counts some (s.ready told up) keeps in
+    leaves_weaker d.moment d.left_at s.disk c.write_batch.new.disk (OpensFromImage (d.images s.disk) s.gate pending) (HasFlushed first all (s.from + s.flushed)) (returns-in-Err-clause-any_moment g c told up) stays
+
+pub returns-in-Err-clause-keeps : goal.returns-in-Err-clause-keeps
+returns-in-Err-clause-keeps g c told first all keeps =
+    let d = g.D.LogDisk in let s = c.args.self.now in let pending : List Rec = drop s.flushed s.recs in
+    let some : 0 < length pending = omega (arith, s.counts, c.if-self-count.false, ap length c.items.ensures, length-drop s.flushed s.recs) in
+    let up : s.down ≡ None = c.in_default.is in
+    let stays : (x : Volume) → OpensFromImage (d.images s.disk) s.gate pending x → HasFlushed first all (s.from + s.flushed) x = flush_from first all s.recs s.from s.flushed s.gate s.counters (d.images s.disk) s.lawful s.counts some (s.ready told up) keeps in
+    record { earlier = keeps.earlier; whole = keeps.whole; count = keeps.count; each = λ x left. stays x (returns-in-Err-clause-left g c told up x left) }
+
+pub returns-in-Ok-clause-keeps : goal.returns-in-Ok-clause-keeps
+returns-in-Ok-clause-keeps g c told first all keeps =
+    let d = g.D.LogDisk in let s = c.args.self.now in let pending : List Rec = drop s.flushed s.recs in let body : List ℕ = body_in c.deref.result.now in
+    let v : Volume = d.reads s.disk in let w : Volume = d.reads c.write_batch.new.disk in
+    let some : 0 < length pending = omega (arith, s.counts, c.if-self-count.false, ap length c.items.ensures, length-drop s.flushed s.recs) in
+    let up : s.down ≡ None = c.in_default.is in
+    let stays : (x : Volume) → OpensFromImage (d.images s.disk) s.gate pending x → HasFlushed first all (s.from + s.flushed) x = flush_from first all s.recs s.from s.flushed s.gate s.counters (d.images s.disk) s.lawful s.counts some (s.ready told up) keeps in
+    let is : body ≡ bytes_of pending = ap body_in c.deref.ensures.value ∙ body_of_next s.behind.items pending s.next_batch in
+    let long : length c.deref.result.now ≡ 5 + length (bytes_of pending) = ap length c.deref.ensures.value ∙ long_behind s.behind.items pending s.next_batch in
+    let gate_2 : ℕ = s.gate + length c.deref.result.now in let left_2 : List Rec = drop (length c.items.result.now) s.recs in
+    let none : left_2 ≡ [] = drop_all (length c.items.result.now) s.recs (omega (arith, ap length c.items.ensures)) in
+    let ready : IsReady gate_2 left_2 s.counters (s.from + length s.recs) w =
+    ready_again s.gate pending s.counters (s.from + length s.recs) some v (s.ready told up v (g.met.D.LogDisk.reads_image s.disk told)) w body gate_2 left_2 is (ap (λ (n : ℕ). s.gate + n) long) (c.in-Ok.ensures.written told) none in
+    record {
+      earlier = keeps.earlier;
+      whole = keeps.whole;
+      count = keeps.count;
+      each = λ x left.
+          let here : IsReady gate_2 left_2 s.counters (s.from + length s.recs) x = subst (λ (y : Volume). IsReady gate_2 left_2 s.counters (s.from + length s.recs) y) (sym (c.in-Ok.ensures.synced told x left)) ready in
+          subst (λ (n : ℕ). HasFlushed first all (s.from + n) x) (sym (ap length c.items.ensures))
+          (all_flushed first all (s.from + s.flushed) gate_2 left_2 s.counters (s.from + length s.recs) x none here (stays x (returns-in-Ok-clause-left g c told up x left)));
+    }

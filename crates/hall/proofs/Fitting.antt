@@ -1,7 +1,8 @@
 -- The fields of a pass fit its view after each step, and what a look tells.
-use Rattle.std.proofs.Common.{◌≡◌, ℕ, ◌+◌, ◌*◌, ◌<◌, ◌≤◌, ◌≢◌, Bool, false, List, [], ◌∷◌, ◌++◌, map, length, get_or, set, is_some, refl, sym, ◌∙◌, ap, subst, length-set, arith, Option, Some, None, MatchOption}
+use Rattle.std.proofs.Common.{◌≡◌, ℕ, ◌+◌, ◌<◌, ◌≤◌, ◌≢◌, Bool, false, List, [], ◌∷◌, ◌++◌, map, length, get_or, set, is_some, refl, sym, ◌∙◌, ap, subst, length-set, arith, Option, Some, None, MatchOption}
 use mathlib.Core.Option.{none}
 use Rattle.atomic_table.specs.Table.{Me, Step, step, rest, Allows}
+use Rattle.hall.specs.Layout.{line_of, served_of}
 use Rattle.hall.specs.Lists.{at, Knows, Whole}
 use Rattle.hall.specs.declared.writer.Writer.{Writer}
 use Rattle.hall.specs.declared.view.Stage.{Stage}
@@ -10,11 +11,14 @@ use Rattle.hall.specs.declared.view.View.{View}
 use Rattle.hall.specs.declared.view.Held.{Held}
 use Rattle.hall.specs.declared.note.Note.{Note}
 use Rattle.hall.specs.Rule.{Kept}
-use Rattle.hall.specs.Told.{entered, missed, left, published, learned, Got, Learnt, went}
+use Rattle.hall.specs.Told.{drawn, entered, missed, left, published, learned, Got, Learnt, went}
 use Rattle.hall.specs.Fits.{Fits, carried_at, Ticketed}
 use Rattle.hall.specs.Calls.{Entered, Loaded}
 use Rattle.hall.proofs.Moves.{stage_same}
 use Rattle.hall.proofs.Leaves.{leaves}
+
+wait_same : (c t a b : ℕ) → Waiting c t ≡ Waiting a b → (c ≡ a) × (t ≡ b)
+wait_same c t a b e = (ap (λ (z : Stage). elim z [ Free ↦ 0 | Waiting x _ ↦ x | Inside x _ ↦ x ]) e, ap (λ (z : Stage). elim z [ Free ↦ 0 | Waiting _ y ↦ y | Inside _ y ↦ y ]) e)
 
 pub in_not_wait : (a b c d : ℕ) → Inside a b ≡ Waiting c d → ⊥
 in_not_wait a b c d e = let P : Stage → Type 0 = λ z. elim z [ Free ↦ ⊥ | Waiting _ _ ↦ ⊥ | Inside _ _ ↦ Unit {0} ] in subst P e tt
@@ -41,8 +45,8 @@ module _ {V E : Type 0} where
 
 module _ {S V E : Type 0} (cells words cell ticket : ℕ) (names : List Bool) (m : Me (Held V E) (View S E)) (f : Fits cells words cell ticket names m) where
   -- the pass has seen a history for each place of its table
-  pub sees_places : (locks posts places : ℕ) → cells ≡ locks → words ≡ 2 * locks + 1 + posts → places ≡ locks + posts → length m.0.seen ≡ places
-  sees_places locks posts places a b c = let w = f.wide in omega arith
+  pub sees_places : (locks posts places : ℕ) → words ≡ line_of (locks + posts) → places ≡ locks + posts → length m.0.seen ≡ places
+  sees_places locks posts places b c = let w = f.wide in omega arith
 
   pub fits_entered : (slots ws : ℕ) (ls : List (List E)) (m' : Me (Held V E) (View S E)) → slots ≡ cells → ws ≡ words → length ls ≡ length m.0.seen → m.0.stage ≡ Waiting cell ticket → m'.0 ≡ entered cell ticket ls m.0 → map shown m'.1 ≡ (cell, false) ∷ [] → Fits slots ws cell ticket names m'
   fits_entered slots ws ls m' same same' long waits is out = subst (λ (z : (ℕ × ℕ) × View S E). Fits z.0.0 z.0.1 cell ticket names (z.1, m'.1)) (λ i. ((sym same i, sym same' i), sym is i)) record {
@@ -56,13 +60,13 @@ module _ {S V E : Type 0} (cells words cell ticket : ℕ) (names : List Bool) (m
   }
 
   -- the last of a look's steps
-  pub look_tells : (session : E → ℕ) (writer : S → ℕ → Writer) (stands : S → ℕ → V → List E → Type 0) (kept : S → List (List E) → Type 0) (start : S) (m' : Me (Held V E) (View S E)) (h : Held V E) (w : View S E) (A : Type 0) → Got session writer stands kept start cell ticket m m' → m'.1 ≡ (cell, h) ∷ rest m'.1 → w ≡ m'.0
-      → MatchOption h.value A (λ x. Entered session writer stands kept start cell ticket m.0 x w)
-  look_tells session writer stands kept start m' h w A got is same =
+  pub look_tells : (session : E → ℕ) (writer : S → ℕ → Writer) (stands : S → ℕ → V → List E → Type 0) (kept : S → List (List E) → Type 0) (start : S) (m' : Me (Held V E) (View S E)) (h : Held V E) (o : Option V) (w : View S E) (A : Type 0) → Got session writer stands kept start cell ticket m m' → m'.1 ≡ (cell, h) ∷ rest m'.1 → o ≡ h.value → w ≡ m'.0
+      → MatchOption o A (λ x. Entered session writer stands kept start cell ticket m.0 x w)
+  look_tells session writer stands kept start m' h o w A got is out same =
       let e : (cell, h) ∷ rest m'.1 ≡ (cell, got.held) ∷ m.1 = sym is ∙ got.slots_are in
       let h_is : h ≡ got.held = ap (λ (l : List (ℕ × Held V E)). (get_or l 0 (cell, h)).1) e in
-      let v : h.value ≡ Some got.value = ap (λ (z : Held V E). z.value) h_is ∙ got.filled in
-      subst (λ (o : Option V). MatchOption o A (λ x. Entered session writer stands kept start cell ticket m.0 x w)) (sym v) record { lists = got.lists; moment = got.moment; stood = got.stood; view_is = same ∙ got.view_is }
+      let v : o ≡ Some got.value = out ∙ (ap (λ (z : Held V E). z.value) h_is ∙ got.filled) in
+      subst (λ (z : Option V). MatchOption z A (λ x. Entered session writer stands kept start cell ticket m.0 x w)) (sym v) record { lists = got.lists; moment = got.moment; stood = got.stood; view_is = same ∙ got.view_is }
 
   pub slots_out : (m' : Me (Held V E) (View S E)) (session : E → ℕ) (writer : S → ℕ → Writer) (stands : S → ℕ → V → List E → Type 0) (kept : S → List (List E) → Type 0) (start : S) (h : Held V E) → Got session writer stands kept start cell ticket m m' → m.0.stage ≡ Waiting cell ticket → h.value ≡ None → map shown ((cell, h) ∷ rest m'.1) ≡ (cell, false) ∷ []
   slots_out m' session writer stands kept start h got waits empty =
@@ -109,6 +113,17 @@ module _ {S V E : Type 0} (cells words cell ticket : ℕ) (names : List Bool) (m
     held = f.held;
   }
 
+  pub fits_drawn : (slots ws t : ℕ) (c : ℕ) (m' : Me (Held V E) (View S E)) → slots ≡ cells → ws ≡ words → c < cells → t + 1 < 18446744073709551616 → m.0.stage ≡ Free → m'.0 ≡ drawn c t m.0 → m'.1 ≡ m.1 → Fits slots ws c t names m'
+  fits_drawn slots ws t c m' same same' lt small free is out = subst (λ (z : (ℕ × ℕ) × View S E × List (ℕ × Held V E)). Fits z.0.0 z.0.1 c t names (z.1, z.2)) (λ i. ((sym same i, sym same' i), sym is i, sym out i)) record {
+    named = f.named;
+    wide = f.wide;
+    waits = λ a u e. let p = wait_same c t a u e in (sym p.0, sym p.1, (let q = p.0 in omega arith), (let q = p.1 in omega arith));
+    inside = λ a u e. absurd (in_not_wait a u c t (sym e));
+    carried = f.carried ∙ ap carried_at free;
+    mirrors = f.mirrors;
+    held = f.held;
+  }
+
   -- the one slot that a pass inside has
   pub slot_inside : m.0.stage ≡ Inside cell ticket → (h : Held V E) × (m.1 ≡ (cell, h) ∷ rest m.1)
   slot_inside stays = let o = one_slot m.1 cell false (f.carried ∙ ap carried_at stays) in (o.0, o.1)
@@ -128,7 +143,7 @@ module _ {S V E : Type 0} (cells words cell ticket : ℕ) (names : List Bool) (m
   }
 
   module _ (start : S) (passes places : ℕ) (session : E → ℕ) (writer : S → ℕ → Writer) (stands : S → ℕ → V → List E → Type 0) (number : S → ℕ → List E → ℕ) (kept : S → List (List E) → Type 0) where
-    pub leave_allowed : (slots me i new : ℕ) (m' : Me (Held V E) (View S E)) (h : Held V E) (y : V) (e : Note E) → slots ≡ cells → length m.0.seen ≡ places → slots ≤ places → i ≡ slots + cell → new ≡ ticket + 1 → m.0.stage ≡ Inside cell ticket → m' ≡ (m.0, (cell, h) ∷ rest m.1)
+    pub leave_allowed : (slots me i new : ℕ) (m' : Me (Held V E) (View S E)) (h : Held V E) (y : V) (e : Note E) → slots ≡ cells → length m.0.seen ≡ places → slots ≤ places → i ≡ served_of cell → new ≡ ticket + 1 → m.0.stage ≡ Inside cell ticket → m' ≡ (m.0, (cell, h) ∷ rest m.1)
         → h.note ≡ Some e → h.value ≡ Some y → session e.value ≡ m.0.name → stands start cell y (at m.0.seen cell ++ e.value ∷ [])
         → ((lists : List (List E)) → kept start lists → Knows session (writer start) (session e.value) m.0.seen lists → cell < length lists → Whole (writer start) (writer start cell) m.0.seen lists → kept start (set lists cell (at lists cell ++ e.value ∷ [])))
         → Allows (Kept start passes places session writer stands number kept) slots me m' i (λ _. new) (λ _. went (step slots i new 0 none) m' new)
@@ -145,10 +160,10 @@ module _ {S V E : Type 0} (cells words cell ticket : ℕ) (names : List Bool) (m
 
 module _ {S V E : Type 0} where
   -- the last of a load's steps
-  pub read_tells : (session : E → ℕ) (writer : S → ℕ → Writer) (number : S → ℕ → List E → ℕ) (kept : S → List (List E) → Type 0) (start : S) (p q r : ℕ) (m m' : Me (Held V E) (View S E)) → p ≡ q → Learnt session writer number kept start p r m m' → Loaded session writer number kept start q m.0 r m'.0
-  read_tells session writer number kept start p q r m m' same t = record {
+  pub read_tells : (session : E → ℕ) (writer : S → ℕ → Writer) (number : S → ℕ → List E → ℕ) (kept : S → List (List E) → Type 0) (start : S) (q r : ℕ) (m m' : Me (Held V E) (View S E)) → Learnt session writer number kept start q r m m' → Loaded session writer number kept start q m.0 r m'.0
+  read_tells session writer number kept start q r m m' t = record {
     lists = t.lists;
     moment = t.moment;
-    shown = subst (λ (z : ℕ). number start z (at t.lists z) ≡ r) same t.shown;
+    shown = t.shown;
     view_is = t.view_is;
   }

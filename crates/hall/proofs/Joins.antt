@@ -1,11 +1,12 @@
 -- A pass takes in another.
-use Rattle.std.proofs.Common.{◌≡◌, ℕ, ◌+◌, ◌<◌, ◌≤◌, ◌≢◌, ◌⊎◌, ◌||◌, true, false, List, [], ◌∷◌, length, get_or, set, sum_by, refl, sym, ◌∙◌, ap, subst, inl, inr, ⊎_elim, arith}
+use Rattle.std.proofs.Common.{◌≡◌, ℕ, ◌<◌, ◌≤◌, ◌≢◌, ◌⊎◌, ◌||◌, true, false, List, [], ◌∷◌, length, get_or, set, sum_by, refl, sym, ◌∙◌, ap, subst, inl, inr, ⊎_elim, arith}
 use mathlib.Core.Option.{some, some-injective}
 use mathlib.Core.Logic.{dite}
 use native.Mathlib.Decide.{ℕ_discrete}
 use lib.ListN.{get_elem?}
 use Rattle.atomic_table.specs.Table.{State, Joins}
 use Rattle.atomic_table.proofs.Lists.{set_here, set_else}
+use Rattle.hall.specs.Layout.{served_of}
 use Rattle.hall.specs.Lists.{at, Begins, Grows, OwnSeen}
 use Rattle.hall.specs.declared.writer.Writer.{Writer}
 use Rattle.hall.specs.declared.view.Stage.{Stage}
@@ -96,7 +97,7 @@ module _ {S V E : Type 0} (start : S) (passes places : ℕ) (session : E → ℕ
       order = r.order;
       home = λ c lt. ⊎_elim (λ h. inl h) (λ o. inr (dite (ℕ_discrete o.0 me)
           (λ (q : o.0 ≡ me). let d_is : o.1 ≡ v = some-injective _ _ (sym o.2 ∙ (ap (get_elem? s.views) q ∙ is)) in (me, b, set_here us me b (inside us me v me_there), ap (λ (z : View S E). z.stage) (sym d_is) ∙ o.3))
-          (λ ne. (o.0, o.1, set_else us me o.0 b ne ∙ (set_else s.views you o.0 p (you_out c (get_or s.words (r.n + c) 0) o) ∙ o.2), o.3)))) (r.home c lt);
+          (λ ne. (o.0, o.1, set_else us me o.0 b ne ∙ (set_else s.views you o.0 p (you_out c (get_or s.words (served_of c) 0) o) ∙ o.2), o.3)))) (r.home c lt);
       tickets = each_two (λ _ z. Stands (writer start) r.n s.words r.lists z.seen z.stage)
           (still_stands v.stage (r.tickets me v is)) tt (λ j d _ _ o. r.tickets j d o);
       apart = unique_two Has' r.apart (λ k h. h) (λ k h. inl h);

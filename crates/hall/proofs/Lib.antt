@@ -4,6 +4,7 @@ pub mod Draws
 pub mod Leaves
 pub mod Posting
 pub mod Merging
+pub mod Laying
 pub mod Splits
 pub mod Joins
 pub mod Opens

@@ -1,6 +1,5 @@
 -- Lists that are merged, and what stands at a place of a list.
-use Rattle.std.proofs.Common.{◌≡◌, ℕ, zero, suc, ◌+◌, ◌<◌, ◌≤◌, ◌≢◌, ◌⊎◌, ◌||◌, Bool, true, false, List, [], ◌∷◌, ◌++◌, length, get_or, set, replicate, if◌then◌else◌, refl, sym, ◌∙◌, ap, subst, inl, inr, ⊎_elim, le-ltb, lt-ltb, arith, length-append}
-use Rattle.std.proofs.lemmas.List.{get_or_append_left, get_or-append-add}
+use Rattle.std.proofs.Common.{◌≡◌, ℕ, zero, suc, ◌<◌, ◌≤◌, ◌≢◌, ◌⊎◌, ◌||◌, Bool, true, false, List, [], ◌∷◌, ◌++◌, length, get_or, set, replicate, if◌then◌else◌, refl, sym, ◌∙◌, ap, subst, inl, inr, ⊎_elim, le-ltb, lt-ltb, arith}
 use mathlib.Core.Option.{some, some-injective, some-ne-none}
 use mathlib.Core.Logic.{dite}
 use native.Mathlib.Decide.{dec_le}
@@ -44,16 +43,6 @@ past (x ∷ xs) (suc k) d h = past xs k d (omega arith)
 
 pub blank : (n k : ℕ) → get_or (replicate n false) k false ≡ false
 blank n k = dite (dec_le n k) (λ h. past (replicate n false) k false (let e = length-replicate n false in omega arith)) (λ h. get_or-replicate n k false false (omega arith))
-
--- zeros, and then a list
-pub zeros_first : (n : ℕ) (xs : List ℕ) (k : ℕ) → k < n → get_or (replicate n 0 ++ xs) k 0 ≡ 0
-zeros_first n xs k lt = get_or_append_left (replicate n 0) xs 0 k (subst (λ (z : ℕ). k < z) (sym (length-replicate n 0)) lt) ∙ get_or-replicate n k 0 0 lt
-
-pub zeros_then : (n : ℕ) (xs : List ℕ) (k : ℕ) → get_or (replicate n 0 ++ xs) (n + k) 0 ≡ get_or xs k 0
-zeros_then n xs k = ap (λ (z : ℕ). get_or (replicate n 0 ++ xs) (z + k) 0) (sym (length-replicate n 0)) ∙ get_or-append-add (replicate n 0) xs k 0
-
-pub zeros_length : (n : ℕ) (xs : List ℕ) → length (replicate n 0 ++ xs) ≡ n + length xs
-zeros_length n xs = length-append (replicate n 0) xs ∙ ap (λ (z : ℕ). z + length xs) (length-replicate n 0)
 
 pub either_at : (xs ys : List Bool) (m : ℕ) → get_or (either_of xs ys) m false ≡ (get_or xs m false || get_or ys m false)
 either_at [] ys m = refl

@@ -1,5 +1,5 @@
 -- Steps that change no history: polls, and loads of published words.
-use Rattle.std.proofs.Common.{◌≡◌, ℕ, ◌+◌, ◌*◌, ◌-◌, ◌<◌, ◌≤◌, ◌⊎◌, List, [], ◌∷◌, length, get_or, set, refl, sym, ◌∙◌, ap, subst, inl, inr, ⊎_elim, length-set, arith}
+use Rattle.std.proofs.Common.{◌≡◌, ℕ, ◌+◌, ◌<◌, ◌≤◌, ◌⊎◌, List, [], ◌∷◌, length, get_or, set, refl, sym, ◌∙◌, ap, subst, inl, inr, ⊎_elim, length-set, arith}
 use mathlib.Core.Option.{some, none, some-injective, some-ne-none}
 use mathlib.Core.Option as maybe
 use mathlib.Core.Logic.{dite}
@@ -8,6 +8,7 @@ use lib.ListN.{get_elem?}
 use lib.Seq.{set-get_or}
 use Rattle.atomic_table.specs.Table.{State, Me, step, keeps, takes, stepped, Allows}
 use Rattle.atomic_table.proofs.Lists.{set_here, set_else}
+use Rattle.hall.specs.Layout.{line_of, served_of}
 use Rattle.hall.specs.Lists.{at, Grows, OwnSeen, Whole}
 use Rattle.hall.specs.declared.writer.Writer.{Writer}
 use Rattle.hall.specs.declared.writer.Writer.TheVariants.{Session, Lock}
@@ -49,7 +50,7 @@ module _ {S V E : Type 0} (start : S) (passes places : ℕ) (session : E → ℕ
     -- a view with the same names and draws, and no new ticket, at a step that changes no word
     pub same_words : (hs : List (maybe.Option (Held V E))) → length hs ≡ r.n
         → ((a : S) → w.start ≡ a ∷ [] → v.start ≡ a ∷ [])
-        → ((c : ℕ) → c < r.n → AtHome start stands hs c (at r.lists c) ⊎ Out (set s.views me w) c (get_or s.words (r.n + c) 0))
+        → ((c : ℕ) → c < r.n → AtHome start stands hs c (at r.lists c) ⊎ Out (set s.views me w) c (get_or s.words (served_of c) 0))
         → Stands (writer start) r.n s.words r.lists w.seen w.stage
         → ((k : ℕ × ℕ) → Has' w k → Has' v k)
         → (Grows w.seen r.lists × ((m : ℕ) → Holds w m → OwnSeen session (writer start) m w.seen r.lists))
@@ -97,8 +98,8 @@ module _ {S V E : Type 0} (start : S) (passes places : ℕ) (session : E → ℕ
         (λ other. (o.0, o.1, set_else s.views me o.0 w other ∙ o.2, o.3))
 
     pub home_stays : ((c t : ℕ) → v.stage ≡ Inside c t → w.stage ≡ Inside c t) → (c : ℕ) → c < r.n
-        → AtHome start stands s.homes c (at r.lists c) ⊎ Out (set s.views me w) c (get_or s.words (r.n + c) 0)
-    home_stays stay c lt = ⊎_elim (λ h. inl h) (λ o. inr (out_stays c (get_or s.words (r.n + c) 0) (stay c (get_or s.words (r.n + c) 0)) o)) (r.home c lt)
+        → AtHome start stands s.homes c (at r.lists c) ⊎ Out (set s.views me w) c (get_or s.words (served_of c) 0)
+    home_stays stay c lt = ⊎_elim (λ h. inl h) (λ o. inr (out_stays c (get_or s.words (served_of c) 0) (stay c (get_or s.words (served_of c) 0)) o)) (r.home c lt)
 
   -- a load changes no word
   pub loaded : (s : St) (i me : ℕ) (cs : List (ℕ × Held V E)) (w : View S E) (hs : List (maybe.Option (Held V E)))
@@ -118,7 +119,7 @@ module _ {S V E : Type 0} (start : S) (passes places : ℕ) (session : E → ℕ
       (same_words s r me v (missed x v) is s.homes r.deep (λ a e. e) (home_stays s r me v (missed x v) is (λ c t e. e)) (r.tickets me v is) (λ k h. h) (r.knows me v is) (λ m h. h) refl (λ m h. h) (omega arith) (λ c lt m h e. (h, e)) (r.told me v is))
 
   -- a look that finds the ticket
-  module _ (s : St) (r : Rule s) (me c t : ℕ) (v : View S E) (is : get_elem? s.views me ≡ some v) (waits : v.stage ≡ Waiting c t) (now : get_or s.words (r.n + c) 0 ≡ t) where
+  module _ (s : St) (r : Rule s) (me c t : ℕ) (v : View S E) (is : get_elem? s.views me ≡ some v) (waits : v.stage ≡ Waiting c t) (now : get_or s.words (served_of c) 0 ≡ t) where
     abbrev w : View S E
     w = entered c t r.lists v
 
@@ -128,12 +129,12 @@ module _ {S V E : Type 0} (start : S) (passes places : ℕ) (session : E → ℕ
     waits_has : (k : ℕ × ℕ) → Has' w k → Has' v k
     waits_has k h = subst (λ (z : Stage). Has z k.0 k.1) (sym waits) h
 
-    no_one_in : Out s.views c (get_or s.words (r.n + c) 0) → ⊥
+    no_one_in : Out s.views c (get_or s.words (served_of c) 0) → ⊥
     no_one_in o =
         let in_has : Has' o.1 (c, t) = subst (λ (z : Stage). Has z c t) (sym o.3) (refl, now) in
         let same : o.0 ≡ me = r.apart o.0 me o.1 v (c, t) o.2 is in_has (subst (λ (z : Stage). Has z c t) (sym waits) (refl, refl)) in
         let d_is : o.1 ≡ v = some-injective _ _ (sym o.2 ∙ (ap (get_elem? s.views) same ∙ is)) in
-        waits_not_in v c t c (get_or s.words (r.n + c) 0) waits (ap (λ (z : View S E). z.stage) (sym d_is) ∙ o.3)
+        waits_not_in v c t c (get_or s.words (served_of c) 0) waits (ap (λ (z : View S E). z.stage) (sym d_is) ∙ o.3)
 
     at_home : AtHome start stands s.homes c (at r.lists c)
     at_home = ⊎_elim (λ h. h) (λ o. absurd (no_one_in o)) (r.home c here.0)
@@ -141,9 +142,9 @@ module _ {S V E : Type 0} (start : S) (passes places : ℕ) (session : E → ℕ
     pub enters : (i : ℕ) (cs : List (ℕ × Held V E)) (h : Held V E) → Rule (stepped s i (get_or s.words i 0) me cs w (takes c h))
     enters i cs h = loaded s i me cs w (set s.homes c none) (same_words s r me v w is (set s.homes c none) (length-set s.homes c none ∙ r.deep) (λ a e. e)
         (λ k lt. dite (ℕ_discrete k c)
-        (λ (e : k ≡ c). inr (me, w, set_here s.views me w (inside s.views me v is), λ j. Inside (sym e j) ((sym now ∙ ap (λ (z : ℕ). get_or s.words (r.n + z) 0) (sym e)) j)))
+        (λ (e : k ≡ c). inr (me, w, set_here s.views me w (inside s.views me v is), λ j. Inside (sym e j) ((sym now ∙ ap (λ (z : ℕ). get_or s.words (served_of z) 0) (sym e)) j)))
         (λ ne. ⊎_elim (λ a. inl (a.0, a.1, set_else s.homes c k none ne ∙ a.2, a.3, a.4))
-        (λ o. inr (out_stays s r me v w is k (get_or s.words (r.n + k) 0) (λ q. absurd (waits_not_in v c t k (get_or s.words (r.n + k) 0) waits q)) o)) (r.home k lt)))
+        (λ o. inr (out_stays s r me v w is k (get_or s.words (served_of k) 0) (λ q. absurd (waits_not_in v c t k (get_or s.words (served_of k) 0) waits q)) o)) (r.home k lt)))
         (here.0, now, here.2, record { whole = λ q e. refl })
         waits_has
         (record { begins = λ k. begins_same (at r.lists k) }, (λ m hm. record { entries = λ k. refl; words = record { whole = λ q e. refl } }))
@@ -168,13 +169,12 @@ module _ {S V E : Type 0} (start : S) (passes places : ℕ) (session : E → ℕ
   started_moment : (s : St) (r : Rule s) (me : ℕ) (v : View S E) (a : S) → get_elem? s.views me ≡ some v → length v.seen ≡ places → v.start ≡ a ∷ [] → Moment session writer kept a v r.lists
   started_moment s r me v a is wide started = subst (λ (z : S). Moment session writer kept z v r.lists) (sym (r.starts me v a is started)) (moment_of s r me v is wide)
 
-  pub looks : (slots me i c t : ℕ) (m : M) → length m.0.seen ≡ places → i ≡ slots + c → m.0.stage ≡ Waiting c t
+  pub looks : (slots me i c t : ℕ) (m : M) → length m.0.seen ≡ places → i ≡ served_of c → m.0.stage ≡ Waiting c t
       → Allows Rule slots me m i (λ n. n) (looked session writer stands kept (step slots i 0 0 none) m)
   looks slots me i c t m wide at_i waits s r deep is small =
-      let i_is : i ≡ r.n + c = at_i ∙ ap (λ (z : ℕ). z + c) (sym deep ∙ r.deep) in
       dite (ℕ_discrete (get_or s.words i 0) t)
       (λ (now : get_or s.words i 0 ≡ t).
-      let now' : get_or s.words (r.n + c) 0 ≡ t = ap (λ (z : ℕ). get_or s.words z 0) (sym i_is) ∙ now in
+      let now' : get_or s.words (served_of c) 0 ≡ t = ap (λ (z : ℕ). get_or s.words z 0) (sym at_i) ∙ now in
       let home = at_home s r me c t m.0 is waits now' in (
         entered c t r.lists m.0,
         takes c home.0,
@@ -204,10 +204,10 @@ module _ {S V E : Type 0} (start : S) (passes places : ℕ) (session : E → ℕ
   writes_whole s r me v is (Lock c) h = (subst (Stands (writer start) r.n s.words r.lists v.seen) h.1 (r.tickets me v is)).3
 
   -- the published word w and its place
-  pub word_shows : (s : St) (r : Rule s) (slots i w : ℕ) → length s.homes ≡ slots → i ≡ 2 * slots + 1 + w → slots + w < places → number start (i - (slots + 1)) (at r.lists (i - (slots + 1))) ≡ get_or s.words i 0
+  pub word_shows : (s : St) (r : Rule s) (slots i w : ℕ) → length s.homes ≡ slots → i ≡ line_of (slots + w) → slots + w < places → number start (slots + w) (at r.lists (slots + w)) ≡ get_or s.words i 0
   word_shows s r slots i w deep at_i inside_p =
       let n_is : r.n ≡ slots = sym r.deep ∙ deep in let total = r.total in
-      let here : i ≡ 2 * r.n + 1 + w = omega arith in let place : i - (slots + 1) ≡ r.n + w = omega arith in
+      let here : i ≡ line_of (r.n + w) = omega arith in let place : slots + w ≡ r.n + w = omega arith in
       ap (λ (z : ℕ). number start z (at r.lists z)) place ∙ (sym (r.posted w (omega arith)) ∙ ap (λ (z : ℕ). get_or s.words z 0) (sym here))
 
   -- a pass stands as it did once it has seen all histories
@@ -217,7 +217,7 @@ module _ {S V E : Type 0} (start : S) (passes places : ℕ) (session : E → ℕ
   stands_whole n words lists seen (Inside c t) h = (h.0, h.1, h.2, record { whole = λ q e. refl })
 
   -- a load of a published word
-  pub learns : (slots me i w : ℕ) (m : M) → length m.0.seen ≡ places → i ≡ 2 * slots + 1 + w → slots + w < places → Allows Rule slots me m i (λ n. n) (reads session writer number kept (step slots i 0 0 none) m)
+  pub learns : (slots me i w : ℕ) (m : M) → length m.0.seen ≡ places → i ≡ line_of (slots + w) → slots + w < places → Allows Rule slots me m i (λ n. n) (reads session writer number kept (step slots i 0 0 none) m)
   learns slots me i w m wide at_i inside_p s r deep is small =
       let v : View S E = learned r.lists m.0 in (
         v,
@@ -225,17 +225,17 @@ module _ {S V E : Type 0} (start : S) (passes places : ℕ) (session : E → ℕ
         tt,
         loaded s i me m.1 v s.homes (same_words s r me m.0 v is s.homes r.deep (λ a e. e) (home_stays s r me m.0 v is (λ c t e. e)) (stands_whole r.n s.words r.lists m.0.seen m.0.stage (r.tickets me m.0 is)) (λ k h. h)
             (record { begins = λ k. begins_same (at r.lists k) }, (λ m hm. record { entries = λ k. refl; words = record { whole = λ q e. refl } })) (λ k h. h) refl (λ k h. h) (omega arith) (λ c lt k h e. (h, refl)) (r.told me m.0 is)),
-        (λ a started. record {
+        (λ q a at_q started. let here : slots + w ≡ q = omega arith in record {
           lists = r.lists;
           moment = started_moment s r me m.0 a is wide started;
-          shown = subst (λ (z : S). number z (i - (slots + 1)) (at r.lists (i - (slots + 1))) ≡ get_or s.words i 0) (sym (r.starts me m.0 a is started)) (word_shows s r slots i w deep at_i inside_p);
+          shown = subst (λ (z : S × ℕ). number z.0 z.1 (at r.lists z.1) ≡ get_or s.words i 0) (λ j. (sym (r.starts me m.0 a is started) j, here j)) (word_shows s r slots i w deep at_i inside_p);
           view_is = refl;
           slots_are = refl;
         }),
       )
 
   -- a load of a word that this pass alone publishes
-  pub checks_one : (slots me i w : ℕ) (m : M) → i ≡ 2 * slots + 1 + w → slots + w < places → Allows Rule slots me m i (λ n. n) (checks writer number (step slots i 0 0 none) m)
+  pub checks_one : (slots me i w : ℕ) (m : M) → i ≡ line_of (slots + w) → slots + w < places → Allows Rule slots me m i (λ n. n) (checks writer number (step slots i 0 0 none) m)
   checks_one slots me i w m at_i inside_p s r deep is small = (
     m.0,
     keeps,
@@ -243,11 +243,11 @@ module _ {S V E : Type 0} (start : S) (passes places : ℕ) (session : E → ℕ
     loaded s i me m.1 m.0 s.homes (same_words s r me m.0 m.0 is s.homes r.deep (λ a e. e) (home_stays s r me m.0 m.0 is (λ c t e. e)) (r.tickets me m.0 is) (λ k h. h) (r.knows me m.0 is) (λ k h. h) refl (λ k h. h) (omega arith) (λ c lt k h e. (h, e)) (r.told me m.0 is)),
     (
       refl,
-      (λ a started mine.
-          let q : ℕ = i - (slots + 1) in
+      (λ q a at_q started mine.
+          let here : slots + w ≡ q = omega arith in
           let a_is : a ≡ start = r.starts me m.0 a is started in
           let whole : at m.0.seen q ≡ at r.lists q = (writes_whole s r me m.0 is (writer start q) (subst (λ (z : S). Writes (writer z q) m.0) a_is mine)).whole q refl in
-          subst (λ (z : S). number z q (at m.0.seen q) ≡ get_or s.words i 0) (sym a_is) (ap (number start q) whole ∙ word_shows s r slots i w deep at_i inside_p)),
+          subst (λ (z : S). number z q (at m.0.seen q) ≡ get_or s.words i 0) (sym a_is) (ap (number start q) whole ∙ subst (λ (z : ℕ). number start z (at r.lists z) ≡ get_or s.words i 0) here (word_shows s r slots i w deep at_i inside_p))),
     ),
   )
 

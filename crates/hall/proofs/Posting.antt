@@ -1,5 +1,5 @@
 -- Publishing a word keeps the rule.
-use Rattle.std.proofs.Common.{◌≡◌, ℕ, ◌+◌, ◌*◌, ◌-◌, ◌<◌, ◌≢◌, List, [], ◌∷◌, ◌++◌, length, get_or, set, refl, sym, ◌∙◌, ap, subst, inl, inr, ⊎_elim, eqb, get_or-set_same, get_or-set_other, length-set, arith, Option, Some, None}
+use Rattle.std.proofs.Common.{◌≡◌, ℕ, ◌+◌, ◌<◌, ◌≢◌, List, [], ◌∷◌, ◌++◌, length, get_or, set, refl, sym, ◌∙◌, ap, subst, inl, inr, ⊎_elim, eqb, get_or-set_same, get_or-set_other, length-set, arith, Option, Some, None}
 use mathlib.Core.Option.{some, none, some-injective, some-ne-none}
 use mathlib.Core.Option as maybe
 use mathlib.Core.Logic.{dite}
@@ -8,6 +8,7 @@ use lib.ListN.{get_elem?}
 use prog.Atomic.{either}
 use Rattle.atomic_table.specs.Table.{State, Me, step, keeps, Allows}
 use Rattle.atomic_table.proofs.Lists.{set_here, set_else, exchanged}
+use Rattle.hall.specs.Layout.{line_of, served_of}
 use Rattle.hall.specs.Lists.{at, Begins, own, Grows, OwnSeen, Knows, Whole}
 use Rattle.hall.specs.declared.writer.Writer.{Writer}
 use Rattle.hall.specs.declared.writer.Writer.TheVariants.{Session, Lock}
@@ -17,7 +18,7 @@ use Rattle.hall.specs.declared.view.View.{View}
 use Rattle.hall.specs.declared.view.Held.{Held}
 use Rattle.hall.specs.declared.note.Note.{Note}
 use Rattle.hall.specs.Rule.{Holds, Has, Has', Stands, Out, Writes, Told, Kept, weight}
-use Rattle.hall.specs.Told.{published, publishes, place_of}
+use Rattle.hall.specs.Told.{published, publishes}
 use Rattle.hall.proofs.Pieces.{begins_same, begins_more, own_other, at_here, at_else, each_set, unique_set, no_other, inside, sum_set}
 use Rattle.hall.proofs.Moves.{out_stays, writes_whole, word_shows}
 
@@ -45,7 +46,7 @@ module _ {S V E : Type 0} (start : S) (passes places : ℕ) (session : E → ℕ
     ls = set r.lists place xs
 
     abbrev word_at : ℕ
-    word_at = 2 * r.n + 1 + w
+    word_at = line_of place
 
     abbrev wl : List ℕ
     wl = set s.words word_at x
@@ -83,7 +84,7 @@ module _ {S V E : Type 0} (start : S) (passes places : ℕ) (session : E → ℕ
         let own : writer start place ≡ Session m = let P : ℕ → Type 0 = λ z. writer start z ≡ Session m in subst P q is_own in
         ne (r.alone j me d v m o is hd (subst (λ (z : Writer). Writes z v) own writes))
 
-    not_lock : (j : ℕ) (d : View S E) (c t k : ℕ) → j ≢ me → get_elem? s.views j ≡ some d → Has d.stage c t → get_or s.words (r.n + c) 0 ≡ t → writer start k ≡ Lock c → k ≢ place
+    not_lock : (j : ℕ) (d : View S E) (c t k : ℕ) → j ≢ me → get_elem? s.views j ≡ some d → Has d.stage c t → get_or s.words (served_of c) 0 ≡ t → writer start k ≡ Lock c → k ≢ place
     not_lock j d c t k ne o has now is_own q =
         let own : writer start place ≡ Lock c = let P : ℕ → Type 0 = λ z. writer start z ≡ Lock c in subst P q is_own in
         let h : Writes (Lock c) v = subst (λ (z : Writer). Writes z v) own writes in
@@ -93,14 +94,14 @@ module _ {S V E : Type 0} (start : S) (passes places : ℕ) (session : E → ℕ
 
     my_stands : (st : Stage) → Stands (writer start) r.n s.words r.lists v.seen st → Stands (writer start) r.n wl ls u.seen st
     my_stands Free h = tt
-    my_stands (Waiting c t) h = let k = h.0 in let p = word_else (r.n + c) (λ q. omega arith) in let q = word_else c (λ q. omega arith) in let l = h.1 in let m = h.2 in (h.0, omega arith, omega arith)
-    my_stands (Inside c t) h = let k = h.0 in let p = word_else (r.n + c) (λ q. omega arith) in let q = word_else c (λ q. omega arith) in let m = h.2 in
+    my_stands (Waiting c t) h = let k = h.0 in let p = word_else (served_of c) (λ q. omega arith) in let q = word_else (line_of c) (λ q. omega arith) in let l = h.1 in let m = h.2 in (h.0, omega arith, omega arith)
+    my_stands (Inside c t) h = let k = h.0 in let p = word_else (served_of c) (λ q. omega arith) in let q = word_else (line_of c) (λ q. omega arith) in let m = h.2 in
         (h.0, p ∙ h.1, omega arith, record { whole = λ k own. my_whole k (h.3.whole k own) })
 
     their_stands : (j : ℕ) (d : View S E) → j ≢ me → get_elem? s.views j ≡ some d → (st : Stage) → ((c t : ℕ) → Has st c t → Has d.stage c t) → Stands (writer start) r.n s.words r.lists d.seen st → Stands (writer start) r.n wl ls d.seen st
     their_stands j d ne o Free has h = tt
-    their_stands j d ne o (Waiting c t) has h = let k = h.0 in let p = word_else (r.n + c) (λ q. omega arith) in let q = word_else c (λ q. omega arith) in let l = h.1 in let m = h.2 in (h.0, omega arith, omega arith)
-    their_stands j d ne o (Inside c t) has h = let k = h.0 in let p = word_else (r.n + c) (λ q. omega arith) in let q = word_else c (λ q. omega arith) in let m = h.2 in
+    their_stands j d ne o (Waiting c t) has h = let k = h.0 in let p = word_else (served_of c) (λ q. omega arith) in let q = word_else (line_of c) (λ q. omega arith) in let l = h.1 in let m = h.2 in (h.0, omega arith, omega arith)
+    their_stands j d ne o (Inside c t) has h = let k = h.0 in let p = word_else (served_of c) (λ q. omega arith) in let q = word_else (line_of c) (λ q. omega arith) in let m = h.2 in
         (h.0, p ∙ h.1, omega arith, record { whole = λ k own. h.3.whole k own ∙ sym (list_else k (not_lock j d c t k ne o (has c t (refl, refl)) h.1 own)) })
 
     my_seen : (k : ℕ) → Begins (at u.seen k) (at ls k) × ((m : ℕ) → Holds v m → own session m (at ls k) ≡ own session m (at u.seen k))
@@ -136,10 +137,10 @@ module _ {S V E : Type 0} (start : S) (passes places : ℕ) (session : E → ℕ
       total = r.total;
       locks = r.locks;
       starts = λ j d a at q. each_set (λ _ z. (c : S) → z.start ≡ c ∷ [] → c ≡ start) s.views me u (λ c z. r.starts me v c is z) (λ i z _ o c y. r.starts i z c o y) j d at a q;
-      order = λ c lt. let p = word_else (r.n + c) (λ q. omega arith) in let q = word_else c (λ q. omega arith) in let l = r.order c lt in omega arith;
+      order = λ c lt. let p = word_else (served_of c) (λ q. omega arith) in let q = word_else (line_of c) (λ q. omega arith) in let l = r.order c lt in omega arith;
       home = λ c lt. let ne : c ≢ place = λ q. omega arith in ⊎_elim (λ a. inl (a.0, a.1, a.2, a.3, subst (stands start c a.1) (sym (list_else c ne)) a.4))
-          (λ o. inr (subst (λ (z : ℕ). Out (set s.views me u) c z) (sym (word_else (r.n + c) (λ q. omega arith)))
-          (out_stays start passes places session writer stands number kept s r me v u is c (get_or s.words (r.n + c) 0) (λ q. q) o))) (r.home c lt);
+          (λ o. inr (subst (λ (z : ℕ). Out (set s.views me u) c z) (sym (word_else (served_of c) (λ q. omega arith)))
+          (out_stays start passes places session writer stands number kept s r me v u is c (get_or s.words (served_of c) 0) (λ q. q) o))) (r.home c lt);
       tickets = each_set (λ _ z. Stands (writer start) r.n wl ls z.seen z.stage) s.views me u (my_stands v.stage (r.tickets me v is)) (λ j d ne o. their_stands j d ne o d.stage (λ _ _ h. h) (r.tickets j d o));
       apart = unique_set Has' s.views me u r.apart (no_other Has' s.views me v u is r.apart (λ k h. h));
       knows = each_set (λ _ z. Grows z.seen ls × ((m : ℕ) → Holds z m → OwnSeen session (writer start) m z.seen ls)) s.views me u (record { begins = λ k. (my_seen k).0 }, (λ m hm. record { entries = λ k. (my_seen k).1 m hm; words = record { whole = λ k own. my_whole k (((r.knows me v is).1 m hm).words.whole k own) } }))
@@ -148,10 +149,10 @@ module _ {S V E : Type 0} (start : S) (passes places : ℕ) (session : E → ℕ
       told = each_set (λ _ z. Told session (writer start) z.merged) s.views me u (r.told me v is) (λ j d _ o. r.told j d o);
       named = λ j d m at hm. each_set (λ _ z. Holds z m → m < passes) s.views me u (λ k. r.named me v m is k) (λ i z _ o k. r.named i z m o k) j d at hm;
       owner = λ j d a c at has. each_set (λ _ z. Has z.stage a c → Holds z z.name) s.views me u (λ h. r.owner me v a c is h) (λ i z _ o k. r.owner i z a c o k) j d at has;
-      budget = λ c lt. let q = r.budget c lt in let g = sum_set weight s.views me v u is in let f = word_else c (λ q. omega arith) in omega arith;
+      budget = λ c lt. let q = r.budget c lt in let g = sum_set weight s.views me v u is in let f = word_else (line_of c) (λ q. omega arith) in omega arith;
       posted = λ a lt. dite (ℕ_discrete a w)
-          (λ (q : a ≡ w). let P : ℕ → Type 0 = λ z. get_or wl (2 * r.n + 1 + z) 0 ≡ number start (r.n + z) (at ls (r.n + z)) in subst P (sym q) (let l = r.wide in get_or-set_same s.words word_at x 0 (omega arith) ∙ (sym shows ∙ ap (number start place) (ap (λ (z : List E). z ++ e ∷ []) (all_whole.whole place refl) ∙ sym list_here))))
-          (λ ne. word_else (2 * r.n + 1 + a) (λ q. ne (omega arith)) ∙ (r.posted a lt ∙ ap (number start (r.n + a)) (sym (list_else (r.n + a) (λ q. ne (omega arith))))));
+          (λ (q : a ≡ w). let P : ℕ → Type 0 = λ z. get_or wl (line_of (r.n + z)) 0 ≡ number start (r.n + z) (at ls (r.n + z)) in subst P (sym q) (let l = r.wide in get_or-set_same s.words word_at x 0 (omega arith) ∙ (sym shows ∙ ap (number start place) (ap (λ (z : List E). z ++ e ∷ []) (all_whole.whole place refl) ∙ sym list_here))))
+          (λ ne. word_else (line_of (r.n + a)) (λ q. ne (omega arith)) ∙ (r.posted a lt ∙ ap (number start (r.n + a)) (sym (list_else (r.n + a) (λ q. ne (omega arith))))));
       whole = λ k lt. dite (ℕ_discrete k place)
           (λ (q : k ≡ place). let P : ℕ → Type 0 = λ z. at u.seen z ≡ at ls z in (me, u, v.name, set_here s.views me u (inside s.views me v is), mine, subst P (sym q) seen_u))
           (λ ne. let o = r.whole k lt in dite (ℕ_discrete o.0 me)
@@ -169,49 +170,46 @@ module _ {S V E : Type 0} (start : S) (passes places : ℕ) (session : E → ℕ
   said_or d (some h) = h
 
   -- the exchange finds the number that the history shows
-  pub posts : (slots me i w q old new : ℕ) (m : M) (h : Held V E) (e : Note E) → q ≡ slots + w → i ≡ 2 * slots + 1 + w → length m.0.seen ≡ places → q < places → h.note ≡ Some e → Holds m.0 m.0.name → session e.value ≡ m.0.name
+  pub posts : (slots me i w q old new : ℕ) (m : M) (h : Held V E) (e : Note E) → q ≡ slots + w → i ≡ line_of q → length m.0.seen ≡ places → q < places → h.note ≡ Some e → Holds m.0 m.0.name → session e.value ≡ m.0.name
       → Writes (writer start q) m.0 → number start q (at m.0.seen q) ≡ old → number start q (at m.0.seen q ++ e.value ∷ []) ≡ new
       → ((lists : List (List E)) → kept start lists → Knows session (writer start) (session e.value) m.0.seen lists → q < length lists → Whole (writer start) (writer start q) m.0.seen lists → kept start (set lists q (at lists q ++ e.value ∷ [])))
       → Allows Rule slots me m i (λ x. either (eqb x old) new x) (publishes (step slots i old new (some h)) m)
   unfolding noted_or said_or
   posts slots me i w q old new m h e q_is at_i wide inside_p noted mine by writes was shows lawful s r deep is small =
       let n_is : slots ≡ r.n = sym deep ∙ r.deep in let total = r.total in
-      let here : i ≡ 2 * r.n + 1 + w = omega arith in let place : q ≡ i - (slots + 1) = omega arith in let there : r.n + w ≡ q = omega arith in
+      let here : i ≡ line_of (r.n + w) = omega arith in let place : slots + w ≡ q = omega arith in let there : r.n + w ≡ q = omega arith in
       let whole : at m.0.seen q ≡ at r.lists q = (writes_whole start passes places session writer stands number kept s r me m.0 is (writer start q) writes).whole q refl in
-      let found : get_or s.words i 0 ≡ old = sym (word_shows start passes places session writer stands number kept s r slots i w deep at_i (omega arith)) ∙ (ap (λ (z : ℕ). number start z (at r.lists z)) (sym place) ∙ (ap (number start q) (sym whole) ∙ was)) in
+      let found : get_or s.words i 0 ≡ old = sym (word_shows start passes places session writer stands number kept s r slots i w deep (omega arith) (omega arith)) ∙ (ap (λ (z : ℕ). number start z (at r.lists z)) place ∙ (ap (number start q) (sym whole) ∙ was)) in
       let u : View S E = published q e.value m.0 in
       let P : ℕ → Type 0 = λ z. z < length m.0.seen → Writes (writer start z) m.0 → number start z (at m.0.seen z ++ e.value ∷ []) ≡ new
       → ((lists : List (List E)) → kept start lists → Knows session (writer start) (session e.value) m.0.seen lists → z < length lists → Whole (writer start) (writer start z) m.0.seen lists → kept start (set lists z (at lists z ++ e.value ∷ [])))
-      → Rule record { words = set s.words (2 * r.n + 1 + w) new; homes = s.homes; views = set s.views me (published z e.value m.0) } in
+      → Rule record { words = set s.words (line_of (r.n + w)) new; homes = s.homes; views = set s.views me (published z e.value m.0) } in
       let one : P (r.n + w) = λ lt a b l. publishes_one s r me w new m.0 e.value is (omega arith) lt mine by a b l in
-      let done : Rule record { words = set s.words (2 * r.n + 1 + w) new; homes = s.homes; views = set s.views me u } = subst P there one (omega arith) writes shows lawful in (
+      let done : Rule record { words = set s.words (line_of (r.n + w)) new; homes = s.homes; views = set s.views me u } = subst P there one (omega arith) writes shows lawful in (
         u,
         keeps,
         tt,
         exchanged (get_or s.words i 0) old new (λ z. Rule record { words = set s.words i z; homes = s.homes; views = set s.views me u })
             (λ _. subst (λ (z : ℕ). Rule record { words = set s.words z new; homes = s.homes; views = set s.views me u }) (sym here) done)
             (λ other. absurd (other found)),
-        (λ h' e' said note.
+        (λ k h' e' at_k said note.
+            let same : q ≡ k = omega arith in
             let held : h ≡ h' = ap (said_or h) said in
             let notes : Some e ≡ Some e' = sym noted ∙ (ap (λ (z : Held V E). z.note) held ∙ note) in
             let e_is : e ≡ e' = ap (noted_or e) notes in
-            λ j. (published (place j) (e_is j).value m.0, m.1)),
+            λ j. (published (same j) (e_is j).value m.0, m.1)),
       )
 
   -- the same behind a load that found what the history shows
-  pub posts_here : (slots me i w q old new : ℕ) (m m' : M) (h : Held V E) (e : Note E) → m' ≡ m → q ≡ slots + w → i ≡ 2 * slots + 1 + w → length m.0.seen ≡ places → q < places → h.note ≡ Some e → Holds m.0 m.0.name → session e.value ≡ m.0.name
-      → Writes (writer start q) m.0 → (Writes (writer start (place_of slots i)) m.0 → number start (place_of slots i) (at m.0.seen (place_of slots i)) ≡ old) → number start q (at m.0.seen q ++ e.value ∷ []) ≡ new
+  pub posts_here : (slots me i w q old new : ℕ) (m m' : M) (h : Held V E) (e : Note E) → m' ≡ m → q ≡ slots + w → i ≡ line_of q → length m.0.seen ≡ places → q < places → h.note ≡ Some e → Holds m.0 m.0.name → session e.value ≡ m.0.name
+      → Writes (writer start q) m.0 → (Writes (writer start q) m.0 → number start q (at m.0.seen q) ≡ old) → number start q (at m.0.seen q ++ e.value ∷ []) ≡ new
       → ((lists : List (List E)) → kept start lists → Knows session (writer start) (session e.value) m.0.seen lists → q < length lists → Whole (writer start) (writer start q) m.0.seen lists → kept start (set lists q (at lists q ++ e.value ∷ [])))
       → Allows Rule slots me m' i (λ x. either (eqb x old) new x) (publishes (step slots i old new (some h)) m')
   posts_here slots me i w q old new m m' h e same q_is at_i wide inside_p noted mine by writes checked shows lawful =
-      let place : place_of slots i ≡ q = omega arith in
-      let P : ℕ → Type 0 = λ z. Writes (writer start z) m.0 → number start z (at m.0.seen z) ≡ old in
       subst (λ (z : M). Allows Rule slots me z i (λ x. either (eqb x old) new x) (publishes (step slots i old new (some h)) z)) (sym same)
-      (posts slots me i w q old new m h e q_is at_i wide inside_p noted mine by writes (subst P place checked writes) shows lawful)
+      (posts slots me i w q old new m h e q_is at_i wide inside_p noted mine by writes (checked writes) shows lawful)
 
 module _ {S V E : Type 0} where
   -- the view behind a publication
-  pub post_tells : (slots i w q : ℕ) (m m' m'' : Me (Held V E) (View S E)) (h : Held V E) (e : Note E) → m' ≡ m → q ≡ slots + w → i ≡ 2 * slots + 1 + w → h.note ≡ Some e → publishes (step slots i 0 0 (some h)) m' 0 m'' → m'' ≡ (published q e.value m.0, m.1)
-  post_tells slots i w q m m' m'' h e same q_is at_i noted told =
-      let place : place_of slots i ≡ q = omega arith in
-      told h e refl noted ∙ (λ j. (published (place j) e.value (same j).0, (same j).1))
+  pub post_tells : (i q : ℕ) (m m' m'' : Me (Held V E) (View S E)) (h : Held V E) (e : Note E) → m' ≡ m → i ≡ line_of q → h.note ≡ Some e → publishes (step 0 i 0 0 (some h)) m' 0 m'' → m'' ≡ (published q e.value m.0, m.1)
+  post_tells i q m m' m'' h e same at_i noted told = told q h e at_i refl noted ∙ (λ j. (published q e.value (same j).0, (same j).1))

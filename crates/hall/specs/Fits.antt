@@ -5,6 +5,7 @@ use Rattle.hall.specs.declared.view.Stage.{Stage}
 use Rattle.hall.specs.declared.view.Stage.TheVariants.{Free, Waiting, Inside}
 use Rattle.hall.specs.declared.view.View.{View}
 use Rattle.hall.specs.declared.view.Held.{Held}
+use Rattle.hall.specs.Layout.{line_of}
 use Rattle.hall.specs.Rule.{Holds}
 
 -- the slots that are with a pass at this stage: that of the lock that it is inside, whose value is out
@@ -21,7 +22,7 @@ module _ {S V E : Type 0} where
   -- the fields of a pass say what its view says
   pub record Fits (cells words cell ticket : ℕ) (gives : List Bool) (m : Me (Held V E) (View S E)) : Type 0 where
     pub named : Holds m.0 m.0.name
-    pub wide : length m.0.seen + cells + 1 ≡ words
+    pub wide : line_of (length m.0.seen) ≡ words
     pub waits : (c t : ℕ) → m.0.stage ≡ Waiting c t → Ticketed cells cell ticket c t
     pub inside : (c t : ℕ) → m.0.stage ≡ Inside c t → Ticketed cells cell ticket c t
     pub carried : map (λ x. (x.0, is_some x.1.value)) m.1 ≡ carried_at m.0.stage

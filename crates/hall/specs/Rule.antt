@@ -1,5 +1,5 @@
--- The rule of a table. Word c is the next ticket of the lock c, and word n + c the ticket that it serves. Word 2 n is spare, and word 2 n + 1 + w is the published word w.
-use Rattle.std.specs.Prelude.{◌≡◌, ℕ, ◌+◌, ◌*◌, ◌-◌, ◌<◌, ◌≤◌, Bool, true, false, if◌then◌else◌, List, [], ◌∷◌, ◌⊎◌, length, sum_by, Some, slice_index, slice_index_or, replicate}
+-- The rule of a table, over n locks and p published words.
+use Rattle.std.specs.Prelude.{◌≡◌, ℕ, ◌+◌, ◌-◌, ◌<◌, ◌≤◌, Bool, true, false, if◌then◌else◌, List, [], ◌∷◌, ◌⊎◌, length, sum_by, Some, slice_index, slice_index_or, replicate}
 use mathlib.Core.Option.{some}
 use lib.ListN.{get_elem?}
 use Rattle.atomic_table.specs.Table.{State}
@@ -11,6 +11,7 @@ use Rattle.hall.specs.declared.view.View.{View}
 use Rattle.hall.specs.declared.view.Merged.{Merged}
 use Rattle.hall.specs.declared.view.Held.{Held}
 use Rattle.hall.specs.declared.view.Opening.{Opening}
+use Rattle.hall.specs.Layout.{line_of, served_of}
 use Rattle.hall.specs.Lists.{at, Grows, Whole, OwnSeen}
 
 -- the pass has the name m, and so has seen all of its entries
@@ -63,8 +64,8 @@ module _ {E : Type 0} where
   -- what the words and the histories say of a pass at this stage, which has seen these histories
   abbrev pub Stands : (ℕ → Writer) → ℕ → List ℕ → List (List E) → List (List E) → Stage → Type 0
   Stands writer n words lists seen Free = Unit {0}
-  Stands writer n words lists seen (Waiting c t) = (c < n) × (slice_index words (n + c) ≤ t) × (t < slice_index words c)
-  Stands writer n words lists seen (Inside c t) = (c < n) × (slice_index words (n + c) ≡ t) × (t < slice_index words c) × Whole writer (Lock c) seen lists
+  Stands writer n words lists seen (Waiting c t) = (c < n) × (slice_index words (served_of c) ≤ t) × (t < slice_index words (line_of c))
+  Stands writer n words lists seen (Inside c t) = (c < n) × (slice_index words (served_of c) ≡ t) × (t < slice_index words (line_of c)) × Whole writer (Lock c) seen lists
 
 -- the value of the lock c is in its slot, and stands for the history
 abbrev pub AtHome : {S V E : Type 0} → S → (S → ℕ → V → List E → Type 0) → List (mathlib.Core.Option.Option (Held V E)) → ℕ → List E → Type 0
@@ -79,20 +80,20 @@ pub record Kept {S V E : Type 0} (start : S) (passes places : ℕ) (session : E 
   pub lists : List (List E)
   pub many : length lists ≡ n + p
   pub total : n + p ≡ places
-  -- a slot for each lock, and the words
+  -- a slot for each lock, and a line of words for each place, behind the spare one
   pub deep : length s.homes ≡ n
-  pub wide : length s.words ≡ 2 * n + 1 + p
+  pub wide : length s.words ≡ line_of (n + p)
   pub law : kept start lists
   -- whoever is inside a lock adds to its history
   pub locks : (c : ℕ) → c < n → writer start c ≡ Lock c
   -- each pass knows the table's start
   pub starts : (j : ℕ) (d : View S E) (a : S) → get_elem? s.views j ≡ some d → d.start ≡ a ∷ [] → a ≡ start
   -- no ticket is served before it is taken
-  pub order : (c : ℕ) → c < n → slice_index s.words (n + c) ≤ slice_index s.words c
+  pub order : (c : ℕ) → c < n → slice_index s.words (served_of c) ≤ slice_index s.words (line_of c)
   -- each value is in its slot, or with the pass whose ticket is served
-  pub home : (c : ℕ) → c < n → AtHome start stands s.homes c (at lists c) ⊎ Out s.views c (slice_index s.words (n + c))
+  pub home : (c : ℕ) → c < n → AtHome start stands s.homes c (at lists c) ⊎ Out s.views c (slice_index s.words (served_of c))
   -- each published word shows the number of its history
-  pub posted : (w : ℕ) → w < p → slice_index s.words (2 * n + 1 + w) ≡ number start (n + w) (at lists (n + w))
+  pub posted : (w : ℕ) → w < p → slice_index s.words (line_of (n + w)) ≡ number start (n + w) (at lists (n + w))
   -- each ticket is one that was taken and not yet served out, and no two passes have one
   pub tickets : (j : ℕ) (d : View S E) → get_elem? s.views j ≡ some d → Stands (writer start) n s.words lists d.seen d.stage
   pub apart : Unique s.views Has'
@@ -106,7 +107,7 @@ pub record Kept {S V E : Type 0} (start : S) (passes places : ℕ) (session : E 
   pub named : (j : ℕ) (d : View S E) (m : ℕ) → get_elem? s.views j ≡ some d → Holds d m → m < passes
   pub owner : (j : ℕ) (d : View S E) (c t : ℕ) → get_elem? s.views j ≡ some d → Has d.stage c t → Holds d d.name
   -- no ticket wraps: 65 times 2^57
-  pub budget : (c : ℕ) → c < n → slice_index s.words c + sum_by weight s.views ≤ 9367487224930631680
+  pub budget : (c : ℕ) → c < n → slice_index s.words (line_of c) + sum_by weight s.views ≤ 9367487224930631680
   -- some pass has seen each history whole
   pub whole : (c : ℕ) → c < n + p → (j : ℕ) × (d : View S E) × (m : ℕ) × (get_elem? s.views j ≡ some d) × Holds d m × (at d.seen c ≡ at lists c)
 

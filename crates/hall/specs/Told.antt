@@ -9,6 +9,7 @@ use Rattle.hall.specs.declared.view.View.{View}
 use Rattle.hall.specs.declared.view.Merged.{Merged}
 use Rattle.hall.specs.declared.view.Held.{Held}
 use Rattle.hall.specs.declared.note.Note.{Note}
+use Rattle.hall.specs.Layout.{line_of}
 use Rattle.hall.specs.Lists.{at, Grows, Whole, OwnSeen}
 use Rattle.hall.specs.Rule.{Holds, Writes, Told}
 
@@ -90,18 +91,14 @@ module _ {S E : Type 0} where
     pub own_seen : (m : ℕ) → Holds v m → OwnSeen session (writer start) m v.seen lists
     pub locked : (c t : ℕ) → v.stage ≡ Inside c t → Whole (writer start) (Lock c) v.seen lists
 
--- the place of a published word, by the number of locks and the word's index
-abbrev pub place_of : ℕ → ℕ → ℕ
-place_of n i = i - (n + 1)
-
 -- a seat of the table, as its steps see it
 abbrev Sat : Type 0 → Type 0 → Type 0 → Type 0
 Sat S V E = Me (Held V E) (View S E)
 
 module _ {S V E : Type 0} where
-  -- a ticket of the lock is held
+  -- a ticket of the lock whose line the word begins is held
   abbrev pub drew : Step (Held V E) → Sat S V E → ℕ → Sat S V E → Type 0
-  drew st m r m' = (r + 1 < 18446744073709551616) × (m'.0 ≡ drawn st.word r m.0) × (m'.1 ≡ m.1)
+  drew st m r m' = (r + 1 < 18446744073709551616) × ((c : ℕ) → st.word ≡ line_of c → m'.0 ≡ drawn c r m.0) × (m'.1 ≡ m.1)
 
   -- all histories were seen whole, and the slot is with the pass
   pub record Got (session : E → ℕ) (writer : S → ℕ → Writer) (stands : S → ℕ → V → List E → Type 0) (kept : S → List (List E) → Type 0) (start : S) (c t : ℕ) (m m' : Sat S V E) : Type 0 where
@@ -135,17 +132,17 @@ module _ {S V E : Type 0} where
     pub view_is : m'.0 ≡ learned lists m.0
     pub slots_are : m'.1 ≡ m.1
 
-  -- a word was loaded
+  -- the word of the place q was loaded
   abbrev pub reads : (E → ℕ) → (S → ℕ → Writer) → (S → ℕ → List E → ℕ) → (S → List (List E) → Type 0) → Step (Held V E) → Sat S V E → ℕ → Sat S V E → Type 0
-  reads session writer number kept st m r m' = (start : S) → m.0.start ≡ start ∷ [] → Learnt session writer number kept start (place_of st.slots st.word) r m m'
+  reads session writer number kept st m r m' = (q : ℕ) (start : S) → st.word ≡ line_of q → m.0.start ≡ start ∷ [] → Learnt session writer number kept start q r m m'
 
   -- a word that this pass alone publishes shows the number of the history that it has seen
   abbrev pub checks : (S → ℕ → Writer) → (S → ℕ → List E → ℕ) → Step (Held V E) → Sat S V E → ℕ → Sat S V E → Type 0
-  checks writer number st m r m' = (m' ≡ m) × ((start : S) → m.0.start ≡ start ∷ [] → Writes (writer start (place_of st.slots st.word)) m.0 → number start (place_of st.slots st.word) (at m.0.seen (place_of st.slots st.word)) ≡ r)
+  checks writer number st m r m' = (m' ≡ m) × ((q : ℕ) (start : S) → st.word ≡ line_of q → m.0.start ≡ start ∷ [] → Writes (writer start q) m.0 → number start q (at m.0.seen q) ≡ r)
 
   -- the entry of the note that was said was added
   abbrev pub publishes : Step (Held V E) → Sat S V E → ℕ → Sat S V E → Type 0
-  publishes st m r m' = (h : Held V E) (e : Note E) → st.said ≡ some h → h.note ≡ Some e → m' ≡ (published (place_of st.slots st.word) e.value m.0, m.1)
+  publishes st m r m' = (q : ℕ) (h : Held V E) (e : Note E) → st.word ≡ line_of q → st.said ≡ some h → h.note ≡ Some e → m' ≡ (published q e.value m.0, m.1)
 
   -- the histories of the moment at which a join is settled
   pub record Settled (session : E → ℕ) (writer : S → ℕ → Writer) (kept : S → List (List E) → Type 0) (start : S) (x : Merged E) (m m' : Sat S V E) : Type 0 where

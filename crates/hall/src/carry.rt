@@ -1,6 +1,8 @@
 //! What a table is made of, and values that go into slots and come back.
-ghost use Rattle.std.specs.Prelude.{◌≡◌, ℕ, ◌+◌, ◌-◌, ◌*◌, ◌^◌, ◌<◌, ◌≤◌, List, [], true, false, map, vec_len, vec_capacity, All, IsSome, Some, slice_index_or, replicate, IfOk, ◌++◌};
+ghost use Rattle.std.specs.Prelude.{◌≡◌, ℕ, ◌+◌, ◌-◌, ◌*◌, ◌^◌, ◌<◌, ◌≤◌, List, [], true, false, map, vec_len, vec_capacity, All, IsSome, Some, slice_index_or, replicate, IfOk, length};
+ghost use Rattle.hall.specs.Layout.{Starts, line_of};
 
+use crate::layout::{LINE, line_at};
 use crate::memory::Memory;
 use crate::view::Held;
 use std::alloc::Global;
@@ -18,20 +20,19 @@ pub(crate) fn first_names(passes: u32) -> [bool; 64]
 }
 
 // No ticket was taken, none was served, and the published words have their first numbers.
-pub(crate) fn first_words(
-    alloc: Global,
-    cells: usize,
-    mut posts: Vec<u64>,
-) -> Result<Vec<u64>, Memory>
-    requires { (cells < 2 ^ 62) × (vec_len posts < 2 ^ 62) }
-    ensures { IfOk result (λ v. v.items ≡ replicate (2 * cells + 1) 0 ++ posts.items) }
+pub(crate) fn first_words(alloc: Global, cells: usize, posts: &[u64]) -> Result<Vec<u64>, Memory>
+    requires { (cells < 2 ^ 62) × (length posts.now < 2 ^ 62) }
+    ensures { IfOk result (λ v. Starts cells posts.now v.items × (line_of (cells + length posts.now) < 2 ^ 64)) }
 {
-    let Ok(mut words) = Vec::from_elem(alloc, 0u64, 2 * cells + 1) else {
+    let Some(count) = (cells + posts.len() + 1).checked_mul(LINE) else {
         return Err(Memory);
     };
-    let Ok(()) = words.append(&mut posts) else {
+    let Ok(mut words) = Vec::from_elem(alloc, 0u64, count) else {
         return Err(Memory);
     };
+    for w in 0..posts.len() {
+        words[line_at(cells + w)] = posts[w];
+    }
     Ok(words)
 }
 
@@ -44,10 +45,7 @@ pub(crate) fn wrap<V, E>(values: &mut Vec<V>, slots: &mut Vec<Held<V, E>>)
 {
     while values.len() > 0 {
         let value = values.remove(0);
-        slots.push_reserved(Held {
-            value: Some(value),
-            note: None,
-        });
+        slots.push_reserved(Held::new(Some(value), None));
     }
 }
 
@@ -59,7 +57,11 @@ pub(crate) fn unwrap<V, E>(mut slots: Vec<Held<V, E>>, values: &mut Vec<V>)
     ensures { map Some values.new.items ≡ map (λ h. h.value) slots.items }
 {
     while slots.len() > 0 {
-        let Held { value, note: _ } = slots.remove(0);
+        let Held {
+            value,
+            note: _,
+            gap: _,
+        } = slots.remove(0);
         let Some(x) = value else { unreachable!() };
         values.push_reserved(x);
     }

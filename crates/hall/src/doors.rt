@@ -25,7 +25,12 @@ impl<L: Law> Hall<L> {
     /// first histories, of which the relation holds: the values stand for those of the locks, and
     /// the numbers are what those of the words show.
     ///
-    /// Where there is no memory, the values come back. No other call of a table takes memory.
+    /// A lock takes 144 bytes and twice the size of its value, a word 64 bytes, and the table 64
+    /// more: each lock and each word has a cache line of its own. For the time of this call it takes
+    /// nearly as much again.
+    ///
+    /// Where there is no memory, the values come back. So they do from 2^61 locks and words on, whose
+    /// lines have no room in 2^64 bytes. No other call of a table takes memory.
     pub fn new(
         alloc: Global,
         mut values: Vec<L::Value>,
@@ -46,7 +51,7 @@ impl<L: Law> Hall<L> {
     {
         let cells = values.len();
         let words = posts.len();
-        let Ok(starts) = first_words(alloc, cells, posts) else {
+        let Ok(starts) = first_words(alloc, cells, posts.as_slice()) else {
             return Err((values, Memory));
         };
         let Ok(mut slots) = Vec::with_capacity(alloc, cells) else {
@@ -100,7 +105,11 @@ impl<L: Law> Hall<L> {
         } = pass;
         let mut closed = table.close_with(seat);
         for i in 0..cells {
-            let Held { value, note: _ } = closed.take(i);
+            let Held {
+                value,
+                note: _,
+                gap: _,
+            } = closed.take(i);
             let Some(x) = value else { unreachable!() };
             shell.push_reserved(x);
         }

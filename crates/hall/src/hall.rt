@@ -1,5 +1,6 @@
 //! Values behind ticket locks, over any law.
-ghost use Rattle.std.specs.Prelude.{◌≡◌, ◌+◌, ◌*◌, ◌^◌, ◌<◌, ◌≤◌, length, vec_len, vec_capacity};
+ghost use Rattle.std.specs.Prelude.{◌≡◌, ◌+◌, ◌^◌, ◌<◌, ◌≤◌, length, vec_len, vec_capacity};
+ghost use Rattle.hall.specs.Layout.{line_of};
 
 use crate::law::Law;
 use crate::note::Note;
@@ -25,6 +26,6 @@ pub struct Hall<L: Law> {
     // The emptied vector of `new`, so that `close_with` takes no memory.
     pub(crate) shell: Vec<L::Value>,
     ghost room: { (vec_len shell ≡ 0) × (cells ≤ vec_capacity shell) },
-    ghost sized: { (table.shared.table_id.slots ≡ cells) × (table.shared.table_id.words ≡ 2 * cells + 1 + posts) × (2 * cells + 1 + posts < 2 ^ 64) },
+    ghost sized: { (table.shared.table_id.slots ≡ cells) × (table.shared.table_id.words ≡ line_of (cells + posts)) × (line_of (cells + posts) < 2 ^ 64) },
     ghost places: { length table.shared.key.value.lists ≡ cells + posts },
 }

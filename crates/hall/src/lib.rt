@@ -5,6 +5,7 @@ mod carry;
 mod doors;
 mod hall;
 mod law;
+mod layout;
 mod memory;
 mod note;
 mod order;

@@ -6,6 +6,7 @@ ghost use Rattle.hall.specs.Calls.{view, IsOf, IsSame, Joined, start_of};
 
 use crate::hall::Hall;
 use crate::law::Law;
+use crate::layout::SPARE;
 use crate::pass::{Pass, Token};
 use crate::plays::{Ask, Cut, Glue, Settle};
 
@@ -27,7 +28,7 @@ impl<L: Law> Hall<L> {
         }
         let at = name as usize;
         let shared = &self.table.shared;
-        shared.compare_exchange::<Ask>(&mut pass.seat, 2 * self.cells, name as u64, name as u64);
+        shared.compare_exchange::<Ask>(&mut pass.seat, SPARE, name as u64, name as u64);
         let seat = shared.split_seat::<Cut>(&mut pass.seat);
         pass.gives[at] = false;
         Some(Token {
@@ -60,6 +61,6 @@ impl<L: Law> Hall<L> {
         } = other;
         let shared = &self.table.shared;
         shared.join_seat::<Glue>(&mut pass.seat, seat);
-        shared.load::<Settle<L>>(&mut pass.seat, 2 * self.cells);
+        shared.load::<Settle<L>>(&mut pass.seat, SPARE);
     }
 }

@@ -8,10 +8,10 @@ ghost use Rattle.hall.specs.Calls.{view, IsOf, IsSame, Looked, Entered, start_of
 
 use crate::hall::Hall;
 use crate::law::Law;
+use crate::layout::{line_at, served_at};
 use crate::note::Note;
 use crate::pass::Pass;
 use crate::plays::{Draw, Leave, Look};
-use crate::view::Held;
 use crossbeam_utils::Backoff;
 use std::sync::Wait;
 
@@ -32,7 +32,7 @@ impl<L: Law> Hall<L> {
         let ticket = self
             .table
             .shared
-            .fetch_add::<Draw>(&mut pass.seat, cell as usize, 1);
+            .fetch_add::<Draw>(&mut pass.seat, line_at(cell as usize), 1);
         pass.cell = cell as usize;
         pass.ticket = ticket;
     }
@@ -51,16 +51,11 @@ impl<L: Law> Hall<L> {
         ensures view { MatchOption result ((view pass.new ≡ missed (view pass.new).found (view pass.old)) × ((view pass.new).found ≢ pass.old.ticket)) (λ x. Entered L.session L.writer L.stands L.kept (start_of self.now) pass.old.cell pass.old.ticket (view pass.old) x (view pass.new)) }
     {
         let shared = &self.table.shared;
-        let found = shared.load::<Look<L>>(&mut pass.seat, self.cells + pass.cell);
+        let found = shared.load::<Look<L>>(&mut pass.seat, served_at(pass.cell));
         if found != pass.ticket {
             return None;
         }
-        let empty = Held {
-            value: None,
-            note: None,
-        };
-        let Held { value, note: _ } = shared.exchange(&mut pass.seat, pass.cell, empty);
-        value
+        pass.seat.slot_mut(shared, pass.cell).take()
     }
 
     /// Polls until it has the lock's value, and may wait for ever.
@@ -99,15 +94,8 @@ impl<L: Law> Hall<L> {
         ensures view { view pass.new ≡ left pass.old.cell entry.value (view pass.old) }
     {
         let shared = &self.table.shared;
-        let held = Held {
-            value: Some(value),
-            note: Some(entry),
-        };
-        let Held {
-            value: gone,
-            note: _,
-        } = shared.exchange(&mut pass.seat, pass.cell, held);
+        let gone = pass.seat.slot_mut(shared, pass.cell).put(value, entry);
         let None = gone else { unreachable!() };
-        shared.store::<Leave>(&mut pass.seat, self.cells + pass.cell, pass.ticket + 1);
+        shared.store::<Leave>(&mut pass.seat, served_at(pass.cell), pass.ticket + 1);
     }
 }

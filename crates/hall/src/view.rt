@@ -1,4 +1,7 @@
 //! What a pass knows, and what a slot holds.
+ghost use Rattle.std.specs.Prelude.{◌≡◌, None, Some};
+
+use crate::layout::LINE;
 use crate::note::Note;
 use std::collections::LinkedList;
 
@@ -52,6 +55,37 @@ pub struct Merged<E> {
 pub struct Held<V, E> {
     pub value: Option<V>,
     pub note: Option<Note<E>>,
+    // Never read, and written once: a cache line between this value and the next lock's.
+    pub(crate) gap: [u64; LINE],
+}
+
+impl<V, E> Held<V, E> {
+    pub(crate) fn new(value: Option<V>, note: Option<Note<E>>) -> Held<V, E>
+        ensures { (result.value ≡ value) × (result.note ≡ note) }
+    {
+        Held {
+            value,
+            note,
+            gap: [0; LINE],
+        }
+    }
+
+    // Takes the value out, in place: the gap is not touched.
+    pub(crate) fn take(&mut self) -> Option<V>
+        ensures value { result ≡ self.old.value }
+        ensures left { self.new ≡ record self.old { value = None } }
+    {
+        self.value.take()
+    }
+
+    // Puts a value back with the entry, in place. Returns what was there.
+    pub(crate) fn put(&mut self, value: V, note: Note<E>) -> Option<V>
+        ensures value { result ≡ self.old.value }
+        ensures left { self.new ≡ record self.old { value = Some value; note = Some note } }
+    {
+        self.note = Some(note);
+        self.value.replace(value)
+    }
 }
 
 /// What a table starts from. No value of it is made: contracts alone see it.

@@ -7,6 +7,7 @@ ghost use Rattle.hall.specs.Calls.{view, IsOf, IsSame, Loaded, start_of};
 
 use crate::hall::Hall;
 use crate::law::Law;
+use crate::layout::line_at;
 use crate::note::Note;
 use crate::pass::Pass;
 use crate::plays::{Check, Publish, Read};
@@ -25,7 +26,7 @@ impl<L: Law> Hall<L> {
         ensures ticket { (pass.new.cell ≡ pass.old.cell) × (pass.new.ticket ≡ pass.old.ticket) }
         ensures view { Loaded L.session L.writer L.number L.kept (start_of self.now) (self.now.cells + word) (view pass.old) result (view pass.new) }
     {
-        let at = 2 * self.cells + 1 + word as usize;
+        let at = line_at(self.cells + word as usize);
         self.table.shared.load::<Read<L>>(&mut pass.seat, at)
     }
 
@@ -46,16 +47,17 @@ impl<L: Law> Hall<L> {
         ensures ticket { (pass.new.cell ≡ pass.old.cell) × (pass.new.ticket ≡ pass.old.ticket) }
         ensures view { view pass.new ≡ published (self.now.cells + word) entry.value (view pass.old) }
     {
-        let at = 2 * self.cells + 1 + word as usize;
+        let at = line_at(self.cells + word as usize);
         let shared = &self.table.shared;
-        let said = Held {
-            value: None,
-            note: Some(entry),
-        };
+        let said = Held::new(None, Some(entry));
         // No other pass changes the word, so the exchange finds what the load found.
         let before = shared.load::<Check<L>>(&mut pass.seat, at);
         shared.compare_exchange_with::<Publish>(&mut pass.seat, at, before, number, &said);
-        let Held { value, note: _ } = said;
+        let Held {
+            value,
+            note: _,
+            gap: _,
+        } = said;
         let None = value else { unreachable!() };
     }
 }

@@ -2,13 +2,13 @@
 //! lock table with a published word.
 #![tactic(auto)]
 
-ghost use Rattle.std.specs.Prelude.{◌≡◌, ℕ, ◌+◌, ◌<◌, ◌≤◌, IfSome, vec_len};
+ghost use Rattle.std.specs.Prelude.{◌≡◌, ℕ, ◌+◌, ◌<◌, ◌≤◌, IfSome, slice_index, vec_len};
 ghost use Rattle.hall.specs.declared.view.Stage.TheVariants.{Free, Inside};
 ghost use Rattle.hall.specs.Lists.{at};
 ghost use Rattle.hall.specs.Rule.{first_view};
 ghost use Rattle.hall.specs.Calls.{view, IsOf, IsSame, passes_of};
-ghost use Rattle.hall_counts.specs.Tally.{total};
-ghost use Rattle.hall_counts.specs.Steps.{Went, Still, opening};
+ghost use Rattle.hall_counts.specs.Tally.{total, last};
+ghost use Rattle.hall_counts.specs.Steps.{Went, Still, Added, CaughtUp, opening};
 
 use hall::{Hall, Law, Note, Pass, Writer};
 use std::alloc::Global;
@@ -50,8 +50,8 @@ impl Law for Tally {
     ghost keeps = { λ _. keeps };
 }
 
-/// Counts one in counter 0, and says before what it was. Returns what it is then, or `u64::MAX` where
-/// it is at its greatest and nothing was counted.
+/// Counts one in counter 0, and says before what it was. Returns what it is then, which is `u64::MAX`
+/// where it was at its greatest and nothing was counted.
 pub fn add<R: Wait>(rt: &R, hall: &Hall<Tally>, pass: &mut Pass<Tally>) -> u64
     requires own { IsOf hall.now pass.old }
     requires free { (view pass.old).stage ≡ Free }
@@ -59,6 +59,7 @@ pub fn add<R: Wait>(rt: &R, hall: &Hall<Tally>, pass: &mut Pass<Tally>) -> u64
     requires draws { 0 < (view pass.old).draws }
     ensures own { IsOf hall.now pass.new × IsSame pass.old pass.new }
     ensures went { Went (view pass.old) (view pass.new) }
+    ensures added { Added (view pass.old) (view pass.new) result }
 {
     hall.draw(pass, 0);
     let value = hall.enter(rt, pass);
@@ -74,6 +75,7 @@ fn count(hall: &Hall<Tally>, pass: &mut Pass<Tally>, value: u64) -> u64
     requires sizes { (hall.now.cells ≡ 2) × (hall.now.posts ≡ 2) }
     ensures own { IsOf hall.now pass.new × IsSame pass.old pass.new }
     ensures free { (view pass.new).stage ≡ Free }
+    ensures added { Added (view pass.old) (view pass.new) result }
     ensures same { ((view pass.new).name ≡ (view pass.old).name) × ((view pass.new).holds ≡ (view pass.old).holds) × ((view pass.new).draws ≡ (view pass.old).draws) }
 {
     let said = Note::by(&(&*pass, value));
@@ -93,6 +95,7 @@ pub fn catch_up<R: Wait>(rt: &R, hall: &Hall<Tally>, pass: &mut Pass<Tally>) -> 
     requires draws { 0 < (view pass.old).draws }
     ensures own { IsOf hall.now pass.new × IsSame pass.old pass.new }
     ensures went { Went (view pass.old) (view pass.new) }
+    ensures caught_up { CaughtUp (view pass.old) (view pass.new) result }
 {
     hall.draw(pass, 1);
     let value = hall.enter(rt, pass);
@@ -110,6 +113,7 @@ pub fn tell(hall: &Hall<Tally>, pass: &mut Pass<Tally>, number: u64)
     requires sizes { (hall.now.cells ≡ 2) × (hall.now.posts ≡ 2) }
     ensures own { IsOf hall.now pass.new × IsSame pass.old pass.new }
     ensures still { Still (view pass.old) (view pass.new) }
+    ensures said { last (at (view pass.new).seen 3) ≡ number }
 {
     let entry = Note::by(&(&*pass, number));
     hall.post(pass, 1, number, entry);
@@ -142,9 +146,10 @@ fn counters(alloc: Global) -> Option<(Hall<Tally>, Pass<Tally>)>
     Hall::<Tally>::new(alloc, values, posts, 3, from).ok()
 }
 
-/// Two threads count one each in counter 0, and let counter 1 catch up. Returns the counters.
+/// Two threads count one each in counter 0, and let counter 1 catch up. Returns the counters, of which
+/// the second is not greater.
 pub fn both<R: Threads + Wait + Sync>(rt: &R, alloc: Global) -> Option<Vec<u64>>
-    ensures { IfSome result (λ v. vec_len v ≡ 2) }
+    ensures { IfSome result (λ v. (vec_len v ≡ 2) × (slice_index v.items 1 ≤ slice_index v.items 0)) }
 {
     let (hall, mut first) = counters(alloc)?;
     let Some(a) = hall.split(&mut first, 0) else {

@@ -1,5 +1,5 @@
 -- One id more.
-use Rattle.std.proofs.Common.{◌≡◌, ◌≢◌, ◌⊎◌, inl, inr, ⊎_elim, ℕ, ◌+◌, ◌/◌, ◌%◌, ◌<◌, ◌≤◌, Bool, true, false, Result, Ok, Err, OnErr, List, [], ◌∷◌, zero, suc, length, get_or, slice_index, refl, sym, ◌∙◌, ap, subst, arith}
+use Rattle.std.proofs.Common.{◌≡◌, ◌≢◌, ◌⊎◌, ⊎_elim, ℕ, ◌+◌, ◌/◌, ◌%◌, ◌<◌, Bool, true, false, Result, Ok, Err, OnErr, List, [], ◌∷◌, zero, suc, length, get_or, slice_index, refl, ◌∙◌, ap, subst, arith}
 use Rattle.slru_bank.specs.Crash.{SameMap}
 use Rattle.slru_bank.specs.declared.refusal.BankRefusal.{BankRefusal}
 use Rattle.slru_bank.specs.declared.refusal.BankRefusal.TheVariants.{Cut}

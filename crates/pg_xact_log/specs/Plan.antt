@@ -1,5 +1,5 @@
 -- The tree rule of a commit: which pages change, and in which order.
-use Rattle.std.specs.Prelude.{◌≡◌, ℕ, ◌+◌, ◌/◌, ◌%◌, ◌^◌, ◌<◌, ◌==◌, Bool, true, false, if◌then◌else◌, List, [], ◌∷◌, ◌++◌, length, map}
+use Rattle.std.specs.Prelude.{ℕ, ◌+◌, ◌/◌, ◌%◌, ◌^◌, ◌==◌, true, false, if◌then◌else◌, List, [], ◌∷◌, ◌++◌, map}
 use Rattle.pg_xact_log.specs.declared.xact_state.State.{State}
 use Rattle.pg_xact_log.specs.declared.xact_state.State.TheVariants.{Committed, SubCommitted}
 use Rattle.pg_xact_log.specs.declared.plan.PlanStep.{PlanStep}

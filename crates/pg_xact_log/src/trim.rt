@@ -37,7 +37,8 @@ pub fn trim_after<P: PageDisk>(
     ensures last { bank.new.last ≡ bank.old.last }
     ensures cutoff { bank.new.cutoff ≡ bank.old.cutoff }
     // Only where the id isn't the first of its byte, since that byte is read then.
-    ensures only_cut { (c : ℕ) → result ≡ Err (Cut c) → (c ≡ bank.old.cutoff) × IsTrue (is_cut Ids 32768 bank.old.cutoff (low_half next / 32768)) }
+    ensures cut { low_half next % 4 ≢ 0 → IsTrue (is_cut Ids 32768 bank.old.cutoff (low_half next / 32768)) → result ≡ Err (Cut bank.old.cutoff) }
+    ensures only_cut { (c : ℕ) → result ≡ Err (Cut c) → (c ≡ bank.old.cutoff) × (low_half next % 4 ≢ 0) × IsTrue (is_cut Ids 32768 bank.old.cutoff (low_half next / 32768)) }
     ensures fault { result ≡ Err DiskFault → HasRisen (P.faults bank.old.disk) (P.faults bank.new.disk) }
     ensures count { P.faults bank.old.disk ≤ P.faults bank.new.disk }
     ensures crash { IsTrue P.tells → CrashLeaves (IsMixtureOrGone (page_precedes Ids 32768 (low_half next / 32768)) (map_of (P.pages bank.old.disk) bank.old.buffers.items) (map_of (P.pages bank.new.disk) bank.new.buffers.items)) P.images P.moment P.left_at bank.old.disk bank.new.disk }
@@ -63,6 +64,7 @@ fn trim_within<P: PageDisk>(
     ensures err { IsTrue P.tells → OnErr result (MayTrimStates page place (map_of (P.pages bank.old.disk) bank.old.buffers.items) (map_of (P.pages bank.new.disk) bank.new.buffers.items)) }
     ensures last { bank.new.last ≡ bank.old.last }
     ensures cutoff { bank.new.cutoff ≡ bank.old.cutoff }
+    ensures cut { IsTrue (is_cut Ids 32768 bank.old.cutoff page) → result ≡ Err (Cut bank.old.cutoff) }
     ensures only_cut { (c : ℕ) → result ≡ Err (Cut c) → (c ≡ bank.old.cutoff) × IsTrue (is_cut Ids 32768 bank.old.cutoff page) }
     ensures fault { result ≡ Err DiskFault → HasRisen (P.faults bank.old.disk) (P.faults bank.new.disk) }
     ensures count { P.faults bank.old.disk ≤ P.faults bank.new.disk }

@@ -14,3 +14,7 @@ pub mod News
 pub mod Append
 pub mod Rests
 pub mod Starts
+pub mod LawfulTests
+pub mod Begins
+pub mod GateWrites
+pub mod Keeping

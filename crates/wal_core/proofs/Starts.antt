@@ -135,7 +135,7 @@ and_no true false e = refl
 and_no false false e = refl
 and_no a true e = absurd cc
 
-opens_to : (start : ℕ) (bodies : List (List ℕ)) (h : History) (gate : ℕ) → judged bodies start None ≡ judged_to h → gate ≡ start + length (batches_bytes bodies) → opened_at start bodies ≡ opened_to h gate
+pub opens_to : (start : ℕ) (bodies : List (List ℕ)) (h : History) (gate : ℕ) → judged bodies start None ≡ judged_to h → gate ≡ start + length (batches_bytes bodies) → opened_at start bodies ≡ opened_to h gate
 opens_to start bodies h gate is place =
     ap (λ (b : Bool). cond b (Ok (record { history = None; gate = 0 })) (opened_as start (walked_to bodies) (judged bodies start None))) (and_no (eqb start 0) (is_empty bodies) (has_some bodies start h is))
     ∙ ap (opened_as start (walked_to bodies)) is ∙ ap (opened_to h) (sym place)

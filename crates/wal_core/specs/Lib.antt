@@ -6,6 +6,8 @@ pub mod BaseTest
 pub mod Opening
 pub mod Crash
 pub mod Log
+pub mod Checkpoint
+pub mod Kept
 pub mod LogViews
 pub mod Past
 pub mod Contents

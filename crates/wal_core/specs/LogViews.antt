@@ -2,7 +2,10 @@
 use Rattle.std.specs.Prelude.{ℕ, ◌+◌, List, length, drop, Option}
 use Rattle.tx_model.specs.declared.record.Rec.{Rec}
 use Rattle.tx_model.specs.declared.record.Counters.{Counters}
+use Rattle.disk_core.specs.Volume.{Volume}
 use Rattle.disk_core.specs.declared.log_disk.LogDisk.{Ghosts}
+use Rattle.wal_core.specs.declared.checkpoint.LastCheckpoint.{LastCheckpoint}
+use Rattle.wal_core.specs.Kept.{Keeps}
 use Rattle.wal_core.specs.declared.wal_log.WalLog.{WalLog}
 
 module _ {D : Type 0} {g : Ghosts D} where
@@ -36,3 +39,16 @@ module _ {D : Type 0} {g : Ghosts D} where
   -- the flushed number at the failure that put the log down
   abbrev pub log_down : WalLog D g → Option ℕ
   log_down log = log.down
+
+  -- the place from which on the log is kept
+  abbrev pub log_start : WalLog D g → ℕ
+  log_start log = log.start
+
+  -- the last batch, where it was flushed since the start and is a checkpoint alone with the counters of the log
+  abbrev pub log_checkpoint : WalLog D g → Option LastCheckpoint
+  log_checkpoint log = log.checkpoint
+
+  -- The list is that of all records of the log, numbered from `first` on, and each crash leaves records of it from the
+  -- first retained one on, up to one that is at least the flushed number.
+  abbrev pub KeepsAll : ℕ → List Rec → (D → Volume → Type 0) → WalLog D g → Type 0
+  KeepsAll first all images log = Keeps first all (log_recs log) (log_next log) (log_flushed log) (images log.disk)

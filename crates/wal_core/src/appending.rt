@@ -7,7 +7,7 @@ ghost use Rattle.wal_core.specs.Opening.{first_number};
 ghost use Rattle.wal_core.specs.Spelling.{rec_bytes, HasCounts};
 ghost use Rattle.wal_core.specs.Log.{counters_or_none, with_more, IsFull};
 
-use crate::counters::counters_after;
+use crate::lawful::counters_then;
 use crate::writing::write_rec;
 use byteorder::{ByteOrder, LittleEndian};
 use tx_model::{Copied, Counters, Memory, Rec, RecList};
@@ -108,14 +108,5 @@ pub(crate) fn counters_with(counters: Option<Counters>, rec: &Rec) -> Option<Cou
     requires base { IsBase (after_record (counters_or_none counters) rec.now) }
     ensures { result ≡ Some (after_record (counters_or_none counters) rec.now) }
 {
-    match counters {
-        Some(counters) => counters_after(&counters, rec),
-        None => match rec {
-            Rec::Checkpoint {
-                number: _,
-                counters,
-            } => Some(*counters),
-            _ => None,
-        },
-    }
+    counters_then(counters, rec)
 }

@@ -1,7 +1,7 @@
 // What a log volume has.
 ghost use Rattle.std.specs.Prelude.{◌≡◌, ◌≢◌, ◌-◌, ◌+◌, ◌<◌, ◌≤◌, ◌^◌, ℕ, length, drop, IsTrue, All, replicate, OnOk, IfOk, Ok, Err, None, ◌⊎◌, true, false};
 ghost use Rattle.disk_core.specs.Faults.{HasRisen};
-ghost use Rattle.disk_core.specs.Images.{Only, NoMore};
+ghost use Rattle.disk_core.specs.Images.{Only, NoMore, LeavesOnly};
 ghost use Rattle.disk_core.specs.Volume.{Volume};
 ghost use Rattle.wal_core.specs.declared.refusal.LogRefusal.TheVariants.{Damaged, LogFault, LogDown, Full};
 ghost use Rattle.wal_core.specs.Opening.{opened, BeginsOpen};
@@ -14,29 +14,32 @@ use disk_core::{Extent, Failed, LogDisk};
 use std::alloc::{AllocError, Global};
 use tx_model::{Counters, RecList};
 
-/// The records of a log volume, the number of the first, the counters after them, the place of the next gate, and how
-/// far the volume reaches. A new log has no records and no counters.
+/// The records of a log volume, the number of the first, the counters after them, the place of the next gate, and from
+/// where on the volume has bytes and how far they reach. A new log has no records and no counters.
 #[derive(Drop)]
 pub struct LogContents {
     pub recs: RecList,
     pub first: u64,
     pub counters: Option<Counters>,
     pub gate: u64,
+    pub start: u64,
     pub length: u64,
 }
 
-fn no_records(alloc: Global, reach: u64) -> LogContents
+fn no_records(alloc: Global, extent: Extent) -> LogContents
     ensures history { history_of result ≡ None }
     ensures gate { result.gate ≡ 0 }
     ensures none { (result.counters ≡ None) × (result.first + length result.recs ≡ 0) }
-    ensures reach { result.length ≡ reach }
+    ensures reach { result.length ≡ extent.length }
+    ensures start { result.start ≡ extent.start }
 {
     LogContents {
         recs: RecList::new(alloc),
         first: 0,
         counters: None,
         gate: 0,
-        length: reach,
+        start: extent.start,
+        length: extent.length,
     }
 }
 
@@ -56,6 +59,7 @@ fn read_all<D: LogDisk>(alloc: Global, disk: &mut D, extent: Extent) -> Result<V
     ensures within { IfOk result (λ v. length v.items ≤ extent.length - extent.start) }
     ensures same { IsTrue D.tells → D.reads disk.new ≡ D.reads disk.old }
     ensures crash { IsTrue D.tells → NoMore (D.images disk.old) (D.images disk.new) }
+    ensures any_moment { IsTrue D.tells → LeavesOnly D.moment D.left_at disk.old disk.new (D.images disk.old) }
     ensures count { D.faults disk.old ≤ D.faults disk.new }
     ensures fault { result ≡ Err LogFault → HasRisen (D.faults disk.old) (D.faults disk.new) }
     ensures others { (result ≢ Err Full) × (((at : ℕ) → result ≢ Err (LogDown at)) × ((at : ℕ) → result ≢ Err (Damaged at))) }
@@ -93,12 +97,13 @@ fn contents(alloc: Global, extent: Extent, bytes: &[u8]) -> Result<LogContents, 
     ensures numbers { IfOk result (λ found. found.first + length found.recs ≤ found.gate) }
     ensures place { IfOk result (λ found. found.gate < 2 ^ 64) }
     ensures reach { IfOk result (λ found. found.length ≡ extent.length) }
+    ensures start { IfOk result (λ found. found.start ≡ extent.start) }
     ensures found { (v : Volume) → v.start ≡ extent.start → drop v.start v.bytes ≡ bytes.now → IfOk result (λ found. opened v ≡ Ok (record { history = history_of found; gate = found.gate })) }
     ensures damaged { (v : Volume) (at : ℕ) → v.start ≡ extent.start → drop v.start v.bytes ≡ bytes.now → result ≡ Err (Damaged at) → opened v ≡ Err at }
     ensures others { (result ≢ Err LogFault) × ((result ≢ Err Full) × ((at : ℕ) → result ≢ Err (LogDown at))) }
 {
     if is_unwritten(extent.start, bytes) {
-        return Ok(no_records(alloc, extent.length));
+        return Ok(no_records(alloc, extent));
     }
     match scan(alloc, extent.start, bytes) {
         Ok(Found { past, gate }) => Ok(LogContents {
@@ -106,6 +111,7 @@ fn contents(alloc: Global, extent: Extent, bytes: &[u8]) -> Result<LogContents, 
             first: past.first,
             counters: Some(past.counters),
             gate,
+            start: extent.start,
             length: extent.length,
         }),
         Err(refusal) => Err(refusal),
@@ -124,15 +130,17 @@ fn read_extent<D: LogDisk>(
     ensures numbers { IfOk result (λ found. found.first + length found.recs ≤ found.gate) }
     ensures place { IfOk result (λ found. found.gate < 2 ^ 64) }
     ensures reach { IsTrue D.tells → IfOk result (λ found. found.length ≡ length (D.reads disk.old).bytes) }
+    ensures begins { IsTrue D.tells → IfOk result (λ found. found.start ≡ (D.reads disk.old).start) }
     ensures damaged { IsTrue D.tells → (at : ℕ) → result ≡ Err (Damaged at) → opened (D.reads disk.old) ≡ Err at }
     ensures fault { result ≡ Err LogFault → HasRisen (D.faults disk.old) (D.faults disk.new) }
     ensures others { (result ≢ Err Full) × ((at : ℕ) → result ≢ Err (LogDown at)) }
     ensures same { IsTrue D.tells → D.reads disk.new ≡ D.reads disk.old }
     ensures crash { IsTrue D.tells → NoMore (D.images disk.old) (D.images disk.new) }
+    ensures any_moment { IsTrue D.tells → LeavesOnly D.moment D.left_at disk.old disk.new (D.images disk.old) }
     ensures count { D.faults disk.old ≤ D.faults disk.new }
 {
     if extent.start == 0 && extent.length <= 1 {
-        return Ok(no_records(alloc, extent.length));
+        return Ok(no_records(alloc, extent));
     }
     match read_all(alloc, disk, extent) {
         Ok(bytes) => contents(alloc, extent, &bytes),
@@ -148,11 +156,13 @@ pub fn read_log<D: LogDisk>(alloc: Global, disk: &mut D) -> Result<LogContents, 
     ensures numbers { IfOk result (λ found. found.first + length found.recs ≤ found.gate) }
     ensures place { IfOk result (λ found. found.gate < 2 ^ 64) }
     ensures reach { IsTrue D.tells → IfOk result (λ found. found.length ≡ length (D.reads disk.old).bytes) }
+    ensures begins { IsTrue D.tells → IfOk result (λ found. found.start ≡ (D.reads disk.old).start) }
     ensures damaged { IsTrue D.tells → (at : ℕ) → result ≡ Err (Damaged at) → opened (D.reads disk.old) ≡ Err at }
     ensures fault { result ≡ Err LogFault → HasRisen (D.faults disk.old) (D.faults disk.new) }
     ensures others { (result ≢ Err Full) × ((at : ℕ) → result ≢ Err (LogDown at)) }
     ensures same { IsTrue D.tells → D.reads disk.new ≡ D.reads disk.old }
     ensures crash { IsTrue D.tells → NoMore (D.images disk.old) (D.images disk.new) }
+    ensures any_moment { IsTrue D.tells → LeavesOnly D.moment D.left_at disk.old disk.new (D.images disk.old) }
     ensures synced { IsTrue D.tells → OnOk result (Only (D.reads disk.old) (D.images disk.new)) }
     ensures count { D.faults disk.old ≤ D.faults disk.new }
 {

@@ -3,8 +3,10 @@
 
 mod appending;
 mod batch;
+mod checkpoint;
 mod contents;
 mod counters;
+mod lawful;
 mod past;
 mod reading;
 mod refusal;
@@ -14,6 +16,7 @@ mod stop;
 mod wal_log;
 mod writing;
 
+pub use checkpoint::LastCheckpoint;
 pub use contents::{LogContents, read_log};
 pub use counters::counters_after;
 pub use reading::{ReadRec, read_rec};
@@ -22,5 +25,7 @@ pub use started::Started;
 pub use wal_log::WalLog;
 pub use writing::write_rec;
 
+#[cfg(test)]
+mod crash_tests;
 #[cfg(test)]
 mod tests;

@@ -1,10 +1,10 @@
 // Opening the log of a volume.
-ghost use Rattle.std.specs.Prelude.{◌≡◌, ◌≢◌, ◌⊎◌, ◌+◌, ◌≤◌, ◌<◌, [], ℕ, length, IsTrue, IfOk, IfErr, OnOk, Ok, Err, None};
+ghost use Rattle.std.specs.Prelude.{◌≡◌, ◌≢◌, ◌⊎◌, ◌+◌, ◌≤◌, ◌<◌, [], ℕ, length, IsTrue, IsSome, IfOk, IfErr, OnOk, Ok, Err, None};
 ghost use Rattle.disk_core.specs.Faults.{HasRisen, CountsFault};
-ghost use Rattle.disk_core.specs.Images.{Only};
+ghost use Rattle.disk_core.specs.Images.{Only, LeavesOnly};
 ghost use Rattle.disk_core.specs.Volume.{Volume};
 ghost use Rattle.wal_core.specs.declared.refusal.LogRefusal.TheVariants.{LogDown, LogFault, Full, Damaged};
-ghost use Rattle.wal_core.specs.Contents.{history_with};
+ghost use Rattle.wal_core.specs.Contents.{history_with, history_of};
 ghost use Rattle.wal_core.specs.Opening.{opened, behind_gate};
 ghost use Rattle.wal_core.specs.Log.{GoesOn, IsReady};
 ghost use Rattle.wal_core.specs.LogViews.{log_disk, log_recs, log_next, log_flushed, log_end, log_counters, log_down};
@@ -28,10 +28,15 @@ pub struct Started<D: LogDisk> {
 fn close_gate<D: LogDisk>(disk: &mut D, found: &LogContents) -> Result<(), Failed>
     requires goes_on { IsTrue D.tells → GoesOn found.now.gate found.now.counters (found.now.first + length found.now.recs) (D.reads disk.old) }
     requires synced { IsTrue D.tells → Only (D.reads disk.old) (D.images disk.old) }
+    requires read { IsTrue D.tells → opened (D.reads disk.old) ≡ Ok (record { history = history_of found.now; gate = found.now.gate }) }
     requires reach { IsTrue D.tells → found.now.length ≡ length (D.reads disk.old).bytes }
     ensures opens { IsTrue D.tells → OnOk result (opened (D.reads disk.new) ≡ opened (D.reads disk.old)) }
     ensures ready { IsTrue D.tells → OnOk result (IsReady found.now.gate [] found.now.counters (found.now.first + length found.now.recs) (D.reads disk.new)) }
     ensures synced { IsTrue D.tells → OnOk result (Only (D.reads disk.new) (D.images disk.new)) }
+    ensures start { IsTrue D.tells → (D.reads disk.new).start ≡ (D.reads disk.old).start }
+    // Where a closed gate stood at the end of an old log, nothing is written.
+    ensures any_moment { IsTrue D.tells → (IsSome found.now.counters → found.now.gate < length (D.reads disk.old).bytes)
+        → LeavesOnly D.moment D.left_at disk.old disk.new (λ c. opened c ≡ opened (D.reads disk.old)) }
     ensures cause { CountsFault result (D.faults disk.old) (D.faults disk.new) }
 {
     let least = if found.counters.is_none() { 1 } else { 0 };
@@ -45,11 +50,12 @@ fn close_gate<D: LogDisk>(disk: &mut D, found: &LogContents) -> Result<(), Faile
 impl<D: LogDisk> WalLog<D> {
     ghost use Rattle.std.specs.Prelude.{◌≡◌, ◌≢◌, ◌+◌, [], ℕ, length, IsTrue, IfOk, IfErr, Ok, Err, None};
     ghost use Rattle.disk_core.specs.Faults.{HasRisen};
-    ghost use Rattle.disk_core.specs.Images.{Only};
+    ghost use Rattle.disk_core.specs.Images.{Only, LeavesOnly};
     ghost use Rattle.wal_core.specs.declared.refusal.LogRefusal.TheVariants.{LogDown, LogFault, Full, Damaged};
     ghost use Rattle.wal_core.specs.Contents.{history_with};
     ghost use Rattle.wal_core.specs.Opening.{opened};
-    ghost use Rattle.wal_core.specs.LogViews.{log_disk, log_recs, log_next, log_flushed, log_end, log_counters, log_down};
+    ghost use Rattle.wal_core.specs.Log.{EndsWithin, OpensAsBefore};
+    ghost use Rattle.wal_core.specs.LogViews.{log_disk, log_recs, log_next, log_flushed, log_end, log_counters, log_down, log_start, log_checkpoint, KeepsAll};
 
     /// Opens the log of a volume: syncs, and reads its records. Nothing is pending. Where a volume has no closed gate
     /// yet behind its batches, a byte 0 is written there and synced. An error hands the disk back: `LogFault`, `Damaged`
@@ -60,7 +66,15 @@ impl<D: LogDisk> WalLog<D> {
         ensures opens { IsTrue D.tells → IfOk result (λ s. opened (D.reads (log_disk s.log)) ≡ opened (D.reads disk)) }
         ensures synced { IsTrue D.tells → IfOk result (λ s. Only (D.reads (log_disk s.log)) (D.images (log_disk s.log))) }
         ensures next { IfOk result (λ s. log_next s.log ≡ s.first + length s.recs) }
-        ensures clean { IfOk result (λ s. (log_recs s.log ≡ []) × (log_flushed s.log ≡ log_next s.log) × (log_down s.log ≡ None)) }
+        ensures clean { IfOk result (λ s. (log_recs s.log ≡ []) × (log_flushed s.log ≡ log_next s.log) × (log_down s.log ≡ None) × (log_checkpoint s.log ≡ None)) }
+        ensures start { IsTrue D.tells → IfOk result (λ s. log_start s.log ≡ (D.reads disk).start) }
+        // The promise over the whole list of records begins with those that the volume has.
+        ensures keeps { IsTrue D.tells → IfOk result (λ s. KeepsAll s.first s.recs D.images s.log) }
+
+        // A crash at any moment leaves what opens as an image of before, unless the volume ends at the closed gate of an
+        // old log.
+        ensures any_moment { IsTrue D.tells → EndsWithin (D.reads disk) → IfOk result (λ s. LeavesOnly D.moment D.left_at disk (log_disk s.log) (OpensAsBefore (D.images disk))) }
+        ensures any_moment_err { IsTrue D.tells → EndsWithin (D.reads disk) → IfErr result (λ e. LeavesOnly D.moment D.left_at disk e.0 (OpensAsBefore (D.images disk))) }
 
         ensures damaged { IsTrue D.tells → IfErr result (λ e. (at : ℕ) → e.1 ≡ Damaged at → opened (D.reads disk) ≡ Err at) }
         ensures fault { IfErr result (λ e. e.1 ≡ LogFault → HasRisen (D.faults disk) (D.faults e.0)) }
@@ -82,17 +96,20 @@ impl<D: LogDisk> WalLog<D> {
             first,
             counters,
             gate,
+            start,
             length: _,
         } = found;
         let from = first + recs.items().len() as u64;
         let log = WalLog {
             disk,
+            start,
             gate,
             behind,
             from,
             recs: RecList::new(alloc),
             flushed: 0,
             counters,
+            checkpoint: None,
             down: None,
         };
         Ok(Started { log, recs, first })

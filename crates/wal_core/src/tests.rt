@@ -16,7 +16,7 @@ const LOG: [u8; 81] = [
     13, 0, 0, 0, 1, 3, 0, 0, 0, 0, 0, 0, 0, 0, 0, 0, 0, 0,
 ];
 
-fn first_counters() -> Result<Counters, Fail> {
+pub fn first_counters() -> Result<Counters, Fail> {
     let id = FullXid::new(3).ok_or("3 is an id")?;
     let multi = FullMulti::new(1).ok_or("1 is a multixact")?;
     Ok(Counters {

@@ -1,11 +1,16 @@
-ghost use Rattle.std.specs.Prelude.{◌≡◌, ◌+◌, ◌<◌, ◌≤◌, ◌^◌, [], length, drop, IsTrue, None};
+ghost use Rattle.std.specs.Prelude.{◌≡◌, ◌+◌, ◌<◌, ◌≤◌, ◌^◌, [], length, drop, IsTrue, None, Some};
 ghost use Rattle.std.proofs.Props.{props};
 ghost use Rattle.disk_core.specs.Volume.{Volume};
+ghost use Rattle.wal_core.specs.declared.refusal.LogRefusal.TheVariants.{LogFault};
 ghost use Rattle.wal_core.specs.Opening.{behind_gate};
 ghost use Rattle.wal_core.specs.Log.{IsReady, IsNextBatch, are_lawful};
+ghost use Rattle.wal_core.specs.Checkpoint.{IsListed, MayBegin};
+ghost use Rattle.wal_core.specs.declared.checkpoint.LastCheckpoint.{LastCheckpoint};
 
 use crate::appending::{add_rec, counters_with, is_full, rec_length};
 use crate::batch::write_batch;
+use crate::checkpoint::{LastCheckpoint, checkpoint_of};
+use crate::lawful::may_come_next;
 use crate::refusal::LogRefusal;
 use disk_core::{Failed, LogDisk};
 use tx_model::{Counters, Rec, RecList};
@@ -14,6 +19,8 @@ use tx_model::{Counters, Rec, RecList};
 #[derive(Drop)]
 pub struct WalLog<D: LogDisk> {
     pub(crate) disk: D,
+    // The place of the first gate that the volume keeps.
+    pub(crate) start: u64,
     // The place of the next gate.
     pub(crate) gate: u64,
     // What is written behind it: a length, the pending records, and the gate after them.
@@ -25,6 +32,8 @@ pub struct WalLog<D: LogDisk> {
     pub(crate) flushed: u64,
     // After all records, also those that were read at the start.
     pub(crate) counters: Option<Counters>,
+    // The last batch, where it was flushed since the start and may stand first.
+    pub(crate) checkpoint: Option<LastCheckpoint>,
     // The flushed number at the failure of a call.
     pub(crate) down: Option<u64>,
     ghost counts: { flushed ≤ length recs },
@@ -33,6 +42,10 @@ pub struct WalLog<D: LogDisk> {
     ghost next_batch: { IsNextBatch behind.items (drop flushed recs) },
     ghost few: { flushed < length recs → gate + length behind.items ≤ 2 ^ 40 },
     ghost lawful: { IsTrue (are_lawful (drop flushed recs)) },
+    ghost numbered: { from + flushed ≤ gate },
+    ghost starts: { IsTrue D.tells → down ≡ None → (D.reads disk).start ≡ start },
+    ghost listed: { IsTrue D.tells → down ≡ None → (k : LastCheckpoint) → checkpoint ≡ Some k → IsListed k from recs } by { Prim.hlevel props },
+    ghost begins: { IsTrue D.tells → down ≡ None → (k : LastCheckpoint) → checkpoint ≡ Some k → (c : Volume) → D.images disk c → MayBegin k gate (drop flushed recs) counters (from + length recs) c } by { Prim.hlevel props },
     ghost ready: { IsTrue D.tells → down ≡ None → (c : Volume) → D.images disk c → IsReady gate (drop flushed recs) counters (from + length recs) c } by { Prim.hlevel props },
 }
 
@@ -46,8 +59,17 @@ fn clear(behind: &mut Vec<u8>)
     behind.copy_from_slice(&[0; 5]);
 }
 
+// A call failed, when so many records were flushed.
+fn put_down(down: &mut Option<u64>, flushed: u64) -> LogRefusal
+    ensures down { down.new ≡ Some flushed }
+    ensures fault { result ≡ LogFault }
+{
+    *down = Some(flushed);
+    LogRefusal::LogFault
+}
+
 impl<D: LogDisk> WalLog<D> {
-    ghost use Rattle.std.specs.Prelude.{◌≡◌, ◌≢◌, ◌+◌, ◌≤◌, ◌++◌, ◌∷◌, [], ℕ, length, IsTrue, IsSome, IfOk, OnOk, OnErr, Option, None, Some, Ok, Err};
+    ghost use Rattle.std.specs.Prelude.{◌≡◌, ◌≢◌, ◌↔◌, ◌+◌, ◌≤◌, ◌++◌, ◌∷◌, [], ℕ, List, length, IsTrue, IsSome, IfSome, IfOk, OnOk, OnErr, Option, None, Some, Ok, Err};
     ghost use Rattle.tx_model.specs.After.{after_record};
     ghost use Rattle.disk_core.specs.Faults.{HasRisen};
     ghost use Rattle.disk_core.specs.Images.{LeavesOnly, NoMore};
@@ -55,7 +77,19 @@ impl<D: LogDisk> WalLog<D> {
     ghost use Rattle.wal_core.specs.declared.refusal.LogRefusal.TheVariants.{LogDown, LogFault, Full, Memory, Damaged};
     ghost use Rattle.wal_core.specs.Log.{OpensFromImage, MayAppend, IsFull, counters_or_none, bytes_of};
     ghost use Rattle.wal_core.specs.Spelling.{rec_bytes};
-    ghost use Rattle.wal_core.specs.LogViews.{log_disk, log_recs, log_pending, log_next, log_flushed, log_end, log_counters, log_down};
+    ghost use Rattle.wal_core.specs.Checkpoint.{IsLastCheckpoint, OpensOrBegins};
+    ghost use Rattle.wal_core.specs.declared.checkpoint.LastCheckpoint.{LastCheckpoint};
+    ghost use Rattle.wal_core.specs.LogViews.{log_disk, log_recs, log_pending, log_next, log_flushed, log_end, log_counters, log_down, log_start, log_checkpoint, KeepsAll};
+    ghost use Rattle.wal_core.specs.Kept.{HasFlushed};
+    ghost use Rattle.tx_model.specs.declared.record.Rec.{Rec};
+
+    /// Whether the record may be appended: it is lawful, a checkpoint has the number `next()`, the first record of a new
+    /// log is a checkpoint, and the counters after it are a base.
+    pub fn may_append(&self, rec: &Rec) -> bool
+        ensures { IsTrue result ↔ MayAppend (log_counters self.now) (log_next self.now) rec.now }
+    {
+        may_come_next(self.counters, self.next(), rec)
+    }
 
     /// Adds a record at the end, and answers its number, counted through all lives. It is pending until the next flush,
     /// which takes no memory: the room for its bytes is made here. After an error nothing changed.
@@ -71,12 +105,18 @@ impl<D: LogDisk> WalLog<D> {
         ensures flushed { log_flushed self.new ≡ log_flushed self.old }
         ensures end { log_end self.new ≡ log_end self.old }
         ensures disk { log_disk self.new ≡ log_disk self.old }
+        ensures checkpoint { log_checkpoint self.new ≡ log_checkpoint self.old }
+        ensures start { log_start self.new ≡ log_start self.old }
         ensures stays { log_down self.new ≡ log_down self.old }
         ensures down { (at : ℕ) → result ≡ Err (LogDown at) → log_down self.old ≡ Some at }
         ensures is_down { (at : ℕ) → log_down self.old ≡ Some at → result ≡ Err (LogDown at) }
         ensures full { result ≡ Err Full → IsFull (log_end self.old) (length (bytes_of (log_pending self.old))) (length (rec_bytes rec.now)) }
         ensures is_full { log_down self.old ≡ None → IsFull (log_end self.old) (length (bytes_of (log_pending self.old))) (length (rec_bytes rec.now)) → result ≡ Err Full }
         ensures no_other { (result ≢ Err LogFault) × ((at : ℕ) → result ≢ Err (Damaged at)) }
+
+        // The promise over the whole list of records, which has one more.
+        ensures keeps { IsTrue D.tells → OnOk result ((first : ℕ) (all : List Rec) → KeepsAll first all D.images self.old → KeepsAll first (all ++ rec.now ∷ []) D.images self.new) }
+        ensures err_keeps { IsTrue D.tells → OnErr result ((first : ℕ) (all : List Rec) → KeepsAll first all D.images self.old → KeepsAll first all D.images self.new) }
     {
         if let Some(at) = self.down {
             return Err(LogRefusal::LogDown { at });
@@ -102,6 +142,13 @@ impl<D: LogDisk> WalLog<D> {
         ensures next { log_next self.new ≡ log_next self.old }
         ensures counters { log_counters self.new ≡ log_counters self.old }
         ensures ok { OnOk result (log_flushed self.new ≡ log_next self.old) }
+        ensures err { OnErr result (log_flushed self.new ≡ log_flushed self.old) }
+        ensures start { log_start self.new ≡ log_start self.old }
+
+        // A checkpoint alone, with the counters of the log, may stand first from then on.
+        ensures checkpoint { OnOk result (log_pending self.old ≢ [] → IsLastCheckpoint (log_end self.old) (log_pending self.old) (log_counters self.old) (log_checkpoint self.new)) }
+        ensures no_batch { OnOk result (log_pending self.old ≡ [] → log_checkpoint self.new ≡ log_checkpoint self.old) }
+
         ensures down { (at : ℕ) → result ≡ Err (LogDown at) → log_down self.old ≡ Some at }
         ensures is_down { (at : ℕ) → log_down self.old ≡ Some at → result ≡ Err (LogDown at) }
         ensures no_other { (result ≢ Err Full) × (result ≢ Err Memory) × ((at : ℕ) → result ≢ Err (Damaged at)) }
@@ -115,6 +162,11 @@ impl<D: LogDisk> WalLog<D> {
             (OpensFromImage (D.images (log_disk self.old)) (log_end self.old) (log_pending self.old)) }
         ensures left { IsTrue D.tells → log_down self.old ≡ None → (c : Volume) → D.images (log_disk self.new) c
             → OpensFromImage (D.images (log_disk self.old)) (log_end self.old) (log_pending self.old) c }
+
+        // The promise over the whole list of records: kept by the call, and at each moment of it.
+        ensures keeps { IsTrue D.tells → (first : ℕ) (all : List Rec) → KeepsAll first all D.images self.old → KeepsAll first all D.images self.new }
+        ensures keeps_at_each_moment { IsTrue D.tells → (first : ℕ) (all : List Rec) → KeepsAll first all D.images self.old
+            → LeavesOnly D.moment D.left_at (log_disk self.old) (log_disk self.new) (HasFlushed first all (log_flushed self.old)) }
     {
         if let Some(at) = self.down {
             return Err(LogRefusal::LogDown { at });
@@ -125,15 +177,72 @@ impl<D: LogDisk> WalLog<D> {
         }
         match write_batch(&mut self.disk, self.gate, &self.behind) {
             Ok(()) => {
+                let batch = &self.recs.items()[self.flushed as usize..];
+                self.checkpoint = checkpoint_of(self.gate, batch, self.counters);
                 self.gate += self.behind.len() as u64;
                 clear(&mut self.behind);
                 self.flushed = count;
                 Ok(())
             }
-            Err(Failed) => {
-                self.down = Some(self.from + self.flushed);
-                Err(LogRefusal::LogFault)
+            Err(Failed) => Err(put_down(&mut self.down, self.from + self.flushed)),
+        }
+    }
+
+    /// Whether what stands before the last batch may be forgotten.
+    pub fn may_forget(&self) -> bool
+        ensures { IsTrue result ↔ IsSome (log_checkpoint self.now) }
+    {
+        self.checkpoint.is_some()
+    }
+
+    /// Forgets what stands before the last batch, a checkpoint alone, by one device call; by none where nothing stands
+    /// before it. After `LogFault` the log is down: what stood there may or may not be forgotten. Takes no memory.
+    pub fn forget_before_checkpoint(&mut self) -> Result<(), LogRefusal>
+        requires { IsSome (log_checkpoint self.old) }
+        ensures recs { log_recs self.new ≡ log_recs self.old }
+        ensures next { log_next self.new ≡ log_next self.old }
+        ensures counters { log_counters self.new ≡ log_counters self.old }
+        ensures flushed { log_flushed self.new ≡ log_flushed self.old }
+        ensures end { log_end self.new ≡ log_end self.old }
+        ensures checkpoint { log_checkpoint self.new ≡ log_checkpoint self.old }
+        ensures ok { OnOk result (IfSome (log_checkpoint self.old) (λ k. log_start self.new ≡ k.gate)) }
+        ensures err { OnErr result (log_start self.new ≡ log_start self.old) }
+        ensures no_call { IfSome (log_checkpoint self.old) (λ k. log_start self.old ≡ k.gate → log_disk self.new ≡ log_disk self.old) }
+        ensures down { (at : ℕ) → result ≡ Err (LogDown at) → log_down self.old ≡ Some at }
+        ensures is_down { (at : ℕ) → log_down self.old ≡ Some at → result ≡ Err (LogDown at) }
+        ensures no_other { (result ≢ Err Full) × (result ≢ Err Memory) × ((at : ℕ) → result ≢ Err (Damaged at)) }
+        ensures fault { result ≡ Err LogFault → HasRisen (D.faults (log_disk self.old)) (D.faults (log_disk self.new)) }
+        ensures put_down { result ≡ Err LogFault → log_down self.new ≡ Some (log_flushed self.old) }
+        ensures stays { result ≢ Err LogFault → log_down self.new ≡ log_down self.old }
+
+        // The volume keeps its bytes, from the checkpoint's gate on.
+        ensures bytes { IsTrue D.tells → (D.reads (log_disk self.new)).bytes ≡ (D.reads (log_disk self.old)).bytes }
+        ensures kept { IsTrue D.tells → log_down self.old ≡ None → OnOk result (IfSome (log_checkpoint self.old) (λ k. (D.reads (log_disk self.new)).start ≡ k.gate)) }
+
+        // A crash at any moment, and one after it, leaves what opens as an image of before, or begins with the checkpoint.
+        ensures any_moment { IsTrue D.tells → log_down self.old ≡ None → (k : LastCheckpoint) → log_checkpoint self.old ≡ Some k
+            → LeavesOnly D.moment D.left_at (log_disk self.old) (log_disk self.new) (OpensOrBegins (D.images (log_disk self.old)) k (log_end self.old)) }
+        ensures left { IsTrue D.tells → log_down self.old ≡ None → (k : LastCheckpoint) → log_checkpoint self.old ≡ Some k
+            → (c : Volume) → D.images (log_disk self.new) c → OpensOrBegins (D.images (log_disk self.old)) k (log_end self.old) c }
+
+        // The promise over the whole list of records: kept by the call, and at each moment of it.
+        ensures keeps { IsTrue D.tells → (first : ℕ) (all : List Rec) → KeepsAll first all D.images self.old → KeepsAll first all D.images self.new }
+        ensures keeps_at_each_moment { IsTrue D.tells → (first : ℕ) (all : List Rec) → KeepsAll first all D.images self.old
+            → LeavesOnly D.moment D.left_at (log_disk self.old) (log_disk self.new) (HasFlushed first all (log_flushed self.old)) }
+    {
+        if let Some(at) = self.down {
+            return Err(LogRefusal::LogDown { at });
+        }
+        let gate = self.checkpoint.unwrap().gate;
+        if self.start == gate {
+            return Ok(());
+        }
+        match self.disk.forget(gate) {
+            Ok(()) => {
+                self.start = gate;
+                Ok(())
             }
+            Err(Failed) => Err(put_down(&mut self.down, self.from + self.flushed)),
         }
     }
 
@@ -149,7 +258,13 @@ impl<D: LogDisk> WalLog<D> {
         ensures flushed { log_flushed self.new ≡ log_flushed self.old }
         ensures end { log_end self.new ≡ log_end self.old }
         ensures counters { log_counters self.new ≡ log_counters self.old }
+        ensures start { log_start self.new ≡ log_start self.old }
+        ensures checkpoint { log_checkpoint self.new ≡ log_checkpoint self.old }
         ensures stays { log_down self.new ≡ log_down self.old }
+        ensures any_moment { IsTrue D.tells → LeavesOnly D.moment D.left_at (log_disk self.old) (log_disk self.new) (D.images (log_disk self.old)) }
+        ensures keeps { IsTrue D.tells → (first : ℕ) (all : List Rec) → KeepsAll first all D.images self.old → KeepsAll first all D.images self.new }
+        ensures keeps_at_each_moment { IsTrue D.tells → (first : ℕ) (all : List Rec) → KeepsAll first all D.images self.old
+            → LeavesOnly D.moment D.left_at (log_disk self.old) (log_disk self.new) (HasFlushed first all (log_flushed self.old)) }
         ensures fault { OnErr result ((result ≡ Err LogFault) × HasRisen (D.faults (log_disk self.old)) (D.faults (log_disk self.new))) }
     {
         match self.disk.read(at, into) {

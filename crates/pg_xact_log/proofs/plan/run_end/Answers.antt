@@ -1,6 +1,5 @@
-use Rattle.std.proofs.Common.{◌≡◌, ℕ, ◌/◌, slice_index, arith, sym, ap, ◌∙◌}
+use Rattle.std.proofs.Common.{ℕ, ◌/◌, arith, ap, ◌∙◌}
 use Rattle.std.proofs.lemmas.List.{get_or_default}
-use Rattle.pg_xact_log.specs.Plan.{full_page}
 use Rattle.pg_xact_log.proofs.RunLemmas.{run_from}
 use Rattle.pg_xact_log.proofs.plan.run_end.Goals as goal
 

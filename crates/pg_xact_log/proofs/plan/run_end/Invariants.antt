@@ -1,4 +1,4 @@
-use Rattle.std.proofs.Common.{◌≡◌, ◌≤◌, ◌<◌, ◌+◌, ◌-◌, ℕ, length, slice_index}
+use Rattle.std.proofs.Common.{◌≡◌, ◌≤◌, ◌<◌, ◌-◌, ℕ, length, slice_index}
 use Rattle.pg_xact_log.specs.Plan.{full_page}
 use Rattle.pg_xact_log.proofs.plan.run_end.Given as goal
 

@@ -1,4 +1,4 @@
-use Rattle.std.proofs.Common.{◌≡◌, List, ℕ, Bool, true, false, arith, ap, sym, subst, slice_index, length, rules, refl, ◌+◌, ◌/◌, ◌∙◌}
+use Rattle.std.proofs.Common.{◌≡◌, List, ℕ, true, false, arith, ap, subst, slice_index, length, rules, refl, ◌+◌, ◌/◌, ◌∙◌}
 use Rattle.std.specs.Prelude.{IsTrue, Err}
 use Rattle.slru_bank.specs.declared.refusal.BankRefusal.TheVariants.{Cut}
 use Rattle.xid_order.specs.Ids.{low_half}

@@ -1,4 +1,4 @@
-use Rattle.std.proofs.Common.{◌≡◌, ◌≤◌, ◌-◌, ℕ, false, length, slice_index}
+use Rattle.std.proofs.Common.{◌≡◌, ◌≤◌, ◌-◌, false, length, slice_index}
 use Rattle.std.specs.Prelude.{IsTrue}
 use Rattle.xid_order.specs.PageOrder.{Ids, is_cut}
 use Rattle.xid_order.specs.Layouts.{xact_page_of}

@@ -1,4 +1,4 @@
-use Rattle.std.proofs.Common.{◌≡◌, ℕ, List, ap, sym, ◌/◌, ◌%◌, ◌∙◌, arith}
+use Rattle.std.proofs.Common.{◌≡◌, ℕ, List, ap, sym, ◌/◌, ◌%◌, ◌∙◌}
 use Rattle.xid_order.specs.Ids.{low_half}
 use Rattle.slru_bank.specs.Bank.{map_of}
 use Rattle.pg_xact_log.proofs.TrimLemmas.{trims_aligned}
@@ -13,3 +13,9 @@ returns-then-place-eq0-clause-ok g c told =
     let page : c.xact_page-page.result ≡ low_half c.args.next / 32768 = c.xact_page-page.ensures ∙ ap (λ (n : ℕ). n / 32768) number in
     let aligned : low_half c.args.next % 32768 % 4 ≡ 0 = ap (λ (n : ℕ). n % 32768 % 4) (sym number) ∙ c.if-place-eq0.true in
     trims_aligned c.clear_after.result (low_half c.args.next / 32768) (low_half c.args.next % 32768) old new aligned (rw (page, number) at (c.clear_after.ensures.ok told))
+
+pub returns-clause-crash : goal.returns-clause-crash
+returns-clause-crash g c told =
+    let number : c.low-x.result.number ≡ low_half c.args.next = c.low-x.ensures in
+    let page : c.xact_page-page.result ≡ low_half c.args.next / 32768 = c.xact_page-page.ensures ∙ ap (λ (n : ℕ). n / 32768) number in
+    rw page at (c.trim_within.ensures.crash told)

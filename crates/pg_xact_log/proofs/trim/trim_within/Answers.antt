@@ -1,5 +1,4 @@
-use Rattle.std.proofs.Common.{◌≡◌, ℕ, List, Bool, slice_index, bit_and, ap, sym, subst, ◌+◌, ◌-◌, ◌/◌, ◌%◌, ◌∙◌, arith}
-use Rattle.disk_core.specs.Pages.{Pages}
+use Rattle.std.proofs.Common.{◌≡◌, ℕ, List, Bool, slice_index, bit_and, ap, sym, subst, ◌-◌, ◌/◌, ◌%◌, ◌∙◌}
 use Rattle.xid_order.specs.PageOrder.{Ids, page_precedes}
 use Rattle.slru_bank.specs.Bank.{map_of, masked, IsPage}
 use Rattle.slru_bank.specs.Crash.{runs_then, gone_mixtures_through, IsMixture, IsMixtureOrGone}

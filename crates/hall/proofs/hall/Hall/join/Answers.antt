@@ -19,7 +19,7 @@ join_seat-requires g c = (
 pub load-requires : goal.load-requires
 load-requires g c =
     let j = c.join_seat.ensures in let mine = c.args.pass.now.fits.wide in let theirs = c.args.other.fits.wide in let t = c.requires.other.table ∙ sym c.requires.own.table in let slots = ap (λ z. z.slots) t in let words = ap (λ z. z.words) t in
-    (j.0 ∙ c.requires.own.table, (let s = c.args.self.now.sized.1 in omega arith), settles_one _ _ _ _ _ _ _ _ _ _ _ _ (joined_wide c.args.pass.now.seat.me.0 c.args.other.seat.me.0 _ (omega arith) (ap (λ z. z.0) j.2) ∙ sees_places _ _ _ _ _ _ c.args.pass.now.fits _ _ _ (ap (λ z. z.slots) c.requires.own.table ∙ c.args.self.now.sized.0) (ap (λ z. z.words) c.requires.own.table ∙ c.args.self.now.sized.1) c.args.self.now.places))
+    (j.0 ∙ c.requires.own.table, (let s = c.args.self.now.sized.1 in omega arith), settles_one _ _ _ _ _ _ _ _ _ _ _ _ (joined_wide c.args.pass.now.seat.me.0 c.args.other.seat.me.0 _ (omega arith) (ap (λ z. z.0) j.2) ∙ sees_places _ _ _ _ _ _ c.args.pass.now.fits _ _ _ (ap (λ z. z.words) c.requires.own.table ∙ c.args.self.now.sized.1) c.args.self.now.places))
 
 pub invariant_of-pass : goal.invariant_of-pass
 invariant_of-pass g c =

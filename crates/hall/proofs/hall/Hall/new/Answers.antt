@@ -1,4 +1,5 @@
-use Rattle.std.proofs.Common.{rules, ap, ◌∙◌, refl, map, length, replicate, ◌+◌, ◌*◌, ◌++◌}
+use Rattle.std.proofs.Common.{rules, ◌≡◌, ap, ◌∙◌, sym, subst, refl, ℕ, List, map, length}
+use Rattle.hall.specs.Layout.{Starts}
 use Rattle.hall.proofs.Carrying.{all_full, some_same}
 use Rattle.hall.proofs.Starting.{opens_from, fits_first}
 use Rattle.hall.proofs.hall.Hall.new.Goals as goal
@@ -6,8 +7,9 @@ use Rattle.hall.proofs.hall.Hall.new.Goals as goal
 pub new-requires : goal.new-requires
 new-requires g c =
     let r = c.requires in let words = c.in-Ok.ensures in let n = c.len-cells.ensures in
-    opens_from _ _ _ _ _ c.args.from.value _ (length c.args.values.items) c.args.posts.items c.as_slice.result.now c.wrap.new.slots.items c.args.values.items r.passes.0 r.passes.1 r.passes.2 refl
-    (c.as_slice.ensures.value ∙ (words ∙ ap (λ z. replicate (2 * z + 1) 0 ++ c.args.posts.items) (n ∙ search rules))) c.wrap.ensures.items r.places r.locks r.kept r.stand r.shown
+    opens_from _ _ _ _ _ c.args.from.value _ (length c.args.values.items) c.args.posts.items c.as_slice-2.result.now c.wrap.new.slots.items c.args.values.items r.passes.0 r.passes.1 r.passes.2 refl
+    (let P : ℕ × List ℕ × List ℕ → Type 0 = λ z. Starts z.0 z.1 z.2 in let count : c.len-cells.result ≡ length c.args.values.items = search rules in subst P (λ i. (count i, c.as_slice.ensures.value i, sym c.as_slice-2.ensures.value i)) words.0)
+    c.wrap.ensures.items r.places r.locks r.kept r.stand r.shown
 
 pub invariant_of-pass : goal.invariant_of-pass
 invariant_of-pass g c =

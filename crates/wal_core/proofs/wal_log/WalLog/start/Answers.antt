@@ -1,10 +1,16 @@
-use Rattle.std.proofs.Common.{◌≡◌, ℕ, ◌+◌, List, [], length, sym, ◌∙◌, ap, subst, arith}
+use Rattle.std.proofs.Common.{◌≡◌, ℕ, ◌+◌, List, [], length, Some, None, sym, ◌∙◌, ap, subst, arith}
 use Rattle.tx_model.specs.declared.record.Rec.{Rec}
 use Rattle.disk_core.specs.Volume.{Volume}
 use Rattle.wal_core.specs.Log.{are_lawful, IsReady}
 use Rattle.wal_core.proofs.Flush.{nothing_next}
 use Rattle.wal_core.proofs.Starts.{nothing_behind}
+use Rattle.wal_core.specs.declared.checkpoint.LastCheckpoint.{LastCheckpoint}
+use Rattle.wal_core.specs.Opening.{opened}
+use Rattle.wal_core.proofs.Keeping.{start_keeps}
 use Rattle.wal_core.proofs.wal_log.WalLog.start.Goals as goal
+
+none_is : (k : LastCheckpoint) → None ≡ Some k → ⊥
+none_is k e = cc
 
 pub invariant_of-log : goal.invariant_of-log
 invariant_of-log g c =
@@ -19,6 +25,10 @@ invariant_of-log g c =
       next_batch = nothing_next c.in-Ok-zeros.behind.items c.new.result none behind;
       few = λ some. absurd (omega (arith, empty, some));
       lawful = ap are_lawful none;
+      numbered = omega (arith, recs, c.in-Ok.ensures.numbers);
+      starts = λ told up. c.in-Ok-close_gate.ensures.start told ∙ ap (λ (v : Volume). v.start) (c.read_log.ensures.same told) ∙ sym (c.in-Ok.ensures.begins told);
+      listed = λ told up k e. absurd (none_is k e);
+      begins = λ told up k e v left. absurd (none_is k e);
       ready = λ told up v left.
           let ready = c.in-Ok-close_gate.ensures.ready told in
           let next : found.first + length found.recs ≡ found.first + length c.items.result.now + length c.new.result = omega (arith, empty, recs) in
@@ -26,3 +36,13 @@ invariant_of-log g c =
           (subst (λ (l : List Rec). IsReady found.gate l found.counters (found.first + length c.items.result.now + length c.new.result) (g.D.LogDisk.reads c.close_gate.new.disk)) (sym none)
           (subst (λ (k : ℕ). IsReady found.gate [] found.counters k (g.D.LogDisk.reads c.close_gate.new.disk)) next ready));
     }
+
+pub returns-clause-keeps : goal.returns-clause-keeps
+returns-clause-keeps g c told =
+    let d = g.D.LogDisk in let found = c.in-Ok.found in let none : c.new.result ≡ [] = c.new.ensures in
+    let recs : length c.items.result.now ≡ length found.recs = ap length c.items.ensures in
+    let next : ℕ = found.first + length c.items.result.now + length c.new.result in
+    let last : next ≡ found.first + length found.recs = omega (arith, recs, ap length none) in
+    let v : Volume = d.reads c.close_gate.new.disk in
+    start_keeps found.first found.recs c.new.result found.counters found.gate next (found.first + length c.items.result.now + 0) v (d.images c.close_gate.new.disk) none last (omega (arith, ap length none)) (c.in-Ok-close_gate.ensures.synced told)
+    (c.in-Ok-close_gate.ensures.opens told ∙ ap opened (c.read_log.ensures.same told) ∙ c.in-Ok.ensures.read told) (subst (λ (n : ℕ). IsReady found.gate [] found.counters n v) (sym last) (c.in-Ok-close_gate.ensures.ready told))

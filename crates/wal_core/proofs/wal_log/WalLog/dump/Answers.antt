@@ -1,0 +1,9 @@
+use Rattle.std.proofs.Common.{ap, ◌∙◌}
+use Rattle.disk_core.specs.Volume.{Volume}
+use Rattle.wal_core.proofs.wal_log.WalLog.dump.Goals as goal
+
+pub invariant_of-self-clause-starts : goal.invariant_of-self-clause-starts
+invariant_of-self-clause-starts g c told up = ap (λ (v : Volume). v.start) (c.read.ensures.same told) ∙ c.args.self.now.starts told up
+
+pub invariant_of-self-clause-begins : goal.invariant_of-self-clause-begins
+invariant_of-self-clause-begins g c told up k e x left = c.args.self.now.begins told up k e x (c.read.ensures.crash told x left)

@@ -1,0 +1,42 @@
+-- The checkpoint before which a log can be forgotten.
+use Rattle.std.specs.Prelude.{◌≡◌, ◌⊎◌, ℕ, ◌-◌, ◌≤◌, List, [], ◌∷◌, Option, Some, None, Ok}
+use Rattle.std.specs.List.{slice_get}
+use Rattle.tx_model.specs.declared.record.Rec.{Rec}
+use Rattle.tx_model.specs.declared.record.Rec.TheVariants as records
+use Rattle.tx_model.specs.declared.record.Counters.{Counters}
+use Rattle.disk_core.specs.Volume.{Volume}
+use Rattle.wal_core.specs.Opening.{History, opened}
+use Rattle.wal_core.specs.Log.{history_on, IsReady}
+use Rattle.wal_core.specs.declared.checkpoint.LastCheckpoint.{LastCheckpoint}
+
+-- The batch at this gate is a checkpoint alone, with the counters that the log has after it. Or it isn't.
+abbrev pub IsLastCheckpoint : ℕ → List Rec → Option Counters → Option LastCheckpoint → Type 0
+IsLastCheckpoint gate batch after (Some k) = (k.gate ≡ gate) × ((batch ≡ records.Checkpoint k.number k.counters ∷ []) × (after ≡ Some k.counters))
+IsLastCheckpoint gate batch after None = (number : ℕ) (counters : Counters) → batch ≡ records.Checkpoint number counters ∷ [] → after ≡ Some counters → ⊥
+
+-- the checkpoint's record
+abbrev pub record_of : LastCheckpoint → Rec
+record_of k = records.Checkpoint k.number k.counters
+
+-- a log that begins with it
+abbrev pub begun_with : LastCheckpoint → History
+begun_with k = record { first = k.number; recs = record_of k ∷ []; counters = k.counters }
+
+-- the same bytes, kept from a place on
+abbrev pub kept_from : ℕ → Volume → Volume
+kept_from at v = record { start = at; bytes = v.bytes }
+
+-- kept from the checkpoint on, a volume opens to it alone, and what is pending goes on from there
+pub record MayBegin (k : LastCheckpoint) (gate : ℕ) (pending : List Rec) (counters : Option Counters) (next : ℕ) (v : Volume) : Type 0 where
+  pub stands : v.start ≤ k.gate
+  pub ready : IsReady gate pending counters next (kept_from k.gate v)
+  pub alone : history_on (kept_from k.gate v) ≡ Some (begun_with k)
+
+-- it is one of these records, the first of which has the number `from`
+pub record IsListed (k : LastCheckpoint) (from : ℕ) (recs : List Rec) : Type 0 where
+  pub later : from ≤ k.number
+  pub there : slice_get recs (k.number - from) ≡ Some (record_of k)
+
+-- an image of before opens so, or the log begins with the checkpoint
+abbrev pub OpensOrBegins : (Volume → Type 0) → LastCheckpoint → ℕ → Volume → Type 0
+OpensOrBegins images k gate c = (d : Volume) × images d × ((opened c ≡ opened d) ⊎ (opened c ≡ Ok (record { history = Some (begun_with k); gate = gate })))

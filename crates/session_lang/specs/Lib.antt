@@ -7,6 +7,7 @@ pub mod EventText
 pub mod RecordText
 pub mod ReportText
 pub mod Rounds
+pub mod Header
 pub mod Script
 pub mod Lines
 pub mod Reading

@@ -7,4 +7,4 @@ mod script;
 
 pub use parser::parse;
 pub use print::print_report;
-pub use script::{Item, ItemList, Kind, ParseRefusal, Script};
+pub use script::{Directive, Item, ItemList, Kind, ParseRefusal, Script};

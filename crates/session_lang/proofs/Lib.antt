@@ -10,4 +10,5 @@ pub mod StepLemmas
 pub mod RoundLemmas
 pub mod ScriptLemmas
 pub mod PartWayLemmas
+pub mod HeaderLemmas
 pub mod MoreWords

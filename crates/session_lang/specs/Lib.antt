@@ -11,4 +11,5 @@ pub mod Header
 pub mod Script
 pub mod Lines
 pub mod Reading
+pub mod HeaderReading
 pub mod Refused

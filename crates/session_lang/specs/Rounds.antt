@@ -27,6 +27,15 @@ rounds_from turns (_ ∷ script) = round_of turns ++ rounds_from [] script
 abbrev pub rounds_of : List Item → List (List (ℕ × Command))
 rounds_of script = rounds_from [] script
 
+-- the commands since the last directive
+abbrev pub open_from : List (ℕ × Command) → List Item → List (ℕ × Command)
+open_from turns [] = turns
+open_from turns (items.Run session command ∷ script) = open_from (turns ++ (session, command) ∷ []) script
+open_from turns (_ ∷ script) = open_from [] script
+
+abbrev pub open_round : List Item → List (ℕ × Command)
+open_round script = open_from [] script
+
 -- a session's commands in a round
 abbrev pub turns_of : ℕ → List (ℕ × Command) → List (ℕ × Command)
 turns_of session turns = filter (λ t. t.0 == session) turns

@@ -1,10 +1,9 @@
-use Rattle.std.proofs.Common.{length, ◌≤◌}
+use Rattle.std.proofs.Common.{length}
 use Rattle.session_lang.specs.Reading.{HasRead, IsPartWay}
-use Rattle.session_lang.proofs.parser.parse.Given as goal
+use Rattle.session_lang.proofs.parser.read_body.Given as goal
 
 abbrev pub invariant-loop-rest : goal.invariant-loop-rest
 invariant-loop-rest l = record {
-  size : length l.bytes ≤ 16777216;
   so_far : HasRead l.reading.names l.reading.commands.items l.reading.items;
   part_way : IsPartWay l.bytes l.reading.names l.reading.items l.rest;
 }

@@ -10,7 +10,7 @@ use Rattle.tx_model.specs.Stance.{after}
 use Rattle.tx_model.specs.CommandEvents.{HasEvents}
 use Rattle.tx_model.specs.Replies.{MayReply}
 use Rattle.tx_model.specs.Lines.{AreLawfulLines, stance}
-use Rattle.tx_model.proofs.Growth.{AreOthers, same_by_refl, stance_grows}
+use Rattle.tx_model.proofs.Growth.{AreOthers, AreLater, all_later_others, same_by_refl, stance_grows}
 use Rattle.tx_model.proofs.LineGrowth.{lines_go_on, all_new, stance_push, lines_counted}
 use Rattle.session_run.specs.declared.session.Session.{Session}
 use Rattle.session_run.specs.declared.shared.Shared.{Shared}
@@ -22,18 +22,18 @@ use Rattle.session_run.proofs.ListLemmas.{all_append, all_weaker}
 apart : (a b : By) → (a.session ≡ b.session → a.command < b.command) → same_by a b ≡ false
 apart a b h = grind (arith, nat_tests)
 
-apart_later : (a b : By) → (a.session ≡ b.session → a.command < b.command) → same_by b a ≡ false
-apart_later a b h = grind (arith, nat_tests)
+apart_later : (a b : By) (e : By) → e ≡ b → (a.session ≡ b.session → a.command < b.command) → e.session ≡ a.session → a.command < e.command
+apart_later a b e same h s = subst (λ (x : By). a.command < x.command) (sym same) (h (sym s ∙ ap (λ (x : By). x.session) same))
 
--- the events of a new command are of no earlier line
-events_apart : (by : By) (k : Line) (es : List Event) → AllByRecursion (λ e. by_of e ≡ by) es → (k.by.session ≡ by.session → k.by.command < by.command) → AreOthers k.by es
-events_apart by k [] own h = tt
-events_apart by k (e ∷ es) own h = (ap (λ b. same_by b k.by) own.0 ∙ apart_later k.by by h, events_apart by k es own.1 h)
+-- the events of a new command are later than each line so far
+events_later : (by : By) (k : Line) (es : List Event) → AllByRecursion (λ e. by_of e ≡ by) es → (k.by.session ≡ by.session → k.by.command < by.command) → AreLater k.by es
+events_later by k [] own h = tt
+events_later by k (e ∷ es) own h = (apart_later k.by by (by_of e) own.0 h, events_later by k es own.1 h)
 
-lines_apart : (by : By) (number : ℕ) (es : List Event) (lines : List Line) → AllByRecursion (λ e. by_of e ≡ by) es → by.command ≡ number + 1 → AllByRecursion (IsNotLater by.session number) lines → AllByRecursion (λ k. AreOthers k.by es) lines
-lines_apart by number es [] own n h = tt
-lines_apart by number es (k ∷ lines) own n h =
-    (events_apart by k es own (λ s. let j = h.0 s in omega arith), lines_apart by number es lines own n h.1)
+lines_earlier : (by : By) (number : ℕ) (es : List Event) (lines : List Line) → AllByRecursion (λ e. by_of e ≡ by) es → by.command ≡ number + 1 → AllByRecursion (IsNotLater by.session number) lines → AllByRecursion (λ k. AreLater k.by es) lines
+lines_earlier by number es [] own n h = tt
+lines_earlier by number es (k ∷ lines) own n h =
+    (events_later by k es own (λ s. let j = h.0 s in omega arith), lines_earlier by number es lines own n h.1)
 
 history_apart : (by : By) (number : ℕ) (h : List Event) → by.command ≡ number + 1 → AllByRecursion (λ f. (by_of f).command ≤ number) (filter (is_of by.session) h) → AreOthers by h
 history_apart by number [] n t = tt
@@ -72,8 +72,11 @@ progress_on w w' number s s' lines l n p a b so st = record {
   earlier = all_append (IsNotLater l.by.session l.by.command) lines (l ∷ []) (all_weaker (IsNotLater l.by.session number) (IsNotLater l.by.session l.by.command) (λ k f e. let j = f e in omega arith) lines p.earlier) ((λ e. omega arith), tt);
 }
   where
+    later : AllByRecursion (λ k. AreLater k.by a.added) lines
+    later = lines_earlier l.by number a.added lines a.own n p.earlier
+
     others : AllByRecursion (λ k. AreOthers k.by a.added) lines
-    others = lines_apart l.by number a.added lines a.own n p.earlier
+    others = all_later_others a.added lines later
 
     new : AreOthers l.by w.events
     new = history_apart l.by number w.events n p.stands.turn
@@ -83,7 +86,7 @@ progress_on w w' number s s' lines l n p a b so st = record {
 
     lawful_then : AreLawfulLines w.base [] (w.events ++ a.added) (lines ++ l ∷ [])
     lawful_then =
-        lines_go_on w.base [] w.events a.added lines l p.lawful others new own (n ∙ ap (λ k. k + 1) p.counted)
+        lines_go_on w.base [] w.events a.added lines l p.lawful later new own (n ∙ ap (λ k. k + 1) p.counted)
         (subst (λ t. HasEvents l.by t l.command l.reply a.added) (sym p.stance_is) a.fitting)
         (subst (λ t. MayReply w.base [] (w.events ++ a.added) l.by t l.command l.reply) (sym p.stance_is) (subst (λ g. MayReply w.base [] g l.by (stance_of s.transaction s.kept.items) l.command l.reply) a.grown a.allowed))
 

@@ -20,20 +20,6 @@ use tx_model::{
     MultiEventList, Rec, RecList, Report, Step, StepList,
 };
 
-/// The same counters once more.
-fn same_counters(counters: &Counters) -> Counters
-    ensures { result ≡ counters.now }
-{
-    Counters {
-        next: counters.next,
-        oldest: counters.oldest,
-        multi: counters.multi,
-        offset: counters.offset,
-        oldest_multi: counters.oldest_multi,
-        oldest_offset: counters.oldest_offset,
-    }
-}
-
 /// The shared state of a life that begins over a new log, whose first record is a checkpoint of its counters.
 fn open(alloc: Global, base: &Counters) -> Result<Shared, Memory>
     requires { base.now ≡ first_base }
@@ -44,10 +30,10 @@ fn open(alloc: Global, base: &Counters) -> Result<Shared, Memory>
     let mut log = PlainLog::new(alloc);
     log.add(Rec::Checkpoint {
         number: 0,
-        counters: same_counters(base),
+        counters: base.same(),
     })?;
     Ok(Shared {
-        base: same_counters(base),
+        base: base.same(),
         next: base.next,
         latest: base.next.retreat(),
         running: Vec::new(alloc),

@@ -1,6 +1,6 @@
 use Rattle.std.proofs.lemmas.Bool.{false≢true}
 use Rattle.std.proofs.lemmas.Bool.Decides.{nat_tests}
-use Rattle.std.proofs.Common.{IfSome, ◌-◌, ◌↔◌, Contains, ◌≡◌, ℕ, suc, zero, ◌<◌, ◌≤◌, List, [], ◌∷◌, ◌++◌, length, take, Some, refl, ap, sym, ◌∙◌, arith, inl, inr, ⊎_elim, subst, append-nil, Bool, true, false, cond, IsTrue}
+use Rattle.std.proofs.Common.{IfSome, ◌-◌, ◌↔◌, Contains, ◌≡◌, ℕ, suc, zero, ◌<◌, ◌≤◌, List, [], ◌∷◌, ◌++◌, length, length-append, take, drop, Some, refl, ap, sym, ◌∙◌, arith, inl, inr, ⊎_elim, subst, append-nil, Bool, true, false, cond, IsTrue}
 use Rattle.std.specs.List.{slice_get, filter, AllByRecursion}
 use Rattle.std.proofs.lemmas.List.Elements.{filter-append, filter_map-append, Contains-append_left}
 use Rattle.tx_model.specs.declared.event.By.{By}
@@ -9,10 +9,11 @@ use Rattle.tx_model.specs.declared.report.Line.{Line}
 use Rattle.tx_model.specs.declared.record.Counters.{Counters}
 use Rattle.tx_model.specs.Events.{by_of, same_by, events_of, given, announced_by}
 use Rattle.tx_model.specs.Stance.{Stance, stance_from, after, nothing_yet}
-use Rattle.tx_model.specs.Replies.{MayReply, WasAnnounced, IsGivenAt, IsWarned, seen_id}
+use Rattle.tx_model.specs.Replies.{MayReply, WasAnnounced, IsGivenAt, IsWarned, IsStopped, seen_id}
 use Rattle.tx_model.specs.Snapshots.{snapshot_data, snapshot_xmax}
 use Rattle.tx_model.specs.Visible.{is_visible}
-use Rattle.tx_model.specs.Limits.{warn_limit}
+use Rattle.tx_model.specs.Limits.{stop_limit, warn_limit}
+use Rattle.tx_model.specs.History.{next_given}
 use Rattle.tx_model.specs.Horizon.{oldest_id}
 use Rattle.tx_model.specs.declared.command.Command.{Command}
 use Rattle.tx_model.specs.declared.command.Command.TheVariants as commands
@@ -21,7 +22,7 @@ use Rattle.tx_model.specs.declared.reply.Reply.TheVariants as replies
 use Rattle.tx_model.specs.declared.reply.Refusal.TheVariants as refusals
 use Rattle.xid_order.specs.Nearest.{near_id}
 use Rattle.tx_model.specs.Lines.{is_line_of, stance}
-use Rattle.tx_model.proofs.PlaceLemmas.{slice_get-grows, slice_get-append_cases, take-grows}
+use Rattle.tx_model.proofs.PlaceLemmas.{slice_get-grows, slice_get-append_cases, take-grows, take-within, drop-within, both_all}
 
 pub same_by_refl : (by : By) → same_by by by ≡ true
 same_by_refl by = grind (arith, nat_tests)
@@ -29,6 +30,21 @@ same_by_refl by = grind (arith, nat_tests)
 -- no event is of this command
 abbrev pub AreOthers : By → List Event → Type 0
 AreOthers by es = AllByRecursion (λ e. same_by (by_of e) by ≡ false) es
+
+-- events of the command's session are of later commands
+abbrev pub AreLater : By → List Event → Type 0
+AreLater by es = AllByRecursion (λ e. (by_of e).session ≡ by.session → by.command < (by_of e).command) es
+
+later_is_other : (by : By) (e : Event) → ((by_of e).session ≡ by.session → by.command < (by_of e).command) → same_by (by_of e) by ≡ false
+later_is_other by e h = grind (arith, nat_tests)
+
+pub later_are_others : (by : By) (es : List Event) → AreLater by es → AreOthers by es
+later_are_others by [] h = tt
+later_are_others by (e ∷ es) h = (later_is_other by e h.0, later_are_others by es h.1)
+
+pub all_later_others : (es : List Event) (lines : List Line) → AllByRecursion (λ l. AreLater l.by es) lines → AllByRecursion (λ l. AreOthers l.by es) lines
+all_later_others es [] h = tt
+all_later_others es (l ∷ lines) h = (later_are_others l.by es h.0, all_later_others es lines h.1)
 
 pub events_of_others : (by : By) (es : List Event) → AreOthers by es → events_of by es ≡ []
 events_of_others by [] h = refl
@@ -99,12 +115,33 @@ warned_grows base h es by warn o w = (
       }),
 )
 
+stopped_grows : (base : Counters) (h es : List Event) (by : By) (next stop : ℕ) → AreLater by es → IsStopped base h by next stop → IsStopped base (h ++ es) by next stop
+stopped_grows base h es by next stop o k =
+    let same = take-within h es k.place k.within in
+    record {
+      place = k.place;
+      within = omega (arith, length-append h es, k.within);
+      behind = subst (AllByRecursion (λ e. (by_of e).session ≡ by.session → by.command < (by_of e).command)) (sym (drop-within h es k.place k.within)) (both_all (λ e. (by_of e).session ≡ by.session → by.command < (by_of e).command) (drop k.place h) es k.behind o);
+      before = subst (AllByRecursion (λ e. (by_of e).session ≡ by.session → (by_of e).command ≤ by.command)) (sym same) k.before;
+      next_is = k.next_is ∙ ap (next_given base.next) (sym same);
+      stop_is = k.stop_is ∙ ap (λ t. stop_limit (oldest_id base.oldest t)) (sym same);
+      reached = k.reached;
+    }
+
 -- what may be answered may be answered when the history has grown by events of other commands
-pub may_reply_grows : (base : Counters) (committed : List ℕ) (h es : List Event) (by : By) (s : Stance) (command : Command) (reply : Reply) → AreOthers by es → MayReply base committed h by s command reply → MayReply base committed (h ++ es) by s command reply
+pub may_reply_grows : (base : Counters) (committed : List ℕ) (h es : List Event) (by : By) (s : Stance) (command : Command) (reply : Reply) → AreLater by es → MayReply base committed h by s command reply → MayReply base committed (h ++ es) by s command reply
 may_reply_grows base committed h es by s commands.Begin replies.Done o m = m
 may_reply_grows base committed h es by s commands.Begin (replies.Refused refusals.AlreadyOpen) o m = m
-may_reply_grows base committed h es by s commands.Write (replies.Wrote ids warn) o m = (m.0, warned_grows base h es by warn o m.1)
+may_reply_grows base committed h es by s commands.Write (replies.Wrote ids warn) o m = (m.0, warned_grows base h es by warn (later_are_others by es o) m.1)
 may_reply_grows base committed h es by s commands.Write (replies.Refused refusals.NoTransaction) o m = m
+may_reply_grows base committed h es by s commands.Write (replies.Refused (refusals.Stop next stop)) o m = (m.0, stopped_grows base h es by next stop o m.1)
+may_reply_grows base committed h es by s commands.Save replies.Done o m = m
+may_reply_grows base committed h es by s commands.Save (replies.Refused refusals.NoTransaction) o m = m
+may_reply_grows base committed h es by s commands.Save (replies.Refused refusals.DepthLimit) o m = m
+may_reply_grows base committed h es by s commands.Release replies.Done o m = m
+may_reply_grows base committed h es by s commands.Release (replies.Refused refusals.NoSavepoint) o m = m
+may_reply_grows base committed h es by s commands.Undo replies.Done o m = m
+may_reply_grows base committed h es by s commands.Undo (replies.Refused refusals.NoSavepoint) o m = m
 may_reply_grows base committed h es by s commands.Commit replies.Done o m = m
 may_reply_grows base committed h es by s commands.Commit (replies.Refused refusals.NoTransaction) o m = m
 may_reply_grows base committed h es by s commands.Abort replies.Done o m = m
@@ -113,6 +150,8 @@ may_reply_grows base committed h es by s (commands.Snap name) (replies.Snapped l
     (m.0, m.1, m.2, slice_get-grows h es _ m.2 m.3, m.4 ∙ ap (snapshot_data base.next) (sym (take-grows h es _ m.2 m.3)))
 may_reply_grows base committed h es by s (commands.Snap name) (replies.Refused refusals.NameTaken) o m = m
 may_reply_grows base committed h es by s (commands.Snap name) (replies.Refused refusals.SnapLimit) o m = m
+may_reply_grows base committed h es by s (commands.DropSnap name) replies.Done o m = m
+may_reply_grows base committed h es by s (commands.DropSnap name) (replies.Refused refusals.NoSnapshot) o m = m
 may_reply_grows base committed h es by s (commands.See name x) (replies.Seen verdict) o m = (
   m.0,
   m.1,

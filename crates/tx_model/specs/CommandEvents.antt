@@ -1,5 +1,6 @@
 -- Which events a command has, by its reply.
 use Rattle.std.specs.Prelude.{◌≡◌, ℕ, ◌<◌, List, [], ◌∷◌, Option, Some, None, length, ◌⊎◌}
+use Rattle.std.specs.List.{fold}
 use Rattle.tx_model.specs.declared.event.By.{By}
 use Rattle.tx_model.specs.declared.event.Event.{Event}
 use Rattle.tx_model.specs.declared.event.Event.TheVariants as events
@@ -29,11 +30,20 @@ abbrev pub abort_event : By → Option ℕ → List Event
 abort_event by None = []
 abort_event by (Some top) = events.Abort by top ∷ []
 
+-- the innermost level's id, where it has one
+abbrev pub innermost : List (Option ℕ) → Option ℕ
+innermost levels = fold (λ outer level. level) None levels
+
+abbrev pub undo_event : By → Option ℕ → List Event
+undo_event by None = []
+undo_event by (Some id) = events.Undo by id ∷ []
+
 -- the events that a command has which was answered so
 abbrev pub HasEvents : By → Stance → Command → Reply → List Event → Type 0
 HasEvents by s commands.Write (replies.Wrote ids warn) h = (h ≡ level_events by None s.levels ids) × (length ids ≡ lacking s.levels)
 HasEvents by s commands.Write (replies.Refused refusal) h =
     (h ≡ []) ⊎ ((ids : List ℕ) × (h ≡ level_events by None s.levels ids) × (length ids < lacking s.levels))
+HasEvents by s commands.Undo replies.Done h = h ≡ undo_event by (innermost s.levels)
 HasEvents by s commands.Commit replies.Done h = h ≡ commit_event by (top_level s.levels)
 HasEvents by s commands.Abort replies.Done h = h ≡ abort_event by (top_level s.levels)
 HasEvents by s (commands.Snap name) (replies.Snapped lists) h = h ≡ events.Snap by name ∷ []

@@ -18,3 +18,4 @@ pub mod LifeLog
 pub mod LawfulLife
 pub mod IdLists
 pub mod Savepoints
+pub mod Multis

@@ -1,3 +1,6 @@
+ghost use Rattle.std.specs.Prelude.{◌≡◌};
+ghost use Rattle.tx_model.specs.Base.{first_base};
+
 use crate::multi::MemberList;
 use crate::sequence::{Copied, IdList, Memory, Sequence};
 use xid_order::{FullMulti, FullXid};
@@ -12,6 +15,39 @@ pub struct Counters {
     pub offset: u64,
     pub oldest_multi: FullMulti,
     pub oldest_offset: u64,
+}
+
+impl Counters {
+    /// The counters of a new log: nothing was given yet.
+    #[tactic(auto, unfolding(crate::specs::Base::first_base))]
+    pub fn of_new_log() -> Counters
+        ensures { result ≡ first_base }
+    {
+        let id = FullXid::new(3).unwrap();
+        let multi = FullMulti::new(1).unwrap();
+        Counters {
+            next: id,
+            oldest: id,
+            multi,
+            offset: 1,
+            oldest_multi: multi,
+            oldest_offset: 1,
+        }
+    }
+
+    /// The same counters once more.
+    pub fn same(&self) -> Counters
+        ensures { result ≡ self.now }
+    {
+        Counters {
+            next: self.next,
+            oldest: self.oldest,
+            multi: self.multi,
+            offset: self.offset,
+            oldest_multi: self.oldest_multi,
+            oldest_offset: self.oldest_offset,
+        }
+    }
 }
 
 /// A record of the log.

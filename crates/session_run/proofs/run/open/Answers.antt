@@ -10,14 +10,14 @@ retreat-requires c = omega (arith, first_next c.args.base.now c.requires)
 
 pub returns-clause-start : goal.returns-clause-start
 returns-clause-start c =
-    let w : Shared = record { base = c.same_counters-2.result; next = c.args.base.now.next; latest = c.retreat.result; running = c.new.result; events = c.new-2.result; log = c.add.new.self } in
-    let same = c.same_counters-2.ensures in
+    let w : Shared = record { base = c.same-2.result; next = c.args.base.now.next; latest = c.retreat.result; running = c.new.result; events = c.new-2.result; log = c.add.new.self } in
+    let same = c.same-2.ensures in
     life_begins w (same ∙ c.requires) (ap (λ b. b.next) (sym same)) (c.retreat.ensures.value ∙ ap (λ b. id_before b.next) (sym same)) c.new.ensures.items c.new-2.ensures
-    (c.in_ok-add.ensures.ok ∙ ap (λ t. t ++ records.Checkpoint 0 c.same_counters.result ∷ []) c.new-log.ensures ∙ ap (λ b. records.Checkpoint 0 b ∷ []) (c.same_counters.ensures ∙ sym same))
+    (c.in_ok-add.ensures.ok ∙ ap (λ t. t ++ records.Checkpoint 0 c.same.result ∷ []) c.new-log.ensures ∙ ap (λ b. records.Checkpoint 0 b ∷ []) (c.same.ensures ∙ sym same))
 
 pub returns-clause-few : goal.returns-clause-few
 returns-clause-few c =
-    let w : Shared = record { base = c.same_counters-2.result; next = c.args.base.now.next; latest = c.retreat.result; running = c.new.result; events = c.new-2.result; log = c.add.new.self } in
-    let same = c.same_counters-2.ensures in
+    let w : Shared = record { base = c.same-2.result; next = c.args.base.now.next; latest = c.retreat.result; running = c.new.result; events = c.new-2.result; log = c.add.new.self } in
+    let same = c.same-2.ensures in
     few_at_first w (same ∙ c.requires) (ap (λ b. b.next) (sym same))
-    (c.in_ok-add.ensures.ok ∙ ap (λ t. t ++ records.Checkpoint 0 c.same_counters.result ∷ []) c.new-log.ensures ∙ ap (λ b. records.Checkpoint 0 b ∷ []) (c.same_counters.ensures ∙ sym same))
+    (c.in_ok-add.ensures.ok ∙ ap (λ t. t ++ records.Checkpoint 0 c.same.result ∷ []) c.new-log.ensures ∙ ap (λ b. records.Checkpoint 0 b ∷ []) (c.same.ensures ∙ sym same))

@@ -1,5 +1,5 @@
 -- The header of a script, line by line.
-use Rattle.std.proofs.Common.{◌≡◌, ℕ, ◌+◌, ◌<◌, ◌≤◌, ◌^◌, List, [], ◌∷◌, ◌++◌, Option, Some, None, codes, refl, sym, ap, ◌∙◌, subst, drop, get_or, length, length-append, append_assoc, arith, suc, unwrap_or}
+use Rattle.std.proofs.Common.{◌≡◌, ℕ, ◌<◌, ◌≤◌, List, [], ◌∷◌, ◌++◌, Option, Some, None, refl, sym, ap, ◌∙◌, subst, drop, get_or, length, length-append, append_assoc, arith, unwrap_or}
 use Rattle.std.proofs.lemmas.Grind.{flat_map-append}
 use Rattle.std.proofs.lemmas.List.{append-nil}
 use Rattle.std.proofs.lemmas.List.Elements.{All-head, All-nil, All-push, filter_map-append}
@@ -13,11 +13,11 @@ use Rattle.session_lang.specs.declared.script.Item.{Item}
 use Rattle.session_lang.specs.declared.script.Item.TheVariants as items
 use Rattle.session_lang.specs.declared.script.Script.{Script}
 use Rattle.session_lang.specs.Header.{IsOnce, IsReadDirective, IsStartId, base_of, directive_text, oldest_in, oldests, start_in, starts}
-use Rattle.session_lang.specs.HeaderReading.{Gives, HasHeader, HeaderGoesOn, IsPartOfHeader, given}
+use Rattle.session_lang.specs.HeaderReading.{Gives, HasHeader, IsPartOfHeader, given}
 use Rattle.session_lang.specs.Lines.{BeginsWithDirective, BeginsWithNumber}
 use Rattle.session_lang.specs.Reading.{IsBody}
 use Rattle.session_lang.specs.Script.{IsReadItem, IsScript, item_text}
-use Rattle.session_lang.specs.Words.{line_text, name_at}
+use Rattle.session_lang.specs.Words.{name_at}
 use Rattle.session_lang.proofs.LineLemmas.{same_number, two_words}
 use Rattle.session_lang.proofs.NumberLemmas.{same_numbers}
 use Rattle.session_lang.proofs.RoundLemmas.{all_later}

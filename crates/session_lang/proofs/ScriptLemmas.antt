@@ -1,5 +1,5 @@
 -- A script line by line.
-use Rattle.std.proofs.Common.{◌≡◌, ℕ, ◌+◌, ◌<◌, ◌≤◌, List, [], ◌∷◌, ◌++◌, refl, sym, ap, ◌∙◌, subst, length, arith, Bool, true, false, cond, ◌==◌, ◌||◌, Some, get_or, append_assoc, ◌⊎◌, inl, inr, ⊎_elim, eq-eqb}
+use Rattle.std.proofs.Common.{◌≡◌, ℕ, ◌<◌, ◌≤◌, List, [], ◌∷◌, ◌++◌, refl, sym, ap, ◌∙◌, subst, length, arith, Bool, true, false, cond, ◌==◌, ◌||◌, Some, get_or, append_assoc, ◌⊎◌, inl, inr, ⊎_elim, eq-eqb}
 use Rattle.std.proofs.lemmas.Bool.{cases_lt}
 use Rattle.std.proofs.lemmas.List.Elements.{All-head, All-get_or}
 use Rattle.std.proofs.lemmas.List.Elements.{filter_map-append}

@@ -1,5 +1,5 @@
 -- The commands of a script, round by round.
-use Rattle.std.specs.Prelude.{ℕ, Bool, List, [], ◌∷◌, ◌++◌, Option, Some, None, ◌==◌}
+use Rattle.std.specs.Prelude.{ℕ, List, [], ◌∷◌, ◌++◌, Option, Some, None, ◌==◌}
 use Rattle.std.specs.List.{filter, filter_map}
 use Rattle.tx_model.specs.declared.command.Command.{Command}
 use Rattle.session_lang.specs.declared.script.Item.{Item}

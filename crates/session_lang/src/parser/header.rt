@@ -1,7 +1,6 @@
 //! The header of a script.
 
 ghost use Rattle.std.specs.Prelude.{◌≡◌, ℕ, List, [], ◌∷◌, ◌++◌, SomeIff, IfSome, IfNone};
-ghost use Rattle.tx_model.specs.Base.{first_base};
 ghost use Rattle.session_lang.specs.declared.script.Directive.{Directive};
 ghost use Rattle.session_lang.specs.declared.script.Script.{Script};
 ghost use Rattle.session_lang.specs.Header.{IsOnce, IsStartId, base_of};
@@ -12,7 +11,7 @@ ghost use Rattle.session_lang.specs.Script.{IsScript};
 use crate::parser::word::{after, read_number};
 use crate::script::Directive;
 use tx_model::{Counters, is_base};
-use xid_order::{FullMulti, FullXid};
+use xid_order::FullXid;
 
 /// The greatest id that a header may give.
 const MAX_ID: u64 = 1 << 62;
@@ -51,23 +50,6 @@ fn read_directive(bytes: &[u8]) -> Option<(Directive, &[u8])>
         return Some((Directive::Oldest { oldest }, rest));
     }
     None
-}
-
-/// The counters of a new log.
-#[tactic(auto, unfolding(tx_model::specs::Base::first_base))]
-fn first_counters() -> Counters
-    ensures { result ≡ first_base }
-{
-    let id = FullXid::new(3).unwrap();
-    let multi = FullMulti::new(1).unwrap();
-    Counters {
-        next: id,
-        oldest: id,
-        multi,
-        offset: 1,
-        oldest_multi: multi,
-        oldest_offset: 1,
-    }
 }
 
 /// What the directives read so far give.
@@ -114,7 +96,7 @@ impl Header {
     fn base(self) -> Counters
         ensures { (header : List Directive) → Gives header self.start self.oldest → result ≡ base_of header }
     {
-        let new_log = first_counters();
+        let new_log = Counters::of_new_log();
         Counters {
             next: self.start.unwrap_or(new_log.next),
             oldest: self.oldest.unwrap_or(new_log.oldest),

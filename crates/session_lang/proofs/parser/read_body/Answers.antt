@@ -1,6 +1,5 @@
-use Rattle.std.proofs.Common.{ap, length, sym, ◌∙◌, ◌==◌, eqb-true}
+use Rattle.std.proofs.Common.{ap, length, ◌∙◌, ◌==◌}
 use Rattle.std.proofs.lemmas.Bool.{false≢true}
-use Rattle.session_lang.proofs.DistinctLemmas.{none_left}
 use Rattle.session_lang.proofs.PartWayLemmas.{part_way_start, part_way_step, part_way_stuck, shorter}
 use Rattle.session_lang.proofs.parser.read_body.Goals as goal
 

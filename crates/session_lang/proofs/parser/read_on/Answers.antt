@@ -1,4 +1,4 @@
-use Rattle.std.proofs.Common.{subst, inl, inr, ◌∙◌, sym}
+use Rattle.std.proofs.Common.{subst, inr, ◌∙◌, sym}
 use Rattle.session_lang.specs.Reading.{IsFull}
 use Rattle.session_lang.proofs.SameLines.{round_text, same_lines}
 use Rattle.session_lang.proofs.parser.read_on.Goals as goal

@@ -1,4 +1,4 @@
-use Rattle.std.proofs.Common.{◌≡◌, ◌∙◌, ap, replicate, length, vec_len, arith, rules, refl}
+use Rattle.std.proofs.Common.{◌≡◌, ◌∙◌, ap, replicate, length, vec_len, arith}
 use Rattle.session_lang.proofs.StepLemmas.{end_round}
 use Rattle.session_lang.proofs.parser.reading.Reading.end_round.Goals as goal
 

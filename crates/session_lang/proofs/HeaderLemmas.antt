@@ -17,7 +17,7 @@ use Rattle.session_lang.specs.HeaderReading.{Gives, HasHeader, IsPartOfHeader, g
 use Rattle.session_lang.specs.Lines.{BeginsWithDirective, BeginsWithNumber}
 use Rattle.session_lang.specs.Reading.{IsBody}
 use Rattle.session_lang.specs.Script.{IsReadItem, IsScript, item_text}
-use Rattle.session_lang.specs.Words.{name_at}
+use Rattle.report_text.specs.Words.{name_at}
 use Rattle.session_lang.proofs.LineLemmas.{same_number, two_words}
 use Rattle.session_lang.proofs.NumberLemmas.{same_numbers}
 use Rattle.session_lang.proofs.RoundLemmas.{all_later}

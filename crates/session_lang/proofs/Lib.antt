@@ -11,4 +11,3 @@ pub mod RoundLemmas
 pub mod ScriptLemmas
 pub mod PartWayLemmas
 pub mod HeaderLemmas
-pub mod MoreWords

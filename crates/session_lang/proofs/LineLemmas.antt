@@ -3,9 +3,9 @@ use Rattle.std.proofs.Common.{◌≡◌, ℕ, List, [], ◌∷◌, ◌++◌, ref
 use Rattle.std.specs.Fmt.{decimal}
 use Rattle.tx_model.specs.declared.command.Command.{Command}
 use Rattle.tx_model.specs.declared.command.Command.TheVariants as commands
-use Rattle.session_lang.specs.CommandText.{command_word, command_words, command_rest}
+use Rattle.report_text.specs.CommandText.{command_word, command_words, command_rest}
 use Rattle.session_lang.specs.Lines.{BeginsWithName, BeginsWithNumber, BeginsWithQuestion, BeginsWithLine, ContinuesLine}
-use Rattle.session_lang.specs.Words.{line_text, more}
+use Rattle.report_text.specs.Words.{line_text, more}
 use Rattle.session_lang.proofs.NameLemmas.{same_names}
 use Rattle.session_lang.proofs.NumberLemmas.{same_numbers}
 

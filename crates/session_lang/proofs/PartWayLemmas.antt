@@ -14,14 +14,14 @@ use Rattle.tx_model.specs.Places.{first_seen}
 use Rattle.session_lang.specs.declared.script.Item.{Item}
 use Rattle.session_lang.specs.declared.script.Item.TheVariants as items
 use Rattle.session_lang.specs.declared.script.Script.{Script}
-use Rattle.session_lang.specs.CommandText.{command_rest, command_word, command_words}
+use Rattle.report_text.specs.CommandText.{command_rest, command_word, command_words}
 use Rattle.session_lang.specs.Header.{directive_text}
 use Rattle.session_lang.specs.HeaderReading.{HasHeader}
 use Rattle.session_lang.specs.Lines.{BeginsWithLine}
 use Rattle.session_lang.specs.Reading.{AddsLine, HasRead, IsBody, IsPartWay, IsStuck, ReadsLine, ReadsOn, ReadsRound}
 use Rattle.session_lang.specs.Rounds.{sessions_in}
 use Rattle.session_lang.specs.Script.{IsReadItem, IsScript, item_text}
-use Rattle.session_lang.specs.Words.{line_text, name_at}
+use Rattle.report_text.specs.Words.{line_text, name_at}
 use Rattle.session_lang.proofs.LineLemmas.{line_of, line_splits}
 use Rattle.session_lang.proofs.DistinctLemmas.{none_left}
 use Rattle.session_lang.proofs.RoundLemmas.{all_later}

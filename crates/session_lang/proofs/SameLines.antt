@@ -4,10 +4,10 @@ use Rattle.std.proofs.lemmas.Bool.{false≢true}
 use Rattle.std.specs.Fmt.{decimal}
 use Rattle.tx_model.specs.declared.command.Command.{Command}
 use Rattle.tx_model.specs.declared.command.Command.TheVariants as commands
-use Rattle.session_lang.specs.CommandText.{command_word, command_words}
+use Rattle.report_text.specs.CommandText.{command_word, command_words}
 use Rattle.session_lang.specs.Lines.{BeginsWithLine, BeginsWithRound, ContinuesLine}
 use Rattle.session_lang.specs.Names.{is_letter}
-use Rattle.session_lang.specs.Words.{line_text}
+use Rattle.report_text.specs.Words.{line_text}
 use Rattle.session_lang.proofs.NameLemmas.{name_shows, same_names}
 use Rattle.session_lang.proofs.NumberLemmas.{same_numbers}
 use Rattle.session_lang.proofs.LineLemmas.{begin_text, save_text, write_text, release_text, undo_text, commit_text, abort_text, snap_text, drop_text, see_text, line_splits, one_word}

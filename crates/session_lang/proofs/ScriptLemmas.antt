@@ -16,7 +16,7 @@ use Rattle.session_lang.specs.Names.{IsName}
 use Rattle.session_lang.specs.Reading.{AddsLine, GoesOn, HasRead, IsBody, IsFull, IsNew, IsStuck, ReadsOn, ReadsRound}
 use Rattle.session_lang.specs.Rounds.{open_round, rounds_of, session_of, sessions_in}
 use Rattle.session_lang.specs.Script.{IsRead, IsReadItem, IsShort, item_text}
-use Rattle.session_lang.specs.Words.{name_at}
+use Rattle.report_text.specs.Words.{name_at}
 use Rattle.session_lang.proofs.DistinctLemmas.{one_place}
 use Rattle.session_lang.proofs.RoundLemmas.{all_later, next_short, turns_push}
 use Rattle.session_lang.proofs.SameLines.{line_no_round, same_lines, same_rounds}

@@ -6,7 +6,7 @@ use Rattle.tx_model.specs.declared.record.Counters.{Counters}
 use Rattle.xid_order.specs.Ids.{IsFullId}
 use Rattle.session_lang.specs.declared.script.Directive.{Directive}
 use Rattle.session_lang.specs.declared.script.Directive.TheVariants as directives
-use Rattle.session_lang.specs.Words.{line_text}
+use Rattle.report_text.specs.Words.{line_text}
 
 -- a line of the header
 abbrev pub directive_text : Directive → List ℕ

@@ -3,11 +3,11 @@ use Rattle.std.specs.Prelude.{◌≡◌, ℕ, ◌<◌, ◌^◌, List, [], ◌∷
 use Rattle.std.specs.Fmt.{decimal}
 use Rattle.tx_model.specs.declared.command.Command.{Command}
 use Rattle.session_lang.specs.declared.script.Directive.{Directive}
-use Rattle.session_lang.specs.CommandText.{command_words}
+use Rattle.report_text.specs.CommandText.{command_words}
 use Rattle.session_lang.specs.Header.{IsReadDirective, directive_text}
 use Rattle.session_lang.specs.Names.{IsName}
 use Rattle.session_lang.specs.Script.{IsRead}
-use Rattle.session_lang.specs.Words.{line_text}
+use Rattle.report_text.specs.Words.{line_text}
 
 -- a name and the byte behind it
 pub record BeginsWithName (ends : ℕ) (bytes name rest : List ℕ) : Type 0 where

@@ -11,11 +11,11 @@ use Rattle.session_lang.specs.declared.script.Directive.{Directive}
 use Rattle.session_lang.specs.declared.script.Item.{Item}
 use Rattle.session_lang.specs.declared.script.Item.TheVariants as items
 use Rattle.session_lang.specs.declared.script.Script.{Script}
-use Rattle.session_lang.specs.CommandText.{command_words}
+use Rattle.report_text.specs.CommandText.{command_words}
 use Rattle.session_lang.specs.Header.{IsOnce, IsReadDirective, base_of, directive_text}
 use Rattle.session_lang.specs.Names.{IsName}
 use Rattle.session_lang.specs.Rounds.{rounds_of, sessions_in, turns_of}
-use Rattle.session_lang.specs.Words.{line_text, name_at}
+use Rattle.report_text.specs.Words.{line_text, name_at}
 
 -- a command of the form that is read so far
 abbrev pub IsRead : Command → Type 0

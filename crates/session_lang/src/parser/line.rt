@@ -3,7 +3,7 @@
 ghost use Rattle.std.specs.Prelude.{◌≡◌, ℕ, List, [], IfOk, IfSome, IfNone};
 ghost use Rattle.tx_model.specs.declared.command.Command.{Command};
 ghost use Rattle.tx_model.specs.declared.command.Command.TheVariants as commands;
-ghost use Rattle.session_lang.specs.CommandText.{command_rest};
+ghost use Rattle.report_text.specs.CommandText.{command_rest};
 ghost use Rattle.session_lang.specs.Lines.{BeginsWithLine, BeginsWithName, BeginsWithQuestion, ContinuesLine};
 
 use crate::parser::word::{after, name_of, read_name, read_number};

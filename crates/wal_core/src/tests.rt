@@ -10,7 +10,7 @@ use xid_order::{FullMulti, FullXid};
 
 // A batch with a checkpoint of the first counters, a batch with a commit of 3, and a closed gate.
 #[rattlefmt::skip]
-const LOG: [u8; 81] = [
+pub const LOG: [u8; 81] = [
     1, 57, 0, 0, 0, 4, 0, 0, 0, 0, 0, 0, 0, 0, 3, 0, 0, 0, 0, 0, 0, 0, 3, 0, 0, 0, 0, 0, 0, 0, 1,
     0, 0, 0, 0, 0, 0, 0, 1, 0, 0, 0, 0, 0, 0, 0, 1, 0, 0, 0, 0, 0, 0, 0, 1, 0, 0, 0, 0, 0, 0, 0, 1,
     13, 0, 0, 0, 1, 3, 0, 0, 0, 0, 0, 0, 0, 0, 0, 0, 0, 0,
@@ -110,6 +110,27 @@ fn a_changed_byte_is_found_by_its_batch(rt: HostRuntime) -> Result<(), Fail> {
         assert!(rt; at < log.len());
         log[at] = byte;
         assert_eq!(rt; opens_to(alloc, &log)?, want, "{byte} at {at}");
+    }
+    Ok(())
+}
+
+#[test]
+fn each_byte_that_becomes_255(rt: HostRuntime) -> Result<(), Fail> {
+    let alloc = rt.alloc();
+    for at in 0..81usize {
+        let want = match at {
+            // The first gate is closed.
+            0 => Ok(0),
+            // The next id or multixact of the checkpoint, and the id of the commit, are greater, and still in range.
+            14..=16 | 30..=32 | 68..=70 => Ok(2),
+            1..=61 => Err(0),
+            62 => Ok(1),
+            80 => Ok(2),
+            _ => Err(62),
+        };
+        let mut log = LOG;
+        log[at] = 255;
+        assert_eq!(rt; opens_to(alloc, &log)?, want, "at {at}");
     }
     Ok(())
 }

@@ -1,4 +1,3 @@
-pub mod Flat
 pub mod Sound
 pub mod Stands
 pub mod Acts

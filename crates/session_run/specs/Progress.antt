@@ -1,5 +1,5 @@
--- A session in the middle of its commands.
-use Rattle.std.specs.Prelude.{◌≡◌, ℕ, ◌+◌, ◌*◌, ◌<◌, ◌≤◌, List, [], length}
+-- Sessions in the middle of their commands.
+use Rattle.std.specs.Prelude.{◌≡◌, ℕ, ◌+◌, ◌≤◌, List, [], Some, slice_get, length}
 use Rattle.std.specs.List.{AllByRecursion, count_by}
 use Rattle.tx_model.specs.declared.report.Line.{Line}
 use Rattle.tx_model.specs.Lines.{AreLawfulLines, stance, is_line_of}
@@ -12,24 +12,20 @@ use Rattle.session_run.specs.Acts.{IsSoundAt}
 abbrev pub IsNotLater : ℕ → ℕ → Line → Type 0
 IsNotLater session number l = l.by.session ≡ session → l.by.command ≤ number
 
--- the lines so far are lawful, and the session stands as its lines, of which there are so many, leave it
-pub record Progress (w : Shared) (session number : ℕ) (s : Session) (lines : List Line) : Type 0 where
-  pub lawful : AreLawfulLines w.base [] w.events lines
-  pub sound : IsSoundAt w
-  pub stands : Stands w.base w.events w.next session number s.transaction s.kept.items
-  pub stance_is : stance w.events lines session ≡ stance_of s.transaction s.kept.items
-  pub counted : number ≡ count_by (is_line_of session) lines
-  pub earlier : AllByRecursion (IsNotLater session number) lines
+-- the session stands as its lines, of which there are as many as its commands, leave it
+pub record IsLeft (w : Shared) (lines : List Line) (session : ℕ) (s : Session) : Type 0 where
+  pub stands : Stands w.table.base w.table.events session s.commands s
+  pub stance_is : stance w.table.events lines session ≡ stance_of s
+  pub counted : s.commands ≡ count_by (is_line_of session) lines
+  pub earlier : AllByRecursion (IsNotLater session s.commands) lines
 
--- the ids that are given and the records are few, since the lines are
-pub record AreFew (w : Shared) (lines : List Line) : Type 0 where
-  pub oldest : w.base.oldest ≡ 3
-  pub normal : 3 ≤ w.next
-  pub few : w.next ≤ 3 + 4 * length lines
-  pub short : length w.log.recs ≤ 1 + length lines
-
--- a session of which there is neither line nor event
-pub record HasNotBegun (w : Shared) (session : ℕ) (lines : List Line) : Type 0 where
-  pub lawful : AreLawfulLines w.base [] w.events lines
+-- the lines of the life so far are lawful, and each session stands as its lines leave it
+pub record Progress (w : Shared) (sessions : List Session) (lines : List Line) : Type 0 where
+  pub lawful : AreLawfulLines w.table.base [] w.table.events lines
   pub sound : IsSoundAt w
-  pub before : AllByRecursion (λ l. l.by.session < session) lines
+  pub all : length sessions ≡ w.table.sessions
+  pub each : (k : ℕ) (s : Session) → slice_get sessions k ≡ Some s → IsLeft w lines k s
+
+-- the log has few records, since the lines are few
+abbrev pub AreFew : Shared → List Line → Type 0
+AreFew w lines = length w.log.recs ≤ 1 + length lines

@@ -16,38 +16,39 @@ use std::alloc::Global;
 use tx_model::{By, Command, Copied, Event, IdList, Memory, Name, Refusal, Reply, SnapData};
 use xid_order::{FullXid, Xid, near};
 
-/// A session's transaction: none, one without an id, or one with its id.
-#[derive(Clone, Copy, Debug, PartialEq, Eq)]
-pub enum Transaction {
-    Closed,
-    Begun,
-    WithId(FullXid),
-}
-
-/// A snapshot that a session keeps: its name, the command that took it, its place in the history, and its xmax.
+/// A snapshot that a session keeps: its name, the command that took it, its place in the history, and its data.
 #[derive(Drop)]
 pub struct Kept {
     pub name: Name,
     pub command: u64,
     pub place: usize,
-    pub xmax: FullXid,
+    pub snapshot: Snapshot,
 }
 
 /// How a session stands.
 #[derive(Drop)]
 pub struct Session {
-    pub transaction: Transaction,
+    /// How many commands it has run in this life.
+    pub commands: u64,
+    /// The ids of its levels, from the transaction down. A level behind one without an id has none.
+    pub named: Vec<FullXid>,
+    /// How many levels have no id yet.
+    pub unnamed: usize,
+    /// Its open ids, ascending.
+    pub open: Vec<FullXid>,
     pub kept: Vec<Kept>,
 }
 
 impl Session {
     /// A session that has done nothing yet.
     pub fn new(alloc: Global) -> Session
-        ensures transaction { result.transaction ≡ Transaction.Closed }
-        ensures kept { result.kept.items ≡ [] }
+        ensures { (result.commands ≡ 0) × (result.named.items ≡ []) × (result.unnamed ≡ 0) × (result.open.items ≡ []) × (result.kept.items ≡ []) }
     {
         Session {
-            transaction: Transaction::Closed,
+            commands: 0,
+            named: Vec::new(alloc),
+            unnamed: 0,
+            open: Vec::new(alloc),
             kept: Vec::new(alloc),
         }
     }

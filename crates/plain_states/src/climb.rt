@@ -1,0 +1,97 @@
+ghost use Rattle.std.specs.Prelude.{◌≡◌, ◌==◌, ◌<◌, [], ◌∷◌, map, IfSome};
+ghost use Rattle.std.specs.List.{find};
+ghost use Rattle.snap_core.specs.Says.{data_of};
+ghost use Rattle.plain_states.specs.States.{AreKept, InOrder, with_commit};
+ghost use Rattle.plain_states.specs.Verdicts.{SeesRight, ClosedRight, IsTopmost};
+ghost use Rattle.plain_states.specs.declared.states.IdState.{IdState};
+
+use crate::states::IdState;
+use snap_core::{Says, Snapshot};
+use xid_order::FullXid;
+
+/// What is kept of the id. None where nothing is.
+fn state_of(states: &[IdState], x: FullXid) -> Option<IdState>
+    requires { InOrder states.now }
+    ensures { result ≡ find (λ (s : IdState). s.id == x) states.now }
+{
+    match states.binary_search_by_key(&x, |s| s.id) {
+        Ok(place) => Some(states[place]),
+        Err(_) => None,
+    }
+}
+
+/// The id committed, if anything is kept of it.
+fn mark(states: &mut [IdState], x: FullXid)
+    requires { InOrder states.old }
+    ensures { states.new ≡ map (with_commit (x ∷ [])) states.old }
+{
+    if let Ok(place) = states.binary_search_by_key(&x, |s| s.id) {
+        states[place].committed = true;
+    }
+}
+
+/// The ids committed.
+pub fn mark_all(states: &mut [IdState], ids: &[FullXid])
+    requires { InOrder states.old }
+    ensures { states.new ≡ map (with_commit ids.now) states.old }
+{
+    for id in ids {
+        mark(states, *id);
+    }
+}
+
+/// The id's parent. None where it has none, or nothing is kept of it.
+fn parent_of(states: &[IdState], x: FullXid) -> Option<FullXid>
+    requires { AreKept states.now }
+    ensures below { IfSome result (λ p. p < x) }
+    ensures kept { (s : IdState) → find (λ (t : IdState). t.id == x) states.now ≡ Some s → result ≡ s.parent }
+{
+    match state_of(states, x) {
+        Some(state) => state.parent,
+        None => None,
+    }
+}
+
+/// The topmost ancestor of the id, or the first one that is below `xmin`.
+fn topmost(states: &[IdState], xmin: FullXid, x: FullXid) -> FullXid
+    requires { AreKept states.now }
+    ensures { IsTopmost states.now xmin x result }
+{
+    let mut top = x;
+    while top >= xmin {
+        match parent_of(states, top) {
+            Some(parent) => top = parent,
+            None => return top,
+        }
+    }
+    top
+}
+
+/// Whether the id had ended when the snapshot was taken. One that was rolled back had, or hadn't.
+fn had_ended(states: &[IdState], snap: &Snapshot, x: FullXid) -> bool
+    requires { AreKept states.now }
+    ensures { ClosedRight states.now (data_of snap.now) x result }
+{
+    match snap.says(x) {
+        Says::Ended => true,
+        Says::Running => false,
+        Says::AskParents => {
+            let top = topmost(states, snap.xmin, x);
+            top < snap.xmin || matches!(snap.says_top(top), Says::Ended)
+        }
+    }
+}
+
+/// Whether the snapshot sees the id.
+pub fn sees(states: &[IdState], snap: &Snapshot, x: FullXid) -> bool
+    requires { AreKept states.now }
+    ensures { SeesRight states.now (data_of snap.now) x result }
+{
+    if x >= snap.xmax {
+        return false;
+    }
+    match state_of(states, x) {
+        Some(state) => state.committed && had_ended(states, snap, x),
+        None => false,
+    }
+}

@@ -1,12 +1,12 @@
 -- What is kept of the ids of a life: their parents, and which of them committed.
-use Rattle.std.specs.Prelude.{◌≡◌, ℕ, ◌<◌, ◌&&◌, ◌||◌, not, Bool, List, Option, IfSome, map}
-use Rattle.std.specs.List.{All, list_any, slice_get}
+use Rattle.std.specs.Prelude.{◌≡◌, ℕ, ◌<◌, ◌&&◌, ◌||◌, not, Bool, List, Option, IfSome, length, map}
+use Rattle.std.specs.List.{All, HoldsAt, list_any, slice_get}
 use Rattle.tx_model.specs.declared.event.Event.{Event}
 use Rattle.tx_model.specs.Events.{given, is_commit_of}
 use Rattle.tx_model.specs.Families.{lineage, top}
 use Rattle.tx_model.specs.IdLists.{has, Ascending}
 use Rattle.tx_model.specs.Running.{is_undone}
-use Rattle.plain_states.specs.declared.states.IdState.{IdState}
+use Rattle.plain_states.specs.declared.id_states.IdState.{IdState}
 
 -- the parent below which x was given; None of a top
 abbrev pub parent_of : List Event → ℕ → Option ℕ
@@ -35,6 +35,14 @@ InOrder states = Ascending (ids_of states)
 pub record AreKept (states : List IdState) : Type 0 where
   pub order : InOrder states
   pub parents : All (λ (s : IdState). IfSome s.parent (λ p. p < s.id)) states
+
+-- x stands at place i
+abbrev pub IsPlaceOf : List IdState → ℕ → ℕ → Type 0
+IsPlaceOf states x i = (i < length states) × HoldsAt (λ s. s.id ≡ x) states i
+
+-- x stands at no place
+abbrev pub IsMissing : List IdState → ℕ → Type 0
+IsMissing states x = (k : ℕ) → k < length states → HoldsAt (λ s. s.id ≡ x → ⊥) states k
 
 -- the state after a commit of these ids
 abbrev pub with_commit : List ℕ → IdState → IdState

@@ -10,7 +10,7 @@ use Rattle.tx_model.specs.History.{IsLegal}
 use Rattle.tx_model.specs.Running.{is_open, is_undone}
 use Rattle.tx_model.specs.Snapshots.{snapshot_data, snapshot_xmax}
 use Rattle.tx_model.specs.Visible.{is_visible}
-use Rattle.plain_states.specs.declared.states.IdState.{IdState}
+use Rattle.plain_states.specs.declared.id_states.IdState.{IdState}
 use Rattle.plain_states.specs.States.{AreStates}
 
 -- r says whether x was visible at the place where the data were taken, whatever legal history the states are of

@@ -1,31 +1,40 @@
-ghost use Rattle.std.specs.Prelude.{◌≡◌, ◌==◌, ◌<◌, [], ◌∷◌, map, IfSome};
+ghost use Rattle.std.specs.Prelude.{◌≡◌, ◌==◌, ◌<◌, [], ◌∷◌, map, IfSome, IfNone};
 ghost use Rattle.std.specs.List.{find};
 ghost use Rattle.snap_core.specs.Says.{data_of};
-ghost use Rattle.plain_states.specs.States.{AreKept, InOrder, with_commit};
+ghost use Rattle.plain_states.specs.States.{AreKept, InOrder, IsPlaceOf, IsMissing, with_commit};
 ghost use Rattle.plain_states.specs.Verdicts.{SeesRight, ClosedRight, IsTopmost};
-ghost use Rattle.plain_states.specs.declared.states.IdState.{IdState};
+ghost use Rattle.plain_states.specs.declared.id_states.IdState.{IdState};
 
-use crate::states::IdState;
+use crate::id_states::IdState;
 use snap_core::{Says, Snapshot};
 use xid_order::FullXid;
+
+/// Where the id is kept. None where it isn't.
+fn place_of(states: &[IdState], x: FullXid) -> Option<usize>
+    requires { InOrder states.now }
+    ensures some { IfSome result (IsPlaceOf states.now x) }
+    ensures none { IfNone result (IsMissing states.now x) }
+{
+    states.binary_search_by_key(&x, |s| s.id).ok()
+}
 
 /// What is kept of the id. None where nothing is.
 fn state_of(states: &[IdState], x: FullXid) -> Option<IdState>
     requires { InOrder states.now }
     ensures { result ≡ find (λ (s : IdState). s.id == x) states.now }
 {
-    match states.binary_search_by_key(&x, |s| s.id) {
-        Ok(place) => Some(states[place]),
-        Err(_) => None,
+    match place_of(states, x) {
+        Some(place) => Some(states[place]),
+        None => None,
     }
 }
 
-/// The id committed, if anything is kept of it.
+/// The id committed, if it is kept.
 fn mark(states: &mut [IdState], x: FullXid)
     requires { InOrder states.old }
     ensures { states.new ≡ map (with_commit (x ∷ [])) states.old }
 {
-    if let Ok(place) = states.binary_search_by_key(&x, |s| s.id) {
+    if let Some(place) = place_of(states, x) {
         states[place].committed = true;
     }
 }

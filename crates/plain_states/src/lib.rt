@@ -4,8 +4,8 @@
 #![tactic(auto)]
 
 mod climb;
-mod states;
+mod id_states;
 #[cfg(test)]
 mod tests;
 
-pub use states::{IdState, IdStates};
+pub use id_states::{IdState, IdStates};

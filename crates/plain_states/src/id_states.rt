@@ -1,6 +1,7 @@
 ghost use Rattle.std.specs.Prelude.{◌≡◌, ◌<◌, [], ◌∷◌, ◌++◌, false, map, IfSome, OnOk, OnErr};
 ghost use Rattle.std.specs.List.{All};
 ghost use Rattle.snap_core.specs.Says.{data_of};
+ghost use Rattle.plain_states.specs.declared.id_states.IdState.{IdState};
 ghost use Rattle.plain_states.specs.States.{with_commit};
 ghost use Rattle.plain_states.specs.Verdicts.{SeesRight};
 
@@ -29,6 +30,7 @@ pub struct IdStates {
 
 impl Model for IdStates {
     ghost use Rattle.std.specs.Prelude.{List};
+    ghost use Rattle.plain_states.specs.declared.id_states.IdState.{IdState};
 
     ghost Value = { List IdState };
 

@@ -4,6 +4,7 @@ mod CutLemmas
 mod LevelLemmas
 mod SoundLemmas
 mod StandsLemmas
+mod KeptLemmas
 mod ActsLemmas
 mod TurnLemmas
 mod GivingLemmas

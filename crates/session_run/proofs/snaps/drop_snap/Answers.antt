@@ -7,7 +7,8 @@ use Rattle.tx_model.specs.Horizon.{is_live}
 use Rattle.session_run.specs.Stands.{stance_of}
 use Rattle.session_run.proofs.ActsLemmas.{acts_idle, acts_dropped, snap_missing, none_found}
 use Rattle.session_run.proofs.SoundLemmas.{sound_still}
-use Rattle.session_run.proofs.StandsLemmas.{stood, stands, stood_dropped, live_here}
+use Rattle.session_run.proofs.KeptLemmas.{stood_dropped, live_here}
+use Rattle.session_run.proofs.StandsLemmas.{stood, stands}
 use Rattle.session_run.proofs.snaps.drop_snap.Goals as goal
 
 pub returns-in-Some-clause-acts : goal.returns-in-Some-clause-acts

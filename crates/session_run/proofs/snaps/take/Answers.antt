@@ -4,7 +4,8 @@ use Rattle.session_run.specs.declared.session.Kept.{Kept}
 use Rattle.session_run.specs.Stands.{stance_of}
 use Rattle.session_run.proofs.ActsLemmas.{acts_snapped, not_live}
 use Rattle.session_run.proofs.SoundLemmas.{sound_still}
-use Rattle.session_run.proofs.StandsLemmas.{stood, stands, stood_snapped}
+use Rattle.session_run.proofs.KeptLemmas.{stood_snapped}
+use Rattle.session_run.proofs.StandsLemmas.{stood, stands}
 use Rattle.session_run.proofs.snaps.take.Goals as goal
 
 pub snapshot-requires-clause-free : goal.snapshot-requires-clause-free

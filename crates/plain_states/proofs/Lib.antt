@@ -1,0 +1,5 @@
+pub mod Searching
+pub mod Climbing
+pub mod Commits
+pub mod States
+pub mod Seeing

@@ -1,0 +1,106 @@
+ghost use Rattle.std.specs.Prelude.{◌≡◌, ◌==◌, ◌<◌, [], ◌∷◌, map, IfSome, IfNone};
+ghost use Rattle.std.specs.List.{find};
+ghost use Rattle.snap_core.specs.Says.{data_of};
+ghost use Rattle.plain_states.specs.States.{AreKept, InOrder, IsPlaceOf, IsMissing, with_commit};
+ghost use Rattle.plain_states.specs.Verdicts.{SeesRight, ClosedRight, IsTopmost};
+ghost use Rattle.plain_states.specs.declared.id_states.IdState.{IdState};
+
+use crate::id_states::IdState;
+use snap_core::{Says, Snapshot};
+use xid_order::FullXid;
+
+/// Where the id is kept. None where it isn't.
+fn place_of(states: &[IdState], x: FullXid) -> Option<usize>
+    requires { InOrder states.now }
+    ensures some { IfSome result (IsPlaceOf states.now x) }
+    ensures none { IfNone result (IsMissing states.now x) }
+{
+    states.binary_search_by_key(&x, |s| s.id).ok()
+}
+
+/// What is kept of the id. None where nothing is.
+fn state_of(states: &[IdState], x: FullXid) -> Option<IdState>
+    requires { InOrder states.now }
+    ensures { result ≡ find (λ (s : IdState). s.id == x) states.now }
+{
+    match place_of(states, x) {
+        Some(place) => Some(states[place]),
+        None => None,
+    }
+}
+
+/// The id committed, if it is kept.
+fn mark(states: &mut [IdState], x: FullXid)
+    requires { InOrder states.old }
+    ensures { states.new ≡ map (with_commit (x ∷ [])) states.old }
+{
+    if let Some(place) = place_of(states, x) {
+        states[place].committed = true;
+    }
+}
+
+/// The ids committed.
+pub fn mark_all(states: &mut [IdState], ids: &[FullXid])
+    requires { InOrder states.old }
+    ensures { states.new ≡ map (with_commit ids.now) states.old }
+{
+    for id in ids {
+        mark(states, *id);
+    }
+}
+
+/// The id's parent. None where it has none, or nothing is kept of it.
+fn parent_of(states: &[IdState], x: FullXid) -> Option<FullXid>
+    requires { AreKept states.now }
+    ensures below { IfSome result (λ p. p < x) }
+    ensures kept { (s : IdState) → find (λ (t : IdState). t.id == x) states.now ≡ Some s → result ≡ s.parent }
+{
+    match state_of(states, x) {
+        Some(state) => state.parent,
+        None => None,
+    }
+}
+
+/// The topmost ancestor of the id, or the first one that is below `xmin`.
+fn topmost(states: &[IdState], xmin: FullXid, x: FullXid) -> FullXid
+    requires { AreKept states.now }
+    ensures { IsTopmost states.now xmin x result }
+{
+    let mut top = x;
+    while top >= xmin {
+        match parent_of(states, top) {
+            Some(parent) => top = parent,
+            None => return top,
+        }
+    }
+    top
+}
+
+/// Whether the id had ended when the snapshot was taken. One that was rolled back had, or hadn't.
+fn had_ended(states: &[IdState], snap: &Snapshot, x: FullXid) -> bool
+    requires { AreKept states.now }
+    ensures { ClosedRight states.now (data_of snap.now) x result }
+{
+    match snap.says(x) {
+        Says::Ended => true,
+        Says::Running => false,
+        Says::AskParents => {
+            let top = topmost(states, snap.xmin, x);
+            top < snap.xmin || matches!(snap.says_top(top), Says::Ended)
+        }
+    }
+}
+
+/// Whether the snapshot sees the id.
+pub fn sees(states: &[IdState], snap: &Snapshot, x: FullXid) -> bool
+    requires { AreKept states.now }
+    ensures { SeesRight states.now (data_of snap.now) x result }
+{
+    if x >= snap.xmax {
+        return false;
+    }
+    match state_of(states, x) {
+        Some(state) => state.committed && had_ended(states, snap, x),
+        None => false,
+    }
+}

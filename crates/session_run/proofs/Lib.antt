@@ -1,11 +1,8 @@
-mod FlatLemmas
-mod FlatSteps
-mod SoundLemmas
-mod LogLemmas
 mod ListLemmas
-mod StandsLemmas
-mod ActsLemmas
+mod LogLemmas
+mod Beside
 mod ProgressLemmas
 mod RoundLemmas
+mod LifeLemmas
 mod StreamLemmas
 mod RunLemmas

@@ -1,6 +1,7 @@
 //! Runs the sessions of a script over a new log, and the tool's top call.
 #![tactic(auto)]
 
+mod life;
 mod plain_log;
 mod rounds;
 mod run;

@@ -25,7 +25,7 @@ use horizon_limits::Limits;
 use snap_core::Snapshot;
 use std::alloc::{AllocError, Global};
 use std::marker::Model;
-use tx_model::{By, Copied, Counters, Event, Memory, Name, Refusal};
+use tx_model::{By, Copied, Counters, Event, EventList, Memory, Name, Refusal};
 use xid_order::FullXid;
 
 /// How many ids have their parents on one page of `pg_subtrans` (`SUBTRANS_XACTS_PER_PAGE`).
@@ -365,6 +365,15 @@ impl ProcTable {
         ensures base { IsBase self.now.base }
     {
         self.events.as_slice()
+    }
+
+    /// The base of the life and its history.
+    pub fn into_parts(self) -> (Counters, EventList)
+        ensures base { result.0 ≡ self.base }
+        ensures events { result.1 ≡ self.events }
+    {
+        let ProcTable { base, events, .. } = self;
+        (base, EventList::of(events))
     }
 }
 

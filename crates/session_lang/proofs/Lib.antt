@@ -10,4 +10,4 @@ pub mod StepLemmas
 pub mod RoundLemmas
 pub mod ScriptLemmas
 pub mod PartWayLemmas
-pub mod MoreWords
+pub mod HeaderLemmas

@@ -29,13 +29,13 @@ pub pass_digits : (ds : List ℕ) → AllByRecursion (λ b. is_ascii_digit b ≡
 pass_digits [] a = tt
 pass_digits (c ∷ cs) a = tells_digits.more c cs (test_digit c a.0) (pass_digits cs a.1)
 
--- digits stand at the front, the line's end behind them, and they are no number's but one of 32 bits
+-- digits of a number of 64 bits stand at the front, and the line's end behind them
 pub record ShowsNumber (bytes : List ℕ) : Type 0 where
   pub some : 0 < prefix_len is_ascii_digit bytes
   pub within : prefix_len is_ascii_digit bytes < length bytes
   pub ends : get_or bytes (prefix_len is_ascii_digit bytes) 0 ≡ 10
   pub plain : get_or bytes 0 0 ≡ 48 → prefix_len is_ascii_digit bytes ≡ 1
-  pub fits : digits_value 10 (take (prefix_len is_ascii_digit bytes) bytes) < 2 ^ 32
+  pub fits : digits_value 10 (take (prefix_len is_ascii_digit bytes) bytes) < 2 ^ 64
 
 first_of_front : (xs ys : List ℕ) → 0 < length xs → get_or (xs ++ ys) 0 0 ≡ get_or xs 0 0
 first_of_front [] ys l = absurd (omega arith)
@@ -45,7 +45,7 @@ zero_alone : (n : ℕ) → n < 2 ^ 64 → get_or (decimal n) 0 0 ≡ 48 → leng
 zero_alone zero l f = ap length (decimal_digit 0 (omega arith))
 zero_alone (suc n) l f = let k = first_decimal (suc n) (omega arith) l in absurd (omega arith)
 
-shows : (bytes rest : List ℕ) (n : ℕ) (ds : List ℕ) (k : ℕ) → ds ≡ decimal n → prefix_len is_ascii_digit bytes ≡ k → k ≡ length ds → n < 2 ^ 32 → bytes ≡ ds ++ 10 ∷ rest → ShowsNumber bytes
+shows : (bytes rest : List ℕ) (n : ℕ) (ds : List ℕ) (k : ℕ) → ds ≡ decimal n → prefix_len is_ascii_digit bytes ≡ k → k ≡ length ds → n < 2 ^ 64 → bytes ≡ ds ++ 10 ∷ rest → ShowsNumber bytes
 shows bytes rest n ds k d p l f t =
     let total : length bytes ≡ length ds + suc (length rest) = ap length t ∙ length-append ds (10 ∷ rest) in
     let size : length ds ≡ length (decimal n) = ap length d in
@@ -77,7 +77,7 @@ first_taken (suc n) (x ∷ xs) l = refl
 pub number_found : (bytes : List ℕ) (n v : ℕ) → n ≡ prefix_len is_ascii_digit bytes → v ≡ digits_value 10 (take n bytes) → ShowsNumber bytes → BeginsWithNumber bytes v (take (length bytes - (n + 1)) (drop (n + 1) bytes))
 number_found bytes n v p e s =
     let w = s.within in let z = s.some in let f = s.fits in
-    let small : digits_value 10 (take n bytes) < 2 ^ 32 = rw p s.fits in
+    let small : digits_value 10 (take n bytes) < 2 ^ 64 = rw p s.fits in
     let len : length (take n bytes) ≡ n = length_taken n bytes (omega arith) in
     let first : get_or (take n bytes) 0 0 ≡ get_or bytes 0 0 = first_taken n bytes (omega arith) in
     let digits : decimal v ≡ take n bytes = rw e (decimal-digits_value own (take n bytes) (pass_digits (take n bytes) (front_passes is_ascii_digit bytes n p)) (omega arith) (λ h. len ∙ p ∙ s.plain (sym first ∙ h)) (omega arith)) in
@@ -87,7 +87,7 @@ number_found bytes n v p e s =
     }
 
 -- bytes begin with one such number
-pub same_numbers : (m n : ℕ) (r s : List ℕ) → m < 2 ^ 32 → n < 2 ^ 32 → decimal m ++ 10 ∷ r ≡ decimal n ++ 10 ∷ s → (m ≡ n) × (r ≡ s)
+pub same_numbers : (m n : ℕ) (r s : List ℕ) → m < 2 ^ 64 → n < 2 ^ 64 → decimal m ++ 10 ∷ r ≡ decimal n ++ 10 ∷ s → (m ≡ n) × (r ≡ s)
 same_numbers m n r s k l t =
     let d = digits_pass (decimal m) (decimal_is_IsNumeral m (omega arith)).0.1 in
     let e = digits_pass (decimal n) (decimal_is_IsNumeral n (omega arith)).0.1 in

@@ -1,36 +1,41 @@
--- The round of a script that has commands only.
-use Rattle.std.proofs.Common.{◌≡◌, ℕ, ◌+◌, ◌≤◌, List, [], ◌∷◌, ◌++◌, refl, sym, ap, ◌∙◌, subst, arith, cond, ◌==◌, append_assoc}
+-- The rounds of a script, line by line.
+use Rattle.std.proofs.Common.{◌≡◌, ℕ, ◌+◌, List, [], ◌∷◌, ◌++◌, refl, sym, ap, ◌∙◌, subst, arith, Bool, cond, ◌==◌, length}
+use Rattle.std.proofs.Math.Seq.{drop-append_seam, take-append_seam}
 use Rattle.std.proofs.lemmas.List.{append-nil}
-use Rattle.std.proofs.lemmas.List.Elements.{All-nil, All-cons, All-head, All-tail}
-use Rattle.std.proofs.lemmas.List.Sums.{length-filter, sum_by-cons}
+use Rattle.std.proofs.lemmas.List.Elements.{All-append, All-cons, All-drop, All-head, All-nil, All-take}
+use Rattle.std.proofs.lemmas.List.Sums.{length-filter, sum_by-append}
 use Rattle.std.specs.List.{All, count_by}
 use Rattle.tx_model.specs.declared.command.Command.{Command}
 use Rattle.session_lang.specs.declared.script.Item.{Item}
 use Rattle.session_lang.specs.declared.script.Item.TheVariants as items
-use Rattle.session_lang.specs.Reading.{count_of}
-use Rattle.session_lang.specs.Rounds.{round_of, rounds_from, rounds_of, sessions_in}
-use Rattle.session_lang.specs.Script.{IsReadItem, IsShort}
+use Rattle.session_lang.specs.Rounds.{open_from, round_of, rounds_from, turns_of}
+use Rattle.session_lang.specs.Script.{IsShort}
 
-turns_in : List Item → List (ℕ × Command)
-turns_in [] = []
-turns_in (items.Run session command ∷ script) = (session, command) ∷ turns_in script
-turns_in (_ ∷ script) = turns_in script
+pub all_earlier : {X : Type 0} (P : X → Type 0) (xs ys : List X) → All P (xs ++ ys) → All P xs
+all_earlier P xs ys a = subst (All P) (take-append_seam xs ys) (All-take P (length xs) (xs ++ ys) a)
 
-one_round : (turns : List (ℕ × Command)) (script : List Item) → All IsReadItem script → rounds_from turns script ≡ round_of (turns ++ turns_in script)
-unfolding turns_in
-one_round turns [] a = ap round_of (sym (append-nil turns))
-one_round turns (items.Run session command ∷ script) a =
-    one_round (turns ++ (session, command) ∷ []) script (All-tail IsReadItem (items.Run session command) script a) ∙ ap round_of (append_assoc turns ((session, command) ∷ []) (turns_in script))
-one_round turns (x ∷ script) a = absurd (All-head IsReadItem x script a)
+pub all_later : {X : Type 0} (P : X → Type 0) (xs ys : List X) → All P (xs ++ ys) → All P ys
+all_later P xs ys a = subst (All P) (drop-append_seam xs ys) (All-drop P (length xs) (xs ++ ys) a)
 
-turns_counted : (session : ℕ) (script : List Item) → count_by (λ t. t.0 == session) (turns_in script) ≡ count_of session script
-unfolding turns_in
-turns_counted session [] = refl
-turns_counted session (items.Run s command ∷ script) =
-    sum_by-cons (λ (t : ℕ × Command). cond (t.0 == session) 1 0) (s, command) (turns_in script)
-    ∙ ap (λ n. cond (s == session) 1 0 + n) (turns_counted session script)
-    ∙ sym (sum_by-cons (λ t. cond (t == session) 1 0) s (sessions_in script))
-turns_counted session (x ∷ script) = turns_counted session script
+-- one command more in a round
+count_push : {X : Type 0} (p : X → Bool) (xs : List X) (y : X) → count_by p (xs ++ y ∷ []) ≡ count_by p xs + cond (p y) 1 0
+count_push p xs y = sum_by-append (λ x. cond (p x) 1 0) xs (y ∷ []) ∙ omega arith
+
+pub turns_push : (turns : List (ℕ × Command)) (k j : ℕ) (command : Command) → length (turns_of j (turns ++ (k, command) ∷ [])) ≡ length (turns_of j turns) + cond (k == j) 1 0
+turns_push turns k j command =
+    let test : ℕ × Command → Bool = λ t. t.0 == j in
+    length-filter test (turns ++ (k, command) ∷ []) ∙ count_push test turns (k, command) ∙ ap (λ n. n + cond (k == j) 1 0) (sym (length-filter test turns))
+
+-- the round that goes on, with a line more
+pub open_push : (turns : List (ℕ × Command)) (before : List Item) (k : ℕ) (command : Command) → open_from turns (before ++ items.Run k command ∷ []) ≡ open_from turns before ++ (k, command) ∷ []
+open_push turns [] k command = refl
+open_push turns (items.Run s c ∷ before) k command = open_push (turns ++ (s, c) ∷ []) before k command
+open_push turns (x ∷ before) k command = open_push [] before k command
+
+pub open_end : (turns : List (ℕ × Command)) (before : List Item) → open_from turns (before ++ items.Round ∷ []) ≡ []
+open_end turns [] = refl
+open_end turns (items.Run s c ∷ before) = open_end (turns ++ (s, c) ∷ []) before
+open_end turns (x ∷ before) = open_end [] before
 
 short_round : (turns : List (ℕ × Command)) → IsShort turns → All IsShort (round_of turns)
 short_round [] s = All-nil IsShort
@@ -40,11 +45,33 @@ round_short : (turns : List (ℕ × Command)) → All IsShort (round_of turns) �
 round_short [] a = λ session. omega arith
 round_short (t ∷ turns) a = All-head IsShort (t ∷ turns) [] a
 
-pub few_short : (script : List Item) → All IsReadItem script → ((session : ℕ) → count_of session script ≤ 100000) → All IsShort (rounds_of script)
-few_short script a few =
-    subst (All IsShort) (sym (one_round [] script a)) (short_round (turns_in script) (λ session. let e = length-filter (λ (t : ℕ × Command). t.0 == session) (turns_in script) in let f = turns_counted session script in let g = few session in omega arith))
+-- the rounds with a line more
+pub rounds_end : (turns : List (ℕ × Command)) (before : List Item) → rounds_from turns (before ++ items.Round ∷ []) ≡ rounds_from turns before
+rounds_end turns [] = append-nil (round_of turns)
+rounds_end turns (items.Run s c ∷ before) = rounds_end (turns ++ (s, c) ∷ []) before
+rounds_end turns (x ∷ before) = ap (λ t. round_of turns ++ t) (rounds_end [] before)
 
-pub short_few : (script : List Item) → All IsReadItem script → All IsShort (rounds_of script) → (session : ℕ) → count_of session script ≤ 100000
-short_few script a short session =
-    let s = round_short (turns_in script) (subst (All IsShort) (one_round [] script a) short) session in
-    let e = length-filter (λ (t : ℕ × Command). t.0 == session) (turns_in script) in let f = turns_counted session script in omega arith
+pub short_push : (turns : List (ℕ × Command)) (before : List Item) (k : ℕ) (command : Command) → All IsShort (rounds_from turns before) → IsShort (open_from turns before ++ (k, command) ∷ []) → All IsShort (rounds_from turns (before ++ items.Run k command ∷ []))
+short_push turns [] k command a s = short_round (turns ++ (k, command) ∷ []) s
+short_push turns (items.Run m c ∷ before) k command a s = short_push (turns ++ (m, c) ∷ []) before k command a s
+short_push turns (x ∷ before) k command a s =
+    All-append IsShort (round_of turns) (rounds_from [] (before ++ items.Run k command ∷ [])) (all_earlier IsShort (round_of turns) (rounds_from [] before) a) (short_push [] before k command (all_later IsShort (round_of turns) (rounds_from [] before) a) s)
+
+-- a round is short while it goes on
+pub open_short : (turns : List (ℕ × Command)) (before : List Item) → All IsShort (rounds_from turns before) → IsShort (open_from turns before)
+open_short turns [] a = round_short turns a
+open_short turns (items.Run s c ∷ before) a = open_short (turns ++ (s, c) ∷ []) before a
+open_short turns (x ∷ before) a = open_short [] before (all_later IsShort (round_of turns) (rounds_from [] before) a)
+
+front_short : (turns : List (ℕ × Command)) (later : List Item) → All IsShort (rounds_from turns later) → IsShort turns
+front_short turns [] a = round_short turns a
+front_short turns (items.Run s c ∷ later) a =
+    λ session. let w = front_short (turns ++ (s, c) ∷ []) later a session in let e = turns_push turns s session c in omega arith
+front_short turns (x ∷ later) a = round_short turns (all_earlier IsShort (round_of turns) (rounds_from [] later) a)
+
+-- so also with the next command of the script
+pub next_short : (turns : List (ℕ × Command)) (before : List Item) (k : ℕ) (command : Command) (later : List Item) → All IsShort (rounds_from turns (before ++ items.Run k command ∷ later)) → IsShort (open_from turns before ++ (k, command) ∷ [])
+next_short turns [] k command later a = front_short (turns ++ (k, command) ∷ []) later a
+next_short turns (items.Run s c ∷ before) k command later a = next_short (turns ++ (s, c) ∷ []) before k command later a
+next_short turns (x ∷ before) k command later a =
+    next_short [] before k command later (all_later IsShort (round_of turns) (rounds_from [] (before ++ items.Run k command ∷ later)) a)

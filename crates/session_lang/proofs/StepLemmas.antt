@@ -1,10 +1,11 @@
 -- One line more.
-use Rattle.std.proofs.Common.{◌≡◌, ◌≢◌, ℕ, ◌+◌, ◌<◌, ◌≤◌, List, [], ◌∷◌, ◌++◌, refl, sym, ap, ◌∙◌, length, zero, suc, arith, Bool, true, false, cond, ◌==◌, get_or, get_or-set_same, get_or-set_other, set, length-append, eqb-true, eq-eqb}
+use Rattle.std.proofs.Common.{◌≡◌, ◌≢◌, ℕ, ◌+◌, ◌<◌, ◌≤◌, List, [], ◌∷◌, ◌++◌, refl, sym, ap, ◌∙◌, length, zero, suc, arith, Bool, true, false, cond, ◌==◌, get_or, get_or-set_same, get_or-set_other, set, length-append, eqb-true, eq-eqb, replicate, subst, ⊎_elim, Result, Ok, Err, OnOk}
 use Rattle.std.proofs.Math.Seq.{get_or-append_seam}
 use Rattle.std.proofs.lemmas.Bool.{false≢true}
-use Rattle.std.proofs.lemmas.List.{get_or_past, length-set}
+use Rattle.std.proofs.lemmas.Bool.{cases_lt}
+use Rattle.std.proofs.lemmas.List.{get_or_past, get_or-replicate, length-replicate, length-set}
 use Rattle.std.proofs.lemmas.List.Elements.{All-nil, All-push}
-use Rattle.std.specs.List.{IsDistinct, range_with_len}
+use Rattle.std.specs.List.{All, IsDistinct, range_with_len}
 use Rattle.tx_model.specs.declared.command.Command.{Command}
 use Rattle.tx_model.specs.Events.{same_name}
 use Rattle.tx_model.specs.Places.{first_seen}
@@ -12,10 +13,11 @@ use Rattle.session_lang.specs.declared.script.Item.{Item}
 use Rattle.session_lang.specs.declared.script.Item.TheVariants as items
 use Rattle.session_lang.specs.Names.{IsName}
 use Rattle.session_lang.specs.Reading.{HasRead, IsNew, count_of}
-use Rattle.session_lang.specs.Rounds.{sessions_in}
-use Rattle.session_lang.specs.Script.{IsRead, IsReadItem}
-use Rattle.session_lang.proofs.CountLemmas.{count_of_push, sessions_push, range_push}
+use Rattle.session_lang.specs.Rounds.{open_round, rounds_of, sessions_in, turns_of}
+use Rattle.session_lang.specs.Script.{IsRead, IsReadItem, IsShort}
+use Rattle.session_lang.proofs.CountLemmas.{count_of_push, sessions_end, sessions_push, range_push}
 use Rattle.session_lang.proofs.DistinctLemmas.{distinct_push}
+use Rattle.session_lang.proofs.RoundLemmas.{open_end, open_short, rounds_end, short_push, turns_push}
 use Rattle.session_lang.proofs.SeenLemmas.{push_old, push_next, has_appeared, not_yet}
 
 distinct_none : IsDistinct same_name []
@@ -31,7 +33,7 @@ has_read_none counts e = record {
   sessions = omega arith;
   lengths = ap length e;
   counted = λ k. ap (λ l. get_or l k 0) e;
-  few = λ k. omega arith;
+  short = All-nil IsShort;
 }
 
 set_counted : (counts : List ℕ) (k n j m : ℕ) (b : Bool) → (k == j) ≡ b → k < length counts → n ≡ get_or counts k 0 + 1 → get_or counts j 0 ≡ m → get_or (set counts k n) j 0 ≡ m + cond b 1 0
@@ -50,6 +52,10 @@ few_more : (counts : List ℕ) (k n j m : ℕ) (b : Bool) → (k == j) ≡ b →
 few_more counts k n j m true e s l t f = let v = ap (λ i. get_or counts i 0) (eqb-true k j e) in omega arith
 few_more counts k n j m false e s l t f = omega arith
 
+-- the round with a command more is short where each count is
+short_more : (before : List Item) (k : ℕ) (command : Command) → All IsShort (rounds_of before) → ((j : ℕ) → count_of j before + cond (k == j) 1 0 ≤ 100000) → All IsShort (rounds_of (before ++ items.Run k command ∷ []))
+short_more before k command a few = short_push [] before k command a (λ j. let f = few j in let e = turns_push (open_round before) k j command in omega arith)
+
 -- of a session that has one
 pub has_read_old : (named : List (List ℕ)) (counts : List ℕ) (before : List Item) (k n : ℕ) (command : Command) → HasRead named counts before → k < length named → n ≡ get_or counts k 0 → n < 100000 → IsRead command → HasRead named (set counts k (n + 1)) (before ++ items.Run k command ∷ [])
 has_read_old named counts before k n command h l e f r =
@@ -62,7 +68,7 @@ has_read_old named counts before k n command h l e f r =
       sessions = h.sessions;
       lengths = length-set counts k (n + 1) ∙ h.lengths;
       counted = λ j. set_counted counts k (n + 1) j (count_of j before) (k == j) refl (omega arith) (ap (λ m. m + 1) e) (h.counted j) ∙ sym (count_of_push before k j command);
-      few = λ j. rw (count_of_push before k j command) (few_more counts k n j (count_of j before) (k == j) refl e f (h.counted j) (h.few j));
+      short = short_more before k command h.short (λ j. few_more counts k n j (count_of j before) (k == j) refl e f (h.counted j) (open_short [] before h.short j));
     }
 
 push_other : (counts : List ℕ) (y j : ℕ) → j ≢ length counts → get_or (counts ++ y ∷ []) j 0 ≡ get_or counts j 0
@@ -104,5 +110,30 @@ has_read_new named counts before name command h new i l r =
       sessions = omega arith;
       lengths = lengths;
       counted = λ j. new_counted counts k j (count_of j before) (k == j) refl (sym h.lengths) (h.counted j) ∙ sym (count_of_push before k j command);
-      few = λ j. rw (count_of_push before k j command) (few_new counts k j (count_of j before) (k == j) refl (sym h.lengths) (h.counted j) (h.few j));
+      short = short_more before k command h.short (λ j. few_new counts k j (count_of j before) (k == j) refl (sym h.lengths) (h.counted j) (open_short [] before h.short j));
     }
+
+abbrev none_of : ℕ → List ℕ
+none_of n = replicate n 0
+
+zeros : (n j : ℕ) → get_or (none_of n) j 0 ≡ 0
+zeros n j =
+    ⊎_elim (λ l. get_or-replicate n j 0 0 l) (λ l. let e : length (none_of n) ≡ n = length-replicate n 0 in get_or_past (none_of n) j 0 (omega arith)) (cases_lt j n)
+
+-- the end of a round
+pub has_read_end : (named : List (List ℕ)) (counts : List ℕ) (before : List Item) → HasRead named counts before → HasRead named (replicate (length counts) 0) (before ++ items.Round ∷ [])
+has_read_end named counts before h = record {
+  read = All-push IsReadItem before items.Round h.read tt;
+  names = h.names;
+  distinct = h.distinct;
+  numbered = ap first_seen (sessions_end before) ∙ h.numbered;
+  sessions = h.sessions;
+  lengths = length-replicate (length counts) 0 ∙ h.lengths;
+  counted = λ j. zeros (length counts) j ∙ sym (ap (λ t. length (turns_of j t)) (open_end [] before));
+  short = subst (All IsShort) (sym (rounds_end [] before)) h.short;
+}
+
+pub end_round : {T E : Type 0} (r : Result T E) (named : List (List ℕ)) (counts : List ℕ) (before : List Item) (counts' : List ℕ) (after : List Item) → HasRead named counts before → counts' ≡ replicate (length counts) 0 → OnOk r (after ≡ before ++ items.Round ∷ []) → OnOk r (HasRead named counts' after)
+end_round (Ok x) named counts before counts' after h c a =
+    subst (λ k. HasRead named k after) (sym c) (subst (HasRead named (replicate (length counts) 0)) (sym a) (has_read_end named counts before h))
+end_round (Err x) named counts before counts' after h c a = tt

@@ -1,5 +1,5 @@
 -- The commands of a script, round by round.
-use Rattle.std.specs.Prelude.{ℕ, Bool, List, [], ◌∷◌, ◌++◌, Option, Some, None, ◌==◌}
+use Rattle.std.specs.Prelude.{ℕ, List, [], ◌∷◌, ◌++◌, Option, Some, None, ◌==◌}
 use Rattle.std.specs.List.{filter, filter_map}
 use Rattle.tx_model.specs.declared.command.Command.{Command}
 use Rattle.session_lang.specs.declared.script.Item.{Item}
@@ -26,6 +26,15 @@ rounds_from turns (_ ∷ script) = round_of turns ++ rounds_from [] script
 
 abbrev pub rounds_of : List Item → List (List (ℕ × Command))
 rounds_of script = rounds_from [] script
+
+-- the commands since the last directive
+abbrev pub open_from : List (ℕ × Command) → List Item → List (ℕ × Command)
+open_from turns [] = turns
+open_from turns (items.Run session command ∷ script) = open_from (turns ++ (session, command) ∷ []) script
+open_from turns (_ ∷ script) = open_from [] script
+
+abbrev pub open_round : List Item → List (ℕ × Command)
+open_round script = open_from [] script
 
 -- a session's commands in a round
 abbrev pub turns_of : ℕ → List (ℕ × Command) → List (ℕ × Command)

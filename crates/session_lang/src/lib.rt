@@ -1,10 +1,9 @@
-//! The script that the tool reads and the report that it writes, as text.
+//! The script that the tool reads, as text. The text of the report that it writes is `report_text`.
 #![tactic(auto)]
 
 mod parser;
-mod print;
 mod script;
 
 pub use parser::parse;
-pub use print::print_report;
-pub use script::{Item, ItemList, Kind, ParseRefusal, Script};
+pub use report_text::print_report;
+pub use script::{Directive, Item, ItemList, Kind, ParseRefusal, Script};

@@ -1,26 +1,25 @@
 //! Bytes to a script.
 
-ghost use Rattle.std.specs.Prelude.{◌≡◌, ℕ, List, IfOk, IfErr, OnOk, Err};
-ghost use Rattle.tx_model.specs.declared.command.Command.{Command};
-ghost use Rattle.tx_model.specs.Base.{first_base};
+ghost use Rattle.std.specs.Prelude.{◌≡◌, [], IfOk, IfErr, OnOk, Err};
 ghost use Rattle.session_lang.specs.declared.script.Script.{Script};
-ghost use Rattle.session_lang.specs.Lines.{BeginsWithLine};
-ghost use Rattle.session_lang.specs.Reading.{AddsLine, HasRead, IsStuck};
+ghost use Rattle.session_lang.specs.Reading.{HasRead, IsBody, IsPartWay, IsStuck, ReadsOn};
 ghost use Rattle.session_lang.specs.Refused.{IsRefused};
 ghost use Rattle.session_lang.specs.Script.{IsScript};
 
+mod header;
 mod line;
 mod reading;
 #[cfg(test)]
 mod tests;
 mod word;
 
+use crate::parser::header::read_header;
 use crate::parser::line::read_line;
 use crate::parser::reading::{Reading, Refused};
+use crate::parser::word::after;
 use crate::script::{Kind, ParseRefusal, Script};
 use std::alloc::Global;
-use tx_model::{Counters, Memory};
-use xid_order::{FullMulti, FullXid};
+use tx_model::Memory;
 
 /// The bytes that a script may have.
 const MAX_BYTES: usize = 16_777_216;
@@ -28,30 +27,25 @@ const MAX_BYTES: usize = 16_777_216;
 /// The banks of a store where the script doesn't say.
 const BANKS: u32 = 4;
 
-/// The counters of a new log.
-#[tactic(auto, unfolding(tx_model::specs::Base::first_base))]
-fn first_counters() -> Counters
-    ensures { result ≡ first_base }
-{
-    let id = FullXid::new(3).unwrap();
-    let multi = FullMulti::new(1).unwrap();
-    Counters {
-        next: id,
-        oldest: id,
-        multi,
-        offset: 1,
-        oldest_multi: multi,
-        oldest_offset: 1,
-    }
-}
+/// The fault of bytes that are no script.
+const NO_SCRIPT: ParseRefusal = ParseRefusal::Fault {
+    line: 0,
+    kind: Kind::Form,
+};
 
 /// Reads the line at the front. What is returned begins with the next one.
 fn read_on<'a>(alloc: Global, reading: &mut Reading, bytes: &'a [u8]) -> Result<&'a [u8], Refused>
     requires so_far { HasRead reading.old.names reading.old.commands.items reading.old.items }
     ensures so_far { OnOk result (HasRead reading.new.names reading.new.commands.items reading.new.items) }
-    ensures line { IfOk result (λ rest. (name : List ℕ) × (command : Command) × BeginsWithLine bytes.now name command rest.now × AddsLine reading.old.names reading.old.items name command reading.new.names reading.new.items) }
+    ensures line { IfOk result (λ rest. ReadsOn reading.old.names reading.old.items bytes.now reading.new.names reading.new.items rest.now) }
     ensures stuck { result ≡ Err Refused.Form → IsStuck reading.old.names reading.old.items bytes.now }
 {
+    if let Some(rest) = after(bytes, b".round\n") {
+        return match reading.end_round() {
+            Ok(()) => Ok(rest),
+            Err(Memory) => Err(Refused::Memory),
+        };
+    }
     match read_line(alloc, bytes) {
         Ok(Some((name, command, rest))) => match reading.add(alloc, name, command) {
             Ok(()) => Ok(rest),
@@ -62,8 +56,25 @@ fn read_on<'a>(alloc: Global, reading: &mut Reading, bytes: &'a [u8]) -> Result<
     }
 }
 
-/// Reads bytes as a script: at most 16,777,216 bytes, 64 sessions and 100,000 commands of each. The script is the
-/// only one with these bytes.
+/// Reads the lines behind the header.
+fn read_body(alloc: Global, bytes: &[u8]) -> Result<Reading, Refused>
+    ensures so_far { IfOk result (λ r. HasRead r.names r.commands.items r.items) }
+    ensures all { IfOk result (λ r. IsPartWay bytes.now r.names r.items []) }
+    ensures stuck { result ≡ Err Refused.Form → (s : Script) → IsBody s bytes.now → ⊥ }
+{
+    let mut reading = Reading::new(alloc);
+    let mut rest = bytes;
+    while !rest.is_empty() {
+        match read_on(alloc, &mut reading, rest) {
+            Ok(tail) => rest = tail,
+            Err(refused) => return Err(refused),
+        }
+    }
+    Ok(reading)
+}
+
+/// Reads bytes as a script: at most 16,777,216 bytes, 64 sessions, and in each round 100,000 commands of each. The
+/// script is the only one with these bytes.
 ///
 /// A fault, of line 0 and of kind `Form`, is exactly where no script has them. Want of memory may come at any time.
 pub fn parse(alloc: Global, bytes: &[u8]) -> Result<Script, ParseRefusal>
@@ -72,28 +83,19 @@ pub fn parse(alloc: Global, bytes: &[u8]) -> Result<Script, ParseRefusal>
     ensures fault { IfErr result (λ e. IsRefused e bytes.now) }
 {
     if bytes.len() > MAX_BYTES {
-        return Err(ParseRefusal::Fault {
-            line: 0,
-            kind: Kind::Form,
-        });
+        return Err(NO_SCRIPT);
     }
-    let mut reading = Reading::new(alloc);
-    let mut rest = bytes;
-    while !rest.is_empty() {
-        match read_on(alloc, &mut reading, rest) {
-            Ok(tail) => rest = tail,
-            Err(Refused::Form) => {
-                return Err(ParseRefusal::Fault {
-                    line: 0,
-                    kind: Kind::Form,
-                });
-            }
-            Err(Refused::Memory) => return Err(ParseRefusal::Memory),
-        }
-    }
+    let Some((base, body)) = read_header(bytes) else {
+        return Err(NO_SCRIPT);
+    };
+    let reading = match read_body(alloc, body) {
+        Ok(reading) => reading,
+        Err(Refused::Form) => return Err(NO_SCRIPT),
+        Err(Refused::Memory) => return Err(ParseRefusal::Memory),
+    };
     let Reading { names, items, .. } = reading;
     Ok(Script {
-        base: first_counters(),
+        base,
         banks: BANKS,
         names,
         items,

@@ -1,4 +1,14 @@
 use tx_model::{Command, Copied, Counters, DumpOf, How, Memory, NameList, Sequence};
+use xid_order::FullXid;
+
+/// A line of a script's header, which stands before all other lines.
+#[derive(Clone, Copy, Debug)]
+pub enum Directive {
+    /// The next id, from 3 to 2^62.
+    Start { next: FullXid },
+    /// The oldest id that is still asked for, from 3 to 2^62.
+    Oldest { oldest: FullXid },
+}
 
 /// A line of a script that isn't of its header.
 #[derive(Clone, Drop)]

@@ -12,7 +12,9 @@ mod EndLemmas
 mod WriteLemmas
 mod RoomLemmas
 mod SeenLemmas
+mod Beside
 mod ProgressLemmas
 mod RoundLemmas
+mod LifeLemmas
 mod StreamLemmas
 mod RunLemmas

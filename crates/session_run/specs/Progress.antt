@@ -1,12 +1,20 @@
--- Sessions in the middle of their commands.
-use Rattle.std.specs.Prelude.{◌≡◌, ℕ, ◌+◌, ◌≤◌, List, [], Some, slice_get, length}
-use Rattle.std.specs.List.{AllByRecursion, count_by}
+-- A life in the middle of its rounds.
+use Rattle.std.specs.Prelude.{◌≡◌, ℕ, ◌+◌, ◌<◌, ◌≤◌, ◌^◌, List, [], ◌∷◌, ◌++◌, Some, slice_get, length}
+use Rattle.std.specs.List.{AllByRecursion, count_by, flat_map}
+use Rattle.tx_model.specs.declared.command.Command.{Command}
+use Rattle.tx_model.specs.declared.record.Counters.{Counters}
+use Rattle.tx_model.specs.declared.record.Rec.TheVariants as records
 use Rattle.tx_model.specs.declared.report.Line.{Line}
-use Rattle.tx_model.specs.Lines.{AreLawfulLines, stance, is_line_of}
+use Rattle.tx_model.specs.declared.report.Step.{Step}
+use Rattle.tx_model.specs.declared.report.Step.TheVariants as steps
+use Rattle.tx_model.specs.LawfulLife.{lines_in}
+use Rattle.tx_model.specs.Lines.{AreLawfulLines, AreLinesOf, stance, is_line_of}
+use Rattle.proc_table.specs.Table.{page_of}
+use Rattle.session_run.specs.declared.life.OpenLife.{OpenLife}
 use Rattle.session_run.specs.declared.session.Session.{Session}
 use Rattle.session_run.specs.declared.shared.Shared.{Shared}
 use Rattle.session_run.specs.Stands.{Stands, stance_of}
-use Rattle.session_run.specs.Acts.{IsSoundAt}
+use Rattle.session_run.specs.Acts.{ActsOn, GrowsLittle, IsSoundAt, StandsAt}
 
 -- the line isn't of a later command of the session
 abbrev pub IsNotLater : ℕ → ℕ → Line → Type 0
@@ -26,6 +34,53 @@ pub record Progress (w : Shared) (sessions : List Session) (lines : List Line) :
   pub all : length sessions ≡ w.table.sessions
   pub each : (k : ℕ) (s : Session) → slice_get sessions k ≡ Some s → IsLeft w lines k s
 
+-- the session ran its next command, and its line says so
+pub record Ran (w w' : Shared) (number : ℕ) (s s' : Session) (c : Command) (l : Line) : Type 0 where
+  pub by : l.by ≡ record { session = number; command = s.commands + 1 }
+  pub command : l.command ≡ c
+  pub acts : ActsOn w w' l.by s s' l.command l.reply
+  pub sound : IsSoundAt w'
+  pub stands : StandsAt w' l.by s'
+  pub few : GrowsLittle w w'
+  pub count : s'.commands ≡ s.commands + 1
+
 -- the log has few records, since the lines are few
 abbrev pub AreFew : Shared → List Line → Type 0
 AreFew w lines = length w.log.recs ≤ 1 + length lines
+
+-- the lines of the rounds that are done, and of the one that runs
+abbrev pub lines_of : OpenLife → List Line
+lines_of life = flat_map lines_in life.steps ++ life.lines
+
+-- the log has room for so many lines more
+abbrev pub MayAdd : OpenLife → ℕ → Type 0
+MayAdd life n = length (lines_of life) + n < 2 ^ 28
+
+-- the life may go on
+pub record GoesOn (life : OpenLife) : Type 0 where
+  pub progress : Progress life.shared life.sessions.items (lines_of life)
+  pub few : AreFew life.shared (lines_of life)
+
+-- the session has done nothing yet
+abbrev pub IsFresh : Session → Type 0
+IsFresh s = (s.commands ≡ 0) × (s.named.items ≡ []) × (s.unnamed ≡ 0) × (s.opened.items ≡ []) × (s.kept.items ≡ [])
+
+-- nothing has happened yet, and the log has the checkpoint of the base
+pub record IsNew (base : Counters) (sessions : ℕ) (w : Shared) : Type 0 where
+  pub table : w.table ≡ record { base = base; sessions = sessions; frontier = page_of base.next; events = [] }
+  pub recs : w.log.recs ≡ records.Checkpoint 0 base ∷ []
+  pub states : w.states ≡ []
+
+-- the life is the one that began so
+pub record IsSameLife (life life' : OpenLife) : Type 0 where
+  pub base : life'.shared.table.base ≡ life.shared.table.base
+  pub sessions : length life'.sessions.items ≡ length life.sessions.items
+
+-- a round's step, where the round has lines
+abbrev pub round_step : ℕ → List Line → List Step
+round_step n [] = []
+round_step n (l ∷ lines) = steps.Round n (l ∷ lines) ∷ []
+
+-- the steps are these and then a round of these commands, where there are any
+abbrev pub AddsRound : List Step → List (ℕ × Command) → List Step → Type 0
+AddsRound before turns after = (lines : List Line) × AreLinesOf turns lines × (after ≡ before ++ round_step (length before + 1) lines)

@@ -3,6 +3,7 @@
 
 mod ends;
 mod levels;
+mod life;
 mod plain_log;
 mod rounds;
 mod run;

@@ -50,6 +50,13 @@ impl<T> Sequence<T> {
         }
     }
 
+    /// The items of a `Vec`. Takes no memory.
+    pub fn of(items: Vec<T>) -> Self
+        ensures { result ≡ items.items }
+    {
+        Sequence { items }
+    }
+
     /// The items, in order.
     pub fn items(&self) -> &[T]
         ensures { result.now ≡ self.now }

@@ -8,14 +8,14 @@ ghost use Rattle.session_lang.specs.Script.{IsRead};
 ghost use Rattle.session_lang.specs.Reading.{AddsLine, HasRead, IsFull, IsNew, count_of};
 
 use crate::parser::word::name_of;
-use crate::script::{Item, ItemList, Kind, ParseRefusal};
+use crate::script::{Item, ItemList};
 use std::alloc::Global;
 use tx_model::{Command, Memory, Name, NameList};
 
 /// The sessions that a script may have.
 const MAX_SESSIONS: usize = 64;
 
-/// The commands that a session may have.
+/// The commands that a session may have in a round.
 const MAX_COMMANDS: u32 = 100_000;
 
 /// Why reading can't go on.
@@ -27,7 +27,7 @@ pub enum Refused {
     Memory,
 }
 
-/// The lines read so far, the names in them, and how many commands each session has.
+/// The lines read so far, the names in them, and how many commands each session has in the round that goes on.
 #[derive(Drop)]
 pub struct Reading {
     pub names: NameList,
@@ -128,5 +128,16 @@ impl Reading {
             Some(session) => self.add_old(session, command),
             None => self.add_new(alloc, name, command),
         }
+    }
+
+    /// Ends the round: each session may have as many commands again.
+    pub fn end_round(&mut self) -> Result<(), Memory>
+        requires so_far { HasRead self.old.names self.old.commands.items self.old.items }
+        ensures so_far { OnOk result (HasRead self.new.names self.new.commands.items self.new.items) }
+        ensures names { OnOk result (self.new.names ≡ self.old.names) }
+        ensures items { OnOk result (self.new.items ≡ self.old.items ++ items.Round ∷ []) }
+    {
+        self.commands.fill(0);
+        self.items.push(Item::Round)
     }
 }

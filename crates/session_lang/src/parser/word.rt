@@ -78,21 +78,21 @@ pub fn read_name(bytes: &[u8], end: u8) -> Option<(&[u8], &[u8])>
 }
 
 /// What these digits say, where it fits.
-fn number_of(digits: &[u8]) -> Option<u32>
+fn number_of(digits: &[u8]) -> Option<u64>
     requires digits { AllDigits 10 digits.now }
     requires some { 0 < length digits.now }
     ensures found { IfSome result (λ n. n ≡ digits_value 10 digits.now) }
-    ensures fits { IfSome result (λ n. n < 2 ^ 32) }
-    ensures none { IfNone result (2 ^ 32 ≤ digits_value 10 digits.now) }
+    ensures fits { IfSome result (λ n. n < 2 ^ 64) }
+    ensures none { IfNone result (2 ^ 64 ≤ digits_value 10 digits.now) }
 {
     let Ok(text) = str::from_utf8(digits) else {
         return None;
     };
-    text.parse::<u32>().ok()
+    text.parse::<u64>().ok()
 }
 
 /// The number at the end of a line, and the bytes from the next line on.
-pub fn read_number(bytes: &[u8]) -> Option<(u32, &[u8])>
+pub fn read_number(bytes: &[u8]) -> Option<(u64, &[u8])>
     ensures found { IfSome result (λ r. BeginsWithNumber bytes.now r.0 r.1.now) }
     ensures none { IfNone result ((n : ℕ) (rest : List ℕ) → BeginsWithNumber bytes.now n rest → ⊥) }
 {

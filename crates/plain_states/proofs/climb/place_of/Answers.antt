@@ -15,4 +15,4 @@ pub returns : goal.returns
 returns c =
     let facts = c.binary_search_by_key.ensures in
     let by_key = facts.position (λ s. s.id) (answers_always _ _ _ (λ f a r g called. search rules)) in
-    rw c.ok.ensures.value (as_option c.args.states.now c.args.x c.binary_search_by_key.result (searched _ _ _ c.requires facts.bound by_key))
+    rw c.ok.ensures.value (as_option c.args.states.now c.args.x c.binary_search_by_key.result (searched c.args.states.now c.args.x c.binary_search_by_key.result c.requires facts.bound by_key))

@@ -1,0 +1,80 @@
+-- The text of a report.
+use Rattle.std.specs.Prelude.{ℕ, ◌+◌, List, [], ◌∷◌, ◌++◌, codes, Option, Some, None}
+use Rattle.std.specs.List.{flat_map}
+use Rattle.std.specs.Fmt.{decimal}
+use Rattle.report_text.specs.Words.{line_text}
+use Rattle.report_text.specs.CommandText.{command_words}
+use Rattle.report_text.specs.ReplyText.{reply_words}
+use Rattle.report_text.specs.EventText.{event_words, multi_event_words, by_words}
+use Rattle.report_text.specs.RecordText.{counters_words, records_text}
+use Rattle.tx_model.specs.declared.event.Event.{Event}
+use Rattle.tx_model.specs.declared.multi.MultiEvent.{MultiEvent}
+use Rattle.tx_model.specs.declared.report.DumpOf.{DumpOf}
+use Rattle.tx_model.specs.declared.report.DumpOf.TheVariants as dumps
+use Rattle.tx_model.specs.declared.report.Line.{Line}
+use Rattle.tx_model.specs.declared.report.Step.{Step}
+use Rattle.tx_model.specs.declared.report.Step.TheVariants as steps
+use Rattle.tx_model.specs.declared.report.How.{How}
+use Rattle.tx_model.specs.declared.report.How.TheVariants as hows
+use Rattle.tx_model.specs.declared.report.LifeReport.{LifeReport}
+use Rattle.tx_model.specs.declared.report.Report.{Report}
+
+-- a command with its reply
+abbrev pub command_line : List (List ℕ) → Line → List ℕ
+command_line names l = line_text (by_words names l.by ++ command_words l.command ++ codes "->" ∷ reply_words names l.reply)
+
+-- what a dump shows bytes of
+abbrev pub dump_words : DumpOf → List (List ℕ)
+dump_words dumps.Log = codes "log" ∷ []
+dump_words (dumps.Xact page) = codes "xact" ∷ decimal page ∷ []
+dump_words (dumps.Subtrans page) = codes "subtrans" ∷ decimal page ∷ []
+dump_words (dumps.Offsets page) = codes "offsets" ∷ decimal page ∷ []
+dump_words (dumps.Members page) = codes "members" ∷ decimal page ∷ []
+
+-- a step
+unfoldable pub step_text : List (List ℕ) → Step → List ℕ
+step_text names (steps.Round number lines) = line_text (codes "round" ∷ decimal number ∷ []) ++ flat_map (command_line names) lines
+step_text names (steps.Checkpoint reply) = line_text (codes "checkpoint" ∷ codes "->" ∷ reply_words names reply)
+step_text names (steps.Dump what at length reply) =
+    line_text (codes "dump" ∷ dump_words what ++ decimal at ∷ decimal length ∷ codes "->" ∷ reply_words names reply)
+
+-- the crash that ended a life
+unfoldable pub crash_text : Option How → List ℕ
+crash_text None = []
+crash_text (Some hows.Lost) = line_text (codes "crash" ∷ codes "lost" ∷ [])
+crash_text (Some hows.Kept) = line_text (codes "crash" ∷ codes "kept" ∷ [])
+crash_text (Some hows.Torn) = line_text (codes "crash" ∷ codes "torn" ∷ [])
+
+-- the line that begins a life
+unfoldable pub life_line : ℕ → LifeReport → List ℕ
+life_line number r = line_text (codes "life" ∷ decimal number ∷ codes "from" ∷ decimal r.life.from ∷ counters_words r.life.base)
+
+-- its history
+unfoldable pub history_text : List (List ℕ) → List Event → List ℕ
+history_text names h = line_text (codes "history" ∷ []) ++ flat_map (λ e. line_text (event_words names e)) h
+
+-- its multixacts
+unfoldable pub multis_text : List (List ℕ) → List MultiEvent → List ℕ
+multis_text names h = line_text (codes "multis" ∷ []) ++ flat_map (λ e. line_text (multi_event_words names e)) h
+
+-- its log
+unfoldable pub log_text : LifeReport → List ℕ
+log_text r =
+    line_text (codes "log" ∷ codes "flushed" ∷ decimal r.life.flushed ∷ codes "end" ∷ decimal r.life.end ∷ [])
+    ++ records_text r.life.from r.life.recs
+
+-- a life
+abbrev pub life_text : List (List ℕ) → ℕ → LifeReport → List ℕ
+life_text names number r =
+    life_line number r ++ flat_map (step_text names) r.steps ++ history_text names r.life.events
+    ++ multis_text names r.life.multis ++ log_text r ++ crash_text r.crash
+
+-- lives, numbered from here on
+unfoldable pub lives_text : List (List ℕ) → ℕ → List LifeReport → List ℕ
+lives_text names number [] = []
+lives_text names number (l ∷ lives) = life_text names number l ++ lives_text names (number + 1) lives
+
+-- the report of a run
+abbrev pub report_text : Report → List ℕ
+report_text r =
+    line_text (codes "txid" ∷ codes "report" ∷ codes "1" ∷ []) ++ lives_text r.names 1 r.lives ++ line_text (codes "end" ∷ [])

@@ -1,0 +1,16 @@
+//! The report that the tool writes, as text.
+#![tactic(auto)]
+
+mod command;
+mod event;
+mod member;
+mod record;
+mod refusal;
+mod reply;
+mod report;
+mod step;
+#[cfg(test)]
+mod tests;
+mod text;
+
+pub use report::print_report;

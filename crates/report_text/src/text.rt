@@ -1,0 +1,148 @@
+//! A text that grows at its end, by words, numbers and lines.
+ghost use Rattle.std.specs.Prelude.{◌≡◌, ℕ, List, [], ◌∷◌, ◌++◌, ◌^◌, OnOk, OnErr};
+ghost use Rattle.std.specs.Fmt.{decimal};
+ghost use Rattle.report_text.specs.Words.{more, line_text, numbers, numbers_or_dash, yes_or_no, name_at};
+
+use itoa::Buffer;
+use std::alloc::Global;
+use std::marker::Model;
+use tx_model::{IdList, Memory, NameList};
+
+/// A text. After want of memory it may have grown by a part of what was to be added.
+#[derive(Drop)]
+pub struct Text {
+    bytes: Vec<u8>,
+}
+
+impl Model for Text {
+    ghost use Rattle.std.specs.Prelude.{ℕ, List};
+
+    ghost Value = { List ℕ };
+
+    ghost view = { λ t. t.bytes.items };
+}
+
+impl Text {
+    pub fn new(alloc: Global) -> Text
+        ensures { result ≡ [] }
+    {
+        Text {
+            bytes: Vec::new(alloc),
+        }
+    }
+
+    pub fn put(&mut self, piece: &[u8]) -> Result<(), Memory>
+        ensures ok { OnOk result (self.new ≡ self.old ++ piece.now) }
+    {
+        self.bytes.extend_from_slice(piece)?;
+        Ok(())
+    }
+
+    /// A word behind a space.
+    #[tactic(auto, unfolding(crate::specs::Words::more))]
+    pub fn word(&mut self, word: &[u8]) -> Result<(), Memory>
+        ensures ok { OnOk result (self.new ≡ self.old ++ more (word.now ∷ [])) }
+    {
+        self.bytes.push(b' ')?;
+        self.bytes.extend_from_slice(word)?;
+        Ok(())
+    }
+
+    /// A number's digits. A record's number may need more than 64 bits.
+    pub fn digits(&mut self, n: u128) -> Result<(), Memory>
+        ensures ok { OnOk result (self.new ≡ self.old ++ decimal n) }
+    {
+        let mut buffer = Buffer::new();
+        self.put(buffer.format(n).as_bytes())
+    }
+
+    /// A number behind a space.
+    #[tactic(auto, unfolding(crate::specs::Words::more))]
+    pub fn number(&mut self, n: u64) -> Result<(), Memory>
+        ensures ok { OnOk result (self.new ≡ self.old ++ more (decimal n ∷ [])) }
+    {
+        let mut buffer = Buffer::new();
+        self.put(b" ")?;
+        self.put(buffer.format(n).as_bytes())
+    }
+
+    /// A word and a number, each behind a space.
+    #[tactic(auto, using(crate::proofs::MoreWords::then_more))]
+    pub fn named(&mut self, word: &[u8], n: u64) -> Result<(), Memory>
+        ensures ok { OnOk result (self.new ≡ self.old ++ more (word.now ∷ decimal n ∷ [])) }
+    {
+        self.word(word)?;
+        self.number(n)
+    }
+
+    pub fn end_line(&mut self) -> Result<(), Memory>
+        ensures ok { OnOk result (self.new ≡ self.old ++ 10 ∷ []) }
+    {
+        self.put(b"\n")
+    }
+
+    /// A line of one word.
+    #[tactic(auto, using(crate::proofs::MoreWords::then_short_line))]
+    pub fn short_line(&mut self, word: &[u8]) -> Result<(), Memory>
+        ensures ok { OnOk result (self.new ≡ self.old ++ line_text (word.now ∷ [])) }
+    {
+        self.put(word)?;
+        self.end_line()
+    }
+
+    pub fn into_bytes(self) -> Vec<u8>
+        ensures { result.items ≡ self }
+    {
+        self.bytes
+    }
+}
+
+/// The numbers, each behind a space.
+#[tactic(auto, using(crate::proofs::MoreWords::then_one_number, crate::proofs::MoreWords::no_more))]
+pub fn put_numbers(out: &mut Text, ids: &IdList) -> Result<(), Memory>
+    ensures ok { OnOk result (out.new ≡ out.old ++ more (numbers ids.now)) }
+{
+    for id in ids.items() {
+        out.number(id.number())?;
+    }
+    Ok(())
+}
+
+/// The same, or a dash.
+pub fn put_numbers_or_dash(out: &mut Text, ids: &IdList) -> Result<(), Memory>
+    ensures ok { OnOk result (out.new ≡ out.old ++ more (numbers_or_dash ids.now)) }
+{
+    if ids.items().is_empty() {
+        return out.word(b"-");
+    }
+    put_numbers(out, ids)
+}
+
+/// A word and then the numbers, or a dash.
+#[tactic(auto, using(crate::proofs::MoreWords::then_more))]
+pub fn put_list(out: &mut Text, word: &[u8], ids: &IdList) -> Result<(), Memory>
+    ensures ok { OnOk result (out.new ≡ out.old ++ more (word.now ∷ numbers_or_dash ids.now)) }
+{
+    out.word(word)?;
+    put_numbers_or_dash(out, ids)
+}
+
+pub fn put_yes_or_no(out: &mut Text, yes: bool) -> Result<(), Memory>
+    ensures ok { OnOk result (out.new ≡ out.old ++ more (yes_or_no yes ∷ [])) }
+{
+    if yes {
+        out.word(b"yes")
+    } else {
+        out.word(b"no")
+    }
+}
+
+/// A session's name.
+pub fn name_of(names: &NameList, session: u32) -> &[u8]
+    ensures { result.now ≡ name_at names.now session }
+{
+    match names.items().get(session as usize) {
+        Some(name) => name.items(),
+        None => &[],
+    }
+}

@@ -1,5 +1,0 @@
-use Rattle.session_lang.proofs.MoreWords.{join_on, id_joined}
-use Rattle.session_lang.proofs.print.member.put_id.Goals as goal
-
-pub returns : goal.returns
-returns c = record { ok = join_on _ _ _ _ _ _ _ _ c.in_ok-number.ensures.ok c.mode_word.ensures (id_joined _ _) c.put_joined.ensures.ok }

@@ -1,5 +1,0 @@
-use Rattle.session_lang.proofs.MoreWords.{join_on, verdict_joined}
-use Rattle.session_lang.proofs.print.member.put_verdict.Goals as goal
-
-pub returns : goal.returns
-returns c = record { ok = join_on _ _ _ _ _ _ _ _ c.in_ok-put_verdict_id.ensures.ok c.verdict_word.ensures (verdict_joined _) c.put_joined.ensures.ok }

@@ -1,9 +1,0 @@
-use Rattle.std.proofs.Common.{◌≡◌, ◌++◌, ◌+◌, drop}
-use Rattle.session_lang.specs.RecordText.{records_text}
-use Rattle.session_lang.proofs.print.record.put_records.Given as goal
-
-abbrev pub invariant-loop-rec : goal.invariant-loop-rec
-invariant-loop-rec l = record {
-  at : l.number ≡ l.fn.from + l.rec-index;
-  rest : l.out ++ records_text l.number (drop l.rec-index l.recs) ≡ l.fn.out ++ records_text l.fn.from l.recs;
-}

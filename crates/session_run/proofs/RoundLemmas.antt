@@ -1,122 +1,85 @@
-use Rattle.std.proofs.Common.{◌≡◌, ℕ, zero, suc, ◌+◌, ◌<◌, ◌≤◌, ◌==◌, List, [], ◌∷◌, ◌++◌, refl, sym, ap, subst, ◌∙◌, arith, Bool, true, false, cond, length, map, reverse, take, get_or, IsTrue, append-nil, append_assoc, add-one, add-zero, zero-add, length-append, ◌&&◌}
-use Rattle.std.proofs.lemmas.List.{take_more}
-use Rattle.std.proofs.lemmas.List.Sums.{length-filter}
-use Rattle.std.specs.List.{All, AllByRecursion, filter, count_by, list_any, flat_map, range_with_len}
+-- The commands of a round, session by session, and the rounds of a script.
+use Rattle.std.proofs.Common.{◌≡◌, ◌≢◌, ℕ, ◌+◌, ◌<◌, ◌≤◌, ◌⊎◌, ◌==◌, List, [], ◌∷◌, ◌++◌, refl, sym, ap, subst, ◌∙◌, arith, ⊎_elim, Bool, true, false, not, cond, length, map, take, drop, get_or, append-nil, append_assoc, length-append, eqb-true, add-zero}
 use Rattle.std.proofs.lemmas.Bool.{false≢true}
 use Rattle.std.proofs.lemmas.Bool.Decides.{nat_tests}
-use Rattle.std.proofs.lemmas.Grind.{common_steps, flat_map-append}
-use Rattle.std.proofs.lemmas.List.Elements.{recursion_from_All, filter-append, filter_map-append}
+use Rattle.std.proofs.lemmas.Grind.{flat_map-append}
+use Rattle.std.proofs.lemmas.List.{take_more, take-append-drop}
+use Rattle.std.proofs.lemmas.List.Elements.{filter-append, filter_map-append}
+use Rattle.std.proofs.lemmas.List.Filters.{length-filter_both}
+use Rattle.std.specs.List.{AllByRecursion, filter, flat_map}
 use Rattle.tx_model.specs.declared.command.Command.{Command}
-use Rattle.tx_model.specs.declared.event.Event.{Event}
-use Rattle.tx_model.specs.declared.event.Event.TheVariants as events
 use Rattle.tx_model.specs.declared.report.Line.{Line}
-use Rattle.tx_model.specs.Events.{by_of, is_of, same_by, given, same_name}
-use Rattle.tx_model.specs.Horizon.{live_up, is_snap_of}
-use Rattle.tx_model.specs.Running.{is_open}
-use Rattle.tx_model.specs.Stance.{stance_from, nothing_yet}
-use Rattle.tx_model.specs.Lines.{is_line_of, turn_of}
+use Rattle.tx_model.specs.declared.report.Step.{Step}
+use Rattle.tx_model.specs.declared.report.Step.TheVariants as steps
+use Rattle.tx_model.specs.LawfulLife.{AreRounds, lines_in}
+use Rattle.tx_model.specs.Lines.{AreLinesOf, grouped, turn_of}
+use Rattle.tx_model.specs.Places.{first_seen}
 use Rattle.session_lang.specs.declared.script.Item.{Item}
 use Rattle.session_lang.specs.declared.script.Item.TheVariants as items
-use Rattle.session_lang.specs.Rounds.{turns_of, sessions_in, rounds_from, rounds_of, round_of}
-use Rattle.session_lang.specs.Script.{IsReadItem, IsShort}
-use Rattle.session_run.specs.declared.session.Session.{Session}
-use Rattle.session_run.specs.declared.session.Transaction.TheVariants as transactions
-use Rattle.session_run.specs.declared.shared.Shared.{Shared}
-use Rattle.session_run.specs.Flat.{IsFlat}
-use Rattle.session_run.specs.Progress.{Progress, IsNotLater, HasNotBegun}
-use Rattle.session_run.specs.Turns.{turns_in, turn_in}
-use Rattle.session_run.proofs.FlatLemmas.{all_reverse_aux}
-use Rattle.session_run.proofs.ListLemmas.{all_append, all_weaker, length-map}
+use Rattle.session_lang.specs.Rounds.{round_of, rounds_from, rounds_of, sessions_in, turns_of}
+use Rattle.session_run.specs.Progress.{round_step}
+use Rattle.session_run.specs.Turns.{is_command, turn_in, turns_in}
 
-not_same : (a b : ℕ) → a < b → (a == b) ≡ false
-not_same a b h = grind (arith, nat_tests)
+eqb-refl : (n : ℕ) → (n == n) ≡ true
+eqb-refl n = grind (arith, nat_tests)
 
-no_lines : (s : ℕ) (lines : List Line) → AllByRecursion (λ k. k.by.session < s) lines → filter (is_line_of s) lines ≡ []
-no_lines s [] b = refl
-no_lines s (k ∷ lines) b = rw (not_same k.by.session s b.0) (no_lines s lines b.1)
+-- the commands of the sessions other than x
+abbrev others : ℕ → List (ℕ × Command) → List (ℕ × Command)
+others x turns = filter (λ t. not (t.0 == x)) turns
 
-none_counted : (s : ℕ) (lines : List Line) → AllByRecursion (λ k. k.by.session < s) lines → 0 ≡ count_by (is_line_of s) lines
-none_counted s lines b = sym (sym (length-filter (is_line_of s) lines) ∙ ap length (no_lines s lines b))
+-- the others' commands are as before, and x has none among them
+others_none : (x : ℕ) (turns : List (ℕ × Command)) → turns_of x (others x turns) ≡ []
+others_none x [] = refl
+others_none x (t ∷ turns) = step (t.0 == x) refl (others_none x turns)
+  where
+    step : (b : Bool) → (t.0 == x) ≡ b → turns_of x (others x turns) ≡ [] → turns_of x (cond (not b) (t ∷ others x turns) (others x turns)) ≡ []
+    step true e i = i
+    step false e i = ap (λ b. cond b (t ∷ turns_of x (others x turns)) (turns_of x (others x turns))) e ∙ i
 
-line_differs : (s : ℕ) (e : Event) (lines : List Line) → AllByRecursion (λ k. k.by.session < s) lines → IsTrue (list_any (λ k. same_by k.by (by_of e)) lines) → is_of s e ≡ false
-line_differs s e [] b h = absurd (false≢true h)
-line_differs s e (k ∷ lines) b h = grind (arith, nat_tests, line_differs s e lines b.1)
+others_same : (x y : ℕ) (turns : List (ℕ × Command)) → (y == x) ≡ false → turns_of y (others x turns) ≡ turns_of y turns
+others_same x y [] n = refl
+others_same x y (t ∷ turns) n = step (t.0 == x) (t.0 == y) refl refl (others_same x y turns n)
+  where
+    step : (a b : Bool) → (t.0 == x) ≡ a → (t.0 == y) ≡ b → turns_of y (others x turns) ≡ turns_of y turns → turns_of y (cond (not a) (t ∷ others x turns) (others x turns)) ≡ cond (t.0 == y) (t ∷ turns_of y turns) (turns_of y turns)
+    step true true e f i = absurd (false≢true (sym n ∙ ap (λ z. z == x) (sym (eqb-true t.0 y f)) ∙ e))
+    step true false e f i = i ∙ ap (λ b. cond b (t ∷ turns_of y turns) (turns_of y turns)) (sym f)
+    step false b e f i = ap (λ ts. cond (t.0 == y) (t ∷ ts) ts) i
 
--- no event is of a session without a line
-events_differ : (s : ℕ) (h : List Event) (lines : List Line) → AllByRecursion (λ k. k.by.session < s) lines → AllByRecursion (λ e. IsTrue (list_any (λ k. same_by k.by (by_of e)) lines)) h → AllByRecursion (λ e. is_of s e ≡ false) h
-events_differ s [] lines b o = tt
-events_differ s (e ∷ h) lines b o = (line_differs s e lines b o.0, events_differ s h lines b o.1)
+others_grouped : (x : ℕ) (ys : List ℕ) (turns : List (ℕ × Command)) → flat_map (λ y. turns_of y turns) (filter (λ y. not (y == x)) ys) ≡ flat_map (λ y. turns_of y (others x turns)) ys
+others_grouped x [] turns = refl
+others_grouped x (y ∷ ys) turns = step (y == x) refl (others_grouped x ys turns)
+  where
+    kept : List ℕ
+    kept = filter (λ z. not (z == x)) ys
 
-no_events : (s : ℕ) (h : List Event) → AllByRecursion (λ e. is_of s e ≡ false) h → filter (is_of s) h ≡ []
-no_events s [] n = refl
-no_events s (e ∷ h) n = rw n.0 (no_events s h n.1)
+    rest : List (ℕ × Command)
+    rest = flat_map (λ z. turns_of z (others x turns)) ys
 
-any_two : {X : Type 0} (p : X → Bool) (xs : List X) (x : X) → list_any p xs ≡ false → p x ≡ false → list_any p (xs ++ x ∷ []) ≡ false
-any_two p xs x a b = grind (arith, common_steps)
+    step : (b : Bool) → (y == x) ≡ b → flat_map (λ z. turns_of z turns) kept ≡ rest → flat_map (λ z. turns_of z turns) (cond (not b) (y ∷ kept) kept) ≡ turns_of y (others x turns) ++ rest
+    step true e i = i ∙ ap (λ ts. ts ++ rest) (sym (ap (λ z. turns_of z (others x turns)) (eqb-true y x e) ∙ others_none x turns))
+    step false e i = ap (λ ts. turns_of y turns ++ ts) i ∙ ap (λ ts. ts ++ rest) (sym (others_same x y turns e))
 
-none_live_up : (first next s : ℕ) (name : List ℕ) (h : List Event) → AllByRecursion (IsFlat next) h → AllByRecursion (λ e. is_of s e ≡ false) h → list_any (is_snap_of s name) (live_up first h) ≡ false
-none_live_up first next s name [] f n = refl
-none_live_up first next s name (events.Snap by taken ∷ h) f n =
-    any_two (is_snap_of s name) (live_up first h) _ (none_live_up first next s name h f.1 n.1) (ap (λ b. b && same_name taken name) n.0)
-none_live_up first next s name (events.Id by id ∷ h) f n = none_live_up first next s name h f.1 n.1
-none_live_up first next s name (events.Commit by top ∷ h) f n = none_live_up first next s name h f.1 n.1
-none_live_up first next s name (events.Abort by top ∷ h) f n = none_live_up first next s name h f.1 n.1
-none_live_up first next s name (e ∷ h) f n = absurd f.0
+-- each command once: no more in the order of the sessions than in the round
+pub grouped_short : (xs : List ℕ) (turns : List (ℕ × Command)) → length (flat_map (λ y. turns_of y turns) (first_seen xs)) ≤ length turns
+grouped_short [] turns = omega arith
+grouped_short (x ∷ xs) turns =
+    let both = length-filter_both {X = ℕ × Command} (λ t. t.0 == x) (λ t. not (t.0 == x)) (λ t. refl) turns in
+    let rest = grouped_short xs (others x turns) in
+    let same = ap length (others_grouped x (first_seen xs) turns) in
+    let all = length-append (turns_of x turns) (flat_map (λ y. turns_of y turns) (filter (λ y. not (y == x)) (first_seen xs))) in
+    omega (arith, both, rest, same, all)
 
--- a session that begins
-pub session_begins : (w : Shared) (n : ℕ) (s : Session) (lines : List Line) → s.transaction ≡ transactions.Closed → s.kept.items ≡ [] → HasNotBegun w n lines → Progress w n 0 s lines
-session_begins w n s lines closed none p =
-    let differ = events_differ n w.events lines p.before (recursion_from_All (λ e. IsTrue (list_any (λ k. same_by k.by (by_of e)) lines)) w.events p.lawful.no_other) in
-    let empty = no_events n w.events differ in
-    record {
-      lawful = p.lawful;
-      sound = p.sound;
-      stands = rw (closed, none) (record {
-        opened = ap (λ es. filter (is_open w.events) (given es)) empty;
-        given = tt;
-        turn = subst (AllByRecursion (λ e. (by_of e).command ≤ 0)) (sym empty) tt;
-        live = λ name. none_live_up w.base.next w.next n name (reverse w.events) (all_reverse_aux (IsFlat w.next) w.events [] p.sound.flat tt) (all_reverse_aux (λ e. is_of n e ≡ false) w.events [] differ tt);
-        snaps = tt;
-      });
-      stance_is = rw (closed, none) (ap (stance_from nothing_yet w.events) (no_lines n lines p.before));
-      counted = none_counted n lines p.before;
-      earlier = all_weaker (λ k. k.by.session < n) (IsNotLater n 0) (λ k f e. absurd (omega arith)) lines p.before;
-    }
+-- the commands of the first sessions, with one session more
+pub sessions_on : (turns : List (ℕ × Command)) (numbers : List ℕ) (i : ℕ) → i < length numbers → flat_map (λ y. turns_of y turns) (take (i + 1) numbers) ≡ flat_map (λ y. turns_of y turns) (take i numbers) ++ turns_of (get_or numbers i 0) turns
+sessions_on turns numbers i l =
+    ap (flat_map (λ y. turns_of y turns)) (take_more numbers i 0 l)
+    ∙ flat_map-append (λ y. turns_of y turns) (take i numbers) (get_or numbers i 0 ∷ [])
+    ∙ ap (λ t. flat_map (λ y. turns_of y turns) (take i numbers) ++ t) (append-nil (turns_of (get_or numbers i 0) turns))
 
--- the lines' sessions by their turns
-map_before : (n : ℕ) (lines : List Line) → AllByRecursion (λ (p : ℕ × Command). p.0 < n) (map turn_of lines) → AllByRecursion (λ k. k.by.session < n) lines
-map_before n [] b = tt
-map_before n (k ∷ lines) b = (b.0, map_before n lines b.1)
-
-before_map : (n : ℕ) (lines : List Line) → AllByRecursion (λ k. k.by.session < n) lines → AllByRecursion (λ (p : ℕ × Command). p.0 < n + 1) (map turn_of lines)
-before_map n [] b = tt
-before_map n (k ∷ lines) b = (omega (arith, b.0), before_map n lines b.1)
-
-own_first : (n : ℕ) (p : ℕ × Command) (rest : List (ℕ × Command)) (b : Bool) → (p.0 == n) ≡ b → AllByRecursion (λ (q : ℕ × Command). q.0 < n + 1) rest → AllByRecursion (λ (q : ℕ × Command). q.0 < n + 1) (cond b (p ∷ rest) rest)
-own_first n p rest true e h = (grind (arith, nat_tests), h)
-own_first n p rest false e h = h
-
-own_turns : (n : ℕ) (ps : List (ℕ × Command)) → AllByRecursion (λ (p : ℕ × Command). p.0 < n + 1) (turns_of n ps)
-own_turns n [] = tt
-own_turns n (p ∷ ps) = own_first n p (turns_of n ps) (p.0 == n) refl (own_turns n ps)
-
--- after a session's lines the next number is above all
-pub lines_before : (s : ℕ) (old new : List Line) (turns : List (ℕ × Command)) → AllByRecursion (λ k. k.by.session < s) old → map turn_of new ≡ map turn_of old ++ turns_of s turns → AllByRecursion (λ k. k.by.session < s + 1) new
-lines_before s old new turns b e =
-    map_before (s + 1) new
-    (subst (AllByRecursion (λ (p : ℕ × Command). p.0 < s + 1)) (sym e)
-    (all_append (λ (p : ℕ × Command). p.0 < s + 1) (map turn_of old) (turns_of s turns) (before_map s old b) (own_turns s turns)))
-
-range_push : (a n : ℕ) → range_with_len a (suc n) ≡ range_with_len a n ++ (a + n) ∷ []
-range_push a zero = ap (λ x. x ∷ []) (sym (add-zero a))
-range_push a (suc n) = ap (λ t. a ∷ t) (range_push (a + 1) n ∙ ap (λ x. range_with_len (a + 1) n ++ x ∷ []) (omega arith))
-
--- one session's turns more
-pub turns_told : (s : ℕ) (turns : List (ℕ × Command)) → flat_map (λ k. turns_of k turns) (range_with_len 0 (s + 1)) ≡ flat_map (λ k. turns_of k turns) (range_with_len 0 s) ++ turns_of s turns
-turns_told s turns =
-    ap (flat_map (λ k. turns_of k turns)) (ap (range_with_len 0) (add-one s) ∙ range_push 0 s)
-    ∙ flat_map-append (λ k. turns_of k turns) (range_with_len 0 s) ((0 + s) ∷ [])
-    ∙ ap (λ t. flat_map (λ k. turns_of k turns) (range_with_len 0 s) ++ t) (append-nil (turns_of (0 + s) turns) ∙ ap (λ k. turns_of k turns) (zero-add s))
+pub front_short : {X Y : Type 0} (f : X → List Y) (xs : List X) (i : ℕ) → length (flat_map f (take i xs)) ≤ length (flat_map f xs)
+front_short f xs i =
+    let e = ap length (ap (flat_map f) (sym (take-append-drop i xs)) ∙ flat_map-append f (take i xs) (drop i xs)) in
+    omega (arith, e, length-append (flat_map f (take i xs)) (flat_map f (drop i xs)))
 
 pub sessions_of_turns : (script : List Item) → map (λ (p : ℕ × Command). p.0) (turns_in script) ≡ sessions_in script
 sessions_of_turns [] = refl
@@ -126,9 +89,13 @@ sessions_of_turns (items.Checkpoint ∷ script) = sessions_of_turns script
 sessions_of_turns (items.Crash how ∷ script) = sessions_of_turns script
 sessions_of_turns (items.Dump what at length ∷ script) = sessions_of_turns script
 
-pub lines_counted : (s : ℕ) (old new : List Line) (turns : List (ℕ × Command)) → map turn_of new ≡ map turn_of old ++ turns_of s turns → length new ≡ length old + length (turns_of s turns)
-lines_counted s old new turns e =
-    sym (length-map turn_of new) ∙ ap length e ∙ length-append (map turn_of old) (turns_of s turns) ∙ ap (λ n. n + length (turns_of s turns)) (length-map turn_of old)
+pub turns_short : (script : List Item) → length (turns_in script) ≤ length script
+turns_short [] = omega arith
+turns_short (items.Run s c ∷ script) = let l = turns_short script in omega arith
+turns_short (items.Round ∷ script) = let l = turns_short script in omega arith
+turns_short (items.Checkpoint ∷ script) = let l = turns_short script in omega arith
+turns_short (items.Crash how ∷ script) = let l = turns_short script in omega arith
+turns_short (items.Dump what at size ∷ script) = let l = turns_short script in omega arith
 
 -- one item more
 pub turns_step : (n : ℕ) (script : List Item) (i : ℕ) (x : Item) → i < length script → x ≡ get_or script i x → turns_of n (turns_in (take (i + 1) script)) ≡ turns_of n (turns_in (take i script)) ++ turns_of n (turns_in (x ∷ []))
@@ -137,51 +104,97 @@ turns_step n script i x l e =
     ∙ ap (turns_of n) (filter_map-append turn_in (take i script) (x ∷ []))
     ∙ filter-append (λ p. p.0 == n) (turns_in (take i script)) (turns_in (x ∷ []))
 
--- a script of commands is one round, where it has any
-pub one_round : (script : List Item) (turns : List (ℕ × Command)) → AllByRecursion IsReadItem script → rounds_from turns script ≡ round_of (turns ++ turns_in script)
-one_round [] turns r = ap round_of (sym (append-nil turns))
-one_round (items.Run s c ∷ script) turns r = one_round script (turns ++ (s, c) ∷ []) r.1 ∙ ap round_of (shift turns (s, c) (turns_in script))
-  where
-    shift : (xs : List (ℕ × Command)) (y : ℕ × Command) (zs : List (ℕ × Command)) → (xs ++ y ∷ []) ++ zs ≡ xs ++ y ∷ zs
-    shift [] y zs = refl
-    shift (x ∷ xs) y zs = ap (λ t. x ∷ t) (shift xs y zs)
-one_round (i ∷ script) turns r = absurd r.0
-
-short_round : (turns : List (ℕ × Command)) → AllByRecursion IsShort (round_of turns) → IsShort turns
-short_round [] a = λ s. omega arith
-short_round (t ∷ turns) a = a.0
-
-pub all_short : (script : List Item) → All IsReadItem script → All IsShort (rounds_of script) → IsShort (turns_in script)
-all_short script r a =
-    short_round (turns_in script) (subst (AllByRecursion IsShort) (one_round script [] (recursion_from_All IsReadItem script r)) (recursion_from_All IsShort (rounds_of script) a))
-
--- an item adds at most one line
-one_turn : (m : ℕ) (y : Item) → length (turns_of m (turns_in (y ∷ []))) ≤ 1
-one_turn m (items.Run s c) = at_most (s == m)
-  where
-    at_most : (b : Bool) → length {A = ℕ × Command} (cond b ((s, c) ∷ []) []) ≤ 1
-    at_most true = omega arith
-    at_most false = omega arith
-one_turn m items.Round = omega arith
-one_turn m items.Checkpoint = omega arith
-one_turn m (items.Crash how) = omega arith
-one_turn m (items.Dump what at size) = omega arith
-
-pub item_counted : (n : ℕ) (old new : List Line) (x : Item) → map turn_of new ≡ map turn_of old ++ turns_of n (turns_in (x ∷ [])) → length new ≤ length old + 1
-item_counted n old new x e =
-    let few = one_turn n x in
-    omega (arith, lines_counted n old new (turns_in (x ∷ [])) e)
-
 -- another session's item adds none
-pub others_turn : (n s : ℕ) (c : Command) → (s == n) ≡ false → turns_of n (turns_in (items.Run s c ∷ [])) ≡ []
-others_turn n s c e = rw e refl
+pub others_turn : (n s : ℕ) (c : Command) → s ≢ n → turns_of n (turns_in (items.Run s c ∷ [])) ≡ []
+others_turn n s c d = let e : (s == n) ≡ false = grind (arith, nat_tests) in rw e refl
 
 pub own_turn : (n : ℕ) (c : Command) → turns_of n (turns_in (items.Run n c ∷ [])) ≡ (n, c) ∷ []
-own_turn n c = rw (same n) refl
-  where
-    same : (m : ℕ) → (m == m) ≡ true
-    same m = grind (arith, nat_tests)
+own_turn n c = rw (eqb-refl n) refl
 
 -- the turns of the items so far, with one more
 pub turns_on : (n : ℕ) (front : List (ℕ × Command)) (script : List Item) (i : ℕ) (x : Item) → i < length script → x ≡ get_or script i x → (front ++ turns_of n (turns_in (take i script))) ++ turns_of n (turns_in (x ∷ [])) ≡ front ++ turns_of n (turns_in (take (i + 1) script))
 turns_on n front script i x l e = append_assoc front (turns_of n (turns_in (take i script))) (turns_of n (turns_in (x ∷ []))) ∙ ap (λ t. front ++ t) (sym (turns_step n script i x l e))
+
+-- the front of a session's turns isn't longer than all
+pub turns_front : (n : ℕ) (script : List Item) (i : ℕ) → length (turns_of n (turns_in (take i script))) ≤ length (turns_of n (turns_in script))
+turns_front n script i =
+    let e = ap (λ t. length (turns_of n (turns_in t))) (sym (take-append-drop i script)) in
+    let f = ap (λ t. length (turns_of n t)) (filter_map-append turn_in (take i script) (drop i script)) in
+    let g = ap length (filter-append (λ p. p.0 == n) (turns_in (take i script)) (turns_in (drop i script))) in
+    omega (arith, e, f, g, length-append (turns_of n (turns_in (take i script))) (turns_of n (turns_in (drop i script))))
+
+-- a round's commands, and what stands behind the directive that ends it
+commands_then : (turns : List (ℕ × Command)) (round rest : List Item) (d : Item) → AllByRecursion (λ item. is_command item ≡ true) round → is_command d ≡ false → rounds_from turns (round ++ d ∷ rest) ≡ round_of (turns ++ turns_in round) ++ rounds_of rest
+commands_then turns [] rest items.Round a e = ap (λ ts. round_of ts ++ rounds_of rest) (sym (append-nil turns))
+commands_then turns [] rest items.Checkpoint a e = ap (λ ts. round_of ts ++ rounds_of rest) (sym (append-nil turns))
+commands_then turns [] rest (items.Crash how) a e = ap (λ ts. round_of ts ++ rounds_of rest) (sym (append-nil turns))
+commands_then turns [] rest (items.Dump what at size) a e = ap (λ ts. round_of ts ++ rounds_of rest) (sym (append-nil turns))
+commands_then turns [] rest (items.Run s c) a e = absurd (false≢true (sym e))
+commands_then turns (items.Run s c ∷ round) rest d a e =
+    commands_then (turns ++ (s, c) ∷ []) round rest d a.1 e ∙ ap (λ ts. round_of ts ++ rounds_of rest) (append_assoc turns ((s, c) ∷ []) (turns_in round))
+commands_then turns (items.Round ∷ round) rest d a e = absurd (false≢true a.0)
+commands_then turns (items.Checkpoint ∷ round) rest d a e = absurd (false≢true a.0)
+commands_then turns (items.Crash how ∷ round) rest d a e = absurd (false≢true a.0)
+commands_then turns (items.Dump what at size ∷ round) rest d a e = absurd (false≢true a.0)
+
+only_commands : (turns : List (ℕ × Command)) (round : List Item) → AllByRecursion (λ item. is_command item ≡ true) round → rounds_from turns round ≡ round_of (turns ++ turns_in round)
+only_commands turns [] a = ap round_of (sym (append-nil turns))
+only_commands turns (items.Run s c ∷ round) a = only_commands (turns ++ (s, c) ∷ []) round a.1 ∙ ap round_of (append_assoc turns ((s, c) ∷ []) (turns_in round))
+only_commands turns (items.Round ∷ round) a = absurd (false≢true a.0)
+only_commands turns (items.Checkpoint ∷ round) a = absurd (false≢true a.0)
+only_commands turns (items.Crash how ∷ round) a = absurd (false≢true a.0)
+only_commands turns (items.Dump what at size ∷ round) a = absurd (false≢true a.0)
+
+-- the rounds of a script: its first one, and those of the rest
+pub first_round : (script round rest : List Item) → AllByRecursion (λ item. is_command item ≡ true) round → ((script ≡ round) × (rest ≡ [])) ⊎ ((d : Item) × (is_command d ≡ false) × (script ≡ round ++ d ∷ rest)) → rounds_of script ≡ round_of (turns_in round) ++ rounds_of rest
+first_round script round rest a k = ⊎_elim
+    (λ (b : (script ≡ round) × (rest ≡ [])). ap rounds_of b.0 ∙ only_commands [] round a ∙ sym (append-nil (round_of (turns_in round))) ∙ ap (λ t. round_of (turns_in round) ++ rounds_of t) (sym b.1))
+    (λ (b : (d : Item) × (is_command d ≡ false) × (script ≡ round ++ d ∷ rest)). ap rounds_of b.2 ∙ commands_then [] round rest b.0 a b.1)
+    k
+
+no_lines : (lines : List Line) → map turn_of lines ≡ [] → lines ≡ []
+no_lines [] e = refl
+no_lines (l ∷ lines) e = absurd cc
+
+some_lines : (t : ℕ × Command) (turns : List (ℕ × Command)) (lines : List Line) → map turn_of lines ≡ grouped (t ∷ turns) → lines ≢ []
+some_lines t turns lines e n =
+    let same : map turn_of [] ≡ grouped (t ∷ turns) = ap (map turn_of) (sym n) ∙ e in
+    cons≢nil (sym (same ∙ first_group))
+  where
+    rest : List (ℕ × Command)
+    rest = turns_of t.0 turns
+
+    first_group : grouped (t ∷ turns) ≡ (t ∷ rest) ++ flat_map (λ s. turns_of s (t ∷ turns)) (filter (λ y. not (y == t.0)) (first_seen (map (λ (p : ℕ × Command). p.0) turns)))
+    first_group = ap (λ b. cond b (t ∷ rest) rest ++ flat_map (λ s. turns_of s (t ∷ turns)) (filter (λ y. not (y == t.0)) (first_seen (map (λ (p : ℕ × Command). p.0) turns)))) (eqb-refl t.0)
+
+    cons≢nil : {X : Type 0} {x : X} {xs : List X} → x ∷ xs ≡ [] → ⊥
+    cons≢nil e = cc
+
+last_round : (n : ℕ) (turns : List (ℕ × Command)) (lines : List Line) → AreLinesOf turns lines → AreRounds n (round_of turns) (round_step n lines)
+last_round n [] lines e = subst (λ ls. AreRounds n [] (round_step n ls)) (sym (no_lines lines e)) tt
+last_round n (t ∷ turns) [] e = absurd (some_lines t turns [] e refl)
+last_round n (t ∷ turns) (l ∷ lines) e = (refl, e, tt)
+
+-- a round more, numbered on
+pub rounds_push : (n : ℕ) (done : List (List (ℕ × Command))) (ss : List Step) (turns : List (ℕ × Command)) (lines : List Line) → AreRounds n done ss → AreLinesOf turns lines → AreRounds n (done ++ round_of turns) (ss ++ round_step (n + length ss) lines)
+rounds_push n [] [] turns lines a e = subst (λ m. AreRounds n (round_of turns) (round_step m lines)) (sym (add-zero n)) (last_round n turns lines e)
+rounds_push n (ts ∷ done) (steps.Round number ls ∷ ss) turns lines a e = (
+  a.0,
+  a.1,
+  subst (λ m. AreRounds (n + 1) (done ++ round_of turns) (ss ++ round_step m lines)) (omega arith) (rounds_push (n + 1) done ss turns lines a.2 e),
+)
+rounds_push n [] (s ∷ ss) turns lines a e = absurd a
+rounds_push n (ts ∷ done) [] turns lines a e = absurd a
+rounds_push n (ts ∷ done) (steps.Checkpoint reply ∷ ss) turns lines a e = absurd a
+rounds_push n (ts ∷ done) (steps.Dump what at size reply ∷ ss) turns lines a e = absurd a
+
+-- a round that ends moves its lines
+pub lines_ended : (ss : List Step) (n : ℕ) (lines : List Line) → flat_map lines_in (ss ++ round_step n lines) ++ [] ≡ flat_map lines_in ss ++ lines
+lines_ended ss n lines =
+    append-nil (flat_map lines_in (ss ++ round_step n lines))
+    ∙ flat_map-append lines_in ss (round_step n lines)
+    ∙ ap (λ ls. flat_map lines_in ss ++ ls) (of_step lines)
+  where
+    of_step : (ls : List Line) → flat_map lines_in (round_step n ls) ≡ ls
+    of_step [] = refl
+    of_step (l ∷ ls) = append-nil (l ∷ ls)

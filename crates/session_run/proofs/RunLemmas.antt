@@ -1,71 +1,95 @@
-use Rattle.std.proofs.Common.{◌≡◌, ℕ, List, [], ◌∷◌, ◌++◌, None, refl, sym, ap, ◌∙◌, length, map, ◌==◌, not, cond, ◌≢◌, true, append-nil, arith, subst, ◌≤◌, length-append, take, IsTrue}
-use Rattle.std.specs.List.{All, AllByRecursion, filter, flat_map, list_any}
+-- How a life begins, and what its report says.
+use Rattle.std.proofs.Common.{◌≡◌, ℕ, zero, suc, ◌<◌, ◌≤◌, ◌==◌, ◌||◌, List, [], ◌∷◌, ◌++◌, Some, None, refl, sym, ap, subst, ◌∙◌, arith, Bool, true, false, length, take, IsTrue, append-nil, length-append, codes}
+use Rattle.std.specs.List.{All, AllByRecursion, filter, flat_map, list_any, slice_get}
 use Rattle.std.proofs.lemmas.Bool.Decides.{nat_tests}
-use Rattle.std.proofs.lemmas.List.Elements.{recursion_from_All, All-nil}
-use Rattle.xid_order.specs.Ids.{id_before}
-use Rattle.tx_model.specs.declared.command.Command.{Command}
+use Rattle.std.proofs.lemmas.List.Elements.{All-from_recursion, All-nil, recursion_from_All}
 use Rattle.tx_model.specs.declared.record.Counters.{Counters}
-use Rattle.tx_model.specs.declared.record.Rec.TheVariants as records
-use Rattle.tx_model.specs.declared.report.Line.{Line}
-use Rattle.tx_model.specs.declared.report.Step.{Step}
-use Rattle.tx_model.specs.declared.report.Step.TheVariants as steps
 use Rattle.tx_model.specs.declared.report.LifeReport.{LifeReport}
-use Rattle.tx_model.specs.Base.{first_base}
-use Rattle.tx_model.specs.Events.{by_of, same_by}
-use Rattle.tx_model.specs.History.{MayCome, ComesInTurn}
-use Rattle.tx_model.specs.Places.{first_seen}
-use Rattle.tx_model.specs.Lines.{turn_of, grouped, AreLinesOf, AreLawfulLines, IsLawfulLine}
-use Rattle.tx_model.specs.LifeLog.{AreFlushed, batches_size}
+use Rattle.tx_model.specs.declared.report.Line.{Line}
+use Rattle.tx_model.specs.Base.{IsBase}
+use Rattle.tx_model.specs.Events.{by_of, is_of, same_by, same_name}
+use Rattle.tx_model.specs.History.{ComesInTurn, IsLegal, MayCome}
+use Rattle.tx_model.specs.Horizon.{is_live}
+use Rattle.tx_model.specs.IdLists.{Ascending}
 use Rattle.tx_model.specs.LawfulLife.{AreRounds, lines_in}
+use Rattle.tx_model.specs.LifeLog.{AreFlushed, batches_size}
+use Rattle.tx_model.specs.Lines.{AreLawfulLines, IsLawfulLine}
+use Rattle.tx_model.specs.Running.{open_ids}
+use Rattle.tx_model.proofs.PlaceLemmas.{each_place_none}
 use Rattle.session_lang.specs.declared.script.Item.{Item}
 use Rattle.session_lang.specs.declared.script.Item.TheVariants as items
 use Rattle.session_lang.specs.declared.script.Script.{Script}
 use Rattle.session_lang.specs.CommandText.{command_words}
-use Rattle.session_lang.specs.Rounds.{round_of, turns_of}
-use Rattle.session_lang.specs.Script.{IsScript, IsReadItem, item_text}
+use Rattle.session_lang.specs.Header.{directive_text}
+use Rattle.session_lang.specs.Rounds.{rounds_of, sessions_in}
+use Rattle.session_lang.specs.Script.{IsReadItem, IsScript, item_text}
 use Rattle.session_lang.specs.Words.{line_text, more, name_at}
+use Rattle.session_lang.proofs.SeenLemmas.{is_in, old_number}
+use Rattle.session_run.specs.declared.life.OpenLife.{OpenLife}
+use Rattle.session_run.specs.declared.session.Session.{Session}
 use Rattle.session_run.specs.declared.shared.Shared.{Shared}
-use Rattle.tx_model.proofs.PlaceLemmas.{each_place_none}
 use Rattle.session_run.specs.Acts.{IsSoundAt}
-use Rattle.session_run.specs.Progress.{HasNotBegun, AreFew}
+use Rattle.session_run.specs.Progress.{GoesOn, IsFresh, IsLeft, IsNew, Progress, lines_of}
+use Rattle.session_run.specs.Stands.{IsKept, Nest}
 use Rattle.session_run.specs.Tool.{IsReportOf}
-use Rattle.session_run.specs.Turns.{turns_in, IsRunnable}
-use Rattle.session_run.proofs.RoundLemmas.{one_round, all_short}
+use Rattle.session_run.specs.Turns.{IsRunnable, MayRun}
 
-eqb-refl : (n : ℕ) → (n == n) ≡ true
-eqb-refl n = grind (arith, nat_tests)
+-- a session that has done nothing yet, where nothing has happened
+fresh_left : (w : Shared) (k : ℕ) (s : Session) → w.table.events ≡ [] → IsFresh s → IsLeft w [] k s
+fresh_left w k s none f = record {
+  stands = record {
+    opened = ap (open_ids k) none ∙ sym f.3;
+    ascend = subst Ascending (sym f.3) tt;
+    nest = subst (λ named. Nest w.table.events s.opened.items named) (sym f.1) f.3;
+    depth = omega (arith, ap length f.1, f.2);
+    turn = subst (λ h. AllByRecursion (λ e. (by_of e).command ≤ s.commands) (filter (is_of k) h)) (sym none) tt;
+    live = λ name. ap (is_live w.table.base.next k name) none ∙ ap (list_any (λ j. same_name j.name name)) (sym f.4);
+    snaps = subst (AllByRecursion (IsKept w.table.base w.table.events k)) (sym f.4) tt;
+  };
+  stance_is = rw (f.1, f.2, f.4) refl;
+  counted = f.0;
+  earlier = tt;
+}
 
--- no command, no line
-no_lines : (lines : List Line) → map turn_of lines ≡ [] → lines ≡ []
-no_lines [] e = refl
-no_lines (l ∷ lines) e = absurd cc
+each_has : {X : Type 0} (P : X → Type 0) (xs : List X) → AllByRecursion P xs → (k : ℕ) (x : X) → slice_get xs k ≡ Some x → P x
+each_has P [] a k x e = absurd cc
+each_has {X} P (y ∷ xs) a zero x e = let same : y ≡ x = cc in subst P same a.0
+each_has P (y ∷ xs) a (suc k) x e = each_has P xs a.1 k x e
 
-some_lines : (t : ℕ × Command) (turns : List (ℕ × Command)) (lines : List Line) → map turn_of lines ≡ grouped (t ∷ turns) → lines ≢ []
-some_lines t turns lines e n =
-    let same : map turn_of [] ≡ grouped (t ∷ turns) = ap (map turn_of) (sym n) ∙ e in
-    cons≢nil (sym (same ∙ first_group))
-  where
-    rest : List (ℕ × Command)
-    rest = turns_of t.0 turns
+-- a life that begins
+pub life_begins : (base : Counters) (n : ℕ) (life : OpenLife) → IsBase base → IsNew base n life.shared → length life.sessions.items ≡ n → AllByRecursion IsFresh life.sessions.items → life.steps ≡ [] → life.lines ≡ [] → GoesOn life
+life_begins base n life is_base new count fresh no_steps no_lines =
+    let w = life.shared in
+    let none : w.table.events ≡ [] = ap (λ t. t.events) new.table in
+    let same : w.table.base ≡ base = ap (λ t. t.base) new.table in
+    let empty : lines_of life ≡ [] = ap (λ ss. flat_map lines_in ss ++ life.lines) no_steps ∙ no_lines in
+    let sound : IsSoundAt w = record {
+      base_is = subst IsBase (sym same) is_base;
+      legal = subst (IsLegal w.table.base) (sym none) (record { rules = each_place_none (MayCome w.table.base); turns = each_place_none ComesInTurn });
+      logged = rw (same, none) new.recs;
+      states_are = rw none new.states;
+    } in
+    let lawful : AreLawfulLines w.table.base [] w.table.events [] = record {
+      each = each_place_none (IsLawfulLine w.table.base [] w.table.events);
+      no_other = subst (All (λ e. IsTrue (list_any (λ (j : Line). same_by j.by (by_of e)) []))) (sym none) (All-nil (λ e. IsTrue (list_any (λ (j : Line). same_by j.by (by_of e)) [])));
+    } in
+    let at_first : Progress w life.sessions.items [] = record {
+      lawful = lawful;
+      sound = sound;
+      all = count ∙ sym (ap (λ t. t.sessions) new.table);
+      each = λ k s e. fresh_left w k s none (each_has IsFresh life.sessions.items fresh k s e);
+    } in
+    record {
+      progress = subst (Progress w life.sessions.items) (sym empty) at_first;
+      few = omega (arith, ap length new.recs);
+    }
 
-    first_group : grouped (t ∷ turns) ≡ (t ∷ rest) ++ flat_map (λ s. turns_of s (t ∷ turns)) (filter (λ y. not (y == t.0)) (first_seen (map (λ (p : ℕ × Command). p.0) turns)))
-    first_group = ap (λ b. cond b (t ∷ rest) rest ++ flat_map (λ s. turns_of s (t ∷ turns)) (filter (λ y. not (y == t.0)) (first_seen (map (λ (p : ℕ × Command). p.0) turns)))) (eqb-refl t.0)
-
-    cons≢nil : {X : Type 0} {x : X} {xs : List X} → x ∷ xs ≡ [] → ⊥
-    cons≢nil e = cc
-
-rounds_told : (turns : List (ℕ × Command)) (lines : List Line) (ss : List Step) → AreLinesOf turns lines → (lines ≡ [] → ss ≡ []) → (lines ≢ [] → ss ≡ steps.Round 1 lines ∷ []) → AreRounds 1 (round_of turns) ss × (flat_map lines_in ss ≡ lines)
-rounds_told [] lines ss e none one =
-    let n = no_lines lines e in
-    (rw (none n) tt, ap (flat_map lines_in) (none n) ∙ sym n)
-rounds_told (t ∷ turns) lines ss e none one =
-    let o = one (some_lines t turns lines e) in
-    (rw o (refl, e, tt), ap (flat_map lines_in) o ∙ append-nil lines)
-
--- a run's report
-pub report_of : (s : Script) (w : Shared) (lines : List Line) (ss : List Step) (r : LifeReport) → IsRunnable s → w.base ≡ s.base → IsSoundAt w → AreLawfulLines w.base [] w.events lines → AreLinesOf (turns_in s.items) lines → AreFlushed w.log.recs w.log.flushed → w.log.end ≡ batches_size (take w.log.flushed w.log.recs) → (lines ≡ [] → ss ≡ []) → (lines ≢ [] → ss ≡ steps.Round 1 lines ∷ []) → r.life.from ≡ 0 → r.life.base ≡ w.base → r.life.committed ≡ [] → r.life.events ≡ w.events → r.life.multis ≡ [] → r.life.recs ≡ w.log.recs → r.life.flushed ≡ w.log.flushed → r.life.end ≡ w.log.end → r.steps ≡ ss → r.crash ≡ None → IsReportOf s (record { names = s.names; lives = r ∷ [] })
-report_of s w lines ss r runs same sound lawful e known gate none one from base committed events multis recs flushed end steps_is last =
-    let told = rounds_told (turns_in s.items) lines ss e none one in
+-- the report of a life that ran the script
+pub report_of : (s : Script) (life : OpenLife) (r : LifeReport) → GoesOn life → life.lines ≡ [] → AreRounds 1 (rounds_of s.items) life.steps → life.shared.table.base ≡ s.base → AreFlushed life.shared.log.recs life.shared.log.flushed → life.shared.log.end ≡ batches_size (take life.shared.log.flushed life.shared.log.recs) → r.life.from ≡ 0 → r.life.base ≡ life.shared.table.base → r.life.committed ≡ [] → r.life.events ≡ life.shared.table.events → r.life.multis ≡ [] → r.life.recs ≡ life.shared.log.recs → r.life.flushed ≡ life.shared.log.flushed → r.life.end ≡ life.shared.log.end → r.steps ≡ life.steps → r.crash ≡ None → IsReportOf s (record { names = s.names; lives = r ∷ [] })
+report_of s life r on ended told same known gate from base committed events multis recs flushed end steps_is last =
+    let w = life.shared in
+    let all : lines_of life ≡ flat_map lines_in life.steps = ap (λ ls. flat_map lines_in life.steps ++ ls) ended ∙ append-nil (flat_map lines_in life.steps) in
+    let lawful : AreLawfulLines w.table.base [] w.table.events (flat_map lines_in life.steps) = subst (AreLawfulLines w.table.base [] w.table.events) all on.progress.lawful in
     record {
       names = refl;
       life = r;
@@ -75,12 +99,12 @@ report_of s w lines ss r runs same sound lawful e known gate none one from base 
       base = base ∙ same;
       nothing_before = committed;
       lawful = record {
-        history = rw (base, events) sound.legal;
-        told = subst (λ rounds. AreRounds 1 rounds r.steps) (sym (one_round s.items [] (recursion_from_All IsReadItem s.items runs.read))) (subst (AreRounds 1 (round_of (turns_in s.items))) (sym steps_is) told.0);
-        lawful = rw (base, committed, events, steps_is, told.1) lawful;
+        history = rw (base, events) on.progress.sound.legal;
+        told = subst (AreRounds 1 (rounds_of s.items)) (sym steps_is) told;
+        lawful = rw (base, committed, events, steps_is) lawful;
         multis = multis;
         log = rw (from, base, events, recs, flushed, end) (record {
-          records = sound.logged;
+          records = on.progress.sound.logged;
           count = w.log.flushed;
           known = known;
           flushed_to = omega arith;
@@ -93,60 +117,43 @@ line_some : (w : List ℕ) (ws : List (List ℕ)) → 1 ≤ length (line_text (w
 unfolding line_text
 line_some w ws = omega (arith, length-append (w ++ more ws) (10 ∷ []))
 
--- each command has a byte at least
+-- each line has a byte at least
 items_few : (names : List (List ℕ)) (script : List Item) → AllByRecursion IsReadItem script → length script ≤ length (flat_map (item_text names) script)
 items_few names [] r = omega arith
 items_few names (items.Run s c ∷ script) r =
     omega (arith, items_few names script r.1, length-append (item_text names (items.Run s c)) (flat_map (item_text names) script), line_some (name_at names s) (command_words c))
-items_few names (i ∷ script) r = absurd r.0
+items_few names (items.Round ∷ script) r =
+    omega (arith, items_few names script r.1, length-append (item_text names items.Round) (flat_map (item_text names) script), line_some (codes ".round") [])
+items_few names (items.Checkpoint ∷ script) r = absurd r.0
+items_few names (items.Crash how ∷ script) r = absurd r.0
+items_few names (items.Dump what at size ∷ script) r = absurd r.0
+
+eqb-refl : (n : ℕ) → (n == n) ≡ true
+eqb-refl n = grind (arith, nat_tests)
+
+or_right : (a b : Bool) → b ≡ true → (a || b) ≡ true
+or_right true b e = refl
+or_right false b e = e
+
+-- each command's session is one of them
+may_run : (n : ℕ) (script : List Item) → ((k : ℕ) → is_in k (sessions_in script) ≡ true → k < n) → AllByRecursion IsReadItem script → AllByRecursion (MayRun n) script
+may_run n [] f r = tt
+may_run n (items.Run s c ∷ script) f r = (
+  (r.0, f s (ap (λ b. b || is_in s (sessions_in script)) (eqb-refl s))),
+  may_run n script (λ k e. f k (or_right (k == s) (is_in k (sessions_in script)) e)) r.1,
+)
+may_run n (items.Round ∷ script) f r = (tt, may_run n script f r.1)
+may_run n (items.Checkpoint ∷ script) f r = absurd r.0
+may_run n (items.Crash how ∷ script) f r = absurd r.0
+may_run n (items.Dump what at size ∷ script) f r = absurd r.0
 
 -- a script can be run
 pub script_runs : (s : Script) (bytes : List ℕ) → IsScript s bytes → IsRunnable s
-script_runs s bytes i = record {
-  base = i.base;
-  read = i.read;
-  numbered = i.numbered;
-  sessions = i.sessions;
-  few = omega (arith, items_few s.names s.items (recursion_from_All IsReadItem s.items i.read), ap length i.text, i.size);
-  short = all_short s.items i.read i.commands;
-}
-
--- the base of a new log
-pub first_next : (b : Counters) → b ≡ first_base → b.next ≡ 3
-unfolding first_base
-first_next b e = ap (λ (c : Counters). c.next) e
-
-first_oldest : (b : Counters) → b ≡ first_base → b.oldest ≡ 3
-unfolding first_base
-first_oldest b e = ap (λ (c : Counters). c.oldest) e
-
--- a life that begins
-pub life_begins : (w : Shared) → w.base ≡ first_base → w.next ≡ w.base.next → w.latest ≡ id_before w.base.next → w.running.items ≡ [] → w.events ≡ [] → w.log.recs ≡ records.Checkpoint 0 w.base ∷ [] → HasNotBegun w 0 []
-life_begins w b n l r h k =
-    let three = first_next w.base b in
-    let two : id_before w.base.next ≡ 2 = ap id_before three in
+script_runs s bytes i =
+    let read = recursion_from_All IsReadItem s.items i.read in
     record {
-      lawful = record {
-        each = each_place_none (IsLawfulLine w.base [] w.events);
-        no_other = subst (All (λ e. IsTrue (list_any (λ (j : Line). same_by j.by (by_of e)) []))) (sym h) (All-nil (λ e. IsTrue (list_any (λ (j : Line). same_by j.by (by_of e)) [])));
-      };
-      sound = rw (n, l, r, h, k) (record {
-        legal = record { rules = each_place_none (MayCome w.base); turns = each_place_none ComesInTurn };
-        flat = tt;
-        counted = refl;
-        closed_to = refl;
-        behind = omega (arith, two, three);
-        normal = omega (arith, two);
-        runs = refl;
-        logged = refl;
-      });
-      before = tt;
+      base = i.counters;
+      items = All-from_recursion (MayRun (length s.names)) s.items (may_run (length s.names) s.items (λ k e. old_number k (length s.names) (sessions_in s.items) i.numbered e) read);
+      sessions = i.sessions;
+      few = omega (arith, items_few s.names s.items read, ap length i.text, length-append (flat_map directive_text i.header) (flat_map (item_text s.names) s.items), i.size);
     }
-
-pub few_at_first : (w : Shared) → w.base ≡ first_base → w.next ≡ w.base.next → w.log.recs ≡ records.Checkpoint 0 w.base ∷ [] → AreFew w []
-few_at_first w b n k = record {
-  oldest = first_oldest w.base b;
-  normal = omega (arith, n, first_next w.base b);
-  few = omega (arith, n, first_next w.base b);
-  short = omega (arith, ap length k);
-}

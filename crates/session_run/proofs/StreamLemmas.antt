@@ -1,5 +1,8 @@
-use Rattle.std.proofs.Common.{◌≡◌, ℕ, ◌+◌, ◌≤◌, List, Option, sym, ap, subst, ◌∙◌, take, drop, length, arith, get_or, [], ◌∷◌, ◌<◌, map, refl}
-use Rattle.std.specs.Io.KnownBytes.{Appends}
+use Rattle.std.proofs.Common.{◌≡◌, ℕ, ◌+◌, ◌≤◌, List, Option, sym, ap, subst, inl, ◌∙◌, take, drop, length, arith, get_or, [], ◌∷◌, ◌<◌, map, refl}
+use Rattle.std.specs.Io.KnownBytes.{Appends, Consumes, IsAtEnd}
+use Rattle.session_run.specs.declared.tool.Ending.{Ending}
+use Rattle.session_run.specs.declared.tool.Ending.TheVariants as endings
+use Rattle.session_run.specs.Ends.{Answers, Ends}
 use Rattle.std.proofs.KnownBytes.{Appends-trans}
 use Rattle.std.proofs.Math.Seq.{take-add}
 use Rattle.std.proofs.lemmas.Slice.{between_to_end}
@@ -28,3 +31,10 @@ one_word f xs x w b e h =
 pub take_whole : (xs : List ℕ) → take (length xs) xs ≡ xs
 take_whole [] = refl
 take_whole (x ∷ xs) = ap (λ t. x ∷ t) (take_whole xs)
+
+-- how a run ends whose source was read to its end
+pub ends_of : (left left' : Option (List ℕ)) (faults faults' : ℕ) (bytes : List ℕ) (e : Ending) → Consumes left left' bytes → IsAtEnd left' → Answers bytes e → Ends left left' faults faults' e
+ends_of left left' faults faults' bytes (endings.Report text) read ended a = record { bytes = bytes; read = read; ended = ended; script = a.0; spelled = a.2; report = a.1; lawful = a.3; exact = a.4 }
+ends_of left left' faults faults' bytes endings.NoScript read ended a = record { bytes = bytes; read = read; ended = inl ended; none = a }
+ends_of left left' faults faults' bytes endings.ReadFault read ended a = absurd a
+ends_of left left' faults faults' bytes endings.Memory read ended a = tt

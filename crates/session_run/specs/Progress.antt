@@ -1,35 +1,86 @@
--- A session in the middle of its commands.
-use Rattle.std.specs.Prelude.{◌≡◌, ℕ, ◌+◌, ◌*◌, ◌<◌, ◌≤◌, List, [], length}
-use Rattle.std.specs.List.{AllByRecursion, count_by}
+-- A life in the middle of its rounds.
+use Rattle.std.specs.Prelude.{◌≡◌, ℕ, ◌+◌, ◌<◌, ◌≤◌, ◌^◌, List, [], ◌∷◌, ◌++◌, Some, slice_get, length}
+use Rattle.std.specs.List.{AllByRecursion, count_by, flat_map}
+use Rattle.tx_model.specs.declared.command.Command.{Command}
+use Rattle.tx_model.specs.declared.record.Counters.{Counters}
+use Rattle.tx_model.specs.declared.record.Rec.TheVariants as records
 use Rattle.tx_model.specs.declared.report.Line.{Line}
-use Rattle.tx_model.specs.Lines.{AreLawfulLines, stance, is_line_of}
+use Rattle.tx_model.specs.declared.report.Step.{Step}
+use Rattle.tx_model.specs.declared.report.Step.TheVariants as steps
+use Rattle.tx_model.specs.LawfulLife.{lines_in}
+use Rattle.tx_model.specs.Lines.{AreLawfulLines, AreLinesOf, stance, is_line_of}
+use Rattle.proc_table.specs.Table.{page_of}
+use Rattle.session_run.specs.declared.life.OpenLife.{OpenLife}
 use Rattle.session_run.specs.declared.session.Session.{Session}
 use Rattle.session_run.specs.declared.shared.Shared.{Shared}
 use Rattle.session_run.specs.Stands.{Stands, stance_of}
-use Rattle.session_run.specs.Acts.{IsSoundAt}
+use Rattle.session_run.specs.Acts.{ActsOn, GrowsLittle, IsSoundAt, StandsAt}
 
 -- the line isn't of a later command of the session
 abbrev pub IsNotLater : ℕ → ℕ → Line → Type 0
 IsNotLater session number l = l.by.session ≡ session → l.by.command ≤ number
 
--- the lines so far are lawful, and the session stands as its lines, of which there are so many, leave it
-pub record Progress (w : Shared) (session number : ℕ) (s : Session) (lines : List Line) : Type 0 where
-  pub lawful : AreLawfulLines w.base [] w.events lines
-  pub sound : IsSoundAt w
-  pub stands : Stands w.base w.events w.next session number s.transaction s.kept.items
-  pub stance_is : stance w.events lines session ≡ stance_of s.transaction s.kept.items
-  pub counted : number ≡ count_by (is_line_of session) lines
-  pub earlier : AllByRecursion (IsNotLater session number) lines
+-- the session stands as its lines, of which there are as many as its commands, leave it
+pub record IsLeft (w : Shared) (lines : List Line) (session : ℕ) (s : Session) : Type 0 where
+  pub stands : Stands w.table.base w.table.events session s.commands s
+  pub stance_is : stance w.table.events lines session ≡ stance_of s
+  pub counted : s.commands ≡ count_by (is_line_of session) lines
+  pub earlier : AllByRecursion (IsNotLater session s.commands) lines
 
--- the ids that are given and the records are few, since the lines are
-pub record AreFew (w : Shared) (lines : List Line) : Type 0 where
-  pub oldest : w.base.oldest ≡ 3
-  pub normal : 3 ≤ w.next
-  pub few : w.next ≤ 3 + 4 * length lines
-  pub short : length w.log.recs ≤ 1 + length lines
-
--- a session of which there is neither line nor event
-pub record HasNotBegun (w : Shared) (session : ℕ) (lines : List Line) : Type 0 where
-  pub lawful : AreLawfulLines w.base [] w.events lines
+-- the lines of the life so far are lawful, and each session stands as its lines leave it
+pub record Progress (w : Shared) (sessions : List Session) (lines : List Line) : Type 0 where
+  pub lawful : AreLawfulLines w.table.base [] w.table.events lines
   pub sound : IsSoundAt w
-  pub before : AllByRecursion (λ l. l.by.session < session) lines
+  pub all : length sessions ≡ w.table.sessions
+  pub each : (k : ℕ) (s : Session) → slice_get sessions k ≡ Some s → IsLeft w lines k s
+
+-- the session ran its next command, and its line says so
+pub record Ran (w w' : Shared) (number : ℕ) (s s' : Session) (c : Command) (l : Line) : Type 0 where
+  pub by : l.by ≡ record { session = number; command = s.commands + 1 }
+  pub command : l.command ≡ c
+  pub acts : ActsOn w w' l.by s s' l.command l.reply
+  pub sound : IsSoundAt w'
+  pub stands : StandsAt w' l.by s'
+  pub few : GrowsLittle w w'
+  pub count : s'.commands ≡ s.commands + 1
+
+-- the log has few records, since the lines are few
+abbrev pub AreFew : Shared → List Line → Type 0
+AreFew w lines = length w.log.recs ≤ 1 + length lines
+
+-- the lines of the rounds that are done, and of the one that runs
+abbrev pub lines_of : OpenLife → List Line
+lines_of life = flat_map lines_in life.steps ++ life.lines
+
+-- the log has room for so many lines more
+abbrev pub MayAdd : OpenLife → ℕ → Type 0
+MayAdd life n = length (lines_of life) + n < 2 ^ 28
+
+-- the life may go on
+pub record GoesOn (life : OpenLife) : Type 0 where
+  pub progress : Progress life.shared life.sessions.items (lines_of life)
+  pub few : AreFew life.shared (lines_of life)
+
+-- the session has done nothing yet
+abbrev pub IsFresh : Session → Type 0
+IsFresh s = (s.commands ≡ 0) × (s.named.items ≡ []) × (s.unnamed ≡ 0) × (s.opened.items ≡ []) × (s.kept.items ≡ [])
+
+-- nothing has happened yet, and the log has the checkpoint of the base
+pub record IsNew (base : Counters) (sessions : ℕ) (w : Shared) : Type 0 where
+  pub table : w.table ≡ record { base = base; sessions = sessions; frontier = page_of base.next; events = [] }
+  pub recs : w.log.recs ≡ records.Checkpoint 0 base ∷ []
+  pub states : w.states ≡ []
+
+-- the life is the one that began so
+pub record IsSameLife (life life' : OpenLife) : Type 0 where
+  pub base : life'.shared.table.base ≡ life.shared.table.base
+  pub sessions : length life'.sessions.items ≡ length life.sessions.items
+
+-- a round's step, where the round has lines
+abbrev pub round_step : ℕ → List Line → List Step
+round_step n [] = []
+round_step n (l ∷ lines) = steps.Round n (l ∷ lines) ∷ []
+
+-- the steps are these and then a round of these commands, where there are any
+abbrev pub AddsRound : List Step → List (ℕ × Command) → List Step → Type 0
+AddsRound before turns after = (lines : List Line) × AreLinesOf turns lines × (after ≡ before ++ round_step (length before + 1) lines)

@@ -1,48 +1,58 @@
 -- How a session stands in the history.
-use Rattle.std.specs.Prelude.{◌≡◌, ℕ, ◌<◌, ◌≤◌, ◌^◌, List, [], ◌∷◌, Option, Some, None, take, slice_get, map}
+use Rattle.std.specs.Prelude.{◌≡◌, ℕ, zero, suc, ◌+◌, ◌≤◌, nat_le, List, [], ◌∷◌, ◌++◌, Option, Some, None, true, false, take, slice_get, map, length, Contains}
 use Rattle.std.specs.List.{AllByRecursion, filter, list_any}
 use Rattle.tx_model.specs.declared.event.Event.{Event}
 use Rattle.tx_model.specs.declared.event.Event.TheVariants as events
 use Rattle.tx_model.specs.declared.record.Counters.{Counters}
 use Rattle.tx_model.specs.Events.{by_of, is_of, same_name}
+use Rattle.tx_model.specs.Families.{is_top}
 use Rattle.tx_model.specs.Horizon.{is_live}
+use Rattle.tx_model.specs.IdLists.{Ascending}
+use Rattle.tx_model.specs.Replies.{most_levels}
 use Rattle.tx_model.specs.Running.{open_ids}
-use Rattle.tx_model.specs.Snapshots.{snapshot_xmax}
+use Rattle.tx_model.specs.Savepoints.{is_inside}
+use Rattle.tx_model.specs.Snapshots.{snapshot_data}
 use Rattle.tx_model.specs.Stance.{Stance}
+use Rattle.snap_core.specs.Says.{data_of}
 use Rattle.session_run.specs.declared.session.Kept.{Kept}
-use Rattle.session_run.specs.declared.session.Transaction.{Transaction}
-use Rattle.session_run.specs.declared.session.Transaction.TheVariants as transactions
+use Rattle.session_run.specs.declared.session.Session.{Session}
 
--- the transaction's levels
-abbrev pub levels_of : Transaction → List (Option ℕ)
-levels_of transactions.Closed = []
-levels_of transactions.Begun = None ∷ []
-levels_of (transactions.WithId id) = Some id ∷ []
+-- so many levels without an id
+abbrev pub nameless : ℕ → List (Option ℕ)
+nameless zero = []
+nameless (suc n) = None ∷ nameless n
 
--- and its id, where it has one
-abbrev pub ids_of : Transaction → List ℕ
-ids_of transactions.Closed = []
-ids_of transactions.Begun = []
-ids_of (transactions.WithId id) = id ∷ []
+-- the levels from the transaction down: those with an id stand before those without
+abbrev pub levels_of : List ℕ → ℕ → List (Option ℕ)
+levels_of named unnamed = map (λ id. Some id) named ++ nameless unnamed
 
 abbrev pub told_of : Kept → List ℕ × ℕ
 told_of k = (k.name, k.command)
 
 -- the session as its lines leave it
-abbrev pub stance_of : Transaction → List Kept → Stance
-stance_of t kept = record { levels = levels_of t; snaps = map told_of kept }
+abbrev pub stance_of : Session → Stance
+stance_of s = record { levels = levels_of s.named.items s.unnamed; snaps = map told_of s.kept.items }
 
 -- the snapshot was taken at its place
 pub record IsKept (base : Counters) (h : List Event) (session : ℕ) (k : Kept) : Type 0 where
   pub taken : slice_get h k.place ≡ Some (events.Snap (record { session = session; command = k.command }) k.name)
-  pub xmax_is : k.xmax ≡ snapshot_xmax base.next (take k.place h)
-  pub normal : 3 ≤ k.xmax
-  pub small : k.xmax < 2 ^ 31
+  pub holds : data_of k.snapshot ≡ snapshot_data base.next (take k.place h)
 
--- the session has these ids open and these snapshots live, and its events so far are of commands up to a number
-pub record Stands (base : Counters) (h : List Event) (next session number : ℕ) (t : Transaction) (kept : List Kept) : Type 0 where
-  pub opened : open_ids session h ≡ ids_of t
-  pub given : AllByRecursion (λ x. (3 ≤ x) × (x < next)) (ids_of t)
+-- a savepoint's id: the ids given in it are the open ones from it on
+abbrev pub IsSavepointIn : List Event → List ℕ → ℕ → Type 0
+IsSavepointIn h ids id = Contains ids id × (is_top h id ≡ false) × AllByRecursion (λ x. is_inside h id x ≡ nat_le id x) ids
+
+-- the levels' ids are open: the first is the transaction's, the others are savepoints, each inside the one before
+abbrev pub Nest : List Event → List ℕ → List ℕ → Type 0
+Nest h ids [] = ids ≡ []
+Nest h ids (top ∷ savepoints) = (rest : List ℕ) × (ids ≡ top ∷ rest) × (is_top h top ≡ true) × AllByRecursion (IsSavepointIn h ids) savepoints × Ascending (top ∷ savepoints)
+
+-- the session has these levels, ids and snapshots, and its events so far are of commands up to a number
+pub record Stands (base : Counters) (h : List Event) (session number : ℕ) (s : Session) : Type 0 where
+  pub opened : open_ids session h ≡ s.opened.items
+  pub ascend : Ascending s.opened.items
+  pub nest : Nest h s.opened.items s.named.items
+  pub depth : length s.named.items + s.unnamed ≤ most_levels
   pub turn : AllByRecursion (λ e. (by_of e).command ≤ number) (filter (is_of session) h)
-  pub live : (name : List ℕ) → is_live base.next session name h ≡ list_any (λ k. same_name k.name name) kept
-  pub snaps : AllByRecursion (IsKept base h session) kept
+  pub live : (name : List ℕ) → is_live base.next session name h ≡ list_any (λ k. same_name k.name name) s.kept.items
+  pub snaps : AllByRecursion (IsKept base h session) s.kept.items

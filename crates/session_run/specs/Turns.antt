@@ -1,14 +1,12 @@
--- The commands of a script without directives.
-use Rattle.std.specs.Prelude.{◌≡◌, ℕ, ◌≤◌, ◌^◌, List, Option, Some, None, length}
-use Rattle.std.specs.List.{All, filter_map, range_with_len}
+-- The commands of a script, round by round, and which scripts a life can run.
+use Rattle.std.specs.Prelude.{◌≡◌, ℕ, ◌<◌, ◌≤◌, ◌^◌, ◌⊎◌, Bool, true, false, List, [], ◌∷◌, ◌++◌, Option, Some, None, length}
+use Rattle.std.specs.List.{All, filter_map}
 use Rattle.tx_model.specs.declared.command.Command.{Command}
-use Rattle.tx_model.specs.Base.{first_base}
-use Rattle.tx_model.specs.Places.{first_seen}
+use Rattle.tx_model.specs.Base.{IsBase}
 use Rattle.session_lang.specs.declared.script.Item.{Item}
 use Rattle.session_lang.specs.declared.script.Item.TheVariants as items
 use Rattle.session_lang.specs.declared.script.Script.{Script}
-use Rattle.session_lang.specs.Rounds.{sessions_in}
-use Rattle.session_lang.specs.Script.{IsReadItem, IsShort}
+use Rattle.session_lang.specs.Script.{IsRead}
 
 abbrev pub turn_in : Item → Option (ℕ × Command)
 turn_in (items.Run session command) = Some (session, command)
@@ -17,11 +15,24 @@ turn_in _ = None
 abbrev pub turns_in : List Item → List (ℕ × Command)
 turns_in script = filter_map turn_in script
 
--- a script that the sessions can run in turn
+abbrev pub is_command : Item → Bool
+is_command (items.Run session command) = true
+is_command _ = false
+
+-- the round is the commands before the first directive, and the rest stands behind that
+pub record IsFirstRound (script round rest : List Item) : Type 0 where
+  pub commands : All (λ item. is_command item ≡ true) round
+  pub split : ((script ≡ round) × (rest ≡ [])) ⊎ ((directive : Item) × (is_command directive ≡ false) × (script ≡ round ++ directive ∷ rest))
+
+-- a life with so many sessions can run the item
+abbrev pub MayRun : ℕ → Item → Type 0
+MayRun sessions (items.Run session command) = IsRead command × (session < sessions)
+MayRun sessions items.Round = Unit {0}
+MayRun sessions _ = ⊥
+
+-- a script that sessions can run, round by round
 pub record IsRunnable (s : Script) : Type 0 where
-  pub base : s.base ≡ first_base
-  pub read : All IsReadItem s.items
-  pub numbered : first_seen (sessions_in s.items) ≡ range_with_len 0 (length s.names)
+  pub base : IsBase s.base
+  pub items : All (MayRun (length s.names)) s.items
   pub sessions : length s.names ≤ 64
   pub few : length s.items ≤ 2 ^ 24
-  pub short : IsShort (turns_in s.items)

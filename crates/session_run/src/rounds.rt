@@ -1,139 +1,192 @@
-ghost use Rattle.std.specs.Prelude.{◌≡◌, ℕ, ◌+◌, ◌-◌, ◌*◌, ◌^◌, ◌<◌, ◌≤◌, List, [], ◌∷◌, ◌++◌, OnOk, map, length};
-ghost use Rattle.std.specs.List.{All, range_with_len};
+ghost use Rattle.std.specs.Prelude.{◌≡◌, ℕ, ◌+◌, ◌^◌, ◌<◌, ◌≤◌, List, [], ◌∷◌, ◌++◌, IfNone, IfOk, IfSome, OnOk, map, length};
+ghost use Rattle.std.specs.List.{All, flat_map};
+ghost use Rattle.tx_model.specs.LawfulLife.{AreRounds};
+ghost use Rattle.tx_model.specs.Lines.{turn_of};
 ghost use Rattle.tx_model.specs.Places.{first_seen};
-ghost use Rattle.tx_model.specs.Lines.{turn_of, AreLinesOf, AreLawfulLines};
-ghost use Rattle.session_lang.specs.Rounds.{sessions_in, turns_of};
-ghost use Rattle.session_lang.specs.Script.{IsRead, IsReadItem, IsShort};
+ghost use Rattle.session_lang.specs.declared.script.Item.TheVariants as items;
+ghost use Rattle.session_lang.specs.Rounds.{rounds_of, session_of, sessions_in, turns_of};
+ghost use Rattle.session_lang.specs.Script.{IsRead};
 ghost use Rattle.session_run.specs.declared.session.Session.{Session};
 ghost use Rattle.session_run.specs.Acts.{IsSoundAt};
-ghost use Rattle.session_run.specs.Progress.{Progress, AreFew, HasNotBegun};
-ghost use Rattle.session_run.specs.Turns.{turns_in};
+ghost use Rattle.session_run.specs.Progress.{GoesOn, IsSameLife, AddsRound, MayAdd, Ran, lines_of};
+ghost use Rattle.session_run.specs.Sound.{HasRoom};
+ghost use Rattle.session_run.specs.Stands.{Stands};
+ghost use Rattle.session_run.specs.Turns.{IsFirstRound, MayRun, is_command, turns_in};
 
+use crate::life::OpenLife;
 use crate::session::{Session, run_command};
 use crate::shared::Shared;
 use session_lang::Item;
 use std::alloc::Global;
-use tx_model::{By, Command, Copied, Line, LineList, Memory};
+use tx_model::{By, Command, Copied, Line, Memory};
 
-/// Runs a session's next command, and adds its line.
-fn run_turn(
+/// Runs a session's next command, and answers its line.
+fn next_line(
     shared: &mut Shared,
     alloc: Global,
-    by: By,
+    number: u32,
     session: &mut Session,
     command: &Command,
-    lines: &mut LineList,
-) -> Result<(), Memory>
+) -> Result<Line, Memory>
     requires read { IsRead command.now }
-    requires later { 1 ≤ by.command }
-    requires progress { Progress shared.old by.session (by.command - 1) session.old lines.old }
-    requires few { AreFew shared.old lines.old }
-    requires room { length lines.old < 2 ^ 28 - 2 }
-    ensures progress { OnOk result (Progress shared.new by.session by.command session.new lines.new) }
-    ensures line { OnOk result (map turn_of lines.new ≡ map turn_of lines.old ++ (by.session, command.now) ∷ []) }
-    ensures few { OnOk result (AreFew shared.new lines.new) }
-    ensures base { OnOk result (shared.new.base ≡ shared.old.base) }
+    requires sound { IsSoundAt shared.old }
+    requires stands { Stands shared.old.table.base shared.old.table.events number session.old.commands session.old }
+    requires known { number < shared.old.table.sessions }
+    requires room { HasRoom shared.old.log.recs }
+    requires numbers { session.old.commands < 2 ^ 32 }
+    ensures { IfOk result (Ran shared.old shared.new number session.old session.new command.now) }
 {
-    let reply = run_command(shared, alloc, by, session, command)?;
-    let command = command.copy()?;
-    lines.push(Line { by, command, reply })
-}
-
-/// Runs a line of the script, where it is of this session.
-fn run_item(
-    shared: &mut Shared,
-    alloc: Global,
-    number: u32,
-    command_number: &mut u64,
-    session: &mut Session,
-    item: &Item,
-    lines: &mut LineList,
-) -> Result<(), Memory>
-    requires read { IsReadItem item.now }
-    requires progress { Progress shared.old number command_number.old session.old lines.old }
-    requires few { AreFew shared.old lines.old }
-    requires room { length lines.old < 2 ^ 28 - 2 }
-    requires numbers { command_number.old < 2 ^ 32 }
-    ensures progress { OnOk result (Progress shared.new number command_number.new session.new lines.new) }
-    ensures line { OnOk result (map turn_of lines.new ≡ map turn_of lines.old ++ turns_of number (turns_in (item.now ∷ []))) }
-    ensures few { OnOk result (AreFew shared.new lines.new) }
-    ensures number { OnOk result (command_number.new ≤ command_number.old + 1) }
-    ensures base { OnOk result (shared.new.base ≡ shared.old.base) }
-{
-    let Item::Run {
-        session: owner,
-        command,
-    } = item
-    else {
-        unreachable!()
-    };
-    if *owner != number {
-        return Ok(());
-    }
-    *command_number += 1;
+    session.commands += 1;
     let by = By {
         session: number,
-        command: *command_number,
+        command: session.commands,
     };
-    run_turn(shared, alloc, by, session, command, lines)
+    let reply = run_command(shared, alloc, by, session, command)?;
+    let command = command.copy()?;
+    Ok(Line { by, command, reply })
 }
 
-/// Runs a session's commands in their order.
-fn run_session(
-    shared: &mut Shared,
-    alloc: Global,
-    number: u32,
-    script: &[Item],
-    lines: &mut LineList,
-) -> Result<(), Memory>
-    requires read { All IsReadItem script.now }
-    requires start { HasNotBegun shared.old number lines.old }
-    requires few { AreFew shared.old lines.old }
-    requires room { length lines.old + length script.now < 2 ^ 28 - 2 }
-    ensures progress { OnOk result ((n : ℕ) × (s : Session) × Progress shared.new number n s lines.new) }
-    ensures lines { OnOk result (map turn_of lines.new ≡ map turn_of lines.old ++ turns_of number (turns_in script.now)) }
-    ensures few { OnOk result (AreFew shared.new lines.new) }
-    ensures base { OnOk result (shared.new.base ≡ shared.old.base) }
+/// The session of a command.
+fn session_of(item: &Item) -> Option<u32>
+    ensures { result ≡ session_of item.now }
 {
-    let mut session = Session::new(alloc);
-    let mut command_number = 0;
-    for item in script {
-        run_item(
-            shared,
-            alloc,
-            number,
-            &mut command_number,
-            &mut session,
-            item,
-            lines,
-        )?;
+    match item {
+        Item::Run { session, .. } => Some(*session),
+        _ => None,
     }
-    Ok(())
 }
 
-/// Runs the sessions one after another, each with its commands in their order.
-pub fn run_round(
-    shared: &mut Shared,
-    alloc: Global,
-    sessions: u32,
-    script: &[Item],
-    lines: &mut LineList,
-) -> Result<(), Memory>
-    requires read { All IsReadItem script.now }
-    requires numbered { first_seen (sessions_in script.now) ≡ range_with_len 0 sessions }
-    requires start { HasNotBegun shared.old 0 lines.old }
-    requires few { AreFew shared.old lines.old }
-    requires empty { lines.old ≡ [] }
-    requires sessions { sessions ≤ 64 }
-    requires items { length script.now ≤ 2 ^ 24 }
-    requires short { IsShort (turns_in script.now) }
-    ensures lawful { OnOk result (AreLawfulLines shared.new.base [] shared.new.events lines.new) }
-    ensures sound { OnOk result (IsSoundAt shared.new) }
-    ensures lines { OnOk result (AreLinesOf (turns_in script.now) lines.new) }
-    ensures base { OnOk result (shared.new.base ≡ shared.old.base) }
+/// The command, where it is of this session.
+fn command_of(number: u32, item: &Item) -> Option<&Command>
+    ensures some { IfSome result (λ command. item.now ≡ items.Run number command.now) }
+    ensures none { IfNone result (turns_of number (turns_in (item.now ∷ [])) ≡ []) }
 {
-    for number in 0..sessions {
-        run_session(shared, alloc, number, script, lines)?;
+    match item {
+        Item::Run { session, command } if *session == number => Some(command),
+        _ => None,
     }
-    Ok(())
+}
+
+/// The sessions that have commands in the round, in the order in which they first appear.
+fn sessions_of(alloc: Global, round: &[Item]) -> Result<Vec<u32>, Memory>
+    ensures { IfOk result (λ all. all.items ≡ first_seen (sessions_in round.now)) }
+{
+    let mut all = Vec::new(alloc);
+    for item in round {
+        if let Some(session) = session_of(item) {
+            if !all.contains(&session) {
+                all.push(session)?;
+            }
+        }
+    }
+    Ok(all)
+}
+
+fn is_command(item: &Item) -> bool
+    ensures { result ≡ is_command item.now }
+{
+    matches!(item, Item::Run { .. })
+}
+
+/// The commands up to the end of the round, and what stands behind that.
+fn next_round(items: &[Item]) -> (&[Item], &[Item])
+    ensures { IsFirstRound items.now result.0.now result.1.now }
+{
+    for i in 0..items.len() {
+        if !is_command(&items[i]) {
+            return (&items[..i], &items[i + 1..]);
+        }
+    }
+    (items, &[])
+}
+
+impl OpenLife {
+    /// Runs a session's next command, and adds its line.
+    fn run_turn(&mut self, alloc: Global, number: u32, command: &Command) -> Result<(), Memory>
+        requires read { IsRead command.now }
+        requires goes_on { GoesOn self.old }
+        requires known { number < length self.old.sessions.items }
+        requires room { MayAdd self.old 1 }
+        ensures goes_on { OnOk result (GoesOn self.new) }
+        ensures line { OnOk result (map turn_of self.new.lines ≡ map turn_of self.old.lines ++ (number, command.now) ∷ []) }
+        ensures steps { OnOk result (self.new.steps ≡ self.old.steps) }
+        ensures same { OnOk result (IsSameLife self.old self.new) }
+    {
+        let session = &mut self.sessions[number as usize];
+        let line = next_line(&mut self.shared, alloc, number, session, command)?;
+        self.lines.push(line)
+    }
+
+    /// Runs a session's commands of a round, in their order.
+    fn run_session(&mut self, alloc: Global, number: u32, round: &[Item]) -> Result<(), Memory>
+        requires goes_on { GoesOn self.old }
+        requires items { All (MayRun (length self.old.sessions.items)) round.now }
+        requires room { MayAdd self.old (length (turns_of number (turns_in round.now))) }
+        ensures goes_on { OnOk result (GoesOn self.new) }
+        ensures lines { OnOk result (map turn_of self.new.lines ≡ map turn_of self.old.lines ++ turns_of number (turns_in round.now)) }
+        ensures steps { OnOk result (self.new.steps ≡ self.old.steps) }
+        ensures same { OnOk result (IsSameLife self.old self.new) }
+    {
+        for item in round {
+            if let Some(command) = command_of(number, item) {
+                self.run_turn(alloc, number, command)?;
+            }
+        }
+        Ok(())
+    }
+
+    /// Runs the commands that these sessions have in a round, one session after another.
+    fn run_sessions(&mut self, alloc: Global, numbers: &[u32], round: &[Item]) -> Result<(), Memory>
+        requires goes_on { GoesOn self.old }
+        requires items { All (MayRun (length self.old.sessions.items)) round.now }
+        requires room { MayAdd self.old (length (flat_map (λ s. turns_of s (turns_in round.now)) numbers.now)) }
+        ensures goes_on { OnOk result (GoesOn self.new) }
+        ensures lines { OnOk result (map turn_of self.new.lines ≡ map turn_of self.old.lines ++ flat_map (λ s. turns_of s (turns_in round.now)) numbers.now) }
+        ensures steps { OnOk result (self.new.steps ≡ self.old.steps) }
+        ensures same { OnOk result (IsSameLife self.old self.new) }
+    {
+        for number in numbers {
+            self.run_session(alloc, *number, round)?;
+        }
+        Ok(())
+    }
+
+    /// Runs a round: its sessions one after another, in the order in which they first appear, each with its commands
+    /// in their order.
+    fn run_round(&mut self, alloc: Global, round: &[Item]) -> Result<(), Memory>
+        requires goes_on { GoesOn self.old }
+        requires begins { self.old.lines ≡ [] }
+        requires items { All (MayRun (length self.old.sessions.items)) round.now }
+        requires room { MayAdd self.old (length round.now) }
+        ensures goes_on { OnOk result (GoesOn self.new) }
+        ensures ended { OnOk result (self.new.lines ≡ []) }
+        ensures step { OnOk result (AddsRound self.old.steps (turns_in round.now) self.new.steps) }
+        ensures room { OnOk result (length (lines_of self.new) ≤ length (lines_of self.old) + length round.now) }
+        ensures same { OnOk result (IsSameLife self.old self.new) }
+    {
+        let sessions = sessions_of(alloc, round)?;
+        self.run_sessions(alloc, sessions.as_slice(), round)?;
+        self.end_round(alloc)?;
+        Ok(())
+    }
+
+    /// Runs the rounds of a script, one after another.
+    pub fn run_rounds(&mut self, alloc: Global, script: &[Item]) -> Result<(), Memory>
+        requires goes_on { GoesOn self.old }
+        requires begins { (self.old.steps ≡ []) × (self.old.lines ≡ []) }
+        requires items { All (MayRun (length self.old.sessions.items)) script.now }
+        requires room { length script.now ≤ 2 ^ 24 }
+        ensures goes_on { OnOk result (GoesOn self.new) }
+        ensures ended { OnOk result (self.new.lines ≡ []) }
+        ensures rounds { OnOk result (AreRounds 1 (rounds_of script.now) self.new.steps) }
+        ensures same { OnOk result (IsSameLife self.old self.new) }
+    {
+        let mut rest = script;
+        while !rest.is_empty() {
+            let (round, behind) = next_round(rest);
+            self.run_round(alloc, round)?;
+            rest = behind;
+        }
+        Ok(())
+    }
 }

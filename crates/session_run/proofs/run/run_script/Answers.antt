@@ -1,16 +1,14 @@
-use Rattle.std.proofs.Common.{◌≡◌, [], ◌++◌, ◌∷◌, ap, ◌∙◌, List, subst}
-use Rattle.tx_model.specs.Lines.{AreLinesOf}
-use Rattle.session_lang.specs.declared.script.Item.{Item}
-use Rattle.session_run.specs.Turns.{turns_in}
+use Rattle.std.proofs.Common.{◌≡◌, [], ◌++◌, ◌∷◌, ap, ◌∙◌, subst}
+use Rattle.tx_model.specs.LawfulLife.{AreRounds}
+use Rattle.session_lang.specs.Rounds.{rounds_of}
 use Rattle.session_run.proofs.RunLemmas.{report_of}
 use Rattle.session_run.proofs.run.run_script.Goals as goal
 
 pub returns : goal.returns
 returns c =
-    let n = c.run_round.new.shared in
-    let e = c.in_ok-run_round.ensures in
-    let s = c.in_ok-steps.ensures in
-    let l = c.life_of-life.ensures in
-    let lives : c.push.new.self ≡ c.life_of-life.result ∷ [] = c.in_ok-push.ensures.ok ∙ ap (λ t. t ++ c.life_of-life.result ∷ []) c.new-lives.ensures in
+    let life = c.run_rounds.new.self in
+    let e = c.in_ok-run_rounds.ensures in
+    let r = c.into_report.ensures in
+    let lives : c.push.new.self ≡ c.into_report.result ∷ [] = c.in_ok-push.ensures.ok ∙ ap (λ t. t ++ c.into_report.result ∷ []) c.new-lives.ensures in
     rw (c.in_ok-names.ensures, lives)
-    (report_of c.args.script.now n c.run_round.new.lines c.in_ok-steps.steps c.life_of-life.result c.requires (e.base ∙ c.in_ok-shared.ensures.base) e.sound e.lawful (subst (λ (its : List Item). AreLinesOf (turns_in its) c.run_round.new.lines) c.items-2.ensures e.lines) n.log.known n.log.gate s.none s.one l.from l.base l.committed l.events l.multis l.recs l.flushed l.end l.steps l.last)
+    (report_of c.args.script.now life c.into_report.result e.goes_on e.ended (subst (λ items. AreRounds 1 (rounds_of items) life.steps) c.items-2.ensures e.rounds) (e.same.base ∙ c.in_ok-life.ensures.base) life.shared.log.known life.shared.log.gate r.from r.base r.committed r.events r.multis r.recs r.flushed r.end r.steps r.last)

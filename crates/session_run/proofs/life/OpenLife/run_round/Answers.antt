@@ -1,0 +1,36 @@
+use Rattle.std.proofs.Common.{ap, ◌∙◌, length}
+use Rattle.session_run.proofs.LifeLemmas.{adds_round, ended_goes_on, ended_lines, round_length, round_room}
+use Rattle.session_run.proofs.life.OpenLife.run_round.Goals as goal
+
+pub run_sessions-requires-clause-room : goal.run_sessions-requires-clause-room
+run_sessions-requires-clause-room c =
+    round_room c.args.self.now c.args.round.now c.as_slice.result.now (c.as_slice.ensures.value ∙ c.in_ok-sessions.ensures) c.requires.room
+
+pub returns-clause-goes_on : goal.returns-clause-goes_on
+returns-clause-goes_on c =
+    let b = c.run_sessions.new.self in
+    let d = c.end_round.new.self in
+    let e = c.in_ok-end_round.ensures in
+    ended_goes_on b d e.shared (ap (λ v. v.items) e.sessions) (ended_lines b d e.step e.lines) c.in_ok-run_sessions.ensures.goes_on
+
+pub returns-clause-step : goal.returns-clause-step
+returns-clause-step c =
+    let r = c.in_ok-run_sessions.ensures in
+    adds_round c.args.self.now c.run_sessions.new.self c.end_round.new.self c.args.round.now c.as_slice.result.now c.requires.begins (c.as_slice.ensures.value ∙ c.in_ok-sessions.ensures) r.steps r.lines c.in_ok-end_round.ensures.step
+
+pub returns-clause-room : goal.returns-clause-room
+returns-clause-room c =
+    let b = c.run_sessions.new.self in
+    let d = c.end_round.new.self in
+    let e = c.in_ok-end_round.ensures in
+    let r = c.in_ok-run_sessions.ensures in
+    round_length c.args.self.now b d c.args.round.now c.as_slice.result.now (c.as_slice.ensures.value ∙ c.in_ok-sessions.ensures) r.steps r.lines (ended_lines b d e.step e.lines)
+
+pub returns-clause-same : goal.returns-clause-same
+returns-clause-same c =
+    let e = c.in_ok-end_round.ensures in
+    let r = c.in_ok-run_sessions.ensures in
+    record {
+      base = ap (λ w. w.table.base) e.shared ∙ r.same.base;
+      sessions = ap (λ v. length v.items) e.sessions ∙ r.same.sessions;
+    }

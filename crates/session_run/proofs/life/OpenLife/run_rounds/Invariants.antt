@@ -1,0 +1,23 @@
+use Rattle.std.proofs.Common.{◌≡◌, ℕ, ◌+◌, ◌≤◌, ◌^◌, List, [], ◌++◌, length}
+use Rattle.std.specs.List.{All}
+use Rattle.tx_model.specs.declared.command.Command.{Command}
+use Rattle.tx_model.specs.LawfulLife.{AreRounds}
+use Rattle.session_lang.specs.Rounds.{rounds_of}
+use Rattle.session_run.specs.Progress.{GoesOn, IsSameLife, lines_of}
+use Rattle.session_run.specs.Turns.{MayRun}
+use Rattle.session_run.proofs.life.OpenLife.run_rounds.Given as goal
+
+abbrev pub invariant-loop-rest : goal.invariant-loop-rest
+invariant-loop-rest l = record {
+  goes_on : GoesOn l.self;
+  ended : l.self.lines ≡ [];
+  done : List (List (ℕ × Command));
+  told : AreRounds 1 done l.self.steps;
+  rounds : rounds_of l.script ≡ done ++ rounds_of l.rest;
+  items : All (MayRun (length l.self.sessions.items)) l.rest;
+  room : length (lines_of l.self) + length l.rest ≤ 2 ^ 24;
+  same : IsSameLife l.fn.self l.self;
+}
+
+abbrev pub decreases-loop-rest : goal.decreases-loop-rest
+decreases-loop-rest l = length l.rest

@@ -1,0 +1,41 @@
+use Rattle.std.proofs.Common.{◌++◌, ◌∷◌, [], List, sym, ap, subst, append_assoc, ◌∙◌}
+use Rattle.std.proofs.lemmas.Result.{on_ok_weaker}
+use Rattle.std.specs.List.{flat_map}
+use Rattle.tx_model.specs.declared.report.Line.{Line}
+use Rattle.tx_model.specs.LawfulLife.{lines_in}
+use Rattle.session_run.specs.Progress.{AreFew, Progress, lines_of}
+use Rattle.session_run.proofs.LifeLemmas.{few_commands, place_is}
+use Rattle.session_run.proofs.ProgressLemmas.{few_on, progress_on}
+use Rattle.session_run.proofs.life.OpenLife.run_turn.Goals as goal
+
+pub next_line-requires-clause-stands : goal.next_line-requires-clause-stands
+next_line-requires-clause-stands c =
+    let life = c.args.self.now in
+    let s = c.index_mut-session.result.now in
+    (c.requires.goes_on.progress.each c.args.number s (place_is life.sessions.items c.args.number s c.requires.known c.index_mut-session.ensures.value)).stands
+
+pub next_line-requires-clause-numbers : goal.next_line-requires-clause-numbers
+next_line-requires-clause-numbers c =
+    let life = c.args.self.now in
+    let s = c.index_mut-session.result.now in
+    few_commands life c.args.number s (place_is life.sessions.items c.args.number s c.requires.known c.index_mut-session.ensures.value) c.requires.goes_on c.requires.room
+
+pub returns-clause-goes_on : goal.returns-clause-goes_on
+returns-clause-goes_on c =
+    let life = c.args.self.now in
+    let n = c.args.number in
+    let s = c.index_mut-session.result.now in
+    let s' = c.next_line.new.session in
+    let w = life.shared in
+    let w' = c.next_line.new.shared in
+    let l = c.in_ok-line.line in
+    let at = place_is life.sessions.items n s c.requires.known c.index_mut-session.ensures.value in
+    let p = c.requires.goes_on.progress in
+    let on = progress_on w w' life.sessions.items (lines_of life) n s s' c.args.command.now l p at c.in_ok-line.ensures in
+    let few = few_on w w' life.sessions.items (lines_of life) n s s' c.args.command.now l p at c.in_ok-line.ensures c.requires.goes_on.few in
+    let done = flat_map lines_in life.steps in
+    on_ok_weaker c.push.result
+    (λ f.
+    let told = ap (λ (ls : List Line). done ++ ls) f ∙ sym (append_assoc done life.lines (l ∷ [])) in
+    record { progress = subst (Progress w' _) (sym told) on; few = subst (AreFew w') (sym told) few })
+    c.push.ensures.ok

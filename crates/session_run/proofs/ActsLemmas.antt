@@ -1,96 +1,56 @@
-use Rattle.std.proofs.Common.{◌≡◌, ℕ, zero, suc, ◌+◌, ◌<◌, ◌≤◌, ◌^◌, List, [], ◌∷◌, ◌++◌, length, map, take, Some, None, IfSome, refl, sym, ap, subst, ◌∙◌, arith, append-nil, Bool, true, false, not, nat_eq, nat_lt, cond, ◌||◌, ◌==◌, inl}
-use Rattle.std.specs.List.{AllByRecursion, list_any, slice_get, find}
+-- What commands do.
+use Rattle.std.proofs.Common.{◌≡◌, ℕ, zero, suc, ◌+◌, ◌<◌, ◌≤◌, List, [], ◌∷◌, ◌++◌, length, map, take, drop, Some, None, Option, refl, sym, ap, subst, ◌∙◌, arith, append-nil, Bool, true, false, not, cond, ◌||◌, inl, inr, ◌↔◌, IsTrue, ⊎_elim, ◌≢◌, ◌==◌, ◌⊎◌}
+use Rattle.std.specs.List.{AllByRecursion, filter, find, slice_get, list_any}
 use Rattle.std.proofs.lemmas.Bool.{false≢true}
-use Rattle.std.proofs.lemmas.Bool.Decides.{nat_tests}
-use Rattle.xid_order.specs.Nearest.{near_id}
 use Rattle.tx_model.specs.declared.event.By.{By}
 use Rattle.tx_model.specs.declared.event.Event.{Event}
 use Rattle.tx_model.specs.declared.event.Event.TheVariants as events
+use Rattle.tx_model.specs.declared.command.Command.{Command}
 use Rattle.tx_model.specs.declared.command.Command.TheVariants as commands
 use Rattle.tx_model.specs.declared.reply.Reply.{Reply}
 use Rattle.tx_model.specs.declared.reply.Reply.TheVariants as replies
 use Rattle.tx_model.specs.declared.reply.Refusal.TheVariants as refusals
 use Rattle.tx_model.specs.declared.reply.SnapData.{SnapData}
 use Rattle.tx_model.specs.declared.record.Counters.{Counters}
-use Rattle.xid_order.specs.declared.order.Xid.{Xid}
-use Rattle.tx_model.specs.Events.{given_by, same_name, is_commit_of}
-use Rattle.tx_model.specs.Limits.{warn_limit}
-use Rattle.tx_model.specs.Horizon.{is_live}
-use Rattle.tx_model.specs.Replies.{IsWarned, seen_id}
-use Rattle.tx_model.specs.Snapshots.{snapshot_data, latest}
-use Rattle.tx_model.specs.Stance.{snap_of, second_of}
-use Rattle.tx_model.specs.Running.{running_tops}
-use Rattle.tx_model.specs.Visible.{is_visible}
+use Rattle.tx_model.specs.CommandEvents.{HasEvents, giving, level_events}
+use Rattle.tx_model.specs.Events.{by_of, given_by, is_of, same_name}
+use Rattle.tx_model.specs.History.{next_given}
+use Rattle.tx_model.specs.Horizon.{oldest_id}
+use Rattle.tx_model.specs.Limits.{stop_limit, warn_limit}
+use Rattle.tx_model.specs.Replies.{MayReply, IsWarned, IsStopped}
+use Rattle.tx_model.specs.Snapshots.{snapshot_data}
+use Rattle.tx_model.specs.Stance.{Stance, after, snap_of, second_of, without_snap, filled}
+use Rattle.tx_model.proofs.ListSteps.{eqb-refl}
+use Rattle.tx_model.proofs.PlaceLemmas.{slice_get-grows, slice_get-push, take-grows}
 use Rattle.session_run.specs.declared.session.Kept.{Kept}
-use Rattle.session_run.specs.declared.session.Transaction.{Transaction}
-use Rattle.session_run.specs.declared.session.Transaction.TheVariants as transactions
-use Rattle.session_run.specs.declared.shared.Shared.{Shared}
-use Rattle.session_run.specs.Flat.{IsFlat, flat_snapshot}
-use Rattle.session_run.specs.Stands.{IsKept, Stands, stance_of, told_of}
-use Rattle.session_run.specs.Acts.{Acts, Says, IsSeenAt}
-use Rattle.session_run.proofs.FlatLemmas.{flat_take, visible_alone, snapshot_alone}
-use Rattle.session_run.proofs.SoundLemmas.{oldest_flat}
-use Rattle.session_run.proofs.ListLemmas.{slice_end, take_end, length-map, map-push, same_name-true}
+use Rattle.session_run.specs.Acts.{Acts}
+use Rattle.session_run.specs.Gives.{IsInTurn}
+use Rattle.session_run.specs.Stands.{levels_of, told_of, IsKept}
+use Rattle.session_run.proofs.LevelLemmas.{levels_given, levels_filled, levels_lack, some_levels}
+use Rattle.session_run.proofs.ListLemmas.{slice_end, take_end, length-map, map-push}
 
-given_below : (next id : ℕ) (e : Event) → IsFlat next e → given_by e ≡ Some id → id < next
-given_below next id (events.Id by x) f g = let same : x ≡ id = cc in omega arith
-given_below next id (events.Commit by top) f g = absurd cc
-given_below next id (events.Abort by top) f g = absurd cc
-given_below next id (events.Snap by name) f g = absurd cc
-given_below next id e f g = absurd f
-
-flat_at : (next : ℕ) (h : List Event) (p : ℕ) (e : Event) → AllByRecursion (IsFlat next) h → slice_get h p ≡ Some e → IsFlat next e
-flat_at next [] p e f g = absurd cc
-flat_at next (d ∷ h) zero e f g = let same : d ≡ e = cc in subst (IsFlat next) same f.0
-flat_at next (d ∷ h) (suc p) e f g = flat_at next h p e f.1 g
-
--- no id is given with a warning so early
-pub never_warned : (base : Counters) (h : List Event) (next : ℕ) (by : By) → base.oldest ≡ 3 → next < 2 ^ 30 + 5 → AllByRecursion (IsFlat next) h → IsWarned base h by → ⊥
-never_warned base h next by oldest few f w =
-    let below = given_below next w.id w.given.event (flat_at next h w.place w.given.event f w.given.at) w.given.gives in
-    let late = subst (λ t. warn_limit t ≤ w.id) (oldest_flat base.oldest next (take w.place h) (flat_take next w.place h f) ∙ oldest) w.late in
-    omega arith
-
--- a write of a transaction that has its id
-pub acts_with_id : (base : Counters) (by : By) (h : List Event) (id : ℕ) (kept : List Kept) (ids : List ℕ) → ids ≡ [] → (IsWarned base h by → ⊥) → Acts base by (stance_of (transactions.WithId id) kept) (stance_of (transactions.WithId id) kept) commands.Write (replies.Wrote ids false) h h
-acts_with_id base by h id kept ids i n = rw i (record {
-  added = [];
-  grown = sym (append-nil h);
-  own = tt;
-  fitting = (refl, refl);
-  allowed = (λ e. cc, (λ e. absurd (false≢true e), λ w. absurd (n w)));
-  left = refl;
-})
-
--- a write that gives the id
-pub acts_given : (base : Counters) (by : By) (h h' : List Event) (id : ℕ) (kept : List Kept) (ids : List ℕ) → ids ≡ id ∷ [] → h' ≡ h ++ events.Id by id ∷ [] → (IsWarned base h' by → ⊥) → Acts base by (stance_of transactions.Begun kept) (stance_of (transactions.WithId id) kept) commands.Write (replies.Wrote ids false) h h'
-acts_given base by h h' id kept ids i g n = rw i (record {
-  added = events.Id by id ∷ [];
-  grown = g;
-  own = (refl, tt);
-  fitting = (refl, refl);
-  allowed = (λ e. cc, (λ e. absurd (false≢true e), λ w. absurd (n w)));
-  left = refl;
-})
+-- nothing happened
+pub acts_idle : (base : Counters) (by : By) (s s' : Stance) (command : Command) (reply : Reply) (h : List Event) → HasEvents by s command reply [] → MayReply base [] h by s command reply → after s by.command command reply [] ≡ s' → Acts base by s s' command reply h h
+acts_idle base by s s' command reply h f a l = record { added = []; grown = sym (append-nil h); own = tt; fitting = f; allowed = a; left = l }
 
 -- the command that took a kept snapshot, by the stance
-snap_found : (name : List ℕ) (t : Transaction) (kept : List Kept) (k : Kept) → find (λ x. same_name x.name name) kept ≡ Some k → snap_of name (stance_of t kept) ≡ Some k.command
-snap_found name t [] k e = absurd cc
-snap_found name t (j ∷ kept) k e = either (same_name j.name name) e (λ f. snap_found name t kept k f)
+pub snap_found : (name : List ℕ) (levels : List (Option ℕ)) (kept : List Kept) (k : Kept) → find (λ x. same_name x.name name) kept ≡ Some k → snap_of name (record { levels = levels; snaps = map told_of kept }) ≡ Some k.command
+snap_found name levels [] k e = absurd cc
+snap_found name levels (j ∷ kept) k e = either (same_name j.name name) e (λ f. snap_found name levels kept k f)
   where
     either : (b : Bool) → cond b (Some j) (find (λ x. same_name x.name name) kept) ≡ Some k → (find (λ x. same_name x.name name) kept ≡ Some k → second_of (find (λ p. same_name p.0 name) (map told_of kept)) ≡ Some k.command) → second_of (cond b (Some (told_of j)) (find (λ p. same_name p.0 name) (map told_of kept))) ≡ Some k.command
     either true f rest = let same : j ≡ k = cc in ap (λ (x : Kept). Some x.command) same
     either false f rest = rest f
 
-snap_missing : (name : List ℕ) (t : Transaction) (kept : List Kept) → find (λ x. same_name x.name name) kept ≡ None → snap_of name (stance_of t kept) ≡ None
-snap_missing name t [] e = refl
-snap_missing name t (j ∷ kept) e = either (same_name j.name name) e (λ f. snap_missing name t kept f)
+pub snap_missing : (name : List ℕ) (levels : List (Option ℕ)) (kept : List Kept) → find (λ x. same_name x.name name) kept ≡ None → snap_of name (record { levels = levels; snaps = map told_of kept }) ≡ None
+snap_missing name levels [] e = refl
+snap_missing name levels (j ∷ kept) e = either (same_name j.name name) e (λ f. snap_missing name levels kept f)
   where
     either : (b : Bool) → cond b (Some j) (find (λ x. same_name x.name name) kept) ≡ None → (find (λ x. same_name x.name name) kept ≡ None → second_of (find (λ p. same_name p.0 name) (map told_of kept)) ≡ None) → second_of (cond b (Some (told_of j)) (find (λ p. same_name p.0 name) (map told_of kept))) ≡ None
     either true f rest = absurd cc
     either false f rest = rest f
 
-not_live : (name : List ℕ) (kept : List Kept) → find (λ x. same_name x.name name) kept ≡ None → list_any (λ x. same_name x.name name) kept ≡ false
+pub not_live : (name : List ℕ) (kept : List Kept) → find (λ x. same_name x.name name) kept ≡ None → list_any (λ x. same_name x.name name) kept ≡ false
 not_live name [] e = refl
 not_live name (j ∷ kept) e = either (same_name j.name name) e (λ f. not_live name kept f)
   where
@@ -98,60 +58,24 @@ not_live name (j ∷ kept) e = either (same_name j.name name) e (λ f. not_live 
     either true f rest = absurd cc
     either false f rest = rest f
 
--- a name that is free may be taken
-pub name_is_free : (base : Counters) (h : List Event) (next : ℕ) (by : By) (t : Transaction) (kept : List Kept) (name : List ℕ) → find (λ x. same_name x.name name) kept ≡ None → Stands base h next by.session by.command t kept → is_live base.next by.session name h ≡ false
-name_is_free base h next by t kept name free s = s.live name ∙ not_live name kept free
+-- by whether a name is among the kept ones
+pub none_found : (name : List ℕ) (kept : List Kept) → list_any (λ x. same_name x.name name) kept ≡ false → find (λ x. same_name x.name name) kept ≡ None
+none_found name [] e = refl
+none_found name (j ∷ kept) e = either (same_name j.name name) e (λ f. none_found name kept f)
+  where
+    either : (b : Bool) → (b || list_any (λ x. same_name x.name name) kept) ≡ false → (list_any (λ x. same_name x.name name) kept ≡ false → find (λ x. same_name x.name name) kept ≡ None) → cond b (Some j) (find (λ x. same_name x.name name) kept) ≡ None
+    either true f rest = absurd (false≢true (sym f))
+    either false f rest = rest f
 
--- a snapshot that is taken
-pub acts_snapped : (base : Counters) (by : By) (h h' : List Event) (next last : ℕ) (running : List ℕ) (t : Transaction) (kept kept' : List Kept) (k : Kept) (lists : SnapData) → AllByRecursion (IsFlat next) h → last ≡ latest base.next h → running ≡ running_tops h → lists ≡ flat_snapshot last running → find (λ x. same_name x.name k.name) kept ≡ None → length kept < 64 → k.command ≡ by.command → kept' ≡ kept ++ k ∷ [] → h' ≡ h ++ events.Snap by k.name ∷ [] → Acts base by (stance_of t kept) (stance_of t kept') (commands.Snap k.name) (replies.Snapped lists) h h'
-acts_snapped base by h h' next last running t kept kept' k lists f l r e free room c grew g = rw g (record {
-  added = events.Snap by k.name ∷ [];
-  grown = refl;
-  own = (refl, tt);
-  fitting = refl;
-  allowed = (
-    snap_missing k.name t kept free,
-    omega (arith, length-map told_of kept),
-    length h,
-    slice_end h (events.Snap by k.name),
-    e ∙ ap (λ x. flat_snapshot x running) l ∙ ap (flat_snapshot (latest base.next h)) r ∙ sym (snapshot_alone base.next next h f) ∙ ap (snapshot_data base.next) (sym (take_end h (events.Snap by k.name))),
-  );
-  left = ap (λ n. record { levels = (stance_of t kept).levels; snaps = map told_of kept ++ (k.name, n) ∷ [] }) (sym c) ∙ ap (λ s. record { levels = (stance_of t kept).levels; snaps = s }) (sym (map-push told_of kept k)) ∙ ap (λ ks. stance_of t ks) (sym grew);
-})
+pub some_found : (name : List ℕ) (levels : List (Option ℕ)) (kept : List Kept) → list_any (λ x. same_name x.name name) kept ≡ true → snap_of name (record { levels = levels; snaps = map told_of kept }) ≢ None
+some_found name levels [] e = absurd (false≢true e)
+some_found name levels (j ∷ kept) e = either (same_name j.name name) e (λ f. some_found name levels kept f)
+  where
+    either : (b : Bool) → (b || list_any (λ x. same_name x.name name) kept) ≡ true → (list_any (λ x. same_name x.name name) kept ≡ true → second_of (find (λ p. same_name p.0 name) (map told_of kept)) ≢ None) → second_of (cond b (Some (told_of j)) (find (λ p. same_name p.0 name) (map told_of kept))) ≢ None
+    either true f rest = λ n. cc
+    either false f rest = rest f
 
--- a snapshot that is refused
-pub acts_name_taken : (base : Counters) (by : By) (h : List Event) (name : List ℕ) (t : Transaction) (kept : List Kept) (k : Kept) → find (λ x. same_name x.name name) kept ≡ Some k → Acts base by (stance_of t kept) (stance_of t kept) (commands.Snap name) (replies.Refused refusals.NameTaken) h h
-acts_name_taken base by h name t kept k e = record {
-  added = [];
-  grown = sym (append-nil h);
-  own = tt;
-  fitting = refl;
-  allowed = λ n. let found = snap_found name t kept k e in cc;
-  left = refl;
-}
-
-pub acts_snap_limit : (base : Counters) (by : By) (h : List Event) (name : List ℕ) (t : Transaction) (kept : List Kept) → find (λ x. same_name x.name name) kept ≡ None → 64 ≤ length kept → Acts base by (stance_of t kept) (stance_of t kept) (commands.Snap name) (replies.Refused refusals.SnapLimit) h h
-acts_snap_limit base by h name t kept e l = record {
-  added = [];
-  grown = sym (append-nil h);
-  own = tt;
-  fitting = refl;
-  allowed = (snap_missing name t kept e, omega (arith, length-map told_of kept));
-  left = refl;
-}
-
--- a verdict without a snapshot
-pub acts_no_snapshot : (base : Counters) (by : By) (h : List Event) (name : List ℕ) (x : Xid) (t : Transaction) (kept : List Kept) → find (λ j. same_name j.name name) kept ≡ None → Acts base by (stance_of t kept) (stance_of t kept) (commands.See name x) (replies.Refused refusals.NoSnapshot) h h
-acts_no_snapshot base by h name x t kept e = record {
-  added = [];
-  grown = sym (append-nil h);
-  own = tt;
-  fitting = refl;
-  allowed = snap_missing name t kept e;
-  left = refl;
-}
-
-kept_at : (base : Counters) (h : List Event) (session : ℕ) (p : Kept → Bool) (kept : List Kept) (k : Kept) → AllByRecursion (IsKept base h session) kept → find p kept ≡ Some k → IsKept base h session k × (p k ≡ true)
+pub kept_at : (base : Counters) (h : List Event) (session : ℕ) (p : Kept → Bool) (kept : List Kept) (k : Kept) → AllByRecursion (IsKept base h session) kept → find p kept ≡ Some k → IsKept base h session k × (p k ≡ true)
 kept_at base h session p [] k a e = absurd cc
 kept_at base h session p (j ∷ kept) k a e = either (p j) refl e (λ f. kept_at base h session p kept k a.1 f)
   where
@@ -159,94 +83,172 @@ kept_at base h session p (j ∷ kept) k a e = either (p j) refl e (λ f. kept_at
     either true q f rest = let same : j ≡ k = cc in (subst (IsKept base h session) same a.0, ap p (sym same) ∙ q)
     either false q f rest = rest f
 
-pub kept_found : (base : Counters) (h : List Event) (next : ℕ) (by : By) (t : Transaction) (kept : List Kept) (k : Kept) (name : List ℕ) → Stands base h next by.session by.command t kept → find (λ x. same_name x.name name) kept ≡ Some k → IsKept base h by.session k
-kept_found base h next by t kept k name s e = (kept_at base h by.session (λ x. same_name x.name name) kept k s.snaps e).0
-
--- a verdict
-pub acts_seen : (w : Shared) (by : By) (name : List ℕ) (x : Xid) (t : Transaction) (kept : List Kept) (k : Kept) (reply : Reply) → Stands w.base w.events w.next by.session by.command t kept → find (λ j. same_name j.name name) kept ≡ Some k → Says w k x.number reply → Acts w.base by (stance_of t kept) (stance_of t kept) (commands.See name x) reply w.events w.events
-acts_seen w by name x t kept k (replies.Seen visible) s e v =
-    let found = kept_at w.base w.events by.session (λ j. same_name j.name name) kept k s.snaps e in
-    let same = same_name-true k.name name found.1 in
-    record {
-      added = [];
-      grown = sym (append-nil w.events);
-      own = tt;
-      fitting = refl;
-      allowed = (
-        k.command,
-        snap_found name t kept k e,
-        record {
-          place = k.place;
-          taken = found.0.taken ∙ ap (λ n. Some (events.Snap (record { session = by.session; command = k.command }) n)) same;
-          id = v.id;
-          near = ap (λ m. seen_id m x.number) (sym found.0.xmax_is) ∙ v.near;
-          exact = v.exact;
-        },
-      );
-      left = refl;
-    }
-acts_seen w by name x t kept k (replies.Refused (refusals.TooOld oldest)) s e v =
-    let found = kept_at w.base w.events by.session (λ j. same_name j.name name) kept k s.snaps e in
-    let same = same_name-true k.name name found.1 in
-    record {
-      added = [];
-      grown = sym (append-nil w.events);
-      own = tt;
-      fitting = refl;
-      allowed = (
-        k.command,
-        snap_found name t kept k e,
-        record {
-          place = k.place;
-          taken = found.0.taken ∙ ap (λ n. Some (events.Snap (record { session = by.session; command = k.command }) n)) same;
-          normal = v.normal;
-          older = subst (λ m. IfSome (near_id m x.number) (λ id. id < oldest)) found.0.xmax_is v.older;
-          announced = inl v.first;
-        },
-      );
-      left = refl;
-    }
-acts_seen w by name x t kept k reply s e v = absurd v
-
-no_commit : (next : ℕ) (x : ℕ) (h : List Event) → x < 3 → AllByRecursion (IsFlat next) h → list_any (is_commit_of x) h ≡ false
-no_commit next x [] l f = refl
-no_commit next x (events.Id by id ∷ h) l f = no_commit next x h l f.1
-no_commit next x (events.Commit by top ∷ h) l f = rw (differs top f.0.0) (no_commit next x h l f.1)
+pub told_dropped : (name : List ℕ) (kept : List Kept) → without_snap name (map told_of kept) ≡ map told_of (filter (λ k. not (same_name k.name name)) kept)
+told_dropped name [] = refl
+told_dropped name (k ∷ kept) = either (same_name k.name name) (told_dropped name kept)
   where
-    differs : (top : ℕ) → 3 ≤ top → (top == x) ≡ false
-    differs top n = grind (arith, nat_tests)
-no_commit next x (events.Abort by top ∷ h) l f = no_commit next x h l f.1
-no_commit next x (events.Snap by name ∷ h) l f = no_commit next x h l f.1
-no_commit next x (e ∷ h) l f = absurd f.0
+    either : (b : Bool) → without_snap name (map told_of kept) ≡ map told_of (filter (λ k. not (same_name k.name name)) kept) → cond (not b) (told_of k ∷ without_snap name (map told_of kept)) (without_snap name (map told_of kept)) ≡ map told_of (cond (not b) (k ∷ filter (λ k. not (same_name k.name name)) kept) (filter (λ k. not (same_name k.name name)) kept))
+    either true rest = rest
+    either false rest = ap (λ t. told_of k ∷ t) rest
 
--- ids 0 to 2 have fixed answers
-special : (next x : ℕ) (h : List Event) → x < 3 → AllByRecursion (IsFlat next) h → not (nat_eq x 0) ≡ is_visible [] h x
-special next zero h l f = sym (visible_alone next h 0 f ∙ no_commit next 0 h (omega arith) f)
-special next (suc zero) h l f = sym (visible_alone next h 1 f)
-special next (suc (suc zero)) h l f = sym (visible_alone next h 2 f)
-special next (suc (suc (suc x))) h l f = absurd (omega arith)
-
-below_special : (x n : ℕ) → x < 3 → nat_lt x 3 ≡ true
-below_special x n l = grind (arith, nat_tests)
-
-pub seen_special : (w : Shared) (k : Kept) (x : ℕ) → x < 3 → AllByRecursion (IsFlat w.next) w.events → IsSeenAt w k x (not (nat_eq x 0))
-seen_special w k x l f = record {
-  id = x;
-  near = rw (below_special x 0 l) refl;
-  exact = special w.next x (take k.place w.events) l (flat_take w.next k.place w.events f);
+-- a snapshot that is taken
+pub acts_snapped : (base : Counters) (by : By) (h : List Event) (levels : List (Option ℕ)) (kept : List Kept) (k : Kept) (lists : SnapData) → lists ≡ snapshot_data base.next h → find (λ x. same_name x.name k.name) kept ≡ None → length kept < 64 → k.command ≡ by.command →
+    Acts base by (record { levels = levels; snaps = map told_of kept }) (record { levels = levels; snaps = map told_of (kept ++ k ∷ []) }) (commands.Snap k.name) (replies.Snapped lists) h (h ++ events.Snap by k.name ∷ [])
+acts_snapped base by h levels kept k lists l free room c = record {
+  added = events.Snap by k.name ∷ [];
+  grown = refl;
+  own = (refl, tt);
+  fitting = refl;
+  allowed = (
+    snap_missing k.name levels kept free,
+    omega (arith, length-map told_of kept),
+    length h,
+    slice_end h (events.Snap by k.name),
+    l ∙ ap (snapshot_data base.next) (sym (take_end h (events.Snap by k.name))),
+  );
+  left = ap (λ n. record { levels = levels; snaps = map told_of kept ++ (k.name, n) ∷ [] }) (sym c) ∙ ap (λ s. record { levels = levels; snaps = s }) (sym (map-push told_of kept k));
 }
 
-pub seen_normal : (w : Shared) (k : Kept) (x id : ℕ) (visible : Bool) → 3 ≤ x → 3 ≤ id → near_id k.xmax x ≡ Some id → visible ≡ list_any (is_commit_of id) (take k.place w.events) → AllByRecursion (IsFlat w.next) w.events → IsSeenAt w k x visible
-seen_normal w k x id visible l m n v f = record {
-  id = id;
-  near = let normal : nat_lt x 3 ≡ false = grind (arith, nat_tests) in rw normal n;
-  exact = v ∙ sym (visible_alone w.next (take k.place w.events) id (flat_take w.next k.place w.events f)
-      ∙ ap (λ b. b || (id == 2) || list_any (is_commit_of id) (take k.place w.events)) not_one
-      ∙ ap (λ b. b || list_any (is_commit_of id) (take k.place w.events)) not_two);
+-- and one that is dropped
+pub acts_dropped : (base : Counters) (by : By) (h : List Event) (levels : List (Option ℕ)) (kept : List Kept) (name : List ℕ) → list_any (λ x. same_name x.name name) kept ≡ true →
+    Acts base by (record { levels = levels; snaps = map told_of kept }) (record { levels = levels; snaps = map told_of (filter (λ k. not (same_name k.name name)) kept) }) (commands.DropSnap name) replies.Done h (h ++ events.SnapDrop by name ∷ [])
+acts_dropped base by h levels kept name some = record {
+  added = events.SnapDrop by name ∷ [];
+  grown = refl;
+  own = (refl, tt);
+  fitting = refl;
+  allowed = some_found name levels kept some;
+  left = ap (λ s. record { levels = levels; snaps = s }) (told_dropped name kept);
 }
-  where
-    not_one : (id == 1) ≡ false
-    not_one = grind (arith, nat_tests)
 
-    not_two : (id == 2) ≡ false
-    not_two = grind (arith, nat_tests)
+-- no event so far is of this command
+fresh_at : (by : By) (h : List Event) (p : ℕ) (e : Event) → AllByRecursion (λ f. (by_of f).command < by.command) (filter (is_of by.session) h) → slice_get h p ≡ Some e → by_of e ≡ by → ⊥
+fresh_at by [] p e a g own = absurd cc
+fresh_at by (f ∷ h) zero e a g own =
+    let same : f ≡ e = cc in
+    let mine : is_of by.session f ≡ true = ap (is_of by.session) same ∙ ap (λ (b : By). b.session == by.session) own ∙ eqb-refl by.session in
+    let first = (subst (λ b. AllByRecursion (λ d. (by_of d).command < by.command) (cond b (f ∷ filter (is_of by.session) h) (filter (is_of by.session) h))) mine a).0 in
+    let here : (by_of f).command ≡ by.command = ap (λ (x : Event). (by_of x).command) same ∙ ap (λ (b : By). b.command) own in
+    omega arith
+fresh_at by (f ∷ h) (suc p) e a g own = fresh_at by h p e (rest (is_of by.session f) a) g own
+  where
+    rest : (b : Bool) → AllByRecursion (λ d. (by_of d).command < by.command) (cond b (f ∷ filter (is_of by.session) h) (filter (is_of by.session) h)) → AllByRecursion (λ d. (by_of d).command < by.command) (filter (is_of by.session) h)
+    rest true r = r.1
+    rest false r = r
+
+pub not_warned : (base : Counters) (by : By) (h : List Event) → AllByRecursion (λ f. (by_of f).command < by.command) (filter (is_of by.session) h) → IsTrue false ↔ IsWarned base h by
+not_warned base by h f = (λ e. absurd (false≢true e), λ w. absurd (fresh_at by h w.place w.given.event f w.given.at w.given.own))
+
+giving_by : (by : By) (p : Option ℕ) (id : ℕ) → by_of (giving by p id) ≡ by
+giving_by by None id = refl
+giving_by by (Some q) id = refl
+
+giving_gives : (by : By) (p : Option ℕ) (id : ℕ) → given_by (giving by p id) ≡ Some id
+giving_gives by None id = refl
+giving_gives by (Some q) id = refl
+
+or_either : (a b : Bool) → (a || b) ≡ true → (a ≡ true) ⊎ (b ≡ true)
+or_either true b e = inl refl
+or_either false b e = inr e
+
+or_first : (a b : Bool) → a ≡ true → (a || b) ≡ true
+or_first a b e = ap (λ c. c || b) e
+
+or_second : (a b : Bool) → b ≡ true → (a || b) ≡ true
+or_second true b e = refl
+or_second false b e = e
+
+-- one id more, with its warning
+pub warned_push : (base : Counters) (by : By) (h : List Event) (p : Option ℕ) (id : ℕ) (warn late : Bool) → IsTrue warn ↔ IsWarned base h by → IsTrue late ↔ (warn_limit (oldest_id base.oldest h) ≤ id) → IsTrue (warn || late) ↔ IsWarned base (h ++ giving by p id ∷ []) by
+warned_push base by h p id warn late w l =
+    let e : Event = giving by p id in (
+      λ t. ⊎_elim
+          (λ a. let k = w.0 a in
+          record {
+            place = k.place;
+            id = k.id;
+            given = record { event = k.given.event; at = slice_get-grows h (e ∷ []) _ k.place k.given.at; own = k.given.own; gives = k.given.gives };
+            late = subst (λ g. warn_limit (oldest_id base.oldest g) ≤ k.id) (sym (take-grows h (e ∷ []) _ k.place k.given.at)) k.late;
+          })
+          (λ b. record {
+            place = length h;
+            id = id;
+            given = record { event = e; at = slice_end h e; own = giving_by by p id; gives = giving_gives by p id };
+            late = subst (λ g. warn_limit (oldest_id base.oldest g) ≤ id) (sym (take_end h e)) (l.0 b);
+          })
+          (or_either warn late t),
+      λ k. ⊎_elim
+          (λ (a : (k.place < length h) × (slice_get h k.place ≡ Some k.given.event)).
+          or_first warn late (w.1 (record {
+            place = k.place;
+            id = k.id;
+            given = record { event = k.given.event; at = a.1; own = k.given.own; gives = k.given.gives };
+            late = subst (λ g. warn_limit (oldest_id base.oldest g) ≤ k.id) (take-grows h (e ∷ []) _ k.place a.1) k.late;
+          })))
+          (λ (a : (k.place ≡ length h) × (e ≡ k.given.event)).
+          let same : Some id ≡ Some k.id = sym (giving_gives by p id) ∙ ap given_by a.1 ∙ k.given.gives in
+          let one : id ≡ k.id = cc in
+          let at : warn_limit (oldest_id base.oldest h) ≤ k.id = subst (λ g. warn_limit (oldest_id base.oldest g) ≤ k.id) (ap (λ n. take n (h ++ e ∷ [])) a.0 ∙ take_end h e) k.late in
+          or_second warn late (l.1 (subst (λ z. warn_limit (oldest_id base.oldest h) ≤ z) (sym one) at)))
+          (slice_get-push h e k.given.event k.place k.given.at),
+    )
+
+-- the stop limit is reached behind all events so far
+drop_end : {X : Type 0} (xs : List X) → drop (length xs) xs ≡ []
+drop_end [] = refl
+drop_end (x ∷ xs) = drop_end xs
+
+take_whole : {X : Type 0} (xs : List X) → take (length xs) xs ≡ xs
+take_whole [] = refl
+take_whole (x ∷ xs) = ap (λ t. x ∷ t) (take_whole xs)
+
+own_turn : (by : By) (h : List Event) → IsInTurn by h → AllByRecursion (λ e. (by_of e).session ≡ by.session → (by_of e).command ≤ by.command) h
+own_turn by [] t = tt
+own_turn by (e ∷ h) t = one (is_of by.session e) refl t (λ u. own_turn by h u)
+  where
+    one : (b : Bool) → is_of by.session e ≡ b → AllByRecursion (λ f. (by_of f).command ≤ by.command) (cond b (e ∷ filter (is_of by.session) h) (filter (is_of by.session) h)) → (IsInTurn by h → AllByRecursion (λ e. (by_of e).session ≡ by.session → (by_of e).command ≤ by.command) h) → ((by_of e).session ≡ by.session → (by_of e).command ≤ by.command) × AllByRecursion (λ e. (by_of e).session ≡ by.session → (by_of e).command ≤ by.command) h
+    one true q a rest = (λ _. a.0, rest a.1)
+    one false q a rest = (λ s. absurd (false≢true (sym q ∙ ap (λ n. n == by.session) s ∙ eqb-refl by.session)), rest a)
+
+pub is_stopped : (base : Counters) (by : By) (h : List Event) (next stop : ℕ) → IsInTurn by h → next ≡ next_given base.next h → stop ≡ stop_limit (oldest_id base.oldest h) → stop ≤ next → IsStopped base h by next stop
+is_stopped base by h next stop t n s r = record {
+  place = length h;
+  within = omega arith;
+  behind = subst (AllByRecursion (λ e. (by_of e).session ≡ by.session → by.command < (by_of e).command)) (sym (drop_end h)) tt;
+  before = subst (AllByRecursion (λ e. (by_of e).session ≡ by.session → (by_of e).command ≤ by.command)) (sym (take_whole h)) (own_turn by h t);
+  next_is = n ∙ ap (next_given base.next) (sym (take_whole h));
+  stop_is = s ∙ ap (λ g. stop_limit (oldest_id base.oldest g)) (sym (take_whole h));
+  reached = r;
+}
+
+events_own : (by : By) (p : Option ℕ) (levels : List (Option ℕ)) (ids : List ℕ) → AllByRecursion (λ e. by_of e ≡ by) (level_events by p levels ids)
+events_own by p [] ids = tt
+events_own by p (Some x ∷ levels) ids = events_own by (Some x) levels ids
+events_own by p (None ∷ levels) [] = tt
+events_own by p (None ∷ levels) (id ∷ ids) = (giving_by by p id, events_own by (Some id) levels ids)
+
+-- a write, of which the ids given are these
+pub acts_wrote : (base : Counters) (by : By) (h h' : List Event) (named ids : List ℕ) (unnamed : ℕ) (snaps : List (List ℕ × ℕ)) (warn : Bool) → 1 ≤ length (levels_of named unnamed) → unnamed ≡ length ids → h' ≡ h ++ level_events by None (levels_of named unnamed) ids → IsTrue warn ↔ IsWarned base h' by →
+    Acts base by (record { levels = levels_of named unnamed; snaps = snaps }) (record { levels = levels_of (named ++ ids) 0; snaps = snaps }) commands.Write (replies.Wrote ids warn) h h'
+acts_wrote base by h h' named ids unnamed snaps warn some n g w = record {
+  added = level_events by None (levels_of named unnamed) ids;
+  grown = g;
+  own = events_own by None (levels_of named unnamed) ids;
+  fitting = (refl, sym (levels_lack named unnamed ∙ n));
+  allowed = (some_levels named unnamed some, w);
+  left = ap (λ gs. record { levels = filled (levels_of named unnamed) gs; snaps = snaps }) (levels_given by named ids unnamed (omega arith))
+      ∙ ap (λ ls. record { levels = ls; snaps = snaps }) (levels_filled named ids 0 unnamed (omega arith));
+}
+
+-- a write that was stopped behind these ids
+pub acts_stopped : (base : Counters) (by : By) (h h' : List Event) (named ids : List ℕ) (unnamed left next stop : ℕ) (snaps : List (List ℕ × ℕ)) → unnamed ≡ length ids + left → 1 ≤ left → h' ≡ h ++ level_events by None (levels_of named unnamed) ids → IsStopped base h' by next stop →
+    Acts base by (record { levels = levels_of named unnamed; snaps = snaps }) (record { levels = levels_of (named ++ ids) left; snaps = snaps }) commands.Write (replies.Refused (refusals.Stop next stop)) h h'
+acts_stopped base by h h' named ids unnamed left next stop snaps n some g s = record {
+  added = level_events by None (levels_of named unnamed) ids;
+  grown = g;
+  own = events_own by None (levels_of named unnamed) ids;
+  fitting = inr (ids, refl, omega (arith, levels_lack named unnamed));
+  allowed = (omega (arith, levels_lack named unnamed), s);
+  left = ap (λ gs. record { levels = filled (levels_of named unnamed) gs; snaps = snaps }) (levels_given by named ids unnamed (omega arith))
+      ∙ ap (λ ls. record { levels = ls; snaps = snaps }) (levels_filled named ids left unnamed n);
+}

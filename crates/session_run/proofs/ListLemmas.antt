@@ -50,7 +50,7 @@ and_right : (p q : Bool) → (p && q) ≡ true → q ≡ true
 and_right true q e = e
 and_right false q e = absurd (false≢true e)
 
-name_itself : (a : List ℕ) → same_name a a ≡ true
+pub name_itself : (a : List ℕ) → same_name a a ≡ true
 name_itself a = let e = (starts a a).1 [] (sym (append-nil a)) in ap (λ t. t && starts_with nat_eq a a) e ∙ e
 
 pub same_name-true : (a b : List ℕ) → same_name a b ≡ true → a ≡ b

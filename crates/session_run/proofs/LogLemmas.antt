@@ -1,4 +1,4 @@
-use Rattle.std.proofs.Common.{◌≡◌, ℕ, zero, suc, ◌+◌, ◌*◌, ◌<◌, ◌≤◌, List, [], ◌∷◌, ◌++◌, length, take, drop, refl, ap, sym, ◌∙◌, arith, Bool, true, false, cond}
+use Rattle.std.proofs.Common.{◌≡◌, ℕ, zero, suc, ◌+◌, ◌*◌, ◌^◌, ◌<◌, ◌≤◌, List, [], ◌∷◌, ◌++◌, length, take, drop, refl, ap, sym, ◌∙◌, arith, Bool, true, false, cond}
 use Rattle.std.specs.List.{count_by}
 use Rattle.std.proofs.lemmas.List.{take-append-drop}
 use Rattle.std.proofs.lemmas.List.Sums.{sum_by-append}
@@ -109,5 +109,5 @@ pub waiting_more : (xs : List Rec) (x : Rec) (flushed pending : ℕ) → AreFlus
 waiting_more xs x flushed pending known waiting =
     ap (λ k. k + record_size x) waiting ∙ sym (ap records_size (drop_within flushed xs x known.within) ∙ size_push (drop flushed xs) x)
 
-pub small_push : (xs : List Rec) (x : Rec) (a b : ℕ) → a ≤ 62 * length xs → b ≤ a + 62 → b ≤ 62 * length (xs ++ x ∷ [])
+pub small_push : (xs : List Rec) (x : Rec) (a b : ℕ) → a ≤ 2 ^ 36 * length xs → b ≤ a + 2 ^ 36 → b ≤ 2 ^ 36 * length (xs ++ x ∷ [])
 small_push xs x a b l m = let k = length_push xs x in omega arith

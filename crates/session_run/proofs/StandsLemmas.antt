@@ -1,105 +1,312 @@
-use Rattle.std.proofs.Common.{◌≡◌, ℕ, ◌<◌, ◌≤◌, ◌^◌, List, [], ◌∷◌, ◌++◌, length, refl, ap, sym, ◌∙◌, arith, subst, Bool, true, false, cond, ◌==◌, ◌&&◌, ◌||◌, reverse, take}
+-- How a session stands, after one more event of its own.
+use Rattle.std.proofs.Common.{◌≡◌, ℕ, suc, ◌+◌, ◌<◌, ◌≤◌, List, [], ◌∷◌, ◌++◌, length, take, refl, ap, sym, ◌∙◌, arith, subst, Bool, true, false, not, cond, ◌==◌, ◌&&◌, ◌||◌, reverse, Some, nat_le, Contains, inl, inr}
 use Rattle.std.specs.List.{filter, AllByRecursion, list_any}
-use Rattle.std.proofs.lemmas.List.Elements.{filter-append}
-use Rattle.xid_order.specs.Ids.{next_id}
+use Rattle.std.proofs.lemmas.Bool.{false≢true}
+use Rattle.std.proofs.lemmas.Bool.Decides.{nat_tests}
+use Rattle.std.proofs.lemmas.List.Elements.{filter-append, Contains-append_left, Contains-push}
 use Rattle.tx_model.specs.declared.event.By.{By}
 use Rattle.tx_model.specs.declared.event.Event.{Event}
 use Rattle.tx_model.specs.declared.event.Event.TheVariants as events
 use Rattle.tx_model.specs.declared.record.Counters.{Counters}
 use Rattle.tx_model.specs.Events.{by_of, is_of, same_name}
-use Rattle.tx_model.specs.Horizon.{is_live, is_snap_of, live_up}
-use Rattle.tx_model.specs.Snapshots.{snapshot_xmax}
-use Rattle.tx_model.proofs.PlaceLemmas.{slice_get-grows, take-grows}
+use Rattle.tx_model.specs.Families.{top, is_top, enclosing}
+use Rattle.tx_model.specs.History.{IsLegal, MayCome}
+use Rattle.tx_model.specs.Horizon.{LiveSnap, is_live, is_snap_of, live_up, live_snaps}
+use Rattle.tx_model.specs.IdLists.{Ascending, has}
+use Rattle.tx_model.specs.Replies.{most_levels}
+use Rattle.tx_model.specs.Running.{open_ids, is_open}
+use Rattle.tx_model.specs.Savepoints.{is_inside}
+use Rattle.tx_model.specs.Snapshots.{snapshot_data}
+use Rattle.tx_model.proofs.Closing.{one_top}
+use Rattle.tx_model.proofs.ClosingGrowth.{IsClosing, closing_open_ids, closing_undo, closing_commit, closing_abort}
+use Rattle.tx_model.proofs.HorizonSteps.{live_push}
+use Rattle.tx_model.proofs.IdListSteps.{all_has, has_contains, ascending_push, ascending_filtered}
+use Rattle.tx_model.proofs.LegalSoundness.{legal_sound, open_member}
+use Rattle.tx_model.proofs.ListSteps.{eqb-refl, equal_from, below_not, list_any-push, all_push, all_filter, all_weaker, filter_agree_on, length_push}
+use Rattle.tx_model.proofs.Membership.{Has, contains_has, has_contains as has-contains, filter_has, any_has}
+use Rattle.tx_model.proofs.NameBounds.{AreBelow}
+use Rattle.tx_model.proofs.OpenGrowth.{fresh_top, enclosing_sub, family_kept}
+use Rattle.tx_model.proofs.PlaceLemmas.{slice_get-grows, take-grows, both_all}
+use Rattle.tx_model.proofs.RunningGrowth.{id_open_ids, id_family, given_to_below, quiet_open_ids, quiet_family, IsQuiet}
+use Rattle.tx_model.proofs.Soundness.{not_inside}
+use Rattle.tx_model.proofs.SubGrowth.{sub_family, sub_is_no_top, sub_open_ids}
+use Rattle.snap_core.specs.Says.{data_of}
+use Rattle.proc_table.specs.Table.{end_event}
 use Rattle.session_run.specs.declared.session.Kept.{Kept}
-use Rattle.session_run.specs.declared.session.Transaction.{Transaction}
-use Rattle.session_run.specs.declared.session.Transaction.TheVariants as transactions
-use Rattle.session_run.specs.Flat.{IsFlat, end_event}
-use Rattle.session_run.specs.Sound.{ComesNext}
-use Rattle.session_run.specs.Stands.{Stands, IsKept}
-use Rattle.session_run.proofs.FlatLemmas.{eqb-refl}
-use Rattle.session_run.proofs.FlatSteps.{flat_push, any_push, reverse_push, open_ids_quiet, open_ids_ended, open_ids_given}
-use Rattle.session_run.proofs.SoundLemmas.{next_above, not_ended, flat_raised}
-use Rattle.session_run.proofs.ListLemmas.{all_append, all_weaker, slice_end, take_end}
+use Rattle.session_run.specs.declared.session.Session.{Session}
+use Rattle.session_run.specs.Gives.{IsInTurn, last_of}
+use Rattle.session_run.specs.Stands.{Stands, Nest, IsKept, IsSavepointIn}
+use Rattle.session_run.proofs.CutLemmas.{last_apart}
+use Rattle.session_run.proofs.ListLemmas.{slice_end, take_end, same_name-true, name_itself}
+
+-- the same of the parts of a session
+pub record Stood (base : Counters) (h : List Event) (session number : ℕ) (opened named : List ℕ) (unnamed : ℕ) (kept : List Kept) : Type 0 where
+  pub opened_are : open_ids session h ≡ opened
+  pub ascend : Ascending opened
+  pub nest : Nest h opened named
+  pub depth : length named + unnamed ≤ most_levels
+  pub turn : AllByRecursion (λ e. (by_of e).command ≤ number) (filter (is_of session) h)
+  pub live : (name : List ℕ) → is_live base.next session name h ≡ list_any (λ k. same_name k.name name) kept
+  pub snaps : AllByRecursion (IsKept base h session) kept
+
+pub stood : (base : Counters) (h : List Event) (session number : ℕ) (s : Session) → Stands base h session number s → Stood base h session number s.opened.items s.named.items s.unnamed s.kept.items
+stood base h session number s k = record { opened_are = k.opened; ascend = k.ascend; nest = k.nest; depth = k.depth; turn = k.turn; live = k.live; snaps = k.snaps }
+
+pub stands : (base : Counters) (h : List Event) (session number : ℕ) (s : Session) → Stood base h session number s.opened.items s.named.items s.unnamed s.kept.items → Stands base h session number s
+stands base h session number s k = record { opened = k.opened_are; ascend = k.ascend; nest = k.nest; depth = k.depth; turn = k.turn; live = k.live; snaps = k.snaps }
+
+-- its levels changed alone
+pub stood_levels : (base : Counters) (h : List Event) (session number : ℕ) (opened named named' : List ℕ) (unnamed unnamed' : ℕ) (kept : List Kept) → Nest h opened named' → length named' + unnamed' ≤ most_levels →
+    Stood base h session number opened named unnamed kept → Stood base h session number opened named' unnamed' kept
+stood_levels base h session number opened named named' unnamed unnamed' kept n d s = record { opened_are = s.opened_are; ascend = s.ascend; nest = n; depth = d; turn = s.turn; live = s.live; snaps = s.snaps }
+
+all_front : {X : Type 0} (P : X → Type 0) (xs ys : List X) → AllByRecursion P (xs ++ ys) → AllByRecursion P xs
+all_front P [] ys a = tt
+all_front P (x ∷ xs) ys a = (a.0, all_front P xs ys a.1)
+
+all_back : {X : Type 0} (P : X → Type 0) (xs ys : List X) → AllByRecursion P (xs ++ ys) → AllByRecursion P ys
+all_back P [] ys a = a
+all_back P (x ∷ xs) ys a = all_back P xs ys a.1
+
+ascending_front : (xs ys : List ℕ) → Ascending (xs ++ ys) → Ascending xs
+ascending_front [] ys a = tt
+ascending_front (x ∷ xs) ys a = (all_front (λ y. x < y) xs ys a.0, ascending_front xs ys a.1)
+
+-- each of the ids is below the last one
+below_last : (xs : List ℕ) (x : ℕ) → Ascending (xs ++ x ∷ []) → AllByRecursion (λ y. y < x) xs
+below_last [] x a = tt
+below_last (y ∷ xs) x a = ((all_back (λ z. y < z) xs (x ∷ []) a.0).0, below_last xs x a.1)
+
+pub nest_front : (h : List Event) (opened ids : List ℕ) (id : ℕ) → 1 ≤ length ids → Nest h opened (ids ++ id ∷ []) → Nest h opened ids
+nest_front h opened [] id l n = absurd (omega arith)
+nest_front h opened (t ∷ ids) id l n = (n.0, n.1, n.2, all_front (IsSavepointIn h opened) ids (id ∷ []) n.3, ascending_front (t ∷ ids) (id ∷ []) n.4)
 
 -- an event that takes and drops no snapshot
-live_quiet : (first s : ℕ) (name : List ℕ) (h : List Event) (e : Event) → ((older : List Event) → live_up first (e ∷ older) ≡ live_up first older) → is_live first s name (h ++ e ∷ []) ≡ is_live first s name h
-live_quiet first s name h e q =
-    ap (λ r. list_any (is_snap_of s name) (live_up first r)) (reverse_push h e) ∙ ap (list_any (is_snap_of s name)) (q (reverse h))
+live_quiet : (first s : ℕ) (name : List ℕ) (h : List Event) (e : Event) → live_up first (e ∷ reverse h) ≡ live_up first (reverse h) → is_live first s name (h ++ e ∷ []) ≡ is_live first s name h
+live_quiet first s name h e q = ap (list_any (is_snap_of s name)) (live_push first h e ∙ q)
 
-live_snap : (first s : ℕ) (name taken : List ℕ) (h : List Event) (by : By) → is_live first s name (h ++ events.Snap by taken ∷ []) ≡ (is_live first s name h || ((by.session == s) && same_name taken name))
-live_snap first s name taken h by =
-    ap (λ r. list_any (is_snap_of s name) (live_up first r)) (reverse_push h (events.Snap by taken))
-    ∙ any_push (is_snap_of s name) (live_up first (reverse h)) _
-
-kept_grows : (base : Counters) (h es : List Event) (session : ℕ) (ks : List Kept) → AllByRecursion (IsKept base h session) ks → AllByRecursion (IsKept base (h ++ es) session) ks
+pub kept_grows : (base : Counters) (h es : List Event) (session : ℕ) (ks : List Kept) → AllByRecursion (IsKept base h session) ks → AllByRecursion (IsKept base (h ++ es) session) ks
 kept_grows base h es session ks a =
     all_weaker (IsKept base h session) (IsKept base (h ++ es) session)
     (λ k i. record {
       taken = slice_get-grows h es _ k.place i.taken;
-      xmax_is = i.xmax_is ∙ ap (snapshot_xmax base.next) (sym (take-grows h es _ k.place i.taken));
-      normal = i.normal;
-      small = i.small;
+      holds = i.holds ∙ ap (snapshot_data base.next) (sym (take-grows h es _ k.place i.taken));
     })
     ks a
 
-turn_push : (by : By) (h : List Event) (e : Event) → by_of e ≡ by → ComesNext by h → ComesNext by (h ++ e ∷ [])
+pub turn_push : (by : By) (h : List Event) (e : Event) → by_of e ≡ by → IsInTurn by h → IsInTurn by (h ++ e ∷ [])
 turn_push by h e own t =
     subst (AllByRecursion (λ f. (by_of f).command ≤ by.command)) (sym (filter-append (is_of by.session) h (e ∷ [])))
-    (all_append (λ f. (by_of f).command ≤ by.command) (filter (is_of by.session) h) (filter (is_of by.session) (e ∷ [])) t (last (is_of by.session e)))
+    (both_all (λ f. (by_of f).command ≤ by.command) (filter (is_of by.session) h) (filter (is_of by.session) (e ∷ [])) t (last (is_of by.session e)))
   where
     last : (b : Bool) → AllByRecursion (λ f. (by_of f).command ≤ by.command) (cond b (e ∷ []) [])
     last true = (omega (arith, ap (λ (x : By). x.command) own), tt)
     last false = tt
 
--- a session that is given the next id
-pub stands_given : (base : Counters) (h : List Event) (next : ℕ) (by : By) (kept : List Kept) → 3 ≤ next → AllByRecursion (IsFlat next) h → Stands base h next by.session by.command transactions.Begun kept → Stands base (h ++ events.Id by next ∷ []) (next_id next) by.session by.command (transactions.WithId next) kept
-stands_given base h next by kept normal f s =
-    let above = next_above next in
-    let g : AllByRecursion (IsFlat (next_id next)) (h ++ events.Id by next ∷ []) = flat_push (next_id next) h (events.Id by next) (flat_raised next (next_id next) (omega arith) h f) above in
+-- a transaction that is given its id
+pub stood_id : (base : Counters) (h : List Event) (by : By) (id unnamed unnamed' : ℕ) (kept : List Kept) → IsLegal base h → MayCome base h (events.Id by id) → unnamed' + 1 ≡ unnamed →
+    Stood base h by.session by.command [] [] unnamed kept → Stood base (h ++ events.Id by id ∷ []) by.session by.command (id ∷ []) (id ∷ []) unnamed' kept
+stood_id base h by id unnamed unnamed' kept legal may u s =
+    let under : AreBelow id h = subst (λ t. AreBelow t h) (sym may.0.next) (legal_sound base h legal).below in
     record {
-      opened = open_ids_given next (next_id next) h by next f g (not_ended next h f) s.opened;
-      given = ((normal, above), tt);
-      turn = turn_push by h (events.Id by next) refl s.turn;
-      live = λ name. live_quiet base.next by.session name h (events.Id by next) (λ o. refl) ∙ s.live name;
-      snaps = kept_grows base h (events.Id by next ∷ []) by.session kept s.snaps;
+      opened_are = id_open_ids by.session h by id under ∙ ap (λ l. l ++ cond (by.session == by.session) (id ∷ []) []) s.opened_are ∙ ap (λ b. cond b (id ∷ []) []) (eqb-refl by.session);
+      ascend = (tt, tt);
+      nest = ([], refl, ap (λ t. t == id) ((id_family h by id id).same_top ∙ fresh_top id h under) ∙ eqb-refl id, tt, (tt, tt));
+      depth = omega (arith, s.depth);
+      turn = turn_push by h (events.Id by id) refl s.turn;
+      live = λ name. live_quiet base.next by.session name h (events.Id by id) refl ∙ s.live name;
+      snaps = kept_grows base h (events.Id by id ∷ []) by.session kept s.snaps;
     }
 
--- a session whose transaction ends
-pub stands_ended : (base : Counters) (h : List Event) (next top : ℕ) (by : By) (kept : List Kept) (committed : Bool) → AllByRecursion (IsFlat next) h → Stands base h next by.session by.command (transactions.WithId top) kept → Stands base (h ++ end_event committed by top ∷ []) next by.session by.command transactions.Closed kept
-stands_ended base h next top by kept true f s = record {
-  opened = open_ids_ended next by.session h (events.Commit by top) top f s.given.0 refl (λ x. refl) s.opened;
-  given = tt;
-  turn = turn_push by h (events.Commit by top) refl s.turn;
-  live = λ name. live_quiet base.next by.session name h (events.Commit by top) (λ o. refl) ∙ s.live name;
-  snaps = kept_grows base h (events.Commit by top ∷ []) by.session kept s.snaps;
-}
-stands_ended base h next top by kept false f s = record {
-  opened = open_ids_ended next by.session h (events.Abort by top) top f s.given.0 refl (λ x. refl) s.opened;
-  given = tt;
-  turn = turn_push by h (events.Abort by top) refl s.turn;
-  live = λ name. live_quiet base.next by.session name h (events.Abort by top) (λ o. refl) ∙ s.live name;
-  snaps = kept_grows base h (events.Abort by top ∷ []) by.session kept s.snaps;
-}
+nat_le-true : (a b : ℕ) → a ≤ b → nat_le a b ≡ true
+nat_le-true a b l = grind (arith, nat_tests)
 
--- a session that takes a snapshot
-pub stands_snapped : (base : Counters) (h : List Event) (next : ℕ) (by : By) (t : Transaction) (kept : List Kept) (k : Kept) → k.command ≡ by.command → k.place ≡ length h → k.xmax ≡ snapshot_xmax base.next h → 3 ≤ k.xmax → k.xmax < 2 ^ 31 → AllByRecursion (IsFlat next) h → Stands base h next by.session by.command t kept → Stands base (h ++ events.Snap by k.name ∷ []) next by.session by.command t (kept ++ k ∷ [])
-stands_snapped base h next by t kept k c p x normal small f s =
-    let e : Event = events.Snap by k.name in
+nat_le-false : (a b : ℕ) → b < a → nat_le a b ≡ false
+nat_le-false a b l = grind (arith, nat_tests)
+
+-- the last of ascending ids is the greatest
+up_to_last : (xs : List ℕ) (p : ℕ) → Ascending xs → last_of xs ≡ Some p → AllByRecursion (λ x. x ≤ p) xs
+up_to_last [] p a e = absurd cc
+up_to_last (x ∷ []) p a e = let q : x ≡ p = cc in (omega arith, tt)
+up_to_last (x ∷ (y ∷ xs)) p a e = let k : AllByRecursion (λ z. z ≤ p) (y ∷ xs) = up_to_last (y ∷ xs) p a.1 e in (omega (arith, k.0, a.0.0), k)
+
+last_open : (h : List Event) (opened savepoints : List ℕ) (t p : ℕ) → has opened t ≡ true → AllByRecursion (IsSavepointIn h opened) savepoints → last_of (t ∷ savepoints) ≡ Some p → has opened p ≡ true
+last_open h opened [] t p o a e = let q : t ≡ p = cc in subst (λ z. has opened z ≡ true) q o
+last_open h opened (x ∷ xs) t p o a e = last_open h opened xs x p (has_contains opened x a.0.0) a.1 e
+
+head_had : (opened rest : List ℕ) (t : ℕ) → opened ≡ t ∷ rest → has opened t ≡ true
+head_had opened rest t e = subst (λ l. has l t ≡ true) (sym e) (ap (λ b. b || has rest t) (eqb-refl t))
+
+pub parent_open : (h : List Event) (opened named : List ℕ) (p : ℕ) → Nest h opened named → last_of named ≡ Some p → has opened p ≡ true
+parent_open h opened [] p n e = absurd cc
+parent_open h opened (t ∷ ids) p n e = last_open h opened ids t p (head_had opened n.0 t n.1) n.3 e
+
+savepoint_after : (h : List Event) (by : By) (parent id : ℕ) (opened : List ℕ) (x : ℕ) → AllByRecursion (λ y. y < id) opened → has opened parent ≡ true → x ≤ parent → IsSavepointIn h opened x →
+    IsSavepointIn (h ++ events.Sub by parent id ∷ []) (opened ++ id ∷ []) x
+savepoint_after h by parent id opened x below p l s =
+    let e : Event = events.Sub by parent id in
+    let x_below : x < id = all_has (λ y. y < id) opened x below (has_contains opened x s.0) in
+    let own : is_inside (h ++ e ∷ []) x id ≡ nat_le x id =
+    ap (list_any (λ y. x == y)) (enclosing_sub h by parent id id ∙ ap (λ b. cond b (id ∷ enclosing h parent) (enclosing h id)) (eqb-refl id))
+    ∙ ap (λ b. b || is_inside h x parent) (below_not x id x_below)
+    ∙ all_has (λ y. is_inside h x y ≡ nat_le x y) opened parent s.2 p
+    ∙ nat_le-true x parent l
+    ∙ sym (nat_le-true x id (omega arith)) in (
+      Contains-append_left opened (id ∷ []) x s.0,
+      ap (λ t. t == x) (sub_family h by parent id x x_below).same_top ∙ s.1,
+      all_push (λ y. is_inside (h ++ e ∷ []) x y ≡ nat_le x y) opened id (old opened below s.2) own,
+    )
+  where
+    old : (ys : List ℕ) → AllByRecursion (λ y. y < id) ys → AllByRecursion (λ y. is_inside h x y ≡ nat_le x y) ys → AllByRecursion (λ y. is_inside (h ++ events.Sub by parent id ∷ []) x y ≡ nat_le x y) ys
+    old [] b a = tt
+    old (y ∷ ys) b a = (ap (list_any (λ z. x == z)) (sub_family h by parent id y b.0).same_enclosing ∙ a.0, old ys b.1 a.1)
+
+savepoint_new : (h : List Event) (by : By) (parent id : ℕ) (opened : List ℕ) → AreBelow id h → AllByRecursion (λ y. y < id) opened → parent < id → IsSavepointIn (h ++ events.Sub by parent id ∷ []) (opened ++ id ∷ []) id
+savepoint_new h by parent id opened under below l =
+    let e : Event = events.Sub by parent id in
+    let own : is_inside (h ++ e ∷ []) id id ≡ nat_le id id =
+    ap (list_any (λ y. id == y)) (enclosing_sub h by parent id id ∙ ap (λ b. cond b (id ∷ enclosing h parent) (enclosing h id)) (eqb-refl id))
+    ∙ ap (λ b. b || is_inside h id parent) (eqb-refl id)
+    ∙ sym (nat_le-true id id (omega arith)) in (
+      Contains-push opened id,
+      sub_is_no_top h by parent id under l,
+      all_push (λ y. is_inside (h ++ e ∷ []) id y ≡ nat_le id y) opened id (old opened below) own,
+    )
+  where
+    old : (ys : List ℕ) → AllByRecursion (λ y. y < id) ys → AllByRecursion (λ y. is_inside (h ++ events.Sub by parent id ∷ []) id y ≡ nat_le id y) ys
+    old [] b = tt
+    old (y ∷ ys) b = (ap (list_any (λ z. id == z)) (sub_family h by parent id y b.0).same_enclosing ∙ not_inside id y h under ∙ sym (nat_le-false id y b.0), old ys b.1)
+
+nest_sub : (h : List Event) (by : By) (parent id : ℕ) (opened named : List ℕ) → AreBelow id h → AllByRecursion (λ y. y < id) opened → last_of named ≡ Some parent → Nest h opened named →
+    Nest (h ++ events.Sub by parent id ∷ []) (opened ++ id ∷ []) (named ++ id ∷ [])
+nest_sub h by parent id opened [] under below e n = absurd cc
+nest_sub h by parent id opened (t ∷ ids) under below e n =
+    let open_parent : has opened parent ≡ true = parent_open h opened (t ∷ ids) parent n e in
+    let parent_below : parent < id = all_has (λ y. y < id) opened parent below open_parent in
+    let top_below : t < id = all_has (λ y. y < id) opened t below (head_had opened n.0 t n.1) in
+    let up : AllByRecursion (λ x. x ≤ parent) (t ∷ ids) = up_to_last (t ∷ ids) parent n.4 e in (
+      n.0 ++ id ∷ [],
+      ap (λ l. l ++ id ∷ []) n.1,
+      ap (λ u. u == t) (sub_family h by parent id t top_below).same_top ∙ n.2,
+      all_push (IsSavepointIn (h ++ events.Sub by parent id ∷ []) (opened ++ id ∷ [])) ids id (olds ids open_parent up.1 n.3) (savepoint_new h by parent id opened under below parent_below),
+      ascending_push (t ∷ ids) id n.4 (all_weaker (λ x. x ≤ parent) (λ x. x < id) (λ x l. omega arith) (t ∷ ids) up),
+    )
+  where
+    olds : (xs : List ℕ) → has opened parent ≡ true → AllByRecursion (λ x. x ≤ parent) xs → AllByRecursion (IsSavepointIn h opened) xs → AllByRecursion (IsSavepointIn (h ++ events.Sub by parent id ∷ []) (opened ++ id ∷ [])) xs
+    olds [] o u a = tt
+    olds (x ∷ xs) o u a = (savepoint_after h by parent id opened x below o u.0 a.0, olds xs o u.1 a.1)
+
+-- a savepoint that is given its id
+pub stood_sub : (base : Counters) (h : List Event) (by : By) (parent id unnamed unnamed' : ℕ) (opened named : List ℕ) (kept : List Kept) → IsLegal base h → MayCome base h (events.Sub by parent id) → last_of named ≡ Some parent → unnamed' + 1 ≡ unnamed →
+    Stood base h by.session by.command opened named unnamed kept → Stood base (h ++ events.Sub by parent id ∷ []) by.session by.command (opened ++ id ∷ []) (named ++ id ∷ []) unnamed' kept
+stood_sub base h by parent id unnamed unnamed' opened named kept legal may last u s =
+    let e : Event = events.Sub by parent id in
+    let under : AreBelow id h = subst (λ t. AreBelow t h) (sym may.0.next) (legal_sound base h legal).below in
+    let below : AllByRecursion (λ y. y < id) opened = subst (AllByRecursion (λ y. y < id)) s.opened_are (all_filter (λ y. y < id) (is_open h) _ (given_to_below id by.session h under)) in
+    let is : is_open h parent ≡ true = (open_member by.session h parent (has_contains (open_ids by.session h) parent may.1)).1 in
     record {
-      opened = open_ids_quiet next by.session h e f tt refl (λ y. refl) ∙ s.opened;
-      given = s.given;
+      opened_are = sub_open_ids by.session h by parent id under is ∙ ap (λ l. l ++ cond (by.session == by.session) (id ∷ []) []) s.opened_are ∙ ap (λ b. opened ++ cond b (id ∷ []) []) (eqb-refl by.session);
+      ascend = ascending_push opened id s.ascend below;
+      nest = nest_sub h by parent id opened named under below last s.nest;
+      depth = omega (arith, s.depth, length_push named id);
       turn = turn_push by h e refl s.turn;
-      live = λ name. live_snap base.next by.session name k.name h by
-          ∙ ap (λ b. b || ((by.session == by.session) && same_name k.name name)) (s.live name)
-          ∙ ap (λ b. list_any (λ j. same_name j.name name) kept || (b && same_name k.name name)) (eqb-refl by.session)
-          ∙ sym (any_push (λ j. same_name j.name name) kept k);
-      snaps = all_append (IsKept base (h ++ e ∷ []) by.session) kept (k ∷ []) (kept_grows base h (e ∷ []) by.session kept s.snaps) (
-        record {
-          taken = rw (p, c) (slice_end h e);
-          xmax_is = x ∙ ap (snapshot_xmax base.next) (sym (ap (λ n. take n (h ++ e ∷ [])) p ∙ take_end h e));
-          normal = normal;
-          small = small;
-        },
-        tt,
-      );
+      live = λ name. live_quiet base.next by.session name h e refl ∙ s.live name;
+      snaps = kept_grows base h (e ∷ []) by.session kept s.snaps;
     }
+
+-- the ids in a savepoint that has an id are the open ones from it on
+pub inside_from : (h : List Event) (opened : List ℕ) (id : ℕ) → IsSavepointIn h opened id → filter (is_inside h id) opened ≡ filter (λ x. nat_le id x) opened
+inside_from h opened id s = filter_agree_on (λ x. is_inside h id x ≡ nat_le id x) (is_inside h id) (λ x. nat_le id x) (λ x e. e) opened s.2
+
+outside_before : (h : List Event) (opened : List ℕ) (id : ℕ) → IsSavepointIn h opened id → filter (λ x. not (is_inside h id x)) opened ≡ filter (λ x. not (nat_le id x)) opened
+outside_before h opened id s = filter_agree_on (λ x. is_inside h id x ≡ nat_le id x) (λ x. not (is_inside h id x)) (λ x. not (nat_le id x)) (λ x e. ap not e) opened s.2
+
+pub last_savepoint : (h : List Event) (opened ids : List ℕ) (id : ℕ) → 1 ≤ length ids → Nest h opened (ids ++ id ∷ []) → IsSavepointIn h opened id
+last_savepoint h opened [] id l n = absurd (omega arith)
+last_savepoint h opened (t ∷ ids) id l n = (all_back (IsSavepointIn h opened) ids (id ∷ []) n.3).0
+
+savepoint_left : (h : List Event) (by : By) (opened : List ℕ) (id x : ℕ) → x < id → IsSavepointIn h opened x → IsSavepointIn (h ++ events.Undo by id ∷ []) (filter (λ y. not (nat_le id y)) opened) x
+savepoint_left h by opened id x l s =
+    let e : Event = events.Undo by id in (
+      has-contains _ x (filter_has (λ y. not (nat_le id y)) opened x (contains_has opened x s.0) (ap not (nat_le-false id x l))),
+      ap (λ t. t == x) (family_kept h e x tt).same_top ∙ s.1,
+      all_filter (λ y. is_inside (h ++ e ∷ []) x y ≡ nat_le x y) (λ y. not (nat_le id y)) opened
+          (all_weaker (λ y. is_inside h x y ≡ nat_le x y) (λ y. is_inside (h ++ e ∷ []) x y ≡ nat_le x y) (λ y i. ap (list_any (λ z. x == z)) (family_kept h e y tt).same_enclosing ∙ i) opened s.2),
+    )
+
+nest_undone : (h : List Event) (by : By) (opened ids : List ℕ) (id : ℕ) → 1 ≤ length ids → Nest h opened (ids ++ id ∷ []) → Nest (h ++ events.Undo by id ∷ []) (filter (λ x. not (nat_le id x)) opened) ids
+nest_undone h by opened [] id l n = absurd (omega arith)
+nest_undone h by opened (t ∷ ids) id l n =
+    let below = below_last (t ∷ ids) id n.4 in (
+      filter (λ x. not (nat_le id x)) n.0,
+      ap (filter (λ x. not (nat_le id x))) n.1 ∙ ap (λ b. cond (not b) (t ∷ filter (λ x. not (nat_le id x)) n.0) (filter (λ x. not (nat_le id x)) n.0)) (nat_le-false id t below.0),
+      ap (λ u. u == t) (family_kept h (events.Undo by id) t tt).same_top ∙ n.2,
+      lefts ids below.1 (all_front (IsSavepointIn h opened) ids (id ∷ []) n.3),
+      ascending_front (t ∷ ids) (id ∷ []) n.4,
+    )
+  where
+    lefts : (xs : List ℕ) → AllByRecursion (λ x. x < id) xs → AllByRecursion (IsSavepointIn h opened) xs → AllByRecursion (IsSavepointIn (h ++ events.Undo by id ∷ []) (filter (λ x. not (nat_le id x)) opened)) xs
+    lefts [] b a = tt
+    lefts (x ∷ xs) b a = (savepoint_left h by opened id x b.0 a.0, lefts xs b.1 a.1)
+
+-- the innermost savepoint is rolled back
+pub stood_undone : (base : Counters) (h : List Event) (by : By) (id unnamed : ℕ) (opened ids : List ℕ) (kept : List Kept) → 1 ≤ length ids →
+    Stood base h by.session by.command opened (ids ++ id ∷ []) unnamed kept → Stood base (h ++ events.Undo by id ∷ []) by.session by.command (filter (λ x. not (nat_le id x)) opened) ids unnamed kept
+stood_undone base h by id unnamed opened ids kept l s =
+    let e : Event = events.Undo by id in
+    record {
+      opened_are = closing_open_ids by.session h e _ (closing_undo h by id) ∙ ap (filter (λ x. not (is_inside h id x))) s.opened_are ∙ outside_before h opened id (last_savepoint h opened ids id l s.nest);
+      ascend = ascending_filtered (λ x. not (nat_le id x)) opened s.ascend;
+      nest = nest_undone h by opened ids id l s.nest;
+      depth = omega (arith, s.depth, length_push ids id);
+      turn = turn_push by h e refl s.turn;
+      live = λ name. live_quiet base.next by.session name h e refl ∙ s.live name;
+      snaps = kept_grows base h (e ∷ []) by.session kept s.snaps;
+    }
+
+-- the end of a transaction closes all that its session had open
+all_closed : (base : Counters) (h : List Event) (e : Event) (session t : ℕ) (rest : List ℕ) → IsLegal base h → IsClosing h e (λ x. not (t == top h x)) → open_ids session h ≡ t ∷ rest → is_top h t ≡ true → open_ids session (h ++ e ∷ []) ≡ []
+all_closed base h e session t rest legal c o is =
+    let mine : Has (open_ids session h) t = subst (λ l. Has l t) (sym o) (inl refl) in
+    let own : top h t ≡ t = equal_from (top h t) t is in
+    closing_open_ids session h e (λ x. not (t == top h x)) c
+    ∙ filter_none_of (open_ids session h) (λ x k. ap not (ap (λ u. t == u) (one_top base h legal session x t k mine ∙ own) ∙ eqb-refl t))
+  where
+    filter_none_of : (xs : List ℕ) → ((x : ℕ) → Has xs x → not (t == top h x) ≡ false) → filter (λ x. not (t == top h x)) xs ≡ []
+    filter_none_of [] f = refl
+    filter_none_of (x ∷ xs) f = rw (f x (inl refl)) (filter_none_of xs (λ y k. f y (inr k)))
+
+closing_end : (h : List Event) (by : By) (t : ℕ) (committed : Bool) → IsClosing h (end_event committed by t) (λ x. not (t == top h x))
+closing_end h by t true = closing_commit h by t
+closing_end h by t false = closing_abort h by t
+
+end_by : (by : By) (t : ℕ) (committed : Bool) → by_of (end_event committed by t) ≡ by
+end_by by t true = refl
+end_by by t false = refl
+
+end_lives : (first : ℕ) (h : List Event) (by : By) (t : ℕ) (committed : Bool) → live_up first (end_event committed by t ∷ reverse h) ≡ live_up first (reverse h)
+end_lives first h by t true = refl
+end_lives first h by t false = refl
+
+-- a session's transaction ends
+pub stood_ended : (base : Counters) (h : List Event) (by : By) (t unnamed : ℕ) (rest opened named : List ℕ) (kept : List Kept) (committed : Bool) → IsLegal base h → opened ≡ t ∷ rest → is_top h t ≡ true →
+    Stood base h by.session by.command opened named unnamed kept → Stood base (h ++ end_event committed by t ∷ []) by.session by.command [] [] 0 kept
+stood_ended base h by t unnamed rest opened named kept committed legal o is s =
+    let e : Event = end_event committed by t in
+    record {
+      opened_are = all_closed base h e by.session t rest legal (closing_end h by t committed) (s.opened_are ∙ o) is;
+      ascend = tt;
+      nest = refl;
+      depth = omega arith;
+      turn = turn_push by h e (end_by by t committed) s.turn;
+      live = λ name. live_quiet base.next by.session name h e (end_lives base.next h by t committed) ∙ s.live name;
+      snaps = kept_grows base h (e ∷ []) by.session kept s.snaps;
+    }
+
+pub nest_taken : (h : List Event) (opened ids : List ℕ) (n : ℕ) → n + 1 ≡ length ids → 1 ≤ n → Nest h opened ids → Nest h opened (take n ids)
+nest_taken h opened ids n e l s =
+    let r = last_apart ids n e in
+    nest_front h opened (take n ids) r.0 (let k : length ids ≡ length (take n ids) + 1 = ap length r.1 ∙ length_push (take n ids) r.0 ∙ one_more (length (take n ids)) in omega arith) (subst (Nest h opened) r.1 s)
+  where
+    one_more : (n : ℕ) → suc n ≡ n + 1
+    one_more n = omega arith

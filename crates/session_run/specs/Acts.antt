@@ -1,13 +1,13 @@
 -- What a command does.
-use Rattle.std.specs.Prelude.{◌≡◌, ℕ, ◌+◌, ◌<◌, ◌≤◌, List, [], ◌++◌, Bool, cond, length}
-use Rattle.std.specs.List.{AllByRecursion}
+use Rattle.std.specs.Prelude.{◌≡◌, ◌+◌, ◌<◌, ◌≤◌, List, [], ◌++◌, Bool, cond, length}
+use Rattle.std.specs.List.{AllByRecursion, filter}
 use Rattle.tx_model.specs.declared.event.By.{By}
 use Rattle.tx_model.specs.declared.event.Event.{Event}
 use Rattle.tx_model.specs.declared.command.Command.{Command}
 use Rattle.tx_model.specs.declared.command.Command.TheVariants as commands
 use Rattle.tx_model.specs.declared.record.Counters.{Counters}
 use Rattle.tx_model.specs.declared.reply.Reply.{Reply}
-use Rattle.tx_model.specs.Events.{by_of, given}
+use Rattle.tx_model.specs.Events.{by_of, given, is_of}
 use Rattle.tx_model.specs.Stance.{Stance, after}
 use Rattle.tx_model.specs.CommandEvents.{HasEvents}
 use Rattle.tx_model.specs.Replies.{MayReply}
@@ -45,6 +45,8 @@ pub record Ready (w : Shared) (by : By) (s : Session) : Type 0 where
   pub stands : StandsAt w by s
   pub known : by.session < w.table.sessions
   pub room : HasRoom w.log.recs
+  -- the session's events so far are of earlier commands
+  pub fresh : AllByRecursion (λ e. (by_of e).command < by.command) (filter (is_of by.session) w.table.events)
 
 -- the base stays, and a command adds at most one record
 pub record GrowsLittle (w w' : Shared) : Type 0 where

@@ -1,6 +1,9 @@
 pub mod Sound
 pub mod Stands
 pub mod Acts
+pub mod Gives
+pub mod Closes
+pub mod Seen
 pub mod Turns
 pub mod Progress
 pub mod Tool

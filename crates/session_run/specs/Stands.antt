@@ -36,22 +36,22 @@ stance_of s = record { levels = levels_of s.named.items s.unnamed; snaps = map t
 -- the snapshot was taken at its place
 pub record IsKept (base : Counters) (h : List Event) (session : ℕ) (k : Kept) : Type 0 where
   pub taken : slice_get h k.place ≡ Some (events.Snap (record { session = session; command = k.command }) k.name)
-  pub data : data_of k.snapshot ≡ snapshot_data base.next (take k.place h)
+  pub holds : data_of k.snapshot ≡ snapshot_data base.next (take k.place h)
 
 -- a savepoint's id: the ids given in it are the open ones from it on
 abbrev pub IsSavepointIn : List Event → List ℕ → ℕ → Type 0
-IsSavepointIn h open id = Contains open id × (is_top h id ≡ false) × AllByRecursion (λ x. is_inside h id x ≡ nat_le id x) open
+IsSavepointIn h ids id = Contains ids id × (is_top h id ≡ false) × AllByRecursion (λ x. is_inside h id x ≡ nat_le id x) ids
 
 -- the levels' ids are open: the first is the transaction's, the others are savepoints, each inside the one before
 abbrev pub Nest : List Event → List ℕ → List ℕ → Type 0
-Nest h open [] = open ≡ []
-Nest h open (top ∷ savepoints) = (rest : List ℕ) × (open ≡ top ∷ rest) × (is_top h top ≡ true) × AllByRecursion (IsSavepointIn h open) savepoints × Ascending (top ∷ savepoints)
+Nest h ids [] = ids ≡ []
+Nest h ids (top ∷ savepoints) = (rest : List ℕ) × (ids ≡ top ∷ rest) × (is_top h top ≡ true) × AllByRecursion (IsSavepointIn h ids) savepoints × Ascending (top ∷ savepoints)
 
 -- the session has these levels, ids and snapshots, and its events so far are of commands up to a number
 pub record Stands (base : Counters) (h : List Event) (session number : ℕ) (s : Session) : Type 0 where
-  pub opened : open_ids session h ≡ s.open.items
-  pub ascend : Ascending s.open.items
-  pub nest : Nest h s.open.items s.named.items
+  pub opened : open_ids session h ≡ s.opened.items
+  pub ascend : Ascending s.opened.items
+  pub nest : Nest h s.opened.items s.named.items
   pub depth : length s.named.items + s.unnamed ≤ most_levels
   pub turn : AllByRecursion (λ e. (by_of e).command ≤ number) (filter (is_of session) h)
   pub live : (name : List ℕ) → is_live base.next session name h ≡ list_any (λ k. same_name k.name name) s.kept.items

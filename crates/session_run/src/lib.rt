@@ -1,14 +1,18 @@
 //! Runs the sessions of a script over a new log, and the tool's top call.
 #![tactic(auto)]
 
+mod ends;
+mod levels;
 mod life;
 mod plain_log;
 mod rounds;
 mod run;
 mod session;
 mod shared;
+mod snaps;
 mod stream;
 mod tool;
+mod writes;
 
 pub use run::run_script;
 pub use tool::run_tool;

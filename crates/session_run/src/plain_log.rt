@@ -5,9 +5,9 @@ ghost use Rattle.tx_model.specs.LifeLog.{AreFlushed, batches_size, is_flushed_at
 use std::alloc::Global;
 use tx_model::{Memory, Rec, RecList};
 
-/// How many bytes the log takes for a small record.
+/// How many bytes the log takes for a record of at most 2^32 subtransactions.
 fn size_of(rec: &Rec) -> u64
-    requires { record_size rec.now ≤ 57 }
+    requires { record_size rec.now ≤ 2 ^ 35 + 13 }
     ensures { result ≡ record_size rec.now }
 {
     match rec {
@@ -43,7 +43,7 @@ pub struct PlainLog {
     ghost known: { AreFlushed recs flushed },
     ghost gate: { end ≡ batches_size (take flushed recs) },
     ghost waiting: { pending ≡ records_size (drop flushed recs) },
-    ghost small: { end + pending ≤ 62 * length recs },
+    ghost small: { end + pending ≤ 2 ^ 36 * length recs },
 }
 
 impl PlainLog {
@@ -61,8 +61,8 @@ impl PlainLog {
 
     /// Appends a record, and flushes it where it is a commit or a checkpoint.
     pub fn add(&mut self, rec: Rec) -> Result<(), Memory>
-        requires size { record_size rec ≤ 57 }
-        requires room { length self.old.recs < 2 ^ 32 }
+        requires size { record_size rec ≤ 2 ^ 35 + 13 }
+        requires room { length self.old.recs < 2 ^ 28 }
         ensures ok { OnOk result (self.new.recs ≡ self.old.recs ++ rec ∷ []) }
         ensures err { OnErr result (self.new.recs ≡ self.old.recs) }
     {

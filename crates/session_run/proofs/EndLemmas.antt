@@ -1,0 +1,91 @@
+-- The end of a transaction.
+use Rattle.std.proofs.Common.{◌≡◌, ℕ, zero, suc, ◌+◌, ◌-◌, ◌^◌, ◌<◌, ◌≤◌, List, [], ◌∷◌, ◌++◌, length, drop, take, refl, sym, ap, subst, ◌∙◌, arith, Bool, true, false, Contains, inl}
+use Rattle.std.specs.List.{slice_index_or}
+use Rattle.tx_model.specs.declared.event.By.{By}
+use Rattle.tx_model.specs.declared.event.Event.{Event}
+use Rattle.tx_model.specs.declared.command.Command.TheVariants as commands
+use Rattle.tx_model.specs.declared.reply.Reply.TheVariants as replies
+use Rattle.tx_model.specs.declared.reply.Refusal.TheVariants as refusals
+use Rattle.tx_model.specs.declared.record.Counters.{Counters}
+use Rattle.tx_model.specs.declared.record.Rec.{Rec}
+use Rattle.tx_model.specs.Base.{IsBase}
+use Rattle.tx_model.specs.Families.{is_top}
+use Rattle.tx_model.specs.History.{IsLegal, MayCome}
+use Rattle.tx_model.specs.IdLists.{Ascending}
+use Rattle.tx_model.specs.RecordSize.{record_size}
+use Rattle.tx_model.specs.Running.{open_ids}
+use Rattle.tx_model.proofs.ListSteps.{take_whole, length_push}
+use Rattle.tx_model.proofs.Membership.{has_contains}
+use Rattle.proc_table.specs.Table.{end_event}
+use Rattle.session_run.specs.Acts.{Acts, end_command}
+use Rattle.session_run.specs.Closes.{end_record}
+use Rattle.session_run.specs.Stands.{Nest, levels_of}
+use Rattle.session_run.proofs.ActsLemmas.{acts_idle}
+use Rattle.session_run.proofs.LevelLemmas.{no_levels}
+use Rattle.session_run.proofs.RoomLemmas.{open_few}
+
+-- the first id and the others
+pub head_tail : (ids : List ℕ) (d : ℕ) → 1 ≤ length ids → ids ≡ slice_index_or ids 0 d ∷ drop 1 ids
+head_tail [] d l = absurd (omega arith)
+head_tail (x ∷ ids) d l = refl
+
+-- the ids of a transaction that has one
+pub record IsHead (h : List Event) (opened named : List ℕ) : Type 0 where
+  pub top : ℕ
+  pub ids : List ℕ
+  pub rest : List ℕ
+  pub named_is : named ≡ top ∷ ids
+  pub opened_is : opened ≡ top ∷ rest
+  pub top_is : is_top h top ≡ true
+
+pub nest_head : (h : List Event) (opened named : List ℕ) → 1 ≤ length named → Nest h opened named → IsHead h opened named
+nest_head h opened [] l n = absurd (omega arith)
+nest_head h opened (t ∷ ids) l n = record { top = t; ids = ids; rest = n.0; named_is = refl; opened_is = n.1; top_is = n.2 }
+
+pub none_left : (xs : List ℕ) → length xs ≡ 0 → xs ≡ []
+none_left [] e = refl
+none_left (x ∷ xs) e = absurd (omega arith)
+
+pub heads : (a b : ℕ) (xs ys : List ℕ) → a ∷ xs ≡ b ∷ ys → a ≡ b
+heads a b xs ys e = cc
+
+pub head_top : (h : List Event) (opened named : List ℕ) (t : ℕ) (rest : List ℕ) → IsHead h opened named → opened ≡ t ∷ rest → is_top h t ≡ true
+head_top h opened named t rest k e = subst (λ u. is_top h u ≡ true) (heads k.top t k.rest rest (sym k.opened_is ∙ e)) k.top_is
+
+pub may_end : (base : Counters) (h : List Event) (by : By) (t : ℕ) (rest : List ℕ) (committed : Bool) → open_ids by.session h ≡ t ∷ rest → is_top h t ≡ true → MayCome base h (end_event committed by t)
+may_end base h by t rest true o i = (subst (λ l. Contains l t) (sym o) (has_contains (t ∷ rest) t (inl refl)), i)
+may_end base h by t rest false o i = (subst (λ l. Contains l t) (sym o) (has_contains (t ∷ rest) t (inl refl)), i)
+
+record_few : (committed : Bool) (t : ℕ) (subs : List ℕ) → length subs < 2 ^ 32 → record_size (end_record committed t subs) ≤ 2 ^ 35 + 13
+record_few true t subs l = omega arith
+record_few false t subs l = omega arith
+
+-- its record is small
+pub end_record_few : (base : Counters) (h : List Event) (session : ℕ) (t : ℕ) (subs : List ℕ) (committed : Bool) → IsBase base → IsLegal base h → open_ids session h ≡ t ∷ subs → Ascending (t ∷ subs) → record_size (end_record committed t subs) ≤ 2 ^ 35 + 13
+end_record_few base h session t subs committed b legal o a =
+    let few = open_few base h session b legal (subst Ascending (sym o) a) in
+    let same : length (open_ids session h) ≡ suc (length subs) = ap length o in
+    record_few committed t subs (omega arith)
+
+-- an end without a transaction
+pub acts_none : (base : Counters) (by : By) (h : List Event) (named : List ℕ) (unnamed : ℕ) (snaps : List (List ℕ × ℕ)) (committed : Bool) → length (levels_of named unnamed) ≡ 0 →
+    Acts base by (record { levels = levels_of named unnamed; snaps = snaps }) (record { levels = levels_of named unnamed; snaps = snaps }) (end_command committed) (replies.Refused refusals.NoTransaction) h h
+acts_none base by h named unnamed snaps true e = acts_idle base by _ _ commands.Commit (replies.Refused refusals.NoTransaction) h refl (no_levels named unnamed e) refl
+acts_none base by h named unnamed snaps false e = acts_idle base by _ _ commands.Abort (replies.Refused refusals.NoTransaction) h refl (no_levels named unnamed e) refl
+
+pub take_rest : (n : ℕ) (ids : List ℕ) → take (length ids - n) (drop n ids) ≡ drop n ids
+take_rest zero ids = ap (λ k. take k ids) (same (length ids)) ∙ take_whole ids
+  where
+    same : (n : ℕ) → n - 0 ≡ n
+    same n = omega arith
+take_rest (suc n) [] = ap (λ k. take k (drop (suc n) [])) (gone n)
+  where
+    gone : (n : ℕ) → 0 - suc n ≡ 0
+    gone n = omega arith
+take_rest (suc n) (x ∷ ids) = ap (λ k. take k (drop n ids)) (same (length ids) n) ∙ take_rest n ids
+  where
+    same : (m n : ℕ) → suc m - suc n ≡ m - n
+    same m n = omega arith
+
+pub tail_few : (xs : List Rec) (x : Rec) → length (xs ++ x ∷ []) ≤ length xs + 1
+tail_few xs x = let k = length_push xs x in omega arith

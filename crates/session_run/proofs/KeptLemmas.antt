@@ -1,0 +1,153 @@
+-- How a session stands, after it took or dropped a snapshot.
+use Rattle.std.proofs.Common.{◌≡◌, ℕ, suc, ◌+◌, ◌<◌, ◌≤◌, List, [], ◌∷◌, ◌++◌, length, take, refl, ap, sym, ◌∙◌, arith, subst, Bool, true, false, not, cond, ◌==◌, ◌&&◌, ◌||◌, reverse, Some, nat_le, Contains, inl, inr}
+use Rattle.std.specs.List.{filter, AllByRecursion, list_any}
+use Rattle.std.proofs.lemmas.Bool.{false≢true}
+use Rattle.std.proofs.lemmas.Bool.Decides.{nat_tests}
+use Rattle.std.proofs.lemmas.List.Elements.{filter-append, Contains-append_left, Contains-push}
+use Rattle.tx_model.specs.declared.event.By.{By}
+use Rattle.tx_model.specs.declared.event.Event.{Event}
+use Rattle.tx_model.specs.declared.event.Event.TheVariants as events
+use Rattle.tx_model.specs.declared.record.Counters.{Counters}
+use Rattle.tx_model.specs.Events.{by_of, is_of, same_name}
+use Rattle.tx_model.specs.Families.{top, is_top, enclosing}
+use Rattle.tx_model.specs.History.{IsLegal, MayCome}
+use Rattle.tx_model.specs.Horizon.{LiveSnap, is_live, is_snap_of, live_up, live_snaps}
+use Rattle.tx_model.specs.IdLists.{Ascending, has}
+use Rattle.tx_model.specs.Replies.{most_levels}
+use Rattle.tx_model.specs.Running.{open_ids, is_open}
+use Rattle.tx_model.specs.Savepoints.{is_inside}
+use Rattle.tx_model.specs.Snapshots.{snapshot_data}
+use Rattle.tx_model.proofs.Closing.{one_top}
+use Rattle.tx_model.proofs.ClosingGrowth.{IsClosing, closing_open_ids, closing_undo, closing_commit, closing_abort}
+use Rattle.tx_model.proofs.HorizonSteps.{live_push}
+use Rattle.tx_model.proofs.IdListSteps.{all_has, has_contains, ascending_push, ascending_filtered}
+use Rattle.tx_model.proofs.LegalSoundness.{legal_sound, open_member}
+use Rattle.tx_model.proofs.ListSteps.{eqb-refl, equal_from, below_not, list_any-push, all_push, all_filter, all_weaker, filter_agree_on, length_push}
+use Rattle.tx_model.proofs.Membership.{Has, contains_has, has_contains as has-contains, filter_has, any_has}
+use Rattle.tx_model.proofs.NameBounds.{AreBelow}
+use Rattle.tx_model.proofs.OpenGrowth.{fresh_top, enclosing_sub, family_kept}
+use Rattle.tx_model.proofs.PlaceLemmas.{slice_get-grows, take-grows, both_all}
+use Rattle.tx_model.proofs.RunningGrowth.{id_open_ids, id_family, given_to_below, quiet_open_ids, quiet_family, IsQuiet}
+use Rattle.tx_model.proofs.Soundness.{not_inside}
+use Rattle.tx_model.proofs.SubGrowth.{sub_family, sub_is_no_top, sub_open_ids}
+use Rattle.snap_core.specs.Says.{data_of}
+use Rattle.proc_table.specs.Table.{end_event}
+use Rattle.session_run.specs.declared.session.Kept.{Kept}
+use Rattle.session_run.specs.declared.session.Session.{Session}
+use Rattle.session_run.specs.Gives.{IsInTurn, last_of}
+use Rattle.session_run.specs.Stands.{Stands, Nest, IsKept, IsSavepointIn}
+use Rattle.session_run.proofs.CutLemmas.{last_apart}
+use Rattle.session_run.proofs.ListLemmas.{slice_end, take_end, same_name-true, name_itself}
+use Rattle.session_run.proofs.StandsLemmas.{Stood, kept_grows, turn_push}
+
+quiet_savepoint : (h : List Event) (e : Event) (opened : List ℕ) (x : ℕ) → IsQuiet e → IsSavepointIn h opened x → IsSavepointIn (h ++ e ∷ []) opened x
+quiet_savepoint h e opened x q s = (
+  s.0,
+  ap (λ t. t == x) (quiet_family h e x q).same_top ∙ s.1,
+  all_weaker (λ y. is_inside h x y ≡ nat_le x y) (λ y. is_inside (h ++ e ∷ []) x y ≡ nat_le x y) (λ y i. ap (list_any (λ z. x == z)) (quiet_family h e y q).same_enclosing ∙ i) opened s.2,
+)
+
+-- an event that gives and closes nothing
+pub nest_quiet : (h : List Event) (e : Event) (opened named : List ℕ) → IsQuiet e → Nest h opened named → Nest (h ++ e ∷ []) opened named
+nest_quiet h e opened [] q n = n
+nest_quiet h e opened (t ∷ ids) q n = (
+  n.0,
+  n.1,
+  ap (λ u. u == t) (quiet_family h e t q).same_top ∙ n.2,
+  all_weaker (IsSavepointIn h opened) (IsSavepointIn (h ++ e ∷ []) opened) (λ x s. quiet_savepoint h e opened x q s) ids n.3,
+  n.4,
+)
+
+stood_quiet : (base : Counters) (h : List Event) (by : By) (e : Event) (opened named : List ℕ) (unnamed : ℕ) (kept kept' : List Kept) → IsQuiet e → by_of e ≡ by →
+    ((name : List ℕ) → is_live base.next by.session name (h ++ e ∷ []) ≡ list_any (λ k. same_name k.name name) kept') → AllByRecursion (IsKept base (h ++ e ∷ []) by.session) kept' →
+    Stood base h by.session by.command opened named unnamed kept → Stood base (h ++ e ∷ []) by.session by.command opened named unnamed kept'
+stood_quiet base h by e opened named unnamed kept kept' q own live snaps s = record {
+  opened_are = quiet_open_ids by.session h e q ∙ s.opened_are;
+  ascend = s.ascend;
+  nest = nest_quiet h e opened named q s.nest;
+  depth = s.depth;
+  turn = turn_push by h e own s.turn;
+  live = live;
+  snaps = snaps;
+}
+
+-- a session that takes a snapshot
+pub stood_snapped : (base : Counters) (h : List Event) (by : By) (opened named : List ℕ) (unnamed : ℕ) (kept : List Kept) (k : Kept) → k.command ≡ by.command → k.place ≡ length h → data_of k.snapshot ≡ snapshot_data base.next h →
+    Stood base h by.session by.command opened named unnamed kept → Stood base (h ++ events.Snap by k.name ∷ []) by.session by.command opened named unnamed (kept ++ k ∷ [])
+stood_snapped base h by opened named unnamed kept k c p d s =
+    let e : Event = events.Snap by k.name in
+    stood_quiet base h by e opened named unnamed kept (kept ++ k ∷ []) tt refl
+    (λ name. ap (list_any (is_snap_of by.session name)) (live_push base.next h e)
+    ∙ list_any-push (is_snap_of by.session name) (live_up base.next (reverse h)) _
+    ∙ ap (λ b. b || ((by.session == by.session) && same_name k.name name)) (s.live name)
+    ∙ ap (λ b. list_any (λ j. same_name j.name name) kept || (b && same_name k.name name)) (eqb-refl by.session)
+    ∙ sym (list_any-push (λ j. same_name j.name name) kept k))
+    (all_push (IsKept base (h ++ e ∷ []) by.session) kept k (kept_grows base h (e ∷ []) by.session kept s.snaps)
+    (record {
+      taken = rw (p, c) (slice_end h e);
+      holds = d ∙ ap (snapshot_data base.next) (sym (ap (λ n. take n (h ++ e ∷ [])) p ∙ take_end h e));
+    }))
+    s
+
+-- a test on what a filter leaves
+any_dropped : {X : Type 0} (p q : X → Bool) (xs : List X) → ((x : X) → p x ≡ true → q x ≡ false) → list_any p (filter (λ x. not (q x)) xs) ≡ list_any p xs
+any_dropped p q [] f = refl
+any_dropped p q (x ∷ xs) f = one (q x) refl (any_dropped p q xs f)
+  where
+    one : (c : Bool) → q x ≡ c → list_any p (filter (λ y. not (q y)) xs) ≡ list_any p xs → list_any p (cond (not c) (x ∷ filter (λ y. not (q y)) xs) (filter (λ y. not (q y)) xs)) ≡ (p x || list_any p xs)
+    one false e g = ap (λ b. p x || b) g
+    one true e g = two (p x) refl
+      where
+        two : (d : Bool) → p x ≡ d → list_any p (filter (λ y. not (q y)) xs) ≡ (d || list_any p xs)
+        two false i = g
+        two true i = absurd (false≢true (sym (f x i) ∙ e))
+
+any_gone : {X : Type 0} (p : X → Bool) (xs : List X) → list_any p (filter (λ x. not (p x)) xs) ≡ false
+any_gone p [] = refl
+any_gone p (x ∷ xs) = one (p x) refl (any_gone p xs)
+  where
+    one : (c : Bool) → p x ≡ c → list_any p (filter (λ y. not (p y)) xs) ≡ false → list_any p (cond (not c) (x ∷ filter (λ y. not (p y)) xs) (filter (λ y. not (p y)) xs)) ≡ false
+    one true e rest = rest
+    one false e rest = ap (λ b. b || list_any p (filter (λ y. not (p y)) xs)) e ∙ rest
+
+other_name : (a name other : List ℕ) → same_name name other ≡ false → same_name a other ≡ true → same_name a name ≡ false
+other_name a name other f t = one (same_name a name) refl
+  where
+    one : (b : Bool) → same_name a name ≡ b → b ≡ false
+    one false e = refl
+    one true e = absurd (false≢true (sym f ∙ ap (λ n. same_name n other) (sym (same_name-true a name e)) ∙ t))
+
+other_snap : (session : ℕ) (name other : List ℕ) (l : LiveSnap) → same_name name other ≡ false → is_snap_of session other l ≡ true → is_snap_of session name l ≡ false
+other_snap session name other l f t = one (l.session == session) t
+  where
+    one : (b : Bool) → (b && same_name l.name other) ≡ true → (b && same_name l.name name) ≡ false
+    one true e = other_name l.name name other f e
+    one false e = refl
+
+live_dropped : (first : ℕ) (h : List Event) (by : By) (name other : List ℕ) (kept : List Kept) → ((n : List ℕ) → is_live first by.session n h ≡ list_any (λ k. same_name k.name n) kept) →
+    is_live first by.session other (h ++ events.SnapDrop by name ∷ []) ≡ list_any (λ k. same_name k.name other) (filter (λ k. not (same_name k.name name)) kept)
+live_dropped first h by name other kept live = ap (list_any (is_snap_of by.session other)) (live_push first h (events.SnapDrop by name)) ∙ one (same_name name other) refl
+  where
+    one : (b : Bool) → same_name name other ≡ b →
+        list_any (is_snap_of by.session other) (filter (λ l. not (is_snap_of by.session name l)) (live_snaps first h)) ≡ list_any (λ k. same_name k.name other) (filter (λ k. not (same_name k.name name)) kept)
+    one true e = subst (λ o. list_any (is_snap_of by.session o) (filter (λ l. not (is_snap_of by.session name l)) (live_snaps first h)) ≡ list_any (λ k. same_name k.name o) (filter (λ k. not (same_name k.name name)) kept)) (same_name-true name other e)
+        (any_gone (is_snap_of by.session name) (live_snaps first h) ∙ sym (any_gone (λ k. same_name k.name name) kept))
+    one false e = any_dropped (is_snap_of by.session other) (is_snap_of by.session name) (live_snaps first h) (λ l t. other_snap by.session name other l e t)
+        ∙ live other
+        ∙ sym (any_dropped (λ k. same_name k.name other) (λ k. same_name k.name name) kept (λ k t. other_name k.name name other e t))
+
+-- a session that drops one
+pub stood_dropped : (base : Counters) (h : List Event) (by : By) (name : List ℕ) (opened named : List ℕ) (unnamed : ℕ) (kept : List Kept) →
+    Stood base h by.session by.command opened named unnamed kept → Stood base (h ++ events.SnapDrop by name ∷ []) by.session by.command opened named unnamed (filter (λ k. not (same_name k.name name)) kept)
+stood_dropped base h by name opened named unnamed kept s =
+    let e : Event = events.SnapDrop by name in
+    stood_quiet base h by e opened named unnamed kept (filter (λ k. not (same_name k.name name)) kept) tt refl
+    (λ other. live_dropped base.next h by name other kept s.live)
+    (all_filter (IsKept base (h ++ e ∷ []) by.session) (λ k. not (same_name k.name name)) kept (kept_grows base h (e ∷ []) by.session kept s.snaps))
+    s
+
+-- a snapshot that is registered is live
+pub live_here : (first : ℕ) (h : List Event) (session : ℕ) (name : List ℕ) (xmin : ℕ) → Contains (live_snaps first h) (record { session = session; name = name; xmin = xmin }) → is_live first session name h ≡ true
+live_here first h session name xmin k =
+    any_has (is_snap_of session name) (live_snaps first h) (record { session = session; name = name; xmin = xmin }) (contains_has (live_snaps first h) (record { session = session; name = name; xmin = xmin }) k)
+    (ap (λ b. b && same_name name name) (eqb-refl session) ∙ name_itself name)

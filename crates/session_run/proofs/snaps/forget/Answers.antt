@@ -1,0 +1,8 @@
+use Rattle.std.proofs.Common.{rules, not}
+use Rattle.std.proofs.lemmas.Fn.{filter_same}
+use Rattle.tx_model.specs.Events.{same_name}
+use Rattle.session_run.specs.declared.session.Kept.{Kept}
+use Rattle.session_run.proofs.snaps.forget.Goals as goal
+
+pub returns : goal.returns
+returns c = filter_same _ (λ (k : Kept). not (same_name k.name c.args.name.now)) _ (λ x b f' k. search rules) _ _ c.retain.ensures.filtered

@@ -1,0 +1,22 @@
+use Rattle.std.proofs.Common.{arith, refl}
+use Rattle.tx_model.specs.declared.command.Command.TheVariants as commands
+use Rattle.tx_model.specs.declared.reply.Reply.TheVariants as replies
+use Rattle.tx_model.specs.declared.reply.Refusal.TheVariants as refusals
+use Rattle.session_run.specs.Stands.{told_of, stance_of}
+use Rattle.session_run.proofs.ActsLemmas.{acts_idle, snap_found, snap_missing}
+use Rattle.session_run.proofs.ListLemmas.{length-map}
+use Rattle.session_run.proofs.snaps.snap.Goals as goal
+
+pub returns-in-Some-clause-acts : goal.returns-in-Some-clause-acts
+returns-in-Some-clause-acts c =
+    let w = c.args.shared.now in
+    let s = c.args.session.now in
+    acts_idle w.table.base c.args.by (stance_of s) (stance_of s) (commands.Snap c.args.name.now) (replies.Refused refusals.NameTaken) w.table.events refl
+    (λ n. let found = snap_found c.args.name.now (stance_of s).levels s.kept.items c.in-Some._kept.now c.in-Some.ensures.found in cc) refl
+
+pub returns-then-len-ge-MOST_SNAPS-clause-acts : goal.returns-then-len-ge-MOST_SNAPS-clause-acts
+returns-then-len-ge-MOST_SNAPS-clause-acts c =
+    let w = c.args.shared.now in
+    let s = c.args.session.now in
+    acts_idle w.table.base c.args.by (stance_of s) (stance_of s) (commands.Snap c.args.name.now) (replies.Refused refusals.SnapLimit) w.table.events refl
+    (snap_missing c.args.name.now (stance_of s).levels s.kept.items c.in_default.ensures.none, omega (arith, length-map told_of s.kept.items)) refl

@@ -1,0 +1,188 @@
+ghost use Rattle.std.specs.Prelude.{◌≡◌, ℕ, ◌<◌, ◌≤◌, ◌≢◌, not, length, IfSome, IfNone, Some, None, IfOk, OnOk};
+ghost use Rattle.std.specs.List.{find, filter};
+ghost use Rattle.tx_model.specs.Events.{same_name};
+ghost use Rattle.tx_model.specs.declared.command.Command.TheVariants as commands;
+ghost use Rattle.session_run.specs.Acts.{ActsOn, Ready, IsSoundAt, StandsAt, GrowsLittle};
+ghost use Rattle.session_run.specs.Seen.{IsSeen};
+ghost use Rattle.snap_core.specs.Says.{data_of};
+ghost use Rattle.session_run.specs.Stands.{IsKept};
+
+use crate::session::{Kept, Session};
+use crate::shared::Shared;
+use snap_core::Snapshot;
+use tx_model::{By, Copied, Memory, Name, Refusal, Reply, SnapData};
+use xid_order::{Xid, near};
+
+/// A session keeps at most so many snapshots.
+const MOST_SNAPS: usize = 64;
+
+fn is_named(kept: &Kept, name: &[u8]) -> bool
+    ensures { result ≡ same_name kept.now.name name.now }
+{
+    kept.name.items() == name
+}
+
+/// The session's snapshot of this name.
+fn find_kept<'a>(kept: &'a [Kept], name: &[u8]) -> Option<&'a Kept>
+    ensures found { IfSome result (λ k. find (λ x. same_name x.name name.now) kept.now ≡ Some k.now) }
+    ensures none { IfNone result (find (λ x. same_name x.name name.now) kept.now ≡ None) }
+{
+    for k in kept {
+        if is_named(k, name) {
+            return Some(k);
+        }
+    }
+    None
+}
+
+fn kept_as<'a>(session: &'a Session, name: &Name) -> Option<&'a Kept>
+    ensures found { IfSome result (λ k. find (λ x. same_name x.name name.now) session.now.kept.items ≡ Some k.now) }
+    ensures none { IfNone result (find (λ x. same_name x.name name.now) session.now.kept.items ≡ None) }
+{
+    find_kept(session.kept.as_slice(), name.items())
+}
+
+/// What a snapshot lists, as a reply has it.
+fn lists_of(snapshot: Snapshot) -> SnapData
+    ensures { result ≡ data_of snapshot }
+{
+    let Snapshot {
+        xmin,
+        xmax,
+        xip,
+        subxip,
+        overflowed,
+    } = snapshot;
+    SnapData {
+        xmin,
+        xmax,
+        xip,
+        subxip,
+        overflowed,
+    }
+}
+
+/// Takes a snapshot and keeps it under a name that isn't taken. All memory is taken before the snapshot counts as
+/// taken, or with it.
+fn take(shared: &mut Shared, by: By, session: &mut Session, name: &Name) -> Result<Reply, Memory>
+    requires ready { Ready shared.old by session.old }
+    requires free { find (λ k. same_name k.name name.now) session.old.kept.items ≡ None }
+    requires room { length session.old.kept.items < 64 }
+    ensures acts { IfOk result (λ reply. ActsOn shared.old shared.new by session.old session.new (commands.Snap name.now) reply) }
+    ensures sound { OnOk result (IsSoundAt shared.new) }
+    ensures stands { OnOk result (StandsAt shared.new by session.new) }
+    ensures few { OnOk result (GrowsLittle shared.old shared.new) }
+    ensures count { OnOk result (session.new.commands ≡ session.old.commands) }
+{
+    session.kept.reserve(1)?;
+    let copy = name.copy()?;
+    let taken = shared.table.taken()?;
+    let place = shared.table.events().len();
+    let snapshot = shared.table.snapshot(by, name)?;
+    session.kept.push_reserved(Kept {
+        name: copy,
+        command: by.command,
+        place,
+        snapshot,
+    });
+    Ok(Reply::Snapped {
+        lists: lists_of(taken),
+    })
+}
+
+/// Takes a snapshot (`GetSnapshotData` of `src/backend/storage/ipc/procarray.c`) and keeps it under this name, as a
+/// registered snapshot is kept (`RegisterSnapshot` of `src/backend/utils/time/snapmgr.c`).
+pub fn snap(
+    shared: &mut Shared,
+    by: By,
+    session: &mut Session,
+    name: &Name,
+) -> Result<Reply, Memory>
+    requires ready { Ready shared.old by session.old }
+    ensures acts { IfOk result (λ reply. ActsOn shared.old shared.new by session.old session.new (commands.Snap name.now) reply) }
+    ensures sound { OnOk result (IsSoundAt shared.new) }
+    ensures stands { OnOk result (StandsAt shared.new by session.new) }
+    ensures few { OnOk result (GrowsLittle shared.old shared.new) }
+    ensures count { OnOk result (session.new.commands ≡ session.old.commands) }
+{
+    if let Some(_kept) = kept_as(session, name) {
+        return Ok(Reply::Refused {
+            refusal: Refusal::NameTaken,
+        });
+    }
+    if session.kept.len() >= MOST_SNAPS {
+        return Ok(Reply::Refused {
+            refusal: Refusal::SnapLimit,
+        });
+    }
+    take(shared, by, session, name)
+}
+
+/// Lets go of the snapshot of this name.
+fn forget(kept: &mut Vec<Kept>, name: &[u8])
+    ensures { kept.new.items ≡ filter (λ k. not (same_name k.name name.now)) kept.old.items }
+{
+    kept.retain(|k| !is_named(k, name));
+}
+
+/// Drops the session's snapshot of this name (`UnregisterSnapshot` of `snapmgr.c`). Takes no memory.
+pub fn drop_snap(shared: &mut Shared, by: By, session: &mut Session, name: &Name) -> Reply
+    requires ready { Ready shared.old by session.old }
+    ensures acts { ActsOn shared.old shared.new by session.old session.new (commands.DropSnap name.now) result }
+    ensures sound { IsSoundAt shared.new }
+    ensures stands { StandsAt shared.new by session.new }
+    ensures few { GrowsLittle shared.old shared.new }
+    ensures count { session.new.commands ≡ session.old.commands }
+{
+    match shared.table.live_xmin(by.session, name) {
+        Some(xmin) => {
+            shared.table.drop_snapshot(by, name, xmin);
+            forget(&mut session.kept, name.items());
+            Reply::Done
+        }
+        None => Reply::Refused {
+            refusal: Refusal::NoSnapshot,
+        },
+    }
+}
+
+/// What a kept snapshot says of a stored id.
+fn verdict(shared: &Shared, session: u32, kept: &Kept, x: Xid) -> Reply
+    requires sound { IsSoundAt shared.now }
+    requires kept { IsKept shared.now.table.base shared.now.table.events session kept.now }
+    ensures { IsSeen shared.now kept.now x.number result }
+{
+    if x.number < 3 {
+        return Reply::Seen {
+            visible: x.number != 0,
+        };
+    }
+    let oldest = shared.table.oldest();
+    let Some(id) = near(kept.snapshot.xmax, x) else {
+        return Reply::Refused {
+            refusal: Refusal::TooOld { oldest },
+        };
+    };
+    if id < oldest {
+        return Reply::Refused {
+            refusal: Refusal::TooOld { oldest },
+        };
+    }
+    Reply::Seen {
+        visible: shared.states.sees(&kept.snapshot, id),
+    }
+}
+
+/// Asks the session's snapshot of this name whether it sees a stored id (`XidInMVCCSnapshot` of `snapmgr.c`): the
+/// special ids have fixed answers, each other one means the full id nearest to the snapshot's xmax.
+pub fn see(shared: &Shared, by: By, session: &Session, name: &Name, x: Xid) -> Reply
+    requires ready { Ready shared.now by session.now }
+    ensures acts { ActsOn shared.now shared.now by session.now session.now (commands.See name.now x) result }
+{
+    match kept_as(session, name) {
+        Some(kept) => verdict(shared, by.session, kept, x),
+        None => Reply::Refused {
+            refusal: Refusal::NoSnapshot,
+        },
+    }
+}

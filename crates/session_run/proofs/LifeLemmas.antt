@@ -1,17 +1,22 @@
 -- A life's room, and what a step of its rounds leaves.
-use Rattle.std.proofs.Common.{◌≡◌, ℕ, ◌+◌, ◌<◌, ◌≤◌, ◌^◌, ◌==◌, List, [], ◌∷◌, ◌++◌, Some, None, refl, sym, ap, subst, ◌∙◌, arith, ⊎_elim, true, false, length, map, take, get_or, append-nil, append_assoc, length-append, ◌||◌}
+use Rattle.std.proofs.Common.{◌≡◌, ◌⊎◌, inl, inr, Bool, IsTrue, suc, zero, drop, ℕ, ◌+◌, ◌<◌, ◌≤◌, ◌^◌, ◌==◌, List, [], ◌∷◌, ◌++◌, Some, None, refl, sym, ap, subst, ◌∙◌, arith, ⊎_elim, true, false, length, map, take, get_or, append-nil, append_assoc, length-append, ◌||◌}
 use Rattle.std.proofs.lemmas.Bool.Decides.{nat_tests}
-use Rattle.std.proofs.lemmas.List.{take_more}
+use Rattle.std.proofs.lemmas.Bool.{false≢true}
+use Rattle.std.proofs.lemmas.Grind.{flat_map-append}
+use Rattle.std.proofs.lemmas.List.{take_all, take_more, take-append-drop}
 use Rattle.std.proofs.lemmas.List.Elements.{All-append, All-cons, All-from_recursion, All-nil, filter_map-append, recursion_from_All}
 use Rattle.std.proofs.lemmas.List.Sums.{count_by-le-length}
 use Rattle.std.proofs.lemmas.Option.{slice_get-get_or}
 use Rattle.std.specs.List.{All, AllByRecursion, flat_map, list_any, slice_get}
 use Rattle.tx_model.specs.declared.command.Command.{Command}
+use Rattle.tx_model.specs.declared.event.Event.{Event}
 use Rattle.tx_model.specs.declared.report.Line.{Line}
 use Rattle.tx_model.specs.declared.report.Step.{Step}
+use Rattle.tx_model.specs.Events.{by_of, same_by}
 use Rattle.tx_model.specs.LawfulLife.{AreRounds, lines_in}
 use Rattle.tx_model.specs.Lines.{is_line_of, turn_of}
 use Rattle.tx_model.specs.Places.{first_seen}
+use Rattle.tx_model.proofs.PlaceLemmas.{take-within}
 use Rattle.session_lang.specs.declared.script.Item.{Item}
 use Rattle.session_lang.specs.declared.script.Item.TheVariants as items
 use Rattle.session_lang.specs.Rounds.{round_of, rounds_of, session_of, sessions_in, turns_of}
@@ -19,9 +24,9 @@ use Rattle.session_lang.proofs.SeenLemmas.{is_in, is_in_seen, push_next, push_ol
 use Rattle.session_run.specs.declared.life.OpenLife.{OpenLife}
 use Rattle.session_run.specs.declared.shared.Shared.{Shared}
 use Rattle.session_run.specs.declared.session.Session.{Session}
-use Rattle.session_run.specs.Progress.{AddsRound, AreFew, GoesOn, IsSameLife, MayAdd, Progress, lines_of, round_step}
+use Rattle.session_run.specs.Progress.{AddsRound, AreFew, AreInTurn, Continues, GoesOn, MayAdd, Progress, StandFirst, has_line, lines_of, round_step}
 use Rattle.session_run.specs.Turns.{IsFirstRound, is_command, turns_in}
-use Rattle.session_run.proofs.ListLemmas.{length-map}
+use Rattle.session_run.proofs.ListLemmas.{all_append, length-map}
 use Rattle.session_run.proofs.RoundLemmas.{first_round, front_short, grouped_short, lines_ended, own_turn, rounds_push, sessions_of_turns, sessions_on, turns_front, turns_short, turns_step}
 
 pub place_is : {X : Type 0} (xs : List X) (n : ℕ) (x : X) → n < length xs → x ≡ get_or xs n x → slice_get xs n ≡ Some x
@@ -75,8 +80,102 @@ round_room a round numbers e room =
     let same = ap (λ ns. length (flat_map (λ s. turns_of s (turns_in round)) ns)) e in
     omega (arith, short, turns, same, room)
 
-pub same_then : (a b c : OpenLife) → IsSameLife a b → IsSameLife b c → IsSameLife a c
-same_then a b c f g = record { base = g.base ∙ f.base; sessions = g.sessions ∙ f.sessions }
+-- a life that goes on
+pub on_none : (a : OpenLife) → Continues a a
+on_none a = record { base = refl; sessions = refl; more = []; lines = sym (append-nil (lines_of a)); added = []; grown = sym (append-nil a.shared.table.events); new = tt }
+
+any_front : {X : Type 0} (p : X → Bool) (xs ys : List X) → list_any p (xs ++ ys) ≡ false → list_any p xs ≡ false
+any_front p [] ys e = refl
+any_front p (x ∷ xs) ys e = step (p x) refl (any_front p xs ys)
+  where
+    step : (b : Bool) → p x ≡ b → (list_any p (xs ++ ys) ≡ false → list_any p xs ≡ false) → (p x || list_any p xs) ≡ false
+    step true f i = absurd (false≢true (sym e ∙ ap (λ z. z || list_any p (xs ++ ys)) f))
+    step false f i = ap (λ z. z || list_any p xs) f ∙ i (ap (λ z. z || list_any p (xs ++ ys)) (sym f) ∙ e)
+
+fewer_lines : (xs ys : List Line) (es : List Event) → AllByRecursion (λ e. has_line (xs ++ ys) e ≡ false) es → AllByRecursion (λ e. has_line xs e ≡ false) es
+fewer_lines xs ys [] a = tt
+fewer_lines xs ys (e ∷ es) a = (any_front (λ l. same_by l.by (by_of e)) xs ys a.0, fewer_lines xs ys es a.1)
+
+pub on_then : (a b c : OpenLife) → Continues a b → Continues b c → Continues a c
+on_then a b c f g = record {
+  base = g.base ∙ f.base;
+  sessions = g.sessions ∙ f.sessions;
+  more = f.more ++ g.more;
+  lines = g.lines ∙ ap (λ t. t ++ g.more) f.lines ∙ append_assoc (lines_of a) f.more g.more;
+  added = f.added ++ g.added;
+  grown = g.grown ∙ ap (λ t. t ++ g.added) f.grown ∙ append_assoc a.shared.table.events f.added g.added;
+  new = all_append (λ e. has_line (lines_of a) e ≡ false) f.added g.added f.new (fewer_lines (lines_of a) f.more g.added (subst (λ t. AllByRecursion (λ e. has_line t e ≡ false) g.added) f.lines g.new));
+}
+
+-- and whose round then ends
+pub on_ended : (a b c : OpenLife) → c.shared ≡ b.shared → c.sessions.items ≡ b.sessions.items → lines_of c ≡ lines_of b → Continues a b → Continues a c
+on_ended a b c shared sessions lines f = record {
+  base = ap (λ (w : Shared). w.table.base) shared ∙ f.base;
+  sessions = ap length sessions ∙ f.sessions;
+  more = f.more;
+  lines = lines ∙ f.lines;
+  added = f.added;
+  grown = ap (λ (w : Shared). w.table.events) shared ∙ f.grown;
+  new = f.new;
+}
+
+-- the events of the lines so far stand first
+first_all : (h : List Event) (lines : List Line) → All (λ e. IsTrue (has_line lines e)) h → StandFirst h lines
+first_all h lines a = record { first = h; behind = []; split = sym (append-nil h); theirs = a; others = All-nil (λ e. has_line lines e ≡ false) }
+
+first_stays : (h added : List Event) (lines : List Line) → AllByRecursion (λ e. has_line lines e ≡ false) added → StandFirst h lines → StandFirst (h ++ added) lines
+first_stays h added lines new f = record {
+  first = f.first;
+  behind = f.behind ++ added;
+  split = ap (λ t. t ++ added) f.split ∙ append_assoc f.first f.behind added;
+  theirs = f.theirs;
+  others = All-append (λ e. has_line lines e ≡ false) f.behind added f.others (All-from_recursion (λ e. has_line lines e ≡ false) added new);
+}
+
+ended_all : (a : OpenLife) → a.lines ≡ [] → GoesOn a → StandFirst a.shared.table.events (flat_map lines_in a.steps)
+ended_all a ended g =
+    let same : lines_of a ≡ flat_map lines_in a.steps = ap (λ ls. flat_map lines_in a.steps ++ ls) ended ∙ append-nil (flat_map lines_in a.steps) in
+    subst (StandFirst a.shared.table.events) same (first_all a.shared.table.events (lines_of a) g.progress.lawful.no_other)
+
+take-nil : {X : Type 0} (n : ℕ) → take {A = X} n [] ≡ []
+take-nil zero = refl
+take-nil (suc n) = refl
+
+pub in_turn_none : (a : OpenLife) → GoesOn a → a.steps ≡ [] → a.lines ≡ [] → AreInTurn a.shared.table.events a.steps
+in_turn_none a g steps lines = λ n.
+    subst (λ ss. StandFirst a.shared.table.events (flat_map lines_in ss)) (steps ∙ sym (take-nil n) ∙ ap (take n) (sym steps)) (ended_all a lines g)
+
+step_short : (n : ℕ) (lines : List Line) → length (round_step n lines) ≤ 1
+step_short n [] = omega arith
+step_short n (l ∷ lines) = omega arith
+
+front_of : (a b : OpenLife) (n : ℕ) → a.lines ≡ [] → AreInTurn a.shared.table.events a.steps → Continues a b → StandFirst b.shared.table.events (flat_map lines_in (take n a.steps))
+front_of a b n ended t o =
+    let all : lines_of a ≡ flat_map lines_in (take n a.steps) ++ (flat_map lines_in (drop n a.steps) ++ []) =
+    ap (λ ls. flat_map lines_in a.steps ++ ls) ended
+    ∙ ap (λ ss. flat_map lines_in ss ++ []) (sym (take-append-drop n a.steps))
+    ∙ ap (λ ls. ls ++ []) (flat_map-append lines_in (take n a.steps) (drop n a.steps))
+    ∙ append_assoc (flat_map lines_in (take n a.steps)) (flat_map lines_in (drop n a.steps)) [] in
+    let new = fewer_lines (flat_map lines_in (take n a.steps)) (flat_map lines_in (drop n a.steps) ++ []) o.added (subst (λ ls. AllByRecursion (λ e. has_line ls e ≡ false) o.added) all o.new) in
+    subst (λ h. StandFirst h (flat_map lines_in (take n a.steps))) (sym o.grown) (first_stays a.shared.table.events o.added (flat_map lines_in (take n a.steps)) new (t n))
+
+order : (m k : ℕ) → (m ≤ k) ⊎ (k < m)
+order zero k = inl (omega arith)
+order (suc m) zero = inr (omega arith)
+order (suc m) (suc k) = ⊎_elim (λ a. inl (omega (arith, a))) (λ a. inr (omega (arith, a))) (order m k)
+
+-- each round's events stand first, with one round more
+pub in_turn_on : (a b : OpenLife) (turns : List (ℕ × Command)) → a.lines ≡ [] → b.lines ≡ [] → AddsRound a.steps turns b.steps → AreInTurn a.shared.table.events a.steps → GoesOn b → Continues a b → AreInTurn b.shared.table.events b.steps
+in_turn_on a b turns ended ended_then k t g o = λ n. ⊎_elim
+    (λ (l : n ≤ length a.steps).
+    let same : take n b.steps ≡ take n a.steps = ap (take n) k.2 ∙ take-within a.steps _ n l in
+    subst (λ ss. StandFirst b.shared.table.events (flat_map lines_in ss)) (sym same) (front_of a b n ended t o))
+    (λ (l : length a.steps < n).
+    let short = step_short (length a.steps + 1) k.0 in
+    let long = ap length k.2 ∙ length-append a.steps (round_step (length a.steps + 1) k.0) in
+    let same : take n b.steps ≡ b.steps = take_all n b.steps (omega (arith, short, long)) in
+    subst (λ ss. StandFirst b.shared.table.events (flat_map lines_in ss)) (sym same) (ended_all b ended_then g))
+    (order n (length a.steps))
 
 -- the lines stay where a round ends
 pub ended_lines : (a b : OpenLife) → b.steps ≡ a.steps ++ round_step (length a.steps + 1) a.lines → b.lines ≡ [] → lines_of b ≡ lines_of a

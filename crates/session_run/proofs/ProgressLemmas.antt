@@ -1,5 +1,5 @@
 -- What a session's next command does to the progress of all.
-use Rattle.std.proofs.Common.{◌≡◌, ◌≢◌, ℕ, zero, suc, ◌+◌, ◌<◌, ◌≤◌, ◌⊎◌, List, [], ◌∷◌, ◌++◌, Some, refl, sym, ap, subst, ◌∙◌, arith, inl, inr, ⊎_elim, Bool, true, false, cond, length, set, append-nil, length-append, length-set, ne_eqb}
+use Rattle.std.proofs.Common.{◌≡◌, ◌||◌, ◌≢◌, ℕ, zero, suc, ◌+◌, ◌<◌, ◌≤◌, ◌⊎◌, List, [], ◌∷◌, ◌++◌, Some, refl, sym, ap, subst, ◌∙◌, arith, inl, inr, ⊎_elim, Bool, true, false, cond, length, set, append-nil, length-append, length-set, ne_eqb}
 use Rattle.std.specs.List.{AllByRecursion, count_by, filter, slice_get}
 use Rattle.std.proofs.lemmas.Bool.Decides.{nat_tests}
 use Rattle.std.proofs.lemmas.List.Elements.{filter-append}
@@ -22,7 +22,7 @@ use Rattle.session_run.specs.declared.shared.Shared.{Shared}
 use Rattle.session_run.specs.Stands.{Stands, stance_of}
 use Rattle.session_run.specs.Acts.{IsSoundAt, Ready}
 use Rattle.session_run.specs.Sound.{HasRoom}
-use Rattle.session_run.specs.Progress.{AreFew, IsLeft, IsNotLater, Progress, Ran}
+use Rattle.session_run.specs.Progress.{AreFew, IsLeft, IsNotLater, Progress, Ran, has_line}
 use Rattle.session_run.proofs.Beside.{AreBeside, stands_beside}
 use Rattle.session_run.proofs.ListLemmas.{all_append, all_weaker}
 
@@ -103,6 +103,22 @@ set_cases (z ∷ xs) zero (suc k) x y e = inr ((λ q. absurd (omega arith)), e)
 set_cases (z ∷ xs) (suc n) zero x y e = inr ((λ q. absurd (omega arith)), e)
 set_cases (z ∷ xs) (suc n) (suc k) x y e =
     ⊎_elim (λ a. inl (ap suc a.0, a.1)) (λ a. inr ((λ q. a.0 (omega arith)), a.1)) (set_cases xs n k x y e)
+
+-- events of none of the lines
+line_other : (l : Line) (e : Event) → same_by (by_of e) l.by ≡ false → same_by l.by (by_of e) ≡ false
+line_other l e n = grind (arith, nat_tests)
+
+no_line_of : (e : Event) (lines : List Line) → AllByRecursion (λ l. same_by (by_of e) l.by ≡ false) lines → has_line lines e ≡ false
+no_line_of e [] a = refl
+no_line_of e (l ∷ lines) a = ap (λ b. b || has_line lines e) (line_other l e a.0) ∙ no_line_of e lines a.1
+
+heads : (e : Event) (es : List Event) (lines : List Line) → AllByRecursion (λ l. AreOthers l.by (e ∷ es)) lines → AllByRecursion (λ l. same_by (by_of e) l.by ≡ false) lines × AllByRecursion (λ l. AreOthers l.by es) lines
+heads e es [] a = (tt, tt)
+heads e es (l ∷ lines) a = let r = heads e es lines a.1 in ((a.0.0, r.0), (a.0.1, r.1))
+
+all_no_line : (es : List Event) (lines : List Line) → AllByRecursion (λ l. AreOthers l.by es) lines → AllByRecursion (λ e. has_line lines e ≡ false) es
+all_no_line [] lines a = tt
+all_no_line (e ∷ es) lines a = let r = heads e es lines a in (no_line_of e lines r.0, all_no_line es lines r.1)
 
 -- a session's next command, and its line
 module _ (w w' : Shared) (sessions : List Session) (lines : List Line) (n : ℕ) (s s' : Session) (command : Command) (l : Line) (p : Progress w sessions lines) (at : slice_get sessions n ≡ Some s) (r : Ran w w' n s s' command l) where
@@ -197,3 +213,6 @@ module _ (w w' : Shared) (sessions : List Session) (lines : List Line) (n : ℕ)
 
   pub few_on : AreFew w lines → AreFew w' (lines ++ l ∷ [])
   few_on f = omega (arith, f, r.few.short, length-append lines (l ∷ []))
+
+  pub new_on : AllByRecursion (λ e. has_line lines e ≡ false) r.acts.added
+  new_on = all_no_line r.acts.added lines others

@@ -19,17 +19,17 @@ use Rattle.tx_model.proofs.PlaceLemmas.{each_place_none}
 use Rattle.session_lang.specs.declared.script.Item.{Item}
 use Rattle.session_lang.specs.declared.script.Item.TheVariants as items
 use Rattle.session_lang.specs.declared.script.Script.{Script}
-use Rattle.session_lang.specs.CommandText.{command_words}
+use Rattle.report_text.specs.CommandText.{command_words}
 use Rattle.session_lang.specs.Header.{directive_text}
 use Rattle.session_lang.specs.Rounds.{rounds_of, sessions_in}
 use Rattle.session_lang.specs.Script.{IsReadItem, IsScript, item_text}
-use Rattle.session_lang.specs.Words.{line_text, more, name_at}
+use Rattle.report_text.specs.Words.{line_text, more, name_at}
 use Rattle.session_lang.proofs.SeenLemmas.{is_in, old_number}
 use Rattle.session_run.specs.declared.life.OpenLife.{OpenLife}
 use Rattle.session_run.specs.declared.session.Session.{Session}
 use Rattle.session_run.specs.declared.shared.Shared.{Shared}
 use Rattle.session_run.specs.Acts.{IsSoundAt}
-use Rattle.session_run.specs.Progress.{GoesOn, IsFresh, IsLeft, IsNew, Progress, lines_of}
+use Rattle.session_run.specs.Progress.{AreInTurn, GoesOn, IsFresh, IsLeft, IsNew, Progress, lines_of}
 use Rattle.session_run.specs.Stands.{IsKept, Nest}
 use Rattle.session_run.specs.Tool.{IsReportOf}
 use Rattle.session_run.specs.Turns.{IsRunnable, MayRun}
@@ -85,8 +85,8 @@ life_begins base n life is_base new count fresh no_steps no_lines =
     }
 
 -- the report of a life that ran the script
-pub report_of : (s : Script) (life : OpenLife) (r : LifeReport) → GoesOn life → life.lines ≡ [] → AreRounds 1 (rounds_of s.items) life.steps → life.shared.table.base ≡ s.base → AreFlushed life.shared.log.recs life.shared.log.flushed → life.shared.log.end ≡ batches_size (take life.shared.log.flushed life.shared.log.recs) → r.life.from ≡ 0 → r.life.base ≡ life.shared.table.base → r.life.committed ≡ [] → r.life.events ≡ life.shared.table.events → r.life.multis ≡ [] → r.life.recs ≡ life.shared.log.recs → r.life.flushed ≡ life.shared.log.flushed → r.life.end ≡ life.shared.log.end → r.steps ≡ life.steps → r.crash ≡ None → IsReportOf s (record { names = s.names; lives = r ∷ [] })
-report_of s life r on ended told same known gate from base committed events multis recs flushed end steps_is last =
+pub report_of : (s : Script) (life : OpenLife) (r : LifeReport) → GoesOn life → life.lines ≡ [] → AreRounds 1 (rounds_of s.items) life.steps → AreInTurn life.shared.table.events life.steps → life.shared.table.base ≡ s.base → AreFlushed life.shared.log.recs life.shared.log.flushed → life.shared.log.end ≡ batches_size (take life.shared.log.flushed life.shared.log.recs) → r.life.from ≡ 0 → r.life.base ≡ life.shared.table.base → r.life.committed ≡ [] → r.life.events ≡ life.shared.table.events → r.life.multis ≡ [] → r.life.recs ≡ life.shared.log.recs → r.life.flushed ≡ life.shared.log.flushed → r.life.end ≡ life.shared.log.end → r.steps ≡ life.steps → r.crash ≡ None → IsReportOf s (record { names = s.names; lives = r ∷ [] })
+report_of s life r on ended told apart same known gate from base committed events multis recs flushed end steps_is last =
     let w = life.shared in
     let all : lines_of life ≡ flat_map lines_in life.steps = ap (λ ls. flat_map lines_in life.steps ++ ls) ended ∙ append-nil (flat_map lines_in life.steps) in
     let lawful : AreLawfulLines w.table.base [] w.table.events (flat_map lines_in life.steps) = subst (AreLawfulLines w.table.base [] w.table.events) all on.progress.lawful in
@@ -111,6 +111,7 @@ report_of s life r on ended told same known gate from base committed events mult
           gate = gate;
         });
       };
+      in_turn = rw (events, steps_is) apart;
     }
 
 line_some : (w : List ℕ) (ws : List (List ℕ)) → 1 ≤ length (line_text (w ∷ ws))

@@ -3,7 +3,7 @@ use Rattle.std.specs.Prelude.{◌≡◌, ℕ, List, Option}
 use Rattle.tx_io.specs.Causes.{Rose}
 use Rattle.tx_model.specs.declared.report.Report.{Report}
 use Rattle.session_lang.specs.declared.script.Script.{Script}
-use Rattle.session_lang.specs.ReportText.{report_text}
+use Rattle.report_text.specs.ReportText.{report_text}
 use Rattle.session_lang.specs.Script.{IsScript}
 use Rattle.session_run.specs.declared.tool.Ending.{Ending}
 use Rattle.session_run.specs.declared.tool.Ending.TheVariants as endings

@@ -1,12 +1,14 @@
 -- A life in the middle of its rounds.
-use Rattle.std.specs.Prelude.{◌≡◌, ℕ, ◌+◌, ◌<◌, ◌≤◌, ◌^◌, List, [], ◌∷◌, ◌++◌, Some, slice_get, length}
-use Rattle.std.specs.List.{AllByRecursion, count_by, flat_map}
+use Rattle.std.specs.Prelude.{◌≡◌, ℕ, ◌+◌, ◌<◌, ◌≤◌, ◌^◌, Bool, false, IsTrue, List, [], ◌∷◌, ◌++◌, Some, slice_get, take, length}
+use Rattle.std.specs.List.{All, AllByRecursion, count_by, flat_map, list_any}
 use Rattle.tx_model.specs.declared.command.Command.{Command}
+use Rattle.tx_model.specs.declared.event.Event.{Event}
 use Rattle.tx_model.specs.declared.record.Counters.{Counters}
 use Rattle.tx_model.specs.declared.record.Rec.TheVariants as records
 use Rattle.tx_model.specs.declared.report.Line.{Line}
 use Rattle.tx_model.specs.declared.report.Step.{Step}
 use Rattle.tx_model.specs.declared.report.Step.TheVariants as steps
+use Rattle.tx_model.specs.Events.{by_of, same_by}
 use Rattle.tx_model.specs.LawfulLife.{lines_in}
 use Rattle.tx_model.specs.Lines.{AreLawfulLines, AreLinesOf, stance, is_line_of}
 use Rattle.proc_table.specs.Table.{page_of}
@@ -71,10 +73,31 @@ pub record IsNew (base : Counters) (sessions : ℕ) (w : Shared) : Type 0 where
   pub recs : w.log.recs ≡ records.Checkpoint 0 base ∷ []
   pub states : w.states ≡ []
 
--- the life is the one that began so
-pub record IsSameLife (life life' : OpenLife) : Type 0 where
+-- the event is of one of these lines
+abbrev pub has_line : List Line → Event → Bool
+has_line lines e = list_any (λ l. same_by l.by (by_of e)) lines
+
+-- the life went on: it has more lines, and more events, none of an earlier line
+pub record Continues (life life' : OpenLife) : Type 0 where
   pub base : life'.shared.table.base ≡ life.shared.table.base
   pub sessions : length life'.sessions.items ≡ length life.sessions.items
+  pub more : List Line
+  pub lines : lines_of life' ≡ lines_of life ++ more
+  pub added : List Event
+  pub grown : life'.shared.table.events ≡ life.shared.table.events ++ added
+  pub new : AllByRecursion (λ e. has_line (lines_of life) e ≡ false) added
+
+-- the events of these lines stand before all others
+pub record StandFirst (h : List Event) (lines : List Line) : Type 0 where
+  pub first : List Event
+  pub behind : List Event
+  pub split : h ≡ first ++ behind
+  pub theirs : All (λ e. IsTrue (has_line lines e)) first
+  pub others : All (λ e. has_line lines e ≡ false) behind
+
+-- the events of each round stand before those of the rounds behind it
+abbrev pub AreInTurn : List Event → List Step → Type 0
+AreInTurn h steps = (n : ℕ) → StandFirst h (flat_map lines_in (take n steps))
 
 -- a round's step, where the round has lines
 abbrev pub round_step : ℕ → List Line → List Step

@@ -5,11 +5,12 @@ use Rattle.tx_model.specs.declared.report.Report.{Report}
 use Rattle.tx_model.specs.declared.report.LifeReport.{LifeReport}
 use Rattle.tx_model.specs.LawfulLife.{IsLawfulLife}
 use Rattle.session_lang.specs.declared.script.Script.{Script}
-use Rattle.session_lang.specs.ReportText.{report_text}
+use Rattle.report_text.specs.ReportText.{report_text}
 use Rattle.session_lang.specs.Rounds.{rounds_of}
 use Rattle.session_lang.specs.Script.{IsScript}
+use Rattle.session_run.specs.Progress.{AreInTurn}
 
--- the report of a run of the script over a new log: one life, from the script's counters
+-- the report of a run of the script over a new log: one life, from the script's counters, round by round
 pub record IsReportOf (s : Script) (r : Report) : Type 0 where
   pub names : r.names ≡ s.names
   pub life : LifeReport
@@ -19,6 +20,7 @@ pub record IsReportOf (s : Script) (r : Report) : Type 0 where
   pub base : life.life.base ≡ s.base
   pub nothing_before : life.life.committed ≡ []
   pub lawful : IsLawfulLife (rounds_of s.items) life
+  pub in_turn : AreInTurn life.life.events life.steps
 
 -- the one list of words that is accepted
 abbrev pub IsRun : List (List ℕ) → Type 0

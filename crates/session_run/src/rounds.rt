@@ -8,7 +8,7 @@ ghost use Rattle.session_lang.specs.Rounds.{rounds_of, session_of, sessions_in, 
 ghost use Rattle.session_lang.specs.Script.{IsRead};
 ghost use Rattle.session_run.specs.declared.session.Session.{Session};
 ghost use Rattle.session_run.specs.Acts.{IsSoundAt};
-ghost use Rattle.session_run.specs.Progress.{GoesOn, IsSameLife, AddsRound, MayAdd, Ran, lines_of};
+ghost use Rattle.session_run.specs.Progress.{AddsRound, AreInTurn, Continues, GoesOn, MayAdd, Ran, lines_of};
 ghost use Rattle.session_run.specs.Sound.{HasRoom};
 ghost use Rattle.session_run.specs.Stands.{Stands};
 ghost use Rattle.session_run.specs.Turns.{IsFirstRound, MayRun, is_command, turns_in};
@@ -110,7 +110,7 @@ impl OpenLife {
         ensures goes_on { OnOk result (GoesOn self.new) }
         ensures line { OnOk result (map turn_of self.new.lines ≡ map turn_of self.old.lines ++ (number, command.now) ∷ []) }
         ensures steps { OnOk result (self.new.steps ≡ self.old.steps) }
-        ensures same { OnOk result (IsSameLife self.old self.new) }
+        ensures on { OnOk result (Continues self.old self.new) }
     {
         let session = &mut self.sessions[number as usize];
         let line = next_line(&mut self.shared, alloc, number, session, command)?;
@@ -125,7 +125,7 @@ impl OpenLife {
         ensures goes_on { OnOk result (GoesOn self.new) }
         ensures lines { OnOk result (map turn_of self.new.lines ≡ map turn_of self.old.lines ++ turns_of number (turns_in round.now)) }
         ensures steps { OnOk result (self.new.steps ≡ self.old.steps) }
-        ensures same { OnOk result (IsSameLife self.old self.new) }
+        ensures on { OnOk result (Continues self.old self.new) }
     {
         for item in round {
             if let Some(command) = command_of(number, item) {
@@ -143,7 +143,7 @@ impl OpenLife {
         ensures goes_on { OnOk result (GoesOn self.new) }
         ensures lines { OnOk result (map turn_of self.new.lines ≡ map turn_of self.old.lines ++ flat_map (λ s. turns_of s (turns_in round.now)) numbers.now) }
         ensures steps { OnOk result (self.new.steps ≡ self.old.steps) }
-        ensures same { OnOk result (IsSameLife self.old self.new) }
+        ensures on { OnOk result (Continues self.old self.new) }
     {
         for number in numbers {
             self.run_session(alloc, *number, round)?;
@@ -162,7 +162,7 @@ impl OpenLife {
         ensures ended { OnOk result (self.new.lines ≡ []) }
         ensures step { OnOk result (AddsRound self.old.steps (turns_in round.now) self.new.steps) }
         ensures room { OnOk result (length (lines_of self.new) ≤ length (lines_of self.old) + length round.now) }
-        ensures same { OnOk result (IsSameLife self.old self.new) }
+        ensures on { OnOk result (Continues self.old self.new) }
     {
         let sessions = sessions_of(alloc, round)?;
         self.run_sessions(alloc, sessions.as_slice(), round)?;
@@ -179,7 +179,8 @@ impl OpenLife {
         ensures goes_on { OnOk result (GoesOn self.new) }
         ensures ended { OnOk result (self.new.lines ≡ []) }
         ensures rounds { OnOk result (AreRounds 1 (rounds_of script.now) self.new.steps) }
-        ensures same { OnOk result (IsSameLife self.old self.new) }
+        ensures in_turn { OnOk result (AreInTurn self.new.shared.table.events self.new.steps) }
+        ensures on { OnOk result (Continues self.old self.new) }
     {
         let mut rest = script;
         while !rest.is_empty() {

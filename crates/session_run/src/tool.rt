@@ -3,14 +3,15 @@ ghost use Rattle.std.specs.Io.KnownBytes.{Appends};
 ghost use Rattle.tx_model.specs.declared.report.Report.{Report};
 ghost use Rattle.tx_io.specs.Causes.{Rose};
 ghost use Rattle.session_lang.specs.declared.script.Script.{Script};
-ghost use Rattle.session_lang.specs.ReportText.{report_text};
+ghost use Rattle.report_text.specs.ReportText.{report_text};
 ghost use Rattle.session_lang.specs.Script.{IsScript};
 ghost use Rattle.session_run.specs.Tool.{IsRun, IsWholeRun, IsNoScript, IsReportOf, HoldsFront};
 ghost use Rattle.session_run.specs.Ends.{Ends, Answers};
 
 use crate::run::run_script;
 use crate::stream::{ReadStop, read_all, write_all};
-use session_lang::{ParseRefusal, parse, print_report};
+use report_text::print_report;
+use session_lang::{ParseRefusal, parse};
 use std::alloc::Global;
 use tx_io::{Failed, Sink, Source};
 

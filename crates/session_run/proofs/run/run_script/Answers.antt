@@ -11,4 +11,4 @@ returns c =
     let r = c.into_report.ensures in
     let lives : c.push.new.self ≡ c.into_report.result ∷ [] = c.in_ok-push.ensures.ok ∙ ap (λ t. t ++ c.into_report.result ∷ []) c.new-lives.ensures in
     rw (c.in_ok-names.ensures, lives)
-    (report_of c.args.script.now life c.into_report.result e.goes_on e.ended (subst (λ items. AreRounds 1 (rounds_of items) life.steps) c.items-2.ensures e.rounds) (e.same.base ∙ c.in_ok-life.ensures.base) life.shared.log.known life.shared.log.gate r.from r.base r.committed r.events r.multis r.recs r.flushed r.end r.steps r.last)
+    (report_of c.args.script.now life c.into_report.result e.goes_on e.ended (subst (λ items. AreRounds 1 (rounds_of items) life.steps) c.items-2.ensures e.rounds) e.in_turn (e.on.base ∙ c.in_ok-life.ensures.base) life.shared.log.known life.shared.log.gate r.from r.base r.committed r.events r.multis r.recs r.flushed r.end r.steps r.last)

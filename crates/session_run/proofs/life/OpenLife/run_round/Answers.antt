@@ -1,5 +1,5 @@
-use Rattle.std.proofs.Common.{ap, ◌∙◌, length}
-use Rattle.session_run.proofs.LifeLemmas.{adds_round, ended_goes_on, ended_lines, round_length, round_room}
+use Rattle.std.proofs.Common.{ap, ◌∙◌}
+use Rattle.session_run.proofs.LifeLemmas.{adds_round, ended_goes_on, ended_lines, round_length, round_room, on_ended}
 use Rattle.session_run.proofs.life.OpenLife.run_round.Goals as goal
 
 pub run_sessions-requires-clause-room : goal.run_sessions-requires-clause-room
@@ -26,11 +26,9 @@ returns-clause-room c =
     let r = c.in_ok-run_sessions.ensures in
     round_length c.args.self.now b d c.args.round.now c.as_slice.result.now (c.as_slice.ensures.value ∙ c.in_ok-sessions.ensures) r.steps r.lines (ended_lines b d e.step e.lines)
 
-pub returns-clause-same : goal.returns-clause-same
-returns-clause-same c =
+pub returns-clause-on : goal.returns-clause-on
+returns-clause-on c =
+    let b = c.run_sessions.new.self in
+    let d = c.end_round.new.self in
     let e = c.in_ok-end_round.ensures in
-    let r = c.in_ok-run_sessions.ensures in
-    record {
-      base = ap (λ w. w.table.base) e.shared ∙ r.same.base;
-      sessions = ap (λ v. length v.items) e.sessions ∙ r.same.sessions;
-    }
+    on_ended c.args.self.now b d e.shared (ap (λ v. v.items) e.sessions) (ended_lines b d e.step e.lines) c.in_ok-run_sessions.ensures.on

@@ -1,9 +1,23 @@
-use Rattle.std.proofs.Common.{◌++◌, arith, sym, subst, length}
-use Rattle.std.specs.List.{All}
+use Rattle.std.proofs.Common.{[], refl, ◌++◌, arith, ◌∙◌, sym, ap, subst, length}
+use Rattle.std.specs.List.{All, flat_map}
+use Rattle.tx_model.specs.LawfulLife.{AreRounds, lines_in}
 use Rattle.session_lang.specs.Rounds.{round_of}
 use Rattle.session_run.specs.Turns.{MayRun, turns_in}
-use Rattle.session_run.proofs.LifeLemmas.{all_parts, parts_length, rounds_on, same_then, told_on}
+use Rattle.session_run.proofs.LifeLemmas.{all_parts, in_turn_none, in_turn_on, on_none, parts_length, rounds_on, on_then, told_on}
 use Rattle.session_run.proofs.life.OpenLife.run_rounds.Goals as goal
+
+pub loop-rest-init : goal.loop-rest-init
+loop-rest-init c = record {
+  goes_on = c.requires.goes_on;
+  ended = c.requires.begins.1;
+  done = [];
+  told = subst (AreRounds 1 []) (sym c.requires.begins.0) tt;
+  rounds = refl;
+  items = c.requires.items;
+  room = omega (arith, c.requires.room, ap length (ap (λ ss. flat_map lines_in ss ++ c.args.self.now.lines) c.requires.begins.0 ∙ c.requires.begins.1));
+  in_turn = in_turn_none c.args.self.now c.requires.goes_on c.requires.begins.0 c.requires.begins.1;
+  on = on_none c.args.self.now;
+}
 
 pub run_round-requires-clause-items : goal.run_round-requires-clause-items
 run_round-requires-clause-items c =
@@ -30,7 +44,8 @@ loop-rest-preserved c =
       done = i.done ++ round_of (turns_in round);
       told = told_on i.done c.loop-rest.self.steps c.run_round.new.self.steps (turns_in round) i.told e.step;
       rounds = rounds_on c.args.script.now rest round behind i.done i.rounds f;
-      items = subst (λ n. All (MayRun n) behind) (sym e.same.sessions) (all_parts (MayRun (length c.loop-rest.self.sessions.items)) rest round behind f i.items).1;
+      items = subst (λ n. All (MayRun n) behind) (sym e.on.sessions) (all_parts (MayRun (length c.loop-rest.self.sessions.items)) rest round behind f i.items).1;
       room = omega (arith, i.room, e.room, parts_length rest round behind f);
-      same = same_then c.args.self.now c.loop-rest.self c.run_round.new.self i.same e.same;
+      in_turn = in_turn_on c.loop-rest.self c.run_round.new.self (turns_in round) i.ended e.ended e.step i.in_turn e.goes_on e.on;
+      on = on_then c.args.self.now c.loop-rest.self c.run_round.new.self i.on e.on;
     }

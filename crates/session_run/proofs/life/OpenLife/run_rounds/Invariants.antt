@@ -3,7 +3,7 @@ use Rattle.std.specs.List.{All}
 use Rattle.tx_model.specs.declared.command.Command.{Command}
 use Rattle.tx_model.specs.LawfulLife.{AreRounds}
 use Rattle.session_lang.specs.Rounds.{rounds_of}
-use Rattle.session_run.specs.Progress.{GoesOn, IsSameLife, lines_of}
+use Rattle.session_run.specs.Progress.{AreInTurn, Continues, GoesOn, lines_of}
 use Rattle.session_run.specs.Turns.{MayRun}
 use Rattle.session_run.proofs.life.OpenLife.run_rounds.Given as goal
 
@@ -16,7 +16,8 @@ invariant-loop-rest l = record {
   rounds : rounds_of l.script ≡ done ++ rounds_of l.rest;
   items : All (MayRun (length l.self.sessions.items)) l.rest;
   room : length (lines_of l.self) + length l.rest ≤ 2 ^ 24;
-  same : IsSameLife l.fn.self l.self;
+  in_turn : AreInTurn l.self.shared.table.events l.self.steps;
+  on : Continues l.fn.self l.self;
 }
 
 abbrev pub decreases-loop-rest : goal.decreases-loop-rest

@@ -1,11 +1,19 @@
-use Rattle.std.proofs.Common.{◌++◌, map, ap, sym, ◌∙◌, take, append_assoc, get_or}
+use Rattle.std.proofs.Common.{◌++◌, map, ap, sym, ◌∙◌, take, append_assoc, append-nil, refl, get_or}
 use Rattle.std.specs.List.{flat_map}
 use Rattle.tx_model.specs.Lines.{turn_of}
 use Rattle.session_lang.specs.Rounds.{turns_of}
 use Rattle.session_run.specs.Turns.{turns_in}
-use Rattle.session_run.proofs.LifeLemmas.{same_then, session_room}
+use Rattle.session_run.proofs.LifeLemmas.{on_none, on_then, session_room}
 use Rattle.session_run.proofs.RoundLemmas.{sessions_on}
 use Rattle.session_run.proofs.life.OpenLife.run_sessions.Goals as goal
+
+pub loop-number-init : goal.loop-number-init
+loop-number-init c = record {
+  goes_on = c.requires.goes_on;
+  told = sym (append-nil (map turn_of c.args.self.now.lines));
+  steps = refl;
+  on = on_none c.args.self.now;
+}
 
 pub run_session-requires-clause-room : goal.run_session-requires-clause-room
 run_session-requires-clause-room c =
@@ -26,5 +34,5 @@ loop-number-preserved c =
           ∙ append_assoc before (flat_map (λ s. turns_of s turns) (take k c.args.numbers.now)) (turns_of n turns)
           ∙ ap (λ t. before ++ t) (sym (sessions_on turns c.args.numbers.now k c.loop-number-test.true));
       steps = e.steps ∙ i.steps;
-      same = same_then c.args.self.now c.loop-number.self c.run_session.new.self i.same e.same;
+      on = on_then c.args.self.now c.loop-number.self c.run_session.new.self i.on e.on;
     }

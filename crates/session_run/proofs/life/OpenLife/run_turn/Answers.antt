@@ -1,11 +1,11 @@
-use Rattle.std.proofs.Common.{◌++◌, ◌∷◌, [], List, sym, ap, subst, append_assoc, ◌∙◌}
+use Rattle.std.proofs.Common.{◌++◌, ◌∷◌, [], List, sym, ap, subst, append_assoc, length-set, ◌∙◌}
 use Rattle.std.proofs.lemmas.Result.{on_ok_weaker}
 use Rattle.std.specs.List.{flat_map}
 use Rattle.tx_model.specs.declared.report.Line.{Line}
 use Rattle.tx_model.specs.LawfulLife.{lines_in}
 use Rattle.session_run.specs.Progress.{AreFew, Progress, lines_of}
 use Rattle.session_run.proofs.LifeLemmas.{few_commands, place_is}
-use Rattle.session_run.proofs.ProgressLemmas.{few_on, progress_on}
+use Rattle.session_run.proofs.ProgressLemmas.{few_on, new_on, progress_on}
 use Rattle.session_run.proofs.life.OpenLife.run_turn.Goals as goal
 
 pub next_line-requires-clause-stands : goal.next_line-requires-clause-stands
@@ -38,4 +38,27 @@ returns-clause-goes_on c =
     (λ f.
     let told = ap (λ (ls : List Line). done ++ ls) f ∙ sym (append_assoc done life.lines (l ∷ [])) in
     record { progress = subst (Progress w' _) (sym told) on; few = subst (AreFew w') (sym told) few })
+    c.push.ensures.ok
+
+pub returns-clause-on : goal.returns-clause-on
+returns-clause-on c =
+    let life = c.args.self.now in
+    let n = c.args.number in
+    let s = c.index_mut-session.result.now in
+    let s' = c.next_line.new.session in
+    let l = c.in_ok-line.line in
+    let at = place_is life.sessions.items n s c.requires.known c.index_mut-session.ensures.value in
+    let r = c.in_ok-line.ensures in
+    let new = new_on life.shared c.next_line.new.shared life.sessions.items (lines_of life) n s s' c.args.command.now l c.requires.goes_on.progress at r in
+    let done = flat_map lines_in life.steps in
+    on_ok_weaker c.push.result
+    (λ f. record {
+      base = r.few.base;
+      sessions = length-set life.sessions.items n s';
+      more = l ∷ [];
+      lines = ap (λ (ls : List Line). done ++ ls) f ∙ sym (append_assoc done life.lines (l ∷ []));
+      added = r.acts.added;
+      grown = r.acts.grown;
+      new = new;
+    })
     c.push.ensures.ok

@@ -1,0 +1,12 @@
+pub mod Numbers
+pub mod Counts
+pub mod Tallies
+pub mod PlaceInduction
+pub mod MadeSteps
+pub mod Soundness
+pub mod GenSound
+pub mod RaiseSound
+pub mod LegalSound
+pub mod Indexing
+pub mod States
+pub mod Beginnings

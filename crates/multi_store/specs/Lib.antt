@@ -1,0 +1,4 @@
+pub mod Generator
+pub mod Members
+pub mod Pins
+pub mod State

@@ -1,0 +1,239 @@
+mod driver;
+
+use crate::{Held, MultiGiven, check_members};
+use driver::{Driver, Start, members};
+use std::process::Abort;
+use tx_model::{Mode, Refusal};
+use xid_order::FullMulti;
+
+fn multi<R: Abort>(rt: &R, number: u64) -> FullMulti {
+    FullMulti::new(number).expect(rt, "a multixact")
+}
+
+/// The answer that gives this multixact, without a warning.
+fn gives<R: Abort>(rt: &R, number: u64, offset: u64) -> Result<MultiGiven, Refusal> {
+    Ok(MultiGiven {
+        multi: multi(rt, number),
+        offset,
+        warn: false,
+    })
+}
+
+#[test]
+fn members_stop_at_the_limit_of_their_offsets(rt: HostRuntime) {
+    let mut driver = Driver::new(
+        &rt,
+        Start {
+            multi: 2,
+            oldest_multi: 1,
+            offset: 1_073_689_470,
+            oldest_offset: 1,
+        },
+    );
+    assert!(rt; driver.next(&rt, &[Mode::Sh]) == gives(&rt, 2, 1_073_689_470));
+    assert!(rt;
+        driver.next(&rt, &[Mode::Sh])
+            == Err(Refusal::MemberStop {
+                next: 1_073_689_471,
+                stop: 1_073_689_472
+            })
+    );
+    assert_eq!(rt; driver.multis.events().len(), 1);
+}
+
+#[test]
+fn multixacts_stop_at_their_limit(rt: HostRuntime) {
+    let mut driver = Driver::new(
+        &rt,
+        Start {
+            multi: 2_144_483_648,
+            oldest_multi: 1,
+            offset: 1,
+            oldest_offset: 1,
+        },
+    );
+    let stop = multi(&rt, 2_144_483_648);
+    assert!(rt; driver.next(&rt, &[Mode::Sh]) == Err(Refusal::MultiStop { next: stop, stop }));
+    assert_eq!(rt; driver.multis.events().len(), 0);
+}
+
+#[test]
+fn multixacts_warn_before_they_stop(rt: HostRuntime) {
+    let mut driver = Driver::new(
+        &rt,
+        Start {
+            multi: 2_107_483_647,
+            oldest_multi: 1,
+            offset: 1,
+            oldest_offset: 1,
+        },
+    );
+    assert!(rt; driver.next(&rt, &[Mode::Sh]) == gives(&rt, 2_107_483_647, 1));
+    let warned = MultiGiven {
+        multi: multi(&rt, 2_107_483_648),
+        offset: 2,
+        warn: true,
+    };
+    assert!(rt; driver.next(&rt, &[Mode::Sh]) == Ok(warned));
+}
+
+#[test]
+fn no_members_begin_where_the_stored_offset_would_be_zero(rt: HostRuntime) {
+    let mut driver = Driver::new(
+        &rt,
+        Start {
+            multi: 1,
+            oldest_multi: 1,
+            offset: 4_294_967_296,
+            oldest_offset: 4_294_967_296,
+        },
+    );
+    assert!(rt; driver.next(&rt, &[Mode::KeySh, Mode::Upd]) == gives(&rt, 1, 4_294_967_297));
+    assert!(rt; driver.next(&rt, &[Mode::KeySh]) == gives(&rt, 2, 4_294_967_299));
+}
+
+#[test]
+fn multixacts_wrap_around(rt: HostRuntime) {
+    let mut driver = Driver::new(
+        &rt,
+        Start {
+            multi: 4_294_967_295,
+            oldest_multi: 2_200_000_000,
+            offset: 7,
+            oldest_offset: 5,
+        },
+    );
+    assert!(rt; driver.next(&rt, &[Mode::Sh]) == gives(&rt, 4_294_967_295, 7));
+    assert!(rt; driver.next(&rt, &[Mode::Sh]) == gives(&rt, 4_294_967_297, 8));
+    let held = Held {
+        multi: multi(&rt, 4_294_967_297),
+        last: true,
+        end: 9,
+        start: Some(8),
+        most: 7,
+    };
+    assert!(rt; driver.hold(&rt, 1, 1) == Ok(held));
+}
+
+#[test]
+fn pins_of_two_sessions_hold_back_the_oldest(rt: HostRuntime) {
+    let mut driver = Driver::new(
+        &rt,
+        Start {
+            multi: 1,
+            oldest_multi: 1,
+            offset: 1,
+            oldest_offset: 1,
+        },
+    );
+    assert!(rt; driver.next(&rt, &[Mode::Sh, Mode::Sh]) == gives(&rt, 1, 1));
+    assert!(rt; driver.next(&rt, &[Mode::Sh]) == gives(&rt, 2, 3));
+    assert!(rt; driver.next(&rt, &[Mode::Sh]) == gives(&rt, 3, 4));
+    let held = Held {
+        multi: multi(&rt, 2),
+        last: false,
+        end: 5,
+        start: Some(3),
+        most: 1,
+    };
+    assert!(rt; driver.hold(&rt, 1, 2) == Ok(held));
+    assert!(rt; driver.hold(&rt, 2, 2) == Ok(held));
+    let limit = multi(&rt, 2);
+    assert!(rt; driver.raise(&rt, 3, 4) == Err(Refusal::Held { limit }));
+    assert!(rt; driver.raise(&rt, 2, 3) == Ok(()));
+    assert!(rt; driver.raise(&rt, 1, 1) == Err(Refusal::Backward { now: 2 }));
+    driver.unhold(&rt, 1, 2);
+    assert!(rt; !driver.multis.holds(1, limit));
+    assert!(rt; driver.multis.holds(2, limit));
+    assert!(rt; driver.raise(&rt, 4, 5) == Err(Refusal::Held { limit }));
+    driver.unhold(&rt, 2, 2);
+    assert!(rt;
+        driver.raise(&rt, 5, 9)
+            == Err(Refusal::Held {
+                limit: multi(&rt, 4)
+            })
+    );
+    assert!(rt; driver.raise(&rt, 4, 5) == Ok(()));
+    let now = driver.multis.counters();
+    assert_eq!(rt; now.multi.number(), 4);
+    assert_eq!(rt; now.offset, 5);
+    assert_eq!(rt; now.oldest_multi.number(), 4);
+    assert_eq!(rt; now.oldest_offset, 5);
+    assert_eq!(rt; driver.multis.events().len(), 9);
+}
+
+#[test]
+fn a_session_may_pin_one_twice(rt: HostRuntime) {
+    let mut driver = Driver::new(
+        &rt,
+        Start {
+            multi: 10,
+            oldest_multi: 5,
+            offset: 100,
+            oldest_offset: 50,
+        },
+    );
+    assert!(rt; driver.hold(&rt, 1, 5).is_ok());
+    assert!(rt; driver.hold(&rt, 1, 5).is_ok());
+    driver.unhold(&rt, 1, 5);
+    let limit = multi(&rt, 5);
+    assert!(rt; driver.raise(&rt, 6, 60) == Err(Refusal::Held { limit }));
+    driver.unhold(&rt, 1, 5);
+    assert!(rt; driver.raise(&rt, 6, 60) == Ok(()));
+}
+
+#[test]
+fn a_pin_tells_where_members_are(rt: HostRuntime) {
+    let mut driver = Driver::new(
+        &rt,
+        Start {
+            multi: 10,
+            oldest_multi: 5,
+            offset: 100,
+            oldest_offset: 50,
+        },
+    );
+    assert!(rt;
+        driver.hold(&rt, 1, 4)
+            == Err(Refusal::MultiTooOld {
+                oldest: multi(&rt, 5)
+            })
+    );
+    assert!(rt;
+        driver.hold(&rt, 1, 4_294_967_295)
+            == Err(Refusal::MultiTooOld {
+                oldest: multi(&rt, 5)
+            })
+    );
+    assert!(rt;
+        driver.hold(&rt, 1, 10)
+            == Err(Refusal::MultiFuture {
+                next: multi(&rt, 10)
+            })
+    );
+    let mut held = Held {
+        multi: multi(&rt, 9),
+        last: true,
+        end: 100,
+        start: None,
+        most: 100,
+    };
+    assert!(rt; driver.hold(&rt, 1, 9) == Ok(held));
+    assert!(rt; driver.next(&rt, &[Mode::Sh, Mode::Sh, Mode::ForUpd]) == gives(&rt, 10, 100));
+    held.last = false;
+    held.end = 103;
+    assert!(rt; driver.hold(&rt, 1, 9) == Ok(held));
+}
+
+#[test]
+fn a_multixact_has_1_to_64_members_and_at_most_one_updater(rt: HostRuntime) {
+    for (modes, expected) in [
+        (&[] as &[Mode], Err(Refusal::MemberCount)),
+        (&[Mode::Sh; 65], Err(Refusal::MemberCount)),
+        (&[Mode::Sh; 64], Ok(())),
+        (&[Mode::ForUpd, Mode::ForNoKeyUpd, Mode::Upd], Ok(())),
+        (&[Mode::Upd, Mode::NoKeyUpd], Err(Refusal::TwoUpdaters)),
+    ] {
+        assert!(rt; check_members(&members(&rt, modes)) == expected);
+    }
+}

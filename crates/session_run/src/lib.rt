@@ -18,4 +18,6 @@ pub use run::run_script;
 pub use tool::run_tool;
 
 #[cfg(test)]
+mod command_tests;
+#[cfg(test)]
 mod tests;

@@ -1,7 +1,7 @@
 -- How often a pin is among pins.
 use Rattle.std.proofs.Common.{◌≡◌, ℕ, suc, ◌+◌, ◌≤◌, List, [], ◌∷◌, ◌++◌, length, refl, sym, ap, ◌∙◌, inl, inr, ⊎_elim, arith, Bool, true, false, ◌&&◌, ◌==◌, cond, map}
 use Rattle.std.specs.List.{count_by}
-use Rattle.std.proofs.lemmas.List.Sums.{sum_by-cons, sum_by-append, count_by-le-length}
+use Rattle.std.proofs.lemmas.List.Sums.{sum_by-cons, sum_by-append}
 use Rattle.tx_model.specs.Multis.{Pin, same_pin, without_pin}
 use Rattle.tx_model.proofs.ListSteps.{eqb-refl, equal_from, and_both}
 use Rattle.tx_model.proofs.Membership.{Has}
@@ -31,9 +31,6 @@ count_push p x ps =
     let a : count p (ps ++ x ∷ []) ≡ count p ps + count p (x ∷ []) = sum_by-append (λ y. one_if (same_pin p y)) ps (x ∷ []) in
     let z : count p [] ≡ 0 = refl in
     omega arith
-
-pub count_to : (p : Pin) (ps : List Pin) → count p ps ≤ length ps
-count_to p ps = count_by-le-length (same_pin p) ps
 
 -- a pin is there where it counts
 pub has_count : (p : Pin) (ps : List Pin) → Has ps p → 1 ≤ count p ps

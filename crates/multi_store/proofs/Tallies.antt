@@ -1,5 +1,5 @@
 -- The counts of pins in a map.
-use Rattle.std.proofs.Common.{◌≡◌, ℕ, zero, suc, ◌+◌, ◌-◌, ◌<◌, ◌≤◌, List, [], ◌∷◌, ◌++◌, length, Contains, Option, Some, None, IfSome, IsSome, is_some, refl, sym, ap, ◌∙◌, ⊎_elim, subst, arith, Bool, true, false, ◌&&◌, ◌==◌, cond, map, min, unwrap_or, Less, Equal, Greater}
+use Rattle.std.proofs.Common.{◌≡◌, ℕ, zero, suc, ◌+◌, ◌-◌, ◌<◌, ◌≤◌, List, [], ◌∷◌, ◌++◌, length, Contains, Option, Some, None, IsSome, is_some, refl, sym, ap, ◌∙◌, ⊎_elim, subst, arith, Bool, true, false, ◌&&◌, ◌==◌, cond, map, min, unwrap_or, Less, Equal, Greater}
 use Rattle.std.specs.Prelude.{nat_lt}
 use Rattle.std.specs.BTreeMap.{BTreeMap, btree_map_len, get, is_at}
 use Rattle.std.specs.Map.{lookup}
@@ -13,7 +13,7 @@ use Rattle.tx_model.proofs.IdOrder.{fold_min_start, fold_min_has, fold_min_above
 use Rattle.tx_model.proofs.Membership.{Has, contains_has, has_contains}
 use Rattle.multi_store.specs.declared.pins.PinKey.{PinKey}
 use Rattle.multi_store.specs.Pins.{IsTally, pin_of, pin_cmp, some_of}
-use Rattle.multi_store.proofs.Counts.{count, one_if, same_refl, same_equal, count_push, count_to, has_count, count_has, count_without, none_counts, map_has, has_map}
+use Rattle.multi_store.proofs.Counts.{count, one_if, same_refl, same_equal, count_push, has_count, count_has, count_without, none_counts, map_has, has_map}
 use Rattle.multi_store.proofs.Numbers.{le_or_over}
 
 -- keys compare as pins
@@ -76,15 +76,6 @@ some_is (suc n) e = omega arith
 pub tally_at : (pins : List Pin) (counts : BTreeMap PinKey ℕ) (k : PinKey) → IsTally pins counts → unwrap_or (get pin_cmp counts k) 0 ≡ count (pin_of k) pins
 tally_at pins counts k t = ap (λ o. unwrap_or o 0) (t k) ∙ some_value (count (pin_of k) pins)
 
-pub tally_fits : (pins : List Pin) (counts : BTreeMap PinKey ℕ) (k : PinKey) (n : ℕ) → IsTally pins counts → length pins + 1 < n → IfSome (get pin_cmp counts k) (λ c. c + 1 < n)
-tally_fits pins counts k n t short =
-    let to : count (pin_of k) pins ≤ length pins = count_to (pin_of k) pins in
-    subst (λ o. IfSome o (λ c. c + 1 < n)) (sym (t k)) (fits (count (pin_of k) pins) (omega arith))
-  where
-    fits : (c : ℕ) → c + 1 < n → IfSome (some_of c) (λ c. c + 1 < n)
-    fits zero h = tt
-    fits (suc c) h = h
-
 -- the map after one that has the count w at k, where pins become others
 pub tally_after : (old new : List Pin) (before after : BTreeMap PinKey ℕ) (k : PinKey) (w : Option ℕ) →
     IsTally old before → ((q : PinKey) → get pin_cmp after q ≡ cond (is_at (pin_cmp k) q) w (get pin_cmp before q)) →
@@ -137,9 +128,6 @@ pub has_tally : (pins : List Pin) (counts : BTreeMap PinKey ℕ) (k : PinKey) �
 has_tally pins counts k t c =
     let h : 1 ≤ count (pin_of k) pins = has_count (pin_of k) pins (contains_has pins (pin_of k) c) in
     ap is_some (t k ∙ some_positive (count (pin_of k) pins) h)
-
-key_of : Pin → PinKey
-key_of p = record { multi = p.1; session = p.0 }
 
 -- with no key there is no pin
 pub tally_none : (pins : List Pin) (counts : BTreeMap PinKey ℕ) → IsTally pins counts → ((k : PinKey) → get pin_cmp counts k ≡ None) → pins ≡ []

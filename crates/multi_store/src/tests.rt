@@ -19,6 +19,38 @@ fn gives<R: Abort>(rt: &R, number: u64, offset: u64) -> Result<MultiGiven, Refus
     })
 }
 
+/// The answer that pins this one, of a life that began with the next free offset `most`.
+fn pins<R: Abort>(
+    rt: &R,
+    number: u64,
+    last: bool,
+    end: u64,
+    start: Option<u64>,
+    most: u64,
+) -> Result<Held, Refusal> {
+    Ok(Held {
+        multi: multi(rt, number),
+        last,
+        end,
+        start,
+        most,
+    })
+}
+
+/// The answer of a raise that this one holds back.
+fn held_back<R: Abort>(rt: &R, number: u64) -> Result<(), Refusal> {
+    Err(Refusal::Held {
+        limit: multi(rt, number),
+    })
+}
+
+/// The answer of a pin of one below this oldest one.
+fn too_old<R: Abort>(rt: &R, number: u64) -> Result<Held, Refusal> {
+    Err(Refusal::MultiTooOld {
+        oldest: multi(rt, number),
+    })
+}
+
 #[test]
 fn members_stop_at_the_limit_of_their_offsets(rt: HostRuntime) {
     let mut driver = Driver::new(
@@ -105,14 +137,10 @@ fn multixacts_wrap_around(rt: HostRuntime) {
     );
     assert!(rt; driver.next(&rt, &[Mode::Sh]) == gives(&rt, 4_294_967_295, 7));
     assert!(rt; driver.next(&rt, &[Mode::Sh]) == gives(&rt, 4_294_967_297, 8));
-    let held = Held {
-        multi: multi(&rt, 4_294_967_297),
-        last: true,
-        end: 9,
-        start: Some(8),
-        most: 7,
-    };
-    assert!(rt; driver.hold(&rt, 1, 1) == Ok(held));
+    assert!(rt; driver.hold(&rt, 1, 1) == pins(&rt, 4_294_967_297, true, 9, Some(8), 7));
+    assert!(rt;
+        driver.hold(&rt, 1, 4_294_967_295) == pins(&rt, 4_294_967_295, false, 9, Some(7), 7)
+    );
 }
 
 #[test]
@@ -129,30 +157,17 @@ fn pins_of_two_sessions_hold_back_the_oldest(rt: HostRuntime) {
     assert!(rt; driver.next(&rt, &[Mode::Sh, Mode::Sh]) == gives(&rt, 1, 1));
     assert!(rt; driver.next(&rt, &[Mode::Sh]) == gives(&rt, 2, 3));
     assert!(rt; driver.next(&rt, &[Mode::Sh]) == gives(&rt, 3, 4));
-    let held = Held {
-        multi: multi(&rt, 2),
-        last: false,
-        end: 5,
-        start: Some(3),
-        most: 1,
-    };
-    assert!(rt; driver.hold(&rt, 1, 2) == Ok(held));
-    assert!(rt; driver.hold(&rt, 2, 2) == Ok(held));
-    let limit = multi(&rt, 2);
-    assert!(rt; driver.raise(&rt, 3, 4) == Err(Refusal::Held { limit }));
+    assert!(rt; driver.hold(&rt, 1, 2) == pins(&rt, 2, false, 5, Some(3), 1));
+    assert!(rt; driver.hold(&rt, 2, 2) == pins(&rt, 2, false, 5, Some(3), 1));
+    assert!(rt; driver.raise(&rt, 3, 4) == held_back(&rt, 2));
     assert!(rt; driver.raise(&rt, 2, 3) == Ok(()));
     assert!(rt; driver.raise(&rt, 1, 1) == Err(Refusal::Backward { now: 2 }));
     driver.unhold(&rt, 1, 2);
-    assert!(rt; !driver.multis.holds(1, limit));
-    assert!(rt; driver.multis.holds(2, limit));
-    assert!(rt; driver.raise(&rt, 4, 5) == Err(Refusal::Held { limit }));
+    assert!(rt; !driver.multis.holds(1, multi(&rt, 2)));
+    assert!(rt; driver.multis.holds(2, multi(&rt, 2)));
+    assert!(rt; driver.raise(&rt, 4, 5) == held_back(&rt, 2));
     driver.unhold(&rt, 2, 2);
-    assert!(rt;
-        driver.raise(&rt, 5, 9)
-            == Err(Refusal::Held {
-                limit: multi(&rt, 4)
-            })
-    );
+    assert!(rt; driver.raise(&rt, 5, 9) == held_back(&rt, 4));
     assert!(rt; driver.raise(&rt, 4, 5) == Ok(()));
     let now = driver.multis.counters();
     assert_eq!(rt; now.multi.number(), 4);
@@ -176,8 +191,7 @@ fn a_session_may_pin_one_twice(rt: HostRuntime) {
     assert!(rt; driver.hold(&rt, 1, 5).is_ok());
     assert!(rt; driver.hold(&rt, 1, 5).is_ok());
     driver.unhold(&rt, 1, 5);
-    let limit = multi(&rt, 5);
-    assert!(rt; driver.raise(&rt, 6, 60) == Err(Refusal::Held { limit }));
+    assert!(rt; driver.raise(&rt, 6, 60) == held_back(&rt, 5));
     driver.unhold(&rt, 1, 5);
     assert!(rt; driver.raise(&rt, 6, 60) == Ok(()));
 }
@@ -193,36 +207,18 @@ fn a_pin_tells_where_members_are(rt: HostRuntime) {
             oldest_offset: 50,
         },
     );
-    assert!(rt;
-        driver.hold(&rt, 1, 4)
-            == Err(Refusal::MultiTooOld {
-                oldest: multi(&rt, 5)
-            })
-    );
-    assert!(rt;
-        driver.hold(&rt, 1, 4_294_967_295)
-            == Err(Refusal::MultiTooOld {
-                oldest: multi(&rt, 5)
-            })
-    );
+    assert!(rt; driver.hold(&rt, 1, 4) == too_old(&rt, 5));
+    assert!(rt; driver.hold(&rt, 1, 4_294_967_295) == too_old(&rt, 5));
     assert!(rt;
         driver.hold(&rt, 1, 10)
             == Err(Refusal::MultiFuture {
                 next: multi(&rt, 10)
             })
     );
-    let mut held = Held {
-        multi: multi(&rt, 9),
-        last: true,
-        end: 100,
-        start: None,
-        most: 100,
-    };
-    assert!(rt; driver.hold(&rt, 1, 9) == Ok(held));
+    assert!(rt; driver.hold(&rt, 1, 9) == pins(&rt, 9, true, 100, None, 100));
     assert!(rt; driver.next(&rt, &[Mode::Sh, Mode::Sh, Mode::ForUpd]) == gives(&rt, 10, 100));
-    held.last = false;
-    held.end = 103;
-    assert!(rt; driver.hold(&rt, 1, 9) == Ok(held));
+    assert!(rt; driver.hold(&rt, 1, 9) == pins(&rt, 9, false, 103, None, 100));
+    assert!(rt; driver.hold(&rt, 1, 10) == pins(&rt, 10, true, 103, Some(100), 100));
 }
 
 #[test]

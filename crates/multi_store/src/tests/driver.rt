@@ -75,10 +75,12 @@ impl Driver {
 
     pub fn unhold<R: Abort>(&mut self, rt: &R, session: u32, multi: u64) {
         let multi = FullMulti::new(multi).expect(rt, "a multixact");
-        if !self.multis.holds(session, multi) {
+        let by = by(session);
+        if self.multis.holds(by.session, multi) {
+            self.multis.unhold(by, multi);
+        } else {
             panic!(rt; "the session doesn't hold it");
         }
-        self.multis.unhold(by(session), multi);
     }
 
     pub fn raise<R: Abort>(&mut self, rt: &R, multi: u64, offset: u64) -> Result<(), Refusal> {

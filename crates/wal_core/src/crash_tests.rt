@@ -201,10 +201,9 @@ fn a_new_log_has_its_bytes(rt: HostRuntime) -> Result<(), Fail> {
     let alloc = rt.alloc();
     let mut log = open(alloc, MemLog::of(alloc, Vec::new(alloc)))?.log;
     write_two(alloc, &mut log)?;
-    let mut bytes = [7; 82];
+    let mut bytes = [7; 81];
     assert_eq!(rt; log.dump(0, &mut bytes)?, 81);
-    assert_eq!(rt; &bytes[..6], [1, 0x39, 0, 0, 0, 4].as_slice());
-    assert_eq!(rt; &bytes[..81], LOG.as_slice());
+    assert_eq!(rt; bytes, LOG);
     assert_eq!(rt; log.end(), 80);
     assert_eq!(rt; log.recs().len(), 2);
     assert_eq!(rt; log.next(), 2);

@@ -143,6 +143,7 @@ impl<D: LogDisk> WalLog<D> {
         ensures counters { log_counters self.new ≡ log_counters self.old }
         ensures ok { OnOk result (log_flushed self.new ≡ log_next self.old) }
         ensures err { OnErr result (log_flushed self.new ≡ log_flushed self.old) }
+        ensures no_call { log_pending self.old ≡ [] → (log_disk self.new ≡ log_disk self.old) × (result ≢ Err LogFault) }
         ensures start { log_start self.new ≡ log_start self.old }
 
         // A checkpoint alone, with the counters of the log, may stand first from then on.
@@ -207,7 +208,7 @@ impl<D: LogDisk> WalLog<D> {
         ensures checkpoint { log_checkpoint self.new ≡ log_checkpoint self.old }
         ensures ok { OnOk result (IfSome (log_checkpoint self.old) (λ k. log_start self.new ≡ k.gate)) }
         ensures err { OnErr result (log_start self.new ≡ log_start self.old) }
-        ensures no_call { IfSome (log_checkpoint self.old) (λ k. log_start self.old ≡ k.gate → log_disk self.new ≡ log_disk self.old) }
+        ensures no_call { IfSome (log_checkpoint self.old) (λ k. log_start self.old ≡ k.gate → (log_disk self.new ≡ log_disk self.old) × (result ≢ Err LogFault)) }
         ensures down { (at : ℕ) → result ≡ Err (LogDown at) → log_down self.old ≡ Some at }
         ensures is_down { (at : ℕ) → log_down self.old ≡ Some at → result ≡ Err (LogDown at) }
         ensures no_other { (result ≢ Err Full) × (result ≢ Err Memory) × ((at : ℕ) → result ≢ Err (Damaged at)) }

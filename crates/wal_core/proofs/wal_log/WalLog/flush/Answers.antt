@@ -169,3 +169,8 @@ returns-in-Ok-clause-keeps g c told first all keeps =
           subst (λ (n : ℕ). HasFlushed first all (s.from + n) x) (sym (ap length c.items.ensures))
           (all_flushed first all (s.from + s.flushed) gate_2 left_2 s.counters (s.from + length s.recs) x none here (stays x (returns-in-Ok-clause-left g c told up x left)));
     }
+
+pub returns-in-Err-clause-no_call : goal.returns-in-Err-clause-no_call
+returns-in-Err-clause-no_call g c none =
+    let s = c.args.self.now in
+    absurd (omega (arith, s.counts, c.if-self-count.false, ap length c.items.ensures, length-drop s.flushed s.recs, ap length none))

@@ -20,4 +20,6 @@ pub use tool::run_tool;
 #[cfg(test)]
 mod command_tests;
 #[cfg(test)]
+mod round_tests;
+#[cfg(test)]
 mod tests;

@@ -4,7 +4,7 @@ use std::test::Fail;
 use tx_io::{MemSink, MemSource};
 
 /// Runs the tool with one word on a script, into a sink with this room. Answers the status and the bytes held.
-fn run(
+pub fn run(
     alloc: Global,
     word: &str,
     script: &str,
@@ -26,7 +26,7 @@ const HEAD: &str =
 const FIRST: &str =
     "0 checkpoint next 3 oldest 3 multi 1 offset 1 oldest-multi 1 oldest-offset 1\n";
 
-fn reports(
+pub fn reports(
     rt: &HostRuntime,
     script: &str,
     middle: &str,

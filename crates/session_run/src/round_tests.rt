@@ -120,18 +120,23 @@ fn savepoint_1001_is_refused(rt: HostRuntime) -> Result<(), Fail> {
     Ok(())
 }
 
+/// Adds eight commands that take snapshots, whose names begin so.
+fn push_snaps(script: &mut String, front: &str) -> Result<(), Fail> {
+    for digit in ["0", "1", "2", "3", "4", "5", "6", "7"] {
+        script.push_str("a snap ")?;
+        script.push_str(front)?;
+        script.push_str(digit)?;
+        script.push_str("\n")?;
+    }
+    Ok(())
+}
+
 #[test]
 fn snapshot_65_is_refused(rt: HostRuntime) -> Result<(), Fail> {
     let alloc = rt.alloc();
     let mut script = String::new(alloc);
-    let mut name = String::from_str(alloc, "a snap s")?;
-    for _ in 0..8 {
-        name.push_str("s")?;
-        for digit in ["0", "1", "2", "3", "4", "5", "6", "7"] {
-            for part in [name.as_str(), digit, "\n"] {
-                script.push_str(part)?;
-            }
-        }
+    for front in ["s", "ss", "sss", "t", "tt", "ttt", "u", "uu"] {
+        push_snaps(&mut script, front)?;
     }
     script.push_str("a snap t\na drop sss7\na snap t\n")?;
     let found = says(

@@ -1,25 +1,26 @@
 -- One record more may come next: what `append` has to keep.
-use Rattle.std.proofs.Common.{◌≡◌, ℕ, ◌+◌, ◌-◌, ◌*◌, ◌<◌, ◌≤◌, ◌^◌, suc, Bool, true, false, cond, ltb, eqb, List, [], ◌∷◌, ◌++◌, length, take, drop, Option, Some, None, refl, sym, ◌∙◌, ap, subst, arith}
-use Rattle.std.specs.List.{AllByRecursion, flat_map}
+use Rattle.std.proofs.Common.{◌≡◌, ℕ, ◌+◌, ◌-◌, ◌<◌, ◌≤◌, ◌^◌, suc, Bool, true, false, cond, ltb, eqb, List, [], ◌∷◌, ◌++◌, length, take, drop, Option, Some, None, refl, sym, ◌∙◌, ap, subst, arith}
+use Rattle.std.specs.List.{AllByRecursion}
 use Rattle.std.specs.Prelude.{IsSome, IsNone, IfSome, remove}
-use Rattle.std.proofs.lemmas.Bool.{leb-true, le-leb, eq-eqb, ltb-true, lt-ltb, le-ltb, and_parts, and_from, eqb-true}
+use Rattle.std.proofs.lemmas.Bool.{eq-eqb, le-ltb, and_from, eqb-true}
 use Rattle.std.proofs.lemmas.List.{append_assoc, length-append, take_at, drop_at, drop-append-le, append-nil}
 use Rattle.std.proofs.lemmas.Grind.{flat_map-append}
 use Rattle.tx_model.specs.declared.record.Rec.{Rec}
 use Rattle.tx_model.specs.declared.record.Rec.TheVariants as records
 use Rattle.tx_model.specs.declared.record.Counters.{Counters}
-use Rattle.tx_model.specs.declared.multi.Member.{Member}
 use Rattle.tx_model.specs.After.{after_record}
 use Rattle.tx_model.specs.Base.{IsBase}
 use Rattle.disk_core.specs.Volume.{Volume}
-use Rattle.wal_core.specs.Numbers.{le_bytes}
+use Rattle.wal_records.specs.Numbers.{le_bytes}
 use Rattle.wal_core.specs.BaseTest.{is_base_of}
-use Rattle.wal_core.specs.Spelling.{rec_bytes, tree_bytes, multi_bytes, member_bytes, counters_bytes, truncate_bytes, IsLawful, AscendsFrom, IsId, IsMulti, HasCounts}
-use Rattle.wal_core.specs.Reading.{◌>>=◌}
-use Rattle.wal_core.specs.Opening.{History, next_number, may_follow, number_fits, with_rec, joined, first_number, began, no_counters, with_body, behind_gate}
-use Rattle.wal_core.specs.Log.{bytes_of, is_lawful, are_lawful, ascend_from, all_ids, is_id, is_multi, End, end_of, end_with, history_on, IsReady, IsNextBatch, MayAppend, counters_or_none, with_more}
-use Rattle.wal_core.proofs.Fields.{length-le_bytes}
+use Rattle.wal_records.specs.Spelling.{rec_bytes, IsLawful}
+use Rattle.wal_records.specs.Reading.{◌>>=◌}
+use Rattle.wal_core.specs.Opening.{History, next_number, may_follow, number_fits, with_rec, joined, first_number, began, no_counters, recs_of, with_body, behind_gate}
+use Rattle.wal_core.specs.Log.{bytes_of, End, end_of, end_with, history_on, IsReady, IsNextBatch, MayAppend, counters_or_none, with_more}
+use Rattle.wal_records.specs.Lawful.{are_lawful}
+use Rattle.wal_records.proofs.Fields.{length-le_bytes}
 use Rattle.wal_core.proofs.Gates.{length-behind}
+use Rattle.wal_records.proofs.LawfulTests.{all_lawful, lawful-push}
 use Rattle.wal_core.proofs.Walks.{recs_of-bytes}
 use Rattle.wal_core.proofs.BaseTests.{base_passes}
 use Rattle.wal_core.proofs.Flush.{goes_by, long_behind}
@@ -29,9 +30,12 @@ abbrev pub continued : ℕ → Option History → List Rec → Option History
 continued gate (Some h) recs = joined h recs
 continued gate None recs = first_number recs >>= λ number. cond (ltb gate number) None (joined (began number) recs)
 
+pub with_body-recs : (gate : ℕ) (h : Option History) (body : List ℕ) (recs : List Rec) → recs_of body ≡ Some recs → with_body gate h body ≡ continued gate h recs
+with_body-recs gate (Some h) body recs is = ap (λ (o : Option (List Rec)). o >>= joined h) is
+with_body-recs gate None body recs is = ap (λ (o : Option (List Rec)). o >>= λ rs. first_number rs >>= λ number. cond (ltb gate number) None (joined (began number) rs)) is
+
 pub with_body-bytes : (gate : ℕ) (h : Option History) (recs : List Rec) → AllByRecursion IsLawful recs → with_body gate h (bytes_of recs) ≡ continued gate h recs
-with_body-bytes gate (Some h) recs lawful = ap (λ (o : Option (List Rec)). o >>= joined h) (recs_of-bytes recs lawful)
-with_body-bytes gate None recs lawful = ap (λ (o : Option (List Rec)). o >>= λ rs. first_number rs >>= λ number. cond (ltb gate number) None (joined (began number) rs)) (recs_of-bytes recs lawful)
+with_body-bytes gate h recs lawful = with_body-recs gate h (bytes_of recs) recs (recs_of-bytes recs lawful)
 
 some_history : (h x : History) → Some h ≡ Some x → h ≡ x
 some_history h x e = cc
@@ -70,73 +74,6 @@ continued-push gate None x [] r e may = absurd cc
 continued-push gate None x (s ∷ recs) r e may =
     ap (λ (o : Option ℕ). o >>= λ n. cond (ltb gate n) None (joined (began n) (s ∷ (recs ++ r ∷ [])))) (sym (same_first s recs r))
     ∙ beginning gate (first_number (s ∷ recs)) (s ∷ recs) x r e may
-
--- ---- lawful records
-
-ascends : (last : ℕ) (ids : List ℕ) → ascend_from last ids ≡ true → AscendsFrom last ids
-ascends last [] e = tt
-ascends last (x ∷ xs) e = let a = and_parts _ _ e in let b = and_parts _ _ a.1 in let i = and_parts _ _ b.0 in (ltb-true _ _ a.0, ((leb-true _ _ i.0, ltb-true _ _ i.1), ascends x xs b.1))
-
-do_ascend : (last : ℕ) (ids : List ℕ) → AscendsFrom last ids → ascend_from last ids ≡ true
-do_ascend last [] a = refl
-do_ascend last (x ∷ xs) a = and_from _ _ (lt-ltb _ _ a.0) (and_from _ _ (and_from _ _ (le-leb _ _ a.1.0.0) (lt-ltb _ _ a.1.0.1)) (do_ascend x xs a.1.1))
-
-are_ids : (ms : List Member) → all_ids ms ≡ true → AllByRecursion (λ m. IsId m.id) ms
-are_ids [] e = tt
-are_ids (m ∷ ms) e = let a = and_parts _ _ e in let i = and_parts _ _ a.0 in ((leb-true _ _ i.0, ltb-true _ _ i.1), are_ids ms a.1)
-
-ids_pass : (ms : List Member) → AllByRecursion (λ m. IsId m.id) ms → all_ids ms ≡ true
-ids_pass [] a = refl
-ids_pass (m ∷ ms) a = and_from _ _ (and_from _ _ (le-leb _ _ a.0.0) (lt-ltb _ _ a.0.1)) (ids_pass ms a.1)
-
-id_if : (n : ℕ) → is_id n ≡ true → IsId n
-id_if n e = let i = and_parts _ _ e in (leb-true _ _ i.0, ltb-true _ _ i.1)
-
-id_passes : (n : ℕ) → IsId n → is_id n ≡ true
-id_passes n i = and_from _ _ (le-leb _ _ i.0) (lt-ltb _ _ i.1)
-
-multi_if : (n : ℕ) → is_multi n ≡ true → IsMulti n
-multi_if n e = let i = and_parts _ _ e in (leb-true _ _ i.0, ltb-true _ _ i.1)
-
-multi_passes : (n : ℕ) → IsMulti n → is_multi n ≡ true
-multi_passes n i = and_from _ _ (le-leb _ _ i.0) (lt-ltb _ _ i.1)
-
-pub lawful_if : (r : Rec) → is_lawful r ≡ true → IsLawful r
-lawful_if (records.Commit top subs) e = let a = and_parts _ _ e in let b = and_parts _ _ a.1 in record { top = id_if top a.0; few = ltb-true _ _ b.0; subs = ascends top subs b.1 }
-lawful_if (records.Abort top subs) e = let a = and_parts _ _ e in let b = and_parts _ _ a.1 in record { top = id_if top a.0; few = ltb-true _ _ b.0; subs = ascends top subs b.1 }
-lawful_if (records.Multi multi offset members) e =
-    let a = and_parts _ _ e in let b = and_parts _ _ a.1 in let c = and_parts _ _ b.1 in let d = and_parts _ _ c.1 in
-    record { multi = multi_if multi a.0; offset = ltb-true _ _ b.0; some = leb-true _ _ c.0; few = leb-true _ _ d.0; ids = are_ids members d.1 }
-lawful_if (records.Checkpoint number n) e =
-    let a = and_parts _ _ e in let b = and_parts _ _ a.1 in let c = and_parts _ _ b.1 in let d = and_parts _ _ c.1 in let f = and_parts _ _ d.1 in let g = and_parts _ _ f.1 in
-    (ltb-true _ _ a.0, record { next = id_if n.next b.0; oldest = id_if n.oldest c.0; multi = multi_if n.multi d.0; offset = ltb-true _ _ f.0; oldest_multi = multi_if n.oldest_multi g.0; oldest_offset = ltb-true _ _ g.1 })
-lawful_if (records.Truncate oldest multi offset) e =
-    let a = and_parts _ _ e in let b = and_parts _ _ a.1 in record { oldest = id_if oldest a.0; multi = multi_if multi b.0; offset = ltb-true _ _ b.1 }
-
-pub lawful_passes : (r : Rec) → IsLawful r → is_lawful r ≡ true
-lawful_passes (records.Commit top subs) l = and_from _ _ (id_passes top l.top) (and_from _ _ (lt-ltb _ _ l.few) (do_ascend top subs l.subs))
-lawful_passes (records.Abort top subs) l = and_from _ _ (id_passes top l.top) (and_from _ _ (lt-ltb _ _ l.few) (do_ascend top subs l.subs))
-lawful_passes (records.Multi multi offset members) l =
-    and_from _ _ (multi_passes multi l.multi) (and_from _ _ (lt-ltb _ _ l.offset) (and_from _ _ (le-leb _ _ l.some) (and_from _ _ (le-leb _ _ l.few) (ids_pass members l.ids))))
-lawful_passes (records.Checkpoint number n) l =
-    and_from _ _ (lt-ltb _ _ l.0) (and_from _ _ (id_passes n.next l.1.next) (and_from _ _ (id_passes n.oldest l.1.oldest) (and_from _ _ (multi_passes n.multi l.1.multi)
-    (and_from _ _ (lt-ltb _ _ l.1.offset) (and_from _ _ (multi_passes n.oldest_multi l.1.oldest_multi) (lt-ltb _ _ l.1.oldest_offset))))))
-lawful_passes (records.Truncate oldest multi offset) l = and_from _ _ (id_passes oldest l.oldest) (and_from _ _ (multi_passes multi l.multi) (lt-ltb _ _ l.offset))
-
-pub all_lawful : (recs : List Rec) → are_lawful recs ≡ true → AllByRecursion IsLawful recs
-all_lawful [] e = tt
-all_lawful (r ∷ recs) e = let a = and_parts _ _ e in (lawful_if r a.0, all_lawful recs a.1)
-
-pub lawful-push : (recs : List Rec) (r : Rec) → are_lawful recs ≡ true → IsLawful r → are_lawful (recs ++ r ∷ []) ≡ true
-lawful-push [] r e l = and_from _ _ (lawful_passes r l) refl
-lawful-push (s ∷ recs) r e l = let a = and_parts _ _ e in and_from _ _ a.0 (lawful-push recs r a.1 l)
-
-pub has_counts : (r : Rec) → IsLawful r → HasCounts r
-has_counts (records.Commit top subs) l = l.few
-has_counts (records.Abort top subs) l = l.few
-has_counts (records.Multi multi offset members) l = l.few
-has_counts (records.Checkpoint number n) l = tt
-has_counts (records.Truncate oldest multi offset) l = tt
 
 -- ---- where a log ends with one record more
 
@@ -253,60 +190,3 @@ after_is None x some none base = absurd (apart (sym (base_passes x base) ∙ non
   where
     apart : true ≡ false → ⊥
     apart e = cc
-
-pub not_both : {X : Type 0} (b : Bool) → b ≡ true → b ≡ false → X
-not_both b is isnt = absurd (apart (sym is ∙ isnt))
-  where
-    apart : true ≡ false → ⊥
-    apart e = cc
-
--- ---- how long records are
-
-length-ids : (ids : List ℕ) → length (flat_map (le_bytes 8) ids) ≡ 8 * length ids
-length-ids [] = refl
-length-ids (x ∷ xs) = omega (arith, length-append (le_bytes 8 x) (flat_map (le_bytes 8) xs), length-le_bytes 8 x, length-ids xs)
-
-length-members : (ms : List Member) → length (flat_map member_bytes ms) ≡ 9 * length ms
-length-members [] = refl
-length-members (m ∷ ms) = omega (arith, length-append (member_bytes m) (flat_map member_bytes ms), length-le_bytes 8 m.id, length-members ms)
-
-pub length-tree : (top : ℕ) (subs : List ℕ) → length (tree_bytes top subs) ≡ 12 + 8 * length subs
-unfolding tree_bytes
-length-tree top subs =
-    let counted : List ℕ = le_bytes 4 (length subs) ++ flat_map (le_bytes 8) subs in
-    omega (arith, length-append (le_bytes 8 top) counted, length-append (le_bytes 4 (length subs)) (flat_map (le_bytes 8) subs), length-le_bytes 8 top, length-le_bytes 4 (length subs), length-ids subs)
-
-pub length-multi : (multi offset : ℕ) (members : List Member) → length (multi_bytes multi offset members) ≡ 20 + 9 * length members
-unfolding multi_bytes
-length-multi multi offset members =
-    let a : List ℕ = flat_map member_bytes members in let b : List ℕ = le_bytes 4 (length members) ++ a in let c : List ℕ = le_bytes 8 offset ++ b in
-    omega (arith, length-append (le_bytes 8 multi) c, length-append (le_bytes 8 offset) b, length-append (le_bytes 4 (length members)) a, length-le_bytes 8 multi, length-le_bytes 8 offset, length-le_bytes 4 (length members), length-members members)
-
-pub length-counters : (c : Counters) → length (counters_bytes c) ≡ 48
-unfolding counters_bytes
-length-counters c =
-    let w : ℕ → List ℕ = λ n. le_bytes 8 n in
-    let l5 : List ℕ = w c.oldest_multi ++ w c.oldest_offset in let l4 : List ℕ = w c.offset ++ l5 in let l3 : List ℕ = w c.multi ++ l4 in let l2 : List ℕ = w c.oldest ++ l3 in
-    omega (
-      arith,
-      length-append (w c.next) l2,
-      length-append (w c.oldest) l3,
-      length-append (w c.multi) l4,
-      length-append (w c.offset) l5,
-      length-append (w c.oldest_multi) (w c.oldest_offset),
-      length-le_bytes 8 c.next,
-      length-le_bytes 8 c.oldest,
-      length-le_bytes 8 c.multi,
-      length-le_bytes 8 c.offset,
-      length-le_bytes 8 c.oldest_multi,
-      length-le_bytes 8 c.oldest_offset,
-    )
-
-pub length-checkpoint : (number : ℕ) (c : Counters) → length (le_bytes 8 number ++ counters_bytes c) ≡ 56
-length-checkpoint number c = omega (arith, length-append (le_bytes 8 number) (counters_bytes c), length-le_bytes 8 number, length-counters c)
-
-pub length-truncate : (oldest multi offset : ℕ) → length (truncate_bytes oldest multi offset) ≡ 24
-unfolding truncate_bytes
-length-truncate oldest multi offset =
-    let c : List ℕ = le_bytes 8 multi ++ le_bytes 8 offset in
-    omega (arith, length-append (le_bytes 8 oldest) c, length-append (le_bytes 8 multi) (le_bytes 8 offset), length-le_bytes 8 oldest, length-le_bytes 8 multi, length-le_bytes 8 offset)

@@ -1,23 +1,25 @@
 -- A checkpoint alone in the last batch: a log can begin with it.
 use Rattle.std.proofs.Common.{◌≡◌, ◌⊎◌, inl, inr, ℕ, ◌+◌, ◌-◌, ◌<◌, ◌≤◌, ◌^◌, max, Bool, true, false, cond, ltb, eqb, List, [], ◌∷◌, ◌++◌, length, take, drop, Option, Some, None, Ok, refl, sym, ◌∙◌, ap, subst, arith}
 use Rattle.std.specs.List.{AllByRecursion, slice_get}
-use Rattle.std.proofs.lemmas.Bool.{le-ltb, eq-eqb, eqb-true, and_parts, and_from}
+use Rattle.std.proofs.lemmas.Bool.{le-ltb, ltb-false, eq-eqb, eqb-true, and_parts, and_from}
 use Rattle.std.proofs.lemmas.List.{length-append, drop-drop, drop_at, append-nil}
 use Rattle.tx_model.specs.declared.record.Rec.{Rec}
 use Rattle.tx_model.specs.declared.record.Counters.{Counters}
 use Rattle.tx_model.specs.After.{after_record}
 use Rattle.disk_core.specs.Volume.{Volume, Forgot}
 use Rattle.wal_core.specs.BaseTest.{is_base_of}
-use Rattle.wal_core.specs.Reading.{◌>>=◌}
-use Rattle.wal_core.specs.Opening.{History, Walked, walked, AtRest, batch_bytes, batches_bytes, next_number, may_follow, with_rec, joined, first_number, began, no_counters, with_body, going_on, judged, opened}
-use Rattle.wal_core.specs.Log.{history_in, history_on, bytes_of, is_lawful, are_lawful, end_with, counters_or_none, MayAppend, IsReady}
-use Rattle.wal_core.specs.Checkpoint.{IsLastCheckpoint, record_of, begun_with, kept_from, MayBegin, IsListed}
+use Rattle.wal_records.specs.Reading.{◌>>=◌}
+use Rattle.wal_core.specs.Opening.{History, Walked, walked, AtRest, batch_bytes, batches_bytes, next_number, may_follow, with_rec, joined, recs_of, first_number, began, no_counters, with_body, going_on, judged, opened}
+use Rattle.wal_core.specs.Log.{history_in, history_on, bytes_of, end_with, counters_or_none, MayAppend, IsReady}
+use Rattle.wal_records.specs.Lawful.{are_lawful}
+use Rattle.wal_core.specs.Checkpoint.{IsLastCheckpoint, record_of, begun_with, kept_from, numbered, MayBegin}
 use Rattle.wal_core.specs.declared.checkpoint.LastCheckpoint.{LastCheckpoint}
 use Rattle.wal_core.proofs.Gates.{batches-push}
-use Rattle.wal_core.proofs.Walks.{length-batch_bytes, gate_is, walked-at_rest, opened-at_rest, judged_none, judged_cons}
-use Rattle.wal_core.proofs.Flush.{goes}
-use Rattle.wal_core.proofs.Append.{continued, with_body-bytes, all_lawful, ready-push}
-use Rattle.wal_core.proofs.Starts.{opens_to}
+use Rattle.wal_core.proofs.Walks.{length-batch_bytes, gate_is, walked-at_rest, opened-at_rest, recs_of-bytes, judged_none, judged_cons}
+use Rattle.wal_core.proofs.Flush.{goes, opens_more}
+use Rattle.wal_core.proofs.Append.{continued, with_body-recs, ready-push}
+use Rattle.wal_records.proofs.LawfulTests.{all_lawful}
+use Rattle.wal_core.proofs.Starts.{opens_to, joined_next, not_under}
 
 -- ---- the last batch on its own
 
@@ -90,81 +92,93 @@ begins_alone k gate le base =
 some_counters : (a b : Counters) → Some a ≡ Some b → a ≡ b
 some_counters a b e = cc
 
--- ---- once it is flushed
+get_last : (recs : List Rec) (r : Rec) → slice_get (recs ++ r ∷ []) (length recs) ≡ Some r
+get_last [] r = refl
+get_last (x ∷ recs) r = get_last recs r
 
-flushed_at : (k : LastCheckpoint) (v w : Volume) (gate_2 next : ℕ) → is_lawful (record_of k) ≡ true → IsReady k.gate (record_of k ∷ []) (Some k.counters) next v → next ≤ k.gate + 1
-    → gate_2 ≡ k.gate + (5 + length (bytes_of (record_of k ∷ []))) → AtRest w ((walked v).bodies ++ bytes_of (record_of k ∷ []) ∷ []) gate_2 → (k.number + 1 ≡ next) × MayBegin k gate_2 [] (Some k.counters) next w
-flushed_at k v w gate_2 next lawful ready low place rest =
-    let r : Rec = record_of k in let body : List ℕ = bytes_of (r ∷ []) in let bodies : List (List ℕ) = (walked v).bodies in
-    let all = all_lawful (r ∷ []) (and_from _ _ lawful refl) in
-    let g = goes k.gate (r ∷ []) (Some k.counters) next v (omega arith) ready in
-    let y = came_next k.gate (history_on v) r g.there (sym (with_body-bytes k.gate (history_on v) (r ∷ []) all) ∙ g.comes) in
+numbered_last : (y : History) (r : Rec) (n : ℕ) → n ≡ next_number y → numbered n (Some (with_rec y r)) ≡ Some r
+numbered_last y r n is =
+    let low : ltb n y.first ≡ false = le-ltb n y.first (omega (arith, is)) in
+    let place : n - y.first ≡ length y.recs = omega (arith, is) in
+    ap (λ (b : Bool). cond b None (slice_get (y.recs ++ r ∷ []) (n - y.first))) low ∙ ap (slice_get (y.recs ++ r ∷ [])) place ∙ get_last y.recs r
+
+-- the number of the checkpoint isn't past its gate, where those before it aren't
+low_number : (k : LastCheckpoint) (before : Option History) (x : History) → continued k.gate before (record_of k ∷ []) ≡ Some x → ((y : History) → before ≡ Some y → next_number y ≤ k.gate) → next_number x ≤ k.gate + 1
+low_number k (Some y) x comes low = omega (arith, joined_next (record_of k ∷ []) y x comes, low y refl)
+low_number k None x comes low =
+    let u = not_under (ltb k.gate k.number) (joined (began k.number) (record_of k ∷ [])) x comes in
+    omega (arith, joined_next (record_of k ∷ []) (began k.number) x u.1, ltb-false k.gate k.number u.0)
+
+-- ---- once it is the last batch
+
+-- the volume's last batch, behind what this history came of, is the checkpoint
+pub stands_last : (k : LastCheckpoint) (w : Volume) (bodies : List (List ℕ)) (body : List ℕ) (gate : ℕ) (before : Option History) (x : History) → recs_of body ≡ Some (record_of k ∷ []) → with_body k.gate before body ≡ Some x
+    → ((y : History) → before ≡ Some y → next_number y ≤ k.gate) → x.counters ≡ k.counters → gate ≡ k.gate + (5 + length body) → AtRest w (bodies ++ body ∷ []) gate → history_on w ≡ Some x → MayBegin k gate [] (Some k.counters) (next_number x) w
+stands_last k w bodies body gate before x one comes low after place rest there =
+    let r : Rec = record_of k in
+    let by_recs : continued k.gate before (r ∷ []) ≡ Some x = sym (with_body-recs k.gate before body (r ∷ []) one) ∙ comes in
+    let y = came_next k.gate before r x by_recs in
     let may = and_parts _ _ y.1.0 in
     let number : k.number ≡ next_number y.0 = eqb-true k.number (next_number y.0) may.0 in
-    let after : next ≡ next_number y.0 + 1 = omega (arith, g.next_is, ap next_number (sym y.1.1), length-append y.0.recs (r ∷ [])) in
-    let counters : after_record y.0.counters r ≡ k.counters = ap (λ (x : History). x.counters) y.1.1 ∙ sym (some_counters k.counters g.there.counters g.counters_are) in
+    let next : k.number + 1 ≡ next_number x = omega (arith, number, ap next_number (sym y.1.1), length-append y.0.recs (r ∷ [])) in
+    let counters : after_record y.0.counters r ≡ k.counters = ap (λ (h : History). h.counters) y.1.1 ∙ after in
     let base : is_base_of k.counters ≡ true = ap is_base_of (sym counters) ∙ may.1 in
-    let comes : with_body k.gate None body ≡ Some (begun_with k) = with_body-bytes k.gate None (r ∷ []) all ∙ begins_alone k k.gate (omega (arith, number, after, low)) base in
-    let here = stands_at w bodies body k.gate gate_2 place rest in
+    let alone : with_body k.gate None body ≡ Some (begun_with k) =
+    with_body-recs k.gate None body (r ∷ []) one ∙ begins_alone k k.gate (omega (arith, next, low_number k before x by_recs low)) base in
     let u : Volume = kept_from k.gate w in
-    let rest_u : AtRest u (body ∷ []) gate_2 = alone_rest w bodies body k.gate gate_2 place rest in
-    let opens : opened u ≡ Ok (record { history = Some (begun_with k); gate = gate_2 }) = alone_opens w bodies body k.gate gate_2 place rest (begun_with k) comes in
-    let there : history_on u ≡ Some (begun_with k) = ap history_in opens in
-    let same : (walked u).bodies ≡ body ∷ [] = ap (λ (x : Walked). x.bodies) (walked-at_rest u (body ∷ []) gate_2 rest_u) in
-    let one : k.number + 1 ≡ next = omega (arith, number, after) in (
-      one,
-      record {
-        stands = omega (arith, here);
-        ready = record {
-          at_rest = subst (λ (b : List (List ℕ)). AtRest u b gate_2) (sym same) rest_u;
-          opens = opens ∙ (λ i. Ok (record { history = sym there i; gate = gate_2 }));
-          ends = ap (λ (o : Option History). end_with gate_2 o []) there ∙ (λ i. Some (record { counters = Some k.counters; next = one i }));
-        };
-        alone = there;
-      },
-    )
+    let rest_u : AtRest u (body ∷ []) gate = alone_rest w bodies body k.gate gate place rest in
+    let opens : opened u ≡ Ok (record { history = Some (begun_with k); gate = gate }) = alone_opens w bodies body k.gate gate place rest (begun_with k) alone in
+    let there_u : history_on u ≡ Some (begun_with k) = ap history_in opens in
+    let same : (walked u).bodies ≡ body ∷ [] = ap (λ (v : Walked). v.bodies) (walked-at_rest u (body ∷ []) gate rest_u) in
+    record {
+      has = ap (numbered k.number) (there ∙ ap (λ (h : History). Some h) (sym y.1.1)) ∙ numbered_last y.0 r k.number number;
+      stands = omega (arith, stands_at w bodies body k.gate gate place rest);
+      ready = record {
+        at_rest = subst (λ (b : List (List ℕ)). AtRest u b gate) (sym same) rest_u;
+        opens = opens ∙ (λ i. Ok (record { history = sym there_u i; gate = gate }));
+        ends = ap (λ (o : Option History). end_with gate o []) there_u ∙ (λ i. Some (record { counters = Some k.counters; next = next i }));
+      };
+      alone = there_u;
+    }
 
-listed_at : (recs : List Rec) (n : ℕ) (r : Rec) → drop n recs ≡ r ∷ [] → (slice_get recs n ≡ Some r) × (length recs ≡ n + 1)
-listed_at [] ℕ.zero r e = absurd cc
-listed_at [] (ℕ.suc n) r e = absurd cc
-listed_at (x ∷ recs) ℕ.zero r e = (ap (λ (l : List Rec). slice_get l 0) e, ap length e)
-listed_at (x ∷ recs) (ℕ.suc n) r e = let l = listed_at recs n r e in (l.0, omega (arith, l.1))
+-- the same, as a log's state tells it
+pub turned : (k : LastCheckpoint) (gate : ℕ) (left : List Rec) (counters : Option Counters) (next : ℕ) (x : History) (w : Volume) → left ≡ [] → counters ≡ Some k.counters → next ≡ next_number x → MayBegin k gate [] (Some k.counters) (next_number x) w → MayBegin k gate left counters next w
+turned k gate left counters next x w none after last begins =
+    subst (λ (p : List Rec). MayBegin k gate p counters next w) (sym none) (subst (λ (o : Option Counters). MayBegin k gate [] o next w) (sym after) (subst (λ (n : ℕ). MayBegin k gate [] (Some k.counters) n w) (sym last) begins))
 
--- what a flush of these records leaves
-pub record Flushed (k : LastCheckpoint) (gate : ℕ) (left : List Rec) (counters : Option Counters) (next from : ℕ) (recs : List Rec) (w : Volume) : Type 0 where
-  pub begins : MayBegin k gate left counters next w
-  pub listed : IsListed k from recs
+-- ---- once it is flushed
+
+one_rec : (n : ℕ) (recs : List Rec) (r : Rec) → drop n recs ≡ r ∷ [] → length recs ≡ n + 1
+one_rec ℕ.zero recs r e = ap length e
+one_rec (ℕ.suc n) [] r e = absurd cc
+one_rec (ℕ.suc n) (x ∷ recs) r e = omega (arith, one_rec n recs r e)
 
 pub flushed_alone : (k : LastCheckpoint) (v w : Volume) (gate gate_2 from flushed : ℕ) (recs left : List Rec) (counters : Option Counters) (body : List ℕ) → IsLastCheckpoint gate (drop flushed recs) counters (Some k)
     → are_lawful (drop flushed recs) ≡ true → IsReady gate (drop flushed recs) counters (from + length recs) v → from + flushed ≤ gate → body ≡ bytes_of (drop flushed recs) → gate_2 ≡ gate + (5 + length (bytes_of (drop flushed recs)))
-    → AtRest w ((walked v).bodies ++ body ∷ []) gate_2 → left ≡ [] → Flushed k gate_2 left counters (from + length recs) from recs w
+    → AtRest w ((walked v).bodies ++ body ∷ []) gate_2 → left ≡ [] → MayBegin k gate_2 left counters (from + length recs) w
 flushed_alone k v w gate gate_2 from flushed recs left counters body last lawful ready low is place rest none =
-    let r : Rec = record_of k in let next : ℕ = from + length recs in
-    let l = listed_at recs flushed r last.1.0 in
-    let at : IsReady k.gate (r ∷ []) (Some k.counters) next v = subst (λ (n : ℕ). IsReady n (r ∷ []) (Some k.counters) next v) (sym last.0) (subst (λ (o : Option Counters). IsReady gate (r ∷ []) o next v) last.1.1 (subst (λ (p : List Rec). IsReady gate p counters next v) last.1.0 ready)) in
-    let alone : is_lawful r ≡ true = (and_parts _ _ (sym (ap are_lawful last.1.0) ∙ lawful)).0 in
-    let bytes : body ≡ bytes_of (r ∷ []) = is ∙ ap bytes_of last.1.0 in
-    let place_2 : gate_2 ≡ k.gate + (5 + length (bytes_of (r ∷ []))) = omega (arith, place, ap length (ap bytes_of last.1.0), last.0) in
-    let f = flushed_at k v w gate_2 next alone at (omega (arith, low, l.1, last.0)) place_2 (subst (λ (b : List ℕ). AtRest w ((walked v).bodies ++ b ∷ []) gate_2) bytes rest) in
-    let place_3 : k.number - from ≡ flushed = omega (arith, f.0, l.1) in
-    record {
-      begins = subst (λ (p : List Rec). MayBegin k gate_2 p counters next w) (sym none) (subst (λ (o : Option Counters). MayBegin k gate_2 [] o next w) (sym last.1.1) f.1);
-      listed = record { later = omega (arith, f.0, l.1); there = ap (slice_get recs) place_3 ∙ l.0 };
-    }
+    let r : Rec = record_of k in let pending : List Rec = drop flushed recs in let next : ℕ = from + length recs in
+    let long : length recs ≡ flushed + 1 = one_rec flushed recs r last.1.0 in
+    let some : 0 < length pending = omega (arith, ap length last.1.0) in
+    let g = goes gate pending counters next v some ready in
+    let one : recs_of body ≡ Some (r ∷ []) = ap recs_of is ∙ recs_of-bytes pending (all_lawful pending lawful) ∙ ap (λ (l : List Rec). Some l) last.1.0 in
+    let comes : with_body k.gate (history_on v) body ≡ Some g.there = (λ i. with_body (last.0 i) (history_on v) (is i)) ∙ g.comes in
+    let after : g.there.counters ≡ k.counters = some_counters g.there.counters k.counters (sym g.counters_are ∙ last.1.1) in
+    let rest_2 : AtRest w ((walked v).bodies ++ bytes_of pending ∷ []) (gate + (5 + length (bytes_of pending))) =
+    subst (λ (n : ℕ). AtRest w ((walked v).bodies ++ bytes_of pending ∷ []) n) place (subst (λ (b : List ℕ). AtRest w ((walked v).bodies ++ b ∷ []) gate_2) is rest) in
+    let there : history_on w ≡ Some g.there = ap history_in (opens_more gate pending counters next some v ready g w rest_2) in
+    let before : (y : History) → history_on v ≡ Some y → next_number y ≤ k.gate = λ y e.
+    let more : next_number g.there ≡ next_number y + length pending = joined_next pending y g.there (sym (with_body-recs gate (Some y) (bytes_of pending) pending (recs_of-bytes pending (all_lawful pending lawful))) ∙ ap (λ (o : Option History). with_body gate o (bytes_of pending)) (sym e) ∙ g.comes) in
+    omega (arith, more, g.next_is, long, ap length last.1.0, low, last.0) in
+    turned k gate_2 left counters next g.there w none last.1.1 g.next_is
+    (stands_last k w (walked v).bodies body gate_2 (history_on v) g.there one comes before after (omega (arith, place, last.0, ap length is)) rest there)
 
 -- ---- one record more
-
-get_push : (recs : List Rec) (n : ℕ) (x y : Rec) → slice_get recs n ≡ Some x → slice_get (recs ++ y ∷ []) n ≡ Some x
-get_push [] n x y e = absurd cc
-get_push (r ∷ recs) ℕ.zero x y e = e
-get_push (r ∷ recs) (ℕ.suc n) x y e = get_push recs n x y e
-
-pub listed-push : (k : LastCheckpoint) (from : ℕ) (recs recs_2 : List Rec) (r : Rec) → recs_2 ≡ recs ++ r ∷ [] → IsListed k from recs → IsListed k from recs_2
-listed-push k from recs recs_2 r is listed = record { later = listed.later; there = ap (λ (l : List Rec). slice_get l (k.number - from)) is ∙ get_push recs (k.number - from) (record_of k) r listed.there }
 
 pub begins-push : (k : LastCheckpoint) (gate : ℕ) (counters : Option Counters) (next : ℕ) (r : Rec) → MayAppend counters next r → (pending pending_2 : List Rec) (counters_2 : Option Counters) (next_2 : ℕ) (v : Volume)
     → pending_2 ≡ pending ++ r ∷ [] → counters_2 ≡ Some (after_record (counters_or_none counters) r) → next_2 ≡ next + 1 → are_lawful pending ≡ true → MayBegin k gate pending counters next v → MayBegin k gate pending_2 counters_2 next_2 v
 begins-push k gate counters next r may pending pending_2 counters_2 next_2 v p c n lawful begins = record {
+  has = begins.has;
   stands = begins.stands;
   ready = ready-push gate counters next r may pending pending_2 counters_2 next_2 (kept_from k.gate v) p c n lawful begins.ready;
   alone = begins.alone;
@@ -189,10 +203,11 @@ forgotten k gate pending counters next d c forgot ready begins = elim forgot.sta
       }
   | inr raised ↦
       let here : c.start ≡ k.gate = omega (arith, raised, begins.stands) in
+      let own : numbered k.number (Some (begun_with k)) ≡ Some (record_of k) = numbered_last (began k.number) (record_of k) k.number (omega arith) in
       let same : c ≡ kept_from k.gate d = λ i. record { start = here i; bytes = forgot.bytes i } in
       record {
         ready = subst (λ (x : Volume). IsReady gate pending counters next x) (sym same) begins.ready;
-        begins = subst (λ (x : Volume). MayBegin k gate pending counters next x) (sym same) (record { stands = omega arith; ready = begins.ready; alone = begins.alone });
+        begins = subst (λ (x : Volume). MayBegin k gate pending counters next x) (sym same) (record { has = ap (numbered k.number) begins.alone ∙ own; stands = omega arith; ready = begins.ready; alone = begins.alone });
         opens = inr (ap opened same ∙ begins.ready.opens ∙ ap (λ (h : Option History). Ok (record { history = h; gate = gate })) begins.alone);
       }
 ]

@@ -5,9 +5,9 @@ use Rattle.tx_model.specs.After.{after_record}
 use Rattle.tx_model.specs.declared.record.Rec.{Rec}
 use Rattle.tx_model.specs.declared.record.Rec.TheVariants as records
 use Rattle.tx_model.specs.declared.record.Counters.{Counters}
-use Rattle.wal_core.specs.declared.stop.Stop.{Stop}
-use Rattle.wal_core.specs.declared.stop.Stop.TheVariants as stops
-use Rattle.wal_core.specs.Reading.{◌>>=◌, Stops, rec_at}
+use Rattle.wal_records.specs.declared.stop.Stop.{Stop}
+use Rattle.wal_records.specs.declared.stop.Stop.TheVariants as stops
+use Rattle.wal_records.specs.Reading.{◌>>=◌, Stops, rec_at}
 use Rattle.wal_core.specs.BaseTest.{is_base_of}
 use Rattle.wal_core.specs.Opening.{History, next_number, number_fits, may_follow, with_rec, joined, recs_in, first_number, began, with_body, no_counters}
 use Rattle.wal_core.specs.Past.{begun, joins}

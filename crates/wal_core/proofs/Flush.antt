@@ -4,12 +4,12 @@ use Rattle.std.proofs.lemmas.List.{take_at, drop_at}
 use Rattle.tx_model.specs.declared.record.Rec.{Rec}
 use Rattle.tx_model.specs.declared.record.Counters.{Counters}
 use Rattle.disk_core.specs.Volume.{Volume}
-use Rattle.wal_core.specs.Numbers.{le_bytes}
-use Rattle.wal_core.specs.Reading.{◌>>=◌}
+use Rattle.wal_records.specs.Numbers.{le_bytes}
+use Rattle.wal_records.specs.Reading.{◌>>=◌}
 use Rattle.wal_core.specs.Opening.{History, Walked, walked, AtRest, IsBeforeOrAfter, with_body, opened, behind_gate, body_in, IsBehindGate, next_number}
 use Rattle.wal_core.specs.Crash.{IsFromImage}
 use Rattle.wal_core.specs.Log.{history_in, history_on, bytes_of, End, end_of, end_with, IsReady, IsNextBatch, OpensBeforeOrAfter, OpensFromImage}
-use Rattle.wal_core.proofs.Fields.{length-le_bytes}
+use Rattle.wal_records.proofs.Fields.{length-le_bytes}
 use Rattle.wal_core.proofs.Gates.{length-behind}
 use Rattle.wal_core.proofs.Walks.{walked-at_rest, opened_same, opened_more}
 
@@ -65,7 +65,7 @@ goes gate (r ∷ recs) counters next v some ready =
     record { there = x.0; comes = x.1; counters_are = x.2.0; next_is = x.2.1 }
 
 module _ (gate : ℕ) (pending : List Rec) (counters : Option Counters) (next : ℕ) (some : 0 < length pending) where
-  opens_more : (v : Volume) → IsReady gate pending counters next v → (g : Goes gate pending counters next v) (c : Volume) → AtRest c ((walked v).bodies ++ bytes_of pending ∷ []) (gate + (5 + length (bytes_of pending)))
+  pub opens_more : (v : Volume) → IsReady gate pending counters next v → (g : Goes gate pending counters next v) (c : Volume) → AtRest c ((walked v).bodies ++ bytes_of pending ∷ []) (gate + (5 + length (bytes_of pending)))
       → opened c ≡ Ok (record { history = Some g.there; gate = gate + (5 + length (bytes_of pending)) })
   opens_more v ready g c rest = opened_more v c (walked v).bodies (bytes_of pending) gate (gate + (5 + length (bytes_of pending))) (history_on v) g.there ready.at_rest rest ready.opens g.comes refl
 

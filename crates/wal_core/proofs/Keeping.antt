@@ -1,19 +1,23 @@
 -- Each call keeps the promise over the whole list of records.
 use Rattle.std.proofs.Common.{◌≡◌, ◌⊎◌, inl, inr, ℕ, ◌+◌, ◌-◌, ◌<◌, ◌≤◌, Bool, true, false, cond, ltb, List, [], ◌∷◌, ◌++◌, length, take, drop, Option, Some, None, Result, Ok, Err, refl, sym, ◌∙◌, ap, subst, arith}
 use Rattle.std.specs.List.{slice_get}
+use Rattle.std.proofs.lemmas.Bool.{ltb-false}
 use Rattle.std.proofs.lemmas.List.{length-append, append_assoc, append-nil, drop_at, length-drop, take-append-drop}
 use Rattle.tx_model.specs.declared.record.Rec.{Rec}
 use Rattle.tx_model.specs.declared.record.Counters.{Counters}
 use Rattle.disk_core.specs.Volume.{Volume}
-use Rattle.wal_core.specs.Reading.{◌>>=◌}
+use Rattle.wal_records.specs.Reading.{◌>>=◌}
 use Rattle.wal_core.specs.Opening.{History, Opened, next_number, may_follow, with_rec, joined, first_number, began, with_body, opened}
 use Rattle.wal_core.specs.Contents.{history_with}
-use Rattle.wal_core.specs.Log.{history_in, history_on, bytes_of, are_lawful, End, end_of, end_with, IsReady, OpensBeforeOrAfter, OpensFromImage}
-use Rattle.wal_core.specs.Checkpoint.{record_of, begun_with, MayBegin, IsListed}
+use Rattle.wal_core.specs.Past.{recs_so_far}
+use Rattle.wal_core.specs.Log.{history_in, history_on, bytes_of, End, end_of, end_with, IsReady, OpensBeforeOrAfter, OpensFromImage}
+use Rattle.wal_records.specs.Lawful.{are_lawful}
+use Rattle.wal_core.specs.Checkpoint.{record_of, begun_with, numbered, MayBegin}
 use Rattle.wal_core.specs.declared.checkpoint.LastCheckpoint.{LastCheckpoint}
 use Rattle.wal_core.specs.Kept.{IsStretch, HasRecords, OpensToRecords, HasFlushed, Keeps}
 use Rattle.wal_core.proofs.Flush.{goes, goes_by}
-use Rattle.wal_core.proofs.Append.{continued, with_body-bytes, all_lawful}
+use Rattle.wal_core.proofs.Append.{continued, with_body-bytes}
+use Rattle.wal_records.proofs.LawfulTests.{all_lawful}
 
 -- ---- records that were joined
 
@@ -44,16 +48,11 @@ begun_at : (gate : ℕ) (recs : List Rec) (x : History) (n : Option ℕ) → (n 
 begun_at gate recs x None e = absurd cc
 begun_at gate recs x (Some n) e = (n, joined_all recs (began n) x (not_passed (ltb gate n) (joined (began n) recs) x e))
 
--- the records behind the history, or without one
-abbrev in_front : Option History → List Rec
-in_front None = []
-in_front (Some h) = h.recs
-
 pub record GoesOn (h : Option History) (recs : List Rec) (x : History) : Type 0 where
-  pub recs_are : x.recs ≡ in_front h ++ recs
+  pub recs_are : x.recs ≡ recs_so_far h ++ recs
   pub same_first : (k : History) → h ≡ Some k → x.first ≡ k.first
 
-goes_on : (gate : ℕ) (h : Option History) (recs : List Rec) (x : History) → continued gate h recs ≡ Some x → GoesOn h recs x
+pub goes_on : (gate : ℕ) (h : Option History) (recs : List Rec) (x : History) → continued gate h recs ≡ Some x → GoesOn h recs x
 goes_on gate (Some h) recs x e =
     let j = joined_all recs h x e in
     record { recs_are = j.recs_are; same_first = λ k is. j.first ∙ ap (λ (y : History). y.first) (some_is h k is) }
@@ -85,7 +84,7 @@ same_end xs ys end_x end_y e long =
 
 -- ---- what a flush leaves
 
-ends_none : (gate : ℕ) (h : Option History) (counters : Option Counters) (next : ℕ) → end_with gate h [] ≡ Some (record { counters = counters; next = next }) → end_of h ≡ record { counters = counters; next = next }
+pub ends_none : (gate : ℕ) (h : Option History) (counters : Option Counters) (next : ℕ) → end_with gate h [] ≡ Some (record { counters = counters; next = next }) → end_of h ≡ record { counters = counters; next = next }
 ends_none gate h counters next e = cc
 
 module _ (first : ℕ) (all : List Rec) (flushed gate : ℕ) (pending : List Rec) (counters : Option Counters) (next : ℕ) where
@@ -153,22 +152,35 @@ ends_count gate x (r ∷ recs) counters next lawful e =
     let on = goes_on gate (Some x) (r ∷ recs) g.0 (sym (with_body-bytes gate (Some x) (r ∷ recs) (all_lawful (r ∷ recs) lawful)) ∙ g.1) in
     omega (arith, g.2.1, on.same_first x refl, ap length on.recs_are, length-append x.recs (r ∷ recs))
 
-pub forget_leaves : (k : LastCheckpoint) (first : ℕ) (all recs : List Rec) (from flushed gate : ℕ) (counters : Option Counters) (images : Volume → Type 0) (d c : Volume) → IsListed k from recs → are_lawful (drop flushed recs) ≡ true → flushed ≤ length recs
-    → Keeps first all recs (from + length recs) (from + flushed) images → images d → MayBegin k gate (drop flushed recs) counters (from + length recs) d → (opened c ≡ opened d) ⊎ (opened c ≡ Ok (record { history = Some (begun_with k); gate = gate }))
-    → HasFlushed first all (from + flushed) c
-forget_leaves k first all recs from flushed gate counters images d c listed lawful low keeps left begins (inl same) = subst (OpensToRecords first all (from + flushed)) (sym same) (keeps.each d left)
-forget_leaves k first all recs from flushed gate counters images d c listed lawful low keeps left begins (inr alone) =
-    let n : ℕ = k.number - from in
-    let s = split_at recs n (record_of k) listed.there in
+-- a record that a stretch of the list has
+stretch_of : (first : ℕ) (all : List Rec) (flushed n : ℕ) (r : Rec) (h : Option History) → numbered n h ≡ Some r → HasRecords first all flushed h → IsStretch first all n (r ∷ [])
+stretch_of first all flushed n r None there has = absurd cc
+stretch_of first all flushed n r (Some h) there has =
+    let s : IsStretch first all h.first h.recs = has.0 in
+    let u = not_lower (ltb n h.first) (slice_get h.recs (n - h.first)) there in
+    let k : ℕ = n - h.first in
+    let p = split_at h.recs k r u.1 in
+    record {
+      before = s.before ++ take k h.recs;
+      after = drop (ℕ.suc k) h.recs ++ s.after;
+      split = s.split ∙ ap (λ (l : List Rec). s.before ++ (l ++ s.after)) p.0 ∙ simp append_assoc;
+      place = omega (arith, s.place, length-append s.before (take k h.recs), p.1, ltb-false n h.first u.0);
+    }
+  where
+    not_lower : (b : Bool) (o : Option Rec) → cond b None o ≡ Some r → (b ≡ false) × (o ≡ Some r)
+    not_lower true o e = absurd cc
+    not_lower false o e = (refl, e)
+
+pub forget_leaves : (k : LastCheckpoint) (first : ℕ) (all recs : List Rec) (from flushed gate : ℕ) (counters : Option Counters) (images : Volume → Type 0) (d c : Volume) → are_lawful (drop flushed recs) ≡ true → flushed ≤ length recs
+    → Keeps first all recs (from + length recs) (from + flushed) images → images d → IsReady gate (drop flushed recs) counters (from + length recs) d → MayBegin k gate (drop flushed recs) counters (from + length recs) d
+    → (opened c ≡ opened d) ⊎ (opened c ≡ Ok (record { history = Some (begun_with k); gate = gate })) → HasFlushed first all (from + flushed) c
+forget_leaves k first all recs from flushed gate counters images d c lawful low keeps left ready begins (inl same) = subst (OpensToRecords first all (from + flushed)) (sym same) (keeps.each d left)
+forget_leaves k first all recs from flushed gate counters images d c lawful low keeps left ready begins (inr alone) =
+    let has : HasRecords first all (from + flushed) (history_on d) = subst (OpensToRecords first all (from + flushed)) ready.opens (keeps.each d left) in
     let ends : end_with gate (Some (begun_with k)) (drop flushed recs) ≡ Some (record { counters = counters; next = from + length recs }) = ap (λ (h : Option History). end_with gate h (drop flushed recs)) (sym begins.alone) ∙ begins.ready.ends in
     let last : from + length recs ≡ k.number + 1 + length (drop flushed recs) = ends_count gate (begun_with k) (drop flushed recs) counters (from + length recs) lawful ends in
     subst (OpensToRecords first all (from + flushed)) (sym alone) (
-      record {
-        before = keeps.earlier ++ take n recs;
-        after = drop (ℕ.suc n) recs;
-        split = keeps.whole ∙ ap (λ (l : List Rec). keeps.earlier ++ l) s.0 ∙ sym (append_assoc keeps.earlier (take n recs) (record_of k ∷ drop (ℕ.suc n) recs));
-        place = omega (arith, keeps.count, ap length keeps.whole, length-append keeps.earlier recs, length-append keeps.earlier (take n recs), s.1, listed.later);
-      },
+      stretch_of first all (from + flushed) k.number (record_of k) (history_on d) begins.has has,
       omega (arith, last, length-drop flushed recs, low),
     )
 

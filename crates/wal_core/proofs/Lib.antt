@@ -1,7 +1,3 @@
-pub mod Loop
-pub mod Fields
-pub mod Records
-pub mod ReadLemmas
 pub mod Gates
 pub mod Steps
 pub mod Walks
@@ -14,7 +10,8 @@ pub mod News
 pub mod Append
 pub mod Rests
 pub mod Starts
-pub mod LawfulTests
+pub mod NextRecs
 pub mod Begins
 pub mod GateWrites
 pub mod Keeping
+pub mod LastBatches

@@ -5,10 +5,10 @@ use Rattle.std.proofs.lemmas.Bool.{eqb-true, ltb-false}
 use Rattle.std.proofs.lemmas.List.{take-append-drop, length-take, length-append, drop-take, drop-drop, drop_more, drop_at}
 use Rattle.std.proofs.Math.Seq.{take-append-add}
 use Rattle.disk_core.specs.Volume.{Volume}
-use Rattle.wal_core.specs.Numbers.{le_bytes}
-use Rattle.wal_core.specs.Reading.{number_at}
+use Rattle.wal_records.specs.Numbers.{le_bytes}
+use Rattle.wal_records.specs.Reading.{number_at}
 use Rattle.wal_core.specs.Opening.{Walked, ended, behind, walk, batch_at, batch_bytes, batches_bytes, BeginsOpen, AtRest}
-use Rattle.wal_core.proofs.Fields.{IsBytes, IsBytes-drop, IsBytes-rest, bind_some, guard_some, number_takes}
+use Rattle.wal_records.proofs.Fields.{IsBytes, IsBytes-drop, IsBytes-rest, bind_some, guard_some, number_takes}
 use Rattle.wal_core.proofs.Walks.{length-batch_bytes, batch_in_front}
 use Rattle.wal_core.proofs.Scanning.{shorter}
 

@@ -2,8 +2,9 @@
 use Rattle.std.proofs.Common.{◌≡◌, inl, inr, ℕ, zero, suc, ◌+◌, ◌<◌, ◌≤◌, Bool, true, false, cond, eqb, ltb, List, [], ◌∷◌, length, take, drop, Option, Some, None, Result, Ok, Err, refl, sym, ◌∙◌, ap, arith}
 use Rattle.std.proofs.lemmas.Bool.{ne_eqb, cases_lt, lt-ltb, le-ltb}
 use Rattle.std.proofs.lemmas.List.{length-drop, length-take}
-use Rattle.wal_core.specs.Numbers.{le_number}
-use Rattle.wal_core.specs.Reading.{◌>>=◌}
+use Rattle.wal_records.specs.Numbers.{le_number}
+use Rattle.wal_records.specs.Reading.{◌>>=◌}
+use Rattle.wal_core.specs.LastBatch.{Batch, last_of}
 use Rattle.wal_core.specs.Opening.{History, Opened, Walked, ended, behind, walk, batch_at, judged, going_on, with_body, opened_as, opened_bytes, BeginsOpen}
 
 -- what is found from a gate on, in a volume that starts at s
@@ -156,11 +157,31 @@ module _ (s at : ℕ) (h : Option History) (xs : List ℕ) where
       by_history None begins = ap (λ (p : ℕ). Err p) (sym (begins refl))
       by_history (Some x) begins = let here : at + 0 ≡ at = omega arith in ap (λ (p : ℕ). Err p) here
 
+-- the batch in front, and those behind it
+walk_batch : (xs body rest : List ℕ) → batch_at xs ≡ Some (body, rest) → (walk (length xs + 2) (1 ∷ xs)).bodies ≡ body ∷ (walk (length rest + 1) rest).bodies
+walk_batch xs body rest e =
+    let n : ℕ = length xs + 1 in
+    let fuel : length xs + 2 ≡ suc n = omega arith in
+    let fewer : length rest ≤ length xs = shorter xs body rest e in
+    ap (λ (m : ℕ). (walk m (1 ∷ xs)).bodies) fuel ∙ ap (λ (w : Walked). w.bodies) (walk_one n xs) ∙ ap (λ (b : Option (List ℕ × List ℕ)). (behind b (walk n)).bodies) e
+    ∙ ap (λ (w : Walked). body ∷ w.bodies) (walk-enough n (length rest + 1) rest (omega arith) (omega arith))
+
+pub last_goes_on : (before : Option Batch) (at : ℕ) (rest after body left : List ℕ) → rest ≡ 1 ∷ after → batch_at after ≡ Some (body, left)
+    → last_of (Some (at, body)) (at + (5 + length body)) (walk (length left + 1) left).bodies ≡ last_of before at (walk (length rest + 1) rest).bodies
+last_goes_on before at rest after body left is e =
+    let fuel : length (1 ∷ after) + 1 ≡ length after + 2 = omega arith in
+    let whole : (walk (length rest + 1) rest).bodies ≡ body ∷ (walk (length left + 1) left).bodies =
+    ap (λ (l : List ℕ). (walk (length l + 1) l).bodies) is ∙ ap (λ (n : ℕ). (walk n (1 ∷ after)).bodies) fuel ∙ walk_batch after body left e in
+    sym (ap (last_of before at) whole)
+
 walk_shut : (n : ℕ) (xs : List ℕ) → (BeginsOpen xs → ⊥) → walk n xs ≡ ended true
 unfolding walk
 walk_shut zero xs shut = refl
 walk_shut (suc n) [] shut = refl
 walk_shut (suc n) (g ∷ xs) shut = rw (ne_eqb g 1 shut) refl
+
+pub last_ends : (before : Option Batch) (n at : ℕ) (xs : List ℕ) → (BeginsOpen xs → ⊥) → last_of before at (walk n xs).bodies ≡ before
+last_ends before n at xs shut = ap (λ (w : Walked). last_of before at w.bodies) (walk_shut n xs shut)
 
 pub scan_end : (s n at : ℕ) (x : History) (xs : List ℕ) → (BeginsOpen xs → ⊥) → scanning s n at (Some x) xs ≡ Ok (record { history = Some x; gate = at })
 scan_end s n at x xs shut =

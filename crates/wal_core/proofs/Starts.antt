@@ -7,11 +7,11 @@ use Rattle.std.proofs.lemmas.List.{length-append, length-take, length-drop, leng
 use Rattle.tx_model.specs.declared.record.Rec.{Rec}
 use Rattle.tx_model.specs.declared.record.Counters.{Counters}
 use Rattle.disk_core.specs.Volume.{Volume}
-use Rattle.wal_core.specs.Reading.{◌>>=◌, rec_at}
+use Rattle.wal_records.specs.Reading.{◌>>=◌, rec_at}
 use Rattle.wal_core.specs.Opening.{History, Opened, Walked, walked, next_number, may_follow, with_rec, joined, recs_in, recs_of, first_number, began, with_body, judged, batches_bytes, batch_bytes, is_new, opened_as, opened, AtRest, BeginsOpen, behind_gate}
-use Rattle.wal_core.specs.Numbers.{le_bytes}
+use Rattle.wal_records.specs.Numbers.{le_bytes}
 use Rattle.wal_core.specs.Log.{history_in, history_on, end_with, IsReady, GoesOn}
-use Rattle.wal_core.proofs.Fields.{IsBytes, bind_some}
+use Rattle.wal_records.proofs.Fields.{IsBytes, bind_some}
 use Rattle.wal_core.proofs.News.{opens_new, opens_short}
 use Rattle.wal_core.proofs.Rests.{RestsAs, walk_rests, rests_on, gate_closed}
 use Rattle.wal_core.proofs.Walks.{walked_to, is_empty, opened_at, opened-at_rest, walked-at_rest, length-batch_bytes, judged_none, judged_cons, onward}
@@ -22,7 +22,7 @@ under_test : (b : Bool) (p : Option History) (x : History) → cond b p None ≡
 under_test true p x e = e
 under_test false p x e = absurd cc
 
-not_under : (b : Bool) (p : Option History) (x : History) → cond b None p ≡ Some x → (b ≡ false) × (p ≡ Some x)
+pub not_under : (b : Bool) (p : Option History) (x : History) → cond b None p ≡ Some x → (b ≡ false) × (p ≡ Some x)
 not_under true p x e = absurd cc
 not_under false p x e = (refl, e)
 
@@ -80,7 +80,7 @@ judged_more (b ∷ bodies) at h x e =
     let o = onward at (with_body at (Some h) b) (judged bodies (at + (5 + length b))) (Some x) (sym (judged_cons b bodies at (Some h)) ∙ e) in
     omega (arith, judged_more bodies (at + (5 + length b)) o.0 x o.2, body_more at h b o.0 o.1, length-batches-more b bodies)
 
-judged_first : (bodies : List (List ℕ)) (at : ℕ) (x : History) → judged bodies at None ≡ Ok (Some x) → next_number x ≤ at + length (batches_bytes bodies)
+pub judged_first : (bodies : List (List ℕ)) (at : ℕ) (x : History) → judged bodies at None ≡ Ok (Some x) → next_number x ≤ at + length (batches_bytes bodies)
 judged_first [] at x e = absurd (none_judged x (sym (judged_none at None) ∙ e))
 judged_first (b ∷ bodies) at x e =
     let o = onward at (with_body at None b) (judged bodies (at + (5 + length b))) (Some x) (sym (judged_cons b bodies at None) ∙ e) in
@@ -157,7 +157,7 @@ old_goes_on v h gate fit e =
           let rest : AtRest u w.bodies gate = subst (λ (k : ℕ). AtRest u w.bodies k) (sym place) rest_0 in
           let opens : opened u ≡ opened_to h gate =
           opened-at_rest u w.bodies gate rest ∙ ap (λ (k : ℕ). opened_at k w.bodies) start ∙ opens_to v.start w.bodies h gate p.judged_is (omega (arith, place, reach)) in
-          (opens ∙ sym e, ready_so u w.bodies gate h rest opens);
+          record { opens = opens ∙ sym e; batches = λ some. ap (λ (x : Walked). x.bodies) (walked-at_rest u w.bodies gate rest); ready = ready_so u w.bodies gate h rest opens };
     }
   where
     positive : (bodies : List (List ℕ)) {n : ℕ} → n ≡ length (batches_bytes bodies) → is_empty bodies ≡ false → 0 < n
@@ -197,14 +197,16 @@ new_goes_on v zero_start e closed = record {
         closed = shut;
       } in
       let opens : opened u ≡ opened_new = opened-at_rest u [] 0 rest ∙ ap (λ (k : ℕ). opened_at k []) here in
-      let there : history_on u ≡ None = ap history_in opens in (
-        opens ∙ sym e,
-        record {
+      let there : history_on u ≡ None = ap history_in opens in
+      record {
+        opens = opens ∙ sym e;
+        batches = λ some. absurd cc;
+        ready = record {
           at_rest = subst (λ (b : List (List ℕ)). AtRest u b 0) (sym (ap (λ (x : Walked). x.bodies) (walked-at_rest u [] 0 rest))) rest;
           opens = opens ∙ (λ i. Ok (record { history = sym there i; gate = 0 }));
           ends = ap (λ (o : Option History). end_with 0 o []) there;
-        },
-      );
+        };
+      };
 }
 
 -- ---- what was read

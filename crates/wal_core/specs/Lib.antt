@@ -1,9 +1,6 @@
-pub mod Numbers
-pub mod Spelling
-pub mod Reading
-pub mod ReadRec
 pub mod BaseTest
 pub mod Opening
+pub mod LastBatch
 pub mod Crash
 pub mod Log
 pub mod Checkpoint

@@ -1,17 +1,14 @@
 -- The state of a log over a disk.
-use Rattle.std.specs.Prelude.{◌≡◌, ◌≢◌, ◌⊎◌, ℕ, ◌+◌, ◌<◌, ◌≤◌, ◌^◌, ◌&&◌, Bool, true, IsTrue, ◌-◌, List, [], ◌∷◌, ◌++◌, take, drop, remove, slice_index, length, nat_le, nat_lt, Option, Some, None, Result, Ok, Err, IsNone, IsSome, IfOk}
+use Rattle.std.specs.Prelude.{◌≡◌, ◌≢◌, ◌⊎◌, ℕ, ◌+◌, ◌<◌, ◌≤◌, ◌^◌, IsTrue, ◌-◌, List, [], ◌∷◌, ◌++◌, take, drop, remove, slice_index, length, Option, Some, None, Result, Ok, Err, IsNone, IsSome, IfOk}
 use Rattle.std.specs.List.{flat_map}
-use Rattle.xid_order.specs.Ids.{low_half}
 use Rattle.tx_model.specs.declared.record.Rec.{Rec}
-use Rattle.tx_model.specs.declared.record.Rec.TheVariants as records
 use Rattle.tx_model.specs.declared.record.Counters.{Counters}
-use Rattle.tx_model.specs.declared.multi.Member.{Member}
 use Rattle.tx_model.specs.After.{after_record}
 use Rattle.tx_model.specs.Base.{IsBase}
 use Rattle.disk_core.specs.Volume.{Volume}
-use Rattle.wal_core.specs.Numbers.{le_bytes}
-use Rattle.wal_core.specs.Spelling.{rec_bytes, IsLawful}
-use Rattle.wal_core.specs.Reading.{◌>>=◌}
+use Rattle.wal_records.specs.Numbers.{le_bytes}
+use Rattle.wal_records.specs.Spelling.{rec_bytes, IsLawful}
+use Rattle.wal_records.specs.Reading.{◌>>=◌}
 use Rattle.wal_core.specs.Opening.{History, Opened, walked, AtRest, with_body, opened, behind_gate, no_counters, number_fits, first_number, next_number}
 
 abbrev pub history_in : Result Opened ℕ → Option History
@@ -24,34 +21,6 @@ history_on v = history_in (opened v)
 
 abbrev pub bytes_of : List Rec → List ℕ
 bytes_of recs = flat_map rec_bytes recs
-
--- ---- lawful records, as a test
-
-abbrev pub is_id : ℕ → Bool
-is_id n = nat_le 3 (low_half n) && nat_lt n (2 ^ 64)
-
-abbrev pub is_multi : ℕ → Bool
-is_multi n = nat_le 1 (low_half n) && nat_lt n (2 ^ 64)
-
-abbrev pub ascend_from : ℕ → List ℕ → Bool
-ascend_from last [] = true
-ascend_from last (x ∷ xs) = nat_lt last x && (is_id x && ascend_from x xs)
-
-abbrev pub all_ids : List Member → Bool
-all_ids [] = true
-all_ids (m ∷ ms) = is_id m.id && all_ids ms
-
-abbrev pub is_lawful : Rec → Bool
-is_lawful (records.Commit top subs) = is_id top && (nat_lt (length subs) (2 ^ 32) && ascend_from top subs)
-is_lawful (records.Abort top subs) = is_id top && (nat_lt (length subs) (2 ^ 32) && ascend_from top subs)
-is_lawful (records.Multi multi offset members) = is_multi multi && (nat_lt offset (2 ^ 64) && (nat_le 1 (length members) && (nat_le (length members) 64 && all_ids members)))
-is_lawful (records.Checkpoint number c) =
-    nat_lt number (2 ^ 64) && (is_id c.next && (is_id c.oldest && (is_multi c.multi && (nat_lt c.offset (2 ^ 64) && (is_multi c.oldest_multi && nat_lt c.oldest_offset (2 ^ 64))))))
-is_lawful (records.Truncate oldest multi offset) = is_id oldest && (is_multi multi && nat_lt offset (2 ^ 64))
-
-abbrev pub are_lawful : List Rec → Bool
-are_lawful [] = true
-are_lawful (r ∷ recs) = is_lawful r && are_lawful recs
 
 -- ---- where records end
 
@@ -123,9 +92,15 @@ IsFull gate pending more = (2 ^ 40 < gate + 6 + pending + more) ⊎ (2 ^ 32 ≤ 
 
 -- ---- what is found at the start
 
+-- the volume opens as v does, has the same batches and is ready
+pub record AgainAs (gate : ℕ) (counters : Option Counters) (next : ℕ) (v u : Volume) : Type 0 where
+  pub opens : opened u ≡ opened v
+  pub batches : IsSome counters → (walked u).bodies ≡ (walked v).bodies
+  pub ready : IsReady gate [] counters next u
+
 -- once a closed gate stands behind these batches, the volume opens as it did and is ready
 pub record GoesOn (gate : ℕ) (counters : Option Counters) (next : ℕ) (v : Volume) : Type 0 where
   pub within : gate ≤ length v.bytes
   -- a byte behind an old log, or the first of more than one byte of a new log, is a closed gate
   pub closed : (counters ≡ None → 1 < length v.bytes) → gate < length v.bytes → slice_index v.bytes gate ≢ 1
-  pub again : (u : Volume) → u.start ≡ v.start → take gate u.bytes ≡ take gate v.bytes → gate < length u.bytes → slice_index u.bytes gate ≢ 1 → (opened u ≡ opened v) × IsReady gate [] counters next u
+  pub again : (u : Volume) → u.start ≡ v.start → take gate u.bytes ≡ take gate v.bytes → gate < length u.bytes → slice_index u.bytes gate ≢ 1 → AgainAs gate counters next v u

@@ -44,7 +44,7 @@ module _ {D : Type 0} {g : Ghosts D} where
   abbrev pub log_start : WalLog D g → ℕ
   log_start log = log.start
 
-  -- the last batch, where it was flushed since the start and is a checkpoint alone with the counters of the log
+  -- the last batch that is flushed, where it is a checkpoint alone with the counters of the log after it
   abbrev pub log_checkpoint : WalLog D g → Option LastCheckpoint
   log_checkpoint log = log.checkpoint
 

@@ -7,8 +7,8 @@ use Rattle.tx_model.specs.declared.record.Counters.{Counters}
 use Rattle.tx_model.specs.declared.record.Rec.{Rec}
 use Rattle.tx_model.specs.declared.record.Rec.TheVariants as records
 use Rattle.disk_core.specs.Volume.{Volume}
-use Rattle.wal_core.specs.Numbers.{le_bytes}
-use Rattle.wal_core.specs.Reading.{◌>>=◌, number_at, rec_at}
+use Rattle.wal_records.specs.Numbers.{le_bytes}
+use Rattle.wal_records.specs.Reading.{◌>>=◌, number_at, rec_at}
 
 -- ---- batches
 

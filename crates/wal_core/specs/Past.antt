@@ -1,9 +1,10 @@
 -- What was read of a log so far, as a history.
 use Rattle.std.specs.Prelude.{◌≡◌, ℕ, nat_lt, cond, List, [], ◌∷◌, Option, Some, None, Result, Ok, Err}
 use Rattle.tx_model.specs.declared.record.Rec.{Rec}
-use Rattle.wal_core.specs.declared.stop.Stop.{Stop}
+use Rattle.tx_model.specs.declared.record.Counters.{Counters}
+use Rattle.wal_records.specs.declared.stop.Stop.{Stop}
 use Rattle.wal_core.specs.declared.past.Past.{Past}
-use Rattle.wal_core.specs.Reading.{◌>>=◌, Stops}
+use Rattle.wal_records.specs.Reading.{◌>>=◌, Stops}
 use Rattle.wal_core.specs.Opening.{History, first_number, began, joined, recs_in}
 
 abbrev pub past_history : Past → History
@@ -12,6 +13,14 @@ past_history p = record { first = p.first; recs = p.recs; counters = p.counters 
 abbrev pub history_so_far : Option Past → Option History
 history_so_far None = None
 history_so_far (Some p) = Some (past_history p)
+
+abbrev pub recs_so_far : Option History → List Rec
+recs_so_far None = []
+recs_so_far (Some h) = h.recs
+
+abbrev pub counters_so_far : Option History → Option Counters
+counters_so_far None = None
+counters_so_far (Some h) = Some h.counters
 
 -- so many bytes as records, joined to a history
 abbrev pub joins : ℕ → List ℕ → History → Option History

@@ -2,42 +2,15 @@
 ghost use Rattle.std.specs.Prelude.{◌≡◌, ◌⊎◌, ◌↔◌, ◌+◌, ◌-◌, ◌<◌, ◌≤◌, ◌^◌, ◌++◌, ◌∷◌, [], ℕ, length, drop, remove, IsTrue, IsNone, IsSome, OnOk, OnErr, Some};
 ghost use Rattle.tx_model.specs.After.{after_record};
 ghost use Rattle.tx_model.specs.Base.{IsBase};
-ghost use Rattle.wal_core.specs.Numbers.{le_bytes};
+ghost use Rattle.wal_records.specs.Numbers.{le_bytes};
 ghost use Rattle.wal_core.specs.Opening.{first_number};
-ghost use Rattle.wal_core.specs.Spelling.{rec_bytes, HasCounts};
+ghost use Rattle.wal_records.specs.Spelling.{rec_bytes, HasCounts};
 ghost use Rattle.wal_core.specs.Log.{counters_or_none, with_more, IsFull};
 
-use crate::lawful::counters_then;
-use crate::writing::write_rec;
+use crate::next_rec::counters_then;
 use byteorder::{ByteOrder, LittleEndian};
 use tx_model::{Copied, Counters, Memory, Rec, RecList};
-
-// How many bytes a record has.
-pub(crate) fn rec_length(rec: &Rec) -> u64
-    requires { HasCounts rec.now }
-    ensures length { result ≡ length (rec_bytes rec.now) }
-    ensures short { result < 2 ^ 36 }
-{
-    match rec {
-        Rec::Commit { top: _, subs } | Rec::Abort { top: _, subs } => {
-            13 + 8 * subs.items().len() as u64
-        }
-        Rec::Multi {
-            multi: _,
-            offset: _,
-            members,
-        } => 21 + 9 * members.items().len() as u64,
-        Rec::Checkpoint {
-            number: _,
-            counters: _,
-        } => 57,
-        Rec::Truncate {
-            oldest: _,
-            multi: _,
-            offset: _,
-        } => 25,
-    }
-}
+use wal_records::write_rec;
 
 // Whether the log would pass its greatest length, or the batch its own.
 pub(crate) fn is_full(gate: u64, pending: u64, more: u64) -> bool
@@ -60,7 +33,7 @@ fn stage(behind: &mut Vec<u8>, rec: &Rec) -> Result<(), Memory>
     Ok(())
 }
 
-#[tactic(auto, unfolding(crate::specs::Numbers::le_bytes))]
+#[tactic(auto, unfolding(wal_records::specs::Numbers::le_bytes))]
 fn put_count(bytes: &mut [u8], count: u32)
     requires { 4 ≤ length bytes.old }
     ensures { bytes.new ≡ le_bytes 4 count ++ drop 4 bytes.old }

@@ -7,21 +7,26 @@ ghost use Rattle.wal_core.specs.declared.refusal.LogRefusal.TheVariants.{Damaged
 ghost use Rattle.wal_core.specs.Opening.{opened, BeginsOpen};
 ghost use Rattle.wal_core.specs.Contents.{history_of};
 ghost use Rattle.wal_core.specs.Log.{GoesOn};
+ghost use Rattle.wal_core.specs.LastBatch.{last_batch};
+ghost use Rattle.wal_core.specs.Checkpoint.{IsCheckpointIn};
 
+use crate::checkpoint::LastCheckpoint;
 use crate::refusal::LogRefusal;
 use crate::scan::{Found, behind_open, scan};
 use disk_core::{Extent, Failed, LogDisk};
 use std::alloc::{AllocError, Global};
 use tx_model::{Counters, RecList};
 
-/// The records of a log volume, the number of the first, the counters after them, the place of the next gate, and from
-/// where on the volume has bytes and how far they reach. A new log has no records and no counters.
+/// The records of a log volume, the number of the first, the counters after them, the place of the next gate, the
+/// checkpoint that the last batch may be, and from where on the volume has bytes and how far they reach. A new log has
+/// no records and no counters.
 #[derive(Drop)]
 pub struct LogContents {
     pub recs: RecList,
     pub first: u64,
     pub counters: Option<Counters>,
     pub gate: u64,
+    pub checkpoint: Option<LastCheckpoint>,
     pub start: u64,
     pub length: u64,
 }
@@ -30,6 +35,7 @@ fn no_records(alloc: Global, extent: Extent) -> LogContents
     ensures history { history_of result ≡ None }
     ensures gate { result.gate ≡ 0 }
     ensures none { (result.counters ≡ None) × (result.first + length result.recs ≡ 0) }
+    ensures checkpoint { result.checkpoint ≡ None }
     ensures reach { result.length ≡ extent.length }
     ensures start { result.start ≡ extent.start }
 {
@@ -38,6 +44,7 @@ fn no_records(alloc: Global, extent: Extent) -> LogContents
         first: 0,
         counters: None,
         gate: 0,
+        checkpoint: None,
         start: extent.start,
         length: extent.length,
     }
@@ -99,6 +106,7 @@ fn contents(alloc: Global, extent: Extent, bytes: &[u8]) -> Result<LogContents, 
     ensures reach { IfOk result (λ found. found.length ≡ extent.length) }
     ensures start { IfOk result (λ found. found.start ≡ extent.start) }
     ensures found { (v : Volume) → v.start ≡ extent.start → drop v.start v.bytes ≡ bytes.now → IfOk result (λ found. opened v ≡ Ok (record { history = history_of found; gate = found.gate })) }
+    ensures last { (v : Volume) → v.start ≡ extent.start → drop v.start v.bytes ≡ bytes.now → IfOk result (λ found. IsCheckpointIn (last_batch v) found.counters found.checkpoint) }
     ensures damaged { (v : Volume) (at : ℕ) → v.start ≡ extent.start → drop v.start v.bytes ≡ bytes.now → result ≡ Err (Damaged at) → opened v ≡ Err at }
     ensures others { (result ≢ Err LogFault) × ((result ≢ Err Full) × ((at : ℕ) → result ≢ Err (LogDown at))) }
 {
@@ -106,11 +114,18 @@ fn contents(alloc: Global, extent: Extent, bytes: &[u8]) -> Result<LogContents, 
         return Ok(no_records(alloc, extent));
     }
     match scan(alloc, extent.start, bytes) {
-        Ok(Found { past, gate }) => Ok(LogContents {
+        Ok(
+            Found {
+                past,
+                gate,
+                checkpoint,
+            },
+        ) => Ok(LogContents {
             recs: past.recs,
             first: past.first,
             counters: Some(past.counters),
             gate,
+            checkpoint,
             start: extent.start,
             length: extent.length,
         }),
@@ -131,6 +146,7 @@ fn read_extent<D: LogDisk>(
     ensures place { IfOk result (λ found. found.gate < 2 ^ 64) }
     ensures reach { IsTrue D.tells → IfOk result (λ found. found.length ≡ length (D.reads disk.old).bytes) }
     ensures begins { IsTrue D.tells → IfOk result (λ found. found.start ≡ (D.reads disk.old).start) }
+    ensures last { IsTrue D.tells → IfOk result (λ found. IsCheckpointIn (last_batch (D.reads disk.old)) found.counters found.checkpoint) }
     ensures damaged { IsTrue D.tells → (at : ℕ) → result ≡ Err (Damaged at) → opened (D.reads disk.old) ≡ Err at }
     ensures fault { result ≡ Err LogFault → HasRisen (D.faults disk.old) (D.faults disk.new) }
     ensures others { (result ≢ Err Full) × ((at : ℕ) → result ≢ Err (LogDown at)) }
@@ -157,6 +173,7 @@ pub fn read_log<D: LogDisk>(alloc: Global, disk: &mut D) -> Result<LogContents, 
     ensures place { IfOk result (λ found. found.gate < 2 ^ 64) }
     ensures reach { IsTrue D.tells → IfOk result (λ found. found.length ≡ length (D.reads disk.old).bytes) }
     ensures begins { IsTrue D.tells → IfOk result (λ found. found.start ≡ (D.reads disk.old).start) }
+    ensures last { IsTrue D.tells → IfOk result (λ found. IsCheckpointIn (last_batch (D.reads disk.old)) found.counters found.checkpoint) }
     ensures damaged { IsTrue D.tells → (at : ℕ) → result ≡ Err (Damaged at) → opened (D.reads disk.old) ≡ Err at }
     ensures fault { result ≡ Err LogFault → HasRisen (D.faults disk.old) (D.faults disk.new) }
     ensures others { (result ≢ Err Full) × ((at : ℕ) → result ≢ Err (LogDown at)) }

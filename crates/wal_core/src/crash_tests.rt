@@ -1,7 +1,7 @@
 // What a log leaves at each of its device calls, from the calls that the format gives.
 ghost use Rattle.std.specs.Prelude.{◌≤◌, ◌<◌, ◌^◌};
 
-use crate::tests::{LOG, first_counters};
+use crate::tests::LOG;
 use crate::*;
 use disk_core::{
     Crash, Extent, Failed, Fuse, FusedLog, LogDisk, Media, MemLog, MemMedia, Volumes, Which,
@@ -32,7 +32,7 @@ fn add<D: LogDisk>(log: &mut WalLog<D>, rec: &Rec) -> Result<u64, Fail> {
 fn write_two<D: LogDisk>(alloc: Global, log: &mut WalLog<D>) -> Result<(), Fail> {
     let checkpoint = Rec::Checkpoint {
         number: 0,
-        counters: first_counters()?,
+        counters: Counters::of_new_log(),
     };
     if add(log, &checkpoint)? != 0 {
         return Err("the first record has number 0".into());
@@ -50,7 +50,7 @@ fn later_counters() -> Result<Counters, Fail> {
     let next = FullXid::new(4).ok_or("4 is an id")?;
     Ok(Counters {
         next,
-        ..first_counters()?
+        ..Counters::of_new_log()
     })
 }
 
@@ -174,7 +174,7 @@ fn each_flush_makes_four_calls_and_a_fault_puts_the_log_down(rt: HostRuntime) ->
         log.flush()?;
         let checkpoint = Rec::Checkpoint {
             number: 0,
-            counters: first_counters()?,
+            counters: Counters::of_new_log(),
         };
         add(log, &checkpoint)?;
         assert_eq!(rt; log.flush().is_ok(), passes >= 8, "{passes} calls");
@@ -216,7 +216,7 @@ fn a_checkpoint_that_is_not_alone_or_lower_may_not_stand_first(
 ) -> Result<(), Fail> {
     let alloc = rt.alloc();
     let mut log = open(alloc, MemLog::of(alloc, Vec::new(alloc)))?.log;
-    let counters = first_counters()?;
+    let counters = Counters::of_new_log();
     add(
         &mut log,
         &Rec::Checkpoint {
@@ -239,11 +239,46 @@ fn a_checkpoint_that_is_not_alone_or_lower_may_not_stand_first(
     Ok(())
 }
 
+// Starts the log again, and answers whether what stands before its last batch may be forgotten.
+fn may_forget_again<D: LogDisk + Drop>(alloc: Global, disk: D) -> Result<(bool, D), Fail> {
+    let started = open(alloc, disk)?;
+    Ok((started.log.may_forget(), started.log.into_disk()))
+}
+
+#[test]
+fn a_log_that_ends_with_a_checkpoint_alone_is_forgotten_after_a_start(
+    rt: HostRuntime,
+) -> Result<(), Fail> {
+    let alloc = rt.alloc();
+    let (may, disk) = may_forget_again(alloc, MemLog::of(alloc, LOG[..62].to_vec(alloc)?))?;
+    assert!(rt; may);
+    let mut log = open(alloc, disk)?.log;
+    add(&mut log, &commit(alloc, 3)?)?;
+    log.flush()?;
+    let (may, disk) = may_forget_again(alloc, log.into_disk())?;
+    assert!(rt; !may);
+    let mut log = open(alloc, disk)?.log;
+    let checkpoint = Rec::Checkpoint {
+        number: 2,
+        counters: later_counters()?,
+    };
+    add(&mut log, &checkpoint)?;
+    log.flush()?;
+    let mut log = open(alloc, log.into_disk())?.log;
+    assert!(rt; log.may_forget());
+    log.forget_before_checkpoint()?;
+    let started = open(alloc, log.into_disk())?;
+    assert_eq!(rt; started.first, 2);
+    assert_eq!(rt; started.recs.items().len(), 1);
+    assert_eq!(rt; started.log.counters(), later_counters()?);
+    Ok(())
+}
+
 #[test]
 fn what_may_be_appended(rt: HostRuntime) -> Result<(), Fail> {
     let alloc = rt.alloc();
     let mut log = open(alloc, MemLog::of(alloc, Vec::new(alloc)))?.log;
-    let counters = first_counters()?;
+    let counters = Counters::of_new_log();
     let first = Rec::Checkpoint {
         number: 0,
         counters,

@@ -4,10 +4,9 @@ ghost use Rattle.wal_core.specs.Opening.{next_number, number_fits, may_follow, w
 ghost use Rattle.wal_core.specs.Past.{past_history, history_so_far, begun, joins, GivesPast};
 
 use crate::counters::counters_after;
-use crate::reading::rec_from;
-use crate::stop::Stop;
 use std::alloc::Global;
 use tx_model::{Counters, Memory, Rec, RecList, is_base};
+use wal_records::{Stop, take_rec};
 
 #[derive(Drop)]
 pub struct Past {
@@ -80,7 +79,7 @@ fn read_more(alloc: Global, past: Past, count: usize, bytes: &[u8]) -> Result<Pa
         if rest.is_empty() {
             return Ok(past);
         }
-        let rec = rec_from(alloc, &mut rest)?;
+        let rec = take_rec(alloc, &mut rest)?;
         if !join_rec(&mut past, rec)? {
             return Err(Stop::Unlawful);
         }
@@ -99,7 +98,7 @@ fn read_first(alloc: Global, at: u64, body: &[u8]) -> Result<Past, Stop>
         return Err(Stop::Unlawful);
     }
     let mut rest = body;
-    let first = rec_from(alloc, &mut rest)?;
+    let first = take_rec(alloc, &mut rest)?;
     let past = begin(alloc, at, first)?;
     read_more(alloc, past, body.len() - 1, rest)
 }

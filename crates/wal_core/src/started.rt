@@ -5,7 +5,7 @@ ghost use Rattle.disk_core.specs.Images.{Only, LeavesOnly};
 ghost use Rattle.disk_core.specs.Volume.{Volume};
 ghost use Rattle.wal_core.specs.declared.refusal.LogRefusal.TheVariants.{LogDown, LogFault, Full, Damaged};
 ghost use Rattle.wal_core.specs.Contents.{history_with, history_of};
-ghost use Rattle.wal_core.specs.Opening.{opened, behind_gate};
+ghost use Rattle.wal_core.specs.Opening.{opened, walked, behind_gate};
 ghost use Rattle.wal_core.specs.Log.{GoesOn, IsReady};
 ghost use Rattle.wal_core.specs.LogViews.{log_disk, log_recs, log_next, log_flushed, log_end, log_counters, log_down};
 
@@ -34,6 +34,7 @@ fn close_gate<D: LogDisk>(disk: &mut D, found: &LogContents) -> Result<(), Faile
     ensures ready { IsTrue D.tells → OnOk result (IsReady found.now.gate [] found.now.counters (found.now.first + length found.now.recs) (D.reads disk.new)) }
     ensures synced { IsTrue D.tells → OnOk result (Only (D.reads disk.new) (D.images disk.new)) }
     ensures start { IsTrue D.tells → (D.reads disk.new).start ≡ (D.reads disk.old).start }
+    ensures batches { IsTrue D.tells → OnOk result (IsSome found.now.counters → (walked (D.reads disk.new)).bodies ≡ (walked (D.reads disk.old)).bodies) }
     // Where a closed gate stood at the end of an old log, nothing is written.
     ensures any_moment { IsTrue D.tells → (IsSome found.now.counters → found.now.gate < length (D.reads disk.old).bytes)
         → LeavesOnly D.moment D.left_at disk.old disk.new (λ c. opened c ≡ opened (D.reads disk.old)) }
@@ -54,6 +55,8 @@ impl<D: LogDisk> WalLog<D> {
     ghost use Rattle.wal_core.specs.declared.refusal.LogRefusal.TheVariants.{LogDown, LogFault, Full, Damaged};
     ghost use Rattle.wal_core.specs.Contents.{history_with};
     ghost use Rattle.wal_core.specs.Opening.{opened};
+    ghost use Rattle.wal_core.specs.LastBatch.{last_batch};
+    ghost use Rattle.wal_core.specs.Checkpoint.{IsCheckpointIn};
     ghost use Rattle.wal_core.specs.Log.{EndsWithin, OpensAsBefore};
     ghost use Rattle.wal_core.specs.LogViews.{log_disk, log_recs, log_next, log_flushed, log_end, log_counters, log_down, log_start, log_checkpoint, KeepsAll};
 
@@ -66,8 +69,10 @@ impl<D: LogDisk> WalLog<D> {
         ensures opens { IsTrue D.tells → IfOk result (λ s. opened (D.reads (log_disk s.log)) ≡ opened (D.reads disk)) }
         ensures synced { IsTrue D.tells → IfOk result (λ s. Only (D.reads (log_disk s.log)) (D.images (log_disk s.log))) }
         ensures next { IfOk result (λ s. log_next s.log ≡ s.first + length s.recs) }
-        ensures clean { IfOk result (λ s. (log_recs s.log ≡ []) × (log_flushed s.log ≡ log_next s.log) × (log_down s.log ≡ None) × (log_checkpoint s.log ≡ None)) }
+        ensures clean { IfOk result (λ s. (log_recs s.log ≡ []) × (log_flushed s.log ≡ log_next s.log) × (log_down s.log ≡ None)) }
         ensures start { IsTrue D.tells → IfOk result (λ s. log_start s.log ≡ (D.reads disk).start) }
+        // Where the last batch is a checkpoint alone, with the counters of the log, it may stand first.
+        ensures checkpoint { IsTrue D.tells → IfOk result (λ s. IsCheckpointIn (last_batch (D.reads disk)) (log_counters s.log) (log_checkpoint s.log)) }
         // The promise over the whole list of records begins with those that the volume has.
         ensures keeps { IsTrue D.tells → IfOk result (λ s. KeepsAll s.first s.recs D.images s.log) }
 
@@ -96,6 +101,7 @@ impl<D: LogDisk> WalLog<D> {
             first,
             counters,
             gate,
+            checkpoint,
             start,
             length: _,
         } = found;
@@ -109,7 +115,7 @@ impl<D: LogDisk> WalLog<D> {
             recs: RecList::new(alloc),
             flushed: 0,
             counters,
-            checkpoint: None,
+            checkpoint,
             down: None,
         };
         Ok(Started { log, recs, first })

@@ -5,8 +5,6 @@ use super::*;
 use disk_core::{Fuse, Media, MemLog, MemMedia, Which};
 use std::alloc::Global;
 use std::test::Fail;
-use tx_model::{Counters, IdList, Rec};
-use xid_order::{FullMulti, FullXid};
 
 // A batch with a checkpoint of the first counters, a batch with a commit of 3, and a closed gate.
 #[rattlefmt::skip]
@@ -15,50 +13,6 @@ pub const LOG: [u8; 81] = [
     0, 0, 0, 0, 0, 0, 0, 1, 0, 0, 0, 0, 0, 0, 0, 1, 0, 0, 0, 0, 0, 0, 0, 1, 0, 0, 0, 0, 0, 0, 0, 1,
     13, 0, 0, 0, 1, 3, 0, 0, 0, 0, 0, 0, 0, 0, 0, 0, 0, 0,
 ];
-
-pub fn first_counters() -> Result<Counters, Fail> {
-    let id = FullXid::new(3).ok_or("3 is an id")?;
-    let multi = FullMulti::new(1).ok_or("1 is a multixact")?;
-    Ok(Counters {
-        next: id,
-        oldest: id,
-        multi,
-        offset: 1,
-        oldest_multi: multi,
-        oldest_offset: 1,
-    })
-}
-
-#[test]
-fn records_have_their_bytes_and_are_read_again(rt: HostRuntime) -> Result<(), Fail> {
-    let alloc = rt.alloc();
-    let mut bytes = Vec::new(alloc);
-    let checkpoint = Rec::Checkpoint {
-        number: 0,
-        counters: first_counters()?,
-    };
-    write_rec(&checkpoint, &mut bytes)?;
-    assert_eq!(rt; bytes.as_slice(), &LOG[5..62]);
-    let commit = Rec::Commit {
-        top: FullXid::new(3).ok_or("3 is an id")?,
-        subs: IdList::new(alloc),
-    };
-    write_rec(&commit, &mut bytes)?;
-    assert_eq!(rt; bytes.len(), 70);
-    assert_eq!(rt; &bytes[57..], &LOG[67..80]);
-
-    let ReadRec { rec, length } = read_rec(alloc, &bytes)?.ok_or("a record")?;
-    assert_eq!(rt; length, 57);
-    let Rec::Checkpoint { number, counters } = rec else {
-        panic!(rt; "a checkpoint")
-    };
-    assert_eq!(rt; number, 0);
-    assert_eq!(rt; counters, first_counters()?);
-    let second = read_rec(alloc, &bytes[57..])?.ok_or("a record")?;
-    assert_eq!(rt; second.length, 13);
-    assert!(rt; read_rec(alloc, &bytes[58..])?.is_none());
-    Ok(())
-}
 
 // How many records a log of these bytes has, or where it is damaged.
 fn opens_to(alloc: Global, bytes: &[u8]) -> Result<Result<usize, u64>, Fail> {

@@ -3,17 +3,19 @@ ghost use Rattle.std.proofs.Props.{props};
 ghost use Rattle.disk_core.specs.Volume.{Volume};
 ghost use Rattle.wal_core.specs.declared.refusal.LogRefusal.TheVariants.{LogFault};
 ghost use Rattle.wal_core.specs.Opening.{behind_gate};
-ghost use Rattle.wal_core.specs.Log.{IsReady, IsNextBatch, are_lawful};
-ghost use Rattle.wal_core.specs.Checkpoint.{IsListed, MayBegin};
+ghost use Rattle.wal_core.specs.Log.{IsReady, IsNextBatch};
+ghost use Rattle.wal_records.specs.Lawful.{are_lawful};
+ghost use Rattle.wal_core.specs.Checkpoint.{MayBegin};
 ghost use Rattle.wal_core.specs.declared.checkpoint.LastCheckpoint.{LastCheckpoint};
 
-use crate::appending::{add_rec, counters_with, is_full, rec_length};
+use crate::appending::{add_rec, counters_with, is_full};
 use crate::batch::write_batch;
 use crate::checkpoint::{LastCheckpoint, checkpoint_of};
-use crate::lawful::may_come_next;
+use crate::next_rec::may_come_next;
 use crate::refusal::LogRefusal;
 use disk_core::{Failed, LogDisk};
 use tx_model::{Counters, Rec, RecList};
+use wal_records::rec_length;
 
 /// The log of a volume (after `src/backend/access/transam/xlog.c`): records in batches.
 #[derive(Drop)]
@@ -32,7 +34,7 @@ pub struct WalLog<D: LogDisk> {
     pub(crate) flushed: u64,
     // After all records, also those that were read at the start.
     pub(crate) counters: Option<Counters>,
-    // The last batch, where it was flushed since the start and may stand first.
+    // The last batch that is flushed, where it may stand first.
     pub(crate) checkpoint: Option<LastCheckpoint>,
     // The flushed number at the failure of a call.
     pub(crate) down: Option<u64>,
@@ -44,13 +46,12 @@ pub struct WalLog<D: LogDisk> {
     ghost lawful: { IsTrue (are_lawful (drop flushed recs)) },
     ghost numbered: { from + flushed ≤ gate },
     ghost starts: { IsTrue D.tells → down ≡ None → (D.reads disk).start ≡ start },
-    ghost listed: { IsTrue D.tells → down ≡ None → (k : LastCheckpoint) → checkpoint ≡ Some k → IsListed k from recs } by { Prim.hlevel props },
     ghost begins: { IsTrue D.tells → down ≡ None → (k : LastCheckpoint) → checkpoint ≡ Some k → (c : Volume) → D.images disk c → MayBegin k gate (drop flushed recs) counters (from + length recs) c } by { Prim.hlevel props },
     ghost ready: { IsTrue D.tells → down ≡ None → (c : Volume) → D.images disk c → IsReady gate (drop flushed recs) counters (from + length recs) c } by { Prim.hlevel props },
 }
 
 // Nothing is pending.
-#[tactic(auto, unfolding(crate::specs::Numbers::le_bytes))]
+#[tactic(auto, unfolding(wal_records::specs::Numbers::le_bytes))]
 fn clear(behind: &mut Vec<u8>)
     requires { 5 ≤ length behind.old.items }
     ensures { behind.new.items ≡ behind_gate [] }
@@ -76,7 +77,7 @@ impl<D: LogDisk> WalLog<D> {
     ghost use Rattle.disk_core.specs.Volume.{Volume, IsRead};
     ghost use Rattle.wal_core.specs.declared.refusal.LogRefusal.TheVariants.{LogDown, LogFault, Full, Memory, Damaged};
     ghost use Rattle.wal_core.specs.Log.{OpensFromImage, MayAppend, IsFull, counters_or_none, bytes_of};
-    ghost use Rattle.wal_core.specs.Spelling.{rec_bytes};
+    ghost use Rattle.wal_records.specs.Spelling.{rec_bytes};
     ghost use Rattle.wal_core.specs.Checkpoint.{IsLastCheckpoint, OpensOrBegins};
     ghost use Rattle.wal_core.specs.declared.checkpoint.LastCheckpoint.{LastCheckpoint};
     ghost use Rattle.wal_core.specs.LogViews.{log_disk, log_recs, log_pending, log_next, log_flushed, log_end, log_counters, log_down, log_start, log_checkpoint, KeepsAll};

@@ -1,4 +1,4 @@
-use Rattle.wal_core.proofs.LawfulTests.{counted}
+use Rattle.wal_core.proofs.NextRecs.{counted}
 use Rattle.wal_core.proofs.appending.counters_with.Goals as goal
 
 pub returns : goal.returns

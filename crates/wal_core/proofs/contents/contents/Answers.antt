@@ -1,8 +1,10 @@
-use Rattle.std.proofs.Common.{◌≡◌, Ok, Err, refl, sym, ◌∙◌, subst, drop}
+use Rattle.std.proofs.Common.{◌≡◌, Option, Some, Ok, Err, refl, sym, ◌∙◌, subst, drop}
 use Rattle.wal_core.specs.declared.refusal.LogRefusal.TheVariants.{Damaged}
-use Rattle.wal_core.proofs.News.{opens_new, opens_as_bytes}
+use Rattle.wal_core.proofs.News.{opens_new, opens_as_bytes, last_new, last_as_bytes}
+use Rattle.wal_core.specs.LastBatch.{Batch}
+use Rattle.wal_core.specs.Checkpoint.{IsCheckpointIn}
 use Rattle.wal_core.proofs.Starts.{goes_on_as, unwritten_goes_on, old_goes_on, old_numbers, fits_all, volume_of, bytes_from}
-use Rattle.wal_core.proofs.Fields.{IsBytes}
+use Rattle.wal_records.proofs.Fields.{IsBytes}
 use Rattle.disk_core.specs.Volume.{Volume}
 use Rattle.wal_core.proofs.contents.contents.Goals as goal
 
@@ -14,6 +16,14 @@ returns-then-is_unwritten-clause-found c v from is =
 pub returns-in-Ok-clause-found : goal.returns-in-Ok-clause-found
 returns-in-Ok-clause-found c v from is =
     opens_as_bytes v c.args.extent.start c.args.bytes.now from is (c.is_unwritten.ensures.written c.if-is_unwritten.false) ∙ c.in-Ok.ensures.found
+
+pub returns-then-is_unwritten-clause-last : goal.returns-then-is_unwritten-clause-last
+returns-then-is_unwritten-clause-last c v from is =
+    subst (λ (o : Option Batch). IsCheckpointIn o c.no_records.result.counters c.no_records.result.checkpoint) (sym (last_new v c.args.extent.start c.args.bytes.now from is (c.is_unwritten.ensures.unwritten c.if-is_unwritten.true))) c.no_records.ensures.checkpoint
+
+pub returns-in-Ok-clause-last : goal.returns-in-Ok-clause-last
+returns-in-Ok-clause-last c v from is =
+    subst (λ (o : Option Batch). IsCheckpointIn o (Some c.in-Ok.field-0.past.counters) c.in-Ok.field-0.checkpoint) (sym (last_as_bytes v c.args.extent.start c.args.bytes.now from is (c.is_unwritten.ensures.written c.if-is_unwritten.false))) c.in-Ok.ensures.last
 
 pub returns-in-Err-clause-damaged : goal.returns-in-Err-clause-damaged
 returns-in-Err-clause-damaged c v at from is e =

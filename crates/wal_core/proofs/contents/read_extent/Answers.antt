@@ -1,5 +1,7 @@
-use Rattle.std.proofs.Common.{Ok, sym, ◌∙◌, arith}
-use Rattle.wal_core.proofs.News.{opens_short}
+use Rattle.std.proofs.Common.{Option, Ok, sym, ◌∙◌, subst, arith}
+use Rattle.wal_core.proofs.News.{opens_short, last_short}
+use Rattle.wal_core.specs.LastBatch.{Batch}
+use Rattle.wal_core.specs.Checkpoint.{IsCheckpointIn}
 use Rattle.wal_core.proofs.Starts.{goes_on_as, short_goes_on}
 use Rattle.wal_core.proofs.contents.read_extent.Goals as goal
 
@@ -8,6 +10,11 @@ returns-then-extent-le1-clause-read g c told =
     let v = g.D.LogDisk.reads c.args.disk.now in
     opens_short v (omega (arith, c.requires.start told)) (omega (arith, c.requires.length told))
     ∙ (λ i. Ok (record { history = sym c.no_records.ensures.history i; gate = sym c.no_records.ensures.gate i }))
+
+pub returns-then-extent-le1-clause-last : goal.returns-then-extent-le1-clause-last
+returns-then-extent-le1-clause-last g c told =
+    let v = g.D.LogDisk.reads c.args.disk.now in
+    subst (λ (o : Option Batch). IsCheckpointIn o c.no_records.result.counters c.no_records.result.checkpoint) (sym (last_short v (omega (arith, c.requires.start told)) (omega (arith, c.requires.length told)))) c.no_records.ensures.checkpoint
 
 pub returns-then-extent-le1-clause-goes_on : goal.returns-then-extent-le1-clause-goes_on
 returns-then-extent-le1-clause-goes_on g c told =

@@ -16,11 +16,11 @@ returns-in_err-first c =
 pub returns-in_err-past : goal.returns-in_err-past
 returns-in_err-past c =
     let p = err_from_is_err_and c.from_residual-in_err-past.result c.from_residual-in_err-past.ensures.1 in
-    rw (p.1, p.2) (begin_stop c.in_err-past.field-0.0 c.args.at c.args.body.now c.in_ok-first.first c.rec_from.new.rest.now (some_length c.is_empty.result (length c.args.body.now) c.is_empty.ensures c.if-is_empty.false)
+    rw (p.1, p.2) (begin_stop c.in_err-past.field-0.0 c.args.at c.args.body.now c.in_ok-first.first c.take_rec.new.rest.now (some_length c.is_empty.result (length c.args.body.now) c.is_empty.ensures c.if-is_empty.false)
     c.in_ok-first.ensures c.in_err-past.ensures)
 
 pub returns : goal.returns
 returns c =
     let some = some_length c.is_empty.result (length c.args.body.now) c.is_empty.ensures c.if-is_empty.false in
     subst (λ (o : Option History). GivesPast c.read_more.result o)
-    (sym (first_begins c.args.at c.args.body.now c.in_ok-first.first c.rec_from.new.rest.now (past_history c.in_ok-past.past) some c.in_ok-first.ensures c.in_ok-past.ensures)) c.read_more.ensures
+    (sym (first_begins c.args.at c.args.body.now c.in_ok-first.first c.take_rec.new.rest.now (past_history c.in_ok-past.past) some c.in_ok-first.ensures c.in_ok-past.ensures)) c.read_more.ensures

@@ -20,13 +20,13 @@ returns-in_err-rec c =
 pub returns-then-not-branch : goal.returns-then-not-branch
 returns-then-not-branch c =
     let total : Option History = joins c.args.count c.args.bytes.now (past_history c.args.past) in
-    joins_break c.args.count c.loop.counter c.loop.rest.now (past_history c.loop.past) c.in_ok-rec.rec c.rec_from.new.rest.now total c.loop-test.true c.in_ok-rec.ensures
+    joins_break c.args.count c.loop.counter c.loop.rest.now (past_history c.loop.past) c.in_ok-rec.rec c.take_rec.new.rest.now total c.loop-test.true c.in_ok-rec.ensures
     (c.in_ok-join_rec.ensures.may_not (λ i. Ok (c.if-not-branch.true i))) c.loop.invariant
 
 pub loop-preserved : goal.loop-preserved
 loop-preserved c =
     let total : Option History = joins c.args.count c.args.bytes.now (past_history c.args.past) in
-    joins_go_on c.args.count c.loop.counter c.loop.rest.now (past_history c.loop.past) (past_history c.join_rec.new.past) c.in_ok-rec.rec c.rec_from.new.rest.now total c.loop-test.true c.in_ok-rec.ensures
+    joins_go_on c.args.count c.loop.counter c.loop.rest.now (past_history c.loop.past) (past_history c.join_rec.new.past) c.in_ok-rec.rec c.take_rec.new.rest.now total c.loop-test.true c.in_ok-rec.ensures
     (c.in_ok-join_rec.ensures.may (λ i. Ok (c.if-not-branch.false i))) (c.in_ok-join_rec.ensures.joins (λ i. Ok (c.if-not-branch.false i))) c.loop.invariant
 
 pub returns-then-not-is_empty : goal.returns-then-not-is_empty

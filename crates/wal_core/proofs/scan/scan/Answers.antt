@@ -1,9 +1,12 @@
-use Rattle.std.proofs.Common.{◌≡◌, ◌+◌, ℕ, Option, None, Some, Err, length, refl, sym, ◌∙◌, ap, arith}
+use Rattle.std.proofs.Common.{◌≡◌, ◌+◌, ℕ, Option, None, Some, Err, length, refl, sym, ◌∙◌, ap, subst, arith}
 use Rattle.std.specs.Prelude.{is_some}
 use Rattle.wal_core.specs.declared.past.Past.{Past}
 use Rattle.wal_core.specs.Opening.{History}
-use Rattle.wal_core.specs.Past.{past_history, history_so_far}
-use Rattle.wal_core.proofs.Scanning.{scanning, at_open, batch_long, scan_batch, scan_bad, scan_cut, scan_end, scan_none}
+use Rattle.wal_core.specs.Past.{past_history, history_so_far, counters_so_far}
+use Rattle.wal_core.specs.LastBatch.{Batch, last_in}
+use Rattle.wal_core.specs.Checkpoint.{IsCheckpointIn}
+use Rattle.wal_core.proofs.LastBatches.{counted_before, checkpoint_in}
+use Rattle.wal_core.proofs.Scanning.{last_goes_on, last_ends, scanning, at_open, batch_long, scan_batch, scan_bad, scan_cut, scan_end, scan_none}
 use Rattle.wal_core.proofs.scan.scan.Goals as goal
 
 pub returns-in_default-batch_body-clause-damaged : goal.returns-in_default-batch_body-clause-damaged
@@ -38,7 +41,26 @@ loop-after-preserved c =
       so_far = sym (scan_batch s l.at h c.in-Some.after.now (past_history c.in-Ok.more) c.in-Some-batch_body.body.now c.batch_body.new.rest.now (5 + length c.in-Some-batch_body.body.now)
           c.in-Some-batch_body.ensures.some c.in-Ok.ensures refl) ∙ sym (at_open s l.at h l.rest.now c.in-Some.after.now c.in-Some.ensures.some) ∙ l.invariant.so_far;
       begins = λ (no : Some (past_history c.in-Ok.more) ≡ None). absurd cc;
+      last = (
+        Some (l.at, c.in-Some-batch_body.body.now),
+        (
+          last_goes_on l.invariant.last.0 l.at l.rest.now c.in-Some.after.now c.in-Some-batch_body.body.now c.batch_body.new.rest.now c.in-Some.ensures.some c.in-Some-batch_body.ensures.some ∙ l.invariant.last.1.0,
+          checkpoint_in l.at h c.in-Some-batch_body.body.now (past_history c.in-Ok.more) c.count_so_far-count.result c.checkpoint_behind-checkpoint.result c.in-Ok.ensures c.count_so_far-count.ensures c.checkpoint_behind-checkpoint.ensures,
+        ),
+      );
     }
+
+pub checkpoint_behind-checkpoint-requires : goal.checkpoint_behind-checkpoint-requires
+checkpoint_behind-checkpoint-requires c =
+    let l = c.loop-after in
+    counted_before l.at (history_so_far l.past) c.in-Some-batch_body.body.now (past_history c.in-Ok.more) c.count_so_far-count.result c.in-Ok.ensures c.count_so_far-count.ensures
+
+pub returns-in-Some-past-clause-last : goal.returns-in-Some-past-clause-last
+returns-in-Some-past-clause-last c =
+    let l = c.loop-after in let last = l.invariant.last in
+    let p : Past = c.in-Some-past.past in
+    let same : last.0 ≡ last_in c.args.start c.args.bytes.now = sym (last_ends last.0 (length l.rest.now + 1) l.at l.rest.now (c.behind_open.ensures.none (ap is_some c.in_default.is))) ∙ last.1.0 in
+    subst (λ (o : Option Batch). IsCheckpointIn o (Some p.counters) l.checkpoint) same (subst (λ (o : Option Past). IsCheckpointIn last.0 (counters_so_far (history_so_far o)) l.checkpoint) c.in-Some-past.is last.1.1)
 
 pub returns-in-Some-past-clause-found : goal.returns-in-Some-past-clause-found
 returns-in-Some-past-clause-found c =

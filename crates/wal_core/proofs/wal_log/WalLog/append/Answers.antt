@@ -2,13 +2,15 @@ use Rattle.std.proofs.Common.{◌≡◌, inl, inr, ℕ, ◌+◌, ◌-◌, ◌<�
 use Rattle.std.proofs.lemmas.List.{length-append}
 use Rattle.std.proofs.lemmas.Bool.{cases_lt}
 use Rattle.tx_model.specs.declared.record.Rec.{Rec}
-use Rattle.wal_core.specs.Spelling.{rec_bytes}
-use Rattle.wal_core.specs.Log.{bytes_of, are_lawful, IsNextBatch, IsReady, IsFull}
+use Rattle.wal_records.specs.Spelling.{rec_bytes}
+use Rattle.wal_core.specs.Log.{bytes_of, IsNextBatch, IsReady, IsFull}
+use Rattle.wal_records.specs.Lawful.{are_lawful}
 use Rattle.wal_core.proofs.Walks.{some_bytes}
 use Rattle.wal_core.proofs.Flush.{long_behind}
-use Rattle.wal_core.proofs.Append.{not_both, next-push, long-push, pending-push, lawful-push, ready-push}
-use Rattle.wal_core.proofs.Begins.{listed-push, begins-push}
-use Rattle.wal_core.specs.Checkpoint.{IsListed, MayBegin}
+use Rattle.wal_records.proofs.LawfulTests.{not_both, lawful-push}
+use Rattle.wal_core.proofs.Append.{next-push, long-push, pending-push, ready-push}
+use Rattle.wal_core.proofs.Begins.{begins-push}
+use Rattle.wal_core.specs.Checkpoint.{MayBegin}
 use Rattle.wal_core.proofs.Keeping.{append_keeps}
 use Rattle.wal_core.proofs.wal_log.WalLog.append.Goals as goal
 
@@ -74,17 +76,11 @@ invariant_of-self g c =
       lawful = ap are_lawful p ∙ lawful-push pending r s.lawful c.requires.lawful;
       numbered = s.numbered;
       starts = λ told up. s.starts told up;
-      listed = λ told up k e. listed-push k s.from s.recs c.add_rec.new.recs r recs (s.listed told up k e);
       begins = λ told up k e v left. begins-push k s.gate s.counters (s.from + length s.recs) r c.requires pending (drop s.flushed c.add_rec.new.recs) c.counters_with-self.result (s.from + length c.add_rec.new.recs) v p
           c.counters_with-self.ensures (omega (arith, counted)) s.lawful (s.begins told up k e v left);
       ready = λ told up v left. ready-push s.gate s.counters (s.from + length s.recs) r c.requires pending (drop s.flushed c.add_rec.new.recs) c.counters_with-self.result (s.from + length c.add_rec.new.recs) v p
           c.counters_with-self.ensures (omega (arith, counted)) s.lawful (s.ready told up v left);
     }
-
-pub invariant_of-self-in-Err-clause-listed : goal.invariant_of-self-in-Err-clause-listed
-invariant_of-self-in-Err-clause-listed g c told up k e =
-    let s = c.args.self.now in
-    subst (λ (l : List Rec). IsListed k s.from l) (sym c.in-Err.ensures.err_recs) (s.listed told up k e)
 
 pub invariant_of-self-in-Err-clause-lawful : goal.invariant_of-self-in-Err-clause-lawful
 invariant_of-self-in-Err-clause-lawful g c =

@@ -5,13 +5,14 @@ use Rattle.disk_core.specs.Volume.{Volume}
 use Rattle.disk_core.specs.Moments.{started, leaves_weaker}
 use Rattle.wal_core.specs.Opening.{walked, AtRest, body_in}
 use Rattle.wal_core.specs.Crash.{IsFromImage}
-use Rattle.wal_core.specs.Log.{bytes_of, are_lawful, IsReady, OpensFromImage}
+use Rattle.wal_core.specs.Log.{bytes_of, IsReady, OpensFromImage}
+use Rattle.wal_records.specs.Lawful.{are_lawful}
 use Rattle.wal_core.proofs.Gates.{length-behind}
 use Rattle.wal_core.proofs.Flush.{is_behind, long_behind, body_of_next, opens_from, ready_again, nothing_next}
 use Rattle.wal_core.specs.Checkpoint.{IsLastCheckpoint, MayBegin}
 use Rattle.wal_core.specs.declared.checkpoint.LastCheckpoint.{LastCheckpoint}
 use Rattle.wal_core.proofs.Walks.{gate_is}
-use Rattle.wal_core.proofs.Begins.{Flushed, flushed_alone, stands_at}
+use Rattle.wal_core.proofs.Begins.{flushed_alone, stands_at}
 use Rattle.wal_core.specs.Kept.{HasFlushed}
 use Rattle.wal_core.proofs.Keeping.{flush_from, all_flushed}
 use Rattle.wal_core.proofs.wal_log.WalLog.flush.Goals as goal
@@ -95,20 +96,6 @@ invariant_of-self-in-Ok-clause-starts g c told up =
     let here = stands_at w (walked v).bodies body s.gate gate_2 (omega (arith, long, ap length is)) (c.in-Ok.ensures.written told) in
     omega (arith, here, gate_is v (walked v).bodies s.gate (s.ready told up v (g.met.D.LogDisk.reads_image s.disk told)).at_rest, s.starts told up)
 
-pub invariant_of-self-in-Ok-clause-listed : goal.invariant_of-self-in-Ok-clause-listed
-invariant_of-self-in-Ok-clause-listed g c told up k e =
-    let d = g.D.LogDisk in let s = c.args.self.now in let pending : List Rec = drop s.flushed s.recs in let body : List ℕ = body_in c.deref.result.now in
-    let v : Volume = d.reads s.disk in let w : Volume = d.reads c.write_batch.new.disk in
-    let is : body ≡ bytes_of pending = ap body_in c.deref.ensures.value ∙ body_of_next s.behind.items pending s.next_batch in
-    let long : length c.deref.result.now ≡ 5 + length (bytes_of pending) = ap length c.deref.ensures.value ∙ long_behind s.behind.items pending s.next_batch in
-    let gate_2 : ℕ = s.gate + length c.deref.result.now in let left : List Rec = drop (length c.items.result.now) s.recs in
-    let last : IsLastCheckpoint s.gate pending s.counters (Some k) =
-    subst (λ (o : Option LastCheckpoint). IsLastCheckpoint s.gate pending s.counters o) e (subst (λ (l : List Rec). IsLastCheckpoint s.gate l s.counters c.checkpoint_of-self.result) (take_rest c.items-in-Ok.result.now s.flushed ∙ ap (drop s.flushed) c.items-in-Ok.ensures) c.checkpoint_of-self.ensures) in
-    let f : Flushed k gate_2 left s.counters (s.from + length s.recs) s.from s.recs w =
-    flushed_alone k v w s.gate gate_2 s.from s.flushed s.recs left s.counters body last s.lawful (s.ready told up v (g.met.D.LogDisk.reads_image s.disk told)) s.numbered is (ap (λ (n : ℕ). s.gate + n) long)
-    (c.in-Ok.ensures.written told) (drop_all (length c.items.result.now) s.recs (omega (arith, ap length c.items.ensures))) in
-    f.listed
-
 pub invariant_of-self-in-Ok-clause-begins : goal.invariant_of-self-in-Ok-clause-begins
 invariant_of-self-in-Ok-clause-begins g c told up k e x there =
     let d = g.D.LogDisk in let s = c.args.self.now in let pending : List Rec = drop s.flushed s.recs in let body : List ℕ = body_in c.deref.result.now in
@@ -118,10 +105,10 @@ invariant_of-self-in-Ok-clause-begins g c told up k e x there =
     let gate_2 : ℕ = s.gate + length c.deref.result.now in let left : List Rec = drop (length c.items.result.now) s.recs in
     let last : IsLastCheckpoint s.gate pending s.counters (Some k) =
     subst (λ (o : Option LastCheckpoint). IsLastCheckpoint s.gate pending s.counters o) e (subst (λ (l : List Rec). IsLastCheckpoint s.gate l s.counters c.checkpoint_of-self.result) (take_rest c.items-in-Ok.result.now s.flushed ∙ ap (drop s.flushed) c.items-in-Ok.ensures) c.checkpoint_of-self.ensures) in
-    let f : Flushed k gate_2 left s.counters (s.from + length s.recs) s.from s.recs w =
+    let f : MayBegin k gate_2 left s.counters (s.from + length s.recs) w =
     flushed_alone k v w s.gate gate_2 s.from s.flushed s.recs left s.counters body last s.lawful (s.ready told up v (g.met.D.LogDisk.reads_image s.disk told)) s.numbered is (ap (λ (n : ℕ). s.gate + n) long)
     (c.in-Ok.ensures.written told) (drop_all (length c.items.result.now) s.recs (omega (arith, ap length c.items.ensures))) in
-    subst (λ (n : ℕ). MayBegin k (s.gate + n) left s.counters (s.from + length s.recs) x) (c.deref.ensures.len ∙ sym c.len.ensures) (subst (λ (y : Volume). MayBegin k gate_2 left s.counters (s.from + length s.recs) y) (sym (c.in-Ok.ensures.synced told x there)) f.begins)
+    subst (λ (n : ℕ). MayBegin k (s.gate + n) left s.counters (s.from + length s.recs) x) (c.deref.ensures.len ∙ sym c.len.ensures) (subst (λ (y : Volume). MayBegin k gate_2 left s.counters (s.from + length s.recs) y) (sym (c.in-Ok.ensures.synced told x there)) f)
 
 pub returns-in-Ok-clause-keeps_at_each_moment : goal.returns-in-Ok-clause-keeps_at_each_moment
 returns-in-Ok-clause-keeps_at_each_moment g c told first all keeps =

@@ -81,7 +81,7 @@ returns-in-Ok-clause-keeps g c told first all keeps =
     let up : s.down ≡ None = c.in_default.is in
     let stays : (y x : Volume) → d.images s.disk y → Forgot k.gate y x → HasFlushed first all (s.from + s.flushed) x = λ y x was step.
     let begins : MayBegin k s.gate (drop s.flushed s.recs) s.counters (s.from + length s.recs) y = s.begins told up k c.unwrap-gate.ensures y was in
-    forget_leaves k first all s.recs s.from s.flushed s.gate s.counters (d.images s.disk) y x (s.listed told up k c.unwrap-gate.ensures) s.lawful s.counts keeps was begins
+    forget_leaves k first all s.recs s.from s.flushed s.gate s.counters (d.images s.disk) y x s.lawful s.counts keeps was (s.ready told up y was) begins
     (forgotten k s.gate (drop s.flushed s.recs) s.counters (s.from + length s.recs) y x step (s.ready told up y was) begins).opens in
     record { earlier = keeps.earlier; whole = keeps.whole; count = keeps.count; each = λ x left. let from = c.forget.ensures.crash told x left in stays from.0 x from.1 from.2 }
 
@@ -91,7 +91,7 @@ returns-in-Ok-clause-keeps_at_each_moment g c told first all keeps =
     let up : s.down ≡ None = c.in_default.is in
     let stays : (y x : Volume) → d.images s.disk y → Forgot k.gate y x → HasFlushed first all (s.from + s.flushed) x = λ y x was step.
     let begins : MayBegin k s.gate (drop s.flushed s.recs) s.counters (s.from + length s.recs) y = s.begins told up k c.unwrap-gate.ensures y was in
-    forget_leaves k first all s.recs s.from s.flushed s.gate s.counters (d.images s.disk) y x (s.listed told up k c.unwrap-gate.ensures) s.lawful s.counts keeps was begins
+    forget_leaves k first all s.recs s.from s.flushed s.gate s.counters (d.images s.disk) y x s.lawful s.counts keeps was (s.ready told up y was) begins
     (forgotten k s.gate (drop s.flushed s.recs) s.counters (s.from + length s.recs) y x step (s.ready told up y was) begins).opens in
     let P : Volume → Type 0 = HasFlushed first all (s.from + s.flushed) in
     let k0 = kept_first d.moment d.left_at d.images P s.disk (λ y was. g.met.D.LogDisk.only_now s.disk y told was) (λ y was. keeps.each y was) in
@@ -103,7 +103,7 @@ returns-in-Err-clause-keeps g c told first all keeps =
     let up : s.down ≡ None = c.in_default.is in
     let stays : (y x : Volume) → d.images s.disk y → Forgot k.gate y x → HasFlushed first all (s.from + s.flushed) x = λ y x was step.
     let begins : MayBegin k s.gate (drop s.flushed s.recs) s.counters (s.from + length s.recs) y = s.begins told up k c.unwrap-gate.ensures y was in
-    forget_leaves k first all s.recs s.from s.flushed s.gate s.counters (d.images s.disk) y x (s.listed told up k c.unwrap-gate.ensures) s.lawful s.counts keeps was begins
+    forget_leaves k first all s.recs s.from s.flushed s.gate s.counters (d.images s.disk) y x s.lawful s.counts keeps was (s.ready told up y was) begins
     (forgotten k s.gate (drop s.flushed s.recs) s.counters (s.from + length s.recs) y x step (s.ready told up y was) begins).opens in
     record { earlier = keeps.earlier; whole = keeps.whole; count = keeps.count; each = λ x left. let from = c.forget.ensures.crash told x left in stays from.0 x from.1 from.2 }
 
@@ -113,7 +113,7 @@ returns-in-Err-clause-keeps_at_each_moment g c told first all keeps =
     let up : s.down ≡ None = c.in_default.is in
     let stays : (y x : Volume) → d.images s.disk y → Forgot k.gate y x → HasFlushed first all (s.from + s.flushed) x = λ y x was step.
     let begins : MayBegin k s.gate (drop s.flushed s.recs) s.counters (s.from + length s.recs) y = s.begins told up k c.unwrap-gate.ensures y was in
-    forget_leaves k first all s.recs s.from s.flushed s.gate s.counters (d.images s.disk) y x (s.listed told up k c.unwrap-gate.ensures) s.lawful s.counts keeps was begins
+    forget_leaves k first all s.recs s.from s.flushed s.gate s.counters (d.images s.disk) y x s.lawful s.counts keeps was (s.ready told up y was) begins
     (forgotten k s.gate (drop s.flushed s.recs) s.counters (s.from + length s.recs) y x step (s.ready told up y was) begins).opens in
     let P : Volume → Type 0 = HasFlushed first all (s.from + s.flushed) in
     let k0 = kept_first d.moment d.left_at d.images P s.disk (λ y was. g.met.D.LogDisk.only_now s.disk y told was) (λ y was. keeps.each y was) in

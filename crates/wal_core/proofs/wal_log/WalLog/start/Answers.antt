@@ -1,16 +1,17 @@
-use Rattle.std.proofs.Common.{◌≡◌, ℕ, ◌+◌, List, [], length, Some, None, sym, ◌∙◌, ap, subst, arith}
+use Rattle.std.proofs.Common.{◌≡◌, ℕ, ◌+◌, List, [], length, Option, sym, ◌∙◌, ap, subst, arith}
 use Rattle.tx_model.specs.declared.record.Rec.{Rec}
 use Rattle.disk_core.specs.Volume.{Volume}
-use Rattle.wal_core.specs.Log.{are_lawful, IsReady}
+use Rattle.wal_records.specs.Lawful.{are_lawful}
+use Rattle.wal_core.specs.Log.{IsReady}
 use Rattle.wal_core.proofs.Flush.{nothing_next}
 use Rattle.wal_core.proofs.Starts.{nothing_behind}
 use Rattle.wal_core.specs.declared.checkpoint.LastCheckpoint.{LastCheckpoint}
-use Rattle.wal_core.specs.Opening.{opened}
+use Rattle.wal_core.specs.Opening.{opened, walked}
+use Rattle.wal_core.specs.LastBatch.{last_batch}
+use Rattle.wal_core.specs.Checkpoint.{IsCheckpointIn, MayBegin}
+use Rattle.wal_core.proofs.LastBatches.{started_alone}
 use Rattle.wal_core.proofs.Keeping.{start_keeps}
 use Rattle.wal_core.proofs.wal_log.WalLog.start.Goals as goal
-
-none_is : (k : LastCheckpoint) → None ≡ Some k → ⊥
-none_is k e = cc
 
 pub invariant_of-log : goal.invariant_of-log
 invariant_of-log g c =
@@ -27,8 +28,15 @@ invariant_of-log g c =
       lawful = ap are_lawful none;
       numbered = omega (arith, recs, c.in-Ok.ensures.numbers);
       starts = λ told up. c.in-Ok-close_gate.ensures.start told ∙ ap (λ (v : Volume). v.start) (c.read_log.ensures.same told) ∙ sym (c.in-Ok.ensures.begins told);
-      listed = λ told up k e. absurd (none_is k e);
-      begins = λ told up k e v left. absurd (none_is k e);
+      begins = λ told up k e v left.
+          let d = g.D.LogDisk in let next : ℕ = found.first + length c.items.result.now + length c.new.result in
+          let last : found.first + length found.recs ≡ next = omega (arith, empty, recs) in
+          let v0 : Volume = d.reads c.args.disk in let w : Volume = d.reads c.close_gate.new.disk in
+          let same : d.reads c.read_log.new.disk ≡ v0 = c.read_log.ensures.same told in
+          subst (λ (x : Volume). MayBegin k found.gate c.new.result found.counters next x) (sym (c.in-Ok-close_gate.ensures.synced told v left)) (
+          started_alone k v0 w found.gate next found.first found.recs c.new.result found.counters (subst (λ (o : Option LastCheckpoint). IsCheckpointIn (last_batch v0) found.counters o) e (c.in-Ok.ensures.last told)) (c.in-Ok.ensures.read told)
+          (c.in-Ok-close_gate.ensures.opens told ∙ ap opened same) (c.in-Ok-close_gate.ensures.start told ∙ ap (λ (x : Volume). x.start) same)
+          (λ some. c.in-Ok-close_gate.ensures.batches told some ∙ ap (λ (x : Volume). (walked x).bodies) same) (subst (λ (n : ℕ). IsReady found.gate [] found.counters n w) last (c.in-Ok-close_gate.ensures.ready told)) none);
       ready = λ told up v left.
           let ready = c.in-Ok-close_gate.ensures.ready told in
           let next : found.first + length found.recs ≡ found.first + length c.items.result.now + length c.new.result = omega (arith, empty, recs) in

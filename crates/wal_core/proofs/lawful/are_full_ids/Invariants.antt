@@ -1,6 +1,0 @@
-use Rattle.std.proofs.Common.{◌≡◌, drop}
-use Rattle.wal_core.specs.Log.{all_ids}
-use Rattle.wal_core.proofs.lawful.are_full_ids.Given as goal
-
-abbrev pub invariant-loop-member : goal.invariant-loop-member
-invariant-loop-member l = all_ids (drop l.member-index l.members) ≡ all_ids l.fn.members

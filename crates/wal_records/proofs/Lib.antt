@@ -1,0 +1,6 @@
+pub mod Loop
+pub mod Fields
+pub mod Records
+pub mod ReadLemmas
+pub mod Lengths
+pub mod LawfulTests

@@ -1,0 +1,187 @@
+ghost use Rattle.std.specs.Prelude.{◌≡◌, ◌<◌, ◌≤◌, ◌^◌, ◌++◌, ◌∷◌, [], length, OnOk, OnErr, IfOk};
+ghost use Rattle.std.specs.List.{flat_map};
+ghost use Rattle.wal_records.specs.Numbers.{le_bytes};
+ghost use Rattle.wal_records.specs.Spelling.{rec_bytes, tree_bytes, multi_bytes, counters_bytes, truncate_bytes, member_bytes, mode_number, HasCounts};
+
+use byteorder::{ByteOrder, LittleEndian};
+use std::alloc::{AllocError, Global};
+use tx_model::{Counters, Member, Memory, Mode, Rec};
+use xid_order::{FullMulti, FullXid};
+
+#[tactic(auto, unfolding(crate::specs::Numbers::le_bytes))]
+fn put_u64(out: &mut Vec<u8>, n: u64) -> Result<(), AllocError>
+    ensures { OnOk result (out.new.items ≡ out.old.items ++ le_bytes 8 n) }
+{
+    let mut bytes = [0; 8];
+    LittleEndian::write_u64(&mut bytes, n);
+    out.extend_from_slice(&bytes)
+}
+
+#[tactic(auto, unfolding(crate::specs::Numbers::le_bytes))]
+fn put_u32(out: &mut Vec<u8>, n: u32) -> Result<(), AllocError>
+    ensures { OnOk result (out.new.items ≡ out.old.items ++ le_bytes 4 n) }
+{
+    let mut bytes = [0; 4];
+    LittleEndian::write_u32(&mut bytes, n);
+    out.extend_from_slice(&bytes)
+}
+
+fn put_ids(out: &mut Vec<u8>, ids: &[FullXid]) -> Result<(), AllocError>
+    ensures { OnOk result (out.new.items ≡ out.old.items ++ flat_map (le_bytes 8) ids.now) }
+{
+    for id in ids {
+        put_u64(out, id.number())?;
+    }
+    Ok(())
+}
+
+#[tactic(auto, unfolding(crate::specs::Spelling::tree_bytes))]
+fn put_tree(out: &mut Vec<u8>, top: FullXid, subs: &[FullXid]) -> Result<(), AllocError>
+    requires { length subs.now < 2 ^ 32 }
+    ensures { OnOk result (out.new.items ≡ out.old.items ++ tree_bytes top subs.now) }
+{
+    put_u64(out, top.number())?;
+    put_u32(out, subs.len() as u32)?;
+    put_ids(out, subs)
+}
+
+fn mode_byte(mode: Mode) -> u8
+    ensures { result ≡ mode_number mode }
+{
+    match mode {
+        Mode::KeySh => 0,
+        Mode::Sh => 1,
+        Mode::ForNoKeyUpd => 2,
+        Mode::ForUpd => 3,
+        Mode::NoKeyUpd => 4,
+        Mode::Upd => 5,
+    }
+}
+
+fn put_members(out: &mut Vec<u8>, members: &[Member]) -> Result<(), AllocError>
+    ensures { OnOk result (out.new.items ≡ out.old.items ++ flat_map member_bytes members.now) }
+{
+    for member in members {
+        out.push(mode_byte(member.mode))?;
+        put_u64(out, member.id.number())?;
+    }
+    Ok(())
+}
+
+#[tactic(auto, unfolding(crate::specs::Spelling::counters_bytes))]
+fn put_counters(out: &mut Vec<u8>, counters: &Counters) -> Result<(), AllocError>
+    ensures { OnOk result (out.new.items ≡ out.old.items ++ counters_bytes counters.now) }
+{
+    put_u64(out, counters.next.number())?;
+    put_u64(out, counters.oldest.number())?;
+    put_u64(out, counters.multi.number())?;
+    put_u64(out, counters.offset)?;
+    put_u64(out, counters.oldest_multi.number())?;
+    put_u64(out, counters.oldest_offset)
+}
+
+#[tactic(auto, unfolding(crate::specs::Spelling::multi_bytes))]
+fn put_multi(
+    out: &mut Vec<u8>,
+    multi: FullMulti,
+    offset: u64,
+    members: &[Member],
+) -> Result<(), AllocError>
+    requires { length members.now ≤ 64 }
+    ensures { OnOk result (out.new.items ≡ out.old.items ++ multi_bytes multi offset members.now) }
+{
+    put_u64(out, multi.number())?;
+    put_u64(out, offset)?;
+    put_u32(out, members.len() as u32)?;
+    put_members(out, members)
+}
+
+#[tactic(auto, unfolding(crate::specs::Spelling::truncate_bytes))]
+fn put_truncate(
+    out: &mut Vec<u8>,
+    oldest: FullXid,
+    multi: FullMulti,
+    offset: u64,
+) -> Result<(), AllocError>
+    ensures { OnOk result (out.new.items ≡ out.old.items ++ truncate_bytes oldest multi offset) }
+{
+    put_u64(out, oldest.number())?;
+    put_u64(out, multi.number())?;
+    put_u64(out, offset)
+}
+
+fn put_rec(out: &mut Vec<u8>, rec: &Rec) -> Result<(), AllocError>
+    requires { HasCounts rec.now }
+    ensures { OnOk result (out.new.items ≡ out.old.items ++ rec_bytes rec.now) }
+{
+    match rec {
+        Rec::Commit { top, subs } => {
+            out.push(1)?;
+            put_tree(out, *top, subs.items())
+        }
+        Rec::Abort { top, subs } => {
+            out.push(2)?;
+            put_tree(out, *top, subs.items())
+        }
+        Rec::Multi {
+            multi,
+            offset,
+            members,
+        } => {
+            out.push(3)?;
+            put_multi(out, *multi, *offset, members.items())
+        }
+        Rec::Checkpoint { number, counters } => {
+            out.push(4)?;
+            put_u64(out, *number)?;
+            put_counters(out, counters)
+        }
+        Rec::Truncate {
+            oldest,
+            multi,
+            offset,
+        } => {
+            out.push(5)?;
+            put_truncate(out, *oldest, *multi, *offset)
+        }
+    }
+}
+
+/// Adds the record's bytes at the end. After an `Err` nothing has changed.
+pub fn write_rec(rec: &Rec, into: &mut Vec<u8>) -> Result<(), Memory>
+    requires { HasCounts rec.now }
+    ensures ok { OnOk result (into.new.items ≡ into.old.items ++ rec_bytes rec.now) }
+    ensures err { OnErr result (into.new.items ≡ into.old.items) }
+{
+    let mut bytes = Vec::new(*into.allocator());
+    put_rec(&mut bytes, rec)?;
+    into.extend_from_slice(&bytes)?;
+    Ok(())
+}
+
+/// How many bytes a record has.
+pub fn rec_length(rec: &Rec) -> u64
+    requires { HasCounts rec.now }
+    ensures length { result ≡ length (rec_bytes rec.now) }
+    ensures short { result < 2 ^ 36 }
+{
+    match rec {
+        Rec::Commit { top: _, subs } | Rec::Abort { top: _, subs } => {
+            13 + 8 * subs.items().len() as u64
+        }
+        Rec::Multi {
+            multi: _,
+            offset: _,
+            members,
+        } => 21 + 9 * members.items().len() as u64,
+        Rec::Checkpoint {
+            number: _,
+            counters: _,
+        } => 57,
+        Rec::Truncate {
+            oldest: _,
+            multi: _,
+            offset: _,
+        } => 25,
+    }
+}

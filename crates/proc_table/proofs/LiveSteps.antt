@@ -110,6 +110,3 @@ holds_less ss l l' r h has names less =
 
 pub holds_same : (ss : List LiveSnap) (l l' : LiveSnapshots) → HoldsLive ss l → ((t : ℕ) (ns : List ℕ) → kept_xmin l'.sessions.items t ns ≡ kept_xmin l.sessions.items t ns) → IsTally (with_xmin ss) l'.xmins → HoldsLive ss l'
 holds_same ss l l' h names xmins = record { apart = h.apart; names = λ t ns. names t ns ∙ h.names t ns; xmins = xmins }
-
-pub holds_none : (l : LiveSnapshots) → ((t : ℕ) (ns : List ℕ) → kept_xmin l.sessions.items t ns ≡ None) → IsTally (λ _. 0) l.xmins → HoldsLive [] l
-holds_none l names xmins = record { apart = tt; names = names; xmins = xmins }

@@ -4,20 +4,17 @@ use Rattle.proc_table.proofs.LiveLemmas.{own_twin, has_any, one_taken}
 use Rattle.proc_table.proofs.SnapshotLemmas.{xmin_is}
 use Rattle.proc_table.proofs.StateBounds.{late_bounds}
 use Rattle.proc_table.proofs.States.{state_quiet}
-use Rattle.proc_table.proofs.XminTallies.{some_within, counted_to}
 use Rattle.proc_table.specs.Lists.{tops_of}
-use Rattle.proc_table.specs.Lives.{HoldsLive, others, with_xmin}
+use Rattle.proc_table.specs.Lives.{HoldsLive, others}
 use Rattle.proc_table.specs.State.{IsState}
 use Rattle.proc_table.specs.Table.{InTurn}
 use Rattle.proc_table.specs.declared.entry.Entry.{Entry}
 use Rattle.proc_table.specs.declared.live.LiveSnapshots.{LiveSnapshots}
-use Rattle.std.proofs.Common.{◌≡◌, ℕ, suc, ◌-◌, ◌<◌, ◌≤◌, List, [], ◌∷◌, ◌++◌, length, reverse, refl, ap, sym, subst, ◌∙◌, arith, false, Contains, ◌+◌, ◌^◌, map, min, Option, Some, None}
+use Rattle.std.proofs.Common.{◌≡◌, ℕ, suc, ◌-◌, ◌<◌, ◌≤◌, List, [], ◌∷◌, ◌++◌, length, reverse, refl, ap, sym, subst, ◌∙◌, arith, false, Contains, ◌+◌, ◌^◌, map, min}
 use Rattle.std.proofs.lemmas.List.{reverse-reverse}
 use Rattle.std.proofs.lemmas.List.Sums.{sum_by-cons}
-use Rattle.std.specs.BTreeMap.{get}
 use Rattle.std.specs.List.{list_any, fold}
-use Rattle.std.specs.Ordering.{nat_cmp}
-use Rattle.std.specs.Prelude.{IfSome, sum_by}
+use Rattle.std.specs.Prelude.{sum_by}
 use Rattle.tx_model.proofs.ListSteps.{length_push}
 use Rattle.tx_model.proofs.Membership.{Has, contains_has}
 use Rattle.tx_model.specs.Horizon.{oldest_id, live_snaps, LiveSnap, oldest_xmin, is_snap_of, is_live}
@@ -51,18 +48,6 @@ state_raised base h n oldest late promised entries lives by new s turn from to =
     let c : next_id late < 2 ^ 63 = next_id_to late (late_bounds base h n oldest late promised entries lives s).1 in
     let d : snapshot_xmax base.next h ≡ next_id late = ap next_id (sym s.latest_is) in
     state_quiet base h (events.Oldest by new) n oldest new late promised promised entries lives lives s tt (from, to) turn refl (omega arith) s.live s.room
-
--- how many have one xmin is far below the limit, where there is room for one more event
-pub xmin_fits : (base : Counters) (h : List Event) (n oldest late promised : ℕ) (entries : List Entry) (lives : LiveSnapshots) (x : ℕ) → IsState base h n oldest late promised entries lives → promised + 2 < 2 ^ 64 → IfSome (get nat_cmp lives.xmins x) (λ n. n + 1 < 2 ^ 64)
-xmin_fits base h n oldest late promised entries lives x s fits = at (get nat_cmp lives.xmins x) refl
-  where
-    at : (o : Option ℕ) → get nat_cmp lives.xmins x ≡ o → IfSome o (λ n. n + 1 < 2 ^ 64)
-    at None e = tt
-    at (Some m) e =
-        let c : with_xmin (live_snaps base.next h) x ≡ m = (some_within (with_xmin (live_snaps base.next h) x) m (sym (s.live.xmins x) ∙ e)).0 in
-        let to : with_xmin (live_snaps base.next h) x ≤ length (live_snaps base.next h) = counted_to (live_snaps base.next h) x in
-        let room : length (running h) + length (live_snaps base.next h) ≤ promised = s.room in
-        omega arith
 
 -- a snapshot was taken
 pub state_snapped : (base : Counters) (h : List Event) (n oldest late promised : ℕ) (entries : List Entry) (lives lives' : LiveSnapshots) (by : By) (name : List ℕ) (xmin : ℕ) →

@@ -19,6 +19,7 @@ type NamedXmins = BTreeMap<Vec<u8>, FullXid>;
 /// logarithm of how many there are.
 #[derive(Drop)]
 pub struct LiveSnapshots {
+    /// Of each session, by its number.
     sessions: Vec<NamedXmins>,
     xmins: XminCounts,
 }

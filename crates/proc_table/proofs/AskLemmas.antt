@@ -3,7 +3,7 @@ use Rattle.proc_table.specs.Entries.{IsEntryAt, is_of_entry, SubsAscend}
 use Rattle.proc_table.specs.Lists.{tops_of}
 use Rattle.proc_table.specs.State.{IsState}
 use Rattle.proc_table.specs.declared.entry.Entry.{Entry}
-use Rattle.proc_table.specs.declared.live.LiveEntry.{LiveEntry}
+use Rattle.proc_table.specs.declared.live.LiveSnapshots.{LiveSnapshots}
 use Rattle.std.proofs.Common.{◌≡◌, ℕ, List, [], ◌∷◌, refl, ap, sym, ◌∙◌, Bool, true, false, not, ◌&&◌, ◌==◌, ◌||◌, subst, ⊎_elim}
 use Rattle.std.proofs.lemmas.Bool.{false≢true}
 use Rattle.std.proofs.lemmas.List.Elements.{All-from_recursion}
@@ -55,14 +55,14 @@ same_tests false true f g = g refl
 same_tests false false f g = refl
 
 -- an id is of an entry exactly where it runs
-pub asked_is : (base : Counters) (h : List Event) (n oldest late promised : ℕ) (entries : List Entry) (lives : List LiveEntry) (x : ℕ) → IsState base h n oldest late promised entries lives → list_any (is_of_entry x) entries ≡ has (running h) x
+pub asked_is : (base : Counters) (h : List Event) (n oldest late promised : ℕ) (entries : List Entry) (lives : LiveSnapshots) (x : ℕ) → IsState base h n oldest late promised entries lives → list_any (is_of_entry x) entries ≡ has (running h) x
 asked_is base h n oldest late promised entries lives x s =
     same_tests (list_any (is_of_entry x) entries) (has (running h) x)
     (any_runs base.next h x entries s.each)
     (λ f. top_listed base.next h x entries s.each (ap (λ l. has l (top h x)) s.tops ∙ (root_runs base.next h x (legal_sound base h s.legal) f).0) f)
 
 -- the subids of each entry ascend
-pub subs_ascend : (base : Counters) (h : List Event) (n oldest late promised : ℕ) (entries : List Entry) (lives : List LiveEntry) → IsState base h n oldest late promised entries lives → All SubsAscend entries
+pub subs_ascend : (base : Counters) (h : List Event) (n oldest late promised : ℕ) (entries : List Entry) (lives : LiveSnapshots) → IsState base h n oldest late promised entries lives → All SubsAscend entries
 subs_ascend base h n oldest late promised entries lives s =
     All-from_recursion SubsAscend entries
     (all_weaker (IsEntryAt base.next h) SubsAscend

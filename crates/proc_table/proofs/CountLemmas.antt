@@ -4,7 +4,7 @@ use Rattle.proc_table.proofs.SnapshotLemmas.{tops_below_are, over_below, subs_be
 use Rattle.proc_table.specs.Lists.{tops_of, subs_of, entries_below, some_overflowed, total_of, count_of}
 use Rattle.proc_table.specs.State.{IsState}
 use Rattle.proc_table.specs.declared.entry.Entry.{Entry}
-use Rattle.proc_table.specs.declared.live.LiveEntry.{LiveEntry}
+use Rattle.proc_table.specs.declared.live.LiveSnapshots.{LiveSnapshots}
 use Rattle.std.proofs.Common.{◌≡◌, ℕ, suc, zero, ◌<◌, ◌≤◌, List, [], ◌∷◌, ◌++◌, length, take, refl, ap, sym, ◌∙◌, arith, Bool, true, false, not, ◌&&◌, ◌==◌, cond, ◌+◌, nat_lt, length-append}
 use Rattle.std.proofs.lemmas.List.Sorted.{length_permutation}
 use Rattle.std.proofs.lemmas.List.Sums.{sum_by-cons}
@@ -14,6 +14,7 @@ use Rattle.tx_model.proofs.LegalSoundness.{legal_sound}
 use Rattle.tx_model.proofs.ListSteps.{filter_length, not_both, and_both}
 use Rattle.tx_model.specs.Events.{given}
 use Rattle.tx_model.specs.Families.{top, is_top}
+use Rattle.tx_model.specs.Horizon.{live_snaps}
 use Rattle.tx_model.specs.IdLists.{Ascending}
 use Rattle.tx_model.specs.Running.{is_open, running, running_tops}
 use Rattle.tx_model.specs.Snapshots.{running_subs, has_overflowed, snapshot_xmax, snapshot_xips, snapshot_subs, is_overflowed}
@@ -84,12 +85,12 @@ listed_run first h =
     one false = fewer (λ x. not (is_top h x) && list_any (λ t. t == top h x) (snapshot_xips first h)) (λ x. not (is_top h x)) (λ x e. (and_both (not (is_top h x)) (list_any (λ t. t == top h x) (snapshot_xips first h)) e).0) (running h)
 
 -- the count is that of the lists, and there is room for it
-pub total_is : (base : Counters) (h : List Event) (n oldest late promised : ℕ) (entries : List Entry) (lives : List LiveEntry) (xmax : ℕ) (overflowed : Bool) → IsState base h n oldest late promised entries lives → xmax ≡ snapshot_xmax base.next h → overflowed ≡ some_overflowed (entries_below entries xmax) →
+pub total_is : (base : Counters) (h : List Event) (n oldest late promised : ℕ) (entries : List Entry) (lives : LiveSnapshots) (xmax : ℕ) (overflowed : Bool) → IsState base h n oldest late promised entries lives → xmax ≡ snapshot_xmax base.next h → overflowed ≡ some_overflowed (entries_below entries xmax) →
     (total_of overflowed (entries_below entries xmax) ≡ length (snapshot_xips base.next h) + length (snapshot_subs base.next h)) × (total_of overflowed (entries_below entries xmax) ≤ promised)
 total_is base h n oldest late promised entries lives xmax overflowed s e_max e_over =
     let total : total_of overflowed (entries_below entries xmax) ≡ length (snapshot_xips base.next h) + length (snapshot_subs base.next h) = ap (λ m. total_of overflowed (entries_below entries m)) e_max ∙ split overflowed over in
     let listed : length (snapshot_xips base.next h) + length (snapshot_subs base.next h) ≤ length (running h) = listed_run base.next h in
-    let room : length (running h) + length lives ≤ promised = s.room in
+    let room : length (running h) + length (live_snaps base.next h) ≤ promised = s.room in
     (total, omega arith)
   where
     over : overflowed ≡ is_overflowed base.next h

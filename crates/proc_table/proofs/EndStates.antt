@@ -3,10 +3,11 @@ use Rattle.proc_table.proofs.EntryClosing.{latest_ended, entry_other_end}
 use Rattle.proc_table.proofs.EntryLists.{map_filter, all_kept, any_all}
 use Rattle.proc_table.specs.Entries.{IsEntry, IsEntryAt}
 use Rattle.proc_table.specs.Lists.{tops_of}
+use Rattle.proc_table.specs.Lives.{HoldsLive}
 use Rattle.proc_table.specs.State.{IsState}
 use Rattle.proc_table.specs.Table.{InTurn, end_event}
 use Rattle.proc_table.specs.declared.entry.Entry.{Entry}
-use Rattle.proc_table.specs.declared.live.LiveEntry.{LiveEntry}
+use Rattle.proc_table.specs.declared.live.LiveSnapshots.{LiveSnapshots}
 use Rattle.std.proofs.Common.{◌≡◌, ℕ, ◌-◌, ◌<◌, ◌≤◌, List, [], ◌∷◌, ◌++◌, length, reverse, refl, ap, sym, ◌∙◌, arith, Bool, true, false, not, ◌&&◌, ◌==◌, ◌||◌, cond, Contains, subst, max, inl, inr, ⊎_elim, ◌⊎◌, ◌+◌}
 use Rattle.std.specs.List.{filter, AllByRecursion, list_any, Any}
 use Rattle.tx_model.proofs.ClosingGrowth.{closing_commit, closing_abort, closing_open_ids, IsClosing, closing_running, closing_tops}
@@ -49,7 +50,7 @@ gone base h t q (e ∷ es) a f = one (t == e.top) refl (e.session == q) refl f (
     one false k false d f g = ⊎_elim (λ l. inl (ap (λ b. b || list_any (λ (e : Entry). e.session == q) es) d ∙ l)) inr (g (or_right (e.session == q) (list_any (λ (e : Entry). e.session == q) (filter (λ (e : Entry). not (t == e.top)) es)) f))
 
 -- the end of a top, which was given last the id `last`
-pub state_end : (base : Counters) (h : List Event) (e : Event) (t n oldest late promised : ℕ) (entries : List Entry) (lives : List LiveEntry) (ended : Entry) →
+pub state_end : (base : Counters) (h : List Event) (e : Event) (t n oldest late promised : ℕ) (entries : List Entry) (lives : LiveSnapshots) (ended : Entry) →
     IsState base h n oldest late promised entries lives → IsClosing h e (λ x. not (t == top h x)) → MayCome base h e → ComesInTurn h e →
     ((m : ℕ) → t < m → NamesBelow m e) → announced_after oldest e ≡ oldest → live_up base.next (e ∷ reverse h) ≡ live_snaps base.next h →
     IsEntryAt base.next h ended → ended.top ≡ t → 1 ≤ promised →
@@ -63,7 +64,9 @@ state_end base h e t n oldest late promised entries lives ended s c may turn nam
     let run : running (h ++ e ∷ []) ≡ filter (λ x. not (t == top h x)) (running h) = closing_running h e (λ x. not (t == top h x)) c in
     let fewer : length (filter (λ x. not (t == top h x)) (running h)) + 1 ≤ length (running h) = one_less (λ x. not (t == top h x)) (running h) t runs (ap not (ap (λ u. t == u) own_top ∙ eqb-refl t)) in
     let same : length (running (h ++ e ∷ [])) ≡ length (filter (λ x. not (t == top h x)) (running h)) = ap length run in
-    let room : length (running h) + length lives ≤ promised = s.room in
+    let room : length (running h) + length (live_snaps base.next h) ≤ promised = s.room in
+    let kept : live_snaps base.next (h ++ e ∷ []) ≡ live_snaps base.next h = live_push base.next h e ∙ live in
+    let as_many : length (live_snaps base.next (h ++ e ∷ [])) ≡ length (live_snaps base.next h) = ap length kept in
     record {
       base_is = s.base_is;
       legal = legal_push base h e s.legal may turn;
@@ -82,7 +85,7 @@ state_end base h e t n oldest late promised entries lives ended s c may turn nam
           ∙ ⊎_elim (λ k. ap (filter (λ x. not (t == top h x))) (s.others q k))
           (λ k. ap (filter (λ x. not (t == top h x))) k ∙ filter_none (λ x. (top h x == t) ≡ true) (λ x. not (t == top h x)) (family h t) (λ x j. ap not (ap (λ u. t == u) (equal_from (top h x) t j) ∙ eqb-refl t)) (filter_passes (λ x. top h x == t) (running h)))
           (gone base.next h t q entries s.each f);
-      live = s.live ∙ sym (live_push base.next h e ∙ live);
+      live = subst (λ ss. HoldsLive ss lives) (sym kept) s.live;
       room = omega arith;
       next_to = s.next_to;
       oldest_to = s.oldest_to;
@@ -93,19 +96,19 @@ state_end base h e t n oldest late promised entries lives ended s c may turn nam
     not_true true f = not_both false refl f
 
 -- where an id is open, an event is promised
-pub is_promised : (base : Counters) (h : List Event) (n oldest late promised : ℕ) (entries : List Entry) (lives : List LiveEntry) (session x : ℕ) →
+pub is_promised : (base : Counters) (h : List Event) (n oldest late promised : ℕ) (entries : List Entry) (lives : LiveSnapshots) (session x : ℕ) →
     IsState base h n oldest late promised entries lives → Contains (open_ids session h) x → 1 ≤ promised
 is_promised base h n oldest late promised entries lives session x s c =
     let some : 1 ≤ length (running h) = some_had (running h) x (session_runs session h x c) in
-    let room : length (running h) + length lives ≤ promised = s.room in
+    let room : length (running h) + length (live_snaps base.next h) ≤ promised = s.room in
     omega arith
 
-pub has_entry : (base : Counters) (h : List Event) (n oldest late promised : ℕ) (entries : List Entry) (lives : List LiveEntry) (session t : ℕ) →
+pub has_entry : (base : Counters) (h : List Event) (n oldest late promised : ℕ) (entries : List Entry) (lives : LiveSnapshots) (session t : ℕ) →
     IsState base h n oldest late promised entries lives → Contains (open_ids session h) t → is_top h t ≡ true → has (tops_of entries) t ≡ true
 has_entry base h n oldest late promised entries lives session t s c f =
     ap (λ l. has l t) s.tops ∙ has-filter (is_top h) (running h) t ∙ ap (λ b. b && is_top h t) (session_runs session h t c) ∙ f
 
-pub state_ended : (base : Counters) (h : List Event) (by : By) (t last n oldest late promised : ℕ) (committed : Bool) (entries : List Entry) (lives : List LiveEntry) →
+pub state_ended : (base : Counters) (h : List Event) (by : By) (t last n oldest late promised : ℕ) (committed : Bool) (entries : List Entry) (lives : LiveSnapshots) →
     IsState base h n oldest late promised entries lives → InTurn by h → Contains (open_ids by.session h) t → is_top h t ≡ true →
     Any (λ (e : Entry). (e.top ≡ t) × (last ≡ e.last)) entries →
     IsState base (h ++ end_event committed by t ∷ []) n oldest (max late last) (promised - 1) (filter (λ (e : Entry). not (t == e.top)) entries) lives

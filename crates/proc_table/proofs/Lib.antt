@@ -9,6 +9,8 @@ pub mod EndStates
 pub mod UndoStates
 pub mod StateBounds
 pub mod LiveLemmas
+pub mod XminTallies
+pub mod LiveSteps
 pub mod MergedSubs
 pub mod SortedSame
 pub mod SnapshotLemmas

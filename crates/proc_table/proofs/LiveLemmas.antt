@@ -1,18 +1,14 @@
 -- Live snapshots: each session has one of a name.
-use Rattle.std.proofs.Common.{◌≡◌, ℕ, suc, zero, ◌<◌, ◌≤◌, List, [], ◌∷◌, ◌++◌, length, take, reverse, refl, ap, sym, ◌∙◌, arith, Bool, true, false, not, ◌&&◌, ◌==◌, ◌||◌, cond, subst}
+use Rattle.std.proofs.Common.{◌≡◌, ℕ, ◌+◌, ◌≤◌, List, [], ◌∷◌, ◌++◌, length, take, refl, ap, sym, ◌∙◌, inl, inr, ⊎_elim, arith, Bool, true, false, not, ◌&&◌, ◌==◌, ◌||◌, cond, Option, Some, None}
+use Rattle.std.proofs.lemmas.List.Sums.{sum_by-cons}
 use Rattle.std.specs.Cmp.Lexicographic.{pointwise, same_text}
-use Rattle.std.specs.List.{filter, list_any, slice_index_or}
-use Rattle.std.specs.Prelude.{remove, nat_eq}
-use Rattle.tx_model.proofs.HorizonSteps.{live_push}
-use Rattle.tx_model.proofs.LegalSoundness.{legal_induction}
+use Rattle.std.specs.List.{filter, list_any}
+use Rattle.std.specs.Prelude.{nat_eq, sum_by, IfSome, IfNone}
 use Rattle.tx_model.proofs.ListSteps.{or_true, or_left, eqb-refl, or_right, list_any-push, not_both, and_both, take_whole, equal_from}
+use Rattle.tx_model.proofs.Membership.{Has}
 use Rattle.tx_model.specs.Events.{same_name}
-use Rattle.tx_model.specs.Families.{top}
-use Rattle.tx_model.specs.History.{IsLegal, MayCome}
-use Rattle.tx_model.specs.Horizon.{live_up, live_snaps, LiveSnap, is_snap_of, is_live}
-use Rattle.tx_model.specs.declared.event.Event.{Event}
-use Rattle.tx_model.specs.declared.record.Counters.{Counters}
-use Rattle.tx_model.specs.declared.event.Event.TheVariants as events
+use Rattle.tx_model.specs.Horizon.{LiveSnap, is_snap_of}
+use Rattle.proc_table.specs.Lives.{AreApart, live_xmin, others}
 
 -- names
 pointwise_refl : (xs : List ℕ) → pointwise nat_eq xs xs ≡ true
@@ -56,11 +52,6 @@ twin_name session name s e = same_name_equal s.name name (and_both (s.session ==
 pub own_twin : (s : LiveSnap) → is_snap_of s.session s.name s ≡ true
 own_twin s = ap (λ b. b && same_name s.name s.name) (eqb-refl s.session) ∙ same_name_refl s.name
 
--- no snapshot has the session and name of one before it
-abbrev pub Apart : List LiveSnap → Type 0
-Apart [] = Unit {0}
-Apart (s ∷ ss) = (list_any (is_snap_of s.session s.name) ss ≡ false) × Apart ss
-
 apart_swap : (s t : LiveSnap) → is_snap_of t.session t.name s ≡ false → is_snap_of s.session s.name t ≡ false
 apart_swap s t f = one (is_snap_of s.session s.name t) refl
   where
@@ -70,7 +61,7 @@ apart_swap s t f = one (is_snap_of s.session s.name t) refl
         not_both (is_snap_of t.session t.name s) f
         (ap (λ n. is_snap_of n t.name s) (twin_session s.session s.name t e) ∙ ap (λ n. is_snap_of s.session n s) (twin_name s.session s.name t e) ∙ own_twin s)
 
-pub apart_push : (ss : List LiveSnap) (t : LiveSnap) → Apart ss → list_any (is_snap_of t.session t.name) ss ≡ false → Apart (ss ++ t ∷ [])
+pub apart_push : (ss : List LiveSnap) (t : LiveSnap) → AreApart ss → list_any (is_snap_of t.session t.name) ss ≡ false → AreApart (ss ++ t ∷ [])
 apart_push [] t a f = (refl, tt)
 apart_push (s ∷ ss) t a f = (
   list_any-push (is_snap_of s.session s.name) ss t
@@ -87,52 +78,114 @@ any_filtered p q (x ∷ xs) f = one (q x) (any_filtered p q xs (or_right (p x) (
     one true g = ap (λ b. b || list_any p (filter q xs)) (or_left (p x) (list_any p xs) f) ∙ g
     one false g = g
 
-pub apart_filtered : (q : LiveSnap → Bool) (ss : List LiveSnap) → Apart ss → Apart (filter q ss)
+pub apart_filtered : (q : LiveSnap → Bool) (ss : List LiveSnap) → AreApart ss → AreApart (filter q ss)
 apart_filtered q [] a = tt
 apart_filtered q (s ∷ ss) a = one (q s) (apart_filtered q ss a.1)
   where
-    one : (c : Bool) → Apart (filter q ss) → Apart (cond c (s ∷ filter q ss) (filter q ss))
+    one : (c : Bool) → AreApart (filter q ss) → AreApart (cond c (s ∷ filter q ss) (filter q ss))
     one true g = (any_filtered (is_snap_of s.session s.name) q ss a.0, g)
     one false g = g
 
-kept_whole : {X : Type 0} (p : X → Bool) (xs : List X) → list_any p xs ≡ false → filter (λ x. not (p x)) xs ≡ xs
+pub kept_whole : {X : Type 0} (p : X → Bool) (xs : List X) → list_any p xs ≡ false → filter (λ x. not (p x)) xs ≡ xs
 kept_whole p [] f = refl
 kept_whole p (x ∷ xs) f = rw (or_left (p x) (list_any p xs) f) (ap (λ t. x ∷ t) (kept_whole p xs (or_right (p x) (list_any p xs) f)))
 
-pub any_here : {X : Type 0} (p : X → Bool) (xs : List X) (k : ℕ) (d : X) → k < length xs → p (slice_index_or xs k d) ≡ true → list_any p xs ≡ true
-any_here p [] k d l e = absurd (omega arith)
-any_here p (x ∷ xs) zero d l e = ap (λ b. b || list_any p xs) e
-any_here p (x ∷ xs) (suc k) d l e = ap (λ b. p x || b) (any_here p xs k d (omega arith) e) ∙ or_true (p x)
+pub has_any : {X : Type 0} (p : X → Bool) (xs : List X) (x : X) → Has xs x → p x ≡ true → list_any p xs ≡ true
+has_any p [] x h e = absurd h
+has_any p (y ∷ ys) x h e = ⊎_elim (λ (f : y ≡ x). ap (λ b. b || list_any p ys) (ap p f ∙ e)) (λ t. ap (λ b. p y || b) (has_any p ys x t e) ∙ or_true (p y)) h
 
--- without the one of this session and name
-pub removed_is : (ss : List LiveSnap) (session : ℕ) (name : List ℕ) (k : ℕ) (d : LiveSnap) → Apart ss → k < length ss → is_snap_of session name (slice_index_or ss k d) ≡ true →
-    remove ss k ≡ filter (λ s. not (is_snap_of session name s)) ss
-removed_is [] session name k d a l e = absurd (omega arith)
-removed_is (s ∷ ss) session name zero d a l e =
-    sym (ap (λ b. cond (not b) (s ∷ filter (λ s. not (is_snap_of session name s)) ss) (filter (λ s. not (is_snap_of session name s)) ss)) e
-    ∙ kept_whole (is_snap_of session name) ss (ap (λ n. list_any (is_snap_of n name) ss) (sym (twin_session session name s e)) ∙ ap (λ n. list_any (is_snap_of s.session n) ss) (sym (twin_name session name s e)) ∙ a.0))
-removed_is (s ∷ ss) session name (suc k) d a l e =
-    one (is_snap_of session name s) refl (removed_is ss session name k d a.1 (omega arith) e)
+-- what is looked up under a name, after one more snapshot and after one less
+pub live_more : (ss : List LiveSnap) (r : LiveSnap) → list_any (is_snap_of r.session r.name) ss ≡ false → (session : ℕ) (name : List ℕ) → live_xmin session name (ss ++ r ∷ []) ≡ cond (is_snap_of session name r) (Some r.xmin) (live_xmin session name ss)
+live_more [] r f session name = refl
+live_more (s ∷ ss) r f session name =
+    one (is_snap_of session name s) refl (live_more ss r (or_right (is_snap_of r.session r.name s) (list_any (is_snap_of r.session r.name) ss) f) session name)
   where
-    one : (c : Bool) → is_snap_of session name s ≡ c → remove ss k ≡ filter (λ s. not (is_snap_of session name s)) ss → s ∷ remove ss k ≡ cond (not c) (s ∷ filter (λ s. not (is_snap_of session name s)) ss) (filter (λ s. not (is_snap_of session name s)) ss)
-    one false f g = ap (λ t. s ∷ t) g
-    one true f g =
+    apart : is_snap_of session name s ≡ true → (b : Bool) → is_snap_of session name r ≡ b → b ≡ false
+    apart e false g = refl
+    apart e true g =
+        not_both (is_snap_of r.session r.name s) (or_left (is_snap_of r.session r.name s) (list_any (is_snap_of r.session r.name) ss) f)
+        (ap (λ n. is_snap_of n r.name s) (twin_session session name r g) ∙ ap (λ n. is_snap_of session n s) (twin_name session name r g) ∙ e)
+
+    one : (b : Bool) → is_snap_of session name s ≡ b → live_xmin session name (ss ++ r ∷ []) ≡ cond (is_snap_of session name r) (Some r.xmin) (live_xmin session name ss) →
+        cond b (Some s.xmin) (live_xmin session name (ss ++ r ∷ [])) ≡ cond (is_snap_of session name r) (Some r.xmin) (cond b (Some s.xmin) (live_xmin session name ss))
+    one true e i = sym (ap (λ b. cond b (Some r.xmin) (Some s.xmin)) (apart e (is_snap_of session name r) refl))
+    one false e i = i
+
+pub live_others : (ss : List LiveSnap) (r : LiveSnap) (session : ℕ) (name : List ℕ) → live_xmin session name (others r.session r.name ss) ≡ cond (is_snap_of session name r) None (live_xmin session name ss)
+live_others [] r session name = one (is_snap_of session name r)
+  where
+    one : (b : Bool) → None ≡ cond b None (let o : Option ℕ = None in o)
+    one true = refl
+    one false = refl
+live_others (s ∷ ss) r session name =
+    one (is_snap_of r.session r.name s) refl (is_snap_of session name s) refl (is_snap_of session name r) refl (live_others ss r session name)
+  where
+    rest : Option ℕ
+    rest = live_xmin session name ss
+
+    one : (b : Bool) → is_snap_of r.session r.name s ≡ b → (c : Bool) → is_snap_of session name s ≡ c → (d : Bool) → is_snap_of session name r ≡ d → live_xmin session name (others r.session r.name ss) ≡ cond d None rest →
+        live_xmin session name (cond (not b) (s ∷ others r.session r.name ss) (others r.session r.name ss)) ≡ cond d None (cond c (Some s.xmin) rest)
+    one true e c f true g i = i
+    one true e true f false g i =
+        not_both (is_snap_of session name r) g
+        (ap (λ n. (n == session) && same_name r.name name) (sym (twin_session r.session r.name s e)) ∙ ap (λ n. (s.session == session) && same_name n name) (sym (twin_name r.session r.name s e)) ∙ f)
+    one true e false f false g i = i
+    one false e true f true g i =
+        not_both (is_snap_of r.session r.name s) e
+        (ap (λ n. is_snap_of n r.name s) (twin_session session name r g) ∙ ap (λ n. is_snap_of session n s) (twin_name session name r g) ∙ f)
+    one false e c f false g i = ap (λ b. cond b (Some s.xmin) (live_xmin session name (others r.session r.name ss))) f ∙ ap (cond c (Some s.xmin)) i
+    one false e false f true g i = ap (λ b. cond b (Some s.xmin) (live_xmin session name (others r.session r.name ss))) f ∙ i
+
+-- what is found is a live snapshot
+pub live_some : (ss : List LiveSnap) (session : ℕ) (name : List ℕ) → IfSome (live_xmin session name ss) (λ x. Has ss (record { session = session; name = name; xmin = x }))
+live_some [] session name = tt
+live_some (s ∷ ss) session name = one (is_snap_of session name s) refl (live_some ss session name)
+  where
+    here : ℕ → LiveSnap
+    here x = record { session = session; name = name; xmin = x }
+
+    same_snap : {p p' r : ℕ} {q q' : List ℕ} → p ≡ p' → q ≡ q' → (let t : LiveSnap = record { session = p; name = q; xmin = r } in t) ≡ (let t : LiveSnap = record { session = p'; name = q'; xmin = r } in t)
+    same_snap e f = rw (e, f) refl
+
+    later : (o : Option ℕ) → IfSome o (λ x. Has ss (here x)) → IfSome o (λ x. Has (s ∷ ss) (here x))
+    later None h = h
+    later (Some x) h = inr h
+
+    one : (b : Bool) → is_snap_of session name s ≡ b → IfSome (live_xmin session name ss) (λ x. Has ss (here x)) → IfSome (cond b (Some s.xmin) (live_xmin session name ss)) (λ x. Has (s ∷ ss) (here x))
+    one true e h = inl (same_snap (twin_session session name s e) (twin_name session name s e))
+    one false e h = later (live_xmin session name ss) h
+
+pub live_none : (ss : List LiveSnap) (session : ℕ) (name : List ℕ) → IfNone (live_xmin session name ss) (list_any (is_snap_of session name) ss ≡ false)
+live_none [] session name = refl
+live_none (s ∷ ss) session name = one (is_snap_of session name s) (live_none ss session name)
+  where
+    one : (b : Bool) → IfNone (live_xmin session name ss) (list_any (is_snap_of session name) ss ≡ false) → IfNone (cond b (Some s.xmin) (live_xmin session name ss)) ((b || list_any (is_snap_of session name) ss) ≡ false)
+    one true h = tt
+    one false h = h
+
+-- one of them is taken out
+pub one_taken : (g : LiveSnap → ℕ) (ss : List LiveSnap) (r : LiveSnap) → AreApart ss → Has ss r → sum_by g (others r.session r.name ss) + g r ≡ sum_by g ss
+one_taken g [] r a h = absurd h
+one_taken g (s ∷ ss) r a h =
+    let whole : sum_by g (s ∷ ss) ≡ g s + sum_by g ss = sum_by-cons g s ss in
+    ⊎_elim
+    (λ (e : s ≡ r).
+    let mine : is_snap_of r.session r.name s ≡ true = ap (is_snap_of r.session r.name) e ∙ own_twin r in
+    let none : list_any (is_snap_of r.session r.name) ss ≡ false = ap (λ (t : LiveSnap). list_any (is_snap_of t.session t.name) ss) (sym e) ∙ a.0 in
+    let left : others r.session r.name (s ∷ ss) ≡ ss = ap (λ b. cond (not b) (s ∷ others r.session r.name ss) (others r.session r.name ss)) mine ∙ kept_whole (is_snap_of r.session r.name) ss none in
+    let sum : sum_by g (others r.session r.name (s ∷ ss)) ≡ sum_by g ss = ap (sum_by g) left in
+    let same : g s ≡ g r = ap g e in
+    omega arith)
+    (λ (t : Has ss r).
+    let left : others r.session r.name (s ∷ ss) ≡ s ∷ others r.session r.name ss = ap (λ b. cond (not b) (s ∷ others r.session r.name ss) (others r.session r.name ss)) (another t (is_snap_of r.session r.name s) refl) in
+    let sum : sum_by g (others r.session r.name (s ∷ ss)) ≡ g s + sum_by g (others r.session r.name ss) = ap (sum_by g) left ∙ sum_by-cons g s (others r.session r.name ss) in
+    let i : sum_by g (others r.session r.name ss) + g r ≡ sum_by g ss = one_taken g ss r a.1 t in
+    omega arith)
+    h
+  where
+    another : Has ss r → (b : Bool) → is_snap_of r.session r.name s ≡ b → b ≡ false
+    another t false e = refl
+    another t true e =
         not_both (list_any (is_snap_of s.session s.name) ss) a.0
-        (any_here (is_snap_of s.session s.name) ss k d (omega arith)
-        (ap (λ n. is_snap_of n s.name (slice_index_or ss k d)) (twin_session session name s f) ∙ ap (λ n. is_snap_of session n (slice_index_or ss k d)) (twin_name session name s f) ∙ e))
-
-apart_after : (first : ℕ) (base : Counters) (h : List Event) (e : Event) → first ≡ base.next → MayCome base h e → Apart (live_snaps first h) → Apart (live_up first (e ∷ reverse h))
-apart_after first base h (events.Snap by name) f m a =
-    apart_push (live_snaps first h) _ a (ap (λ n. is_live n by.session name h) f ∙ m)
-apart_after first base h (events.SnapDrop by name) f m a = apart_filtered (λ s. not (is_snap_of by.session name s)) (live_snaps first h) a
-apart_after first base h (events.Id by id) f m a = a
-apart_after first base h (events.Sub by parent id) f m a = a
-apart_after first base h (events.Undo by id) f m a = a
-apart_after first base h (events.Commit by top) f m a = a
-apart_after first base h (events.Abort by top) f m a = a
-apart_after first base h (events.Oldest by oldest) f m a = a
-apart_after first base h (events.Ask by id) f m a = a
-
--- a session has one live snapshot of a name
-pub live_apart : (base : Counters) (h : List Event) → IsLegal base h → Apart (live_snaps base.next h)
-live_apart base h l = legal_induction base (λ h. Apart (live_snaps base.next h)) tt (λ h e a m. subst Apart (sym (live_push base.next h e)) (apart_after base.next base h e refl m a)) h l
+        (has_any (is_snap_of s.session s.name) ss r t
+        (ap (λ n. is_snap_of n s.name r) (twin_session r.session r.name s e) ∙ ap (λ n. is_snap_of r.session n r) (twin_name r.session r.name s e) ∙ own_twin r))

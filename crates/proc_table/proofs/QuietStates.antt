@@ -1,21 +1,22 @@
 -- The state after an event that gives and closes nothing: a snapshot, a drop, an announcement, a question.
 use Rattle.proc_table.proofs.Bounds.{next_id_to}
-use Rattle.proc_table.proofs.LiveLemmas.{removed_is, Apart, live_apart, same_name_refl, any_here}
+use Rattle.proc_table.proofs.LiveLemmas.{own_twin, has_any, one_taken}
 use Rattle.proc_table.proofs.SnapshotLemmas.{xmin_is}
 use Rattle.proc_table.proofs.StateBounds.{late_bounds}
 use Rattle.proc_table.proofs.States.{state_quiet}
 use Rattle.proc_table.specs.Lists.{tops_of}
-use Rattle.proc_table.specs.Lives.{snap_of, is_registered, IsTakenOut}
+use Rattle.proc_table.specs.Lives.{HoldsLive, others}
 use Rattle.proc_table.specs.State.{IsState}
 use Rattle.proc_table.specs.Table.{InTurn}
 use Rattle.proc_table.specs.declared.entry.Entry.{Entry}
-use Rattle.proc_table.specs.declared.live.LiveEntry.{LiveEntry}
-use Rattle.std.proofs.Common.{◌≡◌, ℕ, suc, zero, ◌-◌, ◌<◌, ◌≤◌, List, [], ◌∷◌, ◌++◌, length, refl, ap, sym, ◌∙◌, arith, true, false, ◌&&◌, ◌==◌, ◌||◌, Contains, ◌+◌, ◌^◌, map, min}
+use Rattle.proc_table.specs.declared.live.LiveSnapshots.{LiveSnapshots}
+use Rattle.std.proofs.Common.{◌≡◌, ℕ, suc, ◌-◌, ◌<◌, ◌≤◌, List, [], ◌∷◌, ◌++◌, length, reverse, refl, ap, sym, subst, ◌∙◌, arith, false, Contains, ◌+◌, ◌^◌, map, min}
 use Rattle.std.proofs.lemmas.List.{reverse-reverse}
-use Rattle.std.specs.List.{list_any, fold, slice_index_or}
-use Rattle.std.specs.Prelude.{remove}
-use Rattle.tx_model.proofs.ListSteps.{or_true, length_push, map_push, eqb-refl, and_both}
-use Rattle.tx_model.specs.Events.{same_name}
+use Rattle.std.proofs.lemmas.List.Sums.{sum_by-cons}
+use Rattle.std.specs.List.{list_any, fold}
+use Rattle.std.specs.Prelude.{sum_by}
+use Rattle.tx_model.proofs.ListSteps.{length_push}
+use Rattle.tx_model.proofs.Membership.{Has, contains_has}
 use Rattle.tx_model.specs.Horizon.{oldest_id, live_snaps, LiveSnap, oldest_xmin, is_snap_of, is_live}
 use Rattle.tx_model.specs.Running.{running, running_tops}
 use Rattle.tx_model.specs.Snapshots.{snapshot_xmax, snapshot_xmin}
@@ -29,23 +30,17 @@ fold_min_to : (xs : List ℕ) (z : ℕ) → fold min z xs ≤ z
 fold_min_to [] z = omega arith
 fold_min_to (y ∷ xs) z = let h : fold min (min z y) xs ≤ min z y = fold_min_to xs (min z y) in omega arith
 
-map_map : (ls : List LiveEntry) → map (λ (l : LiveEntry). l.xmin) ls ≡ map (λ (s : LiveSnap). s.xmin) (map snap_of ls)
-map_map [] = refl
-map_map (l ∷ ls) = ap (λ t. l.xmin ∷ t) (map_map ls)
-
-pub oldest_xmin_is : (base : Counters) (h : List Event) (n oldest late promised : ℕ) (entries : List Entry) (lives : List LiveEntry) → IsState base h n oldest late promised entries lives →
-    fold min (fold min (snapshot_xmax base.next h) (tops_of entries)) (map (λ (l : LiveEntry). l.xmin) lives) ≡ oldest_xmin base.next h
-oldest_xmin_is base h n oldest late promised entries lives s =
-    ap (λ m. fold min m (map (λ (l : LiveEntry). l.xmin) lives)) (xmin_is base h n oldest late promised entries lives s)
-    ∙ ap (fold min (snapshot_xmin base.next h)) (map_map lives ∙ ap (map (λ (s : LiveSnap). s.xmin)) s.live)
+pub oldest_xmin_is : (base : Counters) (h : List Event) (n oldest late promised : ℕ) (entries : List Entry) (lives : LiveSnapshots) → IsState base h n oldest late promised entries lives →
+    fold min (fold min (snapshot_xmax base.next h) (tops_of entries)) (map (λ (s : LiveSnap). s.xmin) (live_snaps base.next h)) ≡ oldest_xmin base.next h
+oldest_xmin_is base h n oldest late promised entries lives s = ap (λ m. fold min m (map (λ (s : LiveSnap). s.xmin) (live_snaps base.next h))) (xmin_is base h n oldest late promised entries lives s)
 
 -- it was asked how an id stands
-pub state_asked : (base : Counters) (h : List Event) (n oldest late promised : ℕ) (entries : List Entry) (lives : List LiveEntry) (by : By) (x : ℕ) → IsState base h n oldest late promised entries lives → InTurn by h → IsState base (h ++ events.Ask by x ∷ []) n oldest late promised entries lives
+pub state_asked : (base : Counters) (h : List Event) (n oldest late promised : ℕ) (entries : List Entry) (lives : LiveSnapshots) (by : By) (x : ℕ) → IsState base h n oldest late promised entries lives → InTurn by h → IsState base (h ++ events.Ask by x ∷ []) n oldest late promised entries lives
 state_asked base h n oldest late promised entries lives by x s turn =
     state_quiet base h (events.Ask by x) n oldest oldest late promised promised entries lives lives s tt tt turn refl s.oldest_to s.live s.room
 
 -- the oldest id was announced
-pub state_raised : (base : Counters) (h : List Event) (n oldest late promised : ℕ) (entries : List Entry) (lives : List LiveEntry) (by : By) (new : ℕ) → IsState base h n oldest late promised entries lives → InTurn by h → oldest_id base.oldest h ≤ new → new ≤ oldest_xmin base.next h →
+pub state_raised : (base : Counters) (h : List Event) (n oldest late promised : ℕ) (entries : List Entry) (lives : LiveSnapshots) (by : By) (new : ℕ) → IsState base h n oldest late promised entries lives → InTurn by h → oldest_id base.oldest h ≤ new → new ≤ oldest_xmin base.next h →
     IsState base (h ++ events.Oldest by new ∷ []) n new late promised entries lives
 state_raised base h n oldest late promised entries lives by new s turn from to =
     let a : oldest_xmin base.next h ≤ snapshot_xmin base.next h = fold_min_to (map (λ (s : LiveSnap). s.xmin) (live_snaps base.next h)) (snapshot_xmin base.next h) in
@@ -55,71 +50,36 @@ state_raised base h n oldest late promised entries lives by new s turn from to =
     state_quiet base h (events.Oldest by new) n oldest new late promised promised entries lives lives s tt (from, to) turn refl (omega arith) s.live s.room
 
 -- a snapshot was taken
-pub state_snapped : (base : Counters) (h : List Event) (n oldest late promised : ℕ) (entries : List Entry) (lives : List LiveEntry) (by : By) (name : List ℕ) (snap : LiveEntry) → IsState base h n oldest late promised entries lives → InTurn by h → is_live base.next by.session name h ≡ false →
-    snap.session ≡ by.session → snap.name ≡ name → snap.xmin ≡ snapshot_xmin base.next h →
-    IsState base (h ++ events.Snap by name ∷ []) n oldest late (promised + 1) entries (lives ++ snap ∷ [])
-state_snapped base h n oldest late promised entries lives by name snap s turn free a b c =
-    let more : length (lives ++ snap ∷ []) ≡ suc (length lives) = length_push lives snap in
-    let room : length (running h) + length lives ≤ promised = s.room in
-    state_quiet base h (events.Snap by name) n oldest oldest late promised (promised + 1) entries lives (lives ++ snap ∷ []) s tt free turn refl s.oldest_to
-    (map_push snap_of lives snap ∙ ap (λ l. l ++ snap_of snap ∷ []) s.live ∙ ap (λ r. live_snaps base.next h ++ r ∷ []) (same_snap a b (c ∙ ap (snapshot_xmin base.next) (sym (reverse-reverse h)))))
+pub state_snapped : (base : Counters) (h : List Event) (n oldest late promised : ℕ) (entries : List Entry) (lives lives' : LiveSnapshots) (by : By) (name : List ℕ) (xmin : ℕ) →
+    IsState base h n oldest late promised entries lives → InTurn by h → is_live base.next by.session name h ≡ false → xmin ≡ snapshot_xmin base.next h →
+    ((ss : List LiveSnap) → HoldsLive ss lives → list_any (is_snap_of by.session name) ss ≡ false → HoldsLive (ss ++ record { session = by.session; name = name; xmin = xmin } ∷ []) lives') →
+    IsState base (h ++ events.Snap by name ∷ []) n oldest late (promised + 1) entries lives'
+state_snapped base h n oldest late promised entries lives lives' by name xmin s turn free e more =
+    let same : xmin ≡ snapshot_xmin base.next (reverse (reverse h)) = e ∙ ap (snapshot_xmin base.next) (sym (reverse-reverse h)) in
+    let snap : LiveSnap = record { session = by.session; name = name; xmin = snapshot_xmin base.next (reverse (reverse h)) } in
+    let count : length (live_snaps base.next h ++ snap ∷ []) ≡ suc (length (live_snaps base.next h)) = length_push (live_snaps base.next h) snap in
+    let room : length (running h) + length (live_snaps base.next h) ≤ promised = s.room in
+    state_quiet base h (events.Snap by name) n oldest oldest late promised (promised + 1) entries lives lives' s tt free turn refl s.oldest_to
+    (subst (λ x. HoldsLive (live_snaps base.next h ++ record { session = by.session; name = name; xmin = x } ∷ []) lives') same (more (live_snaps base.next h) s.live free))
     (omega arith)
-  where
-    same_snap : {p p' r r' : ℕ} {q q' : List ℕ} → p ≡ p' → q ≡ q' → r ≡ r' →
-        (let t : LiveSnap = record { session = p; name = q; xmin = r } in t) ≡ (let t : LiveSnap = record { session = p'; name = q'; xmin = r' } in t)
-    same_snap e f g = rw (e, f, g) refl
 
 -- a live snapshot was dropped
-removed_map : (ls : List LiveEntry) (k : ℕ) → map snap_of (remove ls k) ≡ remove (map snap_of ls) k
-removed_map [] zero = refl
-removed_map [] (suc k) = refl
-removed_map (l ∷ ls) zero = refl
-removed_map (l ∷ ls) (suc k) = ap (λ t. snap_of l ∷ t) (removed_map ls k)
+sum_ones : {X : Type 0} (xs : List X) → sum_by (λ _. 1) xs ≡ length xs
+sum_ones [] = refl
+sum_ones (x ∷ xs) = let e : sum_by (λ _. 1) (x ∷ xs) ≡ 1 + sum_by (λ _. 1) xs = sum_by-cons (λ _. 1) x xs in let i : sum_by (λ _. 1) xs ≡ length xs = sum_ones xs in omega arith
 
-removed_length : {X : Type 0} (xs : List X) (k : ℕ) → k < length xs → length (remove xs k) + 1 ≡ length xs
-removed_length [] k l = absurd (omega arith)
-removed_length (x ∷ xs) zero l = omega arith
-removed_length (x ∷ xs) (suc k) l = let e : length (remove xs k) + 1 ≡ length xs = removed_length xs k (omega arith) in omega arith
-
-map_at : (ls : List LiveEntry) (k : ℕ) (l : LiveEntry) → k < length ls → slice_index_or (map snap_of ls) k (snap_of l) ≡ snap_of (slice_index_or ls k l)
-map_at [] k l f = refl
-map_at (m ∷ ls) zero l f = refl
-map_at (m ∷ ls) (suc k) l f = map_at ls k l (omega arith)
-
-map_length : (ls : List LiveEntry) → length (map snap_of ls) ≡ length ls
-map_length [] = refl
-map_length (l ∷ ls) = ap suc (map_length ls)
-
-pub state_dropped : (base : Counters) (h : List Event) (n oldest late promised : ℕ) (entries : List Entry) (lives : List LiveEntry) (by : By) (name : List ℕ) (xmin : ℕ) (lives' : List LiveEntry) (l : LiveEntry) → IsState base h n oldest late promised entries lives → InTurn by h →
-    IsTakenOut by.session name xmin lives lives' l → (1 ≤ promised) × IsState base (h ++ events.SnapDrop by name ∷ []) n oldest late (promised - 1) entries lives'
-state_dropped base h n oldest late promised entries lives by name xmin lives' l s turn t =
-    let apart : Apart (live_snaps base.next h) = live_apart base h s.legal in
-    let mine : is_snap_of by.session name (snap_of l) ≡ true = (and_both (l.xmin == xmin) (is_snap_of by.session name (snap_of l)) t.mine).1 in
-    let here : is_snap_of by.session name (slice_index_or (live_snaps base.next h) t.place (snap_of l)) ≡ true =
-    ap (λ ss. is_snap_of by.session name (slice_index_or ss t.place (snap_of l))) (sym s.live) ∙ ap (is_snap_of by.session name) (map_at lives t.place l t.within ∙ ap snap_of t.at) ∙ mine in
-    let same : length (live_snaps base.next h) ≡ length lives = ap length (sym s.live) ∙ map_length lives in
-    let place : t.place < length lives = t.within in
-    let inside : t.place < length (live_snaps base.next h) = omega arith in
-    let fewer : length (remove lives t.place) + 1 ≡ length lives = removed_length lives t.place t.within in
-    let left : length lives' ≡ length (remove lives t.place) = ap length t.left in
-    let room : length (running h) + length lives ≤ promised = s.room in (
+pub state_dropped : (base : Counters) (h : List Event) (n oldest late promised : ℕ) (entries : List Entry) (lives lives' : LiveSnapshots) (by : By) (name : List ℕ) (xmin : ℕ) →
+    IsState base h n oldest late promised entries lives → InTurn by h → Contains (live_snaps base.next h) (record { session = by.session; name = name; xmin = xmin }) →
+    ((ss : List LiveSnap) → HoldsLive ss lives → Contains ss (record { session = by.session; name = name; xmin = xmin }) → HoldsLive (others by.session name ss) lives') →
+    (1 ≤ promised) × IsState base (h ++ events.SnapDrop by name ∷ []) n oldest late (promised - 1) entries lives'
+state_dropped base h n oldest late promised entries lives lives' by name xmin s turn has less =
+    let ss : List LiveSnap = live_snaps base.next h in
+    let snap : LiveSnap = record { session = by.session; name = name; xmin = xmin } in
+    let here : Has ss snap = contains_has ss snap has in
+    let taken : sum_by (λ _. 1) (others by.session name ss) + 1 ≡ sum_by (λ _. 1) ss = one_taken (λ _. 1) ss snap s.live.apart here in
+    let before : sum_by (λ _. 1) ss ≡ length ss = sum_ones ss in
+    let after : sum_by (λ _. 1) (others by.session name ss) ≡ length (others by.session name ss) = sum_ones (others by.session name ss) in
+    let room : length (running h) + length ss ≤ promised = s.room in (
       omega arith,
-      state_quiet base h (events.SnapDrop by name) n oldest oldest late promised (promised - 1) entries lives lives' s tt (any_here (is_snap_of by.session name) (live_snaps base.next h) t.place (snap_of l) inside here) turn refl s.oldest_to
-          (ap (map snap_of) t.left ∙ removed_map lives t.place ∙ ap (λ ss. remove ss t.place) s.live ∙ removed_is (live_snaps base.next h) by.session name t.place (snap_of l) apart inside here)
-          (omega arith),
+      state_quiet base h (events.SnapDrop by name) n oldest oldest late promised (promised - 1) entries lives lives' s tt (has_any (is_snap_of by.session name) ss snap here (own_twin snap)) turn refl s.oldest_to (less ss s.live has) (omega arith),
     )
-
--- a snapshot that is registered is found
-pub found_registered : (session : ℕ) (name : List ℕ) (xmin : ℕ) (ls : List LiveEntry) → Contains (map snap_of ls) (record { session = session; name = name; xmin = xmin }) → list_any (is_registered session name xmin) ls ≡ true
-found_registered session name xmin ls c = at ls c.0 c.1 c.2
-  where
-    is_want : (l : LiveEntry) → snap_of l ≡ (let r : LiveSnap = record { session = session; name = name; xmin = xmin } in r) → is_registered session name xmin l ≡ true
-    is_want l e =
-        ap (λ (s : LiveSnap). (s.xmin == xmin) && is_snap_of session name s) e
-        ∙ ap (λ b. b && is_snap_of session name (let r : LiveSnap = record { session = session; name = name; xmin = xmin } in r)) (eqb-refl xmin)
-        ∙ ap (λ b. b && same_name name name) (eqb-refl session) ∙ same_name_refl name
-
-    at : (ls : List LiveEntry) (k : ℕ) → k < length (map snap_of ls) → slice_index_or (map snap_of ls) k (let r : LiveSnap = record { session = session; name = name; xmin = xmin } in r) ≡ (let r : LiveSnap = record { session = session; name = name; xmin = xmin } in r) → list_any (is_registered session name xmin) ls ≡ true
-    at [] k f e = absurd (omega arith)
-    at (l ∷ ls) zero f e = ap (λ b. b || list_any (is_registered session name xmin) ls) (is_want l e)
-    at (l ∷ ls) (suc k) f e = ap (λ b. is_registered session name xmin l || b) (at ls k (omega arith) e) ∙ or_true (is_registered session name xmin l)

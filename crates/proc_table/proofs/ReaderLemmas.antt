@@ -1,19 +1,20 @@
 -- What the table tells of one session.
 use Rattle.proc_table.proofs.EntryLists.{any_all}
-use Rattle.proc_table.proofs.LiveLemmas.{twin_name, twin_session}
+use Rattle.proc_table.proofs.LiveLemmas.{live_some, live_none, has_any, own_twin}
 use Rattle.proc_table.specs.Entries.{IsEntryAt}
-use Rattle.proc_table.specs.Lives.{snap_of}
+use Rattle.proc_table.specs.Lives.{live_xmin}
 use Rattle.proc_table.specs.State.{IsState}
 use Rattle.proc_table.specs.declared.entry.Entry.{Entry}
-use Rattle.proc_table.specs.declared.live.LiveEntry.{LiveEntry}
-use Rattle.std.proofs.Common.{◌≡◌, ℕ, suc, zero, ◌<◌, List, [], ◌∷◌, length, Some, refl, ap, sym, ◌∙◌, arith, Bool, true, false, ◌==◌, ◌||◌, Contains, subst, ⊎_elim, Option, None, map}
+use Rattle.proc_table.specs.declared.live.LiveSnapshots.{LiveSnapshots}
+use Rattle.std.proofs.Common.{◌≡◌, ℕ, suc, ◌<◌, List, [], ◌∷◌, length, Some, ap, sym, ◌∙◌, arith, true, false, ◌==◌, Contains, subst, ⊎_elim, Option, None}
 use Rattle.std.proofs.lemmas.Bool.{false≢true}
-use Rattle.std.specs.List.{list_any, slice_index_or, Any}
+use Rattle.std.specs.List.{Any, list_any}
 use Rattle.std.specs.Prelude.{IfSome, IfNone}
 use Rattle.tx_model.proofs.FamilyGrowth.{family_member}
 use Rattle.tx_model.proofs.ListSteps.{eqb-refl, or_cases, equal_from}
+use Rattle.tx_model.proofs.Membership.{Has, has_contains, contains_has as contains_member}
 use Rattle.tx_model.specs.Families.{is_top}
-use Rattle.tx_model.specs.Horizon.{live_snaps, LiveSnap, is_snap_of, is_live}
+use Rattle.tx_model.specs.Horizon.{LiveSnap, live_snaps, is_live, is_snap_of}
 use Rattle.tx_model.specs.IdLists.{has}
 use Rattle.tx_model.specs.Running.{open_ids}
 use Rattle.tx_model.specs.Savepoints.{family}
@@ -29,7 +30,7 @@ contains_has (y ∷ xs) x f =
     (or_cases (x == y) (has xs x) f)
 
 -- the top of the session's entry is open, and a top
-pub open_top_is : (base : Counters) (h : List Event) (n oldest late promised : ℕ) (entries : List Entry) (lives : List LiveEntry) (session t : ℕ) → IsState base h n oldest late promised entries lives → Any (λ (e : Entry). (e.session ≡ session) × (t ≡ e.top)) entries →
+pub open_top_is : (base : Counters) (h : List Event) (n oldest late promised : ℕ) (entries : List Entry) (lives : LiveSnapshots) (session t : ℕ) → IsState base h n oldest late promised entries lives → Any (λ (e : Entry). (e.session ≡ session) × (t ≡ e.top)) entries →
     Contains (open_ids session h) t × (is_top h t ≡ true)
 open_top_is base h n oldest late promised entries lives session t s a =
     let e = any_all (λ (e : Entry). (e.session ≡ session) × (t ≡ e.top)) (IsEntryAt base.next h) entries a s.each in
@@ -39,28 +40,6 @@ open_top_is base h n oldest late promised entries lives session t s a =
       ap (is_top h) e.1.0.1 ∙ ap (λ u. u == e.0.top) member.1 ∙ eqb-refl e.0.top,
     )
 
-any_mapped : (p : LiveSnap → Bool) (ls : List LiveEntry) → list_any p (map snap_of ls) ≡ list_any (λ l. p (snap_of l)) ls
-any_mapped p [] = refl
-any_mapped p (l ∷ ls) = ap (λ b. p (snap_of l) || b) (any_mapped p ls)
-
-pub not_live : (base : Counters) (h : List Event) (n oldest late promised : ℕ) (entries : List Entry) (lives : List LiveEntry) (session : ℕ) (name : List ℕ) → IsState base h n oldest late promised entries lives → list_any (λ l. is_snap_of session name (snap_of l)) lives ≡ false → is_live base.next session name h ≡ false
-not_live base h n oldest late promised entries lives session name s f =
-    ap (list_any (is_snap_of session name)) (sym s.live) ∙ any_mapped (is_snap_of session name) lives ∙ f
-
-pub live_is : (base : Counters) (h : List Event) (n oldest late promised : ℕ) (entries : List Entry) (lives : List LiveEntry) (session : ℕ) (name : List ℕ) (x : ℕ) → IsState base h n oldest late promised entries lives → Any (λ (l : LiveEntry). (is_snap_of session name (snap_of l) ≡ true) × (x ≡ l.xmin)) lives →
-    Contains (live_snaps base.next h) (let r : LiveSnap = record { session = session; name = name; xmin = x } in r)
-live_is base h n oldest late promised entries lives session name x s a =
-    subst (λ ss. Contains ss (let r : LiveSnap = record { session = session; name = name; xmin = x } in r)) s.live (at lives a.0 a.1 a.2 (subst (λ (l : LiveEntry). snap_of l ≡ (let r : LiveSnap = record { session = session; name = name; xmin = x } in r)) (sym a.3) (same_snap (twin_session session name (snap_of a.1) a.4.0) (twin_name session name (snap_of a.1) a.4.0) (sym a.4.1))))
-  where
-    same_snap : {p p' r r' : ℕ} {q q' : List ℕ} → p ≡ p' → q ≡ q' → r ≡ r' →
-        (let t : LiveSnap = record { session = p; name = q; xmin = r } in t) ≡ (let t : LiveSnap = record { session = p'; name = q'; xmin = r' } in t)
-    same_snap e f g = rw (e, f, g) refl
-
-    at : (ls : List LiveEntry) (k : ℕ) (d : LiveEntry) → k < length ls → snap_of (slice_index_or ls k d) ≡ (let r : LiveSnap = record { session = session; name = name; xmin = x } in r) → Contains (map snap_of ls) (let r : LiveSnap = record { session = session; name = name; xmin = x } in r)
-    at [] k d l e = absurd (omega arith)
-    at (y ∷ ls) zero d l e = (0, (let m : 0 < length (map snap_of (y ∷ ls)) = omega arith in m), e)
-    at (y ∷ ls) (suc k) d l e = let c = at ls k d (omega arith) e in let f : c.0 < length (map snap_of ls) = c.1 in (suc c.0, (let m : suc c.0 < length (map snap_of (y ∷ ls)) = omega arith in m), c.2)
-
 pub some_weaker : {A : Type 0} (P Q : A → Type 0) (o : Option A) → ((x : A) → P x → Q x) → IfSome o P → IfSome o Q
 some_weaker P Q None f s = s
 some_weaker P Q (Some x) f s = f x s
@@ -68,3 +47,20 @@ some_weaker P Q (Some x) f s = f x s
 pub none_weaker : {A P Q : Type 0} (o : Option A) → (P → Q) → IfNone o P → IfNone o Q
 none_weaker None f s = f s
 none_weaker (Some x) f s = s
+
+-- what is looked up under a name is live
+pub live_is : (first : ℕ) (h : List Event) (session : ℕ) (name : List ℕ) (o : Option ℕ) → o ≡ live_xmin session name (live_snaps first h) → IfSome o (λ x. Contains (live_snaps first h) (record { session = session; name = name; xmin = x }))
+live_is first h session name o e =
+    subst (λ o. IfSome o (λ x. Contains (live_snaps first h) (record { session = session; name = name; xmin = x }))) (sym e)
+    (some_weaker (λ x. Has (live_snaps first h) (record { session = session; name = name; xmin = x })) (λ x. Contains (live_snaps first h) (record { session = session; name = name; xmin = x })) (live_xmin session name (live_snaps first h))
+    (λ x k. has_contains (live_snaps first h) (record { session = session; name = name; xmin = x }) k)
+    (live_some (live_snaps first h) session name))
+
+pub not_live : (first : ℕ) (h : List Event) (session : ℕ) (name : List ℕ) (o : Option ℕ) → o ≡ live_xmin session name (live_snaps first h) → IfNone o (is_live first session name h ≡ false)
+not_live first h session name o e = subst (λ o. IfNone o (is_live first session name h ≡ false)) (sym e) (live_none (live_snaps first h) session name)
+
+-- a live snapshot is found
+pub found_live : (ss : List LiveSnap) (r : LiveSnap) → Contains ss r → live_xmin r.session r.name ss ≡ None → ⊥
+found_live ss r has e =
+    let none : list_any (is_snap_of r.session r.name) ss ≡ false = subst (λ o. IfNone o (list_any (is_snap_of r.session r.name) ss ≡ false)) e (live_none ss r.session r.name) in
+    false≢true (sym none ∙ has_any (is_snap_of r.session r.name) ss r (contains_member ss r has) (own_twin r))

@@ -6,7 +6,7 @@ use Rattle.proc_table.specs.Entries.{IsEntryAt}
 use Rattle.proc_table.specs.Lists.{tops_of, subs_of, entries_below, some_overflowed, AreSorted, AreListed}
 use Rattle.proc_table.specs.State.{IsState}
 use Rattle.proc_table.specs.declared.entry.Entry.{Entry}
-use Rattle.proc_table.specs.declared.live.LiveEntry.{LiveEntry}
+use Rattle.proc_table.specs.declared.live.LiveSnapshots.{LiveSnapshots}
 use Rattle.std.proofs.Common.{◌≡◌, ℕ, List, [], ◌∷◌, ◌++◌, refl, ap, sym, ◌∙◌, Bool, true, false, not, ◌&&◌, ◌==◌, ◌||◌, cond, subst, nat_lt, min}
 use Rattle.std.proofs.lemmas.List.Sorted.{IsPermutation-sym, IsPermutation-trans}
 use Rattle.std.specs.List.{filter, AllByRecursion, list_any, fold, flat_map}
@@ -45,7 +45,7 @@ subs_below_are first h limit (e ∷ es) a = one (nat_lt e.top limit) (subs_below
     one false i = i
 
 -- sorted, they are the subids of a snapshot
-subs_sorted : (base : Counters) (h : List Event) (n oldest late promised : ℕ) (entries : List Entry) (lives : List LiveEntry) (v : List ℕ) →
+subs_sorted : (base : Counters) (h : List Event) (n oldest late promised : ℕ) (entries : List Entry) (lives : LiveSnapshots) (v : List ℕ) →
     IsState base h n oldest late promised entries lives → is_overflowed base.next h ≡ false → AreSorted (subs_of (entries_below entries (snapshot_xmax base.next h))) v → v ≡ snapshot_subs base.next h
 subs_sorted base h n oldest late promised entries lives v s o p =
     let tops : filter (λ x. nat_lt x (snapshot_xmax base.next h)) (tops_of entries) ≡ snapshot_xips base.next h = ap (filter (λ x. nat_lt x (snapshot_xmax base.next h))) s.tops in
@@ -61,11 +61,11 @@ subs_sorted base h n oldest late promised entries lives v s o p =
     (ascending_filtered (λ x. not (is_top h x) && list_any (λ t. t == top h x) (snapshot_xips base.next h)) (running h) up)
     ∙ sym (ap (λ b. cond b [] (filter (λ x. not (is_top h x) && list_any (λ t. t == top h x) (snapshot_xips base.next h)) (running h))) o)
 
-pub xmin_is : (base : Counters) (h : List Event) (n oldest late promised : ℕ) (entries : List Entry) (lives : List LiveEntry) → IsState base h n oldest late promised entries lives → fold min (snapshot_xmax base.next h) (tops_of entries) ≡ snapshot_xmin base.next h
+pub xmin_is : (base : Counters) (h : List Event) (n oldest late promised : ℕ) (entries : List Entry) (lives : LiveSnapshots) → IsState base h n oldest late promised entries lives → fold min (snapshot_xmax base.next h) (tops_of entries) ≡ snapshot_xmin base.next h
 xmin_is base h n oldest late promised entries lives s = ap (fold min (snapshot_xmax base.next h)) s.tops
 
 -- the lists that the table makes are those of a snapshot
-pub taken_is : (base : Counters) (h : List Event) (n oldest late promised : ℕ) (entries : List Entry) (lives : List LiveEntry) (xmin xmax : ℕ) (xip subxip : List ℕ) (overflowed : Bool) →
+pub taken_is : (base : Counters) (h : List Event) (n oldest late promised : ℕ) (entries : List Entry) (lives : LiveSnapshots) (xmin xmax : ℕ) (xip subxip : List ℕ) (overflowed : Bool) →
     IsState base h n oldest late promised entries lives → xmax ≡ snapshot_xmax base.next h → xmin ≡ fold min xmax (tops_of entries) → xip ≡ tops_of (entries_below entries xmax) →
     overflowed ≡ some_overflowed (entries_below entries xmax) → AreListed entries xmax overflowed subxip →
     (let d : SnapData = record { xmin = xmin; xmax = xmax; xip = xip; subxip = subxip; overflowed = overflowed } in d) ≡ snapshot_data base.next h

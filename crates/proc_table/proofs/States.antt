@@ -3,12 +3,12 @@ use Rattle.proc_table.proofs.Bounds.{next_id_to, stop_to}
 use Rattle.proc_table.proofs.EntryGrowth.{entry_quiet, entry_id_other, entry_id_new}
 use Rattle.proc_table.specs.Entries.{IsEntry, IsEntryAt}
 use Rattle.proc_table.specs.Lists.{tops_of}
-use Rattle.proc_table.specs.Lives.{snap_of}
+use Rattle.proc_table.specs.Lives.{HoldsLive}
 use Rattle.proc_table.specs.State.{IsState}
 use Rattle.proc_table.specs.Table.{InTurn}
 use Rattle.proc_table.specs.declared.entry.Entry.{Entry}
-use Rattle.proc_table.specs.declared.live.LiveEntry.{LiveEntry}
-use Rattle.std.proofs.Common.{◌≡◌, ℕ, suc, ◌<◌, ◌≤◌, List, [], ◌∷◌, ◌++◌, length, reverse, refl, ap, sym, ◌∙◌, arith, Bool, false, ◌==◌, ◌||◌, cond, subst, ◌+◌, ◌^◌, map}
+use Rattle.proc_table.specs.declared.live.LiveSnapshots.{LiveSnapshots}
+use Rattle.std.proofs.Common.{◌≡◌, ℕ, suc, ◌<◌, ◌≤◌, List, [], ◌∷◌, ◌++◌, length, reverse, refl, ap, sym, ◌∙◌, arith, Bool, false, ◌==◌, ◌||◌, cond, subst, ◌+◌, ◌^◌}
 use Rattle.std.proofs.lemmas.List.Folds.{list_any-append}
 use Rattle.std.specs.List.{list_any}
 use Rattle.tx_model.proofs.ClosingGrowth.{same_latest}
@@ -20,7 +20,7 @@ use Rattle.tx_model.proofs.NameBounds.{AreBelow}
 use Rattle.tx_model.proofs.RunningGrowth.{id_closed, IsQuiet, id_running, quiet_given, quiet_running, quiet_open_ids, id_open_ids, quiet_tops, id_tops, quiet_closed}
 use Rattle.tx_model.proofs.Soundness.{next_above, next_after}
 use Rattle.tx_model.specs.History.{nth_id, MayCome, ComesInTurn}
-use Rattle.tx_model.specs.Horizon.{announced_after, live_up}
+use Rattle.tx_model.specs.Horizon.{announced_after, live_up, live_snaps}
 use Rattle.tx_model.specs.Limits.{stop_limit}
 use Rattle.tx_model.specs.Running.{running, open_ids}
 use Rattle.tx_model.specs.declared.event.By.{By}
@@ -32,7 +32,7 @@ use Rattle.tx_model.specs.declared.event.Event.TheVariants as events
 pub entry_same : (first : ℕ) (h : List Event) (s t l s' t' l' : ℕ) (subs subs' : List ℕ) (o o' : Bool) → s ≡ s' → t ≡ t' → l ≡ l' → subs ≡ subs' → o ≡ o' → IsEntry first h s' t' l' subs' o' → IsEntry first h s t l subs o
 entry_same first h s t l s' t' l' subs subs' o o' a b c d e i = rw (a, b, c, d, e) i
 
-pub state_id : (base : Counters) (h : List Event) (by : By) (n oldest late promised : ℕ) (entries : List Entry) (lives : List LiveEntry) (new : Entry) →
+pub state_id : (base : Counters) (h : List Event) (by : By) (n oldest late promised : ℕ) (entries : List Entry) (lives : LiveSnapshots) (new : Entry) →
     IsState base h n oldest late promised entries lives → n < stop_limit oldest → InTurn by h → open_ids by.session h ≡ [] →
     new.session ≡ by.session → new.top ≡ n → new.last ≡ n → new.subs.items ≡ [] → new.overflowed ≡ false →
     IsState base (h ++ events.Id by n ∷ []) (next_id n) oldest late (promised + 1) (entries ++ new ∷ []) lives
@@ -40,7 +40,9 @@ state_id base h by n oldest late promised entries lives new s below turn none a 
     let under : AreBelow n h = subst (λ t. AreBelow t h) (sym s.next_is) (legal_sound base h s.legal).below in
     let up : n < next_id n = next_above n in
     let more : length (running (h ++ events.Id by n ∷ [])) ≡ suc (length (running h)) = ap length (id_running h by n under) ∙ length_push (running h) n in
-    let room : length (running h) + length lives ≤ promised = s.room in
+    let room : length (running h) + length (live_snaps base.next h) ≤ promised = s.room in
+    let kept : live_snaps base.next (h ++ events.Id by n ∷ []) ≡ live_snaps base.next h = live_push base.next h (events.Id by n) in
+    let as_many : length (live_snaps base.next (h ++ events.Id by n ∷ [])) ≡ length (live_snaps base.next h) = ap length kept in
     record {
       base_is = s.base_is;
       legal = legal_push base h (events.Id by n) s.legal (record { next = s.next_is; below_stop = subst (λ o. n < stop_limit o) s.oldest_is below }, none) turn;
@@ -56,18 +58,19 @@ state_id base h by n oldest late promised entries lives new s below turn none a 
           id_open_ids q h by n under
           ∙ ap (λ l. l ++ cond (by.session == q) (n ∷ []) []) (s.others q (or_left (list_any (λ e. e.session == q) entries) (list_any (λ e. e.session == q) (new ∷ [])) g))
           ∙ ap (λ c. cond c (n ∷ []) []) (sym (ap (λ r. r == q) a) ∙ or_left (new.session == q) false (or_right (list_any (λ e. e.session == q) entries) (list_any (λ e. e.session == q) (new ∷ [])) g));
-      live = s.live ∙ sym (live_push base.next h (events.Id by n));
+      live = subst (λ ss. HoldsLive ss lives) (sym kept) s.live;
       room = omega arith;
       next_to = next_id_to n (let st : stop_limit oldest + 1 ≤ 2 ^ 63 = stop_to oldest in omega arith);
       oldest_to = s.oldest_to;
     }
 
-pub state_quiet : (base : Counters) (h : List Event) (e : Event) (n oldest oldest' late promised promised' : ℕ) (entries : List Entry) (lives lives' : List LiveEntry) →
+pub state_quiet : (base : Counters) (h : List Event) (e : Event) (n oldest oldest' late promised promised' : ℕ) (entries : List Entry) (lives lives' : LiveSnapshots) →
     IsState base h n oldest late promised entries lives → IsQuiet e → MayCome base h e → ComesInTurn h e →
-    oldest' ≡ announced_after oldest e → oldest' < 2 ^ 63 → map snap_of lives' ≡ live_up base.next (e ∷ reverse h) → length (running h) + length lives' ≤ promised' →
+    oldest' ≡ announced_after oldest e → oldest' < 2 ^ 63 → HoldsLive (live_up base.next (e ∷ reverse h)) lives' → length (running h) + length (live_up base.next (e ∷ reverse h)) ≤ promised' →
     IsState base (h ++ e ∷ []) n oldest' late promised' entries lives'
 state_quiet base h e n oldest oldest' late promised promised' entries lives lives' s q may turn old low live room =
     let same : length (running (h ++ e ∷ [])) ≡ length (running h) = ap length (quiet_running h e q) in
+    let as_many : length (live_snaps base.next (h ++ e ∷ [])) ≡ length (live_up base.next (e ∷ reverse h)) = ap length (live_push base.next h e) in
     record {
       base_is = s.base_is;
       legal = legal_push base h e s.legal may turn;
@@ -77,7 +80,7 @@ state_quiet base h e n oldest oldest' late promised promised' entries lives live
       tops = s.tops ∙ sym (quiet_tops h e q);
       each = all_weaker (IsEntryAt base.next h) (IsEntryAt base.next (h ++ e ∷ [])) (λ x i. entry_quiet base.next h e x.session x.top x.last x.subs.items x.overflowed q i) entries s.each;
       others = λ r f. quiet_open_ids r h e q ∙ s.others r f;
-      live = live ∙ sym (live_push base.next h e);
+      live = subst (λ ss. HoldsLive ss lives') (sym (live_push base.next h e)) live;
       room = omega arith;
       next_to = s.next_to;
       oldest_to = low;

@@ -4,10 +4,11 @@ use Rattle.proc_table.proofs.EntryLists.{each_zip, any_zip, same_zip}
 use Rattle.proc_table.proofs.EntrySub.{sub_kept, sub_own, sub_session}
 use Rattle.proc_table.proofs.States.{entry_same}
 use Rattle.proc_table.specs.Entries.{IsEntryAt, IsSame, IsAdded}
+use Rattle.proc_table.specs.Lives.{HoldsLive}
 use Rattle.proc_table.specs.State.{IsState}
 use Rattle.proc_table.specs.Table.{InTurn}
 use Rattle.proc_table.specs.declared.entry.Entry.{Entry}
-use Rattle.proc_table.specs.declared.live.LiveEntry.{LiveEntry}
+use Rattle.proc_table.specs.declared.live.LiveSnapshots.{LiveSnapshots}
 use Rattle.std.proofs.Common.{◌≡◌, ℕ, suc, ◌<◌, ◌≤◌, List, [], ◌∷◌, ◌++◌, length, refl, ap, sym, ◌∙◌, arith, Bool, true, false, ◌==◌, cond, Contains, subst, ◌+◌, ◌^◌}
 use Rattle.std.specs.List.{list_any, AllZip}
 use Rattle.tx_model.proofs.ClosingGrowth.{same_latest}
@@ -22,6 +23,7 @@ use Rattle.tx_model.proofs.RunningGrowth.{given_below}
 use Rattle.tx_model.proofs.Soundness.{IsSound, next_above, next_after}
 use Rattle.tx_model.proofs.SubGrowth.{sub_running, sub_tops, sub_closed, sub_open_ids}
 use Rattle.tx_model.specs.Events.{given}
+use Rattle.tx_model.specs.Horizon.{live_snaps}
 use Rattle.tx_model.specs.IdLists.{has}
 use Rattle.tx_model.specs.Limits.{stop_limit}
 use Rattle.tx_model.specs.Running.{is_open, running, open_ids}
@@ -47,7 +49,7 @@ added_entry first h by parent n s b o p f x y i a = split (by.session == x.sessi
         (sub_kept first h by parent n x.session x.top x.last x.subs.items x.overflowed b o p e
         (sym (sub_session first h by parent x.session x.top x.last x.subs.items x.overflowed s f i) ∙ e) i)
 
-pub state_sub : (base : Counters) (h : List Event) (by : By) (parent n oldest late promised : ℕ) (entries entries' : List Entry) (lives : List LiveEntry) →
+pub state_sub : (base : Counters) (h : List Event) (by : By) (parent n oldest late promised : ℕ) (entries entries' : List Entry) (lives : LiveSnapshots) →
     IsState base h n oldest late promised entries lives → n < stop_limit oldest → InTurn by h → Contains (open_ids by.session h) parent → AllZip (IsAdded by.session n) entries entries' →
     IsState base (h ++ events.Sub by parent n ∷ []) (next_id n) oldest late (promised + 1) entries' lives
 state_sub base h by parent n oldest late promised entries entries' lives s below turn con z =
@@ -57,7 +59,9 @@ state_sub base h by parent n oldest late promised entries entries' lives s below
     let o : is_open h parent ≡ true = (open_member by.session h parent f).1 in
     let p : parent < n = all_has (λ x. x < n) (given h) parent (given_below n h under) (has_given_to by.session h parent (open_member by.session h parent f).0) in
     let more : length (running (h ++ events.Sub by parent n ∷ [])) ≡ suc (length (running h)) = ap length (sub_running h by parent n under o) ∙ length_push (running h) n in
-    let room : length (running h) + length lives ≤ promised = s.room in
+    let room : length (running h) + length (live_snaps base.next h) ≤ promised = s.room in
+    let kept : live_snaps base.next (h ++ events.Sub by parent n ∷ []) ≡ live_snaps base.next h = live_push base.next h (events.Sub by parent n) in
+    let as_many : length (live_snaps base.next (h ++ events.Sub by parent n ∷ [])) ≡ length (live_snaps base.next h) = ap length kept in
     record {
       base_is = s.base_is;
       legal = legal_push base h (events.Sub by parent n) s.legal (record { next = s.next_is; below_stop = subst (λ o. n < stop_limit o) s.oldest_is below }, con) turn;
@@ -70,7 +74,7 @@ state_sub base h by parent n oldest late promised entries entries' lives s below
           sub_open_ids q h by parent n under o
           ∙ ap (λ l. l ++ cond (by.session == q) (n ∷ []) []) (none q g)
           ∙ not_mine q (none q g) (by.session == q) refl;
-      live = s.live ∙ sym (live_push base.next h (events.Sub by parent n));
+      live = subst (λ ss. HoldsLive ss lives) (sym kept) s.live;
       room = omega arith;
       next_to = next_id_to n (let st : stop_limit oldest + 1 ≤ 2 ^ 63 = stop_to oldest in omega arith);
       oldest_to = s.oldest_to;
@@ -87,7 +91,7 @@ same_entry : (first : ℕ) (h : List Event) (x y : Entry) → IsEntryAt first h 
 same_entry first h x y i a = entry_same first h y.session y.top y.last x.session x.top x.last y.subs.items x.subs.items y.overflowed x.overflowed a.session a.top a.last a.subs a.overflowed i
 
 -- where entries differ in room alone
-pub state_same : (base : Counters) (h : List Event) (n oldest late promised : ℕ) (entries entries' : List Entry) (lives : List LiveEntry) →
+pub state_same : (base : Counters) (h : List Event) (n oldest late promised : ℕ) (entries entries' : List Entry) (lives : LiveSnapshots) →
     IsState base h n oldest late promised entries lives → AllZip IsSame entries entries' → IsState base h n oldest late promised entries' lives
 state_same base h n oldest late promised entries entries' lives s z =
     record {

@@ -4,10 +4,11 @@ use Rattle.proc_table.proofs.EntryLists.{each_zip, bool_cases, any_zip, pick, sa
 use Rattle.proc_table.proofs.EntrySub.{sub_session}
 use Rattle.proc_table.proofs.States.{entry_same}
 use Rattle.proc_table.specs.Entries.{IsEntryAt, IsTaken}
+use Rattle.proc_table.specs.Lives.{HoldsLive}
 use Rattle.proc_table.specs.State.{IsState}
 use Rattle.proc_table.specs.Table.{InTurn}
 use Rattle.proc_table.specs.declared.entry.Entry.{Entry}
-use Rattle.proc_table.specs.declared.live.LiveEntry.{LiveEntry}
+use Rattle.proc_table.specs.declared.live.LiveSnapshots.{LiveSnapshots}
 use Rattle.std.proofs.Common.{◌≡◌, ℕ, ◌-◌, ◌<◌, ◌≤◌, List, [], ◌∷◌, ◌++◌, length, reverse, refl, ap, sym, ◌∙◌, arith, Bool, true, false, not, ◌&&◌, ◌==◌, ◌||◌, cond, subst, max, inl, inr, ⊎_elim, ◌⊎◌, ◌+◌}
 use Rattle.std.proofs.lemmas.List.Elements.{filter_agree}
 use Rattle.std.specs.List.{filter, AllByRecursion, list_any, fold, AllZip}
@@ -25,6 +26,7 @@ use Rattle.tx_model.proofs.Soundness.{IsSound}
 use Rattle.tx_model.specs.Events.{given}
 use Rattle.tx_model.specs.Families.{top, is_top}
 use Rattle.tx_model.specs.History.{nth_id, MayCome}
+use Rattle.tx_model.specs.Horizon.{live_snaps}
 use Rattle.tx_model.specs.IdLists.{has}
 use Rattle.tx_model.specs.Running.{is_open, running, open_ids, running_tops}
 use Rattle.tx_model.specs.Savepoints.{is_inside, family}
@@ -67,7 +69,7 @@ taken_entry first h by id ids s f are x y i a =
         (λ z g j. ap (λ l. has l z) (sym (ap (λ r. open_ids r h) (equal_from x.session by.session k)) ∙ i.own) ∙ has-filter (λ u. top h u == x.top) (running h) z ∙ ap (λ b. b && (top h z == x.top)) g ∙ ap (λ u. u == x.top) j ∙ eqb-refl x.top))))
 
 -- a session with an open id has an entry
-pub entry_of : (base : Counters) (h : List Event) (n oldest late promised : ℕ) (entries : List Entry) (lives : List LiveEntry) (session x : ℕ) →
+pub entry_of : (base : Counters) (h : List Event) (n oldest late promised : ℕ) (entries : List Entry) (lives : LiveSnapshots) (session x : ℕ) →
     IsState base h n oldest late promised entries lives → has (open_ids session h) x ≡ true → (e : Entry) × (IsEntryAt base.next h e × ((e.session == session) ≡ true))
 entry_of base h n oldest late promised entries lives session x s f =
     ⊎_elim (λ k. pick (IsEntryAt base.next h) (λ (e : Entry). e.session == session) entries s.each k)
@@ -86,7 +88,7 @@ inside_or_top (e ∷ r) x = inside_or_top r x
 pub ends : (h : List Event) (x : ℕ) → (top h x ≡ x) ⊎ (is_inside h x x ≡ true)
 ends h x = ⊎_elim (λ e. inl (top_is h x ∙ e)) (λ e. inr (ap (list_any (λ y. x == y)) (enclosing_is h x) ∙ e)) (inside_or_top (reverse h) x)
 
-pub state_undo : (base : Counters) (h : List Event) (by : By) (id n oldest late promised : ℕ) (ids : List ℕ) (entries entries' : List Entry) (lives : List LiveEntry) →
+pub state_undo : (base : Counters) (h : List Event) (by : By) (id n oldest late promised : ℕ) (ids : List ℕ) (entries entries' : List Entry) (lives : LiveSnapshots) →
     IsState base h n oldest late promised entries lives → MayCome base h (events.Undo by id) → InTurn by h → ids ≡ filter (is_inside h id) (open_ids by.session h) → AllZip (IsTaken by.session ids) entries entries' → 1 ≤ promised →
     IsState base (h ++ events.Undo by id ∷ []) n oldest (fold max late ids) (promised - 1) entries' lives
 state_undo base h by id n oldest late promised ids entries entries' lives s may turn are z some =
@@ -98,7 +100,9 @@ state_undo base h by id n oldest late promised ids entries entries' lives s may 
     let c : IsClosing h (events.Undo by id) (λ x. not (is_inside h id x)) = closing_undo h by id in
     let fewer : length (filter (λ x. not (is_inside h id x)) (running h)) + 1 ≤ length (running h) = one_less (λ x. not (is_inside h id x)) (running h) id runs (ap not (inside_itself may.1)) in
     let same : length (running (h ++ events.Undo by id ∷ [])) ≡ length (filter (λ x. not (is_inside h id x)) (running h)) = ap length (closing_running h (events.Undo by id) (λ x. not (is_inside h id x)) c) in
-    let room : length (running h) + length lives ≤ promised = s.room in
+    let room : length (running h) + length (live_snaps base.next h) ≤ promised = s.room in
+    let kept : live_snaps base.next (h ++ events.Undo by id ∷ []) ≡ live_snaps base.next h = live_push base.next h (events.Undo by id) in
+    let as_many : length (live_snaps base.next (h ++ events.Undo by id ∷ [])) ≡ length (live_snaps base.next h) = ap length kept in
     record {
       base_is = s.base_is;
       legal = legal_push base h (events.Undo by id) s.legal may turn;
@@ -113,7 +117,7 @@ state_undo base h by id n oldest late promised ids entries entries' lives s may 
       others = λ q g.
           closing_open_ids q h (events.Undo by id) (λ x. not (is_inside h id x)) c
           ∙ ap (filter (λ x. not (is_inside h id x))) (s.others q (sym (any_zip (λ (e : Entry). e.session == q) (IsTaken by.session ids) (λ x y a. ap (λ r. r == q) a.same_session) entries entries' z) ∙ g));
-      live = s.live ∙ sym (live_push base.next h (events.Undo by id));
+      live = subst (λ ss. HoldsLive ss lives) (sym kept) s.live;
       room = omega arith;
       next_to = s.next_to;
       oldest_to = s.oldest_to;

@@ -1,25 +1,57 @@
 -- Live snapshots in the table.
-use Rattle.std.specs.Prelude.{◌≡◌, ℕ, ◌<◌, ◌==◌, ◌&&◌, Bool, true, List, length, remove}
-use Rattle.std.specs.List.{slice_index_or}
+use Rattle.std.specs.Prelude.{◌≡◌, ℕ, zero, suc, ◌+◌, ◌==◌, false, not, cond, List, [], ◌∷◌, Option, Some, None, Vec}
+use Rattle.std.specs.List.{count_by, filter, list_any}
+use Rattle.std.specs.BTreeMap.{BTreeMap, get, get_by}
+use Rattle.std.specs.Cmp.Lexicographic.{slice_cmp}
+use Rattle.std.specs.Ordering.{nat_cmp}
 use Rattle.tx_model.specs.Horizon.{LiveSnap, is_snap_of}
-use Rattle.proc_table.specs.declared.live.LiveEntry.{LiveEntry}
+use Rattle.proc_table.specs.declared.live.LiveSnapshots.{LiveSnapshots}
 
-abbrev pub snap_of : LiveEntry → LiveSnap
-snap_of l = record { session = l.session; name = l.name; xmin = l.xmin }
+-- the xmin of the first snapshot of this session and name
+abbrev pub live_xmin : ℕ → List ℕ → List LiveSnap → Option ℕ
+live_xmin session name [] = None
+live_xmin session name (s ∷ ss) = cond (is_snap_of session name s) (Some s.xmin) (live_xmin session name ss)
 
--- the snapshot is of this session, has this name and this xmin
-abbrev pub is_registered : ℕ → List ℕ → ℕ → LiveEntry → Bool
-is_registered session name xmin l = (l.xmin == xmin) && is_snap_of session name (snap_of l)
+-- without those of this session and name
+abbrev pub others : ℕ → List ℕ → List LiveSnap → List LiveSnap
+others session name snaps = filter (λ s. not (is_snap_of session name s)) snaps
 
--- the one at this place is registered so
-pub record IsRegisteredAt (session : ℕ) (name : List ℕ) (xmin : ℕ) (lives : List LiveEntry) (place : ℕ) : Type 0 where
-  pub within : place < length lives
-  pub mine : (d : LiveEntry) → is_registered session name xmin (slice_index_or lives place d) ≡ true
+-- no snapshot has the session and name of one after it
+abbrev pub AreApart : List LiveSnap → Type 0
+AreApart [] = Unit {0}
+AreApart (s ∷ ss) = (list_any (is_snap_of s.session s.name) ss ≡ false) × AreApart ss
 
--- one that is registered so was taken out
-pub record IsTakenOut (session : ℕ) (name : List ℕ) (xmin : ℕ) (old new : List LiveEntry) (l : LiveEntry) : Type 0 where
-  pub place : ℕ
-  pub within : place < length old
-  pub at : slice_index_or old place l ≡ l
-  pub mine : is_registered session name xmin l ≡ true
-  pub left : new ≡ remove old place
+-- how many have this xmin
+abbrev pub with_xmin : List LiveSnap → ℕ → ℕ
+with_xmin snaps xmin = count_by (λ s. s.xmin == xmin) snaps
+
+-- a number, where it isn't 0
+abbrev pub some_of : ℕ → Option ℕ
+some_of zero = None
+some_of (suc n) = Some (suc n)
+
+-- the map has each of these numbers that isn't 0, and nothing else
+abbrev pub IsTally : (ℕ → ℕ) → BTreeMap ℕ ℕ → Type 0
+IsTally f counts = (x : ℕ) → get nat_cmp counts x ≡ some_of (f x)
+
+-- one more at x
+abbrev pub one_more : ℕ → (ℕ → ℕ) → ℕ → ℕ
+one_more x f y = f y + cond (x == y) 1 0
+
+module _ {Z : Type 0} where
+  -- the xmin that one session has under a name
+  abbrev pub xmin_under : List ℕ → BTreeMap (Vec ℕ Z) ℕ → Option ℕ
+  xmin_under name names = get_by (λ k. slice_cmp nat_cmp name k.items) names
+
+  -- the xmin that the session of this number has under a name
+  abbrev pub kept_xmin : List (BTreeMap (Vec ℕ Z) ℕ) → ℕ → List ℕ → Option ℕ
+  kept_xmin [] session name = None
+  kept_xmin (names ∷ sessions) zero name = xmin_under name names
+  kept_xmin (names ∷ sessions) (suc session) name = kept_xmin sessions session name
+
+-- these are the live snapshots, in whatever order
+pub record HoldsLive (snaps : List LiveSnap) (l : LiveSnapshots) : Type 0 where
+  -- a session has one of a name
+  pub apart : AreApart snaps
+  pub names : (session : ℕ) (name : List ℕ) → kept_xmin l.sessions.items session name ≡ live_xmin session name snaps
+  pub xmins : IsTally (with_xmin snaps) l.xmins

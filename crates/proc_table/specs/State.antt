@@ -1,5 +1,5 @@
 -- The state of the table is that of its events.
-use Rattle.std.specs.Prelude.{◌≡◌, ℕ, ◌+◌, ◌^◌, ◌<◌, ◌≤◌, ◌==◌, false, List, [], map, length}
+use Rattle.std.specs.Prelude.{◌≡◌, ℕ, ◌+◌, ◌^◌, ◌<◌, ◌≤◌, ◌==◌, false, List, [], length}
 use Rattle.std.specs.List.{AllByRecursion, list_any}
 use Rattle.tx_model.specs.declared.event.Event.{Event}
 use Rattle.tx_model.specs.declared.record.Counters.{Counters}
@@ -9,12 +9,12 @@ use Rattle.tx_model.specs.Running.{running, running_tops, open_ids}
 use Rattle.tx_model.specs.Snapshots.{latest}
 use Rattle.tx_model.specs.Horizon.{oldest_id, live_snaps}
 use Rattle.proc_table.specs.declared.entry.Entry.{Entry}
-use Rattle.proc_table.specs.declared.live.LiveEntry.{LiveEntry}
+use Rattle.proc_table.specs.declared.live.LiveSnapshots.{LiveSnapshots}
 use Rattle.proc_table.specs.Entries.{IsEntryAt}
 use Rattle.proc_table.specs.Lists.{tops_of}
-use Rattle.proc_table.specs.Lives.{snap_of}
+use Rattle.proc_table.specs.Lives.{HoldsLive}
 
-pub record IsState (base : Counters) (h : List Event) (next oldest late promised : ℕ) (entries : List Entry) (lives : List LiveEntry) : Type 0 where
+pub record IsState (base : Counters) (h : List Event) (next oldest late promised : ℕ) (entries : List Entry) (lives : LiveSnapshots) : Type 0 where
   pub base_is : IsBase base
   pub legal : IsLegal base h
   pub next_is : next ≡ next_given base.next h
@@ -23,8 +23,8 @@ pub record IsState (base : Counters) (h : List Event) (next oldest late promised
   pub tops : tops_of entries ≡ running_tops h
   pub each : AllByRecursion (IsEntryAt base.next h) entries
   pub others : (s : ℕ) → list_any (λ (e : Entry). e.session == s) entries ≡ false → open_ids s h ≡ []
-  pub live : map snap_of lives ≡ live_snaps base.next h
+  pub live : HoldsLive (live_snaps base.next h) lives
   -- the events that may come without memory: an end for each running id, a drop for each live snapshot
-  pub room : length (running h) + length lives ≤ promised
+  pub room : length (running h) + length (live_snaps base.next h) ≤ promised
   pub next_to : next < 2 ^ 63
   pub oldest_to : oldest < 2 ^ 63

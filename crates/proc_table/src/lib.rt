@@ -11,6 +11,7 @@ mod room;
 mod table;
 #[cfg(test)]
 mod tests;
+mod xmins;
 
 pub use answers::{Asked, Given};
 pub use table::ProcTable;

@@ -1,80 +1,127 @@
-ghost use Rattle.std.specs.Prelude.{◌≡◌, ℕ, false, true, map, min, IfSome, IfNone};
-ghost use Rattle.std.specs.List.{Any, fold, list_any};
-ghost use Rattle.tx_model.specs.Horizon.{is_snap_of};
-ghost use Rattle.proc_table.specs.declared.live.LiveEntry.{LiveEntry};
-ghost use Rattle.proc_table.specs.Lives.{snap_of, is_registered, IsRegisteredAt, IsTakenOut};
+ghost use Rattle.std.specs.Prelude.{◌≡◌, ℕ, ◌+◌, ◌^◌, ◌<◌, List, [], ◌∷◌, ◌++◌, Contains, Some, None, cond, length, map, min, false, IfSome, IfNone, IfOk, OnOk, OnErr, option_map};
+ghost use Rattle.std.specs.List.{fold, list_any};
+ghost use Rattle.std.specs.BTreeMap.{get};
+ghost use Rattle.std.specs.Ordering.{nat_cmp};
+ghost use Rattle.tx_model.specs.Events.{same_name};
+ghost use Rattle.tx_model.specs.Horizon.{LiveSnap, is_snap_of};
+ghost use Rattle.proc_table.specs.Lives.{HoldsLive, xmin_under, live_xmin, others};
 
-use tx_model::Name;
+use crate::xmins::{XminCounts, count_less, count_more, least_counted};
+use std::alloc::Global;
+use std::collections::BTreeMap;
+use tx_model::{Memory, Name, Sequence};
 use xid_order::FullXid;
 
-/// A snapshot that its session hasn't dropped.
+/// The xmin of each live snapshot of one session, by the bytes of its name.
+type NamedXmins = BTreeMap<Vec<u8>, FullXid>;
+
+/// The live snapshots of all sessions. To find one, to add or take out one and to tell the least xmin takes the
+/// logarithm of how many there are.
 #[derive(Drop)]
-pub struct LiveEntry {
-    pub session: u32,
-    pub name: Name,
-    pub xmin: FullXid,
+pub struct LiveSnapshots {
+    /// Of each session, by its number.
+    sessions: Vec<NamedXmins>,
+    xmins: XminCounts,
 }
 
-impl LiveEntry {
-    /// Whether it is this session's, under this name.
-    fn is_of(&self, session: u32, name: &Name) -> bool
-        ensures { result ≡ is_snap_of session name.now (snap_of self.now) }
+impl LiveSnapshots {
+    /// None, for this many sessions.
+    pub fn new(alloc: Global, sessions: u32) -> Result<LiveSnapshots, Memory>
+        ensures none { IfOk result (HoldsLive []) }
+        ensures sessions { IfOk result (λ l. length l.sessions.items ≡ sessions) }
     {
-        self.session == session && self.name.items() == name.items()
+        let mut names = Vec::with_capacity(alloc, sessions as usize)?;
+        for _ in 0..sessions {
+            names.push(BTreeMap::new(alloc))?;
+        }
+        Ok(LiveSnapshots {
+            sessions: names,
+            xmins: BTreeMap::new(alloc),
+        })
     }
-}
 
-/// Where the snapshot of this session, name and xmin stands.
-fn place_of(lives: &[LiveEntry], session: u32, name: &Name, xmin: FullXid) -> Option<usize>
-    ensures found { IfSome result (λ i. IsRegisteredAt session name.now xmin lives.now i) }
-    ensures none { IfNone result (list_any (is_registered session name.now xmin) lives.now ≡ false) }
-{
-    for (i, live) in lives.iter().enumerate() {
-        if live.xmin == xmin && live.is_of(session, name) {
-            return Some(i);
+    /// The xmin of the session's snapshot of this name.
+    pub fn xmin_of(&self, session: u32, name: &Name) -> Option<FullXid>
+        ensures { (snaps : List LiveSnap) → HoldsLive snaps self.now → result ≡ live_xmin session name.now snaps }
+    {
+        match self.sessions.get(session as usize) {
+            Some(names) => xmin_under(names, name),
+            None => None,
         }
     }
-    None
+
+    /// Adds a snapshot under a name that the session has none of. After want of memory it holds what it held.
+    pub fn insert(&mut self, session: u32, name: &Name, xmin: FullXid) -> Result<(), Memory>
+        requires within { session < length self.old.sessions.items }
+        requires fits { IfSome (get nat_cmp self.old.xmins xmin) (λ n. n + 1 < 2 ^ 64) }
+        ensures ok { OnOk result ((snaps : List LiveSnap) → HoldsLive snaps self.old → list_any (is_snap_of session name.now) snaps ≡ false → HoldsLive (snaps ++ record { session = session; name = name.now; xmin = xmin } ∷ []) self.new) }
+        ensures err { OnErr result ((snaps : List LiveSnap) → HoldsLive snaps self.old → HoldsLive snaps self.new) }
+        ensures sessions { length self.new.sessions.items ≡ length self.old.sessions.items }
+    {
+        let key = bytes_of(*self.sessions.allocator(), name)?;
+        if !count_more(&mut self.xmins, xmin) {
+            return Err(Memory);
+        }
+        match put_name(&mut self.sessions[session as usize], key, xmin) {
+            Ok(()) => Ok(()),
+            Err(Memory) => {
+                count_less(&mut self.xmins, xmin);
+                Err(Memory)
+            }
+        }
+    }
+
+    /// Takes out the snapshot of this session, name and xmin, and gives its name back. Takes no memory.
+    pub fn take_out(&mut self, session: u32, name: &Name, xmin: FullXid) -> Option<Name>
+        requires within { session < length self.old.sessions.items }
+        ensures name { IfSome result (λ n. n ≡ name.now) }
+        ensures left { IfSome result (λ _. (snaps : List LiveSnap) → HoldsLive snaps self.old → Contains snaps (record { session = session; name = name.now; xmin = xmin }) → HoldsLive (others session name.now snaps) self.new) }
+        ensures none { IfNone result ((snaps : List LiveSnap) → HoldsLive snaps self.old → live_xmin session name.now snaps ≡ None) }
+        ensures sessions { length self.new.sessions.items ≡ length self.old.sessions.items }
+    {
+        let name = take_name(&mut self.sessions[session as usize], name)?;
+        count_less(&mut self.xmins, xmin);
+        Some(name)
+    }
+
+    /// The least of an id and the xmins of all.
+    pub fn least_xmin(&self, from: FullXid) -> FullXid
+        ensures { (snaps : List LiveSnap) → HoldsLive snaps self.now → result ≡ fold min from (map (λ s. s.xmin) snaps) }
+    {
+        least_counted(from, &self.xmins)
+    }
 }
 
-/// Takes it out of the live ones.
-pub fn take_out(
-    lives: &mut Vec<LiveEntry>,
-    session: u32,
-    name: &Name,
-    xmin: FullXid,
-) -> Option<LiveEntry>
-    ensures found { IfSome result (λ l. IsTakenOut session name.now xmin lives.old.items lives.new.items l) }
-    ensures none { IfNone result (list_any (is_registered session name.now xmin) lives.old.items ≡ false) }
+fn xmin_under(names: &NamedXmins, name: &Name) -> Option<FullXid>
+    ensures { result ≡ xmin_under name.now names.now }
 {
-    match place_of(lives, session, name, xmin) {
-        Some(place) => Some(lives.remove(place)),
+    names.get(name.items()).copied()
+}
+
+fn bytes_of(alloc: Global, name: &Name) -> Result<Vec<u8>, Memory>
+    ensures { IfOk result (λ v. v.items ≡ name.now) }
+{
+    let mut bytes = Vec::new(alloc);
+    bytes.extend_from_slice(name.items())?;
+    Ok(bytes)
+}
+
+fn put_name(names: &mut NamedXmins, name: Vec<u8>, xmin: FullXid) -> Result<(), Memory>
+    ensures ok { OnOk result ((n : List ℕ) → xmin_under n names.new ≡ cond (same_name name.items n) (Some xmin) (xmin_under n names.old)) }
+    ensures err { OnErr result ((n : List ℕ) → xmin_under n names.new ≡ xmin_under n names.old) }
+{
+    names.insert(name, xmin)?;
+    Ok(())
+}
+
+fn take_name(names: &mut NamedXmins, name: &Name) -> Option<Name>
+    ensures name { IfSome result (λ n. n ≡ name.now) }
+    ensures left { IfSome result (λ _. (n : List ℕ) → xmin_under n names.new ≡ cond (same_name name.now n) None (xmin_under n names.old)) }
+    ensures none { IfNone result (xmin_under name.now names.old ≡ None) }
+    ensures same { IfNone result ((n : List ℕ) → xmin_under n names.new ≡ xmin_under n names.old) }
+{
+    match names.remove_entry(name.items()) {
+        Some((key, _)) => Some(Sequence::of(key)),
         None => None,
     }
-}
-
-/// The xmin of the session's snapshot of this name.
-pub fn xmin_of(lives: &[LiveEntry], session: u32, name: &Name) -> Option<FullXid>
-    ensures some { IfSome result (λ x. Any (λ (l : LiveEntry). (is_snap_of session name.now (snap_of l) ≡ true) × (x ≡ l.xmin)) lives.now) }
-    ensures none { IfNone result (list_any (λ (l : LiveEntry). is_snap_of session name.now (snap_of l)) lives.now ≡ false) }
-{
-    for live in lives {
-        if live.is_of(session, name) {
-            return Some(live.xmin);
-        }
-    }
-    None
-}
-
-/// The least of an id and these snapshots' xmin.
-pub fn least_xmin(from: FullXid, lives: &[LiveEntry]) -> FullXid
-    ensures { result ≡ fold min from (map (λ (l : LiveEntry). l.xmin) lives.now) }
-{
-    let mut least = from;
-    for snap in lives {
-        if snap.xmin < least {
-            least = snap.xmin;
-        }
-    }
-    least
 }

@@ -19,7 +19,7 @@ use crate::entries::{
     listed_subs, make_sub_room, take_ids, top_of, tops_below,
 };
 use crate::entry::{Entry, greatest};
-use crate::live::{LiveEntry, least_xmin, take_out, xmin_of};
+use crate::live::LiveSnapshots;
 use crate::room::{make_one_room, make_room};
 use horizon_limits::Limits;
 use snap_core::Snapshot;
@@ -46,14 +46,13 @@ pub struct ProcTable {
     promised: usize,
     /// One for each running transaction, ascending by top.
     entries: Vec<Entry>,
-    /// In the order in which they were taken.
-    live: Vec<LiveEntry>,
+    live: LiveSnapshots,
     /// With room for the promised ones.
     events: Vec<Event>,
 }
 
 impl Model for ProcTable {
-    ghost use Rattle.std.specs.Prelude.{◌+◌, ◌≤◌};
+    ghost use Rattle.std.specs.Prelude.{◌≡◌, ◌+◌, ◌≤◌, length};
     ghost use Rattle.std.specs.Vec.{vec_len, vec_capacity};
     ghost use Rattle.proc_table.specs.Table.{Table};
     ghost use Rattle.proc_table.specs.State.{IsState};
@@ -62,7 +61,7 @@ impl Model for ProcTable {
 
     ghost view = { λ t. record { base = t.base; sessions = t.sessions; frontier = t.frontier; events = t.events.items } };
 
-    ghost invariant = { λ t. IsState t.base t.events.items t.next t.oldest t.latest t.promised t.entries.items t.live.items × (vec_len t.events + t.promised ≤ vec_capacity t.events) };
+    ghost invariant = { λ t. IsState t.base t.events.items t.next t.oldest t.latest t.promised t.entries.items t.live × (vec_len t.events + t.promised ≤ vec_capacity t.events) × (length t.live.sessions.items ≡ t.sessions) };
 }
 
 /// The page on which the id's parent stands.
@@ -89,7 +88,7 @@ impl ProcTable {
             latest: base.next.retreat(),
             promised: 0,
             entries: Vec::with_capacity(alloc, sessions as usize)?,
-            live: Vec::new(alloc),
+            live: LiveSnapshots::new(alloc, sessions)?,
             events: Vec::new(alloc),
         })
     }
@@ -207,22 +206,14 @@ impl ProcTable {
         ensures { Takes self.old self.new (events.Snap by name.now) result }
     {
         let taken = self.taken()?;
-        let snap = LiveEntry {
-            session: by.session,
-            name: name.copy()?,
-            xmin: taken.xmin,
-        };
         let event = Event::Snap {
             by,
             name: name.copy()?,
         };
-        if !make_one_room(&mut self.live) {
-            return Err(Memory);
-        }
         if !make_room(&mut self.events, self.promised, 2) {
             return Err(Memory);
         }
-        self.live.push_reserved(snap);
+        self.live.insert(by.session, name, taken.xmin)?;
         self.events.push_reserved(event);
         self.promised += 1;
         Ok(taken)
@@ -260,14 +251,11 @@ impl ProcTable {
         requires registered { IsLiveAt self.old by.session name.now xmin }
         ensures { Adds self.old self.new (events.SnapDrop by name.now) }
     {
-        let dropped = match take_out(&mut self.live, by.session, name, xmin) {
-            Some(dropped) => dropped,
+        let name = match self.live.take_out(by.session, name, xmin) {
+            Some(name) => name,
             None => unreachable!(),
         };
-        self.events.push_reserved(Event::SnapDrop {
-            by,
-            name: dropped.name,
-        });
+        self.events.push_reserved(Event::SnapDrop { by, name });
         self.promised -= 1;
     }
 
@@ -326,7 +314,7 @@ impl ProcTable {
         ensures some { IfSome result (λ x. IsLiveAt self.now session name.now x) }
         ensures none { IfNone result (is_live self.now.base.next session name.now self.now.events ≡ false) }
     {
-        xmin_of(&self.live, session, name)
+        self.live.xmin_of(session, name)
     }
 
     /// The id that is given next.
@@ -347,7 +335,7 @@ impl ProcTable {
     pub fn oldest_xmin(&self) -> FullXid
         ensures { result ≡ xmin_of self.now }
     {
-        least_xmin(least_top(self.xmax(), &self.entries), &self.live)
+        self.live.least_xmin(least_top(self.xmax(), &self.entries))
     }
 
     /// The id after the latest closed one: a snapshot's xmax.

@@ -11,6 +11,7 @@ pub invariant_of-self-then-not-make_sub_room : goal.invariant_of-self-then-not-m
 invariant_of-self-then-not-make_sub_room c = (
   rw c.make_room.ensures.items (state_same _ _ _ _ _ _ _ _ _ c.self.invariant.0 (zip_from_each _ _ _ c.make_sub_room.ensures.same)),
   omega (arith, c.make_room.ensures.len, c.make_room.ensures.capacity, c.self.invariant.1),
+  c.self.invariant.2,
 )
 
 pub advance-self-inside-requires-clause-from : goal.advance-self-inside-requires-clause-from
@@ -26,4 +27,5 @@ invariant_of-self-2 c =
           (state_sub _ _ c.args.by c.args.parent c.self.inside.next _ _ _ _ _ _
           (state_same _ _ _ _ _ _ _ _ _ c.self.invariant.0 (zip_from_each _ _ _ c.make_sub_room.ensures.same)) below turn parent (zip_from_each _ _ _ c.add_id.ensures)),
       omega (arith, c.push_reserved.ensures.len, c.push_reserved.ensures.capacity, c.if-not-make_room.ensures.room refl),
+      c.self.invariant.2,
     )

@@ -17,6 +17,7 @@ invariant_of-self-2 c =
     let turn : InTurn c.args.by c.self.inside.events.items = subst (InTurn c.args.by) (sym view) c.requires.turn in (
       rw (c.push_reserved.ensures.items, c.make_room.ensures.items) (state_asked _ _ _ _ _ _ _ _ c.args.by c.args.x c.self.invariant.0 turn),
       omega (arith, c.push_reserved.ensures.len, c.push_reserved.ensures.capacity, c.if-not-make_room.ensures.room refl),
+      c.self.invariant.2,
     )
 
 pub returns : goal.returns

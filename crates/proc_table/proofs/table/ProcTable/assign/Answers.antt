@@ -18,4 +18,5 @@ invariant_of-self-2 c =
       rw (c.push_reserved-2.ensures.items, c.make_room.ensures.items, c.push_reserved.ensures.items, c.make_one_room.ensures.items, c.advance-self-inside.ensures.value)
           (state_id _ _ c.args.by c.self.inside.next _ _ _ _ _ _ c.self.invariant.0 below turn none c.of_top.ensures.session c.of_top.ensures.top c.of_top.ensures.last c.of_top.ensures.subs c.of_top.ensures.overflowed),
       omega (arith, c.push_reserved-2.ensures.len, c.push_reserved-2.ensures.capacity, c.if-not-make_room.ensures.room refl),
+      c.self.invariant.2,
     )

@@ -1,9 +1,10 @@
 -- How often a pin is among pins.
-use Rattle.std.proofs.Common.{◌≡◌, ℕ, suc, ◌+◌, ◌≤◌, List, [], ◌∷◌, ◌++◌, length, refl, sym, ap, ◌∙◌, inl, inr, ⊎_elim, arith, Bool, true, false, ◌&&◌, ◌==◌, cond, map}
+use Rattle.std.proofs.Common.{◌≡◌, ℕ, suc, ◌+◌, ◌≤◌, List, [], ◌∷◌, ◌++◌, length, refl, sym, ap, ◌∙◌, inl, inr, ⊎_elim, arith, Bool, true, false, ◌&&◌, ◌==◌, cond, map, eqb-true}
 use Rattle.std.specs.List.{count_by}
 use Rattle.std.proofs.lemmas.List.Sums.{sum_by-cons, sum_by-append}
 use Rattle.tx_model.specs.Multis.{Pin, same_pin, without_pin}
-use Rattle.tx_model.proofs.ListSteps.{eqb-refl, equal_from, and_both}
+use Rattle.tx_model.proofs.ListSteps.{eqb-refl}
+use Rattle.std.proofs.lemmas.Bool.{and_parts}
 use Rattle.tx_model.proofs.Membership.{Has}
 
 abbrev pub one_if : Bool → ℕ
@@ -17,9 +18,9 @@ same_refl p = ap (λ b. b && (p.1 == p.1)) (eqb-refl p.0) ∙ eqb-refl p.1
 
 pub same_equal : (p q : Pin) → same_pin p q ≡ true → p ≡ q
 same_equal p q e =
-    let both = and_both (p.0 == q.0) (p.1 == q.1) e in
-    let a : p.0 ≡ q.0 = equal_from p.0 q.0 both.0 in
-    let b : p.1 ≡ q.1 = equal_from p.1 q.1 both.1 in
+    let both = and_parts (p.0 == q.0) (p.1 == q.1) e in
+    let a : p.0 ≡ q.0 = eqb-true p.0 q.0 both.0 in
+    let b : p.1 ≡ q.1 = eqb-true p.1 q.1 both.1 in
     ap (λ (x : ℕ). let r : Pin = (x, p.1) in r) a ∙ ap (λ (y : ℕ). let r : Pin = (q.0, y) in r) b
 
 count_cons : (p x : Pin) (ps : List Pin) → count p (x ∷ ps) ≡ one_if (same_pin p x) + count p ps

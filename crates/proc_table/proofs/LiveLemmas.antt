@@ -1,11 +1,14 @@
 -- Live snapshots: each session has one of a name.
-use Rattle.std.proofs.Common.{◌≡◌, ℕ, suc, zero, ◌<◌, ◌≤◌, List, [], ◌∷◌, ◌++◌, length, take, reverse, refl, ap, sym, ◌∙◌, arith, Bool, true, false, not, ◌&&◌, ◌==◌, ◌||◌, cond, subst}
+use Rattle.tx_model.proofs.Names.{same_name_refl, same_name_equal}
+use Rattle.std.proofs.Common.{◌≡◌, ℕ, suc, zero, ◌<◌, List, [], ◌∷◌, ◌++◌, length, reverse, refl, ap, sym, ◌∙◌, arith, Bool, true, false, not, ◌&&◌, ◌==◌, ◌||◌, cond, subst, eqb-true}
 use Rattle.std.specs.Cmp.Lexicographic.{pointwise, same_text}
 use Rattle.std.specs.List.{filter, list_any, slice_index_or}
 use Rattle.std.specs.Prelude.{remove, nat_eq}
 use Rattle.tx_model.proofs.HorizonSteps.{live_push}
-use Rattle.tx_model.proofs.LegalSoundness.{legal_induction}
-use Rattle.tx_model.proofs.ListSteps.{or_true, or_left, eqb-refl, or_right, list_any-push, not_both, and_both, take_whole, equal_from}
+use Rattle.tx_model.proofs.Soundness.{legal_induction}
+use Rattle.std.proofs.Math.Bool.{or-true}
+use Rattle.std.proofs.lemmas.Bool.{or_parts, and_parts}
+use Rattle.tx_model.proofs.ListSteps.{eqb-refl, list_any-push, not_both}
 use Rattle.tx_model.specs.Events.{same_name}
 use Rattle.tx_model.specs.Families.{top}
 use Rattle.tx_model.specs.History.{IsLegal, MayCome}
@@ -19,24 +22,6 @@ pointwise_refl : (xs : List ℕ) → pointwise nat_eq xs xs ≡ true
 pointwise_refl [] = refl
 pointwise_refl (x ∷ xs) = rw (eqb-refl x) (pointwise_refl xs)
 
-pub same_name_refl : (xs : List ℕ) → same_name xs xs ≡ true
-same_name_refl xs = ap (λ t. pointwise nat_eq xs t && pointwise nat_eq xs t) (take_whole xs) ∙ ap (λ b. b && b) (pointwise_refl xs)
-
-shorter : (xs ys : List ℕ) → xs ≡ take (length xs) ys → length xs ≤ length ys
-shorter [] ys e = omega arith
-shorter (x ∷ xs) [] e = absurd cc
-shorter (x ∷ xs) (y ∷ ys) e = let f : xs ≡ take (length xs) ys = cc in let k : length xs ≤ length ys = shorter xs ys f in omega arith
-
-pub same_name_equal : (xs ys : List ℕ) → same_name xs ys ≡ true → xs ≡ ys
-same_name_equal xs ys e =
-    let both = and_both (pointwise nat_eq ys (take (length ys) xs)) (pointwise nat_eq xs (take (length xs) ys)) e in
-    let a : ys ≡ take (length ys) xs = same_text ys (take (length ys) xs) (sym both.0) in
-    let b : xs ≡ take (length xs) ys = same_text xs (take (length xs) ys) (sym both.1) in
-    let k : length ys ≤ length xs = shorter ys xs a in
-    let l : length xs ≤ length ys = shorter xs ys b in
-    let n : length ys ≡ length xs = omega arith in
-    sym (a ∙ ap (λ n. take n xs) n ∙ take_whole xs)
-
 pub same_names : (xs ys : List ℕ) → pointwise nat_eq xs ys ≡ same_name xs ys
 same_names xs ys = one (pointwise nat_eq xs ys) refl (same_name xs ys) refl
   where
@@ -48,10 +33,10 @@ same_names xs ys = one (pointwise nat_eq xs ys) refl (same_name xs ys) refl
 
 -- two of one session and name
 pub twin_session : (session : ℕ) (name : List ℕ) (s : LiveSnap) → is_snap_of session name s ≡ true → s.session ≡ session
-twin_session session name s e = equal_from s.session session (and_both (s.session == session) (same_name s.name name) e).0
+twin_session session name s e = eqb-true s.session session (and_parts (s.session == session) (same_name s.name name) e).0
 
 pub twin_name : (session : ℕ) (name : List ℕ) (s : LiveSnap) → is_snap_of session name s ≡ true → s.name ≡ name
-twin_name session name s e = same_name_equal s.name name (and_both (s.session == session) (same_name s.name name) e).1
+twin_name session name s e = same_name_equal s.name name (and_parts (s.session == session) (same_name s.name name) e).1
 
 pub own_twin : (s : LiveSnap) → is_snap_of s.session s.name s ≡ true
 own_twin s = ap (λ b. b && same_name s.name s.name) (eqb-refl s.session) ∙ same_name_refl s.name
@@ -67,24 +52,23 @@ apart_swap s t f = one (is_snap_of s.session s.name t) refl
     one : (b : Bool) → is_snap_of s.session s.name t ≡ b → b ≡ false
     one false e = refl
     one true e =
-        not_both (is_snap_of t.session t.name s) f
-        (ap (λ n. is_snap_of n t.name s) (twin_session s.session s.name t e) ∙ ap (λ n. is_snap_of s.session n s) (twin_name s.session s.name t e) ∙ own_twin s)
+        not_both (is_snap_of t.session t.name s) (ap (λ n. is_snap_of n t.name s) (twin_session s.session s.name t e) ∙ ap (λ n. is_snap_of s.session n s) (twin_name s.session s.name t e) ∙ own_twin s) f
 
 pub apart_push : (ss : List LiveSnap) (t : LiveSnap) → Apart ss → list_any (is_snap_of t.session t.name) ss ≡ false → Apart (ss ++ t ∷ [])
 apart_push [] t a f = (refl, tt)
 apart_push (s ∷ ss) t a f = (
   list_any-push (is_snap_of s.session s.name) ss t
       ∙ ap (λ b. b || is_snap_of s.session s.name t) a.0
-      ∙ apart_swap s t (or_left (is_snap_of t.session t.name s) (list_any (is_snap_of t.session t.name) ss) f),
-  apart_push ss t a.1 (or_right (is_snap_of t.session t.name s) (list_any (is_snap_of t.session t.name) ss) f),
+      ∙ apart_swap s t ((or_parts (is_snap_of t.session t.name s) (list_any (is_snap_of t.session t.name) ss) f).0),
+  apart_push ss t a.1 ((or_parts (is_snap_of t.session t.name s) (list_any (is_snap_of t.session t.name) ss) f).1),
 )
 
 any_filtered : {X : Type 0} (p q : X → Bool) (xs : List X) → list_any p xs ≡ false → list_any p (filter q xs) ≡ false
 any_filtered p q [] f = refl
-any_filtered p q (x ∷ xs) f = one (q x) (any_filtered p q xs (or_right (p x) (list_any p xs) f))
+any_filtered p q (x ∷ xs) f = one (q x) (any_filtered p q xs ((or_parts (p x) (list_any p xs) f).1))
   where
     one : (c : Bool) → list_any p (filter q xs) ≡ false → list_any p (cond c (x ∷ filter q xs) (filter q xs)) ≡ false
-    one true g = ap (λ b. b || list_any p (filter q xs)) (or_left (p x) (list_any p xs) f) ∙ g
+    one true g = ap (λ b. b || list_any p (filter q xs)) ((or_parts (p x) (list_any p xs) f).0) ∙ g
     one false g = g
 
 pub apart_filtered : (q : LiveSnap → Bool) (ss : List LiveSnap) → Apart ss → Apart (filter q ss)
@@ -97,12 +81,12 @@ apart_filtered q (s ∷ ss) a = one (q s) (apart_filtered q ss a.1)
 
 kept_whole : {X : Type 0} (p : X → Bool) (xs : List X) → list_any p xs ≡ false → filter (λ x. not (p x)) xs ≡ xs
 kept_whole p [] f = refl
-kept_whole p (x ∷ xs) f = rw (or_left (p x) (list_any p xs) f) (ap (λ t. x ∷ t) (kept_whole p xs (or_right (p x) (list_any p xs) f)))
+kept_whole p (x ∷ xs) f = rw ((or_parts (p x) (list_any p xs) f).0) (ap (λ t. x ∷ t) (kept_whole p xs ((or_parts (p x) (list_any p xs) f).1)))
 
 pub any_here : {X : Type 0} (p : X → Bool) (xs : List X) (k : ℕ) (d : X) → k < length xs → p (slice_index_or xs k d) ≡ true → list_any p xs ≡ true
 any_here p [] k d l e = absurd (omega arith)
 any_here p (x ∷ xs) zero d l e = ap (λ b. b || list_any p xs) e
-any_here p (x ∷ xs) (suc k) d l e = ap (λ b. p x || b) (any_here p xs k d (omega arith) e) ∙ or_true (p x)
+any_here p (x ∷ xs) (suc k) d l e = ap (λ b. p x || b) (any_here p xs k d (omega arith) e) ∙ or-true (p x)
 
 -- without the one of this session and name
 pub removed_is : (ss : List LiveSnap) (session : ℕ) (name : List ℕ) (k : ℕ) (d : LiveSnap) → Apart ss → k < length ss → is_snap_of session name (slice_index_or ss k d) ≡ true →
@@ -117,9 +101,8 @@ removed_is (s ∷ ss) session name (suc k) d a l e =
     one : (c : Bool) → is_snap_of session name s ≡ c → remove ss k ≡ filter (λ s. not (is_snap_of session name s)) ss → s ∷ remove ss k ≡ cond (not c) (s ∷ filter (λ s. not (is_snap_of session name s)) ss) (filter (λ s. not (is_snap_of session name s)) ss)
     one false f g = ap (λ t. s ∷ t) g
     one true f g =
-        not_both (list_any (is_snap_of s.session s.name) ss) a.0
-        (any_here (is_snap_of s.session s.name) ss k d (omega arith)
-        (ap (λ n. is_snap_of n s.name (slice_index_or ss k d)) (twin_session session name s f) ∙ ap (λ n. is_snap_of session n (slice_index_or ss k d)) (twin_name session name s f) ∙ e))
+        not_both (list_any (is_snap_of s.session s.name) ss) (any_here (is_snap_of s.session s.name) ss k d (omega arith)
+        (ap (λ n. is_snap_of n s.name (slice_index_or ss k d)) (twin_session session name s f) ∙ ap (λ n. is_snap_of session n (slice_index_or ss k d)) (twin_name session name s f) ∙ e)) a.0
 
 apart_after : (first : ℕ) (base : Counters) (h : List Event) (e : Event) → first ≡ base.next → MayCome base h e → Apart (live_snaps first h) → Apart (live_up first (e ∷ reverse h))
 apart_after first base h (events.Snap by name) f m a =

@@ -1,6 +1,9 @@
 -- The state after an event that gives and closes nothing: a snapshot, a drop, an announcement, a question.
+use Rattle.tx_model.proofs.Names.{same_name_refl}
+use Rattle.std.proofs.lemmas.List.Edits.{length-remove}
+use Rattle.tx_model.proofs.Extremes.{fold_min_start}
 use Rattle.proc_table.proofs.Bounds.{next_id_to}
-use Rattle.proc_table.proofs.LiveLemmas.{removed_is, Apart, live_apart, same_name_refl, any_here}
+use Rattle.proc_table.proofs.LiveLemmas.{removed_is, Apart, live_apart, any_here}
 use Rattle.proc_table.proofs.SnapshotLemmas.{xmin_is}
 use Rattle.proc_table.proofs.StateBounds.{late_bounds}
 use Rattle.proc_table.proofs.States.{state_quiet}
@@ -11,10 +14,12 @@ use Rattle.proc_table.specs.Table.{InTurn}
 use Rattle.proc_table.specs.declared.entry.Entry.{Entry}
 use Rattle.proc_table.specs.declared.live.LiveEntry.{LiveEntry}
 use Rattle.std.proofs.Common.{◌≡◌, ℕ, suc, zero, ◌-◌, ◌<◌, ◌≤◌, List, [], ◌∷◌, ◌++◌, length, refl, ap, sym, ◌∙◌, arith, true, false, ◌&&◌, ◌==◌, ◌||◌, Contains, ◌+◌, ◌^◌, map, min}
-use Rattle.std.proofs.lemmas.List.{reverse-reverse}
+use Rattle.std.proofs.lemmas.List.{reverse-reverse, map_push}
 use Rattle.std.specs.List.{list_any, fold, slice_index_or}
 use Rattle.std.specs.Prelude.{remove}
-use Rattle.tx_model.proofs.ListSteps.{or_true, length_push, map_push, eqb-refl, and_both}
+use Rattle.std.proofs.Math.Bool.{or-true}
+use Rattle.tx_model.proofs.ListSteps.{length_push, eqb-refl}
+use Rattle.std.proofs.lemmas.Bool.{and_parts}
 use Rattle.tx_model.specs.Events.{same_name}
 use Rattle.tx_model.specs.Horizon.{oldest_id, live_snaps, LiveSnap, oldest_xmin, is_snap_of, is_live}
 use Rattle.tx_model.specs.Running.{running, running_tops}
@@ -24,10 +29,6 @@ use Rattle.tx_model.specs.declared.event.Event.{Event}
 use Rattle.tx_model.specs.declared.record.Counters.{Counters}
 use Rattle.xid_order.specs.Ids.{next_id}
 use Rattle.tx_model.specs.declared.event.Event.TheVariants as events
-
-fold_min_to : (xs : List ℕ) (z : ℕ) → fold min z xs ≤ z
-fold_min_to [] z = omega arith
-fold_min_to (y ∷ xs) z = let h : fold min (min z y) xs ≤ min z y = fold_min_to xs (min z y) in omega arith
 
 map_map : (ls : List LiveEntry) → map (λ (l : LiveEntry). l.xmin) ls ≡ map (λ (s : LiveSnap). s.xmin) (map snap_of ls)
 map_map [] = refl
@@ -48,8 +49,8 @@ state_asked base h n oldest late promised entries lives by x s turn =
 pub state_raised : (base : Counters) (h : List Event) (n oldest late promised : ℕ) (entries : List Entry) (lives : List LiveEntry) (by : By) (new : ℕ) → IsState base h n oldest late promised entries lives → InTurn by h → oldest_id base.oldest h ≤ new → new ≤ oldest_xmin base.next h →
     IsState base (h ++ events.Oldest by new ∷ []) n new late promised entries lives
 state_raised base h n oldest late promised entries lives by new s turn from to =
-    let a : oldest_xmin base.next h ≤ snapshot_xmin base.next h = fold_min_to (map (λ (s : LiveSnap). s.xmin) (live_snaps base.next h)) (snapshot_xmin base.next h) in
-    let b : snapshot_xmin base.next h ≤ snapshot_xmax base.next h = fold_min_to (running_tops h) (snapshot_xmax base.next h) in
+    let a : oldest_xmin base.next h ≤ snapshot_xmin base.next h = fold_min_start (snapshot_xmin base.next h) (map (λ (s : LiveSnap). s.xmin) (live_snaps base.next h)) in
+    let b : snapshot_xmin base.next h ≤ snapshot_xmax base.next h = fold_min_start (snapshot_xmax base.next h) (running_tops h) in
     let c : next_id late < 2 ^ 63 = next_id_to late (late_bounds base h n oldest late promised entries lives s).1 in
     let d : snapshot_xmax base.next h ≡ next_id late = ap next_id (sym s.latest_is) in
     state_quiet base h (events.Oldest by new) n oldest new late promised promised entries lives lives s tt (from, to) turn refl (omega arith) s.live s.room
@@ -76,11 +77,6 @@ removed_map [] (suc k) = refl
 removed_map (l ∷ ls) zero = refl
 removed_map (l ∷ ls) (suc k) = ap (λ t. snap_of l ∷ t) (removed_map ls k)
 
-removed_length : {X : Type 0} (xs : List X) (k : ℕ) → k < length xs → length (remove xs k) + 1 ≡ length xs
-removed_length [] k l = absurd (omega arith)
-removed_length (x ∷ xs) zero l = omega arith
-removed_length (x ∷ xs) (suc k) l = let e : length (remove xs k) + 1 ≡ length xs = removed_length xs k (omega arith) in omega arith
-
 map_at : (ls : List LiveEntry) (k : ℕ) (l : LiveEntry) → k < length ls → slice_index_or (map snap_of ls) k (snap_of l) ≡ snap_of (slice_index_or ls k l)
 map_at [] k l f = refl
 map_at (m ∷ ls) zero l f = refl
@@ -94,13 +90,13 @@ pub state_dropped : (base : Counters) (h : List Event) (n oldest late promised :
     IsTakenOut by.session name xmin lives lives' l → (1 ≤ promised) × IsState base (h ++ events.SnapDrop by name ∷ []) n oldest late (promised - 1) entries lives'
 state_dropped base h n oldest late promised entries lives by name xmin lives' l s turn t =
     let apart : Apart (live_snaps base.next h) = live_apart base h s.legal in
-    let mine : is_snap_of by.session name (snap_of l) ≡ true = (and_both (l.xmin == xmin) (is_snap_of by.session name (snap_of l)) t.mine).1 in
+    let mine : is_snap_of by.session name (snap_of l) ≡ true = (and_parts (l.xmin == xmin) (is_snap_of by.session name (snap_of l)) t.mine).1 in
     let here : is_snap_of by.session name (slice_index_or (live_snaps base.next h) t.place (snap_of l)) ≡ true =
     ap (λ ss. is_snap_of by.session name (slice_index_or ss t.place (snap_of l))) (sym s.live) ∙ ap (is_snap_of by.session name) (map_at lives t.place l t.within ∙ ap snap_of t.at) ∙ mine in
     let same : length (live_snaps base.next h) ≡ length lives = ap length (sym s.live) ∙ map_length lives in
     let place : t.place < length lives = t.within in
     let inside : t.place < length (live_snaps base.next h) = omega arith in
-    let fewer : length (remove lives t.place) + 1 ≡ length lives = removed_length lives t.place t.within in
+    let fewer : length (remove lives t.place) + 1 ≡ length lives = length-remove lives t.place t.within in
     let left : length lives' ≡ length (remove lives t.place) = ap length t.left in
     let room : length (running h) + length lives ≤ promised = s.room in (
       omega arith,
@@ -122,4 +118,4 @@ found_registered session name xmin ls c = at ls c.0 c.1 c.2
     at : (ls : List LiveEntry) (k : ℕ) → k < length (map snap_of ls) → slice_index_or (map snap_of ls) k (let r : LiveSnap = record { session = session; name = name; xmin = xmin } in r) ≡ (let r : LiveSnap = record { session = session; name = name; xmin = xmin } in r) → list_any (is_registered session name xmin) ls ≡ true
     at [] k f e = absurd (omega arith)
     at (l ∷ ls) zero f e = ap (λ b. b || list_any (is_registered session name xmin) ls) (is_want l e)
-    at (l ∷ ls) (suc k) f e = ap (λ b. is_registered session name xmin l || b) (at ls k (omega arith) e) ∙ or_true (is_registered session name xmin l)
+    at (l ∷ ls) (suc k) f e = ap (λ b. is_registered session name xmin l || b) (at ls k (omega arith) e) ∙ or-true (is_registered session name xmin l)

@@ -254,12 +254,6 @@ after_is None x some none base = absurd (apart (sym (base_passes x base) ∙ non
     apart : true ≡ false → ⊥
     apart e = cc
 
-pub not_both : {X : Type 0} (b : Bool) → b ≡ true → b ≡ false → X
-not_both b is isnt = absurd (apart (sym is ∙ isnt))
-  where
-    apart : true ≡ false → ⊥
-    apart e = cc
-
 -- ---- how long records are
 
 length-ids : (ids : List ℕ) → length (flat_map (le_bytes 8) ids) ≡ 8 * length ids

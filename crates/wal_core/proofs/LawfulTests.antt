@@ -1,4 +1,5 @@
 -- What the test of a record meets.
+use Rattle.tx_model.proofs.ListSteps.{not_both}
 use Rattle.std.proofs.Common.{◌≡◌, ◌⊎◌, inl, inr, ℕ, ◌+◌, ◌<◌, ◌≤◌, Bool, true, false, ◌&&◌, List, drop, length, get_or, refl, sym, ◌∙◌, ap, subst, ltb}
 use Rattle.std.proofs.lemmas.List.{drop_more}
 use Rattle.std.proofs.lemmas.Bool.{le-ltb}
@@ -11,7 +12,7 @@ use Rattle.tx_model.specs.Base.{IsBase}
 use Rattle.wal_core.specs.BaseTest.{is_base_of}
 use Rattle.wal_core.specs.Opening.{first_number, number_fits}
 use Rattle.wal_core.specs.Log.{is_id, is_lawful, all_ids, ascend_from, counters_or_none, MayAppend}
-use Rattle.wal_core.proofs.Append.{lawful_if, lawful_passes, not_both, after_is}
+use Rattle.wal_core.proofs.Append.{lawful_if, lawful_passes, after_is}
 use Rattle.wal_core.proofs.BaseTests.{base_passes}
 
 no_left : (a b : Bool) → a ≡ false → (a && b) ≡ false

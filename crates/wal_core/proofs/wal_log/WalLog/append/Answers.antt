@@ -1,3 +1,4 @@
+use Rattle.tx_model.proofs.ListSteps.{not_both}
 use Rattle.std.proofs.Common.{◌≡◌, inl, inr, ℕ, ◌+◌, ◌-◌, ◌<◌, ◌≤◌, ◌^◌, List, [], ◌∷◌, ◌++◌, length, drop, sym, ◌∙◌, ap, subst, arith}
 use Rattle.std.proofs.lemmas.List.{length-append}
 use Rattle.std.proofs.lemmas.Bool.{cases_lt}
@@ -6,7 +7,7 @@ use Rattle.wal_core.specs.Spelling.{rec_bytes}
 use Rattle.wal_core.specs.Log.{bytes_of, are_lawful, IsNextBatch, IsReady, IsFull}
 use Rattle.wal_core.proofs.Walks.{some_bytes}
 use Rattle.wal_core.proofs.Flush.{long_behind}
-use Rattle.wal_core.proofs.Append.{not_both, next-push, long-push, pending-push, lawful-push, ready-push}
+use Rattle.wal_core.proofs.Append.{next-push, long-push, pending-push, lawful-push, ready-push}
 use Rattle.wal_core.proofs.Begins.{listed-push, begins-push}
 use Rattle.wal_core.specs.Checkpoint.{IsListed, MayBegin}
 use Rattle.wal_core.proofs.Keeping.{append_keeps}

@@ -1,5 +1,5 @@
 -- How often a pin is among pins.
-use Rattle.std.proofs.Common.{◌≡◌, ℕ, suc, ◌+◌, ◌≤◌, List, [], ◌∷◌, ◌++◌, length, refl, sym, ap, ◌∙◌, inl, inr, ⊎_elim, arith, Bool, true, false, ◌&&◌, ◌==◌, cond, map, eqb-true}
+use Rattle.std.proofs.Common.{◌≡◌, ℕ, suc, ◌+◌, ◌≤◌, List, [], ◌∷◌, ◌++◌, length, refl, sym, ap, ◌∙◌, inl, inr, ⊎_elim, arith, Bool, true, false, ◌&&◌, ◌==◌, cond, eqb-true}
 use Rattle.std.specs.List.{count_by}
 use Rattle.std.proofs.lemmas.List.Sums.{sum_by-cons, sum_by-append}
 use Rattle.tx_model.specs.Multis.{Pin, same_pin, without_pin}
@@ -83,12 +83,3 @@ length_without p (x ∷ ps) k =
 pub none_counts : (ps : List Pin) → ((p : Pin) → count p ps ≡ 0) → ps ≡ []
 none_counts [] f = refl
 none_counts (x ∷ ps) f = absurd (let h : 1 ≤ count x (x ∷ ps) = has_count x (x ∷ ps) (inl refl) in let z : count x (x ∷ ps) ≡ 0 = f x in omega arith)
-
--- the multixacts of pins
-pub map_has : (ps : List Pin) (p : Pin) → Has ps p → Has (map (λ (q : Pin). q.1) ps) p.1
-map_has [] p k = absurd k
-map_has (x ∷ ps) p k = ⊎_elim (λ (e : x ≡ p). inl (ap (λ (q : Pin). q.1) e)) (λ t. inr (map_has ps p t)) k
-
-pub has_map : (ps : List Pin) (m : ℕ) → Has (map (λ (q : Pin). q.1) ps) m → (p : Pin) × Has ps p × (p.1 ≡ m)
-has_map [] m k = absurd k
-has_map (x ∷ ps) m k = ⊎_elim (λ (e : x.1 ≡ m). (x, inl refl, e)) (λ t. let r = has_map ps m t in (r.0, inr r.1, r.2)) k

@@ -19,7 +19,7 @@ use Rattle.tx_model.specs.Running.{is_ended, is_open, is_undone, open_ids}
 use Rattle.tx_model.proofs.Closing.{commit_ends, is_open_by, later, one_top, open_is, closed_not_undone}
 use Rattle.tx_model.proofs.GivenIds.{family_session, fresh, given_to_some, legal_front, legal_last, one_session}
 use Rattle.tx_model.proofs.Lineages.{lineage_push, enclosing_in, top_in, top_line}
-use Rattle.tx_model.proofs.Membership.{Has, by_end, contains_has, filter_has, has_any, has_filter, place_has}
+use Rattle.tx_model.proofs.Membership.{Has, by_end, contains_has, filter_has, has_filter, place_has}
 use Rattle.tx_model.proofs.Trees.{family}
 use Rattle.tx_model.proofs.Visibility.{commit_found}
 use Rattle.plain_states.specs.States.{is_committed}
@@ -97,8 +97,7 @@ committed_closed : (base : Counters) (h : List Event) (e : Event) (x : ℕ) → 
 committed_closed base h (events.Commit by t) x legal may k shut =
     committed_now base h by t x legal may k
     ∙ ap (λ b. is_committed h x || b) (false_from_ne_true (has (open_ids by.session h) x) (λ e.
-    let r = has_any (λ y. x == y) (open_ids by.session h) e in
-    let o = (has_filter (is_open h) (given_to by.session h) x (subst (λ z. Has (open_ids by.session h) z) (sym (eqb-true x r.0 r.2)) r.1)).1 in cc))
+    let o = (has_filter (is_open h) (given_to by.session h) x (true_has (open_ids by.session h) x e)).1 in cc))
     ∙ or-false (is_committed h x)
 committed_closed base h (events.Id by id) x legal may k shut = committed_still base h (events.Id by id) x legal may k (λ t. refl)
 committed_closed base h (events.Sub by parent id) x legal may k shut = committed_still base h (events.Sub by parent id) x legal may k (λ t. refl)

@@ -1,6 +1,7 @@
 -- The states as they are now and a snapshot decide what was visible when it was taken.
-use Rattle.std.proofs.Common.{◌≡◌, ℕ, ◌<◌, ◌≤◌, ◌^◌, ◌%◌, List, [], take, Some, None, refl, ap, sym, subst, ◌∙◌, ⊎_elim, ◌⊎◌, arith, Bool, true, false, not, ◌==◌, eq-eqb}
-use Rattle.std.proofs.lemmas.Bool.{eqb-true, cases_Bool, false_from_ne_true, and_parts}
+use Rattle.tx_model.proofs.IdListSteps.{true_has, has_true}
+use Rattle.std.proofs.Common.{◌≡◌, ℕ, ◌<◌, ◌≤◌, ◌^◌, ◌%◌, List, [], take, Some, None, refl, ap, sym, subst, ◌∙◌, ⊎_elim, ◌⊎◌, arith, Bool, true, false, not, ◌==◌}
+use Rattle.std.proofs.lemmas.Bool.{cases_Bool, false_from_ne_true, and_parts}
 use Rattle.std.specs.List.{find, list_any}
 use Rattle.xid_order.specs.Ids.{IsFullId}
 use Rattle.tx_model.specs.declared.event.Event.{Event}
@@ -14,9 +15,9 @@ use Rattle.tx_model.specs.Snapshots.{snapshot_xmax, snapshot_xmin}
 use Rattle.tx_model.specs.Visible.{is_visible}
 use Rattle.tx_model.proofs.Closing.{is_open_by, later_take, open_is}
 use Rattle.tx_model.proofs.Extremes.{fold_min_has}
-use Rattle.tx_model.proofs.Membership.{Has, any_has, contains_has, filter_has, has_any, has_contains}
+use Rattle.tx_model.proofs.Membership.{Has, contains_has, filter_has, has_contains, has_filter}
 use Rattle.tx_model.proofs.Lineages.{top_in, top_line}
-use Rattle.tx_model.proofs.SnapshotBounds.{below_given, given_from, past_open, open_top, running_is, top_is_top, top_runs}
+use Rattle.tx_model.proofs.SnapshotBounds.{below_given, given_from, past_open, open_top, top_is_top, top_runs}
 use Rattle.tx_model.proofs.GivenIds.{legal_take}
 use Rattle.tx_model.proofs.Trees.{Family, family}
 use Rattle.tx_model.proofs.Visibility.{lives, never_given, open_hidden, visible_new}
@@ -32,13 +33,11 @@ use Rattle.snap_core.specs.declared.snapshot.Says.TheVariants as says
 
 -- what runs is open
 pub runs_open : (g : List Event) (x : ℕ) → has (running g) x ≡ true → is_open g x ≡ true
-runs_open g x e =
-    let r = has_any (λ y. x == y) (running g) e in
-    (running_is g x (subst (λ z. Has (running g) z) (sym (eqb-true x r.0 r.2)) r.1)).1
+runs_open g x e = (has_filter (is_open g) (given g) x (true_has (running g) x e)).1
 
 -- what was given and doesn't run is closed
 pub stopped_closed : (g : List Event) (x : ℕ) → Has (given g) x → has (running g) x ≡ false → is_open g x ≡ false
-stopped_closed g x k e = false_from_ne_true (is_open g x) (λ o. let z : has (running g) x ≡ true = any_has (λ y. x == y) (running g) x (filter_has (is_open g) (given g) x k o) (eq-eqb x x refl) in cc)
+stopped_closed g x k e = false_from_ne_true (is_open g x) (λ o. let z : has (running g) x ≡ true = has_true (running g) x (filter_has (is_open g) (given g) x k o) in cc)
 
 -- an id is closed where its top is, and not only there: it may be undone
 closed_by_top : (g : List Event) (x : ℕ) → Family g x → is_open g (top g x) ≡ false → is_open g x ≡ false

@@ -1,38 +1,33 @@
 -- A session has less than half a ring of ids open, so that its records stay small.
-use Rattle.std.proofs.Common.{◌≡◌, ℕ, ◌+◌, ◌-◌, ◌^◌, ◌<◌, ◌≤◌, List, [], ◌∷◌, ◌++◌, length, refl, sym, ap, subst, ◌∙◌, arith, Bool, true, false, ◌&&◌, ◌==◌, ◌||◌, cond, nat_lt, min, map}
+use Rattle.std.proofs.Common.{◌≡◌, ℕ, ◌+◌, ◌-◌, ◌^◌, ◌<◌, ◌≤◌, List, [], ◌∷◌, ◌++◌, length, refl, sym, ap, subst, ◌∙◌, arith, Bool, true, false, cond, nat_lt, min, map}
 use Rattle.std.specs.List.{filter, AllByRecursion}
 use Rattle.xid_order.specs.Ids.{next_id, low_half, IsFullId}
 use Rattle.tx_model.specs.declared.event.Event.{Event}
 use Rattle.tx_model.specs.declared.record.Counters.{Counters}
 use Rattle.tx_model.specs.Base.{IsBase}
-use Rattle.tx_model.specs.Events.{given}
+use Rattle.tx_model.specs.Events.{given, given_to}
 use Rattle.tx_model.specs.Families.{top}
 use Rattle.tx_model.specs.History.{IsLegal, MayCome, next_given, nth_id}
 use Rattle.tx_model.specs.Horizon.{LiveSnap, oldest_id, oldest_xmin, live_snaps}
-use Rattle.tx_model.specs.IdLists.{Ascending, has}
+use Rattle.tx_model.specs.IdLists.{Ascending}
 use Rattle.tx_model.specs.Limits.{stop_limit, up_to_normal, down_to_normal}
 use Rattle.tx_model.specs.Running.{running, running_tops, open_ids, is_open}
 use Rattle.tx_model.specs.Snapshots.{latest, snapshot_xmin, snapshot_xmax}
 use Rattle.tx_model.proofs.ClosingGrowth.{IsClosing, closing_running, closing_undo, closing_commit, closing_abort}
-use Rattle.tx_model.proofs.GivenIds.{legal_front, legal_last}
+use Rattle.tx_model.proofs.GivenIds.{legal_front, legal_last, open_given}
 use Rattle.tx_model.proofs.IdOrder.{next_above, next_least, next_upto, next_full, nth_full}
 use Rattle.tx_model.proofs.HorizonSteps.{oldest_push}
-use Rattle.tx_model.proofs.IdListSteps.{has-filter, contains_true, all_has, true_has}
+use Rattle.tx_model.proofs.IdListSteps.{contains_true, true_has, has_true}
 use Rattle.tx_model.proofs.Extremes.{fold_min_start, fold_min_has}
-use Rattle.tx_model.proofs.Soundness.{legal_sound, open_member, has_given_to, root_runs}
-use Rattle.tx_model.proofs.ListSteps.{all_filter, all_push, eqb-refl, filter_yes}
-use Rattle.std.proofs.Math.Bool.{or-true}
-use Rattle.tx_model.proofs.Membership.{by_end}
+use Rattle.tx_model.proofs.Soundness.{legal_sound, open_member, root_runs}
+use Rattle.tx_model.proofs.ListSteps.{all_filter, all_push, filter_yes}
+use Rattle.tx_model.proofs.Membership.{by_end, all_from, all_at, Has, filter_has, has_filter}
 use Rattle.tx_model.proofs.NameBounds.{AreBelow, running_below}
 use Rattle.tx_model.proofs.QuietGrowth.{IsQuiet, quiet_given, quiet_running}
 use Rattle.tx_model.proofs.GivingGrowth.{giving_running, giving_id, giving_sub}
 use Rattle.tx_model.proofs.GivenGrowth.{next_after}
 use Rattle.proc_table.proofs.Bounds.{latest_bounds, next_id_to, stop_to}
 use Rattle.tx_model.specs.declared.event.Event.TheVariants as events
-
-all_of : (P : ℕ → Type 0) (xs : List ℕ) → ((x : ℕ) → has xs x ≡ true → P x) → AllByRecursion P xs
-all_of P [] f = tt
-all_of P (x ∷ xs) f = (f x (ap (λ b. b || has xs x) (eqb-refl x)), all_of P xs (λ y h. f y (ap (λ b. (y == x) || b) h ∙ or-true (y == x))))
 
 up_upto : (n : ℕ) → up_to_normal n ≤ n + 3
 up_upto n = elim (nat_lt (low_half n) 3) as (λ b. cond b (n + (3 - low_half n)) n ≤ n + 3) [ true ↦ omega arith | false ↦ omega arith ]
@@ -96,8 +91,8 @@ within_oldest base h e oldest b legal q o from to w =
     let xmin : oldest_xmin base.next h ≤ snapshot_xmin base.next h = fold_min_start (snapshot_xmin base.next h) (map (λ (s : LiveSnap). s.xmin) (live_snaps base.next h)) in
     let xmax : snapshot_xmin base.next h ≤ snapshot_xmax base.next h = fold_min_start (snapshot_xmax base.next h) (running_tops h) in
     let late = next_least (latest base.next h) (next_given base.next h) (nth_full base.next (length (given h)) b.full) (latest_bounds base h b legal).1 in
-    let each : AllByRecursion (λ x. oldest ≤ x) (running h) = all_of (λ x. oldest ≤ x) (running h) (λ x k.
-    let root = root_runs base.next h x sound k in
+    let each : AllByRecursion (λ x. oldest ≤ x) (running h) = all_from (λ x. oldest ≤ x) (running h) (λ x k.
+    let root = root_runs base.next h x sound (has_true (running h) x k) in
     let under : snapshot_xmin base.next h ≤ top h x = fold_min_has (snapshot_xmax base.next h) (running_tops h) (top h x) (true_has (running_tops h) (top h x) root.0) in
     omega (arith, root.1)) in
     record {
@@ -141,10 +136,10 @@ pub open_few : (base : Counters) (h : List Event) (session : ℕ) → IsBase bas
 open_few base h session b legal a =
     let w = within base h b legal in
     let sound = legal_sound base h legal in
-    let runs : (x : ℕ) → has (open_ids session h) x ≡ true → has (running h) x ≡ true =
-    λ x k. let m = open_member session h x k in has-filter (is_open h) (given h) x ∙ ap (λ c. c && is_open h x) (has_given_to session h x m.0) ∙ m.1 in
-    let from = all_of (λ x. oldest_id base.oldest h ≤ x) (open_ids session h) (λ x k. all_has (λ y. oldest_id base.oldest h ≤ y) (running h) x w.from (runs x k)) in
-    let to = all_of (λ x. x < next_given base.next h) (open_ids session h) (λ x k. all_has (λ y. y < next_given base.next h) (running h) x (running_below (next_given base.next h) h sound.below) (runs x k)) in
+    let runs : (x : ℕ) → Has (open_ids session h) x → Has (running h) x =
+    λ x k. filter_has (is_open h) (given h) x (open_given session h x k) (has_filter (is_open h) (given_to session h) x k).1 in
+    let from = all_from (λ x. oldest_id base.oldest h ≤ x) (open_ids session h) (λ x k. all_at (λ y. oldest_id base.oldest h ≤ y) (running h) x w.from (runs x k)) in
+    let to = all_from (λ x. x < next_given base.next h) (open_ids session h) (λ x k. all_at (λ y. y < next_given base.next h) (running h) x (running_below (next_given base.next h) h sound.below) (runs x k)) in
     let few = ascending_few (open_ids session h) (oldest_id base.oldest h) (next_given base.next h) w.to_next a from to in
     omega (arith, w.near)
 

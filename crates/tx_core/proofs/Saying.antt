@@ -10,7 +10,7 @@ use Rattle.tx_model.proofs.Closing.{is_open_by, open_is}
 use Rattle.tx_model.proofs.Extremes.{fold_min_has}
 use Rattle.tx_model.proofs.Membership.{Has, filter_has, has_filter}
 use Rattle.tx_model.proofs.Lineages.{top_in, top_line}
-use Rattle.tx_model.proofs.SnapshotBounds.{running_is, top_runs}
+use Rattle.tx_model.proofs.SnapshotBounds.{top_runs}
 use Rattle.tx_model.proofs.Trees.{family}
 use Rattle.tx_model.proofs.Visibility.{among_has, has_among}
 use Rattle.tx_model.specs.Events.{given, is_end_of}
@@ -48,8 +48,8 @@ says_exact base h x legal whole k below topmost =
     (λ (c : is_open h x ≡ false).
     let shut : is_open h x ≡ true → ⊥ = λ o. let z : true ≡ false = sym o ∙ c in cc in
     or_from (is_among x (snapshot_xips first h)) (is_among x (snapshot_subs first h))
-    (false_from_ne_true (is_among x (snapshot_xips first h)) (λ e. shut (running_is h x (has_filter (is_top h) (running h) x (has_filter (λ y. nat_lt y (snapshot_xmax first h)) (running_tops h) x (among_has x (snapshot_xips first h) e)).0).0).1))
-    (false_from_ne_true (is_among x (snapshot_subs first h)) (λ e. shut (running_is h x (has_filter (λ y. not (is_top h y) && list_any (λ t. t == top h y) (snapshot_xips first h)) (running h) x (subst (λ l. Has l x) subs_are (among_has x (snapshot_subs first h) e))).0).1))
+    (false_from_ne_true (is_among x (snapshot_xips first h)) (λ e. shut (has_filter (is_open h) (given h) x (has_filter (is_top h) (running h) x (has_filter (λ y. nat_lt y (snapshot_xmax first h)) (running_tops h) x (among_has x (snapshot_xips first h) e)).0).0).1))
+    (false_from_ne_true (is_among x (snapshot_subs first h)) (λ e. shut (has_filter (is_open h) (given h) x (has_filter (λ y. not (is_top h y) && list_any (λ t. t == top h y) (snapshot_xips first h)) (running h) x (subst (λ l. Has l x) subs_are (among_has x (snapshot_subs first h) e))).0).1))
     ∙ sym c)
     (cases_Bool (is_open h x))))
     (λ (under : x < snapshot_xmin first h).
@@ -80,7 +80,7 @@ says_over base h x topmost legal over k below undone ends =
     ∙ ap not (ap (λ z. is_among z xips) is ∙ ⊎_elim
     (λ (o : is_open h x ≡ true). has_among (top h x) xips (filter_has (λ y. nat_lt y (snapshot_xmax first h)) (running_tops h) (top h x) (top_runs h x f o) (lt-ltb (top h x) (snapshot_xmax first h) (omega arith))) ∙ sym o)
     (λ (c : is_open h x ≡ false). false_from_ne_true (is_among (top h x) xips) (λ e.
-    let o : is_open h (top h x) ≡ true = (running_is h (top h x) (has_filter (is_top h) (running h) (top h x) (has_filter (λ y. nat_lt y (snapshot_xmax first h)) (running_tops h) (top h x) (among_has (top h x) xips e)).0).0).1 in
+    let o : is_open h (top h x) ≡ true = (has_filter (is_open h) (given h) (top h x) (has_filter (is_top h) (running h) (top h x) (has_filter (λ y. nat_lt y (snapshot_xmax first h)) (running_tops h) (top h x) (among_has (top h x) xips e)).0).0).1 in
     let root : top h (top h x) ≡ top h x = ap (λ (l : List ℕ). top_line l (top h x)) f.root in
     let ended : is_ended h x ≡ false = sym (ap (λ z. list_any (is_end_of z) h) root) ∙ (open_is h (top h x) o).0 in
     let z : true ≡ false = sym (is_open_by h x ended undone) ∙ c in cc) ∙ sym c)

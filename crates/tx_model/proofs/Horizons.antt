@@ -1,5 +1,5 @@
 -- The oldest xmin never falls.
-use Rattle.std.proofs.Common.{List, Some, [], ap, append-nil, append_assoc, arith, drop, false, inl, inr, length, map, min, not, refl, reverse, subst, sym, take, true, ℕ, ⊎_elim, ◌++◌, ◌+◌, ◌-◌, ◌<◌, ◌==◌, ◌∙◌, ◌∷◌, ◌≡◌, ◌≤◌, ◌⊎◌}
+use Rattle.std.proofs.Common.{List, Some, [], ap, append-nil, append_assoc, arith, drop, false, inl, inr, length, map, min, not, reverse, subst, sym, take, true, ℕ, ⊎_elim, ◌++◌, ◌+◌, ◌-◌, ◌<◌, ◌==◌, ◌∙◌, ◌∷◌, ◌≡◌, ◌≤◌, ◌⊎◌}
 use Rattle.std.proofs.lemmas.List.{reverse-reverse, take-append-drop}
 use Rattle.std.specs.List.{fold}
 use Rattle.std.proofs.lemmas.Bool.{cases_Bool}
@@ -11,7 +11,7 @@ use Rattle.tx_model.proofs.GivenIds.{given_below, legal_front, legal_last, may_g
 use Rattle.tx_model.proofs.IdOrder.{before_below, next_least, nth_from, next_monotone, nth_full}
 use Rattle.tx_model.proofs.Extremes.{fold_max_has, fold_max_one, fold_max_start, fold_min_above, fold_min_has, fold_min_start, fold_max_upto}
 use Rattle.tx_model.proofs.Lineages.{reverse_push, top_line}
-use Rattle.tx_model.proofs.Membership.{Has, by_end, filter_has, has_cases, has_filter}
+use Rattle.tx_model.proofs.Membership.{Has, by_end, filter_has, has_cases, has_filter, map_has, has_map}
 use Rattle.tx_model.proofs.Trees.{IsNewSub, IsNewTop, IsOld, given_cases}
 use Rattle.tx_model.specs.Events.{given, given_by}
 use Rattle.tx_model.specs.Families.{is_top}
@@ -21,15 +21,6 @@ use Rattle.tx_model.specs.Running.{closed, is_open, running, running_tops}
 use Rattle.tx_model.specs.Snapshots.{latest, snapshot_xmax, snapshot_xmin}
 use Rattle.tx_model.proofs.ListSteps.{not_both}
 use Rattle.tx_model.specs.declared.event.Event.TheVariants as events
-
-module _ {A B : Type 0} where
-  map_has : (f : A → B) (xs : List A) (x : A) → Has xs x → Has (map f xs) (f x)
-  map_has f [] x k = absurd k
-  map_has f (y ∷ ys) x k = ⊎_elim (λ (e : y ≡ x). inl (ap f e)) (λ t. inr (map_has f ys x t)) k
-
-  has_map : (f : A → B) (xs : List A) (y : B) → Has (map f xs) y → (x : A) × Has xs x × (f x ≡ y)
-  has_map f [] y k = absurd k
-  has_map f (x ∷ xs) y k = ⊎_elim (λ (e : f x ≡ y). (x, inl refl, e)) (λ t. let r = has_map f xs y t in (r.0, inr r.1, r.2)) k
 
 live_step : (first : ℕ) (older : List Event) (e : Event) (s : LiveSnap) → Has (live_up first (e ∷ older)) s → Has (live_up first older) s ⊎ (s.xmin ≡ snapshot_xmin first (reverse older))
 live_step first older (events.Snap by taken) s k =

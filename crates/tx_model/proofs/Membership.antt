@@ -1,5 +1,5 @@
 -- Membership by recursion, and filters that agree on the members.
-use Rattle.std.proofs.Common.{Bool, Contains, List, None, Option, Some, [], ap, append-nil, arith, cond, false, get_or, inl, inr, length, refl, reverse, subst, suc, sym, take, true, zero, ℕ, ⊎_elim, ◌++◌, ◌<◌, ◌||◌, ◌∙◌, ◌∷◌, ◌≡◌, ◌⊎◌}
+use Rattle.std.proofs.Common.{Bool, Contains, List, None, Option, Some, [], ap, append-nil, arith, cond, false, get_or, inl, inr, length, refl, reverse, subst, suc, sym, take, true, zero, ℕ, ⊎_elim, ◌++◌, ◌<◌, ◌||◌, ◌∙◌, ◌∷◌, ◌≡◌, ◌⊎◌, map}
 use Rattle.std.proofs.Math.Bool.{or-true}
 use Rattle.std.proofs.lemmas.List.{append_cancel_left, reverse-append, reverse-reverse}
 use Rattle.std.proofs.lemmas.List.Elements.{filter-append}
@@ -91,6 +91,14 @@ module _ {A : Type 0} where
   by_end P none more xs = subst P (reverse-reverse xs) (by_reverse P none more (reverse xs))
 
 module _ {A B : Type 0} where
+  pub map_has : (f : A → B) (xs : List A) (x : A) → Has xs x → Has (map f xs) (f x)
+  map_has f [] x k = absurd k
+  map_has f (y ∷ ys) x k = ⊎_elim (λ (e : y ≡ x). inl (ap f e)) (λ t. inr (map_has f ys x t)) k
+
+  pub has_map : (f : A → B) (xs : List A) (y : B) → Has (map f xs) y → (x : A) × Has xs x × (f x ≡ y)
+  has_map f [] y k = absurd k
+  has_map f (x ∷ xs) y k = ⊎_elim (λ (e : f x ≡ y). (x, inl refl, e)) (λ t. let r = has_map f xs y t in (r.0, inr r.1, r.2)) k
+
   pub has_filter_map : (f : A → Option B) (xs : List A) (y : B) → Has (filter_map f xs) y → (x : A) × Has xs x × (f x ≡ Some y)
   has_filter_map f [] y k = absurd k
   has_filter_map f (x ∷ xs) y k =

@@ -46,9 +46,6 @@ pub top_runs : (h : List Event) (x : ℕ) → Family h x → is_open h x ≡ tru
 top_runs h x f o =
     filter_has (is_top h) (running h) (top h x) (filter_has (is_open h) (given h) (top h x) (f.within (top h x) (top_in h x)) (open_top h x f o)) (top_is_top h x f)
 
-pub running_is : (h : List Event) (x : ℕ) → Has (running h) x → Has (given h) x × (is_open h x ≡ true)
-running_is h x k = has_filter (is_open h) (given h) x k
-
 -- an id at or past the xmax isn't closed
 pub past_open : (base : Counters) (h : List Event) (x : ℕ) → Has (given h) x → snapshot_xmax base.next h ≤ x → is_open h x ≡ true
 past_open base h x k past =

@@ -1,9 +1,10 @@
 -- How often a pin is among pins.
-use Rattle.std.proofs.Common.{◌≡◌, ℕ, suc, ◌+◌, ◌≤◌, List, [], ◌∷◌, ◌++◌, length, refl, sym, ap, ◌∙◌, inl, inr, ⊎_elim, arith, Bool, true, false, ◌&&◌, ◌==◌, cond, map}
+use Rattle.std.proofs.Common.{◌≡◌, ℕ, suc, ◌+◌, ◌≤◌, List, [], ◌∷◌, ◌++◌, length, refl, sym, ap, ◌∙◌, inl, inr, ⊎_elim, arith, Bool, true, false, ◌&&◌, ◌==◌, cond, eqb-true}
 use Rattle.std.specs.List.{count_by}
 use Rattle.std.proofs.lemmas.List.Sums.{sum_by-cons, sum_by-append}
 use Rattle.tx_model.specs.Multis.{Pin, same_pin, without_pin}
-use Rattle.tx_model.proofs.ListSteps.{eqb-refl, equal_from, and_both}
+use Rattle.tx_model.proofs.ListSteps.{eqb-refl}
+use Rattle.std.proofs.lemmas.Bool.{and_parts}
 use Rattle.tx_model.proofs.Membership.{Has}
 
 abbrev pub one_if : Bool → ℕ
@@ -17,9 +18,9 @@ same_refl p = ap (λ b. b && (p.1 == p.1)) (eqb-refl p.0) ∙ eqb-refl p.1
 
 pub same_equal : (p q : Pin) → same_pin p q ≡ true → p ≡ q
 same_equal p q e =
-    let both = and_both (p.0 == q.0) (p.1 == q.1) e in
-    let a : p.0 ≡ q.0 = equal_from p.0 q.0 both.0 in
-    let b : p.1 ≡ q.1 = equal_from p.1 q.1 both.1 in
+    let both = and_parts (p.0 == q.0) (p.1 == q.1) e in
+    let a : p.0 ≡ q.0 = eqb-true p.0 q.0 both.0 in
+    let b : p.1 ≡ q.1 = eqb-true p.1 q.1 both.1 in
     ap (λ (x : ℕ). let r : Pin = (x, p.1) in r) a ∙ ap (λ (y : ℕ). let r : Pin = (q.0, y) in r) b
 
 count_cons : (p x : Pin) (ps : List Pin) → count p (x ∷ ps) ≡ one_if (same_pin p x) + count p ps
@@ -82,12 +83,3 @@ length_without p (x ∷ ps) k =
 pub none_counts : (ps : List Pin) → ((p : Pin) → count p ps ≡ 0) → ps ≡ []
 none_counts [] f = refl
 none_counts (x ∷ ps) f = absurd (let h : 1 ≤ count x (x ∷ ps) = has_count x (x ∷ ps) (inl refl) in let z : count x (x ∷ ps) ≡ 0 = f x in omega arith)
-
--- the multixacts of pins
-pub map_has : (ps : List Pin) (p : Pin) → Has ps p → Has (map (λ (q : Pin). q.1) ps) p.1
-map_has [] p k = absurd k
-map_has (x ∷ ps) p k = ⊎_elim (λ (e : x ≡ p). inl (ap (λ (q : Pin). q.1) e)) (λ t. inr (map_has ps p t)) k
-
-pub has_map : (ps : List Pin) (m : ℕ) → Has (map (λ (q : Pin). q.1) ps) m → (p : Pin) × Has ps p × (p.1 ≡ m)
-has_map [] m k = absurd k
-has_map (x ∷ ps) m k = ⊎_elim (λ (e : x.1 ≡ m). (x, inl refl, e)) (λ t. let r = has_map ps m t in (r.0, inr r.1, r.2)) k

@@ -11,10 +11,9 @@ use Rattle.tx_model.specs.Base.{IsBase}
 use Rattle.tx_model.specs.Limits.{multi_stop_limit, member_stop}
 use Rattle.tx_model.specs.Multis.{made, made_at, next_made, nth_multi, free_offset, first_member, oldest_multi, oldest_offset, IsNextMade}
 use Rattle.tx_model.proofs.ListSteps.{length_push, below_not, above_not}
-use Rattle.tx_model.proofs.PlaceLemmas.{slice_get-grows}
+use Rattle.tx_model.proofs.PlaceLemmas.{slice_get-grows, last_at}
 use Rattle.std.proofs.lemmas.Option.{slice_get-get_or}
 use Rattle.multi_store.specs.State.{made_offsets}
-use Rattle.multi_store.proofs.PlaceInduction.{last_get}
 use Rattle.multi_store.proofs.Numbers.{next_above, next_to_stop, first_from, le_cases}
 use Rattle.multi_store.proofs.MadeSteps.{made_gen, offsets_gen, next_gen, free_push, oldest_push, oldest_offset_push, at_old, at_new, at_other, at_cases}
 use Rattle.multi_store.proofs.Soundness.{IsSound, with_counters, base_same}
@@ -72,7 +71,7 @@ sound_gen base h by multi offset members s m =
           at_old h by multi offset members (nth_multi base.multi k) x (s.each k l3 ∙ g) ∙ sym (ap (λ os. slice_get os k) offsets ∙ slice_get-grows (made_offsets h) (offset ∷ []) x k g))
           (λ (q : k ≡ length (made h)).
           let here : nth_multi base.multi k ≡ multi = ap (nth_multi base.multi) q ∙ sym is in
-          ap (λ z. made_at z (h ++ e ∷ [])) here ∙ at_new h by multi offset members none ∙ sym (ap (λ os. slice_get os k) offsets ∙ ap (slice_get (made_offsets h ++ offset ∷ [])) (q ∙ sym long) ∙ last_get (made_offsets h) offset))
+          ap (λ z. made_at z (h ++ e ∷ [])) here ∙ at_new h by multi offset members none ∙ sym (ap (λ os. slice_get os k) offsets ∙ ap (slice_get (made_offsets h ++ offset ∷ [])) (q ∙ sym long) ∙ last_at (made_offsets h) offset))
           (le_cases k (length (made h)) (omega arith));
       as_many = ap length offsets ∙ length_push (made_offsets h) offset ∙ ap (λ z. suc z) long ∙ sym more;
       within = λ k x g.

@@ -1,4 +1,6 @@
 -- Every legal history of multixacts is sound.
+use Rattle.tx_model.proofs.ListSteps.{le_or_over}
+use Rattle.tx_model.proofs.PlaceLemmas.{by_place, each_place_start, each_place_last}
 use Rattle.std.proofs.Common.{◌≡◌, ℕ, ◌+◌, ◌<◌, ◌≤◌, List, [], ◌∷◌, ◌++◌, length, sym, ◌∙◌, ⊎_elim, subst, arith}
 use Rattle.std.specs.List.{slice_get}
 use Rattle.std.proofs.lemmas.Option.{slice_get_past}
@@ -10,8 +12,7 @@ use Rattle.tx_model.specs.Base.{IsBase}
 use Rattle.tx_model.specs.Multis.{made, made_at, next_made, nth_multi, free_offset, first_member, oldest_multi, oldest_offset, multi_counters, InBase, AreLegalMultis, MultiMayCome}
 use Rattle.multi_store.specs.Generator.{CountersRise}
 use Rattle.multi_store.specs.State.{made_offsets}
-use Rattle.multi_store.proofs.Numbers.{next_above, first_from, le_or_over, nth_order}
-use Rattle.multi_store.proofs.PlaceInduction.{by_place, each_place_front, each_place_last}
+use Rattle.multi_store.proofs.Numbers.{next_above, first_from, nth_order}
 use Rattle.multi_store.proofs.MadeSteps.{IsQuiet, next_quiet, next_gen, free_push, oldest_push, oldest_offset_push}
 use Rattle.multi_store.proofs.Soundness.{IsSound, base_same, sound_nothing, sound_quiet}
 use Rattle.multi_store.proofs.GenSound.{sound_gen}
@@ -78,7 +79,7 @@ rises_push base h (events.Raise by multi offset) s m =
 
 pub legal_rises : (base : Counters) (h : List MultiEvent) (e : MultiEvent) → IsBase base → AreLegalMultis base (InBase base) (h ++ e ∷ []) → CountersRise (multi_counters base h) (multi_counters base (h ++ e ∷ []))
 legal_rises base h e b l =
-    rises_push base h e (legal_sound base h b (each_place_front (MultiMayCome base (InBase base)) h e l)) (each_place_last (MultiMayCome base (InBase base)) h e l)
+    rises_push base h e (legal_sound base h b (each_place_start (MultiMayCome base (InBase base)) h (e ∷ []) l)) (each_place_last (MultiMayCome base (InBase base)) h e l)
 
 -- the offset at each place, where there is one
 pub made_at_place : (base : Counters) (h : List MultiEvent) (n : ℕ) → IsSound base h → made_at (nth_multi base.multi n) h ≡ slice_get (made_offsets h) n

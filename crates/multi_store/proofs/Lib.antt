@@ -1,7 +1,6 @@
 pub mod Numbers
 pub mod Counts
 pub mod Tallies
-pub mod PlaceInduction
 pub mod MadeSteps
 pub mod Soundness
 pub mod GenSound

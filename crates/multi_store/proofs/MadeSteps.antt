@@ -1,15 +1,15 @@
 -- What one more event changes of what a history of multixacts gave.
-use Rattle.std.proofs.Common.{◌≡◌, ℕ, ◌⊎◌, List, [], ◌∷◌, ◌++◌, length, Option, Some, None, refl, sym, ap, ◌∙◌, inl, inr, Bool, true, false, ◌==◌, cond, append-nil}
+use Rattle.std.proofs.Common.{◌≡◌, ℕ, ◌⊎◌, List, [], ◌∷◌, ◌++◌, length, Option, Some, None, refl, sym, ap, ◌∙◌, inl, inr, Bool, true, false, ◌==◌, cond, append-nil, eqb-true}
 use Rattle.std.proofs.lemmas.List.Elements.{filter_map-append}
 use Rattle.std.proofs.lemmas.List.Sums.{fold_push}
 use Rattle.xid_order.specs.Ids.{next_multi}
 use Rattle.tx_model.specs.declared.event.By.{By}
 use Rattle.tx_model.specs.declared.multi.Member.{Member}
 use Rattle.tx_model.specs.declared.multi.MultiEvent.{MultiEvent}
-use Rattle.tx_model.specs.declared.multi.MultiEvent.TheVariants as events
 use Rattle.tx_model.specs.Multis.{made, made_by, made_at, next_made, nth_multi, free_offset, free_after, oldest_multi, oldest_multi_after, oldest_offset, oldest_offset_after, pins, pins_after}
-use Rattle.tx_model.proofs.ListSteps.{length_push, eqb-refl, equal_from}
+use Rattle.tx_model.proofs.ListSteps.{length_push, eqb-refl}
 use Rattle.multi_store.specs.State.{offset_by, made_offsets}
+use Rattle.tx_model.specs.declared.multi.MultiEvent.TheVariants as events
 
 -- the event gives no multixact
 abbrev pub IsQuiet : MultiEvent → Type 0
@@ -99,7 +99,7 @@ module _ (h : List MultiEvent) (by : By) (multi offset : ℕ) (members : List Me
   pub at_cases : (m x : ℕ) → made_at m one_more ≡ Some x → (made_at m h ≡ Some x) ⊎ ((multi ≡ m) × (offset ≡ x))
   at_cases m x e =
       let new : (b : Bool) → (multi == m) ≡ b → cond b (Some offset) None ≡ Some x → (multi ≡ m) × (offset ≡ x) = elim [
-        | true ↦ λ f g. (equal_from multi m f, cc)
+        | true ↦ λ f g. (eqb-true multi m f, cc)
         | false ↦ λ f g. absurd cc
       ] in
       let step : (o : Option ℕ) → made_at m h ≡ o → first_of o (cond (multi == m) (Some offset) None) ≡ Some x → (made_at m h ≡ Some x) ⊎ ((multi ≡ m) × (offset ≡ x)) = elim [

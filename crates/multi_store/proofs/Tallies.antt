@@ -1,4 +1,5 @@
 -- The counts of pins in a map.
+use Rattle.tx_model.proofs.ListSteps.{le_or_over}
 use Rattle.std.proofs.Common.{◌≡◌, ℕ, zero, suc, ◌+◌, ◌-◌, ◌<◌, ◌≤◌, List, [], ◌∷◌, ◌++◌, length, Contains, Option, Some, None, IsSome, is_some, refl, sym, ap, ◌∙◌, ⊎_elim, subst, arith, Bool, true, false, ◌&&◌, ◌==◌, cond, map, min, unwrap_or, Less, Equal, Greater}
 use Rattle.std.specs.Prelude.{nat_lt}
 use Rattle.std.specs.BTreeMap.{BTreeMap, btree_map_len, get, is_at}
@@ -9,12 +10,11 @@ use Rattle.std.specs.Ordering.{nat_cmp, ordering_then, is_eq, is_gt}
 use Rattle.std.specs.declared.cmp.Ordering.{Ordering}
 use Rattle.std.proofs.lemmas.Bool.Decides.{nat_tests}
 use Rattle.tx_model.specs.Multis.{Pin, same_pin, without_pin}
-use Rattle.tx_model.proofs.IdOrder.{fold_min_start, fold_min_has, fold_min_above}
-use Rattle.tx_model.proofs.Membership.{Has, contains_has, has_contains}
+use Rattle.tx_model.proofs.Extremes.{fold_min_start, fold_min_has, fold_min_above}
+use Rattle.tx_model.proofs.Membership.{Has, contains_has, has_contains, map_has, has_map}
 use Rattle.multi_store.specs.declared.pins.PinKey.{PinKey}
 use Rattle.multi_store.specs.Pins.{IsTally, pin_of, pin_cmp, some_of}
-use Rattle.multi_store.proofs.Counts.{count, one_if, same_refl, same_equal, count_push, has_count, count_has, count_without, none_counts, map_has, has_map}
-use Rattle.multi_store.proofs.Numbers.{le_or_over}
+use Rattle.multi_store.proofs.Counts.{count, one_if, same_refl, same_equal, count_push, has_count, count_has, count_without, none_counts}
 
 -- keys compare as pins
 cmp_eq : (a b : ℕ) → is_eq (nat_cmp a b) ≡ (a == b)
@@ -145,13 +145,13 @@ tally_least pins counts k n next t at least =
     let ms : List ℕ = map (λ (p : Pin). p.1) pins in
     let p : Pin = pin_of k in
     let c = some_within (count p pins) n (sym (t k) ∙ at) in
-    let h : Has ms k.multi = map_has pins p (count_has p pins c.1) in
+    let h : Has ms k.multi = map_has (λ (q : Pin). q.1) pins p (count_has p pins c.1) in
     let a : fold min next ms ≤ next = fold_min_start next ms in
     let b : fold min next ms ≤ k.multi = fold_min_has next ms k.multi h in
     let l : min next k.multi ≤ fold min next ms =
     fold_min_above next (min next k.multi) ms (omega arith)
     (λ m i.
-    let r = has_map pins m i in
+    let r = has_map (λ (q : Pin). q.1) pins m i in
     let q : PinKey = record { multi = r.0.1; session = r.0.0 } in
     let here : 1 ≤ count r.0 pins = has_count r.0 pins r.1 in
     let some : IsSome (get pin_cmp counts q) = subst IsSome (sym (t q ∙ some_positive (count r.0 pins) here)) refl in

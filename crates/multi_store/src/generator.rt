@@ -7,12 +7,13 @@ ghost use Rattle.multi_store.specs.Generator.{Generator, Adds, Gives, Means, Hol
 use crate::answers::{Held, MultiGiven};
 use crate::pins::{PinCounts, PinKey, add_pin, drop_pin, has_pin, least_pinned};
 use crate::places::{first_member, place_of};
-use crate::room::{make_one_room, make_room};
 use horizon_limits::{MultiLimits, member_stop};
 use std::alloc::Global;
 use std::collections::BTreeMap;
 use std::marker::Model;
-use tx_model::{By, Copied, Counters, MemberList, Memory, MultiEvent, Refusal};
+use tx_model::{
+    By, Copied, Counters, MemberList, Memory, MultiEvent, Refusal, make_one_room, make_room,
+};
 use xid_order::{FullMulti, MultiId, near_multi};
 
 /// The generator of multixacts, and their history so far. A contract sees the base of the life and the events.

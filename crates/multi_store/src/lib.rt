@@ -8,7 +8,6 @@ mod laws;
 mod members;
 mod pins;
 mod places;
-mod room;
 #[cfg(test)]
 mod tests;
 

@@ -10,7 +10,8 @@ use Rattle.tx_model.specs.History.{IsLegal}
 use Rattle.tx_model.proofs.Closing.{line_step}
 use Rattle.tx_model.proofs.GivenIds.{legal_front, legal_last}
 use Rattle.tx_model.proofs.Membership.{Has, by_end, contains_has, has_contains}
-use Rattle.tx_model.proofs.Trees.{IsNewSub, IsNewTop, IsOld, family, given_cases, line_head, top_line}
+use Rattle.tx_model.proofs.Trees.{IsNewSub, IsNewTop, IsOld, family, given_cases}
+use Rattle.tx_model.proofs.Lineages.{line_head, top_line}
 use Rattle.plain_states.specs.declared.id_states.IdState.{IdState}
 use Rattle.plain_states.specs.States.{AreStates, parent_of, state_in}
 

@@ -1,28 +1,29 @@
 -- What one more event does to what is kept of an id.
+use Rattle.tx_model.proofs.IdListSteps.{true_has, has_true}
+use Rattle.tx_model.proofs.ListSteps.{same_tests}
+use Rattle.tx_model.proofs.OpenGrowth.{undone_kept}
 use Rattle.std.proofs.Common.{◌≡◌, ℕ, List, [], ◌∷◌, ◌++◌, refl, ap, sym, subst, ◌∙◌, ⊎_elim, Bool, true, false, not, ◌&&◌, ◌||◌, ◌==◌, eq-eqb, append-nil, append_assoc, take, drop}
 use Rattle.std.proofs.Math.Bool.{or-false}
-use Rattle.std.proofs.lemmas.Bool.{eqb-true}
+use Rattle.std.proofs.lemmas.Bool.{eqb-true, cases_Bool, false_from_ne_true, and_parts, not-true}
 use Rattle.std.proofs.lemmas.List.Folds.{list_any-append}
 use Rattle.std.proofs.lemmas.List.{take-append-drop}
 use Rattle.std.specs.List.{list_any}
 use Rattle.tx_model.specs.declared.event.By.{By}
 use Rattle.tx_model.specs.declared.event.Event.{Event}
-use Rattle.tx_model.specs.declared.event.Event.TheVariants as events
 use Rattle.tx_model.specs.declared.record.Counters.{Counters}
 use Rattle.tx_model.specs.Events.{given, given_to, is_commit_of, is_end_of, is_undo_of}
-use Rattle.tx_model.specs.Families.{enclosing, lineage, top}
+use Rattle.tx_model.specs.Families.{lineage, top}
 use Rattle.tx_model.specs.History.{IsLegal, MayCome}
 use Rattle.tx_model.specs.IdLists.{has}
 use Rattle.tx_model.specs.Running.{is_ended, is_open, is_undone, open_ids}
-use Rattle.tx_model.proofs.Closing.{commit_ends, is_open_by, later, one_top, open_is, truth}
+use Rattle.tx_model.proofs.Closing.{commit_ends, is_open_by, later, one_top, open_is, closed_not_undone}
 use Rattle.tx_model.proofs.GivenIds.{family_session, fresh, given_to_some, legal_front, legal_last, one_session}
-use Rattle.tx_model.proofs.Lineages.{lineage_push}
-use Rattle.tx_model.proofs.Membership.{Has, any_has, by_end, contains_has, filter_has, has_any, has_filter, list_any_agree_on, place_has}
-use Rattle.tx_model.proofs.OpenIds.{enclosing_in, top_in, undone_push}
-use Rattle.tx_model.proofs.SnapshotBounds.{by_truth}
-use Rattle.tx_model.proofs.Trees.{family, top_line}
+use Rattle.tx_model.proofs.Lineages.{lineage_push, enclosing_in, top_in, top_line}
+use Rattle.tx_model.proofs.Membership.{Has, by_end, contains_has, filter_has, has_filter, place_has}
+use Rattle.tx_model.proofs.Trees.{family}
 use Rattle.tx_model.proofs.Visibility.{commit_found}
 use Rattle.plain_states.specs.States.{is_committed}
+use Rattle.tx_model.specs.declared.event.Event.TheVariants as events
 
 commits_push : (h : List Event) (e : Event) (x : ℕ) → lineage (h ++ e ∷ []) x ≡ lineage h x → list_any (is_commit_of (top (h ++ e ∷ []) x)) (h ++ e ∷ []) ≡ (list_any (is_commit_of (top h x)) h || is_commit_of (top h x) e)
 commits_push h e x same =
@@ -31,29 +32,11 @@ commits_push h e x same =
 
 -- an event that undoes nothing of x leaves it as undone as it was
 undone_still : (h : List Event) (e : Event) (x : ℕ) → lineage (h ++ e ∷ []) x ≡ lineage h x → ((y : ℕ) → Has (lineage h x) y → is_undo_of y e ≡ false) → is_undone (h ++ e ∷ []) x ≡ is_undone h x
-undone_still h e x same none =
-    undone_push h e x same
-    ∙ list_any_agree_on (λ y. list_any (is_undo_of y) h || is_undo_of y e) (λ y. list_any (is_undo_of y) h) (enclosing h x)
-    (λ y j. ap (λ b. list_any (is_undo_of y) h || b) (none y (enclosing_in h x y j)) ∙ or-false (list_any (is_undo_of y) h))
+undone_still h e x same none = undone_kept h e x same (λ y j. none y (enclosing_in h x y j))
 
 -- a commit that an id's top has had ended the id
 committed_ends : (h : List Event) (x : ℕ) → list_any (is_commit_of (top h x)) h ≡ true → is_ended h x ≡ true
 committed_ends h x e = let f = commit_found h (top h x) e in commit_ends h f.by (top h x) x (place_has h f.place (events.Commit f.by (top h x)) f.at) refl
-
--- no event undoes an id that has ended
-ended_not_undone : (base : Counters) (h : List Event) (e : Event) (y : ℕ) → MayCome base h e → is_ended h y ≡ true → is_undo_of y e ≡ false
-ended_not_undone base h (events.Undo by id) y may ended = by_truth (id == y) (λ q.
-    let o : is_open h id ≡ true = (has_filter (is_open h) (given_to by.session h) id (contains_has (open_ids by.session h) id may.0)).1 in
-    let r = open_is h y (subst (λ z. is_open h z ≡ true) (eqb-true id y q) o) in
-    let z : true ≡ false = sym ended ∙ r.0 in cc)
-ended_not_undone base h (events.Id by id) y may ended = refl
-ended_not_undone base h (events.Sub by parent id) y may ended = refl
-ended_not_undone base h (events.Commit by t) y may ended = refl
-ended_not_undone base h (events.Abort by t) y may ended = refl
-ended_not_undone base h (events.Snap by name) y may ended = refl
-ended_not_undone base h (events.SnapDrop by name) y may ended = refl
-ended_not_undone base h (events.Oldest by oldest) y may ended = refl
-ended_not_undone base h (events.Ask by id) y may ended = refl
 
 -- an event that is no commit commits nothing, and undoes nothing that has committed
 pub committed_still : (base : Counters) (h : List Event) (e : Event) (x : ℕ) → IsLegal base h → MayCome base h e → Has (given h) x → ((t : ℕ) → is_commit_of t e ≡ false) → is_committed (h ++ e ∷ []) x ≡ is_committed h x
@@ -64,11 +47,11 @@ committed_still base h e x legal may k none =
     ⊎_elim
     (λ (c : list_any (is_commit_of (top h x)) h ≡ true).
     let ended = committed_ends h x c in
-    let undone : is_undone (h ++ e ∷ []) x ≡ is_undone h x = undone_still h e x same (λ y j. ended_not_undone base h e y may (ap (λ t. list_any (is_end_of t) h) (f.tops y j) ∙ ended)) in
+    let undone : is_undone (h ++ e ∷ []) x ≡ is_undone h x = undone_still h e x same (λ y j. closed_not_undone base h e y may (ap (λ t. list_any (is_end_of t) h) (f.tops y j) ∙ ended)) in
     ap (λ b. b && not (is_undone (h ++ e ∷ []) x)) commits ∙ ap (λ b. list_any (is_commit_of (top h x)) h && not b) undone)
     (λ (c : list_any (is_commit_of (top h x)) h ≡ false).
     ap (λ b. b && not (is_undone (h ++ e ∷ []) x)) (commits ∙ c) ∙ sym (ap (λ b. b && not (is_undone h x)) c))
-    (truth (list_any (is_commit_of (top h x)) h))
+    (cases_Bool (list_any (is_commit_of (top h x)) h))
 
 -- whether x is one of the ids that the session has open, by its top and its savepoints
 open_of_top : (base : Counters) (h : List Event) (by : By) (t x : ℕ) → IsLegal base h → MayCome base h (events.Commit by t) → Has (given h) x → has (open_ids by.session h) x ≡ ((t == top h x) && not (is_undone h x))
@@ -76,31 +59,21 @@ open_of_top base h by t x legal may k =
     let mine : Has (open_ids by.session h) t = contains_has (open_ids by.session h) t may.0 in
     let opened = has_filter (is_open h) (given_to by.session h) t mine in
     let root : top h t ≡ t = eqb-true (top h t) t may.1 in
-    both (has (open_ids by.session h) x) ((t == top h x) && not (is_undone h x))
+    same_tests (has (open_ids by.session h) x) ((t == top h x) && not (is_undone h x))
     (λ e.
-    let r = has_any (λ y. x == y) (open_ids by.session h) e in
-    let here : Has (open_ids by.session h) x = subst (λ z. Has (open_ids by.session h) z) (sym (eqb-true x r.0 r.2)) r.1 in
+    let here = true_has (open_ids by.session h) x e in
     let one : t ≡ top h x = sym root ∙ one_top base h legal by.session t x mine here in
     let o = open_is h x (has_filter (is_open h) (given_to by.session h) x here).1 in
     ap (λ b. b && not (is_undone h x)) (eq-eqb t (top h x) one) ∙ ap not o.1)
     (λ e.
-    let two = and_both (t == top h x) (not (is_undone h x)) e in
+    let two = and_parts (t == top h x) (not (is_undone h x)) e in
     let over : t ≡ top h x = eqb-true t (top h x) two.0 in
-    let undone : is_undone h x ≡ false = by_truth (is_undone h x) (λ u. let z : not (is_undone h x) ≡ false = ap not u in cc) in
+    let undone : is_undone h x ≡ false = not-true (is_undone h x) two.1 in
     let ended : is_ended h x ≡ false = ap (λ z. list_any (is_end_of z) h) (sym over ∙ sym root) ∙ (open_is h t opened.1).0 in
     let s = given_to_some h x k in
     let theirs : Has (given_to s.0 h) t = subst (λ z. Has (given_to s.0 h) z) (sym over) (family_session base h legal s.0 x (top h x) s.1 (top_in h x)) in
     let one : s.0 ≡ by.session = one_session base h legal s.0 by.session t theirs opened.0 in
-    any_has (λ y. x == y) (open_ids by.session h) x (filter_has (is_open h) (given_to by.session h) x (subst (λ z. Has (given_to z h) x) one s.1) (is_open_by h x ended undone)) (eq-eqb x x refl))
-  where
-    both : (a b : Bool) → (a ≡ true → b ≡ true) → (b ≡ true → a ≡ true) → a ≡ b
-    both true b f g = sym (f refl)
-    both false true f g = g refl
-    both false false f g = refl
-
-    and_both : (a b : Bool) → (a && b) ≡ true → (a ≡ true) × (b ≡ true)
-    and_both true b e = (refl, e)
-    and_both false b e = absurd cc
+    has_true (open_ids by.session h) x (filter_has (is_open h) (given_to by.session h) x (subst (λ z. Has (given_to z h) x) one s.1) (is_open_by h x ended undone)))
 
 -- a commit commits the ids that its session has open
 pub committed_now : (base : Counters) (h : List Event) (by : By) (t x : ℕ) → IsLegal base h → MayCome base h (events.Commit by t) → Has (given h) x → is_committed (h ++ events.Commit by t ∷ []) x ≡ (is_committed h x || has (open_ids by.session h) x)
@@ -123,9 +96,8 @@ committed_now base h by t x legal may k =
 committed_closed : (base : Counters) (h : List Event) (e : Event) (x : ℕ) → IsLegal base h → MayCome base h e → Has (given h) x → is_open h x ≡ false → is_committed (h ++ e ∷ []) x ≡ is_committed h x
 committed_closed base h (events.Commit by t) x legal may k shut =
     committed_now base h by t x legal may k
-    ∙ ap (λ b. is_committed h x || b) (by_truth (has (open_ids by.session h) x) (λ e.
-    let r = has_any (λ y. x == y) (open_ids by.session h) e in
-    let o = (has_filter (is_open h) (given_to by.session h) x (subst (λ z. Has (open_ids by.session h) z) (sym (eqb-true x r.0 r.2)) r.1)).1 in cc))
+    ∙ ap (λ b. is_committed h x || b) (false_from_ne_true (has (open_ids by.session h) x) (λ e.
+    let o = (has_filter (is_open h) (given_to by.session h) x (true_has (open_ids by.session h) x e)).1 in cc))
     ∙ or-false (is_committed h x)
 committed_closed base h (events.Id by id) x legal may k shut = committed_still base h (events.Id by id) x legal may k (λ t. refl)
 committed_closed base h (events.Sub by parent id) x legal may k shut = committed_still base h (events.Sub by parent id) x legal may k (λ t. refl)
@@ -144,7 +116,7 @@ committed_later base g x k shut = by_end (λ es. IsLegal base (g ++ es) → is_c
     let l : IsLegal base ((g ++ es) ++ e ∷ []) = subst (IsLegal base) split legal in
     let front = legal_front base (g ++ es) e l in
     let now = later base g es front x k in
-    let still : is_open (g ++ es) x ≡ false = by_truth (is_open (g ++ es) x) (λ o. let z = now.opened o in cc) in
+    let still : is_open (g ++ es) x ≡ false = false_from_ne_true (is_open (g ++ es) x) (λ o. let z = now.opened o in cc) in
     ap (λ t. is_committed t x) split ∙ committed_closed base (g ++ es) e x front (legal_last base (g ++ es) e l) now.given still ∙ before front)
 
 -- whether a closed id has committed stays so

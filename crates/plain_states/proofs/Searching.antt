@@ -7,12 +7,12 @@ use Rattle.std.specs.List.{All, AllByRecursion, find}
 use Rattle.std.specs.List.Sorted.{IsBinarySearchResult, IsNonDecreasingBy, IsSearchInRange}
 use Rattle.std.specs.Ordering.{nat_cmp, ordering_index}
 use Rattle.std.specs.Prelude.{IfSome, MatchResult}
-use Rattle.std.proofs.lemmas.Bool.{eqb-true}
+use Rattle.std.proofs.lemmas.Bool.{eqb-true, cases_lt}
 use Rattle.std.proofs.lemmas.List.Elements.{All-push, All-from_recursion, recursion_from_All}
 use Rattle.std.proofs.lemmas.List.Folds.{list_any-append}
 use Rattle.tx_model.specs.IdLists.{has, Ascending}
 use Rattle.tx_model.proofs.IdListSteps.{ascending_push}
-use Rattle.tx_model.proofs.ListSteps.{or_true, or_false}
+use Rattle.std.proofs.Math.Bool.{or-true, or-false}
 use Rattle.plain_states.specs.declared.id_states.IdState.{IdState}
 use Rattle.plain_states.specs.States.{AreKept, InOrder, IsMissing, IsPlaceOf, ids_of, with_commit}
 
@@ -37,10 +37,7 @@ searched xs x (Ok i) a b f = (b, λ d. ranked _ x _ (sym (f d)))
 searched xs x (Err i) a b f = λ k l d e. ⊎_elim
     (λ (u : k < i). let g : (get_or xs k d).id < x = ranked _ x _ (sym ((f (comparisons_rise xs x a)).0 k d (omega arith) u)) in omega arith)
     (λ (u : i ≤ k). let g : x < (get_or xs k d).id = ranked _ x _ (sym ((f (comparisons_rise xs x a)).1 k d u l)) in omega arith)
-    (sides k i)
-  where
-    sides : (k i : ℕ) → (k < i) ⊎ (i ≤ k)
-    sides k i = grind arith
+    (cases_lt k i)
 
 further : (s : IdState) (xs : List IdState) (x k : ℕ) → IsPlaceOf (s ∷ xs) x (suc k) → IsPlaceOf xs x k
 further s xs x k p = (omega (arith, p.0), λ d. p.1 d)
@@ -62,7 +59,7 @@ pub mark_missing : (xs : List IdState) (x : ℕ) → IsMissing xs x → xs ≡ m
 mark_missing [] x f = refl
 mark_missing (s ∷ xs) x f =
     let g : (s.id == x) ≡ false = ne_eqb s.id x (λ q. f 0 (omega arith) s q) in
-    ap (λ b. record s { committed = b } ∷ xs) (sym (or_false s.committed) ∙ ap (λ b. s.committed || (b || false)) (sym g))
+    ap (λ b. record s { committed = b } ∷ xs) (sym (or-false s.committed) ∙ ap (λ b. s.committed || (b || false)) (sym g))
     ∙ ap (λ t. with_commit (x ∷ []) s ∷ t) (mark_missing xs x (λ k l d e. f (suc k) (omega arith) d e))
 
 pub mark_at : (xs : List IdState) (x k : ℕ) (d : IdState) → InOrder xs → IsPlaceOf xs x k → set xs k (record (get_or xs k d) { committed = true }) ≡ map (with_commit (x ∷ [])) xs
@@ -70,13 +67,13 @@ mark_at [] x k d a p = absurd (omega (arith, p.0))
 mark_at (s ∷ xs) x zero d a p =
     let e : s.id ≡ x = p.1 d in
     let g : (s.id == x) ≡ true = eq-eqb s.id x e in
-    ap (λ b. record s { committed = b } ∷ xs) (sym (or_true s.committed) ∙ ap (λ b. s.committed || (b || false)) (sym g))
+    ap (λ b. record s { committed = b } ∷ xs) (sym (or-true s.committed) ∙ ap (λ b. s.committed || (b || false)) (sym g))
     ∙ ap (λ t. with_commit (x ∷ []) s ∷ t) (mark_missing xs x (λ k l d f. let u : s.id < (get_or xs k d).id = all_at (λ y. s.id < y) xs k d a.0 l in omega arith))
 mark_at (s ∷ xs) x (suc k) d a p =
     let next = further s xs x k p in
     let f : s.id < (get_or xs k d).id = all_at (λ y. s.id < y) xs k d a.0 next.0 in
     let g : (s.id == x) ≡ false = ne_eqb s.id x (λ q. omega (arith, next.1 d)) in
-    ap (λ b. record s { committed = b } ∷ set xs k (record (get_or xs k d) { committed = true })) (sym (or_false s.committed) ∙ ap (λ b. s.committed || (b || false)) (sym g))
+    ap (λ b. record s { committed = b } ∷ set xs k (record (get_or xs k d) { committed = true })) (sym (or-false s.committed) ∙ ap (λ b. s.committed || (b || false)) (sym g))
     ∙ ap (λ t. with_commit (x ∷ []) s ∷ t) (mark_at xs x k d a.1 next)
 
 -- a commit of more ids, one at a time
@@ -92,7 +89,7 @@ mark_more (s ∷ xs) ids x =
 
 pub mark_none : (xs : List IdState) → xs ≡ map (with_commit []) xs
 mark_none [] = refl
-mark_none (s ∷ xs) = ap (λ b. record s { committed = b } ∷ xs) (sym (or_false s.committed)) ∙ ap (λ t. with_commit [] s ∷ t) (mark_none xs)
+mark_none (s ∷ xs) = ap (λ b. record s { committed = b } ∷ xs) (sym (or-false s.committed)) ∙ ap (λ t. with_commit [] s ∷ t) (mark_none xs)
 
 -- a commit changes no id and no parent
 pub ids_marked : (ids : List ℕ) (xs : List IdState) → ids_of (map (with_commit ids) xs) ≡ ids_of xs

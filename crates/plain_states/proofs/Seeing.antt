@@ -1,6 +1,7 @@
 -- The states as they are now and a snapshot decide what was visible when it was taken.
-use Rattle.std.proofs.Common.{◌≡◌, ℕ, ◌<◌, ◌≤◌, ◌^◌, ◌%◌, List, [], take, Some, None, refl, ap, sym, subst, ◌∙◌, ⊎_elim, ◌⊎◌, arith, Bool, true, false, not, ◌==◌, eq-eqb}
-use Rattle.std.proofs.lemmas.Bool.{eqb-true}
+use Rattle.tx_model.proofs.IdListSteps.{true_has, has_true}
+use Rattle.std.proofs.Common.{◌≡◌, ℕ, ◌<◌, ◌≤◌, ◌^◌, ◌%◌, List, [], take, Some, None, refl, ap, sym, subst, ◌∙◌, ⊎_elim, ◌⊎◌, arith, Bool, true, false, not, ◌==◌}
+use Rattle.std.proofs.lemmas.Bool.{cases_Bool, false_from_ne_true, and_parts}
 use Rattle.std.specs.List.{find, list_any}
 use Rattle.xid_order.specs.Ids.{IsFullId}
 use Rattle.tx_model.specs.declared.event.Event.{Event}
@@ -12,36 +13,35 @@ use Rattle.tx_model.specs.IdLists.{has}
 use Rattle.tx_model.specs.Running.{is_open, is_undone, running, running_tops}
 use Rattle.tx_model.specs.Snapshots.{snapshot_xmax, snapshot_xmin}
 use Rattle.tx_model.specs.Visible.{is_visible}
-use Rattle.tx_model.proofs.Closing.{is_open_by, later_take, open_is, truth}
-use Rattle.tx_model.proofs.IdOrder.{fold_min_has}
-use Rattle.tx_model.proofs.Membership.{Has, any_has, contains_has, filter_has, has_any, has_contains}
-use Rattle.tx_model.proofs.OpenIds.{top_in}
-use Rattle.tx_model.proofs.SnapshotBounds.{below_given, by_truth, given_from, legal_take, past_open, open_top, running_is, top_is_top, top_runs}
-use Rattle.tx_model.proofs.Trees.{Family, family, top_line}
-use Rattle.tx_model.proofs.Visibility.{both_true, lives, never_given, open_hidden, visible_new}
+use Rattle.tx_model.proofs.Closing.{is_open_by, later_take, open_is}
+use Rattle.tx_model.proofs.Extremes.{fold_min_has}
+use Rattle.tx_model.proofs.Membership.{Has, contains_has, filter_has, has_contains, has_filter}
+use Rattle.tx_model.proofs.Lineages.{top_in, top_line}
+use Rattle.tx_model.proofs.SnapshotBounds.{below_given, given_from, past_open, open_top, top_is_top, top_runs}
+use Rattle.tx_model.proofs.GivenIds.{legal_take}
+use Rattle.tx_model.proofs.Trees.{Family, family}
+use Rattle.tx_model.proofs.Visibility.{lives, never_given, open_hidden, visible_new}
 use Rattle.snap_core.specs.Says.{IsSaidOfTop, SaysRight, SaysTopRight}
 use Rattle.snap_core.specs.declared.snapshot.Says.{Says}
-use Rattle.snap_core.specs.declared.snapshot.Says.TheVariants as says
 use Rattle.tx_model.specs.declared.reply.SnapData.{SnapData}
 use Rattle.plain_states.specs.declared.id_states.IdState.{IdState}
 use Rattle.plain_states.specs.States.{AreStates}
 use Rattle.plain_states.specs.Verdicts.{ClosedRight, IsTopmost, SeesRight}
 use Rattle.plain_states.proofs.Commits.{committed_since}
 use Rattle.plain_states.proofs.Climbing.{state_is, state_missing}
+use Rattle.snap_core.specs.declared.snapshot.Says.TheVariants as says
 
 -- what runs is open
 pub runs_open : (g : List Event) (x : ℕ) → has (running g) x ≡ true → is_open g x ≡ true
-runs_open g x e =
-    let r = has_any (λ y. x == y) (running g) e in
-    (running_is g x (subst (λ z. Has (running g) z) (sym (eqb-true x r.0 r.2)) r.1)).1
+runs_open g x e = (has_filter (is_open g) (given g) x (true_has (running g) x e)).1
 
 -- what was given and doesn't run is closed
 pub stopped_closed : (g : List Event) (x : ℕ) → Has (given g) x → has (running g) x ≡ false → is_open g x ≡ false
-stopped_closed g x k e = by_truth (is_open g x) (λ o. let z : has (running g) x ≡ true = any_has (λ y. x == y) (running g) x (filter_has (is_open g) (given g) x k o) (eq-eqb x x refl) in cc)
+stopped_closed g x k e = false_from_ne_true (is_open g x) (λ o. let z : has (running g) x ≡ true = has_true (running g) x (filter_has (is_open g) (given g) x k o) in cc)
 
 -- an id is closed where its top is, and not only there: it may be undone
 closed_by_top : (g : List Event) (x : ℕ) → Family g x → is_open g (top g x) ≡ false → is_open g x ≡ false
-closed_by_top g x f shut = by_truth (is_open g x) (λ o. let z = open_top g x f o in cc)
+closed_by_top g x f shut = false_from_ne_true (is_open g x) (λ o. let z = open_top g x f o in cc)
 
 open_by_top : (g : List Event) (x : ℕ) → Family g x → is_undone g x ≡ false → is_open g (top g x) ≡ true → is_open g x ≡ true
 open_by_top g x f undone o =
@@ -71,7 +71,7 @@ at_place base h p x t legal k up =
 pub told_below : (base : Counters) (h : List Event) (p x t : ℕ) → IsLegal base h → Has (given (take p h)) x → Has (lineage h x) t → t < snapshot_xmin base.next (take p h) → true ≡ not (is_open (take p h) x)
 told_below base h p x t legal k up low =
     let a = at_place base h p x t legal k up in
-    sym (ap not (by_truth (is_open (take p h) x) (λ o.
+    sym (ap not (false_from_ne_true (is_open (take p h) x) (λ o.
     let r = fold_min_has (snapshot_xmax base.next (take p h)) (running_tops (take p h)) (top (take p h) x) (top_runs (take p h) x a.family o) in
     let z : top h x ≤ t = a.over in let s = a.same in absurd (omega arith))))
 
@@ -99,7 +99,7 @@ at_top base h p x t legal k is =
 -- an id that counts as running at the snapshot's place is hidden
 past_hidden : (base : Counters) (g : List Event) (x : ℕ) → IsLegal base g → snapshot_xmax base.next g ≤ x → lives g x ≡ false
 past_hidden base g x legal past =
-    by_truth (lives g x) (λ e.
+    false_from_ne_true (lives g x) (λ e.
     let never : Has (given g) x → ⊥ = λ j. let z = open_hidden g x (past_open base g x j past) in cc in
     let z = never_given base g x legal never in cc)
 
@@ -110,9 +110,9 @@ missing_hidden base h p x legal none = never_given base (take p h) x (legal_take
 -- an id that hasn't committed is hidden
 pub uncommitted_hidden : (base : Counters) (h : List Event) (p x : ℕ) → IsLegal base h → lives h x ≡ false → lives (take p h) x ≡ false
 uncommitted_hidden base h p x legal none =
-    by_truth (lives (take p h) x) (λ e.
+    false_from_ne_true (lives (take p h) x) (λ e.
     let k : Has (given (take p h)) x → ⊥ = λ k.
-    let shut : is_open (take p h) x ≡ false = by_truth (is_open (take p h) x) (λ o. let z = open_hidden (take p h) x o in cc) in
+    let shut : is_open (take p h) x ≡ false = false_from_ne_true (is_open (take p h) x) (λ o. let z = open_hidden (take p h) x o in cc) in
     let same : lives h x ≡ lives (take p h) x = committed_since base h p x legal k shut in cc in
     let z = never_given base (take p h) x (legal_take base h p legal) k in cc)
 
@@ -128,14 +128,14 @@ committed_below base h p x legal full full_x k committed below =
     let positive : 0 < base.next = omega arith in
     let legal_g = legal_take base h p legal in
     let was = below_given base (take p h) x legal_g positive full_x (given_from base h legal x k) below in
-    let two = both_true (list_any (is_commit_of (top h x)) h) (not (is_undone h x)) committed in
+    let two = and_parts (list_any (is_commit_of (top h x)) h) (not (is_undone h x)) committed in
     record {
       was = was;
-      undone = (later_take base h p x legal was).undone (by_truth (is_undone h x) (λ u. let z : not (is_undone h x) ≡ false = ap not u in cc));
+      undone = (later_take base h p x legal was).undone (false_from_ne_true (is_undone h x) (λ u. let z : not (is_undone h x) ≡ false = ap not u in cc));
       exact = ⊎_elim
           (λ (o : is_open (take p h) x ≡ true). ap not o ∙ sym (open_hidden (take p h) x o))
           (λ (c : is_open (take p h) x ≡ false). ap not c ∙ sym (sym (committed_since base h p x legal was c) ∙ committed))
-          (truth (is_open (take p h) x));
+          (cases_Bool (is_open (take p h) x));
     }
 
 -- a normal id was visible where it had committed

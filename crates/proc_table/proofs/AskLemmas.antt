@@ -4,14 +4,15 @@ use Rattle.proc_table.specs.Lists.{tops_of}
 use Rattle.proc_table.specs.State.{IsState}
 use Rattle.proc_table.specs.declared.entry.Entry.{Entry}
 use Rattle.proc_table.specs.declared.live.LiveSnapshots.{LiveSnapshots}
-use Rattle.std.proofs.Common.{◌≡◌, ℕ, List, [], ◌∷◌, refl, ap, sym, ◌∙◌, Bool, true, false, not, ◌&&◌, ◌==◌, ◌||◌, subst, ⊎_elim}
-use Rattle.std.proofs.lemmas.Bool.{false≢true}
+use Rattle.std.proofs.Common.{◌≡◌, ℕ, List, [], ◌∷◌, refl, ap, sym, ◌∙◌, Bool, true, false, not, ◌&&◌, ◌==◌, ◌||◌, subst, ⊎_elim, eqb-true}
+use Rattle.std.proofs.lemmas.Bool.{false≢true, and_parts, or_cases}
 use Rattle.std.proofs.lemmas.List.Elements.{All-from_recursion}
 use Rattle.std.specs.List.{AllByRecursion, list_any, All}
-use Rattle.tx_model.proofs.FamilyGrowth.{family_member}
+use Rattle.tx_model.proofs.RunningFamily.{family_member}
 use Rattle.tx_model.proofs.IdListSteps.{ascending_filtered, has-filter}
-use Rattle.tx_model.proofs.LegalSoundness.{legal_sound, root_runs}
-use Rattle.tx_model.proofs.ListSteps.{or_true, all_weaker, eqb-refl, and_both, or_cases, equal_from}
+use Rattle.tx_model.proofs.Soundness.{legal_sound, root_runs}
+use Rattle.std.proofs.Math.Bool.{or-true}
+use Rattle.tx_model.proofs.ListSteps.{all_weaker, eqb-refl, same_tests}
 use Rattle.tx_model.specs.Events.{given}
 use Rattle.tx_model.specs.Families.{top, is_top}
 use Rattle.tx_model.specs.IdLists.{has, Ascending}
@@ -22,8 +23,8 @@ use Rattle.tx_model.specs.declared.record.Counters.{Counters}
 entry_runs : (first : ℕ) (h : List Event) (x : ℕ) (e : Entry) → IsEntryAt first h e → is_of_entry x e ≡ true → has (running h) x ≡ true
 entry_runs first h x e i f =
     ⊎_elim
-    (λ k. ap (has (running h)) (equal_from x e.top k) ∙ (family_member h e.top e.top i.here).0)
-    (λ k. (and_both (has (running h) x) ((top h x == e.top) && not (is_top h x)) (sym (ap (λ l. has l x) i.subs_are ∙ has-filter (λ x. (top h x == e.top) && not (is_top h x)) (running h) x) ∙ k)).0)
+    (λ k. ap (has (running h)) (eqb-true x e.top k) ∙ (family_member h e.top e.top i.here).0)
+    (λ k. (and_parts (has (running h) x) ((top h x == e.top) && not (is_top h x)) (sym (ap (λ l. has l x) i.subs_are ∙ has-filter (λ x. (top h x == e.top) && not (is_top h x)) (running h) x) ∙ k)).0)
     (or_cases (x == e.top) (has e.subs.items x) f)
 
 any_runs : (first : ℕ) (h : List Event) (x : ℕ) (es : List Entry) → AllByRecursion (IsEntryAt first h) es → list_any (is_of_entry x) es ≡ true → has (running h) x ≡ true
@@ -34,25 +35,20 @@ of_its_top : (first : ℕ) (h : List Event) (x : ℕ) (e : Entry) → IsEntryAt 
 of_its_top first h x e i t f = one (is_top h x) refl
   where
     one : (b : Bool) → is_top h x ≡ b → is_of_entry x e ≡ true
-    one true k = ap (λ b. b || has e.subs.items x) (ap (λ y. x == y) (sym t ∙ equal_from (top h x) x k) ∙ eqb-refl x)
+    one true k = ap (λ b. b || has e.subs.items x) (ap (λ y. x == y) (sym t ∙ eqb-true (top h x) x k) ∙ eqb-refl x)
     one false k =
         ap (λ b. (x == e.top) || b)
         (ap (λ l. has l x) i.subs_are ∙ has-filter (λ x. (top h x == e.top) && not (is_top h x)) (running h) x
         ∙ ap (λ b. b && ((top h x == e.top) && not (is_top h x))) f ∙ ap (λ b. (top h x == e.top) && not b) k ∙ ap (λ y. (y == e.top) && true) t ∙ ap (λ b. b && true) (eqb-refl e.top))
-        ∙ or_true (x == e.top)
+        ∙ or-true (x == e.top)
 
 top_listed : (first : ℕ) (h : List Event) (x : ℕ) (es : List Entry) → AllByRecursion (IsEntryAt first h) es → has (tops_of es) (top h x) ≡ true → has (running h) x ≡ true → list_any (is_of_entry x) es ≡ true
 top_listed first h x [] a f g = absurd (false≢true f)
 top_listed first h x (e ∷ es) a f g =
     ⊎_elim
-    (λ k. ap (λ b. b || list_any (is_of_entry x) es) (of_its_top first h x e a.0 (equal_from (top h x) e.top k) g))
-    (λ k. ap (λ b. is_of_entry x e || b) (top_listed first h x es a.1 k g) ∙ or_true (is_of_entry x e))
+    (λ k. ap (λ b. b || list_any (is_of_entry x) es) (of_its_top first h x e a.0 (eqb-true (top h x) e.top k) g))
+    (λ k. ap (λ b. is_of_entry x e || b) (top_listed first h x es a.1 k g) ∙ or-true (is_of_entry x e))
     (or_cases (top h x == e.top) (has (tops_of es) (top h x)) f)
-
-same_tests : (a b : Bool) → (a ≡ true → b ≡ true) → (b ≡ true → a ≡ true) → a ≡ b
-same_tests true b f g = sym (f refl)
-same_tests false true f g = g refl
-same_tests false false f g = refl
 
 -- an id is of an entry exactly where it runs
 pub asked_is : (base : Counters) (h : List Event) (n oldest late promised : ℕ) (entries : List Entry) (lives : LiveSnapshots) (x : ℕ) → IsState base h n oldest late promised entries lives → list_any (is_of_entry x) entries ≡ has (running h) x

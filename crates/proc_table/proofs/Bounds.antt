@@ -1,14 +1,14 @@
 -- How far ids go.
-use Rattle.std.proofs.Common.{◌≡◌, ℕ, suc, zero, ◌-◌, ◌<◌, ◌≤◌, List, [], ◌∷◌, length, refl, arith, Bool, true, false, not, max, ◌+◌, nat_lt, if◌then◌else◌, ◌^◌}
+use Rattle.std.proofs.Common.{◌≡◌, ℕ, ◌-◌, ◌<◌, ◌≤◌, List, [], ◌∷◌, length, refl, arith, Bool, true, false, not, max, ◌+◌, nat_lt, if◌then◌else◌, ◌^◌}
 use Rattle.std.specs.List.{AllByRecursion, fold}
-use Rattle.tx_model.proofs.IdListSteps.{fold_max_above}
-use Rattle.tx_model.proofs.LegalSoundness.{legal_sound}
+use Rattle.tx_model.proofs.Extremes.{fold_max_start}
+use Rattle.tx_model.proofs.Soundness.{legal_sound}
 use Rattle.tx_model.proofs.ListSteps.{all_filter}
-use Rattle.tx_model.proofs.RunningGrowth.{given_below}
-use Rattle.tx_model.proofs.Soundness.{next_above}
+use Rattle.tx_model.proofs.NameBounds.{given_below}
+use Rattle.tx_model.proofs.IdOrder.{nth_from}
 use Rattle.tx_model.specs.Base.{IsBase}
 use Rattle.tx_model.specs.Events.{given}
-use Rattle.tx_model.specs.History.{next_given, nth_id, IsLegal}
+use Rattle.tx_model.specs.History.{next_given, IsLegal}
 use Rattle.tx_model.specs.Limits.{stop_limit}
 use Rattle.tx_model.specs.Running.{is_open, closed}
 use Rattle.tx_model.specs.Snapshots.{latest}
@@ -25,10 +25,6 @@ next_id_to n l = one (nat_lt (low_half (n + 1)) 3) refl
 
 pub stop_to : (oldest : ℕ) → stop_limit oldest + 1 ≤ 2 ^ 63
 stop_to oldest = omega arith
-
-nth_from : (first n : ℕ) → first ≤ nth_id first n
-nth_from first zero = omega arith
-nth_from first (suc n) = let h : first ≤ nth_id first n = nth_from first n in let u : nth_id first n < next_id (nth_id first n) = next_above (nth_id first n) in omega arith
 
 pub first_to_next : (first : ℕ) (h : List Event) → first ≤ next_given first h
 first_to_next first h = nth_from first (length (given h))
@@ -47,7 +43,7 @@ fold_max_below z n (x ∷ xs) l a = let k : x < n = a.0 in fold_max_below (max z
 pub latest_bounds : (base : Counters) (h : List Event) → IsBase base → IsLegal base h → (2 ≤ latest base.next h) × (latest base.next h < next_given base.next h)
 latest_bounds base h b l =
     let p = before_bounds base.next b.full in
-    let up : id_before base.next ≤ latest base.next h = fold_max_above (closed h) (id_before base.next) in
+    let up : id_before base.next ≤ latest base.next h = fold_max_start (id_before base.next) (closed h) in
     let from : base.next ≤ next_given base.next h = first_to_next base.next h in
     let two : 2 ≤ id_before base.next = p.0 in
     let low : id_before base.next < base.next = p.1 in

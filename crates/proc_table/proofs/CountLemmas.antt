@@ -1,5 +1,5 @@
 -- How many ids a snapshot lists.
-use Rattle.proc_table.proofs.MergedSubs.{grouped, grouped}
+use Rattle.proc_table.proofs.MergedSubs.{grouped}
 use Rattle.proc_table.proofs.SnapshotLemmas.{tops_below_are, over_below, subs_below_are}
 use Rattle.proc_table.specs.Lists.{tops_of, subs_of, entries_below, some_overflowed, total_of, count_of}
 use Rattle.proc_table.specs.State.{IsState}
@@ -10,8 +10,9 @@ use Rattle.std.proofs.lemmas.List.Sorted.{length_permutation}
 use Rattle.std.proofs.lemmas.List.Sums.{sum_by-cons}
 use Rattle.std.specs.List.{filter, list_any, slice_index_or, flat_map}
 use Rattle.tx_model.proofs.IdListSteps.{ascending_filtered}
-use Rattle.tx_model.proofs.LegalSoundness.{legal_sound}
-use Rattle.tx_model.proofs.ListSteps.{filter_length, not_both, and_both}
+use Rattle.tx_model.proofs.Soundness.{legal_sound}
+use Rattle.tx_model.proofs.ListSteps.{filter_length, not_both}
+use Rattle.std.proofs.lemmas.Bool.{and_parts}
 use Rattle.tx_model.specs.Events.{given}
 use Rattle.tx_model.specs.Families.{top, is_top}
 use Rattle.tx_model.specs.Horizon.{live_snaps}
@@ -59,7 +60,7 @@ fewer p q f (x ∷ xs) = one (p x) refl (q x) refl (fewer p q f xs)
   where
     one : (b : Bool) → p x ≡ b → (c : Bool) → q x ≡ c → length (filter p xs) ≤ length (filter q xs) → length (cond b (x ∷ filter p xs) (filter p xs)) ≤ length (cond c (x ∷ filter q xs) (filter q xs))
     one true d true e l = omega arith
-    one true d false e l = not_both (q x) e (f x d)
+    one true d false e l = not_both (q x) (f x d) e
     one false d true e l = omega arith
     one false d false e l = l
 
@@ -82,7 +83,7 @@ listed_run first h =
   where
     one : (b : Bool) → length (cond b [] (filter (λ x. not (is_top h x) && list_any (λ t. t == top h x) (snapshot_xips first h)) (running h))) ≤ length (filter (λ x. not (is_top h x)) (running h))
     one true = omega arith
-    one false = fewer (λ x. not (is_top h x) && list_any (λ t. t == top h x) (snapshot_xips first h)) (λ x. not (is_top h x)) (λ x e. (and_both (not (is_top h x)) (list_any (λ t. t == top h x) (snapshot_xips first h)) e).0) (running h)
+    one false = fewer (λ x. not (is_top h x) && list_any (λ t. t == top h x) (snapshot_xips first h)) (λ x. not (is_top h x)) (λ x e. (and_parts (not (is_top h x)) (list_any (λ t. t == top h x) (snapshot_xips first h)) e).0) (running h)
 
 -- the count is that of the lists, and there is room for it
 pub total_is : (base : Counters) (h : List Event) (n oldest late promised : ℕ) (entries : List Entry) (lives : LiveSnapshots) (xmax : ℕ) (overflowed : Bool) → IsState base h n oldest late promised entries lives → xmax ≡ snapshot_xmax base.next h → overflowed ≡ some_overflowed (entries_below entries xmax) →

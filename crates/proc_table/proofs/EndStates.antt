@@ -8,18 +8,17 @@ use Rattle.proc_table.specs.State.{IsState}
 use Rattle.proc_table.specs.Table.{InTurn, end_event}
 use Rattle.proc_table.specs.declared.entry.Entry.{Entry}
 use Rattle.proc_table.specs.declared.live.LiveSnapshots.{LiveSnapshots}
-use Rattle.std.proofs.Common.{◌≡◌, ℕ, ◌-◌, ◌<◌, ◌≤◌, List, [], ◌∷◌, ◌++◌, length, reverse, refl, ap, sym, ◌∙◌, arith, Bool, true, false, not, ◌&&◌, ◌==◌, ◌||◌, cond, Contains, subst, max, inl, inr, ⊎_elim, ◌⊎◌, ◌+◌}
+use Rattle.std.proofs.Common.{◌≡◌, ℕ, ◌-◌, ◌<◌, ◌≤◌, List, [], ◌∷◌, ◌++◌, length, reverse, refl, ap, sym, ◌∙◌, arith, Bool, true, false, not, ◌&&◌, ◌==◌, ◌||◌, cond, Contains, subst, max, inl, inr, ⊎_elim, ◌⊎◌, ◌+◌, eqb-true}
 use Rattle.std.specs.List.{filter, AllByRecursion, list_any, Any}
 use Rattle.tx_model.proofs.ClosingGrowth.{closing_commit, closing_abort, closing_open_ids, IsClosing, closing_running, closing_tops}
-use Rattle.tx_model.proofs.FamilyGrowth.{family_member}
-use Rattle.tx_model.proofs.FamilySteps.{top_is}
+use Rattle.tx_model.proofs.RunningFamily.{family_member}
 use Rattle.tx_model.proofs.HorizonSteps.{live_push, oldest_push}
 use Rattle.tx_model.proofs.IdListSteps.{some_had, has-filter, one_less, all_has}
-use Rattle.tx_model.proofs.LegalSoundness.{legal_sound, session_runs}
+use Rattle.tx_model.proofs.Soundness.{legal_sound, session_runs}
 use Rattle.tx_model.proofs.LineGrowth.{legal_push}
-use Rattle.tx_model.proofs.ListSteps.{filter_none, or_left, filter_agree_on, eqb-refl, or_right, not_both, filter_passes, equal_from}
-use Rattle.tx_model.proofs.NameBounds.{NamesBelow, AreBelow}
-use Rattle.tx_model.proofs.RunningGrowth.{running_below}
+use Rattle.tx_model.proofs.ListSteps.{filter_none, filter_agree_where, eqb-refl, not_both, filter_passes}
+use Rattle.std.proofs.lemmas.Bool.{or_parts, not-true}
+use Rattle.tx_model.proofs.NameBounds.{NamesBelow, AreBelow, running_below}
 use Rattle.tx_model.specs.Families.{top, is_top}
 use Rattle.tx_model.specs.History.{nth_id, MayCome, ComesInTurn}
 use Rattle.tx_model.specs.Horizon.{announced_after, live_up, live_snaps}
@@ -44,10 +43,10 @@ gone base h t q (e ∷ es) a f = one (t == e.top) refl (e.session == q) refl f (
     one c k true d f g = two c k f
       where
         two : (c : Bool) → (t == e.top) ≡ c → list_any (λ (e : Entry). e.session == q) (cond (not c) (e ∷ filter (λ (e : Entry). not (t == e.top)) es) (filter (λ (e : Entry). not (t == e.top)) es)) ≡ false → ((e.session == q || list_any (λ (e : Entry). e.session == q) es) ≡ false) ⊎ (open_ids q h ≡ family h t)
-        two true k f = inr (sym (ap (λ r. open_ids r h) (equal_from e.session q d)) ∙ a.0.own ∙ ap (family h) (sym (equal_from t e.top k)))
-        two false k f = not_both (e.session == q) (or_left (e.session == q) (list_any (λ (e : Entry). e.session == q) (filter (λ (e : Entry). not (t == e.top)) es)) f) d
+        two true k f = inr (sym (ap (λ r. open_ids r h) (eqb-true e.session q d)) ∙ a.0.own ∙ ap (family h) (sym (eqb-true t e.top k)))
+        two false k f = not_both (e.session == q) d ((or_parts (e.session == q) (list_any (λ (e : Entry). e.session == q) (filter (λ (e : Entry). not (t == e.top)) es)) f).0)
     one true k false d f g = ⊎_elim (λ l. inl (ap (λ b. b || list_any (λ (e : Entry). e.session == q) es) d ∙ l)) inr (g f)
-    one false k false d f g = ⊎_elim (λ l. inl (ap (λ b. b || list_any (λ (e : Entry). e.session == q) es) d ∙ l)) inr (g (or_right (e.session == q) (list_any (λ (e : Entry). e.session == q) (filter (λ (e : Entry). not (t == e.top)) es)) f))
+    one false k false d f g = ⊎_elim (λ l. inl (ap (λ b. b || list_any (λ (e : Entry). e.session == q) es) d ∙ l)) inr (g ((or_parts (e.session == q) (list_any (λ (e : Entry). e.session == q) (filter (λ (e : Entry). not (t == e.top)) es)) f).1))
 
 -- the end of a top, which was given last the id `last`
 pub state_end : (base : Counters) (h : List Event) (e : Event) (t n oldest late promised : ℕ) (entries : List Entry) (lives : LiveSnapshots) (ended : Entry) →
@@ -76,24 +75,20 @@ state_end base h e t n oldest late promised entries lives ended s c may turn nam
       tops =
           map_filter (λ (e : Entry). e.top) (λ u. not (t == u)) entries
           ∙ ap (filter (λ u. not (t == u))) s.tops
-          ∙ filter_agree_on (λ x. is_top h x ≡ true) (λ u. not (t == u)) (λ x. not (t == top h x)) (λ x k. ap (λ u. not (t == u)) (sym (equal_from (top h x) x k))) (running_tops h) (filter_passes (is_top h) (running h))
+          ∙ filter_agree_where (λ x. is_top h x ≡ true) (λ u. not (t == u)) (λ x. not (t == top h x)) (λ x k. ap (λ u. not (t == u)) (sym (eqb-true (top h x) x k))) (running_tops h) (filter_passes (is_top h) (running h))
           ∙ sym (closing_tops h e (λ x. not (t == top h x)) c);
       each = all_kept (IsEntryAt base.next h) (IsEntryAt base.next (h ++ e ∷ [])) (λ (e : Entry). not (t == e.top))
-          (λ x j k. entry_other_end base.next h e t x.session x.top x.last x.subs.items x.overflowed c (not_true (t == x.top) k) j) entries s.each;
+          (λ x j k. entry_other_end base.next h e t x.session x.top x.last x.subs.items x.overflowed c (not-true (t == x.top) k) j) entries s.each;
       others = λ q f.
           closing_open_ids q h e (λ x. not (t == top h x)) c
           ∙ ⊎_elim (λ k. ap (filter (λ x. not (t == top h x))) (s.others q k))
-          (λ k. ap (filter (λ x. not (t == top h x))) k ∙ filter_none (λ x. (top h x == t) ≡ true) (λ x. not (t == top h x)) (family h t) (λ x j. ap not (ap (λ u. t == u) (equal_from (top h x) t j) ∙ eqb-refl t)) (filter_passes (λ x. top h x == t) (running h)))
+          (λ k. ap (filter (λ x. not (t == top h x))) k ∙ filter_none (λ x. (top h x == t) ≡ true) (λ x. not (t == top h x)) (family h t) (λ x j. ap not (ap (λ u. t == u) (eqb-true (top h x) t j) ∙ eqb-refl t)) (filter_passes (λ x. top h x == t) (running h)))
           (gone base.next h t q entries s.each f);
       live = subst (λ ss. HoldsLive ss lives) (sym kept) s.live;
       room = omega arith;
       next_to = s.next_to;
       oldest_to = s.oldest_to;
     }
-  where
-    not_true : (b : Bool) → not b ≡ true → b ≡ false
-    not_true false f = refl
-    not_true true f = not_both false refl f
 
 -- where an id is open, an event is promised
 pub is_promised : (base : Counters) (h : List Event) (n oldest late promised : ℕ) (entries : List Entry) (lives : LiveSnapshots) (session x : ℕ) →

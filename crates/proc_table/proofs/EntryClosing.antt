@@ -2,9 +2,10 @@
 use Rattle.proc_table.specs.Entries.{IsEntry}
 use Rattle.std.proofs.Common.{◌≡◌, ℕ, ◌≤◌, List, [], ◌∷◌, ◌++◌, length, refl, ap, sym, ◌∙◌, arith, Bool, true, false, not, ◌&&◌, ◌==◌, subst, max, inl, inr, ⊎_elim, ◌⊎◌}
 use Rattle.std.specs.List.{filter, AllByRecursion, fold}
-use Rattle.tx_model.proofs.ClosingGrowth.{latest_grows, closing_subs, closing_open_ids, IsClosing, closing_family, closing_latest}
-use Rattle.tx_model.proofs.FamilyGrowth.{all_subs, family_member, family_ended}
-use Rattle.tx_model.proofs.IdListSteps.{fold_max_is, fold_max_has, has-filter}
+use Rattle.tx_model.proofs.ClosingGrowth.{closing_subs, closing_open_ids, IsClosing, closing_family, closing_latest}
+use Rattle.tx_model.proofs.RunningFamily.{all_subs, family_member, family_ended}
+use Rattle.tx_model.proofs.Extremes.{fold_max_is, fold_max_has, fold_max_start}
+use Rattle.tx_model.proofs.IdListSteps.{has-filter, true_has}
 use Rattle.tx_model.proofs.ListSteps.{filter_length, filter_all, all_filter}
 use Rattle.tx_model.proofs.OverflowSteps.{overflow_kept}
 use Rattle.tx_model.specs.Families.{top}
@@ -20,7 +21,7 @@ entry_closing first h e q session t last subs subs' o c k left i =
     let fam : family (h ++ e ∷ []) t ≡ filter q (family h t) = closing_family h e q t c in
     let run : running_subs (h ++ e ∷ []) t ≡ filter q (running_subs h t) = closing_subs h e q t c in
     let len : length (running_subs (h ++ e ∷ []) t) ≤ length (running_subs h t) = subst (λ l. length l ≤ length (running_subs h t)) (sym run) (filter_length q (running_subs h t)) in
-    let late : latest first h ≤ latest first (h ++ e ∷ []) = latest_grows first h e q c in
+    let late : latest first h ≤ latest first (h ++ e ∷ []) = subst (λ l. latest first h ≤ l) (sym (closing_latest first h e q c)) (fold_max_start (latest first h) (filter (λ x. not (q x)) (running h))) in
     record {
       own = closing_open_ids session h e q c ∙ ap (filter q) i.own ∙ sym fam;
       here = ap (λ l. has l t) fam ∙ has-filter q (family h t) t ∙ ap (λ b. b && q t) i.here ∙ k;
@@ -34,13 +35,13 @@ entry_closing first h e q session t last subs subs' o c k left i =
     kept true f l = inr (ap (λ m. has m last) (closing_family h e q t c) ∙ has-filter q (family h t) last ∙ ap (λ b. b && q last) l ∙ f)
     kept false f l =
         inl (subst (λ m. last ≤ m) (sym (closing_latest first h e q c))
-        (fold_max_has (filter (λ x. not (q x)) (running h)) (latest first h) last
-        (has-filter (λ x. not (q x)) (running h) last ∙ ap (λ b. b && not (q last)) (family_member h t last l).0 ∙ ap not f)))
+        (fold_max_has (latest first h) (filter (λ x. not (q x)) (running h)) last
+        (true_has (filter (λ x. not (q x)) (running h)) last (has-filter (λ x. not (q x)) (running h) last ∙ ap (λ b. b && not (q last)) (family_member h t last l).0 ∙ ap not f))))
 
 pub latest_ended : (first : ℕ) (h : List Event) (e : Event) (session t last : ℕ) (subs : List ℕ) (o : Bool) → IsClosing h e (λ x. not (t == top h x)) →
     IsEntry first h session t last subs o → latest first (h ++ e ∷ []) ≡ max (latest first h) last
 latest_ended first h e session t last subs o c i =
-    closing_latest first h e (λ x. not (t == top h x)) c ∙ ap (fold max (latest first h)) (family_ended h t) ∙ fold_max_is (family h t) (latest first h) last i.greatest i.last_is
+    closing_latest first h e (λ x. not (t == top h x)) c ∙ ap (fold max (latest first h)) (family_ended h t) ∙ fold_max_is (family h t) (latest first h) last i.greatest (⊎_elim inl (λ m. inr (true_has (family h t) last m)) i.last_is)
 
 -- the entry of another top, at an end
 pub entry_other_end : (first : ℕ) (h : List Event) (e : Event) (u : ℕ) (session t last : ℕ) (subs : List ℕ) (o : Bool) → IsClosing h e (λ x. not (u == top h x)) → (u == t) ≡ false →

@@ -1,16 +1,17 @@
 -- One entry, where an event gives or closes none of its ids, or gives its top.
 use Rattle.proc_table.specs.Entries.{IsEntry}
-use Rattle.std.proofs.Common.{◌≡◌, ℕ, ◌<◌, ◌≤◌, List, [], ◌∷◌, ◌++◌, length, refl, ap, sym, ◌∙◌, arith, Bool, true, false, ◌==◌, ◌||◌, append-nil, cond, subst, inl, inr, ⊎_elim, nat_lt}
+use Rattle.std.proofs.Common.{◌≡◌, ℕ, ◌<◌, ◌≤◌, List, [], ◌∷◌, ◌++◌, length, refl, ap, sym, ◌∙◌, arith, Bool, true, false, ◌==◌, ◌||◌, append-nil, cond, subst, inl, inr, ⊎_elim, nat_lt, eqb-true}
 use Rattle.std.proofs.lemmas.Bool.{false≢true}
-use Rattle.std.proofs.lemmas.Bool.Decides.{nat_tests}
 use Rattle.std.specs.List.{AllByRecursion}
 use Rattle.tx_model.proofs.ClosingGrowth.{same_latest}
-use Rattle.tx_model.proofs.FamilyGrowth.{id_family_ids, fresh_subs, fresh_overflow, family_member, fresh_family, quiet_family_ids}
+use Rattle.tx_model.proofs.GivingGrowth.{id_family_ids, id_subs, giving_closed, giving_id, giving_open_ids}
+use Rattle.tx_model.proofs.RunningFamily.{fresh_subs, fresh_overflow, family_member, fresh_family}
+use Rattle.tx_model.proofs.QuietGrowth.{quiet_family_ids, IsQuiet, quiet_open_ids, quiet_subs, quiet_closed}
 use Rattle.tx_model.proofs.IdListSteps.{all_has}
-use Rattle.tx_model.proofs.ListSteps.{eqb-refl, or_false, equal_from}
-use Rattle.tx_model.proofs.NameBounds.{AreBelow}
+use Rattle.tx_model.proofs.ListSteps.{eqb-refl, above_not}
+use Rattle.std.proofs.Math.Bool.{or-false}
+use Rattle.tx_model.proofs.NameBounds.{AreBelow, running_below}
 use Rattle.tx_model.proofs.OverflowSteps.{overflow_kept, overflow_push}
-use Rattle.tx_model.proofs.RunningGrowth.{id_subs, id_closed, IsQuiet, quiet_open_ids, running_below, id_open_ids, quiet_subs, quiet_closed}
 use Rattle.tx_model.specs.IdLists.{has}
 use Rattle.tx_model.specs.Running.{running, open_ids}
 use Rattle.tx_model.specs.Savepoints.{family}
@@ -45,9 +46,9 @@ pub entry_id_new : (first : ℕ) (h : List Event) (by : By) (n : ℕ) → AreBel
 entry_id_new first h by n b f =
     let fam : family (h ++ events.Id by n ∷ []) n ≡ n ∷ [] = id_family_ids h by n n b ∙ ap (λ l. l ++ cond (n == n) (n ∷ []) []) (fresh_family n h b) ∙ ap (λ c. cond c (n ∷ []) []) (eqb-refl n) in
     let subs : running_subs (h ++ events.Id by n ∷ []) n ≡ [] = id_subs h by n n b ∙ fresh_subs n h b in
-    let one : has (n ∷ []) n ≡ true = or_false (n == n) ∙ eqb-refl n in
+    let one : has (n ∷ []) n ≡ true = or-false (n == n) ∙ eqb-refl n in
     record {
-      own = id_open_ids by.session h by n b ∙ ap (λ l. l ++ cond (by.session == by.session) (n ∷ []) []) f ∙ ap (λ c. cond c (n ∷ []) []) (eqb-refl by.session) ∙ sym fam;
+      own = giving_open_ids by.session h (events.Id by n) n (giving_id h by n b) ∙ ap (λ l. l ++ cond (by.session == by.session) (n ∷ []) []) f ∙ ap (λ c. cond c (n ∷ []) []) (eqb-refl by.session) ∙ sym fam;
       here = ap (λ l. has l n) fam ∙ one;
       flag = sym (overflow_push h (events.Id by n) n ∙ ap (λ c. c || nat_lt 64 (length (running_subs (h ++ events.Id by n ∷ []) n))) (fresh_overflow n h b) ∙ ap (λ l. nat_lt 64 (length l)) subs);
       subs_are = sym subs;
@@ -62,16 +63,13 @@ pub entry_id_other : (first : ℕ) (h : List Event) (by : By) (n : ℕ) (session
     IsEntry first h session t last subs o → IsEntry first (h ++ events.Id by n ∷ []) session t last subs o
 entry_id_other first h by n session t last subs o b f i =
     let below : t < n = entry_below first n h session t last subs o b i in
-    let late : latest first (h ++ events.Id by n ∷ []) ≡ latest first h = same_latest first h (h ++ events.Id by n ∷ []) (id_closed h by n b) in
+    let late : latest first (h ++ events.Id by n ∷ []) ≡ latest first h = same_latest first h (h ++ events.Id by n ∷ []) (giving_closed h (events.Id by n) n (giving_id h by n b)) in
     let len : length (running_subs (h ++ events.Id by n ∷ []) t) ≡ length (running_subs h t) = ap length (id_subs h by n t b) in
     entry_kept first h (h ++ events.Id by n ∷ []) session t last subs o
-    (id_open_ids session h by n b ∙ ap (λ c. open_ids session h ++ cond c (n ∷ []) []) (other (by.session == session) refl) ∙ append-nil (open_ids session h))
-    (id_family_ids h by n t b ∙ ap (λ c. family h t ++ cond c (n ∷ []) []) (above t n below) ∙ append-nil (family h t))
+    (giving_open_ids session h (events.Id by n) n (giving_id h by n b) ∙ ap (λ c. open_ids session h ++ cond c (n ∷ []) []) (other (by.session == session) refl) ∙ append-nil (open_ids session h))
+    (id_family_ids h by n t b ∙ ap (λ c. family h t ++ cond c (n ∷ []) []) (above_not t n below) ∙ append-nil (family h t))
     (overflow_kept h (events.Id by n) t (omega arith)) (id_subs h by n t b) (omega arith) i
   where
-    above : (a c : ℕ) → a < c → (c == a) ≡ false
-    above a c g = grind (arith, nat_tests)
-
     other : (c : Bool) → (by.session == session) ≡ c → (by.session == session) ≡ false
     other false e = e
-    other true e = absurd (false≢true (sym (ap (λ l. has l t) (sym (ap (λ s. open_ids s h) (equal_from by.session session e)) ∙ f)) ∙ ap (λ l. has l t) i.own ∙ i.here))
+    other true e = absurd (false≢true (sym (ap (λ l. has l t) (sym (ap (λ s. open_ids s h) (eqb-true by.session session e)) ∙ f)) ∙ ap (λ l. has l t) i.own ∙ i.here))

@@ -2,13 +2,14 @@
 use Rattle.proc_table.specs.Entries.{IsEach}
 use Rattle.proc_table.specs.Lists.{entries_below, some_overflowed}
 use Rattle.proc_table.specs.declared.entry.Entry.{Entry}
-use Rattle.std.proofs.Common.{◌≡◌, ℕ, suc, zero, ◌<◌, ◌≤◌, List, [], ◌∷◌, length, refl, ap, sym, ◌∙◌, arith, Bool, true, false, ◌==◌, ◌||◌, cond, subst, inl, inr, ⊎_elim, ◌⊎◌, nat_lt, map, Less, Equal, Greater}
-use Rattle.std.proofs.lemmas.Bool.{false≢true}
+use Rattle.std.proofs.Common.{◌≡◌, ℕ, suc, zero, ◌<◌, ◌≤◌, List, [], ◌∷◌, length, refl, ap, sym, ◌∙◌, arith, Bool, true, false, ◌==◌, ◌||◌, cond, subst, ⊎_elim, nat_lt, map, Less, Equal, Greater}
+use Rattle.std.proofs.lemmas.Bool.{false≢true, or_cases}
 use Rattle.std.proofs.lemmas.Bool.Decides.{nat_tests}
 use Rattle.std.proofs.lemmas.List.Elements.{All-from_recursion, recursion_from_All}
 use Rattle.std.specs.List.{filter, AllByRecursion, list_any, AllZip, slice_index_or, Any, All}
 use Rattle.std.specs.Ordering.{nat_cmp, is_lt}
-use Rattle.tx_model.proofs.ListSteps.{or_true, all_filter, or_cases}
+use Rattle.std.proofs.Math.Bool.{or-true}
+use Rattle.tx_model.proofs.ListSteps.{all_filter}
 
 pub all-filter : {X : Type 0} (P : X → Type 0) (q : X → Bool) (xs : List X) → All P xs → All P (filter q xs)
 all-filter P q xs a = All-from_recursion P (filter q xs) (all_filter P q xs (recursion_from_All P xs a))
@@ -64,10 +65,6 @@ pub pick : {X : Type 0} (P : X → Type 0) (q : X → Bool) (xs : List X) → Al
 pick P q [] a f = absurd (false≢true f)
 pick P q (x ∷ xs) a f = ⊎_elim (λ e. (x, (a.0, e))) (λ e. pick P q xs a.1 e) (or_cases (q x) (list_any q xs) f)
 
-pub bool_cases : (b : Bool) → (b ≡ true) ⊎ (b ≡ false)
-bool_cases true = inl refl
-bool_cases false = inr refl
-
 -- an entry at a place that has overflowed and whose top is below the limit
 pub over_at : (es : List Entry) (limit k : ℕ) (e : Entry) → k < length es → e ≡ slice_index_or es k e → nat_lt e.top limit ≡ true → e.overflowed ≡ true → some_overflowed (entries_below es limit) ≡ true
 over_at [] limit k e l i t o = absurd (omega arith)
@@ -77,7 +74,7 @@ over_at (x ∷ es) limit zero e l i t o =
 over_at (x ∷ es) limit (suc k) e l i t o = one (nat_lt x.top limit) (over_at es limit k e (omega arith) i t o)
   where
     one : (b : Bool) → some_overflowed (entries_below es limit) ≡ true → some_overflowed (cond b (x ∷ entries_below es limit) (entries_below es limit)) ≡ true
-    one true f = ap (λ b. x.overflowed || b) f ∙ or_true x.overflowed
+    one true f = ap (λ b. x.overflowed || b) f ∙ or-true x.overflowed
     one false f = f
 
 -- what the order of two numbers tells

@@ -1,18 +1,19 @@
 -- One entry, where an event gives a subid.
 use Rattle.proc_table.specs.Entries.{IsEntry}
-use Rattle.std.proofs.Common.{◌≡◌, ℕ, ◌<◌, ◌≤◌, List, [], ◌∷◌, ◌++◌, length, refl, ap, sym, ◌∙◌, arith, Bool, true, false, ◌&&◌, ◌==◌, ◌||◌, append-nil, cond, subst, inr, nat_lt}
+use Rattle.std.proofs.Common.{◌≡◌, ℕ, ◌<◌, ◌≤◌, List, [], ◌∷◌, ◌++◌, length, refl, ap, sym, ◌∙◌, arith, Bool, true, false, ◌&&◌, ◌==◌, ◌||◌, append-nil, cond, subst, inr, nat_lt, eqb-true}
 use Rattle.std.specs.List.{AllByRecursion}
 use Rattle.proc_table.proofs.EntryGrowth.{entry_kept}
 use Rattle.tx_model.proofs.ClosingGrowth.{same_latest}
-use Rattle.tx_model.proofs.FamilyGrowth.{family_member, sub_family_ids}
-use Rattle.tx_model.proofs.IdListSteps.{has-append, has-filter}
-use Rattle.tx_model.proofs.LegalSoundness.{has_given_to}
-use Rattle.tx_model.proofs.ListSteps.{or_true, eqb-refl, not_both, and_both, all_filter, all_push, or_false, equal_from}
-use Rattle.tx_model.proofs.NameBounds.{AreBelow}
+use Rattle.tx_model.proofs.RunningFamily.{family_member}
+use Rattle.tx_model.proofs.GivingGrowth.{sub_family_ids, sub_subs, giving_closed, giving_sub, giving_open_ids}
+use Rattle.std.proofs.lemmas.List.Folds.{list_any-append}
+use Rattle.tx_model.proofs.IdListSteps.{has-filter}
+use Rattle.tx_model.proofs.Soundness.{has_given_to, IsSound}
+use Rattle.std.proofs.Math.Bool.{or-true, or-false}
+use Rattle.tx_model.proofs.ListSteps.{eqb-refl, not_both, all_filter, all_push}
+use Rattle.std.proofs.lemmas.Bool.{and_parts}
+use Rattle.tx_model.proofs.NameBounds.{AreBelow, running_below}
 use Rattle.tx_model.proofs.OverflowSteps.{overflow_kept, overflow_push}
-use Rattle.tx_model.proofs.RunningGrowth.{running_below}
-use Rattle.tx_model.proofs.Soundness.{IsSound}
-use Rattle.tx_model.proofs.SubGrowth.{sub_subs, sub_closed, sub_open_ids}
 use Rattle.tx_model.specs.Events.{given, given_to}
 use Rattle.tx_model.specs.Families.{top}
 use Rattle.tx_model.specs.IdLists.{has}
@@ -29,7 +30,7 @@ pub sub_session : (first : ℕ) (h : List Event) (by : By) (parent : ℕ) (sessi
 sub_session first h by parent session t last subs o s f i = split (by.session == session) refl (top h parent == t) refl
   where
     parts : (r : ℕ) → has (open_ids r h) parent ≡ true → (has (given_to r h) parent ≡ true) × (is_open h parent ≡ true)
-    parts r k = and_both (has (given_to r h) parent) (is_open h parent) (sym (has-filter (is_open h) (given_to r h) parent) ∙ k)
+    parts r k = and_parts (has (given_to r h) parent) (is_open h parent) (sym (has-filter (is_open h) (given_to r h) parent) ∙ k)
 
     runs : has (running h) parent ≡ true
     runs = has-filter (is_open h) (given h) parent ∙ ap (λ b. b && is_open h parent) (has_given_to by.session h parent (parts by.session f).0) ∙ (parts by.session f).1
@@ -38,21 +39,20 @@ sub_session first h by parent session t last subs o s f i = split (by.session ==
     split true d true e = refl
     split false d false e = refl
     split true d false e =
-        not_both (top h parent == t) e
-        (ap (λ u. u == t) (family_member h t parent (sym (ap (λ l. has l parent) (ap (λ r. open_ids r h) (equal_from by.session session d) ∙ i.own)) ∙ f)).1 ∙ eqb-refl t)
+        not_both (top h parent == t) (ap (λ u. u == t) (family_member h t parent (sym (ap (λ l. has l parent) (ap (λ r. open_ids r h) (eqb-true by.session session d) ∙ i.own)) ∙ f)).1 ∙ eqb-refl t) e
     split false d true e =
         let mine : has (open_ids session h) parent ≡ true = ap (λ l. has l parent) i.own ∙ has-filter (λ x. top h x == t) (running h) parent ∙ ap (λ b. b && (top h parent == t)) runs ∙ e in
-        not_both (by.session == session) d (ap (λ r. r == session) (s.one_owner parent by.session session (parts by.session f).0 (parts session mine).0) ∙ eqb-refl session)
+        not_both (by.session == session) (ap (λ r. r == session) (s.one_owner parent by.session session (parts by.session f).0 (parts session mine).0) ∙ eqb-refl session) d
 
 pub sub_kept : (first : ℕ) (h : List Event) (by : By) (parent n : ℕ) (session t last : ℕ) (subs : List ℕ) (o : Bool) → AreBelow n h → is_open h parent ≡ true → parent < n →
     (by.session == session) ≡ false → (top h parent == t) ≡ false →
     IsEntry first h session t last subs o → IsEntry first (h ++ events.Sub by parent n ∷ []) session t last subs o
 sub_kept first h by parent n session t last subs o b open_parent p e g i =
-    let late : latest first (h ++ events.Sub by parent n ∷ []) ≡ latest first h = same_latest first h (h ++ events.Sub by parent n ∷ []) (sub_closed h by parent n b open_parent) in
+    let late : latest first (h ++ events.Sub by parent n ∷ []) ≡ latest first h = same_latest first h (h ++ events.Sub by parent n ∷ []) (giving_closed h (events.Sub by parent n) n (giving_sub h by parent n b open_parent)) in
     let run : running_subs (h ++ events.Sub by parent n ∷ []) t ≡ running_subs h t = sub_subs h by parent n t b p open_parent ∙ ap (λ c. running_subs h t ++ cond c (n ∷ []) []) g ∙ append-nil (running_subs h t) in
     let len : length (running_subs (h ++ events.Sub by parent n ∷ []) t) ≡ length (running_subs h t) = ap length run in
     entry_kept first h (h ++ events.Sub by parent n ∷ []) session t last subs o
-    (sub_open_ids session h by parent n b open_parent ∙ ap (λ c. open_ids session h ++ cond c (n ∷ []) []) e ∙ append-nil (open_ids session h))
+    (giving_open_ids session h (events.Sub by parent n) n (giving_sub h by parent n b open_parent) ∙ ap (λ c. open_ids session h ++ cond c (n ∷ []) []) e ∙ append-nil (open_ids session h))
     (sub_family_ids h by parent n t b open_parent ∙ ap (λ c. family h t ++ cond c (n ∷ []) []) g ∙ append-nil (family h t))
     (overflow_kept h (events.Sub by parent n) t (omega arith)) run (omega arith) i
 
@@ -62,14 +62,14 @@ pub sub_own : (first : ℕ) (h : List Event) (by : By) (parent n : ℕ) (session
 sub_own first h by parent n session t last subs subs' o o' b open_parent p e g flag_is subs_are i =
     let run : running_subs (h ++ events.Sub by parent n ∷ []) t ≡ running_subs h t ++ n ∷ [] = sub_subs h by parent n t b p open_parent ∙ ap (λ c. running_subs h t ++ cond c (n ∷ []) []) g in
     let fam : family (h ++ events.Sub by parent n ∷ []) t ≡ family h t ++ n ∷ [] = sub_family_ids h by parent n t b open_parent ∙ ap (λ c. family h t ++ cond c (n ∷ []) []) g in
-    let one : has (n ∷ []) n ≡ true = or_false (n == n) ∙ eqb-refl n in
+    let one : has (n ∷ []) n ≡ true = or-false (n == n) ∙ eqb-refl n in
     record {
-      own = sub_open_ids session h by parent n b open_parent ∙ ap (λ c. open_ids session h ++ cond c (n ∷ []) []) e ∙ ap (λ l. l ++ n ∷ []) i.own ∙ sym fam;
-      here = ap (λ l. has l t) fam ∙ has-append (family h t) (n ∷ []) t ∙ ap (λ c. c || has (n ∷ []) t) i.here;
+      own = giving_open_ids session h (events.Sub by parent n) n (giving_sub h by parent n b open_parent) ∙ ap (λ c. open_ids session h ++ cond c (n ∷ []) []) e ∙ ap (λ l. l ++ n ∷ []) i.own ∙ sym fam;
+      here = ap (λ l. has l t) fam ∙ list_any-append (λ y. t == y) (family h t) (n ∷ []) ∙ ap (λ c. c || has (n ∷ []) t) i.here;
       flag = flag_is ∙ ap (λ c. c || nat_lt 64 (length (subs ++ n ∷ []))) i.flag ∙ ap (λ l. has_overflowed h t || nat_lt 64 (length (l ++ n ∷ []))) i.subs_are ∙ sym (overflow_push h (events.Sub by parent n) t ∙ ap (λ l. has_overflowed h t || nat_lt 64 (length l)) run);
       subs_are = subs_are ∙ ap (λ l. l ++ n ∷ []) i.subs_are ∙ sym run;
       greatest = subst (AllByRecursion (λ x. x ≤ n)) (sym fam) (all_push (λ x. x ≤ n) (family h t) n (family_up_to) (omega arith));
-      last_is = inr (ap (λ l. has l n) fam ∙ has-append (family h t) (n ∷ []) n ∙ ap (λ c. has (family h t) n || c) one ∙ or_true (has (family h t) n));
+      last_is = inr (ap (λ l. has l n) fam ∙ list_any-append (λ y. n == y) (family h t) (n ∷ []) ∙ ap (λ c. has (family h t) n || c) one ∙ or-true (has (family h t) n));
     }
   where
     weaker : (xs : List ℕ) → AllByRecursion (λ x. x < n) xs → AllByRecursion (λ x. x ≤ n) xs

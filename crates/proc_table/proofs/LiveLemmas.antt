@@ -1,11 +1,14 @@
 -- Live snapshots: each session has one of a name.
-use Rattle.std.proofs.Common.{◌≡◌, ℕ, ◌+◌, ◌≤◌, List, [], ◌∷◌, ◌++◌, length, take, refl, ap, sym, ◌∙◌, inl, inr, ⊎_elim, arith, Bool, true, false, not, ◌&&◌, ◌==◌, ◌||◌, cond, Option, Some, None}
+use Rattle.std.proofs.Common.{◌≡◌, ℕ, ◌+◌, List, [], ◌∷◌, ◌++◌, refl, ap, sym, ◌∙◌, inl, inr, ⊎_elim, arith, Bool, true, false, not, ◌&&◌, ◌==◌, ◌||◌, cond, Option, Some, None, eqb-true}
 use Rattle.std.proofs.lemmas.List.Sums.{sum_by-cons}
 use Rattle.std.specs.Cmp.Lexicographic.{pointwise, same_text}
 use Rattle.std.specs.List.{filter, list_any}
 use Rattle.std.specs.Prelude.{nat_eq, sum_by, IfSome, IfNone}
-use Rattle.tx_model.proofs.ListSteps.{or_true, or_left, eqb-refl, or_right, list_any-push, not_both, and_both, take_whole, equal_from}
+use Rattle.tx_model.proofs.ListSteps.{eqb-refl, list_any-push, not_both}
 use Rattle.tx_model.proofs.Membership.{Has}
+use Rattle.tx_model.proofs.Names.{same_name_refl, same_name_equal}
+use Rattle.std.proofs.Math.Bool.{or-true}
+use Rattle.std.proofs.lemmas.Bool.{or_parts, and_parts}
 use Rattle.tx_model.specs.Events.{same_name}
 use Rattle.tx_model.specs.Horizon.{LiveSnap, is_snap_of}
 use Rattle.proc_table.specs.Lives.{AreApart, live_xmin, others}
@@ -14,24 +17,6 @@ use Rattle.proc_table.specs.Lives.{AreApart, live_xmin, others}
 pointwise_refl : (xs : List ℕ) → pointwise nat_eq xs xs ≡ true
 pointwise_refl [] = refl
 pointwise_refl (x ∷ xs) = rw (eqb-refl x) (pointwise_refl xs)
-
-pub same_name_refl : (xs : List ℕ) → same_name xs xs ≡ true
-same_name_refl xs = ap (λ t. pointwise nat_eq xs t && pointwise nat_eq xs t) (take_whole xs) ∙ ap (λ b. b && b) (pointwise_refl xs)
-
-shorter : (xs ys : List ℕ) → xs ≡ take (length xs) ys → length xs ≤ length ys
-shorter [] ys e = omega arith
-shorter (x ∷ xs) [] e = absurd cc
-shorter (x ∷ xs) (y ∷ ys) e = let f : xs ≡ take (length xs) ys = cc in let k : length xs ≤ length ys = shorter xs ys f in omega arith
-
-pub same_name_equal : (xs ys : List ℕ) → same_name xs ys ≡ true → xs ≡ ys
-same_name_equal xs ys e =
-    let both = and_both (pointwise nat_eq ys (take (length ys) xs)) (pointwise nat_eq xs (take (length xs) ys)) e in
-    let a : ys ≡ take (length ys) xs = same_text ys (take (length ys) xs) (sym both.0) in
-    let b : xs ≡ take (length xs) ys = same_text xs (take (length xs) ys) (sym both.1) in
-    let k : length ys ≤ length xs = shorter ys xs a in
-    let l : length xs ≤ length ys = shorter xs ys b in
-    let n : length ys ≡ length xs = omega arith in
-    sym (a ∙ ap (λ n. take n xs) n ∙ take_whole xs)
 
 pub same_names : (xs ys : List ℕ) → pointwise nat_eq xs ys ≡ same_name xs ys
 same_names xs ys = one (pointwise nat_eq xs ys) refl (same_name xs ys) refl
@@ -44,10 +29,10 @@ same_names xs ys = one (pointwise nat_eq xs ys) refl (same_name xs ys) refl
 
 -- two of one session and name
 pub twin_session : (session : ℕ) (name : List ℕ) (s : LiveSnap) → is_snap_of session name s ≡ true → s.session ≡ session
-twin_session session name s e = equal_from s.session session (and_both (s.session == session) (same_name s.name name) e).0
+twin_session session name s e = eqb-true s.session session (and_parts (s.session == session) (same_name s.name name) e).0
 
 pub twin_name : (session : ℕ) (name : List ℕ) (s : LiveSnap) → is_snap_of session name s ≡ true → s.name ≡ name
-twin_name session name s e = same_name_equal s.name name (and_both (s.session == session) (same_name s.name name) e).1
+twin_name session name s e = same_name_equal s.name name (and_parts (s.session == session) (same_name s.name name) e).1
 
 pub own_twin : (s : LiveSnap) → is_snap_of s.session s.name s ≡ true
 own_twin s = ap (λ b. b && same_name s.name s.name) (eqb-refl s.session) ∙ same_name_refl s.name
@@ -58,24 +43,23 @@ apart_swap s t f = one (is_snap_of s.session s.name t) refl
     one : (b : Bool) → is_snap_of s.session s.name t ≡ b → b ≡ false
     one false e = refl
     one true e =
-        not_both (is_snap_of t.session t.name s) f
-        (ap (λ n. is_snap_of n t.name s) (twin_session s.session s.name t e) ∙ ap (λ n. is_snap_of s.session n s) (twin_name s.session s.name t e) ∙ own_twin s)
+        not_both (is_snap_of t.session t.name s) (ap (λ n. is_snap_of n t.name s) (twin_session s.session s.name t e) ∙ ap (λ n. is_snap_of s.session n s) (twin_name s.session s.name t e) ∙ own_twin s) f
 
 pub apart_push : (ss : List LiveSnap) (t : LiveSnap) → AreApart ss → list_any (is_snap_of t.session t.name) ss ≡ false → AreApart (ss ++ t ∷ [])
 apart_push [] t a f = (refl, tt)
 apart_push (s ∷ ss) t a f = (
   list_any-push (is_snap_of s.session s.name) ss t
       ∙ ap (λ b. b || is_snap_of s.session s.name t) a.0
-      ∙ apart_swap s t (or_left (is_snap_of t.session t.name s) (list_any (is_snap_of t.session t.name) ss) f),
-  apart_push ss t a.1 (or_right (is_snap_of t.session t.name s) (list_any (is_snap_of t.session t.name) ss) f),
+      ∙ apart_swap s t ((or_parts (is_snap_of t.session t.name s) (list_any (is_snap_of t.session t.name) ss) f).0),
+  apart_push ss t a.1 ((or_parts (is_snap_of t.session t.name s) (list_any (is_snap_of t.session t.name) ss) f).1),
 )
 
 any_filtered : {X : Type 0} (p q : X → Bool) (xs : List X) → list_any p xs ≡ false → list_any p (filter q xs) ≡ false
 any_filtered p q [] f = refl
-any_filtered p q (x ∷ xs) f = one (q x) (any_filtered p q xs (or_right (p x) (list_any p xs) f))
+any_filtered p q (x ∷ xs) f = one (q x) (any_filtered p q xs ((or_parts (p x) (list_any p xs) f).1))
   where
     one : (c : Bool) → list_any p (filter q xs) ≡ false → list_any p (cond c (x ∷ filter q xs) (filter q xs)) ≡ false
-    one true g = ap (λ b. b || list_any p (filter q xs)) (or_left (p x) (list_any p xs) f) ∙ g
+    one true g = ap (λ b. b || list_any p (filter q xs)) ((or_parts (p x) (list_any p xs) f).0) ∙ g
     one false g = g
 
 pub apart_filtered : (q : LiveSnap → Bool) (ss : List LiveSnap) → AreApart ss → AreApart (filter q ss)
@@ -88,23 +72,23 @@ apart_filtered q (s ∷ ss) a = one (q s) (apart_filtered q ss a.1)
 
 pub kept_whole : {X : Type 0} (p : X → Bool) (xs : List X) → list_any p xs ≡ false → filter (λ x. not (p x)) xs ≡ xs
 kept_whole p [] f = refl
-kept_whole p (x ∷ xs) f = rw (or_left (p x) (list_any p xs) f) (ap (λ t. x ∷ t) (kept_whole p xs (or_right (p x) (list_any p xs) f)))
+kept_whole p (x ∷ xs) f = rw ((or_parts (p x) (list_any p xs) f).0) (ap (λ t. x ∷ t) (kept_whole p xs ((or_parts (p x) (list_any p xs) f).1)))
 
 pub has_any : {X : Type 0} (p : X → Bool) (xs : List X) (x : X) → Has xs x → p x ≡ true → list_any p xs ≡ true
 has_any p [] x h e = absurd h
-has_any p (y ∷ ys) x h e = ⊎_elim (λ (f : y ≡ x). ap (λ b. b || list_any p ys) (ap p f ∙ e)) (λ t. ap (λ b. p y || b) (has_any p ys x t e) ∙ or_true (p y)) h
+has_any p (y ∷ ys) x h e = ⊎_elim (λ (f : y ≡ x). ap (λ b. b || list_any p ys) (ap p f ∙ e)) (λ t. ap (λ b. p y || b) (has_any p ys x t e) ∙ or-true (p y)) h
 
 -- what is looked up under a name, after one more snapshot and after one less
 pub live_more : (ss : List LiveSnap) (r : LiveSnap) → list_any (is_snap_of r.session r.name) ss ≡ false → (session : ℕ) (name : List ℕ) → live_xmin session name (ss ++ r ∷ []) ≡ cond (is_snap_of session name r) (Some r.xmin) (live_xmin session name ss)
 live_more [] r f session name = refl
 live_more (s ∷ ss) r f session name =
-    one (is_snap_of session name s) refl (live_more ss r (or_right (is_snap_of r.session r.name s) (list_any (is_snap_of r.session r.name) ss) f) session name)
+    one (is_snap_of session name s) refl (live_more ss r ((or_parts (is_snap_of r.session r.name s) (list_any (is_snap_of r.session r.name) ss) f).1) session name)
   where
     apart : is_snap_of session name s ≡ true → (b : Bool) → is_snap_of session name r ≡ b → b ≡ false
     apart e false g = refl
     apart e true g =
-        not_both (is_snap_of r.session r.name s) (or_left (is_snap_of r.session r.name s) (list_any (is_snap_of r.session r.name) ss) f)
-        (ap (λ n. is_snap_of n r.name s) (twin_session session name r g) ∙ ap (λ n. is_snap_of session n s) (twin_name session name r g) ∙ e)
+        not_both (is_snap_of r.session r.name s)
+        (ap (λ n. is_snap_of n r.name s) (twin_session session name r g) ∙ ap (λ n. is_snap_of session n s) (twin_name session name r g) ∙ e) ((or_parts (is_snap_of r.session r.name s) (list_any (is_snap_of r.session r.name) ss) f).0)
 
     one : (b : Bool) → is_snap_of session name s ≡ b → live_xmin session name (ss ++ r ∷ []) ≡ cond (is_snap_of session name r) (Some r.xmin) (live_xmin session name ss) →
         cond b (Some s.xmin) (live_xmin session name (ss ++ r ∷ [])) ≡ cond (is_snap_of session name r) (Some r.xmin) (cond b (Some s.xmin) (live_xmin session name ss))
@@ -127,12 +111,12 @@ live_others (s ∷ ss) r session name =
         live_xmin session name (cond (not b) (s ∷ others r.session r.name ss) (others r.session r.name ss)) ≡ cond d None (cond c (Some s.xmin) rest)
     one true e c f true g i = i
     one true e true f false g i =
-        not_both (is_snap_of session name r) g
-        (ap (λ n. (n == session) && same_name r.name name) (sym (twin_session r.session r.name s e)) ∙ ap (λ n. (s.session == session) && same_name n name) (sym (twin_name r.session r.name s e)) ∙ f)
+        not_both (is_snap_of session name r)
+        (ap (λ n. (n == session) && same_name r.name name) (sym (twin_session r.session r.name s e)) ∙ ap (λ n. (s.session == session) && same_name n name) (sym (twin_name r.session r.name s e)) ∙ f) g
     one true e false f false g i = i
     one false e true f true g i =
-        not_both (is_snap_of r.session r.name s) e
-        (ap (λ n. is_snap_of n r.name s) (twin_session session name r g) ∙ ap (λ n. is_snap_of session n s) (twin_name session name r g) ∙ f)
+        not_both (is_snap_of r.session r.name s)
+        (ap (λ n. is_snap_of n r.name s) (twin_session session name r g) ∙ ap (λ n. is_snap_of session n s) (twin_name session name r g) ∙ f) e
     one false e c f false g i = ap (λ b. cond b (Some s.xmin) (live_xmin session name (others r.session r.name ss))) f ∙ ap (cond c (Some s.xmin)) i
     one false e false f true g i = ap (λ b. cond b (Some s.xmin) (live_xmin session name (others r.session r.name ss))) f ∙ i
 
@@ -186,6 +170,6 @@ one_taken g (s ∷ ss) r a h =
     another : Has ss r → (b : Bool) → is_snap_of r.session r.name s ≡ b → b ≡ false
     another t false e = refl
     another t true e =
-        not_both (list_any (is_snap_of s.session s.name) ss) a.0
+        not_both (list_any (is_snap_of s.session s.name) ss)
         (has_any (is_snap_of s.session s.name) ss r t
-        (ap (λ n. is_snap_of n s.name r) (twin_session r.session r.name s e) ∙ ap (λ n. is_snap_of r.session n r) (twin_name r.session r.name s e) ∙ own_twin r))
+        (ap (λ n. is_snap_of n s.name r) (twin_session r.session r.name s e) ∙ ap (λ n. is_snap_of r.session n r) (twin_name r.session r.name s e) ∙ own_twin r)) a.0

@@ -14,7 +14,8 @@ use Rattle.tx_model.specs.Events.{same_name}
 use Rattle.tx_model.specs.Horizon.{LiveSnap, is_snap_of}
 use Rattle.proc_table.specs.Lives.{HoldsLive, IsTally, one_more, some_of, with_xmin, xmin_under, kept_xmin, others}
 use Rattle.proc_table.specs.declared.live.LiveSnapshots.{LiveSnapshots}
-use Rattle.proc_table.proofs.LiveLemmas.{same_names, same_name_refl, same_name_equal, apart_push, apart_filtered, live_more, live_others, one_taken}
+use Rattle.proc_table.proofs.LiveLemmas.{same_names, apart_push, apart_filtered, live_more, live_others, one_taken}
+use Rattle.tx_model.proofs.Names.{same_name_refl, same_name_equal}
 use Rattle.proc_table.proofs.XminTallies.{with_push}
 
 -- keys compare as names
@@ -45,7 +46,7 @@ module _ {Z : Type 0} where
     where
       apart : same_name name ns ≡ false → (k : Vec ℕ Z) → is_eq (slice_cmp nat_cmp name k.items) ≡ true → (b : Bool) → is_eq (slice_cmp nat_cmp ns k.items) ≡ b → b ≡ false
       apart e k f false g = refl
-      apart e k f true g = not_both (same_name name ns) e (ap (same_name name) (key_equal ns k.items g ∙ sym (key_equal name k.items f)) ∙ same_name_refl name)
+      apart e k f true g = not_both (same_name name ns) (ap (same_name name) (key_equal ns k.items g ∙ sym (key_equal name k.items f)) ∙ same_name_refl name) e
 
       one : (b : Bool) → same_name name ns ≡ b → xmin_under ns n ≡ cond b w (xmin_under ns m)
       one true e = ap (λ l. xmin_under l n) (sym (same_name_equal name ns e)) ∙ h.1

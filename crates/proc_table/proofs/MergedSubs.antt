@@ -1,11 +1,12 @@
 -- The subids of some tops, top by top, are those of them all in another order.
+use Rattle.std.proofs.Math.Bool.{and-false}
 use Rattle.std.proofs.Common.{◌≡◌, ℕ, ◌<◌, List, [], ◌∷◌, ◌++◌, refl, ap, sym, ◌∙◌, arith, Bool, true, false, not, ◌&&◌, ◌==◌, ◌||◌, subst}
 use Rattle.std.proofs.lemmas.Bool.Decides.{nat_tests}
 use Rattle.std.proofs.lemmas.List.Elements.{filter_agree}
 use Rattle.std.proofs.lemmas.List.Sorted.{IsPermutation-refl, IsPermutation-sym, IsPermutation-trans, IsPermutation-append, IsPermutation-filter_both}
 use Rattle.std.specs.List.{filter, AllByRecursion, list_any, flat_map}
 use Rattle.std.specs.List.Sorted.{IsPermutation}
-use Rattle.tx_model.proofs.ListSteps.{filter_in_turn}
+use Rattle.tx_model.proofs.ListSteps.{filter_in_turn, equal_swap}
 use Rattle.tx_model.specs.Families.{top, is_top}
 use Rattle.tx_model.specs.IdLists.{Ascending}
 use Rattle.tx_model.specs.Running.{running}
@@ -23,9 +24,6 @@ not_of_rest t u (v ∷ ts) a e = rw (apart t u v a.0 e) (not_of_rest t u ts a.1 
 never : (xs : List ℕ) (q : ℕ → Bool) → ((x : ℕ) → q x ≡ false) → filter q xs ≡ []
 never [] q f = refl
 never (x ∷ xs) q f = rw (f x) (never xs q f)
-
-swap : (a b : ℕ) → (a == b) ≡ (b == a)
-swap a b = grind (arith, nat_tests)
 
 mine_of : (xs : List ℕ) (b c d c' : ℕ → Bool) → ((x : ℕ) → c' x ≡ c x) → filter c (filter (λ x. not (b x) && (c' x || d x)) xs) ≡ filter (λ x. c x && not (b x)) xs
 mine_of xs b c d c' e =
@@ -58,16 +56,12 @@ joined us vs ws whole own other o mine rest p =
     (IsPermutation-sym whole (filter own whole ++ filter other whole) (IsPermutation-filter_both own other o whole))
 
 pub grouped : (h : List Event) (ts : List ℕ) → Ascending ts → IsPermutation (flat_map (running_subs h) ts) (filter (λ x. not (is_top h x) && list_any (λ t. t == top h x) ts) (running h))
-grouped h [] a = subst (IsPermutation []) (sym (never (running h) (λ x. not (is_top h x) && false) (λ x. and_false (not (is_top h x))))) (IsPermutation-refl [])
-  where
-    and_false : (b : Bool) → (b && false) ≡ false
-    and_false true = refl
-    and_false false = refl
+grouped h [] a = subst (IsPermutation []) (sym (never (running h) (λ x. not (is_top h x) && false) (λ x. and-false (not (is_top h x))))) (IsPermutation-refl [])
 grouped h (t ∷ ts) a =
     let any : ℕ → Bool = λ x. list_any (λ t. t == top h x) ts in
     let own : ℕ → Bool = λ x. top h x == t in
     let other : ℕ → Bool = λ x. not (top h x == t) in
     joined (running_subs h t) (flat_map (running_subs h) ts) (filter (λ x. not (is_top h x) && any x) (running h)) (filter (λ x. not (is_top h x) && ((t == top h x) || any x)) (running h)) own other
-    (λ x. refl) (mine_of (running h) (is_top h) own any (λ x. t == top h x) (λ x. swap t (top h x)))
-    (rest_of (running h) (is_top h) own any (λ x. t == top h x) (λ x. swap t (top h x)) (λ x e. not_of_rest t (top h x) ts a.0 e))
+    (λ x. refl) (mine_of (running h) (is_top h) own any (λ x. t == top h x) (λ x. equal_swap t (top h x)))
+    (rest_of (running h) (is_top h) own any (λ x. t == top h x) (λ x. equal_swap t (top h x)) (λ x e. not_of_rest t (top h x) ts a.0 e))
     (grouped h ts a.1)

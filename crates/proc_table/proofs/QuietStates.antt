@@ -1,4 +1,5 @@
 -- The state after an event that gives and closes nothing: a snapshot, a drop, an announcement, a question.
+use Rattle.tx_model.proofs.Extremes.{fold_min_start}
 use Rattle.proc_table.proofs.Bounds.{next_id_to}
 use Rattle.proc_table.proofs.LiveLemmas.{own_twin, has_any, one_taken}
 use Rattle.proc_table.proofs.SnapshotLemmas.{xmin_is}
@@ -26,10 +27,6 @@ use Rattle.tx_model.specs.declared.record.Counters.{Counters}
 use Rattle.xid_order.specs.Ids.{next_id}
 use Rattle.tx_model.specs.declared.event.Event.TheVariants as events
 
-fold_min_to : (xs : List ℕ) (z : ℕ) → fold min z xs ≤ z
-fold_min_to [] z = omega arith
-fold_min_to (y ∷ xs) z = let h : fold min (min z y) xs ≤ min z y = fold_min_to xs (min z y) in omega arith
-
 pub oldest_xmin_is : (base : Counters) (h : List Event) (n oldest late promised : ℕ) (entries : List Entry) (lives : LiveSnapshots) → IsState base h n oldest late promised entries lives →
     fold min (fold min (snapshot_xmax base.next h) (tops_of entries)) (map (λ (s : LiveSnap). s.xmin) (live_snaps base.next h)) ≡ oldest_xmin base.next h
 oldest_xmin_is base h n oldest late promised entries lives s = ap (λ m. fold min m (map (λ (s : LiveSnap). s.xmin) (live_snaps base.next h))) (xmin_is base h n oldest late promised entries lives s)
@@ -43,8 +40,8 @@ state_asked base h n oldest late promised entries lives by x s turn =
 pub state_raised : (base : Counters) (h : List Event) (n oldest late promised : ℕ) (entries : List Entry) (lives : LiveSnapshots) (by : By) (new : ℕ) → IsState base h n oldest late promised entries lives → InTurn by h → oldest_id base.oldest h ≤ new → new ≤ oldest_xmin base.next h →
     IsState base (h ++ events.Oldest by new ∷ []) n new late promised entries lives
 state_raised base h n oldest late promised entries lives by new s turn from to =
-    let a : oldest_xmin base.next h ≤ snapshot_xmin base.next h = fold_min_to (map (λ (s : LiveSnap). s.xmin) (live_snaps base.next h)) (snapshot_xmin base.next h) in
-    let b : snapshot_xmin base.next h ≤ snapshot_xmax base.next h = fold_min_to (running_tops h) (snapshot_xmax base.next h) in
+    let a : oldest_xmin base.next h ≤ snapshot_xmin base.next h = fold_min_start (snapshot_xmin base.next h) (map (λ (s : LiveSnap). s.xmin) (live_snaps base.next h)) in
+    let b : snapshot_xmin base.next h ≤ snapshot_xmax base.next h = fold_min_start (snapshot_xmax base.next h) (running_tops h) in
     let c : next_id late < 2 ^ 63 = next_id_to late (late_bounds base h n oldest late promised entries lives s).1 in
     let d : snapshot_xmax base.next h ≡ next_id late = ap next_id (sym s.latest_is) in
     state_quiet base h (events.Oldest by new) n oldest new late promised promised entries lives lives s tt (from, to) turn refl (omega arith) s.live s.room

@@ -6,13 +6,13 @@ use Rattle.proc_table.specs.Lives.{live_xmin}
 use Rattle.proc_table.specs.State.{IsState}
 use Rattle.proc_table.specs.declared.entry.Entry.{Entry}
 use Rattle.proc_table.specs.declared.live.LiveSnapshots.{LiveSnapshots}
-use Rattle.std.proofs.Common.{◌≡◌, ℕ, suc, ◌<◌, List, [], ◌∷◌, length, Some, ap, sym, ◌∙◌, arith, true, false, ◌==◌, Contains, subst, ⊎_elim, Option, None}
-use Rattle.std.proofs.lemmas.Bool.{false≢true}
+use Rattle.std.proofs.Common.{◌≡◌, ℕ, suc, ◌<◌, List, [], ◌∷◌, length, Some, ap, sym, ◌∙◌, arith, true, false, ◌==◌, Contains, subst, ⊎_elim, Option, None, eqb-true}
+use Rattle.std.proofs.lemmas.Bool.{false≢true, or_cases}
 use Rattle.std.specs.List.{Any, list_any}
 use Rattle.std.specs.Prelude.{IfSome, IfNone}
-use Rattle.tx_model.proofs.FamilyGrowth.{family_member}
-use Rattle.tx_model.proofs.ListSteps.{eqb-refl, or_cases, equal_from}
+use Rattle.tx_model.proofs.ListSteps.{eqb-refl}
 use Rattle.tx_model.proofs.Membership.{Has, has_contains, contains_has as contains_member}
+use Rattle.tx_model.proofs.RunningFamily.{family_member}
 use Rattle.tx_model.specs.Families.{is_top}
 use Rattle.tx_model.specs.Horizon.{LiveSnap, live_snaps, is_live, is_snap_of}
 use Rattle.tx_model.specs.IdLists.{has}
@@ -25,7 +25,7 @@ pub contains_has : (xs : List ℕ) (x : ℕ) → has xs x ≡ true → Contains 
 contains_has [] x f = absurd (false≢true f)
 contains_has (y ∷ xs) x f =
     ⊎_elim
-    (λ e. (0, (let l : 0 < length (y ∷ xs) = omega arith in l), sym (equal_from x y e)))
+    (λ e. (0, (let l : 0 < length (y ∷ xs) = omega arith in l), sym (eqb-true x y e)))
     (λ e. let c = contains_has xs x e in let l : c.0 < length xs = c.1 in (suc c.0, (let m : suc c.0 < length (y ∷ xs) = omega arith in m), c.2))
     (or_cases (x == y) (has xs x) f)
 

@@ -1,7 +1,7 @@
 -- What the table lists is what a snapshot holds.
 use Rattle.proc_table.proofs.EntryLists.{map_filter}
-use Rattle.proc_table.proofs.MergedSubs.{grouped, grouped}
-use Rattle.proc_table.proofs.SortedSame.{sorted_same, sorted_same}
+use Rattle.proc_table.proofs.MergedSubs.{grouped}
+use Rattle.proc_table.proofs.SortedSame.{sorted_same}
 use Rattle.proc_table.specs.Entries.{IsEntryAt}
 use Rattle.proc_table.specs.Lists.{tops_of, subs_of, entries_below, some_overflowed, AreSorted, AreListed}
 use Rattle.proc_table.specs.State.{IsState}
@@ -12,7 +12,7 @@ use Rattle.std.proofs.lemmas.List.Sorted.{IsPermutation-sym, IsPermutation-trans
 use Rattle.std.specs.List.{filter, AllByRecursion, list_any, fold, flat_map}
 use Rattle.std.specs.List.Sorted.{IsPermutation}
 use Rattle.tx_model.proofs.IdListSteps.{ascending_filtered}
-use Rattle.tx_model.proofs.LegalSoundness.{legal_sound}
+use Rattle.tx_model.proofs.Soundness.{legal_sound}
 use Rattle.tx_model.specs.Events.{given}
 use Rattle.tx_model.specs.Families.{top, is_top}
 use Rattle.tx_model.specs.IdLists.{Ascending}

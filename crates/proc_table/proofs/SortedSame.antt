@@ -1,14 +1,13 @@
 -- A sorted list is the ascending list of the same items.
-use Rattle.std.proofs.Common.{◌≡◌, ℕ, suc, ◌<◌, ◌≤◌, List, [], ◌∷◌, length, refl, ap, sym, ◌∙◌, arith, Bool, true, false, ◌==◌, cond, subst, ◌+◌, nat_lt, add-one, Less}
+use Rattle.std.proofs.Common.{◌≡◌, ℕ, suc, ◌<◌, ◌≤◌, List, [], ◌∷◌, length, refl, ap, sym, ◌∙◌, arith, Bool, true, false, ◌==◌, cond, subst, ◌+◌, nat_lt, add-one, Less, eqb-true, ltb-true, ltb-false}
 use Rattle.std.proofs.lemmas.Bool.{false≢true}
-use Rattle.std.proofs.lemmas.Bool.Decides.{nat_tests}
 use Rattle.std.proofs.lemmas.List.Sorted.{sum_by-IsPermutation}
 use Rattle.std.proofs.lemmas.List.Sums.{sum_by-cons}
 use Rattle.std.specs.Cmp.{nat_cmp_is}
 use Rattle.std.specs.List.{AllByRecursion, slice_index_or, sum_by}
 use Rattle.std.specs.List.Sorted.{IsPermutation, IsSorted}
 use Rattle.std.specs.Ordering.{nat_cmp, is_lt}
-use Rattle.tx_model.proofs.ListSteps.{all_weaker, eqb-refl, equal_from}
+use Rattle.tx_model.proofs.ListSteps.{all_weaker, eqb-refl}
 use Rattle.tx_model.specs.IdLists.{Ascending}
 
 abbrev pub Rising : List ℕ → Type 0
@@ -18,15 +17,9 @@ Rising (x ∷ xs) = AllByRecursion (λ y. x ≤ y) xs × Rising xs
 not_lt : (a b : ℕ) → is_lt (nat_cmp b a) ≡ false → a ≤ b
 not_lt a b f = split (nat_lt b a) refl
   where
-    is_less : (a b : ℕ) → nat_lt a b ≡ true → a < b
-    is_less a b f = grind (arith, nat_tests)
-
-    not_less : (a b : ℕ) → nat_lt a b ≡ false → b ≤ a
-    not_less a b f = grind (arith, nat_tests)
-
     split : (c : Bool) → nat_lt b a ≡ c → a ≤ b
-    split true e = absurd (false≢true (sym f ∙ sym (ap is_lt (nat_cmp_is b a Less (is_less b a e)))))
-    split false e = not_less b a e
+    split true e = absurd (false≢true (sym f ∙ sym (ap is_lt (nat_cmp_is b a Less (ltb-true b a e)))))
+    split false e = ltb-false b a e
 
 abbrev pub Steps : List ℕ → Type 0
 Steps xs = (k : ℕ) (d : ℕ) → suc k < length xs → is_lt (nat_cmp (slice_index_or xs (suc k) d) (slice_index_or xs k d)) ≡ false
@@ -47,7 +40,7 @@ low_bound b z [] a s = absurd (omega arith)
 low_bound b z (w ∷ l) a s = split (w == z) refl (low_bound b z l a.1) (subst (λ n. 1 ≤ n) (sum_by-cons (λ w. cond (w == z) 1 0) w l) s)
   where
     split : (c : Bool) → (w == z) ≡ c → (1 ≤ sum_by (λ w. cond (w == z) 1 0) l → b ≤ z) → 1 ≤ cond c 1 0 + sum_by (λ w. cond (w == z) 1 0) l → b ≤ z
-    split true e i n = subst (λ v. b ≤ v) (equal_from w z e) a.0
+    split true e i n = subst (λ v. b ≤ v) (eqb-true w z e) a.0
     split false e i n = i (omega arith)
 
 counted : (z : ℕ) (l : List ℕ) → 1 ≤ sum_by (λ w. cond (w == z) 1 0) (z ∷ l)

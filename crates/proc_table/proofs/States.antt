@@ -13,12 +13,16 @@ use Rattle.std.proofs.lemmas.List.Folds.{list_any-append}
 use Rattle.std.specs.List.{list_any}
 use Rattle.tx_model.proofs.ClosingGrowth.{same_latest}
 use Rattle.tx_model.proofs.HorizonSteps.{live_push, oldest_push}
-use Rattle.tx_model.proofs.LegalSoundness.{legal_sound}
+use Rattle.tx_model.proofs.Soundness.{legal_sound}
 use Rattle.tx_model.proofs.LineGrowth.{legal_push}
-use Rattle.tx_model.proofs.ListSteps.{length_push, map_push, or_left, all_weaker, or_right, all_push}
+use Rattle.tx_model.proofs.ListSteps.{length_push, all_weaker, all_push}
+use Rattle.std.proofs.lemmas.List.{map_push}
+use Rattle.std.proofs.lemmas.Bool.{or_parts}
 use Rattle.tx_model.proofs.NameBounds.{AreBelow}
-use Rattle.tx_model.proofs.RunningGrowth.{id_closed, IsQuiet, id_running, quiet_given, quiet_running, quiet_open_ids, id_open_ids, quiet_tops, id_tops, quiet_closed}
-use Rattle.tx_model.proofs.Soundness.{next_above, next_after}
+use Rattle.tx_model.proofs.GivingGrowth.{giving_closed, giving_id, giving_running, giving_open_ids, id_tops}
+use Rattle.tx_model.proofs.QuietGrowth.{IsQuiet, quiet_given, quiet_running, quiet_open_ids, quiet_tops, quiet_closed}
+use Rattle.tx_model.proofs.IdOrder.{next_above}
+use Rattle.tx_model.proofs.GivenGrowth.{next_after}
 use Rattle.tx_model.specs.History.{nth_id, MayCome, ComesInTurn}
 use Rattle.tx_model.specs.Horizon.{announced_after, live_up, live_snaps}
 use Rattle.tx_model.specs.Limits.{stop_limit}
@@ -39,7 +43,7 @@ pub state_id : (base : Counters) (h : List Event) (by : By) (n oldest late promi
 state_id base h by n oldest late promised entries lives new s below turn none a b c d e =
     let under : AreBelow n h = subst (λ t. AreBelow t h) (sym s.next_is) (legal_sound base h s.legal).below in
     let up : n < next_id n = next_above n in
-    let more : length (running (h ++ events.Id by n ∷ [])) ≡ suc (length (running h)) = ap length (id_running h by n under) ∙ length_push (running h) n in
+    let more : length (running (h ++ events.Id by n ∷ [])) ≡ suc (length (running h)) = ap length (giving_running h (events.Id by n) n (giving_id h by n under)) ∙ length_push (running h) n in
     let room : length (running h) + length (live_snaps base.next h) ≤ promised = s.room in
     let kept : live_snaps base.next (h ++ events.Id by n ∷ []) ≡ live_snaps base.next h = live_push base.next h (events.Id by n) in
     let as_many : length (live_snaps base.next (h ++ events.Id by n ∷ [])) ≡ length (live_snaps base.next h) = ap length kept in
@@ -48,16 +52,16 @@ state_id base h by n oldest late promised entries lives new s below turn none a 
       legal = legal_push base h (events.Id by n) s.legal (record { next = s.next_is; below_stop = subst (λ o. n < stop_limit o) s.oldest_is below }, none) turn;
       next_is = ap next_id s.next_is ∙ sym (next_after base.next h (events.Id by n) n refl);
       oldest_is = s.oldest_is ∙ sym (oldest_push base.oldest h (events.Id by n));
-      latest_is = s.latest_is ∙ sym (same_latest base.next h (h ++ events.Id by n ∷ []) (id_closed h by n under));
+      latest_is = s.latest_is ∙ sym (same_latest base.next h (h ++ events.Id by n ∷ []) (giving_closed h (events.Id by n) n (giving_id h by n under)));
       tops = map_push (λ (e : Entry). e.top) entries new ∙ ap (λ t. tops_of entries ++ t ∷ []) b ∙ ap (λ l. l ++ n ∷ []) s.tops ∙ sym (id_tops h by n under);
       each = all_push (IsEntryAt base.next (h ++ events.Id by n ∷ [])) entries new
           (all_weaker (IsEntryAt base.next h) (IsEntryAt base.next (h ++ events.Id by n ∷ [])) (λ x i. entry_id_other base.next h by n x.session x.top x.last x.subs.items x.overflowed under none i) entries s.each)
           (entry_same base.next (h ++ events.Id by n ∷ []) new.session new.top new.last by.session n n new.subs.items [] new.overflowed false a b c d e (entry_id_new base.next h by n under none));
       others = λ q f.
           let g : (list_any (λ e. e.session == q) entries || list_any (λ e. e.session == q) (new ∷ [])) ≡ false = sym (list_any-append (λ (e : Entry). e.session == q) entries (new ∷ [])) ∙ f in
-          id_open_ids q h by n under
-          ∙ ap (λ l. l ++ cond (by.session == q) (n ∷ []) []) (s.others q (or_left (list_any (λ e. e.session == q) entries) (list_any (λ e. e.session == q) (new ∷ [])) g))
-          ∙ ap (λ c. cond c (n ∷ []) []) (sym (ap (λ r. r == q) a) ∙ or_left (new.session == q) false (or_right (list_any (λ e. e.session == q) entries) (list_any (λ e. e.session == q) (new ∷ [])) g));
+          giving_open_ids q h (events.Id by n) n (giving_id h by n under)
+          ∙ ap (λ l. l ++ cond (by.session == q) (n ∷ []) []) (s.others q ((or_parts (list_any (λ e. e.session == q) entries) (list_any (λ e. e.session == q) (new ∷ [])) g).0))
+          ∙ ap (λ c. cond c (n ∷ []) []) (sym (ap (λ r. r == q) a) ∙ (or_parts (new.session == q) false ((or_parts (list_any (λ e. e.session == q) entries) (list_any (λ e. e.session == q) (new ∷ [])) g).1)).0);
       live = subst (λ ss. HoldsLive ss lives) (sym kept) s.live;
       room = omega arith;
       next_to = next_id_to n (let st : stop_limit oldest + 1 ≤ 2 ^ 63 = stop_to oldest in omega arith);

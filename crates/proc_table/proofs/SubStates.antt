@@ -9,19 +9,18 @@ use Rattle.proc_table.specs.State.{IsState}
 use Rattle.proc_table.specs.Table.{InTurn}
 use Rattle.proc_table.specs.declared.entry.Entry.{Entry}
 use Rattle.proc_table.specs.declared.live.LiveSnapshots.{LiveSnapshots}
-use Rattle.std.proofs.Common.{◌≡◌, ℕ, suc, ◌<◌, ◌≤◌, List, [], ◌∷◌, ◌++◌, length, refl, ap, sym, ◌∙◌, arith, Bool, true, false, ◌==◌, cond, Contains, subst, ◌+◌, ◌^◌}
+use Rattle.std.proofs.Common.{◌≡◌, ℕ, suc, ◌<◌, ◌≤◌, List, [], ◌∷◌, ◌++◌, length, refl, ap, sym, ◌∙◌, arith, Bool, true, false, ◌==◌, cond, Contains, subst, ◌+◌, ◌^◌, eqb-true}
 use Rattle.std.specs.List.{list_any, AllZip}
 use Rattle.tx_model.proofs.ClosingGrowth.{same_latest}
-use Rattle.tx_model.proofs.FamilyGrowth.{equal_swap}
+use Rattle.tx_model.proofs.ListSteps.{equal_swap, length_push, not_both}
 use Rattle.tx_model.proofs.HorizonSteps.{live_push, oldest_push}
-use Rattle.tx_model.proofs.IdListSteps.{has_contains, all_has}
-use Rattle.tx_model.proofs.LegalSoundness.{legal_sound, has_given_to, open_member}
+use Rattle.tx_model.proofs.IdListSteps.{contains_true, all_has}
+use Rattle.tx_model.proofs.Soundness.{legal_sound, has_given_to, open_member, IsSound}
 use Rattle.tx_model.proofs.LineGrowth.{legal_push}
-use Rattle.tx_model.proofs.ListSteps.{length_push, not_both, equal_from}
-use Rattle.tx_model.proofs.NameBounds.{AreBelow}
-use Rattle.tx_model.proofs.RunningGrowth.{given_below}
-use Rattle.tx_model.proofs.Soundness.{IsSound, next_above, next_after}
-use Rattle.tx_model.proofs.SubGrowth.{sub_running, sub_tops, sub_closed, sub_open_ids}
+use Rattle.tx_model.proofs.NameBounds.{AreBelow, given_below}
+use Rattle.tx_model.proofs.IdOrder.{next_above}
+use Rattle.tx_model.proofs.GivenGrowth.{next_after}
+use Rattle.tx_model.proofs.GivingGrowth.{giving_running, giving_sub, sub_tops, giving_closed, giving_open_ids}
 use Rattle.tx_model.specs.Events.{given}
 use Rattle.tx_model.specs.Horizon.{live_snaps}
 use Rattle.tx_model.specs.IdLists.{has}
@@ -55,10 +54,10 @@ pub state_sub : (base : Counters) (h : List Event) (by : By) (parent n oldest la
 state_sub base h by parent n oldest late promised entries entries' lives s below turn con z =
     let under : AreBelow n h = subst (λ t. AreBelow t h) (sym s.next_is) (legal_sound base h s.legal).below in
     let up : n < next_id n = next_above n in
-    let f : has (open_ids by.session h) parent ≡ true = has_contains (open_ids by.session h) parent con in
+    let f : has (open_ids by.session h) parent ≡ true = contains_true (open_ids by.session h) parent con in
     let o : is_open h parent ≡ true = (open_member by.session h parent f).1 in
     let p : parent < n = all_has (λ x. x < n) (given h) parent (given_below n h under) (has_given_to by.session h parent (open_member by.session h parent f).0) in
-    let more : length (running (h ++ events.Sub by parent n ∷ [])) ≡ suc (length (running h)) = ap length (sub_running h by parent n under o) ∙ length_push (running h) n in
+    let more : length (running (h ++ events.Sub by parent n ∷ [])) ≡ suc (length (running h)) = ap length (giving_running h (events.Sub by parent n) n (giving_sub h by parent n under o)) ∙ length_push (running h) n in
     let room : length (running h) + length (live_snaps base.next h) ≤ promised = s.room in
     let kept : live_snaps base.next (h ++ events.Sub by parent n ∷ []) ≡ live_snaps base.next h = live_push base.next h (events.Sub by parent n) in
     let as_many : length (live_snaps base.next (h ++ events.Sub by parent n ∷ [])) ≡ length (live_snaps base.next h) = ap length kept in
@@ -67,11 +66,11 @@ state_sub base h by parent n oldest late promised entries entries' lives s below
       legal = legal_push base h (events.Sub by parent n) s.legal (record { next = s.next_is; below_stop = subst (λ o. n < stop_limit o) s.oldest_is below }, con) turn;
       next_is = ap next_id s.next_is ∙ sym (next_after base.next h (events.Sub by parent n) n refl);
       oldest_is = s.oldest_is ∙ sym (oldest_push base.oldest h (events.Sub by parent n));
-      latest_is = s.latest_is ∙ sym (same_latest base.next h (h ++ events.Sub by parent n ∷ []) (sub_closed h by parent n under o));
+      latest_is = s.latest_is ∙ sym (same_latest base.next h (h ++ events.Sub by parent n ∷ []) (giving_closed h (events.Sub by parent n) n (giving_sub h by parent n under o)));
       tops = same_zip (λ (e : Entry). e.top) (IsAdded by.session n) (λ x y a. a.same_top) entries entries' z ∙ s.tops ∙ sym (sub_tops h by parent n under p o);
       each = each_zip (IsEntryAt base.next h) (IsEntryAt base.next (h ++ events.Sub by parent n ∷ [])) (IsAdded by.session n) (added_entry base.next h by parent n (legal_sound base h s.legal) under o p f) entries entries' s.each z;
       others = λ q g.
-          sub_open_ids q h by parent n under o
+          giving_open_ids q h (events.Sub by parent n) n (giving_sub h by parent n under o)
           ∙ ap (λ l. l ++ cond (by.session == q) (n ∷ []) []) (none q g)
           ∙ not_mine q (none q g) (by.session == q) refl;
       live = subst (λ ss. HoldsLive ss lives) (sym kept) s.live;
@@ -85,7 +84,7 @@ state_sub base h by parent n oldest late promised entries entries' lives s below
 
     not_mine : (q : ℕ) → open_ids q h ≡ [] → (c : Bool) → (by.session == q) ≡ c → cond c (n ∷ []) [] ≡ []
     not_mine q g false e = refl
-    not_mine q g true e = not_both (has [] parent) refl (sym (ap (λ l. has l parent) (ap (λ r. open_ids r h) (equal_from by.session q e) ∙ g)) ∙ has_contains (open_ids by.session h) parent con)
+    not_mine q g true e = not_both (has [] parent) (sym (ap (λ l. has l parent) (ap (λ r. open_ids r h) (eqb-true by.session q e) ∙ g)) ∙ contains_true (open_ids by.session h) parent con) refl
 
 same_entry : (first : ℕ) (h : List Event) (x y : Entry) → IsEntryAt first h x → IsSame x y → IsEntryAt first h y
 same_entry first h x y i a = entry_same first h y.session y.top y.last x.session x.top x.last y.subs.items x.subs.items y.overflowed x.overflowed a.session a.top a.last a.subs a.overflowed i

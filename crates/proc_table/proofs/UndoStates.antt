@@ -1,6 +1,8 @@
 -- The state after the rollback of a savepoint.
+use Rattle.std.proofs.lemmas.Bool.{cases_Bool}
+use Rattle.tx_model.proofs.Lineages.{line_head, top_line, enclosing_line}
 use Rattle.proc_table.proofs.EntryClosing.{entry_closing}
-use Rattle.proc_table.proofs.EntryLists.{each_zip, bool_cases, any_zip, pick, same_zip}
+use Rattle.proc_table.proofs.EntryLists.{each_zip, any_zip, pick, same_zip}
 use Rattle.proc_table.proofs.EntrySub.{sub_session}
 use Rattle.proc_table.proofs.States.{entry_same}
 use Rattle.proc_table.specs.Entries.{IsEntryAt, IsTaken}
@@ -9,22 +11,20 @@ use Rattle.proc_table.specs.State.{IsState}
 use Rattle.proc_table.specs.Table.{InTurn}
 use Rattle.proc_table.specs.declared.entry.Entry.{Entry}
 use Rattle.proc_table.specs.declared.live.LiveSnapshots.{LiveSnapshots}
-use Rattle.std.proofs.Common.{◌≡◌, ℕ, ◌-◌, ◌<◌, ◌≤◌, List, [], ◌∷◌, ◌++◌, length, reverse, refl, ap, sym, ◌∙◌, arith, Bool, true, false, not, ◌&&◌, ◌==◌, ◌||◌, cond, subst, max, inl, inr, ⊎_elim, ◌⊎◌, ◌+◌}
+use Rattle.std.proofs.Common.{◌≡◌, ℕ, ◌-◌, ◌<◌, ◌≤◌, List, [], ◌∷◌, ◌++◌, length, reverse, refl, ap, sym, ◌∙◌, arith, Bool, true, false, not, ◌&&◌, ◌==◌, ◌||◌, subst, max, inl, inr, ⊎_elim, ◌⊎◌, ◌+◌, eqb-true, take, suc}
 use Rattle.std.proofs.lemmas.List.Elements.{filter_agree}
 use Rattle.std.specs.List.{filter, AllByRecursion, list_any, fold, AllZip}
 use Rattle.tx_model.proofs.ClosingGrowth.{closing_open_ids, closing_undo, IsClosing, closing_latest, closing_running, closing_tops}
-use Rattle.tx_model.proofs.FamilyGrowth.{all_subs, family_member, equal_swap}
-use Rattle.tx_model.proofs.FamilySteps.{top_up, top_is, inner_up, enclosing_is}
+use Rattle.tx_model.proofs.RunningFamily.{all_subs, family_member}
+use Rattle.tx_model.proofs.ListSteps.{equal_swap, filter_agree_where, eqb-refl, filter_all, not_both, filter_passes, filter_in_turn}
 use Rattle.tx_model.proofs.HorizonSteps.{live_push, oldest_push}
-use Rattle.tx_model.proofs.IdListSteps.{has_contains, has-filter, one_less, all_has}
-use Rattle.tx_model.proofs.LegalSoundness.{legal_sound, has_given_to, open_member}
+use Rattle.tx_model.proofs.IdListSteps.{contains_true, has-filter, one_less, all_has}
+use Rattle.tx_model.proofs.Soundness.{legal_sound, has_given_to, open_member, IsSound}
 use Rattle.tx_model.proofs.LineGrowth.{legal_push}
-use Rattle.tx_model.proofs.ListSteps.{filter_agree_on, eqb-refl, filter_all, not_both, and_false, filter_passes, equal_from, filter_in_turn}
-use Rattle.tx_model.proofs.NameBounds.{AreBelow}
-use Rattle.tx_model.proofs.RunningGrowth.{running_below}
-use Rattle.tx_model.proofs.Soundness.{IsSound}
+use Rattle.std.proofs.Math.Bool.{and-false}
+use Rattle.tx_model.proofs.NameBounds.{AreBelow, running_below}
 use Rattle.tx_model.specs.Events.{given}
-use Rattle.tx_model.specs.Families.{top, is_top}
+use Rattle.tx_model.specs.Families.{top, is_top, lineage}
 use Rattle.tx_model.specs.History.{nth_id, MayCome}
 use Rattle.tx_model.specs.Horizon.{live_snaps}
 use Rattle.tx_model.specs.IdLists.{has}
@@ -50,7 +50,7 @@ taken_entry first h by id ids s f are x y i a =
 
     outside : (z : ℕ) → (x.session == by.session) ≡ false → top h z ≡ x.top → (c : Bool) → is_inside h id z ≡ c → not (is_inside h id z) ≡ true
     outside z k e false g = ap not g
-    outside z k e true g = not_both (x.session == by.session) k (equal_swap x.session by.session ∙ tops (sym (s.inside z id g) ∙ e))
+    outside z k e true g = not_both (x.session == by.session) (equal_swap x.session by.session ∙ tops (sym (s.inside z id g) ∙ e)) k
 
     in_ids : (z : ℕ) → has (open_ids by.session h) z ≡ true → not (is_inside h id z) ≡ not (has ids z)
     in_ids z k = ap not (sym (ap (λ l. has l z) are ∙ has-filter (is_inside h id) (open_ids by.session h) z ∙ ap (λ b. b && is_inside h id z) k))
@@ -63,36 +63,34 @@ taken_entry first h by id ids s f are x y i a =
         ∙ sym i.subs_are)
     left true k =
         a.subs_are k
-        ∙ sym (filter_agree_on (λ z. has (open_ids by.session h) z ≡ true) (λ z. not (is_inside h id z)) (λ z. not (has ids z)) in_ids x.subs.items
+        ∙ sym (filter_agree_where (λ z. has (open_ids by.session h) z ≡ true) (λ z. not (is_inside h id z)) (λ z. not (has ids z)) in_ids x.subs.items
         (subst (AllByRecursion (λ z. has (open_ids by.session h) z ≡ true)) (sym i.subs_are)
         (all_subs (λ z. has (open_ids by.session h) z ≡ true) h x.top
-        (λ z g j. ap (λ l. has l z) (sym (ap (λ r. open_ids r h) (equal_from x.session by.session k)) ∙ i.own) ∙ has-filter (λ u. top h u == x.top) (running h) z ∙ ap (λ b. b && (top h z == x.top)) g ∙ ap (λ u. u == x.top) j ∙ eqb-refl x.top))))
+        (λ z g j. ap (λ l. has l z) (sym (ap (λ r. open_ids r h) (eqb-true x.session by.session k)) ∙ i.own) ∙ has-filter (λ u. top h u == x.top) (running h) z ∙ ap (λ b. b && (top h z == x.top)) g ∙ ap (λ u. u == x.top) j ∙ eqb-refl x.top))))
 
 -- a session with an open id has an entry
 pub entry_of : (base : Counters) (h : List Event) (n oldest late promised : ℕ) (entries : List Entry) (lives : LiveSnapshots) (session x : ℕ) →
     IsState base h n oldest late promised entries lives → has (open_ids session h) x ≡ true → (e : Entry) × (IsEntryAt base.next h e × ((e.session == session) ≡ true))
 entry_of base h n oldest late promised entries lives session x s f =
     ⊎_elim (λ k. pick (IsEntryAt base.next h) (λ (e : Entry). e.session == session) entries s.each k)
-    (λ k. not_both (has (open_ids session h) x) (ap (λ l. has l x) (s.others session k)) f)
-    (bool_cases (list_any (λ (e : Entry). e.session == session) entries))
-
-inside_or_top : (r : List Event) (x : ℕ) → (top_up r x ≡ x) ⊎ (list_any (λ y. x == y) (inner_up r x) ≡ true)
-inside_or_top [] x = inl refl
-inside_or_top (events.Sub by parent id ∷ r) x = one (id == x) (inside_or_top r x)
-  where
-    one : (c : Bool) → (top_up r x ≡ x) ⊎ (list_any (λ y. x == y) (inner_up r x) ≡ true) → (cond c (top_up r parent) (top_up r x) ≡ x) ⊎ (list_any (λ y. x == y) (cond c (x ∷ inner_up r parent) (inner_up r x)) ≡ true)
-    one true i = inr (ap (λ b. b || list_any (λ y. x == y) (inner_up r parent)) (eqb-refl x))
-    one false i = i
-inside_or_top (e ∷ r) x = inside_or_top r x
+    (λ k. not_both (has (open_ids session h) x) f (ap (λ l. has l x) (s.others session k)))
+    (cases_Bool (list_any (λ (e : Entry). e.session == session) entries))
 
 pub ends : (h : List Event) (x : ℕ) → (top h x ≡ x) ⊎ (is_inside h x x ≡ true)
-ends h x = ⊎_elim (λ e. inl (top_is h x ∙ e)) (λ e. inr (ap (list_any (λ y. x == y)) (enclosing_is h x) ∙ e)) (inside_or_top (reverse h) x)
+ends h x = one (line_head (reverse h) x).0 (line_head (reverse h) x).1
+  where
+    less : (n : ℕ) → suc (suc n) - 1 ≡ suc n
+    less n = omega arith
+
+    one : (rest : List ℕ) → lineage h x ≡ x ∷ rest → (top h x ≡ x) ⊎ (is_inside h x x ≡ true)
+    one [] e = inl (ap (λ (l : List ℕ). top_line l x) e)
+    one (y ∷ ys) e = inr (ap (λ (l : List ℕ). list_any (λ z. x == z) (enclosing_line l)) e ∙ ap (λ n. list_any (λ z. x == z) (take n (x ∷ y ∷ ys))) (less (length ys)) ∙ ap (λ b. b || list_any (λ z. x == z) (take (length ys) (y ∷ ys))) (eqb-refl x))
 
 pub state_undo : (base : Counters) (h : List Event) (by : By) (id n oldest late promised : ℕ) (ids : List ℕ) (entries entries' : List Entry) (lives : LiveSnapshots) →
     IsState base h n oldest late promised entries lives → MayCome base h (events.Undo by id) → InTurn by h → ids ≡ filter (is_inside h id) (open_ids by.session h) → AllZip (IsTaken by.session ids) entries entries' → 1 ≤ promised →
     IsState base (h ++ events.Undo by id ∷ []) n oldest (fold max late ids) (promised - 1) entries' lives
 state_undo base h by id n oldest late promised ids entries entries' lives s may turn are z some =
-    let f : has (open_ids by.session h) id ≡ true = has_contains (open_ids by.session h) id may.0 in
+    let f : has (open_ids by.session h) id ≡ true = contains_true (open_ids by.session h) id may.0 in
     let under : AreBelow n h = subst (λ t. AreBelow t h) (sym s.next_is) (legal_sound base h s.legal).below in
     let given_id : has (given h) id ≡ true = has_given_to by.session h id (open_member by.session h id f).0 in
     let runs : has (running h) id ≡ true = has-filter (is_open h) (given h) id ∙ ap (λ b. b && is_open h id) given_id ∙ (open_member by.session h id f).1 in
@@ -124,13 +122,13 @@ state_undo base h by id n oldest late promised ids entries entries' lives s may 
     }
   where
     inside_itself : is_top h id ≡ false → is_inside h id id ≡ true
-    inside_itself g = ⊎_elim (λ e. not_both (is_top h id) g (ap (λ t. t == id) e ∙ eqb-refl id)) (λ e. e) (ends h id)
+    inside_itself g = ⊎_elim (λ e. not_both (is_top h id) (ap (λ t. t == id) e ∙ eqb-refl id) g) (λ e. e) (ends h id)
 
     -- the ids of the session below the savepoint are all running ones
     all_ids : has (open_ids by.session h) id ≡ true → ids ≡ filter (λ x. not (not (is_inside h id x))) (running h)
     all_ids f =
         let e = entry_of base h n oldest late promised entries lives by.session id s f in
-        let own : open_ids by.session h ≡ family h e.0.top = ap (λ r. open_ids r h) (sym (equal_from e.0.session by.session e.1.1)) ∙ e.1.0.own in
+        let own : open_ids by.session h ≡ family h e.0.top = ap (λ r. open_ids r h) (sym (eqb-true e.0.session by.session e.1.1)) ∙ e.1.0.own in
         let top_is : top h id ≡ e.0.top = (family_member h e.0.top id (sym (ap (λ l. has l id) own) ∙ f)).1 in
         are ∙ ap (filter (is_inside h id)) own
         ∙ sym (filter_in_turn (λ x. top h x == e.0.top) (is_inside h id) (running h))
@@ -138,4 +136,4 @@ state_undo base h by id n oldest late promised ids entries entries' lives s may 
       where
         both : (x t : ℕ) → top h id ≡ t → (b : Bool) → is_inside h id x ≡ b → ((top h x == t) && is_inside h id x) ≡ not (not (is_inside h id x))
         both x t k true g = ap (λ b. (top h x == t) && b) g ∙ ap (λ u. (u == t) && true) ((legal_sound base h s.legal).inside x id g ∙ k) ∙ ap (λ b. b && true) (eqb-refl t) ∙ sym (ap (λ b. not (not b)) g)
-        both x t k false g = ap (λ b. (top h x == t) && b) g ∙ and_false (top h x == t) ∙ sym (ap (λ b. not (not b)) g)
+        both x t k false g = ap (λ b. (top h x == t) && b) g ∙ and-false (top h x == t) ∙ sym (ap (λ b. not (not b)) g)

@@ -1,5 +1,5 @@
 -- How many live snapshots have each xmin.
-use Rattle.std.proofs.Common.{◌≡◌, ℕ, zero, suc, ◌+◌, ◌<◌, ◌≤◌, ◌⊎◌, List, [], ◌∷◌, ◌++◌, length, Some, None, IsSome, refl, sym, ap, ◌∙◌, inl, inr, ⊎_elim, subst, arith, Bool, true, false, ◌==◌, cond, map, min}
+use Rattle.std.proofs.Common.{eqb-true, ◌≡◌, ℕ, zero, suc, ◌+◌, ◌<◌, ◌≤◌, ◌⊎◌, List, [], ◌∷◌, ◌++◌, length, Some, None, IsSome, refl, sym, ap, ◌∙◌, inl, inr, ⊎_elim, subst, arith, Bool, true, false, ◌==◌, cond, map, min}
 use Rattle.std.proofs.lemmas.Bool.Decides.{nat_tests}
 use Rattle.std.proofs.lemmas.List.Sums.{sum_by-cons, sum_by-append}
 use Rattle.std.proofs.lemmas.Map.Keys.{le_from_not_gt}
@@ -7,8 +7,8 @@ use Rattle.std.specs.BTreeMap.{BTreeMap, btree_map_len, get, is_at}
 use Rattle.std.specs.List.{fold}
 use Rattle.std.specs.Map.{lookup}
 use Rattle.std.specs.Ordering.{nat_cmp, is_gt, is_lt}
-use Rattle.tx_model.proofs.IdOrder.{fold_min_start, fold_min_has, fold_min_above}
-use Rattle.tx_model.proofs.ListSteps.{eqb-refl, equal_from}
+use Rattle.tx_model.proofs.Extremes.{fold_min_start, fold_min_has, fold_min_above}
+use Rattle.tx_model.proofs.ListSteps.{eqb-refl}
 use Rattle.tx_model.proofs.Membership.{Has}
 use Rattle.tx_model.specs.Horizon.{LiveSnap}
 use Rattle.proc_table.specs.Lives.{IsTally, one_more, some_of, with_xmin}
@@ -36,7 +36,7 @@ counted_has [] x h = absurd (omega arith)
 counted_has (s ∷ ss) x h = one (s.xmin == x) refl (with_cons s ss x) (λ k. counted_has ss x k)
   where
     one : (b : Bool) → (s.xmin == x) ≡ b → with_xmin (s ∷ ss) x ≡ one_if b + with_xmin ss x → (1 ≤ with_xmin ss x → Has (map (λ (s : LiveSnap). s.xmin) ss) x) → Has (map (λ (s : LiveSnap). s.xmin) (s ∷ ss)) x
-    one true e c i = inl (equal_from s.xmin x e)
+    one true e c i = inl (eqb-true s.xmin x e)
     one false e c i = inr (i (omega arith))
 
 has_counted : (ss : List LiveSnap) (x : ℕ) → Has (map (λ (s : LiveSnap). s.xmin) ss) x → 1 ≤ with_xmin ss x

@@ -7,7 +7,6 @@ mod answers;
 mod entries;
 mod entry;
 mod live;
-mod room;
 mod table;
 #[cfg(test)]
 mod tests;

@@ -20,12 +20,13 @@ use crate::entries::{
 };
 use crate::entry::{Entry, greatest};
 use crate::live::LiveSnapshots;
-use crate::room::{make_one_room, make_room};
 use horizon_limits::Limits;
 use snap_core::Snapshot;
 use std::alloc::{AllocError, Global};
 use std::marker::Model;
-use tx_model::{By, Copied, Counters, Event, EventList, Memory, Name, Refusal};
+use tx_model::{
+    By, Copied, Counters, Event, EventList, Memory, Name, Refusal, make_one_room, make_room,
+};
 use xid_order::FullXid;
 
 /// How many ids have their parents on one page of `pg_subtrans` (`SUBTRANS_XACTS_PER_PAGE`).

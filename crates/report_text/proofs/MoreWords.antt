@@ -1,6 +1,6 @@
 -- How a text grows by words, items and lines.
 use Rattle.std.proofs.Common.{◌≡◌, ℕ, List, [], ◌∷◌, ◌++◌, sym, ap, ◌∙◌, append_assoc, append-nil, refl, Result, Ok, Err, OnOk, ◌+◌, ◌<◌, take, length, get_or, map}
-use Rattle.std.proofs.lemmas.List.{take_more, flat_map_more}
+use Rattle.std.proofs.lemmas.List.{take_more, flat_map_more, map_push}
 use Rattle.std.specs.List.{flat_map}
 use Rattle.std.specs.Fmt.{decimal}
 use Rattle.report_text.specs.Words.{more, line_text, numbers}
@@ -15,10 +15,6 @@ more-append : (xs ys : List (List ℕ)) → more (xs ++ ys) ≡ more xs ++ more 
 unfolding more
 more-append [] ys = refl
 more-append (x ∷ xs) ys = ap (λ t. (32 ∷ x) ++ t) (more-append xs ys) ∙ sym (append_assoc (32 ∷ x) (more xs) (more ys))
-
-map-append_one : {X : Type 0} (f : X → List ℕ) (xs : List X) (x : X) → map f (xs ++ x ∷ []) ≡ map f xs ++ f x ∷ []
-map-append_one f [] x = refl
-map-append_one f (y ∷ xs) x = ap (λ t. f y ∷ t) (map-append_one f xs x)
 
 -- words behind words
 pub then_more : (o : List ℕ) (xs ys : List (List ℕ)) → (o ++ more xs) ++ more ys ≡ o ++ more (xs ++ ys)
@@ -40,7 +36,7 @@ then_joined o w p =
 then_one_at : {X : Type 0} (f : X → List ℕ) (o : List ℕ) (xs : List X) (i : ℕ) (x : X) → i < length xs → (o ++ more (map f (take i xs))) ++ more (f (get_or xs i x) ∷ []) ≡ o ++ more (map f (take (i + 1) xs))
 then_one_at f o xs i x h =
     then_more o (map f (take i xs)) (f (get_or xs i x) ∷ [])
-    ∙ ap (λ t. o ++ more t) (sym (map-append_one f (take i xs) (get_or xs i x)) ∙ ap (map f) (sym (take_more xs i x h)))
+    ∙ ap (λ t. o ++ more t) (sym (map_push f (take i xs) (get_or xs i x)) ∙ ap (map f) (sym (take_more xs i x h)))
 
 then_one_word : {X : Type 0} (f : X → List ℕ) (o : List ℕ) (xs : List X) (i : ℕ) (x : X) → i < length xs → x ≡ get_or xs i x → (o ++ more (map f (take i xs))) ++ more (f x ∷ []) ≡ o ++ more (map f (take (i + 1) xs))
 then_one_word f o xs i x h e = ap (λ y. (o ++ more (map f (take i xs))) ++ more (f y ∷ [])) e ∙ then_one_at f o xs i x h

@@ -49,7 +49,3 @@ front_passes p (x ∷ xs) (suc n) e = pass_first p x n xs (p x) refl e (front_pa
 -- bytes cut at a byte
 pub cut_at : (bytes : List ℕ) (n e : ℕ) → n < length bytes → get_or bytes n 0 ≡ e → bytes ≡ take n bytes ++ e ∷ drop (n + 1) bytes
 cut_at bytes n e l g = sym (grind (arith, common_steps, take-append-drop n bytes, drop-cons bytes n 0 l))
-
--- the rest of a slice
-pub whole_rest : (k : ℕ) (bytes : List ℕ) → take (length bytes - k) (drop k bytes) ≡ drop k bytes
-whole_rest k bytes = grind (arith, common_steps)

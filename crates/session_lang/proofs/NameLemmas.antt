@@ -1,11 +1,12 @@
 -- What the bytes show of a name at their front.
+use Rattle.std.proofs.lemmas.List.{take_rest}
 use Rattle.std.proofs.Common.{◌≡◌, ℕ, ◌+◌, ◌-◌, ◌<◌, ◌≤◌, List, [], ◌∷◌, ◌++◌, refl, ap, ◌∙◌, take, drop, length, true, false, get_or, zero, suc, arith, length-append}
 use Rattle.std.proofs.Math.Seq.{get_or-append_seam}
 use Rattle.std.proofs.lemmas.Grind.{common_steps}
 use Rattle.std.specs.List.{AllByRecursion, prefix_len}
 use Rattle.session_lang.specs.Lines.{BeginsWithName}
 use Rattle.session_lang.specs.Names.{is_name_byte, is_letter, IsName}
-use Rattle.session_lang.proofs.Fronts.{same_fronts, front_len, front_passes, cut_at, whole_rest}
+use Rattle.session_lang.proofs.Fronts.{same_fronts, front_len, front_passes, cut_at}
 
 name_length : (name : List ℕ) → IsName name → (1 ≤ length name) × (length name ≤ 16)
 name_length [] n = absurd n
@@ -61,7 +62,7 @@ name_shows e bytes name rest n b =
 pub name_found : (e : ℕ) (bytes : List ℕ) (n : ℕ) → n ≡ prefix_len is_name_byte bytes → ShowsName e bytes → BeginsWithName e bytes (take n bytes) (take (length bytes - (n + 1)) (drop (n + 1) bytes))
 name_found e bytes n p s = record {
   named = let f = s.some in let g = s.short in name_from bytes n p (omega arith) (omega arith) s.letter;
-  text = let w = s.within in rw (whole_rest (n + 1) bytes) (cut_at bytes n e (omega arith) (rw p s.ends));
+  text = let w = s.within in rw (take_rest bytes (n + 1)) (cut_at bytes n e (omega arith) (rw p s.ends));
 }
 
 -- bytes begin with one such name

@@ -1,4 +1,5 @@
 -- What the bytes show of a number at their front.
+use Rattle.std.proofs.lemmas.List.{take_rest}
 use Rattle.std.proofs.Common.{◌≡◌, ℕ, ◌+◌, ◌-◌, ◌<◌, ◌≤◌, ◌^◌, List, [], ◌∷◌, ◌++◌, refl, sym, ap, ◌∙◌, take, drop, length, true, get_or, zero, suc, arith, length-append, rules, tests}
 use Rattle.std.proofs.Math.Seq.{get_or-append_seam, take-append_seam}
 use Rattle.std.proofs.lemmas.Grind.{common_steps}
@@ -10,7 +11,7 @@ use Rattle.std.specs.Int.{IsInRange}
 use Rattle.std.specs.List.{AllByRecursion, prefix_len}
 use Rattle.std.specs.Str.Parse.{AllDigits, digits_value}
 use Rattle.session_lang.specs.Lines.{BeginsWithNumber}
-use Rattle.session_lang.proofs.Fronts.{same_fronts, front_len, front_passes, cut_at, whole_rest}
+use Rattle.session_lang.proofs.Fronts.{same_fronts, front_len, front_passes, cut_at}
 
 own : IsNumeralModel (AllDigits 10) (digits_value 10)
 own = numerals_by_value (AllDigits 10) tells_digits
@@ -83,7 +84,7 @@ number_found bytes n v p e s =
     let digits : decimal v ≡ take n bytes = rw e (decimal-digits_value own (take n bytes) (pass_digits (take n bytes) (front_passes is_ascii_digit bytes n p)) (omega arith) (λ h. len ∙ p ∙ s.plain (sym first ∙ h)) (omega arith)) in
     record {
       fits = omega arith;
-      text = rw (whole_rest (n + 1) bytes, digits) (cut_at bytes n 10 (omega arith) (rw p s.ends));
+      text = rw (take_rest bytes (n + 1), digits) (cut_at bytes n 10 (omega arith) (rw p s.ends));
     }
 
 -- bytes begin with one such number

@@ -2,7 +2,7 @@
 use Rattle.std.proofs.Common.{◌≡◌, ℕ, ◌+◌, ◌<◌, ◌≤◌, List, [], ◌∷◌, ◌++◌, refl, sym, ap, ◌∙◌, subst, length, suc, arith, true, ◌==◌, ◌||◌, append_assoc, length-append, ⊎_elim, eq-eqb, inl, inr, codes}
 use Rattle.std.proofs.Math.ListN.{get_or-append}
 use Rattle.std.proofs.lemmas.Grind.{flat_map-append}
-use Rattle.std.proofs.lemmas.List.{append-nil}
+use Rattle.std.proofs.lemmas.List.{append-nil, nil_from_length}
 use Rattle.std.proofs.lemmas.Option.{unwrap_or-slice_get}
 use Rattle.std.proofs.lemmas.List.Elements.{All-head}
 use Rattle.std.proofs.lemmas.List.FromFn.{length-range_with_len}
@@ -23,7 +23,6 @@ use Rattle.session_lang.specs.Rounds.{sessions_in}
 use Rattle.session_lang.specs.Script.{IsReadItem, IsScript, item_text}
 use Rattle.report_text.specs.Words.{line_text, name_at}
 use Rattle.session_lang.proofs.LineLemmas.{line_of, line_splits}
-use Rattle.session_lang.proofs.DistinctLemmas.{none_left}
 use Rattle.session_lang.proofs.RoundLemmas.{all_later}
 use Rattle.session_lang.proofs.SameLines.{round_text}
 use Rattle.session_lang.proofs.ScriptLemmas.{goes_on, next_item, no_script, or_true}
@@ -147,7 +146,7 @@ no_more_names s bytes named more_names before i h e n =
     let ranges : range_with_len 0 (length s.names) ≡ range_with_len 0 (length named) = sym i.numbered ∙ ap (λ x. first_seen (sessions_in x)) e ∙ h in
     let lengths : length s.names ≡ length named = sym (length-range_with_len 0 (length s.names)) ∙ ap length ranges ∙ length-range_with_len 0 (length named) in
     let total : length s.names ≡ length named + length more_names = ap length n ∙ length-append named more_names in
-    n ∙ ap (λ x. named ++ x) (none_left more_names (omega arith)) ∙ append-nil named
+    n ∙ ap (λ x. named ++ x) (nil_from_length more_names (omega arith)) ∙ append-nil named
 
 -- and there is no other script
 pub part_way_only : (bytes body : List ℕ) (base : Counters) (named : List (List ℕ)) (counts : List ℕ) (before : List Item) → HasHeader bytes base body → IsPartWay body named before [] → HasRead named counts before → (s : Script) → IsScript s bytes → s ≡ record { base = base; banks = 4; names = named; items = before }

@@ -12,10 +12,6 @@ abbrev pub is_in : ℕ → List ℕ → Bool
 is_in y [] = false
 is_in y (x ∷ xs) = (y == x) || is_in y xs
 
-filter_same : (p q : ℕ → Bool) → ((y : ℕ) → p y ≡ q y) → (xs : List ℕ) → filter p xs ≡ filter q xs
-filter_same p q e [] = refl
-filter_same p q e (x ∷ xs) = rw (e x, filter_same p q e xs) refl
-
 filter_all : (xs : List ℕ) → filter (λ y. not (is_in y [])) xs ≡ xs
 filter_all [] = refl
 filter_all (x ∷ xs) = ap (λ t. x ∷ t) (filter_all xs)

@@ -1,8 +1,8 @@
 -- One line more.
+use Rattle.tx_model.proofs.ListSteps.{range_push}
 use Rattle.std.proofs.Common.{◌≡◌, ◌≢◌, ℕ, ◌+◌, ◌<◌, ◌≤◌, List, [], ◌∷◌, ◌++◌, refl, sym, ap, ◌∙◌, length, zero, suc, arith, Bool, true, false, cond, ◌==◌, get_or, get_or-set_same, get_or-set_other, set, length-append, eqb-true, eq-eqb, replicate, subst, ⊎_elim, Result, Ok, Err, OnOk}
 use Rattle.std.proofs.Math.Seq.{get_or-append_seam}
-use Rattle.std.proofs.lemmas.Bool.{false≢true}
-use Rattle.std.proofs.lemmas.Bool.{cases_lt}
+use Rattle.std.proofs.lemmas.Bool.{false≢true, cases_lt}
 use Rattle.std.proofs.lemmas.List.{get_or_past, get_or-replicate, length-replicate, length-set}
 use Rattle.std.proofs.lemmas.List.Elements.{All-nil, All-push}
 use Rattle.std.specs.List.{All, IsDistinct, range_with_len}
@@ -15,7 +15,7 @@ use Rattle.session_lang.specs.Names.{IsName}
 use Rattle.session_lang.specs.Reading.{HasRead, IsNew, count_of}
 use Rattle.session_lang.specs.Rounds.{open_round, rounds_of, sessions_in, turns_of}
 use Rattle.session_lang.specs.Script.{IsRead, IsReadItem, IsShort}
-use Rattle.session_lang.proofs.CountLemmas.{count_of_push, sessions_end, sessions_push, range_push}
+use Rattle.session_lang.proofs.CountLemmas.{count_of_push, sessions_end, sessions_push}
 use Rattle.session_lang.proofs.DistinctLemmas.{distinct_push}
 use Rattle.session_lang.proofs.RoundLemmas.{open_end, open_short, rounds_end, short_push, turns_push}
 use Rattle.session_lang.proofs.SeenLemmas.{push_old, push_next, has_appeared, not_yet}

@@ -1,7 +1,9 @@
 -- What commands do.
-use Rattle.std.proofs.Common.{◌≡◌, ℕ, zero, suc, ◌+◌, ◌<◌, ◌≤◌, List, [], ◌∷◌, ◌++◌, length, map, take, drop, Some, None, Option, refl, sym, ap, subst, ◌∙◌, arith, append-nil, Bool, true, false, not, cond, ◌||◌, inl, inr, ◌↔◌, IsTrue, ⊎_elim, ◌≢◌, ◌==◌, ◌⊎◌}
+use Rattle.std.proofs.lemmas.List.{length-map, map_push}
+use Rattle.std.proofs.Math.Seq.{take-append_seam}
+use Rattle.std.proofs.Common.{◌≡◌, ℕ, zero, suc, ◌+◌, ◌<◌, ◌≤◌, List, [], ◌∷◌, ◌++◌, length, map, take, drop, Some, None, Option, refl, sym, ap, subst, ◌∙◌, arith, append-nil, Bool, true, false, not, cond, ◌||◌, inr, ◌↔◌, IsTrue, ⊎_elim, ◌≢◌, ◌==◌, ◌⊎◌, take_all}
 use Rattle.std.specs.List.{AllByRecursion, filter, find, slice_get, list_any}
-use Rattle.std.proofs.lemmas.Bool.{false≢true}
+use Rattle.std.proofs.lemmas.Bool.{false≢true, or_cases, or_left, or_right}
 use Rattle.tx_model.specs.declared.event.By.{By}
 use Rattle.tx_model.specs.declared.event.Event.{Event}
 use Rattle.tx_model.specs.declared.event.Event.TheVariants as events
@@ -21,13 +23,12 @@ use Rattle.tx_model.specs.Replies.{MayReply, IsWarned, IsStopped}
 use Rattle.tx_model.specs.Snapshots.{snapshot_data}
 use Rattle.tx_model.specs.Stance.{Stance, after, snap_of, second_of, without_snap, filled}
 use Rattle.tx_model.proofs.ListSteps.{eqb-refl}
-use Rattle.tx_model.proofs.PlaceLemmas.{slice_get-grows, slice_get-push, take-grows}
+use Rattle.tx_model.proofs.PlaceLemmas.{slice_get-grows, slice_get-push, take-grows, last_at}
 use Rattle.session_run.specs.declared.session.Kept.{Kept}
 use Rattle.session_run.specs.Acts.{Acts}
 use Rattle.session_run.specs.Gives.{IsInTurn}
 use Rattle.session_run.specs.Stands.{levels_of, told_of, IsKept}
 use Rattle.session_run.proofs.LevelLemmas.{levels_given, levels_filled, levels_lack, some_levels}
-use Rattle.session_run.proofs.ListLemmas.{slice_end, take_end, length-map, map-push}
 
 -- nothing happened
 pub acts_idle : (base : Counters) (by : By) (s s' : Stance) (command : Command) (reply : Reply) (h : List Event) → HasEvents by s command reply [] → MayReply base [] h by s command reply → after s by.command command reply [] ≡ s' → Acts base by s s' command reply h h
@@ -101,12 +102,12 @@ acts_snapped base by h levels kept k lists l free room c = record {
   fitting = refl;
   allowed = (
     snap_missing k.name levels kept free,
-    omega (arith, length-map told_of kept),
+    omega (arith, length-map kept told_of),
     length h,
-    slice_end h (events.Snap by k.name),
-    l ∙ ap (snapshot_data base.next) (sym (take_end h (events.Snap by k.name))),
+    last_at h (events.Snap by k.name),
+    l ∙ ap (snapshot_data base.next) (sym (take-append_seam h ((events.Snap by k.name) ∷ []))),
   );
-  left = ap (λ n. record { levels = levels; snaps = map told_of kept ++ (k.name, n) ∷ [] }) (sym c) ∙ ap (λ s. record { levels = levels; snaps = s }) (sym (map-push told_of kept k));
+  left = ap (λ n. record { levels = levels; snaps = map told_of kept ++ (k.name, n) ∷ [] }) (sym c) ∙ ap (λ s. record { levels = levels; snaps = s }) (sym (map_push told_of kept k));
 }
 
 -- and one that is dropped
@@ -147,17 +148,6 @@ giving_gives : (by : By) (p : Option ℕ) (id : ℕ) → given_by (giving by p i
 giving_gives by None id = refl
 giving_gives by (Some q) id = refl
 
-or_either : (a b : Bool) → (a || b) ≡ true → (a ≡ true) ⊎ (b ≡ true)
-or_either true b e = inl refl
-or_either false b e = inr e
-
-or_first : (a b : Bool) → a ≡ true → (a || b) ≡ true
-or_first a b e = ap (λ c. c || b) e
-
-or_second : (a b : Bool) → b ≡ true → (a || b) ≡ true
-or_second true b e = refl
-or_second false b e = e
-
 -- one id more, with its warning
 pub warned_push : (base : Counters) (by : By) (h : List Event) (p : Option ℕ) (id : ℕ) (warn late : Bool) → IsTrue warn ↔ IsWarned base h by → IsTrue late ↔ (warn_limit (oldest_id base.oldest h) ≤ id) → IsTrue (warn || late) ↔ IsWarned base (h ++ giving by p id ∷ []) by
 warned_push base by h p id warn late w l =
@@ -173,13 +163,13 @@ warned_push base by h p id warn late w l =
           (λ b. record {
             place = length h;
             id = id;
-            given = record { event = e; at = slice_end h e; own = giving_by by p id; gives = giving_gives by p id };
-            late = subst (λ g. warn_limit (oldest_id base.oldest g) ≤ id) (sym (take_end h e)) (l.0 b);
+            given = record { event = e; at = last_at h e; own = giving_by by p id; gives = giving_gives by p id };
+            late = subst (λ g. warn_limit (oldest_id base.oldest g) ≤ id) (sym (take-append_seam h (e ∷ []))) (l.0 b);
           })
-          (or_either warn late t),
+          (or_cases warn late t),
       λ k. ⊎_elim
           (λ (a : (k.place < length h) × (slice_get h k.place ≡ Some k.given.event)).
-          or_first warn late (w.1 (record {
+          or_left warn late (w.1 (record {
             place = k.place;
             id = k.id;
             given = record { event = k.given.event; at = a.1; own = k.given.own; gives = k.given.gives };
@@ -188,8 +178,8 @@ warned_push base by h p id warn late w l =
           (λ (a : (k.place ≡ length h) × (e ≡ k.given.event)).
           let same : Some id ≡ Some k.id = sym (giving_gives by p id) ∙ ap given_by a.1 ∙ k.given.gives in
           let one : id ≡ k.id = cc in
-          let at : warn_limit (oldest_id base.oldest h) ≤ k.id = subst (λ g. warn_limit (oldest_id base.oldest g) ≤ k.id) (ap (λ n. take n (h ++ e ∷ [])) a.0 ∙ take_end h e) k.late in
-          or_second warn late (l.1 (subst (λ z. warn_limit (oldest_id base.oldest h) ≤ z) (sym one) at)))
+          let at : warn_limit (oldest_id base.oldest h) ≤ k.id = subst (λ g. warn_limit (oldest_id base.oldest g) ≤ k.id) (ap (λ n. take n (h ++ e ∷ [])) a.0 ∙ take-append_seam h (e ∷ [])) k.late in
+          or_right warn late (l.1 (subst (λ z. warn_limit (oldest_id base.oldest h) ≤ z) (sym one) at)))
           (slice_get-push h e k.given.event k.place k.given.at),
     )
 
@@ -197,10 +187,6 @@ warned_push base by h p id warn late w l =
 drop_end : {X : Type 0} (xs : List X) → drop (length xs) xs ≡ []
 drop_end [] = refl
 drop_end (x ∷ xs) = drop_end xs
-
-take_whole : {X : Type 0} (xs : List X) → take (length xs) xs ≡ xs
-take_whole [] = refl
-take_whole (x ∷ xs) = ap (λ t. x ∷ t) (take_whole xs)
 
 own_turn : (by : By) (h : List Event) → IsInTurn by h → AllByRecursion (λ e. (by_of e).session ≡ by.session → (by_of e).command ≤ by.command) h
 own_turn by [] t = tt
@@ -215,9 +201,9 @@ is_stopped base by h next stop t n s r = record {
   place = length h;
   within = omega arith;
   behind = subst (AllByRecursion (λ e. (by_of e).session ≡ by.session → by.command < (by_of e).command)) (sym (drop_end h)) tt;
-  before = subst (AllByRecursion (λ e. (by_of e).session ≡ by.session → (by_of e).command ≤ by.command)) (sym (take_whole h)) (own_turn by h t);
-  next_is = n ∙ ap (next_given base.next) (sym (take_whole h));
-  stop_is = s ∙ ap (λ g. stop_limit (oldest_id base.oldest g)) (sym (take_whole h));
+  before = subst (AllByRecursion (λ e. (by_of e).session ≡ by.session → (by_of e).command ≤ by.command)) (sym (take_all (length h) h (omega arith))) (own_turn by h t);
+  next_is = n ∙ ap (next_given base.next) (sym (take_all (length h) h (omega arith)));
+  stop_is = s ∙ ap (λ g. stop_limit (oldest_id base.oldest g)) (sym (take_all (length h) h (omega arith)));
   reached = r;
 }
 

@@ -4,27 +4,27 @@ use Rattle.std.proofs.lemmas.Bool.{false≢true}
 use Rattle.std.proofs.lemmas.List.Elements.{filter-append}
 use Rattle.std.specs.List.{AllByRecursion, filter, list_any}
 use Rattle.tx_model.specs.declared.event.Event.{Event}
-use Rattle.tx_model.specs.declared.event.Event.TheVariants as events
 use Rattle.tx_model.specs.declared.record.Counters.{Counters}
-use Rattle.tx_model.specs.Events.{by_of, is_of, same_name}
+use Rattle.tx_model.specs.Events.{by_of, is_of, same_name, given, given_to}
 use Rattle.tx_model.specs.Families.{lineage, is_top}
 use Rattle.tx_model.specs.History.{IsLegal}
 use Rattle.tx_model.specs.Horizon.{LiveSnap, is_live, is_snap_of, live_up}
 use Rattle.tx_model.specs.Running.{is_open}
-use Rattle.tx_model.specs.Events.{given, given_to}
 use Rattle.tx_model.specs.Savepoints.{is_inside}
 use Rattle.tx_model.specs.Snapshots.{snapshot_data}
 use Rattle.tx_model.proofs.Closing.{later}
 use Rattle.tx_model.proofs.GivenIds.{given_to_given}
 use Rattle.tx_model.proofs.HorizonSteps.{live_push}
-use Rattle.tx_model.proofs.ListSteps.{list_any-push, or_false}
+use Rattle.tx_model.proofs.ListSteps.{list_any-push}
+use Rattle.std.proofs.Math.Bool.{or-false}
 use Rattle.tx_model.proofs.Membership.{Has, contains_has, has_filter}
 use Rattle.tx_model.proofs.OpenIds.{open_rest}
 use Rattle.tx_model.proofs.PlaceLemmas.{slice_get-grows, take-grows}
-use Rattle.tx_model.proofs.Trees.{top_line, enclosing_line}
+use Rattle.tx_model.proofs.Lineages.{top_line, enclosing_line}
 use Rattle.session_run.specs.declared.session.Kept.{Kept}
 use Rattle.session_run.specs.declared.session.Session.{Session}
 use Rattle.session_run.specs.Stands.{IsKept, IsSavepointIn, Nest, Stands}
+use Rattle.tx_model.specs.declared.event.Event.TheVariants as events
 
 -- each event is of another session
 abbrev pub AreBeside : ℕ → List Event → Type 0
@@ -68,7 +68,7 @@ live_up_beside : (first session : ℕ) (name : List ℕ) (e : Event) (older : Li
 live_up_beside first session name (events.Snap by taken) older n =
     list_any-push (is_snap_of session name) (live_up first older) _
     ∙ ap (λ b. list_any (is_snap_of session name) (live_up first older) || (b && same_name taken name)) (ne_eqb by.session session n)
-    ∙ or_false (list_any (is_snap_of session name) (live_up first older))
+    ∙ or-false (list_any (is_snap_of session name) (live_up first older))
 live_up_beside first session name (events.SnapDrop by dropped) older n =
     any_kept (is_snap_of session name) (λ s. not (is_snap_of by.session dropped s)) (λ s. not_dropped session by.session name dropped s n) (live_up first older)
 live_up_beside first session name (events.Id by id) older n = refl

@@ -1,11 +1,8 @@
 -- The end of a transaction.
-use Rattle.std.proofs.Common.{◌≡◌, ℕ, zero, suc, ◌+◌, ◌-◌, ◌^◌, ◌<◌, ◌≤◌, List, [], ◌∷◌, ◌++◌, length, drop, take, refl, sym, ap, subst, ◌∙◌, arith, Bool, true, false, Contains, inl}
+use Rattle.std.proofs.Common.{◌≡◌, ℕ, suc, ◌+◌, ◌^◌, ◌<◌, ◌≤◌, List, [], ◌∷◌, ◌++◌, length, drop, refl, sym, ap, subst, ◌∙◌, arith, Bool, true, false, Contains, inl}
 use Rattle.std.specs.List.{slice_index_or}
 use Rattle.tx_model.specs.declared.event.By.{By}
 use Rattle.tx_model.specs.declared.event.Event.{Event}
-use Rattle.tx_model.specs.declared.command.Command.TheVariants as commands
-use Rattle.tx_model.specs.declared.reply.Reply.TheVariants as replies
-use Rattle.tx_model.specs.declared.reply.Refusal.TheVariants as refusals
 use Rattle.tx_model.specs.declared.record.Counters.{Counters}
 use Rattle.tx_model.specs.declared.record.Rec.{Rec}
 use Rattle.tx_model.specs.Base.{IsBase}
@@ -14,7 +11,7 @@ use Rattle.tx_model.specs.History.{IsLegal, MayCome}
 use Rattle.tx_model.specs.IdLists.{Ascending}
 use Rattle.tx_model.specs.RecordSize.{record_size}
 use Rattle.tx_model.specs.Running.{open_ids}
-use Rattle.tx_model.proofs.ListSteps.{take_whole, length_push}
+use Rattle.tx_model.proofs.ListSteps.{length_push}
 use Rattle.tx_model.proofs.Membership.{has_contains}
 use Rattle.proc_table.specs.Table.{end_event}
 use Rattle.session_run.specs.Acts.{Acts, end_command}
@@ -23,6 +20,9 @@ use Rattle.session_run.specs.Stands.{Nest, levels_of}
 use Rattle.session_run.proofs.ActsLemmas.{acts_idle}
 use Rattle.session_run.proofs.LevelLemmas.{no_levels}
 use Rattle.session_run.proofs.RoomLemmas.{open_few}
+use Rattle.tx_model.specs.declared.command.Command.TheVariants as commands
+use Rattle.tx_model.specs.declared.reply.Reply.TheVariants as replies
+use Rattle.tx_model.specs.declared.reply.Refusal.TheVariants as refusals
 
 -- the first id and the others
 pub head_tail : (ids : List ℕ) (d : ℕ) → 1 ≤ length ids → ids ≡ slice_index_or ids 0 d ∷ drop 1 ids
@@ -41,10 +41,6 @@ pub record IsHead (h : List Event) (opened named : List ℕ) : Type 0 where
 pub nest_head : (h : List Event) (opened named : List ℕ) → 1 ≤ length named → Nest h opened named → IsHead h opened named
 nest_head h opened [] l n = absurd (omega arith)
 nest_head h opened (t ∷ ids) l n = record { top = t; ids = ids; rest = n.0; named_is = refl; opened_is = n.1; top_is = n.2 }
-
-pub none_left : (xs : List ℕ) → length xs ≡ 0 → xs ≡ []
-none_left [] e = refl
-none_left (x ∷ xs) e = absurd (omega arith)
 
 pub heads : (a b : ℕ) (xs ys : List ℕ) → a ∷ xs ≡ b ∷ ys → a ≡ b
 heads a b xs ys e = cc
@@ -72,20 +68,6 @@ pub acts_none : (base : Counters) (by : By) (h : List Event) (named : List ℕ) 
     Acts base by (record { levels = levels_of named unnamed; snaps = snaps }) (record { levels = levels_of named unnamed; snaps = snaps }) (end_command committed) (replies.Refused refusals.NoTransaction) h h
 acts_none base by h named unnamed snaps true e = acts_idle base by _ _ commands.Commit (replies.Refused refusals.NoTransaction) h refl (no_levels named unnamed e) refl
 acts_none base by h named unnamed snaps false e = acts_idle base by _ _ commands.Abort (replies.Refused refusals.NoTransaction) h refl (no_levels named unnamed e) refl
-
-pub take_rest : (n : ℕ) (ids : List ℕ) → take (length ids - n) (drop n ids) ≡ drop n ids
-take_rest zero ids = ap (λ k. take k ids) (same (length ids)) ∙ take_whole ids
-  where
-    same : (n : ℕ) → n - 0 ≡ n
-    same n = omega arith
-take_rest (suc n) [] = ap (λ k. take k (drop (suc n) [])) (gone n)
-  where
-    gone : (n : ℕ) → 0 - suc n ≡ 0
-    gone n = omega arith
-take_rest (suc n) (x ∷ ids) = ap (λ k. take k (drop n ids)) (same (length ids) n) ∙ take_rest n ids
-  where
-    same : (m n : ℕ) → suc m - suc n ≡ m - n
-    same m n = omega arith
 
 pub tail_few : (xs : List Rec) (x : Rec) → length (xs ++ x ∷ []) ≤ length xs + 1
 tail_few xs x = let k = length_push xs x in omega arith

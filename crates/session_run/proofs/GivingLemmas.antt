@@ -1,16 +1,15 @@
 -- One id more for a session.
-use Rattle.std.proofs.Common.{◌≡◌, ℕ, ◌+◌, ◌<◌, List, [], ◌∷◌, ◌++◌, Some, None, Option, IfSome, refl, sym, subst, ◌∙◌, true, false, Contains, ⊎_elim, inl, inr, ◌==◌}
+use Rattle.tx_model.proofs.IdListSteps.{true_has}
+use Rattle.std.proofs.Common.{◌≡◌, ℕ, ◌+◌, ◌<◌, List, [], ◌∷◌, ◌++◌, Some, None, Option, IfSome, refl, sym, subst, ◌∙◌, false, Contains}
 use Rattle.tx_model.specs.declared.event.By.{By}
 use Rattle.tx_model.specs.declared.event.Event.{Event}
 use Rattle.tx_model.specs.declared.record.Counters.{Counters}
 use Rattle.tx_model.specs.declared.record.Rec.{Rec}
 use Rattle.tx_model.specs.CommandEvents.{giving}
 use Rattle.tx_model.specs.History.{IsLegal, MayCome, IsNextGiven, next_given}
-use Rattle.tx_model.specs.IdLists.{has}
 use Rattle.tx_model.specs.Running.{open_ids}
-use Rattle.tx_model.proofs.LegalSoundness.{legal_sound, open_below}
-use Rattle.tx_model.proofs.ListSteps.{or_cases, equal_from}
-use Rattle.tx_model.proofs.Membership.{Has, has_contains as has-contains}
+use Rattle.tx_model.proofs.GivenIds.{open_below}
+use Rattle.tx_model.proofs.Membership.{has_contains as has-contains}
 use Rattle.plain_states.specs.declared.id_states.IdState.{IdState}
 use Rattle.session_run.specs.declared.session.Kept.{Kept}
 use Rattle.session_run.specs.Gives.{IsInTurn, IsParent, last_of}
@@ -29,16 +28,12 @@ next_may base h by (Some parent) id m = m.0
 
 pub below_next : (base : Counters) (h : List Event) (session : ℕ) (parent : Option ℕ) → IsLegal base h → IsParent session h parent → IfSome parent (λ p. p < next_given base.next h)
 below_next base h session None l p = tt
-below_next base h session (Some parent) l p = open_below base h session parent (legal_sound base h l) p
+below_next base h session (Some parent) l p = open_below base h session parent l p
 
 pub sound_given : (base : Counters) (h : List Event) (by : By) (parent : Option ℕ) (id : ℕ) (recs : List Rec) (states : List IdState) → MayCome base h (giving by parent id) → IsInTurn by h → IsSound base h recs states →
     IsSound base (h ++ giving by parent id ∷ []) recs (states ++ record { id = id; parent = parent; committed = false } ∷ [])
 sound_given base h by None id recs states m t s = sound_id base h by id recs states m t s
 sound_given base h by (Some parent) id recs states m t s = sound_sub base h by parent id recs states m t s
-
-has-has : (xs : List ℕ) (x : ℕ) → has xs x ≡ true → Has xs x
-has-has [] x e = absurd cc
-has-has (y ∷ xs) x e = ⊎_elim (λ q. inl (sym (equal_from x y q))) (λ r. inr (has-has xs x r)) (or_cases (x == y) (has xs x) e)
 
 last_some : (x : ℕ) (xs : List ℕ) → (p : ℕ) × (last_of (x ∷ xs) ≡ Some p)
 last_some x [] = (x, refl)
@@ -49,7 +44,7 @@ pub is_parent : (h : List Event) (session : ℕ) (opened named : List ℕ) → o
 is_parent h session opened [] o n = o ∙ n
 is_parent h session opened (x ∷ xs) o n =
     let l = last_some x xs in
-    subst (IsParent session h) (sym l.1) (subst (λ ids. Contains ids l.0) (sym o) (has-contains opened l.0 (has-has opened l.0 (parent_open h opened (x ∷ xs) l.0 n l.1))))
+    subst (IsParent session h) (sym l.1) (subst (λ ids. Contains ids l.0) (sym o) (has-contains opened l.0 (true_has opened l.0 (parent_open h opened (x ∷ xs) l.0 n l.1))))
 
 stood_given_by : (base : Counters) (h : List Event) (by : By) (id unnamed unnamed' : ℕ) (opened named : List ℕ) (kept : List Kept) (parent : Option ℕ) → last_of named ≡ parent → IsLegal base h → MayCome base h (giving by parent id) → unnamed' + 1 ≡ unnamed →
     Stood base h by.session by.command opened named unnamed kept → Stood base (h ++ giving by parent id ∷ []) by.session by.command (opened ++ id ∷ []) (named ++ id ∷ []) unnamed' kept

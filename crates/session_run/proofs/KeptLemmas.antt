@@ -1,50 +1,33 @@
 -- How a session stands, after it took or dropped a snapshot.
-use Rattle.std.proofs.Common.{◌≡◌, ℕ, suc, ◌+◌, ◌<◌, ◌≤◌, List, [], ◌∷◌, ◌++◌, length, take, refl, ap, sym, ◌∙◌, arith, subst, Bool, true, false, not, cond, ◌==◌, ◌&&◌, ◌||◌, reverse, Some, nat_le, Contains, inl, inr}
+use Rattle.std.proofs.Math.Seq.{take-append_seam}
+use Rattle.tx_model.proofs.Names.{same_name_refl, same_name_equal}
+use Rattle.std.proofs.Common.{◌≡◌, ℕ, ◌+◌, List, [], ◌∷◌, ◌++◌, length, take, refl, ap, sym, ◌∙◌, subst, Bool, true, false, not, cond, ◌==◌, ◌&&◌, ◌||◌, reverse, nat_le, Contains}
 use Rattle.std.specs.List.{filter, AllByRecursion, list_any}
 use Rattle.std.proofs.lemmas.Bool.{false≢true}
-use Rattle.std.proofs.lemmas.Bool.Decides.{nat_tests}
-use Rattle.std.proofs.lemmas.List.Elements.{filter-append, Contains-append_left, Contains-push}
 use Rattle.tx_model.specs.declared.event.By.{By}
 use Rattle.tx_model.specs.declared.event.Event.{Event}
-use Rattle.tx_model.specs.declared.event.Event.TheVariants as events
 use Rattle.tx_model.specs.declared.record.Counters.{Counters}
-use Rattle.tx_model.specs.Events.{by_of, is_of, same_name}
-use Rattle.tx_model.specs.Families.{top, is_top, enclosing}
-use Rattle.tx_model.specs.History.{IsLegal, MayCome}
+use Rattle.tx_model.specs.Events.{by_of, same_name}
 use Rattle.tx_model.specs.Horizon.{LiveSnap, is_live, is_snap_of, live_up, live_snaps}
-use Rattle.tx_model.specs.IdLists.{Ascending, has}
-use Rattle.tx_model.specs.Replies.{most_levels}
-use Rattle.tx_model.specs.Running.{open_ids, is_open}
 use Rattle.tx_model.specs.Savepoints.{is_inside}
 use Rattle.tx_model.specs.Snapshots.{snapshot_data}
-use Rattle.tx_model.proofs.Closing.{one_top}
-use Rattle.tx_model.proofs.ClosingGrowth.{IsClosing, closing_open_ids, closing_undo, closing_commit, closing_abort}
 use Rattle.tx_model.proofs.HorizonSteps.{live_push}
-use Rattle.tx_model.proofs.IdListSteps.{all_has, has_contains, ascending_push, ascending_filtered}
-use Rattle.tx_model.proofs.LegalSoundness.{legal_sound, open_member}
-use Rattle.tx_model.proofs.ListSteps.{eqb-refl, equal_from, below_not, list_any-push, all_push, all_filter, all_weaker, filter_agree_on, length_push}
-use Rattle.tx_model.proofs.Membership.{Has, contains_has, has_contains as has-contains, filter_has, any_has}
-use Rattle.tx_model.proofs.NameBounds.{AreBelow}
-use Rattle.tx_model.proofs.OpenGrowth.{fresh_top, enclosing_sub, family_kept}
-use Rattle.tx_model.proofs.PlaceLemmas.{slice_get-grows, take-grows, both_all}
-use Rattle.tx_model.proofs.RunningGrowth.{id_open_ids, id_family, given_to_below, quiet_open_ids, quiet_family, IsQuiet}
-use Rattle.tx_model.proofs.Soundness.{not_inside}
-use Rattle.tx_model.proofs.SubGrowth.{sub_family, sub_is_no_top, sub_open_ids}
+use Rattle.tx_model.proofs.ListSteps.{eqb-refl, list_any-push, all_push, all_filter, all_weaker}
+use Rattle.tx_model.proofs.Membership.{contains_has, any_has}
+use Rattle.tx_model.proofs.Lineages.{top_kept, enclosing_kept}
+use Rattle.tx_model.proofs.PlaceLemmas.{last_at}
+use Rattle.tx_model.proofs.QuietGrowth.{quiet_open_ids, quiet_family, IsQuiet}
 use Rattle.snap_core.specs.Says.{data_of}
-use Rattle.proc_table.specs.Table.{end_event}
 use Rattle.session_run.specs.declared.session.Kept.{Kept}
-use Rattle.session_run.specs.declared.session.Session.{Session}
-use Rattle.session_run.specs.Gives.{IsInTurn, last_of}
-use Rattle.session_run.specs.Stands.{Stands, Nest, IsKept, IsSavepointIn}
-use Rattle.session_run.proofs.CutLemmas.{last_apart}
-use Rattle.session_run.proofs.ListLemmas.{slice_end, take_end, same_name-true, name_itself}
+use Rattle.session_run.specs.Stands.{Nest, IsKept, IsSavepointIn}
 use Rattle.session_run.proofs.StandsLemmas.{Stood, kept_grows, turn_push}
+use Rattle.tx_model.specs.declared.event.Event.TheVariants as events
 
 quiet_savepoint : (h : List Event) (e : Event) (opened : List ℕ) (x : ℕ) → IsQuiet e → IsSavepointIn h opened x → IsSavepointIn (h ++ e ∷ []) opened x
 quiet_savepoint h e opened x q s = (
   s.0,
-  ap (λ t. t == x) (quiet_family h e x q).same_top ∙ s.1,
-  all_weaker (λ y. is_inside h x y ≡ nat_le x y) (λ y. is_inside (h ++ e ∷ []) x y ≡ nat_le x y) (λ y i. ap (list_any (λ z. x == z)) (quiet_family h e y q).same_enclosing ∙ i) opened s.2,
+  ap (λ t. t == x) (top_kept h e x (quiet_family h e x q)) ∙ s.1,
+  all_weaker (λ y. is_inside h x y ≡ nat_le x y) (λ y. is_inside (h ++ e ∷ []) x y ≡ nat_le x y) (λ y i. ap (list_any (λ z. x == z)) (enclosing_kept h e y (quiet_family h e y q)) ∙ i) opened s.2,
 )
 
 -- an event that gives and closes nothing
@@ -53,7 +36,7 @@ nest_quiet h e opened [] q n = n
 nest_quiet h e opened (t ∷ ids) q n = (
   n.0,
   n.1,
-  ap (λ u. u == t) (quiet_family h e t q).same_top ∙ n.2,
+  ap (λ u. u == t) (top_kept h e t (quiet_family h e t q)) ∙ n.2,
   all_weaker (IsSavepointIn h opened) (IsSavepointIn (h ++ e ∷ []) opened) (λ x s. quiet_savepoint h e opened x q s) ids n.3,
   n.4,
 )
@@ -84,8 +67,8 @@ stood_snapped base h by opened named unnamed kept k c p d s =
     ∙ sym (list_any-push (λ j. same_name j.name name) kept k))
     (all_push (IsKept base (h ++ e ∷ []) by.session) kept k (kept_grows base h (e ∷ []) by.session kept s.snaps)
     (record {
-      taken = rw (p, c) (slice_end h e);
-      holds = d ∙ ap (snapshot_data base.next) (sym (ap (λ n. take n (h ++ e ∷ [])) p ∙ take_end h e));
+      taken = rw (p, c) (last_at h e);
+      holds = d ∙ ap (snapshot_data base.next) (sym (ap (λ n. take n (h ++ e ∷ [])) p ∙ take-append_seam h (e ∷ [])));
     }))
     s
 
@@ -115,7 +98,7 @@ other_name a name other f t = one (same_name a name) refl
   where
     one : (b : Bool) → same_name a name ≡ b → b ≡ false
     one false e = refl
-    one true e = absurd (false≢true (sym f ∙ ap (λ n. same_name n other) (sym (same_name-true a name e)) ∙ t))
+    one true e = absurd (false≢true (sym f ∙ ap (λ n. same_name n other) (sym (same_name_equal a name e)) ∙ t))
 
 other_snap : (session : ℕ) (name other : List ℕ) (l : LiveSnap) → same_name name other ≡ false → is_snap_of session other l ≡ true → is_snap_of session name l ≡ false
 other_snap session name other l f t = one (l.session == session) t
@@ -130,7 +113,7 @@ live_dropped first h by name other kept live = ap (list_any (is_snap_of by.sessi
   where
     one : (b : Bool) → same_name name other ≡ b →
         list_any (is_snap_of by.session other) (filter (λ l. not (is_snap_of by.session name l)) (live_snaps first h)) ≡ list_any (λ k. same_name k.name other) (filter (λ k. not (same_name k.name name)) kept)
-    one true e = subst (λ o. list_any (is_snap_of by.session o) (filter (λ l. not (is_snap_of by.session name l)) (live_snaps first h)) ≡ list_any (λ k. same_name k.name o) (filter (λ k. not (same_name k.name name)) kept)) (same_name-true name other e)
+    one true e = subst (λ o. list_any (is_snap_of by.session o) (filter (λ l. not (is_snap_of by.session name l)) (live_snaps first h)) ≡ list_any (λ k. same_name k.name o) (filter (λ k. not (same_name k.name name)) kept)) (same_name_equal name other e)
         (any_gone (is_snap_of by.session name) (live_snaps first h) ∙ sym (any_gone (λ k. same_name k.name name) kept))
     one false e = any_dropped (is_snap_of by.session other) (is_snap_of by.session name) (live_snaps first h) (λ l t. other_snap by.session name other l e t)
         ∙ live other
@@ -150,4 +133,4 @@ stood_dropped base h by name opened named unnamed kept s =
 pub live_here : (first : ℕ) (h : List Event) (session : ℕ) (name : List ℕ) (xmin : ℕ) → Contains (live_snaps first h) (record { session = session; name = name; xmin = xmin }) → is_live first session name h ≡ true
 live_here first h session name xmin k =
     any_has (is_snap_of session name) (live_snaps first h) (record { session = session; name = name; xmin = xmin }) (contains_has (live_snaps first h) (record { session = session; name = name; xmin = xmin }) k)
-    (ap (λ b. b && same_name name name) (eqb-refl session) ∙ name_itself name)
+    (ap (λ b. b && same_name name name) (eqb-refl session) ∙ same_name_refl name)

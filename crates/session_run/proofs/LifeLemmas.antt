@@ -1,9 +1,9 @@
 -- A life's room, and what a step of its rounds leaves.
-use Rattle.std.proofs.Common.{◌≡◌, ◌⊎◌, inl, inr, Bool, IsTrue, suc, zero, drop, ℕ, ◌+◌, ◌<◌, ◌≤◌, ◌^◌, ◌==◌, List, [], ◌∷◌, ◌++◌, Some, None, refl, sym, ap, subst, ◌∙◌, arith, ⊎_elim, true, false, length, map, take, get_or, append-nil, append_assoc, length-append, ◌||◌}
-use Rattle.std.proofs.lemmas.Bool.Decides.{nat_tests}
+use Rattle.tx_model.proofs.ListSteps.{both_all, equal_swap, le_or_over}
+use Rattle.std.proofs.Common.{◌≡◌, ◌⊎◌, Bool, IsTrue, suc, zero, drop, ℕ, ◌+◌, ◌<◌, ◌≤◌, ◌^◌, ◌==◌, List, [], ◌∷◌, ◌++◌, Some, None, refl, sym, ap, subst, ◌∙◌, arith, ⊎_elim, true, false, length, map, take, get_or, append-nil, append_assoc, length-append, ◌||◌}
 use Rattle.std.proofs.lemmas.Bool.{false≢true}
 use Rattle.std.proofs.lemmas.Grind.{flat_map-append}
-use Rattle.std.proofs.lemmas.List.{take_all, take_more, take-append-drop}
+use Rattle.std.proofs.lemmas.List.{take_all, take_more, take-append-drop, length-map}
 use Rattle.std.proofs.lemmas.List.Elements.{All-append, All-cons, All-from_recursion, All-nil, filter_map-append, recursion_from_All}
 use Rattle.std.proofs.lemmas.List.Sums.{count_by-le-length}
 use Rattle.std.proofs.lemmas.Option.{slice_get-get_or}
@@ -16,9 +16,8 @@ use Rattle.tx_model.specs.Events.{by_of, same_by}
 use Rattle.tx_model.specs.LawfulLife.{AreRounds, lines_in}
 use Rattle.tx_model.specs.Lines.{is_line_of, turn_of}
 use Rattle.tx_model.specs.Places.{first_seen}
-use Rattle.tx_model.proofs.PlaceLemmas.{take-within}
+use Rattle.std.proofs.Math.Seq.{take-append-le}
 use Rattle.session_lang.specs.declared.script.Item.{Item}
-use Rattle.session_lang.specs.declared.script.Item.TheVariants as items
 use Rattle.session_lang.specs.Rounds.{round_of, rounds_of, session_of, sessions_in, turns_of}
 use Rattle.session_lang.proofs.SeenLemmas.{is_in, is_in_seen, push_next, push_old}
 use Rattle.session_run.specs.declared.life.OpenLife.{OpenLife}
@@ -26,8 +25,8 @@ use Rattle.session_run.specs.declared.shared.Shared.{Shared}
 use Rattle.session_run.specs.declared.session.Session.{Session}
 use Rattle.session_run.specs.Progress.{AddsRound, AreFew, AreInTurn, Continues, GoesOn, MayAdd, Progress, StandFirst, has_line, lines_of, round_step}
 use Rattle.session_run.specs.Turns.{IsFirstRound, is_command, turns_in}
-use Rattle.session_run.proofs.ListLemmas.{all_append, length-map}
 use Rattle.session_run.proofs.RoundLemmas.{first_round, front_short, grouped_short, lines_ended, own_turn, rounds_push, sessions_of_turns, sessions_on, turns_front, turns_short, turns_step}
+use Rattle.session_lang.specs.declared.script.Item.TheVariants as items
 
 pub place_is : {X : Type 0} (xs : List X) (n : ℕ) (x : X) → n < length xs → x ≡ get_or xs n x → slice_get xs n ≡ Some x
 place_is xs n x l e = slice_get-get_or xs n x l ∙ ap (λ y. Some y) (sym e)
@@ -49,8 +48,8 @@ lines_length a b turns same told =
     let s = ap (λ ss. length (flat_map lines_in ss)) same in
     let t = ap length told in
     let u = length-append (map turn_of b.lines) turns in
-    let v = length-map turn_of a.lines in
-    let x = length-map turn_of b.lines in
+    let v = length-map a.lines turn_of in
+    let x = length-map b.lines turn_of in
     omega (arith, n, m, s, t, u, v, x)
 
 -- room for a session's next command
@@ -104,7 +103,7 @@ on_then a b c f g = record {
   lines = g.lines ∙ ap (λ t. t ++ g.more) f.lines ∙ append_assoc (lines_of a) f.more g.more;
   added = f.added ++ g.added;
   grown = g.grown ∙ ap (λ t. t ++ g.added) f.grown ∙ append_assoc a.shared.table.events f.added g.added;
-  new = all_append (λ e. has_line (lines_of a) e ≡ false) f.added g.added f.new (fewer_lines (lines_of a) f.more g.added (subst (λ t. AllByRecursion (λ e. has_line t e ≡ false) g.added) f.lines g.new));
+  new = both_all (λ e. has_line (lines_of a) e ≡ false) f.added g.added f.new (fewer_lines (lines_of a) f.more g.added (subst (λ t. AllByRecursion (λ e. has_line t e ≡ false) g.added) f.lines g.new));
 }
 
 -- and whose round then ends
@@ -159,23 +158,18 @@ front_of a b n ended t o =
     let new = fewer_lines (flat_map lines_in (take n a.steps)) (flat_map lines_in (drop n a.steps) ++ []) o.added (subst (λ ls. AllByRecursion (λ e. has_line ls e ≡ false) o.added) all o.new) in
     subst (λ h. StandFirst h (flat_map lines_in (take n a.steps))) (sym o.grown) (first_stays a.shared.table.events o.added (flat_map lines_in (take n a.steps)) new (t n))
 
-order : (m k : ℕ) → (m ≤ k) ⊎ (k < m)
-order zero k = inl (omega arith)
-order (suc m) zero = inr (omega arith)
-order (suc m) (suc k) = ⊎_elim (λ a. inl (omega (arith, a))) (λ a. inr (omega (arith, a))) (order m k)
-
 -- each round's events stand first, with one round more
 pub in_turn_on : (a b : OpenLife) (turns : List (ℕ × Command)) → a.lines ≡ [] → b.lines ≡ [] → AddsRound a.steps turns b.steps → AreInTurn a.shared.table.events a.steps → GoesOn b → Continues a b → AreInTurn b.shared.table.events b.steps
 in_turn_on a b turns ended ended_then k t g o = λ n. ⊎_elim
     (λ (l : n ≤ length a.steps).
-    let same : take n b.steps ≡ take n a.steps = ap (take n) k.2 ∙ take-within a.steps _ n l in
+    let same : take n b.steps ≡ take n a.steps = ap (take n) k.2 ∙ take-append-le n a.steps _ l in
     subst (λ ss. StandFirst b.shared.table.events (flat_map lines_in ss)) (sym same) (front_of a b n ended t o))
     (λ (l : length a.steps < n).
     let short = step_short (length a.steps + 1) k.0 in
     let long = ap length k.2 ∙ length-append a.steps (round_step (length a.steps + 1) k.0) in
     let same : take n b.steps ≡ b.steps = take_all n b.steps (omega (arith, short, long)) in
     subst (λ ss. StandFirst b.shared.table.events (flat_map lines_in ss)) (sym same) (ended_all b ended_then g))
-    (order n (length a.steps))
+    (le_or_over n (length a.steps))
 
 -- the lines stay where a round ends
 pub ended_lines : (a b : OpenLife) → b.steps ≡ a.steps ++ round_step (length a.steps + 1) a.lines → b.lines ≡ [] → lines_of b ≡ lines_of a
@@ -249,13 +243,9 @@ rest_shorter script round rest f some = ⊎_elim
     (λ (b : (d : Item) × (is_command d ≡ false) × (script ≡ round ++ d ∷ rest)). omega (arith, ap length b.2, length-append round (b.0 ∷ rest)))
     f.split
 
--- the sessions so far, with one item more
-eqb-swap : (a b : ℕ) → (a == b) ≡ (b == a)
-eqb-swap a b = grind (arith, nat_tests)
-
 is_in_any : (k : ℕ) (xs : List ℕ) → list_any (λ y. y == k) xs ≡ is_in k xs
 is_in_any k [] = refl
-is_in_any k (x ∷ xs) = ap (λ b. b || list_any (λ y. y == k) xs) (eqb-swap x k) ∙ ap (λ b. (k == x) || b) (is_in_any k xs)
+is_in_any k (x ∷ xs) = ap (λ b. b || list_any (λ y. y == k) xs) (equal_swap x k) ∙ ap (λ b. (k == x) || b) (is_in_any k xs)
 
 sessions_step : (round : List Item) (i : ℕ) (x : Item) → i < length round → x ≡ get_or round i x → sessions_in (take (i + 1) round) ≡ sessions_in (take i round) ++ sessions_in (x ∷ [])
 sessions_step round i x l e = ap sessions_in (take_more round i x l ∙ ap (λ y. take i round ++ y ∷ []) (sym e)) ∙ filter_map-append session_of (take i round) (x ∷ [])

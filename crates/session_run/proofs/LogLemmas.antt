@@ -1,6 +1,6 @@
-use Rattle.std.proofs.Common.{◌≡◌, ℕ, zero, suc, ◌+◌, ◌*◌, ◌^◌, ◌<◌, ◌≤◌, List, [], ◌∷◌, ◌++◌, length, take, drop, refl, ap, sym, ◌∙◌, arith, Bool, true, false, cond}
+use Rattle.std.proofs.Common.{◌≡◌, ℕ, zero, suc, ◌+◌, ◌*◌, ◌^◌, ◌<◌, ◌≤◌, List, [], ◌∷◌, ◌++◌, length, take, drop, refl, ap, sym, ◌∙◌, arith, Bool, true, false, cond, take_all}
 use Rattle.std.specs.List.{count_by}
-use Rattle.std.proofs.lemmas.List.{take-append-drop}
+use Rattle.std.proofs.lemmas.List.{take-append-drop, length_push, drop_all}
 use Rattle.std.proofs.lemmas.List.Sums.{sum_by-append}
 use Rattle.tx_model.specs.declared.record.Rec.{Rec}
 use Rattle.tx_model.specs.RecordSize.{record_size, records_size}
@@ -11,22 +11,6 @@ count_push p xs x = sum_by-append (λ y. cond (p y) 1 0) xs (x ∷ [])
 
 size_push : (xs : List Rec) (x : Rec) → records_size (xs ++ x ∷ []) ≡ records_size xs + record_size x
 size_push xs x = let one : records_size (x ∷ []) ≡ record_size x = omega arith in let all = sum_by-append record_size xs (x ∷ []) in omega arith
-
-length_push : (xs : List Rec) (x : Rec) → length (xs ++ x ∷ []) ≡ length xs + 1
-length_push [] x = refl
-length_push (y ∷ xs) x = let k = length_push xs x in omega arith
-
-take_all : (n : ℕ) (xs : List Rec) → length xs ≤ n → take n xs ≡ xs
-take_all zero [] l = refl
-take_all zero (x ∷ xs) l = absurd (omega arith)
-take_all (suc n) [] l = refl
-take_all (suc n) (x ∷ xs) l = ap (λ t. x ∷ t) (take_all n xs (omega arith))
-
-drop_all : (n : ℕ) (xs : List Rec) → length xs ≤ n → drop n xs ≡ []
-drop_all zero [] l = refl
-drop_all zero (x ∷ xs) l = absurd (omega arith)
-drop_all (suc n) [] l = refl
-drop_all (suc n) (x ∷ xs) l = drop_all n xs (omega arith)
 
 take_within : (n : ℕ) (xs : List Rec) (x : Rec) → n ≤ length xs → take n (xs ++ x ∷ []) ≡ take n xs
 take_within zero xs x l = refl

@@ -1,4 +1,5 @@
 -- What a session's next command does to the progress of all.
+use Rattle.tx_model.proofs.ListSteps.{both_all, all_weaker}
 use Rattle.std.proofs.Common.{◌≡◌, ◌||◌, ◌≢◌, ℕ, zero, suc, ◌+◌, ◌<◌, ◌≤◌, ◌⊎◌, List, [], ◌∷◌, ◌++◌, Some, refl, sym, ap, subst, ◌∙◌, arith, inl, inr, ⊎_elim, Bool, true, false, cond, length, set, append-nil, length-append, length-set, ne_eqb}
 use Rattle.std.specs.List.{AllByRecursion, count_by, filter, slice_get}
 use Rattle.std.proofs.lemmas.Bool.Decides.{nat_tests}
@@ -24,7 +25,6 @@ use Rattle.session_run.specs.Acts.{IsSoundAt, Ready}
 use Rattle.session_run.specs.Sound.{HasRoom}
 use Rattle.session_run.specs.Progress.{AreFew, IsLeft, IsNotLater, Progress, Ran, has_line}
 use Rattle.session_run.proofs.Beside.{AreBeside, stands_beside}
-use Rattle.session_run.proofs.ListLemmas.{all_append, all_weaker}
 
 apart : (a b : By) → (a.session ≡ b.session → a.command < b.command) → same_by a b ≡ false
 apart a b h = grind (arith, nat_tests)
@@ -176,7 +176,7 @@ module _ (w w' : Shared) (sessions : List Session) (lines : List Line) (n : ℕ)
     stands = subst (λ m. Stands w'.table.base w'.table.events n m s') (sym count_then) (subst (λ k. Stands w'.table.base w'.table.events k l.by.command s') session_is r.stands);
     stance_is = ap (stance w'.table.events (lines ++ l ∷ [])) (sym session_is) ∙ stance_then;
     counted = count_then ∙ counted ∙ sym (lines_counted lines l) ∙ ap (λ k. count_by (is_line_of k) (lines ++ l ∷ [])) session_is;
-    earlier = all_append (IsNotLater n s'.commands) lines (l ∷ []) (all_weaker (IsNotLater n s.commands) (IsNotLater n s'.commands) (λ k f e. let j = f e in omega (arith, r.count)) lines left.earlier) ((λ e. omega (arith, count_then)), tt);
+    earlier = both_all (IsNotLater n s'.commands) lines (l ∷ []) (all_weaker (IsNotLater n s.commands) (IsNotLater n s'.commands) (λ k f e. let j = f e in omega (arith, r.count)) lines left.earlier) ((λ e. omega (arith, count_then)), tt);
   }
 
   legal_then : IsLegal w.table.base (w.table.events ++ r.acts.added)
@@ -197,7 +197,7 @@ module _ (w w' : Shared) (sessions : List Session) (lines : List Line) (n : ℕ)
             ∙ stance_grows w.table.events r.acts.added lines k others
             ∙ b.stance_is;
         counted = b.counted ∙ sym (count_push k lines l not_its);
-        earlier = all_append (IsNotLater k t.commands) lines (l ∷ []) b.earlier ((λ e. absurd (not_its (sym e))), tt);
+        earlier = both_all (IsNotLater k t.commands) lines (l ∷ []) b.earlier ((λ e. absurd (not_its (sym e))), tt);
       }
 
   pub progress_on : Progress w' (set sessions n s') (lines ++ l ∷ [])

@@ -1,53 +1,33 @@
 -- A session has less than half a ring of ids open, so that its records stay small.
-use Rattle.std.proofs.Common.{◌≡◌, ℕ, suc, zero, ◌+◌, ◌-◌, ◌%◌, ◌^◌, ◌<◌, ◌≤◌, List, [], ◌∷◌, ◌++◌, length, refl, sym, ap, subst, ◌∙◌, arith, Bool, true, false, ◌&&◌, ◌==◌, ◌||◌, cond, nat_lt, min, inl, inr, ⊎_elim, map}
-use Rattle.std.proofs.lemmas.Bool.Decides.{nat_tests}
+use Rattle.std.proofs.Common.{◌≡◌, ℕ, ◌+◌, ◌-◌, ◌^◌, ◌<◌, ◌≤◌, List, [], ◌∷◌, ◌++◌, length, refl, sym, ap, subst, ◌∙◌, arith, Bool, true, false, cond, nat_lt, min, map}
 use Rattle.std.specs.List.{filter, AllByRecursion}
 use Rattle.xid_order.specs.Ids.{next_id, low_half, IsFullId}
 use Rattle.tx_model.specs.declared.event.Event.{Event}
-use Rattle.tx_model.specs.declared.event.Event.TheVariants as events
 use Rattle.tx_model.specs.declared.record.Counters.{Counters}
 use Rattle.tx_model.specs.Base.{IsBase}
-use Rattle.tx_model.specs.Events.{given}
+use Rattle.tx_model.specs.Events.{given, given_to}
 use Rattle.tx_model.specs.Families.{top}
 use Rattle.tx_model.specs.History.{IsLegal, MayCome, next_given, nth_id}
 use Rattle.tx_model.specs.Horizon.{LiveSnap, oldest_id, oldest_xmin, live_snaps}
-use Rattle.tx_model.specs.IdLists.{Ascending, has}
+use Rattle.tx_model.specs.IdLists.{Ascending}
 use Rattle.tx_model.specs.Limits.{stop_limit, up_to_normal, down_to_normal}
 use Rattle.tx_model.specs.Running.{running, running_tops, open_ids, is_open}
 use Rattle.tx_model.specs.Snapshots.{latest, snapshot_xmin, snapshot_xmax}
 use Rattle.tx_model.proofs.ClosingGrowth.{IsClosing, closing_running, closing_undo, closing_commit, closing_abort}
-use Rattle.tx_model.proofs.GivenIds.{legal_front, legal_last, next_above}
+use Rattle.tx_model.proofs.GivenIds.{legal_front, legal_last, open_given}
+use Rattle.tx_model.proofs.IdOrder.{next_above, next_least, next_upto, next_full, nth_full}
 use Rattle.tx_model.proofs.HorizonSteps.{oldest_push}
-use Rattle.tx_model.proofs.IdListSteps.{has-filter, has_contains, all_has}
-use Rattle.tx_model.proofs.IdOrder.{next_least, next_upto, fold_min_start, fold_min_has}
-use Rattle.tx_model.proofs.LegalSoundness.{legal_sound, open_member, has_given_to, root_runs}
-use Rattle.tx_model.proofs.ListSteps.{all_filter, all_push, eqb-refl, or_true, equal_from, or_cases}
-use Rattle.tx_model.proofs.Membership.{Has, by_end}
-use Rattle.tx_model.proofs.NameBounds.{AreBelow}
-use Rattle.tx_model.proofs.RunningGrowth.{IsQuiet, quiet_given, quiet_running, running_below, id_running}
-use Rattle.tx_model.proofs.Soundness.{next_after}
-use Rattle.tx_model.proofs.SubGrowth.{sub_running}
+use Rattle.tx_model.proofs.IdListSteps.{contains_true, true_has, has_true}
+use Rattle.tx_model.proofs.Extremes.{fold_min_start, fold_min_has}
+use Rattle.tx_model.proofs.Soundness.{legal_sound, open_member, root_runs}
+use Rattle.tx_model.proofs.ListSteps.{all_filter, all_push, filter_yes}
+use Rattle.tx_model.proofs.Membership.{by_end, all_from, all_at, Has, filter_has, has_filter}
+use Rattle.tx_model.proofs.NameBounds.{AreBelow, running_below}
+use Rattle.tx_model.proofs.QuietGrowth.{IsQuiet, quiet_given, quiet_running}
+use Rattle.tx_model.proofs.GivingGrowth.{giving_running, giving_id, giving_sub}
+use Rattle.tx_model.proofs.GivenGrowth.{next_after}
 use Rattle.proc_table.proofs.Bounds.{latest_bounds, next_id_to, stop_to}
-
-all_of : (P : ℕ → Type 0) (xs : List ℕ) → ((x : ℕ) → has xs x ≡ true → P x) → AllByRecursion P xs
-all_of P [] f = tt
-all_of P (x ∷ xs) f = (f x (ap (λ b. b || has xs x) (eqb-refl x)), all_of P xs (λ y h. f y (ap (λ b. (y == x) || b) h ∙ or_true (y == x))))
-
-has-has : (xs : List ℕ) (x : ℕ) → has xs x ≡ true → Has xs x
-has-has [] x e = absurd cc
-has-has (y ∷ xs) x e = ⊎_elim (λ q. inl (sym (equal_from x y q))) (λ r. inr (has-has xs x r)) (or_cases (x == y) (has xs x) e)
-
-next_full : (n : ℕ) → IsFullId (next_id n)
-next_full n =
-    let step : (b : Bool) → nat_lt (low_half (n + 1)) 3 ≡ b → 3 ≤ low_half (cond b (n + 1 + (3 - low_half (n + 1))) (n + 1)) = elim [
-      | true ↦ λ q. let l : (n + 1) % 2 ^ 32 < 3 = grind (arith, nat_tests) in omega arith
-      | false ↦ λ q. let l : 3 ≤ (n + 1) % 2 ^ 32 = grind (arith, nat_tests) in omega arith
-    ] in
-    step (nat_lt (low_half (n + 1)) 3) refl
-
-nth_full : (first n : ℕ) → IsFullId first → IsFullId (nth_id first n)
-nth_full first zero full = full
-nth_full first (suc n) full = next_full (nth_id first n)
+use Rattle.tx_model.specs.declared.event.Event.TheVariants as events
 
 up_upto : (n : ℕ) → up_to_normal n ≤ n + 3
 up_upto n = elim (nat_lt (low_half n) 3) as (λ b. cond b (n + (3 - low_half n)) n ≤ n + 3) [ true ↦ omega arith | false ↦ omega arith ]
@@ -83,12 +63,8 @@ within_fewer base h e q o g r w =
       from = subst (λ n. AllByRecursion (λ x. n ≤ x) (running (h ++ e ∷ []))) (sym o) (subst (AllByRecursion (λ x. oldest_id base.oldest h ≤ x)) (sym r) (all_filter (λ x. oldest_id base.oldest h ≤ x) q (running h) w.from));
     }
 
-keep_all : (xs : List ℕ) → filter (λ x. true) xs ≡ xs
-keep_all [] = refl
-keep_all (x ∷ xs) = ap (λ t. x ∷ t) (keep_all xs)
-
 within_quiet : (base : Counters) (h : List Event) (e : Event) → IsQuiet e → oldest_id base.oldest (h ++ e ∷ []) ≡ oldest_id base.oldest h → Within base h → Within base (h ++ e ∷ [])
-within_quiet base h e q o w = within_fewer base h e (λ x. true) o (quiet_given h e q) (quiet_running h e q ∙ sym (keep_all (running h))) w
+within_quiet base h e q o w = within_fewer base h e (λ x. true) o (quiet_given h e q) (quiet_running h e q ∙ sym (filter_yes (running h))) w
 
 within_closing : (base : Counters) (h : List Event) (e : Event) (q : ℕ → Bool) → IsClosing h e q → oldest_id base.oldest (h ++ e ∷ []) ≡ oldest_id base.oldest h → Within base h → Within base (h ++ e ∷ [])
 within_closing base h e q c o w = within_fewer base h e q o c.gives (closing_running h e q c) w
@@ -115,9 +91,9 @@ within_oldest base h e oldest b legal q o from to w =
     let xmin : oldest_xmin base.next h ≤ snapshot_xmin base.next h = fold_min_start (snapshot_xmin base.next h) (map (λ (s : LiveSnap). s.xmin) (live_snaps base.next h)) in
     let xmax : snapshot_xmin base.next h ≤ snapshot_xmax base.next h = fold_min_start (snapshot_xmax base.next h) (running_tops h) in
     let late = next_least (latest base.next h) (next_given base.next h) (nth_full base.next (length (given h)) b.full) (latest_bounds base h b legal).1 in
-    let each : AllByRecursion (λ x. oldest ≤ x) (running h) = all_of (λ x. oldest ≤ x) (running h) (λ x k.
-    let root = root_runs base.next h x sound k in
-    let under : snapshot_xmin base.next h ≤ top h x = fold_min_has (snapshot_xmax base.next h) (running_tops h) (top h x) (has-has (running_tops h) (top h x) root.0) in
+    let each : AllByRecursion (λ x. oldest ≤ x) (running h) = all_from (λ x. oldest ≤ x) (running h) (λ x k.
+    let root = root_runs base.next h x sound (has_true (running h) x k) in
+    let under : snapshot_xmin base.next h ≤ top h x = fold_min_has (snapshot_xmax base.next h) (running_tops h) (top h x) (true_has (running_tops h) (top h x) root.0) in
     omega (arith, root.1)) in
     record {
       to_next = omega arith;
@@ -128,10 +104,10 @@ within_oldest base h e oldest b legal q o from to w =
 
 within_step : (base : Counters) (h : List Event) (e : Event) → IsBase base → IsLegal base h → MayCome base h e → Within base h → Within base (h ++ e ∷ [])
 within_step base h (events.Id by id) b legal may w =
-    within_given base h (events.Id by id) id refl may.0.next may.0.below_stop (oldest_push base.oldest h (events.Id by id)) (id_running h by id (subst (λ t. AreBelow t h) (sym may.0.next) (legal_sound base h legal).below)) w
+    within_given base h (events.Id by id) id refl may.0.next may.0.below_stop (oldest_push base.oldest h (events.Id by id)) (giving_running h (events.Id by id) id (giving_id h by id (subst (λ t. AreBelow t h) (sym may.0.next) (legal_sound base h legal).below))) w
 within_step base h (events.Sub by parent id) b legal may w =
     within_given base h (events.Sub by parent id) id refl may.0.next may.0.below_stop (oldest_push base.oldest h (events.Sub by parent id))
-    (sub_running h by parent id (subst (λ t. AreBelow t h) (sym may.0.next) (legal_sound base h legal).below) (open_member by.session h parent (has_contains (open_ids by.session h) parent may.1)).1) w
+    (giving_running h (events.Sub by parent id) id (giving_sub h by parent id (subst (λ t. AreBelow t h) (sym may.0.next) (legal_sound base h legal).below) (open_member by.session h parent (contains_true (open_ids by.session h) parent may.1)).1)) w
 within_step base h (events.Undo by id) b legal may w = within_closing base h (events.Undo by id) _ (closing_undo h by id) (oldest_push base.oldest h (events.Undo by id)) w
 within_step base h (events.Commit by t) b legal may w = within_closing base h (events.Commit by t) _ (closing_commit h by t) (oldest_push base.oldest h (events.Commit by t)) w
 within_step base h (events.Abort by t) b legal may w = within_closing base h (events.Abort by t) _ (closing_abort h by t) (oldest_push base.oldest h (events.Abort by t)) w
@@ -160,10 +136,10 @@ pub open_few : (base : Counters) (h : List Event) (session : ℕ) → IsBase bas
 open_few base h session b legal a =
     let w = within base h b legal in
     let sound = legal_sound base h legal in
-    let runs : (x : ℕ) → has (open_ids session h) x ≡ true → has (running h) x ≡ true =
-    λ x k. let m = open_member session h x k in has-filter (is_open h) (given h) x ∙ ap (λ c. c && is_open h x) (has_given_to session h x m.0) ∙ m.1 in
-    let from = all_of (λ x. oldest_id base.oldest h ≤ x) (open_ids session h) (λ x k. all_has (λ y. oldest_id base.oldest h ≤ y) (running h) x w.from (runs x k)) in
-    let to = all_of (λ x. x < next_given base.next h) (open_ids session h) (λ x k. all_has (λ y. y < next_given base.next h) (running h) x (running_below (next_given base.next h) h sound.below) (runs x k)) in
+    let runs : (x : ℕ) → Has (open_ids session h) x → Has (running h) x =
+    λ x k. filter_has (is_open h) (given h) x (open_given session h x k) (has_filter (is_open h) (given_to session h) x k).1 in
+    let from = all_from (λ x. oldest_id base.oldest h ≤ x) (open_ids session h) (λ x k. all_at (λ y. oldest_id base.oldest h ≤ y) (running h) x w.from (runs x k)) in
+    let to = all_from (λ x. x < next_given base.next h) (open_ids session h) (λ x k. all_at (λ y. y < next_given base.next h) (running h) x (running_below (next_given base.next h) h sound.below) (runs x k)) in
     let few = ascending_few (open_ids session h) (oldest_id base.oldest h) (next_given base.next h) w.to_next a from to in
     omega (arith, w.near)
 

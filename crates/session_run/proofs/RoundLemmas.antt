@@ -1,4 +1,5 @@
 -- The commands of a round, session by session, and the rounds of a script.
+use Rattle.tx_model.proofs.ListSteps.{eqb-refl}
 use Rattle.std.proofs.Common.{◌≡◌, ◌≢◌, ℕ, ◌+◌, ◌<◌, ◌≤◌, ◌⊎◌, ◌==◌, List, [], ◌∷◌, ◌++◌, refl, sym, ap, subst, ◌∙◌, arith, ⊎_elim, Bool, true, false, not, cond, length, map, take, drop, get_or, append-nil, append_assoc, length-append, eqb-true, add-zero}
 use Rattle.std.proofs.lemmas.Bool.{false≢true}
 use Rattle.std.proofs.lemmas.Bool.Decides.{nat_tests}
@@ -19,9 +20,6 @@ use Rattle.session_lang.specs.declared.script.Item.TheVariants as items
 use Rattle.session_lang.specs.Rounds.{round_of, rounds_from, rounds_of, sessions_in, turns_of}
 use Rattle.session_run.specs.Progress.{round_step}
 use Rattle.session_run.specs.Turns.{is_command, turn_in, turns_in}
-
-eqb-refl : (n : ℕ) → (n == n) ≡ true
-eqb-refl n = grind (arith, nat_tests)
 
 -- the commands of the sessions other than x
 abbrev others : ℕ → List (ℕ × Command) → List (ℕ × Command)

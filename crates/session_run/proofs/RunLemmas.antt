@@ -1,7 +1,8 @@
 -- How a life begins, and what its report says.
-use Rattle.std.proofs.Common.{◌≡◌, ℕ, zero, suc, ◌<◌, ◌≤◌, ◌==◌, ◌||◌, List, [], ◌∷◌, ◌++◌, Some, None, refl, sym, ap, subst, ◌∙◌, arith, Bool, true, false, length, take, IsTrue, append-nil, length-append, codes}
+use Rattle.std.proofs.lemmas.Bool.{or_right}
+use Rattle.tx_model.proofs.ListSteps.{eqb-refl}
+use Rattle.std.proofs.Common.{◌≡◌, ℕ, zero, suc, ◌<◌, ◌≤◌, ◌==◌, ◌||◌, List, [], ◌∷◌, ◌++◌, Some, None, refl, sym, ap, subst, ◌∙◌, arith, true, length, take, IsTrue, append-nil, length-append, codes}
 use Rattle.std.specs.List.{All, AllByRecursion, filter, flat_map, list_any, slice_get}
-use Rattle.std.proofs.lemmas.Bool.Decides.{nat_tests}
 use Rattle.std.proofs.lemmas.List.Elements.{All-from_recursion, All-nil, recursion_from_All}
 use Rattle.tx_model.specs.declared.record.Counters.{Counters}
 use Rattle.tx_model.specs.declared.report.LifeReport.{LifeReport}
@@ -128,13 +129,6 @@ items_few names (items.Round ∷ script) r =
 items_few names (items.Checkpoint ∷ script) r = absurd r.0
 items_few names (items.Crash how ∷ script) r = absurd r.0
 items_few names (items.Dump what at size ∷ script) r = absurd r.0
-
-eqb-refl : (n : ℕ) → (n == n) ≡ true
-eqb-refl n = grind (arith, nat_tests)
-
-or_right : (a b : Bool) → b ≡ true → (a || b) ≡ true
-or_right true b e = refl
-or_right false b e = e
 
 -- each command's session is one of them
 may_run : (n : ℕ) (script : List Item) → ((k : ℕ) → is_in k (sessions_in script) ≡ true → k < n) → AllByRecursion IsReadItem script → AllByRecursion (MayRun n) script

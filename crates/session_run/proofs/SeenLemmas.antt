@@ -1,4 +1,5 @@
 -- What a kept snapshot says of a stored id.
+use Rattle.tx_model.proofs.Names.{same_name_equal}
 use Rattle.std.proofs.Common.{◌≡◌, ℕ, zero, suc, ◌<◌, ◌≤◌, List, [], ◌∷◌, ◌++◌, take, Some, Option, IfSome, refl, sym, ap, subst, ◌∙◌, arith, Bool, true, false, not, nat_eq, nat_lt, cond, inl, inr, Contains, ⊎_elim, map, append-nil}
 use Rattle.std.specs.List.{filter_map, find}
 use Rattle.std.proofs.lemmas.Bool.Decides.{nat_tests}
@@ -6,12 +7,8 @@ use Rattle.std.proofs.lemmas.List.Elements.{filter_map-append, Contains-append_l
 use Rattle.xid_order.specs.Nearest.{near_id}
 use Rattle.tx_model.specs.declared.event.By.{By}
 use Rattle.tx_model.specs.declared.event.Event.{Event}
-use Rattle.tx_model.specs.declared.event.Event.TheVariants as events
-use Rattle.tx_model.specs.declared.command.Command.TheVariants as commands
 use Rattle.tx_model.specs.declared.record.Counters.{Counters}
 use Rattle.tx_model.specs.declared.reply.Reply.{Reply}
-use Rattle.tx_model.specs.declared.reply.Reply.TheVariants as replies
-use Rattle.tx_model.specs.declared.reply.Refusal.TheVariants as refusals
 use Rattle.xid_order.specs.declared.order.Xid.{Xid}
 use Rattle.tx_model.specs.Base.{IsBase}
 use Rattle.tx_model.specs.Events.{announced_by, same_name}
@@ -21,7 +18,8 @@ use Rattle.tx_model.specs.Replies.{WasAnnounced}
 use Rattle.tx_model.specs.Visible.{is_visible}
 use Rattle.tx_model.proofs.HorizonSteps.{oldest_push}
 use Rattle.tx_model.proofs.Membership.{by_end}
-use Rattle.tx_model.proofs.SnapshotBounds.{given_from, legal_take}
+use Rattle.tx_model.proofs.SnapshotBounds.{given_from}
+use Rattle.tx_model.proofs.GivenIds.{legal_take}
 use Rattle.tx_model.proofs.Visibility.{never_given}
 use Rattle.proc_table.proofs.Bounds.{full_from}
 use Rattle.session_run.specs.declared.session.Kept.{Kept}
@@ -30,7 +28,10 @@ use Rattle.session_run.specs.Acts.{Acts}
 use Rattle.session_run.specs.Seen.{IsSeen, IsVisibleAt, IsOlder, xmax_of}
 use Rattle.session_run.specs.Stands.{IsKept, told_of}
 use Rattle.session_run.proofs.ActsLemmas.{snap_found}
-use Rattle.session_run.proofs.ListLemmas.{same_name-true}
+use Rattle.tx_model.specs.declared.event.Event.TheVariants as events
+use Rattle.tx_model.specs.declared.command.Command.TheVariants as commands
+use Rattle.tx_model.specs.declared.reply.Reply.TheVariants as replies
+use Rattle.tx_model.specs.declared.reply.Refusal.TheVariants as refusals
 
 -- the oldest id is the first one or was announced
 pub was_announced : (base : Counters) (h : List Event) → WasAnnounced base h (oldest_id base.oldest h)
@@ -97,7 +98,7 @@ acts_seen w by name x levels kept k (replies.Seen visible) i n e v = record {
     snap_found name levels kept k e,
     record {
       place = k.place;
-      taken = i.taken ∙ ap (λ m. Some (events.Snap (record { session = by.session; command = k.command }) m)) (same_name-true k.name name n);
+      taken = i.taken ∙ ap (λ m. Some (events.Snap (record { session = by.session; command = k.command }) m)) (same_name_equal k.name name n);
       id = v.id;
       near = v.near;
       exact = v.exact;
@@ -115,7 +116,7 @@ acts_seen w by name x levels kept k (replies.Refused (refusals.TooOld oldest)) i
     snap_found name levels kept k e,
     record {
       place = k.place;
-      taken = i.taken ∙ ap (λ m. Some (events.Snap (record { session = by.session; command = k.command }) m)) (same_name-true k.name name n);
+      taken = i.taken ∙ ap (λ m. Some (events.Snap (record { session = by.session; command = k.command }) m)) (same_name_equal k.name name n);
       normal = v.normal;
       older = v.older;
       announced = v.announced;

@@ -1,17 +1,15 @@
 -- How a session stands, after one more event of its own.
-use Rattle.std.proofs.Common.{◌≡◌, ℕ, suc, ◌+◌, ◌<◌, ◌≤◌, List, [], ◌∷◌, ◌++◌, length, take, refl, ap, sym, ◌∙◌, arith, subst, Bool, true, false, not, cond, ◌==◌, ◌&&◌, ◌||◌, reverse, Some, nat_le, Contains, inl, inr}
+use Rattle.std.proofs.lemmas.Bool.{lt-leb}
+use Rattle.std.proofs.Common.{◌≡◌, ℕ, suc, ◌+◌, ◌<◌, ◌≤◌, List, [], ◌∷◌, ◌++◌, length, take, refl, ap, sym, ◌∙◌, arith, subst, Bool, true, false, not, cond, ◌==◌, ◌||◌, reverse, Some, nat_le, inl, eqb-true, le-leb}
 use Rattle.std.specs.List.{filter, AllByRecursion, list_any}
-use Rattle.std.proofs.lemmas.Bool.{false≢true}
-use Rattle.std.proofs.lemmas.Bool.Decides.{nat_tests}
 use Rattle.std.proofs.lemmas.List.Elements.{filter-append, Contains-append_left, Contains-push}
 use Rattle.tx_model.specs.declared.event.By.{By}
 use Rattle.tx_model.specs.declared.event.Event.{Event}
-use Rattle.tx_model.specs.declared.event.Event.TheVariants as events
 use Rattle.tx_model.specs.declared.record.Counters.{Counters}
 use Rattle.tx_model.specs.Events.{by_of, is_of, same_name}
 use Rattle.tx_model.specs.Families.{top, is_top, enclosing}
 use Rattle.tx_model.specs.History.{IsLegal, MayCome}
-use Rattle.tx_model.specs.Horizon.{LiveSnap, is_live, is_snap_of, live_up, live_snaps}
+use Rattle.tx_model.specs.Horizon.{is_live, is_snap_of, live_up}
 use Rattle.tx_model.specs.IdLists.{Ascending, has}
 use Rattle.tx_model.specs.Replies.{most_levels}
 use Rattle.tx_model.specs.Running.{open_ids, is_open}
@@ -20,24 +18,21 @@ use Rattle.tx_model.specs.Snapshots.{snapshot_data}
 use Rattle.tx_model.proofs.Closing.{one_top}
 use Rattle.tx_model.proofs.ClosingGrowth.{IsClosing, closing_open_ids, closing_undo, closing_commit, closing_abort}
 use Rattle.tx_model.proofs.HorizonSteps.{live_push}
-use Rattle.tx_model.proofs.IdListSteps.{all_has, has_contains, ascending_push, ascending_filtered}
-use Rattle.tx_model.proofs.LegalSoundness.{legal_sound, open_member}
-use Rattle.tx_model.proofs.ListSteps.{eqb-refl, equal_from, below_not, list_any-push, all_push, all_filter, all_weaker, filter_agree_on, length_push}
-use Rattle.tx_model.proofs.Membership.{Has, contains_has, has_contains as has-contains, filter_has, any_has}
-use Rattle.tx_model.proofs.NameBounds.{AreBelow}
-use Rattle.tx_model.proofs.OpenGrowth.{fresh_top, enclosing_sub, family_kept}
-use Rattle.tx_model.proofs.PlaceLemmas.{slice_get-grows, take-grows, both_all}
-use Rattle.tx_model.proofs.RunningGrowth.{id_open_ids, id_family, given_to_below, quiet_open_ids, quiet_family, IsQuiet}
-use Rattle.tx_model.proofs.Soundness.{not_inside}
-use Rattle.tx_model.proofs.SubGrowth.{sub_family, sub_is_no_top, sub_open_ids}
-use Rattle.snap_core.specs.Says.{data_of}
+use Rattle.tx_model.proofs.IdListSteps.{all_has, contains_true, ascending_push, ascending_filtered}
+use Rattle.tx_model.proofs.Soundness.{legal_sound, open_member}
+use Rattle.tx_model.proofs.ListSteps.{eqb-refl, below_not, all_push, all_filter, all_weaker, filter_agree_where, length_push, both_all}
+use Rattle.tx_model.proofs.Membership.{Has, contains_has, has_contains as has-contains, filter_has, filter_none_on}
+use Rattle.tx_model.proofs.NameBounds.{AreBelow, fresh_top, given_to_below, not_inside}
+use Rattle.tx_model.proofs.Lineages.{enclosing_sub, family_kept, top_kept, enclosing_kept}
+use Rattle.tx_model.proofs.PlaceLemmas.{slice_get-grows, take-grows}
+use Rattle.tx_model.proofs.GivingGrowth.{giving_open_ids, giving_id, id_family, sub_family, sub_is_no_top, giving_sub}
 use Rattle.proc_table.specs.Table.{end_event}
 use Rattle.session_run.specs.declared.session.Kept.{Kept}
 use Rattle.session_run.specs.declared.session.Session.{Session}
 use Rattle.session_run.specs.Gives.{IsInTurn, last_of}
 use Rattle.session_run.specs.Stands.{Stands, Nest, IsKept, IsSavepointIn}
 use Rattle.session_run.proofs.CutLemmas.{last_apart}
-use Rattle.session_run.proofs.ListLemmas.{slice_end, take_end, same_name-true, name_itself}
+use Rattle.tx_model.specs.declared.event.Event.TheVariants as events
 
 -- the same of the parts of a session
 pub record Stood (base : Counters) (h : List Event) (session number : ℕ) (opened named : List ℕ) (unnamed : ℕ) (kept : List Kept) : Type 0 where
@@ -109,20 +104,14 @@ pub stood_id : (base : Counters) (h : List Event) (by : By) (id unnamed unnamed'
 stood_id base h by id unnamed unnamed' kept legal may u s =
     let under : AreBelow id h = subst (λ t. AreBelow t h) (sym may.0.next) (legal_sound base h legal).below in
     record {
-      opened_are = id_open_ids by.session h by id under ∙ ap (λ l. l ++ cond (by.session == by.session) (id ∷ []) []) s.opened_are ∙ ap (λ b. cond b (id ∷ []) []) (eqb-refl by.session);
+      opened_are = giving_open_ids by.session h (events.Id by id) id (giving_id h by id under) ∙ ap (λ l. l ++ cond (by.session == by.session) (id ∷ []) []) s.opened_are ∙ ap (λ b. cond b (id ∷ []) []) (eqb-refl by.session);
       ascend = (tt, tt);
-      nest = ([], refl, ap (λ t. t == id) ((id_family h by id id).same_top ∙ fresh_top id h under) ∙ eqb-refl id, tt, (tt, tt));
+      nest = ([], refl, ap (λ t. t == id) ((top_kept h (events.Id by id) id (id_family h by id id)) ∙ fresh_top id h under) ∙ eqb-refl id, tt, (tt, tt));
       depth = omega (arith, s.depth);
       turn = turn_push by h (events.Id by id) refl s.turn;
       live = λ name. live_quiet base.next by.session name h (events.Id by id) refl ∙ s.live name;
       snaps = kept_grows base h (events.Id by id ∷ []) by.session kept s.snaps;
     }
-
-nat_le-true : (a b : ℕ) → a ≤ b → nat_le a b ≡ true
-nat_le-true a b l = grind (arith, nat_tests)
-
-nat_le-false : (a b : ℕ) → b < a → nat_le a b ≡ false
-nat_le-false a b l = grind (arith, nat_tests)
 
 -- the last of ascending ids is the greatest
 up_to_last : (xs : List ℕ) (p : ℕ) → Ascending xs → last_of xs ≡ Some p → AllByRecursion (λ x. x ≤ p) xs
@@ -132,7 +121,7 @@ up_to_last (x ∷ (y ∷ xs)) p a e = let k : AllByRecursion (λ z. z ≤ p) (y 
 
 last_open : (h : List Event) (opened savepoints : List ℕ) (t p : ℕ) → has opened t ≡ true → AllByRecursion (IsSavepointIn h opened) savepoints → last_of (t ∷ savepoints) ≡ Some p → has opened p ≡ true
 last_open h opened [] t p o a e = let q : t ≡ p = cc in subst (λ z. has opened z ≡ true) q o
-last_open h opened (x ∷ xs) t p o a e = last_open h opened xs x p (has_contains opened x a.0.0) a.1 e
+last_open h opened (x ∷ xs) t p o a e = last_open h opened xs x p (contains_true opened x a.0.0) a.1 e
 
 head_had : (opened rest : List ℕ) (t : ℕ) → opened ≡ t ∷ rest → has opened t ≡ true
 head_had opened rest t e = subst (λ l. has l t ≡ true) (sym e) (ap (λ b. b || has rest t) (eqb-refl t))
@@ -145,21 +134,21 @@ savepoint_after : (h : List Event) (by : By) (parent id : ℕ) (opened : List �
     IsSavepointIn (h ++ events.Sub by parent id ∷ []) (opened ++ id ∷ []) x
 savepoint_after h by parent id opened x below p l s =
     let e : Event = events.Sub by parent id in
-    let x_below : x < id = all_has (λ y. y < id) opened x below (has_contains opened x s.0) in
+    let x_below : x < id = all_has (λ y. y < id) opened x below (contains_true opened x s.0) in
     let own : is_inside (h ++ e ∷ []) x id ≡ nat_le x id =
     ap (list_any (λ y. x == y)) (enclosing_sub h by parent id id ∙ ap (λ b. cond b (id ∷ enclosing h parent) (enclosing h id)) (eqb-refl id))
     ∙ ap (λ b. b || is_inside h x parent) (below_not x id x_below)
     ∙ all_has (λ y. is_inside h x y ≡ nat_le x y) opened parent s.2 p
-    ∙ nat_le-true x parent l
-    ∙ sym (nat_le-true x id (omega arith)) in (
+    ∙ le-leb x parent l
+    ∙ sym (le-leb x id (omega arith)) in (
       Contains-append_left opened (id ∷ []) x s.0,
-      ap (λ t. t == x) (sub_family h by parent id x x_below).same_top ∙ s.1,
+      ap (λ t. t == x) (top_kept h (events.Sub by parent id) x (sub_family h by parent id x x_below)) ∙ s.1,
       all_push (λ y. is_inside (h ++ e ∷ []) x y ≡ nat_le x y) opened id (old opened below s.2) own,
     )
   where
     old : (ys : List ℕ) → AllByRecursion (λ y. y < id) ys → AllByRecursion (λ y. is_inside h x y ≡ nat_le x y) ys → AllByRecursion (λ y. is_inside (h ++ events.Sub by parent id ∷ []) x y ≡ nat_le x y) ys
     old [] b a = tt
-    old (y ∷ ys) b a = (ap (list_any (λ z. x == z)) (sub_family h by parent id y b.0).same_enclosing ∙ a.0, old ys b.1 a.1)
+    old (y ∷ ys) b a = (ap (list_any (λ z. x == z)) (enclosing_kept h (events.Sub by parent id) y (sub_family h by parent id y b.0)) ∙ a.0, old ys b.1 a.1)
 
 savepoint_new : (h : List Event) (by : By) (parent id : ℕ) (opened : List ℕ) → AreBelow id h → AllByRecursion (λ y. y < id) opened → parent < id → IsSavepointIn (h ++ events.Sub by parent id ∷ []) (opened ++ id ∷ []) id
 savepoint_new h by parent id opened under below l =
@@ -167,7 +156,7 @@ savepoint_new h by parent id opened under below l =
     let own : is_inside (h ++ e ∷ []) id id ≡ nat_le id id =
     ap (list_any (λ y. id == y)) (enclosing_sub h by parent id id ∙ ap (λ b. cond b (id ∷ enclosing h parent) (enclosing h id)) (eqb-refl id))
     ∙ ap (λ b. b || is_inside h id parent) (eqb-refl id)
-    ∙ sym (nat_le-true id id (omega arith)) in (
+    ∙ sym (le-leb id id (omega arith)) in (
       Contains-push opened id,
       sub_is_no_top h by parent id under l,
       all_push (λ y. is_inside (h ++ e ∷ []) id y ≡ nat_le id y) opened id (old opened below) own,
@@ -175,7 +164,7 @@ savepoint_new h by parent id opened under below l =
   where
     old : (ys : List ℕ) → AllByRecursion (λ y. y < id) ys → AllByRecursion (λ y. is_inside (h ++ events.Sub by parent id ∷ []) id y ≡ nat_le id y) ys
     old [] b = tt
-    old (y ∷ ys) b = (ap (list_any (λ z. id == z)) (sub_family h by parent id y b.0).same_enclosing ∙ not_inside id y h under ∙ sym (nat_le-false id y b.0), old ys b.1)
+    old (y ∷ ys) b = (ap (list_any (λ z. id == z)) (enclosing_kept h (events.Sub by parent id) y (sub_family h by parent id y b.0)) ∙ not_inside id y h under ∙ sym (lt-leb id y b.0), old ys b.1)
 
 nest_sub : (h : List Event) (by : By) (parent id : ℕ) (opened named : List ℕ) → AreBelow id h → AllByRecursion (λ y. y < id) opened → last_of named ≡ Some parent → Nest h opened named →
     Nest (h ++ events.Sub by parent id ∷ []) (opened ++ id ∷ []) (named ++ id ∷ [])
@@ -187,7 +176,7 @@ nest_sub h by parent id opened (t ∷ ids) under below e n =
     let up : AllByRecursion (λ x. x ≤ parent) (t ∷ ids) = up_to_last (t ∷ ids) parent n.4 e in (
       n.0 ++ id ∷ [],
       ap (λ l. l ++ id ∷ []) n.1,
-      ap (λ u. u == t) (sub_family h by parent id t top_below).same_top ∙ n.2,
+      ap (λ u. u == t) (top_kept h (events.Sub by parent id) t (sub_family h by parent id t top_below)) ∙ n.2,
       all_push (IsSavepointIn (h ++ events.Sub by parent id ∷ []) (opened ++ id ∷ [])) ids id (olds ids open_parent up.1 n.3) (savepoint_new h by parent id opened under below parent_below),
       ascending_push (t ∷ ids) id n.4 (all_weaker (λ x. x ≤ parent) (λ x. x < id) (λ x l. omega arith) (t ∷ ids) up),
     )
@@ -203,9 +192,9 @@ stood_sub base h by parent id unnamed unnamed' opened named kept legal may last 
     let e : Event = events.Sub by parent id in
     let under : AreBelow id h = subst (λ t. AreBelow t h) (sym may.0.next) (legal_sound base h legal).below in
     let below : AllByRecursion (λ y. y < id) opened = subst (AllByRecursion (λ y. y < id)) s.opened_are (all_filter (λ y. y < id) (is_open h) _ (given_to_below id by.session h under)) in
-    let is : is_open h parent ≡ true = (open_member by.session h parent (has_contains (open_ids by.session h) parent may.1)).1 in
+    let is : is_open h parent ≡ true = (open_member by.session h parent (contains_true (open_ids by.session h) parent may.1)).1 in
     record {
-      opened_are = sub_open_ids by.session h by parent id under is ∙ ap (λ l. l ++ cond (by.session == by.session) (id ∷ []) []) s.opened_are ∙ ap (λ b. opened ++ cond b (id ∷ []) []) (eqb-refl by.session);
+      opened_are = giving_open_ids by.session h (events.Sub by parent id) id (giving_sub h by parent id under is) ∙ ap (λ l. l ++ cond (by.session == by.session) (id ∷ []) []) s.opened_are ∙ ap (λ b. opened ++ cond b (id ∷ []) []) (eqb-refl by.session);
       ascend = ascending_push opened id s.ascend below;
       nest = nest_sub h by parent id opened named under below last s.nest;
       depth = omega (arith, s.depth, length_push named id);
@@ -216,10 +205,10 @@ stood_sub base h by parent id unnamed unnamed' opened named kept legal may last 
 
 -- the ids in a savepoint that has an id are the open ones from it on
 pub inside_from : (h : List Event) (opened : List ℕ) (id : ℕ) → IsSavepointIn h opened id → filter (is_inside h id) opened ≡ filter (λ x. nat_le id x) opened
-inside_from h opened id s = filter_agree_on (λ x. is_inside h id x ≡ nat_le id x) (is_inside h id) (λ x. nat_le id x) (λ x e. e) opened s.2
+inside_from h opened id s = filter_agree_where (λ x. is_inside h id x ≡ nat_le id x) (is_inside h id) (λ x. nat_le id x) (λ x e. e) opened s.2
 
 outside_before : (h : List Event) (opened : List ℕ) (id : ℕ) → IsSavepointIn h opened id → filter (λ x. not (is_inside h id x)) opened ≡ filter (λ x. not (nat_le id x)) opened
-outside_before h opened id s = filter_agree_on (λ x. is_inside h id x ≡ nat_le id x) (λ x. not (is_inside h id x)) (λ x. not (nat_le id x)) (λ x e. ap not e) opened s.2
+outside_before h opened id s = filter_agree_where (λ x. is_inside h id x ≡ nat_le id x) (λ x. not (is_inside h id x)) (λ x. not (nat_le id x)) (λ x e. ap not e) opened s.2
 
 pub last_savepoint : (h : List Event) (opened ids : List ℕ) (id : ℕ) → 1 ≤ length ids → Nest h opened (ids ++ id ∷ []) → IsSavepointIn h opened id
 last_savepoint h opened [] id l n = absurd (omega arith)
@@ -228,10 +217,10 @@ last_savepoint h opened (t ∷ ids) id l n = (all_back (IsSavepointIn h opened) 
 savepoint_left : (h : List Event) (by : By) (opened : List ℕ) (id x : ℕ) → x < id → IsSavepointIn h opened x → IsSavepointIn (h ++ events.Undo by id ∷ []) (filter (λ y. not (nat_le id y)) opened) x
 savepoint_left h by opened id x l s =
     let e : Event = events.Undo by id in (
-      has-contains _ x (filter_has (λ y. not (nat_le id y)) opened x (contains_has opened x s.0) (ap not (nat_le-false id x l))),
-      ap (λ t. t == x) (family_kept h e x tt).same_top ∙ s.1,
+      has-contains _ x (filter_has (λ y. not (nat_le id y)) opened x (contains_has opened x s.0) (ap not (lt-leb id x l))),
+      ap (λ t. t == x) (top_kept h e x (family_kept h e x tt)) ∙ s.1,
       all_filter (λ y. is_inside (h ++ e ∷ []) x y ≡ nat_le x y) (λ y. not (nat_le id y)) opened
-          (all_weaker (λ y. is_inside h x y ≡ nat_le x y) (λ y. is_inside (h ++ e ∷ []) x y ≡ nat_le x y) (λ y i. ap (list_any (λ z. x == z)) (family_kept h e y tt).same_enclosing ∙ i) opened s.2),
+          (all_weaker (λ y. is_inside h x y ≡ nat_le x y) (λ y. is_inside (h ++ e ∷ []) x y ≡ nat_le x y) (λ y i. ap (list_any (λ z. x == z)) (enclosing_kept h e y (family_kept h e y tt)) ∙ i) opened s.2),
     )
 
 nest_undone : (h : List Event) (by : By) (opened ids : List ℕ) (id : ℕ) → 1 ≤ length ids → Nest h opened (ids ++ id ∷ []) → Nest (h ++ events.Undo by id ∷ []) (filter (λ x. not (nat_le id x)) opened) ids
@@ -239,8 +228,8 @@ nest_undone h by opened [] id l n = absurd (omega arith)
 nest_undone h by opened (t ∷ ids) id l n =
     let below = below_last (t ∷ ids) id n.4 in (
       filter (λ x. not (nat_le id x)) n.0,
-      ap (filter (λ x. not (nat_le id x))) n.1 ∙ ap (λ b. cond (not b) (t ∷ filter (λ x. not (nat_le id x)) n.0) (filter (λ x. not (nat_le id x)) n.0)) (nat_le-false id t below.0),
-      ap (λ u. u == t) (family_kept h (events.Undo by id) t tt).same_top ∙ n.2,
+      ap (filter (λ x. not (nat_le id x))) n.1 ∙ ap (λ b. cond (not b) (t ∷ filter (λ x. not (nat_le id x)) n.0) (filter (λ x. not (nat_le id x)) n.0)) (lt-leb id t below.0),
+      ap (λ u. u == t) (top_kept h (events.Undo by id) t (family_kept h (events.Undo by id) t tt)) ∙ n.2,
       lefts ids below.1 (all_front (IsSavepointIn h opened) ids (id ∷ []) n.3),
       ascending_front (t ∷ ids) (id ∷ []) n.4,
     )
@@ -268,13 +257,9 @@ stood_undone base h by id unnamed opened ids kept l s =
 all_closed : (base : Counters) (h : List Event) (e : Event) (session t : ℕ) (rest : List ℕ) → IsLegal base h → IsClosing h e (λ x. not (t == top h x)) → open_ids session h ≡ t ∷ rest → is_top h t ≡ true → open_ids session (h ++ e ∷ []) ≡ []
 all_closed base h e session t rest legal c o is =
     let mine : Has (open_ids session h) t = subst (λ l. Has l t) (sym o) (inl refl) in
-    let own : top h t ≡ t = equal_from (top h t) t is in
+    let own : top h t ≡ t = eqb-true (top h t) t is in
     closing_open_ids session h e (λ x. not (t == top h x)) c
-    ∙ filter_none_of (open_ids session h) (λ x k. ap not (ap (λ u. t == u) (one_top base h legal session x t k mine ∙ own) ∙ eqb-refl t))
-  where
-    filter_none_of : (xs : List ℕ) → ((x : ℕ) → Has xs x → not (t == top h x) ≡ false) → filter (λ x. not (t == top h x)) xs ≡ []
-    filter_none_of [] f = refl
-    filter_none_of (x ∷ xs) f = rw (f x (inl refl)) (filter_none_of xs (λ y k. f y (inr k)))
+    ∙ filter_none_on (λ x. not (t == top h x)) (open_ids session h) (λ x k. ap not (ap (λ u. t == u) (one_top base h legal session x t k mine ∙ own) ∙ eqb-refl t))
 
 closing_end : (h : List Event) (by : By) (t : ℕ) (committed : Bool) → IsClosing h (end_event committed by t) (λ x. not (t == top h x))
 closing_end h by t true = closing_commit h by t

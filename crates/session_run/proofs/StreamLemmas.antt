@@ -1,4 +1,4 @@
-use Rattle.std.proofs.Common.{◌≡◌, ℕ, ◌+◌, ◌≤◌, List, Option, sym, ap, subst, inl, ◌∙◌, take, drop, length, arith, get_or, [], ◌∷◌, ◌<◌, map, refl}
+use Rattle.std.proofs.Common.{◌≡◌, ℕ, ◌+◌, ◌≤◌, List, Option, sym, ap, subst, inl, ◌∙◌, take, drop, length, arith, get_or, [], ◌∷◌, ◌<◌, map}
 use Rattle.std.specs.Io.KnownBytes.{Appends, Consumes, IsAtEnd}
 use Rattle.session_run.specs.declared.tool.Ending.{Ending}
 use Rattle.session_run.specs.declared.tool.Ending.TheVariants as endings
@@ -27,10 +27,6 @@ one_word f xs x w b e h =
   where
     head_is : f x ∷ [] ≡ w ∷ [] → f x ≡ w
     head_is k = cc
-
-pub take_whole : (xs : List ℕ) → take (length xs) xs ≡ xs
-take_whole [] = refl
-take_whole (x ∷ xs) = ap (λ t. x ∷ t) (take_whole xs)
 
 -- how a run ends whose source was read to its end
 pub ends_of : (left left' : Option (List ℕ)) (faults faults' : ℕ) (bytes : List ℕ) (e : Ending) → Consumes left left' bytes → IsAtEnd left' → Answers bytes e → Ends left left' faults faults' e

@@ -1,4 +1,5 @@
 -- What commands on levels do, and the ends of transactions.
+use Rattle.tx_model.proofs.ListSteps.{length_push}
 use Rattle.std.proofs.Common.{◌≡◌, ℕ, zero, suc, ◌+◌, ◌<◌, ◌≤◌, List, [], ◌∷◌, ◌++◌, length, Option, refl, sym, ap, subst, ◌∙◌, arith, Bool, true, false}
 use Rattle.tx_model.specs.declared.event.By.{By}
 use Rattle.tx_model.specs.declared.event.Event.{Event}
@@ -50,10 +51,6 @@ acts_undone base by h ids id unnamed snaps some none =
       allowed = let k = levels_length (ids ++ id ∷ []) 0 in let l = length_push ids id in omega arith;
       left = ap (λ ls. record { levels = ls; snaps = snaps }) (named_less ids id);
     })
-  where
-    length_push : (xs : List ℕ) (x : ℕ) → length (xs ++ x ∷ []) ≡ suc (length xs)
-    length_push [] x = refl
-    length_push (y ∷ xs) x = ap suc (length_push xs x)
 
 -- a transaction without an id ends
 pub acts_closed : (base : Counters) (by : By) (h : List Event) (unnamed : ℕ) (snaps : List (List ℕ × ℕ)) (committed : Bool) → 1 ≤ length (levels_of [] unnamed) →

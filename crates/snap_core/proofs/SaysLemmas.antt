@@ -1,15 +1,15 @@
 -- What a snapshot says of an id is so.
+use Rattle.std.proofs.Math.Bool.{and-true}
+use Rattle.tx_model.proofs.Extremes.{fold_min_has, fold_min_start}
 use Rattle.snap_core.specs.Says.{says_of, says_top_of, IsSaid, IsSaidOfTop, SaysRight, SaysTopRight}
 use Rattle.snap_core.specs.declared.snapshot.Says.{Says}
-use Rattle.std.proofs.Common.{◌≡◌, ℕ, ◌<◌, ◌≤◌, List, [], ◌∷◌, refl, ap, sym, ◌∙◌, arith, Bool, true, false, not, ◌&&◌, ◌==◌, ◌||◌, cond, subst, inl, inr, ⊎_elim, nat_lt, min}
+use Rattle.std.proofs.Common.{◌≡◌, ℕ, ◌<◌, ◌≤◌, List, [], refl, ap, sym, ◌∙◌, arith, Bool, true, false, not, ◌&&◌, ◌==◌, ◌||◌, cond, subst, inl, inr, nat_lt, lt-ltb, ltb-true, ltb-false}
 use Rattle.std.proofs.lemmas.Bool.{false≢true}
-use Rattle.std.proofs.lemmas.Bool.Decides.{nat_tests}
-use Rattle.std.specs.List.{filter, list_any, fold}
-use Rattle.tx_model.proofs.FamilyGrowth.{equal_swap}
-use Rattle.tx_model.proofs.IdListSteps.{ascending_filtered, has-filter}
-use Rattle.tx_model.proofs.LegalSoundness.{root_runs, legal_sound}
-use Rattle.tx_model.proofs.ListSteps.{list_any_agree, or_cases, equal_from}
-use Rattle.tx_model.proofs.Soundness.{IsSound}
+use Rattle.std.specs.List.{filter, list_any}
+use Rattle.tx_model.proofs.ListSteps.{equal_swap}
+use Rattle.tx_model.proofs.IdListSteps.{ascending_filtered, has-filter, true_has}
+use Rattle.tx_model.proofs.Soundness.{root_runs, legal_sound, IsSound}
+use Rattle.tx_model.proofs.Membership.{list_any_agree_on}
 use Rattle.tx_model.specs.Events.{given}
 use Rattle.tx_model.specs.Families.{top, is_top}
 use Rattle.tx_model.specs.History.{IsLegal}
@@ -21,18 +21,6 @@ use Rattle.tx_model.specs.declared.record.Counters.{Counters}
 use Rattle.tx_model.specs.declared.reply.SnapData.{SnapData}
 use Rattle.snap_core.specs.declared.snapshot.Says.TheVariants as says
 
-fold_min_to : (xs : List ℕ) (z : ℕ) → fold min z xs ≤ z
-fold_min_to [] z = omega arith
-fold_min_to (y ∷ xs) z = let h : fold min (min z y) xs ≤ min z y = fold_min_to xs (min z y) in omega arith
-
-fold_min_has : (xs : List ℕ) (z x : ℕ) → has xs x ≡ true → fold min z xs ≤ x
-fold_min_has [] z x h = absurd (false≢true h)
-fold_min_has (y ∷ xs) z x h =
-    ⊎_elim
-    (λ e. let k : x ≡ y = equal_from x y e in let a : fold min (min z y) xs ≤ min z y = fold_min_to xs (min z y) in omega arith)
-    (λ e. fold_min_has xs (min z y) x e)
-    (or_cases (x == y) (has xs x) h)
-
 -- below the limit, the lists hold what is running
 lists_hold : (first : ℕ) (h : List Event) (x : ℕ) → IsSound first h → is_overflowed first h ≡ false → x < snapshot_xmax first h →
     (has (snapshot_xips first h) x || has (snapshot_subs first h) x) ≡ has (running h) x
@@ -40,22 +28,19 @@ lists_hold first h x s o l =
     ap (λ b. has (snapshot_xips first h) x || b) (ap (λ b. has (cond b [] (filter (λ y. not (is_top h y) && list_any (λ t. t == top h y) (snapshot_xips first h)) (running h))) x) o
     ∙ has-filter (λ y. not (is_top h y) && list_any (λ t. t == top h y) (snapshot_xips first h)) (running h) x)
     ∙ ap (λ b. b || (has (running h) x && (not (is_top h x) && list_any (λ t. t == top h x) (snapshot_xips first h))))
-    (has-filter (λ y. nat_lt y (snapshot_xmax first h)) (running_tops h) x ∙ ap (λ b. has (running_tops h) x && b) (less x (snapshot_xmax first h) l) ∙ ap (λ b. b && true) (has-filter (is_top h) (running h) x))
+    (has-filter (λ y. nat_lt y (snapshot_xmax first h)) (running_tops h) x ∙ ap (λ b. has (running_tops h) x && b) (lt-ltb x (snapshot_xmax first h) l) ∙ ap (λ b. b && true) (has-filter (is_top h) (running h) x))
     ∙ split (has (running h) x) refl (is_top h x)
   where
-    less : (a b : ℕ) → a < b → nat_lt a b ≡ true
-    less a b f = grind (arith, nat_tests)
-
     low : (a b c : ℕ) → a ≤ b → b < c → a < c
     low a b c f g = omega arith
 
     root_in : has (running h) x ≡ true → list_any (λ t. t == top h x) (snapshot_xips first h) ≡ true
     root_in f =
         let r = root_runs first h x s f in
-        list_any_agree (λ t. t == top h x) (λ t. top h x == t) (λ t. equal_swap t (top h x)) (snapshot_xips first h)
+        list_any_agree_on (λ t. t == top h x) (λ t. top h x == t) (snapshot_xips first h) (λ t _. equal_swap t (top h x))
         ∙ has-filter (λ y. nat_lt y (snapshot_xmax first h)) (running_tops h) (top h x)
         ∙ ap (λ b. b && nat_lt (top h x) (snapshot_xmax first h)) r.0
-        ∙ less (top h x) (snapshot_xmax first h) (low (top h x) x (snapshot_xmax first h) r.1 l)
+        ∙ lt-ltb (top h x) (snapshot_xmax first h) (low (top h x) x (snapshot_xmax first h) r.1 l)
 
     split : (b : Bool) → has (running h) x ≡ b → (c : Bool) → (((b && c) && true) || (b && (not c && list_any (λ t. t == top h x) (snapshot_xips first h)))) ≡ b
     split true f true = refl
@@ -71,21 +56,15 @@ below_ended first h x s l = split (has (running h) x) refl
     split false f = refl
     split true f =
         let r = root_runs first h x s f in
-        let k : snapshot_xmin first h ≤ top h x = fold_min_has (running_tops h) (snapshot_xmax first h) (top h x) r.0 in
+        let k : snapshot_xmin first h ≤ top h x = fold_min_has (snapshot_xmax first h) (running_tops h) (top h x) (true_has (running_tops h) (top h x) r.0) in
         let u : top h x ≤ x = r.1 in
         absurd (omega arith)
-
-is_less : (a b : ℕ) → nat_lt a b ≡ true → a < b
-is_less a b f = grind (arith, nat_tests)
-
-not_less : (a b : ℕ) → nat_lt a b ≡ false → b ≤ a
-not_less a b f = grind (arith, nat_tests)
 
 of_data : (first : ℕ) (h : List Event) (x : ℕ) → IsSound first h → IsSaid first h x (says_of (snapshot_data first h) x)
 of_data first h x s = low (nat_lt x (snapshot_xmin first h)) refl
   where
     ends : snapshot_xmin first h ≤ snapshot_xmax first h
-    ends = fold_min_to (running_tops h) (snapshot_xmax first h)
+    ends = fold_min_start (snapshot_xmax first h) (running_tops h)
 
     listed : (b : Bool) → (has (snapshot_xips first h) x || has (snapshot_subs first h) x) ≡ b → is_overflowed first h ≡ false → x < snapshot_xmax first h → IsSaid first h x (cond b says.Running says.Ended)
     listed true e o l = (λ a. false≢true (sym o ∙ a.0), inl (sym (lists_hold first h x s o l) ∙ e))
@@ -96,42 +75,38 @@ of_data first h x s = low (nat_lt x (snapshot_xmin first h)) refl
     over false o m l = listed (has (snapshot_xips first h) x || has (snapshot_subs first h) x) refl o l
 
     high : (b : Bool) → nat_lt x (snapshot_xmax first h) ≡ b → snapshot_xmin first h ≤ x → IsSaid first h x (cond b (cond (is_overflowed first h) says.AskParents (cond (has (snapshot_xips first h) x || has (snapshot_subs first h) x) says.Running says.Ended)) says.Running)
-    high true e m = over (is_overflowed first h) refl m (is_less x (snapshot_xmax first h) e)
-    high false e m = let k : snapshot_xmax first h ≤ x = not_less x (snapshot_xmax first h) e in ((λ a. let l : x < snapshot_xmax first h = a.2 in omega arith), inr k)
+    high true e m = over (is_overflowed first h) refl m (ltb-true x (snapshot_xmax first h) e)
+    high false e m = let k : snapshot_xmax first h ≤ x = ltb-false x (snapshot_xmax first h) e in ((λ a. let l : x < snapshot_xmax first h = a.2 in omega arith), inr k)
 
     low : (b : Bool) → nat_lt x (snapshot_xmin first h) ≡ b → IsSaid first h x (cond b says.Ended (cond (nat_lt x (snapshot_xmax first h)) (cond (is_overflowed first h) says.AskParents (cond (has (snapshot_xips first h) x || has (snapshot_subs first h) x) says.Running says.Ended)) says.Running))
     low true e =
-        let k : x < snapshot_xmin first h = is_less x (snapshot_xmin first h) e in
+        let k : x < snapshot_xmin first h = ltb-true x (snapshot_xmin first h) e in
         let u : snapshot_xmin first h ≤ snapshot_xmax first h = ends in
         ((λ a. let l : snapshot_xmin first h ≤ x = a.1 in omega arith), below_ended first h x s k, omega arith)
-    low false e = high (nat_lt x (snapshot_xmax first h)) refl (not_less x (snapshot_xmin first h) e)
+    low false e = high (nat_lt x (snapshot_xmax first h)) refl (ltb-false x (snapshot_xmin first h) e)
 
 top_of_data : (first : ℕ) (h : List Event) (t : ℕ) → IsSound first h → is_top h t ≡ true → IsSaidOfTop first h t (says_top_of (snapshot_data first h) t)
 top_of_data first h t s is_one = low (nat_lt t (snapshot_xmin first h)) refl
   where
     ends : snapshot_xmin first h ≤ snapshot_xmax first h
-    ends = fold_min_to (running_tops h) (snapshot_xmax first h)
-
-    and_true : (b : Bool) → (b && true) ≡ b
-    and_true true = refl
-    and_true false = refl
+    ends = fold_min_start (snapshot_xmax first h) (running_tops h)
 
     holds : nat_lt t (snapshot_xmax first h) ≡ true → has (snapshot_xips first h) t ≡ has (running h) t
     holds e =
-        has-filter (λ y. nat_lt y (snapshot_xmax first h)) (running_tops h) t ∙ ap (λ b. has (running_tops h) t && b) e ∙ and_true (has (running_tops h) t)
-        ∙ has-filter (is_top h) (running h) t ∙ ap (λ b. has (running h) t && b) is_one ∙ and_true (has (running h) t)
+        has-filter (λ y. nat_lt y (snapshot_xmax first h)) (running_tops h) t ∙ ap (λ b. has (running_tops h) t && b) e ∙ and-true (has (running_tops h) t)
+        ∙ has-filter (is_top h) (running h) t ∙ ap (λ b. has (running h) t && b) is_one ∙ and-true (has (running h) t)
 
     listed : (b : Bool) → has (snapshot_xips first h) t ≡ b → nat_lt t (snapshot_xmax first h) ≡ true → IsSaidOfTop first h t (cond b says.Running says.Ended)
     listed true e l = inl (sym (holds l) ∙ e)
-    listed false e l = (sym (holds l) ∙ e, is_less t (snapshot_xmax first h) l)
+    listed false e l = (sym (holds l) ∙ e, ltb-true t (snapshot_xmax first h) l)
 
     high : (b : Bool) → nat_lt t (snapshot_xmax first h) ≡ b → IsSaidOfTop first h t (cond b (cond (has (snapshot_xips first h) t) says.Running says.Ended) says.Running)
     high true e = listed (has (snapshot_xips first h) t) refl e
-    high false e = inr (not_less t (snapshot_xmax first h) e)
+    high false e = inr (ltb-false t (snapshot_xmax first h) e)
 
     low : (b : Bool) → nat_lt t (snapshot_xmin first h) ≡ b → IsSaidOfTop first h t (cond b says.Ended (cond (nat_lt t (snapshot_xmax first h)) (cond (has (snapshot_xips first h) t) says.Running says.Ended) says.Running))
     low true e =
-        let k : t < snapshot_xmin first h = is_less t (snapshot_xmin first h) e in
+        let k : t < snapshot_xmin first h = ltb-true t (snapshot_xmin first h) e in
         let u : snapshot_xmin first h ≤ snapshot_xmax first h = ends in
         (below_ended first h t s k, omega arith)
     low false e = high (nat_lt t (snapshot_xmax first h)) refl

@@ -1,11 +1,12 @@
 -- What a part says of one event, one state or one parent of an entry.
-use Rattle.std.proofs.Common.{IfSome, List, None, Option, Some, [], ap, inl, inr, refl, subst, take, ℕ, ⊎_elim, ◌∷◌, ◌≡◌}
+use Rattle.std.proofs.lemmas.Option.{same_Some}
+use Rattle.std.proofs.Common.{IfSome, List, None, Option, Some, ap, subst, take, ℕ, ◌≡◌}
 use Rattle.std.proofs.lemmas.List.Elements.{All-contains, All-from_recursion}
 use Rattle.std.specs.List.{All, AllByRecursion, filter_map}
 use Rattle.tx_model.specs.declared.event.By.{By}
 use Rattle.tx_model.specs.declared.event.Event.{Event}
 use Rattle.tx_model.specs.declared.record.Rec.{Rec}
-use Rattle.tx_model.proofs.Membership.{Has, has_contains, has_place}
+use Rattle.tx_model.proofs.Membership.{Has, has_contains, has_place, all_at, all_from}
 use Rattle.tx_model.specs.Events.{by_of}
 use Rattle.tx_model.specs.Families.{top}
 use Rattle.tx_model.specs.History.{MayCome}
@@ -27,23 +28,11 @@ use Rattle.tx_model.specs.declared.record.Rec.TheVariants as records
 use Rattle.tx_core.specs.declared.entry.State.TheVariants as states
 
 module _ {A : Type 0} where
-  pub each_has : (P : A → Type 0) (xs : List A) (x : A) → AllByRecursion P xs → Has xs x → P x
-  each_has P [] x a k = absurd k
-  each_has P (y ∷ ys) x a k = ⊎_elim (λ (e : y ≡ x). subst P e a.0) (λ t. each_has P ys x a.1 t) k
-
-  pub has_each : (P : A → Type 0) (xs : List A) → ((x : A) → Has xs x → P x) → AllByRecursion P xs
-  has_each P [] h = tt
-  has_each P (y ∷ ys) h = (h y (inl refl), has_each P ys (λ x k. h x (inr k)))
-
   pub all_has : (P : A → Type 0) (xs : List A) → ((x : A) → Has xs x → P x) → All P xs
-  all_has P xs h = All-from_recursion P xs (has_each P xs h)
+  all_has P xs h = All-from_recursion P xs (all_from P xs h)
 
   pub has_all : (P : A → Type 0) (xs : List A) → All P xs → (x : A) → Has xs x → P x
   has_all P xs a x k = All-contains P xs x a (has_contains xs x k)
-
-  pub each_weaker : (P Q : A → Type 0) → ((x : A) → P x → Q x) → (xs : List A) → AllByRecursion P xs → AllByRecursion Q xs
-  each_weaker P Q f [] a = tt
-  each_weaker P Q f (x ∷ xs) a = (f x a.0, each_weaker P Q f xs a.1)
 
   pub if_weaker : (o : Option A) (P Q : A → Type 0) → ((x : A) → P x → Q x) → IfSome o P → IfSome o Q
   if_weaker None P Q f h = h
@@ -60,30 +49,27 @@ pub own_event : (lists : List (List Entry)) (lock : ℕ) (before : List Entry) (
 own_event lists lock before e event n g = if_some (event_of e) (λ event. by_of event ≡ e.by) event n g
 
 pub sub_of : (lists : List (List Entry)) (lock : ℕ) (before : List Entry) (e : Entry) (link : Link) → NeedsSubs lists lock before e → Has (links_in e) link → IsGivenBelow lists link.caller.session link.parent link.id
-sub_of lists lock before e link n k = each_has (λ link. IsGivenBelow lists link.caller.session link.parent link.id) (links_in e) link n k
+sub_of lists lock before e link n k = all_at (λ link. IsGivenBelow lists link.caller.session link.parent link.id) (links_in e) link n k
 
 pub logged_of : (start : Start) (lists : List (List Entry)) (lock : ℕ) (before : List Entry) (e : Entry) (mark : Mark) → NeedsRecords start lists lock before e → Has (marks_in e) mark → RecordOf start lists mark.caller.session mark.id mark.state
-logged_of start lists lock before e mark n k = each_has (λ mark. RecordOf start lists mark.caller.session mark.id mark.state) (marks_in e) mark n k
+logged_of start lists lock before e mark n k = all_at (λ mark. RecordOf start lists mark.caller.session mark.id mark.state) (marks_in e) mark n k
 
 pub aborted_of : (lists : List (List Entry)) (lock : ℕ) (before : List Entry) (e : Entry) (mark : Mark) → NeedsAsked lists lock before e → Has (marks_in e) mark → mark.state ≡ states.Aborted → AbortedFor lists e.by.session mark.caller.session mark.id
 aborted_of lists lock before e mark n k a =
-    let r : AskedOf lists e.by.session mark.caller.session mark.id states.Aborted = subst (λ s. AskedOf lists e.by.session mark.caller.session mark.id s) a (each_has (λ mark. AskedOf lists e.by.session mark.caller.session mark.id mark.state) (marks_in e) mark n k) in r
-
-the_some : (a b : Event) → Some a ≡ Some b → a ≡ b
-the_some a b e = cc
+    let r : AskedOf lists e.by.session mark.caller.session mark.id states.Aborted = subst (λ s. AskedOf lists e.by.session mark.caller.session mark.id s) a (all_at (λ mark. AskedOf lists e.by.session mark.caller.session mark.id mark.state) (marks_in e) mark n k) in r
 
 event_kind : (kind : Kind) (event : Event) → event_in kind ≡ Some event → kind ≡ kinds.Event event
-event_kind (kinds.Event other) event g = ap kinds.Event (the_some other event g)
+event_kind (kinds.Event other) event g = ap kinds.Event (same_Some other event g)
 event_kind _ event g = absurd cc
 
 pub states_of : (start : Start) (lists : List (List Entry)) (lock : ℕ) (before : List Entry) (e : Entry) (by : By) (top : ℕ) → NeedsStates start lists lock before e → event_of e ≡ Some (events.Commit by top) → StatesOf start lists (kinds.Event (events.Commit by top))
 states_of start lists lock before e by top n g = subst (StatesOf start lists) (event_kind e.kind (events.Commit by top) g) n
 
 pub later_of : (lists : List (List Entry)) (lock : ℕ) (before : List Entry) (e : Entry) (mark : Mark) → NeedsSame lists lock before e → Has (marks_in e) mark → IsSameAfter before mark
-later_of lists lock before e mark n k = each_has (λ mark. IsSameAfter before mark) (marks_in e) mark n.later k
+later_of lists lock before e mark n k = all_at (λ mark. IsSameAfter before mark) (marks_in e) mark n.later k
 
 pub alike_of : (lists : List (List Entry)) (lock : ℕ) (before : List Entry) (e : Entry) (mark other : Mark) → NeedsSame lists lock before e → Has (marks_in e) mark → Has (marks_in e) other → other.id ≡ mark.id → other.state ≡ mark.state
-alike_of lists lock before e mark other n k j = each_has (λ other. other.id ≡ mark.id → other.state ≡ mark.state) (marks_in e) other (each_has (λ mark. AllByRecursion (λ other. other.id ≡ mark.id → other.state ≡ mark.state) (marks_in e)) (marks_in e) mark n.alike k) j
+alike_of lists lock before e mark other n k j = all_at (λ other. other.id ≡ mark.id → other.state ≡ mark.state) (marks_in e) other (all_at (λ mark. AllByRecursion (λ other. other.id ≡ mark.id → other.state ≡ mark.state) (marks_in e)) (marks_in e) mark n.alike k) j
 
 pub rule_of : (start : Start) (seen : List (List Entry)) (lock : ℕ) (before : List Entry) (e : Entry) (event : Event) → MayBeLegal start seen lock before e → lock ≡ proc_lock → event_of e ≡ Some event → MayCome start.base (history seen) event
 rule_of start seen lock before e event may q g = if_some (event_of e) (λ event. MayCome start.base (history seen) event) event (may.rule q) g
@@ -99,7 +85,7 @@ unasked_of start seen lock before e top subs may q g = subst (RecordUnasked seen
 
 pub unrecorded_of : (start : Start) (seen : List (List Entry)) (lock : ℕ) (before : List Entry) (e : Entry) (mark : Mark) → MayAbort start seen lock before e → Has (asks_in e) mark → mark.state ≡ states.Aborted → AskUnrecorded seen e.by.session mark.caller.session mark.id states.Aborted
 unrecorded_of start seen lock before e mark may k a =
-    subst (λ s. AskUnrecorded seen e.by.session mark.caller.session mark.id s) a (each_has (λ mark. AskUnrecorded seen e.by.session mark.caller.session mark.id mark.state) (asks_in e) mark may.unrecorded k)
+    subst (λ s. AskUnrecorded seen e.by.session mark.caller.session mark.id s) a (all_at (λ mark. AskUnrecorded seen e.by.session mark.caller.session mark.id mark.state) (asks_in e) mark may.unrecorded k)
 
 -- what an entry sets it also asks for
 asked_kind : (kind : Kind) (mark : Mark) → Has (filter_map mark_of (changes_in kind)) mark → Has (filter_map mark_of (asked_in kind)) mark

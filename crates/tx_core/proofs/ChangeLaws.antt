@@ -2,13 +2,12 @@
 use Rattle.std.proofs.Common.{Contains, List, [], ap, arith, inl, inr, refl, subst, sym, ℕ, ⊎_elim, ◌∙◌, ◌∷◌, ◌≡◌}
 use Rattle.std.specs.List.{AllByRecursion}
 use Rattle.tx_model.specs.declared.event.By.{By}
-use Rattle.tx_model.proofs.Membership.{Has, contains_has, has_contains}
+use Rattle.tx_model.proofs.Membership.{Has, contains_has, has_contains, all_from}
 use Rattle.tx_model.specs.Events.{given}
 use Rattle.tx_core.specs.declared.entry.Change.{Change}
 use Rattle.tx_core.specs.declared.entry.Entry.{Entry}
 use Rattle.tx_core.specs.declared.entry.Start.{Start}
 use Rattle.tx_core.specs.declared.entry.State.{State}
-use Rattle.tx_core.proofs.Asking.{has_each}
 use Rattle.tx_core.proofs.Keeping.{keeps}
 use Rattle.tx_core.specs.AbortRule.{AskUnrecorded, AskedOf, IsSameAfter}
 use Rattle.tx_core.specs.Entries.{Link, Mark}
@@ -41,16 +40,16 @@ asked_of_each start seen lock session changes may =
     let mark_of_each : (mark : Mark) → Has (marks_of changes) mark → MayMark start seen before session mark = λ mark k. may.marks mark (has_contains (marks_of changes) mark k) in
     let link_of_each : (link : Link) → Has (links_of changes) link → MayLink start seen before link = λ link k. may.links link (has_contains (links_of changes) link k) in
     record {
-      made = has_each (λ mark. WasMade before (xact_page start.base.next) (xact_page mark.id)) (marks_of changes) (λ mark k. (mark_of_each mark k).page);
-      logged = has_each (λ mark. RecordOf start seen mark.caller.session mark.id mark.state) (marks_of changes) (λ mark k. (mark_of_each mark k).durable);
-      tree = has_each (λ mark. TreeOf start seen mark.caller.session mark.id mark.state) (marks_of changes) (λ mark k. (mark_of_each mark k).tree);
-      asked = has_each (λ mark. AskedOf seen session mark.caller.session mark.id mark.state) (marks_of changes) (λ mark k. (mark_of_each mark k).asked);
-      unrecorded = has_each (λ mark. AskUnrecorded seen session mark.caller.session mark.id mark.state) (marks_of changes) (λ mark k. (mark_of_each mark k).unrecorded);
-      later = has_each (λ mark. IsSameAfter before mark) (marks_of changes) (λ mark k. (mark_of_each mark k).final);
-      alike = has_each (λ mark. AllByRecursion (λ other. other.id ≡ mark.id → other.state ≡ mark.state) (marks_of changes)) (marks_of changes) (λ mark k.
-          has_each (λ other. other.id ≡ mark.id → other.state ≡ mark.state) (marks_of changes) (λ other j. may.alike mark other (has_contains (marks_of changes) mark k) (has_contains (marks_of changes) other j)));
-      made_links = has_each (λ link. WasMade before (subtrans_page start.base.next) (subtrans_page link.id)) (links_of changes) (λ link k. (link_of_each link k).page);
-      subs = has_each (λ link. IsGivenBelow seen link.caller.session link.parent link.id) (links_of changes) (λ link k. (link_of_each link k).sub);
+      made = all_from (λ mark. WasMade before (xact_page start.base.next) (xact_page mark.id)) (marks_of changes) (λ mark k. (mark_of_each mark k).page);
+      logged = all_from (λ mark. RecordOf start seen mark.caller.session mark.id mark.state) (marks_of changes) (λ mark k. (mark_of_each mark k).durable);
+      tree = all_from (λ mark. TreeOf start seen mark.caller.session mark.id mark.state) (marks_of changes) (λ mark k. (mark_of_each mark k).tree);
+      asked = all_from (λ mark. AskedOf seen session mark.caller.session mark.id mark.state) (marks_of changes) (λ mark k. (mark_of_each mark k).asked);
+      unrecorded = all_from (λ mark. AskUnrecorded seen session mark.caller.session mark.id mark.state) (marks_of changes) (λ mark k. (mark_of_each mark k).unrecorded);
+      later = all_from (λ mark. IsSameAfter before mark) (marks_of changes) (λ mark k. (mark_of_each mark k).final);
+      alike = all_from (λ mark. AllByRecursion (λ other. other.id ≡ mark.id → other.state ≡ mark.state) (marks_of changes)) (marks_of changes) (λ mark k.
+          all_from (λ other. other.id ≡ mark.id → other.state ≡ mark.state) (marks_of changes) (λ other j. may.alike mark other (has_contains (marks_of changes) mark k) (has_contains (marks_of changes) other j)));
+      made_links = all_from (λ link. WasMade before (subtrans_page start.base.next) (subtrans_page link.id)) (links_of changes) (λ link k. (link_of_each link k).page);
+      subs = all_from (λ link. IsGivenBelow seen link.caller.session link.parent link.id) (links_of changes) (λ link k. (link_of_each link k).sub);
     }
 
 pub changes_law : ChangesKeep
@@ -94,7 +93,7 @@ request_law start seen lock by changes behind unrecorded lists k knows inside wh
         closed = tt;
         asked = tt;
         unasked = λ here. tt;
-        unrecorded = has_each (λ mark. AskUnrecorded seen by.session mark.caller.session mark.id mark.state) (marks_of changes) (λ mark k. unrecorded mark (has_contains (marks_of changes) mark k));
+        unrecorded = all_from (λ mark. AskUnrecorded seen by.session mark.caller.session mark.id mark.state) (marks_of changes) (λ mark k. unrecorded mark (has_contains (marks_of changes) mark k));
         final = record { later = tt; alike = tt };
       };
       order = record { turn = turn; stands = behind };

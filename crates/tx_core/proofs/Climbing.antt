@@ -1,20 +1,19 @@
 -- A climb over the parents that were read ends at the top, or at an ancestor before the xmin.
+use Rattle.tx_model.proofs.ListSteps.{le_or_over}
 use Rattle.std.proofs.Common.{List, Some, [], ap, arith, drop, false, inl, inr, length, refl, reverse, subst, sym, take, true, ℕ, ⊎_elim, ◌<◌, ◌∙◌, ◌∷◌, ◌≡◌, ◌≤◌, ◌⊎◌}
-use Rattle.std.proofs.lemmas.Bool.{eqb-true, or_parts}
+use Rattle.std.proofs.lemmas.Bool.{eqb-true, or_parts, cases_Bool}
 use Rattle.std.proofs.lemmas.List.{take-append-drop, take-take, take_all}
 use Rattle.std.specs.List.{flat_map, list_any, slice_get}
 use Rattle.tx_model.specs.declared.event.By.{By}
 use Rattle.tx_model.specs.declared.event.Event.{Event}
 use Rattle.tx_model.specs.declared.record.Counters.{Counters}
-use Rattle.tx_model.proofs.Closing.{Later, is_open_by, later, later_take, never_undone, one_top, open_is, truth}
-use Rattle.tx_model.proofs.GivenIds.{family_session, given_to_given}
-use Rattle.tx_model.proofs.IdOrder.{le_or_over}
+use Rattle.tx_model.proofs.Closing.{Later, is_open_by, later, later_take, never_undone, one_top, open_is}
+use Rattle.tx_model.proofs.GivenIds.{family_session, given_to_given, legal_take}
 use Rattle.tx_model.proofs.Membership.{Has, contains_has, filter_has, has_contains, has_filter, has_flat_map}
-use Rattle.tx_model.proofs.OpenIds.{line_up_self, top_in}
+use Rattle.tx_model.proofs.Lineages.{line_up_self, top_in, enclosing_line, enclosing_of_sub, top_line}
 use Rattle.tx_model.proofs.ParentLines.{sub_line}
-use Rattle.tx_model.proofs.PlaceLemmas.{place_within}
-use Rattle.tx_model.proofs.SnapshotBounds.{legal_take}
-use Rattle.tx_model.proofs.Trees.{enclosing_line, enclosing_of_sub, family, top_line}
+use Rattle.std.proofs.lemmas.Option.{slice_get_within}
+use Rattle.tx_model.proofs.Trees.{family}
 use Rattle.tx_model.specs.Events.{given, given_to, is_end_of, is_undo_of}
 use Rattle.tx_model.specs.Families.{enclosing, lineage, top}
 use Rattle.tx_model.specs.History.{IsLegal}
@@ -98,7 +97,7 @@ decides start lists more shown p by name x topmost parents k m grows is taken fu
     ⊎_elim
     (λ (over : is_overflowed first g ≡ true).
     let exact = k.records.exact r.session r.top r.subs r.appended in
-    let long = place_within h (events.Snap by name) p taken in
+    let long = slice_get_within h p (events.Snap by name) taken in
     let front = front_of h p r.session r.top r.subs (omega arith) exact in
     let q = front.0 in let f = take q h in
     let legal_f = legal_take base h q legal in
@@ -132,4 +131,4 @@ decides start lists more shown p by name x topmost parents k m grows is taken fu
     (le_or_over p q) in
     says_over base g x topmost legal_g over was below undone (⊎_elim (λ a. inl (a, low)) (λ a. inr (a ∙ sym over_g)) c.1))
     (λ (whole : is_overflowed first g ≡ false). says_exact base g x legal_g whole was below topmost)
-    (truth (is_overflowed first g)))
+    (cases_Bool (is_overflowed first g)))

@@ -1,21 +1,23 @@
 -- Where the invariant holds, the state read and the snapshot decide visibility.
-use Rattle.std.proofs.Common.{Bool, Contains, List, None, Option, Some, [], ap, arith, cond, eq-eqb, false, inl, length, not, refl, subst, sym, take, true, ℕ, ⊎_elim, ◌%◌, ◌&&◌, ◌<◌, ◌^◌, ◌||◌, ◌∙◌, ◌∷◌, ◌≡◌, ◌≤◌}
-use Rattle.std.proofs.lemmas.Bool.{eqb-true}
-use Rattle.std.proofs.lemmas.Bool.Decides.{nat_tests}
+use Rattle.std.proofs.Common.{Contains, List, None, Option, Some, [], ap, arith, cond, eq-eqb, false, inl, length, not, refl, subst, sym, take, true, ℕ, ⊎_elim, ◌%◌, ◌&&◌, ◌<◌, ◌^◌, ◌||◌, ◌∙◌, ◌∷◌, ◌≡◌, ◌≤◌, lt-ltb, le-leb}
+use Rattle.std.proofs.lemmas.Bool.{eqb-true, false_from_ne_true, and_from, and_parts, lt-leb}
 use Rattle.std.proofs.lemmas.List.{take-take}
 use Rattle.std.specs.List.{list_any, slice_get}
-use Rattle.std.specs.Prelude.{nat_le, nat_lt}
+use Rattle.std.specs.Prelude.{nat_lt}
 use Rattle.xid_order.specs.Ids.{IsFullId}
 use Rattle.tx_model.specs.declared.event.By.{By}
 use Rattle.tx_model.specs.declared.event.Event.{Event}
 use Rattle.tx_model.specs.declared.record.Counters.{Counters}
-use Rattle.tx_model.proofs.Closing.{commit_ends, commit_open, later_take, never_undone, not_both, one_top, open_is}
-use Rattle.tx_model.proofs.GivenIds.{given_below, given_to_given}
-use Rattle.tx_model.proofs.IdOrder.{fold_min_start, le_or_over}
+use Rattle.tx_model.proofs.Closing.{commit_ends, commit_open, later_take, never_undone, one_top, open_is}
+use Rattle.tx_model.proofs.ListSteps.{not_both, le_or_over, same_tests}
+use Rattle.tx_model.proofs.GivenIds.{given_below, given_to_given, legal_take}
+use Rattle.tx_model.proofs.Extremes.{fold_min_start}
+use Rattle.tx_model.proofs.IdOrder.{nth_upto}
 use Rattle.tx_model.proofs.Membership.{Has, any_has, contains_has, has_contains, has_filter, has_filter_map, place_has}
-use Rattle.tx_model.proofs.SnapshotBounds.{below_given, by_truth, given_from, legal_take, lt_true, past_open}
-use Rattle.tx_model.proofs.Trees.{family, top_line}
-use Rattle.tx_model.proofs.Visibility.{among_has, and_true, both_true, commit_found, has_among, lives, never_given, nth_upto, open_hidden, visible_new, visible_old, xmin_from}
+use Rattle.tx_model.proofs.SnapshotBounds.{below_given, given_from, past_open}
+use Rattle.tx_model.proofs.Trees.{family}
+use Rattle.tx_model.proofs.Lineages.{top_line}
+use Rattle.tx_model.proofs.Visibility.{among_has, commit_found, has_among, lives, never_given, open_hidden, visible_new, visible_old, xmin_from}
 use Rattle.tx_model.specs.Events.{given, given_to, is_commit_of}
 use Rattle.tx_model.specs.Families.{top}
 use Rattle.tx_model.specs.History.{IsLegal, MayCome}
@@ -111,18 +113,6 @@ state_test (Some states.Aborted) e = absurd cc
 state_test (Some states.SubCommitted) e = absurd cc
 state_test None e = absurd cc
 
--- two tests of which each follows from the other
-alike : (a b : Bool) → (a ≡ true → b ≡ true) → (b ≡ true → a ≡ true) → a ≡ b
-alike true b f g = sym (f refl)
-alike false true f g = absurd (let z : false ≡ true = g refl in cc)
-alike false false f g = refl
-
-le_true : (a b : ℕ) → a ≤ b → nat_le a b ≡ true
-le_true a b h = grind (arith, nat_tests)
-
-le_false : (a b : ℕ) → b < a → nat_le a b ≡ false
-le_false a b h = grind (arith, nat_tests)
-
 -- the verdict, wherever what the snapshot says of an id of a commit record is whether it isn't open
 pub decides_by : (start : Start) (lists : List (List Entry)) (shown : ℕ → Option State) (p : ℕ) (x topmost : ℕ) → EngineInvariant start lists → CleanStart start shown
     → IsFullId x → start.base.oldest ≤ x → length (given (history lists)) < 2900000
@@ -142,29 +132,29 @@ decides_by start lists shown p x topmost k is full oldest few exact =
     let visible : is_visible start.committed g x ≡ lives g x = visible_new start.committed g x big none in
     ⊎_elim
     (λ (past : snapshot_xmax first g ≤ x).
-    let hidden : lives g x ≡ false = by_truth (lives g x) (λ e.
+    let hidden : lives g x ≡ false = false_from_ne_true (lives g x) (λ e.
     let never : Has (given g) x → ⊥ = λ j. not_both (lives g x) e (open_hidden g x (past_open base g x j past)) in
     not_both (lives g x) e (never_given base g x legal_g never)) in
-    ap (λ b. cond b false (is_committed read && ended)) (le_true (snapshot_xmax first g) x past) ∙ sym hidden ∙ sym visible)
+    ap (λ b. cond b false (is_committed read && ended)) (le-leb (snapshot_xmax first g) x past) ∙ sym hidden ∙ sym visible)
     (λ (below : x < snapshot_xmax first g).
     let was : Has (given g) x = below_given base g x legal_g positive full new below in
     let clear : shown x ≡ None = is.clean x new (let a = given_below base h legal x (later_take base h p x legal was).given in let c = nth_upto first (length (given h)) in omega arith) in
-    ap (λ b. cond b false (is_committed read && ended)) (le_false (snapshot_xmax first g) x below)
-    ∙ alike (is_committed read && ended) (lives g x)
+    ap (λ b. cond b false (is_committed read && ended)) (lt-leb (snapshot_xmax first g) x below)
+    ∙ same_tests (is_committed read && ended) (lives g x)
     (λ e.
-    let two = both_true (is_committed read) ended e in
+    let two = and_parts (is_committed read) ended e in
     let r = read_committed start lists shown x k clear (state_test read two.0) in
     let says : ended ≡ not (is_open g x) = exact r was below in
-    let shut : is_open g x ≡ false = by_truth (is_open g x) (λ o. let z : ended ≡ false = says ∙ ap not o in not_both ended two.1 z) in
+    let shut : is_open g x ≡ false = false_from_ne_true (is_open g x) (λ o. let z : ended ≡ false = says ∙ ap not o in not_both ended two.1 z) in
     let d = record_decides base h p r.session r.top x r.subs legal (k.records.exact r.session r.top r.subs r.appended) r.among was shut in
-    and_true (list_any (is_commit_of (top g x)) g) (not (is_undone g x)) d.0 (ap not d.1))
+    and_from (list_any (is_commit_of (top g x)) g) (not (is_undone g x)) d.0 (ap not d.1))
     (λ e.
-    let two = both_true (list_any (is_commit_of (top g x)) g) (not (is_undone g x)) e in
-    let undone : is_undone g x ≡ false = by_truth (is_undone g x) (λ u. let z : not (is_undone g x) ≡ false = ap not u in not_both (not (is_undone g x)) two.1 z) in
+    let two = and_parts (list_any (is_commit_of (top g x)) g) (not (is_undone g x)) e in
+    let undone : is_undone g x ≡ false = false_from_ne_true (is_undone g x) (λ u. let z : not (is_undone g x) ≡ false = ap not u in not_both (not (is_undone g x)) two.1 z) in
     let m = committed_read start lists shown x k (visible_marked start lists p x k was two.0 undone) in
     let says : ended ≡ not (is_open g x) = exact (read_committed start lists shown x k clear m) was below in
-    let shut : is_open g x ≡ false = by_truth (is_open g x) (λ o. not_both (lives g x) e (open_hidden g x o)) in
-    and_true (is_committed read) ended (ap is_committed m) (says ∙ ap not shut))
+    let shut : is_open g x ≡ false = false_from_ne_true (is_open g x) (λ o. not_both (lives g x) e (open_hidden g x o)) in
+    and_from (is_committed read) ended (ap is_committed m) (says ∙ ap not shut))
     ∙ sym visible)
     (le_or_over (snapshot_xmax first g) x))
     (λ (old : x < first).
@@ -172,13 +162,13 @@ decides_by start lists shown p x topmost k is full oldest few exact =
     let upto = fold_min_start (snapshot_xmax first g) (running_tops g) in
     let never : Has (given h) x → ⊥ = λ j. let a = given_from base h legal x j in absurd (omega arith) in
     let never_g : Has (given g) x → ⊥ = λ j. let a = given_from base g legal_g x j in absurd (omega arith) in
-    let says : ended ≡ true = ap (λ b. cond b true (cond (is_overflowed first g) (cond (nat_lt topmost (snapshot_xmin first g)) true (not (is_among topmost (snapshot_data first g).xip))) (not (is_among x (snapshot_data first g).xip || is_among x (snapshot_data first g).subxip)))) (lt_true x (snapshot_xmin first g) (omega arith)) in
+    let says : ended ≡ true = ap (λ b. cond b true (cond (is_overflowed first g) (cond (nat_lt topmost (snapshot_xmin first g)) true (not (is_among topmost (snapshot_data first g).xip))) (not (is_among x (snapshot_data first g).xip || is_among x (snapshot_data first g).subxip)))) (lt-ltb x (snapshot_xmin first g) (omega arith)) in
     let start_read : read ≡ shown x = read_start start lists shown x k never in
-    ap (λ b. cond b false (is_committed read && ended)) (le_false (snapshot_xmax first g) x (omega arith))
-    ∙ alike (is_committed read && ended) (is_among x start.committed)
+    ap (λ b. cond b false (is_committed read && ended)) (lt-leb (snapshot_xmax first g) x (omega arith))
+    ∙ same_tests (is_committed read && ended) (is_among x start.committed)
     (λ e.
-    let c = state_test read (both_true (is_committed read) ended e).0 in
+    let c = state_test read (and_parts (is_committed read) ended e).0 in
     has_among x start.committed (contains_has _ _ (is.only x oldest old (inl (sym start_read ∙ c)))))
-    (λ e. and_true (is_committed read) ended (ap is_committed (start_read ∙ is.committed x oldest (has_contains _ _ (among_has x start.committed e)))) says)
+    (λ e. and_from (is_committed read) ended (ap is_committed (start_read ∙ is.committed x oldest (has_contains _ _ (among_has x start.committed e)))) says)
     ∙ sym (visible_old start.committed g x big (never_given base g x legal_g never_g)))
     (le_or_over first x)

@@ -1,5 +1,5 @@
 -- A commit record stays exact while the history grows.
-use Rattle.std.proofs.Common.{Contains, List, Some, [], ap, arith, drop, get_or, inl, inr, length, refl, subst, sym, take, true, ℕ, ⊎_elim, ◌++◌, ◌==◌, ◌∙◌, ◌∷◌, ◌≡◌}
+use Rattle.std.proofs.Common.{Contains, List, Some, [], ap, arith, drop, get_or, inl, inr, length, refl, subst, sym, take, true, ℕ, ⊎_elim, ◌++◌, ◌==◌, ◌∙◌, ◌∷◌, ◌≡◌, eqb-true}
 use Rattle.std.proofs.Math.Seq.{take-append_seam}
 use Rattle.std.proofs.lemmas.List.{take-append-drop}
 use Rattle.std.specs.List.{last_or, slice_get}
@@ -9,15 +9,18 @@ use native.Mathlib.Decide.{ℕ_discrete}
 use Rattle.tx_model.specs.declared.event.By.{By}
 use Rattle.tx_model.specs.declared.event.Event.{Event}
 use Rattle.tx_model.specs.declared.record.Counters.{Counters}
-use Rattle.tx_model.proofs.GivenIds.{fresh, given_to_given, last_at}
+use Rattle.tx_model.proofs.GivenIds.{fresh, given_to_given}
+use Rattle.tx_model.proofs.PlaceLemmas.{last_at, slice_get-grows, take-grows}
 use Rattle.tx_model.proofs.Lineages.{lineage_push}
 use Rattle.tx_model.proofs.Membership.{Has, contains_has, has_filter, has_left, place_has}
-use Rattle.tx_model.proofs.OpenIds.{commit_closes, open_ids_other, open_ids_still}
-use Rattle.tx_model.proofs.PlaceLemmas.{slice_get-grows, take-grows}
-use Rattle.tx_model.specs.Events.{by_of, given_to}
+use Rattle.tx_model.proofs.ListSteps.{not_both}
+use Rattle.tx_model.proofs.Closing.{commit_ends, open_is}
+use Rattle.tx_model.specs.Running.{is_ended, is_open, open_ids}
 use Rattle.tx_model.specs.Families.{is_top, top}
+use Rattle.tx_model.proofs.OpenIds.{open_ids_other}
+use Rattle.tx_model.proofs.QuietGrowth.{quiet_open_ids}
+use Rattle.tx_model.specs.Events.{by_of, given_to}
 use Rattle.tx_model.specs.History.{IsLegal, MayCome}
-use Rattle.tx_model.specs.Running.{is_open, open_ids}
 use Rattle.tx_core.proofs.Lasting.{given_to_begins}
 use Rattle.tx_core.specs.CommitRecordsExact.{IsExactIn}
 use Rattle.tx_model.specs.declared.event.Event.TheVariants as events
@@ -66,16 +69,16 @@ exact_own base h (events.Commit by t) session top subs may root s q l =
     let same : t ≡ top = first_same t top l.0 subs (sym r ∙ ap (λ z. open_ids z h) s ∙ q) in
     record { root = root; ids = inr (length h, by, s, last_at h (events.Commit by t) ∙ ap (λ z. Some (events.Commit by z)) same, ap (open_ids session) (take-append_seam h ((events.Commit by t) ∷ [])) ∙ q) })
     (λ (r : (p : ℕ) × (by' : By) × (by'.session ≡ by.session) × (slice_get h p ≡ Some (events.Commit by' t)) × (open_ids by.session (take p h) ≡ t ∷ l.0)).
-    absurd (commit_closes h r.1 t (place_has h r.0 (events.Commit r.1 t) r.3) may.1 (has_filter (is_open h) (given_to by.session h) t (contains_has (open_ids by.session h) t may.0)).1))
+    absurd (not_both (is_ended h t) (commit_ends h r.1 t t (place_has h r.0 (events.Commit r.1 t) r.3) (eqb-true _ t may.1)) (open_is h t (has_filter (is_open h) (given_to by.session h) t (contains_has (open_ids by.session h) t may.0)).1).0))
     l.1.ids
 exact_own base h (events.Id by id) session top subs may root s q l = absurd (let z : [] ≡ top ∷ subs = sym may.1 ∙ ap (λ z. open_ids z h) s ∙ q in cc)
 exact_own base h (events.Sub by parent id) session top subs may root s q l = absurd l
 exact_own base h (events.Undo by id) session top subs may root s q l = absurd l
 exact_own base h (events.Abort by t) session top subs may root s q l = absurd l
-exact_own base h (events.Snap by name) session top subs may root s q l = record { root = root; ids = inl (open_ids_still h (events.Snap by name) session refl (λ t. refl) (λ t. refl) ∙ q) }
-exact_own base h (events.SnapDrop by name) session top subs may root s q l = record { root = root; ids = inl (open_ids_still h (events.SnapDrop by name) session refl (λ t. refl) (λ t. refl) ∙ q) }
-exact_own base h (events.Oldest by oldest) session top subs may root s q l = record { root = root; ids = inl (open_ids_still h (events.Oldest by oldest) session refl (λ t. refl) (λ t. refl) ∙ q) }
-exact_own base h (events.Ask by id) session top subs may root s q l = record { root = root; ids = inl (open_ids_still h (events.Ask by id) session refl (λ t. refl) (λ t. refl) ∙ q) }
+exact_own base h (events.Snap by name) session top subs may root s q l = record { root = root; ids = inl (quiet_open_ids session h (events.Snap by name) tt ∙ q) }
+exact_own base h (events.SnapDrop by name) session top subs may root s q l = record { root = root; ids = inl (quiet_open_ids session h (events.SnapDrop by name) tt ∙ q) }
+exact_own base h (events.Oldest by oldest) session top subs may root s q l = record { root = root; ids = inl (quiet_open_ids session h (events.Oldest by oldest) tt ∙ q) }
+exact_own base h (events.Ask by id) session top subs may root s q l = record { root = root; ids = inl (quiet_open_ids session h (events.Ask by id) tt ∙ q) }
 
 -- one more event that is legal, and that leaves the session's record where it is its own
 pub exact_push : (base : Counters) (h : List Event) (e : Event) (session top : ℕ) (subs : List ℕ) → IsLegal base h → MayCome base h e → IsExactIn h session top subs

@@ -1,4 +1,5 @@
 -- What the parts ask for stays while lists grow.
+use Rattle.tx_model.proofs.ListSteps.{all_weaker}
 use Rattle.std.proofs.Common.{List, ap, inl, inr, sym, ℕ, ⊎_elim, ◌∙◌}
 use Rattle.std.proofs.lemmas.List.Elements.{filter-append}
 use Rattle.std.specs.List.{filter, flat_map}
@@ -10,7 +11,7 @@ use Rattle.tx_core.specs.declared.entry.Entry.{Entry}
 use Rattle.tx_core.specs.declared.entry.Kind.{Kind}
 use Rattle.tx_core.specs.declared.entry.Start.{Start}
 use Rattle.tx_core.specs.declared.entry.State.{State}
-use Rattle.tx_core.proofs.Asking.{each_weaker, if_weaker}
+use Rattle.tx_core.proofs.Asking.{if_weaker}
 use Rattle.tx_core.proofs.Growing.{begins_filter_map, begins_flat_map, contains_begins, slice_get_begins}
 use Rattle.tx_core.specs.AbortRule.{AbortsOf, AskedOf, AsksAbort, NeedsAborts, NeedsAsked, NeedsSame}
 use Rattle.tx_core.specs.CommitRecordsExact.{LinksOf, NeedsLinks}
@@ -72,7 +73,7 @@ places_lasting start = record { stays = λ lists more lock before e g n. record 
 pub subs_lasting : IsLasting NeedsSubs
 subs_lasting = record {
   stays = λ lists more lock before e g n.
-      each_weaker (λ link. IsGivenBelow lists link.caller.session link.parent link.id) (λ link. IsGivenBelow more link.caller.session link.parent link.id) (λ link h. (h.0, h.1, contains_begins (history lists) (history more) _ (history_grows lists more g) h.2)) (links_in e) n;
+      all_weaker (λ link. IsGivenBelow lists link.caller.session link.parent link.id) (λ link. IsGivenBelow more link.caller.session link.parent link.id) (λ link h. (h.0, h.1, contains_begins (history lists) (history more) _ (history_grows lists more g) h.2)) (links_in e) n;
 }
 
 links_stay : (start : Start) (lists more : List (List Entry)) (kind : Kind) → Grows lists more → LinksOf start lists kind → LinksOf start more kind
@@ -88,7 +89,7 @@ record_stays start lists more session id states.SubCommitted g n = durable_grows
 record_stays start lists more session id states.Aborted g n = tt
 
 pub logged_lasting : (start : Start) → IsLasting (NeedsRecords start)
-logged_lasting start = record { stays = λ lists more lock before e g n. each_weaker (λ mark. RecordOf start lists mark.caller.session mark.id mark.state) (λ mark. RecordOf start more mark.caller.session mark.id mark.state) (λ mark h. record_stays start lists more mark.caller.session mark.id mark.state g h) (marks_in e) n }
+logged_lasting start = record { stays = λ lists more lock before e g n. all_weaker (λ mark. RecordOf start lists mark.caller.session mark.id mark.state) (λ mark. RecordOf start more mark.caller.session mark.id mark.state) (λ mark h. record_stays start lists more mark.caller.session mark.id mark.state g h) (marks_in e) n }
 
 tree_stays : (start : Start) (lists more : List (List Entry)) (session id : ℕ) (state : State) → Grows lists more → TreeOf start lists session id state → TreeOf start more session id state
 tree_stays start lists more session id states.Committed g n = record {
@@ -102,7 +103,7 @@ tree_stays start lists more session id states.Committed g n = record {
 tree_stays start lists more session id _ g n = tt
 
 pub tree_lasting : (start : Start) → IsLasting (NeedsTree start)
-tree_lasting start = record { stays = λ lists more lock before e g n. each_weaker (λ mark. TreeOf start lists mark.caller.session mark.id mark.state) (λ mark. TreeOf start more mark.caller.session mark.id mark.state) (λ mark h. tree_stays start lists more mark.caller.session mark.id mark.state g h) (marks_in e) n }
+tree_lasting start = record { stays = λ lists more lock before e g n. all_weaker (λ mark. TreeOf start lists mark.caller.session mark.id mark.state) (λ mark. TreeOf start more mark.caller.session mark.id mark.state) (λ mark h. tree_stays start lists more mark.caller.session mark.id mark.state g h) (marks_in e) n }
 
 states_stay : (start : Start) (lists more : List (List Entry)) (kind : Kind) → Grows lists more → StatesOf start lists kind → StatesOf start more kind
 states_stay start lists more (kinds.Event (events.Commit by top)) g n = (n.0, appended_grows lists more by.session (records.Commit top n.0) g n.1, λ id c. marked_grows start lists more id states.Committed g (n.2 id c))
@@ -146,7 +147,7 @@ asked_stays lists more adder session id _ g n = tt
 pub asked_lasting : IsLasting NeedsAsked
 asked_lasting = record {
   stays = λ lists more lock before e g n.
-      each_weaker (λ mark. AskedOf lists e.by.session mark.caller.session mark.id mark.state) (λ mark. AskedOf more e.by.session mark.caller.session mark.id mark.state) (λ mark h. asked_stays lists more e.by.session mark.caller.session mark.id mark.state g h) (marks_in e) n;
+      all_weaker (λ mark. AskedOf lists e.by.session mark.caller.session mark.id mark.state) (λ mark. AskedOf more e.by.session mark.caller.session mark.id mark.state) (λ mark h. asked_stays lists more e.by.session mark.caller.session mark.id mark.state g h) (marks_in e) n;
 }
 
 pub same_lasting : IsLasting NeedsSame

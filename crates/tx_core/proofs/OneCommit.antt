@@ -4,12 +4,12 @@ use Rattle.std.proofs.Common.{Contains, List, [], arith, false, inl, refl, subst
 use Rattle.std.proofs.lemmas.List.Elements.{All-from_recursion}
 use Rattle.std.specs.List.{AllByRecursion, filter}
 use Rattle.tx_model.specs.declared.event.By.{By}
-use Rattle.tx_model.proofs.Membership.{Has, contains_has}
+use Rattle.tx_model.proofs.Membership.{Has, contains_has, all_at}
 use Rattle.tx_model.specs.Visible.{is_visible}
 use Rattle.tx_core.specs.declared.entry.Entry.{Entry}
 use Rattle.tx_core.specs.declared.entry.Kind.{Kind}
 use Rattle.tx_core.specs.declared.entry.Start.{Start}
-use Rattle.tx_core.proofs.Asking.{all_has, each_has}
+use Rattle.tx_core.proofs.Asking.{all_has}
 use Rattle.tx_core.proofs.ChangeLaws.{committed_law}
 use Rattle.tx_core.proofs.EventLaws.{commit_event_law, commit_record_law, id_event_law, snap_event_law}
 use Rattle.tx_core.proofs.Growing.{begins_same}
@@ -126,7 +126,7 @@ quiet_one (suc (suc (suc (suc (suc (suc (suc (suc lock)))))))) = tt
 
 unasked : (id : ℕ) → AsksAbort one 0 id → ⊥
 unasked id a =
-    let none : asks_in a.entry ≡ [] = each_has (λ (e : Entry). asks_in e ≡ []) (at one a.lock) a.entry (quiet_one a.lock) (contains_has (at one a.lock) a.entry a.stands) in
+    let none : asks_in a.entry ≡ [] = all_at (λ (e : Entry). asks_in e ≡ []) (at one a.lock) a.entry (quiet_one a.lock) (contains_has (at one a.lock) a.entry a.stands) in
     subst (λ (t : List Mark). Has t (record { caller = a.caller; id = id; state = states.Aborted })) none (contains_has (asks_in a.entry) (record { caller = a.caller; id = id; state = states.Aborted }) a.asks)
 
 after_record : EngineInvariant start two

@@ -1,5 +1,5 @@
 -- A page that is made late wipes nothing.
-use Rattle.std.proofs.Common.{Bool, Contains, List, None, Option, Some, [], ap, append-nil, arith, cond, false, inl, inr, refl, subst, suc, sym, take, true, zero, ℕ, ⊎_elim, ◌++◌, ◌+◌, ◌<◌, ◌==◌, ◌^◌, ◌∙◌, ◌∷◌, ◌≡◌, ◌≤◌}
+use Rattle.std.proofs.Common.{Bool, Contains, List, None, Option, Some, [], ap, append-nil, arith, cond, false, inl, refl, subst, sym, take, true, ℕ, ⊎_elim, ◌++◌, ◌+◌, ◌<◌, ◌==◌, ◌^◌, ◌∙◌, ◌∷◌, ◌≡◌, ◌≤◌}
 use Rattle.std.proofs.lemmas.Bool.{eqb-true}
 use Rattle.std.proofs.lemmas.Bool.Decides.{nat_tests}
 use Rattle.std.proofs.lemmas.Grind.{flat_map-append}
@@ -8,12 +8,11 @@ use Rattle.std.proofs.lemmas.List.Sums.{fold_push}
 use Rattle.std.specs.List.{filter_map, flat_map, last_or, slice_get}
 use Rattle.std.specs.Prelude.{nat_lt}
 use Rattle.tx_model.specs.declared.event.By.{By}
-use Rattle.tx_model.proofs.Membership.{Has, by_end, contains_has, has_cases, has_filter_map, has_flat_map, has_place}
+use Rattle.tx_model.proofs.Membership.{Has, by_end, contains_has, has_cases, has_filter_map, has_flat_map, has_place, all_at, has_take}
 use Rattle.tx_model.proofs.PlaceLemmas.{slice_get-grows, take-grows}
 use Rattle.tx_core.specs.declared.entry.Entry.{Entry}
 use Rattle.tx_core.specs.declared.entry.Kind.{Kind}
 use Rattle.tx_core.specs.declared.entry.Start.{Start}
-use Rattle.tx_core.proofs.Asking.{each_has}
 use Rattle.tx_core.proofs.Reading.{last_or-append, state_from}
 use Rattle.tx_core.specs.EngineInvariant.{EngineInvariant}
 use Rattle.tx_core.specs.Entries.{Link, Mark, changes_in, link_of, links_in, mark_of, marks_in}
@@ -22,11 +21,6 @@ use Rattle.tx_core.specs.Locks.{subtrans_page, xact_page}
 use Rattle.tx_core.specs.Pages.{Pages, PagesShow, ParentsShow, Store, after_entry, pages_after, parent_for, set_by, subtrans_store, xact_store, zeroed, zeroed_in}
 use Rattle.tx_core.specs.PagesBeforeIds.{WasMade}
 use Rattle.tx_core.specs.declared.entry.Kind.TheVariants as kinds
-
-has_taken : {A : Type 0} (n : ℕ) (xs : List A) (x : A) → Has (take n xs) x → Has xs x
-has_taken zero xs x k = absurd k
-has_taken (suc n) [] x k = absurd k
-has_taken (suc n) (y ∷ xs) x k = ⊎_elim inl (λ t. inr (has_taken n xs x t)) k
 
 zero_kind : (kind : Kind) (page : ℕ) → zeroed_in kind ≡ Some page → kind ≡ kinds.Zero page
 zero_kind (kinds.Zero other) page g = let q : other ≡ page = cc in ap kinds.Zero q
@@ -64,7 +58,7 @@ module _ {I V : Type 0} where
       ⊎_elim
       (λ (q : s.page_of x ≡ s.page_of first). omega arith)
       (λ (q : (by : By) × Contains (take p.0 es) (record { by = by; kind = kinds.Zero (s.page_of x) })).
-      let a = kept.made q.0 (s.page_of x) (has_taken p.0 es _ (contains_has (take p.0 es) (record { by = q.0; kind = kinds.Zero (s.page_of x) }) q.1)) in omega arith)
+      let a = kept.made q.0 (s.page_of x) (has_take p.0 es _ (contains_has (take p.0 es) (record { by = q.0; kind = kinds.Zero (s.page_of x) }) q.1)) in omega arith)
       (placed p.0 found.0 r.0 x v p.1 found.2 r.2))
       ∙ is.clean x asked (omega arith)
 
@@ -136,13 +130,13 @@ parent_from x link v e =
 states_placed : (start : Start) (lists : List (List Entry)) (lock : ℕ) → EngineInvariant start lists → ArePlaced xact_store start.base.next (at lists lock)
 states_placed start lists lock k p e mark x v g h read =
     let before : List Entry = take p (at lists lock) in
-    let was : WasMade before (xact_page start.base.next) (xact_page mark.id) = each_has (λ (m : Mark). WasMade before (xact_page start.base.next) (xact_page m.id)) (marks_in e) mark (k.pages.changes.each lock p e g).marks h in
+    let was : WasMade before (xact_page start.base.next) (xact_page mark.id) = all_at (λ (m : Mark). WasMade before (xact_page start.base.next) (xact_page m.id)) (marks_in e) mark (k.pages.changes.each lock p e g).marks h in
     subst (λ z. WasMade before (xact_page start.base.next) (xact_page z)) (state_from x mark v read).0 was
 
 parents_placed : (start : Start) (lists : List (List Entry)) (lock : ℕ) → EngineInvariant start lists → ArePlaced subtrans_store start.base.next (at lists lock)
 parents_placed start lists lock k p e link x v g h read =
     let before : List Entry = take p (at lists lock) in
-    let was : WasMade before (subtrans_page start.base.next) (subtrans_page link.id) = each_has (λ (l : Link). WasMade before (subtrans_page start.base.next) (subtrans_page l.id)) (links_in e) link (k.pages.changes.each lock p e g).links h in
+    let was : WasMade before (subtrans_page start.base.next) (subtrans_page link.id) = all_at (λ (l : Link). WasMade before (subtrans_page start.base.next) (subtrans_page l.id)) (links_in e) link (k.pages.changes.each lock p e g).links h in
     subst (λ z. WasMade before (subtrans_page start.base.next) (subtrans_page z)) (parent_from x link v read) was
 
 pub pages_show : PagesShow

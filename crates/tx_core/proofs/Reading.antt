@@ -1,4 +1,5 @@
 -- What is read of an id's state.
+use Rattle.std.proofs.lemmas.Option.{same_Some}
 use Rattle.std.proofs.Common.{Bool, Contains, List, None, Option, Some, [], ap, append-nil, cond, eq-eqb, false, inl, inr, length, refl, subst, sym, take, true, ℕ, ⊎_elim, ◌++◌, ◌==◌, ◌∙◌, ◌∷◌, ◌≡◌, ◌⊎◌}
 use Rattle.std.proofs.Math.Seq.{take-append_seam}
 use Rattle.std.proofs.lemmas.Bool.{eqb-true}
@@ -7,9 +8,9 @@ use Rattle.std.proofs.lemmas.List.Elements.{filter_map-append}
 use Rattle.std.specs.List.{cons_option, filter_map, last_or, slice_get}
 use Rattle.tx_model.specs.declared.event.By.{By}
 use Rattle.tx_model.specs.declared.record.Rec.{Rec}
-use Rattle.tx_model.proofs.GivenIds.{given_to_given, last_at}
+use Rattle.tx_model.proofs.GivenIds.{given_to_given}
+use Rattle.tx_model.proofs.PlaceLemmas.{last_at, slice_get-grows, take-grows}
 use Rattle.tx_model.proofs.Membership.{Has, by_end, contains_has, has_cases, has_contains, has_filter_map, has_flat_map, place_has}
-use Rattle.tx_model.proofs.PlaceLemmas.{slice_get-grows, take-grows}
 use Rattle.tx_model.specs.Events.{given}
 use Rattle.tx_core.specs.declared.entry.Entry.{Entry}
 use Rattle.tx_core.specs.declared.entry.Kind.{Kind}
@@ -29,9 +30,6 @@ use Rattle.tx_model.specs.declared.record.Rec.TheVariants as records
 use Rattle.tx_core.specs.declared.entry.State.TheVariants as states
 
 module _ {A : Type 0} where
-  pub some_is : (x y : A) → Some x ≡ Some y → x ≡ y
-  some_is x y e = cc
-
   pub last_or-append : (o : Option A) (xs ys : List A) → last_or o (xs ++ ys) ≡ last_or (last_or o xs) ys
   last_or-append o [] ys = refl
   last_or-append o (x ∷ xs) ys = last_or-append (Some x) xs ys
@@ -46,13 +44,13 @@ module _ {A : Type 0} where
   -- the last is the one that o is, or an item
   pub last_has : (o : Option A) (xs : List A) (s : A) → last_or o xs ≡ Some s → (o ≡ Some s) ⊎ Has xs s
   last_has o [] s e = inl e
-  last_has o (x ∷ xs) s e = inr (⊎_elim (λ (q : Some x ≡ Some s). inl (some_is x s q)) inr (last_has (Some x) xs s e))
+  last_has o (x ∷ xs) s e = inr (⊎_elim (λ (q : Some x ≡ Some s). inl (same_Some x s q)) inr (last_has (Some x) xs s e))
 
 -- a state read of an id is one that was set of it
 pub state_from : (x : ℕ) (mark : Mark) (s : State) → state_for x mark ≡ Some s → (mark.id ≡ x) × (mark.state ≡ s)
 state_from x mark s e =
     let step : (b : Bool) → (mark.id == x) ≡ b → cond b (Some mark.state) None ≡ Some s → (mark.id ≡ x) × (mark.state ≡ s) = elim [
-      | true ↦ λ q g. (eqb-true mark.id x q, some_is mark.state s g)
+      | true ↦ λ q g. (eqb-true mark.id x q, same_Some mark.state s g)
       | false ↦ λ q g. absurd cc
     ] in
     step (mark.id == x) refl e
@@ -98,11 +96,11 @@ committed_read start lists shown x k m =
     committed_last (shown x) x m.0 (at lists lock) (λ p e g. let n = k.aborts.final.each lock p e g in record { later = n.later; alike = n.alike }) (contains_has _ _ m.1)
 
 appended_is : (by : By) (kind : Kind) (found : By × Rec) → appended_in by kind ≡ Some found → kind ≡ kinds.Append found.1
-appended_is by (kinds.Append rec) found e = let q : (by, rec) ≡ found = some_is _ _ e in ap (λ (z : By × Rec). kinds.Append z.1) q
+appended_is by (kinds.Append rec) found e = let q : (by, rec) ≡ found = same_Some _ _ e in ap (λ (z : By × Rec). kinds.Append z.1) q
 appended_is by _ found e = absurd cc
 
 appended_by : (by : By) (kind : Kind) (found : By × Rec) → appended_in by kind ≡ Some found → by ≡ found.0
-appended_by by (kinds.Append rec) found e = let q : (by, rec) ≡ found = some_is _ _ e in ap (λ (z : By × Rec). z.0) q
+appended_by by (kinds.Append rec) found e = let q : (by, rec) ≡ found = same_Some _ _ e in ap (λ (z : By × Rec). z.0) q
 appended_by by _ found e = absurd cc
 
 pub flushed_appended : (start : Start) (lists : List (List Entry)) (session : ℕ) (rec : Rec) → IsFlushed start lists session rec → IsAppended lists session rec

@@ -1,40 +1,31 @@
 -- What is closed stays closed, and what a commit closes.
-use Rattle.std.proofs.Common.{Bool, List, None, Some, [], ap, append-nil, append_assoc, drop, eq-eqb, false, inl, inr, length, ne_eqb, not, refl, subst, sym, take, true, ℕ, ⊎_elim, ◌&&◌, ◌++◌, ◌<◌, ◌||◌, ◌∙◌, ◌∷◌, ◌≡◌, ◌⊎◌}
-use Rattle.std.proofs.Math.Bool.{or-false}
+use Rattle.std.proofs.Common.{List, None, Some, [], ap, append-nil, append_assoc, drop, eq-eqb, false, inl, inr, length, ne_eqb, not, refl, subst, sym, take, true, ℕ, ⊎_elim, ◌&&◌, ◌++◌, ◌<◌, ◌∙◌, ◌∷◌, ◌≡◌, ◌⊎◌}
 use Rattle.std.proofs.Math.Seq.{take-append_seam}
-use Rattle.std.proofs.lemmas.Bool.{eqb-true}
+use Rattle.std.proofs.lemmas.Bool.{eqb-true, and_parts, false_from_ne_true, not-true, or_left}
 use Rattle.std.proofs.lemmas.List.{take-append-drop}
 use Rattle.std.specs.List.{list_any, slice_get}
+use Rattle.std.proofs.lemmas.Option.{same_Some}
 use Rattle.tx_model.specs.declared.event.By.{By}
 use Rattle.tx_model.specs.declared.event.Event.{Event}
 use Rattle.tx_model.specs.declared.record.Counters.{Counters}
-use Rattle.tx_model.proofs.GivenIds.{commit_given, family_session, fresh, given_to_cases, given_to_given, given_to_some, legal_front, legal_last, one_session}
-use Rattle.tx_model.proofs.Lineages.{lineage_push, lineage_sub}
-use Rattle.tx_model.proofs.Membership.{Has, any_has, by_end, contains_has, filter_has, has_any, has_filter, list_any_agree_on, place_has}
-use Rattle.tx_model.proofs.OpenIds.{enclosing_in, ended_push, top_in, undone_push}
+use Rattle.tx_model.proofs.GivenIds.{commit_given, family_session, fresh, given_to_cases, given_to_given, given_to_some, legal_front, legal_last, one_session, given_stays}
+use Rattle.tx_model.proofs.Lineages.{lineage_push, lineage_sub, enclosing_in, top_in, top_line, top_of_sub}
+use Rattle.tx_model.proofs.Membership.{Has, any_has, by_end, contains_has, filter_has, has_filter, place_has}
+use Rattle.tx_model.proofs.OpenGrowth.{ended_push, undone_push, undone_kept}
 use Rattle.tx_model.proofs.PlaceLemmas.{slice_get-push, take-grows}
-use Rattle.tx_model.proofs.Trees.{IsNewSub, IsNewTop, IsOld, family, given_cases, given_stays, top_line, top_of_sub}
+use Rattle.tx_model.proofs.Trees.{IsNewSub, IsNewTop, IsOld, family, given_cases}
 use Rattle.tx_model.specs.Events.{by_of, given, given_by, given_to, is_end_of, is_undo_of}
 use Rattle.tx_model.specs.Families.{enclosing, lineage, top}
 use Rattle.tx_model.specs.History.{IsLegal, MayCome}
 use Rattle.tx_model.specs.Running.{is_ended, is_open, is_undone, open_ids}
+use Rattle.tx_model.proofs.ListSteps.{not_both}
 use Rattle.tx_model.specs.declared.event.Event.TheVariants as events
-
-pub truth : (b : Bool) → (b ≡ true) ⊎ (b ≡ false)
-truth true = inl refl
-truth false = inr refl
-
-pub not_both : (b : Bool) → b ≡ true → b ≡ false → ⊥
-not_both b t f = cc
-
-open_parts : (a b : Bool) → (not a && not b) ≡ true → (a ≡ false) × (b ≡ false)
-open_parts true b e = absurd cc
-open_parts false true e = absurd cc
-open_parts false false e = (refl, refl)
 
 -- an open id is neither ended nor undone
 pub open_is : (h : List Event) (x : ℕ) → is_open h x ≡ true → (is_ended h x ≡ false) × (is_undone h x ≡ false)
-open_is h x e = open_parts (is_ended h x) (is_undone h x) e
+open_is h x e =
+    let r = and_parts (not (is_ended h x)) (not (is_undone h x)) e in
+    (not-true (is_ended h x) r.0, not-true (is_undone h x) r.1)
 
 pub is_open_by : (h : List Event) (x : ℕ) → is_ended h x ≡ false → is_undone h x ≡ false → is_open h x ≡ true
 is_open_by h x a b = ap (λ z. not z && not (is_undone h x)) a ∙ ap (λ z. not z) b
@@ -43,24 +34,23 @@ is_open_by h x a b = ap (λ z. not z && not (is_undone h x)) a ∙ ap (λ z. not
 pub line_step : (base : Counters) (h : List Event) (e : Event) (x : ℕ) → IsLegal base (h ++ e ∷ []) → Has (given h) x → lineage (h ++ e ∷ []) x ≡ lineage h x
 line_step base h e x legal k = lineage_push h e x (λ g. fresh base h e x (legal_front base h e legal) (legal_last base h e legal) g k)
 
-or_true : (a b : Bool) → a ≡ true → (a || b) ≡ true
-or_true a b e = ap (λ z. z || b) e
-
 ended_step : (base : Counters) (h : List Event) (e : Event) (x : ℕ) → IsLegal base (h ++ e ∷ []) → Has (given h) x → is_ended h x ≡ true → is_ended (h ++ e ∷ []) x ≡ true
-ended_step base h e x legal k t = ended_push h e x (line_step base h e x legal k) ∙ or_true (is_ended h x) (is_end_of (top h x) e) t
+ended_step base h e x legal k t = ended_push h e x (line_step base h e x legal k) ∙ or_left (is_ended h x) (is_end_of (top h x) e) t
 
 undone_step : (base : Counters) (h : List Event) (e : Event) (x : ℕ) → IsLegal base (h ++ e ∷ []) → Has (given h) x → is_undone h x ≡ true → is_undone (h ++ e ∷ []) x ≡ true
-undone_step base h e x legal k t =
-    let some = has_any (λ y. list_any (is_undo_of y) h) (enclosing h x) t in
-    undone_push h e x (line_step base h e x legal k) ∙ any_has (λ y. list_any (is_undo_of y) h || is_undo_of y e) (enclosing h x) some.0 some.1 (or_true (list_any (is_undo_of some.0) h) (is_undo_of some.0 e) some.2)
+undone_step base h e x legal k t = undone_push h e x (line_step base h e x legal k) ∙ or_left (is_undone h x) (list_any (λ y. is_undo_of y e) (enclosing h x)) t
+
+-- what isn't undone wasn't before
+pub undone_back : (base : Counters) (h : List Event) (e : Event) (x : ℕ) → IsLegal base (h ++ e ∷ []) → Has (given h) x → is_undone (h ++ e ∷ []) x ≡ false → is_undone h x ≡ false
+undone_back base h e x legal k u = false_from_ne_true (is_undone h x) (λ t. not_both (is_undone (h ++ e ∷ []) x) (undone_step base h e x legal k t) u)
 
 -- what is open was open before
 pub open_back : (base : Counters) (h : List Event) (e : Event) (x : ℕ) → IsLegal base (h ++ e ∷ []) → Has (given h) x → is_open (h ++ e ∷ []) x ≡ true → is_open h x ≡ true
 open_back base h e x legal k o =
     let r = open_is (h ++ e ∷ []) x o in
     is_open_by h x
-    (⊎_elim (λ t. absurd (not_both (is_ended (h ++ e ∷ []) x) (ended_step base h e x legal k t) r.0)) (λ f. f) (truth (is_ended h x)))
-    (⊎_elim (λ t. absurd (not_both (is_undone (h ++ e ∷ []) x) (undone_step base h e x legal k t) r.1)) (λ f. f) (truth (is_undone h x)))
+    (false_from_ne_true (is_ended h x) (λ t. not_both (is_ended (h ++ e ∷ []) x) (ended_step base h e x legal k t) r.0))
+    (undone_back base h e x legal k r.1)
 
 -- the same over the rest of a history
 pub record Later (h more : List Event) (x : ℕ) : Type 0 where
@@ -79,7 +69,7 @@ later base h = by_end (λ es. IsLegal base (h ++ es) → (x : ℕ) → Has (give
     subst (λ t. Later h t x) (sym split) (record {
       line = line_step base (h ++ es) e x l b.given ∙ b.line;
       opened = λ o. b.opened (open_back base (h ++ es) e x l b.given o);
-      undone = λ o. b.undone (⊎_elim (λ t. absurd (not_both (is_undone ((h ++ es) ++ e ∷ []) x) (undone_step base (h ++ es) e x l b.given t) o)) (λ f. f) (truth (is_undone (h ++ es) x)));
+      undone = λ o. b.undone (undone_back base (h ++ es) e x l b.given o);
       given = given_stays (h ++ es) e x b.given;
     }))
 
@@ -116,13 +106,7 @@ new_open base h (events.Sub by parent id) s x legal g q =
         ap (λ z. top (h ++ events.Sub by parent z ∷ []) x) i ∙ ap (λ (l : List ℕ). top_line l x) (lineage_sub h by parent x) ∙ top_of_sub h parent x,
       );
     }
-new_open base h (events.Undo by id) s x legal g q = absurd cc
-new_open base h (events.Commit by t) s x legal g q = absurd cc
-new_open base h (events.Abort by t) s x legal g q = absurd cc
-new_open base h (events.Snap by name) s x legal g q = absurd cc
-new_open base h (events.SnapDrop by name) s x legal g q = absurd cc
-new_open base h (events.Oldest by oldest) s x legal g q = absurd cc
-new_open base h (events.Ask by id) s x legal g q = absurd cc
+new_open base h e s x legal g q = absurd cc
 
 open_cases : (base : Counters) (h : List Event) (e : Event) (s x : ℕ) → IsLegal base (h ++ e ∷ []) → Has (open_ids s (h ++ e ∷ [])) x → OldOpen s h e x ⊎ NewOpen s h e x
 open_cases base h e s x legal k =
@@ -133,9 +117,6 @@ open_cases base h e s x legal k =
     inl (record { opened = filter_has (is_open h) (given_to s h) x a (open_back base h e x legal g f.1); same = ap (λ (l : List ℕ). top_line l x) (line_step base h e x legal g) }))
     (λ b. inr (new_open base h e s x legal b.0 b.1))
     (given_to_cases s h e x f.0)
-
-some_same : (x y : ℕ) → Some x ≡ Some y → x ≡ y
-some_same x y e = cc
 
 -- a session's open ids are of one top
 pub one_top : (base : Counters) (h : List Event) → IsLegal base h → (s x y : ℕ) → Has (open_ids s h) x → Has (open_ids s h) y → top h x ≡ top h y
@@ -150,7 +131,7 @@ one_top base = by_end (λ h. IsLegal base h → (s x y : ℕ) → Has (open_ids 
     n.under in
     ⊎_elim
     (λ (a : OldOpen s h e x). ⊎_elim (λ (b : OldOpen s h e y). a.same ∙ before front s x y a.opened b.opened ∙ sym b.same) (λ (b : NewOpen s h e y). mixed x y a b) (open_cases base h e s y legal j))
-    (λ (a : NewOpen s h e x). ⊎_elim (λ (b : OldOpen s h e y). sym (mixed y x b a)) (λ (b : NewOpen s h e y). let q : x ≡ y = some_same x y (sym a.gives ∙ b.gives) in ap (top (h ++ e ∷ [])) q) (open_cases base h e s y legal j))
+    (λ (a : NewOpen s h e x). ⊎_elim (λ (b : OldOpen s h e y). sym (mixed y x b a)) (λ (b : NewOpen s h e y). let q : x ≡ y = same_Some x y (sym a.gives ∙ b.gives) in ap (top (h ++ e ∷ [])) q) (open_cases base h e s y legal j))
     (open_cases base h e s x legal k))
 
 -- an id whose session commits its top, and that wasn't undone, was open at the commit
@@ -164,7 +145,7 @@ commit_open base = by_end (λ h. IsLegal base h → (q x t : ℕ) (by : By) → 
     let stays : Has (open_ids by.session (take q h)) x → Has (open_ids by.session (take q (h ++ e ∷ []))) x = λ z. subst (λ l. Has (open_ids by.session l) x) (sym (take-grows h (e ∷ []) (events.Commit by t) q a.1)) z in
     ⊎_elim
     (λ (o : IsOld h e x).
-    let undone : is_undone h x ≡ false = ⊎_elim (λ z. absurd (not_both (is_undone (h ++ e ∷ []) x) (undone_step base h e x legal o.given z) u)) (λ f. f) (truth (is_undone h x)) in
+    let undone = undone_back base h e x legal o.given u in
     stays (before front q x t by o.given a.1 (sym (ap (λ (l : List ℕ). top_line l x) o.line) ∙ same) undone))
     (λ r. ⊎_elim
     (λ (n : IsNewTop h e x).
@@ -184,7 +165,7 @@ commit_open base = by_end (λ h. IsLegal base h → (q x t : ℕ) (by : By) → 
     ⊎_elim
     (λ (o : IsOld h e x).
     let top_same : top h x ≡ t = sym (ap (λ (l : List ℕ). top_line l x) o.line) ∙ same in
-    let undone : is_undone h x ≡ false = ⊎_elim (λ z. absurd (not_both (is_undone (h ++ e ∷ []) x) (undone_step base h e x legal o.given z) u)) (λ f. f) (truth (is_undone h x)) in
+    let undone = undone_back base h e x legal o.given u in
     let of_top : top h t ≡ t = eqb-true (top h t) t rule.1 in
     let ended : is_ended h x ≡ false = ap (λ z. list_any (is_end_of z) h) (top_same ∙ sym of_top) ∙ (open_is h t mine.1).0 in
     let s = given_to_some h x o.given in
@@ -196,17 +177,10 @@ commit_open base = by_end (λ h. IsLegal base h → (q x t : ℕ) (by : By) → 
     (slice_get-push h e (events.Commit by t) q g))
 
 -- no event undoes an id that is ended
-closed_not_undone : (base : Counters) (h : List Event) (e : Event) (y : ℕ) → MayCome base h e → is_ended h y ≡ true → is_undo_of y e ≡ false
+pub closed_not_undone : (base : Counters) (h : List Event) (e : Event) (y : ℕ) → MayCome base h e → is_ended h y ≡ true → is_undo_of y e ≡ false
 closed_not_undone base h (events.Undo by u) y may ended = ne_eqb u y (λ (q : u ≡ y).
     not_both (is_ended h y) ended (open_is h y (subst (λ z. is_open h z ≡ true) q (has_filter (is_open h) (given_to by.session h) u (contains_has (open_ids by.session h) u may.0)).1)).0)
-closed_not_undone base h (events.Commit by u) y may ended = refl
-closed_not_undone base h (events.Abort by u) y may ended = refl
-closed_not_undone base h (events.Id by id) y may ended = refl
-closed_not_undone base h (events.Sub by parent id) y may ended = refl
-closed_not_undone base h (events.Snap by name) y may ended = refl
-closed_not_undone base h (events.SnapDrop by name) y may ended = refl
-closed_not_undone base h (events.Oldest by oldest) y may ended = refl
-closed_not_undone base h (events.Ask by id) y may ended = refl
+closed_not_undone base h e y may ended = refl
 
 -- after its top has committed, an id that wasn't undone isn't
 pub never_undone : (base : Counters) (h : List Event) → IsLegal base h → (q x t : ℕ) (by : By) → Has (given h) x → slice_get h q ≡ Some (events.Commit by t) → top h x ≡ t → is_undone (take q h) x ≡ false → is_undone h x ≡ false
@@ -222,9 +196,7 @@ never_undone base = by_end (λ h. IsLegal base h → (q x t : ℕ) (by : By) →
     let top_same : top h x ≡ t = sym (ap (λ (l : List ℕ). top_line l x) o.line) ∙ same in
     let old : is_undone h x ≡ false = before front q x t by o.given a.1 top_same (subst (λ l. is_undone l x ≡ false) (take-grows h (e ∷ []) (events.Commit by t) q a.1) u) in
     let f = family base h front x o.given in
-    undone_push h e x o.line
-    ∙ list_any_agree_on (λ y. list_any (is_undo_of y) h || is_undo_of y e) (λ y. list_any (is_undo_of y) h) (enclosing h x)
-    (λ y j. let up = enclosing_in h x y j in ap (λ b. list_any (is_undo_of y) h || b) (closed_not_undone base h e y may (commit_ends h by t y there (f.tops y up ∙ top_same))) ∙ or-false (list_any (is_undo_of y) h))
+    undone_kept h e x o.line (λ y j. closed_not_undone base h e y may (commit_ends h by t y there (f.tops y (enclosing_in h x y j) ∙ top_same)))
     ∙ old)
     (λ r. ⊎_elim
     (λ (n : IsNewTop h e x).
@@ -238,7 +210,6 @@ never_undone base = by_end (λ h. IsLegal base h → (q x t : ℕ) (by : By) →
     (λ (a : (q ≡ length h) × (e ≡ events.Commit by t)).
     let is : take q (h ++ e ∷ []) ≡ h = ap (λ z. take z (h ++ e ∷ [])) a.0 ∙ take-append_seam h (e ∷ []) in
     let n : given_by e ≡ Some x → ⊥ = λ g. let z : Some x ≡ None = sym g ∙ ap given_by a.1 in cc in
-    undone_push h e x (lineage_push h e x n)
-    ∙ list_any_agree_on (λ y. list_any (is_undo_of y) h || is_undo_of y e) (λ y. list_any (is_undo_of y) h) (enclosing h x) (λ y j. ap (λ b. list_any (is_undo_of y) h || b) (ap (is_undo_of y) a.1) ∙ or-false (list_any (is_undo_of y) h))
+    undone_kept h e x (lineage_push h e x n) (λ y _. ap (is_undo_of y) a.1)
     ∙ subst (λ l. is_undone l x ≡ false) is u)
     (slice_get-push h e (events.Commit by t) q g))

@@ -1,18 +1,20 @@
--- What is running after an event that closes ids, and the latest closed id.
-use Rattle.std.proofs.Common.{◌≡◌, ℕ, ◌≤◌, List, [], ◌∷◌, ◌++◌, refl, ap, sym, ◌∙◌, arith, Bool, true, false, not, ◌&&◌, ◌==◌, append-nil, cond, subst, max}
+-- What is running after an event that gives nothing, and the latest closed id.
+use Rattle.std.proofs.Common.{◌≡◌, ℕ, List, [], ◌∷◌, ◌++◌, refl, ap, ◌∙◌, Bool, not, ◌&&◌, ◌==◌, max}
 use Rattle.std.proofs.lemmas.List.Elements.{filter_agree}
 use Rattle.std.specs.List.{filter, fold}
-use Rattle.tx_model.proofs.IdListSteps.{fold_max_above}
+use Rattle.xid_order.specs.Ids.{id_before}
+use Rattle.tx_model.proofs.Extremes.{fold_max_split}
 use Rattle.tx_model.proofs.ListSteps.{filter_swap, filter_in_turn}
-use Rattle.tx_model.proofs.OpenGrowth.{open_aborted, given_push, open_committed, open_undone, family_kept, KeepsFamily, given_to_push}
-use Rattle.tx_model.specs.Events.{is_of, given, given_to}
+use Rattle.tx_model.proofs.OpenGrowth.{open_aborted, open_committed, open_undone}
+use Rattle.tx_model.proofs.Lineages.{family_kept, KeepsFamily, top_kept}
+use Rattle.tx_model.specs.Events.{given, given_to}
 use Rattle.tx_model.specs.Families.{top, is_top}
 use Rattle.tx_model.specs.Running.{is_open, running, open_ids, running_tops, closed}
 use Rattle.tx_model.specs.Savepoints.{is_inside, family}
 use Rattle.tx_model.specs.Snapshots.{latest, running_subs}
 use Rattle.tx_model.specs.declared.event.By.{By}
 use Rattle.tx_model.specs.declared.event.Event.{Event}
-use Rattle.xid_order.specs.Ids.{id_before}
+use Rattle.tx_model.proofs.GivenGrowth.{given_none, given_to_none}
 use Rattle.tx_model.specs.declared.event.Event.TheVariants as events
 
 -- an event that gives nothing, and closes the open ids that fail q
@@ -22,21 +24,12 @@ pub record IsClosing (h : List Event) (e : Event) (q : ℕ → Bool) : Type 0 wh
   pub gives_to : (s : ℕ) → given_to s (h ++ e ∷ []) ≡ given_to s h
   pub opens : (x : ℕ) → is_open (h ++ e ∷ []) x ≡ (is_open h x && q x)
 
-gives_none : (h : List Event) (e : Event) → given (e ∷ []) ≡ [] → given (h ++ e ∷ []) ≡ given h
-gives_none h e f = given_push h e ∙ ap (λ t. given h ++ t) f ∙ append-nil (given h)
-
-gives_none_to : (s : ℕ) (h : List Event) (e : Event) → given (e ∷ []) ≡ [] → given_to s (h ++ e ∷ []) ≡ given_to s h
-gives_none_to s h e f =
-    given_to_push s h e
-    ∙ ap (λ t. given_to s h ++ t) (elim (is_of s e) as (λ b. given (cond b (e ∷ []) []) ≡ []) [ true ↦ f | false ↦ refl ])
-    ∙ append-nil (given_to s h)
-
 pub closing_undo : (h : List Event) (by : By) (id : ℕ) → IsClosing h (events.Undo by id) (λ x. not (is_inside h id x))
 closing_undo h by id =
     record {
       families = λ x. family_kept h (events.Undo by id) x tt;
-      gives = gives_none h (events.Undo by id) refl;
-      gives_to = λ s. gives_none_to s h (events.Undo by id) refl;
+      gives = given_none h (events.Undo by id) refl;
+      gives_to = λ s. given_to_none s h (events.Undo by id) refl;
       opens = λ x. open_undone h by id x;
     }
 
@@ -44,8 +37,8 @@ pub closing_commit : (h : List Event) (by : By) (t : ℕ) → IsClosing h (event
 closing_commit h by t =
     record {
       families = λ x. family_kept h (events.Commit by t) x tt;
-      gives = gives_none h (events.Commit by t) refl;
-      gives_to = λ s. gives_none_to s h (events.Commit by t) refl;
+      gives = given_none h (events.Commit by t) refl;
+      gives_to = λ s. given_to_none s h (events.Commit by t) refl;
       opens = λ x. open_committed h by t x;
     }
 
@@ -53,8 +46,8 @@ pub closing_abort : (h : List Event) (by : By) (t : ℕ) → IsClosing h (events
 closing_abort h by t =
     record {
       families = λ x. family_kept h (events.Abort by t) x tt;
-      gives = gives_none h (events.Abort by t) refl;
-      gives_to = λ s. gives_none_to s h (events.Abort by t) refl;
+      gives = given_none h (events.Abort by t) refl;
+      gives_to = λ s. given_to_none s h (events.Abort by t) refl;
       opens = λ x. open_aborted h by t x;
     }
 
@@ -72,51 +65,26 @@ closing_open_ids s h e q f =
 
 pub closing_tops : (h : List Event) (e : Event) (q : ℕ → Bool) → IsClosing h e q → running_tops (h ++ e ∷ []) ≡ filter q (running_tops h)
 closing_tops h e q f =
-    filter_agree (is_top (h ++ e ∷ [])) (is_top h) (λ x. ap (λ t. t == x) (f.families x).same_top) (running (h ++ e ∷ []))
+    filter_agree (is_top (h ++ e ∷ [])) (is_top h) (λ x. ap (λ t. t == x) (top_kept h e x (f.families x))) (running (h ++ e ∷ []))
     ∙ ap (filter (is_top h)) (closing_running h e q f)
     ∙ filter_swap (is_top h) q (running h)
 
 pub closing_family : (h : List Event) (e : Event) (q : ℕ → Bool) (t : ℕ) → IsClosing h e q → family (h ++ e ∷ []) t ≡ filter q (family h t)
 closing_family h e q t f =
-    filter_agree (λ x. top (h ++ e ∷ []) x == t) (λ x. top h x == t) (λ x. ap (λ u. u == t) (f.families x).same_top) (running (h ++ e ∷ []))
+    filter_agree (λ x. top (h ++ e ∷ []) x == t) (λ x. top h x == t) (λ x. ap (λ u. u == t) (top_kept h e x (f.families x))) (running (h ++ e ∷ []))
     ∙ ap (filter (λ x. top h x == t)) (closing_running h e q f)
     ∙ filter_swap (λ x. top h x == t) q (running h)
 
 pub closing_subs : (h : List Event) (e : Event) (q : ℕ → Bool) (t : ℕ) → IsClosing h e q → running_subs (h ++ e ∷ []) t ≡ filter q (running_subs h t)
 closing_subs h e q t f =
-    filter_agree (λ x. (top (h ++ e ∷ []) x == t) && not (is_top (h ++ e ∷ []) x)) (λ x. (top h x == t) && not (is_top h x)) (λ x. ap (λ u. (u == t) && not (u == x)) (f.families x).same_top) (running (h ++ e ∷ []))
+    filter_agree (λ x. (top (h ++ e ∷ []) x == t) && not (is_top (h ++ e ∷ []) x)) (λ x. (top h x == t) && not (is_top h x)) (λ x. ap (λ u. (u == t) && not (u == x)) (top_kept h e x (f.families x))) (running (h ++ e ∷ []))
     ∙ ap (filter (λ x. (top h x == t) && not (is_top h x))) (closing_running h e q f)
     ∙ filter_swap (λ x. (top h x == t) && not (is_top h x)) q (running h)
-
-max_in_turn : (z x y : ℕ) → max (max z x) y ≡ max (max z y) x
-max_in_turn z x y = omega arith
-
-pub fold_max_out : (xs : List ℕ) (z x : ℕ) → fold max (max z x) xs ≡ max (fold max z xs) x
-fold_max_out [] z x = refl
-fold_max_out (y ∷ xs) z x = ap (λ m. fold max m xs) (max_in_turn z x y) ∙ fold_max_out xs (max z y) x
-
-fold_max_split : (p q : ℕ → Bool) (xs : List ℕ) (z : ℕ) →
-    fold max z (filter (λ x. not (p x && q x)) xs) ≡ fold max (fold max z (filter (λ x. not (p x)) xs)) (filter (λ x. not (q x)) (filter p xs))
-fold_max_split p q [] z = refl
-fold_max_split p q (x ∷ xs) z =
-    elim (p x) as (λ b. fold max z (cond (not (b && q x)) (x ∷ filter (λ x. not (p x && q x)) xs) (filter (λ x. not (p x && q x)) xs)) ≡ fold max (fold max z (cond (not b) (x ∷ filter (λ x. not (p x)) xs) (filter (λ x. not (p x)) xs))) (filter (λ x. not (q x)) (cond b (x ∷ filter p xs) (filter p xs)))) [
-      | true ↦
-          elim (q x) as (λ c. fold max z (cond (not c) (x ∷ filter (λ x. not (p x && q x)) xs) (filter (λ x. not (p x && q x)) xs)) ≡ fold max (fold max z (filter (λ x. not (p x)) xs)) (cond (not c) (x ∷ filter (λ x. not (q x)) (filter p xs)) (filter (λ x. not (q x)) (filter p xs)))) [
-            | true ↦ fold_max_split p q xs z
-            | false ↦ fold_max_split p q xs (max z x) ∙ ap (λ m. fold max m (filter (λ x. not (q x)) (filter p xs))) (fold_max_out (filter (λ x. not (p x)) xs) z x)
-          ]
-      | false ↦ fold_max_split p q xs (max z x)
-    ]
 
 pub closing_latest : (first : ℕ) (h : List Event) (e : Event) (q : ℕ → Bool) → IsClosing h e q → latest first (h ++ e ∷ []) ≡ fold max (latest first h) (filter (λ x. not (q x)) (running h))
 closing_latest first h e q f =
     ap (fold max (id_before first)) (filter_agree (λ x. not (is_open (h ++ e ∷ []) x)) (λ x. not (is_open h x && q x)) (λ x. ap not (f.opens x)) (given (h ++ e ∷ [])) ∙ ap (filter (λ x. not (is_open h x && q x))) f.gives)
     ∙ fold_max_split (is_open h) q (given h) (id_before first)
-
-pub latest_grows : (first : ℕ) (h : List Event) (e : Event) (q : ℕ → Bool) → IsClosing h e q → latest first h ≤ latest first (h ++ e ∷ [])
-latest_grows first h e q c =
-    let k : latest first h ≤ fold max (latest first h) (filter (λ x. not (q x)) (running h)) = fold_max_above (filter (λ x. not (q x)) (running h)) (latest first h) in
-    subst (λ l. latest first h ≤ l) (sym (closing_latest first h e q c)) k
 
 pub same_latest : (first : ℕ) (h g : List Event) → closed g ≡ closed h → latest first g ≡ latest first h
 same_latest first h g e = ap (fold max (id_before first)) e

@@ -1,73 +1,79 @@
 -- In a legal history ids are given in order, and the family of an id lies in its session.
-use Rattle.std.proofs.Common.{Bool, List, None, Option, Some, [], add-one, ap, append-nil, arith, cond, eq-eqb, false, inl, inr, length, length-append, refl, subst, suc, sym, true, ℕ, ⊎_elim, ◌++◌, ◌+◌, ◌-◌, ◌<◌, ◌∙◌, ◌∷◌, ◌≡◌, ◌⊎◌}
-use Rattle.std.proofs.Math.Seq.{take-append_seam}
-use Rattle.std.proofs.lemmas.Bool.{eqb-true}
-use Rattle.std.specs.List.{cons_option, filter, filter_map, slice_get}
-use Rattle.std.specs.Prelude.{nat_lt}
-use Rattle.xid_order.specs.Ids.{low_half, next_id}
+use Rattle.std.proofs.Common.{Bool, List, None, Option, Some, [], ap, arith, cond, eq-eqb, false, inl, inr, length, refl, subst, sym, true, ℕ, ⊎_elim, ◌++◌, ◌+◌, ◌-◌, ◌<◌, ◌∙◌, ◌∷◌, ◌≡◌, ◌⊎◌, Contains, drop, eq-or-lt_of_le, take, ◌≤◌}
+use Rattle.std.proofs.lemmas.Bool.{eqb-true, cases_lt}
+use Rattle.std.specs.List.{cons_option, filter}
+use Rattle.std.proofs.lemmas.List.{take-append-drop}
+use Rattle.xid_order.specs.Ids.{IsFullId}
 use Rattle.tx_model.specs.declared.event.By.{By}
 use Rattle.tx_model.specs.declared.event.Event.{Event}
 use Rattle.tx_model.specs.declared.record.Counters.{Counters}
-use Rattle.tx_model.proofs.Lineages.{given_push, given_to_push, id_leaves, lineage_push, lineage_sub}
+use Rattle.tx_model.proofs.GivenGrowth.{given_push, given_to_push, given_none, next_after}
+use Rattle.tx_model.proofs.Lineages.{lineage_push, lineage_sub, family_kept}
 use Rattle.tx_model.proofs.Membership.{Has, by_end, contains_has, has_cases, has_filter, has_left, has_right}
-use Rattle.tx_model.proofs.PlaceLemmas.{slice_get-grows, take-grows}
+use Rattle.tx_model.proofs.PlaceLemmas.{each_place_start, each_place_last}
 use Rattle.tx_model.specs.Events.{by_of, given, given_by, given_to, is_of}
 use Rattle.tx_model.specs.Families.{lineage}
 use Rattle.tx_model.specs.History.{ComesInTurn, IsLegal, MayCome, next_given, nth_id}
 use Rattle.tx_model.specs.Running.{is_open, open_ids}
+use Rattle.tx_model.proofs.IdOrder.{next_above, next_least}
 use Rattle.tx_model.specs.declared.event.Event.TheVariants as events
 
-module _ {A : Type 0} where
-  pub last_at : (xs : List A) (x : A) → slice_get (xs ++ x ∷ []) (length xs) ≡ Some x
-  last_at [] x = refl
-  last_at (y ∷ xs) x = last_at xs x
+-- the beginning of a legal history is legal
+pub legal_start : (base : Counters) (h es : List Event) → IsLegal base (h ++ es) → IsLegal base h
+legal_start base h es legal = record { rules = each_place_start (MayCome base) h es legal.rules; turns = each_place_start ComesInTurn h es legal.turns }
 
 pub legal_front : (base : Counters) (h : List Event) (e : Event) → IsLegal base (h ++ e ∷ []) → IsLegal base h
-legal_front base h e legal = record {
-  rules = λ p f g. subst (λ t. MayCome base t f) (take-grows h (e ∷ []) f p g) (legal.rules p f (slice_get-grows h (e ∷ []) f p g));
-  turns = λ p f g. subst (λ t. ComesInTurn t f) (take-grows h (e ∷ []) f p g) (legal.turns p f (slice_get-grows h (e ∷ []) f p g));
-}
+legal_front base h e legal = legal_start base h (e ∷ []) legal
+
+pub legal_take : (base : Counters) (h : List Event) (p : ℕ) → IsLegal base h → IsLegal base (take p h)
+legal_take base h p legal = legal_start base (take p h) (drop p h) (subst (IsLegal base) (sym (take-append-drop p h)) legal)
 
 pub legal_last : (base : Counters) (h : List Event) (e : Event) → IsLegal base (h ++ e ∷ []) → MayCome base h e
-legal_last base h e legal = subst (λ t. MayCome base t e) (take-append_seam h (e ∷ [])) (legal.rules (length h) e (last_at h e))
+legal_last base h e legal = each_place_last (MayCome base) h e legal.rules
 
 -- the rule of an event that gives an id
 pub may_give : (base : Counters) (h : List Event) (e : Event) (x : ℕ) → MayCome base h e → given_by e ≡ Some x → x ≡ next_given base.next h
 may_give base h (events.Id by id) x may g = let q : id ≡ x = cc in sym q ∙ may.0.next
 may_give base h (events.Sub by parent id) x may g = let q : id ≡ x = cc in sym q ∙ may.0.next
-may_give base h (events.Undo by id) x may g = absurd cc
-may_give base h (events.Commit by t) x may g = absurd cc
-may_give base h (events.Abort by t) x may g = absurd cc
-may_give base h (events.Snap by name) x may g = absurd cc
-may_give base h (events.SnapDrop by name) x may g = absurd cc
-may_give base h (events.Oldest by oldest) x may g = absurd cc
-may_give base h (events.Ask by id) x may g = absurd cc
+may_give base h e x may g = absurd cc
 
-pub next_above : (n : ℕ) → n < next_id n
-next_above n = elim (nat_lt (low_half (n + 1)) 3) as (λ b. n < cond b (n + 1 + (3 - low_half (n + 1))) (n + 1)) [ true ↦ omega arith | false ↦ omega arith ]
+gives_it : (e : Event) (x : ℕ) → Has (given (e ∷ [])) x → given_by e ≡ Some x
+gives_it e x = step (given_by e) refl
+  where
+    step : (o : Option ℕ) → given_by e ≡ o → Has (cons_option o []) x → given_by e ≡ Some x
+    step None g z = absurd z
+    step (Some y) g z = ⊎_elim (λ (q : y ≡ x). g ∙ ap (λ w. Some w) q) (λ w. absurd w) z
 
-given_below_step : (base : Counters) (h : List Event) (e : Event) (x : ℕ) (o : Option ℕ) → given_by e ≡ o → MayCome base h e → ((y : ℕ) → Has (given h) y → y < next_given base.next h)
-    → Has (given h ++ filter_map given_by (e ∷ [])) x → x < next_given base.next (h ++ e ∷ [])
-given_below_step base h e x None g may old k =
-    let same : given (h ++ e ∷ []) ≡ given h = given_push h e ∙ ap (λ o. given h ++ cons_option o []) g ∙ append-nil (given h) in
-    let r : Has (given h) x = subst (λ t. Has t x) (ap (λ o. given h ++ cons_option o []) g ∙ append-nil (given h)) k in
-    subst (λ t. x < nth_id base.next (length t)) (sym same) (old x r)
-given_below_step base h e x (Some y) g may old k =
-    let more : given (h ++ e ∷ []) ≡ given h ++ y ∷ [] = given_push h e ∙ ap (λ o. given h ++ cons_option o []) g in
-    let long : length (given h ++ y ∷ []) ≡ suc (length (given h)) = length-append (given h) (y ∷ []) ∙ add-one (length (given h)) in
-    let is : next_given base.next (h ++ e ∷ []) ≡ next_id (next_given base.next h) = ap (λ t. nth_id base.next (length t)) more ∙ ap (nth_id base.next) long in
-    let up = next_above (next_given base.next h) in
-    let new : y ≡ next_given base.next h = may_give base h e y may g in
-    let cases = has_cases (given h) (y ∷ []) x (subst (λ o. Has (given h ++ cons_option o []) x) g k) in
-    ⊎_elim (λ a. let b = old x a in omega arith) (λ a. ⊎_elim (λ (q : y ≡ x). omega arith) (λ z. absurd z) a) cases
+-- an id given after one more event: it was given before, or the event gives it
+pub given_push_cases : (h : List Event) (e : Event) (x : ℕ) → Has (given (h ++ e ∷ [])) x → Has (given h) x ⊎ (given_by e ≡ Some x)
+given_push_cases h e x k = ⊎_elim inl (λ a. inr (gives_it e x a)) (has_cases (given h) (given (e ∷ [])) x (subst (λ t. Has t x) (given_push h e) k))
+
+pub given_stays : (h : List Event) (e : Event) (x : ℕ) → Has (given h) x → Has (given (h ++ e ∷ [])) x
+given_stays h e x k = subst (λ t. Has t x) (sym (given_push h e)) (has_left (given h) (given (e ∷ [])) x k)
+
+pub given_new : (h : List Event) (e : Event) (x : ℕ) → given_by e ≡ Some x → Has (given (h ++ e ∷ [])) x
+given_new h e x g = subst (λ t. Has t x) (sym (given_push h e)) (has_right (given h) (given (e ∷ [])) x (subst (λ o. Has (cons_option o []) x) (sym g) (inl refl)))
+
+gives_one : (e : Event) (x : ℕ) → given_by e ≡ Some x → given (e ∷ []) ≡ x ∷ []
+gives_one e x g = ap (λ o. cons_option o []) g
+
+-- the next id never falls
+pub next_rises : (base : Counters) (h : List Event) (e : Event) → next_given base.next h ≤ next_given base.next (h ++ e ∷ [])
+next_rises base h e = step (given_by e) refl
+  where
+    step : (o : Option ℕ) → given_by e ≡ o → next_given base.next h ≤ next_given base.next (h ++ e ∷ [])
+    step None g = subst (λ t. next_given base.next h ≤ nth_id base.next (length t)) (sym (given_none h e (ap (λ o. cons_option o []) g))) (omega arith)
+    step (Some y) g = let a = next_after base.next h e y (gives_one e y g) in let b = next_above (next_given base.next h) in omega arith
 
 -- the ids given are below the next one
 pub given_below : (base : Counters) (h : List Event) → IsLegal base h → (x : ℕ) → Has (given h) x → x < next_given base.next h
 given_below base = by_end (λ h. IsLegal base h → (x : ℕ) → Has (given h) x → x < next_given base.next h)
     (λ legal x k. absurd k)
     (λ h e before legal x k.
-    let old = before (legal_front base h e legal) in
-    given_below_step base h e x (given_by e) refl (legal_last base h e legal) old (subst (λ t. Has t x) (given_push h e) k))
+    ⊎_elim
+    (λ a. let b = before (legal_front base h e legal) x a in let c = next_rises base h e in omega arith)
+    (λ a. let b = may_give base h e x (legal_last base h e legal) a in let c = next_after base.next h e x (gives_one e x a) in let d = next_above (next_given base.next h) in omega arith)
+    (given_push_cases h e x k))
 
 -- an id that comes was not given before
 pub fresh : (base : Counters) (h : List Event) (e : Event) (x : ℕ) → IsLegal base h → MayCome base h e → given_by e ≡ Some x → Has (given h) x → ⊥
@@ -87,16 +93,20 @@ given_to_given session (e ∷ h) x k =
     ] in
     step (is_of session e) k
 
+-- and so was what it has open
+pub open_given : (session : ℕ) (h : List Event) (x : ℕ) → Has (open_ids session h) x → Has (given h) x
+open_given session h x k = given_to_given session h x (has_filter (is_open h) (given_to session h) x k).0
+
+pub open_below : (base : Counters) (h : List Event) (session x : ℕ) → IsLegal base h → Contains (open_ids session h) x → x < next_given base.next h
+open_below base h session x legal c = given_below base h legal x (open_given session h x (contains_has (open_ids session h) x c))
+
 -- an id of a session after one more event: it was the session's before, or the event gives it
 pub given_to_cases : (session : ℕ) (h : List Event) (e : Event) (x : ℕ) → Has (given_to session (h ++ e ∷ [])) x → Has (given_to session h) x ⊎ ((given_by e ≡ Some x) × ((by_of e).session ≡ session))
 given_to_cases session h e x k =
     ⊎_elim inl
     (λ (t : Has (given_to session (e ∷ [])) x).
     let step : (b : Bool) → is_of session e ≡ b → Has (given (cond b (e ∷ []) [])) x → Has (given_to session h) x ⊎ ((given_by e ≡ Some x) × ((by_of e).session ≡ session)) = elim [
-      | true ↦ λ q z. let more : (o : Option ℕ) → given_by e ≡ o → Has (cons_option o []) x → given_by e ≡ Some x = elim [
-        | None ↦ λ g u. absurd u
-        | Some y ↦ λ g u. ⊎_elim (λ (v : y ≡ x). g ∙ ap (λ z. Some z) v) (λ w. absurd w) u
-      ] in inr (more (given_by e) refl z, eqb-true (by_of e).session session q)
+      | true ↦ λ q z. inr (gives_it e x z, eqb-true (by_of e).session session q)
       | false ↦ λ q z. absurd z
     ] in
     step (is_of session e) refl t)
@@ -121,27 +131,21 @@ pub lineage_fresh : (base : Counters) (h : List Event) → IsLegal base h → (x
 lineage_fresh base = by_end (λ h. IsLegal base h → (x : ℕ) → (Has (given h) x → ⊥) → lineage h x ≡ x ∷ [])
     (λ legal x n. refl)
     (λ h e before legal x n.
-    lineage_push h e x (λ g. n (subst (λ t. Has t x) (sym (given_push h e)) (has_right (given h) (filter_map given_by (e ∷ [])) x (subst (λ o. Has (cons_option o []) x) (sym g) (inl refl)))))
-    ∙ before (legal_front base h e legal) x (λ k. n (subst (λ t. Has t x) (sym (given_push h e)) (has_left (given h) (filter_map given_by (e ∷ [])) x k))))
+    lineage_push h e x (λ g. n (given_new h e x g))
+    ∙ before (legal_front base h e legal) x (λ k. n (given_stays h e x k)))
 
 -- the family of an event that gives x
 lineage_new : (base : Counters) (h : List Event) (e : Event) (x y : ℕ) → IsLegal base h → MayCome base h e → given_by e ≡ Some x → Has (lineage (h ++ e ∷ []) x) y → (x ≡ y) ⊎ ((parent : ℕ) × Has (given_to (by_of e).session h) parent × Has (lineage h parent) y)
 lineage_new base h (events.Id by id) x y legal may g k =
     let q : id ≡ x = cc in
     let n : Has (given h) x → ⊥ = fresh base h (events.Id by id) x legal may g in
-    let same : lineage (h ++ events.Id by id ∷ []) x ≡ x ∷ [] = id_leaves h by id x ∙ lineage_fresh base h legal x n in
+    let same : lineage (h ++ events.Id by id ∷ []) x ≡ x ∷ [] = family_kept h (events.Id by id) x tt ∙ lineage_fresh base h legal x n in
     ⊎_elim inl (λ z. absurd z) (subst (λ t. Has t y) same k)
 lineage_new base h (events.Sub by parent id) x y legal may g k =
     let q : id ≡ x = cc in
     let same : lineage (h ++ events.Sub by parent id ∷ []) x ≡ x ∷ lineage h parent = ap (λ z. lineage (h ++ events.Sub by parent z ∷ []) x) q ∙ lineage_sub h by parent x in
     ⊎_elim inl (λ t. inr (parent, (has_filter (is_open h) (given_to by.session h) parent (contains_has (open_ids by.session h) parent may.1)).0, t)) (subst (λ t. Has t y) same k)
-lineage_new base h (events.Undo by id) x y legal may g k = absurd cc
-lineage_new base h (events.Commit by t) x y legal may g k = absurd cc
-lineage_new base h (events.Abort by t) x y legal may g k = absurd cc
-lineage_new base h (events.Snap by name) x y legal may g k = absurd cc
-lineage_new base h (events.SnapDrop by name) x y legal may g k = absurd cc
-lineage_new base h (events.Oldest by oldest) x y legal may g k = absurd cc
-lineage_new base h (events.Ask by id) x y legal may g k = absurd cc
+lineage_new base h e x y legal may g k = absurd cc
 
 -- the family of a session's id is the session's
 pub family_session : (base : Counters) (h : List Event) → IsLegal base h → (s x y : ℕ) → Has (given_to s h) x → Has (lineage h x) y → Has (given_to s h) y
@@ -189,11 +193,28 @@ commit_given base = by_end (λ h. IsLegal base h → (by : By) (t : ℕ) → Has
     (λ legal by t k. absurd k)
     (λ h e before legal by t k.
     let front = legal_front base h e legal in
-    let old : Has (given h) t → Has (given (h ++ e ∷ [])) t = λ j. subst (λ l. Has l t) (sym (given_push h e)) (has_left (given h) (filter_map given_by (e ∷ [])) t j) in
-    ⊎_elim (λ a. old (before front by t a))
+    ⊎_elim (λ a. given_stays h e t (before front by t a))
     (λ a. ⊎_elim
     (λ (q : e ≡ events.Commit by t).
     let rule : MayCome base h (events.Commit by t) = subst (MayCome base h) q (legal_last base h e legal) in
-    old (given_to_given by.session h t (has_filter (is_open h) (given_to by.session h) t (contains_has (open_ids by.session h) t rule.0)).0))
+    given_stays h e t (given_to_given by.session h t (has_filter (is_open h) (given_to by.session h) t (contains_has (open_ids by.session h) t rule.0)).0))
     (λ z. absurd z) a)
     (has_cases h (e ∷ []) (events.Commit by t) k))
+
+-- every full id from the first to before the next one was given
+pub given_all : (base : Counters) (h : List Event) → IsLegal base h → (x : ℕ) → IsFullId x → base.next ≤ x → x < next_given base.next h → Has (given h) x
+given_all base = by_end (λ h. IsLegal base h → (x : ℕ) → IsFullId x → base.next ≤ x → x < next_given base.next h → Has (given h) x)
+    (λ legal x full from below. absurd (omega arith))
+    (λ h e before legal x full from below.
+    let old = before (legal_front base h e legal) x full from in
+    let step : (o : Option ℕ) → given_by e ≡ o → Has (given (h ++ e ∷ [])) x = elim [
+      | None ↦ λ g. given_stays h e x (old (subst (λ t. x < nth_id base.next (length t)) (given_none h e (ap (λ o. cons_option o []) g)) below))
+      | Some y ↦ λ g.
+          let new = may_give base h e y (legal_last base h e legal) g in
+          let is = next_after base.next h e y (gives_one e y g) in
+          ⊎_elim
+          (λ (over : y < x). absurd (let z = next_least (next_given base.next h) x full (omega arith) in omega arith))
+          (λ (le : x ≤ y). ⊎_elim (λ (q : x ≡ y). given_new h e x (g ∙ ap (λ z. Some z) (sym q))) (λ (lt : x < y). given_stays h e x (old (omega arith))) (eq-or-lt_of_le le))
+          (cases_lt y x)
+    ] in
+    step (given_by e) refl)

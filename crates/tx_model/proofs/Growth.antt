@@ -1,8 +1,10 @@
 use Rattle.std.proofs.lemmas.Bool.{false≢true}
 use Rattle.std.proofs.lemmas.Bool.Decides.{nat_tests}
 use Rattle.std.proofs.Common.{IfSome, ◌-◌, ◌↔◌, Contains, ◌≡◌, ℕ, suc, zero, ◌<◌, ◌≤◌, List, [], ◌∷◌, ◌++◌, length, length-append, take, drop, Some, refl, ap, sym, ◌∙◌, arith, inl, inr, ⊎_elim, subst, append-nil, Bool, true, false, cond, IsTrue}
+use Rattle.std.proofs.Math.Seq.{drop-append-le, take-append-le}
 use Rattle.std.specs.List.{slice_get, filter, AllByRecursion}
 use Rattle.std.proofs.lemmas.List.Elements.{filter-append, filter_map-append, Contains-append_left}
+use Rattle.xid_order.specs.Nearest.{near_id}
 use Rattle.tx_model.specs.declared.event.By.{By}
 use Rattle.tx_model.specs.declared.event.Event.{Event}
 use Rattle.tx_model.specs.declared.report.Line.{Line}
@@ -16,13 +18,13 @@ use Rattle.tx_model.specs.Limits.{stop_limit, warn_limit}
 use Rattle.tx_model.specs.History.{next_given}
 use Rattle.tx_model.specs.Horizon.{oldest_id}
 use Rattle.tx_model.specs.declared.command.Command.{Command}
-use Rattle.tx_model.specs.declared.command.Command.TheVariants as commands
 use Rattle.tx_model.specs.declared.reply.Reply.{Reply}
+use Rattle.tx_model.specs.Lines.{is_line_of, stance}
+use Rattle.tx_model.proofs.ListSteps.{both_all}
+use Rattle.tx_model.proofs.PlaceLemmas.{slice_get-grows, slice_get-append_cases, take-grows}
+use Rattle.tx_model.specs.declared.command.Command.TheVariants as commands
 use Rattle.tx_model.specs.declared.reply.Reply.TheVariants as replies
 use Rattle.tx_model.specs.declared.reply.Refusal.TheVariants as refusals
-use Rattle.xid_order.specs.Nearest.{near_id}
-use Rattle.tx_model.specs.Lines.{is_line_of, stance}
-use Rattle.tx_model.proofs.PlaceLemmas.{slice_get-grows, slice_get-append_cases, take-grows, take-within, drop-within, both_all}
 
 pub same_by_refl : (by : By) → same_by by by ≡ true
 same_by_refl by = grind (arith, nat_tests)
@@ -117,11 +119,11 @@ warned_grows base h es by warn o w = (
 
 stopped_grows : (base : Counters) (h es : List Event) (by : By) (next stop : ℕ) → AreLater by es → IsStopped base h by next stop → IsStopped base (h ++ es) by next stop
 stopped_grows base h es by next stop o k =
-    let same = take-within h es k.place k.within in
+    let same = take-append-le k.place h es k.within in
     record {
       place = k.place;
       within = omega (arith, length-append h es, k.within);
-      behind = subst (AllByRecursion (λ e. (by_of e).session ≡ by.session → by.command < (by_of e).command)) (sym (drop-within h es k.place k.within)) (both_all (λ e. (by_of e).session ≡ by.session → by.command < (by_of e).command) (drop k.place h) es k.behind o);
+      behind = subst (AllByRecursion (λ e. (by_of e).session ≡ by.session → by.command < (by_of e).command)) (sym (drop-append-le k.place h es k.within)) (both_all (λ e. (by_of e).session ≡ by.session → by.command < (by_of e).command) (drop k.place h) es k.behind o);
       before = subst (AllByRecursion (λ e. (by_of e).session ≡ by.session → (by_of e).command ≤ by.command)) (sym same) k.before;
       next_is = k.next_is ∙ ap (next_given base.next) (sym same);
       stop_is = k.stop_is ∙ ap (λ t. stop_limit (oldest_id base.oldest t)) (sym same);

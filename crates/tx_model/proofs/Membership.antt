@@ -1,9 +1,9 @@
 -- Membership by recursion, and filters that agree on the members.
-use Rattle.std.proofs.Common.{Bool, Contains, List, None, Option, Some, [], ap, append-nil, arith, cond, false, get_or, inl, inr, length, refl, reverse, subst, suc, sym, true, zero, ℕ, ⊎_elim, ◌++◌, ◌<◌, ◌||◌, ◌∙◌, ◌∷◌, ◌≡◌, ◌⊎◌}
+use Rattle.std.proofs.Common.{Bool, Contains, List, None, Option, Some, [], ap, append-nil, arith, cond, false, get_or, inl, inr, length, refl, reverse, subst, suc, sym, take, true, zero, ℕ, ⊎_elim, ◌++◌, ◌<◌, ◌||◌, ◌∙◌, ◌∷◌, ◌≡◌, ◌⊎◌, map}
 use Rattle.std.proofs.Math.Bool.{or-true}
 use Rattle.std.proofs.lemmas.List.{append_cancel_left, reverse-append, reverse-reverse}
 use Rattle.std.proofs.lemmas.List.Elements.{filter-append}
-use Rattle.std.specs.List.{cons_option, filter, filter_map, flat_map, list_any, slice_get}
+use Rattle.std.specs.List.{AllByRecursion, cons_option, filter, filter_map, flat_map, list_any, slice_get}
 
 module _ {A : Type 0} where
   abbrev pub Has : List A → A → Type 0
@@ -34,15 +34,36 @@ module _ {A : Type 0} where
   has_cases [] ys x h = inr h
   has_cases (z ∷ xs) ys x h = ⊎_elim (λ e. inl (inl e)) (λ t. ⊎_elim (λ k. inl (inr k)) inr (has_cases xs ys x t)) h
 
+  pub has_take : (n : ℕ) (xs : List A) (x : A) → Has (take n xs) x → Has xs x
+  has_take zero xs x h = absurd h
+  has_take (suc n) [] x h = absurd h
+  has_take (suc n) (y ∷ ys) x h = ⊎_elim inl (λ t. inr (has_take n ys x t)) h
+
+  pub all_at : (P : A → Type 0) (xs : List A) (x : A) → AllByRecursion P xs → Has xs x → P x
+  all_at P [] x a h = absurd h
+  all_at P (y ∷ ys) x a h = ⊎_elim (λ (e : y ≡ x). subst P e a.0) (λ t. all_at P ys x a.1 t) h
+
+  pub all_from : (P : A → Type 0) (xs : List A) → ((x : A) → Has xs x → P x) → AllByRecursion P xs
+  all_from P [] f = tt
+  all_from P (x ∷ xs) f = (f x (inl refl), all_from P xs (λ y k. f y (inr k)))
+
   pub filter_agree_on : (p q : A → Bool) (xs : List A) → ((x : A) → Has xs x → p x ≡ q x) → filter p xs ≡ filter q xs
   filter_agree_on p q [] h = refl
   filter_agree_on p q (x ∷ xs) h =
       ap (λ b. cond b (x ∷ filter p xs) (filter p xs)) (h x (inl refl)) ∙ ap (λ (t : List A). cond (q x) (x ∷ t) t) (filter_agree_on p q xs (λ y k. h y (inr k)))
 
+  pub filter_none_on : (p : A → Bool) (xs : List A) → ((x : A) → Has xs x → p x ≡ false) → filter p xs ≡ []
+  filter_none_on p [] h = refl
+  filter_none_on p (x ∷ xs) h = ap (λ b. cond b (x ∷ filter p xs) (filter p xs)) (h x (inl refl)) ∙ filter_none_on p xs (λ y k. h y (inr k))
+
   pub list_any_agree_on : (p q : A → Bool) (xs : List A) → ((x : A) → Has xs x → p x ≡ q x) → list_any p xs ≡ list_any q xs
   list_any_agree_on p q [] h = refl
   list_any_agree_on p q (x ∷ xs) h =
       ap (λ b. b || list_any p xs) (h x (inl refl)) ∙ ap (λ b. q x || b) (list_any_agree_on p q xs (λ y k. h y (inr k)))
+
+  pub list_any_none_on : (p : A → Bool) (xs : List A) → ((x : A) → Has xs x → p x ≡ false) → list_any p xs ≡ false
+  list_any_none_on p [] h = refl
+  list_any_none_on p (x ∷ xs) h = ap (λ b. b || list_any p xs) (h x (inl refl)) ∙ list_any_none_on p xs (λ y k. h y (inr k))
 
   pub has_filter : (p : A → Bool) (xs : List A) (x : A) → Has (filter p xs) x → Has xs x × (p x ≡ true)
   has_filter p [] x h = absurd h
@@ -70,6 +91,14 @@ module _ {A : Type 0} where
   by_end P none more xs = subst P (reverse-reverse xs) (by_reverse P none more (reverse xs))
 
 module _ {A B : Type 0} where
+  pub map_has : (f : A → B) (xs : List A) (x : A) → Has xs x → Has (map f xs) (f x)
+  map_has f [] x k = absurd k
+  map_has f (y ∷ ys) x k = ⊎_elim (λ (e : y ≡ x). inl (ap f e)) (λ t. inr (map_has f ys x t)) k
+
+  pub has_map : (f : A → B) (xs : List A) (y : B) → Has (map f xs) y → (x : A) × Has xs x × (f x ≡ y)
+  has_map f [] y k = absurd k
+  has_map f (x ∷ xs) y k = ⊎_elim (λ (e : f x ≡ y). (x, inl refl, e)) (λ t. let r = has_map f xs y t in (r.0, inr r.1, r.2)) k
+
   pub has_filter_map : (f : A → Option B) (xs : List A) (y : B) → Has (filter_map f xs) y → (x : A) × Has xs x × (f x ≡ Some y)
   has_filter_map f [] y k = absurd k
   has_filter_map f (x ∷ xs) y k =
@@ -82,10 +111,6 @@ module _ {A B : Type 0} where
   pub has_flat_map : (f : A → List B) (xs : List A) (y : B) → Has (flat_map f xs) y → (x : A) × Has xs x × Has (f x) y
   has_flat_map f [] y k = absurd k
   has_flat_map f (x ∷ xs) y k = ⊎_elim (λ h. (x, inl refl, h)) (λ t. let r = has_flat_map f xs y t in (r.0, inr r.1, r.2)) (has_cases (f x) (flat_map f xs) y k)
-
-  pub flat_map_has : (f : A → List B) (xs : List A) (x : A) (y : B) → Has xs x → Has (f x) y → Has (flat_map f xs) y
-  flat_map_has f [] x y k h = absurd k
-  flat_map_has f (z ∷ xs) x y k h = ⊎_elim (λ (e : z ≡ x). has_left (f z) (flat_map f xs) y (subst (λ w. Has (f w) y) (sym e) h)) (λ t. has_right (f z) (flat_map f xs) y (flat_map_has f xs x y t h)) k
 
 module _ {A : Type 0} where
   pub has_place : (xs : List A) (x : A) → Has xs x → (p : ℕ) × (slice_get xs p ≡ Some x)

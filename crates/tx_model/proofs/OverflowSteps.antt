@@ -1,9 +1,10 @@
 -- When a top has had more running subids than its entry has room for, event by event.
-use Rattle.std.proofs.Common.{◌≡◌, ℕ, suc, zero, ◌<◌, ◌≤◌, List, [], ◌∷◌, ◌++◌, length, take, reverse, refl, ap, sym, ◌∙◌, arith, Bool, true, false, ◌||◌, subst, ◌+◌, nat_lt, add-zero}
+use Rattle.std.proofs.Common.{◌≡◌, ℕ, suc, zero, ◌<◌, ◌≤◌, List, [], ◌∷◌, ◌++◌, length, take, reverse, refl, ap, sym, ◌∙◌, arith, Bool, true, false, ◌||◌, subst, ◌+◌, nat_lt, take_all}
 use Rattle.std.proofs.lemmas.Bool.Decides.{nat_tests}
 use Rattle.std.proofs.lemmas.List.{reverse-append, reverse-reverse, take-append-le}
 use Rattle.std.specs.List.{list_any, range_with_len}
-use Rattle.tx_model.proofs.ListSteps.{length_push, or_right, list_any-push, take_whole}
+use Rattle.std.proofs.lemmas.Bool.{or_parts}
+use Rattle.tx_model.proofs.ListSteps.{length_push, list_any-push, range_push}
 use Rattle.tx_model.specs.Snapshots.{running_subs, has_overflowed}
 use Rattle.tx_model.specs.declared.event.Event.{Event}
 
@@ -11,12 +12,6 @@ use Rattle.tx_model.specs.declared.event.Event.{Event}
 abbrev pub overflow_up : List Event → ℕ → Bool
 overflow_up [] t = false
 overflow_up (e ∷ older) t = overflow_up older t || nat_lt 64 (length (running_subs (reverse (e ∷ older)) t))
-
-range_more : (a n : ℕ) → range_with_len a (suc n) ≡ range_with_len a n ++ (a + n) ∷ []
-range_more a zero = ap (λ k. k ∷ []) (sym (add-zero a))
-range_more a (suc n) =
-    let e : a + 1 + n ≡ a + suc n = omega arith in
-    ap (λ t. a ∷ t) (range_more (a + 1) n ∙ ap (λ k. range_with_len (a + 1) n ++ k ∷ []) e)
 
 any_range : (p q : ℕ → Bool) (a n : ℕ) → ((k : ℕ) → k < a + n → p k ≡ q k) → list_any p (range_with_len a n) ≡ list_any q (range_with_len a n)
 any_range p q a zero f = refl
@@ -31,10 +26,10 @@ overflow_push h e t =
     let places : length (h ++ e ∷ []) + 1 ≡ suc (length h + 1) = (let n : length (h ++ e ∷ []) ≡ suc (length h) = length_push h e in omega arith) in
     let whole : 0 + (length h + 1) ≡ length (h ++ e ∷ []) = (let n : length (h ++ e ∷ []) ≡ suc (length h) = length_push h e in omega arith) in
     ap (λ n. list_any (is_over (h ++ e ∷ []) t) (range_with_len 0 n)) places
-    ∙ ap (list_any (is_over (h ++ e ∷ []) t)) (range_more 0 (length h + 1))
+    ∙ ap (list_any (is_over (h ++ e ∷ []) t)) (range_push 0 (length h + 1))
     ∙ list_any-push (is_over (h ++ e ∷ []) t) (range_with_len 0 (length h + 1)) (0 + (length h + 1))
     ∙ ap (λ b. b || is_over (h ++ e ∷ []) t (0 + (length h + 1))) (any_range (is_over (h ++ e ∷ []) t) (is_over h t) 0 (length h + 1) (λ k l. ap (λ g. nat_lt 64 (length (running_subs g t))) (take-append-le k h (e ∷ []) (omega arith))))
-    ∙ ap (λ g. has_overflowed h t || nat_lt 64 (length (running_subs g t))) (ap (λ n. take n (h ++ e ∷ [])) whole ∙ take_whole (h ++ e ∷ []))
+    ∙ ap (λ g. has_overflowed h t || nat_lt 64 (length (running_subs g t))) (ap (λ n. take n (h ++ e ∷ [])) whole ∙ take_all (length (h ++ e ∷ [])) (h ++ e ∷ []) (omega arith))
 
 over_reversed : (r : List Event) (t : ℕ) → has_overflowed (reverse r) t ≡ overflow_up r t
 over_reversed [] t = refl
@@ -50,7 +45,7 @@ overflowed_is h t = sym (ap (λ g. has_overflowed g t) (reverse-reverse h)) ∙ 
 
 overflow_now_up : (r : List Event) (t : ℕ) → overflow_up r t ≡ false → nat_lt 64 (length (running_subs (reverse r) t)) ≡ false
 overflow_now_up [] t f = refl
-overflow_now_up (e ∷ r) t f = or_right (overflow_up r t) (nat_lt 64 (length (running_subs (reverse (e ∷ r)) t))) f
+overflow_now_up (e ∷ r) t f = (or_parts (overflow_up r t) (nat_lt 64 (length (running_subs (reverse (e ∷ r)) t))) f).1
 
 -- no more than 64 of them are running now
 pub overflow_now : (h : List Event) (t : ℕ) → has_overflowed h t ≡ false → nat_lt 64 (length (running_subs h t)) ≡ false

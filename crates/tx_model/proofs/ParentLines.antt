@@ -1,14 +1,12 @@
 -- The event that gives a subtransaction its id gives its line of ancestors too.
-use Rattle.std.proofs.Common.{List, [], ap, inl, refl, subst, sym, ℕ, ⊎_elim, ◌++◌, ◌∙◌, ◌∷◌, ◌≡◌}
-use Rattle.std.specs.List.{filter_map}
+use Rattle.std.proofs.Common.{List, [], ap, subst, sym, ℕ, ⊎_elim, ◌++◌, ◌∙◌, ◌∷◌, ◌≡◌}
 use Rattle.tx_model.specs.declared.event.By.{By}
 use Rattle.tx_model.specs.declared.event.Event.{Event}
 use Rattle.tx_model.specs.declared.record.Counters.{Counters}
 use Rattle.tx_model.proofs.Closing.{line_step}
-use Rattle.tx_model.proofs.GivenIds.{given_to_given, legal_front, legal_last}
-use Rattle.tx_model.proofs.Lineages.{given_push, lineage_sub}
-use Rattle.tx_model.proofs.Membership.{Has, by_end, contains_has, has_cases, has_filter, has_right}
-use Rattle.tx_model.proofs.Trees.{given_stays}
+use Rattle.tx_model.proofs.GivenIds.{given_to_given, legal_front, legal_last, given_stays, given_new}
+use Rattle.tx_model.proofs.Lineages.{lineage_sub}
+use Rattle.tx_model.proofs.Membership.{Has, by_end, contains_has, has_cases, has_filter}
 use Rattle.tx_model.specs.Events.{given, given_by, given_to}
 use Rattle.tx_model.specs.Families.{lineage}
 use Rattle.tx_model.specs.History.{IsLegal, MayCome}
@@ -39,7 +37,7 @@ sub_line base = by_end (λ h. IsLegal base h → (by : By) (parent x : ℕ) → 
     let rule : MayCome base h (events.Sub by parent x) = subst (MayCome base h) q (legal_last base h e legal) in
     let above : Has (given h) parent = given_to_given by.session h parent (has_filter (is_open h) (given_to by.session h) parent (contains_has (open_ids by.session h) parent rule.1)).0 in
     record {
-      was_given = subst (λ l. Has l x) (sym (given_push h e)) (has_right (given h) (filter_map given_by (e ∷ [])) x (subst (λ (z : Event). Has (filter_map given_by (z ∷ [])) x) (sym q) (inl refl)));
+      was_given = given_new h e x (ap given_by q);
       parent_given = given_stays h e parent above;
       line = ap (λ (z : Event). lineage (h ++ z ∷ []) x) q ∙ lineage_sub h by parent x ∙ ap (λ (t : List ℕ). x ∷ t) (sym (line_step base h e parent legal above));
     })

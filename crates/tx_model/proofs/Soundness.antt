@@ -1,21 +1,30 @@
--- What every legal history keeps, and events that keep it plainly.
-use Rattle.std.proofs.Common.{◌≡◌, ℕ, ◌-◌, ◌<◌, ◌≤◌, List, [], ◌∷◌, ◌++◌, length, reverse, refl, ap, sym, ◌∙◌, arith, Bool, true, false, ◌==◌, ◌||◌, append-nil, cond, subst, ◌+◌, nat_lt, if◌then◌else◌}
-use Rattle.std.proofs.lemmas.Bool.Decides.{nat_tests}
-use Rattle.std.specs.List.{list_any}
-use Rattle.tx_model.proofs.ClosingGrowth.{IsClosing}
-use Rattle.tx_model.proofs.FamilySteps.{inner_up, enclosing_is}
-use Rattle.tx_model.proofs.ListSteps.{length_push, all_reverse_aux}
-use Rattle.tx_model.proofs.NameBounds.{NamesBelow, AreBelow}
-use Rattle.tx_model.proofs.OpenGrowth.{given_push, KeepsFamily, given_to_push}
-use Rattle.tx_model.proofs.RunningGrowth.{IsQuiet, quiet_given, quiet_family, quiet_gives_none_to}
-use Rattle.tx_model.specs.Events.{given, given_to}
-use Rattle.tx_model.specs.Families.{top, enclosing, is_top}
-use Rattle.tx_model.specs.History.{next_given, nth_id}
-use Rattle.tx_model.specs.IdLists.{has, Ascending}
-use Rattle.tx_model.specs.Savepoints.{is_inside}
+-- What every legal history keeps, by the tests of its definitions.
+use Rattle.tx_model.proofs.PlaceLemmas.{by_place}
+use Rattle.std.proofs.Common.{◌≡◌, ℕ, ◌<◌, ◌≤◌, List, [], ◌∷◌, ◌++◌, refl, ap, sym, ◌∙◌, arith, true, ◌&&◌, ◌==◌, Contains, subst, ⊎_elim, None, Option, Some, eqb-true, inl, inr, ◌⊎◌}
+use Rattle.std.proofs.lemmas.Bool.{cases_Bool, and_parts}
+use Rattle.std.specs.List.{cons_option}
+use Rattle.tx_model.proofs.NameBounds.{AreBelow, NamesBelow}
+use Rattle.tx_model.specs.IdLists.{Ascending, has}
+use Rattle.tx_model.specs.declared.record.Counters.{Counters}
 use Rattle.tx_model.specs.declared.event.Event.{Event}
-use Rattle.xid_order.specs.Ids.{next_id, low_half}
+use Rattle.tx_model.proofs.Trees.{Family, family}
+use Rattle.tx_model.proofs.Membership.{Has, all_from, by_end}
+use Rattle.tx_model.specs.History.{IsLegal, MayCome, next_given}
+use Rattle.tx_model.proofs.ListSteps.{all_push, eqb-refl, not_both}
+use Rattle.tx_model.proofs.IdListSteps.{ascending_push, has-filter, has_true, true_has, contains_true}
+use Rattle.tx_model.specs.Families.{enclosing, is_top, lineage, top}
+use Rattle.tx_model.proofs.Lineages.{enclosing_in, enclosing_line, top_in}
+use Rattle.tx_model.specs.Events.{given_by, given_to, given}
+use Rattle.tx_model.proofs.GivenIds.{given_new, given_to_given, legal_front, legal_last, lineage_fresh, may_give, one_session, open_below, given_below, next_rises}
+use Rattle.tx_model.proofs.GivenGrowth.{given_none, given_push}
+use Rattle.tx_model.specs.Savepoints.{is_inside}
+use Rattle.tx_model.specs.Running.{is_open, open_ids, running, running_tops}
+use Rattle.tx_model.proofs.SnapshotBounds.{open_root, top_of_top}
 use Rattle.tx_model.specs.declared.event.Event.TheVariants as events
+
+-- what holds of no events, and after one more lawful event, holds of every legal history
+pub legal_induction : (base : Counters) (P : List Event → Type 0) → P [] → ((h : List Event) (e : Event) → P h → MayCome base h e → P (h ++ e ∷ [])) → (h : List Event) → IsLegal base h → P h
+legal_induction base P none step h legal = by_place (MayCome base) P none step h legal.rules
 
 -- the top of x was given too, is its own top, and isn't above x
 pub record HasRoot (h : List Event) (x : ℕ) : Type 0 where
@@ -32,91 +41,92 @@ pub record IsSound (first : ℕ) (h : List Event) : Type 0 where
   pub ascending : Ascending (given h)
   pub roots : (x : ℕ) → has (given h) x ≡ true → HasRoot h x
 
-pub next_above : (n : ℕ) → n < next_id n
-next_above n = elim (nat_lt (low_half (n + 1)) 3) as (λ b. n < (if b then n + 1 + (3 - low_half (n + 1)) else n + 1)) [ true ↦ omega arith | false ↦ omega arith ]
-
--- the next id, after an event that gives one
-pub next_after : (first : ℕ) (h : List Event) (e : Event) (n : ℕ) → given (e ∷ []) ≡ n ∷ [] → next_given first (h ++ e ∷ []) ≡ next_id (next_given first h)
-next_after first h e n f = ap (λ t. nth_id first (length t)) (given_push h e ∙ ap (λ t. given h ++ t) f) ∙ ap (nth_id first) (length_push (given h) n)
-
-below_weaker : (m n : ℕ) (e : Event) → m ≤ n → NamesBelow m e → NamesBelow n e
-below_weaker m n (events.Id by id) l f = omega arith
-below_weaker m n (events.Sub by parent id) l f = (f.0, omega (arith, f.1))
-below_weaker m n (events.Undo by id) l f = omega arith
-below_weaker m n (events.Commit by top) l f = omega arith
-below_weaker m n (events.Abort by top) l f = omega arith
-below_weaker m n (events.Snap by name) l f = tt
-below_weaker m n (events.SnapDrop by name) l f = tt
-below_weaker m n (events.Oldest by oldest) l f = tt
-below_weaker m n (events.Ask by id) l f = tt
-
-pub below_push : (m n : ℕ) (h : List Event) (e : Event) → m ≤ n → AreBelow m h → NamesBelow n e → AreBelow n (h ++ e ∷ [])
-below_push m n [] e l f g = (g, tt)
-below_push m n (d ∷ h) e l f g = (below_weaker m n d l f.0, below_push m n h e l f.1 g)
-
--- n is no ancestor of anything, where no event names it
-unequal : (a b c : ℕ) → a < b → (a == c) ≡ true → (b == c) ≡ false
-unequal a b c f g = grind (arith, nat_tests)
-
-either : (n id x : ℕ) (us vs : List ℕ) (b : Bool) → (id == x) ≡ b → id < n → list_any (λ y. n == y) us ≡ false → list_any (λ y. n == y) vs ≡ false → list_any (λ y. n == y) (cond b (x ∷ us) vs) ≡ false
-either n id x us vs true e f g h = ap (λ b. b || list_any (λ y. n == y) us) (unequal id n x f e) ∙ g
-either n id x us vs false e f g h = h
-
-not_inside_up : (n x : ℕ) (h : List Event) → AreBelow n h → list_any (λ y. n == y) (inner_up h x) ≡ false
-not_inside_up n x [] f = refl
-not_inside_up n x (events.Sub by parent id ∷ h) f = either n id x (inner_up h parent) (inner_up h x) (id == x) refl f.0.1 (not_inside_up n parent h f.1) (not_inside_up n x h f.1)
-not_inside_up n x (e ∷ h) f = not_inside_up n x h f.1
-
-pub not_inside : (n x : ℕ) (h : List Event) → AreBelow n h → is_inside h n x ≡ false
-not_inside n x h f = ap (list_any (λ y. n == y)) (enclosing_is h x) ∙ not_inside_up n x (reverse h) (all_reverse_aux (NamesBelow n) h [] f tt)
-
-pub kept_inside : (h : List Event) (e : Event) → ((x : ℕ) → KeepsFamily h e x) → ((x id : ℕ) → is_inside h id x ≡ true → top h x ≡ top h id) →
-    (x id : ℕ) → is_inside (h ++ e ∷ []) id x ≡ true → top (h ++ e ∷ []) x ≡ top (h ++ e ∷ []) id
-kept_inside h e k f x id g =
-    (k x).same_top ∙ f x id (sym (ap (list_any (λ y. id == y)) (k x).same_enclosing) ∙ g) ∙ sym (k id).same_top
-
-pub kept_alone : (h : List Event) (e : Event) → ((x : ℕ) → KeepsFamily h e x) → ((x : ℕ) → is_top h x ≡ true → enclosing h x ≡ []) →
-    (x : ℕ) → is_top (h ++ e ∷ []) x ≡ true → enclosing (h ++ e ∷ []) x ≡ []
-kept_alone h e k f x g = (k x).same_enclosing ∙ f x (sym (ap (λ t. t == x) (k x).same_top) ∙ g)
-
-pub kept_root : (h : List Event) (e : Event) (x : ℕ) → ((x : ℕ) → KeepsFamily h e x) → (has (given h) (top h x) ≡ true → has (given (h ++ e ∷ [])) (top h x) ≡ true) → HasRoot h x → HasRoot (h ++ e ∷ []) x
-kept_root h e x k g r =
-    record {
-      root_given = ap (λ t. has (given (h ++ e ∷ [])) t) (k x).same_top ∙ g r.root_given;
-      root_top = ap (top (h ++ e ∷ [])) (k x).same_top ∙ (k (top h x)).same_top ∙ r.root_top ∙ sym (k x).same_top;
-      root_to = subst (λ t. t ≤ x) (sym (k x).same_top) r.root_to;
-    }
-
--- an event that gives nothing
-kept_sound : (first : ℕ) (h : List Event) (e : Event) → ((x : ℕ) → KeepsFamily h e x) → given (h ++ e ∷ []) ≡ given h → ((s : ℕ) → given_to s (h ++ e ∷ []) ≡ given_to s h) →
-    NamesBelow (next_given first h) e → IsSound first h → IsSound first (h ++ e ∷ [])
-kept_sound first h e k g gt b s =
-    record {
-      below = subst (λ t. AreBelow (nth_id first (length t)) (h ++ e ∷ [])) (sym g) (below_push (next_given first h) (next_given first h) h e (omega arith) s.below b);
-      one_owner = λ x q r a c. s.one_owner x q r (sym (ap (λ t. has t x) (gt q)) ∙ a) (sym (ap (λ t. has t x) (gt r)) ∙ c);
-      inside = kept_inside h e k s.inside;
-      alone = kept_alone h e k s.alone;
-      ascending = subst Ascending (sym g) s.ascending;
-      roots = λ x a. kept_root h e x k (λ b. ap (λ l. has l (top h x)) g ∙ b) (s.roots x (sym (ap (λ l. has l x) g) ∙ a));
-    }
-
-pub sound_closing : (first : ℕ) (h : List Event) (e : Event) (q : ℕ → Bool) → IsClosing h e q → NamesBelow (next_given first h) e → IsSound first h → IsSound first (h ++ e ∷ [])
-sound_closing first h e q c b s = kept_sound first h e c.families c.gives c.gives_to b s
-
-quiet_names : (n : ℕ) (e : Event) → IsQuiet e → NamesBelow n e
-quiet_names n (events.Id by id) f = absurd f
-quiet_names n (events.Sub by parent id) f = absurd f
-quiet_names n (events.Undo by id) f = absurd f
-quiet_names n (events.Commit by top) f = absurd f
-quiet_names n (events.Abort by top) f = absurd f
-quiet_names n (events.Snap by name) f = tt
-quiet_names n (events.SnapDrop by name) f = tt
-quiet_names n (events.Oldest by oldest) f = tt
-quiet_names n (events.Ask by id) f = tt
-
-pub sound_quiet : (first : ℕ) (h : List Event) (e : Event) → IsQuiet e → IsSound first h → IsSound first (h ++ e ∷ [])
-sound_quiet first h e f s =
-    kept_sound first h e (λ x. quiet_family h e x f) (quiet_given h e f) (λ q. given_to_quiet q) (quiet_names (next_given first h) e f) s
+-- what the event names was given, or is given by it
+names_below : (base : Counters) (h : List Event) (e : Event) (n : ℕ) → IsLegal base (h ++ e ∷ []) → next_given base.next (h ++ e ∷ []) ≤ n → NamesBelow n e
+names_below base h e n legal upto = names e legal upto
   where
-    given_to_quiet : (q : ℕ) → given_to q (h ++ e ∷ []) ≡ given_to q h
-    given_to_quiet q = given_to_push q h e ∙ ap (λ t. given_to q h ++ t) (quiet_gives_none_to q e f) ∙ append-nil (given_to q h)
+    old : (e : Event) (session x : ℕ) → IsLegal base (h ++ e ∷ []) → next_given base.next (h ++ e ∷ []) ≤ n → Contains (open_ids session h) x → x < n
+    old e session x legal upto c = let l = open_below base h session x (legal_front base h e legal) c in let r = next_rises base h e in omega arith
+
+    new : (e : Event) (x : ℕ) → IsLegal base (h ++ e ∷ []) → next_given base.next (h ++ e ∷ []) ≤ n → given_by e ≡ Some x → x < n
+    new e x legal upto g = let l = given_below base (h ++ e ∷ []) legal x (given_new h e x g) in omega arith
+
+    names : (e : Event) → IsLegal base (h ++ e ∷ []) → next_given base.next (h ++ e ∷ []) ≤ n → NamesBelow n e
+    names (events.Id by id) legal upto = new (events.Id by id) id legal upto refl
+    names (events.Sub by parent id) legal upto =
+        let may = legal_last base h (events.Sub by parent id) legal in
+        let l = open_below base h by.session parent (legal_front base h (events.Sub by parent id) legal) may.1 in
+        let e : id ≡ next_given base.next h = may.0.next in
+        (omega arith, new (events.Sub by parent id) id legal upto refl)
+    names (events.Undo by id) legal upto = old (events.Undo by id) by.session id legal upto (legal_last base h (events.Undo by id) legal).0
+    names (events.Commit by t) legal upto = old (events.Commit by t) by.session t legal upto (legal_last base h (events.Commit by t) legal).0
+    names (events.Abort by t) legal upto = old (events.Abort by t) by.session t legal upto (legal_last base h (events.Abort by t) legal).0
+    names (events.Snap by name) legal upto = tt
+    names (events.SnapDrop by name) legal upto = tt
+    names (events.Oldest by oldest) legal upto = tt
+    names (events.Ask by id) legal upto = tt
+
+all_below : (base : Counters) (n : ℕ) (h : List Event) → IsLegal base h → next_given base.next h ≤ n → AreBelow n h
+all_below base n = by_end (λ h. IsLegal base h → next_given base.next h ≤ n → AreBelow n h)
+    (λ legal upto. tt)
+    (λ h e before legal upto. all_push (NamesBelow n) h e (before (legal_front base h e legal) (let r = next_rises base h e in omega arith)) (names_below base h e n legal upto))
+
+given_ascending : (base : Counters) (h : List Event) → IsLegal base h → Ascending (given h)
+given_ascending base = by_end (λ h. IsLegal base h → Ascending (given h))
+    (λ legal. tt)
+    (λ h e before legal.
+    let front = legal_front base h e legal in
+    let step : (o : Option ℕ) → given_by e ≡ o → Ascending (given (h ++ e ∷ [])) = elim [
+      | None ↦ λ g. subst Ascending (sym (given_none h e (ap (λ o. cons_option o []) g))) (before front)
+      | Some y ↦ λ g.
+          let q = may_give base h e y (legal_last base h e legal) g in
+          subst Ascending (sym (given_push h e ∙ ap (λ o. given h ++ cons_option o []) g))
+          (ascending_push (given h) y (before front) (all_from (λ x. x < y) (given h) (λ x k. let l = given_below base h front x k in omega arith)))
+    ] in
+    step (given_by e) refl)
+
+-- the family of an id that was given, or the id alone
+line_cases : (base : Counters) (h : List Event) (x : ℕ) → IsLegal base h → (lineage h x ≡ x ∷ []) ⊎ Family h x
+line_cases base h x legal =
+    ⊎_elim
+    (λ t. inr (family base h legal x (true_has (given h) x t)))
+    (λ f. inl (lineage_fresh base h legal x (λ k. not_both (has (given h) x) (has_true (given h) x k) f)))
+    (cases_Bool (has (given h) x))
+
+-- every legal history is sound
+pub legal_sound : (base : Counters) (h : List Event) → IsLegal base h → IsSound base.next h
+legal_sound base h legal =
+    record {
+      below = all_below base (next_given base.next h) h legal (omega arith);
+      one_owner = λ x s r a b. one_session base h legal s r x (true_has (given_to s h) x a) (true_has (given_to r h) x b);
+      inside = λ x id i.
+          let k = true_has (enclosing h x) id i in
+          ⊎_elim (λ (e : lineage h x ≡ x ∷ []). absurd (subst (λ (l : List ℕ). Has (enclosing_line l) id) e k)) (λ (f : Family h x). sym (f.tops id (enclosing_in h x id k))) (line_cases base h x legal);
+      alone = λ x t.
+          ap enclosing_line (⊎_elim (λ (e : lineage h x ≡ x ∷ []). e) (λ (f : Family h x). subst (λ y. lineage h y ≡ y ∷ []) (eqb-true (top h x) x t) f.root) (line_cases base h x legal));
+      ascending = given_ascending base h legal;
+      roots = λ x t.
+          let f = family base h legal x (true_has (given h) x t) in
+          record { root_given = has_true (given h) (top h x) (f.within (top h x) (top_in h x)); root_top = top_of_top h x f; root_to = f.below (top h x) (top_in h x) };
+    }
+
+pub has_given_to : (s : ℕ) (h : List Event) (x : ℕ) → has (given_to s h) x ≡ true → has (given h) x ≡ true
+has_given_to s h x f = has_true (given h) x (given_to_given s h x (true_has (given_to s h) x f))
+
+pub open_member : (s : ℕ) (h : List Event) (x : ℕ) → has (open_ids s h) x ≡ true → (has (given_to s h) x ≡ true) × (is_open h x ≡ true)
+open_member s h x f = and_parts (has (given_to s h) x) (is_open h x) (sym (has-filter (is_open h) (given_to s h) x) ∙ f)
+
+pub session_runs : (s : ℕ) (h : List Event) (x : ℕ) → Contains (open_ids s h) x → has (running h) x ≡ true
+session_runs s h x c =
+    let m = open_member s h x (contains_true (open_ids s h) x c) in
+    has-filter (is_open h) (given h) x ∙ ap (λ b. b && is_open h x) (has_given_to s h x m.0) ∙ m.1
+
+-- the top of a running id runs too
+pub root_runs : (first : ℕ) (h : List Event) (x : ℕ) → IsSound first h → has (running h) x ≡ true → (has (running_tops h) (top h x) ≡ true) × (top h x ≤ x)
+root_runs first h x s f =
+    let m = and_parts (has (given h) x) (is_open h x) (sym (has-filter (is_open h) (given h) x) ∙ f) in
+    let r : HasRoot h x = s.roots x m.0 in
+    let is_one : is_top h (top h x) ≡ true = ap (λ t. t == top h x) r.root_top ∙ eqb-refl (top h x) in
+    let still : is_open h (top h x) ≡ true = open_root h x r.root_top (s.alone (top h x) is_one) m.1 in
+    let runs : has (running h) (top h x) ≡ true = has-filter (is_open h) (given h) (top h x) ∙ ap (λ b. b && is_open h (top h x)) r.root_given ∙ still in
+    (has-filter (is_top h) (running h) (top h x) ∙ ap (λ b. b && is_top h (top h x)) runs ∙ is_one, r.root_to)

@@ -1,19 +1,16 @@
 -- The family of an id of a legal history.
-use Rattle.std.proofs.Common.{◌≡◌, ℕ, suc, ◌-◌, ◌<◌, ◌≤◌, ◌⊎◌, ◌==◌, List, [], ◌∷◌, ◌++◌, length, take, Option, Some, None, refl, sym, ap, subst, ◌∙◌, inl, inr, ⊎_elim, arith, true, false, cond, reverse}
-use Rattle.std.specs.List.{last_or, cons_option, filter_map}
-use Rattle.std.specs.Option.{unwrap_or}
+use Rattle.std.proofs.Common.{◌≡◌, ℕ, ◌<◌, ◌≤◌, ◌⊎◌, List, [], ◌∷◌, ◌++◌, Some, sym, ap, subst, ◌∙◌, inl, inr, ⊎_elim, arith}
 use Rattle.tx_model.specs.declared.event.By.{By}
 use Rattle.tx_model.specs.declared.event.Event.{Event}
-use Rattle.tx_model.specs.declared.event.Event.TheVariants as events
 use Rattle.tx_model.specs.declared.record.Counters.{Counters}
 use Rattle.tx_model.specs.Events.{given, given_to, given_by}
-use Rattle.tx_model.specs.Families.{line_up, lineage, top, enclosing}
+use Rattle.tx_model.specs.Families.{lineage, top}
 use Rattle.tx_model.specs.Running.{is_open, open_ids}
 use Rattle.tx_model.specs.History.{IsLegal, MayCome}
-use Rattle.tx_model.proofs.Membership.{Has, contains_has, has_filter, by_end, has_left, has_cases}
-use Rattle.tx_model.proofs.Lineages.{lineage_push, lineage_sub, id_leaves, given_push}
-use Rattle.tx_model.proofs.GivenIds.{legal_front, legal_last, fresh, may_give, given_below, lineage_fresh, given_to_given}
-use Rattle.tx_model.proofs.OpenIds.{top_in}
+use Rattle.tx_model.proofs.Membership.{Has, contains_has, has_filter, by_end}
+use Rattle.tx_model.proofs.Lineages.{lineage_push, lineage_sub, top_in, family_kept, top_line, top_of_sub}
+use Rattle.tx_model.proofs.GivenIds.{legal_front, legal_last, fresh, may_give, given_below, lineage_fresh, given_to_given, given_push_cases, given_stays}
+use Rattle.tx_model.specs.declared.event.Event.TheVariants as events
 
 -- an id of the history with one event more
 pub record IsOld (h : List Event) (e : Event) (x : ℕ) : Type 0 where
@@ -37,7 +34,7 @@ new_cases : (base : Counters) (h : List Event) (e : Event) (x : ℕ) → IsLegal
 new_cases base h (events.Id by id) x legal may g =
     let q : id ≡ x = cc in
     let n = fresh base h (events.Id by id) x legal may g in
-    inl (record { by = by; is = ap (events.Id by) q; line = id_leaves h by id x ∙ lineage_fresh base h legal x n })
+    inl (record { by = by; is = ap (events.Id by) q; line = family_kept h (events.Id by id) x tt ∙ lineage_fresh base h legal x n })
 new_cases base h (events.Sub by parent id) x legal may g =
     let q : id ≡ x = cc in
     let o : Has (open_ids by.session h) parent = contains_has (open_ids by.session h) parent may.1 in
@@ -49,64 +46,12 @@ new_cases base h (events.Sub by parent id) x legal may g =
       given = given_to_given by.session h parent (has_filter (is_open h) (given_to by.session h) parent o).0;
       line = ap (λ z. lineage (h ++ events.Sub by parent z ∷ []) x) q ∙ lineage_sub h by parent x;
     })
-new_cases base h (events.Undo by id) x legal may g = absurd cc
-new_cases base h (events.Commit by t) x legal may g = absurd cc
-new_cases base h (events.Abort by t) x legal may g = absurd cc
-new_cases base h (events.Snap by name) x legal may g = absurd cc
-new_cases base h (events.SnapDrop by name) x legal may g = absurd cc
-new_cases base h (events.Oldest by oldest) x legal may g = absurd cc
-new_cases base h (events.Ask by id) x legal may g = absurd cc
+new_cases base h e x legal may g = absurd cc
 
 pub given_cases : (base : Counters) (h : List Event) (e : Event) (x : ℕ) → IsLegal base h → MayCome base h e → Has (given (h ++ e ∷ [])) x → IsOld h e x ⊎ IsNewTop h e x ⊎ IsNewSub h e x
 given_cases base h e x legal may k =
     let old : Has (given h) x → IsOld h e x = λ a. record { given = a; line = lineage_push h e x (λ g. fresh base h e x legal may g a) } in
-    ⊎_elim (λ a. inl (old a))
-    (λ a.
-    let step : (o : Option ℕ) → given_by e ≡ o → Has (cons_option o []) x → given_by e ≡ Some x = elim [
-      | None ↦ λ g z. absurd z
-      | Some y ↦ λ g z. ⊎_elim (λ (q : y ≡ x). g ∙ ap (λ w. Some w) q) (λ w. absurd w) z
-    ] in
-    inr (new_cases base h e x legal may (step (given_by e) refl a)))
-    (has_cases (given h) (filter_map given_by (e ∷ [])) x (subst (λ t. Has t x) (given_push h e) k))
-
-pub given_stays : (h : List Event) (e : Event) (x : ℕ) → Has (given h) x → Has (given (h ++ e ∷ [])) x
-given_stays h e x k = subst (λ t. Has t x) (sym (given_push h e)) (has_left (given h) (filter_map given_by (e ∷ [])) x k)
-
--- a line begins with its id
-pub line_head : (older : List Event) (x : ℕ) → (rest : List ℕ) × (line_up older x ≡ x ∷ rest)
-line_head [] x = ([], refl)
-line_head (events.Sub by parent id ∷ older) x = elim (id == x) as (λ b. (rest : List ℕ) × (cond b (x ∷ line_up older parent) (line_up older x) ≡ x ∷ rest)) [ true ↦ (line_up older parent, refl) | false ↦ line_head older x ]
-line_head (events.Id by id ∷ older) x = line_head older x
-line_head (events.Undo by id ∷ older) x = line_head older x
-line_head (events.Commit by t ∷ older) x = line_head older x
-line_head (events.Abort by t ∷ older) x = line_head older x
-line_head (events.Snap by name ∷ older) x = line_head older x
-line_head (events.SnapDrop by name ∷ older) x = line_head older x
-line_head (events.Oldest by oldest ∷ older) x = line_head older x
-line_head (events.Ask by id ∷ older) x = line_head older x
-
-abbrev pub top_line : List ℕ → ℕ → ℕ
-top_line line x = unwrap_or (last_or (Some x) line) x
-
-abbrev pub enclosing_line : List ℕ → List ℕ
-enclosing_line line = take (length line - 1) line
-
-sub_sub : (n : ℕ) → suc (suc n) - 1 ≡ suc (suc n - 1)
-sub_sub n = omega arith
-
-last_any : (o : ℕ) (xs : List ℕ) (a b : ℕ) → unwrap_or (last_or (Some o) xs) a ≡ unwrap_or (last_or (Some o) xs) b
-last_any o [] a b = refl
-last_any o (x ∷ xs) a b = last_any x xs a b
-
-pub top_of_sub : (h : List Event) (parent x : ℕ) → top_line (x ∷ lineage h parent) x ≡ top h parent
-top_of_sub h parent x =
-    let l = line_head (reverse h) parent in
-    ap (λ (t : List ℕ). top_line (x ∷ t) x) l.1 ∙ last_any parent l.0 x parent ∙ sym (ap (λ (t : List ℕ). top_line t parent) l.1)
-
-pub enclosing_of_sub : (h : List Event) (parent x : ℕ) → enclosing_line (x ∷ lineage h parent) ≡ x ∷ enclosing h parent
-enclosing_of_sub h parent x =
-    let l = line_head (reverse h) parent in
-    ap (λ (t : List ℕ). enclosing_line (x ∷ t)) l.1 ∙ ap (λ n. take n (x ∷ parent ∷ l.0)) (sub_sub (length l.0)) ∙ sym (ap (λ (t : List ℕ). x ∷ enclosing_line t) l.1)
+    ⊎_elim (λ a. inl (old a)) (λ a. inr (new_cases base h e x legal may a)) (given_push_cases h e x k)
 
 -- what is known of the family of an id that was given
 pub record Family (h : List Event) (x : ℕ) : Type 0 where

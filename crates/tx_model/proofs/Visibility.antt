@@ -1,23 +1,23 @@
 -- Visibility after a history, and where the ids of a snapshot begin.
-use Rattle.std.proofs.Common.{Bool, Contains, List, Some, ap, arith, cond, eq-eqb, false, ne_eqb, not, refl, subst, suc, sym, true, zero, ℕ, ⊎_elim, ◌%◌, ◌&&◌, ◌*◌, ◌+◌, ◌-◌, ◌<◌, ◌==◌, ◌^◌, ◌||◌, ◌∙◌, ◌≡◌, ◌≤◌}
+use Rattle.std.proofs.Common.{Bool, Contains, List, Some, ap, arith, eq-eqb, false, ne_eqb, not, refl, subst, sym, true, ℕ, ⊎_elim, ◌&&◌, ◌-◌, ◌==◌, ◌||◌, ◌∙◌, ◌≡◌, ◌≤◌}
 use Rattle.std.proofs.Math.Bool.{or-false}
-use Rattle.std.proofs.lemmas.Bool.{eqb-true}
-use Rattle.std.proofs.lemmas.Bool.Decides.{nat_tests}
+use Rattle.std.proofs.lemmas.Bool.{eqb-true, false_from_ne_true, and_parts}
 use Rattle.std.specs.List.{list_any, slice_get}
-use Rattle.std.specs.Prelude.{nat_lt}
-use Rattle.xid_order.specs.Ids.{IsFullId, id_before, low_half, next_id}
+use Rattle.xid_order.specs.Ids.{IsFullId, id_before, next_id}
 use Rattle.tx_model.specs.declared.event.By.{By}
 use Rattle.tx_model.specs.declared.event.Event.{Event}
 use Rattle.tx_model.specs.declared.record.Counters.{Counters}
-use Rattle.tx_model.proofs.Closing.{commit_ends, not_both, open_is}
-use Rattle.tx_model.proofs.GivenIds.{commit_given, lineage_fresh, next_above}
-use Rattle.tx_model.proofs.IdOrder.{fold_max_one, fold_min_above, next_upto}
+use Rattle.tx_model.proofs.Closing.{commit_ends, open_is}
+use Rattle.tx_model.proofs.ListSteps.{not_both}
+use Rattle.tx_model.proofs.GivenIds.{commit_given, lineage_fresh}
+use Rattle.tx_model.proofs.IdOrder.{next_above, next_of_before}
+use Rattle.tx_model.proofs.Extremes.{fold_max_one, fold_min_above}
 use Rattle.tx_model.proofs.Membership.{Has, any_has, has_any, has_contains, has_filter, has_place, place_has}
-use Rattle.tx_model.proofs.SnapshotBounds.{by_truth, given_from}
-use Rattle.tx_model.proofs.Trees.{top_line}
+use Rattle.tx_model.proofs.SnapshotBounds.{given_from}
+use Rattle.tx_model.proofs.Lineages.{top_line}
 use Rattle.tx_model.specs.Events.{given, is_commit_of}
 use Rattle.tx_model.specs.Families.{is_top, top}
-use Rattle.tx_model.specs.History.{IsLegal, nth_id}
+use Rattle.tx_model.specs.History.{IsLegal}
 use Rattle.tx_model.specs.Running.{closed, is_ended, is_open, is_undone, running, running_tops}
 use Rattle.tx_model.specs.Snapshots.{latest, snapshot_xmax, snapshot_xmin}
 use Rattle.tx_model.specs.Visible.{is_visible}
@@ -30,16 +30,9 @@ pub has_among : (x : ℕ) (ids : List ℕ) → Has ids x → list_any (λ y. y =
 has_among x ids k = any_has (λ y. y == x) ids x k (eq-eqb x x refl)
 
 -- a commit of x, found by its test
-pub commit_is : (e : Event) (x : ℕ) → is_commit_of x e ≡ true → (by : By) × (e ≡ events.Commit by x)
+commit_is : (e : Event) (x : ℕ) → is_commit_of x e ≡ true → (by : By) × (e ≡ events.Commit by x)
 commit_is (events.Commit by t) x q = (by, ap (events.Commit by) (eqb-true t x q))
-commit_is (events.Id by id) x q = absurd cc
-commit_is (events.Sub by parent id) x q = absurd cc
-commit_is (events.Undo by id) x q = absurd cc
-commit_is (events.Abort by t) x q = absurd cc
-commit_is (events.Snap by name) x q = absurd cc
-commit_is (events.SnapDrop by name) x q = absurd cc
-commit_is (events.Oldest by oldest) x q = absurd cc
-commit_is (events.Ask by id) x q = absurd cc
+commit_is e x q = absurd cc
 
 pub record HasCommit (h : List Event) (t : ℕ) : Type 0 where
   pub by : By
@@ -52,13 +45,6 @@ commit_found h t e =
     let p = has_place h (events.Commit c.0 t) (subst (λ z. Has h z) c.1 r.1) in
     record { by = c.0; place = p.0; at = p.1 }
 
-pub both_true : (a b : Bool) → (a && b) ≡ true → (a ≡ true) × (b ≡ true)
-both_true true b e = (refl, e)
-both_true false b e = absurd cc
-
-pub and_true : (a b : Bool) → a ≡ true → b ≡ true → (a && b) ≡ true
-and_true a b p q = ap (λ z. z && b) p ∙ q
-
 -- visibility of an id of this life
 abbrev pub lives : List Event → ℕ → Bool
 lives g x = list_any (is_commit_of (top g x)) g && not (is_undone g x)
@@ -66,7 +52,7 @@ lives g x = list_any (is_commit_of (top g x)) g && not (is_undone g x)
 pub visible_new : (committed : List ℕ) (g : List Event) (x : ℕ) → 3 ≤ x → (Contains committed x → ⊥) → is_visible committed g x ≡ lives g x
 visible_new committed g x big none =
     let one : (x == 1) ≡ false = ne_eqb x 1 (λ q. absurd (omega arith)) in let two : (x == 2) ≡ false = ne_eqb x 2 (λ q. absurd (omega arith)) in
-    let old : list_any (λ y. y == x) committed ≡ false = by_truth (list_any (λ y. y == x) committed) (λ e. none (has_contains _ _ (among_has x committed e))) in
+    let old : list_any (λ y. y == x) committed ≡ false = false_from_ne_true (list_any (λ y. y == x) committed) (λ e. none (has_contains _ _ (among_has x committed e))) in
     ap (λ b. b || (x == 2) || list_any (λ y. y == x) committed || lives g x) one
     ∙ ap (λ b. b || list_any (λ y. y == x) committed || lives g x) two
     ∙ ap (λ b. b || lives g x) old
@@ -81,40 +67,18 @@ visible_old committed g x big none =
 -- an id that wasn't given has no commit
 pub never_given : (base : Counters) (g : List Event) (x : ℕ) → IsLegal base g → (Has (given g) x → ⊥) → lives g x ≡ false
 never_given base g x legal n =
-    by_truth (lives g x) (λ e.
-    let c = (both_true (list_any (is_commit_of (top g x)) g) (not (is_undone g x)) e).0 in
+    false_from_ne_true (lives g x) (λ e.
+    let c = (and_parts (list_any (is_commit_of (top g x)) g) (not (is_undone g x)) e).0 in
     let own : top g x ≡ x = ap (λ (l : List ℕ). top_line l x) (lineage_fresh base g legal x n) in
     let f = commit_found g x (ap (λ z. list_any (is_commit_of z) g) (sym own) ∙ c) in
     n (commit_given base g legal f.by x (place_has g f.place (events.Commit f.by x) f.at)))
 
 -- an open id isn't visible
 pub open_hidden : (g : List Event) (x : ℕ) → is_open g x ≡ true → lives g x ≡ false
-open_hidden g x o = by_truth (lives g x) (λ e.
-    let c = (both_true (list_any (is_commit_of (top g x)) g) (not (is_undone g x)) e).0 in
+open_hidden g x o = false_from_ne_true (lives g x) (λ e.
+    let c = (and_parts (list_any (is_commit_of (top g x)) g) (not (is_undone g x)) e).0 in
     let f = commit_found g (top g x) c in
     not_both (is_ended g x) (commit_ends g f.by (top g x) x (place_has g f.place (events.Commit f.by (top g x)) f.at) refl) (open_is g x o).0)
-
-low_next : (n : ℕ) → 3 ≤ n % 2 ^ 32 → (n - 1) % 2 ^ 32 < 3 → n ≤ next_id (n - 1 - low_half (n - 1) - 1)
-low_next n f l =
-    let m : ℕ = n - 1 - low_half (n - 1) - 1 in
-    let step : (b : Bool) → nat_lt (low_half (m + 1)) 3 ≡ b → n ≤ cond b (m + 1 + (3 - low_half (m + 1))) (m + 1) = elim [
-      | true ↦ λ q. omega arith
-      | false ↦ λ q. let z : 3 ≤ (m + 1) % 2 ^ 32 = grind (arith, nat_tests) in absurd (omega arith)
-    ] in
-    step (nat_lt (low_half (m + 1)) 3) refl
-
--- the id before the first one and its next
-pub next_of_before : (n : ℕ) → IsFullId n → n ≤ next_id (id_before n)
-next_of_before n full =
-    let f : 3 ≤ n % 2 ^ 32 = full in
-    let step : (b : Bool) → nat_lt (n - 1) 3 ≡ b → (c : Bool) → nat_lt (low_half (n - 1)) 3 ≡ c → n ≤ next_id (cond b (n - 1) (cond c (n - 1 - low_half (n - 1) - 1) (n - 1))) = elim [
-      | true ↦ λ q c r. let z = next_above (n - 1) in omega arith
-      | false ↦ λ q. elim [
-        | true ↦ λ r. let l : (n - 1) % 2 ^ 32 < 3 = grind (arith, nat_tests) in low_next n f l
-        | false ↦ λ r. let z = next_above (n - 1) in omega arith
-      ]
-    ] in
-    step (nat_lt (n - 1) 3) refl (nat_lt (low_half (n - 1)) 3) refl
 
 -- no snapshot's xmin is below the first id
 pub xmin_from : (base : Counters) (g : List Event) → IsLegal base g → IsFullId base.next → base.next ≤ snapshot_xmin base.next g
@@ -124,8 +88,3 @@ xmin_from base g legal full =
     (λ c. let a = given_from base g legal (latest base.next g) (has_filter (λ y. not (is_open g y)) (given g) (latest base.next g) c).0 in let b = next_above (latest base.next g) in omega arith)
     (fold_max_one (id_before base.next) (closed g)) in
     fold_min_above (snapshot_xmax base.next g) base.next (running_tops g) xmax (λ y k. given_from base g legal y (has_filter (is_open g) (given g) y (has_filter (is_top g) (running g) y k).0).0)
-
--- so many ids don't go far
-pub nth_upto : (first n : ℕ) → nth_id first n ≤ first + 4 * n
-nth_upto first zero = omega arith
-nth_upto first (suc n) = let a = nth_upto first n in let b = next_upto (nth_id first n) in omega arith

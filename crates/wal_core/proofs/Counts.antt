@@ -1,5 +1,6 @@
 -- Counters past every base.
-use Rattle.std.proofs.Common.{◌≡◌, ◌⊎◌, inl, inr, ℕ, ◌+◌, ◌-◌, ◌<◌, ◌≤◌, ◌^◌, max, Bool, true, false, cond, ltb, List, [], ◌∷◌, length, drop, get_or, refl, sym, ap, subst, arith}
+use Rattle.tx_model.proofs.IdOrder.{next_above}
+use Rattle.std.proofs.Common.{◌≡◌, ◌⊎◌, inl, inr, ℕ, ◌+◌, ◌<◌, ◌≤◌, ◌^◌, max, Bool, true, false, cond, ltb, List, [], ◌∷◌, length, drop, get_or, refl, sym, ap, subst, arith}
 use Rattle.std.proofs.lemmas.List.{drop_more}
 use Rattle.xid_order.specs.Ids.{low_half, next_id, next_multi}
 use Rattle.tx_model.specs.After.{past_ids, ids_of, after_record}
@@ -46,20 +47,13 @@ past_above next (id ∷ ids) = omega (arith, past_above (max next (next_id id)) 
 pub past_one : (next : ℕ) (ids : List ℕ) (i d : ℕ) → i < length ids → past_ids next (drop i ids) ≡ past_ids (max next (next_id (get_or ids i d))) (drop (i + 1) ids)
 past_one next ids i d lt = ap (past_ids next) (drop_more ids i d lt)
 
-pub next_id_above : (x : ℕ) → x < next_id x
-next_id_above x = by_test (ltb (low_half (x + 1)) 3)
-  where
-    by_test : (b : Bool) → x < cond b (x + 1 + (3 - low_half (x + 1))) (x + 1)
-    by_test true = omega arith
-    by_test false = omega arith
-
 -- an id that is too far
 pub past_far : (next : ℕ) (ids : List ℕ) (i d : ℕ) → i < length ids → 2 ^ 63 ≤ get_or ids i d → 2 ^ 63 < past_ids next (drop i ids)
 past_far next ids i d lt far =
     let x : ℕ = get_or ids i d in
     let above : max next (next_id x) ≤ past_ids (max next (next_id x)) (drop (i + 1) ids) = past_above (max next (next_id x)) (drop (i + 1) ids) in
     let e : past_ids next (drop i ids) ≡ past_ids (max next (next_id x)) (drop (i + 1) ids) = past_one next ids i d lt in
-    omega (arith, above, e, next_id_above x, far)
+    omega (arith, above, e, next_above x, far)
 
 pub past_member : (next : ℕ) (ms : List Member) (i : ℕ) (d : Member) → i < length ms → past_ids next (ids_of (drop i ms)) ≡ past_ids (max next (next_id (get_or ms i d).id)) (ids_of (drop (i + 1) ms))
 past_member next ms i d lt = ap (λ (l : List Member). past_ids next (ids_of l)) (drop_more ms i d lt)
@@ -69,7 +63,7 @@ far_member next ms i d lt far =
     let x : ℕ = (get_or ms i d).id in
     let above : max next (next_id x) ≤ past_ids (max next (next_id x)) (ids_of (drop (i + 1) ms)) = past_above (max next (next_id x)) (ids_of (drop (i + 1) ms)) in
     let e : past_ids next (ids_of (drop i ms)) ≡ past_ids (max next (next_id x)) (ids_of (drop (i + 1) ms)) = past_member next ms i d lt in
-    omega (arith, above, e, next_id_above x, far)
+    omega (arith, above, e, next_above x, far)
 
 pub multi_not_base : (c : Counters) (multi offset : ℕ) (members : List Member) → (2 ^ 63 < past_ids c.next (ids_of members)) ⊎ ((2 ^ 63 ≤ multi) ⊎ (2 ^ 64 ≤ offset + length members))
     → is_base_of (after_record c (records.Multi multi offset members)) ≡ false

@@ -63,9 +63,3 @@ is_short counters least length gate one test none = elim test [
   | inl le ↦ inr le
   | inr le ↦ inl (omega (arith, le, one none))
 ]
-
-pub not_both_ways : {X : Type 0} (b : Bool) → b ≡ true → b ≡ false → X
-not_both_ways b is isnt = absurd (apart (sym is ∙ isnt))
-  where
-    apart : true ≡ false → ⊥
-    apart e = cc

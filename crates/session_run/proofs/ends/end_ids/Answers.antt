@@ -1,8 +1,9 @@
+use Rattle.std.proofs.lemmas.List.{take_rest}
 use Rattle.std.proofs.Common.{◌≡◌, ◌++◌, ◌∷◌, [], drop, sym, ap, subst, ◌∙◌}
 use Rattle.proc_table.specs.Table.{end_event}
 use Rattle.session_run.specs.Closes.{end_record, ended_states}
 use Rattle.session_run.specs.Sound.{IsSound}
-use Rattle.session_run.proofs.EndLemmas.{head_tail, heads, take_rest, tail_few, may_end, end_record_few}
+use Rattle.session_run.proofs.EndLemmas.{head_tail, heads, tail_few, may_end, end_record_few}
 use Rattle.session_run.proofs.SoundLemmas.{sound_ended}
 use Rattle.session_run.proofs.ends.end_ids.Goals as goal
 
@@ -11,7 +12,7 @@ add-requires-clause-size c =
     let w = c.args.shared.now in
     let ids = c.args.ids.now in
     let parts : ids ≡ c.index-ids-0.result ∷ drop 1 ids = head_tail ids c.index-ids-0.result c.requires.some ∙ ap (λ t. t ∷ drop 1 ids) (sym c.index-ids-0.is) in
-    let subs : c.in_ok-subs.subs ≡ drop 1 ids = c.in_ok-subs.ensures ∙ take_rest 1 ids in
+    let subs : c.in_ok-subs.subs ≡ drop 1 ids = c.in_ok-subs.ensures ∙ take_rest ids 1 in
     rw (c.end_record.ensures, subs)
     (end_record_few w.table.base w.table.events c.args.by.session c.index-ids-0.result (drop 1 ids) c.args.committed c.requires.sound.base_is c.requires.sound.legal (c.requires.opened ∙ parts) (rw parts at c.requires.ascend))
 
@@ -21,7 +22,7 @@ returns c =
     let ids = c.args.ids.now in
     let top = c.index-ids-0.result in
     let parts : ids ≡ top ∷ drop 1 ids = head_tail ids top c.requires.some ∙ ap (λ t. t ∷ drop 1 ids) (sym c.index-ids-0.is) in
-    let subs : c.in_ok-subs.subs ≡ drop 1 ids = c.in_ok-subs.ensures ∙ take_rest 1 ids in
+    let subs : c.in_ok-subs.subs ≡ drop 1 ids = c.in_ok-subs.ensures ∙ take_rest ids 1 in
     record {
       event = λ t rest e. c.end.ensures.events ∙ ap (λ x. w.table.events ++ end_event c.args.committed c.args.by x ∷ []) (heads top t (drop 1 ids) rest (sym parts ∙ e));
       sound = rw (c.end.ensures.events, c.end.ensures.base, c.in_ok-add.ensures.ok, c.end_record.ensures, subs, c.end_states.ensures)

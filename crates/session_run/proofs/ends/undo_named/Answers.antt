@@ -1,3 +1,4 @@
+use Rattle.std.proofs.lemmas.List.{take_rest}
 use Rattle.std.proofs.Common.{◌≡◌, ◌≤◌, ◌++◌, ◌∷◌, [], length, take, drop, arith, sym, ap, subst, ◌∙◌, refl, not, nat_le, Contains, map}
 use Rattle.std.specs.List.{filter}
 use Rattle.tx_model.specs.declared.event.Event.TheVariants as events
@@ -6,7 +7,6 @@ use Rattle.tx_model.specs.declared.reply.Reply.TheVariants as replies
 use Rattle.tx_model.specs.Savepoints.{is_inside}
 use Rattle.session_run.specs.Acts.{Acts}
 use Rattle.session_run.specs.Stands.{Nest, levels_of, told_of}
-use Rattle.session_run.proofs.EndLemmas.{take_rest}
 use Rattle.session_run.proofs.SoundLemmas.{sound_still}
 use Rattle.session_run.proofs.StandsLemmas.{Stood, stood, stands, stood_undone, last_savepoint, inside_from}
 use Rattle.session_run.proofs.TurnLemmas.{acts_undone}
@@ -38,7 +38,7 @@ undo-requires-clause-ids c =
     let some : 1 ≤ length c.pop.new.self.items = omega (arith, c.in-Some.ensures.len, c.requires.savepoint) in
     let p = last_savepoint w.table.events s.opened.items c.pop.new.self.items id some (subst (Nest w.table.events s.opened.items) c.in-Some.ensures.items r.stands.nest) in
     let cut : drop c.place_of-from.result s.opened.items ≡ filter (λ x. nat_le id x) s.opened.items = subst (λ l. drop c.place_of-from.result l ≡ filter (λ x. nat_le id x) l) c.deref.ensures.value c.place_of-from.ensures.from in
-    take_rest c.place_of-from.result c.deref-2.result.now
+    take_rest c.deref-2.result.now c.place_of-from.result
     ∙ ap (drop c.place_of-from.result) c.deref-2.ensures.value
     ∙ cut
     ∙ sym (inside_from w.table.events s.opened.items id p)

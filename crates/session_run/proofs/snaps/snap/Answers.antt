@@ -1,10 +1,10 @@
+use Rattle.std.proofs.lemmas.List.{length-map}
 use Rattle.std.proofs.Common.{arith, refl}
 use Rattle.tx_model.specs.declared.command.Command.TheVariants as commands
 use Rattle.tx_model.specs.declared.reply.Reply.TheVariants as replies
 use Rattle.tx_model.specs.declared.reply.Refusal.TheVariants as refusals
 use Rattle.session_run.specs.Stands.{told_of, stance_of}
 use Rattle.session_run.proofs.ActsLemmas.{acts_idle, snap_found, snap_missing}
-use Rattle.session_run.proofs.ListLemmas.{length-map}
 use Rattle.session_run.proofs.snaps.snap.Goals as goal
 
 pub returns-in-Some-clause-acts : goal.returns-in-Some-clause-acts
@@ -19,4 +19,4 @@ returns-then-len-ge-MOST_SNAPS-clause-acts c =
     let w = c.args.shared.now in
     let s = c.args.session.now in
     acts_idle w.table.base c.args.by (stance_of s) (stance_of s) (commands.Snap c.args.name.now) (replies.Refused refusals.SnapLimit) w.table.events refl
-    (snap_missing c.args.name.now (stance_of s).levels s.kept.items c.in_default.ensures.none, omega (arith, length-map told_of s.kept.items)) refl
+    (snap_missing c.args.name.now (stance_of s).levels s.kept.items c.in_default.ensures.none, omega (arith, length-map s.kept.items told_of)) refl

@@ -2,8 +2,8 @@ use Rattle.std.proofs.Common.{◌≤◌, ◌<◌, ◌^◌, sym, ◌∙◌, ap, s
 use Rattle.std.proofs.lemmas.Bool.Decides.{nat_tests}
 use Rattle.xid_order.specs.Ids.{low_half}
 use Rattle.tx_model.specs.declared.reply.SnapData.{SnapData}
-use Rattle.tx_model.proofs.PlaceLemmas.{place_within}
-use Rattle.tx_model.proofs.SnapshotBounds.{legal_take}
+use Rattle.std.proofs.lemmas.Option.{slice_get_within}
+use Rattle.tx_model.proofs.GivenIds.{legal_take}
 use Rattle.proc_table.proofs.Bounds.{full_from}
 use Rattle.session_run.specs.Seen.{xmax_of}
 use Rattle.session_run.proofs.RoomLemmas.{xmax_to, xmax_full}
@@ -39,4 +39,4 @@ returns c =
     let k = c.args.kept.now in
     let full : 3 ≤ low_half c.in-Some.id = subst (λ n. 3 ≤ n) (sym c.in-Some.ensures.found.low) (omega arith) in
     seen_near w k c.args.x.number c.in-Some.id k.snapshot.xmax c.sees.result (omega arith) (ap (λ (d : SnapData). d.xmax) c.requires.kept.holds) (sym c.near.ensures.value ∙ c.in-Some.is)
-    (c.sees.ensures w.table.base w.table.events k.place c.requires.sound.legal c.requires.sound.base_is.full c.requires.sound.states_are (omega (arith, place_within w.table.events _ k.place c.requires.kept.taken)) c.requires.kept.holds full)
+    (c.sees.ensures w.table.base w.table.events k.place c.requires.sound.legal c.requires.sound.base_is.full c.requires.sound.states_are (omega (arith, slice_get_within w.table.events k.place _ c.requires.kept.taken)) c.requires.kept.holds full)

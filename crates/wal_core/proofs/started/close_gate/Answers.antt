@@ -1,8 +1,9 @@
+use Rattle.tx_model.proofs.ListSteps.{not_both}
 use Rattle.std.proofs.Common.{◌≡◌, ◌⊎◌, inl, inr, ℕ, ◌≤◌, true, false, not, ◌∙◌, ap, subst, arith, length}
 use Rattle.std.specs.Prelude.{is_some}
 use Rattle.disk_core.specs.Volume.{Volume, Wrote}
 use Rattle.wal_core.specs.Opening.{opened}
-use Rattle.wal_core.proofs.GateWrites.{torn_gate_opens, is_within, is_short, not_both_ways}
+use Rattle.wal_core.proofs.GateWrites.{torn_gate_opens, is_within, is_short}
 use Rattle.wal_core.proofs.Steps.{kept_first, kept_step, kept_quiet}
 use Rattle.wal_core.proofs.started.close_gate.Goals.{then-is_none, else-is_none, else-found-least-via-then-found-least+else-found, else-found-least-via-else-found-least}
 use Rattle.wal_core.proofs.started.close_gate.Goals as goal
@@ -13,12 +14,12 @@ returns-in_err-write_at-clause-any_moment g c told within =
     let v : Volume = d.reads d0 in let least : ℕ = c.if-is_none.least in
     let P : Volume → Type 0 = λ x. opened x ≡ opened v in
     let some : is_some found.counters ≡ true → least ≡ 0 = λ some. elim c.if-is_none.branch [
-      | then-is_none w ↦ not_both_ways (is_some found.counters) some (c.is_none.ensures ∙ ap not w.if-is_none.true)
+      | then-is_none w ↦ not_both (is_some found.counters) some (c.is_none.ensures ∙ ap not w.if-is_none.true)
       | else-is_none w ↦ w.least-is
     ] in
     let none : is_some found.counters ≡ false → least ≡ 1 = λ none. elim c.if-is_none.branch [
       | then-is_none w ↦ w.least-is
-      | else-is_none w ↦ not_both_ways (is_some found.counters) (c.is_none.ensures ∙ ap not w.if-is_none.false) none
+      | else-is_none w ↦ not_both (is_some found.counters) (c.is_none.ensures ∙ ap not w.if-is_none.false) none
     ] in
     let test : (length v.bytes ≤ found.gate) ⊎ (length v.bytes ≤ least) = elim c.else-found-least.branch [
       | else-found-least-via-then-found-least+else-found w ↦ inl (omega (arith, w.if-found.false, c.requires.reach told))
@@ -36,12 +37,12 @@ returns-clause-any_moment g c told within =
     let v : Volume = d.reads d0 in let least : ℕ = c.if-is_none.least in
     let P : Volume → Type 0 = λ x. opened x ≡ opened v in
     let some : is_some found.counters ≡ true → least ≡ 0 = λ some. elim c.if-is_none.branch [
-      | then-is_none w ↦ not_both_ways (is_some found.counters) some (c.is_none.ensures ∙ ap not w.if-is_none.true)
+      | then-is_none w ↦ not_both (is_some found.counters) some (c.is_none.ensures ∙ ap not w.if-is_none.true)
       | else-is_none w ↦ w.least-is
     ] in
     let none : is_some found.counters ≡ false → least ≡ 1 = λ none. elim c.if-is_none.branch [
       | then-is_none w ↦ w.least-is
-      | else-is_none w ↦ not_both_ways (is_some found.counters) (c.is_none.ensures ∙ ap not w.if-is_none.false) none
+      | else-is_none w ↦ not_both (is_some found.counters) (c.is_none.ensures ∙ ap not w.if-is_none.false) none
     ] in
     let test : (length v.bytes ≤ found.gate) ⊎ (length v.bytes ≤ least) = elim c.else-found-least.branch [
       | else-found-least-via-then-found-least+else-found w ↦ inl (omega (arith, w.if-found.false, c.requires.reach told))

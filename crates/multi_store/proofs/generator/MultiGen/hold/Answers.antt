@@ -1,6 +1,6 @@
-use Rattle.std.proofs.Common.{◌≡◌, refl, sym, ◌∙◌, subst, ap, arith, rules, ◌<◌, ◌≤◌, ◌==◌}
+use Rattle.std.proofs.Common.{◌≡◌, refl, sym, ◌∙◌, subst, ap, arith, rules, ◌<◌, ◌≤◌, ◌==◌, eqb-true}
 use Rattle.xid_order.specs.Ids.{next_multi}
-use Rattle.tx_model.proofs.ListSteps.{eqb-refl, equal_from}
+use Rattle.tx_model.proofs.ListSteps.{eqb-refl}
 use Rattle.tx_model.specs.Multis.{pins}
 use Rattle.tx_model.specs.declared.record.Counters.{Counters}
 use Rattle.multi_store.specs.Generator.{oldest_of, next_of}
@@ -31,7 +31,7 @@ returns c =
     let next : c.self.inside.counters.multi ≡ next_of c.args.self.now = ap (λ (k : Counters). k.multi) c.self.invariant.0.counters_are ∙ ap next_of c.self.view_is in
     record {
       meant = search rules;
-      last = (λ e. sym up ∙ equal_from _ _ (sym same ∙ e) ∙ next, λ e. same ∙ ap (λ n. n == c.self.inside.counters.multi) (up ∙ e ∙ sym next) ∙ eqb-refl c.self.inside.counters.multi);
+      last = (λ e. sym up ∙ eqb-true _ _ (sym same ∙ e) ∙ next, λ e. same ∙ ap (λ n. n == c.self.inside.counters.multi) (up ∙ e ∙ sym next) ∙ eqb-refl c.self.inside.counters.multi);
       end = search rules;
       start = search rules;
       most = search rules;

@@ -8,6 +8,11 @@ use Rattle.tx_model.specs.IdLists.{has, Ascending}
 use Rattle.tx_model.specs.Running.{is_undone}
 use Rattle.plain_states.specs.declared.id_states.IdState.{IdState}
 
+-- what a caller sees of the states: the list of them, and how many more fit without memory
+pub record StateList : Type 0 where
+  pub items : List IdState
+  pub room : ℕ
+
 -- the parent below which x was given; None of a top
 abbrev pub parent_of : List Event → ℕ → Option ℕ
 parent_of h x = slice_get (lineage h x) 1

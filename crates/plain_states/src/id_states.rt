@@ -1,4 +1,4 @@
-ghost use Rattle.std.specs.Prelude.{◌≡◌, ◌<◌, [], ◌∷◌, ◌++◌, false, map, IfSome, OnOk, OnErr};
+ghost use Rattle.std.specs.Prelude.{◌≡◌, ◌+◌, ◌<◌, ◌≤◌, [], ◌∷◌, ◌++◌, false, map, IfSome, OnOk, OnErr};
 ghost use Rattle.std.specs.List.{All};
 ghost use Rattle.snap_core.specs.Says.{data_of};
 ghost use Rattle.plain_states.specs.declared.id_states.IdState.{IdState};
@@ -22,21 +22,21 @@ pub struct IdState {
     pub committed: bool,
 }
 
-/// The states of all ids of a life, in the order in which they were given. A contract sees the list of them.
+/// The states of all ids of a life, in the order in which they were given. A contract sees the list of them, and how
+/// many more fit without memory.
 #[derive(Drop)]
 pub struct IdStates {
     states: Vec<IdState>,
 }
 
 impl Model for IdStates {
-    ghost use Rattle.std.specs.Prelude.{List};
-    ghost use Rattle.plain_states.specs.declared.id_states.IdState.{IdState};
+    ghost use Rattle.std.specs.Prelude.{◌-◌};
+    ghost use Rattle.std.specs.Vec.{vec_len, vec_capacity};
+    ghost use Rattle.plain_states.specs.States.{AreKept, StateList};
 
-    ghost Value = { List IdState };
+    ghost Value = { StateList };
 
-    ghost use Rattle.plain_states.specs.States.{AreKept};
-
-    ghost view = { λ m. m.states.items };
+    ghost view = { λ m. record { items = m.states.items; room = vec_capacity m.states - vec_len m.states } };
 
     ghost invariant = { λ m. AreKept m.states.items };
 }
@@ -44,33 +44,46 @@ impl Model for IdStates {
 impl IdStates {
     /// No ids. Takes no memory.
     pub fn new(alloc: Global) -> IdStates
-        ensures { result ≡ [] }
+        ensures { result.items ≡ [] }
     {
         IdStates {
             states: Vec::new(alloc),
         }
     }
 
-    /// An id was given: a top-level id, or one below `parent`. It is past all that were given before. After want of
-    /// memory nothing changed.
-    pub fn give(&mut self, id: FullXid, parent: Option<FullXid>) -> Result<(), Memory>
-        requires order { All (λ (s : IdState). s.id < id) self.old }
-        requires parent { IfSome parent (λ p. p < id) }
-        ensures ok { OnOk result (self.new ≡ self.old ++ record { id = id; parent = parent; committed = false } ∷ []) }
+    /// Takes the memory for this many more ids. It is wanting only where they don't fit yet, and then nothing changed.
+    pub fn reserve(&mut self, more: usize) -> Result<(), Memory>
+        ensures items { self.new.items ≡ self.old.items }
+        ensures grows { self.old.room ≤ self.new.room }
+        ensures ok { OnOk result (more ≤ self.new.room) }
+        ensures full { OnErr result (self.old.room < more) }
         ensures err { OnErr result (self.new ≡ self.old) }
     {
-        self.states.push(IdState {
+        self.states.reserve(more)?;
+        Ok(())
+    }
+
+    /// An id was given: a top-level id, or one below `parent`. It is past all that were given before. Takes no memory:
+    /// there is room for it.
+    pub fn give(&mut self, id: FullXid, parent: Option<FullXid>)
+        requires room { 1 ≤ self.old.room }
+        requires order { All (λ (s : IdState). s.id < id) self.old.items }
+        requires parent { IfSome parent (λ p. p < id) }
+        ensures items { self.new.items ≡ self.old.items ++ record { id = id; parent = parent; committed = false } ∷ [] }
+        ensures room { self.new.room + 1 ≡ self.old.room }
+    {
+        self.states.push_reserved(IdState {
             id,
             parent,
             committed: false,
-        })?;
-        Ok(())
+        });
     }
 
     /// These ids committed: a transaction's open ones. Those that aren't kept are passed over. Takes no memory, and a
     /// binary search for each id.
     pub fn commit(&mut self, ids: &[FullXid])
-        ensures { self.new ≡ map (with_commit ids.now) self.old }
+        ensures items { self.new.items ≡ map (with_commit ids.now) self.old.items }
+        ensures room { self.new.room ≡ self.old.room }
     {
         mark_all(&mut self.states, ids);
     }
@@ -79,7 +92,7 @@ impl IdStates {
     /// taken, of whatever legal history the states are: what committed later is hidden. Takes a binary search for
     /// the id, one in the snapshot, and where that overflowed one for each ancestor of the id.
     pub fn sees(&self, snap: &Snapshot, x: FullXid) -> bool
-        ensures { SeesRight self.now (data_of snap.now) x result }
+        ensures { SeesRight self.now.items (data_of snap.now) x result }
     {
         sees(&self.states, snap, x)
     }

@@ -51,15 +51,16 @@ fn snapshot<R: Abort + AllocGlobal>(
 }
 
 fn give<R: Abort>(rt: &R, states: &mut IdStates, number: u64, below: Option<u64>)
-    requires order { All (λ (s : IdState). s.id < number) states.old }
+    requires order { All (λ (s : IdState). s.id < number) states.old.items }
     requires parent { IfSome below (λ p. p < number) }
-    ensures { All (λ (s : IdState). s.id < number + 1) states.new }
+    ensures { All (λ (s : IdState). s.id < number + 1) states.new.items }
 {
-    assert!(rt; states.give(id(rt, number), parent(rt, below)).is_ok());
+    assert!(rt; states.reserve(1).is_ok());
+    states.give(id(rt, number), parent(rt, below));
 }
 
 fn commit(states: &mut IdStates, ids: &IdList)
-    ensures { (n : ℕ) → All (λ (s : IdState). s.id < n) states.old → All (λ (s : IdState). s.id < n) states.new }
+    ensures { (n : ℕ) → All (λ (s : IdState). s.id < n) states.old.items → All (λ (s : IdState). s.id < n) states.new.items }
 {
     states.commit(ids.items());
 }
@@ -75,6 +76,19 @@ fn commit_before_the_snapshot_is_visible(rt: HostRuntime) {
     commit(&mut states, &ids(&rt, 3, 4));
     let snap = snapshot(&rt, 4, 4, (0, 0), (0, 0), false);
     expect_seen(&rt, &states, &snap, 3, true);
+}
+
+#[test]
+fn reserved_room_holds_each_level_of_a_write(rt: HostRuntime) {
+    let mut states = IdStates::new(rt.alloc());
+    assert!(&rt; states.reserve(2).is_ok());
+    states.give(id(&rt, 3), None);
+    states.give(id(&rt, 4), Some(id(&rt, 3)));
+    assert!(&rt; states.reserve(usize::MAX).is_err());
+    commit(&mut states, &ids(&rt, 3, 5));
+    let snap = snapshot(&rt, 5, 5, (0, 0), (0, 0), false);
+    expect_seen(&rt, &states, &snap, 3, true);
+    expect_seen(&rt, &states, &snap, 4, true);
 }
 
 #[test]

@@ -34,7 +34,7 @@ ActsOn w w' by s s' command reply =
     Acts w.table.base by (stance_of s) (stance_of s') command reply w.table.events w'.table.events
 
 abbrev pub IsSoundAt : Shared → Type 0
-IsSoundAt w = IsSound w.table.base w.table.events w.log.recs w.states
+IsSoundAt w = IsSound w.table.base w.table.events w.log.recs w.states.items
 
 abbrev pub StandsAt : Shared → By → Session → Type 0
 StandsAt w by s = Stands w.table.base w.table.events by.session by.command s

@@ -71,7 +71,7 @@ IsFresh s = (s.commands ≡ 0) × (s.named.items ≡ []) × (s.unnamed ≡ 0) ×
 pub record IsNew (base : Counters) (sessions : ℕ) (w : Shared) : Type 0 where
   pub table : w.table ≡ record { base = base; sessions = sessions; frontier = page_of base.next; events = [] }
   pub recs : w.log.recs ≡ records.Checkpoint 0 base ∷ []
-  pub states : w.states ≡ []
+  pub states : w.states.items ≡ []
 
 -- the event is of one of these lines
 abbrev pub has_line : List Line → Event → Bool

@@ -92,7 +92,7 @@ fn end_record(committed: bool, top: FullXid, subs: IdList) -> Rec
 }
 
 fn end_states(states: &mut IdStates, ids: &[FullXid], committed: bool)
-    ensures { states.new ≡ ended_states committed ids.now states.old }
+    ensures { states.new.items ≡ ended_states committed ids.now states.old.items }
 {
     if committed {
         states.commit(ids);

@@ -53,7 +53,7 @@ fn stopped(refusal: &Refusal) -> Result<NewId, Memory>
 }
 
 /// Gives the next id, below a parent where there is one, and keeps it among the states (`AssignTransactionId` of
-/// `src/backend/access/transam/xact.c`).
+/// `src/backend/access/transam/xact.c`). Its room there is taken before it is given.
 fn give_id(shared: &mut Shared, by: By, parent: Option<FullXid>) -> Result<NewId, Memory>
     requires sound { IsSoundAt shared.old }
     requires known { by.session < shared.old.table.sessions }
@@ -61,13 +61,14 @@ fn give_id(shared: &mut Shared, by: By, parent: Option<FullXid>) -> Result<NewId
     requires parent { IsParent by.session shared.old.table.events parent }
     ensures { IfOk result (λ new. Gives shared.old shared.new by parent new) }
 {
+    shared.states.reserve(1)?;
     let given = match next_id(&mut shared.table, by, &parent) {
         Ok(given) => given,
         Err(refusal) => return stopped(&refusal),
     };
     match &given {
         Given::Id { id, warn } => {
-            shared.states.give(*id, parent)?;
+            shared.states.give(*id, parent);
             Ok(NewId::Given {
                 id: *id,
                 warn: *warn,
@@ -109,7 +110,7 @@ fn name_level(shared: &mut Shared, by: By, session: &mut Session) -> Result<NewI
     }
 }
 
-/// Gives an id to each level that lacks one, from the transaction down.
+/// Gives an id to each level that lacks one, from the transaction down. The reply's room is taken before the first.
 fn name_levels(
     shared: &mut Shared,
     alloc: Global,
@@ -124,12 +125,12 @@ fn name_levels(
     ensures few { OnOk result (GrowsLittle shared.old shared.new) }
     ensures count { OnOk result (session.new.commands ≡ session.old.commands) }
 {
-    let mut ids = IdList::new(alloc);
+    let mut ids = Vec::with_capacity(alloc, session.unnamed)?;
     let mut warn = false;
     while session.unnamed > 0 {
         match name_level(shared, by, session)? {
             NewId::Given { id, warn: late } => {
-                ids.push(id)?;
+                ids.push_reserved(id);
                 warn |= late;
             }
             NewId::Stop { next, stop } => {
@@ -139,7 +140,10 @@ fn name_levels(
             }
         }
     }
-    Ok(Reply::Wrote { ids, warn })
+    Ok(Reply::Wrote {
+        ids: IdList::of(ids),
+        warn,
+    })
 }
 
 /// Gives an id to each level that lacks one, from the transaction down (`AssignTransactionId` of `xact.c`, which gives

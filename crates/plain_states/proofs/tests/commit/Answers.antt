@@ -11,5 +11,5 @@ marked n ids (s ∷ xs) a = (a.0, marked n ids xs a.1)
 
 pub returns : goal.returns
 returns c = λ n a.
-    subst (All (λ (s : IdState). s.id < n)) (sym c.commit.ensures)
-    (All-from_recursion (λ (s : IdState). s.id < n) _ (marked n _ c.args.states.now (recursion_from_All (λ (s : IdState). s.id < n) c.args.states.now a)))
+    subst (All (λ (s : IdState). s.id < n)) (sym c.commit.ensures.items)
+    (All-from_recursion (λ (s : IdState). s.id < n) _ (marked n _ c.args.states.now.items (recursion_from_All (λ (s : IdState). s.id < n) c.args.states.now.items a)))

@@ -26,8 +26,8 @@ returns c =
     record {
       event = λ t rest e. c.end.ensures.events ∙ ap (λ x. w.table.events ++ end_event c.args.committed c.args.by x ∷ []) (heads top t (drop 1 ids) rest (sym parts ∙ e));
       sound = rw (c.end.ensures.events, c.end.ensures.base, c.in_ok-add.ensures.ok, c.end_record.ensures, subs, c.end_states.ensures)
-          (subst (λ l. IsSound w.table.base (w.table.events ++ end_event c.args.committed c.args.by top ∷ []) (w.log.recs ++ end_record c.args.committed top (drop 1 ids) ∷ []) (ended_states c.args.committed l w.states)) (sym parts)
-          (sound_ended w.table.base w.table.events c.args.by c.args.committed top (drop 1 ids) w.log.recs w.states (c.requires.opened ∙ parts)
+          (subst (λ l. IsSound w.table.base (w.table.events ++ end_event c.args.committed c.args.by top ∷ []) (w.log.recs ++ end_record c.args.committed top (drop 1 ids) ∷ []) (ended_states c.args.committed l w.states.items)) (sym parts)
+          (sound_ended w.table.base w.table.events c.args.by c.args.committed top (drop 1 ids) w.log.recs w.states.items (c.requires.opened ∙ parts)
           (may_end w.table.base w.table.events c.args.by top (drop 1 ids) c.args.committed (c.requires.opened ∙ parts) (c.requires.top top (drop 1 ids) parts)) c.requires.turn c.requires.sound));
       few = record { base = c.end.ensures.base; sessions = c.end.ensures.sessions; short = rw c.in_ok-add.ensures.ok (tail_few w.log.recs c.end_record.result) };
     }

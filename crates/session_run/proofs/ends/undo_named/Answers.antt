@@ -62,7 +62,7 @@ returns-clause-sound c =
     let some : 1 ≤ length c.pop.new.self.items = omega (arith, c.in-Some.ensures.len, c.requires.savepoint) in
     let p = last_savepoint w.table.events s.opened.items c.pop.new.self.items c.in-Some.id some (subst (Nest w.table.events s.opened.items) c.in-Some.ensures.items r.stands.nest) in
     rw (c.undo.ensures.events, c.undo.ensures.base)
-    (sound_still w.table.base w.table.events (events.Undo c.args.by c.in-Some.id) c.args.by w.log.recs w.states refl refl (λ t. refl) refl
+    (sound_still w.table.base w.table.events (events.Undo c.args.by c.in-Some.id) c.args.by w.log.recs w.states.items refl refl (λ t. refl) refl
     (subst (λ l. Contains l c.in-Some.id) (sym r.stands.opened) p.0, p.1) r.stands.turn r.sound)
 
 pub returns-clause-stands : goal.returns-clause-stands

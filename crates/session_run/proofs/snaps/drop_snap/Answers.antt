@@ -24,7 +24,7 @@ returns-in-Some-clause-sound c =
     let w = c.args.shared.now in
     let live : is_live w.table.base.next c.args.by.session c.args.name.now w.table.events ≡ true = live_here w.table.base.next w.table.events c.args.by.session c.args.name.now c.in-Some.xmin c.in-Some.ensures.some in
     rw (c.drop_snapshot.ensures.events, c.drop_snapshot.ensures.base)
-    (sound_still w.table.base w.table.events (events.SnapDrop c.args.by c.args.name.now) c.args.by w.log.recs w.states refl refl (λ t. refl) refl live c.requires.ready.stands.turn c.requires.ready.sound)
+    (sound_still w.table.base w.table.events (events.SnapDrop c.args.by c.args.name.now) c.args.by w.log.recs w.states.items refl refl (λ t. refl) refl live c.requires.ready.stands.turn c.requires.ready.sound)
 
 pub returns-in-Some-clause-stands : goal.returns-in-Some-clause-stands
 returns-in-Some-clause-stands c =

@@ -23,7 +23,7 @@ pub returns-clause-sound : goal.returns-clause-sound
 returns-clause-sound c =
     let w = c.args.shared.now in
     rw (c.in_ok-snapshot.ensures.1.events, c.in_ok-snapshot.ensures.1.base)
-    (sound_still w.table.base w.table.events (events.Snap c.args.by c.args.name.now) c.args.by w.log.recs w.states refl refl (λ t. refl) refl
+    (sound_still w.table.base w.table.events (events.Snap c.args.by c.args.name.now) c.args.by w.log.recs w.states.items refl refl (λ t. refl) refl
     (c.requires.ready.stands.live c.args.name.now ∙ not_live c.args.name.now c.args.session.now.kept.items c.requires.free) c.requires.ready.stands.turn c.requires.ready.sound)
 
 pub returns-clause-stands : goal.returns-clause-stands

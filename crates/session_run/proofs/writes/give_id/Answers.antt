@@ -1,7 +1,5 @@
 use Rattle.std.proofs.Common.{◌<◌, sym, subst, refl, IfSome, max}
-use Rattle.std.specs.List.{All}
 use Rattle.tx_model.specs.CommandEvents.{giving}
-use Rattle.plain_states.specs.declared.id_states.IdState.{IdState}
 use Rattle.plain_states.proofs.States.{states_below}
 use Rattle.proc_table.specs.Table.{IsGiven, page_of, next_of}
 use Rattle.session_run.proofs.GivingLemmas.{below_next, may_give, sound_given}
@@ -11,7 +9,7 @@ pub give-requires-clause-order : goal.give-requires-clause-order
 give-requires-clause-order c =
     let w = c.args.shared.now in
     let g = subst (IsGiven (record w.table { frontier = max w.table.frontier (page_of (next_of w.table)) }) c.next_id.new.table (λ id. giving c.args.by c.args.parent id)) c.in-Id.is c.in-Ok.ensures in
-    subst (λ n. All (λ (s : IdState). s.id < n) w.states) (sym g.0) (states_below w.table.base w.table.events w.states c.requires.sound.legal c.requires.sound.states_are)
+    rw (g.0, c.in_ok-reserve.ensures.items) (states_below w.table.base w.table.events w.states.items c.requires.sound.legal c.requires.sound.states_are)
 
 pub give-requires-clause-parent : goal.give-requires-clause-parent
 give-requires-clause-parent c =
@@ -27,7 +25,7 @@ returns c =
     let may = may_give w.table.base w.table.events c.args.by c.args.parent id (record { next = g.0; below_stop = g.2 }) c.requires.parent in
     record {
       round = record { base = g.4.base; sessions = g.4.sessions; recs = refl };
-      sound = rw (g.4.events, g.4.base, c.in_ok-give-in-Id.ensures.ok) (sound_given w.table.base w.table.events c.args.by c.args.parent id w.log.recs w.states may c.requires.turn c.requires.sound);
+      sound = rw (g.4.events, g.4.base, c.give.ensures.items, c.in_ok-reserve.ensures.items) (sound_given w.table.base w.table.events c.args.by c.args.parent id w.log.recs w.states.items may c.requires.turn c.requires.sound);
       event = g.4.events;
       may = may;
       late = g.3;

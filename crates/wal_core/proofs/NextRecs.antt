@@ -9,7 +9,8 @@ use Rattle.wal_core.specs.BaseTest.{is_base_of}
 use Rattle.wal_core.specs.Opening.{first_number, number_fits}
 use Rattle.wal_records.specs.Lawful.{is_lawful}
 use Rattle.wal_core.specs.Log.{counters_or_none, MayAppend}
-use Rattle.wal_records.proofs.LawfulTests.{lawful_if, lawful_passes, not_both}
+use Rattle.tx_model.proofs.ListSteps.{not_both}
+use Rattle.wal_records.proofs.LawfulTests.{lawful_if, lawful_passes}
 use Rattle.wal_core.proofs.Append.{after_is}
 use Rattle.wal_core.proofs.BaseTests.{base_passes}
 

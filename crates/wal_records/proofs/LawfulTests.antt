@@ -81,12 +81,6 @@ has_counts (records.Truncate oldest multi offset) l = tt
 
 -- ---- where the loops of the test stop
 
-pub not_both : {X : Type 0} (b : Bool) → b ≡ true → b ≡ false → X
-not_both b is isnt = absurd (apart (sym is ∙ isnt))
-  where
-    apart : true ≡ false → ⊥
-    apart e = cc
-
 no_left : (a b : Bool) → a ≡ false → (a && b) ≡ false
 no_left true b e = absurd cc
 no_left false b e = refl

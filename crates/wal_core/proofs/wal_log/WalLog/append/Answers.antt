@@ -8,7 +8,7 @@ use Rattle.wal_core.specs.Log.{bytes_of, IsNextBatch, IsReady, IsFull}
 use Rattle.wal_records.specs.Lawful.{are_lawful}
 use Rattle.wal_core.proofs.Walks.{some_bytes}
 use Rattle.wal_core.proofs.Flush.{long_behind}
-use Rattle.wal_records.proofs.LawfulTests.{not_both, lawful-push}
+use Rattle.wal_records.proofs.LawfulTests.{lawful-push}
 use Rattle.wal_core.proofs.Append.{next-push, long-push, pending-push, ready-push}
 use Rattle.wal_core.proofs.Begins.{begins-push}
 use Rattle.wal_core.specs.Checkpoint.{MayBegin}

@@ -211,7 +211,7 @@ told_on done before after turns a k =
     subst (AreRounds 1 (done ++ round_of turns)) (sym k.2)
     (subst (λ n. AreRounds 1 (done ++ round_of turns) (before ++ round_step n k.0)) (omega arith) (rounds_push 1 done before turns k.0 a k.1))
 
-all_front : {X : Type 0} (P : X → Type 0) (xs ys : List X) → AllByRecursion P (xs ++ ys) → AllByRecursion P xs × AllByRecursion P ys
+pub all_front : {X : Type 0} (P : X → Type 0) (xs ys : List X) → AllByRecursion P (xs ++ ys) → AllByRecursion P xs × AllByRecursion P ys
 all_front P [] ys a = (tt, a)
 all_front P (x ∷ xs) ys a = let b = all_front P xs ys a.1 in ((a.0, b.0), b.1)
 

@@ -1,23 +1,25 @@
 -- The plan of a round: the sessions so far, and the places of their commands.
-use Rattle.std.proofs.Common.{◌≡◌, ◌≢◌, ℕ, suc, ◌+◌, ◌<◌, ◌==◌, ◌||◌, List, [], ◌∷◌, ◌++◌, Some, None, refl, sym, ap, subst, ◌∙◌, arith, ⊎_elim, Bool, true, false, not, cond, length, map, take, drop, set, get_or, append-nil, length-append, length-set}
+use Rattle.std.proofs.Common.{◌≡◌, ◌≢◌, ◌⊎◌, inl, inr, eqb-true, ℕ, suc, ◌+◌, ◌<◌, ◌==◌, ◌||◌, List, [], ◌∷◌, ◌++◌, Some, None, refl, sym, ap, subst, ◌∙◌, arith, ⊎_elim, Bool, true, false, not, cond, length, map, take, drop, set, get_or, append-nil, length-append, length-set}
+use Rattle.std.proofs.lemmas.Bool.{false≢true}
 use Rattle.std.proofs.lemmas.Bool.Decides.{nat_tests}
 use Rattle.std.proofs.lemmas.List.{take_more, take-append-drop}
-use Rattle.std.proofs.lemmas.List.Elements.{All-get_or, All-nil, All-push, filter-append, filter_map-append}
+use Rattle.std.proofs.lemmas.List.Elements.{All-from_recursion, All-get_or, All-nil, All-push, filter-append, filter_map-append, recursion_from_All}
 use Rattle.std.proofs.lemmas.Option.{get_or_from_slice_get, slice_get-get_or, slice_get_within}
-use Rattle.std.specs.List.{All, filter_map, slice_get}
+use Rattle.std.specs.List.{All, filter_map, list_any, slice_get}
 use Rattle.tx_model.specs.declared.command.Command.{Command}
 use Rattle.tx_model.specs.Lines.{turn_of}
 use Rattle.tx_model.specs.Places.{first_seen}
 use Rattle.session_lang.specs.declared.script.Item.{Item}
 use Rattle.session_lang.specs.declared.script.Item.TheVariants as items
 use Rattle.session_lang.specs.Rounds.{session_of, sessions_in, turns_of}
-use Rattle.session_lang.proofs.SeenLemmas.{is_in, push_next, push_old}
+use Rattle.session_lang.proofs.DistinctLemmas.{none_left}
+use Rattle.session_lang.proofs.SeenLemmas.{is_in, is_in_seen, push_next, push_old}
 use Rattle.session_run.specs.declared.life.OpenLife.{OpenLife}
 use Rattle.session_run.specs.declared.plan.Plan.{Plan}
-use Rattle.session_run.specs.Plans.{HasPlaces, IsPlanOf, turns_at}
+use Rattle.session_run.specs.Plans.{HasPlaces, IsBlank, IsListed, IsPlanOf, turns_at}
 use Rattle.session_run.specs.Progress.{MayAdd}
 use Rattle.session_run.specs.Turns.{MayRun, turn_in, turns_in}
-use Rattle.session_run.proofs.LifeLemmas.{lines_length}
+use Rattle.session_run.proofs.LifeLemmas.{all_front, lines_length}
 use Rattle.session_run.proofs.ProgressLemmas.{set_cases}
 use Rattle.session_run.proofs.RoundLemmas.{others_turn, own_turn, turns_step}
 
@@ -139,15 +141,16 @@ all_grow : (P : ℕ → Type 0) (b : Bool) (xs : List ℕ) (x : ℕ) → All P x
 all_grow P true xs x a p = All-push P xs x a p
 all_grow P false xs x a p = a
 
--- a plan of nothing
-pub plan_none : (round : List Item) (p : Plan) → p.sessions.items ≡ [] → All (λ (places : List ℕ). places ≡ []) p.places.items → IsPlanOf round (take 0 round) p
-plan_none round p sessions places = record {
-  sessions = sessions;
-  known = subst (All (λ s. s < length p.places.items)) (sym sessions) (All-nil (λ s. s < length p.places.items));
-  places = λ k v e.
-      let none : v ≡ [] = all_at (λ (v : List ℕ). v ≡ []) p.places.items k v places e in
-      subst (HasPlaces k round (take 0 round)) (sym none) (record { commands = refl; count = refl });
+-- a blank plan is the one of no items
+pub plan_none : (round : List Item) (p : Plan) → IsBlank p → IsPlanOf round (take 0 round) p
+plan_none round p blank = record {
+  sessions = blank.sessions;
+  known = subst (All (λ s. s < length p.places.items)) (sym blank.sessions) (All-nil (λ s. s < length p.places.items));
+  places = λ k v e. subst (HasPlaces k round (take 0 round)) (sym (blank.places k v e)) (record { commands = refl; count = refl });
 }
+
+pub blank_at_first : (p : Plan) → p.sessions.items ≡ [] → All (λ (places : List ℕ). places ≡ []) p.places.items → IsBlank p
+blank_at_first p sessions places = record { sessions = sessions; places = λ k v e. all_at (λ (v : List ℕ). v ≡ []) p.places.items k v places e }
 
 -- the plan so far, with one command more
 pub plan_more : (round : List Item) (i : ℕ) (x : Item) (s : ℕ) (p q : Plan) → i < length round → x ≡ get_or round i x → session_of x ≡ Some s → s < length p.places.items → q.places.items ≡ set p.places.items s (get_or p.places.items s [] ++ i ∷ []) → q.sessions.items ≡ cond (length (get_or p.places.items s []) == 0) (p.sessions.items ++ s ∷ []) p.sessions.items → IsPlanOf round (take i round) p → IsPlanOf round (take (i + 1) round) q
@@ -182,3 +185,65 @@ plan_same round i x p l e of d = record {
 -- a command that may run is of a session that there is
 pub may_run : (n : ℕ) (x : Item) (s : ℕ) → session_of x ≡ Some s → MayRun n x → s < n
 may_run n x s e m = let c = run_of x s e in (subst (MayRun n) c.1 m).1
+
+-- a plan lists the sessions that have places
+is_in_any : (k : ℕ) (xs : List ℕ) → list_any (λ s. s == k) xs ≡ is_in k xs
+is_in_any k [] = refl
+is_in_any k (x ∷ xs) = ap (λ b. b || list_any (λ s. s == k) xs) (eqb-swap x k) ∙ ap (λ b. (k == x) || b) (is_in_any k xs)
+
+pub plan_listed : (round : List Item) (p : Plan) → IsPlanOf round round p → IsListed p
+plan_listed round p d = record {
+  known = d.known;
+  listed = λ k v e. by_length k v (d.places k v e) (length v == 0) refl;
+}
+  where
+    by_length : (k : ℕ) (v : List ℕ) → HasPlaces k round round v → (b : Bool) → (length v == 0) ≡ b → (v ≡ []) ⊎ (list_any (λ s. s == k) p.sessions.items ≡ true)
+    by_length k v h true e = inl (none_left v (eqb-true (length v) 0 e))
+    by_length k v h false e = inr (
+        is_in_any k p.sessions.items
+        ∙ ap (is_in k) d.sessions
+        ∙ is_in_seen k (sessions_in round)
+        ∙ seen_by_commands k round
+        ∙ ap (λ n. not (n == 0)) (sym h.count)
+        ∙ ap not e
+        )
+
+-- one session less
+pub listed_less : (p q : Plan) (rest : List ℕ) (s : ℕ) → p.sessions.items ≡ rest ++ s ∷ [] → q.sessions.items ≡ rest → q.places.items ≡ set p.places.items s [] → IsListed p → IsListed q
+listed_less p q rest s sessions left places d =
+    let count : length q.places.items ≡ length p.places.items = ap length places ∙ length-set p.places.items s [] in
+    record {
+      known =
+          subst (λ n. All (λ t. t < n) q.sessions.items) (sym count)
+          (subst (All (λ t. t < length p.places.items)) (sym left)
+          (all_before (λ t. t < length p.places.items) rest s (subst (All (λ t. t < length p.places.items)) sessions d.known)));
+      listed = λ k v e. ⊎_elim
+          (λ (a : (k ≡ s) × ([] ≡ v)). inl (sym a.1))
+          (λ (a : (k ≢ s) × (slice_get p.places.items k ≡ Some v)). ⊎_elim
+          (λ none. inl none)
+          (λ some. inr (ap (list_any (λ t. t == k)) left ∙ sym (other_last k s rest a.0) ∙ ap (list_any (λ t. t == k)) (sym sessions) ∙ some))
+          (d.listed k v a.1))
+          (set_cases p.places.items s k [] v (ap (λ vs. slice_get vs k) (sym places) ∙ e));
+    }
+  where
+    all_before : (P : ℕ → Type 0) (xs : List ℕ) (x : ℕ) → All P (xs ++ x ∷ []) → All P xs
+    all_before P xs x a = All-from_recursion P xs (all_front P xs (x ∷ []) (recursion_from_All P (xs ++ x ∷ []) a)).0
+
+    other_last : (k s : ℕ) (xs : List ℕ) → k ≢ s → list_any (λ t. t == k) (xs ++ s ∷ []) ≡ list_any (λ t. t == k) xs
+    other_last k s [] n = let e : (s == k) ≡ false = grind (arith, nat_tests) in rw e refl
+    other_last k s (x ∷ xs) n = ap (λ b. (x == k) || b) (other_last k s xs n)
+
+pub last_known : (p : Plan) (rest : List ℕ) (s : ℕ) → p.sessions.items ≡ rest ++ s ∷ [] → IsListed p → s < length p.places.items
+last_known p rest s sessions d =
+    let P : ℕ → Type 0 = λ t. t < length p.places.items in
+    (all_front P rest (s ∷ []) (recursion_from_All P (rest ++ s ∷ []) (subst (All P) sessions d.known))).1.0
+
+-- without sessions there are no places
+pub listed_none : (p : Plan) → p.sessions.items ≡ [] → IsListed p → IsBlank p
+listed_none p none d = record {
+  sessions = none;
+  places = λ k v e. ⊎_elim
+      (λ (a : v ≡ []). a)
+      (λ (a : list_any (λ s. s == k) p.sessions.items ≡ true). absurd (false≢true (sym (ap (list_any (λ s. s == k)) none) ∙ a)))
+      (d.listed k v e);
+}

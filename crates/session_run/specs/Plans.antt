@@ -1,6 +1,6 @@
 -- Where a session's commands stand in a round.
-use Rattle.std.specs.Prelude.{◌≡◌, ℕ, ◌<◌, List, Some, length, slice_get}
-use Rattle.std.specs.List.{All, filter_map}
+use Rattle.std.specs.Prelude.{◌≡◌, ℕ, ◌<◌, ◌==◌, ◌⊎◌, List, [], Some, true, length, slice_get}
+use Rattle.std.specs.List.{All, filter_map, list_any}
 use Rattle.tx_model.specs.declared.command.Command.{Command}
 use Rattle.tx_model.specs.Places.{first_seen}
 use Rattle.session_lang.specs.declared.script.Item.{Item}
@@ -22,3 +22,13 @@ pub record IsPlanOf (round front : List Item) (p : Plan) : Type 0 where
   pub sessions : p.sessions.items ≡ first_seen (sessions_in front)
   pub known : All (λ s. s < length p.places.items) p.sessions.items
   pub places : (k : ℕ) (places : List ℕ) → slice_get p.places.items k ≡ Some places → HasPlaces k round front places
+
+-- the plan is of no commands
+pub record IsBlank (p : Plan) : Type 0 where
+  pub sessions : p.sessions.items ≡ []
+  pub places : (k : ℕ) (places : List ℕ) → slice_get p.places.items k ≡ Some places → places ≡ []
+
+-- the plan lists each session that has places
+pub record IsListed (p : Plan) : Type 0 where
+  pub known : All (λ s. s < length p.places.items) p.sessions.items
+  pub listed : (k : ℕ) (places : List ℕ) → slice_get p.places.items k ≡ Some places → (places ≡ []) ⊎ (list_any (λ s. s == k) p.sessions.items ≡ true)

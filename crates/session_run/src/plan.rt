@@ -1,7 +1,7 @@
 ghost use Rattle.std.specs.Prelude.{◌≡◌, ◌==◌, ℕ, ◌<◌, List, [], ◌∷◌, ◌++◌, cond, IfOk, OnOk, set, get_or, length};
 ghost use Rattle.std.specs.List.{All};
 ghost use Rattle.session_lang.specs.Rounds.{session_of};
-ghost use Rattle.session_run.specs.Plans.{IsPlanOf};
+ghost use Rattle.session_run.specs.Plans.{IsBlank, IsListed, IsPlanOf};
 ghost use Rattle.session_run.specs.Turns.{MayRun};
 
 use session_lang::Item;
@@ -32,7 +32,7 @@ fn no_places(alloc: Global, sessions: usize) -> Result<Vec<Sequence<usize>>, Mem
     ensures count { IfOk result (λ all. length all.items ≡ sessions) }
     ensures none { IfOk result (λ all. All (λ (places : List ℕ). places ≡ []) all.items) }
 {
-    let mut all = Vec::new(alloc);
+    let mut all = Vec::with_capacity(alloc, sessions)?;
     for _ in 0..sessions {
         all.push(Sequence::new(alloc))?;
     }
@@ -53,20 +53,40 @@ impl Plan {
         places.push(place)
     }
 
-    /// Whose the commands of the round are.
-    pub fn of(alloc: Global, sessions: usize, round: &[Item]) -> Result<Plan, Memory>
-        requires { All (MayRun sessions) round.now }
-        ensures { IfOk result (IsPlanOf round.now round.now) }
+    /// A plan of no commands, for so many sessions.
+    pub fn new(alloc: Global, sessions: usize) -> Result<Plan, Memory>
+        ensures blank { IfOk result (λ plan. IsBlank plan) }
+        ensures count { IfOk result (λ plan. length plan.places.items ≡ sessions) }
     {
-        let mut plan = Plan {
+        Ok(Plan {
             sessions: Vec::new(alloc),
             places: no_places(alloc, sessions)?,
-        };
+        })
+    }
+
+    /// Notes whose the commands of the round are.
+    pub fn fill(&mut self, round: &[Item]) -> Result<(), Memory>
+        requires blank { IsBlank self.old }
+        requires items { All (MayRun (length self.old.places.items)) round.now }
+        ensures plan { OnOk result (IsPlanOf round.now round.now self.new) }
+        ensures count { OnOk result (length self.new.places.items ≡ length self.old.places.items) }
+    {
         for (place, item) in round.iter().enumerate() {
             if let Some(session) = session_of(item) {
-                plan.add(session, place)?;
+                self.add(session, place)?;
             }
         }
-        Ok(plan)
+        Ok(())
+    }
+
+    /// Forgets the round. Takes time for the sessions that have commands in it alone.
+    pub fn clear(&mut self, alloc: Global)
+        requires { IsListed self.old }
+        ensures blank { IsBlank self.new }
+        ensures count { length self.new.places.items ≡ length self.old.places.items }
+    {
+        while let Some(session) = self.sessions.pop() {
+            self.places[session as usize] = Sequence::new(alloc);
+        }
     }
 }

@@ -7,7 +7,7 @@ ghost use Rattle.session_lang.specs.Rounds.{rounds_of, turns_of};
 ghost use Rattle.session_lang.specs.Script.{IsRead};
 ghost use Rattle.session_run.specs.declared.session.Session.{Session};
 ghost use Rattle.session_run.specs.Acts.{IsSoundAt};
-ghost use Rattle.session_run.specs.Plans.{HasPlaces, IsPlanOf, turns_at};
+ghost use Rattle.session_run.specs.Plans.{HasPlaces, IsBlank, IsPlanOf, turns_at};
 ghost use Rattle.session_run.specs.Progress.{AddsRound, AreInTurn, Continues, GoesOn, MayAdd, Ran, lines_of};
 ghost use Rattle.session_run.specs.Sound.{HasRoom};
 ghost use Rattle.session_run.specs.Stands.{Stands};
@@ -149,20 +149,23 @@ impl OpenLife {
 
     /// Runs a round: its sessions one after another, in the order in which they first appear, each with its commands
     /// in their order.
-    fn run_round(&mut self, alloc: Global, round: &[Item]) -> Result<(), Memory>
+    fn run_round(&mut self, alloc: Global, plan: &mut Plan, round: &[Item]) -> Result<(), Memory>
         requires goes_on { GoesOn self.old }
         requires begins { self.old.lines ≡ [] }
+        requires plan { IsBlank plan.old × (length plan.old.places.items ≡ length self.old.sessions.items) }
         requires items { All (MayRun (length self.old.sessions.items)) round.now }
         requires room { MayAdd self.old (length round.now) }
         ensures goes_on { OnOk result (GoesOn self.new) }
         ensures ended { OnOk result (self.new.lines ≡ []) }
         ensures step { OnOk result (AddsRound self.old.steps (turns_in round.now) self.new.steps) }
+        ensures plan { OnOk result (IsBlank plan.new × (length plan.new.places.items ≡ length plan.old.places.items)) }
         ensures room { OnOk result (length (lines_of self.new) ≤ length (lines_of self.old) + length round.now) }
         ensures on { OnOk result (Continues self.old self.new) }
     {
-        let plan = Plan::of(alloc, self.sessions.len(), round)?;
-        self.run_sessions(alloc, &plan, round)?;
+        plan.fill(round)?;
+        self.run_sessions(alloc, plan, round)?;
         self.end_round(alloc)?;
+        plan.clear(alloc);
         Ok(())
     }
 
@@ -178,10 +181,11 @@ impl OpenLife {
         ensures in_turn { OnOk result (AreInTurn self.new.shared.table.events self.new.steps) }
         ensures on { OnOk result (Continues self.old self.new) }
     {
+        let mut plan = Plan::new(alloc, self.sessions.len())?;
         let mut rest = script;
         while !rest.is_empty() {
             let (round, behind) = next_round(rest);
-            self.run_round(alloc, round)?;
+            self.run_round(alloc, &mut plan, round)?;
             rest = behind;
         }
         Ok(())

@@ -105,7 +105,7 @@ pub fn least_top(from: FullXid, entries: &[Entry]) -> FullXid
 pub fn tops_below(alloc: Global, entries: &[Entry], limit: FullXid) -> Result<IdList, Memory>
     ensures { IfOk result (λ l. l ≡ tops_of (entries_below entries.now limit)) }
 {
-    let mut tops = IdList::of(Vec::with_capacity(alloc, entries.len())?);
+    let mut tops = IdList::new(alloc);
     for entry in entries {
         if entry.top < limit {
             tops.push(entry.top)?;

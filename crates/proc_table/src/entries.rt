@@ -140,7 +140,7 @@ pub fn listed_subs(
     }
     let mut subs = subs_below(alloc, entries, limit)?;
     subs.sort()?;
-    id_list(alloc, &subs)
+    Ok(IdList::of(subs))
 }
 
 /// How many ids the entries with a top below the limit list: their tops, and their subids unless one has overflowed.
@@ -168,14 +168,4 @@ fn subs_below(alloc: Global, entries: &[Entry], limit: FullXid) -> Result<Vec<Fu
         }
     }
     Ok(subs)
-}
-
-fn id_list(alloc: Global, ids: &[FullXid]) -> Result<IdList, Memory>
-    ensures { IfOk result (λ l. l ≡ ids.now) }
-{
-    let mut list = IdList::new(alloc);
-    for id in ids {
-        list.push(*id)?;
-    }
-    Ok(list)
 }

@@ -16,5 +16,6 @@ mod Beside
 mod ProgressLemmas
 mod RoundLemmas
 mod LifeLemmas
+mod PlanLemmas
 mod StreamLemmas
 mod RunLemmas

@@ -1,6 +1,6 @@
 -- A life's room, and what a step of its rounds leaves.
 use Rattle.tx_model.proofs.ListSteps.{both_all, equal_swap, le_or_over}
-use Rattle.std.proofs.Common.{◌≡◌, ◌⊎◌, Bool, IsTrue, suc, zero, drop, ℕ, ◌+◌, ◌<◌, ◌≤◌, ◌^◌, ◌==◌, List, [], ◌∷◌, ◌++◌, Some, None, refl, sym, ap, subst, ◌∙◌, arith, ⊎_elim, true, false, length, map, take, get_or, append-nil, append_assoc, length-append, ◌||◌}
+use Rattle.std.proofs.Common.{◌≡◌, ◌⊎◌, Bool, IsTrue, suc, zero, drop, ℕ, ◌+◌, ◌<◌, ◌≤◌, ◌^◌, ◌==◌, List, [], ◌∷◌, ◌++◌, Some, None, refl, sym, ap, subst, ◌∙◌, arith, ⊎_elim, true, false, length, map, take, get_or, append-nil, append_assoc, length-append, ◌||◌, inl, inr}
 use Rattle.std.proofs.lemmas.Bool.{false≢true}
 use Rattle.std.proofs.lemmas.Grind.{flat_map-append}
 use Rattle.std.proofs.lemmas.List.{take_all, take_more, take-append-drop, length-map}
@@ -25,7 +25,7 @@ use Rattle.session_run.specs.declared.shared.Shared.{Shared}
 use Rattle.session_run.specs.declared.session.Session.{Session}
 use Rattle.session_run.specs.Progress.{AddsRound, AreFew, AreInTurn, Continues, GoesOn, MayAdd, Progress, StandFirst, has_line, lines_of, round_step}
 use Rattle.session_run.specs.Turns.{IsFirstRound, is_command, turns_in}
-use Rattle.session_run.proofs.RoundLemmas.{first_round, front_short, grouped_short, lines_ended, own_turn, rounds_push, sessions_of_turns, sessions_on, turns_front, turns_short, turns_step}
+use Rattle.session_run.proofs.RoundLemmas.{first_round, front_short, grouped_short, lines_ended, own_turn, rounds_push, sessions_of_turns, sessions_on, turns_short, turns_step}
 use Rattle.session_lang.specs.declared.script.Item.TheVariants as items
 
 pub place_is : {X : Type 0} (xs : List X) (n : ℕ) (x : X) → n < length xs → x ≡ get_or xs n x → slice_get xs n ≡ Some x
@@ -41,7 +41,7 @@ pub all_more : {X : Type 0} (P : X → Type 0) (xs : List X) (i : ℕ) (x : X) �
 all_more P xs i x l e a p = subst (All P) (sym (take_more xs i x l ∙ ap (λ y. take i xs ++ y ∷ []) (sym e))) (All-append P (take i xs) (x ∷ []) a (All-cons P x [] p (All-nil P)))
 
 -- how many lines a life has
-lines_length : (a b : OpenLife) (turns : List (ℕ × Command)) → a.steps ≡ b.steps → map turn_of a.lines ≡ map turn_of b.lines ++ turns → length (lines_of a) ≡ length (lines_of b) + length turns
+pub lines_length : (a b : OpenLife) (turns : List (ℕ × Command)) → a.steps ≡ b.steps → map turn_of a.lines ≡ map turn_of b.lines ++ turns → length (lines_of a) ≡ length (lines_of b) + length turns
 lines_length a b turns same told =
     let n = length-append (flat_map lines_in a.steps) a.lines in
     let m = length-append (flat_map lines_in b.steps) b.lines in
@@ -51,16 +51,6 @@ lines_length a b turns same told =
     let v = length-map a.lines turn_of in
     let x = length-map b.lines turn_of in
     omega (arith, n, m, s, t, u, v, x)
-
--- room for a session's next command
-pub turn_room : (a b : OpenLife) (n : ℕ) (round : List Item) (i : ℕ) (x : Item) (c : Command) → a.steps ≡ b.steps → map turn_of a.lines ≡ map turn_of b.lines ++ turns_of n (turns_in (take i round)) → i < length round → x ≡ get_or round i x → x ≡ items.Run n c → MayAdd b (length (turns_of n (turns_in round))) → MayAdd a 1
-turn_room a b n round i x c same told l e is room =
-    let long = lines_length a b (turns_of n (turns_in (take i round))) same told in
-    let front = turns_front n round (i + 1) in
-    let step = ap length (turns_step n round i x l e) in
-    let one = ap length (ap (λ y. turns_of n (turns_in (y ∷ []))) is ∙ own_turn n c) in
-    let both = length-append (turns_of n (turns_in (take i round))) (turns_of n (turns_in (x ∷ []))) in
-    omega (arith, long, front, step, one, both, room)
 
 -- room for a session's commands of a round
 pub session_room : (a b : OpenLife) (turns : List (ℕ × Command)) (numbers : List ℕ) (i : ℕ) → a.steps ≡ b.steps → map turn_of a.lines ≡ map turn_of b.lines ++ flat_map (λ s. turns_of s turns) (take i numbers) → i < length numbers → MayAdd b (length (flat_map (λ s. turns_of s turns) numbers)) → MayAdd a (length (turns_of (get_or numbers i 0) turns))
@@ -218,7 +208,7 @@ told_on done before after turns a k =
     subst (AreRounds 1 (done ++ round_of turns)) (sym k.2)
     (subst (λ n. AreRounds 1 (done ++ round_of turns) (before ++ round_step n k.0)) (omega arith) (rounds_push 1 done before turns k.0 a k.1))
 
-all_front : {X : Type 0} (P : X → Type 0) (xs ys : List X) → AllByRecursion P (xs ++ ys) → AllByRecursion P xs × AllByRecursion P ys
+pub all_front : {X : Type 0} (P : X → Type 0) (xs ys : List X) → AllByRecursion P (xs ++ ys) → AllByRecursion P xs × AllByRecursion P ys
 all_front P [] ys a = (tt, a)
 all_front P (x ∷ xs) ys a = let b = all_front P xs ys a.1 in ((a.0, b.0), b.1)
 
@@ -242,40 +232,3 @@ rest_shorter script round rest f some = ⊎_elim
     (λ (b : (script ≡ round) × (rest ≡ [])). omega (arith, ap length b.1))
     (λ (b : (d : Item) × (is_command d ≡ false) × (script ≡ round ++ d ∷ rest)). omega (arith, ap length b.2, length-append round (b.0 ∷ rest)))
     f.split
-
-is_in_any : (k : ℕ) (xs : List ℕ) → list_any (λ y. y == k) xs ≡ is_in k xs
-is_in_any k [] = refl
-is_in_any k (x ∷ xs) = ap (λ b. b || list_any (λ y. y == k) xs) (equal_swap x k) ∙ ap (λ b. (k == x) || b) (is_in_any k xs)
-
-sessions_step : (round : List Item) (i : ℕ) (x : Item) → i < length round → x ≡ get_or round i x → sessions_in (take (i + 1) round) ≡ sessions_in (take i round) ++ sessions_in (x ∷ [])
-sessions_step round i x l e = ap sessions_in (take_more round i x l ∙ ap (λ y. take i round ++ y ∷ []) (sym e)) ∙ filter_map-append session_of (take i round) (x ∷ [])
-
-one_session : (x : Item) (s : ℕ) → session_of x ≡ Some s → sessions_in (x ∷ []) ≡ s ∷ []
-one_session (items.Run s c) t e = cc
-one_session items.Round t e = absurd cc
-one_session items.Checkpoint t e = absurd cc
-one_session (items.Crash how) t e = absurd cc
-one_session (items.Dump what at size) t e = absurd cc
-
-no_session : (x : Item) → session_of x ≡ None → sessions_in (x ∷ []) ≡ []
-no_session (items.Run s c) e = absurd cc
-no_session items.Round e = refl
-no_session items.Checkpoint e = refl
-no_session (items.Crash how) e = refl
-no_session (items.Dump what at size) e = refl
-
-pub seen_new : (round : List Item) (i : ℕ) (x : Item) (s : ℕ) (all : List ℕ) → i < length round → x ≡ get_or round i x → session_of x ≡ Some s → all ≡ first_seen (sessions_in (take i round)) → list_any (λ y. y == s) all ≡ false → all ++ s ∷ [] ≡ first_seen (sessions_in (take (i + 1) round))
-seen_new round i x s all l e is a none =
-    let before = sessions_in (take i round) in
-    let out : is_in s before ≡ false = sym (is_in_seen s before) ∙ ap (is_in s) (sym a) ∙ sym (is_in_any s all) ∙ none in
-    ap (λ t. t ++ s ∷ []) a ∙ sym (push_next s before out) ∙ ap first_seen (sym (sessions_step round i x l e ∙ ap (λ t. before ++ t) (one_session x s is)))
-
-pub seen_old : (round : List Item) (i : ℕ) (x : Item) (s : ℕ) (all : List ℕ) → i < length round → x ≡ get_or round i x → session_of x ≡ Some s → all ≡ first_seen (sessions_in (take i round)) → list_any (λ y. y == s) all ≡ true → all ≡ first_seen (sessions_in (take (i + 1) round))
-seen_old round i x s all l e is a some =
-    let before = sessions_in (take i round) in
-    let inside : is_in s before ≡ true = sym (is_in_seen s before) ∙ ap (is_in s) (sym a) ∙ sym (is_in_any s all) ∙ some in
-    a ∙ sym (push_old s before inside) ∙ ap first_seen (sym (sessions_step round i x l e ∙ ap (λ t. before ++ t) (one_session x s is)))
-
-pub seen_other : (round : List Item) (i : ℕ) (x : Item) (all : List ℕ) → i < length round → x ≡ get_or round i x → session_of x ≡ None → all ≡ first_seen (sessions_in (take i round)) → all ≡ first_seen (sessions_in (take (i + 1) round))
-seen_other round i x all l e is a =
-    a ∙ ap first_seen (sym (sessions_step round i x l e ∙ ap (λ t. sessions_in (take i round) ++ t) (no_session x is) ∙ append-nil (sessions_in (take i round))))

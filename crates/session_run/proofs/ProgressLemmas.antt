@@ -96,7 +96,7 @@ count_push : (k : ℕ) (lines : List Line) (l : Line) → k ≢ l.by.session →
 count_push k lines l n = sym (length-filter (is_line_of k) (lines ++ l ∷ [])) ∙ ap length (filter_push k lines l n) ∙ length-filter (is_line_of k) lines
 
 -- what stands in a list with one item replaced
-set_cases : {X : Type 0} (xs : List X) (n k : ℕ) (x y : X) → slice_get (set xs n x) k ≡ Some y → ((k ≡ n) × (x ≡ y)) ⊎ ((k ≢ n) × (slice_get xs k ≡ Some y))
+pub set_cases : {X : Type 0} (xs : List X) (n k : ℕ) (x y : X) → slice_get (set xs n x) k ≡ Some y → ((k ≡ n) × (x ≡ y)) ⊎ ((k ≢ n) × (slice_get xs k ≡ Some y))
 set_cases [] n k x y e = absurd cc
 set_cases (z ∷ xs) zero zero x y e = inl (refl, cc)
 set_cases (z ∷ xs) zero (suc k) x y e = inr ((λ q. absurd (omega arith)), e)

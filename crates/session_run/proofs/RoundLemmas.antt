@@ -109,18 +109,6 @@ others_turn n s c d = let e : (s == n) ≡ false = grind (arith, nat_tests) in r
 pub own_turn : (n : ℕ) (c : Command) → turns_of n (turns_in (items.Run n c ∷ [])) ≡ (n, c) ∷ []
 own_turn n c = rw (eqb-refl n) refl
 
--- the turns of the items so far, with one more
-pub turns_on : (n : ℕ) (front : List (ℕ × Command)) (script : List Item) (i : ℕ) (x : Item) → i < length script → x ≡ get_or script i x → (front ++ turns_of n (turns_in (take i script))) ++ turns_of n (turns_in (x ∷ [])) ≡ front ++ turns_of n (turns_in (take (i + 1) script))
-turns_on n front script i x l e = append_assoc front (turns_of n (turns_in (take i script))) (turns_of n (turns_in (x ∷ []))) ∙ ap (λ t. front ++ t) (sym (turns_step n script i x l e))
-
--- the front of a session's turns isn't longer than all
-pub turns_front : (n : ℕ) (script : List Item) (i : ℕ) → length (turns_of n (turns_in (take i script))) ≤ length (turns_of n (turns_in script))
-turns_front n script i =
-    let e = ap (λ t. length (turns_of n (turns_in t))) (sym (take-append-drop i script)) in
-    let f = ap (λ t. length (turns_of n t)) (filter_map-append turn_in (take i script) (drop i script)) in
-    let g = ap length (filter-append (λ p. p.0 == n) (turns_in (take i script)) (turns_in (drop i script))) in
-    omega (arith, e, f, g, length-append (turns_of n (turns_in (take i script))) (turns_of n (turns_in (drop i script))))
-
 -- a round's commands, and what stands behind the directive that ends it
 commands_then : (turns : List (ℕ × Command)) (round rest : List Item) (d : Item) → AllByRecursion (λ item. is_command item ≡ true) round → is_command d ≡ false → rounds_from turns (round ++ d ∷ rest) ≡ round_of (turns ++ turns_in round) ++ rounds_of rest
 commands_then turns [] rest items.Round a e = ap (λ ts. round_of ts ++ rounds_of rest) (sym (append-nil turns))

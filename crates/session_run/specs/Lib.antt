@@ -5,6 +5,7 @@ pub mod Gives
 pub mod Closes
 pub mod Seen
 pub mod Turns
+pub mod Plans
 pub mod Progress
 pub mod Tool
 pub mod Ends

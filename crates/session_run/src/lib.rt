@@ -5,6 +5,7 @@ mod ends;
 mod levels;
 mod life;
 mod plain_log;
+mod plan;
 mod rounds;
 mod run;
 mod session;

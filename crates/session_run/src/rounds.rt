@@ -1,19 +1,20 @@
-ghost use Rattle.std.specs.Prelude.{◌≡◌, ℕ, ◌+◌, ◌^◌, ◌<◌, ◌≤◌, List, [], ◌∷◌, ◌++◌, IfNone, IfOk, IfSome, OnOk, map, length};
+ghost use Rattle.std.specs.Prelude.{◌≡◌, ℕ, ◌+◌, ◌^◌, ◌<◌, ◌≤◌, List, [], ◌∷◌, ◌++◌, IfNone, IfOk, IfSome, OnOk, Some, map, length, slice_get};
 ghost use Rattle.std.specs.List.{All, flat_map};
 ghost use Rattle.tx_model.specs.LawfulLife.{AreRounds};
 ghost use Rattle.tx_model.specs.Lines.{turn_of};
-ghost use Rattle.tx_model.specs.Places.{first_seen};
 ghost use Rattle.session_lang.specs.declared.script.Item.TheVariants as items;
-ghost use Rattle.session_lang.specs.Rounds.{rounds_of, session_of, sessions_in, turns_of};
+ghost use Rattle.session_lang.specs.Rounds.{rounds_of, turns_of};
 ghost use Rattle.session_lang.specs.Script.{IsRead};
 ghost use Rattle.session_run.specs.declared.session.Session.{Session};
 ghost use Rattle.session_run.specs.Acts.{IsSoundAt};
+ghost use Rattle.session_run.specs.Plans.{HasPlaces, IsBlank, IsPlanOf, turns_at};
 ghost use Rattle.session_run.specs.Progress.{AddsRound, AreInTurn, Continues, GoesOn, MayAdd, Ran, lines_of};
 ghost use Rattle.session_run.specs.Sound.{HasRoom};
 ghost use Rattle.session_run.specs.Stands.{Stands};
 ghost use Rattle.session_run.specs.Turns.{IsFirstRound, MayRun, is_command, turns_in};
 
 use crate::life::OpenLife;
+use crate::plan::Plan;
 use crate::session::{Session, run_command};
 use crate::shared::Shared;
 use session_lang::Item;
@@ -46,16 +47,6 @@ fn next_line(
     Ok(Line { by, command, reply })
 }
 
-/// The session of a command.
-fn session_of(item: &Item) -> Option<u32>
-    ensures { result ≡ session_of item.now }
-{
-    match item {
-        Item::Run { session, .. } => Some(*session),
-        _ => None,
-    }
-}
-
 /// The command, where it is of this session.
 fn command_of(number: u32, item: &Item) -> Option<&Command>
     ensures some { IfSome result (λ command. item.now ≡ items.Run number command.now) }
@@ -67,19 +58,15 @@ fn command_of(number: u32, item: &Item) -> Option<&Command>
     }
 }
 
-/// The sessions that have commands in the round, in the order in which they first appear.
-fn sessions_of(alloc: Global, round: &[Item]) -> Result<Vec<u32>, Memory>
-    ensures { IfOk result (λ all. all.items ≡ first_seen (sessions_in round.now)) }
+/// The session's command at this place of the round.
+fn command_at(number: u32, round: &[Item], place: usize) -> Option<&Command>
+    ensures some { IfSome result (λ command. slice_get round.now place ≡ Some (items.Run number command.now)) }
+    ensures none { IfNone result (turns_at number round.now (place ∷ []) ≡ []) }
 {
-    let mut all = Vec::new(alloc);
-    for item in round {
-        if let Some(session) = session_of(item) {
-            if !all.contains(&session) {
-                all.push(session)?;
-            }
-        }
+    match round.get(place) {
+        Some(item) => command_of(number, item),
+        None => None,
     }
-    Ok(all)
 }
 
 fn is_command(item: &Item) -> bool
@@ -117,56 +104,68 @@ impl OpenLife {
         self.lines.push(line)
     }
 
-    /// Runs a session's commands of a round, in their order.
-    fn run_session(&mut self, alloc: Global, number: u32, round: &[Item]) -> Result<(), Memory>
+    /// Runs a session's commands of a round, in their order: those at these places.
+    fn run_session(
+        &mut self,
+        alloc: Global,
+        number: u32,
+        places: &[usize],
+        round: &[Item],
+    ) -> Result<(), Memory>
         requires goes_on { GoesOn self.old }
         requires items { All (MayRun (length self.old.sessions.items)) round.now }
+        requires places { HasPlaces number round.now round.now places.now }
         requires room { MayAdd self.old (length (turns_of number (turns_in round.now))) }
         ensures goes_on { OnOk result (GoesOn self.new) }
         ensures lines { OnOk result (map turn_of self.new.lines ≡ map turn_of self.old.lines ++ turns_of number (turns_in round.now)) }
         ensures steps { OnOk result (self.new.steps ≡ self.old.steps) }
         ensures on { OnOk result (Continues self.old self.new) }
     {
-        for item in round {
-            if let Some(command) = command_of(number, item) {
+        for place in places {
+            if let Some(command) = command_at(number, round, *place) {
                 self.run_turn(alloc, number, command)?;
             }
         }
         Ok(())
     }
 
-    /// Runs the commands that these sessions have in a round, one session after another.
-    fn run_sessions(&mut self, alloc: Global, numbers: &[u32], round: &[Item]) -> Result<(), Memory>
+    /// Runs the commands of a round, one session after another.
+    fn run_sessions(&mut self, alloc: Global, plan: &Plan, round: &[Item]) -> Result<(), Memory>
         requires goes_on { GoesOn self.old }
         requires items { All (MayRun (length self.old.sessions.items)) round.now }
-        requires room { MayAdd self.old (length (flat_map (λ s. turns_of s (turns_in round.now)) numbers.now)) }
+        requires plan { IsPlanOf round.now round.now plan.now }
+        requires room { MayAdd self.old (length (flat_map (λ s. turns_of s (turns_in round.now)) plan.now.sessions.items)) }
         ensures goes_on { OnOk result (GoesOn self.new) }
-        ensures lines { OnOk result (map turn_of self.new.lines ≡ map turn_of self.old.lines ++ flat_map (λ s. turns_of s (turns_in round.now)) numbers.now) }
+        ensures lines { OnOk result (map turn_of self.new.lines ≡ map turn_of self.old.lines ++ flat_map (λ s. turns_of s (turns_in round.now)) plan.now.sessions.items) }
         ensures steps { OnOk result (self.new.steps ≡ self.old.steps) }
         ensures on { OnOk result (Continues self.old self.new) }
     {
-        for number in numbers {
-            self.run_session(alloc, *number, round)?;
+        for number in plan.sessions.as_slice() {
+            let places = plan.places[*number as usize].items();
+            self.run_session(alloc, *number, places, round)?;
         }
         Ok(())
     }
 
     /// Runs a round: its sessions one after another, in the order in which they first appear, each with its commands
     /// in their order.
-    fn run_round(&mut self, alloc: Global, round: &[Item]) -> Result<(), Memory>
+    fn run_round(&mut self, alloc: Global, plan: &mut Plan, round: &[Item]) -> Result<(), Memory>
         requires goes_on { GoesOn self.old }
         requires begins { self.old.lines ≡ [] }
+        requires plan { IsBlank plan.old × (length plan.old.places.items ≡ length self.old.sessions.items) }
         requires items { All (MayRun (length self.old.sessions.items)) round.now }
         requires room { MayAdd self.old (length round.now) }
         ensures goes_on { OnOk result (GoesOn self.new) }
         ensures ended { OnOk result (self.new.lines ≡ []) }
         ensures step { OnOk result (AddsRound self.old.steps (turns_in round.now) self.new.steps) }
+        ensures plan { OnOk result (IsBlank plan.new × (length plan.new.places.items ≡ length plan.old.places.items)) }
         ensures room { OnOk result (length (lines_of self.new) ≤ length (lines_of self.old) + length round.now) }
         ensures on { OnOk result (Continues self.old self.new) }
     {
-        let sessions = sessions_of(alloc, round)?;
-        self.run_sessions(alloc, sessions.as_slice(), round)?;
+        plan.fill(round)?;
+        self.run_sessions(alloc, plan, round)?;
         self.end_round(alloc)?;
+        plan.clear(alloc);
         Ok(())
     }
 
@@ -182,10 +181,11 @@ impl OpenLife {
         ensures in_turn { OnOk result (AreInTurn self.new.shared.table.events self.new.steps) }
         ensures on { OnOk result (Continues self.old self.new) }
     {
+        let mut plan = Plan::new(alloc, self.sessions.len())?;
         let mut rest = script;
         while !rest.is_empty() {
             let (round, behind) = next_round(rest);
-            self.run_round(alloc, round)?;
+            self.run_round(alloc, &mut plan, round)?;
             rest = behind;
         }
         Ok(())

@@ -52,6 +52,8 @@ fn answer(alloc: Global, bytes: &[u8]) -> Ending
     let Ok(report) = run_script(alloc, &script) else {
         return Ending::Memory;
     };
+    // The text takes about as much memory as the script.
+    drop(script);
     let Ok(text) = print_report(alloc, &report) else {
         return Ending::Memory;
     };

@@ -1,6 +1,6 @@
 //! What has been read of a script.
 
-ghost use Rattle.std.specs.Prelude.{◌≡◌, ℕ, ◌+◌, ◌<◌, ◌≤◌, ◌⊎◌, List, [], ◌∷◌, ◌++◌, Some, IfSome, IfNone, IfOk, OnOk, OnErr, Err, length, slice_get};
+ghost use Rattle.std.specs.Prelude.{◌≡◌, ℕ, ◌+◌, ◌<◌, ◌≤◌, ◌⊎◌, List, [], ◌∷◌, ◌++◌, Some, true, IfSome, IfNone, IfOk, OnOk, OnErr, Err, length, slice_get};
 ghost use Rattle.tx_model.specs.declared.command.Command.{Command};
 ghost use Rattle.session_lang.specs.declared.script.Item.TheVariants as items;
 ghost use Rattle.session_lang.specs.Names.{IsName};
@@ -33,6 +33,8 @@ pub struct Reading {
     pub names: NameList,
     pub commands: Vec<u32>,
     pub items: ItemList,
+    /// The session of the last line, if it has one.
+    last: usize,
 }
 
 /// The session of this name.
@@ -48,6 +50,32 @@ fn find(names: &[Name], name: &[u8]) -> Option<usize>
     None
 }
 
+/// Whether the session at this place has this name.
+fn is_at(names: &[Name], place: usize, name: &[u8]) -> bool
+    ensures { result ≡ true → slice_get names.now place ≡ Some name.now }
+{
+    match names.get(place) {
+        Some(other) => other.items() == name,
+        None => false,
+    }
+}
+
+/// The session of this name. A line mostly is of the same session as the line before it, or of the next one, so these
+/// two are tried first.
+fn find_near(names: &[Name], last: usize, name: &[u8]) -> Option<usize>
+    ensures found { IfSome result (λ k. slice_get names.now k ≡ Some name.now) }
+    ensures none { IfNone result (IsNew names.now name.now) }
+{
+    if is_at(names, last, name) {
+        return Some(last);
+    }
+    let next = last.wrapping_add(1);
+    if is_at(names, next, name) {
+        return Some(next);
+    }
+    find(names, name)
+}
+
 impl Reading {
     /// Nothing.
     pub fn new(alloc: Global) -> Reading
@@ -59,6 +87,7 @@ impl Reading {
             names: NameList::new(alloc),
             commands: Vec::new(alloc),
             items: ItemList::new(alloc),
+            last: 0,
         }
     }
 
@@ -124,8 +153,11 @@ impl Reading {
         ensures added { OnOk result (AddsLine self.old.names self.old.items name.now command self.new.names self.new.items) }
         ensures full { result ≡ Err Refused.Form → IsFull self.old.names self.old.items name.now }
     {
-        match find(self.names.items(), name) {
-            Some(session) => self.add_old(session, command),
+        match find_near(self.names.items(), self.last, name) {
+            Some(session) => {
+                self.last = session;
+                self.add_old(session, command)
+            }
             None => self.add_new(alloc, name, command),
         }
     }

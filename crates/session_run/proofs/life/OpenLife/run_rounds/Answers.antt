@@ -17,6 +17,8 @@ loop-rest-init c = record {
   room = omega (arith, c.requires.room, ap length (ap (λ ss. flat_map lines_in ss ++ c.args.self.now.lines) c.requires.begins.0 ∙ c.requires.begins.1));
   in_turn = in_turn_none c.args.self.now c.requires.goes_on c.requires.begins.0 c.requires.begins.1;
   on = on_none c.args.self.now;
+  blank = c.in_ok-plan.ensures.blank;
+  sessions = omega (arith, c.in_ok-plan.ensures.count, c.len.ensures);
 }
 
 pub run_round-requires-clause-items : goal.run_round-requires-clause-items
@@ -48,4 +50,6 @@ loop-rest-preserved c =
       room = omega (arith, i.room, e.room, parts_length rest round behind f);
       in_turn = in_turn_on c.loop-rest.self c.run_round.new.self (turns_in round) i.ended e.ended e.step i.in_turn e.goes_on e.on;
       on = on_then c.args.self.now c.loop-rest.self c.run_round.new.self i.on e.on;
+      blank = e.plan.0;
+      sessions = e.plan.1 ∙ i.sessions ∙ sym e.on.sessions;
     }

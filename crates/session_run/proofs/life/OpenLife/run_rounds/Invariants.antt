@@ -3,6 +3,7 @@ use Rattle.std.specs.List.{All}
 use Rattle.tx_model.specs.declared.command.Command.{Command}
 use Rattle.tx_model.specs.LawfulLife.{AreRounds}
 use Rattle.session_lang.specs.Rounds.{rounds_of}
+use Rattle.session_run.specs.Plans.{IsBlank}
 use Rattle.session_run.specs.Progress.{AreInTurn, Continues, GoesOn, lines_of}
 use Rattle.session_run.specs.Turns.{MayRun}
 use Rattle.session_run.proofs.life.OpenLife.run_rounds.Given as goal
@@ -18,6 +19,8 @@ invariant-loop-rest l = record {
   room : length (lines_of l.self) + length l.rest ≤ 2 ^ 24;
   in_turn : AreInTurn l.self.shared.table.events l.self.steps;
   on : Continues l.fn.self l.self;
+  blank : IsBlank l.plan;
+  sessions : length l.plan.places.items ≡ length l.self.sessions.items;
 }
 
 abbrev pub decreases-loop-rest : goal.decreases-loop-rest

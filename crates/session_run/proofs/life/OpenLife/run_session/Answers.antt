@@ -1,17 +1,16 @@
-use Rattle.std.proofs.Common.{◌≡◌, ◌+◌, ◌++◌, map, ap, sym, ◌∙◌, append-nil, refl, ◌∷◌, [], take, subst, List, ℕ}
+use Rattle.std.proofs.Common.{◌≡◌, ◌+◌, ◌++◌, map, ap, sym, ◌∙◌, append-nil, append_assoc, refl, ◌∷◌, [], take, get_or, subst, List, ℕ}
 use Rattle.tx_model.specs.Lines.{turn_of}
-use Rattle.session_lang.specs.Rounds.{turns_of}
 use Rattle.session_lang.specs.declared.script.Item.{Item}
 use Rattle.session_run.specs.declared.life.OpenLife.{OpenLife}
+use Rattle.session_run.specs.Plans.{turns_at}
 use Rattle.session_run.specs.Progress.{GoesOn, Continues}
-use Rattle.session_run.specs.Turns.{turns_in}
-use Rattle.session_run.proofs.LifeLemmas.{on_none, on_then, turn_room}
-use Rattle.session_run.proofs.RoundLemmas.{own_turn, turns_on}
+use Rattle.session_run.proofs.LifeLemmas.{on_none, on_then}
+use Rattle.session_run.proofs.PlanLemmas.{own_at, turn_room, turns_at_on}
 use Rattle.session_run.proofs.life.OpenLife.run_session.Goals as goal
 use Rattle.session_run.proofs.life.OpenLife.run_session.Goals.{in-Some+in_ok-run_turn, in_default}
 
-pub loop-item-init : goal.loop-item-init
-loop-item-init c = record {
+pub loop-place-init : goal.loop-place-init
+loop-place-init c = record {
   goes_on = c.requires.goes_on;
   told = sym (append-nil (map turn_of c.args.self.now.lines));
   steps = refl;
@@ -19,40 +18,47 @@ loop-item-init c = record {
 }
 
 -- what the loop keeps
-abbrev Kept : ℕ → OpenLife → List Item → ℕ → OpenLife → Type 0
-Kept number before round i after = record {
+abbrev Kept : ℕ → OpenLife → List Item → List ℕ → ℕ → OpenLife → Type 0
+Kept number before round places i after = record {
   goes_on : GoesOn after;
-  told : map turn_of after.lines ≡ map turn_of before.lines ++ turns_of number (turns_in (take i round));
+  told : map turn_of after.lines ≡ map turn_of before.lines ++ turns_at number round (take i places);
   steps : after.steps ≡ before.steps;
   on : Continues before after;
 }
 
 pub run_turn-requires-clause-room : goal.run_turn-requires-clause-room
 run_turn-requires-clause-room c =
-    let i = c.loop-item.invariant in
-    turn_room c.loop-item.self c.args.self.now c.args.number c.args.round.now c.loop-item.item-index c.item-item.result c.in-Some.command.now i.steps i.told c.loop-item-test.true c.item-item.is c.in-Some.ensures.some c.requires.room
+    let i = c.loop-place.invariant in
+    turn_room c.loop-place.self c.args.self.now c.args.number c.args.round.now c.args.places.now c.loop-place.place-index c.in-Some.command.now i.steps i.told c.loop-place-test.true c.in-Some.ensures.some c.requires.places c.requires.room
 
-pub loop-item-preserved : goal.loop-item-preserved
-loop-item-preserved c =
-    let i = c.loop-item.invariant in
+pub loop-place-preserved : goal.loop-place-preserved
+loop-place-preserved c =
+    let i = c.loop-place.invariant in
     let n = c.args.number in
-    let x = c.item-item.result in
+    let round = c.args.round.now in
+    let places = c.args.places.now in
+    let k = c.loop-place.place-index in
+    let p = get_or places k 0 in
     let before = map turn_of c.args.self.now.lines in
-    let on = turns_on n before c.args.round.now c.loop-item.item-index x c.loop-item-test.true c.item-item.is in
-    elim c.match-command_of.branch [
+    let on = turns_at_on n round places k c.loop-place-test.true in
+    elim c.match-command_at.branch [
       | in-Some+in_ok-run_turn w ↦
           let e = w.in_ok-run_turn.ensures in
-          let own = ap (λ y. turns_of n (turns_in (y ∷ []))) w.in-Some.ensures.some ∙ own_turn n w.in-Some.command.now in
-          subst (Kept n c.args.self.now c.args.round.now (c.loop-item.item-index + 1)) (sym w.self-is) (record {
+          let own = own_at n round p w.in-Some.command.now w.in-Some.ensures.some in
+          subst (Kept n c.args.self.now round places (k + 1)) (sym w.self-is) (record {
             goes_on = e.goes_on;
-            told = e.line ∙ ap (λ t. t ++ (n, w.in-Some.command.now) ∷ []) i.told ∙ ap (λ t. (before ++ turns_of n (turns_in (take c.loop-item.item-index c.args.round.now))) ++ t) (sym own) ∙ on;
+            told = e.line ∙ ap (λ t. t ++ (n, w.in-Some.command.now) ∷ []) i.told
+                ∙ append_assoc before (turns_at n round (take k places)) ((n, w.in-Some.command.now) ∷ [])
+                ∙ ap (λ t. before ++ (turns_at n round (take k places) ++ t)) (sym own)
+                ∙ ap (λ t. before ++ t) (sym on);
             steps = e.steps ∙ i.steps;
-            on = on_then c.args.self.now c.loop-item.self w.run_turn.new.self i.on e.on;
+            on = on_then c.args.self.now c.loop-place.self w.run_turn.new.self i.on e.on;
           })
       | in_default w ↦
-          subst (Kept n c.args.self.now c.args.round.now (c.loop-item.item-index + 1)) (sym w.self-is) (record {
+          subst (Kept n c.args.self.now round places (k + 1)) (sym w.self-is) (record {
             goes_on = i.goes_on;
-            told = i.told ∙ sym (append-nil (before ++ turns_of n (turns_in (take c.loop-item.item-index c.args.round.now)))) ∙ ap (λ t. (before ++ turns_of n (turns_in (take c.loop-item.item-index c.args.round.now))) ++ t) (sym w.in_default.ensures.none) ∙ on;
+            told = i.told
+                ∙ ap (λ t. before ++ t) (sym (append-nil (turns_at n round (take k places))) ∙ ap (λ t. turns_at n round (take k places) ++ t) (sym w.in_default.ensures.none) ∙ sym on);
             steps = i.steps;
             on = i.on;
           })

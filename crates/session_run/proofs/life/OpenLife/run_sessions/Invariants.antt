@@ -9,7 +9,7 @@ use Rattle.session_run.proofs.life.OpenLife.run_sessions.Given as goal
 abbrev pub invariant-loop-number : goal.invariant-loop-number
 invariant-loop-number l = record {
   goes_on : GoesOn l.self;
-  told : map turn_of l.self.lines ≡ map turn_of l.fn.self.lines ++ flat_map (λ s. turns_of s (turns_in l.round)) (take l.number-index l.numbers);
+  told : map turn_of l.self.lines ≡ map turn_of l.fn.self.lines ++ flat_map (λ s. turns_of s (turns_in l.round)) (take l.number-index l.plan.sessions.items);
   steps : l.self.steps ≡ l.fn.self.steps;
   on : Continues l.fn.self l.self;
 }

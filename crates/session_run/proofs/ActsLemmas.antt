@@ -1,7 +1,7 @@
 -- What commands do.
 use Rattle.std.proofs.lemmas.List.{length-map, map_push}
 use Rattle.std.proofs.Math.Seq.{take-append_seam}
-use Rattle.std.proofs.Common.{◌≡◌, ℕ, zero, suc, ◌+◌, ◌<◌, ◌≤◌, List, [], ◌∷◌, ◌++◌, length, map, take, drop, Some, None, Option, refl, sym, ap, subst, ◌∙◌, arith, append-nil, Bool, true, false, not, cond, ◌||◌, inr, ◌↔◌, IsTrue, ⊎_elim, ◌≢◌, ◌==◌, ◌⊎◌, take_all}
+use Rattle.std.proofs.Common.{◌≡◌, ℕ, zero, suc, ◌+◌, ◌<◌, ◌≤◌, List, [], ◌∷◌, ◌++◌, length, map, take, drop, Some, None, Option, refl, sym, ap, subst, ◌∙◌, arith, append-nil, Bool, true, false, not, cond, ◌||◌, inr, ◌↔◌, IsTrue, ⊎_elim, ◌≢◌, ◌==◌, take_all}
 use Rattle.std.specs.List.{AllByRecursion, filter, find, slice_get, list_any}
 use Rattle.std.proofs.lemmas.Bool.{false≢true, or_cases, or_left, or_right}
 use Rattle.tx_model.specs.declared.event.By.{By}

@@ -1,7 +1,7 @@
 -- How a session stands, after it took or dropped a snapshot.
 use Rattle.std.proofs.Math.Seq.{take-append_seam}
 use Rattle.tx_model.proofs.Names.{same_name_refl, same_name_equal}
-use Rattle.std.proofs.Common.{◌≡◌, ℕ, ◌+◌, List, [], ◌∷◌, ◌++◌, length, take, refl, ap, sym, ◌∙◌, subst, Bool, true, false, not, cond, ◌==◌, ◌&&◌, ◌||◌, reverse, nat_le, Contains}
+use Rattle.std.proofs.Common.{◌≡◌, ℕ, List, [], ◌∷◌, ◌++◌, length, take, refl, ap, sym, ◌∙◌, subst, Bool, true, false, not, cond, ◌==◌, ◌&&◌, ◌||◌, reverse, nat_le, Contains}
 use Rattle.std.specs.List.{filter, AllByRecursion, list_any}
 use Rattle.std.proofs.lemmas.Bool.{false≢true}
 use Rattle.tx_model.specs.declared.event.By.{By}

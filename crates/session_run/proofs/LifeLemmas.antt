@@ -1,10 +1,10 @@
 -- A life's room, and what a step of its rounds leaves.
-use Rattle.tx_model.proofs.ListSteps.{both_all, equal_swap, le_or_over}
-use Rattle.std.proofs.Common.{◌≡◌, ◌⊎◌, Bool, IsTrue, suc, zero, drop, ℕ, ◌+◌, ◌<◌, ◌≤◌, ◌^◌, ◌==◌, List, [], ◌∷◌, ◌++◌, Some, None, refl, sym, ap, subst, ◌∙◌, arith, ⊎_elim, true, false, length, map, take, get_or, append-nil, append_assoc, length-append, ◌||◌, inl, inr}
+use Rattle.tx_model.proofs.ListSteps.{both_all, le_or_over}
+use Rattle.std.proofs.Common.{◌≡◌, Bool, IsTrue, suc, zero, drop, ℕ, ◌+◌, ◌<◌, ◌≤◌, ◌^◌, List, [], ◌∷◌, ◌++◌, Some, refl, sym, ap, subst, ◌∙◌, arith, ⊎_elim, true, false, length, map, take, get_or, append-nil, append_assoc, length-append, ◌||◌}
 use Rattle.std.proofs.lemmas.Bool.{false≢true}
 use Rattle.std.proofs.lemmas.Grind.{flat_map-append}
 use Rattle.std.proofs.lemmas.List.{take_all, take_more, take-append-drop, length-map}
-use Rattle.std.proofs.lemmas.List.Elements.{All-append, All-cons, All-from_recursion, All-nil, filter_map-append, recursion_from_All}
+use Rattle.std.proofs.lemmas.List.Elements.{All-append, All-cons, All-from_recursion, All-nil, recursion_from_All}
 use Rattle.std.proofs.lemmas.List.Sums.{count_by-le-length}
 use Rattle.std.proofs.lemmas.Option.{slice_get-get_or}
 use Rattle.std.specs.List.{All, AllByRecursion, flat_map, list_any, slice_get}
@@ -18,15 +18,13 @@ use Rattle.tx_model.specs.Lines.{is_line_of, turn_of}
 use Rattle.tx_model.specs.Places.{first_seen}
 use Rattle.std.proofs.Math.Seq.{take-append-le}
 use Rattle.session_lang.specs.declared.script.Item.{Item}
-use Rattle.session_lang.specs.Rounds.{round_of, rounds_of, session_of, sessions_in, turns_of}
-use Rattle.session_lang.proofs.SeenLemmas.{is_in, is_in_seen, push_next, push_old}
+use Rattle.session_lang.specs.Rounds.{round_of, rounds_of, sessions_in, turns_of}
 use Rattle.session_run.specs.declared.life.OpenLife.{OpenLife}
 use Rattle.session_run.specs.declared.shared.Shared.{Shared}
 use Rattle.session_run.specs.declared.session.Session.{Session}
 use Rattle.session_run.specs.Progress.{AddsRound, AreFew, AreInTurn, Continues, GoesOn, MayAdd, Progress, StandFirst, has_line, lines_of, round_step}
 use Rattle.session_run.specs.Turns.{IsFirstRound, is_command, turns_in}
-use Rattle.session_run.proofs.RoundLemmas.{first_round, front_short, grouped_short, lines_ended, own_turn, rounds_push, sessions_of_turns, sessions_on, turns_short, turns_step}
-use Rattle.session_lang.specs.declared.script.Item.TheVariants as items
+use Rattle.session_run.proofs.RoundLemmas.{first_round, front_short, grouped_short, lines_ended, rounds_push, sessions_of_turns, sessions_on, turns_short}
 
 pub place_is : {X : Type 0} (xs : List X) (n : ℕ) (x : X) → n < length xs → x ≡ get_or xs n x → slice_get xs n ≡ Some x
 place_is xs n x l e = slice_get-get_or xs n x l ∙ ap (λ y. Some y) (sym e)

@@ -42,9 +42,14 @@ fn next_line(
         session: number,
         command: session.commands,
     };
+    // It is copied first, so that no memory is taken after an event.
+    let copy = command.copy()?;
     let reply = run_command(shared, alloc, by, session, command)?;
-    let command = command.copy()?;
-    Ok(Line { by, command, reply })
+    Ok(Line {
+        by,
+        command: copy,
+        reply,
+    })
 }
 
 /// The command, where it is of this session.

@@ -1,17 +1,16 @@
 -- The table at the end, where one pass has all names.
-use Rattle.std.proofs.Common.{◌≡◌, ℕ, ◌<◌, ◌≤◌, List, length, get_or, refl, sym, ◌∙◌, ap, subst, ⊎_elim, arith}
+use Rattle.std.proofs.Common.{◌≡◌, ℕ, ◌<◌, ◌≤◌, List, length, sym, ◌∙◌, ap, subst, ⊎_elim, arith}
 use mathlib.Core.Option.{some, none, some-injective, some-ne-none}
 use mathlib.Core.Option as maybe
 use lib.ListN.{get_elem?}
 use Rattle.atomic_table.specs.Table.{State, Seen as Viewed}
-use Rattle.hall.specs.Layout.{served_of}
 use Rattle.hall.specs.Lists.{at}
 use Rattle.hall.specs.declared.writer.Writer.{Writer}
-use Rattle.hall.specs.declared.view.Stage.{Stage}
-use Rattle.hall.specs.declared.view.Stage.TheVariants.{Free, Waiting, Inside}
+use Rattle.hall.specs.declared.view.Stage.TheVariants.{Free}
 use Rattle.hall.specs.declared.view.View.{View}
 use Rattle.hall.specs.declared.view.Held.{Held}
-use Rattle.hall.specs.Rule.{Holds, Has, AtHome, Kept}
+use Rattle.hall.specs.Rule.{Holds, AtHome, Kept}
+use Rattle.hall.proofs.Moves.{free_not_in}
 
 module _ {S V E : Type 0} (start : S) (passes places : ℕ) (session : E → ℕ) (writer : S → ℕ → Writer) (stands : S → ℕ → V → List E → Type 0) (number : S → ℕ → List E → ℕ) (kept : S → List (List E) → Type 0) where
   abbrev Rule : State (Held V E) (View S E) → Type 0
@@ -32,10 +31,9 @@ module _ {S V E : Type 0} (start : S) (passes places : ℕ) (session : E → ℕ
             let d_is : o.1 ≡ v = some-injective _ _ (sym o.3 ∙ (ap (get_elem? s.views) same ∙ is)) in
             subst (λ (z : View S E). at z.seen c ≡ at r.lists c) d_is o.5),
         (λ c lt. let inside_n : c < r.n = let q = r.deep in omega arith in
-            ⊎_elim (λ h. h) (λ o.
-            let has = r.owner o.0 o.1 c (get_or s.words (served_of c) 0) o.2 (subst (λ (z : Stage). Has z c (get_or s.words (served_of c) 0)) (sym o.3) (refl, refl)) in
+            ⊎_elim (λ h. h.1) (λ k. let o = k.1 in
+            let has = r.owner o.0 o.1 c o.2 o.3 in
             let same : o.0 ≡ id = r.alone o.0 id o.1 v o.1.name o.2 is has (all o.1.name (r.named o.0 o.1 o.1.name o.2 has)) in
             let d_is : o.1 ≡ v = some-injective _ _ (sym o.2 ∙ (ap (get_elem? s.views) same ∙ is)) in
-            let q : Free ≡ Inside c (get_or s.words (served_of c) 0) = sym free ∙ (ap (λ (z : View S E). z.stage) (sym d_is) ∙ o.3) in
-            let P : Stage → Type 0 = λ z. elim z [ Free ↦ Unit {0} | Waiting _ _ ↦ ⊥ | Inside _ _ ↦ ⊥ ] in absurd (subst P q tt)) (r.home c inside_n)),
+            absurd (free_not_in c (sym free ∙ (ap (λ (z : View S E). z.stage) (sym d_is) ∙ o.3)))) (r.home c inside_n)),
       )

@@ -1,21 +1,21 @@
 -- A pass takes in another.
-use Rattle.std.proofs.Common.{◌≡◌, ℕ, ◌<◌, ◌≤◌, ◌≢◌, ◌⊎◌, ◌||◌, true, false, List, [], ◌∷◌, length, get_or, set, sum_by, refl, sym, ◌∙◌, ap, subst, inl, inr, ⊎_elim, arith}
+use Rattle.std.proofs.Common.{◌≡◌, ℕ, ◌<◌, ◌≤◌, ◌≢◌, ◌⊎◌, ◌||◌, true, false, List, [], ◌∷◌, length, get_or, set, refl, sym, ◌∙◌, ap, subst, inl, inr, ⊎_elim, arith}
 use mathlib.Core.Option.{some, some-injective}
 use mathlib.Core.Logic.{dite}
 use native.Mathlib.Decide.{ℕ_discrete}
 use lib.ListN.{get_elem?}
 use Rattle.atomic_table.specs.Table.{State, Joins}
 use Rattle.atomic_table.proofs.Lists.{set_here, set_else}
-use Rattle.hall.specs.Layout.{served_of}
 use Rattle.hall.specs.Lists.{at, Begins, Grows, OwnSeen}
 use Rattle.hall.specs.declared.writer.Writer.{Writer}
 use Rattle.hall.specs.declared.view.Stage.{Stage}
-use Rattle.hall.specs.declared.view.Stage.TheVariants.{Free, Waiting, Inside}
+use Rattle.hall.specs.declared.view.Stage.TheVariants.{Free, Inside}
 use Rattle.hall.specs.declared.view.View.{View}
 use Rattle.hall.specs.declared.view.Held.{Held}
-use Rattle.hall.specs.Rule.{Holds, Has, Has', Unique, Stands, Out, Told, Kept, weight}
+use Rattle.hall.specs.Rule.{Holds, IsIn, Unique, Stands, Out, Told, Kept}
 use Rattle.hall.specs.Told.{joined, spent}
-use Rattle.hall.proofs.Pieces.{begins_same, begins_length, begins_whole, begins_shorter, own_between, each_set, unique_set, inside, sum_set}
+use Rattle.hall.proofs.Pieces.{begins_same, begins_length, begins_whole, begins_shorter, own_between, each_set, unique_set, inside}
+use Rattle.hall.proofs.Moves.{free_not_in}
 use Rattle.hall.proofs.Merging.{set_swap, longer_cases, longer_at, either_at, not_nil, one_of, or_true}
 
 module _ {S V E : Type 0} (start : S) (passes places : ℕ) (session : E → ℕ) (writer : S → ℕ → Writer) (stands : S → ℕ → V → List E → Type 0) (number : S → ℕ → List E → ℕ) (kept : S → List (List E) → Type 0) where
@@ -71,15 +71,15 @@ module _ {S V E : Type 0} (start : S) (passes places : ℕ) (session : E → ℕ
 
     still_stands : (st : Stage) → Stands (writer start) r.n s.words r.lists v.seen st → Stands (writer start) r.n s.words r.lists b.seen st
     still_stands Free h = tt
-    still_stands (Waiting c t) h = h
-    still_stands (Inside c t) h = (h.0, h.1, h.2, record { whole = λ q own. whole_left q (h.3.whole q own) })
+    still_stands (Inside c) h = (h.0, h.1, record { whole = λ q own. whole_left q (h.2.whole q own) })
 
-    lighter : sum_by weight (set us me b) ≤ sum_by weight s.views
-    lighter = let e1 = sum_set weight us me v b me_there in let e2 = sum_set weight s.views you w p your in let q : weight p ≡ 0 = refl in omega arith
+    you_out : (c : ℕ) (o : Out s.views c) → o.0 ≢ you
+    you_out c o e = let d_is : o.1 ≡ w = some-injective _ _ (sym o.2 ∙ (ap (get_elem? s.views) e ∙ your)) in free_not_in c (sym free ∙ (ap (λ (z : View S E). z.stage) (sym d_is) ∙ o.3))
 
-    you_out : (c t : ℕ) (o : Out s.views c t) → o.0 ≢ you
-    you_out c t o e = let d_is : o.1 ≡ w = some-injective _ _ (sym o.2 ∙ (ap (get_elem? s.views) e ∙ your)) in let q : Free ≡ Inside c t = sym free ∙ (ap (λ (z : View S E). z.stage) (sym d_is) ∙ o.3) in
-        let P : Stage → Type 0 = λ z. elim z [ Free ↦ Unit {0} | Waiting _ _ ↦ ⊥ | Inside _ _ ↦ ⊥ ] in subst P q tt
+    still_out : (c : ℕ) → Out s.views c → Out (set us me b) c
+    still_out c o = dite (ℕ_discrete o.0 me)
+        (λ (q : o.0 ≡ me). let d_is : o.1 ≡ v = some-injective _ _ (sym o.2 ∙ (ap (get_elem? s.views) q ∙ is)) in (me, b, set_here us me b (inside us me v me_there), ap (λ (z : View S E). z.stage) (sym d_is) ∙ o.3))
+        (λ ne. (o.0, o.1, set_else us me o.0 b ne ∙ (set_else s.views you o.0 p (you_out c o) ∙ o.2), o.3))
 
     pub joins : Rule record { words = s.words; homes = s.homes; views = set us me b }
     joins = record {
@@ -94,13 +94,10 @@ module _ {S V E : Type 0} (start : S) (passes places : ℕ) (session : E → ℕ
       wide = r.wide;
       law = r.law;
       starts = λ j d a at e. each_two (λ _ z. (c : S) → z.start ≡ c ∷ [] → c ≡ start) (λ c q. r.starts me v c is q) (λ c q. absurd (not_nil c q)) (λ i z _ _ o c q. r.starts i z c o q) j d at a e;
-      order = r.order;
-      home = λ c lt. ⊎_elim (λ h. inl h) (λ o. inr (dite (ℕ_discrete o.0 me)
-          (λ (q : o.0 ≡ me). let d_is : o.1 ≡ v = some-injective _ _ (sym o.2 ∙ (ap (get_elem? s.views) q ∙ is)) in (me, b, set_here us me b (inside us me v me_there), ap (λ (z : View S E). z.stage) (sym d_is) ∙ o.3))
-          (λ ne. (o.0, o.1, set_else us me o.0 b ne ∙ (set_else s.views you o.0 p (you_out c (get_or s.words (served_of c) 0) o) ∙ o.2), o.3)))) (r.home c lt);
-      tickets = each_two (λ _ z. Stands (writer start) r.n s.words r.lists z.seen z.stage)
-          (still_stands v.stage (r.tickets me v is)) tt (λ j d _ _ o. r.tickets j d o);
-      apart = unique_two Has' r.apart (λ k h. h) (λ k h. inl h);
+      home = λ c lt. ⊎_elim (λ h. inl h) (λ k. inr (k.0, still_out c k.1)) (r.home c lt);
+      stages = each_two (λ _ z. Stands (writer start) r.n s.words r.lists z.seen z.stage)
+          (still_stands v.stage (r.stages me v is)) tt (λ j d _ _ o. r.stages j d o);
+      apart = unique_two IsIn r.apart (λ k h. free_not_in k h) (λ k h. inl h);
       knows = each_two (λ _ z. Grows z.seen r.lists × ((m : ℕ) → Holds z m → OwnSeen session (writer start) m z.seen r.lists)) (
         record { begins = λ c. (grown c).0 },
         (λ m h. ⊎_elim (λ hv. let k = (r.knows me v is).1 m hv in record { entries = λ c. own_between session m (at v.seen c) (at b.seen c) (at r.lists c) (grown c).1 (grown c).0 (k.entries c); words = record { whole = λ q own. whole_left q (k.words.whole q own) } })
@@ -113,8 +110,7 @@ module _ {S V E : Type 0} (start : S) (passes places : ℕ) (session : E → ℕ
         (record { begins = λ c. (grown c).2 }, (λ m h. let k = (r.knows you w your).1 m h in record { entries = λ c. sym (own_between session m (at w.seen c) (at b.seen c) (at r.lists c) (grown c).2 (grown c).0 (k.entries c)) ∙ k.entries c; words = record { whole = λ q own. k.words.whole q own ∙ sym (whole_right q (k.words.whole q own)) } })),
       ) tt (λ j d _ _ o. r.told j d o);
       named = λ j d m at hm. each_two (λ _ z. Holds z m → m < passes) (λ h. ⊎_elim (r.named me v m is) (r.named you w m your) (both_holds m h)) (λ h. absurd (let f : false ≡ true = h in cc)) (λ i z _ _ o k. r.named i z m o k) j d at hm;
-      owner = λ j d c t at h. each_two (λ _ z. Has z.stage c t → Holds z z.name) (λ k. holds_left v.name (r.owner me v c t is k)) (λ k. absurd k) (λ i z _ _ o k. r.owner i z c t o k) j d at h;
-      budget = λ c lt. let q = r.budget c lt in let l = lighter in omega arith;
+      owner = λ j d c at h. each_two (λ _ z. IsIn z c → Holds z z.name) (λ k. holds_left v.name (r.owner me v c is k)) (λ k. absurd (free_not_in c k)) (λ i z _ _ o k. r.owner i z c o k) j d at h;
       whole = λ c lt. let o = r.whole c lt in dite (ℕ_discrete o.0 me)
           (λ (q : o.0 ≡ me). let d_is : o.1 ≡ v = some-injective _ _ (sym o.3 ∙ (ap (get_elem? s.views) q ∙ is)) in
           (me, b, o.2, set_here us me b (inside us me v me_there), holds_left o.2 (subst (λ (z : View S E). Holds z o.2) d_is o.4), whole_left c (subst (λ (z : View S E). at z.seen c ≡ at r.lists c) d_is o.5)))

@@ -1,6 +1,5 @@
 pub mod Pieces
 pub mod Moves
-pub mod Draws
 pub mod Leaves
 pub mod Posting
 pub mod Merging

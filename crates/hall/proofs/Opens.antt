@@ -1,9 +1,7 @@
 -- The table at the start meets the rule.
-use Rattle.std.proofs.Common.{◌≡◌, ℕ, zero, suc, ◌+◌, ◌-◌, ◌<◌, ◌≤◌, Bool, true, false, List, [], ◌∷◌, length, get_or, replicate, if◌then◌else◌, refl, sym, ◌∙◌, ap, subst, inl, arith, Some, slice_get}
+use Rattle.std.proofs.Common.{◌≡◌, ℕ, zero, suc, ◌+◌, ◌-◌, ◌<◌, true, false, List, [], ◌∷◌, length, get_or, replicate, refl, sym, ◌∙◌, ap, subst, inl, arith, Some, slice_get}
 use Rattle.std.proofs.lemmas.List.{length-map}
 use Rattle.std.proofs.lemmas.Option.{slice_get-get_or}
-use Rattle.std.proofs.lemmas.List.Sums.{sum_by-cons}
-use Rattle.std.proofs.lemmas.List.Folds.{sum_by-replicate}
 use mathlib.Core.Option.{some, some-injective, some-ne-none}
 use mathlib.Core.Logic.{dite}
 use native.Mathlib.Decide.{dec_le}
@@ -17,16 +15,17 @@ use Rattle.hall.specs.declared.writer.Writer.TheVariants.{Lock}
 use Rattle.hall.specs.declared.view.View.{View}
 use Rattle.hall.specs.declared.view.Held.{Held}
 use Rattle.hall.specs.declared.view.Opening.{Opening}
-use Rattle.hall.specs.Rule.{Holds, Has, Stands, Told, Kept, weight, first_view}
+use Rattle.hall.specs.Rule.{Holds, IsIn, Stands, Told, Kept, first_view}
 use Rattle.hall.proofs.Pieces.{begins_same}
 use Rattle.hall.proofs.Merging.{past}
+use Rattle.hall.proofs.Moves.{free_not_in}
 
 module _ {S V E : Type 0} (start : S) (passes places : ℕ) (session : E → ℕ) (writer : S → ℕ → Writer) (stands : S → ℕ → V → List E → Type 0) (number : S → ℕ → List E → ℕ) (kept : S → List (List E) → Type 0) where
   abbrev Rule : State (Held V E) (View S E) → Type 0
   Rule = Kept start passes places session writer stands number kept
 
   -- the table at the start
-  module _ (o : Opening S E) (n : ℕ) (posts words : List ℕ) (slots : List (Held V E)) (first : Starts n posts words) (count : length slots ≡ n) (many : length o.lists ≡ n + length posts) (size : places ≡ length o.lists) (each_lock : (c : ℕ) → c < n → writer start c ≡ Lock c) (some_pass : 0 < o.passes) (few : o.passes ≤ 65) (at_start : start ≡ o.start) (all : passes ≡ o.passes) (law : kept start o.lists)
+  module _ (o : Opening S E) (n : ℕ) (posts words : List ℕ) (slots : List (Held V E)) (first : Starts n posts words) (count : length slots ≡ n) (many : length o.lists ≡ n + length posts) (size : places ≡ length o.lists) (each_lock : (c : ℕ) → c < n → writer start c ≡ Lock c) (some_pass : 0 < o.passes) (at_start : start ≡ o.start) (all : passes ≡ o.passes) (law : kept start o.lists)
       (full : (c : ℕ) (h : Held V E) → get_elem? slots c ≡ some h → (x : V) × (h.value ≡ Some x) × stands start c x (at o.lists c))
       (shown : (w x : ℕ) → slice_get posts w ≡ Some x → number start (n + w) (at o.lists (n + w)) ≡ x) where
     here : (l : List (Held V E)) (c : ℕ) → c < length l → (h : Held V E) × (get_elem? l c ≡ some h)
@@ -57,15 +56,13 @@ module _ {S V E : Type 0} (start : S) (passes places : ℕ) (session : E → ℕ
       wide = first.long;
       law = law;
       starts = λ j d a at e. of_first (λ z. (b : S) → z.start ≡ b ∷ [] → b ≡ start) (λ b q. sym (ap (λ (z : List S). get_or z 0 b) q) ∙ sym at_start) j d at a e;
-      order = λ c lt. let a = first.served c lt in let b = first.tickets c lt in omega arith;
-      home = λ c lt. let h = here slots c (omega arith) in let f = full c h.0 h.1 in inl (h.0, f.0, at_map some slots c h.0 h.1, f.1, f.2);
-      tickets = of_first (λ z. Stands (writer start) n words o.lists z.seen z.stage) tt;
+      home = λ c lt. let h = here slots c (omega arith) in let f = full c h.0 h.1 in inl (first.unlocked c lt, (h.0, f.0, at_map some slots c h.0 h.1, f.1, f.2));
+      stages = of_first (λ z. Stands (writer start) n words o.lists z.seen z.stage) tt;
       apart = λ i j d e k di ej rd re. (only i d di).0 ∙ sym (only j e ej).0;
       knows = of_first (λ z. Grows z.seen o.lists × ((m : ℕ) → Holds z m → OwnSeen session (writer start) m z.seen o.lists)) (record { begins = λ c. begins_same (at o.lists c) }, (λ m hm. record { entries = λ k. refl; words = record { whole = λ q e. refl } }));
       alone = λ i j d e k di ej rd re. (only i d di).0 ∙ sym (only j e ej).0;
       told = of_first (λ z. Told session (writer start) z.merged) tt;
       named = λ j d m at h. of_first (λ z. Holds z m → m < passes) (λ k. let l = holds_below m k in let q = all in omega arith) j d at h;
-      owner = λ j d c t at h. of_first (λ z. Has z.stage c t → Holds z z.name) (λ k. absurd k) j d at h;
-      budget = λ c lt. let a = first.tickets c lt in let q = sum_by-replicate (λ (b : Bool). if b then 144115188075855872 else 0) (o.passes - 1) true in let e = sum_by-cons weight (first_view o) [] in omega arith;
+      owner = λ j d c at h. of_first (λ z. IsIn z c → Holds z z.name) (λ k. absurd (free_not_in c k)) j d at h;
       whole = λ c lt. (0, first_view o, o.passes - 1, refl, get_or-replicate o.passes (o.passes - 1) true false (omega arith), refl);
     }

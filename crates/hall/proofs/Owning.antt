@@ -9,6 +9,6 @@ pub is_of : {L V E S : Type 0} (h : Hall L V E S) (p : Token V E S) → p.seat.t
 is_of h p table start = record {
   table = table;
   start = start;
-  wide = sees_places _ _ _ _ _ _ p.fits _ _ _ (ap (λ z. z.words) table ∙ h.sized.1) refl;
+  wide = sees_places _ _ _ _ _ p.fits _ _ _ (ap (λ z. z.words) table ∙ h.sized.1) refl;
   named = p.fits.named;
 }

@@ -17,7 +17,8 @@ use Rattle.hall.specs.Fits.{Fits, carried_at}
 use Rattle.hall.proofs.Pieces.{begins_on}
 use Rattle.hall.proofs.Merging.{true_inside, either_at, or_true}
 use Rattle.hall.proofs.Splits.{splits_off}
-use Rattle.hall.proofs.Fitting.{none_carried, free_not_wait, free_not_in}
+use Rattle.hall.proofs.Moves.{free_not_in}
+use Rattle.hall.proofs.Fitting.{none_carried}
 
 longer_length : {A : Type 0} (xs ys : List (List A)) (n : ℕ) → length xs ≡ n → length ys ≡ n → length (longer xs ys) ≡ n
 longer_length [] ys n a b = b
@@ -40,26 +41,24 @@ still_true a n k h = dite (ℕ_discrete k n)
     (λ (e : k ≡ n). absurd (let P : ℕ → Type 0 = λ z. get_or (set a n false) z false ≡ true in let q = subst P e h in let b : false ≡ true = sym (set_false a n) ∙ q in cc))
     (λ ne. (ne, sym (get_or-set_other a n k false false ne) ∙ h))
 
-module _ {S V E : Type 0} (cells words cell ticket : ℕ) (names : List Bool) (m : Me (Held V E) (View S E)) (f : Fits cells words cell ticket names m) where
+module _ {S V E : Type 0} (cells words cell : ℕ) (names : List Bool) (m : Me (Held V E) (View S E)) (f : Fits cells words cell names m) where
   pub free_empty : m.0.stage ≡ Free → m.1 ≡ []
   free_empty free = none_carried m.1 (f.carried ∙ ap carried_at free)
 
-  pub fits_joined : (slots ws : ℕ) (w : View S E) (m' : Me (Held V E) (View S E)) → slots ≡ cells → ws ≡ words → length w.seen ≡ length m.0.seen → m' ≡ (joined m.0 w, m.1) → Fits slots ws cell ticket names m'
-  fits_joined slots ws w m' same same' wide is = subst (λ (z : (ℕ × ℕ) × Me (Held V E) (View S E)). Fits z.0.0 z.0.1 cell ticket names z.1) (λ i. ((sym same i, sym same' i), sym is i)) record {
+  pub fits_joined : (slots ws : ℕ) (w : View S E) (m' : Me (Held V E) (View S E)) → slots ≡ cells → ws ≡ words → length w.seen ≡ length m.0.seen → m' ≡ (joined m.0 w, m.1) → Fits slots ws cell names m'
+  fits_joined slots ws w m' same same' wide is = subst (λ (z : (ℕ × ℕ) × Me (Held V E) (View S E)). Fits z.0.0 z.0.1 cell names z.1) (λ i. ((sym same i, sym same' i), sym is i)) record {
     named = either_at m.0.holds w.holds m.0.name ∙ ap (λ b. Rattle.std.proofs.Common.◌||◌ b (get_or w.holds m.0.name false)) f.named;
     wide = (let l = longer_length m.0.seen w.seen (length m.0.seen) refl wide in let k = f.wide in omega arith);
-    waits = f.waits;
     inside = f.inside;
     carried = f.carried;
     mirrors = f.mirrors;
     held = λ k h. let t = f.held k h in (either_at m.0.holds w.holds k ∙ ap (λ b. Rattle.std.proofs.Common.◌||◌ b (get_or w.holds k false)) t.0, t.1);
   }
 
-  pub fits_settled : (slots ws : ℕ) (ls : List (List E)) (m' : Me (Held V E) (View S E)) → slots ≡ cells → ws ≡ words → length ls ≡ length m.0.seen → m'.0 ≡ settled ls m.0 → m'.1 ≡ m.1 → Fits slots ws cell ticket names m'
-  fits_settled slots ws ls m' same same' long is out = subst (λ (z : (ℕ × ℕ) × View S E × List (ℕ × Held V E)). Fits z.0.0 z.0.1 cell ticket names (z.1, z.2)) (λ i. ((sym same i, sym same' i), sym is i, sym out i)) record {
+  pub fits_settled : (slots ws : ℕ) (ls : List (List E)) (m' : Me (Held V E) (View S E)) → slots ≡ cells → ws ≡ words → length ls ≡ length m.0.seen → m'.0 ≡ settled ls m.0 → m'.1 ≡ m.1 → Fits slots ws cell names m'
+  fits_settled slots ws ls m' same same' long is out = subst (λ (z : (ℕ × ℕ) × View S E × List (ℕ × Held V E)). Fits z.0.0 z.0.1 cell names (z.1, z.2)) (λ i. ((sym same i, sym same' i), sym is i, sym out i)) record {
     named = f.named;
     wide = (let w = f.wide in omega arith);
-    waits = f.waits;
     inside = f.inside;
     carried = f.carried;
     mirrors = f.mirrors;
@@ -70,23 +69,21 @@ module _ {S V E : Type 0} (cells words cell ticket : ℕ) (names : List Bool) (m
     may_give : get_or m.0.gives n false ≡ true
     may_give = f.mirrors n ∙ may
 
-    pub fits_giving : (slots ws : ℕ) (m' : Me (Held V E) (View S E)) → slots ≡ cells → ws ≡ words → m' ≡ (giving (asking n m.0), m.1) → Fits slots ws cell ticket (set names n false) m'
-    fits_giving slots ws m' same same' is = subst (λ (z : (ℕ × ℕ) × Me (Held V E) (View S E)). Fits z.0.0 z.0.1 cell ticket (set names n false) z.1) (λ i. ((sym same i, sym same' i), sym is i)) record {
+    pub fits_giving : (slots ws : ℕ) (m' : Me (Held V E) (View S E)) → slots ≡ cells → ws ≡ words → m' ≡ (giving (asking n m.0), m.1) → Fits slots ws cell (set names n false) m'
+    fits_giving slots ws m' same same' is = subst (λ (z : (ℕ × ℕ) × Me (Held V E) (View S E)). Fits z.0.0 z.0.1 cell (set names n false) z.1) (λ i. ((sym same i, sym same' i), sym is i)) record {
       named = get_or-set_other m.0.holds n m.0.name false false (λ e. (f.held n may_give).1 (sym e)) ∙ f.named;
       wide = f.wide;
-      waits = f.waits;
       inside = f.inside;
       carried = f.carried;
       mirrors = still_mirrors m.0.gives names n f.mirrors;
       held = λ k h. let t = still_true m.0.gives n k h in let o = f.held k t.1 in (get_or-set_other m.0.holds n k false false t.0 ∙ o.0, o.1);
     }
 
-    pub fits_given : (slots ws : ℕ) (new : List Bool) (m' : Me (Held V E) (View S E)) → slots ≡ cells → ws ≡ words → ((k : ℕ) → get_or new k false ≡ false) → m' ≡ (given (asking n m.0), []) → Fits slots ws 0 0 new m'
-    fits_given slots ws new m' same same' blanks is = subst (λ (z : (ℕ × ℕ) × Me (Held V E) (View S E)). Fits z.0.0 z.0.1 0 0 new z.1) (λ i. ((sym same i, sym same' i), sym is i)) record {
+    pub fits_given : (slots ws : ℕ) (new : List Bool) (m' : Me (Held V E) (View S E)) → slots ≡ cells → ws ≡ words → ((k : ℕ) → get_or new k false ≡ false) → m' ≡ (given (asking n m.0), []) → Fits slots ws 0 new m'
+    fits_given slots ws new m' same same' blanks is = subst (λ (z : (ℕ × ℕ) × Me (Held V E) (View S E)). Fits z.0.0 z.0.1 0 new z.1) (λ i. ((sym same i, sym same' i), sym is i)) record {
       named = get_or-set_same (replicate (length m.0.holds) false) n true false (let t = true_inside m.0.holds n (f.held n may_give).0 in let e = length-replicate (length m.0.holds) false in omega arith);
       wide = f.wide;
-      waits = λ c t e. absurd (free_not_wait c t e);
-      inside = λ c t e. absurd (free_not_in c t e);
+      inside = λ c e. absurd (free_not_in c e);
       carried = refl;
       mirrors = λ k. sym (blanks k);
       held = λ k h. absurd (let b : false ≡ true = h in cc);
@@ -112,7 +109,7 @@ module _ {S E : Type 0} (session : E → ℕ) (writer : S → ℕ → Writer) (k
     long = moment.long ∙ sym same;
     grows = record { begins = λ q. begins_on (at v.seen q) (at w.seen q) (at lists q) (more.0.begins q) (moment.grows.begins q) };
     own_seen = λ m h. further m v.seen w.seen lists (more.1 m h) (moment.own_seen m (names m h));
-    locked = λ c t e. absurd (free_not_in c t (sym free ∙ e));
+    locked = λ c e. absurd (free_not_in c (sym free ∙ e));
   }
 
   -- the views behind a join

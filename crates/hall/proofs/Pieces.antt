@@ -1,8 +1,7 @@
 -- Lists that begin others, the entries of a session, and the views of all passes.
-use Rattle.std.proofs.Common.{◌≡◌, ℕ, zero, suc, ◌+◌, ◌<◌, ◌≤◌, ◌≢◌, ◌==◌, false, ne_eqb, List, [], ◌∷◌, ◌++◌, length, get_or, set, sum_by, refl, sym, ◌∙◌, ap, subst, ⊎_elim, append_assoc, append-nil, length-append, get_or-set_same, get_or-set_other, arith}
+use Rattle.std.proofs.Common.{◌≡◌, ℕ, zero, suc, ◌<◌, ◌≤◌, ◌≢◌, ◌==◌, false, ne_eqb, List, [], ◌∷◌, ◌++◌, length, get_or, set, refl, sym, ◌∙◌, ap, subst, ⊎_elim, append_assoc, append-nil, length-append, get_or-set_same, get_or-set_other, arith}
 use Rattle.std.proofs.lemmas.List.Elements.{filter-append}
-use Rattle.std.proofs.lemmas.List.Sums.{sum_by-set, get_or-le-sum_by}
-use mathlib.Core.Option.{some, some-injective, some-ne-none}
+use mathlib.Core.Option.{some, some-ne-none}
 use lib.ListN.{get_elem?}
 use Rattle.atomic_table.proofs.Lists.{at_set}
 use Rattle.hall.specs.Lists.{at, Begins, own}
@@ -85,14 +84,3 @@ module _ {S E : Type 0} where
   inside [] me v h = absurd (some-ne-none v (sym h))
   inside (x ∷ xs) zero v h = omega arith
   inside (x ∷ xs) (suc i) v h = let k = inside xs i v h in omega arith
-
-  pub value_at : (vs : List (View S E)) (me : ℕ) (v d : View S E) → get_elem? vs me ≡ some v → get_or vs me d ≡ v
-  value_at [] me v d h = absurd (some-ne-none v (sym h))
-  value_at (x ∷ xs) zero v d h = some-injective x v h
-  value_at (x ∷ xs) (suc i) v d h = value_at xs i v d h
-
-  pub sum_set : (f : View S E → ℕ) (vs : List (View S E)) (me : ℕ) (v w : View S E) → get_elem? vs me ≡ some v → sum_by f (set vs me w) + f v ≡ sum_by f vs + f w
-  sum_set f vs me v w h = subst (λ (z : View S E). sum_by f (set vs me w) + f z ≡ sum_by f vs + f w) (value_at vs me v v h) (sum_by-set f vs me w v (inside vs me v h))
-
-  pub sum_has : (f : View S E → ℕ) (vs : List (View S E)) (me : ℕ) (v : View S E) → get_elem? vs me ≡ some v → f v ≤ sum_by f vs
-  sum_has f vs me v h = subst (λ (z : View S E). f z ≤ sum_by f vs) (value_at vs me v v h) (get_or-le-sum_by f vs me v (inside vs me v h))

@@ -8,18 +8,18 @@ use lib.ListN.{get_elem?}
 use prog.Atomic.{either}
 use Rattle.atomic_table.specs.Table.{State, Me, step, keeps, Allows}
 use Rattle.atomic_table.proofs.Lists.{set_here, set_else, exchanged}
-use Rattle.hall.specs.Layout.{line_of, served_of}
+use Rattle.hall.specs.Layout.{line_of}
 use Rattle.hall.specs.Lists.{at, Begins, own, Grows, OwnSeen, Knows, Whole}
 use Rattle.hall.specs.declared.writer.Writer.{Writer}
 use Rattle.hall.specs.declared.writer.Writer.TheVariants.{Session, Lock}
 use Rattle.hall.specs.declared.view.Stage.{Stage}
-use Rattle.hall.specs.declared.view.Stage.TheVariants.{Free, Waiting, Inside}
+use Rattle.hall.specs.declared.view.Stage.TheVariants.{Free, Inside}
 use Rattle.hall.specs.declared.view.View.{View}
 use Rattle.hall.specs.declared.view.Held.{Held}
 use Rattle.hall.specs.declared.note.Note.{Note}
-use Rattle.hall.specs.Rule.{Holds, Has, Has', Stands, Out, Writes, Told, Kept, weight}
+use Rattle.hall.specs.Rule.{Holds, IsIn, Stands, Writes, Told, Kept}
 use Rattle.hall.specs.Told.{published, publishes}
-use Rattle.hall.proofs.Pieces.{begins_same, begins_more, own_other, at_here, at_else, each_set, unique_set, no_other, inside, sum_set}
+use Rattle.hall.proofs.Pieces.{begins_same, begins_more, own_other, at_here, at_else, each_set, unique_set, no_other, inside}
 use Rattle.hall.proofs.Moves.{out_stays, writes_whole, word_shows}
 
 module _ {S V E : Type 0} (start : S) (passes places : ℕ) (session : E → ℕ) (writer : S → ℕ → Writer) (stands : S → ℕ → V → List E → Type 0) (number : S → ℕ → List E → ℕ) (kept : S → List (List E) → Type 0) where
@@ -84,25 +84,18 @@ module _ {S V E : Type 0} (start : S) (passes places : ℕ) (session : E → ℕ
         let own : writer start place ≡ Session m = let P : ℕ → Type 0 = λ z. writer start z ≡ Session m in subst P q is_own in
         ne (r.alone j me d v m o is hd (subst (λ (z : Writer). Writes z v) own writes))
 
-    not_lock : (j : ℕ) (d : View S E) (c t k : ℕ) → j ≢ me → get_elem? s.views j ≡ some d → Has d.stage c t → get_or s.words (served_of c) 0 ≡ t → writer start k ≡ Lock c → k ≢ place
-    not_lock j d c t k ne o has now is_own q =
+    not_lock : (j : ℕ) (d : View S E) (c k : ℕ) → j ≢ me → get_elem? s.views j ≡ some d → IsIn d c → writer start k ≡ Lock c → k ≢ place
+    not_lock j d c k ne o has is_own q =
         let own : writer start place ≡ Lock c = let P : ℕ → Type 0 = λ z. writer start z ≡ Lock c in subst P q is_own in
-        let h : Writes (Lock c) v = subst (λ (z : Writer). Writes z v) own writes in
-        let stood : Stands (writer start) r.n s.words r.lists v.seen (Inside c h.0) = subst (Stands (writer start) r.n s.words r.lists v.seen) h.1 (r.tickets me v is) in
-        let same : h.0 ≡ t = sym stood.1 ∙ now in
-        ne (r.apart j me d v (c, t) o is has (subst (λ (z : Stage). Has z c t) (sym h.1) (refl, same)))
+        ne (r.apart j me d v c o is has (subst (λ (z : Writer). Writes z v) own writes))
 
     my_stands : (st : Stage) → Stands (writer start) r.n s.words r.lists v.seen st → Stands (writer start) r.n wl ls u.seen st
     my_stands Free h = tt
-    my_stands (Waiting c t) h = let k = h.0 in let p = word_else (served_of c) (λ q. omega arith) in let q = word_else (line_of c) (λ q. omega arith) in let l = h.1 in let m = h.2 in (h.0, omega arith, omega arith)
-    my_stands (Inside c t) h = let k = h.0 in let p = word_else (served_of c) (λ q. omega arith) in let q = word_else (line_of c) (λ q. omega arith) in let m = h.2 in
-        (h.0, p ∙ h.1, omega arith, record { whole = λ k own. my_whole k (h.3.whole k own) })
+    my_stands (Inside c) h = let k = h.0 in (h.0, word_else (line_of c) (λ q. omega arith) ∙ h.1, record { whole = λ k own. my_whole k (h.2.whole k own) })
 
-    their_stands : (j : ℕ) (d : View S E) → j ≢ me → get_elem? s.views j ≡ some d → (st : Stage) → ((c t : ℕ) → Has st c t → Has d.stage c t) → Stands (writer start) r.n s.words r.lists d.seen st → Stands (writer start) r.n wl ls d.seen st
+    their_stands : (j : ℕ) (d : View S E) → j ≢ me → get_elem? s.views j ≡ some d → (st : Stage) → d.stage ≡ st → Stands (writer start) r.n s.words r.lists d.seen st → Stands (writer start) r.n wl ls d.seen st
     their_stands j d ne o Free has h = tt
-    their_stands j d ne o (Waiting c t) has h = let k = h.0 in let p = word_else (served_of c) (λ q. omega arith) in let q = word_else (line_of c) (λ q. omega arith) in let l = h.1 in let m = h.2 in (h.0, omega arith, omega arith)
-    their_stands j d ne o (Inside c t) has h = let k = h.0 in let p = word_else (served_of c) (λ q. omega arith) in let q = word_else (line_of c) (λ q. omega arith) in let m = h.2 in
-        (h.0, p ∙ h.1, omega arith, record { whole = λ k own. h.3.whole k own ∙ sym (list_else k (not_lock j d c t k ne o (has c t (refl, refl)) h.1 own)) })
+    their_stands j d ne o (Inside c) has h = let k = h.0 in (h.0, word_else (line_of c) (λ q. omega arith) ∙ h.1, record { whole = λ k own. h.2.whole k own ∙ sym (list_else k (not_lock j d c k ne o has own)) })
 
     my_seen : (k : ℕ) → Begins (at u.seen k) (at ls k) × ((m : ℕ) → Holds v m → own session m (at ls k) ≡ own session m (at u.seen k))
     my_seen k = dite (ℕ_discrete k place)
@@ -137,19 +130,17 @@ module _ {S V E : Type 0} (start : S) (passes places : ℕ) (session : E → ℕ
       total = r.total;
       locks = r.locks;
       starts = λ j d a at q. each_set (λ _ z. (c : S) → z.start ≡ c ∷ [] → c ≡ start) s.views me u (λ c z. r.starts me v c is z) (λ i z _ o c y. r.starts i z c o y) j d at a q;
-      order = λ c lt. let p = word_else (served_of c) (λ q. omega arith) in let q = word_else (line_of c) (λ q. omega arith) in let l = r.order c lt in omega arith;
-      home = λ c lt. let ne : c ≢ place = λ q. omega arith in ⊎_elim (λ a. inl (a.0, a.1, a.2, a.3, subst (stands start c a.1) (sym (list_else c ne)) a.4))
-          (λ o. inr (subst (λ (z : ℕ). Out (set s.views me u) c z) (sym (word_else (served_of c) (λ q. omega arith)))
-          (out_stays start passes places session writer stands number kept s r me v u is c (get_or s.words (served_of c) 0) (λ q. q) o))) (r.home c lt);
-      tickets = each_set (λ _ z. Stands (writer start) r.n wl ls z.seen z.stage) s.views me u (my_stands v.stage (r.tickets me v is)) (λ j d ne o. their_stands j d ne o d.stage (λ _ _ h. h) (r.tickets j d o));
-      apart = unique_set Has' s.views me u r.apart (no_other Has' s.views me v u is r.apart (λ k h. h));
+      home = λ c lt. let ne : c ≢ place = λ q. omega arith in let same : get_or wl (line_of c) 0 ≡ get_or s.words (line_of c) 0 = word_else (line_of c) (λ q. omega arith) in
+          ⊎_elim (λ a. inl (same ∙ a.0, (a.1.0, a.1.1, a.1.2, a.1.3, subst (stands start c a.1.1) (sym (list_else c ne)) a.1.4)))
+          (λ o. inr (same ∙ o.0, out_stays start passes places session writer stands number kept s r me v u is c (λ q. q) o.1)) (r.home c lt);
+      stages = each_set (λ _ z. Stands (writer start) r.n wl ls z.seen z.stage) s.views me u (my_stands v.stage (r.stages me v is)) (λ j d ne o. their_stands j d ne o d.stage refl (r.stages j d o));
+      apart = unique_set IsIn s.views me u r.apart (no_other IsIn s.views me v u is r.apart (λ k h. h));
       knows = each_set (λ _ z. Grows z.seen ls × ((m : ℕ) → Holds z m → OwnSeen session (writer start) m z.seen ls)) s.views me u (record { begins = λ k. (my_seen k).0 }, (λ m hm. record { entries = λ k. (my_seen k).1 m hm; words = record { whole = λ k own. my_whole k (((r.knows me v is).1 m hm).words.whole k own) } }))
           (λ j d ne o. (record { begins = λ k. (their_seen j d ne o k).0 }, (λ m hm. record { entries = λ k. (their_seen j d ne o k).1 m hm; words = record { whole = λ k own. ((r.knows j d o).1 m hm).words.whole k own ∙ sym (list_else k (not_session j d m k ne o hm own)) } })));
       alone = unique_set Holds s.views me u r.alone (no_other Holds s.views me v u is r.alone (λ m z. z));
       told = each_set (λ _ z. Told session (writer start) z.merged) s.views me u (r.told me v is) (λ j d _ o. r.told j d o);
       named = λ j d m at hm. each_set (λ _ z. Holds z m → m < passes) s.views me u (λ k. r.named me v m is k) (λ i z _ o k. r.named i z m o k) j d at hm;
-      owner = λ j d a c at has. each_set (λ _ z. Has z.stage a c → Holds z z.name) s.views me u (λ h. r.owner me v a c is h) (λ i z _ o k. r.owner i z a c o k) j d at has;
-      budget = λ c lt. let q = r.budget c lt in let g = sum_set weight s.views me v u is in let f = word_else (line_of c) (λ q. omega arith) in omega arith;
+      owner = λ j d a at has. each_set (λ _ z. IsIn z a → Holds z z.name) s.views me u (λ h. r.owner me v a is h) (λ i z _ o k. r.owner i z a o k) j d at has;
       posted = λ a lt. dite (ℕ_discrete a w)
           (λ (q : a ≡ w). let P : ℕ → Type 0 = λ z. get_or wl (line_of (r.n + z)) 0 ≡ number start (r.n + z) (at ls (r.n + z)) in subst P (sym q) (let l = r.wide in get_or-set_same s.words word_at x 0 (omega arith) ∙ (sym shows ∙ ap (number start place) (ap (λ (z : List E). z ++ e ∷ []) (all_whole.whole place refl) ∙ sym list_here))))
           (λ ne. word_else (line_of (r.n + a)) (λ q. ne (omega arith)) ∙ (r.posted a lt ∙ ap (number start (r.n + a)) (sym (list_else (r.n + a) (λ q. ne (omega arith))))));

@@ -1,6 +1,5 @@
 -- A name is asked for, and a pass is cut in two.
-use Rattle.std.proofs.Common.{◌≡◌, ℕ, ◌+◌, ◌<◌, ◌≢◌, Bool, true, false, List, [], ◌∷◌, ◌++◌, length, get_or, set, replicate, if◌then◌else◌, refl, sym, ◌∙◌, ap, subst, inl, inr, ⊎_elim, get_or-set_same, get_or-set_other, eqb, arith}
-use Rattle.std.proofs.lemmas.List.Sums.{sum_by-set, sum_by-append}
+use Rattle.std.proofs.Common.{◌≡◌, ℕ, ◌<◌, ◌≢◌, true, false, List, [], ◌∷◌, ◌++◌, length, get_or, set, replicate, refl, sym, ◌∙◌, ap, subst, inl, inr, ⊎_elim, get_or-set_same, get_or-set_other, eqb, arith}
 use mathlib.Core.Option.{some, none, some-injective}
 use mathlib.Core.Logic.{dite}
 use native.Mathlib.Decide.{ℕ_discrete}
@@ -12,11 +11,11 @@ use Rattle.hall.specs.Lists.{at, Grows, OwnSeen}
 use Rattle.hall.specs.declared.writer.Writer.{Writer}
 use Rattle.hall.specs.declared.view.View.{View}
 use Rattle.hall.specs.declared.view.Held.{Held}
-use Rattle.hall.specs.Rule.{Holds, Has, Has', Unique, Stands, Told, Kept, weight, purse}
+use Rattle.hall.specs.Rule.{Holds, IsIn, Unique, Stands, Told, Kept}
 use Rattle.hall.specs.Told.{asking, giving, given, asks}
-use Rattle.hall.proofs.Pieces.{each_set, unique_set, no_other, inside, sum_set}
+use Rattle.hall.proofs.Pieces.{each_set, unique_set, no_other, inside}
 use Rattle.hall.proofs.Merging.{at_end, blank, true_inside}
-use Rattle.hall.proofs.Moves.{same_words, home_stays, loaded}
+use Rattle.hall.proofs.Moves.{same_words, home_stays, loaded, free_not_in}
 
 module _ {S V E : Type 0} (start : S) (passes places : ℕ) (session : E → ℕ) (writer : S → ℕ → Writer) (stands : S → ℕ → V → List E → Type 0) (number : S → ℕ → List E → ℕ) (kept : S → List (List E) → Type 0) where
   abbrev Rule : State (Held V E) (View S E) → Type 0
@@ -30,7 +29,7 @@ module _ {S V E : Type 0} (start : S) (passes places : ℕ) (session : E → ℕ
         tt,
         subst (λ (z : ℕ). Rule record { words = set s.words i z; homes = s.homes; views = set s.views me w }) (sym same)
             (loaded start passes places session writer stands number kept s i me m.1 w s.homes
-            (same_words start passes places session writer stands number kept s r me m.0 w is s.homes r.deep (λ a e. e) (home_stays start passes places session writer stands number kept s r me m.0 w is (λ c t e. e)) (r.tickets me m.0 is) (λ k h. h) (r.knows me m.0 is) (λ k h. h) refl (λ k h. h) (omega arith) (λ c lt k h e. (h, e)) (r.told me m.0 is))),
+            (same_words start passes places session writer stands number kept s r me m.0 w is (λ a e. e) refl (r.stages me m.0 is) (r.knows me m.0 is) refl refl (λ c e. e) (r.told me m.0 is))),
         (refl, refl),
       )
 
@@ -62,11 +61,6 @@ module _ {S V E : Type 0} (start : S) (passes places : ℕ) (session : E → ℕ
     given_still : Holds g v.asked
     given_still = get_or-set_same (replicate (length v.holds) false) v.asked true false (let t = true_inside v.holds v.asked has in let e = length-replicate (length v.holds) false in omega arith)
 
-    light : weight l + weight g ≡ weight v
-    light = let f : Bool → ℕ = λ b. if b then 144115188075855872 else 0 in
-        let e : purse (set v.gives v.asked false) + f (get_or v.gives v.asked false) ≡ purse v.gives + f false = sum_by-set f v.gives v.asked false false (true_inside v.gives v.asked may) in
-        let t : f (get_or v.gives v.asked false) ≡ 144115188075855872 = ap f may in omega arith
-
     each : (P : ℕ → View S E → Type 0) → P me l → ((j : ℕ) → P j g) → ((j : ℕ) (d : View S E) → j ≢ me → get_elem? s.views j ≡ some d → P j d) → (j : ℕ) (d : View S E) → get_elem? (vs ++ g ∷ []) j ≡ some d → P j d
     each P a b c j d e = ⊎_elim (λ h. each_set P s.views me l a c j d h) (λ (h : (j ≡ length vs) × (g ≡ d)). subst (P j) h.1 (b j)) (at_end vs g d j e)
 
@@ -88,18 +82,16 @@ module _ {S V E : Type 0} (start : S) (passes places : ℕ) (session : E → ℕ
       wide = r.wide;
       law = r.law;
       starts = λ j d a at e. each (λ _ z. (b : S) → z.start ≡ b ∷ [] → b ≡ start) (λ b q. r.starts me v b is q) (λ _ b q. r.starts me v b is q) (λ i z _ o b q. r.starts i z b o q) j d at a e;
-      order = r.order;
-      home = λ c lt. ⊎_elim (λ h. inl h) (λ o. inr (o.0, o.1, at_longer vs (g ∷ []) o.0 o.1 o.2, o.3)) (home_stays start passes places session writer stands number kept s r me v l is (λ a b e. e) c lt);
-      tickets = each (λ _ z. Stands (writer start) r.n s.words r.lists z.seen z.stage) (r.tickets me v is) (λ _. tt) (λ j d _ o. r.tickets j d o);
-      apart = unique Has' (unique_set Has' s.views me l r.apart (no_other Has' s.views me v l is r.apart (λ k h. h))) (λ k h. absurd h);
+      home = λ c lt. ⊎_elim (λ h. inl h) (λ o. inr (o.0, (o.1.0, o.1.1, at_longer vs (g ∷ []) o.1.0 o.1.1 o.1.2, o.1.3))) (home_stays start passes places session writer stands number kept s r me v l is (λ a e. e) c lt);
+      stages = each (λ _ z. Stands (writer start) r.n s.words r.lists z.seen z.stage) (r.stages me v is) (λ _. tt) (λ j d _ o. r.stages j d o);
+      apart = unique IsIn (unique_set IsIn s.views me l r.apart (no_other IsIn s.views me v l is r.apart (λ k h. h))) (λ k h. absurd (free_not_in k h));
       knows = each (λ _ z. Grows z.seen r.lists × ((m : ℕ) → Holds z m → OwnSeen session (writer start) m z.seen r.lists)) ((r.knows me v is).0, (λ m h. (r.knows me v is).1 m (left_holds m h).0))
           (λ _. ((r.knows me v is).0, (λ m h. (r.knows me v is).1 m (subst (Holds v) (sym (given_holds m h)) has)))) (λ j d _ o. r.knows j d o);
       alone = unique Holds (unique_set Holds s.views me l r.alone (no_other Holds s.views me v l is r.alone (λ m h. (left_holds m h).0)))
           (λ m h j d o hd. each_set (λ i z. Holds z m → ⊥) s.views me l (λ q. (left_holds m q).1 (given_holds m h)) (λ i z ne at q. ne (r.alone i me z v m at is q (subst (Holds v) (sym (given_holds m h)) has))) j d o hd);
       told = each (λ _ z. Told session (writer start) z.merged) (r.told me v is) (λ _. tt) (λ j d _ o. r.told j d o);
       named = λ j d m at hm. each (λ _ z. Holds z m → m < passes) (λ k. r.named me v m is (left_holds m k).0) (λ _ k. r.named me v m is (subst (Holds v) (sym (given_holds m k)) has)) (λ i z _ o k. r.named i z m o k) j d at hm;
-      owner = λ j d c t at h. each (λ _ z. Has z.stage c t → Holds z z.name) (λ k. left_still v.name (r.owner me v c t is k) (λ e. other (sym e))) (λ _ k. absurd k) (λ i z _ o k. r.owner i z c t o k) j d at h;
-      budget = λ c lt. let b = r.budget c lt in let e = sum_set weight s.views me v l is in let f = light in omega (arith, sum_by-append weight vs (g ∷ []));
+      owner = λ j d c at h. each (λ _ z. IsIn z c → Holds z z.name) (λ k. left_still v.name (r.owner me v c is k) (λ e. other (sym e))) (λ _ k. absurd (free_not_in c k)) (λ i z _ o k. r.owner i z c o k) j d at h;
       whole = λ c lt. let o = r.whole c lt in dite (ℕ_discrete o.0 me)
           (λ (q : o.0 ≡ me). let d_is : o.1 ≡ v = some-injective _ _ (sym o.3 ∙ (ap (get_elem? s.views) q ∙ is)) in let hv = subst (λ (z : View S E). Holds z o.2) d_is o.4 in let sv = subst (λ (z : View S E). at z.seen c ≡ at r.lists c) d_is o.5 in
           dite (ℕ_discrete o.2 v.asked) (λ e. (length vs, g, v.asked, at_last vs g (length vs) refl, given_still, sv))

@@ -1,5 +1,5 @@
 -- The table and the first pass of a new hall.
-use Rattle.std.proofs.Common.{◌≡◌, ℕ, zero, suc, ◌+◌, ◌-◌, ◌<◌, ◌≤◌, Bool, true, false, List, [], ◌∷◌, map, length, get_or, replicate, refl, sym, ◌∙◌, ap, subst, arith, Option, Some, None, slice_get}
+use Rattle.std.proofs.Common.{◌≡◌, ℕ, zero, suc, ◌+◌, ◌-◌, ◌<◌, Bool, true, false, List, [], ◌∷◌, map, length, get_or, replicate, refl, sym, ◌∙◌, ap, subst, arith, Option, Some, None, slice_get}
 use Rattle.std.proofs.lemmas.List.{length-map}
 use mathlib.Core.Option.{some, some-injective, some-ne-none}
 use mathlib.Core.Logic.{dite}
@@ -18,7 +18,7 @@ use Rattle.hall.specs.declared.writer.Writer.TheVariants.{Lock}
 use Rattle.hall.specs.Fits.{Fits}
 use Rattle.hall.proofs.Merging.{past}
 use Rattle.hall.proofs.Opens.{opens}
-use Rattle.hall.proofs.Fitting.{free_not_wait, free_not_in}
+use Rattle.hall.proofs.Moves.{free_not_in}
 
 rest_of : {A : Type 0} → List A → List A
 rest_of [] = []
@@ -33,22 +33,21 @@ filled_from {V} {E} (k ∷ hs) (x ∷ xs) zero h e is = (x, ap (λ (z : Held V E
 filled_from (k ∷ hs) (x ∷ xs) (suc c) h e is = filled_from hs xs c h (ap rest_of e) is
 
 module _ {S V E : Type 0} (session : E → ℕ) (writer : S → ℕ → Writer) (stands : S → ℕ → V → List E → Type 0) (number : S → ℕ → List E → ℕ) (kept : S → List (List E) → Type 0) where
-  pub opens_from : (o : Opening S E) (passes n : ℕ) (posts words : List ℕ) (hs : List (Held V E)) (xs : List V) → 0 < passes → passes ≤ 65 → o.passes ≡ passes → n ≡ length xs → Starts n posts words → map (λ h. h.value) hs ≡ map Some xs
+  pub opens_from : (o : Opening S E) (passes n : ℕ) (posts words : List ℕ) (hs : List (Held V E)) (xs : List V) → 0 < passes → o.passes ≡ passes → n ≡ length xs → Starts n posts words → map (λ h. h.value) hs ≡ map Some xs
       → length o.lists ≡ length xs + length posts → ((c : ℕ) → c < length xs → writer o.start c ≡ Lock c) → kept o.start o.lists → StandFor stands o.start xs o.lists → ShownBy number o.start (length xs) posts o.lists
       → Kept o.start o.passes (length o.lists) session writer stands number kept (opening words hs (first_view o))
-  opens_from o passes n posts words hs xs pos few same count first wrapped many locks law stand shown =
+  opens_from o passes n posts words hs xs pos same count first wrapped many locks law stand shown =
       let long : length hs ≡ n = sym (length-map hs (λ (h : Held V E). h.value)) ∙ (ap length wrapped ∙ (length-map xs Some ∙ sym count)) in
-      opens o.start o.passes (length o.lists) session writer stands number kept o n posts words hs first long (omega arith) refl (λ c lt. locks c (omega arith)) (omega arith) (omega arith) refl refl law
+      opens o.start o.passes (length o.lists) session writer stands number kept o n posts words hs first long (omega arith) refl (λ c lt. locks c (omega arith)) (omega arith) refl refl law
       (λ c h is. let f = filled_from hs xs c h wrapped is in (f.0, f.1, stand c f.0 f.2))
       (λ w x is. let P : ℕ → Type 0 = λ z. number o.start (z + w) (at o.lists (z + w)) ≡ x in subst P (sym count) (shown w x is))
 
 module _ {S V E : Type 0} where
-  pub fits_first : (o : Opening S E) (passes slots words : ℕ) (names : List Bool) (m : Me (Held V E) (View S E)) → 0 < passes → o.passes ≡ passes → line_of (length o.lists) ≡ words → ((k : ℕ) → get_or (replicate (passes - 1) true) k false ≡ get_or names k false) → m ≡ (first_view o, []) → Fits slots words 0 0 names m
-  fits_first o passes slots words names m pos same wide mirrors is = subst (λ (z : Me (Held V E) (View S E)). Fits slots words 0 0 names z) (sym is) record {
+  pub fits_first : (o : Opening S E) (passes slots words : ℕ) (names : List Bool) (m : Me (Held V E) (View S E)) → 0 < passes → o.passes ≡ passes → line_of (length o.lists) ≡ words → ((k : ℕ) → get_or (replicate (passes - 1) true) k false ≡ get_or names k false) → m ≡ (first_view o, []) → Fits slots words 0 names m
+  fits_first o passes slots words names m pos same wide mirrors is = subst (λ (z : Me (Held V E) (View S E)). Fits slots words 0 names z) (sym is) record {
     named = get_or-replicate o.passes (o.passes - 1) true false (omega arith);
     wide = wide;
-    waits = λ c t e. absurd (free_not_wait c t e);
-    inside = λ c t e. absurd (free_not_in c t e);
+    inside = λ c e. absurd (free_not_in c e);
     carried = refl;
     mirrors = λ k. subst (λ (z : ℕ). get_or (replicate (z - 1) true) k false ≡ get_or names k false) (sym same) (mirrors k);
     held = λ k h. let lt : k < o.passes - 1 = dite (dec_le (o.passes - 1) k) (λ le. absurd (let f = past (replicate (o.passes - 1) true) k false (let e = length-replicate (o.passes - 1) true in omega arith) in let q : false ≡ true = sym f ∙ h in cc)) (λ l. omega arith) in

@@ -34,16 +34,16 @@ module _ {L V E S : Type 0} where
     pub named : Holds p.seat.me.0 p.seat.me.0.name
 
 module _ {S E : Type 0} where
-  -- some polls found other numbers, and nothing else changed
+  -- some looks found the lock taken, and nothing else changed
   abbrev pub Looked : View S E → View S E → Type 0
   Looked v w = (v.looks ≤ w.looks) × (w ≡ record v { looks = w.looks; found = w.found })
 
   -- The lock c was entered: the pass learned all histories of one moment, and the value stands for the lock's
-  pub record Entered {V : Type 0} (session : E → ℕ) (writer : S → ℕ → Writer) (stands : S → ℕ → V → List E → Type 0) (kept : S → List (List E) → Type 0) (start : S) (c t : ℕ) (v : View S E) (x : V) (w : View S E) : Type 0 where
+  pub record Entered {V : Type 0} (session : E → ℕ) (writer : S → ℕ → Writer) (stands : S → ℕ → V → List E → Type 0) (kept : S → List (List E) → Type 0) (start : S) (c : ℕ) (v : View S E) (x : V) (w : View S E) : Type 0 where
     pub lists : List (List E)
     pub moment : Moment session writer kept start v lists
     pub stood : stands start c x (at lists c)
-    pub view_is : w ≡ entered c t lists v
+    pub view_is : w ≡ entered c lists v
 
   -- The word at the place q was loaded: the pass learned all histories of one moment, and the number is what the word's history shows then
   pub record Loaded (session : E → ℕ) (writer : S → ℕ → Writer) (number : S → ℕ → List E → ℕ) (kept : S → List (List E) → Type 0) (start : S) (q : ℕ) (v : View S E) (x : ℕ) (w : View S E) : Type 0 where

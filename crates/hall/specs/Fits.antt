@@ -1,8 +1,8 @@
 -- What the fields of a pass say of its view.
-use Rattle.std.specs.Prelude.{◌≡◌, ◌≢◌, ℕ, ◌+◌, ◌<◌, Bool, true, false, List, [], ◌∷◌, map, length, is_some, slice_index_or}
+use Rattle.std.specs.Prelude.{◌≡◌, ◌≢◌, ℕ, ◌<◌, Bool, true, false, List, [], ◌∷◌, map, length, is_some, slice_index_or}
 use Rattle.atomic_table.specs.Table.{Me}
 use Rattle.hall.specs.declared.view.Stage.{Stage}
-use Rattle.hall.specs.declared.view.Stage.TheVariants.{Free, Waiting, Inside}
+use Rattle.hall.specs.declared.view.Stage.TheVariants.{Free, Inside}
 use Rattle.hall.specs.declared.view.View.{View}
 use Rattle.hall.specs.declared.view.Held.{Held}
 use Rattle.hall.specs.Layout.{line_of}
@@ -11,20 +11,14 @@ use Rattle.hall.specs.Rule.{Holds}
 -- the slots that are with a pass at this stage: that of the lock that it is inside, whose value is out
 abbrev pub carried_at : Stage → List (ℕ × Bool)
 carried_at Free = []
-carried_at (Waiting _ _) = []
-carried_at (Inside c _) = (c, false) ∷ []
-
--- the ticket that the fields have is this one, and the lock exists
-abbrev pub Ticketed : ℕ → ℕ → ℕ → ℕ → ℕ → Type 0
-Ticketed cells cell ticket c t = (c ≡ cell) × (t ≡ ticket) × (c < cells) × (t + 1 < 18446744073709551616)
+carried_at (Inside c) = (c, false) ∷ []
 
 module _ {S V E : Type 0} where
   -- the fields of a pass say what its view says
-  pub record Fits (cells words cell ticket : ℕ) (gives : List Bool) (m : Me (Held V E) (View S E)) : Type 0 where
+  pub record Fits (cells words cell : ℕ) (gives : List Bool) (m : Me (Held V E) (View S E)) : Type 0 where
     pub named : Holds m.0 m.0.name
     pub wide : line_of (length m.0.seen) ≡ words
-    pub waits : (c t : ℕ) → m.0.stage ≡ Waiting c t → Ticketed cells cell ticket c t
-    pub inside : (c t : ℕ) → m.0.stage ≡ Inside c t → Ticketed cells cell ticket c t
+    pub inside : (c : ℕ) → m.0.stage ≡ Inside c → (c ≡ cell) × (c < cells)
     pub carried : map (λ x. (x.0, is_some x.1.value)) m.1 ≡ carried_at m.0.stage
     pub mirrors : (k : ℕ) → slice_index_or m.0.gives k false ≡ slice_index_or gives k false
     pub held : (k : ℕ) → slice_index_or m.0.gives k false ≡ true → Holds m.0 k × (k ≢ m.0.name)

@@ -1,36 +1,26 @@
 -- The rule of a table, over n locks and p published words.
-use Rattle.std.specs.Prelude.{◌≡◌, ℕ, ◌+◌, ◌-◌, ◌<◌, ◌≤◌, Bool, true, false, if◌then◌else◌, List, [], ◌∷◌, ◌⊎◌, length, sum_by, Some, slice_index, slice_index_or, replicate}
+use Rattle.std.specs.Prelude.{◌≡◌, ℕ, ◌+◌, ◌-◌, ◌<◌, Bool, true, false, List, [], ◌∷◌, ◌⊎◌, length, Some, slice_index, slice_index_or, replicate}
 use mathlib.Core.Option.{some}
 use lib.ListN.{get_elem?}
 use Rattle.atomic_table.specs.Table.{State}
 use Rattle.hall.specs.declared.writer.Writer.{Writer}
 use Rattle.hall.specs.declared.writer.Writer.TheVariants.{Session, Lock}
 use Rattle.hall.specs.declared.view.Stage.{Stage}
-use Rattle.hall.specs.declared.view.Stage.TheVariants.{Free, Waiting, Inside}
+use Rattle.hall.specs.declared.view.Stage.TheVariants.{Free, Inside}
 use Rattle.hall.specs.declared.view.View.{View}
 use Rattle.hall.specs.declared.view.Merged.{Merged}
 use Rattle.hall.specs.declared.view.Held.{Held}
 use Rattle.hall.specs.declared.view.Opening.{Opening}
-use Rattle.hall.specs.Layout.{line_of, served_of}
+use Rattle.hall.specs.Layout.{line_of}
 use Rattle.hall.specs.Lists.{at, Grows, Whole, OwnSeen}
 
 -- the pass has the name m, and so has seen all of its entries
 abbrev pub Holds : {S E : Type 0} → View S E → ℕ → Type 0
 Holds d m = slice_index_or d.holds m false ≡ true
 
--- the stage has the ticket t of the lock c
-abbrev pub Has : Stage → ℕ → ℕ → Type 0
-Has Free c t = ⊥
-Has (Waiting a u) c t = (a ≡ c) × (u ≡ t)
-Has (Inside a u) c t = (a ≡ c) × (u ≡ t)
-
--- each name that may be given brings 2^57 tickets
-abbrev pub purse : List Bool → ℕ
-purse gives = sum_by (λ b. if b then 144115188075855872 else 0) gives
-
--- the tickets that the pass, and the passes that it may make, may still take
-abbrev pub weight : {S E : Type 0} → View S E → ℕ
-weight d = d.draws + purse d.gives
+-- the pass is inside the lock c
+abbrev pub IsIn : {S E : Type 0} → View S E → ℕ → Type 0
+IsIn d c = d.stage ≡ Inside c
 
 module _ {E : Type 0} where
   -- a pass with these names has seen beginnings of these histories, and all that is its own
@@ -43,29 +33,24 @@ module _ {E : Type 0} where
   Told session writer (x ∷ xs) = Extends session writer x.holds x.seen x.both × Extends session writer x.other_holds x.other_seen x.both
 
 module _ {S E : Type 0} where
-  -- the pass has the ticket k.1 of the lock k.0
-  abbrev pub Has' : View S E → ℕ × ℕ → Type 0
-  Has' d k = Has d.stage k.0 k.1
-
   -- no two views have the same
   abbrev pub Unique : {K : Type 0} → List (View S E) → (View S E → K → Type 0) → Type 0
   Unique {K} vs R = (i j : ℕ) (d e : View S E) (k : K) → get_elem? vs i ≡ some d → get_elem? vs j ≡ some e → R d k → R e k → i ≡ j
 
-  -- the value of the lock is with the pass whose ticket t is
-  abbrev pub Out : List (View S E) → ℕ → ℕ → Type 0
-  Out views c t = (j : ℕ) × (d : View S E) × (get_elem? views j ≡ some d) × (d.stage ≡ Inside c t)
+  -- the value of the lock is with a pass that is inside
+  abbrev pub Out : List (View S E) → ℕ → Type 0
+  Out views c = (j : ℕ) × (d : View S E) × (get_elem? views j ≡ some d) × IsIn d c
 
   -- the pass alone may add to what this writer adds to
   abbrev pub Writes : Writer → View S E → Type 0
   Writes (Session m) v = Holds v m
-  Writes (Lock c) v = (t : ℕ) × (v.stage ≡ Inside c t)
+  Writes (Lock c) v = IsIn v c
 
 module _ {E : Type 0} where
   -- what the words and the histories say of a pass at this stage, which has seen these histories
   abbrev pub Stands : (ℕ → Writer) → ℕ → List ℕ → List (List E) → List (List E) → Stage → Type 0
   Stands writer n words lists seen Free = Unit {0}
-  Stands writer n words lists seen (Waiting c t) = (c < n) × (slice_index words (served_of c) ≤ t) × (t < slice_index words (line_of c))
-  Stands writer n words lists seen (Inside c t) = (c < n) × (slice_index words (served_of c) ≡ t) × (t < slice_index words (line_of c)) × Whole writer (Lock c) seen lists
+  Stands writer n words lists seen (Inside c) = (c < n) × (slice_index words (line_of c) ≡ 1) × Whole writer (Lock c) seen lists
 
 -- the value of the lock c is in its slot, and stands for the history
 abbrev pub AtHome : {S V E : Type 0} → S → (S → ℕ → V → List E → Type 0) → List (mathlib.Core.Option.Option (Held V E)) → ℕ → List E → Type 0
@@ -88,29 +73,25 @@ pub record Kept {S V E : Type 0} (start : S) (passes places : ℕ) (session : E 
   pub locks : (c : ℕ) → c < n → writer start c ≡ Lock c
   -- each pass knows the table's start
   pub starts : (j : ℕ) (d : View S E) (a : S) → get_elem? s.views j ≡ some d → d.start ≡ a ∷ [] → a ≡ start
-  -- no ticket is served before it is taken
-  pub order : (c : ℕ) → c < n → slice_index s.words (served_of c) ≤ slice_index s.words (line_of c)
-  -- each value is in its slot, or with the pass whose ticket is served
-  pub home : (c : ℕ) → c < n → AtHome start stands s.homes c (at lists c) ⊎ Out s.views c (slice_index s.words (served_of c))
+  -- each value is in its slot, where its lock's word is 0, or with the pass that is inside, where it is 1
+  pub home : (c : ℕ) → c < n → ((slice_index s.words (line_of c) ≡ 0) × AtHome start stands s.homes c (at lists c)) ⊎ ((slice_index s.words (line_of c) ≡ 1) × Out s.views c)
   -- each published word shows the number of its history
   pub posted : (w : ℕ) → w < p → slice_index s.words (line_of (n + w)) ≡ number start (n + w) (at lists (n + w))
-  -- each ticket is one that was taken and not yet served out, and no two passes have one
-  pub tickets : (j : ℕ) (d : View S E) → get_elem? s.views j ≡ some d → Stands (writer start) n s.words lists d.seen d.stage
-  pub apart : Unique s.views Has'
+  -- the word of a lock that a pass is inside is 1, and no two passes are inside one
+  pub stages : (j : ℕ) (d : View S E) → get_elem? s.views j ≡ some d → Stands (writer start) n s.words lists d.seen d.stage
+  pub apart : Unique s.views IsIn
   -- what each pass has seen begins the real histories, and has all that is its own
   pub knows : (j : ℕ) (d : View S E) → get_elem? s.views j ≡ some d → Grows d.seen lists × ((m : ℕ) → Holds d m → OwnSeen session (writer start) m d.seen lists)
   -- no two passes have one name
   pub alone : Unique s.views Holds
   -- what was merged goes on in what the joined pass has seen
   pub told : (j : ℕ) (d : View S E) → get_elem? s.views j ≡ some d → Told session (writer start) d.merged
-  -- names are below the number of passes, and who holds a ticket has its own
+  -- names are below the number of passes, and who is inside a lock has its own
   pub named : (j : ℕ) (d : View S E) (m : ℕ) → get_elem? s.views j ≡ some d → Holds d m → m < passes
-  pub owner : (j : ℕ) (d : View S E) (c t : ℕ) → get_elem? s.views j ≡ some d → Has d.stage c t → Holds d d.name
-  -- no ticket wraps: 65 times 2^57
-  pub budget : (c : ℕ) → c < n → slice_index s.words (line_of c) + sum_by weight s.views ≤ 9367487224930631680
+  pub owner : (j : ℕ) (d : View S E) (c : ℕ) → get_elem? s.views j ≡ some d → IsIn d c → Holds d d.name
   -- some pass has seen each history whole
   pub whole : (c : ℕ) → c < n + p → (j : ℕ) × (d : View S E) × (m : ℕ) × (get_elem? s.views j ≡ some d) × Holds d m × (at d.seen c ≡ at lists c)
 
 -- the first pass has seen all histories, has all names, adds under the last, and may give the others
 abbrev pub first_view : {S E : Type 0} → Opening S E → View S E
-first_view o = record { start = o.start ∷ []; name = o.passes - 1; holds = replicate o.passes true; gives = replicate (o.passes - 1) true; seen = o.lists; draws = 144115188075855872; stage = Free; looks = 0; found = 0; reads = 0; asked = 0; merged = [] }
+first_view o = record { start = o.start ∷ []; name = o.passes - 1; holds = replicate o.passes true; gives = replicate (o.passes - 1) true; seen = o.lists; stage = Free; looks = 0; found = 0; reads = 0; asked = 0; merged = [] }

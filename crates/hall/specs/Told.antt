@@ -1,10 +1,10 @@
 -- What each step tells its pass, and the view after it.
-use Rattle.std.specs.Prelude.{◌≡◌, ◌≢◌, ℕ, ◌+◌, ◌-◌, ◌<◌, ltb, Bool, true, false, ◌||◌, if◌then◌else◌, List, [], ◌∷◌, ◌++◌, ◌⊎◌, length, replicate, Some, slice_set}
+use Rattle.std.specs.Prelude.{◌≡◌, ℕ, ◌+◌, ltb, Bool, true, false, ◌||◌, if◌then◌else◌, List, [], ◌∷◌, ◌++◌, ◌⊎◌, length, replicate, Some, slice_set}
 use mathlib.Core.Option.{some}
 use Rattle.atomic_table.specs.Table.{Me, Step}
 use Rattle.hall.specs.declared.writer.Writer.{Writer}
 use Rattle.hall.specs.declared.writer.Writer.TheVariants.{Lock}
-use Rattle.hall.specs.declared.view.Stage.TheVariants.{Free, Waiting, Inside}
+use Rattle.hall.specs.declared.view.Stage.TheVariants.{Free, Inside}
 use Rattle.hall.specs.declared.view.View.{View}
 use Rattle.hall.specs.declared.view.Merged.{Merged}
 use Rattle.hall.specs.declared.view.Held.{Held}
@@ -31,17 +31,13 @@ either_of (x ∷ xs) [] = x ∷ xs
 either_of (x ∷ xs) (y ∷ ys) = (x || y) ∷ either_of xs ys
 
 module _ {S E : Type 0} where
-  -- the ticket t of the lock c was taken
-  abbrev pub drawn : ℕ → ℕ → View S E → View S E
-  drawn c t v = record v { draws = v.draws - 1; stage = Waiting c t }
+  -- a look found the lock taken
+  abbrev pub missed : View S E → View S E
+  missed v = record v { looks = v.looks + 1; found = 1 }
 
-  -- a poll read the number r, which is not the ticket
-  abbrev pub missed : ℕ → View S E → View S E
-  missed r v = record v { looks = v.looks + 1; found = r }
-
-  -- a poll read the ticket t, and the histories were then ls
-  abbrev pub entered : ℕ → ℕ → List (List E) → View S E → View S E
-  entered c t ls v = record v { seen = ls; stage = Inside c t; looks = v.looks + 1; found = t }
+  -- a look found the lock c free, and the histories were then ls
+  abbrev pub entered : ℕ → List (List E) → View S E → View S E
+  entered c ls v = record v { seen = ls; stage = Inside c; looks = v.looks + 1; found = 0 }
 
   -- the history at a place has one entry more
   abbrev pub added : ℕ → E → View S E → List (List E)
@@ -69,7 +65,7 @@ module _ {S E : Type 0} where
 
   -- the new pass, which has the name that was asked for
   abbrev pub given : View S E → View S E
-  given v = record { start = v.start; name = v.asked; holds = slice_set (replicate (length v.holds) false) v.asked true; gives = []; seen = v.seen; draws = 144115188075855872; stage = Free; looks = 0; found = 0; reads = 0; asked = 0; merged = [] }
+  given v = record { start = v.start; name = v.asked; holds = slice_set (replicate (length v.holds) false) v.asked true; gives = []; seen = v.seen; stage = Free; looks = 0; found = 0; reads = 0; asked = 0; merged = [] }
 
   -- the pass v took in w
   abbrev pub joined : View S E → View S E → View S E
@@ -81,7 +77,7 @@ module _ {S E : Type 0} where
 
   -- a pass that was taken in
   abbrev pub spent : View S E
-  spent = record { start = []; name = 0; holds = []; gives = []; seen = []; draws = 0; stage = Free; looks = 0; found = 0; reads = 0; asked = 0; merged = [] }
+  spent = record { start = []; name = 0; holds = []; gives = []; seen = []; stage = Free; looks = 0; found = 0; reads = 0; asked = 0; merged = [] }
 
   -- The histories at one moment, as a pass learns them: the relation holds of them, and each begins with what the pass had seen of it. Where only this pass may write, it had seen all: there are no other entries of its names, and nothing new in its sessions' words, in the lock that it is inside, and in the words that this lock guards
   pub record Moment (session : E → ℕ) (writer : S → ℕ → Writer) (kept : S → List (List E) → Type 0) (start : S) (v : View S E) (lists : List (List E)) : Type 0 where
@@ -89,36 +85,32 @@ module _ {S E : Type 0} where
     pub long : length lists ≡ length v.seen
     pub grows : Grows v.seen lists
     pub own_seen : (m : ℕ) → Holds v m → OwnSeen session (writer start) m v.seen lists
-    pub locked : (c t : ℕ) → v.stage ≡ Inside c t → Whole (writer start) (Lock c) v.seen lists
+    pub locked : (c : ℕ) → v.stage ≡ Inside c → Whole (writer start) (Lock c) v.seen lists
 
 -- a seat of the table, as its steps see it
 abbrev Sat : Type 0 → Type 0 → Type 0 → Type 0
 Sat S V E = Me (Held V E) (View S E)
 
 module _ {S V E : Type 0} where
-  -- a ticket of the lock whose line the word begins is held
-  abbrev pub drew : Step (Held V E) → Sat S V E → ℕ → Sat S V E → Type 0
-  drew st m r m' = (r + 1 < 18446744073709551616) × ((c : ℕ) → st.word ≡ line_of c → m'.0 ≡ drawn c r m.0) × (m'.1 ≡ m.1)
-
   -- all histories were seen whole, and the slot is with the pass
-  pub record Got (session : E → ℕ) (writer : S → ℕ → Writer) (stands : S → ℕ → V → List E → Type 0) (kept : S → List (List E) → Type 0) (start : S) (c t : ℕ) (m m' : Sat S V E) : Type 0 where
+  pub record Got (session : E → ℕ) (writer : S → ℕ → Writer) (stands : S → ℕ → V → List E → Type 0) (kept : S → List (List E) → Type 0) (start : S) (c : ℕ) (m m' : Sat S V E) : Type 0 where
     pub lists : List (List E)
     pub value : V
     pub held : Held V E
     pub moment : Moment session writer kept start m.0 lists
     pub stood : stands start c value (at lists c)
     pub filled : held.value ≡ Some value
-    pub view_is : m'.0 ≡ entered c t lists m.0
+    pub view_is : m'.0 ≡ entered c lists m.0
     pub slots_are : m'.1 ≡ (c, held) ∷ m.1
 
-  -- a poll found the ticket served, or another number
+  -- a look found the lock free and took it, or found it taken
   abbrev pub looked : (E → ℕ) → (S → ℕ → Writer) → (S → ℕ → V → List E → Type 0) → (S → List (List E) → Type 0) → Step (Held V E) → Sat S V E → ℕ → Sat S V E → Type 0
-  looked session writer stands kept st m r m' = (c t : ℕ) (start : S) → m.0.stage ≡ Waiting c t → m.0.start ≡ start ∷ []
-      → ((r ≡ t) × Got session writer stands kept start c t m m') ⊎ ((r ≢ t) × (m'.0 ≡ missed r m.0) × (m'.1 ≡ m.1))
+  looked session writer stands kept st m r m' = (c : ℕ) (start : S) → st.word ≡ line_of c → m.0.start ≡ start ∷ []
+      → ((r ≡ 0) × Got session writer stands kept start c m m') ⊎ ((r ≡ 1) × (m'.0 ≡ missed m.0) × (m'.1 ≡ m.1))
 
   -- the entry of the slot's note was added
   abbrev pub went : Step (Held V E) → Sat S V E → ℕ → Sat S V E → Type 0
-  went st m r m' = (c t : ℕ) (h : Held V E) (e : Note E) → m.0.stage ≡ Inside c t → m.1 ≡ (c, h) ∷ [] → h.note ≡ Some e → (m'.0 ≡ left c e.value m.0) × (m'.1 ≡ [])
+  went st m r m' = (c : ℕ) (h : Held V E) (e : Note E) → m.0.stage ≡ Inside c → m.1 ≡ (c, h) ∷ [] → h.note ≡ Some e → (m'.0 ≡ left c e.value m.0) × (m'.1 ≡ [])
 
   -- the name was asked for
   abbrev pub asks : Step (Held V E) → Sat S V E → ℕ → Sat S V E → Type 0

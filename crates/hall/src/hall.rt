@@ -1,15 +1,15 @@
-//! Values behind ticket locks, over any law.
+//! Values behind locks, over any law.
 ghost use Rattle.std.specs.Prelude.{◌≡◌, ◌+◌, ◌^◌, ◌<◌, ◌≤◌, length, vec_len, vec_capacity};
 ghost use Rattle.hall.specs.Layout.{line_of};
 
+use crate::hall_rule::HallRule;
 use crate::law::Law;
 use crate::note::Note;
-use crate::order::Order;
 use crate::view::{Held, Opening, View};
 use atomic_table::Table;
 use std::alloc::Global;
 
-/// A lock table: values behind ticket locks, and published words, over a law.
+/// A lock table: values behind locks, and published words, over a law.
 ///
 /// A table may be shared by threads where its values may be sent. Each thread goes through it with
 /// a pass of its own.
@@ -18,7 +18,7 @@ pub struct Hall<L: Law> {
         Held<L::Value, L::Entry>,
         View<L::Start, L::Entry>,
         Note<Opening<L::Start, L::Entry>>,
-        Order<L>,
+        HallRule<L>,
         Global,
     >,
     pub(crate) cells: usize,

@@ -1,27 +1,27 @@
-//! Values behind ticket locks, each standing for the history of its lock.
+//! Values behind locks, each standing for the history of its lock.
 #![tactic(auto)]
 
-mod carry;
-mod doors;
+mod enter_and_leave;
 mod hall;
+mod hall_rule;
 mod law;
 mod layout;
+mod make_and_close;
 mod memory;
 mod note;
-mod order;
+mod parts;
 mod pass;
-mod plays;
-mod seats;
-mod steps;
+mod published;
+mod split_and_join;
+mod step_kinds;
 mod view;
-mod words;
 mod writer;
 
 pub use hall::Hall;
+pub use hall_rule::HallRule;
 pub use law::Law;
 pub use memory::Memory;
 pub use note::Note;
-pub use order::Order;
 pub use pass::{Pass, Token};
 pub use view::{Held, Merged, Opening, Stage, View};
 pub use writer::Writer;

@@ -6,15 +6,14 @@ use crate::law::Law;
 use crate::view::{Held, View};
 use atomic_table::Seat;
 
-/// A lock permit. It carries what its thread knows of the table, in contracts alone, and the ticket that
-/// it holds. It names no law, so that a type that holds one needs none.
+/// A lock permit. It carries what its thread knows of the table, in contracts alone, and the number of
+/// the lock that it looked at last. It names no law, so that a type that holds one needs none.
 #[derive(Drop)]
 pub struct Token<V, E, S> {
     pub(crate) seat: Seat<Held<V, E>, View<S, E>>,
     pub(crate) cell: usize,
-    pub(crate) ticket: u64,
     pub(crate) gives: [bool; 64],
-    ghost fits: { Fits seat.table_id.slots seat.table_id.words cell ticket gives seat.me },
+    ghost fits: { Fits seat.table_id.slots seat.table_id.words cell gives seat.me },
 }
 
 /// The permit of a table over the law `L`.

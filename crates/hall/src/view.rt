@@ -5,14 +5,12 @@ use crate::layout::LINE;
 use crate::note::Note;
 use std::collections::LinkedList;
 
-/// Where a pass stands. `Waiting` and `Inside` name a lock and a ticket of it.
+/// Where a pass stands. It is inside one lock at the most.
 pub enum Stage {
-    /// The pass holds no ticket.
+    /// The pass is inside no lock.
     Free,
-    /// The pass holds a ticket that it has not found served.
-    Waiting(u64, u64),
-    /// The pass has the lock's value.
-    Inside(u64, u64),
+    /// The pass has the value of this lock.
+    Inside(u64),
 }
 
 /// What a pass knows. No value of it is made: contracts alone see it.
@@ -27,12 +25,10 @@ pub struct View<S, E> {
     pub gives: LinkedList<bool>,
     /// The observed histories: of each place the beginning that was seen.
     pub seen: LinkedList<LinkedList<E>>,
-    /// How many tickets it may still take.
-    pub draws: u64,
     pub stage: Stage,
-    /// How often it polled.
+    /// How often it looked at a lock.
     pub looks: u64,
-    /// The number that its last poll read.
+    /// What its last look found: 0 a free lock, 1 a taken one.
     pub found: u64,
     /// How often it loaded a published word.
     pub reads: u64,

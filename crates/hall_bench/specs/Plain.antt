@@ -1,5 +1,5 @@
 -- A law that asks for nothing, and a pass that goes through many critical sections.
-use Rattle.std.specs.Prelude.{◌≡◌, ℕ, ◌+◌, ◌<◌, ◌++◌, List, [], ◌∷◌, length, slice_set, replicate}
+use Rattle.std.specs.Prelude.{◌≡◌, ℕ, ◌<◌, ◌++◌, List, [], ◌∷◌, length, slice_set, replicate}
 use Rattle.hall.specs.declared.writer.Writer.{Writer}
 use Rattle.hall.specs.declared.writer.Writer.TheVariants.{Lock}
 use Rattle.hall.specs.declared.view.Opening.{Opening}
@@ -24,12 +24,11 @@ Anything ls = Unit {0}
 pub keeps : (start : Unit {0}) (ls seen : List (List Turn)) (q : ℕ) (e : Turn) → Anything ls → Knows by writes (by e) seen ls → q < length ls → Whole writes (writes q) seen ls → Unit {0} → Anything (slice_set ls q (at ls q ++ e ∷ []))
 keeps start ls seen q e k n lt w m = tt
 
--- empty histories, and five names
-abbrev pub opening : ℕ → Opening (Unit {0}) Turn
-opening locks = record { start = tt; lists = replicate locks []; passes = 5 }
+-- empty histories, and so many names
+abbrev pub opening : ℕ → ℕ → Opening (Unit {0}) Turn
+opening locks passes = record { start = tt; lists = replicate locks []; passes = passes }
 
--- the pass took this many tickets, and is free again
-pub record Took (turns : ℕ) (v w : View (Unit {0}) Turn) : Type 0 where
+-- the pass went through critical sections, and is free again
+pub record Took (v w : View (Unit {0}) Turn) : Type 0 where
   pub stage : w.stage ≡ Free
   pub holds : w.holds ≡ v.holds
-  pub draws : w.draws + turns ≡ v.draws

@@ -1,4 +1,4 @@
-//! Critical sections of a lock table, in one, two and four threads, beside the same under `Mutex`.
+//! Critical sections of a lock table, in one to 64 threads, beside the same under `Mutex`.
 //!
 //! Without an argument it prints what the locks counted, which is the same in every run. With a
 //! number each thread takes that many turns, and it prints how many there were in a second.
@@ -9,7 +9,7 @@ mod turns;
 use anyhow::{Context, Result};
 use std::env;
 use std::time::Instant;
-use turns::{Plan, by_four, by_mutexes, by_one, by_two};
+use turns::{Plan, by_mutexes, by_passes};
 
 // How many turns each thread takes where no number is given.
 const TURNS: u32 = 1000;
@@ -55,14 +55,15 @@ fn main(rt: HostRuntime) -> Result<()> {
         ),
     ];
     for (name, plan) in plans {
-        for threads in [1u32, 2, 4] {
-            let start = Instant::now(&rt)?;
-            let table = match threads {
-                1 => by_one(&rt, rt.alloc(), plan, turns),
-                2 => by_two(&rt, rt.alloc(), plan, turns),
-                _ => by_four(&rt, rt.alloc(), plan, turns),
+        for threads in [1u32, 2, 4, 8, 16, 64] {
+            // More threads than processors wait for one lock, and else say little.
+            if threads > 4 && plan.locks > 1 {
+                continue;
             }
-            .context("no memory for a table")?;
+            let start = Instant::now(&rt)?;
+            let table = by_passes(&rt, rt.alloc(), threads, plan, turns).context(
+                "no memory for a table",
+            )?;
             let time = start.elapsed(&rt)?.as_micros();
             let start = Instant::now(&rt)?;
             let mutex = by_mutexes(&rt, rt.alloc(), threads, plan, turns).context(

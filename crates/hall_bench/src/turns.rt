@@ -1,15 +1,17 @@
 //! Passes that go through critical sections, turn after turn, and the same with `Mutex`.
-ghost use Rattle.std.specs.Prelude.{◌≡◌, ◌^◌, ◌<◌, ◌≤◌, IfSome, length};
-ghost use Rattle.std.specs.Thread.{IsSync};
+ghost use Rattle.std.specs.Prelude.{◌≡◌, ◌+◌, ◌^◌, ◌<◌, ◌≤◌, [], IfSome, length, vec_capacity};
+ghost use Rattle.std.specs.List.{All};
 ghost use Rattle.hall.specs.declared.view.Stage.TheVariants.{Free};
 ghost use Rattle.hall.specs.Rule.{first_view};
 ghost use Rattle.hall.specs.Calls.{view, IsOf, passes_of};
 ghost use Rattle.hall_bench.specs.Plain.{Took, opening};
+ghost use Rattle.hall_bench.specs.Crew.{AllNames, IsFree, SameNames, pass_of};
 
 use hall::{Hall, Law, Note, Pass, Writer};
 use std::alloc::Global;
 use std::sync::{Mutex, Wait};
-use std::thread::{Threads, join};
+use std::thread;
+use std::thread::Threads;
 
 /// What a critical section adds to its lock's history.
 pub struct Turn {
@@ -18,6 +20,13 @@ pub struct Turn {
 
 /// A law that asks for nothing.
 pub struct Plain;
+
+/// A thread's pass.
+#[derive(Drop)]
+pub struct Member {
+    pub number: u32,
+    pub pass: Pass<Plain>,
+}
 
 /// Which locks the threads go through: thread k begins at the lock `k * spread`, and goes on by `step`.
 #[derive(Clone, Copy)]
@@ -63,28 +72,18 @@ impl Law for Plain {
 }
 
 // Enters and leaves the locks by the plan.
-fn take_turns<R: Wait>(
-    rt: &R,
-    hall: &Hall<Plain>,
-    mut pass: Pass<Plain>,
-    thread: u32,
-    plan: Plan,
-    turns: u32,
-) -> Pass<Plain>
-    requires own { IsOf hall.now pass }
-    requires free { (view pass).stage ≡ Free }
+fn take_turns<R: Wait>(rt: &R, hall: &Hall<Plain>, member: &mut Member, plan: Plan, turns: u32)
+    requires own { IsOf hall.now member.old.pass }
+    requires free { (view member.old.pass).stage ≡ Free }
     requires locks { (0 < plan.locks) × (plan.locks ≤ hall.now.cells) }
-    requires draws { turns ≤ (view pass).draws }
-    ensures own { IsOf hall.now result }
-    ensures took { Took turns (view pass) (view result) }
+    ensures own { IsOf hall.now member.new.pass }
+    ensures took { Took (view member.old.pass) (view member.new.pass) }
 {
     for i in 0..turns {
-        hall.draw(&mut pass, plan.lock(thread, i));
-        let value = hall.enter(rt, &mut pass);
-        let entry = Note::by(&pass);
-        hall.leave(&mut pass, value.wrapping_add(1), entry);
+        let value = hall.enter(rt, &mut member.pass, plan.lock(member.number, i));
+        let entry = Note::by(&member.pass);
+        hall.leave(&mut member.pass, value.wrapping_add(1), entry);
     }
-    pass
 }
 
 // The same through mutexes.
@@ -98,13 +97,14 @@ fn lock_turns<R: Wait>(rt: &R, locks: &[Mutex<u64>], thread: u32, plan: Plan, tu
 }
 
 // A table with that many locks, each with the value 0, and its first pass.
-fn table(alloc: Global, locks: u32) -> Option<(Hall<Plain>, Pass<Plain>)>
-    ensures own { IfSome result (λ r. IsOf r.0 r.1 × (view r.1 ≡ first_view (opening locks)) × (passes_of r.0 ≡ 5)) }
+fn table(alloc: Global, locks: u32, passes: u32) -> Option<(Hall<Plain>, Pass<Plain>)>
+    requires { (0 < passes) × (passes ≤ 65) }
+    ensures own { IfSome result (λ r. IsOf r.0 r.1 × (view r.1 ≡ first_view (opening locks passes)) × (passes_of r.0 ≡ passes)) }
     ensures locks { IfSome result (λ r. r.0.cells ≡ locks) }
 {
     let values = Vec::from_elem(alloc, 0u64, locks as usize).ok()?;
-    let from = Note::by(&values);
-    Hall::<Plain>::new(alloc, values, Vec::new(alloc), 5, from).ok()
+    let from = Note::by(&(locks, passes));
+    Hall::<Plain>::new(alloc, values, Vec::new(alloc), passes, from).ok()
 }
 
 // What all locks counted.
@@ -116,111 +116,85 @@ fn counted(values: &[u64]) -> u64 {
     all
 }
 
-/// One pass takes its turns. Returns what the locks counted.
-pub fn by_one<R: Wait>(rt: &R, alloc: Global, plan: Plan, turns: u32) -> Option<u64>
-    requires { 0 < plan.locks }
+// A member of each name below the number.
+fn gather(hall: &Hall<Plain>, host: &mut Pass<Plain>, members: &mut Vec<Member>, count: u32)
+    requires own { IsOf hall.now host.old }
+    requires free { (view host.old).stage ≡ Free }
+    requires none { members.old.items ≡ [] }
+    requires room { count ≤ vec_capacity members.old }
+    requires names { AllNames pass_of (passes_of hall.now) (view host.old) members.old.items }
+    ensures own { IsOf hall.now host.new }
+    ensures free { (view host.new).stage ≡ Free }
+    ensures names { AllNames pass_of (passes_of hall.now) (view host.new) members.new.items }
+    ensures each { All (IsFree hall.now) members.new.items }
 {
-    let (hall, mut first) = table(alloc, plan.locks)?;
-    let Some(a) = hall.split(&mut first, 0) else {
-        unreachable!()
-    };
-    let a = take_turns(rt, &hall, a, 0, plan, turns);
-    hall.join(&mut first, a);
-    Some(counted(hall.close_with(first).as_slice()))
+    for number in 0..count {
+        if let Some(pass) = hall.split(host, number) {
+            members.push_reserved(Member { number, pass });
+        }
+    }
 }
 
-/// Two threads take their turns. Returns what the locks counted.
-pub fn by_two<R: Threads + Wait + Sync>(
-    rt: &R,
-    alloc: Global,
-    plan: Plan,
-    turns: u32,
-) -> Option<u64>
-    requires { 0 < plan.locks }
-{
-    let (hall, mut first) = table(alloc, plan.locks)?;
-    let Some(a) = hall.split(&mut first, 0) else {
-        unreachable!()
-    };
-    let Some(b) = hall.split(&mut first, 1) else {
-        unreachable!()
-    };
-    let (a, b) = both_take_turns(rt, &hall, a, b, 0, plan, turns);
-    hall.join(&mut first, a);
-    hall.join(&mut first, b);
-    Some(counted(hall.close_with(first).as_slice()))
-}
-
-/// Four threads take their turns. Returns what the locks counted.
-pub fn by_four<R: Threads + Wait + Sync>(
-    rt: &R,
-    alloc: Global,
-    plan: Plan,
-    turns: u32,
-) -> Option<u64>
-    requires { 0 < plan.locks }
-{
-    let (hall, mut first) = table(alloc, plan.locks)?;
-    let Some(a) = hall.split(&mut first, 0) else {
-        unreachable!()
-    };
-    let Some(b) = hall.split(&mut first, 1) else {
-        unreachable!()
-    };
-    let Some(c) = hall.split(&mut first, 2) else {
-        unreachable!()
-    };
-    let Some(d) = hall.split(&mut first, 3) else {
-        unreachable!()
-    };
-    let ((a, b), (c, d)) = join(
-        rt,
-        || -> (Pass<Plain>, Pass<Plain>)
-            requires { IsSync R.row × IsOf hall a × IsOf hall b × ((view a).stage ≡ Free) × ((view b).stage ≡ Free) × (0 < plan.locks) × (plan.locks ≤ hall.cells) × (turns ≤ (view a).draws) × (turns ≤ (view b).draws) }
-            ensures { IsOf hall result.0 × Took turns (view a) (view result.0) × IsOf hall result.1 × Took turns (view b) (view result.1) }
-        { both_take_turns(rt, &hall, a, b, 0, plan, turns) },
-        || -> (Pass<Plain>, Pass<Plain>)
-            requires { IsSync R.row × IsOf hall c × IsOf hall d × ((view c).stage ≡ Free) × ((view d).stage ≡ Free) × (0 < plan.locks) × (plan.locks ≤ hall.cells) × (turns ≤ (view c).draws) × (turns ≤ (view d).draws) }
-            ensures { IsOf hall result.0 × Took turns (view c) (view result.0) × IsOf hall result.1 × Took turns (view d) (view result.1) }
-        { both_take_turns(rt, &hall, c, d, 2, plan, turns) },
-    );
-    hall.join(&mut first, a);
-    hall.join(&mut first, b);
-    hall.join(&mut first, c);
-    hall.join(&mut first, d);
-    Some(counted(hall.close_with(first).as_slice()))
-}
-
-fn both_take_turns<R: Threads + Wait + Sync>(
+// Each member takes its turns, in that many threads.
+fn run_members<R: Threads + Wait + Sync>(
     rt: &R,
     hall: &Hall<Plain>,
-    a: Pass<Plain>,
-    b: Pass<Plain>,
-    thread: u32,
+    members: &mut [Member],
+    threads: u32,
     plan: Plan,
     turns: u32,
-) -> (Pass<Plain>, Pass<Plain>)
-    requires own { IsOf hall.now a × IsOf hall.now b }
-    requires free { ((view a).stage ≡ Free) × ((view b).stage ≡ Free) }
+)
     requires locks { (0 < plan.locks) × (plan.locks ≤ hall.now.cells) }
-    requires draws { (turns ≤ (view a).draws) × (turns ≤ (view b).draws) }
-    requires thread { thread < 4 }
-    ensures { IsOf hall.now result.0 × Took turns (view a) (view result.0) × IsOf hall.now result.1 × Took turns (view b) (view result.1) }
+    requires threads { 0 < threads }
+    requires each { All (IsFree hall.now) members.old }
+    ensures each { All (IsFree hall.now) members.new }
+    ensures names { SameNames pass_of members.old members.new }
+    ensures len { length members.new ≡ length members.old }
 {
-    join(
+    thread::for_each_mut(
         rt,
-        || -> Pass<Plain>
-            requires { IsOf hall.now a × ((view a).stage ≡ Free) × (0 < plan.locks) × (plan.locks ≤ hall.now.cells) × (turns ≤ (view a).draws) }
-            ensures { IsOf hall.entry.now result × Took turns (view a) (view result) }
-        { take_turns(rt, hall, a, thread, plan, turns) },
-        || -> Pass<Plain>
-            requires { (thread < 4) × IsOf hall.now b × ((view b).stage ≡ Free) × (0 < plan.locks) × (plan.locks ≤ hall.now.cells) × (turns ≤ (view b).draws) }
-            ensures { IsOf hall.entry.now result × Took turns (view b) (view result) }
-        { take_turns(rt, hall, b, thread + 1, plan, turns) },
-    )
+        members,
+        threads as usize,
+        &|_, member| take_turns(rt, hall, member, plan, turns),
+    );
 }
 
-/// What one, two or four threads count under that many mutexes.
+// All members are taken in.
+fn dismiss(hall: &Hall<Plain>, host: &mut Pass<Plain>, members: &mut Vec<Member>)
+    requires own { IsOf hall.now host.old }
+    requires free { (view host.old).stage ≡ Free }
+    requires each { All (IsFree hall.now) members.old.items }
+    requires names { AllNames pass_of (passes_of hall.now) (view host.old) members.old.items }
+    ensures own { IsOf hall.now host.new }
+    ensures free { (view host.new).stage ≡ Free }
+    ensures names { AllNames pass_of (passes_of hall.now) (view host.new) members.new.items }
+    ensures none { members.new.items ≡ [] }
+{
+    while members.len() > 0 {
+        let Member { number: _, pass } = members.remove(0);
+        hall.join(host, pass);
+    }
+}
+
+/// That many threads, 64 at the most, take their turns. Returns what the locks counted.
+pub fn by_passes<R: Threads + Wait + Sync>(
+    rt: &R,
+    alloc: Global,
+    threads: u32,
+    plan: Plan,
+    turns: u32,
+) -> Option<u64>
+    requires { (0 < plan.locks) × (0 < threads) × (threads ≤ 64) }
+{
+    let mut members = Vec::with_capacity(alloc, threads as usize).ok()?;
+    let (hall, mut host) = table(alloc, plan.locks, threads + 1)?;
+    gather(&hall, &mut host, &mut members, threads);
+    run_members(rt, &hall, members.as_mut_slice(), threads, plan, turns);
+    dismiss(&hall, &mut host, &mut members);
+    Some(counted(hall.close_with(host).as_slice()))
+}
+
+/// The same under mutexes.
 pub fn by_mutexes<R: Threads + Wait + Sync>(
     rt: &R,
     alloc: Global,
@@ -228,51 +202,26 @@ pub fn by_mutexes<R: Threads + Wait + Sync>(
     plan: Plan,
     turns: u32,
 ) -> Option<u64>
-    requires { 0 < plan.locks }
+    requires { (0 < plan.locks) × (0 < threads) }
 {
     let mut mutexes = Vec::with_capacity(alloc, plan.locks as usize).ok()?;
     for _ in 0..plan.locks {
         mutexes.push_reserved(Mutex::new(0u64));
     }
-    let all = mutexes.as_slice();
-    match threads {
-        1 => lock_turns(rt, all, 0, plan, turns),
-        2 => both_lock_turns(rt, all, 0, plan, turns),
-        _ => {
-            join(
-                rt,
-                || -> ()
-                    requires { IsSync R.row × (0 < plan.locks) × (plan.locks ≤ length all.now) }
-                { both_lock_turns(rt, all, 0, plan, turns) },
-                || -> ()
-                    requires { IsSync R.row × (0 < plan.locks) × (plan.locks ≤ length all.now) }
-                { both_lock_turns(rt, all, 2, plan, turns) },
-            );
-        }
+    let mut numbers = Vec::with_capacity(alloc, threads as usize).ok()?;
+    for number in 0..threads {
+        numbers.push_reserved(number);
     }
+    let all = mutexes.as_slice();
+    thread::for_each_mut(
+        rt,
+        numbers.as_mut_slice(),
+        threads as usize,
+        &|_, number| lock_turns(rt, all, *number, plan, turns),
+    );
     let mut counted = 0u64;
     for mutex in all {
         counted = counted.wrapping_add(*mutex.lock(rt));
     }
     Some(counted)
-}
-
-fn both_lock_turns<R: Threads + Wait + Sync>(
-    rt: &R,
-    locks: &[Mutex<u64>],
-    thread: u32,
-    plan: Plan,
-    turns: u32,
-)
-    requires { (0 < plan.locks) × (plan.locks ≤ length locks.now) × (thread < 4) }
-{
-    join(
-        rt,
-        || -> ()
-            requires { (0 < plan.locks) × (plan.locks ≤ length locks.now) }
-        { lock_turns(rt, locks, thread, plan, turns) },
-        || -> ()
-            requires { (0 < plan.locks) × (plan.locks ≤ length locks.now) × (thread < 4) }
-        { lock_turns(rt, locks, thread + 1, plan, turns) },
-    );
 }

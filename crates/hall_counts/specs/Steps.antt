@@ -12,14 +12,12 @@ pub record Went (v w : View (Unit {0}) Entry) : Type 0 where
   pub stage : w.stage ≡ Free
   pub name : w.name ≡ v.name
   pub holds : w.holds ≡ v.holds
-  pub draws : w.draws + 1 ≡ v.draws
 
 -- the pass has learned of entries, and is else the same
 pub record Still (v w : View (Unit {0}) Entry) : Type 0 where
   pub stage : w.stage ≡ v.stage
   pub name : w.name ≡ v.name
   pub holds : w.holds ≡ v.holds
-  pub draws : w.draws ≡ v.draws
 
 -- Counter 0 came to n: the pass found it behind these entries and added one of its own, of one, or of none where the counter was at its greatest
 pub record Added (v w : View (Unit {0}) Entry) (n : ℕ) : Type 0 where

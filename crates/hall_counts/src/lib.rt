@@ -56,27 +56,25 @@ pub fn add<R: Wait>(rt: &R, hall: &Hall<Tally>, pass: &mut Pass<Tally>) -> u64
     requires own { IsOf hall.now pass.old }
     requires free { (view pass.old).stage ≡ Free }
     requires sizes { (hall.now.cells ≡ 2) × (hall.now.posts ≡ 2) }
-    requires draws { 0 < (view pass.old).draws }
     ensures own { IsOf hall.now pass.new × IsSame pass.old pass.new }
     ensures went { Went (view pass.old) (view pass.new) }
     ensures added { Added (view pass.old) (view pass.new) result }
 {
-    hall.draw(pass, 0);
-    let value = hall.enter(rt, pass);
+    let value = hall.enter(rt, pass, 0);
     count(hall, pass, value)
 }
 
 // The critical section of counter 0, and its release.
 fn count(hall: &Hall<Tally>, pass: &mut Pass<Tally>, value: u64) -> u64
     requires own { IsOf hall.now pass.old }
-    requires inside { (view pass.old).stage ≡ Inside pass.old.cell pass.old.ticket }
+    requires inside { (view pass.old).stage ≡ Inside pass.old.cell }
     requires cell { pass.old.cell ≡ 0 }
     requires value { value ≡ total (at (view pass.old).seen 0) }
     requires sizes { (hall.now.cells ≡ 2) × (hall.now.posts ≡ 2) }
     ensures own { IsOf hall.now pass.new × IsSame pass.old pass.new }
     ensures free { (view pass.new).stage ≡ Free }
     ensures added { Added (view pass.old) (view pass.new) result }
-    ensures same { ((view pass.new).name ≡ (view pass.old).name) × ((view pass.new).holds ≡ (view pass.old).holds) × ((view pass.new).draws ≡ (view pass.old).draws) }
+    ensures same { ((view pass.new).name ≡ (view pass.old).name) × ((view pass.new).holds ≡ (view pass.old).holds) }
 {
     let said = Note::by(&(&*pass, value));
     hall.post(pass, 0, value, said);
@@ -92,13 +90,11 @@ pub fn catch_up<R: Wait>(rt: &R, hall: &Hall<Tally>, pass: &mut Pass<Tally>) -> 
     requires own { IsOf hall.now pass.old }
     requires free { (view pass.old).stage ≡ Free }
     requires sizes { (hall.now.cells ≡ 2) × (hall.now.posts ≡ 2) }
-    requires draws { 0 < (view pass.old).draws }
     ensures own { IsOf hall.now pass.new × IsSame pass.old pass.new }
     ensures went { Went (view pass.old) (view pass.new) }
     ensures caught_up { CaughtUp (view pass.old) (view pass.new) result }
 {
-    hall.draw(pass, 1);
-    let value = hall.enter(rt, pass);
+    let value = hall.enter(rt, pass, 1);
     let said = hall.read_post(pass, 0);
     let amount = said.saturating_sub(value);
     let entry = Note::by(&(&*pass, amount));
@@ -124,7 +120,6 @@ fn counted<R: Wait>(rt: &R, hall: &Hall<Tally>, pass: Pass<Tally>) -> Pass<Tally
     requires own { IsOf hall.now pass }
     requires free { (view pass).stage ≡ Free }
     requires sizes { (hall.now.cells ≡ 2) × (hall.now.posts ≡ 2) }
-    requires draws { 1 < (view pass).draws }
     ensures own { IsOf hall.now result }
     ensures stage { (view result).stage ≡ Free }
     ensures holds { (view result).holds ≡ (view pass).holds }
@@ -161,11 +156,11 @@ pub fn both<R: Threads + Wait + Sync>(rt: &R, alloc: Global) -> Option<Vec<u64>>
     let (a, b) = join(
         rt,
         || -> Pass<Tally>
-            requires { IsOf hall a × ((view a).stage ≡ Free) × (hall.cells ≡ 2) × (hall.posts ≡ 2) × (1 < (view a).draws) }
+            requires { IsOf hall a × ((view a).stage ≡ Free) × (hall.cells ≡ 2) × (hall.posts ≡ 2) }
             ensures { IsOf hall result × ((view result).stage ≡ Free) × ((view result).holds ≡ (view a).holds) }
         { counted(rt, &hall, a) },
         || -> Pass<Tally>
-            requires { IsOf hall b × ((view b).stage ≡ Free) × (hall.cells ≡ 2) × (hall.posts ≡ 2) × (1 < (view b).draws) }
+            requires { IsOf hall b × ((view b).stage ≡ Free) × (hall.cells ≡ 2) × (hall.posts ≡ 2) }
             ensures { IsOf hall result × ((view result).stage ≡ Free) × ((view result).holds ≡ (view b).holds) }
         { counted(rt, &hall, b) },
     );

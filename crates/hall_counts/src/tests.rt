@@ -13,7 +13,7 @@ fn each_thread_counts_one(rt: HostRuntime) {
 }
 
 #[test]
-fn second_ticket_waits_for_the_release(rt: HostRuntime) {
+fn second_look_waits_for_the_release(rt: HostRuntime) {
     let (hall, mut first) = counters(rt.alloc()).expect(&rt, "there is memory");
     let Some(mut a) = hall.split(&mut first, 0) else {
         unreachable!()
@@ -21,20 +21,22 @@ fn second_ticket_waits_for_the_release(rt: HostRuntime) {
     let Some(mut b) = hall.split(&mut first, 1) else {
         unreachable!()
     };
-    hall.draw(&mut a, 0);
-    hall.draw(&mut b, 0);
-    let None = hall.look(&mut b) else {
-        panic!(rt; "the second ticket was served first")
+    let Some(value) = hall.look(&mut a, 0) else {
+        panic!(rt; "a free lock was found taken")
     };
-    let Some(value) = hall.look(&mut a) else {
-        panic!(rt; "the first ticket was not served")
+    let None = hall.look(&mut b, 0) else {
+        panic!(rt; "both passes are inside")
     };
-    let None = hall.look(&mut b) else {
-        panic!(rt; "both tickets were served")
+    assert_eq!(rt; catch_up(&rt, &hall, &mut b), 0, "the other lock is free");
+    let None = hall.look(&mut b, 0) else {
+        panic!(rt; "both passes are inside")
     };
     assert_eq!(rt; count(&hall, &mut a, value), 1);
-    let Some(value) = hall.look(&mut b) else {
-        panic!(rt; "the second ticket was not served")
+    let Some(value) = hall.look(&mut b, 0) else {
+        panic!(rt; "the lock was released, and is found taken")
+    };
+    let None = hall.look(&mut a, 0) else {
+        panic!(rt; "both passes are inside")
     };
     assert_eq!(rt; count(&hall, &mut b, value), 2);
     hall.join(&mut first, a);

@@ -1,7 +1,7 @@
 -- What the checks of a number against its limits answer, and how limits move.
 use Rattle.std.specs.Prelude.{◌≡◌, ℕ, ◌<◌, ◌≤◌, ◌↔◌, Bool, IsTrue, Result, MatchResult}
-use Rattle.tx_model.specs.declared.reply.Refusal.{Refusal}
-use Rattle.tx_model.specs.Limits.{wrap_limit, stop_limit, warn_limit, multi_wrap_limit, multi_stop_limit, multi_warn_limit, member_stop}
+use Rattle.tx_events.specs.declared.refusal.Refusal.{Refusal}
+use Rattle.tx_events.specs.Limits.{wrap_limit, stop_limit, warn_limit, multi_wrap_limit, multi_stop_limit, multi_warn_limit, member_stop}
 
 -- refused exactly where the number isn't below the stop; else told whether it is at or past the warning
 abbrev pub IsCheck : ℕ → ℕ → ℕ → Refusal → Result Bool Refusal → Type 0

@@ -1,11 +1,11 @@
 ghost use Rattle.std.specs.Prelude.{◌≡◌, ℕ, ◌^◌, ◌<◌, ◌≤◌};
 ghost use Rattle.xid_order.specs.Ids.{low_half};
-ghost use Rattle.tx_model.specs.Limits.{wrap_limit, stop_limit, warn_limit};
-ghost use Rattle.tx_model.specs.declared.reply.Refusal.TheVariants as refusals;
+ghost use Rattle.tx_events.specs.Limits.{wrap_limit, stop_limit, warn_limit};
+ghost use Rattle.tx_events.specs.declared.refusal.Refusal.TheVariants as refusals;
 ghost use Rattle.horizon_limits.specs.Checks.{IsCheck};
 
 use crate::nearby::{HALF_ROUND, STOP_MARGIN, WARN_MARGIN, capped, down_to, up_to};
-use tx_model::Refusal;
+use tx_events::Refusal;
 use xid_order::FullXid;
 
 /// The limits on transaction ids under one oldest id.

@@ -1,5 +1,5 @@
 ghost use Rattle.std.specs.Prelude.{◌≡◌, ℕ, ◌^◌, ◌<◌};
-ghost use Rattle.tx_model.specs.Limits.{member_stop};
+ghost use Rattle.tx_events.specs.Limits.{member_stop};
 
 use crate::nearby::capped;
 

@@ -1,5 +1,5 @@
 use crate::{Limits, MultiLimits, member_stop};
-use tx_model::Refusal;
+use tx_events::Refusal;
 use xid_order::{FullMulti, FullXid};
 
 #[test]

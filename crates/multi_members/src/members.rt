@@ -16,7 +16,7 @@ use crate::modes::{number_of_mode, slot_of_numbers};
 use crate::pages::{MemberPages, id_place, member_page, mode_place};
 use disk_core::PageDisk;
 use slru_bank::{BankRefusal, SlruBank, put_number, read_number};
-use tx_model::Mode;
+use tx_events::Mode;
 use xid_order::Xid;
 
 /// Writes a member into its slot. After an `Err` the slot's mode may be changed, and nothing else.

@@ -3,7 +3,7 @@ ghost use Rattle.std.specs.Prelude.{◌≡◌, ◌≤◌};
 ghost use Rattle.multi_members.specs.Slots.{mode_number, mode_of, slot_of};
 
 use crate::Slot;
-use tx_model::Mode;
+use tx_events::Mode;
 use xid_order::Xid;
 
 pub(crate) fn number_of_mode(mode: Mode) -> u8

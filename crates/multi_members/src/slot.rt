@@ -1,4 +1,4 @@
-use tx_model::Mode;
+use tx_events::Mode;
 use xid_order::Xid;
 
 /// What a slot of a multixact's members holds.

@@ -3,7 +3,7 @@ use disk_core::MemPages;
 use slru_bank::SlruBank;
 use std::alloc::Global;
 use std::test::Fail;
-use tx_model::Mode;
+use tx_events::Mode;
 use xid_order::Xid;
 
 fn memory_bank(alloc: Global) -> Option<SlruBank<MemPages, MemberPages>> {

@@ -1,8 +1,8 @@
 -- Where a multixact may begin, by where it stands.
 use Rattle.std.proofs.Common.{◌≡◌, ℕ, ◌<◌, ◌≤◌, List, Some, arith}
-use Rattle.tx_model.specs.declared.multi.MultiEvent.{MultiEvent}
-use Rattle.tx_model.specs.declared.record.Counters.{Counters}
-use Rattle.tx_model.specs.Multis.{BeginsAt, InBase, free_offset, made_at, next_made, oldest_offset}
+use Rattle.tx_events.specs.declared.multi.MultiEvent.{MultiEvent}
+use Rattle.tx_events.specs.declared.record.Counters.{Counters}
+use Rattle.tx_events.specs.Multis.{BeginsAt, InBase, free_offset, made_at, next_made, oldest_offset}
 
 -- one of the base
 pub begins_old : (base : Counters) (h : List MultiEvent) (multi offset : ℕ) → multi < base.multi → base.multi ≤ next_made base.multi h → oldest_offset base.oldest_offset h ≤ offset → offset ≤ base.offset → BeginsAt base (InBase base) h multi offset

@@ -2,10 +2,10 @@
 use Rattle.std.proofs.Common.{◌≡◌, ℕ, suc, ◌+◌, ◌≤◌, List, [], ◌∷◌, ◌++◌, length, refl, sym, ap, ◌∙◌, inl, inr, ⊎_elim, arith, Bool, true, false, ◌&&◌, ◌==◌, cond, eqb-true}
 use Rattle.std.specs.List.{count_by}
 use Rattle.std.proofs.lemmas.List.Sums.{sum_by-cons, sum_by-append}
-use Rattle.tx_model.specs.Multis.{Pin, same_pin, without_pin}
-use Rattle.tx_model.proofs.ListSteps.{eqb-refl}
+use Rattle.tx_events.specs.Multis.{Pin, same_pin, without_pin}
+use Rattle.tx_events.proofs.ListSteps.{eqb-refl}
 use Rattle.std.proofs.lemmas.Bool.{and_parts}
-use Rattle.tx_model.proofs.Membership.{Has}
+use Rattle.tx_events.proofs.Membership.{Has}
 
 abbrev pub one_if : Bool → ℕ
 one_if b = cond b 1 0

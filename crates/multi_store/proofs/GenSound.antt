@@ -2,16 +2,16 @@
 use Rattle.std.proofs.Common.{◌≡◌, ℕ, suc, get_or, ◌+◌, ◌<◌, ◌≤◌, List, [], ◌∷◌, ◌++◌, length, Some, None, sym, ap, ◌∙◌, ⊎_elim, subst, arith}
 use Rattle.std.specs.List.{slice_get}
 use Rattle.xid_order.specs.Ids.{next_multi}
-use Rattle.tx_model.specs.declared.event.By.{By}
-use Rattle.tx_model.specs.declared.multi.Member.{Member}
-use Rattle.tx_model.specs.declared.multi.MultiEvent.{MultiEvent}
-use Rattle.tx_model.specs.declared.multi.MultiEvent.TheVariants as events
-use Rattle.tx_model.specs.declared.record.Counters.{Counters}
-use Rattle.tx_model.specs.Base.{IsBase}
-use Rattle.tx_model.specs.Limits.{multi_stop_limit, member_stop}
-use Rattle.tx_model.specs.Multis.{made, made_at, next_made, nth_multi, free_offset, first_member, oldest_multi, oldest_offset, IsNextMade}
-use Rattle.tx_model.proofs.ListSteps.{length_push, below_not, above_not}
-use Rattle.tx_model.proofs.PlaceLemmas.{slice_get-grows, last_at}
+use Rattle.tx_events.specs.declared.event.By.{By}
+use Rattle.tx_events.specs.declared.multi.Member.{Member}
+use Rattle.tx_events.specs.declared.multi.MultiEvent.{MultiEvent}
+use Rattle.tx_events.specs.declared.multi.MultiEvent.TheVariants as events
+use Rattle.tx_events.specs.declared.record.Counters.{Counters}
+use Rattle.tx_events.specs.Base.{IsBase}
+use Rattle.tx_events.specs.Limits.{multi_stop_limit, member_stop}
+use Rattle.tx_events.specs.Multis.{made, made_at, next_made, nth_multi, free_offset, first_member, oldest_multi, oldest_offset, IsNextMade}
+use Rattle.tx_events.proofs.ListSteps.{length_push, below_not, above_not}
+use Rattle.tx_events.proofs.PlaceLemmas.{slice_get-grows, last_at}
 use Rattle.std.proofs.lemmas.Option.{slice_get-get_or}
 use Rattle.multi_store.specs.State.{made_offsets}
 use Rattle.multi_store.proofs.Numbers.{next_above, next_to_stop, first_from, le_cases}

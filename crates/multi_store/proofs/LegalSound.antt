@@ -1,15 +1,15 @@
 -- Every legal history of multixacts is sound.
-use Rattle.tx_model.proofs.ListSteps.{le_or_over}
-use Rattle.tx_model.proofs.PlaceLemmas.{by_place, each_place_start, each_place_last}
+use Rattle.tx_events.proofs.ListSteps.{le_or_over}
+use Rattle.tx_events.proofs.PlaceLemmas.{by_place, each_place_start, each_place_last}
 use Rattle.std.proofs.Common.{◌≡◌, ℕ, ◌+◌, ◌<◌, ◌≤◌, List, [], ◌∷◌, ◌++◌, length, sym, ◌∙◌, ⊎_elim, subst, arith}
 use Rattle.std.specs.List.{slice_get}
 use Rattle.std.proofs.lemmas.Option.{slice_get_past}
 use Rattle.xid_order.specs.Ids.{next_multi}
-use Rattle.tx_model.specs.declared.multi.MultiEvent.{MultiEvent}
-use Rattle.tx_model.specs.declared.multi.MultiEvent.TheVariants as events
-use Rattle.tx_model.specs.declared.record.Counters.{Counters}
-use Rattle.tx_model.specs.Base.{IsBase}
-use Rattle.tx_model.specs.Multis.{made, made_at, next_made, nth_multi, free_offset, first_member, oldest_multi, oldest_offset, multi_counters, InBase, AreLegalMultis, MultiMayCome}
+use Rattle.tx_events.specs.declared.multi.MultiEvent.{MultiEvent}
+use Rattle.tx_events.specs.declared.multi.MultiEvent.TheVariants as events
+use Rattle.tx_events.specs.declared.record.Counters.{Counters}
+use Rattle.tx_events.specs.Base.{IsBase}
+use Rattle.tx_events.specs.Multis.{made, made_at, next_made, nth_multi, free_offset, first_member, oldest_multi, oldest_offset, multi_counters, InBase, AreLegalMultis, MultiMayCome}
 use Rattle.multi_store.specs.Generator.{CountersRise}
 use Rattle.multi_store.specs.State.{made_offsets}
 use Rattle.multi_store.proofs.Numbers.{next_above, first_from, nth_order}

@@ -3,13 +3,13 @@ use Rattle.std.proofs.Common.{◌≡◌, ℕ, ◌⊎◌, List, [], ◌∷◌, �
 use Rattle.std.proofs.lemmas.List.Elements.{filter_map-append}
 use Rattle.std.proofs.lemmas.List.Sums.{fold_push}
 use Rattle.xid_order.specs.Ids.{next_multi}
-use Rattle.tx_model.specs.declared.event.By.{By}
-use Rattle.tx_model.specs.declared.multi.Member.{Member}
-use Rattle.tx_model.specs.declared.multi.MultiEvent.{MultiEvent}
-use Rattle.tx_model.specs.Multis.{made, made_by, made_at, next_made, nth_multi, free_offset, free_after, oldest_multi, oldest_multi_after, oldest_offset, oldest_offset_after, pins, pins_after}
-use Rattle.tx_model.proofs.ListSteps.{length_push, eqb-refl}
+use Rattle.tx_events.specs.declared.event.By.{By}
+use Rattle.tx_events.specs.declared.multi.Member.{Member}
+use Rattle.tx_events.specs.declared.multi.MultiEvent.{MultiEvent}
+use Rattle.tx_events.specs.Multis.{made, made_by, made_at, next_made, nth_multi, free_offset, free_after, oldest_multi, oldest_multi_after, oldest_offset, oldest_offset_after, pins, pins_after}
+use Rattle.tx_events.proofs.ListSteps.{length_push, eqb-refl}
 use Rattle.multi_store.specs.State.{offset_by, made_offsets}
-use Rattle.tx_model.specs.declared.multi.MultiEvent.TheVariants as events
+use Rattle.tx_events.specs.declared.multi.MultiEvent.TheVariants as events
 
 -- the event gives no multixact
 abbrev pub IsQuiet : MultiEvent → Type 0

@@ -1,17 +1,17 @@
 -- A history in which the oldest multixact is raised.
-use Rattle.tx_model.proofs.ListSteps.{le_or_over}
+use Rattle.tx_events.proofs.ListSteps.{le_or_over}
 use Rattle.std.proofs.Common.{◌≡◌, ℕ, ◌<◌, ◌≤◌, List, [], ◌∷◌, ◌++◌, Some, None, map, sym, ⊎_elim, subst, arith}
-use Rattle.tx_model.specs.declared.event.By.{By}
-use Rattle.tx_model.specs.declared.multi.MultiEvent.{MultiEvent}
-use Rattle.tx_model.specs.declared.record.Counters.{Counters}
-use Rattle.tx_model.specs.Base.{IsBase}
-use Rattle.tx_model.specs.Limits.{multi_stop_limit, member_stop}
-use Rattle.tx_model.specs.Multis.{made_at, next_made, free_offset, oldest_multi, oldest_offset, pin_limit, pins, Pin, InBase, BeginsAt, IsRaised}
-use Rattle.tx_model.proofs.Extremes.{fold_min_start}
+use Rattle.tx_events.specs.declared.event.By.{By}
+use Rattle.tx_events.specs.declared.multi.MultiEvent.{MultiEvent}
+use Rattle.tx_events.specs.declared.record.Counters.{Counters}
+use Rattle.tx_events.specs.Base.{IsBase}
+use Rattle.tx_events.specs.Limits.{multi_stop_limit, member_stop}
+use Rattle.tx_events.specs.Multis.{made_at, next_made, free_offset, oldest_multi, oldest_offset, pin_limit, pins, Pin, InBase, BeginsAt, IsRaised}
+use Rattle.tx_events.proofs.Extremes.{fold_min_start}
 use Rattle.multi_store.proofs.Numbers.{stop_rises, member_stop_rises, le_cases}
 use Rattle.multi_store.proofs.MadeSteps.{next_quiet, free_push, oldest_push, oldest_offset_push}
 use Rattle.multi_store.proofs.Soundness.{IsSound, with_counters, base_same, sound_quiet}
-use Rattle.tx_model.specs.declared.multi.MultiEvent.TheVariants as events
+use Rattle.tx_events.specs.declared.multi.MultiEvent.TheVariants as events
 
 -- the limit isn't past the next multixact
 pub limit_to : (first : ℕ) (h : List MultiEvent) → pin_limit first h ≤ next_made first h

@@ -1,10 +1,10 @@
 -- What every legal history of multixacts keeps.
 use Rattle.std.proofs.Common.{◌≡◌, ℕ, ◌<◌, ◌≤◌, List, [], ◌∷◌, ◌++◌, length, Some, None, refl, sym, ap, ◌∙◌, subst, arith}
 use Rattle.std.specs.List.{slice_get}
-use Rattle.tx_model.specs.declared.multi.MultiEvent.{MultiEvent}
-use Rattle.tx_model.specs.declared.record.Counters.{Counters}
-use Rattle.tx_model.specs.Base.{IsBase}
-use Rattle.tx_model.specs.Multis.{made, made_at, next_made, nth_multi, free_offset, oldest_multi, oldest_offset, multi_counters}
+use Rattle.tx_events.specs.declared.multi.MultiEvent.{MultiEvent}
+use Rattle.tx_events.specs.declared.record.Counters.{Counters}
+use Rattle.tx_events.specs.Base.{IsBase}
+use Rattle.tx_events.specs.Multis.{made, made_at, next_made, nth_multi, free_offset, oldest_multi, oldest_offset, multi_counters}
 use Rattle.multi_store.specs.State.{made_offsets}
 use Rattle.multi_store.proofs.MadeSteps.{IsQuiet, made_quiet, offsets_quiet, next_quiet, made_at_quiet}
 

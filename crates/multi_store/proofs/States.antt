@@ -2,17 +2,17 @@
 use Rattle.std.proofs.Common.{◌≡◌, ℕ, suc, ◌+◌, ◌-◌, ◌<◌, ◌≤◌, List, [], ◌∷◌, ◌++◌, length, Contains, refl, sym, ap, ◌∙◌, subst, arith}
 use Rattle.std.specs.BTreeMap.{BTreeMap}
 use Rattle.xid_order.specs.Ids.{next_multi}
-use Rattle.tx_model.specs.declared.event.By.{By}
-use Rattle.tx_model.specs.declared.multi.Member.{Member}
-use Rattle.tx_model.specs.declared.multi.MultiEvent.{MultiEvent}
-use Rattle.tx_model.specs.declared.multi.MultiEvent.TheVariants as events
-use Rattle.tx_model.specs.declared.record.Counters.{Counters}
-use Rattle.tx_model.specs.Base.{IsBase}
-use Rattle.tx_model.specs.Limits.{multi_stop_limit, member_stop}
-use Rattle.tx_model.specs.Multis.{AreLegalMultis, AreMembers, BeginsAt, InBase, MultiMayCome, Pin, first_member, multi_counters, pin_limit, pins, without_pin}
-use Rattle.tx_model.proofs.ListSteps.{length_push}
-use Rattle.tx_model.proofs.Membership.{contains_has}
-use Rattle.tx_model.proofs.PlaceLemmas.{each_place_push, each_place_none}
+use Rattle.tx_events.specs.declared.event.By.{By}
+use Rattle.tx_events.specs.declared.multi.Member.{Member}
+use Rattle.tx_events.specs.declared.multi.MultiEvent.{MultiEvent}
+use Rattle.tx_events.specs.declared.multi.MultiEvent.TheVariants as events
+use Rattle.tx_events.specs.declared.record.Counters.{Counters}
+use Rattle.tx_events.specs.Base.{IsBase}
+use Rattle.tx_events.specs.Limits.{multi_stop_limit, member_stop}
+use Rattle.tx_events.specs.Multis.{AreLegalMultis, AreMembers, BeginsAt, InBase, MultiMayCome, Pin, first_member, multi_counters, pin_limit, pins, without_pin}
+use Rattle.tx_events.proofs.ListSteps.{length_push}
+use Rattle.tx_events.proofs.Membership.{contains_has}
+use Rattle.tx_events.proofs.PlaceLemmas.{each_place_push, each_place_none}
 use Rattle.multi_store.specs.declared.pins.PinKey.{PinKey}
 use Rattle.multi_store.specs.Pins.{IsTally}
 use Rattle.multi_store.specs.State.{IsState, made_offsets}

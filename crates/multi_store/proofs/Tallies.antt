@@ -1,5 +1,5 @@
 -- The counts of pins in a map.
-use Rattle.tx_model.proofs.ListSteps.{le_or_over}
+use Rattle.tx_events.proofs.ListSteps.{le_or_over}
 use Rattle.std.proofs.Common.{◌≡◌, ℕ, zero, suc, ◌+◌, ◌-◌, ◌<◌, ◌≤◌, List, [], ◌∷◌, ◌++◌, length, Contains, Option, Some, None, IsSome, is_some, refl, sym, ap, ◌∙◌, ⊎_elim, subst, arith, Bool, true, false, ◌&&◌, ◌==◌, cond, map, min, unwrap_or, Less, Equal, Greater}
 use Rattle.std.specs.Prelude.{nat_lt}
 use Rattle.std.specs.BTreeMap.{BTreeMap, btree_map_len, get, is_at}
@@ -9,9 +9,9 @@ use Rattle.std.specs.List.{fold}
 use Rattle.std.specs.Ordering.{nat_cmp, ordering_then, is_eq, is_gt}
 use Rattle.std.specs.declared.cmp.Ordering.{Ordering}
 use Rattle.std.proofs.lemmas.Bool.Decides.{nat_tests}
-use Rattle.tx_model.specs.Multis.{Pin, same_pin, without_pin}
-use Rattle.tx_model.proofs.Extremes.{fold_min_start, fold_min_has, fold_min_above}
-use Rattle.tx_model.proofs.Membership.{Has, contains_has, has_contains, map_has, has_map}
+use Rattle.tx_events.specs.Multis.{Pin, same_pin, without_pin}
+use Rattle.tx_events.proofs.Extremes.{fold_min_start, fold_min_has, fold_min_above}
+use Rattle.tx_events.proofs.Membership.{Has, contains_has, has_contains, map_has, has_map}
 use Rattle.multi_store.specs.declared.pins.PinKey.{PinKey}
 use Rattle.multi_store.specs.Pins.{IsTally, pin_of, pin_cmp, some_of}
 use Rattle.multi_store.proofs.Counts.{count, one_if, same_refl, same_equal, count_push, has_count, count_has, count_without, none_counts}

@@ -1,10 +1,10 @@
 -- What the test of members answers.
 use Rattle.std.specs.Prelude.{◌≡◌, ◌<◌, ◌≤◌, ◌⊎◌, List, length, Result, MatchResult}
 use Rattle.std.specs.List.{count_by}
-use Rattle.tx_model.specs.declared.multi.Member.{Member}
-use Rattle.tx_model.specs.declared.reply.Refusal.{Refusal}
-use Rattle.tx_model.specs.declared.reply.Refusal.TheVariants as refusals
-use Rattle.tx_model.specs.Multis.{AreMembers, is_updater}
+use Rattle.tx_events.specs.declared.multi.Member.{Member}
+use Rattle.tx_events.specs.declared.refusal.Refusal.{Refusal}
+use Rattle.tx_events.specs.declared.refusal.Refusal.TheVariants as refusals
+use Rattle.tx_events.specs.Multis.{AreMembers, is_updater}
 
 -- there are too few or too many, or else two updaters
 abbrev pub AreNoMembers : List Member → Refusal → Type 0

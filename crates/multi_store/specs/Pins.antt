@@ -4,7 +4,7 @@ use Rattle.std.specs.List.{count_by}
 use Rattle.std.specs.BTreeMap.{BTreeMap, get}
 use Rattle.std.specs.Ordering.{nat_cmp, ordering_then}
 use Rattle.std.specs.declared.cmp.Ordering.{Ordering}
-use Rattle.tx_model.specs.Multis.{Pin, same_pin}
+use Rattle.tx_events.specs.Multis.{Pin, same_pin}
 use Rattle.multi_store.specs.declared.pins.PinKey.{PinKey}
 
 abbrev pub pin_of : PinKey → Pin

@@ -2,11 +2,11 @@
 use Rattle.std.specs.Prelude.{◌≡◌, ℕ, List, length, Option, Some, None}
 use Rattle.std.specs.List.{filter_map}
 use Rattle.std.specs.BTreeMap.{BTreeMap}
-use Rattle.tx_model.specs.declared.multi.MultiEvent.{MultiEvent}
-use Rattle.tx_model.specs.declared.multi.MultiEvent.TheVariants as events
-use Rattle.tx_model.specs.declared.record.Counters.{Counters}
-use Rattle.tx_model.specs.Base.{IsBase}
-use Rattle.tx_model.specs.Multis.{AreLegalMultis, InBase, multi_counters, pins}
+use Rattle.tx_events.specs.declared.multi.MultiEvent.{MultiEvent}
+use Rattle.tx_events.specs.declared.multi.MultiEvent.TheVariants as events
+use Rattle.tx_events.specs.declared.record.Counters.{Counters}
+use Rattle.tx_events.specs.Base.{IsBase}
+use Rattle.tx_events.specs.Multis.{AreLegalMultis, InBase, multi_counters, pins}
 use Rattle.multi_store.specs.declared.pins.PinKey.{PinKey}
 use Rattle.multi_store.specs.Pins.{IsTally}
 

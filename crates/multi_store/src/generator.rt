@@ -1,7 +1,7 @@
 ghost use Rattle.std.specs.Prelude.{◌≡◌, ℕ, ◌+◌, ◌^◌, ◌<◌, ◌≤◌, ◌↔◌, IsTrue, [], Contains};
-ghost use Rattle.tx_model.specs.declared.multi.MultiEvent.TheVariants as events;
-ghost use Rattle.tx_model.specs.Base.{IsBase};
-ghost use Rattle.tx_model.specs.Multis.{AreLegalMultis, AreMembers, InBase, made_at, pins};
+ghost use Rattle.tx_events.specs.declared.multi.MultiEvent.TheVariants as events;
+ghost use Rattle.tx_events.specs.Base.{IsBase};
+ghost use Rattle.tx_events.specs.Multis.{AreLegalMultis, AreMembers, InBase, made_at, pins};
 ghost use Rattle.multi_store.specs.Generator.{Generator, Adds, Gives, Means, Holds, Raises, Begins, BeginsWhereRaised, counters_of};
 
 use crate::answers::{Held, MultiGiven};
@@ -11,7 +11,7 @@ use horizon_limits::{MultiLimits, member_stop};
 use std::alloc::Global;
 use std::collections::BTreeMap;
 use std::marker::Model;
-use tx_model::{
+use tx_events::{
     By, Copied, Counters, MemberList, Memory, MultiEvent, Refusal, make_one_room, make_room,
 };
 use xid_order::{FullMulti, MultiId, near_multi};

@@ -1,8 +1,8 @@
 ghost use Rattle.std.specs.Prelude.{List, [], ◌∷◌, ◌++◌};
-ghost use Rattle.tx_model.specs.declared.multi.MultiEvent.{MultiEvent};
-ghost use Rattle.tx_model.specs.declared.record.Counters.{Counters};
-ghost use Rattle.tx_model.specs.Base.{IsBase};
-ghost use Rattle.tx_model.specs.Multis.{AreLegalMultis, InBase, multi_counters};
+ghost use Rattle.tx_events.specs.declared.multi.MultiEvent.{MultiEvent};
+ghost use Rattle.tx_events.specs.declared.record.Counters.{Counters};
+ghost use Rattle.tx_events.specs.Base.{IsBase};
+ghost use Rattle.tx_events.specs.Multis.{AreLegalMultis, InBase, multi_counters};
 ghost use Rattle.multi_store.specs.Generator.{CountersRise};
 
 /// The counters that a legal history of multixacts gives are a base again.

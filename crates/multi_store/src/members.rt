@@ -1,9 +1,9 @@
 ghost use Rattle.std.specs.Prelude.{◌≡◌};
 ghost use Rattle.std.specs.List.{count_by};
-ghost use Rattle.tx_model.specs.Multis.{is_updater};
+ghost use Rattle.tx_events.specs.Multis.{is_updater};
 ghost use Rattle.multi_store.specs.Members.{ChecksMembers};
 
-use tx_model::{Member, MemberList, Mode, Refusal};
+use tx_events::{Member, MemberList, Mode, Refusal};
 
 /// The most members that a multixact has.
 const MOST_MEMBERS: usize = 64;

@@ -1,7 +1,7 @@
 ghost use Rattle.std.specs.Prelude.{◌≡◌, ℕ, ◌+◌, ◌^◌, ◌<◌, ◌↔◌, IsTrue, List, [], ◌∷◌, ◌++◌, Contains, IfSome, map, min, true, false};
 ghost use Rattle.std.specs.List.{fold};
 ghost use Rattle.std.specs.BTreeMap.{get};
-ghost use Rattle.tx_model.specs.Multis.{Pin, without_pin};
+ghost use Rattle.tx_events.specs.Multis.{Pin, without_pin};
 ghost use Rattle.multi_store.specs.Pins.{IsTally, pin_of, pin_cmp};
 
 use std::collections::BTreeMap;

@@ -1,5 +1,5 @@
 ghost use Rattle.std.specs.Prelude.{◌≡◌, ◌^◌, ◌<◌, ◌≤◌};
-ghost use Rattle.tx_model.specs.Multis.{nth_multi, first_member};
+ghost use Rattle.tx_events.specs.Multis.{nth_multi, first_member};
 
 use xid_order::FullMulti;
 

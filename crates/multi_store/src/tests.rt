@@ -3,7 +3,7 @@ mod driver;
 use crate::{Held, MultiGiven, check_members};
 use driver::{Driver, Start, members};
 use std::process::Abort;
-use tx_model::{Mode, Refusal};
+use tx_events::{Mode, Refusal};
 use xid_order::FullMulti;
 
 fn multi<R: Abort>(rt: &R, number: u64) -> FullMulti {

@@ -2,16 +2,16 @@
 use Rattle.std.proofs.Common.{◌≡◌, ℕ, Contains, List, [], ◌∷◌, ◌++◌, Some, None, map, refl, ap, sym, subst, ◌∙◌, inl, inr, ⊎_elim, Bool, true, false, ◌==◌, cond, reverse, eq-eqb}
 use Rattle.std.proofs.lemmas.Bool.{eqb-true}
 use Rattle.std.specs.List.{find, slice_get}
-use Rattle.tx_model.specs.declared.event.Event.{Event}
-use Rattle.tx_model.specs.declared.record.Counters.{Counters}
-use Rattle.tx_model.specs.Events.{given}
-use Rattle.tx_model.specs.Families.{lineage, top}
-use Rattle.tx_model.specs.History.{IsLegal}
-use Rattle.tx_model.proofs.Closing.{line_step}
-use Rattle.tx_model.proofs.GivenIds.{legal_front, legal_last}
-use Rattle.tx_model.proofs.Membership.{Has, by_end, contains_has, has_contains}
-use Rattle.tx_model.proofs.Trees.{IsNewSub, IsNewTop, IsOld, family, given_cases}
-use Rattle.tx_model.proofs.Lineages.{line_head, top_line}
+use Rattle.tx_events.specs.declared.event.Event.{Event}
+use Rattle.tx_events.specs.declared.record.Counters.{Counters}
+use Rattle.tx_events.specs.Events.{given}
+use Rattle.tx_events.specs.Families.{lineage, top}
+use Rattle.tx_events.specs.History.{IsLegal}
+use Rattle.tx_events.proofs.Closing.{line_step}
+use Rattle.tx_events.proofs.GivenIds.{legal_front, legal_last}
+use Rattle.tx_events.proofs.Membership.{Has, by_end, contains_has, has_contains}
+use Rattle.tx_events.proofs.Trees.{IsNewSub, IsNewTop, IsOld, family, given_cases}
+use Rattle.tx_events.proofs.Lineages.{line_head, top_line}
 use Rattle.plain_states.specs.declared.id_states.IdState.{IdState}
 use Rattle.plain_states.specs.States.{AreStates, parent_of, state_in}
 

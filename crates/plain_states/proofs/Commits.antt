@@ -1,29 +1,29 @@
 -- What one more event does to what is kept of an id.
-use Rattle.tx_model.proofs.IdListSteps.{true_has, has_true}
-use Rattle.tx_model.proofs.ListSteps.{same_tests}
-use Rattle.tx_model.proofs.OpenGrowth.{undone_kept}
+use Rattle.tx_events.proofs.IdListSteps.{true_has, has_true}
+use Rattle.tx_events.proofs.ListSteps.{same_tests}
+use Rattle.tx_events.proofs.OpenGrowth.{undone_kept}
 use Rattle.std.proofs.Common.{◌≡◌, ℕ, List, [], ◌∷◌, ◌++◌, refl, ap, sym, subst, ◌∙◌, ⊎_elim, Bool, true, false, not, ◌&&◌, ◌||◌, ◌==◌, eq-eqb, append-nil, append_assoc, take, drop}
 use Rattle.std.proofs.Math.Bool.{or-false}
 use Rattle.std.proofs.lemmas.Bool.{eqb-true, cases_Bool, false_from_ne_true, and_parts, not-true}
 use Rattle.std.proofs.lemmas.List.Folds.{list_any-append}
 use Rattle.std.proofs.lemmas.List.{take-append-drop}
 use Rattle.std.specs.List.{list_any}
-use Rattle.tx_model.specs.declared.event.By.{By}
-use Rattle.tx_model.specs.declared.event.Event.{Event}
-use Rattle.tx_model.specs.declared.record.Counters.{Counters}
-use Rattle.tx_model.specs.Events.{given, given_to, is_commit_of, is_end_of, is_undo_of}
-use Rattle.tx_model.specs.Families.{lineage, top}
-use Rattle.tx_model.specs.History.{IsLegal, MayCome}
-use Rattle.tx_model.specs.IdLists.{has}
-use Rattle.tx_model.specs.Running.{is_ended, is_open, is_undone, open_ids}
-use Rattle.tx_model.proofs.Closing.{commit_ends, is_open_by, later, one_top, open_is, closed_not_undone}
-use Rattle.tx_model.proofs.GivenIds.{family_session, fresh, given_to_some, legal_front, legal_last, one_session}
-use Rattle.tx_model.proofs.Lineages.{lineage_push, enclosing_in, top_in, top_line}
-use Rattle.tx_model.proofs.Membership.{Has, by_end, contains_has, filter_has, has_filter, place_has}
-use Rattle.tx_model.proofs.Trees.{family}
-use Rattle.tx_model.proofs.Visibility.{commit_found}
+use Rattle.tx_events.specs.declared.event.By.{By}
+use Rattle.tx_events.specs.declared.event.Event.{Event}
+use Rattle.tx_events.specs.declared.record.Counters.{Counters}
+use Rattle.tx_events.specs.Events.{given, given_to, is_commit_of, is_end_of, is_undo_of}
+use Rattle.tx_events.specs.Families.{lineage, top}
+use Rattle.tx_events.specs.History.{IsLegal, MayCome}
+use Rattle.tx_events.specs.IdLists.{has}
+use Rattle.tx_events.specs.Running.{is_ended, is_open, is_undone, open_ids}
+use Rattle.tx_events.proofs.Closing.{commit_ends, is_open_by, later, one_top, open_is, closed_not_undone}
+use Rattle.tx_events.proofs.GivenIds.{family_session, fresh, given_to_some, legal_front, legal_last, one_session}
+use Rattle.tx_events.proofs.Lineages.{lineage_push, enclosing_in, top_in, top_line}
+use Rattle.tx_events.proofs.Membership.{Has, by_end, contains_has, filter_has, has_filter, place_has}
+use Rattle.tx_events.proofs.Trees.{family}
+use Rattle.tx_events.proofs.Visibility.{commit_found}
 use Rattle.plain_states.specs.States.{is_committed}
-use Rattle.tx_model.specs.declared.event.Event.TheVariants as events
+use Rattle.tx_events.specs.declared.event.Event.TheVariants as events
 
 commits_push : (h : List Event) (e : Event) (x : ℕ) → lineage (h ++ e ∷ []) x ≡ lineage h x → list_any (is_commit_of (top (h ++ e ∷ []) x)) (h ++ e ∷ []) ≡ (list_any (is_commit_of (top h x)) h || is_commit_of (top h x) e)
 commits_push h e x same =

@@ -10,8 +10,8 @@ use Rattle.std.specs.Prelude.{IfSome, MatchResult}
 use Rattle.std.proofs.lemmas.Bool.{eqb-true, cases_lt}
 use Rattle.std.proofs.lemmas.List.Elements.{All-push, All-from_recursion, recursion_from_All}
 use Rattle.std.proofs.lemmas.List.Folds.{list_any-append}
-use Rattle.tx_model.specs.IdLists.{has, Ascending}
-use Rattle.tx_model.proofs.IdListSteps.{ascending_push}
+use Rattle.tx_events.specs.IdLists.{has, Ascending}
+use Rattle.tx_events.proofs.IdListSteps.{ascending_push}
 use Rattle.std.proofs.Math.Bool.{or-true, or-false}
 use Rattle.plain_states.specs.declared.id_states.IdState.{IdState}
 use Rattle.plain_states.specs.States.{AreKept, InOrder, IsMissing, IsPlaceOf, ids_of, with_commit}

@@ -1,29 +1,29 @@
 -- The states as they are now and a snapshot decide what was visible when it was taken.
-use Rattle.tx_model.proofs.IdListSteps.{true_has, has_true}
+use Rattle.tx_events.proofs.IdListSteps.{true_has, has_true}
 use Rattle.std.proofs.Common.{◌≡◌, ℕ, ◌<◌, ◌≤◌, ◌^◌, ◌%◌, List, [], take, Some, None, refl, ap, sym, subst, ◌∙◌, ⊎_elim, ◌⊎◌, arith, Bool, true, false, not, ◌==◌}
 use Rattle.std.proofs.lemmas.Bool.{cases_Bool, false_from_ne_true, and_parts}
 use Rattle.std.specs.List.{find, list_any}
 use Rattle.xid_order.specs.Ids.{IsFullId}
-use Rattle.tx_model.specs.declared.event.Event.{Event}
-use Rattle.tx_model.specs.declared.record.Counters.{Counters}
-use Rattle.tx_model.specs.Events.{given, is_commit_of, is_end_of}
-use Rattle.tx_model.specs.Families.{is_top, lineage, top}
-use Rattle.tx_model.specs.History.{IsLegal}
-use Rattle.tx_model.specs.IdLists.{has}
-use Rattle.tx_model.specs.Running.{is_open, is_undone, running, running_tops}
-use Rattle.tx_model.specs.Snapshots.{snapshot_xmax, snapshot_xmin}
-use Rattle.tx_model.specs.Visible.{is_visible}
-use Rattle.tx_model.proofs.Closing.{is_open_by, later_take, open_is}
-use Rattle.tx_model.proofs.Extremes.{fold_min_has}
-use Rattle.tx_model.proofs.Membership.{Has, contains_has, filter_has, has_contains, has_filter}
-use Rattle.tx_model.proofs.Lineages.{top_in, top_line}
-use Rattle.tx_model.proofs.SnapshotBounds.{below_given, given_from, past_open, open_top, top_is_top, top_runs}
-use Rattle.tx_model.proofs.GivenIds.{legal_take}
-use Rattle.tx_model.proofs.Trees.{Family, family}
-use Rattle.tx_model.proofs.Visibility.{lives, never_given, open_hidden, visible_new}
+use Rattle.tx_events.specs.declared.event.Event.{Event}
+use Rattle.tx_events.specs.declared.record.Counters.{Counters}
+use Rattle.tx_events.specs.Events.{given, is_commit_of, is_end_of}
+use Rattle.tx_events.specs.Families.{is_top, lineage, top}
+use Rattle.tx_events.specs.History.{IsLegal}
+use Rattle.tx_events.specs.IdLists.{has}
+use Rattle.tx_events.specs.Running.{is_open, is_undone, running, running_tops}
+use Rattle.tx_events.specs.Snapshots.{snapshot_xmax, snapshot_xmin}
+use Rattle.tx_events.specs.Visible.{is_visible}
+use Rattle.tx_events.proofs.Closing.{is_open_by, later_take, open_is}
+use Rattle.tx_events.proofs.Extremes.{fold_min_has}
+use Rattle.tx_events.proofs.Membership.{Has, contains_has, filter_has, has_contains, has_filter}
+use Rattle.tx_events.proofs.Lineages.{top_in, top_line}
+use Rattle.tx_events.proofs.SnapshotBounds.{below_given, given_from, past_open, open_top, top_is_top, top_runs}
+use Rattle.tx_events.proofs.GivenIds.{legal_take}
+use Rattle.tx_events.proofs.Trees.{Family, family}
+use Rattle.tx_events.proofs.Visibility.{lives, never_given, open_hidden, visible_new}
 use Rattle.snap_core.specs.Says.{IsSaidOfTop, SaysRight, SaysTopRight}
 use Rattle.snap_core.specs.declared.snapshot.Says.{Says}
-use Rattle.tx_model.specs.declared.reply.SnapData.{SnapData}
+use Rattle.tx_events.specs.declared.snapshot.SnapData.{SnapData}
 use Rattle.plain_states.specs.declared.id_states.IdState.{IdState}
 use Rattle.plain_states.specs.States.{AreStates}
 use Rattle.plain_states.specs.Verdicts.{ClosedRight, IsTopmost, SeesRight}

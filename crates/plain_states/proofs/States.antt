@@ -2,26 +2,26 @@
 use Rattle.std.proofs.Common.{◌≡◌, ℕ, ◌<◌, List, [], ◌∷◌, ◌++◌, Some, None, map, refl, ap, sym, subst, ◌∙◌, inl, inr, true, false, append-nil, reverse}
 use Rattle.std.specs.List.{All, AllByRecursion, cons_option, slice_get}
 use Rattle.std.proofs.lemmas.List.Elements.{All-from_recursion}
-use Rattle.tx_model.specs.declared.event.By.{By}
-use Rattle.tx_model.specs.declared.event.Event.{Event}
-use Rattle.tx_model.specs.declared.record.Counters.{Counters}
-use Rattle.tx_model.specs.Events.{given, given_by, given_to, is_commit_of}
-use Rattle.tx_model.specs.Families.{lineage}
-use Rattle.tx_model.specs.History.{IsLegal, MayCome, next_given}
-use Rattle.tx_model.specs.IdLists.{Ascending}
-use Rattle.tx_model.specs.Running.{is_open, open_ids}
-use Rattle.tx_model.proofs.GivenIds.{fresh, given_below, lineage_fresh}
-use Rattle.tx_model.proofs.Soundness.{legal_sound}
-use Rattle.tx_model.proofs.GivenGrowth.{given_push}
-use Rattle.tx_model.proofs.Lineages.{family_kept, lineage_push, lineage_sub, line_head}
+use Rattle.tx_events.specs.declared.event.By.{By}
+use Rattle.tx_events.specs.declared.event.Event.{Event}
+use Rattle.tx_events.specs.declared.record.Counters.{Counters}
+use Rattle.tx_events.specs.Events.{given, given_by, given_to, is_commit_of}
+use Rattle.tx_events.specs.Families.{lineage}
+use Rattle.tx_events.specs.History.{IsLegal, MayCome, next_given}
+use Rattle.tx_events.specs.IdLists.{Ascending}
+use Rattle.tx_events.specs.Running.{is_open, open_ids}
+use Rattle.tx_events.proofs.GivenIds.{fresh, given_below, lineage_fresh}
+use Rattle.tx_events.proofs.Soundness.{legal_sound}
+use Rattle.tx_events.proofs.GivenGrowth.{given_push}
+use Rattle.tx_events.proofs.Lineages.{family_kept, lineage_push, lineage_sub, line_head}
 use Rattle.std.proofs.lemmas.List.{map_push}
-use Rattle.tx_model.proofs.Membership.{Has, contains_has, has_filter}
-use Rattle.tx_model.proofs.OpenGrowth.{fresh_open, open_sub, open_kept}
-use Rattle.tx_model.proofs.Visibility.{open_hidden}
+use Rattle.tx_events.proofs.Membership.{Has, contains_has, has_filter}
+use Rattle.tx_events.proofs.OpenGrowth.{fresh_open, open_sub, open_kept}
+use Rattle.tx_events.proofs.Visibility.{open_hidden}
 use Rattle.plain_states.specs.declared.id_states.IdState.{IdState}
 use Rattle.plain_states.specs.States.{AreStates, InOrder, ids_of, is_committed, parent_of, state_in, with_commit}
 use Rattle.plain_states.proofs.Commits.{committed_now, committed_still}
-use Rattle.tx_model.specs.declared.event.Event.TheVariants as events
+use Rattle.tx_events.specs.declared.event.Event.TheVariants as events
 
 map_agree : (f g : ℕ → IdState) (xs : List ℕ) → ((x : ℕ) → Has xs x → f x ≡ g x) → map f xs ≡ map g xs
 map_agree f g [] h = refl

@@ -1,11 +1,11 @@
 -- What is kept of the ids of a life: their parents, and which of them committed.
 use Rattle.std.specs.Prelude.{◌≡◌, ℕ, ◌<◌, ◌&&◌, ◌||◌, not, Bool, List, Option, IfSome, length, map}
 use Rattle.std.specs.List.{All, HoldsAt, list_any, slice_get}
-use Rattle.tx_model.specs.declared.event.Event.{Event}
-use Rattle.tx_model.specs.Events.{given, is_commit_of}
-use Rattle.tx_model.specs.Families.{lineage, top}
-use Rattle.tx_model.specs.IdLists.{has, Ascending}
-use Rattle.tx_model.specs.Running.{is_undone}
+use Rattle.tx_events.specs.declared.event.Event.{Event}
+use Rattle.tx_events.specs.Events.{given, is_commit_of}
+use Rattle.tx_events.specs.Families.{lineage, top}
+use Rattle.tx_events.specs.IdLists.{has, Ascending}
+use Rattle.tx_events.specs.Running.{is_undone}
 use Rattle.plain_states.specs.declared.id_states.IdState.{IdState}
 
 -- what a caller sees of the states: the list of them, and how many more fit without memory

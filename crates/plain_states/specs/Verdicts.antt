@@ -1,15 +1,15 @@
 -- What a snapshot sees, by the states as they are now.
 use Rattle.std.specs.Prelude.{◌≡◌, ℕ, ◌<◌, ◌≤◌, ◌⊎◌, not, false, Bool, List, [], Contains, length, take}
 use Rattle.xid_order.specs.Ids.{IsFullId}
-use Rattle.tx_model.specs.declared.event.Event.{Event}
-use Rattle.tx_model.specs.declared.record.Counters.{Counters}
-use Rattle.tx_model.specs.declared.reply.SnapData.{SnapData}
-use Rattle.tx_model.specs.Events.{given}
-use Rattle.tx_model.specs.Families.{lineage, top}
-use Rattle.tx_model.specs.History.{IsLegal}
-use Rattle.tx_model.specs.Running.{is_open, is_undone}
-use Rattle.tx_model.specs.Snapshots.{snapshot_data, snapshot_xmax}
-use Rattle.tx_model.specs.Visible.{is_visible}
+use Rattle.tx_events.specs.declared.event.Event.{Event}
+use Rattle.tx_events.specs.declared.record.Counters.{Counters}
+use Rattle.tx_events.specs.declared.snapshot.SnapData.{SnapData}
+use Rattle.tx_events.specs.Events.{given}
+use Rattle.tx_events.specs.Families.{lineage, top}
+use Rattle.tx_events.specs.History.{IsLegal}
+use Rattle.tx_events.specs.Running.{is_open, is_undone}
+use Rattle.tx_events.specs.Snapshots.{snapshot_data, snapshot_xmax}
+use Rattle.tx_events.specs.Visible.{is_visible}
 use Rattle.plain_states.specs.declared.id_states.IdState.{IdState}
 use Rattle.plain_states.specs.States.{AreStates}
 

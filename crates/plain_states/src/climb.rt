@@ -1,21 +1,49 @@
 ghost use Rattle.std.specs.Prelude.{◌≡◌, ◌==◌, ◌<◌, [], ◌∷◌, map, IfSome, IfNone};
 ghost use Rattle.std.specs.List.{find};
-ghost use Rattle.snap_core.specs.Says.{data_of};
 ghost use Rattle.plain_states.specs.States.{AreKept, InOrder, IsPlaceOf, IsMissing, with_commit};
 ghost use Rattle.plain_states.specs.Verdicts.{SeesRight, ClosedRight, IsTopmost};
 ghost use Rattle.plain_states.specs.declared.id_states.IdState.{IdState};
 
 use crate::id_states::IdState;
-use snap_core::{Says, Snapshot};
+use snap_core::{Says, said_of, said_of_top};
+use tx_events::SnapData;
 use xid_order::FullXid;
 
-/// Where the id is kept. None where it isn't.
-fn place_of(states: &[IdState], x: FullXid) -> Option<usize>
+/// Where the id is kept, by a search. None where it isn't.
+fn searched(states: &[IdState], x: FullXid) -> Option<usize>
     requires { InOrder states.now }
     ensures some { IfSome result (IsPlaceOf states.now x) }
     ensures none { IfNone result (IsMissing states.now x) }
 {
     states.binary_search_by_key(&x, |s| s.id).ok()
+}
+
+/// Where the id is kept, if its distance from the first one tells.
+fn guessed(states: &[IdState], x: FullXid) -> Option<usize>
+    ensures some { IfSome result (IsPlaceOf states.now x) }
+{
+    if states.is_empty() {
+        return None;
+    }
+    let place = x.number().wrapping_sub(states[0].id.number()) as usize;
+    if place < states.len() && states[place].id == x {
+        Some(place)
+    } else {
+        None
+    }
+}
+
+/// Where the id is kept. None where it isn't. Ids are given one after another, so that its distance from the first one
+/// mostly tells.
+fn place_of(states: &[IdState], x: FullXid) -> Option<usize>
+    requires { InOrder states.now }
+    ensures some { IfSome result (IsPlaceOf states.now x) }
+    ensures none { IfNone result (IsMissing states.now x) }
+{
+    match guessed(states, x) {
+        Some(place) => Some(place),
+        None => searched(states, x),
+    }
 }
 
 /// What is kept of the id. None where nothing is.
@@ -77,24 +105,24 @@ fn topmost(states: &[IdState], xmin: FullXid, x: FullXid) -> FullXid
 }
 
 /// Whether the id had ended when the snapshot was taken. One that was rolled back had, or hadn't.
-fn had_ended(states: &[IdState], snap: &Snapshot, x: FullXid) -> bool
+fn had_ended(states: &[IdState], snap: &SnapData, x: FullXid) -> bool
     requires { AreKept states.now }
-    ensures { ClosedRight states.now (data_of snap.now) x result }
+    ensures { ClosedRight states.now snap.now x result }
 {
-    match snap.says(x) {
+    match said_of(snap, x) {
         Says::Ended => true,
         Says::Running => false,
         Says::AskParents => {
             let top = topmost(states, snap.xmin, x);
-            top < snap.xmin || matches!(snap.says_top(top), Says::Ended)
+            top < snap.xmin || matches!(said_of_top(snap, top), Says::Ended)
         }
     }
 }
 
 /// Whether the snapshot sees the id.
-pub fn sees(states: &[IdState], snap: &Snapshot, x: FullXid) -> bool
+pub fn sees(states: &[IdState], snap: &SnapData, x: FullXid) -> bool
     requires { AreKept states.now }
-    ensures { SeesRight states.now (data_of snap.now) x result }
+    ensures { SeesRight states.now snap.now x result }
 {
     if x >= snap.xmax {
         return false;

@@ -1,15 +1,13 @@
 ghost use Rattle.std.specs.Prelude.{◌≡◌, ◌+◌, ◌<◌, ◌≤◌, [], ◌∷◌, ◌++◌, false, map, IfSome, OnOk, OnErr};
 ghost use Rattle.std.specs.List.{All};
-ghost use Rattle.snap_core.specs.Says.{data_of};
 ghost use Rattle.plain_states.specs.declared.id_states.IdState.{IdState};
 ghost use Rattle.plain_states.specs.States.{with_commit};
 ghost use Rattle.plain_states.specs.Verdicts.{SeesRight};
 
 use crate::climb::{mark_all, sees};
-use snap_core::Snapshot;
 use std::alloc::Global;
 use std::marker::Model;
-use tx_model::Memory;
+use tx_events::{Memory, SnapData};
 use xid_order::FullXid;
 
 /// What is kept of an id.
@@ -91,8 +89,8 @@ impl IdStates {
     /// Whether the snapshot sees the id, which isn't a special one. The answer is what was so when the snapshot was
     /// taken, of whatever legal history the states are: what committed later is hidden. Takes a binary search for
     /// the id, one in the snapshot, and where that overflowed one for each ancestor of the id.
-    pub fn sees(&self, snap: &Snapshot, x: FullXid) -> bool
-        ensures { SeesRight self.now.items (data_of snap.now) x result }
+    pub fn sees(&self, snap: &SnapData, x: FullXid) -> bool
+        ensures { SeesRight self.now.items snap.now x result }
     {
         sees(&self.states, snap, x)
     }

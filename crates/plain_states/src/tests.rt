@@ -3,9 +3,8 @@ ghost use Rattle.std.specs.List.{All};
 ghost use Rattle.plain_states.specs.declared.id_states.IdState.{IdState};
 
 use crate::{IdState, IdStates};
-use snap_core::Snapshot;
 use std::process::Abort;
-use tx_model::IdList;
+use tx_events::{IdList, SnapData};
 use xid_order::FullXid;
 
 fn id<R: Abort>(rt: &R, number: u64) -> FullXid
@@ -40,8 +39,8 @@ fn snapshot<R: Abort + AllocGlobal>(
     tops: (u64, u64),
     subs: (u64, u64),
     overflowed: bool,
-) -> Snapshot {
-    Snapshot {
+) -> SnapData {
+    SnapData {
         xmin: id(rt, xmin),
         xmax: id(rt, xmax),
         xip: ids(rt, tops.0, tops.1),
@@ -65,7 +64,7 @@ fn commit(states: &mut IdStates, ids: &IdList)
     states.commit(ids.items());
 }
 
-fn expect_seen<R: Abort>(rt: &R, states: &IdStates, snap: &Snapshot, number: u64, seen: bool) {
+fn expect_seen<R: Abort>(rt: &R, states: &IdStates, snap: &SnapData, number: u64, seen: bool) {
     assert!(rt; states.sees(snap, id(rt, number)) == seen, "at {number}");
 }
 

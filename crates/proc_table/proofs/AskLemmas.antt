@@ -8,17 +8,17 @@ use Rattle.std.proofs.Common.{◌≡◌, ℕ, List, [], ◌∷◌, refl, ap, sym
 use Rattle.std.proofs.lemmas.Bool.{false≢true, and_parts, or_cases}
 use Rattle.std.proofs.lemmas.List.Elements.{All-from_recursion}
 use Rattle.std.specs.List.{AllByRecursion, list_any, All}
-use Rattle.tx_model.proofs.RunningFamily.{family_member}
-use Rattle.tx_model.proofs.IdListSteps.{ascending_filtered, has-filter}
-use Rattle.tx_model.proofs.Soundness.{legal_sound, root_runs}
+use Rattle.tx_events.proofs.RunningFamily.{family_member}
+use Rattle.tx_events.proofs.IdListSteps.{ascending_filtered, has-filter}
+use Rattle.tx_events.proofs.Soundness.{legal_sound, root_runs}
 use Rattle.std.proofs.Math.Bool.{or-true}
-use Rattle.tx_model.proofs.ListSteps.{all_weaker, eqb-refl, same_tests}
-use Rattle.tx_model.specs.Events.{given}
-use Rattle.tx_model.specs.Families.{top, is_top}
-use Rattle.tx_model.specs.IdLists.{has, Ascending}
-use Rattle.tx_model.specs.Running.{is_open, running}
-use Rattle.tx_model.specs.declared.event.Event.{Event}
-use Rattle.tx_model.specs.declared.record.Counters.{Counters}
+use Rattle.tx_events.proofs.ListSteps.{all_weaker, eqb-refl, same_tests}
+use Rattle.tx_events.specs.Events.{given}
+use Rattle.tx_events.specs.Families.{top, is_top}
+use Rattle.tx_events.specs.IdLists.{has, Ascending}
+use Rattle.tx_events.specs.Running.{is_open, running}
+use Rattle.tx_events.specs.declared.event.Event.{Event}
+use Rattle.tx_events.specs.declared.record.Counters.{Counters}
 
 entry_runs : (first : ℕ) (h : List Event) (x : ℕ) (e : Entry) → IsEntryAt first h e → is_of_entry x e ≡ true → has (running h) x ≡ true
 entry_runs first h x e i f =

@@ -1,19 +1,19 @@
 -- How far ids go.
 use Rattle.std.proofs.Common.{◌≡◌, ℕ, ◌-◌, ◌<◌, ◌≤◌, List, [], ◌∷◌, length, refl, arith, Bool, true, false, not, max, ◌+◌, nat_lt, if◌then◌else◌, ◌^◌}
 use Rattle.std.specs.List.{AllByRecursion, fold}
-use Rattle.tx_model.proofs.Extremes.{fold_max_start}
-use Rattle.tx_model.proofs.Soundness.{legal_sound}
-use Rattle.tx_model.proofs.ListSteps.{all_filter}
-use Rattle.tx_model.proofs.NameBounds.{given_below}
-use Rattle.tx_model.proofs.IdOrder.{nth_from}
-use Rattle.tx_model.specs.Base.{IsBase}
-use Rattle.tx_model.specs.Events.{given}
-use Rattle.tx_model.specs.History.{next_given, IsLegal}
-use Rattle.tx_model.specs.Limits.{stop_limit}
-use Rattle.tx_model.specs.Running.{is_open, closed}
-use Rattle.tx_model.specs.Snapshots.{latest}
-use Rattle.tx_model.specs.declared.event.Event.{Event}
-use Rattle.tx_model.specs.declared.record.Counters.{Counters}
+use Rattle.tx_events.proofs.Extremes.{fold_max_start}
+use Rattle.tx_events.proofs.Soundness.{legal_sound}
+use Rattle.tx_events.proofs.ListSteps.{all_filter}
+use Rattle.tx_events.proofs.NameBounds.{given_below}
+use Rattle.tx_events.proofs.IdOrder.{nth_from}
+use Rattle.tx_events.specs.Base.{IsBase}
+use Rattle.tx_events.specs.Events.{given}
+use Rattle.tx_events.specs.History.{next_given, IsLegal}
+use Rattle.tx_events.specs.Limits.{stop_limit}
+use Rattle.tx_events.specs.Running.{is_open, closed}
+use Rattle.tx_events.specs.Snapshots.{latest}
+use Rattle.tx_events.specs.declared.event.Event.{Event}
+use Rattle.tx_events.specs.declared.record.Counters.{Counters}
 use Rattle.xid_order.specs.Ids.{id_before, next_id, low_half, IsFullId}
 
 pub next_id_to : (n : ℕ) → n + 1 < 2 ^ 63 → next_id n < 2 ^ 63

@@ -9,18 +9,18 @@ use Rattle.std.proofs.Common.{◌≡◌, ℕ, suc, zero, ◌<◌, ◌≤◌, Lis
 use Rattle.std.proofs.lemmas.List.Sorted.{length_permutation}
 use Rattle.std.proofs.lemmas.List.Sums.{sum_by-cons}
 use Rattle.std.specs.List.{filter, list_any, slice_index_or, flat_map}
-use Rattle.tx_model.proofs.IdListSteps.{ascending_filtered}
-use Rattle.tx_model.proofs.Soundness.{legal_sound}
-use Rattle.tx_model.proofs.ListSteps.{filter_length, not_both}
+use Rattle.tx_events.proofs.IdListSteps.{ascending_filtered}
+use Rattle.tx_events.proofs.Soundness.{legal_sound}
+use Rattle.tx_events.proofs.ListSteps.{filter_length, not_both}
 use Rattle.std.proofs.lemmas.Bool.{and_parts}
-use Rattle.tx_model.specs.Events.{given}
-use Rattle.tx_model.specs.Families.{top, is_top}
-use Rattle.tx_model.specs.Horizon.{live_snaps}
-use Rattle.tx_model.specs.IdLists.{Ascending}
-use Rattle.tx_model.specs.Running.{is_open, running, running_tops}
-use Rattle.tx_model.specs.Snapshots.{running_subs, has_overflowed, snapshot_xmax, snapshot_xips, snapshot_subs, is_overflowed}
-use Rattle.tx_model.specs.declared.event.Event.{Event}
-use Rattle.tx_model.specs.declared.record.Counters.{Counters}
+use Rattle.tx_events.specs.Events.{given}
+use Rattle.tx_events.specs.Families.{top, is_top}
+use Rattle.tx_events.specs.Horizon.{live_snaps}
+use Rattle.tx_events.specs.IdLists.{Ascending}
+use Rattle.tx_events.specs.Running.{is_open, running, running_tops}
+use Rattle.tx_events.specs.Snapshots.{running_subs, has_overflowed, snapshot_xmax, snapshot_xips, snapshot_subs, is_overflowed}
+use Rattle.tx_events.specs.declared.event.Event.{Event}
+use Rattle.tx_events.specs.declared.record.Counters.{Counters}
 
 -- one more entry of those below the limit
 pub prefix_total : (o : Bool) (limit : ℕ) (es : List Entry) (k : ℕ) (e : Entry) → k < length es → e ≡ slice_index_or es k e → nat_lt e.top limit ≡ true →

@@ -10,25 +10,25 @@ use Rattle.proc_table.specs.declared.entry.Entry.{Entry}
 use Rattle.proc_table.specs.declared.live.LiveSnapshots.{LiveSnapshots}
 use Rattle.std.proofs.Common.{◌≡◌, ℕ, ◌-◌, ◌<◌, ◌≤◌, List, [], ◌∷◌, ◌++◌, length, reverse, refl, ap, sym, ◌∙◌, arith, Bool, true, false, not, ◌&&◌, ◌==◌, ◌||◌, cond, Contains, subst, max, inl, inr, ⊎_elim, ◌⊎◌, ◌+◌, eqb-true}
 use Rattle.std.specs.List.{filter, AllByRecursion, list_any, Any}
-use Rattle.tx_model.proofs.ClosingGrowth.{closing_commit, closing_abort, closing_open_ids, IsClosing, closing_running, closing_tops}
-use Rattle.tx_model.proofs.RunningFamily.{family_member}
-use Rattle.tx_model.proofs.HorizonSteps.{live_push, oldest_push}
-use Rattle.tx_model.proofs.IdListSteps.{some_had, has-filter, one_less, all_has}
-use Rattle.tx_model.proofs.Soundness.{legal_sound, session_runs}
-use Rattle.tx_model.proofs.LineGrowth.{legal_push}
-use Rattle.tx_model.proofs.ListSteps.{filter_none, filter_agree_where, eqb-refl, not_both, filter_passes}
+use Rattle.tx_events.proofs.ClosingGrowth.{closing_commit, closing_abort, closing_open_ids, IsClosing, closing_running, closing_tops}
+use Rattle.tx_events.proofs.RunningFamily.{family_member}
+use Rattle.tx_events.proofs.HorizonSteps.{live_push, oldest_push}
+use Rattle.tx_events.proofs.IdListSteps.{some_had, has-filter, one_less, all_has}
+use Rattle.tx_events.proofs.Soundness.{legal_sound, session_runs}
+use Rattle.tx_events.proofs.GivenIds.{legal_push}
+use Rattle.tx_events.proofs.ListSteps.{filter_none, filter_agree_where, eqb-refl, not_both, filter_passes}
 use Rattle.std.proofs.lemmas.Bool.{or_parts, not-true}
-use Rattle.tx_model.proofs.NameBounds.{NamesBelow, AreBelow, running_below}
-use Rattle.tx_model.specs.Families.{top, is_top}
-use Rattle.tx_model.specs.History.{nth_id, MayCome, ComesInTurn}
-use Rattle.tx_model.specs.Horizon.{announced_after, live_up, live_snaps}
-use Rattle.tx_model.specs.IdLists.{has}
-use Rattle.tx_model.specs.Running.{running, open_ids, running_tops}
-use Rattle.tx_model.specs.Savepoints.{family}
-use Rattle.tx_model.specs.declared.event.By.{By}
-use Rattle.tx_model.specs.declared.event.Event.{Event}
-use Rattle.tx_model.specs.declared.record.Counters.{Counters}
-use Rattle.tx_model.specs.declared.event.Event.TheVariants as events
+use Rattle.tx_events.proofs.NameBounds.{NamesBelow, AreBelow, running_below}
+use Rattle.tx_events.specs.Families.{top, is_top}
+use Rattle.tx_events.specs.History.{nth_id, MayCome, ComesInTurn}
+use Rattle.tx_events.specs.Horizon.{announced_after, live_up, live_snaps}
+use Rattle.tx_events.specs.IdLists.{has}
+use Rattle.tx_events.specs.Running.{running, open_ids, running_tops}
+use Rattle.tx_events.specs.Savepoints.{family}
+use Rattle.tx_events.specs.declared.event.By.{By}
+use Rattle.tx_events.specs.declared.event.Event.{Event}
+use Rattle.tx_events.specs.declared.record.Counters.{Counters}
+use Rattle.tx_events.specs.declared.event.Event.TheVariants as events
 
 -- a session without an entry that is kept had none, or that of the top
 gone : (base : ℕ) (h : List Event) (t q : ℕ) (es : List Entry) → AllByRecursion (IsEntryAt base h) es → list_any (λ (e : Entry). e.session == q) (filter (λ (e : Entry). not (t == e.top)) es) ≡ false →

@@ -2,18 +2,18 @@
 use Rattle.proc_table.specs.Entries.{IsEntry}
 use Rattle.std.proofs.Common.{◌≡◌, ℕ, ◌≤◌, List, [], ◌∷◌, ◌++◌, length, refl, ap, sym, ◌∙◌, arith, Bool, true, false, not, ◌&&◌, ◌==◌, subst, max, inl, inr, ⊎_elim, ◌⊎◌}
 use Rattle.std.specs.List.{filter, AllByRecursion, fold}
-use Rattle.tx_model.proofs.ClosingGrowth.{closing_subs, closing_open_ids, IsClosing, closing_family, closing_latest}
-use Rattle.tx_model.proofs.RunningFamily.{all_subs, family_member, family_ended}
-use Rattle.tx_model.proofs.Extremes.{fold_max_is, fold_max_has, fold_max_start}
-use Rattle.tx_model.proofs.IdListSteps.{has-filter, true_has}
-use Rattle.tx_model.proofs.ListSteps.{filter_length, filter_all, all_filter}
-use Rattle.tx_model.proofs.OverflowSteps.{overflow_kept}
-use Rattle.tx_model.specs.Families.{top}
-use Rattle.tx_model.specs.IdLists.{has}
-use Rattle.tx_model.specs.Running.{running}
-use Rattle.tx_model.specs.Savepoints.{family}
-use Rattle.tx_model.specs.Snapshots.{latest, running_subs}
-use Rattle.tx_model.specs.declared.event.Event.{Event}
+use Rattle.tx_events.proofs.ClosingGrowth.{closing_subs, closing_open_ids, IsClosing, closing_family, closing_latest}
+use Rattle.tx_events.proofs.RunningFamily.{all_subs, family_member, family_ended}
+use Rattle.tx_events.proofs.Extremes.{fold_max_is, fold_max_has, fold_max_start}
+use Rattle.tx_events.proofs.IdListSteps.{has-filter, true_has}
+use Rattle.tx_events.proofs.ListSteps.{filter_length, filter_all, all_filter}
+use Rattle.tx_events.proofs.OverflowSteps.{overflow_kept}
+use Rattle.tx_events.specs.Families.{top}
+use Rattle.tx_events.specs.IdLists.{has}
+use Rattle.tx_events.specs.Running.{running}
+use Rattle.tx_events.specs.Savepoints.{family}
+use Rattle.tx_events.specs.Snapshots.{latest, running_subs}
+use Rattle.tx_events.specs.declared.event.Event.{Event}
 
 pub entry_closing : (first : ℕ) (h : List Event) (e : Event) (q : ℕ → Bool) (session t last : ℕ) (subs subs' : List ℕ) (o : Bool) → IsClosing h e q → q t ≡ true → subs' ≡ filter q subs →
     IsEntry first h session t last subs o → IsEntry first (h ++ e ∷ []) session t last subs' o

@@ -3,22 +3,22 @@ use Rattle.proc_table.specs.Entries.{IsEntry}
 use Rattle.std.proofs.Common.{◌≡◌, ℕ, ◌<◌, ◌≤◌, List, [], ◌∷◌, ◌++◌, length, refl, ap, sym, ◌∙◌, arith, Bool, true, false, ◌==◌, ◌||◌, append-nil, cond, subst, inl, inr, ⊎_elim, nat_lt, eqb-true}
 use Rattle.std.proofs.lemmas.Bool.{false≢true}
 use Rattle.std.specs.List.{AllByRecursion}
-use Rattle.tx_model.proofs.ClosingGrowth.{same_latest}
-use Rattle.tx_model.proofs.GivingGrowth.{id_family_ids, id_subs, giving_closed, giving_id, giving_open_ids}
-use Rattle.tx_model.proofs.RunningFamily.{fresh_subs, fresh_overflow, family_member, fresh_family}
-use Rattle.tx_model.proofs.QuietGrowth.{quiet_family_ids, IsQuiet, quiet_open_ids, quiet_subs, quiet_closed}
-use Rattle.tx_model.proofs.IdListSteps.{all_has}
-use Rattle.tx_model.proofs.ListSteps.{eqb-refl, above_not}
+use Rattle.tx_events.proofs.ClosingGrowth.{same_latest}
+use Rattle.tx_events.proofs.GivingGrowth.{id_family_ids, id_subs, giving_closed, giving_id, giving_open_ids}
+use Rattle.tx_events.proofs.RunningFamily.{fresh_subs, fresh_overflow, family_member, fresh_family}
+use Rattle.tx_events.proofs.QuietGrowth.{quiet_family_ids, IsQuiet, quiet_open_ids, quiet_subs, quiet_closed}
+use Rattle.tx_events.proofs.IdListSteps.{all_has}
+use Rattle.tx_events.proofs.ListSteps.{eqb-refl, above_not}
 use Rattle.std.proofs.Math.Bool.{or-false}
-use Rattle.tx_model.proofs.NameBounds.{AreBelow, running_below}
-use Rattle.tx_model.proofs.OverflowSteps.{overflow_kept, overflow_push}
-use Rattle.tx_model.specs.IdLists.{has}
-use Rattle.tx_model.specs.Running.{running, open_ids}
-use Rattle.tx_model.specs.Savepoints.{family}
-use Rattle.tx_model.specs.Snapshots.{latest, running_subs, has_overflowed}
-use Rattle.tx_model.specs.declared.event.By.{By}
-use Rattle.tx_model.specs.declared.event.Event.{Event}
-use Rattle.tx_model.specs.declared.event.Event.TheVariants as events
+use Rattle.tx_events.proofs.NameBounds.{AreBelow, running_below}
+use Rattle.tx_events.proofs.OverflowSteps.{overflow_kept, overflow_push}
+use Rattle.tx_events.specs.IdLists.{has}
+use Rattle.tx_events.specs.Running.{running, open_ids}
+use Rattle.tx_events.specs.Savepoints.{family}
+use Rattle.tx_events.specs.Snapshots.{latest, running_subs, has_overflowed}
+use Rattle.tx_events.specs.declared.event.By.{By}
+use Rattle.tx_events.specs.declared.event.Event.{Event}
+use Rattle.tx_events.specs.declared.event.Event.TheVariants as events
 
 -- where an event leaves all that an entry is of
 pub entry_kept : (first : ℕ) (h g : List Event) (session t last : ℕ) (subs : List ℕ) (o : Bool) →

@@ -9,7 +9,7 @@ use Rattle.std.proofs.lemmas.List.Elements.{All-from_recursion, recursion_from_A
 use Rattle.std.specs.List.{filter, AllByRecursion, list_any, AllZip, slice_index_or, Any, All}
 use Rattle.std.specs.Ordering.{nat_cmp, is_lt}
 use Rattle.std.proofs.Math.Bool.{or-true}
-use Rattle.tx_model.proofs.ListSteps.{all_filter}
+use Rattle.tx_events.proofs.ListSteps.{all_filter}
 
 pub all-filter : {X : Type 0} (P : X → Type 0) (q : X → Bool) (xs : List X) → All P xs → All P (filter q xs)
 all-filter P q xs a = All-from_recursion P (filter q xs) (all_filter P q xs (recursion_from_All P xs a))

@@ -3,26 +3,26 @@ use Rattle.proc_table.specs.Entries.{IsEntry}
 use Rattle.std.proofs.Common.{◌≡◌, ℕ, ◌<◌, ◌≤◌, List, [], ◌∷◌, ◌++◌, length, refl, ap, sym, ◌∙◌, arith, Bool, true, false, ◌&&◌, ◌==◌, ◌||◌, append-nil, cond, subst, inr, nat_lt, eqb-true}
 use Rattle.std.specs.List.{AllByRecursion}
 use Rattle.proc_table.proofs.EntryGrowth.{entry_kept}
-use Rattle.tx_model.proofs.ClosingGrowth.{same_latest}
-use Rattle.tx_model.proofs.RunningFamily.{family_member}
-use Rattle.tx_model.proofs.GivingGrowth.{sub_family_ids, sub_subs, giving_closed, giving_sub, giving_open_ids}
+use Rattle.tx_events.proofs.ClosingGrowth.{same_latest}
+use Rattle.tx_events.proofs.RunningFamily.{family_member}
+use Rattle.tx_events.proofs.GivingGrowth.{sub_family_ids, sub_subs, giving_closed, giving_sub, giving_open_ids}
 use Rattle.std.proofs.lemmas.List.Folds.{list_any-append}
-use Rattle.tx_model.proofs.IdListSteps.{has-filter}
-use Rattle.tx_model.proofs.Soundness.{has_given_to, IsSound}
+use Rattle.tx_events.proofs.IdListSteps.{has-filter}
+use Rattle.tx_events.proofs.Soundness.{has_given_to, IsSound}
 use Rattle.std.proofs.Math.Bool.{or-true, or-false}
-use Rattle.tx_model.proofs.ListSteps.{eqb-refl, not_both, all_filter, all_push}
+use Rattle.tx_events.proofs.ListSteps.{eqb-refl, not_both, all_filter, all_push}
 use Rattle.std.proofs.lemmas.Bool.{and_parts}
-use Rattle.tx_model.proofs.NameBounds.{AreBelow, running_below}
-use Rattle.tx_model.proofs.OverflowSteps.{overflow_kept, overflow_push}
-use Rattle.tx_model.specs.Events.{given, given_to}
-use Rattle.tx_model.specs.Families.{top}
-use Rattle.tx_model.specs.IdLists.{has}
-use Rattle.tx_model.specs.Running.{is_open, running, open_ids}
-use Rattle.tx_model.specs.Savepoints.{family}
-use Rattle.tx_model.specs.Snapshots.{latest, running_subs, has_overflowed}
-use Rattle.tx_model.specs.declared.event.By.{By}
-use Rattle.tx_model.specs.declared.event.Event.{Event}
-use Rattle.tx_model.specs.declared.event.Event.TheVariants as events
+use Rattle.tx_events.proofs.NameBounds.{AreBelow, running_below}
+use Rattle.tx_events.proofs.OverflowSteps.{overflow_kept, overflow_push}
+use Rattle.tx_events.specs.Events.{given, given_to}
+use Rattle.tx_events.specs.Families.{top}
+use Rattle.tx_events.specs.IdLists.{has}
+use Rattle.tx_events.specs.Running.{is_open, running, open_ids}
+use Rattle.tx_events.specs.Savepoints.{family}
+use Rattle.tx_events.specs.Snapshots.{latest, running_subs, has_overflowed}
+use Rattle.tx_events.specs.declared.event.By.{By}
+use Rattle.tx_events.specs.declared.event.Event.{Event}
+use Rattle.tx_events.specs.declared.event.Event.TheVariants as events
 
 -- the session that adds a subid is that of the entry exactly where the parent is in its family
 pub sub_session : (first : ℕ) (h : List Event) (by : By) (parent : ℕ) (session t last : ℕ) (subs : List ℕ) (o : Bool) → IsSound first h → has (open_ids by.session h) parent ≡ true →

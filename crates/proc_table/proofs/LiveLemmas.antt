@@ -4,13 +4,13 @@ use Rattle.std.proofs.lemmas.List.Sums.{sum_by-cons}
 use Rattle.std.specs.Cmp.Lexicographic.{pointwise, same_text}
 use Rattle.std.specs.List.{filter, list_any}
 use Rattle.std.specs.Prelude.{nat_eq, sum_by, IfSome, IfNone}
-use Rattle.tx_model.proofs.ListSteps.{eqb-refl, list_any-push, not_both}
-use Rattle.tx_model.proofs.Membership.{Has}
-use Rattle.tx_model.proofs.Names.{same_name_refl, same_name_equal}
+use Rattle.tx_events.proofs.ListSteps.{eqb-refl, list_any-push, not_both}
+use Rattle.tx_events.proofs.Membership.{Has}
+use Rattle.tx_events.proofs.Names.{same_name_refl, same_name_equal}
 use Rattle.std.proofs.Math.Bool.{or-true}
 use Rattle.std.proofs.lemmas.Bool.{or_parts, and_parts}
-use Rattle.tx_model.specs.Events.{same_name}
-use Rattle.tx_model.specs.Horizon.{LiveSnap, is_snap_of}
+use Rattle.tx_events.specs.Events.{same_name}
+use Rattle.tx_events.specs.Horizon.{LiveSnap, is_snap_of}
 use Rattle.proc_table.specs.Lives.{AreApart, live_xmin, others}
 
 -- names

@@ -8,14 +8,14 @@ use Rattle.std.specs.List.{list_any, slice_index_or}
 use Rattle.std.specs.Map.{lookup, IsKeyTest, AreApart as TestsAreApart, KeepsOthers}
 use Rattle.std.specs.Ordering.{nat_cmp, is_eq}
 use Rattle.std.specs.Prelude.{slice_set}
-use Rattle.tx_model.proofs.ListSteps.{not_both}
-use Rattle.tx_model.proofs.Membership.{contains_has}
-use Rattle.tx_model.specs.Events.{same_name}
-use Rattle.tx_model.specs.Horizon.{LiveSnap, is_snap_of}
+use Rattle.tx_events.proofs.ListSteps.{not_both}
+use Rattle.tx_events.proofs.Membership.{contains_has}
+use Rattle.tx_events.specs.Events.{same_name}
+use Rattle.tx_events.specs.Horizon.{LiveSnap, is_snap_of}
 use Rattle.proc_table.specs.Lives.{HoldsLive, IsTally, one_more, some_of, with_xmin, xmin_under, kept_xmin, others}
 use Rattle.proc_table.specs.declared.live.LiveSnapshots.{LiveSnapshots}
 use Rattle.proc_table.proofs.LiveLemmas.{same_names, apart_push, apart_filtered, live_more, live_others, one_taken}
-use Rattle.tx_model.proofs.Names.{same_name_refl, same_name_equal}
+use Rattle.tx_events.proofs.Names.{same_name_refl, same_name_equal}
 use Rattle.proc_table.proofs.XminTallies.{with_push}
 
 -- keys compare as names

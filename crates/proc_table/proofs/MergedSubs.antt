@@ -6,12 +6,12 @@ use Rattle.std.proofs.lemmas.List.Elements.{filter_agree}
 use Rattle.std.proofs.lemmas.List.Sorted.{IsPermutation-refl, IsPermutation-sym, IsPermutation-trans, IsPermutation-append, IsPermutation-filter_both}
 use Rattle.std.specs.List.{filter, AllByRecursion, list_any, flat_map}
 use Rattle.std.specs.List.Sorted.{IsPermutation}
-use Rattle.tx_model.proofs.ListSteps.{filter_in_turn, equal_swap}
-use Rattle.tx_model.specs.Families.{top, is_top}
-use Rattle.tx_model.specs.IdLists.{Ascending}
-use Rattle.tx_model.specs.Running.{running}
-use Rattle.tx_model.specs.Snapshots.{running_subs}
-use Rattle.tx_model.specs.declared.event.Event.{Event}
+use Rattle.tx_events.proofs.ListSteps.{filter_in_turn, equal_swap}
+use Rattle.tx_events.specs.Families.{top, is_top}
+use Rattle.tx_events.specs.IdLists.{Ascending}
+use Rattle.tx_events.specs.Running.{running}
+use Rattle.tx_events.specs.Snapshots.{running_subs}
+use Rattle.tx_events.specs.declared.event.Event.{Event}
 
 -- a top of the rest isn't t
 not_of_rest : (t u : ℕ) (ts : List ℕ) → AllByRecursion (λ y. t < y) ts → (u == t) ≡ true → list_any (λ t. t == u) ts ≡ false

@@ -1,5 +1,5 @@
 -- The state after an event that gives and closes nothing: a snapshot, a drop, an announcement, a question.
-use Rattle.tx_model.proofs.Extremes.{fold_min_start}
+use Rattle.tx_events.proofs.Extremes.{fold_min_start}
 use Rattle.proc_table.proofs.Bounds.{next_id_to}
 use Rattle.proc_table.proofs.LiveLemmas.{own_twin, has_any, one_taken}
 use Rattle.proc_table.proofs.SnapshotLemmas.{xmin_is}
@@ -16,16 +16,16 @@ use Rattle.std.proofs.lemmas.List.{reverse-reverse}
 use Rattle.std.proofs.lemmas.List.Sums.{sum_by-cons}
 use Rattle.std.specs.List.{list_any, fold}
 use Rattle.std.specs.Prelude.{sum_by}
-use Rattle.tx_model.proofs.ListSteps.{length_push}
-use Rattle.tx_model.proofs.Membership.{Has, contains_has}
-use Rattle.tx_model.specs.Horizon.{oldest_id, live_snaps, LiveSnap, oldest_xmin, is_snap_of, is_live}
-use Rattle.tx_model.specs.Running.{running, running_tops}
-use Rattle.tx_model.specs.Snapshots.{snapshot_xmax, snapshot_xmin}
-use Rattle.tx_model.specs.declared.event.By.{By}
-use Rattle.tx_model.specs.declared.event.Event.{Event}
-use Rattle.tx_model.specs.declared.record.Counters.{Counters}
+use Rattle.tx_events.proofs.ListSteps.{length_push}
+use Rattle.tx_events.proofs.Membership.{Has, contains_has}
+use Rattle.tx_events.specs.Horizon.{oldest_id, live_snaps, LiveSnap, oldest_xmin, is_snap_of, is_live}
+use Rattle.tx_events.specs.Running.{running, running_tops}
+use Rattle.tx_events.specs.Snapshots.{snapshot_xmax, snapshot_xmin}
+use Rattle.tx_events.specs.declared.event.By.{By}
+use Rattle.tx_events.specs.declared.event.Event.{Event}
+use Rattle.tx_events.specs.declared.record.Counters.{Counters}
 use Rattle.xid_order.specs.Ids.{next_id}
-use Rattle.tx_model.specs.declared.event.Event.TheVariants as events
+use Rattle.tx_events.specs.declared.event.Event.TheVariants as events
 
 pub oldest_xmin_is : (base : Counters) (h : List Event) (n oldest late promised : ℕ) (entries : List Entry) (lives : LiveSnapshots) → IsState base h n oldest late promised entries lives →
     fold min (fold min (snapshot_xmax base.next h) (tops_of entries)) (map (λ (s : LiveSnap). s.xmin) (live_snaps base.next h)) ≡ oldest_xmin base.next h

@@ -10,16 +10,16 @@ use Rattle.std.proofs.Common.{◌≡◌, ℕ, suc, ◌<◌, List, [], ◌∷◌,
 use Rattle.std.proofs.lemmas.Bool.{false≢true, or_cases}
 use Rattle.std.specs.List.{Any, list_any}
 use Rattle.std.specs.Prelude.{IfSome, IfNone}
-use Rattle.tx_model.proofs.ListSteps.{eqb-refl}
-use Rattle.tx_model.proofs.Membership.{Has, has_contains, contains_has as contains_member}
-use Rattle.tx_model.proofs.RunningFamily.{family_member}
-use Rattle.tx_model.specs.Families.{is_top}
-use Rattle.tx_model.specs.Horizon.{LiveSnap, live_snaps, is_live, is_snap_of}
-use Rattle.tx_model.specs.IdLists.{has}
-use Rattle.tx_model.specs.Running.{open_ids}
-use Rattle.tx_model.specs.Savepoints.{family}
-use Rattle.tx_model.specs.declared.event.Event.{Event}
-use Rattle.tx_model.specs.declared.record.Counters.{Counters}
+use Rattle.tx_events.proofs.ListSteps.{eqb-refl}
+use Rattle.tx_events.proofs.Membership.{Has, has_contains, contains_has as contains_member}
+use Rattle.tx_events.proofs.RunningFamily.{family_member}
+use Rattle.tx_events.specs.Families.{is_top}
+use Rattle.tx_events.specs.Horizon.{LiveSnap, live_snaps, is_live, is_snap_of}
+use Rattle.tx_events.specs.IdLists.{has}
+use Rattle.tx_events.specs.Running.{open_ids}
+use Rattle.tx_events.specs.Savepoints.{family}
+use Rattle.tx_events.specs.declared.event.Event.{Event}
+use Rattle.tx_events.specs.declared.record.Counters.{Counters}
 
 pub contains_has : (xs : List ℕ) (x : ℕ) → has xs x ≡ true → Contains xs x
 contains_has [] x f = absurd (false≢true f)

@@ -11,16 +11,16 @@ use Rattle.std.proofs.Common.{◌≡◌, ℕ, List, [], ◌∷◌, ◌++◌, ref
 use Rattle.std.proofs.lemmas.List.Sorted.{IsPermutation-sym, IsPermutation-trans}
 use Rattle.std.specs.List.{filter, AllByRecursion, list_any, fold, flat_map}
 use Rattle.std.specs.List.Sorted.{IsPermutation}
-use Rattle.tx_model.proofs.IdListSteps.{ascending_filtered}
-use Rattle.tx_model.proofs.Soundness.{legal_sound}
-use Rattle.tx_model.specs.Events.{given}
-use Rattle.tx_model.specs.Families.{top, is_top}
-use Rattle.tx_model.specs.IdLists.{Ascending}
-use Rattle.tx_model.specs.Running.{is_open, running, running_tops}
-use Rattle.tx_model.specs.Snapshots.{running_subs, has_overflowed, snapshot_xmax, snapshot_xips, snapshot_subs, is_overflowed, snapshot_data, snapshot_xmin}
-use Rattle.tx_model.specs.declared.event.Event.{Event}
-use Rattle.tx_model.specs.declared.record.Counters.{Counters}
-use Rattle.tx_model.specs.declared.reply.SnapData.{SnapData}
+use Rattle.tx_events.proofs.IdListSteps.{ascending_filtered}
+use Rattle.tx_events.proofs.Soundness.{legal_sound}
+use Rattle.tx_events.specs.Events.{given}
+use Rattle.tx_events.specs.Families.{top, is_top}
+use Rattle.tx_events.specs.IdLists.{Ascending}
+use Rattle.tx_events.specs.Running.{is_open, running, running_tops}
+use Rattle.tx_events.specs.Snapshots.{running_subs, has_overflowed, snapshot_xmax, snapshot_xips, snapshot_subs, is_overflowed, snapshot_data, snapshot_xmin}
+use Rattle.tx_events.specs.declared.event.Event.{Event}
+use Rattle.tx_events.specs.declared.record.Counters.{Counters}
+use Rattle.tx_events.specs.declared.snapshot.SnapData.{SnapData}
 
 -- the tops below the limit
 pub tops_below_are : (entries : List Entry) (limit : ℕ) → tops_of (entries_below entries limit) ≡ filter (λ x. nat_lt x limit) (tops_of entries)

@@ -7,8 +7,8 @@ use Rattle.std.specs.Cmp.{nat_cmp_is}
 use Rattle.std.specs.List.{AllByRecursion, slice_index_or, sum_by}
 use Rattle.std.specs.List.Sorted.{IsPermutation, IsSorted}
 use Rattle.std.specs.Ordering.{nat_cmp, is_lt}
-use Rattle.tx_model.proofs.ListSteps.{all_weaker, eqb-refl}
-use Rattle.tx_model.specs.IdLists.{Ascending}
+use Rattle.tx_events.proofs.ListSteps.{all_weaker, eqb-refl}
+use Rattle.tx_events.specs.IdLists.{Ascending}
 
 abbrev pub Rising : List ℕ → Type 0
 Rising [] = Unit {0}

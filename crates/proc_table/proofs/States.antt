@@ -11,27 +11,27 @@ use Rattle.proc_table.specs.declared.live.LiveSnapshots.{LiveSnapshots}
 use Rattle.std.proofs.Common.{◌≡◌, ℕ, suc, ◌<◌, ◌≤◌, List, [], ◌∷◌, ◌++◌, length, reverse, refl, ap, sym, ◌∙◌, arith, Bool, false, ◌==◌, ◌||◌, cond, subst, ◌+◌, ◌^◌}
 use Rattle.std.proofs.lemmas.List.Folds.{list_any-append}
 use Rattle.std.specs.List.{list_any}
-use Rattle.tx_model.proofs.ClosingGrowth.{same_latest}
-use Rattle.tx_model.proofs.HorizonSteps.{live_push, oldest_push}
-use Rattle.tx_model.proofs.Soundness.{legal_sound}
-use Rattle.tx_model.proofs.LineGrowth.{legal_push}
-use Rattle.tx_model.proofs.ListSteps.{length_push, all_weaker, all_push}
+use Rattle.tx_events.proofs.ClosingGrowth.{same_latest}
+use Rattle.tx_events.proofs.HorizonSteps.{live_push, oldest_push}
+use Rattle.tx_events.proofs.Soundness.{legal_sound}
+use Rattle.tx_events.proofs.GivenIds.{legal_push}
+use Rattle.tx_events.proofs.ListSteps.{length_push, all_weaker, all_push}
 use Rattle.std.proofs.lemmas.List.{map_push}
 use Rattle.std.proofs.lemmas.Bool.{or_parts}
-use Rattle.tx_model.proofs.NameBounds.{AreBelow}
-use Rattle.tx_model.proofs.GivingGrowth.{giving_closed, giving_id, giving_running, giving_open_ids, id_tops}
-use Rattle.tx_model.proofs.QuietGrowth.{IsQuiet, quiet_given, quiet_running, quiet_open_ids, quiet_tops, quiet_closed}
-use Rattle.tx_model.proofs.IdOrder.{next_above}
-use Rattle.tx_model.proofs.GivenGrowth.{next_after}
-use Rattle.tx_model.specs.History.{nth_id, MayCome, ComesInTurn}
-use Rattle.tx_model.specs.Horizon.{announced_after, live_up, live_snaps}
-use Rattle.tx_model.specs.Limits.{stop_limit}
-use Rattle.tx_model.specs.Running.{running, open_ids}
-use Rattle.tx_model.specs.declared.event.By.{By}
-use Rattle.tx_model.specs.declared.event.Event.{Event}
-use Rattle.tx_model.specs.declared.record.Counters.{Counters}
+use Rattle.tx_events.proofs.NameBounds.{AreBelow}
+use Rattle.tx_events.proofs.GivingGrowth.{giving_closed, giving_id, giving_running, giving_open_ids, id_tops}
+use Rattle.tx_events.proofs.QuietGrowth.{IsQuiet, quiet_given, quiet_running, quiet_open_ids, quiet_tops, quiet_closed}
+use Rattle.tx_events.proofs.IdOrder.{next_above}
+use Rattle.tx_events.proofs.GivenGrowth.{next_after}
+use Rattle.tx_events.specs.History.{nth_id, MayCome, ComesInTurn}
+use Rattle.tx_events.specs.Horizon.{announced_after, live_up, live_snaps}
+use Rattle.tx_events.specs.Limits.{stop_limit}
+use Rattle.tx_events.specs.Running.{running, open_ids}
+use Rattle.tx_events.specs.declared.event.By.{By}
+use Rattle.tx_events.specs.declared.event.Event.{Event}
+use Rattle.tx_events.specs.declared.record.Counters.{Counters}
 use Rattle.xid_order.specs.Ids.{next_id}
-use Rattle.tx_model.specs.declared.event.Event.TheVariants as events
+use Rattle.tx_events.specs.declared.event.Event.TheVariants as events
 
 pub entry_same : (first : ℕ) (h : List Event) (s t l s' t' l' : ℕ) (subs subs' : List ℕ) (o o' : Bool) → s ≡ s' → t ≡ t' → l ≡ l' → subs ≡ subs' → o ≡ o' → IsEntry first h s' t' l' subs' o' → IsEntry first h s t l subs o
 entry_same first h s t l s' t' l' subs subs' o o' a b c d e i = rw (a, b, c, d, e) i

@@ -11,26 +11,26 @@ use Rattle.proc_table.specs.declared.entry.Entry.{Entry}
 use Rattle.proc_table.specs.declared.live.LiveSnapshots.{LiveSnapshots}
 use Rattle.std.proofs.Common.{◌≡◌, ℕ, suc, ◌<◌, ◌≤◌, List, [], ◌∷◌, ◌++◌, length, refl, ap, sym, ◌∙◌, arith, Bool, true, false, ◌==◌, cond, Contains, subst, ◌+◌, ◌^◌, eqb-true}
 use Rattle.std.specs.List.{list_any, AllZip}
-use Rattle.tx_model.proofs.ClosingGrowth.{same_latest}
-use Rattle.tx_model.proofs.ListSteps.{equal_swap, length_push, not_both}
-use Rattle.tx_model.proofs.HorizonSteps.{live_push, oldest_push}
-use Rattle.tx_model.proofs.IdListSteps.{contains_true, all_has}
-use Rattle.tx_model.proofs.Soundness.{legal_sound, has_given_to, open_member, IsSound}
-use Rattle.tx_model.proofs.LineGrowth.{legal_push}
-use Rattle.tx_model.proofs.NameBounds.{AreBelow, given_below}
-use Rattle.tx_model.proofs.IdOrder.{next_above}
-use Rattle.tx_model.proofs.GivenGrowth.{next_after}
-use Rattle.tx_model.proofs.GivingGrowth.{giving_running, giving_sub, sub_tops, giving_closed, giving_open_ids}
-use Rattle.tx_model.specs.Events.{given}
-use Rattle.tx_model.specs.Horizon.{live_snaps}
-use Rattle.tx_model.specs.IdLists.{has}
-use Rattle.tx_model.specs.Limits.{stop_limit}
-use Rattle.tx_model.specs.Running.{is_open, running, open_ids}
-use Rattle.tx_model.specs.declared.event.By.{By}
-use Rattle.tx_model.specs.declared.event.Event.{Event}
-use Rattle.tx_model.specs.declared.record.Counters.{Counters}
+use Rattle.tx_events.proofs.ClosingGrowth.{same_latest}
+use Rattle.tx_events.proofs.ListSteps.{equal_swap, length_push, not_both}
+use Rattle.tx_events.proofs.HorizonSteps.{live_push, oldest_push}
+use Rattle.tx_events.proofs.IdListSteps.{contains_true, all_has}
+use Rattle.tx_events.proofs.Soundness.{legal_sound, has_given_to, open_member, IsSound}
+use Rattle.tx_events.proofs.GivenIds.{legal_push}
+use Rattle.tx_events.proofs.NameBounds.{AreBelow, given_below}
+use Rattle.tx_events.proofs.IdOrder.{next_above}
+use Rattle.tx_events.proofs.GivenGrowth.{next_after}
+use Rattle.tx_events.proofs.GivingGrowth.{giving_running, giving_sub, sub_tops, giving_closed, giving_open_ids}
+use Rattle.tx_events.specs.Events.{given}
+use Rattle.tx_events.specs.Horizon.{live_snaps}
+use Rattle.tx_events.specs.IdLists.{has}
+use Rattle.tx_events.specs.Limits.{stop_limit}
+use Rattle.tx_events.specs.Running.{is_open, running, open_ids}
+use Rattle.tx_events.specs.declared.event.By.{By}
+use Rattle.tx_events.specs.declared.event.Event.{Event}
+use Rattle.tx_events.specs.declared.record.Counters.{Counters}
 use Rattle.xid_order.specs.Ids.{next_id}
-use Rattle.tx_model.specs.declared.event.Event.TheVariants as events
+use Rattle.tx_events.specs.declared.event.Event.TheVariants as events
 
 added_entry : (first : ℕ) (h : List Event) (by : By) (parent n : ℕ) → IsSound first h → AreBelow n h → is_open h parent ≡ true → parent < n → has (open_ids by.session h) parent ≡ true →
     (x y : Entry) → IsEntryAt first h x → IsAdded by.session n x y → IsEntryAt first (h ++ events.Sub by parent n ∷ []) y

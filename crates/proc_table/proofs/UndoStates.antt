@@ -1,6 +1,6 @@
 -- The state after the rollback of a savepoint.
 use Rattle.std.proofs.lemmas.Bool.{cases_Bool}
-use Rattle.tx_model.proofs.Lineages.{line_head, top_line, enclosing_line}
+use Rattle.tx_events.proofs.Lineages.{line_head, top_line, enclosing_line}
 use Rattle.proc_table.proofs.EntryClosing.{entry_closing}
 use Rattle.proc_table.proofs.EntryLists.{each_zip, any_zip, pick, same_zip}
 use Rattle.proc_table.proofs.EntrySub.{sub_session}
@@ -14,27 +14,27 @@ use Rattle.proc_table.specs.declared.live.LiveSnapshots.{LiveSnapshots}
 use Rattle.std.proofs.Common.{◌≡◌, ℕ, ◌-◌, ◌<◌, ◌≤◌, List, [], ◌∷◌, ◌++◌, length, reverse, refl, ap, sym, ◌∙◌, arith, Bool, true, false, not, ◌&&◌, ◌==◌, ◌||◌, subst, max, inl, inr, ⊎_elim, ◌⊎◌, ◌+◌, eqb-true, take, suc}
 use Rattle.std.proofs.lemmas.List.Elements.{filter_agree}
 use Rattle.std.specs.List.{filter, AllByRecursion, list_any, fold, AllZip}
-use Rattle.tx_model.proofs.ClosingGrowth.{closing_open_ids, closing_undo, IsClosing, closing_latest, closing_running, closing_tops}
-use Rattle.tx_model.proofs.RunningFamily.{all_subs, family_member}
-use Rattle.tx_model.proofs.ListSteps.{equal_swap, filter_agree_where, eqb-refl, filter_all, not_both, filter_passes, filter_in_turn}
-use Rattle.tx_model.proofs.HorizonSteps.{live_push, oldest_push}
-use Rattle.tx_model.proofs.IdListSteps.{contains_true, has-filter, one_less, all_has}
-use Rattle.tx_model.proofs.Soundness.{legal_sound, has_given_to, open_member, IsSound}
-use Rattle.tx_model.proofs.LineGrowth.{legal_push}
+use Rattle.tx_events.proofs.ClosingGrowth.{closing_open_ids, closing_undo, IsClosing, closing_latest, closing_running, closing_tops}
+use Rattle.tx_events.proofs.RunningFamily.{all_subs, family_member}
+use Rattle.tx_events.proofs.ListSteps.{equal_swap, filter_agree_where, eqb-refl, filter_all, not_both, filter_passes, filter_in_turn}
+use Rattle.tx_events.proofs.HorizonSteps.{live_push, oldest_push}
+use Rattle.tx_events.proofs.IdListSteps.{contains_true, has-filter, one_less, all_has}
+use Rattle.tx_events.proofs.Soundness.{legal_sound, has_given_to, open_member, IsSound}
+use Rattle.tx_events.proofs.GivenIds.{legal_push}
 use Rattle.std.proofs.Math.Bool.{and-false}
-use Rattle.tx_model.proofs.NameBounds.{AreBelow, running_below}
-use Rattle.tx_model.specs.Events.{given}
-use Rattle.tx_model.specs.Families.{top, is_top, lineage}
-use Rattle.tx_model.specs.History.{nth_id, MayCome}
-use Rattle.tx_model.specs.Horizon.{live_snaps}
-use Rattle.tx_model.specs.IdLists.{has}
-use Rattle.tx_model.specs.Running.{is_open, running, open_ids, running_tops}
-use Rattle.tx_model.specs.Savepoints.{is_inside, family}
-use Rattle.tx_model.specs.Snapshots.{latest, running_subs}
-use Rattle.tx_model.specs.declared.event.By.{By}
-use Rattle.tx_model.specs.declared.event.Event.{Event}
-use Rattle.tx_model.specs.declared.record.Counters.{Counters}
-use Rattle.tx_model.specs.declared.event.Event.TheVariants as events
+use Rattle.tx_events.proofs.NameBounds.{AreBelow, running_below}
+use Rattle.tx_events.specs.Events.{given}
+use Rattle.tx_events.specs.Families.{top, is_top, lineage}
+use Rattle.tx_events.specs.History.{nth_id, MayCome}
+use Rattle.tx_events.specs.Horizon.{live_snaps}
+use Rattle.tx_events.specs.IdLists.{has}
+use Rattle.tx_events.specs.Running.{is_open, running, open_ids, running_tops}
+use Rattle.tx_events.specs.Savepoints.{is_inside, family}
+use Rattle.tx_events.specs.Snapshots.{latest, running_subs}
+use Rattle.tx_events.specs.declared.event.By.{By}
+use Rattle.tx_events.specs.declared.event.Event.{Event}
+use Rattle.tx_events.specs.declared.record.Counters.{Counters}
+use Rattle.tx_events.specs.declared.event.Event.TheVariants as events
 
 -- the undo of a savepoint, which closes these ids
 taken_entry : (first : ℕ) (h : List Event) (by : By) (id : ℕ) (ids : List ℕ) → IsSound first h → has (open_ids by.session h) id ≡ true → ids ≡ filter (is_inside h id) (open_ids by.session h) →

@@ -7,10 +7,10 @@ use Rattle.std.specs.BTreeMap.{BTreeMap, btree_map_len, get, is_at}
 use Rattle.std.specs.List.{fold}
 use Rattle.std.specs.Map.{lookup}
 use Rattle.std.specs.Ordering.{nat_cmp, is_gt, is_lt}
-use Rattle.tx_model.proofs.Extremes.{fold_min_start, fold_min_has, fold_min_above}
-use Rattle.tx_model.proofs.ListSteps.{eqb-refl}
-use Rattle.tx_model.proofs.Membership.{Has}
-use Rattle.tx_model.specs.Horizon.{LiveSnap}
+use Rattle.tx_events.proofs.Extremes.{fold_min_start, fold_min_has, fold_min_above}
+use Rattle.tx_events.proofs.ListSteps.{eqb-refl}
+use Rattle.tx_events.proofs.Membership.{Has}
+use Rattle.tx_events.specs.Horizon.{LiveSnap}
 use Rattle.proc_table.specs.Lives.{IsTally, one_more, some_of, with_xmin}
 
 abbrev one_if : Bool → ℕ

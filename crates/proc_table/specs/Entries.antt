@@ -2,11 +2,11 @@
 use Rattle.std.specs.Prelude.{◌≡◌, ℕ, ◌<◌, ◌≤◌, ◌==◌, ◌||◌, ◌⊎◌, Bool, true, false, not, nat_lt, List, [], ◌∷◌, ◌++◌, length}
 use Rattle.std.specs.List.{AllByRecursion, filter, slice_index_or}
 use Rattle.std.specs.Vec.{vec_len, vec_capacity}
-use Rattle.tx_model.specs.declared.event.Event.{Event}
-use Rattle.tx_model.specs.Running.{open_ids}
-use Rattle.tx_model.specs.Snapshots.{latest, running_subs, has_overflowed}
-use Rattle.tx_model.specs.IdLists.{has, Ascending}
-use Rattle.tx_model.specs.Savepoints.{family}
+use Rattle.tx_events.specs.declared.event.Event.{Event}
+use Rattle.tx_events.specs.Running.{open_ids}
+use Rattle.tx_events.specs.Snapshots.{latest, running_subs, has_overflowed}
+use Rattle.tx_events.specs.IdLists.{has, Ascending}
+use Rattle.tx_events.specs.Savepoints.{family}
 use Rattle.proc_table.specs.declared.entry.Entry.{Entry}
 
 -- what is kept of one transaction is that of the events

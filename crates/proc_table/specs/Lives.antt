@@ -4,7 +4,7 @@ use Rattle.std.specs.List.{count_by, filter, list_any}
 use Rattle.std.specs.BTreeMap.{BTreeMap, get, get_by}
 use Rattle.std.specs.Cmp.Lexicographic.{slice_cmp}
 use Rattle.std.specs.Ordering.{nat_cmp}
-use Rattle.tx_model.specs.Horizon.{LiveSnap, is_snap_of}
+use Rattle.tx_events.specs.Horizon.{LiveSnap, is_snap_of}
 use Rattle.proc_table.specs.declared.live.LiveSnapshots.{LiveSnapshots}
 
 -- the xmin of the first snapshot of this session and name

@@ -1,13 +1,13 @@
 -- The state of the table is that of its events.
 use Rattle.std.specs.Prelude.{◌≡◌, ℕ, ◌+◌, ◌^◌, ◌<◌, ◌≤◌, ◌==◌, false, List, [], length}
 use Rattle.std.specs.List.{AllByRecursion, list_any}
-use Rattle.tx_model.specs.declared.event.Event.{Event}
-use Rattle.tx_model.specs.declared.record.Counters.{Counters}
-use Rattle.tx_model.specs.Base.{IsBase}
-use Rattle.tx_model.specs.History.{IsLegal, next_given}
-use Rattle.tx_model.specs.Running.{running, running_tops, open_ids}
-use Rattle.tx_model.specs.Snapshots.{latest}
-use Rattle.tx_model.specs.Horizon.{oldest_id, live_snaps}
+use Rattle.tx_events.specs.declared.event.Event.{Event}
+use Rattle.tx_events.specs.declared.record.Counters.{Counters}
+use Rattle.tx_events.specs.Base.{IsBase}
+use Rattle.tx_events.specs.History.{IsLegal, next_given}
+use Rattle.tx_events.specs.Running.{running, running_tops, open_ids}
+use Rattle.tx_events.specs.Snapshots.{latest}
+use Rattle.tx_events.specs.Horizon.{oldest_id, live_snaps}
 use Rattle.proc_table.specs.declared.entry.Entry.{Entry}
 use Rattle.proc_table.specs.declared.live.LiveSnapshots.{LiveSnapshots}
 use Rattle.proc_table.specs.Entries.{IsEntryAt}

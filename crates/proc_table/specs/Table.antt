@@ -1,24 +1,23 @@
 -- What callers see of the table, and what its calls answer.
 use Rattle.std.specs.Prelude.{◌≡◌, ℕ, ◌/◌, ◌<◌, ◌≤◌, ◌↔◌, ◌⊎◌, Bool, true, false, IsTrue, List, [], ◌∷◌, ◌++◌, Contains, Result, MatchResult}
 use Rattle.std.specs.List.{All, filter}
-use Rattle.tx_model.specs.declared.event.By.{By}
-use Rattle.tx_model.specs.declared.event.Event.{Event}
-use Rattle.tx_model.specs.declared.event.Event.TheVariants as events
-use Rattle.tx_model.specs.declared.record.Counters.{Counters}
-use Rattle.tx_model.specs.declared.reply.Refusal.{Refusal}
-use Rattle.tx_model.specs.declared.reply.Refusal.TheVariants as refusals
-use Rattle.tx_model.specs.declared.sequence.Memory.{Memory}
-use Rattle.tx_model.specs.declared.reply.SnapData.{SnapData}
-use Rattle.tx_model.specs.Events.{by_of, is_of}
-use Rattle.tx_model.specs.History.{next_given}
-use Rattle.tx_model.specs.Families.{is_top}
-use Rattle.tx_model.specs.Running.{running, open_ids}
-use Rattle.tx_model.specs.Limits.{stop_limit, warn_limit}
-use Rattle.tx_model.specs.Snapshots.{snapshot_data}
-use Rattle.tx_model.specs.Horizon.{oldest_id, oldest_xmin, live_snaps}
-use Rattle.tx_model.specs.IdLists.{has}
-use Rattle.snap_core.specs.declared.snapshot.Snapshot.{Snapshot}
-use Rattle.snap_core.specs.Says.{data_of}
+use Rattle.tx_events.specs.declared.event.By.{By}
+use Rattle.tx_events.specs.declared.event.Event.{Event}
+use Rattle.tx_events.specs.declared.event.Event.TheVariants as events
+use Rattle.tx_events.specs.declared.record.Counters.{Counters}
+use Rattle.tx_events.specs.declared.refusal.Refusal.{Refusal}
+use Rattle.tx_events.specs.declared.refusal.Refusal.TheVariants as refusals
+use Rattle.tx_events.specs.declared.sequence.Memory.{Memory}
+use Rattle.tx_events.specs.declared.snapshot.SnapData.{SnapData}
+use Rattle.tx_events.specs.Events.{by_of, is_of}
+use Rattle.tx_events.specs.History.{next_given}
+use Rattle.tx_events.specs.Families.{is_top}
+use Rattle.tx_events.specs.Running.{running, open_ids}
+use Rattle.tx_events.specs.Limits.{stop_limit, warn_limit}
+use Rattle.tx_events.specs.Snapshots.{snapshot_data}
+use Rattle.tx_events.specs.Horizon.{oldest_id, oldest_xmin, live_snaps}
+use Rattle.tx_events.specs.IdLists.{has}
+use Rattle.tx_events.specs.declared.snapshot.SnapData.{SnapData}
 use Rattle.proc_table.specs.declared.answers.Given.{Given}
 use Rattle.proc_table.specs.declared.answers.Given.TheVariants as gives
 use Rattle.proc_table.specs.declared.answers.Asked.{Asked}
@@ -91,8 +90,8 @@ end_event true by top = events.Commit by top
 end_event false by top = events.Abort by top
 
 -- the snapshot holds what it is to hold, and its event is added; or memory was wanting
-abbrev pub Takes : Table → Table → Event → Result Snapshot Memory → Type 0
-Takes old new event result = MatchResult result (λ s. (data_of s ≡ data_at old) × Adds old new event) (λ _. new ≡ old)
+abbrev pub Takes : Table → Table → Event → Result SnapData Memory → Type 0
+Takes old new event result = MatchResult result (λ s. (s ≡ data_at old) × Adds old new event) (λ _. new ≡ old)
 
 -- the oldest id isn't raised: it would go back, it would pass the oldest xmin, or memory was wanting
 abbrev pub IsNotRaised : Table → ℕ → Refusal → Type 0

@@ -1,13 +1,13 @@
 ghost use Rattle.std.specs.Prelude.{◌≡◌, ◌==◌, ◌<◌, ◌^◌, ℕ, [], false, not, map, min, nat_lt, true, IfSome, IfNone, IfOk};
 ghost use Rattle.std.specs.List.{All, Any, filter, fold, list_any};
-ghost use Rattle.tx_model.specs.IdLists.{has};
+ghost use Rattle.tx_events.specs.IdLists.{has};
 ghost use Rattle.proc_table.specs.declared.entry.Entry.{Entry};
 ghost use Rattle.proc_table.specs.Entries.{IsSame, IsAdded, IsTaken, IsEach, HasRoomFor, SubsAscend, is_of_entry};
 ghost use Rattle.proc_table.specs.Lists.{entries_below, tops_of, subs_of, some_overflowed, total_of, AreListed};
 
 use crate::entry::Entry;
 use std::alloc::Global;
-use tx_model::{IdList, Memory};
+use tx_events::{IdList, Memory};
 use xid_order::FullXid;
 
 /// The id that was given last to the transaction of this top.

@@ -1,7 +1,7 @@
 ghost use Rattle.std.specs.Prelude.{◌≡◌, ◌++◌, ◌==◌, ◌^◌, ◌||◌, ◌<◌, [], ◌∷◌, not, true, false, max};
 ghost use Rattle.std.specs.List.{filter, fold};
 ghost use Rattle.std.specs.Vec.{vec_len, vec_capacity};
-ghost use Rattle.tx_model.specs.IdLists.{has, Ascending};
+ghost use Rattle.tx_events.specs.IdLists.{has, Ascending};
 ghost use Rattle.proc_table.specs.Lists.{count_of};
 ghost use Rattle.proc_table.specs.Entries.{IsSame, IsAdded, IsTaken, HasRoomFor};
 

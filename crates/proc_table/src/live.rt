@@ -2,14 +2,14 @@ ghost use Rattle.std.specs.Prelude.{◌≡◌, ℕ, ◌+◌, ◌^◌, ◌<◌, L
 ghost use Rattle.std.specs.List.{fold, list_any};
 ghost use Rattle.std.specs.BTreeMap.{get};
 ghost use Rattle.std.specs.Ordering.{nat_cmp};
-ghost use Rattle.tx_model.specs.Events.{same_name};
-ghost use Rattle.tx_model.specs.Horizon.{LiveSnap, is_snap_of};
+ghost use Rattle.tx_events.specs.Events.{same_name};
+ghost use Rattle.tx_events.specs.Horizon.{LiveSnap, is_snap_of};
 ghost use Rattle.proc_table.specs.Lives.{HoldsLive, xmin_under, live_xmin, others};
 
 use crate::xmins::{XminCounts, count_less, count_more, least_counted};
 use std::alloc::Global;
 use std::collections::BTreeMap;
-use tx_model::{Memory, Name, Sequence};
+use tx_events::{Memory, Name, Sequence};
 use xid_order::FullXid;
 
 /// The xmin of each live snapshot of one session, by the bytes of its name.

@@ -1,16 +1,15 @@
 ghost use Rattle.std.specs.Prelude.{◌≡◌, ℕ, ◌+◌, ◌^◌, ◌<◌, ◌≤◌, List, [], ◌∷◌, ◌++◌, Contains, true, false, length, max, IfOk, IfSome, IfNone};
 ghost use Rattle.std.specs.List.{filter};
 ghost use Rattle.std.specs.Vec.{vec_len, vec_capacity};
-ghost use Rattle.tx_model.specs.declared.event.Event.TheVariants as events;
-ghost use Rattle.tx_model.specs.Base.{IsBase};
-ghost use Rattle.tx_model.specs.History.{IsLegal};
-ghost use Rattle.tx_model.specs.Running.{open_ids};
-ghost use Rattle.tx_model.specs.Families.{is_top};
-ghost use Rattle.tx_model.specs.Horizon.{is_live};
-ghost use Rattle.tx_model.specs.Savepoints.{is_inside};
-ghost use Rattle.tx_model.specs.Snapshots.{snapshot_xmax};
+ghost use Rattle.tx_events.specs.declared.event.Event.TheVariants as events;
+ghost use Rattle.tx_events.specs.Base.{IsBase};
+ghost use Rattle.tx_events.specs.History.{IsLegal};
+ghost use Rattle.tx_events.specs.Running.{open_ids};
+ghost use Rattle.tx_events.specs.Families.{is_top};
+ghost use Rattle.tx_events.specs.Horizon.{is_live};
+ghost use Rattle.tx_events.specs.Savepoints.{is_inside};
+ghost use Rattle.tx_events.specs.Snapshots.{snapshot_xmax};
 ghost use Rattle.xid_order.specs.Ids.{next_id};
-ghost use Rattle.snap_core.specs.Says.{data_of};
 ghost use Rattle.proc_table.specs.Table.{Table, InTurn, Gives, Adds, Takes, Raises, Asks, IsLiveAt, IsOpenTop, data_at, end_event, next_of, oldest_of, xmin_of, page_of};
 
 use crate::answers::{Asked, Given};
@@ -21,11 +20,11 @@ use crate::entries::{
 use crate::entry::{Entry, greatest};
 use crate::live::LiveSnapshots;
 use horizon_limits::Limits;
-use snap_core::Snapshot;
 use std::alloc::{AllocError, Global};
 use std::marker::Model;
-use tx_model::{
-    By, Copied, Counters, Event, EventList, Memory, Name, Refusal, make_one_room, make_room,
+use tx_events::{
+    By, Copied, Counters, Event, EventList, Memory, Name, Refusal, SnapData, make_one_room,
+    make_room,
 };
 use xid_order::FullXid;
 
@@ -200,7 +199,7 @@ impl ProcTable {
 
     /// Takes a snapshot under a name that the session has no live snapshot of, and registers its xmin
     /// (`GetSnapshotData`). The room for its drop is taken now. After want of memory nothing changed.
-    pub fn snapshot(&mut self, by: By, name: &Name) -> Result<Snapshot, Memory>
+    pub fn snapshot(&mut self, by: By, name: &Name) -> Result<SnapData, Memory>
         requires session { by.session < self.old.sessions }
         requires turn { InTurn by self.old.events }
         requires free { is_live self.old.base.next by.session name.now self.old.events ≡ false }
@@ -221,13 +220,13 @@ impl ProcTable {
     }
 
     /// What a snapshot holds that is taken now.
-    pub fn taken(&self) -> Result<Snapshot, Memory>
-        ensures { IfOk result (λ s. data_of s ≡ data_at self.now) }
+    pub fn taken(&self) -> Result<SnapData, Memory>
+        ensures { IfOk result (λ s. s ≡ data_at self.now) }
     {
         let alloc = *self.events.allocator();
         let xmax = self.xmax();
         let overflowed = has_overflow_below(&self.entries, xmax);
-        Ok(Snapshot {
+        Ok(SnapData {
             xmin: least_top(xmax, &self.entries),
             xmax,
             xip: tops_below(alloc, &self.entries, xmax)?,

@@ -2,9 +2,8 @@ mod driver;
 
 use crate::Given;
 use driver::Driver;
-use snap_core::Snapshot;
 use std::process::Abort;
-use tx_model::{IdList, Name, Refusal};
+use tx_events::{IdList, Name, Refusal, SnapData};
 use xid_order::FullXid;
 
 fn name<R: Abort + AllocGlobal>(rt: &R, letter: u8) -> Name {
@@ -32,7 +31,7 @@ fn assert_ids<R: Abort>(rt: &R, ids: &IdList, expected: &[u64]) {
     }
 }
 
-fn assert_limits<R: Abort>(rt: &R, snap: &Snapshot, xmin: u64, xmax: u64, overflowed: bool) {
+fn assert_limits<R: Abort>(rt: &R, snap: &SnapData, xmin: u64, xmax: u64, overflowed: bool) {
     assert_eq!(rt; snap.xmin.number(), xmin);
     assert_eq!(rt; snap.xmax.number(), xmax);
     assert_eq!(rt; snap.overflowed, overflowed);

@@ -2,7 +2,7 @@ ghost use Rattle.std.specs.Prelude.{◌≡◌, ℕ, ◌+◌, ◌^◌, ◌<◌, L
 ghost use Rattle.std.specs.List.{fold};
 ghost use Rattle.std.specs.BTreeMap.{get};
 ghost use Rattle.std.specs.Ordering.{nat_cmp};
-ghost use Rattle.tx_model.specs.Horizon.{LiveSnap};
+ghost use Rattle.tx_events.specs.Horizon.{LiveSnap};
 ghost use Rattle.proc_table.specs.Lives.{IsTally, one_more, with_xmin};
 
 use std::collections::BTreeMap;

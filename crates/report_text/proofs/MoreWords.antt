@@ -6,9 +6,9 @@ use Rattle.std.specs.Fmt.{decimal}
 use Rattle.report_text.specs.Words.{more, line_text, numbers}
 use Rattle.report_text.specs.MemberText.{mode_word, id_word, verdict_word, pair_word, pair_words, member_word, member_words, member_verdict_word, member_verdict_words}
 use Rattle.report_text.specs.ReplyText.{hex_word}
-use Rattle.tx_model.specs.declared.multi.Member.{Member}
-use Rattle.tx_model.specs.declared.multi.Mode.{Mode}
-use Rattle.tx_model.specs.declared.multi.Pair.{Pair}
+use Rattle.tx_events.specs.declared.multi.Member.{Member}
+use Rattle.tx_events.specs.declared.multi.Mode.{Mode}
+use Rattle.tx_model.specs.declared.command.Pair.{Pair}
 use Rattle.tx_model.specs.declared.reply.MemberVerdict.{MemberVerdict}
 
 more-append : (xs ys : List (List ℕ)) → more (xs ++ ys) ≡ more xs ++ more ys

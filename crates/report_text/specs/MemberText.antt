@@ -2,10 +2,10 @@
 use Rattle.std.specs.Prelude.{ℕ, List, ◌∷◌, ◌++◌, codes, map}
 use Rattle.std.specs.Fmt.{decimal}
 use Rattle.report_text.specs.Words.{colon}
-use Rattle.tx_model.specs.declared.multi.Mode.{Mode}
-use Rattle.tx_model.specs.declared.multi.Mode.TheVariants as modes
-use Rattle.tx_model.specs.declared.multi.Member.{Member}
-use Rattle.tx_model.specs.declared.multi.Pair.{Pair}
+use Rattle.tx_events.specs.declared.multi.Mode.{Mode}
+use Rattle.tx_events.specs.declared.multi.Mode.TheVariants as modes
+use Rattle.tx_events.specs.declared.multi.Member.{Member}
+use Rattle.tx_model.specs.declared.command.Pair.{Pair}
 use Rattle.tx_model.specs.declared.reply.Verdict.{Verdict}
 use Rattle.tx_model.specs.declared.reply.Verdict.TheVariants as verdicts
 use Rattle.tx_model.specs.declared.reply.MemberVerdict.{MemberVerdict}

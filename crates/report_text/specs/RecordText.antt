@@ -3,9 +3,9 @@ use Rattle.std.specs.Prelude.{ℕ, ◌+◌, List, [], ◌∷◌, ◌++◌, codes
 use Rattle.std.specs.Fmt.{decimal}
 use Rattle.report_text.specs.MemberText.{member_words}
 use Rattle.report_text.specs.Words.{numbers, line_text}
-use Rattle.tx_model.specs.declared.record.Counters.{Counters}
-use Rattle.tx_model.specs.declared.record.Rec.{Rec}
-use Rattle.tx_model.specs.declared.record.Rec.TheVariants as records
+use Rattle.tx_events.specs.declared.record.Counters.{Counters}
+use Rattle.tx_events.specs.declared.record.Rec.{Rec}
+use Rattle.tx_events.specs.declared.record.Rec.TheVariants as records
 
 abbrev pub first_counters : Counters → List (List ℕ)
 first_counters c = codes "next" ∷ decimal c.next ∷ codes "oldest" ∷ decimal c.oldest ∷ codes "multi" ∷ decimal c.multi ∷ []

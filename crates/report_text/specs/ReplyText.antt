@@ -3,13 +3,13 @@ use Rattle.std.specs.Prelude.{ℕ, ◌+◌, ◌/◌, ◌%◌, nat_lt, if◌then�
 use Rattle.std.specs.Fmt.{decimal}
 use Rattle.report_text.specs.Words.{numbers_or_dash, yes_or_no, name_at}
 use Rattle.report_text.specs.MemberText.{member_verdict_words}
-use Rattle.tx_model.specs.declared.reply.Lock.{Lock}
-use Rattle.tx_model.specs.declared.reply.Lock.TheVariants as locks
-use Rattle.tx_model.specs.declared.reply.Refusal.{Refusal}
-use Rattle.tx_model.specs.declared.reply.Refusal.TheVariants as refusals
+use Rattle.tx_events.specs.declared.refusal.Lock.{Lock}
+use Rattle.tx_events.specs.declared.refusal.Lock.TheVariants as locks
+use Rattle.tx_events.specs.declared.refusal.Refusal.{Refusal}
+use Rattle.tx_events.specs.declared.refusal.Refusal.TheVariants as refusals
 use Rattle.tx_model.specs.declared.reply.Reply.{Reply}
 use Rattle.tx_model.specs.declared.reply.Reply.TheVariants as replies
-use Rattle.tx_model.specs.declared.reply.SnapData.{SnapData}
+use Rattle.tx_events.specs.declared.snapshot.SnapData.{SnapData}
 use Rattle.tx_model.specs.declared.reply.Status.{Status}
 use Rattle.tx_model.specs.declared.reply.Status.TheVariants as statuses
 

@@ -7,8 +7,8 @@ use Rattle.report_text.specs.CommandText.{command_words}
 use Rattle.report_text.specs.ReplyText.{reply_words}
 use Rattle.report_text.specs.EventText.{event_words, multi_event_words, by_words}
 use Rattle.report_text.specs.RecordText.{counters_words, records_text}
-use Rattle.tx_model.specs.declared.event.Event.{Event}
-use Rattle.tx_model.specs.declared.multi.MultiEvent.{MultiEvent}
+use Rattle.tx_events.specs.declared.event.Event.{Event}
+use Rattle.tx_events.specs.declared.multi.MultiEvent.{MultiEvent}
 use Rattle.tx_model.specs.declared.report.DumpOf.{DumpOf}
 use Rattle.tx_model.specs.declared.report.DumpOf.TheVariants as dumps
 use Rattle.tx_model.specs.declared.report.Line.{Line}
@@ -16,6 +16,8 @@ use Rattle.tx_model.specs.declared.report.Step.{Step}
 use Rattle.tx_model.specs.declared.report.Step.TheVariants as steps
 use Rattle.tx_model.specs.declared.report.How.{How}
 use Rattle.tx_model.specs.declared.report.How.TheVariants as hows
+use Rattle.tx_events.specs.declared.record.Counters.{Counters}
+use Rattle.tx_model.specs.declared.report.Life.{Life}
 use Rattle.tx_model.specs.declared.report.LifeReport.{LifeReport}
 use Rattle.tx_model.specs.declared.report.Report.{Report}
 
@@ -31,9 +33,13 @@ dump_words (dumps.Subtrans page) = codes "subtrans" ∷ decimal page ∷ []
 dump_words (dumps.Offsets page) = codes "offsets" ∷ decimal page ∷ []
 dump_words (dumps.Members page) = codes "members" ∷ decimal page ∷ []
 
+-- the line that begins a round
+abbrev pub round_line : ℕ → List ℕ
+round_line number = line_text (codes "round" ∷ decimal number ∷ [])
+
 -- a step
 unfoldable pub step_text : List (List ℕ) → Step → List ℕ
-step_text names (steps.Round number lines) = line_text (codes "round" ∷ decimal number ∷ []) ++ flat_map (command_line names) lines
+step_text names (steps.Round number lines) = round_line number ++ flat_map (command_line names) lines
 step_text names (steps.Checkpoint reply) = line_text (codes "checkpoint" ∷ codes "->" ∷ reply_words names reply)
 step_text names (steps.Dump what at length reply) =
     line_text (codes "dump" ∷ dump_words what ++ decimal at ∷ decimal length ∷ codes "->" ∷ reply_words names reply)
@@ -46,8 +52,8 @@ crash_text (Some hows.Kept) = line_text (codes "crash" ∷ codes "kept" ∷ [])
 crash_text (Some hows.Torn) = line_text (codes "crash" ∷ codes "torn" ∷ [])
 
 -- the line that begins a life
-unfoldable pub life_line : ℕ → LifeReport → List ℕ
-life_line number r = line_text (codes "life" ∷ decimal number ∷ codes "from" ∷ decimal r.life.from ∷ counters_words r.life.base)
+unfoldable pub life_line : ℕ → ℕ → Counters → List ℕ
+life_line number from base = line_text (codes "life" ∷ decimal number ∷ codes "from" ∷ decimal from ∷ counters_words base)
 
 -- its history
 unfoldable pub history_text : List (List ℕ) → List Event → List ℕ
@@ -58,23 +64,37 @@ unfoldable pub multis_text : List (List ℕ) → List MultiEvent → List ℕ
 multis_text names h = line_text (codes "multis" ∷ []) ++ flat_map (λ e. line_text (multi_event_words names e)) h
 
 -- its log
-unfoldable pub log_text : LifeReport → List ℕ
-log_text r =
-    line_text (codes "log" ∷ codes "flushed" ∷ decimal r.life.flushed ∷ codes "end" ∷ decimal r.life.end ∷ [])
-    ++ records_text r.life.from r.life.recs
+unfoldable pub log_text : Life → List ℕ
+log_text l =
+    line_text (codes "log" ∷ codes "flushed" ∷ decimal l.flushed ∷ codes "end" ∷ decimal l.end ∷ [])
+    ++ records_text l.from l.recs
+
+-- what stands behind the steps of a life
+abbrev pub rest_text : List (List ℕ) → Life → Option How → List ℕ
+rest_text names l crash = history_text names l.events ++ multis_text names l.multis ++ log_text l ++ crash_text crash
 
 -- a life
 abbrev pub life_text : List (List ℕ) → ℕ → LifeReport → List ℕ
 life_text names number r =
-    life_line number r ++ flat_map (step_text names) r.steps ++ history_text names r.life.events
-    ++ multis_text names r.life.multis ++ log_text r ++ crash_text r.crash
+    life_line number r.life.from r.life.base ++ flat_map (step_text names) r.steps ++ rest_text names r.life r.crash
 
 -- lives, numbered from here on
 unfoldable pub lives_text : List (List ℕ) → ℕ → List LifeReport → List ℕ
 lives_text names number [] = []
 lives_text names number (l ∷ lives) = life_text names number l ++ lives_text names (number + 1) lives
 
+-- the first line
+abbrev pub title_text : List ℕ
+title_text = line_text (codes "txid" ∷ codes "report" ∷ codes "1" ∷ [])
+
+-- the last line
+abbrev pub end_text : List ℕ
+end_text = line_text (codes "end" ∷ [])
+
 -- the report of a run
 abbrev pub report_text : Report → List ℕ
-report_text r =
-    line_text (codes "txid" ∷ codes "report" ∷ codes "1" ∷ []) ++ lives_text r.names 1 r.lives ++ line_text (codes "end" ∷ [])
+report_text r = title_text ++ lives_text r.names 1 r.lives ++ end_text
+
+-- the report up to the steps of its first life
+abbrev pub front_text : Counters → List ℕ
+front_text base = title_text ++ life_line 1 0 base

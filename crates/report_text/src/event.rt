@@ -2,7 +2,7 @@
 ghost use Rattle.std.specs.Prelude.{◌≡◌, [], ◌∷◌, ◌++◌, OnOk};
 ghost use Rattle.std.specs.List.{flat_map};
 ghost use Rattle.std.specs.Fmt.{decimal};
-ghost use Rattle.tx_model.specs.Events.{by_of};
+ghost use Rattle.tx_events.specs.Events.{by_of};
 ghost use Rattle.report_text.specs.Words.{more, line_text};
 ghost use Rattle.report_text.specs.EventText.{by_words, event_word, event_rest, event_words, multi_event_word, multi_by_of, multi_event_rest, multi_event_words};
 

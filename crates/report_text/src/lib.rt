@@ -13,4 +13,6 @@ mod step;
 mod tests;
 mod text;
 
-pub use report::print_report;
+pub use report::{begin_report, end_report, print_report};
+pub use step::{put_command_line, put_round_line};
+pub use text::Text;

@@ -2,23 +2,23 @@
 ghost use Rattle.std.specs.Prelude.{◌≡◌, ◌+◌, [], ◌∷◌, ◌++◌, OnOk, IfOk, codes, Option};
 ghost use Rattle.std.specs.Fmt.{decimal};
 ghost use Rattle.report_text.specs.Words.{more, line_text};
-ghost use Rattle.report_text.specs.ReportText.{crash_text, life_line, history_text, multis_text, log_text, life_text, lives_text, report_text};
+ghost use Rattle.report_text.specs.ReportText.{crash_text, end_text, front_text, life_line, history_text, multis_text, log_text, life_text, lives_text, report_text, rest_text, title_text};
 
 use crate::event::{put_events, put_multi_events};
 use crate::record::{put_counters, put_records};
 use crate::step::put_steps;
 use crate::text::Text;
 use std::alloc::Global;
-use tx_model::{Event, How, LifeReport, Memory, MultiEvent, NameList, Report};
+use tx_model::{Counters, Event, How, Life, LifeReport, Memory, MultiEvent, NameList, Report};
 
 #[tactic(auto, using(crate::proofs::MoreWords::then_more, crate::proofs::MoreWords::then_line), unfolding(crate::specs::ReportText::life_line))]
-fn put_life_line(out: &mut Text, number: u64, life: &LifeReport) -> Result<(), Memory>
-    ensures ok { OnOk result (out.new ≡ out.old ++ life_line number life.now) }
+fn put_life_line(out: &mut Text, number: u64, from: u64, base: &Counters) -> Result<(), Memory>
+    ensures ok { OnOk result (out.new ≡ out.old ++ life_line number from base.now) }
 {
     out.put(b"life")?;
     out.number(number)?;
-    out.named(b"from", life.life.from)?;
-    put_counters(out, &life.life.base)?;
+    out.named(b"from", from)?;
+    put_counters(out, base)?;
     out.end_line()
 }
 
@@ -49,11 +49,11 @@ fn put_log_line(out: &mut Text, flushed: u64, end: u64) -> Result<(), Memory>
 }
 
 #[tactic(auto, unfolding(crate::specs::ReportText::log_text))]
-fn put_log(out: &mut Text, life: &LifeReport) -> Result<(), Memory>
+fn put_log(out: &mut Text, life: &Life) -> Result<(), Memory>
     ensures ok { OnOk result (out.new ≡ out.old ++ log_text life.now) }
 {
-    put_log_line(out, life.life.flushed, life.life.end)?;
-    put_records(out, life.life.from, life.life.recs.items())
+    put_log_line(out, life.flushed, life.end)?;
+    put_records(out, life.from, life.recs.items())
 }
 
 #[tactic(auto, using(crate::proofs::MoreWords::then_line))]
@@ -77,15 +77,22 @@ fn put_crash(out: &mut Text, crash: Option<How>) -> Result<(), Memory>
     }
 }
 
+/// What stands behind the steps of a life.
+fn put_rest(out: &mut Text, names: &NameList, life: &Life, crash: Option<How>) -> Result<(), Memory>
+    ensures ok { OnOk result (out.new ≡ out.old ++ rest_text names.now life.now crash) }
+{
+    put_history(out, names, life.events.items())?;
+    put_multis(out, names, life.multis.items())?;
+    put_log(out, life)?;
+    put_crash(out, crash)
+}
+
 fn put_life(out: &mut Text, names: &NameList, number: u64, life: &LifeReport) -> Result<(), Memory>
     ensures ok { OnOk result (out.new ≡ out.old ++ life_text names.now number life.now) }
 {
-    put_life_line(out, number, life)?;
+    put_life_line(out, number, life.life.from, &life.life.base)?;
     put_steps(out, names, life.steps.items())?;
-    put_history(out, names, life.life.events.items())?;
-    put_multis(out, names, life.life.multis.items())?;
-    put_log(out, life)?;
-    put_crash(out, life.crash)
+    put_rest(out, names, &life.life, life.crash)
 }
 
 #[tactic(auto, unfolding(crate::specs::ReportText::lives_text))]
@@ -102,7 +109,7 @@ fn put_lives(out: &mut Text, names: &NameList, lives: &[LifeReport]) -> Result<(
 
 #[tactic(auto, using(crate::proofs::MoreWords::then_more, crate::proofs::MoreWords::then_line))]
 fn put_title(out: &mut Text) -> Result<(), Memory>
-    ensures ok { OnOk result (out.new ≡ out.old ++ line_text (codes "txid" ∷ codes "report" ∷ codes "1" ∷ [])) }
+    ensures ok { OnOk result (out.new ≡ out.old ++ title_text) }
 {
     out.put(b"txid")?;
     out.word(b"report")?;
@@ -120,4 +127,26 @@ pub fn print_report(alloc: Global, report: &Report) -> Result<Vec<u8>, Memory>
     put_lives(&mut out, &report.names, report.lives.items())?;
     out.short_line(b"end")?;
     Ok(out.into_bytes())
+}
+
+/// Begins the report of a run that goes on while it is printed: all up to the steps of its first life, which begins
+/// with these counters over a new log. The steps follow, and then `end_report`.
+pub fn begin_report(out: &mut Text, base: &Counters) -> Result<(), Memory>
+    ensures ok { OnOk result (out.new ≡ out.old ++ front_text base.now) }
+{
+    put_title(out)?;
+    put_life_line(out, 1, 0, base)
+}
+
+/// Ends such a report: what stands behind the steps of its last life, and the last line.
+pub fn end_report(
+    out: &mut Text,
+    names: &NameList,
+    life: &Life,
+    crash: Option<How>,
+) -> Result<(), Memory>
+    ensures ok { OnOk result (out.new ≡ out.old ++ (rest_text names.now life.now crash ++ end_text)) }
+{
+    put_rest(out, names, life, crash)?;
+    out.short_line(b"end")
 }

@@ -4,22 +4,35 @@ ghost use Rattle.std.specs.List.{flat_map};
 ghost use Rattle.std.specs.Fmt.{decimal};
 ghost use Rattle.report_text.specs.Words.{more, line_text};
 ghost use Rattle.report_text.specs.ReplyText.{reply_words};
-ghost use Rattle.report_text.specs.ReportText.{command_line, dump_words, step_text};
+ghost use Rattle.report_text.specs.ReportText.{command_line, dump_words, round_line, step_text};
 
 use crate::command::put_command;
 use crate::reply::put_answer;
 use crate::text::{Text, name_of};
-use tx_model::{DumpOf, Line, Memory, NameList, Reply, Step};
+use tx_model::{By, Command, DumpOf, Line, Memory, NameList, Reply, Step};
 
+/// The line of a command with its reply.
 #[tactic(auto, using(crate::proofs::MoreWords::then_more, crate::proofs::MoreWords::then_line))]
+pub fn put_command_line(
+    out: &mut Text,
+    names: &NameList,
+    by: By,
+    command: &Command,
+    reply: &Reply,
+) -> Result<(), Memory>
+    ensures ok { OnOk result (out.new ≡ out.old ++ command_line names.now (record { by = by; command = command.now; reply = reply.now })) }
+{
+    out.put(name_of(names, by.session))?;
+    out.number(by.command)?;
+    put_command(out, command)?;
+    put_answer(out, names, reply)?;
+    out.end_line()
+}
+
 fn put_line(out: &mut Text, names: &NameList, line: &Line) -> Result<(), Memory>
     ensures ok { OnOk result (out.new ≡ out.old ++ command_line names.now line.now) }
 {
-    out.put(name_of(names, line.by.session))?;
-    out.number(line.by.command)?;
-    put_command(out, &line.command)?;
-    put_answer(out, names, &line.reply)?;
-    out.end_line()
+    put_command_line(out, names, line.by, &line.command, &line.reply)
 }
 
 #[tactic(auto, using(crate::proofs::MoreWords::then_one_item, crate::proofs::MoreWords::no_item))]
@@ -32,9 +45,10 @@ fn put_lines(out: &mut Text, names: &NameList, lines: &[Line]) -> Result<(), Mem
     Ok(())
 }
 
+/// The line that begins a round.
 #[tactic(auto, using(crate::proofs::MoreWords::then_line))]
-fn put_round_line(out: &mut Text, number: u64) -> Result<(), Memory>
-    ensures ok { OnOk result (out.new ≡ out.old ++ line_text (codes "round" ∷ decimal number ∷ [])) }
+pub fn put_round_line(out: &mut Text, number: u64) -> Result<(), Memory>
+    ensures ok { OnOk result (out.new ≡ out.old ++ round_line number) }
 {
     out.put(b"round")?;
     out.number(number)?;

@@ -1,10 +1,10 @@
 -- Names that differ from one another.
-use Rattle.tx_model.proofs.ListSteps.{all_push}
-use Rattle.tx_model.proofs.Names.{same_name_refl, same_name_equal}
+use Rattle.tx_events.proofs.ListSteps.{all_push}
+use Rattle.tx_events.proofs.Names.{same_name_refl, same_name_equal}
 use Rattle.std.proofs.Common.{◌≡◌, ℕ, ◌+◌, List, [], ◌∷◌, ◌++◌, refl, sym, ap, ◌∙◌, zero, suc, Bool, true, false, Some}
 use Rattle.std.proofs.lemmas.Bool.{false≢true}
 use Rattle.std.specs.List.{AllByRecursion, IsDistinct, slice_get}
-use Rattle.tx_model.specs.Events.{same_name}
+use Rattle.tx_events.specs.Events.{same_name}
 
 differ : (a b : List ℕ) → same_name a b ≡ false → a ≡ b → ⊥
 differ a b e f = false≢true (sym e ∙ ap (same_name a) (sym f) ∙ same_name_refl a)

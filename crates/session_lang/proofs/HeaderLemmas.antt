@@ -5,8 +5,8 @@ use Rattle.std.proofs.lemmas.List.{append-nil}
 use Rattle.std.proofs.lemmas.List.Elements.{All-head, All-nil, All-push, filter_map-append}
 use Rattle.std.specs.Fmt.{decimal}
 use Rattle.std.specs.List.{All, flat_map}
-use Rattle.tx_model.specs.declared.record.Counters.{Counters}
-use Rattle.tx_model.specs.Base.{IsBase, first_base}
+use Rattle.tx_events.specs.declared.record.Counters.{Counters}
+use Rattle.tx_events.specs.Base.{IsBase, first_base}
 use Rattle.session_lang.specs.declared.script.Directive.{Directive}
 use Rattle.session_lang.specs.declared.script.Directive.TheVariants as directives
 use Rattle.session_lang.specs.declared.script.Item.{Item}

@@ -6,8 +6,8 @@ use Rattle.std.proofs.lemmas.List.Elements.{filter_map-append}
 use Rattle.std.proofs.lemmas.Option.{slice_get-get_or, unwrap_or-slice_get}
 use Rattle.std.specs.List.{All, flat_map, range_with_len, slice_get}
 use Rattle.tx_model.specs.declared.command.Command.{Command}
-use Rattle.tx_model.specs.Places.{first_seen}
-use Rattle.tx_model.proofs.PlaceLemmas.{slice_get-push, slice_get-grows}
+use Rattle.tx_events.specs.Places.{first_seen}
+use Rattle.tx_events.proofs.PlaceLemmas.{slice_get-push, slice_get-grows}
 use Rattle.session_lang.specs.declared.script.Item.{Item}
 use Rattle.session_lang.specs.declared.script.Item.TheVariants as items
 use Rattle.session_lang.specs.declared.script.Script.{Script}

@@ -6,7 +6,7 @@ use Rattle.std.proofs.lemmas.List.Elements.{filter-append}
 use Rattle.std.proofs.lemmas.List.FromFn.{get_or-range_with_len, length-range_with_len}
 use Rattle.std.proofs.Math.Seq.{get_or-append_seam}
 use Rattle.std.specs.List.{filter, range_with_len}
-use Rattle.tx_model.specs.Places.{first_seen}
+use Rattle.tx_events.specs.Places.{first_seen}
 
 abbrev pub is_in : ℕ → List ℕ → Bool
 is_in y [] = false

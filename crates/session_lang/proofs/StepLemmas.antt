@@ -1,5 +1,5 @@
 -- One line more.
-use Rattle.tx_model.proofs.ListSteps.{range_push}
+use Rattle.tx_events.proofs.ListSteps.{range_push}
 use Rattle.std.proofs.Common.{◌≡◌, ◌≢◌, ℕ, ◌+◌, ◌<◌, ◌≤◌, List, [], ◌∷◌, ◌++◌, refl, sym, ap, ◌∙◌, length, zero, suc, arith, Bool, true, false, cond, ◌==◌, get_or, get_or-set_same, get_or-set_other, set, length-append, eqb-true, eq-eqb, replicate, subst, ⊎_elim, Result, Ok, Err, OnOk}
 use Rattle.std.proofs.Math.Seq.{get_or-append_seam}
 use Rattle.std.proofs.lemmas.Bool.{false≢true, cases_lt}
@@ -7,8 +7,8 @@ use Rattle.std.proofs.lemmas.List.{get_or_past, get_or-replicate, length-replica
 use Rattle.std.proofs.lemmas.List.Elements.{All-nil, All-push}
 use Rattle.std.specs.List.{All, IsDistinct, range_with_len}
 use Rattle.tx_model.specs.declared.command.Command.{Command}
-use Rattle.tx_model.specs.Events.{same_name}
-use Rattle.tx_model.specs.Places.{first_seen}
+use Rattle.tx_events.specs.Events.{same_name}
+use Rattle.tx_events.specs.Places.{first_seen}
 use Rattle.session_lang.specs.declared.script.Item.{Item}
 use Rattle.session_lang.specs.declared.script.Item.TheVariants as items
 use Rattle.session_lang.specs.Names.{IsName}

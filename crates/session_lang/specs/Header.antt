@@ -2,7 +2,7 @@
 use Rattle.std.specs.Prelude.{ℕ, ◌≤◌, ◌^◌, List, [], ◌∷◌, Option, Some, None, codes, length, get_or}
 use Rattle.std.specs.List.{filter_map}
 use Rattle.std.specs.Fmt.{decimal}
-use Rattle.tx_model.specs.declared.record.Counters.{Counters}
+use Rattle.tx_events.specs.declared.record.Counters.{Counters}
 use Rattle.xid_order.specs.Ids.{IsFullId}
 use Rattle.session_lang.specs.declared.script.Directive.{Directive}
 use Rattle.session_lang.specs.declared.script.Directive.TheVariants as directives

@@ -1,8 +1,8 @@
 -- How far a header has been read.
 use Rattle.std.specs.Prelude.{◌≡◌, ℕ, List, [], ◌∷◌, ◌++◌, Option, Some, None}
 use Rattle.std.specs.List.{All, flat_map}
-use Rattle.tx_model.specs.declared.record.Counters.{Counters}
-use Rattle.tx_model.specs.Base.{IsBase}
+use Rattle.tx_events.specs.declared.record.Counters.{Counters}
+use Rattle.tx_events.specs.Base.{IsBase}
 use Rattle.session_lang.specs.declared.script.Directive.{Directive}
 use Rattle.session_lang.specs.declared.script.Script.{Script}
 use Rattle.session_lang.specs.Header.{IsOnce, IsReadDirective, base_of, directive_text, oldests, starts}

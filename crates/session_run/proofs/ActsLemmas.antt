@@ -4,26 +4,26 @@ use Rattle.std.proofs.Math.Seq.{take-append_seam}
 use Rattle.std.proofs.Common.{◌≡◌, ℕ, zero, suc, ◌+◌, ◌<◌, ◌≤◌, List, [], ◌∷◌, ◌++◌, length, map, take, drop, Some, None, Option, refl, sym, ap, subst, ◌∙◌, arith, append-nil, Bool, true, false, not, cond, ◌||◌, inr, ◌↔◌, IsTrue, ⊎_elim, ◌≢◌, ◌==◌, take_all}
 use Rattle.std.specs.List.{AllByRecursion, filter, find, slice_get, list_any}
 use Rattle.std.proofs.lemmas.Bool.{false≢true, or_cases, or_left, or_right}
-use Rattle.tx_model.specs.declared.event.By.{By}
-use Rattle.tx_model.specs.declared.event.Event.{Event}
-use Rattle.tx_model.specs.declared.event.Event.TheVariants as events
+use Rattle.tx_events.specs.declared.event.By.{By}
+use Rattle.tx_events.specs.declared.event.Event.{Event}
+use Rattle.tx_events.specs.declared.event.Event.TheVariants as events
 use Rattle.tx_model.specs.declared.command.Command.{Command}
 use Rattle.tx_model.specs.declared.command.Command.TheVariants as commands
 use Rattle.tx_model.specs.declared.reply.Reply.{Reply}
 use Rattle.tx_model.specs.declared.reply.Reply.TheVariants as replies
-use Rattle.tx_model.specs.declared.reply.Refusal.TheVariants as refusals
-use Rattle.tx_model.specs.declared.reply.SnapData.{SnapData}
-use Rattle.tx_model.specs.declared.record.Counters.{Counters}
+use Rattle.tx_events.specs.declared.refusal.Refusal.TheVariants as refusals
+use Rattle.tx_events.specs.declared.snapshot.SnapData.{SnapData}
+use Rattle.tx_events.specs.declared.record.Counters.{Counters}
 use Rattle.tx_model.specs.CommandEvents.{HasEvents, giving, level_events}
-use Rattle.tx_model.specs.Events.{by_of, given_by, is_of, same_name}
-use Rattle.tx_model.specs.History.{next_given}
-use Rattle.tx_model.specs.Horizon.{oldest_id}
-use Rattle.tx_model.specs.Limits.{stop_limit, warn_limit}
+use Rattle.tx_events.specs.Events.{by_of, given_by, is_of, same_name}
+use Rattle.tx_events.specs.History.{next_given}
+use Rattle.tx_events.specs.Horizon.{oldest_id}
+use Rattle.tx_events.specs.Limits.{stop_limit, warn_limit}
 use Rattle.tx_model.specs.Replies.{MayReply, IsWarned, IsStopped}
-use Rattle.tx_model.specs.Snapshots.{snapshot_data}
+use Rattle.tx_events.specs.Snapshots.{snapshot_data}
 use Rattle.tx_model.specs.Stance.{Stance, after, snap_of, second_of, without_snap, filled}
-use Rattle.tx_model.proofs.ListSteps.{eqb-refl}
-use Rattle.tx_model.proofs.PlaceLemmas.{slice_get-grows, slice_get-push, take-grows, last_at}
+use Rattle.tx_events.proofs.ListSteps.{eqb-refl}
+use Rattle.tx_events.proofs.PlaceLemmas.{slice_get-grows, slice_get-push, take-grows, last_at}
 use Rattle.session_run.specs.declared.session.Kept.{Kept}
 use Rattle.session_run.specs.Acts.{Acts}
 use Rattle.session_run.specs.Gives.{IsInTurn}

@@ -3,28 +3,28 @@ use Rattle.std.proofs.Common.{◌≡◌, ◌≢◌, ℕ, ◌≤◌, List, [], �
 use Rattle.std.proofs.lemmas.Bool.{false≢true}
 use Rattle.std.proofs.lemmas.List.Elements.{filter-append}
 use Rattle.std.specs.List.{AllByRecursion, filter, list_any}
-use Rattle.tx_model.specs.declared.event.Event.{Event}
-use Rattle.tx_model.specs.declared.record.Counters.{Counters}
-use Rattle.tx_model.specs.Events.{by_of, is_of, same_name, given, given_to}
-use Rattle.tx_model.specs.Families.{lineage, is_top}
-use Rattle.tx_model.specs.History.{IsLegal}
-use Rattle.tx_model.specs.Horizon.{LiveSnap, is_live, is_snap_of, live_up}
-use Rattle.tx_model.specs.Running.{is_open}
-use Rattle.tx_model.specs.Savepoints.{is_inside}
-use Rattle.tx_model.specs.Snapshots.{snapshot_data}
-use Rattle.tx_model.proofs.Closing.{later}
-use Rattle.tx_model.proofs.GivenIds.{given_to_given}
-use Rattle.tx_model.proofs.HorizonSteps.{live_push}
-use Rattle.tx_model.proofs.ListSteps.{list_any-push}
+use Rattle.tx_events.specs.declared.event.Event.{Event}
+use Rattle.tx_events.specs.declared.record.Counters.{Counters}
+use Rattle.tx_events.specs.Events.{by_of, is_of, same_name, given, given_to}
+use Rattle.tx_events.specs.Families.{lineage, is_top}
+use Rattle.tx_events.specs.History.{IsLegal}
+use Rattle.tx_events.specs.Horizon.{LiveSnap, is_live, is_snap_of, live_up}
+use Rattle.tx_events.specs.Running.{is_open}
+use Rattle.tx_events.specs.Savepoints.{is_inside}
+use Rattle.tx_events.specs.Snapshots.{snapshot_data}
+use Rattle.tx_events.proofs.Closing.{later}
+use Rattle.tx_events.proofs.GivenIds.{given_to_given}
+use Rattle.tx_events.proofs.HorizonSteps.{live_push}
+use Rattle.tx_events.proofs.ListSteps.{list_any-push}
 use Rattle.std.proofs.Math.Bool.{or-false}
-use Rattle.tx_model.proofs.Membership.{Has, contains_has, has_filter}
-use Rattle.tx_model.proofs.OpenIds.{open_rest}
-use Rattle.tx_model.proofs.PlaceLemmas.{slice_get-grows, take-grows}
-use Rattle.tx_model.proofs.Lineages.{top_line, enclosing_line}
+use Rattle.tx_events.proofs.Membership.{Has, contains_has, has_filter}
+use Rattle.tx_events.proofs.OpenIds.{open_rest}
+use Rattle.tx_events.proofs.PlaceLemmas.{slice_get-grows, take-grows}
+use Rattle.tx_events.proofs.Lineages.{top_line, enclosing_line}
 use Rattle.session_run.specs.declared.session.Kept.{Kept}
 use Rattle.session_run.specs.declared.session.Session.{Session}
 use Rattle.session_run.specs.Stands.{IsKept, IsSavepointIn, Nest, Stands}
-use Rattle.tx_model.specs.declared.event.Event.TheVariants as events
+use Rattle.tx_events.specs.declared.event.Event.TheVariants as events
 
 -- each event is of another session
 abbrev pub AreBeside : ℕ → List Event → Type 0

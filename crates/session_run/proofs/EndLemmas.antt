@@ -1,18 +1,18 @@
 -- The end of a transaction.
 use Rattle.std.proofs.Common.{◌≡◌, ℕ, suc, ◌+◌, ◌^◌, ◌<◌, ◌≤◌, List, [], ◌∷◌, ◌++◌, length, drop, refl, sym, ap, subst, ◌∙◌, arith, Bool, true, false, Contains, inl}
 use Rattle.std.specs.List.{slice_index_or}
-use Rattle.tx_model.specs.declared.event.By.{By}
-use Rattle.tx_model.specs.declared.event.Event.{Event}
-use Rattle.tx_model.specs.declared.record.Counters.{Counters}
-use Rattle.tx_model.specs.declared.record.Rec.{Rec}
-use Rattle.tx_model.specs.Base.{IsBase}
-use Rattle.tx_model.specs.Families.{is_top}
-use Rattle.tx_model.specs.History.{IsLegal, MayCome}
-use Rattle.tx_model.specs.IdLists.{Ascending}
-use Rattle.tx_model.specs.RecordSize.{record_size}
-use Rattle.tx_model.specs.Running.{open_ids}
-use Rattle.tx_model.proofs.ListSteps.{length_push}
-use Rattle.tx_model.proofs.Membership.{has_contains}
+use Rattle.tx_events.specs.declared.event.By.{By}
+use Rattle.tx_events.specs.declared.event.Event.{Event}
+use Rattle.tx_events.specs.declared.record.Counters.{Counters}
+use Rattle.tx_events.specs.declared.record.Rec.{Rec}
+use Rattle.tx_events.specs.Base.{IsBase}
+use Rattle.tx_events.specs.Families.{is_top}
+use Rattle.tx_events.specs.History.{IsLegal, MayCome}
+use Rattle.tx_events.specs.IdLists.{Ascending}
+use Rattle.tx_events.specs.RecordSize.{record_size}
+use Rattle.tx_events.specs.Running.{open_ids}
+use Rattle.tx_events.proofs.ListSteps.{length_push}
+use Rattle.tx_events.proofs.Membership.{has_contains}
 use Rattle.proc_table.specs.Table.{end_event}
 use Rattle.session_run.specs.Acts.{Acts, end_command}
 use Rattle.session_run.specs.Closes.{end_record}
@@ -22,7 +22,7 @@ use Rattle.session_run.proofs.LevelLemmas.{no_levels}
 use Rattle.session_run.proofs.RoomLemmas.{open_few}
 use Rattle.tx_model.specs.declared.command.Command.TheVariants as commands
 use Rattle.tx_model.specs.declared.reply.Reply.TheVariants as replies
-use Rattle.tx_model.specs.declared.reply.Refusal.TheVariants as refusals
+use Rattle.tx_events.specs.declared.refusal.Refusal.TheVariants as refusals
 
 -- the first id and the others
 pub head_tail : (ids : List ℕ) (d : ℕ) → 1 ≤ length ids → ids ≡ slice_index_or ids 0 d ∷ drop 1 ids

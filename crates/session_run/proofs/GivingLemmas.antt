@@ -1,15 +1,15 @@
 -- One id more for a session.
-use Rattle.tx_model.proofs.IdListSteps.{true_has}
+use Rattle.tx_events.proofs.IdListSteps.{true_has}
 use Rattle.std.proofs.Common.{◌≡◌, ℕ, ◌+◌, ◌<◌, List, [], ◌∷◌, ◌++◌, Some, None, Option, IfSome, refl, sym, subst, ◌∙◌, false, Contains}
-use Rattle.tx_model.specs.declared.event.By.{By}
-use Rattle.tx_model.specs.declared.event.Event.{Event}
-use Rattle.tx_model.specs.declared.record.Counters.{Counters}
-use Rattle.tx_model.specs.declared.record.Rec.{Rec}
+use Rattle.tx_events.specs.declared.event.By.{By}
+use Rattle.tx_events.specs.declared.event.Event.{Event}
+use Rattle.tx_events.specs.declared.record.Counters.{Counters}
+use Rattle.tx_events.specs.declared.record.Rec.{Rec}
 use Rattle.tx_model.specs.CommandEvents.{giving}
-use Rattle.tx_model.specs.History.{IsLegal, MayCome, IsNextGiven, next_given}
-use Rattle.tx_model.specs.Running.{open_ids}
-use Rattle.tx_model.proofs.GivenIds.{open_below}
-use Rattle.tx_model.proofs.Membership.{has_contains as has-contains}
+use Rattle.tx_events.specs.History.{IsLegal, MayCome, IsNextGiven, next_given}
+use Rattle.tx_events.specs.Running.{open_ids}
+use Rattle.tx_events.proofs.GivenIds.{open_below}
+use Rattle.tx_events.proofs.Membership.{has_contains as has-contains}
 use Rattle.plain_states.specs.declared.id_states.IdState.{IdState}
 use Rattle.session_run.specs.declared.session.Kept.{Kept}
 use Rattle.session_run.specs.Gives.{IsInTurn, IsParent, last_of}

@@ -1,27 +1,26 @@
 -- How a session stands, after it took or dropped a snapshot.
 use Rattle.std.proofs.Math.Seq.{take-append_seam}
-use Rattle.tx_model.proofs.Names.{same_name_refl, same_name_equal}
+use Rattle.tx_events.proofs.Names.{same_name_refl, same_name_equal}
 use Rattle.std.proofs.Common.{◌≡◌, ℕ, List, [], ◌∷◌, ◌++◌, length, take, refl, ap, sym, ◌∙◌, subst, Bool, true, false, not, cond, ◌==◌, ◌&&◌, ◌||◌, reverse, nat_le, Contains}
 use Rattle.std.specs.List.{filter, AllByRecursion, list_any}
 use Rattle.std.proofs.lemmas.Bool.{false≢true}
-use Rattle.tx_model.specs.declared.event.By.{By}
-use Rattle.tx_model.specs.declared.event.Event.{Event}
-use Rattle.tx_model.specs.declared.record.Counters.{Counters}
-use Rattle.tx_model.specs.Events.{by_of, same_name}
-use Rattle.tx_model.specs.Horizon.{LiveSnap, is_live, is_snap_of, live_up, live_snaps}
-use Rattle.tx_model.specs.Savepoints.{is_inside}
-use Rattle.tx_model.specs.Snapshots.{snapshot_data}
-use Rattle.tx_model.proofs.HorizonSteps.{live_push}
-use Rattle.tx_model.proofs.ListSteps.{eqb-refl, list_any-push, all_push, all_filter, all_weaker}
-use Rattle.tx_model.proofs.Membership.{contains_has, any_has}
-use Rattle.tx_model.proofs.Lineages.{top_kept, enclosing_kept}
-use Rattle.tx_model.proofs.PlaceLemmas.{last_at}
-use Rattle.tx_model.proofs.QuietGrowth.{quiet_open_ids, quiet_family, IsQuiet}
-use Rattle.snap_core.specs.Says.{data_of}
+use Rattle.tx_events.specs.declared.event.By.{By}
+use Rattle.tx_events.specs.declared.event.Event.{Event}
+use Rattle.tx_events.specs.declared.record.Counters.{Counters}
+use Rattle.tx_events.specs.Events.{by_of, same_name}
+use Rattle.tx_events.specs.Horizon.{LiveSnap, is_live, is_snap_of, live_up, live_snaps}
+use Rattle.tx_events.specs.Savepoints.{is_inside}
+use Rattle.tx_events.specs.Snapshots.{snapshot_data}
+use Rattle.tx_events.proofs.HorizonSteps.{live_push}
+use Rattle.tx_events.proofs.ListSteps.{eqb-refl, list_any-push, all_push, all_filter, all_weaker}
+use Rattle.tx_events.proofs.Membership.{contains_has, any_has}
+use Rattle.tx_events.proofs.Lineages.{top_kept, enclosing_kept}
+use Rattle.tx_events.proofs.PlaceLemmas.{last_at}
+use Rattle.tx_events.proofs.QuietGrowth.{quiet_open_ids, quiet_family, IsQuiet}
 use Rattle.session_run.specs.declared.session.Kept.{Kept}
 use Rattle.session_run.specs.Stands.{Nest, IsKept, IsSavepointIn}
 use Rattle.session_run.proofs.StandsLemmas.{Stood, kept_grows, turn_push}
-use Rattle.tx_model.specs.declared.event.Event.TheVariants as events
+use Rattle.tx_events.specs.declared.event.Event.TheVariants as events
 
 quiet_savepoint : (h : List Event) (e : Event) (opened : List ℕ) (x : ℕ) → IsQuiet e → IsSavepointIn h opened x → IsSavepointIn (h ++ e ∷ []) opened x
 quiet_savepoint h e opened x q s = (
@@ -55,7 +54,7 @@ stood_quiet base h by e opened named unnamed kept kept' q own live snaps s = rec
 }
 
 -- a session that takes a snapshot
-pub stood_snapped : (base : Counters) (h : List Event) (by : By) (opened named : List ℕ) (unnamed : ℕ) (kept : List Kept) (k : Kept) → k.command ≡ by.command → k.place ≡ length h → data_of k.snapshot ≡ snapshot_data base.next h →
+pub stood_snapped : (base : Counters) (h : List Event) (by : By) (opened named : List ℕ) (unnamed : ℕ) (kept : List Kept) (k : Kept) → k.command ≡ by.command → k.place ≡ length h → k.snapshot ≡ snapshot_data base.next h →
     Stood base h by.session by.command opened named unnamed kept → Stood base (h ++ events.Snap by k.name ∷ []) by.session by.command opened named unnamed (kept ++ k ∷ [])
 stood_snapped base h by opened named unnamed kept k c p d s =
     let e : Event = events.Snap by k.name in

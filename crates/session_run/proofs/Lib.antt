@@ -15,6 +15,7 @@ mod SeenLemmas
 mod Beside
 mod ProgressLemmas
 mod RoundLemmas
+mod ToldLemmas
 mod LifeLemmas
 mod PlanLemmas
 mod StreamLemmas

@@ -1,5 +1,5 @@
 -- A life's room, and what a step of its rounds leaves.
-use Rattle.tx_model.proofs.ListSteps.{both_all, le_or_over}
+use Rattle.tx_events.proofs.ListSteps.{both_all, le_or_over}
 use Rattle.std.proofs.Common.{◌≡◌, Bool, IsTrue, suc, zero, drop, ℕ, ◌+◌, ◌<◌, ◌≤◌, ◌^◌, List, [], ◌∷◌, ◌++◌, Some, refl, sym, ap, subst, ◌∙◌, arith, ⊎_elim, true, false, length, map, take, get_or, append-nil, append_assoc, length-append, ◌||◌}
 use Rattle.std.proofs.lemmas.Bool.{false≢true}
 use Rattle.std.proofs.lemmas.Grind.{flat_map-append}
@@ -9,20 +9,21 @@ use Rattle.std.proofs.lemmas.List.Sums.{count_by-le-length}
 use Rattle.std.proofs.lemmas.Option.{slice_get-get_or}
 use Rattle.std.specs.List.{All, AllByRecursion, flat_map, list_any, slice_get}
 use Rattle.tx_model.specs.declared.command.Command.{Command}
-use Rattle.tx_model.specs.declared.event.Event.{Event}
+use Rattle.tx_events.specs.declared.event.Event.{Event}
 use Rattle.tx_model.specs.declared.report.Line.{Line}
 use Rattle.tx_model.specs.declared.report.Step.{Step}
-use Rattle.tx_model.specs.Events.{by_of, same_by}
+use Rattle.tx_events.specs.Events.{by_of, same_by}
 use Rattle.tx_model.specs.LawfulLife.{AreRounds, lines_in}
-use Rattle.tx_model.specs.Lines.{is_line_of, turn_of}
-use Rattle.tx_model.specs.Places.{first_seen}
+use Rattle.tx_model.specs.Lines.{AreLinesOf, is_line_of, turn_of}
+use Rattle.tx_events.specs.Places.{first_seen}
 use Rattle.std.proofs.Math.Seq.{take-append-le}
 use Rattle.session_lang.specs.declared.script.Item.{Item}
 use Rattle.session_lang.specs.Rounds.{round_of, rounds_of, sessions_in, turns_of}
 use Rattle.session_run.specs.declared.life.OpenLife.{OpenLife}
 use Rattle.session_run.specs.declared.shared.Shared.{Shared}
 use Rattle.session_run.specs.declared.session.Session.{Session}
-use Rattle.session_run.specs.Progress.{AddsRound, AreFew, AreInTurn, Continues, GoesOn, MayAdd, Progress, StandFirst, has_line, lines_of, round_step}
+use Rattle.session_run.specs.Progress.{AddsRound, AreFew, AreInTurn, Continues, GoesOn, MayAdd, Progress, StandFirst, has_line, lines_of}
+use Rattle.session_run.specs.Told.{round_step}
 use Rattle.session_run.specs.Turns.{IsFirstRound, is_command, turns_in}
 use Rattle.session_run.proofs.RoundLemmas.{first_round, front_short, grouped_short, lines_ended, rounds_push, sessions_of_turns, sessions_on, turns_short}
 
@@ -175,15 +176,17 @@ ended_goes_on a b shared sessions lines g = record {
   few = subst (λ (w : Shared). AreFew w (lines_of b)) (sym shared) (subst (λ ls. AreFew a.shared ls) (sym lines) g.few);
 }
 
+-- the lines of a round are those of its commands, session by session
+pub round_lines : (a b : OpenLife) (round : List Item) (numbers : List ℕ) → a.lines ≡ [] → numbers ≡ first_seen (sessions_in round) → map turn_of b.lines ≡ map turn_of a.lines ++ flat_map (λ s. turns_of s (turns_in round)) numbers → AreLinesOf (turns_in round) b.lines
+round_lines a b round numbers none e told =
+    told
+    ∙ ap (λ (ls : List Line). map turn_of ls ++ flat_map (λ s. turns_of s (turns_in round)) numbers) none
+    ∙ ap (flat_map (λ s. turns_of s (turns_in round))) (e ∙ ap first_seen (sym (sessions_of_turns round)))
+
 -- the step that a round adds
 pub adds_round : (a b c : OpenLife) (round : List Item) (numbers : List ℕ) → a.lines ≡ [] → numbers ≡ first_seen (sessions_in round) → b.steps ≡ a.steps → map turn_of b.lines ≡ map turn_of a.lines ++ flat_map (λ s. turns_of s (turns_in round)) numbers → c.steps ≡ b.steps ++ round_step (length b.steps + 1) b.lines → AddsRound a.steps (turns_in round) c.steps
-adds_round a b c round numbers none e same told step = (
-  b.lines,
-  told
-      ∙ ap (λ (ls : List Line). map turn_of ls ++ flat_map (λ s. turns_of s (turns_in round)) numbers) none
-      ∙ ap (flat_map (λ s. turns_of s (turns_in round))) (e ∙ ap first_seen (sym (sessions_of_turns round))),
-  step ∙ ap (λ ss. ss ++ round_step (length ss + 1) b.lines) same,
-)
+adds_round a b c round numbers none e same told step =
+    (b.lines, round_lines a b round numbers none e told, step ∙ ap (λ ss. ss ++ round_step (length ss + 1) b.lines) same)
 
 pub round_length : (a b c : OpenLife) (round : List Item) (numbers : List ℕ) → numbers ≡ first_seen (sessions_in round) → b.steps ≡ a.steps → map turn_of b.lines ≡ map turn_of a.lines ++ flat_map (λ s. turns_of s (turns_in round)) numbers → lines_of c ≡ lines_of b → length (lines_of c) ≤ length (lines_of a) + length round
 round_length a b c round numbers e same told lines =

@@ -2,8 +2,8 @@ use Rattle.std.proofs.Common.{◌≡◌, ℕ, zero, suc, ◌+◌, ◌*◌, ◌^�
 use Rattle.std.specs.List.{count_by}
 use Rattle.std.proofs.lemmas.List.{take-append-drop, length_push, drop_all}
 use Rattle.std.proofs.lemmas.List.Sums.{sum_by-append}
-use Rattle.tx_model.specs.declared.record.Rec.{Rec}
-use Rattle.tx_model.specs.RecordSize.{record_size, records_size}
+use Rattle.tx_events.specs.declared.record.Rec.{Rec}
+use Rattle.tx_events.specs.RecordSize.{record_size, records_size}
 use Rattle.tx_model.specs.LifeLog.{AreFlushed, batches_size, is_flushed_at_once}
 
 count_push : (p : Rec → Bool) (xs : List Rec) (x : Rec) → count_by p (xs ++ x ∷ []) ≡ count_by p xs + count_by p (x ∷ [])

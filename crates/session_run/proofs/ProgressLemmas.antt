@@ -1,23 +1,24 @@
 -- What a session's next command does to the progress of all.
-use Rattle.tx_model.proofs.ListSteps.{both_all, all_weaker}
+use Rattle.tx_events.proofs.ListSteps.{both_all, all_weaker}
 use Rattle.std.proofs.Common.{◌≡◌, ◌||◌, ◌≢◌, ℕ, zero, suc, ◌+◌, ◌<◌, ◌≤◌, ◌⊎◌, List, [], ◌∷◌, ◌++◌, Some, refl, sym, ap, subst, ◌∙◌, arith, inl, inr, ⊎_elim, Bool, true, false, cond, length, set, append-nil, length-append, length-set, ne_eqb}
 use Rattle.std.specs.List.{AllByRecursion, count_by, filter, slice_get}
 use Rattle.std.proofs.lemmas.Bool.Decides.{nat_tests}
 use Rattle.std.proofs.lemmas.List.Elements.{filter-append}
 use Rattle.std.proofs.lemmas.List.Sums.{length-filter}
 use Rattle.tx_model.specs.declared.command.Command.{Command}
-use Rattle.tx_model.specs.declared.event.By.{By}
-use Rattle.tx_model.specs.declared.event.Event.{Event}
+use Rattle.tx_events.specs.declared.event.By.{By}
+use Rattle.tx_events.specs.declared.event.Event.{Event}
 use Rattle.tx_model.specs.declared.report.Line.{Line}
-use Rattle.tx_model.specs.declared.record.Counters.{Counters}
-use Rattle.tx_model.specs.Events.{by_of, is_of, same_by, events_of, given}
-use Rattle.tx_model.specs.History.{IsLegal}
+use Rattle.tx_events.specs.declared.record.Counters.{Counters}
+use Rattle.tx_events.specs.Events.{by_of, is_of, same_by, events_of, given}
+use Rattle.tx_events.specs.History.{IsLegal}
 use Rattle.tx_model.specs.Stance.{after, nothing_yet, stance_from}
 use Rattle.tx_model.specs.CommandEvents.{HasEvents}
 use Rattle.tx_model.specs.Replies.{MayReply}
 use Rattle.tx_model.specs.Lines.{AreLawfulLines, is_line_of, stance}
-use Rattle.tx_model.proofs.Growth.{AreOthers, AreLater, all_later_others, same_by_refl, stance_grows}
-use Rattle.tx_model.proofs.LineGrowth.{lines_go_on, all_new, stance_push, lines_counted}
+use Rattle.tx_model.proofs.Growth.{all_later_others, stance_grows}
+use Rattle.tx_events.proofs.OwnEvents.{AreOthers, AreLater, same_by_refl, all_new}
+use Rattle.tx_model.proofs.LineGrowth.{lines_go_on, stance_push, lines_counted}
 use Rattle.session_run.specs.declared.session.Session.{Session}
 use Rattle.session_run.specs.declared.shared.Shared.{Shared}
 use Rattle.session_run.specs.Stands.{Stands, stance_of}

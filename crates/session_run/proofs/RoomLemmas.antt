@@ -2,32 +2,32 @@
 use Rattle.std.proofs.Common.{◌≡◌, ℕ, ◌+◌, ◌-◌, ◌^◌, ◌<◌, ◌≤◌, List, [], ◌∷◌, ◌++◌, length, refl, sym, ap, subst, ◌∙◌, arith, Bool, true, false, cond, nat_lt, min, map}
 use Rattle.std.specs.List.{filter, AllByRecursion}
 use Rattle.xid_order.specs.Ids.{next_id, low_half, IsFullId}
-use Rattle.tx_model.specs.declared.event.Event.{Event}
-use Rattle.tx_model.specs.declared.record.Counters.{Counters}
-use Rattle.tx_model.specs.Base.{IsBase}
-use Rattle.tx_model.specs.Events.{given, given_to}
-use Rattle.tx_model.specs.Families.{top}
-use Rattle.tx_model.specs.History.{IsLegal, MayCome, next_given, nth_id}
-use Rattle.tx_model.specs.Horizon.{LiveSnap, oldest_id, oldest_xmin, live_snaps}
-use Rattle.tx_model.specs.IdLists.{Ascending}
-use Rattle.tx_model.specs.Limits.{stop_limit, up_to_normal, down_to_normal}
-use Rattle.tx_model.specs.Running.{running, running_tops, open_ids, is_open}
-use Rattle.tx_model.specs.Snapshots.{latest, snapshot_xmin, snapshot_xmax}
-use Rattle.tx_model.proofs.ClosingGrowth.{IsClosing, closing_running, closing_undo, closing_commit, closing_abort}
-use Rattle.tx_model.proofs.GivenIds.{legal_front, legal_last, open_given}
-use Rattle.tx_model.proofs.IdOrder.{next_above, next_least, next_upto, next_full, nth_full}
-use Rattle.tx_model.proofs.HorizonSteps.{oldest_push}
-use Rattle.tx_model.proofs.IdListSteps.{contains_true, true_has, has_true}
-use Rattle.tx_model.proofs.Extremes.{fold_min_start, fold_min_has}
-use Rattle.tx_model.proofs.Soundness.{legal_sound, open_member, root_runs}
-use Rattle.tx_model.proofs.ListSteps.{all_filter, all_push, filter_yes}
-use Rattle.tx_model.proofs.Membership.{by_end, all_from, all_at, Has, filter_has, has_filter}
-use Rattle.tx_model.proofs.NameBounds.{AreBelow, running_below}
-use Rattle.tx_model.proofs.QuietGrowth.{IsQuiet, quiet_given, quiet_running}
-use Rattle.tx_model.proofs.GivingGrowth.{giving_running, giving_id, giving_sub}
-use Rattle.tx_model.proofs.GivenGrowth.{next_after}
+use Rattle.tx_events.specs.declared.event.Event.{Event}
+use Rattle.tx_events.specs.declared.record.Counters.{Counters}
+use Rattle.tx_events.specs.Base.{IsBase}
+use Rattle.tx_events.specs.Events.{given, given_to}
+use Rattle.tx_events.specs.Families.{top}
+use Rattle.tx_events.specs.History.{IsLegal, MayCome, next_given, nth_id}
+use Rattle.tx_events.specs.Horizon.{LiveSnap, oldest_id, oldest_xmin, live_snaps}
+use Rattle.tx_events.specs.IdLists.{Ascending}
+use Rattle.tx_events.specs.Limits.{stop_limit, up_to_normal, down_to_normal}
+use Rattle.tx_events.specs.Running.{running, running_tops, open_ids, is_open}
+use Rattle.tx_events.specs.Snapshots.{latest, snapshot_xmin, snapshot_xmax}
+use Rattle.tx_events.proofs.ClosingGrowth.{IsClosing, closing_running, closing_undo, closing_commit, closing_abort}
+use Rattle.tx_events.proofs.GivenIds.{legal_front, legal_last, open_given}
+use Rattle.tx_events.proofs.IdOrder.{next_above, next_least, next_upto, next_full, nth_full}
+use Rattle.tx_events.proofs.HorizonSteps.{oldest_push}
+use Rattle.tx_events.proofs.IdListSteps.{contains_true, true_has, has_true}
+use Rattle.tx_events.proofs.Extremes.{fold_min_start, fold_min_has}
+use Rattle.tx_events.proofs.Soundness.{legal_sound, open_member, root_runs}
+use Rattle.tx_events.proofs.ListSteps.{all_filter, all_push, filter_yes}
+use Rattle.tx_events.proofs.Membership.{by_end, all_from, all_at, Has, filter_has, has_filter}
+use Rattle.tx_events.proofs.NameBounds.{AreBelow, running_below}
+use Rattle.tx_events.proofs.QuietGrowth.{IsQuiet, quiet_given, quiet_running}
+use Rattle.tx_events.proofs.GivingGrowth.{giving_running, giving_id, giving_sub}
+use Rattle.tx_events.proofs.GivenGrowth.{next_after}
 use Rattle.proc_table.proofs.Bounds.{latest_bounds, next_id_to, stop_to}
-use Rattle.tx_model.specs.declared.event.Event.TheVariants as events
+use Rattle.tx_events.specs.declared.event.Event.TheVariants as events
 
 up_upto : (n : ℕ) → up_to_normal n ≤ n + 3
 up_upto n = elim (nat_lt (low_half n) 3) as (λ b. cond b (n + (3 - low_half n)) n ≤ n + 3) [ true ↦ omega arith | false ↦ omega arith ]

@@ -1,5 +1,5 @@
 -- The commands of a round, session by session, and the rounds of a script.
-use Rattle.tx_model.proofs.ListSteps.{eqb-refl}
+use Rattle.tx_events.proofs.ListSteps.{eqb-refl}
 use Rattle.std.proofs.Common.{◌≡◌, ◌≢◌, ℕ, ◌+◌, ◌<◌, ◌≤◌, ◌⊎◌, ◌==◌, List, [], ◌∷◌, ◌++◌, refl, sym, ap, subst, ◌∙◌, arith, ⊎_elim, Bool, true, false, not, cond, length, map, take, drop, get_or, append-nil, append_assoc, length-append, eqb-true, add-zero}
 use Rattle.std.proofs.lemmas.Bool.{false≢true}
 use Rattle.std.proofs.lemmas.Bool.Decides.{nat_tests}
@@ -14,11 +14,11 @@ use Rattle.tx_model.specs.declared.report.Step.{Step}
 use Rattle.tx_model.specs.declared.report.Step.TheVariants as steps
 use Rattle.tx_model.specs.LawfulLife.{AreRounds, lines_in}
 use Rattle.tx_model.specs.Lines.{AreLinesOf, grouped, turn_of}
-use Rattle.tx_model.specs.Places.{first_seen}
+use Rattle.tx_events.specs.Places.{first_seen}
 use Rattle.session_lang.specs.declared.script.Item.{Item}
 use Rattle.session_lang.specs.declared.script.Item.TheVariants as items
 use Rattle.session_lang.specs.Rounds.{round_of, rounds_from, rounds_of, sessions_in, turns_of}
-use Rattle.session_run.specs.Progress.{round_step}
+use Rattle.session_run.specs.Told.{round_step}
 use Rattle.session_run.specs.Turns.{is_command, turn_in, turns_in}
 
 -- the commands of the sessions other than x
@@ -138,11 +138,11 @@ first_round script round rest a k = ⊎_elim
     (λ (b : (d : Item) × (is_command d ≡ false) × (script ≡ round ++ d ∷ rest)). ap rounds_of b.2 ∙ commands_then [] round rest b.0 a b.1)
     k
 
-no_lines : (lines : List Line) → map turn_of lines ≡ [] → lines ≡ []
+pub no_lines : (lines : List Line) → map turn_of lines ≡ [] → lines ≡ []
 no_lines [] e = refl
 no_lines (l ∷ lines) e = absurd cc
 
-some_lines : (t : ℕ × Command) (turns : List (ℕ × Command)) (lines : List Line) → map turn_of lines ≡ grouped (t ∷ turns) → lines ≢ []
+pub some_lines : (t : ℕ × Command) (turns : List (ℕ × Command)) (lines : List Line) → map turn_of lines ≡ grouped (t ∷ turns) → lines ≢ []
 some_lines t turns lines e n =
     let same : map turn_of [] ≡ grouped (t ∷ turns) = ap (map turn_of) (sym n) ∙ e in
     cons≢nil (sym (same ∙ first_group))

@@ -1,22 +1,22 @@
 -- How a life begins, and what its report says.
 use Rattle.std.proofs.lemmas.Bool.{or_right}
-use Rattle.tx_model.proofs.ListSteps.{eqb-refl}
+use Rattle.tx_events.proofs.ListSteps.{eqb-refl}
 use Rattle.std.proofs.Common.{◌≡◌, ℕ, zero, suc, ◌<◌, ◌≤◌, ◌==◌, ◌||◌, List, [], ◌∷◌, ◌++◌, Some, None, refl, sym, ap, subst, ◌∙◌, arith, true, length, take, IsTrue, append-nil, length-append, codes}
 use Rattle.std.specs.List.{All, AllByRecursion, filter, flat_map, list_any, slice_get}
 use Rattle.std.proofs.lemmas.List.Elements.{All-from_recursion, All-nil, recursion_from_All}
-use Rattle.tx_model.specs.declared.record.Counters.{Counters}
+use Rattle.tx_events.specs.declared.record.Counters.{Counters}
 use Rattle.tx_model.specs.declared.report.LifeReport.{LifeReport}
 use Rattle.tx_model.specs.declared.report.Line.{Line}
-use Rattle.tx_model.specs.Base.{IsBase}
-use Rattle.tx_model.specs.Events.{by_of, is_of, same_by, same_name}
-use Rattle.tx_model.specs.History.{ComesInTurn, IsLegal, MayCome}
-use Rattle.tx_model.specs.Horizon.{is_live}
-use Rattle.tx_model.specs.IdLists.{Ascending}
+use Rattle.tx_events.specs.Base.{IsBase}
+use Rattle.tx_events.specs.Events.{by_of, is_of, same_by, same_name}
+use Rattle.tx_events.specs.History.{ComesInTurn, IsLegal, MayCome}
+use Rattle.tx_events.specs.Horizon.{is_live}
+use Rattle.tx_events.specs.IdLists.{Ascending}
 use Rattle.tx_model.specs.LawfulLife.{AreRounds, lines_in}
 use Rattle.tx_model.specs.LifeLog.{AreFlushed, batches_size}
 use Rattle.tx_model.specs.Lines.{AreLawfulLines, IsLawfulLine}
-use Rattle.tx_model.specs.Running.{open_ids}
-use Rattle.tx_model.proofs.PlaceLemmas.{each_place_none}
+use Rattle.tx_events.specs.Running.{open_ids}
+use Rattle.tx_events.proofs.PlaceLemmas.{each_place_none}
 use Rattle.session_lang.specs.declared.script.Item.{Item}
 use Rattle.session_lang.specs.declared.script.Item.TheVariants as items
 use Rattle.session_lang.specs.declared.script.Script.{Script}
@@ -24,13 +24,15 @@ use Rattle.report_text.specs.CommandText.{command_words}
 use Rattle.session_lang.specs.Header.{directive_text}
 use Rattle.session_lang.specs.Rounds.{rounds_of, sessions_in}
 use Rattle.session_lang.specs.Script.{IsReadItem, IsScript, item_text}
+use Rattle.report_text.specs.ReportText.{end_text, front_text, report_text, rest_text, step_text}
 use Rattle.report_text.specs.Words.{line_text, more, name_at}
+use Rattle.report_text.proofs.OneLife.{one_life}
 use Rattle.session_lang.proofs.SeenLemmas.{is_in, old_number}
 use Rattle.session_run.specs.declared.life.OpenLife.{OpenLife}
 use Rattle.session_run.specs.declared.session.Session.{Session}
 use Rattle.session_run.specs.declared.shared.Shared.{Shared}
 use Rattle.session_run.specs.Acts.{IsSoundAt}
-use Rattle.session_run.specs.Progress.{AreInTurn, GoesOn, IsFresh, IsLeft, IsNew, Progress, lines_of}
+use Rattle.session_run.specs.Progress.{AreInTurn, GoesOn, IsFresh, IsLeft, IsNew, IsTold, Progress, lines_of}
 use Rattle.session_run.specs.Stands.{IsKept, Nest}
 use Rattle.session_run.specs.Tool.{IsReportOf}
 use Rattle.session_run.specs.Turns.{IsRunnable, MayRun}
@@ -114,6 +116,13 @@ report_of s life r on ended told apart same known gate from base committed event
       };
       in_turn = rw (events, steps_is) apart;
     }
+
+-- the report so far, and what stands behind its steps
+pub printed_report : (names : List (List ℕ)) (life : OpenLife) (r : LifeReport) (text : List ℕ) → IsTold names life → text ≡ life.text → r.life.from ≡ 0 → r.life.base ≡ life.shared.table.base → r.steps ≡ life.steps → text ++ (rest_text names r.life r.crash ++ end_text) ≡ report_text (record { names = names; lives = r ∷ [] })
+printed_report names life r text told same from base steps =
+    ap (λ t. t ++ (rest_text names r.life r.crash ++ end_text))
+    (same ∙ told.text ∙ ap (λ b. front_text b ++ flat_map (step_text names) life.steps) (sym base) ∙ ap (λ ss. front_text r.life.base ++ flat_map (step_text names) ss) (sym steps))
+    ∙ one_life names r from
 
 line_some : (w : List ℕ) (ws : List (List ℕ)) → 1 ≤ length (line_text (w ∷ ws))
 unfolding line_text

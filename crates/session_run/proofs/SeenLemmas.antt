@@ -1,26 +1,26 @@
 -- What a kept snapshot says of a stored id.
-use Rattle.tx_model.proofs.Names.{same_name_equal}
+use Rattle.tx_events.proofs.Names.{same_name_equal}
 use Rattle.std.proofs.Common.{◌≡◌, ℕ, zero, suc, ◌<◌, ◌≤◌, List, [], ◌∷◌, ◌++◌, take, Some, Option, IfSome, refl, sym, ap, subst, ◌∙◌, arith, Bool, true, false, not, nat_eq, nat_lt, cond, inl, inr, Contains, ⊎_elim, map, append-nil}
 use Rattle.std.specs.List.{filter_map, find}
 use Rattle.std.proofs.lemmas.Bool.Decides.{nat_tests}
 use Rattle.std.proofs.lemmas.List.Elements.{filter_map-append, Contains-append_left, Contains-push}
 use Rattle.xid_order.specs.Nearest.{near_id}
-use Rattle.tx_model.specs.declared.event.By.{By}
-use Rattle.tx_model.specs.declared.event.Event.{Event}
-use Rattle.tx_model.specs.declared.record.Counters.{Counters}
+use Rattle.tx_events.specs.declared.event.By.{By}
+use Rattle.tx_events.specs.declared.event.Event.{Event}
+use Rattle.tx_events.specs.declared.record.Counters.{Counters}
 use Rattle.tx_model.specs.declared.reply.Reply.{Reply}
 use Rattle.xid_order.specs.declared.order.Xid.{Xid}
-use Rattle.tx_model.specs.Base.{IsBase}
-use Rattle.tx_model.specs.Events.{announced_by, same_name}
-use Rattle.tx_model.specs.History.{IsLegal}
-use Rattle.tx_model.specs.Horizon.{oldest_id, announced_after}
+use Rattle.tx_events.specs.Base.{IsBase}
+use Rattle.tx_events.specs.Events.{announced_by, same_name}
+use Rattle.tx_events.specs.History.{IsLegal}
+use Rattle.tx_events.specs.Horizon.{oldest_id, announced_after}
 use Rattle.tx_model.specs.Replies.{WasAnnounced}
-use Rattle.tx_model.specs.Visible.{is_visible}
-use Rattle.tx_model.proofs.HorizonSteps.{oldest_push}
-use Rattle.tx_model.proofs.Membership.{by_end}
-use Rattle.tx_model.proofs.SnapshotBounds.{given_from}
-use Rattle.tx_model.proofs.GivenIds.{legal_take}
-use Rattle.tx_model.proofs.Visibility.{never_given}
+use Rattle.tx_events.specs.Visible.{is_visible}
+use Rattle.tx_events.proofs.HorizonSteps.{oldest_push}
+use Rattle.tx_events.proofs.Membership.{by_end}
+use Rattle.tx_events.proofs.SnapshotBounds.{given_from}
+use Rattle.tx_events.proofs.GivenIds.{legal_take}
+use Rattle.tx_events.proofs.Visibility.{never_given}
 use Rattle.proc_table.proofs.Bounds.{full_from}
 use Rattle.session_run.specs.declared.session.Kept.{Kept}
 use Rattle.session_run.specs.declared.shared.Shared.{Shared}
@@ -28,10 +28,10 @@ use Rattle.session_run.specs.Acts.{Acts}
 use Rattle.session_run.specs.Seen.{IsSeen, IsVisibleAt, IsOlder, xmax_of}
 use Rattle.session_run.specs.Stands.{IsKept, told_of}
 use Rattle.session_run.proofs.ActsLemmas.{snap_found}
-use Rattle.tx_model.specs.declared.event.Event.TheVariants as events
+use Rattle.tx_events.specs.declared.event.Event.TheVariants as events
 use Rattle.tx_model.specs.declared.command.Command.TheVariants as commands
 use Rattle.tx_model.specs.declared.reply.Reply.TheVariants as replies
-use Rattle.tx_model.specs.declared.reply.Refusal.TheVariants as refusals
+use Rattle.tx_events.specs.declared.refusal.Refusal.TheVariants as refusals
 
 -- the oldest id is the first one or was announced
 pub was_announced : (base : Counters) (h : List Event) → WasAnnounced base h (oldest_id base.oldest h)

@@ -3,18 +3,18 @@ use Rattle.std.proofs.Common.{◌≡◌, ℕ, ◌≤◌, List, [], ◌∷◌, �
 use Rattle.std.proofs.lemmas.List.{reverse-reverse}
 use Rattle.std.proofs.lemmas.List.Elements.{All-from_recursion}
 use Rattle.std.specs.List.{filter, All}
-use Rattle.tx_model.specs.declared.event.By.{By}
-use Rattle.tx_model.specs.declared.event.Event.{Event}
-use Rattle.tx_model.specs.declared.event.Event.TheVariants as events
-use Rattle.tx_model.specs.declared.record.Counters.{Counters}
-use Rattle.tx_model.specs.declared.record.Rec.{Rec}
-use Rattle.tx_model.specs.declared.record.Rec.TheVariants as records
-use Rattle.tx_model.specs.Events.{by_of, is_of, given_by, is_commit_of}
-use Rattle.tx_model.specs.History.{MayCome, ComesInTurn}
+use Rattle.tx_events.specs.declared.event.By.{By}
+use Rattle.tx_events.specs.declared.event.Event.{Event}
+use Rattle.tx_events.specs.declared.event.Event.TheVariants as events
+use Rattle.tx_events.specs.declared.record.Counters.{Counters}
+use Rattle.tx_events.specs.declared.record.Rec.{Rec}
+use Rattle.tx_events.specs.declared.record.Rec.TheVariants as records
+use Rattle.tx_events.specs.Events.{by_of, is_of, given_by, is_commit_of}
+use Rattle.tx_events.specs.History.{MayCome, ComesInTurn}
 use Rattle.tx_model.specs.LifeLog.{end_records, record_of, records_up}
-use Rattle.tx_model.specs.Running.{open_ids}
-use Rattle.tx_model.proofs.Lineages.{reverse_push}
-use Rattle.tx_model.proofs.LineGrowth.{legal_push}
+use Rattle.tx_events.specs.Running.{open_ids}
+use Rattle.tx_events.proofs.Lineages.{reverse_push}
+use Rattle.tx_events.proofs.GivenIds.{legal_push}
 use Rattle.plain_states.specs.declared.id_states.IdState.{IdState}
 use Rattle.plain_states.specs.States.{AreStates, with_commit}
 use Rattle.plain_states.proofs.States.{states_given, states_given_below, states_committed, states_still}

@@ -3,36 +3,36 @@ use Rattle.std.proofs.lemmas.Bool.{lt-leb}
 use Rattle.std.proofs.Common.{◌≡◌, ℕ, suc, ◌+◌, ◌<◌, ◌≤◌, List, [], ◌∷◌, ◌++◌, length, take, refl, ap, sym, ◌∙◌, arith, subst, Bool, true, false, not, cond, ◌==◌, ◌||◌, reverse, Some, nat_le, inl, eqb-true, le-leb}
 use Rattle.std.specs.List.{filter, AllByRecursion, list_any}
 use Rattle.std.proofs.lemmas.List.Elements.{filter-append, Contains-append_left, Contains-push}
-use Rattle.tx_model.specs.declared.event.By.{By}
-use Rattle.tx_model.specs.declared.event.Event.{Event}
-use Rattle.tx_model.specs.declared.record.Counters.{Counters}
-use Rattle.tx_model.specs.Events.{by_of, is_of, same_name}
-use Rattle.tx_model.specs.Families.{top, is_top, enclosing}
-use Rattle.tx_model.specs.History.{IsLegal, MayCome}
-use Rattle.tx_model.specs.Horizon.{is_live, is_snap_of, live_up}
-use Rattle.tx_model.specs.IdLists.{Ascending, has}
+use Rattle.tx_events.specs.declared.event.By.{By}
+use Rattle.tx_events.specs.declared.event.Event.{Event}
+use Rattle.tx_events.specs.declared.record.Counters.{Counters}
+use Rattle.tx_events.specs.Events.{by_of, is_of, same_name}
+use Rattle.tx_events.specs.Families.{top, is_top, enclosing}
+use Rattle.tx_events.specs.History.{IsLegal, MayCome}
+use Rattle.tx_events.specs.Horizon.{is_live, is_snap_of, live_up}
+use Rattle.tx_events.specs.IdLists.{Ascending, has}
 use Rattle.tx_model.specs.Replies.{most_levels}
-use Rattle.tx_model.specs.Running.{open_ids, is_open}
-use Rattle.tx_model.specs.Savepoints.{is_inside}
-use Rattle.tx_model.specs.Snapshots.{snapshot_data}
-use Rattle.tx_model.proofs.Closing.{one_top}
-use Rattle.tx_model.proofs.ClosingGrowth.{IsClosing, closing_open_ids, closing_undo, closing_commit, closing_abort}
-use Rattle.tx_model.proofs.HorizonSteps.{live_push}
-use Rattle.tx_model.proofs.IdListSteps.{all_has, contains_true, ascending_push, ascending_filtered}
-use Rattle.tx_model.proofs.Soundness.{legal_sound, open_member}
-use Rattle.tx_model.proofs.ListSteps.{eqb-refl, below_not, all_push, all_filter, all_weaker, filter_agree_where, length_push, both_all}
-use Rattle.tx_model.proofs.Membership.{Has, contains_has, has_contains as has-contains, filter_has, filter_none_on}
-use Rattle.tx_model.proofs.NameBounds.{AreBelow, fresh_top, given_to_below, not_inside}
-use Rattle.tx_model.proofs.Lineages.{enclosing_sub, family_kept, top_kept, enclosing_kept}
-use Rattle.tx_model.proofs.PlaceLemmas.{slice_get-grows, take-grows}
-use Rattle.tx_model.proofs.GivingGrowth.{giving_open_ids, giving_id, id_family, sub_family, sub_is_no_top, giving_sub}
+use Rattle.tx_events.specs.Running.{open_ids, is_open}
+use Rattle.tx_events.specs.Savepoints.{is_inside}
+use Rattle.tx_events.specs.Snapshots.{snapshot_data}
+use Rattle.tx_events.proofs.Closing.{one_top}
+use Rattle.tx_events.proofs.ClosingGrowth.{IsClosing, closing_open_ids, closing_undo, closing_commit, closing_abort}
+use Rattle.tx_events.proofs.HorizonSteps.{live_push}
+use Rattle.tx_events.proofs.IdListSteps.{all_has, contains_true, ascending_push, ascending_filtered}
+use Rattle.tx_events.proofs.Soundness.{legal_sound, open_member}
+use Rattle.tx_events.proofs.ListSteps.{eqb-refl, below_not, all_push, all_filter, all_weaker, filter_agree_where, length_push, both_all}
+use Rattle.tx_events.proofs.Membership.{Has, contains_has, has_contains as has-contains, filter_has, filter_none_on}
+use Rattle.tx_events.proofs.NameBounds.{AreBelow, fresh_top, given_to_below, not_inside}
+use Rattle.tx_events.proofs.Lineages.{enclosing_sub, family_kept, top_kept, enclosing_kept}
+use Rattle.tx_events.proofs.PlaceLemmas.{slice_get-grows, take-grows}
+use Rattle.tx_events.proofs.GivingGrowth.{giving_open_ids, giving_id, id_family, sub_family, sub_is_no_top, giving_sub}
 use Rattle.proc_table.specs.Table.{end_event}
 use Rattle.session_run.specs.declared.session.Kept.{Kept}
 use Rattle.session_run.specs.declared.session.Session.{Session}
 use Rattle.session_run.specs.Gives.{IsInTurn, last_of}
 use Rattle.session_run.specs.Stands.{Stands, Nest, IsKept, IsSavepointIn}
 use Rattle.session_run.proofs.CutLemmas.{last_apart}
-use Rattle.tx_model.specs.declared.event.Event.TheVariants as events
+use Rattle.tx_events.specs.declared.event.Event.TheVariants as events
 
 -- the same of the parts of a session
 pub record Stood (base : Counters) (h : List Event) (session number : ℕ) (opened named : List ℕ) (unnamed : ℕ) (kept : List Kept) : Type 0 where

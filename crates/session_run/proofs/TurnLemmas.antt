@@ -1,12 +1,12 @@
 -- What commands on levels do, and the ends of transactions.
-use Rattle.tx_model.proofs.ListSteps.{length_push}
+use Rattle.tx_events.proofs.ListSteps.{length_push}
 use Rattle.std.proofs.Common.{◌≡◌, ℕ, zero, suc, ◌+◌, ◌<◌, ◌≤◌, List, [], ◌∷◌, ◌++◌, length, Option, refl, sym, ap, subst, ◌∙◌, arith, Bool, true, false}
-use Rattle.tx_model.specs.declared.event.By.{By}
-use Rattle.tx_model.specs.declared.event.Event.{Event}
-use Rattle.tx_model.specs.declared.event.Event.TheVariants as events
+use Rattle.tx_events.specs.declared.event.By.{By}
+use Rattle.tx_events.specs.declared.event.Event.{Event}
+use Rattle.tx_events.specs.declared.event.Event.TheVariants as events
 use Rattle.tx_model.specs.declared.command.Command.TheVariants as commands
 use Rattle.tx_model.specs.declared.reply.Reply.TheVariants as replies
-use Rattle.tx_model.specs.declared.record.Counters.{Counters}
+use Rattle.tx_events.specs.declared.record.Counters.{Counters}
 use Rattle.tx_model.specs.CommandEvents.{undo_event, innermost, commit_event, abort_event}
 use Rattle.tx_model.specs.Replies.{most_levels}
 use Rattle.tx_model.specs.Stance.{without_last}

@@ -1,13 +1,13 @@
 -- A write, id by id.
 use Rattle.std.proofs.Common.{◌≡◌, ℕ, ◌≤◌, List, [], ◌∷◌, ◌++◌, length, map, None, refl, sym, ap, subst, ◌∙◌, arith, append-nil, append_assoc, Bool, false, ◌||◌, ◌↔◌, IsTrue}
-use Rattle.tx_model.specs.declared.event.By.{By}
+use Rattle.tx_events.specs.declared.event.By.{By}
 use Rattle.tx_model.specs.declared.command.Command.TheVariants as commands
 use Rattle.tx_model.specs.declared.reply.Reply.TheVariants as replies
-use Rattle.tx_model.specs.declared.reply.Refusal.TheVariants as refusals
+use Rattle.tx_events.specs.declared.refusal.Refusal.TheVariants as refusals
 use Rattle.tx_model.specs.CommandEvents.{giving, level_events}
-use Rattle.tx_model.specs.Horizon.{oldest_id}
-use Rattle.tx_model.specs.Limits.{warn_limit, stop_limit}
-use Rattle.tx_model.specs.History.{next_given}
+use Rattle.tx_events.specs.Horizon.{oldest_id}
+use Rattle.tx_events.specs.Limits.{warn_limit, stop_limit}
+use Rattle.tx_events.specs.History.{next_given}
 use Rattle.tx_model.specs.Replies.{IsWarned}
 use Rattle.session_run.specs.declared.session.Session.{Session}
 use Rattle.session_run.specs.declared.shared.Shared.{Shared}
@@ -16,7 +16,7 @@ use Rattle.session_run.specs.Gives.{IsGiven, IsNamed, IsStopAt, IsUnchanged, Wri
 use Rattle.session_run.specs.Stands.{levels_of, told_of, Stands}
 use Rattle.session_run.proofs.ActsLemmas.{acts_wrote, acts_stopped, not_warned, warned_push, is_stopped}
 use Rattle.session_run.proofs.LevelLemmas.{levels_none, level_step}
-use Rattle.tx_model.proofs.ListSteps.{length_push}
+use Rattle.tx_events.proofs.ListSteps.{length_push}
 
 pub writing_none : (w : Shared) (by : By) (s : Session) → Ready w by s → Writing w w by s s [] false
 writing_none w by s r = record {

@@ -1,16 +1,16 @@
 -- What giving an id leaves.
 use Rattle.std.specs.Prelude.{◌≡◌, ℕ, ◌+◌, ◌≤◌, ◌↔◌, Bool, IsTrue, List, [], ◌∷◌, ◌++◌, Option, None, Some, Contains, length}
 use Rattle.std.specs.List.{AllByRecursion, filter, fold}
-use Rattle.tx_model.specs.declared.event.By.{By}
-use Rattle.tx_model.specs.declared.event.Event.{Event}
-use Rattle.tx_model.specs.declared.reply.Refusal.{Refusal}
-use Rattle.tx_model.specs.declared.reply.Refusal.TheVariants as refusals
+use Rattle.tx_events.specs.declared.event.By.{By}
+use Rattle.tx_events.specs.declared.event.Event.{Event}
+use Rattle.tx_events.specs.declared.refusal.Refusal.{Refusal}
+use Rattle.tx_events.specs.declared.refusal.Refusal.TheVariants as refusals
 use Rattle.tx_model.specs.CommandEvents.{giving, level_events}
-use Rattle.tx_model.specs.Events.{by_of, is_of}
-use Rattle.tx_model.specs.History.{MayCome}
-use Rattle.tx_model.specs.Limits.{warn_limit}
+use Rattle.tx_events.specs.Events.{by_of, is_of}
+use Rattle.tx_events.specs.History.{MayCome}
+use Rattle.tx_events.specs.Limits.{warn_limit}
 use Rattle.tx_model.specs.Replies.{IsWarned}
-use Rattle.tx_model.specs.Running.{open_ids}
+use Rattle.tx_events.specs.Running.{open_ids}
 use Rattle.proc_table.specs.Table.{next_of, oldest_of, stop_of}
 use Rattle.session_run.specs.declared.shared.Shared.{Shared}
 use Rattle.session_run.specs.declared.session.Session.{Session}

@@ -6,6 +6,7 @@ pub mod Closes
 pub mod Seen
 pub mod Turns
 pub mod Plans
+pub mod Told
 pub mod Progress
 pub mod Tool
 pub mod Ends

@@ -2,7 +2,7 @@
 use Rattle.std.specs.Prelude.{◌≡◌, ℕ, ◌<◌, ◌==◌, ◌⊎◌, List, [], Some, true, length, slice_get}
 use Rattle.std.specs.List.{All, filter_map, list_any}
 use Rattle.tx_model.specs.declared.command.Command.{Command}
-use Rattle.tx_model.specs.Places.{first_seen}
+use Rattle.tx_events.specs.Places.{first_seen}
 use Rattle.session_lang.specs.declared.script.Item.{Item}
 use Rattle.session_lang.specs.Rounds.{sessions_in, turns_of}
 use Rattle.session_run.specs.declared.plan.Plan.{Plan}

@@ -2,21 +2,22 @@
 use Rattle.std.specs.Prelude.{◌≡◌, ℕ, ◌+◌, ◌<◌, ◌≤◌, ◌^◌, Bool, false, IsTrue, List, [], ◌∷◌, ◌++◌, Some, slice_get, take, length}
 use Rattle.std.specs.List.{All, AllByRecursion, count_by, flat_map, list_any}
 use Rattle.tx_model.specs.declared.command.Command.{Command}
-use Rattle.tx_model.specs.declared.event.Event.{Event}
-use Rattle.tx_model.specs.declared.record.Counters.{Counters}
-use Rattle.tx_model.specs.declared.record.Rec.TheVariants as records
+use Rattle.tx_events.specs.declared.event.Event.{Event}
+use Rattle.tx_events.specs.declared.record.Counters.{Counters}
+use Rattle.tx_events.specs.declared.record.Rec.TheVariants as records
 use Rattle.tx_model.specs.declared.report.Line.{Line}
 use Rattle.tx_model.specs.declared.report.Step.{Step}
-use Rattle.tx_model.specs.declared.report.Step.TheVariants as steps
-use Rattle.tx_model.specs.Events.{by_of, same_by}
+use Rattle.tx_events.specs.Events.{by_of, same_by}
 use Rattle.tx_model.specs.LawfulLife.{lines_in}
 use Rattle.tx_model.specs.Lines.{AreLawfulLines, AreLinesOf, stance, is_line_of}
 use Rattle.proc_table.specs.Table.{page_of}
+use Rattle.report_text.specs.ReportText.{command_line, front_text, step_text}
 use Rattle.session_run.specs.declared.life.OpenLife.{OpenLife}
 use Rattle.session_run.specs.declared.session.Session.{Session}
 use Rattle.session_run.specs.declared.shared.Shared.{Shared}
 use Rattle.session_run.specs.Stands.{Stands, stance_of}
 use Rattle.session_run.specs.Acts.{ActsOn, GrowsLittle, IsSoundAt, StandsAt}
+use Rattle.session_run.specs.Told.{round_step}
 
 -- the line isn't of a later command of the session
 abbrev pub IsNotLater : ℕ → ℕ → Line → Type 0
@@ -99,11 +100,19 @@ pub record StandFirst (h : List Event) (lines : List Line) : Type 0 where
 abbrev pub AreInTurn : List Event → List Step → Type 0
 AreInTurn h steps = (n : ℕ) → StandFirst h (flat_map lines_in (take n steps))
 
--- a round's step, where the round has lines
-abbrev pub round_step : ℕ → List Line → List Step
-round_step n [] = []
-round_step n (l ∷ lines) = steps.Round n (l ∷ lines) ∷ []
-
 -- the steps are these and then a round of these commands, where there are any
 abbrev pub AddsRound : List Step → List (ℕ × Command) → List Step → Type 0
 AddsRound before turns after = (lines : List Line) × AreLinesOf turns lines × (after ≡ before ++ round_step (length before + 1) lines)
+
+-- the round that runs has more lines, and they were printed
+pub record Tells (names : List (List ℕ)) (life life' : OpenLife) : Type 0 where
+  pub rounds : life'.rounds ≡ life.rounds
+  pub more : List Line
+  pub lines : life'.lines ≡ life.lines ++ more
+  pub text : life'.text ≡ life.text ++ flat_map (command_line names) more
+
+-- between two rounds: the report's text up to here was printed, and the rounds that have lines were counted
+pub record IsTold (names : List (List ℕ)) (life : OpenLife) : Type 0 where
+  pub counted : life.rounds ≡ length life.steps
+  pub few : life.rounds ≤ length (lines_of life)
+  pub text : life.text ≡ front_text life.shared.table.base ++ flat_map (step_text names) life.steps

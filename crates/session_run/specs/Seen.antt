@@ -3,10 +3,10 @@ use Rattle.std.specs.Prelude.{◌≡◌, ℕ, ◌<◌, ◌≤◌, Bool, [], Some
 use Rattle.xid_order.specs.Nearest.{near_id}
 use Rattle.tx_model.specs.declared.reply.Reply.{Reply}
 use Rattle.tx_model.specs.declared.reply.Reply.TheVariants as replies
-use Rattle.tx_model.specs.declared.reply.Refusal.TheVariants as refusals
+use Rattle.tx_events.specs.declared.refusal.Refusal.TheVariants as refusals
 use Rattle.tx_model.specs.Replies.{WasAnnounced, seen_id}
-use Rattle.tx_model.specs.Snapshots.{snapshot_xmax}
-use Rattle.tx_model.specs.Visible.{is_visible}
+use Rattle.tx_events.specs.Snapshots.{snapshot_xmax}
+use Rattle.tx_events.specs.Visible.{is_visible}
 use Rattle.session_run.specs.declared.session.Kept.{Kept}
 use Rattle.session_run.specs.declared.shared.Shared.{Shared}
 

@@ -1,11 +1,11 @@
 -- What the shared state says of the history.
 use Rattle.std.specs.Prelude.{◌≡◌, ◌<◌, ◌^◌, List, ◌∷◌, length}
-use Rattle.tx_model.specs.declared.event.Event.{Event}
-use Rattle.tx_model.specs.declared.record.Counters.{Counters}
-use Rattle.tx_model.specs.declared.record.Rec.{Rec}
-use Rattle.tx_model.specs.declared.record.Rec.TheVariants as records
-use Rattle.tx_model.specs.Base.{IsBase}
-use Rattle.tx_model.specs.History.{IsLegal}
+use Rattle.tx_events.specs.declared.event.Event.{Event}
+use Rattle.tx_events.specs.declared.record.Counters.{Counters}
+use Rattle.tx_events.specs.declared.record.Rec.{Rec}
+use Rattle.tx_events.specs.declared.record.Rec.TheVariants as records
+use Rattle.tx_events.specs.Base.{IsBase}
+use Rattle.tx_events.specs.History.{IsLegal}
 use Rattle.tx_model.specs.LifeLog.{end_records}
 use Rattle.plain_states.specs.declared.id_states.IdState.{IdState}
 use Rattle.plain_states.specs.States.{AreStates}

@@ -1,19 +1,18 @@
 -- How a session stands in the history.
 use Rattle.std.specs.Prelude.{◌≡◌, ℕ, zero, suc, ◌+◌, ◌≤◌, nat_le, List, [], ◌∷◌, ◌++◌, Option, Some, None, true, false, take, slice_get, map, length, Contains}
 use Rattle.std.specs.List.{AllByRecursion, filter, list_any}
-use Rattle.tx_model.specs.declared.event.Event.{Event}
-use Rattle.tx_model.specs.declared.event.Event.TheVariants as events
-use Rattle.tx_model.specs.declared.record.Counters.{Counters}
-use Rattle.tx_model.specs.Events.{by_of, is_of, same_name}
-use Rattle.tx_model.specs.Families.{is_top}
-use Rattle.tx_model.specs.Horizon.{is_live}
-use Rattle.tx_model.specs.IdLists.{Ascending}
+use Rattle.tx_events.specs.declared.event.Event.{Event}
+use Rattle.tx_events.specs.declared.event.Event.TheVariants as events
+use Rattle.tx_events.specs.declared.record.Counters.{Counters}
+use Rattle.tx_events.specs.Events.{by_of, is_of, same_name}
+use Rattle.tx_events.specs.Families.{is_top}
+use Rattle.tx_events.specs.Horizon.{is_live}
+use Rattle.tx_events.specs.IdLists.{Ascending}
 use Rattle.tx_model.specs.Replies.{most_levels}
-use Rattle.tx_model.specs.Running.{open_ids}
-use Rattle.tx_model.specs.Savepoints.{is_inside}
-use Rattle.tx_model.specs.Snapshots.{snapshot_data}
+use Rattle.tx_events.specs.Running.{open_ids}
+use Rattle.tx_events.specs.Savepoints.{is_inside}
+use Rattle.tx_events.specs.Snapshots.{snapshot_data}
 use Rattle.tx_model.specs.Stance.{Stance}
-use Rattle.snap_core.specs.Says.{data_of}
 use Rattle.session_run.specs.declared.session.Kept.{Kept}
 use Rattle.session_run.specs.declared.session.Session.{Session}
 
@@ -36,7 +35,7 @@ stance_of s = record { levels = levels_of s.named.items s.unnamed; snaps = map t
 -- the snapshot was taken at its place
 pub record IsKept (base : Counters) (h : List Event) (session : ℕ) (k : Kept) : Type 0 where
   pub taken : slice_get h k.place ≡ Some (events.Snap (record { session = session; command = k.command }) k.name)
-  pub holds : data_of k.snapshot ≡ snapshot_data base.next (take k.place h)
+  pub holds : k.snapshot ≡ snapshot_data base.next (take k.place h)
 
 -- a savepoint's id: the ids given in it are the open ones from it on
 abbrev pub IsSavepointIn : List Event → List ℕ → ℕ → Type 0

@@ -1,8 +1,8 @@
 ghost use Rattle.std.specs.Prelude.{◌≡◌, ℕ, ◌+◌, ◌<◌, ◌≤◌, not, nat_le, take, drop, length, List, [], ◌∷◌, OnOk, IfOk, true};
 ghost use Rattle.std.specs.List.{filter};
-ghost use Rattle.tx_model.specs.Families.{is_top};
-ghost use Rattle.tx_model.specs.IdLists.{Ascending};
-ghost use Rattle.tx_model.specs.Running.{open_ids};
+ghost use Rattle.tx_events.specs.Families.{is_top};
+ghost use Rattle.tx_events.specs.IdLists.{Ascending};
+ghost use Rattle.tx_events.specs.Running.{open_ids};
 ghost use Rattle.plain_states.specs.States.{with_commit};
 ghost use Rattle.tx_model.specs.declared.command.Command.TheVariants as commands;
 ghost use Rattle.session_run.specs.Acts.{ActsOn, Ready, IsSoundAt, StandsAt, GrowsLittle, end_command};

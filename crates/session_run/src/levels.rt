@@ -1,7 +1,7 @@
 ghost use Rattle.std.specs.Prelude.{◌≡◌, ℕ, ◌+◌, ◌≤◌, ◌<◌, List, [], length};
-ghost use Rattle.tx_model.specs.declared.event.Event.{Event};
-ghost use Rattle.tx_model.specs.declared.event.By.{By};
-ghost use Rattle.tx_model.specs.declared.record.Counters.{Counters};
+ghost use Rattle.tx_events.specs.declared.event.Event.{Event};
+ghost use Rattle.tx_events.specs.declared.event.By.{By};
+ghost use Rattle.tx_events.specs.declared.record.Counters.{Counters};
 ghost use Rattle.tx_model.specs.Replies.{most_levels};
 ghost use Rattle.tx_model.specs.Stance.{without_last};
 ghost use Rattle.session_run.specs.Stands.{Stands, stance_of, levels_of};

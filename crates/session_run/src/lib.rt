@@ -12,6 +12,7 @@ mod session;
 mod shared;
 mod snaps;
 mod stream;
+mod told;
 mod tool;
 mod writes;
 

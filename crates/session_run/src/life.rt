@@ -1,28 +1,29 @@
-ghost use Rattle.std.specs.Prelude.{◌≡◌, ℕ, ◌+◌, ◌≤◌, List, [], ◌++◌, IfOk, OnOk, None, length};
+ghost use Rattle.std.specs.Prelude.{◌≡◌, ◌≤◌, [], IfOk, length};
 ghost use Rattle.std.specs.List.{All};
-ghost use Rattle.tx_model.specs.Base.{IsBase};
-ghost use Rattle.session_run.specs.Progress.{GoesOn, IsFresh, IsNew, round_step};
+ghost use Rattle.tx_events.specs.Base.{IsBase};
+ghost use Rattle.report_text.specs.ReportText.{front_text};
+ghost use Rattle.session_run.specs.Progress.{GoesOn, IsFresh, IsNew};
 
 use crate::plain_log::PlainLog;
 use crate::session::Session;
 use crate::shared::Shared;
+use crate::told::{ToldLines, ToldSteps};
 use plain_states::IdStates;
 use proc_table::ProcTable;
+use report_text::{Text, begin_report};
 use std::alloc::Global;
-use std::mem;
-use tx_model::{
-    Counters, IdList, Life, LifeReport, LineList, Memory, MultiEventList, Rec, RecList, Step,
-    StepList,
-};
+use tx_model::{Counters, IdList, Life, Memory, MultiEventList, Rec, RecList};
 
-/// A life that runs: what its sessions share, the sessions by number, the rounds that are done, and the lines of the
-/// round that runs.
+/// A life that runs: what its sessions share, the sessions by number, the report so far, how many rounds it has, and
+/// for contracts the rounds that are done and the lines of the round that runs.
 #[derive(Drop)]
 pub struct OpenLife {
     pub shared: Shared,
     pub sessions: Vec<Session>,
-    pub steps: StepList,
-    pub lines: LineList,
+    pub text: Text,
+    pub rounds: u64,
+    pub steps: ToldSteps,
+    pub lines: ToldLines,
 }
 
 /// So many sessions that have done nothing yet.
@@ -63,47 +64,36 @@ impl OpenLife {
         ensures goes_on { IfOk result (λ life. GoesOn life) }
         ensures base { IfOk result (λ life. life.shared.table.base ≡ base.now) }
         ensures sessions { IfOk result (λ life. length life.sessions.items ≡ sessions) }
-        ensures nothing { IfOk result (λ life. (life.steps ≡ []) × (life.lines ≡ [])) }
+        ensures nothing { IfOk result (λ life. (life.steps ≡ []) × (life.lines ≡ []) × (life.rounds ≡ 0)) }
+        ensures text { IfOk result (λ life. life.text ≡ front_text base.now) }
     {
         let shared = new_shared(alloc, base, sessions)?;
         let sessions = new_sessions(alloc, sessions)?;
+        let mut text = Text::new(alloc);
+        begin_report(&mut text, base)?;
         Ok(OpenLife {
             shared,
             sessions,
-            steps: StepList::new(alloc),
-            lines: LineList::new(alloc),
+            text,
+            rounds: 0,
+            steps: ToldSteps::none(),
+            lines: ToldLines::none(),
         })
     }
 
-    /// Ends the round that runs: its lines become a step, where it has any. Rounds count from 1.
-    pub fn end_round(&mut self, alloc: Global) -> Result<(), Memory>
-        ensures step { OnOk result (self.new.steps ≡ self.old.steps ++ round_step (length self.old.steps + 1) self.old.lines) }
-        ensures lines { OnOk result (self.new.lines ≡ []) }
-        ensures shared { self.new.shared ≡ self.old.shared }
-        ensures sessions { self.new.sessions ≡ self.old.sessions }
+    /// The life, which no crash ended, and its report so far.
+    pub fn into_parts(self, alloc: Global) -> (Life, Text)
+        ensures from { result.0.from ≡ 0 }
+        ensures base { result.0.base ≡ self.shared.table.base }
+        ensures committed { result.0.committed ≡ [] }
+        ensures events { result.0.events ≡ self.shared.table.events }
+        ensures multis { result.0.multis ≡ [] }
+        ensures recs { result.0.recs ≡ self.shared.log.recs }
+        ensures flushed { result.0.flushed ≡ self.shared.log.flushed }
+        ensures end { result.0.end ≡ self.shared.log.end }
+        ensures text { result.1 ≡ self.text }
     {
-        if self.lines.items().is_empty() {
-            return Ok(());
-        }
-        let lines = mem::replace(&mut self.lines, LineList::new(alloc));
-        let number = self.steps.items().len() as u64 + 1;
-        self.steps.push(Step::Round { number, lines })
-    }
-
-    /// The report of the life, which no crash ends.
-    pub fn into_report(self, alloc: Global) -> LifeReport
-        ensures from { result.life.from ≡ 0 }
-        ensures base { result.life.base ≡ self.shared.table.base }
-        ensures committed { result.life.committed ≡ [] }
-        ensures events { result.life.events ≡ self.shared.table.events }
-        ensures multis { result.life.multis ≡ [] }
-        ensures recs { result.life.recs ≡ self.shared.log.recs }
-        ensures flushed { result.life.flushed ≡ self.shared.log.flushed }
-        ensures end { result.life.end ≡ self.shared.log.end }
-        ensures steps { result.steps ≡ self.steps }
-        ensures last { result.crash ≡ None }
-    {
-        let OpenLife { shared, steps, .. } = self;
+        let OpenLife { shared, text, .. } = self;
         let Shared { table, log, .. } = shared;
         let (base, events) = table.into_parts();
         let (recs, flushed, end) = log.into_parts();
@@ -118,10 +108,6 @@ impl OpenLife {
             flushed,
             end,
         };
-        LifeReport {
-            life,
-            steps,
-            crash: None,
-        }
+        (life, text)
     }
 }

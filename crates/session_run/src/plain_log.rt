@@ -1,5 +1,5 @@
 ghost use Rattle.std.specs.Prelude.{◌≡◌, ℕ, ◌+◌, ◌*◌, ◌^◌, ◌<◌, ◌≤◌, List, [], ◌∷◌, ◌++◌, OnOk, OnErr, take, drop, length};
-ghost use Rattle.tx_model.specs.RecordSize.{record_size, records_size};
+ghost use Rattle.tx_events.specs.RecordSize.{record_size, records_size};
 ghost use Rattle.tx_model.specs.LifeLog.{AreFlushed, batches_size, is_flushed_at_once};
 
 use std::alloc::Global;

@@ -8,48 +8,44 @@ ghost use Rattle.session_lang.specs.Script.{IsRead};
 ghost use Rattle.session_run.specs.declared.session.Session.{Session};
 ghost use Rattle.session_run.specs.Acts.{IsSoundAt};
 ghost use Rattle.session_run.specs.Plans.{HasPlaces, IsBlank, IsPlanOf, turns_at};
-ghost use Rattle.session_run.specs.Progress.{AddsRound, AreInTurn, Continues, GoesOn, MayAdd, Ran, lines_of};
+ghost use Rattle.session_run.specs.Progress.{AddsRound, AreInTurn, Continues, GoesOn, IsTold, MayAdd, Ran, Tells, lines_of};
 ghost use Rattle.session_run.specs.Sound.{HasRoom};
 ghost use Rattle.session_run.specs.Stands.{Stands};
+ghost use Rattle.session_run.specs.Told.{begin_text, rounds_with};
 ghost use Rattle.session_run.specs.Turns.{IsFirstRound, MayRun, is_command, turns_in};
 
 use crate::life::OpenLife;
 use crate::plan::Plan;
 use crate::session::{Session, run_command};
 use crate::shared::Shared;
+use report_text::{Text, put_command_line, put_round_line};
 use session_lang::Item;
 use std::alloc::Global;
-use tx_model::{By, Command, Copied, Line, Memory};
+use tx_model::{By, Command, Memory, NameList, Reply};
 
-/// Runs a session's next command, and answers its line.
-fn next_line(
+/// Runs a session's next command, and answers whose it is and its reply.
+fn next_reply(
     shared: &mut Shared,
     alloc: Global,
     number: u32,
     session: &mut Session,
     command: &Command,
-) -> Result<Line, Memory>
+) -> Result<(By, Reply), Memory>
     requires read { IsRead command.now }
     requires sound { IsSoundAt shared.old }
     requires stands { Stands shared.old.table.base shared.old.table.events number session.old.commands session.old }
     requires known { number < shared.old.table.sessions }
     requires room { HasRoom shared.old.log.recs }
     requires numbers { session.old.commands < 2 ^ 32 }
-    ensures { IfOk result (Ran shared.old shared.new number session.old session.new command.now) }
+    ensures { IfOk result (λ r. Ran shared.old shared.new number session.old session.new command.now (record { by = r.0; command = command.now; reply = r.1 })) }
 {
     session.commands += 1;
     let by = By {
         session: number,
         command: session.commands,
     };
-    // It is copied first, so that no memory is taken after an event.
-    let copy = command.copy()?;
     let reply = run_command(shared, alloc, by, session, command)?;
-    Ok(Line {
-        by,
-        command: copy,
-        reply,
-    })
+    Ok((by, reply))
 }
 
 /// The command, where it is of this session.
@@ -92,9 +88,28 @@ fn next_round(items: &[Item]) -> (&[Item], &[Item])
     (items, &[])
 }
 
+/// Prints the line that begins a round of these sessions, where there are any, and counts it.
+fn begin_round(text: &mut Text, rounds: u64, sessions: &[u32]) -> Result<u64, Memory>
+    requires { rounds < 2 ^ 32 }
+    ensures text { OnOk result (text.new ≡ text.old ++ begin_text (rounds + 1) sessions.now) }
+    ensures count { IfOk result (λ n. n ≡ rounds_with rounds sessions.now) }
+{
+    if sessions.is_empty() {
+        return Ok(rounds);
+    }
+    put_round_line(text, rounds + 1)?;
+    Ok(rounds + 1)
+}
+
 impl OpenLife {
-    /// Runs a session's next command, and adds its line.
-    fn run_turn(&mut self, alloc: Global, number: u32, command: &Command) -> Result<(), Memory>
+    /// Runs a session's next command, and prints its line.
+    fn run_turn(
+        &mut self,
+        alloc: Global,
+        names: &NameList,
+        number: u32,
+        command: &Command,
+    ) -> Result<(), Memory>
         requires read { IsRead command.now }
         requires goes_on { GoesOn self.old }
         requires known { number < length self.old.sessions.items }
@@ -103,16 +118,19 @@ impl OpenLife {
         ensures line { OnOk result (map turn_of self.new.lines ≡ map turn_of self.old.lines ++ (number, command.now) ∷ []) }
         ensures steps { OnOk result (self.new.steps ≡ self.old.steps) }
         ensures on { OnOk result (Continues self.old self.new) }
+        ensures tells { OnOk result (Tells names.now self.old self.new) }
     {
         let session = &mut self.sessions[number as usize];
-        let line = next_line(&mut self.shared, alloc, number, session, command)?;
-        self.lines.push(line)
+        let (by, reply) = next_reply(&mut self.shared, alloc, number, session, command)?;
+        self.lines.add(by, command, &reply);
+        put_command_line(&mut self.text, names, by, command, &reply)
     }
 
     /// Runs a session's commands of a round, in their order: those at these places.
     fn run_session(
         &mut self,
         alloc: Global,
+        names: &NameList,
         number: u32,
         places: &[usize],
         round: &[Item],
@@ -125,17 +143,24 @@ impl OpenLife {
         ensures lines { OnOk result (map turn_of self.new.lines ≡ map turn_of self.old.lines ++ turns_of number (turns_in round.now)) }
         ensures steps { OnOk result (self.new.steps ≡ self.old.steps) }
         ensures on { OnOk result (Continues self.old self.new) }
+        ensures tells { OnOk result (Tells names.now self.old self.new) }
     {
         for place in places {
             if let Some(command) = command_at(number, round, *place) {
-                self.run_turn(alloc, number, command)?;
+                self.run_turn(alloc, names, number, command)?;
             }
         }
         Ok(())
     }
 
     /// Runs the commands of a round, one session after another.
-    fn run_sessions(&mut self, alloc: Global, plan: &Plan, round: &[Item]) -> Result<(), Memory>
+    fn run_sessions(
+        &mut self,
+        alloc: Global,
+        names: &NameList,
+        plan: &Plan,
+        round: &[Item],
+    ) -> Result<(), Memory>
         requires goes_on { GoesOn self.old }
         requires items { All (MayRun (length self.old.sessions.items)) round.now }
         requires plan { IsPlanOf round.now round.now plan.now }
@@ -144,19 +169,27 @@ impl OpenLife {
         ensures lines { OnOk result (map turn_of self.new.lines ≡ map turn_of self.old.lines ++ flat_map (λ s. turns_of s (turns_in round.now)) plan.now.sessions.items) }
         ensures steps { OnOk result (self.new.steps ≡ self.old.steps) }
         ensures on { OnOk result (Continues self.old self.new) }
+        ensures tells { OnOk result (Tells names.now self.old self.new) }
     {
         for number in plan.sessions.as_slice() {
             let places = plan.places[*number as usize].items();
-            self.run_session(alloc, *number, places, round)?;
+            self.run_session(alloc, names, *number, places, round)?;
         }
         Ok(())
     }
 
     /// Runs a round: its sessions one after another, in the order in which they first appear, each with its commands
     /// in their order.
-    fn run_round(&mut self, alloc: Global, plan: &mut Plan, round: &[Item]) -> Result<(), Memory>
+    fn run_round(
+        &mut self,
+        alloc: Global,
+        names: &NameList,
+        plan: &mut Plan,
+        round: &[Item],
+    ) -> Result<(), Memory>
         requires goes_on { GoesOn self.old }
         requires begins { self.old.lines ≡ [] }
+        requires told { IsTold names.now self.old }
         requires plan { IsBlank plan.old × (length plan.old.places.items ≡ length self.old.sessions.items) }
         requires items { All (MayRun (length self.old.sessions.items)) round.now }
         requires room { MayAdd self.old (length round.now) }
@@ -166,18 +199,27 @@ impl OpenLife {
         ensures plan { OnOk result (IsBlank plan.new × (length plan.new.places.items ≡ length plan.old.places.items)) }
         ensures room { OnOk result (length (lines_of self.new) ≤ length (lines_of self.old) + length round.now) }
         ensures on { OnOk result (Continues self.old self.new) }
+        ensures told { OnOk result (IsTold names.now self.new) }
     {
         plan.fill(round)?;
-        self.run_sessions(alloc, plan, round)?;
-        self.end_round(alloc)?;
+        let rounds = begin_round(&mut self.text, self.rounds, plan.sessions.as_slice())?;
+        self.rounds = rounds;
+        self.run_sessions(alloc, names, plan, round)?;
+        self.steps.end_round(&mut self.lines);
         plan.clear(alloc);
         Ok(())
     }
 
     /// Runs the rounds of a script, one after another.
-    pub fn run_rounds(&mut self, alloc: Global, script: &[Item]) -> Result<(), Memory>
+    pub fn run_rounds(
+        &mut self,
+        alloc: Global,
+        names: &NameList,
+        script: &[Item],
+    ) -> Result<(), Memory>
         requires goes_on { GoesOn self.old }
         requires begins { (self.old.steps ≡ []) × (self.old.lines ≡ []) }
+        requires told { IsTold names.now self.old }
         requires items { All (MayRun (length self.old.sessions.items)) script.now }
         requires room { length script.now ≤ 2 ^ 24 }
         ensures goes_on { OnOk result (GoesOn self.new) }
@@ -185,12 +227,13 @@ impl OpenLife {
         ensures rounds { OnOk result (AreRounds 1 (rounds_of script.now) self.new.steps) }
         ensures in_turn { OnOk result (AreInTurn self.new.shared.table.events self.new.steps) }
         ensures on { OnOk result (Continues self.old self.new) }
+        ensures told { OnOk result (IsTold names.now self.new) }
     {
         let mut plan = Plan::new(alloc, self.sessions.len())?;
         let mut rest = script;
         while !rest.is_empty() {
             let (round, behind) = next_round(rest);
-            self.run_round(alloc, &mut plan, round)?;
+            self.run_round(alloc, names, &mut plan, round)?;
             rest = behind;
         }
         Ok(())

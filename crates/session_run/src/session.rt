@@ -7,9 +7,8 @@ use crate::levels::{begin, release, save};
 use crate::shared::Shared;
 use crate::snaps::{drop_snap, see, snap};
 use crate::writes::write;
-use snap_core::Snapshot;
 use std::alloc::Global;
-use tx_model::{By, Command, Memory, Name, Reply};
+use tx_model::{By, Command, Memory, Name, Reply, SnapData};
 use xid_order::FullXid;
 
 /// A snapshot that a session keeps: its name, the command that took it, its place in the history, and its data.
@@ -18,7 +17,7 @@ pub struct Kept {
     pub name: Name,
     pub command: u64,
     pub place: usize,
-    pub snapshot: Snapshot,
+    pub snapshot: SnapData,
 }
 
 /// How a session stands.

@@ -1,16 +1,14 @@
 ghost use Rattle.std.specs.Prelude.{◌≡◌, ℕ, ◌<◌, ◌≤◌, ◌≢◌, not, length, IfSome, IfNone, Some, None, IfOk, OnOk};
 ghost use Rattle.std.specs.List.{find, filter};
-ghost use Rattle.tx_model.specs.Events.{same_name};
+ghost use Rattle.tx_events.specs.Events.{same_name};
 ghost use Rattle.tx_model.specs.declared.command.Command.TheVariants as commands;
 ghost use Rattle.session_run.specs.Acts.{ActsOn, Ready, IsSoundAt, StandsAt, GrowsLittle};
 ghost use Rattle.session_run.specs.Seen.{IsSeen};
-ghost use Rattle.snap_core.specs.Says.{data_of};
 ghost use Rattle.session_run.specs.Stands.{IsKept};
 
 use crate::session::{Kept, Session};
 use crate::shared::Shared;
-use snap_core::Snapshot;
-use tx_model::{By, Copied, Memory, Name, Refusal, Reply, SnapData};
+use tx_model::{By, Copied, Memory, Name, Refusal, Reply};
 use xid_order::{Xid, near};
 
 /// A session keeps at most so many snapshots.
@@ -42,26 +40,6 @@ fn kept_as<'a>(session: &'a Session, name: &Name) -> Option<&'a Kept>
     find_kept(session.kept.as_slice(), name.items())
 }
 
-/// What a snapshot lists, as a reply has it.
-fn lists_of(snapshot: Snapshot) -> SnapData
-    ensures { result ≡ data_of snapshot }
-{
-    let Snapshot {
-        xmin,
-        xmax,
-        xip,
-        subxip,
-        overflowed,
-    } = snapshot;
-    SnapData {
-        xmin,
-        xmax,
-        xip,
-        subxip,
-        overflowed,
-    }
-}
-
 /// Takes a snapshot and keeps it under a name that isn't taken. All memory is taken before the snapshot counts as
 /// taken, or with it.
 fn take(shared: &mut Shared, by: By, session: &mut Session, name: &Name) -> Result<Reply, Memory>
@@ -85,9 +63,7 @@ fn take(shared: &mut Shared, by: By, session: &mut Session, name: &Name) -> Resu
         place,
         snapshot,
     });
-    Ok(Reply::Snapped {
-        lists: lists_of(taken),
-    })
+    Ok(Reply::Snapped { lists: taken })
 }
 
 /// Takes a snapshot (`GetSnapshotData` of `src/backend/storage/ipc/procarray.c`) and keeps it under this name, as a

@@ -10,7 +10,6 @@ ghost use Rattle.session_run.specs.Ends.{Ends, Answers};
 
 use crate::run::run_script;
 use crate::stream::{ReadStop, read_all, write_all};
-use report_text::print_report;
 use session_lang::{ParseRefusal, parse};
 use std::alloc::Global;
 use tx_io::{Failed, Sink, Source};
@@ -49,12 +48,7 @@ fn answer(alloc: Global, bytes: &[u8]) -> Ending
         Err(ParseRefusal::Fault { .. }) => return Ending::NoScript,
         Err(ParseRefusal::Memory) => return Ending::Memory,
     };
-    let Ok(report) = run_script(alloc, &script) else {
-        return Ending::Memory;
-    };
-    // The text takes about as much memory as the script.
-    drop(script);
-    let Ok(text) = print_report(alloc, &report) else {
+    let Ok(text) = run_script(alloc, &script) else {
         return Ending::Memory;
     };
     Ending::Report(text)

@@ -1,24 +1,24 @@
 -- What a snapshot says of an id is so.
 use Rattle.std.proofs.Math.Bool.{and-true}
-use Rattle.tx_model.proofs.Extremes.{fold_min_has, fold_min_start}
+use Rattle.tx_events.proofs.Extremes.{fold_min_has, fold_min_start}
 use Rattle.snap_core.specs.Says.{says_of, says_top_of, IsSaid, IsSaidOfTop, SaysRight, SaysTopRight}
 use Rattle.snap_core.specs.declared.snapshot.Says.{Says}
 use Rattle.std.proofs.Common.{◌≡◌, ℕ, ◌<◌, ◌≤◌, List, [], refl, ap, sym, ◌∙◌, arith, Bool, true, false, not, ◌&&◌, ◌==◌, ◌||◌, cond, subst, inl, inr, nat_lt, lt-ltb, ltb-true, ltb-false}
 use Rattle.std.proofs.lemmas.Bool.{false≢true}
 use Rattle.std.specs.List.{filter, list_any}
-use Rattle.tx_model.proofs.ListSteps.{equal_swap}
-use Rattle.tx_model.proofs.IdListSteps.{ascending_filtered, has-filter, true_has}
-use Rattle.tx_model.proofs.Soundness.{root_runs, legal_sound, IsSound}
-use Rattle.tx_model.proofs.Membership.{list_any_agree_on}
-use Rattle.tx_model.specs.Events.{given}
-use Rattle.tx_model.specs.Families.{top, is_top}
-use Rattle.tx_model.specs.History.{IsLegal}
-use Rattle.tx_model.specs.IdLists.{has, Ascending}
-use Rattle.tx_model.specs.Running.{is_open, running, running_tops}
-use Rattle.tx_model.specs.Snapshots.{snapshot_xmax, snapshot_xips, snapshot_subs, is_overflowed, snapshot_data, snapshot_xmin}
-use Rattle.tx_model.specs.declared.event.Event.{Event}
-use Rattle.tx_model.specs.declared.record.Counters.{Counters}
-use Rattle.tx_model.specs.declared.reply.SnapData.{SnapData}
+use Rattle.tx_events.proofs.ListSteps.{equal_swap}
+use Rattle.tx_events.proofs.IdListSteps.{ascending_filtered, has-filter, true_has}
+use Rattle.tx_events.proofs.Soundness.{root_runs, legal_sound, IsSound}
+use Rattle.tx_events.proofs.Membership.{list_any_agree_on}
+use Rattle.tx_events.specs.Events.{given}
+use Rattle.tx_events.specs.Families.{top, is_top}
+use Rattle.tx_events.specs.History.{IsLegal}
+use Rattle.tx_events.specs.IdLists.{has, Ascending}
+use Rattle.tx_events.specs.Running.{is_open, running, running_tops}
+use Rattle.tx_events.specs.Snapshots.{snapshot_xmax, snapshot_xips, snapshot_subs, is_overflowed, snapshot_data, snapshot_xmin}
+use Rattle.tx_events.specs.declared.event.Event.{Event}
+use Rattle.tx_events.specs.declared.record.Counters.{Counters}
+use Rattle.tx_events.specs.declared.snapshot.SnapData.{SnapData}
 use Rattle.snap_core.specs.declared.snapshot.Says.TheVariants as says
 
 -- below the limit, the lists hold what is running

@@ -7,8 +7,8 @@ use Rattle.std.specs.List.Sorted.{IsBinarySearchResult}
 use Rattle.std.specs.Ordering.{nat_cmp}
 use Rattle.std.specs.Prelude.{is_ok, Result, Ok, Err, MatchResult}
 use Rattle.std.proofs.Math.Bool.{or-true}
-use Rattle.tx_model.proofs.ListSteps.{eqb-refl}
-use Rattle.tx_model.specs.IdLists.{has, Ascending}
+use Rattle.tx_events.proofs.ListSteps.{eqb-refl}
+use Rattle.tx_events.specs.IdLists.{has, Ascending}
 
 all_at : (P : ℕ → Type 0) (xs : List ℕ) (k : ℕ) → AllByRecursion P xs → k < length xs → P (get_or xs k 0)
 all_at P [] k a l = absurd (omega arith)

@@ -1,20 +1,15 @@
 -- What a snapshot says of an id, and that it is so.
 use Rattle.std.specs.Prelude.{◌≡◌, ℕ, ◌<◌, ◌≤◌, ◌||◌, ◌⊎◌, true, false, cond, nat_lt, List}
-use Rattle.tx_model.specs.declared.event.Event.{Event}
-use Rattle.tx_model.specs.declared.reply.SnapData.{SnapData}
-use Rattle.tx_model.specs.declared.record.Counters.{Counters}
-use Rattle.tx_model.specs.Running.{running}
-use Rattle.tx_model.specs.Families.{is_top}
-use Rattle.tx_model.specs.History.{IsLegal}
-use Rattle.tx_model.specs.Snapshots.{snapshot_data, snapshot_xmin, snapshot_xmax, is_overflowed}
-use Rattle.tx_model.specs.IdLists.{has}
-use Rattle.snap_core.specs.declared.snapshot.Snapshot.{Snapshot}
+use Rattle.tx_events.specs.declared.event.Event.{Event}
+use Rattle.tx_events.specs.declared.snapshot.SnapData.{SnapData}
+use Rattle.tx_events.specs.declared.record.Counters.{Counters}
+use Rattle.tx_events.specs.Running.{running}
+use Rattle.tx_events.specs.Families.{is_top}
+use Rattle.tx_events.specs.History.{IsLegal}
+use Rattle.tx_events.specs.Snapshots.{snapshot_data, snapshot_xmin, snapshot_xmax, is_overflowed}
+use Rattle.tx_events.specs.IdLists.{has}
 use Rattle.snap_core.specs.declared.snapshot.Says.{Says}
 use Rattle.snap_core.specs.declared.snapshot.Says.TheVariants as says
-
--- the fields, as a reply lists them
-abbrev pub data_of : Snapshot → SnapData
-data_of s = record { xmin = s.xmin; xmax = s.xmax; xip = s.xip; subxip = s.subxip; overflowed = s.overflowed }
 
 -- the steps of the answer
 abbrev pub says_of : SnapData → ℕ → Says

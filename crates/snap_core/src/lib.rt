@@ -1,4 +1,4 @@
-//! What a snapshot holds and what it says of an id. After PostgreSQL's `SnapshotData` and `XidInMVCCSnapshot`
+//! What a snapshot says of an id. After PostgreSQL's `SnapshotData` and `XidInMVCCSnapshot`
 //! (`src/backend/utils/time/snapmgr.c`).
 #![tactic(auto)]
 
@@ -8,4 +8,4 @@ mod snapshot;
 mod tests;
 
 pub use listed::is_listed;
-pub use snapshot::{Says, Snapshot};
+pub use snapshot::{Says, said_of, said_of_top};

@@ -1,5 +1,5 @@
 ghost use Rattle.std.specs.Prelude.{◌≡◌};
-ghost use Rattle.tx_model.specs.IdLists.{has, Ascending};
+ghost use Rattle.tx_events.specs.IdLists.{has, Ascending};
 
 use xid_order::FullXid;
 

@@ -1,22 +1,10 @@
 ghost use Rattle.std.specs.Prelude.{◌≡◌, IfOk};
-ghost use Rattle.tx_model.specs.IdLists.{Ascending};
-ghost use Rattle.snap_core.specs.Says.{data_of, says_of, says_top_of, SaysRight, SaysTopRight};
+ghost use Rattle.tx_events.specs.IdLists.{Ascending};
+ghost use Rattle.snap_core.specs.Says.{says_of, says_top_of, SaysRight, SaysTopRight};
 
 use crate::listed::is_listed;
-use tx_model::IdList;
+use tx_events::SnapData;
 use xid_order::FullXid;
-
-/// What a snapshot holds: no id below `xmin` runs, none at or past `xmax` counts as ended, and between them those
-/// of `xip` (top-level ids) and `subxip` run, each list ascending. Where `overflowed`, `subxip` is empty and
-/// parents have to be asked.
-#[derive(Drop)]
-pub struct Snapshot {
-    pub xmin: FullXid,
-    pub xmax: FullXid,
-    pub xip: IdList,
-    pub subxip: IdList,
-    pub overflowed: bool,
-}
 
 /// How an id stood when the snapshot was taken.
 #[derive(Clone, Copy, Debug, PartialEq, Eq)]
@@ -29,26 +17,24 @@ pub enum Says {
     AskParents,
 }
 
-impl Snapshot {
-    /// How `x` stood. The answer is right for every id, of whatever legal history the snapshot was taken: an id
-    /// runs, counts as later, or neither; parents have to be asked exactly where the snapshot overflowed and `x` is
-    /// from `xmin` to below `xmax`. Takes at most the logarithm of what the snapshot lists.
-    pub fn says(&self, x: FullXid) -> Says
-        ensures { SaysRight (data_of self.now) x result }
-    {
-        say(self, x)
-    }
-
-    /// How the top-level id `top` stood, overflowed or not: never `AskParents`.
-    pub fn says_top(&self, top: FullXid) -> Says
-        ensures { SaysTopRight (data_of self.now) top result }
-    {
-        say_of_top(self, top)
-    }
+/// How `x` stood. The answer is right for every id, of whatever legal history the snapshot was taken: an id runs,
+/// counts as later, or neither; parents have to be asked exactly where the snapshot overflowed and `x` is from `xmin`
+/// to below `xmax`. Takes at most the logarithm of what the snapshot lists.
+pub fn said_of(snap: &SnapData, x: FullXid) -> Says
+    ensures { SaysRight snap.now x result }
+{
+    say(snap, x)
 }
 
-fn say(snap: &Snapshot, x: FullXid) -> Says
-    ensures { Ascending snap.now.xip → Ascending snap.now.subxip → result ≡ says_of (data_of snap.now) x }
+/// How the top-level id `top` stood, overflowed or not: never `AskParents`.
+pub fn said_of_top(snap: &SnapData, top: FullXid) -> Says
+    ensures { SaysTopRight snap.now top result }
+{
+    say_of_top(snap, top)
+}
+
+fn say(snap: &SnapData, x: FullXid) -> Says
+    ensures { Ascending snap.now.xip → Ascending snap.now.subxip → result ≡ says_of snap.now x }
 {
     if x < snap.xmin {
         return Says::Ended;
@@ -66,8 +52,8 @@ fn say(snap: &Snapshot, x: FullXid) -> Says
     }
 }
 
-fn say_of_top(snap: &Snapshot, top: FullXid) -> Says
-    ensures { Ascending snap.now.xip → result ≡ says_top_of (data_of snap.now) top }
+fn say_of_top(snap: &SnapData, top: FullXid) -> Says
+    ensures { Ascending snap.now.xip → result ≡ says_top_of snap.now top }
 {
     if top < snap.xmin {
         return Says::Ended;

@@ -1,6 +1,6 @@
-use crate::{Says, Snapshot};
+use crate::{Says, said_of, said_of_top};
 use std::process::Abort;
-use tx_model::IdList;
+use tx_events::{IdList, SnapData};
 use xid_order::FullXid;
 
 fn id<R: Abort>(rt: &R, number: u64) -> FullXid {
@@ -17,7 +17,7 @@ fn ids<R: Abort + AllocGlobal>(rt: &R, from: u64, to: u64) -> IdList {
 
 #[test]
 fn lists_tell_what_runs(rt: HostRuntime) {
-    let snap = Snapshot {
+    let snap = SnapData {
         xmin: id(&rt, 3),
         xmax: id(&rt, 69),
         xip: ids(&rt, 3, 4),
@@ -32,15 +32,15 @@ fn lists_tell_what_runs(rt: HostRuntime) {
         (68, Says::Ended),
         (69, Says::Running),
     ] {
-        assert!(rt; snap.says(id(&rt, number)) == says, "at {number}");
+        assert!(rt; said_of(&snap, id(&rt, number)) == says, "at {number}");
     }
-    assert!(rt; snap.says_top(id(&rt, 3)) == Says::Running);
-    assert!(rt; snap.says_top(id(&rt, 68)) == Says::Ended);
+    assert!(rt; said_of_top(&snap, id(&rt, 3)) == Says::Running);
+    assert!(rt; said_of_top(&snap, id(&rt, 68)) == Says::Ended);
 }
 
 #[test]
 fn an_overflowed_snapshot_asks_parents(rt: HostRuntime) {
-    let snap = Snapshot {
+    let snap = SnapData {
         xmin: id(&rt, 3),
         xmax: id(&rt, 71),
         xip: ids(&rt, 3, 4),
@@ -54,7 +54,7 @@ fn an_overflowed_snapshot_asks_parents(rt: HostRuntime) {
         (70, Says::AskParents),
         (71, Says::Running),
     ] {
-        assert!(rt; snap.says(id(&rt, number)) == says, "at {number}");
+        assert!(rt; said_of(&snap, id(&rt, number)) == says, "at {number}");
     }
     for (number, says) in [
         (2, Says::Ended),
@@ -62,6 +62,6 @@ fn an_overflowed_snapshot_asks_parents(rt: HostRuntime) {
         (68, Says::Ended),
         (71, Says::Running),
     ] {
-        assert!(rt; snap.says_top(id(&rt, number)) == says, "at {number}");
+        assert!(rt; said_of_top(&snap, id(&rt, number)) == says, "at {number}");
     }
 }

@@ -3,13 +3,13 @@ use Rattle.std.proofs.lemmas.Option.{same_Some}
 use Rattle.std.proofs.Common.{IfSome, List, None, Option, Some, ap, subst, take, ℕ, ◌≡◌}
 use Rattle.std.proofs.lemmas.List.Elements.{All-contains, All-from_recursion}
 use Rattle.std.specs.List.{All, AllByRecursion, filter_map}
-use Rattle.tx_model.specs.declared.event.By.{By}
-use Rattle.tx_model.specs.declared.event.Event.{Event}
-use Rattle.tx_model.specs.declared.record.Rec.{Rec}
-use Rattle.tx_model.proofs.Membership.{Has, has_contains, has_place, all_at, all_from}
-use Rattle.tx_model.specs.Events.{by_of}
-use Rattle.tx_model.specs.Families.{top}
-use Rattle.tx_model.specs.History.{MayCome}
+use Rattle.tx_events.specs.declared.event.By.{By}
+use Rattle.tx_events.specs.declared.event.Event.{Event}
+use Rattle.tx_events.specs.declared.record.Rec.{Rec}
+use Rattle.tx_events.proofs.Membership.{Has, has_contains, has_place, all_at, all_from}
+use Rattle.tx_events.specs.Events.{by_of}
+use Rattle.tx_events.specs.Families.{top}
+use Rattle.tx_events.specs.History.{MayCome}
 use Rattle.tx_core.specs.declared.entry.Entry.{Entry}
 use Rattle.tx_core.specs.declared.entry.Kind.{Kind}
 use Rattle.tx_core.specs.declared.entry.Start.{Start}
@@ -22,9 +22,9 @@ use Rattle.tx_core.specs.Locks.{log_lock, proc_lock}
 use Rattle.tx_core.specs.LogBeforeStatus.{NeedsRecords, RecordOf}
 use Rattle.tx_core.specs.ParentsFollow.{IsGivenBelow, NeedsSubs}
 use Rattle.tx_core.specs.StatusBeforeCommit.{NeedsStates, StatesOf}
-use Rattle.tx_model.specs.declared.event.Event.TheVariants as events
+use Rattle.tx_events.specs.declared.event.Event.TheVariants as events
 use Rattle.tx_core.specs.declared.entry.Kind.TheVariants as kinds
-use Rattle.tx_model.specs.declared.record.Rec.TheVariants as records
+use Rattle.tx_events.specs.declared.record.Rec.TheVariants as records
 use Rattle.tx_core.specs.declared.entry.State.TheVariants as states
 
 module _ {A : Type 0} where

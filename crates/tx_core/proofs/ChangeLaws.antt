@@ -1,9 +1,9 @@
 -- The changes of a critical section of a bank keep the invariant.
 use Rattle.std.proofs.Common.{Contains, List, [], ap, arith, inl, inr, refl, subst, sym, ℕ, ⊎_elim, ◌∙◌, ◌∷◌, ◌≡◌}
 use Rattle.std.specs.List.{AllByRecursion}
-use Rattle.tx_model.specs.declared.event.By.{By}
-use Rattle.tx_model.proofs.Membership.{Has, contains_has, has_contains, all_from}
-use Rattle.tx_model.specs.Events.{given}
+use Rattle.tx_events.specs.declared.event.By.{By}
+use Rattle.tx_events.proofs.Membership.{Has, contains_has, has_contains, all_from}
+use Rattle.tx_events.specs.Events.{given}
 use Rattle.tx_core.specs.declared.entry.Change.{Change}
 use Rattle.tx_core.specs.declared.entry.Entry.{Entry}
 use Rattle.tx_core.specs.declared.entry.Start.{Start}

@@ -1,24 +1,24 @@
 -- A climb over the parents that were read ends at the top, or at an ancestor before the xmin.
-use Rattle.tx_model.proofs.ListSteps.{le_or_over}
+use Rattle.tx_events.proofs.ListSteps.{le_or_over}
 use Rattle.std.proofs.Common.{List, Some, [], ap, arith, drop, false, inl, inr, length, refl, reverse, subst, sym, take, true, ℕ, ⊎_elim, ◌<◌, ◌∙◌, ◌∷◌, ◌≡◌, ◌≤◌, ◌⊎◌}
 use Rattle.std.proofs.lemmas.Bool.{eqb-true, or_parts, cases_Bool}
 use Rattle.std.proofs.lemmas.List.{take-append-drop, take-take, take_all}
 use Rattle.std.specs.List.{flat_map, list_any, slice_get}
-use Rattle.tx_model.specs.declared.event.By.{By}
-use Rattle.tx_model.specs.declared.event.Event.{Event}
-use Rattle.tx_model.specs.declared.record.Counters.{Counters}
-use Rattle.tx_model.proofs.Closing.{Later, is_open_by, later, later_take, never_undone, one_top, open_is}
-use Rattle.tx_model.proofs.GivenIds.{family_session, given_to_given, legal_take}
-use Rattle.tx_model.proofs.Membership.{Has, contains_has, filter_has, has_contains, has_filter, has_flat_map}
-use Rattle.tx_model.proofs.Lineages.{line_up_self, top_in, enclosing_line, enclosing_of_sub, top_line}
-use Rattle.tx_model.proofs.ParentLines.{sub_line}
+use Rattle.tx_events.specs.declared.event.By.{By}
+use Rattle.tx_events.specs.declared.event.Event.{Event}
+use Rattle.tx_events.specs.declared.record.Counters.{Counters}
+use Rattle.tx_events.proofs.Closing.{Later, is_open_by, later, later_take, never_undone, one_top, open_is}
+use Rattle.tx_events.proofs.GivenIds.{family_session, given_to_given, legal_take}
+use Rattle.tx_events.proofs.Membership.{Has, contains_has, filter_has, has_contains, has_filter, has_flat_map}
+use Rattle.tx_events.proofs.Lineages.{line_up_self, top_in, enclosing_line, enclosing_of_sub, top_line}
+use Rattle.tx_events.proofs.ParentLines.{sub_line}
 use Rattle.std.proofs.lemmas.Option.{slice_get_within}
-use Rattle.tx_model.proofs.Trees.{family}
-use Rattle.tx_model.specs.Events.{given, given_to, is_end_of, is_undo_of}
-use Rattle.tx_model.specs.Families.{enclosing, lineage, top}
-use Rattle.tx_model.specs.History.{IsLegal}
-use Rattle.tx_model.specs.Running.{is_ended, is_open, is_undone, open_ids}
-use Rattle.tx_model.specs.Snapshots.{is_overflowed, snapshot_xmin}
+use Rattle.tx_events.proofs.Trees.{family}
+use Rattle.tx_events.specs.Events.{given, given_to, is_end_of, is_undo_of}
+use Rattle.tx_events.specs.Families.{enclosing, lineage, top}
+use Rattle.tx_events.specs.History.{IsLegal}
+use Rattle.tx_events.specs.Running.{is_ended, is_open, is_undone, open_ids}
+use Rattle.tx_events.specs.Snapshots.{is_overflowed, snapshot_xmin}
 use Rattle.tx_core.specs.declared.entry.Entry.{Entry}
 use Rattle.tx_core.specs.declared.entry.Start.{Start}
 use Rattle.tx_core.proofs.Asking.{sub_of, upheld_has}
@@ -34,9 +34,9 @@ use Rattle.tx_core.specs.Lists.{Begins, at}
 use Rattle.tx_core.specs.Locks.{log_lock, subtrans_lock_of}
 use Rattle.tx_core.specs.ParentsFollow.{NeedsSubs}
 use Rattle.tx_core.specs.Verdict.{Decides, IsClimb}
-use Rattle.tx_model.specs.declared.event.Event.TheVariants as events
+use Rattle.tx_events.specs.declared.event.Event.TheVariants as events
 use Rattle.tx_core.specs.declared.entry.Kind.TheVariants as kinds
-use Rattle.tx_model.specs.declared.record.Rec.TheVariants as records
+use Rattle.tx_events.specs.declared.record.Rec.TheVariants as records
 
 -- the parent of an id that a session has open is open too
 parent_open : (base : Counters) (f more : List Event) (session : ℕ) (by : By) (parent x : ℕ) → IsLegal base f → IsLegal base more → Begins f more → Has (open_ids session f) x → Has more (events.Sub by parent x) → Has (open_ids session f) parent

@@ -5,25 +5,25 @@ use Rattle.std.proofs.lemmas.List.{take-take}
 use Rattle.std.specs.List.{list_any, slice_get}
 use Rattle.std.specs.Prelude.{nat_lt}
 use Rattle.xid_order.specs.Ids.{IsFullId}
-use Rattle.tx_model.specs.declared.event.By.{By}
-use Rattle.tx_model.specs.declared.event.Event.{Event}
-use Rattle.tx_model.specs.declared.record.Counters.{Counters}
-use Rattle.tx_model.proofs.Closing.{commit_ends, commit_open, later_take, never_undone, one_top, open_is}
-use Rattle.tx_model.proofs.ListSteps.{not_both, le_or_over, same_tests}
-use Rattle.tx_model.proofs.GivenIds.{given_below, given_to_given, legal_take}
-use Rattle.tx_model.proofs.Extremes.{fold_min_start}
-use Rattle.tx_model.proofs.IdOrder.{nth_upto}
-use Rattle.tx_model.proofs.Membership.{Has, any_has, contains_has, has_contains, has_filter, has_filter_map, place_has}
-use Rattle.tx_model.proofs.SnapshotBounds.{below_given, given_from, past_open}
-use Rattle.tx_model.proofs.Trees.{family}
-use Rattle.tx_model.proofs.Lineages.{top_line}
-use Rattle.tx_model.proofs.Visibility.{among_has, commit_found, has_among, lives, never_given, open_hidden, visible_new, visible_old, xmin_from}
-use Rattle.tx_model.specs.Events.{given, given_to, is_commit_of}
-use Rattle.tx_model.specs.Families.{top}
-use Rattle.tx_model.specs.History.{IsLegal, MayCome}
-use Rattle.tx_model.specs.Running.{is_ended, is_open, is_undone, open_ids, running_tops}
-use Rattle.tx_model.specs.Snapshots.{is_overflowed, snapshot_data, snapshot_xmax, snapshot_xmin}
-use Rattle.tx_model.specs.Visible.{is_visible}
+use Rattle.tx_events.specs.declared.event.By.{By}
+use Rattle.tx_events.specs.declared.event.Event.{Event}
+use Rattle.tx_events.specs.declared.record.Counters.{Counters}
+use Rattle.tx_events.proofs.Closing.{commit_ends, commit_open, later_take, never_undone, one_top, open_is}
+use Rattle.tx_events.proofs.ListSteps.{not_both, le_or_over, same_tests}
+use Rattle.tx_events.proofs.GivenIds.{given_below, given_to_given, legal_take}
+use Rattle.tx_events.proofs.Extremes.{fold_min_start}
+use Rattle.tx_events.proofs.IdOrder.{nth_upto}
+use Rattle.tx_events.proofs.Membership.{Has, any_has, contains_has, has_contains, has_filter, has_filter_map, place_has}
+use Rattle.tx_events.proofs.SnapshotBounds.{below_given, given_from, past_open}
+use Rattle.tx_events.proofs.Trees.{family}
+use Rattle.tx_events.proofs.Lineages.{top_line}
+use Rattle.tx_events.proofs.Visibility.{among_has, commit_found, has_among, lives, never_given, open_hidden, visible_new, visible_old, xmin_from}
+use Rattle.tx_events.specs.Events.{given, given_to, is_commit_of}
+use Rattle.tx_events.specs.Families.{top}
+use Rattle.tx_events.specs.History.{IsLegal, MayCome}
+use Rattle.tx_events.specs.Running.{is_ended, is_open, is_undone, open_ids, running_tops}
+use Rattle.tx_events.specs.Snapshots.{is_overflowed, snapshot_data, snapshot_xmax, snapshot_xmin}
+use Rattle.tx_events.specs.Visible.{is_visible}
 use Rattle.tx_core.specs.declared.entry.Entry.{Entry}
 use Rattle.tx_core.specs.declared.entry.Start.{Start}
 use Rattle.tx_core.specs.declared.entry.State.{State}
@@ -38,7 +38,7 @@ use Rattle.tx_core.specs.Lists.{at}
 use Rattle.tx_core.specs.Locks.{proc_lock, xact_lock_of}
 use Rattle.tx_core.specs.StatusBeforeCommit.{NeedsStates}
 use Rattle.tx_core.specs.Verdict.{is_among, is_committed, says_ended, state_read, verdict}
-use Rattle.tx_model.specs.declared.event.Event.TheVariants as events
+use Rattle.tx_events.specs.declared.event.Event.TheVariants as events
 use Rattle.tx_core.specs.declared.entry.State.TheVariants as states
 
 -- an id of an exact record that was open at a place is, where it is closed there, visible there

@@ -1,11 +1,11 @@
 -- The entries of the ProcArray keep the invariant, and so does a commit record.
 use Rattle.std.proofs.Common.{List, refl, ◌≡◌}
-use Rattle.tx_model.specs.declared.event.By.{By}
-use Rattle.tx_model.specs.declared.event.Event.{Event}
-use Rattle.tx_model.specs.Events.{by_of}
-use Rattle.tx_model.specs.Families.{top}
-use Rattle.tx_model.specs.History.{MayCome}
-use Rattle.tx_model.specs.Running.{closed}
+use Rattle.tx_events.specs.declared.event.By.{By}
+use Rattle.tx_events.specs.declared.event.Event.{Event}
+use Rattle.tx_events.specs.Events.{by_of}
+use Rattle.tx_events.specs.Families.{top}
+use Rattle.tx_events.specs.History.{MayCome}
+use Rattle.tx_events.specs.Running.{closed}
 use Rattle.tx_core.specs.declared.entry.Entry.{Entry}
 use Rattle.tx_core.specs.declared.entry.Start.{Start}
 use Rattle.tx_core.proofs.Keeping.{keeps}
@@ -17,9 +17,9 @@ use Rattle.tx_core.specs.Lists.{at, own}
 use Rattle.tx_core.specs.Locks.{log_lock, proc_lock}
 use Rattle.tx_core.specs.PagesBeforeIds.{PagesOf}
 use Rattle.tx_core.specs.StatusBeforeCommit.{StatesOf}
-use Rattle.tx_model.specs.declared.event.Event.TheVariants as events
+use Rattle.tx_events.specs.declared.event.Event.TheVariants as events
 use Rattle.tx_core.specs.declared.entry.Kind.TheVariants as kinds
-use Rattle.tx_model.specs.declared.record.Rec.TheVariants as records
+use Rattle.tx_events.specs.declared.record.Rec.TheVariants as records
 
 -- an event, from what each part asks of it
 event_keeps : (start : Start) (seen : List (List Entry)) (by : By) (event : Event) → by_of event ≡ by → MayCome start.base (history seen) event → PagesOf start seen (at seen proc_lock) (kinds.Event event) → LeavesRecords seen event → StatesOf start seen (kinds.Event event) → AbortsOf start seen (history seen) (kinds.Event event)

@@ -6,24 +6,24 @@ use Rattle.std.specs.List.{last_or, slice_get}
 use Rattle.std.specs.Option.{unwrap_or}
 use mathlib.Core.Logic.{dite}
 use native.Mathlib.Decide.{ℕ_discrete}
-use Rattle.tx_model.specs.declared.event.By.{By}
-use Rattle.tx_model.specs.declared.event.Event.{Event}
-use Rattle.tx_model.specs.declared.record.Counters.{Counters}
-use Rattle.tx_model.proofs.GivenIds.{fresh, given_to_given}
-use Rattle.tx_model.proofs.PlaceLemmas.{last_at, slice_get-grows, take-grows}
-use Rattle.tx_model.proofs.Lineages.{lineage_push}
-use Rattle.tx_model.proofs.Membership.{Has, contains_has, has_filter, has_left, place_has}
-use Rattle.tx_model.proofs.ListSteps.{not_both}
-use Rattle.tx_model.proofs.Closing.{commit_ends, open_is}
-use Rattle.tx_model.specs.Running.{is_ended, is_open, open_ids}
-use Rattle.tx_model.specs.Families.{is_top, top}
-use Rattle.tx_model.proofs.OpenIds.{open_ids_other}
-use Rattle.tx_model.proofs.QuietGrowth.{quiet_open_ids}
-use Rattle.tx_model.specs.Events.{by_of, given_to}
-use Rattle.tx_model.specs.History.{IsLegal, MayCome}
+use Rattle.tx_events.specs.declared.event.By.{By}
+use Rattle.tx_events.specs.declared.event.Event.{Event}
+use Rattle.tx_events.specs.declared.record.Counters.{Counters}
+use Rattle.tx_events.proofs.GivenIds.{fresh, given_to_given}
+use Rattle.tx_events.proofs.PlaceLemmas.{last_at, slice_get-grows, take-grows}
+use Rattle.tx_events.proofs.Lineages.{lineage_push}
+use Rattle.tx_events.proofs.Membership.{Has, contains_has, has_filter, has_left, place_has}
+use Rattle.tx_events.proofs.ListSteps.{not_both}
+use Rattle.tx_events.proofs.Closing.{commit_ends, open_is}
+use Rattle.tx_events.specs.Running.{is_ended, is_open, open_ids}
+use Rattle.tx_events.specs.Families.{is_top, top}
+use Rattle.tx_events.proofs.OpenIds.{open_ids_other}
+use Rattle.tx_events.proofs.QuietGrowth.{quiet_open_ids}
+use Rattle.tx_events.specs.Events.{by_of, given_to}
+use Rattle.tx_events.specs.History.{IsLegal, MayCome}
 use Rattle.tx_core.proofs.Lasting.{given_to_begins}
 use Rattle.tx_core.specs.CommitRecordsExact.{IsExactIn}
-use Rattle.tx_model.specs.declared.event.Event.TheVariants as events
+use Rattle.tx_events.specs.declared.event.Event.TheVariants as events
 
 -- the ids of an exact record are its session's
 pub exact_given : (h : List Event) (session top : ℕ) (subs : List ℕ) (id : ℕ) → IsExactIn h session top subs → Contains (top ∷ subs) id → Has (given_to session h) id

@@ -6,7 +6,7 @@ use Rattle.std.proofs.lemmas.List.Elements.{Contains-append_left, filter_map-app
 use Rattle.std.specs.List.{filter_map, flat_map, slice_get}
 use mathlib.Core.Logic.{dite}
 use native.Mathlib.Decide.{ℕ_discrete}
-use Rattle.tx_model.proofs.PlaceLemmas.{slice_get-grows, slice_get-push, take-grows}
+use Rattle.tx_events.proofs.PlaceLemmas.{slice_get-grows, slice_get-push, take-grows}
 use Rattle.tx_core.specs.Lists.{Begins, Grows, IsLasting, Upheld, add, at}
 
 module _ {A : Type 0} where

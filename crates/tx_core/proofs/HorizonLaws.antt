@@ -1,10 +1,10 @@
 -- The oldest xmin of the history never falls while the lists grow, and is held back by each live snapshot.
 use Rattle.std.proofs.Common.{arith, subst, sym, ℕ, ◌%◌, ◌<◌, ◌^◌, ◌≤◌}
 use Rattle.xid_order.specs.Ids.{IsFullId}
-use Rattle.tx_model.proofs.Horizons.{live_under, xmin_at}
-use Rattle.tx_model.proofs.Membership.{contains_has}
-use Rattle.tx_model.specs.History.{IsLegal}
-use Rattle.tx_model.specs.Horizon.{live_snaps, oldest_xmin}
+use Rattle.tx_events.proofs.Horizons.{live_under, xmin_at}
+use Rattle.tx_events.proofs.Membership.{contains_has}
+use Rattle.tx_events.specs.History.{IsLegal}
+use Rattle.tx_events.specs.Horizon.{live_snaps, oldest_xmin}
 use Rattle.tx_core.proofs.Lasting.{history_grows}
 use Rattle.tx_core.specs.Entries.{history}
 use Rattle.tx_core.specs.Laws.{HorizonRises, SnapshotsHold}

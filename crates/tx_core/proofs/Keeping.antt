@@ -3,15 +3,15 @@ use Rattle.std.proofs.Common.{List, None, Option, Some, [], ap, append-nil, arit
 use Rattle.std.specs.List.{cons_option, filter}
 use mathlib.Core.Logic.{dite}
 use native.Mathlib.Decide.{ℕ_discrete}
-use Rattle.tx_model.specs.declared.event.By.{By}
-use Rattle.tx_model.specs.declared.event.Event.{Event}
-use Rattle.tx_model.specs.declared.record.Rec.{Rec}
-use Rattle.tx_model.proofs.LineGrowth.{legal_push}
-use Rattle.tx_model.proofs.Membership.{Has, filter_has, has_filter, has_filter_map}
-use Rattle.tx_model.specs.Events.{by_of, is_of}
-use Rattle.tx_model.specs.Families.{top}
-use Rattle.tx_model.specs.History.{ComesInTurn, IsLegal, MayCome}
-use Rattle.tx_model.specs.Running.{open_ids}
+use Rattle.tx_events.specs.declared.event.By.{By}
+use Rattle.tx_events.specs.declared.event.Event.{Event}
+use Rattle.tx_events.specs.declared.record.Rec.{Rec}
+use Rattle.tx_events.proofs.GivenIds.{legal_push}
+use Rattle.tx_events.proofs.Membership.{Has, filter_has, has_filter, has_filter_map}
+use Rattle.tx_events.specs.Events.{by_of, is_of}
+use Rattle.tx_events.specs.Families.{top}
+use Rattle.tx_events.specs.History.{ComesInTurn, IsLegal, MayCome}
+use Rattle.tx_events.specs.Running.{open_ids}
 use Rattle.tx_core.specs.declared.entry.Entry.{Entry}
 use Rattle.tx_core.specs.declared.entry.Start.{Start}
 use Rattle.tx_core.proofs.Asking.{all_has, append_asks, has_all, ids_of_record, leaves_of, own_event, rule_of, states_of, unasked_of, unrecorded_of, upheld_has}
@@ -31,9 +31,9 @@ use Rattle.tx_core.specs.PagesBeforeIds.{NeedsPages, NeedsPlace, PagesBeforeIds}
 use Rattle.tx_core.specs.ParentsFollow.{NeedsSubs}
 use Rattle.tx_core.specs.ProgramOrder.{IsInTurn, NeedsStand, NeedsTurn, ProgramOrder}
 use Rattle.tx_core.specs.StatusBeforeCommit.{NeedsStates}
-use Rattle.tx_model.specs.declared.event.Event.TheVariants as events
+use Rattle.tx_events.specs.declared.event.Event.TheVariants as events
 use Rattle.tx_core.specs.declared.entry.Kind.TheVariants as kinds
-use Rattle.tx_model.specs.declared.record.Rec.TheVariants as records
+use Rattle.tx_events.specs.declared.record.Rec.TheVariants as records
 use Rattle.tx_core.specs.declared.entry.State.TheVariants as states
 
 -- a session adds an entry: what it needs of the lists that it has seen, while the real lists have grown

@@ -1,12 +1,12 @@
 -- What the parts ask for stays while lists grow.
-use Rattle.tx_model.proofs.ListSteps.{all_weaker}
+use Rattle.tx_events.proofs.ListSteps.{all_weaker}
 use Rattle.std.proofs.Common.{List, ap, inl, inr, sym, ℕ, ⊎_elim, ◌∙◌}
 use Rattle.std.proofs.lemmas.List.Elements.{filter-append}
 use Rattle.std.specs.List.{filter, flat_map}
-use Rattle.tx_model.specs.declared.event.Event.{Event}
-use Rattle.tx_model.specs.declared.record.Rec.{Rec}
-use Rattle.tx_model.specs.Events.{given_by, given_to, is_of}
-use Rattle.tx_model.specs.Families.{top}
+use Rattle.tx_events.specs.declared.event.Event.{Event}
+use Rattle.tx_events.specs.declared.record.Rec.{Rec}
+use Rattle.tx_events.specs.Events.{given_by, given_to, is_of}
+use Rattle.tx_events.specs.Families.{top}
 use Rattle.tx_core.specs.declared.entry.Entry.{Entry}
 use Rattle.tx_core.specs.declared.entry.Kind.{Kind}
 use Rattle.tx_core.specs.declared.entry.Start.{Start}
@@ -24,9 +24,9 @@ use Rattle.tx_core.specs.PagesBeforeIds.{IsMade, IsTold, NeedsPages, NeedsPlace,
 use Rattle.tx_core.specs.ParentsFollow.{IsGivenBelow, NeedsSubs}
 use Rattle.tx_core.specs.ProgramOrder.{NeedsStand, NeedsTurn}
 use Rattle.tx_core.specs.StatusBeforeCommit.{NeedsStates, StatesOf}
-use Rattle.tx_model.specs.declared.event.Event.TheVariants as events
+use Rattle.tx_events.specs.declared.event.Event.TheVariants as events
 use Rattle.tx_core.specs.declared.entry.Kind.TheVariants as kinds
-use Rattle.tx_model.specs.declared.record.Rec.TheVariants as records
+use Rattle.tx_events.specs.declared.record.Rec.TheVariants as records
 use Rattle.tx_core.specs.declared.entry.State.TheVariants as states
 
 pub history_grows : (lists more : List (List Entry)) → Grows lists more → Begins (history lists) (history more)

@@ -3,9 +3,9 @@
 use Rattle.std.proofs.Common.{Contains, List, [], arith, false, inl, refl, subst, suc, take, true, zero, ℕ, ⊎_elim, ◌==◌, ◌∷◌, ◌≡◌, ◌≤◌}
 use Rattle.std.proofs.lemmas.List.Elements.{All-from_recursion}
 use Rattle.std.specs.List.{AllByRecursion, filter}
-use Rattle.tx_model.specs.declared.event.By.{By}
-use Rattle.tx_model.proofs.Membership.{Has, contains_has, all_at}
-use Rattle.tx_model.specs.Visible.{is_visible}
+use Rattle.tx_events.specs.declared.event.By.{By}
+use Rattle.tx_events.proofs.Membership.{Has, contains_has, all_at}
+use Rattle.tx_events.specs.Visible.{is_visible}
 use Rattle.tx_core.specs.declared.entry.Entry.{Entry}
 use Rattle.tx_core.specs.declared.entry.Kind.{Kind}
 use Rattle.tx_core.specs.declared.entry.Start.{Start}
@@ -24,9 +24,9 @@ use Rattle.tx_core.specs.Locks.{log_lock, proc_lock, xact_lock, xact_lock_of, xa
 use Rattle.tx_core.specs.LogBeforeStatus.{InTree, IsDurable}
 use Rattle.tx_core.specs.PagesBeforeIds.{WasMade}
 use Rattle.tx_core.specs.ProgramOrder.{IsInTurn}
-use Rattle.tx_model.specs.declared.event.Event.TheVariants as events
+use Rattle.tx_events.specs.declared.event.Event.TheVariants as events
 use Rattle.tx_core.specs.declared.entry.Kind.TheVariants as kinds
-use Rattle.tx_model.specs.declared.record.Rec.TheVariants as records
+use Rattle.tx_events.specs.declared.record.Rec.TheVariants as records
 use Rattle.tx_core.specs.declared.entry.State.TheVariants as states
 
 abbrev pub start : Start

@@ -1,8 +1,8 @@
 -- A session that sets a state for another one: session 0 asks for its id to be set aborted, session 1 does it, and then
 -- session 0 ends the transaction.
 use Rattle.std.proofs.Common.{Contains, List, [], arith, inl, inr, refl, subst, ℕ, ⊎_elim, ◌∷◌, ◌≡◌}
-use Rattle.tx_model.proofs.Membership.{Has, contains_has}
-use Rattle.tx_model.specs.Families.{top}
+use Rattle.tx_events.proofs.Membership.{Has, contains_has}
+use Rattle.tx_events.specs.Families.{top}
 use Rattle.tx_core.specs.declared.entry.Change.{Change}
 use Rattle.tx_core.specs.declared.entry.Entry.{Entry}
 use Rattle.tx_core.proofs.ChangeLaws.{changes_law, request_law}
@@ -14,9 +14,9 @@ use Rattle.tx_core.specs.Entries.{IsAppended, IsMarked, Mark}
 use Rattle.tx_core.specs.Laws.{MayChange, MayMark, all_set, marks_of}
 use Rattle.tx_core.specs.Lists.{add, at}
 use Rattle.tx_core.specs.Locks.{log_lock, proc_lock, xact_lock}
-use Rattle.tx_model.specs.declared.event.Event.TheVariants as events
+use Rattle.tx_events.specs.declared.event.Event.TheVariants as events
 use Rattle.tx_core.specs.declared.entry.Kind.TheVariants as kinds
-use Rattle.tx_model.specs.declared.record.Rec.TheVariants as records
+use Rattle.tx_events.specs.declared.record.Rec.TheVariants as records
 use Rattle.tx_core.specs.declared.entry.State.TheVariants as states
 
 abbrev change : List Change

@@ -1,12 +1,12 @@
 -- The invariant holds before the first entry, and keeps commits and aborts apart.
 use Rattle.std.proofs.Common.{Contains, List, None, Some, [], ap, refl, subst, sym, ℕ, ⊎_elim, ◌∙◌, ◌≡◌}
 use Rattle.std.specs.List.{slice_get}
-use Rattle.tx_model.proofs.GivenIds.{one_session}
-use Rattle.tx_model.proofs.Membership.{Has, contains_has, has_contains, has_flat_map}
-use Rattle.tx_model.proofs.PlaceLemmas.{each_place_none}
-use Rattle.tx_model.specs.Events.{given_to}
-use Rattle.tx_model.specs.Families.{top}
-use Rattle.tx_model.specs.History.{ComesInTurn, IsLegal, MayCome}
+use Rattle.tx_events.proofs.GivenIds.{one_session}
+use Rattle.tx_events.proofs.Membership.{Has, contains_has, has_contains, has_flat_map}
+use Rattle.tx_events.proofs.PlaceLemmas.{each_place_none}
+use Rattle.tx_events.specs.Events.{given_to}
+use Rattle.tx_events.specs.Families.{top}
+use Rattle.tx_events.specs.History.{ComesInTurn, IsLegal, MayCome}
 use Rattle.tx_core.specs.declared.entry.Entry.{Entry}
 use Rattle.tx_core.proofs.Asking.{aborted_of, asks_marks, upheld_has}
 use Rattle.tx_core.proofs.Exactness.{exact_given}
@@ -23,7 +23,7 @@ use Rattle.tx_core.specs.ParentsFollow.{NeedsSubs}
 use Rattle.tx_core.specs.ProgramOrder.{NeedsStand, NeedsTurn}
 use Rattle.tx_core.specs.StatusBeforeCommit.{NeedsStates}
 use Rattle.tx_core.specs.declared.entry.Kind.TheVariants as kinds
-use Rattle.tx_model.specs.declared.record.Rec.TheVariants as records
+use Rattle.tx_events.specs.declared.record.Rec.TheVariants as records
 use Rattle.tx_core.specs.declared.entry.State.TheVariants as states
 
 nothing_upheld : (Need : List (List Entry) → ℕ → List Entry → Entry → Type 0) (lists : List (List Entry)) → ((lock : ℕ) → at lists lock ≡ []) → Upheld Need lists

@@ -7,9 +7,9 @@ use Rattle.std.proofs.lemmas.List.Elements.{filter_map-append}
 use Rattle.std.proofs.lemmas.List.Sums.{fold_push}
 use Rattle.std.specs.List.{filter_map, flat_map, last_or, slice_get}
 use Rattle.std.specs.Prelude.{nat_lt}
-use Rattle.tx_model.specs.declared.event.By.{By}
-use Rattle.tx_model.proofs.Membership.{Has, by_end, contains_has, has_cases, has_filter_map, has_flat_map, has_place, all_at, has_take}
-use Rattle.tx_model.proofs.PlaceLemmas.{slice_get-grows, take-grows}
+use Rattle.tx_events.specs.declared.event.By.{By}
+use Rattle.tx_events.proofs.Membership.{Has, by_end, contains_has, has_cases, has_filter_map, has_flat_map, has_place, all_at, has_take}
+use Rattle.tx_events.proofs.PlaceLemmas.{slice_get-grows, take-grows}
 use Rattle.tx_core.specs.declared.entry.Entry.{Entry}
 use Rattle.tx_core.specs.declared.entry.Kind.{Kind}
 use Rattle.tx_core.specs.declared.entry.Start.{Start}

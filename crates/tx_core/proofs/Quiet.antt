@@ -1,12 +1,12 @@
 -- Entries that say nothing of ids ask for nothing.
 use Rattle.std.proofs.Common.{Bool, IfSome, List, false, refl, true, ℕ, ◌≡◌}
 use Rattle.std.specs.List.{AllByRecursion, filter_map}
-use Rattle.tx_model.specs.declared.event.By.{By}
-use Rattle.tx_model.specs.declared.event.Event.{Event}
-use Rattle.tx_model.specs.declared.record.Rec.{Rec}
-use Rattle.tx_model.specs.Events.{by_of}
-use Rattle.tx_model.specs.Families.{top}
-use Rattle.tx_model.specs.History.{MayCome}
+use Rattle.tx_events.specs.declared.event.By.{By}
+use Rattle.tx_events.specs.declared.event.Event.{Event}
+use Rattle.tx_events.specs.declared.record.Rec.{Rec}
+use Rattle.tx_events.specs.Events.{by_of}
+use Rattle.tx_events.specs.Families.{top}
+use Rattle.tx_events.specs.History.{MayCome}
 use Rattle.tx_core.specs.declared.entry.Entry.{Entry}
 use Rattle.tx_core.specs.declared.entry.Kind.{Kind}
 use Rattle.tx_core.specs.declared.entry.Start.{Start}
@@ -23,7 +23,7 @@ use Rattle.tx_core.specs.ParentsFollow.{IsGivenBelow}
 use Rattle.tx_core.specs.ProgramOrder.{MayStand}
 use Rattle.tx_core.specs.StatusBeforeCommit.{StatesOf}
 use Rattle.tx_core.specs.declared.entry.Kind.TheVariants as kinds
-use Rattle.tx_model.specs.declared.record.Rec.TheVariants as records
+use Rattle.tx_events.specs.declared.record.Rec.TheVariants as records
 
 -- no event, no made page, no commit record, no change
 abbrev pub is_quiet : Kind → Bool

@@ -6,12 +6,12 @@ use Rattle.std.proofs.lemmas.Bool.{eqb-true}
 use Rattle.std.proofs.lemmas.Grind.{flat_map-append}
 use Rattle.std.proofs.lemmas.List.Elements.{filter_map-append}
 use Rattle.std.specs.List.{cons_option, filter_map, last_or, slice_get}
-use Rattle.tx_model.specs.declared.event.By.{By}
-use Rattle.tx_model.specs.declared.record.Rec.{Rec}
-use Rattle.tx_model.proofs.GivenIds.{given_to_given}
-use Rattle.tx_model.proofs.PlaceLemmas.{last_at, slice_get-grows, take-grows}
-use Rattle.tx_model.proofs.Membership.{Has, by_end, contains_has, has_cases, has_contains, has_filter_map, has_flat_map, place_has}
-use Rattle.tx_model.specs.Events.{given}
+use Rattle.tx_events.specs.declared.event.By.{By}
+use Rattle.tx_events.specs.declared.record.Rec.{Rec}
+use Rattle.tx_events.proofs.GivenIds.{given_to_given}
+use Rattle.tx_events.proofs.PlaceLemmas.{last_at, slice_get-grows, take-grows}
+use Rattle.tx_events.proofs.Membership.{Has, by_end, contains_has, has_cases, has_contains, has_filter_map, has_flat_map, place_has}
+use Rattle.tx_events.specs.Events.{given}
 use Rattle.tx_core.specs.declared.entry.Entry.{Entry}
 use Rattle.tx_core.specs.declared.entry.Kind.{Kind}
 use Rattle.tx_core.specs.declared.entry.Start.{Start}
@@ -26,7 +26,7 @@ use Rattle.tx_core.specs.Locks.{log_lock, xact_lock_of}
 use Rattle.tx_core.specs.LogBeforeStatus.{IsDurable, NeedsRecords, RecordOf}
 use Rattle.tx_core.specs.Verdict.{state_for, state_read}
 use Rattle.tx_core.specs.declared.entry.Kind.TheVariants as kinds
-use Rattle.tx_model.specs.declared.record.Rec.TheVariants as records
+use Rattle.tx_events.specs.declared.record.Rec.TheVariants as records
 use Rattle.tx_core.specs.declared.entry.State.TheVariants as states
 
 module _ {A : Type 0} where

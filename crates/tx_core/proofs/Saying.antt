@@ -1,23 +1,23 @@
 -- What a snapshot says of an id is whether it runs at the snapshot's place.
-use Rattle.tx_model.proofs.ListSteps.{le_or_over}
+use Rattle.tx_events.proofs.ListSteps.{le_or_over}
 use Rattle.std.proofs.Common.{Bool, List, [], ap, arith, cond, false, not, subst, sym, true, ℕ, ⊎_elim, ◌&&◌, ◌<◌, ◌==◌, ◌||◌, ◌∙◌, ◌≡◌, ◌≤◌, ◌⊎◌, le-ltb, lt-ltb}
 use Rattle.std.proofs.lemmas.Bool.{or_from, cases_Bool, false_from_ne_true, or_right, cases_lt}
 use Rattle.std.specs.List.{filter, list_any}
 use Rattle.std.specs.Prelude.{nat_lt}
-use Rattle.tx_model.specs.declared.event.Event.{Event}
-use Rattle.tx_model.specs.declared.record.Counters.{Counters}
-use Rattle.tx_model.proofs.Closing.{is_open_by, open_is}
-use Rattle.tx_model.proofs.Extremes.{fold_min_has}
-use Rattle.tx_model.proofs.Membership.{Has, filter_has, has_filter}
-use Rattle.tx_model.proofs.Lineages.{top_in, top_line}
-use Rattle.tx_model.proofs.SnapshotBounds.{top_runs}
-use Rattle.tx_model.proofs.Trees.{family}
-use Rattle.tx_model.proofs.Visibility.{among_has, has_among}
-use Rattle.tx_model.specs.Events.{given, is_end_of}
-use Rattle.tx_model.specs.Families.{is_top, top}
-use Rattle.tx_model.specs.History.{IsLegal}
-use Rattle.tx_model.specs.Running.{is_ended, is_open, is_undone, running, running_tops}
-use Rattle.tx_model.specs.Snapshots.{is_overflowed, snapshot_data, snapshot_subs, snapshot_xips, snapshot_xmax, snapshot_xmin}
+use Rattle.tx_events.specs.declared.event.Event.{Event}
+use Rattle.tx_events.specs.declared.record.Counters.{Counters}
+use Rattle.tx_events.proofs.Closing.{is_open_by, open_is}
+use Rattle.tx_events.proofs.Extremes.{fold_min_has}
+use Rattle.tx_events.proofs.Membership.{Has, filter_has, has_filter}
+use Rattle.tx_events.proofs.Lineages.{top_in, top_line}
+use Rattle.tx_events.proofs.SnapshotBounds.{top_runs}
+use Rattle.tx_events.proofs.Trees.{family}
+use Rattle.tx_events.proofs.Visibility.{among_has, has_among}
+use Rattle.tx_events.specs.Events.{given, is_end_of}
+use Rattle.tx_events.specs.Families.{is_top, top}
+use Rattle.tx_events.specs.History.{IsLegal}
+use Rattle.tx_events.specs.Running.{is_ended, is_open, is_undone, running, running_tops}
+use Rattle.tx_events.specs.Snapshots.{is_overflowed, snapshot_data, snapshot_subs, snapshot_xips, snapshot_xmax, snapshot_xmin}
 use Rattle.tx_core.specs.Verdict.{is_among, says_ended}
 
 -- where the data hold all ids, they say that an id has ended exactly where it isn't open

@@ -1,8 +1,8 @@
 -- The verdict of the state and the topmost parent that were read is whether the id is visible.
 use Rattle.std.proofs.Common.{Bool, List, Option, ap, subst, sym, take, true, ℕ, ◌∙◌, ◌≡◌}
-use Rattle.tx_model.specs.declared.event.Event.{Event}
-use Rattle.tx_model.specs.declared.reply.SnapData.{SnapData}
-use Rattle.tx_model.specs.Snapshots.{is_overflowed, snapshot_data, snapshot_xmin}
+use Rattle.tx_events.specs.declared.event.Event.{Event}
+use Rattle.tx_events.specs.declared.snapshot.SnapData.{SnapData}
+use Rattle.tx_events.specs.Snapshots.{is_overflowed, snapshot_data, snapshot_xmin}
 use Rattle.tx_core.specs.declared.entry.State.{State}
 use Rattle.tx_core.proofs.Climbing.{decides}
 use Rattle.tx_core.specs.Entries.{history}

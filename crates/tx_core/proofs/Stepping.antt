@@ -5,17 +5,17 @@ use Rattle.std.specs.List.{cons_option, last_or}
 use Rattle.std.specs.Option.{unwrap_or}
 use mathlib.Core.Logic.{dite}
 use native.Mathlib.Decide.{ℕ_discrete}
-use Rattle.tx_model.specs.declared.event.By.{By}
-use Rattle.tx_model.specs.declared.event.Event.{Event}
-use Rattle.tx_model.specs.declared.record.Rec.{Rec}
-use Rattle.tx_model.proofs.Closing.{later}
-use Rattle.tx_model.proofs.GivenIds.{given_to_given}
-use Rattle.tx_model.proofs.Membership.{Has, contains_has, has_cases, has_contains, has_filter, has_filter_map, has_right, none_passes}
-use Rattle.tx_model.proofs.OpenIds.{open_rest}
-use Rattle.tx_model.specs.Events.{by_of, given_to}
-use Rattle.tx_model.specs.Families.{is_top, lineage, top}
-use Rattle.tx_model.specs.History.{IsLegal}
-use Rattle.tx_model.specs.Running.{is_open, open_ids}
+use Rattle.tx_events.specs.declared.event.By.{By}
+use Rattle.tx_events.specs.declared.event.Event.{Event}
+use Rattle.tx_events.specs.declared.record.Rec.{Rec}
+use Rattle.tx_events.proofs.Closing.{later}
+use Rattle.tx_events.proofs.GivenIds.{given_to_given}
+use Rattle.tx_events.proofs.Membership.{Has, contains_has, has_cases, has_contains, has_filter, has_filter_map, has_right, none_passes}
+use Rattle.tx_events.proofs.OpenIds.{open_rest}
+use Rattle.tx_events.specs.Events.{by_of, given_to}
+use Rattle.tx_events.specs.Families.{is_top, lineage, top}
+use Rattle.tx_events.specs.History.{IsLegal}
+use Rattle.tx_events.specs.Running.{is_open, open_ids}
 use Rattle.tx_core.specs.declared.entry.Entry.{Entry}
 use Rattle.tx_core.specs.declared.entry.Start.{Start}
 use Rattle.tx_core.proofs.Asking.{own_event, upheld_has}

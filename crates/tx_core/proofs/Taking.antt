@@ -2,7 +2,7 @@
 use Rattle.std.proofs.Common.{List, Some, [], ap, arith, drop, subst, suc, sym, take, zero, ℕ, ◌<◌, ◌∙◌, ◌∷◌, ◌≡◌}
 use Rattle.std.proofs.lemmas.List.{take-append-drop}
 use Rattle.std.specs.List.{slice_get}
-use Rattle.tx_model.proofs.PlaceLemmas.{slice_get-grows, take-grows}
+use Rattle.tx_events.proofs.PlaceLemmas.{slice_get-grows, take-grows}
 
 module _ {A : Type 0} where
   pub get_in_take : (p q : ℕ) (xs : List A) (x : A) → q < p → slice_get xs q ≡ Some x → slice_get (take p xs) q ≡ Some x

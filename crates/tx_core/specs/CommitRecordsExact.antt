@@ -1,11 +1,11 @@
 -- A commit record names exactly what its session has open.
 use Rattle.std.specs.Prelude.{◌≡◌, ℕ, ◌⊎◌, List, ◌∷◌, Some, take, slice_get, Contains, true, IfSome}
-use Rattle.tx_model.specs.declared.event.By.{By}
-use Rattle.tx_model.specs.declared.event.Event.{Event}
-use Rattle.tx_model.specs.declared.event.Event.TheVariants as events
-use Rattle.tx_model.specs.declared.record.Rec.TheVariants as records
-use Rattle.tx_model.specs.Families.{is_top}
-use Rattle.tx_model.specs.Running.{open_ids}
+use Rattle.tx_events.specs.declared.event.By.{By}
+use Rattle.tx_events.specs.declared.event.Event.{Event}
+use Rattle.tx_events.specs.declared.event.Event.TheVariants as events
+use Rattle.tx_events.specs.declared.record.Rec.TheVariants as records
+use Rattle.tx_events.specs.Families.{is_top}
+use Rattle.tx_events.specs.Running.{open_ids}
 use Rattle.tx_core.specs.declared.entry.Entry.{Entry}
 use Rattle.tx_core.specs.declared.entry.Kind.{Kind}
 use Rattle.tx_core.specs.declared.entry.Kind.TheVariants as kinds

@@ -1,7 +1,7 @@
 -- The history is legal, and each event is its entry's.
 use Rattle.std.specs.Prelude.{IfSome, List, ℕ, ◌≡◌}
-use Rattle.tx_model.specs.Events.{by_of}
-use Rattle.tx_model.specs.History.{IsLegal, MayCome}
+use Rattle.tx_events.specs.Events.{by_of}
+use Rattle.tx_events.specs.History.{IsLegal, MayCome}
 use Rattle.tx_core.specs.declared.entry.Entry.{Entry}
 use Rattle.tx_core.specs.declared.entry.Start.{Start}
 use Rattle.tx_core.specs.Entries.{event_of, history}

@@ -1,15 +1,15 @@
 -- What the laws say: each kind of entry, with what its session needs of the lists that it has seen, keeps the invariant.
 use Rattle.std.specs.List.{filter_map}
 use Rattle.std.specs.Prelude.{Bool, Contains, List, Option, [], false, length, map, true, ℕ, ◌*◌, ◌+◌, ◌<◌, ◌∷◌, ◌≡◌, ◌≤◌, ◌⊎◌}
-use Rattle.tx_model.specs.declared.event.By.{By}
-use Rattle.tx_model.specs.declared.multi.MultiEvent.{MultiEvent}
-use Rattle.tx_model.specs.declared.record.Rec.{Rec}
-use Rattle.tx_model.specs.Base.{IsBase}
-use Rattle.tx_model.specs.Events.{given_to}
-use Rattle.tx_model.specs.Families.{enclosing, is_top, top}
-use Rattle.tx_model.specs.History.{MayCome, next_given}
-use Rattle.tx_model.specs.Horizon.{LiveSnap, live_snaps, oldest_xmin}
-use Rattle.tx_model.specs.Running.{open_ids}
+use Rattle.tx_events.specs.declared.event.By.{By}
+use Rattle.tx_events.specs.declared.multi.MultiEvent.{MultiEvent}
+use Rattle.tx_events.specs.declared.record.Rec.{Rec}
+use Rattle.tx_events.specs.Base.{IsBase}
+use Rattle.tx_events.specs.Events.{given_to}
+use Rattle.tx_events.specs.Families.{enclosing, is_top, top}
+use Rattle.tx_events.specs.History.{MayCome, next_given}
+use Rattle.tx_events.specs.Horizon.{LiveSnap, live_snaps, oldest_xmin}
+use Rattle.tx_events.specs.Running.{open_ids}
 use Rattle.tx_core.specs.declared.entry.Change.{Change}
 use Rattle.tx_core.specs.declared.entry.Entry.{Entry}
 use Rattle.tx_core.specs.declared.entry.Kind.{Kind}
@@ -27,9 +27,9 @@ use Rattle.tx_core.specs.PagesBeforeIds.{IsMade, IsTold, WasMade}
 use Rattle.tx_core.specs.ParentsFollow.{IsGivenBelow}
 use Rattle.tx_core.specs.ProgramOrder.{AreCallers, AreOn, IsInTurn}
 use Rattle.tx_core.specs.declared.entry.Change.TheVariants as changes
-use Rattle.tx_model.specs.declared.event.Event.TheVariants as events
+use Rattle.tx_events.specs.declared.event.Event.TheVariants as events
 use Rattle.tx_core.specs.declared.entry.Kind.TheVariants as kinds
-use Rattle.tx_model.specs.declared.record.Rec.TheVariants as records
+use Rattle.tx_events.specs.declared.record.Rec.TheVariants as records
 use Rattle.tx_core.specs.declared.entry.State.TheVariants as states
 
 -- From any lists that meet the invariant and any beginnings of them that the session has seen, its own entries all seen

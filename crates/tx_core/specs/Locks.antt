@@ -1,8 +1,8 @@
 -- The locks by their numbers, and the lock under which a number's page lies.
 use Rattle.std.specs.Prelude.{ℕ, ◌+◌, ◌*◌, ◌/◌, ◌%◌, ◌≤◌, ◌<◌}
 use Rattle.xid_order.specs.Ids.{low_half}
-use Rattle.tx_model.specs.declared.reply.Lock.{Lock}
-use Rattle.tx_model.specs.declared.reply.Lock.TheVariants as locks
+use Rattle.tx_events.specs.declared.refusal.Lock.{Lock}
+use Rattle.tx_events.specs.declared.refusal.Lock.TheVariants as locks
 use Rattle.tx_core.specs.declared.entry.Start.{Start}
 
 abbrev pub log_lock : ℕ

@@ -1,8 +1,8 @@
 -- An id is given only when its pages are made, and a page is changed only after it was made.
 use Rattle.std.specs.Prelude.{◌≡◌, ℕ, ◌≤◌, ◌⊎◌, List, Contains, IfSome}
-use Rattle.tx_model.specs.declared.event.By.{By}
-use Rattle.tx_model.specs.Events.{given_by}
-use Rattle.tx_model.specs.History.{next_given}
+use Rattle.tx_events.specs.declared.event.By.{By}
+use Rattle.tx_events.specs.Events.{given_by}
+use Rattle.tx_events.specs.History.{next_given}
 use Rattle.tx_core.specs.declared.entry.Entry.{Entry}
 use Rattle.tx_core.specs.declared.entry.Kind.{Kind}
 use Rattle.tx_core.specs.declared.entry.Kind.TheVariants as kinds

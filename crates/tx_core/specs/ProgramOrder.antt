@@ -1,8 +1,8 @@
 -- A session's entries go by its commands, and each stands where some call may add it.
 use Rattle.std.specs.List.{All, AllByRecursion, filter}
 use Rattle.std.specs.Prelude.{Contains, List, map, ℕ, ◌*◌, ◌+◌, ◌==◌, ◌≡◌, ◌≤◌}
-use Rattle.tx_model.specs.declared.event.By.{By}
-use Rattle.tx_model.specs.Places.{first_seen}
+use Rattle.tx_events.specs.declared.event.By.{By}
+use Rattle.tx_events.specs.Places.{first_seen}
 use Rattle.tx_core.specs.declared.entry.Change.{Change}
 use Rattle.tx_core.specs.declared.entry.Entry.{Entry}
 use Rattle.tx_core.specs.declared.entry.Kind.{Kind}

@@ -1,7 +1,7 @@
 -- A transaction counts as ended only when its committed states stand.
 use Rattle.std.specs.Prelude.{ℕ, List, ◌∷◌, Contains}
-use Rattle.tx_model.specs.declared.event.Event.TheVariants as events
-use Rattle.tx_model.specs.declared.record.Rec.TheVariants as records
+use Rattle.tx_events.specs.declared.event.Event.TheVariants as events
+use Rattle.tx_events.specs.declared.record.Rec.TheVariants as records
 use Rattle.tx_core.specs.declared.entry.Entry.{Entry}
 use Rattle.tx_core.specs.declared.entry.Kind.{Kind}
 use Rattle.tx_core.specs.declared.entry.Kind.TheVariants as kinds

@@ -2,11 +2,11 @@
 use Rattle.std.specs.List.{filter_map, last_or, list_any, slice_get}
 use Rattle.std.specs.Prelude.{Bool, List, None, Option, Some, [], cond, false, length, nat_le, nat_lt, not, take, true, ℕ, ◌&&◌, ◌<◌, ◌==◌, ◌||◌, ◌∷◌, ◌≡◌, ◌≤◌, ◌⊎◌}
 use Rattle.xid_order.specs.Ids.{IsFullId}
-use Rattle.tx_model.specs.declared.event.By.{By}
-use Rattle.tx_model.specs.declared.reply.SnapData.{SnapData}
-use Rattle.tx_model.specs.Events.{given}
-use Rattle.tx_model.specs.Snapshots.{is_overflowed, snapshot_data, snapshot_xmin}
-use Rattle.tx_model.specs.Visible.{is_visible}
+use Rattle.tx_events.specs.declared.event.By.{By}
+use Rattle.tx_events.specs.declared.snapshot.SnapData.{SnapData}
+use Rattle.tx_events.specs.Events.{given}
+use Rattle.tx_events.specs.Snapshots.{is_overflowed, snapshot_data, snapshot_xmin}
+use Rattle.tx_events.specs.Visible.{is_visible}
 use Rattle.tx_core.specs.declared.entry.Entry.{Entry}
 use Rattle.tx_core.specs.declared.entry.Start.{Start}
 use Rattle.tx_core.specs.declared.entry.State.{State}
@@ -15,7 +15,7 @@ use Rattle.tx_core.specs.EngineInvariant.{EngineInvariant}
 use Rattle.tx_core.specs.Entries.{IsLinked, Mark, history, marks}
 use Rattle.tx_core.specs.Lists.{Grows, at}
 use Rattle.tx_core.specs.Locks.{xact_lock_of}
-use Rattle.tx_model.specs.declared.event.Event.TheVariants as events
+use Rattle.tx_events.specs.declared.event.Event.TheVariants as events
 use Rattle.tx_core.specs.declared.entry.State.TheVariants as states
 
 abbrev pub state_for : ℕ → Mark → Option State

@@ -1,4 +1,4 @@
-use tx_model::{By, Counters, Event, IdList, Member, MultiEvent, Rec, RecList, Sequence};
+use tx_events::{By, Counters, Event, IdList, Member, MultiEvent, Rec, RecList, Sequence};
 use xid_order::{FullMulti, FullXid};
 
 /// A state of a transaction as pg_xact holds it (`src/include/access/clog.h`). An id of which none was set is in

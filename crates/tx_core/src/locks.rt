@@ -1,9 +1,9 @@
 ghost use Rattle.std.specs.Prelude.{◌≡◌, ℕ, ◌%◌, ◌<◌};
 ghost use Rattle.xid_order.specs.Ids.{low_half};
-ghost use Rattle.tx_model.specs.declared.reply.Lock.TheVariants as locks;
+ghost use Rattle.tx_events.specs.declared.refusal.Lock.TheVariants as locks;
 ghost use Rattle.tx_core.specs.Locks.{number_of, xact_page, subtrans_page, offsets_page, members_page};
 
-use tx_model::Lock;
+use tx_events::Lock;
 use xid_order::{FullMulti, FullXid};
 
 /// How many ids have their states on one page of pg_xact (`CLOG_XACTS_PER_PAGE`).

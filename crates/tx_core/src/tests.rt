@@ -3,7 +3,7 @@ use crate::locks::{lock_number, member_lock, offset_lock, parent_lock, state_loc
 use crate::verdict::is_seen;
 use std::alloc::Global;
 use std::test::Fail;
-use tx_model::{IdList, Lock, Memory, Sequence, SnapData};
+use tx_events::{IdList, Lock, Memory, Sequence, SnapData};
 use xid_order::{FullMulti, FullXid};
 
 fn ids(alloc: Global, numbers: &[u64]) -> Result<IdList, Memory> {

@@ -2,7 +2,7 @@ ghost use Rattle.std.specs.Prelude.{◌≡◌};
 ghost use Rattle.tx_core.specs.Verdict.{is_among, says_ended, verdict, IsRight};
 
 use crate::entry::State;
-use tx_model::{IdList, SnapData};
+use tx_events::{IdList, SnapData};
 use xid_order::FullXid;
 
 /// Whether a snapshot sees the id `x`, of which `state` was read (`HeapTupleSatisfiesMVCC` in

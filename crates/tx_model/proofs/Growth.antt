@@ -1,64 +1,33 @@
-use Rattle.std.proofs.lemmas.Bool.{false≢true}
-use Rattle.std.proofs.lemmas.Bool.Decides.{nat_tests}
-use Rattle.std.proofs.Common.{IfSome, ◌-◌, ◌↔◌, Contains, ◌≡◌, ℕ, suc, zero, ◌<◌, ◌≤◌, List, [], ◌∷◌, ◌++◌, length, length-append, take, drop, Some, refl, ap, sym, ◌∙◌, arith, inl, inr, ⊎_elim, subst, append-nil, Bool, true, false, cond, IsTrue}
+use Rattle.std.proofs.Common.{IfSome, ◌-◌, ◌↔◌, Contains, ◌≡◌, ℕ, suc, zero, ◌<◌, ◌≤◌, List, [], ◌∷◌, ◌++◌, length, length-append, take, drop, refl, ap, sym, ◌∙◌, arith, inl, inr, ⊎_elim, subst, Bool, true, false, cond, IsTrue}
 use Rattle.std.proofs.Math.Seq.{drop-append-le, take-append-le}
-use Rattle.std.specs.List.{slice_get, filter, AllByRecursion}
-use Rattle.std.proofs.lemmas.List.Elements.{filter-append, filter_map-append, Contains-append_left}
+use Rattle.std.specs.List.{filter, AllByRecursion}
+use Rattle.std.proofs.lemmas.List.Elements.{filter_map-append, Contains-append_left}
 use Rattle.xid_order.specs.Nearest.{near_id}
-use Rattle.tx_model.specs.declared.event.By.{By}
-use Rattle.tx_model.specs.declared.event.Event.{Event}
+use Rattle.tx_events.specs.declared.event.By.{By}
+use Rattle.tx_events.specs.declared.event.Event.{Event}
 use Rattle.tx_model.specs.declared.report.Line.{Line}
-use Rattle.tx_model.specs.declared.record.Counters.{Counters}
-use Rattle.tx_model.specs.Events.{by_of, same_by, events_of, given, announced_by}
+use Rattle.tx_events.specs.declared.record.Counters.{Counters}
+use Rattle.tx_events.specs.Events.{by_of, events_of, given, announced_by}
 use Rattle.tx_model.specs.Stance.{Stance, stance_from, after, nothing_yet}
 use Rattle.tx_model.specs.Replies.{MayReply, WasAnnounced, IsGivenAt, IsWarned, IsStopped, seen_id}
-use Rattle.tx_model.specs.Snapshots.{snapshot_data, snapshot_xmax}
-use Rattle.tx_model.specs.Visible.{is_visible}
-use Rattle.tx_model.specs.Limits.{stop_limit, warn_limit}
-use Rattle.tx_model.specs.History.{next_given}
-use Rattle.tx_model.specs.Horizon.{oldest_id}
+use Rattle.tx_events.specs.Snapshots.{snapshot_data, snapshot_xmax}
+use Rattle.tx_events.specs.Visible.{is_visible}
+use Rattle.tx_events.specs.Limits.{stop_limit, warn_limit}
+use Rattle.tx_events.specs.History.{next_given}
+use Rattle.tx_events.specs.Horizon.{oldest_id}
 use Rattle.tx_model.specs.declared.command.Command.{Command}
 use Rattle.tx_model.specs.declared.reply.Reply.{Reply}
 use Rattle.tx_model.specs.Lines.{is_line_of, stance}
-use Rattle.tx_model.proofs.ListSteps.{both_all}
-use Rattle.tx_model.proofs.PlaceLemmas.{slice_get-grows, slice_get-append_cases, take-grows}
+use Rattle.tx_events.proofs.OwnEvents.{AreOthers, AreLater, later_are_others, events_of_grows, not_other}
+use Rattle.tx_events.proofs.ListSteps.{both_all}
+use Rattle.tx_events.proofs.PlaceLemmas.{slice_get-grows, slice_get-append_cases, take-grows}
 use Rattle.tx_model.specs.declared.command.Command.TheVariants as commands
 use Rattle.tx_model.specs.declared.reply.Reply.TheVariants as replies
-use Rattle.tx_model.specs.declared.reply.Refusal.TheVariants as refusals
-
-pub same_by_refl : (by : By) → same_by by by ≡ true
-same_by_refl by = grind (arith, nat_tests)
-
--- no event is of this command
-abbrev pub AreOthers : By → List Event → Type 0
-AreOthers by es = AllByRecursion (λ e. same_by (by_of e) by ≡ false) es
-
--- events of the command's session are of later commands
-abbrev pub AreLater : By → List Event → Type 0
-AreLater by es = AllByRecursion (λ e. (by_of e).session ≡ by.session → by.command < (by_of e).command) es
-
-later_is_other : (by : By) (e : Event) → ((by_of e).session ≡ by.session → by.command < (by_of e).command) → same_by (by_of e) by ≡ false
-later_is_other by e h = grind (arith, nat_tests)
-
-pub later_are_others : (by : By) (es : List Event) → AreLater by es → AreOthers by es
-later_are_others by [] h = tt
-later_are_others by (e ∷ es) h = (later_is_other by e h.0, later_are_others by es h.1)
+use Rattle.tx_events.specs.declared.refusal.Refusal.TheVariants as refusals
 
 pub all_later_others : (es : List Event) (lines : List Line) → AllByRecursion (λ l. AreLater l.by es) lines → AllByRecursion (λ l. AreOthers l.by es) lines
 all_later_others es [] h = tt
 all_later_others es (l ∷ lines) h = (later_are_others l.by es h.0, all_later_others es lines h.1)
-
-pub events_of_others : (by : By) (es : List Event) → AreOthers by es → events_of by es ≡ []
-events_of_others by [] h = refl
-events_of_others by (e ∷ es) h = rw h.0 (events_of_others by es h.1)
-
-pub events_of_own : (by : By) (es : List Event) → AllByRecursion (λ e. same_by (by_of e) by ≡ true) es → events_of by es ≡ es
-events_of_own by [] h = refl
-events_of_own by (e ∷ es) h = rw h.0 (ap (λ t. e ∷ t) (events_of_own by es h.1))
-
--- events of other commands change nothing of this one's
-pub events_of_grows : (by : By) (h es : List Event) → AreOthers by es → events_of by (h ++ es) ≡ events_of by h
-events_of_grows by h es o = filter-append _ h es ∙ ap (λ t. events_of by h ++ t) (events_of_others by es o) ∙ append-nil (events_of by h)
 
 -- events that are of none of these lines change nothing of how a session stands after them
 pub stance_from_grows : (h es : List Event) (lines : List Line) (s : Stance) → AllByRecursion (λ l. AreOthers l.by es) lines → stance_from s (h ++ es) lines ≡ stance_from s h lines
@@ -83,13 +52,6 @@ stance_grows h es lines session o = stance_from_grows h es (filter (is_line_of s
 announced_grows : (base : Counters) (h es : List Event) (oldest : ℕ) → WasAnnounced base h oldest → WasAnnounced base (h ++ es) oldest
 announced_grows base h es oldest a =
     ⊎_elim inl (λ k. inr (subst (λ t. Contains t oldest) (sym (filter_map-append announced_by h es)) (Contains-append_left _ _ oldest k))) a
-
-not_other : (by : By) (es : List Event) (p : ℕ) (e : Event) → AreOthers by es → slice_get es p ≡ Some e → by_of e ≡ by → ⊥
-not_other by [] p e o g i = cc
-not_other by (f ∷ es) zero e o g i =
-    let same : f ≡ e = cc in
-    false≢true (sym o.0 ∙ ap (λ x. same_by (by_of x) by) same ∙ ap (λ b. same_by b by) i ∙ same_by_refl by)
-not_other by (f ∷ es) (suc p) e o g i = not_other by es p e o.1 g i
 
 -- a place of the longer history at which the command is given an id is one of the shorter
 given_before : (h es : List Event) (by : By) (p id : ℕ) → AreOthers by es → IsGivenAt (h ++ es) by p id → IsGivenAt h by p id

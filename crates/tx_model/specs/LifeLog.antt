@@ -1,12 +1,12 @@
 -- The log of a life whose sessions run in turn: one record for each end, and a flush with each commit.
 use Rattle.std.specs.Prelude.{◌≡◌, ℕ, ◌+◌, ◌*◌, ◌≤◌, Bool, true, false, List, [], ◌∷◌, ◌++◌, reverse, take, drop, length}
 use Rattle.std.specs.List.{count_by}
-use Rattle.tx_model.specs.declared.event.Event.{Event}
-use Rattle.tx_model.specs.declared.event.Event.TheVariants as events
-use Rattle.tx_model.specs.declared.record.Rec.{Rec}
-use Rattle.tx_model.specs.declared.record.Rec.TheVariants as records
-use Rattle.tx_model.specs.Running.{open_ids}
-use Rattle.tx_model.specs.RecordSize.{records_size}
+use Rattle.tx_events.specs.declared.event.Event.{Event}
+use Rattle.tx_events.specs.declared.event.Event.TheVariants as events
+use Rattle.tx_events.specs.declared.record.Rec.{Rec}
+use Rattle.tx_events.specs.declared.record.Rec.TheVariants as records
+use Rattle.tx_events.specs.Running.{open_ids}
+use Rattle.tx_events.specs.RecordSize.{records_size}
 
 -- the record of an event: a transaction that ends is named with the subtransactions that it has open
 abbrev pub record_of : List Event → Event → List Rec

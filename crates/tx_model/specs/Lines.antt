@@ -1,12 +1,12 @@
 -- Which lines of a report are lawful.
 use Rattle.std.specs.Prelude.{◌≡◌, ℕ, ◌+◌, ◌==◌, Bool, List, map, IsTrue}
 use Rattle.std.specs.List.{filter, flat_map, count_by, list_any, All}
-use Rattle.tx_model.specs.declared.event.Event.{Event}
+use Rattle.tx_events.specs.declared.event.Event.{Event}
 use Rattle.tx_model.specs.declared.command.Command.{Command}
-use Rattle.tx_model.specs.declared.record.Counters.{Counters}
+use Rattle.tx_events.specs.declared.record.Counters.{Counters}
 use Rattle.tx_model.specs.declared.report.Line.{Line}
-use Rattle.tx_model.specs.Places.{EachPlace, first_seen}
-use Rattle.tx_model.specs.Events.{by_of, events_of, same_by}
+use Rattle.tx_events.specs.Places.{EachPlace, first_seen}
+use Rattle.tx_events.specs.Events.{by_of, events_of, same_by}
 use Rattle.tx_model.specs.Stance.{Stance, stance_from, nothing_yet}
 use Rattle.tx_model.specs.CommandEvents.{HasEvents}
 use Rattle.tx_model.specs.Replies.{MayReply}

@@ -2,22 +2,22 @@
 use Rattle.std.specs.Prelude.{IsTrue, ◌↔◌, ◌≡◌, ◌≢◌, ℕ, ◌<◌, ◌≤◌, ◌⊎◌, nat_lt, Bool, List, [], Option, Some, None, length, take, drop, cond, slice_get, IfSome, Contains}
 use Rattle.std.specs.List.{AllByRecursion, filter_map}
 use Rattle.xid_order.specs.Nearest.{near_id}
-use Rattle.tx_model.specs.declared.event.By.{By}
-use Rattle.tx_model.specs.declared.event.Event.{Event}
-use Rattle.tx_model.specs.declared.event.Event.TheVariants as events
+use Rattle.tx_events.specs.declared.event.By.{By}
+use Rattle.tx_events.specs.declared.event.Event.{Event}
+use Rattle.tx_events.specs.declared.event.Event.TheVariants as events
 use Rattle.tx_model.specs.declared.command.Command.{Command}
 use Rattle.tx_model.specs.declared.command.Command.TheVariants as commands
 use Rattle.tx_model.specs.declared.reply.Reply.{Reply}
 use Rattle.tx_model.specs.declared.reply.Reply.TheVariants as replies
-use Rattle.tx_model.specs.declared.reply.Refusal.TheVariants as refusals
-use Rattle.tx_model.specs.declared.record.Counters.{Counters}
-use Rattle.tx_model.specs.Events.{announced_by, by_of, given_by}
-use Rattle.tx_model.specs.Limits.{stop_limit, warn_limit}
-use Rattle.tx_model.specs.History.{next_given}
-use Rattle.tx_model.specs.Horizon.{oldest_id}
-use Rattle.tx_model.specs.Snapshots.{snapshot_data, snapshot_xmax}
+use Rattle.tx_events.specs.declared.refusal.Refusal.TheVariants as refusals
+use Rattle.tx_events.specs.declared.record.Counters.{Counters}
+use Rattle.tx_events.specs.Events.{announced_by, by_of, given_by}
+use Rattle.tx_events.specs.Limits.{stop_limit, warn_limit}
+use Rattle.tx_events.specs.History.{next_given}
+use Rattle.tx_events.specs.Horizon.{oldest_id}
+use Rattle.tx_events.specs.Snapshots.{snapshot_data, snapshot_xmax}
 use Rattle.tx_model.specs.Stance.{Stance, lacking, snap_of}
-use Rattle.tx_model.specs.Visible.{is_visible}
+use Rattle.tx_events.specs.Visible.{is_visible}
 
 -- the command's snapshot is taken at place p
 abbrev pub IsTakenAt : List Event → By → List ℕ → ℕ → Type 0

@@ -1,13 +1,13 @@
 -- How a session stands.
 use Rattle.std.specs.Prelude.{ℕ, ◌-◌, not, List, [], ◌∷◌, ◌++◌, Option, Some, None, length, take, is_none}
 use Rattle.std.specs.List.{filter, find, count_by}
-use Rattle.tx_model.specs.declared.event.Event.{Event}
+use Rattle.tx_events.specs.declared.event.Event.{Event}
 use Rattle.tx_model.specs.declared.command.Command.{Command}
 use Rattle.tx_model.specs.declared.command.Command.TheVariants as commands
 use Rattle.tx_model.specs.declared.reply.Reply.{Reply}
 use Rattle.tx_model.specs.declared.reply.Reply.TheVariants as replies
 use Rattle.tx_model.specs.declared.report.Line.{Line}
-use Rattle.tx_model.specs.Events.{events_of, given, same_name}
+use Rattle.tx_events.specs.Events.{events_of, given, same_name}
 
 -- What a session's earlier commands have left: the levels of its transaction, from the top to the innermost
 -- savepoint, each with its id where it has one, and its snapshots, each with the command that took it.

@@ -1,6 +1,21 @@
-use crate::multi::PairList;
-use crate::sequence::{Copied, Memory, Name};
+use tx_events::{Copied, Memory, Mode, Name, Sequence};
 use xid_order::{FullMulti, FullXid, MultiId, Xid};
+
+/// A member as a script writes it: the stored half of its id.
+#[derive(Clone, Copy, Debug, PartialEq, Eq)]
+pub struct Pair {
+    pub x: Xid,
+    pub mode: Mode,
+}
+
+impl Copied for Pair {
+    fn copy(&self) -> Result<Self, Memory> {
+        Ok(*self)
+    }
+}
+
+/// Members as a script writes them.
+pub type PairList = Sequence<Pair>;
 
 /// A command of a session, as a script has it behind the session's name.
 #[derive(Clone, Drop)]

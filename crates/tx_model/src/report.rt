@@ -1,9 +1,8 @@
 use crate::command::Command;
-use crate::event::{By, EventList};
-use crate::multi::MultiEventList;
-use crate::record::{Counters, RecList};
 use crate::reply::Reply;
-use crate::sequence::{Copied, IdList, Memory, Name, Sequence};
+use tx_events::{
+    By, Copied, Counters, EventList, IdList, Memory, MultiEventList, Name, RecList, Sequence,
+};
 
 /// What a crash leaves of what wasn't synced.
 #[derive(Clone, Copy, Debug, PartialEq, Eq)]

@@ -4,7 +4,7 @@ ghost use Rattle.wal_core.specs.LogViews.{log_next, log_flushed};
 
 use disk_core::LogDisk;
 use std::alloc::Global;
-use tx_model::{Counters, IdList, Rec};
+use tx_events::{Counters, IdList, Rec};
 use wal_core::{LogRefusal, WalLog};
 use xid_order::{FullMulti, FullXid};
 

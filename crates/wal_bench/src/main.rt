@@ -13,7 +13,7 @@ use commits::{first_counters, write_commits};
 use disk_core::MemLog;
 use std::env;
 use std::time::Instant;
-use tx_model::Rec;
+use tx_events::Rec;
 use wal_core::{Started, WalLog};
 
 // How many commits there are where no number is given.

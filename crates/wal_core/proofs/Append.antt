@@ -5,11 +5,11 @@ use Rattle.std.specs.Prelude.{IsSome, IsNone, IfSome, remove}
 use Rattle.std.proofs.lemmas.Bool.{eq-eqb, le-ltb, and_from, eqb-true}
 use Rattle.std.proofs.lemmas.List.{append_assoc, length-append, take_at, drop_at, drop-append-le, append-nil}
 use Rattle.std.proofs.lemmas.Grind.{flat_map-append}
-use Rattle.tx_model.specs.declared.record.Rec.{Rec}
-use Rattle.tx_model.specs.declared.record.Rec.TheVariants as records
-use Rattle.tx_model.specs.declared.record.Counters.{Counters}
-use Rattle.tx_model.specs.After.{after_record}
-use Rattle.tx_model.specs.Base.{IsBase}
+use Rattle.tx_events.specs.declared.record.Rec.{Rec}
+use Rattle.tx_events.specs.declared.record.Rec.TheVariants as records
+use Rattle.tx_events.specs.declared.record.Counters.{Counters}
+use Rattle.tx_events.specs.After.{after_record}
+use Rattle.tx_events.specs.Base.{IsBase}
 use Rattle.disk_core.specs.Volume.{Volume}
 use Rattle.wal_records.specs.Numbers.{le_bytes}
 use Rattle.wal_core.specs.BaseTest.{is_base_of}

@@ -2,8 +2,8 @@
 use Rattle.std.proofs.Common.{◌≡◌, inl, inr, ℕ, Bool, true, false, not, eqb, ◌||◌, refl, sym}
 use Rattle.std.specs.Prelude.{IsTrue, ◌↔◌}
 use Rattle.std.proofs.lemmas.Bool.{leb-true, le-leb, and_parts, and_from, eqb-true, eq-eqb, ne_eqb, cases_eq}
-use Rattle.tx_model.specs.Base.{IsBase}
-use Rattle.tx_model.specs.declared.record.Counters.{Counters}
+use Rattle.tx_events.specs.Base.{IsBase}
+use Rattle.tx_events.specs.declared.record.Counters.{Counters}
 use Rattle.wal_core.specs.BaseTest.{is_base_of}
 
 either_false : (a b : Bool) → (not a || b) ≡ true → a ≡ true → b ≡ true

@@ -1,10 +1,10 @@
 -- Records of a body join a history one by one.
 use Rattle.std.proofs.Common.{◌≡◌, inl, inr, ℕ, zero, suc, ◌+◌, ◌-◌, ◌<◌, ◌≤◌, Bool, true, false, cond, ltb, eqb, List, [], ◌∷◌, length, max, Option, Some, None, refl, sym, ◌∙◌, ap, arith}
 use Rattle.std.proofs.lemmas.Bool.{eq-eqb, ne_eqb, cases_eq, lt-ltb, le-ltb}
-use Rattle.tx_model.specs.After.{after_record}
-use Rattle.tx_model.specs.declared.record.Rec.{Rec}
-use Rattle.tx_model.specs.declared.record.Rec.TheVariants as records
-use Rattle.tx_model.specs.declared.record.Counters.{Counters}
+use Rattle.tx_events.specs.After.{after_record}
+use Rattle.tx_events.specs.declared.record.Rec.{Rec}
+use Rattle.tx_events.specs.declared.record.Rec.TheVariants as records
+use Rattle.tx_events.specs.declared.record.Counters.{Counters}
 use Rattle.wal_records.specs.declared.stop.Stop.{Stop}
 use Rattle.wal_records.specs.declared.stop.Stop.TheVariants as stops
 use Rattle.wal_records.specs.Reading.{◌>>=◌, Stops, rec_at}

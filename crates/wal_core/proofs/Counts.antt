@@ -1,13 +1,13 @@
 -- Counters past every base.
-use Rattle.tx_model.proofs.IdOrder.{next_above}
+use Rattle.tx_events.proofs.IdOrder.{next_above}
 use Rattle.std.proofs.Common.{◌≡◌, ◌⊎◌, inl, inr, ℕ, ◌+◌, ◌<◌, ◌≤◌, ◌^◌, max, Bool, true, false, cond, ltb, List, [], ◌∷◌, length, drop, get_or, refl, sym, ap, subst, arith}
 use Rattle.std.proofs.lemmas.List.{drop_more}
 use Rattle.xid_order.specs.Ids.{low_half, next_id, next_multi}
-use Rattle.tx_model.specs.After.{past_ids, ids_of, after_record}
-use Rattle.tx_model.specs.declared.record.Rec.{Rec}
-use Rattle.tx_model.specs.declared.record.Rec.TheVariants as records
-use Rattle.tx_model.specs.declared.multi.Member.{Member}
-use Rattle.tx_model.specs.declared.record.Counters.{Counters}
+use Rattle.tx_events.specs.After.{past_ids, ids_of, after_record}
+use Rattle.tx_events.specs.declared.record.Rec.{Rec}
+use Rattle.tx_events.specs.declared.record.Rec.TheVariants as records
+use Rattle.tx_events.specs.declared.multi.Member.{Member}
+use Rattle.tx_events.specs.declared.record.Counters.{Counters}
 use Rattle.wal_core.specs.BaseTest.{is_base_of}
 use Rattle.wal_core.proofs.BaseTests.{base_if}
 

@@ -1,14 +1,15 @@
 -- From batches to records: what a flush promises.
-use Rattle.std.proofs.Common.{◌≡◌, inl, inr, ℕ, ◌+◌, ◌-◌, ◌<◌, ◌^◌, List, [], ◌∷◌, ◌++◌, length, take, drop, Option, Some, None, Ok, refl, sym, ◌∙◌, ap, subst, arith}
+use Rattle.std.proofs.Common.{◌≡◌, inl, inr, ℕ, ◌+◌, ◌-◌, ◌<◌, ◌^◌, List, [], ◌∷◌, ◌++◌, length, take, drop, Option, Some, None, Result, Ok, refl, sym, ◌∙◌, ap, subst, arith}
+use Rattle.std.specs.Prelude.{IsSome, IfOk}
 use Rattle.std.proofs.lemmas.List.{take_at, drop_at}
-use Rattle.tx_model.specs.declared.record.Rec.{Rec}
-use Rattle.tx_model.specs.declared.record.Counters.{Counters}
+use Rattle.tx_events.specs.declared.record.Rec.{Rec}
+use Rattle.tx_events.specs.declared.record.Counters.{Counters}
 use Rattle.disk_core.specs.Volume.{Volume}
 use Rattle.wal_records.specs.Numbers.{le_bytes}
 use Rattle.wal_records.specs.Reading.{◌>>=◌}
-use Rattle.wal_core.specs.Opening.{History, Walked, walked, AtRest, IsBeforeOrAfter, with_body, opened, behind_gate, body_in, IsBehindGate, next_number}
+use Rattle.wal_core.specs.Opening.{History, Opened, Walked, walked, AtRest, IsBeforeOrAfter, with_body, opened, behind_gate, body_in, IsBehindGate, next_number}
 use Rattle.wal_core.specs.Crash.{IsFromImage}
-use Rattle.wal_core.specs.Log.{history_in, history_on, bytes_of, End, end_of, end_with, IsReady, IsNextBatch, OpensBeforeOrAfter, OpensFromImage}
+use Rattle.wal_core.specs.Log.{history_in, history_on, bytes_of, End, end_of, end_with, IsReady, IsNextBatch, EndsWithin, OpensBeforeOrAfter, OpensFromImage}
 use Rattle.wal_records.proofs.Fields.{length-le_bytes}
 use Rattle.wal_core.proofs.Gates.{length-behind}
 use Rattle.wal_core.proofs.Walks.{walked-at_rest, opened_same, opened_more}
@@ -64,6 +65,13 @@ goes gate (r ∷ recs) counters next v some ready =
     let x = goes_by gate (history_on v) r recs (with_body gate (history_on v) (bytes_of (r ∷ recs))) counters next refl ready.ends in
     record { there = x.0; comes = x.1; counters_are = x.2.0; next_is = x.2.1 }
 
+-- a volume that opens so, with the gate within
+pub ends_at : (c : Volume) (h : Option History) (gate : ℕ) → opened c ≡ Ok (record { history = h; gate = gate }) → gate < length c.bytes → EndsWithin c
+ends_at c h gate e lt = subst (λ (r : Result Opened ℕ). IfOk r (λ o. IsSome o.history → o.gate < length c.bytes)) (sym e) (λ some. lt)
+
+pub ready_ends : (gate : ℕ) (pending : List Rec) (counters : Option Counters) (next : ℕ) (v : Volume) → IsReady gate pending counters next v → EndsWithin v
+ready_ends gate pending counters next v ready = ends_at v (history_on v) gate ready.opens ready.at_rest.within
+
 module _ (gate : ℕ) (pending : List Rec) (counters : Option Counters) (next : ℕ) (some : 0 < length pending) where
   pub opens_more : (v : Volume) → IsReady gate pending counters next v → (g : Goes gate pending counters next v) (c : Volume) → AtRest c ((walked v).bodies ++ bytes_of pending ∷ []) (gate + (5 + length (bytes_of pending)))
       → opened c ≡ Ok (record { history = Some g.there; gate = gate + (5 + length (bytes_of pending)) })
@@ -75,9 +83,16 @@ module _ (gate : ℕ) (pending : List Rec) (counters : Option Counters) (next : 
       let g = goes gate pending counters next v some ready in
       inr (opens_more v ready g c rest ∙ ap (λ (h : Option History). Ok (record { history = h; gate = gate + (5 + length (bytes_of pending)) })) (sym g.comes))
 
+  ends_either : (v : Volume) → IsReady gate pending counters next v → (c : Volume) → IsBeforeOrAfter (walked v).bodies gate (bytes_of pending) c → EndsWithin c
+  ends_either v ready c (inl rest) = ends_at c (history_on v) gate (opened_same v c (walked v).bodies gate ready.at_rest rest ∙ ready.opens) rest.within
+  ends_either v ready c (inr rest) =
+      let g = goes gate pending counters next v some ready in
+      ends_at c (Some g.there) (gate + (5 + length (bytes_of pending))) (opens_more v ready g c rest) rest.within
+
   pub opens_from : (images : Volume → Type 0) → ((d : Volume) → images d → IsReady gate pending counters next d) → (body : List ℕ) → body ≡ bytes_of pending → (c : Volume) → IsFromImage images gate body c → OpensFromImage images gate pending c
   opens_from images ready body is c from =
-      (from.0, from.1, opens_either from.0 (ready from.0 from.1) c (subst (λ (b : List ℕ). IsBeforeOrAfter (walked from.0).bodies gate b c) is from.2))
+      let so : IsBeforeOrAfter (walked from.0).bodies gate (bytes_of pending) c = subst (λ (b : List ℕ). IsBeforeOrAfter (walked from.0).bodies gate b c) is from.2 in
+      (from.0, from.1, (opens_either from.0 (ready from.0 from.1) c so, ends_either from.0 (ready from.0 from.1) c so))
 
   -- with the batch on it a volume is ready for the next
   pub ready_again : (v : Volume) → IsReady gate pending counters next v → (w : Volume) (body : List ℕ) (gate_2 : ℕ) (left : List Rec) → body ≡ bytes_of pending → gate_2 ≡ gate + (5 + length (bytes_of pending))

@@ -1,13 +1,13 @@
 -- A closed gate that is written at the end: what a crash in the middle leaves.
-use Rattle.std.proofs.Common.{◌≡◌, ◌⊎◌, inl, inr, ℕ, ◌+◌, ◌<◌, ◌≤◌, Bool, true, false, cond, List, length, Option, Some, None, Result, Ok, Err, refl, sym, ◌∙◌, ap, arith}
-use Rattle.std.specs.Prelude.{is_some, IsSome, IsNone}
+use Rattle.std.proofs.Common.{◌≡◌, ◌⊎◌, inl, inr, ℕ, ◌+◌, ◌<◌, ◌≤◌, Bool, true, false, cond, List, length, Option, Some, None, Result, Ok, Err, refl, sym, ◌∙◌, ap, subst, arith}
+use Rattle.std.specs.Prelude.{is_some, IsSome, IsNone, IfOk}
 use Rattle.std.proofs.lemmas.Bool.{and_parts, eqb-true}
-use Rattle.tx_model.specs.declared.record.Rec.{Rec}
-use Rattle.tx_model.specs.declared.record.Counters.{Counters}
+use Rattle.tx_events.specs.declared.record.Rec.{Rec}
+use Rattle.tx_events.specs.declared.record.Counters.{Counters}
 use Rattle.disk_core.specs.Volume.{Volume, Wrote}
 use Rattle.wal_core.specs.Opening.{History, Opened, Walked, walked, judged, is_new, opened_as, opened}
 use Rattle.wal_core.specs.Contents.{history_with}
-use Rattle.wal_core.specs.Log.{history_in}
+use Rattle.wal_core.specs.Log.{history_in, EndsWithin, OpensAs}
 use Rattle.wal_core.proofs.News.{opens_short}
 
 abbrev no_history : ℕ → Result Opened ℕ
@@ -48,6 +48,18 @@ torn_gate_opens v c first gate recs None e none short wrote =
     let few : length v.bytes ≤ 1 = elim (short refl) [ inl one ↦ one | inr none ↦ omega (arith, none, new.1) ] in
     let here : c.start ≡ 0 = wrote.start ∙ new.0 in
     opens_short c here (omega (arith, wrote.torn.no_longer, few, new.1)) ∙ ap no_history (sym new.1) ∙ sym e
+
+-- a volume that is no shorter has its gate within
+pub opens_as : (v c : Volume) → opened c ≡ opened v → length v.bytes ≤ length c.bytes → OpensAs v c
+opens_as v c same long = (same, λ ends. subst (λ (r : Result Opened ℕ). IfOk r (λ o. IsSome o.history → o.gate < length c.bytes)) (sym same) (longer (opened v) ends))
+  where
+    longer : (r : Result Opened ℕ) → IfOk r (λ o. IsSome o.history → o.gate < length v.bytes) → IfOk r (λ o. IsSome o.history → o.gate < length c.bytes)
+    longer (Ok o) ends = λ some. omega (arith, ends some, long)
+    longer (Err at) ends = ends
+
+pub gate_within : (v : Volume) (first gate : ℕ) (recs : List Rec) (counters : Option Counters) → opened v ≡ Ok (record { history = history_with first recs counters; gate = gate }) → EndsWithin v → IsSome counters → gate < length v.bytes
+gate_within v first gate recs (Some n) e ends some = subst (λ (r : Result Opened ℕ). IfOk r (λ o. IsSome o.history → o.gate < length v.bytes)) e ends refl
+gate_within v first gate recs None e ends some = absurd cc
 
 -- ---- the test before the write
 

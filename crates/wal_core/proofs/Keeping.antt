@@ -3,19 +3,19 @@ use Rattle.std.proofs.Common.{◌≡◌, ◌⊎◌, inl, inr, ℕ, ◌+◌, ◌-
 use Rattle.std.specs.List.{slice_get}
 use Rattle.std.proofs.lemmas.Bool.{ltb-false}
 use Rattle.std.proofs.lemmas.List.{length-append, append_assoc, append-nil, drop_at, length-drop, take-append-drop}
-use Rattle.tx_model.specs.declared.record.Rec.{Rec}
-use Rattle.tx_model.specs.declared.record.Counters.{Counters}
+use Rattle.tx_events.specs.declared.record.Rec.{Rec}
+use Rattle.tx_events.specs.declared.record.Counters.{Counters}
 use Rattle.disk_core.specs.Volume.{Volume}
 use Rattle.wal_records.specs.Reading.{◌>>=◌}
 use Rattle.wal_core.specs.Opening.{History, Opened, next_number, may_follow, with_rec, joined, first_number, began, with_body, opened}
 use Rattle.wal_core.specs.Contents.{history_with}
 use Rattle.wal_core.specs.Past.{recs_so_far}
-use Rattle.wal_core.specs.Log.{history_in, history_on, bytes_of, End, end_of, end_with, IsReady, OpensBeforeOrAfter, OpensFromImage}
+use Rattle.wal_core.specs.Log.{history_in, history_on, bytes_of, End, end_of, end_with, IsReady, EndsWithin, OpensBeforeOrAfter, OpensFromImage}
 use Rattle.wal_records.specs.Lawful.{are_lawful}
 use Rattle.wal_core.specs.Checkpoint.{record_of, begun_with, numbered, MayBegin}
 use Rattle.wal_core.specs.declared.checkpoint.LastCheckpoint.{LastCheckpoint}
 use Rattle.wal_core.specs.Kept.{IsStretch, HasRecords, OpensToRecords, HasFlushed, Keeps}
-use Rattle.wal_core.proofs.Flush.{goes, goes_by}
+use Rattle.wal_core.proofs.Flush.{goes, goes_by, ready_ends}
 use Rattle.wal_core.proofs.Append.{continued, with_body-bytes}
 use Rattle.wal_records.proofs.LawfulTests.{all_lawful}
 
@@ -87,9 +87,10 @@ same_end xs ys end_x end_y e long =
 pub ends_none : (gate : ℕ) (h : Option History) (counters : Option Counters) (next : ℕ) → end_with gate h [] ≡ Some (record { counters = counters; next = next }) → end_of h ≡ record { counters = counters; next = next }
 ends_none gate h counters next e = cc
 
-module _ (first : ℕ) (all : List Rec) (flushed gate : ℕ) (pending : List Rec) (counters : Option Counters) (next : ℕ) where
+module _ (first : ℕ) (all : List Rec) (kept flushed gate : ℕ) (pending : List Rec) (counters : Option Counters) (next : ℕ) where
   -- with the pending records a history is a stretch of the list up to its end
-  with_all : (earlier : List Rec) → all ≡ earlier ++ pending → first + length all ≡ next → flushed ≤ next → (h : Option History) → HasRecords first all flushed h → (x : History) → GoesOn h pending x → next ≡ next_number x → HasRecords first all flushed (Some x)
+  with_all : (earlier : List Rec) → all ≡ earlier ++ pending → first + length all ≡ next → flushed + length pending ≡ next → (h : Option History) → HasRecords first all kept flushed h → (x : History) → GoesOn h pending x → next ≡ next_number x
+      → HasRecords first all kept flushed (Some x)
   with_all earlier whole count low None has x goes ends = (
     record {
       before = earlier;
@@ -97,7 +98,7 @@ module _ (first : ℕ) (all : List Rec) (flushed gate : ℕ) (pending : List Rec
       split = whole ∙ ap (λ (l : List Rec). earlier ++ l) (sym goes.recs_are ∙ sym (append-nil x.recs));
       place = omega (arith, ends, count, ap length whole, length-append earlier pending, ap length goes.recs_are);
     },
-    omega (arith, low, ends),
+    (omega (arith, low, ends, has, ap length goes.recs_are), omega (arith, low, ends)),
   )
   with_all earlier whole count low (Some h) has x goes ends =
       let s : IsStretch first all h.first h.recs = has.0 in
@@ -111,35 +112,42 @@ module _ (first : ℕ) (all : List Rec) (flushed gate : ℕ) (pending : List Rec
           split = s.split ∙ ap (λ (l : List Rec). s.before ++ (h.recs ++ l)) same ∙ ap (λ (l : List Rec). s.before ++ l) (sym goes.recs_are ∙ sym (append-nil x.recs));
           place = s.place ∙ sym f;
         },
-        omega (arith, low, ends),
+        (omega (arith, f, has.1.0), omega (arith, low, ends)),
       )
 
-  pub flush_leaves : are_lawful pending ≡ true → (earlier : List Rec) → all ≡ earlier ++ pending → first + length all ≡ next → flushed ≤ next → (d c : Volume) → HasFlushed first all flushed d → 0 < length pending → IsReady gate pending counters next d
-      → OpensBeforeOrAfter d gate pending c → HasFlushed first all flushed c
-  flush_leaves lawful earlier whole count low d c has some ready (inl same) = subst (OpensToRecords first all flushed) (sym same) has
+  pub flush_leaves : are_lawful pending ≡ true → (earlier : List Rec) → all ≡ earlier ++ pending → first + length all ≡ next → flushed + length pending ≡ next → (d c : Volume) → HasFlushed first all kept flushed d → 0 < length pending
+      → IsReady gate pending counters next d → OpensBeforeOrAfter d gate pending c → OpensToRecords first all kept flushed (opened c)
+  flush_leaves lawful earlier whole count low d c has some ready (inl same) = subst (OpensToRecords first all kept flushed) (sym same) has.opens
   flush_leaves lawful earlier whole count low d c has some ready (inr more) =
       let g = goes gate pending counters next d some ready in
-      let here : HasRecords first all flushed (history_on d) = subst (OpensToRecords first all flushed) ready.opens has in
+      let here : HasRecords first all kept flushed (history_on d) = subst (OpensToRecords first all kept flushed) ready.opens has.opens in
       let on = goes_on gate (history_on d) pending g.there (sym (with_body-bytes gate (history_on d) pending (all_lawful pending lawful)) ∙ g.comes) in
-      subst (OpensToRecords first all flushed) (sym (more ∙ ap (λ (h : Option History). Ok (record { history = h; gate = gate + (5 + length (bytes_of pending)) })) g.comes))
+      subst (OpensToRecords first all kept flushed) (sym (more ∙ ap (λ (h : Option History). Ok (record { history = h; gate = gate + (5 + length (bytes_of pending)) })) g.comes))
       (with_all earlier whole count low (history_on d) here g.there on g.next_is)
 
-pub flush_from : (first : ℕ) (all recs : List Rec) (from flushed gate : ℕ) (counters : Option Counters) (images : Volume → Type 0) → are_lawful (drop flushed recs) ≡ true → flushed ≤ length recs → 0 < length (drop flushed recs)
-    → ((d : Volume) → images d → IsReady gate (drop flushed recs) counters (from + length recs) d) → Keeps first all recs (from + length recs) (from + flushed) images → (c : Volume) → OpensFromImage images gate (drop flushed recs) c → HasFlushed first all (from + flushed) c
-flush_from first all recs from flushed gate counters images lawful low some ready keeps c opens =
+pub flush_from : (first : ℕ) (all recs : List Rec) (from kept flushed gate : ℕ) (counters : Option Counters) (images : Volume → Type 0) → are_lawful (drop flushed recs) ≡ true → flushed ≤ length recs → 0 < length (drop flushed recs)
+    → ((d : Volume) → images d → IsReady gate (drop flushed recs) counters (from + length recs) d) → Keeps first all recs (from + length recs) kept (from + flushed) images → (c : Volume) → OpensFromImage images gate (drop flushed recs) c → HasFlushed first all kept (from + flushed) c
+flush_from first all recs from kept flushed gate counters images lawful low some ready keeps c opens =
     let pending : List Rec = drop flushed recs in
     let whole : all ≡ (keeps.earlier ++ take flushed recs) ++ pending = keeps.whole ∙ ap (λ (l : List Rec). keeps.earlier ++ l) (sym (take-append-drop flushed recs)) ∙ sym (append_assoc keeps.earlier (take flushed recs) pending) in
-    flush_leaves first all (from + flushed) gate pending counters (from + length recs) lawful (keeps.earlier ++ take flushed recs) whole keeps.count (omega (arith, low)) opens.0 c (keeps.each opens.0 opens.1) some (ready opens.0 opens.1) opens.2
+    record {
+      opens = flush_leaves first all kept (from + flushed) gate pending counters (from + length recs) lawful (keeps.earlier ++ take flushed recs) whole keeps.count (omega (arith, low, length-drop flushed recs)) opens.0 c
+          (keeps.each opens.0 opens.1) some (ready opens.0 opens.1) opens.2.0;
+      ends = opens.2.1;
+    }
 
 -- where nothing is pending all records are flushed
-raised : (first : ℕ) (all : List Rec) (flushed : ℕ) (counters : Option Counters) (next : ℕ) (h : Option History) → end_of h ≡ record { counters = counters; next = next } → HasRecords first all flushed h → HasRecords first all next h
-raised first all flushed counters next None ends has = let none : 0 ≡ next = ap (λ (e : End). e.next) ends in omega (arith, none)
-raised first all flushed counters next (Some h) ends has = let last : next_number h ≡ next = ap (λ (e : End). e.next) ends in (has.0, omega (arith, last))
+raised : (first : ℕ) (all : List Rec) (kept flushed : ℕ) (counters : Option Counters) (next : ℕ) (h : Option History) → end_of h ≡ record { counters = counters; next = next } → HasRecords first all kept flushed h → HasRecords first all kept next h
+raised first all kept flushed counters next None ends has = let none : 0 ≡ next = ap (λ (e : End). e.next) ends in (omega (arith, none), has.1)
+raised first all kept flushed counters next (Some h) ends has = let last : next_number h ≡ next = ap (λ (e : End). e.next) ends in (has.0, (has.1.0, omega (arith, last)))
 
-pub all_flushed : (first : ℕ) (all : List Rec) (flushed gate : ℕ) (left : List Rec) (counters : Option Counters) (next : ℕ) (c : Volume) → left ≡ [] → IsReady gate left counters next c → HasFlushed first all flushed c → HasFlushed first all next c
-all_flushed first all flushed gate left counters next c none ready has =
+pub all_flushed : (first : ℕ) (all : List Rec) (kept flushed gate : ℕ) (left : List Rec) (counters : Option Counters) (next : ℕ) (c : Volume) → left ≡ [] → IsReady gate left counters next c → HasFlushed first all kept flushed c → HasFlushed first all kept next c
+all_flushed first all kept flushed gate left counters next c none ready has =
     let ends : end_of (history_on c) ≡ record { counters = counters; next = next } = ends_none gate (history_on c) counters next (ap (end_with gate (history_on c)) (sym none) ∙ ready.ends) in
-    subst (OpensToRecords first all next) (sym ready.opens) (raised first all flushed counters next (history_on c) ends (subst (OpensToRecords first all flushed) ready.opens has))
+    record {
+      opens = subst (OpensToRecords first all kept next) (sym ready.opens) (raised first all kept flushed counters next (history_on c) ends (subst (OpensToRecords first all kept flushed) ready.opens has.opens));
+      ends = has.ends;
+    }
 
 -- ---- what a forget leaves
 
@@ -153,11 +161,21 @@ ends_count gate x (r ∷ recs) counters next lawful e =
     omega (arith, g.2.1, on.same_first x refl, ap length on.recs_are, length-append x.recs (r ∷ recs))
 
 -- a record that a stretch of the list has
-stretch_of : (first : ℕ) (all : List Rec) (flushed n : ℕ) (r : Rec) (h : Option History) → numbered n h ≡ Some r → HasRecords first all flushed h → IsStretch first all n (r ∷ [])
-stretch_of first all flushed n r None there has = absurd cc
-stretch_of first all flushed n r (Some h) there has =
+-- a record that it has isn't before its first
+not_lower : (b : Bool) (o : Option Rec) (r : Rec) → cond b None o ≡ Some r → (b ≡ false) × (o ≡ Some r)
+not_lower true o r e = absurd cc
+not_lower false o r e = (refl, e)
+
+-- so it may be said to begin there or before
+kept_to : (first : ℕ) (all : List Rec) (kept flushed n : ℕ) (r : Rec) (h : Option History) → numbered n h ≡ Some r → HasRecords first all kept flushed h → HasRecords first all n flushed h
+kept_to first all kept flushed n r None there has = absurd cc
+kept_to first all kept flushed n r (Some h) there has = (has.0, (ltb-false n h.first (not_lower (ltb n h.first) (slice_get h.recs (n - h.first)) r there).0, has.1.1))
+
+stretch_of : (first : ℕ) (all : List Rec) (kept flushed n : ℕ) (r : Rec) (h : Option History) → numbered n h ≡ Some r → HasRecords first all kept flushed h → IsStretch first all n (r ∷ [])
+stretch_of first all kept flushed n r None there has = absurd cc
+stretch_of first all kept flushed n r (Some h) there has =
     let s : IsStretch first all h.first h.recs = has.0 in
-    let u = not_lower (ltb n h.first) (slice_get h.recs (n - h.first)) there in
+    let u = not_lower (ltb n h.first) (slice_get h.recs (n - h.first)) r there in
     let k : ℕ = n - h.first in
     let p = split_at h.recs k r u.1 in
     record {
@@ -166,61 +184,74 @@ stretch_of first all flushed n r (Some h) there has =
       split = s.split ∙ ap (λ (l : List Rec). s.before ++ (l ++ s.after)) p.0 ∙ simp append_assoc;
       place = omega (arith, s.place, length-append s.before (take k h.recs), p.1, ltb-false n h.first u.0);
     }
-  where
-    not_lower : (b : Bool) (o : Option Rec) → cond b None o ≡ Some r → (b ≡ false) × (o ≡ Some r)
-    not_lower true o e = absurd cc
-    not_lower false o e = (refl, e)
 
-pub forget_leaves : (k : LastCheckpoint) (first : ℕ) (all recs : List Rec) (from flushed gate : ℕ) (counters : Option Counters) (images : Volume → Type 0) (d c : Volume) → are_lawful (drop flushed recs) ≡ true → flushed ≤ length recs
-    → Keeps first all recs (from + length recs) (from + flushed) images → images d → IsReady gate (drop flushed recs) counters (from + length recs) d → MayBegin k gate (drop flushed recs) counters (from + length recs) d
-    → (opened c ≡ opened d) ⊎ (opened c ≡ Ok (record { history = Some (begun_with k); gate = gate })) → HasFlushed first all (from + flushed) c
-forget_leaves k first all recs from flushed gate counters images d c lawful low keeps left ready begins (inl same) = subst (OpensToRecords first all (from + flushed)) (sym same) (keeps.each d left)
-forget_leaves k first all recs from flushed gate counters images d c lawful low keeps left ready begins (inr alone) =
-    let has : HasRecords first all (from + flushed) (history_on d) = subst (OpensToRecords first all (from + flushed)) ready.opens (keeps.each d left) in
-    let ends : end_with gate (Some (begun_with k)) (drop flushed recs) ≡ Some (record { counters = counters; next = from + length recs }) = ap (λ (h : Option History). end_with gate h (drop flushed recs)) (sym begins.alone) ∙ begins.ready.ends in
-    let last : from + length recs ≡ k.number + 1 + length (drop flushed recs) = ends_count gate (begun_with k) (drop flushed recs) counters (from + length recs) lawful ends in
-    subst (OpensToRecords first all (from + flushed)) (sym alone) (
-      stretch_of first all (from + flushed) k.number (record_of k) (history_on d) begins.has has,
-      omega (arith, last, length-drop flushed recs, low),
-    )
+module _ (k : LastCheckpoint) (first : ℕ) (all recs : List Rec) (from kept flushed gate : ℕ) (counters : Option Counters) (images : Volume → Type 0) (keeps : Keeps first all recs (from + length recs) kept (from + flushed) images) where
+  -- an image that the checkpoint is in begins with it or before
+  pub begins_there : (d : Volume) → images d → IsReady gate (drop flushed recs) counters (from + length recs) d → MayBegin k gate (drop flushed recs) counters (from + length recs) d → HasFlushed first all k.number (from + flushed) d
+  begins_there d left ready begins =
+      let has : HasFlushed first all kept (from + flushed) d = keeps.each d left in
+      record {
+        opens = subst (OpensToRecords first all k.number (from + flushed)) (sym ready.opens)
+            (kept_to first all kept (from + flushed) k.number (record_of k) (history_on d) begins.has (subst (OpensToRecords first all kept (from + flushed)) ready.opens has.opens));
+        ends = has.ends;
+      }
+
+  pub forget_leaves : (d c : Volume) → are_lawful (drop flushed recs) ≡ true → flushed ≤ length recs → images d → IsReady gate (drop flushed recs) counters (from + length recs) d → MayBegin k gate (drop flushed recs) counters (from + length recs) d
+      → (opened c ≡ opened d) ⊎ (opened c ≡ Ok (record { history = Some (begun_with k); gate = gate })) → EndsWithin c → HasFlushed first all k.number (from + flushed) c
+  forget_leaves d c lawful low left ready begins (inl same) ends = record {
+    opens = subst (OpensToRecords first all k.number (from + flushed)) (sym same) (begins_there d left ready begins).opens;
+    ends = ends;
+  }
+  forget_leaves d c lawful low left ready begins (inr alone) ends_c =
+      let has : HasRecords first all kept (from + flushed) (history_on d) = subst (OpensToRecords first all kept (from + flushed)) ready.opens (keeps.each d left).opens in
+      let ends : end_with gate (Some (begun_with k)) (drop flushed recs) ≡ Some (record { counters = counters; next = from + length recs }) = ap (λ (h : Option History). end_with gate h (drop flushed recs)) (sym begins.alone) ∙ begins.ready.ends in
+      let last : from + length recs ≡ k.number + 1 + length (drop flushed recs) = ends_count gate (begun_with k) (drop flushed recs) counters (from + length recs) lawful ends in
+      record {
+        opens = subst (OpensToRecords first all k.number (from + flushed)) (sym alone) (
+          stretch_of first all kept (from + flushed) k.number (record_of k) (history_on d) begins.has has,
+          (omega arith, omega (arith, last, length-drop flushed recs, low)),
+        );
+        ends = ends_c;
+      }
 
 -- ---- what an append and a start leave
 
-one_more : (first : ℕ) (all : List Rec) (r : Rec) (flushed : ℕ) (h : Option History) → HasRecords first all flushed h → HasRecords first (all ++ r ∷ []) flushed h
-one_more first all r flushed None has = has
-one_more first all r flushed (Some h) has =
+one_more : (first : ℕ) (all : List Rec) (r : Rec) (kept flushed : ℕ) (h : Option History) → HasRecords first all kept flushed h → HasRecords first (all ++ r ∷ []) kept flushed h
+one_more first all r kept flushed None has = has
+one_more first all r kept flushed (Some h) has =
     let s : IsStretch first all h.first h.recs = has.0 in
     let whole : all ++ r ∷ [] ≡ s.before ++ (h.recs ++ (s.after ++ r ∷ [])) =
     ap (λ (l : List Rec). l ++ r ∷ []) s.split ∙ append_assoc s.before (h.recs ++ s.after) (r ∷ []) ∙ ap (λ (l : List Rec). s.before ++ l) (append_assoc h.recs s.after (r ∷ [])) in
     (record { before = s.before; after = s.after ++ r ∷ []; split = whole; place = s.place }, has.1)
 
-one_more_opened : (first : ℕ) (all : List Rec) (r : Rec) (flushed : ℕ) (o : Result Opened ℕ) → OpensToRecords first all flushed o → OpensToRecords first (all ++ r ∷ []) flushed o
-one_more_opened first all r flushed (Ok o) has = one_more first all r flushed o.history has
-one_more_opened first all r flushed (Err at) has = has
+one_more_opened : (first : ℕ) (all : List Rec) (r : Rec) (kept flushed : ℕ) (o : Result Opened ℕ) → OpensToRecords first all kept flushed o → OpensToRecords first (all ++ r ∷ []) kept flushed o
+one_more_opened first all r kept flushed (Ok o) has = one_more first all r kept flushed o.history has
+one_more_opened first all r kept flushed (Err at) has = has
 
-pub append_keeps : (first : ℕ) (all recs recs_2 : List Rec) (r : Rec) (next next_2 flushed : ℕ) (images : Volume → Type 0) → recs_2 ≡ recs ++ r ∷ [] → next_2 ≡ next + 1 → Keeps first all recs next flushed images → Keeps first (all ++ r ∷ []) recs_2 next_2 flushed images
-append_keeps first all recs recs_2 r next next_2 flushed images more one keeps = record {
+pub append_keeps : (first : ℕ) (all recs recs_2 : List Rec) (r : Rec) (next next_2 kept flushed : ℕ) (images : Volume → Type 0) → recs_2 ≡ recs ++ r ∷ [] → next_2 ≡ next + 1 → Keeps first all recs next kept flushed images
+    → Keeps first (all ++ r ∷ []) recs_2 next_2 kept flushed images
+append_keeps first all recs recs_2 r next next_2 kept flushed images more one keeps = record {
   earlier = keeps.earlier;
   whole = ap (λ (l : List Rec). l ++ r ∷ []) keeps.whole ∙ append_assoc keeps.earlier recs (r ∷ []) ∙ ap (λ (l : List Rec). keeps.earlier ++ l) (sym more);
   count = omega (arith, keeps.count, one, length-append all (r ∷ []));
-  each = λ c left. one_more_opened first all r flushed (opened c) (keeps.each c left);
+  each = λ c left. record { opens = one_more_opened first all r kept flushed (opened c) (keeps.each c left).opens; ends = (keeps.each c left).ends };
 }
 
-found_all : (first : ℕ) (recs : List Rec) (counters : Option Counters) (next : ℕ) (h : Option History) → h ≡ history_with first recs counters → next ≡ first + length recs → end_of h ≡ record { counters = counters; next = next } → HasRecords first recs next h
+found_all : (first : ℕ) (recs : List Rec) (counters : Option Counters) (next : ℕ) (h : Option History) → h ≡ history_with first recs counters → next ≡ first + length recs → end_of h ≡ record { counters = counters; next = next } → HasRecords first recs first next h
 found_all first recs None next h is last ends =
     let none : 0 ≡ next = sym (ap (λ (o : Option History). (end_of o).next) is) ∙ ap (λ (e : End). e.next) ends in
-    subst (HasRecords first recs next) (sym is) (omega (arith, none))
+    subst (HasRecords first recs first next) (sym is) (omega (arith, none), omega arith)
 found_all first recs (Some cs) next h is last ends =
-    subst (HasRecords first recs next) (sym is) (record { before = []; after = []; split = sym (append-nil recs); place = omega arith }, omega (arith, last))
+    subst (HasRecords first recs first next) (sym is) (record { before = []; after = []; split = sym (append-nil recs); place = omega arith }, (omega arith, omega (arith, last)))
 
 pub start_keeps : (first : ℕ) (recs none : List Rec) (counters : Option Counters) (gate next flushed : ℕ) (v : Volume) (images : Volume → Type 0) → none ≡ [] → next ≡ first + length recs → flushed ≡ next → ((c : Volume) → images c → c ≡ v)
-    → opened v ≡ Ok (record { history = history_with first recs counters; gate = gate }) → IsReady gate [] counters next v → Keeps first recs none next flushed images
+    → opened v ≡ Ok (record { history = history_with first recs counters; gate = gate }) → IsReady gate [] counters next v → Keeps first recs none next first flushed images
 start_keeps first recs none counters gate next flushed v images empty last all_of only opens ready =
-    let has : HasRecords first recs next (history_on v) = found_all first recs counters next (history_on v) (ap history_in opens) last (ends_none gate (history_on v) counters next ready.ends) in
-    let here : HasFlushed first recs next v = subst (OpensToRecords first recs next) (sym ready.opens) has in
+    let has : HasRecords first recs first next (history_on v) = found_all first recs counters next (history_on v) (ap history_in opens) last (ends_none gate (history_on v) counters next ready.ends) in
+    let here : HasFlushed first recs first next v = record { opens = subst (OpensToRecords first recs first next) (sym ready.opens) has; ends = ready_ends gate [] counters next v ready } in
     record {
       earlier = recs;
       whole = sym (append-nil recs) ∙ ap (λ (l : List Rec). recs ++ l) (sym empty);
       count = sym last;
-      each = λ c left. subst (λ (k : ℕ). HasFlushed first recs k c) (sym all_of) (subst (HasFlushed first recs next) (sym (only c left)) here);
+      each = λ c left. subst (λ (k : ℕ). HasFlushed first recs first k c) (sym all_of) (subst (HasFlushed first recs first next) (sym (only c left)) here);
     }

@@ -15,3 +15,5 @@ pub mod Begins
 pub mod GateWrites
 pub mod Keeping
 pub mod LastBatches
+pub mod Comings
+pub mod Spellings

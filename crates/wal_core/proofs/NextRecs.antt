@@ -1,15 +1,15 @@
 -- Which record may come next.
 use Rattle.std.proofs.Common.{◌≡◌, ◌⊎◌, inl, inr, ℕ, Bool, true, false, sym, subst}
 use Rattle.std.specs.Prelude.{IsTrue, IsNone, IsSome, IfSome, ◌↔◌, Option, Some, None, [], ◌∷◌}
-use Rattle.tx_model.specs.declared.record.Rec.{Rec}
-use Rattle.tx_model.specs.declared.record.Counters.{Counters}
-use Rattle.tx_model.specs.After.{after_record}
-use Rattle.tx_model.specs.Base.{IsBase}
+use Rattle.tx_events.specs.declared.record.Rec.{Rec}
+use Rattle.tx_events.specs.declared.record.Counters.{Counters}
+use Rattle.tx_events.specs.After.{after_record}
+use Rattle.tx_events.specs.Base.{IsBase}
 use Rattle.wal_core.specs.BaseTest.{is_base_of}
 use Rattle.wal_core.specs.Opening.{first_number, number_fits}
 use Rattle.wal_records.specs.Lawful.{is_lawful}
 use Rattle.wal_core.specs.Log.{counters_or_none, MayAppend}
-use Rattle.tx_model.proofs.ListSteps.{not_both}
+use Rattle.tx_events.proofs.ListSteps.{not_both}
 use Rattle.wal_records.proofs.LawfulTests.{lawful_if, lawful_passes}
 use Rattle.wal_core.proofs.Append.{after_is}
 use Rattle.wal_core.proofs.BaseTests.{base_passes}

@@ -174,7 +174,7 @@ last_goes_on before at rest after body left is e =
     ap (λ (l : List ℕ). (walk (length l + 1) l).bodies) is ∙ ap (λ (n : ℕ). (walk n (1 ∷ after)).bodies) fuel ∙ walk_batch after body left e in
     sym (ap (last_of before at) whole)
 
-walk_shut : (n : ℕ) (xs : List ℕ) → (BeginsOpen xs → ⊥) → walk n xs ≡ ended true
+pub walk_shut : (n : ℕ) (xs : List ℕ) → (BeginsOpen xs → ⊥) → walk n xs ≡ ended true
 unfolding walk
 walk_shut zero xs shut = refl
 walk_shut (suc n) [] shut = refl

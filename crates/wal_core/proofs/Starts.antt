@@ -4,8 +4,8 @@ use Rattle.std.proofs.lemmas.Bool.{ltb-false, cases_lt}
 use Rattle.std.specs.Prelude.{All, replicate}
 use Rattle.std.proofs.lemmas.List.Elements.{All-get_or}
 use Rattle.std.proofs.lemmas.List.{length-append, length-take, length-drop, length-replicate, drop_at, get_or_past}
-use Rattle.tx_model.specs.declared.record.Rec.{Rec}
-use Rattle.tx_model.specs.declared.record.Counters.{Counters}
+use Rattle.tx_events.specs.declared.record.Rec.{Rec}
+use Rattle.tx_events.specs.declared.record.Counters.{Counters}
 use Rattle.disk_core.specs.Volume.{Volume}
 use Rattle.wal_records.specs.Reading.{◌>>=◌, rec_at}
 use Rattle.wal_core.specs.Opening.{History, Opened, Walked, walked, next_number, may_follow, with_rec, joined, recs_in, recs_of, first_number, began, with_body, judged, batches_bytes, batch_bytes, is_new, opened_as, opened, AtRest, BeginsOpen, behind_gate}
@@ -18,7 +18,7 @@ use Rattle.wal_core.proofs.Walks.{walked_to, is_empty, opened_at, opened-at_rest
 
 -- ---- numbers
 
-under_test : (b : Bool) (p : Option History) (x : History) → cond b p None ≡ Some x → p ≡ Some x
+pub under_test : (b : Bool) (p : Option History) (x : History) → cond b p None ≡ Some x → p ≡ Some x
 under_test true p x e = e
 under_test false p x e = absurd cc
 
@@ -109,7 +109,7 @@ parts_as start w true k h gate whole e = record { judged_is = ap judged_of e; wh
     gate_of (Err at) = 0
 parts_as start w false k h gate whole e = absurd cc
 
-parts_by : (start : ℕ) (w : Walked) (r : Result (Option History) ℕ) (h : History) (gate : ℕ) → opened_as start w r ≡ opened_to h gate → Parts start w r h gate
+pub parts_by : (start : ℕ) (w : Walked) (r : Result (Option History) ℕ) (h : History) (gate : ℕ) → opened_as start w r ≡ opened_to h gate → Parts start w r h gate
 parts_by start w (Err at) h gate e = absurd cc
 parts_by start w (Ok None) h gate e = absurd cc
 parts_by start w (Ok (Some k)) h gate e = parts_as start w w.whole k h gate refl e

@@ -1,13 +1,13 @@
 -- The checkpoint before which a log can be forgotten.
 use Rattle.std.specs.Prelude.{◌≡◌, ◌⊎◌, ℕ, ◌-◌, ◌≤◌, nat_lt, cond, List, [], ◌∷◌, Option, Some, None, Ok}
 use Rattle.std.specs.List.{slice_get}
-use Rattle.tx_model.specs.declared.record.Rec.{Rec}
-use Rattle.tx_model.specs.declared.record.Rec.TheVariants as records
-use Rattle.tx_model.specs.declared.record.Counters.{Counters}
+use Rattle.tx_events.specs.declared.record.Rec.{Rec}
+use Rattle.tx_events.specs.declared.record.Rec.TheVariants as records
+use Rattle.tx_events.specs.declared.record.Counters.{Counters}
 use Rattle.disk_core.specs.Volume.{Volume}
 use Rattle.wal_core.specs.Opening.{History, recs_of, opened}
 use Rattle.wal_core.specs.LastBatch.{Batch}
-use Rattle.wal_core.specs.Log.{history_on, IsReady}
+use Rattle.wal_core.specs.Log.{history_on, IsReady, EndsWithin}
 use Rattle.wal_core.specs.declared.checkpoint.LastCheckpoint.{LastCheckpoint}
 
 -- The batch at this gate is a checkpoint alone, with the counters that the log has after it. Or it isn't.
@@ -44,6 +44,6 @@ pub record MayBegin (k : LastCheckpoint) (gate : ℕ) (pending : List Rec) (coun
   pub ready : IsReady gate pending counters next (kept_from k.gate v)
   pub alone : history_on (kept_from k.gate v) ≡ Some (begun_with k)
 
--- an image of before opens so, or the log begins with the checkpoint
+-- an image of before opens so, or the log begins with the checkpoint. The closed gate behind it is a byte of this volume
 abbrev pub OpensOrBegins : (Volume → Type 0) → LastCheckpoint → ℕ → Volume → Type 0
-OpensOrBegins images k gate c = (d : Volume) × images d × ((opened c ≡ opened d) ⊎ (opened c ≡ Ok (record { history = Some (begun_with k); gate = gate })))
+OpensOrBegins images k gate c = (d : Volume) × images d × (((opened c ≡ opened d) ⊎ (opened c ≡ Ok (record { history = Some (begun_with k); gate = gate }))) × EndsWithin c)

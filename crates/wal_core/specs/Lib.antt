@@ -8,3 +8,5 @@ pub mod Kept
 pub mod LogViews
 pub mod Past
 pub mod Contents
+pub mod Spelled
+pub mod Laws

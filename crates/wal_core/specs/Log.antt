@@ -1,10 +1,10 @@
 -- The state of a log over a disk.
 use Rattle.std.specs.Prelude.{◌≡◌, ◌≢◌, ◌⊎◌, ℕ, ◌+◌, ◌<◌, ◌≤◌, ◌^◌, IsTrue, ◌-◌, List, [], ◌∷◌, ◌++◌, take, drop, remove, slice_index, length, Option, Some, None, Result, Ok, Err, IsNone, IsSome, IfOk}
 use Rattle.std.specs.List.{flat_map}
-use Rattle.tx_model.specs.declared.record.Rec.{Rec}
-use Rattle.tx_model.specs.declared.record.Counters.{Counters}
-use Rattle.tx_model.specs.After.{after_record}
-use Rattle.tx_model.specs.Base.{IsBase}
+use Rattle.tx_events.specs.declared.record.Rec.{Rec}
+use Rattle.tx_events.specs.declared.record.Counters.{Counters}
+use Rattle.tx_events.specs.After.{after_record}
+use Rattle.tx_events.specs.Base.{IsBase}
 use Rattle.disk_core.specs.Volume.{Volume}
 use Rattle.wal_records.specs.Numbers.{le_bytes}
 use Rattle.wal_records.specs.Spelling.{rec_bytes, IsLawful}
@@ -55,23 +55,27 @@ with_more behind more = le_bytes 4 (length (behind ++ more) - 5) ++ drop 4 (remo
 
 -- ---- what a crash leaves
 
+-- where the volume opens to a history, the closed gate behind it is a byte of the volume
+abbrev pub EndsWithin : Volume → Type 0
+EndsWithin v = IfOk (opened v) (λ o. IsSome o.history → o.gate < length v.bytes)
+
 -- a volume that opens as v does, or with these records more
 abbrev pub OpensBeforeOrAfter : Volume → ℕ → List Rec → Volume → Type 0
 OpensBeforeOrAfter v gate pending c =
     (opened c ≡ opened v)
     ⊎ (opened c ≡ Ok (record { history = with_body gate (history_on v) (bytes_of pending); gate = gate + (5 + length (bytes_of pending)) }))
 
--- an image of before opens so, or with these records more
+-- an image of before opens so, or with these records more, and the closed gate behind them is a byte of this volume
 abbrev pub OpensFromImage : (Volume → Type 0) → ℕ → List Rec → Volume → Type 0
-OpensFromImage images gate pending c = (d : Volume) × images d × OpensBeforeOrAfter d gate pending c
+OpensFromImage images gate pending c = (d : Volume) × images d × (OpensBeforeOrAfter d gate pending c × EndsWithin c)
+
+-- a volume that opens as v does. Where v has its closed gate within, this one has
+abbrev pub OpensAs : Volume → Volume → Type 0
+OpensAs v c = (opened c ≡ opened v) × (EndsWithin v → EndsWithin c)
 
 -- an image of before opens so
 abbrev pub OpensAsBefore : (Volume → Type 0) → Volume → Type 0
-OpensAsBefore images c = (d : Volume) × images d × (opened c ≡ opened d)
-
--- a disk as `start` finds it, whose last closed gate lies within the volume
-abbrev pub EndsWithin : Volume → Type 0
-EndsWithin v = IfOk (opened v) (λ o. IsSome o.history → o.gate < length v.bytes)
+OpensAsBefore images c = (d : Volume) × images d × OpensAs d c
 
 -- ---- what may be appended
 

@@ -1,7 +1,7 @@
 -- What the calls of a log speak of.
 use Rattle.std.specs.Prelude.{ℕ, ◌+◌, List, length, drop, Option}
-use Rattle.tx_model.specs.declared.record.Rec.{Rec}
-use Rattle.tx_model.specs.declared.record.Counters.{Counters}
+use Rattle.tx_events.specs.declared.record.Rec.{Rec}
+use Rattle.tx_events.specs.declared.record.Counters.{Counters}
 use Rattle.disk_core.specs.Volume.{Volume}
 use Rattle.disk_core.specs.declared.log_disk.LogDisk.{Ghosts}
 use Rattle.wal_core.specs.declared.checkpoint.LastCheckpoint.{LastCheckpoint}
@@ -48,7 +48,11 @@ module _ {D : Type 0} {g : Ghosts D} where
   abbrev pub log_checkpoint : WalLog D g → Option LastCheckpoint
   log_checkpoint log = log.checkpoint
 
+  -- the number that the first record of no image is past
+  abbrev pub log_first : WalLog D g → ℕ
+  log_first log = log.first
+
   -- The list is that of all records of the log, numbered from `first` on, and each crash leaves records of it from the
-  -- first retained one on, up to one that is at least the flushed number.
+  -- first retained one on, which isn't past `log_first`, up to one that is at least the flushed number.
   abbrev pub KeepsAll : ℕ → List Rec → (D → Volume → Type 0) → WalLog D g → Type 0
-  KeepsAll first all images log = Keeps first all (log_recs log) (log_next log) (log_flushed log) (images log.disk)
+  KeepsAll first all images log = Keeps first all (log_recs log) (log_next log) (log_first log) (log_flushed log) (images log.disk)

@@ -1,7 +1,7 @@
 -- What was read of a log so far, as a history.
 use Rattle.std.specs.Prelude.{◌≡◌, ℕ, nat_lt, cond, List, [], ◌∷◌, Option, Some, None, Result, Ok, Err}
-use Rattle.tx_model.specs.declared.record.Rec.{Rec}
-use Rattle.tx_model.specs.declared.record.Counters.{Counters}
+use Rattle.tx_events.specs.declared.record.Rec.{Rec}
+use Rattle.tx_events.specs.declared.record.Counters.{Counters}
 use Rattle.wal_records.specs.declared.stop.Stop.{Stop}
 use Rattle.wal_core.specs.declared.past.Past.{Past}
 use Rattle.wal_records.specs.Reading.{◌>>=◌, Stops}

@@ -1,7 +1,7 @@
 // The bytes of a record more, before they are written.
 ghost use Rattle.std.specs.Prelude.{◌≡◌, ◌⊎◌, ◌↔◌, ◌+◌, ◌-◌, ◌<◌, ◌≤◌, ◌^◌, ◌++◌, ◌∷◌, [], ℕ, length, drop, remove, IsTrue, IsNone, IsSome, OnOk, OnErr, Some};
-ghost use Rattle.tx_model.specs.After.{after_record};
-ghost use Rattle.tx_model.specs.Base.{IsBase};
+ghost use Rattle.tx_events.specs.After.{after_record};
+ghost use Rattle.tx_events.specs.Base.{IsBase};
 ghost use Rattle.wal_records.specs.Numbers.{le_bytes};
 ghost use Rattle.wal_core.specs.Opening.{first_number};
 ghost use Rattle.wal_records.specs.Spelling.{rec_bytes, HasCounts};
@@ -9,7 +9,7 @@ ghost use Rattle.wal_core.specs.Log.{counters_or_none, with_more, IsFull};
 
 use crate::next_rec::counters_then;
 use byteorder::{ByteOrder, LittleEndian};
-use tx_model::{Copied, Counters, Memory, Rec, RecList};
+use tx_events::{Copied, Counters, Memory, Rec, RecList};
 use wal_records::write_rec;
 
 // Whether the log would pass its greatest length, or the batch its own.

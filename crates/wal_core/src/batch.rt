@@ -1,5 +1,5 @@
 // The device calls of a flush.
-ghost use Rattle.std.specs.Prelude.{◌≡◌, ◌+◌, ◌<◌, ◌^◌, ◌++◌, ◌∷◌, [], ℕ, length, IsTrue, OnOk};
+ghost use Rattle.std.specs.Prelude.{◌≡◌, ◌+◌, ◌<◌, ◌^◌, ◌++◌, ◌∷◌, [], ℕ, length, slice_index, IsTrue, OnOk};
 ghost use Rattle.disk_core.specs.Faults.{CountsFault};
 ghost use Rattle.disk_core.specs.Images.{Only, LeavesOnly};
 ghost use Rattle.disk_core.specs.Volume.{Volume};
@@ -15,6 +15,7 @@ pub(crate) fn write_batch<D: LogDisk>(disk: &mut D, gate: u64, behind: &[u8]) ->
     requires at_rest { IsTrue D.tells → (c : Volume) → D.images disk.old c → AtRest c (walked c).bodies gate }
 
     ensures written { IsTrue D.tells → OnOk result (AtRest (D.reads disk.new) ((walked (D.reads disk.old)).bodies ++ body_in behind.now ∷ []) (gate + length behind.now)) }
+    ensures closed { IsTrue D.tells → OnOk result (slice_index (D.reads disk.new).bytes (gate + length behind.now) ≡ 0) }
     ensures synced { IsTrue D.tells → OnOk result (Only (D.reads disk.new) (D.images disk.new)) }
 
     // A crash at any moment, and one after it, leaves the batches of an image from before, with the new one or without.

@@ -2,7 +2,7 @@
 ghost use Rattle.std.specs.Prelude.{◌≡◌};
 ghost use Rattle.wal_core.specs.Checkpoint.{IsLastCheckpoint};
 
-use tx_model::{Counters, Rec};
+use tx_events::{Counters, Rec};
 
 /// A checkpoint that is alone in the last batch of a log, and whose counters were those of the log: a log that begins
 /// with it has the same counters.

@@ -5,7 +5,7 @@ ghost use Rattle.disk_core.specs.Images.{Only, NoMore, LeavesOnly};
 ghost use Rattle.disk_core.specs.Volume.{Volume};
 ghost use Rattle.wal_core.specs.declared.refusal.LogRefusal.TheVariants.{Damaged, LogFault, LogDown, Full};
 ghost use Rattle.wal_core.specs.Opening.{opened, BeginsOpen};
-ghost use Rattle.wal_core.specs.Contents.{history_of};
+ghost use Rattle.wal_core.specs.Contents.{history_of, ComesTo};
 ghost use Rattle.wal_core.specs.Log.{GoesOn};
 ghost use Rattle.wal_core.specs.LastBatch.{last_batch};
 ghost use Rattle.wal_core.specs.Checkpoint.{IsCheckpointIn};
@@ -15,7 +15,7 @@ use crate::refusal::LogRefusal;
 use crate::scan::{Found, behind_open, scan};
 use disk_core::{Extent, Failed, LogDisk};
 use std::alloc::{AllocError, Global};
-use tx_model::{Counters, RecList};
+use tx_events::{Counters, RecList};
 
 /// The records of a log volume, the number of the first, the counters after them, the place of the next gate, the
 /// checkpoint that the last batch may be, and from where on the volume has bytes and how far they reach. A new log has
@@ -36,6 +36,7 @@ fn no_records(alloc: Global, extent: Extent) -> LogContents
     ensures gate { result.gate ≡ 0 }
     ensures none { (result.counters ≡ None) × (result.first + length result.recs ≡ 0) }
     ensures checkpoint { result.checkpoint ≡ None }
+    ensures comes { ComesTo result.first result.recs result.counters }
     ensures reach { result.length ≡ extent.length }
     ensures start { result.start ≡ extent.start }
 {
@@ -103,6 +104,7 @@ fn contents(alloc: Global, extent: Extent, bytes: &[u8]) -> Result<LogContents, 
     ensures goes_on { (v : Volume) → v.start ≡ extent.start → drop v.start v.bytes ≡ bytes.now → IfOk result (λ found. GoesOn found.gate found.counters (found.first + length found.recs) v) }
     ensures numbers { IfOk result (λ found. found.first + length found.recs ≤ found.gate) }
     ensures place { IfOk result (λ found. found.gate < 2 ^ 64) }
+    ensures comes { IfOk result (λ found. ComesTo found.first found.recs found.counters) }
     ensures reach { IfOk result (λ found. found.length ≡ extent.length) }
     ensures start { IfOk result (λ found. found.start ≡ extent.start) }
     ensures found { (v : Volume) → v.start ≡ extent.start → drop v.start v.bytes ≡ bytes.now → IfOk result (λ found. opened v ≡ Ok (record { history = history_of found; gate = found.gate })) }
@@ -144,6 +146,7 @@ fn read_extent<D: LogDisk>(
     ensures goes_on { IsTrue D.tells → IfOk result (λ found. GoesOn found.gate found.counters (found.first + length found.recs) (D.reads disk.old)) }
     ensures numbers { IfOk result (λ found. found.first + length found.recs ≤ found.gate) }
     ensures place { IfOk result (λ found. found.gate < 2 ^ 64) }
+    ensures comes { IfOk result (λ found. ComesTo found.first found.recs found.counters) }
     ensures reach { IsTrue D.tells → IfOk result (λ found. found.length ≡ length (D.reads disk.old).bytes) }
     ensures begins { IsTrue D.tells → IfOk result (λ found. found.start ≡ (D.reads disk.old).start) }
     ensures last { IsTrue D.tells → IfOk result (λ found. IsCheckpointIn (last_batch (D.reads disk.old)) found.counters found.checkpoint) }
@@ -171,6 +174,7 @@ pub fn read_log<D: LogDisk>(alloc: Global, disk: &mut D) -> Result<LogContents, 
     ensures goes_on { IsTrue D.tells → IfOk result (λ found. GoesOn found.gate found.counters (found.first + length found.recs) (D.reads disk.old)) }
     ensures numbers { IfOk result (λ found. found.first + length found.recs ≤ found.gate) }
     ensures place { IfOk result (λ found. found.gate < 2 ^ 64) }
+    ensures comes { IfOk result (λ found. ComesTo found.first found.recs found.counters) }
     ensures reach { IsTrue D.tells → IfOk result (λ found. found.length ≡ length (D.reads disk.old).bytes) }
     ensures begins { IsTrue D.tells → IfOk result (λ found. found.start ≡ (D.reads disk.old).start) }
     ensures last { IsTrue D.tells → IfOk result (λ found. IsCheckpointIn (last_batch (D.reads disk.old)) found.counters found.checkpoint) }

@@ -1,11 +1,11 @@
 // The counters after a record more. Numbers from a hostile log never overflow.
 ghost use Rattle.std.specs.Prelude.{◌≡◌, ◌⊎◌, ◌+◌, ◌<◌, ◌≤◌, ◌^◌, ◌∷◌, ℕ, length, max, false, IsNone, IfSome};
 ghost use Rattle.xid_order.specs.Ids.{next_id, next_multi};
-ghost use Rattle.tx_model.specs.After.{past_ids, ids_of, after_record};
-ghost use Rattle.tx_model.specs.declared.record.Rec.TheVariants as records;
+ghost use Rattle.tx_events.specs.After.{past_ids, ids_of, after_record};
+ghost use Rattle.tx_events.specs.declared.record.Rec.TheVariants as records;
 ghost use Rattle.wal_core.specs.BaseTest.{is_base_of};
 
-use tx_model::{Counters, Member, Rec};
+use tx_events::{Counters, Member, Rec};
 use xid_order::{FullMulti, FullXid};
 
 // The id after one. None where that is past every base.

@@ -8,7 +8,7 @@ use disk_core::{
 };
 use std::alloc::Global;
 use std::test::Fail;
-use tx_model::{Counters, IdList, Member, MemberList, Mode, Rec};
+use tx_events::{Counters, IdList, Member, MemberList, Mode, Rec};
 use xid_order::FullXid;
 
 const HOWS: [Crash; 3] = [Crash::Lost, Crash::Kept, Crash::Torn];

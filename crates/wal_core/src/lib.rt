@@ -6,6 +6,7 @@ mod batch;
 mod checkpoint;
 mod contents;
 mod counters;
+pub mod laws;
 mod next_rec;
 mod past;
 mod refusal;

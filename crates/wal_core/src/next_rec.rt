@@ -1,13 +1,13 @@
 // Which record may come next.
 ghost use Rattle.std.specs.Prelude.{◌≡◌, ◌⊎◌, ◌↔◌, ◌^◌, ◌&&◌, ◌∷◌, [], length, nat_lt, IsTrue, IsNone, IsSome, IfSome, false};
-ghost use Rattle.tx_model.specs.declared.record.Rec.TheVariants as records;
-ghost use Rattle.tx_model.specs.After.{after_record};
+ghost use Rattle.tx_events.specs.declared.record.Rec.TheVariants as records;
+ghost use Rattle.tx_events.specs.After.{after_record};
 ghost use Rattle.wal_core.specs.BaseTest.{is_base_of};
 ghost use Rattle.wal_core.specs.Opening.{first_number, number_fits};
 ghost use Rattle.wal_core.specs.Log.{counters_or_none, MayAppend};
 
 use crate::counters::counters_after;
-use tx_model::{Counters, Rec, is_base};
+use tx_events::{Counters, Rec, is_base};
 use wal_records::is_lawful;
 
 fn carries_number(number: u64, rec: &Rec) -> bool

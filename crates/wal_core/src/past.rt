@@ -5,7 +5,7 @@ ghost use Rattle.wal_core.specs.Past.{past_history, history_so_far, begun, joins
 
 use crate::counters::counters_after;
 use std::alloc::Global;
-use tx_model::{Counters, Memory, Rec, RecList, is_base};
+use tx_events::{Counters, Memory, Rec, RecList, is_base};
 use wal_records::{Stop, take_rec};
 
 #[derive(Drop)]

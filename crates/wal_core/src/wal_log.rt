@@ -14,7 +14,7 @@ use crate::checkpoint::{LastCheckpoint, checkpoint_of};
 use crate::next_rec::may_come_next;
 use crate::refusal::LogRefusal;
 use disk_core::{Failed, LogDisk};
-use tx_model::{Counters, Rec, RecList};
+use tx_events::{Counters, Rec, RecList};
 use wal_records::rec_length;
 
 /// The log of a volume (after `src/backend/access/transam/xlog.c`): records in batches.
@@ -23,6 +23,8 @@ pub struct WalLog<D: LogDisk> {
     pub(crate) disk: D,
     // The place of the first gate that the volume keeps.
     pub(crate) start: u64,
+    // No image begins past the record of this number.
+    pub(crate) first: u64,
     // The place of the next gate.
     pub(crate) gate: u64,
     // What is written behind it: a length, the pending records, and the gate after them.
@@ -70,8 +72,8 @@ fn put_down(down: &mut Option<u64>, flushed: u64) -> LogRefusal
 }
 
 impl<D: LogDisk> WalLog<D> {
-    ghost use Rattle.std.specs.Prelude.{◌≡◌, ◌≢◌, ◌↔◌, ◌+◌, ◌≤◌, ◌++◌, ◌∷◌, [], ℕ, List, length, IsTrue, IsSome, IfSome, IfOk, OnOk, OnErr, Option, None, Some, Ok, Err};
-    ghost use Rattle.tx_model.specs.After.{after_record};
+    ghost use Rattle.std.specs.Prelude.{◌≡◌, ◌≢◌, ◌↔◌, ◌+◌, ◌≤◌, ◌++◌, ◌∷◌, [], ℕ, List, length, slice_index, IsTrue, IsSome, IsNone, IfSome, IfOk, OnOk, OnErr, Option, None, Some, Ok, Err};
+    ghost use Rattle.tx_events.specs.After.{after_record};
     ghost use Rattle.disk_core.specs.Faults.{HasRisen};
     ghost use Rattle.disk_core.specs.Images.{LeavesOnly, NoMore};
     ghost use Rattle.disk_core.specs.Volume.{Volume, IsRead};
@@ -80,9 +82,9 @@ impl<D: LogDisk> WalLog<D> {
     ghost use Rattle.wal_records.specs.Spelling.{rec_bytes};
     ghost use Rattle.wal_core.specs.Checkpoint.{IsLastCheckpoint, OpensOrBegins};
     ghost use Rattle.wal_core.specs.declared.checkpoint.LastCheckpoint.{LastCheckpoint};
-    ghost use Rattle.wal_core.specs.LogViews.{log_disk, log_recs, log_pending, log_next, log_flushed, log_end, log_counters, log_down, log_start, log_checkpoint, KeepsAll};
+    ghost use Rattle.wal_core.specs.LogViews.{log_disk, log_recs, log_pending, log_next, log_flushed, log_end, log_counters, log_down, log_start, log_first, log_checkpoint, KeepsAll};
     ghost use Rattle.wal_core.specs.Kept.{HasFlushed};
-    ghost use Rattle.tx_model.specs.declared.record.Rec.{Rec};
+    ghost use Rattle.tx_events.specs.declared.record.Rec.{Rec};
 
     /// Whether the record may be appended: it is lawful, a checkpoint has the number `next()`, the first record of a new
     /// log is a checkpoint, and the counters after it are a base.
@@ -108,6 +110,7 @@ impl<D: LogDisk> WalLog<D> {
         ensures disk { log_disk self.new ≡ log_disk self.old }
         ensures checkpoint { log_checkpoint self.new ≡ log_checkpoint self.old }
         ensures start { log_start self.new ≡ log_start self.old }
+        ensures first { log_first self.new ≡ log_first self.old }
         ensures stays { log_down self.new ≡ log_down self.old }
         ensures down { (at : ℕ) → result ≡ Err (LogDown at) → log_down self.old ≡ Some at }
         ensures is_down { (at : ℕ) → log_down self.old ≡ Some at → result ≡ Err (LogDown at) }
@@ -146,15 +149,25 @@ impl<D: LogDisk> WalLog<D> {
         ensures err { OnErr result (log_flushed self.new ≡ log_flushed self.old) }
         ensures no_call { log_pending self.old ≡ [] → (log_disk self.new ≡ log_disk self.old) × (result ≢ Err LogFault) }
         ensures start { log_start self.new ≡ log_start self.old }
+        ensures first { log_first self.new ≡ log_first self.old }
+
+        // The end is behind the batch, where one was written, and else stays.
+        ensures end { OnOk result (log_pending self.old ≢ [] → log_end self.new ≡ log_end self.old + 5 + length (bytes_of (log_pending self.old))) }
+        ensures same_end { OnOk result (log_pending self.old ≡ [] → log_end self.new ≡ log_end self.old) }
+        ensures err_end { OnErr result (log_end self.new ≡ log_end self.old) }
+        // The closed gate behind it is a byte 0.
+        ensures closed { IsTrue D.tells → OnOk result (log_pending self.old ≢ [] → slice_index (D.reads (log_disk self.new)).bytes (log_end self.new) ≡ 0) }
 
         // A checkpoint alone, with the counters of the log, may stand first from then on.
         ensures checkpoint { OnOk result (log_pending self.old ≢ [] → IsLastCheckpoint (log_end self.old) (log_pending self.old) (log_counters self.old) (log_checkpoint self.new)) }
         ensures no_batch { OnOk result (log_pending self.old ≡ [] → log_checkpoint self.new ≡ log_checkpoint self.old) }
+        ensures err_checkpoint { OnErr result (log_checkpoint self.new ≡ log_checkpoint self.old) }
 
         ensures down { (at : ℕ) → result ≡ Err (LogDown at) → log_down self.old ≡ Some at }
         ensures is_down { (at : ℕ) → log_down self.old ≡ Some at → result ≡ Err (LogDown at) }
         ensures no_other { (result ≢ Err Full) × (result ≢ Err Memory) × ((at : ℕ) → result ≢ Err (Damaged at)) }
         ensures fault { result ≡ Err LogFault → HasRisen (D.faults (log_disk self.old)) (D.faults (log_disk self.new)) }
+        ensures faults { D.faults (log_disk self.old) ≤ D.faults (log_disk self.new) }
         ensures put_down { result ≡ Err LogFault → log_down self.new ≡ Some (log_flushed self.old) }
         ensures stays { result ≢ Err LogFault → log_down self.new ≡ log_down self.old }
 
@@ -168,7 +181,7 @@ impl<D: LogDisk> WalLog<D> {
         // The promise over the whole list of records: kept by the call, and at each moment of it.
         ensures keeps { IsTrue D.tells → (first : ℕ) (all : List Rec) → KeepsAll first all D.images self.old → KeepsAll first all D.images self.new }
         ensures keeps_at_each_moment { IsTrue D.tells → (first : ℕ) (all : List Rec) → KeepsAll first all D.images self.old
-            → LeavesOnly D.moment D.left_at (log_disk self.old) (log_disk self.new) (HasFlushed first all (log_flushed self.old)) }
+            → LeavesOnly D.moment D.left_at (log_disk self.old) (log_disk self.new) (HasFlushed first all (log_first self.old) (log_flushed self.old)) }
     {
         if let Some(at) = self.down {
             return Err(LogRefusal::LogDown { at });
@@ -209,11 +222,15 @@ impl<D: LogDisk> WalLog<D> {
         ensures checkpoint { log_checkpoint self.new ≡ log_checkpoint self.old }
         ensures ok { OnOk result (IfSome (log_checkpoint self.old) (λ k. log_start self.new ≡ k.gate)) }
         ensures err { OnErr result (log_start self.new ≡ log_start self.old) }
+        // From then on an image begins with the checkpoint, or before it where the start wasn't raised.
+        ensures first { ((at : ℕ) → result ≢ Err (LogDown at)) → IfSome (log_checkpoint self.old) (λ k. log_first self.new ≡ k.number) }
+        ensures first_down { (at : ℕ) → result ≡ Err (LogDown at) → log_first self.new ≡ log_first self.old }
         ensures no_call { IfSome (log_checkpoint self.old) (λ k. log_start self.old ≡ k.gate → (log_disk self.new ≡ log_disk self.old) × (result ≢ Err LogFault)) }
         ensures down { (at : ℕ) → result ≡ Err (LogDown at) → log_down self.old ≡ Some at }
         ensures is_down { (at : ℕ) → log_down self.old ≡ Some at → result ≡ Err (LogDown at) }
         ensures no_other { (result ≢ Err Full) × (result ≢ Err Memory) × ((at : ℕ) → result ≢ Err (Damaged at)) }
         ensures fault { result ≡ Err LogFault → HasRisen (D.faults (log_disk self.old)) (D.faults (log_disk self.new)) }
+        ensures faults { D.faults (log_disk self.old) ≤ D.faults (log_disk self.new) }
         ensures put_down { result ≡ Err LogFault → log_down self.new ≡ Some (log_flushed self.old) }
         ensures stays { result ≢ Err LogFault → log_down self.new ≡ log_down self.old }
 
@@ -230,12 +247,14 @@ impl<D: LogDisk> WalLog<D> {
         // The promise over the whole list of records: kept by the call, and at each moment of it.
         ensures keeps { IsTrue D.tells → (first : ℕ) (all : List Rec) → KeepsAll first all D.images self.old → KeepsAll first all D.images self.new }
         ensures keeps_at_each_moment { IsTrue D.tells → (first : ℕ) (all : List Rec) → KeepsAll first all D.images self.old
-            → LeavesOnly D.moment D.left_at (log_disk self.old) (log_disk self.new) (HasFlushed first all (log_flushed self.old)) }
+            → LeavesOnly D.moment D.left_at (log_disk self.old) (log_disk self.new) (HasFlushed first all (log_first self.new) (log_flushed self.old)) }
     {
         if let Some(at) = self.down {
             return Err(LogRefusal::LogDown { at });
         }
-        let gate = self.checkpoint.unwrap().gate;
+        let checkpoint = self.checkpoint.unwrap();
+        let gate = checkpoint.gate;
+        self.first = checkpoint.number;
         if self.start == gate {
             return Ok(());
         }
@@ -261,13 +280,15 @@ impl<D: LogDisk> WalLog<D> {
         ensures end { log_end self.new ≡ log_end self.old }
         ensures counters { log_counters self.new ≡ log_counters self.old }
         ensures start { log_start self.new ≡ log_start self.old }
+        ensures first { log_first self.new ≡ log_first self.old }
         ensures checkpoint { log_checkpoint self.new ≡ log_checkpoint self.old }
         ensures stays { log_down self.new ≡ log_down self.old }
         ensures any_moment { IsTrue D.tells → LeavesOnly D.moment D.left_at (log_disk self.old) (log_disk self.new) (D.images (log_disk self.old)) }
         ensures keeps { IsTrue D.tells → (first : ℕ) (all : List Rec) → KeepsAll first all D.images self.old → KeepsAll first all D.images self.new }
         ensures keeps_at_each_moment { IsTrue D.tells → (first : ℕ) (all : List Rec) → KeepsAll first all D.images self.old
-            → LeavesOnly D.moment D.left_at (log_disk self.old) (log_disk self.new) (HasFlushed first all (log_flushed self.old)) }
+            → LeavesOnly D.moment D.left_at (log_disk self.old) (log_disk self.new) (HasFlushed first all (log_first self.old) (log_flushed self.old)) }
         ensures fault { OnErr result ((result ≡ Err LogFault) × HasRisen (D.faults (log_disk self.old)) (D.faults (log_disk self.new))) }
+        ensures faults { D.faults (log_disk self.old) ≤ D.faults (log_disk self.new) }
     {
         match self.disk.read(at, into) {
             Ok(read) => Ok(read),
@@ -309,6 +330,13 @@ impl<D: LogDisk> WalLog<D> {
         ensures { log_counters self.now ≡ Some result }
     {
         self.counters.unwrap()
+    }
+
+    /// Whether the log has no record, on the disk or pending.
+    pub fn is_new(&self) -> bool
+        ensures { IsTrue result ↔ IsNone (log_counters self.now) }
+    {
+        self.counters.is_none()
     }
 
     /// The disk, as the log leaves it.

@@ -4,9 +4,9 @@ use Rattle.std.specs.Prelude.{IsTrue, ◌↔◌}
 use Rattle.std.specs.List.{AllByRecursion}
 use Rattle.std.proofs.lemmas.List.{drop_more}
 use Rattle.std.proofs.lemmas.Bool.{leb-true, le-leb, ltb-true, lt-ltb, le-ltb, and_parts, and_from}
-use Rattle.tx_model.specs.declared.record.Rec.{Rec}
-use Rattle.tx_model.specs.declared.record.Rec.TheVariants as records
-use Rattle.tx_model.specs.declared.multi.Member.{Member}
+use Rattle.tx_events.specs.declared.record.Rec.{Rec}
+use Rattle.tx_events.specs.declared.record.Rec.TheVariants as records
+use Rattle.tx_events.specs.declared.multi.Member.{Member}
 use Rattle.wal_records.specs.Spelling.{IsLawful, AscendsFrom, IsId, IsMulti, HasCounts}
 use Rattle.wal_records.specs.Lawful.{is_id, is_multi, ascend_from, all_ids, is_lawful, are_lawful}
 

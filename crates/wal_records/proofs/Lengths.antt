@@ -2,8 +2,8 @@
 use Rattle.std.proofs.Common.{◌≡◌, ℕ, ◌+◌, ◌*◌, List, [], ◌∷◌, ◌++◌, length, refl, arith}
 use Rattle.std.specs.List.{flat_map}
 use Rattle.std.proofs.lemmas.List.{length-append}
-use Rattle.tx_model.specs.declared.record.Counters.{Counters}
-use Rattle.tx_model.specs.declared.multi.Member.{Member}
+use Rattle.tx_events.specs.declared.record.Counters.{Counters}
+use Rattle.tx_events.specs.declared.multi.Member.{Member}
 use Rattle.wal_records.specs.Numbers.{le_bytes}
 use Rattle.wal_records.specs.Spelling.{tree_bytes, multi_bytes, member_bytes, counters_bytes, truncate_bytes}
 use Rattle.wal_records.proofs.Fields.{length-le_bytes}

@@ -2,7 +2,7 @@
 use Rattle.std.proofs.Common.{◌≡◌, ℕ, suc, ◌-◌, ◌+◌, ◌≤◌, ◌<◌, List, [], ◌∷◌, ◌++◌, Option, Some, None, true, false, ltb, refl, sym, ap, ◌∙◌, append_assoc, arith}
 use Rattle.std.proofs.lemmas.List.{append-nil}
 use Rattle.std.proofs.lemmas.Bool.{lt-ltb, le-ltb}
-use Rattle.tx_model.specs.declared.multi.Member.{Member}
+use Rattle.tx_events.specs.declared.multi.Member.{Member}
 use Rattle.wal_records.specs.declared.stop.Stop.{Stop}
 use Rattle.wal_records.specs.declared.stop.Stop.TheVariants as stops
 use Rattle.wal_records.specs.Reading.{◌>>=◌, Stops, id_at, ids_at, member_at, members_at}

@@ -1,7 +1,7 @@
 -- From what `rec_at` gives to what `read_rec` promises.
 use Rattle.std.proofs.Common.{◌≡◌, ℕ, ◌+◌, ◌-◌, ◌≤◌, List, ◌++◌, length, take, Some, None, sym, ap, ◌∙◌, arith}
 use Rattle.std.proofs.lemmas.List.{take_at, length-append}
-use Rattle.tx_model.specs.declared.record.Rec.{Rec}
+use Rattle.tx_events.specs.declared.record.Rec.{Rec}
 use Rattle.wal_records.specs.Spelling.{rec_bytes, IsLawful}
 use Rattle.wal_records.specs.ReadRec.{IsRecordAt}
 use Rattle.wal_records.specs.Reading.{rec_at}

@@ -1,9 +1,9 @@
 -- Lawful records, as a test.
 use Rattle.std.specs.Prelude.{ℕ, ◌^◌, ◌&&◌, Bool, true, List, [], ◌∷◌, length, nat_le, nat_lt}
 use Rattle.xid_order.specs.Ids.{low_half}
-use Rattle.tx_model.specs.declared.record.Rec.{Rec}
-use Rattle.tx_model.specs.declared.record.Rec.TheVariants as records
-use Rattle.tx_model.specs.declared.multi.Member.{Member}
+use Rattle.tx_events.specs.declared.record.Rec.{Rec}
+use Rattle.tx_events.specs.declared.record.Rec.TheVariants as records
+use Rattle.tx_events.specs.declared.multi.Member.{Member}
 
 abbrev pub is_id : ℕ → Bool
 is_id n = nat_le 3 (low_half n) && nat_lt n (2 ^ 64)

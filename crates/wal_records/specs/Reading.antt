@@ -1,12 +1,12 @@
 -- Reading a record from left to right. There is none where the bytes don't begin with a lawful one.
 use Rattle.std.specs.Prelude.{◌≡◌, ℕ, zero, suc, List, [], ◌∷◌, length, take, drop, Option, Some, None, Result, Ok, Err, nat_lt, if◌then◌else◌}
 use Rattle.xid_order.specs.Ids.{low_half}
-use Rattle.tx_model.specs.declared.multi.Mode.{Mode}
-use Rattle.tx_model.specs.declared.multi.Mode.TheVariants.{KeySh, Sh, ForNoKeyUpd, ForUpd, NoKeyUpd, Upd}
-use Rattle.tx_model.specs.declared.multi.Member.{Member}
-use Rattle.tx_model.specs.declared.record.Counters.{Counters}
-use Rattle.tx_model.specs.declared.record.Rec.{Rec}
-use Rattle.tx_model.specs.declared.record.Rec.TheVariants as records
+use Rattle.tx_events.specs.declared.multi.Mode.{Mode}
+use Rattle.tx_events.specs.declared.multi.Mode.TheVariants.{KeySh, Sh, ForNoKeyUpd, ForUpd, NoKeyUpd, Upd}
+use Rattle.tx_events.specs.declared.multi.Member.{Member}
+use Rattle.tx_events.specs.declared.record.Counters.{Counters}
+use Rattle.tx_events.specs.declared.record.Rec.{Rec}
+use Rattle.tx_events.specs.declared.record.Rec.TheVariants as records
 use Rattle.wal_records.specs.Numbers.{le_number}
 use Rattle.wal_records.specs.declared.stop.Stop.{Stop}
 use Rattle.wal_records.specs.declared.stop.Stop.TheVariants as stops

@@ -1,9 +1,9 @@
 ghost use Rattle.std.specs.Prelude.{◌≡◌, ◌↔◌, ◌^◌, ◌&&◌, length, nat_lt, IsTrue};
-ghost use Rattle.tx_model.specs.declared.record.Rec.TheVariants as records;
+ghost use Rattle.tx_events.specs.declared.record.Rec.TheVariants as records;
 ghost use Rattle.wal_records.specs.Lawful.{is_id, is_multi, ascend_from, all_ids, is_lawful};
 ghost use Rattle.wal_records.specs.Spelling.{IsLawful};
 
-use tx_model::{Counters, Member, Rec};
+use tx_events::{Counters, Member, Rec};
 use xid_order::{FullMulti, FullXid};
 
 fn is_full_id(id: FullXid) -> bool

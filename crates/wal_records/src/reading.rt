@@ -2,13 +2,13 @@ ghost use Rattle.std.specs.Prelude.{◌≡◌, ◌≤◌, ◌++◌, List, ℕ, l
 ghost use Rattle.wal_records.specs.Numbers.{le_number};
 ghost use Rattle.wal_records.specs.Spelling.{rec_bytes, IsLawful};
 ghost use Rattle.wal_records.specs.ReadRec.{IsRecordAt};
-ghost use Rattle.tx_model.specs.declared.record.Rec.{Rec};
+ghost use Rattle.tx_events.specs.declared.record.Rec.{Rec};
 ghost use Rattle.wal_records.specs.Reading.{Gives, GivesAt, number_at, id_at, multi_at, ids_at, mode_of, member_at, members_at, tree_at, commit_at, abort_at, multi_rec_at, counters_at, checkpoint_at, truncate_at, rec_at};
 
 use crate::stop::Stop;
 use byteorder::{ByteOrder, LittleEndian};
 use std::alloc::Global;
-use tx_model::{Counters, IdList, Member, MemberList, Memory, Mode, Rec};
+use tx_events::{Counters, IdList, Member, MemberList, Memory, Mode, Rec};
 use xid_order::{FullMulti, FullXid};
 
 // Each reader takes what it reads off the front of `rest`.

@@ -2,7 +2,7 @@ ghost use Rattle.std.specs.Prelude.{◌≡◌};
 ghost use Rattle.wal_records.specs.declared.stop.Stop.TheVariants.{Memory as out_of_memory};
 
 use std::alloc::{AllocError, AllocFailed};
-use tx_model::Memory;
+use tx_events::Memory;
 
 /// Why a record could not be read.
 #[derive(Debug, Drop)]

@@ -4,7 +4,7 @@ ghost use Rattle.std.specs.Prelude.{◌≤◌, ◌<◌, ◌^◌};
 use super::*;
 use std::alloc::Global;
 use std::test::Fail;
-use tx_model::{Counters, IdList, Member, MemberList, Mode, Rec};
+use tx_events::{Counters, IdList, Member, MemberList, Mode, Rec};
 use xid_order::{FullMulti, FullXid};
 
 fn id(number: u64) -> Result<FullXid, Fail> {

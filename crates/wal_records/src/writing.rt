@@ -5,7 +5,7 @@ ghost use Rattle.wal_records.specs.Spelling.{rec_bytes, tree_bytes, multi_bytes,
 
 use byteorder::{ByteOrder, LittleEndian};
 use std::alloc::{AllocError, Global};
-use tx_model::{Counters, Member, Memory, Mode, Rec};
+use tx_events::{Counters, Member, Memory, Mode, Rec};
 use xid_order::{FullMulti, FullXid};
 
 #[tactic(auto, unfolding(crate::specs::Numbers::le_bytes))]

@@ -1,6 +1,6 @@
 use crate::{Held, MultiGen, MultiGiven, check_members};
 use std::process::Abort;
-use tx_model::{By, Counters, Member, MemberList, Mode, Refusal, is_base};
+use tx_events::{By, Counters, Member, MemberList, Mode, Refusal, is_base};
 use xid_order::{FullMulti, FullXid, MultiId};
 
 /// What comes next and what is oldest at the start of a life.

@@ -1,12 +1,11 @@
 ghost use Rattle.std.specs.Prelude.{◌≡◌, ◌<◌, ◌≤◌};
 ghost use Rattle.std.specs.List.{All};
-ghost use Rattle.tx_model.specs.Events.{by_of};
+ghost use Rattle.tx_events.specs.Events.{by_of};
 ghost use Rattle.proc_table.specs.Table.{InTurn};
 
 use crate::{Asked, Given, ProcTable};
-use snap_core::Snapshot;
 use std::process::Abort;
-use tx_model::{By, Counters, Memory, Name, Refusal, is_base};
+use tx_events::{By, Counters, Memory, Name, Refusal, SnapData, is_base};
 use xid_order::{FullMulti, FullXid};
 
 /// From here on commands have one number.
@@ -88,7 +87,7 @@ impl Driver {
     }
 
     /// A snapshot under a name that isn't in use.
-    pub fn snap<R: Abort>(&mut self, rt: &R, session: u32, name: &Name) -> Result<Snapshot, Memory>
+    pub fn snap<R: Abort>(&mut self, rt: &R, session: u32, name: &Name) -> Result<SnapData, Memory>
         requires { session < 3 }
     {
         let by = self.by(session);

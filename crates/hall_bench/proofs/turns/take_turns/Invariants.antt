@@ -6,4 +6,4 @@ abbrev pub ghost-by : goal.ghost-by
 ghost-by g a = record { by = a._about.now.seat.me.0.name }
 
 abbrev pub invariant-loop-i : goal.invariant-loop-i
-invariant-loop-i g l = IsOf l.hall l.pass × Took l.i (view l.initial.pass) (view l.pass)
+invariant-loop-i g l = IsOf l.hall l.member.pass × Took (view l.initial.member.pass) (view l.member.pass)

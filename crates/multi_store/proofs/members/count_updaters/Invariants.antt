@@ -1,6 +1,6 @@
 use Rattle.std.proofs.Common.{◌≡◌, ◌≤◌, take}
 use Rattle.std.specs.List.{count_by}
-use Rattle.tx_model.specs.Multis.{is_updater}
+use Rattle.tx_events.specs.Multis.{is_updater}
 use Rattle.multi_store.proofs.members.count_updaters.Given as goal
 
 abbrev pub invariant-loop-member : goal.invariant-loop-member

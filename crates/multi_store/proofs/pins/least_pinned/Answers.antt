@@ -1,9 +1,9 @@
-use Rattle.tx_model.proofs.ListSteps.{le_or_over}
+use Rattle.tx_events.proofs.ListSteps.{le_or_over}
 use Rattle.std.proofs.Common.{◌≡◌, map, min, ◌<◌, ◌≤◌, sym, ◌∙◌, ap, arith, subst, IsSome, ⊎_elim}
 use Rattle.std.proofs.lemmas.Bool.{false≢true}
 use Rattle.std.specs.BTreeMap.{btree_map_len}
 use Rattle.std.specs.List.{fold}
-use Rattle.tx_model.specs.Multis.{Pin}
+use Rattle.tx_events.specs.Multis.{Pin}
 use Rattle.multi_store.proofs.Numbers.{le_from_cmp, lt_from_cmp}
 use Rattle.multi_store.proofs.Tallies.{tally_empty, tally_least}
 use Rattle.multi_store.proofs.pins.least_pinned.Goals as goal

@@ -1,6 +1,6 @@
 use Rattle.std.proofs.Common.{◌<◌, ◌++◌, [], ◌∷◌, length, take, map, sym, ap, subst, ◌∙◌, arith}
 use Rattle.std.proofs.lemmas.List.{take_more}
-use Rattle.tx_model.specs.IdLists.{Ascending}
+use Rattle.tx_events.specs.IdLists.{Ascending}
 use Rattle.plain_states.specs.States.{ids_of, with_commit}
 use Rattle.plain_states.proofs.Searching.{ids_marked, mark_more, mark_none}
 use Rattle.plain_states.proofs.climb.mark_all.Goals as goal

@@ -1,7 +1,7 @@
 use Rattle.std.proofs.Common.{reverse, inl, inr, rules}
-use Rattle.tx_model.specs.Families.{lineage}
-use Rattle.tx_model.proofs.Membership.{has_contains}
-use Rattle.tx_model.proofs.Lineages.{line_up_self}
+use Rattle.tx_events.specs.Families.{lineage}
+use Rattle.tx_events.proofs.Membership.{has_contains}
+use Rattle.tx_events.proofs.Lineages.{line_up_self}
 use Rattle.plain_states.proofs.Climbing.{climbed, at_the_top}
 use Rattle.plain_states.proofs.climb.topmost.Goals as goal
 

@@ -1,9 +1,9 @@
 use Rattle.std.proofs.Common.{List, Contains}
-use Rattle.tx_model.specs.declared.event.Event.{Event}
-use Rattle.tx_model.specs.declared.record.Counters.{Counters}
-use Rattle.tx_model.specs.Events.{given}
-use Rattle.tx_model.specs.Families.{lineage}
-use Rattle.tx_model.specs.History.{IsLegal}
+use Rattle.tx_events.specs.declared.event.Event.{Event}
+use Rattle.tx_events.specs.declared.record.Counters.{Counters}
+use Rattle.tx_events.specs.Events.{given}
+use Rattle.tx_events.specs.Families.{lineage}
+use Rattle.tx_events.specs.History.{IsLegal}
 use Rattle.plain_states.specs.States.{AreStates}
 use Rattle.plain_states.proofs.climb.topmost.Given as goal
 

@@ -1,5 +1,5 @@
 use Rattle.std.proofs.Common.{◌≡◌, false, take}
-use Rattle.tx_model.specs.IdLists.{has}
+use Rattle.tx_events.specs.IdLists.{has}
 use Rattle.proc_table.specs.Lists.{tops_of}
 use Rattle.proc_table.proofs.entries.last_given.Given as goal
 

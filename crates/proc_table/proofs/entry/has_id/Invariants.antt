@@ -1,5 +1,5 @@
 use Rattle.std.proofs.Common.{◌≡◌, false, take}
-use Rattle.tx_model.specs.IdLists.{has}
+use Rattle.tx_events.specs.IdLists.{has}
 use Rattle.proc_table.proofs.entry.has_id.Given as goal
 
 abbrev pub invariant-loop-x : goal.invariant-loop-x

@@ -2,7 +2,7 @@ use Rattle.std.proofs.Common.{◌≡◌, map, min, ◌<◌, ◌≤◌, sym, ◌�
 use Rattle.std.proofs.lemmas.Bool.{false≢true}
 use Rattle.std.specs.BTreeMap.{btree_map_len}
 use Rattle.std.specs.List.{fold}
-use Rattle.tx_model.specs.Horizon.{LiveSnap}
+use Rattle.tx_events.specs.Horizon.{LiveSnap}
 use Rattle.proc_table.proofs.XminTallies.{tally_empty, tally_least, lt_from_cmp, le_from_cmp, le_or_over}
 use Rattle.proc_table.proofs.xmins.least_counted.Goals as goal
 

@@ -1,10 +1,10 @@
 use Rattle.std.proofs.lemmas.List.{take_rest}
 use Rattle.std.proofs.Common.{◌≡◌, ◌≤◌, ◌++◌, ◌∷◌, [], length, take, drop, arith, sym, ap, subst, ◌∙◌, refl, not, nat_le, Contains, map}
 use Rattle.std.specs.List.{filter}
-use Rattle.tx_model.specs.declared.event.Event.TheVariants as events
+use Rattle.tx_events.specs.declared.event.Event.TheVariants as events
 use Rattle.tx_model.specs.declared.command.Command.TheVariants as commands
 use Rattle.tx_model.specs.declared.reply.Reply.TheVariants as replies
-use Rattle.tx_model.specs.Savepoints.{is_inside}
+use Rattle.tx_events.specs.Savepoints.{is_inside}
 use Rattle.session_run.specs.Acts.{Acts}
 use Rattle.session_run.specs.Stands.{Nest, levels_of, told_of}
 use Rattle.session_run.proofs.SoundLemmas.{sound_still}

@@ -1,9 +1,9 @@
 use Rattle.std.proofs.Common.{◌≡◌, sym, ◌∙◌, refl, true}
 use Rattle.tx_model.specs.declared.command.Command.TheVariants as commands
-use Rattle.tx_model.specs.declared.event.Event.TheVariants as events
+use Rattle.tx_events.specs.declared.event.Event.TheVariants as events
 use Rattle.tx_model.specs.declared.reply.Reply.TheVariants as replies
-use Rattle.tx_model.specs.declared.reply.Refusal.TheVariants as refusals
-use Rattle.tx_model.specs.Horizon.{is_live}
+use Rattle.tx_events.specs.declared.refusal.Refusal.TheVariants as refusals
+use Rattle.tx_events.specs.Horizon.{is_live}
 use Rattle.session_run.specs.Stands.{stance_of}
 use Rattle.session_run.proofs.ActsLemmas.{acts_idle, acts_dropped, snap_missing, none_found}
 use Rattle.session_run.proofs.SoundLemmas.{sound_still}

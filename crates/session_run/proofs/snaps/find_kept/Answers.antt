@@ -1,5 +1,5 @@
 use Rattle.std.proofs.Common.{sym, ◌∙◌}
-use Rattle.tx_model.specs.Events.{same_name}
+use Rattle.tx_events.specs.Events.{same_name}
 use Rattle.session_run.proofs.ListLemmas.{find_first, find_next}
 use Rattle.session_run.proofs.snaps.find_kept.Goals as goal
 

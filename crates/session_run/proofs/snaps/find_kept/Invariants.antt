@@ -1,6 +1,6 @@
 use Rattle.std.proofs.Common.{◌≡◌, take, None}
 use Rattle.std.specs.List.{find}
-use Rattle.tx_model.specs.Events.{same_name}
+use Rattle.tx_events.specs.Events.{same_name}
 use Rattle.session_run.proofs.snaps.find_kept.Given as goal
 
 abbrev pub invariant-loop-k : goal.invariant-loop-k

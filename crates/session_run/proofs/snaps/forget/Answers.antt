@@ -1,6 +1,6 @@
 use Rattle.std.proofs.Common.{rules, not}
 use Rattle.std.proofs.lemmas.Fn.{filter_same}
-use Rattle.tx_model.specs.Events.{same_name}
+use Rattle.tx_events.specs.Events.{same_name}
 use Rattle.session_run.specs.declared.session.Kept.{Kept}
 use Rattle.session_run.proofs.snaps.forget.Goals as goal
 

@@ -1,8 +1,8 @@
 use Rattle.std.proofs.Common.{refl}
 use Rattle.tx_model.specs.declared.command.Command.TheVariants as commands
 use Rattle.tx_model.specs.declared.reply.Reply.TheVariants as replies
-use Rattle.tx_model.specs.declared.reply.Refusal.TheVariants as refusals
-use Rattle.tx_model.specs.Events.{same_name}
+use Rattle.tx_events.specs.declared.refusal.Refusal.TheVariants as refusals
+use Rattle.tx_events.specs.Events.{same_name}
 use Rattle.session_run.specs.Stands.{stance_of}
 use Rattle.session_run.proofs.ActsLemmas.{acts_idle, snap_missing, kept_at}
 use Rattle.session_run.proofs.SeenLemmas.{acts_seen}

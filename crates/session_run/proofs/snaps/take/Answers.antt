@@ -1,5 +1,5 @@
 use Rattle.std.proofs.Common.{sym, ap, ◌∙◌, refl, length}
-use Rattle.tx_model.specs.declared.event.Event.TheVariants as events
+use Rattle.tx_events.specs.declared.event.Event.TheVariants as events
 use Rattle.session_run.specs.declared.session.Kept.{Kept}
 use Rattle.session_run.specs.Stands.{stance_of}
 use Rattle.session_run.proofs.ActsLemmas.{acts_snapped, not_live}
@@ -17,7 +17,7 @@ returns-clause-acts c =
     let s = c.args.session.now in
     let k : Kept = record { name = c.in_ok-copy.copy; command = c.args.by.command; place = length c.events-place.result.now; snapshot = c.in_ok-snapshot.snapshot } in
     rw (c.in_ok-snapshot.ensures.1.events, c.push_reserved.ensures.items, c.in_ok-reserve.ensures.items, sym c.in_ok-copy.ensures)
-    (acts_snapped w.table.base c.args.by w.table.events (stance_of s).levels s.kept.items k c.lists_of.result (c.lists_of.ensures ∙ c.in_ok-taken.ensures) (rw (sym c.in_ok-copy.ensures) at c.requires.free) c.requires.room refl)
+    (acts_snapped w.table.base c.args.by w.table.events (stance_of s).levels s.kept.items k c.in_ok-taken.taken c.in_ok-taken.ensures (rw (sym c.in_ok-copy.ensures) at c.requires.free) c.requires.room refl)
 
 pub returns-clause-sound : goal.returns-clause-sound
 returns-clause-sound c =

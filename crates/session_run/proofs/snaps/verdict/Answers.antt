@@ -1,9 +1,9 @@
 use Rattle.std.proofs.Common.{◌≤◌, ◌<◌, ◌^◌, sym, ◌∙◌, ap, subst, arith, rules, take, Some}
 use Rattle.std.proofs.lemmas.Bool.Decides.{nat_tests}
 use Rattle.xid_order.specs.Ids.{low_half}
-use Rattle.tx_model.specs.declared.reply.SnapData.{SnapData}
+use Rattle.tx_events.specs.declared.snapshot.SnapData.{SnapData}
 use Rattle.std.proofs.lemmas.Option.{slice_get_within}
-use Rattle.tx_model.proofs.GivenIds.{legal_take}
+use Rattle.tx_events.proofs.GivenIds.{legal_take}
 use Rattle.proc_table.proofs.Bounds.{full_from}
 use Rattle.session_run.specs.Seen.{xmax_of}
 use Rattle.session_run.proofs.RoomLemmas.{xmax_to, xmax_full}

@@ -1,8 +1,8 @@
-use Rattle.std.proofs.Common.{◌≡◌, inl, ℕ, ◌+◌, List, [], ◌∷◌, ◌++◌, length, sym, ◌∙◌, ap, subst}
+use Rattle.std.proofs.Common.{◌≡◌, inl, ℕ, ◌+◌, List, [], ◌∷◌, ◌++◌, length, slice_index, sym, ◌∙◌, ap, subst}
 use Rattle.disk_core.specs.Volume.{Volume, Wrote, overlaid}
 use Rattle.wal_core.specs.Opening.{walked, AtRest, body_in, behind_gate}
 use Rattle.wal_core.specs.Crash.{IsFromImage}
-use Rattle.wal_core.proofs.Gates.{torn_behind, torn_gate, written_behind, written_gate, length-behind}
+use Rattle.wal_core.proofs.Gates.{torn_behind, torn_gate, written_behind, written_gate, written_zero, length-behind}
 use Rattle.wal_core.proofs.Steps.{kept_first, kept_quiet, kept_step, on_ok}
 use Rattle.wal_core.proofs.batch.write_batch.Goals as goal
 
@@ -182,3 +182,22 @@ returns-clause-written g c told =
     let there_2 : AtRest (d.reads c.sync-2.new.self) (bodies ++ body ∷ []) (gate + length c.args.behind.now) =
     subst (λ (k : ℕ). AtRest (d.reads c.sync-2.new.self) (bodies ++ body ∷ []) k) size (subst (λ (x : Volume). AtRest x (bodies ++ body ∷ []) (gate + (5 + length body))) (sym last) there) in
     on_ok c.sync-2.result there_2
+
+pub returns-clause-closed : goal.returns-clause-closed
+returns-clause-closed g c told =
+    let d = g.D.LogDisk in
+    let d0 = c.args.disk.now in
+    let gate : ℕ = c.args.gate in
+    let body : List ℕ = body_in c.args.behind.now in
+    let v : Volume = d.reads d0 in
+    let rest_v = c.requires.at_rest told v (g.met.D.LogDisk.reads_image d0 told) in
+    let bodies : List (List ℕ) = (walked v).bodies in
+    let w : Volume = d.reads c.write_at.new.self in
+    let done : w.bytes ≡ overlaid v.bytes (gate + 1) (behind_gate body) = c.in_ok-write_at.ensures.written told ∙ ap (λ (l : List ℕ). overlaid v.bytes (gate + 1) l) c.requires.behind.spelled in
+    let staged = written_behind v bodies gate rest_v body w (c.in_ok-write_at.ensures.others told).start done in
+    let u : Volume = d.reads c.write_at-2.new.self in
+    let open_done : u.bytes ≡ overlaid w.bytes gate (1 ∷ []) = c.in_ok-write_at-2.ensures.written told ∙ ap (λ (x : Volume). overlaid x.bytes gate (1 ∷ [])) (c.sync.ensures.same told) in
+    let size : gate + (5 + length body) ≡ gate + length c.args.behind.now = ap (λ (k : ℕ). gate + k) (sym (length-behind body) ∙ sym (ap length c.requires.behind.spelled)) in
+    let zero_there : slice_index (d.reads c.sync-2.new.self).bytes (gate + length c.args.behind.now) ≡ 0 =
+    (λ i. slice_index (c.sync-2.ensures.same told i).bytes (sym size i)) ∙ written_zero v bodies gate rest_v body w u staged open_done in
+    on_ok c.sync-2.result zero_there

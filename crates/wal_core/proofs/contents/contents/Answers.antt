@@ -6,6 +6,7 @@ use Rattle.wal_core.specs.Checkpoint.{IsCheckpointIn}
 use Rattle.wal_core.proofs.Starts.{goes_on_as, unwritten_goes_on, old_goes_on, old_numbers, fits_all, volume_of, bytes_from}
 use Rattle.wal_records.proofs.Fields.{IsBytes}
 use Rattle.disk_core.specs.Volume.{Volume}
+use Rattle.wal_core.proofs.Comings.{opened_comes}
 use Rattle.wal_core.proofs.contents.contents.Goals as goal
 
 pub returns-then-is_unwritten-clause-found : goal.returns-then-is_unwritten-clause-found
@@ -49,3 +50,8 @@ returns-in-Ok-clause-numbers c =
     let p = c.in-Ok.field-0.past in
     old_numbers v (record { first = p.first; recs = p.recs; counters = p.counters }) c.in-Ok.field-0.gate fit
     (opens_as_bytes v c.args.extent.start c.args.bytes.now refl is (c.is_unwritten.ensures.written c.if-is_unwritten.false) ∙ c.in-Ok.ensures.found)
+
+pub returns-in-Ok-clause-comes : goal.returns-in-Ok-clause-comes
+returns-in-Ok-clause-comes c =
+    let p = c.in-Ok.field-0.past in
+    opened_comes c.args.extent.start c.args.bytes.now (record { first = p.first; recs = p.recs; counters = p.counters }) c.in-Ok.field-0.gate c.in-Ok.ensures.found

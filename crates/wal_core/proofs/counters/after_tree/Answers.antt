@@ -1,4 +1,4 @@
-use Rattle.tx_model.proofs.IdOrder.{next_above}
+use Rattle.tx_events.proofs.IdOrder.{next_above}
 use Rattle.std.proofs.Common.{max, refl, arith}
 use Rattle.xid_order.specs.Ids.{next_id}
 use Rattle.wal_core.proofs.Counts.{past_above}

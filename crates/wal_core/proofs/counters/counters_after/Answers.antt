@@ -1,7 +1,7 @@
 use Rattle.std.proofs.Common.{◌≡◌, ◌⊎◌, ◌+◌, ◌<◌, ◌≤◌, ◌^◌, List, length, false, ap, ◌∙◌, sym, subst}
-use Rattle.tx_model.specs.After.{past_ids, ids_of, after_record}
-use Rattle.tx_model.specs.declared.multi.Member.{Member}
-use Rattle.tx_model.specs.declared.record.Rec.{Rec}
+use Rattle.tx_events.specs.After.{past_ids, ids_of, after_record}
+use Rattle.tx_events.specs.declared.multi.Member.{Member}
+use Rattle.tx_events.specs.declared.record.Rec.{Rec}
 use Rattle.wal_core.specs.BaseTest.{is_base_of}
 use Rattle.wal_core.proofs.Counts.{multi_not_base, tree_not_base}
 use Rattle.wal_core.proofs.counters.counters_after.Goals as goal

@@ -1,5 +1,5 @@
 use Rattle.std.proofs.Common.{◌≡◌, drop}
-use Rattle.tx_model.specs.After.{past_ids}
+use Rattle.tx_events.specs.After.{past_ids}
 use Rattle.wal_core.proofs.counters.past_all.Given as goal
 
 abbrev pub invariant-loop-id : goal.invariant-loop-id

@@ -1,5 +1,5 @@
 use Rattle.std.proofs.Common.{ℕ, ◌<◌, ◌≤◌, ◌^◌, length, refl, subst, arith}
-use Rattle.tx_model.specs.declared.multi.Member.{Member}
+use Rattle.tx_events.specs.declared.multi.Member.{Member}
 use Rattle.wal_core.proofs.Counts.{far_member}
 use Rattle.wal_core.proofs.counters.past_members.Goals as goal
 

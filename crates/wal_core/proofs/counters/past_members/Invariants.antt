@@ -1,5 +1,5 @@
 use Rattle.std.proofs.Common.{◌≡◌, drop}
-use Rattle.tx_model.specs.After.{past_ids, ids_of}
+use Rattle.tx_events.specs.After.{past_ids, ids_of}
 use Rattle.wal_core.proofs.counters.past_members.Given as goal
 
 abbrev pub invariant-loop-member : goal.invariant-loop-member

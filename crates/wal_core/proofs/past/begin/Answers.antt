@@ -1,6 +1,6 @@
 use Rattle.std.proofs.Common.{◌++◌, ◌∷◌, [], ap, ◌∙◌, sym, List}
-use Rattle.tx_model.specs.declared.record.Rec.{Rec}
-use Rattle.tx_model.specs.declared.record.Rec.TheVariants as records
+use Rattle.tx_events.specs.declared.record.Rec.{Rec}
+use Rattle.tx_events.specs.declared.record.Rec.TheVariants as records
 use Rattle.wal_core.proofs.BaseTests.{base_answer}
 use Rattle.wal_core.proofs.Bodies.{begun_late, begun_not, begun_so}
 use Rattle.wal_core.proofs.past.begin.Goals as goal

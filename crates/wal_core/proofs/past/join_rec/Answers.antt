@@ -1,6 +1,6 @@
 use Rattle.std.proofs.Common.{sym, ap, ◌∙◌}
 use Rattle.std.proofs.lemmas.Bool.{and_from, and_right}
-use Rattle.tx_model.specs.After.{after_record}
+use Rattle.tx_events.specs.After.{after_record}
 use Rattle.wal_core.specs.BaseTest.{is_base_of}
 use Rattle.wal_core.specs.Opening.{next_number, number_fits}
 use Rattle.wal_core.specs.Past.{past_history}

@@ -1,9 +1,9 @@
-use Rattle.tx_model.proofs.ListSteps.{not_both}
-use Rattle.std.proofs.Common.{◌≡◌, ◌⊎◌, inl, inr, ℕ, ◌≤◌, true, false, not, ◌∙◌, ap, subst, arith, length}
+use Rattle.tx_events.proofs.ListSteps.{not_both}
+use Rattle.std.proofs.Common.{◌≡◌, ◌⊎◌, inl, inr, refl, ℕ, ◌≤◌, true, false, not, sym, ◌∙◌, ap, subst, arith, length}
 use Rattle.std.specs.Prelude.{is_some}
 use Rattle.disk_core.specs.Volume.{Volume, Wrote}
-use Rattle.wal_core.specs.Opening.{opened}
-use Rattle.wal_core.proofs.GateWrites.{torn_gate_opens, is_within, is_short}
+use Rattle.wal_core.specs.Log.{OpensAs}
+use Rattle.wal_core.proofs.GateWrites.{torn_gate_opens, opens_as, is_within, is_short}
 use Rattle.wal_core.proofs.Steps.{kept_first, kept_step, kept_quiet}
 use Rattle.wal_core.proofs.started.close_gate.Goals.{then-is_none, else-is_none, else-found-least-via-then-found-least+else-found, else-found-least-via-else-found-least}
 use Rattle.wal_core.proofs.started.close_gate.Goals as goal
@@ -12,7 +12,7 @@ pub returns-in_err-write_at-clause-any_moment : goal.returns-in_err-write_at-cla
 returns-in_err-write_at-clause-any_moment g c told within =
     let d = g.D.LogDisk in let d0 = c.args.disk.now in let found = c.args.found.now in
     let v : Volume = d.reads d0 in let least : ℕ = c.if-is_none.least in
-    let P : Volume → Type 0 = λ x. opened x ≡ opened v in
+    let P : Volume → Type 0 = OpensAs v in
     let some : is_some found.counters ≡ true → least ≡ 0 = λ some. elim c.if-is_none.branch [
       | then-is_none w ↦ not_both (is_some found.counters) some (c.is_none.ensures ∙ ap not w.if-is_none.true)
       | else-is_none w ↦ w.least-is
@@ -25,17 +25,19 @@ returns-in_err-write_at-clause-any_moment g c told within =
       | else-found-least-via-then-found-least+else-found w ↦ inl (omega (arith, w.if-found.false, c.requires.reach told))
       | else-found-least-via-else-found-least w ↦ inr (omega (arith, w.if-found-least.false, c.requires.reach told))
     ] in
-    let k0 = kept_first d.moment d.left_at d.images P d0 (λ x left. g.met.D.LogDisk.only_now d0 x told left) (λ x left. ap opened (c.requires.synced told x left)) in
+    let k0 = kept_first d.moment d.left_at d.images P d0 (λ x left. g.met.D.LogDisk.only_now d0 x told left) (λ x left. subst (λ (y : Volume). OpensAs v y) (sym (c.requires.synced told x left)) (refl, λ ends. ends)) in
     let k1 = kept_step d.moment d.left_at d.images P d0 d0 c.write_at.new.self (Wrote found.gate 1) k0 (c.write_at.ensures.crash told)
-    (λ x y left step. torn_gate_opens v y found.first found.gate found.recs found.counters (c.requires.read told) (is_within found.counters least (length v.bytes) found.gate some test within) (is_short found.counters least (length v.bytes) found.gate none test)
-    (subst (λ (z : Volume). Wrote found.gate 1 z y) (c.requires.synced told x left) step)) (c.write_at.ensures.time told) in
+    (λ x y left step.
+    let wrote : Wrote found.gate 1 v y = subst (λ (z : Volume). Wrote found.gate 1 z y) (c.requires.synced told x left) step in
+    opens_as v y (torn_gate_opens v y found.first found.gate found.recs found.counters (c.requires.read told) (is_within found.counters least (length v.bytes) found.gate some test within)
+    (is_short found.counters least (length v.bytes) found.gate none test) wrote) wrote.torn.no_shorter) (c.write_at.ensures.time told) in
     k1.leaves
 
 pub returns-clause-any_moment : goal.returns-clause-any_moment
 returns-clause-any_moment g c told within =
     let d = g.D.LogDisk in let d0 = c.args.disk.now in let found = c.args.found.now in
     let v : Volume = d.reads d0 in let least : ℕ = c.if-is_none.least in
-    let P : Volume → Type 0 = λ x. opened x ≡ opened v in
+    let P : Volume → Type 0 = OpensAs v in
     let some : is_some found.counters ≡ true → least ≡ 0 = λ some. elim c.if-is_none.branch [
       | then-is_none w ↦ not_both (is_some found.counters) some (c.is_none.ensures ∙ ap not w.if-is_none.true)
       | else-is_none w ↦ w.least-is
@@ -48,9 +50,11 @@ returns-clause-any_moment g c told within =
       | else-found-least-via-then-found-least+else-found w ↦ inl (omega (arith, w.if-found.false, c.requires.reach told))
       | else-found-least-via-else-found-least w ↦ inr (omega (arith, w.if-found-least.false, c.requires.reach told))
     ] in
-    let k0 = kept_first d.moment d.left_at d.images P d0 (λ x left. g.met.D.LogDisk.only_now d0 x told left) (λ x left. ap opened (c.requires.synced told x left)) in
+    let k0 = kept_first d.moment d.left_at d.images P d0 (λ x left. g.met.D.LogDisk.only_now d0 x told left) (λ x left. subst (λ (y : Volume). OpensAs v y) (sym (c.requires.synced told x left)) (refl, λ ends. ends)) in
     let k1 = kept_step d.moment d.left_at d.images P d0 d0 c.write_at.new.self (Wrote found.gate 1) k0 (c.write_at.ensures.crash told)
-    (λ x y left step. torn_gate_opens v y found.first found.gate found.recs found.counters (c.requires.read told) (is_within found.counters least (length v.bytes) found.gate some test within) (is_short found.counters least (length v.bytes) found.gate none test)
-    (subst (λ (z : Volume). Wrote found.gate 1 z y) (c.requires.synced told x left) step)) (c.write_at.ensures.time told) in
+    (λ x y left step.
+    let wrote : Wrote found.gate 1 v y = subst (λ (z : Volume). Wrote found.gate 1 z y) (c.requires.synced told x left) step in
+    opens_as v y (torn_gate_opens v y found.first found.gate found.recs found.counters (c.requires.read told) (is_within found.counters least (length v.bytes) found.gate some test within)
+    (is_short found.counters least (length v.bytes) found.gate none test) wrote) wrote.torn.no_shorter) (c.write_at.ensures.time told) in
     let k2 = kept_quiet d.moment d.left_at d.images P d0 c.write_at.new.self c.sync.new.self k1 (c.sync.ensures.crash told) (c.sync.ensures.time told) in
     k2.leaves

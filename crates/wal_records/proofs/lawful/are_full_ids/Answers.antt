@@ -1,5 +1,5 @@
 use Rattle.std.proofs.Common.{◌≡◌, ◌<◌, length, false, sym, ◌∙◌, arith, subst}
-use Rattle.tx_model.specs.declared.multi.Member.{Member}
+use Rattle.tx_events.specs.declared.multi.Member.{Member}
 use Rattle.wal_records.specs.Lawful.{is_id}
 use Rattle.wal_records.proofs.LawfulTests.{not_all_ids}
 use Rattle.wal_records.proofs.lawful.are_full_ids.Goals as goal

@@ -1,5 +1,5 @@
 use Rattle.std.proofs.Common.{inl, inr, ◌<◌, ◌≤◌, ◌^◌, length, ap, subst, arith}
-use Rattle.tx_model.specs.declared.record.Rec.{Rec}
+use Rattle.tx_events.specs.declared.record.Rec.{Rec}
 use Rattle.wal_records.specs.Spelling.{rec_bytes, HasCounts}
 use Rattle.wal_records.proofs.Lengths.{length-tree, length-multi, length-checkpoint, length-truncate}
 use Rattle.wal_records.proofs.writing.rec_length.Goals as goal

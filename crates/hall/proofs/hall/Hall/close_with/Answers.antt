@@ -11,7 +11,7 @@ pub unreachable-requires : goal.unreachable-requires
 unreachable-requires g c =
     let l = c.loop-i.invariant in let row = c.close_with-closed.result.slots in let k = (slots_counts row).0 in let e = c.close_with-closed.ensures.counts.1 in let z = c.args.self.sized.0 in
     let w = c.args.pass.fits.wide in let q = ap (λ t. t.slots) c.requires.own.table in let t = c.loop-i-test.true in
-    let told = closed_tells _ _ _ _ _ _ _ _ _ _ _ (slots_items row) c.close_with-closed.ensures.values.2 c.requires.free c.requires.all (sees_places _ _ _ _ _ _ c.args.pass.fits _ _ _ (ap (λ t. t.words) c.requires.own.table ∙ c.args.self.sized.1) c.args.self.places) in
+    let told = closed_tells _ _ _ _ _ _ _ _ _ _ _ (slots_items row) c.close_with-closed.ensures.values.2 c.requires.free c.requires.all (sees_places _ _ _ _ _ c.args.pass.fits _ _ _ (ap (λ t. t.words) c.requires.own.table ∙ c.args.self.sized.1) c.args.self.places) in
     never_none _ _ _ _ _ _ _ (told.1 c.loop-i.i (omega arith)) l.items c.take-value.ensures.value c.in_default.is
 
 pub loop-i-preserved : goal.loop-i-preserved
@@ -30,11 +30,11 @@ loop-i-preserved g c =
 pub returns-clause-kept : goal.returns-clause-kept
 returns-clause-kept g c =
     let row = c.close_with-closed.result.slots in let k = (slots_counts row).0 in let e = c.close_with-closed.ensures.counts.1 in let w = c.args.pass.fits.wide in let q = ap (λ t. t.slots) c.requires.own.table in
-    (closed_tells _ _ _ _ _ _ _ _ _ _ _ (slots_items row) c.close_with-closed.ensures.values.2 c.requires.free c.requires.all (sees_places _ _ _ _ _ _ c.args.pass.fits _ _ _ (ap (λ t. t.words) c.requires.own.table ∙ c.args.self.sized.1) c.args.self.places)).0
+    (closed_tells _ _ _ _ _ _ _ _ _ _ _ (slots_items row) c.close_with-closed.ensures.values.2 c.requires.free c.requires.all (sees_places _ _ _ _ _ c.args.pass.fits _ _ _ (ap (λ t. t.words) c.requires.own.table ∙ c.args.self.sized.1) c.args.self.places)).0
 
 pub returns-clause-stand : goal.returns-clause-stand
 returns-clause-stand g c =
     let l = c.loop-i.invariant in let row = c.close_with-closed.result.slots in let k = (slots_counts row).0 in let e = c.close_with-closed.ensures.counts.1 in let z = c.args.self.sized.0 in
     let w = c.args.pass.fits.wide in let q = ap (λ t. t.slots) c.requires.own.table in let t = c.loop-i-test.false in let i = c.loop-i.auto.i-end in let many = l.many in
-    let told = closed_tells _ _ _ _ _ _ _ _ _ _ _ (slots_items row) c.close_with-closed.ensures.values.2 c.requires.free c.requires.all (sees_places _ _ _ _ _ _ c.args.pass.fits _ _ _ (ap (λ t. t.words) c.requires.own.table ∙ c.args.self.sized.1) c.args.self.places) in
+    let told = closed_tells _ _ _ _ _ _ _ _ _ _ _ (slots_items row) c.close_with-closed.ensures.values.2 c.requires.free c.requires.all (sees_places _ _ _ _ _ c.args.pass.fits _ _ _ (ap (λ t. t.words) c.requires.own.table ∙ c.args.self.sized.1) c.args.self.places) in
     ((let n = l.count in omega arith), stand_for _ _ _ _ _ _ _ l.back l.items (omega arith) told.1)

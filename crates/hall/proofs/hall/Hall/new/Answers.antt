@@ -7,7 +7,7 @@ use Rattle.hall.proofs.hall.Hall.new.Goals as goal
 pub new-requires : goal.new-requires
 new-requires g c =
     let r = c.requires in let words = c.in-Ok.ensures in let n = c.len-cells.ensures in
-    opens_from _ _ _ _ _ c.args.from.value _ (length c.args.values.items) c.args.posts.items c.as_slice-2.result.now c.wrap.new.slots.items c.args.values.items r.passes.0 r.passes.1 r.passes.2 refl
+    opens_from _ _ _ _ _ c.args.from.value _ (length c.args.values.items) c.args.posts.items c.as_slice-2.result.now c.wrap.new.slots.items c.args.values.items r.passes.0 r.passes.2 refl
     (let P : ℕ × List ℕ × List ℕ → Type 0 = λ z. Starts z.0 z.1 z.2 in let count : c.len-cells.result ≡ length c.args.values.items = search rules in subst P (λ i. (count i, c.as_slice.ensures.value i, sym c.as_slice-2.ensures.value i)) words.0)
     c.wrap.ensures.items r.places r.locks r.kept r.stand r.shown
 

@@ -9,13 +9,13 @@ load-requires g c =
     let own = c.requires.own.table in let sized = c.args.self.now.sized in let words = sized.1 in let deep = sized.0 in let places = c.args.self.now.places in let inside = c.requires.word in (
       own,
       omega arith,
-      learns _ _ _ _ _ _ _ _ _ _ _ c.args.word _ (sees_places _ _ _ _ _ _ c.args.pass.now.fits _ _ _ (ap (λ z. z.words) c.requires.own.table ∙ c.args.self.now.sized.1) c.args.self.now.places) (omega arith) (omega arith),
+      learns _ _ _ _ _ _ _ _ _ _ _ c.args.word _ (sees_places _ _ _ _ _ c.args.pass.now.fits _ _ _ (ap (λ z. z.words) c.requires.own.table ∙ c.args.self.now.sized.1) c.args.self.now.places) (omega arith) (omega arith),
     )
 
 pub invariant_of-pass : goal.invariant_of-pass
 invariant_of-pass g c =
     let e = c.load.ensures in let t = e.2 _ _ c.line_at-at.ensures c.requires.own.start in
-    record { fits = fits_learned _ _ _ _ _ _ c.args.pass.now.fits _ _ t.lists _ (ap (λ z. z.slots) e.0) (ap (λ z. z.words) e.0) t.moment.long t.view_is t.slots_are }
+    record { fits = fits_learned _ _ _ _ _ c.args.pass.now.fits _ _ t.lists _ (ap (λ z. z.slots) e.0) (ap (λ z. z.words) e.0) t.moment.long t.view_is t.slots_are }
 
 pub returns-clause-own : goal.returns-clause-own
 returns-clause-own g c =

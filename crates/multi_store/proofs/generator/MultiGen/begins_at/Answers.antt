@@ -1,8 +1,8 @@
 use Rattle.std.proofs.Common.{◌≡◌, ℕ, sym, ◌∙◌, subst, arith, ◌<◌, ◌≤◌, true}
 use Rattle.std.specs.Prelude.{nat_le}
 use Rattle.std.proofs.lemmas.Bool.Decides.{nat_tests}
-use Rattle.tx_model.specs.declared.record.Counters.{Counters}
-use Rattle.tx_model.specs.Multis.{oldest_offset}
+use Rattle.tx_events.specs.declared.record.Counters.{Counters}
+use Rattle.tx_events.specs.Multis.{oldest_offset}
 use Rattle.multi_store.specs.Generator.{Generator, Begins}
 use Rattle.multi_store.proofs.Beginnings.{begins_old, old_begins}
 use Rattle.multi_store.proofs.LegalSound.{legal_sound}

@@ -1,5 +1,5 @@
 use Rattle.std.proofs.Common.{subst}
-use Rattle.tx_model.specs.Multis.{AreLegalMultis, InBase}
+use Rattle.tx_events.specs.Multis.{AreLegalMultis, InBase}
 use Rattle.multi_store.specs.Generator.{Generator}
 use Rattle.multi_store.proofs.generator.MultiGen.events.Goals as goal
 

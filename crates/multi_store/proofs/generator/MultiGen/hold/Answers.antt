@@ -1,8 +1,8 @@
 use Rattle.std.proofs.Common.{◌≡◌, refl, sym, ◌∙◌, subst, ap, arith, rules, ◌<◌, ◌≤◌, ◌==◌, eqb-true}
 use Rattle.xid_order.specs.Ids.{next_multi}
-use Rattle.tx_model.proofs.ListSteps.{eqb-refl}
-use Rattle.tx_model.specs.Multis.{pins}
-use Rattle.tx_model.specs.declared.record.Counters.{Counters}
+use Rattle.tx_events.proofs.ListSteps.{eqb-refl}
+use Rattle.tx_events.specs.Multis.{pins}
+use Rattle.tx_events.specs.declared.record.Counters.{Counters}
 use Rattle.multi_store.specs.Generator.{oldest_of, next_of}
 use Rattle.multi_store.proofs.States.{state_held, state_same}
 use Rattle.multi_store.proofs.generator.MultiGen.hold.Goals as goal

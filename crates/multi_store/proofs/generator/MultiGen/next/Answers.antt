@@ -1,7 +1,7 @@
 use Rattle.std.proofs.Common.{[], ◌∷◌, ◌++◌, refl, ◌∙◌, subst, ap, arith, rules, ◌+◌, ◌<◌, length}
-use Rattle.tx_model.specs.Limits.{member_stop, multi_stop_limit}
-use Rattle.tx_model.specs.declared.multi.MultiEvent.TheVariants as events
-use Rattle.tx_model.specs.declared.record.Counters.{Counters}
+use Rattle.tx_events.specs.Limits.{member_stop, multi_stop_limit}
+use Rattle.tx_events.specs.declared.multi.MultiEvent.TheVariants as events
+use Rattle.tx_events.specs.declared.record.Counters.{Counters}
 use Rattle.multi_store.specs.Generator.{Generator, oldest_offset_of}
 use Rattle.multi_store.proofs.States.{state_gen}
 use Rattle.multi_store.proofs.generator.MultiGen.next.Goals as goal

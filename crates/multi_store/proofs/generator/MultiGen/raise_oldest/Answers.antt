@@ -1,7 +1,7 @@
 use Rattle.std.proofs.Common.{◌≡◌, refl, sym, ◌∙◌, subst, ap, arith, ◌≤◌, map, min}
 use Rattle.std.specs.List.{fold}
-use Rattle.tx_model.specs.Multis.{BeginsAt, InBase, Pin, pin_limit, pins}
-use Rattle.tx_model.specs.declared.record.Counters.{Counters}
+use Rattle.tx_events.specs.Multis.{BeginsAt, InBase, Pin, pin_limit, pins}
+use Rattle.tx_events.specs.declared.record.Counters.{Counters}
 use Rattle.multi_store.specs.Generator.{Generator, Begins, oldest_of, limit_of}
 use Rattle.multi_store.proofs.Numbers.{le_from_cmp}
 use Rattle.multi_store.proofs.States.{state_raised}

@@ -1,6 +1,6 @@
 use Rattle.std.proofs.Common.{◌≡◌, ℕ, ◌<◌, sym, ◌∙◌, ap}
 use Rattle.std.specs.List.{slice_get}
-use Rattle.tx_model.specs.Multis.{made_at}
+use Rattle.tx_events.specs.Multis.{made_at}
 use Rattle.multi_store.specs.Generator.{Generator}
 use Rattle.multi_store.proofs.LegalSound.{legal_sound, made_at_place}
 use Rattle.multi_store.proofs.Indexing.{got_is}

@@ -1,5 +1,5 @@
 use Rattle.std.proofs.Common.{◌≡◌, sym, subst, ap, arith, ◌≤◌, Contains}
-use Rattle.tx_model.specs.Multis.{pins}
+use Rattle.tx_events.specs.Multis.{pins}
 use Rattle.multi_store.proofs.States.{state_let_go, some_promised}
 use Rattle.multi_store.proofs.generator.MultiGen.unhold.Goals as goal
 

@@ -1,6 +1,6 @@
 use Rattle.std.proofs.Common.{Some, ◌∙◌, ap, cond, refl}
-use Rattle.tx_model.specs.Events.{same_name}
-use Rattle.tx_model.specs.Horizon.{LiveSnap}
+use Rattle.tx_events.specs.Events.{same_name}
+use Rattle.tx_events.specs.Horizon.{LiveSnap}
 use Rattle.proc_table.specs.Lives.{with_xmin, xmin_under}
 use Rattle.proc_table.proofs.LiveSteps.{kept_after, kept_same, holds_more, holds_same}
 use Rattle.proc_table.proofs.live.LiveSnapshots.insert.Goals as goal

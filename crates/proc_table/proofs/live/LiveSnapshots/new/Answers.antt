@@ -1,5 +1,5 @@
 use Rattle.std.proofs.Common.{ap, arith, length, ◌∙◌, ◌≡◌, ◌+◌, ◌++◌, ◌∷◌, []}
-use Rattle.tx_model.proofs.ListSteps.{length_push}
+use Rattle.tx_events.proofs.ListSteps.{length_push}
 use Rattle.proc_table.proofs.LiveSteps.{kept_push}
 use Rattle.proc_table.proofs.live.LiveSnapshots.new.Goals as goal
 

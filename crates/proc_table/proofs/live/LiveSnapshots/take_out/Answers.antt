@@ -1,6 +1,6 @@
 use Rattle.std.proofs.Common.{None, sym, ◌∙◌, ap, cond}
-use Rattle.tx_model.specs.Events.{same_name}
-use Rattle.tx_model.specs.Horizon.{LiveSnap}
+use Rattle.tx_events.specs.Events.{same_name}
+use Rattle.tx_events.specs.Horizon.{LiveSnap}
 use Rattle.proc_table.specs.Lives.{xmin_under}
 use Rattle.proc_table.proofs.LiveSteps.{kept_at, kept_after, holds_less}
 use Rattle.proc_table.proofs.live.LiveSnapshots.take_out.Goals as goal

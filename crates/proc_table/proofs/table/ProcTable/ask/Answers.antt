@@ -1,7 +1,7 @@
 use Rattle.std.proofs.Common.{◌≡◌, refl, sym, ◌∙◌, subst, ap, arith, rules}
 use Rattle.std.specs.List.{All, list_any}
-use Rattle.tx_model.specs.IdLists.{has}
-use Rattle.tx_model.specs.Running.{running}
+use Rattle.tx_events.specs.IdLists.{has}
+use Rattle.tx_events.specs.Running.{running}
 use Rattle.proc_table.specs.Entries.{SubsAscend, is_of_entry}
 use Rattle.proc_table.specs.Table.{InTurn}
 use Rattle.proc_table.proofs.AskLemmas.{asked_is, subs_ascend}

@@ -1,6 +1,6 @@
 use Rattle.std.proofs.Common.{◌≡◌, refl, sym, ◌∙◌, subst, ap, arith, [], ◌<◌}
-use Rattle.tx_model.specs.Limits.{stop_limit}
-use Rattle.tx_model.specs.Running.{open_ids}
+use Rattle.tx_events.specs.Limits.{stop_limit}
+use Rattle.tx_events.specs.Running.{open_ids}
 use Rattle.proc_table.specs.Table.{InTurn}
 use Rattle.proc_table.proofs.States.{state_id}
 use Rattle.proc_table.proofs.StateBounds.{next_from}

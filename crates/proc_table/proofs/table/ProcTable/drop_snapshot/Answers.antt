@@ -1,5 +1,5 @@
 use Rattle.std.proofs.Common.{◌≡◌, sym, ◌∙◌, subst, ap, arith, Contains}
-use Rattle.tx_model.specs.Horizon.{LiveSnap, live_snaps}
+use Rattle.tx_events.specs.Horizon.{LiveSnap, live_snaps}
 use Rattle.proc_table.specs.Table.{Table, InTurn}
 use Rattle.proc_table.proofs.QuietStates.{state_dropped}
 use Rattle.proc_table.proofs.ReaderLemmas.{found_live}

@@ -2,7 +2,7 @@ use Rattle.std.proofs.Common.{sym, ◌∙◌, subst, ap, arith, ◌+◌, ◌<◌
 use Rattle.std.proofs.Common.{length, ◌<◌}
 use Rattle.proc_table.specs.Lists.{total_of, entries_below, some_overflowed}
 use Rattle.proc_table.specs.Table.{Table, data_at}
-use Rattle.tx_model.specs.Snapshots.{snapshot_xmax}
+use Rattle.tx_events.specs.Snapshots.{snapshot_xmax}
 use Rattle.proc_table.proofs.CountLemmas.{total_is}
 use Rattle.proc_table.proofs.table.ProcTable.listed.Goals as goal
 

@@ -1,6 +1,6 @@
 use Rattle.std.proofs.Common.{◌≡◌, subst, false}
 use Rattle.std.specs.Prelude.{IfSome, IfNone}
-use Rattle.tx_model.specs.Horizon.{live_snaps, is_live}
+use Rattle.tx_events.specs.Horizon.{live_snaps, is_live}
 use Rattle.proc_table.specs.Lives.{live_xmin}
 use Rattle.proc_table.specs.Table.{Table, IsLiveAt}
 use Rattle.proc_table.proofs.ReaderLemmas.{live_is, not_live}

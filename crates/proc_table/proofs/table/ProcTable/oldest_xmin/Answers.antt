@@ -3,8 +3,8 @@ use Rattle.std.specs.List.{fold}
 use Rattle.std.proofs.Common.{map}
 use Rattle.proc_table.specs.Lists.{tops_of}
 use Rattle.proc_table.specs.Table.{Table, xmin_of}
-use Rattle.tx_model.specs.Horizon.{LiveSnap, live_snaps}
-use Rattle.tx_model.specs.Snapshots.{snapshot_xmax}
+use Rattle.tx_events.specs.Horizon.{LiveSnap, live_snaps}
+use Rattle.tx_events.specs.Snapshots.{snapshot_xmax}
 use Rattle.proc_table.proofs.QuietStates.{oldest_xmin_is}
 use Rattle.proc_table.proofs.table.ProcTable.oldest_xmin.Goals as goal
 

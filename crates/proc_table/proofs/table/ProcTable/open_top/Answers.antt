@@ -1,7 +1,7 @@
 use Rattle.std.proofs.Common.{◌≡◌, sym, ◌∙◌, subst, ap}
 use Rattle.std.proofs.Common.{◌==◌}
 use Rattle.std.specs.List.{Any, list_any}
-use Rattle.tx_model.specs.Running.{open_ids}
+use Rattle.tx_events.specs.Running.{open_ids}
 use Rattle.proc_table.specs.declared.entry.Entry.{Entry}
 use Rattle.proc_table.specs.Table.{Table, IsOpenTop}
 use Rattle.proc_table.proofs.ReaderLemmas.{some_weaker, none_weaker, open_top_is}

@@ -1,5 +1,5 @@
 use Rattle.std.proofs.Common.{◌≡◌, refl, sym, ◌∙◌, subst, ap, arith, ◌≤◌}
-use Rattle.tx_model.specs.Horizon.{oldest_id, oldest_xmin}
+use Rattle.tx_events.specs.Horizon.{oldest_id, oldest_xmin}
 use Rattle.proc_table.specs.Table.{InTurn, xmin_of}
 use Rattle.proc_table.proofs.EntryLists.{not_lt_cmp}
 use Rattle.proc_table.proofs.QuietStates.{state_raised}

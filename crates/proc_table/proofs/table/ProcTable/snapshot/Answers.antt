@@ -1,6 +1,6 @@
 use Rattle.std.proofs.Common.{◌≡◌, refl, sym, ◌∙◌, subst, ap, arith, false}
-use Rattle.tx_model.specs.Horizon.{is_live}
-use Rattle.tx_model.specs.declared.reply.SnapData.{SnapData}
+use Rattle.tx_events.specs.Horizon.{is_live}
+use Rattle.tx_events.specs.declared.snapshot.SnapData.{SnapData}
 use Rattle.proc_table.specs.Table.{Table, InTurn, data_at}
 use Rattle.proc_table.proofs.QuietStates.{state_snapped}
 use Rattle.proc_table.proofs.table.ProcTable.snapshot.Goals as goal

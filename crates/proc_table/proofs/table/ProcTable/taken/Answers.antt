@@ -2,7 +2,7 @@ use Rattle.std.proofs.Common.{sym, ◌∙◌, subst, ap, min}
 use Rattle.proc_table.specs.Table.{Table, data_at}
 use Rattle.std.specs.List.{fold}
 use Rattle.proc_table.specs.Lists.{tops_of, entries_below, some_overflowed, AreListed}
-use Rattle.tx_model.specs.Snapshots.{snapshot_xmax}
+use Rattle.tx_events.specs.Snapshots.{snapshot_xmax}
 use Rattle.proc_table.proofs.SnapshotLemmas.{taken_is}
 use Rattle.proc_table.proofs.table.ProcTable.taken.Goals as goal
 

@@ -1,8 +1,8 @@
 use Rattle.std.proofs.Common.{◌≡◌, sym, ◌∙◌, subst, ap, arith, ◌≤◌, Contains, false}
 use Rattle.std.specs.List.{filter}
-use Rattle.tx_model.specs.Families.{is_top}
-use Rattle.tx_model.specs.Running.{open_ids}
-use Rattle.tx_model.specs.Savepoints.{is_inside}
+use Rattle.tx_events.specs.Families.{is_top}
+use Rattle.tx_events.specs.Running.{open_ids}
+use Rattle.tx_events.specs.Savepoints.{is_inside}
 use Rattle.proc_table.specs.Table.{InTurn}
 use Rattle.proc_table.proofs.EndStates.{is_promised}
 use Rattle.proc_table.proofs.UndoStates.{state_undo}

@@ -4,7 +4,7 @@ use Rattle.tx_model.specs.declared.command.Command.{Command}
 use Rattle.tx_model.specs.LawfulLife.{AreRounds}
 use Rattle.session_lang.specs.Rounds.{rounds_of}
 use Rattle.session_run.specs.Plans.{IsBlank}
-use Rattle.session_run.specs.Progress.{AreInTurn, Continues, GoesOn, lines_of}
+use Rattle.session_run.specs.Progress.{AreInTurn, Continues, GoesOn, IsTold, lines_of}
 use Rattle.session_run.specs.Turns.{MayRun}
 use Rattle.session_run.proofs.life.OpenLife.run_rounds.Given as goal
 
@@ -14,6 +14,7 @@ invariant-loop-rest l = record {
   ended : l.self.lines ≡ [];
   done : List (List (ℕ × Command));
   told : AreRounds 1 done l.self.steps;
+  printed : IsTold l.names l.self;
   rounds : rounds_of l.script ≡ done ++ rounds_of l.rest;
   items : All (MayRun (length l.self.sessions.items)) l.rest;
   room : length (lines_of l.self) + length l.rest ≤ 2 ^ 24;

@@ -3,8 +3,9 @@ use Rattle.tx_model.specs.Lines.{turn_of}
 use Rattle.session_lang.specs.declared.script.Item.{Item}
 use Rattle.session_run.specs.declared.life.OpenLife.{OpenLife}
 use Rattle.session_run.specs.Plans.{turns_at}
-use Rattle.session_run.specs.Progress.{GoesOn, Continues}
+use Rattle.session_run.specs.Progress.{GoesOn, Continues, Tells}
 use Rattle.session_run.proofs.LifeLemmas.{on_none, on_then}
+use Rattle.session_run.proofs.ToldLemmas.{tells_none, tells_then}
 use Rattle.session_run.proofs.PlanLemmas.{own_at, turn_room, turns_at_on}
 use Rattle.session_run.proofs.life.OpenLife.run_session.Goals as goal
 use Rattle.session_run.proofs.life.OpenLife.run_session.Goals.{in-Some+in_ok-run_turn, in_default}
@@ -15,15 +16,17 @@ loop-place-init c = record {
   told = sym (append-nil (map turn_of c.args.self.now.lines));
   steps = refl;
   on = on_none c.args.self.now;
+  tells = tells_none c.args.names.now c.args.self.now;
 }
 
 -- what the loop keeps
-abbrev Kept : ℕ → OpenLife → List Item → List ℕ → ℕ → OpenLife → Type 0
-Kept number before round places i after = record {
+abbrev Kept : List (List ℕ) → ℕ → OpenLife → List Item → List ℕ → ℕ → OpenLife → Type 0
+Kept names number before round places i after = record {
   goes_on : GoesOn after;
   told : map turn_of after.lines ≡ map turn_of before.lines ++ turns_at number round (take i places);
   steps : after.steps ≡ before.steps;
   on : Continues before after;
+  tells : Tells names before after;
 }
 
 pub run_turn-requires-clause-room : goal.run_turn-requires-clause-room
@@ -45,7 +48,7 @@ loop-place-preserved c =
       | in-Some+in_ok-run_turn w ↦
           let e = w.in_ok-run_turn.ensures in
           let own = own_at n round p w.in-Some.command.now w.in-Some.ensures.some in
-          subst (Kept n c.args.self.now round places (k + 1)) (sym w.self-is) (record {
+          subst (Kept c.args.names.now n c.args.self.now round places (k + 1)) (sym w.self-is) (record {
             goes_on = e.goes_on;
             told = e.line ∙ ap (λ t. t ++ (n, w.in-Some.command.now) ∷ []) i.told
                 ∙ append_assoc before (turns_at n round (take k places)) ((n, w.in-Some.command.now) ∷ [])
@@ -53,13 +56,15 @@ loop-place-preserved c =
                 ∙ ap (λ t. before ++ t) (sym on);
             steps = e.steps ∙ i.steps;
             on = on_then c.args.self.now c.loop-place.self w.run_turn.new.self i.on e.on;
+            tells = tells_then c.args.names.now c.args.self.now c.loop-place.self w.run_turn.new.self i.tells e.tells;
           })
       | in_default w ↦
-          subst (Kept n c.args.self.now round places (k + 1)) (sym w.self-is) (record {
+          subst (Kept c.args.names.now n c.args.self.now round places (k + 1)) (sym w.self-is) (record {
             goes_on = i.goes_on;
             told = i.told
                 ∙ ap (λ t. before ++ t) (sym (append-nil (turns_at n round (take k places))) ∙ ap (λ t. turns_at n round (take k places) ++ t) (sym w.in_default.ensures.none) ∙ sym on);
             steps = i.steps;
             on = i.on;
+            tells = i.tells;
           })
     ]

@@ -1,7 +1,7 @@
 use Rattle.std.proofs.Common.{◌≡◌, ◌++◌, map, take}
 use Rattle.tx_model.specs.Lines.{turn_of}
 use Rattle.session_run.specs.Plans.{turns_at}
-use Rattle.session_run.specs.Progress.{GoesOn, Continues}
+use Rattle.session_run.specs.Progress.{GoesOn, Continues, Tells}
 use Rattle.session_run.proofs.life.OpenLife.run_session.Given as goal
 
 abbrev pub invariant-loop-place : goal.invariant-loop-place
@@ -10,4 +10,5 @@ invariant-loop-place l = record {
   told : map turn_of l.self.lines ≡ map turn_of l.fn.self.lines ++ turns_at l.number l.round (take l.place-index l.places);
   steps : l.self.steps ≡ l.fn.self.steps;
   on : Continues l.fn.self l.self;
+  tells : Tells l.names l.fn.self l.self;
 }

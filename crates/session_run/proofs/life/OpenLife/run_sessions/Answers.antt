@@ -7,6 +7,7 @@ use Rattle.session_run.specs.Plans.{HasPlaces}
 use Rattle.session_run.specs.Progress.{MayAdd}
 use Rattle.session_run.specs.Turns.{turns_in}
 use Rattle.session_run.proofs.LifeLemmas.{on_none, on_then, place_is, session_room}
+use Rattle.session_run.proofs.ToldLemmas.{tells_none, tells_then}
 use Rattle.session_run.proofs.RoundLemmas.{sessions_on}
 use Rattle.session_run.proofs.life.OpenLife.run_sessions.Goals as goal
 
@@ -16,6 +17,7 @@ loop-number-init c = record {
   told = sym (append-nil (map turn_of c.args.self.now.lines));
   steps = refl;
   on = on_none c.args.self.now;
+  tells = tells_none c.args.names.now c.args.self.now;
 }
 
 pub run_session-requires-clause-room : goal.run_session-requires-clause-room
@@ -58,4 +60,5 @@ loop-number-preserved c =
           ∙ ap (λ t. before ++ t) (sym on);
       steps = e.steps ∙ i.steps;
       on = on_then c.args.self.now c.loop-number.self c.run_session.new.self i.on e.on;
+      tells = tells_then c.args.names.now c.args.self.now c.loop-number.self c.run_session.new.self i.tells e.tells;
     }

@@ -1,8 +1,8 @@
-use Rattle.tx_model.proofs.ListSteps.{not_both}
+use Rattle.tx_events.proofs.ListSteps.{not_both}
 use Rattle.std.proofs.Common.{◌≡◌, inl, inr, ℕ, ◌+◌, ◌-◌, ◌<◌, ◌≤◌, ◌^◌, List, [], ◌∷◌, ◌++◌, length, drop, sym, ◌∙◌, ap, subst, arith}
 use Rattle.std.proofs.lemmas.List.{length-append}
 use Rattle.std.proofs.lemmas.Bool.{cases_lt}
-use Rattle.tx_model.specs.declared.record.Rec.{Rec}
+use Rattle.tx_events.specs.declared.record.Rec.{Rec}
 use Rattle.wal_records.specs.Spelling.{rec_bytes}
 use Rattle.wal_core.specs.Log.{bytes_of, IsNextBatch, IsReady, IsFull}
 use Rattle.wal_records.specs.Lawful.{are_lawful}
@@ -101,5 +101,5 @@ invariant_of-self-in-Err-clause-ready g c told up x left =
 pub returns-in-Ok-clause-keeps : goal.returns-in-Ok-clause-keeps
 returns-in-Ok-clause-keeps g c told first all keeps =
     let s = c.args.self.now in let r : Rec = c.args.rec.now in
-    append_keeps first all s.recs c.add_rec.new.recs r (s.from + length s.recs) (s.from + length c.add_rec.new.recs) (s.from + s.flushed) (g.D.LogDisk.images s.disk) c.in-Ok.ensures.recs
+    append_keeps first all s.recs c.add_rec.new.recs r (s.from + length s.recs) (s.from + length c.add_rec.new.recs) s.first (s.from + s.flushed) (g.D.LogDisk.images s.disk) c.in-Ok.ensures.recs
     (omega (arith, ap length c.in-Ok.ensures.recs, length-append s.recs (r ∷ []))) keeps

@@ -1,6 +1,6 @@
-use Rattle.std.proofs.Common.{◌≡◌, inl, refl, ℕ, ◌+◌, ◌<◌, List, [], ◌∷◌, ◌++◌, length, drop, Option, Some, None, sym, ◌∙◌, ap, subst, arith}
+use Rattle.std.proofs.Common.{◌≡◌, inl, refl, ℕ, ◌+◌, ◌<◌, List, [], ◌∷◌, ◌++◌, length, drop, slice_index, Option, Some, None, sym, ◌∙◌, ap, subst, arith}
 use Rattle.std.proofs.lemmas.List.{drop_all, length-drop, take_rest}
-use Rattle.tx_model.specs.declared.record.Rec.{Rec}
+use Rattle.tx_events.specs.declared.record.Rec.{Rec}
 use Rattle.disk_core.specs.Volume.{Volume}
 use Rattle.disk_core.specs.Moments.{started, leaves_weaker}
 use Rattle.wal_core.specs.Opening.{walked, AtRest, body_in}
@@ -8,7 +8,7 @@ use Rattle.wal_core.specs.Crash.{IsFromImage}
 use Rattle.wal_core.specs.Log.{bytes_of, IsReady, OpensFromImage}
 use Rattle.wal_records.specs.Lawful.{are_lawful}
 use Rattle.wal_core.proofs.Gates.{length-behind}
-use Rattle.wal_core.proofs.Flush.{is_behind, long_behind, body_of_next, opens_from, ready_again, nothing_next}
+use Rattle.wal_core.proofs.Flush.{is_behind, long_behind, body_of_next, opens_from, ready_again, ready_ends, nothing_next}
 use Rattle.wal_core.specs.Checkpoint.{IsLastCheckpoint, MayBegin}
 use Rattle.wal_core.specs.declared.checkpoint.LastCheckpoint.{LastCheckpoint}
 use Rattle.wal_core.proofs.Walks.{gate_is}
@@ -20,7 +20,12 @@ use Rattle.wal_core.proofs.wal_log.WalLog.flush.Goals as goal
 pub returns-then-self-count-clause-any_moment : goal.returns-then-self-count-clause-any_moment
 returns-then-self-count-clause-any_moment g c told up =
     let d = g.D.LogDisk in let s = c.args.self.now in
-    started d.moment d.left_at s.disk (OpensFromImage (d.images s.disk) s.gate (drop s.flushed s.recs)) (λ x left. (x, g.met.D.LogDisk.only_now s.disk x told left, inl refl))
+    started d.moment d.left_at s.disk (OpensFromImage (d.images s.disk) s.gate (drop s.flushed s.recs)) (λ x left. let now = g.met.D.LogDisk.only_now s.disk x told left in (x, now, (inl refl, ready_ends s.gate (drop s.flushed s.recs) s.counters (s.from + length s.recs) x (s.ready told up x now))))
+
+pub returns-then-self-count-clause-left : goal.returns-then-self-count-clause-left
+returns-then-self-count-clause-left g c told up x left =
+    let s = c.args.self.now in
+    (x, left, (inl refl, ready_ends s.gate (drop s.flushed s.recs) s.counters (s.from + length s.recs) x (s.ready told up x left)))
 
 pub write_batch-requires-clause-behind : goal.write_batch-requires-clause-behind
 write_batch-requires-clause-behind g c = is_behind c.deref.result.now c.args.self.now.behind.items (drop c.args.self.now.flushed c.args.self.now.recs) c.deref.ensures.value c.args.self.now.next_batch
@@ -115,23 +120,23 @@ returns-in-Ok-clause-keeps_at_each_moment g c told first all keeps =
     let d = g.D.LogDisk in let s = c.args.self.now in let pending : List Rec = drop s.flushed s.recs in
     let some : 0 < length pending = omega (arith, s.counts, c.if-self-count.false, ap length c.items.ensures, length-drop s.flushed s.recs) in
     let up : s.down ≡ None = c.in_default.is in
-    let stays : (x : Volume) → OpensFromImage (d.images s.disk) s.gate pending x → HasFlushed first all (s.from + s.flushed) x = flush_from first all s.recs s.from s.flushed s.gate s.counters (d.images s.disk) s.lawful s.counts some (s.ready told up) keeps in
-    leaves_weaker d.moment d.left_at s.disk c.write_batch.new.disk (OpensFromImage (d.images s.disk) s.gate pending) (HasFlushed first all (s.from + s.flushed)) (returns-in-Ok-clause-any_moment g c told up) stays
+    let stays : (x : Volume) → OpensFromImage (d.images s.disk) s.gate pending x → HasFlushed first all s.first (s.from + s.flushed) x = flush_from first all s.recs s.from s.first s.flushed s.gate s.counters (d.images s.disk) s.lawful s.counts some (s.ready told up) keeps in
+    leaves_weaker d.moment d.left_at s.disk c.write_batch.new.disk (OpensFromImage (d.images s.disk) s.gate pending) (HasFlushed first all s.first (s.from + s.flushed)) (returns-in-Ok-clause-any_moment g c told up) stays
 
 pub returns-in-Err-clause-keeps_at_each_moment : goal.returns-in-Err-clause-keeps_at_each_moment
 returns-in-Err-clause-keeps_at_each_moment g c told first all keeps =
     let d = g.D.LogDisk in let s = c.args.self.now in let pending : List Rec = drop s.flushed s.recs in
     let some : 0 < length pending = omega (arith, s.counts, c.if-self-count.false, ap length c.items.ensures, length-drop s.flushed s.recs) in
     let up : s.down ≡ None = c.in_default.is in
-    let stays : (x : Volume) → OpensFromImage (d.images s.disk) s.gate pending x → HasFlushed first all (s.from + s.flushed) x = flush_from first all s.recs s.from s.flushed s.gate s.counters (d.images s.disk) s.lawful s.counts some (s.ready told up) keeps in
-    leaves_weaker d.moment d.left_at s.disk c.write_batch.new.disk (OpensFromImage (d.images s.disk) s.gate pending) (HasFlushed first all (s.from + s.flushed)) (returns-in-Err-clause-any_moment g c told up) stays
+    let stays : (x : Volume) → OpensFromImage (d.images s.disk) s.gate pending x → HasFlushed first all s.first (s.from + s.flushed) x = flush_from first all s.recs s.from s.first s.flushed s.gate s.counters (d.images s.disk) s.lawful s.counts some (s.ready told up) keeps in
+    leaves_weaker d.moment d.left_at s.disk c.write_batch.new.disk (OpensFromImage (d.images s.disk) s.gate pending) (HasFlushed first all s.first (s.from + s.flushed)) (returns-in-Err-clause-any_moment g c told up) stays
 
 pub returns-in-Err-clause-keeps : goal.returns-in-Err-clause-keeps
 returns-in-Err-clause-keeps g c told first all keeps =
     let d = g.D.LogDisk in let s = c.args.self.now in let pending : List Rec = drop s.flushed s.recs in
     let some : 0 < length pending = omega (arith, s.counts, c.if-self-count.false, ap length c.items.ensures, length-drop s.flushed s.recs) in
     let up : s.down ≡ None = c.in_default.is in
-    let stays : (x : Volume) → OpensFromImage (d.images s.disk) s.gate pending x → HasFlushed first all (s.from + s.flushed) x = flush_from first all s.recs s.from s.flushed s.gate s.counters (d.images s.disk) s.lawful s.counts some (s.ready told up) keeps in
+    let stays : (x : Volume) → OpensFromImage (d.images s.disk) s.gate pending x → HasFlushed first all s.first (s.from + s.flushed) x = flush_from first all s.recs s.from s.first s.flushed s.gate s.counters (d.images s.disk) s.lawful s.counts some (s.ready told up) keeps in
     record { earlier = keeps.earlier; whole = keeps.whole; count = keeps.count; each = λ x left. stays x (returns-in-Err-clause-left g c told up x left) }
 
 pub returns-in-Ok-clause-keeps : goal.returns-in-Ok-clause-keeps
@@ -140,7 +145,7 @@ returns-in-Ok-clause-keeps g c told first all keeps =
     let v : Volume = d.reads s.disk in let w : Volume = d.reads c.write_batch.new.disk in
     let some : 0 < length pending = omega (arith, s.counts, c.if-self-count.false, ap length c.items.ensures, length-drop s.flushed s.recs) in
     let up : s.down ≡ None = c.in_default.is in
-    let stays : (x : Volume) → OpensFromImage (d.images s.disk) s.gate pending x → HasFlushed first all (s.from + s.flushed) x = flush_from first all s.recs s.from s.flushed s.gate s.counters (d.images s.disk) s.lawful s.counts some (s.ready told up) keeps in
+    let stays : (x : Volume) → OpensFromImage (d.images s.disk) s.gate pending x → HasFlushed first all s.first (s.from + s.flushed) x = flush_from first all s.recs s.from s.first s.flushed s.gate s.counters (d.images s.disk) s.lawful s.counts some (s.ready told up) keeps in
     let is : body ≡ bytes_of pending = ap body_in c.deref.ensures.value ∙ body_of_next s.behind.items pending s.next_batch in
     let long : length c.deref.result.now ≡ 5 + length (bytes_of pending) = ap length c.deref.ensures.value ∙ long_behind s.behind.items pending s.next_batch in
     let gate_2 : ℕ = s.gate + length c.deref.result.now in let left_2 : List Rec = drop (length c.items.result.now) s.recs in
@@ -153,11 +158,21 @@ returns-in-Ok-clause-keeps g c told first all keeps =
       count = keeps.count;
       each = λ x left.
           let here : IsReady gate_2 left_2 s.counters (s.from + length s.recs) x = subst (λ (y : Volume). IsReady gate_2 left_2 s.counters (s.from + length s.recs) y) (sym (c.in-Ok.ensures.synced told x left)) ready in
-          subst (λ (n : ℕ). HasFlushed first all (s.from + n) x) (sym (ap length c.items.ensures))
-          (all_flushed first all (s.from + s.flushed) gate_2 left_2 s.counters (s.from + length s.recs) x none here (stays x (returns-in-Ok-clause-left g c told up x left)));
+          subst (λ (n : ℕ). HasFlushed first all s.first (s.from + n) x) (sym (ap length c.items.ensures))
+          (all_flushed first all s.first (s.from + s.flushed) gate_2 left_2 s.counters (s.from + length s.recs) x none here (stays x (returns-in-Ok-clause-left g c told up x left)));
     }
 
 pub returns-in-Err-clause-no_call : goal.returns-in-Err-clause-no_call
 returns-in-Err-clause-no_call g c none =
     let s = c.args.self.now in
     absurd (omega (arith, s.counts, c.if-self-count.false, ap length c.items.ensures, length-drop s.flushed s.recs, ap length none))
+
+pub returns-in-Ok-clause-end : goal.returns-in-Ok-clause-end
+returns-in-Ok-clause-end g c some =
+    let s = c.args.self.now in
+    omega (arith, c.len.ensures, long_behind s.behind.items (drop s.flushed s.recs) s.next_batch)
+
+pub returns-in-Ok-clause-closed : goal.returns-in-Ok-clause-closed
+returns-in-Ok-clause-closed g c told some =
+    let d = g.D.LogDisk in let s = c.args.self.now in
+    subst (λ (k : ℕ). slice_index (d.reads c.write_batch.new.disk).bytes (s.gate + k) ≡ 0) (c.deref.ensures.len ∙ sym c.len.ensures) (c.in-Ok.ensures.closed told)

@@ -1,7 +1,7 @@
 use Rattle.std.proofs.Common.{◌≤◌, arith}
 use Rattle.std.proofs.lemmas.List.Elements.{All-weaker}
-use Rattle.tx_model.specs.declared.event.Event.{Event}
-use Rattle.tx_model.specs.Events.{by_of, is_of}
+use Rattle.tx_events.specs.declared.event.Event.{Event}
+use Rattle.tx_events.specs.Events.{by_of, is_of}
 use Rattle.proc_table.proofs.EntryLists.{all-filter}
 use Rattle.proc_table.proofs.tests.driver.Driver.by.Goals as goal
 

@@ -1,5 +1,0 @@
-use Rattle.hall.proofs.Laying.{Laid}
-use Rattle.hall.proofs.carry.first_words.Given as goal
-
-abbrev pub invariant-loop-w : goal.invariant-loop-w
-invariant-loop-w l = Laid l.cells l.w l.posts l.words.items

@@ -1,0 +1,6 @@
+//! Values that contracts alone see.
+#![tactic(auto)]
+
+mod note;
+
+pub use note::Note;

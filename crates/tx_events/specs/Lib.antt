@@ -1,0 +1,15 @@
+pub mod Places
+pub mod Events
+pub mod Families
+pub mod Running
+pub mod Visible
+pub mod Snapshots
+pub mod Limits
+pub mod Horizon
+pub mod Base
+pub mod After
+pub mod RecordSize
+pub mod History
+pub mod IdLists
+pub mod Savepoints
+pub mod Multis

@@ -1,0 +1,22 @@
+//! The types of events, records and what a snapshot holds, and the definitions and laws of histories.
+#![tactic(auto)]
+
+mod base;
+#[cfg(test)]
+mod base_tests;
+mod event;
+mod multi;
+mod record;
+mod refusal;
+mod room;
+mod sequence;
+mod snapshot;
+
+pub use base::is_base;
+pub use event::{By, Event, EventList};
+pub use multi::{Member, MemberList, Mode, MultiEvent, MultiEventList};
+pub use record::{Counters, Rec, RecList};
+pub use refusal::{Lock, Refusal};
+pub use room::{make_one_room, make_room};
+pub use sequence::{Copied, IdList, Memory, Name, Sequence};
+pub use snapshot::SnapData;

@@ -1,0 +1,14 @@
+use crate::sequence::IdList;
+use xid_order::FullXid;
+
+/// What a snapshot holds (`SnapshotData`): no id below `xmin` runs, none at or past `xmax` counts as ended, and
+/// between them those of `xip` (top-level ids) and `subxip` run, ascending. Where `overflowed`, `subxip` is empty
+/// and parents have to be asked.
+#[derive(Clone, Drop)]
+pub struct SnapData {
+    pub xmin: FullXid,
+    pub xmax: FullXid,
+    pub xip: IdList,
+    pub subxip: IdList,
+    pub overflowed: bool,
+}

@@ -1,5 +1,5 @@
 -- Where the stores keep their numbers: the pages, the places on a page, and the pages from which on a store is kept.
-use Rattle.std.specs.Prelude.{ℕ, zero, suc, ◌+◌, ◌-◌, ◌*◌, ◌/◌, ◌%◌, ◌^◌, ◌==◌, if◌then◌else◌, List, slice_index}
+use Rattle.std.specs.Prelude.{ℕ, zero, suc, ◌+◌, ◌-◌, ◌*◌, ◌/◌, ◌%◌, ◌==◌, if◌then◌else◌, List, slice_index}
 use Rattle.xid_order.specs.Ids.{low_half, id_before}
 
 -- the commit log: two bits an id, 32768 ids a page

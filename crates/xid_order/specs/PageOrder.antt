@@ -1,5 +1,6 @@
 -- The order of pages. A page is seen by one of the numbers that stand on it, and truncation removes whole segments.
-use Rattle.std.specs.Prelude.{ℕ, ◌+◌, ◌-◌, ◌*◌, ◌/◌, ◌%◌, ◌^◌, Bool, ◌&&◌}
+use Rattle.std.specs.Prelude.{◌≡◌, ℕ, ◌+◌, ◌-◌, ◌*◌, ◌/◌, ◌%◌, ◌^◌, ◌<◌, ◌≤◌, Bool, false, ◌&&◌}
+use Rattle.xid_order.specs.Ids.{low_half}
 use Rattle.xid_order.specs.Order.{ring_before, xid_before}
 
 -- what a store's numbers are
@@ -34,3 +35,7 @@ page_precedes shape n p q =
 abbrev pub is_cut : Shape → ℕ → ℕ → ℕ → Bool
 is_cut shape n cutoff p =
     page_precedes shape n (p / 32 * 32) cutoff && page_precedes shape n (p / 32 * 32 + 31) cutoff
+
+-- the page of each number from the cutoff's number on, less than 2^31 - 2^15 past it, isn't cut
+abbrev pub IsKeptFrom : Shape → ℕ → Type 0
+IsKeptFrom shape n = (oldest x : ℕ) → oldest ≤ x → x + 2 ^ 15 < oldest + 2 ^ 31 → is_cut shape n (low_half oldest / n) (low_half x / n) ≡ false

@@ -1,12 +1,12 @@
--- A page that holds a number from the cutoff's number on, within the window of ids in use, is never cut.
-use Rattle.std.proofs.Common.{◌≡◌, ◌⊎◌, inl, inr, ⊎_elim, ℕ, ◌+◌, ◌-◌, ◌*◌, ◌/◌, ◌%◌, ◌^◌, ◌<◌, ◌≤◌, Bool, true, false, ◌&&◌, ◌||◌, nat_lt, nat_le, refl, sym, ap, arith, ◌∙◌}
+-- A page that holds a number from the cutoff's number on, and less than 2^31 - 2^15 past it, is never cut.
+use Rattle.std.proofs.Common.{◌≡◌, ◌⊎◌, inl, inr, ⊎_elim, ℕ, ◌+◌, ◌-◌, ◌*◌, ◌/◌, ◌%◌, ◌^◌, ◌<◌, ◌≤◌, Bool, true, false, ◌&&◌, refl, arith, ◌∙◌}
 use Rattle.std.proofs.Math.Nat.{add-mul, div-add-mod', div-mul-le_self, mod-lt, mul-le-mul_right}
 use Rattle.std.proofs.lemmas.Bool.{le-ltb, lt-leb}
 use Rattle.std.proofs.lemmas.Nat.{le-div}
 use Rattle.std.proofs.lemmas.Bool.Decides.{nat_tests}
 use Rattle.xid_order.specs.Ids.{low_half}
 use Rattle.xid_order.specs.Order.{ring_before, xid_before}
-use Rattle.xid_order.specs.PageOrder.{Shape, Ids, Multis, Offsets, is_before, place_of, page_number, page_precedes, is_cut}
+use Rattle.xid_order.specs.PageOrder.{Shape, Ids, Multis, Offsets, is_before, place_of, page_number, page_precedes, is_cut, IsKeptFrom}
 
 and_false : (r s : Bool) → r ≡ false → (r && s) ≡ false
 and_false r s e = rw e refl
@@ -44,6 +44,13 @@ record Places (n x o l c : ℕ) : Type 0 where
   cut_to : o < c * n + n
   order : o ≤ x → c * n ≤ l * n
 
+-- page f is the first one of x's segment, and o is on page c
+record FirstPlaces (n x o f c : ℕ) : Type 0 where
+  first_from : x < f * n + 32 * n
+  first_to : f * n ≤ x
+  cut_from : c * n ≤ o
+  cut_to : o < c * n + n
+
 -- how far page l is past page c on the ring
 record Ahead (n l c : ℕ) : Type 0 where
   by : ℕ
@@ -56,6 +63,12 @@ same_lap n x o l c few from to at = let order = at.order from in record { by = l
 next_lap : (n x o l c : ℕ) → n ≤ 2 ^ 15 → o < 2 ^ 32 → x < o → x + 2 ^ 32 + 2 ^ 21 < o + 2 ^ 31 → Places n x o l c → Ahead n l c
 next_lap n x o l c few small back to at = record { by = l * n + 2 ^ 32 - c * n; within = omega arith; is = inr (omega arith) }
 
+first_same_lap : (n x o f c : ℕ) → n ≤ 2 ^ 15 → o + 2 ^ 31 ≤ x + 2 ^ 21 → x + 2 ^ 15 < o + 2 ^ 31 → FirstPlaces n x o f c → Ahead n f c
+first_same_lap n x o f c few far to at = record { by = f * n - c * n; within = omega arith; is = inl (omega arith) }
+
+first_next_lap : (n x o f c : ℕ) → n ≤ 2 ^ 15 → o < 2 ^ 32 → o + 2 ^ 31 ≤ x + 2 ^ 32 + 2 ^ 21 → x + 2 ^ 32 + 2 ^ 15 < o + 2 ^ 31 → FirstPlaces n x o f c → Ahead n f c
+first_next_lap n x o f c few small far to at = record { by = f * n + 2 ^ 32 - c * n; within = omega arith; is = inr (omega arith) }
+
 either_way : (a b : ℕ) → (a ≤ b) ⊎ (b < a)
 either_way a b = grind arith
 
@@ -63,6 +76,12 @@ ahead : (n x o l c : ℕ) → n ≤ 2 ^ 15 → o ≤ x → x + 2 ^ 21 < o + 2 ^ 
 ahead n x o l c few from to at =
     ⊎_elim (λ (h : low_half o ≤ low_half x). same_lap n (low_half x) (low_half o) l c few h (omega arith) at)
     (λ (h : low_half x < low_half o). next_lap n (low_half x) (low_half o) l c few (omega arith) h (omega arith) at)
+    (either_way (low_half o) (low_half x))
+
+first_ahead : (n x o f c : ℕ) → n ≤ 2 ^ 15 → o + 2 ^ 31 ≤ x + 2 ^ 21 → x + 2 ^ 15 < o + 2 ^ 31 → FirstPlaces n (low_half x) (low_half o) f c → Ahead n f c
+first_ahead n x o f c few far to at =
+    ⊎_elim (λ (h : low_half o ≤ low_half x). first_same_lap n (low_half x) (low_half o) f c few (omega arith) (omega arith) at)
+    (λ (h : low_half x < low_half o). first_next_lap n (low_half x) (low_half o) f c few (omega arith) (omega arith) (omega arith) at)
     (either_way (low_half o) (low_half x))
 
 past_cut : (shape : Shape) (n l c : ℕ) → Ahead n l c → ring_before (page_number shape n l) (page_number shape n c) ≡ false
@@ -92,14 +111,45 @@ places n x o some =
       order = λ from. mul-le-mul_right n (let lower : c ≤ q = le-div c x n some (omega arith) in omega arith);
     }
 
--- the segment of a page with a number from the cutoff's number on, up to half a ring ahead, isn't cut
-pub is_kept : (shape : Shape) (n o x : ℕ) → 1 ≤ n → n ≤ 2 ^ 15 → NoSpecial shape n → o ≤ x → x + 2 ^ 21 < o + 2 ^ 31 → is_cut shape n (low_half o / n) (low_half x / n) ≡ false
+first_places : (n x o : ℕ) → 1 ≤ n → FirstPlaces n x o (x / n / 32 * 32) (o / n)
+first_places n x o some =
+    let q : ℕ = x / n in
+    let c : ℕ = o / n in
+    let f : ℕ = q / 32 * 32 in
+    let x_from : q * n ≤ x = div-mul-le_self x n in
+    let x_to : q * n + x % n ≡ x = div-add-mod' x n in
+    let x_rest : x % n < n = mod-lt x some in
+    let o_to : c * n + o % n ≡ o = div-add-mod' o n in
+    let o_rest : o % n < n = mod-lt o some in
+    let down : f * n ≤ q * n = mul-le-mul_right n (omega arith) in
+    let up : q * n ≤ (f + 31) * n = mul-le-mul_right n (omega arith) in
+    let apart : (f + 31) * n ≡ f * n + 31 * n = add-mul f 31 n in
+    record {
+      first_from = omega arith;
+      first_to = omega arith;
+      cut_from = div-mul-le_self o n;
+      cut_to = omega arith;
+    }
+
+-- a page that isn't behind page c doesn't precede it
+not_preceding : (shape : Shape) (n p c : ℕ) → NoSpecial shape n → Ahead n p c → page_precedes shape n p c ≡ false
+not_preceding shape n p c normal far =
+    and_false (is_before shape (page_number shape n p) (page_number shape n c)) _ (on_ring shape n p c normal (past_cut shape n p c far))
+
+-- the segment of a page with a number from the cutoff's number on, up to nearly half a ring ahead, isn't cut: nearby
+-- its last page isn't before the cutoff, and far ahead, where that one may already count as before it, its first page
+pub is_kept : (shape : Shape) (n o x : ℕ) → 1 ≤ n → n ≤ 2 ^ 15 → NoSpecial shape n → o ≤ x → x + 2 ^ 15 < o + 2 ^ 31 → is_cut shape n (low_half o / n) (low_half x / n) ≡ false
 is_kept shape n o x some few normal from to =
-    let l : ℕ = low_half x / n / 32 * 32 + 31 in
+    let f : ℕ = low_half x / n / 32 * 32 in
     let c : ℕ = low_half o / n in
-    let far : Ahead n l c = ahead n x o l c few from to (places n (low_half x) (low_half o) some) in
-    let kept : is_before shape (page_number shape n l) (page_number shape n c) ≡ false = on_ring shape n l c normal (past_cut shape n l c far) in
-    and_false-right (page_precedes shape n (low_half x / n / 32 * 32) c) (page_precedes shape n l c) (and_false (is_before shape (page_number shape n l) (page_number shape n c)) _ kept)
+    ⊎_elim
+    (λ (h : o + 2 ^ 31 ≤ x + 2 ^ 21).
+    let far : Ahead n f c = first_ahead n x o f c few h to (first_places n (low_half x) (low_half o) some) in
+    and_false (page_precedes shape n f c) (page_precedes shape n (f + 31) c) (not_preceding shape n f c normal far))
+    (λ (h : x + 2 ^ 21 < o + 2 ^ 31).
+    let near : Ahead n (f + 31) c = ahead n x o (f + 31) c few from h (places n (low_half x) (low_half o) some) in
+    and_false-right (page_precedes shape n f c) (page_precedes shape n (f + 31) c) (not_preceding shape n (f + 31) c normal near))
+    (either_way (o + 2 ^ 31) (x + 2 ^ 21))
 
 -- the four stores
 
@@ -109,16 +159,16 @@ xact_normal p = omega arith
 subtrans_normal : NoSpecial Ids 2048
 subtrans_normal p = omega arith
 
-pub id_is_kept : (o x : ℕ) → o ≤ x → x + 2 ^ 21 < o + 2 ^ 31 → is_cut Ids 32768 (low_half o / 32768) (low_half x / 32768) ≡ false
+pub id_is_kept : IsKeptFrom Ids 32768
 id_is_kept o x from to = is_kept Ids 32768 o x (omega arith) (omega arith) xact_normal from to
 
-pub parent_is_kept : (o x : ℕ) → o ≤ x → x + 2 ^ 21 < o + 2 ^ 31 → is_cut Ids 2048 (low_half o / 2048) (low_half x / 2048) ≡ false
+pub parent_is_kept : IsKeptFrom Ids 2048
 parent_is_kept o x from to = is_kept Ids 2048 o x (omega arith) (omega arith) subtrans_normal from to
 
-pub multi_is_kept : (o x : ℕ) → o ≤ x → x + 2 ^ 21 < o + 2 ^ 31 → is_cut Multis 2048 (low_half o / 2048) (low_half x / 2048) ≡ false
+pub multi_is_kept : IsKeptFrom Multis 2048
 multi_is_kept o x from to = is_kept Multis 2048 o x (omega arith) (omega arith) tt from to
 
-pub member_is_kept : (o x : ℕ) → o ≤ x → x + 2 ^ 21 < o + 2 ^ 31 → is_cut Offsets 1636 (low_half o / 1636) (low_half x / 1636) ≡ false
+pub member_is_kept : IsKeptFrom Offsets 1636
 member_is_kept o x from to = is_kept Offsets 1636 o x (omega arith) (omega arith) tt from to
 
 -- a page doesn't come before itself

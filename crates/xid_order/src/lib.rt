@@ -5,6 +5,7 @@
 
 mod full_multi;
 mod full_xid;
+pub mod laws;
 mod order;
 
 pub use full_multi::{FullMulti, MultiId, near_multi};

@@ -1,17 +1,12 @@
-//! The limits on transaction ids, multixacts and member offsets: where a number warns, where it stops, and where
-//! it would count as older than the oldest one. After PostgreSQL's `SetTransactionIdLimit` (`varsup.c`) and
-//! `SetMultiXactIdLimit`, `SetOffsetVacuumLimit` (`multixact.c`), with numbers in full.
+//! Whether the next transaction id or multixact may be given: it warns near its limit, and at its limit it is refused.
+//! After PostgreSQL's `GetNewTransactionId` (`src/backend/access/transam/varsup.c`) and `GetNewMultiXactId`
+//! (`multixact.c`), with numbers in full. See docs/IDS-AND-LIMITS.md.
 #![tactic(auto)]
 
 mod ids;
-mod laws;
-mod members;
 mod multis;
-mod nearby;
 #[cfg(test)]
 mod tests;
 
-pub use ids::Limits;
-pub use laws::limits_rise;
-pub use members::member_stop;
-pub use multis::MultiLimits;
+pub use ids::check_id;
+pub use multis::check_multi;

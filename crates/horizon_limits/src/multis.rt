@@ -1,64 +1,24 @@
-ghost use Rattle.std.specs.Prelude.{◌≡◌, ℕ, ◌^◌, ◌<◌, ◌≤◌};
-ghost use Rattle.xid_order.specs.Ids.{low_half};
-ghost use Rattle.tx_events.specs.Limits.{multi_wrap_limit, multi_stop_limit, multi_warn_limit};
+//! Whether the next multixact may still be given.
+ghost use Rattle.std.specs.Prelude.{◌^◌, ◌<◌};
+ghost use Rattle.xid_order.specs.Limits.{multi_stop_limit, multi_warn_limit};
 ghost use Rattle.tx_events.specs.declared.refusal.Refusal.TheVariants as refusals;
 ghost use Rattle.horizon_limits.specs.Checks.{IsCheck};
 
-use crate::nearby::{HALF_ROUND, STOP_MARGIN, WARN_MARGIN, capped, down_to, up_to};
 use tx_events::Refusal;
-use xid_order::FullMulti;
+use xid_order::{FullMulti, MultiLimits};
 
-/// The limits on multixacts under one oldest multixact.
-#[derive(Clone, Copy, Debug, PartialEq, Eq)]
-pub struct MultiLimits {
-    /// From here on a multixact would count as older than the oldest one.
-    pub wrap: FullMulti,
-    /// No multixact at or past it is given.
-    pub stop: FullMulti,
-    /// A multixact at or past it is given with a warning.
-    pub warn: FullMulti,
-}
-
-/// The multixact of a number that is known to be one.
-fn multi_of(number: u64) -> FullMulti
-    requires { 1 ≤ low_half number }
-    ensures { result ≡ number }
+/// Whether the multixact `next` is given with a warning, under an oldest multixact below 2^63. Refused with
+/// `MultiStop` exactly where it is at or past the stop limit (`GetNewMultiXactId`).
+pub fn check_multi(oldest: FullMulti, next: FullMulti) -> Result<bool, Refusal>
+    requires { oldest < 2 ^ 63 }
+    ensures { IsCheck (multi_stop_limit oldest) (multi_warn_limit oldest) next (refusals.MultiStop next (multi_stop_limit oldest)) result }
 {
-    match FullMulti::new(number) {
-        Some(multi) => multi,
-        None => unreachable!(),
+    let limits = MultiLimits::of(oldest);
+    if next >= limits.stop {
+        return Err(Refusal::MultiStop {
+            next,
+            stop: limits.stop,
+        });
     }
-}
-
-impl MultiLimits {
-    /// The limits under this oldest multixact, which is below 2^63 (`SetMultiXactIdLimit`).
-    pub fn of(oldest: FullMulti) -> MultiLimits
-        requires { oldest < 2 ^ 63 }
-        ensures wrap { result.wrap ≡ multi_wrap_limit oldest }
-        ensures stop { result.stop ≡ multi_stop_limit oldest }
-        ensures warn { result.warn ≡ multi_warn_limit oldest }
-    {
-        let wrap = up_to(oldest.number() + HALF_ROUND, 1);
-        let stop = down_to(wrap - STOP_MARGIN, 1);
-        let warn = down_to(wrap - WARN_MARGIN, 1);
-        MultiLimits {
-            wrap: multi_of(wrap),
-            stop: multi_of(capped(stop)),
-            warn: multi_of(warn),
-        }
-    }
-
-    /// Whether `next` is given with a warning. Refused with `MultiStop` exactly where it is at or past the stop
-    /// limit (`GetNewMultiXactId`).
-    pub fn check(&self, next: FullMulti) -> Result<bool, Refusal>
-        ensures { IsCheck self.now.stop self.now.warn next (refusals.MultiStop next self.now.stop) result }
-    {
-        if next >= self.stop {
-            return Err(Refusal::MultiStop {
-                next,
-                stop: self.stop,
-            });
-        }
-        Ok(next >= self.warn)
-    }
+    Ok(next >= limits.warn)
 }

@@ -8,7 +8,7 @@ use Rattle.tx_events.specs.declared.multi.MultiEvent.{MultiEvent}
 use Rattle.tx_events.specs.declared.multi.MultiEvent.TheVariants as events
 use Rattle.tx_events.specs.declared.record.Counters.{Counters}
 use Rattle.tx_events.specs.Base.{IsBase}
-use Rattle.tx_events.specs.Limits.{multi_stop_limit, member_stop}
+use Rattle.xid_order.specs.Limits.{multi_stop_limit, member_stop}
 use Rattle.tx_events.specs.Multis.{made, made_at, next_made, nth_multi, free_offset, first_member, oldest_multi, oldest_offset, IsNextMade}
 use Rattle.tx_events.proofs.ListSteps.{length_push, below_not, above_not}
 use Rattle.tx_events.proofs.PlaceLemmas.{slice_get-grows, last_at}

@@ -9,7 +9,7 @@ use Rattle.tx_events.specs.declared.multi.MultiEvent.TheVariants as events
 use Rattle.tx_events.specs.declared.record.Counters.{Counters}
 use Rattle.tx_events.specs.declared.refusal.Refusal.{Refusal}
 use Rattle.tx_events.specs.declared.refusal.Refusal.TheVariants as refusals
-use Rattle.tx_events.specs.Limits.{multi_stop_limit, multi_warn_limit, member_stop}
+use Rattle.xid_order.specs.Limits.{multi_stop_limit, multi_warn_limit, member_stop}
 use Rattle.tx_events.specs.Multis.{next_made, free_offset, first_member, oldest_multi, oldest_offset, pin_limit, made_at, BeginsAt, InBase, multi_counters}
 use Rattle.multi_store.specs.declared.answers.Held.{Held}
 use Rattle.multi_store.specs.declared.answers.MultiGiven.{MultiGiven}

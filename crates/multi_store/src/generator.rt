@@ -7,14 +7,14 @@ ghost use Rattle.multi_store.specs.Generator.{Generator, Adds, Gives, Means, Hol
 use crate::answers::{Held, MultiGiven};
 use crate::pins::{PinCounts, PinKey, add_pin, drop_pin, has_pin, least_pinned};
 use crate::places::{first_member, place_of};
-use horizon_limits::{MultiLimits, member_stop};
+use horizon_limits::check_multi;
 use std::alloc::Global;
 use std::collections::BTreeMap;
 use std::marker::Model;
 use tx_events::{
     By, Copied, Counters, MemberList, Memory, MultiEvent, Refusal, make_one_room, make_room,
 };
-use xid_order::{FullMulti, MultiId, near_multi};
+use xid_order::{FullMulti, MultiId, member_stop, near_multi};
 
 /// The generator of multixacts, and their history so far. A contract sees the base of the life and the events.
 #[derive(Drop)]
@@ -69,10 +69,7 @@ impl MultiGen {
         ensures { Gives self.old self.new by members.now result }
     {
         let multi = self.counters.multi;
-        let warn = match MultiLimits::of(self.counters.oldest_multi).check(multi) {
-            Ok(warn) => warn,
-            Err(refusal) => return Err(refusal),
-        };
+        let warn = check_multi(self.counters.oldest_multi, multi)?;
         let offset = first_member(self.counters.offset);
         let end = offset + members.items().len() as u64;
         let stop = member_stop(self.counters.oldest_offset);

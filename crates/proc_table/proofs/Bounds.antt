@@ -9,7 +9,7 @@ use Rattle.tx_events.proofs.IdOrder.{nth_from}
 use Rattle.tx_events.specs.Base.{IsBase}
 use Rattle.tx_events.specs.Events.{given}
 use Rattle.tx_events.specs.History.{next_given, IsLegal}
-use Rattle.tx_events.specs.Limits.{stop_limit}
+use Rattle.xid_order.specs.Limits.{stop_limit}
 use Rattle.tx_events.specs.Running.{is_open, closed}
 use Rattle.tx_events.specs.Snapshots.{latest}
 use Rattle.tx_events.specs.declared.event.Event.{Event}

@@ -25,7 +25,7 @@ use Rattle.tx_events.proofs.IdOrder.{next_above}
 use Rattle.tx_events.proofs.GivenGrowth.{next_after}
 use Rattle.tx_events.specs.History.{nth_id, MayCome, ComesInTurn}
 use Rattle.tx_events.specs.Horizon.{announced_after, live_up, live_snaps}
-use Rattle.tx_events.specs.Limits.{stop_limit}
+use Rattle.xid_order.specs.Limits.{stop_limit}
 use Rattle.tx_events.specs.Running.{running, open_ids}
 use Rattle.tx_events.specs.declared.event.By.{By}
 use Rattle.tx_events.specs.declared.event.Event.{Event}

@@ -24,7 +24,7 @@ use Rattle.tx_events.proofs.GivingGrowth.{giving_running, giving_sub, sub_tops, 
 use Rattle.tx_events.specs.Events.{given}
 use Rattle.tx_events.specs.Horizon.{live_snaps}
 use Rattle.tx_events.specs.IdLists.{has}
-use Rattle.tx_events.specs.Limits.{stop_limit}
+use Rattle.xid_order.specs.Limits.{stop_limit}
 use Rattle.tx_events.specs.Running.{is_open, running, open_ids}
 use Rattle.tx_events.specs.declared.event.By.{By}
 use Rattle.tx_events.specs.declared.event.Event.{Event}

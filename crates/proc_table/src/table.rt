@@ -19,7 +19,7 @@ use crate::entries::{
 };
 use crate::entry::{Entry, greatest};
 use crate::live::LiveSnapshots;
-use horizon_limits::Limits;
+use horizon_limits::check_id;
 use std::alloc::{AllocError, Global};
 use std::marker::Model;
 use tx_events::{
@@ -106,10 +106,7 @@ impl ProcTable {
         if page_of(id) > self.frontier {
             return Ok(Given::NeedPage { id });
         }
-        let warn = match Limits::of(self.oldest).check(id) {
-            Ok(warn) => warn,
-            Err(refusal) => return Err(refusal),
-        };
+        let warn = check_id(self.oldest, id)?;
         if !make_one_room(&mut self.entries) {
             return Err(Refusal::Memory);
         }
@@ -137,10 +134,7 @@ impl ProcTable {
         if page_of(id) > self.frontier {
             return Ok(Given::NeedPage { id });
         }
-        let warn = match Limits::of(self.oldest).check(id) {
-            Ok(warn) => warn,
-            Err(refusal) => return Err(refusal),
-        };
+        let warn = check_id(self.oldest, id)?;
         if !make_room(&mut self.events, self.promised, 2) {
             return Err(Refusal::Memory);
         }

@@ -10,7 +10,7 @@ use Rattle.tx_events.specs.Families.{top}
 use Rattle.tx_events.specs.History.{IsLegal, MayCome, next_given, nth_id}
 use Rattle.tx_events.specs.Horizon.{LiveSnap, oldest_id, oldest_xmin, live_snaps}
 use Rattle.tx_events.specs.IdLists.{Ascending}
-use Rattle.tx_events.specs.Limits.{stop_limit, up_to_normal, down_to_normal}
+use Rattle.xid_order.specs.Limits.{stop_limit, up_to_normal, down_to_normal}
 use Rattle.tx_events.specs.Running.{running, running_tops, open_ids, is_open}
 use Rattle.tx_events.specs.Snapshots.{latest, snapshot_xmin, snapshot_xmax}
 use Rattle.tx_events.proofs.ClosingGrowth.{IsClosing, closing_running, closing_undo, closing_commit, closing_abort}

@@ -6,7 +6,7 @@ use Rattle.tx_model.specs.declared.reply.Reply.TheVariants as replies
 use Rattle.tx_events.specs.declared.refusal.Refusal.TheVariants as refusals
 use Rattle.tx_model.specs.CommandEvents.{giving, level_events}
 use Rattle.tx_events.specs.Horizon.{oldest_id}
-use Rattle.tx_events.specs.Limits.{warn_limit, stop_limit}
+use Rattle.xid_order.specs.Limits.{warn_limit, stop_limit}
 use Rattle.tx_events.specs.History.{next_given}
 use Rattle.tx_model.specs.Replies.{IsWarned}
 use Rattle.session_run.specs.declared.session.Session.{Session}

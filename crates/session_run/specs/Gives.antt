@@ -8,7 +8,7 @@ use Rattle.tx_events.specs.declared.refusal.Refusal.TheVariants as refusals
 use Rattle.tx_model.specs.CommandEvents.{giving, level_events}
 use Rattle.tx_events.specs.Events.{by_of, is_of}
 use Rattle.tx_events.specs.History.{MayCome}
-use Rattle.tx_events.specs.Limits.{warn_limit}
+use Rattle.xid_order.specs.Limits.{warn_limit}
 use Rattle.tx_model.specs.Replies.{IsWarned}
 use Rattle.tx_events.specs.Running.{open_ids}
 use Rattle.proc_table.specs.Table.{next_of, oldest_of, stop_of}

@@ -9,7 +9,7 @@ use Rattle.tx_events.specs.Places.{EachPlace}
 use Rattle.tx_events.specs.Events.{by_of, given, is_of}
 use Rattle.tx_events.specs.Families.{is_top}
 use Rattle.tx_events.specs.Running.{open_ids}
-use Rattle.tx_events.specs.Limits.{stop_limit}
+use Rattle.xid_order.specs.Limits.{stop_limit}
 use Rattle.tx_events.specs.Horizon.{oldest_id, oldest_xmin, is_live}
 
 -- the id n places past the first one

@@ -4,7 +4,6 @@ pub mod Families
 pub mod Running
 pub mod Visible
 pub mod Snapshots
-pub mod Limits
 pub mod Horizon
 pub mod Base
 pub mod After

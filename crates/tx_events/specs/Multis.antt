@@ -9,7 +9,7 @@ use Rattle.tx_events.specs.declared.multi.Mode.TheVariants as modes
 use Rattle.tx_events.specs.declared.multi.MultiEvent.{MultiEvent}
 use Rattle.tx_events.specs.declared.multi.MultiEvent.TheVariants as events
 use Rattle.tx_events.specs.declared.record.Counters.{Counters}
-use Rattle.tx_events.specs.Limits.{multi_stop_limit, member_stop}
+use Rattle.xid_order.specs.Limits.{multi_stop_limit, member_stop}
 use Rattle.tx_events.specs.Places.{EachPlace}
 
 -- whose event it is

@@ -1,43 +1,38 @@
-ghost use Rattle.std.specs.Prelude.{◌≡◌, ℕ, ◌+◌, ◌-◌, ◌%◌, ◌^◌, ◌≤◌, ◌↔◌, IsTrue, cond, min, nat_lt};
-ghost use Rattle.xid_order.specs.Ids.{low_half};
-ghost use Rattle.tx_events.specs.Limits.{stop_limit, multi_stop_limit, member_stop};
+//! Which counters a life may start from. A start asks it of whatever a log holds, so it answers for any counters.
+ghost use Rattle.std.specs.Prelude.{◌≡◌, ◌^◌, ◌<◌, ◌≤◌, ◌↔◌, IsTrue};
+ghost use Rattle.xid_order.specs.Ids.{IsFullId};
+ghost use Rattle.xid_order.specs.Limits.{stop_limit, multi_stop_limit, member_stop};
 ghost use Rattle.tx_events.specs.Base.{IsBase};
 
 use crate::record::Counters;
+use xid_order::{FullMulti, FullXid, Limits, MultiLimits, member_stop};
 
-const GREATEST: u128 = 0x7fff_ffff_ffff_ffff;
+/// Limits are below 2^63, so a number from there on is past each of them.
+const PAST_LIMITS: u64 = 1 << 63;
 
-/// The stop limit that an oldest number has: half round the ring, `first` being the least low half that isn't
-/// special.
-fn stop_number(oldest: u64, first: u128) -> u128
-    requires small { (1 ≤ first) × (first ≤ 3) }
-    ensures ids { first ≡ 3 → result ≡ stop_limit oldest }
-    ensures multis { first ≡ 1 → result ≡ multi_stop_limit oldest }
+/// Whether these are no special ids, and the next id is one from the oldest to its stop limit.
+fn are_ids(oldest: FullXid, next: FullXid) -> bool
+    ensures { IsTrue result ↔ (IsFullId next × IsFullId oldest × (oldest ≤ next) × (next ≤ stop_limit oldest)) }
 {
-    let half_round = u128::from(oldest) + 0x7fff_ffff;
-    let low = half_round & 0xffff_ffff;
-    let wrap = if low < first {
-        half_round + (first - low)
-    } else {
-        half_round
-    };
-    let before = wrap - 3_000_000;
-    let low = before & 0xffff_ffff;
-    let stop = if low < first {
-        before - low - 1
-    } else {
-        before
-    };
-    stop.min(GREATEST)
+    next.number() >= 3
+        && oldest.number() >= 3
+        && oldest <= next
+        && next.number() < PAST_LIMITS
+        && next <= Limits::of(oldest).stop
 }
 
-/// The stop limit of member offsets.
-fn member_stop_number(oldest: u64) -> u128
-    ensures { result ≡ member_stop oldest }
+/// Whether the next multixact is one from the oldest to its stop limit.
+fn are_multis(oldest: FullMulti, next: FullMulti) -> bool
+    ensures { IsTrue result ↔ ((oldest ≤ next) × (next ≤ multi_stop_limit oldest)) }
 {
-    let into = u128::from((oldest & 0xffff_ffff) % 52_352);
-    let stop = u128::from(oldest) + (1 << 30) - 52_352 - into;
-    stop.min(GREATEST)
+    oldest <= next && next.number() < PAST_LIMITS && next <= MultiLimits::of(oldest).stop
+}
+
+/// Whether the next offset is one from the oldest to its limit.
+fn are_offsets(oldest: u64, next: u64) -> bool
+    ensures { IsTrue result ↔ ((oldest ≤ next) × (next ≤ member_stop oldest)) }
+{
+    oldest <= next && next < PAST_LIMITS && next <= member_stop(oldest)
 }
 
 /// Whether a life may start from these counters: each oldest number is at most the next one, which is at most its
@@ -45,17 +40,8 @@ fn member_stop_number(oldest: u64) -> u128
 pub fn is_base(counters: &Counters) -> bool
     ensures { IsTrue result ↔ IsBase counters.now }
 {
-    let next = counters.next.number();
-    let oldest = counters.oldest.number();
-    let multi = counters.multi.number();
-    let oldest_multi = counters.oldest_multi.number();
-    next >= 3
-        && oldest >= 3
-        && oldest <= next
-        && u128::from(next) <= stop_number(oldest, 3)
-        && oldest_multi <= multi
-        && u128::from(multi) <= stop_number(oldest_multi, 1)
-        && counters.oldest_offset <= counters.offset
-        && u128::from(counters.offset) <= member_stop_number(counters.oldest_offset)
-        && (oldest_multi != multi || counters.oldest_offset == counters.offset)
+    are_ids(counters.oldest, counters.next)
+        && are_multis(counters.oldest_multi, counters.multi)
+        && are_offsets(counters.oldest_offset, counters.offset)
+        && (counters.oldest_multi != counters.multi || counters.oldest_offset == counters.offset)
 }

@@ -12,7 +12,7 @@ use Rattle.tx_model.specs.Stance.{Stance, stance_from, after, nothing_yet}
 use Rattle.tx_model.specs.Replies.{MayReply, WasAnnounced, IsGivenAt, IsWarned, IsStopped, seen_id}
 use Rattle.tx_events.specs.Snapshots.{snapshot_data, snapshot_xmax}
 use Rattle.tx_events.specs.Visible.{is_visible}
-use Rattle.tx_events.specs.Limits.{stop_limit, warn_limit}
+use Rattle.xid_order.specs.Limits.{stop_limit, warn_limit}
 use Rattle.tx_events.specs.History.{next_given}
 use Rattle.tx_events.specs.Horizon.{oldest_id}
 use Rattle.tx_model.specs.declared.command.Command.{Command}

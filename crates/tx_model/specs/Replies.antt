@@ -12,7 +12,7 @@ use Rattle.tx_model.specs.declared.reply.Reply.TheVariants as replies
 use Rattle.tx_events.specs.declared.refusal.Refusal.TheVariants as refusals
 use Rattle.tx_events.specs.declared.record.Counters.{Counters}
 use Rattle.tx_events.specs.Events.{announced_by, by_of, given_by}
-use Rattle.tx_events.specs.Limits.{stop_limit, warn_limit}
+use Rattle.xid_order.specs.Limits.{stop_limit, warn_limit}
 use Rattle.tx_events.specs.History.{next_given}
 use Rattle.tx_events.specs.Horizon.{oldest_id}
 use Rattle.tx_events.specs.Snapshots.{snapshot_data, snapshot_xmax}

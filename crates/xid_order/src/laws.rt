@@ -1,4 +1,6 @@
-//! What the order of pages promises of numbers in use. The function does nothing; its contract is the law.
+//! Laws on pages and limits. The functions do nothing; their contracts are the laws.
+ghost use Rattle.std.specs.Prelude.{ℕ, ◌≤◌};
+ghost use Rattle.xid_order.specs.Limits.{LimitsRise};
 ghost use Rattle.xid_order.specs.PageOrder.{Ids, Multis, Offsets, IsKeptFrom};
 
 /// In each store a page with a number from the cutoff's number on, and less than 2^31 - 2^15 past it, isn't cut. Given
@@ -9,4 +11,9 @@ pub fn pages_are_kept()
     ensures parents { IsKeptFrom Ids 2048 }
     ensures multis { IsKeptFrom Multis 2048 }
     ensures members { IsKeptFrom Offsets 1636 }
+{}
+
+/// No limit falls where the oldest number rises.
+pub fn limits_rise()
+    ensures { (a b : ℕ) → a ≤ b → LimitsRise a b }
 {}

@@ -1,5 +1,5 @@
 use Rattle.std.proofs.Common.{◌≡◌, refl, sym, subst, ap, arith, ◌<◌, Contains}
-use Rattle.tx_events.specs.Limits.{stop_limit}
+use Rattle.xid_order.specs.Limits.{stop_limit}
 use Rattle.tx_events.specs.Running.{open_ids}
 use Rattle.proc_table.specs.Table.{InTurn}
 use Rattle.proc_table.proofs.SubStates.{state_sub, state_same}
@@ -22,7 +22,7 @@ invariant_of-self-2 c =
     let view : c.self.inside.events.items ≡ c.args.self.now.events = ap (λ t. t.events) c.self.view_is in
     let turn : InTurn c.args.by c.self.inside.events.items = subst (InTurn c.args.by) (sym view) c.requires.turn in
     let parent : Contains (open_ids c.args.by.session c.self.inside.events.items) c.args.parent = subst (λ h. Contains (open_ids c.args.by.session h) c.args.parent) (sym view) c.requires.parent in
-    let below : c.self.inside.next < stop_limit c.self.inside.oldest = subst (λ s. c.self.inside.next < s) c.of.ensures.stop c.in-Ok.ensures.0 in (
+    let below : c.self.inside.next < stop_limit c.self.inside.oldest = c.in_ok-warn.ensures.0 in (
       rw (c.push_reserved.ensures.items, c.make_room.ensures.items, c.advance-self-inside.ensures.value)
           (state_sub _ _ c.args.by c.args.parent c.self.inside.next _ _ _ _ _ _
           (state_same _ _ _ _ _ _ _ _ _ c.self.invariant.0 (zip_from_each _ _ _ c.make_sub_room.ensures.same)) below turn parent (zip_from_each _ _ _ c.add_id.ensures)),

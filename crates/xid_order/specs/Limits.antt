@@ -1,5 +1,5 @@
 -- How far numbers may go from the oldest one that is still asked for (SetTransactionIdLimit, SetMultiXactIdLimit).
-use Rattle.std.specs.Prelude.{ℕ, ◌+◌, ◌-◌, ◌%◌, ◌^◌, nat_lt, min, cond}
+use Rattle.std.specs.Prelude.{ℕ, ◌+◌, ◌-◌, ◌%◌, ◌^◌, ◌≤◌, nat_lt, min, cond}
 use Rattle.xid_order.specs.Ids.{low_half}
 
 -- the first number from n on whose low half isn't special
@@ -42,3 +42,13 @@ multi_warn_limit oldest = down_to_multi (multi_wrap_limit oldest - 40000000)
 -- at or past it. A segment is 32 pages of 1636 members
 abbrev pub member_stop : ℕ → ℕ
 member_stop oldest = min (oldest + 2 ^ 30 - 52352 - low_half oldest % 52352) (2 ^ 63 - 1)
+
+-- no limit under a is past the one under b
+pub record LimitsRise (a b : ℕ) : Type 0 where
+  pub wrap : wrap_limit a ≤ wrap_limit b
+  pub stop : stop_limit a ≤ stop_limit b
+  pub warn : warn_limit a ≤ warn_limit b
+  pub multi_wrap : multi_wrap_limit a ≤ multi_wrap_limit b
+  pub multi_stop : multi_stop_limit a ≤ multi_stop_limit b
+  pub multi_warn : multi_warn_limit a ≤ multi_warn_limit b
+  pub members : member_stop a ≤ member_stop b

@@ -1,3 +1,5 @@
+//! Sums on the ring, rounded past the numbers that stand for nothing (low halves 0 to 2 of ids, 0 of multixacts), as
+//! PostgreSQL's limit functions round them.
 ghost use Rattle.std.specs.Prelude.{◌≡◌, ℕ, ◌+◌, ◌-◌, ◌%◌, ◌^◌, ◌<◌, ◌≤◌, ◌⊎◌, cond, min, nat_lt};
 ghost use Rattle.xid_order.specs.Ids.{low_half};
 

@@ -1,7 +1,8 @@
+//! The limit on member offsets. After PostgreSQL's `SetOffsetVacuumLimit` (`src/backend/access/transam/multixact.c`).
 ghost use Rattle.std.specs.Prelude.{◌≡◌, ℕ, ◌^◌, ◌<◌};
-ghost use Rattle.tx_events.specs.Limits.{member_stop};
+ghost use Rattle.xid_order.specs.Limits.{member_stop};
 
-use crate::nearby::capped;
+use crate::rounding::capped;
 
 /// A quarter of all member offsets.
 const QUARTER_ROUND: u64 = 1 << 30;

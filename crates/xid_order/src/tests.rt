@@ -1,0 +1,52 @@
+use crate::{FullMulti, FullXid, Limits, MultiLimits, member_stop};
+
+#[test]
+fn limits_on_ids(rt: HostRuntime) {
+    for (oldest, wrap, stop, warn) in [
+        (3, 2_147_483_650, 2_144_483_650, 2_107_483_650),
+        (2_147_483_649, 4_294_967_299, 4_291_967_299, 4_254_967_299),
+        (2_150_483_650, 4_297_967_297, 4_294_967_295, 4_257_967_297),
+        (2_187_483_651, 4_334_967_298, 4_331_967_298, 4_294_967_295),
+        (
+            9_223_372_036_854_775_807,
+            9_223_372_039_002_259_454,
+            9_223_372_036_854_775_807,
+            9_223_372_038_962_259_454,
+        ),
+    ] {
+        let id = FullXid::new(oldest).expect(&rt, "a full id");
+        assert!(rt; oldest < 1 << 63);
+        let limits = Limits::of(id);
+        assert_eq!(rt; limits.wrap.number(), wrap, "wrap at {oldest}");
+        assert_eq!(rt; limits.stop.number(), stop, "stop at {oldest}");
+        assert_eq!(rt; limits.warn.number(), warn, "warn at {oldest}");
+    }
+}
+
+#[test]
+fn limits_on_multixacts(rt: HostRuntime) {
+    for (oldest, wrap, stop, warn) in [
+        (1, 2_147_483_648, 2_144_483_648, 2_107_483_648),
+        (2_147_483_649, 4_294_967_297, 4_291_967_297, 4_254_967_297),
+        (2_150_483_649, 4_297_967_296, 4_294_967_295, 4_257_967_296),
+    ] {
+        let multi = FullMulti::new(oldest).expect(&rt, "a full multixact id");
+        assert!(rt; oldest < 1 << 63);
+        let limits = MultiLimits::of(multi);
+        assert_eq!(rt; limits.wrap.number(), wrap, "wrap at {oldest}");
+        assert_eq!(rt; limits.stop.number(), stop, "stop at {oldest}");
+        assert_eq!(rt; limits.warn.number(), warn, "warn at {oldest}");
+    }
+}
+
+#[test]
+fn members_stop_a_quarter_round(rt: HostRuntime) {
+    for (oldest, stop) in [
+        (1, 1_073_689_472),
+        (52_352, 1_073_741_824),
+        (4_294_967_297, 5_368_656_768),
+    ] {
+        assert!(rt; oldest < 1 << 63);
+        assert_eq!(rt; member_stop(oldest), stop, "at {oldest}");
+    }
+}

@@ -1,5 +1,5 @@
 -- A slot of members is set, and the other slots stay.
-use Rattle.std.proofs.Common.{◌≡◌, ◌≢◌, ◌⊎◌, inl, inr, ⊎_elim, ℕ, zero, suc, ◌+◌, ◌-◌, ◌*◌, ◌/◌, ◌%◌, ◌^◌, ◌<◌, ◌≤◌, ◌==◌, ◌&&◌, Bool, true, false, List, length, take, drop, slice_index, slice_set, Result, Ok, Err, OnOk, OnErr, refl, sym, ◌∙◌, ap, subst, arith}
+use Rattle.std.proofs.Common.{◌≡◌, ◌≢◌, ◌⊎◌, inl, inr, ⊎_elim, ℕ, zero, suc, ◌+◌, ◌/◌, ◌<◌, ◌≤◌, ◌==◌, ◌&&◌, Bool, true, false, List, length, take, drop, slice_index, slice_set, Result, Ok, Err, OnOk, OnErr, refl, sym, ◌∙◌, ap, subst, arith}
 use Rattle.std.proofs.lemmas.Bool.{eqb-true}
 use Rattle.std.proofs.lemmas.List.{get_or-drop, get_or-take, get_or-set_same, get_or-set_other}
 use Rattle.xid_order.specs.PageOrder.{Offsets}
@@ -7,10 +7,10 @@ use Rattle.xid_order.specs.Layouts.{number_in}
 use Rattle.multi_members.specs.MemberPlaces.{mode_at, id_at}
 use Rattle.slru_bank.specs.Bank.{masked, PutsPage, IsPage}
 use Rattle.slru_bank.specs.Crash.{SameMap, IsBetween}
-use Rattle.slru_bank.specs.Removal.{ClearsAfter, cleared_from}
+use Rattle.slru_bank.specs.Removal.{ClearsAfter}
 use Rattle.slru_bank.specs.ByteRange.{PutsNumber, other_number, cleared_before, cleared_number_before, cleared_number_past}
 use Rattle.slru_bank.specs.declared.refusal.BankRefusal.{BankRefusal}
-use Rattle.multi_members.specs.Changes.{SameSlot, SetsMember, MaySetMode, TrimsMembers}
+use Rattle.multi_members.specs.Changes.{SetsMember, MaySetMode, TrimsMembers}
 
 -- ---- a byte as a whole is set
 

@@ -1,5 +1,5 @@
 -- What a change of members does to the pages.
-use Rattle.std.specs.Prelude.{◌≡◌, ◌≢◌, ℕ, ◌+◌, ◌*◌, ◌/◌, ◌%◌, ◌<◌, ◌≤◌, ◌^◌, Bool, true, false, List, slice_index}
+use Rattle.std.specs.Prelude.{◌≡◌, ◌≢◌, ℕ, ◌<◌, ◌≤◌, ◌^◌, true, false, List, slice_index}
 use Rattle.disk_core.specs.Pages.{zero_page}
 use Rattle.xid_order.specs.PageOrder.{Offsets, page_precedes}
 use Rattle.xid_order.specs.Layouts.{number_in}

@@ -8,11 +8,12 @@ ghost use Rattle.slru_bank.specs.Bank.{map_of};
 ghost use Rattle.slru_bank.specs.Crash.{SameMap, CrashLeaves, IsMixture, IsMixtureOrGone};
 ghost use Rattle.slru_bank.specs.declared.refusal.BankRefusal.TheVariants.{Cut, DiskFault};
 ghost use Rattle.slru_bank.specs.Removal.{MayDrop};
-ghost use Rattle.multi_members.specs.Slots.{mode_number, slot_of};
+ghost use Rattle.tx_events.specs.Modes.{mode_number};
+ghost use Rattle.multi_members.specs.Slots.{slot_of};
 ghost use Rattle.multi_members.specs.Changes.{SetsMember, MaySetMode, TrimsMembers};
 
 use crate::Slot;
-use crate::modes::{number_of_mode, slot_of_numbers};
+use crate::modes::slot_of_numbers;
 use crate::pages::{MemberPages, id_place, member_page, mode_place};
 use disk_core::PageDisk;
 use slru_bank::{BankRefusal, SlruBank, put_number, read_number};
@@ -37,7 +38,7 @@ pub fn write_member<P: PageDisk>(
     ensures crash { IsTrue P.tells → CrashLeaves (IsMixture (map_of (P.pages bank.old.disk) bank.old.buffers.items) (map_of (P.pages bank.new.disk) bank.new.buffers.items)) P.images P.moment P.left_at bank.old.disk bank.new.disk }
 {
     let page = member_page(offset);
-    bank.set(page, mode_place(offset), 255, number_of_mode(mode))?;
+    bank.set(page, mode_place(offset), 255, mode.number())?;
     put_number(bank, page, id_place(offset), x.number)
 }
 

@@ -5,7 +5,10 @@ use Rattle.proc_table.specs.Entries.{IsEntry, IsEntryAt}
 use Rattle.proc_table.specs.Lists.{tops_of}
 use Rattle.proc_table.specs.Lives.{HoldsLive}
 use Rattle.proc_table.specs.State.{IsState}
-use Rattle.proc_table.specs.Table.{InTurn, end_event}
+use Rattle.tx_events.specs.declared.xact_end.XactEnd.{XactEnd}
+use Rattle.tx_events.specs.declared.xact_end.XactEnd.TheVariants as ends
+use Rattle.tx_events.specs.XactEnds.{end_event}
+use Rattle.proc_table.specs.Table.{InTurn}
 use Rattle.proc_table.specs.declared.entry.Entry.{Entry}
 use Rattle.proc_table.specs.declared.live.LiveSnapshots.{LiveSnapshots}
 use Rattle.std.proofs.Common.{◌≡◌, ℕ, ◌-◌, ◌<◌, ◌≤◌, List, [], ◌∷◌, ◌++◌, length, reverse, refl, ap, sym, ◌∙◌, arith, Bool, true, false, not, ◌&&◌, ◌==◌, ◌||◌, cond, Contains, subst, max, inl, inr, ⊎_elim, ◌⊎◌, ◌+◌, eqb-true}
@@ -103,15 +106,15 @@ pub has_entry : (base : Counters) (h : List Event) (n oldest late promised : ℕ
 has_entry base h n oldest late promised entries lives session t s c f =
     ap (λ l. has l t) s.tops ∙ has-filter (is_top h) (running h) t ∙ ap (λ b. b && is_top h t) (session_runs session h t c) ∙ f
 
-pub state_ended : (base : Counters) (h : List Event) (by : By) (t last n oldest late promised : ℕ) (committed : Bool) (entries : List Entry) (lives : LiveSnapshots) →
+pub state_ended : (base : Counters) (h : List Event) (by : By) (t last n oldest late promised : ℕ) (how : XactEnd) (entries : List Entry) (lives : LiveSnapshots) →
     IsState base h n oldest late promised entries lives → InTurn by h → Contains (open_ids by.session h) t → is_top h t ≡ true →
     Any (λ (e : Entry). (e.top ≡ t) × (last ≡ e.last)) entries →
-    IsState base (h ++ end_event committed by t ∷ []) n oldest (max late last) (promised - 1) (filter (λ (e : Entry). not (t == e.top)) entries) lives
-state_ended base h by t last n oldest late promised true entries lives s turn con top_is a =
+    IsState base (h ++ end_event how by t ∷ []) n oldest (max late last) (promised - 1) (filter (λ (e : Entry). not (t == e.top)) entries) lives
+state_ended base h by t last n oldest late promised ends.Commit entries lives s turn con top_is a =
     let e = any_all (λ (e : Entry). (e.top ≡ t) × (last ≡ e.last)) (IsEntryAt base.next h) entries a s.each in
     subst (λ m. IsState base (h ++ events.Commit by t ∷ []) n oldest (max late m) (promised - 1) (filter (λ (e : Entry). not (t == e.top)) entries) lives) (sym e.1.0.1)
     (state_end base h (events.Commit by t) t n oldest late promised entries lives e.0 s (closing_commit h by t) (con, top_is) turn (λ m l. l) refl refl e.1.1 e.1.0.0 (is_promised base h n oldest late promised entries lives by.session t s con))
-state_ended base h by t last n oldest late promised false entries lives s turn con top_is a =
+state_ended base h by t last n oldest late promised ends.Abort entries lives s turn con top_is a =
     let e = any_all (λ (e : Entry). (e.top ≡ t) × (last ≡ e.last)) (IsEntryAt base.next h) entries a s.each in
     subst (λ m. IsState base (h ++ events.Abort by t ∷ []) n oldest (max late m) (promised - 1) (filter (λ (e : Entry). not (t == e.top)) entries) lives) (sym e.1.0.1)
     (state_end base h (events.Abort by t) t n oldest late promised entries lives e.0 s (closing_abort h by t) (con, top_is) turn (λ m l. l) refl refl e.1.1 e.1.0.0 (is_promised base h n oldest late promised entries lives by.session t s con))

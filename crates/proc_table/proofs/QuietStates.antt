@@ -24,7 +24,7 @@ use Rattle.tx_events.specs.Snapshots.{snapshot_xmax, snapshot_xmin}
 use Rattle.tx_events.specs.declared.event.By.{By}
 use Rattle.tx_events.specs.declared.event.Event.{Event}
 use Rattle.tx_events.specs.declared.record.Counters.{Counters}
-use Rattle.xid_order.specs.Ids.{next_id}
+use Rattle.xid_order.specs.Ids.{IsFullId, next_id}
 use Rattle.tx_events.specs.declared.event.Event.TheVariants as events
 
 pub oldest_xmin_is : (base : Counters) (h : List Event) (n oldest late promised : ℕ) (entries : List Entry) (lives : LiveSnapshots) → IsState base h n oldest late promised entries lives →
@@ -32,9 +32,9 @@ pub oldest_xmin_is : (base : Counters) (h : List Event) (n oldest late promised 
 oldest_xmin_is base h n oldest late promised entries lives s = ap (λ m. fold min m (map (λ (s : LiveSnap). s.xmin) (live_snaps base.next h))) (xmin_is base h n oldest late promised entries lives s)
 
 -- it was asked how an id stands
-pub state_asked : (base : Counters) (h : List Event) (n oldest late promised : ℕ) (entries : List Entry) (lives : LiveSnapshots) (by : By) (x : ℕ) → IsState base h n oldest late promised entries lives → InTurn by h → IsState base (h ++ events.Ask by x ∷ []) n oldest late promised entries lives
-state_asked base h n oldest late promised entries lives by x s turn =
-    state_quiet base h (events.Ask by x) n oldest oldest late promised promised entries lives lives s tt tt turn refl s.oldest_to s.live s.room
+pub state_asked : (base : Counters) (h : List Event) (n oldest late promised : ℕ) (entries : List Entry) (lives : LiveSnapshots) (by : By) (x : ℕ) → IsState base h n oldest late promised entries lives → InTurn by h → IsFullId x → IsState base (h ++ events.Ask by x ∷ []) n oldest late promised entries lives
+state_asked base h n oldest late promised entries lives by x s turn full =
+    state_quiet base h (events.Ask by x) n oldest oldest late promised promised entries lives lives s tt full turn refl s.oldest_to s.live s.room
 
 -- the oldest id was announced
 pub state_raised : (base : Counters) (h : List Event) (n oldest late promised : ℕ) (entries : List Entry) (lives : LiveSnapshots) (by : By) (new : ℕ) → IsState base h n oldest late promised entries lives → InTurn by h → oldest_id base.oldest h ≤ new → new ≤ oldest_xmin base.next h →

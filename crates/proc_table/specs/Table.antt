@@ -84,11 +84,6 @@ IsNotGiven old new r =
 abbrev pub Gives : Table → Table → (ℕ → Event) → Result Given Refusal → Type 0
 Gives old new event result = MatchResult result (IsGiven old new event) (IsNotGiven old new)
 
--- the end of a transaction
-abbrev pub end_event : Bool → By → ℕ → Event
-end_event true by top = events.Commit by top
-end_event false by top = events.Abort by top
-
 -- the snapshot holds what it is to hold, and its event is added; or memory was wanting
 abbrev pub Takes : Table → Table → Event → Result SnapData Memory → Type 0
 Takes old new event result = MatchResult result (λ s. (s ≡ data_at old) × Adds old new event) (λ _. new ≡ old)

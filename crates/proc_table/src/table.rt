@@ -9,8 +9,9 @@ ghost use Rattle.tx_events.specs.Families.{is_top};
 ghost use Rattle.tx_events.specs.Horizon.{is_live};
 ghost use Rattle.tx_events.specs.Savepoints.{is_inside};
 ghost use Rattle.tx_events.specs.Snapshots.{snapshot_xmax};
-ghost use Rattle.xid_order.specs.Ids.{next_id};
-ghost use Rattle.proc_table.specs.Table.{Table, InTurn, Gives, Adds, Takes, Raises, Asks, IsLiveAt, IsOpenTop, data_at, end_event, next_of, oldest_of, xmin_of, page_of};
+ghost use Rattle.tx_events.specs.XactEnds.{end_event};
+ghost use Rattle.xid_order.specs.Ids.{IsFullId, next_id};
+ghost use Rattle.proc_table.specs.Table.{Table, InTurn, Gives, Adds, Takes, Raises, Asks, IsLiveAt, IsOpenTop, data_at, next_of, oldest_of, xmin_of, page_of};
 
 use crate::answers::{Asked, Given};
 use crate::entries::{
@@ -23,8 +24,8 @@ use horizon_limits::check_id;
 use std::alloc::{AllocError, Global};
 use std::marker::Model;
 use tx_events::{
-    By, Copied, Counters, Event, EventList, Memory, Name, Refusal, SnapData, make_one_room,
-    make_room,
+    By, Copied, Counters, Event, EventList, Memory, Name, Refusal, SnapData, XactEnd,
+    make_one_room, make_room,
 };
 use xid_order::FullXid;
 
@@ -174,12 +175,12 @@ impl ProcTable {
 
     /// Commits or aborts the transaction of this top, and closes all its open ids (`ProcArrayEndTransaction`). Takes
     /// no memory.
-    pub fn end(&mut self, by: By, top: FullXid, committed: bool)
+    pub fn end(&mut self, by: By, top: FullXid, how: XactEnd)
         requires session { by.session < self.old.sessions }
         requires turn { InTurn by self.old.events }
         requires top_open { Contains (open_ids by.session self.old.events) top }
         requires top_top { is_top self.old.events top ≡ true }
-        ensures { Adds self.old self.new (end_event committed by top) }
+        ensures { Adds self.old self.new (end_event how by top) }
     {
         let last = match last_given(&self.entries, top) {
             Some(last) => last,
@@ -187,7 +188,7 @@ impl ProcTable {
         };
         self.latest = greatest(self.latest, &[last]);
         drop_top(&mut self.entries, top);
-        self.events.push_reserved(end_event(committed, by, top));
+        self.events.push_reserved(how.event(by, top));
         self.promised -= 1;
     }
 
@@ -277,10 +278,12 @@ impl ProcTable {
         Ok(())
     }
 
-    /// Whether the id runs now, and what is next and oldest (`TransactionIdIsInProgress`).
+    /// Whether the id runs now, and what is next and oldest (`TransactionIdIsInProgress`). Of a special id there is
+    /// nothing to ask: none ever runs.
     pub fn ask(&mut self, by: By, x: FullXid) -> Result<Asked, Memory>
         requires session { by.session < self.old.sessions }
         requires turn { InTurn by self.old.events }
+        requires full { IsFullId x }
         ensures { Asks self.old self.new by x result }
     {
         if !make_room(&mut self.events, self.promised, 1) {
@@ -356,15 +359,5 @@ impl ProcTable {
     {
         let ProcTable { base, events, .. } = self;
         (base, EventList::of(events))
-    }
-}
-
-fn end_event(committed: bool, by: By, top: FullXid) -> Event
-    ensures { result ≡ end_event committed by top }
-{
-    if committed {
-        Event::Commit { by, top }
-    } else {
-        Event::Abort { by, top }
     }
 }

@@ -3,7 +3,7 @@ mod driver;
 use crate::Given;
 use driver::Driver;
 use std::process::Abort;
-use tx_events::{IdList, Name, Refusal, SnapData};
+use tx_events::{IdList, Name, Refusal, SnapData, XactEnd};
 use xid_order::FullXid;
 
 fn name<R: Abort + AllocGlobal>(rt: &R, letter: u8) -> Name {
@@ -42,13 +42,13 @@ fn xmax_past_running_top(rt: HostRuntime) {
     let mut driver = Driver::new(&rt, 3, 3);
     assert!(rt; driver.write(0) == gives(&rt, 3, false));
     assert!(rt; driver.write(1) == gives(&rt, 4, false));
-    driver.end(1, true);
+    driver.end(1, XactEnd::Commit);
     let snap = driver.snap(&rt, 0, &name(&rt, b's')).expect(&rt, "memory");
     assert_limits(&rt, &snap, 3, 5, false);
     assert_ids(&rt, &snap.xip, &[3]);
     assert_ids(&rt, &snap.subxip, &[]);
     assert_eq!(rt; driver.table.oldest_xmin().number(), 3);
-    driver.end(0, true);
+    driver.end(0, XactEnd::Commit);
     assert_eq!(rt; driver.table.oldest_xmin().number(), 3);
     driver.drop_snap(&rt, 0, &name(&rt, b's'));
     assert_eq!(rt; driver.table.oldest_xmin().number(), 5);
@@ -62,7 +62,7 @@ fn snapshot_overflows_at_65_subids(rt: HostRuntime) {
         assert!(rt; driver.write(0) == gives(&rt, number, false));
     }
     assert!(rt; driver.write(2) == gives(&rt, 68, false));
-    driver.end(2, true);
+    driver.end(2, XactEnd::Commit);
     assert_eq!(rt; driver.table.listed(), 65);
     let snap = driver.snap(&rt, 1, &name(&rt, b's')).expect(&rt, "memory");
     assert_limits(&rt, &snap, 3, 69, false);
@@ -73,7 +73,7 @@ fn snapshot_overflows_at_65_subids(rt: HostRuntime) {
     }
     assert!(rt; driver.write(0) == gives(&rt, 69, false));
     assert!(rt; driver.write(2) == gives(&rt, 70, false));
-    driver.end(2, true);
+    driver.end(2, XactEnd::Commit);
     assert_eq!(rt; driver.table.listed(), 1);
     let snap = driver.snap(&rt, 1, &name(&rt, b't')).expect(&rt, "memory");
     assert_limits(&rt, &snap, 3, 71, true);
@@ -87,12 +87,12 @@ fn snapshot_overflows_at_65_subids(rt: HostRuntime) {
         (70, false),
         (71, false),
     ] {
-        let asked = driver.ask(1, id(&rt, number)).expect(&rt, "memory");
+        let asked = driver.ask(&rt, 1, id(&rt, number)).expect(&rt, "memory");
         assert_eq!(rt; asked.running, runs, "at {number}");
         assert_eq!(rt; asked.next.number(), 71);
         assert_eq!(rt; asked.oldest.number(), 3);
     }
-    driver.end(0, true);
+    driver.end(0, XactEnd::Commit);
     let snap = driver.snap(&rt, 1, &name(&rt, b'u')).expect(&rt, "memory");
     assert_limits(&rt, &snap, 71, 71, false);
 }
@@ -104,7 +104,7 @@ fn ids_wrap_around(rt: HostRuntime) {
         assert!(rt; driver.write(0) == gives(&rt, number, false), "at {number}");
         driver.make_page();
     }
-    driver.end(0, true);
+    driver.end(0, XactEnd::Commit);
     let snap = driver.snap(&rt, 0, &name(&rt, b's')).expect(&rt, "memory");
     assert_limits(&rt, &snap, 4_294_967_300, 4_294_967_300, false);
 }

@@ -61,7 +61,7 @@ pub oldest_law : OldestKeeps
 oldest_law start seen by oldest rule = event_keeps start seen by (events.Oldest by oldest) refl rule tt tt tt tt
 
 pub ask_law : AskKeeps
-ask_law start seen by id = event_keeps start seen by (events.Ask by id) refl tt tt tt tt tt
+ask_law start seen by id rule = event_keeps start seen by (events.Ask by id) refl rule tt tt tt tt
 
 pub made_law : MadeKeeps
 made_law start seen by id made next lists k knows inside whole turn =

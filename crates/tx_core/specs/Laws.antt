@@ -121,7 +121,8 @@ OldestKeeps = (start : Start) (seen : List (List Entry)) (by : By) (oldest : ℕ
     MayCome start.base (history seen) (events.Oldest by oldest) → KindKeeps start seen proc_lock by (kinds.Event (events.Oldest by oldest))
 
 abbrev pub AskKeeps : Type 0
-AskKeeps = (start : Start) (seen : List (List Entry)) (by : By) (id : ℕ) → KindKeeps start seen proc_lock by (kinds.Event (events.Ask by id))
+AskKeeps = (start : Start) (seen : List (List Entry)) (by : By) (id : ℕ) →
+    MayCome start.base (history seen) (events.Ask by id) → KindKeeps start seen proc_lock by (kinds.Event (events.Ask by id))
 
 -- both pages of the id are made, and it isn't past the next one
 abbrev pub MadeKeeps : Type 0

@@ -26,3 +26,4 @@ pub mod Soundness
 pub mod Horizons
 pub mod Visibility
 pub mod ParentLines
+pub mod ModeNumbers

@@ -1,7 +1,7 @@
 -- Which histories are legal: each event at its place (varsup.c, procarray.c, xact.c).
 use Rattle.std.specs.Prelude.{◌≡◌, ℕ, ◌<◌, ◌≤◌, true, false, List, [], length, Contains, suc, zero}
 use Rattle.std.specs.List.{All, filter}
-use Rattle.xid_order.specs.Ids.{next_id}
+use Rattle.xid_order.specs.Ids.{IsFullId, next_id}
 use Rattle.tx_events.specs.declared.event.Event.{Event}
 use Rattle.tx_events.specs.declared.event.Event.TheVariants as events
 use Rattle.tx_events.specs.declared.record.Counters.{Counters}
@@ -36,7 +36,7 @@ MayCome base before (events.Abort by top) = Contains (open_ids by.session before
 MayCome base before (events.Snap by name) = is_live base.next by.session name before ≡ false
 MayCome base before (events.SnapDrop by name) = is_live base.next by.session name before ≡ true
 MayCome base before (events.Oldest by oldest) = (oldest_id base.oldest before ≤ oldest) × (oldest ≤ oldest_xmin base.next before)
-MayCome base before (events.Ask by id) = Unit {0}
+MayCome base before (events.Ask by id) = IsFullId id
 
 -- a session's events come in the order of its commands
 abbrev pub ComesInTurn : List Event → Event → Type 0

@@ -7,8 +7,11 @@ pub mod Snapshots
 pub mod Horizon
 pub mod Base
 pub mod After
+pub mod RecordNumber
 pub mod RecordSize
 pub mod History
 pub mod IdLists
 pub mod Savepoints
 pub mod Multis
+pub mod Modes
+pub mod XactEnds

@@ -1,4 +1,5 @@
-//! The types of events, records and what a snapshot holds, and the definitions and laws of histories.
+//! The types of events, records and what a snapshot holds, and the definitions and laws of histories. See
+//! docs/HISTORY.md.
 #![tactic(auto)]
 
 mod base;
@@ -11,6 +12,7 @@ mod refusal;
 mod room;
 mod sequence;
 mod snapshot;
+mod xact_end;
 
 pub use base::is_base;
 pub use event::{By, Event, EventList};
@@ -20,3 +22,4 @@ pub use refusal::{Lock, Refusal};
 pub use room::{make_one_room, make_room};
 pub use sequence::{Copied, IdList, Memory, Name, Sequence};
 pub use snapshot::SnapData;
+pub use xact_end::XactEnd;

@@ -1,3 +1,7 @@
+ghost use Rattle.std.specs.Prelude.{◌≡◌, ◌≤◌, ◌↔◌, Some};
+ghost use Rattle.tx_events.specs.declared.multi.Mode.{Mode};
+ghost use Rattle.tx_events.specs.Modes.{mode_number, mode_of};
+
 use crate::event::By;
 use crate::sequence::{Copied, Memory, Sequence};
 use xid_order::{FullMulti, FullXid};
@@ -11,6 +15,40 @@ pub enum Mode {
     ForUpd,
     NoKeyUpd,
     Upd,
+}
+
+impl Mode {
+    /// Its number, as it stands in pages and records.
+    pub fn number(self) -> u8
+        ensures number { result ≡ mode_number self }
+        ensures small { result ≤ 5 }
+    {
+        match self {
+            Mode::KeySh => 0,
+            Mode::Sh => 1,
+            Mode::ForNoKeyUpd => 2,
+            Mode::ForUpd => 3,
+            Mode::NoKeyUpd => 4,
+            Mode::Upd => 5,
+        }
+    }
+
+    /// The mode of this number. None above 5.
+    #[tactic(auto, using(crate::proofs::ModeNumbers::mode_takes, crate::proofs::ModeNumbers::mode_again))]
+    pub fn of_number(number: u8) -> Option<Mode>
+        ensures mode { result ≡ mode_of number }
+        ensures only { (mode : Mode) → (result ≡ Some mode) ↔ (number ≡ mode_number mode) }
+    {
+        match number {
+            0 => Some(Mode::KeySh),
+            1 => Some(Mode::Sh),
+            2 => Some(Mode::ForNoKeyUpd),
+            3 => Some(Mode::ForUpd),
+            4 => Some(Mode::NoKeyUpd),
+            5 => Some(Mode::Upd),
+            _ => None,
+        }
+    }
 }
 
 /// A member of a multixact.

@@ -1,4 +1,6 @@
-ghost use Rattle.std.specs.Prelude.{◌≡◌};
+ghost use Rattle.std.specs.Prelude.{◌≡◌, ◌^◌, ◌<◌};
+ghost use Rattle.tx_events.specs.RecordNumber.{own_number};
+ghost use Rattle.tx_events.specs.RecordSize.{record_size};
 ghost use Rattle.tx_events.specs.Base.{first_base};
 
 use crate::multi::MemberList;
@@ -80,6 +82,32 @@ pub enum Rec {
         multi: FullMulti,
         offset: u64,
     },
+}
+
+impl Rec {
+    /// The number through all lives that the record itself carries. None exactly where it is no checkpoint.
+    pub fn own_number(&self) -> Option<u64>
+        ensures { result ≡ own_number self.now }
+    {
+        match self {
+            Rec::Checkpoint { number, .. } => Some(*number),
+            _ => None,
+        }
+    }
+
+    /// How many bytes it takes in the log: a tag, its fields, and where it has a list, a count and its items.
+    pub fn size(&self) -> u64
+        requires { record_size self.now < 2 ^ 64 }
+        ensures { result ≡ record_size self.now }
+    {
+        match self {
+            Rec::Commit { subs, .. } => 13 + 8 * subs.items().len() as u64,
+            Rec::Abort { subs, .. } => 13 + 8 * subs.items().len() as u64,
+            Rec::Multi { members, .. } => 21 + 9 * members.items().len() as u64,
+            Rec::Checkpoint { .. } => 57,
+            Rec::Truncate { .. } => 25,
+        }
+    }
 }
 
 impl Copied for Rec {

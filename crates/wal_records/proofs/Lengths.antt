@@ -1,11 +1,14 @@
 -- How long records are.
-use Rattle.std.proofs.Common.{◌≡◌, ℕ, ◌+◌, ◌*◌, List, [], ◌∷◌, ◌++◌, length, refl, arith}
+use Rattle.std.proofs.Common.{◌≡◌, ℕ, ◌+◌, ◌*◌, ◌^◌, ◌<◌, List, [], ◌∷◌, ◌++◌, length, refl, arith}
 use Rattle.std.specs.List.{flat_map}
 use Rattle.std.proofs.lemmas.List.{length-append}
 use Rattle.tx_events.specs.declared.record.Counters.{Counters}
 use Rattle.tx_events.specs.declared.multi.Member.{Member}
+use Rattle.tx_events.specs.declared.record.Rec.{Rec}
+use Rattle.tx_events.specs.declared.record.Rec.TheVariants as records
+use Rattle.tx_events.specs.RecordSize.{record_size}
 use Rattle.wal_records.specs.Numbers.{le_bytes}
-use Rattle.wal_records.specs.Spelling.{tree_bytes, multi_bytes, member_bytes, counters_bytes, truncate_bytes}
+use Rattle.wal_records.specs.Spelling.{tree_bytes, multi_bytes, member_bytes, counters_bytes, truncate_bytes, rec_bytes, HasCounts}
 use Rattle.wal_records.proofs.Fields.{length-le_bytes}
 
 length-ids : (ids : List ℕ) → length (flat_map (le_bytes 8) ids) ≡ 8 * length ids
@@ -56,3 +59,18 @@ unfolding truncate_bytes
 length-truncate oldest multi offset =
     let c : List ℕ = le_bytes 8 multi ++ le_bytes 8 offset in
     omega (arith, length-append (le_bytes 8 oldest) c, length-append (le_bytes 8 multi) (le_bytes 8 offset), length-le_bytes 8 oldest, length-le_bytes 8 multi, length-le_bytes 8 offset)
+
+-- the size of each record is the length of its bytes
+pub size_is : (r : Rec) → record_size r ≡ length (rec_bytes r)
+size_is (records.Commit top subs) = omega (arith, length-tree top subs)
+size_is (records.Abort top subs) = omega (arith, length-tree top subs)
+size_is (records.Multi multi offset members) = omega (arith, length-multi multi offset members)
+size_is (records.Checkpoint number counters) = omega (arith, length-checkpoint number counters)
+size_is (records.Truncate oldest multi offset) = omega (arith, length-truncate oldest multi offset)
+
+pub size_short : (r : Rec) → HasCounts r → record_size r < 2 ^ 36
+size_short (records.Commit top subs) few = omega (arith, few)
+size_short (records.Abort top subs) few = omega (arith, few)
+size_short (records.Multi multi offset members) few = omega (arith, few)
+size_short (records.Checkpoint number counters) few = omega arith
+size_short (records.Truncate oldest multi offset) few = omega arith

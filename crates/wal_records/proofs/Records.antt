@@ -3,35 +3,18 @@ use Rattle.std.proofs.Common.{◌≡◌, ℕ, zero, suc, ◌^◌, ◌<◌, ◌�
 use Rattle.std.specs.List.{flat_map, AllByRecursion}
 use Rattle.std.proofs.lemmas.Bool.{ltb-false, le-ltb}
 use Rattle.std.proofs.lemmas.List.Concat.{flat_map-cons}
-use Rattle.tx_events.specs.declared.multi.Mode.{Mode}
-use Rattle.tx_events.specs.declared.multi.Mode.TheVariants.{KeySh, Sh, ForNoKeyUpd, ForUpd, NoKeyUpd, Upd}
 use Rattle.tx_events.specs.declared.multi.Member.{Member}
 use Rattle.tx_events.specs.declared.record.Counters.{Counters}
 use Rattle.tx_events.specs.declared.record.Rec.{Rec}
 use Rattle.tx_events.specs.declared.record.Rec.TheVariants as records
+use Rattle.tx_events.specs.Modes.{mode_number, mode_of}
+use Rattle.tx_events.proofs.ModeNumbers.{mode_takes, mode_again}
 use Rattle.wal_records.specs.Numbers.{le_bytes}
-use Rattle.wal_records.specs.Spelling.{mode_number, member_bytes, tree_bytes, multi_bytes, counters_bytes, truncate_bytes, rec_bytes, IsId, IsTree, IsMultiRecord, AreCounters, IsTruncate, IsLawful}
-use Rattle.wal_records.specs.Reading.{◌>>=◌, number_at, id_at, multi_at, ids_at, mode_of, member_at, members_at, tree_at, commit_at, abort_at, multi_rec_at, counters_at, checkpoint_at, truncate_at, rec_at}
+use Rattle.wal_records.specs.Spelling.{member_bytes, tree_bytes, multi_bytes, counters_bytes, truncate_bytes, rec_bytes, IsId, IsTree, IsMultiRecord, AreCounters, IsTruncate, IsLawful}
+use Rattle.wal_records.specs.Reading.{◌>>=◌, number_at, id_at, multi_at, ids_at, member_at, members_at, tree_at, commit_at, abort_at, multi_rec_at, counters_at, checkpoint_at, truncate_at, rec_at}
 use Rattle.wal_records.proofs.Fields.{IsBytes, IsBytes-rest, bind_some, some_is, Takes, Takes-then, number_takes, number_again, id_takes, id_again, multi_takes, multi_again, ids_take, ids_again}
 
 -- ---- members
-
-mode_takes : (b : ℕ) (m : Mode) → mode_of b ≡ Some m → b ≡ mode_number m
-mode_takes zero m e = ap mode_number (some_is KeySh m e)
-mode_takes (suc zero) m e = ap mode_number (some_is Sh m e)
-mode_takes (suc (suc zero)) m e = ap mode_number (some_is ForNoKeyUpd m e)
-mode_takes (suc (suc (suc zero))) m e = ap mode_number (some_is ForUpd m e)
-mode_takes (suc (suc (suc (suc zero)))) m e = ap mode_number (some_is NoKeyUpd m e)
-mode_takes (suc (suc (suc (suc (suc zero))))) m e = ap mode_number (some_is Upd m e)
-mode_takes (suc (suc (suc (suc (suc (suc n)))))) m e = absurd cc
-
-mode_again : (m : Mode) → mode_of (mode_number m) ≡ Some m
-mode_again KeySh = refl
-mode_again Sh = refl
-mode_again ForNoKeyUpd = refl
-mode_again ForUpd = refl
-mode_again NoKeyUpd = refl
-mode_again Upd = refl
 
 member_takes : (bytes : List ℕ) (x : Member × List ℕ) → IsBytes bytes → member_at bytes ≡ Some x → Takes bytes (member_bytes x.0) x.1 × IsId x.0.id
 unfolding member_at

@@ -1,8 +1,7 @@
 -- Reading a record from left to right. There is none where the bytes don't begin with a lawful one.
 use Rattle.std.specs.Prelude.{◌≡◌, ℕ, zero, suc, List, [], ◌∷◌, length, take, drop, Option, Some, None, Result, Ok, Err, nat_lt, if◌then◌else◌}
 use Rattle.xid_order.specs.Ids.{low_half}
-use Rattle.tx_events.specs.declared.multi.Mode.{Mode}
-use Rattle.tx_events.specs.declared.multi.Mode.TheVariants.{KeySh, Sh, ForNoKeyUpd, ForUpd, NoKeyUpd, Upd}
+use Rattle.tx_events.specs.Modes.{mode_of}
 use Rattle.tx_events.specs.declared.multi.Member.{Member}
 use Rattle.tx_events.specs.declared.record.Counters.{Counters}
 use Rattle.tx_events.specs.declared.record.Rec.{Rec}
@@ -49,15 +48,6 @@ ids_at zero last bytes = Some ([], bytes)
 ids_at (suc n) last bytes = do
   first ← id_at bytes
   if nat_lt last first.0 then (ids_at n first.0 first.1 >>= λ others. Some (first.0 ∷ others.0, others.1)) else None
-
-abbrev pub mode_of : ℕ → Option Mode
-mode_of zero = Some KeySh
-mode_of (suc zero) = Some Sh
-mode_of (suc (suc zero)) = Some ForNoKeyUpd
-mode_of (suc (suc (suc zero))) = Some ForUpd
-mode_of (suc (suc (suc (suc zero)))) = Some NoKeyUpd
-mode_of (suc (suc (suc (suc (suc zero))))) = Some Upd
-mode_of (suc (suc (suc (suc (suc (suc n)))))) = None
 
 unfoldable pub member_at : List ℕ → Option (Member × List ℕ)
 member_at [] = None

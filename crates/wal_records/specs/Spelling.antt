@@ -2,21 +2,12 @@
 use Rattle.std.specs.Prelude.{ℕ, ◌<◌, ◌≤◌, ◌^◌, List, [], ◌∷◌, ◌++◌, length}
 use Rattle.std.specs.List.{flat_map, AllByRecursion}
 use Rattle.xid_order.specs.Ids.{IsFullId, IsFullMulti}
-use Rattle.tx_events.specs.declared.multi.Mode.{Mode}
-use Rattle.tx_events.specs.declared.multi.Mode.TheVariants.{KeySh, Sh, ForNoKeyUpd, ForUpd, NoKeyUpd, Upd}
+use Rattle.tx_events.specs.Modes.{mode_number}
 use Rattle.tx_events.specs.declared.multi.Member.{Member}
 use Rattle.tx_events.specs.declared.record.Counters.{Counters}
 use Rattle.tx_events.specs.declared.record.Rec.{Rec}
 use Rattle.tx_events.specs.declared.record.Rec.TheVariants as records
 use Rattle.wal_records.specs.Numbers.{le_bytes}
-
-abbrev pub mode_number : Mode → ℕ
-mode_number KeySh = 0
-mode_number Sh = 1
-mode_number ForNoKeyUpd = 2
-mode_number ForUpd = 3
-mode_number NoKeyUpd = 4
-mode_number Upd = 5
 
 abbrev pub member_bytes : Member → List ℕ
 member_bytes m = mode_number m.mode ∷ le_bytes 8 m.id

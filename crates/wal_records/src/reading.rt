@@ -3,7 +3,8 @@ ghost use Rattle.wal_records.specs.Numbers.{le_number};
 ghost use Rattle.wal_records.specs.Spelling.{rec_bytes, IsLawful};
 ghost use Rattle.wal_records.specs.ReadRec.{IsRecordAt};
 ghost use Rattle.tx_events.specs.declared.record.Rec.{Rec};
-ghost use Rattle.wal_records.specs.Reading.{Gives, GivesAt, number_at, id_at, multi_at, ids_at, mode_of, member_at, members_at, tree_at, commit_at, abort_at, multi_rec_at, counters_at, checkpoint_at, truncate_at, rec_at};
+ghost use Rattle.tx_events.specs.Modes.{mode_of};
+ghost use Rattle.wal_records.specs.Reading.{Gives, GivesAt, number_at, id_at, multi_at, ids_at, member_at, members_at, tree_at, commit_at, abort_at, multi_rec_at, counters_at, checkpoint_at, truncate_at, rec_at};
 
 use crate::stop::Stop;
 use byteorder::{ByteOrder, LittleEndian};
@@ -65,15 +66,7 @@ fn full_multi_at(rest: &mut &[u8]) -> Result<FullMulti, Stop>
 fn mode_from(byte: u8) -> Result<Mode, Stop>
     ensures { Gives result (mode_of byte) }
 {
-    match byte {
-        0 => Ok(Mode::KeySh),
-        1 => Ok(Mode::Sh),
-        2 => Ok(Mode::ForNoKeyUpd),
-        3 => Ok(Mode::ForUpd),
-        4 => Ok(Mode::NoKeyUpd),
-        5 => Ok(Mode::Upd),
-        _ => Err(Stop::Unlawful),
-    }
+    Mode::of_number(byte).ok_or(Stop::Unlawful)
 }
 
 #[tactic(auto, unfolding(crate::specs::Reading::member_at))]

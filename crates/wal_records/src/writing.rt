@@ -1,11 +1,12 @@
 ghost use Rattle.std.specs.Prelude.{◌≡◌, ◌<◌, ◌≤◌, ◌^◌, ◌++◌, ◌∷◌, [], length, OnOk, OnErr, IfOk};
 ghost use Rattle.std.specs.List.{flat_map};
+ghost use Rattle.tx_events.specs.RecordSize.{record_size};
 ghost use Rattle.wal_records.specs.Numbers.{le_bytes};
-ghost use Rattle.wal_records.specs.Spelling.{rec_bytes, tree_bytes, multi_bytes, counters_bytes, truncate_bytes, member_bytes, mode_number, HasCounts};
+ghost use Rattle.wal_records.specs.Spelling.{rec_bytes, tree_bytes, multi_bytes, counters_bytes, truncate_bytes, member_bytes, HasCounts};
 
 use byteorder::{ByteOrder, LittleEndian};
 use std::alloc::{AllocError, Global};
-use tx_events::{Counters, Member, Memory, Mode, Rec};
+use tx_events::{Counters, Member, Memory, Rec};
 use xid_order::{FullMulti, FullXid};
 
 #[tactic(auto, unfolding(crate::specs::Numbers::le_bytes))]
@@ -45,24 +46,11 @@ fn put_tree(out: &mut Vec<u8>, top: FullXid, subs: &[FullXid]) -> Result<(), All
     put_ids(out, subs)
 }
 
-fn mode_byte(mode: Mode) -> u8
-    ensures { result ≡ mode_number mode }
-{
-    match mode {
-        Mode::KeySh => 0,
-        Mode::Sh => 1,
-        Mode::ForNoKeyUpd => 2,
-        Mode::ForUpd => 3,
-        Mode::NoKeyUpd => 4,
-        Mode::Upd => 5,
-    }
-}
-
 fn put_members(out: &mut Vec<u8>, members: &[Member]) -> Result<(), AllocError>
     ensures { OnOk result (out.new.items ≡ out.old.items ++ flat_map member_bytes members.now) }
 {
     for member in members {
-        out.push(mode_byte(member.mode))?;
+        out.push(member.mode.number())?;
         put_u64(out, member.id.number())?;
     }
     Ok(())
@@ -163,25 +151,8 @@ pub fn write_rec(rec: &Rec, into: &mut Vec<u8>) -> Result<(), Memory>
 pub fn rec_length(rec: &Rec) -> u64
     requires { HasCounts rec.now }
     ensures length { result ≡ length (rec_bytes rec.now) }
+    ensures size { result ≡ record_size rec.now }
     ensures short { result < 2 ^ 36 }
 {
-    match rec {
-        Rec::Commit { top: _, subs } | Rec::Abort { top: _, subs } => {
-            13 + 8 * subs.items().len() as u64
-        }
-        Rec::Multi {
-            multi: _,
-            offset: _,
-            members,
-        } => 21 + 9 * members.items().len() as u64,
-        Rec::Checkpoint {
-            number: _,
-            counters: _,
-        } => 57,
-        Rec::Truncate {
-            oldest: _,
-            multi: _,
-            offset: _,
-        } => 25,
-    }
+    rec.size()
 }

@@ -5,7 +5,7 @@ ghost use Rattle.proc_table.specs.Table.{InTurn};
 
 use crate::{Asked, Given, ProcTable};
 use std::process::Abort;
-use tx_events::{By, Counters, Memory, Name, Refusal, SnapData, is_base};
+use tx_events::{By, Counters, Memory, Name, Refusal, SnapData, XactEnd, is_base};
 use xid_order::{FullMulti, FullXid};
 
 /// From here on commands have one number.
@@ -77,12 +77,12 @@ impl Driver {
     }
 
     /// The end of the session's transaction, if it has one.
-    pub fn end(&mut self, session: u32, committed: bool)
+    pub fn end(&mut self, session: u32, how: XactEnd)
         requires { session < 3 }
     {
         let by = self.by(session);
         if let Some(top) = self.table.open_top(session) {
-            self.table.end(by, top, committed);
+            self.table.end(by, top, how);
         }
     }
 
@@ -115,9 +115,11 @@ impl Driver {
         self.table.raise_oldest(by, oldest)
     }
 
-    pub fn ask(&mut self, session: u32, x: FullXid) -> Result<Asked, Memory>
+    /// How a full id stands.
+    pub fn ask<R: Abort>(&mut self, rt: &R, session: u32, x: FullXid) -> Result<Asked, Memory>
         requires { session < 3 }
     {
+        assert!(rt; x.number() >= 3);
         let by = self.by(session);
         self.table.ask(by, x)
     }

@@ -1,10 +1,7 @@
-use Rattle.std.proofs.Common.{◌≡◌, ℕ, List, slice_index, slice_set, ap, ◌/◌, ◌%◌, ◌∙◌, arith}
-use Rattle.std.specs.Prelude.{OnOk}
-use Rattle.multi_members.specs.MemberPlaces.{mode_at, id_at}
-use Rattle.slru_bank.specs.Bank.{map_of, masked, PutsPage, IsPage}
-use Rattle.slru_bank.specs.ByteRange.{PutsNumber}
+use Rattle.std.proofs.Common.{ℕ, List, ◌/◌, ◌%◌, arith}
+use Rattle.slru_bank.specs.Bank.{map_of}
 use Rattle.slru_bank.specs.Crash.{mixtures_through}
-use Rattle.multi_members.specs.Slots.{mode_number}
+use Rattle.tx_events.specs.Modes.{mode_number}
 use Rattle.multi_members.proofs.MemberSlots.{SetsMode, sets_member_ok, mode_between_either}
 use Rattle.multi_members.proofs.members.write_member.Goals as goal
 
@@ -17,10 +14,10 @@ returns-clause-ok g c told =
     let page : ℕ = c.args.offset / 1636 in
     let place : ℕ = c.args.offset % 1636 in
     let whole = rw c.member_page-page.ensures at (c.in_ok-set.ensures.page told) in
-    let puts = rw (c.member_page-page.ensures, c.mode_place.ensures.place, c.number_of_mode.ensures.number) at (c.in_ok-set.ensures.ok told) in
+    let puts = rw (c.member_page-page.ensures, c.mode_place.ensures.place, c.number.ensures.number) at (c.in_ok-set.ensures.ok told) in
     let first : SetsMode page place (mode_number c.args.mode) m m1 = record { whole = whole; puts = puts } in
     let second = rw (c.member_page-page.ensures, c.id_place.ensures.place) at (c.put_number.ensures.ok told) in
-    let small = rw c.number_of_mode.ensures.number at c.number_of_mode.ensures.small in
+    let small = rw c.number.ensures.number at c.number.ensures.small in
     sets_member_ok c.put_number.result m m1 m2 page place (mode_number c.args.mode) c.args.x.number (omega arith) small first second
 
 pub returns-clause-crash : goal.returns-clause-crash
@@ -32,7 +29,7 @@ returns-clause-crash g c told =
     let page : ℕ = c.args.offset / 1636 in
     let place : ℕ = c.args.offset % 1636 in
     let whole = rw c.member_page-page.ensures at (c.in_ok-set.ensures.page told) in
-    let puts = rw (c.member_page-page.ensures, c.mode_place.ensures.place, c.number_of_mode.ensures.number) at (c.in_ok-set.ensures.ok told) in
+    let puts = rw (c.member_page-page.ensures, c.mode_place.ensures.place, c.number.ensures.number) at (c.in_ok-set.ensures.ok told) in
     let first : SetsMode page place (mode_number c.args.mode) m m1 = record { whole = whole; puts = puts } in
     let second = rw (c.member_page-page.ensures, c.id_place.ensures.place) at (c.put_number.ensures.ok told) in
     mixtures_through d.images d.moment d.left_at c.args.bank.now.disk c.set.new.self.disk c.put_number.new.bank.disk m m1 m2

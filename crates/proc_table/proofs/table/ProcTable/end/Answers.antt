@@ -25,8 +25,8 @@ invariant_of-self c =
     let top_top : is_top c.self.inside.events.items c.args.top ≡ true = ap (λ h. is_top h c.args.top) view ∙ c.requires.top_top in
     let some : 1 ≤ c.self.inside.promised = is_promised _ _ _ _ _ _ _ _ c.args.by.session c.args.top c.self.invariant.0 top_open in
     let one : Any (λ (e : Entry). (e.top ≡ c.args.top) × (c.in-Some.last ≡ e.last)) c.self.inside.entries.items = subst (Any (λ (e : Entry). (e.top ≡ c.args.top) × (c.in-Some.last ≡ e.last))) c.deref.ensures.value c.in-Some.ensures.some in (
-      rw (c.push_reserved.ensures.items, c.end_event.ensures, c.greatest-self-inside.ensures, c.drop_top.ensures)
-          (state_ended _ _ c.args.by c.args.top c.in-Some.last c.self.inside.next _ _ _ c.args.committed _ _ c.self.invariant.0 turn top_open top_top one),
+      rw (c.push_reserved.ensures.items, c.event.ensures, c.greatest-self-inside.ensures, c.drop_top.ensures)
+          (state_ended _ _ c.args.by c.args.top c.in-Some.last c.self.inside.next _ _ _ c.args.how _ _ c.self.invariant.0 turn top_open top_top one),
       omega (arith, c.push_reserved.ensures.len, c.push_reserved.ensures.capacity),
       c.self.invariant.2,
     )

@@ -1,5 +1,5 @@
 -- What callers see of the table, and what its calls answer.
-use Rattle.std.specs.Prelude.{◌≡◌, ℕ, ◌/◌, ◌<◌, ◌≤◌, ◌↔◌, ◌⊎◌, Bool, true, false, IsTrue, List, [], ◌∷◌, ◌++◌, Contains, Result, MatchResult}
+use Rattle.std.specs.Prelude.{◌≡◌, ℕ, ◌/◌, ◌<◌, ◌≤◌, ◌↔◌, ◌⊎◌, true, IsTrue, List, [], ◌∷◌, ◌++◌, Contains, Result, MatchResult}
 use Rattle.std.specs.List.{All, filter}
 use Rattle.tx_events.specs.declared.event.By.{By}
 use Rattle.tx_events.specs.declared.event.Event.{Event}
@@ -27,7 +27,7 @@ pub record Table : Type 0 where
   pub base : Counters
   pub sessions : ℕ
   -- the last page of parents that is made
-  pub frontier : ℕ
+  pub initialised_up_to : ℕ
   pub events : List Event
 
 -- the page of pg_subtrans on which the id stands, counted in full
@@ -69,17 +69,17 @@ pub record Adds (old new : Table) (e : Event) : Type 0 where
   pub events : new.events ≡ old.events ++ e ∷ []
   pub base : new.base ≡ old.base
   pub sessions : new.sessions ≡ old.sessions
-  pub frontier : new.frontier ≡ old.frontier
+  pub initialised_up_to : new.initialised_up_to ≡ old.initialised_up_to
 
 -- what a call answers that gives the next id: tested in this order
 abbrev pub IsGiven : Table → Table → (ℕ → Event) → Given → Type 0
-IsGiven old new event (gives.NeedPage id) = (id ≡ next_of old) × (old.frontier < page_of id) × (new ≡ old)
+IsGiven old new event (gives.NeedPage id) = (id ≡ next_of old) × (old.initialised_up_to < page_of id) × (new ≡ old)
 IsGiven old new event (gives.Id id warn) =
-    (id ≡ next_of old) × (page_of id ≤ old.frontier) × (id < stop_of old) × (IsTrue warn ↔ (warn_limit (oldest_of old) ≤ id)) × Adds old new (event id)
+    (id ≡ next_of old) × (page_of id ≤ old.initialised_up_to) × (id < stop_of old) × (IsTrue warn ↔ (warn_limit (oldest_of old) ≤ id)) × Adds old new (event id)
 
 abbrev pub IsNotGiven : Table → Table → Refusal → Type 0
 IsNotGiven old new r =
-    (new ≡ old) × (page_of (next_of old) ≤ old.frontier) × (((next_of old < stop_of old) × (r ≡ refusals.Memory)) ⊎ ((stop_of old ≤ next_of old) × (r ≡ refusals.Stop (next_of old) (stop_of old))))
+    (new ≡ old) × (page_of (next_of old) ≤ old.initialised_up_to) × (((next_of old < stop_of old) × (r ≡ refusals.Memory)) ⊎ ((stop_of old ≤ next_of old) × (r ≡ refusals.Stop (next_of old) (stop_of old))))
 
 abbrev pub Gives : Table → Table → (ℕ → Event) → Result Given Refusal → Type 0
 Gives old new event result = MatchResult result (IsGiven old new event) (IsNotGiven old new)

@@ -1,3 +1,4 @@
+//! What the table's calls answer.
 use xid_order::FullXid;
 
 /// The answer to a call that gives an id.

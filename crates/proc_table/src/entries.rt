@@ -1,3 +1,4 @@
+//! Running transactions together: what a snapshot lists of them, and which ids run.
 ghost use Rattle.std.specs.Prelude.{◌≡◌, ◌==◌, ◌<◌, ◌^◌, ℕ, [], false, not, map, min, nat_lt, true, IfSome, IfNone, IfOk};
 ghost use Rattle.std.specs.List.{All, Any, filter, fold, list_any};
 ghost use Rattle.tx_events.specs.IdLists.{has};

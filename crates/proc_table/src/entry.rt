@@ -1,3 +1,4 @@
+//! One running transaction and its open subids (`PGPROC`, and its cache of subids in `src/include/storage/proc.h`).
 ghost use Rattle.std.specs.Prelude.{◌≡◌, ◌++◌, ◌==◌, ◌^◌, ◌||◌, ◌<◌, [], ◌∷◌, not, true, false, max};
 ghost use Rattle.std.specs.List.{filter, fold};
 ghost use Rattle.std.specs.Vec.{vec_len, vec_capacity};

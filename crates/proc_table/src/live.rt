@@ -1,3 +1,4 @@
+//! The live snapshots, which hold back the oldest xmin.
 ghost use Rattle.std.specs.Prelude.{◌≡◌, ℕ, ◌+◌, ◌^◌, ◌<◌, List, [], ◌∷◌, ◌++◌, Contains, Some, None, cond, length, map, min, false, IfSome, IfNone, IfOk, OnOk, OnErr, option_map};
 ghost use Rattle.std.specs.List.{fold, list_any};
 ghost use Rattle.std.specs.BTreeMap.{get};

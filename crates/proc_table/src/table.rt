@@ -1,3 +1,5 @@
+//! The table and its calls, each one step under the table's lock. A call that may want memory takes it before anything
+//! is changed; the calls that close ids take none, since their events' room was taken when the ids were given.
 ghost use Rattle.std.specs.Prelude.{◌≡◌, ℕ, ◌+◌, ◌^◌, ◌<◌, ◌≤◌, List, [], ◌∷◌, ◌++◌, Contains, true, false, length, max, IfOk, IfSome, IfNone};
 ghost use Rattle.std.specs.List.{filter};
 ghost use Rattle.std.specs.Vec.{vec_len, vec_capacity};
@@ -32,20 +34,24 @@ use xid_order::FullXid;
 /// How many ids have their parents on one page of `pg_subtrans` (`SUBTRANS_XACTS_PER_PAGE`).
 const PAGE_IDS: u64 = 2048;
 
-/// The running transactions and the live snapshots of all sessions, and the history so far. A contract sees the
-/// base of the life, the number of sessions, the last page that is made, and the events.
+/// The running transactions and the live snapshots of all sessions, and the history so far: what PostgreSQL keeps under
+/// `ProcArrayLock` and `XidGenLock`, here one lock. A contract sees the base of the life, the number of sessions, the
+/// last page of parents that is made, and the events.
 #[derive(Drop)]
 pub struct ProcTable {
     base: Counters,
     sessions: u32,
-    frontier: u64,
+    /// The last page of parents that is made, counted in full.
+    initialised_up_to: u64,
+    /// The id that is given next (`nextXid`).
     next: FullXid,
+    /// The announced oldest id (`oldestXid`).
     oldest: FullXid,
-    /// The greatest id that was closed, at first the one before the base's next one.
-    latest: FullXid,
+    /// The greatest id that was closed (`latestCompletedXid`), at first the one before the base's next one.
+    latest_completed: FullXid,
     /// How many events may come without memory: an end for each running id, a drop for each live snapshot.
-    promised: usize,
-    /// One for each running transaction, ascending by top.
+    owed_events: usize,
+    /// One for each running transaction, ascending by top. PostgreSQL's array has one for each backend (`ProcArrayAdd`).
     entries: Vec<Entry>,
     live: LiveSnapshots,
     /// With room for the promised ones.
@@ -60,9 +66,9 @@ impl Model for ProcTable {
 
     ghost Value = { Table };
 
-    ghost view = { λ t. record { base = t.base; sessions = t.sessions; frontier = t.frontier; events = t.events.items } };
+    ghost view = { λ t. record { base = t.base; sessions = t.sessions; initialised_up_to = t.initialised_up_to; events = t.events.items } };
 
-    ghost invariant = { λ t. IsState t.base t.events.items t.next t.oldest t.latest t.promised t.entries.items t.live × (vec_len t.events + t.promised ≤ vec_capacity t.events) × (length t.live.sessions.items ≡ t.sessions) };
+    ghost invariant = { λ t. IsState t.base t.events.items t.next t.oldest t.latest_completed t.owed_events t.entries.items t.live × (vec_len t.events + t.owed_events ≤ vec_capacity t.events) × (length t.live.sessions.items ≡ t.sessions) };
 }
 
 /// The page on which the id's parent stands.
@@ -78,16 +84,16 @@ impl ProcTable {
     pub fn new(alloc: Global, base: Counters, sessions: u32) -> Result<ProcTable, Memory>
         requires base { IsBase base }
         requires sessions { sessions ≤ 64 }
-        ensures { IfOk result (λ t. t ≡ record { base = base; sessions = sessions; frontier = page_of base.next; events = [] }) }
+        ensures { IfOk result (λ t. t ≡ record { base = base; sessions = sessions; initialised_up_to = page_of base.next; events = [] }) }
     {
         Ok(ProcTable {
             base,
             sessions,
-            frontier: page_of(base.next),
+            initialised_up_to: page_of(base.next),
             next: base.next,
             oldest: base.oldest,
-            latest: base.next.retreat(),
-            promised: 0,
+            latest_completed: base.next.retreat(),
+            owed_events: 0,
             entries: Vec::with_capacity(alloc, sessions as usize)?,
             live: LiveSnapshots::new(alloc, sessions)?,
             events: Vec::new(alloc),
@@ -104,14 +110,14 @@ impl ProcTable {
         ensures { Gives self.old self.new (λ id. events.Id by id) result }
     {
         let id = self.next;
-        if page_of(id) > self.frontier {
+        if page_of(id) > self.initialised_up_to {
             return Ok(Given::NeedPage { id });
         }
         let warn = check_id(self.oldest, id)?;
         if !make_one_room(&mut self.entries) {
             return Err(Refusal::Memory);
         }
-        if !make_room(&mut self.events, self.promised, 2) {
+        if !make_room(&mut self.events, self.owed_events, 2) {
             return Err(Refusal::Memory);
         }
         let alloc = *self.events.allocator();
@@ -119,7 +125,7 @@ impl ProcTable {
             .push_reserved(Entry::of_top(alloc, by.session, id));
         self.events.push_reserved(Event::Id { by, id });
         self.next = id.advance();
-        self.promised += 1;
+        self.owed_events += 1;
         Ok(Given::Id { id, warn })
     }
 
@@ -132,11 +138,11 @@ impl ProcTable {
         ensures { Gives self.old self.new (λ id. events.Sub by parent id) result }
     {
         let id = self.next;
-        if page_of(id) > self.frontier {
+        if page_of(id) > self.initialised_up_to {
             return Ok(Given::NeedPage { id });
         }
         let warn = check_id(self.oldest, id)?;
-        if !make_room(&mut self.events, self.promised, 2) {
+        if !make_room(&mut self.events, self.owed_events, 2) {
             return Err(Refusal::Memory);
         }
         if !make_sub_room(&mut self.entries, by.session) {
@@ -145,16 +151,16 @@ impl ProcTable {
         add_id(&mut self.entries, by.session, id);
         self.events.push_reserved(Event::Sub { by, parent, id });
         self.next = id.advance();
-        self.promised += 1;
+        self.owed_events += 1;
         Ok(Given::Id { id, warn })
     }
 
     /// The pages of the id are made. The id isn't past the next one.
     pub fn made(&mut self, id: FullXid)
         requires { id ≤ next_of self.old }
-        ensures { self.new ≡ record self.old { frontier = max self.old.frontier (page_of id) } }
+        ensures { self.new ≡ record self.old { initialised_up_to = max self.old.initialised_up_to (page_of id) } }
     {
-        self.frontier = self.frontier.max(page_of(id));
+        self.initialised_up_to = self.initialised_up_to.max(page_of(id));
     }
 
     /// Closes an open subid and all open ids below it, which are `ids` (`XidCacheRemoveRunningXids`). Takes no
@@ -167,10 +173,10 @@ impl ProcTable {
         requires ids { ids.now ≡ filter (is_inside self.old.events id) (open_ids by.session self.old.events) }
         ensures { Adds self.old self.new (events.Undo by id) }
     {
-        self.latest = greatest(self.latest, ids);
+        self.latest_completed = greatest(self.latest_completed, ids);
         take_ids(&mut self.entries, by.session, ids);
         self.events.push_reserved(Event::Undo { by, id });
-        self.promised -= 1;
+        self.owed_events -= 1;
     }
 
     /// Commits or aborts the transaction of this top, and closes all its open ids (`ProcArrayEndTransaction`). Takes
@@ -186,10 +192,10 @@ impl ProcTable {
             Some(last) => last,
             None => unreachable!(),
         };
-        self.latest = greatest(self.latest, &[last]);
+        self.latest_completed = greatest(self.latest_completed, &[last]);
         drop_top(&mut self.entries, top);
         self.events.push_reserved(how.event(by, top));
-        self.promised -= 1;
+        self.owed_events -= 1;
     }
 
     /// Takes a snapshot under a name that the session has no live snapshot of, and registers its xmin
@@ -200,22 +206,22 @@ impl ProcTable {
         requires free { is_live self.old.base.next by.session name.now self.old.events ≡ false }
         ensures { Takes self.old self.new (events.Snap by name.now) result }
     {
-        let taken = self.taken()?;
+        let taken = self.snapshot_data()?;
         let event = Event::Snap {
             by,
             name: name.copy()?,
         };
-        if !make_room(&mut self.events, self.promised, 2) {
+        if !make_room(&mut self.events, self.owed_events, 2) {
             return Err(Memory);
         }
         self.live.insert(by.session, name, taken.xmin)?;
         self.events.push_reserved(event);
-        self.promised += 1;
+        self.owed_events += 1;
         Ok(taken)
     }
 
     /// What a snapshot holds that is taken now.
-    pub fn taken(&self) -> Result<SnapData, Memory>
+    pub fn snapshot_data(&self) -> Result<SnapData, Memory>
         ensures { IfOk result (λ s. s ≡ data_at self.now) }
     {
         let alloc = *self.events.allocator();
@@ -251,7 +257,7 @@ impl ProcTable {
             None => unreachable!(),
         };
         self.events.push_reserved(Event::SnapDrop { by, name });
-        self.promised -= 1;
+        self.owed_events -= 1;
     }
 
     /// Announces the oldest id (`SetTransactionIdLimit`). Refused with `Backward` exactly where it is below the
@@ -270,7 +276,7 @@ impl ProcTable {
         if limit < oldest {
             return Err(Refusal::TooNew { limit });
         }
-        if !make_room(&mut self.events, self.promised, 1) {
+        if !make_room(&mut self.events, self.owed_events, 1) {
             return Err(Refusal::Memory);
         }
         self.events.push_reserved(Event::Oldest { by, oldest });
@@ -286,7 +292,7 @@ impl ProcTable {
         requires full { IsFullId x }
         ensures { Asks self.old self.new by x result }
     {
-        if !make_room(&mut self.events, self.promised, 1) {
+        if !make_room(&mut self.events, self.owed_events, 1) {
             return Err(Memory);
         }
         let asked = Asked {
@@ -340,7 +346,7 @@ impl ProcTable {
         ensures is { result ≡ snapshot_xmax self.now.base.next self.now.events }
         ensures to { result < 2 ^ 63 }
     {
-        self.latest.advance()
+        self.latest_completed.advance()
     }
 
     /// The history so far, which is legal.

@@ -13,9 +13,10 @@ use Rattle.tx_events.specs.RecordSize.{record_size}
 use Rattle.tx_events.specs.Running.{open_ids}
 use Rattle.tx_events.proofs.ListSteps.{length_push}
 use Rattle.tx_events.proofs.Membership.{has_contains}
-use Rattle.proc_table.specs.Table.{end_event}
+use Rattle.tx_events.specs.declared.xact_end.XactEnd.{XactEnd}
+use Rattle.tx_events.specs.declared.xact_end.XactEnd.TheVariants as ends
+use Rattle.tx_events.specs.XactEnds.{end_event, end_record}
 use Rattle.session_run.specs.Acts.{Acts, end_command}
-use Rattle.session_run.specs.Closes.{end_record}
 use Rattle.session_run.specs.Stands.{Nest, levels_of}
 use Rattle.session_run.proofs.ActsLemmas.{acts_idle}
 use Rattle.session_run.proofs.LevelLemmas.{no_levels}
@@ -48,26 +49,26 @@ heads a b xs ys e = cc
 pub head_top : (h : List Event) (opened named : List ℕ) (t : ℕ) (rest : List ℕ) → IsHead h opened named → opened ≡ t ∷ rest → is_top h t ≡ true
 head_top h opened named t rest k e = subst (λ u. is_top h u ≡ true) (heads k.top t k.rest rest (sym k.opened_is ∙ e)) k.top_is
 
-pub may_end : (base : Counters) (h : List Event) (by : By) (t : ℕ) (rest : List ℕ) (committed : Bool) → open_ids by.session h ≡ t ∷ rest → is_top h t ≡ true → MayCome base h (end_event committed by t)
-may_end base h by t rest true o i = (subst (λ l. Contains l t) (sym o) (has_contains (t ∷ rest) t (inl refl)), i)
-may_end base h by t rest false o i = (subst (λ l. Contains l t) (sym o) (has_contains (t ∷ rest) t (inl refl)), i)
+pub may_end : (base : Counters) (h : List Event) (by : By) (t : ℕ) (rest : List ℕ) (how : XactEnd) → open_ids by.session h ≡ t ∷ rest → is_top h t ≡ true → MayCome base h (end_event how by t)
+may_end base h by t rest ends.Commit o i = (subst (λ l. Contains l t) (sym o) (has_contains (t ∷ rest) t (inl refl)), i)
+may_end base h by t rest ends.Abort o i = (subst (λ l. Contains l t) (sym o) (has_contains (t ∷ rest) t (inl refl)), i)
 
-record_few : (committed : Bool) (t : ℕ) (subs : List ℕ) → length subs < 2 ^ 32 → record_size (end_record committed t subs) ≤ 2 ^ 35 + 13
-record_few true t subs l = omega arith
-record_few false t subs l = omega arith
+record_few : (how : XactEnd) (t : ℕ) (subs : List ℕ) → length subs < 2 ^ 32 → record_size (end_record how t subs) ≤ 2 ^ 35 + 13
+record_few ends.Commit t subs l = omega arith
+record_few ends.Abort t subs l = omega arith
 
 -- its record is small
-pub end_record_few : (base : Counters) (h : List Event) (session : ℕ) (t : ℕ) (subs : List ℕ) (committed : Bool) → IsBase base → IsLegal base h → open_ids session h ≡ t ∷ subs → Ascending (t ∷ subs) → record_size (end_record committed t subs) ≤ 2 ^ 35 + 13
-end_record_few base h session t subs committed b legal o a =
+pub end_record_few : (base : Counters) (h : List Event) (session : ℕ) (t : ℕ) (subs : List ℕ) (how : XactEnd) → IsBase base → IsLegal base h → open_ids session h ≡ t ∷ subs → Ascending (t ∷ subs) → record_size (end_record how t subs) ≤ 2 ^ 35 + 13
+end_record_few base h session t subs how b legal o a =
     let few = open_few base h session b legal (subst Ascending (sym o) a) in
     let same : length (open_ids session h) ≡ suc (length subs) = ap length o in
-    record_few committed t subs (omega arith)
+    record_few how t subs (omega arith)
 
 -- an end without a transaction
-pub acts_none : (base : Counters) (by : By) (h : List Event) (named : List ℕ) (unnamed : ℕ) (snaps : List (List ℕ × ℕ)) (committed : Bool) → length (levels_of named unnamed) ≡ 0 →
-    Acts base by (record { levels = levels_of named unnamed; snaps = snaps }) (record { levels = levels_of named unnamed; snaps = snaps }) (end_command committed) (replies.Refused refusals.NoTransaction) h h
-acts_none base by h named unnamed snaps true e = acts_idle base by _ _ commands.Commit (replies.Refused refusals.NoTransaction) h refl (no_levels named unnamed e) refl
-acts_none base by h named unnamed snaps false e = acts_idle base by _ _ commands.Abort (replies.Refused refusals.NoTransaction) h refl (no_levels named unnamed e) refl
+pub acts_none : (base : Counters) (by : By) (h : List Event) (named : List ℕ) (unnamed : ℕ) (snaps : List (List ℕ × ℕ)) (how : XactEnd) → length (levels_of named unnamed) ≡ 0 →
+    Acts base by (record { levels = levels_of named unnamed; snaps = snaps }) (record { levels = levels_of named unnamed; snaps = snaps }) (end_command how) (replies.Refused refusals.NoTransaction) h h
+acts_none base by h named unnamed snaps ends.Commit e = acts_idle base by _ _ commands.Commit (replies.Refused refusals.NoTransaction) h refl (no_levels named unnamed e) refl
+acts_none base by h named unnamed snaps ends.Abort e = acts_idle base by _ _ commands.Abort (replies.Refused refusals.NoTransaction) h refl (no_levels named unnamed e) refl
 
 pub tail_few : (xs : List Rec) (x : Rec) → length (xs ++ x ∷ []) ≤ length xs + 1
 tail_few xs x = let k = length_push xs x in omega arith

@@ -18,8 +18,10 @@ use Rattle.tx_events.proofs.GivenIds.{legal_push}
 use Rattle.plain_states.specs.declared.id_states.IdState.{IdState}
 use Rattle.plain_states.specs.States.{AreStates, with_commit}
 use Rattle.plain_states.proofs.States.{states_given, states_given_below, states_committed, states_still}
-use Rattle.proc_table.specs.Table.{end_event}
-use Rattle.session_run.specs.Closes.{end_record, ended_states}
+use Rattle.tx_events.specs.declared.xact_end.XactEnd.{XactEnd}
+use Rattle.tx_events.specs.declared.xact_end.XactEnd.TheVariants as ends
+use Rattle.tx_events.specs.XactEnds.{end_event, end_record}
+use Rattle.session_run.specs.Closes.{ended_states}
 use Rattle.session_run.specs.Gives.{IsInTurn}
 use Rattle.session_run.specs.Sound.{IsSound}
 
@@ -65,11 +67,11 @@ sound_still base h e by recs states own g c r may turn s =
     sound_silent base h e by recs states states own may turn r (states_still base h e states s.legal may g c s.states_are) s
 
 -- the end of a transaction
-pub sound_ended : (base : Counters) (h : List Event) (by : By) (committed : Bool) (top : ℕ) (subs : List ℕ) (recs : List Rec) (states : List IdState) → open_ids by.session h ≡ top ∷ subs → MayCome base h (end_event committed by top) → IsInTurn by h →
-    IsSound base h recs states → IsSound base (h ++ end_event committed by top ∷ []) (recs ++ end_record committed top subs ∷ []) (ended_states committed (top ∷ subs) states)
-sound_ended base h by true top subs recs states o may turn s =
+pub sound_ended : (base : Counters) (h : List Event) (by : By) (how : XactEnd) (top : ℕ) (subs : List ℕ) (recs : List Rec) (states : List IdState) → open_ids by.session h ≡ top ∷ subs → MayCome base h (end_event how by top) → IsInTurn by h →
+    IsSound base h recs states → IsSound base (h ++ end_event how by top ∷ []) (recs ++ end_record how top subs ∷ []) (ended_states how (top ∷ subs) states)
+sound_ended base h by ends.Commit top subs recs states o may turn s =
     sound_push base h (events.Commit by top) by recs (records.Commit top subs ∷ []) states (map (with_commit (top ∷ subs)) states) refl may turn (ap (λ t. records.Commit top (drop 1 t) ∷ []) o)
     (subst (λ ids. AreStates (h ++ events.Commit by top ∷ []) (map (with_commit ids) states)) o (states_committed base h by top states s.legal may s.states_are)) s
-sound_ended base h by false top subs recs states o may turn s =
+sound_ended base h by ends.Abort top subs recs states o may turn s =
     sound_push base h (events.Abort by top) by recs (records.Abort top subs ∷ []) states states refl may turn (ap (λ t. records.Abort top (drop 1 t) ∷ []) o)
     (states_still base h (events.Abort by top) states s.legal may refl (λ t. refl) s.states_are) s

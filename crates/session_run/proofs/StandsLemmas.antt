@@ -26,7 +26,9 @@ use Rattle.tx_events.proofs.NameBounds.{AreBelow, fresh_top, given_to_below, not
 use Rattle.tx_events.proofs.Lineages.{enclosing_sub, family_kept, top_kept, enclosing_kept}
 use Rattle.tx_events.proofs.PlaceLemmas.{slice_get-grows, take-grows}
 use Rattle.tx_events.proofs.GivingGrowth.{giving_open_ids, giving_id, id_family, sub_family, sub_is_no_top, giving_sub}
-use Rattle.proc_table.specs.Table.{end_event}
+use Rattle.tx_events.specs.declared.xact_end.XactEnd.{XactEnd}
+use Rattle.tx_events.specs.declared.xact_end.XactEnd.TheVariants as ends
+use Rattle.tx_events.specs.XactEnds.{end_event}
 use Rattle.session_run.specs.declared.session.Kept.{Kept}
 use Rattle.session_run.specs.declared.session.Session.{Session}
 use Rattle.session_run.specs.Gives.{IsInTurn, last_of}
@@ -261,30 +263,30 @@ all_closed base h e session t rest legal c o is =
     closing_open_ids session h e (λ x. not (t == top h x)) c
     ∙ filter_none_on (λ x. not (t == top h x)) (open_ids session h) (λ x k. ap not (ap (λ u. t == u) (one_top base h legal session x t k mine ∙ own) ∙ eqb-refl t))
 
-closing_end : (h : List Event) (by : By) (t : ℕ) (committed : Bool) → IsClosing h (end_event committed by t) (λ x. not (t == top h x))
-closing_end h by t true = closing_commit h by t
-closing_end h by t false = closing_abort h by t
+closing_end : (h : List Event) (by : By) (t : ℕ) (how : XactEnd) → IsClosing h (end_event how by t) (λ x. not (t == top h x))
+closing_end h by t ends.Commit = closing_commit h by t
+closing_end h by t ends.Abort = closing_abort h by t
 
-end_by : (by : By) (t : ℕ) (committed : Bool) → by_of (end_event committed by t) ≡ by
-end_by by t true = refl
-end_by by t false = refl
+end_by : (by : By) (t : ℕ) (how : XactEnd) → by_of (end_event how by t) ≡ by
+end_by by t ends.Commit = refl
+end_by by t ends.Abort = refl
 
-end_lives : (first : ℕ) (h : List Event) (by : By) (t : ℕ) (committed : Bool) → live_up first (end_event committed by t ∷ reverse h) ≡ live_up first (reverse h)
-end_lives first h by t true = refl
-end_lives first h by t false = refl
+end_lives : (first : ℕ) (h : List Event) (by : By) (t : ℕ) (how : XactEnd) → live_up first (end_event how by t ∷ reverse h) ≡ live_up first (reverse h)
+end_lives first h by t ends.Commit = refl
+end_lives first h by t ends.Abort = refl
 
 -- a session's transaction ends
-pub stood_ended : (base : Counters) (h : List Event) (by : By) (t unnamed : ℕ) (rest opened named : List ℕ) (kept : List Kept) (committed : Bool) → IsLegal base h → opened ≡ t ∷ rest → is_top h t ≡ true →
-    Stood base h by.session by.command opened named unnamed kept → Stood base (h ++ end_event committed by t ∷ []) by.session by.command [] [] 0 kept
-stood_ended base h by t unnamed rest opened named kept committed legal o is s =
-    let e : Event = end_event committed by t in
+pub stood_ended : (base : Counters) (h : List Event) (by : By) (t unnamed : ℕ) (rest opened named : List ℕ) (kept : List Kept) (how : XactEnd) → IsLegal base h → opened ≡ t ∷ rest → is_top h t ≡ true →
+    Stood base h by.session by.command opened named unnamed kept → Stood base (h ++ end_event how by t ∷ []) by.session by.command [] [] 0 kept
+stood_ended base h by t unnamed rest opened named kept how legal o is s =
+    let e : Event = end_event how by t in
     record {
-      opened_are = all_closed base h e by.session t rest legal (closing_end h by t committed) (s.opened_are ∙ o) is;
+      opened_are = all_closed base h e by.session t rest legal (closing_end h by t how) (s.opened_are ∙ o) is;
       ascend = tt;
       nest = refl;
       depth = omega arith;
-      turn = turn_push by h e (end_by by t committed) s.turn;
-      live = λ name. live_quiet base.next by.session name h e (end_lives base.next h by t committed) ∙ s.live name;
+      turn = turn_push by h e (end_by by t how) s.turn;
+      live = λ name. live_quiet base.next by.session name h e (end_lives base.next h by t how) ∙ s.live name;
       snaps = kept_grows base h (e ∷ []) by.session kept s.snaps;
     }
 

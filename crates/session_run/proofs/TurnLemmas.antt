@@ -1,6 +1,8 @@
 -- What commands on levels do, and the ends of transactions.
 use Rattle.tx_events.proofs.ListSteps.{length_push}
 use Rattle.std.proofs.Common.{◌≡◌, ℕ, zero, suc, ◌+◌, ◌<◌, ◌≤◌, List, [], ◌∷◌, ◌++◌, length, Option, refl, sym, ap, subst, ◌∙◌, arith, Bool, true, false}
+use Rattle.tx_events.specs.declared.xact_end.XactEnd.{XactEnd}
+use Rattle.tx_events.specs.declared.xact_end.XactEnd.TheVariants as ends
 use Rattle.tx_events.specs.declared.event.By.{By}
 use Rattle.tx_events.specs.declared.event.Event.{Event}
 use Rattle.tx_events.specs.declared.event.Event.TheVariants as events
@@ -10,7 +12,7 @@ use Rattle.tx_events.specs.declared.record.Counters.{Counters}
 use Rattle.tx_model.specs.CommandEvents.{undo_event, innermost, commit_event, abort_event}
 use Rattle.tx_model.specs.Replies.{most_levels}
 use Rattle.tx_model.specs.Stance.{without_last}
-use Rattle.proc_table.specs.Table.{end_event}
+use Rattle.tx_events.specs.XactEnds.{end_event}
 use Rattle.session_run.specs.Acts.{Acts, end_command}
 use Rattle.session_run.specs.Stands.{levels_of}
 use Rattle.session_run.proofs.ActsLemmas.{acts_idle}
@@ -53,13 +55,13 @@ acts_undone base by h ids id unnamed snaps some none =
     })
 
 -- a transaction without an id ends
-pub acts_closed : (base : Counters) (by : By) (h : List Event) (unnamed : ℕ) (snaps : List (List ℕ × ℕ)) (committed : Bool) → 1 ≤ length (levels_of [] unnamed) →
-    Acts base by (record { levels = levels_of [] unnamed; snaps = snaps }) (record { levels = []; snaps = snaps }) (end_command committed) replies.Done h h
-acts_closed base by h unnamed snaps true some = acts_idle base by _ _ commands.Commit replies.Done h (sym (ap (commit_event by) (top_of_nameless unnamed))) (some_levels [] unnamed some) refl
-acts_closed base by h unnamed snaps false some = acts_idle base by _ _ commands.Abort replies.Done h (sym (ap (abort_event by) (top_of_nameless unnamed))) (some_levels [] unnamed some) refl
+pub acts_closed : (base : Counters) (by : By) (h : List Event) (unnamed : ℕ) (snaps : List (List ℕ × ℕ)) (how : XactEnd) → 1 ≤ length (levels_of [] unnamed) →
+    Acts base by (record { levels = levels_of [] unnamed; snaps = snaps }) (record { levels = []; snaps = snaps }) (end_command how) replies.Done h h
+acts_closed base by h unnamed snaps ends.Commit some = acts_idle base by _ _ commands.Commit replies.Done h (sym (ap (commit_event by) (top_of_nameless unnamed))) (some_levels [] unnamed some) refl
+acts_closed base by h unnamed snaps ends.Abort some = acts_idle base by _ _ commands.Abort replies.Done h (sym (ap (abort_event by) (top_of_nameless unnamed))) (some_levels [] unnamed some) refl
 
 -- and one with an id
-pub acts_ended : (base : Counters) (by : By) (h : List Event) (t : ℕ) (ids : List ℕ) (unnamed : ℕ) (snaps : List (List ℕ × ℕ)) (committed : Bool) →
-    Acts base by (record { levels = levels_of (t ∷ ids) unnamed; snaps = snaps }) (record { levels = []; snaps = snaps }) (end_command committed) replies.Done h (h ++ end_event committed by t ∷ [])
-acts_ended base by h t ids unnamed snaps true = record { added = events.Commit by t ∷ []; grown = refl; own = (refl, tt); fitting = refl; allowed = λ e. cc; left = refl }
-acts_ended base by h t ids unnamed snaps false = record { added = events.Abort by t ∷ []; grown = refl; own = (refl, tt); fitting = refl; allowed = λ e. cc; left = refl }
+pub acts_ended : (base : Counters) (by : By) (h : List Event) (t : ℕ) (ids : List ℕ) (unnamed : ℕ) (snaps : List (List ℕ × ℕ)) (how : XactEnd) →
+    Acts base by (record { levels = levels_of (t ∷ ids) unnamed; snaps = snaps }) (record { levels = []; snaps = snaps }) (end_command how) replies.Done h (h ++ end_event how by t ∷ [])
+acts_ended base by h t ids unnamed snaps ends.Commit = record { added = events.Commit by t ∷ []; grown = refl; own = (refl, tt); fitting = refl; allowed = λ e. cc; left = refl }
+acts_ended base by h t ids unnamed snaps ends.Abort = record { added = events.Abort by t ∷ []; grown = refl; own = (refl, tt); fitting = refl; allowed = λ e. cc; left = refl }

@@ -1,6 +1,8 @@
 -- What a command does.
 use Rattle.std.specs.Prelude.{◌≡◌, ◌+◌, ◌<◌, ◌≤◌, List, [], ◌++◌, Bool, cond, length}
 use Rattle.std.specs.List.{AllByRecursion, filter}
+use Rattle.tx_events.specs.declared.xact_end.XactEnd.{XactEnd}
+use Rattle.tx_events.specs.declared.xact_end.XactEnd.TheVariants as ends
 use Rattle.tx_events.specs.declared.event.By.{By}
 use Rattle.tx_events.specs.declared.event.Event.{Event}
 use Rattle.tx_model.specs.declared.command.Command.{Command}
@@ -25,8 +27,9 @@ pub record Acts (base : Counters) (by : By) (s s' : Stance) (command : Command) 
   pub allowed : MayReply base [] h' by s command reply
   pub left : after s by.command command reply (given added) ≡ s'
 
-abbrev pub end_command : Bool → Command
-end_command committed = cond committed commands.Commit commands.Abort
+abbrev pub end_command : XactEnd → Command
+end_command ends.Commit = commands.Commit
+end_command ends.Abort = commands.Abort
 
 -- the same of the whole shared state and session
 abbrev pub ActsOn : Shared → Shared → By → Session → Session → Command → Reply → Type 0

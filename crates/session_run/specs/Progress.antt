@@ -70,7 +70,7 @@ IsFresh s = (s.commands ≡ 0) × (s.named.items ≡ []) × (s.unnamed ≡ 0) ×
 
 -- nothing has happened yet, and the log has the checkpoint of the base
 pub record IsNew (base : Counters) (sessions : ℕ) (w : Shared) : Type 0 where
-  pub table : w.table ≡ record { base = base; sessions = sessions; frontier = page_of base.next; events = [] }
+  pub table : w.table ≡ record { base = base; sessions = sessions; initialised_up_to = page_of base.next; events = [] }
   pub recs : w.log.recs ≡ records.Checkpoint 0 base ∷ []
   pub states : w.states.items ≡ []
 

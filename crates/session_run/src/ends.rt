@@ -6,7 +6,7 @@ ghost use Rattle.tx_events.specs.Running.{open_ids};
 ghost use Rattle.plain_states.specs.States.{with_commit};
 ghost use Rattle.tx_model.specs.declared.command.Command.TheVariants as commands;
 ghost use Rattle.session_run.specs.Acts.{ActsOn, Ready, IsSoundAt, StandsAt, GrowsLittle, end_command};
-ghost use Rattle.session_run.specs.Closes.{end_record, ended_states, Ended};
+ghost use Rattle.session_run.specs.Closes.{ended_states, Ended};
 ghost use Rattle.session_run.specs.Gives.{IsInTurn};
 ghost use Rattle.session_run.specs.Sound.{HasRoom};
 
@@ -15,7 +15,8 @@ use crate::session::Session;
 use crate::shared::Shared;
 use plain_states::IdStates;
 use std::alloc::Global;
-use tx_model::{By, IdList, Memory, Rec, Refusal, Reply};
+use tx_events::XactEnd;
+use tx_model::{By, IdList, Memory, Refusal, Reply};
 use xid_order::FullXid;
 
 /// Where the ids from this one on begin.
@@ -81,21 +82,12 @@ fn id_list(alloc: Global, ids: &[FullXid]) -> Result<IdList, Memory>
     Ok(list)
 }
 
-fn end_record(committed: bool, top: FullXid, subs: IdList) -> Rec
-    ensures { result ≡ end_record committed top subs }
+fn end_states(states: &mut IdStates, ids: &[FullXid], how: XactEnd)
+    ensures { states.new.items ≡ ended_states how ids.now states.old.items }
 {
-    if committed {
-        Rec::Commit { top, subs }
-    } else {
-        Rec::Abort { top, subs }
-    }
-}
-
-fn end_states(states: &mut IdStates, ids: &[FullXid], committed: bool)
-    ensures { states.new.items ≡ ended_states committed ids.now states.old.items }
-{
-    if committed {
-        states.commit(ids);
+    match how {
+        XactEnd::Commit => states.commit(ids),
+        XactEnd::Abort => {}
     }
 }
 
@@ -106,7 +98,7 @@ fn end_ids(
     alloc: Global,
     by: By,
     ids: &[FullXid],
-    committed: bool,
+    how: XactEnd,
 ) -> Result<(), Memory>
     requires sound { IsSoundAt shared.old }
     requires room { HasRoom shared.old.log.recs }
@@ -116,13 +108,13 @@ fn end_ids(
     requires ascend { Ascending ids.now }
     requires some { 1 ≤ length ids.now }
     requires top { (top : ℕ) (subs : List ℕ) → ids.now ≡ top ∷ subs → is_top shared.old.table.events top ≡ true }
-    ensures { OnOk result (Ended shared.old shared.new by ids.now committed) }
+    ensures { OnOk result (Ended shared.old shared.new by ids.now how) }
 {
     let top = ids[0];
     let subs = id_list(alloc, &ids[1..])?;
-    shared.log.add(end_record(committed, top, subs))?;
-    end_states(&mut shared.states, ids, committed);
-    shared.table.end(by, top, committed);
+    shared.log.add(how.record(top, subs))?;
+    end_states(&mut shared.states, ids, how);
+    shared.table.end(by, top, how);
     Ok(())
 }
 
@@ -132,10 +124,10 @@ fn end_transaction(
     alloc: Global,
     by: By,
     session: &mut Session,
-    committed: bool,
+    how: XactEnd,
 ) -> Result<Reply, Memory>
     requires ready { Ready shared.old by session.old }
-    ensures acts { IfOk result (λ reply. ActsOn shared.old shared.new by session.old session.new (end_command committed) reply) }
+    ensures acts { IfOk result (λ reply. ActsOn shared.old shared.new by session.old session.new (end_command how) reply) }
     ensures sound { OnOk result (IsSoundAt shared.new) }
     ensures stands { OnOk result (StandsAt shared.new by session.new) }
     ensures few { OnOk result (GrowsLittle shared.old shared.new) }
@@ -150,7 +142,7 @@ fn end_transaction(
         session.unnamed = 0;
         return Ok(Reply::Done);
     }
-    end_ids(shared, alloc, by, &session.opened, committed)?;
+    end_ids(shared, alloc, by, &session.opened, how)?;
     session.named.clear();
     session.unnamed = 0;
     session.opened.clear();
@@ -172,7 +164,7 @@ pub fn commit(
     ensures few { OnOk result (GrowsLittle shared.old shared.new) }
     ensures count { OnOk result (session.new.commands ≡ session.old.commands) }
 {
-    end_transaction(shared, alloc, by, session, true)
+    end_transaction(shared, alloc, by, session, XactEnd::Commit)
 }
 
 /// Aborts the session's transaction (`AbortTransaction` and `RecordTransactionAbort` of `xact.c`).
@@ -189,5 +181,5 @@ pub fn abort(
     ensures few { OnOk result (GrowsLittle shared.old shared.new) }
     ensures count { OnOk result (session.new.commands ≡ session.old.commands) }
 {
-    end_transaction(shared, alloc, by, session, false)
+    end_transaction(shared, alloc, by, session, XactEnd::Abort)
 }

@@ -5,20 +5,6 @@ ghost use Rattle.tx_model.specs.LifeLog.{AreFlushed, batches_size, is_flushed_at
 use std::alloc::Global;
 use tx_model::{Memory, Rec, RecList};
 
-/// How many bytes the log takes for a record of at most 2^32 subtransactions.
-fn size_of(rec: &Rec) -> u64
-    requires { record_size rec.now ≤ 2 ^ 35 + 13 }
-    ensures { result ≡ record_size rec.now }
-{
-    match rec {
-        Rec::Commit { subs, .. } => 13 + 8 * subs.items().len() as u64,
-        Rec::Abort { subs, .. } => 13 + 8 * subs.items().len() as u64,
-        Rec::Multi { members, .. } => 21 + 9 * members.items().len() as u64,
-        Rec::Checkpoint { .. } => 57,
-        Rec::Truncate { .. } => 25,
-    }
-}
-
 /// Whether the record is flushed as it is appended.
 fn is_flushed_at_once(rec: &Rec) -> bool
     ensures { result ≡ is_flushed_at_once rec.now }
@@ -66,7 +52,7 @@ impl PlainLog {
         ensures ok { OnOk result (self.new.recs ≡ self.old.recs ++ rec ∷ []) }
         ensures err { OnErr result (self.new.recs ≡ self.old.recs) }
     {
-        let size = size_of(&rec);
+        let size = rec.size();
         if is_flushed_at_once(&rec) {
             self.recs.push(rec)?;
             self.end += self.pending + size + 5;

@@ -54,7 +54,7 @@ fn take(shared: &mut Shared, by: By, session: &mut Session, name: &Name) -> Resu
 {
     session.kept.reserve(1)?;
     let copy = name.copy()?;
-    let taken = shared.table.taken()?;
+    let taken = shared.table.snapshot_data()?;
     let place = shared.table.events().len();
     let snapshot = shared.table.snapshot(by, name)?;
     session.kept.push_reserved(Kept {

@@ -29,7 +29,7 @@ fn next_id(table: &mut ProcTable, by: By, parent: &Option<FullXid>) -> Result<Gi
     requires session { by.session < table.old.sessions }
     requires turn { IsInTurn by table.old.events }
     requires parent { IsParent by.session table.old.events parent.now }
-    ensures { TableGives (record table.old { frontier = max table.old.frontier (page_of (next_of table.old)) }) table.new (λ id. giving by parent.now id) result }
+    ensures { TableGives (record table.old { initialised_up_to = max table.old.initialised_up_to (page_of (next_of table.old)) }) table.new (λ id. giving by parent.now id) result }
 {
     let next = table.next();
     table.made(next);

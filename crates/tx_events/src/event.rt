@@ -1,3 +1,4 @@
+//! What happens under the ProcArray's lock.
 use crate::sequence::{Copied, Memory, Name, Sequence};
 use xid_order::FullXid;
 

@@ -1,3 +1,4 @@
+//! Multixacts: modes, members, and what happens under their lock.
 ghost use Rattle.std.specs.Prelude.{◌≡◌, ◌≤◌, ◌↔◌, Some};
 ghost use Rattle.tx_events.specs.declared.multi.Mode.{Mode};
 ghost use Rattle.tx_events.specs.Modes.{mode_number, mode_of};

@@ -1,3 +1,4 @@
+//! The log's records, and the counters that they carry.
 ghost use Rattle.std.specs.Prelude.{◌≡◌, ◌^◌, ◌<◌};
 ghost use Rattle.tx_events.specs.RecordNumber.{own_number};
 ghost use Rattle.tx_events.specs.RecordSize.{record_size};

@@ -1,3 +1,4 @@
+//! Why commands are refused.
 use xid_order::{FullMulti, FullXid, Xid};
 
 /// A lock, and with it the volume behind it. The number is the bank.

@@ -1,3 +1,4 @@
+//! Sequences that grow by `Result`, and copies that may want memory.
 ghost use Rattle.std.specs.Prelude.{◌≡◌, ℕ, List, [], ◌∷◌, ◌++◌, IfOk, OnOk, OnErr, length};
 
 use std::alloc::{AllocError, AllocFailed, Global};

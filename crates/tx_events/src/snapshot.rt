@@ -1,3 +1,4 @@
+//! What a snapshot holds.
 use crate::sequence::IdList;
 use xid_order::FullXid;
 

@@ -1,3 +1,4 @@
+//! Multixact ids in full.
 ghost use Rattle.std.specs.Prelude.{◌≡◌, ℕ, ◌+◌, ◌-◌, ◌%◌, ◌^◌, ◌<◌, ◌≤◌, SomeIff, IfSome, IfNone};
 ghost use Rattle.xid_order.specs.Ids.{low_half, IsFullMulti, IsNextMulti, next_multi};
 ghost use Rattle.xid_order.specs.Nearest.{IsNearest, near_id};

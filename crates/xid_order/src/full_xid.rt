@@ -1,3 +1,4 @@
+//! Transaction ids in full.
 ghost use Rattle.std.specs.Prelude.{◌≡◌, ℕ, ◌+◌, ◌-◌, ◌%◌, ◌^◌, ◌<◌, ◌≤◌, ◌⊎◌, ◌↔◌, IsTrue, SomeIff, IfSome, IfNone};
 ghost use Rattle.xid_order.specs.Ids.{low_half, IsXidNumber, IsNextId, IsIdBefore, next_id, id_before};
 ghost use Rattle.xid_order.specs.Nearest.{IsNearest, near_id};

@@ -1,10 +1,11 @@
+//! Which of two stored numbers comes before the other, around the ring.
 ghost use Rattle.std.specs.Prelude.{◌≡◌, ℕ, ◌+◌, ◌-◌, ◌%◌, ◌^◌, ◌<◌, ◌≤◌, ◌⊎◌, ◌↔◌, IsTrue};
 ghost use Rattle.xid_order.specs.Order.{OrdersNear, OrdersNearIds, ring_before, xid_before};
 
 use crate::full_multi::MultiId;
 
-/// The stored half of a transaction id (`TransactionId`): 0 is invalid, 1 the bootstrap id, 2 the frozen one,
-/// 3 the first normal one.
+/// The stored half of a transaction id (`TransactionId`): 0 is invalid, 1 the bootstrap id (`BootstrapTransactionId`),
+/// 2 the frozen one (`FrozenTransactionId`), 3 the first normal one (`FirstNormalTransactionId`).
 #[derive(Clone, Copy, Debug, PartialEq, Eq, PartialOrd, Ord, Hash)]
 pub struct Xid {
     pub number: u32,

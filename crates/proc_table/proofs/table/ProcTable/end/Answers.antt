@@ -23,7 +23,7 @@ invariant_of-self c =
     let turn : InTurn c.args.by c.self.inside.events.items = subst (InTurn c.args.by) (sym view) c.requires.turn in
     let top_open : Contains (open_ids c.args.by.session c.self.inside.events.items) c.args.top = subst (λ h. Contains (open_ids c.args.by.session h) c.args.top) (sym view) c.requires.top_open in
     let top_top : is_top c.self.inside.events.items c.args.top ≡ true = ap (λ h. is_top h c.args.top) view ∙ c.requires.top_top in
-    let some : 1 ≤ c.self.inside.promised = is_promised _ _ _ _ _ _ _ _ c.args.by.session c.args.top c.self.invariant.0 top_open in
+    let some : 1 ≤ c.self.inside.owed_events = is_promised _ _ _ _ _ _ _ _ c.args.by.session c.args.top c.self.invariant.0 top_open in
     let one : Any (λ (e : Entry). (e.top ≡ c.args.top) × (c.in-Some.last ≡ e.last)) c.self.inside.entries.items = subst (Any (λ (e : Entry). (e.top ≡ c.args.top) × (c.in-Some.last ≡ e.last))) c.deref.ensures.value c.in-Some.ensures.some in (
       rw (c.push_reserved.ensures.items, c.event.ensures, c.greatest-self-inside.ensures, c.drop_top.ensures)
           (state_ended _ _ c.args.by c.args.top c.in-Some.last c.self.inside.next _ _ _ c.args.how _ _ c.self.invariant.0 turn top_open top_top one),

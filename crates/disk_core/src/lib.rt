@@ -12,7 +12,6 @@ mod mem_banks;
 mod mem_log;
 mod mem_media;
 mod mem_pages;
-mod note;
 mod page_bytes;
 mod page_disk;
 

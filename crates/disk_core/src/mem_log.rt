@@ -4,8 +4,8 @@ ghost use Rattle.disk_core.specs.Faults.{CountsFault};
 ghost use Rattle.disk_core.specs.Volume.{overlaid, IsRead};
 ghost use Rattle.disk_core.specs.MemLog.{mixed_bytes};
 
-use crate::note::Note;
 use crate::{Crash, Extent, Failed, LogDisk};
+use notes::Note;
 use std::alloc::{AllocError, Global};
 use std::collections::LinkedList;
 

@@ -8,9 +8,9 @@ ghost use Rattle.disk_core.specs.MemPages.{bytes_or_none, mixed_page};
 ghost use Rattle.disk_core.specs.Pages.{HasPage, LacksPage, zero_page, IsPageRead, IsNextPage};
 
 use crate::mem_log::count;
-use crate::note::Note;
 use crate::page_bytes::PageBytes;
 use crate::{Crash, Failed, PageDisk};
+use notes::Note;
 use std::alloc::{AllocError, Global};
 use std::collections::{BTreeMap, LinkedList};
 

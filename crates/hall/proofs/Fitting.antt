@@ -8,7 +8,7 @@ use Rattle.hall.specs.declared.writer.Writer.{Writer}
 use Rattle.hall.specs.declared.view.Stage.TheVariants.{Free, Inside}
 use Rattle.hall.specs.declared.view.View.{View}
 use Rattle.hall.specs.declared.view.Held.{Held}
-use Rattle.hall.specs.declared.note.Note.{Note}
+use Rattle.notes.specs.declared.note.Note.{Note}
 use Rattle.hall.specs.Rule.{Kept}
 use Rattle.hall.specs.Told.{entered, missed, left, published, learned, Got, Learnt, went}
 use Rattle.hall.specs.Fits.{Fits, carried_at}

@@ -16,7 +16,7 @@ use Rattle.hall.specs.declared.view.Stage.{Stage}
 use Rattle.hall.specs.declared.view.Stage.TheVariants.{Free, Inside}
 use Rattle.hall.specs.declared.view.View.{View}
 use Rattle.hall.specs.declared.view.Held.{Held}
-use Rattle.hall.specs.declared.note.Note.{Note}
+use Rattle.notes.specs.declared.note.Note.{Note}
 use Rattle.hall.specs.Rule.{Holds, IsIn, Stands, Writes, Told, Kept}
 use Rattle.hall.specs.Told.{published, publishes}
 use Rattle.hall.proofs.Pieces.{begins_same, begins_more, own_other, at_here, at_else, each_set, unique_set, no_other, inside}

@@ -8,7 +8,7 @@ use Rattle.hall.specs.declared.view.Stage.TheVariants.{Free, Inside}
 use Rattle.hall.specs.declared.view.View.{View}
 use Rattle.hall.specs.declared.view.Merged.{Merged}
 use Rattle.hall.specs.declared.view.Held.{Held}
-use Rattle.hall.specs.declared.note.Note.{Note}
+use Rattle.notes.specs.declared.note.Note.{Note}
 use Rattle.hall.specs.Layout.{line_of}
 use Rattle.hall.specs.Lists.{at, Grows, Whole, OwnSeen}
 use Rattle.hall.specs.Rule.{Holds, Writes, Told}

@@ -9,10 +9,10 @@ ghost use Rattle.hall.specs.Calls.{view, IsOf, IsSame, Looked, Entered, start_of
 use crate::hall::Hall;
 use crate::law::Law;
 use crate::layout::line_at;
-use crate::note::Note;
 use crate::pass::Pass;
 use crate::step_kinds::{Leave, Look};
 use crossbeam_utils::Backoff;
+use notes::Note;
 use std::sync::Wait;
 
 impl<L: Law> Hall<L> {

@@ -9,11 +9,11 @@ ghost use Rattle.hall.specs.Calls.{view, IsOf, start_of, passes_of, StandFor, Sh
 use crate::hall::Hall;
 use crate::law::Law;
 use crate::memory::Memory;
-use crate::note::Note;
 use crate::parts::{first_names, first_words, unwrap, wrap};
 use crate::pass::{Pass, Token};
 use crate::view::{Held, Opening};
 use atomic_table::{Refused, Table};
+use notes::Note;
 use std::alloc::Global;
 
 impl<L: Law> Hall<L> {

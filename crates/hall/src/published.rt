@@ -8,10 +8,10 @@ ghost use Rattle.hall.specs.Calls.{view, IsOf, IsSame, Loaded, start_of};
 use crate::hall::Hall;
 use crate::law::Law;
 use crate::layout::line_at;
-use crate::note::Note;
 use crate::pass::Pass;
 use crate::step_kinds::{Check, Publish, Read};
 use crate::view::Held;
+use notes::Note;
 
 impl<L: Law> Hall<L> {
     /// Loads the published word `word`, which is below the number of words, and returns the number

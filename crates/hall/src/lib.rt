@@ -1,4 +1,8 @@
-//! Values behind locks, each standing for the history of its lock.
+//! Values behind locks, each standing for the history of its lock, and numbers that may be read under
+//! no lock (docs/CONCURRENCY.md, "The lock table").
+//!
+//! The locks are PostgreSQL's lightweight locks in exclusive mode, `LWLock` of
+//! `src/backend/storage/lmgr/lwlock.c`, such as ProcArrayLock and XidGenLock.
 #![tactic(auto)]
 
 mod enter_and_leave;

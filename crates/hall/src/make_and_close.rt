@@ -2,7 +2,7 @@
 ghost use Rattle.std.specs.Prelude.{◌≡◌, ℕ, ◌+◌, ◌^◌, ◌<◌, ◌≤◌, [], ◌∷◌, IfOk, IfErr, length, slice_get, Some};
 ghost use Rattle.hall.specs.declared.writer.Writer.TheVariants.{Lock};
 ghost use Rattle.hall.specs.declared.view.Stage.TheVariants.{Free};
-ghost use Rattle.hall.specs.Lists.{at};
+ghost use Rattle.notes.specs.Lists.{at};
 ghost use Rattle.hall.specs.Rule.{Holds, first_view};
 ghost use Rattle.hall.specs.Calls.{view, IsOf, start_of, passes_of, StandFor, ShownBy};
 

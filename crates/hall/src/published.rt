@@ -1,6 +1,6 @@
 //! Published words: numbers that their writers change under no lock, and that any pass may load.
 ghost use Rattle.std.specs.Prelude.{◌≡◌, ◌+◌, ◌<◌, [], ◌∷◌, ◌++◌};
-ghost use Rattle.hall.specs.Lists.{at};
+ghost use Rattle.notes.specs.Lists.{at};
 ghost use Rattle.hall.specs.Rule.{Writes};
 ghost use Rattle.hall.specs.Told.{published};
 ghost use Rattle.hall.specs.Calls.{view, IsOf, IsSame, Loaded, start_of};

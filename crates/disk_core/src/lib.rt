@@ -1,4 +1,5 @@
-//! Volumes of bytes and of pages: what they read, what a crash may leave of them, and how often they failed.
+//! Volumes of bytes and of pages: what they read, what a crash may leave of them, and how often they
+//! failed (docs/DISKS.md).
 #![tactic(auto)]
 
 mod fuse;

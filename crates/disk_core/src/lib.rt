@@ -2,11 +2,6 @@
 //! failed (docs/DISKS.md).
 #![tactic(auto)]
 
-mod fuse;
-mod fused_banks;
-mod fused_log;
-mod fused_pages;
-mod fused_volumes;
 mod log_disk;
 mod media;
 mod mem_banks;
@@ -16,9 +11,6 @@ mod mem_pages;
 mod page_bytes;
 mod page_disk;
 
-pub use fuse::Fuse;
-pub use fused_log::FusedLog;
-pub use fused_pages::FusedPages;
 pub use log_disk::{Extent, Failed, LogDisk, Memory};
 pub use media::{Crash, Media, MountRefusal, Volumes, Which};
 pub use mem_log::MemLog;

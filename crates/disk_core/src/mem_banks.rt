@@ -1,4 +1,4 @@
-// The banks of a media in memory.
+//! The banks of a media in memory.
 ghost use Rattle.std.specs.Prelude.{◌≡◌, length, IfOk, OnOk, All};
 ghost use Rattle.disk_core.specs.Media.{EachCrashed};
 ghost use Rattle.disk_core.specs.MemMediaViews.{IsEmptyBank};

@@ -1,4 +1,4 @@
-// A log volume in memory. A crash leaves what was synced, what was written, or a mixture of both.
+//! A log volume in memory. A crash leaves what was synced, what was written, or a mixture of both.
 ghost use Rattle.std.specs.Prelude.{◌≡◌, ◌⊎◌, ◌+◌, ◌-◌, ◌≤◌, ◌%◌, ◌==◌, ◌++◌, [], length, min, take, drop, replicate, is_ok, OnOk, OnErr, slice_index};
 ghost use Rattle.disk_core.specs.Faults.{CountsFault};
 ghost use Rattle.disk_core.specs.Volume.{overlaid, IsRead};

@@ -1,4 +1,4 @@
-// A media in memory. It fails only for want of memory.
+//! A media in memory. It fails only for want of memory.
 ghost use Rattle.std.specs.Prelude.{◌≡◌, ◌≤◌, IfOk, OnOk, OnErr};
 ghost use Rattle.disk_core.specs.Faults.{CountsFault};
 ghost use Rattle.disk_core.specs.Media.{AllCrashed, HaveSameBanks};

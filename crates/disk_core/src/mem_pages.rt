@@ -1,4 +1,4 @@
-// A page volume in memory. A crash leaves of each page what was synced, what was written, or a mixture.
+//! A page volume in memory. A crash leaves of each page what was synced, what was written, or a mixture.
 ghost use Rattle.std.specs.Prelude.{◌≡◌, ◌⊎◌, ◌≤◌, ◌<◌, ◌^◌, ℕ, Some, None, IfOk, OnOk, OnErr, is_some, replicate, false, IsNone, IsSome, IfSome, IfNone};
 ghost use Rattle.std.specs.Ordering.{nat_cmp};
 ghost use Rattle.std.specs.BTreeMap as tree;

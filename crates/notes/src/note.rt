@@ -1,4 +1,4 @@
-// A ghost value with no bytes: a program keeps account of its past at no cost.
+//! A ghost value with no bytes: a program keeps account of its past at no cost.
 ghost use Rattle.std.specs.Prelude.{◌≡◌};
 ghost use base.Fml.{ftrue};
 

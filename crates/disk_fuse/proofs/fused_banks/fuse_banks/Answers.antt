@@ -1,6 +1,6 @@
 use Rattle.std.proofs.Common.{◌≡◌, length, length-append, arith, ◌∷◌, [], ap}
-use Rattle.disk_core.proofs.Fused.{fused_step}
-use Rattle.disk_core.proofs.fused_banks.fuse_banks.Goals as goal
+use Rattle.disk_fuse.proofs.Fused.{fused_step}
+use Rattle.disk_fuse.proofs.fused_banks.fuse_banks.Goals as goal
 
 pub loop-inner-preserved : goal.loop-inner-preserved
 loop-inner-preserved g c =

@@ -8,9 +8,9 @@ use Rattle.disk_core.specs.Pages.{Pages}
 use Rattle.disk_core.specs.Media.{HasBanks, HaveSameBanks, LogCrashed, PagesCrashed, EachCrashed, AllCrashed}
 use Rattle.disk_core.specs.declared.media.Volumes.{Volumes}
 use Rattle.disk_core.specs.declared.media.Which.{Which}
-use Rattle.disk_core.specs.declared.fused_log.FusedLog.{FusedLog}
-use Rattle.disk_core.specs.declared.fused_pages.FusedPages.{FusedPages}
-use Rattle.disk_core.specs.FuseMedia.{is_at, limit_of, fused_banks, inner_banks, refusals, xact_bank, subtrans_bank, offsets_bank, members_bank, IsFused, IsUnfused, fuse_gives, fuse_is_new}
+use Rattle.disk_fuse.specs.declared.fused_log.FusedLog.{FusedLog}
+use Rattle.disk_fuse.specs.declared.fused_pages.FusedPages.{FusedPages}
+use Rattle.disk_fuse.specs.FuseMedia.{is_at, limit_of, fused_banks, inner_banks, refusals, xact_bank, subtrans_bank, offsets_bank, members_bank, IsFused, IsUnfused, fuse_gives, fuse_is_new}
 
 pub on_ok_map : {T E : Type 0} (r : Result T E) {A B : Type 0} → (A → B) → OnOk r A → OnOk r B
 on_ok_map (Ok x) f a = f a

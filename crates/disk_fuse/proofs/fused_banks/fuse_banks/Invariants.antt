@@ -1,7 +1,7 @@
 use Rattle.std.proofs.Common.{◌≡◌, ◌≤◌, ◌+◌, ◌++◌, length, vec_len, vec_capacity}
 use Rattle.std.specs.Prelude.{reverse}
-use Rattle.disk_core.specs.FuseMedia.{fused_banks}
-use Rattle.disk_core.proofs.fused_banks.fuse_banks.Given as goal
+use Rattle.disk_fuse.specs.FuseMedia.{fused_banks}
+use Rattle.disk_fuse.proofs.fused_banks.fuse_banks.Given as goal
 
 abbrev pub invariant-loop-inner : goal.invariant-loop-inner
 invariant-loop-inner g l = record {

@@ -1,7 +1,7 @@
 use Rattle.std.proofs.Common.{◌≡◌, ◌≤◌, ◌+◌, ◌++◌, length, vec_len, vec_capacity}
 use Rattle.std.specs.Prelude.{reverse}
-use Rattle.disk_core.specs.FuseMedia.{inner_banks, refusals}
-use Rattle.disk_core.proofs.fused_banks.unfuse_banks.Given as goal
+use Rattle.disk_fuse.specs.FuseMedia.{inner_banks, refusals}
+use Rattle.disk_fuse.proofs.fused_banks.unfuse_banks.Given as goal
 
 abbrev pub invariant-loop-bank : goal.invariant-loop-bank
 invariant-loop-bank g l = record {

@@ -1,6 +1,6 @@
 use Rattle.std.proofs.Common.{length, length-append, arith, ◌∷◌, [], ap}
-use Rattle.disk_core.proofs.Fused.{inner_step, refusals_step}
-use Rattle.disk_core.proofs.fused_banks.unfuse_banks.Goals as goal
+use Rattle.disk_fuse.proofs.Fused.{inner_step, refusals_step}
+use Rattle.disk_fuse.proofs.fused_banks.unfuse_banks.Goals as goal
 
 pub loop-bank-preserved : goal.loop-bank-preserved
 loop-bank-preserved g c =

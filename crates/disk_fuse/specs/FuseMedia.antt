@@ -1,7 +1,7 @@
 -- The volumes of a fused media: each passes its calls on, and one of them only so many.
 use Rattle.std.specs.Prelude.{◌≡◌, ℕ, ◌+◌, ◌≤◌, ◌==◌, Bool, true, false, List, [], ◌∷◌, length, slice_index, vec_capacity, Option, Some, None}
-use Rattle.disk_core.specs.declared.fused_log.FusedLog.{FusedLog}
-use Rattle.disk_core.specs.declared.fused_pages.FusedPages.{FusedPages}
+use Rattle.disk_fuse.specs.declared.fused_log.FusedLog.{FusedLog}
+use Rattle.disk_fuse.specs.declared.fused_pages.FusedPages.{FusedPages}
 use Rattle.disk_core.specs.declared.media.Volumes.{Volumes}
 use Rattle.disk_core.specs.declared.media.Which.{Which}
 use Rattle.disk_core.specs.declared.media.Which.TheVariants.{Log, Xact, Subtrans, Offsets, Members}

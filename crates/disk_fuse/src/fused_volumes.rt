@@ -1,9 +1,10 @@
-// The volumes of a fused media, wrapped and unwrapped.
+//! The volumes of a fused media, wrapped and unwrapped.
 ghost use Rattle.std.specs.Prelude.{◌≡◌, IfOk, IfErr};
-ghost use Rattle.disk_core.specs.FuseMedia.{is_log, xact_bank, subtrans_bank, offsets_bank, members_bank, limit_of, IsFused, IsUnfused, HasRoomFor};
+ghost use Rattle.disk_fuse.specs.FuseMedia.{is_log, xact_bank, subtrans_bank, offsets_bank, members_bank, limit_of, IsFused, IsUnfused, HasRoomFor};
 
 use crate::fused_banks::{fuse_banks, unfuse_banks};
-use crate::{FusedLog, FusedPages, LogDisk, PageDisk, Volumes, Which};
+use crate::{FusedLog, FusedPages};
+use disk_core::{LogDisk, PageDisk, Volumes, Which};
 use std::alloc::{AllocError, Global};
 
 fn xact_at(at: Which) -> Option<u32>

@@ -1,6 +1,6 @@
 use Rattle.std.proofs.Common.{◌≡◌, None, ◌∙◌, sym, false}
-use Rattle.disk_core.proofs.FuseMoves.{on_err, gives_again, gives_first, still_gives, rested}
-use Rattle.disk_core.proofs.fuse.FuseMedia.mount.Goals as goal
+use Rattle.disk_fuse.proofs.FuseMoves.{on_err, gives_again, gives_first, still_gives, rested}
+use Rattle.disk_fuse.proofs.fuse.FuseMedia.mount.Goals as goal
 
 pub returns-in_err-volumes-in-None-clause-kept : goal.returns-in_err-volumes-in-None-clause-kept
 returns-in_err-volumes-in-None-clause-kept g c =

@@ -1,11 +1,11 @@
-// A log volume that passes so many calls on, and then fails each without doing it.
+//! A log volume that passes so many calls on, and then fails each without doing it.
 ghost use Rattle.std.specs.Prelude.{◌≡◌, ◌⊎◌, ◌+◌, ◌≤◌, IsTrue, length, max, IfOk, OnOk, OnErr, IsErr, Some};
 ghost use Rattle.disk_core.specs.Faults.{CountsFault};
-ghost use Rattle.disk_core.specs.Fuse.{spent, Spends};
+ghost use Rattle.disk_fuse.specs.Fuse.{spent, Spends};
 ghost use Rattle.disk_core.specs.Images.{NoMore, Follows, Only, Elapses};
 ghost use Rattle.disk_core.specs.Volume.{overlaid, Wrote, Forgot, IsRead};
 
-use crate::{Extent, Failed, LogDisk};
+use disk_core::{Extent, Failed, LogDisk};
 
 #[derive(Drop)]
 pub struct FusedLog<D: LogDisk> {

@@ -1,8 +1,9 @@
-// The banks of a fused media are wrapped and unwrapped one by one.
+//! The banks of a fused media are wrapped and unwrapped one by one.
 ghost use Rattle.std.specs.Prelude.{◌≡◌, ◌≤◌, length, vec_capacity, [], slice_index};
-ghost use Rattle.disk_core.specs.FuseMedia.{is_at, limit_of, fused_banks, inner_banks, refusals};
+ghost use Rattle.disk_fuse.specs.FuseMedia.{is_at, limit_of, fused_banks, inner_banks, refusals};
 
-use crate::{FusedPages, PageDisk};
+use crate::FusedPages;
+use disk_core::PageDisk;
 
 // The limit of a bank, if it is the fused one.
 fn limit_at(at: Option<u32>, passes: Option<u64>, i: usize) -> Option<u64>

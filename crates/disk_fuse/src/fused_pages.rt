@@ -1,12 +1,12 @@
-// A page volume that passes so many calls on, and then fails each without doing it.
+//! A page volume that passes so many calls on, and then fails each without doing it.
 ghost use Rattle.std.specs.Prelude.{◌≡◌, ◌⊎◌, ◌+◌, ◌≤◌, IsTrue, IfOk, IfSome, OnOk};
 ghost use Rattle.disk_core.specs.Faults.{CountsFault};
-ghost use Rattle.disk_core.specs.Fuse.{Spends};
+ghost use Rattle.disk_fuse.specs.Fuse.{Spends};
 ghost use Rattle.disk_core.specs.Images.{NoMore, Follows, Only, Elapses};
 ghost use Rattle.disk_core.specs.Pages.{WrotePage, RemovedPage, HasPage, LacksPage, IsPageRead, IsAfter, IsNextPage};
 
 use crate::fused_log::spend;
-use crate::{Failed, PageDisk};
+use disk_core::{Failed, PageDisk};
 
 #[derive(Drop)]
 pub struct FusedPages<P: PageDisk> {

@@ -1,6 +1,6 @@
 use Rattle.std.proofs.Common.{None}
-use Rattle.disk_core.proofs.FuseMoves.{on_ok_map, all_fell, fused_same_banks}
-use Rattle.disk_core.proofs.fuse.FuseMedia.crash.Goals as goal
+use Rattle.disk_fuse.proofs.FuseMoves.{on_ok_map, all_fell, fused_same_banks}
+use Rattle.disk_fuse.proofs.fuse.FuseMedia.crash.Goals as goal
 
 pub returns-in-Ok-clause-left : goal.returns-in-Ok-clause-left
 returns-in-Ok-clause-left g c told told_2 =

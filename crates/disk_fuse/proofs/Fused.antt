@@ -3,8 +3,8 @@ use Rattle.std.proofs.Common.{◌≡◌, ℕ, zero, suc, ◌+◌, List, [], ◌�
 use Rattle.std.specs.Prelude.{slice_index}
 use Rattle.std.specs.Prelude.{reverse}
 use Rattle.std.proofs.lemmas.List.{append_assoc, reverse-append, append-nil}
-use Rattle.disk_core.specs.declared.fused_pages.FusedPages.{FusedPages}
-use Rattle.disk_core.specs.FuseMedia.{is_at, limit_of, fused_banks, inner_banks, refusals}
+use Rattle.disk_fuse.specs.declared.fused_pages.FusedPages.{FusedPages}
+use Rattle.disk_fuse.specs.FuseMedia.{is_at, limit_of, fused_banks, inner_banks, refusals}
 
 module _ {P : Type 0} where
   module _ (at passes : Option ℕ) (refused : List ℕ) where

@@ -1,9 +1,10 @@
-// A media with a fuse: one volume passes so many calls, then fails each without doing it, until a crash.
+//! A media with a fuse: one volume passes so many calls, then fails each without doing it, until a crash.
 ghost use Rattle.std.specs.Prelude.{◌≡◌, ◌+◌, ◌≤◌, Some, None, IsTrue, OnOk, OnErr, IfOk, false};
 ghost use Rattle.disk_core.specs.Faults.{CountsFault};
 
 use crate::fused_volumes::{fuse_all, unfuse_all};
-use crate::{Crash, Failed, FusedLog, FusedPages, Media, MountRefusal, Volumes, Which};
+use crate::{FusedLog, FusedPages};
+use disk_core::{Crash, Failed, Media, MountRefusal, Volumes, Which};
 use std::alloc::Global;
 
 #[derive(Drop)]
@@ -63,9 +64,9 @@ impl<M: Media> Media for Fuse<M> {
     ghost use Rattle.disk_core.specs.Images.{NoMore, Only};
     ghost use Rattle.disk_core.specs.Media.{HasBanks, HaveSameBanks, CountsMount, LogCrashed, PagesCrashed, AllCrashed};
     ghost use Rattle.disk_core.specs.declared.media.Volumes.{Volumes};
-    ghost use Rattle.disk_core.specs.declared.fused_log.FusedLog.{FusedLog};
-    ghost use Rattle.disk_core.specs.declared.fused_pages.FusedPages.{FusedPages};
-    ghost use Rattle.disk_core.specs.FuseMedia.{fuse_gives, fuse_is_new};
+    ghost use Rattle.disk_fuse.specs.declared.fused_log.FusedLog.{FusedLog};
+    ghost use Rattle.disk_fuse.specs.declared.fused_pages.FusedPages.{FusedPages};
+    ghost use Rattle.disk_fuse.specs.FuseMedia.{fuse_gives, fuse_is_new};
 
     ghost is_idle = { λ f. not f.is_mounted };
 

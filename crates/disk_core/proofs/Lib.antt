@@ -5,5 +5,3 @@ pub mod Clock
 pub mod MemPagesCrash
 pub mod TornPages
 pub mod Banks
-pub mod Fused
-pub mod FuseMoves

@@ -9,6 +9,4 @@ pub mod MemLogViews
 pub mod MemPages
 pub mod MemPagesViews
 pub mod Media
-pub mod Fuse
-pub mod FuseMedia
 pub mod MemMediaViews

@@ -1,8 +1,9 @@
 -- What a log volume in memory holds, and its moments.
-use Rattle.std.specs.Prelude.{ℕ, List, ◌++◌, take}
+use Rattle.std.specs.Prelude.{◌≡◌, ℕ, List, ◌++◌, take}
 use Rattle.disk_core.specs.Volume.{Volume}
-use Rattle.disk_core.specs.MemLog.{IsOutcome}
+use Rattle.disk_core.specs.MemLog.{IsOutcome, outcome_of}
 use Rattle.disk_core.specs.Media.{LogCrashed}
+use Rattle.disk_core.specs.declared.media.Crash.{Crash}
 use Rattle.disk_core.specs.declared.mem_log.MemLog.{MemLog}
 use Rattle.disk_core.specs.declared.mem_log.LogMoment.{LogMoment}
 
@@ -22,3 +23,8 @@ log_moment m = record { start = m.start; bytes = m.bytes.items; synced_start = m
 
 abbrev pub log_crashed : MemLog → MemLog → Type 0
 log_crashed = LogCrashed (λ m. written m) (λ m. IsOutcome (synced m) (written m)) (λ m. m.faults)
+
+-- after a crash of this kind a log has what the kind leaves of it, all of it synced
+pub record LogFell (how : Crash) (old new : MemLog) : Type 0 where
+  pub left : written new ≡ outcome_of how (synced old) (written old)
+  pub settled : synced new ≡ written new

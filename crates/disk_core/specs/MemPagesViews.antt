@@ -1,9 +1,11 @@
 -- What a page volume in memory holds, and its moments.
+use Rattle.std.specs.Prelude.{◌≡◌, ℕ}
 use Rattle.std.specs.Ordering.{nat_cmp}
 use Rattle.std.specs.BTreeMap as tree
 use Rattle.disk_core.specs.Pages.{Pages}
-use Rattle.disk_core.specs.MemPages.{AreOutcomes}
+use Rattle.disk_core.specs.MemPages.{AreOutcomes, page_outcome_of}
 use Rattle.disk_core.specs.Media.{PagesCrashed}
+use Rattle.disk_core.specs.declared.media.Crash.{Crash}
 use Rattle.disk_core.specs.declared.mem_pages.MemPages.{MemPages}
 use Rattle.disk_core.specs.declared.mem_pages.PageMoment.{PageMoment}
 
@@ -23,3 +25,8 @@ page_moment m = record { now = m.now; synced = m.synced }
 
 abbrev pub pages_crashed : MemPages → MemPages → Type 0
 pages_crashed = PagesCrashed (λ m. pages_now m) (λ m. AreOutcomes (pages_synced m) (pages_now m)) (λ m. m.faults)
+
+-- after a crash of this kind each page is what the kind leaves of it, all of it synced
+pub record PagesFell (how : Crash) (old new : MemPages) : Type 0 where
+  pub left : (q : ℕ) → pages_now new q ≡ page_outcome_of how (pages_synced old q) (pages_now old q)
+  pub settled : (q : ℕ) → pages_synced new q ≡ pages_now new q

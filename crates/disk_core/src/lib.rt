@@ -1,24 +1,16 @@
-//! Volumes of bytes and of pages: what they read, what a crash may leave of them, and how often they failed.
+//! Volumes of bytes and of pages: what they read, what a crash may leave of them, and how often they
+//! failed (docs/DISKS.md).
 #![tactic(auto)]
 
-mod fuse;
-mod fused_banks;
-mod fused_log;
-mod fused_pages;
-mod fused_volumes;
 mod log_disk;
 mod media;
 mod mem_banks;
 mod mem_log;
 mod mem_media;
 mod mem_pages;
-mod note;
 mod page_bytes;
 mod page_disk;
 
-pub use fuse::Fuse;
-pub use fused_log::FusedLog;
-pub use fused_pages::FusedPages;
 pub use log_disk::{Extent, Failed, LogDisk, Memory};
 pub use media::{Crash, Media, MountRefusal, Volumes, Which};
 pub use mem_log::MemLog;

@@ -1,3 +1,4 @@
+//! A log volume: a row of bytes, of which the front can be forgotten.
 ghost use Rattle.std.specs.Prelude.{◌≡◌, ◌⊎◌, ◌≤◌, List, ℕ, Bool, IsTrue, length, max, IfOk, OnOk};
 ghost use Rattle.disk_core.specs.Faults.{CountsFault};
 ghost use Rattle.disk_core.specs.Images.{NoMore, Follows, Only, Elapses};

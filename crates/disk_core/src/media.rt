@@ -1,3 +1,4 @@
+//! Where volumes lie between two lives of the program.
 ghost use Rattle.std.specs.Prelude.{◌≡◌, ◌≤◌, ℕ, Bool, IsTrue, IfOk, OnOk, OnErr, false};
 ghost use Rattle.disk_core.specs.Faults.{CountsFault};
 ghost use Rattle.disk_core.specs.Images.{NoMore, Only};

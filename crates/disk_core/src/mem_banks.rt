@@ -1,8 +1,8 @@
-// The banks of a media in memory.
+//! The banks of a media in memory.
 ghost use Rattle.std.specs.Prelude.{◌≡◌, length, IfOk, OnOk, All};
 ghost use Rattle.disk_core.specs.Media.{EachCrashed};
 ghost use Rattle.disk_core.specs.MemMediaViews.{IsEmptyBank};
-ghost use Rattle.disk_core.specs.MemPagesViews.{pages_crashed};
+ghost use Rattle.disk_core.specs.MemPagesViews.{pages_crashed, PagesFell};
 
 use crate::{Crash, Failed, MemPages};
 use std::alloc::{AllocError, Global};
@@ -20,6 +20,7 @@ pub(crate) fn new_banks(alloc: Global, n: u32) -> Result<Vec<MemPages>, AllocErr
 
 pub(crate) fn crash_banks(banks: &mut Vec<MemPages>, how: Crash) -> Result<(), Failed>
     ensures crashed { OnOk result (EachCrashed pages_crashed banks.old.items banks.new.items) }
+    ensures fell { OnOk result (EachCrashed (PagesFell how) banks.old.items banks.new.items) }
     ensures count { length banks.new.items ≡ length banks.old.items }
 {
     for bank in banks.iter_mut() {

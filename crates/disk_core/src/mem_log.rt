@@ -1,11 +1,11 @@
-// A log volume in memory. A crash leaves what was synced, what was written, or a mixture of both.
+//! A log volume in memory. A crash leaves what was synced, what was written, or a mixture of both.
 ghost use Rattle.std.specs.Prelude.{◌≡◌, ◌⊎◌, ◌+◌, ◌-◌, ◌≤◌, ◌%◌, ◌==◌, ◌++◌, [], length, min, take, drop, replicate, is_ok, OnOk, OnErr, slice_index};
 ghost use Rattle.disk_core.specs.Faults.{CountsFault};
 ghost use Rattle.disk_core.specs.Volume.{overlaid, IsRead};
 ghost use Rattle.disk_core.specs.MemLog.{mixed_bytes};
 
-use crate::note::Note;
 use crate::{Crash, Extent, Failed, LogDisk};
+use notes::Note;
 use std::alloc::{AllocError, Global};
 use std::collections::LinkedList;
 
@@ -268,7 +268,7 @@ impl LogDisk for MemLog {
 impl MemLog {
     ghost use Rattle.std.specs.Prelude.{◌≡◌};
     ghost use Rattle.disk_core.specs.MemLog.{outcome_of};
-    ghost use Rattle.disk_core.specs.MemLogViews.{written, synced, log_crashed};
+    ghost use Rattle.disk_core.specs.MemLogViews.{written, synced, log_crashed, LogFell};
 
     fn fall_back(&mut self, how: Crash)
         ensures written { written self.new ≡ outcome_of how (synced self.old) (written self.old) }
@@ -289,6 +289,7 @@ impl MemLog {
     /// What a crash makes of it. It takes no memory.
     pub fn crash(&mut self, how: Crash)
         ensures written { written self.new ≡ outcome_of how (synced self.old) (written self.old) }
+        ensures fell { LogFell how self.old self.new }
         ensures crashed { log_crashed self.old self.new }
     {
         self.fall_back(how);

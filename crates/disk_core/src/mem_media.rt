@@ -1,10 +1,10 @@
-// A media in memory. It fails only for want of memory.
+//! A media in memory. It fails only for want of memory.
 ghost use Rattle.std.specs.Prelude.{◌≡◌, ◌≤◌, IfOk, OnOk, OnErr};
 ghost use Rattle.disk_core.specs.Faults.{CountsFault};
 ghost use Rattle.disk_core.specs.Media.{AllCrashed, HaveSameBanks};
-ghost use Rattle.disk_core.specs.MemLogViews.{log_crashed};
+ghost use Rattle.disk_core.specs.MemLogViews.{log_crashed, LogFell};
 ghost use Rattle.disk_core.specs.MemMediaViews.{IsFirst};
-ghost use Rattle.disk_core.specs.MemPagesViews.{pages_crashed};
+ghost use Rattle.disk_core.specs.MemPagesViews.{pages_crashed, PagesFell};
 
 use crate::mem_banks::{crash_banks, new_banks};
 use crate::{Crash, Failed, Media, MemLog, MemPages, MountRefusal, Volumes};
@@ -77,6 +77,7 @@ fn first_volumes(
 
 fn crash_all(volumes: &mut Volumes<MemLog, MemPages>, how: Crash) -> Result<(), Failed>
     ensures crashed { OnOk result (AllCrashed log_crashed pages_crashed volumes.old volumes.new) }
+    ensures fell { OnOk result (AllCrashed (LogFell how) (PagesFell how) volumes.old volumes.new) }
     ensures banks { HaveSameBanks volumes.old volumes.new }
 {
     volumes.log.crash(how);
@@ -95,8 +96,8 @@ impl Media for MemMedia {
     ghost use Rattle.disk_core.specs.Images.{NoMore, Only};
     ghost use Rattle.disk_core.specs.Media.{HaveSameBanks, CountsMount, AllCrashed};
     ghost use Rattle.disk_core.specs.declared.media.Volumes.{Volumes};
-    ghost use Rattle.disk_core.specs.MemLogViews.{log_crashed};
-    ghost use Rattle.disk_core.specs.MemPagesViews.{pages_crashed};
+    ghost use Rattle.disk_core.specs.MemLogViews.{log_crashed, LogFell};
+    ghost use Rattle.disk_core.specs.MemPagesViews.{pages_crashed, PagesFell};
     ghost use Rattle.disk_core.specs.MemMediaViews.{is_idle, is_new, gives, first_log, IsFirst};
 
     ghost is_idle = { λ m. is_idle m };
@@ -134,6 +135,7 @@ impl Media for MemMedia {
         ensures idle { IsTrue (is_idle self.new) }
         ensures old { is_new self.new ≡ false }
         ensures left { OnOk result ((next : Volumes MemLog MemPages) → gives self.new next → AllCrashed log_crashed pages_crashed volumes next) }
+        ensures fell { OnOk result ((next : Volumes MemLog MemPages) → gives self.new next → AllCrashed (LogFell how) (PagesFell how) volumes next) }
         ensures banks { OnOk result ((next : Volumes MemLog MemPages) → gives self.new next → HaveSameBanks volumes next) }
         ensures cause { CountsFault result self.old.faults self.new.faults }
     {

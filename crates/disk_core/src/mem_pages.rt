@@ -1,4 +1,4 @@
-// A page volume in memory. A crash leaves of each page what was synced, what was written, or a mixture.
+//! A page volume in memory. A crash leaves of each page what was synced, what was written, or a mixture.
 ghost use Rattle.std.specs.Prelude.{◌≡◌, ◌⊎◌, ◌≤◌, ◌<◌, ◌^◌, ℕ, Some, None, IfOk, OnOk, OnErr, is_some, replicate, false, IsNone, IsSome, IfSome, IfNone};
 ghost use Rattle.std.specs.Ordering.{nat_cmp};
 ghost use Rattle.std.specs.BTreeMap as tree;
@@ -8,9 +8,9 @@ ghost use Rattle.disk_core.specs.MemPages.{bytes_or_none, mixed_page};
 ghost use Rattle.disk_core.specs.Pages.{HasPage, LacksPage, zero_page, IsPageRead, IsNextPage};
 
 use crate::mem_log::count;
-use crate::note::Note;
 use crate::page_bytes::PageBytes;
 use crate::{Crash, Failed, PageDisk};
+use notes::Note;
 use std::alloc::{AllocError, Global};
 use std::collections::{BTreeMap, LinkedList};
 
@@ -210,7 +210,7 @@ impl PageDisk for MemPages {
 impl MemPages {
     ghost use Rattle.std.specs.Prelude.{◌≡◌, ℕ};
     ghost use Rattle.disk_core.specs.MemPages.{page_outcome_of};
-    ghost use Rattle.disk_core.specs.MemPagesViews.{pages_now, pages_synced, pages_crashed};
+    ghost use Rattle.disk_core.specs.MemPagesViews.{pages_now, pages_synced, pages_crashed, PagesFell};
 
     /// A volume without pages.
     pub fn new(alloc: Global) -> MemPages
@@ -245,6 +245,7 @@ impl MemPages {
     /// What a crash makes of it. It fails only for want of memory.
     pub fn crash(&mut self, how: Crash) -> Result<(), Failed>
         ensures now { OnOk result ((q : ℕ) → pages_now self.new q ≡ page_outcome_of how (pages_synced self.old q) (pages_now self.old q)) }
+        ensures fell { OnOk result (PagesFell how self.old self.new) }
         ensures crashed { OnOk result (pages_crashed self.old self.new) }
         ensures cause { CountsFault result self.old.faults self.new.faults }
     {

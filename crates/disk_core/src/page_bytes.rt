@@ -1,4 +1,4 @@
-// The bytes of a page, on the heap.
+//! The bytes of a page, on the heap.
 ghost use Rattle.std.specs.Prelude.{◌≡◌, IfOk, false};
 ghost use Rattle.disk_core.specs.MemLog.{mixed_bytes};
 

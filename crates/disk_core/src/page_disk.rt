@@ -1,3 +1,5 @@
+//! A page volume: a map from page numbers to pages of 8192 bytes, as the segment files of an SLRU
+//! (`src/backend/access/transam/slru.c`).
 ghost use Rattle.std.specs.Prelude.{◌≡◌, ◌≤◌, ℕ, Bool, List, Option, IsTrue, IfOk, IfSome, OnOk};
 ghost use Rattle.disk_core.specs.Faults.{CountsFault};
 ghost use Rattle.disk_core.specs.Images.{NoMore, Follows, Only, Elapses};

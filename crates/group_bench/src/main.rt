@@ -1,4 +1,4 @@
-//! Members of a group list that take turns, in one, two and four threads.
+//! Members of a group list that take turns, in one, two and four threads (docs/CONCURRENCY.md).
 //!
 //! Without an argument it prints what the turns came to, which is the same in every run. With a
 //! number it makes that many turns a member, and prints how many a second there were.

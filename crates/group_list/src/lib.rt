@@ -2,7 +2,8 @@
 //!
 //! It serves the group update of commit status in PostgreSQL: of the backends that want
 //! to write to one page of the commit log at a time, the first takes the lock and writes
-//! for all (`TransactionGroupUpdateXidStatus` in `src/backend/access/transam/clog.c`).
+//! for all (`TransactionGroupUpdateXidStatus` in `src/backend/access/transam/clog.c`). docs/CONCURRENCY.md,
+//! "The group list", explains it.
 #![tactic(auto)]
 
 mod batch;

@@ -8,7 +8,7 @@ use native.Mathlib.Decide.{ℕ_discrete}
 use lib.ListN.{get_elem?}
 use lib.Seq.{ext_get_or}
 use Rattle.atomic_table.specs.Table.{Final, Seen as Viewed}
-use Rattle.hall.specs.Lists.{at}
+use Rattle.notes.specs.Lists.{at}
 use Rattle.hall.specs.declared.writer.Writer.{Writer}
 use Rattle.hall.specs.declared.view.Stage.TheVariants.{Free}
 use Rattle.hall.specs.declared.view.View.{View}

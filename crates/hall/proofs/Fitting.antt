@@ -3,12 +3,14 @@ use Rattle.std.proofs.Common.{◌≡◌, ℕ, ◌+◌, ◌<◌, ◌≤◌, ◌�
 use mathlib.Core.Option.{none}
 use Rattle.atomic_table.specs.Table.{Me, Step, step, rest, Allows}
 use Rattle.hall.specs.Layout.{line_of}
-use Rattle.hall.specs.Lists.{at, Knows, Whole}
+use Rattle.notes.specs.Lists.{at, Knows}
+use Rattle.hall.specs.Lists.{Whole}
 use Rattle.hall.specs.declared.writer.Writer.{Writer}
+use Rattle.hall.specs.declared.writer.Writer.TheVariants.{Session}
 use Rattle.hall.specs.declared.view.Stage.TheVariants.{Free, Inside}
 use Rattle.hall.specs.declared.view.View.{View}
 use Rattle.hall.specs.declared.view.Held.{Held}
-use Rattle.hall.specs.declared.note.Note.{Note}
+use Rattle.notes.specs.declared.note.Note.{Note}
 use Rattle.hall.specs.Rule.{Kept}
 use Rattle.hall.specs.Told.{entered, missed, left, published, learned, Got, Learnt, went}
 use Rattle.hall.specs.Fits.{Fits, carried_at}
@@ -113,7 +115,7 @@ module _ {S V E : Type 0} (cells words cell : ℕ) (names : List Bool) (m : Me (
   module _ (start : S) (passes places : ℕ) (session : E → ℕ) (writer : S → ℕ → Writer) (stands : S → ℕ → V → List E → Type 0) (number : S → ℕ → List E → ℕ) (kept : S → List (List E) → Type 0) where
     pub leave_allowed : (slots me i : ℕ) (m' : Me (Held V E) (View S E)) (h : Held V E) (y : V) (e : Note E) → slots ≡ cells → length m.0.seen ≡ places → slots ≤ places → i ≡ line_of cell → m.0.stage ≡ Inside cell → m' ≡ (m.0, (cell, h) ∷ rest m.1)
         → h.note ≡ Some e → h.value ≡ Some y → session e.value ≡ m.0.name → stands start cell y (at m.0.seen cell ++ e.value ∷ [])
-        → ((lists : List (List E)) → kept start lists → Knows session (writer start) (session e.value) m.0.seen lists → cell < length lists → Whole (writer start) (writer start cell) m.0.seen lists → kept start (set lists cell (at lists cell ++ e.value ∷ [])))
+        → ((lists : List (List E)) → kept start lists → Knows session (session e.value) m.0.seen lists → Whole (writer start) (Session (session e.value)) m.0.seen lists → cell < length lists → Whole (writer start) (writer start cell) m.0.seen lists → kept start (set lists cell (at lists cell ++ e.value ∷ [])))
         → Allows (Kept start passes places session writer stands number kept) slots me m' i (λ _. 0) (λ _. went (step slots i 0 0 none) m' 0)
     leave_allowed slots me i m' h y e same wide under at_i stays is noted filled by stood lawful =
         let lt = (f.inside cell stays).1 in

@@ -6,7 +6,8 @@ use native.Mathlib.Decide.{ℕ_discrete}
 use lib.ListN.{get_elem?}
 use Rattle.atomic_table.specs.Table.{State, Joins}
 use Rattle.atomic_table.proofs.Lists.{set_here, set_else}
-use Rattle.hall.specs.Lists.{at, Begins, Grows, OwnSeen}
+use Rattle.notes.specs.Lists.{at, Begins, Grows}
+use Rattle.hall.specs.Lists.{OwnSeen}
 use Rattle.hall.specs.declared.writer.Writer.{Writer}
 use Rattle.hall.specs.declared.view.Stage.{Stage}
 use Rattle.hall.specs.declared.view.Stage.TheVariants.{Free, Inside}
@@ -14,7 +15,8 @@ use Rattle.hall.specs.declared.view.View.{View}
 use Rattle.hall.specs.declared.view.Held.{Held}
 use Rattle.hall.specs.Rule.{Holds, IsIn, Unique, Stands, Out, Told, Kept}
 use Rattle.hall.specs.Told.{joined, spent}
-use Rattle.hall.proofs.Pieces.{begins_same, begins_length, begins_whole, begins_shorter, own_between, each_set, unique_set, inside}
+use Rattle.notes.proofs.Growing.{begins_same, begins_length, begins_whole, begins_shorter, own_between}
+use Rattle.hall.proofs.Pieces.{each_set, unique_set, inside}
 use Rattle.hall.proofs.Moves.{free_not_in}
 use Rattle.hall.proofs.Merging.{set_swap, longer_cases, longer_at, either_at, not_nil, one_of, or_true}
 

@@ -4,20 +4,22 @@ use mathlib.Core.Option.{some, none, some-injective}
 use mathlib.Core.Logic.{dite}
 use native.Mathlib.Decide.{ℕ_discrete}
 use lib.ListN.{get_elem?}
-use Rattle.atomic_table.specs.Table.{State, Me, Step, Act, step, keeps, takes, gives, stepped, Allows}
+use Rattle.atomic_table.specs.Table.{State, Me, step, keeps, gives, Allows}
 use Rattle.atomic_table.proofs.Lists.{set_here, set_else}
 use Rattle.hall.specs.Layout.{line_of}
-use Rattle.hall.specs.Lists.{at, Begins, own, Grows, OwnSeen, Knows, Whole}
+use Rattle.notes.specs.Lists.{at, Begins, own, Grows, Knows}
+use Rattle.hall.specs.Lists.{OwnSeen, Whole}
 use Rattle.hall.specs.declared.writer.Writer.{Writer}
 use Rattle.hall.specs.declared.writer.Writer.TheVariants.{Session, Lock}
 use Rattle.hall.specs.declared.view.Stage.{Stage}
 use Rattle.hall.specs.declared.view.Stage.TheVariants.{Free, Inside}
 use Rattle.hall.specs.declared.view.View.{View}
 use Rattle.hall.specs.declared.view.Held.{Held}
-use Rattle.hall.specs.declared.note.Note.{Note}
+use Rattle.notes.specs.declared.note.Note.{Note}
 use Rattle.hall.specs.Rule.{Holds, IsIn, Stands, AtHome, Told, Kept}
 use Rattle.hall.specs.Told.{left, went}
-use Rattle.hall.proofs.Pieces.{begins_same, begins_more, own_other, at_here, at_else, each_set, unique_set, no_other, inside}
+use Rattle.notes.proofs.Growing.{begins_same, begins_more, own_other, at_here, at_else}
+use Rattle.hall.proofs.Pieces.{each_set, unique_set, no_other, inside}
 use Rattle.hall.proofs.Moves.{out_stays, stage_same, free_not_in, lock_same, session_not_lock}
 
 module _ {S V E : Type 0} (start : S) (passes places : ℕ) (session : E → ℕ) (writer : S → ℕ → Writer) (stands : S → ℕ → V → List E → Type 0) (number : S → ℕ → List E → ℕ) (kept : S → List (List E) → Type 0) where
@@ -33,7 +35,7 @@ module _ {S V E : Type 0} (start : S) (passes places : ℕ) (session : E → ℕ
   -- a leave
   module _ (s : St) (r : Rule s) (me c : ℕ) (v : View S E) (h : Held V E) (y : V) (e : E) (is : get_elem? s.views me ≡ some v) (stays : v.stage ≡ Inside c) (seen_wide : c < length v.seen)
       (mine : Holds v v.name) (by : session e ≡ v.name) (filled : h.value ≡ Some y) (stood : stands start c y (at v.seen c ++ e ∷ []))
-      (lawful : (lists : List (List E)) → kept start lists → Knows session (writer start) (session e) v.seen lists → c < length lists → Whole (writer start) (writer start c) v.seen lists → kept start (set lists c (at lists c ++ e ∷ []))) where
+      (lawful : (lists : List (List E)) → kept start lists → Knows session (session e) v.seen lists → Whole (writer start) (Session (session e)) v.seen lists → c < length lists → Whole (writer start) (writer start c) v.seen lists → kept start (set lists c (at lists c ++ e ∷ []))) where
     abbrev xs : List E
     xs = at r.lists c ++ e ∷ []
 
@@ -65,17 +67,20 @@ module _ {S V E : Type 0} (start : S) (passes places : ℕ) (session : E → ℕ
     not_session : (m k : ℕ) → writer start k ≡ Session m → k ≢ c
     not_session m k e q = session_not_lock m c (sym (let P : ℕ → Type 0 = λ z. writer start z ≡ Session m in subst P q e) ∙ r.locks c cell_ok)
 
+    own_here : OwnSeen session (writer start) (session e) v.seen r.lists
+    own_here = subst (λ (z : ℕ). OwnSeen session (writer start) z v.seen r.lists) (sym by) ((r.knows me v is).1 v.name mine)
+
     seen_u : at u.seen c ≡ at ls c
-    seen_u = at_here v.seen c (at v.seen c ++ e ∷ []) seen_wide ∙ (ap (λ (z : List E). z ++ e ∷ []) whole_here ∙ sym (at_here r.lists c xs (let m = r.many in let k = cell_ok in omega arith)))
+    seen_u = at_here v.seen c e seen_wide ∙ (ap (λ (z : List E). z ++ e ∷ []) whole_here ∙ sym (at_here r.lists c e (let m = r.many in let k = cell_ok in omega arith)))
 
     list_here : at ls c ≡ xs
-    list_here = at_here r.lists c xs (let m = r.many in let k = cell_ok in omega arith)
+    list_here = at_here r.lists c e (let m = r.many in let k = cell_ok in omega arith)
 
     list_else : (k : ℕ) → k ≢ c → at ls k ≡ at r.lists k
-    list_else k ne = at_else r.lists c k xs ne
+    list_else k ne = at_else r.lists c k e ne
 
     seen_else : (k : ℕ) → k ≢ c → at u.seen k ≡ at v.seen k
-    seen_else k ne = at_else v.seen c k (at v.seen c ++ e ∷ []) ne
+    seen_else k ne = at_else v.seen c k e ne
 
     free_now : get_or wl (line_of c) 0 ≡ 0
     free_now = let wide = r.wide in let k = cell_ok in get_or-set_same s.words (line_of c) 0 0 (omega arith)
@@ -124,7 +129,7 @@ module _ {S V E : Type 0} (start : S) (passes places : ℕ) (session : E → ℕ
       many = length-set r.lists c xs ∙ r.many;
       deep = length-set s.homes c (some h) ∙ r.deep;
       wide = length-set s.words (line_of c) 0 ∙ r.wide;
-      law = lawful r.lists r.law record { grows = (r.knows me v is).0; own_seen = subst (λ (z : ℕ). OwnSeen session (writer start) z v.seen r.lists) (sym by) ((r.knows me v is).1 v.name mine) } (let m = r.many in let k = cell_ok in omega arith) whole_all;
+      law = lawful r.lists r.law record { grows = (r.knows me v is).0; own = own_here.entries } own_here.words (let m = r.many in let k = cell_ok in omega arith) whole_all;
       starts = λ j d a at e. each_set (λ _ z. (b : S) → z.start ≡ b ∷ [] → b ≡ start) s.views me u (λ b q. r.starts me v b is q) (λ i z _ o b q. r.starts i z b o q) j d at a e;
       home = λ k lt. dite (ℕ_discrete k c)
           (λ (q : k ≡ c). let P : ℕ → Type 0 = λ z. (get_or wl (line_of z) 0 ≡ 0) × AtHome start stands (set s.homes c (some h)) z (at ls z) in inl (subst P (sym q)
@@ -156,7 +161,7 @@ module _ {S V E : Type 0} (start : S) (passes places : ℕ) (session : E → ℕ
 
   pub leaves : (slots me i c : ℕ) (m : M) (h : Held V E) (y : V) (e : Note E) → i ≡ line_of c → m.0.stage ≡ Inside c → m.1 ≡ (c, h) ∷ [] → h.note ≡ Some e → c < length m.0.seen
       → Holds m.0 m.0.name → session e.value ≡ m.0.name → h.value ≡ Some y → stands start c y (at m.0.seen c ++ e.value ∷ [])
-      → ((lists : List (List E)) → kept start lists → Knows session (writer start) (session e.value) m.0.seen lists → c < length lists → Whole (writer start) (writer start c) m.0.seen lists → kept start (set lists c (at lists c ++ e.value ∷ [])))
+      → ((lists : List (List E)) → kept start lists → Knows session (session e.value) m.0.seen lists → Whole (writer start) (Session (session e.value)) m.0.seen lists → c < length lists → Whole (writer start) (writer start c) m.0.seen lists → kept start (set lists c (at lists c ++ e.value ∷ [])))
       → Allows Rule slots me m i (λ _. 0) (λ _. went (step slots i 0 0 none) m 0)
   unfolding note_of noted_or
   leaves slots me i c m h y e at_i stays one noted seen_wide mine by filled stood lawful s r deep is small =

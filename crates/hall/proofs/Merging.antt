@@ -1,19 +1,11 @@
 -- Lists that are merged, and what stands at a place of a list.
-use Rattle.std.proofs.Common.{◌≡◌, ℕ, zero, suc, ◌<◌, ◌≤◌, ◌≢◌, ◌⊎◌, ◌||◌, Bool, true, false, List, [], ◌∷◌, ◌++◌, length, get_or, set, replicate, if◌then◌else◌, refl, sym, ◌∙◌, ap, subst, inl, inr, ⊎_elim, le-ltb, lt-ltb, arith}
-use mathlib.Core.Option.{some, some-injective, some-ne-none}
+use Rattle.std.proofs.Common.{◌≡◌, ℕ, zero, suc, ◌<◌, ◌≤◌, ◌≢◌, ◌⊎◌, ◌||◌, Bool, true, false, List, [], ◌∷◌, length, get_or, set, if◌then◌else◌, refl, sym, ◌∙◌, ap, subst, inl, inr, ⊎_elim, le-ltb, lt-ltb, arith}
 use mathlib.Core.Logic.{dite}
 use native.Mathlib.Decide.{dec_le}
-use lib.ListN.{get_elem?, length-replicate, get_or-replicate}
-use Rattle.hall.specs.Lists.{at}
+use Rattle.notes.specs.Lists.{at}
 use Rattle.hall.specs.Told.{longer, longer_of, either_of}
 
 module _ {A : Type 0} where
-  pub at_end : (l : List A) (a b : A) (j : ℕ) → get_elem? (l ++ a ∷ []) j ≡ some b → (get_elem? l j ≡ some b) ⊎ ((j ≡ length l) × (a ≡ b))
-  at_end [] a b zero e = inr (refl, some-injective a b e)
-  at_end [] a b (suc j) e = absurd (some-ne-none b (sym e))
-  at_end (x ∷ xs) a b zero e = inl e
-  at_end (x ∷ xs) a b (suc j) e = ⊎_elim (λ h. inl h) (λ h. inr (ap suc h.0, h.1)) (at_end xs a b j e)
-
   pub set_swap : (l : List A) (i j : ℕ) (a b : A) → i ≢ j → set (set l i a) j b ≡ set (set l j b) i a
   set_swap [] i j a b ne = refl
   set_swap (x ∷ xs) zero zero a b ne = absurd (ne refl)
@@ -36,24 +28,11 @@ module _ {A : Type 0} where
   longer_at (x ∷ xs) (y ∷ ys) zero = refl
   longer_at (x ∷ xs) (y ∷ ys) (suc c) = longer_at xs ys c
 
-pub past : {A : Type 0} (xs : List A) (k : ℕ) (d : A) → length xs ≤ k → get_or xs k d ≡ d
-past [] k d h = refl
-past (x ∷ xs) zero d h = absurd (omega arith)
-past (x ∷ xs) (suc k) d h = past xs k d (omega arith)
-
-pub blank : (n k : ℕ) → get_or (replicate n false) k false ≡ false
-blank n k = dite (dec_le n k) (λ h. past (replicate n false) k false (let e = length-replicate n false in omega arith)) (λ h. get_or-replicate n k false false (omega arith))
-
 pub either_at : (xs ys : List Bool) (m : ℕ) → get_or (either_of xs ys) m false ≡ (get_or xs m false || get_or ys m false)
 either_at [] ys m = refl
 either_at (x ∷ xs) [] m = elim (get_or (x ∷ xs) m false) as (λ b. b ≡ (b || false)) [ true ↦ refl | false ↦ refl ]
 either_at (x ∷ xs) (y ∷ ys) zero = refl
 either_at (x ∷ xs) (y ∷ ys) (suc m) = either_at xs ys m
-
-pub true_inside : (bs : List Bool) (k : ℕ) → get_or bs k false ≡ true → k < length bs
-true_inside [] k e = absurd (cc)
-true_inside (b ∷ bs) zero e = omega arith
-true_inside (b ∷ bs) (suc k) e = let t = true_inside bs k e in omega arith
 
 pub not_nil : {A : Type 0} (x : A) → [] ≡ x ∷ [] → ⊥
 not_nil {A} x e = let P : List A → Type 0 = λ z. elim z [ [] ↦ Unit {0} | ◌∷◌ _ _ ↦ ⊥ ] in subst P e tt

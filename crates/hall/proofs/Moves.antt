@@ -10,7 +10,8 @@ use prog.Atomic.{either}
 use Rattle.atomic_table.specs.Table.{State, Me, step, keeps, takes, stepped, Allows}
 use Rattle.atomic_table.proofs.Lists.{set_here, set_else, exchanged}
 use Rattle.hall.specs.Layout.{line_of}
-use Rattle.hall.specs.Lists.{at, Grows, OwnSeen, Whole}
+use Rattle.notes.specs.Lists.{at, Grows}
+use Rattle.hall.specs.Lists.{OwnSeen, Whole}
 use Rattle.hall.specs.declared.writer.Writer.{Writer}
 use Rattle.hall.specs.declared.writer.Writer.TheVariants.{Session, Lock}
 use Rattle.hall.specs.declared.view.Stage.{Stage}
@@ -20,7 +21,8 @@ use Rattle.hall.specs.declared.view.Merged.{Merged}
 use Rattle.hall.specs.declared.view.Held.{Held}
 use Rattle.hall.specs.Rule.{Holds, IsIn, Stands, AtHome, Out, Writes, Told, Kept}
 use Rattle.hall.specs.Told.{Moment, missed, entered, learned, settled, looked, reads, checks, settles, Got}
-use Rattle.hall.proofs.Pieces.{begins_same, each_set, unique_set, no_other, inside}
+use Rattle.notes.proofs.Growing.{begins_same}
+use Rattle.hall.proofs.Pieces.{each_set, unique_set, no_other, inside}
 
 -- one stage has one lock
 pub stage_same : (c a : ℕ) → Inside c ≡ Inside a → c ≡ a

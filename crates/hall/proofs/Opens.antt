@@ -9,15 +9,16 @@ use lib.ListN.{get_elem?, length-replicate, get_or-replicate}
 use Rattle.atomic_table.specs.Table.{State, opening}
 use Rattle.atomic_table.proofs.Lists.{at_map}
 use Rattle.hall.specs.Layout.{Starts}
-use Rattle.hall.specs.Lists.{at, Grows, OwnSeen}
+use Rattle.notes.specs.Lists.{at, Grows}
+use Rattle.hall.specs.Lists.{OwnSeen}
 use Rattle.hall.specs.declared.writer.Writer.{Writer}
 use Rattle.hall.specs.declared.writer.Writer.TheVariants.{Lock}
 use Rattle.hall.specs.declared.view.View.{View}
 use Rattle.hall.specs.declared.view.Held.{Held}
 use Rattle.hall.specs.declared.view.Opening.{Opening}
 use Rattle.hall.specs.Rule.{Holds, IsIn, Stands, Told, Kept, first_view}
-use Rattle.hall.proofs.Pieces.{begins_same}
-use Rattle.hall.proofs.Merging.{past}
+use Rattle.notes.proofs.Growing.{begins_same}
+use Rattle.notes.proofs.Names.{past}
 use Rattle.hall.proofs.Moves.{free_not_in}
 
 module _ {S V E : Type 0} (start : S) (passes places : ℕ) (session : E → ℕ) (writer : S → ℕ → Writer) (stands : S → ℕ → V → List E → Type 0) (number : S → ℕ → List E → ℕ) (kept : S → List (List E) → Type 0) where

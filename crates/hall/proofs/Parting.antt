@@ -1,8 +1,6 @@
 -- The fields of passes fit their views after a split and a join.
-use Rattle.std.proofs.Common.{◌≡◌, ℕ, zero, suc, ◌+◌, ◌*◌, ◌<◌, ◌≢◌, ◌⊎◌, Bool, true, false, List, [], ◌∷◌, map, length, get_or, set, replicate, refl, sym, ◌∙◌, ap, subst, ⊎_elim, get_or-set_same, get_or-set_other, length-set, arith}
+use Rattle.std.proofs.Common.{◌≡◌, ℕ, zero, suc, Bool, true, false, List, [], ◌∷◌, length, get_or, set, replicate, refl, sym, ◌∙◌, ap, subst, get_or-set_same, get_or-set_other, arith}
 use mathlib.Core.Option.{none}
-use mathlib.Core.Logic.{dite}
-use native.Mathlib.Decide.{ℕ_discrete}
 use lib.ListN.{length-replicate}
 use Rattle.atomic_table.specs.Table.{Me, Splits, step}
 use Rattle.hall.specs.declared.writer.Writer.{Writer}
@@ -10,12 +8,14 @@ use Rattle.hall.specs.declared.view.Stage.TheVariants.{Free}
 use Rattle.hall.specs.declared.view.View.{View}
 use Rattle.hall.specs.declared.view.Held.{Held}
 use Rattle.hall.specs.Rule.{Holds, Extends, Kept}
-use Rattle.hall.specs.Lists.{at, OwnSeen}
+use Rattle.notes.specs.Lists.{at}
+use Rattle.hall.specs.Lists.{OwnSeen}
 use Rattle.hall.specs.Told.{Moment, asking, giving, given, joined, settled, settles, longer}
 use Rattle.hall.specs.Calls.{Joined}
 use Rattle.hall.specs.Fits.{Fits, carried_at}
-use Rattle.hall.proofs.Pieces.{begins_on}
-use Rattle.hall.proofs.Merging.{true_inside, either_at, or_true}
+use Rattle.notes.proofs.Growing.{begins_then}
+use Rattle.notes.proofs.Names.{still_mirrors, still_true, true_inside}
+use Rattle.hall.proofs.Merging.{either_at, or_true}
 use Rattle.hall.proofs.Splits.{splits_off}
 use Rattle.hall.proofs.Moves.{free_not_in}
 use Rattle.hall.proofs.Fitting.{none_carried}
@@ -25,21 +25,6 @@ longer_length [] ys n a b = b
 longer_length (x ∷ xs) [] n a b = a
 longer_length (x ∷ xs) (y ∷ ys) zero a b = absurd (omega arith)
 longer_length (x ∷ xs) (y ∷ ys) (suc n) a b = let e = longer_length xs ys n (omega arith) (omega arith) in omega arith
-
-set_false : (l : List Bool) (n : ℕ) → get_or (set l n false) n false ≡ false
-set_false [] n = refl
-set_false (x ∷ xs) zero = refl
-set_false (x ∷ xs) (suc n) = set_false xs n
-
-still_mirrors : (a b : List Bool) (n : ℕ) → ((k : ℕ) → get_or a k false ≡ get_or b k false) → (k : ℕ) → get_or (set a n false) k false ≡ get_or (set b n false) k false
-still_mirrors a b n same k = dite (ℕ_discrete k n)
-    (λ (e : k ≡ n). let P : ℕ → Type 0 = λ z. get_or (set a n false) z false ≡ get_or (set b n false) z false in subst P (sym e) (set_false a n ∙ sym (set_false b n)))
-    (λ ne. get_or-set_other a n k false false ne ∙ (same k ∙ sym (get_or-set_other b n k false false ne)))
-
-still_true : (a : List Bool) (n k : ℕ) → get_or (set a n false) k false ≡ true → (k ≢ n) × (get_or a k false ≡ true)
-still_true a n k h = dite (ℕ_discrete k n)
-    (λ (e : k ≡ n). absurd (let P : ℕ → Type 0 = λ z. get_or (set a n false) z false ≡ true in let q = subst P e h in let b : false ≡ true = sym (set_false a n) ∙ q in cc))
-    (λ ne. (ne, sym (get_or-set_other a n k false false ne) ∙ h))
 
 module _ {S V E : Type 0} (cells words cell : ℕ) (names : List Bool) (m : Me (Held V E) (View S E)) (f : Fits cells words cell names m) where
   pub free_empty : m.0.stage ≡ Free → m.1 ≡ []
@@ -107,7 +92,7 @@ module _ {S E : Type 0} (session : E → ℕ) (writer : S → ℕ → Writer) (k
   learns_more v w lists moment same free names more = record {
     law = moment.law;
     long = moment.long ∙ sym same;
-    grows = record { begins = λ q. begins_on (at v.seen q) (at w.seen q) (at lists q) (more.0.begins q) (moment.grows.begins q) };
+    grows = record { begins = λ q. begins_then (at v.seen q) (at w.seen q) (at lists q) (more.0.begins q) (moment.grows.begins q) };
     own_seen = λ m h. further m v.seen w.seen lists (more.1 m h) (moment.own_seen m (names m h));
     locked = λ c e. absurd (free_not_in c (sym free ∙ e));
   }

@@ -1,6 +1,6 @@
 -- Publishing a word keeps the rule.
 use Rattle.std.proofs.Common.{◌≡◌, ℕ, ◌+◌, ◌<◌, ◌≢◌, List, [], ◌∷◌, ◌++◌, length, get_or, set, refl, sym, ◌∙◌, ap, subst, inl, inr, ⊎_elim, eqb, get_or-set_same, get_or-set_other, length-set, arith, Option, Some, None}
-use mathlib.Core.Option.{some, none, some-injective, some-ne-none}
+use mathlib.Core.Option.{some, none, some-injective}
 use mathlib.Core.Option as maybe
 use mathlib.Core.Logic.{dite}
 use native.Mathlib.Decide.{ℕ_discrete}
@@ -9,17 +9,19 @@ use prog.Atomic.{either}
 use Rattle.atomic_table.specs.Table.{State, Me, step, keeps, Allows}
 use Rattle.atomic_table.proofs.Lists.{set_here, set_else, exchanged}
 use Rattle.hall.specs.Layout.{line_of}
-use Rattle.hall.specs.Lists.{at, Begins, own, Grows, OwnSeen, Knows, Whole}
+use Rattle.notes.specs.Lists.{at, Begins, own, Grows, Knows}
+use Rattle.hall.specs.Lists.{OwnSeen, Whole}
 use Rattle.hall.specs.declared.writer.Writer.{Writer}
 use Rattle.hall.specs.declared.writer.Writer.TheVariants.{Session, Lock}
 use Rattle.hall.specs.declared.view.Stage.{Stage}
 use Rattle.hall.specs.declared.view.Stage.TheVariants.{Free, Inside}
 use Rattle.hall.specs.declared.view.View.{View}
 use Rattle.hall.specs.declared.view.Held.{Held}
-use Rattle.hall.specs.declared.note.Note.{Note}
+use Rattle.notes.specs.declared.note.Note.{Note}
 use Rattle.hall.specs.Rule.{Holds, IsIn, Stands, Writes, Told, Kept}
 use Rattle.hall.specs.Told.{published, publishes}
-use Rattle.hall.proofs.Pieces.{begins_same, begins_more, own_other, at_here, at_else, each_set, unique_set, no_other, inside}
+use Rattle.notes.proofs.Growing.{begins_same, begins_more, own_other, at_here, at_else}
+use Rattle.hall.proofs.Pieces.{each_set, unique_set, no_other, inside}
 use Rattle.hall.proofs.Moves.{out_stays, writes_whole, word_shows}
 
 module _ {S V E : Type 0} (start : S) (passes places : ℕ) (session : E → ℕ) (writer : S → ℕ → Writer) (stands : S → ℕ → V → List E → Type 0) (number : S → ℕ → List E → ℕ) (kept : S → List (List E) → Type 0) where
@@ -35,7 +37,7 @@ module _ {S V E : Type 0} (start : S) (passes places : ℕ) (session : E → ℕ
   -- the word w becomes the number x, and the history at its place has one entry more
   module _ (s : St) (r : Rule s) (me w x : ℕ) (v : View S E) (e : E) (is : get_elem? s.views me ≡ some v) (word : w < r.p) (seen_wide : r.n + w < length v.seen) (mine : Holds v v.name) (by : session e ≡ v.name)
       (writes : Writes (writer start (r.n + w)) v) (shows : number start (r.n + w) (at v.seen (r.n + w) ++ e ∷ []) ≡ x)
-      (lawful : (lists : List (List E)) → kept start lists → Knows session (writer start) (session e) v.seen lists → r.n + w < length lists → Whole (writer start) (writer start (r.n + w)) v.seen lists → kept start (set lists (r.n + w) (at lists (r.n + w) ++ e ∷ []))) where
+      (lawful : (lists : List (List E)) → kept start lists → Knows session (session e) v.seen lists → Whole (writer start) (Session (session e)) v.seen lists → r.n + w < length lists → Whole (writer start) (writer start (r.n + w)) v.seen lists → kept start (set lists (r.n + w) (at lists (r.n + w) ++ e ∷ []))) where
     abbrev place : ℕ
     place = r.n + w
 
@@ -58,16 +60,19 @@ module _ {S V E : Type 0} (start : S) (passes places : ℕ) (session : E → ℕ
     all_whole = writes_whole start passes places session writer stands number kept s r me v is (writer start place) writes
 
     list_here : at ls place ≡ xs
-    list_here = at_here r.lists place xs (let m = r.many in omega arith)
+    list_here = at_here r.lists place e (let m = r.many in omega arith)
 
     list_else : (k : ℕ) → k ≢ place → at ls k ≡ at r.lists k
-    list_else k ne = at_else r.lists place k xs ne
+    list_else k ne = at_else r.lists place k e ne
 
     seen_else : (k : ℕ) → k ≢ place → at u.seen k ≡ at v.seen k
-    seen_else k ne = at_else v.seen place k (at v.seen place ++ e ∷ []) ne
+    seen_else k ne = at_else v.seen place k e ne
+
+    own_here : OwnSeen session (writer start) (session e) v.seen r.lists
+    own_here = subst (λ (z : ℕ). OwnSeen session (writer start) z v.seen r.lists) (sym by) ((r.knows me v is).1 v.name mine)
 
     seen_u : at u.seen place ≡ at ls place
-    seen_u = at_here v.seen place (at v.seen place ++ e ∷ []) seen_wide ∙ (ap (λ (z : List E). z ++ e ∷ []) (all_whole.whole place refl) ∙ sym list_here)
+    seen_u = at_here v.seen place e seen_wide ∙ (ap (λ (z : List E). z ++ e ∷ []) (all_whole.whole place refl) ∙ sym list_here)
 
     -- what the pass had seen whole it sees whole
     my_whole : (k : ℕ) → at v.seen k ≡ at r.lists k → at u.seen k ≡ at ls k
@@ -126,7 +131,7 @@ module _ {S V E : Type 0} (start : S) (passes places : ℕ) (session : E → ℕ
       many = length-set r.lists place xs ∙ r.many;
       deep = r.deep;
       wide = length-set s.words word_at x ∙ r.wide;
-      law = lawful r.lists r.law record { grows = (r.knows me v is).0; own_seen = subst (λ (z : ℕ). OwnSeen session (writer start) z v.seen r.lists) (sym by) ((r.knows me v is).1 v.name mine) } (let m = r.many in omega arith) all_whole;
+      law = lawful r.lists r.law record { grows = (r.knows me v is).0; own = own_here.entries } own_here.words (let m = r.many in omega arith) all_whole;
       total = r.total;
       locks = r.locks;
       starts = λ j d a at q. each_set (λ _ z. (c : S) → z.start ≡ c ∷ [] → c ≡ start) s.views me u (λ c z. r.starts me v c is z) (λ i z _ o c y. r.starts i z c o y) j d at a q;
@@ -163,7 +168,7 @@ module _ {S V E : Type 0} (start : S) (passes places : ℕ) (session : E → ℕ
   -- the exchange finds the number that the history shows
   pub posts : (slots me i w q old new : ℕ) (m : M) (h : Held V E) (e : Note E) → q ≡ slots + w → i ≡ line_of q → length m.0.seen ≡ places → q < places → h.note ≡ Some e → Holds m.0 m.0.name → session e.value ≡ m.0.name
       → Writes (writer start q) m.0 → number start q (at m.0.seen q) ≡ old → number start q (at m.0.seen q ++ e.value ∷ []) ≡ new
-      → ((lists : List (List E)) → kept start lists → Knows session (writer start) (session e.value) m.0.seen lists → q < length lists → Whole (writer start) (writer start q) m.0.seen lists → kept start (set lists q (at lists q ++ e.value ∷ [])))
+      → ((lists : List (List E)) → kept start lists → Knows session (session e.value) m.0.seen lists → Whole (writer start) (Session (session e.value)) m.0.seen lists → q < length lists → Whole (writer start) (writer start q) m.0.seen lists → kept start (set lists q (at lists q ++ e.value ∷ [])))
       → Allows Rule slots me m i (λ x. either (eqb x old) new x) (publishes (step slots i old new (some h)) m)
   unfolding noted_or said_or
   posts slots me i w q old new m h e q_is at_i wide inside_p noted mine by writes was shows lawful s r deep is small =
@@ -173,7 +178,7 @@ module _ {S V E : Type 0} (start : S) (passes places : ℕ) (session : E → ℕ
       let found : get_or s.words i 0 ≡ old = sym (word_shows start passes places session writer stands number kept s r slots i w deep (omega arith) (omega arith)) ∙ (ap (λ (z : ℕ). number start z (at r.lists z)) place ∙ (ap (number start q) (sym whole) ∙ was)) in
       let u : View S E = published q e.value m.0 in
       let P : ℕ → Type 0 = λ z. z < length m.0.seen → Writes (writer start z) m.0 → number start z (at m.0.seen z ++ e.value ∷ []) ≡ new
-      → ((lists : List (List E)) → kept start lists → Knows session (writer start) (session e.value) m.0.seen lists → z < length lists → Whole (writer start) (writer start z) m.0.seen lists → kept start (set lists z (at lists z ++ e.value ∷ [])))
+      → ((lists : List (List E)) → kept start lists → Knows session (session e.value) m.0.seen lists → Whole (writer start) (Session (session e.value)) m.0.seen lists → z < length lists → Whole (writer start) (writer start z) m.0.seen lists → kept start (set lists z (at lists z ++ e.value ∷ [])))
       → Rule record { words = set s.words (line_of (r.n + w)) new; homes = s.homes; views = set s.views me (published z e.value m.0) } in
       let one : P (r.n + w) = λ lt a b l. publishes_one s r me w new m.0 e.value is (omega arith) lt mine by a b l in
       let done : Rule record { words = set s.words (line_of (r.n + w)) new; homes = s.homes; views = set s.views me u } = subst P there one (omega arith) writes shows lawful in (
@@ -194,7 +199,7 @@ module _ {S V E : Type 0} (start : S) (passes places : ℕ) (session : E → ℕ
   -- the same behind a load that found what the history shows
   pub posts_here : (slots me i w q old new : ℕ) (m m' : M) (h : Held V E) (e : Note E) → m' ≡ m → q ≡ slots + w → i ≡ line_of q → length m.0.seen ≡ places → q < places → h.note ≡ Some e → Holds m.0 m.0.name → session e.value ≡ m.0.name
       → Writes (writer start q) m.0 → (Writes (writer start q) m.0 → number start q (at m.0.seen q) ≡ old) → number start q (at m.0.seen q ++ e.value ∷ []) ≡ new
-      → ((lists : List (List E)) → kept start lists → Knows session (writer start) (session e.value) m.0.seen lists → q < length lists → Whole (writer start) (writer start q) m.0.seen lists → kept start (set lists q (at lists q ++ e.value ∷ [])))
+      → ((lists : List (List E)) → kept start lists → Knows session (session e.value) m.0.seen lists → Whole (writer start) (Session (session e.value)) m.0.seen lists → q < length lists → Whole (writer start) (writer start q) m.0.seen lists → kept start (set lists q (at lists q ++ e.value ∷ [])))
       → Allows Rule slots me m' i (λ x. either (eqb x old) new x) (publishes (step slots i old new (some h)) m')
   posts_here slots me i w q old new m m' h e same q_is at_i wide inside_p noted mine by writes checked shows lawful =
       subst (λ (z : M). Allows Rule slots me z i (λ x. either (eqb x old) new x) (publishes (step slots i old new (some h)) z)) (sym same)

@@ -7,14 +7,15 @@ use lib.ListN.{get_elem?, length-replicate}
 use prog.Atomic.{either}
 use Rattle.atomic_table.specs.Table.{State, Me, step, keeps, Allows, Splits}
 use Rattle.atomic_table.proofs.Lists.{set_here, set_else, at_longer, at_last, exchanged}
-use Rattle.hall.specs.Lists.{at, Grows, OwnSeen}
+use Rattle.notes.specs.Lists.{at, Grows}
+use Rattle.hall.specs.Lists.{OwnSeen}
 use Rattle.hall.specs.declared.writer.Writer.{Writer}
 use Rattle.hall.specs.declared.view.View.{View}
 use Rattle.hall.specs.declared.view.Held.{Held}
 use Rattle.hall.specs.Rule.{Holds, IsIn, Unique, Stands, Told, Kept}
 use Rattle.hall.specs.Told.{asking, giving, given, asks}
 use Rattle.hall.proofs.Pieces.{each_set, unique_set, no_other, inside}
-use Rattle.hall.proofs.Merging.{at_end, blank, true_inside}
+use Rattle.notes.proofs.Names.{at_end, blank, true_inside}
 use Rattle.hall.proofs.Moves.{same_words, home_stays, loaded, free_not_in}
 
 module _ {S V E : Type 0} (start : S) (passes places : ℕ) (session : E → ℕ) (writer : S → ℕ → Writer) (stands : S → ℕ → V → List E → Type 0) (number : S → ℕ → List E → ℕ) (kept : S → List (List E) → Type 0) where

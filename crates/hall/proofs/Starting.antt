@@ -11,12 +11,12 @@ use Rattle.hall.specs.declared.view.Held.{Held}
 use Rattle.hall.specs.declared.view.Opening.{Opening}
 use Rattle.hall.specs.Rule.{Kept, first_view}
 use Rattle.hall.specs.Layout.{Starts, line_of}
-use Rattle.hall.specs.Lists.{at}
+use Rattle.notes.specs.Lists.{at}
 use Rattle.hall.specs.Calls.{StandFor, ShownBy}
 use Rattle.hall.specs.declared.writer.Writer.{Writer}
 use Rattle.hall.specs.declared.writer.Writer.TheVariants.{Lock}
 use Rattle.hall.specs.Fits.{Fits}
-use Rattle.hall.proofs.Merging.{past}
+use Rattle.notes.proofs.Names.{past}
 use Rattle.hall.proofs.Opens.{opens}
 use Rattle.hall.proofs.Moves.{free_not_in}
 

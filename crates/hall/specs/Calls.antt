@@ -4,7 +4,7 @@ use Rattle.hall.specs.declared.writer.Writer.{Writer}
 use Rattle.hall.specs.declared.view.View.{View}
 use Rattle.hall.specs.declared.pass.Token.{Token}
 use Rattle.hall.specs.declared.hall.Hall.{Hall}
-use Rattle.hall.specs.Lists.{at}
+use Rattle.notes.specs.Lists.{at}
 use Rattle.hall.specs.Rule.{Holds}
 use Rattle.hall.specs.Told.{Moment, entered, learned, either_of}
 

@@ -12,7 +12,8 @@ use Rattle.hall.specs.declared.view.Merged.{Merged}
 use Rattle.hall.specs.declared.view.Held.{Held}
 use Rattle.hall.specs.declared.view.Opening.{Opening}
 use Rattle.hall.specs.Layout.{line_of}
-use Rattle.hall.specs.Lists.{at, Grows, Whole, OwnSeen}
+use Rattle.notes.specs.Lists.{at, Grows}
+use Rattle.hall.specs.Lists.{Whole, OwnSeen}
 
 -- the pass has the name m, and so has seen all of its entries
 abbrev pub Holds : {S E : Type 0} → View S E → ℕ → Type 0

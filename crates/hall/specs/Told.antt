@@ -1,5 +1,5 @@
 -- What each step tells its pass, and the view after it.
-use Rattle.std.specs.Prelude.{◌≡◌, ℕ, ◌+◌, ltb, Bool, true, false, ◌||◌, if◌then◌else◌, List, [], ◌∷◌, ◌++◌, ◌⊎◌, length, replicate, Some, slice_set}
+use Rattle.std.specs.Prelude.{◌≡◌, ℕ, ◌+◌, ltb, Bool, true, false, ◌||◌, if◌then◌else◌, List, [], ◌∷◌, ◌⊎◌, length, replicate, Some, slice_set}
 use mathlib.Core.Option.{some}
 use Rattle.atomic_table.specs.Table.{Me, Step}
 use Rattle.hall.specs.declared.writer.Writer.{Writer}
@@ -8,9 +8,10 @@ use Rattle.hall.specs.declared.view.Stage.TheVariants.{Free, Inside}
 use Rattle.hall.specs.declared.view.View.{View}
 use Rattle.hall.specs.declared.view.Merged.{Merged}
 use Rattle.hall.specs.declared.view.Held.{Held}
-use Rattle.hall.specs.declared.note.Note.{Note}
+use Rattle.notes.specs.declared.note.Note.{Note}
 use Rattle.hall.specs.Layout.{line_of}
-use Rattle.hall.specs.Lists.{at, Grows, Whole, OwnSeen}
+use Rattle.notes.specs.Lists.{add, at, Grows}
+use Rattle.hall.specs.Lists.{Whole, OwnSeen}
 use Rattle.hall.specs.Rule.{Holds, Writes, Told}
 
 module _ {E : Type 0} where
@@ -41,7 +42,7 @@ module _ {S E : Type 0} where
 
   -- the history at a place has one entry more
   abbrev pub added : ℕ → E → View S E → List (List E)
-  added q e v = slice_set v.seen q (at v.seen q ++ e ∷ [])
+  added q e v = add v.seen q e
 
   -- the lock was released with one entry more
   abbrev pub left : ℕ → E → View S E → View S E

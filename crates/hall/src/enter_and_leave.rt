@@ -2,22 +2,22 @@
 ghost use Rattle.std.specs.Prelude.{◌≡◌, ℕ, ◌+◌, ◌*◌, ◌<◌, ◌≤◌, List, [], ◌∷◌, ◌++◌, MatchOption, slice_index_or, true, false};
 ghost use Rattle.hall.specs.declared.view.View.{View};
 ghost use Rattle.hall.specs.declared.view.Stage.TheVariants.{Free, Inside};
-ghost use Rattle.hall.specs.Lists.{at};
+ghost use Rattle.notes.specs.Lists.{at};
 ghost use Rattle.hall.specs.Told.{missed, left};
 ghost use Rattle.hall.specs.Calls.{view, IsOf, IsSame, Looked, Entered, start_of};
 
 use crate::hall::Hall;
 use crate::law::Law;
 use crate::layout::line_at;
-use crate::note::Note;
 use crate::pass::Pass;
 use crate::step_kinds::{Leave, Look};
 use crossbeam_utils::Backoff;
+use notes::Note;
 use std::sync::Wait;
 
 impl<L: Law> Hall<L> {
-    /// Looks once at the lock `cell`, which is below the number of locks: its value, where the lock
-    /// was free. None exactly where the one compare-exchange of this call found it taken.
+    /// Looks once at the lock `cell`, which is below the number of locks, as LWLockConditionalAcquire:
+    /// its value, where the lock was free. None exactly where the one compare-exchange of this call found it taken.
     ///
     /// The pass is inside no lock. Where it gets the value, it learns all histories as they were at
     /// that moment, at which the relation held of them, and the value stands for the lock's. Nobody
@@ -41,7 +41,10 @@ impl<L: Law> Hall<L> {
         pass.seat.slot_mut(shared, pass.cell).take()
     }
 
-    /// Looks until it has the lock's value, and may wait for ever.
+    /// Looks until it has the lock's value, as LWLockAcquire, and may wait for ever.
+    ///
+    /// After a few looks in vain it yields its processor each time, so that the holder gets one. There
+    /// is no queue: who looks first after a release gets in.
     ///
     /// It promises what `look` does where that finds the lock free. What the pass has seen before
     /// counts as of the moment of the look that found it so.
@@ -63,7 +66,7 @@ impl<L: Law> Hall<L> {
         unreachable!()
     }
 
-    /// Releases the lock that the pass is inside: returns the value, adds `entry` to the lock's
+    /// Releases the lock that the pass is inside, as LWLockRelease: returns the value, adds `entry` to the lock's
     /// history, and lets the next pass in.
     ///
     /// The law lets this pass add the entry, which is of its own session, and the value stands for

@@ -4,9 +4,9 @@ ghost use Rattle.hall.specs.Layout.{line_of};
 
 use crate::hall_rule::HallRule;
 use crate::law::Law;
-use crate::note::Note;
 use crate::view::{Held, Opening, View};
 use atomic_table::Table;
+use notes::Note;
 use std::alloc::Global;
 
 /// A lock table: values behind locks, and published words, over a law.

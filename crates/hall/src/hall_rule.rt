@@ -1,8 +1,8 @@
 //! The rule of the table below.
 use crate::law::Law;
-use crate::note::Note;
 use crate::view::{Held, Opening, View};
 use atomic_table::TableRule;
+use notes::Note;
 use std::marker::PhantomData;
 
 /// The rule of a lock table over a law, in the words of `atomic_table`.

@@ -1,7 +1,9 @@
 //! What a lock table keeps.
-ghost use Rattle.std.specs.Prelude.{◌≡◌, ℕ, ◌<◌, List, [], ◌∷◌, ◌++◌, length, slice_set};
+ghost use Rattle.std.specs.Prelude.{◌≡◌, ℕ, ◌<◌, List, length};
 ghost use Rattle.hall.specs.declared.writer.Writer.{Writer};
-ghost use Rattle.hall.specs.Lists.{Knows, Whole, at};
+ghost use Rattle.hall.specs.declared.writer.Writer.TheVariants.{Session};
+ghost use Rattle.notes.specs.Lists.{Knows, add};
+ghost use Rattle.hall.specs.Lists.{Whole};
 
 /// What a user states of a lock table: which facts tie its values and numbers to its histories, and
 /// which relation all histories keep.
@@ -38,5 +40,5 @@ pub trait Law {
     ghost may: { Self.Start → List (List Self.Entry) → ℕ → Self.Entry → Type 0 };
 
     // An entry that a caller may add keeps the relation. The caller has seen a beginning of each history, all entries of its own, and whole histories where it alone may write: at this place, at the others of the same writer, and at its session's words.
-    ghost keeps: { (start : Self.Start) (lists seen : List (List Self.Entry)) (place : ℕ) (entry : Self.Entry) → kept start lists → Knows session (writer start) (session entry) seen lists → place < length lists → Whole (writer start) (writer start place) seen lists → may start seen place entry → kept start (slice_set lists place (at lists place ++ entry ∷ [])) };
+    ghost keeps: { (start : Self.Start) (lists seen : List (List Self.Entry)) (place : ℕ) (entry : Self.Entry) → kept start lists → Knows session (session entry) seen lists → Whole (writer start) (Session (session entry)) seen lists → place < length lists → Whole (writer start) (writer start place) seen lists → may start seen place entry → kept start (add lists place entry) };
 }

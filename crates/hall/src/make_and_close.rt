@@ -2,18 +2,18 @@
 ghost use Rattle.std.specs.Prelude.{◌≡◌, ℕ, ◌+◌, ◌^◌, ◌<◌, ◌≤◌, [], ◌∷◌, IfOk, IfErr, length, slice_get, Some};
 ghost use Rattle.hall.specs.declared.writer.Writer.TheVariants.{Lock};
 ghost use Rattle.hall.specs.declared.view.Stage.TheVariants.{Free};
-ghost use Rattle.hall.specs.Lists.{at};
+ghost use Rattle.notes.specs.Lists.{at};
 ghost use Rattle.hall.specs.Rule.{Holds, first_view};
 ghost use Rattle.hall.specs.Calls.{view, IsOf, start_of, passes_of, StandFor, ShownBy};
 
 use crate::hall::Hall;
 use crate::law::Law;
 use crate::memory::Memory;
-use crate::note::Note;
 use crate::parts::{first_names, first_words, unwrap, wrap};
 use crate::pass::{Pass, Token};
 use crate::view::{Held, Opening};
 use atomic_table::{Refused, Table};
+use notes::Note;
 use std::alloc::Global;
 
 impl<L: Law> Hall<L> {

@@ -1,6 +1,6 @@
 //! Published words: numbers that their writers change under no lock, and that any pass may load.
 ghost use Rattle.std.specs.Prelude.{◌≡◌, ◌+◌, ◌<◌, [], ◌∷◌, ◌++◌};
-ghost use Rattle.hall.specs.Lists.{at};
+ghost use Rattle.notes.specs.Lists.{at};
 ghost use Rattle.hall.specs.Rule.{Writes};
 ghost use Rattle.hall.specs.Told.{published};
 ghost use Rattle.hall.specs.Calls.{view, IsOf, IsSame, Loaded, start_of};
@@ -8,10 +8,10 @@ ghost use Rattle.hall.specs.Calls.{view, IsOf, IsSame, Loaded, start_of};
 use crate::hall::Hall;
 use crate::law::Law;
 use crate::layout::line_at;
-use crate::note::Note;
 use crate::pass::Pass;
 use crate::step_kinds::{Check, Publish, Read};
 use crate::view::Held;
+use notes::Note;
 
 impl<L: Law> Hall<L> {
     /// Loads the published word `word`, which is below the number of words, and returns the number

@@ -2,7 +2,7 @@
 ghost use Rattle.std.specs.Prelude.{◌≡◌, None, Some};
 
 use crate::layout::LINE;
-use crate::note::Note;
+use notes::Note;
 use std::collections::LinkedList;
 
 /// Where a pass stands. It is inside one lock at the most.

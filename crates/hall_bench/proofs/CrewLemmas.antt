@@ -4,7 +4,8 @@ use Rattle.std.proofs.lemmas.List.{length-replicate, get_or-replicate, take_all,
 use Rattle.hall.specs.declared.view.View.{View}
 use Rattle.hall.specs.Rule.{Holds}
 use Rattle.hall.specs.Told.{asking, giving, given, either_of}
-use Rattle.hall.proofs.Merging.{either_at, or_true, true_inside}
+use Rattle.notes.proofs.Names.{true_inside}
+use Rattle.hall.proofs.Merging.{either_at, or_true}
 use Rattle.hall_bench.specs.Crew.{HeldIn, AllNames, SameNames}
 use mathlib.Core.Logic.{dite}
 use native.Mathlib.Decide.{ℕ_discrete}

@@ -1,11 +1,12 @@
 -- A law that asks for nothing, and a pass that goes through many critical sections.
-use Rattle.std.specs.Prelude.{◌≡◌, ℕ, ◌<◌, ◌++◌, List, [], ◌∷◌, length, slice_set, replicate}
+use Rattle.std.specs.Prelude.{◌≡◌, ℕ, ◌<◌, List, [], length, replicate}
 use Rattle.hall.specs.declared.writer.Writer.{Writer}
-use Rattle.hall.specs.declared.writer.Writer.TheVariants.{Lock}
+use Rattle.hall.specs.declared.writer.Writer.TheVariants.{Lock, Session}
 use Rattle.hall.specs.declared.view.Opening.{Opening}
 use Rattle.hall.specs.declared.view.View.{View}
 use Rattle.hall.specs.declared.view.Stage.TheVariants.{Free}
-use Rattle.hall.specs.Lists.{at, Knows, Whole}
+use Rattle.notes.specs.Lists.{Knows, add}
+use Rattle.hall.specs.Lists.{Whole}
 use Rattle.hall_bench.specs.declared.turns.Turn.{Turn}
 
 -- the session of an entry
@@ -21,8 +22,8 @@ abbrev pub Anything : List (List Turn) → Type 0
 Anything ls = Unit {0}
 
 -- so each entry keeps it
-pub keeps : (start : Unit {0}) (ls seen : List (List Turn)) (q : ℕ) (e : Turn) → Anything ls → Knows by writes (by e) seen ls → q < length ls → Whole writes (writes q) seen ls → Unit {0} → Anything (slice_set ls q (at ls q ++ e ∷ []))
-keeps start ls seen q e k n lt w m = tt
+pub keeps : (start : Unit {0}) (ls seen : List (List Turn)) (q : ℕ) (e : Turn) → Anything ls → Knows by (by e) seen ls → Whole writes (Session (by e)) seen ls → q < length ls → Whole writes (writes q) seen ls → Unit {0} → Anything (add ls q e)
+keeps start ls seen q e k n o lt w m = tt
 
 -- empty histories, and so many names
 abbrev pub opening : ℕ → ℕ → Opening (Unit {0}) Turn

@@ -1,4 +1,4 @@
-//! Passes that go through critical sections, turn after turn, and the same with `Mutex`.
+//! Sessions that go through critical sections, turn after turn, by passes and by `Mutex`.
 ghost use Rattle.std.specs.Prelude.{◌≡◌, ◌+◌, ◌^◌, ◌<◌, ◌≤◌, [], IfSome, length, vec_capacity};
 ghost use Rattle.std.specs.List.{All};
 ghost use Rattle.hall.specs.declared.view.Stage.TheVariants.{Free};
@@ -21,28 +21,37 @@ pub struct Turn {
 /// A law that asks for nothing.
 pub struct Plain;
 
-/// A thread's pass.
+/// A session's pass.
 #[derive(Drop)]
 pub struct Member {
     pub number: u32,
     pub pass: Pass<Plain>,
 }
 
-/// Which locks the threads go through: thread k begins at the lock `k * spread`, and goes on by `step`.
+/// So many sessions, 64 at the most, in so many threads.
+#[derive(Clone, Copy)]
+pub struct Crew {
+    pub sessions: u32,
+    pub threads: u32,
+}
+
+/// What sessions do: session k begins at the lock `k * spread`, goes on by `step`, and works that
+/// many rounds in each critical section.
 #[derive(Clone, Copy)]
 pub struct Plan {
     pub locks: u32,
     pub spread: u32,
     pub step: u32,
+    pub work: u32,
 }
 
 impl Plan {
-    // The lock of a thread's turn.
-    fn lock(self, thread: u32, turn: u32) -> u32
+    // The lock of a session's turn.
+    fn lock(self, session: u32, turn: u32) -> u32
         requires { 0 < self.locks }
         ensures { result < self.locks }
     {
-        let from = thread.wrapping_mul(self.spread);
+        let from = session.wrapping_mul(self.spread);
         from.wrapping_add(turn.wrapping_mul(self.step)) % self.locks
     }
 }
@@ -71,6 +80,22 @@ impl Law for Plain {
     ghost keeps = { keeps };
 }
 
+// Counts one, after that many rounds of work, of some 2.4 ns each. No round leaves 0 behind, which
+// the compiler doesn't see; so it can't leave the rounds out.
+fn count_after(value: u64, work: u32) -> u64 {
+    let mut mixed = value | 1;
+    for _ in 0..work {
+        mixed ^= mixed << 13;
+        mixed ^= mixed >> 7;
+        mixed ^= mixed << 17;
+    }
+    if mixed == 0 {
+        value
+    } else {
+        value.wrapping_add(1)
+    }
+}
+
 // Enters and leaves the locks by the plan.
 fn take_turns<R: Wait>(rt: &R, hall: &Hall<Plain>, member: &mut Member, plan: Plan, turns: u32)
     requires own { IsOf hall.now member.old.pass }
@@ -82,17 +107,17 @@ fn take_turns<R: Wait>(rt: &R, hall: &Hall<Plain>, member: &mut Member, plan: Pl
     for i in 0..turns {
         let value = hall.enter(rt, &mut member.pass, plan.lock(member.number, i));
         let entry = Note::by(&member.pass);
-        hall.leave(&mut member.pass, value.wrapping_add(1), entry);
+        hall.leave(&mut member.pass, count_after(value, plan.work), entry);
     }
 }
 
 // The same through mutexes.
-fn lock_turns<R: Wait>(rt: &R, locks: &[Mutex<u64>], thread: u32, plan: Plan, turns: u32)
+fn lock_turns<R: Wait>(rt: &R, locks: &[Mutex<u64>], session: u32, plan: Plan, turns: u32)
     requires { (0 < plan.locks) × (plan.locks ≤ length locks.now) }
 {
     for i in 0..turns {
-        let mut value = locks[plan.lock(thread, i) as usize].lock(rt);
-        *value = value.wrapping_add(1);
+        let mut value = locks[plan.lock(session, i) as usize].lock(rt);
+        *value = count_after(*value, plan.work);
     }
 }
 
@@ -176,20 +201,20 @@ fn dismiss(hall: &Hall<Plain>, host: &mut Pass<Plain>, members: &mut Vec<Member>
     }
 }
 
-/// That many threads, 64 at the most, take their turns. Returns what the locks counted.
+/// The sessions take their turns through the table. Returns what the locks counted.
 pub fn by_passes<R: Threads + Wait + Sync>(
     rt: &R,
     alloc: Global,
-    threads: u32,
+    crew: Crew,
     plan: Plan,
     turns: u32,
 ) -> Option<u64>
-    requires { (0 < plan.locks) × (0 < threads) × (threads ≤ 64) }
+    requires { (0 < plan.locks) × (0 < crew.threads) × (crew.sessions ≤ 64) }
 {
-    let mut members = Vec::with_capacity(alloc, threads as usize).ok()?;
-    let (hall, mut host) = table(alloc, plan.locks, threads + 1)?;
-    gather(&hall, &mut host, &mut members, threads);
-    run_members(rt, &hall, members.as_mut_slice(), threads, plan, turns);
+    let mut members = Vec::with_capacity(alloc, crew.sessions as usize).ok()?;
+    let (hall, mut host) = table(alloc, plan.locks, crew.sessions + 1)?;
+    gather(&hall, &mut host, &mut members, crew.sessions);
+    run_members(rt, &hall, members.as_mut_slice(), crew.threads, plan, turns);
     dismiss(&hall, &mut host, &mut members);
     Some(counted(hall.close_with(host).as_slice()))
 }
@@ -198,25 +223,25 @@ pub fn by_passes<R: Threads + Wait + Sync>(
 pub fn by_mutexes<R: Threads + Wait + Sync>(
     rt: &R,
     alloc: Global,
-    threads: u32,
+    crew: Crew,
     plan: Plan,
     turns: u32,
 ) -> Option<u64>
-    requires { (0 < plan.locks) × (0 < threads) }
+    requires { (0 < plan.locks) × (0 < crew.threads) }
 {
     let mut mutexes = Vec::with_capacity(alloc, plan.locks as usize).ok()?;
     for _ in 0..plan.locks {
         mutexes.push_reserved(Mutex::new(0u64));
     }
-    let mut numbers = Vec::with_capacity(alloc, threads as usize).ok()?;
-    for number in 0..threads {
+    let mut numbers = Vec::with_capacity(alloc, crew.sessions as usize).ok()?;
+    for number in 0..crew.sessions {
         numbers.push_reserved(number);
     }
     let all = mutexes.as_slice();
     thread::for_each_mut(
         rt,
         numbers.as_mut_slice(),
-        threads as usize,
+        crew.threads as usize,
         &|_, number| lock_turns(rt, all, *number, plan, turns),
     );
     let mut counted = 0u64;

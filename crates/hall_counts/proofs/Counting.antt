@@ -1,6 +1,6 @@
 -- What the critical sections of the two counters may add.
 use Rattle.std.proofs.Common.{◌≡◌, ℕ, ◌+◌, ◌-◌, ◌<◌, ◌≤◌, List, [], ◌∷◌, ◌++◌, length, set, ◌∙◌, ap, subst, get_or-set_same, get_or-set_other, length-set, arith}
-use Rattle.hall.specs.Lists.{at}
+use Rattle.notes.specs.Lists.{at}
 use Rattle.hall.specs.declared.view.View.{View}
 use Rattle.hall.specs.Told.{added, published, left}
 use Rattle.hall_counts.specs.declared.Entry.{Entry}

@@ -3,7 +3,9 @@ use Rattle.std.proofs.Common.{◌≡◌, ℕ, ◌+◌, ◌<◌, ◌≤◌, ◌�
 use Rattle.std.proofs.lemmas.List.Sums.{sum_by-append}
 use mathlib.Core.Logic.{dite}
 use native.Mathlib.Decide.{ℕ_discrete}
-use Rattle.hall.specs.Lists.{at, Begins, Knows, Whole}
+use Rattle.notes.specs.Lists.{add, at, Begins, Knows}
+use Rattle.hall.specs.Lists.{Whole}
+use Rattle.hall.specs.declared.writer.Writer.TheVariants.{Session}
 use Rattle.hall_counts.specs.declared.Entry.{Entry}
 use Rattle.hall_counts.specs.Tally.{by, writes, total, last_after, last, Kept, May}
 
@@ -17,7 +19,7 @@ last_more n (x ∷ xs) e = last_more x.amount xs e
 total_grows : (xs ys : List Entry) → Begins xs ys → total xs ≤ total ys
 total_grows xs ys b = let e : total (xs ++ b.0) ≡ total ys = ap total b.1 in let f : total (xs ++ b.0) ≡ total xs + total b.0 = sum_by-append (λ (x : Entry). x.amount) xs b.0 in omega arith
 
-module _ (ls seen : List (List Entry)) (q : ℕ) (e : Entry) (kept : Kept ls) (knows : Knows by writes (by e) seen ls) (inside : q < length ls) (whole : Whole writes (writes q) seen ls) (may : May seen q e) where
+module _ (ls seen : List (List Entry)) (q : ℕ) (e : Entry) (kept : Kept ls) (knows : Knows by (by e) seen ls) (inside : q < length ls) (whole : Whole writes (writes q) seen ls) (may : May seen q e) where
   abbrev xs : List Entry
   xs = at ls q ++ e ∷ []
 
@@ -65,5 +67,5 @@ module _ (ls seen : List (List Entry)) (q : ℕ) (e : Entry) (kept : Kept ls) (k
       record { behind = omega arith; said = omega arith; recent = omega arith })))
 
 -- in the form of the law
-pub keeps : (ls seen : List (List Entry)) (q : ℕ) (e : Entry) → Kept ls → Knows by writes (by e) seen ls → q < length ls → Whole writes (writes q) seen ls → May seen q e → Kept (set ls q (at ls q ++ e ∷ []))
-keeps ls seen q e kept knows inside whole may = keeps_one ls seen q e kept knows inside whole may
+pub keeps : (ls seen : List (List Entry)) (q : ℕ) (e : Entry) → Kept ls → Knows by (by e) seen ls → Whole writes (Session (by e)) seen ls → q < length ls → Whole writes (writes q) seen ls → May seen q e → Kept (add ls q e)
+keeps ls seen q e kept knows words inside whole may = keeps_one ls seen q e kept knows inside whole may

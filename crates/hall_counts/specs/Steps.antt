@@ -3,7 +3,7 @@ use Rattle.std.specs.Prelude.{◌≡◌, ℕ, ◌+◌, ◌-◌, ◌<◌, max, Li
 use Rattle.hall.specs.declared.view.Stage.TheVariants.{Free}
 use Rattle.hall.specs.declared.view.View.{View}
 use Rattle.hall.specs.declared.view.Opening.{Opening}
-use Rattle.hall.specs.Lists.{at}
+use Rattle.notes.specs.Lists.{at}
 use Rattle.hall_counts.specs.declared.Entry.{Entry}
 use Rattle.hall_counts.specs.Tally.{total, last}
 

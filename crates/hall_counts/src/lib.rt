@@ -1,10 +1,10 @@
 //! Two counters behind locks, of which the second is never ahead of the first: the smallest use of a
-//! lock table with a published word.
+//! lock table with a published word (docs/CONCURRENCY.md, "Two uses").
 #![tactic(auto)]
 
 ghost use Rattle.std.specs.Prelude.{◌≡◌, ℕ, ◌+◌, ◌<◌, ◌≤◌, IfSome, slice_index, vec_len};
 ghost use Rattle.hall.specs.declared.view.Stage.TheVariants.{Free, Inside};
-ghost use Rattle.hall.specs.Lists.{at};
+ghost use Rattle.notes.specs.Lists.{at};
 ghost use Rattle.hall.specs.Rule.{first_view};
 ghost use Rattle.hall.specs.Calls.{view, IsOf, IsSame, passes_of};
 ghost use Rattle.hall_counts.specs.Tally.{total, last};

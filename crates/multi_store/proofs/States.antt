@@ -1,6 +1,6 @@
 -- The state after one more event.
 use Rattle.std.proofs.Common.{◌≡◌, ℕ, suc, ◌+◌, ◌-◌, ◌<◌, ◌≤◌, List, [], ◌∷◌, ◌++◌, length, Contains, refl, sym, ap, ◌∙◌, subst, arith}
-use Rattle.std.specs.BTreeMap.{BTreeMap}
+use Rattle.counted_map.specs.declared.CountedMap.{CountedMap}
 use Rattle.xid_order.specs.Ids.{next_multi}
 use Rattle.tx_events.specs.declared.event.By.{By}
 use Rattle.tx_events.specs.declared.multi.Member.{Member}
@@ -24,7 +24,7 @@ use Rattle.multi_store.proofs.Soundness.{with_counters}
 counters_same : (base : Counters) (m m' f f' o o' p p' : ℕ) → m ≡ m' → f ≡ f' → o ≡ o' → p ≡ p' → with_counters base m f o p ≡ with_counters base m' f' o' p'
 counters_same base m m' f f' o o' p p' a b c d = rw (a, b, c, d) refl
 
-pub state_new : (base : Counters) (counts : BTreeMap PinKey ℕ) → IsBase base → IsTally [] counts → IsState base [] base 0 [] counts
+pub state_new : (base : Counters) (counts : CountedMap PinKey) → IsBase base → IsTally [] counts → IsState base [] base 0 [] counts
 state_new base counts b t = record {
   base_is = b;
   legal = each_place_none (MultiMayCome base (InBase base));
@@ -36,7 +36,7 @@ state_new base counts b t = record {
 }
 
 -- the counters after the event are those that its history gives
-state_push : (base : Counters) (h : List MultiEvent) (e : MultiEvent) (counters counters' : Counters) (promised promised' : ℕ) (offsets offsets' : List ℕ) (counts counts' : BTreeMap PinKey ℕ) →
+state_push : (base : Counters) (h : List MultiEvent) (e : MultiEvent) (counters counters' : Counters) (promised promised' : ℕ) (offsets offsets' : List ℕ) (counts counts' : CountedMap PinKey) →
     IsState base h counters promised offsets counts → MultiMayCome base (InBase base) h e → counters' ≡ multi_counters base (h ++ e ∷ []) → offsets' ≡ made_offsets (h ++ e ∷ []) → IsTally (pins (h ++ e ∷ [])) counts' → promised' ≡ length (pins (h ++ e ∷ [])) →
     IsState base (h ++ e ∷ []) counters' promised' offsets' counts'
 state_push base h e counters counters' promised promised' offsets offsets' counts counts' s may are off tally long =
@@ -51,7 +51,7 @@ state_push base h e counters counters' promised promised' offsets offsets' count
       counters_base = subst IsBase (sym are) (legal_base base (h ++ e ∷ []) s.base_is legal);
     }
 
-pub state_gen : (base : Counters) (h : List MultiEvent) (by : By) (offset : ℕ) (members : List Member) (counters : Counters) (promised : ℕ) (offsets : List ℕ) (counts : BTreeMap PinKey ℕ) →
+pub state_gen : (base : Counters) (h : List MultiEvent) (by : By) (offset : ℕ) (members : List Member) (counters : Counters) (promised : ℕ) (offsets : List ℕ) (counts : CountedMap PinKey) →
     IsState base h counters promised offsets counts → counters.multi < multi_stop_limit counters.oldest_multi → offset ≡ first_member counters.offset → AreMembers members → offset + length members < member_stop counters.oldest_offset →
     IsState base (h ++ events.Gen by counters.multi offset members ∷ []) (record counters { multi = next_multi counters.multi; offset = offset + length members }) promised (offsets ++ offset ∷ []) counts
 state_gen base h by offset members counters promised offsets counts s below first fit end =
@@ -72,7 +72,7 @@ state_gen base h by offset members counters promised offsets counts s below firs
     (subst (λ p. IsTally p counts) (sym same) s.tally)
     (s.promised_is ∙ sym (ap length same))
 
-pub state_held : (base : Counters) (h : List MultiEvent) (by : By) (multi : ℕ) (counters : Counters) (promised : ℕ) (offsets : List ℕ) (counts counts' : BTreeMap PinKey ℕ) →
+pub state_held : (base : Counters) (h : List MultiEvent) (by : By) (multi : ℕ) (counters : Counters) (promised : ℕ) (offsets : List ℕ) (counts counts' : CountedMap PinKey) →
     IsState base h counters promised offsets counts → counters.oldest_multi ≤ multi → multi < counters.multi → IsTally (pins h ++ (by.session, multi) ∷ []) counts' →
     IsState base (h ++ events.Hold by multi ∷ []) counters (promised + 1) offsets counts'
 state_held base h by multi counters promised offsets counts counts' s from to tally =
@@ -88,7 +88,7 @@ state_held base h by multi counters promised offsets counts counts' s from to ta
     (subst (λ p. IsTally p counts') (sym more) tally)
     (omega arith)
 
-pub state_let_go : (base : Counters) (h : List MultiEvent) (by : By) (multi : ℕ) (counters : Counters) (promised : ℕ) (offsets : List ℕ) (counts counts' : BTreeMap PinKey ℕ) →
+pub state_let_go : (base : Counters) (h : List MultiEvent) (by : By) (multi : ℕ) (counters : Counters) (promised : ℕ) (offsets : List ℕ) (counts counts' : CountedMap PinKey) →
     IsState base h counters promised offsets counts → Contains (pins h) (by.session, multi) → IsTally (without_pin (by.session, multi) (pins h)) counts' →
     IsState base (h ++ events.Unhold by multi ∷ []) counters (promised - 1) offsets counts'
 state_let_go base h by multi counters promised offsets counts counts' s has tally =
@@ -105,7 +105,7 @@ state_let_go base h by multi counters promised offsets counts counts' s has tall
     (subst (λ ps. IsTally ps counts') (sym less) tally)
     (omega arith)
 
-pub some_promised : (base : Counters) (h : List MultiEvent) (p : Pin) (counters : Counters) (promised : ℕ) (offsets : List ℕ) (counts : BTreeMap PinKey ℕ) →
+pub some_promised : (base : Counters) (h : List MultiEvent) (p : Pin) (counters : Counters) (promised : ℕ) (offsets : List ℕ) (counts : CountedMap PinKey) →
     IsState base h counters promised offsets counts → Contains (pins h) p → 1 ≤ promised
 some_promised base h p counters promised offsets counts s has =
     let was : promised ≡ length (pins h) = s.promised_is in
@@ -113,7 +113,7 @@ some_promised base h p counters promised offsets counts s has =
     let l : k < length (pins h) = has.1 in
     omega arith
 
-pub state_raised : (base : Counters) (h : List MultiEvent) (by : By) (multi offset : ℕ) (counters : Counters) (promised : ℕ) (offsets : List ℕ) (counts : BTreeMap PinKey ℕ) →
+pub state_raised : (base : Counters) (h : List MultiEvent) (by : By) (multi offset : ℕ) (counters : Counters) (promised : ℕ) (offsets : List ℕ) (counts : CountedMap PinKey) →
     IsState base h counters promised offsets counts → counters.oldest_multi ≤ multi → multi ≤ pin_limit base.multi h → BeginsAt base (InBase base) h multi offset →
     IsState base (h ++ events.Raise by multi offset ∷ []) (record counters { oldest_multi = multi; oldest_offset = offset }) promised offsets counts
 state_raised base h by multi offset counters promised offsets counts s from to begins =
@@ -128,7 +128,7 @@ state_raised base h by multi offset counters promised offsets counts s from to b
     (subst (λ p. IsTally p counts) (sym same) s.tally)
     (s.promised_is ∙ sym (ap length same))
 
-pub state_same : (base : Counters) (h : List MultiEvent) (counters : Counters) (promised : ℕ) (offsets : List ℕ) (counts counts' : BTreeMap PinKey ℕ) →
+pub state_same : (base : Counters) (h : List MultiEvent) (counters : Counters) (promised : ℕ) (offsets : List ℕ) (counts counts' : CountedMap PinKey) →
     IsState base h counters promised offsets counts → IsTally (pins h) counts' → IsState base h counters promised offsets counts'
 state_same base h counters promised offsets counts counts' s tally = record {
   base_is = s.base_is;

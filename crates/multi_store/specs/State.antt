@@ -1,7 +1,7 @@
 -- The state of the generator is that of its events.
 use Rattle.std.specs.Prelude.{◌≡◌, ℕ, List, length, Option, Some, None}
 use Rattle.std.specs.List.{filter_map}
-use Rattle.std.specs.BTreeMap.{BTreeMap}
+use Rattle.counted_map.specs.declared.CountedMap.{CountedMap}
 use Rattle.tx_events.specs.declared.multi.MultiEvent.{MultiEvent}
 use Rattle.tx_events.specs.declared.multi.MultiEvent.TheVariants as events
 use Rattle.tx_events.specs.declared.record.Counters.{Counters}
@@ -19,7 +19,7 @@ offset_by _ = None
 abbrev pub made_offsets : List MultiEvent → List ℕ
 made_offsets h = filter_map offset_by h
 
-pub record IsState (base : Counters) (h : List MultiEvent) (counters : Counters) (promised : ℕ) (offsets : List ℕ) (counts : BTreeMap PinKey ℕ) : Type 0 where
+pub record IsState (base : Counters) (h : List MultiEvent) (counters : Counters) (promised : ℕ) (offsets : List ℕ) (counts : CountedMap PinKey) : Type 0 where
   pub base_is : IsBase base
   pub legal : AreLegalMultis base (InBase base) h
   pub counters_are : counters ≡ multi_counters base h

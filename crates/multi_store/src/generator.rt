@@ -56,7 +56,7 @@ impl MultiGen {
             counters,
             promised: 0,
             offsets: Vec::new(alloc),
-            pins: BTreeMap::new(alloc),
+            pins: PinCounts::new(alloc),
             events: Vec::new(alloc),
         }
     }

@@ -1,10 +1,11 @@
+//! How often each session pins a multixact.
 ghost use Rattle.std.specs.Prelude.{◌≡◌, ℕ, ◌+◌, ◌^◌, ◌<◌, ◌↔◌, IsTrue, List, [], ◌∷◌, ◌++◌, Contains, IfSome, map, min, true, false};
 ghost use Rattle.std.specs.List.{fold};
 ghost use Rattle.std.specs.BTreeMap.{get};
 ghost use Rattle.tx_events.specs.Multis.{Pin, without_pin};
 ghost use Rattle.multi_store.specs.Pins.{IsTally, pin_of, pin_cmp};
 
-use std::collections::BTreeMap;
+use counted_map::CountedMap;
 use xid_order::FullMulti;
 
 /// A pin: the multixact, and the session that holds it. Ordered by multixact first.
@@ -15,17 +16,16 @@ pub struct PinKey {
 }
 
 /// How often each pin is held.
-pub type PinCounts = BTreeMap<PinKey, usize>;
+pub type PinCounts = CountedMap<PinKey>;
 
 /// Counts the pin once more. False for want of memory, and then nothing changed.
 pub fn add_pin(counts: &mut PinCounts, pin: PinKey) -> bool
-    requires fits { IfSome (get pin_cmp counts.old pin) (λ n. n + 1 < 2 ^ 64) }
+    requires fits { IfSome (get pin_cmp counts.old.counts pin) (λ n. n + 1 < 2 ^ 64) }
     ensures more { result ≡ true → (pins : List Pin) → IsTally pins counts.old → IsTally (pins ++ pin_of pin ∷ []) counts.new }
     ensures same { result ≡ false → (pins : List Pin) → IsTally pins counts.old → IsTally pins counts.new }
 {
-    let count = counts.get(&pin).copied().unwrap_or(0);
-    match counts.insert(pin, count + 1) {
-        Ok(_) => true,
+    match counts.add(pin) {
+        Ok(()) => true,
         Err(_) => false,
     }
 }
@@ -34,29 +34,22 @@ pub fn add_pin(counts: &mut PinCounts, pin: PinKey) -> bool
 pub fn drop_pin(counts: &mut PinCounts, pin: PinKey)
     ensures { (pins : List Pin) → IsTally pins counts.old → Contains pins (pin_of pin) → IsTally (without_pin (pin_of pin) pins) counts.new }
 {
-    let count = counts.get(&pin).copied().unwrap_or(0);
-    if count > 1 {
-        if let Some(left) = counts.get_mut(&pin) {
-            *left = count - 1;
-        }
-    } else {
-        counts.remove(&pin);
-    }
+    counts.remove(pin);
 }
 
 /// Whether the pin is held.
 pub fn has_pin(counts: &PinCounts, pin: PinKey) -> bool
     ensures { (pins : List Pin) → IsTally pins counts.now → IsTrue result ↔ Contains pins (pin_of pin) }
 {
-    counts.contains_key(&pin)
+    counts.contains(pin)
 }
 
 /// The least of a multixact and all pinned ones.
 pub fn least_pinned(next: FullMulti, counts: &PinCounts) -> FullMulti
     ensures { (pins : List Pin) → IsTally pins counts.now → result ≡ fold min next (map (λ p. p.1) pins) }
 {
-    match counts.first_key_value() {
-        Some((pin, _)) => { if pin.multi < next { pin.multi } else { next } }
+    match counts.least() {
+        Some(pin) => { if pin.multi < next { pin.multi } else { next } }
         None => next,
     }
 }

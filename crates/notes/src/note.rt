@@ -1,9 +1,10 @@
-// It has no bytes, so a program keeps account of its past at no cost.
+//! A ghost value with no bytes: a program keeps account of its past at no cost.
 ghost use Rattle.std.specs.Prelude.{◌≡◌};
 ghost use base.Fml.{ftrue};
 
 use std::marker::{Model, PhantomData};
 
+/// A value that contracts alone see. It takes no bytes, and making one runs no code.
 pub struct Note<T> {
     marker: PhantomData<T>,
     pub ghost value: { T },
@@ -14,6 +15,7 @@ impl<T> Model for Note<T> {
 }
 
 impl<T> Note<T> {
+    /// A note of the value that the caller's proof picks.
     pub fn of() -> Note<T>
         ghost noted: { T }
         ensures { result.value ≡ noted }
@@ -25,7 +27,7 @@ impl<T> Note<T> {
 }
 
 impl<T> Note<T> {
-    /// The caller picks the value, from what the reference shows.
+    /// A note of the value that the caller's proof picks, from what the reference shows.
     pub fn by<A>(_about: &A) -> Note<T>
         ghost noted: { T }
         ensures { result.value ≡ noted }

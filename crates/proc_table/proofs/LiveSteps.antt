@@ -12,7 +12,8 @@ use Rattle.tx_events.proofs.ListSteps.{not_both}
 use Rattle.tx_events.proofs.Membership.{contains_has}
 use Rattle.tx_events.specs.Events.{same_name}
 use Rattle.tx_events.specs.Horizon.{LiveSnap, is_snap_of}
-use Rattle.proc_table.specs.Lives.{HoldsLive, IsTally, one_more, some_of, with_xmin, xmin_under, kept_xmin, others}
+use Rattle.counted_map.specs.Counts.{some_of}
+use Rattle.proc_table.specs.Lives.{HoldsLive, IsTally, one_more, with_xmin, xmin_under, kept_xmin, others}
 use Rattle.proc_table.specs.declared.live.LiveSnapshots.{LiveSnapshots}
 use Rattle.proc_table.proofs.LiveLemmas.{same_names, apart_push, apart_filtered, live_more, live_others, one_taken}
 use Rattle.tx_events.proofs.Names.{same_name_refl, same_name_equal}

@@ -1,28 +1,38 @@
 -- How many live snapshots have each xmin.
-use Rattle.std.proofs.Common.{eqb-true, ◌≡◌, ℕ, zero, suc, ◌+◌, ◌<◌, ◌≤◌, ◌⊎◌, List, [], ◌∷◌, ◌++◌, length, Some, None, IsSome, refl, sym, ap, ◌∙◌, inl, inr, ⊎_elim, subst, arith, Bool, true, false, ◌==◌, cond, map, min}
+use Rattle.std.proofs.Common.{eqb-true, ◌≡◌, ℕ, zero, suc, ◌+◌, ◌-◌, ◌<◌, ◌≤◌, ◌⊎◌, List, [], ◌∷◌, ◌++◌, refl, ap, ◌∙◌, inl, inr, ⊎_elim, arith, Bool, true, false, ◌==◌, cond, map, min}
 use Rattle.std.proofs.lemmas.Bool.Decides.{nat_tests}
 use Rattle.std.proofs.lemmas.List.Sums.{sum_by-cons, sum_by-append}
 use Rattle.std.proofs.lemmas.Map.Keys.{le_from_not_gt}
-use Rattle.std.specs.BTreeMap.{BTreeMap, btree_map_len, get, is_at}
 use Rattle.std.specs.List.{fold}
-use Rattle.std.specs.Map.{lookup}
 use Rattle.std.specs.Ordering.{nat_cmp, is_gt, is_lt}
 use Rattle.tx_events.proofs.Extremes.{fold_min_start, fold_min_has, fold_min_above}
 use Rattle.tx_events.proofs.ListSteps.{eqb-refl}
 use Rattle.tx_events.proofs.Membership.{Has}
 use Rattle.tx_events.specs.Horizon.{LiveSnap}
-use Rattle.proc_table.specs.Lives.{IsTally, one_more, some_of, with_xmin}
+use Rattle.counted_map.specs.Counts.{with_count}
+use Rattle.counted_map.proofs.Counted.{cmp_eq}
+use Rattle.proc_table.specs.Lives.{one_more, with_xmin}
 
 abbrev one_if : Bool → ℕ
 one_if b = cond b 1 0
 
-pub some_positive : (n : ℕ) → 1 ≤ n → some_of n ≡ Some n
-some_positive zero h = absurd (omega arith)
-some_positive (suc n) h = refl
+-- the counts after one more, and after one less
+pub more_is : (f : ℕ → ℕ) (key x : ℕ) → with_count nat_cmp key (f key + 1) f x ≡ one_more key f x
+more_is f key x =
+    let step : (b : Bool) → (key == x) ≡ b → cond b (f key + 1) (f x) ≡ f x + one_if b = elim [
+      | true ↦ λ e. let same : f key ≡ f x = ap f (eqb-true key x e) in omega arith
+      | false ↦ λ e. omega arith
+    ] in
+    ap (λ b. cond b (f key + 1) (f x)) (cmp_eq key x) ∙ step (key == x) refl
 
-pub some_within : (n m : ℕ) → some_of n ≡ Some m → (n ≡ m) × (1 ≤ n)
-some_within zero m e = absurd cc
-some_within (suc n) m e = (cc, omega arith)
+pub less_is : (f : ℕ → ℕ) (key x : ℕ) → with_count nat_cmp key (one_more key f key - 1) (one_more key f) x ≡ f x
+less_is f key x =
+    let here : one_if (key == key) ≡ 1 = ap one_if (eqb-refl key) in
+    let step : (b : Bool) → (key == x) ≡ b → cond b (f key + one_if (key == key) - 1) (f x + one_if b) ≡ f x = elim [
+      | true ↦ λ e. let same : f key ≡ f x = ap f (eqb-true key x e) in omega arith
+      | false ↦ λ e. omega arith
+    ] in
+    ap (λ b. cond b (one_more key f key - 1) (one_more key f x)) (cmp_eq key x) ∙ step (key == x) refl
 
 -- the xmins of snapshots
 pub with_push : (ss : List LiveSnap) (r : LiveSnap) (x : ℕ) → with_xmin (ss ++ r ∷ []) x ≡ one_more r.xmin (with_xmin ss) x
@@ -49,32 +59,18 @@ has_counted (s ∷ ss) x h =
     h
 
 -- the least xmin is the least key
-pub tally_least : (ss : List LiveSnap) (counts : BTreeMap ℕ ℕ) (x n from : ℕ) → IsTally (with_xmin ss) counts → get nat_cmp counts x ≡ Some n →
-    ((q : ℕ) → IsSome (get nat_cmp counts q) → is_gt (nat_cmp x q) ≡ false) → fold min from (map (λ (s : LiveSnap). s.xmin) ss) ≡ min from x
-tally_least ss counts x n from t at least =
+pub tally_least : (ss : List LiveSnap) (x from : ℕ) → 1 ≤ with_xmin ss x → ((q : ℕ) → 1 ≤ with_xmin ss q → is_gt (nat_cmp x q) ≡ false) → fold min from (map (λ (s : LiveSnap). s.xmin) ss) ≡ min from x
+tally_least ss x from at least =
     let xs : List ℕ = map (λ (s : LiveSnap). s.xmin) ss in
     let a : fold min from xs ≤ from = fold_min_start from xs in
-    let b : fold min from xs ≤ x = fold_min_has from xs x (counted_has ss x (some_within (with_xmin ss x) n (sym (t x) ∙ at)).1) in
+    let b : fold min from xs ≤ x = fold_min_has from xs x (counted_has ss x at) in
     let c : min from x ≤ fold min from xs =
-    fold_min_above from (min from x) xs (omega arith)
-    (λ y h.
-    let l : x ≤ y = le_from_not_gt x y (least y (subst IsSome (sym (t y ∙ some_positive (with_xmin ss y) (has_counted ss y h))) refl)) in
-    omega arith) in
+    fold_min_above from (min from x) xs (omega arith) (λ y h. let l : x ≤ y = le_from_not_gt x y (least y (has_counted ss y h)) in omega arith) in
     omega arith
 
-lookup_empty : (test : ℕ → Bool) (es : List (ℕ × ℕ)) → length es ≡ 0 → lookup test es ≡ None
-lookup_empty test [] e = refl
-lookup_empty test (x ∷ es) e = absurd (omega arith)
-
-none_counted : (ss : List LiveSnap) → ((x : ℕ) → some_of (with_xmin ss x) ≡ None) → ss ≡ []
+pub none_counted : (ss : List LiveSnap) → ((x : ℕ) → with_xmin ss x ≡ 0) → ss ≡ []
 none_counted [] f = refl
-none_counted (s ∷ ss) f =
-    let h : 1 ≤ with_xmin (s ∷ ss) s.xmin = has_counted (s ∷ ss) s.xmin (inl refl) in
-    absurd (let e : Some (with_xmin (s ∷ ss) s.xmin) ≡ None = sym (some_positive (with_xmin (s ∷ ss) s.xmin) h) ∙ f s.xmin in cc)
-
--- an empty map counts none
-pub tally_empty : (ss : List LiveSnap) (counts : BTreeMap ℕ ℕ) → IsTally (with_xmin ss) counts → btree_map_len counts ≡ 0 → ss ≡ []
-tally_empty ss counts t e = none_counted ss (λ x. sym (t x) ∙ lookup_empty (is_at (nat_cmp x)) counts.entries e)
+none_counted (s ∷ ss) f = absurd (let h : 1 ≤ with_xmin (s ∷ ss) s.xmin = has_counted (s ∷ ss) s.xmin (inl refl) in let z = f s.xmin in omega arith)
 
 -- what the order of two numbers tells
 pub le_or_over : (a b : ℕ) → (a ≤ b) ⊎ (b < a)

@@ -1,9 +1,11 @@
 -- Live snapshots in the table.
 use Rattle.std.specs.Prelude.{◌≡◌, ℕ, zero, suc, ◌+◌, ◌==◌, false, not, cond, List, [], ◌∷◌, Option, Some, None, Vec}
 use Rattle.std.specs.List.{count_by, filter, list_any}
-use Rattle.std.specs.BTreeMap.{BTreeMap, get, get_by}
+use Rattle.std.specs.BTreeMap.{BTreeMap, get_by}
 use Rattle.std.specs.Cmp.Lexicographic.{slice_cmp}
 use Rattle.std.specs.Ordering.{nat_cmp}
+use Rattle.counted_map.specs.declared.CountedMap.{CountedMap}
+use Rattle.counted_map.specs.Counts.{Counts}
 use Rattle.tx_events.specs.Horizon.{LiveSnap, is_snap_of}
 use Rattle.proc_table.specs.declared.live.LiveSnapshots.{LiveSnapshots}
 
@@ -25,14 +27,9 @@ AreApart (s ∷ ss) = (list_any (is_snap_of s.session s.name) ss ≡ false) × A
 abbrev pub with_xmin : List LiveSnap → ℕ → ℕ
 with_xmin snaps xmin = count_by (λ s. s.xmin == xmin) snaps
 
--- a number, where it isn't 0
-abbrev pub some_of : ℕ → Option ℕ
-some_of zero = None
-some_of (suc n) = Some (suc n)
-
 -- the map has each of these numbers that isn't 0, and nothing else
-abbrev pub IsTally : (ℕ → ℕ) → BTreeMap ℕ ℕ → Type 0
-IsTally f counts = (x : ℕ) → get nat_cmp counts x ≡ some_of (f x)
+abbrev pub IsTally : (ℕ → ℕ) → CountedMap ℕ → Type 0
+IsTally f counts = Counts nat_cmp f counts
 
 -- one more at x
 abbrev pub one_more : ℕ → (ℕ → ℕ) → ℕ → ℕ

@@ -37,7 +37,7 @@ impl LiveSnapshots {
         }
         Ok(LiveSnapshots {
             sessions: names,
-            xmins: BTreeMap::new(alloc),
+            xmins: XminCounts::new(alloc),
         })
     }
 
@@ -54,7 +54,7 @@ impl LiveSnapshots {
     /// Adds a snapshot under a name that the session has none of. After want of memory it holds what it held.
     pub fn insert(&mut self, session: u32, name: &Name, xmin: FullXid) -> Result<(), Memory>
         requires within { session < length self.old.sessions.items }
-        requires fits { IfSome (get nat_cmp self.old.xmins xmin) (λ n. n + 1 < 2 ^ 64) }
+        requires fits { IfSome (get nat_cmp self.old.xmins.counts xmin) (λ n. n + 1 < 2 ^ 64) }
         ensures ok { OnOk result ((snaps : List LiveSnap) → HoldsLive snaps self.old → list_any (is_snap_of session name.now) snaps ≡ false → HoldsLive (snaps ++ record { session = session; name = name.now; xmin = xmin } ∷ []) self.new) }
         ensures err { OnErr result ((snaps : List LiveSnap) → HoldsLive snaps self.old → HoldsLive snaps self.new) }
         ensures sessions { length self.new.sessions.items ≡ length self.old.sessions.items }

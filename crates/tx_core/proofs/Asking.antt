@@ -17,7 +17,8 @@ use Rattle.tx_core.specs.AbortRule.{AbortedFor, AskUnrecorded, AskedOf, IsSameAf
 use Rattle.tx_core.specs.CommitRecordsExact.{LeavesRecords, MayBeExact, RecordMay}
 use Rattle.tx_core.specs.Entries.{Link, Mark, asked_in, asks_in, changes_in, event_in, event_of, history, links_in, mark_of, marks_in}
 use Rattle.tx_core.specs.EventsLegal.{MayBeLegal, NeedsOwn}
-use Rattle.tx_core.specs.Lists.{Upheld, at}
+use Rattle.notes.specs.Lists.{at}
+use Rattle.tx_core.specs.Lists.{Upheld}
 use Rattle.tx_core.specs.Locks.{log_lock, proc_lock}
 use Rattle.tx_core.specs.LogBeforeStatus.{NeedsRecords, RecordOf}
 use Rattle.tx_core.specs.ParentsFollow.{IsGivenBelow, NeedsSubs}

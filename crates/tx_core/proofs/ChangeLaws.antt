@@ -12,7 +12,7 @@ use Rattle.tx_core.proofs.Keeping.{keeps}
 use Rattle.tx_core.specs.AbortRule.{AskUnrecorded, AskedOf, IsSameAfter}
 use Rattle.tx_core.specs.Entries.{Link, Mark}
 use Rattle.tx_core.specs.Laws.{AbortedKeeps, AreThere, ChangesKeep, CommittedKeeps, FaultKeeps, MayChange, MayLink, MayMark, ParentKeeps, RequestKeeps, SubCommittedKeeps, all_set, links_of, marks_of}
-use Rattle.tx_core.specs.Lists.{at}
+use Rattle.notes.specs.Lists.{at}
 use Rattle.tx_core.specs.Locks.{subtrans_lock, subtrans_page, xact_lock, xact_lock_of, xact_page}
 use Rattle.tx_core.specs.LogBeforeStatus.{RecordOf, TreeOf}
 use Rattle.tx_core.specs.PagesBeforeIds.{WasMade}

@@ -23,14 +23,14 @@ use Rattle.tx_core.specs.declared.entry.Entry.{Entry}
 use Rattle.tx_core.specs.declared.entry.Start.{Start}
 use Rattle.tx_core.proofs.Asking.{sub_of, upheld_has}
 use Rattle.tx_core.proofs.Deciding.{decides_by}
-use Rattle.tx_core.proofs.Growing.{begins_then}
+use Rattle.notes.proofs.Growing.{begins_then}
 use Rattle.tx_core.proofs.Lasting.{history_grows}
 use Rattle.tx_core.proofs.Saying.{says_exact, says_over}
 use Rattle.tx_core.proofs.Taking.{get_in_take, taken_twice}
 use Rattle.tx_core.specs.CommitRecordsExact.{IsExactIn, NeedsLinks}
 use Rattle.tx_core.specs.EngineInvariant.{EngineInvariant}
 use Rattle.tx_core.specs.Entries.{IsAppended, IsLinked, Link, appended, history, links_in}
-use Rattle.tx_core.specs.Lists.{Begins, at}
+use Rattle.notes.specs.Lists.{Begins, at}
 use Rattle.tx_core.specs.Locks.{log_lock, subtrans_lock_of}
 use Rattle.tx_core.specs.ParentsFollow.{NeedsSubs}
 use Rattle.tx_core.specs.Verdict.{Decides, IsClimb}

@@ -34,7 +34,7 @@ use Rattle.tx_core.specs.CleanStart.{CleanStart}
 use Rattle.tx_core.specs.CommitRecordsExact.{IsExactIn}
 use Rattle.tx_core.specs.EngineInvariant.{EngineInvariant}
 use Rattle.tx_core.specs.Entries.{IsMarked, event_of, history, marks}
-use Rattle.tx_core.specs.Lists.{at}
+use Rattle.notes.specs.Lists.{at}
 use Rattle.tx_core.specs.Locks.{proc_lock, xact_lock_of}
 use Rattle.tx_core.specs.StatusBeforeCommit.{NeedsStates}
 use Rattle.tx_core.specs.Verdict.{is_among, is_committed, says_ended, state_read, verdict}

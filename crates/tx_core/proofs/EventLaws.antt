@@ -13,7 +13,7 @@ use Rattle.tx_core.specs.AbortRule.{AbortsOf}
 use Rattle.tx_core.specs.CommitRecordsExact.{LeavesRecords}
 use Rattle.tx_core.specs.Entries.{appended, history}
 use Rattle.tx_core.specs.Laws.{AbortEventKeeps, AskKeeps, CommitEventKeeps, CommitRecordKeeps, IdEventKeeps, KindKeeps, MadeKeeps, OldestKeeps, SnapDropKeeps, SnapEventKeeps, SubEventKeeps, UndoEventKeeps}
-use Rattle.tx_core.specs.Lists.{at, own}
+use Rattle.notes.specs.Lists.{at, own}
 use Rattle.tx_core.specs.Locks.{log_lock, proc_lock}
 use Rattle.tx_core.specs.PagesBeforeIds.{PagesOf}
 use Rattle.tx_core.specs.StatusBeforeCommit.{StatesOf}

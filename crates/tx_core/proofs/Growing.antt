@@ -1,5 +1,5 @@
--- Lists that grow, and parts of the invariant that stay while they do.
-use Rattle.std.proofs.Common.{Contains, List, Option, Some, [], ap, append-nil, append_assoc, get_or-set_other, get_or-set_same, length, refl, subst, sym, take, ℕ, ⊎_elim, ◌++◌, ◌<◌, ◌∙◌, ◌∷◌, ◌≡◌, ◌≢◌}
+-- What stays of a list that grows, and parts of the invariant that stay while the lists do.
+use Rattle.std.proofs.Common.{Contains, List, Option, Some, [], ap, length, refl, subst, sym, take, ℕ, ⊎_elim, ◌++◌, ◌<◌, ◌∙◌, ◌∷◌, ◌≡◌, ◌≢◌}
 use Rattle.std.proofs.Math.Seq.{take-append_seam}
 use Rattle.std.proofs.lemmas.Grind.{flat_map-append}
 use Rattle.std.proofs.lemmas.List.Elements.{Contains-append_left, filter_map-append}
@@ -7,18 +7,11 @@ use Rattle.std.specs.List.{filter_map, flat_map, slice_get}
 use mathlib.Core.Logic.{dite}
 use native.Mathlib.Decide.{ℕ_discrete}
 use Rattle.tx_events.proofs.PlaceLemmas.{slice_get-grows, slice_get-push, take-grows}
-use Rattle.tx_core.specs.Lists.{Begins, Grows, IsLasting, Upheld, add, at}
+use Rattle.notes.proofs.Growing.{at_else, at_here, begins_same, grows_add}
+use Rattle.notes.specs.Lists.{Begins, Grows, add, at}
+use Rattle.tx_core.specs.Lists.{IsLasting, Upheld}
 
 module _ {A : Type 0} where
-  pub begins_same : (xs : List A) → Begins xs xs
-  begins_same xs = ([], append-nil xs)
-
-  pub begins_push : (xs : List A) (x : A) → Begins xs (xs ++ x ∷ [])
-  begins_push xs x = (x ∷ [], refl)
-
-  pub begins_then : (xs ys zs : List A) → Begins xs ys → Begins ys zs → Begins xs zs
-  begins_then xs ys zs b d = (b.0 ++ d.0, sym (append_assoc xs b.0 d.0) ∙ ap (λ (t : List A). t ++ d.0) b.1 ∙ d.1)
-
   pub contains_begins : (xs ys : List A) (x : A) → Begins xs ys → Contains xs x → Contains ys x
   contains_begins xs ys x b h = subst (λ (t : List A). Contains t x) b.1 (Contains-append_left xs b.0 x h)
 
@@ -36,19 +29,6 @@ module _ {A B : Type 0} where
   begins_flat_map f xs ys b = (flat_map f b.0, sym (flat_map-append f xs b.0) ∙ ap (λ (t : List A). flat_map f t) b.1)
 
 module _ {E : Type 0} where
-  pub at_here : (lists : List (List E)) (lock : ℕ) (e : E) → lock < length lists → at (add lists lock e) lock ≡ at lists lock ++ e ∷ []
-  at_here lists lock e h = get_or-set_same lists lock (at lists lock ++ e ∷ []) [] h
-
-  pub at_else : (lists : List (List E)) (lock other : ℕ) (e : E) → other ≢ lock → at (add lists lock e) other ≡ at lists other
-  at_else lists lock other e n = get_or-set_other lists lock other (at lists lock ++ e ∷ []) [] n
-
-  pub grows_add : (lists : List (List E)) (lock : ℕ) (e : E) → lock < length lists → Grows lists (add lists lock e)
-  grows_add lists lock e h = record {
-    begins = λ other. dite (ℕ_discrete other lock)
-        (λ (q : other ≡ lock). subst (λ z. Begins (at lists z) (at (add lists lock e) z)) (sym q) (subst (λ (t : List E). Begins (at lists lock) t) (sym (at_here lists lock e h)) (begins_push (at lists lock) e)))
-        (λ n. subst (λ (t : List E). Begins (at lists other) t) (sym (at_else lists lock other e n)) (begins_same (at lists other)));
-  }
-
   -- an entry that has what it needs of the seen lists keeps the part
   pub upheld_add : (Need : List (List E) → ℕ → List E → E → Type 0) → IsLasting Need → (seen lists : List (List E)) (lock : ℕ) (e : E) → lock < length lists → Grows seen lists → at seen lock ≡ at lists lock → Upheld Need lists → Need seen lock (at seen lock) e → Upheld Need (add lists lock e)
   upheld_add Need lasting seen lists lock e inside sees whole old need = record {

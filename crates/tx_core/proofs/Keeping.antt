@@ -24,7 +24,8 @@ use Rattle.tx_core.specs.CommitRecordsExact.{CommitRecordsExact, HasNoRecord, Is
 use Rattle.tx_core.specs.EngineInvariant.{EngineInvariant, MayAdd}
 use Rattle.tx_core.specs.Entries.{IsAppended, Mark, asks_in, event_of, events_in, history, session_of}
 use Rattle.tx_core.specs.EventsLegal.{EventsLegal, NeedsOwn}
-use Rattle.tx_core.specs.Lists.{IsLasting, Knows, Upheld, add, at, own}
+use Rattle.notes.specs.Lists.{Knows, add, at, own}
+use Rattle.tx_core.specs.Lists.{IsLasting, Upheld}
 use Rattle.tx_core.specs.Locks.{log_lock, proc_lock}
 use Rattle.tx_core.specs.LogBeforeStatus.{LogBeforeStatus, NeedsRecords, NeedsTree}
 use Rattle.tx_core.specs.PagesBeforeIds.{NeedsPages, NeedsPlace, PagesBeforeIds}

@@ -17,7 +17,8 @@ use Rattle.tx_core.specs.AbortRule.{AbortsOf, AskedOf, AsksAbort, NeedsAborts, N
 use Rattle.tx_core.specs.CommitRecordsExact.{LinksOf, NeedsLinks}
 use Rattle.tx_core.specs.Entries.{IsAppended, IsFlushed, IsLinked, IsMarked, Stands, appended, event_of, events_in, history, links_in, marks, marks_in, records_of}
 use Rattle.tx_core.specs.EventsLegal.{NeedsOwn}
-use Rattle.tx_core.specs.Lists.{Begins, Grows, IsLasting, at}
+use Rattle.notes.specs.Lists.{Begins, Grows, at}
+use Rattle.tx_core.specs.Lists.{IsLasting}
 use Rattle.tx_core.specs.Locks.{log_lock, proc_lock, subtrans_lock_of, xact_lock_of}
 use Rattle.tx_core.specs.LogBeforeStatus.{IsDurable, NeedsRecords, NeedsTree, RecordOf, TreeOf}
 use Rattle.tx_core.specs.PagesBeforeIds.{IsMade, IsTold, NeedsPages, NeedsPlace, PagesOf}

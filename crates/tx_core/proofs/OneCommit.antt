@@ -12,14 +12,14 @@ use Rattle.tx_core.specs.declared.entry.Start.{Start}
 use Rattle.tx_core.proofs.Asking.{all_has}
 use Rattle.tx_core.proofs.ChangeLaws.{committed_law}
 use Rattle.tx_core.proofs.EventLaws.{commit_event_law, commit_record_law, id_event_law, snap_event_law}
-use Rattle.tx_core.proofs.Growing.{begins_same}
+use Rattle.notes.proofs.Growing.{begins_same}
 use Rattle.tx_core.proofs.Opening.{opens}
 use Rattle.tx_core.proofs.Quiet.{flush_law}
 use Rattle.tx_core.specs.AbortRule.{AsksAbort}
 use Rattle.tx_core.specs.EngineInvariant.{EngineInvariant}
 use Rattle.tx_core.specs.Entries.{IsMarked, Mark, asks_in, history, session_of}
 use Rattle.tx_core.specs.Laws.{all_set}
-use Rattle.tx_core.specs.Lists.{Knows, add, at}
+use Rattle.notes.specs.Lists.{Knows, add, at}
 use Rattle.tx_core.specs.Locks.{log_lock, proc_lock, xact_lock, xact_lock_of, xact_page}
 use Rattle.tx_core.specs.LogBeforeStatus.{InTree, IsDurable}
 use Rattle.tx_core.specs.PagesBeforeIds.{WasMade}

@@ -12,7 +12,7 @@ use Rattle.tx_core.specs.AbortRule.{AskUnrecorded, AsksAbort}
 use Rattle.tx_core.specs.EngineInvariant.{EngineInvariant}
 use Rattle.tx_core.specs.Entries.{IsAppended, IsMarked, Mark}
 use Rattle.tx_core.specs.Laws.{MayChange, MayMark, all_set, marks_of}
-use Rattle.tx_core.specs.Lists.{add, at}
+use Rattle.notes.specs.Lists.{add, at}
 use Rattle.tx_core.specs.Locks.{log_lock, proc_lock, xact_lock}
 use Rattle.tx_events.specs.declared.event.Event.TheVariants as events
 use Rattle.tx_core.specs.declared.entry.Kind.TheVariants as kinds

@@ -15,7 +15,8 @@ use Rattle.tx_core.specs.CommitRecordsExact.{NeedsLinks}
 use Rattle.tx_core.specs.Entries.{Mark, asks_in, events_in, history, marks, marks_in}
 use Rattle.tx_core.specs.EventsLegal.{NeedsOwn}
 use Rattle.tx_core.specs.Laws.{NeverAborted, Opens}
-use Rattle.tx_core.specs.Lists.{Upheld, at}
+use Rattle.notes.specs.Lists.{at}
+use Rattle.tx_core.specs.Lists.{Upheld}
 use Rattle.tx_core.specs.Locks.{log_lock, proc_lock, xact_lock_of}
 use Rattle.tx_core.specs.LogBeforeStatus.{NeedsRecords, NeedsTree}
 use Rattle.tx_core.specs.PagesBeforeIds.{NeedsPages, NeedsPlace}

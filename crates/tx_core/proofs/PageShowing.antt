@@ -16,7 +16,7 @@ use Rattle.tx_core.specs.declared.entry.Start.{Start}
 use Rattle.tx_core.proofs.Reading.{last_or-append, state_from}
 use Rattle.tx_core.specs.EngineInvariant.{EngineInvariant}
 use Rattle.tx_core.specs.Entries.{Link, Mark, changes_in, link_of, links_in, mark_of, marks_in}
-use Rattle.tx_core.specs.Lists.{at}
+use Rattle.notes.specs.Lists.{at}
 use Rattle.tx_core.specs.Locks.{subtrans_page, xact_page}
 use Rattle.tx_core.specs.Pages.{Pages, PagesShow, ParentsShow, Store, after_entry, pages_after, parent_for, set_by, subtrans_store, xact_store, zeroed, zeroed_in}
 use Rattle.tx_core.specs.PagesBeforeIds.{WasMade}

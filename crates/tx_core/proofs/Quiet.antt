@@ -15,7 +15,7 @@ use Rattle.tx_core.specs.AbortRule.{AbortsOf, AskUnrecorded, AskedOf, IsSameAfte
 use Rattle.tx_core.specs.CommitRecordsExact.{LeavesRecords, LinksOf, RecordMay}
 use Rattle.tx_core.specs.Entries.{EachMark, Link, Mark, asked_in, changes_in, event_in, events_in, history, link_of, mark_of}
 use Rattle.tx_core.specs.Laws.{CutKeeps, FlushKeeps, ForgetKeeps, KindKeeps, LogFaultKeeps, LookKeeps, MultiEventKeeps, OtherRecordKeeps, SyncKeeps, ZeroKeeps, is_commit_record}
-use Rattle.tx_core.specs.Lists.{at}
+use Rattle.notes.specs.Lists.{at}
 use Rattle.tx_core.specs.Locks.{log_lock, multi_lock, subtrans_page, xact_page}
 use Rattle.tx_core.specs.LogBeforeStatus.{RecordOf, TreeOf}
 use Rattle.tx_core.specs.PagesBeforeIds.{PagesOf, WasMade}

@@ -21,7 +21,7 @@ use Rattle.tx_core.proofs.Exactness.{exact_given}
 use Rattle.tx_core.specs.AbortRule.{NeedsAsked, NeedsSame}
 use Rattle.tx_core.specs.EngineInvariant.{EngineInvariant}
 use Rattle.tx_core.specs.Entries.{IsAppended, IsFlushed, IsMarked, Mark, appended, appended_in, history, marks, marks_in, records_of}
-use Rattle.tx_core.specs.Lists.{at}
+use Rattle.notes.specs.Lists.{at}
 use Rattle.tx_core.specs.Locks.{log_lock, xact_lock_of}
 use Rattle.tx_core.specs.LogBeforeStatus.{IsDurable, NeedsRecords, RecordOf}
 use Rattle.tx_core.specs.Verdict.{state_for, state_read}

@@ -19,13 +19,13 @@ use Rattle.tx_events.specs.Running.{is_open, open_ids}
 use Rattle.tx_core.specs.declared.entry.Entry.{Entry}
 use Rattle.tx_core.specs.declared.entry.Start.{Start}
 use Rattle.tx_core.proofs.Asking.{own_event, upheld_has}
-use Rattle.tx_core.proofs.Growing.{at_else, at_here}
+use Rattle.notes.proofs.Growing.{at_else, at_here}
 use Rattle.tx_core.proofs.Lasting.{history_grows}
 use Rattle.tx_core.specs.AbortRule.{AsksAbort}
 use Rattle.tx_core.specs.EngineInvariant.{EngineInvariant}
 use Rattle.tx_core.specs.Entries.{IsAppended, Mark, asks_in, event_of, events_in, history, session_of}
 use Rattle.tx_core.specs.EventsLegal.{NeedsOwn}
-use Rattle.tx_core.specs.Lists.{Knows, add, at, own}
+use Rattle.notes.specs.Lists.{Knows, add, at, own}
 use Rattle.tx_core.specs.Locks.{log_lock, proc_lock}
 use Rattle.tx_core.specs.declared.entry.Kind.TheVariants as kinds
 use Rattle.tx_core.specs.declared.entry.State.TheVariants as states

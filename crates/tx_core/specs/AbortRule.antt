@@ -13,7 +13,8 @@ use Rattle.tx_core.specs.declared.entry.Kind.TheVariants as kinds
 use Rattle.tx_core.specs.declared.entry.Start.{Start}
 use Rattle.tx_core.specs.declared.entry.State.{State}
 use Rattle.tx_core.specs.declared.entry.State.TheVariants as states
-use Rattle.tx_core.specs.Lists.{at, Upheld}
+use Rattle.notes.specs.Lists.{at}
+use Rattle.tx_core.specs.Lists.{Upheld}
 use Rattle.tx_core.specs.Locks.{log_lock}
 use Rattle.tx_core.specs.Entries.{Mark, asks_in, events_in, history, marks, EachMark, EachAsk, IsMarked, IsAppended}
 

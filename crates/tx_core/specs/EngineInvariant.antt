@@ -2,7 +2,7 @@
 use Rattle.std.specs.Prelude.{ℕ, List}
 use Rattle.tx_core.specs.declared.entry.Entry.{Entry}
 use Rattle.tx_core.specs.declared.entry.Start.{Start}
-use Rattle.tx_core.specs.Lists.{at}
+use Rattle.notes.specs.Lists.{at}
 use Rattle.tx_core.specs.EventsLegal.{EventsLegal, MayBeLegal}
 use Rattle.tx_core.specs.PagesBeforeIds.{PagesBeforeIds, MayHavePages}
 use Rattle.tx_core.specs.ParentsFollow.{ParentsFollow, NeedsSubs}

@@ -11,7 +11,7 @@ use Rattle.tx_core.specs.declared.entry.Kind.{Kind}
 use Rattle.tx_core.specs.declared.entry.Kind.TheVariants as kinds
 use Rattle.tx_core.specs.declared.entry.Start.{Start}
 use Rattle.tx_core.specs.declared.entry.State.{State}
-use Rattle.tx_core.specs.Lists.{at}
+use Rattle.notes.specs.Lists.{at}
 use Rattle.tx_core.specs.Locks.{log_lock, proc_lock, xact_lock_of, subtrans_lock_of}
 
 abbrev pub session_of : Entry → ℕ

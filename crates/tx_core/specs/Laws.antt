@@ -20,7 +20,7 @@ use Rattle.tx_core.specs.AbortRule.{AskUnrecorded, AskedOf, AsksAbort, IsSameAft
 use Rattle.tx_core.specs.CommitRecordsExact.{HasNoRecord}
 use Rattle.tx_core.specs.EngineInvariant.{EngineInvariant, MayAdd}
 use Rattle.tx_core.specs.Entries.{IsAppended, IsLinked, IsMarked, Link, Mark, history, link_of, mark_of, marks, session_of}
-use Rattle.tx_core.specs.Lists.{Grows, Knows, add, at}
+use Rattle.notes.specs.Lists.{Grows, Knows, add, at}
 use Rattle.tx_core.specs.Locks.{IsPageLock, log_lock, multi_lock, proc_lock, subtrans_lock, subtrans_lock_of, subtrans_page, xact_lock, xact_lock_of, xact_page}
 use Rattle.tx_core.specs.LogBeforeStatus.{InTree, IsDurable, RecordOf, TreeOf}
 use Rattle.tx_core.specs.PagesBeforeIds.{IsMade, IsTold, WasMade}

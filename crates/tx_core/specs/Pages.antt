@@ -8,7 +8,7 @@ use Rattle.tx_core.specs.declared.entry.State.{State}
 use Rattle.tx_core.specs.CleanStart.{CleanStart}
 use Rattle.tx_core.specs.EngineInvariant.{EngineInvariant}
 use Rattle.tx_core.specs.Entries.{Link, Mark, links_in, marks, marks_in}
-use Rattle.tx_core.specs.Lists.{at}
+use Rattle.notes.specs.Lists.{at}
 use Rattle.tx_core.specs.Locks.{subtrans_page, xact_page}
 use Rattle.tx_core.specs.Verdict.{state_for, state_read}
 use Rattle.tx_core.specs.declared.entry.Kind.TheVariants as kinds

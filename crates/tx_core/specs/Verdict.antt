@@ -13,7 +13,7 @@ use Rattle.tx_core.specs.declared.entry.State.{State}
 use Rattle.tx_core.specs.CleanStart.{CleanStart}
 use Rattle.tx_core.specs.EngineInvariant.{EngineInvariant}
 use Rattle.tx_core.specs.Entries.{IsLinked, Mark, history, marks}
-use Rattle.tx_core.specs.Lists.{Grows, at}
+use Rattle.notes.specs.Lists.{Grows, at}
 use Rattle.tx_core.specs.Locks.{xact_lock_of}
 use Rattle.tx_events.specs.declared.event.Event.TheVariants as events
 use Rattle.tx_core.specs.declared.entry.State.TheVariants as states

@@ -3,9 +3,8 @@ ghost use Rattle.std.specs.Prelude.{◌≤◌, ◌<◌, ◌^◌};
 
 use crate::tests::LOG;
 use crate::*;
-use disk_core::{
-    Crash, Extent, Failed, Fuse, FusedLog, LogDisk, Media, MemLog, MemMedia, Volumes, Which,
-};
+use disk_core::{Crash, Extent, Failed, LogDisk, Media, MemLog, MemMedia, Volumes, Which};
+use disk_fuse::{Fuse, FusedLog};
 use std::alloc::Global;
 use std::test::Fail;
 use tx_events::{Counters, IdList, Member, MemberList, Mode, Rec};

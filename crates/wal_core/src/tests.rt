@@ -2,7 +2,8 @@
 ghost use Rattle.std.specs.Prelude.{◌≤◌, ◌<◌, ◌^◌, length};
 
 use super::*;
-use disk_core::{Fuse, Media, MemLog, MemMedia, Which};
+use disk_core::{Media, MemLog, MemMedia, Which};
+use disk_fuse::Fuse;
 use std::alloc::Global;
 use std::test::Fail;
 

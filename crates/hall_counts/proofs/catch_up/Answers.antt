@@ -1,6 +1,6 @@
 use Rattle.hall_counts.proofs.Counting.{catches, caught_by}
 use Rattle.std.proofs.Common.{arith, ap, refl, subst, sym, ◌∙◌, ◌+◌, ◌≡◌, ℕ, List, ◌++◌, ◌∷◌, []}
-use Rattle.hall.specs.Lists.{at}
+use Rattle.notes.specs.Lists.{at}
 use Rattle.hall.specs.Calls.{view}
 use Rattle.hall_counts.specs.declared.Entry.{Entry}
 use Rattle.hall_counts.specs.Tally.{total, last, May}

@@ -1,6 +1,6 @@
 use Rattle.std.proofs.Common.{ap, ◌∙◌, ◌+◌, arith}
 use Rattle.hall_counts.proofs.Counting.{tells}
-use Rattle.hall.specs.Lists.{at}
+use Rattle.notes.specs.Lists.{at}
 use Rattle.hall.specs.Calls.{view}
 use Rattle.hall_counts.specs.declared.Entry.{Entry}
 use Rattle.hall_counts.specs.Keeping.{last_more}

@@ -1,5 +1,5 @@
 use Rattle.std.proofs.Common.{refl, arith, length-set, ◌∙◌}
-use Rattle.hall.proofs.Carrying.{names_step, no_names}
+use Rattle.notes.proofs.Names.{names_step, no_names}
 use Rattle.hall.proofs.parts.first_names.Goals as goal
 
 pub loop-i-init : goal.loop-i-init

@@ -5,4 +5,4 @@ abbrev pub invariant-loop : goal.invariant-loop
 invariant-loop g l = (vec_len l.mutexes ≡ l.counter) × (l.plan.locks ≤ vec_capacity l.mutexes)
 
 abbrev pub invariant-loop-number : goal.invariant-loop-number
-invariant-loop-number g l = (vec_len l.numbers ≡ l.number) × (l.threads ≤ vec_capacity l.numbers)
+invariant-loop-number g l = (vec_len l.numbers ≡ l.number) × (l.crew.sessions ≤ vec_capacity l.numbers)

@@ -15,7 +15,7 @@ store-requires g c =
       c.requires.own.table,
       omega arith,
       leave_allowed _ _ _ _ _ f _ _ _ _ _ _ _ _ _ _ _ _ c.put-gone.new.self _ c.args.entry (sym slots) (sees_places _ _ _ _ _ f _ _ _ (ap (λ z. z.words) c.requires.own.table ∙ c.args.self.now.sized.1) c.args.self.now.places) (let p = c.args.self.now.places in omega arith) at c.requires.inside refl (ap (λ z. z.note) left) (ap (λ z. z.value) left) c.requires.session c.requires.stands
-          (λ ls k n lt e. g.L.Law.keeps _ ls _ _ c.args.entry.value k n lt e c.requires.may),
+          (λ ls k n own lt e. g.L.Law.keeps _ ls _ _ c.args.entry.value k n own lt e c.requires.may),
     )
 
 pub invariant_of-pass : goal.invariant_of-pass

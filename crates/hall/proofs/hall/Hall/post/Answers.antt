@@ -16,7 +16,7 @@ compare_exchange_with-requires g c =
       e.0 ∙ own,
       omega arith,
       posts_here _ _ _ _ _ _ _ _ _ _ _ c.args.word (c.args.self.now.cells + c.args.word) _ _ c.args.pass.now.seat.me _ _ c.args.entry e.2.0 (omega arith) (omega arith) (sees_places _ _ _ _ _ c.args.pass.now.fits _ _ _ (ap (λ z. z.words) c.requires.own.table ∙ c.args.self.now.sized.1) c.args.self.now.places) (omega arith) c.new-said.ensures.1 c.args.pass.now.fits.named r.session r.writes (e.2.1 _ _ (c.line_at-at.ensures) r.own.start) r.number
-          (λ ls k n lt whole. g.L.Law.keeps _ ls _ _ c.args.entry.value k n lt whole r.may),
+          (λ ls k n own lt whole. g.L.Law.keeps _ ls _ _ c.args.entry.value k n own lt whole r.may),
     )
 
 pub invariant_of-pass : goal.invariant_of-pass

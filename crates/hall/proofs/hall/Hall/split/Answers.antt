@@ -1,6 +1,6 @@
 use Rattle.std.proofs.Common.{arith, ap, ◌∙◌, []}
 use Rattle.hall.specs.Told.{giving, given}
-use Rattle.hall.proofs.Merging.{blank}
+use Rattle.notes.proofs.Names.{blank}
 use Rattle.hall.proofs.Splits.{asks_name}
 use Rattle.hall.proofs.Parting.{fits_giving, fits_given, asked_splits}
 use Rattle.hall.proofs.hall.Hall.split.Goals as goal

@@ -1,0 +1,14 @@
+-- Keys that are numbers.
+use Rattle.std.proofs.Common.{◌≡◌, ℕ, ◌<◌, Bool, true, false, ◌==◌, cond, refl, arith, Less, Equal, Greater}
+use Rattle.std.proofs.lemmas.Bool.Decides.{nat_tests}
+use Rattle.std.specs.Prelude.{nat_lt}
+use Rattle.std.specs.Ordering.{nat_cmp, is_eq}
+
+pub cmp_eq : (a b : ℕ) → is_eq (nat_cmp a b) ≡ (a == b)
+cmp_eq a b = one (nat_lt a b) refl (a == b) refl
+  where
+    one : (c : Bool) → nat_lt a b ≡ c → (d : Bool) → (a == b) ≡ d → is_eq (cond c Less (cond d Equal Greater)) ≡ d
+    one true e true f = absurd (let l : a < b = grind (arith, nat_tests) in let k : a ≡ b = grind (arith, nat_tests) in omega arith)
+    one true e false f = refl
+    one false e true f = refl
+    one false e false f = refl

@@ -1,4 +1,0 @@
-use Rattle.disk_core.proofs.note.Note.by.Given as goal
-
-abbrev pub ghost-of : goal.ghost-of
-ghost-of g a = g.noted

@@ -1,0 +1,102 @@
+-- The volumes of a fused media: each passes its calls on, and one of them only so many.
+use Rattle.std.specs.Prelude.{◌≡◌, ℕ, ◌+◌, ◌≤◌, ◌==◌, Bool, true, false, List, [], ◌∷◌, length, slice_index, vec_capacity, Option, Some, None}
+use Rattle.disk_fuse.specs.declared.fused_log.FusedLog.{FusedLog}
+use Rattle.disk_fuse.specs.declared.fused_pages.FusedPages.{FusedPages}
+use Rattle.disk_core.specs.declared.media.Volumes.{Volumes}
+use Rattle.disk_core.specs.declared.media.Which.{Which}
+use Rattle.disk_core.specs.declared.media.Which.TheVariants.{Log, Xact, Subtrans, Offsets, Members}
+
+abbrev pub is_log : Which → Bool
+is_log Log = true
+is_log (Xact n) = false
+is_log (Subtrans n) = false
+is_log (Offsets n) = false
+is_log (Members n) = false
+
+-- its bank, if it is of that store
+abbrev pub xact_bank : Which → Option ℕ
+xact_bank Log = None
+xact_bank (Xact n) = Some n
+xact_bank (Subtrans n) = None
+xact_bank (Offsets n) = None
+xact_bank (Members n) = None
+
+abbrev pub subtrans_bank : Which → Option ℕ
+subtrans_bank Log = None
+subtrans_bank (Xact n) = None
+subtrans_bank (Subtrans n) = Some n
+subtrans_bank (Offsets n) = None
+subtrans_bank (Members n) = None
+
+abbrev pub offsets_bank : Which → Option ℕ
+offsets_bank Log = None
+offsets_bank (Xact n) = None
+offsets_bank (Subtrans n) = None
+offsets_bank (Offsets n) = Some n
+offsets_bank (Members n) = None
+
+abbrev pub members_bank : Which → Option ℕ
+members_bank Log = None
+members_bank (Xact n) = None
+members_bank (Subtrans n) = None
+members_bank (Offsets n) = None
+members_bank (Members n) = Some n
+
+abbrev pub is_at : Option ℕ → ℕ → Bool
+is_at None i = false
+is_at (Some n) i = n == i
+
+-- the limit, where the volume is the fused one
+abbrev pub limit_of : Bool → Option ℕ → Option ℕ
+limit_of true passes = passes
+limit_of false passes = None
+
+-- the banks from number i on, with the counts of what each refused before
+abbrev pub fused_banks : {P : Type 0} → Option ℕ → Option ℕ → List ℕ → ℕ → List P → List (FusedPages P)
+fused_banks at passes refused i [] = []
+fused_banks at passes refused i (p ∷ ps) =
+    record { inner = p; left = limit_of (is_at at i) passes; refused = slice_index refused i } ∷ fused_banks at passes refused (i + 1) ps
+
+abbrev pub inner_banks : {P : Type 0} → List (FusedPages P) → List P
+inner_banks [] = []
+inner_banks (f ∷ fs) = f.inner ∷ inner_banks fs
+
+abbrev pub refusals : {P : Type 0} → List (FusedPages P) → List ℕ
+refusals [] = []
+refusals (f ∷ fs) = f.refused ∷ refusals fs
+
+-- the volumes with a limit on one, and with the counts of what each refused in the lives before
+pub record IsFused {L P : Type 0} (at : Which) (passes : Option ℕ) (refused : Volumes ℕ ℕ) (volumes : Volumes L P) (fused : Volumes (FusedLog L) (FusedPages P)) : Type 0 where
+  pub log : fused.log ≡ record { inner = volumes.log; left = limit_of (is_log at) passes; refused = refused.log }
+  pub xact : fused.xact.items ≡ fused_banks (xact_bank at) passes refused.xact.items 0 volumes.xact.items
+  pub subtrans : fused.subtrans.items ≡ fused_banks (subtrans_bank at) passes refused.subtrans.items 0 volumes.subtrans.items
+  pub offsets : fused.offsets.items ≡ fused_banks (offsets_bank at) passes refused.offsets.items 0 volumes.offsets.items
+  pub members : fused.members.items ≡ fused_banks (members_bank at) passes refused.members.items 0 volumes.members.items
+
+pub record IsUnfused {L P : Type 0} (fused : Volumes (FusedLog L) (FusedPages P)) (volumes : Volumes L P) (refused : Volumes ℕ ℕ) : Type 0 where
+  pub log : volumes.log ≡ fused.log.inner
+  pub xact : volumes.xact.items ≡ inner_banks fused.xact.items
+  pub subtrans : volumes.subtrans.items ≡ inner_banks fused.subtrans.items
+  pub offsets : volumes.offsets.items ≡ inner_banks fused.offsets.items
+  pub members : volumes.members.items ≡ inner_banks fused.members.items
+  pub log_refused : refused.log ≡ fused.log.refused
+  pub xact_refused : refused.xact.items ≡ refusals fused.xact.items
+  pub subtrans_refused : refused.subtrans.items ≡ refusals fused.subtrans.items
+  pub offsets_refused : refused.offsets.items ≡ refusals fused.offsets.items
+  pub members_refused : refused.members.items ≡ refusals fused.members.items
+
+-- empty vectors with room for the banks
+pub record HasRoomFor {L P U T : Type 0} (volumes : Volumes L P) (room : Volumes U T) : Type 0 where
+  pub xact : (room.xact.items ≡ []) × (length volumes.xact.items ≤ vec_capacity room.xact)
+  pub subtrans : (room.subtrans.items ≡ []) × (length volumes.subtrans.items ≤ vec_capacity room.subtrans)
+  pub offsets : (room.offsets.items ≡ []) × (length volumes.offsets.items ≤ vec_capacity room.offsets)
+  pub members : (room.members.items ≡ []) × (length volumes.members.items ≤ vec_capacity room.members)
+
+-- what the next mount gives: what was given back, or what the media within gives
+abbrev pub fuse_gives : {L P : Type 0} → (Volumes L P → Type 0) → Option (Volumes (FusedLog L) (FusedPages P)) → Which → Option ℕ → Volumes ℕ ℕ → Volumes (FusedLog L) (FusedPages P) → Type 0
+fuse_gives inner (Some held) at passes refused volumes = volumes ≡ held
+fuse_gives {L = L} {P = P} inner None at passes refused volumes = (w : Volumes L P) × inner w × IsFused at passes refused w volumes
+
+abbrev pub fuse_is_new : {V : Type 0} → Bool → Option V → Bool
+fuse_is_new inner (Some held) = false
+fuse_is_new inner None = inner

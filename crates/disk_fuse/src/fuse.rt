@@ -1,0 +1,156 @@
+//! A media with a fuse: one volume passes so many calls, then fails each without doing it, until a crash.
+ghost use Rattle.std.specs.Prelude.{◌≡◌, ◌+◌, ◌≤◌, Some, None, IsTrue, OnOk, OnErr, IfOk, false};
+ghost use Rattle.disk_core.specs.Faults.{CountsFault};
+
+use crate::fused_volumes::{fuse_all, unfuse_all};
+use crate::{FusedLog, FusedPages};
+use disk_core::{Crash, Failed, Media, MountRefusal, Volumes, Which};
+use std::alloc::Global;
+
+#[derive(Drop)]
+pub struct Fuse<M: Media> {
+    alloc: Global,
+    inner: M,
+    at: Which,
+    // How many calls the volume passes, until the first crash.
+    passes: Option<u64>,
+    // How often each volume refused a call in the lives before.
+    refused: Volumes<u64, u64>,
+    held: Option<Volumes<FusedLog<M::Log>, FusedPages<M::Pages>>>,
+    is_mounted: bool,
+    faults: u64,
+    ghost idle: { is_mounted ≡ false → held ≡ None → IsTrue (M.is_idle inner) },
+}
+
+impl<M: Media> Fuse<M> {
+    ghost use Rattle.std.specs.Prelude.{◌≡◌, Some, None, IsTrue};
+
+    /// A media whose volume `at` passes so many calls.
+    pub fn new(alloc: Global, inner: M, at: Which, passes: u64) -> Fuse<M>
+        requires { IsTrue (M.is_idle inner) }
+        ensures inner { result.inner ≡ inner }
+        ensures at { result.at ≡ at }
+        ensures passes { result.passes ≡ Some passes }
+        ensures idle { result.is_mounted ≡ false }
+        ensures held { result.held ≡ None }
+    {
+        let refused = Volumes {
+            log: 0,
+            xact: Vec::new(alloc),
+            subtrans: Vec::new(alloc),
+            offsets: Vec::new(alloc),
+            members: Vec::new(alloc),
+        };
+        Fuse {
+            alloc,
+            inner,
+            at,
+            passes: Some(passes),
+            refused,
+            held: None,
+            is_mounted: false,
+            faults: 0,
+        }
+    }
+}
+
+impl<M: Media> Media for Fuse<M> {
+    type Log = FusedLog<M::Log>;
+
+    type Pages = FusedPages<M::Pages>;
+
+    ghost use Rattle.std.specs.Prelude.{◌≡◌, ◌+◌, ◌≤◌, not, None, IsTrue, IfOk, OnOk, OnErr, false};
+    ghost use Rattle.disk_core.specs.Faults.{CountsFault};
+    ghost use Rattle.disk_core.specs.Images.{NoMore, Only};
+    ghost use Rattle.disk_core.specs.Media.{HasBanks, HaveSameBanks, CountsMount, LogCrashed, PagesCrashed, AllCrashed};
+    ghost use Rattle.disk_core.specs.declared.media.Volumes.{Volumes};
+    ghost use Rattle.disk_fuse.specs.declared.fused_log.FusedLog.{FusedLog};
+    ghost use Rattle.disk_fuse.specs.declared.fused_pages.FusedPages.{FusedPages};
+    ghost use Rattle.disk_fuse.specs.FuseMedia.{fuse_gives, fuse_is_new};
+
+    ghost is_idle = { λ f. not f.is_mounted };
+
+    ghost is_new = { λ f. fuse_is_new (M.is_new f.inner) f.held };
+
+    ghost gives = { λ f. fuse_gives (M.gives f.inner) f.held f.at f.passes f.refused };
+
+    ghost faults = { λ f. M.faults f.inner + f.faults };
+
+    fn mount(
+        &mut self,
+        banks: u32,
+    ) -> Result<Volumes<FusedLog<M::Log>, FusedPages<M::Pages>>, MountRefusal>
+        requires idle { self.old.is_mounted ≡ false }
+        requires some { 1 ≤ banks }
+        requires few { banks ≤ 16 }
+        ensures again { fuse_is_new (M.is_new self.old.inner) self.old.held ≡ false → IfOk result (fuse_gives (M.gives self.old.inner) self.old.held self.old.at self.old.passes self.old.refused) }
+        ensures first { IsTrue (fuse_is_new (M.is_new self.old.inner) self.old.held) → IfOk result (HasBanks banks) }
+        ensures mounted { OnOk result (not self.new.is_mounted ≡ false) }
+        ensures idle { OnErr result (IsTrue (not self.new.is_mounted)) }
+        ensures kept { OnErr result (fuse_is_new (M.is_new self.old.inner) self.old.held ≡ false → (fuse_is_new (M.is_new self.new.inner) self.new.held ≡ false)
+            × NoMore (fuse_gives (M.gives self.old.inner) self.old.held self.old.at self.old.passes self.old.refused) (fuse_gives (M.gives self.new.inner) self.new.held self.new.at self.new.passes self.new.refused)) }
+        ensures cause { CountsMount result (M.faults self.old.inner + self.old.faults) (M.faults self.new.inner + self.new.faults) }
+    {
+        match self.held.take() {
+            Some(volumes) => {
+                self.is_mounted = true;
+                Ok(volumes)
+            }
+            None => {
+                let volumes = self.inner.mount(banks)?;
+                match fuse_all(self.alloc, volumes, self.at, self.passes, &self.refused) {
+                    Ok(fused) => {
+                        self.is_mounted = true;
+                        Ok(fused)
+                    }
+                    Err(volumes) => {
+                        self.inner.rest(volumes);
+                        Err(MountRefusal::Memory)
+                    }
+                }
+            }
+        }
+    }
+
+    fn crash(
+        &mut self,
+        volumes: Volumes<FusedLog<M::Log>, FusedPages<M::Pages>>,
+        how: Crash,
+    ) -> Result<(), Failed>
+        ensures idle { IsTrue (not self.new.is_mounted) }
+        ensures old { fuse_is_new (M.is_new self.new.inner) self.new.held ≡ false }
+        ensures disarmed { self.new.passes ≡ None }
+        ensures left { IsTrue M.Log.tells → IsTrue M.Pages.tells → OnOk result ((next : Volumes (FusedLog M.Log) (FusedPages M.Pages))
+            → fuse_gives (M.gives self.new.inner) self.new.held self.new.at self.new.passes self.new.refused next
+            → AllCrashed (LogCrashed (λ f. M.Log.reads f.inner) (λ f. M.Log.images f.inner) (λ f. M.Log.faults f.inner + f.refused))
+            (PagesCrashed (λ f. M.Pages.pages f.inner) (λ f. M.Pages.images f.inner) (λ f. M.Pages.faults f.inner + f.refused)) volumes next) }
+        ensures banks { OnOk result ((next : Volumes (FusedLog M.Log) (FusedPages M.Pages))
+            → fuse_gives (M.gives self.new.inner) self.new.held self.new.at self.new.passes self.new.refused next → HaveSameBanks volumes next) }
+        ensures cause { CountsFault result (M.faults self.old.inner + self.old.faults) (M.faults self.new.inner + self.new.faults) }
+    {
+        self.is_mounted = false;
+        self.passes = None;
+        match unfuse_all(self.alloc, volumes) {
+            Ok((inner, refused)) => {
+                self.held = None;
+                self.refused = refused;
+                self.inner.crash(inner, how)
+            }
+            Err(volumes) => {
+                self.held = Some(volumes);
+                self.faults = self.faults.saturating_add(1);
+                Err(Failed)
+            }
+        }
+    }
+
+    fn rest(&mut self, volumes: Volumes<FusedLog<M::Log>, FusedPages<M::Pages>>)
+        ensures idle { IsTrue (not self.new.is_mounted) }
+        ensures old { fuse_is_new (M.is_new self.new.inner) self.new.held ≡ false }
+        ensures same { Only volumes (fuse_gives (M.gives self.new.inner) self.new.held self.new.at self.new.passes self.new.refused) }
+        ensures faults { M.faults self.new.inner + self.new.faults ≡ M.faults self.old.inner + self.old.faults }
+    {
+        self.held = Some(volumes);
+        self.is_mounted = false;
+    }
+}

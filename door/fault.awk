@@ -99,8 +99,8 @@ function tell(    line, end) {
     else if (kind == "mode") of_mode()
     else if (kind == "number") of_number()
     else if (kind == "limit") of_limit()
-    else if (kind == "base") say("these counters are no place to begin at", 0, \
-        "the oldest id is at most the next one, which is less than 2144483648 or so past it; likewise multixacts and offsets:\n" \
+    else if (kind == "base") say("the lines up to here give no counters to begin from", 0, \
+        "the oldest id is at most the next one, and that is at most some 2.14 billion past it, and so for multixacts:\n" \
         "docs/IDS-AND-LIMITS.md, Bases")
     else say("this line is at fault (" kind ")", 0, "docs/SCRIPT-AND-REPORT.md says what a script is")
 }
@@ -199,7 +199,7 @@ function of_number(    k) {
         k = 3
         if (is_u32(word[3])) k = is_number(word[4], 8192) ? 5 : 4
     }
-    say(quoted(word[k]) " is not the number that belongs here", k, "expected: " expected[verb])
+    say(quoted(word[k]) " is not a number that may stand here", k, "expected: " expected[verb])
 }
 
 function is_number(text, most) { return text ~ /^[0-9]+$/ && length(text) <= 20 && text + 0 <= most }

@@ -42,6 +42,7 @@ BEGIN {
     }
     if (at !~ /^[1-9][0-9]*$/) {
         print input ": this is not a script: docs/SCRIPT-AND-REPORT.md says what one is"
+        print "commands are " commands ", each behind the name of a session"
         exit
     }
     at += 0

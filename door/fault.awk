@@ -4,7 +4,7 @@
 # all is well.
 
 BEGIN {
-    # what each command and directive looks like behind the session's name
+    # what each command, behind its session's name, and each directive looks like; `later` are those that aren't run yet
     split("begin,save,write,release,undo,commit,abort,snap NAME,drop NAME,see NAME ID", runs, ",")
     split("trim,horizon,status ID,did ID,multi ID:MODE ..,seemulti NAME MULTIXACT,freeze ID,multifreeze MULTIXACT", later, ",")
     split(".start ID,.oldest ID,.multi MULTIXACT,.offset OFFSET,.oldest-multi MULTIXACT,.oldest-offset OFFSET,.banks COUNT", heads, ",")

@@ -1,8 +1,7 @@
 -- Slots of members as numbers: a mode byte and an id.
-use Rattle.std.specs.Prelude.{ℕ, zero, suc, ◌==◌, if◌then◌else◌, Option, Some, None}
+use Rattle.std.specs.Prelude.{ℕ, ◌==◌, if◌then◌else◌, Option, Some, None}
 use Rattle.tx_events.specs.declared.multi.Mode.{Mode}
 use Rattle.tx_events.specs.declared.multi.Mode.TheVariants.{KeySh, Sh, ForNoKeyUpd, ForUpd, NoKeyUpd, Upd}
-use Rattle.xid_order.specs.declared.order.Xid.{Xid}
 use Rattle.multi_members.specs.declared.slot.Slot.{Slot}
 use Rattle.multi_members.specs.declared.slot.Slot.TheVariants.{Unused, Is, Odd}
 

@@ -3,7 +3,6 @@
 #![tactic(auto)]
 
 mod bits;
-mod pages;
 mod plan;
 mod states;
 #[cfg(test)]
@@ -11,7 +10,6 @@ mod tests;
 mod trim;
 mod xact_state;
 
-pub use pages::{XactPages, xact_page, xact_page_precedes};
 pub use plan::{PlanStep, commits_each_once, plan_step};
 pub use states::{set_states, state};
 pub use trim::trim_after;

@@ -3,18 +3,14 @@
 #![tactic(auto)]
 
 mod bank;
-mod banks;
 mod buffer;
 mod buffers;
 mod numbers;
-mod page_rule;
 mod refusal;
 mod removal;
 #[cfg(test)]
 mod tests;
 
 pub use bank::SlruBank;
-pub use banks::bank_of;
 pub use numbers::{put_number, read_number};
-pub use page_rule::PageRule;
 pub use refusal::BankRefusal;

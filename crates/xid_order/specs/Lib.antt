@@ -1,5 +1,4 @@
 pub mod Ids
-pub mod Layouts
 pub mod Nearest
 pub mod Order
 pub mod PageOrder

@@ -1,5 +1,5 @@
 //! The commit log: the states of transactions, two bits an id, and the steps of a commit over several pages. After
-//! PostgreSQL's `src/backend/access/transam/clog.c` and `transam.c`.
+//! PostgreSQL's `src/backend/access/transam/clog.c` and `transam.c`. `docs/PAGES.md` tells more.
 #![tactic(auto)]
 
 mod bits;

@@ -1,4 +1,5 @@
-// A bank: 16 buffers over a volume of pages.
+// A bank: 16 buffers over a volume of pages. Each call first brings its page to the front; what it changes stands in a
+// buffer until the buffer is taken for another page, or all are flushed.
 ghost use Rattle.std.specs.Prelude.{◌≡◌, ◌≢◌, ◌⊎◌, ℕ, ◌+◌, ◌-◌, ◌<◌, ◌≤◌, ◌^◌, Bool, true, false, List, ◌∷◌, length, take, drop, slice_index, slice_set, bit_and, bit_or, OnOk, OnErr, IsOk, IsTrue, Some, None, IfOk, IfErr, Ok, Err, cond, ◌&&◌, is_ok, IsErr, MatchBool};
 ghost use Rattle.std.proofs.Props.{props};
 ghost use Rattle.disk_core.specs.Faults.{CountsFault, HasRisen};
@@ -22,12 +23,15 @@ use std::alloc::Global;
 use std::marker::PhantomData;
 use store_pages::PageRule;
 
+/// Page buffers over a volume, one bank of a store (of `SlruSharedData`). It is seen as a map from pages to bytes, with
+/// the last made page and a cutoff.
 #[derive(Drop)]
 pub struct SlruBank<P: PageDisk, O: PageRule> {
     disk: P,
     rule: PhantomData<O>,
-    /// The last page that was made.
+    /// The last page that was made (`latest_page_number`).
     last: u32,
+    /// Segments wholly before it are cut.
     cutoff: u32,
     /// The one used last first.
     buffers: Vec<Buffer>,
@@ -53,7 +57,7 @@ impl<P: PageDisk, O: PageRule> SlruBank<P, O> {
         touch(&mut self.disk, &mut self.buffers, page)
     }
 
-    // Brings a page that isn't cut to the front.
+    // Brings a page that isn't cut to the front (`SimpleLruReadPage`).
     fn open(&mut self, page: u32) -> Result<(), BankRefusal>
         ensures bank { CallsBank page self.old self.new result }
         ensures same { IsTrue P.tells → SamePages self.old self.new }
@@ -67,7 +71,7 @@ impl<P: PageDisk, O: PageRule> SlruBank<P, O> {
         Ok(())
     }
 
-    /// The page's bytes from a place on.
+    /// The page's bytes from a place on, where the volume lacks it zeros. `Cut` exactly where the page is cut.
     pub fn read(&mut self, page: u32, at: u32, into: &mut [u8]) -> Result<(), BankRefusal>
         requires { at + length into.old ≤ 8192 }
         ensures bytes { IsTrue P.tells → OnOk result (into.new ≡ take (length into.old) (drop at (pages_of self.old page))) }
@@ -81,7 +85,7 @@ impl<P: PageDisk, O: PageRule> SlruBank<P, O> {
         Ok(())
     }
 
-    /// Changes the bits of a mask in one byte.
+    /// Changes the bits of a mask in one byte. After an `Err` nothing is changed.
     pub fn set(&mut self, page: u32, at: u32, mask: u8, bits: u8) -> Result<(), BankRefusal>
         requires { at < 8192 }
         ensures ok { IsTrue P.tells → OnOk result (PutsPage page
@@ -96,7 +100,7 @@ impl<P: PageDisk, O: PageRule> SlruBank<P, O> {
         Ok(())
     }
 
-    /// Changes the page's bytes from a place on.
+    /// Changes the page's bytes from a place on. After an `Err` nothing is changed.
     pub fn put(&mut self, page: u32, at: u32, from: &[u8]) -> Result<(), BankRefusal>
         requires { at + length from.now ≤ 8192 }
         ensures ok { IsTrue P.tells → OnOk result (PutsPage page (placed (pages_of self.old page) at from.now)
@@ -110,7 +114,8 @@ impl<P: PageDisk, O: PageRule> SlruBank<P, O> {
         Ok(())
     }
 
-    /// Makes a page of zeros the last one, where it is past the last.
+    /// Makes a page of zeros the last one, where it is past the last (`SimpleLruZeroPage`). A page that was made stays, so
+    /// whoever comes second wipes nothing.
     pub fn zero(&mut self, page: u32) -> Result<(), BankRefusal>
         ensures ok { IsTrue P.tells → OnOk result (MatchBool (page_precedes O.shape O.per_page (last_page self.old) page)
             (PutsPage page zero_page (pages_of self.old) (pages_of self.new))
@@ -133,7 +138,7 @@ impl<P: PageDisk, O: PageRule> SlruBank<P, O> {
         Ok(())
     }
 
-    /// Writes the changed pages, and syncs.
+    /// Writes the changed pages, and syncs (`SimpleLruWriteAll`).
     pub fn flush_all(&mut self) -> Result<(), BankRefusal>
         ensures durable { IsTrue P.tells → OnOk result (IsDurable self.new) }
         ensures same { IsTrue P.tells → SamePages self.old self.new }
@@ -189,7 +194,8 @@ impl<P: PageDisk, O: PageRule> SlruBank<P, O> {
         Ok(())
     }
 
-    /// Removes every page. After an `Err` some are removed, and no other one changed.
+    /// Removes every page, as a start does with the parents (`StartupSUBTRANS`). After an `Err` some are removed, and no
+    /// other one changed.
     pub fn clear_all(&mut self) -> Result<(), BankRefusal>
         ensures cutoff { cutoff_of self.new ≡ cutoff_of self.old }
         ensures bank { RemovesPages (λ q. true) self.old self.new result }

@@ -74,7 +74,8 @@ fn read_first<P: PageDisk>(disk: &mut P, buffers: &mut [Buffer], page: u32) -> R
     buffers[0].fill(disk, page)
 }
 
-// Brings the page to the front, in place of the one used longest ago if it isn't there.
+// Brings the page to the front, in place of the one used longest ago if it isn't there (`SlruSelectLRUPage`). A page at
+// the front already is found without a call of the disk.
 pub(crate) fn touch<P: PageDisk>(
     disk: &mut P,
     buffers: &mut [Buffer],

@@ -1,5 +1,5 @@
 //! Page buffers over a volume: a bank is a map from pages to 8192 bytes, whatever was evicted. After PostgreSQL's
-//! `src/backend/access/transam/slru.c`.
+//! `src/backend/access/transam/slru.c`. `docs/PAGES.md` tells more, `docs/DISKS.md` of the volumes below.
 #![tactic(auto)]
 
 mod bank;

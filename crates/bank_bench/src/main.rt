@@ -10,10 +10,10 @@ ghost use Rattle.std.specs.Prelude.{◌≤◌};
 
 use anyhow::{Context, Result};
 use disk_core::MemPages;
-use pg_xact_log::XactPages;
 use slru_bank::SlruBank;
 use std::env;
 use std::time::Instant;
+use store_pages::XactPages;
 use turns::{copy_turns, read_turns, set_turns};
 
 // How many turns there are where no number is given.

@@ -1,11 +1,10 @@
 //! Sets and reads of a bank's bytes, turn after turn, and copies of whole pages.
 ghost use Rattle.std.specs.Prelude.{◌≡◌, ℕ, ◌*◌, ◌≤◌, ◌<◌, IsTrue, OnOk, IfOk, length};
-ghost use Rattle.slru_bank.specs.Bank.{map_of};
-ghost use Rattle.slru_bank.specs.Crash.{SameMap};
+ghost use Rattle.slru_bank.specs.Calls.{SamePages, pages_of};
 
 use disk_core::PageDisk;
-use pg_xact_log::XactPages;
 use slru_bank::{BankRefusal, SlruBank};
+use store_pages::XactPages;
 
 /// Sets a byte of each of these pages in turn.
 pub fn set_turns<P: PageDisk>(
@@ -14,7 +13,7 @@ pub fn set_turns<P: PageDisk>(
     turns: u32,
 ) -> Result<(), BankRefusal>
     requires { 1 ≤ pages }
-    ensures others { IsTrue P.tells → (q : ℕ) → pages ≤ q → map_of (P.pages bank.new.disk) bank.new.buffers.items q ≡ map_of (P.pages bank.old.disk) bank.old.buffers.items q }
+    ensures others { IsTrue P.tells → (q : ℕ) → pages ≤ q → pages_of bank.new q ≡ pages_of bank.old q }
 {
     for i in 0..turns {
         bank.set(i % pages, i % 8192, 255, 1)?;
@@ -30,7 +29,7 @@ pub fn read_turns<P: PageDisk>(
 ) -> Result<u32, BankRefusal>
     requires { 1 ≤ pages }
     ensures found { IfOk result (λ n. n ≤ turns) }
-    ensures same { IsTrue P.tells → SameMap (map_of (P.pages bank.old.disk) bank.old.buffers.items) (map_of (P.pages bank.new.disk) bank.new.buffers.items) }
+    ensures same { IsTrue P.tells → SamePages bank.old bank.new }
 {
     let mut found = 0;
     for i in 0..turns {

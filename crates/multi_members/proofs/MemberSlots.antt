@@ -1,16 +1,15 @@
 -- A slot of members is set, and the other slots stay.
-use Rattle.std.proofs.Common.{◌≡◌, ◌≢◌, ◌⊎◌, inl, inr, ⊎_elim, ℕ, zero, suc, ◌+◌, ◌/◌, ◌<◌, ◌≤◌, ◌==◌, ◌&&◌, Bool, true, false, List, length, take, drop, slice_index, slice_set, Result, Ok, Err, OnOk, OnErr, refl, sym, ◌∙◌, ap, subst, arith}
+use Rattle.std.proofs.Common.{◌≡◌, ◌≢◌, ◌⊎◌, inl, inr, ⊎_elim, ℕ, zero, suc, ◌+◌, ◌/◌, ◌<◌, ◌≤◌, ◌==◌, ◌&&◌, Bool, true, false, List, length, slice_index, slice_set, Result, Ok, Err, OnOk, refl, sym, ◌∙◌, ap, subst, arith}
 use Rattle.std.proofs.lemmas.Bool.{eqb-true}
-use Rattle.std.proofs.lemmas.List.{get_or-drop, get_or-take, get_or-set_same, get_or-set_other}
+use Rattle.std.proofs.lemmas.List.{get_or-set_same, get_or-set_other}
 use Rattle.xid_order.specs.PageOrder.{Offsets}
-use Rattle.xid_order.specs.Layouts.{number_in}
-use Rattle.multi_members.specs.MemberPlaces.{mode_at, id_at}
+use Rattle.store_pages.specs.Layouts.{number_in}
+use Rattle.store_pages.specs.Pages.{mode_at, id_at}
 use Rattle.slru_bank.specs.Bank.{masked, PutsPage, IsPage}
-use Rattle.slru_bank.specs.Crash.{SameMap, IsBetween}
 use Rattle.slru_bank.specs.Removal.{ClearsAfter}
 use Rattle.slru_bank.specs.ByteRange.{PutsNumber, other_number, cleared_before, cleared_number_before, cleared_number_past}
 use Rattle.slru_bank.specs.declared.refusal.BankRefusal.{BankRefusal}
-use Rattle.multi_members.specs.Changes.{SetsMember, MaySetMode, TrimsMembers}
+use Rattle.multi_members.specs.Changes.{SetsMember, TrimsMembers}
 
 -- ---- a byte as a whole is set
 
@@ -97,32 +96,6 @@ pub sets_member_ok : (r : Result (Unit {0}) BankRefusal) (m m1 m2 : ℕ → List
 sets_member_ok (Ok x) m m1 m2 page place byte number within small first second = sets_member m m1 m2 page place byte number within small first second
 sets_member_ok (Err e) m m1 m2 page place byte number within small first second = tt
 
--- only the mode may be set
-pub mode_set : (r : Result (Unit {0}) BankRefusal) (m m1 m2 : ℕ → List ℕ) (page place byte : ℕ) → SetsMode page place byte m m1 → OnErr r (SameMap m1 m2) → OnErr r (MaySetMode page place m m2)
-mode_set (Ok x) m m1 m2 page place byte first same = tt
-mode_set (Err e) m m1 m2 page place byte first same = record {
-  bytes = λ i differs. ap (λ (l : List ℕ). slice_index l i) (same page ∙ first.puts.here) ∙ get_or-set_other (m page) (mode_at place) i (masked (slice_index (m page) (mode_at place)) 255 byte) 0 differs;
-  others = λ q apart. same q ∙ first.puts.others q apart;
-}
-
-pub mode_same : (r : Result (Unit {0}) BankRefusal) (m m1 : ℕ → List ℕ) (page place : ℕ) → SameMap m m1 → OnErr r (MaySetMode page place m m1)
-mode_same (Ok x) m m1 page place same = tt
-mode_same (Err e) m m1 page place same = record { bytes = λ i differs. ap (λ (l : List ℕ). slice_index l i) (same page); others = λ q apart. same q }
-
-same_or_not : (a b : ℕ) → (a ≡ b) ⊎ (a ≢ b)
-same_or_not a b = grind arith
-
--- after the mode each byte is as before or as after both
-pub mode_between : (m m1 m2 : ℕ → List ℕ) (page place byte number : ℕ) → SetsMode page place byte m m1 → PutsNumber page (id_at place) number m1 m2 → IsBetween m m2 m1
-mode_between m m1 m2 page place byte number first second q i = ⊎_elim
-    (λ (here : q ≡ page). ⊎_elim
-    (λ (h : i ≡ mode_at place). inr (sym (subst (λ (p : ℕ). slice_index (m2 p) i ≡ slice_index (m1 p) i) (sym here) (second.bytes i (subst (λ (j : ℕ). (j < id_at place) ⊎ (id_at place + 4 ≤ j)) (sym h) (mode_apart place place))))))
-    (λ (h : i ≢ mode_at place). inl (subst (λ (p : ℕ). slice_index (m1 p) i ≡ slice_index (m p) i) (sym here)
-    (ap (λ (l : List ℕ). slice_index l i) first.puts.here ∙ get_or-set_other (m page) (mode_at place) i (masked (slice_index (m page) (mode_at place)) 255 byte) 0 h)))
-    (same_or_not i (mode_at place)))
-    (λ (apart : q ≢ page). inl (ap (λ (l : List ℕ). slice_index l i) (first.puts.others q apart)))
-    (same_or_not q page)
-
 -- ---- slots from one on are cleared
 
 pub trims_members : {E : Type 0} (r : Result (Unit {0}) E) (page place : ℕ) (old new : ℕ → List ℕ) → OnOk r (ClearsAfter Offsets 1636 page (id_at place) old new) → OnOk r (TrimsMembers page place old new)
@@ -136,11 +109,3 @@ trims_members (Ok x) page place old new clears = record {
   stay = clears.stay;
 }
 trims_members (Err e) page place old new clears = tt
-
--- a byte that was read
-pub first_read : (xs : List ℕ) (at : ℕ) → slice_index (take 1 (drop at xs)) 0 ≡ slice_index xs at
-first_read xs at = let e : at + 0 ≡ at = omega arith in get_or-take 1 (drop at xs) 0 0 (omega arith) ∙ get_or-drop at xs 0 0 ∙ ap (λ (i : ℕ). slice_index xs i) e
-
-pub mode_between_either : (r : Result (Unit {0}) BankRefusal) (m m1 m2 : ℕ → List ℕ) (page place byte number : ℕ) → SetsMode page place byte m m1 → OnOk r (PutsNumber page (id_at place) number m1 m2) → OnErr r (SameMap m1 m2) → IsBetween m m2 m1
-mode_between_either (Ok x) m m1 m2 page place byte number first puts same = mode_between m m1 m2 page place byte number first puts
-mode_between_either (Err e) m m1 m2 page place byte number first puts same = λ q i. inr (ap (λ (l : List ℕ). slice_index l i) (sym (same q)))

@@ -2,8 +2,8 @@
 use Rattle.std.specs.Prelude.{◌≡◌, ◌≢◌, ℕ, ◌<◌, ◌≤◌, ◌^◌, true, false, List, slice_index}
 use Rattle.disk_core.specs.Pages.{zero_page}
 use Rattle.xid_order.specs.PageOrder.{Offsets, page_precedes}
-use Rattle.xid_order.specs.Layouts.{number_in}
-use Rattle.multi_members.specs.MemberPlaces.{mode_at, id_at}
+use Rattle.store_pages.specs.Layouts.{number_in}
+use Rattle.store_pages.specs.Pages.{id_at, members_per_page, mode_at}
 use Rattle.slru_bank.specs.Bank.{OthersStay}
 
 -- the k-th slot of a page is the same on two pages
@@ -15,17 +15,12 @@ pub record SameSlot (k : ℕ) (old new : List ℕ) : Type 0 where
 pub record SetsMember (page place byte number : ℕ) (old new : ℕ → List ℕ) : Type 0 where
   pub mode : slice_index (new page) (mode_at place) ≡ byte
   pub id : number_in (new page) (id_at place) ≡ number
-  pub same_page : (k : ℕ) → k < 1636 → k ≢ place → SameSlot k (old page) (new page)
-  pub others : OthersStay page old new
-
--- no byte but this slot's mode is changed
-pub record MaySetMode (page place : ℕ) (old new : ℕ → List ℕ) : Type 0 where
-  pub bytes : (i : ℕ) → i ≢ mode_at place → slice_index (new page) i ≡ slice_index (old page) i
+  pub same_page : (k : ℕ) → k < members_per_page → k ≢ place → SameSlot k (old page) (new page)
   pub others : OthersStay page old new
 
 -- on one page the ids from the place-th slot on are 0, and so are all pages that come after it
 pub record TrimsMembers (page place : ℕ) (old new : ℕ → List ℕ) : Type 0 where
   pub kept : (k : ℕ) → k < place → SameSlot k (old page) (new page)
-  pub cleared : (k : ℕ) → place ≤ k → k < 1636 → number_in (new page) (id_at k) ≡ 0
-  pub zeros : (q : ℕ) → q < 2 ^ 32 → page_precedes Offsets 1636 page q ≡ true → new q ≡ zero_page
-  pub stay : (q : ℕ) → q ≢ page → page_precedes Offsets 1636 page q ≡ false → new q ≡ old q
+  pub cleared : (k : ℕ) → place ≤ k → k < members_per_page → number_in (new page) (id_at k) ≡ 0
+  pub zeros : (q : ℕ) → q < 2 ^ 32 → page_precedes Offsets members_per_page page q ≡ true → new q ≡ zero_page
+  pub stay : (q : ℕ) → q ≢ page → page_precedes Offsets members_per_page page q ≡ false → new q ≡ old q

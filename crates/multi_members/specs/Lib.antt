@@ -1,3 +1,2 @@
-pub mod MemberPlaces
 pub mod Changes
 pub mod Slots

@@ -1,14 +1,12 @@
 //! The members of multixacts: an id and a mode in each slot, four slots a group. After the members of PostgreSQL's
-//! `src/backend/access/transam/multixact.c`.
+//! `src/backend/access/transam/multixact.c`. `docs/PAGES.md` tells more.
 #![tactic(auto)]
 
 mod members;
 mod modes;
-mod pages;
 mod slot;
 #[cfg(test)]
 mod tests;
 
 pub use members::{read_member, trim_members, write_member};
-pub use pages::{MemberPages, member_page, member_page_precedes};
 pub use slot::Slot;

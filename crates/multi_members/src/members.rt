@@ -1,67 +1,53 @@
-ghost use Rattle.std.specs.Prelude.{◌≡◌, ℕ, ◌+◌, ◌*◌, ◌/◌, ◌%◌, ◌^◌, ◌<◌, ◌≤◌, Bool, IsTrue, List, slice_index, OnOk, OnErr, IfOk, IsErr, Err};
-ghost use Rattle.disk_core.specs.Faults.{HasRisen};
+// A member is a mode byte in front of its group's ids, and an id of four bytes.
+ghost use Rattle.std.specs.Prelude.{◌≡◌, ℕ, ◌+◌, ◌*◌, ◌/◌, ◌%◌, ◌^◌, IsTrue, slice_index, OnOk, OnErr, IfOk};
 ghost use Rattle.xid_order.specs.Ids.{low_half};
-ghost use Rattle.xid_order.specs.PageOrder.{Offsets, is_cut, page_precedes};
-ghost use Rattle.xid_order.specs.Layouts.{number_in};
-ghost use Rattle.multi_members.specs.MemberPlaces.{mode_at, id_at};
-ghost use Rattle.slru_bank.specs.Bank.{map_of};
-ghost use Rattle.slru_bank.specs.Crash.{SameMap, CrashLeaves, IsMixture, IsMixtureOrGone};
-ghost use Rattle.slru_bank.specs.declared.refusal.BankRefusal.TheVariants.{Cut, DiskFault};
-ghost use Rattle.slru_bank.specs.Removal.{MayDrop};
+ghost use Rattle.xid_order.specs.PageOrder.{Offsets, page_precedes};
+ghost use Rattle.store_pages.specs.Layouts.{number_in};
+ghost use Rattle.store_pages.specs.Pages.{id_at, member_page, member_place, members_per_page, mode_at};
+ghost use Rattle.slru_bank.specs.Calls.{CallsBank, SamePages, TrimsBank, pages_of};
 ghost use Rattle.tx_events.specs.Modes.{mode_number};
 ghost use Rattle.multi_members.specs.Slots.{slot_of};
-ghost use Rattle.multi_members.specs.Changes.{SetsMember, MaySetMode, TrimsMembers};
+ghost use Rattle.multi_members.specs.Changes.{SetsMember, TrimsMembers};
 
 use crate::Slot;
 use crate::modes::slot_of_numbers;
-use crate::pages::{MemberPages, id_place, member_page, mode_place};
 use disk_core::PageDisk;
 use slru_bank::{BankRefusal, SlruBank, put_number, read_number};
+use store_pages::{MemberPages, id_position, member_page, mode_position};
 use tx_events::Mode;
 use xid_order::Xid;
 
-/// Writes a member into its slot. After an `Err` the slot's mode may be changed, and nothing else.
+/// Writes a member into its slot (the second half of `RecordNewMultiXact`). After an `Err` nothing is changed: once its
+/// mode stands, the page is at hand for its id.
 pub fn write_member<P: PageDisk>(
     bank: &mut SlruBank<P, MemberPages>,
     offset: u32,
     x: Xid,
     mode: Mode,
 ) -> Result<(), BankRefusal>
-    ensures ok { IsTrue P.tells → OnOk result (SetsMember (offset / 1636) (offset % 1636) (mode_number mode) x.number (map_of (P.pages bank.old.disk) bank.old.buffers.items) (map_of (P.pages bank.new.disk) bank.new.buffers.items)) }
-    ensures err { IsTrue P.tells → OnErr result (MaySetMode (offset / 1636) (offset % 1636) (map_of (P.pages bank.old.disk) bank.old.buffers.items) (map_of (P.pages bank.new.disk) bank.new.buffers.items)) }
-    ensures last { bank.new.last ≡ bank.old.last }
-    ensures cutoff { bank.new.cutoff ≡ bank.old.cutoff }
-    ensures cut { IsTrue (is_cut Offsets 1636 bank.old.cutoff (offset / 1636)) → result ≡ Err (Cut bank.old.cutoff) }
-    ensures only_cut { (c : ℕ) → result ≡ Err (Cut c) → (c ≡ bank.old.cutoff) × IsTrue (is_cut Offsets 1636 bank.old.cutoff (offset / 1636)) }
-    ensures fault { result ≡ Err DiskFault → HasRisen (P.faults bank.old.disk) (P.faults bank.new.disk) }
-    ensures count { P.faults bank.old.disk ≤ P.faults bank.new.disk }
-    ensures crash { IsTrue P.tells → CrashLeaves (IsMixture (map_of (P.pages bank.old.disk) bank.old.buffers.items) (map_of (P.pages bank.new.disk) bank.new.buffers.items)) P.images P.moment P.left_at bank.old.disk bank.new.disk }
+    ensures ok { IsTrue P.tells → OnOk result (SetsMember (member_page offset) (member_place offset) (mode_number mode) x.number (pages_of bank.old) (pages_of bank.new)) }
+    ensures err { IsTrue P.tells → OnErr result (SamePages bank.old bank.new) }
+    ensures bank { CallsBank (member_page offset) bank.old bank.new result }
 {
     let page = member_page(offset);
-    bank.set(page, mode_place(offset), 255, mode.number())?;
-    put_number(bank, page, id_place(offset), x.number)
+    bank.set(page, mode_position(offset), 255, mode.number())?;
+    put_number(bank, page, id_position(offset), x.number)
 }
 
-/// What is in a slot.
+/// What is in a slot (as `GetMultiXactIdMembers` reads it).
 pub fn read_member<P: PageDisk>(
     bank: &mut SlruBank<P, MemberPages>,
     offset: u32,
 ) -> Result<Slot, BankRefusal>
-    ensures is { IsTrue P.tells → IfOk result (λ s. s ≡ slot_of (slice_index (map_of (P.pages bank.old.disk) bank.old.buffers.items (offset / 1636)) (mode_at (offset % 1636)))
-        (number_in (map_of (P.pages bank.old.disk) bank.old.buffers.items (offset / 1636)) (id_at (offset % 1636)))) }
-    ensures same { IsTrue P.tells → SameMap (map_of (P.pages bank.old.disk) bank.old.buffers.items) (map_of (P.pages bank.new.disk) bank.new.buffers.items) }
-    ensures last { bank.new.last ≡ bank.old.last }
-    ensures cutoff { bank.new.cutoff ≡ bank.old.cutoff }
-    ensures cut { IsTrue (is_cut Offsets 1636 bank.old.cutoff (offset / 1636)) → result ≡ Err (Cut bank.old.cutoff) }
-    ensures only_cut { (c : ℕ) → result ≡ Err (Cut c) → (c ≡ bank.old.cutoff) × IsTrue (is_cut Offsets 1636 bank.old.cutoff (offset / 1636)) }
-    ensures fault { result ≡ Err DiskFault → HasRisen (P.faults bank.old.disk) (P.faults bank.new.disk) }
-    ensures count { P.faults bank.old.disk ≤ P.faults bank.new.disk }
-    ensures crash { IsTrue P.tells → CrashLeaves (IsMixture (map_of (P.pages bank.old.disk) bank.old.buffers.items) (map_of (P.pages bank.new.disk) bank.new.buffers.items)) P.images P.moment P.left_at bank.old.disk bank.new.disk }
+    ensures is { IsTrue P.tells → IfOk result (λ s. s ≡ slot_of (slice_index (pages_of bank.old (member_page offset)) (mode_at (member_place offset)))
+        (number_in (pages_of bank.old (member_page offset)) (id_at (member_place offset)))) }
+    ensures same { IsTrue P.tells → SamePages bank.old bank.new }
+    ensures bank { CallsBank (member_page offset) bank.old bank.new result }
 {
     let page = member_page(offset);
     let mut byte = [0; 1];
-    bank.read(page, mode_place(offset), &mut byte)?;
-    let number = read_number(bank, page, id_place(offset))?;
+    bank.read(page, mode_position(offset), &mut byte)?;
+    let number = read_number(bank, page, id_position(offset))?;
     Ok(slot_of_numbers(byte[0], number))
 }
 
@@ -72,16 +58,11 @@ pub fn trim_members<P: PageDisk>(
     bank: &mut SlruBank<P, MemberPages>,
     next: u64,
 ) -> Result<(), BankRefusal>
-    ensures ok { IsTrue P.tells → OnOk result (TrimsMembers (low_half next / 1636) (low_half next % 1636) (map_of (P.pages bank.old.disk) bank.old.buffers.items) (map_of (P.pages bank.new.disk) bank.new.buffers.items)) }
-    ensures err { IsTrue P.tells → OnErr result (MayDrop (page_precedes Offsets 1636 (low_half next / 1636)) (map_of (P.pages bank.old.disk) bank.old.buffers.items) (map_of (P.pages bank.new.disk) bank.new.buffers.items)) }
-    ensures last { bank.new.last ≡ bank.old.last }
-    ensures cutoff { bank.new.cutoff ≡ bank.old.cutoff }
-    ensures fault { IsErr result → (result ≡ Err DiskFault) × HasRisen (P.faults bank.old.disk) (P.faults bank.new.disk) }
-    ensures count { P.faults bank.old.disk ≤ P.faults bank.new.disk }
-    ensures crash { IsTrue P.tells → CrashLeaves (IsMixtureOrGone (page_precedes Offsets 1636 (low_half next / 1636)) (map_of (P.pages bank.old.disk) bank.old.buffers.items) (map_of (P.pages bank.new.disk) bank.new.buffers.items)) P.images P.moment P.left_at bank.old.disk bank.new.disk }
+    ensures ok { IsTrue P.tells → OnOk result (TrimsMembers (member_page (low_half next)) (member_place (low_half next)) (pages_of bank.old) (pages_of bank.new)) }
+    ensures bank { TrimsBank (page_precedes Offsets members_per_page (member_page (low_half next))) bank.old bank.new result }
 {
     let offset = low_offset(next);
-    bank.clear_after(member_page(offset), id_place(offset))
+    bank.clear_after(member_page(offset), id_position(offset))
 }
 
 // The 32 bits of a full offset by which pages count.

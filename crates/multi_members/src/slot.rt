@@ -1,3 +1,4 @@
+// A slot as a reader meets it.
 use tx_events::Mode;
 use xid_order::Xid;
 

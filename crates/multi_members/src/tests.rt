@@ -1,8 +1,10 @@
-use super::{MemberPages, Slot, read_member, trim_members, write_member};
+// Bytes of members.
+use super::{Slot, read_member, trim_members, write_member};
 use disk_core::MemPages;
 use slru_bank::SlruBank;
 use std::alloc::Global;
 use std::test::Fail;
+use store_pages::MemberPages;
 use tx_events::Mode;
 use xid_order::Xid;
 

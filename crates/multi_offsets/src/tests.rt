@@ -1,8 +1,10 @@
-use super::{OffsetPages, offset, set_offset, trim_offsets};
+// Bytes of an offset.
+use super::{offset, set_offset, trim_offsets};
 use disk_core::MemPages;
 use slru_bank::SlruBank;
 use std::alloc::Global;
 use std::test::Fail;
+use store_pages::OffsetPages;
 use xid_order::{FullMulti, MultiId};
 
 fn memory_bank(alloc: Global) -> Option<SlruBank<MemPages, OffsetPages>> {

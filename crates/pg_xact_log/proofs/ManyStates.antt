@@ -1,10 +1,12 @@
 -- One id more.
-use Rattle.std.proofs.Common.{◌≡◌, ◌≢◌, ◌⊎◌, ⊎_elim, ℕ, ◌+◌, ◌/◌, ◌%◌, ◌<◌, Bool, true, false, Result, Ok, Err, OnErr, List, [], ◌∷◌, zero, suc, length, get_or, slice_index, refl, ◌∙◌, ap, subst, arith}
-use Rattle.slru_bank.specs.Crash.{SameMap}
+use Rattle.std.proofs.Common.{◌≡◌, ◌≢◌, ◌⊎◌, ⊎_elim, ℕ, ◌+◌, ◌/◌, ◌%◌, ◌<◌, ◌≤◌, Result, Ok, OnErr, List, [], ◌∷◌, zero, suc, length, get_or, slice_index, refl, ◌∙◌, ap, subst, arith}
+use Rattle.disk_core.specs.declared.page_disk.PageDisk.{Ghosts as DiskGhosts}
+use Rattle.store_pages.specs.declared.page_rule.PageRule.{Ghosts as RuleGhosts}
+use Rattle.slru_bank.specs.Calls.{CallsBank, SamePages, calls_again, second_is_ok, unrefused}
+use Rattle.slru_bank.specs.declared.bank.SlruBank.{SlruBank}
 use Rattle.slru_bank.specs.declared.refusal.BankRefusal.{BankRefusal}
-use Rattle.slru_bank.specs.declared.refusal.BankRefusal.TheVariants.{Cut}
 use Rattle.xid_order.specs.Ids.{low_half}
-use Rattle.xid_order.specs.Layouts.{state_in, xact_page_of, xact_place_of}
+use Rattle.store_pages.specs.Layouts.{state_in, xact_page_of, xact_place_of}
 use Rattle.pg_xact_log.specs.Changes.{SetsState, SetsStates, ShareAPage}
 
 same_or_not : (a b : ℕ) → (a ≡ b) ⊎ (a ≢ b)
@@ -15,13 +17,6 @@ now_or_before j n h = grind arith
 
 pub none_yet : (ids : List ℕ) (s : ℕ) (m : ℕ → List ℕ) → SetsStates ids 0 s m m
 none_yet ids s m = record { each = λ j h. absurd (omega arith); same_page = λ k within apart. refl; others = λ q differs. refl }
-
-pub unchanged : (ids : List ℕ) (n s : ℕ) (m m1 m2 : ℕ → List ℕ) → SetsStates ids n s m m1 → SameMap m1 m2 → SetsStates ids n s m m2
-unchanged ids n s m m1 m2 sets same = record {
-  each = λ j h. ap (λ (l : List ℕ). state_in l (xact_place_of (slice_index ids j))) (same (xact_page_of (slice_index ids 0))) ∙ sets.each j h;
-  same_page = λ k within apart. ap (λ (l : List ℕ). state_in l k) (same (xact_page_of (slice_index ids 0))) ∙ sets.same_page k within apart;
-  others = λ q differs. same q ∙ sets.others q differs;
-}
 
 pub one_more : (ids : List ℕ) (n s : ℕ) (m m1 m2 : ℕ → List ℕ) → SetsStates ids n s m m1 → SetsState (xact_page_of (slice_index ids 0)) (xact_place_of (slice_index ids n)) s m1 m2 → SetsStates ids (n + 1) s m m2
 one_more ids n s m m1 m2 sets step =
@@ -56,11 +51,14 @@ pub page_shared : (ids : List ℕ) (n d x : ℕ) → n < length ids → ShareAPa
 page_shared ids n d x within share is =
     ap (λ (y : ℕ). y / 32768) (is ∙ ap low_half (any_default ids n d 0 within)) ∙ share n within
 
--- a call on a cut page doesn't answer Ok
-pub not_cut : (cut : Bool) (r : Result (Unit {0}) BankRefusal) (cutoff : ℕ) → (cut ≡ true → r ≡ Err (Cut cutoff)) → r ≡ Ok tt → cut ≡ false
-not_cut true r cutoff refused ok = let e = refused refl in absurd cc
-not_cut false r cutoff refused ok = refl
+-- of calls on one page for one id after another, all before the last one answered Ok
+module _ {P O : Type 0} {g : DiskGhosts P} {r : RuleGhosts O} (page : ℕ) where
+  pub calls_more : (i : ℕ) (b0 b1 b2 : SlruBank P O g r) (result : Result (Unit {0}) BankRefusal) → (i ≡ 0 → b1 ≡ b0) → (1 ≤ i → CallsBank page b0 b1 (Ok (tt {0}))) → CallsBank page b1 b2 result → CallsBank page b0 b2 result
+  calls_more zero b0 b1 b2 result untouched calls call = subst (λ (b : SlruBank P O g r). CallsBank page b b2 result) (untouched refl) call
+  calls_more (suc i) b0 b1 b2 result untouched calls call = calls_again page b0 b1 b2 (tt {0}) (Ok (tt {0})) result refl (calls (omega arith)) call
 
-pub on_err : {T E : Type 0} (P : Type 0) (r : Result T E) → P → OnErr r P
-on_err P (Ok x) holds = tt
-on_err P (Err e) holds = holds
+  -- so only the first one can be refused, and it sets nothing
+  pub refused_first : (i : ℕ) (b0 b1 b2 : SlruBank P O g r) (result : Result (Unit {0}) BankRefusal) → (i ≡ 0 → b1 ≡ b0) → (1 ≤ i → CallsBank page b0 b1 (Ok (tt {0}))) → CallsBank page b1 b2 result
+      → OnErr result (SamePages b1 b2) → OnErr result (SamePages b0 b2)
+  refused_first zero b0 b1 b2 result untouched calls call same = subst (λ (b : SlruBank P O g r). OnErr result (SamePages b b2)) (untouched refl) same
+  refused_first (suc i) b0 b1 b2 result untouched calls call same = unrefused result (SamePages b0 b2) (second_is_ok page b0 b1 b2 (tt {0}) (Ok (tt {0})) result refl (calls (omega arith)) call)

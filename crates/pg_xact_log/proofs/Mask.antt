@@ -2,7 +2,7 @@
 use Rattle.std.proofs.Common.{◌≡◌, ◌⊎◌, ⊎_elim, ℕ, zero, suc, ◌<◌, ◌==◌, Bool, true, false, cond, ◌&&◌, refl, sym, subst, arith}
 use Rattle.std.proofs.lemmas.Bool.{eqb-true}
 use Rattle.slru_bank.specs.Bank.{masked}
-use Rattle.xid_order.specs.Layouts.{bits_at}
+use Rattle.store_pages.specs.Layouts.{bits_at}
 use Rattle.pg_xact_log.specs.States.{times_4}
 
 unfoldable pub every : ℕ → (ℕ → Bool) → Bool

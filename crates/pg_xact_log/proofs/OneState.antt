@@ -4,7 +4,7 @@ use Rattle.std.proofs.lemmas.Bool.{ne_eqb, eq-eqb}
 use Rattle.std.proofs.lemmas.List.{get_or-set_same, get_or-set_other}
 use Rattle.slru_bank.specs.declared.refusal.BankRefusal.{BankRefusal}
 use Rattle.slru_bank.specs.Bank.{masked, PutsPage, IsPage}
-use Rattle.xid_order.specs.Layouts.{bits_at, state_in}
+use Rattle.store_pages.specs.Layouts.{bits_at, state_in}
 use Rattle.pg_xact_log.specs.States.{times_4}
 use Rattle.pg_xact_log.specs.Changes.{SetsState}
 use Rattle.pg_xact_log.proofs.Mask.{set_bits}

@@ -2,7 +2,7 @@
 use Rattle.std.proofs.Common.{◌≡◌, ℕ, zero, suc, ◌-◌, ◌<◌, ◌≤◌, ◌==◌, Bool, true, false, ◌&&◌, ◌||◌, if◌then◌else◌, nat_lt, bit_and, refl, arith, ◌∙◌}
 use Rattle.std.proofs.lemmas.Bool.{eqb-true, ne_eqb, eq-eqb}
 use Rattle.std.proofs.lemmas.Bool.Decides.{nat_tests}
-use Rattle.xid_order.specs.Layouts.{bits_at}
+use Rattle.store_pages.specs.Layouts.{bits_at}
 use Rattle.slru_bank.specs.Bank.{masked}
 use Rattle.pg_xact_log.specs.States.{times_4}
 use Rattle.pg_xact_log.proofs.Mask.{every, each}

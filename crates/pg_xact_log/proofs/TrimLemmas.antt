@@ -1,17 +1,21 @@
 -- States are cleared from one on: whole bytes, and the rest of a byte.
-use Rattle.std.proofs.Common.{◌≡◌, ◌≢◌, ◌⊎◌, inl, inr, ⊎_elim, ℕ, ◌+◌, ◌-◌, ◌/◌, ◌%◌, ◌<◌, ◌≤◌, Bool, true, false, List, length, take, drop, slice_index, slice_set, bit_and, Result, Ok, Err, OnOk, OnErr, refl, sym, ap, subst, arith, ◌∙◌}
+use Rattle.std.proofs.Common.{◌≡◌, ◌≢◌, ◌⊎◌, inl, inr, ⊎_elim, ℕ, ◌+◌, ◌-◌, ◌/◌, ◌%◌, ◌<◌, ◌≤◌, Bool, true, false, List, length, take, drop, slice_index, slice_set, bit_and, Result, Ok, Err, OnOk, OnErr, IsTrue, refl, sym, ap, subst, arith, ◌∙◌}
 use Rattle.std.proofs.lemmas.List.{get_or-take, get_or-drop, get_or-set_same, get_or-set_other}
 use Rattle.slru_bank.specs.declared.refusal.BankRefusal.{BankRefusal}
 use Rattle.disk_core.specs.Pages.{Pages, zero_page}
 use Rattle.xid_order.specs.PageOrder.{Ids, page_precedes}
 use Rattle.xid_order.specs.PageWindow.{precedes_itself}
-use Rattle.xid_order.specs.Layouts.{bits_at, state_in}
+use Rattle.store_pages.specs.Layouts.{bits_at, state_in}
 use Rattle.slru_bank.specs.Bank.{masked, PutsPage, IsPage}
-use Rattle.slru_bank.specs.Crash.{SameMap, IsBetween, IsMixture, IsMixtureOrGone, byte_at}
+use Rattle.disk_core.specs.declared.page_disk.PageDisk.{Ghosts as DiskGhosts}
+use Rattle.store_pages.specs.declared.page_rule.PageRule.{Ghosts as RuleGhosts}
+use Rattle.slru_bank.specs.declared.bank.SlruBank.{SlruBank}
+use Rattle.slru_bank.specs.Calls.{CrashKeeps, CrashMayLack, SamePages, pages_of}
+use Rattle.slru_bank.specs.Crash.{SameMap, IsMixture, IsMixtureOrGone, byte_at, CrashLeaves, runs_then, wider}
 use Rattle.slru_bank.specs.Removal.{MayDrop, ClearsAfter, cleared_from}
 use Rattle.slru_bank.specs.ByteRange.{cleared_before, cleared_past}
 use Rattle.pg_xact_log.specs.States.{times_4}
-use Rattle.pg_xact_log.specs.Changes.{TrimsStates, MayTrimStates}
+use Rattle.pg_xact_log.specs.Changes.{TrimsStates}
 use Rattle.pg_xact_log.proofs.TrimBits.{low_bits, high_bits, zero_bits, bits_of_zero}
 
 same_or_not : (a b : ℕ) → (a ≡ b) ⊎ (a ≢ b)
@@ -94,102 +98,67 @@ trims_same page place m old new same trims = record {
   stay = λ q apart before. trims.stay q apart before ∙ same q;
 }
 
--- ---- some of it
+-- ---- what stands after an error, and what a crash leaves
 
-pub may_same : (page place : ℕ) (m new : ℕ → List ℕ) → SameMap m new → MayTrimStates page place m new
-may_same page place m new same = record {
-  kept = λ k below. ap (λ (l : List ℕ). state_in l k) (same page);
-  cleared = λ k from within. inr (ap (λ (l : List ℕ). state_in l k) (same page));
-  zero_or_same = λ q within apart. inr (same q);
-  stay = λ q apart before. same q;
+pub on_err : {T E : Type 0} (P : Type 0) (r : Result T E) → P → OnErr r P
+on_err P (Ok x) holds = tt
+on_err P (Err e) holds = holds
+
+pub drop_over : (gone : ℕ → Bool) (m old new : ℕ → List ℕ) → SameMap m old → MayDrop gone old new → MayDrop gone m new
+drop_over gone m old new same drops = record {
+  stay = λ q kept. drops.stay q kept ∙ same q;
+  zero_or_same = λ q. ⊎_elim (λ (h : new q ≡ zero_page). inl h) (λ (h : new q ≡ old q). inr (h ∙ same q)) (drops.zero_or_same q);
 }
 
-pub may_drop : (page place : ℕ) (m old new : ℕ → List ℕ) → SameMap m old → MayDrop (page_precedes Ids 32768 page) old new → MayTrimStates page place m new
-may_drop page place m old new same drops =
-    let here : new page ≡ m page = drops.stay page (precedes_itself Ids 32768 page) ∙ same page in
-    record {
-      kept = λ k below. ap (λ (l : List ℕ). state_in l k) here;
-      cleared = λ k from within. inr (ap (λ (l : List ℕ). state_in l k) here);
-      zero_or_same = λ q within apart. ⊎_elim (λ (h : new q ≡ zero_page). inl h) (λ (h : new q ≡ old q). inr (h ∙ same q)) (drops.zero_or_same q);
-      stay = λ q apart before. drops.stay q before ∙ same q;
-    }
-
--- the whole bytes alone
-pub may_clear : (page place : ℕ) (m old mid new : ℕ → List ℕ) → SameMap m old → ClearsAfter Ids 32768 page (place / 4 + 1) old mid → SameMap mid new → MayTrimStates page place m new
-may_clear page place m old mid new same clears still =
-    let here : new page ≡ cleared_from (place / 4 + 1) (m page) = still page ∙ clears.here ∙ ap (cleared_from (place / 4 + 1)) (same page) in
-    record {
-      kept = λ k below. ap (λ (l : List ℕ). state_in l k) here ∙ byte_kept (m page) (place / 4 + 1) k (omega arith);
-      cleared = λ k from within. ⊎_elim
-          (λ (h : k / 4 < place / 4 + 1). inr (ap (λ (l : List ℕ). state_in l k) here ∙ byte_kept (m page) (place / 4 + 1) k h))
-          (λ (h : place / 4 + 1 ≤ k / 4). inl (ap (λ (l : List ℕ). state_in l k) here ∙ byte_zero (m page) (place / 4 + 1) k h))
-          (below_or_not (k / 4) (place / 4 + 1));
-      zero_or_same = λ q within apart. ⊎_elim (λ (h : page_precedes Ids 32768 page q ≡ true). inl (still q ∙ clears.zeros q within h)) (λ (h : page_precedes Ids 32768 page q ≡ false). inr (still q ∙ clears.stay q apart h ∙ same q)) (two_ways (page_precedes Ids 32768 page q));
-      stay = λ q apart before. still q ∙ clears.stay q apart before ∙ same q;
-    }
-
--- ---- what a crash leaves
-
 -- a removal over a map that is the same
-pub same_then_gone : (gone : ℕ → Bool) (m m0 m1 : ℕ → List ℕ) (c d e : Pages) → SameMap m m0 → IsMixture m m0 c d → IsMixtureOrGone gone m0 m1 d e → IsMixtureOrGone gone m m1 c e
-same_then_gone gone m m0 m1 c d e same first second = record {
+pub same_then_gone : (gone : ℕ → Bool) (m m0 : ℕ → List ℕ) (c d e : Pages) → SameMap m m0 → IsMixture m m c d → IsMixtureOrGone gone m0 m0 d e → IsMixtureOrGone gone m m c e
+same_then_gone gone m m0 c d e same first second = record {
   each = λ q i.
       let was : slice_index (m0 q) i ≡ slice_index (m q) i = ap (λ (l : List ℕ). slice_index l i) (same q) in
       ⊎_elim
       (λ (h : byte_at e q i ≡ byte_at d q i). ⊎_elim
       (λ (k : byte_at d q i ≡ byte_at c q i). inl (h ∙ k))
-      (λ (k : (byte_at d q i ≡ slice_index (m q) i) ⊎ (byte_at d q i ≡ slice_index (m0 q) i)). ⊎_elim
+      (λ (k : (byte_at d q i ≡ slice_index (m q) i) ⊎ (byte_at d q i ≡ slice_index (m q) i)). ⊎_elim
       (λ (n : byte_at d q i ≡ slice_index (m q) i). inr (inl (h ∙ n)))
-      (λ (n : byte_at d q i ≡ slice_index (m0 q) i). inr (inl (h ∙ n ∙ was)))
+      (λ (n : byte_at d q i ≡ slice_index (m q) i). inr (inl (h ∙ n)))
       k)
       (first.each q i))
-      (λ (h : (byte_at e q i ≡ slice_index (m0 q) i) ⊎ ((byte_at e q i ≡ slice_index (m1 q) i) ⊎ ((gone q ≡ true) × (byte_at e q i ≡ 0)))). ⊎_elim
+      (λ (h : (byte_at e q i ≡ slice_index (m0 q) i) ⊎ ((byte_at e q i ≡ slice_index (m0 q) i) ⊎ ((gone q ≡ true) × (byte_at e q i ≡ 0)))). ⊎_elim
       (λ (k : byte_at e q i ≡ slice_index (m0 q) i). inr (inl (k ∙ was)))
-      (λ (k : (byte_at e q i ≡ slice_index (m1 q) i) ⊎ ((gone q ≡ true) × (byte_at e q i ≡ 0))). inr (inr k))
+      (λ (k : (byte_at e q i ≡ slice_index (m0 q) i) ⊎ ((gone q ≡ true) × (byte_at e q i ≡ 0))). ⊎_elim
+      (λ (n : byte_at e q i ≡ slice_index (m0 q) i). inr (inl (n ∙ was)))
+      (λ (n : (gone q ≡ true) × (byte_at e q i ≡ 0)). inr (inr (inr n)))
+      k)
       h)
       (second.each q i);
 }
 
 -- no removal is a removal of nothing
-pub none_gone : (gone : ℕ → Bool) (m m0 m1 : ℕ → List ℕ) (c d : Pages) → SameMap m m0 → IsMixture m m0 c d → IsMixtureOrGone gone m m1 c d
-none_gone gone m m0 m1 c d same first = record {
+pub none_gone : (gone : ℕ → Bool) (m : ℕ → List ℕ) (c d : Pages) → IsMixture m m c d → IsMixtureOrGone gone m m c d
+none_gone gone m c d first = record {
   each = λ q i. ⊎_elim
       (λ (k : byte_at d q i ≡ byte_at c q i). inl k)
-      (λ (k : (byte_at d q i ≡ slice_index (m q) i) ⊎ (byte_at d q i ≡ slice_index (m0 q) i)). ⊎_elim
+      (λ (k : (byte_at d q i ≡ slice_index (m q) i) ⊎ (byte_at d q i ≡ slice_index (m q) i)). ⊎_elim
       (λ (n : byte_at d q i ≡ slice_index (m q) i). inr (inl n))
-      (λ (n : byte_at d q i ≡ slice_index (m0 q) i). inr (inl (n ∙ ap (λ (l : List ℕ). slice_index l i) (same q))))
+      (λ (n : byte_at d q i ≡ slice_index (m q) i). inr (inl n))
       k)
       (first.each q i);
 }
 
--- after the whole bytes each byte is as before or as at the end
-pub trim_between : (page at v : ℕ) (m old mid new : ℕ → List ℕ) → SameMap m old → ClearsAfter Ids 32768 page (at + 1) old mid → PutsPage page (slice_set (mid page) at v) mid new → IsBetween m new mid
-trim_between page at v m old mid new same clears puts q i = ⊎_elim
-    (λ (here : q ≡ page). ⊎_elim
-    (λ (h : i ≡ at). inl (subst (λ (p : ℕ). slice_index (mid p) i ≡ slice_index (m p) i) (sym here)
-    (ap (λ (l : List ℕ). slice_index l i) (clears.here ∙ ap (cleared_from (at + 1)) (same page)) ∙ cleared_before (m page) (at + 1) i (omega arith))))
-    (λ (h : i ≢ at). inr (subst (λ (p : ℕ). slice_index (mid p) i ≡ slice_index (new p) i) (sym here)
-    (sym (ap (λ (l : List ℕ). slice_index l i) puts.here ∙ get_or-set_other (mid page) at i v 0 h))))
-    (same_or_not i at))
-    (λ (apart : q ≢ page). inr (sym (ap (λ (l : List ℕ). slice_index l i) (puts.others q apart))))
-    (same_or_not q page)
+-- a read of a page, and then a removal
+module _ {P O : Type 0} {g : DiskGhosts P} {r : RuleGhosts O} (gone : ℕ → Bool) (b0 b1 b2 : SlruBank P O g r) where
+  pub read_crash : CrashKeeps b0 b1 → CrashMayLack gone b0 b1
+  read_crash keeps told = wider g.images g.moment g.left_at (IsMixture (pages_of b0) (pages_of b0)) (IsMixtureOrGone gone (pages_of b0) (pages_of b0)) b0.disk b1.disk (none_gone gone (pages_of b0)) (keeps told)
 
-pub still_between : (m mid new : ℕ → List ℕ) → SameMap mid new → IsBetween m new mid
-still_between m mid new still q i = inr (ap (λ (l : List ℕ). slice_index l i) (sym (still q)))
-
--- a byte that was read
-pub first_read : (xs : List ℕ) (at : ℕ) → slice_index (take 1 (drop at xs)) 0 ≡ slice_index xs at
-first_read xs at = let e : at + 0 ≡ at = omega arith in get_or-take 1 (drop at xs) 0 0 (omega arith) ∙ get_or-drop at xs 0 0 ∙ ap (λ (i : ℕ). slice_index xs i) e
+  pub trim_crash : (d : P) → d ≡ b2.disk → (IsTrue g.tells → SamePages b0 b1) → CrashKeeps b0 b1 → CrashMayLack gone b1 b2
+      → IsTrue g.tells → CrashLeaves (IsMixtureOrGone gone (pages_of b0) (pages_of b0)) g.images g.moment g.left_at b0.disk d
+  trim_crash d is same keeps lacks told =
+      let m = pages_of b0 in
+      let m1 = pages_of b1 in
+      subst (λ (e : P). CrashLeaves (IsMixtureOrGone gone (pages_of b0) (pages_of b0)) g.images g.moment g.left_at b0.disk e) (sym is) (runs_then g.images g.moment g.left_at (IsMixture m m) (IsMixtureOrGone gone m1 m1) (IsMixtureOrGone gone m m) b0.disk b1.disk b2.disk
+      (none_gone gone m) (λ x y z s t. same_then_gone gone m m1 x y z (same told) s t) (keeps told) (lacks told))
 
 pub trims_ok : (r : Result (Unit {0}) BankRefusal) (page place : ℕ) (m old mid new : ℕ → List ℕ) → place % 4 ≢ 0 → place < 32768 → SameMap m old → ClearsAfter Ids 32768 page (place / 4 + 1) old mid → OnOk r (IsPage (mid page))
     → OnOk r (PutsPage page (slice_set (mid page) (place / 4) (masked (slice_index (mid page) (place / 4)) (256 - times_4 1 (place % 4)) 0)) mid new) → OnOk r (TrimsStates page place m new)
 trims_ok (Ok x) page place m old mid new odd within same clears whole puts = trims_same page place m old new same (trims_set page place old mid new odd within clears whole puts)
 trims_ok (Err e) page place m old mid new odd within same clears whole puts = tt
-
-pub trims_err : (r : Result (Unit {0}) BankRefusal) (page place : ℕ) (m old mid new : ℕ → List ℕ) → SameMap m old → ClearsAfter Ids 32768 page (place / 4 + 1) old mid → OnErr r (SameMap mid new) → OnErr r (MayTrimStates page place m new)
-trims_err (Ok x) page place m old mid new same clears still = tt
-trims_err (Err e) page place m old mid new same clears still = may_clear page place m old mid new same clears still
-
-pub between_either : (r : Result (Unit {0}) BankRefusal) (page at v : ℕ) (m old mid new : ℕ → List ℕ) → SameMap m old → ClearsAfter Ids 32768 page (at + 1) old mid → OnOk r (PutsPage page (slice_set (mid page) at v) mid new) → OnErr r (SameMap mid new) → IsBetween m new mid
-between_either (Ok x) page at v m old mid new same clears puts still = trim_between page at v m old mid new same clears puts
-between_either (Err e) page at v m old mid new same clears puts still = still_between m mid new still

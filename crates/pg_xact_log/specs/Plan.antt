@@ -1,5 +1,6 @@
 -- The tree rule of a commit: which pages change, and in which order.
-use Rattle.std.specs.Prelude.{ℕ, ◌+◌, ◌/◌, ◌%◌, ◌^◌, ◌==◌, true, false, if◌then◌else◌, List, [], ◌∷◌, ◌++◌, map}
+use Rattle.std.specs.Prelude.{ℕ, ◌+◌, ◌%◌, ◌^◌, ◌==◌, true, false, if◌then◌else◌, List, [], ◌∷◌, ◌++◌, map}
+use Rattle.store_pages.specs.Pages.{xact_page}
 use Rattle.pg_xact_log.specs.declared.xact_state.State.{State}
 use Rattle.pg_xact_log.specs.declared.xact_state.State.TheVariants.{Committed, SubCommitted}
 use Rattle.pg_xact_log.specs.declared.plan.PlanStep.{PlanStep}
@@ -10,10 +11,6 @@ pub record Run : Type 0 where
   pub first : ℕ
   pub past : ℕ
 
--- the page, counted on over all full ids
-abbrev pub full_page : ℕ → ℕ
-full_page id = id / 32768
-
 -- a subid in front of runs, in the first of them or in one of its own
 abbrev pub with_next : ℕ → ℕ → List Run → List Run
 with_next page at [] = record { page = page; first = at; past = at + 1 } ∷ []
@@ -23,7 +20,7 @@ with_next page at (r ∷ rs) =
 -- the runs of subids of which the first one is the at-th
 abbrev pub runs : ℕ → List ℕ → List Run
 runs at [] = []
-runs at (id ∷ ids) = with_next (full_page id) at (runs (at + 1) ids)
+runs at (id ∷ ids) = with_next (xact_page id) at (runs (at + 1) ids)
 
 -- a step over a run's page
 abbrev pub run_step : State → Run → PlanStep
@@ -31,7 +28,7 @@ run_step state r = record { page = r.page % 2 ^ 17; state = state; with_top = fa
 
 -- the step over the top's page, with the first subids
 abbrev pub top_step : ℕ → ℕ → PlanStep
-top_step top past = record { page = full_page top % 2 ^ 17; state = Committed; with_top = true; first = 0; past = past }
+top_step top past = record { page = xact_page top % 2 ^ 17; state = Committed; with_top = true; first = 0; past = past }
 
 -- all other pages sub-committed, then the top's page, then all others committed
 abbrev pub around : PlanStep → List Run → List PlanStep
@@ -40,7 +37,7 @@ around top rs = map (run_step SubCommitted) rs ++ (top ∷ map (run_step Committ
 -- the steps, where these are the runs of all subids
 abbrev pub plan_over : ℕ → List Run → List PlanStep
 plan_over top [] = around (top_step top 0) []
-plan_over top (r ∷ rs) = if r.page == full_page top then around (top_step top r.past) rs else around (top_step top 0) (r ∷ rs)
+plan_over top (r ∷ rs) = if r.page == xact_page top then around (top_step top r.past) rs else around (top_step top 0) (r ∷ rs)
 
 -- the steps for a top and its subids, which ascend from it
 abbrev pub plan : ℕ → List ℕ → List PlanStep
@@ -48,4 +45,4 @@ plan top subs = plan_over top (runs 0 subs)
 
 -- the run of this subid's page
 abbrev pub run_at : ℕ → ℕ → ℕ → Run
-run_at id first past = record { page = full_page id; first = first; past = past }
+run_at id first past = record { page = xact_page id; first = first; past = past }

@@ -4,7 +4,8 @@ use Rattle.std.proofs.lemmas.Bool.Decides.{nat_tests}
 use Rattle.pg_xact_log.specs.declared.xact_state.State.{State}
 use Rattle.pg_xact_log.specs.declared.xact_state.State.TheVariants.{InProgress, Committed, Aborted, SubCommitted}
 use Rattle.pg_xact_log.specs.declared.plan.PlanStep.{PlanStep}
-use Rattle.pg_xact_log.specs.Plan.{Run, full_page, with_next, runs, run_step, top_step, around, plan_over, plan}
+use Rattle.store_pages.specs.Pages.{xact_page}
+use Rattle.pg_xact_log.specs.Plan.{Run, with_next, runs, run_step, top_step, around, plan_over, plan}
 
 -- 1 for a number of a range, 0 for others
 abbrev pub in_range : ℕ → ℕ → ℕ → ℕ
@@ -66,7 +67,7 @@ next_begins p at (r ∷ rs) begins = of (r.page == p)
 
 runs_begin : (at : ℕ) (ids : List ℕ) → Begins at (runs at ids)
 runs_begin at [] = tt
-runs_begin at (id ∷ ids) = next_begins (full_page id) at (runs (at + 1) ids) (runs_begin (at + 1) ids)
+runs_begin at (id ∷ ids) = next_begins (xact_page id) at (runs (at + 1) ids) (runs_begin (at + 1) ids)
 
 count_next : (i p at : ℕ) (rs : List Run) → Begins (at + 1) rs → in_runs i (with_next p at rs) ≡ in_range i at (at + 1) + in_runs i rs
 unfolding in_runs
@@ -86,12 +87,12 @@ counted i at [] = let e : at + 0 ≡ at = omega arith in rw e (sym (nothing i at
 counted i at (id ∷ ids) =
     let rest : in_runs i (runs (at + 1) ids) ≡ in_range i (at + 1) (at + 1 + length ids) = counted i (at + 1) ids in
     let long : at + 1 + length ids ≡ at + suc (length ids) = omega arith in
-    count_next i (full_page id) at (runs (at + 1) ids) (runs_begin (at + 1) ids) ∙ rw (rest, long) (sym (split_range i at (at + suc (length ids)) (omega arith)))
+    count_next i (xact_page id) at (runs (at + 1) ids) (runs_begin (at + 1) ids) ∙ rw (rest, long) (sym (split_range i at (at + suc (length ids)) (omega arith)))
 
 over_runs : (i top : ℕ) (rs : List Run) → Begins 0 rs → times_committed i (plan_over top rs) ≡ in_runs i rs
 unfolding in_runs
 over_runs i top [] begins = round_top i top 0 [] ∙ (let none : in_range i 0 0 ≡ 0 = nothing i 0 in rw none refl)
-over_runs i top (r ∷ rs) begins = of (r.page == full_page top)
+over_runs i top (r ∷ rs) begins = of (r.page == xact_page top)
   where
     of : (same : Bool) → times_committed i (cond same (around (top_step top r.past) rs) (around (top_step top 0) (r ∷ rs))) ≡ in_range i r.first r.past + in_runs i rs
     of true = round_top i top r.past rs ∙ ap (λ (f : ℕ). in_range i f r.past + in_runs i rs) (sym begins.0)

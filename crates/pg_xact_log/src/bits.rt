@@ -1,6 +1,6 @@
 // Two bits of a byte.
 ghost use Rattle.std.specs.Prelude.{◌≡◌, ◌<◌};
-ghost use Rattle.xid_order.specs.Layouts.{bits_at};
+ghost use Rattle.store_pages.specs.Layouts.{bits_at};
 ghost use Rattle.pg_xact_log.specs.States.{state_number, times_4};
 
 use crate::State;

@@ -1,9 +1,8 @@
 //! The commit log: the states of transactions, two bits an id, and the steps of a commit over several pages. After
-//! PostgreSQL's `src/backend/access/transam/clog.c` and `transam.c`.
+//! PostgreSQL's `src/backend/access/transam/clog.c` and `transam.c`. `docs/PAGES.md` tells more.
 #![tactic(auto)]
 
 mod bits;
-mod pages;
 mod plan;
 mod states;
 #[cfg(test)]
@@ -11,7 +10,6 @@ mod tests;
 mod trim;
 mod xact_state;
 
-pub use pages::{XactPages, xact_page, xact_page_precedes};
 pub use plan::{PlanStep, commits_each_once, plan_step};
 pub use states::{set_states, state};
 pub use trim::trim_after;

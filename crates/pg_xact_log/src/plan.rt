@@ -1,9 +1,10 @@
 // The tree rule: a commit whose ids lie on several pages changes them in steps.
 ghost use Rattle.std.specs.Prelude.{◌≡◌, ◌≤◌, ◌<◌, ◌+◌, ◌/◌, ℕ, List, ◌∷◌, length, drop, slice_get, slice_index, option_map};
-ghost use Rattle.pg_xact_log.specs.Plan.{Run, full_page, runs, run_at, run_step, top_step, around, plan};
+ghost use Rattle.pg_xact_log.specs.Plan.{Run, runs, run_at, run_step, top_step, around, plan};
 ghost use Rattle.pg_xact_log.specs.PlanLaw.{times_committed};
 
 use crate::State;
+use store_pages::{xact_page, xact_page_in_full};
 use xid_order::FullXid;
 
 /// A step of a commit: on one page the subids from the `first` one to before the `past` one, and the top too where
@@ -24,9 +25,9 @@ fn run_end(subs: &[FullXid], first: usize) -> usize
     ensures within { result ≤ length subs.now }
     ensures run { runs first (drop first subs.now) ≡ run_at (slice_index subs.now first) first result ∷ runs result (drop result subs.now) }
 {
-    let page = subs[first].number() / 32768;
+    let page = xact_page_in_full(subs[first]);
     let mut past = first + 1;
-    while past < subs.len() && subs[past].number() / 32768 == page {
+    while past < subs.len() && xact_page_in_full(subs[past]) == page {
         past += 1;
     }
     past
@@ -57,7 +58,7 @@ fn step_of_run(subs: &[FullXid], from: usize, k: u64, state: State) -> Option<Pl
         let past = run_end(subs, first);
         if left == 0 {
             return Some(PlanStep {
-                page: subs[first].low().number / 32768,
+                page: xact_page(subs[first].low()),
                 state,
                 with_top: false,
                 first,
@@ -75,7 +76,7 @@ fn own_past(top: FullXid, subs: &[FullXid]) -> usize
     ensures within { result ≤ length subs.now }
     ensures plan { plan top subs.now ≡ around (top_step top result) (runs result (drop result subs.now)) }
 {
-    if !subs.is_empty() && subs[0].number() / 32768 == top.number() / 32768 {
+    if !subs.is_empty() && xact_page_in_full(subs[0]) == xact_page_in_full(top) {
         run_end(subs, 0)
     } else {
         0
@@ -94,7 +95,7 @@ pub fn plan_step(top: FullXid, subs: &[FullXid], k: u64) -> Option<PlanStep>
         step_of_run(subs, own, k, State::SubCommitted)
     } else if k == others {
         Some(PlanStep {
-            page: top.low().number / 32768,
+            page: xact_page(top.low()),
             state: State::Committed,
             with_top: true,
             first: 0,

@@ -1,16 +1,20 @@
+// The states past the last id, cleared as a life begins.
 ghost use Rattle.std.specs.Prelude.{◌≡◌, ◌≢◌, ℕ, ◌+◌, ◌-◌, ◌*◌, ◌/◌, ◌%◌, ◌^◌, ◌<◌, ◌≤◌, Bool, true, IsTrue, List, slice_index, slice_set, bit_and, OnOk, OnErr, IfOk, Err};
 ghost use Rattle.disk_core.specs.Faults.{HasRisen};
 ghost use Rattle.xid_order.specs.Ids.{low_half};
-ghost use Rattle.xid_order.specs.PageOrder.{Ids, is_cut, page_precedes};
-ghost use Rattle.slru_bank.specs.Bank.{map_of, masked, PutsPage, IsPage};
-ghost use Rattle.slru_bank.specs.Crash.{SameMap, CrashLeaves, IsMixture, IsMixtureOrGone};
+ghost use Rattle.xid_order.specs.PageOrder.{Ids, page_precedes};
+ghost use Rattle.store_pages.specs.Layouts.{xact_page_of, xact_place_of};
+ghost use Rattle.store_pages.specs.Pages.{xacts_per_page};
+ghost use Rattle.slru_bank.specs.Bank.{masked, PutsPage, IsPage};
+ghost use Rattle.slru_bank.specs.Calls.{CrashMayLack, IsCut, cutoff_of, faults_of, last_page, pages_of};
+ghost use Rattle.slru_bank.specs.Removal.{MayDrop};
 ghost use Rattle.slru_bank.specs.declared.refusal.BankRefusal.TheVariants.{Cut, DiskFault};
-ghost use Rattle.pg_xact_log.specs.Changes.{TrimsStates, MayTrimStates};
+ghost use Rattle.pg_xact_log.specs.Changes.{TrimsStates};
 ghost use Rattle.pg_xact_log.specs.States.{times_4};
 
-use crate::pages::{XactPages, xact_page};
 use disk_core::PageDisk;
 use slru_bank::{BankRefusal, SlruBank};
+use store_pages::{XactPages, xact_page, xact_place};
 use xid_order::FullXid;
 
 // The bits of a byte's ids from this one on, for an id that isn't its first.
@@ -27,25 +31,25 @@ fn mask_from(place: u32) -> u8
 }
 
 /// Clears the states from an id on: the rest of its page, and each later page is removed (`TrimCLOG`). A bank that isn't
-/// the page's loses its later pages alone. After an `Err` some of these states and pages are cleared.
+/// the page's loses its later pages alone. After an `Err` some of the later pages are removed, and no other one changed.
 pub fn trim_after<P: PageDisk>(
     bank: &mut SlruBank<P, XactPages>,
     next: FullXid,
 ) -> Result<(), BankRefusal>
-    ensures ok { IsTrue P.tells → OnOk result (TrimsStates (low_half next / 32768) (low_half next % 32768) (map_of (P.pages bank.old.disk) bank.old.buffers.items) (map_of (P.pages bank.new.disk) bank.new.buffers.items)) }
-    ensures err { IsTrue P.tells → OnErr result (MayTrimStates (low_half next / 32768) (low_half next % 32768) (map_of (P.pages bank.old.disk) bank.old.buffers.items) (map_of (P.pages bank.new.disk) bank.new.buffers.items)) }
-    ensures last { bank.new.last ≡ bank.old.last }
-    ensures cutoff { bank.new.cutoff ≡ bank.old.cutoff }
+    ensures ok { IsTrue P.tells → OnOk result (TrimsStates (xact_page_of next) (xact_place_of next) (pages_of bank.old) (pages_of bank.new)) }
+    ensures err { IsTrue P.tells → OnErr result (MayDrop (page_precedes Ids xacts_per_page (xact_page_of next)) (pages_of bank.old) (pages_of bank.new)) }
+    ensures last { last_page bank.new ≡ last_page bank.old }
+    ensures cutoff { cutoff_of bank.new ≡ cutoff_of bank.old }
     // Only where the id isn't the first of its byte, since that byte is read then.
-    ensures cut { low_half next % 4 ≢ 0 → IsTrue (is_cut Ids 32768 bank.old.cutoff (low_half next / 32768)) → result ≡ Err (Cut bank.old.cutoff) }
-    ensures only_cut { (c : ℕ) → result ≡ Err (Cut c) → (c ≡ bank.old.cutoff) × (low_half next % 4 ≢ 0) × IsTrue (is_cut Ids 32768 bank.old.cutoff (low_half next / 32768)) }
-    ensures fault { result ≡ Err DiskFault → HasRisen (P.faults bank.old.disk) (P.faults bank.new.disk) }
-    ensures count { P.faults bank.old.disk ≤ P.faults bank.new.disk }
-    ensures crash { IsTrue P.tells → CrashLeaves (IsMixtureOrGone (page_precedes Ids 32768 (low_half next / 32768)) (map_of (P.pages bank.old.disk) bank.old.buffers.items) (map_of (P.pages bank.new.disk) bank.new.buffers.items)) P.images P.moment P.left_at bank.old.disk bank.new.disk }
+    ensures cut { low_half next % 4 ≢ 0 → IsCut (xact_page_of next) bank.old → result ≡ Err (Cut (cutoff_of bank.old)) }
+    ensures only_cut { (c : ℕ) → result ≡ Err (Cut c) → (c ≡ cutoff_of bank.old) × (low_half next % 4 ≢ 0) × IsCut (xact_page_of next) bank.old }
+    ensures fault { result ≡ Err DiskFault → HasRisen (faults_of bank.old) (faults_of bank.new) }
+    ensures count { faults_of bank.old ≤ faults_of bank.new }
+    ensures crash { CrashMayLack (page_precedes Ids xacts_per_page (xact_page_of next)) bank.old bank.new }
 {
     let x = next.low();
     let page = xact_page(x);
-    let place = x.number % 32768;
+    let place = xact_place(x);
     if place % 4 == 0 {
         return bank.clear_after(page, place / 4);
     }
@@ -59,16 +63,16 @@ fn trim_within<P: PageDisk>(
     place: u32,
 ) -> Result<(), BankRefusal>
     requires odd { place % 4 ≢ 0 }
-    requires within { place < 32768 }
-    ensures ok { IsTrue P.tells → OnOk result (TrimsStates page place (map_of (P.pages bank.old.disk) bank.old.buffers.items) (map_of (P.pages bank.new.disk) bank.new.buffers.items)) }
-    ensures err { IsTrue P.tells → OnErr result (MayTrimStates page place (map_of (P.pages bank.old.disk) bank.old.buffers.items) (map_of (P.pages bank.new.disk) bank.new.buffers.items)) }
-    ensures last { bank.new.last ≡ bank.old.last }
-    ensures cutoff { bank.new.cutoff ≡ bank.old.cutoff }
-    ensures cut { IsTrue (is_cut Ids 32768 bank.old.cutoff page) → result ≡ Err (Cut bank.old.cutoff) }
-    ensures only_cut { (c : ℕ) → result ≡ Err (Cut c) → (c ≡ bank.old.cutoff) × IsTrue (is_cut Ids 32768 bank.old.cutoff page) }
-    ensures fault { result ≡ Err DiskFault → HasRisen (P.faults bank.old.disk) (P.faults bank.new.disk) }
-    ensures count { P.faults bank.old.disk ≤ P.faults bank.new.disk }
-    ensures crash { IsTrue P.tells → CrashLeaves (IsMixtureOrGone (page_precedes Ids 32768 page) (map_of (P.pages bank.old.disk) bank.old.buffers.items) (map_of (P.pages bank.new.disk) bank.new.buffers.items)) P.images P.moment P.left_at bank.old.disk bank.new.disk }
+    requires within { place < xacts_per_page }
+    ensures ok { IsTrue P.tells → OnOk result (TrimsStates page place (pages_of bank.old) (pages_of bank.new)) }
+    ensures err { IsTrue P.tells → OnErr result (MayDrop (page_precedes Ids xacts_per_page page) (pages_of bank.old) (pages_of bank.new)) }
+    ensures last { last_page bank.new ≡ last_page bank.old }
+    ensures cutoff { cutoff_of bank.new ≡ cutoff_of bank.old }
+    ensures cut { IsCut page bank.old → result ≡ Err (Cut (cutoff_of bank.old)) }
+    ensures only_cut { (c : ℕ) → result ≡ Err (Cut c) → (c ≡ cutoff_of bank.old) × IsCut page bank.old }
+    ensures fault { result ≡ Err DiskFault → HasRisen (faults_of bank.old) (faults_of bank.new) }
+    ensures count { faults_of bank.old ≤ faults_of bank.new }
+    ensures crash { CrashMayLack (page_precedes Ids xacts_per_page page) bank.old bank.new }
 {
     let mut byte = [0; 1];
     bank.read(page, place / 4, &mut byte)?;

@@ -1,3 +1,4 @@
+// The four states of an id.
 /// What the commit log holds of a transaction (`XidStatus`).
 #[derive(Clone, Copy, Debug, PartialEq, Eq)]
 pub enum State {

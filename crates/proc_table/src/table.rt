@@ -25,14 +25,12 @@ use crate::live::LiveSnapshots;
 use horizon_limits::check_id;
 use std::alloc::{AllocError, Global};
 use std::marker::Model;
+use store_pages::subtrans_page_in_full;
 use tx_events::{
     By, Copied, Counters, Event, EventList, Memory, Name, Refusal, SnapData, XactEnd,
     make_one_room, make_room,
 };
 use xid_order::FullXid;
-
-/// How many ids have their parents on one page of `pg_subtrans` (`SUBTRANS_XACTS_PER_PAGE`).
-const PAGE_IDS: u64 = 2048;
 
 /// The running transactions and the live snapshots of all sessions, and the history so far: what PostgreSQL keeps under
 /// `ProcArrayLock` and `XidGenLock`, here one lock. A contract sees the base of the life, the number of sessions, the
@@ -75,7 +73,7 @@ impl Model for ProcTable {
 fn page_of(id: FullXid) -> u64
     ensures { result ≡ page_of id }
 {
-    id.number() / PAGE_IDS
+    subtrans_page_in_full(id)
 }
 
 impl ProcTable {

@@ -2,7 +2,7 @@
 use Rattle.std.proofs.Common.{◌≡◌, ⊎_elim, ℕ, ◌+◌, ◌*◌, ◌/◌, ◌%◌, ◌^◌, ◌<◌, ◌≤◌, List, ◌++◌, length, slice_index, Result, Ok, Err, OnOk, sym, ◌∙◌, ap, arith}
 use Rattle.byteorder.specs.Endian.{little_bytes, little_from}
 use Rattle.byteorder.specs.Numbers.{little_from-bytes}
-use Rattle.xid_order.specs.Layouts.{number_in}
+use Rattle.store_pages.specs.Layouts.{number_in}
 use Rattle.slru_bank.specs.Bank.{placed, PutsPage, IsPage}
 use Rattle.slru_bank.specs.ByteRange.{PutsNumber, placed_before, placed_in, placed_past}
 use Rattle.slru_bank.specs.declared.refusal.BankRefusal.{BankRefusal}

@@ -1,8 +1,8 @@
 -- Pages of zeros, and pages with zeros at their end.
-use Rattle.std.proofs.Common.{◌≡◌, ◌⊎◌, inl, inr, ⊎_elim, ℕ, zero, suc, ◌-◌, ◌<◌, ◌≤◌, Bool, true, false, List, [], ◌∷◌, ◌++◌, length, take, replicate, slice_index, refl, ◌∙◌, ap, arith}
+use Rattle.std.proofs.Common.{◌≡◌, ◌⊎◌, inl, inr, ⊎_elim, ℕ, zero, suc, ◌-◌, ◌<◌, ◌≤◌, Bool, true, false, List, [], ◌∷◌, ◌++◌, length, take, replicate, slice_index, refl, subst, sym, ◌∙◌, ap, arith}
 use Rattle.std.proofs.lemmas.List.{get_or-replicate, get_or_past, length-replicate}
 use Rattle.disk_core.specs.Pages.{Pages, page_bytes, zero_page}
-use Rattle.slru_bank.specs.Crash.{IsMixture, IsMixtureOrGone, byte_at}
+use Rattle.slru_bank.specs.Crash.{CrashLeaves, runs_then, IsMixture, IsMixtureOrGone, byte_at}
 use Rattle.slru_bank.specs.Removal.{MayDrop, MayLack}
 use Rattle.slru_bank.proofs.BufferLists.{two_ways}
 
@@ -46,11 +46,11 @@ gone_mixture gone m new c d lack = record {
 }
 
 -- after a removal a mixture over the map that is left
-pub gone_then : (gone : ℕ → Bool) (m m1 m2 : ℕ → List ℕ) (c d e : Pages) → MayDrop gone m m1 → IsMixtureOrGone gone m m1 c d → IsMixture m1 m2 d e → IsMixtureOrGone gone m m2 c e
-gone_then gone m m1 m2 c d e drop first second = record {
+pub gone_then : (gone : ℕ → Bool) (m m1 : ℕ → List ℕ) (c d e : Pages) → MayDrop gone m m1 → IsMixtureOrGone gone m m c d → IsMixture m1 m1 d e → IsMixtureOrGone gone m m c e
+gone_then gone m m1 c d e drop first second = record {
   each = λ q i.
       -- a byte of the map that is left
-      let left : byte_at e q i ≡ slice_index (m1 q) i → (byte_at e q i ≡ byte_at c q i) ⊎ ((byte_at e q i ≡ slice_index (m q) i) ⊎ ((byte_at e q i ≡ slice_index (m2 q) i) ⊎ ((gone q ≡ true) × (byte_at e q i ≡ 0)))) = λ h. ⊎_elim
+      let left : byte_at e q i ≡ slice_index (m1 q) i → (byte_at e q i ≡ byte_at c q i) ⊎ ((byte_at e q i ≡ slice_index (m q) i) ⊎ ((byte_at e q i ≡ slice_index (m q) i) ⊎ ((gone q ≡ true) × (byte_at e q i ≡ 0)))) = λ h. ⊎_elim
       (λ (taken : gone q ≡ true). ⊎_elim
       (λ (none : m1 q ≡ zero_page). inr (inr (inr (taken, h ∙ ap (λ (l : List ℕ). slice_index l i) none ∙ zero_byte i))))
       (λ (same : m1 q ≡ m q). inr (inl (h ∙ ap (λ (l : List ℕ). slice_index l i) same)))
@@ -58,16 +58,13 @@ gone_then gone m m1 m2 c d e drop first second = record {
       (λ (kept : gone q ≡ false). inr (inl (h ∙ ap (λ (l : List ℕ). slice_index l i) (drop.stay q kept))))
       (two_ways (gone q)) in
       ⊎_elim
-      (λ (h : byte_at e q i ≡ byte_at d q i). ⊎_elim
-      (λ (k : byte_at d q i ≡ byte_at c q i). inl (h ∙ k))
-      (λ (k : (byte_at d q i ≡ slice_index (m q) i) ⊎ ((byte_at d q i ≡ slice_index (m1 q) i) ⊎ ((gone q ≡ true) × (byte_at d q i ≡ 0)))). ⊎_elim
-      (λ (n : byte_at d q i ≡ slice_index (m q) i). inr (inl (h ∙ n)))
-      (λ (n : (byte_at d q i ≡ slice_index (m1 q) i) ⊎ ((gone q ≡ true) × (byte_at d q i ≡ 0))). ⊎_elim
-      (λ (r : byte_at d q i ≡ slice_index (m1 q) i). left (h ∙ r))
-      (λ (r : (gone q ≡ true) × (byte_at d q i ≡ 0)). inr (inr (inr (r.0, h ∙ r.1))))
-      n)
-      k)
-      (first.each q i))
-      (λ (k : (byte_at e q i ≡ slice_index (m1 q) i) ⊎ (byte_at e q i ≡ slice_index (m2 q) i)). ⊎_elim left (λ (h : byte_at e q i ≡ slice_index (m2 q) i). inr (inr (inl h))) k)
+      (λ (h : byte_at e q i ≡ byte_at d q i). subst (λ (b : ℕ). (b ≡ byte_at c q i) ⊎ ((b ≡ slice_index (m q) i) ⊎ ((b ≡ slice_index (m q) i) ⊎ ((gone q ≡ true) × (b ≡ 0))))) (sym h) (first.each q i))
+      (λ (k : (byte_at e q i ≡ slice_index (m1 q) i) ⊎ (byte_at e q i ≡ slice_index (m1 q) i)). ⊎_elim left left k)
       (second.each q i);
 }
+
+-- a removal, and then calls that leave the map
+pub gone_crash : {D : Type 0} (images : D → Pages → Type 0) (moment : D → ℕ) (left_at : D → ℕ → Pages → Type 0) (gone : ℕ → Bool) (m m1 : ℕ → List ℕ) (d0 d1 d2 : D) → MayDrop gone m m1
+    → CrashLeaves (IsMixtureOrGone gone m m) images moment left_at d0 d1 → CrashLeaves (IsMixture m1 m1) images moment left_at d1 d2 → CrashLeaves (IsMixtureOrGone gone m m) images moment left_at d0 d2
+gone_crash images moment left_at gone m m1 d0 d1 d2 drop first second =
+    runs_then images moment left_at (IsMixtureOrGone gone m m) (IsMixture m1 m1) (IsMixtureOrGone gone m m) d0 d1 d2 (λ x y s. s) (λ x y z s t. gone_then gone m m1 x y z drop s t) first second

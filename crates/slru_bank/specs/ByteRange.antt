@@ -1,7 +1,7 @@
 -- Bytes of a page of which a range was set: those in the range, and the rest that stay. (Lemmas that the stores use.)
 use Rattle.std.proofs.Common.{◌≡◌, ◌≢◌, ◌⊎◌, inl, inr, ⊎_elim, ℕ, zero, suc, ◌+◌, ◌-◌, ◌*◌, ◌<◌, ◌≤◌, ◌^◌, true, false, List, [], ◌∷◌, ◌++◌, length, take, drop, replicate, slice_index, Result, Ok, Err, OnOk, refl, sym, ◌∙◌, ap, arith}
-use Rattle.std.proofs.lemmas.List.{get_or-drop}
-use Rattle.xid_order.specs.Layouts.{number_in}
+use Rattle.std.proofs.lemmas.List.{get_or-drop, get_or-take}
+use Rattle.store_pages.specs.Layouts.{number_in}
 use Rattle.slru_bank.specs.Bank.{placed, OthersStay}
 use Rattle.disk_core.specs.Pages.{zero_page}
 use Rattle.xid_order.specs.PageOrder.{Shape, page_precedes}
@@ -31,6 +31,11 @@ cleared_before xs at i below = front_kept xs at (8192 - at) i below
 
 pub cleared_past : (xs : List ℕ) (at i : ℕ) → at ≤ i → slice_index (cleared_from at xs) i ≡ 0
 cleared_past xs at i from = end_zero xs at (8192 - at) i from
+
+-- ---- a byte that was read
+
+pub first_read : (xs : List ℕ) (at : ℕ) → slice_index (take 1 (drop at xs)) 0 ≡ slice_index xs at
+first_read xs at = let e : at + 0 ≡ at = omega arith in get_or-take 1 (drop at xs) 0 0 (omega arith) ∙ get_or-drop at xs 0 0 ∙ ap (λ (i : ℕ). slice_index xs i) e
 
 -- ---- bytes put at a place
 

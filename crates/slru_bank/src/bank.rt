@@ -1,5 +1,6 @@
-// A bank: 16 buffers over a volume of pages.
-ghost use Rattle.std.specs.Prelude.{◌≡◌, ◌≢◌, ◌⊎◌, ℕ, ◌+◌, ◌-◌, ◌<◌, ◌≤◌, ◌^◌, Bool, true, false, List, ◌∷◌, length, take, drop, slice_index, slice_set, bit_and, bit_or, OnOk, OnErr, IsTrue, Some, None, IfOk, IfErr, Ok, Err, cond, ◌&&◌, is_ok, IsErr, MatchBool};
+// A bank: 16 buffers over a volume of pages. Each call first brings its page to the front; what it changes stands in a
+// buffer until the buffer is taken for another page, or all are flushed.
+ghost use Rattle.std.specs.Prelude.{◌≡◌, ◌≢◌, ◌⊎◌, ℕ, ◌+◌, ◌-◌, ◌<◌, ◌≤◌, ◌^◌, Bool, true, false, List, ◌∷◌, length, take, drop, slice_index, slice_set, bit_and, bit_or, OnOk, OnErr, IsOk, IsTrue, Some, None, IfOk, IfErr, Ok, Err, cond, ◌&&◌, is_ok, IsErr, MatchBool};
 ghost use Rattle.std.proofs.Props.{props};
 ghost use Rattle.disk_core.specs.Faults.{CountsFault, HasRisen};
 ghost use Rattle.disk_core.specs.Images.{Only};
@@ -10,23 +11,27 @@ ghost use Rattle.slru_bank.specs.Crash.{SameMap, CrashLeaves, IsMixture, IsMixtu
 ghost use Rattle.slru_bank.specs.Removal.{removes, later_cutoff, MayDrop, Drops, ClearsAfter, AllAbsent};
 ghost use Rattle.slru_bank.specs.declared.refusal.BankRefusal.TheVariants.{Cut, DiskFault};
 
+use crate::BankRefusal;
 use crate::buffer::Buffer;
 use crate::buffers::{
     blank_first, clear_first, empty_buffers, make_page, put_first, read_first_bytes, set_first,
     touch, write_pages,
 };
 use crate::removal::{Removal, blank_removed, empty_removed, later_of, lies_before, remove_pages};
-use crate::{BankRefusal, PageRule};
 use disk_core::{Failed, Memory, PageDisk};
 use std::alloc::Global;
 use std::marker::PhantomData;
+use store_pages::PageRule;
 
+/// Page buffers over a volume, one bank of a store (of `SlruSharedData`). It is seen as a map from pages to bytes, with
+/// the last made page and a cutoff.
 #[derive(Drop)]
 pub struct SlruBank<P: PageDisk, O: PageRule> {
     disk: P,
     rule: PhantomData<O>,
-    /// The last page that was made.
+    /// The last page that was made (`latest_page_number`).
     last: u32,
+    /// Segments wholly before it are cut.
     cutoff: u32,
     /// The one used last first.
     buffers: Vec<Buffer>,
@@ -36,29 +41,26 @@ pub struct SlruBank<P: PageDisk, O: PageRule> {
 }
 
 impl<P: PageDisk, O: PageRule> SlruBank<P, O> {
+    ghost use Rattle.slru_bank.specs.Calls.{CallsBank, CallsPage, CrashKeeps, CrashMayLack, IsAtHand, IsDurable, RemovesPages, SamePages, SweepsBank, TrimsBank, cutoff_of, faults_of, last_page, pages_of, volume_of};
+
     // Brings a page to the front.
     fn load(&mut self, page: u32) -> Result<(), Failed>
-        ensures first { OnOk result (FirstHolds page self.new.buffers.items) }
-        ensures last { self.new.last ≡ self.old.last }
-        ensures cutoff { self.new.cutoff ≡ self.old.cutoff }
-        ensures cause { CountsFault result (P.faults self.old.disk) (P.faults self.new.disk) }
-        ensures same { IsTrue P.tells → SameMap (map_of (P.pages self.old.disk) self.old.buffers.items) (map_of (P.pages self.new.disk) self.new.buffers.items) }
-        ensures crash { IsTrue P.tells → CrashLeaves (IsMixture (map_of (P.pages self.old.disk) self.old.buffers.items) (map_of (P.pages self.old.disk) self.old.buffers.items)) P.images P.moment P.left_at self.old.disk self.new.disk }
+        ensures at_hand { OnOk result (IsAtHand page self.new) }
+        ensures no_fault { IsAtHand page self.old → IsOk result }
+        ensures not_asked { IsAtHand page self.old → volume_of self.new ≡ volume_of self.old }
+        ensures last { last_page self.new ≡ last_page self.old }
+        ensures cutoff { cutoff_of self.new ≡ cutoff_of self.old }
+        ensures cause { CountsFault result (faults_of self.old) (faults_of self.new) }
+        ensures same { IsTrue P.tells → SamePages self.old self.new }
+        ensures crash { CrashKeeps self.old self.new }
     {
         touch(&mut self.disk, &mut self.buffers, page)
     }
 
-    // Brings a page that isn't cut to the front.
+    // Brings a page that isn't cut to the front (`SimpleLruReadPage`).
     fn open(&mut self, page: u32) -> Result<(), BankRefusal>
-        ensures first { OnOk result (FirstHolds page self.new.buffers.items) }
-        ensures last { self.new.last ≡ self.old.last }
-        ensures cutoff { self.new.cutoff ≡ self.old.cutoff }
-        ensures cut { IsTrue (is_cut O.shape O.per_page self.old.cutoff page) → result ≡ Err (Cut self.old.cutoff) }
-        ensures only_cut { (c : ℕ) → result ≡ Err (Cut c) → (c ≡ self.old.cutoff) × IsTrue (is_cut O.shape O.per_page self.old.cutoff page) }
-        ensures fault { result ≡ Err DiskFault → HasRisen (P.faults self.old.disk) (P.faults self.new.disk) }
-        ensures count { P.faults self.old.disk ≤ P.faults self.new.disk }
-        ensures same { IsTrue P.tells → SameMap (map_of (P.pages self.old.disk) self.old.buffers.items) (map_of (P.pages self.new.disk) self.new.buffers.items) }
-        ensures crash { IsTrue P.tells → CrashLeaves (IsMixture (map_of (P.pages self.old.disk) self.old.buffers.items) (map_of (P.pages self.old.disk) self.old.buffers.items)) P.images P.moment P.left_at self.old.disk self.new.disk }
+        ensures bank { CallsBank page self.old self.new result }
+        ensures same { IsTrue P.tells → SamePages self.old self.new }
     {
         if lies_before::<O>(self.cutoff, page) {
             return Err(BankRefusal::Cut {
@@ -69,80 +71,58 @@ impl<P: PageDisk, O: PageRule> SlruBank<P, O> {
         Ok(())
     }
 
-    /// The page's bytes from a place on.
+    /// The page's bytes from a place on, where the volume lacks it zeros. `Cut` exactly where the page is cut.
     pub fn read(&mut self, page: u32, at: u32, into: &mut [u8]) -> Result<(), BankRefusal>
         requires { at + length into.old ≤ 8192 }
-        ensures bytes { IsTrue P.tells → OnOk result (into.new ≡ take (length into.old) (drop at (map_of (P.pages self.old.disk) self.old.buffers.items page))) }
-        ensures page { IsTrue P.tells → OnOk result (IsPage (map_of (P.pages self.old.disk) self.old.buffers.items page)) }
+        ensures bytes { IsTrue P.tells → OnOk result (into.new ≡ take (length into.old) (drop at (pages_of self.old page))) }
+        ensures page { IsTrue P.tells → OnOk result (IsPage (pages_of self.old page)) }
         ensures err { OnErr result (into.new ≡ into.old) }
-        ensures last { self.new.last ≡ self.old.last }
-        ensures cutoff { self.new.cutoff ≡ self.old.cutoff }
-        ensures cut { IsTrue (is_cut O.shape O.per_page self.old.cutoff page) → result ≡ Err (Cut self.old.cutoff) }
-        ensures only_cut { (c : ℕ) → result ≡ Err (Cut c) → (c ≡ self.old.cutoff) × IsTrue (is_cut O.shape O.per_page self.old.cutoff page) }
-        ensures fault { result ≡ Err DiskFault → HasRisen (P.faults self.old.disk) (P.faults self.new.disk) }
-        ensures count { P.faults self.old.disk ≤ P.faults self.new.disk }
-        ensures same { IsTrue P.tells → SameMap (map_of (P.pages self.old.disk) self.old.buffers.items) (map_of (P.pages self.new.disk) self.new.buffers.items) }
-        ensures crash { IsTrue P.tells → CrashLeaves (IsMixture (map_of (P.pages self.old.disk) self.old.buffers.items) (map_of (P.pages self.new.disk) self.new.buffers.items)) P.images P.moment P.left_at self.old.disk self.new.disk }
+        ensures bank { CallsBank page self.old self.new result }
+        ensures same { IsTrue P.tells → SamePages self.old self.new }
     {
         self.open(page)?;
         read_first_bytes(&self.buffers, page, at as usize, into);
         Ok(())
     }
 
-    /// Changes the bits of a mask in one byte.
+    /// Changes the bits of a mask in one byte. After an `Err` nothing is changed.
     pub fn set(&mut self, page: u32, at: u32, mask: u8, bits: u8) -> Result<(), BankRefusal>
         requires { at < 8192 }
         ensures ok { IsTrue P.tells → OnOk result (PutsPage page
-            (slice_set (map_of (P.pages self.old.disk) self.old.buffers.items page) at (masked (slice_index (map_of (P.pages self.old.disk) self.old.buffers.items page) at) mask bits))
-            (map_of (P.pages self.old.disk) self.old.buffers.items) (map_of (P.pages self.new.disk) self.new.buffers.items)) }
-        ensures page { IsTrue P.tells → OnOk result (IsPage (map_of (P.pages self.old.disk) self.old.buffers.items page)) }
-        ensures err { IsTrue P.tells → OnErr result (SameMap (map_of (P.pages self.old.disk) self.old.buffers.items) (map_of (P.pages self.new.disk) self.new.buffers.items)) }
-        ensures last { self.new.last ≡ self.old.last }
-        ensures cutoff { self.new.cutoff ≡ self.old.cutoff }
-        ensures cut { IsTrue (is_cut O.shape O.per_page self.old.cutoff page) → result ≡ Err (Cut self.old.cutoff) }
-        ensures only_cut { (c : ℕ) → result ≡ Err (Cut c) → (c ≡ self.old.cutoff) × IsTrue (is_cut O.shape O.per_page self.old.cutoff page) }
-        ensures fault { result ≡ Err DiskFault → HasRisen (P.faults self.old.disk) (P.faults self.new.disk) }
-        ensures count { P.faults self.old.disk ≤ P.faults self.new.disk }
-        ensures crash { IsTrue P.tells → CrashLeaves (IsMixture (map_of (P.pages self.old.disk) self.old.buffers.items) (map_of (P.pages self.new.disk) self.new.buffers.items)) P.images P.moment P.left_at self.old.disk self.new.disk }
+            (slice_set (pages_of self.old page) at (masked (slice_index (pages_of self.old page) at) mask bits))
+            (pages_of self.old) (pages_of self.new)) }
+        ensures page { IsTrue P.tells → OnOk result (IsPage (pages_of self.old page)) }
+        ensures err { IsTrue P.tells → OnErr result (SamePages self.old self.new) }
+        ensures bank { CallsBank page self.old self.new result }
     {
         self.open(page)?;
         set_first(&mut self.buffers, page, at as usize, mask, bits);
         Ok(())
     }
 
-    /// Changes the page's bytes from a place on.
+    /// Changes the page's bytes from a place on. After an `Err` nothing is changed.
     pub fn put(&mut self, page: u32, at: u32, from: &[u8]) -> Result<(), BankRefusal>
         requires { at + length from.now ≤ 8192 }
-        ensures ok { IsTrue P.tells → OnOk result (PutsPage page (placed (map_of (P.pages self.old.disk) self.old.buffers.items page) at from.now)
-            (map_of (P.pages self.old.disk) self.old.buffers.items) (map_of (P.pages self.new.disk) self.new.buffers.items)) }
-        ensures page { IsTrue P.tells → OnOk result (IsPage (map_of (P.pages self.old.disk) self.old.buffers.items page)) }
-        ensures err { IsTrue P.tells → OnErr result (SameMap (map_of (P.pages self.old.disk) self.old.buffers.items) (map_of (P.pages self.new.disk) self.new.buffers.items)) }
-        ensures last { self.new.last ≡ self.old.last }
-        ensures cutoff { self.new.cutoff ≡ self.old.cutoff }
-        ensures cut { IsTrue (is_cut O.shape O.per_page self.old.cutoff page) → result ≡ Err (Cut self.old.cutoff) }
-        ensures only_cut { (c : ℕ) → result ≡ Err (Cut c) → (c ≡ self.old.cutoff) × IsTrue (is_cut O.shape O.per_page self.old.cutoff page) }
-        ensures fault { result ≡ Err DiskFault → HasRisen (P.faults self.old.disk) (P.faults self.new.disk) }
-        ensures count { P.faults self.old.disk ≤ P.faults self.new.disk }
-        ensures crash { IsTrue P.tells → CrashLeaves (IsMixture (map_of (P.pages self.old.disk) self.old.buffers.items) (map_of (P.pages self.new.disk) self.new.buffers.items)) P.images P.moment P.left_at self.old.disk self.new.disk }
+        ensures ok { IsTrue P.tells → OnOk result (PutsPage page (placed (pages_of self.old page) at from.now)
+            (pages_of self.old) (pages_of self.new)) }
+        ensures page { IsTrue P.tells → OnOk result (IsPage (pages_of self.old page)) }
+        ensures err { IsTrue P.tells → OnErr result (SamePages self.old self.new) }
+        ensures bank { CallsBank page self.old self.new result }
     {
         self.open(page)?;
         put_first(&mut self.buffers, page, at as usize, from);
         Ok(())
     }
 
-    /// Makes a page of zeros the last one, where it is past the last.
+    /// Makes a page of zeros the last one, where it is past the last (`SimpleLruZeroPage`). A page that was made stays, so
+    /// whoever comes second wipes nothing.
     pub fn zero(&mut self, page: u32) -> Result<(), BankRefusal>
-        ensures ok { IsTrue P.tells → OnOk result (MatchBool (page_precedes O.shape O.per_page self.old.last page)
-            (PutsPage page zero_page (map_of (P.pages self.old.disk) self.old.buffers.items) (map_of (P.pages self.new.disk) self.new.buffers.items))
-            (SameMap (map_of (P.pages self.old.disk) self.old.buffers.items) (map_of (P.pages self.new.disk) self.new.buffers.items))) }
-        ensures err { IsTrue P.tells → OnErr result (SameMap (map_of (P.pages self.old.disk) self.old.buffers.items) (map_of (P.pages self.new.disk) self.new.buffers.items)) }
-        ensures last { self.new.last ≡ cond (is_ok result && page_precedes O.shape O.per_page self.old.last page) page self.old.last }
-        ensures cutoff { self.new.cutoff ≡ self.old.cutoff }
-        ensures cut { IsTrue (is_cut O.shape O.per_page self.old.cutoff page) → result ≡ Err (Cut self.old.cutoff) }
-        ensures only_cut { (c : ℕ) → result ≡ Err (Cut c) → (c ≡ self.old.cutoff) × IsTrue (is_cut O.shape O.per_page self.old.cutoff page) }
-        ensures fault { result ≡ Err DiskFault → HasRisen (P.faults self.old.disk) (P.faults self.new.disk) }
-        ensures count { P.faults self.old.disk ≤ P.faults self.new.disk }
-        ensures crash { IsTrue P.tells → CrashLeaves (IsMixture (map_of (P.pages self.old.disk) self.old.buffers.items) (map_of (P.pages self.new.disk) self.new.buffers.items)) P.images P.moment P.left_at self.old.disk self.new.disk }
+        ensures ok { IsTrue P.tells → OnOk result (MatchBool (page_precedes O.shape O.per_page (last_page self.old) page)
+            (PutsPage page zero_page (pages_of self.old) (pages_of self.new))
+            (SamePages self.old self.new)) }
+        ensures err { IsTrue P.tells → OnErr result (SamePages self.old self.new) }
+        ensures last { last_page self.new ≡ cond (is_ok result && page_precedes O.shape O.per_page (last_page self.old) page) page (last_page self.old) }
+        ensures calls { CallsPage page self.old self.new result }
     {
         if lies_before::<O>(self.cutoff, page) {
             return Err(BankRefusal::Cut {
@@ -158,16 +138,13 @@ impl<P: PageDisk, O: PageRule> SlruBank<P, O> {
         Ok(())
     }
 
-    /// Writes the changed pages, and syncs.
+    /// Writes the changed pages, and syncs (`SimpleLruWriteAll`).
     pub fn flush_all(&mut self) -> Result<(), BankRefusal>
-        // Each image has the map's bytes.
-        ensures durable { IsTrue P.tells → OnOk result ((c : Pages) → P.images self.new.disk c → (q : ℕ) → page_bytes (c q) ≡ map_of (P.pages self.new.disk) self.new.buffers.items q) }
-        ensures same { IsTrue P.tells → SameMap (map_of (P.pages self.old.disk) self.old.buffers.items) (map_of (P.pages self.new.disk) self.new.buffers.items) }
-        ensures last { self.new.last ≡ self.old.last }
-        ensures cutoff { self.new.cutoff ≡ self.old.cutoff }
-        ensures fault { IsErr result → (result ≡ Err DiskFault) × HasRisen (P.faults self.old.disk) (P.faults self.new.disk) }
-        ensures count { P.faults self.old.disk ≤ P.faults self.new.disk }
-        ensures crash { IsTrue P.tells → CrashLeaves (IsMixture (map_of (P.pages self.old.disk) self.old.buffers.items) (map_of (P.pages self.old.disk) self.old.buffers.items)) P.images P.moment P.left_at self.old.disk self.new.disk }
+        ensures durable { IsTrue P.tells → OnOk result (IsDurable self.new) }
+        ensures same { IsTrue P.tells → SamePages self.old self.new }
+        ensures cutoff { cutoff_of self.new ≡ cutoff_of self.old }
+        ensures bank { SweepsBank self.old self.new result }
+        ensures crash { CrashKeeps self.old self.new }
     {
         write_pages(&mut self.disk, &mut self.buffers)?;
         sync(&mut self.disk)?;
@@ -176,13 +153,13 @@ impl<P: PageDisk, O: PageRule> SlruBank<P, O> {
 
     // Removes the volume's pages, and their bytes from the map.
     fn remove(&mut self, removal: Removal) -> Result<(), Failed>
-        ensures ok { IsTrue P.tells → OnOk result (Drops (removes O.shape O.per_page removal) (map_of (P.pages self.old.disk) self.old.buffers.items) (map_of (P.pages self.new.disk) self.new.buffers.items)) }
-        ensures any { IsTrue P.tells → MayDrop (removes O.shape O.per_page removal) (map_of (P.pages self.old.disk) self.old.buffers.items) (map_of (P.pages self.new.disk) self.new.buffers.items) }
-        ensures absent { IsTrue P.tells → OnOk result (AllAbsent (removes O.shape O.per_page removal) (P.pages self.new.disk)) }
-        ensures last { self.new.last ≡ self.old.last }
-        ensures cutoff { self.new.cutoff ≡ self.old.cutoff }
-        ensures cause { CountsFault result (P.faults self.old.disk) (P.faults self.new.disk) }
-        ensures crash { IsTrue P.tells → CrashLeaves (IsMixtureOrGone (removes O.shape O.per_page removal) (map_of (P.pages self.old.disk) self.old.buffers.items) (map_of (P.pages self.new.disk) self.new.buffers.items)) P.images P.moment P.left_at self.old.disk self.new.disk }
+        ensures ok { IsTrue P.tells → OnOk result (Drops (removes O.shape O.per_page removal) (pages_of self.old) (pages_of self.new)) }
+        ensures any { IsTrue P.tells → MayDrop (removes O.shape O.per_page removal) (pages_of self.old) (pages_of self.new) }
+        ensures absent { IsTrue P.tells → OnOk result (AllAbsent (removes O.shape O.per_page removal) (P.pages (volume_of self.new))) }
+        ensures last { last_page self.new ≡ last_page self.old }
+        ensures cutoff { cutoff_of self.new ≡ cutoff_of self.old }
+        ensures cause { CountsFault result (faults_of self.old) (faults_of self.new) }
+        ensures crash { CrashMayLack (removes O.shape O.per_page removal) self.old self.new }
     {
         blank_removed::<O>(&mut self.buffers, removal);
         remove_pages::<P, O>(&mut self.disk, removal)?;
@@ -193,14 +170,8 @@ impl<P: PageDisk, O: PageRule> SlruBank<P, O> {
     /// Keeps the later of the two cutoffs, and removes each segment of 32 pages that lies wholly before it
     /// (`SimpleLruTruncate`). After an `Err` the cutoff is kept and some of these pages are removed.
     pub fn truncate(&mut self, cutoff: u32) -> Result<(), BankRefusal>
-        ensures cutoff { self.new.cutoff ≡ later_cutoff O.shape O.per_page self.old.cutoff cutoff }
-        ensures last { self.new.last ≡ self.old.last }
-        ensures ok { IsTrue P.tells → OnOk result (Drops (is_cut O.shape O.per_page self.new.cutoff) (map_of (P.pages self.old.disk) self.old.buffers.items) (map_of (P.pages self.new.disk) self.new.buffers.items)) }
-        ensures any { IsTrue P.tells → MayDrop (is_cut O.shape O.per_page self.new.cutoff) (map_of (P.pages self.old.disk) self.old.buffers.items) (map_of (P.pages self.new.disk) self.new.buffers.items) }
-        ensures absent { IsTrue P.tells → OnOk result (AllAbsent (is_cut O.shape O.per_page self.new.cutoff) (P.pages self.new.disk)) }
-        ensures fault { IsErr result → (result ≡ Err DiskFault) × HasRisen (P.faults self.old.disk) (P.faults self.new.disk) }
-        ensures count { P.faults self.old.disk ≤ P.faults self.new.disk }
-        ensures crash { IsTrue P.tells → CrashLeaves (IsMixtureOrGone (is_cut O.shape O.per_page self.new.cutoff) (map_of (P.pages self.old.disk) self.old.buffers.items) (map_of (P.pages self.new.disk) self.new.buffers.items)) P.images P.moment P.left_at self.old.disk self.new.disk }
+        ensures cutoff { cutoff_of self.new ≡ later_cutoff O.shape O.per_page (cutoff_of self.old) cutoff }
+        ensures bank { RemovesPages (is_cut O.shape O.per_page (cutoff_of self.new)) self.old self.new result }
     {
         self.cutoff = later_of::<O>(self.cutoff, cutoff);
         self.remove(Removal::Before {
@@ -213,13 +184,9 @@ impl<P: PageDisk, O: PageRule> SlruBank<P, O> {
     /// some of these pages are removed, and no other one changed.
     pub fn clear_after(&mut self, page: u32, at: u32) -> Result<(), BankRefusal>
         requires { at ≤ 8192 }
-        ensures ok { IsTrue P.tells → OnOk result (ClearsAfter O.shape O.per_page page at (map_of (P.pages self.old.disk) self.old.buffers.items) (map_of (P.pages self.new.disk) self.new.buffers.items)) }
-        ensures err { IsTrue P.tells → OnErr result (MayDrop (page_precedes O.shape O.per_page page) (map_of (P.pages self.old.disk) self.old.buffers.items) (map_of (P.pages self.new.disk) self.new.buffers.items)) }
-        ensures last { self.new.last ≡ self.old.last }
-        ensures cutoff { self.new.cutoff ≡ self.old.cutoff }
-        ensures fault { IsErr result → (result ≡ Err DiskFault) × HasRisen (P.faults self.old.disk) (P.faults self.new.disk) }
-        ensures count { P.faults self.old.disk ≤ P.faults self.new.disk }
-        ensures crash { IsTrue P.tells → CrashLeaves (IsMixtureOrGone (page_precedes O.shape O.per_page page) (map_of (P.pages self.old.disk) self.old.buffers.items) (map_of (P.pages self.new.disk) self.new.buffers.items)) P.images P.moment P.left_at self.old.disk self.new.disk }
+        ensures ok { IsTrue P.tells → OnOk result (ClearsAfter O.shape O.per_page page at (pages_of self.old) (pages_of self.new)) }
+        ensures at_hand { OnOk result (IsAtHand page self.new) }
+        ensures bank { TrimsBank (page_precedes O.shape O.per_page page) self.old self.new result }
     {
         self.remove(Removal::After { page })?;
         self.load(page)?;
@@ -227,16 +194,11 @@ impl<P: PageDisk, O: PageRule> SlruBank<P, O> {
         Ok(())
     }
 
-    /// Removes every page. After an `Err` some are removed, and no other one changed.
+    /// Removes every page, as a start does with the parents (`StartupSUBTRANS`). After an `Err` some are removed, and no
+    /// other one changed.
     pub fn clear_all(&mut self) -> Result<(), BankRefusal>
-        ensures ok { IsTrue P.tells → OnOk result (Drops (λ q. true) (map_of (P.pages self.old.disk) self.old.buffers.items) (map_of (P.pages self.new.disk) self.new.buffers.items)) }
-        ensures any { IsTrue P.tells → MayDrop (λ q. true) (map_of (P.pages self.old.disk) self.old.buffers.items) (map_of (P.pages self.new.disk) self.new.buffers.items) }
-        ensures absent { IsTrue P.tells → OnOk result (AllAbsent (λ q. true) (P.pages self.new.disk)) }
-        ensures last { self.new.last ≡ self.old.last }
-        ensures cutoff { self.new.cutoff ≡ self.old.cutoff }
-        ensures fault { IsErr result → (result ≡ Err DiskFault) × HasRisen (P.faults self.old.disk) (P.faults self.new.disk) }
-        ensures count { P.faults self.old.disk ≤ P.faults self.new.disk }
-        ensures crash { IsTrue P.tells → CrashLeaves (IsMixtureOrGone (λ q. true) (map_of (P.pages self.old.disk) self.old.buffers.items) (map_of (P.pages self.new.disk) self.new.buffers.items)) P.images P.moment P.left_at self.old.disk self.new.disk }
+        ensures cutoff { cutoff_of self.new ≡ cutoff_of self.old }
+        ensures bank { RemovesPages (λ q. true) self.old self.new result }
     {
         self.remove(Removal::All)?;
         Ok(())
@@ -244,7 +206,7 @@ impl<P: PageDisk, O: PageRule> SlruBank<P, O> {
 
     /// The volume. Changed pages are not written first.
     pub fn into_disk(self) -> P
-        ensures { result ≡ self.disk }
+        ensures { result ≡ volume_of self }
     {
         self.disk
     }
@@ -261,6 +223,8 @@ fn sync<P: PageDisk>(disk: &mut P) -> Result<(), Failed>
 }
 
 impl<P: PageDisk + Drop, O: PageRule> SlruBank<P, O> {
+    ghost use Rattle.slru_bank.specs.Calls.{cutoff_of, last_page, pages_of, volume_of};
+
     /// A bank over a volume. After an `Err` the volume is handed back.
     pub fn new(
         alloc: Global,
@@ -268,10 +232,10 @@ impl<P: PageDisk + Drop, O: PageRule> SlruBank<P, O> {
         last: u32,
         cutoff: u32,
     ) -> Result<SlruBank<P, O>, (P, Memory)>
-        ensures disk { IfOk result (λ b. b.disk ≡ disk) }
-        ensures last { IfOk result (λ b. b.last ≡ last) }
-        ensures cutoff { IfOk result (λ b. b.cutoff ≡ cutoff) }
-        ensures map { IfOk result (λ b. SameMap (λ q. page_bytes (P.pages disk q)) (map_of (P.pages disk) b.buffers.items)) }
+        ensures disk { IfOk result (λ b. volume_of b ≡ disk) }
+        ensures last { IfOk result (λ b. last_page b ≡ last) }
+        ensures cutoff { IfOk result (λ b. cutoff_of b ≡ cutoff) }
+        ensures map { IfOk result (λ b. SameMap (λ q. page_bytes (P.pages disk q)) (pages_of b)) }
         ensures err { IfErr result (λ e. e.0 ≡ disk) }
     {
         match empty_buffers(alloc) {

@@ -5,9 +5,9 @@ ghost use Rattle.disk_core.specs.Images.{Follows, NoMore, Elapses};
 ghost use Rattle.disk_core.specs.Pages.{Pages, WrotePage, page_bytes, zero_page};
 ghost use Rattle.slru_bank.specs.Removal.{cleared_from};
 
-use crate::PageRule;
 use crate::removal::Removal;
 use disk_core::{Failed, PageDisk};
+use store_pages::PageRule;
 
 #[derive(Drop)]
 pub(crate) struct Buffer {

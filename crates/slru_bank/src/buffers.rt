@@ -1,5 +1,5 @@
 // The buffers of a bank, the one used last first.
-ghost use Rattle.std.specs.Prelude.{◌≡◌, ℕ, ◌+◌, ◌<◌, ◌≤◌, Bool, true, false, List, ◌∷◌, take, drop, slice_index, slice_set, ◌-◌, bit_and, bit_or, length, get_or, remove, OnOk, OnErr, IsTrue, Some, None, IfSome, IfNone, is_some, IfOk};
+ghost use Rattle.std.specs.Prelude.{◌≡◌, ℕ, ◌+◌, ◌<◌, ◌≤◌, Bool, true, false, List, ◌∷◌, take, drop, slice_index, slice_set, ◌-◌, bit_and, bit_or, length, get_or, remove, OnOk, OnErr, IsOk, IsTrue, Some, None, IfSome, IfNone, is_some, IfOk};
 ghost use Rattle.disk_core.specs.Faults.{CountsFault};
 ghost use Rattle.disk_core.specs.Pages.{Pages, page_bytes, zero_page};
 ghost use Rattle.slru_bank.specs.Bank.{buffered, map_of, Distinct, AllAgree, FirstHolds, FirstIsClean, StaysUp, Rearranged, PutsPage, masked, placed, FirstMayHold, AllClean, CleanUpTo, AllEmpty, IsPage};
@@ -74,7 +74,8 @@ fn read_first<P: PageDisk>(disk: &mut P, buffers: &mut [Buffer], page: u32) -> R
     buffers[0].fill(disk, page)
 }
 
-// Brings the page to the front, in place of the one used longest ago if it isn't there.
+// Brings the page to the front, in place of the one used longest ago if it isn't there (`SlruSelectLRUPage`). A page at
+// the front already is found without a call of the disk.
 pub(crate) fn touch<P: PageDisk>(
     disk: &mut P,
     buffers: &mut [Buffer],
@@ -85,6 +86,8 @@ pub(crate) fn touch<P: PageDisk>(
     requires agree { IsTrue P.tells → AllAgree (P.pages disk.old) buffers.old }
     ensures long { length buffers.new ≡ length buffers.old }
     ensures first { OnOk result (FirstHolds page buffers.new) }
+    ensures no_fault { FirstHolds page buffers.old → IsOk result }
+    ensures not_asked { FirstHolds page buffers.old → disk.new ≡ disk.old }
     ensures distinct { Distinct buffers.new }
     ensures stays { IsTrue P.tells → StaysUp (P.pages disk.old) (P.pages disk.new) buffers.old buffers.new }
     ensures crash { IsTrue P.tells → CrashLeaves (IsMixture (map_of (P.pages disk.old) buffers.old) (map_of (P.pages disk.old) buffers.old)) P.images P.moment P.left_at disk.old disk.new }
@@ -118,6 +121,7 @@ pub(crate) fn set_first(buffers: &mut Vec<Buffer>, page: u32, at: usize, mask: u
     requires first { FirstHolds page buffers.old.items }
     requires within { at < 8192 }
     requires distinct { Distinct buffers.old.items }
+    ensures first { FirstHolds page buffers.new.items }
     ensures long { length buffers.new.items ≡ length buffers.old.items }
     ensures distinct { Distinct buffers.new.items }
     ensures agree { (pages : Pages) → AllAgree pages buffers.old.items → AllAgree pages buffers.new.items }
@@ -134,6 +138,7 @@ pub(crate) fn put_first(buffers: &mut Vec<Buffer>, page: u32, at: usize, from: &
     requires first { FirstHolds page buffers.old.items }
     requires within { at + length from.now ≤ 8192 }
     requires distinct { Distinct buffers.old.items }
+    ensures first { FirstHolds page buffers.new.items }
     ensures long { length buffers.new.items ≡ length buffers.old.items }
     ensures distinct { Distinct buffers.new.items }
     ensures agree { (pages : Pages) → AllAgree pages buffers.old.items → AllAgree pages buffers.new.items }
@@ -150,6 +155,7 @@ pub(crate) fn clear_first(buffers: &mut Vec<Buffer>, page: u32, at: usize)
     requires first { FirstHolds page buffers.old.items }
     requires within { at ≤ 8192 }
     requires distinct { Distinct buffers.old.items }
+    ensures first { FirstHolds page buffers.new.items }
     ensures long { length buffers.new.items ≡ length buffers.old.items }
     ensures distinct { Distinct buffers.new.items }
     ensures agree { (pages : Pages) → AllAgree pages buffers.old.items → AllAgree pages buffers.new.items }

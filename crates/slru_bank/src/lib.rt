@@ -1,20 +1,16 @@
 //! Page buffers over a volume: a bank is a map from pages to 8192 bytes, whatever was evicted. After PostgreSQL's
-//! `src/backend/access/transam/slru.c`.
+//! `src/backend/access/transam/slru.c`. `docs/PAGES.md` tells more, `docs/DISKS.md` of the volumes below.
 #![tactic(auto)]
 
 mod bank;
-mod banks;
 mod buffer;
 mod buffers;
 mod numbers;
-mod page_rule;
 mod refusal;
 mod removal;
 #[cfg(test)]
 mod tests;
 
 pub use bank::SlruBank;
-pub use banks::bank_of;
 pub use numbers::{put_number, read_number};
-pub use page_rule::PageRule;
 pub use refusal::BankRefusal;

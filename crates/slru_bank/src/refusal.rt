@@ -1,3 +1,4 @@
+// Why a bank refuses.
 use disk_core::Failed;
 use thiserror::Error;
 

@@ -7,9 +7,9 @@ ghost use Rattle.slru_bank.specs.Bank.{map_of, Distinct, AllAgree};
 ghost use Rattle.slru_bank.specs.Crash.{SameMap, CrashLeaves};
 ghost use Rattle.slru_bank.specs.Removal.{later_cutoff, removes, MayDrop, MayLack, AllAbsent, AllBlank, BlankUpTo, KeepUpTo};
 
-use crate::PageRule;
 use crate::buffer::Buffer;
 use disk_core::{Failed, PageDisk};
+use store_pages::{PAGES_PER_SEGMENT, PageRule};
 
 #[derive(Clone, Copy, Debug, PartialEq, Eq)]
 pub(crate) enum Removal {
@@ -24,8 +24,8 @@ pub(crate) enum Removal {
 pub(crate) fn lies_before<O: PageRule>(cutoff: u32, page: u32) -> bool
     ensures { result ≡ is_cut O.shape O.per_page cutoff page }
 {
-    let first = page / 32 * 32;
-    O::precedes(first, cutoff) && O::precedes(first + 31, cutoff)
+    let first = page / PAGES_PER_SEGMENT * PAGES_PER_SEGMENT;
+    O::precedes(first, cutoff) && O::precedes(first + (PAGES_PER_SEGMENT - 1), cutoff)
 }
 
 // The later of two cutoffs. Where neither precedes the other, the kept one.

@@ -2,10 +2,11 @@
 ghost use Rattle.std.specs.Prelude.{◌≡◌, ◌+◌, ◌*◌, ◌%◌, ◌^◌, ◌<◌};
 ghost use Rattle.xid_order.specs.PageOrder.{Ids};
 
-use super::{BankRefusal, PageRule, SlruBank, put_number, read_number};
+use super::{BankRefusal, SlruBank, put_number, read_number};
 use disk_core::{Failed, MemPages, PageDisk};
 use std::alloc::Global;
 use std::test::Fail;
+use store_pages::PageRule;
 use xid_order::{Xid, precedes};
 
 struct IdPages;

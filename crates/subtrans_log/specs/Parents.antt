@@ -1,5 +1,5 @@
 -- Parents as numbers, and where a climb ends.
-use Rattle.std.specs.Prelude.{ℕ, zero, suc, Bool, true, ◌==◌, if◌then◌else◌, Option, Some, None}
+use Rattle.std.specs.Prelude.{ℕ, Bool, true, ◌==◌, if◌then◌else◌, Option, Some, None}
 use Rattle.xid_order.specs.Order.{xid_before}
 use Rattle.xid_order.specs.declared.order.Xid.{Xid}
 

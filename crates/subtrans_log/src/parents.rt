@@ -1,16 +1,14 @@
-ghost use Rattle.std.specs.Prelude.{◌≡◌, ℕ, ◌+◌, ◌*◌, ◌/◌, ◌%◌, ◌^◌, ◌<◌, ◌≤◌, Bool, IsTrue, List, slice_index, OnOk, OnErr, IfOk, IsErr, Err};
-ghost use Rattle.disk_core.specs.Faults.{HasRisen};
-ghost use Rattle.xid_order.specs.PageOrder.{Ids, is_cut};
-ghost use Rattle.xid_order.specs.Layouts.{number_in};
-ghost use Rattle.slru_bank.specs.Bank.{map_of};
-ghost use Rattle.slru_bank.specs.Crash.{SameMap, CrashLeaves, IsMixture};
-ghost use Rattle.slru_bank.specs.declared.refusal.BankRefusal.TheVariants.{Cut, DiskFault};
+// A parent is stored as its low half, 0 where there is none.
+ghost use Rattle.std.specs.Prelude.{◌≡◌, ℕ, ◌*◌, ◌^◌, IsTrue, OnOk, OnErr, IfOk};
+ghost use Rattle.store_pages.specs.Layouts.{number_in};
+ghost use Rattle.store_pages.specs.Pages.{subtrans_page, subtrans_place};
 ghost use Rattle.slru_bank.specs.ByteRange.{SetsEntry};
+ghost use Rattle.slru_bank.specs.Calls.{CallsBank, SamePages, pages_of};
 ghost use Rattle.subtrans_log.specs.Parents.{parent_of, ends_climb};
 
-use crate::pages::{SubtransPages, subtrans_page};
 use disk_core::PageDisk;
 use slru_bank::{BankRefusal, SlruBank, put_number, read_number};
+use store_pages::{SubtransPages, subtrans_page, subtrans_place};
 use xid_order::{Xid, precedes};
 
 /// Records an id's parent (`SubTransSetParent`).
@@ -19,17 +17,11 @@ pub fn set_parent<P: PageDisk>(
     x: Xid,
     parent: Xid,
 ) -> Result<(), BankRefusal>
-    ensures ok { IsTrue P.tells → OnOk result (SetsEntry (x.number / 2048) (x.number % 2048) parent.number (map_of (P.pages bank.old.disk) bank.old.buffers.items) (map_of (P.pages bank.new.disk) bank.new.buffers.items)) }
-    ensures err { IsTrue P.tells → OnErr result (SameMap (map_of (P.pages bank.old.disk) bank.old.buffers.items) (map_of (P.pages bank.new.disk) bank.new.buffers.items)) }
-    ensures last { bank.new.last ≡ bank.old.last }
-    ensures cutoff { bank.new.cutoff ≡ bank.old.cutoff }
-    ensures cut { IsTrue (is_cut Ids 2048 bank.old.cutoff (x.number / 2048)) → result ≡ Err (Cut bank.old.cutoff) }
-    ensures only_cut { (c : ℕ) → result ≡ Err (Cut c) → (c ≡ bank.old.cutoff) × IsTrue (is_cut Ids 2048 bank.old.cutoff (x.number / 2048)) }
-    ensures fault { result ≡ Err DiskFault → HasRisen (P.faults bank.old.disk) (P.faults bank.new.disk) }
-    ensures count { P.faults bank.old.disk ≤ P.faults bank.new.disk }
-    ensures crash { IsTrue P.tells → CrashLeaves (IsMixture (map_of (P.pages bank.old.disk) bank.old.buffers.items) (map_of (P.pages bank.new.disk) bank.new.buffers.items)) P.images P.moment P.left_at bank.old.disk bank.new.disk }
+    ensures ok { IsTrue P.tells → OnOk result (SetsEntry (subtrans_page x.number) (subtrans_place x.number) parent.number (pages_of bank.old) (pages_of bank.new)) }
+    ensures err { IsTrue P.tells → OnErr result (SamePages bank.old bank.new) }
+    ensures bank { CallsBank (subtrans_page x.number) bank.old bank.new result }
 {
-    put_number(bank, subtrans_page(x), 4 * (x.number % 2048), parent.number)
+    put_number(bank, subtrans_page(x), 4 * subtrans_place(x), parent.number)
 }
 
 /// The parent that is kept of an id (`SubTransGetParent`), None exactly for 0.
@@ -37,17 +29,11 @@ pub fn parent<P: PageDisk>(
     bank: &mut SlruBank<P, SubtransPages>,
     x: Xid,
 ) -> Result<Option<Xid>, BankRefusal>
-    ensures is { IsTrue P.tells → IfOk result (λ o. o ≡ parent_of (number_in (map_of (P.pages bank.old.disk) bank.old.buffers.items (x.number / 2048)) (4 * (x.number % 2048)))) }
-    ensures same { IsTrue P.tells → SameMap (map_of (P.pages bank.old.disk) bank.old.buffers.items) (map_of (P.pages bank.new.disk) bank.new.buffers.items) }
-    ensures last { bank.new.last ≡ bank.old.last }
-    ensures cutoff { bank.new.cutoff ≡ bank.old.cutoff }
-    ensures cut { IsTrue (is_cut Ids 2048 bank.old.cutoff (x.number / 2048)) → result ≡ Err (Cut bank.old.cutoff) }
-    ensures only_cut { (c : ℕ) → result ≡ Err (Cut c) → (c ≡ bank.old.cutoff) × IsTrue (is_cut Ids 2048 bank.old.cutoff (x.number / 2048)) }
-    ensures fault { result ≡ Err DiskFault → HasRisen (P.faults bank.old.disk) (P.faults bank.new.disk) }
-    ensures count { P.faults bank.old.disk ≤ P.faults bank.new.disk }
-    ensures crash { IsTrue P.tells → CrashLeaves (IsMixture (map_of (P.pages bank.old.disk) bank.old.buffers.items) (map_of (P.pages bank.new.disk) bank.new.buffers.items)) P.images P.moment P.left_at bank.old.disk bank.new.disk }
+    ensures is { IsTrue P.tells → IfOk result (λ o. o ≡ parent_of (number_in (pages_of bank.old (subtrans_page x.number)) (4 * subtrans_place x.number))) }
+    ensures same { IsTrue P.tells → SamePages bank.old bank.new }
+    ensures bank { CallsBank (subtrans_page x.number) bank.old bank.new result }
 {
-    let number = read_number(bank, subtrans_page(x), 4 * (x.number % 2048))?;
+    let number = read_number(bank, subtrans_page(x), 4 * subtrans_place(x))?;
     Ok(parent_of_number(number))
 }
 

@@ -1,8 +1,10 @@
-use super::{SubtransPages, climb_ends, parent, set_parent};
+// Bytes of a parent, and where a climb ends.
+use super::{climb_ends, parent, set_parent};
 use disk_core::MemPages;
 use slru_bank::SlruBank;
 use std::alloc::Global;
 use std::test::Fail;
+use store_pages::SubtransPages;
 use xid_order::Xid;
 
 fn memory_bank(alloc: Global) -> Option<SlruBank<MemPages, SubtransPages>> {

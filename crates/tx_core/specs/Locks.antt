@@ -1,6 +1,7 @@
 -- The locks by their numbers, and the lock under which a number's page lies.
-use Rattle.std.specs.Prelude.{ℕ, ◌+◌, ◌*◌, ◌/◌, ◌%◌, ◌≤◌, ◌<◌}
+use Rattle.std.specs.Prelude.{ℕ, ◌+◌, ◌*◌, ◌%◌, ◌≤◌, ◌<◌}
 use Rattle.xid_order.specs.Ids.{low_half}
+pub use Rattle.store_pages.specs.Pages.{member_page, offset_page, subtrans_page, xact_page}
 use Rattle.tx_events.specs.declared.refusal.Lock.{Lock}
 use Rattle.tx_events.specs.declared.refusal.Lock.TheVariants as locks
 use Rattle.tx_core.specs.declared.entry.Start.{Start}
@@ -41,19 +42,7 @@ pub record IsPageLock (start : Start) (lock : ℕ) : Type 0 where
   pub from : 3 ≤ lock
   pub to : lock < 3 + 4 * start.banks
 
--- Pages in full numbers: how many numbers of 32 bits a page has room for. A page as it is stored, and so the bank, goes
--- by the number's low half.
-abbrev pub xact_page : ℕ → ℕ
-xact_page id = id / 32768
-
-abbrev pub subtrans_page : ℕ → ℕ
-subtrans_page id = id / 2048
-
-abbrev pub offsets_page : ℕ → ℕ
-offsets_page multi = multi / 2048
-
-abbrev pub members_page : ℕ → ℕ
-members_page offset = offset / 1636
+-- A page as it is stored, and so its bank and its lock, goes by the low half of a number.
 
 -- the lock under which an id's state lies
 abbrev pub xact_lock_of : Start → ℕ → ℕ
@@ -65,8 +54,8 @@ subtrans_lock_of start id = subtrans_lock (subtrans_page (low_half id) % start.b
 
 -- the offset of a multixact
 abbrev pub offsets_lock_of : Start → ℕ → ℕ
-offsets_lock_of start multi = offsets_lock (offsets_page (low_half multi) % start.banks)
+offsets_lock_of start multi = offsets_lock (offset_page (low_half multi) % start.banks)
 
 -- the member at an offset
 abbrev pub members_lock_of : Start → ℕ → ℕ
-members_lock_of start offset = members_lock (members_page (low_half offset) % start.banks)
+members_lock_of start offset = members_lock (member_page (low_half offset) % start.banks)

@@ -1,22 +1,12 @@
 ghost use Rattle.std.specs.Prelude.{◌≡◌, ℕ, ◌%◌, ◌<◌};
 ghost use Rattle.xid_order.specs.Ids.{low_half};
 ghost use Rattle.tx_events.specs.declared.refusal.Lock.TheVariants as locks;
-ghost use Rattle.tx_core.specs.Locks.{number_of, xact_page, subtrans_page, offsets_page, members_page};
+ghost use Rattle.store_pages.specs.Pages.{member_page, offset_page, subtrans_page, xact_page};
+ghost use Rattle.tx_core.specs.Locks.{number_of};
 
+use store_pages::{bank_of, member_page, offset_page, subtrans_page, xact_page};
 use tx_events::Lock;
 use xid_order::{FullMulti, FullXid};
-
-/// How many ids have their states on one page of pg_xact (`CLOG_XACTS_PER_PAGE`).
-const XACTS_PER_PAGE: u32 = 32768;
-
-/// How many ids have their parents on one page of pg_subtrans (`SUBTRANS_XACTS_PER_PAGE`).
-const PARENTS_PER_PAGE: u32 = 2048;
-
-/// How many multixacts have their offsets on one page (`MULTIXACT_OFFSETS_PER_PAGE`).
-const OFFSETS_PER_PAGE: u32 = 2048;
-
-/// How many members one page holds (`MULTIXACT_MEMBERS_PER_PAGE`).
-const MEMBERS_PER_PAGE: u32 = 1636;
 
 /// The number of a lock: the log's, the ProcArray's and the multixacts' first, then bank by bank those of the four
 /// stores.
@@ -39,7 +29,7 @@ pub fn state_lock(id: FullXid, banks: u32) -> Lock
     requires { 0 < banks }
     ensures { result ≡ locks.Xact (xact_page (low_half id) % banks) }
 {
-    Lock::Xact(id.low().number / XACTS_PER_PAGE % banks)
+    Lock::Xact(bank_of(xact_page(id.low()), banks))
 }
 
 /// The lock under which its parent lies.
@@ -47,22 +37,22 @@ pub fn parent_lock(id: FullXid, banks: u32) -> Lock
     requires { 0 < banks }
     ensures { result ≡ locks.Subtrans (subtrans_page (low_half id) % banks) }
 {
-    Lock::Subtrans(id.low().number / PARENTS_PER_PAGE % banks)
+    Lock::Subtrans(bank_of(subtrans_page(id.low()), banks))
 }
 
 /// The lock under which the offset of `multi` lies.
 pub fn offset_lock(multi: FullMulti, banks: u32) -> Lock
     requires { 0 < banks }
-    ensures { result ≡ locks.Offsets (offsets_page (low_half multi) % banks) }
+    ensures { result ≡ locks.Offsets (offset_page (low_half multi) % banks) }
 {
-    Lock::Offsets(multi.low().number / OFFSETS_PER_PAGE % banks)
+    Lock::Offsets(bank_of(offset_page(multi.low()), banks))
 }
 
 /// The lock under which the member at `offset` lies, counted in full.
 pub fn member_lock(offset: u64, banks: u32) -> Lock
     requires { 0 < banks }
-    ensures { result ≡ locks.Members (members_page (low_half offset) % banks) }
+    ensures { result ≡ locks.Members (member_page (low_half offset) % banks) }
 {
     let low = (offset & 0xffff_ffff) as u32;
-    Lock::Members(low / MEMBERS_PER_PAGE % banks)
+    Lock::Members(bank_of(member_page(low), banks))
 }

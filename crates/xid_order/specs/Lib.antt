@@ -1,5 +1,4 @@
 pub mod Ids
-pub mod Layouts
 pub mod Limits
 pub mod Nearest
 pub mod Order

@@ -1,16 +1,13 @@
-use Rattle.std.proofs.Common.{◌≡◌, ℕ, List, ap, ◌/◌, ◌%◌, ◌∙◌}
+use Rattle.std.proofs.Common.{◌≡◌, ap, ◌/◌, ◌%◌, ◌∙◌}
 use Rattle.xid_order.specs.Ids.{low_half}
-use Rattle.multi_members.specs.MemberPlaces.{id_at}
-use Rattle.slru_bank.specs.Bank.{map_of}
+use Rattle.store_pages.specs.Pages.{id_at, member_page, member_place}
+use Rattle.slru_bank.specs.Calls.{pages_of}
 use Rattle.multi_members.proofs.MemberSlots.{trims_members}
 use Rattle.multi_members.proofs.members.trim_members.Goals as goal
 
 pub returns-clause-ok : goal.returns-clause-ok
 returns-clause-ok g c told =
-    let d = g.P.PageDisk in
-    let old : ℕ → List ℕ = map_of (d.pages c.args.bank.now.disk) c.args.bank.now.buffers.items in
-    let new : ℕ → List ℕ = map_of (d.pages c.clear_after.new.self.disk) c.clear_after.new.self.buffers.items in
-    let page : c.member_page.result ≡ low_half c.args.next / 1636 = c.member_page.ensures ∙ ap (λ (n : ℕ). n / 1636) c.low_offset-offset.ensures in
-    let place : c.id_place.result ≡ id_at (low_half c.args.next % 1636) = c.id_place.ensures.place ∙ ap (λ (n : ℕ). id_at (n % 1636)) c.low_offset-offset.ensures in
-    let clears = rw (page, place) at (c.clear_after.ensures.ok told) in
-    trims_members c.clear_after.result (low_half c.args.next / 1636) (low_half c.args.next % 1636) old new clears
+    let page : c.member_page.result ≡ member_page (low_half c.args.next) = c.member_page.ensures.page ∙ ap (λ n. n / 1636) c.low_offset-offset.ensures in
+    let position : c.id_position.result ≡ id_at (member_place (low_half c.args.next)) = c.id_position.ensures.position ∙ ap (λ n. id_at (n % 1636)) c.low_offset-offset.ensures in
+    let clears = rw (page, position) at (c.clear_after.ensures.ok told) in
+    trims_members c.clear_after.result (member_page (low_half c.args.next)) (member_place (low_half c.args.next)) (pages_of c.args.bank.now) (pages_of c.clear_after.new.self) clears

@@ -1,36 +1,30 @@
-use Rattle.std.proofs.Common.{ℕ, List, ◌/◌, ◌%◌, arith}
-use Rattle.slru_bank.specs.Bank.{map_of}
-use Rattle.slru_bank.specs.Crash.{mixtures_through}
+use Rattle.std.proofs.Common.{arith}
+use Rattle.store_pages.specs.Pages.{member_page, member_place}
+use Rattle.slru_bank.specs.Calls.{SamePages, calls_again, pages_of, second_is_ok, unrefused}
 use Rattle.tx_events.specs.Modes.{mode_number}
-use Rattle.multi_members.proofs.MemberSlots.{SetsMode, sets_member_ok, mode_between_either}
+use Rattle.multi_members.proofs.MemberSlots.{SetsMode, sets_member_ok}
 use Rattle.multi_members.proofs.members.write_member.Goals as goal
 
 pub returns-clause-ok : goal.returns-clause-ok
 returns-clause-ok g c told =
-    let d = g.P.PageDisk in
-    let m : ℕ → List ℕ = map_of (d.pages c.args.bank.now.disk) c.args.bank.now.buffers.items in
-    let m1 : ℕ → List ℕ = map_of (d.pages c.set.new.self.disk) c.set.new.self.buffers.items in
-    let m2 : ℕ → List ℕ = map_of (d.pages c.put_number.new.bank.disk) c.put_number.new.bank.buffers.items in
-    let page : ℕ = c.args.offset / 1636 in
-    let place : ℕ = c.args.offset % 1636 in
-    let whole = rw c.member_page-page.ensures at (c.in_ok-set.ensures.page told) in
-    let puts = rw (c.member_page-page.ensures, c.mode_place.ensures.place, c.number.ensures.number) at (c.in_ok-set.ensures.ok told) in
-    let first : SetsMode page place (mode_number c.args.mode) m m1 = record { whole = whole; puts = puts } in
-    let second = rw (c.member_page-page.ensures, c.id_place.ensures.place) at (c.put_number.ensures.ok told) in
+    let m = pages_of c.args.bank.now in
+    let m1 = pages_of c.set.new.self in
+    let m2 = pages_of c.put_number.new.bank in
+    let page = c.member_page-page.ensures.page in
+    let whole = rw page at (c.in_ok-set.ensures.page told) in
+    let puts = rw (page, c.mode_position.ensures.position, c.number.ensures.number) at (c.in_ok-set.ensures.ok told) in
+    let first : SetsMode (member_page c.args.offset) (member_place c.args.offset) (mode_number c.args.mode) m m1 = record { whole = whole; puts = puts } in
+    let second = rw (page, c.id_position.ensures.position) at (c.put_number.ensures.ok told) in
     let small = rw c.number.ensures.number at c.number.ensures.small in
-    sets_member_ok c.put_number.result m m1 m2 page place (mode_number c.args.mode) c.args.x.number (omega arith) small first second
+    sets_member_ok c.put_number.result m m1 m2 (member_page c.args.offset) (member_place c.args.offset) (mode_number c.args.mode) c.args.x.number (omega arith) small first second
 
-pub returns-clause-crash : goal.returns-clause-crash
-returns-clause-crash g c told =
-    let d = g.P.PageDisk in
-    let m : ℕ → List ℕ = map_of (d.pages c.args.bank.now.disk) c.args.bank.now.buffers.items in
-    let m1 : ℕ → List ℕ = map_of (d.pages c.set.new.self.disk) c.set.new.self.buffers.items in
-    let m2 : ℕ → List ℕ = map_of (d.pages c.put_number.new.bank.disk) c.put_number.new.bank.buffers.items in
-    let page : ℕ = c.args.offset / 1636 in
-    let place : ℕ = c.args.offset % 1636 in
-    let whole = rw c.member_page-page.ensures at (c.in_ok-set.ensures.page told) in
-    let puts = rw (c.member_page-page.ensures, c.mode_place.ensures.place, c.number.ensures.number) at (c.in_ok-set.ensures.ok told) in
-    let first : SetsMode page place (mode_number c.args.mode) m m1 = record { whole = whole; puts = puts } in
-    let second = rw (c.member_page-page.ensures, c.id_place.ensures.place) at (c.put_number.ensures.ok told) in
-    mixtures_through d.images d.moment d.left_at c.args.bank.now.disk c.set.new.self.disk c.put_number.new.bank.disk m m1 m2
-    (mode_between_either c.put_number.result m m1 m2 page place (mode_number c.args.mode) c.args.x.number first second (c.put_number.ensures.err told)) (c.set.ensures.crash told) (c.put_number.ensures.crash told)
+-- the page is at hand for the id
+pub returns-clause-err : goal.returns-clause-err
+returns-clause-err g c told =
+    unrefused c.put_number.result (SamePages c.args.bank.now c.put_number.new.bank)
+    (second_is_ok c.member_page-page.result c.args.bank.now c.set.new.self c.put_number.new.bank tt c.set.result c.put_number.result c.in_ok-set.was c.set.ensures.bank c.put_number.ensures.bank)
+
+pub returns-clause-bank : goal.returns-clause-bank
+returns-clause-bank g c =
+    let both = calls_again c.member_page-page.result c.args.bank.now c.set.new.self c.put_number.new.bank tt c.set.result c.put_number.result c.in_ok-set.was c.set.ensures.bank c.put_number.ensures.bank in
+    rw c.member_page-page.ensures.page at both

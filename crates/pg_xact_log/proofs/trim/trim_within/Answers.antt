@@ -1,47 +1,34 @@
-use Rattle.std.proofs.Common.{◌≡◌, ℕ, List, Bool, slice_index, bit_and, ap, sym, subst, ◌-◌, ◌/◌, ◌%◌, ◌∙◌}
-use Rattle.xid_order.specs.PageOrder.{Ids, page_precedes}
-use Rattle.slru_bank.specs.Bank.{map_of, masked, IsPage}
-use Rattle.slru_bank.specs.Crash.{runs_then, gone_mixtures_through, IsMixture, IsMixtureOrGone}
+use Rattle.std.proofs.Common.{◌≡◌, ℕ, List, Bool, slice_index, bit_and, refl, ap, sym, subst, ◌-◌, ◌/◌, ◌%◌, ◌∙◌}
+use Rattle.std.specs.Prelude.{IsTrue}
+use Rattle.xid_order.specs.PageOrder.{Ids, is_cut, page_precedes}
+use Rattle.slru_bank.specs.Bank.{IsPage}
+use Rattle.slru_bank.specs.ByteRange.{first_read}
+use Rattle.slru_bank.specs.Calls.{at_hand_is_ok, pages_of, unrefused}
+use Rattle.slru_bank.specs.Removal.{MayDrop}
 use Rattle.pg_xact_log.specs.States.{times_4}
-use Rattle.pg_xact_log.specs.Changes.{MayTrimStates}
-use Rattle.pg_xact_log.proofs.ManyStates.{on_err}
-use Rattle.pg_xact_log.proofs.TrimLemmas.{trims_ok, trims_err, trims_clear, trims_same, may_drop, same_then_gone, none_gone, between_either, first_read}
+use Rattle.pg_xact_log.proofs.TrimLemmas.{drop_over, on_err, trim_crash, trims_clear, trims_ok, trims_same}
 use Rattle.pg_xact_log.proofs.trim.trim_within.Goals as goal
 
 pub returns-in_err-clear_after-clause-err : goal.returns-in_err-clear_after-clause-err
 returns-in_err-clear_after-clause-err g c told =
-    let d = g.P.PageDisk in
-    let m : ℕ → List ℕ = map_of (d.pages c.args.bank.now.disk) c.args.bank.now.buffers.items in
-    let old : ℕ → List ℕ = map_of (d.pages c.read.new.self.disk) c.read.new.self.buffers.items in
-    let mid : ℕ → List ℕ = map_of (d.pages c.clear_after.new.self.disk) c.clear_after.new.self.buffers.items in
-    on_err (MayTrimStates c.args.page c.args.place m mid) c.from_residual-in_err-clear_after.result (may_drop c.args.page c.args.place m old mid (c.read.ensures.same told) (c.in_err-clear_after.ensures.err told))
+    let gone : ℕ → Bool = page_precedes Ids 32768 c.args.page in
+    let m = pages_of c.args.bank.now in
+    let mid = pages_of c.clear_after.new.self in
+    on_err (MayDrop gone m mid) c.from_residual-in_err-clear_after.result (drop_over gone m (pages_of c.read.new.self) mid (c.read.ensures.same told) (c.in_err-clear_after.ensures.bank.err told))
 
 pub returns-in_err-clear_after-clause-crash : goal.returns-in_err-clear_after-clause-crash
-returns-in_err-clear_after-clause-crash g c told =
-    let d = g.P.PageDisk in
-    let gone : ℕ → Bool = page_precedes Ids 32768 c.args.page in
-    let m : ℕ → List ℕ = map_of (d.pages c.args.bank.now.disk) c.args.bank.now.buffers.items in
-    let old : ℕ → List ℕ = map_of (d.pages c.read.new.self.disk) c.read.new.self.buffers.items in
-    let mid : ℕ → List ℕ = map_of (d.pages c.clear_after.new.self.disk) c.clear_after.new.self.buffers.items in
-    runs_then d.images d.moment d.left_at (IsMixture m old) (IsMixtureOrGone gone old mid) (IsMixtureOrGone gone m mid) c.args.bank.now.disk c.read.new.self.disk c.clear_after.new.self.disk
-    (λ x y s. none_gone gone m old mid x y (c.read.ensures.same told) s) (λ x y z s t. same_then_gone gone m old mid x y z (c.read.ensures.same told) s t) (c.read.ensures.crash told) (c.clear_after.ensures.crash told)
+returns-in_err-clear_after-clause-crash g c =
+    trim_crash (page_precedes Ids 32768 c.args.page) c.args.bank.now c.read.new.self c.clear_after.new.self c.clear_after.new.self.disk refl c.read.ensures.same c.read.ensures.bank.calls.crash c.clear_after.ensures.bank.crash
 
 pub returns-then-byte-mask-eq0-clause-crash : goal.returns-then-byte-mask-eq0-clause-crash
-returns-then-byte-mask-eq0-clause-crash g c told =
-    let d = g.P.PageDisk in
-    let gone : ℕ → Bool = page_precedes Ids 32768 c.args.page in
-    let m : ℕ → List ℕ = map_of (d.pages c.args.bank.now.disk) c.args.bank.now.buffers.items in
-    let old : ℕ → List ℕ = map_of (d.pages c.read.new.self.disk) c.read.new.self.buffers.items in
-    let mid : ℕ → List ℕ = map_of (d.pages c.clear_after.new.self.disk) c.clear_after.new.self.buffers.items in
-    runs_then d.images d.moment d.left_at (IsMixture m old) (IsMixtureOrGone gone old mid) (IsMixtureOrGone gone m mid) c.args.bank.now.disk c.read.new.self.disk c.clear_after.new.self.disk
-    (λ x y s. none_gone gone m old mid x y (c.read.ensures.same told) s) (λ x y z s t. same_then_gone gone m old mid x y z (c.read.ensures.same told) s t) (c.read.ensures.crash told) (c.clear_after.ensures.crash told)
+returns-then-byte-mask-eq0-clause-crash g c =
+    trim_crash (page_precedes Ids 32768 c.args.page) c.args.bank.now c.read.new.self c.clear_after.new.self c.clear_after.new.self.disk refl c.read.ensures.same c.read.ensures.bank.calls.crash c.clear_after.ensures.bank.crash
 
 pub returns-then-byte-mask-eq0-clause-ok : goal.returns-then-byte-mask-eq0-clause-ok
 returns-then-byte-mask-eq0-clause-ok g c told =
-    let d = g.P.PageDisk in
-    let m : ℕ → List ℕ = map_of (d.pages c.args.bank.now.disk) c.args.bank.now.buffers.items in
-    let old : ℕ → List ℕ = map_of (d.pages c.read.new.self.disk) c.read.new.self.buffers.items in
-    let mid : ℕ → List ℕ = map_of (d.pages c.clear_after.new.self.disk) c.clear_after.new.self.buffers.items in
+    let m = pages_of c.args.bank.now in
+    let old = pages_of c.read.new.self in
+    let mid = pages_of c.clear_after.new.self in
     let same = c.read.ensures.same told in
     let byte : slice_index c.read.new.into 0 ≡ slice_index (m c.args.page) (c.args.place / 4) = ap (λ (l : List ℕ). slice_index l 0) (c.in_ok-read.ensures.bytes told) ∙ first_read (m c.args.page) (c.args.place / 4) in
     let none : bit_and (slice_index c.read.new.into 0) c.mask_from-mask.result ≡ 0 = c.if-byte-mask-eq0.true in
@@ -53,33 +40,17 @@ returns-then-byte-mask-eq0-clause-ok g c told =
 
 pub returns-clause-ok : goal.returns-clause-ok
 returns-clause-ok g c told =
-    let d = g.P.PageDisk in
-    let m : ℕ → List ℕ = map_of (d.pages c.args.bank.now.disk) c.args.bank.now.buffers.items in
-    let old : ℕ → List ℕ = map_of (d.pages c.read.new.self.disk) c.read.new.self.buffers.items in
-    let mid : ℕ → List ℕ = map_of (d.pages c.clear_after.new.self.disk) c.clear_after.new.self.buffers.items in
-    let new : ℕ → List ℕ = map_of (d.pages c.set.new.self.disk) c.set.new.self.buffers.items in
     let puts = rw c.mask_from-mask.ensures at (c.set.ensures.ok told) in
-    trims_ok c.set.result c.args.page c.args.place m old mid new c.requires.odd c.requires.within (c.read.ensures.same told) (c.in_ok-clear_after.ensures.ok told) (c.set.ensures.page told) puts
+    trims_ok c.set.result c.args.page c.args.place (pages_of c.args.bank.now) (pages_of c.read.new.self) (pages_of c.clear_after.new.self) (pages_of c.set.new.self) c.requires.odd c.requires.within (c.read.ensures.same told) (c.in_ok-clear_after.ensures.ok told) (c.set.ensures.page told) puts
 
+-- the page is at hand, so its last byte is set
 pub returns-clause-err : goal.returns-clause-err
 returns-clause-err g c told =
-    let d = g.P.PageDisk in
-    let m : ℕ → List ℕ = map_of (d.pages c.args.bank.now.disk) c.args.bank.now.buffers.items in
-    let old : ℕ → List ℕ = map_of (d.pages c.read.new.self.disk) c.read.new.self.buffers.items in
-    let mid : ℕ → List ℕ = map_of (d.pages c.clear_after.new.self.disk) c.clear_after.new.self.buffers.items in
-    let new : ℕ → List ℕ = map_of (d.pages c.set.new.self.disk) c.set.new.self.buffers.items in
-    trims_err c.set.result c.args.page c.args.place m old mid new (c.read.ensures.same told) (c.in_ok-clear_after.ensures.ok told) (c.set.ensures.err told)
+    unrefused c.set.result (MayDrop (page_precedes Ids 32768 c.args.page) (pages_of c.args.bank.now) (pages_of c.set.new.self))
+    (at_hand_is_ok c.args.page c.clear_after.new.self c.set.new.self c.set.result c.in_ok-clear_after.ensures.at_hand
+    (λ cut. let refused = c.read.ensures.bank.calls.cut (subst (λ (cutoff : ℕ). IsTrue (is_cut Ids 32768 cutoff c.args.page)) (c.clear_after.ensures.bank.cutoff ∙ c.read.ensures.bank.calls.cutoff) cut) in let read = c.in_ok-read.was in absurd cc)
+    c.set.ensures.bank)
 
 pub returns-clause-crash : goal.returns-clause-crash
-returns-clause-crash g c told =
-    let d = g.P.PageDisk in
-    let gone : ℕ → Bool = page_precedes Ids 32768 c.args.page in
-    let m : ℕ → List ℕ = map_of (d.pages c.args.bank.now.disk) c.args.bank.now.buffers.items in
-    let old : ℕ → List ℕ = map_of (d.pages c.read.new.self.disk) c.read.new.self.buffers.items in
-    let mid : ℕ → List ℕ = map_of (d.pages c.clear_after.new.self.disk) c.clear_after.new.self.buffers.items in
-    let new : ℕ → List ℕ = map_of (d.pages c.set.new.self.disk) c.set.new.self.buffers.items in
-    let first = runs_then d.images d.moment d.left_at (IsMixture m old) (IsMixtureOrGone gone old mid) (IsMixtureOrGone gone m mid) c.args.bank.now.disk c.read.new.self.disk c.clear_after.new.self.disk
-    (λ x y s. none_gone gone m old mid x y (c.read.ensures.same told) s) (λ x y z s t. same_then_gone gone m old mid x y z (c.read.ensures.same told) s t) (c.read.ensures.crash told) (c.clear_after.ensures.crash told) in
-    gone_mixtures_through d.images d.moment d.left_at gone c.args.bank.now.disk c.clear_after.new.self.disk c.set.new.self.disk m mid new
-    (between_either c.set.result c.args.page (c.args.place / 4) (masked (slice_index (mid c.args.page) (c.args.place / 4)) c.mask_from-mask.result 0) m old mid new (c.read.ensures.same told) (c.in_ok-clear_after.ensures.ok told) (c.set.ensures.ok told) (c.set.ensures.err told))
-    first (c.set.ensures.crash told)
+returns-clause-crash g c =
+    trim_crash (page_precedes Ids 32768 c.args.page) c.args.bank.now c.read.new.self c.clear_after.new.self c.set.new.self.disk (c.set.ensures.bank.not_asked c.in_ok-clear_after.ensures.at_hand) c.read.ensures.same c.read.ensures.bank.calls.crash c.clear_after.ensures.bank.crash

@@ -1,33 +1,38 @@
-use Rattle.std.proofs.Common.{◌≡◌, List, ℕ, Bool, false, ap, ◌∙◌}
+use Rattle.std.proofs.Common.{◌≡◌, List, ℕ, Bool, false, ap, rules, ◌∙◌}
 use Rattle.xid_order.specs.PageOrder.{page_precedes}
 use Rattle.xid_order.specs.PageWindow.{precedes_itself}
-use Rattle.slru_bank.specs.Bank.{map_of}
-use Rattle.slru_bank.specs.Crash.{runs_then, mixture_same, mixture_wide, IsMixture, IsMixtureOrGone}
+use Rattle.slru_bank.specs.Calls.{pages_of}
 use Rattle.slru_bank.specs.Removal.{cleared_from, MayDrop}
 use Rattle.slru_bank.proofs.RemovalLists.{drop_same, on_err}
-use Rattle.slru_bank.proofs.ZeroBytes.{gone_then}
+use Rattle.slru_bank.proofs.ZeroBytes.{gone_crash}
 use Rattle.slru_bank.proofs.bank.SlruBank.clear_after.Goals as goal
 
-pub returns-in_err-load-clause-err : goal.returns-in_err-load-clause-err
-returns-in_err-load-clause-err g c told =
-    let pages = g.P.PageDisk.pages in
-    let gone : ℕ → Bool = λ q. page_precedes g.O.PageRule.shape g.O.PageRule.per_page c.args.page q in
-    let m : ℕ → List ℕ = map_of (pages c.args.self.now.disk) c.args.self.now.buffers.items in
-    let m2 : ℕ → List ℕ = map_of (pages c.load.new.self.disk) c.load.new.self.buffers.items in
-    on_err (MayDrop gone m m2) c.from_residual-in_err-load.result
-    (drop_same gone m (map_of (pages c.remove.new.self.disk) c.remove.new.self.buffers.items) m2 (c.remove.ensures.any told) (c.load.ensures.same told))
-
-pub returns-in_err-load-clause-crash : goal.returns-in_err-load-clause-crash
-returns-in_err-load-clause-crash g c told =
+pub returns-in_err-load-clause-bank : goal.returns-in_err-load-clause-bank
+returns-in_err-load-clause-bank g c =
     let d = g.P.PageDisk in
-    let gone : ℕ → Bool = λ q. page_precedes g.O.PageRule.shape g.O.PageRule.per_page c.args.page q in
-    let m : ℕ → List ℕ = map_of (d.pages c.args.self.now.disk) c.args.self.now.buffers.items in
-    let m1 : ℕ → List ℕ = map_of (d.pages c.remove.new.self.disk) c.remove.new.self.buffers.items in
-    let m2 : ℕ → List ℕ = map_of (d.pages c.load.new.self.disk) c.load.new.self.buffers.items in
-    runs_then d.images d.moment d.left_at (IsMixtureOrGone gone m m1) (IsMixture m1 m1) (IsMixtureOrGone gone m m2) c.args.self.now.disk c.remove.new.self.disk c.load.new.self.disk
-    (λ x y s. gone_then gone m m1 m2 x y y (c.remove.ensures.any told) s (mixture_same m1 m2 y))
-    (λ x y z s t. gone_then gone m m1 m2 x y z (c.remove.ensures.any told) s (mixture_wide m1 m2 y z t))
-    (c.remove.ensures.crash told) (c.load.ensures.crash told)
+    let gone : ℕ → Bool = page_precedes g.O.PageRule.shape g.O.PageRule.per_page c.args.page in
+    let m : ℕ → List ℕ = pages_of c.args.self.now in
+    let m1 : ℕ → List ℕ = pages_of c.remove.new.self in
+    let m2 : ℕ → List ℕ = pages_of c.load.new.self in
+    record {
+      sweeps = record { last = c.load.ensures.last ∙ c.remove.ensures.last; fault = λ is. search rules; count = search rules };
+      cutoff = c.load.ensures.cutoff ∙ c.remove.ensures.cutoff;
+      err = λ told. on_err (MayDrop gone m m2) c.from_residual-in_err-load.result (drop_same gone m m1 m2 (c.remove.ensures.any told) (c.load.ensures.same told));
+      crash = λ told. gone_crash d.images d.moment d.left_at gone m m1 c.args.self.now.disk c.remove.new.self.disk c.load.new.self.disk (c.remove.ensures.any told) (c.remove.ensures.crash told) (c.load.ensures.crash told);
+    }
+
+pub returns-clause-bank : goal.returns-clause-bank
+returns-clause-bank g c =
+    let d = g.P.PageDisk in
+    let gone : ℕ → Bool = page_precedes g.O.PageRule.shape g.O.PageRule.per_page c.args.page in
+    let m : ℕ → List ℕ = pages_of c.args.self.now in
+    let m1 : ℕ → List ℕ = pages_of c.remove.new.self in
+    record {
+      sweeps = record { last = c.load.ensures.last ∙ c.remove.ensures.last; fault = λ is. search rules; count = search rules };
+      cutoff = c.load.ensures.cutoff ∙ c.remove.ensures.cutoff;
+      err = λ told. tt;
+      crash = λ told. gone_crash d.images d.moment d.left_at gone m m1 c.args.self.now.disk c.remove.new.self.disk c.load.new.self.disk (c.remove.ensures.any told) (c.remove.ensures.crash told) (c.load.ensures.crash told);
+    }
 
 pub invariant_of-self : goal.invariant_of-self
 invariant_of-self g c = record {
@@ -51,15 +56,3 @@ returns-clause-ok g c told =
       zeros = λ q within taken. puts.others q (λ e. let both : page_precedes shape n page q ≡ false = ap (page_precedes shape n page) e ∙ itself in absurd cc) ∙ same q ∙ drops.zeros q within taken;
       stay = λ q differs kept. puts.others q differs ∙ same q ∙ drops.stay q kept;
     }
-
-pub returns-clause-crash : goal.returns-clause-crash
-returns-clause-crash g c told =
-    let d = g.P.PageDisk in
-    let gone : ℕ → Bool = λ q. page_precedes g.O.PageRule.shape g.O.PageRule.per_page c.args.page q in
-    let m : ℕ → List ℕ = map_of (d.pages c.args.self.now.disk) c.args.self.now.buffers.items in
-    let m1 : ℕ → List ℕ = map_of (d.pages c.remove.new.self.disk) c.remove.new.self.buffers.items in
-    let m2 : ℕ → List ℕ = map_of (d.pages c.load.new.self.disk) c.clear_first.new.buffers.items in
-    runs_then d.images d.moment d.left_at (IsMixtureOrGone gone m m1) (IsMixture m1 m1) (IsMixtureOrGone gone m m2) c.args.self.now.disk c.remove.new.self.disk c.load.new.self.disk
-    (λ x y s. gone_then gone m m1 m2 x y y (c.remove.ensures.any told) s (mixture_same m1 m2 y))
-    (λ x y z s t. gone_then gone m m1 m2 x y z (c.remove.ensures.any told) s (mixture_wide m1 m2 y z t))
-    (c.remove.ensures.crash told) (c.load.ensures.crash told)

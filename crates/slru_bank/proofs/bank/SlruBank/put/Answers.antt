@@ -1,6 +1,5 @@
 use Rattle.std.proofs.Common.{List, ℕ, ◌∙◌}
 use Rattle.slru_bank.specs.Bank.{map_of, placed, puts_after}
-use Rattle.slru_bank.specs.Crash.{mixtures_then, mixture_kept}
 use Rattle.slru_bank.proofs.bank.SlruBank.put.Goals as goal
 
 pub returns-clause-ok : goal.returns-clause-ok
@@ -10,16 +9,6 @@ returns-clause-ok g c told =
     let m1 : ℕ → List ℕ = map_of (pages c.open.new.self.disk) c.open.new.self.buffers.items in
     let m2 : ℕ → List ℕ = map_of (pages c.open.new.self.disk) c.put_first.new.buffers.items in
     puts_after m m1 m2 c.args.page (λ (l : List ℕ). placed l c.args.at c.args.from.now) (c.open.ensures.same told) (c.put_first.ensures.puts (pages c.open.new.self.disk))
-
-pub returns-clause-crash : goal.returns-clause-crash
-returns-clause-crash g c told =
-    let d = g.P.PageDisk in
-    let pages = g.P.PageDisk.pages in
-    let m : ℕ → List ℕ = map_of (pages c.args.self.now.disk) c.args.self.now.buffers.items in
-    let m1 : ℕ → List ℕ = map_of (pages c.open.new.self.disk) c.open.new.self.buffers.items in
-    let m2 : ℕ → List ℕ = map_of (pages c.open.new.self.disk) c.put_first.new.buffers.items in
-    mixtures_then d.images d.moment d.left_at c.args.self.now.disk c.open.new.self.disk c.open.new.self.disk m m1 m2 (c.open.ensures.same told) (c.open.ensures.crash told)
-    (mixture_kept d.images d.moment d.left_at c.open.new.self.disk m1 m2 (λ x left. g.met.P.PageDisk.only_now c.open.new.self.disk x told left))
 
 pub invariant_of-self : goal.invariant_of-self
 invariant_of-self g c = record {

@@ -46,8 +46,7 @@ returns-in_err-remove_pages-clause-crash g c told =
     let d = g.P.PageDisk in
     let gone : ℕ → Bool = removes g.O.PageRule.shape g.O.PageRule.per_page c.args.removal in
     let m : ℕ → List ℕ = map_of (d.pages c.args.self.now.disk) c.args.self.now.buffers.items in
-    let new : ℕ → List ℕ = map_of (d.pages c.remove_pages.new.disk) c.blank_removed.new.buffers.items in
-    wider d.images d.moment d.left_at (MayLack gone) (IsMixtureOrGone gone m new) c.args.self.now.disk c.remove_pages.new.disk (gone_mixture gone m new) (c.remove_pages.ensures.crash told)
+    wider d.images d.moment d.left_at (MayLack gone) (IsMixtureOrGone gone m m) c.args.self.now.disk c.remove_pages.new.disk (gone_mixture gone m m) (c.remove_pages.ensures.crash told)
 
 pub returns-clause-any : goal.returns-clause-any
 returns-clause-any g c told =
@@ -79,5 +78,4 @@ returns-clause-crash g c told =
     let d = g.P.PageDisk in
     let gone : ℕ → Bool = removes g.O.PageRule.shape g.O.PageRule.per_page c.args.removal in
     let m : ℕ → List ℕ = map_of (d.pages c.args.self.now.disk) c.args.self.now.buffers.items in
-    let new : ℕ → List ℕ = map_of (d.pages c.remove_pages.new.disk) c.empty_removed.new.buffers.items in
-    wider d.images d.moment d.left_at (MayLack gone) (IsMixtureOrGone gone m new) c.args.self.now.disk c.remove_pages.new.disk (gone_mixture gone m new) (c.remove_pages.ensures.crash told)
+    wider d.images d.moment d.left_at (MayLack gone) (IsMixtureOrGone gone m m) c.args.self.now.disk c.remove_pages.new.disk (gone_mixture gone m m) (c.remove_pages.ensures.crash told)

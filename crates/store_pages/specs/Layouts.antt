@@ -1,14 +1,15 @@
--- Where the stores keep their numbers: the pages, the places on a page, and the pages from which on a store is kept.
+-- What stands on the stores' pages, byte by byte, and the pages from which on a store is kept. By full numbers.
 use Rattle.std.specs.Prelude.{ℕ, zero, suc, ◌+◌, ◌-◌, ◌*◌, ◌/◌, ◌%◌, ◌==◌, if◌then◌else◌, List, slice_index}
 use Rattle.xid_order.specs.Ids.{low_half, id_before}
+use Rattle.store_pages.specs.Pages.{xact_page, xact_place, subtrans_page, subtrans_place, member_page, member_place, mode_at, id_at}
 
 -- the commit log: two bits an id, 32768 ids a page
 
 abbrev pub xact_page_of : ℕ → ℕ
-xact_page_of id = low_half id / 32768
+xact_page_of id = xact_page (low_half id)
 
 abbrev pub xact_place_of : ℕ → ℕ
-xact_place_of id = low_half id % 32768
+xact_place_of id = xact_place (low_half id)
 
 -- the two bits of the k-th of the four ids of a byte
 abbrev pub bits_at : ℕ → ℕ → ℕ
@@ -27,21 +28,21 @@ number_in bytes at = slice_index bytes at + 256 * (slice_index bytes (at + 1) + 
 -- parents and offsets: four bytes each, 2048 a page
 
 abbrev pub word_page_of : ℕ → ℕ
-word_page_of number = low_half number / 2048
+word_page_of number = subtrans_page (low_half number)
 
 abbrev pub word_place_of : ℕ → ℕ
-word_place_of number = 4 * (low_half number % 2048)
+word_place_of number = 4 * subtrans_place (low_half number)
 
 -- members: 409 groups of four a page, each four mode bytes and then four ids of four bytes
 
 abbrev pub member_page_of : ℕ → ℕ
-member_page_of offset = low_half offset / 1636
+member_page_of offset = member_page (low_half offset)
 
 abbrev pub mode_place_of : ℕ → ℕ
-mode_place_of offset = 20 * (low_half offset % 1636 / 4) + low_half offset % 1636 % 4
+mode_place_of offset = mode_at (member_place (low_half offset))
 
 abbrev pub member_place_of : ℕ → ℕ
-member_place_of offset = 20 * (low_half offset % 1636 / 4) + 4 + 4 * (low_half offset % 1636 % 4)
+member_place_of offset = id_at (member_place (low_half offset))
 
 -- the cutoff page of each store
 

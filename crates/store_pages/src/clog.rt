@@ -1,0 +1,60 @@
+// The pages of the commit log. After PostgreSQL's `src/backend/access/transam/clog.c`.
+ghost use Rattle.std.specs.Prelude.{◌≡◌, ◌<◌, ◌+◌, ◌*◌, ◌%◌, ◌^◌, ℕ};
+ghost use Rattle.xid_order.specs.Ids.{low_half};
+ghost use Rattle.xid_order.specs.PageOrder.{Ids};
+ghost use Rattle.store_pages.specs.Pages.{xact_page, xact_place, xacts_per_page};
+
+use crate::page_rule::PageRule;
+use crate::ring::number_on;
+use xid_order::{FullXid, Xid, precedes};
+
+/// How many ids have their states on one page, two bits each (`CLOG_XACTS_PER_PAGE`).
+pub const XACTS_PER_PAGE: u32 = 32768;
+
+/// The page of an id's state as it is stored, below 2^17 (`TransactionIdToPage`).
+pub fn xact_page(x: Xid) -> u32
+    ensures page { result ≡ xact_page x.number }
+    ensures within { result < 2 ^ 17 }
+{
+    x.number / XACTS_PER_PAGE
+}
+
+/// Which state of its page it is (`TransactionIdToPgIndex`).
+pub fn xact_place(x: Xid) -> u32
+    ensures place { result ≡ xact_place x.number }
+    ensures within { result < xacts_per_page }
+{
+    x.number % XACTS_PER_PAGE
+}
+
+/// The page in full. The stored one is its rest by 2^17.
+pub fn xact_page_in_full(id: FullXid) -> u64
+    ensures page { result ≡ xact_page id }
+    ensures stored { result % 2 ^ 17 ≡ xact_page (low_half id) }
+{
+    id.number() / u64::from(XACTS_PER_PAGE)
+}
+
+/// The order of the pages of states.
+#[derive(Clone, Copy, Drop)]
+pub struct XactPages;
+
+impl PageRule for XactPages {
+    ghost shape = { Ids };
+
+    ghost per_page = { xacts_per_page };
+
+    /// A page is seen by its fifth id, as in `CLOGPagePrecedes`: the first ones of page 0 are the special ids.
+    fn precedes(p: u32, q: u32) -> bool {
+        let first = id_on(p, 4);
+        precedes(first, id_on(q, 4)) && precedes(first, id_on(q, XACTS_PER_PAGE + 3))
+    }
+}
+
+fn id_on(page: u32, past: u32) -> Xid
+    ensures { result.number ≡ (page * xacts_per_page + past) % 2 ^ 32 }
+{
+    Xid {
+        number: number_on(page, XACTS_PER_PAGE, past),
+    }
+}

@@ -1,0 +1,60 @@
+// The pages of the parents of subtransactions. After PostgreSQL's `src/backend/access/transam/subtrans.c`.
+ghost use Rattle.std.specs.Prelude.{◌≡◌, ◌<◌, ◌+◌, ◌*◌, ◌%◌, ◌^◌, ℕ};
+ghost use Rattle.xid_order.specs.Ids.{low_half};
+ghost use Rattle.xid_order.specs.PageOrder.{Ids};
+ghost use Rattle.store_pages.specs.Pages.{parents_per_page, subtrans_page, subtrans_place};
+
+use crate::page_rule::PageRule;
+use crate::ring::number_on;
+use xid_order::{FullXid, Xid, precedes};
+
+/// How many ids have their parents on one page, four bytes each (`SUBTRANS_XACTS_PER_PAGE`).
+pub const PARENTS_PER_PAGE: u32 = 2048;
+
+/// The page of an id's parent as it is stored, below 2^21 (`TransactionIdToPage`).
+pub fn subtrans_page(x: Xid) -> u32
+    ensures page { result ≡ subtrans_page x.number }
+    ensures within { result < 2 ^ 21 }
+{
+    x.number / PARENTS_PER_PAGE
+}
+
+/// Which parent of its page it is (`TransactionIdToEntry`).
+pub fn subtrans_place(x: Xid) -> u32
+    ensures place { result ≡ subtrans_place x.number }
+    ensures within { result < parents_per_page }
+{
+    x.number % PARENTS_PER_PAGE
+}
+
+/// The page in full. The stored one is its rest by 2^21.
+pub fn subtrans_page_in_full(id: FullXid) -> u64
+    ensures page { result ≡ subtrans_page id }
+    ensures stored { result % 2 ^ 21 ≡ subtrans_page (low_half id) }
+{
+    id.number() / u64::from(PARENTS_PER_PAGE)
+}
+
+/// The order of the pages of parents.
+#[derive(Clone, Copy, Drop)]
+pub struct SubtransPages;
+
+impl PageRule for SubtransPages {
+    ghost shape = { Ids };
+
+    ghost per_page = { parents_per_page };
+
+    /// A page is seen by its fifth id, as in `SubTransPagePrecedes`.
+    fn precedes(p: u32, q: u32) -> bool {
+        let first = id_on(p, 4);
+        precedes(first, id_on(q, 4)) && precedes(first, id_on(q, PARENTS_PER_PAGE + 3))
+    }
+}
+
+fn id_on(page: u32, past: u32) -> Xid
+    ensures { result.number ≡ (page * parents_per_page + past) % 2 ^ 32 }
+{
+    Xid {
+        number: number_on(page, PARENTS_PER_PAGE, past),
+    }
+}

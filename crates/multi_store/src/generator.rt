@@ -9,7 +9,6 @@ use crate::pins::{PinCounts, PinKey, add_pin, drop_pin, has_pin, least_pinned};
 use crate::places::{first_member, place_of};
 use horizon_limits::check_multi;
 use std::alloc::Global;
-use std::collections::BTreeMap;
 use std::marker::Model;
 use tx_events::{
     By, Copied, Counters, MemberList, Memory, MultiEvent, Refusal, make_one_room, make_room,

@@ -11,7 +11,7 @@ pub invariant_of-self-then-is_flushed_at_once-clause-gate : goal.invariant_of-se
 invariant_of-self-then-is_flushed_at_once-clause-gate c =
     let w = c.args.self.now in
     let now = sym c.is_flushed_at_once.ensures ∙ c.if-is_flushed_at_once.true in
-    rw (c.items.ensures, c.in_ok-push.ensures.ok, c.size.ensures) (gate_all w.recs c.args.rec w.flushed w.end w.pending now w.known w.gate w.waiting)
+    rw (c.items.ensures, c.in_ok-push.ensures.ok, c.size-size.ensures) (gate_all w.recs c.args.rec w.flushed w.end w.pending now w.known w.gate w.waiting)
 
 pub invariant_of-self-then-is_flushed_at_once-clause-waiting : goal.invariant_of-self-then-is_flushed_at_once-clause-waiting
 invariant_of-self-then-is_flushed_at_once-clause-waiting c =
@@ -20,4 +20,4 @@ invariant_of-self-then-is_flushed_at_once-clause-waiting c =
 pub invariant_of-self-then-is_flushed_at_once-clause-small : goal.invariant_of-self-then-is_flushed_at_once-clause-small
 invariant_of-self-then-is_flushed_at_once-clause-small c =
     let w = c.args.self.now in
-    rw c.in_ok-push.ensures.ok (small_push w.recs c.args.rec (w.end + w.pending) (w.end + (w.pending + c.size.result + 5) + 0) w.small (omega (arith, c.size.ensures, c.requires.size)))
+    rw c.in_ok-push.ensures.ok (small_push w.recs c.args.rec (w.end + w.pending) (w.end + (w.pending + c.size-size.result + 5) + 0) w.small (omega (arith, c.size-size.ensures, c.requires.size)))

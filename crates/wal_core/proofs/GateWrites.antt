@@ -6,7 +6,7 @@ use Rattle.tx_events.specs.declared.record.Rec.{Rec}
 use Rattle.tx_events.specs.declared.record.Counters.{Counters}
 use Rattle.disk_core.specs.Volume.{Volume, Wrote}
 use Rattle.wal_core.specs.Opening.{History, Opened, Walked, walked, judged, is_new, opened_as, opened}
-use Rattle.wal_core.specs.Contents.{history_with}
+use Rattle.wal_core.specs.LogContents.{history_with}
 use Rattle.wal_core.specs.Log.{history_in, EndsWithin, OpensAs}
 use Rattle.wal_core.proofs.News.{opens_short}
 

@@ -132,7 +132,7 @@ stands_last k w bodies body gate before x one comes low after place rest there =
     let same : (walked u).bodies ≡ body ∷ [] = ap (λ (v : Walked). v.bodies) (walked-at_rest u (body ∷ []) gate rest_u) in
     record {
       has = ap (numbered k.number) (there ∙ ap (λ (h : History). Some h) (sym y.1.1)) ∙ numbered_last y.0 r k.number number;
-      stands = omega (arith, stands_at w bodies body k.gate gate place rest);
+      not_past = omega (arith, stands_at w bodies body k.gate gate place rest);
       ready = record {
         at_rest = subst (λ (b : List (List ℕ)). AtRest u b gate) (sym same) rest_u;
         opens = opens ∙ (λ i. Ok (record { history = sym there_u i; gate = gate }));
@@ -179,7 +179,7 @@ pub begins-push : (k : LastCheckpoint) (gate : ℕ) (counters : Option Counters)
     → pending_2 ≡ pending ++ r ∷ [] → counters_2 ≡ Some (after_record (counters_or_none counters) r) → next_2 ≡ next + 1 → are_lawful pending ≡ true → MayBegin k gate pending counters next v → MayBegin k gate pending_2 counters_2 next_2 v
 begins-push k gate counters next r may pending pending_2 counters_2 next_2 v p c n lawful begins = record {
   has = begins.has;
-  stands = begins.stands;
+  not_past = begins.not_past;
   ready = ready-push gate counters next r may pending pending_2 counters_2 next_2 (kept_from k.gate v) p c n lawful begins.ready;
   alone = begins.alone;
 }
@@ -202,12 +202,12 @@ forgotten k gate pending counters next d c forgot ready begins = elim forgot.sta
         opens = inl (ap opened same);
       }
   | inr raised ↦
-      let here : c.start ≡ k.gate = omega (arith, raised, begins.stands) in
+      let here : c.start ≡ k.gate = omega (arith, raised, begins.not_past) in
       let own : numbered k.number (Some (begun_with k)) ≡ Some (record_of k) = numbered_last (began k.number) (record_of k) k.number (omega arith) in
       let same : c ≡ kept_from k.gate d = λ i. record { start = here i; bytes = forgot.bytes i } in
       record {
         ready = subst (λ (x : Volume). IsReady gate pending counters next x) (sym same) begins.ready;
-        begins = subst (λ (x : Volume). MayBegin k gate pending counters next x) (sym same) (record { has = ap (numbered k.number) begins.alone ∙ own; stands = omega arith; ready = begins.ready; alone = begins.alone });
+        begins = subst (λ (x : Volume). MayBegin k gate pending counters next x) (sym same) (record { has = ap (numbered k.number) begins.alone ∙ own; not_past = omega arith; ready = begins.ready; alone = begins.alone });
         opens = inr (ap opened same ∙ begins.ready.opens ∙ ap (λ (h : Option History). Ok (record { history = h; gate = gate })) begins.alone);
       }
 ]

@@ -10,7 +10,7 @@ use Rattle.wal_records.specs.declared.stop.Stop.TheVariants as stops
 use Rattle.wal_records.specs.Reading.{◌>>=◌, Stops, rec_at}
 use Rattle.wal_core.specs.BaseTest.{is_base_of}
 use Rattle.wal_core.specs.Opening.{History, next_number, number_fits, may_follow, with_rec, joined, recs_in, first_number, began, with_body, no_counters}
-use Rattle.wal_core.specs.Past.{begun, joins}
+use Rattle.wal_core.specs.SoFar.{begun, joins}
 
 next_is : (n : ℕ) (bytes : List ℕ) (r : Rec) (rest : List ℕ) → rec_at bytes ≡ Some (r, rest) → recs_in (suc n) bytes ≡ (recs_in n rest >>= λ others. Some (r ∷ others))
 unfolding recs_in rec_at

@@ -11,7 +11,7 @@ use Rattle.wal_core.specs.BaseTest.{is_base_of}
 use Rattle.wal_core.specs.Opening.{History, may_follow, number_fits, next_number, with_rec, joined, recs_of, first_number, began, no_counters, with_body, judged, walk, opened_bytes}
 use Rattle.tx_events.specs.declared.record.Counters.{Counters}
 use Rattle.tx_events.specs.Base.{IsBase}
-use Rattle.wal_core.specs.Contents.{ComesTo}
+use Rattle.wal_core.specs.LogContents.{ComesTo}
 use Rattle.wal_core.specs.Laws.{CheckpointMayCome}
 use Rattle.wal_core.proofs.BaseTests.{base_if}
 use Rattle.wal_core.proofs.Walks.{judged_none, judged_cons, onward}

@@ -8,13 +8,13 @@ use Rattle.tx_events.specs.declared.record.Counters.{Counters}
 use Rattle.disk_core.specs.Volume.{Volume}
 use Rattle.wal_records.specs.Reading.{◌>>=◌}
 use Rattle.wal_core.specs.Opening.{History, Opened, next_number, may_follow, with_rec, joined, first_number, began, with_body, opened}
-use Rattle.wal_core.specs.Contents.{history_with}
-use Rattle.wal_core.specs.Past.{recs_so_far}
+use Rattle.wal_core.specs.LogContents.{history_with}
+use Rattle.wal_core.specs.SoFar.{recs_so_far}
 use Rattle.wal_core.specs.Log.{history_in, history_on, bytes_of, End, end_of, end_with, IsReady, EndsWithin, OpensBeforeOrAfter, OpensFromImage}
 use Rattle.wal_records.specs.Lawful.{are_lawful}
 use Rattle.wal_core.specs.Checkpoint.{record_of, begun_with, numbered, MayBegin}
 use Rattle.wal_core.specs.declared.checkpoint.LastCheckpoint.{LastCheckpoint}
-use Rattle.wal_core.specs.Kept.{IsStretch, HasRecords, OpensToRecords, HasFlushed, Keeps}
+use Rattle.wal_core.specs.Kept.{IsStretch, HasRecords, OpensToRecords, HasFlushed, KeepsRecords}
 use Rattle.wal_core.proofs.Flush.{goes, goes_by, ready_ends}
 use Rattle.wal_core.proofs.Append.{continued, with_body-bytes}
 use Rattle.wal_records.proofs.LawfulTests.{all_lawful}
@@ -48,15 +48,15 @@ begun_at : (gate : ℕ) (recs : List Rec) (x : History) (n : Option ℕ) → (n 
 begun_at gate recs x None e = absurd cc
 begun_at gate recs x (Some n) e = (n, joined_all recs (began n) x (not_passed (ltb gate n) (joined (began n) recs) x e))
 
-pub record GoesOn (h : Option History) (recs : List Rec) (x : History) : Type 0 where
+pub record IsContinued (h : Option History) (recs : List Rec) (x : History) : Type 0 where
   pub recs_are : x.recs ≡ recs_so_far h ++ recs
   pub same_first : (k : History) → h ≡ Some k → x.first ≡ k.first
 
-pub goes_on : (gate : ℕ) (h : Option History) (recs : List Rec) (x : History) → continued gate h recs ≡ Some x → GoesOn h recs x
-goes_on gate (Some h) recs x e =
+pub is_continued : (gate : ℕ) (h : Option History) (recs : List Rec) (x : History) → continued gate h recs ≡ Some x → IsContinued h recs x
+is_continued gate (Some h) recs x e =
     let j = joined_all recs h x e in
     record { recs_are = j.recs_are; same_first = λ k is. j.first ∙ ap (λ (y : History). y.first) (some_is h k is) }
-goes_on gate None recs x e =
+is_continued gate None recs x e =
     let j = begun_at gate recs x (first_number recs) e in
     record { recs_are = j.1.recs_are; same_first = λ k is. absurd (none_is k is) }
   where
@@ -89,7 +89,7 @@ ends_none gate h counters next e = cc
 
 module _ (first : ℕ) (all : List Rec) (kept flushed gate : ℕ) (pending : List Rec) (counters : Option Counters) (next : ℕ) where
   -- with the pending records a history is a stretch of the list up to its end
-  with_all : (earlier : List Rec) → all ≡ earlier ++ pending → first + length all ≡ next → flushed + length pending ≡ next → (h : Option History) → HasRecords first all kept flushed h → (x : History) → GoesOn h pending x → next ≡ next_number x
+  with_all : (earlier : List Rec) → all ≡ earlier ++ pending → first + length all ≡ next → flushed + length pending ≡ next → (h : Option History) → HasRecords first all kept flushed h → (x : History) → IsContinued h pending x → next ≡ next_number x
       → HasRecords first all kept flushed (Some x)
   with_all earlier whole count low None has x goes ends = (
     record {
@@ -121,12 +121,12 @@ module _ (first : ℕ) (all : List Rec) (kept flushed gate : ℕ) (pending : Lis
   flush_leaves lawful earlier whole count low d c has some ready (inr more) =
       let g = goes gate pending counters next d some ready in
       let here : HasRecords first all kept flushed (history_on d) = subst (OpensToRecords first all kept flushed) ready.opens has.opens in
-      let on = goes_on gate (history_on d) pending g.there (sym (with_body-bytes gate (history_on d) pending (all_lawful pending lawful)) ∙ g.comes) in
+      let on = is_continued gate (history_on d) pending g.there (sym (with_body-bytes gate (history_on d) pending (all_lawful pending lawful)) ∙ g.comes) in
       subst (OpensToRecords first all kept flushed) (sym (more ∙ ap (λ (h : Option History). Ok (record { history = h; gate = gate + (5 + length (bytes_of pending)) })) g.comes))
       (with_all earlier whole count low (history_on d) here g.there on g.next_is)
 
 pub flush_from : (first : ℕ) (all recs : List Rec) (from kept flushed gate : ℕ) (counters : Option Counters) (images : Volume → Type 0) → are_lawful (drop flushed recs) ≡ true → flushed ≤ length recs → 0 < length (drop flushed recs)
-    → ((d : Volume) → images d → IsReady gate (drop flushed recs) counters (from + length recs) d) → Keeps first all recs (from + length recs) kept (from + flushed) images → (c : Volume) → OpensFromImage images gate (drop flushed recs) c → HasFlushed first all kept (from + flushed) c
+    → ((d : Volume) → images d → IsReady gate (drop flushed recs) counters (from + length recs) d) → KeepsRecords first all recs (from + length recs) kept (from + flushed) images → (c : Volume) → OpensFromImage images gate (drop flushed recs) c → HasFlushed first all kept (from + flushed) c
 flush_from first all recs from kept flushed gate counters images lawful low some ready keeps c opens =
     let pending : List Rec = drop flushed recs in
     let whole : all ≡ (keeps.earlier ++ take flushed recs) ++ pending = keeps.whole ∙ ap (λ (l : List Rec). keeps.earlier ++ l) (sym (take-append-drop flushed recs)) ∙ sym (append_assoc keeps.earlier (take flushed recs) pending) in
@@ -157,7 +157,7 @@ ends_count gate x [] counters next lawful e =
     omega (arith, last)
 ends_count gate x (r ∷ recs) counters next lawful e =
     let g = goes_by gate (Some x) r recs (with_body gate (Some x) (bytes_of (r ∷ recs))) counters next refl e in
-    let on = goes_on gate (Some x) (r ∷ recs) g.0 (sym (with_body-bytes gate (Some x) (r ∷ recs) (all_lawful (r ∷ recs) lawful)) ∙ g.1) in
+    let on = is_continued gate (Some x) (r ∷ recs) g.0 (sym (with_body-bytes gate (Some x) (r ∷ recs) (all_lawful (r ∷ recs) lawful)) ∙ g.1) in
     omega (arith, g.2.1, on.same_first x refl, ap length on.recs_are, length-append x.recs (r ∷ recs))
 
 -- a record that a stretch of the list has
@@ -185,7 +185,7 @@ stretch_of first all kept flushed n r (Some h) there has =
       place = omega (arith, s.place, length-append s.before (take k h.recs), p.1, ltb-false n h.first u.0);
     }
 
-module _ (k : LastCheckpoint) (first : ℕ) (all recs : List Rec) (from kept flushed gate : ℕ) (counters : Option Counters) (images : Volume → Type 0) (keeps : Keeps first all recs (from + length recs) kept (from + flushed) images) where
+module _ (k : LastCheckpoint) (first : ℕ) (all recs : List Rec) (from kept flushed gate : ℕ) (counters : Option Counters) (images : Volume → Type 0) (keeps : KeepsRecords first all recs (from + length recs) kept (from + flushed) images) where
   -- an image that the checkpoint is in begins with it or before
   pub begins_there : (d : Volume) → images d → IsReady gate (drop flushed recs) counters (from + length recs) d → MayBegin k gate (drop flushed recs) counters (from + length recs) d → HasFlushed first all k.number (from + flushed) d
   begins_there d left ready begins =
@@ -228,8 +228,8 @@ one_more_opened : (first : ℕ) (all : List Rec) (r : Rec) (kept flushed : ℕ) 
 one_more_opened first all r kept flushed (Ok o) has = one_more first all r kept flushed o.history has
 one_more_opened first all r kept flushed (Err at) has = has
 
-pub append_keeps : (first : ℕ) (all recs recs_2 : List Rec) (r : Rec) (next next_2 kept flushed : ℕ) (images : Volume → Type 0) → recs_2 ≡ recs ++ r ∷ [] → next_2 ≡ next + 1 → Keeps first all recs next kept flushed images
-    → Keeps first (all ++ r ∷ []) recs_2 next_2 kept flushed images
+pub append_keeps : (first : ℕ) (all recs recs_2 : List Rec) (r : Rec) (next next_2 kept flushed : ℕ) (images : Volume → Type 0) → recs_2 ≡ recs ++ r ∷ [] → next_2 ≡ next + 1 → KeepsRecords first all recs next kept flushed images
+    → KeepsRecords first (all ++ r ∷ []) recs_2 next_2 kept flushed images
 append_keeps first all recs recs_2 r next next_2 kept flushed images more one keeps = record {
   earlier = keeps.earlier;
   whole = ap (λ (l : List Rec). l ++ r ∷ []) keeps.whole ∙ append_assoc keeps.earlier recs (r ∷ []) ∙ ap (λ (l : List Rec). keeps.earlier ++ l) (sym more);
@@ -245,7 +245,7 @@ found_all first recs (Some cs) next h is last ends =
     subst (HasRecords first recs first next) (sym is) (record { before = []; after = []; split = sym (append-nil recs); place = omega arith }, (omega arith, omega (arith, last)))
 
 pub start_keeps : (first : ℕ) (recs none : List Rec) (counters : Option Counters) (gate next flushed : ℕ) (v : Volume) (images : Volume → Type 0) → none ≡ [] → next ≡ first + length recs → flushed ≡ next → ((c : Volume) → images c → c ≡ v)
-    → opened v ≡ Ok (record { history = history_with first recs counters; gate = gate }) → IsReady gate [] counters next v → Keeps first recs none next first flushed images
+    → opened v ≡ Ok (record { history = history_with first recs counters; gate = gate }) → IsReady gate [] counters next v → KeepsRecords first recs none next first flushed images
 start_keeps first recs none counters gate next flushed v images empty last all_of only opens ready =
     let has : HasRecords first recs first next (history_on v) = found_all first recs counters next (history_on v) (ap history_in opens) last (ends_none gate (history_on v) counters next ready.ends) in
     let here : HasFlushed first recs first next v = record { opens = subst (OpensToRecords first recs first next) (sym ready.opens) has; ends = ready_ends gate [] counters next v ready } in

@@ -8,10 +8,10 @@ use Rattle.disk_core.specs.Volume.{Volume}
 use Rattle.wal_records.specs.Reading.{◌>>=◌}
 use Rattle.wal_records.proofs.Fields.{bind_some}
 use Rattle.wal_core.specs.Opening.{History, walked, AtRest, batch_bytes, batches_bytes, next_number, joined, recs_of, first_number, began, with_body, going_on, judged, is_new, opened}
-use Rattle.wal_core.specs.Contents.{history_with}
+use Rattle.wal_core.specs.LogContents.{history_with}
 use Rattle.wal_core.specs.LastBatch.{Batch, last_of, last_batch}
 use Rattle.wal_core.specs.Log.{history_in, history_on, End, end_with, IsReady}
-use Rattle.wal_core.specs.Past.{recs_so_far}
+use Rattle.wal_core.specs.SoFar.{recs_so_far}
 use Rattle.wal_core.specs.Checkpoint.{IsLastCheckpoint, IsCheckpointIn, record_of, MayBegin}
 use Rattle.wal_core.specs.declared.checkpoint.LastCheckpoint.{LastCheckpoint}
 use Rattle.wal_core.proofs.Gates.{batches-push}
@@ -19,7 +19,7 @@ use Rattle.wal_core.proofs.News.{none_last, last_old}
 use Rattle.wal_core.proofs.Walks.{found, length-batch_bytes, gate_is, judged_none, judged_cons, judged-push, onward}
 use Rattle.wal_core.proofs.Append.{with_body-recs}
 use Rattle.wal_core.proofs.Starts.{judged_first, parts_of}
-use Rattle.wal_core.proofs.Keeping.{goes_on, ends_none}
+use Rattle.wal_core.proofs.Keeping.{is_continued, ends_none}
 use Rattle.wal_core.proofs.Begins.{stands_last, turned}
 
 -- ---- a batch that was read
@@ -28,7 +28,7 @@ use Rattle.wal_core.proofs.Begins.{stands_last, turned}
 read_recs : (at : ℕ) (h : Option History) (body : List ℕ) (x : History) → with_body at h body ≡ Some x → (recs : List Rec) × ((recs_of body ≡ Some recs) × (x.recs ≡ recs_so_far h ++ recs))
 read_recs at h body x e =
     let r = body_recs h e in
-    (r.0, (r.1, (goes_on at h r.0 x (sym (with_body-recs at h body r.0 r.1) ∙ e)).recs_are))
+    (r.0, (r.1, (is_continued at h r.0 x (sym (with_body-recs at h body r.0 r.1) ∙ e)).recs_are))
   where
     body_recs : (h : Option History) → with_body at h body ≡ Some x → (recs : List Rec) × (recs_of body ≡ Some recs)
     body_recs (Some y) e = let r = bind_some (recs_of body) (joined y) x e in (r.0, r.1)

@@ -1,5 +1,6 @@
 pub mod Gates
 pub mod Steps
+pub mod BatchWrites
 pub mod Walks
 pub mod Flush
 pub mod BaseTests
@@ -14,6 +15,7 @@ pub mod NextRecs
 pub mod Begins
 pub mod GateWrites
 pub mod Keeping
+pub mod Forgetting
 pub mod LastBatches
 pub mod Comings
 pub mod Spellings

@@ -1,8 +1,11 @@
 -- Which volumes are new.
-use Rattle.std.proofs.Common.{◌≡◌, ◌≢◌, ◌⊎◌, inl, inr, ℕ, ◌<◌, ◌≤◌, Bool, true, false, not, eqb, leb, ◌&&◌, ◌||◌, List, [], ◌∷◌, length, drop, None, Ok, refl, sym, ◌∙◌, ap, arith}
-use Rattle.std.proofs.lemmas.Bool.{ne_eqb, eq-eqb, le-leb, lt-leb, cases_eq}
+use Rattle.std.proofs.Common.{◌≡◌, ◌≢◌, ◌⊎◌, inl, inr, ℕ, ◌+◌, ◌<◌, ◌≤◌, Bool, true, false, cond, not, eqb, leb, ◌&&◌, ◌||◌, List, [], ◌∷◌, length, drop, Option, Some, None, Result, Ok, Err, refl, sym, ◌∙◌, ap, arith}
+use Rattle.std.proofs.lemmas.Bool.{ne_eqb, eq-eqb, le-leb, lt-leb, cases_eq, and_parts, or_cases, eqb-true, leb-true}
 use Rattle.disk_core.specs.Volume.{Volume}
-use Rattle.wal_core.specs.Opening.{Opened, BeginsOpen, is_closed, is_new, opened, opened_bytes}
+use Rattle.wal_core.specs.Opening.{Opened, History, Walked, BeginsOpen, is_closed, is_new, opened, opened_as, opened_bytes, walked, judged}
+use Rattle.wal_core.specs.Log.{history_in}
+use Rattle.wal_core.specs.Spelled.{IsNewVolume, NewExactly}
+use Rattle.tx_events.proofs.ListSteps.{not_both}
 use Rattle.wal_core.specs.LastBatch.{last_in, last_batch}
 
 abbrev pub nothing : Opened
@@ -95,3 +98,51 @@ opens_short v zero_start short = new_opens v (short_new v zero_start short)
 
 pub last_short : (v : Volume) → v.start ≡ 0 → length v.bytes ≤ 1 → last_batch v ≡ None
 last_short v zero_start short = none_last v (short_new v zero_start short)
+
+-- ---- what has no history is new
+
+abbrev pub no_history : ℕ → Result Opened ℕ
+no_history gate = Ok (record { history = None; gate = gate })
+
+abbrev gate_of : Result Opened ℕ → ℕ
+gate_of (Ok o) = o.gate
+gate_of (Err at) = 0
+
+some_not_none : (h : History) → Some h ≡ None → ⊥
+some_not_none h e = cc
+
+whole_or_not : (b : Bool) (h : History) (place gate : ℕ) → cond b (Ok (record { history = Some h; gate = place })) (Err place) ≡ no_history gate → ⊥
+whole_or_not true h place gate e = some_not_none h (ap history_in e)
+whole_or_not false h place gate e = absurd cc
+
+-- batches never open to no history
+some_opens : (start : ℕ) (w : Walked) (r : Result (Option History) ℕ) (gate : ℕ) → opened_as start w r ≡ no_history gate → ⊥
+some_opens start w (Err at) gate e = absurd cc
+some_opens start w (Ok None) gate e = absurd cc
+some_opens start w (Ok (Some h)) gate e = whole_or_not w.whole h (start + w.reach) gate e
+
+by_newness : (v : Volume) (b : Bool) (r : Result Opened ℕ) (gate : ℕ) → is_new v ≡ b → (r ≡ no_history gate → ⊥) → cond b (no_history 0) r ≡ no_history gate → (is_new v ≡ true) × (gate ≡ 0)
+by_newness v true r gate new not_so e = (new, sym (ap gate_of e))
+by_newness v false r gate new not_so e = absurd (not_so e)
+
+is_new_volume : (v : Volume) → is_new v ≡ true → IsNewVolume v
+is_new_volume v new =
+    let parts = and_parts (eqb v.start 0) (leb (length v.bytes) 1 || is_closed v.bytes 0) new in (
+      eqb-true v.start 0 parts.0,
+      elim (or_cases (leb (length v.bytes) 1) (is_closed v.bytes 0) parts.1) [
+        | inl few ↦ inl (leb-true (length v.bytes) 1 few)
+        | inr closed ↦ inr (λ opens. not_both (is_closed v.bytes 0) closed (open_not_closed v.bytes opens))
+      ],
+    )
+
+pub new_if_none : (v : Volume) (gate : ℕ) → opened v ≡ no_history gate → IsNewVolume v × (gate ≡ 0)
+unfolding opened
+new_if_none v gate e =
+    let so = by_newness v (is_new v) (opened_as v.start (walked v) (judged (walked v).bodies v.start None)) gate refl (some_opens v.start (walked v) (judged (walked v).bodies v.start None) gate) e in
+    (is_new_volume v so.0, so.1)
+
+pub new_exactly : NewExactly
+new_exactly v gate = (
+  new_if_none v gate,
+  λ is. opens_new v 0 v.bytes is.0.0 (ap (λ (k : ℕ). drop k v.bytes) is.0.0) (refl, is.0.1) ∙ ap no_history (sym is.1),
+)

@@ -10,7 +10,7 @@ use Rattle.disk_core.specs.Volume.{Volume}
 use Rattle.wal_records.specs.Reading.{◌>>=◌, rec_at}
 use Rattle.wal_core.specs.Opening.{History, Opened, Walked, walked, next_number, may_follow, with_rec, joined, recs_in, recs_of, first_number, began, with_body, judged, batches_bytes, batch_bytes, is_new, opened_as, opened, AtRest, BeginsOpen, behind_gate}
 use Rattle.wal_records.specs.Numbers.{le_bytes}
-use Rattle.wal_core.specs.Log.{history_in, history_on, end_with, IsReady, GoesOn}
+use Rattle.wal_core.specs.Log.{history_in, history_on, end_with, IsReady, OpensOnceClosed}
 use Rattle.wal_records.proofs.Fields.{IsBytes, bind_some}
 use Rattle.wal_core.proofs.News.{opens_new, opens_short}
 use Rattle.wal_core.proofs.Rests.{RestsAs, walk_rests, rests_on, gate_closed}
@@ -140,8 +140,8 @@ opens_to start bodies h gate is place =
     ap (λ (b : Bool). cond b (Ok (record { history = None; gate = 0 })) (opened_as start (walked_to bodies) (judged bodies start None))) (and_no (eqb start 0) (is_empty bodies) (has_some bodies start h is))
     ∙ ap (opened_as start (walked_to bodies)) is ∙ ap (opened_to h) (sym place)
 
-pub old_goes_on : (v : Volume) (h : History) (gate : ℕ) → IsBytes (drop v.start v.bytes) → opened v ≡ opened_to h gate → GoesOn gate (Some h.counters) (next_number h) v
-old_goes_on v h gate fit e =
+pub old_once_closed : (v : Volume) (h : History) (gate : ℕ) → IsBytes (drop v.start v.bytes) → opened v ≡ opened_to h gate → OpensOnceClosed gate (Some h.counters) (next_number h) v
+old_once_closed v h gate fit e =
     let w : Walked = walked v in let xs : List ℕ = drop v.start v.bytes in
     let p = parts_of v h gate e in
     let rests : RestsAs w xs = walk_rests (length xs + 1) xs fit (omega arith) p.whole in
@@ -183,8 +183,8 @@ old_numbers v h gate fit e =
 abbrev opened_new : Result Opened ℕ
 opened_new = Ok (record { history = None; gate = 0 })
 
-pub new_goes_on : (v : Volume) → v.start ≡ 0 → opened v ≡ Ok (record { history = None; gate = 0 }) → (1 < length v.bytes → slice_index v.bytes 0 ≢ 1) → GoesOn 0 None 0 v
-new_goes_on v zero_start e closed = record {
+pub new_once_closed : (v : Volume) → v.start ≡ 0 → opened v ≡ Ok (record { history = None; gate = 0 }) → (1 < length v.bytes → slice_index v.bytes 0 ≢ 1) → OpensOnceClosed 0 None 0 v
+new_once_closed v zero_start e closed = record {
   within = omega arith;
   closed = λ long lt. closed (long refl);
   again = λ u start front within shut.
@@ -211,24 +211,24 @@ new_goes_on v zero_start e closed = record {
 
 -- ---- what was read
 
-pub goes_on_as : (gate : ℕ) (counters : Option Counters) (next : ℕ) (v : Volume) → gate ≡ 0 → counters ≡ None → next ≡ 0 → GoesOn 0 None 0 v → GoesOn gate counters next v
-goes_on_as gate counters next v g c n goes =
-    subst (λ (k : ℕ). GoesOn k counters next v) (sym g) (subst (λ (o : Option Counters). GoesOn 0 o next v) (sym c) (subst (λ (k : ℕ). GoesOn 0 None k v) (sym n) goes))
+pub once_closed_as : (gate : ℕ) (counters : Option Counters) (next : ℕ) (v : Volume) → gate ≡ 0 → counters ≡ None → next ≡ 0 → OpensOnceClosed 0 None 0 v → OpensOnceClosed gate counters next v
+once_closed_as gate counters next v g c n goes =
+    subst (λ (k : ℕ). OpensOnceClosed k counters next v) (sym g) (subst (λ (o : Option Counters). OpensOnceClosed 0 o next v) (sym c) (subst (λ (k : ℕ). OpensOnceClosed 0 None k v) (sym n) goes))
 
 begins_open : (l : List ℕ) → 1 < length l → slice_index l 0 ≡ 1 → BeginsOpen l
 begins_open [] some e = absurd (omega arith)
 begins_open (g ∷ l) some e = e
 
-pub unwritten_goes_on : (v : Volume) (start : ℕ) (bytes : List ℕ) → v.start ≡ start → drop v.start v.bytes ≡ bytes → (start ≡ 0) × ((length bytes ≤ 1) ⊎ (BeginsOpen bytes → ⊥)) → GoesOn 0 None 0 v
-unwritten_goes_on v start bytes from is un =
+pub unwritten_once_closed : (v : Volume) (start : ℕ) (bytes : List ℕ) → v.start ≡ start → drop v.start v.bytes ≡ bytes → (start ≡ 0) × ((length bytes ≤ 1) ⊎ (BeginsOpen bytes → ⊥)) → OpensOnceClosed 0 None 0 v
+unwritten_once_closed v start bytes from is un =
     let whole : v.bytes ≡ bytes = ap (λ (k : ℕ). drop k v.bytes) (sym (from ∙ un.0)) ∙ is in
-    new_goes_on v (from ∙ un.0) (opens_new v start bytes from is un) (λ long opens. elim un.1 [
+    new_once_closed v (from ∙ un.0) (opens_new v start bytes from is un) (λ long opens. elim un.1 [
       | inl short ↦ absurd (omega (arith, ap length whole, short, long))
       | inr shut ↦ absurd (shut (subst BeginsOpen whole (begins_open v.bytes long opens)))
     ])
 
-pub short_goes_on : (v : Volume) → v.start ≡ 0 → length v.bytes ≤ 1 → GoesOn 0 None 0 v
-short_goes_on v zero_start short = new_goes_on v zero_start (opens_short v zero_start short) (λ long. absurd (omega (arith, short, long)))
+pub short_once_closed : (v : Volume) → v.start ≡ 0 → length v.bytes ≤ 1 → OpensOnceClosed 0 None 0 v
+short_once_closed v zero_start short = new_once_closed v zero_start (opens_short v zero_start short) (λ long. absurd (omega (arith, short, long)))
 
 pub fits_all : (xs : List ℕ) → All (λ b. b < 2 ^ 8) xs → IsBytes xs
 fits_all xs all i = elim (cases_lt i (length xs)) [

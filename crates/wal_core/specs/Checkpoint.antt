@@ -40,7 +40,7 @@ numbered n (Some h) = cond (nat_lt n h.first) None (slice_get h.recs (n - h.firs
 -- the volume has the checkpoint. Kept from it on, it opens to that alone, and what is pending goes on from there
 pub record MayBegin (k : LastCheckpoint) (gate : ℕ) (pending : List Rec) (counters : Option Counters) (next : ℕ) (v : Volume) : Type 0 where
   pub has : numbered k.number (history_on v) ≡ Some (record_of k)
-  pub stands : v.start ≤ k.gate
+  pub not_past : v.start ≤ k.gate
   pub ready : IsReady gate pending counters next (kept_from k.gate v)
   pub alone : history_on (kept_from k.gate v) ≡ Some (begun_with k)
 

@@ -29,7 +29,7 @@ pub record HasFlushed (first : ℕ) (all : List Rec) (kept flushed : ℕ) (v : V
 
 -- The list ends with the records appended since the start, and each crash leaves records of it from the first retained
 -- one on, which isn't past `kept`, up to one that is at least the flushed number.
-pub record Keeps (first : ℕ) (all recs : List Rec) (next kept flushed : ℕ) (images : Volume → Type 0) : Type 0 where
+pub record KeepsRecords (first : ℕ) (all recs : List Rec) (next kept flushed : ℕ) (images : Volume → Type 0) : Type 0 where
   pub earlier : List Rec
   pub whole : all ≡ earlier ++ recs
   pub count : first + length all ≡ next

@@ -6,7 +6,7 @@ pub mod Log
 pub mod Checkpoint
 pub mod Kept
 pub mod LogViews
-pub mod Past
-pub mod Contents
+pub mod SoFar
+pub mod LogContents
 pub mod Spelled
 pub mod Laws

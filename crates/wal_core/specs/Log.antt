@@ -97,14 +97,14 @@ IsFull gate pending more = (2 ^ 40 < gate + 6 + pending + more) ⊎ (2 ^ 32 ≤ 
 -- ---- what is found at the start
 
 -- the volume opens as v does, has the same batches and is ready
-pub record AgainAs (gate : ℕ) (counters : Option Counters) (next : ℕ) (v u : Volume) : Type 0 where
+pub record OpensAgainAs (gate : ℕ) (counters : Option Counters) (next : ℕ) (v u : Volume) : Type 0 where
   pub opens : opened u ≡ opened v
   pub batches : IsSome counters → (walked u).bodies ≡ (walked v).bodies
   pub ready : IsReady gate [] counters next u
 
 -- once a closed gate stands behind these batches, the volume opens as it did and is ready
-pub record GoesOn (gate : ℕ) (counters : Option Counters) (next : ℕ) (v : Volume) : Type 0 where
+pub record OpensOnceClosed (gate : ℕ) (counters : Option Counters) (next : ℕ) (v : Volume) : Type 0 where
   pub within : gate ≤ length v.bytes
   -- a byte behind an old log, or the first of more than one byte of a new log, is a closed gate
   pub closed : (counters ≡ None → 1 < length v.bytes) → gate < length v.bytes → slice_index v.bytes gate ≢ 1
-  pub again : (u : Volume) → u.start ≡ v.start → take gate u.bytes ≡ take gate v.bytes → gate < length u.bytes → slice_index u.bytes gate ≢ 1 → AgainAs gate counters next v u
+  pub again : (u : Volume) → u.start ≡ v.start → take gate u.bytes ≡ take gate v.bytes → gate < length u.bytes → slice_index u.bytes gate ≢ 1 → OpensAgainAs gate counters next v u

@@ -5,7 +5,7 @@ use Rattle.tx_events.specs.declared.record.Counters.{Counters}
 use Rattle.disk_core.specs.Volume.{Volume}
 use Rattle.disk_core.specs.declared.log_disk.LogDisk.{Ghosts}
 use Rattle.wal_core.specs.declared.checkpoint.LastCheckpoint.{LastCheckpoint}
-use Rattle.wal_core.specs.Kept.{Keeps}
+use Rattle.wal_core.specs.Kept.{KeepsRecords}
 use Rattle.wal_core.specs.declared.wal_log.WalLog.{WalLog}
 
 module _ {D : Type 0} {g : Ghosts D} where
@@ -55,4 +55,4 @@ module _ {D : Type 0} {g : Ghosts D} where
   -- The list is that of all records of the log, numbered from `first` on, and each crash leaves records of it from the
   -- first retained one on, which isn't past `log_first`, up to one that is at least the flushed number.
   abbrev pub KeepsAll : ℕ → List Rec → (D → Volume → Type 0) → WalLog D g → Type 0
-  KeepsAll first all images log = Keeps first all (log_recs log) (log_next log) (log_first log) (log_flushed log) (images log.disk)
+  KeepsAll first all images log = KeepsRecords first all (log_recs log) (log_next log) (log_first log) (log_flushed log) (images log.disk)

@@ -1,11 +1,19 @@
 -- What a volume opens to, said by how records are spelled.
-use Rattle.std.specs.Prelude.{◌≡◌, ◌↔◌, ℕ, ◌<◌, ◌≤◌, ◌^◌, List, [], ◌∷◌, ◌++◌, All, length, take, drop, map, Some, Ok}
+use Rattle.std.specs.Prelude.{◌≡◌, ◌↔◌, ◌⊎◌, ℕ, ◌<◌, ◌≤◌, ◌^◌, List, [], ◌∷◌, ◌++◌, All, length, take, drop, map, Some, None, Ok}
 use Rattle.std.specs.List.{AllByRecursion}
 use Rattle.tx_events.specs.declared.record.Rec.{Rec}
 use Rattle.disk_core.specs.Volume.{Volume}
 use Rattle.wal_records.specs.Spelling.{IsLawful}
 use Rattle.wal_core.specs.Opening.{History, BeginsOpen, batches_bytes, first_number, began, joined, opened}
 use Rattle.wal_core.specs.Log.{bytes_of}
+
+-- from its first byte on, without an open gate that anything stands behind
+abbrev pub IsNewVolume : Volume → Type 0
+IsNewVolume v = (v.start ≡ 0) × ((length v.bytes ≤ 1) ⊎ (BeginsOpen v.bytes → ⊥))
+
+-- A volume opens to no history exactly where it is new.
+abbrev pub NewExactly : Type 0
+NewExactly = (v : Volume) (gate : ℕ) → (opened v ≡ Ok (record { history = None; gate = gate })) ↔ (IsNewVolume v × (gate ≡ 0))
 
 -- the records of batches, one after the other
 abbrev pub all_of : List (List Rec) → List Rec

@@ -1,4 +1,5 @@
-// The checkpoint before which a log can be forgotten.
+// The checkpoint before which a log can be forgotten. With counters below those of the log it can't: a later record that was
+// lawful in the whole log could then damage the one that begins here.
 ghost use Rattle.std.specs.Prelude.{◌≡◌};
 ghost use Rattle.wal_core.specs.Checkpoint.{IsLastCheckpoint};
 

@@ -1,4 +1,5 @@
-// The counters after a record more. Numbers from a hostile log never overflow.
+// The counters after a record more (as AdvanceNextFullTransactionIdPastXid and MultiXactAdvanceNextMXact raise them in
+// recovery). Numbers from a hostile log are met before anything is added to them, so that they never overflow.
 ghost use Rattle.std.specs.Prelude.{◌≡◌, ◌⊎◌, ◌+◌, ◌<◌, ◌≤◌, ◌^◌, ◌∷◌, ℕ, length, max, false, IsNone, IfSome};
 ghost use Rattle.xid_order.specs.Ids.{next_id, next_multi};
 ghost use Rattle.tx_events.specs.After.{past_ids, ids_of, after_record};

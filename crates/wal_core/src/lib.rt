@@ -1,28 +1,24 @@
-//! The log: records in batches, each behind a gate that opens only once the batch is on the disk.
+//! The log: records in batches, each behind a gate that opens only once the batch is on the disk (docs/LOG.md; after
+//! `src/backend/access/transam/xlog.c`).
 #![tactic(auto)]
 
-mod appending;
-mod batch;
+mod batch_reader;
+mod batch_records;
+mod batch_write;
 mod checkpoint;
-mod contents;
 mod counters;
 pub mod laws;
+mod log_contents;
+mod log_start;
 mod next_rec;
-mod past;
+mod pending_batch;
 mod refusal;
-mod scan;
-mod started;
 mod wal_log;
 
 pub use checkpoint::LastCheckpoint;
-pub use contents::{LogContents, read_log};
 pub use counters::counters_after;
+pub use log_contents::{LogContents, read_log};
+pub use log_start::Started;
 pub use refusal::LogRefusal;
-pub use started::Started;
 pub use wal_log::WalLog;
 pub use wal_records::{ReadRec, read_rec, write_rec};
-
-#[cfg(test)]
-mod crash_tests;
-#[cfg(test)]
-mod tests;

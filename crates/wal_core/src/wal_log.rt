@@ -8,16 +8,17 @@ ghost use Rattle.wal_records.specs.Lawful.{are_lawful};
 ghost use Rattle.wal_core.specs.Checkpoint.{MayBegin};
 ghost use Rattle.wal_core.specs.declared.checkpoint.LastCheckpoint.{LastCheckpoint};
 
-use crate::appending::{add_rec, counters_with, is_full};
-use crate::batch::write_batch;
+use crate::batch_write::write_batch;
 use crate::checkpoint::{LastCheckpoint, checkpoint_of};
 use crate::next_rec::may_come_next;
+use crate::pending_batch::{add_rec, counters_with, is_full};
 use crate::refusal::LogRefusal;
 use disk_core::{Failed, LogDisk};
 use tx_events::{Counters, Rec, RecList};
 use wal_records::rec_length;
 
-/// The log of a volume (after `src/backend/access/transam/xlog.c`): records in batches.
+/// The log of a volume, as `XLogCtl` of `src/backend/access/transam/xlog.c` stands for PostgreSQL's: its records, in batches on
+/// the disk and pending in memory. Records are numbered from 0 through all lives, places are bytes of the volume.
 #[derive(Drop)]
 pub struct WalLog<D: LogDisk> {
     pub(crate) disk: D,
@@ -52,7 +53,7 @@ pub struct WalLog<D: LogDisk> {
     ghost ready: { IsTrue D.tells → down ≡ None → (c : Volume) → D.images disk c → IsReady gate (drop flushed recs) counters (from + length recs) c } by { Prim.hlevel props },
 }
 
-// Nothing is pending.
+// What is written when nothing is pending.
 #[tactic(auto, unfolding(wal_records::specs::Numbers::le_bytes))]
 fn clear(behind: &mut Vec<u8>)
     requires { 5 ≤ length behind.old.items }
@@ -94,8 +95,9 @@ impl<D: LogDisk> WalLog<D> {
         may_come_next(self.counters, self.next(), rec)
     }
 
-    /// Adds a record at the end, and answers its number, counted through all lives. It is pending until the next flush,
-    /// which takes no memory: the room for its bytes is made here. After an error nothing changed.
+    /// Adds a record at the end (XLogInsert), and answers its number, counted through all lives. It is pending until the
+    /// next flush, which takes no memory: the room for its bytes is made here. `LogDown`, `Full` where the log would pass
+    /// 2^40 bytes or the batch 2^32 - 1, or `Memory`, in this order; after an error nothing changed.
     pub fn append(&mut self, rec: &Rec) -> Result<u64, LogRefusal>
         requires { MayAppend (log_counters self.old) (log_next self.old) rec.now }
         ensures number { IfOk result (λ n. n ≡ log_next self.old) }
@@ -139,8 +141,9 @@ impl<D: LogDisk> WalLog<D> {
         }
     }
 
-    /// Puts the pending records on the disk as one batch, by four device calls; by none where nothing is pending.
-    /// After `LogFault` the log is down: they may or may not be on the disk, in order. Takes no memory.
+    /// Puts the pending records on the disk as one batch (XLogFlush), by four device calls; by none where nothing is
+    /// pending. After `LogFault` the log is down, where PostgreSQL would PANIC: the batch may be on the disk or not, and
+    /// what was written in part is never written over. Takes no memory.
     pub fn flush(&mut self) -> Result<(), LogRefusal>
         ensures recs { log_recs self.new ≡ log_recs self.old }
         ensures next { log_next self.new ≡ log_next self.old }
@@ -211,7 +214,9 @@ impl<D: LogDisk> WalLog<D> {
     }
 
     /// Forgets what stands before the last batch, a checkpoint alone, by one device call; by none where nothing stands
-    /// before it. After `LogFault` the log is down: what stood there may or may not be forgotten. Takes no memory.
+    /// before it. The caller has written to its stores what the earlier records told (CheckPointGuts), so that no start
+    /// needs them (RemoveOldXlogFiles). It isn't synced: a crash finds the log from the old start on or from the
+    /// checkpoint on, and either has all that is flushed. After `LogFault` the log is down. Takes no memory.
     pub fn forget_before_checkpoint(&mut self) -> Result<(), LogRefusal>
         requires { IsSome (log_checkpoint self.old) }
         ensures recs { log_recs self.new ≡ log_recs self.old }
@@ -258,12 +263,13 @@ impl<D: LogDisk> WalLog<D> {
         if self.start == gate {
             return Ok(());
         }
+        let flushed = self.flushed();
         match self.disk.forget(gate) {
             Ok(()) => {
                 self.start = gate;
                 Ok(())
             }
-            Err(Failed) => Err(put_down(&mut self.down, self.from + self.flushed)),
+            Err(Failed) => Err(put_down(&mut self.down, flushed)),
         }
     }
 

@@ -1,23 +1,14 @@
 // Rows of the commit log.
-use super::{
-    PlanStep, State, XactPages, plan_step, set_states, state, trim_after, xact_page_precedes,
-};
+use super::{PlanStep, State, plan_step, set_states, state, trim_after};
 use disk_core::MemPages;
 use slru_bank::SlruBank;
 use std::alloc::Global;
 use std::test::Fail;
+use store_pages::XactPages;
 use xid_order::{FullXid, Xid};
 
 fn memory_bank(alloc: Global) -> Option<SlruBank<MemPages, XactPages>> {
     SlruBank::new(alloc, MemPages::new(alloc), 0, 0).ok()
-}
-
-#[test]
-fn pages_wrap_around(rt: HostRuntime) {
-    assert!(rt; xact_page_precedes(131071, 0));
-    assert!(rt; !xact_page_precedes(0, 131071));
-    assert!(rt; !xact_page_precedes(0, 65536));
-    assert!(rt; !xact_page_precedes(65536, 0));
 }
 
 #[test]

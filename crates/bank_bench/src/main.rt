@@ -1,4 +1,4 @@
-//! Sets and reads of a page bank over memory, and copies of pages by the same loop.
+//! Sets and reads of a page bank over memory, and copies of pages by the same loop (`docs/SPEED.md`).
 //!
 //! Without an argument it prints what they came to, which is the same in every run. With a number
 //! it does that many turns of each, and prints how many there were in a second.

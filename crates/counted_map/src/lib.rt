@@ -1,7 +1,7 @@
 //! A multiset of keys: an ordered map from each key to how often it is there.
 //!
 //! It answers the least key in the logarithm of their number, as horizons over live snapshots and over
-//! pinned multixacts need.
+//! pinned multixacts need (`docs/HISTORY.md`, `docs/MULTIXACTS.md`).
 #![tactic(auto)]
 
 ghost use Rattle.std.specs.Prelude.{◌≡◌, ℕ, ◌+◌, ◌-◌, ◌==◌, ◌^◌, ◌<◌, ◌≤◌, IfSome, OnOk, OnErr, MatchOption, false, not};

@@ -1,3 +1,4 @@
+// Where ids and multixacts warn and stop, from numbers worked out by hand from the formulas.
 use crate::{check_id, check_multi};
 use tx_events::Refusal;
 use xid_order::{FullMulti, FullXid};

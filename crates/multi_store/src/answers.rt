@@ -1,3 +1,4 @@
+// What a call of the generator answers.
 use xid_order::FullMulti;
 
 /// A multixact that was given now.

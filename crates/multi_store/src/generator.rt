@@ -1,3 +1,5 @@
+// `MultiXactState` of `multixact.c`: numbers and offsets are given under one lock, so that a number whose members stand
+// nowhere yet is never the oldest one.
 ghost use Rattle.std.specs.Prelude.{◌≡◌, ℕ, ◌+◌, ◌^◌, ◌<◌, ◌≤◌, ◌↔◌, IsTrue, [], Contains};
 ghost use Rattle.tx_events.specs.declared.multi.MultiEvent.TheVariants as events;
 ghost use Rattle.tx_events.specs.Base.{IsBase};

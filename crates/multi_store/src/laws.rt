@@ -1,3 +1,4 @@
+// The laws of a legal history of multixacts, for whoever keeps its counters elsewhere.
 ghost use Rattle.std.specs.Prelude.{List, [], ◌∷◌, ◌++◌};
 ghost use Rattle.tx_events.specs.declared.multi.MultiEvent.{MultiEvent};
 ghost use Rattle.tx_events.specs.declared.record.Counters.{Counters};

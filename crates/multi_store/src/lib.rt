@@ -1,5 +1,5 @@
 //! Multixacts: which number, offset and members each has, which ones readers pin, and the oldest one that is still
-//! asked for. After PostgreSQL's `src/backend/access/transam/multixact.c`.
+//! asked for. After PostgreSQL's `src/backend/access/transam/multixact.c`. `docs/MULTIXACTS.md` tells it in words.
 #![tactic(auto)]
 
 mod answers;

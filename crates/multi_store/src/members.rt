@@ -1,3 +1,4 @@
+// Which lists of members a multixact may have.
 ghost use Rattle.std.specs.Prelude.{◌≡◌};
 ghost use Rattle.std.specs.List.{count_by};
 ghost use Rattle.tx_events.specs.Multis.{is_updater};

@@ -1,3 +1,4 @@
+// Multixacts are numbered without those of low half 0, so a place in the history and a number differ by the laps between.
 ghost use Rattle.std.specs.Prelude.{◌≡◌, ◌^◌, ◌<◌, ◌≤◌};
 ghost use Rattle.tx_events.specs.Multis.{nth_multi, first_member};
 

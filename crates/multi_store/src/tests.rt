@@ -1,3 +1,4 @@
+// Worked runs of the generator, with numbers and offsets from the rules.
 mod driver;
 
 use crate::{Held, MultiGiven, check_members};

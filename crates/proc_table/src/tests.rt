@@ -1,3 +1,4 @@
+// Worked runs of the table, with ids and snapshots from the rules.
 mod driver;
 
 use crate::Given;

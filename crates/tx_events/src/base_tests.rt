@@ -1,3 +1,4 @@
+// Which counters a life may start from, by the limits worked out by hand.
 use crate::{Counters, is_base};
 use xid_order::{FullMulti, FullXid};
 

@@ -1,4 +1,4 @@
-//! Where a program's bytes come from and go to.
+//! Where a program's bytes come from and go to, and when that may fail (`docs/GUARANTEES.md`).
 #![tactic(auto)]
 
 mod faults;

@@ -1,3 +1,4 @@
+// Sources and sinks in memory fail at the planned calls alone.
 use crate::{Failed, MemSink, MemSource, Memory, Sink, Source, StdSink, StdSource};
 use std::test::Fail;
 

@@ -1,4 +1,5 @@
-//! Commits appended to a log over memory and flushed in batches, the start of that log, and one copy of its bytes.
+//! Commits appended to a log over memory and flushed in batches, the start of that log, and one copy of its bytes
+//! (`docs/SPEED.md`).
 //!
 //! Without an argument it prints what they came to, which is the same in every run. With a number it writes that many
 //! commits, and prints how long each took.

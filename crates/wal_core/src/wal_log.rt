@@ -1,3 +1,4 @@
+// The open log: what is pending, what is on the disk, and the four device calls between.
 ghost use Rattle.std.specs.Prelude.{◌≡◌, ◌+◌, ◌<◌, ◌≤◌, ◌^◌, [], length, drop, IsTrue, None, Some};
 ghost use Rattle.std.proofs.Props.{props};
 ghost use Rattle.disk_core.specs.Volume.{Volume};

@@ -1,3 +1,4 @@
+// A record that is not lawful is never written, and a log that holds one is damaged: so these tests are the reader's too.
 ghost use Rattle.std.specs.Prelude.{◌≡◌, ◌↔◌, ◌^◌, ◌&&◌, length, nat_lt, IsTrue};
 ghost use Rattle.tx_events.specs.declared.record.Rec.TheVariants as records;
 ghost use Rattle.wal_records.specs.Lawful.{is_id, is_multi, ascend_from, all_ids, is_lawful};

@@ -1,5 +1,6 @@
 //! The records of the log: which are lawful, and their bytes, exact both ways. They carry what PostgreSQL's records of
 //! `src/include/access/xact.h`, `src/include/access/multixact.h` and `src/include/catalog/pg_control.h` say of ids.
+//! `docs/LOG.md` has their layout.
 #![tactic(auto)]
 
 mod lawful;

@@ -1,3 +1,4 @@
+// Readers of a record's bytes. A log may come from anywhere: no number is trusted before it was compared.
 ghost use Rattle.std.specs.Prelude.{◌≡◌, ◌≤◌, ◌++◌, List, ℕ, length, take, IfOk, IfSome, IfNone, IsSomeAnd, Some};
 ghost use Rattle.wal_records.specs.Numbers.{le_number};
 ghost use Rattle.wal_records.specs.Spelling.{rec_bytes, IsLawful};

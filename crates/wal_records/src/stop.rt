@@ -1,3 +1,4 @@
+// Why a reader gave up.
 ghost use Rattle.std.specs.Prelude.{◌≡◌};
 ghost use Rattle.wal_records.specs.declared.stop.Stop.TheVariants.{Memory as out_of_memory};
 

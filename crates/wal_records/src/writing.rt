@@ -1,3 +1,4 @@
+// Writers of a record's bytes, one spelling for each record.
 ghost use Rattle.std.specs.Prelude.{◌≡◌, ◌<◌, ◌≤◌, ◌^◌, ◌++◌, ◌∷◌, [], length, OnOk, OnErr, IfOk};
 ghost use Rattle.std.specs.List.{flat_map};
 ghost use Rattle.tx_events.specs.RecordSize.{record_size};

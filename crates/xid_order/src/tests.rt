@@ -1,3 +1,4 @@
+// Limits of ids, multixacts and members at the wrap, worked out by hand from their formulas.
 use crate::{FullMulti, FullXid, Limits, MultiLimits, member_stop};
 
 #[test]

@@ -215,6 +215,7 @@ fn a_sink_of_twenty_holds_the_front_of_the_report(rt: HostRuntime) -> Result<(),
 }
 
 /// A source that never ends.
+#[derive(Drop)]
 struct Endless;
 
 impl Source for Endless {

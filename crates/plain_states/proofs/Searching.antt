@@ -1,5 +1,5 @@
 -- A binary search of states by id, and what one commit changes.
-use Rattle.std.proofs.Common.{◌≡◌, ℕ, suc, zero, ◌<◌, ◌≤◌, List, [], ◌∷◌, ◌++◌, length, take, drop, subst, get_or, set, map, refl, ap, sym, ◌∙◌, arith, Bool, true, false, ◌==◌, ◌||◌, cond, Some, None, Result, Ok, Err, eq-eqb, ne_eqb, ◌⊎◌, ⊎_elim}
+use Rattle.std.proofs.Common.{◌≡◌, ℕ, suc, zero, ◌<◌, ◌≤◌, List, [], ◌∷◌, ◌++◌, length, take, drop, subst, get_or, set, map, refl, ap, sym, ◌∙◌, arith, Bool, true, false, ◌==◌, ◌||◌, cond, Some, None, Result, Ok, Err, eq-eqb, ne_eqb, ⊎_elim}
 use Rattle.std.proofs.lemmas.Cmp.{ranked}
 use Rattle.std.proofs.lemmas.Bool.Decides.{nat_tests}
 use Rattle.std.proofs.lemmas.Grind.{common_steps}

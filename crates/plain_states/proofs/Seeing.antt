@@ -1,7 +1,7 @@
 -- The states as they are now and a snapshot decide what was visible when it was taken.
 use Rattle.tx_events.proofs.IdListSteps.{true_has, has_true}
-use Rattle.std.proofs.Common.{◌≡◌, ℕ, ◌<◌, ◌≤◌, ◌^◌, ◌%◌, List, [], take, Some, None, refl, ap, sym, subst, ◌∙◌, ⊎_elim, ◌⊎◌, arith, Bool, true, false, not, ◌==◌}
-use Rattle.std.proofs.lemmas.Bool.{cases_Bool, false_from_ne_true, and_parts}
+use Rattle.std.proofs.Common.{◌≡◌, ℕ, ◌<◌, ◌≤◌, ◌^◌, ◌%◌, List, [], take, Option, Some, None, refl, ap, sym, subst, ◌∙◌, ⊎_elim, arith, Bool, true, false, not, ◌==◌}
+use Rattle.std.proofs.lemmas.Bool.{cases_Bool, cases_lt, false≢true, false_from_ne_true, and_parts}
 use Rattle.std.specs.List.{find, list_any}
 use Rattle.xid_order.specs.Ids.{IsFullId}
 use Rattle.tx_events.specs.declared.event.Event.{Event}
@@ -21,12 +21,13 @@ use Rattle.tx_events.proofs.SnapshotBounds.{below_given, given_from, past_open, 
 use Rattle.tx_events.proofs.GivenIds.{legal_take}
 use Rattle.tx_events.proofs.Trees.{Family, family}
 use Rattle.tx_events.proofs.Visibility.{lives, never_given, open_hidden, visible_new}
-use Rattle.snap_core.specs.Says.{IsSaidOfTop, SaysRight, SaysTopRight}
-use Rattle.snap_core.specs.declared.snapshot.Says.{Says}
+use Rattle.snap_core.specs.Says.{SaysRight}
+use Rattle.snap_core.specs.Sights.{IsSightRight, IsTopSightRight}
+use Rattle.snap_core.specs.declared.sight.Sight.TheVariants as sights
 use Rattle.tx_events.specs.declared.snapshot.SnapData.{SnapData}
 use Rattle.plain_states.specs.declared.id_states.IdState.{IdState}
 use Rattle.plain_states.specs.States.{AreStates}
-use Rattle.plain_states.specs.Verdicts.{ClosedRight, IsTopmost, SeesRight}
+use Rattle.plain_states.specs.Verdicts.{ClosedRight, IsTopmost, SeesRight, is_committed_state, is_marked}
 use Rattle.plain_states.proofs.Commits.{committed_since}
 use Rattle.plain_states.proofs.Climbing.{state_is, state_missing}
 use Rattle.snap_core.specs.declared.snapshot.Says.TheVariants as says
@@ -163,23 +164,20 @@ module _ (states : List IdState) (d : SnapData) (x : ℕ) where
       let now = later_take base h p x legal was in
       at_top base h p x t legal was (⊎_elim (λ (low : t < d.xmin). absurd (omega arith)) (λ q. q) (topmost base h legal a (has_contains (given h) x now.given)).1)
 
-  pub closed_top_ended : (t : ℕ) → IsTopmost states d.xmin x t → d.xmin ≤ t → SaysTopRight d t says.Ended → ClosedRight states d x true
-  closed_top_ended t topmost high s base h p legal a e k below undone =
-      let i = is_top_of base h p t topmost high legal a (contains_has (given (take p h)) x k) in
-      let shut : is_open (take p h) t ≡ false = stopped_closed (take p h) t i.was (s base (take p h) (legal_take base h p legal) e i.own).0 in
-      sym (ap not (closed_by_top (take p h) x i.family (subst (λ z. is_open (take p h) z ≡ false) i.here shut)))
-
-  pub closed_top_running : (t : ℕ) (r : Says) → IsTopmost states d.xmin x t → d.xmin ≤ t → SaysTopRight d t r → (r ≡ says.Ended → ⊥) → ClosedRight states d x false
-  closed_top_running t r topmost high s not_ended base h p legal a e k below undone =
+  -- the topmost parent decides
+  pub closed_by : (t : ℕ) (r : Bool) → IsTopmost states d.xmin x t → (t < d.xmin → r ≡ true) → IsTopSightRight d t r → ClosedRight states d x r
+  closed_by t r topmost below s =
+      ⊎_elim
+      (λ (low : t < d.xmin). subst (ClosedRight states d x) (sym (below low)) (closed_below t topmost low))
+      (λ (high : d.xmin ≤ t). λ base h p legal a e k under undone.
       let i = is_top_of base h p t topmost high legal a (contains_has (given (take p h)) x k) in
       let low : t ≤ x = i.low in
-      let o : is_open (take p h) t ≡ true = ⊎_elim (λ q. runs_open (take p h) t q) (λ (past : snapshot_xmax base.next (take p h) ≤ t). absurd (omega arith)) (still base.next (take p h) r not_ended (s base (take p h) (legal_take base h p legal) e i.own)) in
-      sym (ap not (open_by_top (take p h) x i.family undone (subst (λ z. is_open (take p h) z ≡ true) i.here o)))
-    where
-      still : (first : ℕ) (g : List Event) (r : Says) → (r ≡ says.Ended → ⊥) → IsSaidOfTop first g t r → (has (running g) t ≡ true) ⊎ (snapshot_xmax first g ≤ t)
-      still first g says.Running n q = q
-      still first g says.Ended n q = absurd (n refl)
-      still first g says.AskParents n q = absurd q
+      s base (take p h) (legal_take base h p legal) e i.own (omega arith)
+      ∙ ap not (⊎_elim
+      (λ (runs : has (running (take p h)) t ≡ true). runs ∙ sym (open_by_top (take p h) x i.family undone (subst (λ z. is_open (take p h) z ≡ true) i.here (runs_open (take p h) t runs))))
+      (λ (shut : has (running (take p h)) t ≡ false). shut ∙ sym (closed_by_top (take p h) x i.family (subst (λ z. is_open (take p h) z ≡ false) i.here (stopped_closed (take p h) t i.was shut))))
+      (cases_Bool (has (running (take p h)) t))))
+      (cases_lt t d.xmin)
 
   pub hidden_past : d.xmax ≤ x → SeesRight states d x false
   hidden_past past base h p legal full a to e full_x =
@@ -200,3 +198,24 @@ module _ (states : List IdState) (d : SnapData) (x : ℕ) where
       let below : x < snapshot_xmax base.next (take p h) = subst (λ n. x < n) (ap (λ (d : SnapData). d.xmax) e) low in
       let c = committed_below base h p x legal full full_x i.0 (ap (λ (s : IdState). s.committed) (sym i.1) ∙ committed) below in
       closed base h p legal a e (has_contains (given (take p h)) x c.was) below c.undone ∙ c.exact ∙ sym (visible_is (take p h) x full_x)
+
+  pub hidden_unmarked : is_marked states x ≡ false → SeesRight states d x false
+  hidden_unmarked none = one (find (λ s. s.id == x) states) refl
+    where
+      one : (o : Option IdState) → find (λ s. s.id == x) states ≡ o → SeesRight states d x false
+      one None f = hidden_missing f
+      one (Some s) f = hidden_uncommitted s f (sym (ap is_committed_state f) ∙ none)
+
+  pub seen_marked : (r : Bool) → is_marked states x ≡ true → x < d.xmax → ClosedRight states d x r → SeesRight states d x r
+  seen_marked r marked low closed = one (find (λ s. s.id == x) states) refl
+    where
+      one : (o : Option IdState) → find (λ s. s.id == x) states ≡ o → SeesRight states d x r
+      one None f = absurd (false≢true (sym (ap is_committed_state f) ∙ marked))
+      one (Some s) f = seen_closed s r f (sym (ap is_committed_state f) ∙ marked) low closed
+
+  pub hidden : (marked : Bool) → marked ≡ is_marked states x → IsSightRight d x marked sights.Hidden → SeesRight states d x false
+  hidden marked is right =
+      ⊎_elim
+      hidden_past
+      (λ rest. ⊎_elim (λ (no : marked ≡ false). hidden_unmarked (sym is ∙ no)) (λ (q : (x < d.xmax) × (marked ≡ true) × SaysRight d x says.Running). seen_marked false (sym is ∙ q.1) q.0 (closed_running q.2)) rest)
+      right

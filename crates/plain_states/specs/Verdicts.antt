@@ -1,5 +1,6 @@
 -- What a snapshot sees, by the states as they are now.
-use Rattle.std.specs.Prelude.{◌≡◌, ℕ, ◌<◌, ◌≤◌, ◌⊎◌, not, false, Bool, List, [], Contains, length, take}
+use Rattle.std.specs.Prelude.{◌≡◌, ℕ, ◌<◌, ◌≤◌, ◌⊎◌, ◌==◌, not, false, Bool, List, [], Option, Some, None, Contains, length, take}
+use Rattle.std.specs.List.{find}
 use Rattle.xid_order.specs.Ids.{IsFullId}
 use Rattle.tx_events.specs.declared.event.Event.{Event}
 use Rattle.tx_events.specs.declared.record.Counters.{Counters}
@@ -12,6 +13,14 @@ use Rattle.tx_events.specs.Snapshots.{snapshot_data, snapshot_xmax}
 use Rattle.tx_events.specs.Visible.{is_visible}
 use Rattle.plain_states.specs.declared.id_states.IdState.{IdState}
 use Rattle.plain_states.specs.States.{AreStates}
+
+abbrev pub is_committed_state : Option IdState → Bool
+is_committed_state None = false
+is_committed_state (Some s) = s.committed
+
+-- x is kept, and has committed
+abbrev pub is_marked : List IdState → ℕ → Bool
+is_marked states x = is_committed_state (find (λ (s : IdState). s.id == x) states)
 
 -- r says whether x was visible at the place where the data were taken, whatever legal history the states are of
 abbrev pub SeesRight : List IdState → SnapData → ℕ → Bool → Type 0

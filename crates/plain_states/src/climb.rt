@@ -1,11 +1,12 @@
+//! Searches of the states, the way up from parent to parent, and the verdict by them.
 ghost use Rattle.std.specs.Prelude.{◌≡◌, ◌==◌, ◌<◌, [], ◌∷◌, map, IfSome, IfNone};
 ghost use Rattle.std.specs.List.{find};
 ghost use Rattle.plain_states.specs.States.{AreKept, InOrder, IsPlaceOf, IsMissing, with_commit};
-ghost use Rattle.plain_states.specs.Verdicts.{SeesRight, ClosedRight, IsTopmost};
+ghost use Rattle.plain_states.specs.Verdicts.{SeesRight, IsTopmost, is_marked};
 ghost use Rattle.plain_states.specs.declared.id_states.IdState.{IdState};
 
 use crate::id_states::IdState;
-use snap_core::{Says, said_of, said_of_top};
+use snap_core::{Sight, sight_of, sight_of_top};
 use tx_events::SnapData;
 use xid_order::FullXid;
 
@@ -104,19 +105,12 @@ fn topmost(states: &[IdState], xmin: FullXid, x: FullXid) -> FullXid
     top
 }
 
-/// Whether the id had ended when the snapshot was taken. One that was rolled back had, or hadn't.
-fn had_ended(states: &[IdState], snap: &SnapData, x: FullXid) -> bool
-    requires { AreKept states.now }
-    ensures { ClosedRight states.now snap.now x result }
+/// Whether the id has committed by now.
+fn has_committed(states: &[IdState], x: FullXid) -> bool
+    requires { InOrder states.now }
+    ensures { result ≡ is_marked states.now x }
 {
-    match said_of(snap, x) {
-        Says::Ended => true,
-        Says::Running => false,
-        Says::AskParents => {
-            let top = topmost(states, snap.xmin, x);
-            top < snap.xmin || matches!(said_of_top(snap, top), Says::Ended)
-        }
-    }
+    matches!(state_of(states, x), Some(state) if state.committed)
 }
 
 /// Whether the snapshot sees the id.
@@ -124,11 +118,9 @@ pub fn sees(states: &[IdState], snap: &SnapData, x: FullXid) -> bool
     requires { AreKept states.now }
     ensures { SeesRight states.now snap.now x result }
 {
-    if x >= snap.xmax {
-        return false;
-    }
-    match state_of(states, x) {
-        Some(state) => state.committed && had_ended(states, snap, x),
-        None => false,
+    match sight_of(snap, x, has_committed(states, x)) {
+        Sight::Seen => true,
+        Sight::Hidden => false,
+        Sight::AskParents => sight_of_top(snap, topmost(states, snap.xmin, x)),
     }
 }

@@ -1,3 +1,4 @@
+//! The states of a life's ids: what is kept of each, and the calls that change it.
 ghost use Rattle.std.specs.Prelude.{◌≡◌, ◌+◌, ◌<◌, ◌≤◌, [], ◌∷◌, ◌++◌, false, map, IfSome, OnOk, OnErr};
 ghost use Rattle.std.specs.List.{All};
 ghost use Rattle.plain_states.specs.declared.id_states.IdState.{IdState};

@@ -19,107 +19,107 @@ use Rattle.tx_events.specs.Events.{by_of, given_by, is_of, same_name}
 use Rattle.tx_events.specs.History.{next_given}
 use Rattle.tx_events.specs.Horizon.{oldest_id}
 use Rattle.xid_order.specs.Limits.{stop_limit, warn_limit}
-use Rattle.tx_model.specs.Replies.{MayReply, IsWarned, IsStopped}
+use Rattle.tx_model.specs.Replies.{MayReadAt, MayReply, IsWarned, IsStopped, alone}
 use Rattle.tx_events.specs.Snapshots.{snapshot_data}
 use Rattle.tx_model.specs.Stance.{Stance, after, snap_of, second_of, without_snap, filled}
 use Rattle.tx_events.proofs.ListSteps.{eqb-refl}
 use Rattle.tx_events.proofs.PlaceLemmas.{slice_get-grows, slice_get-push, take-grows, last_at}
-use Rattle.session_run.specs.declared.session.Kept.{Kept}
+use Rattle.session_run.specs.declared.session.RegisteredSnapshot.{RegisteredSnapshot}
 use Rattle.session_run.specs.Acts.{Acts}
 use Rattle.session_run.specs.Gives.{IsInTurn}
-use Rattle.session_run.specs.Stands.{levels_of, told_of, IsKept}
+use Rattle.session_run.specs.Stands.{levels_of, told_of, IsRegistered}
 use Rattle.session_run.proofs.LevelLemmas.{levels_given, levels_filled, levels_lack, some_levels}
 
 -- nothing happened
-pub acts_idle : (base : Counters) (by : By) (s s' : Stance) (command : Command) (reply : Reply) (h : List Event) → HasEvents by s command reply [] → MayReply base [] h by s command reply → after s by.command command reply [] ≡ s' → Acts base by s s' command reply h h
+pub acts_idle : (base : Counters) (by : By) (s s' : Stance) (command : Command) (reply : Reply) (h : List Event) → HasEvents by s command reply [] → MayReply base [] h (alone h h) by s command reply → after s by.command command reply [] ≡ s' → Acts base by s s' command reply h h
 acts_idle base by s s' command reply h f a l = record { added = []; grown = sym (append-nil h); own = tt; fitting = f; allowed = a; left = l }
 
--- the command that took a kept snapshot, by the stance
-pub snap_found : (name : List ℕ) (levels : List (Option ℕ)) (kept : List Kept) (k : Kept) → find (λ x. same_name x.name name) kept ≡ Some k → snap_of name (record { levels = levels; snaps = map told_of kept }) ≡ Some k.command
+-- the command that took a registered snapshot, by the stance
+pub snap_found : (name : List ℕ) (levels : List (Option ℕ)) (registered : List RegisteredSnapshot) (k : RegisteredSnapshot) → find (λ x. same_name x.name name) registered ≡ Some k → snap_of name (record { levels = levels; snaps = map told_of registered }) ≡ Some k.command
 snap_found name levels [] k e = absurd cc
-snap_found name levels (j ∷ kept) k e = either (same_name j.name name) e (λ f. snap_found name levels kept k f)
+snap_found name levels (j ∷ registered) k e = either (same_name j.name name) e (λ f. snap_found name levels registered k f)
   where
-    either : (b : Bool) → cond b (Some j) (find (λ x. same_name x.name name) kept) ≡ Some k → (find (λ x. same_name x.name name) kept ≡ Some k → second_of (find (λ p. same_name p.0 name) (map told_of kept)) ≡ Some k.command) → second_of (cond b (Some (told_of j)) (find (λ p. same_name p.0 name) (map told_of kept))) ≡ Some k.command
-    either true f rest = let same : j ≡ k = cc in ap (λ (x : Kept). Some x.command) same
+    either : (b : Bool) → cond b (Some j) (find (λ x. same_name x.name name) registered) ≡ Some k → (find (λ x. same_name x.name name) registered ≡ Some k → second_of (find (λ p. same_name p.0 name) (map told_of registered)) ≡ Some k.command) → second_of (cond b (Some (told_of j)) (find (λ p. same_name p.0 name) (map told_of registered))) ≡ Some k.command
+    either true f rest = let same : j ≡ k = cc in ap (λ (x : RegisteredSnapshot). Some x.command) same
     either false f rest = rest f
 
-pub snap_missing : (name : List ℕ) (levels : List (Option ℕ)) (kept : List Kept) → find (λ x. same_name x.name name) kept ≡ None → snap_of name (record { levels = levels; snaps = map told_of kept }) ≡ None
+pub snap_missing : (name : List ℕ) (levels : List (Option ℕ)) (registered : List RegisteredSnapshot) → find (λ x. same_name x.name name) registered ≡ None → snap_of name (record { levels = levels; snaps = map told_of registered }) ≡ None
 snap_missing name levels [] e = refl
-snap_missing name levels (j ∷ kept) e = either (same_name j.name name) e (λ f. snap_missing name levels kept f)
+snap_missing name levels (j ∷ registered) e = either (same_name j.name name) e (λ f. snap_missing name levels registered f)
   where
-    either : (b : Bool) → cond b (Some j) (find (λ x. same_name x.name name) kept) ≡ None → (find (λ x. same_name x.name name) kept ≡ None → second_of (find (λ p. same_name p.0 name) (map told_of kept)) ≡ None) → second_of (cond b (Some (told_of j)) (find (λ p. same_name p.0 name) (map told_of kept))) ≡ None
+    either : (b : Bool) → cond b (Some j) (find (λ x. same_name x.name name) registered) ≡ None → (find (λ x. same_name x.name name) registered ≡ None → second_of (find (λ p. same_name p.0 name) (map told_of registered)) ≡ None) → second_of (cond b (Some (told_of j)) (find (λ p. same_name p.0 name) (map told_of registered))) ≡ None
     either true f rest = absurd cc
     either false f rest = rest f
 
-pub not_live : (name : List ℕ) (kept : List Kept) → find (λ x. same_name x.name name) kept ≡ None → list_any (λ x. same_name x.name name) kept ≡ false
+pub not_live : (name : List ℕ) (registered : List RegisteredSnapshot) → find (λ x. same_name x.name name) registered ≡ None → list_any (λ x. same_name x.name name) registered ≡ false
 not_live name [] e = refl
-not_live name (j ∷ kept) e = either (same_name j.name name) e (λ f. not_live name kept f)
+not_live name (j ∷ registered) e = either (same_name j.name name) e (λ f. not_live name registered f)
   where
-    either : (b : Bool) → cond b (Some j) (find (λ x. same_name x.name name) kept) ≡ None → (find (λ x. same_name x.name name) kept ≡ None → list_any (λ x. same_name x.name name) kept ≡ false) → (b || list_any (λ x. same_name x.name name) kept) ≡ false
+    either : (b : Bool) → cond b (Some j) (find (λ x. same_name x.name name) registered) ≡ None → (find (λ x. same_name x.name name) registered ≡ None → list_any (λ x. same_name x.name name) registered ≡ false) → (b || list_any (λ x. same_name x.name name) registered) ≡ false
     either true f rest = absurd cc
     either false f rest = rest f
 
--- by whether a name is among the kept ones
-pub none_found : (name : List ℕ) (kept : List Kept) → list_any (λ x. same_name x.name name) kept ≡ false → find (λ x. same_name x.name name) kept ≡ None
+-- by whether a name is among the registered ones
+pub none_found : (name : List ℕ) (registered : List RegisteredSnapshot) → list_any (λ x. same_name x.name name) registered ≡ false → find (λ x. same_name x.name name) registered ≡ None
 none_found name [] e = refl
-none_found name (j ∷ kept) e = either (same_name j.name name) e (λ f. none_found name kept f)
+none_found name (j ∷ registered) e = either (same_name j.name name) e (λ f. none_found name registered f)
   where
-    either : (b : Bool) → (b || list_any (λ x. same_name x.name name) kept) ≡ false → (list_any (λ x. same_name x.name name) kept ≡ false → find (λ x. same_name x.name name) kept ≡ None) → cond b (Some j) (find (λ x. same_name x.name name) kept) ≡ None
+    either : (b : Bool) → (b || list_any (λ x. same_name x.name name) registered) ≡ false → (list_any (λ x. same_name x.name name) registered ≡ false → find (λ x. same_name x.name name) registered ≡ None) → cond b (Some j) (find (λ x. same_name x.name name) registered) ≡ None
     either true f rest = absurd (false≢true (sym f))
     either false f rest = rest f
 
-pub some_found : (name : List ℕ) (levels : List (Option ℕ)) (kept : List Kept) → list_any (λ x. same_name x.name name) kept ≡ true → snap_of name (record { levels = levels; snaps = map told_of kept }) ≢ None
+pub some_found : (name : List ℕ) (levels : List (Option ℕ)) (registered : List RegisteredSnapshot) → list_any (λ x. same_name x.name name) registered ≡ true → snap_of name (record { levels = levels; snaps = map told_of registered }) ≢ None
 some_found name levels [] e = absurd (false≢true e)
-some_found name levels (j ∷ kept) e = either (same_name j.name name) e (λ f. some_found name levels kept f)
+some_found name levels (j ∷ registered) e = either (same_name j.name name) e (λ f. some_found name levels registered f)
   where
-    either : (b : Bool) → (b || list_any (λ x. same_name x.name name) kept) ≡ true → (list_any (λ x. same_name x.name name) kept ≡ true → second_of (find (λ p. same_name p.0 name) (map told_of kept)) ≢ None) → second_of (cond b (Some (told_of j)) (find (λ p. same_name p.0 name) (map told_of kept))) ≢ None
+    either : (b : Bool) → (b || list_any (λ x. same_name x.name name) registered) ≡ true → (list_any (λ x. same_name x.name name) registered ≡ true → second_of (find (λ p. same_name p.0 name) (map told_of registered)) ≢ None) → second_of (cond b (Some (told_of j)) (find (λ p. same_name p.0 name) (map told_of registered))) ≢ None
     either true f rest = λ n. cc
     either false f rest = rest f
 
-pub kept_at : (base : Counters) (h : List Event) (session : ℕ) (p : Kept → Bool) (kept : List Kept) (k : Kept) → AllByRecursion (IsKept base h session) kept → find p kept ≡ Some k → IsKept base h session k × (p k ≡ true)
-kept_at base h session p [] k a e = absurd cc
-kept_at base h session p (j ∷ kept) k a e = either (p j) refl e (λ f. kept_at base h session p kept k a.1 f)
+pub registered_at : (base : Counters) (h : List Event) (session : ℕ) (p : RegisteredSnapshot → Bool) (registered : List RegisteredSnapshot) (k : RegisteredSnapshot) → AllByRecursion (IsRegistered base h session) registered → find p registered ≡ Some k → IsRegistered base h session k × (p k ≡ true)
+registered_at base h session p [] k a e = absurd cc
+registered_at base h session p (j ∷ registered) k a e = either (p j) refl e (λ f. registered_at base h session p registered k a.1 f)
   where
-    either : (b : Bool) → p j ≡ b → cond b (Some j) (find p kept) ≡ Some k → (find p kept ≡ Some k → IsKept base h session k × (p k ≡ true)) → IsKept base h session k × (p k ≡ true)
-    either true q f rest = let same : j ≡ k = cc in (subst (IsKept base h session) same a.0, ap p (sym same) ∙ q)
+    either : (b : Bool) → p j ≡ b → cond b (Some j) (find p registered) ≡ Some k → (find p registered ≡ Some k → IsRegistered base h session k × (p k ≡ true)) → IsRegistered base h session k × (p k ≡ true)
+    either true q f rest = let same : j ≡ k = cc in (subst (IsRegistered base h session) same a.0, ap p (sym same) ∙ q)
     either false q f rest = rest f
 
-pub told_dropped : (name : List ℕ) (kept : List Kept) → without_snap name (map told_of kept) ≡ map told_of (filter (λ k. not (same_name k.name name)) kept)
+pub told_dropped : (name : List ℕ) (registered : List RegisteredSnapshot) → without_snap name (map told_of registered) ≡ map told_of (filter (λ k. not (same_name k.name name)) registered)
 told_dropped name [] = refl
-told_dropped name (k ∷ kept) = either (same_name k.name name) (told_dropped name kept)
+told_dropped name (k ∷ registered) = either (same_name k.name name) (told_dropped name registered)
   where
-    either : (b : Bool) → without_snap name (map told_of kept) ≡ map told_of (filter (λ k. not (same_name k.name name)) kept) → cond (not b) (told_of k ∷ without_snap name (map told_of kept)) (without_snap name (map told_of kept)) ≡ map told_of (cond (not b) (k ∷ filter (λ k. not (same_name k.name name)) kept) (filter (λ k. not (same_name k.name name)) kept))
+    either : (b : Bool) → without_snap name (map told_of registered) ≡ map told_of (filter (λ k. not (same_name k.name name)) registered) → cond (not b) (told_of k ∷ without_snap name (map told_of registered)) (without_snap name (map told_of registered)) ≡ map told_of (cond (not b) (k ∷ filter (λ k. not (same_name k.name name)) registered) (filter (λ k. not (same_name k.name name)) registered))
     either true rest = rest
     either false rest = ap (λ t. told_of k ∷ t) rest
 
 -- a snapshot that is taken
-pub acts_snapped : (base : Counters) (by : By) (h : List Event) (levels : List (Option ℕ)) (kept : List Kept) (k : Kept) (lists : SnapData) → lists ≡ snapshot_data base.next h → find (λ x. same_name x.name k.name) kept ≡ None → length kept < 64 → k.command ≡ by.command →
-    Acts base by (record { levels = levels; snaps = map told_of kept }) (record { levels = levels; snaps = map told_of (kept ++ k ∷ []) }) (commands.Snap k.name) (replies.Snapped lists) h (h ++ events.Snap by k.name ∷ [])
-acts_snapped base by h levels kept k lists l free room c = record {
+pub acts_snapped : (base : Counters) (by : By) (h : List Event) (levels : List (Option ℕ)) (registered : List RegisteredSnapshot) (k : RegisteredSnapshot) (lists : SnapData) → lists ≡ snapshot_data base.next h → find (λ x. same_name x.name k.name) registered ≡ None → length registered < 64 → k.command ≡ by.command →
+    Acts base by (record { levels = levels; snaps = map told_of registered }) (record { levels = levels; snaps = map told_of (registered ++ k ∷ []) }) (commands.Snap k.name) (replies.Snapped lists) h (h ++ events.Snap by k.name ∷ [])
+acts_snapped base by h levels registered k lists l free room c = record {
   added = events.Snap by k.name ∷ [];
   grown = refl;
   own = (refl, tt);
   fitting = refl;
   allowed = (
-    snap_missing k.name levels kept free,
-    omega (arith, length-map kept told_of),
+    snap_missing k.name levels registered free,
+    omega (arith, length-map registered told_of),
     length h,
     last_at h (events.Snap by k.name),
     l ∙ ap (snapshot_data base.next) (sym (take-append_seam h ((events.Snap by k.name) ∷ []))),
   );
-  left = ap (λ n. record { levels = levels; snaps = map told_of kept ++ (k.name, n) ∷ [] }) (sym c) ∙ ap (λ s. record { levels = levels; snaps = s }) (sym (map_push told_of kept k));
+  left = ap (λ n. record { levels = levels; snaps = map told_of registered ++ (k.name, n) ∷ [] }) (sym c) ∙ ap (λ s. record { levels = levels; snaps = s }) (sym (map_push told_of registered k));
 }
 
 -- and one that is dropped
-pub acts_dropped : (base : Counters) (by : By) (h : List Event) (levels : List (Option ℕ)) (kept : List Kept) (name : List ℕ) → list_any (λ x. same_name x.name name) kept ≡ true →
-    Acts base by (record { levels = levels; snaps = map told_of kept }) (record { levels = levels; snaps = map told_of (filter (λ k. not (same_name k.name name)) kept) }) (commands.DropSnap name) replies.Done h (h ++ events.SnapDrop by name ∷ [])
-acts_dropped base by h levels kept name some = record {
+pub acts_dropped : (base : Counters) (by : By) (h : List Event) (levels : List (Option ℕ)) (registered : List RegisteredSnapshot) (name : List ℕ) → list_any (λ x. same_name x.name name) registered ≡ true →
+    Acts base by (record { levels = levels; snaps = map told_of registered }) (record { levels = levels; snaps = map told_of (filter (λ k. not (same_name k.name name)) registered) }) (commands.DropSnap name) replies.Done h (h ++ events.SnapDrop by name ∷ [])
+acts_dropped base by h levels registered name some = record {
   added = events.SnapDrop by name ∷ [];
   grown = refl;
   own = (refl, tt);
   fitting = refl;
-  allowed = some_found name levels kept some;
-  left = ap (λ s. record { levels = levels; snaps = s }) (told_dropped name kept);
+  allowed = some_found name levels registered some;
+  left = ap (λ s. record { levels = levels; snaps = s }) (told_dropped name registered);
 }
 
 -- no event so far is of this command
@@ -196,14 +196,21 @@ own_turn by (e ∷ h) t = one (is_of by.session e) refl t (λ u. own_turn by h u
     one true q a rest = (λ _. a.0, rest a.1)
     one false q a rest = (λ s. absurd (false≢true (sym q ∙ ap (λ n. n == by.session) s ∙ eqb-refl by.session)), rest a)
 
-pub is_stopped : (base : Counters) (by : By) (h : List Event) (next stop : ℕ) → IsInTurn by h → next ≡ next_given base.next h → stop ≡ stop_limit (oldest_id base.oldest h) → stop ≤ next → IsStopped base h by next stop
-is_stopped base by h next stop t n s r = record {
-  place = length h;
-  within = omega arith;
-  behind = subst (AllByRecursion (λ e. (by_of e).session ≡ by.session → by.command < (by_of e).command)) (sym (drop_end h)) tt;
-  before = subst (AllByRecursion (λ e. (by_of e).session ≡ by.session → (by_of e).command ≤ by.command)) (sym (take_all (length h) h (omega arith))) (own_turn by h t);
-  next_is = n ∙ ap (next_given base.next) (sym (take_all (length h) h (omega arith)));
-  stop_is = s ∙ ap (λ g. stop_limit (oldest_id base.oldest g)) (sym (take_all (length h) h (omega arith)));
+-- a command that runs alone may read behind all events
+pub reads_last : (by : By) (h h' : List Event) → length h ≤ length h' → IsInTurn by h' → MayReadAt h' (alone h h') by (length h')
+reads_last by h h' l t = record {
+  not_before = l;
+  not_past = omega arith;
+  behind = subst (AllByRecursion (λ e. (by_of e).session ≡ by.session → by.command < (by_of e).command)) (sym (drop_end h')) tt;
+  before = subst (AllByRecursion (λ e. (by_of e).session ≡ by.session → (by_of e).command ≤ by.command)) (sym (take_all (length h') h' (omega arith))) (own_turn by h' t);
+}
+
+pub is_stopped : (base : Counters) (by : By) (h h' : List Event) (next stop : ℕ) → length h ≤ length h' → IsInTurn by h' → next ≡ next_given base.next h' → stop ≡ stop_limit (oldest_id base.oldest h') → stop ≤ next → IsStopped base h' (alone h h') by next stop
+is_stopped base by h h' next stop l t n s r = record {
+  place = length h';
+  read = reads_last by h h' l t;
+  next_is = n ∙ ap (next_given base.next) (sym (take_all (length h') h' (omega arith)));
+  stop_is = s ∙ ap (λ g. stop_limit (oldest_id base.oldest g)) (sym (take_all (length h') h' (omega arith)));
   reached = r;
 }
 
@@ -227,7 +234,7 @@ acts_wrote base by h h' named ids unnamed snaps warn some n g w = record {
 }
 
 -- a write that was stopped behind these ids
-pub acts_stopped : (base : Counters) (by : By) (h h' : List Event) (named ids : List ℕ) (unnamed left next stop : ℕ) (snaps : List (List ℕ × ℕ)) → unnamed ≡ length ids + left → 1 ≤ left → h' ≡ h ++ level_events by None (levels_of named unnamed) ids → IsStopped base h' by next stop →
+pub acts_stopped : (base : Counters) (by : By) (h h' : List Event) (named ids : List ℕ) (unnamed left next stop : ℕ) (snaps : List (List ℕ × ℕ)) → unnamed ≡ length ids + left → 1 ≤ left → h' ≡ h ++ level_events by None (levels_of named unnamed) ids → IsStopped base h' (alone h h') by next stop →
     Acts base by (record { levels = levels_of named unnamed; snaps = snaps }) (record { levels = levels_of (named ++ ids) left; snaps = snaps }) commands.Write (replies.Refused (refusals.Stop next stop)) h h'
 acts_stopped base by h h' named ids unnamed left next stop snaps n some g s = record {
   added = level_events by None (levels_of named unnamed) ids;

@@ -21,9 +21,9 @@ use Rattle.tx_events.proofs.Membership.{Has, contains_has, has_filter}
 use Rattle.tx_events.proofs.OpenIds.{open_rest}
 use Rattle.tx_events.proofs.PlaceLemmas.{slice_get-grows, take-grows}
 use Rattle.tx_events.proofs.Lineages.{top_line, enclosing_line}
-use Rattle.session_run.specs.declared.session.Kept.{Kept}
+use Rattle.session_run.specs.declared.session.RegisteredSnapshot.{RegisteredSnapshot}
 use Rattle.session_run.specs.declared.session.Session.{Session}
-use Rattle.session_run.specs.Stands.{IsKept, IsSavepointIn, Nest, Stands}
+use Rattle.session_run.specs.Stands.{IsRegistered, IsSavepointIn, Nest, Stands}
 use Rattle.tx_events.specs.declared.event.Event.TheVariants as events
 
 -- each event is of another session
@@ -114,7 +114,7 @@ nest_by h h' ids (top ∷ savepoints) same n = (
   n.4,
 )
 
-kept_grows : (base : Counters) (h es : List Event) (session : ℕ) (k : Kept) → IsKept base h session k → IsKept base (h ++ es) session k
+kept_grows : (base : Counters) (h es : List Event) (session : ℕ) (k : RegisteredSnapshot) → IsRegistered base h session k → IsRegistered base (h ++ es) session k
 kept_grows base h es session k i = record {
   taken = slice_get-grows h es _ k.place i.taken;
   holds = i.holds ∙ ap (snapshot_data base.next) (sym (take-grows h es _ k.place i.taken));
@@ -129,7 +129,7 @@ stands_beside base h es session n s legal more o st = record {
   depth = st.depth;
   turn = subst (AllByRecursion (λ e. (by_of e).command ≤ n)) (sym (own_beside session h es o)) st.turn;
   live = λ name. live_beside base.next session name h es o ∙ st.live name;
-  snaps = all_members (IsKept base h session) (IsKept base (h ++ es) session) s.kept.items (λ k j i. kept_grows base h es session k i) st.snaps;
+  snaps = all_members (IsRegistered base h session) (IsRegistered base (h ++ es) session) s.registered.items (λ k j i. kept_grows base h es session k i) st.snaps;
 }
   where
     is_given : (x : ℕ) → Has s.opened.items x → Has (given h) x

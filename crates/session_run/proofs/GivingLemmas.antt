@@ -11,7 +11,7 @@ use Rattle.tx_events.specs.Running.{open_ids}
 use Rattle.tx_events.proofs.GivenIds.{open_below}
 use Rattle.tx_events.proofs.Membership.{has_contains as has-contains}
 use Rattle.plain_states.specs.declared.id_states.IdState.{IdState}
-use Rattle.session_run.specs.declared.session.Kept.{Kept}
+use Rattle.session_run.specs.declared.session.RegisteredSnapshot.{RegisteredSnapshot}
 use Rattle.session_run.specs.Gives.{IsInTurn, IsParent, last_of}
 use Rattle.session_run.specs.Sound.{IsSound}
 use Rattle.session_run.specs.Stands.{Nest}
@@ -46,16 +46,16 @@ is_parent h session opened (x ∷ xs) o n =
     let l = last_some x xs in
     subst (IsParent session h) (sym l.1) (subst (λ ids. Contains ids l.0) (sym o) (has-contains opened l.0 (true_has opened l.0 (parent_open h opened (x ∷ xs) l.0 n l.1))))
 
-stood_given_by : (base : Counters) (h : List Event) (by : By) (id unnamed unnamed' : ℕ) (opened named : List ℕ) (kept : List Kept) (parent : Option ℕ) → last_of named ≡ parent → IsLegal base h → MayCome base h (giving by parent id) → unnamed' + 1 ≡ unnamed →
-    Stood base h by.session by.command opened named unnamed kept → Stood base (h ++ giving by parent id ∷ []) by.session by.command (opened ++ id ∷ []) (named ++ id ∷ []) unnamed' kept
-stood_given_by base h by id unnamed unnamed' opened named kept (Some parent) l legal m u s = stood_sub base h by parent id unnamed unnamed' opened named kept legal m l u s
-stood_given_by base h by id unnamed unnamed' opened [] kept None l legal m u s =
+stood_given_by : (base : Counters) (h : List Event) (by : By) (id unnamed unnamed' : ℕ) (opened named : List ℕ) (registered : List RegisteredSnapshot) (parent : Option ℕ) → last_of named ≡ parent → IsLegal base h → MayCome base h (giving by parent id) → unnamed' + 1 ≡ unnamed →
+    Stood base h by.session by.command opened named unnamed registered → Stood base (h ++ giving by parent id ∷ []) by.session by.command (opened ++ id ∷ []) (named ++ id ∷ []) unnamed' registered
+stood_given_by base h by id unnamed unnamed' opened named registered (Some parent) l legal m u s = stood_sub base h by parent id unnamed unnamed' opened named registered legal m l u s
+stood_given_by base h by id unnamed unnamed' opened [] registered None l legal m u s =
     let none : opened ≡ [] = s.nest in
-    subst (λ o. Stood base (h ++ giving by None id ∷ []) by.session by.command (o ++ id ∷ []) (id ∷ []) unnamed' kept) (sym none)
-    (stood_id base h by id unnamed unnamed' kept legal m u (subst (λ o. Stood base h by.session by.command o [] unnamed kept) none s))
-stood_given_by base h by id unnamed unnamed' opened (x ∷ named) kept None l legal m u s = let q = last_some x named in let z : Some q.0 ≡ None = sym q.1 ∙ l in absurd cc
+    subst (λ o. Stood base (h ++ giving by None id ∷ []) by.session by.command (o ++ id ∷ []) (id ∷ []) unnamed' registered) (sym none)
+    (stood_id base h by id unnamed unnamed' registered legal m u (subst (λ o. Stood base h by.session by.command o [] unnamed registered) none s))
+stood_given_by base h by id unnamed unnamed' opened (x ∷ named) registered None l legal m u s = let q = last_some x named in let z : Some q.0 ≡ None = sym q.1 ∙ l in absurd cc
 
 -- the outermost level that lacks an id is given one
-pub stood_given : (base : Counters) (h : List Event) (by : By) (id unnamed unnamed' : ℕ) (opened named : List ℕ) (kept : List Kept) → IsLegal base h → MayCome base h (giving by (last_of named) id) → unnamed' + 1 ≡ unnamed →
-    Stood base h by.session by.command opened named unnamed kept → Stood base (h ++ giving by (last_of named) id ∷ []) by.session by.command (opened ++ id ∷ []) (named ++ id ∷ []) unnamed' kept
-stood_given base h by id unnamed unnamed' opened named kept legal m u s = stood_given_by base h by id unnamed unnamed' opened named kept (last_of named) refl legal m u s
+pub stood_given : (base : Counters) (h : List Event) (by : By) (id unnamed unnamed' : ℕ) (opened named : List ℕ) (registered : List RegisteredSnapshot) → IsLegal base h → MayCome base h (giving by (last_of named) id) → unnamed' + 1 ≡ unnamed →
+    Stood base h by.session by.command opened named unnamed registered → Stood base (h ++ giving by (last_of named) id ∷ []) by.session by.command (opened ++ id ∷ []) (named ++ id ∷ []) unnamed' registered
+stood_given base h by id unnamed unnamed' opened named registered legal m u s = stood_given_by base h by id unnamed unnamed' opened named registered (last_of named) refl legal m u s

@@ -4,7 +4,7 @@ mod CutLemmas
 mod LevelLemmas
 mod SoundLemmas
 mod StandsLemmas
-mod KeptLemmas
+mod RegisteredLemmas
 mod ActsLemmas
 mod TurnLemmas
 mod GivingLemmas

@@ -13,8 +13,8 @@ use Rattle.tx_events.specs.declared.event.Event.{Event}
 use Rattle.tx_model.specs.declared.report.Line.{Line}
 use Rattle.tx_model.specs.declared.report.Step.{Step}
 use Rattle.tx_events.specs.Events.{by_of, same_by}
-use Rattle.tx_model.specs.LawfulLife.{AreRounds, lines_in}
-use Rattle.tx_model.specs.Lines.{AreLinesOf, is_line_of, turn_of}
+use Rattle.tx_model.specs.LawfulLife.{AreInTurn, AreRounds, StandFirst, lines_in}
+use Rattle.tx_model.specs.Lines.{AreLinesOf, has_line, is_line_of, turn_of}
 use Rattle.tx_events.specs.Places.{first_seen}
 use Rattle.std.proofs.Math.Seq.{take-append-le}
 use Rattle.session_lang.specs.declared.script.Item.{Item}
@@ -22,7 +22,7 @@ use Rattle.session_lang.specs.Rounds.{round_of, rounds_of, sessions_in, turns_of
 use Rattle.session_run.specs.declared.life.OpenLife.{OpenLife}
 use Rattle.session_run.specs.declared.shared.Shared.{Shared}
 use Rattle.session_run.specs.declared.session.Session.{Session}
-use Rattle.session_run.specs.Progress.{AddsRound, AreFew, AreInTurn, Continues, GoesOn, MayAdd, Progress, StandFirst, has_line, lines_of}
+use Rattle.session_run.specs.Progress.{AddsRound, AreFew, Continues, GoesOn, MayAdd, Progress, lines_of}
 use Rattle.session_run.specs.Told.{round_step}
 use Rattle.session_run.specs.Turns.{IsFirstRound, is_command, turns_in}
 use Rattle.session_run.proofs.RoundLemmas.{first_round, front_short, grouped_short, lines_ended, rounds_push, sessions_of_turns, sessions_on, turns_short}

@@ -1,6 +1,6 @@
 -- What a session's next command does to the progress of all.
 use Rattle.tx_events.proofs.ListSteps.{both_all, all_weaker}
-use Rattle.std.proofs.Common.{◌≡◌, ◌||◌, ◌≢◌, ℕ, zero, suc, ◌+◌, ◌<◌, ◌≤◌, ◌⊎◌, List, [], ◌∷◌, ◌++◌, Some, refl, sym, ap, subst, ◌∙◌, arith, inl, inr, ⊎_elim, Bool, true, false, cond, length, set, append-nil, length-append, length-set, ne_eqb}
+use Rattle.std.proofs.Common.{◌≡◌, ◌≢◌, ℕ, zero, suc, ◌+◌, ◌<◌, ◌≤◌, ◌⊎◌, List, [], ◌∷◌, ◌++◌, Some, refl, sym, ap, subst, ◌∙◌, arith, inl, inr, ⊎_elim, Bool, true, false, cond, length, set, append-nil, length-append, length-set, ne_eqb}
 use Rattle.std.specs.List.{AllByRecursion, count_by, filter, slice_get}
 use Rattle.std.proofs.lemmas.Bool.Decides.{nat_tests}
 use Rattle.std.proofs.lemmas.List.Elements.{filter-append}
@@ -14,8 +14,9 @@ use Rattle.tx_events.specs.Events.{by_of, is_of, same_by, events_of, given}
 use Rattle.tx_events.specs.History.{IsLegal}
 use Rattle.tx_model.specs.Stance.{after, nothing_yet, stance_from}
 use Rattle.tx_model.specs.CommandEvents.{HasEvents}
-use Rattle.tx_model.specs.Replies.{MayReply}
-use Rattle.tx_model.specs.Lines.{AreLawfulLines, is_line_of, stance}
+use Rattle.tx_model.specs.Replies.{MayReply, alone}
+use Rattle.tx_model.specs.Lines.{AreLawfulLines, has_line, is_line_of, stance}
+use Rattle.tx_model.proofs.Counted.{all_no_line}
 use Rattle.tx_model.proofs.Growth.{all_later_others, stance_grows}
 use Rattle.tx_events.proofs.OwnEvents.{AreOthers, AreLater, same_by_refl, all_new}
 use Rattle.tx_model.proofs.LineGrowth.{lines_go_on, stance_push, lines_counted}
@@ -24,7 +25,7 @@ use Rattle.session_run.specs.declared.shared.Shared.{Shared}
 use Rattle.session_run.specs.Stands.{Stands, stance_of}
 use Rattle.session_run.specs.Acts.{IsSoundAt, Ready}
 use Rattle.session_run.specs.Sound.{HasRoom}
-use Rattle.session_run.specs.Progress.{AreFew, IsLeft, IsNotLater, Progress, Ran, has_line}
+use Rattle.session_run.specs.Progress.{AreFew, IsLeft, IsNotLater, Progress, Ran}
 use Rattle.session_run.proofs.Beside.{AreBeside, stands_beside}
 
 apart : (a b : By) → (a.session ≡ b.session → a.command < b.command) → same_by a b ≡ false
@@ -105,22 +106,6 @@ set_cases (z ∷ xs) (suc n) zero x y e = inr ((λ q. absurd (omega arith)), e)
 set_cases (z ∷ xs) (suc n) (suc k) x y e =
     ⊎_elim (λ a. inl (ap suc a.0, a.1)) (λ a. inr ((λ q. a.0 (omega arith)), a.1)) (set_cases xs n k x y e)
 
--- events of none of the lines
-line_other : (l : Line) (e : Event) → same_by (by_of e) l.by ≡ false → same_by l.by (by_of e) ≡ false
-line_other l e n = grind (arith, nat_tests)
-
-no_line_of : (e : Event) (lines : List Line) → AllByRecursion (λ l. same_by (by_of e) l.by ≡ false) lines → has_line lines e ≡ false
-no_line_of e [] a = refl
-no_line_of e (l ∷ lines) a = ap (λ b. b || has_line lines e) (line_other l e a.0) ∙ no_line_of e lines a.1
-
-heads : (e : Event) (es : List Event) (lines : List Line) → AllByRecursion (λ l. AreOthers l.by (e ∷ es)) lines → AllByRecursion (λ l. same_by (by_of e) l.by ≡ false) lines × AllByRecursion (λ l. AreOthers l.by es) lines
-heads e es [] a = (tt, tt)
-heads e es (l ∷ lines) a = let r = heads e es lines a.1 in ((a.0.0, r.0), (a.0.1, r.1))
-
-all_no_line : (es : List Event) (lines : List Line) → AllByRecursion (λ l. AreOthers l.by es) lines → AllByRecursion (λ e. has_line lines e ≡ false) es
-all_no_line [] lines a = tt
-all_no_line (e ∷ es) lines a = let r = heads e es lines a in (no_line_of e lines r.0, all_no_line es lines r.1)
-
 -- a session's next command, and its line
 module _ (w w' : Shared) (sessions : List Session) (lines : List Line) (n : ℕ) (s s' : Session) (command : Command) (l : Line) (p : Progress w sessions lines) (at : slice_get sessions n ≡ Some s) (r : Ran w w' n s s' command l) where
   left : IsLeft w lines n s
@@ -159,7 +144,7 @@ module _ (w w' : Shared) (sessions : List Session) (lines : List Line) (n : ℕ)
       (subst (λ g. AreLawfulLines w.table.base [] g (lines ++ l ∷ [])) (sym r.acts.grown)
       (lines_go_on w.table.base [] w.table.events r.acts.added lines l p.lawful later new own counted
       (subst (λ t. HasEvents l.by t l.command l.reply r.acts.added) (sym stance_before) r.acts.fitting)
-      (subst (λ t. MayReply w.table.base [] (w.table.events ++ r.acts.added) l.by t l.command l.reply) (sym stance_before) (subst (λ g. MayReply w.table.base [] g l.by (stance_of s) l.command l.reply) r.acts.grown r.acts.allowed))))
+      (subst (λ t. MayReply w.table.base [] (w.table.events ++ r.acts.added) (alone w.table.events (w.table.events ++ r.acts.added)) l.by t l.command l.reply) (sym stance_before) (subst (λ g. MayReply w.table.base [] g (alone w.table.events g) l.by (stance_of s) l.command l.reply) r.acts.grown r.acts.allowed))))
 
   stance_then : stance w'.table.events (lines ++ l ∷ []) l.by.session ≡ stance_of s'
   stance_then =

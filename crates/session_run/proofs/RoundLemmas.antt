@@ -47,13 +47,13 @@ others_grouped : (x : ℕ) (ys : List ℕ) (turns : List (ℕ × Command)) → f
 others_grouped x [] turns = refl
 others_grouped x (y ∷ ys) turns = step (y == x) refl (others_grouped x ys turns)
   where
-    kept : List ℕ
-    kept = filter (λ z. not (z == x)) ys
+    registered : List ℕ
+    registered = filter (λ z. not (z == x)) ys
 
     rest : List (ℕ × Command)
     rest = flat_map (λ z. turns_of z (others x turns)) ys
 
-    step : (b : Bool) → (y == x) ≡ b → flat_map (λ z. turns_of z turns) kept ≡ rest → flat_map (λ z. turns_of z turns) (cond (not b) (y ∷ kept) kept) ≡ turns_of y (others x turns) ++ rest
+    step : (b : Bool) → (y == x) ≡ b → flat_map (λ z. turns_of z turns) registered ≡ rest → flat_map (λ z. turns_of z turns) (cond (not b) (y ∷ registered) registered) ≡ turns_of y (others x turns) ++ rest
     step true e i = i ∙ ap (λ ts. ts ++ rest) (sym (ap (λ z. turns_of z (others x turns)) (eqb-true y x e) ∙ others_none x turns))
     step false e i = ap (λ ts. turns_of y turns ++ ts) i ∙ ap (λ ts. ts ++ rest) (sym (others_same x y turns e))
 

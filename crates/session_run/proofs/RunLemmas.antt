@@ -6,16 +6,16 @@ use Rattle.std.specs.List.{All, AllByRecursion, filter, flat_map, list_any, slic
 use Rattle.std.proofs.lemmas.List.Elements.{All-from_recursion, All-nil, recursion_from_All}
 use Rattle.tx_events.specs.declared.record.Counters.{Counters}
 use Rattle.tx_model.specs.declared.report.LifeReport.{LifeReport}
-use Rattle.tx_model.specs.declared.report.Line.{Line}
 use Rattle.tx_events.specs.Base.{IsBase}
-use Rattle.tx_events.specs.Events.{by_of, is_of, same_by, same_name}
+use Rattle.tx_events.specs.Events.{by_of, is_of, same_name}
 use Rattle.tx_events.specs.History.{ComesInTurn, IsLegal, MayCome}
 use Rattle.tx_events.specs.Horizon.{is_live}
 use Rattle.tx_events.specs.IdLists.{Ascending}
-use Rattle.tx_model.specs.LawfulLife.{AreRounds, lines_in}
+use Rattle.tx_model.specs.LawfulLife.{AreInTurn, AreLawfulSteps, AreRounds, lines_in}
 use Rattle.tx_model.specs.LifeLog.{AreFlushed, batches_size}
-use Rattle.tx_model.specs.Lines.{AreLawfulLines, IsLawfulLine}
+use Rattle.tx_model.specs.Lines.{AreLawfulLines, IsLawfulLine, has_line, span_of}
 use Rattle.tx_events.specs.Running.{open_ids}
+use Rattle.tx_model.proofs.Rounds.{steps_lawful}
 use Rattle.tx_events.proofs.PlaceLemmas.{each_place_none}
 use Rattle.session_lang.specs.declared.script.Item.{Item}
 use Rattle.session_lang.specs.declared.script.Item.TheVariants as items
@@ -32,8 +32,8 @@ use Rattle.session_run.specs.declared.life.OpenLife.{OpenLife}
 use Rattle.session_run.specs.declared.session.Session.{Session}
 use Rattle.session_run.specs.declared.shared.Shared.{Shared}
 use Rattle.session_run.specs.Acts.{IsSoundAt}
-use Rattle.session_run.specs.Progress.{AreInTurn, GoesOn, IsFresh, IsLeft, IsNew, IsTold, Progress, lines_of}
-use Rattle.session_run.specs.Stands.{IsKept, Nest}
+use Rattle.session_run.specs.Progress.{GoesOn, IsFresh, IsLeft, IsNew, IsTold, Progress, lines_of}
+use Rattle.session_run.specs.Stands.{IsRegistered, Nest}
 use Rattle.session_run.specs.Tool.{IsReportOf}
 use Rattle.session_run.specs.Turns.{IsRunnable, MayRun}
 
@@ -47,7 +47,7 @@ fresh_left w k s none f = record {
     depth = omega (arith, ap length f.1, f.2);
     turn = subst (λ h. AllByRecursion (λ e. (by_of e).command ≤ s.commands) (filter (is_of k) h)) (sym none) tt;
     live = λ name. ap (is_live w.table.base.next k name) none ∙ ap (list_any (λ j. same_name j.name name)) (sym f.4);
-    snaps = subst (AllByRecursion (IsKept w.table.base w.table.events k)) (sym f.4) tt;
+    snaps = subst (AllByRecursion (IsRegistered w.table.base w.table.events k)) (sym f.4) tt;
   };
   stance_is = rw (f.1, f.2, f.4) refl;
   counted = f.0;
@@ -73,8 +73,8 @@ life_begins base n life is_base new count fresh no_steps no_lines =
       states_are = rw none new.states;
     } in
     let lawful : AreLawfulLines w.table.base [] w.table.events [] = record {
-      each = each_place_none (IsLawfulLine w.table.base [] w.table.events);
-      no_other = subst (All (λ e. IsTrue (list_any (λ (j : Line). same_by j.by (by_of e)) []))) (sym none) (All-nil (λ e. IsTrue (list_any (λ (j : Line). same_by j.by (by_of e)) [])));
+      each = each_place_none (λ before l. IsLawfulLine w.table.base [] w.table.events (span_of w.table.events before (l ∷ [])) before l);
+      no_other = subst (All (λ e. IsTrue (has_line [] e))) (sym none) (All-nil (λ e. IsTrue (has_line [] e)));
     } in
     let at_first : Progress w life.sessions.items [] = record {
       lawful = lawful;
@@ -88,22 +88,21 @@ life_begins base n life is_base new count fresh no_steps no_lines =
     }
 
 -- the report of a life that ran the script
-pub report_of : (s : Script) (life : OpenLife) (r : LifeReport) → GoesOn life → life.lines ≡ [] → AreRounds 1 (rounds_of s.items) life.steps → AreInTurn life.shared.table.events life.steps → life.shared.table.base ≡ s.base → AreFlushed life.shared.log.recs life.shared.log.flushed → life.shared.log.end ≡ batches_size (take life.shared.log.flushed life.shared.log.recs) → r.life.from ≡ 0 → r.life.base ≡ life.shared.table.base → r.life.committed ≡ [] → r.life.events ≡ life.shared.table.events → r.life.multis ≡ [] → r.life.recs ≡ life.shared.log.recs → r.life.flushed ≡ life.shared.log.flushed → r.life.end ≡ life.shared.log.end → r.steps ≡ life.steps → r.crash ≡ None → IsReportOf s (record { names = s.names; lives = r ∷ [] })
-report_of s life r on ended told apart same known gate from base committed events multis recs flushed end steps_is last =
+pub report_of : (s : Script) (life : OpenLife) (r : LifeReport) → GoesOn life → life.lines ≡ [] → AreRounds 1 (rounds_of s.items) life.steps → AreInTurn life.shared.table.events life.steps → life.shared.table.base ≡ s.base → AreFlushed life.shared.log.recs life.shared.log.flushed → life.shared.log.end ≡ batches_size (take life.shared.log.flushed life.shared.log.recs) → r.life.from ≡ 0 → r.life.base ≡ life.shared.table.base → r.life.committed ≡ [] → r.life.recorded ≡ [] → r.life.events ≡ life.shared.table.events → r.life.multis ≡ [] → r.life.recs ≡ life.shared.log.recs → r.life.flushed ≡ life.shared.log.flushed → r.life.end ≡ life.shared.log.end → r.steps ≡ life.steps → r.crash ≡ None → IsReportOf s (record { names = s.names; lives = r ∷ [] })
+report_of s life r on ended told apart same known gate from base committed recorded events multis recs flushed end steps_is last =
     let w = life.shared in
     let all : lines_of life ≡ flat_map lines_in life.steps = ap (λ ls. flat_map lines_in life.steps ++ ls) ended ∙ append-nil (flat_map lines_in life.steps) in
-    let lawful : AreLawfulLines w.table.base [] w.table.events (flat_map lines_in life.steps) = subst (AreLawfulLines w.table.base [] w.table.events) all on.progress.lawful in
+    let lawful : AreLawfulSteps w.table.base [] w.table.events life.steps = steps_lawful w.table.base [] w.table.events life.steps (subst (AreLawfulLines w.table.base [] w.table.events) all on.progress.lawful) in
     record {
       names = refl;
       life = r;
       one = refl;
       last = last;
-      first = from;
-      base = base ∙ same;
-      nothing_before = committed;
+      begins = record { from = from; base_is = base ∙ same; committed = committed; recorded = recorded };
       lawful = record {
         history = rw (base, events) on.progress.sound.legal;
         told = subst (AreRounds 1 (rounds_of s.items)) (sym steps_is) told;
+        in_turn = rw (events, steps_is) apart;
         lawful = rw (base, committed, events, steps_is) lawful;
         multis = multis;
         log = rw (from, base, events, recs, flushed, end) (record {
@@ -114,7 +113,6 @@ report_of s life r on ended told apart same known gate from base committed event
           gate = gate;
         });
       };
-      in_turn = rw (events, steps_is) apart;
     }
 
 -- the report so far, and what stands behind its steps

@@ -37,18 +37,18 @@ in_turn by h e own t = subst (λ (b : By). ComesInTurnOf b h) (sym own) (All-fro
 
 sound_push : (base : Counters) (h : List Event) (e : Event) (by : By) (recs more : List Rec) (states states' : List IdState) → by_of e ≡ by → MayCome base h e → IsInTurn by h → record_of h e ≡ more → AreStates (h ++ e ∷ []) states' →
     IsSound base h recs states → IsSound base (h ++ e ∷ []) (recs ++ more) states'
-sound_push base h e by recs more states states' own may turn r kept s = record {
+sound_push base h e by recs more states states' own may turn r registered s = record {
   base_is = s.base_is;
   legal = legal_push base h e s.legal may (in_turn by h e own turn);
   logged = ap (λ t. t ++ more) s.logged ∙ ap (λ t. records.Checkpoint 0 base ∷ t) (sym (records_push h e ∙ ap (λ t. end_records h ++ t) r));
-  states_are = kept;
+  states_are = registered;
 }
 
 -- an event without a record
 sound_silent : (base : Counters) (h : List Event) (e : Event) (by : By) (recs : List Rec) (states states' : List IdState) → by_of e ≡ by → MayCome base h e → IsInTurn by h → record_of h e ≡ [] → AreStates (h ++ e ∷ []) states' →
     IsSound base h recs states → IsSound base (h ++ e ∷ []) recs states'
-sound_silent base h e by recs states states' own may turn r kept s =
-    subst (λ t. IsSound base (h ++ e ∷ []) t states') (append-nil recs) (sound_push base h e by recs [] states states' own may turn r kept s)
+sound_silent base h e by recs states states' own may turn r registered s =
+    subst (λ t. IsSound base (h ++ e ∷ []) t states') (append-nil recs) (sound_push base h e by recs [] states states' own may turn r registered s)
 
 pub sound_id : (base : Counters) (h : List Event) (by : By) (id : ℕ) (recs : List Rec) (states : List IdState) → MayCome base h (events.Id by id) → IsInTurn by h → IsSound base h recs states →
     IsSound base (h ++ events.Id by id ∷ []) recs (states ++ record { id = id; parent = None; committed = false } ∷ [])

@@ -29,33 +29,33 @@ use Rattle.tx_events.proofs.GivingGrowth.{giving_open_ids, giving_id, id_family,
 use Rattle.tx_events.specs.declared.xact_end.XactEnd.{XactEnd}
 use Rattle.tx_events.specs.declared.xact_end.XactEnd.TheVariants as ends
 use Rattle.tx_events.specs.XactEnds.{end_event}
-use Rattle.session_run.specs.declared.session.Kept.{Kept}
+use Rattle.session_run.specs.declared.session.RegisteredSnapshot.{RegisteredSnapshot}
 use Rattle.session_run.specs.declared.session.Session.{Session}
 use Rattle.session_run.specs.Gives.{IsInTurn, last_of}
-use Rattle.session_run.specs.Stands.{Stands, Nest, IsKept, IsSavepointIn}
+use Rattle.session_run.specs.Stands.{Stands, Nest, IsRegistered, IsSavepointIn}
 use Rattle.session_run.proofs.CutLemmas.{last_apart}
 use Rattle.tx_events.specs.declared.event.Event.TheVariants as events
 
 -- the same of the parts of a session
-pub record Stood (base : Counters) (h : List Event) (session number : ℕ) (opened named : List ℕ) (unnamed : ℕ) (kept : List Kept) : Type 0 where
+pub record Stood (base : Counters) (h : List Event) (session number : ℕ) (opened named : List ℕ) (unnamed : ℕ) (registered : List RegisteredSnapshot) : Type 0 where
   pub opened_are : open_ids session h ≡ opened
   pub ascend : Ascending opened
   pub nest : Nest h opened named
   pub depth : length named + unnamed ≤ most_levels
   pub turn : AllByRecursion (λ e. (by_of e).command ≤ number) (filter (is_of session) h)
-  pub live : (name : List ℕ) → is_live base.next session name h ≡ list_any (λ k. same_name k.name name) kept
-  pub snaps : AllByRecursion (IsKept base h session) kept
+  pub live : (name : List ℕ) → is_live base.next session name h ≡ list_any (λ k. same_name k.name name) registered
+  pub snaps : AllByRecursion (IsRegistered base h session) registered
 
-pub stood : (base : Counters) (h : List Event) (session number : ℕ) (s : Session) → Stands base h session number s → Stood base h session number s.opened.items s.named.items s.unnamed s.kept.items
+pub stood : (base : Counters) (h : List Event) (session number : ℕ) (s : Session) → Stands base h session number s → Stood base h session number s.opened.items s.named.items s.unnamed s.registered.items
 stood base h session number s k = record { opened_are = k.opened; ascend = k.ascend; nest = k.nest; depth = k.depth; turn = k.turn; live = k.live; snaps = k.snaps }
 
-pub stands : (base : Counters) (h : List Event) (session number : ℕ) (s : Session) → Stood base h session number s.opened.items s.named.items s.unnamed s.kept.items → Stands base h session number s
+pub stands : (base : Counters) (h : List Event) (session number : ℕ) (s : Session) → Stood base h session number s.opened.items s.named.items s.unnamed s.registered.items → Stands base h session number s
 stands base h session number s k = record { opened = k.opened_are; ascend = k.ascend; nest = k.nest; depth = k.depth; turn = k.turn; live = k.live; snaps = k.snaps }
 
 -- its levels changed alone
-pub stood_levels : (base : Counters) (h : List Event) (session number : ℕ) (opened named named' : List ℕ) (unnamed unnamed' : ℕ) (kept : List Kept) → Nest h opened named' → length named' + unnamed' ≤ most_levels →
-    Stood base h session number opened named unnamed kept → Stood base h session number opened named' unnamed' kept
-stood_levels base h session number opened named named' unnamed unnamed' kept n d s = record { opened_are = s.opened_are; ascend = s.ascend; nest = n; depth = d; turn = s.turn; live = s.live; snaps = s.snaps }
+pub stood_levels : (base : Counters) (h : List Event) (session number : ℕ) (opened named named' : List ℕ) (unnamed unnamed' : ℕ) (registered : List RegisteredSnapshot) → Nest h opened named' → length named' + unnamed' ≤ most_levels →
+    Stood base h session number opened named unnamed registered → Stood base h session number opened named' unnamed' registered
+stood_levels base h session number opened named named' unnamed unnamed' registered n d s = record { opened_are = s.opened_are; ascend = s.ascend; nest = n; depth = d; turn = s.turn; live = s.live; snaps = s.snaps }
 
 all_front : {X : Type 0} (P : X → Type 0) (xs ys : List X) → AllByRecursion P (xs ++ ys) → AllByRecursion P xs
 all_front P [] ys a = tt
@@ -82,9 +82,9 @@ nest_front h opened (t ∷ ids) id l n = (n.0, n.1, n.2, all_front (IsSavepointI
 live_quiet : (first s : ℕ) (name : List ℕ) (h : List Event) (e : Event) → live_up first (e ∷ reverse h) ≡ live_up first (reverse h) → is_live first s name (h ++ e ∷ []) ≡ is_live first s name h
 live_quiet first s name h e q = ap (list_any (is_snap_of s name)) (live_push first h e ∙ q)
 
-pub kept_grows : (base : Counters) (h es : List Event) (session : ℕ) (ks : List Kept) → AllByRecursion (IsKept base h session) ks → AllByRecursion (IsKept base (h ++ es) session) ks
+pub kept_grows : (base : Counters) (h es : List Event) (session : ℕ) (ks : List RegisteredSnapshot) → AllByRecursion (IsRegistered base h session) ks → AllByRecursion (IsRegistered base (h ++ es) session) ks
 kept_grows base h es session ks a =
-    all_weaker (IsKept base h session) (IsKept base (h ++ es) session)
+    all_weaker (IsRegistered base h session) (IsRegistered base (h ++ es) session)
     (λ k i. record {
       taken = slice_get-grows h es _ k.place i.taken;
       holds = i.holds ∙ ap (snapshot_data base.next) (sym (take-grows h es _ k.place i.taken));
@@ -101,9 +101,9 @@ turn_push by h e own t =
     last false = tt
 
 -- a transaction that is given its id
-pub stood_id : (base : Counters) (h : List Event) (by : By) (id unnamed unnamed' : ℕ) (kept : List Kept) → IsLegal base h → MayCome base h (events.Id by id) → unnamed' + 1 ≡ unnamed →
-    Stood base h by.session by.command [] [] unnamed kept → Stood base (h ++ events.Id by id ∷ []) by.session by.command (id ∷ []) (id ∷ []) unnamed' kept
-stood_id base h by id unnamed unnamed' kept legal may u s =
+pub stood_id : (base : Counters) (h : List Event) (by : By) (id unnamed unnamed' : ℕ) (registered : List RegisteredSnapshot) → IsLegal base h → MayCome base h (events.Id by id) → unnamed' + 1 ≡ unnamed →
+    Stood base h by.session by.command [] [] unnamed registered → Stood base (h ++ events.Id by id ∷ []) by.session by.command (id ∷ []) (id ∷ []) unnamed' registered
+stood_id base h by id unnamed unnamed' registered legal may u s =
     let under : AreBelow id h = subst (λ t. AreBelow t h) (sym may.0.next) (legal_sound base h legal).below in
     record {
       opened_are = giving_open_ids by.session h (events.Id by id) id (giving_id h by id under) ∙ ap (λ l. l ++ cond (by.session == by.session) (id ∷ []) []) s.opened_are ∙ ap (λ b. cond b (id ∷ []) []) (eqb-refl by.session);
@@ -112,7 +112,7 @@ stood_id base h by id unnamed unnamed' kept legal may u s =
       depth = omega (arith, s.depth);
       turn = turn_push by h (events.Id by id) refl s.turn;
       live = λ name. live_quiet base.next by.session name h (events.Id by id) refl ∙ s.live name;
-      snaps = kept_grows base h (events.Id by id ∷ []) by.session kept s.snaps;
+      snaps = kept_grows base h (events.Id by id ∷ []) by.session registered s.snaps;
     }
 
 -- the last of ascending ids is the greatest
@@ -188,9 +188,9 @@ nest_sub h by parent id opened (t ∷ ids) under below e n =
     olds (x ∷ xs) o u a = (savepoint_after h by parent id opened x below o u.0 a.0, olds xs o u.1 a.1)
 
 -- a savepoint that is given its id
-pub stood_sub : (base : Counters) (h : List Event) (by : By) (parent id unnamed unnamed' : ℕ) (opened named : List ℕ) (kept : List Kept) → IsLegal base h → MayCome base h (events.Sub by parent id) → last_of named ≡ Some parent → unnamed' + 1 ≡ unnamed →
-    Stood base h by.session by.command opened named unnamed kept → Stood base (h ++ events.Sub by parent id ∷ []) by.session by.command (opened ++ id ∷ []) (named ++ id ∷ []) unnamed' kept
-stood_sub base h by parent id unnamed unnamed' opened named kept legal may last u s =
+pub stood_sub : (base : Counters) (h : List Event) (by : By) (parent id unnamed unnamed' : ℕ) (opened named : List ℕ) (registered : List RegisteredSnapshot) → IsLegal base h → MayCome base h (events.Sub by parent id) → last_of named ≡ Some parent → unnamed' + 1 ≡ unnamed →
+    Stood base h by.session by.command opened named unnamed registered → Stood base (h ++ events.Sub by parent id ∷ []) by.session by.command (opened ++ id ∷ []) (named ++ id ∷ []) unnamed' registered
+stood_sub base h by parent id unnamed unnamed' opened named registered legal may last u s =
     let e : Event = events.Sub by parent id in
     let under : AreBelow id h = subst (λ t. AreBelow t h) (sym may.0.next) (legal_sound base h legal).below in
     let below : AllByRecursion (λ y. y < id) opened = subst (AllByRecursion (λ y. y < id)) s.opened_are (all_filter (λ y. y < id) (is_open h) _ (given_to_below id by.session h under)) in
@@ -202,7 +202,7 @@ stood_sub base h by parent id unnamed unnamed' opened named kept legal may last 
       depth = omega (arith, s.depth, length_push named id);
       turn = turn_push by h e refl s.turn;
       live = λ name. live_quiet base.next by.session name h e refl ∙ s.live name;
-      snaps = kept_grows base h (e ∷ []) by.session kept s.snaps;
+      snaps = kept_grows base h (e ∷ []) by.session registered s.snaps;
     }
 
 -- the ids in a savepoint that has an id are the open ones from it on
@@ -241,9 +241,9 @@ nest_undone h by opened (t ∷ ids) id l n =
     lefts (x ∷ xs) b a = (savepoint_left h by opened id x b.0 a.0, lefts xs b.1 a.1)
 
 -- the innermost savepoint is rolled back
-pub stood_undone : (base : Counters) (h : List Event) (by : By) (id unnamed : ℕ) (opened ids : List ℕ) (kept : List Kept) → 1 ≤ length ids →
-    Stood base h by.session by.command opened (ids ++ id ∷ []) unnamed kept → Stood base (h ++ events.Undo by id ∷ []) by.session by.command (filter (λ x. not (nat_le id x)) opened) ids unnamed kept
-stood_undone base h by id unnamed opened ids kept l s =
+pub stood_undone : (base : Counters) (h : List Event) (by : By) (id unnamed : ℕ) (opened ids : List ℕ) (registered : List RegisteredSnapshot) → 1 ≤ length ids →
+    Stood base h by.session by.command opened (ids ++ id ∷ []) unnamed registered → Stood base (h ++ events.Undo by id ∷ []) by.session by.command (filter (λ x. not (nat_le id x)) opened) ids unnamed registered
+stood_undone base h by id unnamed opened ids registered l s =
     let e : Event = events.Undo by id in
     record {
       opened_are = closing_open_ids by.session h e _ (closing_undo h by id) ∙ ap (filter (λ x. not (is_inside h id x))) s.opened_are ∙ outside_before h opened id (last_savepoint h opened ids id l s.nest);
@@ -252,7 +252,7 @@ stood_undone base h by id unnamed opened ids kept l s =
       depth = omega (arith, s.depth, length_push ids id);
       turn = turn_push by h e refl s.turn;
       live = λ name. live_quiet base.next by.session name h e refl ∙ s.live name;
-      snaps = kept_grows base h (e ∷ []) by.session kept s.snaps;
+      snaps = kept_grows base h (e ∷ []) by.session registered s.snaps;
     }
 
 -- the end of a transaction closes all that its session had open
@@ -276,9 +276,9 @@ end_lives first h by t ends.Commit = refl
 end_lives first h by t ends.Abort = refl
 
 -- a session's transaction ends
-pub stood_ended : (base : Counters) (h : List Event) (by : By) (t unnamed : ℕ) (rest opened named : List ℕ) (kept : List Kept) (how : XactEnd) → IsLegal base h → opened ≡ t ∷ rest → is_top h t ≡ true →
-    Stood base h by.session by.command opened named unnamed kept → Stood base (h ++ end_event how by t ∷ []) by.session by.command [] [] 0 kept
-stood_ended base h by t unnamed rest opened named kept how legal o is s =
+pub stood_ended : (base : Counters) (h : List Event) (by : By) (t unnamed : ℕ) (rest opened named : List ℕ) (registered : List RegisteredSnapshot) (how : XactEnd) → IsLegal base h → opened ≡ t ∷ rest → is_top h t ≡ true →
+    Stood base h by.session by.command opened named unnamed registered → Stood base (h ++ end_event how by t ∷ []) by.session by.command [] [] 0 registered
+stood_ended base h by t unnamed rest opened named registered how legal o is s =
     let e : Event = end_event how by t in
     record {
       opened_are = all_closed base h e by.session t rest legal (closing_end h by t how) (s.opened_are ∙ o) is;
@@ -287,7 +287,7 @@ stood_ended base h by t unnamed rest opened named kept how legal o is s =
       depth = omega arith;
       turn = turn_push by h e (end_by by t how) s.turn;
       live = λ name. live_quiet base.next by.session name h e (end_lives base.next h by t how) ∙ s.live name;
-      snaps = kept_grows base h (e ∷ []) by.session kept s.snaps;
+      snaps = kept_grows base h (e ∷ []) by.session registered s.snaps;
     }
 
 pub nest_taken : (h : List Event) (opened ids : List ℕ) (n : ℕ) → n + 1 ≡ length ids → 1 ≤ n → Nest h opened ids → Nest h opened (take n ids)

@@ -1,5 +1,5 @@
 -- A write, id by id.
-use Rattle.std.proofs.Common.{◌≡◌, ℕ, ◌≤◌, List, [], ◌∷◌, ◌++◌, length, map, None, refl, sym, ap, subst, ◌∙◌, arith, append-nil, append_assoc, Bool, false, ◌||◌, ◌↔◌, IsTrue}
+use Rattle.std.proofs.Common.{◌≡◌, ℕ, ◌≤◌, List, [], ◌∷◌, ◌++◌, length, map, None, refl, sym, ap, subst, ◌∙◌, arith, append-nil, append_assoc, length-append, Bool, false, ◌||◌, ◌↔◌, IsTrue}
 use Rattle.tx_events.specs.declared.event.By.{By}
 use Rattle.tx_model.specs.declared.command.Command.TheVariants as commands
 use Rattle.tx_model.specs.declared.reply.Reply.TheVariants as replies
@@ -26,7 +26,7 @@ writing_none w by s r = record {
   events = sym (ap (λ t. w.table.events ++ t) (levels_none by None s.named.items s.unnamed) ∙ append-nil w.table.events);
   named = sym (append-nil s.named.items);
   left = omega arith;
-  kept = refl;
+  registered = refl;
   count = refl;
   warned = not_warned w.table.base by w.table.events r.fresh;
 }
@@ -48,7 +48,7 @@ writing_step w w1 w2 by s s1 s2 ids id warn late k g n st =
           ∙ ap (λ t. w.table.events ++ t) (sym (level_step by s.named.items ids id s.unnamed (omega (arith, k.left, n.unnamed))));
       named = n.named ∙ ap (λ l. l ++ id ∷ []) k.named ∙ append_assoc s.named.items ids (id ∷ []);
       left = omega (arith, k.left, n.unnamed, length_push ids id);
-      kept = n.kept ∙ k.kept;
+      registered = n.registered ∙ k.registered;
       count = n.count ∙ k.count;
       warned = subst (λ h. IsTrue (warn || late) ↔ IsWarned w.table.base h by) (sym g.event) (warned_push w.table.base by w1.table.events (last_of s1.named.items) id warn late k.warned limit);
     }
@@ -56,12 +56,12 @@ writing_step w w1 w2 by s s1 s2 ids id warn late k g n st =
 -- all ids are given
 pub written : (w w1 : Shared) (by : By) (s s1 : Session) (ids : List ℕ) (warn : Bool) → 1 ≤ length (levels_of s.named.items s.unnamed) → s1.unnamed ≡ 0 → Writing w w1 by s s1 ids warn → ActsOn w w1 by s s1 commands.Write (replies.Wrote ids warn)
 written w w1 by s s1 ids warn some done k =
-    rw (k.named, k.kept, done)
-    (acts_wrote w.table.base by w.table.events w1.table.events s.named.items ids s.unnamed (map told_of s.kept.items) warn some (omega (arith, k.left)) k.events k.warned)
+    rw (k.named, k.registered, done)
+    (acts_wrote w.table.base by w.table.events w1.table.events s.named.items ids s.unnamed (map told_of s.registered.items) warn some (omega (arith, k.left)) k.events k.warned)
 
 -- the stop limit is reached
 pub stopped : (w w1 w2 : Shared) (by : By) (s s1 s2 : Session) (ids : List ℕ) (warn : Bool) (next stop : ℕ) → 1 ≤ s1.unnamed → Writing w w1 by s s1 ids warn → IsStopAt w1 w2 next stop → IsUnchanged s1 s2 → ActsOn w w2 by s s2 commands.Write (replies.Refused (refusals.Stop next stop))
 stopped w w1 w2 by s s1 s2 ids warn next stop some k g u =
-    rw (g.events, u.named, u.kept, u.unnamed, k.named, k.kept)
-    (acts_stopped w.table.base by w.table.events w1.table.events s.named.items ids s.unnamed s1.unnamed next stop (map told_of s.kept.items) k.left some k.events
-    (is_stopped w.table.base by w1.table.events next stop k.stands.turn (g.next_is ∙ ap (λ b. next_given b.next w1.table.events) k.round.base) (g.stop_is ∙ ap (λ b. stop_limit (oldest_id b.oldest w1.table.events)) k.round.base) g.reached))
+    rw (g.events, u.named, u.registered, u.unnamed, k.named, k.registered)
+    (acts_stopped w.table.base by w.table.events w1.table.events s.named.items ids s.unnamed s1.unnamed next stop (map told_of s.registered.items) k.left some k.events
+    (is_stopped w.table.base by w.table.events w1.table.events next stop (omega (arith, ap length k.events, length-append w.table.events (level_events by None (levels_of s.named.items s.unnamed) ids))) k.stands.turn (g.next_is ∙ ap (λ b. next_given b.next w1.table.events) k.round.base) (g.stop_is ∙ ap (λ b. stop_limit (oldest_id b.oldest w1.table.events)) k.round.base) g.reached))

@@ -12,7 +12,7 @@ use Rattle.tx_model.specs.declared.reply.Reply.{Reply}
 use Rattle.tx_events.specs.Events.{by_of, given, is_of}
 use Rattle.tx_model.specs.Stance.{Stance, after}
 use Rattle.tx_model.specs.CommandEvents.{HasEvents}
-use Rattle.tx_model.specs.Replies.{MayReply}
+use Rattle.tx_model.specs.Replies.{MayReply, alone}
 use Rattle.session_run.specs.declared.session.Session.{Session}
 use Rattle.session_run.specs.declared.shared.Shared.{Shared}
 use Rattle.session_run.specs.Sound.{IsSound, HasRoom}
@@ -24,7 +24,7 @@ pub record Acts (base : Counters) (by : By) (s s' : Stance) (command : Command) 
   pub grown : h' ≡ h ++ added
   pub own : AllByRecursion (λ e. by_of e ≡ by) added
   pub fitting : HasEvents by s command reply added
-  pub allowed : MayReply base [] h' by s command reply
+  pub allowed : MayReply base [] h' (alone h h') by s command reply
   pub left : after s by.command command reply (given added) ≡ s'
 
 abbrev pub end_command : XactEnd → Command

@@ -70,13 +70,13 @@ last_of ids = fold (λ _ id. Some id) None ids
 pub record IsNamed (s s' : Session) (id : ℕ) : Type 0 where
   pub named : s'.named.items ≡ s.named.items ++ id ∷ []
   pub unnamed : s'.unnamed + 1 ≡ s.unnamed
-  pub kept : s'.kept.items ≡ s.kept.items
+  pub registered : s'.registered.items ≡ s.registered.items
   pub count : s'.commands ≡ s.commands
 
 pub record IsUnchanged (s s' : Session) : Type 0 where
   pub named : s'.named.items ≡ s.named.items
   pub unnamed : s'.unnamed ≡ s.unnamed
-  pub kept : s'.kept.items ≡ s.kept.items
+  pub registered : s'.registered.items ≡ s.registered.items
   pub count : s'.commands ≡ s.commands
 
 abbrev pub Names : Shared → Shared → By → Session → Session → NewId → Type 0
@@ -91,6 +91,6 @@ pub record Writing (w w' : Shared) (by : By) (s s' : Session) (ids : List ℕ) (
   pub events : w'.table.events ≡ w.table.events ++ level_events by None (levels_of s.named.items s.unnamed) ids
   pub named : s'.named.items ≡ s.named.items ++ ids
   pub left : s.unnamed ≡ length ids + s'.unnamed
-  pub kept : s'.kept.items ≡ s.kept.items
+  pub registered : s'.registered.items ≡ s.registered.items
   pub count : s'.commands ≡ s.commands
   pub warned : IsTrue warn ↔ IsWarned w.table.base w'.table.events by

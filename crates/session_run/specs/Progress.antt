@@ -1,15 +1,14 @@
 -- A life in the middle of its rounds.
-use Rattle.std.specs.Prelude.{◌≡◌, ℕ, ◌+◌, ◌<◌, ◌≤◌, ◌^◌, Bool, false, IsTrue, List, [], ◌∷◌, ◌++◌, Some, slice_get, take, length}
-use Rattle.std.specs.List.{All, AllByRecursion, count_by, flat_map, list_any}
+use Rattle.std.specs.Prelude.{◌≡◌, ℕ, ◌+◌, ◌<◌, ◌≤◌, ◌^◌, false, List, [], ◌∷◌, ◌++◌, Some, slice_get, length}
+use Rattle.std.specs.List.{AllByRecursion, count_by, flat_map}
 use Rattle.tx_model.specs.declared.command.Command.{Command}
 use Rattle.tx_events.specs.declared.event.Event.{Event}
 use Rattle.tx_events.specs.declared.record.Counters.{Counters}
 use Rattle.tx_events.specs.declared.record.Rec.TheVariants as records
 use Rattle.tx_model.specs.declared.report.Line.{Line}
 use Rattle.tx_model.specs.declared.report.Step.{Step}
-use Rattle.tx_events.specs.Events.{by_of, same_by}
 use Rattle.tx_model.specs.LawfulLife.{lines_in}
-use Rattle.tx_model.specs.Lines.{AreLawfulLines, AreLinesOf, stance, is_line_of}
+use Rattle.tx_model.specs.Lines.{AreLawfulLines, AreLinesOf, has_line, stance, is_line_of}
 use Rattle.proc_table.specs.Table.{page_of}
 use Rattle.report_text.specs.ReportText.{command_line, front_text, step_text}
 use Rattle.session_run.specs.declared.life.OpenLife.{OpenLife}
@@ -66,17 +65,13 @@ pub record GoesOn (life : OpenLife) : Type 0 where
 
 -- the session has done nothing yet
 abbrev pub IsFresh : Session → Type 0
-IsFresh s = (s.commands ≡ 0) × (s.named.items ≡ []) × (s.unnamed ≡ 0) × (s.opened.items ≡ []) × (s.kept.items ≡ [])
+IsFresh s = (s.commands ≡ 0) × (s.named.items ≡ []) × (s.unnamed ≡ 0) × (s.opened.items ≡ []) × (s.registered.items ≡ [])
 
 -- nothing has happened yet, and the log has the checkpoint of the base
 pub record IsNew (base : Counters) (sessions : ℕ) (w : Shared) : Type 0 where
   pub table : w.table ≡ record { base = base; sessions = sessions; initialised_up_to = page_of base.next; events = [] }
   pub recs : w.log.recs ≡ records.Checkpoint 0 base ∷ []
   pub states : w.states.items ≡ []
-
--- the event is of one of these lines
-abbrev pub has_line : List Line → Event → Bool
-has_line lines e = list_any (λ l. same_by l.by (by_of e)) lines
 
 -- the life went on: it has more lines, and more events, none of an earlier line
 pub record Continues (life life' : OpenLife) : Type 0 where
@@ -87,18 +82,6 @@ pub record Continues (life life' : OpenLife) : Type 0 where
   pub added : List Event
   pub grown : life'.shared.table.events ≡ life.shared.table.events ++ added
   pub new : AllByRecursion (λ e. has_line (lines_of life) e ≡ false) added
-
--- the events of these lines stand before all others
-pub record StandFirst (h : List Event) (lines : List Line) : Type 0 where
-  pub first : List Event
-  pub behind : List Event
-  pub split : h ≡ first ++ behind
-  pub theirs : All (λ e. IsTrue (has_line lines e)) first
-  pub others : All (λ e. has_line lines e ≡ false) behind
-
--- the events of each round stand before those of the rounds behind it
-abbrev pub AreInTurn : List Event → List Step → Type 0
-AreInTurn h steps = (n : ℕ) → StandFirst h (flat_map lines_in (take n steps))
 
 -- the steps are these and then a round of these commands, where there are any
 abbrev pub AddsRound : List Step → List (ℕ × Command) → List Step → Type 0

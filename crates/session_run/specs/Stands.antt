@@ -13,7 +13,7 @@ use Rattle.tx_events.specs.Running.{open_ids}
 use Rattle.tx_events.specs.Savepoints.{is_inside}
 use Rattle.tx_events.specs.Snapshots.{snapshot_data}
 use Rattle.tx_model.specs.Stance.{Stance}
-use Rattle.session_run.specs.declared.session.Kept.{Kept}
+use Rattle.session_run.specs.declared.session.RegisteredSnapshot.{RegisteredSnapshot}
 use Rattle.session_run.specs.declared.session.Session.{Session}
 
 -- so many levels without an id
@@ -25,15 +25,15 @@ nameless (suc n) = None ∷ nameless n
 abbrev pub levels_of : List ℕ → ℕ → List (Option ℕ)
 levels_of named unnamed = map (λ id. Some id) named ++ nameless unnamed
 
-abbrev pub told_of : Kept → List ℕ × ℕ
+abbrev pub told_of : RegisteredSnapshot → List ℕ × ℕ
 told_of k = (k.name, k.command)
 
 -- the session as its lines leave it
 abbrev pub stance_of : Session → Stance
-stance_of s = record { levels = levels_of s.named.items s.unnamed; snaps = map told_of s.kept.items }
+stance_of s = record { levels = levels_of s.named.items s.unnamed; snaps = map told_of s.registered.items }
 
 -- the snapshot was taken at its place
-pub record IsKept (base : Counters) (h : List Event) (session : ℕ) (k : Kept) : Type 0 where
+pub record IsRegistered (base : Counters) (h : List Event) (session : ℕ) (k : RegisteredSnapshot) : Type 0 where
   pub taken : slice_get h k.place ≡ Some (events.Snap (record { session = session; command = k.command }) k.name)
   pub holds : k.snapshot ≡ snapshot_data base.next (take k.place h)
 
@@ -53,5 +53,5 @@ pub record Stands (base : Counters) (h : List Event) (session number : ℕ) (s :
   pub nest : Nest h s.opened.items s.named.items
   pub depth : length s.named.items + s.unnamed ≤ most_levels
   pub turn : AllByRecursion (λ e. (by_of e).command ≤ number) (filter (is_of session) h)
-  pub live : (name : List ℕ) → is_live base.next session name h ≡ list_any (λ k. same_name k.name name) s.kept.items
-  pub snaps : AllByRecursion (IsKept base h session) s.kept.items
+  pub live : (name : List ℕ) → is_live base.next session name h ≡ list_any (λ k. same_name k.name name) s.registered.items
+  pub snaps : AllByRecursion (IsRegistered base h session) s.registered.items

@@ -1,14 +1,13 @@
 -- What a run of the tool says.
-use Rattle.std.specs.Prelude.{◌≡◌, ℕ, ◌<◌, ◌⊎◌, List, [], ◌∷◌, ◌++◌, Option, None, take, length, codes, Contains}
+use Rattle.std.specs.Prelude.{◌≡◌, ℕ, ◌<◌, ◌≤◌, ◌⊎◌, List, [], ◌∷◌, ◌++◌, Option, None, take, length, codes, Contains}
 use Rattle.std.specs.Io.KnownBytes.{Consumes, Appends, IsAtEnd}
 use Rattle.tx_model.specs.declared.report.Report.{Report}
 use Rattle.tx_model.specs.declared.report.LifeReport.{LifeReport}
-use Rattle.tx_model.specs.LawfulLife.{IsLawfulLife}
+use Rattle.tx_model.specs.LawfulLife.{BeginsLog, IsLawfulLife}
 use Rattle.session_lang.specs.declared.script.Script.{Script}
 use Rattle.report_text.specs.ReportText.{report_text}
 use Rattle.session_lang.specs.Rounds.{rounds_of}
 use Rattle.session_lang.specs.Script.{IsScript}
-use Rattle.session_run.specs.Progress.{AreInTurn}
 
 -- the report of a run of the script over a new log: one life, from the script's counters, round by round
 pub record IsReportOf (s : Script) (r : Report) : Type 0 where
@@ -16,11 +15,18 @@ pub record IsReportOf (s : Script) (r : Report) : Type 0 where
   pub life : LifeReport
   pub one : r.lives ≡ life ∷ []
   pub last : life.crash ≡ None
-  pub first : life.life.from ≡ 0
-  pub base : life.life.base ≡ s.base
-  pub nothing_before : life.life.committed ≡ []
+  pub begins : BeginsLog s.base life.life
   pub lawful : IsLawfulLife (rounds_of s.items) life
-  pub in_turn : AreInTurn life.life.events life.steps
+
+-- the most bytes that a run reads: one past the limit of a script
+abbrev pub most_read : ℕ
+most_read = 16777217
+
+-- at most so many bytes were read
+pub record ReadsUpTo (most : ℕ) (left left' : Option (List ℕ)) : Type 0 where
+  pub bytes : List ℕ
+  pub read : Consumes left left' bytes
+  pub few : length bytes ≤ most
 
 -- the one list of words that is accepted
 abbrev pub IsRun : List (List ℕ) → Type 0

@@ -1,3 +1,4 @@
+//! The ends: of a savepoint (`undo`) and of a transaction (`commit`, `abort`).
 ghost use Rattle.std.specs.Prelude.{◌≡◌, ℕ, ◌+◌, ◌<◌, ◌≤◌, not, nat_le, take, drop, length, List, [], ◌∷◌, OnOk, IfOk, true};
 ghost use Rattle.std.specs.List.{filter};
 ghost use Rattle.tx_events.specs.Families.{is_top};

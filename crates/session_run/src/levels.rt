@@ -1,3 +1,4 @@
+//! The levels of a session's transaction: itself and its open savepoints.
 ghost use Rattle.std.specs.Prelude.{◌≡◌, ℕ, ◌+◌, ◌≤◌, ◌<◌, List, [], length};
 ghost use Rattle.tx_events.specs.declared.event.Event.{Event};
 ghost use Rattle.tx_events.specs.declared.event.By.{By};
@@ -65,7 +66,7 @@ pub fn save(session: &mut Session) -> Reply
 fn close_level(session: &mut Session)
     requires some { 2 ≤ length (levels_of session.old.named.items session.old.unnamed) }
     ensures closed { levels_of session.new.named.items session.new.unnamed ≡ without_last (levels_of session.old.named.items session.old.unnamed) }
-    ensures kept { session.new.kept.items ≡ session.old.kept.items }
+    ensures registered { session.new.registered.items ≡ session.old.registered.items }
     ensures stands { (base : Counters) (h : List Event) (s n : ℕ) → Stands base h s n session.old → Stands base h s n session.new }
     ensures count { session.new.commands ≡ session.old.commands }
 {

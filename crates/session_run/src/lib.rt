@@ -1,4 +1,5 @@
-//! Runs the sessions of a script over a new log, and the tool's top call.
+//! Runs the sessions of a script over a new log, and the tool's top call. See `docs/GUARANTEES.md` and
+//! `docs/SCRIPT-AND-REPORT.md`.
 #![tactic(auto)]
 
 mod ends;
@@ -17,11 +18,13 @@ mod tool;
 mod writes;
 
 pub use run::run_script;
-pub use tool::run_tool;
+pub use tool::{run_tool, say_out_of_memory};
 
 #[cfg(test)]
 mod command_tests;
 #[cfg(test)]
 mod round_tests;
+#[cfg(test)]
+mod test_help;
 #[cfg(test)]
 mod tests;

@@ -1,3 +1,4 @@
+//! A life that runs: how it begins, and what it leaves.
 ghost use Rattle.std.specs.Prelude.{◌≡◌, ◌≤◌, [], IfOk, length};
 ghost use Rattle.std.specs.List.{All};
 ghost use Rattle.tx_events.specs.Base.{IsBase};
@@ -86,6 +87,7 @@ impl OpenLife {
         ensures from { result.0.from ≡ 0 }
         ensures base { result.0.base ≡ self.shared.table.base }
         ensures committed { result.0.committed ≡ [] }
+        ensures recorded { result.0.recorded ≡ [] }
         ensures events { result.0.events ≡ self.shared.table.events }
         ensures multis { result.0.multis ≡ [] }
         ensures recs { result.0.recs ≡ self.shared.log.recs }

@@ -1,3 +1,4 @@
+//! The log of a run: its records in memory, and the numbers that its format would give.
 ghost use Rattle.std.specs.Prelude.{◌≡◌, ℕ, ◌+◌, ◌*◌, ◌^◌, ◌<◌, ◌≤◌, List, [], ◌∷◌, ◌++◌, OnOk, OnErr, take, drop, length};
 ghost use Rattle.tx_events.specs.RecordSize.{record_size, records_size};
 ghost use Rattle.tx_model.specs.LifeLog.{AreFlushed, batches_size, is_flushed_at_once};

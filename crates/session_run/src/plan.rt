@@ -1,3 +1,4 @@
+//! Which commands of a round are whose.
 ghost use Rattle.std.specs.Prelude.{◌≡◌, ◌==◌, ℕ, ◌<◌, List, [], ◌∷◌, ◌++◌, cond, IfOk, OnOk, set, get_or, length};
 ghost use Rattle.std.specs.List.{All};
 ghost use Rattle.session_lang.specs.Rounds.{session_of};

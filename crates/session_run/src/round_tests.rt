@@ -1,17 +1,7 @@
-use crate::tests::{reports, run};
+//! Rounds, limits, and commands many times over.
+use crate::test_help::report_of;
 use std::alloc::Global;
-use std::str;
 use std::test::Fail;
-
-/// Whether a run of the script answers 0 and its report holds this text.
-fn says(alloc: Global, script: &str, wanted: &str) -> Result<bool, Fail> {
-    let (status, held) = run(alloc, "run", script, Vec::new(alloc), 100_000)?;
-    let found = match str::from_utf8(held.as_slice()) {
-        Ok(text) => text.contains(wanted),
-        Err(_) => false,
-    };
-    Ok(status == 0 && found)
-}
 
 /// A line so many times, between two texts.
 fn repeated(alloc: Global, head: &str, line: &str, count: u32, tail: &str) -> Result<String, Fail> {
@@ -25,85 +15,279 @@ fn repeated(alloc: Global, head: &str, line: &str, count: u32, tail: &str) -> Re
 
 #[test]
 fn undone_savepoint_is_hidden(rt: HostRuntime) -> Result<(), Fail> {
-    let same = reports(
+    let report = report_of(
         &rt,
-        "a begin\na write\na save\na write\na undo\na save\na write\na commit\na snap s\na see s 4\na see s 5\n",
-        "round 1\na 1 begin -> ok\na 2 write -> ok 3\na 3 save -> ok\na 4 write -> ok 4\na 5 undo -> ok\na 6 save -> ok\na 7 write -> ok 5\na 8 commit -> ok\na 9 snap s -> ok xmin 6 xmax 6 xip - sub - overflow no\na 10 see s 4 -> hidden\na 11 see s 5 -> visible\nhistory\nid a 2 3\nsub a 4 3 4\nundo a 5 4\nsub a 7 3 5\ncommit a 8 3\nsnap a 9 s\nmultis\n",
-        "log flushed 2 end 88\n",
-        "1 commit 3 5\n",
+        "a begin
+a write
+a save
+a write
+a undo
+a save
+a write
+a commit
+a snap s
+a see s 4
+a see s 5
+",
     )?;
-    assert!(rt; same);
+    assert_eq!(rt;
+        report.as_str(),
+        "txid report 1
+life 1 from 0 next 3 oldest 3 multi 1 offset 1 oldest-multi 1 oldest-offset 1
+round 1
+a 1 begin -> ok
+a 2 write -> ok 3
+a 3 save -> ok
+a 4 write -> ok 4
+a 5 undo -> ok
+a 6 save -> ok
+a 7 write -> ok 5
+a 8 commit -> ok
+a 9 snap s -> ok xmin 6 xmax 6 xip - sub - overflow no
+a 10 see s 4 -> hidden
+a 11 see s 5 -> visible
+history
+id a 2 3
+sub a 4 3 4
+undo a 5 4
+sub a 7 3 5
+commit a 8 3
+snap a 9 s
+multis
+log flushed 2 end 88
+0 checkpoint next 3 oldest 3 multi 1 offset 1 oldest-multi 1 oldest-offset 1
+1 commit 3 5
+end
+"
+    );
     Ok(())
 }
 
 #[test]
 fn xmax_past_running_top(rt: HostRuntime) -> Result<(), Fail> {
-    let same = reports(
+    let report = report_of(
         &rt,
-        "a begin\na write\n.round\nc begin\nc write\nc commit\n.round\na snap s\na commit\na see s 3\n",
-        "round 1\na 1 begin -> ok\na 2 write -> ok 3\nround 2\nc 1 begin -> ok\nc 2 write -> ok 4\nc 3 commit -> ok\nround 3\na 3 snap s -> ok xmin 3 xmax 5 xip 3 sub - overflow no\na 4 commit -> ok\na 5 see s 3 -> hidden\nhistory\nid a 2 3\nid c 2 4\ncommit c 3 4\nsnap a 3 s\ncommit a 4 3\nmultis\n",
-        "log flushed 3 end 98\n",
-        "1 commit 4\n2 commit 3\n",
+        "a begin
+a write
+.round
+c begin
+c write
+c commit
+.round
+a snap s
+a commit
+a see s 3
+",
     )?;
-    assert!(rt; same);
+    assert_eq!(rt;
+        report.as_str(),
+        "txid report 1
+life 1 from 0 next 3 oldest 3 multi 1 offset 1 oldest-multi 1 oldest-offset 1
+round 1
+a 1 begin -> ok
+a 2 write -> ok 3
+round 2
+c 1 begin -> ok
+c 2 write -> ok 4
+c 3 commit -> ok
+round 3
+a 3 snap s -> ok xmin 3 xmax 5 xip 3 sub - overflow no
+a 4 commit -> ok
+a 5 see s 3 -> hidden
+history
+id a 2 3
+id c 2 4
+commit c 3 4
+snap a 3 s
+commit a 4 3
+multis
+log flushed 3 end 98
+0 checkpoint next 3 oldest 3 multi 1 offset 1 oldest-multi 1 oldest-offset 1
+1 commit 4
+2 commit 3
+end
+"
+    );
     Ok(())
 }
 
 #[test]
 fn every_session_refusal(rt: HostRuntime) -> Result<(), Fail> {
-    let same = reports(
+    let report = report_of(
         &rt,
-        "a commit\na undo\na begin\na begin\na release\na see s 3\na drop s\na snap s\na snap s\na drop s\na drop s\na undo\na save\na undo\na undo\na abort\na abort\n",
-        "round 1\na 1 commit -> no-transaction\na 2 undo -> no-savepoint\na 3 begin -> ok\na 4 begin -> already-open\na 5 release -> no-savepoint\na 6 see s 3 -> no-snapshot\na 7 drop s -> no-snapshot\na 8 snap s -> ok xmin 3 xmax 3 xip - sub - overflow no\na 9 snap s -> name-taken\na 10 drop s -> ok\na 11 drop s -> no-snapshot\na 12 undo -> no-savepoint\na 13 save -> ok\na 14 undo -> ok\na 15 undo -> no-savepoint\na 16 abort -> ok\na 17 abort -> no-transaction\nhistory\nsnap a 8 s\ndrop a 10 s\nmultis\n",
-        "log flushed 1 end 62\n",
-        "",
+        "a commit
+a undo
+a begin
+a begin
+a release
+a see s 3
+a drop s
+a snap s
+a snap s
+a drop s
+a drop s
+a undo
+a save
+a undo
+a undo
+a abort
+a abort
+",
     )?;
-    assert!(rt; same);
+    assert_eq!(rt;
+        report.as_str(),
+        "txid report 1
+life 1 from 0 next 3 oldest 3 multi 1 offset 1 oldest-multi 1 oldest-offset 1
+round 1
+a 1 commit -> no-transaction
+a 2 undo -> no-savepoint
+a 3 begin -> ok
+a 4 begin -> already-open
+a 5 release -> no-savepoint
+a 6 see s 3 -> no-snapshot
+a 7 drop s -> no-snapshot
+a 8 snap s -> ok xmin 3 xmax 3 xip - sub - overflow no
+a 9 snap s -> name-taken
+a 10 drop s -> ok
+a 11 drop s -> no-snapshot
+a 12 undo -> no-savepoint
+a 13 save -> ok
+a 14 undo -> ok
+a 15 undo -> no-savepoint
+a 16 abort -> ok
+a 17 abort -> no-transaction
+history
+snap a 8 s
+drop a 10 s
+multis
+log flushed 1 end 62
+0 checkpoint next 3 oldest 3 multi 1 offset 1 oldest-multi 1 oldest-offset 1
+end
+"
+    );
     Ok(())
 }
 
 /// A round takes its sessions in the order in which they first appear there, and an empty one isn't told.
 #[test]
 fn rounds_have_orders_of_their_own(rt: HostRuntime) -> Result<(), Fail> {
-    let found = says(
-        rt.alloc(),
-        ".round\na begin\nb begin\n.round\n.round\nb write\na write\nb commit\n.round\n",
-        "\nround 1\na 1 begin -> ok\nb 1 begin -> ok\nround 2\nb 2 write -> ok 3\nb 3 commit -> ok\na 2 write -> ok 4\nhistory\n",
+    let report = report_of(
+        &rt,
+        ".round
+a begin
+b begin
+.round
+.round
+b write
+a write
+b commit
+.round
+",
     )?;
-    assert!(rt; found);
+    assert!(rt;
+        report.contains(
+            "
+round 1
+a 1 begin -> ok
+b 1 begin -> ok
+round 2
+b 2 write -> ok 3
+b 3 commit -> ok
+a 2 write -> ok 4
+history
+"
+        )
+    );
     Ok(())
 }
 
 #[test]
 fn ids_wrap_around(rt: HostRuntime) -> Result<(), Fail> {
-    let found = says(
-        rt.alloc(),
-        ".start 4294967294\n.oldest 4294967290\na begin\na write\na commit\na begin\na write\na commit\na begin\na write\na commit\na snap s\na see s 3\na see s 4294967295\n",
-        "life 1 from 0 next 4294967294 oldest 4294967290 multi 1 offset 1 oldest-multi 1 oldest-offset 1\nround 1\na 1 begin -> ok\na 2 write -> ok 4294967294\na 3 commit -> ok\na 4 begin -> ok\na 5 write -> ok 4294967295\na 6 commit -> ok\na 7 begin -> ok\na 8 write -> ok 4294967299\na 9 commit -> ok\na 10 snap s -> ok xmin 4294967300 xmax 4294967300 xip - sub - overflow no\na 11 see s 3 -> visible\na 12 see s 4294967295 -> visible\n",
+    let report = report_of(
+        &rt,
+        ".start 4294967294
+.oldest 4294967290
+a begin
+a write
+a commit
+a begin
+a write
+a commit
+a begin
+a write
+a commit
+a snap s
+a see s 3
+a see s 4294967295
+",
     )?;
-    assert!(rt; found);
+    assert!(rt;
+        report.contains(
+            "life 1 from 0 next 4294967294 oldest 4294967290 multi 1 offset 1 oldest-multi 1 oldest-offset 1
+round 1
+a 1 begin -> ok
+a 2 write -> ok 4294967294
+a 3 commit -> ok
+a 4 begin -> ok
+a 5 write -> ok 4294967295
+a 6 commit -> ok
+a 7 begin -> ok
+a 8 write -> ok 4294967299
+a 9 commit -> ok
+a 10 snap s -> ok xmin 4294967300 xmax 4294967300 xip - sub - overflow no
+a 11 see s 3 -> visible
+a 12 see s 4294967295 -> visible
+"
+        )
+    );
     Ok(())
 }
 
 #[test]
 fn id_warn_limit(rt: HostRuntime) -> Result<(), Fail> {
-    let found = says(
-        rt.alloc(),
-        ".start 2107483649\na begin\na write\na commit\na begin\na write\n",
-        "a 2 write -> ok 2107483649\na 3 commit -> ok\na 4 begin -> ok\na 5 write -> ok 2107483650 warn\n",
+    let report = report_of(
+        &rt,
+        ".start 2107483649
+a begin
+a write
+a commit
+a begin
+a write
+",
     )?;
-    assert!(rt; found);
+    assert!(rt;
+        report.contains(
+            "a 2 write -> ok 2107483649
+a 3 commit -> ok
+a 4 begin -> ok
+a 5 write -> ok 2107483650 warn
+"
+        )
+    );
     Ok(())
 }
 
 #[test]
 fn id_stop_limit(rt: HostRuntime) -> Result<(), Fail> {
-    let found = says(
-        rt.alloc(),
-        ".start 2144483649\na begin\na write\na commit\na begin\na write\n",
-        "a 2 write -> ok 2144483649 warn\na 3 commit -> ok\na 4 begin -> ok\na 5 write -> stop 2144483650 2144483650\n",
+    let report = report_of(
+        &rt,
+        ".start 2144483649
+a begin
+a write
+a commit
+a begin
+a write
+",
     )?;
-    assert!(rt; found);
+    assert!(rt;
+        report.contains(
+            "a 2 write -> ok 2144483649 warn
+a 3 commit -> ok
+a 4 begin -> ok
+a 5 write -> stop 2144483650 2144483650
+"
+        )
+    );
     Ok(())
 }
 
@@ -111,12 +295,14 @@ fn id_stop_limit(rt: HostRuntime) -> Result<(), Fail> {
 fn savepoint_1001_is_refused(rt: HostRuntime) -> Result<(), Fail> {
     let alloc = rt.alloc();
     let script = repeated(alloc, "a begin\n", "a save\n", 1_001, "")?;
-    let found = says(
-        alloc,
-        script.as_str(),
-        "a 1001 save -> ok\na 1002 save -> depth-limit\n",
-    )?;
-    assert!(rt; found);
+    let report = report_of(&rt, script.as_str())?;
+    assert!(rt;
+        report.contains(
+            "a 1001 save -> ok
+a 1002 save -> depth-limit
+"
+        )
+    );
     Ok(())
 }
 
@@ -139,12 +325,15 @@ fn snapshot_65_is_refused(rt: HostRuntime) -> Result<(), Fail> {
         push_snaps(&mut script, front)?;
     }
     script.push_str("a snap t\na drop sss7\na snap t\n")?;
-    let found = says(
-        alloc,
-        script.as_str(),
-        "a 65 snap t -> snap-limit\na 66 drop sss7 -> ok\na 67 snap t -> ok xmin 3 xmax 3 xip - sub - overflow no\n",
-    )?;
-    assert!(rt; found);
+    let report = report_of(&rt, script.as_str())?;
+    assert!(rt;
+        report.contains(
+            "a 65 snap t -> snap-limit
+a 66 drop sss7 -> ok
+a 67 snap t -> ok xmin 3 xmax 3 xip - sub - overflow no
+"
+        )
+    );
     Ok(())
 }
 
@@ -157,15 +346,59 @@ fn snapshot_overflows_at_65_subids(rt: HostRuntime) -> Result<(), Fail> {
         "a begin\n",
         "a save\n",
         64,
-        "a write\n.round\nc begin\nc write\nc commit\n.round\nb snap s\n.round\na save\na write\n.round\nc begin\nc write\nc commit\n.round\nb snap t\nb see s 67\nb see t 67\nb see t 69\nb see s 68\nb see t 68\n.round\na commit\n.round\nb see t 67\nb snap u\nb see u 67\n",
+        "a write
+.round
+c begin
+c write
+c commit
+.round
+b snap s
+.round
+a save
+a write
+.round
+c begin
+c write
+c commit
+.round
+b snap t
+b see s 67
+b see t 67
+b see t 69
+b see s 68
+b see t 68
+.round
+a commit
+.round
+b see t 67
+b snap u
+b see u 67
+",
     )?;
-    let listed = says(alloc, script.as_str(), " 65 66 67 overflow no\nround 4\n")?;
-    assert!(rt; listed);
-    let asked = says(
-        alloc,
-        script.as_str(),
-        "b 2 snap t -> ok xmin 3 xmax 71 xip 3 sub - overflow yes\nb 3 see s 67 -> hidden\nb 4 see t 67 -> hidden\nb 5 see t 69 -> hidden\nb 6 see s 68 -> visible\nb 7 see t 68 -> visible\nround 7\na 69 commit -> ok\nround 8\nb 8 see t 67 -> hidden\nb 9 snap u -> ok xmin 71 xmax 71 xip - sub - overflow no\nb 10 see u 67 -> visible\n",
-    )?;
-    assert!(rt; asked);
+    let report = report_of(&rt, script.as_str())?;
+    assert!(rt;
+        report.contains(
+            " 65 66 67 overflow no
+round 4
+"
+        )
+    );
+    assert!(rt;
+        report.contains(
+            "b 2 snap t -> ok xmin 3 xmax 71 xip 3 sub - overflow yes
+b 3 see s 67 -> hidden
+b 4 see t 67 -> hidden
+b 5 see t 69 -> hidden
+b 6 see s 68 -> visible
+b 7 see t 68 -> visible
+round 7
+a 69 commit -> ok
+round 8
+b 8 see t 67 -> hidden
+b 9 snap u -> ok xmin 71 xmax 71 xip - sub - overflow no
+b 10 see u 67 -> visible
+"
+        )
+    );
     Ok(())
 }

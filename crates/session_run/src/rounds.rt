@@ -1,6 +1,7 @@
+//! Runs the rounds of a script: session by session, command by command, each line printed as it comes.
 ghost use Rattle.std.specs.Prelude.{◌≡◌, ℕ, ◌+◌, ◌^◌, ◌<◌, ◌≤◌, List, [], ◌∷◌, ◌++◌, IfNone, IfOk, IfSome, OnOk, Some, map, length, slice_get};
 ghost use Rattle.std.specs.List.{All, flat_map};
-ghost use Rattle.tx_model.specs.LawfulLife.{AreRounds};
+ghost use Rattle.tx_model.specs.LawfulLife.{AreInTurn, AreRounds};
 ghost use Rattle.tx_model.specs.Lines.{turn_of};
 ghost use Rattle.session_lang.specs.declared.script.Item.TheVariants as items;
 ghost use Rattle.session_lang.specs.Rounds.{rounds_of, turns_of};
@@ -8,7 +9,7 @@ ghost use Rattle.session_lang.specs.Script.{IsRead};
 ghost use Rattle.session_run.specs.declared.session.Session.{Session};
 ghost use Rattle.session_run.specs.Acts.{IsSoundAt};
 ghost use Rattle.session_run.specs.Plans.{HasPlaces, IsBlank, IsPlanOf, turns_at};
-ghost use Rattle.session_run.specs.Progress.{AddsRound, AreInTurn, Continues, GoesOn, IsTold, MayAdd, Ran, Tells, lines_of};
+ghost use Rattle.session_run.specs.Progress.{AddsRound, Continues, GoesOn, IsTold, MayAdd, Ran, Tells, lines_of};
 ghost use Rattle.session_run.specs.Sound.{HasRoom};
 ghost use Rattle.session_run.specs.Stands.{Stands};
 ghost use Rattle.session_run.specs.Told.{begin_text, rounds_with};

@@ -1,3 +1,4 @@
+//! Runs a script, and answers the text of its report.
 ghost use Rattle.std.specs.Prelude.{◌≡◌, IfOk};
 ghost use Rattle.tx_model.specs.declared.report.Report.{Report};
 ghost use Rattle.report_text.specs.ReportText.{report_text};

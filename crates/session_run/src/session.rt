@@ -1,3 +1,4 @@
+//! A session: how it stands, and its commands.
 ghost use Rattle.std.specs.Prelude.{◌≡◌, ℕ, [], OnOk, IfOk};
 ghost use Rattle.session_lang.specs.Script.{IsRead};
 ghost use Rattle.session_run.specs.Acts.{ActsOn, Ready, IsSoundAt, StandsAt, GrowsLittle};
@@ -11,9 +12,9 @@ use std::alloc::Global;
 use tx_model::{By, Command, Memory, Name, Reply, SnapData};
 use xid_order::FullXid;
 
-/// A snapshot that a session keeps: its name, the command that took it, its place in the history, and its data.
+/// A registered snapshot of a session: its name, the command that took it, its place in the history, and its data.
 #[derive(Drop)]
-pub struct Kept {
+pub struct RegisteredSnapshot {
     pub name: Name,
     pub command: u64,
     pub place: usize,
@@ -31,25 +32,25 @@ pub struct Session {
     pub unnamed: usize,
     /// Its open ids, ascending.
     pub opened: Vec<FullXid>,
-    pub kept: Vec<Kept>,
+    pub registered: Vec<RegisteredSnapshot>,
 }
 
 impl Session {
     /// A session that has done nothing yet.
     pub fn new(alloc: Global) -> Session
-        ensures { (result.commands ≡ 0) × (result.named.items ≡ []) × (result.unnamed ≡ 0) × (result.opened.items ≡ []) × (result.kept.items ≡ []) }
+        ensures { (result.commands ≡ 0) × (result.named.items ≡ []) × (result.unnamed ≡ 0) × (result.opened.items ≡ []) × (result.registered.items ≡ []) }
     {
         Session {
             commands: 0,
             named: Vec::new(alloc),
             unnamed: 0,
             opened: Vec::new(alloc),
-            kept: Vec::new(alloc),
+            registered: Vec::new(alloc),
         }
     }
 }
 
-/// Runs one command of a session, and answers its reply. After want of memory the session and what is shared are no
+/// Runs one command of a session, and answers its reply. Where memory runs out, the session and what is shared are no
 /// longer of use.
 pub fn run_command(
     shared: &mut Shared,

@@ -1,3 +1,4 @@
+//! What the sessions of a life share.
 use crate::plain_log::PlainLog;
 use plain_states::IdStates;
 use proc_table::ProcTable;

@@ -1,31 +1,35 @@
+//! Snapshots of a session: taken, registered, dropped, and asked.
 ghost use Rattle.std.specs.Prelude.{◌≡◌, ℕ, ◌<◌, ◌≤◌, ◌≢◌, not, length, IfSome, IfNone, Some, None, IfOk, OnOk};
 ghost use Rattle.std.specs.List.{find, filter};
 ghost use Rattle.tx_events.specs.Events.{same_name};
 ghost use Rattle.tx_model.specs.declared.command.Command.TheVariants as commands;
 ghost use Rattle.session_run.specs.Acts.{ActsOn, Ready, IsSoundAt, StandsAt, GrowsLittle};
 ghost use Rattle.session_run.specs.Seen.{IsSeen};
-ghost use Rattle.session_run.specs.Stands.{IsKept};
+ghost use Rattle.session_run.specs.Stands.{IsRegistered};
 
-use crate::session::{Kept, Session};
+use crate::session::{RegisteredSnapshot, Session};
 use crate::shared::Shared;
 use tx_model::{By, Copied, Memory, Name, Refusal, Reply};
 use xid_order::{Xid, near};
 
-/// A session keeps at most so many snapshots.
+/// A session registers at most so many snapshots.
 const MOST_SNAPS: usize = 64;
 
-fn is_named(kept: &Kept, name: &[u8]) -> bool
-    ensures { result ≡ same_name kept.now.name name.now }
+fn is_named(registered: &RegisteredSnapshot, name: &[u8]) -> bool
+    ensures { result ≡ same_name registered.now.name name.now }
 {
-    kept.name.items() == name
+    registered.name.items() == name
 }
 
 /// The session's snapshot of this name.
-fn find_kept<'a>(kept: &'a [Kept], name: &[u8]) -> Option<&'a Kept>
-    ensures found { IfSome result (λ k. find (λ x. same_name x.name name.now) kept.now ≡ Some k.now) }
-    ensures none { IfNone result (find (λ x. same_name x.name name.now) kept.now ≡ None) }
+fn find_registered<'a>(
+    registered: &'a [RegisteredSnapshot],
+    name: &[u8],
+) -> Option<&'a RegisteredSnapshot>
+    ensures found { IfSome result (λ k. find (λ x. same_name x.name name.now) registered.now ≡ Some k.now) }
+    ensures none { IfNone result (find (λ x. same_name x.name name.now) registered.now ≡ None) }
 {
-    for k in kept {
+    for k in registered {
         if is_named(k, name) {
             return Some(k);
         }
@@ -33,31 +37,31 @@ fn find_kept<'a>(kept: &'a [Kept], name: &[u8]) -> Option<&'a Kept>
     None
 }
 
-fn kept_as<'a>(session: &'a Session, name: &Name) -> Option<&'a Kept>
-    ensures found { IfSome result (λ k. find (λ x. same_name x.name name.now) session.now.kept.items ≡ Some k.now) }
-    ensures none { IfNone result (find (λ x. same_name x.name name.now) session.now.kept.items ≡ None) }
+fn registered_as<'a>(session: &'a Session, name: &Name) -> Option<&'a RegisteredSnapshot>
+    ensures found { IfSome result (λ k. find (λ x. same_name x.name name.now) session.now.registered.items ≡ Some k.now) }
+    ensures none { IfNone result (find (λ x. same_name x.name name.now) session.now.registered.items ≡ None) }
 {
-    find_kept(session.kept.as_slice(), name.items())
+    find_registered(session.registered.as_slice(), name.items())
 }
 
-/// Takes a snapshot and keeps it under a name that isn't taken. All memory is taken before the snapshot counts as
+/// Takes a snapshot and registers it under a name that isn't taken. All memory is taken before the snapshot counts as
 /// taken, or with it.
 fn take(shared: &mut Shared, by: By, session: &mut Session, name: &Name) -> Result<Reply, Memory>
     requires ready { Ready shared.old by session.old }
-    requires free { find (λ k. same_name k.name name.now) session.old.kept.items ≡ None }
-    requires room { length session.old.kept.items < 64 }
+    requires free { find (λ k. same_name k.name name.now) session.old.registered.items ≡ None }
+    requires room { length session.old.registered.items < 64 }
     ensures acts { IfOk result (λ reply. ActsOn shared.old shared.new by session.old session.new (commands.Snap name.now) reply) }
     ensures sound { OnOk result (IsSoundAt shared.new) }
     ensures stands { OnOk result (StandsAt shared.new by session.new) }
     ensures few { OnOk result (GrowsLittle shared.old shared.new) }
     ensures count { OnOk result (session.new.commands ≡ session.old.commands) }
 {
-    session.kept.reserve(1)?;
+    session.registered.reserve(1)?;
     let copy = name.copy()?;
     let taken = shared.table.snapshot_data()?;
     let place = shared.table.events().len();
     let snapshot = shared.table.snapshot(by, name)?;
-    session.kept.push_reserved(Kept {
+    session.registered.push_reserved(RegisteredSnapshot {
         name: copy,
         command: by.command,
         place,
@@ -66,8 +70,8 @@ fn take(shared: &mut Shared, by: By, session: &mut Session, name: &Name) -> Resu
     Ok(Reply::Snapped { lists: taken })
 }
 
-/// Takes a snapshot (`GetSnapshotData` of `src/backend/storage/ipc/procarray.c`) and keeps it under this name, as a
-/// registered snapshot is kept (`RegisterSnapshot` of `src/backend/utils/time/snapmgr.c`).
+/// Takes a snapshot (`GetSnapshotData` of `src/backend/storage/ipc/procarray.c`) and registers it under this name
+/// (`RegisterSnapshot` of `src/backend/utils/time/snapmgr.c`).
 pub fn snap(
     shared: &mut Shared,
     by: By,
@@ -81,12 +85,12 @@ pub fn snap(
     ensures few { OnOk result (GrowsLittle shared.old shared.new) }
     ensures count { OnOk result (session.new.commands ≡ session.old.commands) }
 {
-    if let Some(_kept) = kept_as(session, name) {
+    if let Some(_registered) = registered_as(session, name) {
         return Ok(Reply::Refused {
             refusal: Refusal::NameTaken,
         });
     }
-    if session.kept.len() >= MOST_SNAPS {
+    if session.registered.len() >= MOST_SNAPS {
         return Ok(Reply::Refused {
             refusal: Refusal::SnapLimit,
         });
@@ -95,10 +99,10 @@ pub fn snap(
 }
 
 /// Lets go of the snapshot of this name.
-fn forget(kept: &mut Vec<Kept>, name: &[u8])
-    ensures { kept.new.items ≡ filter (λ k. not (same_name k.name name.now)) kept.old.items }
+fn forget(registered: &mut Vec<RegisteredSnapshot>, name: &[u8])
+    ensures { registered.new.items ≡ filter (λ k. not (same_name k.name name.now)) registered.old.items }
 {
-    kept.retain(|k| !is_named(k, name));
+    registered.retain(|k| !is_named(k, name));
 }
 
 /// Drops the session's snapshot of this name (`UnregisterSnapshot` of `snapmgr.c`). Takes no memory.
@@ -113,7 +117,7 @@ pub fn drop_snap(shared: &mut Shared, by: By, session: &mut Session, name: &Name
     match shared.table.live_xmin(by.session, name) {
         Some(xmin) => {
             shared.table.drop_snapshot(by, name, xmin);
-            forget(&mut session.kept, name.items());
+            forget(&mut session.registered, name.items());
             Reply::Done
         }
         None => Reply::Refused {
@@ -122,11 +126,11 @@ pub fn drop_snap(shared: &mut Shared, by: By, session: &mut Session, name: &Name
     }
 }
 
-/// What a kept snapshot says of a stored id.
-fn verdict(shared: &Shared, session: u32, kept: &Kept, x: Xid) -> Reply
+/// What a registered snapshot says of a stored id.
+fn verdict(shared: &Shared, session: u32, registered: &RegisteredSnapshot, x: Xid) -> Reply
     requires sound { IsSoundAt shared.now }
-    requires kept { IsKept shared.now.table.base shared.now.table.events session kept.now }
-    ensures { IsSeen shared.now kept.now x.number result }
+    requires registered { IsRegistered shared.now.table.base shared.now.table.events session registered.now }
+    ensures { IsSeen shared.now registered.now x.number result }
 {
     if x.number < 3 {
         return Reply::Seen {
@@ -134,7 +138,7 @@ fn verdict(shared: &Shared, session: u32, kept: &Kept, x: Xid) -> Reply
         };
     }
     let oldest = shared.table.oldest();
-    let Some(id) = near(kept.snapshot.xmax, x) else {
+    let Some(id) = near(registered.snapshot.xmax, x) else {
         return Reply::Refused {
             refusal: Refusal::TooOld { oldest },
         };
@@ -145,7 +149,7 @@ fn verdict(shared: &Shared, session: u32, kept: &Kept, x: Xid) -> Reply
         };
     }
     Reply::Seen {
-        visible: shared.states.sees(&kept.snapshot, id),
+        visible: shared.states.sees(&registered.snapshot, id),
     }
 }
 
@@ -155,8 +159,8 @@ pub fn see(shared: &Shared, by: By, session: &Session, name: &Name, x: Xid) -> R
     requires ready { Ready shared.now by session.now }
     ensures acts { ActsOn shared.now shared.now by session.now session.now (commands.See name.now x) result }
 {
-    match kept_as(session, name) {
-        Some(kept) => verdict(shared, by.session, kept, x),
+    match registered_as(session, name) {
+        Some(registered) => verdict(shared, by.session, registered, x),
         None => Reply::Refused {
             refusal: Refusal::NoSnapshot,
         },

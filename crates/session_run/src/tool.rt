@@ -1,3 +1,4 @@
+//! The tool's top call, with the main guarantee (`docs/GUARANTEES.md`).
 ghost use Rattle.std.specs.Prelude.{◌≡◌, ℕ, ◌⊎◌, ◌↔◌, List, map, take, string_bytes, IsTrue, IfOk, codes, length, ◌≤◌, ◌≢◌, ◌++◌, ◌∷◌, []};
 ghost use Rattle.std.specs.Io.KnownBytes.{Appends};
 ghost use Rattle.tx_model.specs.declared.report.Report.{Report};
@@ -5,7 +6,7 @@ ghost use Rattle.tx_io.specs.Causes.{Rose};
 ghost use Rattle.session_lang.specs.declared.script.Script.{Script};
 ghost use Rattle.report_text.specs.ReportText.{report_text};
 ghost use Rattle.session_lang.specs.Script.{IsScript};
-ghost use Rattle.session_run.specs.Tool.{IsRun, IsWholeRun, IsNoScript, IsReportOf, HoldsFront};
+ghost use Rattle.session_run.specs.Tool.{IsRun, IsWholeRun, IsNoScript, IsReportOf, HoldsFront, ReadsUpTo, most_read};
 ghost use Rattle.session_run.specs.Ends.{Ends, Answers};
 
 use crate::run::run_script;
@@ -58,6 +59,7 @@ fn answer(alloc: Global, bytes: &[u8]) -> Ending
 fn work<S: Source>(alloc: Global, source: &mut S) -> Ending
     ensures ends { Ends (S.left source.old) (S.left source.new) (S.faults source.old) (S.faults source.new) result }
     ensures later { S.faults source.old ≤ S.faults source.new }
+    ensures amount { ReadsUpTo most_read (S.left source.old) (S.left source.new) }
 {
     match read_all(alloc, source) {
         Ok(bytes) => answer(alloc, bytes.as_slice()),
@@ -78,8 +80,17 @@ fn finish<K: Sink>(sink: &mut K, text: &[u8], status: u8) -> u8
     }
 }
 
+/// Says that the words of the command line found no memory, by the line `memory`. Answers status 6, or 4 where the sink
+/// failed.
+pub fn say_out_of_memory<K: Sink>(sink: &mut K) -> u8
+    ensures said { ((result ≡ 6) × Appends (K.held sink.old) (K.held sink.new) (codes "memory" ++ 10 ∷ [])) ⊎ ((result ≡ 4) × Rose (K.faults sink.old) (K.faults sink.new)) }
+{
+    finish(sink, b"memory\n", 6)
+}
+
 /// Runs the tool over the words of its command line, and answers its status: 0 done, 1 the source's bytes aren't a
-/// script, 2 the words are refused, 3 the source failed, 4 the sink failed, 6 want of memory. The only word is `run`.
+/// script, 2 the words are refused, 3 the source failed, 4 the sink failed, 6 out of memory. The only word is `run`.
+/// Reads at most 16,777,217 bytes, and none where the words are refused.
 pub fn run_tool<S: Source, K: Sink>(
     alloc: Global,
     words: &[String],
@@ -99,6 +110,10 @@ pub fn run_tool<S: Source, K: Sink>(
     ensures write { result ≡ 4 → Rose (K.faults sink.old) (K.faults sink.new) }
     ensures front { result ≡ 4 → HoldsFront (S.left source.old) (S.left source.new) (K.held sink.old) (K.held sink.new) }
     ensures statuses { (result ≤ 6) × (result ≢ 5) }
+
+    // What it reads.
+    ensures amount { ReadsUpTo most_read (S.left source.old) (S.left source.new) }
+    ensures untouched { (IsRun (map string_bytes words.now) → ⊥) → source.new ≡ source.old }
 
     // And the line that it then writes.
     ensures no_script { result ≡ 1 → Appends (K.held sink.old) (K.held sink.new) (codes "script 0 form" ++ 10 ∷ []) }

@@ -1,3 +1,4 @@
+//! Ids for the levels of a transaction, given as late as a write asks for them.
 ghost use Rattle.std.specs.Prelude.{◌≡◌, ℕ, ◌+◌, ◌<◌, ◌≤◌, max, length, OnOk, IfOk};
 ghost use Rattle.tx_model.specs.CommandEvents.{giving};
 ghost use Rattle.proc_table.specs.Table.{Gives as TableGives, next_of, page_of};
@@ -40,7 +41,7 @@ fn next_id(table: &mut ProcTable, by: By, parent: &Option<FullXid>) -> Result<Gi
 }
 
 /// What a refusal of the table means: the stop limit is reached, or memory is wanting.
-fn stopped(refusal: &Refusal) -> Result<NewId, Memory>
+fn stop_or_memory(refusal: &Refusal) -> Result<NewId, Memory>
     ensures { IfOk result (λ new. IsStopOf refusal.now new) }
 {
     match refusal {
@@ -64,7 +65,7 @@ fn give_id(shared: &mut Shared, by: By, parent: Option<FullXid>) -> Result<NewId
     shared.states.reserve(1)?;
     let given = match next_id(&mut shared.table, by, &parent) {
         Ok(given) => given,
-        Err(refusal) => return stopped(&refusal),
+        Err(refusal) => return stop_or_memory(&refusal),
     };
     match &given {
         Given::Id { id, warn } => {

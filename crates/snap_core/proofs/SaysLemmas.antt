@@ -1,7 +1,8 @@
 -- What a snapshot says of an id is so.
 use Rattle.std.proofs.Math.Bool.{and-true}
 use Rattle.tx_events.proofs.Extremes.{fold_min_has, fold_min_start}
-use Rattle.snap_core.specs.Says.{says_of, says_top_of, IsSaid, IsSaidOfTop, SaysRight, SaysTopRight}
+use Rattle.snap_core.specs.Says.{says_of, IsSaid, SaysRight}
+use Rattle.snap_core.specs.Sights.{IsTopSightRight, top_sight_by}
 use Rattle.snap_core.specs.declared.snapshot.Says.{Says}
 use Rattle.std.proofs.Common.{◌≡◌, ℕ, ◌<◌, ◌≤◌, List, [], refl, ap, sym, ◌∙◌, arith, Bool, true, false, not, ◌&&◌, ◌==◌, ◌||◌, cond, subst, inl, inr, nat_lt, lt-ltb, ltb-true, ltb-false}
 use Rattle.std.proofs.lemmas.Bool.{false≢true}
@@ -85,31 +86,18 @@ of_data first h x s = low (nat_lt x (snapshot_xmin first h)) refl
         ((λ a. let l : snapshot_xmin first h ≤ x = a.1 in omega arith), below_ended first h x s k, omega arith)
     low false e = high (nat_lt x (snapshot_xmax first h)) refl (ltb-false x (snapshot_xmin first h) e)
 
-top_of_data : (first : ℕ) (h : List Event) (t : ℕ) → IsSound first h → is_top h t ≡ true → IsSaidOfTop first h t (says_top_of (snapshot_data first h) t)
-top_of_data first h t s is_one = low (nat_lt t (snapshot_xmin first h)) refl
+-- of a top below the limit: whether it has ended
+top_exact : (first : ℕ) (h : List Event) (t : ℕ) → IsSound first h → is_top h t ≡ true → t < snapshot_xmax first h → top_sight_by (snapshot_data first h) t ≡ not (has (running h) t)
+top_exact first h t s is_one l = low (nat_lt t (snapshot_xmin first h)) refl
   where
-    ends : snapshot_xmin first h ≤ snapshot_xmax first h
-    ends = fold_min_start (snapshot_xmax first h) (running_tops h)
-
-    holds : nat_lt t (snapshot_xmax first h) ≡ true → has (snapshot_xips first h) t ≡ has (running h) t
-    holds e =
-        has-filter (λ y. nat_lt y (snapshot_xmax first h)) (running_tops h) t ∙ ap (λ b. has (running_tops h) t && b) e ∙ and-true (has (running_tops h) t)
+    holds : has (snapshot_xips first h) t ≡ has (running h) t
+    holds =
+        has-filter (λ y. nat_lt y (snapshot_xmax first h)) (running_tops h) t ∙ ap (λ b. has (running_tops h) t && b) (lt-ltb t (snapshot_xmax first h) l) ∙ and-true (has (running_tops h) t)
         ∙ has-filter (is_top h) (running h) t ∙ ap (λ b. has (running h) t && b) is_one ∙ and-true (has (running h) t)
 
-    listed : (b : Bool) → has (snapshot_xips first h) t ≡ b → nat_lt t (snapshot_xmax first h) ≡ true → IsSaidOfTop first h t (cond b says.Running says.Ended)
-    listed true e l = inl (sym (holds l) ∙ e)
-    listed false e l = (sym (holds l) ∙ e, ltb-true t (snapshot_xmax first h) l)
-
-    high : (b : Bool) → nat_lt t (snapshot_xmax first h) ≡ b → IsSaidOfTop first h t (cond b (cond (has (snapshot_xips first h) t) says.Running says.Ended) says.Running)
-    high true e = listed (has (snapshot_xips first h) t) refl e
-    high false e = inr (ltb-false t (snapshot_xmax first h) e)
-
-    low : (b : Bool) → nat_lt t (snapshot_xmin first h) ≡ b → IsSaidOfTop first h t (cond b says.Ended (cond (nat_lt t (snapshot_xmax first h)) (cond (has (snapshot_xips first h) t) says.Running says.Ended) says.Running))
-    low true e =
-        let k : t < snapshot_xmin first h = ltb-true t (snapshot_xmin first h) e in
-        let u : snapshot_xmin first h ≤ snapshot_xmax first h = ends in
-        (below_ended first h t s k, omega arith)
-    low false e = high (nat_lt t (snapshot_xmax first h)) refl
+    low : (b : Bool) → nat_lt t (snapshot_xmin first h) ≡ b → (b || not (has (snapshot_xips first h) t)) ≡ not (has (running h) t)
+    low true e = sym (ap not (below_ended first h t s (ltb-true t (snapshot_xmin first h) e)))
+    low false e = ap not holds
 
 -- what the snapshot lists ascends
 pub xips_ascend : (base : Counters) (h : List Event) → IsLegal base h → Ascending (snapshot_xips base.next h)
@@ -128,7 +116,7 @@ says_right d x r f base h l e =
     let steps : r ≡ says_of d x = f (subst (λ (d : SnapData). Ascending d.xip) (sym e) (xips_ascend base h l)) (subst (λ (d : SnapData). Ascending d.subxip) (sym e) (subs_ascend base h l)) in
     subst (IsSaid base.next h x) (sym (steps ∙ ap (λ d. says_of d x) e)) (of_data base.next h x (legal_sound base h l))
 
-pub says_top_right : (d : SnapData) (t : ℕ) (r : Says) → (Ascending d.xip → r ≡ says_top_of d t) → SaysTopRight d t r
-says_top_right d t r f base h l e o =
-    let steps : r ≡ says_top_of d t = f (subst (λ (d : SnapData). Ascending d.xip) (sym e) (xips_ascend base h l)) in
-    subst (IsSaidOfTop base.next h t) (sym (steps ∙ ap (λ d. says_top_of d t) e)) (top_of_data base.next h t (legal_sound base h l) o)
+pub top_sight_right : (d : SnapData) (t : ℕ) (r : Bool) → (Ascending d.xip → r ≡ top_sight_by d t) → IsTopSightRight d t r
+top_sight_right d t r f base h l e o below =
+    let steps : r ≡ top_sight_by d t = f (subst (λ (d : SnapData). Ascending d.xip) (sym e) (xips_ascend base h l)) in
+    steps ∙ ap (λ d. top_sight_by d t) e ∙ top_exact base.next h t (legal_sound base h l) o below

@@ -4,7 +4,6 @@ use Rattle.tx_events.specs.declared.event.Event.{Event}
 use Rattle.tx_events.specs.declared.snapshot.SnapData.{SnapData}
 use Rattle.tx_events.specs.declared.record.Counters.{Counters}
 use Rattle.tx_events.specs.Running.{running}
-use Rattle.tx_events.specs.Families.{is_top}
 use Rattle.tx_events.specs.History.{IsLegal}
 use Rattle.tx_events.specs.Snapshots.{snapshot_data, snapshot_xmin, snapshot_xmax, is_overflowed}
 use Rattle.tx_events.specs.IdLists.{has}
@@ -16,10 +15,6 @@ abbrev pub says_of : SnapData → ℕ → Says
 says_of d x =
     cond (nat_lt x d.xmin) says.Ended (cond (nat_lt x d.xmax) (cond d.overflowed says.AskParents (cond (has d.xip x || has d.subxip x) says.Running says.Ended)) says.Running)
 
-abbrev pub says_top_of : SnapData → ℕ → Says
-says_top_of d x =
-    cond (nat_lt x d.xmin) says.Ended (cond (nat_lt x d.xmax) (cond (has d.xip x) says.Running says.Ended) says.Running)
-
 -- the parents have to be asked exactly where the data are overflowed and x is between their limits
 abbrev pub IsToAsk : ℕ → List Event → ℕ → Type 0
 IsToAsk first h x = (is_overflowed first h ≡ true) × (snapshot_xmin first h ≤ x) × (x < snapshot_xmax first h)
@@ -30,15 +25,6 @@ IsSaid first h x says.AskParents = IsToAsk first h x
 IsSaid first h x says.Running = (IsToAsk first h x → ⊥) × ((has (running h) x ≡ true) ⊎ (snapshot_xmax first h ≤ x))
 IsSaid first h x says.Ended = (IsToAsk first h x → ⊥) × (has (running h) x ≡ false) × (x < snapshot_xmax first h)
 
--- the same of a top, whose parents needn't be asked
-abbrev pub IsSaidOfTop : ℕ → List Event → ℕ → Says → Type 0
-IsSaidOfTop first h x says.AskParents = ⊥
-IsSaidOfTop first h x says.Running = (has (running h) x ≡ true) ⊎ (snapshot_xmax first h ≤ x)
-IsSaidOfTop first h x says.Ended = (has (running h) x ≡ false) × (x < snapshot_xmax first h)
-
 -- of whatever legal history the data are, what is said is so after it
 abbrev pub SaysRight : SnapData → ℕ → Says → Type 0
 SaysRight d x r = (base : Counters) (h : List Event) → IsLegal base h → d ≡ snapshot_data base.next h → IsSaid base.next h x r
-
-abbrev pub SaysTopRight : SnapData → ℕ → Says → Type 0
-SaysTopRight d t r = (base : Counters) (h : List Event) → IsLegal base h → d ≡ snapshot_data base.next h → is_top h t ≡ true → IsSaidOfTop base.next h t r

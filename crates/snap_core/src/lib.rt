@@ -1,11 +1,12 @@
-//! What a snapshot says of an id. After PostgreSQL's `SnapshotData` and `XidInMVCCSnapshot`
-//! (`src/backend/utils/time/snapmgr.c`).
+//! What a snapshot shows of an id: PostgreSQL's `SnapshotData` and `XidInMVCCSnapshot`
+//! (`src/backend/utils/time/snapmgr.c`). See `docs/HISTORY.md`, "Snapshots" and "Verdict rule".
 #![tactic(auto)]
 
 mod listed;
+mod sight;
 mod snapshot;
 #[cfg(test)]
 mod tests;
 
 pub use listed::is_listed;
-pub use snapshot::{Says, said_of, said_of_top};
+pub use sight::{Sight, sight_of, sight_of_top};

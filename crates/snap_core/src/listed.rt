@@ -1,3 +1,4 @@
+//! A search of ids that ascend.
 ghost use Rattle.std.specs.Prelude.{◌≡◌};
 ghost use Rattle.tx_events.specs.IdLists.{has, Ascending};
 

@@ -1,6 +1,7 @@
-ghost use Rattle.std.specs.Prelude.{◌≡◌, IfOk};
+//! What a snapshot tells of when an id ended: by its limits, and by its lists where they hold the id.
+ghost use Rattle.std.specs.Prelude.{◌≡◌};
 ghost use Rattle.tx_events.specs.IdLists.{Ascending};
-ghost use Rattle.snap_core.specs.Says.{says_of, says_top_of, SaysRight, SaysTopRight};
+ghost use Rattle.snap_core.specs.Says.{says_of, SaysRight};
 
 use crate::listed::is_listed;
 use tx_events::SnapData;
@@ -21,16 +22,10 @@ pub enum Says {
 /// counts as later, or neither; parents have to be asked exactly where the snapshot overflowed and `x` is from `xmin`
 /// to below `xmax`. Takes at most the logarithm of what the snapshot lists.
 pub fn said_of(snap: &SnapData, x: FullXid) -> Says
-    ensures { SaysRight snap.now x result }
+    ensures value { Ascending snap.now.xip → Ascending snap.now.subxip → result ≡ says_of snap.now x }
+    ensures right { SaysRight snap.now x result }
 {
     say(snap, x)
-}
-
-/// How the top-level id `top` stood, overflowed or not: never `AskParents`.
-pub fn said_of_top(snap: &SnapData, top: FullXid) -> Says
-    ensures { SaysTopRight snap.now top result }
-{
-    say_of_top(snap, top)
 }
 
 fn say(snap: &SnapData, x: FullXid) -> Says
@@ -46,22 +41,6 @@ fn say(snap: &SnapData, x: FullXid) -> Says
         return Says::AskParents;
     }
     if is_listed(snap.xip.items(), x) || is_listed(snap.subxip.items(), x) {
-        Says::Running
-    } else {
-        Says::Ended
-    }
-}
-
-fn say_of_top(snap: &SnapData, top: FullXid) -> Says
-    ensures { Ascending snap.now.xip → result ≡ says_top_of snap.now top }
-{
-    if top < snap.xmin {
-        return Says::Ended;
-    }
-    if top >= snap.xmax {
-        return Says::Running;
-    }
-    if is_listed(snap.xip.items(), top) {
         Says::Running
     } else {
         Says::Ended

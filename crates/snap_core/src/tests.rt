@@ -1,4 +1,4 @@
-use crate::{Says, said_of, said_of_top};
+use crate::{Sight, sight_of, sight_of_top};
 use std::process::Abort;
 use tx_events::{IdList, SnapData};
 use xid_order::FullXid;
@@ -15,8 +15,22 @@ fn ids<R: Abort + AllocGlobal>(rt: &R, from: u64, to: u64) -> IdList {
     list
 }
 
+/// The sights of committed ids, by number.
+fn expect_sights<R: Abort>(rt: &R, snap: &SnapData, wanted: &[(u64, Sight)]) {
+    for (number, sight) in wanted {
+        assert!(rt;
+            sight_of(snap, id(rt, *number), true) == *sight,
+            "at {number}"
+        );
+        assert!(rt;
+            sight_of(snap, id(rt, *number), false) == Sight::Hidden,
+            "at {number}"
+        );
+    }
+}
+
 #[test]
-fn lists_tell_what_runs(rt: HostRuntime) {
+fn lists_tell_what_ran(rt: HostRuntime) {
     let snap = SnapData {
         xmin: id(&rt, 3),
         xmax: id(&rt, 69),
@@ -24,18 +38,15 @@ fn lists_tell_what_runs(rt: HostRuntime) {
         subxip: ids(&rt, 4, 68),
         overflowed: false,
     };
-    for (number, says) in [
-        (2, Says::Ended),
-        (3, Says::Running),
-        (4, Says::Running),
-        (67, Says::Running),
-        (68, Says::Ended),
-        (69, Says::Running),
-    ] {
-        assert!(rt; said_of(&snap, id(&rt, number)) == says, "at {number}");
-    }
-    assert!(rt; said_of_top(&snap, id(&rt, 3)) == Says::Running);
-    assert!(rt; said_of_top(&snap, id(&rt, 68)) == Says::Ended);
+    let wanted = [
+        (2, Sight::Seen),
+        (3, Sight::Hidden),
+        (4, Sight::Hidden),
+        (67, Sight::Hidden),
+        (68, Sight::Seen),
+        (69, Sight::Hidden),
+    ];
+    expect_sights(&rt, &snap, &wanted);
 }
 
 #[test]
@@ -47,21 +58,15 @@ fn an_overflowed_snapshot_asks_parents(rt: HostRuntime) {
         subxip: IdList::new(rt.alloc()),
         overflowed: true,
     };
-    for (number, says) in [
-        (2, Says::Ended),
-        (3, Says::AskParents),
-        (67, Says::AskParents),
-        (70, Says::AskParents),
-        (71, Says::Running),
-    ] {
-        assert!(rt; said_of(&snap, id(&rt, number)) == says, "at {number}");
-    }
-    for (number, says) in [
-        (2, Says::Ended),
-        (3, Says::Running),
-        (68, Says::Ended),
-        (71, Says::Running),
-    ] {
-        assert!(rt; said_of_top(&snap, id(&rt, number)) == says, "at {number}");
-    }
+    let wanted = [
+        (2, Sight::Seen),
+        (3, Sight::AskParents),
+        (67, Sight::AskParents),
+        (70, Sight::AskParents),
+        (71, Sight::Hidden),
+    ];
+    expect_sights(&rt, &snap, &wanted);
+    assert!(rt; sight_of_top(&snap, id(&rt, 2)));
+    assert!(rt; !sight_of_top(&snap, id(&rt, 3)));
+    assert!(rt; sight_of_top(&snap, id(&rt, 68)));
 }

@@ -1,15 +1,14 @@
-use Rattle.std.proofs.Common.{IfSome, ◌-◌, ◌↔◌, Contains, ◌≡◌, ℕ, suc, zero, ◌<◌, ◌≤◌, List, [], ◌∷◌, ◌++◌, length, length-append, take, drop, refl, ap, sym, ◌∙◌, arith, inl, inr, ⊎_elim, subst, Bool, true, false, cond, IsTrue}
+use Rattle.std.proofs.Common.{IfSome, ◌-◌, ◌↔◌, ◌≡◌, ℕ, suc, zero, ◌<◌, ◌≤◌, List, [], ◌∷◌, ◌++◌, length, take, drop, refl, ap, sym, ◌∙◌, arith, ⊎_elim, subst, Bool, true, false, cond, IsTrue}
 use Rattle.std.proofs.Math.Seq.{drop-append-le, take-append-le}
 use Rattle.std.specs.List.{filter, AllByRecursion}
-use Rattle.std.proofs.lemmas.List.Elements.{filter_map-append, Contains-append_left}
 use Rattle.xid_order.specs.Nearest.{near_id}
 use Rattle.tx_events.specs.declared.event.By.{By}
 use Rattle.tx_events.specs.declared.event.Event.{Event}
 use Rattle.tx_model.specs.declared.report.Line.{Line}
 use Rattle.tx_events.specs.declared.record.Counters.{Counters}
-use Rattle.tx_events.specs.Events.{by_of, events_of, given, announced_by}
+use Rattle.tx_events.specs.Events.{by_of, events_of, given}
 use Rattle.tx_model.specs.Stance.{Stance, stance_from, after, nothing_yet}
-use Rattle.tx_model.specs.Replies.{MayReply, WasAnnounced, IsGivenAt, IsWarned, IsStopped, seen_id}
+use Rattle.tx_model.specs.Replies.{MayFindOldest, MayReadAt, MayReply, IsGivenAt, IsNotTooOld, IsStopped, IsWarned, RoundSpan, seen_id}
 use Rattle.tx_events.specs.Snapshots.{snapshot_data, snapshot_xmax}
 use Rattle.tx_events.specs.Visible.{is_visible}
 use Rattle.xid_order.specs.Limits.{stop_limit, warn_limit}
@@ -49,10 +48,6 @@ others_take (suc n) es (l ∷ lines) o = (o.0, others_take n es lines o.1)
 pub stance_grows : (h es : List Event) (lines : List Line) (session : ℕ) → AllByRecursion (λ l. AreOthers l.by es) lines → stance (h ++ es) lines session ≡ stance h lines session
 stance_grows h es lines session o = stance_from_grows h es (filter (is_line_of session) lines) nothing_yet (others_filter _ es lines o)
 
-announced_grows : (base : Counters) (h es : List Event) (oldest : ℕ) → WasAnnounced base h oldest → WasAnnounced base (h ++ es) oldest
-announced_grows base h es oldest a =
-    ⊎_elim inl (λ k. inr (subst (λ t. Contains t oldest) (sym (filter_map-append announced_by h es)) (Contains-append_left _ _ oldest k))) a
-
 -- a place of the longer history at which the command is given an id is one of the shorter
 given_before : (h es : List Event) (by : By) (p id : ℕ) → AreOthers by es → IsGivenAt (h ++ es) by p id → IsGivenAt h by p id
 given_before h es by p id o g =
@@ -79,44 +74,67 @@ warned_grows base h es by warn o w = (
       }),
 )
 
-stopped_grows : (base : Counters) (h es : List Event) (by : By) (next stop : ℕ) → AreLater by es → IsStopped base h by next stop → IsStopped base (h ++ es) by next stop
-stopped_grows base h es by next stop o k =
-    let same = take-append-le k.place h es k.within in
+-- where a command may read in a round, it may read when the history has grown by events of other commands and the
+-- round's place is wider
+read_grows : (h es : List Event) (r r' : RoundSpan) (by : By) (p : ℕ) → r'.from ≤ r.from → r.to ≤ r'.to → r.to ≤ length h → AreLater by es → MayReadAt h r by p → MayReadAt (h ++ es) r' by p
+read_grows h es r r' by p f t w o k =
+    let within : p ≤ length h = omega (arith, k.not_past) in
+    record {
+      not_before = omega (arith, k.not_before);
+      not_past = omega (arith, k.not_past);
+      behind = subst (AllByRecursion (λ e. (by_of e).session ≡ by.session → by.command < (by_of e).command)) (sym (drop-append-le p h es within)) (both_all (λ e. (by_of e).session ≡ by.session → by.command < (by_of e).command) (drop p h) es k.behind o);
+      before = subst (AllByRecursion (λ e. (by_of e).session ≡ by.session → (by_of e).command ≤ by.command)) (sym (take-append-le p h es within)) k.before;
+    }
+
+found_grows : (base : Counters) (h es : List Event) (r r' : RoundSpan) (by : By) (oldest : ℕ) → r'.from ≤ r.from → r.to ≤ r'.to → r.to ≤ length h → AreLater by es → MayFindOldest base h r by oldest → MayFindOldest base (h ++ es) r' by oldest
+found_grows base h es r r' by oldest f t w o k = record {
+  place = k.place;
+  read = read_grows h es r r' by k.place f t w o k.read;
+  lag = k.lag;
+  short = k.short;
+  oldest_is = k.oldest_is ∙ ap (oldest_id base.oldest) (sym (take-append-le (k.place - k.lag) h es (omega (arith, k.read.not_past))));
+}
+
+young_grows : (base : Counters) (h es : List Event) (r r' : RoundSpan) (by : By) (id : ℕ) → r'.from ≤ r.from → r.to ≤ r'.to → r.to ≤ length h → AreLater by es → IsNotTooOld base h r by id → IsNotTooOld base (h ++ es) r' by id
+young_grows base h es r r' by id f t w o k = record { oldest = k.oldest; found = found_grows base h es r r' by k.oldest f t w o k.found; young = k.young }
+
+stopped_grows : (base : Counters) (h es : List Event) (r r' : RoundSpan) (by : By) (next stop : ℕ) → r'.from ≤ r.from → r.to ≤ r'.to → r.to ≤ length h → AreLater by es → IsStopped base h r by next stop → IsStopped base (h ++ es) r' by next stop
+stopped_grows base h es r r' by next stop f t w o k =
+    let same = take-append-le k.place h es (omega (arith, k.read.not_past)) in
     record {
       place = k.place;
-      within = omega (arith, length-append h es, k.within);
-      behind = subst (AllByRecursion (λ e. (by_of e).session ≡ by.session → by.command < (by_of e).command)) (sym (drop-append-le k.place h es k.within)) (both_all (λ e. (by_of e).session ≡ by.session → by.command < (by_of e).command) (drop k.place h) es k.behind o);
-      before = subst (AllByRecursion (λ e. (by_of e).session ≡ by.session → (by_of e).command ≤ by.command)) (sym same) k.before;
+      read = read_grows h es r r' by k.place f t w o k.read;
       next_is = k.next_is ∙ ap (next_given base.next) (sym same);
       stop_is = k.stop_is ∙ ap (λ t. stop_limit (oldest_id base.oldest t)) (sym same);
       reached = k.reached;
     }
 
--- what may be answered may be answered when the history has grown by events of other commands
-pub may_reply_grows : (base : Counters) (committed : List ℕ) (h es : List Event) (by : By) (s : Stance) (command : Command) (reply : Reply) → AreLater by es → MayReply base committed h by s command reply → MayReply base committed (h ++ es) by s command reply
-may_reply_grows base committed h es by s commands.Begin replies.Done o m = m
-may_reply_grows base committed h es by s commands.Begin (replies.Refused refusals.AlreadyOpen) o m = m
-may_reply_grows base committed h es by s commands.Write (replies.Wrote ids warn) o m = (m.0, warned_grows base h es by warn (later_are_others by es o) m.1)
-may_reply_grows base committed h es by s commands.Write (replies.Refused refusals.NoTransaction) o m = m
-may_reply_grows base committed h es by s commands.Write (replies.Refused (refusals.Stop next stop)) o m = (m.0, stopped_grows base h es by next stop o m.1)
-may_reply_grows base committed h es by s commands.Save replies.Done o m = m
-may_reply_grows base committed h es by s commands.Save (replies.Refused refusals.NoTransaction) o m = m
-may_reply_grows base committed h es by s commands.Save (replies.Refused refusals.DepthLimit) o m = m
-may_reply_grows base committed h es by s commands.Release replies.Done o m = m
-may_reply_grows base committed h es by s commands.Release (replies.Refused refusals.NoSavepoint) o m = m
-may_reply_grows base committed h es by s commands.Undo replies.Done o m = m
-may_reply_grows base committed h es by s commands.Undo (replies.Refused refusals.NoSavepoint) o m = m
-may_reply_grows base committed h es by s commands.Commit replies.Done o m = m
-may_reply_grows base committed h es by s commands.Commit (replies.Refused refusals.NoTransaction) o m = m
-may_reply_grows base committed h es by s commands.Abort replies.Done o m = m
-may_reply_grows base committed h es by s commands.Abort (replies.Refused refusals.NoTransaction) o m = m
-may_reply_grows base committed h es by s (commands.Snap name) (replies.Snapped lists) o m =
+-- what may be answered may be answered when the history has grown by events of other commands and the round's place
+-- is wider
+pub may_reply_grows : (base : Counters) (committed : List ℕ) (h es : List Event) (r r' : RoundSpan) (by : By) (s : Stance) (command : Command) (reply : Reply) → r'.from ≤ r.from → r.to ≤ r'.to → r.to ≤ length h → AreLater by es → MayReply base committed h r by s command reply → MayReply base committed (h ++ es) r' by s command reply
+may_reply_grows base committed h es r r' by s commands.Begin replies.Done f t w o m = m
+may_reply_grows base committed h es r r' by s commands.Begin (replies.Refused refusals.AlreadyOpen) f t w o m = m
+may_reply_grows base committed h es r r' by s commands.Write (replies.Wrote ids warn) f t w o m = (m.0, warned_grows base h es by warn (later_are_others by es o) m.1)
+may_reply_grows base committed h es r r' by s commands.Write (replies.Refused refusals.NoTransaction) f t w o m = m
+may_reply_grows base committed h es r r' by s commands.Write (replies.Refused (refusals.Stop next stop)) f t w o m = (m.0, stopped_grows base h es r r' by next stop f t w o m.1)
+may_reply_grows base committed h es r r' by s commands.Save replies.Done f t w o m = m
+may_reply_grows base committed h es r r' by s commands.Save (replies.Refused refusals.NoTransaction) f t w o m = m
+may_reply_grows base committed h es r r' by s commands.Save (replies.Refused refusals.DepthLimit) f t w o m = m
+may_reply_grows base committed h es r r' by s commands.Release replies.Done f t w o m = m
+may_reply_grows base committed h es r r' by s commands.Release (replies.Refused refusals.NoSavepoint) f t w o m = m
+may_reply_grows base committed h es r r' by s commands.Undo replies.Done f t w o m = m
+may_reply_grows base committed h es r r' by s commands.Undo (replies.Refused refusals.NoSavepoint) f t w o m = m
+may_reply_grows base committed h es r r' by s commands.Commit replies.Done f t w o m = m
+may_reply_grows base committed h es r r' by s commands.Commit (replies.Refused refusals.NoTransaction) f t w o m = m
+may_reply_grows base committed h es r r' by s commands.Abort replies.Done f t w o m = m
+may_reply_grows base committed h es r r' by s commands.Abort (replies.Refused refusals.NoTransaction) f t w o m = m
+may_reply_grows base committed h es r r' by s (commands.Snap name) (replies.Snapped lists) f t w o m =
     (m.0, m.1, m.2, slice_get-grows h es _ m.2 m.3, m.4 ∙ ap (snapshot_data base.next) (sym (take-grows h es _ m.2 m.3)))
-may_reply_grows base committed h es by s (commands.Snap name) (replies.Refused refusals.NameTaken) o m = m
-may_reply_grows base committed h es by s (commands.Snap name) (replies.Refused refusals.SnapLimit) o m = m
-may_reply_grows base committed h es by s (commands.DropSnap name) replies.Done o m = m
-may_reply_grows base committed h es by s (commands.DropSnap name) (replies.Refused refusals.NoSnapshot) o m = m
-may_reply_grows base committed h es by s (commands.See name x) (replies.Seen verdict) o m = (
+may_reply_grows base committed h es r r' by s (commands.Snap name) (replies.Refused refusals.NameTaken) f t w o m = m
+may_reply_grows base committed h es r r' by s (commands.Snap name) (replies.Refused refusals.SnapLimit) f t w o m = m
+may_reply_grows base committed h es r r' by s (commands.DropSnap name) replies.Done f t w o m = m
+may_reply_grows base committed h es r r' by s (commands.DropSnap name) (replies.Refused refusals.NoSnapshot) f t w o m = m
+may_reply_grows base committed h es r r' by s (commands.See name x) (replies.Seen verdict) f t w o m = (
   m.0,
   m.1,
   record {
@@ -124,10 +142,11 @@ may_reply_grows base committed h es by s (commands.See name x) (replies.Seen ver
     taken = slice_get-grows h es _ m.2.place m.2.taken;
     id = m.2.id;
     near = ap (λ t. seen_id (snapshot_xmax base.next t) x.number) (take-grows h es _ m.2.place m.2.taken) ∙ m.2.near;
+    young = λ n. young_grows base h es r r' by m.2.id f t w o (m.2.young n);
     exact = m.2.exact ∙ ap (λ t. is_visible committed t m.2.id) (sym (take-grows h es _ m.2.place m.2.taken));
   },
 )
-may_reply_grows base committed h es by s (commands.See name x) (replies.Refused (refusals.TooOld oldest)) o m = (
+may_reply_grows base committed h es r r' by s (commands.See name x) (replies.Refused (refusals.TooOld oldest)) f t w o m = (
   m.0,
   m.1,
   record {
@@ -135,8 +154,8 @@ may_reply_grows base committed h es by s (commands.See name x) (replies.Refused 
     taken = slice_get-grows h es _ m.2.place m.2.taken;
     normal = m.2.normal;
     older = subst (λ t. IfSome (near_id (snapshot_xmax base.next t) x.number) (λ id. id < oldest)) (sym (take-grows h es _ m.2.place m.2.taken)) m.2.older;
-    announced = announced_grows base h es oldest m.2.announced;
+    found = found_grows base h es r r' by oldest f t w o m.2.found;
   },
 )
-may_reply_grows base committed h es by s (commands.See name x) (replies.Refused refusals.NoSnapshot) o m = m
-may_reply_grows base committed h es by s command reply o m = absurd m
+may_reply_grows base committed h es r r' by s (commands.See name x) (replies.Refused refusals.NoSnapshot) f t w o m = m
+may_reply_grows base committed h es r r' by s command reply f t w o m = absurd m

@@ -1,9 +1,11 @@
 -- Which events a command has, by its reply.
-use Rattle.std.specs.Prelude.{◌≡◌, ℕ, ◌<◌, List, [], ◌∷◌, Option, Some, None, length, ◌⊎◌}
+use Rattle.std.specs.Prelude.{◌≡◌, ℕ, ◌<◌, ◌≤◌, List, [], ◌∷◌, Option, Some, None, length, ◌⊎◌}
 use Rattle.std.specs.List.{fold}
 use Rattle.tx_events.specs.declared.event.By.{By}
 use Rattle.tx_events.specs.declared.event.Event.{Event}
 use Rattle.tx_events.specs.declared.event.Event.TheVariants as events
+use Rattle.tx_events.specs.declared.refusal.Refusal.{Refusal}
+use Rattle.tx_events.specs.declared.refusal.Refusal.TheVariants as refusals
 use Rattle.tx_model.specs.declared.command.Command.{Command}
 use Rattle.tx_model.specs.declared.command.Command.TheVariants as commands
 use Rattle.tx_model.specs.declared.reply.Reply.{Reply}
@@ -38,11 +40,16 @@ abbrev pub undo_event : By → Option ℕ → List Event
 undo_event by None = []
 undo_event by (Some id) = events.Undo by id ∷ []
 
+-- how many ids a refused write may have given: all of them where a volume failed behind the last one, else fewer
+abbrev pub MayHaveGiven : Refusal → ℕ → ℕ → Type 0
+MayHaveGiven (refusals.DiskFault lock) wanted ids = ids ≤ wanted
+MayHaveGiven refusal wanted ids = ids < wanted
+
 -- the events that a command has which was answered so
 abbrev pub HasEvents : By → Stance → Command → Reply → List Event → Type 0
 HasEvents by s commands.Write (replies.Wrote ids warn) h = (h ≡ level_events by None s.levels ids) × (length ids ≡ lacking s.levels)
 HasEvents by s commands.Write (replies.Refused refusal) h =
-    (h ≡ []) ⊎ ((ids : List ℕ) × (h ≡ level_events by None s.levels ids) × (length ids < lacking s.levels))
+    (h ≡ []) ⊎ ((ids : List ℕ) × (h ≡ level_events by None s.levels ids) × MayHaveGiven refusal (lacking s.levels) (length ids))
 HasEvents by s commands.Undo replies.Done h = h ≡ undo_event by (innermost s.levels)
 HasEvents by s commands.Commit replies.Done h = h ≡ commit_event by (top_level s.levels)
 HasEvents by s commands.Abort replies.Done h = h ≡ abort_event by (top_level s.levels)

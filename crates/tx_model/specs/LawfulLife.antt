@@ -1,15 +1,19 @@
 -- Which lives are lawful.
-use Rattle.std.specs.Prelude.{◌≡◌, ℕ, ◌+◌, List, [], ◌∷◌}
-use Rattle.std.specs.List.{flat_map}
+use Rattle.std.specs.Prelude.{◌≡◌, ℕ, ◌+◌, false, IsTrue, List, [], ◌∷◌, ◌++◌, take}
+use Rattle.std.specs.List.{All, flat_map}
+use Rattle.tx_events.specs.declared.event.Event.{Event}
+use Rattle.tx_events.specs.declared.record.Counters.{Counters}
 use Rattle.tx_model.specs.declared.command.Command.{Command}
 use Rattle.tx_events.specs.declared.record.Rec.TheVariants as records
 use Rattle.tx_model.specs.declared.report.Line.{Line}
 use Rattle.tx_model.specs.declared.report.Step.{Step}
 use Rattle.tx_model.specs.declared.report.Step.TheVariants as steps
+use Rattle.tx_model.specs.declared.report.Life.{Life}
 use Rattle.tx_model.specs.declared.report.LifeReport.{LifeReport}
+use Rattle.tx_events.specs.Places.{EachPlace}
 use Rattle.tx_events.specs.History.{IsLegal}
 use Rattle.tx_model.specs.LifeLog.{IsLogOf}
-use Rattle.tx_model.specs.Lines.{AreLinesOf, AreLawfulLines}
+use Rattle.tx_model.specs.Lines.{AreLinesOf, IsLawfulRound, has_line}
 
 abbrev pub lines_in : Step → List Line
 lines_in (steps.Round number lines) = lines
@@ -21,10 +25,35 @@ AreRounds n [] [] = Unit {0}
 AreRounds n (turns ∷ rounds) (steps.Round number lines ∷ rest) = (number ≡ n) × AreLinesOf turns lines × AreRounds (n + 1) rounds rest
 AreRounds n rounds rest = ⊥
 
--- one legal history; the lines are the rounds' commands, each lawful; no multixact; the log of these ends
+-- the events of these lines stand before all others
+pub record StandFirst (h : List Event) (lines : List Line) : Type 0 where
+  pub first : List Event
+  pub behind : List Event
+  pub split : h ≡ first ++ behind
+  pub theirs : All (λ e. IsTrue (has_line lines e)) first
+  pub others : All (λ e. has_line lines e ≡ false) behind
+
+-- the events of each round stand before those of the rounds behind it
+abbrev pub AreInTurn : List Event → List Step → Type 0
+AreInTurn h steps = (n : ℕ) → StandFirst h (flat_map lines_in (take n steps))
+
+-- each line is lawful in its round, and each event is of a line
+pub record AreLawfulSteps (base : Counters) (committed : List ℕ) (h : List Event) (steps : List Step) : Type 0 where
+  pub each : EachPlace steps (λ before step. IsLawfulRound base committed h (flat_map lines_in before) (lines_in step))
+  pub no_other : All (λ e. IsTrue (has_line (flat_map lines_in steps) e)) h
+
+-- the life that begins a new log has these counters, and nothing committed or recorded before it
+pub record BeginsLog (base : Counters) (life : Life) : Type 0 where
+  pub from : life.from ≡ 0
+  pub base_is : life.base ≡ base
+  pub committed : life.committed ≡ []
+  pub recorded : life.recorded ≡ []
+
+-- one legal history, round by round; the lines are the rounds' commands, each lawful; no multixact; the log of these ends
 pub record IsLawfulLife (rounds : List (List (ℕ × Command))) (r : LifeReport) : Type 0 where
   pub history : IsLegal r.life.base r.life.events
   pub told : AreRounds 1 rounds r.steps
-  pub lawful : AreLawfulLines r.life.base r.life.committed r.life.events (flat_map lines_in r.steps)
+  pub in_turn : AreInTurn r.life.events r.steps
+  pub lawful : AreLawfulSteps r.life.base r.life.committed r.life.events r.steps
   pub multis : r.life.multis ≡ []
   pub log : IsLogOf r.life.from (records.Checkpoint r.life.from r.life.base) r.life.events r.life.recs r.life.flushed r.life.end

@@ -1,6 +1,6 @@
 -- Which replies are lawful.
-use Rattle.std.specs.Prelude.{IsTrue, ◌↔◌, ◌≡◌, ◌≢◌, ℕ, ◌<◌, ◌≤◌, ◌⊎◌, nat_lt, Bool, List, [], Option, Some, None, length, take, drop, cond, slice_get, IfSome, Contains}
-use Rattle.std.specs.List.{AllByRecursion, filter_map}
+use Rattle.std.specs.Prelude.{IsTrue, ◌↔◌, ◌≡◌, ◌≢◌, ℕ, ◌-◌, ◌<◌, ◌≤◌, nat_lt, Bool, List, [], Option, Some, None, length, take, drop, cond, slice_get, IfSome}
+use Rattle.std.specs.List.{AllByRecursion}
 use Rattle.xid_order.specs.Nearest.{near_id}
 use Rattle.tx_events.specs.declared.event.By.{By}
 use Rattle.tx_events.specs.declared.event.Event.{Event}
@@ -11,7 +11,7 @@ use Rattle.tx_model.specs.declared.reply.Reply.{Reply}
 use Rattle.tx_model.specs.declared.reply.Reply.TheVariants as replies
 use Rattle.tx_events.specs.declared.refusal.Refusal.TheVariants as refusals
 use Rattle.tx_events.specs.declared.record.Counters.{Counters}
-use Rattle.tx_events.specs.Events.{announced_by, by_of, given_by}
+use Rattle.tx_events.specs.Events.{by_of, given_by}
 use Rattle.xid_order.specs.Limits.{stop_limit, warn_limit}
 use Rattle.tx_events.specs.History.{next_given}
 use Rattle.tx_events.specs.Horizon.{oldest_id}
@@ -27,25 +27,59 @@ IsTakenAt h by name p = slice_get h p ≡ Some (events.Snap by name)
 abbrev pub seen_id : ℕ → ℕ → Option ℕ
 seen_id xmax x = cond (nat_lt x 3) (Some x) (near_id xmax x)
 
--- the snapshot that the session's command `number` took answers for x
-pub record IsVerdict (base : Counters) (committed : List ℕ) (h : List Event) (by : By) (name : List ℕ) (x : ℕ) (verdict : Bool) : Type 0 where
+-- Where a round stands in its life's history: behind the first `from` events, those of the rounds before it, and
+-- among the first `to`.
+pub record RoundSpan : Type 0 where
+  pub from : ℕ
+  pub to : ℕ
+
+-- where a command runs that runs alone: the history grows meanwhile by its own events
+abbrev pub alone : List Event → List Event → RoundSpan
+alone h h' = record { from = length h; to = length h' }
+
+-- at place p the command may read: within its round, behind the session's earlier events and before its later ones
+pub record MayReadAt (h : List Event) (round : RoundSpan) (by : By) (p : ℕ) : Type 0 where
+  pub not_before : round.from ≤ p
+  pub not_past : p ≤ round.to
+  pub behind : AllByRecursion (λ e. (by_of e).session ≡ by.session → by.command < (by_of e).command) (drop p h)
+  pub before : AllByRecursion (λ e. (by_of e).session ≡ by.session → (by_of e).command ≤ by.command) (take p h)
+
+-- The command may find this announced oldest id: it is the one at a place where the command may read, or the one
+-- before the last event there. A session publishes the oldest id before its own event, so what is read without the
+-- lock of the ProcArray may be one event behind.
+pub record MayFindOldest (base : Counters) (h : List Event) (round : RoundSpan) (by : By) (oldest : ℕ) : Type 0 where
   pub place : ℕ
-  pub taken : IsTakenAt h by name place
+  pub read : MayReadAt h round by place
+  pub lag : ℕ
+  pub short : lag ≤ 1
+  pub oldest_is : oldest ≡ oldest_id base.oldest (take (place - lag) h)
+
+-- the id isn't older than an oldest id that the command may find
+pub record IsNotTooOld (base : Counters) (h : List Event) (round : RoundSpan) (by : By) (id : ℕ) : Type 0 where
+  pub oldest : ℕ
+  pub found : MayFindOldest base h round by oldest
+  pub young : oldest ≤ id
+
+-- the command by which the session took its snapshot
+abbrev pub taken_by : By → ℕ → By
+taken_by by number = record { session = by.session; command = number }
+
+-- the snapshot that the session's command `number` took answers for x; ids 0 to 2 are never too old
+pub record IsVerdict (base : Counters) (committed : List ℕ) (h : List Event) (round : RoundSpan) (by : By) (number : ℕ) (name : List ℕ) (x : ℕ) (verdict : Bool) : Type 0 where
+  pub place : ℕ
+  pub taken : IsTakenAt h (taken_by by number) name place
   pub id : ℕ
   pub near : seen_id (snapshot_xmax base.next (take place h)) x ≡ Some id
+  pub young : 3 ≤ x → IsNotTooOld base h round by id
   pub exact : verdict ≡ is_visible committed (take place h) id
 
--- this oldest id was announced, or the life began with it
-abbrev pub WasAnnounced : Counters → List Event → ℕ → Type 0
-WasAnnounced base h oldest = (oldest ≡ base.oldest) ⊎ Contains (filter_map announced_by h) oldest
-
--- the id is older than an oldest id that was announced, or there is none
-pub record IsTooOld (base : Counters) (h : List Event) (by : By) (name : List ℕ) (x oldest : ℕ) : Type 0 where
+-- the id is older than an oldest id that the command may find, or there is none
+pub record IsTooOld (base : Counters) (h : List Event) (round : RoundSpan) (by : By) (number : ℕ) (name : List ℕ) (x oldest : ℕ) : Type 0 where
   pub place : ℕ
-  pub taken : IsTakenAt h by name place
+  pub taken : IsTakenAt h (taken_by by number) name place
   pub normal : 3 ≤ x
   pub older : IfSome (near_id (snapshot_xmax base.next (take place h)) x) (λ id. id < oldest)
-  pub announced : WasAnnounced base h oldest
+  pub found : MayFindOldest base h round by oldest
 
 -- at place p the command is given this id
 pub record IsGivenAt (h : List Event) (by : By) (p id : ℕ) : Type 0 where
@@ -61,13 +95,10 @@ pub record IsWarned (base : Counters) (h : List Event) (by : By) : Type 0 where
   pub given : IsGivenAt h by place id
   pub late : warn_limit (oldest_id base.oldest (take place h)) ≤ id
 
--- the next id was at or past its stop limit at a place behind the session's events up to this command and before its
--- later ones
-pub record IsStopped (base : Counters) (h : List Event) (by : By) (next stop : ℕ) : Type 0 where
+-- the next id was at or past its stop limit at a place where the command may read
+pub record IsStopped (base : Counters) (h : List Event) (round : RoundSpan) (by : By) (next stop : ℕ) : Type 0 where
   pub place : ℕ
-  pub within : place ≤ length h
-  pub behind : AllByRecursion (λ e. (by_of e).session ≡ by.session → by.command < (by_of e).command) (drop place h)
-  pub before : AllByRecursion (λ e. (by_of e).session ≡ by.session → (by_of e).command ≤ by.command) (take place h)
+  pub read : MayReadAt h round by place
   pub next_is : next ≡ next_given base.next (take place h)
   pub stop_is : stop ≡ stop_limit (oldest_id base.oldest (take place h))
   pub reached : stop ≤ next
@@ -76,33 +107,33 @@ pub record IsStopped (base : Counters) (h : List Event) (by : By) (next stop : �
 abbrev pub most_levels : ℕ
 most_levels = 1001
 
--- the reply that a command may get in a life with this base, these committed ids and this history
-abbrev pub MayReply : Counters → List ℕ → List Event → By → Stance → Command → Reply → Type 0
-MayReply base committed h by s commands.Begin replies.Done = s.levels ≡ []
-MayReply base committed h by s commands.Begin (replies.Refused refusals.AlreadyOpen) = s.levels ≢ []
-MayReply base committed h by s commands.Save replies.Done = (s.levels ≢ []) × (length s.levels < most_levels)
-MayReply base committed h by s commands.Save (replies.Refused refusals.NoTransaction) = s.levels ≡ []
-MayReply base committed h by s commands.Save (replies.Refused refusals.DepthLimit) = most_levels ≤ length s.levels
-MayReply base committed h by s commands.Write (replies.Wrote ids warn) = (s.levels ≢ []) × (IsTrue warn ↔ IsWarned base h by)
-MayReply base committed h by s commands.Write (replies.Refused refusals.NoTransaction) = s.levels ≡ []
-MayReply base committed h by s commands.Write (replies.Refused (refusals.Stop next stop)) = (1 ≤ lacking s.levels) × IsStopped base h by next stop
-MayReply base committed h by s commands.Release replies.Done = 2 ≤ length s.levels
-MayReply base committed h by s commands.Release (replies.Refused refusals.NoSavepoint) = length s.levels ≤ 1
-MayReply base committed h by s commands.Undo replies.Done = 2 ≤ length s.levels
-MayReply base committed h by s commands.Undo (replies.Refused refusals.NoSavepoint) = length s.levels ≤ 1
-MayReply base committed h by s commands.Commit replies.Done = s.levels ≢ []
-MayReply base committed h by s commands.Commit (replies.Refused refusals.NoTransaction) = s.levels ≡ []
-MayReply base committed h by s commands.Abort replies.Done = s.levels ≢ []
-MayReply base committed h by s commands.Abort (replies.Refused refusals.NoTransaction) = s.levels ≡ []
-MayReply base committed h by s (commands.Snap name) (replies.Snapped lists) =
+-- the reply that a command may get in a round of a life with this base, these committed ids and this history
+abbrev pub MayReply : Counters → List ℕ → List Event → RoundSpan → By → Stance → Command → Reply → Type 0
+MayReply base committed h round by s commands.Begin replies.Done = s.levels ≡ []
+MayReply base committed h round by s commands.Begin (replies.Refused refusals.AlreadyOpen) = s.levels ≢ []
+MayReply base committed h round by s commands.Save replies.Done = (s.levels ≢ []) × (length s.levels < most_levels)
+MayReply base committed h round by s commands.Save (replies.Refused refusals.NoTransaction) = s.levels ≡ []
+MayReply base committed h round by s commands.Save (replies.Refused refusals.DepthLimit) = most_levels ≤ length s.levels
+MayReply base committed h round by s commands.Write (replies.Wrote ids warn) = (s.levels ≢ []) × (IsTrue warn ↔ IsWarned base h by)
+MayReply base committed h round by s commands.Write (replies.Refused refusals.NoTransaction) = s.levels ≡ []
+MayReply base committed h round by s commands.Write (replies.Refused (refusals.Stop next stop)) = (1 ≤ lacking s.levels) × IsStopped base h round by next stop
+MayReply base committed h round by s commands.Release replies.Done = 2 ≤ length s.levels
+MayReply base committed h round by s commands.Release (replies.Refused refusals.NoSavepoint) = length s.levels ≤ 1
+MayReply base committed h round by s commands.Undo replies.Done = 2 ≤ length s.levels
+MayReply base committed h round by s commands.Undo (replies.Refused refusals.NoSavepoint) = length s.levels ≤ 1
+MayReply base committed h round by s commands.Commit replies.Done = s.levels ≢ []
+MayReply base committed h round by s commands.Commit (replies.Refused refusals.NoTransaction) = s.levels ≡ []
+MayReply base committed h round by s commands.Abort replies.Done = s.levels ≢ []
+MayReply base committed h round by s commands.Abort (replies.Refused refusals.NoTransaction) = s.levels ≡ []
+MayReply base committed h round by s (commands.Snap name) (replies.Snapped lists) =
     (snap_of name s ≡ None) × (length s.snaps < 64) × (p : ℕ) × IsTakenAt h by name p × (lists ≡ snapshot_data base.next (take p h))
-MayReply base committed h by s (commands.Snap name) (replies.Refused refusals.NameTaken) = snap_of name s ≢ None
-MayReply base committed h by s (commands.Snap name) (replies.Refused refusals.SnapLimit) = (snap_of name s ≡ None) × (64 ≤ length s.snaps)
-MayReply base committed h by s (commands.DropSnap name) replies.Done = snap_of name s ≢ None
-MayReply base committed h by s (commands.DropSnap name) (replies.Refused refusals.NoSnapshot) = snap_of name s ≡ None
-MayReply base committed h by s (commands.See name x) (replies.Seen verdict) =
-    (number : ℕ) × (snap_of name s ≡ Some number) × IsVerdict base committed h (record { session = by.session; command = number }) name x.number verdict
-MayReply base committed h by s (commands.See name x) (replies.Refused (refusals.TooOld oldest)) =
-    (number : ℕ) × (snap_of name s ≡ Some number) × IsTooOld base h (record { session = by.session; command = number }) name x.number oldest
-MayReply base committed h by s (commands.See name x) (replies.Refused refusals.NoSnapshot) = snap_of name s ≡ None
-MayReply base committed h by s command reply = ⊥
+MayReply base committed h round by s (commands.Snap name) (replies.Refused refusals.NameTaken) = snap_of name s ≢ None
+MayReply base committed h round by s (commands.Snap name) (replies.Refused refusals.SnapLimit) = (snap_of name s ≡ None) × (64 ≤ length s.snaps)
+MayReply base committed h round by s (commands.DropSnap name) replies.Done = snap_of name s ≢ None
+MayReply base committed h round by s (commands.DropSnap name) (replies.Refused refusals.NoSnapshot) = snap_of name s ≡ None
+MayReply base committed h round by s (commands.See name x) (replies.Seen verdict) =
+    (number : ℕ) × (snap_of name s ≡ Some number) × IsVerdict base committed h round by number name x.number verdict
+MayReply base committed h round by s (commands.See name x) (replies.Refused (refusals.TooOld oldest)) =
+    (number : ℕ) × (snap_of name s ≡ Some number) × IsTooOld base h round by number name x.number oldest
+MayReply base committed h round by s (commands.See name x) (replies.Refused refusals.NoSnapshot) = snap_of name s ≡ None
+MayReply base committed h round by s command reply = ⊥

@@ -1,7 +1,8 @@
-//! `txid_tool run`: reads a script from standard input and writes its report to standard output.
+//! `txid_tool run`: reads a script from standard input and writes its report to standard output. See
+//! `docs/SCRIPT-AND-REPORT.md`.
 #![tactic(auto)]
 
-use session_run::run_tool;
+use session_run::{run_tool, say_out_of_memory};
 use std::process::ExitCode;
 use std::{env, io};
 use tx_io::{StdSink, StdSource};
@@ -16,10 +17,16 @@ fn words(rt: &HostRuntime) -> io::Result<Vec<String>> {
 }
 
 fn main(rt: HostRuntime) -> ExitCode {
-    // Words that aren't text are refused as any other wrong words are.
-    let words = words(&rt).unwrap_or(Vec::new(rt.alloc()));
-    let mut source = StdSource::new(rt.stdin());
     let mut sink = StdSink::new(rt.stdout());
+    let words = match words(&rt) {
+        Ok(words) => words,
+        Err(error) if error.kind() == io::ErrorKind::OutOfMemory => {
+            return ExitCode::from(say_out_of_memory(&mut sink));
+        }
+        // Words that aren't text are refused as any other wrong words are.
+        Err(_) => Vec::new(rt.alloc()),
+    };
+    let mut source = StdSource::new(rt.stdin());
     let status = run_tool(rt.alloc(), words.as_slice(), &mut source, &mut sink);
     ExitCode::from(status)
 }

@@ -1,21 +1,18 @@
-use Rattle.std.proofs.Common.{◌<◌, ◌≤◌, subst, sym, rules}
-use Rattle.plain_states.specs.Verdicts.{SeesRight}
-use Rattle.plain_states.proofs.Seeing.{hidden_missing, hidden_past, hidden_uncommitted, seen_closed}
+use Rattle.plain_states.proofs.Seeing.{closed_by, closed_ended, hidden, seen_marked}
+use Rattle.std.proofs.Common.{sym, ◌∙◌, true}
 use Rattle.plain_states.proofs.climb.sees.Goals as goal
 
-pub returns-then-ge : goal.returns-then-ge
-returns-then-ge c =
-    let past : c.args.snap.now.xmax ≤ c.args.x = search rules in
-    hidden_past c.args.states.now c.args.snap.now c.args.x past
+pub returns-in-Seen : goal.returns-in-Seen
+returns-in-Seen c =
+    let k = c.in-Seen.ensures.right in
+    seen_marked c.args.states.now c.args.snap.now c.args.x true (sym c.has_committed.ensures ∙ k.1) k.0 (closed_ended c.args.states.now c.args.snap.now c.args.x k.2)
 
-pub returns-then-state : goal.returns-then-state
-returns-then-state c =
-    let low : c.args.x < c.args.snap.now.xmax = search rules in
-    seen_closed c.args.states.now c.args.snap.now c.args.x c.in-Some.state c.had_ended.result (sym c.in-Some.ensures) c.if-state.true low c.had_ended.ensures
+pub returns-in-Hidden : goal.returns-in-Hidden
+returns-in-Hidden c = hidden c.args.states.now c.args.snap.now c.args.x c.has_committed.result c.has_committed.ensures c.in-Hidden.ensures.right
 
-pub returns-else-state : goal.returns-else-state
-returns-else-state c =
-    subst (λ r. SeesRight c.args.states.now c.args.snap.now c.args.x r) (sym c.if-state.false) (hidden_uncommitted c.args.states.now c.args.snap.now c.args.x c.in-Some.state (sym c.in-Some.ensures) c.if-state.false)
-
-pub returns-in-None : goal.returns-in-None
-returns-in-None c = hidden_missing c.args.states.now c.args.snap.now c.args.x (sym c.in-None.ensures)
+pub returns-in-AskParents : goal.returns-in-AskParents
+returns-in-AskParents c =
+    let k = c.in-AskParents.ensures.right in
+    let seen = c.sight_of_top.result in
+    seen_marked c.args.states.now c.args.snap.now c.args.x seen (sym c.has_committed.ensures ∙ k.1) k.0
+    (closed_by c.args.states.now c.args.snap.now c.args.x c.topmost.result seen c.topmost.ensures c.sight_of_top.ensures.below c.sight_of_top.ensures.right)

@@ -16,8 +16,8 @@ returns-clause-acts c =
     let some : 1 ≤ length s.named.items = grind (arith, nat_tests, c.is_empty.ensures, c.if-is_empty.false) in
     let head = nest_head w.table.events s.opened.items s.named.items some c.requires.ready.stands.nest in
     rw (c.in_ok-end_ids.ensures.event head.top head.rest (c.deref.ensures.value ∙ head.opened_is), c.clear.ensures.items)
-    (subst (λ l. Acts w.table.base c.args.by (record { levels = levels_of l s.unnamed; snaps = map told_of s.kept.items }) (record { levels = []; snaps = map told_of s.kept.items }) (end_command c.args.how) replies.Done w.table.events (w.table.events ++ end_event c.args.how c.args.by head.top ∷ [])) (sym head.named_is)
-    (acts_ended w.table.base c.args.by w.table.events head.top head.ids s.unnamed (map told_of s.kept.items) c.args.how))
+    (subst (λ l. Acts w.table.base c.args.by (record { levels = levels_of l s.unnamed; snaps = map told_of s.registered.items }) (record { levels = []; snaps = map told_of s.registered.items }) (end_command c.args.how) replies.Done w.table.events (w.table.events ++ end_event c.args.how c.args.by head.top ∷ [])) (sym head.named_is)
+    (acts_ended w.table.base c.args.by w.table.events head.top head.ids s.unnamed (map told_of s.registered.items) c.args.how))
 
 pub returns-clause-stands : goal.returns-clause-stands
 returns-clause-stands c =
@@ -28,5 +28,5 @@ returns-clause-stands c =
     rw (c.in_ok-end_ids.ensures.event head.top head.rest (c.deref.ensures.value ∙ head.opened_is), c.in_ok-end_ids.ensures.few.base)
     (stands w.table.base _ c.args.by.session c.args.by.command _
     (rw (c.clear.ensures.items, c.clear-2.ensures.items)
-    (stood_ended w.table.base w.table.events c.args.by head.top s.unnamed head.rest s.opened.items s.named.items s.kept.items c.args.how c.requires.ready.sound.legal head.opened_is head.top_is
+    (stood_ended w.table.base w.table.events c.args.by head.top s.unnamed head.rest s.opened.items s.named.items s.registered.items c.args.how c.requires.ready.sound.legal head.opened_is head.top_is
     (stood w.table.base w.table.events c.args.by.session c.args.by.command s c.requires.ready.stands))))

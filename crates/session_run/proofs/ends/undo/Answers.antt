@@ -7,4 +7,4 @@ pub returns-then-session-gt0-clause-acts : goal.returns-then-session-gt0-clause-
 returns-then-session-gt0-clause-acts c =
     let w = c.args.shared.now in
     let s = c.args.session.now in
-    acts_unwound w.table.base c.args.by w.table.events s.named.items s.unnamed (s.unnamed - 1) (map told_of s.kept.items) (omega arith) (omega arith)
+    acts_unwound w.table.base c.args.by w.table.events s.named.items s.unnamed (s.unnamed - 1) (map told_of s.registered.items) (omega arith) (omega arith)

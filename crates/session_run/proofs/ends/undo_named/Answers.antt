@@ -50,9 +50,9 @@ returns-clause-acts c =
     let s = c.args.session.now in
     let some : 1 ≤ length c.pop.new.self.items = omega (arith, c.in-Some.ensures.len, c.requires.savepoint) in
     rw c.undo.ensures.events
-    (subst (λ l. Acts w.table.base c.args.by (record { levels = levels_of l s.unnamed; snaps = map told_of s.kept.items }) (record { levels = levels_of c.pop.new.self.items s.unnamed; snaps = map told_of s.kept.items }) commands.Undo replies.Done w.table.events (w.table.events ++ events.Undo c.args.by c.in-Some.id ∷ []))
+    (subst (λ l. Acts w.table.base c.args.by (record { levels = levels_of l s.unnamed; snaps = map told_of s.registered.items }) (record { levels = levels_of c.pop.new.self.items s.unnamed; snaps = map told_of s.registered.items }) commands.Undo replies.Done w.table.events (w.table.events ++ events.Undo c.args.by c.in-Some.id ∷ []))
     (sym c.in-Some.ensures.items)
-    (acts_undone w.table.base c.args.by w.table.events c.pop.new.self.items c.in-Some.id s.unnamed (map told_of s.kept.items) some c.requires.all_named))
+    (acts_undone w.table.base c.args.by w.table.events c.pop.new.self.items c.in-Some.id s.unnamed (map told_of s.registered.items) some c.requires.all_named))
 
 pub returns-clause-sound : goal.returns-clause-sound
 returns-clause-sound c =
@@ -75,6 +75,6 @@ returns-clause-stands c =
     let cut : take c.place_of-from.result s.opened.items ≡ filter (λ x. not (nat_le id x)) s.opened.items = subst (λ l. take c.place_of-from.result l ≡ filter (λ x. not (nat_le id x)) l) c.deref.ensures.value c.place_of-from.ensures.before in
     rw (c.undo.ensures.events, c.undo.ensures.base)
     (stands w.table.base _ c.args.by.session c.args.by.command _
-    (subst (λ o. Stood w.table.base (w.table.events ++ events.Undo c.args.by id ∷ []) c.args.by.session c.args.by.command o c.pop.new.self.items s.unnamed s.kept.items) (sym (c.truncate.ensures.items ∙ cut))
-    (stood_undone w.table.base w.table.events c.args.by id s.unnamed s.opened.items c.pop.new.self.items s.kept.items some
-    (subst (λ l. Stood w.table.base w.table.events c.args.by.session c.args.by.command s.opened.items l s.unnamed s.kept.items) c.in-Some.ensures.items (stood w.table.base w.table.events c.args.by.session c.args.by.command s r.stands)))))
+    (subst (λ o. Stood w.table.base (w.table.events ++ events.Undo c.args.by id ∷ []) c.args.by.session c.args.by.command o c.pop.new.self.items s.unnamed s.registered.items) (sym (c.truncate.ensures.items ∙ cut))
+    (stood_undone w.table.base w.table.events c.args.by id s.unnamed s.opened.items c.pop.new.self.items s.registered.items some
+    (subst (λ l. Stood w.table.base w.table.events c.args.by.session c.args.by.command s.opened.items l s.unnamed s.registered.items) c.in-Some.ensures.items (stood w.table.base w.table.events c.args.by.session c.args.by.command s r.stands)))))

@@ -10,7 +10,7 @@ pub returns-then-session-gt0-clause-closed : goal.returns-then-session-gt0-claus
 returns-then-session-gt0-clause-closed c = let s = c.args.session.now in sym (level_less s.named.items s.unnamed (s.unnamed - 1) (omega arith))
 
 pub returns-then-session-gt0-clause-stands : goal.returns-then-session-gt0-clause-stands
-returns-then-session-gt0-clause-stands c = λ base h s n k. let old = c.args.session.now in stands base h s n _ (stood_levels base h s n old.opened.items old.named.items old.named.items old.unnamed (old.unnamed - 1) old.kept.items k.nest (omega (arith, k.depth)) (stood base h s n old k))
+returns-then-session-gt0-clause-stands c = λ base h s n k. let old = c.args.session.now in stands base h s n _ (stood_levels base h s n old.opened.items old.named.items old.named.items old.unnamed (old.unnamed - 1) old.registered.items k.nest (omega (arith, k.depth)) (stood base h s n old k))
 
 pub returns-else-session-gt0-clause-closed : goal.returns-else-session-gt0-clause-closed
 returns-else-session-gt0-clause-closed c =
@@ -24,5 +24,5 @@ returns-else-session-gt0-clause-stands c = λ base h s n k.
     let old = c.args.session.now in
     let two = levels_length old.named.items old.unnamed in
     let fewer : length c.pop-id.new.self.items ≤ length old.named.items = omega (arith, c.pop-id.ensures.len) in
-    stands base h s n _ (stood_levels base h s n old.opened.items old.named.items c.pop-id.new.self.items old.unnamed old.unnamed old.kept.items
+    stands base h s n _ (stood_levels base h s n old.opened.items old.named.items c.pop-id.new.self.items old.unnamed old.unnamed old.registered.items
     (subst (Nest h old.opened.items) (sym c.pop-id.ensures.rest) (nest_taken h old.opened.items old.named.items (vec_len old.named - 1) (omega (arith, two)) (omega (arith, two, c.requires)) k.nest)) (omega (arith, k.depth, fewer)) (stood base h s n old k))

@@ -18,6 +18,6 @@ returns c =
     let p = c.into_parts-life.ensures in
     let r : LifeReport = record { life = c.into_parts-life.result.0; steps = life.steps; crash = None } in (
       record { names = c.args.script.now.names; lives = r ∷ [] },
-      report_of c.args.script.now life r e.goes_on e.ended (subst (λ items. AreRounds 1 (rounds_of items) life.steps) c.items-2.ensures e.rounds) e.in_turn (e.on.base ∙ c.in_ok-life.ensures.base) life.shared.log.known life.shared.log.gate p.from p.base p.committed p.events p.multis p.recs p.flushed p.end refl refl,
+      report_of c.args.script.now life r e.goes_on e.ended (subst (λ items. AreRounds 1 (rounds_of items) life.steps) c.items-2.ensures e.rounds) e.in_turn (e.on.base ∙ c.in_ok-life.ensures.base) life.shared.log.known life.shared.log.gate p.from p.base p.committed p.recorded p.events p.multis p.recs p.flushed p.end refl refl,
       c.into_bytes.ensures ∙ c.in_ok-end_report.ensures.ok ∙ printed_report c.args.script.now.names life r c.into_parts-life.result.1 e.told p.text p.from p.base refl,
     )

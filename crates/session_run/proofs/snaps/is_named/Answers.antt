@@ -7,6 +7,6 @@ use Rattle.session_run.proofs.snaps.is_named.Goals as goal
 
 pub returns : goal.returns
 returns c =
-    same_name-is c.args.kept.now.name c.args.name.now c.eq.result
+    same_name-is c.args.registered.now.name c.args.name.now c.eq.result
     (subst (λ (a : List ℕ). Decides c.eq.result (a ≡ c.args.name.now)) c.items.ensures
     (slice_eq-Decides (λ a b. Decides-eqb a b) c.items.result.now c.args.name.now c.eq.result c.eq.ensures))

@@ -12,11 +12,11 @@ returns-in-Some-clause-acts c =
     let w = c.args.shared.now in
     let s = c.args.session.now in
     acts_idle w.table.base c.args.by (stance_of s) (stance_of s) (commands.Snap c.args.name.now) (replies.Refused refusals.NameTaken) w.table.events refl
-    (λ n. let found = snap_found c.args.name.now (stance_of s).levels s.kept.items c.in-Some._kept.now c.in-Some.ensures.found in cc) refl
+    (λ n. let found = snap_found c.args.name.now (stance_of s).levels s.registered.items c.in-Some._registered.now c.in-Some.ensures.found in cc) refl
 
 pub returns-then-len-ge-MOST_SNAPS-clause-acts : goal.returns-then-len-ge-MOST_SNAPS-clause-acts
 returns-then-len-ge-MOST_SNAPS-clause-acts c =
     let w = c.args.shared.now in
     let s = c.args.session.now in
     acts_idle w.table.base c.args.by (stance_of s) (stance_of s) (commands.Snap c.args.name.now) (replies.Refused refusals.SnapLimit) w.table.events refl
-    (snap_missing c.args.name.now (stance_of s).levels s.kept.items c.in_default.ensures.none, omega (arith, length-map s.kept.items told_of)) refl
+    (snap_missing c.args.name.now (stance_of s).levels s.registered.items c.in_default.ensures.none, omega (arith, length-map s.registered.items told_of)) refl

@@ -24,12 +24,12 @@ returns-in-Given c =
       record {
         named = c.push_reserved.ensures.items ∙ ap (λ l. l ++ id ∷ []) c.in_ok-reserve.ensures.items;
         unnamed = omega (arith, c.requires.some);
-        kept = refl;
+        registered = refl;
         count = refl;
       },
       rw (g.event, g.round.base)
           (stands w.table.base _ c.args.by.session c.args.by.command _
           (rw (c.push_reserved.ensures.items, c.push_reserved-in-Given.ensures.items, c.in_ok-reserve.ensures.items, c.in_ok-reserve-2.ensures.items)
-          (stood_given w.table.base w.table.events c.args.by id s.unnamed (s.unnamed - 1) s.opened.items s.named.items s.kept.items c.requires.sound.legal g.may (omega (arith, c.requires.some))
+          (stood_given w.table.base w.table.events c.args.by id s.unnamed (s.unnamed - 1) s.opened.items s.named.items s.registered.items c.requires.sound.legal g.may (omega (arith, c.requires.some))
           (stood w.table.base w.table.events c.args.by.session c.args.by.command s c.requires.stands)))),
     )

@@ -1,10 +1,10 @@
 use Rattle.std.proofs.Common.{◌≡◌, ℕ, ◌+◌, ◌≤◌, ◌^◌, List, [], ◌++◌, length}
 use Rattle.std.specs.List.{All}
 use Rattle.tx_model.specs.declared.command.Command.{Command}
-use Rattle.tx_model.specs.LawfulLife.{AreRounds}
+use Rattle.tx_model.specs.LawfulLife.{AreInTurn, AreRounds}
 use Rattle.session_lang.specs.Rounds.{rounds_of}
 use Rattle.session_run.specs.Plans.{IsBlank}
-use Rattle.session_run.specs.Progress.{AreInTurn, Continues, GoesOn, IsTold, lines_of}
+use Rattle.session_run.specs.Progress.{Continues, GoesOn, IsTold, lines_of}
 use Rattle.session_run.specs.Turns.{MayRun}
 use Rattle.session_run.proofs.life.OpenLife.run_rounds.Given as goal
 

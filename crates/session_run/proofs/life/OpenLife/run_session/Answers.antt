@@ -20,8 +20,8 @@ loop-place-init c = record {
 }
 
 -- what the loop keeps
-abbrev Kept : List (List ℕ) → ℕ → OpenLife → List Item → List ℕ → ℕ → OpenLife → Type 0
-Kept names number before round places i after = record {
+abbrev RegisteredSnapshot : List (List ℕ) → ℕ → OpenLife → List Item → List ℕ → ℕ → OpenLife → Type 0
+RegisteredSnapshot names number before round places i after = record {
   goes_on : GoesOn after;
   told : map turn_of after.lines ≡ map turn_of before.lines ++ turns_at number round (take i places);
   steps : after.steps ≡ before.steps;
@@ -48,7 +48,7 @@ loop-place-preserved c =
       | in-Some+in_ok-run_turn w ↦
           let e = w.in_ok-run_turn.ensures in
           let own = own_at n round p w.in-Some.command.now w.in-Some.ensures.some in
-          subst (Kept c.args.names.now n c.args.self.now round places (k + 1)) (sym w.self-is) (record {
+          subst (RegisteredSnapshot c.args.names.now n c.args.self.now round places (k + 1)) (sym w.self-is) (record {
             goes_on = e.goes_on;
             told = e.line ∙ ap (λ t. t ++ (n, w.in-Some.command.now) ∷ []) i.told
                 ∙ append_assoc before (turns_at n round (take k places)) ((n, w.in-Some.command.now) ∷ [])
@@ -59,7 +59,7 @@ loop-place-preserved c =
             tells = tells_then c.args.names.now c.args.self.now c.loop-place.self w.run_turn.new.self i.tells e.tells;
           })
       | in_default w ↦
-          subst (Kept c.args.names.now n c.args.self.now round places (k + 1)) (sym w.self-is) (record {
+          subst (RegisteredSnapshot c.args.names.now n c.args.self.now round places (k + 1)) (sym w.self-is) (record {
             goes_on = i.goes_on;
             told = i.told
                 ∙ ap (λ t. before ++ t) (sym (append-nil (turns_at n round (take k places))) ∙ ap (λ t. turns_at n round (take k places) ++ t) (sym w.in_default.ensures.none) ∙ sym on);

@@ -17,8 +17,8 @@ use Rattle.tx_events.proofs.Membership.{contains_has, any_has}
 use Rattle.tx_events.proofs.Lineages.{top_kept, enclosing_kept}
 use Rattle.tx_events.proofs.PlaceLemmas.{last_at}
 use Rattle.tx_events.proofs.QuietGrowth.{quiet_open_ids, quiet_family, IsQuiet}
-use Rattle.session_run.specs.declared.session.Kept.{Kept}
-use Rattle.session_run.specs.Stands.{Nest, IsKept, IsSavepointIn}
+use Rattle.session_run.specs.declared.session.RegisteredSnapshot.{RegisteredSnapshot}
+use Rattle.session_run.specs.Stands.{Nest, IsRegistered, IsSavepointIn}
 use Rattle.session_run.proofs.StandsLemmas.{Stood, kept_grows, turn_push}
 use Rattle.tx_events.specs.declared.event.Event.TheVariants as events
 
@@ -40,10 +40,10 @@ nest_quiet h e opened (t ∷ ids) q n = (
   n.4,
 )
 
-stood_quiet : (base : Counters) (h : List Event) (by : By) (e : Event) (opened named : List ℕ) (unnamed : ℕ) (kept kept' : List Kept) → IsQuiet e → by_of e ≡ by →
-    ((name : List ℕ) → is_live base.next by.session name (h ++ e ∷ []) ≡ list_any (λ k. same_name k.name name) kept') → AllByRecursion (IsKept base (h ++ e ∷ []) by.session) kept' →
-    Stood base h by.session by.command opened named unnamed kept → Stood base (h ++ e ∷ []) by.session by.command opened named unnamed kept'
-stood_quiet base h by e opened named unnamed kept kept' q own live snaps s = record {
+stood_quiet : (base : Counters) (h : List Event) (by : By) (e : Event) (opened named : List ℕ) (unnamed : ℕ) (registered registered' : List RegisteredSnapshot) → IsQuiet e → by_of e ≡ by →
+    ((name : List ℕ) → is_live base.next by.session name (h ++ e ∷ []) ≡ list_any (λ k. same_name k.name name) registered') → AllByRecursion (IsRegistered base (h ++ e ∷ []) by.session) registered' →
+    Stood base h by.session by.command opened named unnamed registered → Stood base (h ++ e ∷ []) by.session by.command opened named unnamed registered'
+stood_quiet base h by e opened named unnamed registered registered' q own live snaps s = record {
   opened_are = quiet_open_ids by.session h e q ∙ s.opened_are;
   ascend = s.ascend;
   nest = nest_quiet h e opened named q s.nest;
@@ -54,17 +54,17 @@ stood_quiet base h by e opened named unnamed kept kept' q own live snaps s = rec
 }
 
 -- a session that takes a snapshot
-pub stood_snapped : (base : Counters) (h : List Event) (by : By) (opened named : List ℕ) (unnamed : ℕ) (kept : List Kept) (k : Kept) → k.command ≡ by.command → k.place ≡ length h → k.snapshot ≡ snapshot_data base.next h →
-    Stood base h by.session by.command opened named unnamed kept → Stood base (h ++ events.Snap by k.name ∷ []) by.session by.command opened named unnamed (kept ++ k ∷ [])
-stood_snapped base h by opened named unnamed kept k c p d s =
+pub stood_snapped : (base : Counters) (h : List Event) (by : By) (opened named : List ℕ) (unnamed : ℕ) (registered : List RegisteredSnapshot) (k : RegisteredSnapshot) → k.command ≡ by.command → k.place ≡ length h → k.snapshot ≡ snapshot_data base.next h →
+    Stood base h by.session by.command opened named unnamed registered → Stood base (h ++ events.Snap by k.name ∷ []) by.session by.command opened named unnamed (registered ++ k ∷ [])
+stood_snapped base h by opened named unnamed registered k c p d s =
     let e : Event = events.Snap by k.name in
-    stood_quiet base h by e opened named unnamed kept (kept ++ k ∷ []) tt refl
+    stood_quiet base h by e opened named unnamed registered (registered ++ k ∷ []) tt refl
     (λ name. ap (list_any (is_snap_of by.session name)) (live_push base.next h e)
     ∙ list_any-push (is_snap_of by.session name) (live_up base.next (reverse h)) _
     ∙ ap (λ b. b || ((by.session == by.session) && same_name k.name name)) (s.live name)
-    ∙ ap (λ b. list_any (λ j. same_name j.name name) kept || (b && same_name k.name name)) (eqb-refl by.session)
-    ∙ sym (list_any-push (λ j. same_name j.name name) kept k))
-    (all_push (IsKept base (h ++ e ∷ []) by.session) kept k (kept_grows base h (e ∷ []) by.session kept s.snaps)
+    ∙ ap (λ b. list_any (λ j. same_name j.name name) registered || (b && same_name k.name name)) (eqb-refl by.session)
+    ∙ sym (list_any-push (λ j. same_name j.name name) registered k))
+    (all_push (IsRegistered base (h ++ e ∷ []) by.session) registered k (kept_grows base h (e ∷ []) by.session registered s.snaps)
     (record {
       taken = rw (p, c) (last_at h e);
       holds = d ∙ ap (snapshot_data base.next) (sym (ap (λ n. take n (h ++ e ∷ [])) p ∙ take-append_seam h (e ∷ [])));
@@ -106,26 +106,26 @@ other_snap session name other l f t = one (l.session == session) t
     one true e = other_name l.name name other f e
     one false e = refl
 
-live_dropped : (first : ℕ) (h : List Event) (by : By) (name other : List ℕ) (kept : List Kept) → ((n : List ℕ) → is_live first by.session n h ≡ list_any (λ k. same_name k.name n) kept) →
-    is_live first by.session other (h ++ events.SnapDrop by name ∷ []) ≡ list_any (λ k. same_name k.name other) (filter (λ k. not (same_name k.name name)) kept)
-live_dropped first h by name other kept live = ap (list_any (is_snap_of by.session other)) (live_push first h (events.SnapDrop by name)) ∙ one (same_name name other) refl
+live_dropped : (first : ℕ) (h : List Event) (by : By) (name other : List ℕ) (registered : List RegisteredSnapshot) → ((n : List ℕ) → is_live first by.session n h ≡ list_any (λ k. same_name k.name n) registered) →
+    is_live first by.session other (h ++ events.SnapDrop by name ∷ []) ≡ list_any (λ k. same_name k.name other) (filter (λ k. not (same_name k.name name)) registered)
+live_dropped first h by name other registered live = ap (list_any (is_snap_of by.session other)) (live_push first h (events.SnapDrop by name)) ∙ one (same_name name other) refl
   where
     one : (b : Bool) → same_name name other ≡ b →
-        list_any (is_snap_of by.session other) (filter (λ l. not (is_snap_of by.session name l)) (live_snaps first h)) ≡ list_any (λ k. same_name k.name other) (filter (λ k. not (same_name k.name name)) kept)
-    one true e = subst (λ o. list_any (is_snap_of by.session o) (filter (λ l. not (is_snap_of by.session name l)) (live_snaps first h)) ≡ list_any (λ k. same_name k.name o) (filter (λ k. not (same_name k.name name)) kept)) (same_name_equal name other e)
-        (any_gone (is_snap_of by.session name) (live_snaps first h) ∙ sym (any_gone (λ k. same_name k.name name) kept))
+        list_any (is_snap_of by.session other) (filter (λ l. not (is_snap_of by.session name l)) (live_snaps first h)) ≡ list_any (λ k. same_name k.name other) (filter (λ k. not (same_name k.name name)) registered)
+    one true e = subst (λ o. list_any (is_snap_of by.session o) (filter (λ l. not (is_snap_of by.session name l)) (live_snaps first h)) ≡ list_any (λ k. same_name k.name o) (filter (λ k. not (same_name k.name name)) registered)) (same_name_equal name other e)
+        (any_gone (is_snap_of by.session name) (live_snaps first h) ∙ sym (any_gone (λ k. same_name k.name name) registered))
     one false e = any_dropped (is_snap_of by.session other) (is_snap_of by.session name) (live_snaps first h) (λ l t. other_snap by.session name other l e t)
         ∙ live other
-        ∙ sym (any_dropped (λ k. same_name k.name other) (λ k. same_name k.name name) kept (λ k t. other_name k.name name other e t))
+        ∙ sym (any_dropped (λ k. same_name k.name other) (λ k. same_name k.name name) registered (λ k t. other_name k.name name other e t))
 
 -- a session that drops one
-pub stood_dropped : (base : Counters) (h : List Event) (by : By) (name : List ℕ) (opened named : List ℕ) (unnamed : ℕ) (kept : List Kept) →
-    Stood base h by.session by.command opened named unnamed kept → Stood base (h ++ events.SnapDrop by name ∷ []) by.session by.command opened named unnamed (filter (λ k. not (same_name k.name name)) kept)
-stood_dropped base h by name opened named unnamed kept s =
+pub stood_dropped : (base : Counters) (h : List Event) (by : By) (name : List ℕ) (opened named : List ℕ) (unnamed : ℕ) (registered : List RegisteredSnapshot) →
+    Stood base h by.session by.command opened named unnamed registered → Stood base (h ++ events.SnapDrop by name ∷ []) by.session by.command opened named unnamed (filter (λ k. not (same_name k.name name)) registered)
+stood_dropped base h by name opened named unnamed registered s =
     let e : Event = events.SnapDrop by name in
-    stood_quiet base h by e opened named unnamed kept (filter (λ k. not (same_name k.name name)) kept) tt refl
-    (λ other. live_dropped base.next h by name other kept s.live)
-    (all_filter (IsKept base (h ++ e ∷ []) by.session) (λ k. not (same_name k.name name)) kept (kept_grows base h (e ∷ []) by.session kept s.snaps))
+    stood_quiet base h by e opened named unnamed registered (filter (λ k. not (same_name k.name name)) registered) tt refl
+    (λ other. live_dropped base.next h by name other registered s.live)
+    (all_filter (IsRegistered base (h ++ e ∷ []) by.session) (λ k. not (same_name k.name name)) registered (kept_grows base h (e ∷ []) by.session registered s.snaps))
     s
 
 -- a snapshot that is registered is live

@@ -1,0 +1,6 @@
+pub mod Words
+pub mod Kinds
+pub mod Arguments
+pub mod Members
+pub mod Commands
+pub mod Directives

@@ -1,6 +1,6 @@
 -- A line's words, one after the other.
-use Rattle.std.proofs.Common.{◌≡◌, ℕ, ◌+◌, ◌<◌, ◌≤◌, List, [], ◌∷◌, Bool, true, false, not, cond, refl, sym, ap, ◌∙◌, take, drop, zero, suc, one-add, length, arith, nat_lt, get_or, ◌&&◌, ◌==◌}
-use Rattle.std.specs.List.{slice_split, onto_first, prefix_len, filter, list_all}
+use Rattle.std.proofs.Common.{◌≡◌, ℕ, ◌<◌, ◌≤◌, List, [], ◌∷◌, Bool, true, false, not, refl, sym, ap, ◌∙◌, take, drop, suc, one-add, length, arith, nat_lt, get_or, ◌&&◌, ◌==◌}
+use Rattle.std.specs.List.{slice_split, prefix_len, filter, list_all}
 use Rattle.script_lines.specs.Words.{is_blank, is_word, words_in, is_letter, is_name_byte, is_name}
 
 abbrev to_blank : List ℕ → ℕ

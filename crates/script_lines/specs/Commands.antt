@@ -1,5 +1,5 @@
 -- What a command says, by its words behind the session's name.
-use Rattle.std.specs.Prelude.{ℕ, List, [], ◌∷◌, codes, cond, Bool, Result, Ok, Err}
+use Rattle.std.specs.Prelude.{ℕ, List, [], ◌∷◌, codes, cond, Result, Ok, Err}
 use Rattle.std.specs.Str.{bytes_eq}
 use Rattle.tx_model.specs.declared.command.Command.{Command}
 use Rattle.tx_model.specs.declared.command.Command.TheVariants as commands

@@ -4,3 +4,4 @@ pub mod Arguments
 pub mod Members
 pub mod Commands
 pub mod Directives
+pub mod Header

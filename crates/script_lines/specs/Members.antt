@@ -1,5 +1,5 @@
 -- The members of a multixact, as a script writes them: an id and a mode, with one colon between them.
-use Rattle.std.specs.Prelude.{ℕ, not, List, [], ◌∷◌, ◌++◌, ◌==◌, codes, Bool, true, false, cond, Result, Ok, Err, take, drop, suc}
+use Rattle.std.specs.Prelude.{ℕ, not, List, [], ◌∷◌, ◌++◌, ◌==◌, codes, Bool, cond, Result, Ok, Err, take, drop, suc}
 use Rattle.std.specs.List.{prefix_len}
 use Rattle.std.specs.Str.{bytes_eq}
 use Rattle.tx_events.specs.declared.multi.Mode.{Mode}

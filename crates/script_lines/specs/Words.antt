@@ -1,7 +1,6 @@
 -- The bytes of a line, its words, names and numbers.
-use Rattle.std.specs.Prelude.{ℕ, ◌+◌, ◌*◌, ◌%◌, ◌^◌, ◌&&◌, ◌||◌, not, nat_lt, nat_le, List, [], ◌∷◌, ◌==◌, Bool, true, false, cond, Option, Some, None, length}
+use Rattle.std.specs.Prelude.{ℕ, ◌+◌, ◌*◌, ◌%◌, ◌^◌, ◌&&◌, ◌||◌, nat_lt, nat_le, List, [], ◌∷◌, ◌==◌, Bool, true, false, cond, Option, Some, None, length}
 use Rattle.std.specs.List.{filter, slice_split, list_all}
-use Rattle.xid_order.specs.Ids.{low_half}
 
 -- spaces and tabs divide words
 abbrev pub is_blank : ℕ → Bool

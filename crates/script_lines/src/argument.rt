@@ -9,7 +9,7 @@ use crate::word::{is_name, next_word, number_of};
 use xid_order::{FullMulti, FullXid};
 
 /// The greatest full id, multixact id or member offset that a script may name.
-const GREATEST: u64 = 1 << 62;
+pub const GREATEST: u64 = 1 << 62;
 
 /// No word.
 pub fn none_of(rest: &[u8]) -> Result<(), Kind>

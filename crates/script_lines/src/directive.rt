@@ -4,10 +4,22 @@ ghost use Rattle.script_lines.specs.Words.{words_in};
 ghost use Rattle.script_lines.specs.Directives.{how_in, store_in, on_page, log_dump_in, page_dump_in, dump_at, directive_at};
 
 use crate::argument::{none_of, number_in, one_of, stored_in, three_of, two_of};
-use crate::item::Item;
 use crate::kind::Kind;
 use crate::word::next_word;
 use tx_model::{DumpOf, How};
+
+/// A line that begins with a dot and isn't of the header.
+#[derive(Clone, Copy, Debug, PartialEq, Eq)]
+pub enum Directive {
+    /// The end of a round.
+    Round,
+    /// A checkpoint.
+    Checkpoint,
+    /// A crash, and the opening after it.
+    Crash { how: How },
+    /// A dump of `length` bytes, 1 to 64, from place `at` on.
+    Dump { what: DumpOf, at: u64, length: u32 },
+}
 
 /// A store of pages that can be dumped.
 #[derive(Clone, Copy, Debug, PartialEq, Eq)]
@@ -65,18 +77,18 @@ fn on_page(store: Store, page: u32) -> DumpOf
 }
 
 #[tactic(auto, unfolding(crate::specs::Directives::log_dump_in))]
-fn log_dump_in(rest: &[u8]) -> Result<Item, Kind>
+fn log_dump_in(rest: &[u8]) -> Result<Directive, Kind>
     ensures { result ≡ log_dump_in (words_in rest.now) }
 {
     let (at, length) = two_of(rest)?;
     let at = number_in(0, 1 << 40, at)?;
     let length = number_in(1, 64, length)? as u32;
     let what = DumpOf::Log;
-    Ok(Item::Dump { what, at, length })
+    Ok(Directive::Dump { what, at, length })
 }
 
 #[tactic(auto, unfolding(crate::specs::Directives::page_dump_in))]
-fn page_dump_in(word: &[u8], rest: &[u8]) -> Result<Item, Kind>
+fn page_dump_in(word: &[u8], rest: &[u8]) -> Result<Directive, Kind>
     ensures { result ≡ page_dump_in word.now (words_in rest.now) }
 {
     let (page, at, length) = three_of(rest)?;
@@ -88,11 +100,11 @@ fn page_dump_in(word: &[u8], rest: &[u8]) -> Result<Item, Kind>
         return Err(Kind::Number);
     }
     let what = on_page(store, page);
-    Ok(Item::Dump { what, at, length })
+    Ok(Directive::Dump { what, at, length })
 }
 
 /// What is behind `.dump`.
-fn dump_at(rest: &[u8]) -> Result<Item, Kind>
+fn dump_at(rest: &[u8]) -> Result<Directive, Kind>
     ensures { result ≡ dump_at (words_in rest.now) }
 {
     let Some((word, rest)) = next_word(rest) else {
@@ -107,20 +119,20 @@ fn dump_at(rest: &[u8]) -> Result<Item, Kind>
 /// The directive of this word and those behind it, or its first fault: of the kinds `directive`, `arguments`, `name` and
 /// `number`, in this order. A directive of the header is none here.
 #[tactic(auto, unfolding(crate::specs::Directives::directive_at))]
-pub fn directive_at(word: &[u8], rest: &[u8]) -> Result<Item, Kind>
+pub fn directive_at(word: &[u8], rest: &[u8]) -> Result<Directive, Kind>
     ensures { result ≡ directive_at word.now (words_in rest.now) }
 {
     if word == b".round".as_slice() {
         none_of(rest)?;
-        return Ok(Item::Round);
+        return Ok(Directive::Round);
     }
     if word == b".checkpoint".as_slice() {
         none_of(rest)?;
-        return Ok(Item::Checkpoint);
+        return Ok(Directive::Checkpoint);
     }
     if word == b".crash".as_slice() {
         let how = how_in(one_of(rest)?)?;
-        return Ok(Item::Crash { how });
+        return Ok(Directive::Crash { how });
     }
     if word == b".dump".as_slice() {
         return dump_at(rest);

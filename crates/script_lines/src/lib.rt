@@ -4,13 +4,13 @@
 mod argument;
 mod command;
 mod directive;
-mod item;
+mod header;
 mod kind;
 mod member;
 mod word;
 
 pub use command::command_at;
-pub use directive::directive_at;
-pub use item::Item;
+pub use directive::{Directive, directive_at};
+pub use header::{Header, is_header_word};
 pub use kind::{Kind, Stop};
 pub use word::{is_name, is_plain, name_of, next_word};

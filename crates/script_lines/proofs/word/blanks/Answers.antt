@@ -1,4 +1,4 @@
-use Rattle.std.proofs.Common.{arith, sym, length, not}
+use Rattle.std.proofs.Common.{arith, sym, length}
 use Rattle.std.proofs.lemmas.List.Sums.{prefix_len_is}
 use Rattle.script_lines.specs.Words.{is_blank}
 use Rattle.script_lines.proofs.word.blanks.Goals as goal

@@ -1,7 +1,5 @@
-use Rattle.std.proofs.Common.{◌≡◌, ◌∙◌, ℕ, ◌≤◌, ◌<◌, sym, ap, arith, length, drop, refl, rules}
-use Rattle.std.specs.List.{prefix_len}
-use Rattle.script_lines.specs.Words.{is_blank}
-use Rattle.script_lines.proofs.WordLemmas.{FirstWord, first_word, no_word, not_empty}
+use Rattle.std.proofs.Common.{◌∙◌, ap, arith, drop, rules}
+use Rattle.script_lines.proofs.WordLemmas.{first_word, no_word, not_empty}
 use Rattle.script_lines.proofs.word.next_word.Goals as goal
 
 pub returns-then-is_empty-clause-none : goal.returns-then-is_empty-clause-none

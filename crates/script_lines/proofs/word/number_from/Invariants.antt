@@ -1,4 +1,4 @@
-use Rattle.std.proofs.Common.{◌≡◌, ℕ, drop}
+use Rattle.std.proofs.Common.{◌≡◌, drop}
 use Rattle.script_lines.specs.Words.{number_from}
 use Rattle.script_lines.proofs.word.number_from.Given as goal
 

@@ -1,30 +1,18 @@
 -- A line's words, one after the other.
 use Rattle.std.proofs.Common.{◌≡◌, ℕ, ◌<◌, ◌≤◌, List, [], ◌∷◌, Bool, true, false, not, refl, sym, ap, ◌∙◌, take, drop, suc, one-add, length, arith, nat_lt, get_or, ◌&&◌, ◌==◌}
-use Rattle.std.specs.List.{slice_split, prefix_len, filter, list_all}
-use Rattle.script_lines.specs.Words.{is_blank, is_word, words_in, is_letter, is_name_byte, is_name}
+use Rattle.std.specs.List.{prefix_len, filter, list_all}
+use Rattle.script_lines.proofs.Parts.{first_part, parts_behind}
+use Rattle.script_lines.specs.LineWords.{is_blank, is_word, words_in, is_letter, is_name_byte, is_name}
 
 abbrev to_blank : List ℕ → ℕ
 to_blank xs = prefix_len (λ c. not (is_blank c)) xs
 
--- the parts behind the first one
-abbrev parts_behind : List ℕ → List (List ℕ)
-parts_behind [] = []
-parts_behind (b ∷ bytes) = slice_split is_blank bytes
-
-step : (x : ℕ) (xs : List ℕ) (b : Bool) → is_blank x ≡ b → slice_split is_blank xs ≡ take (to_blank xs) xs ∷ parts_behind (drop (to_blank xs) xs) → slice_split is_blank (x ∷ xs) ≡ take (to_blank (x ∷ xs)) (x ∷ xs) ∷ parts_behind (drop (to_blank (x ∷ xs)) (x ∷ xs))
-step x xs true e h = rw e refl
-step x xs false e h = rw (e, one-add, h) refl
-
-first_part : (xs : List ℕ) → slice_split is_blank xs ≡ take (to_blank xs) xs ∷ parts_behind (drop (to_blank xs) xs)
-first_part [] = refl
-first_part (x ∷ xs) = step x xs (is_blank x) refl (first_part xs)
-
 -- what stands behind a word begins with a blank, or is nothing
-begins : (xs : List ℕ) → filter is_word (parts_behind (drop (to_blank xs) xs)) ≡ words_in (drop (to_blank xs) xs)
+begins : (xs : List ℕ) → filter is_word (parts_behind is_blank (drop (to_blank xs) xs)) ≡ words_in (drop (to_blank xs) xs)
 begins [] = refl
 begins (x ∷ xs) = one (is_blank x) refl (begins xs)
   where
-    one : (b : Bool) → is_blank x ≡ b → filter is_word (parts_behind (drop (to_blank xs) xs)) ≡ words_in (drop (to_blank xs) xs) → filter is_word (parts_behind (drop (to_blank (x ∷ xs)) (x ∷ xs))) ≡ words_in (drop (to_blank (x ∷ xs)) (x ∷ xs))
+    one : (b : Bool) → is_blank x ≡ b → filter is_word (parts_behind is_blank (drop (to_blank xs) xs)) ≡ words_in (drop (to_blank xs) xs) → filter is_word (parts_behind is_blank (drop (to_blank (x ∷ xs)) (x ∷ xs))) ≡ words_in (drop (to_blank (x ∷ xs)) (x ∷ xs))
     one true e h = rw e (rw e refl)
     one false e h = rw (e, one-add) h
 
@@ -63,8 +51,8 @@ at_word y ys n e f =
     let size : n ≡ suc (to_blank ys) = f ∙ word_first y ys e in
     let some : 0 < length (take n (y ∷ ys)) = rw size (omega arith) in
     record {
-      words = ap (filter is_word) (first_part (y ∷ ys)) ∙ ap (λ m. filter is_word (take m (y ∷ ys) ∷ parts_behind (drop m (y ∷ ys)))) (sym f)
-          ∙ kept (take n (y ∷ ys)) (parts_behind (drop n (y ∷ ys))) some ∙ ap (λ t. take n (y ∷ ys) ∷ t) (ap (λ m. filter is_word (parts_behind (drop m (y ∷ ys)))) f ∙ begins (y ∷ ys) ∙ ap (λ m. words_in (drop m (y ∷ ys))) (sym f));
+      words = ap (filter is_word) (first_part is_blank (y ∷ ys)) ∙ ap (λ m. filter is_word (take m (y ∷ ys) ∷ parts_behind is_blank (drop m (y ∷ ys)))) (sym f)
+          ∙ kept (take n (y ∷ ys)) (parts_behind is_blank (drop n (y ∷ ys))) some ∙ ap (λ t. take n (y ∷ ys) ∷ t) (ap (λ m. filter is_word (parts_behind is_blank (drop m (y ∷ ys)))) f ∙ begins (y ∷ ys) ∙ ap (λ m. words_in (drop m (y ∷ ys))) (sym f));
       some = some;
     }
 

@@ -1,4 +1,4 @@
-pub mod Words
+pub mod LineWords
 pub mod Kinds
 pub mod Arguments
 pub mod Members

@@ -1,6 +1,6 @@
 //! The words behind a command or a directive: how many, and the names and numbers in them.
 ghost use Rattle.std.specs.Prelude.{◌≡◌, ◌^◌, ◌-◌};
-ghost use Rattle.script_lines.specs.Words.{words_in};
+ghost use Rattle.script_lines.specs.LineWords.{words_in};
 ghost use Rattle.script_lines.specs.Kinds.{seen};
 ghost use Rattle.script_lines.specs.Arguments.{none_of, one_of, two_of, three_of, name_in, number_in, id_in, asked_id_in, multi_in, stored_in};
 

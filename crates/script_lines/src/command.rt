@@ -1,7 +1,7 @@
 //! A command.
 ghost use Rattle.std.specs.Prelude.{◌≡◌};
 ghost use Rattle.tx_model.specs.declared.command.Command.{Command};
-ghost use Rattle.script_lines.specs.Words.{words_in};
+ghost use Rattle.script_lines.specs.LineWords.{words_in};
 ghost use Rattle.script_lines.specs.Kinds.{Gives, seen};
 ghost use Rattle.script_lines.specs.Commands.{alone, only_name, see_in, see_multi_in, long_command, command_in, command_at};
 

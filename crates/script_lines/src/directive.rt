@@ -1,6 +1,6 @@
 //! A directive behind the header.
 ghost use Rattle.std.specs.Prelude.{◌≡◌};
-ghost use Rattle.script_lines.specs.Words.{words_in};
+ghost use Rattle.script_lines.specs.LineWords.{words_in};
 ghost use Rattle.script_lines.specs.Directives.{how_in, store_in, on_page, log_dump_in, page_dump_in, dump_at, directive_at};
 
 use crate::argument::{none_of, number_in, one_of, stored_in, three_of, two_of};

@@ -1,6 +1,6 @@
 //! The header of a script.
 ghost use Rattle.std.specs.Prelude.{◌≡◌, ◌≤◌, ◌^◌, OnOk, Ok, IfOk};
-ghost use Rattle.script_lines.specs.Words.{words_in};
+ghost use Rattle.script_lines.specs.LineWords.{words_in};
 ghost use Rattle.script_lines.specs.Header.{is_header_word, given_id, given_multi, given_number, header_with, base_of, banks_of, no_header, is_base};
 
 use crate::argument::{GREATEST, id_in, multi_in, number_in, one_of};
@@ -145,8 +145,8 @@ impl Header {
 
     /// The counters that a script with this header starts from: where no line gives others those of a new log, and of
     /// the oldest multixact and its offset the next ones.
-    pub fn base(self) -> Counters
-        ensures { result ≡ base_of self }
+    pub fn base(&self) -> Counters
+        ensures { result ≡ base_of self.now }
     {
         let new_log = Counters::of_new_log();
         let multi = self.multi.unwrap_or(new_log.multi);
@@ -162,15 +162,15 @@ impl Header {
     }
 
     /// The banks of each store.
-    pub fn banks(self) -> u32
-        ensures { result ≡ banks_of self }
+    pub fn banks(&self) -> u32
+        ensures { result ≡ banks_of self.now }
     {
         self.banks.unwrap_or(4)
     }
 
     /// Whether a life may start from its counters.
-    pub fn has_base(self) -> bool
-        ensures { result ≡ is_base (base_of self) }
+    pub fn has_base(&self) -> bool
+        ensures { result ≡ is_base (base_of self.now) }
     {
         tx_model::is_base(&self.base())
     }

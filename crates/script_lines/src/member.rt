@@ -1,7 +1,7 @@
 //! The members of a multixact, as a script writes them.
 ghost use Rattle.std.specs.Prelude.{◌≡◌, ◌≤◌, not, length, [], OnOk, OnErr, IfOk, IfErr};
 ghost use Rattle.std.specs.List.{prefix_len};
-ghost use Rattle.script_lines.specs.Words.{words_in};
+ghost use Rattle.script_lines.specs.LineWords.{words_in};
 ghost use Rattle.script_lines.specs.Kinds.{Gives, seen};
 ghost use Rattle.script_lines.specs.Members.{is_colon, id_part, mode_part, mode_in, modes_in, pair_in, pairs_from, pairs_in};
 

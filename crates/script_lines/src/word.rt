@@ -1,7 +1,7 @@
 //! The bytes of a line, its words, names and numbers.
 ghost use Rattle.std.specs.Prelude.{◌≡◌, ◌≤◌, ◌<◌, ◌∷◌, [], length, not, IfSome, IfNone, IfOk, drop};
 ghost use Rattle.std.specs.List.{prefix_len, list_all};
-ghost use Rattle.script_lines.specs.Words.{is_blank, is_word, words_in, is_letter, is_name_byte, is_name, next, number_from, number_of, is_line_byte, is_plain};
+ghost use Rattle.script_lines.specs.LineWords.{is_blank, is_word, words_in, is_letter, is_name_byte, is_name, next, number_from, number_of, is_line_byte, is_plain};
 
 use std::alloc::Global;
 use tx_model::{Memory, Name};

@@ -1,13 +1,9 @@
-pub mod Fronts
-pub mod NameLemmas
-pub mod NumberLemmas
-pub mod LineLemmas
-pub mod SameLines
 pub mod SeenLemmas
 pub mod DistinctLemmas
 pub mod CountLemmas
 pub mod StepLemmas
 pub mod RoundLemmas
-pub mod ScriptLemmas
-pub mod PartWayLemmas
-pub mod HeaderLemmas
+pub mod PlaceLemmas
+pub mod LineLemmas
+pub mod CutLemmas
+pub mod WholeLemmas

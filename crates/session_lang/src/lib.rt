@@ -6,4 +6,5 @@ mod script;
 
 pub use parser::parse;
 pub use report_text::print_report;
-pub use script::{Directive, Item, ItemList, Kind, ParseRefusal, Script};
+pub use script::{Item, ItemList, ParseRefusal, Script};
+pub use script_lines::Kind;

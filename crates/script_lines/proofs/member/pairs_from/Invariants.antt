@@ -1,5 +1,5 @@
 use Rattle.std.proofs.Common.{◌≡◌, length, []}
-use Rattle.script_lines.specs.Words.{words_in}
+use Rattle.script_lines.specs.LineWords.{words_in}
 use Rattle.script_lines.specs.Members.{pairs_from}
 use Rattle.script_lines.proofs.member.pairs_from.Given as goal
 

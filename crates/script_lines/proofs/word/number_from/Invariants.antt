@@ -1,5 +1,5 @@
 use Rattle.std.proofs.Common.{◌≡◌, drop}
-use Rattle.script_lines.specs.Words.{number_from}
+use Rattle.script_lines.specs.LineWords.{number_from}
 use Rattle.script_lines.proofs.word.number_from.Given as goal
 
 abbrev pub invariant-loop-b : goal.invariant-loop-b

@@ -1,5 +1,5 @@
 use Rattle.std.proofs.Common.{◌≡◌, ℕ, ◌<◌, get_or, true, not}
-use Rattle.script_lines.specs.Words.{is_blank}
+use Rattle.script_lines.specs.LineWords.{is_blank}
 use Rattle.script_lines.proofs.word.word_len.Given as goal
 
 abbrev pub invariant-loop-i : goal.invariant-loop-i

@@ -15,5 +15,6 @@ pub use Rattle.script_lines.specs.Header
 pub mod Rounds
 pub mod Lines
 pub mod Script
+pub mod Places
 pub mod Answers
 pub mod Reading

@@ -1,9 +1,11 @@
 //! The script that the tool reads, as text. The text of the report that it writes is `report_text`.
 #![tactic(auto)]
 
+mod lines;
 mod parser;
 mod script;
 
+pub use lines::line_of;
 pub use parser::parse;
 pub use report_text::print_report;
 pub use script::{Item, ItemList, ParseRefusal, Script};

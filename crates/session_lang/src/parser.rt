@@ -9,6 +9,7 @@ ghost use Rattle.session_lang.specs.Script.{no_front, read_lines, read_script};
 
 mod reading;
 
+use crate::lines::next_line;
 use crate::parser::reading::{Front, Reading};
 use crate::script::{ParseRefusal, Script};
 use script_lines::Kind;
@@ -16,44 +17,6 @@ use std::alloc::Global;
 
 /// The bytes that a script may have.
 const MAX_BYTES: usize = 16_777_216;
-
-/// How many bytes stand before the first LF, or in all.
-#[tactic(auto, using(std::proofs::lemmas::List::Sums::prefix_len_is))]
-fn line_len(bytes: &[u8]) -> usize
-    ensures within { result ≤ length bytes.now }
-    ensures value { result ≡ prefix_len (λ b. not (is_line_end b)) bytes.now }
-{
-    for (i, b) in bytes.iter().enumerate() {
-        if *b == b'\n' {
-            return i;
-        }
-    }
-    bytes.len()
-}
-
-fn without_cr(raw: &[u8]) -> &[u8]
-    ensures line { result.now ≡ without_cr raw.now }
-    ensures shorter { length result.now ≤ length raw.now }
-{
-    if raw.is_empty() || raw[raw.len() - 1] != b'\r' {
-        return raw;
-    }
-    &raw[..raw.len() - 1]
-}
-
-/// The first line without its end, the bytes behind the end, and whether there is one.
-fn next_line(bytes: &[u8]) -> (&[u8], &[u8], bool)
-    ensures lines { lines_of bytes.now ≡ result.0.now ∷ cond result.2 (lines_of result.1.now) [] }
-    ensures within { length result.0.now + length result.1.now ≤ length bytes.now }
-    ensures shorter { result.2 ≡ true → length result.0.now + length result.1.now < length bytes.now }
-{
-    let (raw, behind) = bytes.split_at(line_len(bytes));
-    if behind.is_empty() {
-        return (raw, behind, false);
-    }
-    let (_end, rest) = behind.split_at(1);
-    (without_cr(raw), rest, true)
-}
 
 /// Reads all lines.
 fn read_lines(alloc: Global, bytes: &[u8]) -> Result<Reading, ParseRefusal>

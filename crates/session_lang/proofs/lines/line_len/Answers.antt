@@ -1,7 +1,7 @@
 use Rattle.std.proofs.Common.{arith, sym, length, not}
 use Rattle.std.proofs.lemmas.List.Sums.{prefix_len_is}
 use Rattle.session_lang.specs.Lines.{is_line_end}
-use Rattle.session_lang.proofs.parser.line_len.Goals as goal
+use Rattle.session_lang.proofs.lines.line_len.Goals as goal
 
 pub returns-clause-value : goal.returns-clause-value
 returns-clause-value c =

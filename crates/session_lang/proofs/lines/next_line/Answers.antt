@@ -1,7 +1,7 @@
 use Rattle.std.proofs.Common.{rules}
 use Rattle.script_lines.proofs.WordLemmas.{not_empty}
 use Rattle.session_lang.proofs.CutLemmas.{last_line, line_and_more}
-use Rattle.session_lang.proofs.parser.next_line.Goals as goal
+use Rattle.session_lang.proofs.lines.next_line.Goals as goal
 
 pub returns-then-is_empty-clause-lines : goal.returns-then-is_empty-clause-lines
 returns-then-is_empty-clause-lines c =

@@ -4,6 +4,8 @@
 mod lines;
 mod parser;
 mod script;
+#[cfg(test)]
+mod tests;
 
 pub use lines::line_of;
 pub use parser::parse;

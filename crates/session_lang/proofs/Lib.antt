@@ -7,3 +7,4 @@ pub mod PlaceLemmas
 pub mod LineLemmas
 pub mod CutLemmas
 pub mod WholeLemmas
+pub mod Again

@@ -1,6 +1,7 @@
 //! The script that the tool reads, as text. The text of the report that it writes is `report_text`.
 #![tactic(auto)]
 
+pub mod laws;
 mod lines;
 mod parser;
 mod script;

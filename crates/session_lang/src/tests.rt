@@ -113,11 +113,11 @@ fn sixty_fifth_session_is_one_too_many(rt: HostRuntime) -> Result<(), Fail> {
     Ok(())
 }
 
-/// `a write` this many times in each of two rounds.
-fn two_rounds(alloc: Global, count: u32) -> Result<Vec<u8>, Fail> {
+/// `a write` a hundred thousand times in each of two rounds.
+fn two_rounds(alloc: Global) -> Result<Vec<u8>, Fail> {
     let mut text = Vec::new(alloc);
-    for n in 0..2 * count {
-        if n == count {
+    for n in 0..200_000u32 {
+        if n == 100_000 {
             text.extend_from_slice(b".dump log 0 1\n")?;
         }
         text.extend_from_slice(b"a write\n")?;
@@ -127,7 +127,7 @@ fn two_rounds(alloc: Global, count: u32) -> Result<Vec<u8>, Fail> {
 
 #[test]
 fn command_past_a_hundred_thousand_in_a_round_is_one_too_many(rt: HostRuntime) -> Result<(), Fail> {
-    let mut text = two_rounds(rt.alloc(), 100_000)?;
+    let mut text = two_rounds(rt.alloc())?;
     assert_eq!(rt; fault(rt.alloc(), text.as_slice()), None);
     text.extend_from_slice(b"a write\n")?;
     assert_eq!(rt;

@@ -1,7 +1,7 @@
 -- Names that differ from one another.
 use Rattle.tx_events.proofs.ListSteps.{all_push}
 use Rattle.tx_events.proofs.Names.{same_name_refl, same_name_equal}
-use Rattle.std.proofs.Common.{◌≡◌, ℕ, ◌+◌, List, [], ◌∷◌, ◌++◌, refl, sym, ap, ◌∙◌, zero, suc, Bool, true, false, Some}
+use Rattle.std.proofs.Common.{◌≡◌, ℕ, List, [], ◌∷◌, ◌++◌, refl, sym, ap, ◌∙◌, zero, suc, Bool, true, false, Some}
 use Rattle.std.proofs.lemmas.Bool.{false≢true}
 use Rattle.std.specs.List.{AllByRecursion, IsDistinct, slice_get}
 use Rattle.tx_events.specs.Events.{same_name}

@@ -11,10 +11,11 @@ use Rattle.tx_events.specs.Events.{same_name}
 use Rattle.tx_events.specs.Places.{first_seen}
 use Rattle.session_lang.specs.declared.script.Item.{Item}
 use Rattle.session_lang.specs.declared.script.Item.TheVariants as items
-use Rattle.session_lang.specs.Names.{IsName}
-use Rattle.session_lang.specs.Reading.{HasRead, IsNew, count_of}
-use Rattle.session_lang.specs.Rounds.{open_round, rounds_of, sessions_in, turns_of}
-use Rattle.session_lang.specs.Script.{IsRead, IsReadItem, IsShort}
+use Rattle.script_lines.specs.LineWords.{is_name}
+use Rattle.script_lines.specs.declared.directive.Directive.{Directive}
+use Rattle.session_lang.specs.Reading.{HasRead, IsNew}
+use Rattle.session_lang.specs.Rounds.{IsShort, count_of, open_round, rounds_of, sessions_in, turns_of}
+use Rattle.session_lang.specs.Script.{item_of}
 use Rattle.session_lang.proofs.CountLemmas.{count_of_push, sessions_end, sessions_push}
 use Rattle.session_lang.proofs.DistinctLemmas.{distinct_push}
 use Rattle.session_lang.proofs.RoundLemmas.{open_end, open_short, rounds_end, short_push, turns_push}
@@ -26,8 +27,7 @@ distinct_none = tt
 
 pub has_read_none : (counts : List ℕ) → counts ≡ [] → HasRead [] counts []
 has_read_none counts e = record {
-  read = All-nil IsReadItem;
-  names = All-nil IsName;
+  names = All-nil (λ name. is_name name ≡ true);
   distinct = distinct_none;
   numbered = refl;
   sessions = omega arith;
@@ -57,11 +57,10 @@ short_more : (before : List Item) (k : ℕ) (command : Command) → All IsShort 
 short_more before k command a few = short_push [] before k command a (λ j. let f = few j in let e = turns_push (open_round before) k j command in omega arith)
 
 -- of a session that has one
-pub has_read_old : (named : List (List ℕ)) (counts : List ℕ) (before : List Item) (k n : ℕ) (command : Command) → HasRead named counts before → k < length named → n ≡ get_or counts k 0 → n < 100000 → IsRead command → HasRead named (set counts k (n + 1)) (before ++ items.Run k command ∷ [])
-has_read_old named counts before k n command h l e f r =
+pub has_read_old : (named : List (List ℕ)) (counts : List ℕ) (before : List Item) (k n : ℕ) (command : Command) → HasRead named counts before → k < length named → n ≡ get_or counts k 0 → n < 100000 → HasRead named (set counts k (n + 1)) (before ++ items.Run k command ∷ [])
+has_read_old named counts before k n command h l e f =
     let lengths = h.lengths in
     record {
-      read = All-push IsReadItem before (items.Run k command) h.read r;
       names = h.names;
       distinct = h.distinct;
       numbered = ap first_seen (sessions_push before k command) ∙ push_old k (sessions_in before) (has_appeared k (length named) (sessions_in before) h.numbered l) ∙ h.numbered;
@@ -95,16 +94,15 @@ few_new counts k j m true e l t f =
 few_new counts k j m false e l t f = omega arith
 
 -- of a new session
-pub has_read_new : (named : List (List ℕ)) (counts : List ℕ) (before : List Item) (name : List ℕ) (command : Command) → HasRead named counts before → IsNew named name → IsName name → length named < 64 → IsRead command → HasRead (named ++ name ∷ []) (counts ++ 1 ∷ []) (before ++ items.Run (length named) command ∷ [])
-has_read_new named counts before name command h new i l r =
+pub has_read_new : (named : List (List ℕ)) (counts : List ℕ) (before : List Item) (name : List ℕ) (command : Command) → HasRead named counts before → IsNew named name → is_name name ≡ true → length named < 64 → HasRead (named ++ name ∷ []) (counts ++ 1 ∷ []) (before ++ items.Run (length named) command ∷ [])
+has_read_new named counts before name command h new i l =
     let k = length named in
     let size : length (named ++ name ∷ []) ≡ suc k = length-append named (name ∷ []) ∙ omega arith in
     let zeroed : k ≡ 0 + k = omega arith in
     let before_that = h.lengths in
     let lengths : length (counts ++ 1 ∷ []) ≡ length (named ++ name ∷ []) = length-append counts (1 ∷ []) ∙ omega arith in
     record {
-      read = All-push IsReadItem before (items.Run k command) h.read r;
-      names = All-push IsName named name h.names i;
+      names = All-push (λ name. is_name name ≡ true) named name h.names i;
       distinct = distinct_push named name h.distinct new;
       numbered = ap first_seen (sessions_push before k command) ∙ push_next k (sessions_in before) (not_yet k k (sessions_in before) h.numbered (omega arith)) ∙ ap (λ t. t ++ k ∷ []) h.numbered ∙ ap (λ m. range_with_len 0 k ++ m ∷ []) zeroed ∙ sym (range_push 0 k) ∙ ap (range_with_len 0) (sym size);
       sessions = omega arith;
@@ -121,19 +119,18 @@ zeros n j =
     ⊎_elim (λ l. get_or-replicate n j 0 0 l) (λ l. let e : length (none_of n) ≡ n = length-replicate n 0 in get_or_past (none_of n) j 0 (omega arith)) (cases_lt j n)
 
 -- the end of a round
-pub has_read_end : (named : List (List ℕ)) (counts : List ℕ) (before : List Item) → HasRead named counts before → HasRead named (replicate (length counts) 0) (before ++ items.Round ∷ [])
-has_read_end named counts before h = record {
-  read = All-push IsReadItem before items.Round h.read tt;
+pub has_read_end : (named : List (List ℕ)) (counts : List ℕ) (before : List Item) (d : Directive) → HasRead named counts before → HasRead named (replicate (length counts) 0) (before ++ item_of d ∷ [])
+has_read_end named counts before d h = record {
   names = h.names;
   distinct = h.distinct;
-  numbered = ap first_seen (sessions_end before) ∙ h.numbered;
+  numbered = ap first_seen (sessions_end before d) ∙ h.numbered;
   sessions = h.sessions;
   lengths = length-replicate (length counts) 0 ∙ h.lengths;
-  counted = λ j. zeros (length counts) j ∙ sym (ap (λ t. length (turns_of j t)) (open_end [] before));
-  short = subst (All IsShort) (sym (rounds_end [] before)) h.short;
+  counted = λ j. zeros (length counts) j ∙ sym (ap (λ t. length (turns_of j t)) (open_end [] before d));
+  short = subst (All IsShort) (sym (rounds_end [] before d)) h.short;
 }
 
-pub end_round : {T E : Type 0} (r : Result T E) (named : List (List ℕ)) (counts : List ℕ) (before : List Item) (counts' : List ℕ) (after : List Item) → HasRead named counts before → counts' ≡ replicate (length counts) 0 → OnOk r (after ≡ before ++ items.Round ∷ []) → OnOk r (HasRead named counts' after)
-end_round (Ok x) named counts before counts' after h c a =
-    subst (λ k. HasRead named k after) (sym c) (subst (HasRead named (replicate (length counts) 0)) (sym a) (has_read_end named counts before h))
-end_round (Err x) named counts before counts' after h c a = tt
+pub end_round : {T E : Type 0} (r : Result T E) (named : List (List ℕ)) (counts : List ℕ) (before : List Item) (d : Directive) (counts' : List ℕ) (after : List Item) → HasRead named counts before → counts' ≡ replicate (length counts) 0 → OnOk r (after ≡ before ++ item_of d ∷ []) → OnOk r (HasRead named counts' after)
+end_round (Ok x) named counts before d counts' after h c a =
+    subst (λ k. HasRead named k after) (sym c) (subst (HasRead named (replicate (length counts) 0)) (sym a) (has_read_end named counts before d h))
+end_round (Err x) named counts before d counts' after h c a = tt

@@ -1,46 +1,18 @@
--- What the bytes of a script begin with: a name, a number, a line.
-use Rattle.std.specs.Prelude.{◌≡◌, ℕ, ◌<◌, ◌^◌, List, [], ◌∷◌, ◌++◌, codes}
-use Rattle.std.specs.Fmt.{decimal}
-use Rattle.tx_model.specs.declared.command.Command.{Command}
-use Rattle.session_lang.specs.declared.script.Directive.{Directive}
-use Rattle.report_text.specs.CommandText.{command_words}
-use Rattle.session_lang.specs.Header.{IsReadDirective, directive_text}
-use Rattle.session_lang.specs.Names.{IsName}
-use Rattle.session_lang.specs.Script.{IsRead}
-use Rattle.report_text.specs.Words.{line_text}
+-- The lines of a text. Each ends with LF, but for the last, which may lack it; a CR before LF is no part of its line.
+use Rattle.std.specs.Prelude.{ℕ, ◌-◌, ◌==◌, List, [], ◌∷◌, Bool, cond, length, take, get_or}
+use Rattle.std.specs.List.{slice_split}
 
--- a name and the byte behind it
-pub record BeginsWithName (ends : ℕ) (bytes name rest : List ℕ) : Type 0 where
-  pub named : IsName name
-  pub text : bytes ≡ name ++ ends ∷ rest
+abbrev pub is_line_end : ℕ → Bool
+is_line_end b = b == 10
 
--- a number of 64 bits, without leading zeros, and the line's end
-pub record BeginsWithNumber (bytes : List ℕ) (n : ℕ) (rest : List ℕ) : Type 0 where
-  pub fits : n < 2 ^ 64
-  pub text : bytes ≡ decimal n ++ 10 ∷ rest
+abbrev pub without_cr : List ℕ → List ℕ
+without_cr raw = cond (get_or raw (length raw - 1) 0 == 13) (take (length raw - 1) raw) raw
 
--- a name, a number of 32 bits and the line's end
-pub record BeginsWithQuestion (bytes name : List ℕ) (n : ℕ) (rest : List ℕ) : Type 0 where
-  pub named : IsName name
-  pub fits : n < 2 ^ 32
-  pub text : bytes ≡ name ++ 32 ∷ (decimal n ++ 10 ∷ rest)
+-- behind the last LF stands a last line, which may be empty
+abbrev pub ended : List (List ℕ) → List (List ℕ)
+ended [] = []
+ended (last ∷ []) = last ∷ []
+ended (raw ∷ next ∷ more) = without_cr raw ∷ ended (next ∷ more)
 
--- a command's words and the line's end
-pub record ContinuesLine (bytes : List ℕ) (c : Command) (rest : List ℕ) : Type 0 where
-  pub read : IsRead c
-  pub text : bytes ≡ line_text (command_words c) ++ rest
-
--- a session's name, its command and the line's end
-pub record BeginsWithLine (bytes name : List ℕ) (c : Command) (rest : List ℕ) : Type 0 where
-  pub named : IsName name
-  pub read : IsRead c
-  pub text : bytes ≡ line_text (name ∷ command_words c) ++ rest
-
--- the line that ends a round
-abbrev pub BeginsWithRound : List ℕ → List ℕ → Type 0
-BeginsWithRound bytes rest = bytes ≡ line_text (codes ".round" ∷ []) ++ rest
-
--- a line of the header, in its range
-pub record BeginsWithDirective (bytes : List ℕ) (d : Directive) (rest : List ℕ) : Type 0 where
-  pub read : IsReadDirective d
-  pub text : bytes ≡ directive_text d ++ rest
+abbrev pub lines_of : List ℕ → List (List ℕ)
+lines_of bytes = ended (slice_split is_line_end bytes)

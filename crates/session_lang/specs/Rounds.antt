@@ -1,5 +1,5 @@
 -- The commands of a script, round by round.
-use Rattle.std.specs.Prelude.{ℕ, List, [], ◌∷◌, ◌++◌, Option, Some, None, ◌==◌}
+use Rattle.std.specs.Prelude.{ℕ, ◌≤◌, List, [], ◌∷◌, ◌++◌, Option, Some, None, ◌==◌, length}
 use Rattle.std.specs.List.{filter, filter_map}
 use Rattle.tx_model.specs.declared.command.Command.{Command}
 use Rattle.session_lang.specs.declared.script.Item.{Item}
@@ -39,3 +39,11 @@ open_round script = open_from [] script
 -- a session's commands in a round
 abbrev pub turns_of : ℕ → List (ℕ × Command) → List (ℕ × Command)
 turns_of session turns = filter (λ t. t.0 == session) turns
+
+-- how many commands a session has in the round that goes on
+abbrev pub count_of : ℕ → List Item → ℕ
+count_of session before = length (turns_of session (open_round before))
+
+-- each session has at most 100,000 commands in a round
+abbrev pub IsShort : List (ℕ × Command) → Type 0
+IsShort turns = (session : ℕ) → length (turns_of session turns) ≤ 100000

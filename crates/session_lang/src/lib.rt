@@ -1,9 +1,15 @@
 //! The script that the tool reads, as text. The text of the report that it writes is `report_text`.
 #![tactic(auto)]
 
+pub mod laws;
+mod lines;
 mod parser;
 mod script;
+#[cfg(test)]
+mod tests;
 
+pub use lines::line_of;
 pub use parser::parse;
 pub use report_text::print_report;
-pub use script::{Directive, Item, ItemList, Kind, ParseRefusal, Script};
+pub use script::{Item, ItemList, ParseRefusal, Script};
+pub use script_lines::Kind;

@@ -1,102 +1,75 @@
 //! Bytes to a script.
 
-ghost use Rattle.std.specs.Prelude.{◌≡◌, [], IfOk, IfErr, OnOk, Err};
-ghost use Rattle.session_lang.specs.declared.script.Script.{Script};
-ghost use Rattle.session_lang.specs.Reading.{HasRead, IsBody, IsPartWay, IsStuck, ReadsOn};
-ghost use Rattle.session_lang.specs.Refused.{IsRefused};
-ghost use Rattle.session_lang.specs.Script.{IsScript};
+ghost use Rattle.std.specs.Prelude.{◌≡◌, ℕ, ◌+◌, ◌<◌, ◌≤◌, List, [], ◌∷◌, true, not, cond, IfOk, length};
+ghost use Rattle.std.specs.List.{prefix_len};
+ghost use Rattle.session_lang.specs.Answers.{ReadsAs};
+ghost use Rattle.session_lang.specs.Lines.{is_line_end, lines_of, without_cr};
+ghost use Rattle.session_lang.specs.Reading.{HasRead, IsSound};
+ghost use Rattle.session_lang.specs.Script.{no_front, read_lines, read_script};
 
-mod header;
-mod line;
 mod reading;
-#[cfg(test)]
-mod tests;
-mod word;
 
-use crate::parser::header::read_header;
-use crate::parser::line::read_line;
-use crate::parser::reading::{Reading, Refused};
-use crate::parser::word::after;
-use crate::script::{Kind, ParseRefusal, Script};
+use crate::lines::next_line;
+use crate::parser::reading::{Front, Reading};
+use crate::script::{ParseRefusal, Script};
+use script_lines::Kind;
 use std::alloc::Global;
-use tx_model::Memory;
 
 /// The bytes that a script may have.
 const MAX_BYTES: usize = 16_777_216;
 
-/// The banks of a store where the script doesn't say.
-const BANKS: u32 = 4;
-
-/// The fault of bytes that are no script.
-const NO_SCRIPT: ParseRefusal = ParseRefusal::Fault {
-    line: 0,
-    kind: Kind::Form,
-};
-
-/// Reads the line at the front. What is returned begins with the next one.
-fn read_on<'a>(alloc: Global, reading: &mut Reading, bytes: &'a [u8]) -> Result<&'a [u8], Refused>
-    requires so_far { HasRead reading.old.names reading.old.commands.items reading.old.items }
-    ensures so_far { OnOk result (HasRead reading.new.names reading.new.commands.items reading.new.items) }
-    ensures line { IfOk result (λ rest. ReadsOn reading.old.names reading.old.items bytes.now reading.new.names reading.new.items rest.now) }
-    ensures stuck { result ≡ Err Refused.Form → IsStuck reading.old.names reading.old.items bytes.now }
-{
-    if let Some(rest) = after(bytes, b".round\n") {
-        return match reading.end_round() {
-            Ok(()) => Ok(rest),
-            Err(Memory) => Err(Refused::Memory),
-        };
-    }
-    match read_line(alloc, bytes) {
-        Ok(Some((name, command, rest))) => match reading.add(alloc, name, command) {
-            Ok(()) => Ok(rest),
-            Err(refused) => Err(refused),
-        },
-        Ok(None) => Err(Refused::Form),
-        Err(Memory) => Err(Refused::Memory),
-    }
-}
-
-/// Reads the lines behind the header.
-fn read_body(alloc: Global, bytes: &[u8]) -> Result<Reading, Refused>
-    ensures so_far { IfOk result (λ r. HasRead r.names r.commands.items r.items) }
-    ensures all { IfOk result (λ r. IsPartWay bytes.now r.names r.items []) }
-    ensures stuck { result ≡ Err Refused.Form → (s : Script) → IsBody s bytes.now → ⊥ }
+/// Reads all lines.
+fn read_lines(alloc: Global, bytes: &[u8]) -> Result<Reading, ParseRefusal>
+    requires { length bytes.now ≤ 16777216 }
+    ensures reads { ReadsAs (λ r. r.front) result (read_lines no_front 1 (lines_of bytes.now)) }
+    ensures so_far { IfOk result (λ r. HasRead r.front.names r.commands.items r.front.items) }
+    ensures few { IfOk result (λ r. length r.front.items ≤ 16777216) }
 {
     let mut reading = Reading::new(alloc);
     let mut rest = bytes;
-    while !rest.is_empty() {
-        match read_on(alloc, &mut reading, rest) {
-            Ok(tail) => rest = tail,
-            Err(refused) => return Err(refused),
-        }
+    let mut number: u64 = 1;
+    let mut more = true;
+    while more {
+        let (line, behind, ended) = next_line(rest);
+        reading.read_line(alloc, number, line)?;
+        number += 1;
+        rest = behind;
+        more = ended;
     }
     Ok(reading)
 }
 
-/// Reads bytes as a script: at most 16,777,216 bytes, 64 sessions, and in each round 100,000 commands of each. The
-/// script is the only one with these bytes.
+/// Reads bytes as a script: at most 16,777,216 bytes, 64 sessions, and in each round 100,000 commands of each.
 ///
-/// A fault, of line 0 and of kind `Form`, is exactly where no script has them. Want of memory may come at any time.
+/// A fault is that of the first line that has one, and of the kinds that hold of this line the first one; so it comes exactly
+/// where the bytes are no script. Want of memory may come at any time.
 pub fn parse(alloc: Global, bytes: &[u8]) -> Result<Script, ParseRefusal>
-    ensures script { IfOk result (λ s. IsScript s bytes.now) }
-    ensures only { IfOk result (λ s. (other : Script) → IsScript other bytes.now → other ≡ s) }
-    ensures fault { IfErr result (λ e. IsRefused e bytes.now) }
+    ensures reads { ReadsAs (λ script. script) result (read_script bytes.now) }
+    ensures sound { IfOk result IsSound }
 {
     if bytes.len() > MAX_BYTES {
-        return Err(NO_SCRIPT);
+        return Err(ParseRefusal::Fault {
+            line: 0,
+            kind: Kind::Size,
+        });
     }
-    let Some((base, body)) = read_header(bytes) else {
-        return Err(NO_SCRIPT);
-    };
-    let reading = match read_body(alloc, body) {
-        Ok(reading) => reading,
-        Err(Refused::Form) => return Err(NO_SCRIPT),
-        Err(Refused::Memory) => return Err(ParseRefusal::Memory),
-    };
-    let Reading { names, items, .. } = reading;
+    let Reading { front, .. } = read_lines(alloc, bytes)?;
+    let Front {
+        header,
+        header_end,
+        names,
+        items,
+        ..
+    } = front;
+    if !header.has_base() {
+        return Err(ParseRefusal::Fault {
+            line: header_end,
+            kind: Kind::Base,
+        });
+    }
     Ok(Script {
-        base,
-        banks: BANKS,
+        base: header.base(),
+        banks: header.banks(),
         names,
         items,
     })

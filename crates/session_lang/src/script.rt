@@ -1,14 +1,5 @@
+use script_lines::Kind;
 use tx_model::{Command, Copied, Counters, DumpOf, How, Memory, NameList, Sequence};
-use xid_order::FullXid;
-
-/// A line of a script's header, which stands before all other lines.
-#[derive(Clone, Copy, Debug)]
-pub enum Directive {
-    /// The next id, from 3 to 2^62.
-    Start { next: FullXid },
-    /// The oldest id that is still asked for, from 3 to 2^62.
-    Oldest { oldest: FullXid },
-}
 
 /// A line of a script that isn't of its header.
 #[derive(Clone, Drop)]
@@ -44,17 +35,10 @@ pub struct Script {
     pub items: ItemList,
 }
 
-/// What is wrong with a line.
-#[derive(Clone, Copy, Debug, PartialEq, Eq)]
-pub enum Kind {
-    /// The bytes aren't of the form that is read so far.
-    Form,
-}
-
 /// Why bytes aren't taken as a script.
 #[derive(Clone, Copy, Debug, PartialEq, Eq)]
 pub enum ParseRefusal {
-    /// They are none. Lines count from 1; 0 is the script as a whole.
+    /// They are none: what is wrong with the first line that has a fault. Lines count from 1; 0 is the script as a whole.
     Fault { line: u64, kind: Kind },
     /// Want of memory.
     Memory,

@@ -1,8 +1,9 @@
 -- How a life begins, and what its report says.
-use Rattle.std.proofs.lemmas.Bool.{or_right}
+use Rattle.std.proofs.lemmas.Bool.{false≢true, or_right}
+use Rattle.std.proofs.lemmas.Bool.Decides.{nat_tests}
 use Rattle.tx_events.proofs.ListSteps.{eqb-refl}
-use Rattle.std.proofs.Common.{◌≡◌, ℕ, zero, suc, ◌<◌, ◌≤◌, ◌==◌, ◌||◌, List, [], ◌∷◌, ◌++◌, Some, None, refl, sym, ap, subst, ◌∙◌, arith, true, length, take, IsTrue, append-nil, length-append, codes}
-use Rattle.std.specs.List.{All, AllByRecursion, filter, flat_map, list_any, slice_get}
+use Rattle.std.proofs.Common.{◌≡◌, ℕ, zero, suc, ◌<◌, ◌≤◌, ◌==◌, ◌||◌, List, [], ◌∷◌, ◌++◌, Some, None, Ok, Err, Bool, true, false, cond, nat_lt, get_or, refl, sym, ap, subst, ◌∙◌, arith, length, take, IsTrue, append-nil, length-append, codes}
+use Rattle.std.specs.List.{All, AllByRecursion, filter, flat_map, list_any, prefix_len, slice_get}
 use Rattle.std.proofs.lemmas.List.Elements.{All-from_recursion, All-nil, recursion_from_All}
 use Rattle.tx_events.specs.declared.record.Counters.{Counters}
 use Rattle.tx_model.specs.declared.report.LifeReport.{LifeReport}
@@ -21,9 +22,14 @@ use Rattle.session_lang.specs.declared.script.Item.{Item}
 use Rattle.session_lang.specs.declared.script.Item.TheVariants as items
 use Rattle.session_lang.specs.declared.script.Script.{Script}
 use Rattle.report_text.specs.CommandText.{command_words}
-use Rattle.session_lang.specs.Header.{directive_text}
+use Rattle.script_lines.specs.declared.kind.Kind.{Kind}
+use Rattle.script_lines.specs.declared.kind.Kind.TheVariants as kinds
+use Rattle.session_lang.specs.Lines.{lines_of as text_lines}
+use Rattle.session_lang.specs.Places.{item_lines}
+use Rattle.session_lang.specs.Reading.{IsSound}
 use Rattle.session_lang.specs.Rounds.{rounds_of, sessions_in}
-use Rattle.session_lang.specs.Script.{IsReadItem, IsScript, item_text}
+use Rattle.session_lang.specs.Script.{read_script}
+use Rattle.session_run.specs.Refusals.{refusal_of}
 use Rattle.report_text.specs.ReportText.{end_text, front_text, report_text, rest_text, step_text}
 use Rattle.report_text.specs.Words.{line_text, more, name_at}
 use Rattle.report_text.proofs.OneLife.{one_life}
@@ -35,7 +41,7 @@ use Rattle.session_run.specs.Acts.{IsSoundAt}
 use Rattle.session_run.specs.Progress.{GoesOn, IsFresh, IsLeft, IsNew, IsTold, Progress, lines_of}
 use Rattle.session_run.specs.Stands.{IsRegistered, Nest}
 use Rattle.session_run.specs.Tool.{IsReportOf}
-use Rattle.session_run.specs.Turns.{IsRunnable, MayRun}
+use Rattle.session_run.specs.Turns.{IsRunnable, MayRun, has_item}
 
 -- a session that has done nothing yet, where nothing has happened
 fresh_left : (w : Shared) (k : ℕ) (s : Session) → w.table.events ≡ [] → IsFresh s → IsLeft w [] k s
@@ -122,40 +128,43 @@ printed_report names life r text told same from base steps =
     (same ∙ told.text ∙ ap (λ b. front_text b ++ flat_map (step_text names) life.steps) (sym base) ∙ ap (λ ss. front_text r.life.base ++ flat_map (step_text names) ss) (sym steps))
     ∙ one_life names r from
 
-line_some : (w : List ℕ) (ws : List (List ℕ)) → 1 ≤ length (line_text (w ∷ ws))
-unfolding line_text
-line_some w ws = omega (arith, length-append (w ++ more ws) (10 ∷ []))
+pass_step : (x : Item) (script : List Item) (b : Bool) → has_item x ≡ b → suc (length script) ≤ prefix_len has_item (x ∷ script) → (length script ≤ prefix_len has_item script → AllByRecursion (λ item. has_item item ≡ true) script) → AllByRecursion (λ item. has_item item ≡ true) (x ∷ script)
+pass_step x script true e l rest = let m = rw e at l in (e, rest (omega arith))
+pass_step x script false e l rest = let m = rw e at l in absurd (omega arith)
 
--- each line has a byte at least
-items_few : (names : List (List ℕ)) (script : List Item) → AllByRecursion IsReadItem script → length script ≤ length (flat_map (item_text names) script)
-items_few names [] r = omega arith
-items_few names (items.Run s c ∷ script) r =
-    omega (arith, items_few names script r.1, length-append (item_text names (items.Run s c)) (flat_map (item_text names) script), line_some (name_at names s) (command_words c))
-items_few names (items.Round ∷ script) r =
-    omega (arith, items_few names script r.1, length-append (item_text names items.Round) (flat_map (item_text names) script), line_some (codes ".round") [])
-items_few names (items.Checkpoint ∷ script) r = absurd r.0
-items_few names (items.Crash how ∷ script) r = absurd r.0
-items_few names (items.Dump what at size ∷ script) r = absurd r.0
+all_pass : (script : List Item) → length script ≤ prefix_len has_item script → AllByRecursion (λ item. has_item item ≡ true) script
+all_pass [] l = tt
+all_pass (x ∷ script) l = pass_step x script (has_item x) refl (omega arith) (all_pass script)
 
 -- each command's session is one of them
-may_run : (n : ℕ) (script : List Item) → ((k : ℕ) → is_in k (sessions_in script) ≡ true → k < n) → AllByRecursion IsReadItem script → AllByRecursion (MayRun n) script
+may_run : (n : ℕ) (script : List Item) → ((k : ℕ) → is_in k (sessions_in script) ≡ true → k < n) → AllByRecursion (λ item. has_item item ≡ true) script → AllByRecursion (MayRun n) script
 may_run n [] f r = tt
 may_run n (items.Run s c ∷ script) f r = (
   (r.0, f s (ap (λ b. b || is_in s (sessions_in script)) (eqb-refl s))),
   may_run n script (λ k e. f k (or_right (k == s) (is_in k (sessions_in script)) e)) r.1,
 )
 may_run n (items.Round ∷ script) f r = (tt, may_run n script f r.1)
-may_run n (items.Checkpoint ∷ script) f r = absurd r.0
-may_run n (items.Crash how ∷ script) f r = absurd r.0
-may_run n (items.Dump what at size ∷ script) f r = absurd r.0
+may_run n (items.Checkpoint ∷ script) f r = absurd (false≢true r.0)
+may_run n (items.Crash how ∷ script) f r = absurd (false≢true r.0)
+may_run n (items.Dump what at size ∷ script) f r = absurd (false≢true r.0)
 
--- a script can be run
-pub script_runs : (s : Script) (bytes : List ℕ) → IsScript s bytes → IsRunnable s
-script_runs s bytes i =
-    let read = recursion_from_All IsReadItem s.items i.read in
-    record {
-      base = i.counters;
-      items = All-from_recursion (MayRun (length s.names)) s.items (may_run (length s.names) s.items (λ k e. old_number k (length s.names) (sessions_in s.items) i.numbered e) read);
-      sessions = i.sessions;
-      few = omega (arith, items_few s.names s.items read, ap length i.text, length-append (flat_map directive_text i.header) (flat_map (item_text s.names) s.items), i.size);
-    }
+-- a script all of whose items the run has can be run
+pub script_runs : (s : Script) → IsSound s → length s.items ≤ prefix_len has_item s.items → IsRunnable s
+script_runs s i l = record {
+  base = i.base;
+  items = All-from_recursion (MayRun (length s.names)) s.items (may_run (length s.names) s.items (λ k e. old_number k (length s.names) (sessions_in s.items) i.numbered e) (all_pass s.items l));
+  sessions = i.sessions;
+  few = i.few;
+}
+
+-- what is told of bytes
+pub fault_told : (bytes : List ℕ) (line : ℕ) (kind : Kind) → read_script bytes ≡ Err (line, kind) → refusal_of bytes ≡ Some (line, kind)
+unfolding refusal_of
+fault_told bytes line kind e = rw e refl
+
+pub other_told : (bytes : List ℕ) (s : Script) (place line : ℕ) → read_script bytes ≡ Ok s → place ≡ prefix_len has_item s.items → place < length s.items → line ≡ get_or (item_lines 1 (text_lines bytes)) place 0 → refusal_of bytes ≡ Some (line, kinds.Command)
+unfolding refusal_of
+other_told bytes s place line e p l n = rw (e, less) (ap (λ m. Some (m, kinds.Command)) (sym (n ∙ ap (λ k. get_or (item_lines 1 (text_lines bytes)) k 0) p)))
+  where
+    less : nat_lt (prefix_len has_item s.items) (length s.items) ≡ true
+    less = grind (arith, nat_tests)

@@ -1,8 +1,12 @@
-use Rattle.std.proofs.Common.{◌≡◌, ℕ, ◌+◌, ◌≤◌, List, Option, sym, ap, subst, inl, ◌∙◌, take, drop, length, arith, get_or, [], ◌∷◌, ◌<◌, map}
+use Rattle.std.proofs.Common.{◌≡◌, ℕ, ◌+◌, ◌≤◌, List, Option, Some, sym, ap, subst, inl, inr, ◌∙◌, take, drop, length, arith, get_or, [], ◌∷◌, ◌<◌, map}
 use Rattle.std.specs.Io.KnownBytes.{Appends, Consumes, IsAtEnd}
 use Rattle.session_run.specs.declared.tool.Ending.{Ending}
 use Rattle.session_run.specs.declared.tool.Ending.TheVariants as endings
-use Rattle.session_run.specs.Ends.{Answers, Ends}
+use Rattle.script_lines.specs.declared.kind.Kind.{Kind}
+use Rattle.script_lines.specs.declared.kind.Kind.TheVariants as kinds
+use Rattle.session_lang.proofs.WholeLemmas.{too_long}
+use Rattle.session_run.specs.Refusals.{refusal_by, refusal_of}
+use Rattle.session_run.specs.Ends.{Answers, Ends, Refuses}
 use Rattle.std.proofs.KnownBytes.{Appends-trans}
 use Rattle.std.proofs.Math.Seq.{take-add}
 use Rattle.std.proofs.lemmas.Slice.{between_to_end}
@@ -31,6 +35,22 @@ one_word f xs x w b e h =
 -- how a run ends whose source was read to its end
 pub ends_of : (left left' : Option (List ℕ)) (faults faults' : ℕ) (bytes : List ℕ) (e : Ending) → Consumes left left' bytes → IsAtEnd left' → Answers bytes e → Ends left left' faults faults' e
 ends_of left left' faults faults' bytes (endings.Report text) read ended a = record { bytes = bytes; read = read; ended = ended; script = a.0; spelled = a.2; report = a.1; lawful = a.3; exact = a.4 }
-ends_of left left' faults faults' bytes endings.NoScript read ended a = record { bytes = bytes; read = read; ended = inl ended; none = a }
+ends_of left left' faults faults' bytes (endings.NoScript text) read ended a = record { bytes = bytes; read = read; ended = inl ended; fault = a.0; refused = a.1; exact = a.2 }
 ends_of left left' faults faults' bytes endings.ReadFault read ended a = absurd a
 ends_of left left' faults faults' bytes endings.Memory read ended a = tt
+
+-- how a run ends where the bytes are refused
+pub refused_answers : (bytes : List ℕ) (fault : ℕ × Kind) (e : Ending) → refusal_of bytes ≡ Some fault → Refuses fault e → Answers bytes e
+refused_answers bytes fault (endings.Report text) r a = absurd a
+refused_answers bytes fault (endings.NoScript text) r a = (fault, r, a)
+refused_answers bytes fault endings.ReadFault r a = absurd a
+refused_answers bytes fault endings.Memory r a = tt
+
+-- where the source wasn't read to its end
+pub too_long_ends : (left left' : Option (List ℕ)) (faults faults' : ℕ) (e : Ending) → ((bytes : List ℕ) × Consumes left left' bytes × (16777216 < length bytes)) → Refuses (0, kinds.Size) e → Ends left left' faults faults' e
+unfolding refusal_of
+too_long_ends left left' faults faults' (endings.Report text) long a = absurd a
+too_long_ends left left' faults faults' (endings.NoScript text) long a =
+    record { bytes = long.0; read = long.1; ended = inr long.2; fault = (0, kinds.Size); refused = ap (refusal_by long.0) (too_long long.0 long.2); exact = a }
+too_long_ends left left' faults faults' endings.ReadFault long a = absurd a
+too_long_ends left left' faults faults' endings.Memory long a = tt

@@ -5,6 +5,7 @@ pub mod Gives
 pub mod Closes
 pub mod Seen
 pub mod Turns
+pub mod Refusals
 pub mod Plans
 pub mod Told
 pub mod Progress

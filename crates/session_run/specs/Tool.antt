@@ -1,13 +1,15 @@
 -- What a run of the tool says.
-use Rattle.std.specs.Prelude.{◌≡◌, ℕ, ◌<◌, ◌≤◌, ◌⊎◌, List, [], ◌∷◌, ◌++◌, Option, None, take, length, codes, Contains}
+use Rattle.std.specs.Prelude.{◌≡◌, ℕ, ◌<◌, ◌≤◌, ◌⊎◌, List, [], ◌∷◌, ◌++◌, Option, None, Some, Ok, take, length, codes, Contains}
 use Rattle.std.specs.Io.KnownBytes.{Consumes, Appends, IsAtEnd}
 use Rattle.tx_model.specs.declared.report.Report.{Report}
 use Rattle.tx_model.specs.declared.report.LifeReport.{LifeReport}
 use Rattle.tx_model.specs.LawfulLife.{BeginsLog, IsLawfulLife}
+use Rattle.script_lines.specs.declared.kind.Kind.{Kind}
 use Rattle.session_lang.specs.declared.script.Script.{Script}
 use Rattle.report_text.specs.ReportText.{report_text}
 use Rattle.session_lang.specs.Rounds.{rounds_of}
-use Rattle.session_lang.specs.Script.{IsScript}
+use Rattle.session_lang.specs.Script.{read_script}
+use Rattle.session_run.specs.Refusals.{refusal_of, refusal_text}
 
 -- the report of a run of the script over a new log: one life, from the script's counters, round by round
 pub record IsReportOf (s : Script) (r : Report) : Type 0 where
@@ -38,7 +40,7 @@ pub record IsAnswer (left left' : Option (List ℕ)) (text : List ℕ) : Type 0 
   pub read : Consumes left left' bytes
   pub ended : IsAtEnd left'
   pub script : Script
-  pub spelled : IsScript script bytes
+  pub spelled : read_script bytes ≡ Ok script
   pub report : Report
   pub lawful : IsReportOf script report
   pub exact : text ≡ report_text report
@@ -49,21 +51,29 @@ pub record IsWholeRun (left left' held held' : Option (List ℕ)) : Type 0 where
   pub answer : IsAnswer left left' text
   pub written : Appends held held' text
 
--- The source was read to its end or past the limit, and its bytes are no script.
-pub record IsNoScript (left left' : Option (List ℕ)) : Type 0 where
+-- The source was read to its end or past the limit, its bytes are refused, and the text tells where and why.
+pub record IsNoScript (left left' : Option (List ℕ)) (text : List ℕ) : Type 0 where
   pub bytes : List ℕ
   pub read : Consumes left left' bytes
   pub ended : IsAtEnd left' ⊎ (16777216 < length bytes)
-  pub none : (s : Script) → IsScript s bytes → ⊥
+  pub fault : ℕ × Kind
+  pub refused : refusal_of bytes ≡ Some fault
+  pub exact : text ≡ refusal_text fault
 
--- the lines that end a run without a report
+-- The sink holds such a text more.
+pub record IsRefused (left left' held held' : Option (List ℕ)) : Type 0 where
+  pub text : List ℕ
+  pub refusal : IsNoScript left left' text
+  pub written : Appends held held' text
+
+-- the other lines that end a run without a report
 abbrev pub last_lines : List (List ℕ)
 last_lines =
-    (codes "script 0 form" ++ 10 ∷ []) ∷ (codes "words" ++ 10 ∷ []) ∷ (codes "read-fault" ++ 10 ∷ []) ∷ (codes "memory" ++ 10 ∷ []) ∷ []
+    (codes "words" ++ 10 ∷ []) ∷ (codes "read-fault" ++ 10 ∷ []) ∷ (codes "memory" ++ 10 ∷ []) ∷ []
 
 -- The sink holds a front of a run's report more, or of a last line.
 pub record HoldsFront (left left' held held' : Option (List ℕ)) : Type 0 where
   pub text : List ℕ
-  pub whole : IsAnswer left left' text ⊎ Contains last_lines text
+  pub whole : IsAnswer left left' text ⊎ (IsNoScript left left' text ⊎ Contains last_lines text)
   pub count : ℕ
   pub front : Appends held held' (take count text)

@@ -5,6 +5,7 @@
 mod ends;
 mod levels;
 mod life;
+mod other;
 mod plain_log;
 mod plan;
 mod rounds;

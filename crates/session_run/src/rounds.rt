@@ -1,11 +1,10 @@
 //! Runs the rounds of a script: session by session, command by command, each line printed as it comes.
-ghost use Rattle.std.specs.Prelude.{◌≡◌, ℕ, ◌+◌, ◌^◌, ◌<◌, ◌≤◌, List, [], ◌∷◌, ◌++◌, IfNone, IfOk, IfSome, OnOk, Some, map, length, slice_get};
+ghost use Rattle.std.specs.Prelude.{◌≡◌, ℕ, ◌+◌, ◌^◌, ◌<◌, ◌≤◌, List, [], ◌∷◌, ◌++◌, IfNone, IfOk, IfSome, OnOk, Some, true, map, length, slice_get};
 ghost use Rattle.std.specs.List.{All, flat_map};
 ghost use Rattle.tx_model.specs.LawfulLife.{AreInTurn, AreRounds};
 ghost use Rattle.tx_model.specs.Lines.{turn_of};
 ghost use Rattle.session_lang.specs.declared.script.Item.TheVariants as items;
 ghost use Rattle.session_lang.specs.Rounds.{rounds_of, turns_of};
-ghost use Rattle.session_lang.specs.Script.{IsRead};
 ghost use Rattle.session_run.specs.declared.session.Session.{Session};
 ghost use Rattle.session_run.specs.Acts.{IsSoundAt};
 ghost use Rattle.session_run.specs.Plans.{HasPlaces, IsBlank, IsPlanOf, turns_at};
@@ -13,7 +12,7 @@ ghost use Rattle.session_run.specs.Progress.{AddsRound, Continues, GoesOn, IsTol
 ghost use Rattle.session_run.specs.Sound.{HasRoom};
 ghost use Rattle.session_run.specs.Stands.{Stands};
 ghost use Rattle.session_run.specs.Told.{begin_text, rounds_with};
-ghost use Rattle.session_run.specs.Turns.{IsFirstRound, MayRun, is_command, turns_in};
+ghost use Rattle.session_run.specs.Turns.{IsFirstRound, MayRun, has_command, is_command, turns_in};
 
 use crate::life::OpenLife;
 use crate::plan::Plan;
@@ -32,7 +31,7 @@ fn next_reply(
     session: &mut Session,
     command: &Command,
 ) -> Result<(By, Reply), Memory>
-    requires read { IsRead command.now }
+    requires has { has_command command.now ≡ true }
     requires sound { IsSoundAt shared.old }
     requires stands { Stands shared.old.table.base shared.old.table.events number session.old.commands session.old }
     requires known { number < shared.old.table.sessions }
@@ -111,7 +110,7 @@ impl OpenLife {
         number: u32,
         command: &Command,
     ) -> Result<(), Memory>
-        requires read { IsRead command.now }
+        requires has { has_command command.now ≡ true }
         requires goes_on { GoesOn self.old }
         requires known { number < length self.old.sessions.items }
         requires room { MayAdd self.old 1 }

@@ -1,7 +1,7 @@
 //! A session: how it stands, and its commands.
-ghost use Rattle.std.specs.Prelude.{◌≡◌, ℕ, [], OnOk, IfOk};
-ghost use Rattle.session_lang.specs.Script.{IsRead};
+ghost use Rattle.std.specs.Prelude.{◌≡◌, ℕ, [], true, OnOk, IfOk};
 ghost use Rattle.session_run.specs.Acts.{ActsOn, Ready, IsSoundAt, StandsAt, GrowsLittle};
+ghost use Rattle.session_run.specs.Turns.{has_command};
 
 use crate::ends::{abort, commit, undo};
 use crate::levels::{begin, release, save};
@@ -59,7 +59,7 @@ pub fn run_command(
     session: &mut Session,
     command: &Command,
 ) -> Result<Reply, Memory>
-    requires read { IsRead command.now }
+    requires has { has_command command.now ≡ true }
     requires ready { Ready shared.old by session.old }
     ensures acts { IfOk result (λ reply. ActsOn shared.old shared.new by session.old session.new command.now reply) }
     ensures sound { OnOk result (IsSoundAt shared.new) }

@@ -192,7 +192,18 @@ fn bytes_that_are_no_script_are_refused(rt: HostRuntime) -> Result<(), Fail> {
     let alloc = rt.alloc();
     let (status, held) = run(alloc, "run", "a begin\na frob\n", Vec::new(alloc), 100)?;
     assert_eq!(rt; status, 1);
-    assert_eq!(rt; held.as_slice(), b"script 0 form\n".as_slice());
+    assert_eq!(rt; held.as_slice(), b"script 2 command\n".as_slice());
+    Ok(())
+}
+
+/// They stand in the grammar, and the run doesn't have them.
+#[test]
+fn first_line_that_the_run_lacks_is_refused(rt: HostRuntime) -> Result<(), Fail> {
+    let alloc = rt.alloc();
+    let script = "# a line\n.banks 2\n\na begin\na trim\n.checkpoint\n";
+    let (status, held) = run(alloc, "run", script, Vec::new(alloc), 100)?;
+    assert_eq!(rt; status, 1);
+    assert_eq!(rt; held.as_slice(), b"script 5 command\n".as_slice());
     Ok(())
 }
 

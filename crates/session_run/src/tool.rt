@@ -3,23 +3,27 @@ ghost use Rattle.std.specs.Prelude.{◌≡◌, ℕ, ◌⊎◌, ◌↔◌, List, 
 ghost use Rattle.std.specs.Io.KnownBytes.{Appends};
 ghost use Rattle.tx_model.specs.declared.report.Report.{Report};
 ghost use Rattle.tx_io.specs.Causes.{Rose};
-ghost use Rattle.session_lang.specs.declared.script.Script.{Script};
 ghost use Rattle.report_text.specs.ReportText.{report_text};
-ghost use Rattle.session_lang.specs.Script.{IsScript};
-ghost use Rattle.session_run.specs.Tool.{IsRun, IsWholeRun, IsNoScript, IsReportOf, HoldsFront, ReadsUpTo, most_read};
-ghost use Rattle.session_run.specs.Ends.{Ends, Answers};
+ghost use Rattle.session_run.specs.Tool.{IsRun, IsWholeRun, IsRefused, HoldsFront, ReadsUpTo, most_read};
+ghost use Rattle.session_run.specs.Refusals.{refusal_text};
+ghost use Rattle.session_run.specs.Ends.{Answers, Ends, Refuses};
 
+use crate::other::first_other;
 use crate::run::run_script;
 use crate::stream::{ReadStop, read_all, write_all};
-use session_lang::{ParseRefusal, parse};
+use report_text::Text;
+use session_lang::{Kind, ParseRefusal, line_of, parse};
 use std::alloc::Global;
 use tx_io::{Failed, Sink, Source};
+use tx_model::Memory;
 
 /// How a run ends.
 #[derive(Drop)]
 enum Ending {
+    /// The report's text.
     Report(Vec<u8>),
-    NoScript,
+    /// The line that tells where the bytes are refused, and why.
+    NoScript(Vec<u8>),
     ReadFault,
     Memory,
 }
@@ -39,20 +43,47 @@ fn is_run(words: &[String]) -> bool
     }
 }
 
-/// What a script's bytes give: the text of its report, or that they are none.
+/// The line that tells at which line of a script a fault is, and its kind.
+#[tactic(auto, unfolding(crate::specs::Refusals::refusal_text, report_text::specs::Words::line_text, report_text::specs::Words::more))]
+fn refusal_text(alloc: Global, line: u64, kind: Kind) -> Result<Vec<u8>, Memory>
+    ensures { IfOk result (λ text. text.items ≡ refusal_text (line, kind)) }
+{
+    let mut text = Text::new(alloc);
+    text.put(b"script")?;
+    text.number(line)?;
+    text.word(kind.word())?;
+    text.end_line()?;
+    Ok(text.into_bytes())
+}
+
+/// The ending of a script with this fault.
+fn refused(alloc: Global, line: u64, kind: Kind) -> Ending
+    ensures { Refuses (line, kind) result }
+{
+    match refusal_text(alloc, line, kind) {
+        Ok(text) => Ending::NoScript(text),
+        Err(Memory) => Ending::Memory,
+    }
+}
+
+/// What a script's bytes give: the text of its report, or that they are refused.
 fn answer(alloc: Global, bytes: &[u8]) -> Ending
     requires { length bytes.now ≤ 16777216 }
     ensures { Answers bytes.now result }
 {
     let script = match parse(alloc, bytes) {
         Ok(script) => script,
-        Err(ParseRefusal::Fault { .. }) => return Ending::NoScript,
+        Err(ParseRefusal::Fault { line, kind }) => return refused(alloc, line, kind),
         Err(ParseRefusal::Memory) => return Ending::Memory,
     };
-    let Ok(text) = run_script(alloc, &script) else {
-        return Ending::Memory;
-    };
-    Ending::Report(text)
+    let place = first_other(script.items.items());
+    if place < script.items.items().len() {
+        return refused(alloc, line_of(bytes, place), Kind::Command);
+    }
+    match run_script(alloc, &script) {
+        Ok(text) => Ending::Report(text),
+        Err(Memory) => Ending::Memory,
+    }
 }
 
 /// Reads the source and makes the report.
@@ -64,7 +95,7 @@ fn work<S: Source>(alloc: Global, source: &mut S) -> Ending
     match read_all(alloc, source) {
         Ok(bytes) => answer(alloc, bytes.as_slice()),
         Err(ReadStop::Fault) => Ending::ReadFault,
-        Err(ReadStop::TooLong) => Ending::NoScript,
+        Err(ReadStop::TooLong) => refused(alloc, 0, Kind::Size),
         Err(ReadStop::Memory) => Ending::Memory,
     }
 }
@@ -88,9 +119,10 @@ pub fn say_out_of_memory<K: Sink>(sink: &mut K) -> u8
     finish(sink, b"memory\n", 6)
 }
 
-/// Runs the tool over the words of its command line, and answers its status: 0 done, 1 the source's bytes aren't a
-/// script, 2 the words are refused, 3 the source failed, 4 the sink failed, 6 out of memory. The only word is `run`.
-/// Reads at most 16,777,217 bytes, and none where the words are refused.
+/// Runs the tool over the words of its command line, and answers its status: 0 done, 1 the source's bytes are no
+/// script, or have a line that the run doesn't do yet, and the line `script LINE KIND` is written, 2 the words are
+/// refused, 3 the source failed, 4 the sink failed, 6 out of memory. The only word is `run`. Reads at most 16,777,217
+/// bytes, and none where the words are refused.
 pub fn run_tool<S: Source, K: Sink>(
     alloc: Global,
     words: &[String],
@@ -103,7 +135,8 @@ pub fn run_tool<S: Source, K: Sink>(
         × IsWholeRun (S.left source.old) (S.left source.new) (K.held sink.old) (K.held sink.new) }
 
     // Why it ends otherwise.
-    ensures script { result ≡ 1 → IsRun (map string_bytes words.now) × IsNoScript (S.left source.old) (S.left source.new) }
+    ensures script { result ≡ 1 → IsRun (map string_bytes words.now)
+        × IsRefused (S.left source.old) (S.left source.new) (K.held sink.old) (K.held sink.new) }
     ensures words { result ≡ 2 → IsRun (map string_bytes words.now) → ⊥ }
     ensures words_only { (IsRun (map string_bytes words.now) → ⊥) → (result ≡ 2) ⊎ (result ≡ 4) }
     ensures read { result ≡ 3 → Rose (S.faults source.old) (S.faults source.new) }
@@ -116,7 +149,6 @@ pub fn run_tool<S: Source, K: Sink>(
     ensures untouched { (IsRun (map string_bytes words.now) → ⊥) → source.new ≡ source.old }
 
     // And the line that it then writes.
-    ensures no_script { result ≡ 1 → Appends (K.held sink.old) (K.held sink.new) (codes "script 0 form" ++ 10 ∷ []) }
     ensures no_words { result ≡ 2 → Appends (K.held sink.old) (K.held sink.new) (codes "words" ++ 10 ∷ []) }
     ensures read_fault { result ≡ 3 → Appends (K.held sink.old) (K.held sink.new) (codes "read-fault" ++ 10 ∷ []) }
     ensures no_memory { result ≡ 6 → Appends (K.held sink.old) (K.held sink.new) (codes "memory" ++ 10 ∷ []) }
@@ -126,7 +158,7 @@ pub fn run_tool<S: Source, K: Sink>(
     }
     match work(alloc, source) {
         Ending::Report(text) => finish(sink, text.as_slice(), 0),
-        Ending::NoScript => finish(sink, b"script 0 form\n", 1),
+        Ending::NoScript(text) => finish(sink, text.as_slice(), 1),
         Ending::ReadFault => finish(sink, b"read-fault\n", 3),
         Ending::Memory => finish(sink, b"memory\n", 6),
     }

@@ -1,14 +1,19 @@
-//! What has been read of a script.
+//! What has been read of a script, and one line more.
 
-ghost use Rattle.std.specs.Prelude.{◌≡◌, ℕ, ◌+◌, ◌<◌, ◌≤◌, ◌⊎◌, List, [], ◌∷◌, ◌++◌, Some, true, IfSome, IfNone, IfOk, OnOk, OnErr, Err, length, slice_get};
-ghost use Rattle.tx_model.specs.declared.command.Command.{Command};
-ghost use Rattle.session_lang.specs.declared.script.Item.TheVariants as items;
-ghost use Rattle.session_lang.specs.Names.{IsName};
-ghost use Rattle.session_lang.specs.Script.{IsRead};
-ghost use Rattle.session_lang.specs.Reading.{AddsLine, HasRead, IsFull, IsNew, count_of};
+ghost use Rattle.std.specs.Prelude.{◌≡◌, ◌&&◌, not, ℕ, ◌+◌, ◌<◌, ◌≤◌, List, [], ◌++◌, Some, Result, Ok, true, IfSome, IfNone, OnOk, length, slice_get};
+ghost use Rattle.script_lines.specs.Kinds.{Gives};
+ghost use Rattle.script_lines.specs.LineWords.{is_name, is_plain, words_in};
+ghost use Rattle.session_lang.specs.Reading.{HasRead, IsNew};
+ghost use Rattle.session_lang.specs.Answers.{ReadsAs};
+ghost use Rattle.script_lines.specs.declared.kind.Kind.{Kind};
+ghost use Rattle.session_lang.specs.declared.parser.reading.Front.{Front};
+ghost use Rattle.session_lang.specs.Script.{at_line, place_of, with_turn, command_line, item_of, with_directive, is_dot, words_line, body_line, header_words, header_line, is_header_line, end_header, is_passed, read_line, no_front};
 
-use crate::parser::word::name_of;
-use crate::script::{Item, ItemList};
+use crate::script::{Item, ItemList, ParseRefusal};
+use script_lines::{
+    Directive, Header, Kind, Stop, command_at, directive_at, is_header_word, is_name, is_plain,
+    name_of, next_word,
+};
 use std::alloc::Global;
 use tx_model::{Command, Memory, Name, NameList};
 
@@ -18,21 +23,24 @@ const MAX_SESSIONS: usize = 64;
 /// The commands that a session may have in a round.
 const MAX_COMMANDS: u32 = 100_000;
 
-/// Why reading can't go on.
-#[derive(Clone, Copy)]
-pub enum Refused {
-    /// No script goes on so.
-    Form,
-    /// Want of memory.
-    Memory,
+/// What the lines so far say.
+#[derive(Drop)]
+pub struct Front {
+    pub header: Header,
+    /// The number of the header's last line, 0 for none.
+    pub header_end: u64,
+    /// Whether a line has come that isn't of the header.
+    pub late: bool,
+    pub names: NameList,
+    pub items: ItemList,
 }
 
-/// The lines read so far, the names in them, and how many commands each session has in the round that goes on.
+/// The lines so far, and what makes the next one quick to add.
 #[derive(Drop)]
 pub struct Reading {
-    pub names: NameList,
+    pub front: Front,
+    /// How many commands each session has in the round that goes on.
     pub commands: Vec<u32>,
-    pub items: ItemList,
     /// The session of the last line, if it has one.
     last: usize,
 }
@@ -76,100 +84,259 @@ fn find_near(names: &[Name], last: usize, name: &[u8]) -> Option<usize>
     find(names, name)
 }
 
+fn item_of(directive: Directive) -> Item
+    ensures { result ≡ item_of directive }
+{
+    match directive {
+        Directive::Round => Item::Round,
+        Directive::Checkpoint => Item::Checkpoint,
+        Directive::Crash { how } => Item::Crash { how },
+        Directive::Dump { what, at, length } => Item::Dump { what, at, length },
+    }
+}
+
+/// Whether a line has no words, or is a comment without a fault.
+fn is_passed(plain: bool, line: &[u8]) -> bool
+    ensures { result ≡ (plain && is_passed (words_in line.now)) }
+{
+    if !plain {
+        return false;
+    }
+    match next_word(line) {
+        Some((word, _rest)) => word[0] == b'#',
+        None => true,
+    }
+}
+
+/// Whether a line is of the header, which ends where another line comes.
+fn is_header_line(late: bool, line: &[u8]) -> bool
+    ensures { result ≡ (not late && is_header_line (words_in line.now)) }
+{
+    if late {
+        return false;
+    }
+    match next_word(line) {
+        Some((word, _rest)) => is_header_word(word),
+        None => false,
+    }
+}
+
+/// What was read of a line by itself, with its number.
+fn at_line(number: u64, read: Result<(), Stop>) -> Result<(), ParseRefusal>
+    ensures told { (f : Front) (line : Result Front Kind) → Gives (λ _. f) read line → ReadsAs (λ _. f) result (at_line number line) }
+    ensures ok { OnOk result (read ≡ Ok tt) }
+{
+    match read {
+        Ok(()) => Ok(()),
+        Err(Stop::Fault(kind)) => Err(ParseRefusal::Fault { line: number, kind }),
+        Err(Stop::Memory) => Err(ParseRefusal::Memory),
+    }
+}
+
 impl Reading {
     /// Nothing.
+    #[tactic(auto, unfolding(crate::specs::Script::no_front, script_lines::specs::Header::no_header))]
     pub fn new(alloc: Global) -> Reading
-        ensures names { result.names ≡ [] }
-        ensures items { result.items ≡ [] }
-        ensures so_far { HasRead result.names result.commands.items result.items }
+        ensures front { result.front ≡ no_front }
+        ensures so_far { HasRead result.front.names result.commands.items result.front.items }
     {
-        Reading {
+        let front = Front {
+            header: Header::new(),
+            header_end: 0,
+            late: false,
             names: NameList::new(alloc),
-            commands: Vec::new(alloc),
             items: ItemList::new(alloc),
+        };
+        Reading {
+            front,
+            commands: Vec::new(alloc),
             last: 0,
         }
     }
 
     /// Adds a command of a session that has one.
-    fn add_old(&mut self, session: usize, command: Command) -> Result<(), Refused>
-        requires so_far { HasRead self.old.names self.old.commands.items self.old.items }
-        requires known { session < length self.old.names }
-        requires read { IsRead command }
-        ensures so_far { OnOk result (HasRead self.new.names self.new.commands.items self.new.items) }
-        ensures names { OnOk result (self.new.names ≡ self.old.names) }
-        ensures items { OnOk result (self.new.items ≡ self.old.items ++ items.Run session command ∷ []) }
-        ensures full { result ≡ Err Refused.Form → 100000 ≤ count_of session self.old.items }
+    fn add_old(&mut self, session: usize, name: &[u8], command: Command) -> Result<(), Stop>
+        requires so_far { HasRead self.old.front.names self.old.commands.items self.old.front.items }
+        requires known { session < length self.old.front.names }
+        ensures adds { Gives (λ _. self.new.front) result (with_turn self.old.front session name.now command) }
+        ensures few { OnOk result (length self.new.front.items ≡ length self.old.front.items + 1) }
+        ensures so_far { OnOk result (HasRead self.new.front.names self.new.commands.items self.new.front.items) }
     {
         let count = self.commands[session];
         if count >= MAX_COMMANDS {
-            return Err(Refused::Form);
+            return Err(Stop::Fault(Kind::Limit));
         }
         self.commands[session] = count + 1;
         let session = session as u32;
-        match self.items.push(Item::Run { session, command }) {
+        match self.front.items.push(Item::Run { session, command }) {
             Ok(()) => Ok(()),
-            Err(Memory) => Err(Refused::Memory),
+            Err(Memory) => Err(Stop::Memory),
         }
     }
 
     /// Adds the first command of a session.
-    fn add_new(&mut self, alloc: Global, name: &[u8], command: Command) -> Result<(), Refused>
-        requires so_far { HasRead self.old.names self.old.commands.items self.old.items }
-        requires named { IsName name.now }
-        requires fresh { IsNew self.old.names name.now }
-        requires read { IsRead command }
-        ensures so_far { OnOk result (HasRead self.new.names self.new.commands.items self.new.items) }
-        ensures names { OnOk result (self.new.names ≡ self.old.names ++ name.now ∷ []) }
-        ensures items { OnOk result (self.new.items ≡ self.old.items ++ items.Run (length self.old.names) command ∷ []) }
-        ensures full { result ≡ Err Refused.Form → 64 ≤ length self.old.names }
+    fn add_new(&mut self, alloc: Global, name: &[u8], command: Command) -> Result<(), Stop>
+        requires so_far { HasRead self.old.front.names self.old.commands.items self.old.front.items }
+        requires named { is_name name.now ≡ true }
+        requires fresh { IsNew self.old.front.names name.now }
+        ensures adds { Gives (λ _. self.new.front) result (with_turn self.old.front (length self.old.front.names) name.now command) }
+        ensures few { OnOk result (length self.new.front.items ≡ length self.old.front.items + 1) }
+        ensures so_far { OnOk result (HasRead self.new.front.names self.new.commands.items self.new.front.items) }
     {
-        let session = self.names.items().len();
+        let session = self.front.names.items().len();
         if session >= MAX_SESSIONS {
-            return Err(Refused::Form);
+            return Err(Stop::Fault(Kind::Limit));
         }
         let Ok(name) = name_of(alloc, name) else {
-            return Err(Refused::Memory);
+            return Err(Stop::Memory);
         };
-        let Ok(()) = self.names.push(name) else {
-            return Err(Refused::Memory);
+        let Ok(()) = self.front.names.push(name) else {
+            return Err(Stop::Memory);
         };
         let Ok(()) = self.commands.push(1) else {
-            return Err(Refused::Memory);
+            return Err(Stop::Memory);
         };
         let session = session as u32;
-        match self.items.push(Item::Run { session, command }) {
+        match self.front.items.push(Item::Run { session, command }) {
             Ok(()) => Ok(()),
-            Err(Memory) => Err(Refused::Memory),
+            Err(Memory) => Err(Stop::Memory),
         }
     }
 
-    /// Adds a line. Sessions are numbered in the order in which their names first come.
-    pub fn add(&mut self, alloc: Global, name: &[u8], command: Command) -> Result<(), Refused>
-        requires so_far { HasRead self.old.names self.old.commands.items self.old.items }
-        requires named { IsName name.now }
-        requires read { IsRead command }
-        ensures so_far { OnOk result (HasRead self.new.names self.new.commands.items self.new.items) }
-        ensures added { OnOk result (AddsLine self.old.names self.old.items name.now command self.new.names self.new.items) }
-        ensures full { result ≡ Err Refused.Form → IsFull self.old.names self.old.items name.now }
+    /// Adds a command. Sessions are numbered in the order in which their names first come.
+    fn add(&mut self, alloc: Global, name: &[u8], command: Command) -> Result<(), Stop>
+        requires so_far { HasRead self.old.front.names self.old.commands.items self.old.front.items }
+        requires named { is_name name.now ≡ true }
+        ensures adds { Gives (λ _. self.new.front) result (with_turn self.old.front (place_of self.old.front.names name.now) name.now command) }
+        ensures few { OnOk result (length self.new.front.items ≡ length self.old.front.items + 1) }
+        ensures so_far { OnOk result (HasRead self.new.front.names self.new.commands.items self.new.front.items) }
     {
-        match find_near(self.names.items(), self.last, name) {
+        match find_near(self.front.names.items(), self.last, name) {
             Some(session) => {
                 self.last = session;
-                self.add_old(session, command)
+                self.add_old(session, name, command)
             }
             None => self.add_new(alloc, name, command),
         }
     }
 
-    /// Ends the round: each session may have as many commands again.
-    pub fn end_round(&mut self) -> Result<(), Memory>
-        requires so_far { HasRead self.old.names self.old.commands.items self.old.items }
-        ensures so_far { OnOk result (HasRead self.new.names self.new.commands.items self.new.items) }
-        ensures names { OnOk result (self.new.names ≡ self.old.names) }
-        ensures items { OnOk result (self.new.items ≡ self.old.items ++ items.Round ∷ []) }
+    /// Adds a directive, which ends the round: each session may have as many commands again.
+    fn end_round(&mut self, directive: Directive) -> Result<(), Memory>
+        requires so_far { HasRead self.old.front.names self.old.commands.items self.old.front.items }
+        ensures adds { OnOk result (self.new.front ≡ with_directive self.old.front directive) }
+        ensures few { OnOk result (length self.new.front.items ≡ length self.old.front.items + 1) }
+        ensures so_far { OnOk result (HasRead self.new.front.names self.new.commands.items self.new.front.items) }
     {
         self.commands.fill(0);
-        self.items.push(Item::Round)
+        self.front.items.push(item_of(directive))
+    }
+
+    /// Adds a line of commands.
+    #[tactic(auto, unfolding(crate::specs::Script::command_line))]
+    fn command_line(&mut self, alloc: Global, name: &[u8], rest: &[u8]) -> Result<(), Stop>
+        requires so_far { HasRead self.old.front.names self.old.commands.items self.old.front.items }
+        ensures adds { Gives (λ _. self.new.front) result (command_line self.old.front name.now (words_in rest.now)) }
+        ensures so_far { OnOk result (HasRead self.new.front.names self.new.commands.items self.new.front.items) }
+        ensures few { OnOk result (length self.new.front.items ≡ length self.old.front.items + 1) }
+    {
+        if !is_name(name) {
+            return Err(Stop::Fault(Kind::Session));
+        }
+        let command = command_at(alloc, rest)?;
+        self.add(alloc, name, command)
+    }
+
+    /// Adds the words of a line that isn't of the header.
+    fn words_line(&mut self, alloc: Global, line: &[u8]) -> Result<(), Stop>
+        requires so_far { HasRead self.old.front.names self.old.commands.items self.old.front.items }
+        ensures adds { Gives (λ _. self.new.front) result (words_line self.old.front (words_in line.now)) }
+        ensures so_far { OnOk result (HasRead self.new.front.names self.new.commands.items self.new.front.items) }
+        ensures few { OnOk result (length self.new.front.items ≤ length self.old.front.items + length line.now) }
+    {
+        let Some((word, rest)) = next_word(line) else {
+            return Ok(());
+        };
+        if word[0] == b'.' {
+            let directive = directive_at(word, rest)?;
+            self.end_round(directive)?;
+            return Ok(());
+        }
+        self.command_line(alloc, word, rest)
+    }
+
+    /// Adds a line that isn't of the header.
+    #[tactic(auto, unfolding(crate::specs::Script::body_line))]
+    fn body_line(&mut self, alloc: Global, plain: bool, line: &[u8]) -> Result<(), Stop>
+        requires so_far { HasRead self.old.front.names self.old.commands.items self.old.front.items }
+        requires tested { plain ≡ is_plain line.now }
+        ensures adds { Gives (λ _. self.new.front) result (body_line self.old.front line.now) }
+        ensures so_far { OnOk result (HasRead self.new.front.names self.new.commands.items self.new.front.items) }
+        ensures few { OnOk result (length self.new.front.items ≤ length self.old.front.items + length line.now) }
+    {
+        if !plain {
+            return Err(Stop::Fault(Kind::Byte));
+        }
+        self.words_line(alloc, line)
+    }
+
+    /// Adds a line of the header.
+    #[tactic(auto, unfolding(crate::specs::Script::header_line))]
+    fn header_line(&mut self, number: u64, plain: bool, line: &[u8]) -> Result<(), Stop>
+        requires tested { plain ≡ is_plain line.now }
+        ensures adds { Gives (λ _. self.new.front) result (header_line self.old.front number line.now) }
+        ensures names { self.new.front.names ≡ self.old.front.names }
+        ensures items { self.new.front.items ≡ self.old.front.items }
+        ensures commands { self.new.commands ≡ self.old.commands }
+    {
+        if !plain {
+            return Err(Stop::Fault(Kind::Byte));
+        }
+        let Some((word, rest)) = next_word(line) else {
+            return Ok(());
+        };
+        match self.front.header.with(word, rest) {
+            Ok(header) => {
+                self.front.header = header;
+                self.front.header_end = number;
+                Ok(())
+            }
+            Err(kind) => Err(Stop::Fault(kind)),
+        }
+    }
+
+    /// Ends the header, where it hasn't ended yet.
+    pub fn end_header(&mut self) -> Result<(), ParseRefusal>
+        ensures adds { ReadsAs (λ _. self.new.front) result (end_header self.old.front) }
+        ensures names { self.new.front.names ≡ self.old.front.names }
+        ensures items { self.new.front.items ≡ self.old.front.items }
+        ensures commands { self.new.commands ≡ self.old.commands }
+    {
+        if !self.front.late && !self.front.header.has_base() {
+            return Err(ParseRefusal::Fault {
+                line: self.front.header_end,
+                kind: Kind::Base,
+            });
+        }
+        self.front.late = true;
+        Ok(())
+    }
+
+    /// Adds the line of this number.
+    #[tactic(auto, unfolding(crate::specs::Script::read_line))]
+    pub fn read_line(&mut self, alloc: Global, number: u64, line: &[u8]) -> Result<(), ParseRefusal>
+        requires so_far { HasRead self.old.front.names self.old.commands.items self.old.front.items }
+        ensures adds { ReadsAs (λ _. self.new.front) result (read_line self.old.front number line.now) }
+        ensures so_far { OnOk result (HasRead self.new.front.names self.new.commands.items self.new.front.items) }
+        ensures few { OnOk result (length self.new.front.items ≤ length self.old.front.items + length line.now) }
+    {
+        let plain = is_plain(line);
+        if is_passed(plain, line) {
+            return Ok(());
+        }
+        if is_header_line(self.front.late, line) {
+            return at_line(number, self.header_line(number, plain, line));
+        }
+        self.end_header()?;
+        at_line(number, self.body_line(alloc, plain, line))
     }
 }

@@ -1,0 +1,10 @@
+use Rattle.std.proofs.Common.{◌≡◌, length}
+use Rattle.script_lines.specs.LineWords.{words_in}
+use Rattle.script_lines.specs.Members.{modes_in}
+use Rattle.script_lines.proofs.member.modes_in.Given as goal
+
+abbrev pub invariant-loop-word : goal.invariant-loop-word
+invariant-loop-word l = modes_in (words_in l.rest) ≡ modes_in (words_in l.words)
+
+abbrev pub decreases-loop-word : goal.decreases-loop-word
+decreases-loop-word l = length l.rest

@@ -1,0 +1,7 @@
+pub mod LineWords
+pub mod Kinds
+pub mod Arguments
+pub mod Members
+pub mod Commands
+pub mod Directives
+pub mod Header

@@ -1,0 +1,143 @@
+//! A command.
+ghost use Rattle.std.specs.Prelude.{◌≡◌};
+ghost use Rattle.tx_model.specs.declared.command.Command.{Command};
+ghost use Rattle.script_lines.specs.LineWords.{words_in};
+ghost use Rattle.script_lines.specs.Kinds.{Gives, seen};
+ghost use Rattle.script_lines.specs.Commands.{alone, only_name, see_in, see_multi_in, long_command, command_in, command_at};
+
+use crate::argument::{asked_id_in, id_in, multi_in, name_in, none_of, one_of, stored_in, two_of};
+use crate::kind::{Kind, Stop};
+use crate::member::pairs_in;
+use crate::word::{name_of, next_word};
+use std::alloc::Global;
+use tx_model::{Command, Name};
+use xid_order::{MultiId, Xid};
+
+/// The command, where no word is behind it.
+fn alone(command: Command, rest: &[u8]) -> Result<Command, Stop>
+    ensures { Gives (λ c. c) result (alone command (words_in rest.now)) }
+{
+    match none_of(rest) {
+        Ok(()) => Ok(command),
+        Err(kind) => Err(Stop::Fault(kind)),
+    }
+}
+
+/// A snapshot's name, where no other word is there.
+fn only_name(alloc: Global, rest: &[u8]) -> Result<Name, Stop>
+    ensures { Gives (λ name. name) result (only_name (words_in rest.now)) }
+{
+    let word = name_in(one_of(rest)?)?;
+    Ok(name_of(alloc, word)?)
+}
+
+#[tactic(auto, unfolding(crate::specs::Commands::see_in))]
+fn see_in(alloc: Global, rest: &[u8]) -> Result<Command, Stop>
+    ensures { Gives (λ c. c) result (see_in (words_in rest.now)) }
+{
+    let (name, number) = two_of(rest)?;
+    let name = name_in(name)?;
+    let number = stored_in(0, number)?;
+    let name = name_of(alloc, name)?;
+    let x = Xid { number };
+    Ok(Command::See { name, x })
+}
+
+#[tactic(auto, unfolding(crate::specs::Commands::see_multi_in))]
+fn see_multi_in(alloc: Global, rest: &[u8]) -> Result<Command, Stop>
+    ensures { Gives (λ c. c) result (see_multi_in (words_in rest.now)) }
+{
+    let (name, number) = two_of(rest)?;
+    let name = name_in(name)?;
+    let number = stored_in(1, number)?;
+    let name = name_of(alloc, name)?;
+    let multi = MultiId { number };
+    Ok(Command::SeeMulti { name, multi })
+}
+
+/// A command whose words are names and numbers.
+#[tactic(auto, unfolding(crate::specs::Commands::long_command))]
+fn long_command(alloc: Global, word: &[u8], rest: &[u8]) -> Result<Command, Stop>
+    ensures { Gives (λ c. c) result (long_command word.now (words_in rest.now)) }
+{
+    if word == b"snap".as_slice() {
+        let name = only_name(alloc, rest)?;
+        return Ok(Command::Snap { name });
+    }
+    if word == b"drop".as_slice() {
+        let name = only_name(alloc, rest)?;
+        return Ok(Command::DropSnap { name });
+    }
+    if word == b"see".as_slice() {
+        return see_in(alloc, rest);
+    }
+    if word == b"status".as_slice() {
+        let x = asked_id_in(one_of(rest)?)?;
+        return Ok(Command::Status { x });
+    }
+    if word == b"did".as_slice() {
+        let number = stored_in(0, one_of(rest)?)?;
+        return Ok(Command::Did { x: Xid { number } });
+    }
+    if word == b"multi".as_slice() {
+        let members = pairs_in(alloc, rest)?;
+        return Ok(Command::Multi { members });
+    }
+    if word == b"seemulti".as_slice() {
+        return see_multi_in(alloc, rest);
+    }
+    if word == b"freeze".as_slice() {
+        let oldest = id_in(one_of(rest)?)?;
+        return Ok(Command::Freeze { oldest });
+    }
+    if word == b"multifreeze".as_slice() {
+        let multi = multi_in(one_of(rest)?)?;
+        return Ok(Command::MultiFreeze { multi });
+    }
+    Err(Stop::Fault(Kind::Command))
+}
+
+#[tactic(auto, unfolding(crate::specs::Commands::command_in))]
+fn command_in(alloc: Global, word: &[u8], rest: &[u8]) -> Result<Command, Stop>
+    ensures { Gives (λ c. c) result (command_in word.now (words_in rest.now)) }
+{
+    if word == b"begin".as_slice() {
+        return alone(Command::Begin, rest);
+    }
+    if word == b"write".as_slice() {
+        return alone(Command::Write, rest);
+    }
+    if word == b"commit".as_slice() {
+        return alone(Command::Commit, rest);
+    }
+    if word == b"abort".as_slice() {
+        return alone(Command::Abort, rest);
+    }
+    if word == b"save".as_slice() {
+        return alone(Command::Save, rest);
+    }
+    if word == b"release".as_slice() {
+        return alone(Command::Release, rest);
+    }
+    if word == b"undo".as_slice() {
+        return alone(Command::Undo, rest);
+    }
+    if word == b"trim".as_slice() {
+        return alone(Command::Trim, rest);
+    }
+    if word == b"horizon".as_slice() {
+        return alone(Command::Horizon, rest);
+    }
+    long_command(alloc, word, rest)
+}
+
+/// The command that stands behind a session's name, or its first fault: of the kinds `command`, `arguments`, `name`,
+/// `mode` and `number`, in this order.
+pub fn command_at(alloc: Global, rest: &[u8]) -> Result<Command, Stop>
+    ensures { Gives (λ c. c) result (command_at (words_in rest.now)) }
+{
+    match next_word(rest) {
+        Some((word, rest)) => command_in(alloc, word, rest),
+        None => Err(Stop::Fault(Kind::Command)),
+    }
+}

@@ -1,0 +1,16 @@
+//! The lines of a script, each by itself: its words, what they say, and the kind of its first fault.
+#![tactic(auto)]
+
+mod argument;
+mod command;
+mod directive;
+mod header;
+mod kind;
+mod member;
+mod word;
+
+pub use command::command_at;
+pub use directive::{Directive, directive_at};
+pub use header::{Header, is_header_word};
+pub use kind::{Kind, Stop};
+pub use word::{is_name, is_plain, name_of, next_word};

@@ -1,0 +1,131 @@
+//! The bytes of a line, its words, names and numbers.
+ghost use Rattle.std.specs.Prelude.{◌≡◌, ◌≤◌, ◌<◌, ◌∷◌, [], length, not, IfSome, IfNone, IfOk, drop};
+ghost use Rattle.std.specs.List.{prefix_len, list_all};
+ghost use Rattle.script_lines.specs.LineWords.{is_blank, is_word, words_in, is_letter, is_name_byte, is_name, next, number_from, number_of, is_line_byte, is_plain};
+
+use std::alloc::Global;
+use tx_model::{Memory, Name};
+
+/// How many blanks stand at the front.
+#[tactic(auto, using(std::proofs::lemmas::List::Sums::prefix_len_is))]
+fn blanks(bytes: &[u8]) -> usize
+    ensures within { result ≤ length bytes.now }
+    ensures value { result ≡ prefix_len is_blank bytes.now }
+{
+    for (i, b) in bytes.iter().enumerate() {
+        if !(*b == b' ' || *b == b'\t') {
+            return i;
+        }
+    }
+    bytes.len()
+}
+
+/// How many bytes stand before the first blank, or in all.
+#[tactic(auto, using(std::proofs::lemmas::List::Sums::prefix_len_is))]
+fn word_len(bytes: &[u8]) -> usize
+    ensures within { result ≤ length bytes.now }
+    ensures value { result ≡ prefix_len (λ b. not (is_blank b)) bytes.now }
+{
+    for (i, b) in bytes.iter().enumerate() {
+        if *b == b' ' || *b == b'\t' {
+            return i;
+        }
+    }
+    bytes.len()
+}
+
+/// The next word, and what stands behind it.
+pub fn next_word(line: &[u8]) -> Option<(&[u8], &[u8])>
+    ensures some { IfSome result (λ r. words_in line.now ≡ r.0.now ∷ words_in r.1.now) }
+    ensures word { IfSome result (λ r. 0 < length r.0.now) }
+    ensures shorter { IfSome result (λ r. length r.1.now < length line.now) }
+    ensures none { IfNone result (words_in line.now ≡ []) }
+{
+    let (_blanks, rest) = line.split_at(blanks(line));
+    if rest.is_empty() {
+        return None;
+    }
+    Some(rest.split_at(word_len(rest)))
+}
+
+fn is_letter(b: u8) -> bool
+    ensures { result ≡ is_letter b }
+{
+    b'a' <= b && b <= b'z'
+}
+
+fn is_name_byte(b: u8) -> bool
+    ensures { result ≡ is_name_byte b }
+{
+    is_letter(b) || (b'0' <= b && b <= b'9')
+}
+
+fn are_name_bytes(bytes: &[u8]) -> bool
+    ensures { result ≡ list_all is_name_byte bytes.now }
+{
+    bytes.iter().all(|b| is_name_byte(*b))
+}
+
+/// Whether the word is a NAME: 1 to 16 of the letters a to z and the digits, a letter first.
+pub fn is_name(word: &[u8]) -> bool
+    ensures { result ≡ is_name word.now }
+{
+    if word.is_empty() {
+        return false;
+    }
+    let (_first, rest) = word.split_at(1);
+    is_letter(word[0]) && are_name_bytes(rest) && rest.len() < 16
+}
+
+fn next(n: u64, digit: u64) -> Option<u64>
+    ensures { result ≡ next n digit }
+{
+    if digit > 9 {
+        return None;
+    }
+    n.checked_mul(10)?.checked_add(digit)
+}
+
+fn number_from(word: &[u8]) -> Option<u64>
+    ensures { result ≡ number_from 0 word.now }
+{
+    let mut n: u64 = 0;
+    for b in word {
+        match next(n, u64::from(b.wrapping_sub(b'0'))) {
+            Some(more) => n = more,
+            None => return None,
+        }
+    }
+    Some(n)
+}
+
+/// What the word says, where it is a NUMBER, of 1 to 20 digits, and is below 2^64.
+pub fn number_of(word: &[u8]) -> Option<u64>
+    ensures { result ≡ number_of word.now }
+{
+    if !word.is_empty() && word.len() <= 20 {
+        number_from(word)
+    } else {
+        None
+    }
+}
+
+fn is_line_byte(b: u8) -> bool
+    ensures { result ≡ is_line_byte b }
+{
+    (b' ' <= b && b <= b'~') || b == b'\t'
+}
+
+/// Whether a line has no bytes but printable ASCII and tabs.
+pub fn is_plain(line: &[u8]) -> bool
+    ensures { result ≡ is_plain line.now }
+{
+    line.iter().all(|b| is_line_byte(*b))
+}
+
+/// A name of one's own.
+pub fn name_of(alloc: Global, word: &[u8]) -> Result<Name, Memory>
+    ensures { IfOk result (λ name. name ≡ word.now) }
+{
+    Ok(Name::of(word.to_vec(alloc)?))
+}

@@ -1,0 +1,6 @@
+use Rattle.std.proofs.Common.{◌≡◌, ℕ, ◌<◌, get_or, true, not}
+use Rattle.session_lang.specs.Lines.{is_line_end}
+use Rattle.session_lang.proofs.lines.line_len.Given as goal
+
+abbrev pub invariant-loop-i : goal.invariant-loop-i
+invariant-loop-i l = (k : ℕ) → k < l.i → not (is_line_end (get_or l.bytes k 0)) ≡ true

@@ -1,9 +1,0 @@
-use Rattle.std.proofs.Common.{arith, sym, length}
-use Rattle.std.proofs.lemmas.List.Sums.{prefix_len_is}
-use Rattle.session_lang.specs.Names.{is_name_byte}
-use Rattle.session_lang.proofs.parser.word.name_len.Goals as goal
-
-pub returns-clause-value : goal.returns-clause-value
-returns-clause-value c =
-    let b = c.args.bytes.now in
-    sym (prefix_len_is is_name_byte b (length b) 0 (omega arith) (λ k h. c.loop-i.invariant k (omega arith)) (λ h. absurd (omega arith)))

@@ -1,0 +1,138 @@
+use crate::{Item, Kind, ParseRefusal, line_of, parse};
+use std::alloc::Global;
+use std::test::Fail;
+use tx_model::{Command, How, Mode};
+
+/// What is wrong with the bytes, and where.
+fn fault(alloc: Global, bytes: &[u8]) -> Option<(u64, Kind)> {
+    match parse(alloc, bytes) {
+        Err(ParseRefusal::Fault { line, kind }) => Some((line, kind)),
+        _ => None,
+    }
+}
+
+#[test]
+fn first_fault_is_told_with_its_line_and_kind(rt: HostRuntime) {
+    let cases: [(&[u8], u64, Kind); 24] = [
+        (b".round\n.start 3\n", 2, Kind::Directive),
+        (b"a see s 4294967296\n", 1, Kind::Number),
+        (b"a multi 3:foo\n", 1, Kind::Mode),
+        (b"a multi x:sh 3:sh:\n", 1, Kind::Mode),
+        (b"a multi x:sh\n", 1, Kind::Number),
+        (b"a begin x\n", 1, Kind::Arguments),
+        (b".oldest 9\n.start 8\n", 2, Kind::Base),
+        (
+            b".oldest 9\n\n# x\n.start 9\n.start 9\n",
+            5,
+            Kind::Directive,
+        ),
+        (b".oldest 9\na frob\n", 1, Kind::Base),
+        (b".oldest 9\n# \x01\n.start 9\n", 1, Kind::Base),
+        (b".oldest 9\n.start \x01\n", 2, Kind::Byte),
+        (b".crash soon\n", 1, Kind::Name),
+        (b".crash\n", 1, Kind::Arguments),
+        (b"a begin\na frob\n", 2, Kind::Command),
+        (b"a\n", 1, Kind::Command),
+        (b"A begin\n", 1, Kind::Session),
+        (b"a begin\r", 1, Kind::Byte),
+        (b"a begin\r\r\n", 1, Kind::Byte),
+        (b"# \x7f\n", 1, Kind::Byte),
+        (b".dump foo 0 1\n", 1, Kind::Arguments),
+        (b".dump foo 0 0 1\n", 1, Kind::Name),
+        (b".dump xact 0 8192 1\n", 1, Kind::Number),
+        (b"a freeze 4294967296\n", 1, Kind::Number),
+        (b".banks 17\n", 1, Kind::Number),
+    ];
+    for (bytes, line, kind) in cases {
+        assert_eq!(rt; fault(rt.alloc(), bytes), Some((line, kind)), "{bytes:?}");
+    }
+}
+
+#[test]
+fn blanks_comments_and_line_ends_are_no_part_of_a_script(rt: HostRuntime) -> Result<(), Fail> {
+    let bytes =
+        b"  # a script\r\n\t.banks\t016\r\n\n b  multi 003:upd\t4:sh \n.crash torn\nb did 1".as_slice();
+    let script = parse(rt.alloc(), bytes)?;
+    assert_eq!(rt; script.banks, 16);
+    assert_eq!(rt; script.names.items().len(), 1);
+    let [
+        Item::Run {
+            session: 0,
+            command: Command::Multi { members },
+        },
+        Item::Crash { how: How::Torn },
+        Item::Run {
+            session: 0,
+            command: Command::Did { x },
+        },
+    ] = script.items.items()
+    else {
+        return Err("other items".into());
+    };
+    let [first, second] = members.items() else {
+        return Err("other members".into());
+    };
+    assert_eq!(rt; (first.x.number, first.mode), (3, Mode::Upd));
+    assert_eq!(rt; (second.x.number, second.mode), (4, Mode::Sh));
+    assert_eq!(rt; x.number, 1);
+    assert_eq!(rt; line_of(bytes, 0), 4);
+    assert_eq!(rt; line_of(bytes, 1), 5);
+    assert_eq!(rt; line_of(bytes, 3), 0);
+    Ok(())
+}
+
+#[test]
+fn header_sets_all_counters(rt: HostRuntime) -> Result<(), Fail> {
+    let bytes = b".offset 9\n.start 4294967299\n.multi 77\n.oldest 4294967295\n".as_slice();
+    let base = parse(rt.alloc(), bytes)?.base;
+    assert_eq!(rt; base.next.number(), 4294967299);
+    assert_eq!(rt; base.oldest.number(), 4294967295);
+    assert_eq!(rt; base.multi.number(), 77);
+    assert_eq!(rt; base.oldest_multi.number(), 77);
+    assert_eq!(rt; (base.offset, base.oldest_offset), (9, 9));
+    Ok(())
+}
+
+/// A line `sN begin` for each number N below `count`.
+fn sessions(alloc: Global, count: u32) -> Result<Vec<u8>, Fail> {
+    let mut text = Vec::new(alloc);
+    for n in 0..count {
+        text.push(b's')?;
+        text.extend_from_slice(n.to_string(alloc)?.as_bytes())?;
+        text.extend_from_slice(b" begin\n")?;
+    }
+    Ok(text)
+}
+
+#[test]
+fn sixty_fifth_session_is_one_too_many(rt: HostRuntime) -> Result<(), Fail> {
+    let full = sessions(rt.alloc(), 64)?;
+    assert_eq!(rt; fault(rt.alloc(), full.as_slice()), None);
+    let over = sessions(rt.alloc(), 65)?;
+    assert_eq!(rt; fault(rt.alloc(), over.as_slice()), Some((65, Kind::Limit)));
+    Ok(())
+}
+
+/// `a write` a hundred thousand times in each of two rounds.
+fn two_rounds(alloc: Global) -> Result<Vec<u8>, Fail> {
+    let mut text = Vec::new(alloc);
+    for n in 0..200_000u32 {
+        if n == 100_000 {
+            text.extend_from_slice(b".dump log 0 1\n")?;
+        }
+        text.extend_from_slice(b"a write\n")?;
+    }
+    Ok(text)
+}
+
+#[test]
+fn command_past_a_hundred_thousand_in_a_round_is_one_too_many(rt: HostRuntime) -> Result<(), Fail> {
+    let mut text = two_rounds(rt.alloc())?;
+    assert_eq!(rt; fault(rt.alloc(), text.as_slice()), None);
+    text.extend_from_slice(b"a write\n")?;
+    assert_eq!(rt;
+        fault(rt.alloc(), text.as_slice()),
+        Some((200_002, Kind::Limit))
+    );
+    Ok(())
+}

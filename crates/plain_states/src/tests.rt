@@ -1,3 +1,4 @@
+// States and parents of a few transactions, by hand.
 ghost use Rattle.std.specs.Prelude.{◌≡◌, ℕ, ◌+◌, ◌<◌, IfSome};
 ghost use Rattle.std.specs.List.{All};
 ghost use Rattle.plain_states.specs.declared.id_states.IdState.{IdState};

@@ -1,4 +1,4 @@
-//! The report that the tool writes, as text.
+//! The report that the tool writes, as text (docs/SCRIPT-AND-REPORT.md).
 #![tactic(auto)]
 
 mod command;

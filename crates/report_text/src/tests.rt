@@ -1,3 +1,4 @@
+// Lines of a report, from the rows of its format.
 use crate::print_report;
 use crate::reply::put_answer;
 use crate::text::Text;

@@ -1,3 +1,4 @@
+//! The kinds of fault, in the order in which they are told.
 ghost use Rattle.std.specs.Prelude.{◌≡◌};
 ghost use Rattle.script_lines.specs.declared.kind.Stop.TheVariants as stops;
 ghost use Rattle.script_lines.specs.Kinds.{kind_word};

@@ -1,4 +1,5 @@
-//! The lines of a script, each by itself: its words, what they say, and the kind of its first fault.
+//! The lines of a script, each by itself: its words, what they say, and the kind of its first fault
+//! (docs/SCRIPT-AND-REPORT.md).
 #![tactic(auto)]
 
 mod argument;

@@ -1,4 +1,5 @@
-//! The script that the tool reads, as text. The text of the report that it writes is `report_text`.
+//! The script that the tool reads, as text (docs/SCRIPT-AND-REPORT.md). The text of the report that it writes is
+//! `report_text`.
 #![tactic(auto)]
 
 pub mod laws;

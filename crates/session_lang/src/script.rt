@@ -1,3 +1,4 @@
+//! A script: its sessions, its header and its lines.
 use script_lines::Kind;
 use tx_model::{Command, Copied, Counters, DumpOf, How, Memory, NameList, Sequence};
 

@@ -1,3 +1,4 @@
+// Scripts with their faults, from the rows of the format.
 use crate::{Item, Kind, ParseRefusal, line_of, parse};
 use std::alloc::Global;
 use std::test::Fail;

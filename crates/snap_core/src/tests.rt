@@ -1,3 +1,4 @@
+// What snapshots say, from rows worked out by hand.
 use crate::{Sight, sight_of, sight_of_top};
 use std::process::Abort;
 use tx_events::{IdList, SnapData};

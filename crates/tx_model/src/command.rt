@@ -1,3 +1,4 @@
+//! What a session may be told to do.
 use tx_events::{Copied, Memory, Mode, Name, Sequence};
 use xid_order::{FullMulti, FullXid, MultiId, Xid};
 

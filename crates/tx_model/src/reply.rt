@@ -1,3 +1,4 @@
+//! What a command is answered.
 use tx_events::{Copied, IdList, Memory, Mode, Refusal, Sequence, SnapData};
 use xid_order::{FullMulti, FullXid};
 

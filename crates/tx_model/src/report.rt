@@ -1,3 +1,4 @@
+//! What a run reports, life by life.
 use crate::command::Command;
 use crate::reply::Reply;
 use tx_events::{

@@ -1,3 +1,4 @@
+// Drives a generator by the commands of a test.
 use crate::{Held, MultiGen, MultiGiven, check_members};
 use std::process::Abort;
 use tx_events::{By, Counters, Member, MemberList, Mode, Refusal, is_base};

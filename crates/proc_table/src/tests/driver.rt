@@ -1,3 +1,4 @@
+// Drives a table by the commands of a test.
 ghost use Rattle.std.specs.Prelude.{◌≡◌, ◌<◌, ◌≤◌};
 ghost use Rattle.std.specs.List.{All};
 ghost use Rattle.tx_events.specs.Events.{by_of};

@@ -115,6 +115,7 @@ fn finish<K: Sink>(sink: &mut K, text: &[u8], status: u8) -> u8
 /// failed.
 pub fn say_out_of_memory<K: Sink>(sink: &mut K) -> u8
     ensures said { ((result ≡ 6) × Appends (K.held sink.old) (K.held sink.new) (codes "memory" ++ 10 ∷ [])) ⊎ ((result ≡ 4) × Rose (K.faults sink.old) (K.faults sink.new)) }
+    ensures front { result ≡ 4 → (n : ℕ) × Appends (K.held sink.old) (K.held sink.new) (take n (codes "memory" ++ 10 ∷ [])) }
 {
     finish(sink, b"memory\n", 6)
 }

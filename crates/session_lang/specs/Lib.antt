@@ -5,7 +5,7 @@ pub use Rattle.report_text.specs.ReplyText
 pub use Rattle.report_text.specs.EventText
 pub use Rattle.report_text.specs.RecordText
 pub use Rattle.report_text.specs.ReportText
-pub mod Names
+pub use Rattle.report_text.specs.Names
 pub mod Rounds
 pub mod Header
 pub mod Script

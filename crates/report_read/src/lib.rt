@@ -1,0 +1,4 @@
+//! A report read back, exactly: `read_report` is the inverse of `print_report`.
+#![tactic(auto)]
+
+mod told;

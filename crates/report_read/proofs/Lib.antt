@@ -4,3 +4,6 @@ pub mod Runs
 pub mod Endings
 pub mod Printed
 pub mod Sound
+pub mod Noting
+pub mod Standing
+pub mod StepsStanding

@@ -52,10 +52,10 @@ item_words names (items.crash how) = codes "crash" ∷ how_words how
 item_words names items.last = codes "end" ∷ []
 
 -- the words of a line that follows the byte before it
-again : (bytes w : List ℕ) (ws : List (List ℕ)) → 1 ≤ length bytes → AreWords (w ∷ ws) → drop 1 bytes ≡ line_text (w ∷ ws) → behind (take (length bytes - 1) bytes) ≡ w ∷ ws
+pub again : (bytes w : List ℕ) (ws : List (List ℕ)) → 1 ≤ length bytes → AreWords (w ∷ ws) → drop 1 bytes ≡ line_text (w ∷ ws) → behind (take (length bytes - 1) bytes) ≡ w ∷ ws
 again bytes w ws l a e = line_again bytes w ws l a.0 a.1 e
 
-step_again : (names : List (List ℕ)) (s : Step) (bytes : List ℕ) → 1 ≤ length bytes → AreNames names → FitsStep names s → drop 1 bytes ≡ step_text names s → behind (take (length bytes - 1) bytes) ≡ step_words names s
+pub step_again : (names : List (List ℕ)) (s : Step) (bytes : List ℕ) → 1 ≤ length bytes → AreNames names → FitsStep names s → drop 1 bytes ≡ step_text names s → behind (take (length bytes - 1) bytes) ≡ step_words names s
 unfolding step_text
 step_again names (steps.Round number lines) bytes l n f e = absurd f
 step_again names (steps.Checkpoint reply) bytes l n f e = again bytes (codes "checkpoint") (codes "->" ∷ reply_words names reply) l (checkpoint_words names reply n f) e

@@ -45,7 +45,7 @@ use Rattle.report_lines.proofs.Crashes.{only}
 use Rattle.report_read.specs.Item.{Item}
 use Rattle.report_read.specs.Item as items
 use Rattle.report_read.specs.Grammar.{AreNamed, IsNamed, Rule, begins_step, is_between, is_history, is_log, is_multis, is_opening, is_round, item_line, may_stand, note, noted, session_of}
-use Rattle.report_read.specs.Taking.{is_pending_word, pending_name, said_name, second_word}
+use Rattle.report_read.specs.Taking.{is_pending_word, note_some, pending_name, said_name, second_word}
 use Rattle.report_read.specs.declared.told.Stage.{Stage}
 use Rattle.report_read.specs.declared.told.Stage.TheVariants as stages
 use Rattle.report_read.specs.declared.told.Told.{Told}
@@ -140,10 +140,6 @@ nth i ws = get_or ws i []
 pub named_same : (old : List (List ℕ)) (s r : ℕ) (m k : List (List ℕ)) → IsNamed old s m → IsNamed old r k → name_at m s ≡ name_at k r → m ≡ k
 named_same old s r m k a b e = a.noted ∙ ap (note old) e ∙ sym b.noted
 
-abbrev pub note_some : List (List ℕ) → Option (List ℕ) → List (List ℕ)
-note_some old None = old
-note_some old (Some w) = note old w
-
 pub event_second : (names : List (List ℕ)) (e : Event) → second_word (item_words names (items.event e)) ≡ Some (name_at names (by_of e).session)
 unfolding second_word
 event_second names e = refl
@@ -182,7 +178,7 @@ step_unsaid names (steps.Round number lines) f = absurd f
 step_unsaid names (steps.Checkpoint reply) f = rw (checkpoint_unsaid (reply_words names reply)) refl
 step_unsaid names (steps.Dump what from size reply) f = rw (dump_unsaid what _) refl
 
-pub name_somewhere : List (List ℕ) → Option ℕ → Option (List ℕ)
+unfoldable pub name_somewhere : List (List ℕ) → Option ℕ → Option (List ℕ)
 name_somewhere names None = None
 name_somewhere names (Some s) = Some (name_at names s)
 
@@ -256,16 +252,16 @@ logged_same n k s r e l f g t =
     let same : s ≡ r = apart (record_line_at n) (record_line n) (FitsRecord n) (λ bytes x a b c. record_line_again n bytes x l a b c) s r f (subst (λ i. FitsRecord i r) (sym e) g) (t ∙ ap (λ i. record_line i r) (sym e)) in
     ap (λ i. items.logged i s) e ∙ ap (λ q. items.logged k q) same
 
-event_same : (names : List (List ℕ)) (e f : Event) → AreNames names → FitsEvent names e → FitsEvent names f → event_line names e ≡ event_line names f → e ≡ f
+pub event_same : (names : List (List ℕ)) (e f : Event) → AreNames names → FitsEvent names e → FitsEvent names f → event_line names e ≡ event_line names f → e ≡ f
 event_same names e f n a b t = apart (event_at names) (event_line names) (FitsEvent names) (λ bytes x l g u. event_line_again names bytes x n g l u) e f a b t
 
-multi_same : (names : List (List ℕ)) (e f : MultiEvent) → AreNames names → FitsMultiEvent names e → FitsMultiEvent names f → multi_line names e ≡ multi_line names f → e ≡ f
+pub multi_same : (names : List (List ℕ)) (e f : MultiEvent) → AreNames names → FitsMultiEvent names e → FitsMultiEvent names f → multi_line names e ≡ multi_line names f → e ≡ f
 multi_same names e f n a b t = apart (multi_event_at names) (multi_line names) (FitsMultiEvent names) (λ bytes x l g u. multi_line_again names bytes x n l g u) e f a b t
 
-command_same : (names : List (List ℕ)) (e f : Line) → AreNames names → FitsLine names e → FitsLine names f → command_line names e ≡ command_line names f → e ≡ f
+pub command_same : (names : List (List ℕ)) (e f : Line) → AreNames names → FitsLine names e → FitsLine names f → command_line names e ≡ command_line names f → e ≡ f
 command_same names e f n a b t = apart (line_at names) (command_line names) (FitsLine names) (λ bytes x l g u. command_line_again names bytes x n l g u) e f a b t
 
-step_same : (names : List (List ℕ)) (e f : Step) → AreNames names → FitsStep names e → FitsStep names f → step_text names e ≡ step_text names f → e ≡ f
+pub step_same : (names : List (List ℕ)) (e f : Step) → AreNames names → FitsStep names e → FitsStep names f → step_text names e ≡ step_text names f → e ≡ f
 step_same names e f n a b t = apart (step_at names) (step_text names) (FitsStep names) (λ bytes x l g u. step_line_again names bytes x n l g u) e f a b t
 
 log_same : (e f : LogHead) → FitsLog e → FitsLog f → log_line e ≡ log_line f → e ≡ f
@@ -280,7 +276,7 @@ crash_same h k e =
     some_is : (h k : How) → Some h ≡ Some k → h ≡ k
     some_is h k e = cc
 
-some_name : (v w : List ℕ) → Some v ≡ Some w → v ≡ w
+pub some_name : (v w : List ℕ) → Some v ≡ Some w → v ≡ w
 some_name v w e = cc
 
 -- a line said by a session is no other's

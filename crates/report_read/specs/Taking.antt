@@ -5,8 +5,11 @@ use Rattle.report_words.specs.Fits.{AreNames}
 use Rattle.report_words.specs.Reading.{◌>>=◌, word_at, number_at}
 use Rattle.report_words.specs.declared.unread.Unread.{Unread}
 use Rattle.report_words.specs.declared.unread.Unread.TheVariants as unreads
+use Rattle.tx_model.specs.declared.report.Step.{Step}
+use Rattle.report_text.specs.ReportText.{step_text}
 use Rattle.report_read.specs.Item.{Item}
-use Rattle.report_read.specs.Grammar.{Follows, item_line}
+use Rattle.report_read.specs.Item as items
+use Rattle.report_read.specs.Grammar.{Follows, item_line, note}
 use Rattle.report_read.specs.declared.told.Told.{Told}
 
 -- the name that stands second in the line of an event
@@ -36,6 +39,11 @@ pending_name ws = do
   name ← word_at reply.1
   cond (bytes_eq word.0 (codes "checkpoint") && is_pending_word reply.0) (Some name.0) None
 
+-- the names, and this one where there is one
+abbrev pub note_some : List (List ℕ) → Option (List ℕ) → List (List ℕ)
+note_some names None = names
+note_some names (Some name) = note names name
+
 -- the names so far
 pub record AreFew (names : List (List ℕ)) : Type 0 where
   pub are : AreNames names
@@ -51,3 +59,13 @@ pub record IsTaken (t m : Told) (line : List ℕ) : Type 0 where
 abbrev pub IsRefused : Unread → Told → List ℕ → Type 0
 IsRefused unreads.Form t line = (x : Item) (m : Told) → Follows t x m → line ≡ item_line m.names x → ⊥
 IsRefused unreads.Memory t line = Unit {0}
+
+-- the name is none, or one too many
+abbrev pub CannotNote : Unread → List (List ℕ) → List ℕ → Type 0
+CannotNote unreads.Form names name = AreFew (note names name) → ⊥
+CannotNote unreads.Memory names name = Unit {0}
+
+-- no checkpoint and no dump with this line may stand
+abbrev pub IsNoStep : Unread → Told → List ℕ → Type 0
+IsNoStep unreads.Form t line = (s : Step) (m : Told) → Follows t (items.step s) m → line ≡ step_text m.names s → ⊥
+IsNoStep unreads.Memory t line = Unit {0}

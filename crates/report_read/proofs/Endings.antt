@@ -1,23 +1,17 @@
 -- From each place a report can be ended.
-use Rattle.std.proofs.Common.{rules, ◌≡◌, ℕ, ◌+◌, ◌≤◌, ◌<◌, ◌^◌, zero, suc, List, [], ◌∷◌, ◌++◌, Bool, true, false, not, ◌||◌, None, Some, inr, refl, sym, ap, ◌∙◌, subst, arith, length, get_or, codes}
-use Rattle.std.specs.List.{AllByRecursion, IsDistinct}
+use Rattle.std.proofs.Common.{rules, ◌≡◌, ℕ, ◌+◌, ◌≤◌, ◌<◌, ◌^◌, List, [], ◌∷◌, ◌++◌, true, None, inr, refl, sym, ap, subst, arith, length, get_or, codes}
+use Rattle.std.specs.List.{IsDistinct}
 use Rattle.tx_events.specs.Base.{first_base}
-use Rattle.tx_events.specs.Events.{same_name}
 use Rattle.tx_model.specs.declared.command.Command.TheVariants as commands
 use Rattle.tx_model.specs.declared.report.Line.{Line}
 use Rattle.tx_model.specs.declared.reply.Reply.TheVariants as replies
-use Rattle.report_text.specs.Names.{IsName}
-use Rattle.report_text.specs.Words.{name_at}
-use Rattle.report_words.specs.Fits.{AreNames, FitsCounters}
-use Rattle.report_words.specs.Reading.{name_place}
+use Rattle.report_words.specs.Fits.{FitsCounters}
 use Rattle.report_words.proofs.Places.{place_again}
 use Rattle.report_lines.specs.declared.life.Start.{Start}
 use Rattle.report_lines.specs.declared.life.LogHead.{LogHead}
-use Rattle.report_lines.specs.Fits.{FitsStart}
 use Rattle.report_read.specs.Item.{Item}
 use Rattle.report_read.specs.Item as items
-use Rattle.report_read.specs.Grammar.{Follows, IsNamed, Rule, after, begins_step, item_line, may_speak, note, noted}
-use Rattle.report_read.specs.Reports.{IsRun, run_text}
+use Rattle.report_read.specs.Grammar.{Follows, IsNamed, after, begins_step, item_line, noted}
 use Rattle.report_read.specs.Taking.{AreFew}
 use Rattle.report_read.specs.declared.told.Stage.{Stage}
 use Rattle.report_read.specs.declared.told.Stage.TheVariants as stages

@@ -7,3 +7,4 @@ pub mod Sound
 pub mod Noting
 pub mod Standing
 pub mod StepsStanding
+pub mod Reading

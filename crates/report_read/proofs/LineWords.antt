@@ -1,5 +1,5 @@
 -- The words of the lines that may stand.
-use Rattle.std.proofs.Common.{rules, ◌≡◌, ℕ, ◌+◌, ◌-◌, ◌^◌, ◌<◌, ◌≤◌, List, [], ◌∷◌, ◌++◌, Bool, true, false, Option, Some, None, refl, sym, ap, ◌∙◌, arith, length, take, drop, codes}
+use Rattle.std.proofs.Common.{rules, ◌≡◌, ℕ, ◌-◌, ◌≤◌, List, [], ◌∷◌, ◌++◌, Some, refl, sym, ◌∙◌, arith, length, take, drop, codes}
 use Rattle.std.specs.Fmt.{decimal}
 use Rattle.tx_events.specs.Events.{by_of}
 use Rattle.tx_model.specs.declared.report.How.{How}

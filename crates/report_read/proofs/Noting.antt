@@ -1,5 +1,5 @@
 -- Names that are noted.
-use Rattle.std.proofs.Common.{◌≡◌, ℕ, ◌+◌, ◌≤◌, ◌<◌, ◌&&◌, List, [], ◌∷◌, ◌++◌, Bool, true, false, cond, Option, Some, None, refl, sym, ap, ◌∙◌, subst, arith, length, length-append}
+use Rattle.std.proofs.Common.{◌≡◌, ℕ, ◌<◌, List, [], ◌∷◌, ◌++◌, Bool, true, false, cond, Option, Some, None, refl, sym, ap, ◌∙◌, subst, arith, length, length-append}
 use Rattle.std.specs.List.{AllByRecursion, IsDistinct}
 use Rattle.std.specs.Str.{bytes_eq}
 use Rattle.std.proofs.lemmas.Bool.{false≢true}
@@ -8,7 +8,6 @@ use Rattle.tx_events.specs.Events.{same_name}
 use Rattle.tx_events.proofs.ListSteps.{all_push}
 use Rattle.tx_events.proofs.Names.{same_name_equal}
 use Rattle.report_text.specs.Names.{IsName}
-use Rattle.report_words.specs.Fits.{AreNames}
 use Rattle.report_words.specs.Reading.{later_place, name_place}
 use Rattle.report_read.specs.Grammar.{note, noted}
 use Rattle.report_read.specs.Taking.{AreFew}

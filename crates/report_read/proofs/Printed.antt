@@ -1,5 +1,5 @@
 -- What is told has the text of the lines that told it.
-use Rattle.std.proofs.Common.{rules, ◌≡◌, ℕ, ◌+◌, ◌<◌, ◌≤◌, List, [], ◌∷◌, ◌++◌, Bool, true, false, Option, Some, None, refl, sym, ap, ◌∙◌, append_assoc, append-nil, subst, arith, length, zero, suc, codes}
+use Rattle.std.proofs.Common.{◌≡◌, ℕ, ◌+◌, ◌<◌, List, [], ◌∷◌, ◌++◌, true, Option, Some, None, refl, sym, ap, ◌∙◌, append_assoc, append-nil, subst, arith, length, zero, suc, codes}
 use Rattle.std.specs.List.{flat_map}
 use Rattle.std.specs.Fmt.{decimal}
 use Rattle.std.proofs.lemmas.Bool.{false≢true}
@@ -19,7 +19,7 @@ use Rattle.report_text.specs.CommandText.{command_words}
 use Rattle.report_text.specs.EventText.{event_word, event_rest, multi_by_of, multi_event_word, multi_event_rest}
 use Rattle.report_text.specs.RecordText.{records_text}
 use Rattle.report_text.specs.ReplyText.{reply_words, refusal_word}
-use Rattle.report_text.specs.ReportText.{command_line, crash_text, dump_words, end_text, history_text, life_line, life_text, lives_text, log_text, multis_text, report_text, rest_text, round_line, step_text, title_text}
+use Rattle.report_text.specs.ReportText.{command_line, crash_text, dump_words, end_text, history_text, life_line, life_text, lives_text, log_text, multis_text, report_text, round_line, step_text, title_text}
 use Rattle.report_words.specs.Fits.{FitsCheckpointReply, FitsDumpReply, FitsReply}
 use Rattle.report_words.specs.Reading.{name_place}
 use Rattle.report_words.specs.Replies.{kind_of}
@@ -28,7 +28,7 @@ use Rattle.report_lines.specs.Fits.{FitsStep}
 use Rattle.report_lines.specs.Texts.{event_line, log_line, multi_line, record_line, start_line}
 use Rattle.report_read.specs.Item.{Item}
 use Rattle.report_read.specs.Item as items
-use Rattle.report_read.specs.Grammar.{AreNamed, Follows, IsNamed, Rule, after, begins_step, history_line, is_between, is_history, is_log, is_multis, is_opening, is_round, item_line, life_told, may_stand, multis_line, note, noted, session_of, steps_told}
+use Rattle.report_read.specs.Grammar.{AreNamed, IsNamed, Rule, after, begins_step, history_line, is_between, is_history, is_log, is_multis, is_opening, is_round, item_line, life_told, may_stand, multis_line, noted, session_of, steps_told}
 use Rattle.report_read.specs.Reports.{IsRun, report_told, run_text}
 use Rattle.report_read.specs.declared.told.Stage.{Stage}
 use Rattle.report_read.specs.declared.told.Stage.TheVariants as stages

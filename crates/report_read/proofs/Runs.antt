@@ -1,5 +1,5 @@
 -- Lines that follow each other, and the first wrong line behind them.
-use Rattle.std.proofs.Common.{◌≡◌, ℕ, ◌+◌, ◌-◌, ◌≤◌, ◌<◌, ◌^◌, zero, suc, List, [], ◌∷◌, ◌++◌, Bool, true, false, refl, sym, ap, ◌∙◌, append_assoc, append-nil, subst, arith, length}
+use Rattle.std.proofs.Common.{◌≡◌, ℕ, ◌+◌, suc, List, [], ◌∷◌, ◌++◌, false, refl, sym, ap, ◌∙◌, append_assoc, append-nil, subst, arith, length}
 use Rattle.std.proofs.lemmas.Bool.{false≢true}
 use Rattle.report_lines.specs.Front.{first_line, behind_line, front, IsLine}
 use Rattle.report_lines.proofs.Fronts.{same_first, same_rest, line_first, line_behind, front_line}
@@ -7,7 +7,6 @@ use Rattle.report_read.specs.Item.{Item}
 use Rattle.report_read.specs.Item as items
 use Rattle.report_read.specs.Grammar.{Follows, after, item_line, may_stand}
 use Rattle.report_read.specs.Reports.{IsRun, run_text}
-use Rattle.report_read.specs.declared.told.Stage.{Stage}
 use Rattle.report_read.specs.declared.told.Stage.TheVariants as stages
 use Rattle.report_read.specs.declared.told.Told.{Told}
 use Rattle.report_read.proofs.LineWords.{item_is_line}
@@ -62,7 +61,7 @@ same_step t x y m k a b e =
 pub is_line : (t : Told) (x : Item) (m : Told) → Follows t x m → IsLine (item_line m.names x)
 is_line t x m f = item_is_line t x m.names f.rule
 
-first_some : (l : List ℕ) → IsLine l → [] ≡ l → ⊥
+pub first_some : (l : List ℕ) → IsLine l → [] ≡ l → ⊥
 first_some l i e = none i.body (e ∙ i.text)
   where
     none : (b : List ℕ) → [] ≡ b ++ 10 ∷ [] → ⊥
@@ -80,6 +79,7 @@ wrong_later t x m rest n f w = record {
   where
     l : IsLine (item_line m.names x)
     l = is_line t x m f
+
     other : (u : List ℕ) (run : List (Item × Told)) (last : Told) → IsRun t run last → last.stage ≡ stages.Closed → u ≡ run_text run → front (suc (suc n)) u ≡ front (suc (suc n)) (item_line m.names x ++ rest) → ⊥
     other u [] last g c i e = closed_ends t x m (ap (λ (s : Told). s.stage) g ∙ c) f
     other u (p ∷ ps) last g c i e =

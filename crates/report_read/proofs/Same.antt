@@ -1,12 +1,11 @@
 -- A line that may stand is that of one item.
-use Rattle.std.proofs.Common.{rules, ◌≡◌, ℕ, ◌+◌, ◌^◌, ◌<◌, List, [], ◌∷◌, ◌++◌, Bool, true, false, cond, Option, Some, None, refl, sym, ap, ◌∙◌, subst, arith, length, get_or, codes}
+use Rattle.std.proofs.Common.{◌≡◌, ℕ, ◌^◌, ◌<◌, List, [], ◌∷◌, ◌++◌, true, false, Option, Some, None, refl, sym, ap, ◌∙◌, subst, arith, get_or, codes}
 use Rattle.std.specs.Fmt.{decimal}
 use Rattle.std.specs.Str.{bytes_eq}
 use Rattle.std.proofs.lemmas.Bool.{false≢true}
 use Rattle.std.proofs.lemmas.Slice.Eq.{bytes_eq-Decides}
 use Rattle.tx_events.specs.Events.{by_of}
 use Rattle.tx_events.specs.declared.event.Event.{Event}
-use Rattle.tx_events.specs.declared.event.Event.TheVariants as events
 use Rattle.tx_events.specs.declared.multi.MultiEvent.{MultiEvent}
 use Rattle.tx_events.specs.declared.multi.MultiEvent.TheVariants as multis
 use Rattle.tx_events.specs.declared.record.Rec.{Rec}
@@ -15,18 +14,17 @@ use Rattle.tx_events.specs.declared.refusal.Refusal.TheVariants as refusals
 use Rattle.tx_model.specs.declared.report.DumpOf.{DumpOf}
 use Rattle.tx_model.specs.declared.report.DumpOf.TheVariants as dumps
 use Rattle.tx_model.specs.declared.report.How.{How}
-use Rattle.tx_model.specs.declared.report.How.TheVariants as hows
 use Rattle.tx_model.specs.declared.report.Line.{Line}
 use Rattle.tx_model.specs.declared.report.Step.{Step}
 use Rattle.tx_model.specs.declared.report.Step.TheVariants as steps
 use Rattle.tx_model.specs.declared.reply.Reply.{Reply}
 use Rattle.tx_model.specs.declared.reply.Reply.TheVariants as replies
 use Rattle.report_text.specs.Words.{name_at}
-use Rattle.report_text.specs.EventText.{event_word, multi_event_word, multi_by_of}
+use Rattle.report_text.specs.EventText.{multi_event_word, multi_by_of}
 use Rattle.report_text.specs.ReplyText.{refusal_word, reply_words}
 use Rattle.report_text.specs.ReportText.{command_line, crash_text, dump_words, step_text}
 use Rattle.report_words.specs.Fits.{AreNames, FitsCheckpointReply, FitsCheckpointRefusal, IsPending}
-use Rattle.report_words.specs.Reading.{◌>>=◌, word_at, number_of, number_at, name_place}
+use Rattle.report_words.specs.Reading.{◌>>=◌, word_at, number_of, number_at}
 use Rattle.report_words.proofs.Again.{number_again, number_at_again}
 use Rattle.report_lines.specs.declared.life.Start.{Start}
 use Rattle.report_lines.specs.declared.life.LogHead.{LogHead}
@@ -44,8 +42,8 @@ use Rattle.report_lines.proofs.Apart.{apart}
 use Rattle.report_lines.proofs.Crashes.{only}
 use Rattle.report_read.specs.Item.{Item}
 use Rattle.report_read.specs.Item as items
-use Rattle.report_read.specs.Grammar.{AreNamed, IsNamed, Rule, begins_step, is_between, is_history, is_log, is_multis, is_opening, is_round, item_line, may_stand, note, noted, session_of}
-use Rattle.report_read.specs.Taking.{is_pending_word, note_some, pending_name, said_name, second_word}
+use Rattle.report_read.specs.Grammar.{AreNamed, IsNamed, Rule, begins_step, is_between, is_history, is_log, is_multis, is_opening, is_round, item_line, may_stand, note, session_of}
+use Rattle.report_read.specs.Taking.{note_some, pending_name, said_name, second_word}
 use Rattle.report_read.specs.declared.told.Stage.{Stage}
 use Rattle.report_read.specs.declared.told.Stage.TheVariants as stages
 use Rattle.report_read.specs.declared.told.Told.{Told}

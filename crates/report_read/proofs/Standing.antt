@@ -1,5 +1,5 @@
 -- What it takes that a line may stand, and why none may.
-use Rattle.std.proofs.Common.{rules, Bor, Result, Ok, Err, ◌≡◌, ℕ, ◌+◌, ◌-◌, ◌≤◌, ◌<◌, ◌^◌, List, [], ◌∷◌, ◌++◌, Bool, true, false, Option, Some, None, refl, sym, ap, ◌∙◌, subst, arith, length, take, drop, get_or}
+use Rattle.std.proofs.Common.{Bor, Result, Ok, Err, ◌≡◌, ℕ, ◌+◌, ◌-◌, ◌≤◌, ◌<◌, ◌^◌, List, ◌++◌, Bool, true, false, Option, Some, None, refl, sym, ap, ◌∙◌, subst, arith, length, take, drop}
 use Rattle.std.specs.Str.{bytes_eq}
 use Rattle.std.proofs.lemmas.Bool.{false≢true}
 use Rattle.std.proofs.lemmas.Slice.Eq.{bytes_eq-Decides}
@@ -10,35 +10,28 @@ use Rattle.tx_events.specs.declared.multi.MultiEvent.{MultiEvent}
 use Rattle.tx_events.specs.declared.multi.MultiEvent.TheVariants as multis
 use Rattle.tx_events.specs.declared.record.Rec.{Rec}
 use Rattle.tx_model.specs.declared.report.How.{How}
-use Rattle.tx_model.specs.declared.report.Line.{Line}
-use Rattle.tx_model.specs.declared.report.Step.{Step}
-use Rattle.tx_model.specs.declared.report.Step.TheVariants as steps
-use Rattle.tx_model.specs.declared.reply.Reply.TheVariants as replies
 use Rattle.report_text.specs.Words.{name_at}
 use Rattle.report_text.specs.EventText.{event_rest, event_word, by_words, multi_by_of, multi_event_rest, multi_event_word}
-use Rattle.report_text.specs.ReportText.{command_line, crash_text, end_text, round_line, step_text, title_text}
-use Rattle.report_words.specs.Words.{behind, AreWords}
-use Rattle.report_words.specs.Fits.{AreNames}
+use Rattle.report_text.specs.ReportText.{crash_text, end_text, title_text}
+use Rattle.report_words.specs.Words.{behind}
 use Rattle.report_lines.specs.declared.life.Start.{Start}
 use Rattle.report_lines.specs.declared.life.LogHead.{LogHead}
-use Rattle.report_lines.specs.Fits.{FitsEvent, FitsLine, FitsLog, FitsMultiEvent, FitsRecord, FitsStart, FitsStep}
+use Rattle.report_lines.specs.Fits.{FitsEvent, FitsLog, FitsMultiEvent, FitsRecord, FitsStart}
 use Rattle.report_lines.specs.Texts.{IsLineOf, event_line, log_line, multi_line, record_line, start_line}
 use Rattle.report_lines.proofs.AgainEvents.{event_are_words, multi_event_are_words}
-use Rattle.report_lines.proofs.AgainLines.{said_are_words}
 use Rattle.std.specs.Result.{IsErrAnd, IfErr}
 use Rattle.report_words.specs.Reading.{Gives, IsOnly}
 use Rattle.report_words.specs.declared.unread.Unread.{Unread}
 use Rattle.report_words.specs.declared.unread.Unread.TheVariants as unreads
 use Rattle.report_read.specs.Item.{Item}
 use Rattle.report_read.specs.Item as items
-use Rattle.report_read.specs.Grammar.{AreNamed, Follows, IsNamed, Rule, after, begins_step, history_line, is_round, item_line, may_speak, may_stand, multis_line, note, session_of}
-use Rattle.report_read.specs.Taking.{AreFew, CannotNote, IsRefused, IsTaken, note_some, pending_name, said_name, second_word}
-use Rattle.report_read.specs.declared.told.Stage.{Stage}
+use Rattle.report_read.specs.Grammar.{Follows, Rule, after, item_line, may_stand, multis_line, note}
+use Rattle.report_read.specs.Taking.{AreFew, CannotNote, IsRefused, IsTaken, second_word}
 use Rattle.report_read.specs.declared.told.Stage.TheVariants as stages
 use Rattle.report_read.specs.declared.told.Told.{Told}
-use Rattle.report_read.proofs.LineWords.{again, item_words, line_words, step_again}
+use Rattle.report_read.proofs.LineWords.{again, item_words, line_words}
 use Rattle.report_read.proofs.Runs.{closed_ends}
-use Rattle.report_read.proofs.Same.{command_said, command_same, event_second, history_unsaid, multi_second, multis_none, name_somewhere, round_unsaid, some_name, stage_group, stands_in, step_named, step_pending, step_unsaid}
+use Rattle.report_read.proofs.Same.{event_second, multi_second, some_name, stage_group, stands_in}
 
 abbrev Names : Type 0
 Names = List (List ℕ)
@@ -219,3 +212,7 @@ none_some x e = absurd cc
 pub if_err_too : {X E : Type 0} (r : Result X E) (P Q : E → Type 0) → IfErr r Q → ((e : E) → Q e → P e) → IfErr r P
 if_err_too (Ok x) P Q a f = tt
 if_err_too (Err e) P Q a f = f e a
+
+pub refused : (u : Unread) (t : Told) (line : List ℕ) → u ≡ unreads.Form → IsRefused u t line → NoneStands t line
+refused unreads.Form t line e r = r
+refused unreads.Memory t line e r = absurd cc

@@ -1,5 +1,5 @@
 -- The same of commands, and of what stands between rounds.
-use Rattle.std.proofs.Common.{rules, ◌≡◌, ℕ, ◌+◌, ◌-◌, ◌≤◌, ◌<◌, ◌^◌, ◌||◌, List, [], ◌∷◌, ◌++◌, Bool, true, false, Option, Some, None, refl, sym, ap, ◌∙◌, subst, arith, length, take, drop, get_or, codes}
+use Rattle.std.proofs.Common.{◌≡◌, ℕ, ◌+◌, ◌≤◌, ◌<◌, ◌^◌, ◌||◌, List, ◌∷◌, ◌++◌, true, false, Option, Some, None, refl, sym, ap, ◌∙◌, subst, arith, length, drop, get_or, codes}
 use Rattle.std.specs.Fmt.{decimal}
 use Rattle.std.proofs.lemmas.Bool.{false≢true}
 use Rattle.tx_model.specs.declared.report.Line.{Line}
@@ -11,7 +11,7 @@ use Rattle.report_text.specs.Words.{name_at}
 use Rattle.report_text.specs.CommandText.{command_word, command_rest}
 use Rattle.report_text.specs.ReplyText.{reply_words}
 use Rattle.report_text.specs.ReportText.{command_line, round_line, step_text}
-use Rattle.report_words.specs.Fits.{AreNames, FitsCheckpointReply}
+use Rattle.report_words.specs.Fits.{FitsCheckpointReply}
 use Rattle.report_lines.specs.Fits.{FitsLine, FitsStep}
 use Rattle.report_lines.specs.Texts.{IsLineOf}
 use Rattle.report_lines.proofs.AgainLines.{said_are_words}
@@ -19,7 +19,7 @@ use Rattle.report_words.specs.declared.unread.Unread.{Unread}
 use Rattle.report_words.specs.declared.unread.Unread.TheVariants as unreads
 use Rattle.report_read.specs.Item.{Item}
 use Rattle.report_read.specs.Item as items
-use Rattle.report_read.specs.Grammar.{AreNamed, Follows, IsNamed, Rule, after, begins_step, history_line, is_round, item_line, may_speak, may_stand, note, session_of, steps_told}
+use Rattle.report_read.specs.Grammar.{AreNamed, Follows, Rule, after, begins_step, history_line, is_round, item_line, may_speak, note, session_of, steps_told}
 use Rattle.report_read.specs.Taking.{AreFew, IsNoStep, IsRefused, IsTaken, note_some, pending_name, said_name}
 use Rattle.report_read.specs.declared.told.Stage.{Stage}
 use Rattle.report_read.specs.declared.told.Stage.TheVariants as stages

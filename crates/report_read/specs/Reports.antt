@@ -1,12 +1,13 @@
 -- What is a report, and which line of a text is the first wrong one.
-use Rattle.std.specs.Prelude.{◌≡◌, ℕ, zero, suc, ◌+◌, ◌-◌, ◌≤◌, List, [], ◌∷◌, ◌++◌, Option, None, Bool, true, false}
+use Rattle.std.specs.Prelude.{◌≡◌, ℕ, ◌-◌, ◌≤◌, List, [], ◌∷◌, ◌++◌, None, Result, Ok, Err}
 use Rattle.tx_model.specs.declared.report.Report.{Report}
 use Rattle.tx_events.specs.Base.{first_base}
 use Rattle.report_text.specs.ReportText.{report_text}
 use Rattle.report_lines.specs.Front.{front}
 use Rattle.report_read.specs.Item.{Item}
 use Rattle.report_read.specs.Grammar.{Follows, item_line, no_counts}
-use Rattle.report_read.specs.declared.told.Stage.{Stage}
+use Rattle.report_read.specs.declared.read.ReadRefusal.{ReadRefusal}
+use Rattle.report_read.specs.declared.read.ReadRefusal.TheVariants as refusals
 use Rattle.report_read.specs.declared.told.Stage.TheVariants as stages
 use Rattle.report_read.specs.declared.told.Told.{Told}
 
@@ -57,3 +58,14 @@ pub record IsFirstWrong (bytes : List ℕ) (n : ℕ) : Type 0 where
   pub is : IsReport report
   pub before : front (n - 1) (report_text report) ≡ front (n - 1) bytes
   pub wrong : (r : Report) → IsReport r → front n (report_text r) ≡ front n bytes → ⊥
+
+-- why a text can't be read
+abbrev pub IsWrongLine : ReadRefusal → List ℕ → Type 0
+IsWrongLine (refusals.Line n) bytes = IsFirstWrong bytes n
+IsWrongLine refusals.Memory bytes = Unit {0}
+
+-- r is read, but for want of memory
+abbrev pub IsRead : Result Report ReadRefusal → Report → Type 0
+IsRead (Ok s) r = s ≡ r
+IsRead (Err (refusals.Line n)) r = ⊥
+IsRead (Err refusals.Memory) r = Unit {0}

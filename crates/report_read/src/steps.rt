@@ -92,12 +92,7 @@ fn take_command(
 }
 
 /// A checkpoint or a dump.
-fn take_single(
-    alloc: Global,
-    out: &mut Text,
-    told: &mut Told,
-    line: &[u8],
-) -> Result<(), Unread>
+fn take_single(alloc: Global, out: &mut Text, told: &mut Told, line: &[u8]) -> Result<(), Unread>
     requires stage { begins_step told.old.stage ≡ true }
     requires few { AreFew told.old.names }
     requires some { 1 ≤ length line.now }

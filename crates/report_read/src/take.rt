@@ -1,7 +1,7 @@
 //! Lines are taken one by one.
-ghost use Rattle.std.specs.Prelude.{◌≡◌, ◌≤◌, ◌||◌, ◌++◌, ◌∷◌, [], true, length, drop, IfErr, IfNone, IfSome, OnOk, Some, Option, ◌+◌, ◌^◌};
+ghost use Rattle.std.specs.Prelude.{◌≡◌, ◌≤◌, ◌||◌, ◌++◌, ◌∷◌, [], true, false, length, drop, IfErr, IfNone, IfSome, OnOk, Some, Option, ◌+◌, ◌^◌};
 ghost use Rattle.report_words.specs.Words.{behind};
-ghost use Rattle.report_read.specs.Grammar.{life_told, steps_told};
+ghost use Rattle.report_read.specs.Grammar.{begins_step, is_opening, is_round, life_told};
 ghost use Rattle.report_read.specs.Taking.{AreFew, IsRefused, IsTaken};
 ghost use Rattle.report_read.specs.declared.told.Stage.TheVariants as stages;
 
@@ -10,7 +10,7 @@ use crate::steps::take_step;
 use crate::told::{Stage, Told};
 use crate::words::second_word;
 use report_lines::{
-    crash_at, is_end, is_multis, is_title, read_event, read_log_head, read_multi_event, read_record,
+    crash_at, is_end, is_multis, read_event, read_log_head, read_multi_event, read_record,
     read_start,
 };
 use report_text::Text;
@@ -18,22 +18,8 @@ use report_words::Unread;
 use std::alloc::Global;
 use std::mem;
 use tx_model::{
-    EventList, How, IdList, Life, LifeList, LifeReport, Memory, MultiEventList, RecList, StepList,
+    EventList, How, IdList, Life, LifeReport, Memory, MultiEventList, RecList, StepList,
 };
-
-fn take_title(alloc: Global, told: &mut Told, line: &[u8]) -> Result<(), Unread>
-    requires stage { told.old.stage ≡ stages.Opening }
-    requires some { 1 ≤ length line.now }
-    ensures taken { OnOk result (IsTaken told.old told.new (drop 1 line.now)) }
-    ensures refused { IfErr result (λ u. IsRefused u told.old (drop 1 line.now)) }
-{
-    if !is_title(&line[1..]) {
-        return Err(Unread::Form);
-    }
-    told.stage = Stage::Between;
-    told.lives = LifeList::new(alloc);
-    Ok(())
-}
 
 fn take_life(alloc: Global, out: &mut Text, told: &mut Told, line: &[u8]) -> Result<(), Unread>
     requires stage { told.old.stage ≡ stages.Between }
@@ -97,7 +83,12 @@ fn take_multi(alloc: Global, out: &mut Text, told: &mut Told, line: &[u8]) -> Re
 /// Ends the present life.
 fn end_life(alloc: Global, told: &mut Told, crash: Option<How>) -> Result<(), Memory>
     ensures { OnOk result (told.new ≡ record told.old {
-        lives = told.old.lives ++ life_told told.old crash ∷ []; steps = []; events = []; multis = []; recs = [] }) }
+      lives = told.old.lives ++ life_told told.old crash ∷ [];
+      steps = [];
+      events = [];
+      multis = [];
+      recs = [];
+    }) }
 {
     let life = Life {
         from: told.start.from,
@@ -148,16 +139,17 @@ fn take_record(alloc: Global, out: &mut Text, told: &mut Told, line: &[u8]) -> R
     }
 }
 
-/// Takes a line, where it may stand. The bytes begin with the one before the line, and end with the line's end. After
+/// Takes a line behind the title, where it may stand. The bytes begin with the one before the line, and end with the line's end. After
 /// an `Err` nothing is known of what is told.
 pub fn take(alloc: Global, out: &mut Text, told: &mut Told, line: &[u8]) -> Result<(), Unread>
+    requires begun { is_opening told.old.stage ≡ false }
     requires few { AreFew told.old.names }
     requires some { 1 ≤ length line.now }
     ensures taken { OnOk result (IsTaken told.old told.new (drop 1 line.now)) }
     ensures refused { IfErr result (λ u. IsRefused u told.old (drop 1 line.now)) }
 {
     match told.stage {
-        Stage::Opening => take_title(alloc, told, line),
+        Stage::Opening => Err(Unread::Form),
         Stage::Between => take_life(alloc, out, told, line),
         Stage::Steps => take_step(alloc, out, told, line),
         Stage::Silent => take_step(alloc, out, told, line),

@@ -1,6 +1,14 @@
 //! What the lines so far have told.
-use tx_model::{EventList, LifeList, LineList, MultiEventList, NameList, RecList, Sequence, StepList};
+ghost use Rattle.std.specs.Prelude.{◌≡◌};
+ghost use Rattle.report_read.specs.Grammar.{after};
+ghost use Rattle.report_read.specs.Item as items;
+ghost use Rattle.report_read.specs.Reports.{nothing_told};
+
 use report_lines::{LogHead, Start};
+use std::alloc::Global;
+use tx_model::{
+    Counters, EventList, LifeList, LineList, MultiEventList, NameList, RecList, Sequence, StepList,
+};
 
 /// What may follow.
 #[derive(Clone, Copy, PartialEq, Eq)]
@@ -49,4 +57,32 @@ pub struct Told {
     pub multis: MultiEventList,
     pub log: LogHead,
     pub recs: RecList,
+}
+
+impl Told {
+    /// What the title tells.
+    #[tactic(auto, unfolding(crate::specs::Reports::nothing_told, crate::specs::Grammar::no_counts))]
+    pub fn titled(alloc: Global) -> Told
+        ensures { result ≡ after nothing_told items.title }
+    {
+        Told {
+            stage: Stage::Between,
+            names: NameList::new(alloc),
+            lives: LifeList::new(alloc),
+            start: Start {
+                from: 0,
+                base: Counters::of_new_log(),
+            },
+            steps: StepList::new(alloc),
+            round: 0,
+            lines: LineList::new(alloc),
+            counts: [0; 64],
+            speaker: None,
+            spoken: Sequence::new(alloc),
+            events: EventList::new(alloc),
+            multis: MultiEventList::new(alloc),
+            log: LogHead { flushed: 0, end: 0 },
+            recs: RecList::new(alloc),
+        }
+    }
 }

@@ -1,4 +1,4 @@
-use Rattle.std.proofs.Common.{◌≡◌, ◌<◌, ◌++◌, ◌∷◌, [], List, ℕ, Bool, true, false, not, None, length, sym, ap, ◌∙◌, subst, arith}
+use Rattle.std.proofs.Common.{◌≡◌, ◌<◌, ◌++◌, ◌∷◌, [], List, ℕ, None, length, sym, ap, ◌∙◌, subst, arith}
 use Rattle.report_text.specs.Names.{IsName}
 use Rattle.report_words.specs.Reading.{name_place}
 use Rattle.report_words.proofs.Ids.{gives_none}

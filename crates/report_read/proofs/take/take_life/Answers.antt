@@ -1,17 +1,9 @@
-use Rattle.std.proofs.Common.{◌≡◌, ℕ, ◌+◌, ◌≤◌, ◌<◌, ◌∷◌, [], List, Bool, true, false, Option, Some, None, refl, sym, ap, ◌∙◌, subst, take, drop, length, arith}
-use Rattle.std.proofs.lemmas.List.{take_rest}
+use Rattle.std.proofs.Common.{◌+◌, List, refl, ap, drop, length, arith}
 use Rattle.tx_model.specs.declared.report.Step.{Step}
 use Rattle.tx_model.specs.declared.report.LifeReport.{LifeReport}
-use Rattle.tx_events.specs.declared.event.Event.{Event}
-use Rattle.tx_events.specs.declared.multi.MultiEvent.{MultiEvent}
-use Rattle.report_text.specs.ReportText.{end_text, title_text}
-use Rattle.report_lines.specs.Texts.{IsLineOf, event_line, log_line, multi_line, record_line, start_line}
-use Rattle.report_lines.specs.Fits.{FitsEvent, FitsMultiEvent, FitsStart}
 use Rattle.report_read.specs.Item as items
-use Rattle.report_read.specs.Grammar.{after, may_stand, multis_line, no_counts, note}
-use Rattle.report_read.specs.Taking.{AreFew, second_word}
-use Rattle.report_read.specs.declared.told.Told.{Told}
-use Rattle.report_read.proofs.Standing.{event_cannot, event_taken, event_unnamed, event_unread, is_text, none_between, none_history, none_opening, not_text, plain_taken, words_in}
+use Rattle.report_read.specs.Grammar.{after, may_stand, no_counts}
+use Rattle.report_read.proofs.Standing.{plain_taken}
 use Rattle.report_read.proofs.take.take_life.Goals as goal
 
 pub returns-clause-taken : goal.returns-clause-taken
@@ -21,4 +13,4 @@ returns-clause-taken c =
     let n = length c.items.result.now + 1 in
     let x = items.life n c.in_ok-start.start in
     plain_taken t x _ (drop 1 c.args.line.now) (ap (may_stand x) c.requires.stage) (refl, ap (λ (ls : List LifeReport). length ls + 1) c.items.ensures, omega arith, c.in_ok-start.ensures.found.fit) c.in_ok-start.ensures.found.text refl
-      (ap (λ (ss : List Step). record (after t x) { steps = ss }) c.new.ensures)
+    (ap (λ (ss : List Step). record (after t x) { steps = ss }) c.new.ensures)

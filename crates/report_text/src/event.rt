@@ -72,8 +72,9 @@ fn put_event_rest(out: &mut Text, event: &Event) -> Result<(), Memory>
     }
 }
 
+/// The line of an event.
 #[tactic(auto, using(crate::proofs::MoreWords::then_more, crate::proofs::MoreWords::then_line))]
-fn put_event(out: &mut Text, names: &NameList, event: &Event) -> Result<(), Memory>
+pub fn put_event(out: &mut Text, names: &NameList, event: &Event) -> Result<(), Memory>
     ensures ok { OnOk result (out.new ≡ out.old ++ line_text (event_words names.now event.now)) }
 {
     out.put(event_word(event))?;
@@ -140,8 +141,9 @@ fn put_multi_event_rest(out: &mut Text, event: &MultiEvent) -> Result<(), Memory
     }
 }
 
+/// The line of a multixact event.
 #[tactic(auto, using(crate::proofs::MoreWords::then_more, crate::proofs::MoreWords::then_line))]
-fn put_multi_event(out: &mut Text, names: &NameList, event: &MultiEvent) -> Result<(), Memory>
+pub fn put_multi_event(out: &mut Text, names: &NameList, event: &MultiEvent) -> Result<(), Memory>
     ensures ok { OnOk result (out.new ≡ out.old ++ line_text (multi_event_words names.now event.now)) }
 {
     out.put(multi_event_word(event))?;

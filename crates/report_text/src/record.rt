@@ -102,8 +102,9 @@ fn put_record(out: &mut Text, rec: &Rec) -> Result<(), Memory>
     }
 }
 
+/// The line of a record, behind its number.
 #[tactic(auto, using(crate::proofs::MoreWords::then_line))]
-fn put_record_line(out: &mut Text, number: u128, rec: &Rec) -> Result<(), Memory>
+pub fn put_record_line(out: &mut Text, number: u128, rec: &Rec) -> Result<(), Memory>
     ensures ok { OnOk result (out.new ≡ out.old ++ line_text (decimal number ∷ record_words rec.now)) }
 {
     out.digits(number)?;

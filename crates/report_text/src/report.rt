@@ -11,8 +11,9 @@ use crate::text::Text;
 use std::alloc::Global;
 use tx_model::{Counters, Event, How, Life, LifeReport, Memory, MultiEvent, NameList, Report};
 
+/// The line that begins a life.
 #[tactic(auto, using(crate::proofs::MoreWords::then_more, crate::proofs::MoreWords::then_line), unfolding(crate::specs::ReportText::life_line))]
-fn put_life_line(out: &mut Text, number: u64, from: u64, base: &Counters) -> Result<(), Memory>
+pub fn put_life_line(out: &mut Text, number: u64, from: u64, base: &Counters) -> Result<(), Memory>
     ensures ok { OnOk result (out.new ≡ out.old ++ life_line number from base.now) }
 {
     out.put(b"life")?;
@@ -38,8 +39,10 @@ fn put_multis(out: &mut Text, names: &NameList, multis: &[MultiEvent]) -> Result
     put_multi_events(out, names, multis)
 }
 
+/// The line that begins a log: the number of the first record not known to be flushed, and the position of the next
+/// gate.
 #[tactic(auto, using(crate::proofs::MoreWords::then_more, crate::proofs::MoreWords::then_line))]
-fn put_log_line(out: &mut Text, flushed: u64, end: u64) -> Result<(), Memory>
+pub fn put_log_line(out: &mut Text, flushed: u64, end: u64) -> Result<(), Memory>
     ensures ok { OnOk result (out.new ≡ out.old ++ line_text (codes "log" ∷ codes "flushed" ∷ decimal flushed ∷ codes "end" ∷ decimal end ∷ [])) }
 {
     out.put(b"log")?;

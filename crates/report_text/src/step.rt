@@ -109,8 +109,9 @@ fn put_dump(
     out.end_line()
 }
 
+/// The lines of a step.
 #[tactic(auto, unfolding(crate::specs::ReportText::step_text))]
-fn put_step(out: &mut Text, names: &NameList, step: &Step) -> Result<(), Memory>
+pub fn put_step(out: &mut Text, names: &NameList, step: &Step) -> Result<(), Memory>
     ensures ok { OnOk result (out.new ≡ out.old ++ step_text names.now step.now) }
 {
     match step {

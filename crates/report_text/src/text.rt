@@ -90,6 +90,20 @@ impl Text {
         self.end_line()
     }
 
+    /// The bytes so far.
+    pub fn bytes(&self) -> &[u8]
+        ensures { result.now ≡ self.now }
+    {
+        self.bytes.as_slice()
+    }
+
+    /// Takes all bytes off, so that the text can be used again.
+    pub fn clear(&mut self)
+        ensures { self.new ≡ [] }
+    {
+        self.bytes.clear();
+    }
+
     pub fn into_bytes(self) -> Vec<u8>
         ensures { result.items ≡ self }
     {

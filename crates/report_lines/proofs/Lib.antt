@@ -1,0 +1,9 @@
+pub mod Fronts
+pub mod Cuts
+pub mod AgainEvents
+pub mod AgainLines
+pub mod AgainSteps
+pub mod Compared
+pub mod Apart
+pub mod Crashes
+pub mod AreLines

@@ -1,0 +1,9 @@
+pub mod Events
+pub mod Commands
+pub mod Steps
+pub mod Records
+pub mod Texts
+pub mod Fits
+pub mod Fixed
+pub mod Front
+pub mod Laws

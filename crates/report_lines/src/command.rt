@@ -1,0 +1,268 @@
+//! The lines of commands with their replies.
+ghost use Rattle.std.specs.Prelude.{◌≡◌, ◌↔◌, ◌<◌, ◌≤◌, ◌^◌, [], IfOk, IsTrue, drop, length};
+ghost use Rattle.report_text.specs.ReportText.{command_line};
+ghost use Rattle.tx_model.specs.declared.report.Line.{Line};
+ghost use Rattle.report_words.specs.Words.{behind};
+ghost use Rattle.report_words.specs.Reading.{Gives, IsOnly};
+ghost use Rattle.report_words.specs.Fits.{AreNames};
+ghost use Rattle.report_lines.specs.Commands.{plain_command, named_command, number_command, is_named, long_command, command_at, line_at};
+ghost use Rattle.report_lines.specs.Fits.{FitsCommand, FitsLine};
+ghost use Rattle.report_lines.specs.Texts.{IsLineOf};
+
+use report_text::{Text, put_command_line};
+use report_words::{
+    Unread, by_at, fits_by, fits_reply, full_id, full_multi, is_name, kind_of, name_of, number_at,
+    pairs_fit, read_pairs, reply_at, small, word_at,
+};
+use std::alloc::Global;
+use tx_model::{Command, Line, Memory, NameList, PairList};
+use xid_order::{MultiId, Xid};
+
+#[tactic(auto, unfolding(crate::specs::Commands::plain_command))]
+fn plain_command(word: &[u8]) -> Option<Command>
+    ensures { result ≡ plain_command word.now }
+{
+    if word == b"begin".as_slice() {
+        return Some(Command::Begin);
+    }
+    if word == b"save".as_slice() {
+        return Some(Command::Save);
+    }
+    if word == b"write".as_slice() {
+        return Some(Command::Write);
+    }
+    if word == b"release".as_slice() {
+        return Some(Command::Release);
+    }
+    if word == b"undo".as_slice() {
+        return Some(Command::Undo);
+    }
+    if word == b"commit".as_slice() {
+        return Some(Command::Commit);
+    }
+    if word == b"abort".as_slice() {
+        return Some(Command::Abort);
+    }
+    if word == b"trim".as_slice() {
+        return Some(Command::Trim);
+    }
+    if word == b"horizon".as_slice() {
+        return Some(Command::Horizon);
+    }
+    None
+}
+
+/// A command that names a snapshot, and the place behind it.
+#[tactic(auto, unfolding(crate::specs::Commands::named_command))]
+fn named_command<'a>(
+    alloc: Global,
+    word: &[u8],
+    name: &[u8],
+    rest: &'a [u8],
+) -> Result<(Command, &'a [u8]), Unread>
+    ensures { Gives (λ x. (x.0, behind x.1.now)) result (named_command word.now name.now (behind rest.now)) }
+{
+    let name = name_of(alloc, name)?;
+    if word == b"snap".as_slice() {
+        return Ok((Command::Snap { name }, rest));
+    }
+    if word == b"drop".as_slice() {
+        return Ok((Command::DropSnap { name }, rest));
+    }
+    if word == b"see".as_slice() {
+        let (number, rest) = number_at(rest)?;
+        let number = small(number)?;
+        return Ok((
+            Command::See {
+                name,
+                x: Xid { number },
+            },
+            rest,
+        ));
+    }
+    if word == b"seemulti".as_slice() {
+        let (number, rest) = number_at(rest)?;
+        let number = small(number)?;
+        return Ok((
+            Command::SeeMulti {
+                name,
+                multi: MultiId { number },
+            },
+            rest,
+        ));
+    }
+    Err(Unread::Form)
+}
+
+#[tactic(auto, unfolding(crate::specs::Commands::number_command))]
+fn number_command(word: &[u8], number: u64) -> Result<Command, Unread>
+    ensures { Gives (λ x. x) result (number_command word.now number) }
+{
+    if word == b"status".as_slice() {
+        let x = full_id(number)?;
+        return Ok(Command::Status { x });
+    }
+    if word == b"did".as_slice() {
+        let number = small(number)?;
+        return Ok(Command::Did { x: Xid { number } });
+    }
+    if word == b"freeze".as_slice() {
+        let oldest = full_id(number)?;
+        return Ok(Command::Freeze { oldest });
+    }
+    if word == b"multifreeze".as_slice() {
+        let multi = full_multi(number)?;
+        return Ok(Command::MultiFreeze { multi });
+    }
+    Err(Unread::Form)
+}
+
+fn is_named(word: &[u8]) -> bool
+    ensures { result ≡ is_named word.now }
+{
+    if word == b"snap".as_slice() {
+        return true;
+    }
+    if word == b"drop".as_slice() {
+        return true;
+    }
+    if word == b"see".as_slice() {
+        return true;
+    }
+    word == b"seemulti".as_slice()
+}
+
+#[tactic(auto, unfolding(crate::specs::Commands::long_command))]
+fn long_command<'a>(
+    alloc: Global,
+    word: &[u8],
+    rest: &'a [u8],
+) -> Result<(Command, &'a [u8]), Unread>
+    ensures { Gives (λ x. (x.0, behind x.1.now)) result (long_command word.now (behind rest.now)) }
+{
+    if word == b"multi".as_slice() {
+        let mut members = PairList::new(alloc);
+        let rest = read_pairs(&mut members, rest)?;
+        return Ok((Command::Multi { members }, rest));
+    }
+    if is_named(word) {
+        let (name, rest) = word_at(rest)?;
+        return named_command(alloc, word, name, rest);
+    }
+    let (number, rest) = number_at(rest)?;
+    let command = number_command(word, number)?;
+    Ok((command, rest))
+}
+
+/// A command, and the place behind it.
+#[tactic(auto, unfolding(crate::specs::Commands::command_at))]
+fn command_at(alloc: Global, rest: &[u8]) -> Result<(Command, &[u8]), Unread>
+    ensures { Gives (λ x. (x.0, behind x.1.now)) result (command_at (behind rest.now)) }
+{
+    let (word, rest) = word_at(rest)?;
+    match plain_command(word) {
+        Some(command) => Ok((command, rest)),
+        None => long_command(alloc, word, rest),
+    }
+}
+
+/// What a command's line says; printed again it may differ.
+#[tactic(auto, unfolding(crate::specs::Commands::line_at))]
+fn line_at(alloc: Global, names: &NameList, rest: &[u8]) -> Result<Line, Unread>
+    requires { length names.now < 2 ^ 32 }
+    ensures { Gives (λ x. x) result (line_at names.now (behind rest.now)) }
+{
+    let (by, rest) = by_at(names, rest)?;
+    let (command, rest) = match command_at(alloc, rest) {
+        Ok(found) => found,
+        Err(unread) => return Err(unread),
+    };
+    let (_arrow, rest) = word_at(rest)?;
+    let reply = reply_at(alloc, kind_of(&command), rest)?;
+    Ok(Line { by, command, reply })
+}
+
+/// Whether a script can have the command.
+fn fits_command(command: &Command) -> bool
+    ensures { IsTrue result ↔ FitsCommand command.now }
+{
+    match command {
+        Command::Begin => true,
+        Command::Save => true,
+        Command::Write => true,
+        Command::Release => true,
+        Command::Undo => true,
+        Command::Commit => true,
+        Command::Abort => true,
+        Command::Trim => true,
+        Command::Horizon => true,
+        Command::Snap { name } => is_name(name.items()),
+        Command::DropSnap { name } => is_name(name.items()),
+        Command::See { name, x } => {
+            let _number = x.number;
+            is_name(name.items())
+        }
+        Command::Status { x } => x.number() <= 1 << 62,
+        Command::Did { x } => {
+            let _number = x.number;
+            true
+        }
+        Command::Multi { members } => {
+            pairs_fit(members);
+            true
+        }
+        Command::SeeMulti { name, multi } => is_name(name.items()) && multi.number >= 1,
+        Command::Freeze { oldest } => oldest.number() >= 3 && oldest.number() <= 1 << 62,
+        Command::MultiFreeze { multi } => multi.number() <= 1 << 62,
+    }
+}
+
+/// Whether the line can stand in a report with these names.
+fn fits_line(names: &NameList, line: &Line) -> bool
+    ensures { IsTrue result ↔ FitsLine names.now line.now }
+{
+    fits_by(names, line.by)
+        && fits_command(&line.command)
+        && fits_reply(kind_of(&line.command), &line.reply)
+}
+
+/// Whether this is the line of the command with its reply, and they fit.
+fn is_command_line(
+    out: &mut Text,
+    names: &NameList,
+    said: &Line,
+    line: &[u8],
+) -> Result<bool, Memory>
+    ensures { IfOk result (λ b. IsTrue b ↔ IsLineOf (FitsLine names.now) (command_line names.now) line.now said.now) }
+{
+    if !fits_line(names, said) {
+        return Ok(false);
+    }
+    out.clear();
+    put_command_line(out, names, said.by, &said.command, &said.reply)?;
+    Ok(out.bytes() == line)
+}
+
+/// Reads the line of a command with its reply. The bytes begin with the one before the line, and end with the line's end.
+pub fn read_line(
+    alloc: Global,
+    out: &mut Text,
+    names: &NameList,
+    bytes: &[u8],
+) -> Result<Line, Unread>
+    requires few { length names.now < 2 ^ 32 }
+    requires names { AreNames names.now }
+    requires some { 1 ≤ length bytes.now }
+    ensures found { IfOk result (λ x. IsLineOf (FitsLine names.now) (command_line names.now) (drop 1 bytes.now) x) }
+    ensures only { (x : Line) → IsLineOf (FitsLine names.now) (command_line names.now) (drop 1 bytes.now) x → IsOnly result x }
+{
+    let said = match line_at(alloc, names, &bytes[..bytes.len() - 1]) {
+        Ok(said) => said,
+        Err(unread) => return Err(unread),
+    };
+    match is_command_line(out, names, &said, &bytes[1..]) {
+        Ok(true) => Ok(said),
+        Ok(false) => Err(Unread::Form),
+        Err(Memory) => Err(Unread::Memory),
+    }
+}

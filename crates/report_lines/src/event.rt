@@ -1,0 +1,162 @@
+//! The lines of a history.
+ghost use Rattle.std.specs.Prelude.{◌≡◌, ◌↔◌, ◌<◌, ◌≤◌, ◌^◌, IfOk, IsTrue, drop, length};
+ghost use Rattle.tx_events.specs.declared.event.Event.{Event};
+ghost use Rattle.report_words.specs.Words.{behind};
+ghost use Rattle.report_words.specs.Reading.{Gives, IsOnly};
+ghost use Rattle.report_words.specs.Fits.{AreNames};
+ghost use Rattle.report_lines.specs.Events.{id_event, event_rest_at, event_at};
+ghost use Rattle.report_lines.specs.Fits.{FitsEvent};
+ghost use Rattle.report_lines.specs.Texts.{IsLineOf, event_line};
+
+use report_text::{Text, put_event};
+use report_words::{
+    Unread, by_at, fits_by, full_id, id_fits, is_name, name_of, number_at, word_at,
+};
+use std::alloc::Global;
+use tx_model::{By, Event, Memory, NameList};
+use xid_order::FullXid;
+
+/// An event that names an id first.
+#[tactic(auto, unfolding(crate::specs::Events::id_event))]
+fn id_event(word: &[u8], by: By, id: FullXid, rest: &[u8]) -> Result<Event, Unread>
+    ensures { Gives (λ x. x) result (id_event word.now by id (behind rest.now)) }
+{
+    if word == b"id".as_slice() {
+        return Ok(Event::Id { by, id });
+    }
+    if word == b"sub".as_slice() {
+        let (below, _rest) = number_at(rest)?;
+        let below = full_id(below)?;
+        return Ok(Event::Sub {
+            by,
+            parent: id,
+            id: below,
+        });
+    }
+    if word == b"undo".as_slice() {
+        return Ok(Event::Undo { by, id });
+    }
+    if word == b"commit".as_slice() {
+        return Ok(Event::Commit { by, top: id });
+    }
+    if word == b"abort".as_slice() {
+        return Ok(Event::Abort { by, top: id });
+    }
+    if word == b"oldest".as_slice() {
+        return Ok(Event::Oldest { by, oldest: id });
+    }
+    if word == b"ask".as_slice() {
+        return Ok(Event::Ask { by, id });
+    }
+    Err(Unread::Form)
+}
+
+#[tactic(auto, unfolding(crate::specs::Events::event_rest_at))]
+fn event_rest_at(alloc: Global, word: &[u8], by: By, rest: &[u8]) -> Result<Event, Unread>
+    ensures { Gives (λ x. x) result (event_rest_at word.now by (behind rest.now)) }
+{
+    if word == b"snap".as_slice() {
+        let (name, _rest) = word_at(rest)?;
+        let name = name_of(alloc, name)?;
+        return Ok(Event::Snap { by, name });
+    }
+    if word == b"drop".as_slice() {
+        let (name, _rest) = word_at(rest)?;
+        let name = name_of(alloc, name)?;
+        return Ok(Event::SnapDrop { by, name });
+    }
+    let (id, rest) = number_at(rest)?;
+    let id = full_id(id)?;
+    id_event(word, by, id, rest)
+}
+
+/// What an event's line says; printed again it may differ.
+#[tactic(auto, unfolding(crate::specs::Events::event_at))]
+fn event_at(alloc: Global, names: &NameList, rest: &[u8]) -> Result<Event, Unread>
+    requires { length names.now < 2 ^ 32 }
+    ensures { Gives (λ x. x) result (event_at names.now (behind rest.now)) }
+{
+    let (word, rest) = word_at(rest)?;
+    let (by, rest) = by_at(names, rest)?;
+    event_rest_at(alloc, word, by, rest)
+}
+
+/// Whether the event can stand in a report with these names.
+fn fits_event(names: &NameList, event: &Event) -> bool
+    ensures { IsTrue result ↔ FitsEvent names.now event.now }
+{
+    match event {
+        Event::Id { by, id } => {
+            id_fits(*id);
+            fits_by(names, *by)
+        }
+        Event::Sub { by, parent, id } => {
+            id_fits(*parent);
+            id_fits(*id);
+            fits_by(names, *by)
+        }
+        Event::Undo { by, id } => {
+            id_fits(*id);
+            fits_by(names, *by)
+        }
+        Event::Commit { by, top } => {
+            id_fits(*top);
+            fits_by(names, *by)
+        }
+        Event::Abort { by, top } => {
+            id_fits(*top);
+            fits_by(names, *by)
+        }
+        Event::Snap { by, name } => fits_by(names, *by) && is_name(name.items()),
+        Event::SnapDrop { by, name } => fits_by(names, *by) && is_name(name.items()),
+        Event::Oldest { by, oldest } => {
+            id_fits(*oldest);
+            fits_by(names, *by)
+        }
+        Event::Ask { by, id } => {
+            id_fits(*id);
+            fits_by(names, *by)
+        }
+    }
+}
+
+/// Whether this is the line of the event, and the event fits.
+fn is_event_line(
+    out: &mut Text,
+    names: &NameList,
+    event: &Event,
+    line: &[u8],
+) -> Result<bool, Memory>
+    ensures { IfOk result (λ b. IsTrue b ↔ IsLineOf (FitsEvent names.now) (event_line names.now) line.now event.now) }
+{
+    if !fits_event(names, event) {
+        return Ok(false);
+    }
+    out.clear();
+    put_event(out, names, event)?;
+    Ok(out.bytes() == line)
+}
+
+/// Reads the line of an event. The bytes begin with the one before the line, and end with the line's end.
+pub fn read_event(
+    alloc: Global,
+    out: &mut Text,
+    names: &NameList,
+    bytes: &[u8],
+) -> Result<Event, Unread>
+    requires few { length names.now < 2 ^ 32 }
+    requires names { AreNames names.now }
+    requires some { 1 ≤ length bytes.now }
+    ensures found { IfOk result (λ x. IsLineOf (FitsEvent names.now) (event_line names.now) (drop 1 bytes.now) x) }
+    ensures only { (x : Event) → IsLineOf (FitsEvent names.now) (event_line names.now) (drop 1 bytes.now) x → IsOnly result x }
+{
+    let event = match event_at(alloc, names, &bytes[..bytes.len() - 1]) {
+        Ok(event) => event,
+        Err(unread) => return Err(unread),
+    };
+    match is_event_line(out, names, &event, &bytes[1..]) {
+        Ok(true) => Ok(event),
+        Ok(false) => Err(Unread::Form),
+        Err(Memory) => Err(Unread::Memory),
+    }
+}

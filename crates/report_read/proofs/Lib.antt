@@ -1,0 +1,10 @@
+pub mod LineWords
+pub mod Same
+pub mod Runs
+pub mod Endings
+pub mod Printed
+pub mod Sound
+pub mod Noting
+pub mod Standing
+pub mod StepsStanding
+pub mod Reading

@@ -1,0 +1,13 @@
+//! A report read back, exactly: `read_report` is the inverse of `print_report`.
+#![tactic(auto)]
+
+mod law;
+mod naming;
+mod read;
+mod steps;
+mod take;
+mod told;
+mod words;
+
+pub use law::no_text_of_two;
+pub use read::{ReadRefusal, read_report};

@@ -1,0 +1,67 @@
+//! Sessions are numbered as their names come.
+ghost use Rattle.std.specs.Prelude.{◌≡◌, ◌≤◌, ◌||◌, not, true, length, set, get_or, IfErr, OnOk, IfOk};
+ghost use Rattle.tx_events.specs.IdLists.{has};
+ghost use Rattle.report_words.specs.Fits.{AreNames};
+ghost use Rattle.report_words.specs.declared.unread.Unread.TheVariants as unreads;
+ghost use Rattle.report_read.specs.Grammar.{after_turn, is_speaker, may_speak, note};
+ghost use Rattle.report_read.specs.Taking.{AreFew, CannotNote};
+
+use report_words::{Unread, is_name, name_of, name_place};
+use std::alloc::Global;
+use tx_model::{Memory, NameList, Sequence};
+
+/// Adds a name where it is new. At most 64 are kept.
+pub fn note(alloc: Global, names: &mut NameList, name: &[u8]) -> Result<(), Unread>
+    requires { AreFew names.old }
+    ensures noted { OnOk result (names.new ≡ note names.old name.now) }
+    ensures few { OnOk result (AreFew names.new) }
+    ensures refused { IfErr result (λ u. CannotNote u names.old name.now) }
+{
+    match name_place(names.items(), name) {
+        Ok(_place) => return Ok(()),
+        Err(Unread::Memory) => return Err(Unread::Memory),
+        Err(Unread::Form) => (),
+    }
+    if !is_name(name) || names.items().len() >= 64 {
+        return Err(Unread::Form);
+    }
+    let own = name_of(alloc, name)?;
+    names.push(own)?;
+    Ok(())
+}
+
+fn is_speaker(speaker: Option<u32>, session: u32) -> bool
+    ensures { result ≡ is_speaker speaker session }
+{
+    match speaker {
+        None => false,
+        Some(last) => last == session,
+    }
+}
+
+fn has_spoken(spoken: &[u32], session: u32) -> bool
+    ensures { result ≡ has spoken.now session }
+{
+    spoken.iter().any(|other| session == *other)
+}
+
+/// Whether a command of this session may stand next in the round.
+pub fn may_speak(speaker: Option<u32>, spoken: &Sequence<u32>, session: u32) -> bool
+    ensures { result ≡ may_speak speaker spoken.now session }
+{
+    is_speaker(speaker, session) || !has_spoken(spoken.items(), session)
+}
+
+/// Notes that a command of this session stands there.
+pub fn note_turn(
+    speaker: Option<u32>,
+    spoken: &mut Sequence<u32>,
+    session: u32,
+) -> Result<(), Memory>
+    ensures { OnOk result (spoken.new ≡ after_turn speaker spoken.old session) }
+{
+    if is_speaker(speaker, session) {
+        return Ok(());
+    }
+    spoken.push(session)
+}

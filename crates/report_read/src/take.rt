@@ -1,0 +1,162 @@
+//! Lines are taken one by one.
+ghost use Rattle.std.specs.Prelude.{◌≡◌, ◌≤◌, ◌||◌, ◌++◌, ◌∷◌, [], true, false, length, drop, IfErr, IfNone, IfSome, OnOk, Some, Option, ◌+◌, ◌^◌};
+ghost use Rattle.report_words.specs.Words.{behind};
+ghost use Rattle.report_read.specs.Grammar.{begins_step, is_opening, is_round, life_told};
+ghost use Rattle.report_read.specs.Taking.{AreFew, IsRefused, IsTaken};
+ghost use Rattle.report_read.specs.declared.told.Stage.TheVariants as stages;
+
+use crate::naming::note;
+use crate::steps::take_step;
+use crate::told::{Stage, Told};
+use crate::words::second_word;
+use report_lines::{
+    crash_at, is_end, is_multis, read_event, read_log_head, read_multi_event, read_record,
+    read_start,
+};
+use report_text::Text;
+use report_words::Unread;
+use std::alloc::Global;
+use std::mem;
+use tx_model::{
+    EventList, How, IdList, Life, LifeReport, Memory, MultiEventList, RecList, StepList,
+};
+
+fn take_life(alloc: Global, out: &mut Text, told: &mut Told, line: &[u8]) -> Result<(), Unread>
+    requires stage { told.old.stage ≡ stages.Between }
+    requires some { 1 ≤ length line.now }
+    ensures taken { OnOk result (IsTaken told.old told.new (drop 1 line.now)) }
+    ensures refused { IfErr result (λ u. IsRefused u told.old (drop 1 line.now)) }
+{
+    let number = told.lives.items().len() as u64 + 1;
+    let start = read_start(out, number, line)?;
+    told.stage = Stage::Steps;
+    told.start = start;
+    told.steps = StepList::new(alloc);
+    told.round = 0;
+    told.counts = [0; 64];
+    Ok(())
+}
+
+fn take_event(alloc: Global, out: &mut Text, told: &mut Told, line: &[u8]) -> Result<(), Unread>
+    requires stage { told.old.stage ≡ stages.History }
+    requires few { AreFew told.old.names }
+    requires some { 1 ≤ length line.now }
+    ensures taken { OnOk result (IsTaken told.old told.new (drop 1 line.now)) }
+    ensures refused { IfErr result (λ u. IsRefused u told.old (drop 1 line.now)) }
+{
+    if is_multis(&line[1..]) {
+        told.stage = Stage::Multis;
+        told.multis = MultiEventList::new(alloc);
+        return Ok(());
+    }
+    let name = second_word(&line[..line.len() - 1])?;
+    note(alloc, &mut told.names, name)?;
+    let event = read_event(alloc, out, &told.names, line)?;
+    told.events.push(event)?;
+    Ok(())
+}
+
+fn take_multi(alloc: Global, out: &mut Text, told: &mut Told, line: &[u8]) -> Result<(), Unread>
+    requires stage { told.old.stage ≡ stages.Multis }
+    requires few { AreFew told.old.names }
+    requires some { 1 ≤ length line.now }
+    ensures taken { OnOk result (IsTaken told.old told.new (drop 1 line.now)) }
+    ensures refused { IfErr result (λ u. IsRefused u told.old (drop 1 line.now)) }
+{
+    match read_log_head(out, line) {
+        Ok(head) => {
+            told.stage = Stage::Log;
+            told.log = head;
+            told.recs = RecList::new(alloc);
+            return Ok(());
+        }
+        Err(Unread::Memory) => return Err(Unread::Memory),
+        Err(Unread::Form) => (),
+    }
+    let name = second_word(&line[..line.len() - 1])?;
+    note(alloc, &mut told.names, name)?;
+    let event = read_multi_event(alloc, out, &told.names, line)?;
+    told.multis.push(event)?;
+    Ok(())
+}
+
+/// Ends the present life.
+fn end_life(alloc: Global, told: &mut Told, crash: Option<How>) -> Result<(), Memory>
+    ensures { OnOk result (told.new ≡ record told.old {
+      lives = told.old.lives ++ life_told told.old crash ∷ [];
+      steps = [];
+      events = [];
+      multis = [];
+      recs = [];
+    }) }
+{
+    let life = Life {
+        from: told.start.from,
+        base: told.start.base,
+        committed: IdList::new(alloc),
+        recorded: RecList::new(alloc),
+        events: mem::replace(&mut told.events, EventList::new(alloc)),
+        multis: mem::replace(&mut told.multis, MultiEventList::new(alloc)),
+        recs: mem::replace(&mut told.recs, RecList::new(alloc)),
+        flushed: told.log.flushed,
+        end: told.log.end,
+    };
+    let steps = mem::replace(&mut told.steps, StepList::new(alloc));
+    told.lives.push(LifeReport { life, steps, crash })
+}
+
+/// The number of the next record. None where it isn't below 2^64.
+fn next_number(told: &Told) -> Option<u64>
+    ensures some { IfSome result (λ n. n ≡ told.now.start.from + length told.now.recs) }
+    ensures none { IfNone result (2 ^ 64 ≤ told.now.start.from + length told.now.recs) }
+{
+    told.start.from.checked_add(told.recs.items().len() as u64)
+}
+
+fn take_record(alloc: Global, out: &mut Text, told: &mut Told, line: &[u8]) -> Result<(), Unread>
+    requires stage { told.old.stage ≡ stages.Log }
+    requires some { 1 ≤ length line.now }
+    ensures taken { OnOk result (IsTaken told.old told.new (drop 1 line.now)) }
+    ensures refused { IfErr result (λ u. IsRefused u told.old (drop 1 line.now)) }
+{
+    if is_end(&line[1..]) {
+        end_life(alloc, told, None)?;
+        told.stage = Stage::Closed;
+        return Ok(());
+    }
+    if let Some(how) = crash_at(&line[1..]) {
+        end_life(alloc, told, Some(how))?;
+        told.stage = Stage::Between;
+        return Ok(());
+    }
+    match next_number(told) {
+        None => Err(Unread::Form),
+        Some(number) => {
+            let rec = read_record(alloc, out, number, line)?;
+            told.recs.push(rec)?;
+            Ok(())
+        }
+    }
+}
+
+/// Takes a line behind the title, where it may stand. The bytes begin with the one before the line, and end with the line's end. After
+/// an `Err` nothing is known of what is told.
+pub fn take(alloc: Global, out: &mut Text, told: &mut Told, line: &[u8]) -> Result<(), Unread>
+    requires begun { is_opening told.old.stage ≡ false }
+    requires few { AreFew told.old.names }
+    requires some { 1 ≤ length line.now }
+    ensures taken { OnOk result (IsTaken told.old told.new (drop 1 line.now)) }
+    ensures refused { IfErr result (λ u. IsRefused u told.old (drop 1 line.now)) }
+{
+    match told.stage {
+        Stage::Opening => Err(Unread::Form),
+        Stage::Between => take_life(alloc, out, told, line),
+        Stage::Steps => take_step(alloc, out, told, line),
+        Stage::Silent => take_step(alloc, out, told, line),
+        Stage::Spoken => take_step(alloc, out, told, line),
+        Stage::History => take_event(alloc, out, told, line),
+        Stage::Multis => take_multi(alloc, out, told, line),
+        Stage::Log => take_record(alloc, out, told, line),
+        Stage::Closed => Err(Unread::Form),
+    }
+}

@@ -1,0 +1,10 @@
+pub mod Splits
+pub mod Pieces
+pub mod Places
+pub mod Again
+pub mod Ids
+pub mod Snaps
+pub mod Items
+pub mod AgainMembers
+pub mod AgainRefusals
+pub mod AgainReplies

@@ -1,0 +1,148 @@
+-- What words can say: the ranges of numbers, and the forms of replies.
+use Rattle.std.specs.Prelude.{◌≡◌, ℕ, ◌<◌, ◌^◌, List, length}
+use Rattle.std.specs.List.{IsDistinct, AllByRecursion}
+use Rattle.xid_order.specs.Ids.{IsXidNumber, IsFullMulti}
+use Rattle.tx_events.specs.Events.{same_name}
+use Rattle.tx_events.specs.declared.event.By.{By}
+use Rattle.tx_events.specs.declared.multi.Member.{Member}
+use Rattle.tx_events.specs.declared.record.Counters.{Counters}
+use Rattle.tx_events.specs.declared.refusal.Lock.{Lock}
+use Rattle.tx_events.specs.declared.refusal.Lock.TheVariants as locks
+use Rattle.tx_events.specs.declared.refusal.Refusal.{Refusal}
+use Rattle.tx_events.specs.declared.refusal.Refusal.TheVariants as refusals
+use Rattle.tx_events.specs.declared.snapshot.SnapData.{SnapData}
+use Rattle.tx_model.specs.declared.command.Pair.{Pair}
+use Rattle.tx_model.specs.declared.reply.MemberVerdict.{MemberVerdict}
+use Rattle.tx_model.specs.declared.reply.Reply.{Reply}
+use Rattle.tx_model.specs.declared.reply.Reply.TheVariants as replies
+use Rattle.report_text.specs.Names.{IsName}
+use Rattle.report_words.specs.declared.reply.Kind.{Kind}
+use Rattle.report_words.specs.declared.reply.Kind.TheVariants as kinds
+
+abbrev pub FitsId : ℕ → Type 0
+FitsId n = (n < 2 ^ 64) × IsXidNumber n
+
+abbrev pub FitsMulti : ℕ → Type 0
+FitsMulti n = (n < 2 ^ 64) × IsFullMulti n
+
+pub record FitsBy (names : List (List ℕ)) (by : By) : Type 0 where
+  pub session : by.session < length names
+  pub command : by.command < 2 ^ 64
+
+-- names, each once
+pub record AreNames (names : List (List ℕ)) : Type 0 where
+  pub each : AllByRecursion IsName names
+  pub distinct : IsDistinct same_name names
+
+pub record FitsCounters (c : Counters) : Type 0 where
+  pub next : FitsId c.next
+  pub oldest : FitsId c.oldest
+  pub multi : FitsMulti c.multi
+  pub offset : c.offset < 2 ^ 64
+  pub oldest_multi : FitsMulti c.oldest_multi
+  pub oldest_offset : c.oldest_offset < 2 ^ 64
+
+pub record FitsSnap (s : SnapData) : Type 0 where
+  pub xmin : FitsId s.xmin
+  pub xmax : FitsId s.xmax
+  pub xip : AllByRecursion FitsId s.xip
+  pub subxip : AllByRecursion FitsId s.subxip
+
+abbrev pub FitsPair : Pair → Type 0
+FitsPair p = p.x.number < 2 ^ 32
+
+abbrev pub FitsMember : Member → Type 0
+FitsMember m = FitsId m.id
+
+abbrev pub FitsVerdict : MemberVerdict → Type 0
+FitsVerdict v = FitsId v.id
+
+-- a lock with a volume behind it: the log's, or that of a bank
+abbrev pub FitsLock : Lock → Type 0
+FitsLock locks.Log = Unit {0}
+FitsLock locks.Proc = ⊥
+FitsLock locks.Multi = ⊥
+FitsLock (locks.Xact bank) = bank < 16
+FitsLock (locks.Subtrans bank) = bank < 16
+FitsLock (locks.Offsets bank) = bank < 16
+FitsLock (locks.Members bank) = bank < 16
+
+-- what a command can be refused for; `multi-pending` is answered by a checkpoint alone
+abbrev pub FitsRefusal : Refusal → Type 0
+FitsRefusal refusals.AlreadyOpen = Unit {0}
+FitsRefusal refusals.NoTransaction = Unit {0}
+FitsRefusal refusals.NoSavepoint = Unit {0}
+FitsRefusal refusals.DepthLimit = Unit {0}
+FitsRefusal refusals.CommitPending = Unit {0}
+FitsRefusal refusals.AbortPending = Unit {0}
+FitsRefusal refusals.UndoPending = Unit {0}
+FitsRefusal (refusals.Stop next stop) = FitsId next × FitsId stop
+FitsRefusal (refusals.DiskFault lock) = FitsLock lock
+FitsRefusal refusals.LogFault = Unit {0}
+FitsRefusal (refusals.LogDown at) = at < 2 ^ 64
+FitsRefusal refusals.Full = Unit {0}
+FitsRefusal refusals.NameTaken = Unit {0}
+FitsRefusal refusals.SnapLimit = Unit {0}
+FitsRefusal refusals.NoSnapshot = Unit {0}
+FitsRefusal (refusals.TooOld oldest) = FitsId oldest
+FitsRefusal (refusals.Future next) = FitsId next
+FitsRefusal refusals.TwoUpdaters = Unit {0}
+FitsRefusal refusals.MemberCount = Unit {0}
+FitsRefusal (refusals.NotGiven x) = x.number < 2 ^ 32
+FitsRefusal (refusals.MultiStop next stop) = FitsMulti next × FitsMulti stop
+FitsRefusal (refusals.MemberStop next stop) = (next < 2 ^ 64) × (stop < 2 ^ 64)
+FitsRefusal (refusals.NotYet multi) = FitsMulti multi
+FitsRefusal (refusals.MultiTooOld oldest) = FitsMulti oldest
+FitsRefusal (refusals.MultiFuture next) = FitsMulti next
+FitsRefusal (refusals.Backward now) = now < 2 ^ 64
+FitsRefusal (refusals.TooNew limit) = FitsId limit
+FitsRefusal (refusals.Held limit) = FitsMulti limit
+FitsRefusal refusals.MultiPending = ⊥
+FitsRefusal refusals.Memory = Unit {0}
+
+-- a reply to a command that is answered so
+abbrev pub FitsReply : Kind → Reply → Type 0
+FitsReply k replies.Done = k ≡ kinds.Plain
+FitsReply k (replies.Wrote ids warn) = (k ≡ kinds.Ids) × AllByRecursion FitsId ids
+FitsReply k (replies.Snapped s) = (k ≡ kinds.Snapshot) × FitsSnap s
+FitsReply k (replies.Seen visible) = k ≡ kinds.Look
+FitsReply k (replies.Known status) = k ≡ kinds.Status
+FitsReply k (replies.Did has) = k ≡ kinds.Did
+FitsReply k (replies.Multi multi offset warn) = (k ≡ kinds.Multi) × FitsMulti multi × (offset < 2 ^ 64)
+FitsReply k (replies.Verdicts list) = (k ≡ kinds.Members) × AllByRecursion FitsVerdict list
+FitsReply k (replies.Horizon oldest_xmin) = (k ≡ kinds.Horizon) × FitsId oldest_xmin
+FitsReply k (replies.Bytes bytes) = ⊥
+FitsReply k (replies.Cut cutoff) = ⊥
+FitsReply k (replies.Pending session refusal) = ⊥
+FitsReply k (replies.Refused refusal) = FitsRefusal refusal
+
+-- what a checkpoint can be refused for, but for what is pending
+abbrev pub FitsCheckpointRefusal : Refusal → Type 0
+FitsCheckpointRefusal (refusals.LogDown at) = at < 2 ^ 64
+FitsCheckpointRefusal refusals.LogFault = Unit {0}
+FitsCheckpointRefusal (refusals.DiskFault lock) = FitsLock lock
+FitsCheckpointRefusal refusals.Full = Unit {0}
+FitsCheckpointRefusal refusals.Memory = Unit {0}
+FitsCheckpointRefusal _ = ⊥
+
+abbrev pub IsPending : Refusal → Type 0
+IsPending refusals.CommitPending = Unit {0}
+IsPending refusals.MultiPending = Unit {0}
+IsPending _ = ⊥
+
+abbrev pub FitsCheckpointReply : List (List ℕ) → Reply → Type 0
+FitsCheckpointReply names replies.Done = Unit {0}
+FitsCheckpointReply names (replies.Pending session refusal) = (session < length names) × IsPending refusal
+FitsCheckpointReply names (replies.Refused refusal) = FitsCheckpointRefusal refusal
+FitsCheckpointReply names _ = ⊥
+
+abbrev pub FitsDumpRefusal : Refusal → Type 0
+FitsDumpRefusal (refusals.DiskFault lock) = FitsLock lock
+FitsDumpRefusal refusals.LogFault = Unit {0}
+FitsDumpRefusal _ = ⊥
+
+abbrev pub FitsDumpReply : Reply → Type 0
+FitsDumpReply (replies.Bytes bytes) = AllByRecursion (λ b. b < 256) bytes
+FitsDumpReply (replies.Cut cutoff) = cutoff < 2 ^ 32
+FitsDumpReply (replies.Refused refusal) = FitsDumpRefusal refusal
+FitsDumpReply _ = ⊥

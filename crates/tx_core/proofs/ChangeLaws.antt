@@ -9,7 +9,7 @@ use Rattle.tx_core.specs.declared.entry.Entry.{Entry}
 use Rattle.tx_core.specs.declared.entry.Start.{Start}
 use Rattle.tx_core.specs.declared.entry.State.{State}
 use Rattle.tx_core.proofs.Keeping.{keeps}
-use Rattle.tx_core.specs.AbortRule.{AskUnrecorded, AskedOf, IsSameAfter}
+use Rattle.tx_core.specs.AbortRule.{AskUnrecorded, AskedOf, GivenOf, IsSameAfter}
 use Rattle.tx_core.specs.Entries.{Link, Mark}
 use Rattle.tx_core.specs.Laws.{AbortedKeeps, AreThere, ChangesKeep, CommittedKeeps, FaultKeeps, MayChange, MayLink, MayMark, ParentKeeps, RequestKeeps, SubCommittedKeeps, all_set, links_of, marks_of}
 use Rattle.notes.specs.Lists.{at}
@@ -27,7 +27,8 @@ record Asked (start : Start) (seen : List (List Entry)) (before : List Entry) (s
   made : AllByRecursion (λ mark. WasMade before (xact_page start.base.next) (xact_page mark.id)) (marks_of changes)
   logged : AllByRecursion (λ mark. RecordOf start seen mark.caller.session mark.id mark.state) (marks_of changes)
   tree : AllByRecursion (λ mark. TreeOf start seen mark.caller.session mark.id mark.state) (marks_of changes)
-  asked : AllByRecursion (λ mark. AskedOf seen session mark.caller.session mark.id mark.state) (marks_of changes)
+  given : AllByRecursion (λ mark. GivenOf seen mark) (marks_of changes)
+  asked : AllByRecursion (λ mark. AskedOf seen session mark) (marks_of changes)
   unrecorded : AllByRecursion (λ mark. AskUnrecorded seen session mark.caller.session mark.id mark.state) (marks_of changes)
   later : AllByRecursion (λ mark. IsSameAfter before mark) (marks_of changes)
   alike : AllByRecursion (λ mark. AllByRecursion (λ other. other.id ≡ mark.id → other.state ≡ mark.state) (marks_of changes)) (marks_of changes)
@@ -43,7 +44,8 @@ asked_of_each start seen lock session changes may =
       made = all_from (λ mark. WasMade before (xact_page start.base.next) (xact_page mark.id)) (marks_of changes) (λ mark k. (mark_of_each mark k).page);
       logged = all_from (λ mark. RecordOf start seen mark.caller.session mark.id mark.state) (marks_of changes) (λ mark k. (mark_of_each mark k).durable);
       tree = all_from (λ mark. TreeOf start seen mark.caller.session mark.id mark.state) (marks_of changes) (λ mark k. (mark_of_each mark k).tree);
-      asked = all_from (λ mark. AskedOf seen session mark.caller.session mark.id mark.state) (marks_of changes) (λ mark k. (mark_of_each mark k).asked);
+      given = all_from (λ mark. GivenOf seen mark) (marks_of changes) (λ mark k. (mark_of_each mark k).given);
+      asked = all_from (λ mark. AskedOf seen session mark) (marks_of changes) (λ mark k. (mark_of_each mark k).asked);
       unrecorded = all_from (λ mark. AskUnrecorded seen session mark.caller.session mark.id mark.state) (marks_of changes) (λ mark k. (mark_of_each mark k).unrecorded);
       later = all_from (λ mark. IsSameAfter before mark) (marks_of changes) (λ mark k. (mark_of_each mark k).final);
       alike = all_from (λ mark. AllByRecursion (λ other. other.id ≡ mark.id → other.state ≡ mark.state) (marks_of changes)) (marks_of changes) (λ mark k.
@@ -62,7 +64,7 @@ changes_law start seen lock by changes may lists k knows inside whole turn =
       records = record { parents = tt; event = λ here. tt; ids = λ here. tt };
       status = record { logged = a.logged; tree = a.tree };
       commits = tt;
-      aborts = record { closed = tt; asked = a.asked; unasked = λ here. tt; unrecorded = a.unrecorded; final = record { later = a.later; alike = a.alike } };
+      aborts = record { closed = tt; given = a.given; asked = a.asked; unasked = λ here. tt; unrecorded = a.unrecorded; final = record { later = a.later; alike = a.alike } };
       order = record { turn = turn; stands = may.on };
     })
 
@@ -76,12 +78,12 @@ fault_law start seen lock by callers changes cut count may named lists k knows i
       records = record { parents = tt; event = λ here. tt; ids = λ here. tt };
       status = record { logged = a.logged; tree = a.tree };
       commits = tt;
-      aborts = record { closed = tt; asked = a.asked; unasked = λ here. tt; unrecorded = a.unrecorded; final = record { later = a.later; alike = a.alike } };
+      aborts = record { closed = tt; given = a.given; asked = a.asked; unasked = λ here. tt; unrecorded = a.unrecorded; final = record { later = a.later; alike = a.alike } };
       order = record { turn = turn; stands = (may.on, named) };
     })
 
 pub request_law : RequestKeeps
-request_law start seen lock by changes behind unrecorded lists k knows inside whole turn =
+request_law start seen lock by changes behind given unrecorded lists k knows inside whole turn =
     keeps start lists seen lock (record { by = by; kind = kinds.Request changes }) k knows inside whole (record {
       events = record { own = tt; rule = λ here. tt };
       pages = record { ids = tt; changes = record { marks = tt; links = tt } };
@@ -91,6 +93,7 @@ request_law start seen lock by changes behind unrecorded lists k knows inside wh
       commits = tt;
       aborts = record {
         closed = tt;
+        given = all_from (λ mark. GivenOf seen mark) (marks_of changes) (λ mark k. given mark (has_contains (marks_of changes) mark k));
         asked = tt;
         unasked = λ here. tt;
         unrecorded = all_from (λ mark. AskUnrecorded seen by.session mark.caller.session mark.id mark.state) (marks_of changes) (λ mark k. unrecorded mark (has_contains (marks_of changes) mark k));
@@ -129,23 +132,25 @@ all_may start seen bank by state ids there each = record {
 }
 
 pub committed_law : CommittedKeeps
-committed_law start seen bank by ids there durable tree only =
+committed_law start seen bank by ids there given durable tree only =
     changes_law start seen (xact_lock bank) by (all_set by states.Committed ids) (all_may start seen bank by states.Committed ids there (λ id c. record {
       page = there.made id c;
       durable = durable id c;
       tree = tree id c;
-      asked = tt;
+      given = given id c;
+      asked = inl refl;
       unrecorded = tt;
       final = λ old j q. only id old c j q;
     }))
 
 pub sub_committed_law : SubCommittedKeeps
-sub_committed_law start seen bank by ids there durable only =
+sub_committed_law start seen bank by ids there given durable only =
     changes_law start seen (xact_lock bank) by (all_set by states.SubCommitted ids) (all_may start seen bank by states.SubCommitted ids there (λ id c. record {
       page = there.made id c;
       durable = durable id c;
       tree = tt;
-      asked = tt;
+      given = given id c;
+      asked = inl refl;
       unrecorded = tt;
       final = λ old j q. only id old c j q;
     }))
@@ -156,7 +161,8 @@ aborted_law start seen bank by ids there given unrecorded only =
       page = there.made id c;
       durable = tt;
       tree = tt;
-      asked = record { given = given id c; asked = inl refl };
+      given = given id c;
+      asked = inl refl;
       unrecorded = λ same top subs a j. unrecorded id top subs c a j;
       final = λ old j q. only id old c j q;
     }))

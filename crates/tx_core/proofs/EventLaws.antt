@@ -32,7 +32,7 @@ event_keeps start seen by event own rule pages leaves states closed lists k know
       records = record { parents = tt; event = λ here. leaves; ids = λ here. tt };
       status = record { logged = tt; tree = tt };
       commits = states;
-      aborts = record { closed = closed; asked = tt; unasked = λ here. tt; unrecorded = tt; final = record { later = tt; alike = tt } };
+      aborts = record { closed = closed; given = tt; asked = tt; unasked = λ here. tt; unrecorded = tt; final = record { later = tt; alike = tt } };
       order = record { turn = turn; stands = refl };
     })
 
@@ -72,7 +72,7 @@ made_law start seen by id made next lists k knows inside whole turn =
       records = record { parents = tt; event = λ here. tt; ids = λ here. tt };
       status = record { logged = tt; tree = tt };
       commits = tt;
-      aborts = record { closed = tt; asked = tt; unasked = λ here. tt; unrecorded = tt; final = record { later = tt; alike = tt } };
+      aborts = record { closed = tt; given = tt; asked = tt; unasked = λ here. tt; unrecorded = tt; final = record { later = tt; alike = tt } };
       order = record { turn = turn; stands = refl };
     })
 
@@ -85,6 +85,6 @@ commit_record_law start seen by top subs opened root parents unasked lists k kno
       records = record { parents = parents; event = λ here. tt; ids = λ here. (opened, root) };
       status = record { logged = tt; tree = tt };
       commits = tt;
-      aborts = record { closed = tt; asked = tt; unasked = λ here. unasked; unrecorded = tt; final = record { later = tt; alike = tt } };
+      aborts = record { closed = tt; given = tt; asked = tt; unasked = λ here. unasked; unrecorded = tt; final = record { later = tt; alike = tt } };
       order = record { turn = turn; stands = refl };
     })

@@ -17,9 +17,9 @@ use Rattle.tx_core.specs.declared.entry.Start.{Start}
 use Rattle.tx_core.proofs.Asking.{all_has, append_asks, has_all, ids_of_record, leaves_of, own_event, rule_of, states_of, unasked_of, unrecorded_of, upheld_has}
 use Rattle.tx_core.proofs.Exactness.{Leaves, exact_push}
 use Rattle.tx_core.proofs.Growing.{upheld_add}
-use Rattle.tx_core.proofs.Lasting.{aborts_lasting, asked_lasting, links_lasting, logged_lasting, own_lasting, pages_lasting, places_lasting, same_lasting, stand_lasting, states_lasting, subs_lasting, tree_lasting, turns_lasting}
+use Rattle.tx_core.proofs.Lasting.{aborts_lasting, asked_lasting, given_lasting, links_lasting, logged_lasting, own_lasting, pages_lasting, places_lasting, same_lasting, stand_lasting, states_lasting, subs_lasting, tree_lasting, turns_lasting}
 use Rattle.tx_core.proofs.Stepping.{appended_cases, asks_cases, history_at, history_off, open_seen, own_appended, own_asks, root_seen}
-use Rattle.tx_core.specs.AbortRule.{AbortRule, AsksAbort, NeedsAborts, NeedsAsked, NeedsSame}
+use Rattle.tx_core.specs.AbortRule.{AbortRule, AsksAbort, NeedsAborts, NeedsAsked, NeedsGiven, NeedsSame}
 use Rattle.tx_core.specs.CommitRecordsExact.{CommitRecordsExact, HasNoRecord, IsExactIn, LeavesRecords, NeedsLinks}
 use Rattle.tx_core.specs.EngineInvariant.{EngineInvariant, MayAdd}
 use Rattle.tx_core.specs.Entries.{IsAppended, Mark, asks_in, event_of, events_in, history, session_of}
@@ -157,11 +157,12 @@ records_kept start seen lists lock e s = record {
 aborts_kept : (start : Start) (seen lists : List (List Entry)) (lock : ℕ) (e : Entry) → Step start seen lists lock e → AbortRule start (add lists lock e)
 aborts_kept start seen lists lock e s = record {
   closed = kept start seen lists lock e s (NeedsAborts start) (aborts_lasting start) s.k.aborts.closed s.may.aborts.closed;
+  given = kept start seen lists lock e s NeedsGiven given_lasting s.k.aborts.given s.may.aborts.given;
   asked = kept start seen lists lock e s NeedsAsked asked_lasting s.k.aborts.asked s.may.aborts.asked;
   final = kept start seen lists lock e s NeedsSame same_lasting s.k.aborts.final s.may.aborts.final;
   apart = λ session top subs id a c m.
       let rec : Rec = records.Commit top subs in
-      let asks = asks_cases lists lock e session id s.inside m in
+      let asks = asks_cases lists lock e session id states.Aborted s.inside m in
       ⊎_elim
       (λ (b : IsAppended lists session rec).
       ⊎_elim
@@ -173,7 +174,7 @@ aborts_kept start seen lists lock e s = record {
       asks)
       (λ (b : (lock ≡ log_lock) × (e.by.session ≡ session) × (e.kind ≡ kinds.Append rec)).
       ⊎_elim
-      (λ old. unasked_of start seen lock (at seen lock) e top subs s.may.aborts b.0 b.2 id c (own_asks e.by.session id seen lists s.knows (subst (λ z. AsksAbort lists z id) (sym b.1) old)))
+      (λ old. unasked_of start seen lock (at seen lock) e top subs s.may.aborts b.0 b.2 id c (own_asks e.by.session id states.Aborted seen lists s.knows (subst (λ z. AsksAbort lists z id) (sym b.1) old)))
       (λ new. append_asks e rec (record { caller = new.1; id = id; state = states.Aborted }) b.2 new.3)
       asks)
       (appended_cases lists lock e session rec s.inside a);

@@ -13,9 +13,9 @@ use Rattle.tx_core.specs.declared.entry.Start.{Start}
 use Rattle.tx_core.specs.declared.entry.State.{State}
 use Rattle.tx_core.proofs.Asking.{if_weaker}
 use Rattle.tx_core.proofs.Growing.{begins_filter_map, begins_flat_map, contains_begins, slice_get_begins}
-use Rattle.tx_core.specs.AbortRule.{AbortsOf, AskedOf, AsksAbort, NeedsAborts, NeedsAsked, NeedsSame}
+use Rattle.tx_core.specs.AbortRule.{AbortsOf, AskedOf, Asks, GivenOf, NeedsAborts, NeedsAsked, NeedsGiven, NeedsSame}
 use Rattle.tx_core.specs.CommitRecordsExact.{LinksOf, NeedsLinks}
-use Rattle.tx_core.specs.Entries.{IsAppended, IsFlushed, IsLinked, IsMarked, Stands, appended, event_of, events_in, history, links_in, marks, marks_in, records_of}
+use Rattle.tx_core.specs.Entries.{IsAppended, IsFlushed, IsLinked, IsMarked, Stands, appended, asks_in, event_of, events_in, history, links_in, marks, marks_in, records_of}
 use Rattle.tx_core.specs.EventsLegal.{NeedsOwn}
 use Rattle.notes.specs.Lists.{Begins, Grows, at}
 use Rattle.tx_core.specs.Lists.{IsLasting}
@@ -127,8 +127,8 @@ given_to_begins session h more b =
     let c : Begins (filter (is_of session) h) (filter (is_of session) more) = (filter (is_of session) b.0, sym (filter-append (is_of session) h b.0) ∙ ap (λ (t : List Event). filter (is_of session) t) b.1) in
     begins_filter_map given_by (filter (is_of session) h) (filter (is_of session) more) c
 
-asks_grows : (lists more : List (List Entry)) (session id : ℕ) → Grows lists more → AsksAbort lists session id → AsksAbort more session id
-asks_grows lists more session id g a = record {
+asks_grows : (lists more : List (List Entry)) (session id : ℕ) (state : State) → Grows lists more → Asks lists session id state → Asks more session id state
+asks_grows lists more session id state g a = record {
   lock = a.lock;
   entry = a.entry;
   stands = contains_begins (at lists a.lock) (at more a.lock) a.entry (g.begins a.lock) a.stands;
@@ -138,17 +138,20 @@ asks_grows lists more session id g a = record {
   asks = a.asks;
 }
 
-asked_stays : (lists more : List (List Entry)) (adder session id : ℕ) (state : State) → Grows lists more → AskedOf lists adder session id state → AskedOf more adder session id state
-asked_stays lists more adder session id states.Aborted g n = record {
-  given = contains_begins (given_to session (history lists)) (given_to session (history more)) id (given_to_begins session (history lists) (history more) (history_grows lists more g)) n.given;
-  asked = ⊎_elim inl (λ a. inr (asks_grows lists more session id g a)) n.asked;
+pub given_lasting : IsLasting NeedsGiven
+given_lasting = record {
+  stays = λ lists more lock before e g n.
+      all_weaker (λ mark. GivenOf lists mark) (λ mark. GivenOf more mark)
+      (λ mark h. contains_begins (given_to mark.caller.session (history lists)) (given_to mark.caller.session (history more)) mark.id (given_to_begins mark.caller.session (history lists) (history more) (history_grows lists more g)) h)
+      (asks_in e) n;
 }
-asked_stays lists more adder session id _ g n = tt
 
 pub asked_lasting : IsLasting NeedsAsked
 asked_lasting = record {
   stays = λ lists more lock before e g n.
-      all_weaker (λ mark. AskedOf lists e.by.session mark.caller.session mark.id mark.state) (λ mark. AskedOf more e.by.session mark.caller.session mark.id mark.state) (λ mark h. asked_stays lists more e.by.session mark.caller.session mark.id mark.state g h) (marks_in e) n;
+      all_weaker (λ mark. AskedOf lists e.by.session mark) (λ mark. AskedOf more e.by.session mark)
+      (λ mark h. ⊎_elim inl (λ a. inr (asks_grows lists more mark.caller.session mark.id mark.state g a)) h)
+      (marks_in e) n;
 }
 
 pub same_lasting : IsLasting NeedsSame

@@ -5,6 +5,7 @@ use Rattle.std.proofs.lemmas.List.Elements.{All-from_recursion}
 use Rattle.std.specs.List.{AllByRecursion, filter}
 use Rattle.tx_events.specs.declared.event.By.{By}
 use Rattle.tx_events.proofs.Membership.{Has, contains_has, all_at}
+use Rattle.tx_events.specs.Events.{given_to}
 use Rattle.tx_events.specs.Visible.{is_visible}
 use Rattle.tx_core.specs.declared.entry.Entry.{Entry}
 use Rattle.tx_core.specs.declared.entry.Kind.{Kind}
@@ -32,10 +33,12 @@ use Rattle.tx_core.specs.declared.entry.State.TheVariants as states
 abbrev pub start : Start
 start = record {
   banks = 1;
+  sessions = 2;
   from = 1;
   base = record { next = 3; oldest = 3; multi = 1; offset = 1; oldest_multi = 1; oldest_offset = 1 };
   committed = [];
   recorded = [];
+  logged = [];
 }
 
 abbrev pub by : ℕ → ℕ → By
@@ -161,6 +164,7 @@ after_states =
       lock = only_three (λ id. xact_lock_of start id ≡ xact_lock 0) refl;
       made = only_three (λ id. WasMade (at three (xact_lock 0)) (xact_page start.base.next) (xact_page id)) (inl refl);
     })
+    (only_three (λ id. Contains (given_to 0 (history three)) id) (0, omega arith, refl))
     (only_three (λ id. IsDurable start three 0 id) durable)
     (only_three (λ id. InTree start three 0 id) in_tree)
     (λ id old c j q. absurd (contains_has [] old j))

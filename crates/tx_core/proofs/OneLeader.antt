@@ -8,7 +8,7 @@ use Rattle.tx_core.specs.declared.entry.Entry.{Entry}
 use Rattle.tx_core.proofs.ChangeLaws.{changes_law, request_law}
 use Rattle.tx_core.proofs.EventLaws.{abort_event_law}
 use Rattle.tx_core.proofs.OneCommit.{after_id, by, entry, given_id, one, sees_all, start, turns}
-use Rattle.tx_core.specs.AbortRule.{AskUnrecorded, AsksAbort}
+use Rattle.tx_core.specs.AbortRule.{AskUnrecorded, AsksAbort, GivenOf}
 use Rattle.tx_core.specs.EngineInvariant.{EngineInvariant}
 use Rattle.tx_core.specs.Entries.{IsAppended, IsMarked, Mark}
 use Rattle.tx_core.specs.Laws.{MayChange, MayMark, all_set, marks_of}
@@ -42,7 +42,7 @@ no_records n top subs lists none a = subst (λ (t : List Entry). Has t (record {
 
 after_request : EngineInvariant start asked
 after_request =
-    request_law start one 7 (by 0 3) change (omega arith) (only_mark (λ m. AskUnrecorded one 0 m.caller.session m.id m.state) (λ q top subs a c. no_records 0 top subs one refl a))
+    request_law start one 7 (by 0 3) change (omega arith) (only_mark (GivenOf one) (0, omega arith, refl)) (only_mark (λ m. AskUnrecorded one 0 m.caller.session m.id m.state) (λ q top subs a c. no_records 0 top subs one refl a))
     one after_id (sees_all 0 one) (omega arith) refl (turns (by 0 3) [] tt)
 
 asked_abort : AsksAbort asked 0 3
@@ -55,7 +55,8 @@ led_change = record {
     page = inl refl;
     durable = tt;
     tree = tt;
-    asked = record { given = (0, omega arith, refl); asked = inr asked_abort };
+    given = (0, omega arith, refl);
+    asked = inr asked_abort;
     unrecorded = λ q top subs a c. no_records 1 top subs asked refl a;
     final = λ old j q. absurd (contains_has [] old j);
   });

@@ -11,7 +11,7 @@ use Rattle.tx_core.specs.declared.entry.Entry.{Entry}
 use Rattle.tx_core.specs.declared.entry.Kind.{Kind}
 use Rattle.tx_core.specs.declared.entry.Start.{Start}
 use Rattle.tx_core.proofs.Keeping.{keeps}
-use Rattle.tx_core.specs.AbortRule.{AbortsOf, AskUnrecorded, AskedOf, IsSameAfter, RecordUnasked}
+use Rattle.tx_core.specs.AbortRule.{AbortsOf, AskUnrecorded, AskedOf, GivenOf, IsSameAfter, RecordUnasked}
 use Rattle.tx_core.specs.CommitRecordsExact.{LeavesRecords, LinksOf, RecordMay}
 use Rattle.tx_core.specs.Entries.{EachMark, Link, Mark, asked_in, changes_in, event_in, events_in, history, link_of, mark_of}
 use Rattle.tx_core.specs.Laws.{CutKeeps, FlushKeeps, ForgetKeeps, KindKeeps, LogFaultKeeps, LookKeeps, MultiEventKeeps, OtherRecordKeeps, SyncKeeps, ZeroKeeps, is_commit_record}
@@ -107,7 +107,8 @@ quiet_keeps start seen lock by kind q stands lists k knows inside whole turn =
       commits = quiet_states start seen kind q;
       aborts = record {
         closed = quiet_closed start seen (events_in before) kind q;
-        asked = quiet_marks (λ mark. AskedOf seen by.session mark.caller.session mark.id mark.state) kind q;
+        given = quiet_asks (λ mark. GivenOf seen mark) kind q;
+        asked = quiet_marks (λ mark. AskedOf seen by.session mark) kind q;
         unasked = λ here. quiet_unasked seen by.session kind q;
         unrecorded = quiet_asks (λ mark. AskUnrecorded seen by.session mark.caller.session mark.id mark.state) kind q;
         final = record {

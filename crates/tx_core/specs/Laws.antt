@@ -16,7 +16,7 @@ use Rattle.tx_core.specs.declared.entry.Kind.{Kind}
 use Rattle.tx_core.specs.declared.entry.LogCall.{LogCall}
 use Rattle.tx_core.specs.declared.entry.Start.{Start}
 use Rattle.tx_core.specs.declared.entry.State.{State}
-use Rattle.tx_core.specs.AbortRule.{AskUnrecorded, AskedOf, AsksAbort, IsSameAfter}
+use Rattle.tx_core.specs.AbortRule.{AskUnrecorded, AskedOf, Asks, AsksAbort, GivenOf, IsSameAfter}
 use Rattle.tx_core.specs.CommitRecordsExact.{HasNoRecord}
 use Rattle.tx_core.specs.EngineInvariant.{EngineInvariant, MayAdd}
 use Rattle.tx_core.specs.Entries.{IsAppended, IsLinked, IsMarked, Link, Mark, history, link_of, mark_of, marks, session_of}
@@ -133,13 +133,15 @@ abbrev pub MultiEventKeeps : Type 0
 MultiEventKeeps = (start : Start) (seen : List (List Entry)) (by : By) (event : MultiEvent) → KindKeeps start seen multi_lock by (kinds.Multi event)
 
 -- The banks. What each state needs: its page was made; a committed or sub-committed one has its commit record on disk; a
--- committed one keeps to the order of pages; an aborted one was asked for by the session that was given the id, and that
--- session, where it is the one that sets it, has no commit record of it; no other final state was set before.
+-- committed one keeps to the order of pages; the session for which it is set was given the id, and sets it or asked for
+-- it; where that is aborted, the session that sets it for itself has no commit record of it; no other final state was set
+-- before.
 pub record MayMark (start : Start) (seen : List (List Entry)) (before : List Entry) (session : ℕ) (mark : Mark) : Type 0 where
   pub page : WasMade before (xact_page start.base.next) (xact_page mark.id)
   pub durable : RecordOf start seen mark.caller.session mark.id mark.state
   pub tree : TreeOf start seen mark.caller.session mark.id mark.state
-  pub asked : AskedOf seen session mark.caller.session mark.id mark.state
+  pub given : GivenOf seen mark
+  pub asked : AskedOf seen session mark
   pub unrecorded : AskUnrecorded seen session mark.caller.session mark.id mark.state
   pub final : IsSameAfter before mark
 
@@ -179,10 +181,12 @@ CutKeeps = (start : Start) (seen : List (List Entry)) (lock : ℕ) (by : By) (pa
 abbrev pub SyncKeeps : Type 0
 SyncKeeps = (start : Start) (seen : List (List Entry)) (lock : ℕ) (by : By) → IsPageLock start lock → KindKeeps start seen lock by kinds.Sync
 
--- a session that asks another one for a change to aborted has no commit record of the id
+-- each id was given to the session for which it is asked; a session that asks another one for a change to aborted has no
+-- commit record of the id
 abbrev pub RequestKeeps : Type 0
 RequestKeeps = (start : Start) (seen : List (List Entry)) (lock : ℕ) (by : By) (changes : List Change) →
     3 + 4 * start.banks ≤ lock
+    → ((mark : Mark) → Contains (marks_of changes) mark → GivenOf seen mark)
     → ((mark : Mark) → Contains (marks_of changes) mark → AskUnrecorded seen by.session mark.caller.session mark.id mark.state)
     → KindKeeps start seen lock by (kinds.Request changes)
 
@@ -207,6 +211,7 @@ IsOnly start seen bank ids state = (id : ℕ) (old : Mark) → Contains ids id �
 abbrev pub CommittedKeeps : Type 0
 CommittedKeeps = (start : Start) (seen : List (List Entry)) (bank : ℕ) (by : By) (ids : List ℕ) →
     AreThere start seen bank ids
+    → ((id : ℕ) → Contains ids id → Contains (given_to by.session (history seen)) id)
     → ((id : ℕ) → Contains ids id → IsDurable start seen by.session id)
     → ((id : ℕ) → Contains ids id → InTree start seen by.session id)
     → IsOnly start seen bank ids states.Committed
@@ -215,6 +220,7 @@ CommittedKeeps = (start : Start) (seen : List (List Entry)) (bank : ℕ) (by : B
 abbrev pub SubCommittedKeeps : Type 0
 SubCommittedKeeps = (start : Start) (seen : List (List Entry)) (bank : ℕ) (by : By) (ids : List ℕ) →
     AreThere start seen bank ids
+    → ((id : ℕ) → Contains ids id → Contains (given_to by.session (history seen)) id)
     → ((id : ℕ) → Contains ids id → IsDurable start seen by.session id)
     → IsOnly start seen bank ids states.SubCommitted
     → KindKeeps start seen (xact_lock bank) by (kinds.Set (all_set by states.SubCommitted ids))
@@ -240,6 +246,17 @@ ParentKeeps = (start : Start) (seen : List (List Entry)) (bank : ℕ) (by : By) 
 abbrev pub NeverAborted : Type 0
 NeverAborted = (start : Start) (lists : List (List Entry)) (session top : ℕ) (subs : List ℕ) (id : ℕ) →
     EngineInvariant start lists → IsAppended lists session (records.Commit top subs) → Contains (top ∷ subs) id → IsMarked start lists id states.Aborted → ⊥
+
+-- an id of a commit record that was set committed, by whatever session, was asked to be so by the record's session
+abbrev pub CommittedAsked : Type 0
+CommittedAsked = (start : Start) (lists : List (List Entry)) (session top : ℕ) (subs : List ℕ) (id : ℕ) →
+    EngineInvariant start lists → IsAppended lists session (records.Commit top subs) → Contains (top ∷ subs) id → IsMarked start lists id states.Committed
+    → Asks lists session id states.Committed
+
+-- a session asks for a state only of what it was given
+abbrev pub AskedGiven : Type 0
+AskedGiven = (start : Start) (lists : List (List Entry)) (session id : ℕ) (state : State) →
+    EngineInvariant start lists → Asks lists session id state → Contains (given_to session (history lists)) id
 
 -- the oldest xmin never falls
 abbrev pub HorizonRises : Type 0

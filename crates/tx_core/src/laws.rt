@@ -1,4 +1,4 @@
-ghost use Rattle.tx_core.specs.Laws.{Keeps, Opens, CommitRecordKeeps, OtherRecordKeeps, FlushKeeps, ForgetKeeps, LogFaultKeeps, IdEventKeeps, SubEventKeeps, UndoEventKeeps, CommitEventKeeps, AbortEventKeeps, SnapEventKeeps, SnapDropKeeps, OldestKeeps, AskKeeps, MadeKeeps, MultiEventKeeps, ChangesKeep, CommittedKeeps, SubCommittedKeeps, AbortedKeeps, ParentKeeps, ZeroKeeps, CutKeeps, SyncKeeps, FaultKeeps, RequestKeeps, LookKeeps, NeverAborted, HorizonRises, SnapshotsHold};
+ghost use Rattle.tx_core.specs.Laws.{Keeps, Opens, CommitRecordKeeps, OtherRecordKeeps, FlushKeeps, ForgetKeeps, LogFaultKeeps, IdEventKeeps, SubEventKeeps, UndoEventKeeps, CommitEventKeeps, AbortEventKeeps, SnapEventKeeps, SnapDropKeeps, OldestKeeps, AskKeeps, MadeKeeps, MultiEventKeeps, ChangesKeep, CommittedKeeps, SubCommittedKeeps, AbortedKeeps, ParentKeeps, ZeroKeeps, CutKeeps, SyncKeeps, FaultKeeps, RequestKeeps, LookKeeps, NeverAborted, CommittedAsked, AskedGiven, HorizonRises, SnapshotsHold};
 ghost use Rattle.tx_core.specs.Pages.{PagesShow, ParentsShow};
 ghost use Rattle.tx_core.specs.Verdict.{Decides};
 
@@ -151,6 +151,16 @@ pub fn look()
 /// What a commit record names is never set aborted.
 pub fn never_aborted()
     ensures { NeverAborted }
+{}
+
+/// An id of a commit record is set committed only where the record's session sets it, or asked for it.
+pub fn committed_asked()
+    ensures { CommittedAsked }
+{}
+
+/// A session sets or asks for states only of ids that it was given.
+pub fn asked_given()
+    ensures { AskedGiven }
 {}
 
 /// A snapshot, with the state and the parents read later, decides whether an id is visible at the snapshot.

@@ -17,7 +17,7 @@ use Rattle.tx_core.specs.declared.entry.Start.{Start}
 use Rattle.tx_core.proofs.Asking.{all_has, append_asks, has_all, ids_of_record, leaves_of, own_event, rule_of, states_of, unasked_of, unrecorded_of, upheld_has}
 use Rattle.tx_core.proofs.Exactness.{Leaves, exact_push}
 use Rattle.tx_core.proofs.Growing.{upheld_add}
-use Rattle.tx_core.proofs.Lasting.{aborts_lasting, asked_lasting, given_lasting, links_lasting, logged_lasting, own_lasting, pages_lasting, places_lasting, same_lasting, stand_lasting, states_lasting, subs_lasting, tree_lasting, turns_lasting}
+use Rattle.tx_core.proofs.Lasting.{aborts_lasting, asked_lasting, flush_lasting, given_lasting, links_lasting, named_lasting, logged_lasting, own_lasting, pages_lasting, places_lasting, same_lasting, stand_lasting, states_lasting, subs_lasting, tree_lasting, turns_lasting, zero_lasting}
 use Rattle.tx_core.proofs.Stepping.{appended_cases, asks_cases, history_at, history_off, open_seen, own_appended, own_asks, root_seen}
 use Rattle.tx_core.specs.AbortRule.{AbortRule, AsksAbort, NeedsAborts, NeedsAsked, NeedsGiven, NeedsSame}
 use Rattle.tx_core.specs.CommitRecordsExact.{CommitRecordsExact, HasNoRecord, IsExactIn, LeavesRecords, NeedsLinks}
@@ -28,9 +28,10 @@ use Rattle.notes.specs.Lists.{Knows, add, at, own}
 use Rattle.tx_core.specs.Lists.{IsLasting, Upheld}
 use Rattle.tx_core.specs.Locks.{log_lock, proc_lock}
 use Rattle.tx_core.specs.LogBeforeStatus.{LogBeforeStatus, NeedsRecords, NeedsTree}
-use Rattle.tx_core.specs.PagesBeforeIds.{NeedsPages, NeedsPlace, PagesBeforeIds}
+use Rattle.tx_core.specs.PagesBeforeIds.{NeedsPages, NeedsPlace, NeedsZero, PagesBeforeIds}
 use Rattle.tx_core.specs.ParentsFollow.{NeedsSubs}
 use Rattle.tx_core.specs.ProgramOrder.{IsInTurn, NeedsStand, NeedsTurn, ProgramOrder}
+use Rattle.tx_core.specs.RecordsFollow.{NeedsFlush, NeedsNamed, RecordsFollow}
 use Rattle.tx_core.specs.StatusBeforeCommit.{NeedsStates}
 use Rattle.tx_events.specs.declared.event.Event.TheVariants as events
 use Rattle.tx_core.specs.declared.entry.Kind.TheVariants as kinds
@@ -93,6 +94,7 @@ pages_kept : (start : Start) (seen lists : List (List Entry)) (lock : ℕ) (e : 
 pages_kept start seen lists lock e s = record {
   ids = kept start seen lists lock e s (NeedsPages start) (pages_lasting start) s.k.pages.ids s.may.pages.ids;
   changes = kept start seen lists lock e s (NeedsPlace start) (places_lasting start) s.k.pages.changes s.may.pages.changes;
+  made = kept start seen lists lock e s (NeedsZero start) (zero_lasting start) s.k.pages.made s.may.pages.made;
 }
 
 status_kept : (start : Start) (seen lists : List (List Entry)) (lock : ℕ) (e : Entry) → Step start seen lists lock e → LogBeforeStatus start (add lists lock e)
@@ -105,6 +107,12 @@ order_kept : (start : Start) (seen lists : List (List Entry)) (lock : ℕ) (e : 
 order_kept start seen lists lock e s = record {
   turns = kept start seen lists lock e s NeedsTurn turns_lasting s.k.order.turns s.may.order.turn;
   stand = kept start seen lists lock e s (NeedsStand start) (stand_lasting start) s.k.order.stand s.may.order.stands;
+}
+
+log_kept : (start : Start) (seen lists : List (List Entry)) (lock : ℕ) (e : Entry) → Step start seen lists lock e → RecordsFollow start (add lists lock e)
+log_kept start seen lists lock e s = record {
+  named = kept start seen lists lock e s (NeedsNamed start) (named_lasting start) s.k.log.named s.may.log.named;
+  flushed = kept start seen lists lock e s (NeedsFlush start) (flush_lasting start) s.k.log.flushed s.may.log.flushed;
 }
 
 no_record : (start : Start) (seen lists : List (List Entry)) (lock : ℕ) (e : Entry) (by : By) (session top : ℕ) (subs : List ℕ) → Step start seen lists lock e → by ≡ e.by → by.session ≡ session
@@ -192,4 +200,5 @@ keeps start lists seen lock e k knows inside whole may =
       commits = record { each = kept start seen lists lock e s (NeedsStates start) (states_lasting start) k.commits.each may.commits };
       aborts = aborts_kept start seen lists lock e s;
       order = order_kept start seen lists lock e s;
+      log = log_kept start seen lists lock e s;
     }

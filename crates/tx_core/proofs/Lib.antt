@@ -1,5 +1,6 @@
 pub mod Growing
 pub mod Asking
+pub mod Rising
 pub mod Lasting
 pub mod Exactness
 pub mod Stepping

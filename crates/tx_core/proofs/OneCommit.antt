@@ -138,7 +138,7 @@ after_record =
     one after_id (sees_all 0 one) (omega arith) refl (turns (by 0 3) [] tt)
 
 after_flush : EngineInvariant start three
-after_flush = flush_law start two (by 0 3) 2 two after_record (sees_all 0 two) (omega arith) refl (turns (by 0 3) (logged ∷ []) (omega arith, tt))
+after_flush = flush_law start two (by 0 3) 2 (omega arith) two after_record (sees_all 0 two) (omega arith) refl (turns (by 0 3) (logged ∷ []) (omega arith, tt))
 
 only_three : (P : ℕ → Type 0) → P 3 → (id : ℕ) → Contains (3 ∷ []) id → P id
 only_three P p id c = ⊎_elim (λ (q : 3 ≡ id). subst P q p) (λ z. absurd z) (contains_has (3 ∷ []) id c)

@@ -62,6 +62,8 @@ led_change = record {
   });
   alike = λ m other c d q. only_mark (λ n. other.state ≡ n.state) (only_mark (λ n. n.state ≡ states.Aborted) refl other d) m c;
   links = λ link c. absurd (contains_has [] link c);
+  offsets = λ set c. absurd (contains_has [] set c);
+  slots = λ slot c. absurd (contains_has [] slot c);
 }
 
 after_leader : EngineInvariant start done

@@ -22,9 +22,10 @@ use Rattle.notes.specs.Lists.{at}
 use Rattle.tx_core.specs.Lists.{Upheld}
 use Rattle.tx_core.specs.Locks.{log_lock, proc_lock, xact_lock_of}
 use Rattle.tx_core.specs.LogBeforeStatus.{NeedsRecords, NeedsTree}
-use Rattle.tx_core.specs.PagesBeforeIds.{NeedsPages, NeedsPlace}
+use Rattle.tx_core.specs.PagesBeforeIds.{NeedsPages, NeedsPlace, NeedsZero}
 use Rattle.tx_core.specs.ParentsFollow.{NeedsSubs}
 use Rattle.tx_core.specs.ProgramOrder.{NeedsStand, NeedsTurn}
+use Rattle.tx_core.specs.RecordsFollow.{NeedsFlush, NeedsNamed}
 use Rattle.tx_core.specs.StatusBeforeCommit.{NeedsStates}
 use Rattle.tx_core.specs.declared.entry.Kind.TheVariants as kinds
 use Rattle.tx_events.specs.declared.record.Rec.TheVariants as records
@@ -39,7 +40,7 @@ opens start lists empty =
     let no : (e : Entry) → Contains (at lists log_lock) e → ⊥ = λ e c. subst (λ (t : List Entry). Has t e) (empty log_lock) (contains_has (at lists log_lock) e c) in
     record {
       events = record { legal = subst (IsLegal start.base) (sym none) (record { rules = each_place_none (MayCome start.base); turns = each_place_none ComesInTurn }); own = nothing_upheld NeedsOwn lists empty };
-      pages = record { ids = nothing_upheld (NeedsPages start) lists empty; changes = nothing_upheld (NeedsPlace start) lists empty };
+      pages = record { ids = nothing_upheld (NeedsPages start) lists empty; changes = nothing_upheld (NeedsPlace start) lists empty; made = nothing_upheld (NeedsZero start) lists empty };
       parents = record { each = nothing_upheld NeedsSubs lists empty };
       records = record { exact = λ session top subs a. absurd (no (record { by = a.0; kind = kinds.Append (records.Commit top subs) }) a.2); parents = nothing_upheld (NeedsLinks start) lists empty };
       status = record { logged = nothing_upheld (NeedsRecords start) lists empty; tree = nothing_upheld (NeedsTree start) lists empty };
@@ -52,6 +53,7 @@ opens start lists empty =
         final = nothing_upheld NeedsSame lists empty;
       };
       order = record { turns = nothing_upheld NeedsTurn lists empty; stand = nothing_upheld (NeedsStand start) lists empty };
+      log = record { named = nothing_upheld (NeedsNamed start) lists empty; flushed = nothing_upheld (NeedsFlush start) lists empty };
     }
 
 pub asked_given : AskedGiven

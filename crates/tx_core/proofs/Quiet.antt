@@ -16,9 +16,11 @@ use Rattle.tx_core.specs.CommitRecordsExact.{LeavesRecords, LinksOf, RecordMay}
 use Rattle.tx_core.specs.Entries.{EachMark, Link, Mark, asked_in, changes_in, event_in, events_in, history, link_of, mark_of}
 use Rattle.tx_core.specs.Laws.{CutKeeps, FlushKeeps, ForgetKeeps, KindKeeps, LogFaultKeeps, LookKeeps, MultiEventKeeps, OtherRecordKeeps, SyncKeeps, ZeroKeeps, is_commit_record}
 use Rattle.notes.specs.Lists.{at}
-use Rattle.tx_core.specs.Locks.{log_lock, multi_lock, subtrans_page, xact_page}
+use Rattle.tx_core.specs.Locks.{log_lock, member_page_in_full, multi_lock, offset_page, subtrans_page, xact_page}
 use Rattle.tx_core.specs.LogBeforeStatus.{RecordOf, TreeOf}
-use Rattle.tx_core.specs.PagesBeforeIds.{PagesOf, WasMade}
+use Rattle.tx_core.specs.PagesBeforeIds.{PagesOf, WasMade, ZeroOf}
+use Rattle.tx_core.specs.MultiEntries.{SetOffset, SetSlot, offset_of, slot_of}
+use Rattle.tx_core.specs.RecordsFollow.{FlushOf, NamedOf}
 use Rattle.tx_core.specs.ParentsFollow.{IsGivenBelow}
 use Rattle.tx_core.specs.ProgramOrder.{MayStand}
 use Rattle.tx_core.specs.StatusBeforeCommit.{StatesOf}
@@ -55,6 +57,16 @@ quiet_links P (kinds.Set changes) q = absurd cc
 quiet_links P (kinds.Fault callers changes cut count) q = absurd cc
 quiet_links P _ q = tt
 
+quiet_offsets : (P : SetOffset → Type 0) (kind : Kind) → is_quiet kind ≡ true → AllByRecursion P (filter_map offset_of (changes_in kind))
+quiet_offsets P (kinds.Set changes) q = absurd cc
+quiet_offsets P (kinds.Fault callers changes cut count) q = absurd cc
+quiet_offsets P _ q = tt
+
+quiet_slots : (P : SetSlot → Type 0) (kind : Kind) → is_quiet kind ≡ true → AllByRecursion P (filter_map slot_of (changes_in kind))
+quiet_slots P (kinds.Set changes) q = absurd cc
+quiet_slots P (kinds.Fault callers changes cut count) q = absurd cc
+quiet_slots P _ q = tt
+
 quiet_pages : (start : Start) (lists : List (List Entry)) (before : List Entry) (kind : Kind) → is_quiet kind ≡ true → PagesOf start lists before kind
 quiet_pages start lists before (kinds.Event event) q = absurd cc
 quiet_pages start lists before (kinds.Made id) q = absurd cc
@@ -80,9 +92,15 @@ quiet_closed : (start : Start) (lists : List (List Entry)) (before : List Event)
 quiet_closed start lists before (kinds.Event event) q = absurd cc
 quiet_closed start lists before _ q = tt
 
--- so its turn, and that it may stand there, are all that it needs
-pub quiet_keeps : (start : Start) (seen : List (List Entry)) (lock : ℕ) (by : By) (kind : Kind) → is_quiet kind ≡ true → MayStand start lock by kind → KindKeeps start seen lock by kind
-quiet_keeps start seen lock by kind q stands lists k knows inside whole turn =
+-- what the parts ask that speak of the log and of the pages themselves
+pub record HasNeeds (start : Start) (seen : List (List Entry)) (lock : ℕ) (by : By) (kind : Kind) : Type 0 where
+  pub made : ZeroOf start seen lock kind
+  pub named : NamedOf start seen by kind
+  pub flushed : FlushOf start (at seen lock) kind
+
+-- so its turn, that it may stand there, and these needs are all that it needs
+pub quiet_keeps : (start : Start) (seen : List (List Entry)) (lock : ℕ) (by : By) (kind : Kind) → is_quiet kind ≡ true → MayStand start lock by kind → HasNeeds start seen lock by kind → KindKeeps start seen lock by kind
+quiet_keeps start seen lock by kind q stands needs lists k knows inside whole turn =
     let e : Entry = record { by = by; kind = kind } in
     let before : List Entry = at seen lock in
     keeps start lists seen lock e k knows inside whole (record {
@@ -92,7 +110,10 @@ quiet_keeps start seen lock by kind q stands lists k knows inside whole turn =
         changes = record {
           marks = quiet_marks (λ mark. WasMade before (xact_page start.base.next) (xact_page mark.id)) kind q;
           links = quiet_links (λ link. WasMade before (subtrans_page start.base.next) (subtrans_page link.id)) kind q;
+          offsets = quiet_offsets (λ set. WasMade before (offset_page start.base.multi) (offset_page set.multi)) kind q;
+          slots = quiet_slots (λ slot. WasMade before (member_page_in_full start.base.offset) (member_page_in_full slot.offset)) kind q;
         };
+        made = needs.made;
       };
       parents = quiet_links (λ link. IsGivenBelow seen link.caller.session link.parent link.id) kind q;
       records = record {
@@ -117,35 +138,49 @@ quiet_keeps start seen lock by kind q stands lists k knows inside whole turn =
         };
       };
       order = record { turn = turn; stands = stands };
+      log = record { named = needs.named; flushed = needs.flushed };
     })
 
 quiet_rec : (rec : Rec) → is_commit_record rec ≡ false → is_quiet (kinds.Append rec) ≡ true
 quiet_rec (records.Commit top subs) q = absurd cc
 quiet_rec _ q = refl
 
+-- the kinds that those parts don't name
+abbrev is_plain : Kind → Bool
+is_plain (kinds.Append rec) = false
+is_plain (kinds.Flush to) = false
+is_plain (kinds.Zero page) = false
+is_plain _ = true
+
+none : (start : Start) (seen : List (List Entry)) (lock : ℕ) (by : By) (kind : Kind) → is_plain kind ≡ true → HasNeeds start seen lock by kind
+none start seen lock by (kinds.Append rec) q = absurd cc
+none start seen lock by (kinds.Flush to) q = absurd cc
+none start seen lock by (kinds.Zero page) q = absurd cc
+none start seen lock by _ q = record { made = tt; named = tt; flushed = tt }
+
 pub other_record_law : OtherRecordKeeps
-other_record_law start seen by rec other = quiet_keeps start seen log_lock by (kinds.Append rec) (quiet_rec rec other) refl
+other_record_law start seen by rec other ids = quiet_keeps start seen log_lock by (kinds.Append rec) (quiet_rec rec other) refl (record { made = tt; named = ids; flushed = tt })
 
 pub flush_law : FlushKeeps
-flush_law start seen by to = quiet_keeps start seen log_lock by (kinds.Flush to) refl refl
+flush_law start seen by to within = quiet_keeps start seen log_lock by (kinds.Flush to) refl refl (record { made = tt; named = tt; flushed = within })
 
 pub forget_law : ForgetKeeps
-forget_law start seen by number = quiet_keeps start seen log_lock by (kinds.Forget number) refl refl
+forget_law start seen by number = quiet_keeps start seen log_lock by (kinds.Forget number) refl refl (none start seen log_lock by (kinds.Forget number) refl)
 
 pub log_fault_law : LogFaultKeeps
-log_fault_law start seen by asked count = quiet_keeps start seen log_lock by (kinds.LogFault asked count) refl refl
+log_fault_law start seen by asked count = quiet_keeps start seen log_lock by (kinds.LogFault asked count) refl refl (none start seen log_lock by (kinds.LogFault asked count) refl)
 
 pub multi_event_law : MultiEventKeeps
-multi_event_law start seen by event = quiet_keeps start seen multi_lock by (kinds.Multi event) refl refl
+multi_event_law start seen by event = quiet_keeps start seen multi_lock by (kinds.Multi event) refl refl (none start seen multi_lock by (kinds.Multi event) refl)
 
 pub zero_law : ZeroKeeps
-zero_law start seen lock by page on = quiet_keeps start seen lock by (kinds.Zero page) refl on
+zero_law start seen lock by page on wanted = quiet_keeps start seen lock by (kinds.Zero page) refl on (record { made = wanted; named = tt; flushed = tt })
 
 pub cut_law : CutKeeps
-cut_law start seen lock by page on = quiet_keeps start seen lock by (kinds.Cut page) refl on
+cut_law start seen lock by page on = quiet_keeps start seen lock by (kinds.Cut page) refl on (none start seen lock by (kinds.Cut page) refl)
 
 pub sync_law : SyncKeeps
-sync_law start seen lock by on = quiet_keeps start seen lock by kinds.Sync refl on
+sync_law start seen lock by on = quiet_keeps start seen lock by kinds.Sync refl on (none start seen lock by kinds.Sync refl)
 
 pub look_law : LookKeeps
-look_law start seen lock by = quiet_keeps start seen lock by kinds.Look refl tt
+look_law start seen lock by = quiet_keeps start seen lock by kinds.Look refl tt (none start seen lock by kinds.Look refl)

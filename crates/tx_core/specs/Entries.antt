@@ -115,8 +115,11 @@ appended_in by _ = None
 abbrev pub appended : Entry → Option (By × Rec)
 appended e = appended_in e.by e.kind
 
+abbrev pub records_in : List Entry → List (By × Rec)
+records_in es = filter_map appended es
+
 abbrev pub records_of : List (List Entry) → List (By × Rec)
-records_of lists = filter_map appended (at lists log_lock)
+records_of lists = records_in (at lists log_lock)
 
 -- a session appended this record, and its number is below that of a flush
 abbrev pub IsFlushed : Start → List (List Entry) → ℕ → Rec → Type 0

@@ -19,13 +19,15 @@ use Rattle.tx_core.specs.declared.entry.State.{State}
 use Rattle.tx_core.specs.AbortRule.{AskUnrecorded, AskedOf, Asks, AsksAbort, GivenOf, IsSameAfter}
 use Rattle.tx_core.specs.CommitRecordsExact.{HasNoRecord}
 use Rattle.tx_core.specs.EngineInvariant.{EngineInvariant, MayAdd}
-use Rattle.tx_core.specs.Entries.{IsAppended, IsLinked, IsMarked, Link, Mark, history, link_of, mark_of, marks, session_of}
+use Rattle.tx_core.specs.Entries.{IsAppended, IsLinked, IsMarked, Link, Mark, history, link_of, mark_of, marks, records_of, session_of}
+use Rattle.tx_core.specs.MultiEntries.{SetOffset, SetSlot, offset_of, slot_of}
 use Rattle.notes.specs.Lists.{Grows, Knows, add, at}
-use Rattle.tx_core.specs.Locks.{IsPageLock, log_lock, multi_lock, proc_lock, subtrans_lock, subtrans_lock_of, subtrans_page, xact_lock, xact_lock_of, xact_page}
+use Rattle.tx_core.specs.Locks.{IsPageLock, log_lock, member_page_in_full, offset_page, multi_lock, proc_lock, subtrans_lock, subtrans_lock_of, subtrans_page, xact_lock, xact_lock_of, xact_page}
 use Rattle.tx_core.specs.LogBeforeStatus.{InTree, IsDurable, RecordOf, TreeOf}
-use Rattle.tx_core.specs.PagesBeforeIds.{IsMade, IsTold, WasMade}
+use Rattle.tx_core.specs.PagesBeforeIds.{IsMade, IsTold, IsWanted, WasMade}
 use Rattle.tx_core.specs.ParentsFollow.{IsGivenBelow}
 use Rattle.tx_core.specs.ProgramOrder.{AreCallers, AreOn, IsInTurn}
+use Rattle.tx_core.specs.RecordsFollow.{IdsOf}
 use Rattle.tx_core.specs.declared.entry.Change.TheVariants as changes
 use Rattle.tx_events.specs.declared.event.Event.TheVariants as events
 use Rattle.tx_core.specs.declared.entry.Kind.TheVariants as kinds
@@ -63,12 +65,14 @@ abbrev pub is_commit_record : Rec → Bool
 is_commit_record (records.Commit top subs) = true
 is_commit_record _ = false
 
--- the other records need nothing yet
+-- another record names ids that were given
 abbrev pub OtherRecordKeeps : Type 0
-OtherRecordKeeps = (start : Start) (seen : List (List Entry)) (by : By) (rec : Rec) → is_commit_record rec ≡ false → KindKeeps start seen log_lock by (kinds.Append rec)
+OtherRecordKeeps = (start : Start) (seen : List (List Entry)) (by : By) (rec : Rec) →
+    is_commit_record rec ≡ false → IdsOf start seen by rec → KindKeeps start seen log_lock by (kinds.Append rec)
 
+-- a flush is of records that stand
 abbrev pub FlushKeeps : Type 0
-FlushKeeps = (start : Start) (seen : List (List Entry)) (by : By) (to : ℕ) → KindKeeps start seen log_lock by (kinds.Flush to)
+FlushKeeps = (start : Start) (seen : List (List Entry)) (by : By) (to : ℕ) → to ≤ start.from + length (records_of seen) → KindKeeps start seen log_lock by (kinds.Flush to)
 
 abbrev pub ForgetKeeps : Type 0
 ForgetKeeps = (start : Start) (seen : List (List Entry)) (by : By) (number : ℕ) → KindKeeps start seen log_lock by (kinds.Forget number)
@@ -150,11 +154,24 @@ pub record MayLink (start : Start) (seen : List (List Entry)) (before : List Ent
   pub page : WasMade before (subtrans_page start.base.next) (subtrans_page link.id)
   pub sub : IsGivenBelow seen link.caller.session link.parent link.id
 
+-- each offset and each member: its page was made
+pub record MaySetOffset (start : Start) (seen : List (List Entry)) (before : List Entry) (set : SetOffset) : Type 0 where
+  pub page : WasMade before (offset_page start.base.multi) (offset_page set.multi)
+
+pub record MaySetSlot (start : Start) (seen : List (List Entry)) (before : List Entry) (slot : SetSlot) : Type 0 where
+  pub page : WasMade before (member_page_in_full start.base.offset) (member_page_in_full slot.offset)
+
 abbrev pub marks_of : List Change → List Mark
 marks_of changes = filter_map mark_of changes
 
 abbrev pub links_of : List Change → List Link
 links_of changes = filter_map link_of changes
+
+abbrev pub offsets_of : List Change → List SetOffset
+offsets_of changes = filter_map offset_of changes
+
+abbrev pub slots_of : List Change → List SetSlot
+slots_of changes = filter_map slot_of changes
 
 -- what a critical section of a bank may change, for its own session and for others
 pub record MayChange (start : Start) (seen : List (List Entry)) (lock session : ℕ) (changes : List Change) : Type 0 where
@@ -162,6 +179,8 @@ pub record MayChange (start : Start) (seen : List (List Entry)) (lock session : 
   pub marks : (mark : Mark) → Contains (marks_of changes) mark → MayMark start seen (at seen lock) session mark
   pub alike : (mark other : Mark) → Contains (marks_of changes) mark → Contains (marks_of changes) other → other.id ≡ mark.id → other.state ≡ mark.state
   pub links : (link : Link) → Contains (links_of changes) link → MayLink start seen (at seen lock) link
+  pub offsets : (set : SetOffset) → Contains (offsets_of changes) set → MaySetOffset start seen (at seen lock) set
+  pub slots : (slot : SetSlot) → Contains (slots_of changes) slot → MaySetSlot start seen (at seen lock) slot
 
 abbrev pub ChangesKeep : Type 0
 ChangesKeep = (start : Start) (seen : List (List Entry)) (lock : ℕ) (by : By) (changes : List Change) →
@@ -172,8 +191,9 @@ abbrev pub FaultKeeps : Type 0
 FaultKeeps = (start : Start) (seen : List (List Entry)) (lock : ℕ) (by : By) (callers : List By) (changes : List Change) (cut : Option ℕ) (count : ℕ) →
     MayChange start seen lock by.session changes → AreCallers by callers changes → KindKeeps start seen lock by (kinds.Fault callers changes cut count)
 
+-- a page is made of a number that was given or comes next
 abbrev pub ZeroKeeps : Type 0
-ZeroKeeps = (start : Start) (seen : List (List Entry)) (lock : ℕ) (by : By) (page : ℕ) → IsPageLock start lock → KindKeeps start seen lock by (kinds.Zero page)
+ZeroKeeps = (start : Start) (seen : List (List Entry)) (lock : ℕ) (by : By) (page : ℕ) → IsPageLock start lock → IsWanted start seen lock page → KindKeeps start seen lock by (kinds.Zero page)
 
 abbrev pub CutKeeps : Type 0
 CutKeeps = (start : Start) (seen : List (List Entry)) (lock : ℕ) (by : By) (page : ℕ) → IsPageLock start lock → KindKeeps start seen lock by (kinds.Cut page)

@@ -1,5 +1,5 @@
 -- The locks by their numbers, and the lock under which a number's page lies.
-use Rattle.std.specs.Prelude.{ℕ, ◌+◌, ◌*◌, ◌/◌, ◌%◌, ◌≤◌, ◌<◌}
+use Rattle.std.specs.Prelude.{ℕ, ◌+◌, ◌*◌, ◌/◌, ◌%◌, ◌^◌, ◌≤◌, ◌<◌}
 use Rattle.xid_order.specs.Ids.{low_half}
 use Rattle.tx_events.specs.declared.refusal.Lock.{Lock}
 use Rattle.tx_events.specs.declared.refusal.Lock.TheVariants as locks
@@ -49,11 +49,17 @@ xact_page id = id / 32768
 abbrev pub subtrans_page : ℕ → ℕ
 subtrans_page id = id / 2048
 
-abbrev pub offsets_page : ℕ → ℕ
-offsets_page multi = multi / 2048
+abbrev pub offset_page : ℕ → ℕ
+offset_page multi = multi / 2048
 
-abbrev pub members_page : ℕ → ℕ
-members_page offset = offset / 1636
+-- of a stored offset
+abbrev pub member_page : ℕ → ℕ
+member_page offset = offset / 1636
+
+-- A page of members in full. A page has no whole part of the ring: 2^32 offsets fill 2625286 pages, the last one not to
+-- its end.
+abbrev pub member_page_in_full : ℕ → ℕ
+member_page_in_full offset = offset / 2 ^ 32 * 2625286 + member_page (low_half offset)
 
 -- the lock under which an id's state lies
 abbrev pub xact_lock_of : Start → ℕ → ℕ
@@ -65,8 +71,8 @@ subtrans_lock_of start id = subtrans_lock (subtrans_page (low_half id) % start.b
 
 -- the offset of a multixact
 abbrev pub offsets_lock_of : Start → ℕ → ℕ
-offsets_lock_of start multi = offsets_lock (offsets_page (low_half multi) % start.banks)
+offsets_lock_of start multi = offsets_lock (offset_page (low_half multi) % start.banks)
 
 -- the member at an offset
 abbrev pub members_lock_of : Start → ℕ → ℕ
-members_lock_of start offset = members_lock (members_page (low_half offset) % start.banks)
+members_lock_of start offset = members_lock (member_page (low_half offset) % start.banks)

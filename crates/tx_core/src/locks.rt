@@ -1,7 +1,7 @@
 ghost use Rattle.std.specs.Prelude.{◌≡◌, ℕ, ◌%◌, ◌<◌};
 ghost use Rattle.xid_order.specs.Ids.{low_half};
 ghost use Rattle.tx_events.specs.declared.refusal.Lock.TheVariants as locks;
-ghost use Rattle.tx_core.specs.Locks.{number_of, xact_page, subtrans_page, offsets_page, members_page};
+ghost use Rattle.tx_core.specs.Locks.{number_of, xact_page, subtrans_page, offset_page, member_page};
 
 use tx_events::Lock;
 use xid_order::{FullMulti, FullXid};
@@ -53,7 +53,7 @@ pub fn parent_lock(id: FullXid, banks: u32) -> Lock
 /// The lock under which the offset of `multi` lies.
 pub fn offset_lock(multi: FullMulti, banks: u32) -> Lock
     requires { 0 < banks }
-    ensures { result ≡ locks.Offsets (offsets_page (low_half multi) % banks) }
+    ensures { result ≡ locks.Offsets (offset_page (low_half multi) % banks) }
 {
     Lock::Offsets(multi.low().number / OFFSETS_PER_PAGE % banks)
 }
@@ -61,7 +61,7 @@ pub fn offset_lock(multi: FullMulti, banks: u32) -> Lock
 /// The lock under which the member at `offset` lies, counted in full.
 pub fn member_lock(offset: u64, banks: u32) -> Lock
     requires { 0 < banks }
-    ensures { result ≡ locks.Members (members_page (low_half offset) % banks) }
+    ensures { result ≡ locks.Members (member_page (low_half offset) % banks) }
 {
     let low = (offset & 0xffff_ffff) as u32;
     Lock::Members(low / MEMBERS_PER_PAGE % banks)

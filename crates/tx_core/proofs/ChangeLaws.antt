@@ -16,6 +16,7 @@ use Rattle.notes.specs.Lists.{at}
 use Rattle.tx_core.specs.Locks.{member_page_in_full, offset_page, subtrans_lock, subtrans_page, xact_lock, xact_lock_of, xact_page}
 use Rattle.tx_core.specs.LogBeforeStatus.{RecordOf, TreeOf}
 use Rattle.tx_core.specs.MultiEntries.{SetOffset, SetSlot}
+use Rattle.tx_core.specs.MembersBeforeOffset.{OffsetOf, SlotOf}
 use Rattle.tx_core.specs.PagesBeforeIds.{WasMade}
 use Rattle.tx_core.specs.ParentsFollow.{IsGivenBelow}
 use Rattle.tx_core.specs.ProgramOrder.{change_lock}
@@ -36,6 +37,8 @@ record Asked (start : Start) (seen : List (List Entry)) (before : List Entry) (s
   made_links : AllByRecursion (λ link. WasMade before (subtrans_page start.base.next) (subtrans_page link.id)) (links_of changes)
   subs : AllByRecursion (λ link. IsGivenBelow seen link.caller.session link.parent link.id) (links_of changes)
   made_offsets : AllByRecursion (λ set. WasMade before (offset_page start.base.multi) (offset_page set.multi)) (offsets_of changes)
+  offsets : AllByRecursion (λ set. OffsetOf start seen set) (offsets_of changes)
+  slots : AllByRecursion (λ slot. SlotOf seen slot) (slots_of changes)
   made_slots : AllByRecursion (λ slot. WasMade before (member_page_in_full start.base.offset) (member_page_in_full slot.offset)) (slots_of changes)
 
 asked_of_each : (start : Start) (seen : List (List Entry)) (lock session : ℕ) (changes : List Change) → MayChange start seen lock session changes → Asked start seen (at seen lock) session changes
@@ -56,6 +59,8 @@ asked_of_each start seen lock session changes may =
       made_links = all_from (λ link. WasMade before (subtrans_page start.base.next) (subtrans_page link.id)) (links_of changes) (λ link k. (link_of_each link k).page);
       subs = all_from (λ link. IsGivenBelow seen link.caller.session link.parent link.id) (links_of changes) (λ link k. (link_of_each link k).sub);
       made_offsets = all_from (λ set. WasMade before (offset_page start.base.multi) (offset_page set.multi)) (offsets_of changes) (λ set k. (may.offsets set (has_contains (offsets_of changes) set k)).page);
+      offsets = all_from (λ set. OffsetOf start seen set) (offsets_of changes) (λ set k. (may.offsets set (has_contains (offsets_of changes) set k)).members);
+      slots = all_from (λ slot. SlotOf seen slot) (slots_of changes) (λ slot k. (may.slots slot (has_contains (slots_of changes) slot k)).member);
       made_slots = all_from (λ slot. WasMade before (member_page_in_full start.base.offset) (member_page_in_full slot.offset)) (slots_of changes) (λ slot k. (may.slots slot (has_contains (slots_of changes) slot k)).page);
     }
 
@@ -71,11 +76,15 @@ changes_law start seen lock by changes may lists k knows inside whole turn =
       commits = tt;
       aborts = record { closed = tt; given = a.given; asked = a.asked; unasked = λ here. tt; unrecorded = a.unrecorded; final = record { later = a.later; alike = a.alike } };
       order = record { turn = turn; stands = may.on };
-      log = record { named = tt; flushed = tt };
+      log = record { counters = tt; named = tt; flushed = tt };
+      cuts = tt;
+      multis = tt;
+      members = record { slots = a.slots; offsets = a.offsets };
+      syncs = tt;
     })
 
 pub fault_law : FaultKeeps
-fault_law start seen lock by callers changes cut count may named lists k knows inside whole turn =
+fault_law start seen lock by callers changes cut count may named truncated lists k knows inside whole turn =
     let a = asked_of_each start seen lock by.session changes may in
     keeps start lists seen lock (record { by = by; kind = kinds.Fault callers changes cut count }) k knows inside whole (record {
       events = record { own = tt; rule = λ here. tt };
@@ -86,7 +95,11 @@ fault_law start seen lock by callers changes cut count may named lists k knows i
       commits = tt;
       aborts = record { closed = tt; given = a.given; asked = a.asked; unasked = λ here. tt; unrecorded = a.unrecorded; final = record { later = a.later; alike = a.alike } };
       order = record { turn = turn; stands = (may.on, named) };
-      log = record { named = tt; flushed = tt };
+      log = record { counters = tt; named = tt; flushed = tt };
+      cuts = truncated;
+      multis = tt;
+      members = record { slots = a.slots; offsets = a.offsets };
+      syncs = tt;
     })
 
 pub request_law : RequestKeeps
@@ -107,7 +120,11 @@ request_law start seen lock by changes behind given unrecorded lists k knows ins
         final = record { later = tt; alike = tt };
       };
       order = record { turn = turn; stands = behind };
-      log = record { named = tt; flushed = tt };
+      log = record { counters = tt; named = tt; flushed = tt };
+      cuts = tt;
+      multis = tt;
+      members = record { slots = tt; offsets = tt };
+      syncs = tt;
     })
 
 -- the states that a session sets for itself are all one

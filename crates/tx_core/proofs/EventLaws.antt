@@ -34,7 +34,11 @@ event_keeps start seen by event own rule pages leaves states closed lists k know
       commits = states;
       aborts = record { closed = closed; given = tt; asked = tt; unasked = λ here. tt; unrecorded = tt; final = record { later = tt; alike = tt } };
       order = record { turn = turn; stands = refl };
-      log = record { named = tt; flushed = tt };
+      log = record { counters = tt; named = tt; flushed = tt };
+      cuts = tt;
+      multis = tt;
+      members = record { slots = tt; offsets = tt };
+      syncs = tt;
     })
 
 pub id_event_law : IdEventKeeps
@@ -75,11 +79,15 @@ made_law start seen by id made next lists k knows inside whole turn =
       commits = tt;
       aborts = record { closed = tt; given = tt; asked = tt; unasked = λ here. tt; unrecorded = tt; final = record { later = tt; alike = tt } };
       order = record { turn = turn; stands = refl };
-      log = record { named = tt; flushed = tt };
+      log = record { counters = tt; named = tt; flushed = tt };
+      cuts = tt;
+      multis = tt;
+      members = record { slots = tt; offsets = tt };
+      syncs = tt;
     })
 
 pub commit_record_law : CommitRecordKeeps
-commit_record_law start seen by top subs opened root parents unasked lists k knows inside whole turn =
+commit_record_law start seen by top subs opened root parents unasked base lists k knows inside whole turn =
     keeps start lists seen log_lock (record { by = by; kind = kinds.Append (records.Commit top subs) }) k knows inside whole (record {
       events = record { own = tt; rule = λ here. tt };
       pages = record { ids = tt; changes = record { marks = tt; links = tt; offsets = tt; slots = tt }; made = tt };
@@ -89,5 +97,9 @@ commit_record_law start seen by top subs opened root parents unasked lists k kno
       commits = tt;
       aborts = record { closed = tt; given = tt; asked = tt; unasked = λ here. unasked; unrecorded = tt; final = record { later = tt; alike = tt } };
       order = record { turn = turn; stands = refl };
-      log = record { named = tt; flushed = tt };
+      log = record { counters = (base, tt); named = tt; flushed = tt };
+      cuts = tt;
+      multis = tt;
+      members = record { slots = tt; offsets = tt };
+      syncs = tt;
     })

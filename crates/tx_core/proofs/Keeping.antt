@@ -31,7 +31,12 @@ use Rattle.tx_core.specs.LogBeforeStatus.{LogBeforeStatus, NeedsRecords, NeedsTr
 use Rattle.tx_core.specs.PagesBeforeIds.{NeedsPages, NeedsPlace, NeedsZero, PagesBeforeIds}
 use Rattle.tx_core.specs.ParentsFollow.{NeedsSubs}
 use Rattle.tx_core.specs.ProgramOrder.{IsInTurn, NeedsStand, NeedsTurn, ProgramOrder}
-use Rattle.tx_core.specs.RecordsFollow.{NeedsFlush, NeedsNamed, RecordsFollow}
+use Rattle.tx_core.specs.RecordsFollow.{NeedsCounters, NeedsFlush, NeedsNamed, RecordsFollow}
+use Rattle.tx_core.specs.CutsFollow.{NeedsCut}
+use Rattle.tx_core.specs.MultisLegal.{NeedsMulti}
+use Rattle.tx_core.specs.MembersBeforeOffset.{MembersBeforeOffset, NeedsOffsets, NeedsSlots}
+use Rattle.tx_core.specs.SyncsBeforeForgets.{NeedsSync}
+use Rattle.tx_core.proofs.LastingFurther.{counters_lasting, cuts_lasting, multis_lasting, offsets_lasting, slots_lasting, syncs_lasting}
 use Rattle.tx_core.specs.StatusBeforeCommit.{NeedsStates}
 use Rattle.tx_events.specs.declared.event.Event.TheVariants as events
 use Rattle.tx_core.specs.declared.entry.Kind.TheVariants as kinds
@@ -111,8 +116,15 @@ order_kept start seen lists lock e s = record {
 
 log_kept : (start : Start) (seen lists : List (List Entry)) (lock : ℕ) (e : Entry) → Step start seen lists lock e → RecordsFollow start (add lists lock e)
 log_kept start seen lists lock e s = record {
+  counters = kept start seen lists lock e s (NeedsCounters start) (counters_lasting start) s.k.log.counters s.may.log.counters;
   named = kept start seen lists lock e s (NeedsNamed start) (named_lasting start) s.k.log.named s.may.log.named;
   flushed = kept start seen lists lock e s (NeedsFlush start) (flush_lasting start) s.k.log.flushed s.may.log.flushed;
+}
+
+members_kept : (start : Start) (seen lists : List (List Entry)) (lock : ℕ) (e : Entry) → Step start seen lists lock e → MembersBeforeOffset start (add lists lock e)
+members_kept start seen lists lock e s = record {
+  slots = kept start seen lists lock e s NeedsSlots slots_lasting s.k.members.slots s.may.members.slots;
+  offsets = kept start seen lists lock e s (NeedsOffsets start) (offsets_lasting start) s.k.members.offsets s.may.members.offsets;
 }
 
 no_record : (start : Start) (seen lists : List (List Entry)) (lock : ℕ) (e : Entry) (by : By) (session top : ℕ) (subs : List ℕ) → Step start seen lists lock e → by ≡ e.by → by.session ≡ session
@@ -201,4 +213,8 @@ keeps start lists seen lock e k knows inside whole may =
       aborts = aborts_kept start seen lists lock e s;
       order = order_kept start seen lists lock e s;
       log = log_kept start seen lists lock e s;
+      cuts = record { each = kept start seen lists lock e s (NeedsCut start) (cuts_lasting start) k.cuts.each may.cuts };
+      multis = record { each = kept start seen lists lock e s (NeedsMulti start) (multis_lasting start) k.multis.each may.multis };
+      members = members_kept start seen lists lock e s;
+      syncs = record { each = kept start seen lists lock e s (NeedsSync start) (syncs_lasting start) k.syncs.each may.syncs };
     }

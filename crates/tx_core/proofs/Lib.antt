@@ -2,6 +2,7 @@ pub mod Growing
 pub mod Asking
 pub mod Rising
 pub mod Lasting
+pub mod LastingFurther
 pub mod Exactness
 pub mod Stepping
 pub mod Keeping

@@ -135,6 +135,7 @@ unasked id a =
 after_record : EngineInvariant start two
 after_record =
     commit_record_law start one (by 0 3) 3 [] refl refl (λ id c. absurd (contains_has [] id c)) (λ id c a. unasked id a)
+    (record { full = omega arith; full_oldest = omega arith; oldest = omega arith; next = omega arith; oldest_multi = omega arith; multi = omega arith; oldest_offset = omega arith; offset = omega arith; none = λ q. refl })
     one after_id (sees_all 0 one) (omega arith) refl (turns (by 0 3) [] tt)
 
 after_flush : EngineInvariant start three

@@ -25,7 +25,11 @@ use Rattle.tx_core.specs.LogBeforeStatus.{NeedsRecords, NeedsTree}
 use Rattle.tx_core.specs.PagesBeforeIds.{NeedsPages, NeedsPlace, NeedsZero}
 use Rattle.tx_core.specs.ParentsFollow.{NeedsSubs}
 use Rattle.tx_core.specs.ProgramOrder.{NeedsStand, NeedsTurn}
-use Rattle.tx_core.specs.RecordsFollow.{NeedsFlush, NeedsNamed}
+use Rattle.tx_core.specs.RecordsFollow.{NeedsCounters, NeedsFlush, NeedsNamed}
+use Rattle.tx_core.specs.CutsFollow.{NeedsCut}
+use Rattle.tx_core.specs.MultisLegal.{NeedsMulti}
+use Rattle.tx_core.specs.MembersBeforeOffset.{NeedsOffsets, NeedsSlots}
+use Rattle.tx_core.specs.SyncsBeforeForgets.{NeedsSync}
 use Rattle.tx_core.specs.StatusBeforeCommit.{NeedsStates}
 use Rattle.tx_core.specs.declared.entry.Kind.TheVariants as kinds
 use Rattle.tx_events.specs.declared.record.Rec.TheVariants as records
@@ -53,7 +57,11 @@ opens start lists empty =
         final = nothing_upheld NeedsSame lists empty;
       };
       order = record { turns = nothing_upheld NeedsTurn lists empty; stand = nothing_upheld (NeedsStand start) lists empty };
-      log = record { named = nothing_upheld (NeedsNamed start) lists empty; flushed = nothing_upheld (NeedsFlush start) lists empty };
+      log = record { counters = nothing_upheld (NeedsCounters start) lists empty; named = nothing_upheld (NeedsNamed start) lists empty; flushed = nothing_upheld (NeedsFlush start) lists empty };
+      cuts = record { each = nothing_upheld (NeedsCut start) lists empty };
+      multis = record { each = nothing_upheld (NeedsMulti start) lists empty };
+      members = record { slots = nothing_upheld NeedsSlots lists empty; offsets = nothing_upheld (NeedsOffsets start) lists empty };
+      syncs = record { each = nothing_upheld (NeedsSync start) lists empty };
     }
 
 pub asked_given : AskedGiven

@@ -13,14 +13,18 @@ use Rattle.tx_core.specs.declared.entry.Start.{Start}
 use Rattle.tx_core.proofs.Keeping.{keeps}
 use Rattle.tx_core.specs.AbortRule.{AbortsOf, AskUnrecorded, AskedOf, GivenOf, IsSameAfter, RecordUnasked}
 use Rattle.tx_core.specs.CommitRecordsExact.{LeavesRecords, LinksOf, RecordMay}
-use Rattle.tx_core.specs.Entries.{EachMark, Link, Mark, asked_in, changes_in, event_in, events_in, history, link_of, mark_of}
-use Rattle.tx_core.specs.Laws.{CutKeeps, FlushKeeps, ForgetKeeps, KindKeeps, LogFaultKeeps, LookKeeps, MultiEventKeeps, OtherRecordKeeps, SyncKeeps, ZeroKeeps, is_commit_record}
+use Rattle.tx_core.specs.Entries.{EachMark, Link, Mark, asked_in, changes_in, cut_in, event_in, events_in, history, link_of, mark_of}
+use Rattle.tx_core.specs.Laws.{AbortRecordKeeps, CheckpointRecordKeeps, CutKeeps, FlushKeeps, ForgetKeeps, KindKeeps, LogFaultKeeps, LookKeeps, MultiEventKeeps, MultiRecordKeeps, SyncKeeps, TruncateRecordKeeps, ZeroKeeps}
 use Rattle.notes.specs.Lists.{at}
 use Rattle.tx_core.specs.Locks.{log_lock, member_page_in_full, multi_lock, offset_page, subtrans_page, xact_page}
 use Rattle.tx_core.specs.LogBeforeStatus.{RecordOf, TreeOf}
 use Rattle.tx_core.specs.PagesBeforeIds.{PagesOf, WasMade, ZeroOf}
-use Rattle.tx_core.specs.MultiEntries.{SetOffset, SetSlot, offset_of, slot_of}
-use Rattle.tx_core.specs.RecordsFollow.{FlushOf, NamedOf}
+use Rattle.tx_core.specs.MultiEntries.{SetOffset, SetSlot, multi_in, multis_in, offset_of, slot_of}
+use Rattle.tx_core.specs.RecordsFollow.{AppendOf, FlushOf, NamedOf}
+use Rattle.tx_core.specs.CutsFollow.{CutBy}
+use Rattle.tx_core.specs.MembersBeforeOffset.{OffsetOf, SlotOf}
+use Rattle.tx_core.specs.SyncsBeforeForgets.{ForgetOf}
+use Rattle.tx_events.specs.Multis.{InBase, MultiMayCome, multi_by}
 use Rattle.tx_core.specs.ParentsFollow.{IsGivenBelow}
 use Rattle.tx_core.specs.ProgramOrder.{MayStand}
 use Rattle.tx_core.specs.StatusBeforeCommit.{StatesOf}
@@ -95,8 +99,12 @@ quiet_closed start lists before _ q = tt
 -- what the parts ask that speak of the log and of the pages themselves
 pub record HasNeeds (start : Start) (seen : List (List Entry)) (lock : ℕ) (by : By) (kind : Kind) : Type 0 where
   pub made : ZeroOf start seen lock kind
+  pub counters : AppendOf start seen (at seen lock) kind
   pub named : NamedOf start seen by kind
   pub flushed : FlushOf start (at seen lock) kind
+  pub cuts : IfSome (cut_in kind) (CutBy start seen lock)
+  pub multis : IfSome (multi_in kind) (λ event. (multi_by event ≡ by) × MultiMayCome start.base (InBase start.base) (multis_in (at seen lock)) event)
+  pub syncs : ForgetOf start seen (at seen lock) kind
 
 -- so its turn, that it may stand there, and these needs are all that it needs
 pub quiet_keeps : (start : Start) (seen : List (List Entry)) (lock : ℕ) (by : By) (kind : Kind) → is_quiet kind ≡ true → MayStand start lock by kind → HasNeeds start seen lock by kind → KindKeeps start seen lock by kind
@@ -138,49 +146,49 @@ quiet_keeps start seen lock by kind q stands needs lists k knows inside whole tu
         };
       };
       order = record { turn = turn; stands = stands };
-      log = record { named = needs.named; flushed = needs.flushed };
+      log = record { counters = needs.counters; named = needs.named; flushed = needs.flushed };
+      cuts = needs.cuts;
+      multis = needs.multis;
+      members = record { slots = quiet_slots (λ slot. SlotOf seen slot) kind q; offsets = quiet_offsets (λ set. OffsetOf start seen set) kind q };
+      syncs = needs.syncs;
     })
 
-quiet_rec : (rec : Rec) → is_commit_record rec ≡ false → is_quiet (kinds.Append rec) ≡ true
-quiet_rec (records.Commit top subs) q = absurd cc
-quiet_rec _ q = refl
+pub abort_record_law : AbortRecordKeeps
+abort_record_law start seen by top subs base given =
+    quiet_keeps start seen log_lock by (kinds.Append (records.Abort top subs)) refl refl (record { made = tt; counters = (base, tt); named = given; flushed = tt; cuts = tt; multis = tt; syncs = tt })
 
--- the kinds that those parts don't name
-abbrev is_plain : Kind → Bool
-is_plain (kinds.Append rec) = false
-is_plain (kinds.Flush to) = false
-is_plain (kinds.Zero page) = false
-is_plain _ = true
+pub multi_record_law : MultiRecordKeeps
+multi_record_law start seen by multi offset members base given =
+    quiet_keeps start seen log_lock by (kinds.Append (records.Multi multi offset members)) refl refl (record { made = tt; counters = (base, tt); named = given; flushed = tt; cuts = tt; multis = tt; syncs = tt })
 
-none : (start : Start) (seen : List (List Entry)) (lock : ℕ) (by : By) (kind : Kind) → is_plain kind ≡ true → HasNeeds start seen lock by kind
-none start seen lock by (kinds.Append rec) q = absurd cc
-none start seen lock by (kinds.Flush to) q = absurd cc
-none start seen lock by (kinds.Zero page) q = absurd cc
-none start seen lock by _ q = record { made = tt; named = tt; flushed = tt }
+pub checkpoint_record_law : CheckpointRecordKeeps
+checkpoint_record_law start seen by number counters base follows =
+    quiet_keeps start seen log_lock by (kinds.Append (records.Checkpoint number counters)) refl refl (record { made = tt; counters = (base, follows); named = tt; flushed = tt; cuts = tt; multis = tt; syncs = tt })
 
-pub other_record_law : OtherRecordKeeps
-other_record_law start seen by rec other ids = quiet_keeps start seen log_lock by (kinds.Append rec) (quiet_rec rec other) refl (record { made = tt; named = ids; flushed = tt })
+pub truncate_record_law : TruncateRecordKeeps
+truncate_record_law start seen by oldest multi offset base id announced =
+    quiet_keeps start seen log_lock by (kinds.Append (records.Truncate oldest multi offset)) refl refl (record { made = tt; counters = (base, (id, announced)); named = tt; flushed = tt; cuts = tt; multis = tt; syncs = tt })
 
 pub flush_law : FlushKeeps
-flush_law start seen by to within = quiet_keeps start seen log_lock by (kinds.Flush to) refl refl (record { made = tt; named = tt; flushed = within })
+flush_law start seen by to within = quiet_keeps start seen log_lock by (kinds.Flush to) refl refl (record { made = tt; counters = tt; named = tt; flushed = within; cuts = tt; multis = tt; syncs = tt })
 
 pub forget_law : ForgetKeeps
-forget_law start seen by number = quiet_keeps start seen log_lock by (kinds.Forget number) refl refl (none start seen log_lock by (kinds.Forget number) refl)
+forget_law start seen by number may = quiet_keeps start seen log_lock by (kinds.Forget number) refl refl (record { made = tt; counters = tt; named = tt; flushed = tt; cuts = tt; multis = tt; syncs = may })
 
 pub log_fault_law : LogFaultKeeps
-log_fault_law start seen by asked count = quiet_keeps start seen log_lock by (kinds.LogFault asked count) refl refl (none start seen log_lock by (kinds.LogFault asked count) refl)
+log_fault_law start seen by asked count may = quiet_keeps start seen log_lock by (kinds.LogFault asked count) refl refl (record { made = tt; counters = tt; named = tt; flushed = tt; cuts = tt; multis = tt; syncs = may })
 
 pub multi_event_law : MultiEventKeeps
-multi_event_law start seen by event = quiet_keeps start seen multi_lock by (kinds.Multi event) refl refl (none start seen multi_lock by (kinds.Multi event) refl)
+multi_event_law start seen by event own rule = quiet_keeps start seen multi_lock by (kinds.Multi event) refl refl (record { made = tt; counters = tt; named = tt; flushed = tt; cuts = tt; multis = (own, rule); syncs = tt })
 
 pub zero_law : ZeroKeeps
-zero_law start seen lock by page on wanted = quiet_keeps start seen lock by (kinds.Zero page) refl on (record { made = wanted; named = tt; flushed = tt })
+zero_law start seen lock by page on wanted = quiet_keeps start seen lock by (kinds.Zero page) refl on (record { made = wanted; counters = tt; named = tt; flushed = tt; cuts = tt; multis = tt; syncs = tt })
 
 pub cut_law : CutKeeps
-cut_law start seen lock by page on = quiet_keeps start seen lock by (kinds.Cut page) refl on (none start seen lock by (kinds.Cut page) refl)
+cut_law start seen lock by page on says = quiet_keeps start seen lock by (kinds.Cut page) refl on (record { made = tt; counters = tt; named = tt; flushed = tt; cuts = says; multis = tt; syncs = tt })
 
 pub sync_law : SyncKeeps
-sync_law start seen lock by on = quiet_keeps start seen lock by kinds.Sync refl on (none start seen lock by kinds.Sync refl)
+sync_law start seen lock by on = quiet_keeps start seen lock by kinds.Sync refl on (record { made = tt; counters = tt; named = tt; flushed = tt; cuts = tt; multis = tt; syncs = tt })
 
 pub look_law : LookKeeps
-look_law start seen lock by = quiet_keeps start seen lock by kinds.Look refl tt (none start seen lock by kinds.Look refl)
+look_law start seen lock by = quiet_keeps start seen lock by kinds.Look refl tt (record { made = tt; counters = tt; named = tt; flushed = tt; cuts = tt; multis = tt; syncs = tt })

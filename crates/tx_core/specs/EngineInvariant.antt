@@ -12,6 +12,10 @@ use Rattle.tx_core.specs.StatusBeforeCommit.{StatusBeforeCommit, NeedsStates}
 use Rattle.tx_core.specs.AbortRule.{AbortRule, MayAbort}
 use Rattle.tx_core.specs.ProgramOrder.{ProgramOrder, MayComeNext}
 use Rattle.tx_core.specs.RecordsFollow.{RecordsFollow, MayFollow}
+use Rattle.tx_core.specs.CutsFollow.{CutsFollow, NeedsCut}
+use Rattle.tx_core.specs.MultisLegal.{MultisLegal, NeedsMulti}
+use Rattle.tx_core.specs.MembersBeforeOffset.{MembersBeforeOffset, MaySetMulti}
+use Rattle.tx_core.specs.SyncsBeforeForgets.{SyncsBeforeForgets, NeedsSync}
 
 -- The engine invariant, part by part. A further part is a field here and one below.
 pub record EngineInvariant (start : Start) (lists : List (List Entry)) : Type 0 where
@@ -24,6 +28,10 @@ pub record EngineInvariant (start : Start) (lists : List (List Entry)) : Type 0 
   pub aborts : AbortRule start lists
   pub order : ProgramOrder start lists
   pub log : RecordsFollow start lists
+  pub cuts : CutsFollow start lists
+  pub multis : MultisLegal start lists
+  pub members : MembersBeforeOffset start lists
+  pub syncs : SyncsBeforeForgets start lists
 
 -- what a session shows of the lists that it has seen, before it adds an entry to one of them
 pub record MayAdd (start : Start) (seen : List (List Entry)) (lock : ℕ) (e : Entry) : Type 0 where
@@ -36,3 +44,7 @@ pub record MayAdd (start : Start) (seen : List (List Entry)) (lock : ℕ) (e : E
   pub aborts : MayAbort start seen lock (at seen lock) e
   pub order : MayComeNext start seen lock (at seen lock) e
   pub log : MayFollow start seen lock (at seen lock) e
+  pub cuts : NeedsCut start seen lock (at seen lock) e
+  pub multis : NeedsMulti start seen lock (at seen lock) e
+  pub members : MaySetMulti start seen lock (at seen lock) e
+  pub syncs : NeedsSync start seen lock (at seen lock) e

@@ -1,6 +1,6 @@
 -- What the laws say: each kind of entry, with what its session needs of the lists that it has seen, keeps the invariant.
 use Rattle.std.specs.List.{filter_map}
-use Rattle.std.specs.Prelude.{Bool, Contains, List, Option, [], false, length, map, true, ℕ, ◌*◌, ◌+◌, ◌<◌, ◌∷◌, ◌≡◌, ◌≤◌, ◌⊎◌}
+use Rattle.std.specs.Prelude.{Contains, IfSome, List, Option, [], length, map, true, ℕ, ◌*◌, ◌+◌, ◌<◌, ◌∷◌, ◌≡◌, ◌≤◌, ◌⊎◌}
 use Rattle.tx_events.specs.declared.event.By.{By}
 use Rattle.tx_events.specs.declared.multi.MultiEvent.{MultiEvent}
 use Rattle.tx_events.specs.declared.record.Rec.{Rec}
@@ -20,14 +20,21 @@ use Rattle.tx_core.specs.AbortRule.{AskUnrecorded, AskedOf, Asks, AsksAbort, Giv
 use Rattle.tx_core.specs.CommitRecordsExact.{HasNoRecord}
 use Rattle.tx_core.specs.EngineInvariant.{EngineInvariant, MayAdd}
 use Rattle.tx_core.specs.Entries.{IsAppended, IsLinked, IsMarked, Link, Mark, history, link_of, mark_of, marks, records_of, session_of}
-use Rattle.tx_core.specs.MultiEntries.{SetOffset, SetSlot, offset_of, slot_of}
+use Rattle.tx_core.specs.MultiEntries.{SetOffset, SetSlot, multi_history, offset_of, slot_of}
 use Rattle.notes.specs.Lists.{Grows, Knows, add, at}
 use Rattle.tx_core.specs.Locks.{IsPageLock, log_lock, member_page_in_full, offset_page, multi_lock, proc_lock, subtrans_lock, subtrans_lock_of, subtrans_page, xact_lock, xact_lock_of, xact_page}
 use Rattle.tx_core.specs.LogBeforeStatus.{InTree, IsDurable, RecordOf, TreeOf}
 use Rattle.tx_core.specs.PagesBeforeIds.{IsMade, IsTold, IsWanted, WasMade}
 use Rattle.tx_core.specs.ParentsFollow.{IsGivenBelow}
 use Rattle.tx_core.specs.ProgramOrder.{AreCallers, AreOn, IsInTurn}
-use Rattle.tx_core.specs.RecordsFollow.{IdsOf}
+use Rattle.tx_core.specs.RecordsFollow.{CheckpointOf, IsMultiAnnounced, IsOldestAnnounced, counters_after}
+use Rattle.tx_core.specs.CutsFollow.{CutBy}
+use Rattle.tx_core.specs.MembersBeforeOffset.{OffsetOf, SlotOf}
+use Rattle.tx_core.specs.SyncsBeforeForgets.{ForgetOf, MayForget}
+use Rattle.tx_events.specs.After.{after_record, ids_of}
+use Rattle.tx_events.specs.Multis.{InBase, MultiMayCome, multi_by}
+use Rattle.tx_events.specs.declared.multi.Member.{Member}
+use Rattle.tx_events.specs.declared.record.Counters.{Counters}
 use Rattle.tx_core.specs.declared.entry.Change.TheVariants as changes
 use Rattle.tx_events.specs.declared.event.Event.TheVariants as events
 use Rattle.tx_core.specs.declared.entry.Kind.TheVariants as kinds
@@ -51,6 +58,10 @@ KindKeeps start seen lock by kind =
 abbrev pub Opens : Type 0
 Opens = (start : Start) (lists : List (List Entry)) → ((lock : ℕ) → at lists lock ≡ []) → EngineInvariant start lists
 
+-- with this record more the log's counters are a base
+abbrev pub StaysBase : Start → List (List Entry) → Rec → Type 0
+StaysBase start seen rec = IsBase (after_record (counters_after start (at seen log_lock)) rec)
+
 -- The log. A commit record names all that its session has open; the parents of the subtransactions were set, and the
 -- session asked for no abort of any of them.
 abbrev pub CommitRecordKeeps : Type 0
@@ -59,26 +70,49 @@ CommitRecordKeeps = (start : Start) (seen : List (List Entry)) (by : By) (top : 
     → is_top (history seen) top ≡ true
     → ((id : ℕ) → Contains subs id → (parent : ℕ) × IsLinked start seen id parent)
     → ((id : ℕ) → Contains (top ∷ subs) id → AsksAbort seen by.session id → ⊥)
+    → StaysBase start seen (records.Commit top subs)
     → KindKeeps start seen log_lock by (kinds.Append (records.Commit top subs))
 
-abbrev pub is_commit_record : Rec → Bool
-is_commit_record (records.Commit top subs) = true
-is_commit_record _ = false
+-- an abort record names ids that were given to its session
+abbrev pub AbortRecordKeeps : Type 0
+AbortRecordKeeps = (start : Start) (seen : List (List Entry)) (by : By) (top : ℕ) (subs : List ℕ) →
+    StaysBase start seen (records.Abort top subs)
+    → ((id : ℕ) → Contains (top ∷ subs) id → Contains (given_to by.session (history seen)) id)
+    → KindKeeps start seen log_lock by (kinds.Append (records.Abort top subs))
 
--- another record names ids that were given
-abbrev pub OtherRecordKeeps : Type 0
-OtherRecordKeeps = (start : Start) (seen : List (List Entry)) (by : By) (rec : Rec) →
-    is_commit_record rec ≡ false → IdsOf start seen by rec → KindKeeps start seen log_lock by (kinds.Append rec)
+-- a multixact's members were given
+abbrev pub MultiRecordKeeps : Type 0
+MultiRecordKeeps = (start : Start) (seen : List (List Entry)) (by : By) (multi offset : ℕ) (members : List Member) →
+    StaysBase start seen (records.Multi multi offset members)
+    → ((id : ℕ) → Contains (ids_of members) id → id < next_given start.base.next (history seen))
+    → KindKeeps start seen log_lock by (kinds.Append (records.Multi multi offset members))
+
+abbrev pub CheckpointRecordKeeps : Type 0
+CheckpointRecordKeeps = (start : Start) (seen : List (List Entry)) (by : By) (number : ℕ) (counters : Counters) →
+    StaysBase start seen (records.Checkpoint number counters)
+    → CheckpointOf start seen (at seen log_lock) number counters
+    → KindKeeps start seen log_lock by (kinds.Append (records.Checkpoint number counters))
+
+-- what a truncation names was announced
+abbrev pub TruncateRecordKeeps : Type 0
+TruncateRecordKeeps = (start : Start) (seen : List (List Entry)) (by : By) (oldest multi offset : ℕ) →
+    StaysBase start seen (records.Truncate oldest multi offset)
+    → IsOldestAnnounced start seen oldest
+    → IsMultiAnnounced start seen multi offset
+    → KindKeeps start seen log_lock by (kinds.Append (records.Truncate oldest multi offset))
 
 -- a flush is of records that stand
 abbrev pub FlushKeeps : Type 0
 FlushKeeps = (start : Start) (seen : List (List Entry)) (by : By) (to : ℕ) → to ≤ start.from + length (records_of seen) → KindKeeps start seen log_lock by (kinds.Flush to)
 
+-- the log is forgotten up to a checkpoint on disk, when all that it would restore is on disk
 abbrev pub ForgetKeeps : Type 0
-ForgetKeeps = (start : Start) (seen : List (List Entry)) (by : By) (number : ℕ) → KindKeeps start seen log_lock by (kinds.Forget number)
+ForgetKeeps = (start : Start) (seen : List (List Entry)) (by : By) (number : ℕ) → MayForget start seen (at seen log_lock) number → KindKeeps start seen log_lock by (kinds.Forget number)
 
+-- a forget that failed may have been done
 abbrev pub LogFaultKeeps : Type 0
-LogFaultKeeps = (start : Start) (seen : List (List Entry)) (by : By) (asked : LogCall) (count : ℕ) → KindKeeps start seen log_lock by (kinds.LogFault asked count)
+LogFaultKeeps = (start : Start) (seen : List (List Entry)) (by : By) (asked : LogCall) (count : ℕ) →
+    ForgetOf start seen (at seen log_lock) (kinds.LogFault asked count) → KindKeeps start seen log_lock by (kinds.LogFault asked count)
 
 -- The ProcArray. An id comes next, and its pages are made.
 abbrev pub IdEventKeeps : Type 0
@@ -133,8 +167,10 @@ abbrev pub MadeKeeps : Type 0
 MadeKeeps = (start : Start) (seen : List (List Entry)) (by : By) (id : ℕ) →
     IsMade start seen id → id ≤ next_given start.base.next (history seen) → KindKeeps start seen proc_lock by (kinds.Made id)
 
+-- the multixacts
 abbrev pub MultiEventKeeps : Type 0
-MultiEventKeeps = (start : Start) (seen : List (List Entry)) (by : By) (event : MultiEvent) → KindKeeps start seen multi_lock by (kinds.Multi event)
+MultiEventKeeps = (start : Start) (seen : List (List Entry)) (by : By) (event : MultiEvent) →
+    multi_by event ≡ by → MultiMayCome start.base (InBase start.base) (multi_history seen) event → KindKeeps start seen multi_lock by (kinds.Multi event)
 
 -- The banks. What each state needs: its page was made; a committed or sub-committed one has its commit record on disk; a
 -- committed one keeps to the order of pages; the session for which it is set was given the id, and sets it or asked for
@@ -154,12 +190,15 @@ pub record MayLink (start : Start) (seen : List (List Entry)) (before : List Ent
   pub page : WasMade before (subtrans_page start.base.next) (subtrans_page link.id)
   pub sub : IsGivenBelow seen link.caller.session link.parent link.id
 
--- each offset and each member: its page was made
+-- Each offset and each member: its page was made; the offset is that of a recorded multixact all of whose members stand,
+-- the member one of a recorded multixact.
 pub record MaySetOffset (start : Start) (seen : List (List Entry)) (before : List Entry) (set : SetOffset) : Type 0 where
   pub page : WasMade before (offset_page start.base.multi) (offset_page set.multi)
+  pub members : OffsetOf start seen set
 
 pub record MaySetSlot (start : Start) (seen : List (List Entry)) (before : List Entry) (slot : SetSlot) : Type 0 where
   pub page : WasMade before (member_page_in_full start.base.offset) (member_page_in_full slot.offset)
+  pub member : SlotOf seen slot
 
 abbrev pub marks_of : List Change → List Mark
 marks_of changes = filter_map mark_of changes
@@ -186,17 +225,18 @@ abbrev pub ChangesKeep : Type 0
 ChangesKeep = (start : Start) (seen : List (List Entry)) (lock : ℕ) (by : By) (changes : List Change) →
     MayChange start seen lock by.session changes → KindKeeps start seen lock by (kinds.Set changes)
 
--- what a fault leaves changed needs the same
+-- what a fault leaves changed or cut needs the same
 abbrev pub FaultKeeps : Type 0
 FaultKeeps = (start : Start) (seen : List (List Entry)) (lock : ℕ) (by : By) (callers : List By) (changes : List Change) (cut : Option ℕ) (count : ℕ) →
-    MayChange start seen lock by.session changes → AreCallers by callers changes → KindKeeps start seen lock by (kinds.Fault callers changes cut count)
+    MayChange start seen lock by.session changes → AreCallers by callers changes → IfSome cut (CutBy start seen lock) → KindKeeps start seen lock by (kinds.Fault callers changes cut count)
 
 -- a page is made of a number that was given or comes next
 abbrev pub ZeroKeeps : Type 0
 ZeroKeeps = (start : Start) (seen : List (List Entry)) (lock : ℕ) (by : By) (page : ℕ) → IsPageLock start lock → IsWanted start seen lock page → KindKeeps start seen lock by (kinds.Zero page)
 
+-- a page is cut as a truncation on disk, or an oldest xmin, says
 abbrev pub CutKeeps : Type 0
-CutKeeps = (start : Start) (seen : List (List Entry)) (lock : ℕ) (by : By) (page : ℕ) → IsPageLock start lock → KindKeeps start seen lock by (kinds.Cut page)
+CutKeeps = (start : Start) (seen : List (List Entry)) (lock : ℕ) (by : By) (page : ℕ) → IsPageLock start lock → CutBy start seen lock page → KindKeeps start seen lock by (kinds.Cut page)
 
 abbrev pub SyncKeeps : Type 0
 SyncKeeps = (start : Start) (seen : List (List Entry)) (lock : ℕ) (by : By) → IsPageLock start lock → KindKeeps start seen lock by kinds.Sync

@@ -11,6 +11,10 @@ pub mod StatusBeforeCommit
 pub mod AbortRule
 pub mod ProgramOrder
 pub mod RecordsFollow
+pub mod CutsFollow
+pub mod MultisLegal
+pub mod MembersBeforeOffset
+pub mod SyncsBeforeForgets
 pub mod CleanStart
 pub mod EngineInvariant
 pub mod Verdict

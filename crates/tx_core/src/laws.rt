@@ -1,4 +1,4 @@
-ghost use Rattle.tx_core.specs.Laws.{Keeps, Opens, CommitRecordKeeps, OtherRecordKeeps, FlushKeeps, ForgetKeeps, LogFaultKeeps, IdEventKeeps, SubEventKeeps, UndoEventKeeps, CommitEventKeeps, AbortEventKeeps, SnapEventKeeps, SnapDropKeeps, OldestKeeps, AskKeeps, MadeKeeps, MultiEventKeeps, ChangesKeep, CommittedKeeps, SubCommittedKeeps, AbortedKeeps, ParentKeeps, ZeroKeeps, CutKeeps, SyncKeeps, FaultKeeps, RequestKeeps, LookKeeps, NeverAborted, CommittedAsked, AskedGiven, HorizonRises, SnapshotsHold};
+ghost use Rattle.tx_core.specs.Laws.{Keeps, Opens, CommitRecordKeeps, AbortRecordKeeps, MultiRecordKeeps, CheckpointRecordKeeps, TruncateRecordKeeps, FlushKeeps, ForgetKeeps, LogFaultKeeps, IdEventKeeps, SubEventKeeps, UndoEventKeeps, CommitEventKeeps, AbortEventKeeps, SnapEventKeeps, SnapDropKeeps, OldestKeeps, AskKeeps, MadeKeeps, MultiEventKeeps, ChangesKeep, CommittedKeeps, SubCommittedKeeps, AbortedKeeps, ParentKeeps, ZeroKeeps, CutKeeps, SyncKeeps, FaultKeeps, RequestKeeps, LookKeeps, NeverAborted, CommittedAsked, AskedGiven, HorizonRises, SnapshotsHold};
 ghost use Rattle.tx_core.specs.Pages.{PagesShow, ParentsShow};
 ghost use Rattle.tx_core.specs.Verdict.{Decides};
 
@@ -17,9 +17,24 @@ pub fn commit_record()
     ensures { CommitRecordKeeps }
 {}
 
-/// Any other record is appended.
-pub fn other_record()
-    ensures { OtherRecordKeeps }
+/// An abort record is appended (`XactLogAbortRecord` in `xact.c`).
+pub fn abort_record()
+    ensures { AbortRecordKeeps }
+{}
+
+/// The record of a multixact is appended (`MultiXactIdCreateFromMembers` in `multixact.c`).
+pub fn multi_record()
+    ensures { MultiRecordKeeps }
+{}
+
+/// A checkpoint is appended (`CreateCheckPoint` in `xlog.c`).
+pub fn checkpoint_record()
+    ensures { CheckpointRecordKeeps }
+{}
+
+/// A truncation is logged (`WriteTruncateXlogRec` in `clog.c`, `WriteMTruncateXlogRec` in `multixact.c`).
+pub fn truncate_record()
+    ensures { TruncateRecordKeeps }
 {}
 
 /// The log is flushed (`XLogFlush` in `xlog.c`).

@@ -81,6 +81,7 @@ changes_law start seen lock by changes may lists k knows inside whole turn =
       multis = tt;
       members = record { slots = a.slots; offsets = a.offsets };
       syncs = tt;
+      posts = tt;
     })
 
 pub fault_law : FaultKeeps
@@ -100,6 +101,7 @@ fault_law start seen lock by callers changes cut count may named truncated lists
       multis = tt;
       members = record { slots = a.slots; offsets = a.offsets };
       syncs = tt;
+      posts = tt;
     })
 
 pub request_law : RequestKeeps
@@ -125,6 +127,7 @@ request_law start seen lock by changes behind given unrecorded lists k knows ins
       multis = tt;
       members = record { slots = tt; offsets = tt };
       syncs = tt;
+      posts = tt;
     })
 
 -- the states that a session sets for itself are all one

@@ -39,6 +39,7 @@ event_keeps start seen by event own rule pages leaves states closed lists k know
       multis = tt;
       members = record { slots = tt; offsets = tt };
       syncs = tt;
+      posts = tt;
     })
 
 pub id_event_law : IdEventKeeps
@@ -84,6 +85,7 @@ made_law start seen by id made next lists k knows inside whole turn =
       multis = tt;
       members = record { slots = tt; offsets = tt };
       syncs = tt;
+      posts = tt;
     })
 
 pub commit_record_law : CommitRecordKeeps
@@ -102,4 +104,5 @@ commit_record_law start seen by top subs opened root parents unasked base lists 
       multis = tt;
       members = record { slots = tt; offsets = tt };
       syncs = tt;
+      posts = tt;
     })

@@ -36,7 +36,8 @@ use Rattle.tx_core.specs.CutsFollow.{NeedsCut}
 use Rattle.tx_core.specs.MultisLegal.{NeedsMulti}
 use Rattle.tx_core.specs.MembersBeforeOffset.{MembersBeforeOffset, NeedsOffsets, NeedsSlots}
 use Rattle.tx_core.specs.SyncsBeforeForgets.{NeedsSync}
-use Rattle.tx_core.proofs.LastingFurther.{counters_lasting, cuts_lasting, multis_lasting, offsets_lasting, slots_lasting, syncs_lasting}
+use Rattle.tx_core.specs.PostsFollow.{NeedsPost}
+use Rattle.tx_core.proofs.LastingFurther.{counters_lasting, cuts_lasting, multis_lasting, offsets_lasting, posts_lasting, slots_lasting, syncs_lasting}
 use Rattle.tx_core.specs.StatusBeforeCommit.{NeedsStates}
 use Rattle.tx_events.specs.declared.event.Event.TheVariants as events
 use Rattle.tx_core.specs.declared.entry.Kind.TheVariants as kinds
@@ -217,4 +218,5 @@ keeps start lists seen lock e k knows inside whole may =
       multis = record { each = kept start seen lists lock e s (NeedsMulti start) (multis_lasting start) k.multis.each may.multis };
       members = members_kept start seen lists lock e s;
       syncs = record { each = kept start seen lists lock e s (NeedsSync start) (syncs_lasting start) k.syncs.each may.syncs };
+      posts = record { each = kept start seen lists lock e s (NeedsPost start) (posts_lasting start) k.posts.each may.posts };
     }

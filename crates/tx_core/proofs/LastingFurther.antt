@@ -8,7 +8,7 @@ use Rattle.tx_events.specs.declared.event.Event.{Event}
 use Rattle.tx_events.specs.declared.multi.Member.{Member}
 use Rattle.tx_events.specs.declared.multi.MultiEvent.{MultiEvent}
 use Rattle.tx_events.specs.declared.record.Rec.{Rec}
-use Rattle.tx_events.specs.Horizon.{oldest_xmin}
+use Rattle.tx_events.specs.Horizon.{oldest_id, oldest_xmin}
 use Rattle.tx_events.specs.Multis.{free_offset, next_made}
 use Rattle.tx_core.specs.declared.entry.Entry.{Entry}
 use Rattle.tx_core.specs.declared.entry.Kind.{Kind}
@@ -25,6 +25,7 @@ use Rattle.tx_core.specs.Locks.{members_lock, members_lock_of, offsets_lock, sub
 use Rattle.tx_core.specs.MembersBeforeOffset.{IsRecorded, NeedsOffsets, NeedsSlots, OffsetOf, SlotOf}
 use Rattle.tx_core.specs.MultiEntries.{IsSlotSet, multi_history, offsets_in, slots_in}
 use Rattle.tx_core.specs.MultisLegal.{NeedsMulti}
+use Rattle.tx_core.specs.PostsFollow.{IsFound, NeedsPost, PostIn}
 use Rattle.tx_core.specs.RecordsFollow.{AppendOf, CheckpointOf, CountersOf, IsMultiAnnounced, IsMultiAt, IsOldestAnnounced, NeedsCounters}
 use Rattle.tx_core.specs.SyncsBeforeForgets.{AreMembersSynced, AreOffsetsSynced, AreStatesSynced, ForgetOf, IsMultiBelow, IsNamedBelow, IsSynced, MayForget, NeedsSync}
 use Rattle.tx_core.specs.declared.entry.Kind.TheVariants as kinds
@@ -169,3 +170,20 @@ forget_stays start lists more before _ g n = tt
 
 pub syncs_lasting : (start : Start) → IsLasting (NeedsSync start)
 syncs_lasting start = record { stays = λ lists more lock before e g n. forget_stays start lists more before e.kind g n }
+
+-- published numbers
+
+found_grows : (shown : List Event → ℕ) (lists more : List (List Entry)) (before : List Entry) (number : ℕ) → Grows lists more → IsFound shown lists before number → IsFound shown more before number
+found_grows shown lists more before number g f =
+    let r = taken_begins (history lists) (history more) f.place (history_grows lists more g) f.within in
+    record { place = f.place; within = r.0; found = f.found ∙ ap (λ (h : List Event). shown h) (sym r.1); rises = f.rises }
+
+post_stays : (start : Start) (lists more : List (List Entry)) (lock : ℕ) (before : List Entry) (kind : Kind) → Grows lists more → PostIn start lists lock before kind → PostIn start more lock before kind
+post_stays start lists more lock before (kinds.Post number) g n = record {
+  oldest = λ q. found_grows (oldest_id start.base.oldest) lists more before number g (n.oldest q);
+  xmin = λ q. found_grows (oldest_xmin start.base.next) lists more before number g (n.xmin q);
+}
+post_stays start lists more lock before _ g n = tt
+
+pub posts_lasting : (start : Start) → IsLasting (NeedsPost start)
+posts_lasting start = record { stays = λ lists more lock before e g n. post_stays start lists more lock before e.kind g n }

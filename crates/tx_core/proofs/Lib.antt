@@ -20,3 +20,4 @@ pub mod Seeing
 pub mod OneCommit
 pub mod OneLeader
 pub mod HorizonLaws
+pub mod Posting

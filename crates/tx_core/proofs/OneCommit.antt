@@ -47,9 +47,9 @@ by session command = record { session = session; command = command }
 abbrev pub entry : By → Kind → Entry
 entry b kind = record { by = b; kind = kind }
 
--- the log, the ProcArray, the multixacts, a bank of each store, and the requests
+-- the log, the ProcArray, the multixacts, a bank of each store, the published words, and the requests
 abbrev empty : List (List Entry)
-empty = [] ∷ [] ∷ [] ∷ [] ∷ [] ∷ [] ∷ [] ∷ [] ∷ []
+empty = [] ∷ [] ∷ [] ∷ [] ∷ [] ∷ [] ∷ [] ∷ [] ∷ [] ∷ [] ∷ []
 
 abbrev pub given_id : Entry
 given_id = entry (by 0 2) (kinds.Event (events.Id (by 0 2) 3))
@@ -101,7 +101,9 @@ none_at (suc (suc (suc (suc zero)))) = refl
 none_at (suc (suc (suc (suc (suc zero))))) = refl
 none_at (suc (suc (suc (suc (suc (suc zero)))))) = refl
 none_at (suc (suc (suc (suc (suc (suc (suc zero))))))) = refl
-none_at (suc (suc (suc (suc (suc (suc (suc (suc lock)))))))) = refl
+none_at (suc (suc (suc (suc (suc (suc (suc (suc zero)))))))) = refl
+none_at (suc (suc (suc (suc (suc (suc (suc (suc (suc zero))))))))) = refl
+none_at (suc (suc (suc (suc (suc (suc (suc (suc (suc (suc lock)))))))))) = refl
 
 at_first : EngineInvariant start empty
 at_first = opens start empty none_at
@@ -125,7 +127,9 @@ quiet_one (suc (suc (suc (suc zero)))) = tt
 quiet_one (suc (suc (suc (suc (suc zero))))) = tt
 quiet_one (suc (suc (suc (suc (suc (suc zero)))))) = tt
 quiet_one (suc (suc (suc (suc (suc (suc (suc zero))))))) = tt
-quiet_one (suc (suc (suc (suc (suc (suc (suc (suc lock)))))))) = tt
+quiet_one (suc (suc (suc (suc (suc (suc (suc (suc zero)))))))) = tt
+quiet_one (suc (suc (suc (suc (suc (suc (suc (suc (suc zero))))))))) = tt
+quiet_one (suc (suc (suc (suc (suc (suc (suc (suc (suc (suc lock)))))))))) = tt
 
 unasked : (id : ℕ) → AsksAbort one 0 id → ⊥
 unasked id a =

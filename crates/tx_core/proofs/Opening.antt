@@ -30,6 +30,7 @@ use Rattle.tx_core.specs.CutsFollow.{NeedsCut}
 use Rattle.tx_core.specs.MultisLegal.{NeedsMulti}
 use Rattle.tx_core.specs.MembersBeforeOffset.{NeedsOffsets, NeedsSlots}
 use Rattle.tx_core.specs.SyncsBeforeForgets.{NeedsSync}
+use Rattle.tx_core.specs.PostsFollow.{NeedsPost}
 use Rattle.tx_core.specs.StatusBeforeCommit.{NeedsStates}
 use Rattle.tx_core.specs.declared.entry.Kind.TheVariants as kinds
 use Rattle.tx_events.specs.declared.record.Rec.TheVariants as records
@@ -62,6 +63,7 @@ opens start lists empty =
       multis = record { each = nothing_upheld (NeedsMulti start) lists empty };
       members = record { slots = nothing_upheld NeedsSlots lists empty; offsets = nothing_upheld (NeedsOffsets start) lists empty };
       syncs = record { each = nothing_upheld (NeedsSync start) lists empty };
+      posts = record { each = nothing_upheld (NeedsPost start) lists empty };
     }
 
 pub asked_given : AskedGiven

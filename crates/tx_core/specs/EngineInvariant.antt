@@ -16,6 +16,7 @@ use Rattle.tx_core.specs.CutsFollow.{CutsFollow, NeedsCut}
 use Rattle.tx_core.specs.MultisLegal.{MultisLegal, NeedsMulti}
 use Rattle.tx_core.specs.MembersBeforeOffset.{MembersBeforeOffset, MaySetMulti}
 use Rattle.tx_core.specs.SyncsBeforeForgets.{SyncsBeforeForgets, NeedsSync}
+use Rattle.tx_core.specs.PostsFollow.{PostsFollow, NeedsPost}
 
 -- The engine invariant, part by part. A further part is a field here and one below.
 pub record EngineInvariant (start : Start) (lists : List (List Entry)) : Type 0 where
@@ -32,6 +33,7 @@ pub record EngineInvariant (start : Start) (lists : List (List Entry)) : Type 0 
   pub multis : MultisLegal start lists
   pub members : MembersBeforeOffset start lists
   pub syncs : SyncsBeforeForgets start lists
+  pub posts : PostsFollow start lists
 
 -- what a session shows of the lists that it has seen, before it adds an entry to one of them
 pub record MayAdd (start : Start) (seen : List (List Entry)) (lock : ℕ) (e : Entry) : Type 0 where
@@ -48,3 +50,4 @@ pub record MayAdd (start : Start) (seen : List (List Entry)) (lock : ℕ) (e : E
   pub multis : NeedsMulti start seen lock (at seen lock) e
   pub members : MaySetMulti start seen lock (at seen lock) e
   pub syncs : NeedsSync start seen lock (at seen lock) e
+  pub posts : NeedsPost start seen lock (at seen lock) e

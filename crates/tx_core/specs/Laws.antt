@@ -8,7 +8,7 @@ use Rattle.tx_events.specs.Base.{IsBase}
 use Rattle.tx_events.specs.Events.{given_to}
 use Rattle.tx_events.specs.Families.{enclosing, is_top, top}
 use Rattle.tx_events.specs.History.{MayCome, next_given}
-use Rattle.tx_events.specs.Horizon.{LiveSnap, live_snaps, oldest_xmin}
+use Rattle.tx_events.specs.Horizon.{LiveSnap, live_snaps, oldest_id, oldest_xmin}
 use Rattle.tx_events.specs.Running.{open_ids}
 use Rattle.tx_core.specs.declared.entry.Change.{Change}
 use Rattle.tx_core.specs.declared.entry.Entry.{Entry}
@@ -22,7 +22,7 @@ use Rattle.tx_core.specs.EngineInvariant.{EngineInvariant, MayAdd}
 use Rattle.tx_core.specs.Entries.{IsAppended, IsLinked, IsMarked, Link, Mark, history, link_of, mark_of, marks, records_of, session_of}
 use Rattle.tx_core.specs.MultiEntries.{SetOffset, SetSlot, multi_history, offset_of, slot_of}
 use Rattle.notes.specs.Lists.{Grows, Knows, add, at}
-use Rattle.tx_core.specs.Locks.{IsPageLock, log_lock, member_page_in_full, offset_page, multi_lock, proc_lock, subtrans_lock, subtrans_lock_of, subtrans_page, xact_lock, xact_lock_of, xact_page}
+use Rattle.tx_core.specs.Locks.{IsPageLock, first_request, log_lock, member_page_in_full, offset_page, multi_lock, oldest_word, proc_lock, subtrans_lock, subtrans_lock_of, subtrans_page, xact_lock, xact_lock_of, xact_page, xmin_word}
 use Rattle.tx_core.specs.LogBeforeStatus.{InTree, IsDurable, RecordOf, TreeOf}
 use Rattle.tx_core.specs.PagesBeforeIds.{IsMade, IsTold, IsWanted, WasMade}
 use Rattle.tx_core.specs.ParentsFollow.{IsGivenBelow}
@@ -172,6 +172,15 @@ abbrev pub MultiEventKeeps : Type 0
 MultiEventKeeps = (start : Start) (seen : List (List Entry)) (by : By) (event : MultiEvent) →
     multi_by event ≡ by → MultiMayCome start.base (InBase start.base) (multi_history seen) event → KindKeeps start seen multi_lock by (kinds.Multi event)
 
+-- The published words. Whoever is inside the ProcArray's lock publishes what the history shows at its end.
+abbrev pub OldestPostKeeps : Type 0
+OldestPostKeeps = (start : Start) (seen : List (List Entry)) (by : By) →
+    EngineInvariant start seen → KindKeeps start seen (oldest_word start) by (kinds.Post (oldest_id start.base.oldest (history seen)))
+
+abbrev pub XminPostKeeps : Type 0
+XminPostKeeps = (start : Start) (seen : List (List Entry)) (by : By) →
+    EngineInvariant start seen → IsBase start.base → KindKeeps start seen (xmin_word start) by (kinds.Post (oldest_xmin start.base.next (history seen)))
+
 -- The banks. What each state needs: its page was made; a committed or sub-committed one has its commit record on disk; a
 -- committed one keeps to the order of pages; the session for which it is set was given the id, and sets it or asked for
 -- it; where that is aborted, the session that sets it for itself has no commit record of it; no other final state was set
@@ -245,7 +254,7 @@ SyncKeeps = (start : Start) (seen : List (List Entry)) (lock : ℕ) (by : By) �
 -- commit record of the id
 abbrev pub RequestKeeps : Type 0
 RequestKeeps = (start : Start) (seen : List (List Entry)) (lock : ℕ) (by : By) (changes : List Change) →
-    3 + 4 * start.banks ≤ lock
+    first_request start ≤ lock
     → ((mark : Mark) → Contains (marks_of changes) mark → GivenOf seen mark)
     → ((mark : Mark) → Contains (marks_of changes) mark → AskUnrecorded seen by.session mark.caller.session mark.id mark.state)
     → KindKeeps start seen lock by (kinds.Request changes)
@@ -322,7 +331,11 @@ AskedGiven = (start : Start) (lists : List (List Entry)) (session id : ℕ) (sta
 abbrev pub HorizonRises : Type 0
 HorizonRises = (start : Start) (lists more : List (List Entry)) → EngineInvariant start more → Grows lists more → IsBase start.base → oldest_xmin start.base.next (history lists) ≤ oldest_xmin start.base.next (history more)
 
--- so one that was seen is not past the xmin of any snapshot that is live later
+-- the announced oldest id never falls
+abbrev pub OldestRises : Type 0
+OldestRises = (start : Start) (lists more : List (List Entry)) → EngineInvariant start more → Grows lists more → oldest_id start.base.oldest (history lists) ≤ oldest_id start.base.oldest (history more)
+
+-- so an oldest xmin that was seen is not past the xmin of any snapshot that is live later
 abbrev pub SnapshotsHold : Type 0
 SnapshotsHold = (start : Start) (lists more : List (List Entry)) (s : LiveSnap) → EngineInvariant start more → Grows lists more → IsBase start.base → Contains (live_snaps start.base.next (history more)) s
     → oldest_xmin start.base.next (history lists) ≤ s.xmin

@@ -15,6 +15,7 @@ pub mod CutsFollow
 pub mod MultisLegal
 pub mod MembersBeforeOffset
 pub mod SyncsBeforeForgets
+pub mod PostsFollow
 pub mod CleanStart
 pub mod EngineInvariant
 pub mod Verdict

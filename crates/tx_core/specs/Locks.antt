@@ -36,6 +36,16 @@ number_of (locks.Subtrans bank) = subtrans_lock bank
 number_of (locks.Offsets bank) = offsets_lock bank
 number_of (locks.Members bank) = members_lock bank
 
+-- The lists behind those of the banks: the published oldest id, the published oldest xmin, and the sessions' requests.
+abbrev pub oldest_word : Start → ℕ
+oldest_word start = 3 + 4 * start.banks
+
+abbrev pub xmin_word : Start → ℕ
+xmin_word start = 4 + 4 * start.banks
+
+abbrev pub first_request : Start → ℕ
+first_request start = 5 + 4 * start.banks
+
 -- the lock of a bank of one of the four stores
 pub record IsPageLock (start : Start) (lock : ℕ) : Type 0 where
   pub from : 3 ≤ lock

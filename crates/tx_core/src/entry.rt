@@ -78,6 +78,10 @@ pub enum Kind {
     Multi {
         event: MultiEvent,
     },
+    /// The oldest id, or the oldest xmin, was published for those who read it under no lock.
+    Post {
+        number: u64,
+    },
     /// A bank of a store: these changes were made.
     Set {
         changes: Sequence<Change>,

@@ -1,4 +1,4 @@
-ghost use Rattle.tx_core.specs.Laws.{Keeps, Opens, CommitRecordKeeps, AbortRecordKeeps, MultiRecordKeeps, CheckpointRecordKeeps, TruncateRecordKeeps, FlushKeeps, ForgetKeeps, LogFaultKeeps, IdEventKeeps, SubEventKeeps, UndoEventKeeps, CommitEventKeeps, AbortEventKeeps, SnapEventKeeps, SnapDropKeeps, OldestKeeps, AskKeeps, MadeKeeps, MultiEventKeeps, ChangesKeep, CommittedKeeps, SubCommittedKeeps, AbortedKeeps, ParentKeeps, ZeroKeeps, CutKeeps, SyncKeeps, FaultKeeps, RequestKeeps, LookKeeps, NeverAborted, CommittedAsked, AskedGiven, HorizonRises, SnapshotsHold};
+ghost use Rattle.tx_core.specs.Laws.{Keeps, Opens, CommitRecordKeeps, AbortRecordKeeps, MultiRecordKeeps, CheckpointRecordKeeps, TruncateRecordKeeps, FlushKeeps, ForgetKeeps, LogFaultKeeps, IdEventKeeps, SubEventKeeps, UndoEventKeeps, CommitEventKeeps, AbortEventKeeps, SnapEventKeeps, SnapDropKeeps, OldestKeeps, AskKeeps, MadeKeeps, MultiEventKeeps, ChangesKeep, CommittedKeeps, SubCommittedKeeps, AbortedKeeps, ParentKeeps, ZeroKeeps, CutKeeps, SyncKeeps, FaultKeeps, RequestKeeps, LookKeeps, NeverAborted, CommittedAsked, AskedGiven, OldestPostKeeps, XminPostKeeps, OldestRises, HorizonRises, SnapshotsHold};
 ghost use Rattle.tx_core.specs.Pages.{PagesShow, ParentsShow};
 ghost use Rattle.tx_core.specs.Verdict.{Decides};
 
@@ -107,6 +107,16 @@ pub fn multi_event()
     ensures { MultiEventKeeps }
 {}
 
+/// The oldest id is published (`oldestXid` of `TransamVariables` in `varsup.c`).
+pub fn oldest_post()
+    ensures { OldestPostKeeps }
+{}
+
+/// The oldest xmin is published (`GlobalVisState` in `procarray.c`).
+pub fn xmin_post()
+    ensures { XminPostKeeps }
+{}
+
 /// A bank is changed, for the session itself and for others that asked for it
 /// (`TransactionGroupUpdateXidStatus` in `clog.c`).
 pub fn changes()
@@ -191,6 +201,11 @@ pub fn pages_show()
 /// The pages of pg_subtrans show the parent that was set last.
 pub fn parents_show()
     ensures { ParentsShow }
+{}
+
+/// The announced oldest id never falls.
+pub fn oldest_rises()
+    ensures { OldestRises }
 {}
 
 /// The oldest xmin never falls.

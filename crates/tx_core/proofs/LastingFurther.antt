@@ -1,7 +1,7 @@
 -- What the parts on the log, on cuts, on multixacts and on syncs ask for stays while lists grow.
 use Rattle.tx_events.proofs.ListSteps.{all_weaker}
-use Rattle.std.proofs.Common.{Contains, List, Some, ap, arith, inl, inr, subst, sym, take, ℕ, ⊎_elim, ◌+◌, ◌∙◌, ◌≡◌, ◌≤◌, ◌⊎◌}
-use Rattle.std.specs.List.{flat_map, slice_get}
+use Rattle.std.proofs.Common.{Contains, List, ap, arith, inl, inr, sym, ℕ, ⊎_elim, ◌+◌, ◌∙◌}
+use Rattle.std.specs.List.{flat_map}
 use Rattle.xid_order.specs.Ids.{id_before}
 use Rattle.tx_events.specs.declared.event.By.{By}
 use Rattle.tx_events.specs.declared.event.Event.{Event}
@@ -26,7 +26,7 @@ use Rattle.tx_core.specs.MembersBeforeOffset.{IsRecorded, NeedsOffsets, NeedsSlo
 use Rattle.tx_core.specs.MultiEntries.{IsSlotSet, multi_history, offsets_in, slots_in}
 use Rattle.tx_core.specs.MultisLegal.{NeedsMulti}
 use Rattle.tx_core.specs.PostsFollow.{IsFound, NeedsPost, PostIn}
-use Rattle.tx_core.specs.RecordsFollow.{AppendOf, CheckpointOf, CountersOf, IsMultiAnnounced, IsMultiAt, IsOldestAnnounced, NeedsCounters}
+use Rattle.tx_core.specs.RecordsFollow.{AppendOf, CountersOf, IsMultiAnnounced, IsMultiAt, IsOldestAnnounced, NeedsCounters}
 use Rattle.tx_core.specs.SyncsBeforeForgets.{AreMembersSynced, AreOffsetsSynced, AreStatesSynced, ForgetOf, IsMultiBelow, IsNamedBelow, IsSynced, MayForget, NeedsSync}
 use Rattle.tx_core.specs.declared.entry.Kind.TheVariants as kinds
 use Rattle.tx_core.specs.declared.entry.LogCall.TheVariants as calls

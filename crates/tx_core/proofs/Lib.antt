@@ -21,3 +21,5 @@ pub mod OneCommit
 pub mod OneLeader
 pub mod HorizonLaws
 pub mod Posting
+pub mod Nearness
+pub mod Cutting

@@ -3,7 +3,6 @@ use Rattle.std.proofs.Common.{Bool, IfSome, List, false, refl, true, ℕ, ◌≡
 use Rattle.std.specs.List.{AllByRecursion, filter_map}
 use Rattle.tx_events.specs.declared.event.By.{By}
 use Rattle.tx_events.specs.declared.event.Event.{Event}
-use Rattle.tx_events.specs.declared.record.Rec.{Rec}
 use Rattle.tx_events.specs.Events.{by_of}
 use Rattle.tx_events.specs.Families.{top}
 use Rattle.tx_events.specs.History.{MayCome}

@@ -11,6 +11,10 @@ pub record IsNear (start : Start) (x : ℕ) : Type 0 where
   pub from : start.base.next + 2 ^ 30 ≤ x + 2 ^ 32
   pub to : x < start.base.next + 2 ^ 30
 
+-- the numbers that come next show nothing
+abbrev pub IsClearFrom : {V : Type 0} → ℕ → (ℕ → Option V) → Type 0
+IsClearFrom next shown = (x : ℕ) → next ≤ x → x < next + 2 ^ 30 → shown x ≡ None
+
 -- The states that the pages of pg_xact show, as far as ids go. It speaks of the start alone, so no entry can change it;
 -- it is a premise of what is said of pages, and no part of what all lists keep.
 pub record CleanStart (start : Start) (shown : ℕ → Option State) : Type 0 where
@@ -23,5 +27,4 @@ pub record CleanStart (start : Start) (shown : ℕ → Option State) : Type 0 wh
   -- a state that shows committed or sub-committed stands at the place of a committed id
   pub place : (x : ℕ) → IsNear start x → (shown x ≡ Some states.Committed) ⊎ (shown x ≡ Some states.SubCommitted)
       → (y : ℕ) × Contains start.committed y × (low_half y ≡ low_half x)
-  -- the ids that come next show nothing
-  pub clean : (x : ℕ) → start.base.next ≤ x → x < start.base.next + 2 ^ 30 → shown x ≡ None
+  pub clean : IsClearFrom start.base.next shown

@@ -1,12 +1,13 @@
 -- What the laws say: each kind of entry, with what its session needs of the lists that it has seen, keeps the invariant.
 use Rattle.std.specs.List.{filter_map}
-use Rattle.std.specs.Prelude.{Contains, IfSome, List, Option, [], length, map, true, ℕ, ◌*◌, ◌+◌, ◌<◌, ◌∷◌, ◌≡◌, ◌≤◌, ◌⊎◌}
+use Rattle.std.specs.Prelude.{Contains, IfSome, List, Option, Some, [], length, map, slice_get, take, true, ℕ, ◌+◌, ◌<◌, ◌^◌, ◌∷◌, ◌≡◌, ◌≤◌, ◌⊎◌}
 use Rattle.tx_events.specs.declared.event.By.{By}
+use Rattle.tx_events.specs.declared.event.Event.{Event}
 use Rattle.tx_events.specs.declared.multi.MultiEvent.{MultiEvent}
 use Rattle.tx_events.specs.declared.record.Rec.{Rec}
 use Rattle.tx_events.specs.Base.{IsBase}
-use Rattle.tx_events.specs.Events.{given_to}
-use Rattle.tx_events.specs.Families.{enclosing, is_top, top}
+use Rattle.tx_events.specs.Events.{given, given_to}
+use Rattle.tx_events.specs.Families.{enclosing, is_top}
 use Rattle.tx_events.specs.History.{MayCome, next_given}
 use Rattle.tx_events.specs.Horizon.{LiveSnap, live_snaps, oldest_id, oldest_xmin}
 use Rattle.tx_events.specs.Running.{open_ids}
@@ -19,7 +20,7 @@ use Rattle.tx_core.specs.declared.entry.State.{State}
 use Rattle.tx_core.specs.AbortRule.{AskUnrecorded, AskedOf, Asks, AsksAbort, GivenOf, IsSameAfter}
 use Rattle.tx_core.specs.CommitRecordsExact.{HasNoRecord}
 use Rattle.tx_core.specs.EngineInvariant.{EngineInvariant, MayAdd}
-use Rattle.tx_core.specs.Entries.{IsAppended, IsLinked, IsMarked, Link, Mark, history, link_of, mark_of, marks, records_of, session_of}
+use Rattle.tx_core.specs.Entries.{IsAppended, IsLinked, IsMarked, Link, Mark, history, link_of, mark_of, marks, records_of, session_of, Stands, cut_in}
 use Rattle.tx_core.specs.MultiEntries.{SetOffset, SetSlot, multi_history, offset_of, slot_of}
 use Rattle.notes.specs.Lists.{Grows, Knows, add, at}
 use Rattle.tx_core.specs.Locks.{IsPageLock, first_request, log_lock, member_page_in_full, offset_page, multi_lock, oldest_word, proc_lock, subtrans_lock, subtrans_lock_of, subtrans_page, xact_lock, xact_lock_of, xact_page, xmin_word}
@@ -32,7 +33,7 @@ use Rattle.tx_core.specs.CutsFollow.{CutBy}
 use Rattle.tx_core.specs.MembersBeforeOffset.{OffsetOf, SlotOf}
 use Rattle.tx_core.specs.SyncsBeforeForgets.{ForgetOf, MayForget}
 use Rattle.tx_events.specs.After.{after_record, ids_of}
-use Rattle.tx_events.specs.Multis.{InBase, MultiMayCome, multi_by}
+use Rattle.tx_events.specs.Multis.{AreLegalMultis, InBase, MultiMayCome, multi_by}
 use Rattle.tx_events.specs.declared.multi.Member.{Member}
 use Rattle.tx_events.specs.declared.record.Counters.{Counters}
 use Rattle.tx_core.specs.declared.entry.Change.TheVariants as changes
@@ -327,6 +328,18 @@ abbrev pub AskedGiven : Type 0
 AskedGiven = (start : Start) (lists : List (List Entry)) (session id : ℕ) (state : State) →
     EngineInvariant start lists → Asks lists session id state → Contains (given_to session (history lists)) id
 
+-- The multixacts' list is one legal history.
+abbrev pub MultisAreLegal : Type 0
+MultisAreLegal = (start : Start) (lists : List (List Entry)) → EngineInvariant start lists → AreLegalMultis start.base (InBase start.base) (multi_history lists)
+
+-- Where fewer than 2^28 ids were given, each page of a bank that was made is at most that of the id 2^30 past the base's next
+-- one: so no two pages that were made are one stored page.
+abbrev pub MadeNear : Type 0
+MadeNear = (start : Start) (lists : List (List Entry)) (bank page : ℕ) →
+    EngineInvariant start lists → length (given (history lists)) < 2 ^ 28
+    → (Stands lists (xact_lock bank) (kinds.Zero page) → page ≤ xact_page (start.base.next + 2 ^ 30))
+    × (Stands lists (subtrans_lock bank) (kinds.Zero page) → page ≤ subtrans_page (start.base.next + 2 ^ 30))
+
 -- the oldest xmin never falls
 abbrev pub HorizonRises : Type 0
 HorizonRises = (start : Start) (lists more : List (List Entry)) → EngineInvariant start more → Grows lists more → IsBase start.base → oldest_xmin start.base.next (history lists) ≤ oldest_xmin start.base.next (history more)
@@ -334,6 +347,29 @@ HorizonRises = (start : Start) (lists more : List (List Entry)) → EngineInvari
 -- the announced oldest id never falls
 abbrev pub OldestRises : Type 0
 OldestRises = (start : Start) (lists more : List (List Entry)) → EngineInvariant start more → Grows lists more → oldest_id start.base.oldest (history lists) ≤ oldest_id start.base.oldest (history more)
+
+-- A published number that came behind another is that of a place no earlier.
+abbrev pub IsLater : (List Event → ℕ) → List (List Entry) → ℕ → Type 0
+IsLater shown lists lock = (i j m n p : ℕ) (a b : By) →
+    slice_get (at lists lock) i ≡ Some (record { by = a; kind = kinds.Post m }) → slice_get (at lists lock) j ≡ Some (record { by = b; kind = kinds.Post n }) → i < j
+    → p ≤ length (history lists) → m ≡ shown (take p (history lists))
+    → (q : ℕ) × (p ≤ q) × (q ≤ length (history lists)) × (n ≡ shown (take q (history lists)))
+
+abbrev pub PostsGoOn : Type 0
+PostsGoOn = (start : Start) (lists : List (List Entry)) → EngineInvariant start lists → IsBase start.base
+    → IsLater (oldest_id start.base.oldest) lists (oldest_word start) × IsLater (oldest_xmin start.base.next) lists (xmin_word start)
+
+-- A page of pg_subtrans is never cut past the parent of an id that a live snapshot may ask for.
+abbrev pub ParentsKept : Type 0
+ParentsKept = (start : Start) (lists : List (List Entry)) (bank page x : ℕ) (e : Entry) (s : LiveSnap) →
+    EngineInvariant start lists → IsBase start.base → Contains (at lists (subtrans_lock bank)) e → cut_in e.kind ≡ Some page
+    → Contains (live_snaps start.base.next (history lists)) s → s.xmin ≤ x → page ≤ subtrans_page x
+
+-- And one of pg_xact is never cut past the announced oldest id.
+abbrev pub StatesKept : Type 0
+StatesKept = (start : Start) (lists : List (List Entry)) (bank page : ℕ) (e : Entry) →
+    EngineInvariant start lists → Contains (at lists (xact_lock bank)) e → cut_in e.kind ≡ Some page
+    → page ≤ xact_page (oldest_id start.base.oldest (history lists))
 
 -- so an oldest xmin that was seen is not past the xmin of any snapshot that is live later
 abbrev pub SnapshotsHold : Type 0

@@ -1,6 +1,6 @@
 -- A session's entries go by its commands, and each stands where some call may add it.
 use Rattle.std.specs.List.{All, AllByRecursion, filter}
-use Rattle.std.specs.Prelude.{Contains, List, map, ℕ, ◌*◌, ◌+◌, ◌==◌, ◌≡◌, ◌≤◌, ◌⊎◌}
+use Rattle.std.specs.Prelude.{Contains, List, map, ℕ, ◌==◌, ◌≡◌, ◌≤◌, ◌⊎◌}
 use Rattle.tx_events.specs.declared.event.By.{By}
 use Rattle.tx_events.specs.Places.{first_seen}
 use Rattle.tx_core.specs.declared.entry.Change.{Change}

@@ -1,5 +1,5 @@
-ghost use Rattle.tx_core.specs.Laws.{Keeps, Opens, CommitRecordKeeps, AbortRecordKeeps, MultiRecordKeeps, CheckpointRecordKeeps, TruncateRecordKeeps, FlushKeeps, ForgetKeeps, LogFaultKeeps, IdEventKeeps, SubEventKeeps, UndoEventKeeps, CommitEventKeeps, AbortEventKeeps, SnapEventKeeps, SnapDropKeeps, OldestKeeps, AskKeeps, MadeKeeps, MultiEventKeeps, ChangesKeep, CommittedKeeps, SubCommittedKeeps, AbortedKeeps, ParentKeeps, ZeroKeeps, CutKeeps, SyncKeeps, FaultKeeps, RequestKeeps, LookKeeps, NeverAborted, CommittedAsked, AskedGiven, OldestPostKeeps, XminPostKeeps, OldestRises, HorizonRises, SnapshotsHold};
-ghost use Rattle.tx_core.specs.Pages.{PagesShow, ParentsShow};
+ghost use Rattle.tx_core.specs.Laws.{Keeps, Opens, CommitRecordKeeps, AbortRecordKeeps, MultiRecordKeeps, CheckpointRecordKeeps, TruncateRecordKeeps, FlushKeeps, ForgetKeeps, LogFaultKeeps, IdEventKeeps, SubEventKeeps, UndoEventKeeps, CommitEventKeeps, AbortEventKeeps, SnapEventKeeps, SnapDropKeeps, OldestKeeps, AskKeeps, MadeKeeps, MultiEventKeeps, ChangesKeep, CommittedKeeps, SubCommittedKeeps, AbortedKeeps, ParentKeeps, ZeroKeeps, CutKeeps, SyncKeeps, FaultKeeps, RequestKeeps, LookKeeps, NeverAborted, CommittedAsked, AskedGiven, OldestPostKeeps, XminPostKeeps, OldestRises, PostsGoOn, MultisAreLegal, MadeNear, ParentsKept, StatesKept, HorizonRises, SnapshotsHold};
+ghost use Rattle.tx_core.specs.Pages.{PagesShow, ParentsShow, OffsetsShow, MembersShow};
 ghost use Rattle.tx_core.specs.Verdict.{Decides};
 
 /// Any entry that its session may add keeps the engine invariant.
@@ -193,7 +193,7 @@ pub fn visibility()
     ensures { Decides }
 {}
 
-/// The pages of pg_xact show the state that was set last: no page is made late.
+/// The pages of pg_xact show the state that was set last, behind each beginning of their list: no page is made late.
 pub fn pages_show()
     ensures { PagesShow }
 {}
@@ -203,9 +203,44 @@ pub fn parents_show()
     ensures { ParentsShow }
 {}
 
+/// The pages of offsets show the offset that was set last.
+pub fn offsets_show()
+    ensures { OffsetsShow }
+{}
+
+/// The pages of members show the member that was set last.
+pub fn members_show()
+    ensures { MembersShow }
+{}
+
 /// The announced oldest id never falls.
 pub fn oldest_rises()
     ensures { OldestRises }
+{}
+
+/// A number that was published behind another is that of a place of the history no earlier.
+pub fn posts_go_on()
+    ensures { PostsGoOn }
+{}
+
+/// The multixacts' list is one legal history.
+pub fn multis_are_legal()
+    ensures { MultisAreLegal }
+{}
+
+/// While few ids were given, pages that were made are near the life's first one.
+pub fn made_near()
+    ensures { MadeNear }
+{}
+
+/// No page of pg_subtrans is cut that a live snapshot may ask for.
+pub fn parents_kept()
+    ensures { ParentsKept }
+{}
+
+/// No page of pg_xact is cut past the announced oldest id.
+pub fn states_kept()
+    ensures { StatesKept }
 {}
 
 /// The oldest xmin never falls.

@@ -24,7 +24,7 @@ use Rattle.notes.specs.Lists.{Begins, Grows, at}
 use Rattle.tx_core.specs.Lists.{IsLasting}
 use Rattle.tx_core.specs.Locks.{log_lock, proc_lock, subtrans_lock_of, xact_lock_of}
 use Rattle.tx_core.specs.LogBeforeStatus.{IsDurable, NeedsRecords, NeedsTree, RecordOf, TreeOf}
-use Rattle.tx_core.specs.PagesBeforeIds.{IsFree, IsMade, IsTold, IsWanted, NeedsPages, NeedsPlace, NeedsZero, PagesOf, ZeroOf}
+use Rattle.tx_core.specs.PagesBeforeIds.{IsMade, IsOffsetOf, IsTold, IsWanted, NeedsPages, NeedsPlace, NeedsZero, PagesOf, ZeroOf}
 use Rattle.tx_core.specs.ParentsFollow.{IsGivenBelow, NeedsSubs}
 use Rattle.tx_core.specs.MultiEntries.{multi_history}
 use Rattle.tx_core.specs.ProgramOrder.{NeedsStand, NeedsTurn}
@@ -170,20 +170,20 @@ turns_lasting = record { stays = λ lists more lock before e g n. n }
 pub stand_lasting : (start : Start) → IsLasting (NeedsStand start)
 stand_lasting start = record { stays = λ lists more lock before e g n. n }
 
-free_grows : (start : Start) (lists more : List (List Entry)) (offset : ℕ) → Grows lists more → IsFree start lists offset → IsFree start more offset
-free_grows start lists more offset g f =
-    let r = taken_begins (multi_history lists) (multi_history more) f.0 (multis_grow lists more g) f.1 in
-    (f.0, r.0, subst (λ (h : List MultiEvent). offset ≤ free_offset start.base.offset h) (sym r.1) f.2)
+offset_grows : (start : Start) (lists more : List (List Entry)) (offset : ℕ) → Grows lists more → IsOffsetOf start lists offset → IsOffsetOf start more offset
+offset_grows start lists more offset g f =
+    let r = taken_begins (multi_history lists) (multi_history more) f.1 (multis_grow lists more g) f.2 in
+    (f.0, f.1, r.0, subst (λ (h : List MultiEvent). offset ≤ free_offset start.base.offset h) (sym r.1) f.3)
 
 wanted_grows : (start : Start) (lists more : List (List Entry)) (lock page : ℕ) → Grows lists more → IsWanted start lists lock page → IsWanted start more lock page
 wanted_grows start lists more lock page g w =
     let ids : next_given start.base.next (history lists) ≤ next_given start.base.next (history more) = given_more start.base (history lists) (history more) (history_grows lists more g) in
     let multis : next_made start.base.multi (multi_history lists) ≤ next_made start.base.multi (multi_history more) = made_more start.base.multi (multi_history lists) (multi_history more) (multis_grow lists more g) in
     record {
-      xact = λ bank q. let r = w.xact bank q in let le = r.2 in (r.0, r.1, omega arith);
-      subtrans = λ bank q. let r = w.subtrans bank q in let le = r.2 in (r.0, r.1, omega arith);
-      offsets = λ bank q. let r = w.offsets bank q in let le = r.2 in (r.0, r.1, omega arith);
-      members = λ bank q. let r = w.members bank q in (r.0, r.1, free_grows start lists more r.0 g r.2);
+      xact = λ bank q. let r = w.xact bank q in let le = r.2.1 in (r.0, r.1, (r.2.0, omega arith));
+      subtrans = λ bank q. let r = w.subtrans bank q in let le = r.2.1 in (r.0, r.1, (r.2.0, omega arith));
+      offsets = λ bank q. let r = w.offsets bank q in let le = r.2.1 in (r.0, r.1, (r.2.0, omega arith));
+      members = λ bank q. let r = w.members bank q in (r.0, r.1, offset_grows start lists more r.0 g r.2);
     }
 
 zero_stays : (start : Start) (lists more : List (List Entry)) (lock : ℕ) (kind : Kind) → Grows lists more → ZeroOf start lists lock kind → ZeroOf start more lock kind

@@ -47,6 +47,6 @@ wanted start lists lock page by k c = (upheld_has (NeedsZero start) lists lock (
 pub made_near : MadeNear
 made_near start lists bank page k few =
     let upto = nth_upto start.base.next (length (given (history lists))) in (
-      λ z. let w = (wanted start lists (xact_lock bank) page z.0 k z.1).xact bank refl in let on = w.1 in let le = w.2 in omega arith,
-      λ z. let w = (wanted start lists (subtrans_lock bank) page z.0 k z.1).subtrans bank refl in let on = w.1 in let le = w.2 in omega arith,
+      λ z. let w = (wanted start lists (xact_lock bank) page z.0 k z.1).xact bank refl in let on = w.1 in let from = w.2.0 in let le = w.2.1 in (omega arith, omega arith),
+      λ z. let w = (wanted start lists (subtrans_lock bank) page z.0 k z.1).subtrans bank refl in let on = w.1 in let from = w.2.0 in let le = w.2.1 in (omega arith, omega arith),
     )

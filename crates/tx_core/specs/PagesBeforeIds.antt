@@ -43,18 +43,25 @@ pub record NeedsPlace (start : Start) (lists : List (List Entry)) (lock : ℕ) (
   pub offsets : EachOffset (λ set. WasMade before (offset_page start.base.multi) (offset_page set.multi)) e
   pub slots : EachSlot (λ slot. WasMade before (member_page_in_full start.base.offset) (member_page_in_full slot.offset)) e
 
--- an offset of members that were given, or the next free one then
-abbrev pub IsFree : Start → List (List Entry) → ℕ → Type 0
-IsFree start lists offset =
-    (p : ℕ) × (p ≤ length (multi_history lists)) × (offset ≤ free_offset start.base.offset (take p (multi_history lists)))
+-- an id of the life that was given, or that comes next
+abbrev pub IsIdOf : Start → List (List Entry) → ℕ → Type 0
+IsIdOf start lists id = (start.base.next ≤ id) × (id ≤ next_given start.base.next (history lists))
 
--- A page that is made is that of an id, a multixact or an offset that was given, or that comes next. The pages in full.
+-- so a multixact
+abbrev pub IsMultiOf : Start → List (List Entry) → ℕ → Type 0
+IsMultiOf start lists multi = (start.base.multi ≤ multi) × (multi ≤ next_made start.base.multi (multi_history lists))
+
+-- and an offset of its members: the free one at some place of the history, or one before
+abbrev pub IsOffsetOf : Start → List (List Entry) → ℕ → Type 0
+IsOffsetOf start lists offset =
+    (start.base.offset ≤ offset) × (p : ℕ) × (p ≤ length (multi_history lists)) × (offset ≤ free_offset start.base.offset (take p (multi_history lists)))
+
+-- A page that is made is that of such a number. The pages in full.
 pub record IsWanted (start : Start) (lists : List (List Entry)) (lock page : ℕ) : Type 0 where
-  pub xact : (bank : ℕ) → lock ≡ xact_lock bank → (id : ℕ) × (xact_page id ≡ page) × (id ≤ next_given start.base.next (history lists))
-  pub subtrans : (bank : ℕ) → lock ≡ subtrans_lock bank → (id : ℕ) × (subtrans_page id ≡ page) × (id ≤ next_given start.base.next (history lists))
-  pub offsets : (bank : ℕ) → lock ≡ offsets_lock bank → (multi : ℕ) × (offset_page multi ≡ page) × (multi ≤ next_made start.base.multi (multi_history lists))
-  pub members : (bank : ℕ) → lock ≡ members_lock bank
-      → (offset : ℕ) × (member_page_in_full offset ≡ page) × IsFree start lists offset
+  pub xact : (bank : ℕ) → lock ≡ xact_lock bank → (id : ℕ) × (xact_page id ≡ page) × IsIdOf start lists id
+  pub subtrans : (bank : ℕ) → lock ≡ subtrans_lock bank → (id : ℕ) × (subtrans_page id ≡ page) × IsIdOf start lists id
+  pub offsets : (bank : ℕ) → lock ≡ offsets_lock bank → (multi : ℕ) × (offset_page multi ≡ page) × IsMultiOf start lists multi
+  pub members : (bank : ℕ) → lock ≡ members_lock bank → (offset : ℕ) × (member_page_in_full offset ≡ page) × IsOffsetOf start lists offset
 
 abbrev pub ZeroOf : Start → List (List Entry) → ℕ → Kind → Type 0
 ZeroOf start lists lock (kinds.Zero page) = IsWanted start lists lock page

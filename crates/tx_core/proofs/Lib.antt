@@ -23,3 +23,4 @@ pub mod HorizonLaws
 pub mod Posting
 pub mod Nearness
 pub mod Cutting
+pub mod RecordNext

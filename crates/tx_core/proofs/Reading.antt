@@ -67,7 +67,7 @@ states_has x (m ∷ ms) mark k q =
     k
 
 -- once an id is set committed, committed is read
-committed_last : (o : Option State) (x : ℕ) (b : By) (es : List Entry) → ((p : ℕ) (e : Entry) → slice_get es p ≡ Some e → NeedsSame [] 0 (take p es) e) → Has (marks es) (record { caller = b; id = x; state = states.Committed }) → last_or o (filter_map (state_for x) (marks es)) ≡ Some states.Committed
+pub committed_last : (o : Option State) (x : ℕ) (b : By) (es : List Entry) → ((p : ℕ) (e : Entry) → slice_get es p ≡ Some e → NeedsSame [] 0 (take p es) e) → Has (marks es) (record { caller = b; id = x; state = states.Committed }) → last_or o (filter_map (state_for x) (marks es)) ≡ Some states.Committed
 committed_last o x b = by_end (λ es. ((p : ℕ) (e : Entry) → slice_get es p ≡ Some e → NeedsSame [] 0 (take p es) e) → Has (marks es) (record { caller = b; id = x; state = states.Committed }) → last_or o (filter_map (state_for x) (marks es)) ≡ Some states.Committed)
     (λ each k. absurd k)
     (λ es e before each k.

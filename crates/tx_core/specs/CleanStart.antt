@@ -1,15 +1,18 @@
 -- What the pages show when a life begins.
-use Rattle.std.specs.Prelude.{◌≡◌, ℕ, ◌+◌, ◌^◌, ◌<◌, ◌≤◌, ◌⊎◌, Option, Some, None, Contains}
+use Rattle.std.specs.Prelude.{◌≡◌, ℕ, ◌+◌, ◌-◌, ◌^◌, ◌<◌, ◌≤◌, ◌⊎◌, Option, Some, None, Contains}
 use Rattle.xid_order.specs.Ids.{low_half}
 use Rattle.tx_events.specs.Base.{IsBase}
 use Rattle.tx_core.specs.declared.entry.Start.{Start}
 use Rattle.tx_core.specs.declared.entry.State.{State}
 use Rattle.tx_core.specs.declared.entry.State.TheVariants as states
 
--- one id of each stored number: up to 2^30 past the base's next one
+-- Of each stored number one id: up to 2^30 past the base's next one, and 2^32 in all.
+abbrev pub first_near : Start → ℕ
+first_near start = start.base.next + 2 ^ 30 - 2 ^ 32
+
 pub record IsNear (start : Start) (x : ℕ) : Type 0 where
-  pub from : start.base.next + 2 ^ 30 ≤ x + 2 ^ 32
-  pub to : x < start.base.next + 2 ^ 30
+  pub from : first_near start ≤ x
+  pub to : x < first_near start + 2 ^ 32
 
 -- the numbers that come next show nothing
 abbrev pub IsClearFrom : {V : Type 0} → ℕ → (ℕ → Option V) → Type 0

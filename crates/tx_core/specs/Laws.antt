@@ -340,6 +340,10 @@ MadeNear = (start : Start) (lists : List (List Entry)) (bank page : ℕ) →
     → (Stands lists (xact_lock bank) (kinds.Zero page) → (xact_page start.base.next ≤ page) × (page ≤ xact_page (start.base.next + 2 ^ 30)))
     × (Stands lists (subtrans_lock bank) (kinds.Zero page) → (subtrans_page start.base.next ≤ page) × (page ≤ subtrans_page (start.base.next + 2 ^ 30)))
 
+-- the records of the log don't raise the next id past those given
+abbrev pub NextGiven : Type 0
+NextGiven = (start : Start) (lists : List (List Entry)) → EngineInvariant start lists → IsBase start.base → (counters_after start (at lists log_lock)).next ≤ next_given start.base.next (history lists)
+
 -- the oldest xmin never falls
 abbrev pub HorizonRises : Type 0
 HorizonRises = (start : Start) (lists more : List (List Entry)) → EngineInvariant start more → Grows lists more → IsBase start.base → oldest_xmin start.base.next (history lists) ≤ oldest_xmin start.base.next (history more)

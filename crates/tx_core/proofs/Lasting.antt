@@ -6,6 +6,7 @@ use Rattle.std.specs.List.{filter, flat_map}
 use Rattle.tx_events.specs.declared.event.Event.{Event}
 use Rattle.tx_events.specs.declared.event.By.{By}
 use Rattle.tx_events.specs.declared.multi.MultiEvent.{MultiEvent}
+use Rattle.tx_events.specs.declared.multi.MultiEvent.TheVariants as multis
 use Rattle.tx_events.specs.declared.record.Rec.{Rec}
 use Rattle.tx_events.specs.Events.{given_by, given_to, is_of}
 use Rattle.tx_events.specs.Families.{top}
@@ -195,8 +196,10 @@ zero_lasting start = record { stays = λ lists more lock before e g n. zero_stay
 
 ids_stay : (start : Start) (lists more : List (List Entry)) (by : By) (rec : Rec) → Grows lists more → IdsOf start lists by rec → IdsOf start more by rec
 ids_stay start lists more by (records.Abort top subs) g n = λ id c. contains_begins (given_to by.session (history lists)) (given_to by.session (history more)) id (given_to_begins by.session (history lists) (history more) (history_grows lists more g)) (n id c)
-ids_stay start lists more by (records.Multi multi offset members) g n =
-    λ id c. let le = given_more start.base (history lists) (history more) (history_grows lists more g) in let lt = n id c in omega arith
+ids_stay start lists more by (records.Multi multi offset members) g n = (
+  (n.0.0, n.0.1, contains_begins (multi_history lists) (multi_history more) (multis.Gen n.0.0 multi offset members) (multis_grow lists more g) n.0.2),
+  λ id c. let le = given_more start.base (history lists) (history more) (history_grows lists more g) in let lt = n.1 id c in omega arith,
+)
 ids_stay start lists more by _ g n = tt
 
 named_stays : (start : Start) (lists more : List (List Entry)) (by : By) (kind : Kind) → Grows lists more → NamedOf start lists by kind → NamedOf start more by kind

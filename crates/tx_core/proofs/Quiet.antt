@@ -161,8 +161,8 @@ abort_record_law start seen by top subs base given =
     quiet_keeps start seen log_lock by (kinds.Append (records.Abort top subs)) refl refl (record { made = tt; counters = (base, tt); named = given; flushed = tt; cuts = tt; multis = tt; syncs = tt; posts = tt })
 
 pub multi_record_law : MultiRecordKeeps
-multi_record_law start seen by multi offset members base given =
-    quiet_keeps start seen log_lock by (kinds.Append (records.Multi multi offset members)) refl refl (record { made = tt; counters = (base, tt); named = given; flushed = tt; cuts = tt; multis = tt; syncs = tt; posts = tt })
+multi_record_law start seen by multi offset members base gen given =
+    quiet_keeps start seen log_lock by (kinds.Append (records.Multi multi offset members)) refl refl (record { made = tt; counters = (base, tt); named = (gen, given); flushed = tt; cuts = tt; multis = tt; syncs = tt; posts = tt })
 
 pub checkpoint_record_law : CheckpointRecordKeeps
 checkpoint_record_law start seen by number counters base follows =

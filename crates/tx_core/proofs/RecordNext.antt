@@ -78,7 +78,7 @@ record_next start lists by rec c k is here le =
           past_upto c.next (next_given start.base.next h) (top ∷ subs) le (λ id g. of_given id (given_to_given by.session h id (contains_has _ _ (n id (has_contains (top ∷ subs) id g)))))
       | records.Multi multi offset members ↦ λ q.
           let n : NeedsNamed start lists log_lock named.0 (record { by = by; kind = kinds.Append (records.Multi multi offset members) }) = subst (λ (z : Rec). NeedsNamed start lists log_lock named.0 (record { by = by; kind = kinds.Append z })) q named.1 in
-          past_upto c.next (next_given start.base.next h) (ids_of members) le (λ id g. next_least id (next_given start.base.next h) full (n id (has_contains (ids_of members) id g)))
+          past_upto c.next (next_given start.base.next h) (ids_of members) le (λ id g. next_least id (next_given start.base.next h) full (n.1 id (has_contains (ids_of members) id g)))
       | records.Checkpoint number other ↦ λ q.
           let n : NeedsCounters start lists log_lock counters.0 (record { by = by; kind = kinds.Append (records.Checkpoint number other) }) = subst (λ (z : Rec). NeedsCounters start lists log_lock counters.0 (record { by = by; kind = kinds.Append z })) q counters.1 in
           let a = n.1.next in let m : max c.next other.next ≤ next_given start.base.next h = grind arith in m

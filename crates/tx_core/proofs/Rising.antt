@@ -35,7 +35,7 @@ given_rest base h = by_end (λ rest. next_given base.next h ≤ next_given base.
 pub given_more : (base : Counters) (h more : List Event) → Begins h more → next_given base.next h ≤ next_given base.next more
 given_more base h more b = subst (λ (t : List Event). next_given base.next h ≤ next_given base.next t) b.1 (given_rest base h b.0)
 
-multi_above : (n : ℕ) → n < next_multi n
+pub multi_above : (n : ℕ) → n < next_multi n
 multi_above n = elim (nat_lt (low_half (n + 1)) 1) as (λ b. n < cond b (n + 2) (n + 1)) [ true ↦ omega arith | false ↦ omega arith ]
 
 made_rest : (first n k : ℕ) → nth_multi first n ≤ nth_multi first (n + k)

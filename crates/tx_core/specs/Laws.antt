@@ -28,7 +28,7 @@ use Rattle.tx_core.specs.LogBeforeStatus.{InTree, IsDurable, RecordOf, TreeOf}
 use Rattle.tx_core.specs.PagesBeforeIds.{IsMade, IsTold, IsWanted, WasMade}
 use Rattle.tx_core.specs.ParentsFollow.{IsGivenBelow}
 use Rattle.tx_core.specs.ProgramOrder.{AreCallers, AreOn, IsInTurn}
-use Rattle.tx_core.specs.RecordsFollow.{CheckpointOf, IsMultiAnnounced, IsOldestAnnounced, counters_after}
+use Rattle.tx_core.specs.RecordsFollow.{CheckpointOf, IsGenOf, IsMultiAnnounced, IsOldestAnnounced, counters_after}
 use Rattle.tx_core.specs.CutsFollow.{CutBy}
 use Rattle.tx_core.specs.MembersBeforeOffset.{OffsetOf, SlotOf}
 use Rattle.tx_core.specs.SyncsBeforeForgets.{ForgetOf, MayForget}
@@ -81,10 +81,11 @@ AbortRecordKeeps = (start : Start) (seen : List (List Entry)) (by : By) (top : �
     → ((id : ℕ) → Contains (top ∷ subs) id → Contains (given_to by.session (history seen)) id)
     → KindKeeps start seen log_lock by (kinds.Append (records.Abort top subs))
 
--- a multixact's members were given
+-- the multixact was given to the session, and its members were given
 abbrev pub MultiRecordKeeps : Type 0
 MultiRecordKeeps = (start : Start) (seen : List (List Entry)) (by : By) (multi offset : ℕ) (members : List Member) →
     StaysBase start seen (records.Multi multi offset members)
+    → IsGenOf seen by.session multi offset members
     → ((id : ℕ) → Contains (ids_of members) id → id < next_given start.base.next (history seen))
     → KindKeeps start seen log_lock by (kinds.Append (records.Multi multi offset members))
 

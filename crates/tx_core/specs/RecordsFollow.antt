@@ -2,6 +2,7 @@
 use Rattle.std.specs.Prelude.{◌≡◌, ℕ, ◌+◌, ◌<◌, ◌≤◌, ◌⊎◌, List, ◌∷◌, length, take, Contains}
 use Rattle.tx_events.specs.declared.event.By.{By}
 use Rattle.tx_events.specs.declared.event.Event.TheVariants as events
+use Rattle.tx_events.specs.declared.multi.Member.{Member}
 use Rattle.tx_events.specs.declared.multi.MultiEvent.TheVariants as multis
 use Rattle.tx_events.specs.declared.record.Counters.{Counters}
 use Rattle.tx_events.specs.declared.record.Rec.{Rec}
@@ -69,10 +70,16 @@ AppendOf start lists before _ = Unit {0}
 abbrev pub NeedsCounters : Start → List (List Entry) → ℕ → List Entry → Entry → Type 0
 NeedsCounters start lists lock before e = AppendOf start lists before e.kind
 
--- an abort record names ids that were given to its session, and the record of a multixact names no id that wasn't given
+-- the multixact was given to the session at this offset with these members
+abbrev pub IsGenOf : List (List Entry) → ℕ → ℕ → ℕ → List Member → Type 0
+IsGenOf lists session multi offset members = (by : By) × (by.session ≡ session) × Contains (multi_history lists) (multis.Gen by multi offset members)
+
+-- an abort record names ids that were given to its session; the record of a multixact one that its session was given, and
+-- no id that wasn't given
 abbrev pub IdsOf : Start → List (List Entry) → By → Rec → Type 0
 IdsOf start lists by (records.Abort top subs) = (id : ℕ) → Contains (top ∷ subs) id → Contains (given_to by.session (history lists)) id
-IdsOf start lists by (records.Multi multi offset members) = (id : ℕ) → Contains (ids_of members) id → id < next_given start.base.next (history lists)
+IdsOf start lists by (records.Multi multi offset members) =
+    IsGenOf lists by.session multi offset members × ((id : ℕ) → Contains (ids_of members) id → id < next_given start.base.next (history lists))
 IdsOf start lists by _ = Unit {0}
 
 abbrev pub NamedOf : Start → List (List Entry) → By → Kind → Type 0
@@ -92,7 +99,7 @@ NeedsFlush start lists lock before e = FlushOf start before e.kind
 
 -- The counters after each record are a base. A checkpoint's are not below those of the records before it, and neither
 -- they nor a truncation's are past what was given or announced. The ids that abort records and records of multixacts
--- name were given. A flush reaches no further than the records before it.
+-- name were given, and so was the multixact. A flush reaches no further than the records before it.
 pub record RecordsFollow (start : Start) (lists : List (List Entry)) : Type 0 where
   pub counters : Upheld (NeedsCounters start) lists
   pub named : Upheld (NeedsNamed start) lists

@@ -13,7 +13,7 @@ use Rattle.tx_events.specs.History.{MayCome}
 use Rattle.tx_core.specs.declared.entry.Entry.{Entry}
 use Rattle.tx_core.specs.declared.entry.Kind.{Kind}
 use Rattle.tx_core.specs.declared.entry.Start.{Start}
-use Rattle.tx_core.specs.AbortRule.{AbortedFor, AskUnrecorded, AskedOf, IsSameAfter, MayAbort, NeedsAsked, NeedsSame, RecordUnasked}
+use Rattle.tx_core.specs.AbortRule.{AskUnrecorded, AskedOf, GivenOf, IsSameAfter, MayAbort, NeedsAsked, NeedsGiven, NeedsSame, RecordUnasked}
 use Rattle.tx_core.specs.CommitRecordsExact.{LeavesRecords, MayBeExact, RecordMay}
 use Rattle.tx_core.specs.Entries.{Link, Mark, asked_in, asks_in, changes_in, event_in, event_of, history, links_in, mark_of, marks_in}
 use Rattle.tx_core.specs.EventsLegal.{MayBeLegal, NeedsOwn}
@@ -55,9 +55,11 @@ sub_of lists lock before e link n k = all_at (λ link. IsGivenBelow lists link.c
 pub logged_of : (start : Start) (lists : List (List Entry)) (lock : ℕ) (before : List Entry) (e : Entry) (mark : Mark) → NeedsRecords start lists lock before e → Has (marks_in e) mark → RecordOf start lists mark.caller.session mark.id mark.state
 logged_of start lists lock before e mark n k = all_at (λ mark. RecordOf start lists mark.caller.session mark.id mark.state) (marks_in e) mark n k
 
-pub aborted_of : (lists : List (List Entry)) (lock : ℕ) (before : List Entry) (e : Entry) (mark : Mark) → NeedsAsked lists lock before e → Has (marks_in e) mark → mark.state ≡ states.Aborted → AbortedFor lists e.by.session mark.caller.session mark.id
-aborted_of lists lock before e mark n k a =
-    let r : AskedOf lists e.by.session mark.caller.session mark.id states.Aborted = subst (λ s. AskedOf lists e.by.session mark.caller.session mark.id s) a (all_at (λ mark. AskedOf lists e.by.session mark.caller.session mark.id mark.state) (marks_in e) mark n k) in r
+pub asked_of : (lists : List (List Entry)) (lock : ℕ) (before : List Entry) (e : Entry) (mark : Mark) → NeedsAsked lists lock before e → Has (marks_in e) mark → AskedOf lists e.by.session mark
+asked_of lists lock before e mark n k = all_at (λ mark. AskedOf lists e.by.session mark) (marks_in e) mark n k
+
+pub given_of : (lists : List (List Entry)) (lock : ℕ) (before : List Entry) (e : Entry) (mark : Mark) → NeedsGiven lists lock before e → Has (asks_in e) mark → GivenOf lists mark
+given_of lists lock before e mark n k = all_at (λ mark. GivenOf lists mark) (asks_in e) mark n k
 
 event_kind : (kind : Kind) (event : Event) → event_in kind ≡ Some event → kind ≡ kinds.Event event
 event_kind (kinds.Event other) event g = ap kinds.Event (same_Some other event g)

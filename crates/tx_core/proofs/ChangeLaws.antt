@@ -9,12 +9,14 @@ use Rattle.tx_core.specs.declared.entry.Entry.{Entry}
 use Rattle.tx_core.specs.declared.entry.Start.{Start}
 use Rattle.tx_core.specs.declared.entry.State.{State}
 use Rattle.tx_core.proofs.Keeping.{keeps}
-use Rattle.tx_core.specs.AbortRule.{AskUnrecorded, AskedOf, IsSameAfter}
+use Rattle.tx_core.specs.AbortRule.{AskUnrecorded, AskedOf, GivenOf, IsSameAfter}
 use Rattle.tx_core.specs.Entries.{Link, Mark}
-use Rattle.tx_core.specs.Laws.{AbortedKeeps, AreThere, ChangesKeep, CommittedKeeps, FaultKeeps, MayChange, MayLink, MayMark, ParentKeeps, RequestKeeps, SubCommittedKeeps, all_set, links_of, marks_of}
+use Rattle.tx_core.specs.Laws.{AbortedKeeps, AreThere, ChangesKeep, CommittedKeeps, FaultKeeps, MayChange, MayLink, MayMark, ParentKeeps, RequestKeeps, SubCommittedKeeps, all_set, links_of, marks_of, offsets_of, slots_of}
 use Rattle.notes.specs.Lists.{at}
-use Rattle.tx_core.specs.Locks.{subtrans_lock, subtrans_page, xact_lock, xact_lock_of, xact_page}
+use Rattle.tx_core.specs.Locks.{member_page_in_full, offset_page, subtrans_lock, subtrans_page, xact_lock, xact_lock_of, xact_page}
 use Rattle.tx_core.specs.LogBeforeStatus.{RecordOf, TreeOf}
+use Rattle.tx_core.specs.MultiEntries.{SetOffset, SetSlot}
+use Rattle.tx_core.specs.MembersBeforeOffset.{OffsetOf, SlotOf}
 use Rattle.tx_core.specs.PagesBeforeIds.{WasMade}
 use Rattle.tx_core.specs.ParentsFollow.{IsGivenBelow}
 use Rattle.tx_core.specs.ProgramOrder.{change_lock}
@@ -27,12 +29,17 @@ record Asked (start : Start) (seen : List (List Entry)) (before : List Entry) (s
   made : AllByRecursion (λ mark. WasMade before (xact_page start.base.next) (xact_page mark.id)) (marks_of changes)
   logged : AllByRecursion (λ mark. RecordOf start seen mark.caller.session mark.id mark.state) (marks_of changes)
   tree : AllByRecursion (λ mark. TreeOf start seen mark.caller.session mark.id mark.state) (marks_of changes)
-  asked : AllByRecursion (λ mark. AskedOf seen session mark.caller.session mark.id mark.state) (marks_of changes)
+  given : AllByRecursion (λ mark. GivenOf seen mark) (marks_of changes)
+  asked : AllByRecursion (λ mark. AskedOf seen session mark) (marks_of changes)
   unrecorded : AllByRecursion (λ mark. AskUnrecorded seen session mark.caller.session mark.id mark.state) (marks_of changes)
   later : AllByRecursion (λ mark. IsSameAfter before mark) (marks_of changes)
   alike : AllByRecursion (λ mark. AllByRecursion (λ other. other.id ≡ mark.id → other.state ≡ mark.state) (marks_of changes)) (marks_of changes)
   made_links : AllByRecursion (λ link. WasMade before (subtrans_page start.base.next) (subtrans_page link.id)) (links_of changes)
   subs : AllByRecursion (λ link. IsGivenBelow seen link.caller.session link.parent link.id) (links_of changes)
+  made_offsets : AllByRecursion (λ set. WasMade before (offset_page start.base.multi) (offset_page set.multi)) (offsets_of changes)
+  offsets : AllByRecursion (λ set. OffsetOf start seen set) (offsets_of changes)
+  slots : AllByRecursion (λ slot. SlotOf seen slot) (slots_of changes)
+  made_slots : AllByRecursion (λ slot. WasMade before (member_page_in_full start.base.offset) (member_page_in_full slot.offset)) (slots_of changes)
 
 asked_of_each : (start : Start) (seen : List (List Entry)) (lock session : ℕ) (changes : List Change) → MayChange start seen lock session changes → Asked start seen (at seen lock) session changes
 asked_of_each start seen lock session changes may =
@@ -43,13 +50,18 @@ asked_of_each start seen lock session changes may =
       made = all_from (λ mark. WasMade before (xact_page start.base.next) (xact_page mark.id)) (marks_of changes) (λ mark k. (mark_of_each mark k).page);
       logged = all_from (λ mark. RecordOf start seen mark.caller.session mark.id mark.state) (marks_of changes) (λ mark k. (mark_of_each mark k).durable);
       tree = all_from (λ mark. TreeOf start seen mark.caller.session mark.id mark.state) (marks_of changes) (λ mark k. (mark_of_each mark k).tree);
-      asked = all_from (λ mark. AskedOf seen session mark.caller.session mark.id mark.state) (marks_of changes) (λ mark k. (mark_of_each mark k).asked);
+      given = all_from (λ mark. GivenOf seen mark) (marks_of changes) (λ mark k. (mark_of_each mark k).given);
+      asked = all_from (λ mark. AskedOf seen session mark) (marks_of changes) (λ mark k. (mark_of_each mark k).asked);
       unrecorded = all_from (λ mark. AskUnrecorded seen session mark.caller.session mark.id mark.state) (marks_of changes) (λ mark k. (mark_of_each mark k).unrecorded);
       later = all_from (λ mark. IsSameAfter before mark) (marks_of changes) (λ mark k. (mark_of_each mark k).final);
       alike = all_from (λ mark. AllByRecursion (λ other. other.id ≡ mark.id → other.state ≡ mark.state) (marks_of changes)) (marks_of changes) (λ mark k.
           all_from (λ other. other.id ≡ mark.id → other.state ≡ mark.state) (marks_of changes) (λ other j. may.alike mark other (has_contains (marks_of changes) mark k) (has_contains (marks_of changes) other j)));
       made_links = all_from (λ link. WasMade before (subtrans_page start.base.next) (subtrans_page link.id)) (links_of changes) (λ link k. (link_of_each link k).page);
       subs = all_from (λ link. IsGivenBelow seen link.caller.session link.parent link.id) (links_of changes) (λ link k. (link_of_each link k).sub);
+      made_offsets = all_from (λ set. WasMade before (offset_page start.base.multi) (offset_page set.multi)) (offsets_of changes) (λ set k. (may.offsets set (has_contains (offsets_of changes) set k)).page);
+      offsets = all_from (λ set. OffsetOf start seen set) (offsets_of changes) (λ set k. (may.offsets set (has_contains (offsets_of changes) set k)).members);
+      slots = all_from (λ slot. SlotOf seen slot) (slots_of changes) (λ slot k. (may.slots slot (has_contains (slots_of changes) slot k)).member);
+      made_slots = all_from (λ slot. WasMade before (member_page_in_full start.base.offset) (member_page_in_full slot.offset)) (slots_of changes) (λ slot k. (may.slots slot (has_contains (slots_of changes) slot k)).page);
     }
 
 pub changes_law : ChangesKeep
@@ -57,46 +69,65 @@ changes_law start seen lock by changes may lists k knows inside whole turn =
     let a = asked_of_each start seen lock by.session changes may in
     keeps start lists seen lock (record { by = by; kind = kinds.Set changes }) k knows inside whole (record {
       events = record { own = tt; rule = λ here. tt };
-      pages = record { ids = tt; changes = record { marks = a.made; links = a.made_links } };
+      pages = record { ids = tt; changes = record { marks = a.made; links = a.made_links; offsets = a.made_offsets; slots = a.made_slots }; made = tt };
       parents = a.subs;
       records = record { parents = tt; event = λ here. tt; ids = λ here. tt };
       status = record { logged = a.logged; tree = a.tree };
       commits = tt;
-      aborts = record { closed = tt; asked = a.asked; unasked = λ here. tt; unrecorded = a.unrecorded; final = record { later = a.later; alike = a.alike } };
+      aborts = record { closed = tt; given = a.given; asked = a.asked; unasked = λ here. tt; unrecorded = a.unrecorded; final = record { later = a.later; alike = a.alike } };
       order = record { turn = turn; stands = may.on };
+      log = record { counters = tt; named = tt; flushed = tt };
+      cuts = tt;
+      multis = tt;
+      members = record { slots = a.slots; offsets = a.offsets };
+      syncs = tt;
+      posts = tt;
     })
 
 pub fault_law : FaultKeeps
-fault_law start seen lock by callers changes cut count may named lists k knows inside whole turn =
+fault_law start seen lock by callers changes cut count may named truncated lists k knows inside whole turn =
     let a = asked_of_each start seen lock by.session changes may in
     keeps start lists seen lock (record { by = by; kind = kinds.Fault callers changes cut count }) k knows inside whole (record {
       events = record { own = tt; rule = λ here. tt };
-      pages = record { ids = tt; changes = record { marks = a.made; links = a.made_links } };
+      pages = record { ids = tt; changes = record { marks = a.made; links = a.made_links; offsets = a.made_offsets; slots = a.made_slots }; made = tt };
       parents = a.subs;
       records = record { parents = tt; event = λ here. tt; ids = λ here. tt };
       status = record { logged = a.logged; tree = a.tree };
       commits = tt;
-      aborts = record { closed = tt; asked = a.asked; unasked = λ here. tt; unrecorded = a.unrecorded; final = record { later = a.later; alike = a.alike } };
+      aborts = record { closed = tt; given = a.given; asked = a.asked; unasked = λ here. tt; unrecorded = a.unrecorded; final = record { later = a.later; alike = a.alike } };
       order = record { turn = turn; stands = (may.on, named) };
+      log = record { counters = tt; named = tt; flushed = tt };
+      cuts = truncated;
+      multis = tt;
+      members = record { slots = a.slots; offsets = a.offsets };
+      syncs = tt;
+      posts = tt;
     })
 
 pub request_law : RequestKeeps
-request_law start seen lock by changes behind unrecorded lists k knows inside whole turn =
+request_law start seen lock by changes behind given unrecorded lists k knows inside whole turn =
     keeps start lists seen lock (record { by = by; kind = kinds.Request changes }) k knows inside whole (record {
       events = record { own = tt; rule = λ here. tt };
-      pages = record { ids = tt; changes = record { marks = tt; links = tt } };
+      pages = record { ids = tt; changes = record { marks = tt; links = tt; offsets = tt; slots = tt }; made = tt };
       parents = tt;
       records = record { parents = tt; event = λ here. tt; ids = λ here. tt };
       status = record { logged = tt; tree = tt };
       commits = tt;
       aborts = record {
         closed = tt;
+        given = all_from (λ mark. GivenOf seen mark) (marks_of changes) (λ mark k. given mark (has_contains (marks_of changes) mark k));
         asked = tt;
         unasked = λ here. tt;
         unrecorded = all_from (λ mark. AskUnrecorded seen by.session mark.caller.session mark.id mark.state) (marks_of changes) (λ mark k. unrecorded mark (has_contains (marks_of changes) mark k));
         final = record { later = tt; alike = tt };
       };
       order = record { turn = turn; stands = behind };
+      log = record { counters = tt; named = tt; flushed = tt };
+      cuts = tt;
+      multis = tt;
+      members = record { slots = tt; offsets = tt };
+      syncs = tt;
+      posts = tt;
     })
 
 -- the states that a session sets for itself are all one
@@ -113,6 +144,14 @@ all_on : (start : Start) (by : By) (state : State) (lock : ℕ) (ids : List ℕ)
 all_on start by state lock [] each = tt
 all_on start by state lock (id ∷ ids) each = (each id (inl refl), all_on start by state lock ids (λ x k. each x (inr k)))
 
+no_offset : (by : By) (state : State) (ids : List ℕ) (set : SetOffset) → Has (offsets_of (all_set by state ids)) set → ⊥
+no_offset by state [] set k = k
+no_offset by state (id ∷ ids) set k = no_offset by state ids set k
+
+no_slot : (by : By) (state : State) (ids : List ℕ) (slot : SetSlot) → Has (slots_of (all_set by state ids)) slot → ⊥
+no_slot by state [] slot k = k
+no_slot by state (id ∷ ids) slot k = no_slot by state ids slot k
+
 -- the states of one hold, from what is asked of each id
 all_may : (start : Start) (seen : List (List Entry)) (bank : ℕ) (by : By) (state : State) (ids : List ℕ) → AreThere start seen bank ids
     → ((id : ℕ) → Contains ids id → MayMark start seen (at seen (xact_lock bank)) by.session (record { caller = by; id = id; state = state }))
@@ -126,26 +165,30 @@ all_may start seen bank by state ids there each = record {
       let t = all_mark by state ids other (contains_has (marks_of (all_set by state ids)) other d) in
       ap (λ (m : Mark). m.state) (sym t.2) ∙ ap (λ (m : Mark). m.state) r.2;
   links = λ link c. absurd (no_link by state ids link (contains_has (links_of (all_set by state ids)) link c));
+  offsets = λ set c. absurd (no_offset by state ids set (contains_has (offsets_of (all_set by state ids)) set c));
+  slots = λ slot c. absurd (no_slot by state ids slot (contains_has (slots_of (all_set by state ids)) slot c));
 }
 
 pub committed_law : CommittedKeeps
-committed_law start seen bank by ids there durable tree only =
+committed_law start seen bank by ids there given durable tree only =
     changes_law start seen (xact_lock bank) by (all_set by states.Committed ids) (all_may start seen bank by states.Committed ids there (λ id c. record {
       page = there.made id c;
       durable = durable id c;
       tree = tree id c;
-      asked = tt;
+      given = given id c;
+      asked = inl refl;
       unrecorded = tt;
       final = λ old j q. only id old c j q;
     }))
 
 pub sub_committed_law : SubCommittedKeeps
-sub_committed_law start seen bank by ids there durable only =
+sub_committed_law start seen bank by ids there given durable only =
     changes_law start seen (xact_lock bank) by (all_set by states.SubCommitted ids) (all_may start seen bank by states.SubCommitted ids there (λ id c. record {
       page = there.made id c;
       durable = durable id c;
       tree = tt;
-      asked = tt;
+      given = given id c;
+      asked = inl refl;
       unrecorded = tt;
       final = λ old j q. only id old c j q;
     }))
@@ -156,7 +199,8 @@ aborted_law start seen bank by ids there given unrecorded only =
       page = there.made id c;
       durable = tt;
       tree = tt;
-      asked = record { given = given id c; asked = inl refl };
+      given = given id c;
+      asked = inl refl;
       unrecorded = λ same top subs a j. unrecorded id top subs c a j;
       final = λ old j q. only id old c j q;
     }))
@@ -173,4 +217,6 @@ parent_law start seen bank by id parent within lock made sub =
           (λ (q : link ≡ other). subst (λ (l : Link). MayLink start seen (at seen (subtrans_lock bank)) l) q (record { page = made; sub = sub }))
           (λ z. absurd z)
           (contains_has (link ∷ []) other c);
+      offsets = λ set c. absurd (contains_has [] set c);
+      slots = λ slot c. absurd (contains_has [] slot c);
     })

@@ -27,13 +27,19 @@ event_keeps : (start : Start) (seen : List (List Entry)) (by : By) (event : Even
 event_keeps start seen by event own rule pages leaves states closed lists k knows inside whole turn =
     keeps start lists seen proc_lock (record { by = by; kind = kinds.Event event }) k knows inside whole (record {
       events = record { own = own; rule = λ here. rule };
-      pages = record { ids = pages; changes = record { marks = tt; links = tt } };
+      pages = record { ids = pages; changes = record { marks = tt; links = tt; offsets = tt; slots = tt }; made = tt };
       parents = tt;
       records = record { parents = tt; event = λ here. leaves; ids = λ here. tt };
       status = record { logged = tt; tree = tt };
       commits = states;
-      aborts = record { closed = closed; asked = tt; unasked = λ here. tt; unrecorded = tt; final = record { later = tt; alike = tt } };
+      aborts = record { closed = closed; given = tt; asked = tt; unasked = λ here. tt; unrecorded = tt; final = record { later = tt; alike = tt } };
       order = record { turn = turn; stands = refl };
+      log = record { counters = tt; named = tt; flushed = tt };
+      cuts = tt;
+      multis = tt;
+      members = record { slots = tt; offsets = tt };
+      syncs = tt;
+      posts = tt;
     })
 
 pub id_event_law : IdEventKeeps
@@ -67,24 +73,36 @@ pub made_law : MadeKeeps
 made_law start seen by id made next lists k knows inside whole turn =
     keeps start lists seen proc_lock (record { by = by; kind = kinds.Made id }) k knows inside whole (record {
       events = record { own = tt; rule = λ here. tt };
-      pages = record { ids = (made, next); changes = record { marks = tt; links = tt } };
+      pages = record { ids = (made, next); changes = record { marks = tt; links = tt; offsets = tt; slots = tt }; made = tt };
       parents = tt;
       records = record { parents = tt; event = λ here. tt; ids = λ here. tt };
       status = record { logged = tt; tree = tt };
       commits = tt;
-      aborts = record { closed = tt; asked = tt; unasked = λ here. tt; unrecorded = tt; final = record { later = tt; alike = tt } };
+      aborts = record { closed = tt; given = tt; asked = tt; unasked = λ here. tt; unrecorded = tt; final = record { later = tt; alike = tt } };
       order = record { turn = turn; stands = refl };
+      log = record { counters = tt; named = tt; flushed = tt };
+      cuts = tt;
+      multis = tt;
+      members = record { slots = tt; offsets = tt };
+      syncs = tt;
+      posts = tt;
     })
 
 pub commit_record_law : CommitRecordKeeps
-commit_record_law start seen by top subs opened root parents unasked lists k knows inside whole turn =
+commit_record_law start seen by top subs opened root parents unasked base lists k knows inside whole turn =
     keeps start lists seen log_lock (record { by = by; kind = kinds.Append (records.Commit top subs) }) k knows inside whole (record {
       events = record { own = tt; rule = λ here. tt };
-      pages = record { ids = tt; changes = record { marks = tt; links = tt } };
+      pages = record { ids = tt; changes = record { marks = tt; links = tt; offsets = tt; slots = tt }; made = tt };
       parents = tt;
       records = record { parents = parents; event = λ here. tt; ids = λ here. (opened, root) };
       status = record { logged = tt; tree = tt };
       commits = tt;
-      aborts = record { closed = tt; asked = tt; unasked = λ here. unasked; unrecorded = tt; final = record { later = tt; alike = tt } };
+      aborts = record { closed = tt; given = tt; asked = tt; unasked = λ here. unasked; unrecorded = tt; final = record { later = tt; alike = tt } };
       order = record { turn = turn; stands = refl };
+      log = record { counters = (base, tt); named = tt; flushed = tt };
+      cuts = tt;
+      multis = tt;
+      members = record { slots = tt; offsets = tt };
+      syncs = tt;
+      posts = tt;
     })

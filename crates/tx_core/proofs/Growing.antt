@@ -1,5 +1,5 @@
 -- What stays of a list that grows, and parts of the invariant that stay while the lists do.
-use Rattle.std.proofs.Common.{Contains, List, Option, Some, [], ap, length, refl, subst, sym, take, ℕ, ⊎_elim, ◌++◌, ◌<◌, ◌∙◌, ◌∷◌, ◌≡◌, ◌≢◌}
+use Rattle.std.proofs.Common.{Contains, List, Option, Some, [], ap, length, refl, subst, sym, take, ℕ, ⊎_elim, ◌++◌, ◌<◌, ◌∙◌, ◌∷◌, ◌≡◌}
 use Rattle.std.proofs.Math.Seq.{take-append_seam}
 use Rattle.std.proofs.lemmas.Grind.{flat_map-append}
 use Rattle.std.proofs.lemmas.List.Elements.{Contains-append_left, filter_map-append}

@@ -9,7 +9,7 @@ use Rattle.tx_core.proofs.Lasting.{history_grows}
 use Rattle.tx_core.specs.Entries.{history}
 use Rattle.tx_core.specs.Laws.{HorizonRises, SnapshotsHold}
 
-positive : (n : ℕ) → IsFullId n → 0 < n
+pub positive : (n : ℕ) → IsFullId n → 0 < n
 positive n full = let f : 3 ≤ n % 2 ^ 32 = full in omega arith
 
 pub horizon_rises : HorizonRises

@@ -17,9 +17,9 @@ use Rattle.tx_core.specs.declared.entry.Start.{Start}
 use Rattle.tx_core.proofs.Asking.{all_has, append_asks, has_all, ids_of_record, leaves_of, own_event, rule_of, states_of, unasked_of, unrecorded_of, upheld_has}
 use Rattle.tx_core.proofs.Exactness.{Leaves, exact_push}
 use Rattle.tx_core.proofs.Growing.{upheld_add}
-use Rattle.tx_core.proofs.Lasting.{aborts_lasting, asked_lasting, links_lasting, logged_lasting, own_lasting, pages_lasting, places_lasting, same_lasting, stand_lasting, states_lasting, subs_lasting, tree_lasting, turns_lasting}
+use Rattle.tx_core.proofs.Lasting.{aborts_lasting, asked_lasting, flush_lasting, given_lasting, links_lasting, named_lasting, logged_lasting, own_lasting, pages_lasting, places_lasting, same_lasting, stand_lasting, states_lasting, subs_lasting, tree_lasting, turns_lasting, zero_lasting}
 use Rattle.tx_core.proofs.Stepping.{appended_cases, asks_cases, history_at, history_off, open_seen, own_appended, own_asks, root_seen}
-use Rattle.tx_core.specs.AbortRule.{AbortRule, AsksAbort, NeedsAborts, NeedsAsked, NeedsSame}
+use Rattle.tx_core.specs.AbortRule.{AbortRule, AsksAbort, NeedsAborts, NeedsAsked, NeedsGiven, NeedsSame}
 use Rattle.tx_core.specs.CommitRecordsExact.{CommitRecordsExact, HasNoRecord, IsExactIn, LeavesRecords, NeedsLinks}
 use Rattle.tx_core.specs.EngineInvariant.{EngineInvariant, MayAdd}
 use Rattle.tx_core.specs.Entries.{IsAppended, Mark, asks_in, event_of, events_in, history, session_of}
@@ -28,9 +28,16 @@ use Rattle.notes.specs.Lists.{Knows, add, at, own}
 use Rattle.tx_core.specs.Lists.{IsLasting, Upheld}
 use Rattle.tx_core.specs.Locks.{log_lock, proc_lock}
 use Rattle.tx_core.specs.LogBeforeStatus.{LogBeforeStatus, NeedsRecords, NeedsTree}
-use Rattle.tx_core.specs.PagesBeforeIds.{NeedsPages, NeedsPlace, PagesBeforeIds}
+use Rattle.tx_core.specs.PagesBeforeIds.{NeedsPages, NeedsPlace, NeedsZero, PagesBeforeIds}
 use Rattle.tx_core.specs.ParentsFollow.{NeedsSubs}
 use Rattle.tx_core.specs.ProgramOrder.{IsInTurn, NeedsStand, NeedsTurn, ProgramOrder}
+use Rattle.tx_core.specs.RecordsFollow.{NeedsCounters, NeedsFlush, NeedsNamed, RecordsFollow}
+use Rattle.tx_core.specs.CutsFollow.{NeedsCut}
+use Rattle.tx_core.specs.MultisLegal.{NeedsMulti}
+use Rattle.tx_core.specs.MembersBeforeOffset.{MembersBeforeOffset, NeedsOffsets, NeedsSlots}
+use Rattle.tx_core.specs.SyncsBeforeForgets.{NeedsSync}
+use Rattle.tx_core.specs.PostsFollow.{NeedsPost}
+use Rattle.tx_core.proofs.LastingFurther.{counters_lasting, cuts_lasting, multis_lasting, offsets_lasting, posts_lasting, slots_lasting, syncs_lasting}
 use Rattle.tx_core.specs.StatusBeforeCommit.{NeedsStates}
 use Rattle.tx_events.specs.declared.event.Event.TheVariants as events
 use Rattle.tx_core.specs.declared.entry.Kind.TheVariants as kinds
@@ -93,6 +100,7 @@ pages_kept : (start : Start) (seen lists : List (List Entry)) (lock : ℕ) (e : 
 pages_kept start seen lists lock e s = record {
   ids = kept start seen lists lock e s (NeedsPages start) (pages_lasting start) s.k.pages.ids s.may.pages.ids;
   changes = kept start seen lists lock e s (NeedsPlace start) (places_lasting start) s.k.pages.changes s.may.pages.changes;
+  made = kept start seen lists lock e s (NeedsZero start) (zero_lasting start) s.k.pages.made s.may.pages.made;
 }
 
 status_kept : (start : Start) (seen lists : List (List Entry)) (lock : ℕ) (e : Entry) → Step start seen lists lock e → LogBeforeStatus start (add lists lock e)
@@ -105,6 +113,19 @@ order_kept : (start : Start) (seen lists : List (List Entry)) (lock : ℕ) (e : 
 order_kept start seen lists lock e s = record {
   turns = kept start seen lists lock e s NeedsTurn turns_lasting s.k.order.turns s.may.order.turn;
   stand = kept start seen lists lock e s (NeedsStand start) (stand_lasting start) s.k.order.stand s.may.order.stands;
+}
+
+log_kept : (start : Start) (seen lists : List (List Entry)) (lock : ℕ) (e : Entry) → Step start seen lists lock e → RecordsFollow start (add lists lock e)
+log_kept start seen lists lock e s = record {
+  counters = kept start seen lists lock e s (NeedsCounters start) (counters_lasting start) s.k.log.counters s.may.log.counters;
+  named = kept start seen lists lock e s (NeedsNamed start) (named_lasting start) s.k.log.named s.may.log.named;
+  flushed = kept start seen lists lock e s (NeedsFlush start) (flush_lasting start) s.k.log.flushed s.may.log.flushed;
+}
+
+members_kept : (start : Start) (seen lists : List (List Entry)) (lock : ℕ) (e : Entry) → Step start seen lists lock e → MembersBeforeOffset start (add lists lock e)
+members_kept start seen lists lock e s = record {
+  slots = kept start seen lists lock e s NeedsSlots slots_lasting s.k.members.slots s.may.members.slots;
+  offsets = kept start seen lists lock e s (NeedsOffsets start) (offsets_lasting start) s.k.members.offsets s.may.members.offsets;
 }
 
 no_record : (start : Start) (seen lists : List (List Entry)) (lock : ℕ) (e : Entry) (by : By) (session top : ℕ) (subs : List ℕ) → Step start seen lists lock e → by ≡ e.by → by.session ≡ session
@@ -157,11 +178,12 @@ records_kept start seen lists lock e s = record {
 aborts_kept : (start : Start) (seen lists : List (List Entry)) (lock : ℕ) (e : Entry) → Step start seen lists lock e → AbortRule start (add lists lock e)
 aborts_kept start seen lists lock e s = record {
   closed = kept start seen lists lock e s (NeedsAborts start) (aborts_lasting start) s.k.aborts.closed s.may.aborts.closed;
+  given = kept start seen lists lock e s NeedsGiven given_lasting s.k.aborts.given s.may.aborts.given;
   asked = kept start seen lists lock e s NeedsAsked asked_lasting s.k.aborts.asked s.may.aborts.asked;
   final = kept start seen lists lock e s NeedsSame same_lasting s.k.aborts.final s.may.aborts.final;
   apart = λ session top subs id a c m.
       let rec : Rec = records.Commit top subs in
-      let asks = asks_cases lists lock e session id s.inside m in
+      let asks = asks_cases lists lock e session id states.Aborted s.inside m in
       ⊎_elim
       (λ (b : IsAppended lists session rec).
       ⊎_elim
@@ -173,7 +195,7 @@ aborts_kept start seen lists lock e s = record {
       asks)
       (λ (b : (lock ≡ log_lock) × (e.by.session ≡ session) × (e.kind ≡ kinds.Append rec)).
       ⊎_elim
-      (λ old. unasked_of start seen lock (at seen lock) e top subs s.may.aborts b.0 b.2 id c (own_asks e.by.session id seen lists s.knows (subst (λ z. AsksAbort lists z id) (sym b.1) old)))
+      (λ old. unasked_of start seen lock (at seen lock) e top subs s.may.aborts b.0 b.2 id c (own_asks e.by.session id states.Aborted seen lists s.knows (subst (λ z. AsksAbort lists z id) (sym b.1) old)))
       (λ new. append_asks e rec (record { caller = new.1; id = id; state = states.Aborted }) b.2 new.3)
       asks)
       (appended_cases lists lock e session rec s.inside a);
@@ -191,4 +213,10 @@ keeps start lists seen lock e k knows inside whole may =
       commits = record { each = kept start seen lists lock e s (NeedsStates start) (states_lasting start) k.commits.each may.commits };
       aborts = aborts_kept start seen lists lock e s;
       order = order_kept start seen lists lock e s;
+      log = log_kept start seen lists lock e s;
+      cuts = record { each = kept start seen lists lock e s (NeedsCut start) (cuts_lasting start) k.cuts.each may.cuts };
+      multis = record { each = kept start seen lists lock e s (NeedsMulti start) (multis_lasting start) k.multis.each may.multis };
+      members = members_kept start seen lists lock e s;
+      syncs = record { each = kept start seen lists lock e s (NeedsSync start) (syncs_lasting start) k.syncs.each may.syncs };
+      posts = record { each = kept start seen lists lock e s (NeedsPost start) (posts_lasting start) k.posts.each may.posts };
     }

@@ -1,9 +1,12 @@
 -- What the parts ask for stays while lists grow.
 use Rattle.tx_events.proofs.ListSteps.{all_weaker}
-use Rattle.std.proofs.Common.{List, ap, inl, inr, sym, ℕ, ⊎_elim, ◌∙◌}
+use Rattle.std.proofs.Common.{List, ap, arith, inl, inr, subst, sym, ℕ, ⊎_elim, ◌∙◌, ◌≤◌}
 use Rattle.std.proofs.lemmas.List.Elements.{filter-append}
 use Rattle.std.specs.List.{filter, flat_map}
 use Rattle.tx_events.specs.declared.event.Event.{Event}
+use Rattle.tx_events.specs.declared.event.By.{By}
+use Rattle.tx_events.specs.declared.multi.MultiEvent.{MultiEvent}
+use Rattle.tx_events.specs.declared.multi.MultiEvent.TheVariants as multis
 use Rattle.tx_events.specs.declared.record.Rec.{Rec}
 use Rattle.tx_events.specs.Events.{given_by, given_to, is_of}
 use Rattle.tx_events.specs.Families.{top}
@@ -12,18 +15,23 @@ use Rattle.tx_core.specs.declared.entry.Kind.{Kind}
 use Rattle.tx_core.specs.declared.entry.Start.{Start}
 use Rattle.tx_core.specs.declared.entry.State.{State}
 use Rattle.tx_core.proofs.Asking.{if_weaker}
+use Rattle.tx_core.proofs.Rising.{given_more, made_more, multis_grow, taken_begins}
 use Rattle.tx_core.proofs.Growing.{begins_filter_map, begins_flat_map, contains_begins, slice_get_begins}
-use Rattle.tx_core.specs.AbortRule.{AbortsOf, AskedOf, AsksAbort, NeedsAborts, NeedsAsked, NeedsSame}
+use Rattle.tx_core.specs.AbortRule.{AbortsOf, AskedOf, Asks, GivenOf, NeedsAborts, NeedsAsked, NeedsGiven, NeedsSame}
 use Rattle.tx_core.specs.CommitRecordsExact.{LinksOf, NeedsLinks}
-use Rattle.tx_core.specs.Entries.{IsAppended, IsFlushed, IsLinked, IsMarked, Stands, appended, event_of, events_in, history, links_in, marks, marks_in, records_of}
+use Rattle.tx_core.specs.Entries.{IsAppended, IsFlushed, IsLinked, IsMarked, Stands, appended, asks_in, event_of, events_in, history, links_in, marks, marks_in, records_of}
 use Rattle.tx_core.specs.EventsLegal.{NeedsOwn}
 use Rattle.notes.specs.Lists.{Begins, Grows, at}
 use Rattle.tx_core.specs.Lists.{IsLasting}
 use Rattle.tx_core.specs.Locks.{log_lock, proc_lock, subtrans_lock_of, xact_lock_of}
 use Rattle.tx_core.specs.LogBeforeStatus.{IsDurable, NeedsRecords, NeedsTree, RecordOf, TreeOf}
-use Rattle.tx_core.specs.PagesBeforeIds.{IsMade, IsTold, NeedsPages, NeedsPlace, PagesOf}
+use Rattle.tx_core.specs.PagesBeforeIds.{IsMade, IsOffsetOf, IsTold, IsWanted, NeedsPages, NeedsPlace, NeedsZero, PagesOf, ZeroOf}
 use Rattle.tx_core.specs.ParentsFollow.{IsGivenBelow, NeedsSubs}
+use Rattle.tx_core.specs.MultiEntries.{multi_history}
 use Rattle.tx_core.specs.ProgramOrder.{NeedsStand, NeedsTurn}
+use Rattle.tx_core.specs.RecordsFollow.{IdsOf, NamedOf, NeedsFlush, NeedsNamed}
+use Rattle.tx_events.specs.History.{next_given}
+use Rattle.tx_events.specs.Multis.{free_offset, next_made}
 use Rattle.tx_core.specs.StatusBeforeCommit.{NeedsStates, StatesOf}
 use Rattle.tx_events.specs.declared.event.Event.TheVariants as events
 use Rattle.tx_core.specs.declared.entry.Kind.TheVariants as kinds
@@ -69,7 +77,7 @@ pub pages_lasting : (start : Start) → IsLasting (NeedsPages start)
 pages_lasting start = record { stays = λ lists more lock before e g n. pages_stay start lists more before e.kind g n }
 
 pub places_lasting : (start : Start) → IsLasting (NeedsPlace start)
-places_lasting start = record { stays = λ lists more lock before e g n. record { marks = n.marks; links = n.links } }
+places_lasting start = record { stays = λ lists more lock before e g n. record { marks = n.marks; links = n.links; offsets = n.offsets; slots = n.slots } }
 
 pub subs_lasting : IsLasting NeedsSubs
 subs_lasting = record {
@@ -127,8 +135,8 @@ given_to_begins session h more b =
     let c : Begins (filter (is_of session) h) (filter (is_of session) more) = (filter (is_of session) b.0, sym (filter-append (is_of session) h b.0) ∙ ap (λ (t : List Event). filter (is_of session) t) b.1) in
     begins_filter_map given_by (filter (is_of session) h) (filter (is_of session) more) c
 
-asks_grows : (lists more : List (List Entry)) (session id : ℕ) → Grows lists more → AsksAbort lists session id → AsksAbort more session id
-asks_grows lists more session id g a = record {
+asks_grows : (lists more : List (List Entry)) (session id : ℕ) (state : State) → Grows lists more → Asks lists session id state → Asks more session id state
+asks_grows lists more session id state g a = record {
   lock = a.lock;
   entry = a.entry;
   stands = contains_begins (at lists a.lock) (at more a.lock) a.entry (g.begins a.lock) a.stands;
@@ -138,17 +146,20 @@ asks_grows lists more session id g a = record {
   asks = a.asks;
 }
 
-asked_stays : (lists more : List (List Entry)) (adder session id : ℕ) (state : State) → Grows lists more → AskedOf lists adder session id state → AskedOf more adder session id state
-asked_stays lists more adder session id states.Aborted g n = record {
-  given = contains_begins (given_to session (history lists)) (given_to session (history more)) id (given_to_begins session (history lists) (history more) (history_grows lists more g)) n.given;
-  asked = ⊎_elim inl (λ a. inr (asks_grows lists more session id g a)) n.asked;
+pub given_lasting : IsLasting NeedsGiven
+given_lasting = record {
+  stays = λ lists more lock before e g n.
+      all_weaker (λ mark. GivenOf lists mark) (λ mark. GivenOf more mark)
+      (λ mark h. contains_begins (given_to mark.caller.session (history lists)) (given_to mark.caller.session (history more)) mark.id (given_to_begins mark.caller.session (history lists) (history more) (history_grows lists more g)) h)
+      (asks_in e) n;
 }
-asked_stays lists more adder session id _ g n = tt
 
 pub asked_lasting : IsLasting NeedsAsked
 asked_lasting = record {
   stays = λ lists more lock before e g n.
-      all_weaker (λ mark. AskedOf lists e.by.session mark.caller.session mark.id mark.state) (λ mark. AskedOf more e.by.session mark.caller.session mark.id mark.state) (λ mark h. asked_stays lists more e.by.session mark.caller.session mark.id mark.state g h) (marks_in e) n;
+      all_weaker (λ mark. AskedOf lists e.by.session mark) (λ mark. AskedOf more e.by.session mark)
+      (λ mark h. ⊎_elim inl (λ a. inr (asks_grows lists more mark.caller.session mark.id mark.state g a)) h)
+      (marks_in e) n;
 }
 
 pub same_lasting : IsLasting NeedsSame
@@ -159,3 +170,44 @@ turns_lasting = record { stays = λ lists more lock before e g n. n }
 
 pub stand_lasting : (start : Start) → IsLasting (NeedsStand start)
 stand_lasting start = record { stays = λ lists more lock before e g n. n }
+
+offset_grows : (start : Start) (lists more : List (List Entry)) (offset : ℕ) → Grows lists more → IsOffsetOf start lists offset → IsOffsetOf start more offset
+offset_grows start lists more offset g f =
+    let r = taken_begins (multi_history lists) (multi_history more) f.1 (multis_grow lists more g) f.2 in
+    (f.0, f.1, r.0, subst (λ (h : List MultiEvent). offset ≤ free_offset start.base.offset h) (sym r.1) f.3)
+
+wanted_grows : (start : Start) (lists more : List (List Entry)) (lock page : ℕ) → Grows lists more → IsWanted start lists lock page → IsWanted start more lock page
+wanted_grows start lists more lock page g w =
+    let ids : next_given start.base.next (history lists) ≤ next_given start.base.next (history more) = given_more start.base (history lists) (history more) (history_grows lists more g) in
+    let multis : next_made start.base.multi (multi_history lists) ≤ next_made start.base.multi (multi_history more) = made_more start.base.multi (multi_history lists) (multi_history more) (multis_grow lists more g) in
+    record {
+      xact = λ bank q. let r = w.xact bank q in let le = r.2.1 in (r.0, r.1, (r.2.0, omega arith));
+      subtrans = λ bank q. let r = w.subtrans bank q in let le = r.2.1 in (r.0, r.1, (r.2.0, omega arith));
+      offsets = λ bank q. let r = w.offsets bank q in let le = r.2.1 in (r.0, r.1, (r.2.0, omega arith));
+      members = λ bank q. let r = w.members bank q in (r.0, r.1, offset_grows start lists more r.0 g r.2);
+    }
+
+zero_stays : (start : Start) (lists more : List (List Entry)) (lock : ℕ) (kind : Kind) → Grows lists more → ZeroOf start lists lock kind → ZeroOf start more lock kind
+zero_stays start lists more lock (kinds.Zero page) g n = wanted_grows start lists more lock page g n
+zero_stays start lists more lock _ g n = tt
+
+pub zero_lasting : (start : Start) → IsLasting (NeedsZero start)
+zero_lasting start = record { stays = λ lists more lock before e g n. zero_stays start lists more lock e.kind g n }
+
+ids_stay : (start : Start) (lists more : List (List Entry)) (by : By) (rec : Rec) → Grows lists more → IdsOf start lists by rec → IdsOf start more by rec
+ids_stay start lists more by (records.Abort top subs) g n = λ id c. contains_begins (given_to by.session (history lists)) (given_to by.session (history more)) id (given_to_begins by.session (history lists) (history more) (history_grows lists more g)) (n id c)
+ids_stay start lists more by (records.Multi multi offset members) g n = (
+  (n.0.0, n.0.1, contains_begins (multi_history lists) (multi_history more) (multis.Gen n.0.0 multi offset members) (multis_grow lists more g) n.0.2),
+  λ id c. let le = given_more start.base (history lists) (history more) (history_grows lists more g) in let lt = n.1 id c in omega arith,
+)
+ids_stay start lists more by _ g n = tt
+
+named_stays : (start : Start) (lists more : List (List Entry)) (by : By) (kind : Kind) → Grows lists more → NamedOf start lists by kind → NamedOf start more by kind
+named_stays start lists more by (kinds.Append rec) g n = ids_stay start lists more by rec g n
+named_stays start lists more by _ g n = tt
+
+pub named_lasting : (start : Start) → IsLasting (NeedsNamed start)
+named_lasting start = record { stays = λ lists more lock before e g n. named_stays start lists more e.by e.kind g n }
+
+pub flush_lasting : (start : Start) → IsLasting (NeedsFlush start)
+flush_lasting start = record { stays = λ lists more lock before e g n. n }

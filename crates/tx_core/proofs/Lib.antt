@@ -1,6 +1,8 @@
 pub mod Growing
 pub mod Asking
+pub mod Rising
 pub mod Lasting
+pub mod LastingFurther
 pub mod Exactness
 pub mod Stepping
 pub mod Keeping
@@ -18,3 +20,7 @@ pub mod Seeing
 pub mod OneCommit
 pub mod OneLeader
 pub mod HorizonLaws
+pub mod Posting
+pub mod Nearness
+pub mod Cutting
+pub mod RecordNext

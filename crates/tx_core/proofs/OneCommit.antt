@@ -5,6 +5,7 @@ use Rattle.std.proofs.lemmas.List.Elements.{All-from_recursion}
 use Rattle.std.specs.List.{AllByRecursion, filter}
 use Rattle.tx_events.specs.declared.event.By.{By}
 use Rattle.tx_events.proofs.Membership.{Has, contains_has, all_at}
+use Rattle.tx_events.specs.Events.{given_to}
 use Rattle.tx_events.specs.Visible.{is_visible}
 use Rattle.tx_core.specs.declared.entry.Entry.{Entry}
 use Rattle.tx_core.specs.declared.entry.Kind.{Kind}
@@ -32,10 +33,12 @@ use Rattle.tx_core.specs.declared.entry.State.TheVariants as states
 abbrev pub start : Start
 start = record {
   banks = 1;
+  sessions = 2;
   from = 1;
   base = record { next = 3; oldest = 3; multi = 1; offset = 1; oldest_multi = 1; oldest_offset = 1 };
   committed = [];
   recorded = [];
+  logged = [];
 }
 
 abbrev pub by : ℕ → ℕ → By
@@ -44,9 +47,9 @@ by session command = record { session = session; command = command }
 abbrev pub entry : By → Kind → Entry
 entry b kind = record { by = b; kind = kind }
 
--- the log, the ProcArray, the multixacts, a bank of each store, and the requests
+-- the log, the ProcArray, the multixacts, a bank of each store, the published words, and the requests
 abbrev empty : List (List Entry)
-empty = [] ∷ [] ∷ [] ∷ [] ∷ [] ∷ [] ∷ [] ∷ [] ∷ []
+empty = [] ∷ [] ∷ [] ∷ [] ∷ [] ∷ [] ∷ [] ∷ [] ∷ [] ∷ [] ∷ []
 
 abbrev pub given_id : Entry
 given_id = entry (by 0 2) (kinds.Event (events.Id (by 0 2) 3))
@@ -98,7 +101,9 @@ none_at (suc (suc (suc (suc zero)))) = refl
 none_at (suc (suc (suc (suc (suc zero))))) = refl
 none_at (suc (suc (suc (suc (suc (suc zero)))))) = refl
 none_at (suc (suc (suc (suc (suc (suc (suc zero))))))) = refl
-none_at (suc (suc (suc (suc (suc (suc (suc (suc lock)))))))) = refl
+none_at (suc (suc (suc (suc (suc (suc (suc (suc zero)))))))) = refl
+none_at (suc (suc (suc (suc (suc (suc (suc (suc (suc zero))))))))) = refl
+none_at (suc (suc (suc (suc (suc (suc (suc (suc (suc (suc lock)))))))))) = refl
 
 at_first : EngineInvariant start empty
 at_first = opens start empty none_at
@@ -122,7 +127,9 @@ quiet_one (suc (suc (suc (suc zero)))) = tt
 quiet_one (suc (suc (suc (suc (suc zero))))) = tt
 quiet_one (suc (suc (suc (suc (suc (suc zero)))))) = tt
 quiet_one (suc (suc (suc (suc (suc (suc (suc zero))))))) = tt
-quiet_one (suc (suc (suc (suc (suc (suc (suc (suc lock)))))))) = tt
+quiet_one (suc (suc (suc (suc (suc (suc (suc (suc zero)))))))) = tt
+quiet_one (suc (suc (suc (suc (suc (suc (suc (suc (suc zero))))))))) = tt
+quiet_one (suc (suc (suc (suc (suc (suc (suc (suc (suc (suc lock)))))))))) = tt
 
 unasked : (id : ℕ) → AsksAbort one 0 id → ⊥
 unasked id a =
@@ -132,10 +139,11 @@ unasked id a =
 after_record : EngineInvariant start two
 after_record =
     commit_record_law start one (by 0 3) 3 [] refl refl (λ id c. absurd (contains_has [] id c)) (λ id c a. unasked id a)
+    (record { full = omega arith; full_oldest = omega arith; oldest = omega arith; next = omega arith; oldest_multi = omega arith; multi = omega arith; oldest_offset = omega arith; offset = omega arith; none = λ q. refl })
     one after_id (sees_all 0 one) (omega arith) refl (turns (by 0 3) [] tt)
 
 after_flush : EngineInvariant start three
-after_flush = flush_law start two (by 0 3) 2 two after_record (sees_all 0 two) (omega arith) refl (turns (by 0 3) (logged ∷ []) (omega arith, tt))
+after_flush = flush_law start two (by 0 3) 2 (omega arith) two after_record (sees_all 0 two) (omega arith) refl (turns (by 0 3) (logged ∷ []) (omega arith, tt))
 
 only_three : (P : ℕ → Type 0) → P 3 → (id : ℕ) → Contains (3 ∷ []) id → P id
 only_three P p id c = ⊎_elim (λ (q : 3 ≡ id). subst P q p) (λ z. absurd z) (contains_has (3 ∷ []) id c)
@@ -161,6 +169,7 @@ after_states =
       lock = only_three (λ id. xact_lock_of start id ≡ xact_lock 0) refl;
       made = only_three (λ id. WasMade (at three (xact_lock 0)) (xact_page start.base.next) (xact_page id)) (inl refl);
     })
+    (only_three (λ id. Contains (given_to 0 (history three)) id) (0, omega arith, refl))
     (only_three (λ id. IsDurable start three 0 id) durable)
     (only_three (λ id. InTree start three 0 id) in_tree)
     (λ id old c j q. absurd (contains_has [] old j))

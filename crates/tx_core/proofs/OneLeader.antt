@@ -8,7 +8,7 @@ use Rattle.tx_core.specs.declared.entry.Entry.{Entry}
 use Rattle.tx_core.proofs.ChangeLaws.{changes_law, request_law}
 use Rattle.tx_core.proofs.EventLaws.{abort_event_law}
 use Rattle.tx_core.proofs.OneCommit.{after_id, by, entry, given_id, one, sees_all, start, turns}
-use Rattle.tx_core.specs.AbortRule.{AskUnrecorded, AsksAbort}
+use Rattle.tx_core.specs.AbortRule.{AskUnrecorded, AsksAbort, GivenOf}
 use Rattle.tx_core.specs.EngineInvariant.{EngineInvariant}
 use Rattle.tx_core.specs.Entries.{IsAppended, IsMarked, Mark}
 use Rattle.tx_core.specs.Laws.{MayChange, MayMark, all_set, marks_of}
@@ -29,7 +29,7 @@ abbrev led : Entry
 led = entry (by 1 2) (kinds.Set change)
 
 abbrev asked : List (List Entry)
-asked = add one 7 requested
+asked = add one 9 requested
 
 abbrev done : List (List Entry)
 done = add asked (xact_lock 0) led
@@ -42,11 +42,11 @@ no_records n top subs lists none a = subst (λ (t : List Entry). Has t (record {
 
 after_request : EngineInvariant start asked
 after_request =
-    request_law start one 7 (by 0 3) change (omega arith) (only_mark (λ m. AskUnrecorded one 0 m.caller.session m.id m.state) (λ q top subs a c. no_records 0 top subs one refl a))
+    request_law start one 9 (by 0 3) change (omega arith) (only_mark (GivenOf one) (0, omega arith, refl)) (only_mark (λ m. AskUnrecorded one 0 m.caller.session m.id m.state) (λ q top subs a c. no_records 0 top subs one refl a))
     one after_id (sees_all 0 one) (omega arith) refl (turns (by 0 3) [] tt)
 
 asked_abort : AsksAbort asked 0 3
-asked_abort = record { lock = 7; entry = requested; stands = (0, omega arith, refl); own = refl; caller = by 0 3; same = refl; asks = (0, omega arith, refl) }
+asked_abort = record { lock = 9; entry = requested; stands = (0, omega arith, refl); own = refl; caller = by 0 3; same = refl; asks = (0, omega arith, refl) }
 
 led_change : MayChange start asked 3 1 change
 led_change = record {
@@ -55,12 +55,15 @@ led_change = record {
     page = inl refl;
     durable = tt;
     tree = tt;
-    asked = record { given = (0, omega arith, refl); asked = inr asked_abort };
+    given = (0, omega arith, refl);
+    asked = inr asked_abort;
     unrecorded = λ q top subs a c. no_records 1 top subs asked refl a;
     final = λ old j q. absurd (contains_has [] old j);
   });
   alike = λ m other c d q. only_mark (λ n. other.state ≡ n.state) (only_mark (λ n. n.state ≡ states.Aborted) refl other d) m c;
   links = λ link c. absurd (contains_has [] link c);
+  offsets = λ set c. absurd (contains_has [] set c);
+  slots = λ slot c. absurd (contains_has [] slot c);
 }
 
 after_leader : EngineInvariant start done

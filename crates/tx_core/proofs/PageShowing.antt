@@ -13,12 +13,15 @@ use Rattle.tx_events.proofs.PlaceLemmas.{slice_get-grows, take-grows}
 use Rattle.tx_core.specs.declared.entry.Entry.{Entry}
 use Rattle.tx_core.specs.declared.entry.Kind.{Kind}
 use Rattle.tx_core.specs.declared.entry.Start.{Start}
-use Rattle.tx_core.proofs.Reading.{last_or-append, state_from}
+use Rattle.tx_core.proofs.Reading.{last_or-append}
+use Rattle.tx_core.proofs.Taking.{get_of_take, taken_twice}
 use Rattle.tx_core.specs.EngineInvariant.{EngineInvariant}
 use Rattle.tx_core.specs.Entries.{Link, Mark, changes_in, link_of, links_in, mark_of, marks_in}
 use Rattle.notes.specs.Lists.{at}
-use Rattle.tx_core.specs.Locks.{subtrans_page, xact_page}
-use Rattle.tx_core.specs.Pages.{Pages, PagesShow, ParentsShow, Store, after_entry, pages_after, parent_for, set_by, subtrans_store, xact_store, zeroed, zeroed_in}
+use Rattle.tx_core.specs.Locks.{member_page_in_full, offset_page, subtrans_page, xact_page}
+use Rattle.tx_core.specs.MultiEntries.{SetOffset, SetSlot, offset_of, offsets_in, slot_of, slots_in}
+use Rattle.tx_core.specs.declared.entry.Change.{Change}
+use Rattle.tx_core.specs.Pages.{MembersShow, OffsetsShow, Pages, PagesShow, ParentsShow, Store, after_entry, member_store, offset_store, pages_after, set_by, subtrans_store, xact_store, zeroed, zeroed_in}
 use Rattle.tx_core.specs.PagesBeforeIds.{WasMade}
 use Rattle.tx_core.specs.declared.entry.Kind.TheVariants as kinds
 
@@ -112,37 +115,77 @@ module _ {I V : Type 0} where
       let front : ArePlaced s first es = λ p f i x v g k h. subst (λ (t : List Entry). WasMade t (s.page_of first) (s.page_of x)) (take-grows es (e ∷ []) f p g) (placed p f i x v (slice_get-grows es (e ∷ []) f p g) k h) in
       subst (Kept s first shown Asked (es ++ e ∷ [])) (sym (fold_push (after_entry s) (record { last = s.page_of first; shows = shown }) es e)) (kept_step s first shown Asked es e (pages_after s first shown es) is (before front) front))
 
-zero_sets_no_state : (e : Entry) (page : ℕ) → zeroed_in e.kind ≡ Some page → marks_in e ≡ []
-zero_sets_no_state e page g = ap (λ (kind : Kind). filter_map mark_of (changes_in kind)) (zero_kind e.kind page g)
+  -- and so behind each beginning of the list
+  placed_front : (s : Store I V) (first n : ℕ) (es : List Entry) → ArePlaced s first es → ArePlaced s first (take n es)
+  placed_front s first n es placed p e i x v g h read =
+      subst (λ (t : List Entry). WasMade t (s.page_of first) (s.page_of x)) (sym (taken_twice n p es e g)) (placed p e i x v (get_of_take n p es e g) h read)
 
-zero_sets_no_parent : (e : Entry) (page : ℕ) → zeroed_in e.kind ≡ Some page → links_in e ≡ []
-zero_sets_no_parent e page g = ap (λ (kind : Kind). filter_map link_of (changes_in kind)) (zero_kind e.kind page g)
+  show_front : (s : Store I V) (first : ℕ) (shown : ℕ → Option V) (Asked : ℕ → Type 0) → IsStore s first shown Asked → (es : List Entry) → ArePlaced s first es
+      → (n x : ℕ) → Asked x → (pages_after s first shown (take n es)).shows x ≡ read_of s shown (take n es) x
+  show_front s first shown Asked is es placed n x asked = (kept_all s first shown Asked is (take n es) (placed_front s first n es placed)).show x asked
 
--- a parent read of an id is one that was set of it
-parent_from : (x : ℕ) (link : Link) (v : ℕ) → parent_for x link ≡ Some v → link.id ≡ x
-parent_from x link v e =
-    let step : (b : Bool) → (link.id == x) ≡ b → cond b (Some link.parent) None ≡ Some v → link.id ≡ x = elim [
-      | true ↦ λ q g. eqb-true link.id x q
-      | false ↦ λ q g. absurd cc
-    ] in
-    step (link.id == x) refl e
+-- an entry that makes a page sets nothing
+module _ {I : Type 0} where
+  zero_sets_none : (item_of : Change → Option I) (e : Entry) (page : ℕ) → zeroed_in e.kind ≡ Some page → filter_map item_of (changes_in e.kind) ≡ []
+  zero_sets_none item_of e page g = ap (λ (kind : Kind). filter_map item_of (changes_in kind)) (zero_kind e.kind page g)
+
+-- a value that is read of a number is one that was set of it
+module _ {V : Type 0} where
+  of_number : (number x : ℕ) (value v : V) → cond (number == x) (Some value) None ≡ Some v → number ≡ x
+  of_number number x value v e =
+      let step : (b : Bool) → (number == x) ≡ b → cond b (Some value) None ≡ Some v → number ≡ x = elim [
+        | true ↦ λ q g. eqb-true number x q
+        | false ↦ λ q g. absurd cc
+      ] in
+      step (number == x) refl e
 
 states_placed : (start : Start) (lists : List (List Entry)) (lock : ℕ) → EngineInvariant start lists → ArePlaced xact_store start.base.next (at lists lock)
 states_placed start lists lock k p e mark x v g h read =
     let before : List Entry = take p (at lists lock) in
-    let was : WasMade before (xact_page start.base.next) (xact_page mark.id) = all_at (λ (m : Mark). WasMade before (xact_page start.base.next) (xact_page m.id)) (marks_in e) mark (k.pages.changes.each lock p e g).marks h in
-    subst (λ z. WasMade before (xact_page start.base.next) (xact_page z)) (state_from x mark v read).0 was
+    let first : ℕ = xact_page start.base.next in
+    subst (λ z. WasMade before first (xact_page z)) (of_number mark.id x mark.state v read)
+    (all_at (λ (m : Mark). WasMade before first (xact_page m.id)) (marks_in e) mark (k.pages.changes.each lock p e g).marks h)
 
 parents_placed : (start : Start) (lists : List (List Entry)) (lock : ℕ) → EngineInvariant start lists → ArePlaced subtrans_store start.base.next (at lists lock)
 parents_placed start lists lock k p e link x v g h read =
     let before : List Entry = take p (at lists lock) in
-    let was : WasMade before (subtrans_page start.base.next) (subtrans_page link.id) = all_at (λ (l : Link). WasMade before (subtrans_page start.base.next) (subtrans_page l.id)) (links_in e) link (k.pages.changes.each lock p e g).links h in
-    subst (λ z. WasMade before (subtrans_page start.base.next) (subtrans_page z)) (parent_from x link v read) was
+    let first : ℕ = subtrans_page start.base.next in
+    subst (λ z. WasMade before first (subtrans_page z)) (of_number link.id x link.parent v read)
+    (all_at (λ (l : Link). WasMade before first (subtrans_page l.id)) (links_in e) link (k.pages.changes.each lock p e g).links h)
+
+offsets_placed : (start : Start) (lists : List (List Entry)) (lock : ℕ) → EngineInvariant start lists → ArePlaced offset_store start.base.multi (at lists lock)
+offsets_placed start lists lock k p e set x v g h read =
+    let before : List Entry = take p (at lists lock) in
+    let first : ℕ = offset_page start.base.multi in
+    subst (λ z. WasMade before first (offset_page z)) (of_number set.multi x set.offset v read)
+    (all_at (λ (s : SetOffset). WasMade before first (offset_page s.multi)) (offsets_in e) set (k.pages.changes.each lock p e g).offsets h)
+
+members_placed : (start : Start) (lists : List (List Entry)) (lock : ℕ) → EngineInvariant start lists → ArePlaced member_store start.base.offset (at lists lock)
+members_placed start lists lock k p e slot x v g h read =
+    let before : List Entry = take p (at lists lock) in
+    let first : ℕ = member_page_in_full start.base.offset in
+    subst (λ z. WasMade before first (member_page_in_full z)) (of_number slot.offset x slot.member v read)
+    (all_at (λ (s : SetSlot). WasMade before first (member_page_in_full s.offset)) (slots_in e) slot (k.pages.changes.each lock p e g).slots h)
 
 pub pages_show : PagesShow
-pages_show start lists shown lock x k is near =
-    (kept_all xact_store start.base.next shown (λ x. x < start.base.next + 2 ^ 30) (record { clean = λ x close past. is.clean x (omega arith) close; apart = zero_sets_no_state }) (at lists lock) (states_placed start lists lock k)).show x near
+pages_show start lists shown lock n x k is near =
+    show_front xact_store start.base.next shown (λ x. x < start.base.next + 2 ^ 30)
+    (record { clean = λ x close past. is.clean x (omega arith) close; apart = λ e page g. zero_sets_none mark_of e page g })
+    (at lists lock) (states_placed start lists lock k) n x near
 
 pub parents_show : ParentsShow
-parents_show start lists lock x k =
-    (kept_all subtrans_store start.base.next (λ id. None) (λ x. Unit {0}) (record { clean = λ x asked past. refl; apart = zero_sets_no_parent }) (at lists lock) (parents_placed start lists lock k)).show x tt
+parents_show start lists lock n x k =
+    show_front subtrans_store start.base.next (λ id. None) (λ x. Unit {0}) (record { clean = λ x asked past. refl; apart = λ e page g. zero_sets_none link_of e page g })
+    (at lists lock) (parents_placed start lists lock k) n x tt
+
+pub offsets_show : OffsetsShow
+offsets_show start lists shown lock n multi k is near =
+    show_front offset_store start.base.multi shown (λ x. x < start.base.multi + 2 ^ 30)
+    (record { clean = λ x close past. is x (omega arith) close; apart = λ e page g. zero_sets_none offset_of e page g })
+    (at lists lock) (offsets_placed start lists lock k) n multi near
+
+pub members_show : MembersShow
+members_show start lists shown lock n offset k is near =
+    show_front member_store start.base.offset shown (λ x. x < start.base.offset + 2 ^ 30)
+    (record { clean = λ x close past. is x (omega arith) close; apart = λ e page g. zero_sets_none slot_of e page g })
+    (at lists lock) (members_placed start lists lock k) n offset near

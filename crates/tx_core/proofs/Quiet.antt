@@ -1,9 +1,8 @@
 -- Entries that say nothing of ids ask for nothing.
-use Rattle.std.proofs.Common.{Bool, IfSome, List, false, refl, true, ℕ, ◌≡◌}
+use Rattle.std.proofs.Common.{Bool, IfSome, List, false, refl, true, ℕ, ◌≡◌, ◌⊎◌}
 use Rattle.std.specs.List.{AllByRecursion, filter_map}
 use Rattle.tx_events.specs.declared.event.By.{By}
 use Rattle.tx_events.specs.declared.event.Event.{Event}
-use Rattle.tx_events.specs.declared.record.Rec.{Rec}
 use Rattle.tx_events.specs.Events.{by_of}
 use Rattle.tx_events.specs.Families.{top}
 use Rattle.tx_events.specs.History.{MayCome}
@@ -11,14 +10,22 @@ use Rattle.tx_core.specs.declared.entry.Entry.{Entry}
 use Rattle.tx_core.specs.declared.entry.Kind.{Kind}
 use Rattle.tx_core.specs.declared.entry.Start.{Start}
 use Rattle.tx_core.proofs.Keeping.{keeps}
-use Rattle.tx_core.specs.AbortRule.{AbortsOf, AskUnrecorded, AskedOf, IsSameAfter, RecordUnasked}
+use Rattle.tx_core.specs.AbortRule.{AbortsOf, AskUnrecorded, AskedOf, GivenOf, IsSameAfter, RecordUnasked}
 use Rattle.tx_core.specs.CommitRecordsExact.{LeavesRecords, LinksOf, RecordMay}
-use Rattle.tx_core.specs.Entries.{EachMark, Link, Mark, asked_in, changes_in, event_in, events_in, history, link_of, mark_of}
-use Rattle.tx_core.specs.Laws.{CutKeeps, FlushKeeps, ForgetKeeps, KindKeeps, LogFaultKeeps, LookKeeps, MultiEventKeeps, OtherRecordKeeps, SyncKeeps, ZeroKeeps, is_commit_record}
+use Rattle.tx_core.specs.Entries.{EachMark, Link, Mark, asked_in, changes_in, cut_in, event_in, events_in, history, link_of, mark_of}
+use Rattle.tx_core.specs.Laws.{AbortRecordKeeps, CheckpointRecordKeeps, CutKeeps, FlushKeeps, ForgetKeeps, KindKeeps, LogFaultKeeps, LookKeeps, MultiEventKeeps, MultiRecordKeeps, SyncKeeps, TruncateRecordKeeps, ZeroKeeps}
 use Rattle.notes.specs.Lists.{at}
-use Rattle.tx_core.specs.Locks.{log_lock, multi_lock, subtrans_page, xact_page}
+use Rattle.tx_core.specs.Locks.{log_lock, member_page_in_full, multi_lock, offset_page, subtrans_page, xact_page}
 use Rattle.tx_core.specs.LogBeforeStatus.{RecordOf, TreeOf}
-use Rattle.tx_core.specs.PagesBeforeIds.{PagesOf, WasMade}
+use Rattle.tx_core.specs.PagesBeforeIds.{PagesOf, WasMade, ZeroOf}
+use Rattle.tx_core.specs.MultiEntries.{SetOffset, SetSlot, multi_in, multis_in, offset_of, slot_of}
+use Rattle.tx_core.specs.RecordsFollow.{AppendOf, FlushOf, NamedOf}
+use Rattle.tx_core.specs.CutsFollow.{CutBy}
+use Rattle.tx_core.specs.MembersBeforeOffset.{OffsetOf, SlotOf}
+use Rattle.tx_core.specs.SyncsBeforeForgets.{ForgetOf}
+use Rattle.tx_core.specs.PostsFollow.{PostIn, PostOf}
+use Rattle.tx_core.specs.Locks.{oldest_word, xmin_word}
+use Rattle.tx_events.specs.Multis.{InBase, MultiMayCome, multi_by}
 use Rattle.tx_core.specs.ParentsFollow.{IsGivenBelow}
 use Rattle.tx_core.specs.ProgramOrder.{MayStand}
 use Rattle.tx_core.specs.StatusBeforeCommit.{StatesOf}
@@ -55,6 +62,16 @@ quiet_links P (kinds.Set changes) q = absurd cc
 quiet_links P (kinds.Fault callers changes cut count) q = absurd cc
 quiet_links P _ q = tt
 
+quiet_offsets : (P : SetOffset → Type 0) (kind : Kind) → is_quiet kind ≡ true → AllByRecursion P (filter_map offset_of (changes_in kind))
+quiet_offsets P (kinds.Set changes) q = absurd cc
+quiet_offsets P (kinds.Fault callers changes cut count) q = absurd cc
+quiet_offsets P _ q = tt
+
+quiet_slots : (P : SetSlot → Type 0) (kind : Kind) → is_quiet kind ≡ true → AllByRecursion P (filter_map slot_of (changes_in kind))
+quiet_slots P (kinds.Set changes) q = absurd cc
+quiet_slots P (kinds.Fault callers changes cut count) q = absurd cc
+quiet_slots P _ q = tt
+
 quiet_pages : (start : Start) (lists : List (List Entry)) (before : List Entry) (kind : Kind) → is_quiet kind ≡ true → PagesOf start lists before kind
 quiet_pages start lists before (kinds.Event event) q = absurd cc
 quiet_pages start lists before (kinds.Made id) q = absurd cc
@@ -80,9 +97,20 @@ quiet_closed : (start : Start) (lists : List (List Entry)) (before : List Event)
 quiet_closed start lists before (kinds.Event event) q = absurd cc
 quiet_closed start lists before _ q = tt
 
--- so its turn, and that it may stand there, are all that it needs
-pub quiet_keeps : (start : Start) (seen : List (List Entry)) (lock : ℕ) (by : By) (kind : Kind) → is_quiet kind ≡ true → MayStand start lock by kind → KindKeeps start seen lock by kind
-quiet_keeps start seen lock by kind q stands lists k knows inside whole turn =
+-- what the parts ask that speak of the log and of the pages themselves
+pub record HasNeeds (start : Start) (seen : List (List Entry)) (lock : ℕ) (by : By) (kind : Kind) : Type 0 where
+  pub made : ZeroOf start seen lock kind
+  pub counters : AppendOf start seen (at seen lock) kind
+  pub named : NamedOf start seen by kind
+  pub flushed : FlushOf start (at seen lock) kind
+  pub cuts : IfSome (cut_in kind) (CutBy start seen lock)
+  pub multis : IfSome (multi_in kind) (λ event. (multi_by event ≡ by) × MultiMayCome start.base (InBase start.base) (multis_in (at seen lock)) event)
+  pub syncs : ForgetOf start seen (at seen lock) kind
+  pub posts : PostIn start seen lock (at seen lock) kind
+
+-- so its turn, that it may stand there, and these needs are all that it needs
+pub quiet_keeps : (start : Start) (seen : List (List Entry)) (lock : ℕ) (by : By) (kind : Kind) → is_quiet kind ≡ true → MayStand start lock by kind → HasNeeds start seen lock by kind → KindKeeps start seen lock by kind
+quiet_keeps start seen lock by kind q stands needs lists k knows inside whole turn =
     let e : Entry = record { by = by; kind = kind } in
     let before : List Entry = at seen lock in
     keeps start lists seen lock e k knows inside whole (record {
@@ -92,7 +120,10 @@ quiet_keeps start seen lock by kind q stands lists k knows inside whole turn =
         changes = record {
           marks = quiet_marks (λ mark. WasMade before (xact_page start.base.next) (xact_page mark.id)) kind q;
           links = quiet_links (λ link. WasMade before (subtrans_page start.base.next) (subtrans_page link.id)) kind q;
+          offsets = quiet_offsets (λ set. WasMade before (offset_page start.base.multi) (offset_page set.multi)) kind q;
+          slots = quiet_slots (λ slot. WasMade before (member_page_in_full start.base.offset) (member_page_in_full slot.offset)) kind q;
         };
+        made = needs.made;
       };
       parents = quiet_links (λ link. IsGivenBelow seen link.caller.session link.parent link.id) kind q;
       records = record {
@@ -107,7 +138,8 @@ quiet_keeps start seen lock by kind q stands lists k knows inside whole turn =
       commits = quiet_states start seen kind q;
       aborts = record {
         closed = quiet_closed start seen (events_in before) kind q;
-        asked = quiet_marks (λ mark. AskedOf seen by.session mark.caller.session mark.id mark.state) kind q;
+        given = quiet_asks (λ mark. GivenOf seen mark) kind q;
+        asked = quiet_marks (λ mark. AskedOf seen by.session mark) kind q;
         unasked = λ here. quiet_unasked seen by.session kind q;
         unrecorded = quiet_asks (λ mark. AskUnrecorded seen by.session mark.caller.session mark.id mark.state) kind q;
         final = record {
@@ -116,35 +148,53 @@ quiet_keeps start seen lock by kind q stands lists k knows inside whole turn =
         };
       };
       order = record { turn = turn; stands = stands };
+      log = record { counters = needs.counters; named = needs.named; flushed = needs.flushed };
+      cuts = needs.cuts;
+      multis = needs.multis;
+      members = record { slots = quiet_slots (λ slot. SlotOf seen slot) kind q; offsets = quiet_offsets (λ set. OffsetOf start seen set) kind q };
+      syncs = needs.syncs;
+      posts = needs.posts;
     })
 
-quiet_rec : (rec : Rec) → is_commit_record rec ≡ false → is_quiet (kinds.Append rec) ≡ true
-quiet_rec (records.Commit top subs) q = absurd cc
-quiet_rec _ q = refl
+pub abort_record_law : AbortRecordKeeps
+abort_record_law start seen by top subs base given =
+    quiet_keeps start seen log_lock by (kinds.Append (records.Abort top subs)) refl refl (record { made = tt; counters = (base, tt); named = given; flushed = tt; cuts = tt; multis = tt; syncs = tt; posts = tt })
 
-pub other_record_law : OtherRecordKeeps
-other_record_law start seen by rec other = quiet_keeps start seen log_lock by (kinds.Append rec) (quiet_rec rec other) refl
+pub multi_record_law : MultiRecordKeeps
+multi_record_law start seen by multi offset members base gen given =
+    quiet_keeps start seen log_lock by (kinds.Append (records.Multi multi offset members)) refl refl (record { made = tt; counters = (base, tt); named = (gen, given); flushed = tt; cuts = tt; multis = tt; syncs = tt; posts = tt })
+
+pub checkpoint_record_law : CheckpointRecordKeeps
+checkpoint_record_law start seen by number counters base follows =
+    quiet_keeps start seen log_lock by (kinds.Append (records.Checkpoint number counters)) refl refl (record { made = tt; counters = (base, follows); named = tt; flushed = tt; cuts = tt; multis = tt; syncs = tt; posts = tt })
+
+pub truncate_record_law : TruncateRecordKeeps
+truncate_record_law start seen by oldest multi offset base id announced =
+    quiet_keeps start seen log_lock by (kinds.Append (records.Truncate oldest multi offset)) refl refl (record { made = tt; counters = (base, (id, announced)); named = tt; flushed = tt; cuts = tt; multis = tt; syncs = tt; posts = tt })
 
 pub flush_law : FlushKeeps
-flush_law start seen by to = quiet_keeps start seen log_lock by (kinds.Flush to) refl refl
+flush_law start seen by to within = quiet_keeps start seen log_lock by (kinds.Flush to) refl refl (record { made = tt; counters = tt; named = tt; flushed = within; cuts = tt; multis = tt; syncs = tt; posts = tt })
 
 pub forget_law : ForgetKeeps
-forget_law start seen by number = quiet_keeps start seen log_lock by (kinds.Forget number) refl refl
+forget_law start seen by number may = quiet_keeps start seen log_lock by (kinds.Forget number) refl refl (record { made = tt; counters = tt; named = tt; flushed = tt; cuts = tt; multis = tt; syncs = may; posts = tt })
 
 pub log_fault_law : LogFaultKeeps
-log_fault_law start seen by asked count = quiet_keeps start seen log_lock by (kinds.LogFault asked count) refl refl
+log_fault_law start seen by asked count may = quiet_keeps start seen log_lock by (kinds.LogFault asked count) refl refl (record { made = tt; counters = tt; named = tt; flushed = tt; cuts = tt; multis = tt; syncs = may; posts = tt })
 
 pub multi_event_law : MultiEventKeeps
-multi_event_law start seen by event = quiet_keeps start seen multi_lock by (kinds.Multi event) refl refl
+multi_event_law start seen by event own rule = quiet_keeps start seen multi_lock by (kinds.Multi event) refl refl (record { made = tt; counters = tt; named = tt; flushed = tt; cuts = tt; multis = (own, rule); syncs = tt; posts = tt })
 
 pub zero_law : ZeroKeeps
-zero_law start seen lock by page on = quiet_keeps start seen lock by (kinds.Zero page) refl on
+zero_law start seen lock by page on wanted = quiet_keeps start seen lock by (kinds.Zero page) refl on (record { made = wanted; counters = tt; named = tt; flushed = tt; cuts = tt; multis = tt; syncs = tt; posts = tt })
 
 pub cut_law : CutKeeps
-cut_law start seen lock by page on = quiet_keeps start seen lock by (kinds.Cut page) refl on
+cut_law start seen lock by page on says = quiet_keeps start seen lock by (kinds.Cut page) refl on (record { made = tt; counters = tt; named = tt; flushed = tt; cuts = says; multis = tt; syncs = tt; posts = tt })
 
 pub sync_law : SyncKeeps
-sync_law start seen lock by on = quiet_keeps start seen lock by kinds.Sync refl on
+sync_law start seen lock by on = quiet_keeps start seen lock by kinds.Sync refl on (record { made = tt; counters = tt; named = tt; flushed = tt; cuts = tt; multis = tt; syncs = tt; posts = tt })
 
 pub look_law : LookKeeps
-look_law start seen lock by = quiet_keeps start seen lock by kinds.Look refl tt
+look_law start seen lock by = quiet_keeps start seen lock by kinds.Look refl tt (record { made = tt; counters = tt; named = tt; flushed = tt; cuts = tt; multis = tt; syncs = tt; posts = tt })
+
+pub post_keeps : (start : Start) (seen : List (List Entry)) (lock : ℕ) (by : By) (number : ℕ) → (lock ≡ oldest_word start) ⊎ (lock ≡ xmin_word start) → PostOf start seen lock (at seen lock) number → KindKeeps start seen lock by (kinds.Post number)
+post_keeps start seen lock by number on posted = quiet_keeps start seen lock by (kinds.Post number) refl on (record { made = tt; counters = tt; named = tt; flushed = tt; cuts = tt; multis = tt; syncs = tt; posts = posted })

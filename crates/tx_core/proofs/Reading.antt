@@ -16,9 +16,8 @@ use Rattle.tx_core.specs.declared.entry.Entry.{Entry}
 use Rattle.tx_core.specs.declared.entry.Kind.{Kind}
 use Rattle.tx_core.specs.declared.entry.Start.{Start}
 use Rattle.tx_core.specs.declared.entry.State.{State}
-use Rattle.tx_core.proofs.Asking.{aborted_of, alike_of, later_of, logged_of, upheld_has}
-use Rattle.tx_core.proofs.Exactness.{exact_given}
-use Rattle.tx_core.specs.AbortRule.{NeedsAsked, NeedsSame}
+use Rattle.tx_core.proofs.Asking.{alike_of, asks_marks, given_of, later_of, logged_of, upheld_has}
+use Rattle.tx_core.specs.AbortRule.{NeedsGiven, NeedsSame}
 use Rattle.tx_core.specs.EngineInvariant.{EngineInvariant}
 use Rattle.tx_core.specs.Entries.{IsAppended, IsFlushed, IsMarked, Mark, appended, appended_in, history, marks, marks_in, records_of}
 use Rattle.notes.specs.Lists.{at}
@@ -68,7 +67,7 @@ states_has x (m ∷ ms) mark k q =
     k
 
 -- once an id is set committed, committed is read
-committed_last : (o : Option State) (x : ℕ) (b : By) (es : List Entry) → ((p : ℕ) (e : Entry) → slice_get es p ≡ Some e → NeedsSame [] 0 (take p es) e) → Has (marks es) (record { caller = b; id = x; state = states.Committed }) → last_or o (filter_map (state_for x) (marks es)) ≡ Some states.Committed
+pub committed_last : (o : Option State) (x : ℕ) (b : By) (es : List Entry) → ((p : ℕ) (e : Entry) → slice_get es p ≡ Some e → NeedsSame [] 0 (take p es) e) → Has (marks es) (record { caller = b; id = x; state = states.Committed }) → last_or o (filter_map (state_for x) (marks es)) ≡ Some states.Committed
 committed_last o x b = by_end (λ es. ((p : ℕ) (e : Entry) → slice_get es p ≡ Some e → NeedsSame [] 0 (take p es) e) → Has (marks es) (record { caller = b; id = x; state = states.Committed }) → last_or o (filter_map (state_for x) (marks es)) ≡ Some states.Committed)
     (λ each k. absurd k)
     (λ es e before each k.
@@ -95,11 +94,11 @@ committed_read start lists shown x k m =
     let lock : ℕ = xact_lock_of start x in
     committed_last (shown x) x m.0 (at lists lock) (λ p e g. let n = k.aborts.final.each lock p e g in record { later = n.later; alike = n.alike }) (contains_has _ _ m.1)
 
-appended_is : (by : By) (kind : Kind) (found : By × Rec) → appended_in by kind ≡ Some found → kind ≡ kinds.Append found.1
+pub appended_is : (by : By) (kind : Kind) (found : By × Rec) → appended_in by kind ≡ Some found → kind ≡ kinds.Append found.1
 appended_is by (kinds.Append rec) found e = let q : (by, rec) ≡ found = same_Some _ _ e in ap (λ (z : By × Rec). kinds.Append z.1) q
 appended_is by _ found e = absurd cc
 
-appended_by : (by : By) (kind : Kind) (found : By × Rec) → appended_in by kind ≡ Some found → by ≡ found.0
+pub appended_by : (by : By) (kind : Kind) (found : By × Rec) → appended_in by kind ≡ Some found → by ≡ found.0
 appended_by by (kinds.Append rec) found e = let q : (by, rec) ≡ found = same_Some _ _ e in ap (λ (z : By × Rec). z.0) q
 appended_by by _ found e = absurd cc
 
@@ -120,19 +119,12 @@ pub record IsOfRecord (lists : List (List Entry)) (x : ℕ) : Type 0 where
 of_durable : (start : Start) (lists : List (List Entry)) (session x : ℕ) → IsDurable start lists session x → IsOfRecord lists x
 of_durable start lists session x d = record { session = session; top = d.0; subs = d.1; appended = flushed_appended start lists session (records.Commit d.0 d.1) d.2; among = d.3 }
 
-of_state : (start : Start) (lists : List (List Entry)) (session x : ℕ) (s : State) → RecordOf start lists session x s → IsOfRecord lists x ⊎ (s ≡ states.Aborted)
-of_state start lists session x states.Committed d = inl (of_durable start lists session x d)
-of_state start lists session x states.SubCommitted d = inl (of_durable start lists session x d)
-of_state start lists session x states.Aborted d = inr refl
-
 -- an id whose state was set was given
 pub marked_given : (start : Start) (lists : List (List Entry)) (mark : Mark) (lock : ℕ) → EngineInvariant start lists → Has (marks (at lists lock)) mark → Has (given (history lists)) mark.id
 marked_given start lists mark lock k h =
     let found = has_flat_map marks_in (at lists lock) mark h in
-    ⊎_elim
-    (λ (r : IsOfRecord lists mark.id). given_to_given r.session (history lists) mark.id (exact_given (history lists) r.session r.top r.subs mark.id (k.records.exact r.session r.top r.subs r.appended) r.among))
-    (λ (q : mark.state ≡ states.Aborted). given_to_given mark.caller.session (history lists) mark.id (contains_has _ _ (aborted_of lists lock [] found.0 mark (upheld_has NeedsAsked lists lock found.0 k.aborts.asked found.1).1 found.2 q).given))
-    (of_state start lists mark.caller.session mark.id mark.state (logged_of start lists lock [] found.0 mark (upheld_has (NeedsRecords start) lists lock found.0 k.status.logged found.1).1 found.2))
+    given_to_given mark.caller.session (history lists) mark.id
+    (contains_has _ _ (given_of lists lock [] found.0 mark (upheld_has NeedsGiven lists lock found.0 k.aborts.given found.1).1 (asks_marks found.0 mark found.2)))
 
 -- committed is read only of an id of a commit record, where the start shows nothing
 pub read_committed : (start : Start) (lists : List (List Entry)) (shown : ℕ → Option State) (x : ℕ) → EngineInvariant start lists → shown x ≡ None → state_read shown (marks (at lists (xact_lock_of start x))) x ≡ Some states.Committed → IsOfRecord lists x

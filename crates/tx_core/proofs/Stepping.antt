@@ -21,14 +21,14 @@ use Rattle.tx_core.specs.declared.entry.Start.{Start}
 use Rattle.tx_core.proofs.Asking.{own_event, upheld_has}
 use Rattle.notes.proofs.Growing.{at_else, at_here}
 use Rattle.tx_core.proofs.Lasting.{history_grows}
-use Rattle.tx_core.specs.AbortRule.{AsksAbort}
+use Rattle.tx_core.specs.AbortRule.{Asks}
 use Rattle.tx_core.specs.EngineInvariant.{EngineInvariant}
 use Rattle.tx_core.specs.Entries.{IsAppended, Mark, asks_in, event_of, events_in, history, session_of}
 use Rattle.tx_core.specs.EventsLegal.{NeedsOwn}
 use Rattle.notes.specs.Lists.{Knows, add, at, own}
 use Rattle.tx_core.specs.Locks.{log_lock, proc_lock}
 use Rattle.tx_core.specs.declared.entry.Kind.TheVariants as kinds
-use Rattle.tx_core.specs.declared.entry.State.TheVariants as states
+use Rattle.tx_core.specs.declared.entry.State.{State}
 
 -- the history with one entry more
 pub history_at : (lists : List (List Entry)) (e : Entry) → proc_lock < length lists → history (add lists proc_lock e) ≡ history lists ++ cons_option (event_of e) []
@@ -80,12 +80,12 @@ appended_cases lists lock e session rec inside a =
     (has_cases (at lists log_lock) (e ∷ []) _ (subst (λ (t : List Entry). Has t (record { by = a.0; kind = kinds.Append rec })) here (contains_has _ _ a.2))))
     (λ n. inl (a.0, a.1, subst (λ (t : List Entry). Contains t (record { by = a.0; kind = kinds.Append rec })) (at_else lists lock log_lock e n) a.2))
 
--- an abort that was asked for was asked for before, or by the entry
-pub asks_cases : (lists : List (List Entry)) (lock : ℕ) (e : Entry) (session id : ℕ) → lock < length lists → AsksAbort (add lists lock e) session id
-    → AsksAbort lists session id ⊎ ((e.by.session ≡ session) × (caller : By) × (caller.session ≡ session) × Has (asks_in e) (record { caller = caller; id = id; state = states.Aborted }))
-asks_cases lists lock e session id inside a =
-    let old : Has (at lists a.lock) a.entry → AsksAbort lists session id = λ h. record { lock = a.lock; entry = a.entry; stands = has_contains (at lists a.lock) a.entry h; own = a.own; caller = a.caller; same = a.same; asks = a.asks } in
-    let mark : Mark = record { caller = a.caller; id = id; state = states.Aborted } in
+-- a state that was asked for was asked for before, or by the entry
+pub asks_cases : (lists : List (List Entry)) (lock : ℕ) (e : Entry) (session id : ℕ) (state : State) → lock < length lists → Asks (add lists lock e) session id state
+    → Asks lists session id state ⊎ ((e.by.session ≡ session) × (caller : By) × (caller.session ≡ session) × Has (asks_in e) (record { caller = caller; id = id; state = state }))
+asks_cases lists lock e session id state inside a =
+    let old : Has (at lists a.lock) a.entry → Asks lists session id state = λ h. record { lock = a.lock; entry = a.entry; stands = has_contains (at lists a.lock) a.entry h; own = a.own; caller = a.caller; same = a.same; asks = a.asks } in
+    let mark : Mark = record { caller = a.caller; id = id; state = state } in
     dite (ℕ_discrete a.lock lock)
     (λ (q : a.lock ≡ lock).
     let here : at (add lists lock e) a.lock ≡ at lists a.lock ++ e ∷ [] = ap (λ z. at (add lists lock e) z) q ∙ at_here lists lock e inside ∙ ap (λ z. at lists z ++ e ∷ []) (sym q) in
@@ -97,9 +97,9 @@ asks_cases lists lock e session id inside a =
     (has_cases (at lists a.lock) (e ∷ []) a.entry (subst (λ (t : List Entry). Has t a.entry) here (contains_has (at (add lists lock e) a.lock) a.entry a.stands))))
     (λ n. inl (old (subst (λ (t : List Entry). Has t a.entry) (at_else lists lock a.lock e n) (contains_has (at (add lists lock e) a.lock) a.entry a.stands))))
 
--- what a session asked to be aborted it has seen itself ask for
-pub own_asks : (n id : ℕ) (seen lists : List (List Entry)) → Knows session_of n seen lists → AsksAbort lists n id → AsksAbort seen n id
-own_asks n id seen lists knows a = record {
+-- what a session asked for it has seen itself ask for
+pub own_asks : (n id : ℕ) (state : State) (seen lists : List (List Entry)) → Knows session_of n seen lists → Asks lists n id state → Asks seen n id state
+own_asks n id state seen lists knows a = record {
   lock = a.lock;
   entry = a.entry;
   stands = has_contains (at seen a.lock) a.entry (own_seen n seen lists a.lock a.entry knows (contains_has (at lists a.lock) a.entry a.stands) a.own);

@@ -28,28 +28,33 @@ AbortsOf start lists before _ = Unit {0}
 abbrev pub NeedsAborts : Start → List (List Entry) → ℕ → List Entry → Entry → Type 0
 NeedsAborts start lists lock before e = AbortsOf start lists (events_in before) e.kind
 
--- An entry of the session sets the id aborted for it, or asks another session to. The session knows all such entries,
+-- An entry of the session sets the id to a state for it, or asks another session to. The session knows all such entries,
 -- since they are its own.
-pub record AsksAbort (lists : List (List Entry)) (session id : ℕ) : Type 0 where
+pub record Asks (lists : List (List Entry)) (session id : ℕ) (state : State) : Type 0 where
   pub lock : ℕ
   pub entry : Entry
   pub stands : Contains (at lists lock) entry
   pub own : entry.by.session ≡ session
   pub caller : By
   pub same : caller.session ≡ session
-  pub asks : Contains (asks_in entry) (record { caller = caller; id = id; state = states.Aborted })
+  pub asks : Contains (asks_in entry) (record { caller = caller; id = id; state = state })
 
--- the session for which it is set was given the id; and that session asked for it, or sets it itself
-pub record AbortedFor (lists : List (List Entry)) (adder session id : ℕ) : Type 0 where
-  pub given : Contains (given_to session (history lists)) id
-  pub asked : (session ≡ adder) ⊎ AsksAbort lists session id
+abbrev pub AsksAbort : List (List Entry) → ℕ → ℕ → Type 0
+AsksAbort lists session id = Asks lists session id states.Aborted
 
-abbrev pub AskedOf : List (List Entry) → ℕ → ℕ → ℕ → State → Type 0
-AskedOf lists adder session id states.Aborted = AbortedFor lists adder session id
-AskedOf lists adder session id _ = Unit {0}
+-- the id was given to the session for which its state is set or asked for
+abbrev pub GivenOf : List (List Entry) → Mark → Type 0
+GivenOf lists mark = Contains (given_to mark.caller.session (history lists)) mark.id
+
+abbrev pub NeedsGiven : List (List Entry) → ℕ → List Entry → Entry → Type 0
+NeedsGiven lists lock before e = EachAsk (λ mark. GivenOf lists mark) e
+
+-- and where it is set, that session sets it itself, or asked for it
+abbrev pub AskedOf : List (List Entry) → ℕ → Mark → Type 0
+AskedOf lists adder mark = (mark.caller.session ≡ adder) ⊎ Asks lists mark.caller.session mark.id mark.state
 
 abbrev pub NeedsAsked : List (List Entry) → ℕ → List Entry → Entry → Type 0
-NeedsAsked lists lock before e = EachMark (λ mark. AskedOf lists e.by.session mark.caller.session mark.id mark.state) e
+NeedsAsked lists lock before e = EachMark (λ mark. AskedOf lists e.by.session mark) e
 
 -- a state set before is the same, or the one that comes before committed
 abbrev pub IsSameAfter : List Entry → Mark → Type 0
@@ -59,11 +64,12 @@ pub record NeedsSame (lists : List (List Entry)) (lock : ℕ) (before : List Ent
   pub later : EachMark (λ mark. IsSameAfter before mark) e
   pub alike : EachMark (λ mark. EachMark (λ other. other.id ≡ mark.id → other.state ≡ mark.state) e) e
 
--- An undo or an abort comes when all that it closes was set aborted. An id is set aborted only for the session that was
--- given it, and only where that session asked for it. No id of a commit record was asked to be aborted by the record's
--- session. A committed or aborted state is set to no other.
+-- An undo or an abort comes when all that it closes was set aborted. A state is set only for the session that was given
+-- the id, and only where that session sets it or asked for it. No id of a commit record was asked to be aborted by the
+-- record's session. A committed or aborted state is set to no other.
 pub record AbortRule (start : Start) (lists : List (List Entry)) : Type 0 where
   pub closed : Upheld (NeedsAborts start) lists
+  pub given : Upheld NeedsGiven lists
   pub asked : Upheld NeedsAsked lists
   pub apart : (session top : ℕ) (subs : List ℕ) (id : ℕ) → IsAppended lists session (records.Commit top subs) → Contains (top ∷ subs) id → AsksAbort lists session id → ⊥
   pub final : Upheld NeedsSame lists
@@ -81,6 +87,7 @@ AskUnrecorded seen session caller id _ = Unit {0}
 -- what a session knows that adds the entry
 pub record MayAbort (start : Start) (seen : List (List Entry)) (lock : ℕ) (before : List Entry) (e : Entry) : Type 0 where
   pub closed : NeedsAborts start seen lock before e
+  pub given : NeedsGiven seen lock before e
   pub asked : NeedsAsked seen lock before e
   pub unasked : lock ≡ log_lock → RecordUnasked seen e.by.session e.kind
   pub unrecorded : EachAsk (λ mark. AskUnrecorded seen e.by.session mark.caller.session mark.id mark.state) e

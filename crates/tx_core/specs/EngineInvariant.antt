@@ -11,6 +11,12 @@ use Rattle.tx_core.specs.LogBeforeStatus.{LogBeforeStatus, MayFollowLog}
 use Rattle.tx_core.specs.StatusBeforeCommit.{StatusBeforeCommit, NeedsStates}
 use Rattle.tx_core.specs.AbortRule.{AbortRule, MayAbort}
 use Rattle.tx_core.specs.ProgramOrder.{ProgramOrder, MayComeNext}
+use Rattle.tx_core.specs.RecordsFollow.{RecordsFollow, MayFollow}
+use Rattle.tx_core.specs.CutsFollow.{CutsFollow, NeedsCut}
+use Rattle.tx_core.specs.MultisLegal.{MultisLegal, NeedsMulti}
+use Rattle.tx_core.specs.MembersBeforeOffset.{MembersBeforeOffset, MaySetMulti}
+use Rattle.tx_core.specs.SyncsBeforeForgets.{SyncsBeforeForgets, NeedsSync}
+use Rattle.tx_core.specs.PostsFollow.{PostsFollow, NeedsPost}
 
 -- The engine invariant, part by part. A further part is a field here and one below.
 pub record EngineInvariant (start : Start) (lists : List (List Entry)) : Type 0 where
@@ -22,6 +28,12 @@ pub record EngineInvariant (start : Start) (lists : List (List Entry)) : Type 0 
   pub commits : StatusBeforeCommit start lists
   pub aborts : AbortRule start lists
   pub order : ProgramOrder start lists
+  pub log : RecordsFollow start lists
+  pub cuts : CutsFollow start lists
+  pub multis : MultisLegal start lists
+  pub members : MembersBeforeOffset start lists
+  pub syncs : SyncsBeforeForgets start lists
+  pub posts : PostsFollow start lists
 
 -- what a session shows of the lists that it has seen, before it adds an entry to one of them
 pub record MayAdd (start : Start) (seen : List (List Entry)) (lock : ℕ) (e : Entry) : Type 0 where
@@ -33,3 +45,9 @@ pub record MayAdd (start : Start) (seen : List (List Entry)) (lock : ℕ) (e : E
   pub commits : NeedsStates start seen lock (at seen lock) e
   pub aborts : MayAbort start seen lock (at seen lock) e
   pub order : MayComeNext start seen lock (at seen lock) e
+  pub log : MayFollow start seen lock (at seen lock) e
+  pub cuts : NeedsCut start seen lock (at seen lock) e
+  pub multis : NeedsMulti start seen lock (at seen lock) e
+  pub members : MaySetMulti start seen lock (at seen lock) e
+  pub syncs : NeedsSync start seen lock (at seen lock) e
+  pub posts : NeedsPost start seen lock (at seen lock) e

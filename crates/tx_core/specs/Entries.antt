@@ -1,5 +1,5 @@
 -- What an entry says.
-use Rattle.std.specs.Prelude.{◌≡◌, ℕ, ◌+◌, ◌<◌, List, [], Option, Some, None, Contains, slice_get}
+use Rattle.std.specs.Prelude.{◌≡◌, ℕ, ◌+◌, ◌<◌, List, [], Option, Some, None, Contains, map, slice_get}
 use Rattle.std.specs.List.{filter_map, flat_map, AllByRecursion}
 use Rattle.tx_events.specs.declared.event.By.{By}
 use Rattle.tx_events.specs.declared.event.Event.{Event}
@@ -115,8 +115,20 @@ appended_in by _ = None
 abbrev pub appended : Entry → Option (By × Rec)
 appended e = appended_in e.by e.kind
 
+abbrev pub records_in : List Entry → List (By × Rec)
+records_in es = filter_map appended es
+
 abbrev pub records_of : List (List Entry) → List (By × Rec)
-records_of lists = filter_map appended (at lists log_lock)
+records_of lists = records_in (at lists log_lock)
+
+abbrev pub recs_in : List Entry → List Rec
+recs_in es = map (λ r. r.1) (records_in es)
+
+-- the page from which on a critical section kept the bank, with a fault or without
+abbrev pub cut_in : Kind → Option ℕ
+cut_in (kinds.Cut page) = Some page
+cut_in (kinds.Fault callers changes cut count) = cut
+cut_in _ = None
 
 -- a session appended this record, and its number is below that of a flush
 abbrev pub IsFlushed : Start → List (List Entry) → ℕ → Rec → Type 0

@@ -1,14 +1,15 @@
 -- What the laws say: each kind of entry, with what its session needs of the lists that it has seen, keeps the invariant.
 use Rattle.std.specs.List.{filter_map}
-use Rattle.std.specs.Prelude.{Bool, Contains, List, Option, [], false, length, map, true, ℕ, ◌*◌, ◌+◌, ◌<◌, ◌∷◌, ◌≡◌, ◌≤◌, ◌⊎◌}
+use Rattle.std.specs.Prelude.{Contains, IfSome, List, Option, Some, [], length, map, slice_get, take, true, ℕ, ◌+◌, ◌<◌, ◌^◌, ◌∷◌, ◌≡◌, ◌≤◌, ◌⊎◌}
 use Rattle.tx_events.specs.declared.event.By.{By}
+use Rattle.tx_events.specs.declared.event.Event.{Event}
 use Rattle.tx_events.specs.declared.multi.MultiEvent.{MultiEvent}
 use Rattle.tx_events.specs.declared.record.Rec.{Rec}
 use Rattle.tx_events.specs.Base.{IsBase}
-use Rattle.tx_events.specs.Events.{given_to}
-use Rattle.tx_events.specs.Families.{enclosing, is_top, top}
+use Rattle.tx_events.specs.Events.{given, given_to}
+use Rattle.tx_events.specs.Families.{enclosing, is_top}
 use Rattle.tx_events.specs.History.{MayCome, next_given}
-use Rattle.tx_events.specs.Horizon.{LiveSnap, live_snaps, oldest_xmin}
+use Rattle.tx_events.specs.Horizon.{LiveSnap, live_snaps, oldest_id, oldest_xmin}
 use Rattle.tx_events.specs.Running.{open_ids}
 use Rattle.tx_core.specs.declared.entry.Change.{Change}
 use Rattle.tx_core.specs.declared.entry.Entry.{Entry}
@@ -16,16 +17,25 @@ use Rattle.tx_core.specs.declared.entry.Kind.{Kind}
 use Rattle.tx_core.specs.declared.entry.LogCall.{LogCall}
 use Rattle.tx_core.specs.declared.entry.Start.{Start}
 use Rattle.tx_core.specs.declared.entry.State.{State}
-use Rattle.tx_core.specs.AbortRule.{AskUnrecorded, AskedOf, AsksAbort, IsSameAfter}
+use Rattle.tx_core.specs.AbortRule.{AskUnrecorded, AskedOf, Asks, AsksAbort, GivenOf, IsSameAfter}
 use Rattle.tx_core.specs.CommitRecordsExact.{HasNoRecord}
 use Rattle.tx_core.specs.EngineInvariant.{EngineInvariant, MayAdd}
-use Rattle.tx_core.specs.Entries.{IsAppended, IsLinked, IsMarked, Link, Mark, history, link_of, mark_of, marks, session_of}
+use Rattle.tx_core.specs.Entries.{IsAppended, IsLinked, IsMarked, Link, Mark, history, link_of, mark_of, marks, records_of, session_of, Stands, cut_in}
+use Rattle.tx_core.specs.MultiEntries.{SetOffset, SetSlot, multi_history, offset_of, slot_of}
 use Rattle.notes.specs.Lists.{Grows, Knows, add, at}
-use Rattle.tx_core.specs.Locks.{IsPageLock, log_lock, multi_lock, proc_lock, subtrans_lock, subtrans_lock_of, subtrans_page, xact_lock, xact_lock_of, xact_page}
+use Rattle.tx_core.specs.Locks.{IsPageLock, first_request, log_lock, member_page_in_full, offset_page, multi_lock, oldest_word, proc_lock, subtrans_lock, subtrans_lock_of, subtrans_page, xact_lock, xact_lock_of, xact_page, xmin_word}
 use Rattle.tx_core.specs.LogBeforeStatus.{InTree, IsDurable, RecordOf, TreeOf}
-use Rattle.tx_core.specs.PagesBeforeIds.{IsMade, IsTold, WasMade}
+use Rattle.tx_core.specs.PagesBeforeIds.{IsMade, IsTold, IsWanted, WasMade}
 use Rattle.tx_core.specs.ParentsFollow.{IsGivenBelow}
 use Rattle.tx_core.specs.ProgramOrder.{AreCallers, AreOn, IsInTurn}
+use Rattle.tx_core.specs.RecordsFollow.{CheckpointOf, IsGenOf, IsMultiAnnounced, IsOldestAnnounced, counters_after}
+use Rattle.tx_core.specs.CutsFollow.{CutBy}
+use Rattle.tx_core.specs.MembersBeforeOffset.{OffsetOf, SlotOf}
+use Rattle.tx_core.specs.SyncsBeforeForgets.{ForgetOf, MayForget}
+use Rattle.tx_events.specs.After.{after_record, ids_of}
+use Rattle.tx_events.specs.Multis.{AreLegalMultis, InBase, MultiMayCome, multi_by}
+use Rattle.tx_events.specs.declared.multi.Member.{Member}
+use Rattle.tx_events.specs.declared.record.Counters.{Counters}
 use Rattle.tx_core.specs.declared.entry.Change.TheVariants as changes
 use Rattle.tx_events.specs.declared.event.Event.TheVariants as events
 use Rattle.tx_core.specs.declared.entry.Kind.TheVariants as kinds
@@ -49,6 +59,10 @@ KindKeeps start seen lock by kind =
 abbrev pub Opens : Type 0
 Opens = (start : Start) (lists : List (List Entry)) → ((lock : ℕ) → at lists lock ≡ []) → EngineInvariant start lists
 
+-- with this record more the log's counters are a base
+abbrev pub StaysBase : Start → List (List Entry) → Rec → Type 0
+StaysBase start seen rec = IsBase (after_record (counters_after start (at seen log_lock)) rec)
+
 -- The log. A commit record names all that its session has open; the parents of the subtransactions were set, and the
 -- session asked for no abort of any of them.
 abbrev pub CommitRecordKeeps : Type 0
@@ -57,24 +71,50 @@ CommitRecordKeeps = (start : Start) (seen : List (List Entry)) (by : By) (top : 
     → is_top (history seen) top ≡ true
     → ((id : ℕ) → Contains subs id → (parent : ℕ) × IsLinked start seen id parent)
     → ((id : ℕ) → Contains (top ∷ subs) id → AsksAbort seen by.session id → ⊥)
+    → StaysBase start seen (records.Commit top subs)
     → KindKeeps start seen log_lock by (kinds.Append (records.Commit top subs))
 
-abbrev pub is_commit_record : Rec → Bool
-is_commit_record (records.Commit top subs) = true
-is_commit_record _ = false
+-- an abort record names ids that were given to its session
+abbrev pub AbortRecordKeeps : Type 0
+AbortRecordKeeps = (start : Start) (seen : List (List Entry)) (by : By) (top : ℕ) (subs : List ℕ) →
+    StaysBase start seen (records.Abort top subs)
+    → ((id : ℕ) → Contains (top ∷ subs) id → Contains (given_to by.session (history seen)) id)
+    → KindKeeps start seen log_lock by (kinds.Append (records.Abort top subs))
 
--- the other records need nothing yet
-abbrev pub OtherRecordKeeps : Type 0
-OtherRecordKeeps = (start : Start) (seen : List (List Entry)) (by : By) (rec : Rec) → is_commit_record rec ≡ false → KindKeeps start seen log_lock by (kinds.Append rec)
+-- the multixact was given to the session, and its members were given
+abbrev pub MultiRecordKeeps : Type 0
+MultiRecordKeeps = (start : Start) (seen : List (List Entry)) (by : By) (multi offset : ℕ) (members : List Member) →
+    StaysBase start seen (records.Multi multi offset members)
+    → IsGenOf seen by.session multi offset members
+    → ((id : ℕ) → Contains (ids_of members) id → id < next_given start.base.next (history seen))
+    → KindKeeps start seen log_lock by (kinds.Append (records.Multi multi offset members))
 
+abbrev pub CheckpointRecordKeeps : Type 0
+CheckpointRecordKeeps = (start : Start) (seen : List (List Entry)) (by : By) (number : ℕ) (counters : Counters) →
+    StaysBase start seen (records.Checkpoint number counters)
+    → CheckpointOf start seen (at seen log_lock) number counters
+    → KindKeeps start seen log_lock by (kinds.Append (records.Checkpoint number counters))
+
+-- what a truncation names was announced
+abbrev pub TruncateRecordKeeps : Type 0
+TruncateRecordKeeps = (start : Start) (seen : List (List Entry)) (by : By) (oldest multi offset : ℕ) →
+    StaysBase start seen (records.Truncate oldest multi offset)
+    → IsOldestAnnounced start seen oldest
+    → IsMultiAnnounced start seen multi offset
+    → KindKeeps start seen log_lock by (kinds.Append (records.Truncate oldest multi offset))
+
+-- a flush is of records that stand
 abbrev pub FlushKeeps : Type 0
-FlushKeeps = (start : Start) (seen : List (List Entry)) (by : By) (to : ℕ) → KindKeeps start seen log_lock by (kinds.Flush to)
+FlushKeeps = (start : Start) (seen : List (List Entry)) (by : By) (to : ℕ) → to ≤ start.from + length (records_of seen) → KindKeeps start seen log_lock by (kinds.Flush to)
 
+-- the log is forgotten up to a checkpoint on disk, when all that it would restore is on disk
 abbrev pub ForgetKeeps : Type 0
-ForgetKeeps = (start : Start) (seen : List (List Entry)) (by : By) (number : ℕ) → KindKeeps start seen log_lock by (kinds.Forget number)
+ForgetKeeps = (start : Start) (seen : List (List Entry)) (by : By) (number : ℕ) → MayForget start seen (at seen log_lock) number → KindKeeps start seen log_lock by (kinds.Forget number)
 
+-- a forget that failed may have been done
 abbrev pub LogFaultKeeps : Type 0
-LogFaultKeeps = (start : Start) (seen : List (List Entry)) (by : By) (asked : LogCall) (count : ℕ) → KindKeeps start seen log_lock by (kinds.LogFault asked count)
+LogFaultKeeps = (start : Start) (seen : List (List Entry)) (by : By) (asked : LogCall) (count : ℕ) →
+    ForgetOf start seen (at seen log_lock) (kinds.LogFault asked count) → KindKeeps start seen log_lock by (kinds.LogFault asked count)
 
 -- The ProcArray. An id comes next, and its pages are made.
 abbrev pub IdEventKeeps : Type 0
@@ -129,17 +169,30 @@ abbrev pub MadeKeeps : Type 0
 MadeKeeps = (start : Start) (seen : List (List Entry)) (by : By) (id : ℕ) →
     IsMade start seen id → id ≤ next_given start.base.next (history seen) → KindKeeps start seen proc_lock by (kinds.Made id)
 
+-- the multixacts
 abbrev pub MultiEventKeeps : Type 0
-MultiEventKeeps = (start : Start) (seen : List (List Entry)) (by : By) (event : MultiEvent) → KindKeeps start seen multi_lock by (kinds.Multi event)
+MultiEventKeeps = (start : Start) (seen : List (List Entry)) (by : By) (event : MultiEvent) →
+    multi_by event ≡ by → MultiMayCome start.base (InBase start.base) (multi_history seen) event → KindKeeps start seen multi_lock by (kinds.Multi event)
+
+-- The published words. Whoever is inside the ProcArray's lock publishes what the history shows at its end.
+abbrev pub OldestPostKeeps : Type 0
+OldestPostKeeps = (start : Start) (seen : List (List Entry)) (by : By) →
+    EngineInvariant start seen → KindKeeps start seen (oldest_word start) by (kinds.Post (oldest_id start.base.oldest (history seen)))
+
+abbrev pub XminPostKeeps : Type 0
+XminPostKeeps = (start : Start) (seen : List (List Entry)) (by : By) →
+    EngineInvariant start seen → IsBase start.base → KindKeeps start seen (xmin_word start) by (kinds.Post (oldest_xmin start.base.next (history seen)))
 
 -- The banks. What each state needs: its page was made; a committed or sub-committed one has its commit record on disk; a
--- committed one keeps to the order of pages; an aborted one was asked for by the session that was given the id, and that
--- session, where it is the one that sets it, has no commit record of it; no other final state was set before.
+-- committed one keeps to the order of pages; the session for which it is set was given the id, and sets it or asked for
+-- it; where that is aborted, the session that sets it for itself has no commit record of it; no other final state was set
+-- before.
 pub record MayMark (start : Start) (seen : List (List Entry)) (before : List Entry) (session : ℕ) (mark : Mark) : Type 0 where
   pub page : WasMade before (xact_page start.base.next) (xact_page mark.id)
   pub durable : RecordOf start seen mark.caller.session mark.id mark.state
   pub tree : TreeOf start seen mark.caller.session mark.id mark.state
-  pub asked : AskedOf seen session mark.caller.session mark.id mark.state
+  pub given : GivenOf seen mark
+  pub asked : AskedOf seen session mark
   pub unrecorded : AskUnrecorded seen session mark.caller.session mark.id mark.state
   pub final : IsSameAfter before mark
 
@@ -148,11 +201,27 @@ pub record MayLink (start : Start) (seen : List (List Entry)) (before : List Ent
   pub page : WasMade before (subtrans_page start.base.next) (subtrans_page link.id)
   pub sub : IsGivenBelow seen link.caller.session link.parent link.id
 
+-- Each offset and each member: its page was made; the offset is that of a recorded multixact all of whose members stand,
+-- the member one of a recorded multixact.
+pub record MaySetOffset (start : Start) (seen : List (List Entry)) (before : List Entry) (set : SetOffset) : Type 0 where
+  pub page : WasMade before (offset_page start.base.multi) (offset_page set.multi)
+  pub members : OffsetOf start seen set
+
+pub record MaySetSlot (start : Start) (seen : List (List Entry)) (before : List Entry) (slot : SetSlot) : Type 0 where
+  pub page : WasMade before (member_page_in_full start.base.offset) (member_page_in_full slot.offset)
+  pub member : SlotOf seen slot
+
 abbrev pub marks_of : List Change → List Mark
 marks_of changes = filter_map mark_of changes
 
 abbrev pub links_of : List Change → List Link
 links_of changes = filter_map link_of changes
+
+abbrev pub offsets_of : List Change → List SetOffset
+offsets_of changes = filter_map offset_of changes
+
+abbrev pub slots_of : List Change → List SetSlot
+slots_of changes = filter_map slot_of changes
 
 -- what a critical section of a bank may change, for its own session and for others
 pub record MayChange (start : Start) (seen : List (List Entry)) (lock session : ℕ) (changes : List Change) : Type 0 where
@@ -160,29 +229,35 @@ pub record MayChange (start : Start) (seen : List (List Entry)) (lock session : 
   pub marks : (mark : Mark) → Contains (marks_of changes) mark → MayMark start seen (at seen lock) session mark
   pub alike : (mark other : Mark) → Contains (marks_of changes) mark → Contains (marks_of changes) other → other.id ≡ mark.id → other.state ≡ mark.state
   pub links : (link : Link) → Contains (links_of changes) link → MayLink start seen (at seen lock) link
+  pub offsets : (set : SetOffset) → Contains (offsets_of changes) set → MaySetOffset start seen (at seen lock) set
+  pub slots : (slot : SetSlot) → Contains (slots_of changes) slot → MaySetSlot start seen (at seen lock) slot
 
 abbrev pub ChangesKeep : Type 0
 ChangesKeep = (start : Start) (seen : List (List Entry)) (lock : ℕ) (by : By) (changes : List Change) →
     MayChange start seen lock by.session changes → KindKeeps start seen lock by (kinds.Set changes)
 
--- what a fault leaves changed needs the same
+-- what a fault leaves changed or cut needs the same
 abbrev pub FaultKeeps : Type 0
 FaultKeeps = (start : Start) (seen : List (List Entry)) (lock : ℕ) (by : By) (callers : List By) (changes : List Change) (cut : Option ℕ) (count : ℕ) →
-    MayChange start seen lock by.session changes → AreCallers by callers changes → KindKeeps start seen lock by (kinds.Fault callers changes cut count)
+    MayChange start seen lock by.session changes → AreCallers by callers changes → IfSome cut (CutBy start seen lock) → KindKeeps start seen lock by (kinds.Fault callers changes cut count)
 
+-- a page is made of a number that was given or comes next
 abbrev pub ZeroKeeps : Type 0
-ZeroKeeps = (start : Start) (seen : List (List Entry)) (lock : ℕ) (by : By) (page : ℕ) → IsPageLock start lock → KindKeeps start seen lock by (kinds.Zero page)
+ZeroKeeps = (start : Start) (seen : List (List Entry)) (lock : ℕ) (by : By) (page : ℕ) → IsPageLock start lock → IsWanted start seen lock page → KindKeeps start seen lock by (kinds.Zero page)
 
+-- a page is cut as a truncation on disk, or an oldest xmin, says
 abbrev pub CutKeeps : Type 0
-CutKeeps = (start : Start) (seen : List (List Entry)) (lock : ℕ) (by : By) (page : ℕ) → IsPageLock start lock → KindKeeps start seen lock by (kinds.Cut page)
+CutKeeps = (start : Start) (seen : List (List Entry)) (lock : ℕ) (by : By) (page : ℕ) → IsPageLock start lock → CutBy start seen lock page → KindKeeps start seen lock by (kinds.Cut page)
 
 abbrev pub SyncKeeps : Type 0
 SyncKeeps = (start : Start) (seen : List (List Entry)) (lock : ℕ) (by : By) → IsPageLock start lock → KindKeeps start seen lock by kinds.Sync
 
--- a session that asks another one for a change to aborted has no commit record of the id
+-- each id was given to the session for which it is asked; a session that asks another one for a change to aborted has no
+-- commit record of the id
 abbrev pub RequestKeeps : Type 0
 RequestKeeps = (start : Start) (seen : List (List Entry)) (lock : ℕ) (by : By) (changes : List Change) →
-    3 + 4 * start.banks ≤ lock
+    first_request start ≤ lock
+    → ((mark : Mark) → Contains (marks_of changes) mark → GivenOf seen mark)
     → ((mark : Mark) → Contains (marks_of changes) mark → AskUnrecorded seen by.session mark.caller.session mark.id mark.state)
     → KindKeeps start seen lock by (kinds.Request changes)
 
@@ -207,6 +282,7 @@ IsOnly start seen bank ids state = (id : ℕ) (old : Mark) → Contains ids id �
 abbrev pub CommittedKeeps : Type 0
 CommittedKeeps = (start : Start) (seen : List (List Entry)) (bank : ℕ) (by : By) (ids : List ℕ) →
     AreThere start seen bank ids
+    → ((id : ℕ) → Contains ids id → Contains (given_to by.session (history seen)) id)
     → ((id : ℕ) → Contains ids id → IsDurable start seen by.session id)
     → ((id : ℕ) → Contains ids id → InTree start seen by.session id)
     → IsOnly start seen bank ids states.Committed
@@ -215,6 +291,7 @@ CommittedKeeps = (start : Start) (seen : List (List Entry)) (bank : ℕ) (by : B
 abbrev pub SubCommittedKeeps : Type 0
 SubCommittedKeeps = (start : Start) (seen : List (List Entry)) (bank : ℕ) (by : By) (ids : List ℕ) →
     AreThere start seen bank ids
+    → ((id : ℕ) → Contains ids id → Contains (given_to by.session (history seen)) id)
     → ((id : ℕ) → Contains ids id → IsDurable start seen by.session id)
     → IsOnly start seen bank ids states.SubCommitted
     → KindKeeps start seen (xact_lock bank) by (kinds.Set (all_set by states.SubCommitted ids))
@@ -241,11 +318,65 @@ abbrev pub NeverAborted : Type 0
 NeverAborted = (start : Start) (lists : List (List Entry)) (session top : ℕ) (subs : List ℕ) (id : ℕ) →
     EngineInvariant start lists → IsAppended lists session (records.Commit top subs) → Contains (top ∷ subs) id → IsMarked start lists id states.Aborted → ⊥
 
+-- an id of a commit record that was set committed, by whatever session, was asked to be so by the record's session
+abbrev pub CommittedAsked : Type 0
+CommittedAsked = (start : Start) (lists : List (List Entry)) (session top : ℕ) (subs : List ℕ) (id : ℕ) →
+    EngineInvariant start lists → IsAppended lists session (records.Commit top subs) → Contains (top ∷ subs) id → IsMarked start lists id states.Committed
+    → Asks lists session id states.Committed
+
+-- a session asks for a state only of what it was given
+abbrev pub AskedGiven : Type 0
+AskedGiven = (start : Start) (lists : List (List Entry)) (session id : ℕ) (state : State) →
+    EngineInvariant start lists → Asks lists session id state → Contains (given_to session (history lists)) id
+
+-- The multixacts' list is one legal history.
+abbrev pub MultisAreLegal : Type 0
+MultisAreLegal = (start : Start) (lists : List (List Entry)) → EngineInvariant start lists → AreLegalMultis start.base (InBase start.base) (multi_history lists)
+
+-- Where fewer than 2^28 ids were given, each page of a bank that was made is from that of the base's next id to that of
+-- the id 2^30 past it: so no two of them are one stored page.
+abbrev pub MadeNear : Type 0
+MadeNear = (start : Start) (lists : List (List Entry)) (bank page : ℕ) →
+    EngineInvariant start lists → length (given (history lists)) < 2 ^ 28
+    → (Stands lists (xact_lock bank) (kinds.Zero page) → (xact_page start.base.next ≤ page) × (page ≤ xact_page (start.base.next + 2 ^ 30)))
+    × (Stands lists (subtrans_lock bank) (kinds.Zero page) → (subtrans_page start.base.next ≤ page) × (page ≤ subtrans_page (start.base.next + 2 ^ 30)))
+
+-- the records of the log don't raise the next id past those given
+abbrev pub NextGiven : Type 0
+NextGiven = (start : Start) (lists : List (List Entry)) → EngineInvariant start lists → IsBase start.base → (counters_after start (at lists log_lock)).next ≤ next_given start.base.next (history lists)
+
 -- the oldest xmin never falls
 abbrev pub HorizonRises : Type 0
 HorizonRises = (start : Start) (lists more : List (List Entry)) → EngineInvariant start more → Grows lists more → IsBase start.base → oldest_xmin start.base.next (history lists) ≤ oldest_xmin start.base.next (history more)
 
--- so one that was seen is not past the xmin of any snapshot that is live later
+-- the announced oldest id never falls
+abbrev pub OldestRises : Type 0
+OldestRises = (start : Start) (lists more : List (List Entry)) → EngineInvariant start more → Grows lists more → oldest_id start.base.oldest (history lists) ≤ oldest_id start.base.oldest (history more)
+
+-- A published number that came behind another is that of a place no earlier.
+abbrev pub IsLater : (List Event → ℕ) → List (List Entry) → ℕ → Type 0
+IsLater shown lists lock = (i j m n p : ℕ) (a b : By) →
+    slice_get (at lists lock) i ≡ Some (record { by = a; kind = kinds.Post m }) → slice_get (at lists lock) j ≡ Some (record { by = b; kind = kinds.Post n }) → i < j
+    → p ≤ length (history lists) → m ≡ shown (take p (history lists))
+    → (q : ℕ) × (p ≤ q) × (q ≤ length (history lists)) × (n ≡ shown (take q (history lists)))
+
+abbrev pub PostsGoOn : Type 0
+PostsGoOn = (start : Start) (lists : List (List Entry)) → EngineInvariant start lists → IsBase start.base
+    → IsLater (oldest_id start.base.oldest) lists (oldest_word start) × IsLater (oldest_xmin start.base.next) lists (xmin_word start)
+
+-- A page of pg_subtrans is never cut past the parent of an id that a live snapshot may ask for.
+abbrev pub ParentsKept : Type 0
+ParentsKept = (start : Start) (lists : List (List Entry)) (bank page x : ℕ) (e : Entry) (s : LiveSnap) →
+    EngineInvariant start lists → IsBase start.base → Contains (at lists (subtrans_lock bank)) e → cut_in e.kind ≡ Some page
+    → Contains (live_snaps start.base.next (history lists)) s → s.xmin ≤ x → page ≤ subtrans_page x
+
+-- And one of pg_xact is never cut past the announced oldest id.
+abbrev pub StatesKept : Type 0
+StatesKept = (start : Start) (lists : List (List Entry)) (bank page : ℕ) (e : Entry) →
+    EngineInvariant start lists → Contains (at lists (xact_lock bank)) e → cut_in e.kind ≡ Some page
+    → page ≤ xact_page (oldest_id start.base.oldest (history lists))
+
+-- so an oldest xmin that was seen is not past the xmin of any snapshot that is live later
 abbrev pub SnapshotsHold : Type 0
 SnapshotsHold = (start : Start) (lists more : List (List Entry)) (s : LiveSnap) → EngineInvariant start more → Grows lists more → IsBase start.base → Contains (live_snaps start.base.next (history more)) s
     → oldest_xmin start.base.next (history lists) ≤ s.xmin

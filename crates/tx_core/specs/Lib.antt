@@ -1,6 +1,7 @@
 pub mod Lists
 pub mod Locks
 pub mod Entries
+pub mod MultiEntries
 pub mod EventsLegal
 pub mod PagesBeforeIds
 pub mod ParentsFollow
@@ -9,6 +10,12 @@ pub mod LogBeforeStatus
 pub mod StatusBeforeCommit
 pub mod AbortRule
 pub mod ProgramOrder
+pub mod RecordsFollow
+pub mod CutsFollow
+pub mod MultisLegal
+pub mod MembersBeforeOffset
+pub mod SyncsBeforeForgets
+pub mod PostsFollow
 pub mod CleanStart
 pub mod EngineInvariant
 pub mod Verdict

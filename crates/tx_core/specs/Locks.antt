@@ -1,7 +1,7 @@
 -- The locks by their numbers, and the lock under which a number's page lies.
 use Rattle.std.specs.Prelude.{ℕ, ◌+◌, ◌*◌, ◌%◌, ◌≤◌, ◌<◌}
 use Rattle.xid_order.specs.Ids.{low_half}
-pub use Rattle.store_pages.specs.Pages.{member_page, offset_page, subtrans_page, xact_page}
+pub use Rattle.store_pages.specs.Pages.{member_page, member_page_in_full, offset_page, subtrans_page, xact_page}
 use Rattle.tx_events.specs.declared.refusal.Lock.{Lock}
 use Rattle.tx_events.specs.declared.refusal.Lock.TheVariants as locks
 use Rattle.tx_core.specs.declared.entry.Start.{Start}
@@ -36,6 +36,16 @@ number_of (locks.Xact bank) = xact_lock bank
 number_of (locks.Subtrans bank) = subtrans_lock bank
 number_of (locks.Offsets bank) = offsets_lock bank
 number_of (locks.Members bank) = members_lock bank
+
+-- The lists behind those of the banks: the published oldest id, the published oldest xmin, and the sessions' requests.
+abbrev pub oldest_word : Start → ℕ
+oldest_word start = 3 + 4 * start.banks
+
+abbrev pub xmin_word : Start → ℕ
+xmin_word start = 4 + 4 * start.banks
+
+abbrev pub first_request : Start → ℕ
+first_request start = 5 + 4 * start.banks
 
 -- the lock of a bank of one of the four stores
 pub record IsPageLock (start : Start) (lock : ℕ) : Type 0 where

@@ -1,6 +1,6 @@
 -- A session's entries go by its commands, and each stands where some call may add it.
 use Rattle.std.specs.List.{All, AllByRecursion, filter}
-use Rattle.std.specs.Prelude.{Contains, List, map, ℕ, ◌*◌, ◌+◌, ◌==◌, ◌≡◌, ◌≤◌}
+use Rattle.std.specs.Prelude.{Contains, List, map, ℕ, ◌==◌, ◌≡◌, ◌≤◌, ◌⊎◌}
 use Rattle.tx_events.specs.declared.event.By.{By}
 use Rattle.tx_events.specs.Places.{first_seen}
 use Rattle.tx_core.specs.declared.entry.Change.{Change}
@@ -8,7 +8,7 @@ use Rattle.tx_core.specs.declared.entry.Entry.{Entry}
 use Rattle.tx_core.specs.declared.entry.Kind.{Kind}
 use Rattle.tx_core.specs.declared.entry.Start.{Start}
 use Rattle.tx_core.specs.Lists.{Upheld}
-use Rattle.tx_core.specs.Locks.{IsPageLock, log_lock, members_lock_of, multi_lock, offsets_lock_of, proc_lock, subtrans_lock_of, xact_lock_of}
+use Rattle.tx_core.specs.Locks.{IsPageLock, first_request, log_lock, members_lock_of, multi_lock, offsets_lock_of, oldest_word, proc_lock, subtrans_lock_of, xact_lock_of, xmin_word}
 use Rattle.tx_core.specs.declared.entry.Change.TheVariants as changes
 use Rattle.tx_core.specs.declared.entry.Kind.TheVariants as kinds
 
@@ -43,7 +43,7 @@ pub record AreCallers (by : By) (callers : List By) (changes : List Change) : Ty
   pub once : first_seen (map (λ caller. caller.session) callers) ≡ map (λ caller. caller.session) callers
   pub each : AllByRecursion (λ change. Contains callers (caller_of change)) changes
 
--- what may stand in the list of a lock; the requests stand in lists of their own, behind those of the banks
+-- what may stand in the list of a lock
 abbrev pub MayStand : Start → ℕ → By → Kind → Type 0
 MayStand start lock by (kinds.Append rec) = lock ≡ log_lock
 MayStand start lock by (kinds.Flush to) = lock ≡ log_lock
@@ -52,12 +52,13 @@ MayStand start lock by (kinds.LogFault asked count) = lock ≡ log_lock
 MayStand start lock by (kinds.Event event) = lock ≡ proc_lock
 MayStand start lock by (kinds.Made id) = lock ≡ proc_lock
 MayStand start lock by (kinds.Multi event) = lock ≡ multi_lock
+MayStand start lock by (kinds.Post number) = (lock ≡ oldest_word start) ⊎ (lock ≡ xmin_word start)
 MayStand start lock by (kinds.Set changes) = AreOn start lock changes
 MayStand start lock by (kinds.Zero page) = IsPageLock start lock
 MayStand start lock by (kinds.Cut page) = IsPageLock start lock
 MayStand start lock by kinds.Sync = IsPageLock start lock
 MayStand start lock by (kinds.Fault callers changes cut count) = AreOn start lock changes × AreCallers by callers changes
-MayStand start lock by (kinds.Request changes) = 3 + 4 * start.banks ≤ lock
+MayStand start lock by (kinds.Request changes) = first_request start ≤ lock
 MayStand start lock by kinds.Look = Unit {0}
 
 abbrev pub NeedsStand : Start → List (List Entry) → ℕ → List Entry → Entry → Type 0

@@ -78,6 +78,10 @@ pub enum Kind {
     Multi {
         event: MultiEvent,
     },
+    /// The oldest id, or the oldest xmin, was published for those who read it under no lock.
+    Post {
+        number: u64,
+    },
     /// A bank of a store: these changes were made.
     Set {
         changes: Sequence<Change>,
@@ -113,12 +117,19 @@ pub struct Entry {
     pub kind: Kind,
 }
 
-/// What a life starts from: the number of banks of each store, the number that the first record appended gets, the
-/// counters, the ids that are committed, and the records of its multixacts. Contracts alone speak of it.
+/// What a life starts from. Contracts alone speak of it.
 pub struct Start {
+    /// How many banks each of the four page stores has.
     pub banks: u32,
+    /// How many sessions there may be.
+    pub sessions: u32,
+    /// The number of the first record that the life appends: one more than that of the checkpoint with which it began.
     pub from: u64,
     pub base: Counters,
+    /// The ids that are committed.
     pub committed: IdList,
+    /// The records of the multixacts that were made before.
     pub recorded: RecList,
+    /// The records that the log had when the life began, the checkpoint with which it began last.
+    pub logged: RecList,
 }

@@ -1,5 +1,5 @@
-ghost use Rattle.tx_core.specs.Laws.{Keeps, Opens, CommitRecordKeeps, OtherRecordKeeps, FlushKeeps, ForgetKeeps, LogFaultKeeps, IdEventKeeps, SubEventKeeps, UndoEventKeeps, CommitEventKeeps, AbortEventKeeps, SnapEventKeeps, SnapDropKeeps, OldestKeeps, AskKeeps, MadeKeeps, MultiEventKeeps, ChangesKeep, CommittedKeeps, SubCommittedKeeps, AbortedKeeps, ParentKeeps, ZeroKeeps, CutKeeps, SyncKeeps, FaultKeeps, RequestKeeps, LookKeeps, NeverAborted, HorizonRises, SnapshotsHold};
-ghost use Rattle.tx_core.specs.Pages.{PagesShow, ParentsShow};
+ghost use Rattle.tx_core.specs.Laws.{Keeps, Opens, CommitRecordKeeps, AbortRecordKeeps, MultiRecordKeeps, CheckpointRecordKeeps, TruncateRecordKeeps, FlushKeeps, ForgetKeeps, LogFaultKeeps, IdEventKeeps, SubEventKeeps, UndoEventKeeps, CommitEventKeeps, AbortEventKeeps, SnapEventKeeps, SnapDropKeeps, OldestKeeps, AskKeeps, MadeKeeps, MultiEventKeeps, ChangesKeep, CommittedKeeps, SubCommittedKeeps, AbortedKeeps, ParentKeeps, ZeroKeeps, CutKeeps, SyncKeeps, FaultKeeps, RequestKeeps, LookKeeps, NeverAborted, CommittedAsked, AskedGiven, OldestPostKeeps, XminPostKeeps, OldestRises, PostsGoOn, MultisAreLegal, MadeNear, NextGiven, ParentsKept, StatesKept, HorizonRises, SnapshotsHold};
+ghost use Rattle.tx_core.specs.Pages.{PagesShow, ParentsShow, OffsetsShow, MembersShow};
 ghost use Rattle.tx_core.specs.Verdict.{Decides};
 
 /// Any entry that its session may add keeps the engine invariant.
@@ -17,9 +17,24 @@ pub fn commit_record()
     ensures { CommitRecordKeeps }
 {}
 
-/// Any other record is appended.
-pub fn other_record()
-    ensures { OtherRecordKeeps }
+/// An abort record is appended (`XactLogAbortRecord` in `xact.c`).
+pub fn abort_record()
+    ensures { AbortRecordKeeps }
+{}
+
+/// The record of a multixact is appended (`MultiXactIdCreateFromMembers` in `multixact.c`).
+pub fn multi_record()
+    ensures { MultiRecordKeeps }
+{}
+
+/// A checkpoint is appended (`CreateCheckPoint` in `xlog.c`).
+pub fn checkpoint_record()
+    ensures { CheckpointRecordKeeps }
+{}
+
+/// A truncation is logged (`WriteTruncateXlogRec` in `clog.c`, `WriteMTruncateXlogRec` in `multixact.c`).
+pub fn truncate_record()
+    ensures { TruncateRecordKeeps }
 {}
 
 /// The log is flushed (`XLogFlush` in `xlog.c`).
@@ -92,6 +107,16 @@ pub fn multi_event()
     ensures { MultiEventKeeps }
 {}
 
+/// The oldest id is published (`oldestXid` of `TransamVariables` in `varsup.c`).
+pub fn oldest_post()
+    ensures { OldestPostKeeps }
+{}
+
+/// The oldest xmin is published (`GlobalVisState` in `procarray.c`).
+pub fn xmin_post()
+    ensures { XminPostKeeps }
+{}
+
 /// A bank is changed, for the session itself and for others that asked for it
 /// (`TransactionGroupUpdateXidStatus` in `clog.c`).
 pub fn changes()
@@ -153,12 +178,22 @@ pub fn never_aborted()
     ensures { NeverAborted }
 {}
 
+/// An id of a commit record is set committed only where the record's session sets it, or asked for it.
+pub fn committed_asked()
+    ensures { CommittedAsked }
+{}
+
+/// A session sets or asks for states only of ids that it was given.
+pub fn asked_given()
+    ensures { AskedGiven }
+{}
+
 /// A snapshot, with the state and the parents read later, decides whether an id is visible at the snapshot.
 pub fn visibility()
     ensures { Decides }
 {}
 
-/// The pages of pg_xact show the state that was set last: no page is made late.
+/// The pages of pg_xact show the state that was set last, behind each beginning of their list: no page is made late.
 pub fn pages_show()
     ensures { PagesShow }
 {}
@@ -166,6 +201,51 @@ pub fn pages_show()
 /// The pages of pg_subtrans show the parent that was set last.
 pub fn parents_show()
     ensures { ParentsShow }
+{}
+
+/// The pages of offsets show the offset that was set last.
+pub fn offsets_show()
+    ensures { OffsetsShow }
+{}
+
+/// The pages of members show the member that was set last.
+pub fn members_show()
+    ensures { MembersShow }
+{}
+
+/// The announced oldest id never falls.
+pub fn oldest_rises()
+    ensures { OldestRises }
+{}
+
+/// A number that was published behind another is that of a place of the history no earlier.
+pub fn posts_go_on()
+    ensures { PostsGoOn }
+{}
+
+/// The multixacts' list is one legal history.
+pub fn multis_are_legal()
+    ensures { MultisAreLegal }
+{}
+
+/// While few ids were given, pages that were made are near the life's first one.
+pub fn made_near()
+    ensures { MadeNear }
+{}
+
+/// The log's next id is not past the next one of the history.
+pub fn next_given()
+    ensures { NextGiven }
+{}
+
+/// No page of pg_subtrans is cut that a live snapshot may ask for.
+pub fn parents_kept()
+    ensures { ParentsKept }
+{}
+
+/// No page of pg_xact is cut past the announced oldest id.
+pub fn states_kept()
+    ensures { StatesKept }
 {}
 
 /// The oldest xmin never falls.

@@ -47,7 +47,7 @@ latest_grows base h e legal =
     fold_max_has (id_before base.next) (closed all) x (filter_has (λ y. not (is_open all y)) (given all) x (given_stays h e x c.0) (ap not shut)))
 
 -- a new id isn't below the xmax
-new_past : (base : Counters) (h : List Event) → IsLegal base h → IsFullId base.next → 0 < base.next → snapshot_xmax base.next h ≤ next_given base.next h
+pub new_past : (base : Counters) (h : List Event) → IsLegal base h → IsFullId base.next → 0 < base.next → snapshot_xmax base.next h ≤ next_given base.next h
 new_past base h legal full positive =
     next_least (latest base.next h) (next_given base.next h) (nth_full base.next (length (given h)) full)
     (⊎_elim

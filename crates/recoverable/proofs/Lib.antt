@@ -1,0 +1,6 @@
+pub mod Stretches
+pub mod LogBases
+pub mod Room
+pub mod Places
+pub mod FitsXact
+pub mod Offsets

@@ -1,0 +1,85 @@
+-- A multixact that isn't recorded has no offset.
+use Rattle.std.proofs.Common.{◌≡◌, ℕ, ◌+◌, ◌<◌, ◌≤◌, ◌⊎◌, ⊎_elim, Bool, true, false, ◌==◌, cond, List, [], take, slice_index, Option, Some, None, Contains, refl, sym, ap, subst, arith, ◌∙◌}
+use Rattle.std.proofs.lemmas.Bool.{eqb-true}
+use Rattle.std.specs.List.{flat_map}
+use Rattle.store_pages.specs.Layouts.{number_in, word_page_of, word_place_of}
+use Rattle.disk_core.specs.Pages.{page_bytes}
+use Rattle.tx_events.specs.declared.event.By.{By}
+use Rattle.tx_events.proofs.Membership.{Has, all_at, contains_has, has_flat_map, has_place, has_take}
+use Rattle.tx_core.proofs.Asking.{upheld_has}
+use Rattle.tx_core.specs.declared.entry.Entry.{Entry}
+use Rattle.tx_core.proofs.Nearness.{multis_are_legal}
+use Rattle.tx_core.proofs.Rising.{made_more}
+use Rattle.tx_core.specs.EngineInvariant.{EngineInvariant}
+use Rattle.tx_events.specs.declared.event.By.{By}
+use Rattle.tx_events.specs.declared.multi.Member.{Member}
+use Rattle.tx_events.specs.declared.multi.MultiEvent.{MultiEvent}
+use Rattle.tx_events.specs.declared.multi.MultiEvent.TheVariants as multis
+use Rattle.tx_events.specs.Multis.{InBase, MultiMayCome, next_made}
+use Rattle.tx_core.specs.declared.entry.Start.{Start}
+use Rattle.notes.specs.Lists.{at}
+use Rattle.tx_core.specs.Locks.{offsets_lock}
+use Rattle.tx_core.specs.Pages.{offset_for, offset_store, pages_after}
+use Rattle.recoverable.specs.FitMultis.{byte_of}
+use Rattle.tx_core.specs.MembersBeforeOffset.{NeedsOffsets, OffsetOf}
+use Rattle.tx_core.specs.MultiEntries.{SetOffset, multi_history, offsets_in}
+use Rattle.recoverable.specs.OffsetImages.{number_or_none, offset_after}
+use Rattle.recoverable.specs.Laws.{NoStrayOffset}
+use Rattle.recoverable.proofs.Places.{Source, shows_from}
+
+zero_byte : (i : ℕ) → i < 4 → byte_of 0 i ≡ 0
+zero_byte i lt = ⊎_elim (λ (e : i ≡ 0). subst (λ z. byte_of 0 z ≡ 0) (sym e) refl) (λ h. ⊎_elim (λ (e : i ≡ 1). subst (λ z. byte_of 0 z ≡ 0) (sym e) refl) (λ k. ⊎_elim (λ (e : i ≡ 2). subst (λ z. byte_of 0 z ≡ 0) (sym e) refl) (λ (e : i ≡ 3). subst (λ z. byte_of 0 z ≡ 0) (sym e) refl) k) h) (which i lt)
+  where
+    which : (i : ℕ) → i < 4 → (i ≡ 0) ⊎ ((i ≡ 1) ⊎ ((i ≡ 2) ⊎ (i ≡ 3)))
+    which i lt = grind arith
+
+set_of : (multi v : ℕ) (set : SetOffset) → offset_for multi set ≡ Some v → set.multi ≡ multi
+set_of multi v set e =
+    let step : (b : Bool) → (set.multi == multi) ≡ b → cond b (Some set.offset) None ≡ Some v → set.multi ≡ multi = elim [
+      | true ↦ λ q g. eqb-true set.multi multi q
+      | false ↦ λ q g. absurd cc
+    ] in
+    step (set.multi == multi) refl e
+
+number_zero : (bytes : List ℕ) (place : ℕ) → ((i : ℕ) → i < 4 → slice_index bytes (place + i) ≡ 0) → number_in bytes place ≡ 0
+number_zero bytes place each =
+    let b0 : slice_index bytes place ≡ 0 = ap (λ k. slice_index bytes k) (let e : place ≡ place + 0 = omega arith in e) ∙ each 0 (omega arith) in
+    let b1 = each 1 (omega arith) in let b2 = each 2 (omega arith) in let b3 = each 3 (omega arith) in
+    rw (b0, b1, b2, b3) refl
+
+-- a multixact that the life gave is not below its base's next one
+given_from : (start : Start) (lists : List (List Entry)) (by : By) (multi offset : ℕ) (members : List Member) → EngineInvariant start lists → Contains (multi_history lists) (multis.Gen by multi offset members) → start.base.multi ≤ multi
+given_from start lists by multi offset members k c =
+    let h : List MultiEvent = multi_history lists in
+    let event : MultiEvent = multis.Gen by multi offset members in
+    let p = has_place h event (contains_has h event c) in
+    let rule : MultiMayCome start.base (InBase start.base) (take p.0 h) (multis.Gen by multi offset members) = multis_are_legal start lists k p.0 event p.1 in
+    let next = rule.next in
+    let up : start.base.multi ≤ next_made start.base.multi (take p.0 h) = made_more start.base.multi [] (take p.0 h) (take p.0 h, refl) in
+    omega arith
+
+pub no_stray_offset : NoStrayOffset
+no_stray_offset start lists shown bank multi c k clear old bytes =
+    let es : List Entry = at lists (offsets_lock bank) in
+    number_zero (page_bytes (c (word_page_of multi))) (word_place_of multi) (λ i lt.
+    let since = bytes i lt in
+    let never : (v : ℕ) → Source offset_store shown (take since.count (at lists (offsets_lock bank))) multi v → ⊥ = λ v source.
+    ⊎_elim
+    (λ (q : shown multi ≡ Some v). let z : None ≡ Some v = sym clear ∙ q in absurd cc)
+    (λ (h : (set : SetOffset) × Has (flat_map offsets_in (take since.count (at lists (offsets_lock bank)))) set × (offset_for multi set ≡ Some v)).
+    let found = has_flat_map offsets_in (take since.count (at lists (offsets_lock bank))) h.0 h.1 in
+    let need = upheld_has (NeedsOffsets start) lists (offsets_lock bank) found.0 k.members.offsets (has_take since.count (at lists (offsets_lock bank)) found.0 found.1) in
+    let o : OffsetOf start lists h.0 = all_at (OffsetOf start lists) (offsets_in found.0) h.0 need.1 found.2 in
+    let same : h.0.multi ≡ multi = set_of multi v h.0 h.2 in
+    let low : start.base.multi ≤ h.0.multi = given_from start lists o.recorded.by h.0.multi h.0.offset o.members k o.recorded.given in
+    omega arith)
+    source in
+    let none : (o : Option ℕ) → (pages_after offset_store start.base.multi shown (take since.count (at lists (offsets_lock bank)))).shows multi ≡ o → number_or_none o ≡ 0 = elim [
+      | None ↦ λ q. refl
+      | Some v ↦ λ q. absurd (never v (shows_from offset_store start.base.multi shown multi v (take since.count (at lists (offsets_lock bank))) q))
+    ] in
+    let nothing : offset_after start shown (at lists (offsets_lock bank)) since.count multi ≡ 0 = none ((pages_after offset_store start.base.multi shown (take since.count (at lists (offsets_lock bank)))).shows multi) refl in
+    ⊎_elim
+    (λ (q : slice_index (page_bytes (c (word_page_of multi))) (word_place_of multi + i) ≡ byte_of (offset_after start shown (at lists (offsets_lock bank)) since.count multi) i). q ∙ ap (λ z. byte_of z i) nothing ∙ zero_byte i lt)
+    (λ (q : slice_index (page_bytes (c (word_page_of multi))) (word_place_of multi + i) ≡ 0). q)
+    since.byte)

@@ -1,0 +1,49 @@
+-- The law: where the engine invariant holds, and values stand for their lists, the volumes fit.
+use Rattle.std.specs.Prelude.{◌≡◌, ℕ, ◌+◌, ◌<◌, ◌≤◌, ◌⊎◌, List, ◌++◌, length, Option, None}
+use Rattle.disk_core.specs.Pages.{Pages}
+use Rattle.tx_events.specs.Events.{given}
+use Rattle.tx_core.specs.declared.entry.Entry.{Entry}
+use Rattle.tx_core.specs.declared.entry.Kind.TheVariants as kinds
+use Rattle.tx_core.specs.declared.entry.LogCall.TheVariants as calls
+use Rattle.tx_core.specs.declared.entry.Start.{Start}
+use Rattle.tx_core.specs.declared.entry.State.{State}
+use Rattle.tx_core.specs.CleanStart.{CleanStart}
+use Rattle.tx_core.specs.EngineInvariant.{EngineInvariant}
+use Rattle.tx_core.specs.Entries.{history, recs_in, Stands}
+use Rattle.notes.specs.Lists.{at}
+use Rattle.tx_core.specs.Locks.{log_lock, offsets_lock, xact_lock}
+use Rattle.recoverable.specs.LifeBase.{LifeBase, base_after}
+use Rattle.recoverable.specs.Fit.{KeptLog, XactFits}
+use Rattle.recoverable.specs.XactImages.{Follows}
+use Rattle.recoverable.specs.FitMultis.{offset_at}
+use Rattle.recoverable.specs.OffsetImages.{ByteSince}
+
+-- the base of a life
+abbrev pub life_base : Start → LifeBase
+life_base start = record { counters = start.base; committed = start.committed; recorded = start.recorded }
+
+-- the log's records are those from before the life, which give its base, and those of the life
+pub record LogFollows (start : Start) (lists : List (List Entry)) (log : KeptLog) : Type 0 where
+  pub recs : log.recs ≡ start.logged ++ recs_in (at lists log_lock)
+  pub from : start.from ≡ log.first + length start.logged
+  pub base : base_after log.base start.logged ≡ life_base start
+  pub begun : start.from ≤ log.flushed
+  pub flushed : (to : ℕ) → Stands lists log_lock (kinds.Flush to) → to ≤ log.flushed
+
+-- an image of the log may begin at this record: one before the life, or a checkpoint before which it was to be forgotten
+abbrev pub IsBeginning : Start → List (List Entry) → ℕ → Type 0
+IsBeginning start lists n =
+    (n ≤ start.from) ⊎ (Stands lists log_lock (kinds.Forget n) ⊎ ((count : ℕ) × Stands lists log_lock (kinds.LogFault (calls.Forget n) count)))
+
+-- Each image of a bank of pg_xact fits the log as it begins in any of its images, in a life of fewer than 2,900,000 ids.
+abbrev pub XactFitsLaw : Type 0
+XactFitsLaw = (start : Start) (lists : List (List Entry)) (shown : ℕ → Option State) (log : KeptLog) (bank n : ℕ) (c : Pages) →
+    EngineInvariant start lists → CleanStart start shown → LogFollows start lists log → IsBeginning start lists n → length (given (history lists)) < 2900000
+    → bank < start.banks → Follows start bank shown (at lists (xact_lock bank)) c
+    → XactFits start.banks bank log n c
+
+-- A multixact of the life's base of which the start shows no offset has none in any image: the life sets none.
+abbrev pub NoStrayOffset : Type 0
+NoStrayOffset = (start : Start) (lists : List (List Entry)) (shown : ℕ → Option ℕ) (bank multi : ℕ) (c : Pages) → EngineInvariant start lists
+    → shown multi ≡ None → multi < start.base.multi → ((i : ℕ) → i < 4 → ByteSince start shown (at lists (offsets_lock bank)) c multi i)
+    → offset_at c multi ≡ 0

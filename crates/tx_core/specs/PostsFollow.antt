@@ -1,0 +1,44 @@
+-- The published oldest id and oldest xmin are those of places of the history.
+use Rattle.std.specs.Prelude.{◌≡◌, ℕ, ◌≤◌, List, Option, Some, None, length, take}
+use Rattle.std.specs.List.{AllByRecursion, filter_map}
+use Rattle.tx_events.specs.declared.event.Event.{Event}
+use Rattle.tx_events.specs.Horizon.{oldest_id, oldest_xmin}
+use Rattle.tx_core.specs.declared.entry.Entry.{Entry}
+use Rattle.tx_core.specs.declared.entry.Kind.{Kind}
+use Rattle.tx_core.specs.declared.entry.Kind.TheVariants as kinds
+use Rattle.tx_core.specs.declared.entry.Start.{Start}
+use Rattle.tx_core.specs.Entries.{history}
+use Rattle.tx_core.specs.Lists.{Upheld}
+use Rattle.tx_core.specs.Locks.{oldest_word, xmin_word}
+
+abbrev pub posted_in : Kind → Option ℕ
+posted_in (kinds.Post number) = Some number
+posted_in _ = None
+
+-- the numbers that a word showed, one after the other
+abbrev pub posts : List Entry → List ℕ
+posts es = filter_map (λ e. posted_in e.kind) es
+
+-- The number is what was to be shown at a place of the history, and not below what the word showed before. What it shows
+-- never falls, so that place is not before those of the earlier ones.
+pub record IsFound (shown : List Event → ℕ) (lists : List (List Entry)) (before : List Entry) (number : ℕ) : Type 0 where
+  pub place : ℕ
+  pub within : place ≤ length (history lists)
+  pub found : number ≡ shown (take place (history lists))
+  pub rises : AllByRecursion (λ earlier. earlier ≤ number) (posts before)
+
+pub record PostOf (start : Start) (lists : List (List Entry)) (lock : ℕ) (before : List Entry) (number : ℕ) : Type 0 where
+  pub oldest : lock ≡ oldest_word start → IsFound (oldest_id start.base.oldest) lists before number
+  pub xmin : lock ≡ xmin_word start → IsFound (oldest_xmin start.base.next) lists before number
+
+abbrev pub PostIn : Start → List (List Entry) → ℕ → List Entry → Kind → Type 0
+PostIn start lists lock before (kinds.Post number) = PostOf start lists lock before number
+PostIn start lists lock before _ = Unit {0}
+
+abbrev pub NeedsPost : Start → List (List Entry) → ℕ → List Entry → Entry → Type 0
+NeedsPost start lists lock before e = PostIn start lists lock before e.kind
+
+-- Each number that was published is the oldest id, or the oldest xmin, at a place of the history, and none is published
+-- behind one of a later place.
+pub record PostsFollow (start : Start) (lists : List (List Entry)) : Type 0 where
+  pub each : Upheld (NeedsPost start) lists

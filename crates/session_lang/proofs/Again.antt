@@ -16,7 +16,12 @@ use Rattle.script_lines.specs.LineWords.{and_then, next, number_from, number_of}
 use Rattle.script_lines.specs.Arguments.{asked_id_in, id_in, multi_in, number_in}
 use Rattle.script_lines.specs.Members.{id_part, is_colon, mode_in, mode_part, modes_in, pair_in, pairs_from, pairs_in}
 use Rattle.script_lines.specs.Commands.{command_at, command_in, long_command, see_in, see_multi_in}
-use Rattle.session_lang.specs.Plain.{IsInRange}
+use Rattle.tx_model.specs.declared.report.DumpOf.TheVariants as dumps
+use Rattle.tx_model.specs.declared.report.How.TheVariants as hows
+use Rattle.script_lines.specs.declared.directive.Directive.{Directive}
+use Rattle.script_lines.specs.declared.directive.Directive.TheVariants as directives
+use Rattle.script_lines.specs.Directives.{directive_at, how_in, log_dump_in, page_dump_in, store_in}
+use Rattle.session_lang.specs.Plain.{IsDirective, IsInRange, directive_rest, directive_word}
 
 -- ---- numbers
 
@@ -69,7 +74,7 @@ in_range low high n l h f = rw (number_again n f, test) refl
     test : (nat_le low n && nat_le n high) ≡ true
     test = grind (arith, nat_tests)
 
-id_again : (n : ℕ) → IsFullId n → n ≤ 2 ^ 62 → id_in (decimal n) ≡ Ok n
+pub id_again : (n : ℕ) → IsFullId n → n ≤ 2 ^ 62 → id_in (decimal n) ≡ Ok n
 unfolding id_in
 id_again n i l = rw (in_range 3 (2 ^ 62) n (omega arith) l (omega arith), test) refl
   where
@@ -84,7 +89,7 @@ asked_again n i l = rw (in_range 0 (2 ^ 62) n (omega arith) l (omega arith), tes
     test (inl s) = grind (arith, nat_tests)
     test (inr s) = grind (arith, nat_tests)
 
-multi_again : (n : ℕ) → IsFullMulti n → n ≤ 2 ^ 62 → multi_in (decimal n) ≡ Ok n
+pub multi_again : (n : ℕ) → IsFullMulti n → n ≤ 2 ^ 62 → multi_in (decimal n) ≡ Ok n
 unfolding multi_in
 multi_again n i l = rw (in_range 1 (2 ^ 62) n (omega arith) l (omega arith), test) refl
   where
@@ -169,3 +174,28 @@ command_again (commands.Multi members) i = rw (pairs_again members i) refl
 command_again (commands.SeeMulti name m) i = rw (i.0, in_range 1 (2 ^ 32 - 1) m.number i.1 (omega (arith, i.2)) (omega (arith, i.2))) refl
 command_again (commands.Freeze x) i = rw (id_again x i.0 i.1) refl
 command_again (commands.MultiFreeze m) i = rw (multi_again m i.0 i.1) refl
+
+-- ---- directives
+
+dump_size : (n : ℕ) → 1 ≤ n → n ≤ 64 → number_in 1 64 (decimal n) ≡ Ok n
+dump_size n l m = in_range 1 64 n l m (omega arith)
+
+fits_page : (at size : ℕ) → at + size ≤ 8192 → nat_lt 8192 (at + size) ≡ false
+fits_page at size l = grind (arith, nat_tests)
+
+pub directive_again : (d : Directive) → IsDirective d → directive_at (directive_word d) (directive_rest d) ≡ Ok d
+unfolding directive_at how_in store_in log_dump_in page_dump_in
+directive_again directives.Round i = refl
+directive_again directives.Checkpoint i = refl
+directive_again (directives.Crash hows.Lost) i = refl
+directive_again (directives.Crash hows.Kept) i = refl
+directive_again (directives.Crash hows.Torn) i = refl
+directive_again (directives.Dump dumps.Log at size) i = rw (in_range 0 (2 ^ 40) at (omega arith) i.0 (omega (arith, i.0)), dump_size size i.1 i.2) refl
+directive_again (directives.Dump (dumps.Xact page) at size) i =
+    rw (in_range 0 (2 ^ 32 - 1) page (omega arith) (omega (arith, i.0.0)) (omega (arith, i.0.0)), in_range 0 8192 at (omega arith) (omega (arith, i.0.1)) (omega (arith, i.0.1)), dump_size size i.1 i.2, fits_page at size i.0.1) refl
+directive_again (directives.Dump (dumps.Subtrans page) at size) i =
+    rw (in_range 0 (2 ^ 32 - 1) page (omega arith) (omega (arith, i.0.0)) (omega (arith, i.0.0)), in_range 0 8192 at (omega arith) (omega (arith, i.0.1)) (omega (arith, i.0.1)), dump_size size i.1 i.2, fits_page at size i.0.1) refl
+directive_again (directives.Dump (dumps.Offsets page) at size) i =
+    rw (in_range 0 (2 ^ 32 - 1) page (omega arith) (omega (arith, i.0.0)) (omega (arith, i.0.0)), in_range 0 8192 at (omega arith) (omega (arith, i.0.1)) (omega (arith, i.0.1)), dump_size size i.1 i.2, fits_page at size i.0.1) refl
+directive_again (directives.Dump (dumps.Members page) at size) i =
+    rw (in_range 0 (2 ^ 32 - 1) page (omega arith) (omega (arith, i.0.0)) (omega (arith, i.0.0)), in_range 0 8192 at (omega arith) (omega (arith, i.0.1)) (omega (arith, i.0.1)), dump_size size i.1 i.2, fits_page at size i.0.1) refl

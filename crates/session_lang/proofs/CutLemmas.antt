@@ -15,7 +15,7 @@ last_line bytes raw [] n e r b l = ap ended (cut bytes raw [] n e r b)
 last_line bytes raw (c ∷ behind) n e r b l = absurd (omega arith)
 
 -- what stands before other parts ends
-before_parts : (raw : List ℕ) (rest : List ℕ) → ended (raw ∷ slice_split is_line_end rest) ≡ without_cr raw ∷ lines_of rest
+pub before_parts : (raw : List ℕ) (rest : List ℕ) → ended (raw ∷ slice_split is_line_end rest) ≡ without_cr raw ∷ lines_of rest
 before_parts raw rest = rw (first_part is_line_end rest) refl
 
 pub line_and_more : (bytes raw behind rest : List ℕ) (n : ℕ) → n ≡ to_end bytes → raw ≡ take n bytes → behind ≡ drop n bytes → 1 ≤ length behind → rest ≡ drop 1 behind → lines_of bytes ≡ without_cr raw ∷ lines_of rest

@@ -8,3 +8,8 @@ pub mod LineLemmas
 pub mod CutLemmas
 pub mod WholeLemmas
 pub mod Again
+pub mod PlainLines
+pub mod PlainItems
+pub mod PlainHeader
+pub mod PlainScript
+pub mod PlainText

@@ -76,3 +76,16 @@ pub open_short : (turns : List (ℕ × Command)) (before : List Item) → All Is
 open_short turns [] a = round_short turns a
 open_short turns (items.Run s c ∷ before) a = open_short (turns ++ (s, c) ∷ []) before a
 open_short turns (x ∷ before) a = open_short [] before (all_later IsShort (round_of turns) (rounds_from [] before) a)
+
+front_short : (turns : List (ℕ × Command)) (later : List Item) → All IsShort (rounds_from turns later) → IsShort turns
+front_short turns [] a = round_short turns a
+front_short turns (items.Run s c ∷ later) a =
+    λ session. let w = front_short (turns ++ (s, c) ∷ []) later a session in let e = turns_push turns s session c in omega arith
+front_short turns (x ∷ later) a = round_short turns (all_earlier IsShort (round_of turns) (rounds_from [] later) a)
+
+-- so also with the next command of the script
+pub next_short : (turns : List (ℕ × Command)) (before : List Item) (k : ℕ) (command : Command) (later : List Item) → All IsShort (rounds_from turns (before ++ items.Run k command ∷ later)) → IsShort (open_from turns before ++ (k, command) ∷ [])
+next_short turns [] k command later a = front_short (turns ++ (k, command) ∷ []) later a
+next_short turns (items.Run s c ∷ before) k command later a = next_short (turns ++ (s, c) ∷ []) before k command later a
+next_short turns (x ∷ before) k command later a =
+    next_short [] before k command later (all_later IsShort (round_of turns) (rounds_from [] (before ++ items.Run k command ∷ later)) a)

@@ -16,6 +16,6 @@ pub mod Rounds
 pub mod Lines
 pub mod Script
 pub mod Places
-pub mod Plain
 pub mod Answers
 pub mod Reading
+pub mod Plain

@@ -1,12 +1,13 @@
-//! Laws of reading.
-ghost use Rattle.std.specs.Prelude.{◌≡◌, Ok};
-ghost use Rattle.tx_model.specs.declared.command.Command.{Command};
-ghost use Rattle.report_text.specs.CommandText.{command_words};
-ghost use Rattle.script_lines.specs.Commands.{command_at};
-ghost use Rattle.session_lang.specs.Plain.{IsInRange};
+//! Laws of reading. The functions do nothing; their contracts are the laws.
+ghost use Rattle.std.specs.Prelude.{◌≡◌, ℕ, List, Ok};
+ghost use Rattle.script_lines.specs.declared.header.Header.{Header};
+ghost use Rattle.session_lang.specs.declared.script.Script.{Script};
+ghost use Rattle.session_lang.specs.Plain.{IsPlainText};
+ghost use Rattle.session_lang.specs.Script.{read_script};
 
-/// The words that a report has of a command are read as that command.
-#[tactic(auto, using(crate::proofs::Again::command_again))]
-pub fn command_is_read_again()
-    ensures { (c : Command) → IsInRange c → command_at (command_words c) ≡ Ok c }
+/// The plain text of a script is read as that script: its header's lines, and then a line for each command and directive,
+/// words with one space between them and numbers without leading zeros.
+#[tactic(auto, using(crate::proofs::PlainText::plain_text_read))]
+pub fn plain_text_is_read_again()
+    ensures { (h : Header) (s : Script) (bytes : List ℕ) → IsPlainText h s bytes → read_script bytes ≡ Ok s }
 {}

@@ -37,7 +37,7 @@ use Rattle.tx_core.specs.declared.entry.State.TheVariants as states
 use Rattle.tx_core.proofs.Asking.{if_some, logged_of, upheld_has}
 use Rattle.tx_core.proofs.Exactness.{exact_given}
 use Rattle.tx_core.proofs.Growing.{begins_filter_map}
-use Rattle.tx_core.proofs.Reading.{flushed_appended, state_from}
+use Rattle.tx_core.proofs.Reading.{appended_by, appended_is, flushed_appended, state_from}
 use Rattle.tx_core.specs.CleanStart.{CleanStart, IsNear, first_near}
 use Rattle.tx_core.specs.EngineInvariant.{EngineInvariant}
 use Rattle.tx_core.specs.Entries.{IsAppended, Mark, Stands, appended, cut_in, history, marks, marks_in, records_in, records_of}
@@ -122,22 +122,18 @@ truncated_oldest start lists log oldest multi offset f t =
     let among : Has (take m (life_recs lists)) (records.Truncate oldest multi offset) = has_taken n m (life_recs lists) (records.Truncate oldest multi offset) (omega arith) stands in
     subst (λ (b : LifeBase). oldest ≤ b.counters.oldest) (sym (base_from start lists log log.flushed f f.begun)) (oldest_past start.base (take m (life_recs lists)) oldest multi offset among)
 
+-- a record stands in the log's list
+pub logged_at : (start : Start) (lists : List (List Entry)) (j : ℕ) (by : By) (rec : Rec) → slice_get (records_of lists) j ≡ Some (by, rec) → Has (at lists log_lock) (record { by = by; kind = kinds.Append rec })
+logged_at start lists j by rec g =
+    let r = has_filter_map appended (at lists log_lock) (by, rec) (place_has (records_of lists) j (by, rec) g) in
+    let same : r.0 ≡ record { by = by; kind = kinds.Append rec } = λ i. record { by = appended_by r.0.by r.0.kind (by, rec) r.2 i; kind = appended_is r.0.by r.0.kind (by, rec) r.2 i } in
+    subst (λ (e : Entry). Has (at lists log_lock) e) same r.1
+
 -- an id of an appended commit record was given
 named_given : (start : Start) (lists : List (List Entry)) (j : ℕ) (by : By) (top : ℕ) (subs : List ℕ) (x : ℕ) → EngineInvariant start lists → slice_get (records_of lists) j ≡ Some (by, records.Commit top subs) → Contains (top ∷ subs) x → Has (given (history lists)) x
 named_given start lists j by top subs x k g c =
-    let a : IsAppended lists by.session (records.Commit top subs) = flushless j by g in
+    let a : IsAppended lists by.session (records.Commit top subs) = (by, refl, has_contains (at lists log_lock) (record { by = by; kind = kinds.Append (records.Commit top subs) }) (logged_at start lists j by (records.Commit top subs) g)) in
     given_to_given by.session (history lists) x (exact_given (history lists) by.session top subs x (k.records.exact by.session top subs a) c)
-  where
-    is_append : (by : By) (kind : Kind) (found : By × Rec) → Rattle.tx_core.specs.Entries.appended_in by kind ≡ Some found → (kind ≡ kinds.Append found.1) × (by ≡ found.0)
-    is_append by (kinds.Append rec) found e = let q : (by, rec) ≡ found = cc in (ap (λ (z : By × Rec). kinds.Append z.1) q, ap (λ (z : By × Rec). z.0) q)
-    is_append by _ found e = absurd cc
-
-    flushless : (j : ℕ) (by : By) → slice_get (records_of lists) j ≡ Some (by, records.Commit top subs) → IsAppended lists by.session (records.Commit top subs)
-    flushless j by g =
-        let r = has_filter_map appended (at lists log_lock) (by, records.Commit top subs) (place_has (records_of lists) j (by, records.Commit top subs) g) in
-        let q = is_append r.0.by r.0.kind (by, records.Commit top subs) r.2 in
-        let same : r.0 ≡ record { by = by; kind = kinds.Append (records.Commit top subs) } = λ i. record { by = q.1 i; kind = q.0 i } in
-        (by, refl, has_contains (at lists log_lock) (record { by = by; kind = kinds.Append (records.Commit top subs) }) (subst (λ (e : Entry). Has (at lists log_lock) e) same r.1))
 
 -- what there is room for in a life of few ids
 record HasRoom (start : Start) (lists : List (List Entry)) (log : KeptLog) : Type 0 where
@@ -293,7 +289,7 @@ earlier_committed start lists log n x f le c =
     has_right log.base.committed (committed_in start.logged) x (flat_map_has committed_by start.logged r.0 x within r.2))
     (has_cases log.base.committed (committed_in (take (n - log.first) log.recs)) x (contains_has (base_at log n).committed x c))))
 
-may_forget : (start : Start) (lists : List (List Entry)) (n : ℕ) → EngineInvariant start lists
+pub may_forget : (start : Start) (lists : List (List Entry)) (n : ℕ) → EngineInvariant start lists
     → Stands lists log_lock (kinds.Forget n) ⊎ ((count : ℕ) × Stands lists log_lock (kinds.LogFault (calls.Forget n) count)) → (before : List Entry) × Begins before (at lists log_lock) × MayForget start lists before n
 may_forget start lists n k h =
     ⊎_elim

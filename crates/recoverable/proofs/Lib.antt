@@ -4,3 +4,5 @@ pub mod Room
 pub mod Places
 pub mod FitsXact
 pub mod Offsets
+pub mod MultiFacts
+pub mod OffsetsFit

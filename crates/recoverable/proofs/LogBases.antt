@@ -66,3 +66,25 @@ oldest_past c (r ∷ recs) oldest multi offset h =
     let b = oldest_grows (after_record c r) recs in omega arith)
     (λ k. oldest_past (after_record c r) recs oldest multi offset k)
     h
+
+-- the same of the oldest multixact
+oldest_multi_up : (c : Counters) (r : Rec) → c.oldest_multi ≤ (after_record c r).oldest_multi
+oldest_multi_up c (records.Commit top subs) = omega arith
+oldest_multi_up c (records.Abort top subs) = omega arith
+oldest_multi_up c (records.Multi multi offset members) = omega arith
+oldest_multi_up c (records.Checkpoint number n) = grind arith
+oldest_multi_up c (records.Truncate oldest multi offset) = grind arith
+
+pub oldest_multi_grows : (c : Counters) (recs : List Rec) → c.oldest_multi ≤ (after_records c recs).oldest_multi
+oldest_multi_grows c [] = omega arith
+oldest_multi_grows c (r ∷ recs) = let a = oldest_multi_up c r in let b = oldest_multi_grows (after_record c r) recs in omega arith
+
+pub oldest_multi_past : (c : Counters) (recs : List Rec) (oldest multi offset : ℕ) → Has recs (records.Truncate oldest multi offset) → multi ≤ (after_records c recs).oldest_multi
+oldest_multi_past c [] oldest multi offset h = absurd h
+oldest_multi_past c (r ∷ recs) oldest multi offset h =
+    ⊎_elim
+    (λ (e : r ≡ records.Truncate oldest multi offset).
+    let a : multi ≤ (after_record c r).oldest_multi = subst (λ (z : Rec). multi ≤ (after_record c z).oldest_multi) (sym e) (let m : multi ≤ max c.oldest_multi multi = grind arith in m) in
+    let b = oldest_multi_grows (after_record c r) recs in omega arith)
+    (λ k. oldest_multi_past (after_record c r) recs oldest multi offset k)
+    h

@@ -23,7 +23,7 @@ use Rattle.tx_core.specs.Pages.{offset_for, offset_store, pages_after}
 use Rattle.recoverable.specs.FitMultis.{byte_of}
 use Rattle.tx_core.specs.MembersBeforeOffset.{NeedsOffsets, OffsetOf}
 use Rattle.tx_core.specs.MultiEntries.{SetOffset, multi_history, offsets_in}
-use Rattle.recoverable.specs.OffsetImages.{number_or_none, offset_after}
+use Rattle.recoverable.specs.OffsetImages.{MayBeGone, number_or_none, offset_after}
 use Rattle.recoverable.specs.Laws.{NoStrayOffset}
 use Rattle.recoverable.proofs.Places.{Source, shows_from}
 
@@ -33,7 +33,7 @@ zero_byte i lt = ⊎_elim (λ (e : i ≡ 0). subst (λ z. byte_of 0 z ≡ 0) (sy
     which : (i : ℕ) → i < 4 → (i ≡ 0) ⊎ ((i ≡ 1) ⊎ ((i ≡ 2) ⊎ (i ≡ 3)))
     which i lt = grind arith
 
-set_of : (multi v : ℕ) (set : SetOffset) → offset_for multi set ≡ Some v → set.multi ≡ multi
+pub set_of : (multi v : ℕ) (set : SetOffset) → offset_for multi set ≡ Some v → set.multi ≡ multi
 set_of multi v set e =
     let step : (b : Bool) → (set.multi == multi) ≡ b → cond b (Some set.offset) None ≡ Some v → set.multi ≡ multi = elim [
       | true ↦ λ q g. eqb-true set.multi multi q
@@ -48,7 +48,7 @@ number_zero bytes place each =
     rw (b0, b1, b2, b3) refl
 
 -- a multixact that the life gave is not below its base's next one
-given_from : (start : Start) (lists : List (List Entry)) (by : By) (multi offset : ℕ) (members : List Member) → EngineInvariant start lists → Contains (multi_history lists) (multis.Gen by multi offset members) → start.base.multi ≤ multi
+pub given_from : (start : Start) (lists : List (List Entry)) (by : By) (multi offset : ℕ) (members : List Member) → EngineInvariant start lists → Contains (multi_history lists) (multis.Gen by multi offset members) → start.base.multi ≤ multi
 given_from start lists by multi offset members k c =
     let h : List MultiEvent = multi_history lists in
     let event : MultiEvent = multis.Gen by multi offset members in
@@ -81,5 +81,5 @@ no_stray_offset start lists shown bank multi c k clear old bytes =
     let nothing : offset_after start shown (at lists (offsets_lock bank)) since.count multi ≡ 0 = none ((pages_after offset_store start.base.multi shown (take since.count (at lists (offsets_lock bank)))).shows multi) refl in
     ⊎_elim
     (λ (q : slice_index (page_bytes (c (word_page_of multi))) (word_place_of multi + i) ≡ byte_of (offset_after start shown (at lists (offsets_lock bank)) since.count multi) i). q ∙ ap (λ z. byte_of z i) nothing ∙ zero_byte i lt)
-    (λ (q : slice_index (page_bytes (c (word_page_of multi))) (word_place_of multi + i) ≡ 0). q)
+    (λ (q : (slice_index (page_bytes (c (word_page_of multi))) (word_place_of multi + i) ≡ 0) × MayBeGone start (at lists (offsets_lock bank)) multi). q.0)
     since.byte)

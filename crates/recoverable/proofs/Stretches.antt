@@ -1,6 +1,6 @@
 -- Beginnings of lists, and what they hold.
-use Rattle.std.proofs.Common.{◌≡◌, ℕ, zero, suc, ◌-◌, ◌<◌, ◌≤◌, inl, inr, ⊎_elim, List, [], ◌∷◌, ◌++◌, length, take, map, Some, refl, sym, ap, subst, arith}
-use Rattle.std.specs.List.{slice_get, flat_map}
+use Rattle.std.proofs.Common.{◌≡◌, ℕ, zero, suc, ◌-◌, ◌<◌, ◌≤◌, inl, inr, ⊎_elim, List, [], ◌∷◌, ◌++◌, length, take, map, Some, refl, sym, ap, subst, arith, Option, None, ◌∙◌}
+use Rattle.std.specs.List.{cons_option, filter_map, flat_map, slice_get}
 use Rattle.tx_events.proofs.Membership.{Has, has_left, has_right}
 use Rattle.notes.specs.Lists.{Begins}
 
@@ -59,3 +59,11 @@ module _ {A B : Type 0} where
   map_get f [] n y e = absurd cc
   map_get f (x ∷ xs) zero y e = (x, refl, cc)
   map_get f (x ∷ xs) (suc n) y e = map_get f xs n y e
+
+  pub filter_map_has : (f : A → Option B) (xs : List A) (x : A) (y : B) → Has xs x → f x ≡ Some y → Has (filter_map f xs) y
+  filter_map_has f [] x y h e = absurd h
+  filter_map_has f (z ∷ xs) x y h e =
+      ⊎_elim
+      (λ (q : z ≡ x). subst (λ o. Has (cons_option o (filter_map f xs)) y) (sym (ap f q ∙ e)) (inl refl))
+      (λ t. let r = filter_map_has f xs x y t e in elim (f z) as (λ o. Has (cons_option o (filter_map f xs)) y) [ None ↦ r | Some w ↦ inr r ])
+      h

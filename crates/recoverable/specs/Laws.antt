@@ -1,7 +1,10 @@
 -- The law: where the engine invariant holds, and values stand for their lists, the volumes fit.
 use Rattle.std.specs.Prelude.{◌≡◌, ℕ, ◌+◌, ◌<◌, ◌≤◌, ◌⊎◌, List, ◌++◌, length, Option, None}
 use Rattle.disk_core.specs.Pages.{Pages}
+use Rattle.tx_events.specs.Base.{IsBase}
 use Rattle.tx_events.specs.Events.{given}
+use Rattle.tx_events.specs.Multis.{made}
+use Rattle.tx_core.specs.MultiEntries.{multi_history}
 use Rattle.tx_core.specs.declared.entry.Entry.{Entry}
 use Rattle.tx_core.specs.declared.entry.Kind.TheVariants as kinds
 use Rattle.tx_core.specs.declared.entry.LogCall.TheVariants as calls
@@ -13,10 +16,10 @@ use Rattle.tx_core.specs.Entries.{history, recs_in, Stands}
 use Rattle.notes.specs.Lists.{at}
 use Rattle.tx_core.specs.Locks.{log_lock, offsets_lock, xact_lock}
 use Rattle.recoverable.specs.LifeBase.{LifeBase, base_after}
-use Rattle.recoverable.specs.Fit.{KeptLog, XactFits}
+use Rattle.recoverable.specs.Fit.{KeptLog, XactFits, base_at}
 use Rattle.recoverable.specs.XactImages.{Follows}
-use Rattle.recoverable.specs.FitMultis.{offset_at}
-use Rattle.recoverable.specs.OffsetImages.{ByteSince}
+use Rattle.recoverable.specs.FitMultis.{ShowsOffsets, offset_at}
+use Rattle.recoverable.specs.OffsetImages.{ByteSince, CleanOffsets, OffsetsFollow}
 
 -- the base of a life
 abbrev pub life_base : Start → LifeBase
@@ -41,6 +44,14 @@ XactFitsLaw = (start : Start) (lists : List (List Entry)) (shown : ℕ → Optio
     EngineInvariant start lists → CleanStart start shown → LogFollows start lists log → IsBeginning start lists n → length (given (history lists)) < 2900000
     → bank < start.banks → Follows start bank shown (at lists (xact_lock bank)) c
     → XactFits start.banks bank log n c
+
+-- In each image of a bank of offsets each recorded multixact of the base at the log's beginning has its offset, from the
+-- oldest one of the base on disk on, in a life of fewer than 2,900,000 multixacts.
+abbrev pub OffsetsShownLaw : Type 0
+OffsetsShownLaw = (start : Start) (lists : List (List Entry)) (shown : ℕ → Option ℕ) (log : KeptLog) (bank n : ℕ) (c : Pages) →
+    EngineInvariant start lists → IsBase start.base → CleanOffsets start shown → LogFollows start lists log → IsBeginning start lists n → length (made (multi_history lists)) < 2900000
+    → bank < start.banks → OffsetsFollow start bank shown (at lists (offsets_lock bank)) c
+    → ShowsOffsets start.banks bank (base_at log n).recorded (base_at log log.flushed).counters.oldest_multi c
 
 -- A multixact of the life's base of which the start shows no offset has none in any image: the life sets none.
 abbrev pub NoStrayOffset : Type 0

@@ -62,7 +62,7 @@ flushed_grows start lists more session rec g f =
 pub durable_grows : (start : Start) (lists more : List (List Entry)) (session id : ℕ) → Grows lists more → IsDurable start lists session id → IsDurable start more session id
 durable_grows start lists more session id g d = (d.0, d.1, flushed_grows start lists more session (records.Commit d.0 d.1) g d.2, d.3)
 
-made_grows : (start : Start) (lists more : List (List Entry)) (id : ℕ) → Grows lists more → IsMade start lists id → IsMade start more id
+pub made_grows : (start : Start) (lists more : List (List Entry)) (id : ℕ) → Grows lists more → IsMade start lists id → IsMade start more id
 made_grows start lists more id g m = (⊎_elim inl (λ s. inr (stands_grows lists more _ _ g s)) m.0, ⊎_elim inl (λ s. inr (stands_grows lists more _ _ g s)) m.1)
 
 pub own_lasting : IsLasting NeedsOwn
@@ -135,7 +135,7 @@ given_to_begins session h more b =
     let c : Begins (filter (is_of session) h) (filter (is_of session) more) = (filter (is_of session) b.0, sym (filter-append (is_of session) h b.0) ∙ ap (λ (t : List Event). filter (is_of session) t) b.1) in
     begins_filter_map given_by (filter (is_of session) h) (filter (is_of session) more) c
 
-asks_grows : (lists more : List (List Entry)) (session id : ℕ) (state : State) → Grows lists more → Asks lists session id state → Asks more session id state
+pub asks_grows : (lists more : List (List Entry)) (session id : ℕ) (state : State) → Grows lists more → Asks lists session id state → Asks more session id state
 asks_grows lists more session id state g a = record {
   lock = a.lock;
   entry = a.entry;
@@ -176,7 +176,7 @@ offset_grows start lists more offset g f =
     let r = taken_begins (multi_history lists) (multi_history more) f.1 (multis_grow lists more g) f.2 in
     (f.0, f.1, r.0, subst (λ (h : List MultiEvent). offset ≤ free_offset start.base.offset h) (sym r.1) f.3)
 
-wanted_grows : (start : Start) (lists more : List (List Entry)) (lock page : ℕ) → Grows lists more → IsWanted start lists lock page → IsWanted start more lock page
+pub wanted_grows : (start : Start) (lists more : List (List Entry)) (lock page : ℕ) → Grows lists more → IsWanted start lists lock page → IsWanted start more lock page
 wanted_grows start lists more lock page g w =
     let ids : next_given start.base.next (history lists) ≤ next_given start.base.next (history more) = given_more start.base (history lists) (history more) (history_grows lists more g) in
     let multis : next_made start.base.multi (multi_history lists) ≤ next_made start.base.multi (multi_history more) = made_more start.base.multi (multi_history lists) (multi_history more) (multis_grow lists more g) in

@@ -48,17 +48,29 @@ own_seen n seen lists lock e knows k q =
 pub own_appended : (n : ℕ) (seen lists : List (List Entry)) (rec : Rec) → Knows session_of n seen lists → IsAppended lists n rec → IsAppended seen n rec
 own_appended n seen lists rec knows a = (a.0, a.1, has_contains _ _ (own_seen n seen lists log_lock (record { by = a.0; kind = kinds.Append rec }) knows (contains_has _ _ a.2) a.1))
 
--- what the session has open is what it has seen open
+-- what came since a session looked is others' events
+pub record Others (n : ℕ) (h more : List Event) : Type 0 where
+  pub rest : List Event
+  pub split : h ++ rest ≡ more
+  pub others : (e : Event) → Has rest e → (by_of e).session ≢ n
+
+pub others_since : (start : Start) (n : ℕ) (seen lists : List (List Entry)) → EngineInvariant start lists → Knows session_of n seen lists → Others n (history seen) (history lists)
+others_since start n seen lists k knows =
+    let b = knows.grows.begins proc_lock in record {
+      rest = events_in b.0;
+      split = sym (filter_map-append event_of (at seen proc_lock) b.0) ∙ ap events_in b.1;
+      others = λ e h q.
+          let from = has_filter_map event_of b.0 e h in
+          let there : Has (at lists proc_lock) from.0 = subst (λ (t : List Entry). Has t from.0) b.1 (has_right (at seen proc_lock) b.0 from.0 from.1) in
+          let mine = own_event lists proc_lock [] from.0 e (upheld_has NeedsOwn lists proc_lock from.0 k.events.own there).1 from.2 in
+          none_passes (λ f. session_of f == n) (at seen proc_lock) b.0 (ap (λ (t : List Entry). own session_of n t) b.1 ∙ knows.own proc_lock) from.0 from.1 (eq-eqb from.0.by.session n (ap (λ (z : By). z.session) (sym mine) ∙ q));
+    }
+
+-- so what the session has open is what it has seen open
 pub open_seen : (start : Start) (n : ℕ) (seen lists : List (List Entry)) → EngineInvariant start lists → Knows session_of n seen lists → open_ids n (history lists) ≡ open_ids n (history seen)
 open_seen start n seen lists k knows =
-    let b = knows.grows.begins proc_lock in
-    let split : history seen ++ events_in b.0 ≡ history lists = sym (filter_map-append event_of (at seen proc_lock) b.0) ∙ ap events_in b.1 in
-    let others : (e : Event) → Has (events_in b.0) e → (by_of e).session ≢ n = λ e h q.
-    let from = has_filter_map event_of b.0 e h in
-    let there : Has (at lists proc_lock) from.0 = subst (λ (t : List Entry). Has t from.0) b.1 (has_right (at seen proc_lock) b.0 from.0 from.1) in
-    let mine = own_event lists proc_lock [] from.0 e (upheld_has NeedsOwn lists proc_lock from.0 k.events.own there).1 from.2 in
-    none_passes (λ f. session_of f == n) (at seen proc_lock) b.0 (ap (λ (t : List Entry). own session_of n t) b.1 ∙ knows.own proc_lock) from.0 from.1 (eq-eqb from.0.by.session n (ap (λ (z : By). z.session) (sym mine) ∙ q)) in
-    ap (open_ids n) (sym split) ∙ open_rest start.base n (history seen) (events_in b.0) (subst (IsLegal start.base) (sym split) k.events.legal) others
+    let o = others_since start n seen lists k knows in
+    ap (open_ids n) (sym o.split) ∙ open_rest start.base n (history seen) o.rest (subst (IsLegal start.base) (sym o.split) k.events.legal) o.others
 
 -- a top that was seen open is a top
 pub root_seen : (start : Start) (n top : ℕ) (subs : List ℕ) (seen lists : List (List Entry)) → EngineInvariant start lists → Knows session_of n seen lists → open_ids n (history seen) ≡ top ∷ subs → is_top (history seen) top ≡ true → is_top (history lists) top ≡ true

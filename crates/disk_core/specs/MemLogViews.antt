@@ -1,5 +1,5 @@
 -- What a log volume in memory holds, and its moments.
-use Rattle.std.specs.Prelude.{◌≡◌, ℕ, List, ◌++◌, take}
+use Rattle.std.specs.Prelude.{◌≡◌, ◌++◌, take}
 use Rattle.disk_core.specs.Volume.{Volume}
 use Rattle.disk_core.specs.MemLog.{IsOutcome, outcome_of}
 use Rattle.disk_core.specs.Media.{LogCrashed}

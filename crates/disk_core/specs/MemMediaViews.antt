@@ -1,6 +1,5 @@
 -- What a media in memory holds.
 use Rattle.std.specs.Prelude.{◌≡◌, ℕ, Bool, not, List, None, is_some, IsSomeAnd, All}
-use Rattle.disk_core.specs.Volume.{Volume}
 use Rattle.disk_core.specs.MemLogViews.{written, synced}
 use Rattle.disk_core.specs.MemPagesViews.{pages_now, pages_synced}
 use Rattle.disk_core.specs.Media.{HasBanks}

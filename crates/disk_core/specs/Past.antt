@@ -1,6 +1,6 @@
 -- The moments of a disk that keeps account of them: `leaves m` is what a crash at the moment m may have left.
-use Rattle.std.specs.Prelude.{◌≡◌, ℕ, zero, suc, ◌≤◌, ◌<◌, List, [], ◌∷◌, ◌++◌, length}
-use Rattle.std.proofs.Common.{inl, inr, arith, length-append, refl, subst, sym}
+use Rattle.std.specs.Prelude.{ℕ, zero, suc, ◌≤◌, ◌<◌, List, [], ◌∷◌, ◌++◌, length}
+use Rattle.std.proofs.Common.{inr, arith, length-append}
 use Rattle.disk_core.specs.Images.{Elapses}
 
 -- past moments in their order, and then this one

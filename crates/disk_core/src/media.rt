@@ -2,6 +2,7 @@
 ghost use Rattle.std.specs.Prelude.{◌≡◌, ◌≤◌, ℕ, Bool, IsTrue, IfOk, OnOk, OnErr, false};
 ghost use Rattle.disk_core.specs.Faults.{CountsFault};
 ghost use Rattle.disk_core.specs.Images.{NoMore, Only};
+ghost use Rattle.disk_core.specs.declared.media.Crash.{Crash};
 ghost use Rattle.disk_core.specs.declared.media.Volumes.{Volumes};
 ghost use Rattle.disk_core.specs.Media.{HasBanks, HaveSameBanks, CountsMount, LogCrashed, PagesCrashed, AllCrashed};
 
@@ -58,6 +59,9 @@ pub trait Media {
     /// The volumes that the next mount may give, if it isn't new.
     ghost gives: { Self → Volumes Self.Log Self.Pages → Type 0 };
 
+    /// What a crash of this kind makes of volumes, where it is done.
+    ghost falls: { Crash → Volumes Self.Log Self.Pages → Volumes Self.Log Self.Pages → Type 0 };
+
     /// How often the media has failed.
     ghost faults: { Self → ℕ };
 
@@ -79,6 +83,7 @@ pub trait Media {
         ensures old { is_new self.new ≡ false }
         ensures left { IsTrue Self.Log.tells → IsTrue Self.Pages.tells → OnOk result ((next : Volumes Self.Log Self.Pages) → gives self.new next
             → AllCrashed (LogCrashed Self.Log.reads Self.Log.images Self.Log.faults) (PagesCrashed Self.Pages.pages Self.Pages.images Self.Pages.faults) volumes next) }
+        ensures fell { OnOk result ((next : Volumes Self.Log Self.Pages) → gives self.new next → falls how volumes next) }
         ensures banks { OnOk result ((next : Volumes Self.Log Self.Pages) → gives self.new next → HaveSameBanks volumes next) }
         ensures cause { CountsFault result (faults self.old) (faults self.new) };
 

@@ -1,4 +1,4 @@
-//! A media in memory. It fails only for want of memory.
+//! A media in memory.
 ghost use Rattle.std.specs.Prelude.{◌≡◌, ◌≤◌, IfOk, OnOk, OnErr};
 ghost use Rattle.disk_core.specs.Faults.{CountsFault};
 ghost use Rattle.disk_core.specs.Media.{AllCrashed, HaveSameBanks};
@@ -106,6 +106,8 @@ impl Media for MemMedia {
 
     ghost gives = { λ m. gives m };
 
+    ghost falls = { λ how. AllCrashed (LogFell how) (PagesFell how) };
+
     ghost faults = { λ m. m.faults };
 
     fn mount(&mut self, banks: u32) -> Result<Volumes<MemLog, MemPages>, MountRefusal>
@@ -117,6 +119,7 @@ impl Media for MemMedia {
         ensures mounted { OnOk result (is_idle self.new ≡ false) }
         ensures idle { OnErr result (IsTrue (is_idle self.new)) }
         ensures kept { OnErr result (is_new self.old ≡ false → (is_new self.new ≡ false) × NoMore (gives self.old) (gives self.new)) }
+        ensures still_new { OnErr result (is_new self.new ≡ is_new self.old) }
         ensures same { OnErr result (first_log self.new ≡ first_log self.old) }
         ensures cause { CountsMount result self.old.faults self.new.faults }
     {

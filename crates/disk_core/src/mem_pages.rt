@@ -242,7 +242,7 @@ impl MemPages {
         }
     }
 
-    /// What a crash makes of it. It fails only for want of memory.
+    /// What a crash makes of it. After an `Err`, for want of memory, it isn't said what it holds.
     pub fn crash(&mut self, how: Crash) -> Result<(), Failed>
         ensures now { OnOk result ((q : ℕ) → pages_now self.new q ≡ page_outcome_of how (pages_synced self.old q) (pages_now self.old q)) }
         ensures fell { OnOk result (PagesFell how self.old self.new) }

@@ -1,5 +1,5 @@
 -- What a fused media makes of what the media within gives.
-use Rattle.std.proofs.Common.{◌≡◌, ℕ, zero, suc, ◌+◌, ◌≤◌, ◌<◌, List, [], ◌∷◌, length, drop, Option, None, Result, Ok, Err, refl, sym, ◌∙◌, ap, arith, subst}
+use Rattle.std.proofs.Common.{◌≡◌, ℕ, suc, ◌+◌, ◌<◌, List, [], ◌∷◌, length, drop, Option, None, Result, Ok, Err, refl, sym, ◌∙◌, ap, arith, subst}
 use Rattle.std.specs.Prelude.{slice_index, OnOk, OnErr, false, Bool, IsTrue}
 use Rattle.std.proofs.lemmas.List.{drop_more, length-drop}
 use Rattle.disk_core.specs.Images.{NoMore, Only}
@@ -10,7 +10,7 @@ use Rattle.disk_core.specs.declared.media.Volumes.{Volumes}
 use Rattle.disk_core.specs.declared.media.Which.{Which}
 use Rattle.disk_fuse.specs.declared.fused_log.FusedLog.{FusedLog}
 use Rattle.disk_fuse.specs.declared.fused_pages.FusedPages.{FusedPages}
-use Rattle.disk_fuse.specs.FuseMedia.{is_at, limit_of, fused_banks, inner_banks, refusals, xact_bank, subtrans_bank, offsets_bank, members_bank, IsFused, IsUnfused, fuse_gives, fuse_is_new}
+use Rattle.disk_fuse.specs.FuseMedia.{fused_banks, inner_banks, refusals, xact_bank, subtrans_bank, offsets_bank, members_bank, IsFused, AreWithin, IsUnfused, FuseFell, fuse_gives, fuse_is_new}
 
 pub on_ok_map : {T E : Type 0} (r : Result T E) {A B : Type 0} → (A → B) → OnOk r A → OnOk r B
 on_ok_map (Ok x) f a = f a
@@ -24,6 +24,10 @@ module _ {P : Type 0} where
   length-fused_banks : (at passes : Option ℕ) (refused : List ℕ) (i : ℕ) (ps : List P) → length (fused_banks at passes refused i ps) ≡ length ps
   length-fused_banks at passes refused i [] = refl
   length-fused_banks at passes refused i (p ∷ ps) = ap suc (length-fused_banks at passes refused (i + 1) ps)
+
+  inner_of_fused : (at passes : Option ℕ) (refused : List ℕ) (i : ℕ) (ps : List P) → ps ≡ inner_banks (fused_banks at passes refused i ps)
+  inner_of_fused at passes refused i [] = refl
+  inner_of_fused at passes refused i (p ∷ ps) = ap (λ (l : List P). p ∷ l) (inner_of_fused at passes refused (i + 1) ps)
 
   length-inner_banks : (fs : List (FusedPages P)) → length (inner_banks fs) ≡ length fs
   length-inner_banks [] = refl
@@ -42,11 +46,23 @@ module _ {L P : Type 0} (at : Which) (passes : Option ℕ) (refused : Volumes �
 
   pub fused_same_banks : (old : Volumes (FusedLog L) (FusedPages P)) (u : Volumes L P) (counts : Volumes ℕ ℕ) → IsUnfused old u counts → HaveSameBanks u v → HaveSameBanks old fused
   fused_same_banks old u counts un same = record {
-    xact = ap length is.xact ∙ length-fused_banks (xact_bank at) passes refused.xact.items 0 v.xact.items ∙ same.xact ∙ ap length un.xact ∙ length-inner_banks old.xact.items;
-    subtrans = ap length is.subtrans ∙ length-fused_banks (subtrans_bank at) passes refused.subtrans.items 0 v.subtrans.items ∙ same.subtrans ∙ ap length un.subtrans ∙ length-inner_banks old.subtrans.items;
-    offsets = ap length is.offsets ∙ length-fused_banks (offsets_bank at) passes refused.offsets.items 0 v.offsets.items ∙ same.offsets ∙ ap length un.offsets ∙ length-inner_banks old.offsets.items;
-    members = ap length is.members ∙ length-fused_banks (members_bank at) passes refused.members.items 0 v.members.items ∙ same.members ∙ ap length un.members ∙ length-inner_banks old.members.items;
+    xact = ap length is.xact ∙ length-fused_banks (xact_bank at) passes refused.xact.items 0 v.xact.items ∙ same.xact ∙ ap length un.within.xact ∙ length-inner_banks old.xact.items;
+    subtrans = ap length is.subtrans ∙ length-fused_banks (subtrans_bank at) passes refused.subtrans.items 0 v.subtrans.items ∙ same.subtrans ∙ ap length un.within.subtrans ∙ length-inner_banks old.subtrans.items;
+    offsets = ap length is.offsets ∙ length-fused_banks (offsets_bank at) passes refused.offsets.items 0 v.offsets.items ∙ same.offsets ∙ ap length un.within.offsets ∙ length-inner_banks old.offsets.items;
+    members = ap length is.members ∙ length-fused_banks (members_bank at) passes refused.members.items 0 v.members.items ∙ same.members ∙ ap length un.within.members ∙ length-inner_banks old.members.items;
   }
+
+  fused_within : AreWithin fused v
+  fused_within = record {
+    log = ap (λ (f : FusedLog L). f.inner) (sym is.log);
+    xact = inner_of_fused (xact_bank at) passes refused.xact.items 0 v.xact.items ∙ ap inner_banks (sym is.xact);
+    subtrans = inner_of_fused (subtrans_bank at) passes refused.subtrans.items 0 v.subtrans.items ∙ ap inner_banks (sym is.subtrans);
+    offsets = inner_of_fused (offsets_bank at) passes refused.offsets.items 0 v.offsets.items ∙ ap inner_banks (sym is.offsets);
+    members = inner_of_fused (members_bank at) passes refused.members.items 0 v.members.items ∙ ap inner_banks (sym is.members);
+  }
+
+  pub fell_within : (fell : Volumes L P → Volumes L P → Type 0) (old : Volumes (FusedLog L) (FusedPages P)) (u : Volumes L P) (counts : Volumes ℕ ℕ) → IsUnfused old u counts → fell u v → FuseFell fell old fused
+  fell_within fell old u counts un falls = record { before = u; after = v; within_old = un.within; within_new = fused_within; falls = falls }
 
 module _ {P : Type 0} (pages : P → Pages) (images : P → Pages → Type 0) (faults : P → ℕ) where
   abbrev bank_fell : FusedPages P → FusedPages P → Type 0
@@ -85,11 +101,11 @@ module _ {L P : Type 0} (reads : L → Volume) (log_images : L → Volume → Ty
   pub all_fell : (at : Which) (passes : Option ℕ) (counts : Volumes ℕ ℕ) (old next : Volumes (FusedLog L) (FusedPages P)) (u w : Volumes L P) → IsUnfused old u counts → IsFused at passes counts w next
       → AllCrashed (LogCrashed reads log_images log_faults) (PagesCrashed pages images faults) u w → AllCrashed (log_fell reads log_images log_faults) (bank_fell pages images faults) old next
   all_fell at passes counts old next u w un is fell = record {
-    log = the_log_fell reads log_images log_faults old.log next.log u.log w.log _ counts.log un.log un.log_refused is.log fell.log;
-    xact = banks_fell pages images faults (xact_bank at) passes counts.xact.items old.xact.items next.xact.items u.xact.items w.xact.items un.xact un.xact_refused is.xact fell.xact;
-    subtrans = banks_fell pages images faults (subtrans_bank at) passes counts.subtrans.items old.subtrans.items next.subtrans.items u.subtrans.items w.subtrans.items un.subtrans un.subtrans_refused is.subtrans fell.subtrans;
-    offsets = banks_fell pages images faults (offsets_bank at) passes counts.offsets.items old.offsets.items next.offsets.items u.offsets.items w.offsets.items un.offsets un.offsets_refused is.offsets fell.offsets;
-    members = banks_fell pages images faults (members_bank at) passes counts.members.items old.members.items next.members.items u.members.items w.members.items un.members un.members_refused is.members fell.members;
+    log = the_log_fell reads log_images log_faults old.log next.log u.log w.log _ counts.log un.within.log un.log_refused is.log fell.log;
+    xact = banks_fell pages images faults (xact_bank at) passes counts.xact.items old.xact.items next.xact.items u.xact.items w.xact.items un.within.xact un.xact_refused is.xact fell.xact;
+    subtrans = banks_fell pages images faults (subtrans_bank at) passes counts.subtrans.items old.subtrans.items next.subtrans.items u.subtrans.items w.subtrans.items un.within.subtrans un.subtrans_refused is.subtrans fell.subtrans;
+    offsets = banks_fell pages images faults (offsets_bank at) passes counts.offsets.items old.offsets.items next.offsets.items u.offsets.items w.offsets.items un.within.offsets un.offsets_refused is.offsets fell.offsets;
+    members = banks_fell pages images faults (members_bank at) passes counts.members.items old.members.items next.members.items u.members.items w.members.items un.within.members un.members_refused is.members fell.members;
   }
 
 -- a mount where nothing was given back

@@ -1,8 +1,8 @@
 -- Banks are wrapped from the last on.
-use Rattle.std.proofs.Common.{◌≡◌, ℕ, zero, suc, ◌+◌, List, [], ◌∷◌, ◌++◌, length, Option, refl, sym, ◌∙◌, ap, arith, subst}
+use Rattle.std.proofs.Common.{◌≡◌, ℕ, ◌+◌, List, [], ◌∷◌, ◌++◌, length, Option, refl, sym, ◌∙◌, ap, arith}
 use Rattle.std.specs.Prelude.{slice_index}
 use Rattle.std.specs.Prelude.{reverse}
-use Rattle.std.proofs.lemmas.List.{append_assoc, reverse-append, append-nil}
+use Rattle.std.proofs.lemmas.List.{append_assoc, reverse-append}
 use Rattle.disk_fuse.specs.declared.fused_pages.FusedPages.{FusedPages}
 use Rattle.disk_fuse.specs.FuseMedia.{is_at, limit_of, fused_banks, inner_banks, refusals}
 

@@ -73,17 +73,29 @@ pub record IsFused {L P : Type 0} (at : Which) (passes : Option ℕ) (refused : 
   pub offsets : fused.offsets.items ≡ fused_banks (offsets_bank at) passes refused.offsets.items 0 volumes.offsets.items
   pub members : fused.members.items ≡ fused_banks (members_bank at) passes refused.members.items 0 volumes.members.items
 
-pub record IsUnfused {L P : Type 0} (fused : Volumes (FusedLog L) (FusedPages P)) (volumes : Volumes L P) (refused : Volumes ℕ ℕ) : Type 0 where
+-- the volumes within
+pub record AreWithin {L P : Type 0} (fused : Volumes (FusedLog L) (FusedPages P)) (volumes : Volumes L P) : Type 0 where
   pub log : volumes.log ≡ fused.log.inner
   pub xact : volumes.xact.items ≡ inner_banks fused.xact.items
   pub subtrans : volumes.subtrans.items ≡ inner_banks fused.subtrans.items
   pub offsets : volumes.offsets.items ≡ inner_banks fused.offsets.items
   pub members : volumes.members.items ≡ inner_banks fused.members.items
+
+pub record IsUnfused {L P : Type 0} (fused : Volumes (FusedLog L) (FusedPages P)) (volumes : Volumes L P) (refused : Volumes ℕ ℕ) : Type 0 where
+  pub within : AreWithin fused volumes
   pub log_refused : refused.log ≡ fused.log.refused
   pub xact_refused : refused.xact.items ≡ refusals fused.xact.items
   pub subtrans_refused : refused.subtrans.items ≡ refusals fused.subtrans.items
   pub offsets_refused : refused.offsets.items ≡ refusals fused.offsets.items
   pub members_refused : refused.members.items ≡ refusals fused.members.items
+
+-- the volumes within fell so
+pub record FuseFell {L P : Type 0} (fell : Volumes L P → Volumes L P → Type 0) (old new : Volumes (FusedLog L) (FusedPages P)) : Type 0 where
+  pub before : Volumes L P
+  pub after : Volumes L P
+  pub within_old : AreWithin old before
+  pub within_new : AreWithin new after
+  pub falls : fell before after
 
 -- empty vectors with room for the banks
 pub record HasRoomFor {L P U T : Type 0} (volumes : Volumes L P) (room : Volumes U T) : Type 0 where

@@ -1,4 +1,4 @@
-//! A media with a fuse: one volume passes so many calls, then fails each without doing it, until a crash.
+//! A media with a fuse: one volume passes so many calls, then fails each without doing it, until a crash that answers Ok.
 ghost use Rattle.std.specs.Prelude.{◌≡◌, ◌+◌, ◌≤◌, Some, None, IsTrue, OnOk, OnErr, IfOk, false};
 ghost use Rattle.disk_core.specs.Faults.{CountsFault};
 
@@ -66,13 +66,15 @@ impl<M: Media> Media for Fuse<M> {
     ghost use Rattle.disk_core.specs.declared.media.Volumes.{Volumes};
     ghost use Rattle.disk_fuse.specs.declared.fused_log.FusedLog.{FusedLog};
     ghost use Rattle.disk_fuse.specs.declared.fused_pages.FusedPages.{FusedPages};
-    ghost use Rattle.disk_fuse.specs.FuseMedia.{fuse_gives, fuse_is_new};
+    ghost use Rattle.disk_fuse.specs.FuseMedia.{fuse_gives, fuse_is_new, FuseFell};
 
     ghost is_idle = { λ f. not f.is_mounted };
 
     ghost is_new = { λ f. fuse_is_new (M.is_new f.inner) f.held };
 
     ghost gives = { λ f. fuse_gives (M.gives f.inner) f.held f.at f.passes f.refused };
+
+    ghost falls = { λ how. FuseFell (M.falls how) };
 
     ghost faults = { λ f. M.faults f.inner + f.faults };
 
@@ -120,10 +122,14 @@ impl<M: Media> Media for Fuse<M> {
         ensures idle { IsTrue (not self.new.is_mounted) }
         ensures old { fuse_is_new (M.is_new self.new.inner) self.new.held ≡ false }
         ensures disarmed { self.new.passes ≡ None }
+        // The next mount wraps the volumes anew, with no limit.
+        ensures unheld { OnOk result (self.new.held ≡ None) }
         ensures left { IsTrue M.Log.tells → IsTrue M.Pages.tells → OnOk result ((next : Volumes (FusedLog M.Log) (FusedPages M.Pages))
             → fuse_gives (M.gives self.new.inner) self.new.held self.new.at self.new.passes self.new.refused next
             → AllCrashed (LogCrashed (λ f. M.Log.reads f.inner) (λ f. M.Log.images f.inner) (λ f. M.Log.faults f.inner + f.refused))
             (PagesCrashed (λ f. M.Pages.pages f.inner) (λ f. M.Pages.images f.inner) (λ f. M.Pages.faults f.inner + f.refused)) volumes next) }
+        ensures fell { OnOk result ((next : Volumes (FusedLog M.Log) (FusedPages M.Pages))
+            → fuse_gives (M.gives self.new.inner) self.new.held self.new.at self.new.passes self.new.refused next → FuseFell (M.falls how) volumes next) }
         ensures banks { OnOk result ((next : Volumes (FusedLog M.Log) (FusedPages M.Pages))
             → fuse_gives (M.gives self.new.inner) self.new.held self.new.at self.new.passes self.new.refused next → HaveSameBanks volumes next) }
         ensures cause { CountsFault result (M.faults self.old.inner + self.old.faults) (M.faults self.new.inner + self.new.faults) }

@@ -3,10 +3,14 @@ use Rattle.std.proofs.Common.{◌≡◌, ◌⊎◌, inl, inr, ℕ, ◌<◌, ◌�
 use Rattle.std.specs.Prelude.{is_some, IsSome, IsNone, IfOk}
 use Rattle.tx_events.specs.declared.record.Rec.{Rec}
 use Rattle.tx_events.specs.declared.record.Counters.{Counters}
+use Rattle.disk_core.specs.Images.{LeavesOnly, NoMore}
+use Rattle.disk_core.specs.Moments.{leaves_weaker, run_then}
 use Rattle.disk_core.specs.Volume.{Volume, Wrote}
 use Rattle.wal_core.specs.Opening.{Opened, opened}
 use Rattle.wal_core.specs.LogContents.{history_with}
-use Rattle.wal_core.specs.Log.{EndsWithin, OpensAs}
+use Rattle.wal_core.specs.Crash.{IsWritten}
+use Rattle.wal_core.specs.Log.{EndsWithin, OpensAs, OpensAsBefore}
+use Rattle.wal_core.proofs.BatchWrites.{unwritten}
 use Rattle.wal_core.proofs.News.{opens_short, no_history, new_if_none}
 
 -- the first byte of a new log may have any value
@@ -45,3 +49,23 @@ is_short counters least length gate one test none = elim test [
   | inl le ↦ inr le
   | inr le ↦ inl (omega (arith, le, one none))
 ]
+
+-- ---- what is read first, and written then
+
+abbrev gate_in : Result Opened ℕ → ℕ
+gate_in (Ok o) = o.gate
+gate_in (Err at) = at
+
+pub one_gate : (r : Result Opened ℕ) (o p : Opened) → r ≡ Ok o → r ≡ Ok p → o.gate ≡ p.gate
+one_gate r o p is also = ap gate_in (sym is ∙ also)
+
+module _ {D : Type 0} (moment : D → ℕ) (left_at : D → ℕ → Volume → Type 0) (images : D → Volume → Type 0) (old mid new : D) (read : LeavesOnly moment left_at old mid (images old)) where
+  pub opens_so : (v w : Volume) → images old v → w ≡ v → LeavesOnly moment left_at mid new (OpensAs w) → LeavesOnly moment left_at old new (OpensAsBefore (images old))
+  opens_so v w image same wrote =
+      run_then moment left_at old mid new (OpensAsBefore (images old)) (OpensAs w) (leaves_weaker moment left_at old mid (images old) (OpensAsBefore (images old)) read (λ x left. (x, left, (refl, λ e. e)))) wrote
+      (λ x q. (v, image, subst (λ (z : Volume). OpensAs z x) same q))
+
+  pub writes_so : (gate : ℕ) → NoMore (images old) (images mid) → LeavesOnly moment left_at mid new (IsWritten (images mid) gate 1) → LeavesOnly moment left_at old new (IsWritten (images old) gate 1)
+  writes_so gate fewer wrote =
+      run_then moment left_at old mid new (IsWritten (images old) gate 1) (IsWritten (images mid) gate 1) (leaves_weaker moment left_at old mid (images old) (IsWritten (images old) gate 1) read (λ x left. (x, left, unwritten gate 1 x))) wrote
+      (λ x from. (from.0, fewer from.0 from.1, from.2))

@@ -5,6 +5,7 @@ ghost use Rattle.disk_core.specs.Images.{Only, LeavesOnly};
 ghost use Rattle.disk_core.specs.Volume.{Volume, overlaid};
 ghost use Rattle.wal_core.specs.declared.refusal.LogRefusal.TheVariants.{LogDown, LogFault, Full, Damaged};
 ghost use Rattle.wal_core.specs.LogContents.{history_with, history_of};
+ghost use Rattle.wal_core.specs.Crash.{IsWritten};
 ghost use Rattle.wal_core.specs.Opening.{opened, walked, behind_gate};
 ghost use Rattle.wal_core.specs.Log.{OpensOnceClosed, IsReady, OpensAs};
 ghost use Rattle.wal_core.specs.LogViews.{log_disk, log_recs, log_next, log_flushed, log_end, log_counters, log_down};
@@ -40,6 +41,8 @@ fn close_gate<D: LogDisk>(disk: &mut D, found: &LogContents) -> Result<(), Faile
     // Where a closed gate stood at the end of an old log, nothing is written.
     ensures any_moment { IsTrue D.tells → (IsSome found.now.counters → found.now.gate < length (D.reads disk.old).bytes)
         → LeavesOnly D.moment D.left_at disk.old disk.new (OpensAs (D.reads disk.old)) }
+    // Nothing is written but a byte at the gate.
+    ensures written { IsTrue D.tells → LeavesOnly D.moment D.left_at disk.old disk.new (IsWritten (D.images disk.old) found.now.gate 1) }
     // The volume reads as before, or has a byte 0 at the gate.
     ensures closed { IsTrue D.tells → OnOk result ((D.reads disk.new ≡ D.reads disk.old) ⊎ ((D.reads disk.new).bytes ≡ overlaid (D.reads disk.old).bytes found.now.gate (0 ∷ []))) }
     ensures cause { CountsFault result (D.faults disk.old) (D.faults disk.new) }
@@ -58,7 +61,8 @@ impl<D: LogDisk> WalLog<D> {
     ghost use Rattle.disk_core.specs.Images.{Only, LeavesOnly};
     ghost use Rattle.wal_core.specs.declared.refusal.LogRefusal.TheVariants.{LogDown, LogFault, Full, Damaged};
     ghost use Rattle.wal_core.specs.LogContents.{history_with, ComesTo};
-    ghost use Rattle.wal_core.specs.Opening.{opened};
+    ghost use Rattle.wal_core.specs.Crash.{IsWritten};
+    ghost use Rattle.wal_core.specs.Opening.{Opened, opened};
     ghost use Rattle.wal_core.specs.LastBatch.{last_batch};
     ghost use Rattle.wal_core.specs.Checkpoint.{IsCheckpointIn};
     ghost use Rattle.wal_core.specs.Log.{EndsWithin, OpensAsBefore};
@@ -91,6 +95,12 @@ impl<D: LogDisk> WalLog<D> {
         // old log.
         ensures any_moment { IsTrue D.tells → EndsWithin (D.reads disk) → IfOk result (λ s. LeavesOnly D.moment D.left_at disk (log_disk s.log) (OpensAsBefore (D.images disk))) }
         ensures any_moment_err { IsTrue D.tells → EndsWithin (D.reads disk) → IfErr result (λ e. LeavesOnly D.moment D.left_at disk e.0 (OpensAsBefore (D.images disk))) }
+
+        // Whatever the volume ends with: a crash at any moment leaves an image of before, but for one byte at the gate.
+        ensures written { IsTrue D.tells → IfOk result (λ s. LeavesOnly D.moment D.left_at disk (log_disk s.log) (IsWritten (D.images disk) (log_end s.log) 1)) }
+        ensures written_err { IsTrue D.tells → (o : Opened) → opened (D.reads disk) ≡ Ok o → IfErr result (λ e. LeavesOnly D.moment D.left_at disk e.0 (IsWritten (D.images disk) o.gate 1)) }
+        // On a damaged volume nothing is written.
+        ensures damage_stays { IsTrue D.tells → (at : ℕ) → opened (D.reads disk) ≡ Err at → IfErr result (λ e. LeavesOnly D.moment D.left_at disk e.0 (D.images disk)) }
 
         ensures damaged { IsTrue D.tells → IfErr result (λ e. (at : ℕ) → e.1 ≡ Damaged at → opened (D.reads disk) ≡ Err at) }
         ensures fault { IfErr result (λ e. e.1 ≡ LogFault → HasRisen (D.faults disk) (D.faults e.0)) }

@@ -151,6 +151,7 @@ impl<D: LogDisk> WalLog<D> {
         ensures counters { log_counters self.new ≡ log_counters self.old }
         ensures ok { OnOk result (log_flushed self.new ≡ log_next self.old) }
         ensures err { OnErr result (log_flushed self.new ≡ log_flushed self.old) }
+        ensures down_asks_nothing { (at : ℕ) → log_down self.old ≡ Some at → log_disk self.new ≡ log_disk self.old }
         ensures no_call { log_pending self.old ≡ [] → (log_disk self.new ≡ log_disk self.old) × (result ≢ Err LogFault) }
         ensures start { log_start self.new ≡ log_start self.old }
         ensures first { log_first self.new ≡ log_first self.old }
@@ -231,6 +232,7 @@ impl<D: LogDisk> WalLog<D> {
         // From then on an image begins with the checkpoint, or before it where the start wasn't raised.
         ensures first { ((at : ℕ) → result ≢ Err (LogDown at)) → IfSome (log_checkpoint self.old) (λ k. log_first self.new ≡ k.number) }
         ensures first_down { (at : ℕ) → result ≡ Err (LogDown at) → log_first self.new ≡ log_first self.old }
+        ensures down_asks_nothing { (at : ℕ) → log_down self.old ≡ Some at → log_disk self.new ≡ log_disk self.old }
         ensures no_call { IfSome (log_checkpoint self.old) (λ k. log_start self.old ≡ k.gate → (log_disk self.new ≡ log_disk self.old) × (result ≢ Err LogFault)) }
         ensures down { (at : ℕ) → result ≡ Err (LogDown at) → log_down self.old ≡ Some at }
         ensures is_down { (at : ℕ) → log_down self.old ≡ Some at → result ≡ Err (LogDown at) }

@@ -1,4 +1,4 @@
-use Rattle.std.proofs.Common.{inl, ◌∙◌, sym}
+use Rattle.std.proofs.Common.{inl}
 use Rattle.disk_core.specs.MemLog.{IsOutcome}
 use Rattle.disk_core.specs.MemLogViews.{written, synced, log_moment}
 use Rattle.disk_core.proofs.Clock.{log_elapses}

@@ -1,4 +1,3 @@
-use Rattle.std.proofs.Common.{arith}
 use Rattle.disk_core.proofs.MemPagesCrash.{crash_is_so}
 use Rattle.disk_core.proofs.mem_pages.MemPages.crash.Goals as goal
 

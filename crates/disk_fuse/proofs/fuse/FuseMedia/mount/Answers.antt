@@ -1,4 +1,4 @@
-use Rattle.std.proofs.Common.{◌≡◌, None, ◌∙◌, sym, false}
+use Rattle.std.proofs.Common.{◌≡◌, ◌∙◌, sym, false}
 use Rattle.disk_fuse.proofs.FuseMoves.{on_err, gives_again, gives_first, still_gives, rested}
 use Rattle.disk_fuse.proofs.fuse.FuseMedia.mount.Goals as goal
 

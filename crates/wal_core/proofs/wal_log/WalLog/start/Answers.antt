@@ -1,10 +1,11 @@
-use Rattle.std.proofs.Common.{◌≡◌, ℕ, ◌+◌, ◌<◌, List, [], length, Option, refl, sym, ◌∙◌, ap, subst, arith}
+use Rattle.std.proofs.Common.{◌≡◌, ℕ, ◌+◌, ◌<◌, List, [], length, Option, sym, ◌∙◌, ap, subst, arith}
 use Rattle.std.specs.Prelude.{IsSome}
-use Rattle.disk_core.specs.Moments.{leaves_weaker, run_then}
+use Rattle.disk_core.specs.Images.{LeavesOnly}
 use Rattle.tx_events.specs.declared.record.Rec.{Rec}
 use Rattle.disk_core.specs.Volume.{Volume}
 use Rattle.wal_records.specs.Lawful.{are_lawful}
-use Rattle.wal_core.specs.Log.{IsReady, OpensAs, OpensAsBefore}
+use Rattle.wal_core.specs.Crash.{IsWritten}
+use Rattle.wal_core.specs.Log.{IsReady}
 use Rattle.wal_core.proofs.Flush.{nothing_next}
 use Rattle.wal_core.proofs.Starts.{nothing_behind}
 use Rattle.wal_core.specs.declared.checkpoint.LastCheckpoint.{LastCheckpoint}
@@ -13,7 +14,7 @@ use Rattle.wal_core.specs.LastBatch.{last_batch}
 use Rattle.wal_core.specs.Checkpoint.{IsCheckpointIn, MayBegin}
 use Rattle.wal_core.proofs.LastBatches.{started_alone}
 use Rattle.wal_core.proofs.Keeping.{start_keeps}
-use Rattle.wal_core.proofs.GateWrites.{gate_within}
+use Rattle.wal_core.proofs.GateWrites.{gate_within, one_gate, opens_so, writes_so}
 use Rattle.wal_core.proofs.wal_log.WalLog.start.Goals as goal
 
 pub invariant_of-log : goal.invariant_of-log
@@ -58,13 +59,32 @@ returns-clause-keeps g c told =
     start_keeps found.first found.recs c.new.result found.counters found.gate next (found.first + length c.items.result.now + 0) v (d.images c.close_gate.new.disk) none last (omega (arith, ap length none)) (c.in-Ok-close_gate.ensures.synced told)
     (c.in-Ok-close_gate.ensures.opens told ∙ ap opened (c.read_log.ensures.same told) ∙ c.in-Ok.ensures.read told) (subst (λ (n : ℕ). IsReady found.gate [] found.counters n v) (sym last) (c.in-Ok-close_gate.ensures.ready told))
 
+-- ---- what a crash leaves: it was read first, and then the gate was written
+
 pub returns-clause-any_moment : goal.returns-clause-any_moment
 returns-clause-any_moment g c told ends =
     let d = g.D.LogDisk in let found = c.in-Ok.found in let d0 = c.args.disk in let mid = c.read_log.new.disk in
-    let v : Volume = d.reads d0 in
-    let same : d.reads mid ≡ v = c.read_log.ensures.same told in
-    let P : Volume → Type 0 = OpensAsBefore (d.images d0) in
-    let first = leaves_weaker d.moment d.left_at d0 mid (d.images d0) P (c.read_log.ensures.any_moment told) (λ x left. (x, left, (refl, λ e. e))) in
-    let within : IsSome found.counters → found.gate < length v.bytes = gate_within v found.first found.gate found.recs found.counters (c.in-Ok.ensures.read told) ends in
-    run_then d.moment d.left_at d0 mid c.close_gate.new.disk P (OpensAs (d.reads mid)) first
-    (c.in-Ok-close_gate.ensures.any_moment told (subst (λ (z : Volume). IsSome found.counters → found.gate < length z.bytes) (sym same) within)) (λ x q. (v, g.met.D.LogDisk.reads_image d0 told, subst (λ (z : Volume). OpensAs z x) same q))
+    let same = c.read_log.ensures.same told in
+    let within : IsSome found.counters → found.gate < length (d.reads d0).bytes = gate_within (d.reads d0) found.first found.gate found.recs found.counters (c.in-Ok.ensures.read told) ends in
+    opens_so d.moment d.left_at d.images d0 mid c.close_gate.new.disk (c.read_log.ensures.any_moment told) (d.reads d0) (d.reads mid) (g.met.D.LogDisk.reads_image d0 told) same
+    (c.close_gate.ensures.any_moment told (subst (λ (z : Volume). IsSome found.counters → found.gate < length z.bytes) (sym same) within))
+
+pub returns-in_default-close_gate-clause-any_moment_err : goal.returns-in_default-close_gate-clause-any_moment_err
+returns-in_default-close_gate-clause-any_moment_err g c told ends =
+    let d = g.D.LogDisk in let found = c.in-Ok.found in let d0 = c.args.disk in let mid = c.read_log.new.disk in
+    let same = c.read_log.ensures.same told in
+    let within : IsSome found.counters → found.gate < length (d.reads d0).bytes = gate_within (d.reads d0) found.first found.gate found.recs found.counters (c.in-Ok.ensures.read told) ends in
+    opens_so d.moment d.left_at d.images d0 mid c.close_gate.new.disk (c.read_log.ensures.any_moment told) (d.reads d0) (d.reads mid) (g.met.D.LogDisk.reads_image d0 told) same
+    (c.close_gate.ensures.any_moment told (subst (λ (z : Volume). IsSome found.counters → found.gate < length z.bytes) (sym same) within))
+
+pub returns-clause-written : goal.returns-clause-written
+returns-clause-written g c told =
+    let d = g.D.LogDisk in
+    writes_so d.moment d.left_at d.images c.args.disk c.read_log.new.disk c.close_gate.new.disk (c.read_log.ensures.any_moment told) c.in-Ok.found.gate (c.read_log.ensures.crash told) (c.close_gate.ensures.written told)
+
+pub returns-in_default-close_gate-clause-written_err : goal.returns-in_default-close_gate-clause-written_err
+returns-in_default-close_gate-clause-written_err g c told o is =
+    let d = g.D.LogDisk in let d0 = c.args.disk in let found = c.in-Ok.found in let last = c.close_gate.new.disk in
+    let gate : found.gate ≡ o.gate = one_gate (opened (d.reads d0)) _ o (c.in-Ok.ensures.read told) is in
+    subst (λ (k : ℕ). LeavesOnly d.moment d.left_at d0 last (IsWritten (d.images d0) k 1)) gate
+    (writes_so d.moment d.left_at d.images d0 c.read_log.new.disk last (c.read_log.ensures.any_moment told) found.gate (c.read_log.ensures.crash told) (c.close_gate.ensures.written told))

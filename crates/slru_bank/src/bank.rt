@@ -62,7 +62,8 @@ impl<P: PageDisk, O: PageRule> SlruBank<P, O> {
         ensures bank { CallsBank page self.old self.new result }
         ensures same { IsTrue P.tells → SamePages self.old self.new }
     {
-        if lies_before::<O>(self.cutoff, page) {
+        let is_cut = lies_before::<O>(self.cutoff, page);
+        if is_cut {
             return Err(BankRefusal::Cut {
                 cutoff: self.cutoff,
             });
@@ -115,7 +116,7 @@ impl<P: PageDisk, O: PageRule> SlruBank<P, O> {
     }
 
     /// Makes a page of zeros the last one, where it is past the last (`SimpleLruZeroPage`). A page that was made stays, so
-    /// whoever comes second wipes nothing.
+    /// whoever comes second wipes nothing, and asks the volume for nothing.
     pub fn zero(&mut self, page: u32) -> Result<(), BankRefusal>
         ensures ok { IsTrue P.tells → OnOk result (MatchBool (page_precedes O.shape O.per_page (last_page self.old) page)
             (PutsPage page zero_page (pages_of self.old) (pages_of self.new))
@@ -123,6 +124,9 @@ impl<P: PageDisk, O: PageRule> SlruBank<P, O> {
         ensures err { IsTrue P.tells → OnErr result (SamePages self.old self.new) }
         ensures last { last_page self.new ≡ cond (is_ok result && page_precedes O.shape O.per_page (last_page self.old) page) page (last_page self.old) }
         ensures calls { CallsPage page self.old self.new result }
+        ensures made_asks_nothing { page_precedes O.shape O.per_page (last_page self.old) page ≡ false
+            → (volume_of self.new ≡ volume_of self.old) × (result ≢ Err DiskFault) }
+        ensures at_hand { OnOk result (page_precedes O.shape O.per_page (last_page self.old) page ≡ true → IsAtHand page self.new) }
     {
         if lies_before::<O>(self.cutoff, page) {
             return Err(BankRefusal::Cut {

@@ -214,6 +214,7 @@ pub(crate) fn make_page<P: PageDisk>(
 pub(crate) fn blank_first(buffers: &mut Vec<Buffer>, page: u32)
     requires first { FirstMayHold page buffers.old.items }
     requires distinct { Distinct buffers.old.items }
+    ensures first { FirstHolds page buffers.new.items }
     ensures long { length buffers.new.items ≡ length buffers.old.items }
     ensures distinct { Distinct buffers.new.items }
     ensures agree { (pages : Pages) → AllAgree pages buffers.old.items → AllAgree pages buffers.new.items }

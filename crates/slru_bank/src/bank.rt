@@ -6,7 +6,7 @@ ghost use Rattle.disk_core.specs.Faults.{CountsFault, HasRisen};
 ghost use Rattle.disk_core.specs.Images.{Only};
 ghost use Rattle.disk_core.specs.Pages.{Pages, page_bytes, zero_page};
 ghost use Rattle.xid_order.specs.PageOrder.{is_cut, page_precedes};
-ghost use Rattle.slru_bank.specs.Bank.{map_of, Distinct, AllAgree, FirstHolds, PutsPage, OthersStay, masked, placed, IsPage, Distinct-prop, AllAgree-prop};
+ghost use Rattle.slru_bank.specs.Bank.{buffered, map_of, Distinct, AllAgree, FirstHolds, PutsPage, OthersStay, masked, placed, IsPage, Distinct-prop, AllAgree-prop};
 ghost use Rattle.slru_bank.specs.Crash.{SameMap, CrashLeaves, IsMixture, IsMixtureOrGone};
 ghost use Rattle.slru_bank.specs.Removal.{removes, later_cutoff, MayDrop, Drops, ClearsAfter, AllAbsent};
 ghost use Rattle.slru_bank.specs.declared.refusal.BankRefusal.TheVariants.{Cut, DiskFault};
@@ -52,6 +52,7 @@ impl<P: PageDisk, O: PageRule> SlruBank<P, O> {
         ensures cutoff { cutoff_of self.new ≡ cutoff_of self.old }
         ensures cause { CountsFault result (faults_of self.old) (faults_of self.new) }
         ensures same { IsTrue P.tells → SamePages self.old self.new }
+        ensures others { IsTrue P.tells → (q : ℕ) → buffered self.old.buffers.items q ≡ false → P.pages (volume_of self.new) q ≡ P.pages (volume_of self.old) q }
         ensures crash { CrashKeeps self.old self.new }
     {
         touch(&mut self.disk, &mut self.buffers, page)
@@ -160,6 +161,7 @@ impl<P: PageDisk, O: PageRule> SlruBank<P, O> {
         ensures ok { IsTrue P.tells → OnOk result (Drops (removes O.shape O.per_page removal) (pages_of self.old) (pages_of self.new)) }
         ensures any { IsTrue P.tells → MayDrop (removes O.shape O.per_page removal) (pages_of self.old) (pages_of self.new) }
         ensures absent { IsTrue P.tells → OnOk result (AllAbsent (removes O.shape O.per_page removal) (P.pages (volume_of self.new))) }
+        ensures unbuffered { OnOk result ((q : ℕ) → q < 2 ^ 32 → removes O.shape O.per_page removal q ≡ true → buffered self.new.buffers.items q ≡ false) }
         ensures last { last_page self.new ≡ last_page self.old }
         ensures cutoff { cutoff_of self.new ≡ cutoff_of self.old }
         ensures cause { CountsFault result (faults_of self.old) (faults_of self.new) }
@@ -189,6 +191,7 @@ impl<P: PageDisk, O: PageRule> SlruBank<P, O> {
     pub fn clear_after(&mut self, page: u32, at: u32) -> Result<(), BankRefusal>
         requires { at ≤ 8192 }
         ensures ok { IsTrue P.tells → OnOk result (ClearsAfter O.shape O.per_page page at (pages_of self.old) (pages_of self.new)) }
+        ensures absent { IsTrue P.tells → OnOk result (AllAbsent (page_precedes O.shape O.per_page page) (P.pages (volume_of self.new))) }
         ensures at_hand { OnOk result (IsAtHand page self.new) }
         ensures bank { TrimsBank (page_precedes O.shape O.per_page page) self.old self.new result }
     {

@@ -7,7 +7,7 @@ use Rattle.store_pages.specs.Layouts.{number_in}
 use Rattle.store_pages.specs.Pages.{mode_at, id_at}
 use Rattle.slru_bank.specs.Bank.{masked, PutsPage, IsPage}
 use Rattle.slru_bank.specs.Removal.{ClearsAfter}
-use Rattle.slru_bank.specs.ByteRange.{PutsNumber, other_number, cleared_before, cleared_number_before, cleared_number_past}
+use Rattle.slru_bank.specs.ByteRange.{PutsNumber, other_number, cleared_before, cleared_past, cleared_number_before, cleared_number_past}
 use Rattle.slru_bank.specs.declared.refusal.BankRefusal.{BankRefusal}
 use Rattle.multi_members.specs.Changes.{SetsMember, TrimsMembers}
 
@@ -89,6 +89,7 @@ sets_member m m1 m2 page place byte number within small first second =
         id = other_number page (id_at place) number m1 m2 (id_at k) second (id_apart k place differs) ∙ ap (λ (l : List ℕ). number_in l (id_at k)) first.puts.here
             ∙ number_stays (m page) (id_at k) (mode_at place) v (omega (arith, id_not_mode k place 0 (omega arith))) (id_not_mode k place 1 (omega arith)) (id_not_mode k place 2 (omega arith)) (id_not_mode k place 3 (omega arith));
       };
+      tail = λ i past. second.bytes i (inr (omega arith)) ∙ ap (λ (l : List ℕ). slice_index l i) first.puts.here ∙ get_or-set_other (m page) (mode_at place) i v 0 (omega arith);
       others = λ q apart. second.others q apart ∙ first.puts.others q apart;
     }
 
@@ -104,6 +105,8 @@ trims_members (Ok x) page place old new clears = record {
     mode = ap (λ (l : List ℕ). slice_index l (mode_at k)) clears.here ∙ cleared_before (old page) (id_at place) (mode_at k) (omega arith);
     id = ap (λ (l : List ℕ). number_in l (id_at k)) clears.here ∙ cleared_number_before (old page) (id_at place) (id_at k) (omega arith);
   };
+  before = λ i below. ap (λ (l : List ℕ). slice_index l i) clears.here ∙ cleared_before (old page) (id_at place) i below;
+  past = λ i from. ap (λ (l : List ℕ). slice_index l i) clears.here ∙ cleared_past (old page) (id_at place) i from;
   cleared = λ k from within. ap (λ (l : List ℕ). number_in l (id_at k)) clears.here ∙ cleared_number_past (old page) (id_at place) (id_at k) (omega arith);
   zeros = clears.zeros;
   stay = clears.stay;

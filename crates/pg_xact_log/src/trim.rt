@@ -6,7 +6,7 @@ ghost use Rattle.xid_order.specs.PageOrder.{Ids, page_precedes};
 ghost use Rattle.store_pages.specs.Layouts.{xact_page_of, xact_place_of};
 ghost use Rattle.store_pages.specs.Pages.{xacts_per_page};
 ghost use Rattle.slru_bank.specs.Bank.{masked, PutsPage, IsPage};
-ghost use Rattle.slru_bank.specs.Calls.{CrashMayLack, IsCut, cutoff_of, faults_of, last_page, pages_of};
+ghost use Rattle.slru_bank.specs.Calls.{CrashMayLack, IsCut, SamePages, cutoff_of, faults_of, last_page, pages_of};
 ghost use Rattle.slru_bank.specs.Removal.{MayDrop};
 ghost use Rattle.slru_bank.specs.declared.refusal.BankRefusal.TheVariants.{Cut, DiskFault};
 ghost use Rattle.pg_xact_log.specs.Changes.{TrimsStates};
@@ -31,7 +31,8 @@ fn mask_from(place: u32) -> u8
 }
 
 /// Clears the states from an id on: the rest of its page, and each later page is removed (`TrimCLOG`). A bank that isn't
-/// the page's loses its later pages alone. After an `Err` some of the later pages are removed, and no other one changed.
+/// the page's loses its later pages alone. After `Cut` nothing is changed, after `DiskFault` some of the later pages are
+/// removed and no other one changed.
 pub fn trim_after<P: PageDisk>(
     bank: &mut SlruBank<P, XactPages>,
     next: FullXid,
@@ -43,6 +44,7 @@ pub fn trim_after<P: PageDisk>(
     // Only where the id isn't the first of its byte, since that byte is read then.
     ensures cut { low_half next % 4 ≢ 0 → IsCut (xact_page_of next) bank.old → result ≡ Err (Cut (cutoff_of bank.old)) }
     ensures only_cut { (c : ℕ) → result ≡ Err (Cut c) → (c ≡ cutoff_of bank.old) × (low_half next % 4 ≢ 0) × IsCut (xact_page_of next) bank.old }
+    ensures cut_same { IsTrue P.tells → (c : ℕ) → result ≡ Err (Cut c) → SamePages bank.old bank.new }
     ensures fault { result ≡ Err DiskFault → HasRisen (faults_of bank.old) (faults_of bank.new) }
     ensures count { faults_of bank.old ≤ faults_of bank.new }
     ensures crash { CrashMayLack (page_precedes Ids xacts_per_page (xact_page_of next)) bank.old bank.new }
@@ -70,6 +72,7 @@ fn trim_within<P: PageDisk>(
     ensures cutoff { cutoff_of bank.new ≡ cutoff_of bank.old }
     ensures cut { IsCut page bank.old → result ≡ Err (Cut (cutoff_of bank.old)) }
     ensures only_cut { (c : ℕ) → result ≡ Err (Cut c) → (c ≡ cutoff_of bank.old) × IsCut page bank.old }
+    ensures cut_same { IsTrue P.tells → (c : ℕ) → result ≡ Err (Cut c) → SamePages bank.old bank.new }
     ensures fault { result ≡ Err DiskFault → HasRisen (faults_of bank.old) (faults_of bank.new) }
     ensures count { faults_of bank.old ≤ faults_of bank.new }
     ensures crash { CrashMayLack (page_precedes Ids xacts_per_page page) bank.old bank.new }

@@ -259,7 +259,7 @@ found_nth [] i b q within h = absurd (omega arith)
 found_nth (x ∷ xs) zero b q within h = rw h refl
 found_nth (x ∷ xs) (suc i) b q within h = found (holds x.page q) (buffered xs q) (found_nth xs i b q (omega arith) h)
 
-other_nth : (xs : List Buffer) (i : ℕ) (b : Buffer) (q : ℕ) → i < length xs → buffered xs q ≡ false → holds (get_or xs i b).page q ≡ false
+pub other_nth : (xs : List Buffer) (i : ℕ) (b : Buffer) (q : ℕ) → i < length xs → buffered xs q ≡ false → holds (get_or xs i b).page q ≡ false
 other_nth xs i b q within lacks =
     ⊎_elim (λ (h : holds (get_or xs i b).page q ≡ true). let has : buffered xs q ≡ true = found_nth xs i b q within h in absurd cc) (λ (h : holds (get_or xs i b).page q ≡ false). h) (two_ways (holds (get_or xs i b).page q))
 

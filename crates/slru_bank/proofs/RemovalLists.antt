@@ -217,3 +217,12 @@ drop_same gone m m1 m2 first same = drop_then gone m m1 m2 first (record { stay 
 pub on_err : {T E : Type 0} (P : Type 0) (r : Result T E) → P → OnErr r P
 on_err P (Ok x) holds = tt
 on_err P (Err e) holds = holds
+
+-- ---- no buffer has a page that was removed
+
+pub kept_unbuffered : (gone : ℕ → Bool) (bs : List Buffer) (q : ℕ) → KeepUpTo gone (length bs) bs → gone q ≡ true → buffered bs q ≡ false
+kept_unbuffered gone [] q keep taken = refl
+kept_unbuffered gone (b ∷ bs) q keep taken = ⊎_elim
+    (λ (h : holds b.page q ≡ true). let stays : gone q ≡ false = keep.0 q (holds_same b.page q h) in absurd cc)
+    (λ (h : holds b.page q ≡ false). rw h (kept_unbuffered gone bs q keep.1 taken))
+    (two_ways (holds b.page q))

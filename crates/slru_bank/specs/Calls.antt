@@ -55,11 +55,12 @@ module _ {P O : Type 0} {g : DiskGhosts P} {r : RuleGhosts O} where
   CrashMayLack gone old new =
       IsTrue g.tells → CrashLeaves (IsMixtureOrGone gone (pages_of old) (pages_of old)) g.images g.moment g.left_at old.disk new.disk
 
-  -- the cutoff stays, and each refusal has its cause
+  -- the cutoff stays, each refusal has its cause, and a page that is cut asks the volume for nothing
   pub record CallsPage {X : Type 0} (page : ℕ) (old new : SlruBank P O g r) (result : Result X BankRefusal) : Type 0 where
     pub cutoff : cutoff_of new ≡ cutoff_of old
     pub cut : IsCut page old → result ≡ Err (Cut (cutoff_of old))
     pub only_cut : (c : ℕ) → result ≡ Err (Cut c) → (c ≡ cutoff_of old) × IsCut page old
+    pub cut_asks_nothing : IsCut page old → volume_of new ≡ volume_of old
     pub fault : result ≡ Err DiskFault → HasRisen (faults_of old) (faults_of new)
     pub count : faults_of old ≤ faults_of new
     pub crash : CrashKeeps old new
@@ -121,6 +122,7 @@ module _ {P O : Type 0} {g : DiskGhosts P} {r : RuleGhosts O} {X Y : Type 0} (pa
     calls = record {
       cutoff = again.calls.cutoff ∙ calls.calls.cutoff;
       cut = λ cut. let was = calls.calls.cut cut in absurd cc;
+      cut_asks_nothing = λ cut. let was = calls.calls.cut cut in absurd cc;
       only_cut = λ cutoff refused. absurd (second_is_ok is calls again (Cut cutoff) refused);
       fault = λ refused. absurd (second_is_ok is calls again DiskFault refused);
       count = omega (arith, calls.calls.count, again.calls.count);

@@ -6,7 +6,7 @@ ghost use Rattle.disk_core.specs.Faults.{CountsFault, HasRisen};
 ghost use Rattle.disk_core.specs.Images.{Only};
 ghost use Rattle.disk_core.specs.Pages.{Pages, page_bytes, zero_page};
 ghost use Rattle.xid_order.specs.PageOrder.{is_cut, page_precedes};
-ghost use Rattle.slru_bank.specs.Bank.{map_of, Distinct, AllAgree, FirstHolds, PutsPage, OthersStay, masked, placed, IsPage, Distinct-prop, AllAgree-prop};
+ghost use Rattle.slru_bank.specs.Bank.{buffered, map_of, Distinct, AllAgree, FirstHolds, PutsPage, OthersStay, masked, placed, IsPage, Distinct-prop, AllAgree-prop};
 ghost use Rattle.slru_bank.specs.Crash.{SameMap, CrashLeaves, IsMixture, IsMixtureOrGone};
 ghost use Rattle.slru_bank.specs.Removal.{removes, later_cutoff, MayDrop, Drops, ClearsAfter, AllAbsent};
 ghost use Rattle.slru_bank.specs.declared.refusal.BankRefusal.TheVariants.{Cut, DiskFault};
@@ -52,6 +52,7 @@ impl<P: PageDisk, O: PageRule> SlruBank<P, O> {
         ensures cutoff { cutoff_of self.new ≡ cutoff_of self.old }
         ensures cause { CountsFault result (faults_of self.old) (faults_of self.new) }
         ensures same { IsTrue P.tells → SamePages self.old self.new }
+        ensures others { IsTrue P.tells → (q : ℕ) → buffered self.old.buffers.items q ≡ false → P.pages (volume_of self.new) q ≡ P.pages (volume_of self.old) q }
         ensures crash { CrashKeeps self.old self.new }
     {
         touch(&mut self.disk, &mut self.buffers, page)
@@ -62,7 +63,8 @@ impl<P: PageDisk, O: PageRule> SlruBank<P, O> {
         ensures bank { CallsBank page self.old self.new result }
         ensures same { IsTrue P.tells → SamePages self.old self.new }
     {
-        if lies_before::<O>(self.cutoff, page) {
+        let is_cut = lies_before::<O>(self.cutoff, page);
+        if is_cut {
             return Err(BankRefusal::Cut {
                 cutoff: self.cutoff,
             });
@@ -115,7 +117,7 @@ impl<P: PageDisk, O: PageRule> SlruBank<P, O> {
     }
 
     /// Makes a page of zeros the last one, where it is past the last (`SimpleLruZeroPage`). A page that was made stays, so
-    /// whoever comes second wipes nothing.
+    /// whoever comes second wipes nothing, and asks the volume for nothing.
     pub fn zero(&mut self, page: u32) -> Result<(), BankRefusal>
         ensures ok { IsTrue P.tells → OnOk result (MatchBool (page_precedes O.shape O.per_page (last_page self.old) page)
             (PutsPage page zero_page (pages_of self.old) (pages_of self.new))
@@ -123,6 +125,9 @@ impl<P: PageDisk, O: PageRule> SlruBank<P, O> {
         ensures err { IsTrue P.tells → OnErr result (SamePages self.old self.new) }
         ensures last { last_page self.new ≡ cond (is_ok result && page_precedes O.shape O.per_page (last_page self.old) page) page (last_page self.old) }
         ensures calls { CallsPage page self.old self.new result }
+        ensures made_asks_nothing { page_precedes O.shape O.per_page (last_page self.old) page ≡ false
+            → (volume_of self.new ≡ volume_of self.old) × (result ≢ Err DiskFault) }
+        ensures at_hand { OnOk result (page_precedes O.shape O.per_page (last_page self.old) page ≡ true → IsAtHand page self.new) }
     {
         if lies_before::<O>(self.cutoff, page) {
             return Err(BankRefusal::Cut {
@@ -156,6 +161,7 @@ impl<P: PageDisk, O: PageRule> SlruBank<P, O> {
         ensures ok { IsTrue P.tells → OnOk result (Drops (removes O.shape O.per_page removal) (pages_of self.old) (pages_of self.new)) }
         ensures any { IsTrue P.tells → MayDrop (removes O.shape O.per_page removal) (pages_of self.old) (pages_of self.new) }
         ensures absent { IsTrue P.tells → OnOk result (AllAbsent (removes O.shape O.per_page removal) (P.pages (volume_of self.new))) }
+        ensures unbuffered { OnOk result ((q : ℕ) → q < 2 ^ 32 → removes O.shape O.per_page removal q ≡ true → buffered self.new.buffers.items q ≡ false) }
         ensures last { last_page self.new ≡ last_page self.old }
         ensures cutoff { cutoff_of self.new ≡ cutoff_of self.old }
         ensures cause { CountsFault result (faults_of self.old) (faults_of self.new) }
@@ -185,6 +191,7 @@ impl<P: PageDisk, O: PageRule> SlruBank<P, O> {
     pub fn clear_after(&mut self, page: u32, at: u32) -> Result<(), BankRefusal>
         requires { at ≤ 8192 }
         ensures ok { IsTrue P.tells → OnOk result (ClearsAfter O.shape O.per_page page at (pages_of self.old) (pages_of self.new)) }
+        ensures absent { IsTrue P.tells → OnOk result (AllAbsent (page_precedes O.shape O.per_page page) (P.pages (volume_of self.new))) }
         ensures at_hand { OnOk result (IsAtHand page self.new) }
         ensures bank { TrimsBank (page_precedes O.shape O.per_page page) self.old self.new result }
     {

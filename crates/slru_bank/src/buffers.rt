@@ -53,6 +53,7 @@ fn write_first<P: PageDisk>(disk: &mut P, buffers: &mut [Buffer]) -> Result<(), 
     ensures distinct { Distinct buffers.new }
     ensures has { (q : ℕ) → buffered buffers.new q ≡ buffered buffers.old q }
     ensures stays { IsTrue P.tells → StaysUp (P.pages disk.old) (P.pages disk.new) buffers.old buffers.new }
+    ensures others { IsTrue P.tells → (q : ℕ) → buffered buffers.old q ≡ false → P.pages disk.new q ≡ P.pages disk.old q }
     ensures crash { IsTrue P.tells → CrashLeaves (IsMixture (map_of (P.pages disk.old) buffers.old) (map_of (P.pages disk.old) buffers.old)) P.images P.moment P.left_at disk.old disk.new }
     ensures cause { CountsFault result (P.faults disk.old) (P.faults disk.new) }
 {
@@ -68,6 +69,7 @@ fn read_first<P: PageDisk>(disk: &mut P, buffers: &mut [Buffer], page: u32) -> R
     ensures first { OnOk result (FirstHolds page buffers.new) }
     ensures distinct { Distinct buffers.new }
     ensures stays { IsTrue P.tells → StaysUp (P.pages disk.old) (P.pages disk.new) buffers.old buffers.new }
+    ensures same { IsTrue P.tells → P.pages disk.new ≡ P.pages disk.old }
     ensures crash { IsTrue P.tells → CrashLeaves (IsMixture (map_of (P.pages disk.old) buffers.old) (map_of (P.pages disk.old) buffers.old)) P.images P.moment P.left_at disk.old disk.new }
     ensures cause { CountsFault result (P.faults disk.old) (P.faults disk.new) }
 {
@@ -90,6 +92,7 @@ pub(crate) fn touch<P: PageDisk>(
     ensures not_asked { FirstHolds page buffers.old → disk.new ≡ disk.old }
     ensures distinct { Distinct buffers.new }
     ensures stays { IsTrue P.tells → StaysUp (P.pages disk.old) (P.pages disk.new) buffers.old buffers.new }
+    ensures others { IsTrue P.tells → (q : ℕ) → buffered buffers.old q ≡ false → P.pages disk.new q ≡ P.pages disk.old q }
     ensures crash { IsTrue P.tells → CrashLeaves (IsMixture (map_of (P.pages disk.old) buffers.old) (map_of (P.pages disk.old) buffers.old)) P.images P.moment P.left_at disk.old disk.new }
     ensures cause { CountsFault result (P.faults disk.old) (P.faults disk.new) }
 {
@@ -214,6 +217,7 @@ pub(crate) fn make_page<P: PageDisk>(
 pub(crate) fn blank_first(buffers: &mut Vec<Buffer>, page: u32)
     requires first { FirstMayHold page buffers.old.items }
     requires distinct { Distinct buffers.old.items }
+    ensures first { FirstHolds page buffers.new.items }
     ensures long { length buffers.new.items ≡ length buffers.old.items }
     ensures distinct { Distinct buffers.new.items }
     ensures agree { (pages : Pages) → AllAgree pages buffers.old.items → AllAgree pages buffers.new.items }

@@ -1,7 +1,7 @@
 // The pages of the commit log. After PostgreSQL's `src/backend/access/transam/clog.c`.
 ghost use Rattle.std.specs.Prelude.{◌≡◌, ◌<◌, ◌+◌, ◌*◌, ◌%◌, ◌^◌, ℕ};
 ghost use Rattle.xid_order.specs.Ids.{low_half};
-ghost use Rattle.xid_order.specs.PageOrder.{Ids};
+ghost use Rattle.xid_order.specs.PageOrder.{Ids, page_precedes};
 ghost use Rattle.store_pages.specs.Pages.{xact_page, xact_place, xacts_per_page};
 
 use crate::page_rule::PageRule;
@@ -45,7 +45,9 @@ impl PageRule for XactPages {
     ghost per_page = { xacts_per_page };
 
     /// A page is seen by its fifth id, as in `CLOGPagePrecedes`: the first ones of page 0 are the special ids.
-    fn precedes(p: u32, q: u32) -> bool {
+    fn precedes(p: u32, q: u32) -> bool
+        ensures order { result ≡ page_precedes Ids xacts_per_page p q }
+    {
         let first = id_on(p, 4);
         precedes(first, id_on(q, 4)) && precedes(first, id_on(q, XACTS_PER_PAGE + 3))
     }

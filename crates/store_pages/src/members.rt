@@ -1,7 +1,7 @@
 // The pages of the members of multixacts. After PostgreSQL's `src/backend/access/transam/multixact.c`.
 ghost use Rattle.std.specs.Prelude.{◌≡◌, ◌<◌, ◌≤◌, ◌+◌, ◌*◌, ◌%◌, ◌^◌, ℕ};
 ghost use Rattle.xid_order.specs.Ids.{low_half};
-ghost use Rattle.xid_order.specs.PageOrder.{Offsets};
+ghost use Rattle.xid_order.specs.PageOrder.{Offsets, page_precedes};
 ghost use Rattle.store_pages.specs.Pages.{id_at, member_page, member_page_in_full, member_place, members_per_page, mode_at};
 
 use crate::page_rule::PageRule;
@@ -65,7 +65,9 @@ impl PageRule for MemberPages {
     ghost per_page = { members_per_page };
 
     /// A page is seen by its first offset, as in `MultiXactMemberPagePrecedes`.
-    fn precedes(p: u32, q: u32) -> bool {
+    fn precedes(p: u32, q: u32) -> bool
+        ensures order { result ≡ page_precedes Offsets members_per_page p q }
+    {
         let first = offset_on(p, 0);
         offset_precedes(first, offset_on(q, 0))
             && offset_precedes(first, offset_on(q, MEMBERS_PER_PAGE - 1))

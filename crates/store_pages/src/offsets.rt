@@ -1,7 +1,7 @@
 // The pages of the offsets of multixacts. After PostgreSQL's `src/backend/access/transam/multixact.c`.
 ghost use Rattle.std.specs.Prelude.{◌≡◌, ◌<◌, ◌+◌, ◌*◌, ◌%◌, ◌^◌, ℕ};
 ghost use Rattle.xid_order.specs.Ids.{low_half};
-ghost use Rattle.xid_order.specs.PageOrder.{Multis};
+ghost use Rattle.xid_order.specs.PageOrder.{Multis, page_precedes};
 ghost use Rattle.store_pages.specs.Pages.{offset_page, offset_place, offsets_per_page};
 
 use crate::page_rule::PageRule;
@@ -45,7 +45,9 @@ impl PageRule for OffsetPages {
     ghost per_page = { offsets_per_page };
 
     /// A page is seen by its third multixact, as in `MultiXactOffsetPagePrecedes`.
-    fn precedes(p: u32, q: u32) -> bool {
+    fn precedes(p: u32, q: u32) -> bool
+        ensures order { result ≡ page_precedes Multis offsets_per_page p q }
+    {
         let first = multi_on(p, 2);
         multi_precedes(first, multi_on(q, 2))
             && multi_precedes(first, multi_on(q, OFFSETS_PER_PAGE + 1))

@@ -1,7 +1,7 @@
 // The pages of the parents of subtransactions. After PostgreSQL's `src/backend/access/transam/subtrans.c`.
 ghost use Rattle.std.specs.Prelude.{◌≡◌, ◌<◌, ◌+◌, ◌*◌, ◌%◌, ◌^◌, ℕ};
 ghost use Rattle.xid_order.specs.Ids.{low_half};
-ghost use Rattle.xid_order.specs.PageOrder.{Ids};
+ghost use Rattle.xid_order.specs.PageOrder.{Ids, page_precedes};
 ghost use Rattle.store_pages.specs.Pages.{parents_per_page, subtrans_page, subtrans_place};
 
 use crate::page_rule::PageRule;
@@ -45,7 +45,9 @@ impl PageRule for SubtransPages {
     ghost per_page = { parents_per_page };
 
     /// A page is seen by its fifth id, as in `SubTransPagePrecedes`.
-    fn precedes(p: u32, q: u32) -> bool {
+    fn precedes(p: u32, q: u32) -> bool
+        ensures order { result ≡ page_precedes Ids parents_per_page p q }
+    {
         let first = id_on(p, 4);
         precedes(first, id_on(q, 4)) && precedes(first, id_on(q, PARENTS_PER_PAGE + 3))
     }

@@ -56,3 +56,7 @@ returns-clause-ok g c told =
       zeros = λ q within taken. puts.others q (λ e. let both : page_precedes shape n page q ≡ false = ap (page_precedes shape n page) e ∙ itself in absurd cc) ∙ same q ∙ drops.zeros q within taken;
       stay = λ q differs kept. puts.others q differs ∙ same q ∙ drops.stay q kept;
     }
+
+-- the load writes a buffered page alone, and no removed page is buffered
+pub returns-clause-absent : goal.returns-clause-absent
+returns-clause-absent g c told q within taken = c.load.ensures.others told q (c.in_ok-remove.ensures.unbuffered q within taken) ∙ c.in_ok-remove.ensures.absent told q within taken

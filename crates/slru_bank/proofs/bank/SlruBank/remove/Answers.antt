@@ -4,7 +4,7 @@ use Rattle.slru_bank.specs.declared.buffer.Buffer.{Buffer}
 use Rattle.slru_bank.specs.Bank.{map_of}
 use Rattle.slru_bank.specs.Crash.{wider, IsMixtureOrGone}
 use Rattle.slru_bank.specs.Removal.{removes, MayDrop, MayLack}
-use Rattle.slru_bank.proofs.RemovalLists.{drop_then, drop_same, lack_map, lack_agree, lack_all}
+use Rattle.slru_bank.proofs.RemovalLists.{kept_unbuffered, drop_then, drop_same, lack_map, lack_agree, lack_all}
 use Rattle.slru_bank.proofs.ZeroBytes.{gone_mixture}
 use Rattle.slru_bank.proofs.bank.SlruBank.remove.Goals as goal
 
@@ -79,3 +79,6 @@ returns-clause-crash g c told =
     let gone : ℕ → Bool = removes g.O.PageRule.shape g.O.PageRule.per_page c.args.removal in
     let m : ℕ → List ℕ = map_of (d.pages c.args.self.now.disk) c.args.self.now.buffers.items in
     wider d.images d.moment d.left_at (MayLack gone) (IsMixtureOrGone gone m m) c.args.self.now.disk c.remove_pages.new.disk (gone_mixture gone m m) (c.remove_pages.ensures.crash told)
+
+pub returns-clause-unbuffered : goal.returns-clause-unbuffered
+returns-clause-unbuffered g c q within taken = kept_unbuffered (removes g.O.PageRule.shape g.O.PageRule.per_page c.args.removal) c.empty_removed.new.buffers.items q c.empty_removed.ensures.keep taken

@@ -70,7 +70,10 @@ fn the_first_wrong_line_is_named(rt: HostRuntime) -> Result<(), Fail> {
         ("round 2\n", 3),
         ("history\nmultis\nlog flushed 0 end 0\n1 commit 3\n", 6),
         // A session speaks again after another, a reply of another command, a line behind the last.
-        ("round 1\na 1 begin -> ok\nb 1 begin -> ok\na 2 write -> ok -\n", 6),
+        (
+            "round 1\na 1 begin -> ok\nb 1 begin -> ok\na 2 write -> ok -\n",
+            6,
+        ),
         ("round 1\na 1 begin -> visible\n", 4),
         ("history\nmultis\nlog flushed 0 end 0\nend\nend\n", 7),
     ];

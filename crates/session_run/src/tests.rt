@@ -255,6 +255,6 @@ fn script_past_the_limit_is_refused(rt: HostRuntime) -> Result<(), Fail> {
     let mut sink = MemSink::new(alloc, 100, Vec::new(alloc))?;
     let words = [String::from_str(alloc, "run")?];
     assert_eq!(rt; run_tool(alloc, &words, &mut Endless, &mut sink), 1);
-    assert_eq!(rt; sink.held(), b"script 0 form\n".as_slice());
+    assert_eq!(rt; sink.held(), b"script 0 size\n".as_slice());
     Ok(())
 }

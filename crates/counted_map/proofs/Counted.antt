@@ -1,5 +1,5 @@
--- Keys that are numbers.
-use Rattle.std.proofs.Common.{◌≡◌, ℕ, ◌<◌, Bool, true, false, ◌==◌, cond, refl, arith, Less, Equal, Greater}
+-- Keys that are numbers, and what is said after an error.
+use Rattle.std.proofs.Common.{◌≡◌, ℕ, ◌<◌, Bool, true, false, ◌==◌, cond, refl, arith, Less, Equal, Greater, Result, Ok, Err, OnErr}
 use Rattle.std.proofs.lemmas.Bool.Decides.{nat_tests}
 use Rattle.std.specs.Prelude.{nat_lt}
 use Rattle.std.specs.Ordering.{nat_cmp, is_eq}
@@ -12,3 +12,7 @@ cmp_eq a b = one (nat_lt a b) refl (a == b) refl
     one true e false f = refl
     one false e true f = refl
     one false e false f = refl
+
+pub on_err : {T E : Type 0} (P : Type 0) (r : Result T E) → P → OnErr r P
+on_err P (Ok x) holds = tt
+on_err P (Err e) holds = holds

@@ -12,9 +12,7 @@ use crate::places::{first_member, place_of};
 use horizon_limits::check_multi;
 use std::alloc::Global;
 use std::marker::Model;
-use tx_events::{
-    By, Copied, Counters, MemberList, Memory, MultiEvent, Refusal, make_one_room, make_room,
-};
+use tx_events::{By, Copied, Counters, MemberList, MultiEvent, Refusal, make_one_room, make_room};
 use xid_order::{FullMulti, MultiId, member_stop, near_multi};
 
 /// The generator of multixacts, and their history so far. A contract sees the base of the life and the events.
@@ -77,16 +75,9 @@ impl MultiGen {
         if stop <= end {
             return Err(Refusal::MemberStop { next: offset, stop });
         }
-        let members = match members.copy() {
-            Ok(members) => members,
-            Err(Memory) => return Err(Refusal::Memory),
-        };
-        if !make_one_room(&mut self.offsets) {
-            return Err(Refusal::Memory);
-        }
-        if !make_room(&mut self.events, self.promised, 1) {
-            return Err(Refusal::Memory);
-        }
+        let members = members.copy()?;
+        make_one_room(&mut self.offsets)?;
+        make_room(&mut self.events, self.promised, 1)?;
         self.offsets.push_reserved(offset);
         self.events.push_reserved(MultiEvent::Gen {
             by,
@@ -111,10 +102,7 @@ impl MultiGen {
         requires { 1 ≤ m.number }
         ensures { Holds self.old self.new by m.number result }
     {
-        let multi = match self.meant_by(m) {
-            Ok(multi) => multi,
-            Err(refusal) => return Err(refusal),
-        };
+        let multi = self.meant_by(m)?;
         let held = Held {
             multi,
             last: multi.advance() == self.counters.multi,
@@ -122,16 +110,12 @@ impl MultiGen {
             start: self.start_of(multi),
             most: self.base.offset,
         };
-        if !make_room(&mut self.events, self.promised, 2) {
-            return Err(Refusal::Memory);
-        }
+        make_room(&mut self.events, self.promised, 2)?;
         let pin = PinKey {
             multi,
             session: by.session,
         };
-        if !add_pin(&mut self.pins, pin) {
-            return Err(Refusal::Memory);
-        }
+        add_pin(&mut self.pins, pin)?;
         self.events.push_reserved(MultiEvent::Hold { by, multi });
         self.promised += 1;
         Ok(held)
@@ -168,9 +152,7 @@ impl MultiGen {
         if limit < multi {
             return Err(Refusal::Held { limit });
         }
-        if !make_room(&mut self.events, self.promised, 1) {
-            return Err(Refusal::Memory);
-        }
+        make_room(&mut self.events, self.promised, 1)?;
         self.events
             .push_reserved(MultiEvent::Raise { by, multi, offset });
         self.counters.oldest_multi = multi;

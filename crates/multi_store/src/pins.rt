@@ -1,11 +1,12 @@
 //! How often each session pins a multixact.
-ghost use Rattle.std.specs.Prelude.{◌≡◌, ℕ, ◌+◌, ◌^◌, ◌<◌, ◌↔◌, IsTrue, List, [], ◌∷◌, ◌++◌, Contains, IfSome, map, min, true, false};
+ghost use Rattle.std.specs.Prelude.{◌≡◌, ℕ, ◌+◌, ◌^◌, ◌<◌, ◌↔◌, IsTrue, List, [], ◌∷◌, ◌++◌, Contains, IfSome, OnOk, OnErr, map, min};
 ghost use Rattle.std.specs.List.{fold};
 ghost use Rattle.std.specs.BTreeMap.{get};
 ghost use Rattle.tx_events.specs.Multis.{Pin, without_pin};
 ghost use Rattle.multi_store.specs.Pins.{IsTally, pin_of, pin_cmp};
 
 use counted_map::CountedMap;
+use tx_events::Memory;
 use xid_order::FullMulti;
 
 /// A pin: the multixact, and the session that holds it. Ordered by multixact first.
@@ -18,16 +19,14 @@ pub struct PinKey {
 /// How often each pin is held.
 pub type PinCounts = CountedMap<PinKey>;
 
-/// Counts the pin once more. False for want of memory, and then nothing changed.
-pub fn add_pin(counts: &mut PinCounts, pin: PinKey) -> bool
+/// Counts the pin once more. After want of memory nothing changed.
+pub fn add_pin(counts: &mut PinCounts, pin: PinKey) -> Result<(), Memory>
     requires fits { IfSome (get pin_cmp counts.old.counts pin) (λ n. n + 1 < 2 ^ 64) }
-    ensures more { result ≡ true → (pins : List Pin) → IsTally pins counts.old → IsTally (pins ++ pin_of pin ∷ []) counts.new }
-    ensures same { result ≡ false → (pins : List Pin) → IsTally pins counts.old → IsTally pins counts.new }
+    ensures more { OnOk result ((pins : List Pin) → IsTally pins counts.old → IsTally (pins ++ pin_of pin ∷ []) counts.new) }
+    ensures same { OnErr result ((pins : List Pin) → IsTally pins counts.old → IsTally pins counts.new) }
 {
-    match counts.add(pin) {
-        Ok(()) => true,
-        Err(_) => false,
-    }
+    counts.add(pin)?;
+    Ok(())
 }
 
 /// Counts the pin once less. Takes no memory.

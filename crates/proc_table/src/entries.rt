@@ -1,5 +1,5 @@
 //! Running transactions together: what a snapshot lists of them, and which ids run.
-ghost use Rattle.std.specs.Prelude.{◌≡◌, ◌==◌, ◌<◌, ◌^◌, ℕ, [], false, not, map, min, nat_lt, true, IfSome, IfNone, IfOk};
+ghost use Rattle.std.specs.Prelude.{◌≡◌, ◌==◌, ◌<◌, ◌^◌, ℕ, [], false, not, map, min, nat_lt, IfSome, IfNone, IfOk, OnOk};
 ghost use Rattle.std.specs.List.{All, Any, filter, fold, list_any};
 ghost use Rattle.tx_events.specs.IdLists.{has};
 ghost use Rattle.proc_table.specs.declared.entry.Entry.{Entry};
@@ -37,17 +37,15 @@ pub fn top_of(entries: &[Entry], session: u32) -> Option<FullXid>
     None
 }
 
-/// Makes room for one more subid of this session. False for want of memory.
-pub fn make_sub_room(entries: &mut Vec<Entry>, session: u32) -> bool
+/// Makes room for one more subid of this session.
+pub fn make_sub_room(entries: &mut Vec<Entry>, session: u32) -> Result<(), Memory>
     ensures same { IsEach IsSame entries.old.items entries.new.items }
-    ensures room { result ≡ true → All (HasRoomFor session) entries.new.items }
+    ensures room { OnOk result (All (HasRoomFor session) entries.new.items) }
 {
-    let mut room = true;
     for i in 0..entries.len() {
-        let made = entries[i].make_room(session);
-        room = room && made;
+        entries[i].make_room(session)?;
     }
-    room
+    Ok(())
 }
 
 /// Adds a subid to the entry of this session.

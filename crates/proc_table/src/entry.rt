@@ -1,5 +1,5 @@
 //! One running transaction and its open subids (`PGPROC`, and its cache of subids in `src/include/storage/proc.h`).
-ghost use Rattle.std.specs.Prelude.{◌≡◌, ◌++◌, ◌==◌, ◌^◌, ◌||◌, ◌<◌, [], ◌∷◌, not, true, false, max};
+ghost use Rattle.std.specs.Prelude.{◌≡◌, ◌++◌, ◌==◌, ◌^◌, ◌||◌, ◌<◌, [], ◌∷◌, not, true, false, max, OnOk};
 ghost use Rattle.std.specs.List.{filter, fold};
 ghost use Rattle.std.specs.Vec.{vec_len, vec_capacity};
 ghost use Rattle.tx_events.specs.IdLists.{has, Ascending};
@@ -8,6 +8,7 @@ ghost use Rattle.proc_table.specs.Entries.{IsSame, IsAdded, IsTaken, HasRoomFor}
 
 use snap_core::is_listed;
 use std::alloc::Global;
+use tx_events::Memory;
 use xid_order::FullXid;
 
 /// How many running subids an entry lists in a snapshot (`PGPROC_MAX_CACHED_SUBXIDS`).
@@ -46,12 +47,15 @@ impl Entry {
         }
     }
 
-    /// Makes room for one more subid, if it is the entry of this session. False for want of memory.
-    pub fn make_room(&mut self, session: u32) -> bool
+    /// Makes room for one more subid, if it is the entry of this session.
+    pub fn make_room(&mut self, session: u32) -> Result<(), Memory>
         ensures same { IsSame self.old self.new }
-        ensures room { result ≡ true → HasRoomFor session self.new }
+        ensures room { OnOk result (HasRoomFor session self.new) }
     {
-        self.session != session || self.subs.reserve(1).is_ok()
+        if self.session == session {
+            self.subs.reserve(1)?;
+        }
+        Ok(())
     }
 
     /// Takes one more subid, if it is the entry of this session.

@@ -60,9 +60,7 @@ impl LiveSnapshots {
         ensures sessions { length self.new.sessions.items ≡ length self.old.sessions.items }
     {
         let key = bytes_of(*self.sessions.allocator(), name)?;
-        if !count_more(&mut self.xmins, xmin) {
-            return Err(Memory);
-        }
+        count_more(&mut self.xmins, xmin)?;
         match put_name(&mut self.sessions[session as usize], key, xmin) {
             Ok(()) => Ok(()),
             Err(Memory) => {

@@ -112,12 +112,8 @@ impl ProcTable {
             return Ok(Given::NeedPage { id });
         }
         let warn = check_id(self.oldest, id)?;
-        if !make_one_room(&mut self.entries) {
-            return Err(Refusal::Memory);
-        }
-        if !make_room(&mut self.events, self.owed_events, 2) {
-            return Err(Refusal::Memory);
-        }
+        make_one_room(&mut self.entries)?;
+        make_room(&mut self.events, self.owed_events, 2)?;
         let alloc = *self.events.allocator();
         self.entries
             .push_reserved(Entry::of_top(alloc, by.session, id));
@@ -140,12 +136,8 @@ impl ProcTable {
             return Ok(Given::NeedPage { id });
         }
         let warn = check_id(self.oldest, id)?;
-        if !make_room(&mut self.events, self.owed_events, 2) {
-            return Err(Refusal::Memory);
-        }
-        if !make_sub_room(&mut self.entries, by.session) {
-            return Err(Refusal::Memory);
-        }
+        make_room(&mut self.events, self.owed_events, 2)?;
+        make_sub_room(&mut self.entries, by.session)?;
         add_id(&mut self.entries, by.session, id);
         self.events.push_reserved(Event::Sub { by, parent, id });
         self.next = id.advance();
@@ -209,9 +201,7 @@ impl ProcTable {
             by,
             name: name.copy()?,
         };
-        if !make_room(&mut self.events, self.owed_events, 2) {
-            return Err(Memory);
-        }
+        make_room(&mut self.events, self.owed_events, 2)?;
         self.live.insert(by.session, name, taken.xmin)?;
         self.events.push_reserved(event);
         self.owed_events += 1;
@@ -274,9 +264,7 @@ impl ProcTable {
         if limit < oldest {
             return Err(Refusal::TooNew { limit });
         }
-        if !make_room(&mut self.events, self.owed_events, 1) {
-            return Err(Refusal::Memory);
-        }
+        make_room(&mut self.events, self.owed_events, 1)?;
         self.events.push_reserved(Event::Oldest { by, oldest });
         self.oldest = oldest;
         Ok(())
@@ -290,9 +278,7 @@ impl ProcTable {
         requires full { IsFullId x }
         ensures { Asks self.old self.new by x result }
     {
-        if !make_room(&mut self.events, self.owed_events, 1) {
-            return Err(Memory);
-        }
+        make_room(&mut self.events, self.owed_events, 1)?;
         let asked = Asked {
             running: is_running(&self.entries, x),
             next: self.next,

@@ -1,5 +1,5 @@
 //! How many live snapshots have each xmin.
-ghost use Rattle.std.specs.Prelude.{◌≡◌, ℕ, ◌+◌, ◌^◌, ◌<◌, List, IfSome, true, false, map, min};
+ghost use Rattle.std.specs.Prelude.{◌≡◌, ℕ, ◌+◌, ◌^◌, ◌<◌, List, IfSome, OnOk, OnErr, map, min};
 ghost use Rattle.std.specs.List.{fold};
 ghost use Rattle.std.specs.BTreeMap.{get};
 ghost use Rattle.std.specs.Ordering.{nat_cmp};
@@ -7,21 +7,20 @@ ghost use Rattle.tx_events.specs.Horizon.{LiveSnap};
 ghost use Rattle.proc_table.specs.Lives.{IsTally, one_more, with_xmin};
 
 use counted_map::CountedMap;
+use tx_events::Memory;
 use xid_order::FullXid;
 
 /// How many live snapshots have each xmin.
 pub type XminCounts = CountedMap<FullXid>;
 
-/// Counts one more of this xmin. False for want of memory.
-pub fn count_more(counts: &mut XminCounts, xmin: FullXid) -> bool
+/// Counts one more of this xmin.
+pub fn count_more(counts: &mut XminCounts, xmin: FullXid) -> Result<(), Memory>
     requires fits { IfSome (get nat_cmp counts.old.counts xmin) (λ n. n + 1 < 2 ^ 64) }
-    ensures more { result ≡ true → (f : ℕ → ℕ) → IsTally f counts.old → IsTally (one_more xmin f) counts.new }
-    ensures same { result ≡ false → (f : ℕ → ℕ) → IsTally f counts.old → IsTally f counts.new }
+    ensures more { OnOk result ((f : ℕ → ℕ) → IsTally f counts.old → IsTally (one_more xmin f) counts.new) }
+    ensures same { OnErr result ((f : ℕ → ℕ) → IsTally f counts.old → IsTally f counts.new) }
 {
-    match counts.add(xmin) {
-        Ok(()) => true,
-        Err(_) => false,
-    }
+    counts.add(xmin)?;
+    Ok(())
 }
 
 /// Counts one less of this xmin. Takes no memory.

@@ -1,4 +1,8 @@
 //! Why commands are refused.
+ghost use Rattle.std.specs.Prelude.{◌≡◌};
+ghost use Rattle.tx_events.specs.declared.refusal.Refusal.TheVariants as refusals;
+
+use crate::sequence::Memory;
 use xid_order::{FullMulti, FullXid, Xid};
 
 /// A lock, and with it the volume behind it. The number is the bank.
@@ -76,4 +80,12 @@ pub enum Refusal {
     MultiPending,
     /// Want of memory.
     Memory,
+}
+
+impl From<Memory> for Refusal {
+    ghost from_gives = { λ _ r. r ≡ refusals.Memory };
+
+    fn from(_e: Memory) -> Refusal {
+        Refusal::Memory
+    }
 }

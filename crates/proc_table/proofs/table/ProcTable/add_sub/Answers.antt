@@ -7,10 +7,10 @@ use Rattle.proc_table.proofs.StateBounds.{next_from}
 use Rattle.proc_table.proofs.EntryLists.{zip_from_each}
 use Rattle.proc_table.proofs.table.ProcTable.add_sub.Goals as goal
 
-pub invariant_of-self-then-not-make_sub_room : goal.invariant_of-self-then-not-make_sub_room
-invariant_of-self-then-not-make_sub_room c = (
-  rw c.make_room.ensures.items (state_same _ _ _ _ _ _ _ _ _ c.self.invariant.0 (zip_from_each _ _ _ c.make_sub_room.ensures.same)),
-  omega (arith, c.make_room.ensures.len, c.make_room.ensures.capacity, c.self.invariant.1),
+pub invariant_of-self-in_err-make_sub_room : goal.invariant_of-self-in_err-make_sub_room
+invariant_of-self-in_err-make_sub_room c = (
+  rw c.in_ok-make_room.ensures.items (state_same _ _ _ _ _ _ _ _ _ c.self.invariant.0 (zip_from_each _ _ _ c.in_err-make_sub_room.ensures.same)),
+  omega (arith, c.in_ok-make_room.ensures.len, c.in_ok-make_room.ensures.capacity, c.self.invariant.1),
   c.self.invariant.2,
 )
 
@@ -23,9 +23,9 @@ invariant_of-self-2 c =
     let turn : InTurn c.args.by c.self.inside.events.items = subst (InTurn c.args.by) (sym view) c.requires.turn in
     let parent : Contains (open_ids c.args.by.session c.self.inside.events.items) c.args.parent = subst (λ h. Contains (open_ids c.args.by.session h) c.args.parent) (sym view) c.requires.parent in
     let below : c.self.inside.next < stop_limit c.self.inside.oldest = c.in_ok-warn.ensures.0 in (
-      rw (c.push_reserved.ensures.items, c.make_room.ensures.items, c.advance-self-inside.ensures.value)
+      rw (c.push_reserved.ensures.items, c.in_ok-make_room.ensures.items, c.advance-self-inside.ensures.value)
           (state_sub _ _ c.args.by c.args.parent c.self.inside.next _ _ _ _ _ _
-          (state_same _ _ _ _ _ _ _ _ _ c.self.invariant.0 (zip_from_each _ _ _ c.make_sub_room.ensures.same)) below turn parent (zip_from_each _ _ _ c.add_id.ensures)),
-      omega (arith, c.push_reserved.ensures.len, c.push_reserved.ensures.capacity, c.if-not-make_room.ensures.room refl),
+          (state_same _ _ _ _ _ _ _ _ _ c.self.invariant.0 (zip_from_each _ _ _ c.in_ok-make_sub_room.ensures.same)) below turn parent (zip_from_each _ _ _ c.add_id.ensures)),
+      omega (arith, c.push_reserved.ensures.len, c.push_reserved.ensures.capacity, c.in_ok-make_room.ensures.room),
       c.self.invariant.2,
     )

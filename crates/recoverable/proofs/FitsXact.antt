@@ -51,7 +51,8 @@ use Rattle.recoverable.specs.Fit.{IsCommitCode, KeptLog, base_at, log_end}
 use Rattle.recoverable.specs.Laws.{LogFollows, XactFitsLaw, life_base}
 use Rattle.recoverable.specs.LifeBase.{LifeBase, base_after, committed_by, committed_in}
 use Rattle.tx_core.specs.SyncsBeforeForgets.{AreStatesSynced, IsNamedBelow, MayForget}
-use Rattle.recoverable.specs.XactImages.{Follows, MayBeGone, ShowsSince, code_after, code_at, code_of}
+use Rattle.recoverable.specs.Images.{MayBeGone}
+use Rattle.recoverable.specs.XactImages.{Follows, ShowsSince, code_after, code_at, code_of, xact_ring}
 use Rattle.recoverable.proofs.LogBases.{base_from, life_recs, oldest_grows, oldest_past}
 use Rattle.xid_order.specs.PageWindow.{id_is_kept}
 use Rattle.recoverable.proofs.Places.{shows_after, shows_committed, shows_from, shows_start}
@@ -183,7 +184,7 @@ truncated_from start lists oldest multi offset k t =
 
 -- the page of an id from the oldest one on isn't gone
 not_gone : (start : Start) (lists : List (List Entry)) (log : KeptLog) (bank x : ℕ) → EngineInvariant start lists → LogFollows start lists log → HasRoom start lists log
-    → (base_at log log.flushed).counters.oldest ≤ x → x < next_given start.base.next (history lists) → MayBeGone start (at lists (xact_lock bank)) x → ⊥
+    → (base_at log log.flushed).counters.oldest ≤ x → x < next_given start.base.next (history lists) → MayBeGone (xact_ring start) (at lists (xact_lock bank)) (xact_page_of x) → ⊥
 not_gone start lists log bank x k f room from below gone =
     let page : ℕ = gone.0 in
     let up = oldest_from start lists log f in
@@ -224,8 +225,8 @@ shows_one start lists log shown bank x c k f room from below on follows each =
     let since : ShowsSince start shown (at lists (xact_lock bank)) c x = follows x near.0 (on_bank start bank x on) in
     ⊎_elim
     (λ (e : code_at c x ≡ code_after start shown (at lists (xact_lock bank)) since.count x). e ∙ ap code_of (each since.count since.synced))
-    (λ (g : (code_at c x ≡ 0) × MayBeGone start (at lists (xact_lock bank)) x). absurd (not_gone start lists log bank x k f room from below g.1))
-    since.code
+    (λ (g : (code_at c x ≡ 0) × MayBeGone (xact_ring start) (at lists (xact_lock bank)) (xact_page_of x)). absurd (not_gone start lists log bank x k f room from below g.1))
+    since.shows
 
 -- the ids that are committed in the life's base
 shows_base : (start : Start) (lists : List (List Entry)) (log : KeptLog) (shown : ℕ → Option State) (bank x : ℕ) (c : Pages)
@@ -326,15 +327,15 @@ commit_source start lists shown bank x c k near on follows code =
     (λ (q : shows_after start shown (at lists (xact_lock bank)) since.count x ≡ Some states.SubCommitted).
     ⊎_elim (λ a. inl (inr a)) (λ a. inr (durable states.SubCommitted (inr refl) a)) (shows_from xact_store start.base.next shown x states.SubCommitted (take since.count (at lists (xact_lock bank))) q))
     (commits (shows_after start shown (at lists (xact_lock bank)) since.count x) (subst IsCommitCode e code)))
-    (λ (g : (code_at c x ≡ 0) × MayBeGone start (at lists (xact_lock bank)) x). absurd (not_none (code_at c x) g.0 code))
-    since.code
+    (λ (g : (code_at c x ≡ 0) × MayBeGone (xact_ring start) (at lists (xact_lock bank)) (xact_page_of x)). absurd (not_none (code_at c x) g.0 code))
+    since.shows
 
 pub fits_xact : XactFitsLaw
 fits_xact start lists shown log bank n c k is f beginning few inside follows =
     let room = room_of start lists shown log k is f few in record {
       committed = λ x among from on.
           ⊎_elim
-          (λ (le : n ≤ start.from). shows_base start lists log shown bank x c k is f room (earlier_committed start lists log n x f le among) from on follows)
+          (λ (lt : n < start.from). shows_base start lists log shown bank x c k is f room (earlier_committed start lists log n x f (omega arith) among) from on follows)
           (λ h.
           let may = may_forget start lists n k h in
           let up : start.from ≤ n = may.2.from in

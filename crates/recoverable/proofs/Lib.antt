@@ -6,3 +6,7 @@ pub mod FitsXact
 pub mod Offsets
 pub mod MultiFacts
 pub mod OffsetsFit
+pub mod Checkpoints
+pub mod OffsetsNone
+pub mod MultiOrder
+pub mod MembersFit

@@ -4,6 +4,7 @@ use Rattle.std.proofs.lemmas.Grind.{flat_map-append}
 use Rattle.std.proofs.lemmas.List.Sums.{fold-append}
 use Rattle.std.proofs.lemmas.List.Elements.{filter-append}
 use Rattle.std.specs.List.{filter}
+use Rattle.xid_order.specs.Ids.{next_multi}
 use Rattle.tx_events.specs.declared.record.Counters.{Counters}
 use Rattle.tx_events.specs.declared.record.Rec.{Rec}
 use Rattle.tx_events.specs.declared.record.Rec.TheVariants as records
@@ -44,47 +45,56 @@ base_from start lists log k f le =
     ∙ ap (λ (b : LifeBase). base_after b (take (k - log.first - length start.logged) (life_recs lists))) f.base
     ∙ ap (λ z. base_after (life_base start) (take z (life_recs lists))) rest
 
--- the oldest id is only raised
+-- a counter that each record only raises
+pub grows : (f : Counters → ℕ) → ((c : Counters) (r : Rec) → f c ≤ f (after_record c r)) → (c : Counters) (recs : List Rec) → f c ≤ f (after_records c recs)
+grows f up c [] = omega arith
+grows f up c (r ∷ recs) = let a = up c r in let b = grows f up (after_record c r) recs in omega arith
+
+-- and one of these past this number
+past_one : (f : Counters → ℕ) (number : ℕ) (rec : Rec) → ((c : Counters) (r : Rec) → f c ≤ f (after_record c r)) → ((c : Counters) → number ≤ f (after_record c rec)) → (c : Counters) (recs : List Rec) → Has recs rec → number ≤ f (after_records c recs)
+past_one f number rec up past c [] h = absurd h
+past_one f number rec up past c (r ∷ recs) h =
+    ⊎_elim
+    (λ (e : r ≡ rec).
+    let a : number ≤ f (after_record c r) = subst (λ (z : Rec). number ≤ f (after_record c z)) (sym e) (past c) in
+    let b = grows f up (after_record c r) recs in omega arith)
+    (λ k. past_one f number rec up past (after_record c r) recs k)
+    h
+
+at_least : (a b : ℕ) → (a ≤ max a b) × (b ≤ max a b)
+at_least a b = grind arith
+
 oldest_up : (c : Counters) (r : Rec) → c.oldest ≤ (after_record c r).oldest
 oldest_up c (records.Commit top subs) = omega arith
 oldest_up c (records.Abort top subs) = omega arith
 oldest_up c (records.Multi multi offset members) = omega arith
-oldest_up c (records.Checkpoint number n) = grind arith
-oldest_up c (records.Truncate oldest multi offset) = grind arith
+oldest_up c (records.Checkpoint number n) = (at_least c.oldest n.oldest).0
+oldest_up c (records.Truncate oldest multi offset) = (at_least c.oldest oldest).0
 
-pub oldest_grows : (c : Counters) (recs : List Rec) → c.oldest ≤ (after_records c recs).oldest
-oldest_grows c [] = omega arith
-oldest_grows c (r ∷ recs) = let a = oldest_up c r in let b = oldest_grows (after_record c r) recs in omega arith
-
--- and past that of each truncation
-pub oldest_past : (c : Counters) (recs : List Rec) (oldest multi offset : ℕ) → Has recs (records.Truncate oldest multi offset) → oldest ≤ (after_records c recs).oldest
-oldest_past c [] oldest multi offset h = absurd h
-oldest_past c (r ∷ recs) oldest multi offset h =
-    ⊎_elim
-    (λ (e : r ≡ records.Truncate oldest multi offset).
-    let a : oldest ≤ (after_record c r).oldest = subst (λ (z : Rec). oldest ≤ (after_record c z).oldest) (sym e) (let m : oldest ≤ max c.oldest oldest = grind arith in m) in
-    let b = oldest_grows (after_record c r) recs in omega arith)
-    (λ k. oldest_past (after_record c r) recs oldest multi offset k)
-    h
-
--- the same of the oldest multixact
 oldest_multi_up : (c : Counters) (r : Rec) → c.oldest_multi ≤ (after_record c r).oldest_multi
 oldest_multi_up c (records.Commit top subs) = omega arith
 oldest_multi_up c (records.Abort top subs) = omega arith
 oldest_multi_up c (records.Multi multi offset members) = omega arith
-oldest_multi_up c (records.Checkpoint number n) = grind arith
-oldest_multi_up c (records.Truncate oldest multi offset) = grind arith
+oldest_multi_up c (records.Checkpoint number n) = (at_least c.oldest_multi n.oldest_multi).0
+oldest_multi_up c (records.Truncate oldest multi offset) = (at_least c.oldest_multi multi).0
 
+pub multi_up : (c : Counters) (r : Rec) → c.multi ≤ (after_record c r).multi
+multi_up c (records.Commit top subs) = omega arith
+multi_up c (records.Abort top subs) = omega arith
+multi_up c (records.Multi multi offset members) = (at_least c.multi (next_multi multi)).0
+multi_up c (records.Checkpoint number n) = (at_least c.multi n.multi).0
+multi_up c (records.Truncate oldest multi offset) = (at_least c.multi multi).0
+
+-- the oldest id is only raised, and past that of each truncation
+pub oldest_grows : (c : Counters) (recs : List Rec) → c.oldest ≤ (after_records c recs).oldest
+oldest_grows c recs = grows (λ b. b.oldest) oldest_up c recs
+
+pub oldest_past : (c : Counters) (recs : List Rec) (oldest multi offset : ℕ) → Has recs (records.Truncate oldest multi offset) → oldest ≤ (after_records c recs).oldest
+oldest_past c recs oldest multi offset h = past_one (λ b. b.oldest) oldest (records.Truncate oldest multi offset) oldest_up (λ b. (at_least b.oldest oldest).1) c recs h
+
+-- the same of the oldest multixact
 pub oldest_multi_grows : (c : Counters) (recs : List Rec) → c.oldest_multi ≤ (after_records c recs).oldest_multi
-oldest_multi_grows c [] = omega arith
-oldest_multi_grows c (r ∷ recs) = let a = oldest_multi_up c r in let b = oldest_multi_grows (after_record c r) recs in omega arith
+oldest_multi_grows c recs = grows (λ b. b.oldest_multi) oldest_multi_up c recs
 
 pub oldest_multi_past : (c : Counters) (recs : List Rec) (oldest multi offset : ℕ) → Has recs (records.Truncate oldest multi offset) → multi ≤ (after_records c recs).oldest_multi
-oldest_multi_past c [] oldest multi offset h = absurd h
-oldest_multi_past c (r ∷ recs) oldest multi offset h =
-    ⊎_elim
-    (λ (e : r ≡ records.Truncate oldest multi offset).
-    let a : multi ≤ (after_record c r).oldest_multi = subst (λ (z : Rec). multi ≤ (after_record c z).oldest_multi) (sym e) (let m : multi ≤ max c.oldest_multi multi = grind arith in m) in
-    let b = oldest_multi_grows (after_record c r) recs in omega arith)
-    (λ k. oldest_multi_past (after_record c r) recs oldest multi offset k)
-    h
+oldest_multi_past c recs oldest multi offset h = past_one (λ b. b.oldest_multi) multi (records.Truncate oldest multi offset) oldest_multi_up (λ b. (at_least b.oldest_multi multi).1) c recs h

@@ -23,11 +23,12 @@ use Rattle.tx_core.specs.Pages.{offset_for, offset_store, pages_after}
 use Rattle.recoverable.specs.FitMultis.{byte_of}
 use Rattle.tx_core.specs.MembersBeforeOffset.{NeedsOffsets, OffsetOf}
 use Rattle.tx_core.specs.MultiEntries.{SetOffset, multi_history, offsets_in}
-use Rattle.recoverable.specs.OffsetImages.{MayBeGone, number_or_none, offset_after}
+use Rattle.recoverable.specs.Images.{MayBeGone}
+use Rattle.recoverable.specs.OffsetImages.{number_or_none, offset_after, offset_ring}
 use Rattle.recoverable.specs.Laws.{NoStrayOffset}
 use Rattle.recoverable.proofs.Places.{Source, shows_from}
 
-zero_byte : (i : ℕ) → i < 4 → byte_of 0 i ≡ 0
+pub zero_byte : (i : ℕ) → i < 4 → byte_of 0 i ≡ 0
 zero_byte i lt = ⊎_elim (λ (e : i ≡ 0). subst (λ z. byte_of 0 z ≡ 0) (sym e) refl) (λ h. ⊎_elim (λ (e : i ≡ 1). subst (λ z. byte_of 0 z ≡ 0) (sym e) refl) (λ k. ⊎_elim (λ (e : i ≡ 2). subst (λ z. byte_of 0 z ≡ 0) (sym e) refl) (λ (e : i ≡ 3). subst (λ z. byte_of 0 z ≡ 0) (sym e) refl) k) h) (which i lt)
   where
     which : (i : ℕ) → i < 4 → (i ≡ 0) ⊎ ((i ≡ 1) ⊎ ((i ≡ 2) ⊎ (i ≡ 3)))
@@ -81,5 +82,5 @@ no_stray_offset start lists shown bank multi c k clear old bytes =
     let nothing : offset_after start shown (at lists (offsets_lock bank)) since.count multi ≡ 0 = none ((pages_after offset_store start.base.multi shown (take since.count (at lists (offsets_lock bank)))).shows multi) refl in
     ⊎_elim
     (λ (q : slice_index (page_bytes (c (word_page_of multi))) (word_place_of multi + i) ≡ byte_of (offset_after start shown (at lists (offsets_lock bank)) since.count multi) i). q ∙ ap (λ z. byte_of z i) nothing ∙ zero_byte i lt)
-    (λ (q : (slice_index (page_bytes (c (word_page_of multi))) (word_place_of multi + i) ≡ 0) × MayBeGone start (at lists (offsets_lock bank)) multi). q.0)
-    since.byte)
+    (λ (q : (slice_index (page_bytes (c (word_page_of multi))) (word_place_of multi + i) ≡ 0) × MayBeGone (offset_ring start) (at lists (offsets_lock bank)) (word_page_of multi)). q.0)
+    since.shows)

@@ -1,5 +1,5 @@
 -- Each image of a bank of offsets has the offsets of recorded multixacts.
-use Rattle.std.proofs.Common.{Bool, Contains, List, None, Option, Some, [], ap, arith, cond, eq-eqb, false, inl, inr, length, refl, subst, sym, take, true, ℕ, ⊎_elim, ◌++◌, ◌+◌, ◌==◌, ◌-◌, ◌/◌, ◌%◌, ◌<◌, ◌^◌, ◌∙◌, ◌∷◌, ◌≡◌, ◌≤◌, ◌⊎◌}
+use Rattle.std.proofs.Common.{Bool, Contains, List, None, Option, Some, [], ap, arith, cond, eq-eqb, false, inl, inr, length, length-append, refl, subst, sym, take, true, ℕ, ⊎_elim, ◌++◌, ◌+◌, ◌==◌, ◌-◌, ◌/◌, ◌%◌, ◌<◌, ◌^◌, ◌∙◌, ◌∷◌, ◌≡◌, ◌≤◌, ◌⊎◌}
 use Rattle.std.specs.List.{filter, filter_map, flat_map, last_or, slice_get, slice_index}
 use Rattle.xid_order.specs.Ids.{low_half}
 use Rattle.store_pages.specs.Layouts.{multi_before, number_in, word_page_of, word_place_of}
@@ -28,7 +28,7 @@ use Rattle.tx_core.proofs.PageShowing.{offsets_show}
 use Rattle.tx_core.proofs.Reading.{flushed_appended}
 use Rattle.tx_core.specs.CutsFollow.{IsOffsetGone, IsTruncated}
 use Rattle.tx_core.specs.EngineInvariant.{EngineInvariant}
-use Rattle.tx_core.specs.Entries.{appended, records_in, records_of}
+use Rattle.tx_core.specs.Entries.{appended, cut_in, records_in, records_of}
 use Rattle.notes.specs.Lists.{Begins, at}
 use Rattle.tx_core.specs.Locks.{log_lock, offset_page, offsets_lock}
 use Rattle.tx_core.specs.MembersBeforeOffset.{NeedsOffsets, OffsetOf}
@@ -36,11 +36,12 @@ use Rattle.tx_core.specs.MultiEntries.{SetOffset, multi_history, offsets_in}
 use Rattle.tx_core.specs.Pages.{offset_for, offset_store, pages_after}
 use Rattle.tx_core.specs.RecordsFollow.{IsGenOf, IsMultiAnnounced, NeedsCounters, NeedsNamed}
 use Rattle.tx_core.specs.SyncsBeforeForgets.{AreOffsetsSynced, IsMultiBelow, MayForget}
-use Rattle.recoverable.specs.Fit.{KeptLog, base_at}
+use Rattle.recoverable.specs.Fit.{KeptLog, base_at, log_end}
 use Rattle.recoverable.specs.FitMultis.{byte_of, offset_at}
 use Rattle.recoverable.specs.Laws.{LogFollows, OffsetsShownLaw}
 use Rattle.recoverable.specs.LifeBase.{LifeBase, is_multi}
-use Rattle.recoverable.specs.OffsetImages.{ByteSince, CleanOffsets, MayBeGone, OffsetsFollow, number_or_none, offset_after}
+use Rattle.recoverable.specs.Images.{MayBeGone}
+use Rattle.recoverable.specs.OffsetImages.{ByteSince, CleanOffsets, OffsetsFollow, number_or_none, offset_after, offset_ring}
 use Rattle.recoverable.proofs.FitsXact.{logged_at, may_forget}
 use Rattle.recoverable.proofs.LogBases.{base_from, life_recs, oldest_multi_grows, oldest_multi_past}
 use Rattle.recoverable.proofs.MultiFacts.{gen_below, multis_have_room, one_offset, raised_from}
@@ -48,7 +49,7 @@ use Rattle.recoverable.proofs.Offsets.{given_from, set_of}
 use Rattle.recoverable.proofs.Stretches.{filter_map_has, flat_map_has, get_in_beginning, get_map, has_longer, has_taken, has_within, map_get, taken_place}
 
 -- the number of four bytes
-number_of_bytes : (bytes : List ℕ) (place n : ℕ) → ((i : ℕ) → i < 4 → slice_index bytes (place + i) ≡ byte_of n i) → number_in bytes place ≡ low_half n
+pub number_of_bytes : (bytes : List ℕ) (place n : ℕ) → ((i : ℕ) → i < 4 → slice_index bytes (place + i) ≡ byte_of n i) → number_in bytes place ≡ low_half n
 number_of_bytes bytes place n each =
     let b0 : slice_index bytes place ≡ n % 256 = ap (λ k. slice_index bytes k) (let e : place ≡ place + 0 = omega arith in e) ∙ each 0 (omega arith) ∙ (let e : byte_of n 0 ≡ n % 256 = omega arith in e) in
     let b1 : slice_index bytes (place + 1) ≡ n / 256 % 256 = each 1 (omega arith) ∙ (let e : byte_of n 1 ≡ n / 256 % 256 = omega arith in e) in
@@ -58,11 +59,11 @@ number_of_bytes bytes place n each =
 
 -- the last of items that are all one
 module _ {A : Type 0} where
-  last_all : (o : Option A) (xs : List A) (v : A) → o ≡ Some v → ((y : A) → Has xs y → y ≡ v) → last_or o xs ≡ Some v
+  pub last_all : (o : Option A) (xs : List A) (v : A) → o ≡ Some v → ((y : A) → Has xs y → y ≡ v) → last_or o xs ≡ Some v
   last_all o [] v e each = e
   last_all o (x ∷ xs) v e each = last_all (Some x) xs v (ap (λ z. Some z) (each x (inl refl))) (λ y k. each y (inr k))
 
-  last_some : (o : Option A) (xs : List A) (v : A) → Has xs v → ((y : A) → Has xs y → y ≡ v) → last_or o xs ≡ Some v
+  pub last_some : (o : Option A) (xs : List A) (v : A) → Has xs v → ((y : A) → Has xs y → y ≡ v) → last_or o xs ≡ Some v
   last_some o [] v h each = absurd h
   last_some o (x ∷ xs) v h each = last_all (Some x) xs v (ap (λ z. Some z) (each x (inl refl))) (λ y k. each y (inr k))
 
@@ -81,8 +82,15 @@ set_given start lists bank n set k h =
     let need = upheld_has (NeedsOffsets start) lists (offsets_lock bank) found.0 k.members.offsets (has_take n (at lists (offsets_lock bank)) found.0 found.1) in
     all_at (OffsetOf start lists) (offsets_in found.0) set need.1 found.2
 
+-- what a truncation on disk names was announced
+pub announced_multi : (start : Start) (lists : List (List Entry)) (oldest multi offset : ℕ) → EngineInvariant start lists → IsTruncated start lists oldest multi offset → IsMultiAnnounced start lists multi offset
+announced_multi start lists oldest multi offset k t =
+    let a = flushed_appended start lists t.session (records.Truncate oldest multi offset) t.flushed in
+    let e : Entry = record { by = a.0; kind = kinds.Append (records.Truncate oldest multi offset) } in
+    (upheld_has (NeedsCounters start) lists log_lock e k.log.counters (contains_has (at lists log_lock) e a.2)).1.1.1
+
 -- the oldest multixact of a truncation that is on disk, from below and from above
-truncated_multi : (start : Start) (lists : List (List Entry)) (log : KeptLog) (oldest multi offset : ℕ) → EngineInvariant start lists → LogFollows start lists log → IsTruncated start lists oldest multi offset
+pub truncated_multi : (start : Start) (lists : List (List Entry)) (log : KeptLog) (oldest multi offset : ℕ) → EngineInvariant start lists → LogFollows start lists log → IsTruncated start lists oldest multi offset
     → (start.base.oldest_multi ≤ multi) × (multi ≤ (base_at log log.flushed).counters.oldest_multi)
 truncated_multi start lists log oldest multi offset k f t =
     let flushed = t.flushed in
@@ -93,9 +101,7 @@ truncated_multi start lists log oldest multi offset k f t =
     let rec : Rec = records.Truncate oldest multi offset in
     let stands : slice_get (life_recs lists) n ≡ Some (records.Truncate oldest multi offset) = get_map (λ (r : By × Rec). r.1) (records_of lists) n (flushed.2, records.Truncate oldest multi offset) flushed.4 in
     let among : Has (take m (life_recs lists)) (records.Truncate oldest multi offset) = has_taken n m (life_recs lists) (records.Truncate oldest multi offset) (omega arith) stands in
-    let a = flushed_appended start lists t.session (records.Truncate oldest multi offset) t.flushed in
-    let e : Entry = record { by = a.0; kind = kinds.Append (records.Truncate oldest multi offset) } in
-    let announced : IsMultiAnnounced start lists multi offset = (upheld_has (NeedsCounters start) lists log_lock e k.log.counters (contains_has (at lists log_lock) e a.2)).1.1.1 in (
+    let announced : IsMultiAnnounced start lists multi offset = announced_multi start lists oldest multi offset k t in (
       ⊎_elim
           (λ (q : (multi ≡ start.base.oldest_multi) × (offset ≡ start.base.oldest_offset)). let z = q.0 in omega arith)
           (λ (q : (by : By) × Contains (multi_history lists) (multis.Raise by multi offset)). raised_from start.base (multi_history lists) q.0 multi offset (multis_are_legal start lists k) q.1)
@@ -103,37 +109,40 @@ truncated_multi start lists log oldest multi offset k f t =
       subst (λ (b : LifeBase). multi ≤ b.counters.oldest_multi) (sym (base_from start lists log log.flushed f f.begun)) (oldest_multi_past start.base (take m (life_recs lists)) oldest multi offset among),
     )
 
-oldest_multi_from : (start : Start) (lists : List (List Entry)) (log : KeptLog) → LogFollows start lists log → start.base.oldest_multi ≤ (base_at log log.flushed).counters.oldest_multi
+pub oldest_multi_from : (start : Start) (lists : List (List Entry)) (log : KeptLog) → LogFollows start lists log → start.base.oldest_multi ≤ (base_at log log.flushed).counters.oldest_multi
 oldest_multi_from start lists log f =
     subst (λ (b : LifeBase). start.base.oldest_multi ≤ b.counters.oldest_multi) (sym (base_from start lists log log.flushed f f.begun)) (oldest_multi_grows start.base (take (log.flushed - start.from) (life_recs lists)))
 
 -- the page of a multixact from the oldest one on isn't gone
 not_gone : (start : Start) (lists : List (List Entry)) (log : KeptLog) (bank multi : ℕ) → EngineInvariant start lists → IsBase start.base → LogFollows start lists log → length (made (multi_history lists)) < 2900000
-    → (base_at log log.flushed).counters.oldest_multi ≤ multi → multi < next_made start.base.multi (multi_history lists) → MayBeGone start (at lists (offsets_lock bank)) multi → ⊥
+    → (base_at log log.flushed).counters.oldest_multi ≤ multi → multi < next_made start.base.multi (multi_history lists) → MayBeGone (offset_ring start) (at lists (offsets_lock bank)) (word_page_of multi) → ⊥
 not_gone start lists log bank multi k is f few from below gone =
     let up = oldest_multi_from start lists log f in
     let room = multis_have_room start.base (multi_history lists) is few in
     let window = room.0 in
     ⊎_elim
-    (λ (q : is_cut Multis 2048 (offset_page (multi_before start.base.oldest_multi) % 2097152) (offset_page (low_half multi)) ≡ true).
-    kept start.base.oldest_multi multi (omega arith) (omega arith) q)
-    (λ (h : IsOffsetGone (at lists (offsets_lock bank)) multi).
-    let cut = (cut_says start lists (offsets_lock bank) h.1 h.0 k h.2 h.3).offsets bank refl in
+    (λ (q : gone.0 ≡ offset_page (multi_before start.base.oldest_multi)).
+    kept start.base.oldest_multi multi gone.0 q (omega arith) (omega arith) gone.2)
+    (λ (h : (e : Entry) × Contains (at lists (offsets_lock bank)) e × (cut_in e.kind ≡ Some gone.0)).
+    let cut = (cut_says start lists (offsets_lock bank) gone.0 h.0 k h.1 h.2).offsets bank refl in
     let t = truncated_multi start lists log cut.0 cut.1 cut.2 k f cut.3 in
     let low = t.0 in let high = t.1 in
-    kept cut.1 multi (omega arith) (omega arith) (subst (λ p. is_cut Multis 2048 (p % 2097152) (offset_page (low_half multi)) ≡ true) cut.4 h.4))
-    gone
+    kept cut.1 multi gone.0 cut.4 (omega arith) (omega arith) gone.2)
+    gone.1
   where
     back : (n : ℕ) → (multi_before n ≤ n) × (n ≤ multi_before n + 2)
     back n = grind arith
 
-    kept : (o x : ℕ) → o ≤ x → x + 2 ^ 15 + 2 < o + 2 ^ 31 → is_cut Multis 2048 (offset_page (multi_before o) % 2097152) (offset_page (low_half x)) ≡ true → ⊥
-    kept o x from near e =
+    kept : (o x page : ℕ) → page ≡ offset_page (multi_before o) → o ≤ x → x + 2 ^ 15 + 2 < o + 2 ^ 31 → is_cut Multis 2048 (page % 2097152) (word_page_of x) ≡ true → ⊥
+    kept o x page q from near e =
         let b = back o in let b0 = b.0 in let b1 = b.1 in
-        let m : ℕ = multi_before o in
-        let same : multi_before o / 2048 % 2097152 ≡ low_half (multi_before o) / 2048 = omega arith in
-        not_both (is_cut Multis 2048 (offset_page (multi_before o) % 2097152) (offset_page (low_half x))) e
+        let same : page % 2097152 ≡ low_half (multi_before o) / 2048 = ap (λ z. z % 2097152) q ∙ (let w : multi_before o / 2048 % 2097152 ≡ low_half (multi_before o) / 2048 = omega arith in w) in
+        not_both (is_cut Multis 2048 (page % 2097152) (word_page_of x)) e
         (ap (λ z. is_cut Multis 2048 z (low_half x / 2048)) same ∙ multi_is_kept (multi_before o) x (omega arith) (omega arith))
+
+-- the window of places reaches back to the oldest multixact
+pub wide : (start : Start) (multi : ℕ) → start.base.multi ≤ multi_stop_limit start.base.oldest_multi → start.base.oldest_multi ≤ multi → start.base.multi + 2 ^ 30 ≤ multi + 2 ^ 32
+wide start multi stop le = let b : multi_stop_limit start.base.oldest_multi ≤ start.base.oldest_multi + 2 ^ 31 - 2999000 = grind arith in omega arith
 
 -- an image shows what each entry list from the last sync on shows
 shows_offset : (start : Start) (lists : List (List Entry)) (log : KeptLog) (shown : ℕ → Option ℕ) (bank multi offset : ℕ) (c : Pages) → EngineInvariant start lists → IsBase start.base → LogFollows start lists log → length (made (multi_history lists)) < 2900000
@@ -145,16 +154,13 @@ shows_offset start lists log shown bank multi offset c k is f few from below on 
     let room = multis_have_room start.base (multi_history lists) is few in let window = room.0 in let near = room.1 in
     let low = is.oldest_multi in let stop = is.multi in
     number_of_bytes (page_bytes (c (word_page_of multi))) (word_place_of multi) offset (λ i lt.
-    let since : ByteSince start shown (at lists (offsets_lock bank)) c multi i = follows multi i (omega arith) (wide start multi stop (omega arith)) (ap offsets_lock on) lt in
+    let since : ByteSince start shown (at lists (offsets_lock bank)) c multi i = follows multi i (record { from = wide start multi stop (omega arith); to = omega arith }) (ap offsets_lock on) lt in
     ⊎_elim
     (λ (q : slice_index (page_bytes (c (word_page_of multi))) (word_place_of multi + i) ≡ byte_of (offset_after start shown (at lists (offsets_lock bank)) since.count multi) i).
     q ∙ ap (λ (o : Option ℕ). byte_of (number_or_none o) i) (each since.count since.synced))
-    (λ (q : (slice_index (page_bytes (c (word_page_of multi))) (word_place_of multi + i) ≡ 0) × MayBeGone start (at lists (offsets_lock bank)) multi).
+    (λ (q : (slice_index (page_bytes (c (word_page_of multi))) (word_place_of multi + i) ≡ 0) × MayBeGone (offset_ring start) (at lists (offsets_lock bank)) (word_page_of multi)).
     absurd (not_gone start lists log bank multi k is f few from below q.1))
-    since.byte)
-  where
-    wide : (start : Start) (multi : ℕ) → start.base.multi ≤ multi_stop_limit start.base.oldest_multi → start.base.oldest_multi ≤ multi → start.base.multi + 2 ^ 30 ≤ multi + 2 ^ 32
-    wide start multi stop le = let b : multi_stop_limit start.base.oldest_multi ≤ start.base.oldest_multi + 2 ^ 31 - 2999000 = grind arith in omega arith
+    since.shows)
 
 -- a multixact that the life began with
 shows_base : (start : Start) (lists : List (List Entry)) (log : KeptLog) (shown : ℕ → Option ℕ) (bank multi offset : ℕ) (members : List Member) (c : Pages) → EngineInvariant start lists → IsBase start.base → CleanOffsets start shown → LogFollows start lists log → length (made (multi_history lists)) < 2900000
@@ -173,18 +179,32 @@ shows_base start lists log shown bank multi offset members c k is clean f few am
     absurd (omega arith)))
 
 -- the records of the base at a number from the life's start on
-recorded_cases : (start : Start) (lists : List (List Entry)) (log : KeptLog) (n : ℕ) (rec : Rec) → LogFollows start lists log → start.from ≤ n → Contains (base_at log n).recorded rec → Has start.recorded rec ⊎ Has (take (n - start.from) (life_recs lists)) rec
+pub recorded_cases : (start : Start) (lists : List (List Entry)) (log : KeptLog) (n : ℕ) (rec : Rec) → LogFollows start lists log → start.from ≤ n → Contains (base_at log n).recorded rec → Has start.recorded rec ⊎ Has (take (n - start.from) (life_recs lists)) rec
 recorded_cases start lists log n rec f up c =
     let split : Contains (start.recorded ++ filter is_multi (take (n - start.from) (life_recs lists))) rec = subst (λ (b : LifeBase). Contains b.recorded rec) (base_from start lists log n f up) c in
     ⊎_elim inl (λ h. inr (has_filter is_multi (take (n - start.from) (life_recs lists)) rec h).0)
     (has_cases start.recorded (filter is_multi (take (n - start.from) (life_recs lists))) rec (contains_has _ rec split))
 
--- one that was recorded before a checkpoint before which the log was to be forgotten
-shows_synced : (start : Start) (lists : List (List Entry)) (log : KeptLog) (shown : ℕ → Option ℕ) (bank number multi offset : ℕ) (members : List Member) (before : List Entry) (c : Pages) → EngineInvariant start lists → IsBase start.base → CleanOffsets start shown → LogFollows start lists log → length (made (multi_history lists)) < 2900000
-    → bank < start.banks → Begins before (at lists log_lock) → MayForget start lists before number → Has (take (number - start.from) (life_recs lists)) (records.Multi multi offset members)
-    → (base_at log log.flushed).counters.oldest_multi ≤ multi → word_page_of multi % start.banks ≡ bank → OffsetsFollow start bank shown (at lists (offsets_lock bank)) c → offset_at c multi ≡ low_half offset
-shows_synced start lists log shown bank number multi offset members before c k is clean f few inside begins may among from on follows =
-    let es : List Entry = at lists (offsets_lock bank) in
+-- a record of a multixact was appended for one that was given
+pub appended_gen : (start : Start) (lists : List (List Entry)) (place : ℕ) (by : By) (multi offset : ℕ) (members : List Member) → EngineInvariant start lists → slice_get (records_of lists) place ≡ Some (by, records.Multi multi offset members)
+    → (b : By) × Has (multi_history lists) (multis.Gen b multi offset members)
+appended_gen start lists place by multi offset members k stands =
+    let logged = logged_at start lists place by (records.Multi multi offset members) stands in
+    let need = upheld_has (NeedsNamed start) lists log_lock (record { by = by; kind = kinds.Append (records.Multi multi offset members) }) k.log.named logged in
+    let gen : IsGenOf lists by.session multi offset members = need.1.0 in
+    (gen.0, contains_has (multi_history lists) (multis.Gen gen.0 multi offset members) gen.2)
+
+-- the log ends behind the records from before the life
+pub life_end : (start : Start) (lists : List (List Entry)) (log : KeptLog) → LogFollows start lists log → start.from ≤ log_end log
+life_end start lists log f =
+    let from = f.from in
+    let long : length log.recs ≡ length start.logged + length (life_recs lists) = ap (λ (t : List Rec). length t) f.recs ∙ length-append start.logged (life_recs lists) in
+    omega arith
+
+-- one that stands before a checkpoint before which the log was to be forgotten
+pub recorded_below : (start : Start) (lists : List (List Entry)) (before : List Entry) (number multi offset : ℕ) (members : List Member) → EngineInvariant start lists → Begins before (at lists log_lock) → MayForget start lists before number
+    → Has (take (number - start.from) (life_recs lists)) (records.Multi multi offset members) → IsMultiBelow start before number multi offset members × ((b : By) × Has (multi_history lists) (multis.Gen b multi offset members))
+recorded_below start lists before number multi offset members k begins may among =
     let rec : Rec = records.Multi multi offset members in
     let p = taken_place (number - start.from) (life_recs lists) rec among in
     let g = map_get (λ (t : By × Rec). t.1) (records_of lists) p.0 rec p.2 in
@@ -193,11 +213,18 @@ shows_synced start lists log shown bank number multi offset members before c k i
     let first : slice_get (records_in before) p.0 ≡ Some (g.0.0, records.Multi multi offset members)
     = get_in_beginning (records_in before) (records_of lists) (number - start.from) p.0 (may.by, records.Checkpoint number may.counters) (g.0.0, records.Multi multi offset members) (begins_filter_map appended before (at lists log_lock) begins) may.checkpoint low stands in
     let named : IsMultiBelow start before number multi offset members = record { place = p.0; by = g.0.0; stands = first; below = omega arith } in
-    let logged = logged_at start lists p.0 g.0.0 (records.Multi multi offset members) stands in
-    let need = upheld_has (NeedsNamed start) lists log_lock (record { by = g.0.0; kind = kinds.Append (records.Multi multi offset members) }) k.log.named logged in
-    let gen : IsGenOf lists g.0.0.session multi offset members = need.1.0 in
+    (named, appended_gen start lists p.0 g.0.0 multi offset members k stands)
+
+-- one that was recorded before a checkpoint before which the log was to be forgotten
+shows_synced : (start : Start) (lists : List (List Entry)) (log : KeptLog) (shown : ℕ → Option ℕ) (bank number multi offset : ℕ) (members : List Member) (before : List Entry) (c : Pages) → EngineInvariant start lists → IsBase start.base → CleanOffsets start shown → LogFollows start lists log → length (made (multi_history lists)) < 2900000
+    → bank < start.banks → Begins before (at lists log_lock) → MayForget start lists before number → Has (take (number - start.from) (life_recs lists)) (records.Multi multi offset members)
+    → (base_at log log.flushed).counters.oldest_multi ≤ multi → word_page_of multi % start.banks ≡ bank → OffsetsFollow start bank shown (at lists (offsets_lock bank)) c → offset_at c multi ≡ low_half offset
+shows_synced start lists log shown bank number multi offset members before c k is clean f few inside begins may among from on follows =
+    let es : List Entry = at lists (offsets_lock bank) in
+    let r = recorded_below start lists before number multi offset members k begins may among in
+    let named = r.0 in let gen = r.1 in
     let legal = multis_are_legal start lists k in
-    let made_gen : Has (multi_history lists) (multis.Gen gen.0 multi offset members) = contains_has (multi_history lists) (multis.Gen gen.0 multi offset members) gen.2 in
+    let made_gen : Has (multi_history lists) (multis.Gen gen.0 multi offset members) = gen.1 in
     let below : multi < next_made start.base.multi (multi_history lists) = gen_below start.base gen.0 multi offset members (multi_history lists) legal made_gen in
     let near = (multis_have_room start.base (multi_history lists) is few).1 in
     let synced : AreOffsetsSynced start (at lists (offsets_lock bank)) bank (IsMultiBelow start before number) = may.offsets bank inside in
@@ -222,11 +249,11 @@ shows_synced start lists log shown bank number multi offset members before c k i
     sym value ∙ one)))
     (λ (gone : IsOffsetGone synced.before multi).
     let entry : Has es gone.0 = has_take sync.place es gone.0 (subst (λ (t : List Entry). Has t gone.0) (sym sync.front) (contains_has synced.before gone.0 gone.2)) in
-    absurd (not_gone start lists log bank multi k is f few from below (inr (gone.0, gone.1, has_contains es gone.0 entry, gone.3, gone.4))))
+    absurd (not_gone start lists log bank multi k is f few from below (gone.1, inr (gone.0, has_contains es gone.0 entry, gone.3), gone.4)))
     (synced.each multi offset members named (ap offsets_lock on))
 
 -- what was recorded before the life is recorded in its base
-earlier_recorded : (start : Start) (lists : List (List Entry)) (log : KeptLog) (n : ℕ) (rec : Rec) → LogFollows start lists log → n ≤ start.from → Contains (base_at log n).recorded rec → Contains start.recorded rec
+pub earlier_recorded : (start : Start) (lists : List (List Entry)) (log : KeptLog) (n : ℕ) (rec : Rec) → LogFollows start lists log → n ≤ start.from → Contains (base_at log n).recorded rec → Contains start.recorded rec
 earlier_recorded start lists log n rec f le c =
     let from : start.from ≡ log.first + length start.logged = f.from in
     let all : log.base.recorded ++ filter is_multi start.logged ≡ start.recorded = ap (λ (b : LifeBase). b.recorded) f.base in
@@ -243,7 +270,7 @@ earlier_recorded start lists log n rec f le c =
 pub offsets_shown : OffsetsShownLaw
 offsets_shown start lists shown log bank n c k is clean f beginning few inside follows multi offset members among from on =
     ⊎_elim
-    (λ (le : n ≤ start.from). shows_base start lists log shown bank multi offset members c k is clean f few (earlier_recorded start lists log n (records.Multi multi offset members) f le among) from on follows)
+    (λ (lt : n < start.from). shows_base start lists log shown bank multi offset members c k is clean f few (earlier_recorded start lists log n (records.Multi multi offset members) f (omega arith) among) from on follows)
     (λ h.
     let may = may_forget start lists n k h in
     let up : start.from ≤ n = may.2.from in

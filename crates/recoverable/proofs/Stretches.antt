@@ -19,6 +19,12 @@ module _ {A : Type 0} where
   has_taken zero (suc m) (y ∷ ys) x lt e = inl cc
   has_taken (suc n) (suc m) (y ∷ ys) x lt e = inr (has_taken n m ys x (omega arith) e)
 
+  -- what stands at a place of a list lies within it
+  pub get_inside : (xs : List A) (n : ℕ) (x : A) → slice_get xs n ≡ Some x → n < length xs
+  get_inside [] n x e = absurd cc
+  get_inside (y ∷ ys) zero x e = omega arith
+  get_inside (y ∷ ys) (suc n) x e = let a = get_inside ys n x e in omega arith
+
   -- what is among the first m stands at a place before m
   pub taken_place : (m : ℕ) (xs : List A) (x : A) → Has (take m xs) x → (n : ℕ) × (n < m) × (slice_get xs n ≡ Some x)
   taken_place zero xs x h = absurd h

@@ -1,12 +1,11 @@
 -- What recovery needs of the pages of offsets and members.
 use Rattle.std.specs.Prelude.{◌≡◌, ℕ, ◌+◌, ◌/◌, ◌%◌, ◌^◌, ◌<◌, ◌≤◌, List, length, Some, Contains}
 use Rattle.std.specs.List.{slice_get, slice_index}
-use Rattle.xid_order.specs.Ids.{low_half}
+use Rattle.xid_order.specs.Ids.{IsFullMulti, low_half}
 use Rattle.store_pages.specs.Layouts.{number_in, word_page_of, word_place_of, member_page_of, member_place_of, mode_place_of}
 use Rattle.disk_core.specs.Pages.{Pages, page_bytes}
 use Rattle.tx_events.specs.declared.multi.Member.{Member}
-use Rattle.tx_events.specs.declared.multi.Mode.{Mode}
-use Rattle.tx_events.specs.declared.multi.Mode.TheVariants as modes
+use Rattle.tx_events.specs.Modes.{mode_number}
 use Rattle.tx_events.specs.declared.record.Rec.{Rec}
 use Rattle.tx_events.specs.declared.record.Rec.TheVariants as records
 use Rattle.recoverable.specs.Fit.{KeptLog, base_at, log_end}
@@ -22,14 +21,6 @@ member_at c offset = number_in (page_bytes (c (member_page_of offset))) (member_
 abbrev pub mode_at : Pages → ℕ → ℕ
 mode_at c offset = slice_index (page_bytes (c (member_page_of offset))) (mode_place_of offset)
 
-abbrev pub mode_number : Mode → ℕ
-mode_number modes.KeySh = 0
-mode_number modes.Sh = 1
-mode_number modes.ForNoKeyUpd = 2
-mode_number modes.ForUpd = 3
-mode_number modes.NoKeyUpd = 4
-mode_number modes.Upd = 5
-
 -- each recorded multixact from an oldest one on has its offset, and its members
 abbrev pub ShowsOffsets : ℕ → ℕ → List Rec → ℕ → Pages → Type 0
 ShowsOffsets banks bank recorded oldest c = (multi offset : ℕ) (members : List Member) → Contains recorded (records.Multi multi offset members) → oldest ≤ multi → word_page_of multi % banks ≡ bank → offset_at c multi ≡ low_half offset
@@ -40,7 +31,7 @@ ShowsMembers banks bank recorded oldest c = (multi offset k : ℕ) (members : Li
 
 -- a multixact of a base that isn't recorded has no offset
 abbrev pub ShowsNoOffset : ℕ → ℕ → List Rec → ℕ → ℕ → Pages → Type 0
-ShowsNoOffset banks bank recorded oldest next c = (multi : ℕ) → oldest ≤ multi → multi < next → ((offset : ℕ) (members : List Member) → Contains recorded (records.Multi multi offset members) → ⊥) → word_page_of multi % banks ≡ bank → offset_at c multi ≡ 0
+ShowsNoOffset banks bank recorded oldest next c = (multi : ℕ) → IsFullMulti multi → oldest ≤ multi → multi < next → ((offset : ℕ) (members : List Member) → Contains recorded (records.Multi multi offset members) → ⊥) → word_page_of multi % banks ≡ bank → offset_at c multi ≡ 0
 
 -- no member shows at an offset of low half 0 right behind the members of a recorded one
 abbrev pub ShowsNoGap : ℕ → ℕ → List Rec → ℕ → Pages → Type 0

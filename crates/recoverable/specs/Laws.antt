@@ -14,11 +14,13 @@ use Rattle.tx_core.specs.CleanStart.{CleanStart}
 use Rattle.tx_core.specs.EngineInvariant.{EngineInvariant}
 use Rattle.tx_core.specs.Entries.{history, recs_in, Stands}
 use Rattle.notes.specs.Lists.{at}
-use Rattle.tx_core.specs.Locks.{log_lock, offsets_lock, xact_lock}
+use Rattle.tx_core.specs.Locks.{log_lock, members_lock, offsets_lock, xact_lock}
 use Rattle.recoverable.specs.LifeBase.{LifeBase, base_after}
-use Rattle.recoverable.specs.Fit.{KeptLog, XactFits, base_at}
+use Rattle.recoverable.specs.Fit.{KeptLog, MayBegin, XactFits, base_at}
 use Rattle.recoverable.specs.XactImages.{Follows}
-use Rattle.recoverable.specs.FitMultis.{ShowsOffsets, offset_at}
+use Rattle.recoverable.specs.FitMultis.{MembersFit, OffsetsFit, ShowsOffsets, offset_at}
+use Rattle.recoverable.specs.MemberImages.{AreRaisesTold, CleanMembers, MembersFollow}
+use Rattle.tx_events.specs.declared.multi.Member.{Member}
 use Rattle.recoverable.specs.OffsetImages.{ByteSince, CleanOffsets, OffsetsFollow}
 
 -- the base of a life
@@ -36,7 +38,14 @@ pub record LogFollows (start : Start) (lists : List (List Entry)) (log : KeptLog
 -- an image of the log may begin at this record: one before the life, or a checkpoint before which it was to be forgotten
 abbrev pub IsBeginning : Start → List (List Entry) → ℕ → Type 0
 IsBeginning start lists n =
-    (n ≤ start.from) ⊎ (Stands lists log_lock (kinds.Forget n) ⊎ ((count : ℕ) × Stands lists log_lock (kinds.LogFault (calls.Forget n) count)))
+    (n < start.from) ⊎ (Stands lists log_lock (kinds.Forget n) ⊎ ((count : ℕ) × Stands lists log_lock (kinds.LogFault (calls.Forget n) count)))
+
+-- A checkpoint before which the log was to be forgotten is on disk, and its counters are the log's behind it: so the
+-- log may begin there.
+abbrev pub MayBeginLaw : Type 0
+MayBeginLaw = (start : Start) (lists : List (List Entry)) (log : KeptLog) (n : ℕ) → EngineInvariant start lists → LogFollows start lists log
+    → Stands lists log_lock (kinds.Forget n) ⊎ ((count : ℕ) × Stands lists log_lock (kinds.LogFault (calls.Forget n) count))
+    → MayBegin log n
 
 -- Each image of a bank of pg_xact fits the log as it begins in any of its images, in a life of fewer than 2,900,000 ids.
 abbrev pub XactFitsLaw : Type 0
@@ -52,6 +61,21 @@ OffsetsShownLaw = (start : Start) (lists : List (List Entry)) (shown : ℕ → O
     EngineInvariant start lists → IsBase start.base → CleanOffsets start shown → LogFollows start lists log → IsBeginning start lists n → length (made (multi_history lists)) < 2900000
     → bank < start.banks → OffsetsFollow start bank shown (at lists (offsets_lock bank)) c
     → ShowsOffsets start.banks bank (base_at log n).recorded (base_at log log.flushed).counters.oldest_multi c
+
+-- And a multixact below the next one of the checkpoint at which the log begins that isn't recorded has none: each image
+-- of a bank of offsets fits the log.
+abbrev pub OffsetsFitLaw : Type 0
+OffsetsFitLaw = (start : Start) (lists : List (List Entry)) (shown : ℕ → Option ℕ) (log : KeptLog) (bank n : ℕ) (c : Pages) →
+    EngineInvariant start lists → IsBase start.base → CleanOffsets start shown → LogFollows start lists log → IsBeginning start lists n → length (made (multi_history lists)) < 2900000
+    → bank < start.banks → OffsetsFollow start bank shown (at lists (offsets_lock bank)) c
+    → OffsetsFit start.banks bank log n c
+
+-- Each image of a bank of members fits the log so, where the announcements of the base's multixacts were told.
+abbrev pub MembersFitLaw : Type 0
+MembersFitLaw = (start : Start) (lists : List (List Entry)) (shown : ℕ → Option Member) (log : KeptLog) (bank n : ℕ) (c : Pages) →
+    EngineInvariant start lists → IsBase start.base → CleanMembers start shown → AreRaisesTold start lists → LogFollows start lists log → IsBeginning start lists n → length (made (multi_history lists)) < 2900000
+    → bank < start.banks → MembersFollow start bank shown (at lists (members_lock bank)) c
+    → MembersFit start.banks bank log n c
 
 -- A multixact of the life's base of which the start shows no offset has none in any image: the life sets none.
 abbrev pub NoStrayOffset : Type 0

@@ -1,7 +1,9 @@
 pub mod LifeBase
+pub mod Images
 pub mod XactImages
 pub mod Fit
 pub mod FitMultis
 pub mod Volumes
 pub mod OffsetImages
+pub mod MemberImages
 pub mod Laws

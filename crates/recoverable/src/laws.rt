@@ -1,4 +1,9 @@
-ghost use Rattle.recoverable.specs.Laws.{XactFitsLaw, OffsetsShownLaw, NoStrayOffset};
+ghost use Rattle.recoverable.specs.Laws.{MayBeginLaw, XactFitsLaw, OffsetsShownLaw, OffsetsFitLaw, MembersFitLaw, NoStrayOffset};
+
+/// A checkpoint before which the log was to be forgotten is on disk, with counters that are the log's behind it.
+pub fn may_begin()
+    ensures { MayBeginLaw }
+{}
 
 /// Where the invariant holds and a bank's value stands for its list, each image of a bank of pg_xact fits the log
 /// (`StartupXLOG` in `src/backend/access/transam/xlog.c` takes such volumes).
@@ -9,6 +14,18 @@ pub fn xact_fits()
 /// So each image of a bank of offsets has the offset of each recorded multixact.
 pub fn offsets_shown()
     ensures { OffsetsShownLaw }
+{}
+
+/// And each image of a bank of offsets fits the log: a multixact below the next one of the checkpoint at which the log
+/// begins that isn't recorded has no offset.
+pub fn offsets_fit()
+    ensures { OffsetsFitLaw }
+{}
+
+/// So each image of a bank of members has the members of each recorded multixact, their ids and modes, and none in the
+/// gaps behind them.
+pub fn members_fit()
+    ensures { MembersFitLaw }
 {}
 
 /// A multixact that the life began with and that isn't recorded has no offset in any image.

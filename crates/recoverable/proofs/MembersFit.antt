@@ -1,6 +1,5 @@
 -- Each image of a bank of members has the members of recorded multixacts, and none in the gaps behind them.
-use Rattle.std.proofs.Common.{Bool, Contains, List, None, Option, Some, ap, arith, cond, eq-eqb, false, inl, inr, length, refl, subst, sym, take, true, ℕ, ⊎_elim, ◌+◌, ◌==◌, ◌-◌, ◌/◌, ◌%◌, ◌<◌, ◌^◌, ◌∙◌, ◌≡◌, ◌≤◌, ◌⊎◌}
-use Rattle.std.proofs.lemmas.Bool.{eqb-true}
+use Rattle.std.proofs.Common.{Contains, List, None, Option, Some, ap, arith, cond, eq-eqb, inl, inr, length, refl, subst, sym, take, true, ℕ, ⊎_elim, ◌+◌, ◌-◌, ◌/◌, ◌%◌, ◌<◌, ◌^◌, ◌∙◌, ◌≡◌, ◌≤◌, ◌⊎◌}
 use Rattle.std.specs.List.{filter_map, flat_map, slice_get}
 use Rattle.xid_order.specs.Ids.{low_half}
 use Rattle.xid_order.specs.Limits.{member_stop}
@@ -23,8 +22,8 @@ use Rattle.tx_core.specs.declared.entry.Kind.TheVariants as kinds
 use Rattle.tx_core.specs.declared.entry.Start.{Start}
 use Rattle.tx_core.proofs.Asking.{upheld_has}
 use Rattle.tx_core.proofs.Cutting.{cut_says}
-use Rattle.tx_core.proofs.Nearness.{multis_are_legal}
-use Rattle.tx_core.proofs.PageShowing.{members_show}
+use Rattle.tx_core.proofs.Nearness.{multis_are_legal, raises_told}
+use Rattle.tx_core.proofs.PageShowing.{members_show, of_number}
 use Rattle.tx_core.specs.CutsFollow.{IsMemberGone, IsTruncated}
 use Rattle.tx_core.specs.EngineInvariant.{EngineInvariant}
 use Rattle.tx_core.specs.Entries.{cut_in, records_of}
@@ -37,7 +36,7 @@ use Rattle.tx_core.specs.SyncsBeforeForgets.{AreMembersSynced, MayForget}
 use Rattle.recoverable.specs.Fit.{KeptLog, base_at, log_end}
 use Rattle.recoverable.specs.FitMultis.{ShowsMembers, ShowsNoGap, byte_of, member_at, mode_at}
 use Rattle.recoverable.specs.Images.{IsAsWanted, MayBeGone, Since, shows_of}
-use Rattle.recoverable.specs.MemberImages.{AreRaisesTold, CleanMembers, MembersFollow, SlotSince, id_byte, id_or_none, member_reading, member_ring, wanted_id, wanted_mode}
+use Rattle.recoverable.specs.MemberImages.{CleanMembers, MembersFollow, SlotSince, id_byte, id_or_none, member_reading, member_ring, wanted_id, wanted_mode}
 use Rattle.recoverable.specs.Laws.{IsBeginning, LogFollows, MembersFitLaw}
 use Rattle.recoverable.proofs.FitsXact.{may_forget}
 use Rattle.recoverable.proofs.LogBases.{life_recs}
@@ -47,13 +46,13 @@ use Rattle.recoverable.proofs.OffsetsFit.{announced_multi, appended_gen, earlier
 use Rattle.recoverable.proofs.Places.{shows_from}
 use Rattle.recoverable.proofs.Stretches.{filter_map_has, flat_map_has, get_inside, has_longer, map_get, taken_place}
 
+-- where a multixact of the base is announced as the oldest one, it is announced with its offset
+abbrev AreRaisesTold : Start → List (List Entry) → Type 0
+AreRaisesTold start lists = (by : By) (multi offset : ℕ) → Contains (multi_history lists) (multis.Raise by multi offset) → multi < start.base.multi
+    → (members : List Member) × Contains start.recorded (records.Multi multi offset members)
+
 slot_at : (offset : ℕ) (v : Member) (slot : SetSlot) → member_for offset slot ≡ Some v → (slot.offset ≡ offset) × (slot.member ≡ v)
-slot_at offset v slot e =
-    let step : (b : Bool) → (slot.offset == offset) ≡ b → cond b (Some slot.member) None ≡ Some v → (slot.offset ≡ offset) × (slot.member ≡ v) = elim [
-      | true ↦ λ q g. (eqb-true slot.offset offset q, cc)
-      | false ↦ λ q g. absurd cc
-    ] in
-    step (slot.offset == offset) refl e
+slot_at offset v slot e = of_number slot.offset offset slot.member v e
 
 slot_to : (offset : ℕ) (slot : SetSlot) → slot.offset ≡ offset → member_for offset slot ≡ Some slot.member
 slot_to offset slot q = ap (λ b. cond b (Some slot.member) None) (eq-eqb slot.offset offset q)
@@ -309,7 +308,7 @@ module _ (start : Start) (lists : List (List Entry)) (log : KeptLog) (k : Engine
       (recorded_cases start lists log (log_end log) (records.Multi multi offset members) f long among)
 
 pub members_fit : MembersFitLaw
-members_fit start lists shown log bank n c k is clean told f beginning few inside follows = record {
-  recorded = members_shown start lists log k is f few shown bank n c clean told beginning inside follows;
+members_fit start lists shown log bank n c k is told clean f beginning few inside follows = record {
+  recorded = members_shown start lists log k is f few shown bank n c clean (λ by multi offset raised old. raises_told start lists by multi offset k told raised old) beginning inside follows;
   no_gap = no_gap start lists log k is f few shown bank c clean follows;
 }

@@ -1,6 +1,5 @@
 -- A multixact that isn't recorded has no offset.
-use Rattle.std.proofs.Common.{◌≡◌, ℕ, ◌+◌, ◌<◌, ◌≤◌, ◌⊎◌, ⊎_elim, Bool, true, false, ◌==◌, cond, List, [], take, slice_index, Option, Some, None, Contains, refl, sym, ap, subst, arith, ◌∙◌}
-use Rattle.std.proofs.lemmas.Bool.{eqb-true}
+use Rattle.std.proofs.Common.{◌≡◌, ℕ, ◌+◌, ◌<◌, ◌≤◌, ◌⊎◌, ⊎_elim, List, [], take, slice_index, Option, Some, None, Contains, refl, sym, ap, subst, arith, ◌∙◌}
 use Rattle.std.specs.List.{flat_map}
 use Rattle.store_pages.specs.Layouts.{number_in, word_page_of, word_place_of}
 use Rattle.disk_core.specs.Pages.{page_bytes}
@@ -9,6 +8,7 @@ use Rattle.tx_events.proofs.Membership.{Has, all_at, contains_has, has_flat_map,
 use Rattle.tx_core.proofs.Asking.{upheld_has}
 use Rattle.tx_core.specs.declared.entry.Entry.{Entry}
 use Rattle.tx_core.proofs.Nearness.{multis_are_legal}
+use Rattle.tx_core.proofs.PageShowing.{of_number}
 use Rattle.tx_core.proofs.Rising.{made_more}
 use Rattle.tx_core.specs.EngineInvariant.{EngineInvariant}
 use Rattle.tx_events.specs.declared.event.By.{By}
@@ -35,12 +35,7 @@ zero_byte i lt = ⊎_elim (λ (e : i ≡ 0). subst (λ z. byte_of 0 z ≡ 0) (sy
     which i lt = grind arith
 
 pub set_of : (multi v : ℕ) (set : SetOffset) → offset_for multi set ≡ Some v → set.multi ≡ multi
-set_of multi v set e =
-    let step : (b : Bool) → (set.multi == multi) ≡ b → cond b (Some set.offset) None ≡ Some v → set.multi ≡ multi = elim [
-      | true ↦ λ q g. eqb-true set.multi multi q
-      | false ↦ λ q g. absurd cc
-    ] in
-    step (set.multi == multi) refl e
+set_of multi v set e = (of_number set.multi multi set.offset v e).0
 
 number_zero : (bytes : List ℕ) (place : ℕ) → ((i : ℕ) → i < 4 → slice_index bytes (place + i) ≡ 0) → number_in bytes place ≡ 0
 number_zero bytes place each =

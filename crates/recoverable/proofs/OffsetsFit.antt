@@ -1,5 +1,5 @@
 -- Each image of a bank of offsets has the offsets of recorded multixacts.
-use Rattle.std.proofs.Common.{Bool, Contains, List, None, Option, Some, [], ap, arith, cond, eq-eqb, false, inl, inr, length, length-append, refl, subst, sym, take, true, ℕ, ⊎_elim, ◌++◌, ◌+◌, ◌==◌, ◌-◌, ◌/◌, ◌%◌, ◌<◌, ◌^◌, ◌∙◌, ◌∷◌, ◌≡◌, ◌≤◌, ◌⊎◌}
+use Rattle.std.proofs.Common.{Contains, List, None, Option, Some, [], ap, arith, cond, eq-eqb, inl, inr, length, length-append, refl, subst, sym, take, true, ℕ, ⊎_elim, ◌++◌, ◌+◌, ◌-◌, ◌/◌, ◌%◌, ◌<◌, ◌^◌, ◌∙◌, ◌∷◌, ◌≡◌, ◌≤◌, ◌⊎◌}
 use Rattle.std.specs.List.{filter, filter_map, flat_map, last_or, slice_get, slice_index}
 use Rattle.xid_order.specs.Ids.{low_half}
 use Rattle.store_pages.specs.Layouts.{multi_before, number_in, word_page_of, word_place_of}
@@ -24,7 +24,7 @@ use Rattle.tx_core.proofs.Growing.{begins_filter_map}
 use Rattle.tx_core.proofs.Nearness.{multis_are_legal}
 use Rattle.tx_core.proofs.Rising.{made_more}
 use Rattle.xid_order.specs.Limits.{multi_stop_limit}
-use Rattle.tx_core.proofs.PageShowing.{offsets_show}
+use Rattle.tx_core.proofs.PageShowing.{of_number, offsets_show}
 use Rattle.tx_core.proofs.Reading.{flushed_appended}
 use Rattle.tx_core.specs.CutsFollow.{IsOffsetGone, IsTruncated}
 use Rattle.tx_core.specs.EngineInvariant.{EngineInvariant}
@@ -68,9 +68,7 @@ module _ {A : Type 0} where
   last_some o (x ∷ xs) v h each = last_all (Some x) xs v (ap (λ z. Some z) (each x (inl refl))) (λ y k. each y (inr k))
 
 value_of : (multi v : ℕ) (set : SetOffset) → offset_for multi set ≡ Some v → set.offset ≡ v
-value_of multi v set e =
-    let step : (b : Bool) → cond b (Some set.offset) None ≡ Some v → set.offset ≡ v = elim [ true ↦ λ g. cc | false ↦ λ g. absurd cc ] in
-    step (set.multi == multi) e
+value_of multi v set e = (of_number set.multi multi set.offset v e).1
 
 offset_to : (multi : ℕ) (set : SetOffset) → set.multi ≡ multi → offset_for multi set ≡ Some set.offset
 offset_to multi set q = ap (λ b. cond b (Some set.offset) None) (eq-eqb set.multi multi q)

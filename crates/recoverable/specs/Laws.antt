@@ -1,5 +1,5 @@
 -- The law: where the engine invariant holds, and values stand for their lists, the volumes fit.
-use Rattle.std.specs.Prelude.{◌≡◌, ℕ, ◌+◌, ◌<◌, ◌≤◌, ◌⊎◌, List, ◌++◌, length, Option, None}
+use Rattle.std.specs.Prelude.{◌≡◌, ℕ, ◌+◌, ◌<◌, ◌≤◌, ◌⊎◌, List, ◌++◌, length, Option, None, IsTrue}
 use Rattle.disk_core.specs.Pages.{Pages}
 use Rattle.tx_events.specs.Base.{IsBase}
 use Rattle.tx_events.specs.Events.{given}
@@ -19,7 +19,7 @@ use Rattle.recoverable.specs.LifeBase.{LifeBase, base_after}
 use Rattle.recoverable.specs.Fit.{KeptLog, MayBegin, XactFits, base_at}
 use Rattle.recoverable.specs.XactImages.{Follows}
 use Rattle.recoverable.specs.FitMultis.{MembersFit, OffsetsFit, ShowsOffsets, offset_at}
-use Rattle.recoverable.specs.MemberImages.{AreRaisesTold, CleanMembers, MembersFollow}
+use Rattle.recoverable.specs.MemberImages.{CleanMembers, MembersFollow}
 use Rattle.tx_events.specs.declared.multi.Member.{Member}
 use Rattle.recoverable.specs.OffsetImages.{ByteSince, CleanOffsets, OffsetsFollow}
 
@@ -70,10 +70,10 @@ OffsetsFitLaw = (start : Start) (lists : List (List Entry)) (shown : ℕ → Opt
     → bank < start.banks → OffsetsFollow start bank shown (at lists (offsets_lock bank)) c
     → OffsetsFit start.banks bank log n c
 
--- Each image of a bank of members fits the log so, where the announcements of the base's multixacts were told.
+-- Each image of a bank of members fits the log so, where the pages told the offsets of the base's multixacts.
 abbrev pub MembersFitLaw : Type 0
 MembersFitLaw = (start : Start) (lists : List (List Entry)) (shown : ℕ → Option Member) (log : KeptLog) (bank n : ℕ) (c : Pages) →
-    EngineInvariant start lists → IsBase start.base → CleanMembers start shown → AreRaisesTold start lists → LogFollows start lists log → IsBeginning start lists n → length (made (multi_history lists)) < 2900000
+    EngineInvariant start lists → IsBase start.base → IsTrue start.told → CleanMembers start shown → LogFollows start lists log → IsBeginning start lists n → length (made (multi_history lists)) < 2900000
     → bank < start.banks → MembersFollow start bank shown (at lists (members_lock bank)) c
     → MembersFit start.banks bank log n c
 

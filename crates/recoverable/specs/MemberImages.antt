@@ -8,12 +8,10 @@ use Rattle.tx_core.specs.declared.entry.Entry.{Entry}
 use Rattle.tx_core.specs.declared.entry.Start.{Start}
 use Rattle.tx_core.specs.CleanStart.{IsClearFrom}
 use Rattle.tx_core.specs.Locks.{member_page_in_full, members_lock, members_lock_of}
-use Rattle.tx_core.specs.MultiEntries.{SetSlot, multi_history}
+use Rattle.tx_core.specs.MultiEntries.{SetSlot}
 use Rattle.tx_core.specs.Pages.{member_store}
 use Rattle.tx_events.specs.Modes.{mode_number}
-use Rattle.tx_events.specs.declared.event.By.{By}
 use Rattle.tx_events.specs.declared.multi.Member.{Member}
-use Rattle.tx_events.specs.declared.multi.MultiEvent.TheVariants as multis
 use Rattle.tx_events.specs.declared.record.Rec.TheVariants as records
 use Rattle.recoverable.specs.FitMultis.{byte_of, mode_at}
 use Rattle.recoverable.specs.Images.{PageRing, Reading, Since}
@@ -69,8 +67,3 @@ pub record CleanMembers (start : Start) (shown : ℕ → Option Member) : Type 0
   pub gap : (multi offset : ℕ) (members : List Member) → Contains start.recorded (records.Multi multi offset members) → start.base.oldest_multi ≤ multi
       → low_half (offset + length members) ≡ 0 → shown (offset + length members) ≡ None
   pub clean : IsClearFrom start.base.offset shown
-
--- where a multixact of the base is announced as the oldest one, it is announced with its offset
-abbrev pub AreRaisesTold : Start → List (List Entry) → Type 0
-AreRaisesTold start lists = (by : By) (multi offset : ℕ) → Contains (multi_history lists) (multis.Raise by multi offset) → multi < start.base.multi
-    → (members : List Member) × Contains start.recorded (records.Multi multi offset members)

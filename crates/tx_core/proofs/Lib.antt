@@ -24,3 +24,4 @@ pub mod Posting
 pub mod Nearness
 pub mod Cutting
 pub mod RecordNext
+pub mod OpenKept

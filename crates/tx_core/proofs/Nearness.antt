@@ -5,8 +5,9 @@ use Rattle.std.proofs.lemmas.List.Elements.{filter_map-append}
 use Rattle.std.specs.List.{cons_option, slice_get}
 use Rattle.tx_events.specs.declared.event.By.{By}
 use Rattle.tx_events.specs.declared.multi.MultiEvent.{MultiEvent}
+use Rattle.tx_events.specs.declared.multi.MultiEvent.TheVariants as multis
 use Rattle.tx_events.proofs.IdOrder.{nth_upto}
-use Rattle.tx_events.proofs.Membership.{by_end, contains_has}
+use Rattle.tx_events.proofs.Membership.{by_end, contains_has, has_filter_map}
 use Rattle.tx_events.proofs.PlaceLemmas.{each_place_none, each_place_push, last_at, slice_get-grows, take-grows}
 use Rattle.tx_events.specs.Events.{given}
 use Rattle.tx_events.specs.Multis.{AreLegalMultis, InBase, MultiMayCome, multi_by}
@@ -16,11 +17,11 @@ use Rattle.tx_core.specs.declared.entry.Start.{Start}
 use Rattle.tx_core.proofs.Asking.{if_some, upheld_has}
 use Rattle.tx_core.specs.EngineInvariant.{EngineInvariant}
 use Rattle.tx_core.specs.Entries.{history}
-use Rattle.tx_core.specs.Laws.{MadeNear, MultisAreLegal}
+use Rattle.tx_core.specs.Laws.{MadeNear, MultisAreLegal, RaisesTold}
 use Rattle.notes.specs.Lists.{at}
 use Rattle.tx_core.specs.Locks.{multi_lock, subtrans_lock, xact_lock}
-use Rattle.tx_core.specs.MultiEntries.{multi_of, multis_in}
-use Rattle.tx_core.specs.MultisLegal.{NeedsMulti}
+use Rattle.tx_core.specs.MultiEntries.{multi_history, multi_of, multis_in}
+use Rattle.tx_core.specs.MultisLegal.{NeedsMulti, ToldOf}
 use Rattle.tx_core.specs.PagesBeforeIds.{IsWanted, NeedsZero}
 
 pub multis_are_legal : MultisAreLegal
@@ -36,9 +37,17 @@ multis_are_legal start lists k = legal (at lists multi_lock) (λ p e here. k.mul
         let step : (o : Option MultiEvent) → multi_of e ≡ o → AreLegalMultis start.base (InBase start.base) (multis_in es ++ cons_option o []) = elim [
           | None ↦ λ g. subst (AreLegalMultis start.base (InBase start.base)) (sym (append-nil (multis_in es))) old
           | Some event ↦ λ g. each_place_push (MultiMayCome start.base (InBase start.base)) (multis_in es) event old
-              (if_some (multi_of e) (λ event. (multi_by event ≡ e.by) × MultiMayCome start.base (InBase start.base) (multis_in es) event) event last g).1
+              (if_some (multi_of e) (λ event. (multi_by event ≡ e.by) × MultiMayCome start.base (InBase start.base) (multis_in es) event × ToldOf start event) event last g).1
         ] in
         subst (AreLegalMultis start.base (InBase start.base)) (sym (filter_map-append multi_of es (e ∷ []))) (step (multi_of e) refl))
+
+-- where the pages told, an announced multixact of the base has its offset
+pub raises_told : RaisesTold
+raises_told start lists by multi offset k told c old =
+    let found = has_filter_map multi_of (at lists multi_lock) (multis.Raise by multi offset) (contains_has (multi_history lists) (multis.Raise by multi offset) c) in
+    let need = upheld_has (NeedsMulti start) lists multi_lock found.0 k.multis.each found.1 in
+    let event : MultiEvent = multis.Raise by multi offset in
+    (if_some (multi_of found.0) (λ event. (multi_by event ≡ found.0.by) × MultiMayCome start.base (InBase start.base) (multis_in need.0) event × ToldOf start event) event need.1 found.2).2 told old
 
 -- a page that was made was wanted
 wanted : (start : Start) (lists : List (List Entry)) (lock page : ℕ) (by : By) → EngineInvariant start lists → Contains (at lists lock) (record { by = by; kind = kinds.Zero page }) → IsWanted start lists lock page

@@ -39,6 +39,7 @@ start = record {
   committed = [];
   recorded = [];
   logged = [];
+  told = false;
 }
 
 abbrev pub by : ℕ → ℕ → By

@@ -5,7 +5,7 @@ use Rattle.std.proofs.lemmas.Bool.Decides.{nat_tests}
 use Rattle.std.proofs.lemmas.Grind.{flat_map-append}
 use Rattle.std.proofs.lemmas.List.Elements.{filter_map-append}
 use Rattle.std.proofs.lemmas.List.Sums.{fold_push}
-use Rattle.std.specs.List.{filter_map, flat_map, last_or, slice_get}
+use Rattle.std.specs.List.{AllByRecursion, filter_map, flat_map, last_or, slice_get}
 use Rattle.std.specs.Prelude.{nat_lt}
 use Rattle.tx_events.specs.declared.event.By.{By}
 use Rattle.tx_events.proofs.Membership.{Has, by_end, contains_has, has_cases, has_filter_map, has_flat_map, has_place, all_at, has_take}
@@ -16,10 +16,9 @@ use Rattle.tx_core.specs.declared.entry.Start.{Start}
 use Rattle.tx_core.proofs.Reading.{last_or-append}
 use Rattle.tx_core.proofs.Taking.{get_of_take, taken_twice}
 use Rattle.tx_core.specs.EngineInvariant.{EngineInvariant}
-use Rattle.tx_core.specs.Entries.{Link, Mark, changes_in, link_of, links_in, mark_of, marks_in}
+use Rattle.tx_core.specs.Entries.{changes_in, link_of, mark_of}
 use Rattle.notes.specs.Lists.{at}
-use Rattle.tx_core.specs.Locks.{member_page_in_full, offset_page, subtrans_page, xact_page}
-use Rattle.tx_core.specs.MultiEntries.{SetOffset, SetSlot, offset_of, offsets_in, slot_of, slots_in}
+use Rattle.tx_core.specs.MultiEntries.{offset_of, slot_of}
 use Rattle.tx_core.specs.declared.entry.Change.{Change}
 use Rattle.tx_core.specs.Pages.{MembersShow, OffsetsShow, Pages, PagesShow, ParentsShow, Store, after_entry, member_store, offset_store, pages_after, set_by, subtrans_store, xact_store, zeroed, zeroed_in}
 use Rattle.tx_core.specs.PagesBeforeIds.{WasMade}
@@ -131,41 +130,33 @@ module _ {I : Type 0} where
 
 -- a value that is read of a number is one that was set of it
 module _ {V : Type 0} where
-  of_number : (number x : ℕ) (value v : V) → cond (number == x) (Some value) None ≡ Some v → number ≡ x
+  pub of_number : (number x : ℕ) (value v : V) → cond (number == x) (Some value) None ≡ Some v → (number ≡ x) × (value ≡ v)
   of_number number x value v e =
-      let step : (b : Bool) → (number == x) ≡ b → cond b (Some value) None ≡ Some v → number ≡ x = elim [
-        | true ↦ λ q g. eqb-true number x q
+      let step : (b : Bool) → (number == x) ≡ b → cond b (Some value) None ≡ Some v → (number ≡ x) × (value ≡ v) = elim [
+        | true ↦ λ q g. (eqb-true number x q, cc)
         | false ↦ λ q g. absurd cc
       ] in
       step (number == x) refl e
 
+-- what each item sets of its own number lies on a page that was made before it
+module _ {I V : Type 0} where
+  all_placed : (s : Store I V) (first : ℕ) (number_of : I → ℕ) (value_of : I → V) (es : List Entry) → ((x : ℕ) (i : I) → s.value_for x i ≡ cond (number_of i == x) (Some (value_of i)) None)
+      → ((p : ℕ) (e : Entry) → slice_get es p ≡ Some e → AllByRecursion (λ i. WasMade (take p es) (s.page_of first) (s.page_of (number_of i))) (s.items_of e)) → ArePlaced s first es
+  all_placed s first number_of value_of es says each p e i x v g h read =
+      subst (λ z. WasMade (take p es) (s.page_of first) (s.page_of z)) (of_number (number_of i) x (value_of i) v (sym (says x i) ∙ read)).0
+      (all_at (λ j. WasMade (take p es) (s.page_of first) (s.page_of (number_of j))) (s.items_of e) i (each p e g) h)
+
 states_placed : (start : Start) (lists : List (List Entry)) (lock : ℕ) → EngineInvariant start lists → ArePlaced xact_store start.base.next (at lists lock)
-states_placed start lists lock k p e mark x v g h read =
-    let before : List Entry = take p (at lists lock) in
-    let first : ℕ = xact_page start.base.next in
-    subst (λ z. WasMade before first (xact_page z)) (of_number mark.id x mark.state v read)
-    (all_at (λ (m : Mark). WasMade before first (xact_page m.id)) (marks_in e) mark (k.pages.changes.each lock p e g).marks h)
+states_placed start lists lock k = all_placed xact_store start.base.next (λ m. m.id) (λ m. m.state) (at lists lock) (λ x m. refl) (λ p e g. (k.pages.changes.each lock p e g).marks)
 
 parents_placed : (start : Start) (lists : List (List Entry)) (lock : ℕ) → EngineInvariant start lists → ArePlaced subtrans_store start.base.next (at lists lock)
-parents_placed start lists lock k p e link x v g h read =
-    let before : List Entry = take p (at lists lock) in
-    let first : ℕ = subtrans_page start.base.next in
-    subst (λ z. WasMade before first (subtrans_page z)) (of_number link.id x link.parent v read)
-    (all_at (λ (l : Link). WasMade before first (subtrans_page l.id)) (links_in e) link (k.pages.changes.each lock p e g).links h)
+parents_placed start lists lock k = all_placed subtrans_store start.base.next (λ l. l.id) (λ l. l.parent) (at lists lock) (λ x l. refl) (λ p e g. (k.pages.changes.each lock p e g).links)
 
 offsets_placed : (start : Start) (lists : List (List Entry)) (lock : ℕ) → EngineInvariant start lists → ArePlaced offset_store start.base.multi (at lists lock)
-offsets_placed start lists lock k p e set x v g h read =
-    let before : List Entry = take p (at lists lock) in
-    let first : ℕ = offset_page start.base.multi in
-    subst (λ z. WasMade before first (offset_page z)) (of_number set.multi x set.offset v read)
-    (all_at (λ (s : SetOffset). WasMade before first (offset_page s.multi)) (offsets_in e) set (k.pages.changes.each lock p e g).offsets h)
+offsets_placed start lists lock k = all_placed offset_store start.base.multi (λ s. s.multi) (λ s. s.offset) (at lists lock) (λ x s. refl) (λ p e g. (k.pages.changes.each lock p e g).offsets)
 
 members_placed : (start : Start) (lists : List (List Entry)) (lock : ℕ) → EngineInvariant start lists → ArePlaced member_store start.base.offset (at lists lock)
-members_placed start lists lock k p e slot x v g h read =
-    let before : List Entry = take p (at lists lock) in
-    let first : ℕ = member_page_in_full start.base.offset in
-    subst (λ z. WasMade before first (member_page_in_full z)) (of_number slot.offset x slot.member v read)
-    (all_at (λ (s : SetSlot). WasMade before first (member_page_in_full s.offset)) (slots_in e) slot (k.pages.changes.each lock p e g).slots h)
+members_placed start lists lock k = all_placed member_store start.base.offset (λ s. s.offset) (λ s. s.member) (at lists lock) (λ x s. refl) (λ p e g. (k.pages.changes.each lock p e g).slots)
 
 pub pages_show : PagesShow
 pages_show start lists shown lock n x k is near =

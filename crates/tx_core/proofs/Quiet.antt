@@ -17,6 +17,7 @@ use Rattle.tx_core.specs.Laws.{AbortRecordKeeps, CheckpointRecordKeeps, CutKeeps
 use Rattle.notes.specs.Lists.{at}
 use Rattle.tx_core.specs.Locks.{log_lock, member_page_in_full, multi_lock, offset_page, subtrans_page, xact_page}
 use Rattle.tx_core.specs.LogBeforeStatus.{RecordOf, TreeOf}
+use Rattle.tx_core.specs.MultisLegal.{ToldOf}
 use Rattle.tx_core.specs.PagesBeforeIds.{PagesOf, WasMade, ZeroOf}
 use Rattle.tx_core.specs.MultiEntries.{SetOffset, SetSlot, multi_in, multis_in, offset_of, slot_of}
 use Rattle.tx_core.specs.RecordsFollow.{AppendOf, FlushOf, NamedOf}
@@ -104,7 +105,7 @@ pub record HasNeeds (start : Start) (seen : List (List Entry)) (lock : ℕ) (by 
   pub named : NamedOf start seen by kind
   pub flushed : FlushOf start (at seen lock) kind
   pub cuts : IfSome (cut_in kind) (CutBy start seen lock)
-  pub multis : IfSome (multi_in kind) (λ event. (multi_by event ≡ by) × MultiMayCome start.base (InBase start.base) (multis_in (at seen lock)) event)
+  pub multis : IfSome (multi_in kind) (λ event. (multi_by event ≡ by) × MultiMayCome start.base (InBase start.base) (multis_in (at seen lock)) event × ToldOf start event)
   pub syncs : ForgetOf start seen (at seen lock) kind
   pub posts : PostIn start seen lock (at seen lock) kind
 
@@ -182,7 +183,7 @@ pub log_fault_law : LogFaultKeeps
 log_fault_law start seen by asked count may = quiet_keeps start seen log_lock by (kinds.LogFault asked count) refl refl (record { made = tt; counters = tt; named = tt; flushed = tt; cuts = tt; multis = tt; syncs = may; posts = tt })
 
 pub multi_event_law : MultiEventKeeps
-multi_event_law start seen by event own rule = quiet_keeps start seen multi_lock by (kinds.Multi event) refl refl (record { made = tt; counters = tt; named = tt; flushed = tt; cuts = tt; multis = (own, rule); syncs = tt; posts = tt })
+multi_event_law start seen by event own rule told = quiet_keeps start seen multi_lock by (kinds.Multi event) refl refl (record { made = tt; counters = tt; named = tt; flushed = tt; cuts = tt; multis = (own, rule, told); syncs = tt; posts = tt })
 
 pub zero_law : ZeroKeeps
 zero_law start seen lock by page on wanted = quiet_keeps start seen lock by (kinds.Zero page) refl on (record { made = wanted; counters = tt; named = tt; flushed = tt; cuts = tt; multis = tt; syncs = tt; posts = tt })

@@ -1,6 +1,6 @@
 -- What the laws say: each kind of entry, with what its session needs of the lists that it has seen, keeps the invariant.
 use Rattle.std.specs.List.{filter_map}
-use Rattle.std.specs.Prelude.{Contains, IfSome, List, Option, Some, [], length, map, slice_get, take, true, ℕ, ◌+◌, ◌<◌, ◌^◌, ◌∷◌, ◌≡◌, ◌≤◌, ◌⊎◌}
+use Rattle.std.specs.Prelude.{Contains, IfSome, IsTrue, List, Option, Some, [], length, map, slice_get, take, true, ℕ, ◌+◌, ◌<◌, ◌^◌, ◌∷◌, ◌≡◌, ◌≤◌, ◌⊎◌}
 use Rattle.tx_events.specs.declared.event.By.{By}
 use Rattle.tx_events.specs.declared.event.Event.{Event}
 use Rattle.tx_events.specs.declared.multi.MultiEvent.{MultiEvent}
@@ -30,6 +30,7 @@ use Rattle.tx_core.specs.ParentsFollow.{IsGivenBelow}
 use Rattle.tx_core.specs.ProgramOrder.{AreCallers, AreOn, IsInTurn}
 use Rattle.tx_core.specs.RecordsFollow.{CheckpointOf, IsGenOf, IsMultiAnnounced, IsOldestAnnounced, counters_after}
 use Rattle.tx_core.specs.CutsFollow.{CutBy}
+use Rattle.tx_core.specs.MultisLegal.{ToldOf}
 use Rattle.tx_core.specs.MembersBeforeOffset.{OffsetOf, SlotOf}
 use Rattle.tx_core.specs.SyncsBeforeForgets.{ForgetOf, MayForget}
 use Rattle.tx_events.specs.After.{after_record, ids_of}
@@ -38,6 +39,7 @@ use Rattle.tx_events.specs.declared.multi.Member.{Member}
 use Rattle.tx_events.specs.declared.record.Counters.{Counters}
 use Rattle.tx_core.specs.declared.entry.Change.TheVariants as changes
 use Rattle.tx_events.specs.declared.event.Event.TheVariants as events
+use Rattle.tx_events.specs.declared.multi.MultiEvent.TheVariants as multis
 use Rattle.tx_core.specs.declared.entry.Kind.TheVariants as kinds
 use Rattle.tx_events.specs.declared.record.Rec.TheVariants as records
 use Rattle.tx_core.specs.declared.entry.State.TheVariants as states
@@ -169,10 +171,10 @@ abbrev pub MadeKeeps : Type 0
 MadeKeeps = (start : Start) (seen : List (List Entry)) (by : By) (id : ℕ) →
     IsMade start seen id → id ≤ next_given start.base.next (history seen) → KindKeeps start seen proc_lock by (kinds.Made id)
 
--- the multixacts
+-- the multixacts; one that the life began with is announced with its offset, where the pages told it
 abbrev pub MultiEventKeeps : Type 0
 MultiEventKeeps = (start : Start) (seen : List (List Entry)) (by : By) (event : MultiEvent) →
-    multi_by event ≡ by → MultiMayCome start.base (InBase start.base) (multi_history seen) event → KindKeeps start seen multi_lock by (kinds.Multi event)
+    multi_by event ≡ by → MultiMayCome start.base (InBase start.base) (multi_history seen) event → ToldOf start event → KindKeeps start seen multi_lock by (kinds.Multi event)
 
 -- The published words. Whoever is inside the ProcArray's lock publishes what the history shows at its end.
 abbrev pub OldestPostKeeps : Type 0
@@ -375,6 +377,17 @@ abbrev pub StatesKept : Type 0
 StatesKept = (start : Start) (lists : List (List Entry)) (bank page : ℕ) (e : Entry) →
     EngineInvariant start lists → Contains (at lists (xact_lock bank)) e → cut_in e.kind ≡ Some page
     → page ≤ xact_page (oldest_id start.base.oldest (history lists))
+
+-- An id that is open is not before the announced oldest one.
+abbrev pub OpenKept : Type 0
+OpenKept = (start : Start) (lists : List (List Entry)) (session x : ℕ) →
+    EngineInvariant start lists → IsBase start.base → Contains (open_ids session (history lists)) x → oldest_id start.base.oldest (history lists) ≤ x
+
+-- Where the pages told, a multixact that the life began with is announced with its offset.
+abbrev pub RaisesTold : Type 0
+RaisesTold = (start : Start) (lists : List (List Entry)) (by : By) (multi offset : ℕ) →
+    EngineInvariant start lists → IsTrue start.told → Contains (multi_history lists) (multis.Raise by multi offset) → multi < start.base.multi
+    → (members : List Member) × Contains start.recorded (records.Multi multi offset members)
 
 -- so an oldest xmin that was seen is not past the xmin of any snapshot that is live later
 abbrev pub SnapshotsHold : Type 0

@@ -132,4 +132,6 @@ pub struct Start {
     pub recorded: RecList,
     /// The records that the log had when the life began, the checkpoint with which it began last.
     pub logged: RecList,
+    /// Whether the pages told at what offset each of the multixacts that were made before begins.
+    pub told: bool,
 }

@@ -1,4 +1,4 @@
-ghost use Rattle.tx_core.specs.Laws.{Keeps, Opens, CommitRecordKeeps, AbortRecordKeeps, MultiRecordKeeps, CheckpointRecordKeeps, TruncateRecordKeeps, FlushKeeps, ForgetKeeps, LogFaultKeeps, IdEventKeeps, SubEventKeeps, UndoEventKeeps, CommitEventKeeps, AbortEventKeeps, SnapEventKeeps, SnapDropKeeps, OldestKeeps, AskKeeps, MadeKeeps, MultiEventKeeps, ChangesKeep, CommittedKeeps, SubCommittedKeeps, AbortedKeeps, ParentKeeps, ZeroKeeps, CutKeeps, SyncKeeps, FaultKeeps, RequestKeeps, LookKeeps, NeverAborted, CommittedAsked, AskedGiven, OldestPostKeeps, XminPostKeeps, OldestRises, PostsGoOn, MultisAreLegal, MadeNear, NextGiven, ParentsKept, StatesKept, HorizonRises, SnapshotsHold};
+ghost use Rattle.tx_core.specs.Laws.{Keeps, Opens, CommitRecordKeeps, AbortRecordKeeps, MultiRecordKeeps, CheckpointRecordKeeps, TruncateRecordKeeps, FlushKeeps, ForgetKeeps, LogFaultKeeps, IdEventKeeps, SubEventKeeps, UndoEventKeeps, CommitEventKeeps, AbortEventKeeps, SnapEventKeeps, SnapDropKeeps, OldestKeeps, AskKeeps, MadeKeeps, MultiEventKeeps, ChangesKeep, CommittedKeeps, SubCommittedKeeps, AbortedKeeps, ParentKeeps, ZeroKeeps, CutKeeps, SyncKeeps, FaultKeeps, RequestKeeps, LookKeeps, NeverAborted, CommittedAsked, AskedGiven, OldestPostKeeps, XminPostKeeps, OldestRises, PostsGoOn, MultisAreLegal, MadeNear, NextGiven, ParentsKept, StatesKept, HorizonRises, SnapshotsHold, OpenKept, RaisesTold};
 ghost use Rattle.tx_core.specs.Pages.{PagesShow, ParentsShow, OffsetsShow, MembersShow};
 ghost use Rattle.tx_core.specs.Verdict.{Decides};
 
@@ -256,4 +256,15 @@ pub fn horizon_rises()
 /// An oldest xmin that was seen is not past the xmin of a snapshot that is live later.
 pub fn snapshots_hold()
     ensures { SnapshotsHold }
+{}
+
+/// An id that is open is not before the announced oldest one.
+pub fn open_kept()
+    ensures { OpenKept }
+{}
+
+/// Where the pages told, a multixact that the life began with is announced with its offset (`find_multixact_start` in
+/// `multixact.c`).
+pub fn raises_told()
+    ensures { RaisesTold }
 {}

@@ -10,7 +10,7 @@ ghost use Rattle.proc_table.specs.Lives.{HoldsLive, xmin_under, live_xmin, other
 use crate::xmins::{XminCounts, count_less, count_more, least_counted};
 use std::alloc::Global;
 use std::collections::BTreeMap;
-use tx_events::{Memory, Name, Sequence};
+use tx_events::{Memory, Name};
 use xid_order::FullXid;
 
 /// The xmin of each live snapshot of one session, by the bytes of its name.
@@ -120,7 +120,7 @@ fn take_name(names: &mut NamedXmins, name: &Name) -> Option<Name>
     ensures same { IfNone result ((n : List ℕ) → xmin_under n names.new ≡ xmin_under n names.old) }
 {
     match names.remove_entry(name.items()) {
-        Some((key, _)) => Some(Sequence::of(key)),
+        Some(_entry) => Some(name.same()),
         None => None,
     }
 }

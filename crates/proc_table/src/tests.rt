@@ -7,10 +7,8 @@ use std::process::Abort;
 use tx_events::{IdList, Name, Refusal, SnapData, XactEnd};
 use xid_order::FullXid;
 
-fn name<R: Abort + AllocGlobal>(rt: &R, letter: u8) -> Name {
-    let mut name = Name::new(rt.alloc());
-    assert!(rt; name.push(letter).is_ok());
-    name
+fn name(letter: u8) -> Name {
+    Name::of(&[letter])
 }
 
 fn id<R: Abort>(rt: &R, number: u64) -> FullXid {
@@ -44,14 +42,14 @@ fn xmax_past_running_top(rt: HostRuntime) {
     assert!(rt; driver.write(0) == gives(&rt, 3, false));
     assert!(rt; driver.write(1) == gives(&rt, 4, false));
     driver.end(1, XactEnd::Commit);
-    let snap = driver.snap(&rt, 0, &name(&rt, b's')).expect(&rt, "memory");
+    let snap = driver.snap(&rt, 0, &name(b's')).expect(&rt, "memory");
     assert_limits(&rt, &snap, 3, 5, false);
     assert_ids(&rt, &snap.xip, &[3]);
     assert_ids(&rt, &snap.subxip, &[]);
     assert_eq!(rt; driver.table.oldest_xmin().number(), 3);
     driver.end(0, XactEnd::Commit);
     assert_eq!(rt; driver.table.oldest_xmin().number(), 3);
-    driver.drop_snap(&rt, 0, &name(&rt, b's'));
+    driver.drop_snap(&rt, 0, &name(b's'));
     assert_eq!(rt; driver.table.oldest_xmin().number(), 5);
     assert_eq!(rt; driver.table.events().len(), 6);
 }
@@ -65,7 +63,7 @@ fn snapshot_overflows_at_65_subids(rt: HostRuntime) {
     assert!(rt; driver.write(2) == gives(&rt, 68, false));
     driver.end(2, XactEnd::Commit);
     assert_eq!(rt; driver.table.listed(), 65);
-    let snap = driver.snap(&rt, 1, &name(&rt, b's')).expect(&rt, "memory");
+    let snap = driver.snap(&rt, 1, &name(b's')).expect(&rt, "memory");
     assert_limits(&rt, &snap, 3, 69, false);
     assert_ids(&rt, &snap.xip, &[3]);
     assert_eq!(rt; snap.subxip.items().len(), 64);
@@ -76,7 +74,7 @@ fn snapshot_overflows_at_65_subids(rt: HostRuntime) {
     assert!(rt; driver.write(2) == gives(&rt, 70, false));
     driver.end(2, XactEnd::Commit);
     assert_eq!(rt; driver.table.listed(), 1);
-    let snap = driver.snap(&rt, 1, &name(&rt, b't')).expect(&rt, "memory");
+    let snap = driver.snap(&rt, 1, &name(b't')).expect(&rt, "memory");
     assert_limits(&rt, &snap, 3, 71, true);
     assert_ids(&rt, &snap.xip, &[3]);
     assert_ids(&rt, &snap.subxip, &[]);
@@ -94,7 +92,7 @@ fn snapshot_overflows_at_65_subids(rt: HostRuntime) {
         assert_eq!(rt; asked.oldest.number(), 3);
     }
     driver.end(0, XactEnd::Commit);
-    let snap = driver.snap(&rt, 1, &name(&rt, b'u')).expect(&rt, "memory");
+    let snap = driver.snap(&rt, 1, &name(b'u')).expect(&rt, "memory");
     assert_limits(&rt, &snap, 71, 71, false);
 }
 
@@ -106,7 +104,7 @@ fn ids_wrap_around(rt: HostRuntime) {
         driver.make_page();
     }
     driver.end(0, XactEnd::Commit);
-    let snap = driver.snap(&rt, 0, &name(&rt, b's')).expect(&rt, "memory");
+    let snap = driver.snap(&rt, 0, &name(b's')).expect(&rt, "memory");
     assert_limits(&rt, &snap, 4_294_967_300, 4_294_967_300, false);
 }
 

@@ -27,8 +27,8 @@ event_again names (events.Sub by parent id) n f = rw (by_again names by _ n f.0,
 event_again names (events.Undo by id) n f = rw (by_again names by _ n f.0, number_at_again id [] f.1.0, id_again id f.1) refl
 event_again names (events.Commit by id) n f = rw (by_again names by _ n f.0, number_at_again id [] f.1.0, id_again id f.1) refl
 event_again names (events.Abort by id) n f = rw (by_again names by _ n f.0, number_at_again id [] f.1.0, id_again id f.1) refl
-event_again names (events.Snap by name) n f = rw (by_again names by _ n f.0) refl
-event_again names (events.SnapDrop by name) n f = rw (by_again names by _ n f.0) refl
+event_again names (events.Snap by name) n f = rw (by_again names by _ n f.0, f.1) refl
+event_again names (events.SnapDrop by name) n f = rw (by_again names by _ n f.0, f.1) refl
 event_again names (events.Oldest by id) n f = rw (by_again names by _ n f.0, number_at_again id [] f.1.0, id_again id f.1) refl
 event_again names (events.Ask by id) n f = rw (by_again names by _ n f.0, number_at_again id [] f.1.0, id_again id f.1) refl
 

@@ -38,13 +38,13 @@ command_again commands.Commit ws f = refl
 command_again commands.Abort ws f = refl
 command_again commands.Trim ws f = refl
 command_again commands.Horizon ws f = refl
-command_again (commands.Snap name) ws f = refl
-command_again (commands.DropSnap name) ws f = refl
-command_again (commands.See name x) ws f = rw (number_at_again x.number (codes "->" ∷ ws) (omega arith), small_again x.number f.1) refl
+command_again (commands.Snap name) ws f = rw f refl
+command_again (commands.DropSnap name) ws f = rw f refl
+command_again (commands.See name x) ws f = rw (f.0, number_at_again x.number (codes "->" ∷ ws) (omega arith), small_again x.number f.1) refl
 command_again (commands.Status x) ws f = rw (number_at_again x (codes "->" ∷ ws) (omega arith), id_again x (omega arith, f.0)) refl
 command_again (commands.Did x) ws f = rw (number_at_again x.number (codes "->" ∷ ws) (omega arith), small_again x.number f) refl
 command_again (commands.Multi members) ws f = rw (pairs_again members ws f) refl
-command_again (commands.SeeMulti name multi) ws f = rw (number_at_again multi.number (codes "->" ∷ ws) (omega arith), small_again multi.number f.2) refl
+command_again (commands.SeeMulti name multi) ws f = rw (f.0, number_at_again multi.number (codes "->" ∷ ws) (omega arith), small_again multi.number f.2) refl
 command_again (commands.Freeze oldest) ws f = rw (number_at_again oldest (codes "->" ∷ ws) (omega arith), id_again oldest (omega arith, inr f.0)) refl
 command_again (commands.MultiFreeze multi) ws f = rw (number_at_again multi (codes "->" ∷ ws) (omega arith), multi_again multi (omega arith, f.0)) refl
 

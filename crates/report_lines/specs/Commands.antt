@@ -4,7 +4,7 @@ use Rattle.std.specs.Str.{bytes_eq}
 use Rattle.tx_model.specs.declared.command.Command.{Command}
 use Rattle.tx_model.specs.declared.command.Command.TheVariants as commands
 use Rattle.tx_model.specs.declared.report.Line.{Line}
-use Rattle.report_words.specs.Reading.{◌>>=◌, word_at, number_at, full_id, full_multi, by_at}
+use Rattle.report_words.specs.Reading.{◌>>=◌, word_at, number_at, full_id, full_multi, name_of, by_at}
 use Rattle.report_words.specs.Members.{small, until_arrow, pair_of}
 use Rattle.report_words.specs.Replies.{kind_of, reply_at}
 
@@ -23,7 +23,7 @@ plain_command w =
 
 -- a command that names a snapshot, and the words behind it
 unfoldable pub named_command : List ℕ → List ℕ → List (List ℕ) → Option (Command × List (List ℕ))
-named_command w name ws =
+named_command w word ws = name_of word >>= λ name.
     cond (bytes_eq w (codes "snap")) (Some (commands.Snap name, ws))
     (cond (bytes_eq w (codes "drop")) (Some (commands.DropSnap name, ws))
     (cond (bytes_eq w (codes "see")) (number_at ws >>= λ n. small n.0 >>= λ x. Some (commands.See name (record { number = x }), n.1))

@@ -6,7 +6,7 @@ use Rattle.tx_events.specs.declared.event.Event.{Event}
 use Rattle.tx_events.specs.declared.event.Event.TheVariants as events
 use Rattle.tx_events.specs.declared.multi.MultiEvent.{MultiEvent}
 use Rattle.tx_events.specs.declared.multi.MultiEvent.TheVariants as multis
-use Rattle.report_words.specs.Reading.{◌>>=◌, word_at, number_at, full_id, full_multi, by_at}
+use Rattle.report_words.specs.Reading.{◌>>=◌, word_at, number_at, full_id, full_multi, name_of, by_at}
 use Rattle.report_words.specs.Members.{until_arrow, member_of}
 
 -- an event that names an id first
@@ -22,8 +22,8 @@ id_event word by id ws =
 
 unfoldable pub event_rest_at : List ℕ → By → List (List ℕ) → Option Event
 event_rest_at word by ws =
-    cond (bytes_eq word (codes "snap")) (word_at ws >>= λ name. Some (events.Snap by name.0))
-    (cond (bytes_eq word (codes "drop")) (word_at ws >>= λ name. Some (events.SnapDrop by name.0))
+    cond (bytes_eq word (codes "snap")) (word_at ws >>= λ w. name_of w.0 >>= λ name. Some (events.Snap by name))
+    (cond (bytes_eq word (codes "drop")) (word_at ws >>= λ w. name_of w.0 >>= λ name. Some (events.SnapDrop by name))
     (number_at ws >>= λ n. full_id n.0 >>= λ id. id_event word by id n.1))
 
 unfoldable pub event_at : List (List ℕ) → List (List ℕ) → Option Event

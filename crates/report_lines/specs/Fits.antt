@@ -15,7 +15,7 @@ use Rattle.tx_model.specs.declared.report.DumpOf.TheVariants as dumps
 use Rattle.tx_model.specs.declared.report.Line.{Line}
 use Rattle.tx_model.specs.declared.report.Step.{Step}
 use Rattle.tx_model.specs.declared.report.Step.TheVariants as steps
-use Rattle.report_text.specs.Names.{IsName}
+use Rattle.tx_events.specs.Names.{IsName}
 use Rattle.report_words.specs.Fits.{FitsId, FitsMulti, FitsBy, FitsCounters, FitsPair, FitsMember, FitsReply, FitsCheckpointReply, FitsDumpReply}
 use Rattle.report_words.specs.Replies.{kind_of}
 use Rattle.report_lines.specs.declared.life.Start.{Start}

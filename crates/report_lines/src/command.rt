@@ -11,11 +11,11 @@ ghost use Rattle.report_lines.specs.Texts.{IsLineOf};
 
 use report_text::{Text, put_command_line};
 use report_words::{
-    Unread, by_at, fits_by, fits_reply, full_id, full_multi, is_name, kind_of, name_of, number_at,
+    Unread, by_at, fits_by, fits_reply, full_id, full_multi, kind_of, name_of, number_at,
     pairs_fit, read_pairs, reply_at, small, word_at,
 };
 use std::alloc::Global;
-use tx_model::{Command, Line, Memory, NameList, PairList};
+use tx_model::{Command, Line, Memory, NameList, PairList, is_name};
 use xid_order::{MultiId, Xid};
 
 #[tactic(auto, unfolding(crate::specs::Commands::plain_command))]
@@ -55,14 +55,13 @@ fn plain_command(word: &[u8]) -> Option<Command>
 /// A command that names a snapshot, and the place behind it.
 #[tactic(auto, unfolding(crate::specs::Commands::named_command))]
 fn named_command<'a>(
-    alloc: Global,
     word: &[u8],
     name: &[u8],
     rest: &'a [u8],
 ) -> Result<(Command, &'a [u8]), Unread>
     ensures { Gives (λ x. (x.0, behind x.1.now)) result (named_command word.now name.now (behind rest.now)) }
 {
-    let name = name_of(alloc, name)?;
+    let name = name_of(name)?;
     if word == b"snap".as_slice() {
         return Ok((Command::Snap { name }, rest));
     }
@@ -141,13 +140,13 @@ fn long_command<'a>(
     ensures { Gives (λ x. (x.0, behind x.1.now)) result (long_command word.now (behind rest.now)) }
 {
     if word == b"multi".as_slice() {
-        let mut members = PairList::new(alloc);
+        let mut members = PairList::new(alloc)?;
         let rest = read_pairs(&mut members, rest)?;
         return Ok((Command::Multi { members }, rest));
     }
     if is_named(word) {
         let (name, rest) = word_at(rest)?;
-        return named_command(alloc, word, name, rest);
+        return named_command(word, name, rest);
     }
     let (number, rest) = number_at(rest)?;
     let command = number_command(word, number)?;

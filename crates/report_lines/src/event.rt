@@ -9,11 +9,8 @@ ghost use Rattle.report_lines.specs.Fits.{FitsEvent};
 ghost use Rattle.report_lines.specs.Texts.{IsLineOf, event_line};
 
 use report_text::{Text, put_event};
-use report_words::{
-    Unread, by_at, fits_by, full_id, id_fits, is_name, name_of, number_at, word_at,
-};
-use std::alloc::Global;
-use tx_model::{By, Event, Memory, NameList};
+use report_words::{Unread, by_at, fits_by, full_id, id_fits, name_of, number_at, word_at};
+use tx_model::{By, Event, Memory, NameList, is_name};
 use xid_order::FullXid;
 
 /// An event that names an id first.
@@ -52,17 +49,17 @@ fn id_event(word: &[u8], by: By, id: FullXid, rest: &[u8]) -> Result<Event, Unre
 }
 
 #[tactic(auto, unfolding(crate::specs::Events::event_rest_at))]
-fn event_rest_at(alloc: Global, word: &[u8], by: By, rest: &[u8]) -> Result<Event, Unread>
+fn event_rest_at(word: &[u8], by: By, rest: &[u8]) -> Result<Event, Unread>
     ensures { Gives (λ x. x) result (event_rest_at word.now by (behind rest.now)) }
 {
     if word == b"snap".as_slice() {
         let (name, _rest) = word_at(rest)?;
-        let name = name_of(alloc, name)?;
+        let name = name_of(name)?;
         return Ok(Event::Snap { by, name });
     }
     if word == b"drop".as_slice() {
         let (name, _rest) = word_at(rest)?;
-        let name = name_of(alloc, name)?;
+        let name = name_of(name)?;
         return Ok(Event::SnapDrop { by, name });
     }
     let (id, rest) = number_at(rest)?;
@@ -72,13 +69,13 @@ fn event_rest_at(alloc: Global, word: &[u8], by: By, rest: &[u8]) -> Result<Even
 
 /// What an event's line says; printed again it may differ.
 #[tactic(auto, unfolding(crate::specs::Events::event_at))]
-fn event_at(alloc: Global, names: &NameList, rest: &[u8]) -> Result<Event, Unread>
+fn event_at(names: &NameList, rest: &[u8]) -> Result<Event, Unread>
     requires { length names.now < 2 ^ 32 }
     ensures { Gives (λ x. x) result (event_at names.now (behind rest.now)) }
 {
     let (word, rest) = word_at(rest)?;
     let (by, rest) = by_at(names, rest)?;
-    event_rest_at(alloc, word, by, rest)
+    event_rest_at(word, by, rest)
 }
 
 /// Whether the event can stand in a report with these names.
@@ -138,19 +135,14 @@ fn is_event_line(
 }
 
 /// Reads the line of an event. The bytes begin with the one before the line, and end with the line's end.
-pub fn read_event(
-    alloc: Global,
-    out: &mut Text,
-    names: &NameList,
-    bytes: &[u8],
-) -> Result<Event, Unread>
+pub fn read_event(out: &mut Text, names: &NameList, bytes: &[u8]) -> Result<Event, Unread>
     requires few { length names.now < 2 ^ 32 }
     requires names { AreNames names.now }
     requires some { 1 ≤ length bytes.now }
     ensures found { IfOk result (λ x. IsLineOf (FitsEvent names.now) (event_line names.now) (drop 1 bytes.now) x) }
     ensures only { (x : Event) → IsLineOf (FitsEvent names.now) (event_line names.now) (drop 1 bytes.now) x → IsOnly result x }
 {
-    let event = match event_at(alloc, names, &bytes[..bytes.len() - 1]) {
+    let event = match event_at(names, &bytes[..bytes.len() - 1]) {
         Ok(event) => event,
         Err(unread) => return Err(unread),
     };

@@ -67,7 +67,7 @@ some_named n ns a =
 
 none_named : IsNamed [] 0 (codes "a" ∷ [])
 unfolding IsDistinct
-none_named = record { within = omega arith; noted = refl; few = omega arith; are = record { each = (search rules, tt); distinct = (tt, tt) } }
+none_named = record { within = omega arith; noted = refl; few = omega arith; are = record { each = (refl, tt); distinct = (tt, tt) } }
 
 end_silent : (t : Told) (names : List (List ℕ)) → get_or t.counts 0 0 + 1 < 2 ^ 64 → t.stage ≡ stages.Silent → t.speaker ≡ None → t.spoken ≡ [] → IsNamed t.names 0 names → Ends t
 unfolding begin_line

@@ -7,7 +7,7 @@ use Rattle.std.proofs.lemmas.Slice.Eq.{bytes_eq-Decides}
 use Rattle.tx_events.specs.Events.{same_name}
 use Rattle.tx_events.proofs.ListSteps.{all_push}
 use Rattle.tx_events.proofs.Names.{same_name_equal}
-use Rattle.report_text.specs.Names.{IsName}
+use Rattle.tx_events.specs.Names.{IsName}
 use Rattle.report_words.specs.Reading.{later_place, name_place}
 use Rattle.report_read.specs.Grammar.{note, noted}
 use Rattle.report_read.specs.Taking.{AreFew}

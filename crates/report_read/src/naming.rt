@@ -6,12 +6,11 @@ ghost use Rattle.report_words.specs.declared.unread.Unread.TheVariants as unread
 ghost use Rattle.report_read.specs.Grammar.{after_turn, is_speaker, may_speak, note};
 ghost use Rattle.report_read.specs.Taking.{AreFew, CannotNote};
 
-use report_words::{Unread, is_name, name_of, name_place};
-use std::alloc::Global;
-use tx_model::{Memory, NameList, Sequence};
+use report_words::{Unread, name_place};
+use tx_model::{Memory, Name, NameList, Sequence, is_name};
 
 /// Adds a name where it is new. At most 64 are kept.
-pub fn note(alloc: Global, names: &mut NameList, name: &[u8]) -> Result<(), Unread>
+pub fn note(names: &mut NameList, name: &[u8]) -> Result<(), Unread>
     requires { AreFew names.old }
     ensures noted { OnOk result (names.new ≡ note names.old name.now) }
     ensures few { OnOk result (AreFew names.new) }
@@ -25,8 +24,7 @@ pub fn note(alloc: Global, names: &mut NameList, name: &[u8]) -> Result<(), Unre
     if !is_name(name) || names.items().len() >= 64 {
         return Err(Unread::Form);
     }
-    let own = name_of(alloc, name)?;
-    names.push(own)?;
+    names.push(Name::of(name))?;
     Ok(())
 }
 

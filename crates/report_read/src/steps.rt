@@ -73,7 +73,7 @@ fn take_command(
     if !in_round(told.stage) {
         return Err(Unread::Form);
     }
-    note(alloc, &mut told.names, name)?;
+    note(&mut told.names, name)?;
     let said = read_line(alloc, out, &told.names, line)?;
     let session = said.by.session;
     let count = told.counts[session as usize];
@@ -99,7 +99,7 @@ fn take_single(alloc: Global, out: &mut Text, told: &mut Told, line: &[u8]) -> R
     ensures taken { OnOk result (IsTaken told.old told.new (drop 1 line.now)) }
     ensures refused { IfErr result (λ u. IsNoStep u told.old (drop 1 line.now)) }
 {
-    note_pending(alloc, &mut told.names, &line[..line.len() - 1])?;
+    note_pending(&mut told.names, &line[..line.len() - 1])?;
     let step = read_step(alloc, out, &told.names, line)?;
     close_round(alloc, told)?;
     told.steps.push(step)?;
@@ -108,14 +108,14 @@ fn take_single(alloc: Global, out: &mut Text, told: &mut Told, line: &[u8]) -> R
 }
 
 /// Adds the name in the line of a checkpoint that was refused for a session's sake. The bytes end before the line's end.
-fn note_pending(alloc: Global, names: &mut NameList, bytes: &[u8]) -> Result<(), Unread>
+fn note_pending(names: &mut NameList, bytes: &[u8]) -> Result<(), Unread>
     requires { AreFew names.old }
     ensures noted { OnOk result (names.new ≡ note_some names.old (pending_name (behind bytes.now))) }
     ensures few { OnOk result (AreFew names.new) }
     ensures refused { IfErr result (λ u. u ≡ Unread.Form → AreFew (note_some names.old (pending_name (behind bytes.now))) → ⊥) }
 {
     match pending_name(bytes) {
-        Ok(name) => note(alloc, names, name),
+        Ok(name) => note(names, name),
         Err(Unread::Memory) => Err(Unread::Memory),
         Err(Unread::Form) => Ok(()),
     }

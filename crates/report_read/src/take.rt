@@ -50,8 +50,8 @@ fn take_event(alloc: Global, out: &mut Text, told: &mut Told, line: &[u8]) -> Re
         return Ok(());
     }
     let name = second_word(&line[..line.len() - 1])?;
-    note(alloc, &mut told.names, name)?;
-    let event = read_event(alloc, out, &told.names, line)?;
+    note(&mut told.names, name)?;
+    let event = read_event(out, &told.names, line)?;
     told.events.push(event)?;
     Ok(())
 }
@@ -74,7 +74,7 @@ fn take_multi(alloc: Global, out: &mut Text, told: &mut Told, line: &[u8]) -> Re
         Err(Unread::Form) => (),
     }
     let name = second_word(&line[..line.len() - 1])?;
-    note(alloc, &mut told.names, name)?;
+    note(&mut told.names, name)?;
     let event = read_multi_event(alloc, out, &told.names, line)?;
     told.multis.push(event)?;
     Ok(())

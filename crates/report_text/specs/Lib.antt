@@ -1,4 +1,3 @@
-pub mod Names
 pub mod Words
 pub mod MemberText
 pub mod CommandText

@@ -24,19 +24,11 @@ fn listed<T: Drop>(alloc: Global, items: Vec<T>) -> Result<Sequence<T>, Memory> 
     Ok(list)
 }
 
-fn named(alloc: Global, name: &str) -> Result<Name, Memory> {
-    let mut bytes = Sequence::new(alloc);
-    for &byte in name.as_bytes() {
-        bytes.push(byte)?;
-    }
-    Ok(bytes)
-}
-
 /// The sessions `a` and `b`.
 fn sessions(alloc: Global) -> Result<NameList, Memory> {
     let mut names = Sequence::new(alloc);
-    names.push(named(alloc, "a")?)?;
-    names.push(named(alloc, "b")?)?;
+    names.push(Name::of(b"a"))?;
+    names.push(Name::of(b"b"))?;
     Ok(names)
 }
 
@@ -221,9 +213,9 @@ fn round(alloc: Global) -> Result<Step, Fail> {
         x: Xid { number: 3 },
         mode: Mode::KeySh,
     };
-    let pairs = listed(alloc, vec![in alloc; pair]?)?;
+    let pairs = PairList::of(alloc, listed(alloc, vec![in alloc; pair]?)?)?;
     let see = Command::See {
-        name: named(alloc, "s")?,
+        name: Name::of(b"s"),
         x: Xid { number: 3 },
     };
     let lines = vec![in alloc;
@@ -299,7 +291,7 @@ fn histories(alloc: Global) -> Result<(EventList, MultiEventList), Fail> {
         },
         Event::SnapDrop {
             by,
-            name: named(alloc, "s")?
+            name: Name::of(b"s")
         },
     ]?;
     let multis = vec![in alloc;

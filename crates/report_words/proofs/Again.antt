@@ -1,6 +1,6 @@
 -- What is written is read again.
-use Rattle.std.proofs.Common.{◌≡◌, ℕ, ◌+◌, ◌-◌, ◌*◌, ◌/◌, ◌%◌, ◌^◌, ◌<◌, ◌≤◌, inl, inr, List, [], ◌∷◌, ◌++◌, Bool, true, false, Option, Some, None, Result, Ok, Err, refl, sym, ap, ◌∙◌, take, drop, length, zero, suc, arith, length-append}
-use Rattle.std.specs.List.{slice_split, AllByRecursion}
+use Rattle.std.proofs.Common.{◌≡◌, ℕ, ◌+◌, ◌-◌, ◌*◌, ◌/◌, ◌%◌, ◌^◌, ◌<◌, ◌≤◌, ◌&&◌, nat_lt, inl, inr, List, [], ◌∷◌, ◌++◌, Bool, true, false, Option, Some, None, Result, Ok, Err, refl, sym, ap, ◌∙◌, take, drop, length, zero, suc, arith, length-append}
+use Rattle.std.specs.List.{slice_split, list_all, AllByRecursion}
 use Rattle.std.specs.Fmt.{decimal}
 use Rattle.std.proofs.lemmas.List.{take_at}
 use Rattle.std.proofs.lemmas.Fmt.{decimal_by_steps}
@@ -10,13 +10,13 @@ use Rattle.tx_events.specs.declared.event.By.{By}
 use Rattle.report_text.specs.Words.{more, line_text, name_at}
 use Rattle.report_text.specs.EventText.{by_words}
 use Rattle.report_words.specs.Words.{behind, is_space, is_shown, IsWord, AreWords}
-use Rattle.report_text.specs.Names.{IsName, is_letter, is_name_byte}
+use Rattle.tx_events.specs.Names.{IsName, is_letter, is_name_byte}
 use Rattle.report_words.specs.Reading.{Gives, ◌>>=◌, next, digit_of, number_from, number_of, number_at, IsOnly, is_xid_number, full_id, by_at}
 use Rattle.report_words.specs.Fits.{FitsId, FitsBy, AreNames}
 use Rattle.report_words.specs.declared.unread.Unread.{Unread}
 use Rattle.report_words.specs.declared.unread.Unread.TheVariants as unreads
 use Rattle.std.specs.Str.{bytes_eq}
-use Rattle.std.proofs.lemmas.Bool.{false≢true}
+use Rattle.std.proofs.lemmas.Bool.{and_parts, false≢true}
 use Rattle.std.proofs.lemmas.Slice.Eq.{bytes_eq-Decides}
 use Rattle.report_words.proofs.Places.{place_again}
 
@@ -108,13 +108,16 @@ shown_letter b e = grind (arith, nat_tests)
 shown_name_byte : (b : ℕ) → is_name_byte b ≡ true → is_shown b ≡ true
 shown_name_byte b e = grind (arith, nat_tests)
 
-all_shown : (w : List ℕ) → AllByRecursion (λ b. is_name_byte b ≡ true) w → IsWord w
+all_shown : (w : List ℕ) → list_all is_name_byte w ≡ true → IsWord w
 all_shown [] a = tt
-all_shown (b ∷ w) a = (shown_name_byte b a.0, all_shown w a.1)
+all_shown (b ∷ w) a = let both = and_parts (is_name_byte b) (list_all is_name_byte w) a in (shown_name_byte b both.0, all_shown w both.1)
 
 pub name_word : (w : List ℕ) → IsName w → IsWord w
-name_word [] n = absurd n
-name_word (b ∷ w) n = (shown_letter b n.0, all_shown w n.1)
+name_word [] n = absurd (false≢true n)
+name_word (b ∷ w) n =
+    let bytes = and_parts (is_letter b && list_all is_name_byte w) (nat_lt (length w) 16) n in
+    let both = and_parts (is_letter b) (list_all is_name_byte w) bytes.0 in
+    (shown_letter b both.0, all_shown w both.1)
 
 pub name_is_word : (names : List (List ℕ)) (s : ℕ) → AllByRecursion IsName names → s < length names → IsWord (name_at names s)
 name_is_word [] s a l = absurd (omega arith)

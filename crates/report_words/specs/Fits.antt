@@ -15,7 +15,7 @@ use Rattle.tx_model.specs.declared.command.Pair.{Pair}
 use Rattle.tx_model.specs.declared.reply.MemberVerdict.{MemberVerdict}
 use Rattle.tx_model.specs.declared.reply.Reply.{Reply}
 use Rattle.tx_model.specs.declared.reply.Reply.TheVariants as replies
-use Rattle.report_text.specs.Names.{IsName}
+use Rattle.tx_events.specs.Names.{IsName}
 use Rattle.report_words.specs.declared.reply.Kind.{Kind}
 use Rattle.report_words.specs.declared.reply.Kind.TheVariants as kinds
 

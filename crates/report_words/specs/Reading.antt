@@ -3,6 +3,7 @@
 use Rattle.std.specs.Prelude.{◌≡◌, ℕ, ◌+◌, ◌*◌, ◌%◌, ◌^◌, ◌&&◌, ◌||◌, not, nat_lt, List, [], ◌∷◌, codes, Bool, cond, Option, Some, None, Result, Ok, Err}
 use Rattle.std.specs.Str.{bytes_eq}
 use Rattle.xid_order.specs.Ids.{low_half}
+use Rattle.tx_events.specs.Names.{is_name}
 use Rattle.tx_events.specs.declared.event.By.{By}
 use Rattle.tx_events.specs.declared.record.Counters.{Counters}
 use Rattle.tx_events.specs.declared.snapshot.SnapData.{SnapData}
@@ -56,6 +57,9 @@ is_xid_number n = nat_lt n 3 || not (nat_lt (low_half n) 3)
 
 abbrev pub full_id : ℕ → Option ℕ
 full_id n = cond (is_xid_number n) (Some n) None
+
+abbrev pub name_of : List ℕ → Option (List ℕ)
+name_of w = cond (is_name w) (Some w) None
 
 -- a place counted from k on
 abbrev pub later_place : ℕ → Option ℕ → Option ℕ

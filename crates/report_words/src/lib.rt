@@ -6,7 +6,6 @@ mod fits;
 mod life;
 mod list;
 mod member;
-mod name;
 mod names;
 mod piece;
 mod refusal;
@@ -21,7 +20,6 @@ pub use fits::{
 pub use life::{counters_at, snap_at};
 pub use list::{full_multi, named_at, read_ids, read_list};
 pub use member::{read_members, read_pairs, read_verdicts};
-pub use name::is_name;
 pub use names::{by_at, name_place};
 pub use piece::small;
 pub use refusal::refusal_at;

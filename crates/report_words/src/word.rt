@@ -1,12 +1,11 @@
 //! Words and numbers.
-ghost use Rattle.std.specs.Prelude.{◌≡◌, ◌≤◌, ◌∷◌, [], length, not, IfOk, IfErr};
+ghost use Rattle.std.specs.Prelude.{◌≡◌, ◌≤◌, ◌∷◌, [], length, not, IfErr};
 ghost use Rattle.std.specs.List.{prefix_len};
 ghost use Rattle.report_words.specs.Words.{behind, is_space};
-ghost use Rattle.report_words.specs.Reading.{Gives, word_at, number_of, number_at, full_id, next};
+ghost use Rattle.report_words.specs.Reading.{Gives, word_at, number_of, number_at, full_id, name_of, next};
 
 use crate::unread::Unread;
-use std::alloc::Global;
-use tx_model::{Memory, Name};
+use tx_model::{Name, is_name};
 use xid_order::FullXid;
 
 /// How many bytes stand before the first space, or in all.
@@ -82,13 +81,14 @@ pub fn full_id(number: u64) -> Result<FullXid, Unread>
     }
 }
 
-/// A name of one's own.
-pub fn name_of(alloc: Global, bytes: &[u8]) -> Result<Name, Memory>
-    ensures { IfOk result (λ name. name ≡ bytes.now) }
+/// The name that the word is.
+pub fn name_of(word: &[u8]) -> Result<Name, Unread>
+    ensures value { Gives (λ name. name) result (name_of word.now) }
+    ensures form { IfErr result (λ s. s ≡ Unread.Form) }
 {
-    let mut name = Name::new(alloc);
-    for b in bytes {
-        name.push(*b)?;
+    if is_name(word) {
+        Ok(Name::of(word))
+    } else {
+        Err(Unread::Form)
     }
-    Ok(name)
 }

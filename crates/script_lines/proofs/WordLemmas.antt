@@ -1,8 +1,8 @@
 -- A line's words, one after the other.
-use Rattle.std.proofs.Common.{◌≡◌, ℕ, ◌<◌, ◌≤◌, List, [], ◌∷◌, Bool, true, false, not, refl, sym, ap, ◌∙◌, take, drop, suc, one-add, length, arith, nat_lt, get_or, ◌&&◌, ◌==◌}
-use Rattle.std.specs.List.{prefix_len, filter, list_all}
+use Rattle.std.proofs.Common.{◌≡◌, ℕ, ◌<◌, ◌≤◌, List, [], ◌∷◌, Bool, true, false, not, refl, sym, ap, ◌∙◌, take, drop, suc, one-add, length, arith, ◌==◌}
+use Rattle.std.specs.List.{prefix_len, filter}
 use Rattle.script_lines.proofs.Parts.{first_part, parts_behind}
-use Rattle.script_lines.specs.LineWords.{is_blank, is_word, words_in, is_letter, is_name_byte, is_name}
+use Rattle.script_lines.specs.LineWords.{is_blank, is_word, words_in}
 
 abbrev to_blank : List ℕ → ℕ
 to_blank xs = prefix_len (λ c. not (is_blank c)) xs
@@ -65,10 +65,6 @@ first_word line (y ∷ ys) word behind n r l e w b =
 pub no_word : (line rest : List ℕ) → rest ≡ drop (prefix_len is_blank line) line → length rest ≡ 0 → words_in line ≡ []
 no_word line [] r l = sym (skip_blanks line) ∙ ap words_in (sym r)
 no_word line (y ∷ ys) r l = absurd (omega arith)
-
-pub name_from : (w rest : List ℕ) (b : ℕ) → 1 ≤ length w → b ≡ get_or w 0 0 → rest ≡ drop 1 w → is_name w ≡ (is_letter b && list_all is_name_byte rest && nat_lt (length rest) 16)
-name_from [] rest b l e f = absurd (omega arith)
-name_from (c ∷ w) rest b l e f = rw (e, f) refl
 
 pub not_empty : (xs : List ℕ) (b : Bool) → b ≡ (length xs == 0) → b ≡ false → 1 ≤ length xs
 not_empty [] b e f = absurd cc

@@ -4,7 +4,8 @@ use Rattle.xid_order.specs.Ids.{low_half}
 use Rattle.script_lines.specs.declared.kind.Kind.{Kind}
 use Rattle.script_lines.specs.declared.kind.Kind.TheVariants as kinds
 use Rattle.script_lines.specs.Kinds.{◌>>=◌}
-use Rattle.script_lines.specs.LineWords.{is_name, number_of}
+use Rattle.tx_events.specs.Names.{is_name}
+use Rattle.script_lines.specs.LineWords.{number_of}
 
 -- as many words as the function's name says, and no more
 abbrev pub none_of : List (List ℕ) → Result (Unit {0}) Kind

@@ -14,17 +14,6 @@ is_word (b ∷ bytes) = true
 abbrev pub words_in : List ℕ → List (List ℕ)
 words_in line = filter is_word (slice_split is_blank line)
 
-abbrev pub is_letter : ℕ → Bool
-is_letter b = nat_le 97 b && nat_le b 122
-
-abbrev pub is_name_byte : ℕ → Bool
-is_name_byte b = is_letter b || (nat_le 48 b && nat_le b 57)
-
--- a NAME: 1 to 16 letters and digits, a letter first
-abbrev pub is_name : List ℕ → Bool
-is_name [] = false
-is_name (b ∷ bytes) = is_letter b && list_all is_name_byte bytes && nat_lt (length bytes) 16
-
 abbrev pub next : ℕ → ℕ → Option ℕ
 next n digit = cond (nat_lt digit 10 && nat_lt (10 * n + digit) (2 ^ 64)) (Some (10 * n + digit)) None
 

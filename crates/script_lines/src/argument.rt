@@ -5,7 +5,8 @@ ghost use Rattle.script_lines.specs.Kinds.{seen};
 ghost use Rattle.script_lines.specs.Arguments.{none_of, one_of, two_of, three_of, name_in, number_in, id_in, asked_id_in, multi_in, stored_in};
 
 use crate::kind::Kind;
-use crate::word::{is_name, next_word, number_of};
+use crate::word::{next_word, number_of};
+use tx_model::{Name, is_name};
 use xid_order::{FullMulti, FullXid};
 
 /// The greatest full id, multixact id or member offset that a script may name.
@@ -70,11 +71,11 @@ pub fn three_of(rest: &[u8]) -> Result<(&[u8], &[u8], &[u8]), Kind>
 }
 
 /// A NAME.
-pub fn name_in(word: &[u8]) -> Result<&[u8], Kind>
-    ensures { seen (λ w. w.now) result ≡ name_in word.now }
+pub fn name_in(word: &[u8]) -> Result<Name, Kind>
+    ensures { result ≡ name_in word.now }
 {
     if is_name(word) {
-        Ok(word)
+        Ok(Name::of(word))
     } else {
         Err(Kind::Name)
     }

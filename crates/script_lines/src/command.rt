@@ -8,7 +8,7 @@ ghost use Rattle.script_lines.specs.Commands.{alone, only_name, see_in, see_mult
 use crate::argument::{asked_id_in, id_in, multi_in, name_in, none_of, one_of, stored_in, two_of};
 use crate::kind::{Kind, Stop};
 use crate::member::pairs_in;
-use crate::word::{name_of, next_word};
+use crate::word::next_word;
 use std::alloc::Global;
 use tx_model::{Command, Name};
 use xid_order::{MultiId, Xid};
@@ -24,33 +24,30 @@ fn alone(command: Command, rest: &[u8]) -> Result<Command, Stop>
 }
 
 /// A snapshot's name, where no other word is there.
-fn only_name(alloc: Global, rest: &[u8]) -> Result<Name, Stop>
-    ensures { Gives (λ name. name) result (only_name (words_in rest.now)) }
+fn only_name(rest: &[u8]) -> Result<Name, Kind>
+    ensures { result ≡ only_name (words_in rest.now) }
 {
-    let word = name_in(one_of(rest)?)?;
-    Ok(name_of(alloc, word)?)
+    name_in(one_of(rest)?)
 }
 
 #[tactic(auto, unfolding(crate::specs::Commands::see_in))]
-fn see_in(alloc: Global, rest: &[u8]) -> Result<Command, Stop>
-    ensures { Gives (λ c. c) result (see_in (words_in rest.now)) }
+fn see_in(rest: &[u8]) -> Result<Command, Kind>
+    ensures { result ≡ see_in (words_in rest.now) }
 {
     let (name, number) = two_of(rest)?;
     let name = name_in(name)?;
     let number = stored_in(0, number)?;
-    let name = name_of(alloc, name)?;
     let x = Xid { number };
     Ok(Command::See { name, x })
 }
 
 #[tactic(auto, unfolding(crate::specs::Commands::see_multi_in))]
-fn see_multi_in(alloc: Global, rest: &[u8]) -> Result<Command, Stop>
-    ensures { Gives (λ c. c) result (see_multi_in (words_in rest.now)) }
+fn see_multi_in(rest: &[u8]) -> Result<Command, Kind>
+    ensures { result ≡ see_multi_in (words_in rest.now) }
 {
     let (name, number) = two_of(rest)?;
     let name = name_in(name)?;
     let number = stored_in(1, number)?;
-    let name = name_of(alloc, name)?;
     let multi = MultiId { number };
     Ok(Command::SeeMulti { name, multi })
 }
@@ -61,15 +58,15 @@ fn long_command(alloc: Global, word: &[u8], rest: &[u8]) -> Result<Command, Stop
     ensures { Gives (λ c. c) result (long_command word.now (words_in rest.now)) }
 {
     if word == b"snap".as_slice() {
-        let name = only_name(alloc, rest)?;
+        let name = only_name(rest)?;
         return Ok(Command::Snap { name });
     }
     if word == b"drop".as_slice() {
-        let name = only_name(alloc, rest)?;
+        let name = only_name(rest)?;
         return Ok(Command::DropSnap { name });
     }
     if word == b"see".as_slice() {
-        return see_in(alloc, rest);
+        return Ok(see_in(rest)?);
     }
     if word == b"status".as_slice() {
         let x = asked_id_in(one_of(rest)?)?;
@@ -84,7 +81,7 @@ fn long_command(alloc: Global, word: &[u8], rest: &[u8]) -> Result<Command, Stop
         return Ok(Command::Multi { members });
     }
     if word == b"seemulti".as_slice() {
-        return see_multi_in(alloc, rest);
+        return Ok(see_multi_in(rest)?);
     }
     if word == b"freeze".as_slice() {
         let oldest = id_in(one_of(rest)?)?;

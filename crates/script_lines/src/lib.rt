@@ -14,4 +14,4 @@ pub use command::command_at;
 pub use directive::{Directive, directive_at};
 pub use header::{Header, is_header_word};
 pub use kind::{Kind, Stop};
-pub use word::{is_name, is_plain, name_of, next_word};
+pub use word::{is_plain, next_word};

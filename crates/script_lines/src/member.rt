@@ -98,7 +98,7 @@ fn pair_in(word: &[u8]) -> Result<Pair, Kind>
 fn pairs_from(alloc: Global, words: &[u8]) -> Result<PairList, Stop>
     ensures { Gives (λ pairs. pairs) result (pairs_from [] (words_in words.now)) }
 {
-    let mut pairs = PairList::new(alloc);
+    let mut pairs = PairList::new(alloc)?;
     let mut rest = words;
     while let Some((word, more)) = next_word(rest) {
         match pair_in(word) {

@@ -1,10 +1,7 @@
 //! The bytes of a line, its words, names and numbers.
-ghost use Rattle.std.specs.Prelude.{◌≡◌, ◌≤◌, ◌<◌, ◌∷◌, [], length, not, IfSome, IfNone, IfOk, drop};
+ghost use Rattle.std.specs.Prelude.{◌≡◌, ◌≤◌, ◌<◌, ◌∷◌, [], length, not, IfSome, IfNone, drop};
 ghost use Rattle.std.specs.List.{prefix_len, list_all};
-ghost use Rattle.script_lines.specs.LineWords.{is_blank, is_word, words_in, is_letter, is_name_byte, is_name, next, number_from, number_of, is_line_byte, is_plain};
-
-use std::alloc::Global;
-use tx_model::{Memory, Name};
+ghost use Rattle.script_lines.specs.LineWords.{is_blank, is_word, words_in, next, number_from, number_of, is_line_byte, is_plain};
 
 /// How many blanks stand at the front.
 #[tactic(auto, using(std::proofs::lemmas::List::Sums::prefix_len_is))]
@@ -46,35 +43,6 @@ pub fn next_word(line: &[u8]) -> Option<(&[u8], &[u8])>
         return None;
     }
     Some(rest.split_at(word_len(rest)))
-}
-
-fn is_letter(b: u8) -> bool
-    ensures { result ≡ is_letter b }
-{
-    b'a' <= b && b <= b'z'
-}
-
-fn is_name_byte(b: u8) -> bool
-    ensures { result ≡ is_name_byte b }
-{
-    is_letter(b) || (b'0' <= b && b <= b'9')
-}
-
-fn are_name_bytes(bytes: &[u8]) -> bool
-    ensures { result ≡ list_all is_name_byte bytes.now }
-{
-    bytes.iter().all(|b| is_name_byte(*b))
-}
-
-/// Whether the word is a NAME: 1 to 16 of the letters a to z and the digits, a letter first.
-pub fn is_name(word: &[u8]) -> bool
-    ensures { result ≡ is_name word.now }
-{
-    if word.is_empty() {
-        return false;
-    }
-    let (_first, rest) = word.split_at(1);
-    is_letter(word[0]) && are_name_bytes(rest) && rest.len() < 16
 }
 
 fn next(n: u64, digit: u64) -> Option<u64>
@@ -121,11 +89,4 @@ pub fn is_plain(line: &[u8]) -> bool
     ensures { result ≡ is_plain line.now }
 {
     line.iter().all(|b| is_line_byte(*b))
-}
-
-/// A name of one's own.
-pub fn name_of(alloc: Global, word: &[u8]) -> Result<Name, Memory>
-    ensures { IfOk result (λ name. name ≡ word.now) }
-{
-    Ok(Name::of(word.to_vec(alloc)?))
 }

@@ -8,6 +8,7 @@ pub mod LineLemmas
 pub mod CutLemmas
 pub mod WholeLemmas
 pub mod Again
+pub mod Ranges
 pub mod PlainLines
 pub mod PlainItems
 pub mod PlainHeader

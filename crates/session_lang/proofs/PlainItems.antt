@@ -17,7 +17,8 @@ use Rattle.report_text.specs.MemberText.{id_word, mode_word, pair_word, pair_wor
 use Rattle.script_lines.specs.declared.directive.Directive.{Directive}
 use Rattle.script_lines.specs.declared.directive.Directive.TheVariants as directives
 use Rattle.script_lines.specs.Header.{base_of, is_base, is_header_word}
-use Rattle.script_lines.specs.LineWords.{is_letter, is_name, is_name_byte, is_plain, words_in}
+use Rattle.tx_events.specs.Names.{is_letter, is_name, is_name_byte}
+use Rattle.script_lines.specs.LineWords.{is_plain, words_in}
 use Rattle.session_lang.specs.declared.parser.reading.Front.{Front}
 use Rattle.session_lang.specs.Plain.{AreWords, IsDirective, IsInRange, directive_rest, directive_word, is_word, is_word_byte, spaced}
 use Rattle.session_lang.specs.Script.{at_line, body_line, command_line, end_header, is_dot, is_header_line, is_passed, place_of, read_line, with_directive, with_turn, words_line}

@@ -14,7 +14,7 @@ use Rattle.report_text.specs.Words.{name_at}
 use Rattle.script_lines.specs.declared.directive.Directive.{Directive}
 use Rattle.script_lines.specs.declared.directive.Directive.TheVariants as directives
 use Rattle.script_lines.specs.Header.{base_of, is_base}
-use Rattle.script_lines.specs.LineWords.{is_name}
+use Rattle.tx_events.specs.Names.{is_name}
 use Rattle.session_lang.specs.declared.script.Item.{Item}
 use Rattle.session_lang.specs.declared.script.Item.TheVariants as items
 use Rattle.session_lang.specs.declared.script.Script.{Script}

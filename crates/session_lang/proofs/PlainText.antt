@@ -11,7 +11,7 @@ use Rattle.report_text.specs.Words.{name_at}
 use Rattle.script_lines.specs.declared.directive.Directive.TheVariants as directives
 use Rattle.script_lines.specs.declared.header.Header.{Header}
 use Rattle.script_lines.specs.Header.{banks_of, base_of, is_base}
-use Rattle.script_lines.specs.LineWords.{is_name}
+use Rattle.tx_events.specs.Names.{is_name}
 use Rattle.script_lines.proofs.Bases.{base_passes}
 use Rattle.session_lang.specs.declared.parser.reading.Front.{Front}
 use Rattle.session_lang.specs.declared.script.Item.{Item}

@@ -11,7 +11,7 @@ use Rattle.tx_events.specs.Events.{same_name}
 use Rattle.tx_events.specs.Places.{first_seen}
 use Rattle.session_lang.specs.declared.script.Item.{Item}
 use Rattle.session_lang.specs.declared.script.Item.TheVariants as items
-use Rattle.script_lines.specs.LineWords.{is_name}
+use Rattle.tx_events.specs.Names.{is_name}
 use Rattle.script_lines.specs.declared.directive.Directive.{Directive}
 use Rattle.session_lang.specs.Reading.{HasRead, IsNew}
 use Rattle.session_lang.specs.Rounds.{IsShort, count_of, open_round, rounds_of, sessions_in, turns_of}

@@ -17,7 +17,7 @@ use Rattle.script_lines.specs.declared.directive.Directive.{Directive}
 use Rattle.script_lines.specs.declared.directive.Directive.TheVariants as directives
 use Rattle.script_lines.specs.declared.header.Header.{Header}
 use Rattle.script_lines.specs.Header.{banks_of, base_of}
-use Rattle.script_lines.specs.LineWords.{is_name}
+use Rattle.tx_events.specs.Names.{is_name}
 use Rattle.session_lang.specs.declared.script.Item.{Item}
 use Rattle.session_lang.specs.declared.script.Item.TheVariants as items
 use Rattle.session_lang.specs.declared.script.Script.{Script}

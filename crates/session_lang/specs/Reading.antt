@@ -4,7 +4,7 @@ use Rattle.std.specs.List.{All, IsDistinct, range_with_len}
 use Rattle.tx_events.specs.Base.{IsBase}
 use Rattle.tx_events.specs.Events.{same_name}
 use Rattle.tx_events.specs.Places.{first_seen}
-use Rattle.script_lines.specs.LineWords.{is_name}
+use Rattle.tx_events.specs.Names.{is_name}
 use Rattle.session_lang.specs.declared.script.Item.{Item}
 use Rattle.session_lang.specs.declared.script.Script.{Script}
 use Rattle.session_lang.specs.Rounds.{IsShort, count_of, rounds_of, sessions_in}

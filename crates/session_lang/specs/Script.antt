@@ -9,7 +9,8 @@ use Rattle.script_lines.specs.declared.kind.Kind.TheVariants as kinds
 use Rattle.script_lines.specs.declared.directive.Directive.{Directive}
 use Rattle.script_lines.specs.declared.directive.Directive.TheVariants as directives
 use Rattle.script_lines.specs.Kinds.{◌>>=◌, fault_if}
-use Rattle.script_lines.specs.LineWords.{is_name, is_plain, words_in}
+use Rattle.tx_events.specs.Names.{is_name}
+use Rattle.script_lines.specs.LineWords.{is_plain, words_in}
 use Rattle.script_lines.specs.Header.{banks_of, base_of, header_with, is_base, is_header_word, no_header}
 use Rattle.script_lines.specs.Commands.{command_at}
 use Rattle.script_lines.specs.Directives.{directive_at}

@@ -1,9 +1,10 @@
 //! Bytes to a script.
 
 ghost use Rattle.std.specs.Prelude.{◌≡◌, ℕ, ◌+◌, ◌<◌, ◌≤◌, List, [], ◌∷◌, true, not, cond, IfOk, length};
-ghost use Rattle.std.specs.List.{prefix_len};
+ghost use Rattle.std.specs.List.{prefix_len, AllByRecursion};
 ghost use Rattle.session_lang.specs.Answers.{ReadsAs};
 ghost use Rattle.session_lang.specs.Lines.{is_line_end, lines_of, without_cr};
+ghost use Rattle.session_lang.specs.Plain.{IsItem};
 ghost use Rattle.session_lang.specs.Reading.{HasRead, IsSound};
 ghost use Rattle.session_lang.specs.Script.{no_front, read_lines, read_script};
 
@@ -46,6 +47,7 @@ fn read_lines(alloc: Global, bytes: &[u8]) -> Result<Reading, ParseRefusal>
 pub fn parse(alloc: Global, bytes: &[u8]) -> Result<Script, ParseRefusal>
     ensures reads { ReadsAs (λ script. script) result (read_script bytes.now) }
     ensures sound { IfOk result IsSound }
+    ensures ranges { IfOk result (λ script. AllByRecursion IsItem script.items) }
 {
     if bytes.len() > MAX_BYTES {
         return Err(ParseRefusal::Fault {

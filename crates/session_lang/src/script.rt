@@ -17,6 +17,9 @@ pub enum Item {
     Dump { what: DumpOf, at: u64, length: u32 },
 }
 
+// A script may have millions of them.
+const _: () = prove!(size_of::<Item>() == 32);
+
 impl Copied for Item {
     fn copy(&self) -> Result<Self, Memory> {
         Ok(self.clone()?)

@@ -1,5 +1,6 @@
 pub mod Places
 pub mod Events
+pub mod Names
 pub mod Families
 pub mod Running
 pub mod Visible

@@ -1,5 +1,6 @@
 //! What happens under the ProcArray's lock.
-use crate::sequence::{Copied, Memory, Name, Sequence};
+use crate::name::Name;
+use crate::sequence::{Copied, Memory, Sequence};
 use xid_order::FullXid;
 
 /// The command that an event belongs to: the session's number, and the number of the command among the

@@ -112,6 +112,3 @@ impl Copied for FullXid {
 
 /// Ids, mostly ascending.
 pub type IdList = Sequence<FullXid>;
-
-/// A name: 1 to 16 characters of `a` to `z` and `0` to `9`, beginning with a letter.
-pub type Name = Sequence<u8>;

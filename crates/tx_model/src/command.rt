@@ -1,5 +1,6 @@
 //! What a session may be told to do.
-use tx_events::{Copied, Memory, Mode, Name, Sequence};
+use crate::pairs::PairList;
+use tx_events::{Copied, Memory, Mode, Name};
 use xid_order::{FullMulti, FullXid, MultiId, Xid};
 
 /// A member as a script writes it: the stored half of its id.
@@ -14,9 +15,6 @@ impl Copied for Pair {
         Ok(*self)
     }
 }
-
-/// Members as a script writes them.
-pub type PairList = Sequence<Pair>;
 
 /// A command of a session, as a script has it behind the session's name.
 #[derive(Clone, Drop)]

@@ -2,7 +2,8 @@
 
 ghost use Rattle.std.specs.Prelude.{◌≡◌, ◌&&◌, not, ℕ, ◌+◌, ◌<◌, ◌≤◌, List, [], ◌++◌, Some, Result, Ok, true, IfSome, IfNone, OnOk, length, slice_get};
 ghost use Rattle.script_lines.specs.Kinds.{Gives};
-ghost use Rattle.script_lines.specs.LineWords.{is_name, is_plain, words_in};
+ghost use Rattle.script_lines.specs.LineWords.{is_plain, words_in};
+ghost use Rattle.tx_events.specs.Names.{is_name};
 ghost use Rattle.session_lang.specs.Reading.{HasRead, IsNew};
 ghost use Rattle.session_lang.specs.Answers.{ReadsAs};
 ghost use Rattle.script_lines.specs.declared.kind.Kind.{Kind};
@@ -11,11 +12,10 @@ ghost use Rattle.session_lang.specs.Script.{at_line, place_of, with_turn, comman
 
 use crate::script::{Item, ItemList, ParseRefusal};
 use script_lines::{
-    Directive, Header, Kind, Stop, command_at, directive_at, is_header_word, is_name, is_plain,
-    name_of, next_word,
+    Directive, Header, Kind, Stop, command_at, directive_at, is_header_word, is_plain, next_word,
 };
 use std::alloc::Global;
-use tx_model::{Command, Memory, Name, NameList};
+use tx_model::{Command, Memory, Name, NameList, is_name};
 
 /// The sessions that a script may have.
 const MAX_SESSIONS: usize = 64;
@@ -175,9 +175,10 @@ impl Reading {
     }
 
     /// Adds the first command of a session.
-    fn add_new(&mut self, alloc: Global, name: &[u8], command: Command) -> Result<(), Stop>
+    fn add_new(&mut self, name: &[u8], command: Command) -> Result<(), Stop>
         requires so_far { HasRead self.old.front.names self.old.commands.items self.old.front.items }
         requires named { is_name name.now ≡ true }
+        requires short { length name.now ≤ 16 }
         requires fresh { IsNew self.old.front.names name.now }
         ensures adds { Gives (λ _. self.new.front) result (with_turn self.old.front (length self.old.front.names) name.now command) }
         ensures few { OnOk result (length self.new.front.items ≡ length self.old.front.items + 1) }
@@ -187,10 +188,7 @@ impl Reading {
         if session >= MAX_SESSIONS {
             return Err(Stop::Fault(Kind::Limit));
         }
-        let Ok(name) = name_of(alloc, name) else {
-            return Err(Stop::Memory);
-        };
-        let Ok(()) = self.front.names.push(name) else {
+        let Ok(()) = self.front.names.push(Name::of(name)) else {
             return Err(Stop::Memory);
         };
         let Ok(()) = self.commands.push(1) else {
@@ -204,9 +202,10 @@ impl Reading {
     }
 
     /// Adds a command. Sessions are numbered in the order in which their names first come.
-    fn add(&mut self, alloc: Global, name: &[u8], command: Command) -> Result<(), Stop>
+    fn add(&mut self, name: &[u8], command: Command) -> Result<(), Stop>
         requires so_far { HasRead self.old.front.names self.old.commands.items self.old.front.items }
         requires named { is_name name.now ≡ true }
+        requires short { length name.now ≤ 16 }
         ensures adds { Gives (λ _. self.new.front) result (with_turn self.old.front (place_of self.old.front.names name.now) name.now command) }
         ensures few { OnOk result (length self.new.front.items ≡ length self.old.front.items + 1) }
         ensures so_far { OnOk result (HasRead self.new.front.names self.new.commands.items self.new.front.items) }
@@ -216,7 +215,7 @@ impl Reading {
                 self.last = session;
                 self.add_old(session, name, command)
             }
-            None => self.add_new(alloc, name, command),
+            None => self.add_new(name, command),
         }
     }
 
@@ -243,7 +242,7 @@ impl Reading {
             return Err(Stop::Fault(Kind::Session));
         }
         let command = command_at(alloc, rest)?;
-        self.add(alloc, name, command)
+        self.add(name, command)
     }
 
     /// Adds the words of a line that isn't of the header.

@@ -1,5 +1,7 @@
 use Rattle.std.proofs.Common.{arith}
 use Rattle.session_lang.specs.declared.parser.reading.Reading.{Reading}
+use Rattle.session_lang.specs.Lines.{lines_of}
+use Rattle.session_lang.proofs.Ranges.{read_in_range}
 use Rattle.session_lang.proofs.WholeLemmas.{is_sound, lines_refused, no_base, too_long, whole_read}
 use Rattle.session_lang.proofs.parser.parse.Goals as goal
 
@@ -21,3 +23,6 @@ returns-clause-reads c =
 pub returns-clause-sound : goal.returns-clause-sound
 returns-clause-sound c =
     rw (c.base.ensures, c.banks.ensures) (is_sound c.in_ok-front.field-0.front c.in_ok-front.field-0.commands.items c.has_base.result c.in_ok-front.ensures.so_far c.in_ok-front.ensures.few c.has_base.ensures c.if-not-has_base.false)
+
+pub returns-clause-ranges : goal.returns-clause-ranges
+returns-clause-ranges c = read_in_range (lines_of c.args.bytes.now) c.in_ok-front.field-0.front c.in_ok-front.ensures.reads

@@ -112,7 +112,8 @@ pub type LifeList = Sequence<LifeReport>;
 /// Names, by session number.
 pub type NameList = Sequence<Name>;
 
-/// The report of a run.
+/// The report of a run. Its text doesn't carry `committed` and `recorded` of a life: they follow from the records of
+/// the lives before. In a report that is read back both are empty.
 #[derive(Clone, Drop)]
 pub struct Report {
     pub names: NameList,

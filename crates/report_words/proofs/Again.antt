@@ -1,5 +1,5 @@
 -- What is written is read again.
-use Rattle.std.proofs.Common.{◌≡◌, ℕ, ◌+◌, ◌-◌, ◌*◌, ◌/◌, ◌%◌, ◌^◌, ◌<◌, ◌≤◌, inl, inr, List, [], ◌∷◌, ◌++◌, Bool, true, false, Option, Some, None, Result, Ok, Err, refl, sym, ap, ◌∙◌, take, drop, length, zero, suc, arith, length-append}
+use Rattle.std.proofs.Common.{◌≡◌, ℕ, ◌+◌, ◌-◌, ◌*◌, ◌/◌, ◌%◌, ◌^◌, ◌<◌, ◌≤◌, inl, inr, List, [], ◌∷◌, ◌++◌, true, false, Option, Some, None, Result, Ok, Err, refl, ap, ◌∙◌, take, drop, length, zero, suc, arith, length-append}
 use Rattle.std.specs.List.{slice_split, AllByRecursion}
 use Rattle.std.specs.Fmt.{decimal}
 use Rattle.std.proofs.lemmas.List.{take_at}
@@ -15,9 +15,6 @@ use Rattle.report_words.specs.Reading.{Gives, ◌>>=◌, next, digit_of, number_
 use Rattle.report_words.specs.Fits.{FitsId, FitsBy, AreNames}
 use Rattle.report_words.specs.declared.unread.Unread.{Unread}
 use Rattle.report_words.specs.declared.unread.Unread.TheVariants as unreads
-use Rattle.std.specs.Str.{bytes_eq}
-use Rattle.std.proofs.lemmas.Bool.{false≢true}
-use Rattle.std.proofs.lemmas.Slice.Eq.{bytes_eq-Decides}
 use Rattle.report_words.proofs.Places.{place_again}
 
 -- ---- a line's words
@@ -37,10 +34,14 @@ end_cut b t bytes n e f =
     let k : length (b ∷ t) ≡ n = omega arith in
     rw e (take_at (b ∷ t) (10 ∷ []) n k)
 
-pub line_again : (bytes w : List ℕ) (ws : List (List ℕ)) → 1 ≤ length bytes → IsWord w → AreWords ws → drop 1 bytes ≡ line_text (w ∷ ws) → behind (take (length bytes - 1) bytes) ≡ w ∷ ws
+pub line_again : (bytes w : List ℕ) (ws : List (List ℕ)) → 1 ≤ length bytes → AreWords (w ∷ ws) → drop 1 bytes ≡ line_text (w ∷ ws) → behind (take (length bytes - 1) bytes) ≡ w ∷ ws
 unfolding line_text
-line_again [] w ws l i a e = absurd (omega arith)
-line_again (b ∷ bytes) w ws l i a e = ap behind (end_cut b (w ++ more ws) bytes (length (b ∷ bytes) - 1) e refl) ∙ words_split w ws i a
+line_again [] w ws l a e = absurd (omega arith)
+line_again (b ∷ bytes) w ws l a e = ap behind (end_cut b (w ++ more ws) bytes (length (b ∷ bytes) - 1) e refl) ∙ words_split w ws a.0 a.1
+
+-- what is read of its words is read of the line
+pub line_gives : {X : Type 0} (read : List (List ℕ) → X) (bytes w : List ℕ) (ws : List (List ℕ)) (x : X) → 1 ≤ length bytes → read (w ∷ ws) ≡ x → AreWords (w ∷ ws) → drop 1 bytes ≡ line_text (w ∷ ws) → read (behind (take (length bytes - 1) bytes)) ≡ x
+line_gives read bytes w ws x l r a e = ap read (line_again bytes w ws l a e) ∙ r
 
 -- ---- numbers
 
@@ -129,10 +130,3 @@ pub gives_only : {X : Type 0} (r : Result X Unread) (read : Option X) (x : X) �
 gives_only (Ok y) read x g e = cc
 gives_only (Err unreads.Form) read x g e = absurd cc
 gives_only (Err unreads.Memory) read x g e = tt
-
--- the line that was printed is this one
-pub is_printed : (text line : List ℕ) (b : Bool) → b ≡ bytes_eq text line → b ≡ true → line ≡ text
-is_printed text line b e f = sym ((bytes_eq-Decides text line).0 (sym e ∙ f))
-
-pub not_printed : (text line : List ℕ) (b : Bool) → b ≡ bytes_eq text line → b ≡ false → line ≡ text → ⊥
-not_printed text line b e f g = false≢true (sym f ∙ e ∙ (bytes_eq-Decides text line).1 (sym g))

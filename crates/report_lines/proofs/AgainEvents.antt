@@ -1,5 +1,5 @@
 -- Events and multixact events are read again.
-use Rattle.std.proofs.Common.{rules, ◌≡◌, ℕ, ◌-◌, ◌^◌, ◌<◌, ◌≤◌, List, [], ◌∷◌, ◌++◌, Some, refl, ap, ◌∙◌, length, take, drop}
+use Rattle.std.proofs.Common.{rules, ◌≡◌, ℕ, ◌-◌, ◌^◌, ◌<◌, ◌≤◌, List, [], ◌∷◌, ◌++◌, Some, refl, length, take, drop}
 use Rattle.std.specs.List.{AllByRecursion}
 use Rattle.std.specs.Fmt.{decimal}
 use Rattle.tx_events.specs.declared.event.By.{By}
@@ -14,7 +14,7 @@ use Rattle.report_text.specs.MemberText.{member_words}
 use Rattle.report_text.specs.EventText.{event_word, event_words, event_rest, by_words, multi_event_word, multi_event_words, multi_by_of, multi_event_rest}
 use Rattle.report_words.specs.Words.{behind, AreWords}
 use Rattle.report_words.specs.Fits.{FitsMember, AreNames}
-use Rattle.report_words.proofs.Again.{number_at_again, number_word, id_again, by_again, by_are_words, line_again, name_word}
+use Rattle.report_words.proofs.Again.{number_at_again, number_word, id_again, by_again, by_are_words, line_gives, name_word}
 use Rattle.report_words.proofs.Snaps.{multi_again}
 use Rattle.report_words.proofs.AgainMembers.{members_again, members_are_words}
 use Rattle.report_lines.specs.Events.{id_event, event_rest_at, event_at, gen_at, multi_rest_at, multi_event_at}
@@ -46,9 +46,7 @@ event_are_words names (events.Ask by id) n f = (search rules, by_are_words names
 
 -- a line of an event gives the event
 pub event_line_again : (names : List (List ℕ)) (bytes : List ℕ) (e : Event) → AreNames names → FitsEvent names e → 1 ≤ length bytes → drop 1 bytes ≡ line_text (event_words names e) → event_at names (behind (take (length bytes - 1) bytes)) ≡ Some e
-event_line_again names bytes e n f l t =
-    let a : AreWords (event_words names e) = event_are_words names e n f in
-    ap (event_at names) (line_again bytes (event_word e) (by_words names (by_of e) ++ event_rest e) l a.0 a.1 t) ∙ event_again names e n f
+event_line_again names bytes e n f l t = line_gives (event_at names) bytes (event_word e) (by_words names (by_of e) ++ event_rest e) (Some e) l (event_again names e n f) (event_are_words names e n f) t
 
 -- ---- multixact events
 
@@ -71,6 +69,4 @@ multi_event_are_words names (multis.Unhold by multi) n f = (search rules, by_are
 multi_event_are_words names (multis.Raise by multi offset) n f = (search rules, by_are_words names by (decimal multi ∷ decimal offset ∷ []) n f.0 (number_word multi f.1.0, (number_word offset f.2, tt)))
 
 pub multi_line_again : (names : List (List ℕ)) (bytes : List ℕ) (e : MultiEvent) → AreNames names → 1 ≤ length bytes → FitsMultiEvent names e → drop 1 bytes ≡ line_text (multi_event_words names e) → multi_event_at names (behind (take (length bytes - 1) bytes)) ≡ Some e
-multi_line_again names bytes e n s f t =
-    let a : AreWords (multi_event_words names e) = multi_event_are_words names e n f in
-    ap (multi_event_at names) (line_again bytes (multi_event_word e) (by_words names (multi_by_of e) ++ multi_event_rest e) s a.0 a.1 t) ∙ multi_event_again names e n f
+multi_line_again names bytes e n s f t = line_gives (multi_event_at names) bytes (multi_event_word e) (by_words names (multi_by_of e) ++ multi_event_rest e) (Some e) s (multi_event_again names e n f) (multi_event_are_words names e n f) t

@@ -1,5 +1,5 @@
 -- Commands with their replies, records and the lines that begin a life and its log are read again.
-use Rattle.std.proofs.Common.{rules, ◌≡◌, ℕ, ◌-◌, ◌^◌, ◌<◌, ◌≤◌, List, [], ◌∷◌, ◌++◌, Some, inr, refl, ap, ◌∙◌, arith, codes, length, take, drop}
+use Rattle.std.proofs.Common.{rules, ◌≡◌, ℕ, ◌-◌, ◌^◌, ◌<◌, ◌≤◌, List, [], ◌∷◌, ◌++◌, Some, inr, refl, arith, codes, length, take, drop}
 use Rattle.std.specs.List.{AllByRecursion}
 use Rattle.std.specs.Fmt.{decimal}
 use Rattle.tx_model.specs.declared.command.Command.{Command}
@@ -15,7 +15,7 @@ use Rattle.report_text.specs.RecordText.{counters_words, record_words}
 use Rattle.report_text.specs.ReportText.{command_line, life_line}
 use Rattle.report_words.specs.Words.{behind, AreWords}
 use Rattle.report_words.specs.Fits.{FitsCounters, FitsId, AreNames}
-use Rattle.report_words.proofs.Again.{number_at_again, number_word, id_again, by_again, line_again, name_is_word, name_word}
+use Rattle.report_words.proofs.Again.{number_at_again, number_word, id_again, by_again, line_gives, name_is_word, name_word}
 use Rattle.report_words.proofs.Snaps.{multi_again, named_again, counters_again, all_ids}
 use Rattle.report_lines.specs.declared.life.Start.{Start}
 use Rattle.report_lines.specs.declared.life.LogHead.{LogHead}
@@ -29,15 +29,6 @@ use Rattle.report_words.proofs.AgainReplies.{reply_again, reply_are_words, ids_a
 
 pub command_again : (c : Command) (ws : List (List ℕ)) → FitsCommand c → command_at (command_word c ∷ (command_rest c ++ codes "->" ∷ ws)) ≡ Some (c, codes "->" ∷ ws)
 unfolding command_at command_word plain_command long_command named_command number_command
-command_again commands.Begin ws f = refl
-command_again commands.Save ws f = refl
-command_again commands.Write ws f = refl
-command_again commands.Release ws f = refl
-command_again commands.Undo ws f = refl
-command_again commands.Commit ws f = refl
-command_again commands.Abort ws f = refl
-command_again commands.Trim ws f = refl
-command_again commands.Horizon ws f = refl
 command_again (commands.Snap name) ws f = rw f refl
 command_again (commands.DropSnap name) ws f = rw f refl
 command_again (commands.See name x) ws f = rw (f.0, number_at_again x.number (codes "->" ∷ ws) (omega arith), small_again x.number f.1) refl
@@ -47,18 +38,10 @@ command_again (commands.Multi members) ws f = rw (pairs_again members ws f) refl
 command_again (commands.SeeMulti name multi) ws f = rw (f.0, number_at_again multi.number (codes "->" ∷ ws) (omega arith), small_again multi.number f.2) refl
 command_again (commands.Freeze oldest) ws f = rw (number_at_again oldest (codes "->" ∷ ws) (omega arith), id_again oldest (omega arith, inr f.0)) refl
 command_again (commands.MultiFreeze multi) ws f = rw (number_at_again multi (codes "->" ∷ ws) (omega arith), multi_again multi (omega arith, f.0)) refl
+command_again _ ws f = refl
 
 command_are_words : (c : Command) → FitsCommand c → AreWords (command_words c)
 unfolding command_word
-command_are_words commands.Begin f = search rules
-command_are_words commands.Save f = search rules
-command_are_words commands.Write f = search rules
-command_are_words commands.Release f = search rules
-command_are_words commands.Undo f = search rules
-command_are_words commands.Commit f = search rules
-command_are_words commands.Abort f = search rules
-command_are_words commands.Trim f = search rules
-command_are_words commands.Horizon f = search rules
 command_are_words (commands.Snap name) f = (search rules, (name_word name f, tt))
 command_are_words (commands.DropSnap name) f = (search rules, (name_word name f, tt))
 command_are_words (commands.See name x) f = (search rules, (name_word name f.0, (number_word x.number (omega arith), tt)))
@@ -68,6 +51,7 @@ command_are_words (commands.Multi members) f = (search rules, pairs_are_words me
 command_are_words (commands.SeeMulti name multi) f = (search rules, (name_word name f.0, (number_word multi.number (omega arith), tt)))
 command_are_words (commands.Freeze oldest) f = (search rules, (number_word oldest (omega arith), tt))
 command_are_words (commands.MultiFreeze multi) f = (search rules, (number_word multi (omega arith), tt))
+command_are_words _ f = search rules
 
 pub line_words_again : (names : List (List ℕ)) (l : Line) → AreNames names → FitsLine names l → line_at names (name_at names l.by.session ∷ decimal l.by.command ∷ command_word l.command ∷ (command_rest l.command ++ codes "->" ∷ reply_words names l.reply)) ≡ Some l
 unfolding line_at
@@ -80,9 +64,7 @@ said_are_words names l n f =
 
 pub command_line_again : (names : List (List ℕ)) (bytes : List ℕ) (l : Line) → AreNames names → 1 ≤ length bytes → FitsLine names l → drop 1 bytes ≡ command_line names l → line_at names (behind (take (length bytes - 1) bytes)) ≡ Some l
 command_line_again names bytes l n s f t =
-    let a = said_are_words names l n f in
-    ap (line_at names) (line_again bytes (name_at names l.by.session) (decimal l.by.command ∷ command_word l.command ∷ (command_rest l.command ++ codes "->" ∷ reply_words names l.reply)) s a.0 a.1 t)
-    ∙ line_words_again names l n f
+    line_gives (line_at names) bytes _ _ (Some l) s (line_words_again names l n f) (said_are_words names l n f) t
 
 -- ---- records
 
@@ -117,12 +99,9 @@ record_are_words n (records.Multi multi offset members) f = (search rules, (numb
 record_are_words n (records.Checkpoint number counters) f = (search rules, counters_are_words counters f.1)
 record_are_words n (records.Truncate oldest multi offset) f = (search rules, (number_word oldest f.0.0, (number_word multi f.1.0, (number_word offset f.2, tt))))
 
-record_words_again : (n : ℕ) (r : Rec) → FitsRecord n r → record_line_at n (decimal n ∷ record_words r) ≡ Some r
-unfolding record_line_at
-record_words_again n r f = record_again n r f
-
 pub record_line_again : (n : ℕ) (bytes : List ℕ) (r : Rec) → n < 2 ^ 64 → 1 ≤ length bytes → FitsRecord n r → drop 1 bytes ≡ line_text (decimal n ∷ record_words r) → record_line_at n (behind (take (length bytes - 1) bytes)) ≡ Some r
-record_line_again n bytes r l s f t = ap (record_line_at n) (line_again bytes (decimal n) (record_words r) s (number_word n l) (record_are_words n r f) t) ∙ record_words_again n r f
+unfolding record_line_at
+record_line_again n bytes r l s f t = line_gives (record_line_at n) bytes (decimal n) (record_words r) (Some r) s (record_again n r f) (number_word n l, record_are_words n r f) t
 
 -- ---- the lines that begin a life and its log
 
@@ -135,9 +114,7 @@ start_are_words n s l f = (search rules, (number_word n l, (search rules, (numbe
 
 pub start_line_again : (n : ℕ) (bytes : List ℕ) (s : Start) → n < 2 ^ 64 → 1 ≤ length bytes → FitsStart s → drop 1 bytes ≡ start_line n s → start_at (behind (take (length bytes - 1) bytes)) ≡ Some s
 unfolding life_line
-start_line_again n bytes s l k f t =
-    let a = start_are_words n s l f in
-    ap start_at (line_again bytes (codes "life") (decimal n ∷ codes "from" ∷ decimal s.from ∷ counters_words s.base) k a.0 a.1 t) ∙ start_again n s l f
+start_line_again n bytes s l k f t = line_gives start_at bytes _ _ (Some s) k (start_again n s l f) (start_are_words n s l f) t
 
 log_again : (l : LogHead) → FitsLog l → log_at (codes "log" ∷ codes "flushed" ∷ decimal l.flushed ∷ codes "end" ∷ decimal l.end ∷ []) ≡ Some l
 unfolding log_at
@@ -147,6 +124,4 @@ pub log_are_words : (l : LogHead) → FitsLog l → AreWords (codes "log" ∷ co
 log_are_words l f = (search rules, (search rules, (number_word l.flushed f.flushed, (search rules, (number_word l.end f.end, tt)))))
 
 pub log_line_again : (bytes : List ℕ) (l : LogHead) → 1 ≤ length bytes → FitsLog l → drop 1 bytes ≡ log_line l → log_at (behind (take (length bytes - 1) bytes)) ≡ Some l
-log_line_again bytes l k f t =
-    let a = log_are_words l f in
-    ap log_at (line_again bytes (codes "log") (codes "flushed" ∷ decimal l.flushed ∷ codes "end" ∷ decimal l.end ∷ []) k a.0 a.1 t) ∙ log_again l f
+log_line_again bytes l k f t = line_gives log_at bytes _ _ (Some l) k (log_again l f) (log_are_words l f) t

@@ -1,5 +1,5 @@
 -- Checkpoints and dumps are read again.
-use Rattle.std.proofs.Common.{rules, ◌≡◌, ℕ, ◌-◌, ◌^◌, ◌<◌, ◌≤◌, List, ◌∷◌, ◌++◌, Some, refl, ap, ◌∙◌, arith, codes, length, take, drop}
+use Rattle.std.proofs.Common.{rules, ◌≡◌, ℕ, ◌-◌, ◌^◌, ◌<◌, ◌≤◌, List, ◌∷◌, ◌++◌, Some, refl, arith, codes, length, take, drop}
 use Rattle.std.specs.Fmt.{decimal}
 use Rattle.tx_model.specs.declared.reply.Reply.{Reply}
 use Rattle.tx_model.specs.declared.report.DumpOf.{DumpOf}
@@ -10,7 +10,7 @@ use Rattle.report_text.specs.ReplyText.{reply_words}
 use Rattle.report_text.specs.ReportText.{dump_words, step_text}
 use Rattle.report_words.specs.Words.{behind, AreWords}
 use Rattle.report_words.specs.Fits.{AreNames}
-use Rattle.report_words.proofs.Again.{number_at_again, number_word, line_again}
+use Rattle.report_words.proofs.Again.{number_at_again, number_word, line_gives}
 use Rattle.report_lines.specs.Steps.{page_of, dumped_at, dump_at, checkpoint_at, step_at}
 use Rattle.report_words.specs.Fits.{FitsCheckpointReply, FitsDumpReply}
 use Rattle.report_lines.specs.Fits.{FitsDump, FitsStep}
@@ -34,17 +34,11 @@ dump_are (dumps.Members page) at n f = (search rules, (number_word page (omega a
 
 at_fits : (w : DumpOf) (at n : ℕ) → FitsDump w at n → at < 2 ^ 64
 at_fits dumps.Log at n f = omega arith
-at_fits (dumps.Xact page) at n f = omega arith
-at_fits (dumps.Subtrans page) at n f = omega arith
-at_fits (dumps.Offsets page) at n f = omega arith
-at_fits (dumps.Members page) at n f = omega arith
+at_fits _ at n f = omega arith
 
 length_fits : (w : DumpOf) (at n : ℕ) → FitsDump w at n → n < 2 ^ 32
 length_fits dumps.Log at n f = omega arith
-length_fits (dumps.Xact page) at n f = omega arith
-length_fits (dumps.Subtrans page) at n f = omega arith
-length_fits (dumps.Offsets page) at n f = omega arith
-length_fits (dumps.Members page) at n f = omega arith
+length_fits _ at n f = omega arith
 
 dump_again : (names : List (List ℕ)) (what : DumpOf) (at n : ℕ) (r : Reply) → FitsDump what at n → FitsDumpReply r → dump_at (dump_words what ++ decimal at ∷ decimal n ∷ codes "->" ∷ reply_words names r) ≡ Some (steps.Dump what at n r)
 unfolding dump_at
@@ -69,8 +63,6 @@ pub step_line_again : (names : List (List ℕ)) (bytes : List ℕ) (s : Step) �
 unfolding step_at step_text
 step_line_again names bytes (steps.Round number lines) n k f t = absurd f
 step_line_again names bytes (steps.Checkpoint reply) n k f t =
-    let a = checkpoint_words names reply n f in
-    ap (step_at names) (line_again bytes (codes "checkpoint") (codes "->" ∷ reply_words names reply) k a.0 a.1 t) ∙ checkpoint_again names reply n f
+    line_gives (step_at names) bytes (codes "checkpoint") (codes "->" ∷ reply_words names reply) (Some (steps.Checkpoint reply)) k (checkpoint_again names reply n f) (checkpoint_words names reply n f) t
 step_line_again names bytes (steps.Dump what from size reply) n k f t =
-    let a = dumped_are_words names what from size reply f.0 f.1 in
-    ap (step_at names) (line_again bytes (codes "dump") (dump_words what ++ decimal from ∷ decimal size ∷ codes "->" ∷ reply_words names reply) k a.0 a.1 t) ∙ dump_again names what from size reply f.0 f.1
+    line_gives (step_at names) bytes (codes "dump") (dump_words what ++ decimal from ∷ decimal size ∷ codes "->" ∷ reply_words names reply) (Some (steps.Dump what from size reply)) k (dump_again names what from size reply f.0 f.1) (dumped_are_words names what from size reply f.0 f.1) t

@@ -186,15 +186,6 @@ fn fits_command(command: &Command) -> bool
     ensures { IsTrue result ↔ FitsCommand command.now }
 {
     match command {
-        Command::Begin => true,
-        Command::Save => true,
-        Command::Write => true,
-        Command::Release => true,
-        Command::Undo => true,
-        Command::Commit => true,
-        Command::Abort => true,
-        Command::Trim => true,
-        Command::Horizon => true,
         Command::Snap { name } => is_name(name.items()),
         Command::DropSnap { name } => is_name(name.items()),
         Command::See { name, x } => {
@@ -213,6 +204,7 @@ fn fits_command(command: &Command) -> bool
         Command::SeeMulti { name, multi } => is_name(name.items()) && multi.number >= 1,
         Command::Freeze { oldest } => oldest.number() >= 3 && oldest.number() <= 1 << 62,
         Command::MultiFreeze { multi } => multi.number() <= 1 << 62,
+        _ => true,
     }
 }
 

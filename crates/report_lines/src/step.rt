@@ -102,27 +102,12 @@ fn fits_page_range(at: u64, length: u32) -> bool
 }
 
 /// Whether a script can have the dump.
-fn fits_dump(what: &DumpOf, at: u64, length: u32) -> bool
-    ensures { IsTrue result ↔ FitsDump what.now at length }
+fn fits_dump(what: DumpOf, at: u64, length: u32) -> bool
+    ensures { IsTrue result ↔ FitsDump what at length }
 {
     match what {
         DumpOf::Log => at <= 1 << 40 && 1 <= length && length <= 64,
-        DumpOf::Xact { page } => {
-            let _page = *page;
-            fits_page_range(at, length)
-        }
-        DumpOf::Subtrans { page } => {
-            let _page = *page;
-            fits_page_range(at, length)
-        }
-        DumpOf::Offsets { page } => {
-            let _page = *page;
-            fits_page_range(at, length)
-        }
-        DumpOf::Members { page } => {
-            let _page = *page;
-            fits_page_range(at, length)
-        }
+        _ => fits_page_range(at, length),
     }
 }
 
@@ -138,7 +123,7 @@ fn fits_step(names: &NameList, step: &Step) -> bool
             at,
             length,
             reply,
-        } => fits_dump(what, *at, *length) && fits_dump_reply(reply),
+        } => fits_dump(*what, *at, *length) && fits_dump_reply(reply),
     }
 }
 

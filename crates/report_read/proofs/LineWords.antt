@@ -6,13 +6,13 @@ use Rattle.tx_model.specs.declared.report.How.{How}
 use Rattle.tx_model.specs.declared.report.How.TheVariants as hows
 use Rattle.tx_model.specs.declared.report.Step.{Step}
 use Rattle.tx_model.specs.declared.report.Step.TheVariants as steps
-use Rattle.report_text.specs.Words.{line_text, name_at}
+use Rattle.report_text.specs.Words.{name_at}
 use Rattle.report_text.specs.CommandText.{command_word, command_rest}
 use Rattle.report_text.specs.EventText.{event_word, event_words, event_rest, by_words, multi_event_word, multi_event_words, multi_by_of, multi_event_rest}
 use Rattle.report_text.specs.RecordText.{record_words, counters_words}
 use Rattle.report_text.specs.ReplyText.{reply_words}
 use Rattle.report_text.specs.ReportText.{crash_text, dump_words, life_line, step_text}
-use Rattle.report_words.specs.Words.{behind, AreWords}
+use Rattle.report_words.specs.Words.{behind}
 use Rattle.report_words.specs.Fits.{AreNames}
 use Rattle.report_words.proofs.Again.{line_again, number_word}
 use Rattle.report_lines.specs.Front.{IsLine}
@@ -51,40 +51,36 @@ item_words names (items.logged number r) = decimal number ∷ record_words r
 item_words names (items.crash how) = codes "crash" ∷ how_words how
 item_words names items.last = codes "end" ∷ []
 
--- the words of a line that follows the byte before it
-pub again : (bytes w : List ℕ) (ws : List (List ℕ)) → 1 ≤ length bytes → AreWords (w ∷ ws) → drop 1 bytes ≡ line_text (w ∷ ws) → behind (take (length bytes - 1) bytes) ≡ w ∷ ws
-again bytes w ws l a e = line_again bytes w ws l a.0 a.1 e
-
 pub step_again : (names : List (List ℕ)) (s : Step) (bytes : List ℕ) → 1 ≤ length bytes → AreNames names → FitsStep names s → drop 1 bytes ≡ step_text names s → behind (take (length bytes - 1) bytes) ≡ step_words names s
 unfolding step_text
 step_again names (steps.Round number lines) bytes l n f e = absurd f
-step_again names (steps.Checkpoint reply) bytes l n f e = again bytes (codes "checkpoint") (codes "->" ∷ reply_words names reply) l (checkpoint_words names reply n f) e
-step_again names (steps.Dump what from size reply) bytes l n f e = again bytes (codes "dump") (dump_words what ++ decimal from ∷ decimal size ∷ codes "->" ∷ reply_words names reply) l (dumped_are_words names what from size reply f.0 f.1) e
+step_again names (steps.Checkpoint reply) bytes l n f e = line_again bytes (codes "checkpoint") (codes "->" ∷ reply_words names reply) l (checkpoint_words names reply n f) e
+step_again names (steps.Dump what from size reply) bytes l n f e = line_again bytes (codes "dump") (dump_words what ++ decimal from ∷ decimal size ∷ codes "->" ∷ reply_words names reply) l (dumped_are_words names what from size reply f.0 f.1) e
 
 crash_again : (how : How) (bytes : List ℕ) → 1 ≤ length bytes → drop 1 bytes ≡ crash_text (Some how) → behind (take (length bytes - 1) bytes) ≡ codes "crash" ∷ how_words how
 unfolding crash_text how_words
-crash_again hows.Lost bytes l e = again bytes (codes "crash") (codes "lost" ∷ []) l (search rules, (search rules, tt)) e
-crash_again hows.Kept bytes l e = again bytes (codes "crash") (codes "kept" ∷ []) l (search rules, (search rules, tt)) e
-crash_again hows.Torn bytes l e = again bytes (codes "crash") (codes "torn" ∷ []) l (search rules, (search rules, tt)) e
+crash_again hows.Lost bytes l e = line_again bytes (codes "crash") (codes "lost" ∷ []) l (search rules, (search rules, tt)) e
+crash_again hows.Kept bytes l e = line_again bytes (codes "crash") (codes "kept" ∷ []) l (search rules, (search rules, tt)) e
+crash_again hows.Torn bytes l e = line_again bytes (codes "crash") (codes "torn" ∷ []) l (search rules, (search rules, tt)) e
 
 life_again : (number : ℕ) (bytes : List ℕ) (t : Told) (names : List (List ℕ)) (s : _) → 1 ≤ length bytes → Rule t (items.life number s) names → drop 1 bytes ≡ item_line names (items.life number s) → behind (take (length bytes - 1) bytes) ≡ item_words names (items.life number s)
 unfolding life_line
-life_again number bytes t names s l r e = again bytes (codes "life") (decimal number ∷ codes "from" ∷ decimal s.from ∷ counters_words s.base) l (start_are_words number s r.2 r.3) e
+life_again number bytes t names s l r e = line_again bytes (codes "life") (decimal number ∷ codes "from" ∷ decimal s.from ∷ counters_words s.base) l (start_are_words number s r.2 r.3) e
 
 pub line_words : (t : Told) (x : Item) (names : List (List ℕ)) (bytes : List ℕ) → 1 ≤ length bytes → Rule t x names → drop 1 bytes ≡ item_line names x → behind (take (length bytes - 1) bytes) ≡ item_words names x
-line_words t items.title names bytes l r e = again bytes (codes "txid") (codes "report" ∷ codes "1" ∷ []) l (search rules, (search rules, (search rules, tt))) e
+line_words t items.title names bytes l r e = line_again bytes (codes "txid") (codes "report" ∷ codes "1" ∷ []) l (search rules, (search rules, (search rules, tt))) e
 line_words t (items.life number s) names bytes l r e = life_again number bytes t names s l r e
-line_words t (items.round number) names bytes l r e = again bytes (codes "round") (decimal number ∷ []) l (search rules, (number_word number r.2, tt)) e
-line_words t (items.command c) names bytes l r e = again bytes (name_at names c.by.session) (decimal c.by.command ∷ command_word c.command ∷ (command_rest c.command ++ codes "->" ∷ reply_words names c.reply)) l (said_are_words names c r.0.are r.1) e
+line_words t (items.round number) names bytes l r e = line_again bytes (codes "round") (decimal number ∷ []) l (search rules, (number_word number r.2, tt)) e
+line_words t (items.command c) names bytes l r e = line_again bytes (name_at names c.by.session) (decimal c.by.command ∷ command_word c.command ∷ (command_rest c.command ++ codes "->" ∷ reply_words names c.reply)) l (said_are_words names c r.0.are r.1) e
 line_words t (items.step s) names bytes l r e = step_again names s bytes l r.1 r.2 e
-line_words t items.history names bytes l r e = again bytes (codes "history") [] l (search rules, tt) e
-line_words t (items.event v) names bytes l r e = again bytes (event_word v) (by_words names (by_of v) ++ event_rest v) l (event_are_words names v r.0.are r.1) e
-line_words t items.multis names bytes l r e = again bytes (codes "multis") [] l (search rules, tt) e
-line_words t (items.multi v) names bytes l r e = again bytes (multi_event_word v) (by_words names (multi_by_of v) ++ multi_event_rest v) l (multi_event_are_words names v r.0.are r.1) e
-line_words t (items.log h) names bytes l r e = again bytes (codes "log") (codes "flushed" ∷ decimal h.flushed ∷ codes "end" ∷ decimal h.end ∷ []) l (log_are_words h r.1) e
-line_words t (items.logged number c) names bytes l r e = again bytes (decimal number) (record_words c) l (number_word number r.2, record_are_words number c r.3) e
+line_words t items.history names bytes l r e = line_again bytes (codes "history") [] l (search rules, tt) e
+line_words t (items.event v) names bytes l r e = line_again bytes (event_word v) (by_words names (by_of v) ++ event_rest v) l (event_are_words names v r.0.are r.1) e
+line_words t items.multis names bytes l r e = line_again bytes (codes "multis") [] l (search rules, tt) e
+line_words t (items.multi v) names bytes l r e = line_again bytes (multi_event_word v) (by_words names (multi_by_of v) ++ multi_event_rest v) l (multi_event_are_words names v r.0.are r.1) e
+line_words t (items.log h) names bytes l r e = line_again bytes (codes "log") (codes "flushed" ∷ decimal h.flushed ∷ codes "end" ∷ decimal h.end ∷ []) l (log_are_words h r.1) e
+line_words t (items.logged number c) names bytes l r e = line_again bytes (decimal number) (record_words c) l (number_word number r.2, record_are_words number c r.3) e
 line_words t (items.crash how) names bytes l r e = crash_again how bytes l e
-line_words t items.last names bytes l r e = again bytes (codes "end") [] l (search rules, tt) e
+line_words t items.last names bytes l r e = line_again bytes (codes "end") [] l (search rules, tt) e
 
 -- lines that are the same have the same words
 pub same_words : (t : Told) (x y : Item) (m k : List (List ℕ)) → Rule t x m → Rule t y k → item_line m x ≡ item_line k y → item_words m x ≡ item_words k y

@@ -28,11 +28,12 @@ use Rattle.report_lines.specs.Fits.{FitsStep}
 use Rattle.report_lines.specs.Texts.{event_line, log_line, multi_line, record_line, start_line}
 use Rattle.report_read.specs.Item.{Item}
 use Rattle.report_read.specs.Item as items
-use Rattle.report_read.specs.Grammar.{AreNamed, IsNamed, Rule, after, begins_step, history_line, is_between, is_history, is_log, is_multis, is_opening, is_round, item_line, life_told, may_stand, multis_line, noted, session_of, steps_told}
+use Rattle.report_read.specs.Grammar.{AreNamed, IsNamed, Rule, after, begins_step, history_line, is_round, item_line, life_told, may_stand, multis_line, noted, session_of, steps_told}
 use Rattle.report_read.specs.Reports.{IsRun, report_told, run_text}
 use Rattle.report_read.specs.declared.told.Stage.{Stage}
 use Rattle.report_read.specs.declared.told.Stage.TheVariants as stages
 use Rattle.report_read.specs.declared.told.Told.{Told}
+use Rattle.report_read.proofs.Same.{opening_is, between_is, history_is, multis_is, log_is}
 
 abbrev Names : Type 0
 Names = List (List ℕ)
@@ -190,26 +191,6 @@ last_told : (n : Names) (t : Told) → so_far n stages.Closed (after t items.las
 unfolding so_far crash_text
 last_told n t = ap (λ u. u ++ end_text) (whole_life n t None ∙ append-nil (with_log n t))
 
-opening_is : (s : Stage) → is_opening s ≡ true → s ≡ stages.Opening
-opening_is stages.Opening e = refl
-opening_is _ e = absurd (false≢true e)
-
-between_is : (s : Stage) → is_between s ≡ true → s ≡ stages.Between
-between_is stages.Between e = refl
-between_is _ e = absurd (false≢true e)
-
-pub history_is : (s : Stage) → is_history s ≡ true → s ≡ stages.History
-history_is stages.History e = refl
-history_is _ e = absurd (false≢true e)
-
-multis_is : (s : Stage) → is_multis s ≡ true → s ≡ stages.Multis
-multis_is stages.Multis e = refl
-multis_is _ e = absurd (false≢true e)
-
-log_is : (s : Stage) → is_log s ≡ true → s ≡ stages.Log
-log_is stages.Log e = refl
-log_is _ e = absurd (false≢true e)
-
 at_stage : (n : Names) (t : Told) (s : Stage) (line : List ℕ) → t.stage ≡ s → so_far n s t ++ line ≡ so_far n t.stage t ++ line
 at_stage n t s line e = ap (λ q. so_far n q t ++ line) (sym e)
 
@@ -269,36 +250,21 @@ are_extended before None names a = extends_refl before names a
 are_extended before (Some s) names a = named_extends before s names a
 
 names_extend : (t : Told) (x : Item) (names : Names) → Rule t x names → Extends names t.names
-names_extend t items.title names r = extends_refl t.names names r
 names_extend t (items.life number s) names r = extends_refl t.names names r.0
 names_extend t (items.round k) names r = extends_refl t.names names r.0
 names_extend t (items.command l) names r = named_extends t.names l.by.session names r.0
 names_extend t (items.step s) names r = are_extended t.names (session_of s) names r.0
-names_extend t items.history names r = extends_refl t.names names r
 names_extend t (items.event e) names r = named_extends t.names (by_of e).session names r.0
-names_extend t items.multis names r = extends_refl t.names names r
 names_extend t (items.multi e) names r = named_extends t.names (multi_by_of e).session names r.0
 names_extend t (items.log l) names r = extends_refl t.names names r.0
 names_extend t (items.logged k q) names r = extends_refl t.names names r.0
-names_extend t (items.crash how) names r = extends_refl t.names names r
-names_extend t items.last names r = extends_refl t.names names r
+names_extend t _ names r = extends_refl t.names names r
 
 -- ---- a line stays as it is where names are added
 
 reply_stays : (k : Kind) (r : Reply) (n names : Names) → FitsReply k r → reply_words n r ≡ reply_words names r
-reply_stays k replies.Done n names f = refl
-reply_stays k (replies.Wrote ids warn) n names f = refl
-reply_stays k (replies.Snapped s) n names f = refl
-reply_stays k (replies.Seen visible) n names f = refl
-reply_stays k (replies.Known status) n names f = refl
-reply_stays k (replies.Did b) n names f = refl
-reply_stays k (replies.Multi multi offset warn) n names f = refl
-reply_stays k (replies.Verdicts list) n names f = refl
-reply_stays k (replies.Horizon id) n names f = refl
-reply_stays k (replies.Bytes bytes) n names f = refl
-reply_stays k (replies.Cut cutoff) n names f = refl
 reply_stays k (replies.Pending session refusal) n names f = absurd f
-reply_stays k (replies.Refused refusal) n names f = refl
+reply_stays k _ n names f = refl
 
 checkpoint_stays : (r : Reply) (n names : Names) → Extends n names → FitsCheckpointReply names r → reply_words n r ≡ reply_words names r
 unfolding Extends
@@ -321,21 +287,13 @@ step_stays (steps.Dump what from size reply) n names x f = ap (λ ws. line_text 
 
 line_stays : (t : Told) (x : Item) (n names : Names) → Extends n names → Rule t x names → item_line n x ≡ item_line names x
 unfolding Extends
-line_stays t items.title n names x r = refl
-line_stays t (items.life number s) n names x r = refl
-line_stays t (items.round k) n names x r = refl
 line_stays t (items.command l) n names x r =
     ap (λ w. line_text (w ∷ decimal l.by.command ∷ (command_words l.command ++ codes "->" ∷ reply_words n l.reply))) (x l.by.session r.0.within).1
     ∙ ap (λ ws. line_text (name_at names l.by.session ∷ decimal l.by.command ∷ (command_words l.command ++ codes "->" ∷ ws))) (reply_stays (kind_of l.command) l.reply n names r.1.reply)
 line_stays t (items.step s) n names x r = step_stays s n names x r.2
-line_stays t items.history n names x r = refl
 line_stays t (items.event e) n names x r = ap (λ w. line_text (event_word e ∷ w ∷ decimal (by_of e).command ∷ event_rest e)) (x (by_of e).session r.0.within).1
-line_stays t items.multis n names x r = refl
 line_stays t (items.multi e) n names x r = ap (λ w. line_text (multi_event_word e ∷ w ∷ decimal (multi_by_of e).command ∷ multi_event_rest e)) (x (multi_by_of e).session r.0.within).1
-line_stays t (items.log l) n names x r = refl
-line_stays t (items.logged k q) n names x r = refl
-line_stays t (items.crash how) n names x r = refl
-line_stays t items.last n names x r = refl
+line_stays t _ n names x r = refl
 
 -- ---- whole runs
 
@@ -346,14 +304,7 @@ run_extends t (p ∷ ps) last g = extends_trans last.names p.1.names t.names (ru
 names_apart : (n : Names) (s : Stage) (k : Told) (names : Names) → so_far n s (record k { names = names }) ≡ so_far n s k
 unfolding so_far
 names_apart n stages.Opening k names = refl
-names_apart n stages.Between k names = refl
-names_apart n stages.Steps k names = refl
-names_apart n stages.Silent k names = refl
-names_apart n stages.Spoken k names = refl
-names_apart n stages.History k names = refl
-names_apart n stages.Multis k names = refl
-names_apart n stages.Log k names = refl
-names_apart n stages.Closed k names = refl
+names_apart n _ k names = refl
 
 same_text : (n : Names) (m k : Told) → m ≡ record k { names = m.names } → so_far n m.stage m ≡ so_far n k.stage k
 same_text n m k e = ap (λ (q : Told). so_far n q.stage q) e ∙ names_apart n k.stage k m.names

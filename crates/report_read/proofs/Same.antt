@@ -38,7 +38,7 @@ use Rattle.report_lines.specs.Texts.{event_line, log_line, multi_line, record_li
 use Rattle.report_lines.proofs.AgainEvents.{event_line_again, multi_line_again}
 use Rattle.report_lines.proofs.AgainLines.{command_line_again, log_line_again, record_line_again, start_line_again}
 use Rattle.report_lines.proofs.AgainSteps.{step_line_again}
-use Rattle.report_lines.proofs.Apart.{apart}
+use Rattle.report_lines.proofs.Apart.{apart, some_same}
 use Rattle.report_lines.proofs.Crashes.{only}
 use Rattle.report_read.specs.Item.{Item}
 use Rattle.report_read.specs.Item as items
@@ -77,13 +77,25 @@ item_group (items.logged number r) = 5
 item_group (items.crash how) = 5
 item_group items.last = 5
 
-opening_group : (s : Stage) → is_opening s ≡ true → 0 ≡ stage_group s
-opening_group stages.Opening e = refl
-opening_group _ e = absurd (false≢true e)
+pub opening_is : (s : Stage) → is_opening s ≡ true → s ≡ stages.Opening
+opening_is stages.Opening e = refl
+opening_is _ e = absurd (false≢true e)
 
-between_group : (s : Stage) → is_between s ≡ true → 1 ≡ stage_group s
-between_group stages.Between e = refl
-between_group _ e = absurd (false≢true e)
+pub between_is : (s : Stage) → is_between s ≡ true → s ≡ stages.Between
+between_is stages.Between e = refl
+between_is _ e = absurd (false≢true e)
+
+pub history_is : (s : Stage) → is_history s ≡ true → s ≡ stages.History
+history_is stages.History e = refl
+history_is _ e = absurd (false≢true e)
+
+pub multis_is : (s : Stage) → is_multis s ≡ true → s ≡ stages.Multis
+multis_is stages.Multis e = refl
+multis_is _ e = absurd (false≢true e)
+
+pub log_is : (s : Stage) → is_log s ≡ true → s ≡ stages.Log
+log_is stages.Log e = refl
+log_is _ e = absurd (false≢true e)
 
 step_group : (s : Stage) → begins_step s ≡ true → 2 ≡ stage_group s
 step_group stages.Steps e = refl
@@ -95,32 +107,20 @@ round_group stages.Silent e = refl
 round_group stages.Spoken e = refl
 round_group _ e = absurd (false≢true e)
 
-history_group : (s : Stage) → is_history s ≡ true → 3 ≡ stage_group s
-history_group stages.History e = refl
-history_group _ e = absurd (false≢true e)
-
-multis_group : (s : Stage) → is_multis s ≡ true → 4 ≡ stage_group s
-multis_group stages.Multis e = refl
-multis_group _ e = absurd (false≢true e)
-
-log_group : (s : Stage) → is_log s ≡ true → 5 ≡ stage_group s
-log_group stages.Log e = refl
-log_group _ e = absurd (false≢true e)
-
 pub stands_in : (x : Item) (s : Stage) → may_stand x s ≡ true → item_group x ≡ stage_group s
-stands_in items.title s e = opening_group s e
-stands_in (items.life number start) s e = between_group s e
+stands_in items.title s e = sym (ap stage_group (opening_is s e))
+stands_in (items.life number start) s e = sym (ap stage_group (between_is s e))
 stands_in (items.round number) s e = step_group s e
 stands_in (items.command l) s e = round_group s e
 stands_in (items.step v) s e = step_group s e
 stands_in items.history s e = step_group s e
-stands_in (items.event v) s e = history_group s e
-stands_in items.multis s e = history_group s e
-stands_in (items.multi v) s e = multis_group s e
-stands_in (items.log l) s e = multis_group s e
-stands_in (items.logged number r) s e = log_group s e
-stands_in (items.crash how) s e = log_group s e
-stands_in items.last s e = log_group s e
+stands_in (items.event v) s e = sym (ap stage_group (history_is s e))
+stands_in items.multis s e = sym (ap stage_group (history_is s e))
+stands_in (items.multi v) s e = sym (ap stage_group (multis_is s e))
+stands_in (items.log l) s e = sym (ap stage_group (multis_is s e))
+stands_in (items.logged number r) s e = sym (ap stage_group (log_is s e))
+stands_in (items.crash how) s e = sym (ap stage_group (log_is s e))
+stands_in items.last s e = sym (ap stage_group (log_is s e))
 
 -- ---- words that differ
 
@@ -269,13 +269,7 @@ crash_same : (h k : How) → crash_text (Some h) ≡ crash_text (Some k) → h �
 crash_same h k e =
     let a = only (crash_text (Some h)) (crash_in (crash_text (Some h))) refl h refl in
     let b = only (crash_text (Some h)) (crash_in (crash_text (Some h))) refl k e in
-    some_is h k (sym a ∙ b)
-  where
-    some_is : (h k : How) → Some h ≡ Some k → h ≡ k
-    some_is h k e = cc
-
-pub some_name : (v w : List ℕ) → Some v ≡ Some w → v ≡ w
-some_name v w e = cc
+    some_same h k (sym a ∙ b)
 
 -- a line said by a session is no other's
 said_clash : (ws vs : List (List ℕ)) (w : List ℕ) → ws ≡ vs → said_name ws ≡ Some w → said_name vs ≡ None → ⊥
@@ -308,17 +302,17 @@ multi_no_log names (multis.Raise by multi offset) ws e = clash (codes "raise") (
 module _ (t : Told) where
   commands_same : (l r : Line) (m k : List (List ℕ)) → Rule t (items.command l) m → Rule t (items.command r) k → command_line m l ≡ command_line k r → SameLine (items.command l) (items.command r) m k
   commands_same l r m k a b e =
-      let n : m ≡ k = named_same t.names l.by.session r.by.session m k a.0 b.0 (some_name _ _ (sym (command_said m l a.1.by.command) ∙ ap said_name (same_words t (items.command l) (items.command r) m k a b e) ∙ command_said k r b.1.by.command)) in
+      let n : m ≡ k = named_same t.names l.by.session r.by.session m k a.0 b.0 (some_same _ _ (sym (command_said m l a.1.by.command) ∙ ap said_name (same_words t (items.command l) (items.command r) m k a b e) ∙ command_said k r b.1.by.command)) in
       record { item = ap items.command (command_same k l r b.0.are (subst (λ q. FitsLine q l) n a.1) b.1 (ap (λ q. command_line q l) (sym n) ∙ e)); names = n }
 
   events_same : (l r : Event) (m k : List (List ℕ)) → Rule t (items.event l) m → Rule t (items.event r) k → event_line m l ≡ event_line k r → SameLine (items.event l) (items.event r) m k
   events_same l r m k a b e =
-      let n : m ≡ k = named_same t.names (by_of l).session (by_of r).session m k a.0 b.0 (some_name _ _ (sym (event_second m l) ∙ ap second_word (same_words t (items.event l) (items.event r) m k a b e) ∙ event_second k r)) in
+      let n : m ≡ k = named_same t.names (by_of l).session (by_of r).session m k a.0 b.0 (some_same _ _ (sym (event_second m l) ∙ ap second_word (same_words t (items.event l) (items.event r) m k a b e) ∙ event_second k r)) in
       record { item = ap items.event (event_same k l r b.0.are (subst (λ q. FitsEvent q l) n a.1) b.1 (ap (λ q. event_line q l) (sym n) ∙ e)); names = n }
 
   multis_same : (l r : MultiEvent) (m k : List (List ℕ)) → Rule t (items.multi l) m → Rule t (items.multi r) k → multi_line m l ≡ multi_line k r → SameLine (items.multi l) (items.multi r) m k
   multis_same l r m k a b e =
-      let n : m ≡ k = named_same t.names (multi_by_of l).session (multi_by_of r).session m k a.0 b.0 (some_name _ _ (sym (multi_second m l) ∙ ap second_word (same_words t (items.multi l) (items.multi r) m k a b e) ∙ multi_second k r)) in
+      let n : m ≡ k = named_same t.names (multi_by_of l).session (multi_by_of r).session m k a.0 b.0 (some_same _ _ (sym (multi_second m l) ∙ ap second_word (same_words t (items.multi l) (items.multi r) m k a b e) ∙ multi_second k r)) in
       record { item = ap items.multi (multi_same k l r b.0.are (subst (λ q. FitsMultiEvent q l) n a.1) b.1 (ap (λ q. multi_line q l) (sym n) ∙ e)); names = n }
 
   steps_same : (l r : Step) (m k : List (List ℕ)) → Rule t (items.step l) m → Rule t (items.step r) k → step_text m l ≡ step_text k r → SameLine (items.step l) (items.step r) m k

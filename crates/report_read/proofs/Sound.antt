@@ -19,7 +19,7 @@ Names = List (List ℕ)
 named_few : (before : Names) (s : ℕ) (names : Names) → IsNamed before s names → AreFew names
 named_few before s names n = record { are = n.are; few = n.few }
 
-are_few : (before : Names) (o : Option ℕ) (names : Names) → AreNamed before o names → AreFew before → AreFew names
+pub are_few : (before : Names) (o : Option ℕ) (names : Names) → AreNamed before o names → AreFew before → AreFew names
 are_few before None names a f = subst (λ (n : Names). AreFew n) (sym a) f
 are_few before (Some s) names a f = named_few before s names a
 
@@ -27,19 +27,15 @@ same_few : (before names : Names) → names ≡ before → AreFew before → Are
 same_few before names e f = subst (λ (n : Names). AreFew n) (sym e) f
 
 pub follow_few : (t : Told) (x : Item) (names : Names) → AreFew t.names → Rule t x names → AreFew names
-follow_few t items.title names f r = same_few t.names names r f
 follow_few t (items.life number s) names f r = same_few t.names names r.0 f
 follow_few t (items.round k) names f r = same_few t.names names r.0 f
 follow_few t (items.command l) names f r = named_few t.names l.by.session names r.0
 follow_few t (items.step s) names f r = are_few t.names (session_of s) names r.0 f
-follow_few t items.history names f r = same_few t.names names r f
 follow_few t (items.event e) names f r = named_few t.names (by_of e).session names r.0
-follow_few t items.multis names f r = same_few t.names names r f
 follow_few t (items.multi e) names f r = named_few t.names (multi_by_of e).session names r.0
 follow_few t (items.log l) names f r = same_few t.names names r.0 f
 follow_few t (items.logged k q) names f r = same_few t.names names r.0 f
-follow_few t (items.crash how) names f r = same_few t.names names r f
-follow_few t items.last names f r = same_few t.names names r f
+follow_few t _ names f r = same_few t.names names r f
 
 set_first : (xs : List ℕ) (s v n : ℕ) → v ≡ get_or xs s 0 + 1 → get_or xs 0 0 ≤ n → get_or (set xs s v) 0 0 ≤ n + 1
 set_first [] s v n e l = omega arith
@@ -51,19 +47,8 @@ one_more ls l n k = let e = length-append ls (l ∷ []) in omega arith
 
 counts_grow : (t : Told) (x : Item) (names : Names) (n : ℕ) → Rule t x names → get_or t.counts 0 0 ≤ n → get_or (after t x).counts 0 0 ≤ n + 1
 unfolding no_counts
-counts_grow t items.title names n r l = omega arith
-counts_grow t (items.life number s) names n r l = omega arith
-counts_grow t (items.round k) names n r l = omega arith
 counts_grow t (items.command c) names n r l = set_first t.counts c.by.session c.by.command n r.2 l
-counts_grow t (items.step s) names n r l = omega arith
-counts_grow t items.history names n r l = omega arith
-counts_grow t (items.event e) names n r l = omega arith
-counts_grow t items.multis names n r l = omega arith
-counts_grow t (items.multi e) names n r l = omega arith
-counts_grow t (items.log h) names n r l = omega arith
-counts_grow t (items.logged k q) names n r l = omega arith
-counts_grow t (items.crash how) names n r l = omega arith
-counts_grow t items.last names n r l = omega arith
+counts_grow t _ names n r l = omega arith
 
 lives_grow : (t : Told) (x : Item) (n : ℕ) → length t.lives ≤ n → length (after t x).lives ≤ n + 1
 lives_grow t items.title n l = omega arith

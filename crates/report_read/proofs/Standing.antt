@@ -19,19 +19,21 @@ use Rattle.report_lines.specs.declared.life.LogHead.{LogHead}
 use Rattle.report_lines.specs.Fits.{FitsEvent, FitsLog, FitsMultiEvent, FitsRecord, FitsStart}
 use Rattle.report_lines.specs.Texts.{IsLineOf, event_line, log_line, multi_line, record_line, start_line}
 use Rattle.report_lines.proofs.AgainEvents.{event_are_words, multi_event_are_words}
+use Rattle.report_lines.proofs.Apart.{some_same}
 use Rattle.std.specs.Result.{IsErrAnd, IfErr}
 use Rattle.report_words.specs.Reading.{Gives, IsOnly}
 use Rattle.report_words.specs.declared.unread.Unread.{Unread}
 use Rattle.report_words.specs.declared.unread.Unread.TheVariants as unreads
+use Rattle.report_words.proofs.Again.{line_again}
 use Rattle.report_read.specs.Item.{Item}
 use Rattle.report_read.specs.Item as items
 use Rattle.report_read.specs.Grammar.{Follows, Rule, after, item_line, may_stand, multis_line, note}
 use Rattle.report_read.specs.Taking.{AreFew, CannotNote, IsRefused, IsTaken, second_word}
 use Rattle.report_read.specs.declared.told.Stage.TheVariants as stages
 use Rattle.report_read.specs.declared.told.Told.{Told}
-use Rattle.report_read.proofs.LineWords.{again, item_words, line_words}
+use Rattle.report_read.proofs.LineWords.{item_words, line_words}
 use Rattle.report_read.proofs.Runs.{closed_ends}
-use Rattle.report_read.proofs.Same.{event_second, multi_second, some_name, stage_group, stands_in}
+use Rattle.report_read.proofs.Same.{event_second, multi_second, stage_group, stands_in}
 
 abbrev Names : Type 0
 Names = List (List ℕ)
@@ -87,7 +89,7 @@ pub event_unnamed : (t : Told) (bytes : List ℕ) → 1 ≤ length bytes → sec
 event_unnamed t bytes l n e names r g = some_none (name_at names (by_of e).session) (sym (event_names t bytes e names l r g) ∙ n)
 
 event_noted : (t : Told) (bytes w : List ℕ) → 1 ≤ length bytes → second_word (words_in bytes) ≡ Some w → (e : Event) (names : Names) → Rule t (items.event e) names → drop 1 bytes ≡ event_line names e → names ≡ note t.names w
-event_noted t bytes w l n e names r g = r.0.noted ∙ ap (note t.names) (some_name _ _ (sym (event_names t bytes e names l r g) ∙ n))
+event_noted t bytes w l n e names r g = r.0.noted ∙ ap (note t.names) (some_same _ _ (sym (event_names t bytes e names l r g) ∙ n))
 
 pub event_cannot : (t : Told) (bytes w : List ℕ) → 1 ≤ length bytes → second_word (words_in bytes) ≡ Some w → (AreFew (note t.names w) → ⊥) → (e : Event) (names : Names) → Rule t (items.event e) names → drop 1 bytes ≡ event_line names e → ⊥
 event_cannot t bytes w l n c e names r g = c (subst (λ (q : Names). AreFew q) (event_noted t bytes w l n e names r g) (record { are = r.0.are; few = r.0.few }))
@@ -99,8 +101,8 @@ event_unread t bytes w noted l n q d e names r g =
 
 pub event_taken : (t : Told) (bytes w : List ℕ) (noted : Names) (e : Event) (m : Told) → t.stage ≡ stages.History → 1 ≤ length bytes → second_word (words_in bytes) ≡ Some w → noted ≡ note t.names w → AreFew noted → IsLineOf (FitsEvent noted) (event_line noted) (drop 1 bytes) e → (FitsEvent noted e → (by_of e).session < length noted) → m ≡ record (after t (items.event e)) { names = noted } → IsTaken t m (drop 1 bytes)
 event_taken t bytes w noted e m s l n q f i within g =
-    let ws : words_in bytes ≡ item_words noted (items.event e) = again bytes (event_word e) (by_words noted (by_of e) ++ event_rest e) l (event_are_words noted e f.are i.fit) i.text in
-    let named : w ≡ name_at noted (by_of e).session = some_name _ _ (sym n ∙ ap second_word ws ∙ event_second noted e) in
+    let ws : words_in bytes ≡ item_words noted (items.event e) = line_again bytes (event_word e) (by_words noted (by_of e) ++ event_rest e) l (event_are_words noted e f.are i.fit) i.text in
+    let named : w ≡ name_at noted (by_of e).session = some_same _ _ (sym n ∙ ap second_word ws ∙ event_second noted e) in
     let names : m.names ≡ noted = ap (λ (k : Told). k.names) g in
     record {
       item = items.event e;
@@ -121,7 +123,7 @@ pub multi_unnamed : (t : Told) (bytes : List ℕ) → 1 ≤ length bytes → sec
 multi_unnamed t bytes l n e names r g = some_none (name_at names (multi_by_of e).session) (sym (multi_names t bytes e names l r g) ∙ n)
 
 multi_noted : (t : Told) (bytes w : List ℕ) → 1 ≤ length bytes → second_word (words_in bytes) ≡ Some w → (e : MultiEvent) (names : Names) → Rule t (items.multi e) names → drop 1 bytes ≡ multi_line names e → names ≡ note t.names w
-multi_noted t bytes w l n e names r g = r.0.noted ∙ ap (note t.names) (some_name _ _ (sym (multi_names t bytes e names l r g) ∙ n))
+multi_noted t bytes w l n e names r g = r.0.noted ∙ ap (note t.names) (some_same _ _ (sym (multi_names t bytes e names l r g) ∙ n))
 
 pub multi_cannot : (t : Told) (bytes w : List ℕ) → 1 ≤ length bytes → second_word (words_in bytes) ≡ Some w → (AreFew (note t.names w) → ⊥) → (e : MultiEvent) (names : Names) → Rule t (items.multi e) names → drop 1 bytes ≡ multi_line names e → ⊥
 multi_cannot t bytes w l n c e names r g = c (subst (λ (q : Names). AreFew q) (multi_noted t bytes w l n e names r g) (record { are = r.0.are; few = r.0.few }))
@@ -133,8 +135,8 @@ multi_unread t bytes w noted l n q d e names r g =
 
 pub multi_taken : (t : Told) (bytes w : List ℕ) (noted : Names) (e : MultiEvent) (m : Told) → t.stage ≡ stages.Multis → 1 ≤ length bytes → second_word (words_in bytes) ≡ Some w → noted ≡ note t.names w → AreFew noted → IsLineOf (FitsMultiEvent noted) (multi_line noted) (drop 1 bytes) e → (FitsMultiEvent noted e → (multi_by_of e).session < length noted) → m ≡ record (after t (items.multi e)) { names = noted } → IsTaken t m (drop 1 bytes)
 multi_taken t bytes w noted e m s l n q f i within g =
-    let ws : words_in bytes ≡ item_words noted (items.multi e) = again bytes (multi_event_word e) (by_words noted (multi_by_of e) ++ multi_event_rest e) l (multi_event_are_words noted e f.are i.fit) i.text in
-    let named : w ≡ name_at noted (multi_by_of e).session = some_name _ _ (sym n ∙ ap second_word ws ∙ multi_second noted e) in
+    let ws : words_in bytes ≡ item_words noted (items.multi e) = line_again bytes (multi_event_word e) (by_words noted (multi_by_of e) ++ multi_event_rest e) l (multi_event_are_words noted e f.are i.fit) i.text in
+    let named : w ≡ name_at noted (multi_by_of e).session = some_same _ _ (sym n ∙ ap second_word ws ∙ multi_second noted e) in
     let names : m.names ≡ noted = ap (λ (k : Told). k.names) g in
     record {
       item = items.multi e;
@@ -191,20 +193,11 @@ word_none unreads.Memory read e g = absurd cc
 
 pub event_within : (names : Names) (e : Event) → FitsEvent names e → (by_of e).session < length names
 event_within names (events.Id by id) f = f.0.session
-event_within names (events.Sub by parent id) f = f.0.session
-event_within names (events.Undo by id) f = f.0.session
-event_within names (events.Commit by id) f = f.0.session
-event_within names (events.Abort by id) f = f.0.session
-event_within names (events.Snap by name) f = f.0.session
-event_within names (events.SnapDrop by name) f = f.0.session
-event_within names (events.Oldest by id) f = f.0.session
-event_within names (events.Ask by id) f = f.0.session
+event_within names _ f = f.0.session
 
 pub multi_within : (names : Names) (e : MultiEvent) → FitsMultiEvent names e → (multi_by_of e).session < length names
 multi_within names (multis.Gen by multi offset members) f = f.0.session
-multi_within names (multis.Hold by multi) f = f.0.session
-multi_within names (multis.Unhold by multi) f = f.0.session
-multi_within names (multis.Raise by multi offset) f = f.0.session
+multi_within names _ f = f.0.session
 
 pub none_some : {X : Type 0} (x : X) → (◌≡◌ {A = Option X} None (Some x)) → ⊥
 none_some x e = absurd cc

@@ -15,8 +15,10 @@ use Rattle.report_words.specs.Fits.{FitsCheckpointReply}
 use Rattle.report_lines.specs.Fits.{FitsLine, FitsStep}
 use Rattle.report_lines.specs.Texts.{IsLineOf}
 use Rattle.report_lines.proofs.AgainLines.{said_are_words}
+use Rattle.report_lines.proofs.Apart.{some_same}
 use Rattle.report_words.specs.declared.unread.Unread.{Unread}
 use Rattle.report_words.specs.declared.unread.Unread.TheVariants as unreads
+use Rattle.report_words.proofs.Again.{line_again}
 use Rattle.report_read.specs.Item.{Item}
 use Rattle.report_read.specs.Item as items
 use Rattle.report_read.specs.Grammar.{AreNamed, Follows, Rule, after, begins_step, history_line, is_round, item_line, may_speak, note, session_of, steps_told}
@@ -24,9 +26,10 @@ use Rattle.report_read.specs.Taking.{AreFew, IsNoStep, IsRefused, IsTaken, note_
 use Rattle.report_read.specs.declared.told.Stage.{Stage}
 use Rattle.report_read.specs.declared.told.Stage.TheVariants as stages
 use Rattle.report_read.specs.declared.told.Told.{Told}
-use Rattle.report_read.proofs.LineWords.{again, item_words, line_words, step_again, step_words}
-use Rattle.report_read.proofs.Same.{command_said, command_same, history_unsaid, name_somewhere, round_unsaid, some_name, stage_group, stands_in, step_named, step_pending, step_unsaid}
+use Rattle.report_read.proofs.LineWords.{item_words, line_words, step_again, step_words}
+use Rattle.report_read.proofs.Same.{command_said, command_same, history_unsaid, name_somewhere, round_unsaid, stage_group, stands_in, step_named, step_pending, step_unsaid}
 use Rattle.report_read.proofs.Standing.{NoneStands, words_in}
+use Rattle.report_read.proofs.Sound.{are_few}
 
 abbrev Names : Type 0
 Names = List (List ℕ)
@@ -44,7 +47,7 @@ unsaid t x names bytes w l r e n q = let h : Some w ≡ None = sym n ∙ ap said
 
 pub none_said : (t : Told) (bytes w : List ℕ) → (begins_step t.stage || is_round t.stage) ≡ true → 1 ≤ length bytes → said_name (words_in bytes) ≡ Some w → ((c : Line) (m : Told) → Follows t (items.command c) m → m.names ≡ note t.names w → drop 1 bytes ≡ command_line m.names c → ⊥) → NoneStands t (drop 1 bytes)
 none_said t bytes w s l n d (items.command c) m f e =
-    d c m f (f.rule.0.noted ∙ ap (note t.names) (some_name _ _ (sym (command_said m.names c f.rule.1.by.command) ∙ sym (ap said_name (line_words t (items.command c) m.names bytes l f.rule e)) ∙ n))) e
+    d c m f (f.rule.0.noted ∙ ap (note t.names) (some_same _ _ (sym (command_said m.names c f.rule.1.by.command) ∙ sym (ap said_name (line_words t (items.command c) m.names bytes l f.rule e)) ∙ n))) e
 none_said t bytes w s l n d (items.round k) m f e = unsaid t (items.round k) m.names bytes w l f.rule e n (round_unsaid m.names k f.rule.2)
 none_said t bytes w s l n d (items.step v) m f e = unsaid t (items.step v) m.names bytes w l f.rule e n (step_unsaid m.names v f.rule.2)
 none_said t bytes w s l n d items.history m f e = unsaid t items.history m.names bytes w l f.rule e n (history_unsaid m.names)
@@ -70,8 +73,8 @@ command_wrong t bytes w noted c s l n g few i bad = none_said t bytes w s l n (�
 
 pub command_taken : (t : Told) (bytes w : List ℕ) (noted : Names) (c : Line) (m : Told) → is_round t.stage ≡ true → 1 ≤ length bytes → said_name (words_in bytes) ≡ Some w → noted ≡ note t.names w → AreFew noted → IsLineOf (FitsLine noted) (command_line noted) (drop 1 bytes) c → c.by.command ≡ get_or t.counts c.by.session 0 + 1 → may_speak t.speaker t.spoken c.by.session ≡ true → m ≡ record (after t (items.command c)) { names = noted } → IsTaken t m (drop 1 bytes)
 command_taken t bytes w noted c m s l n q f i number turn g =
-    let ws : words_in bytes ≡ item_words noted (items.command c) = again bytes (name_at noted c.by.session) (decimal c.by.command ∷ command_word c.command ∷ (command_rest c.command ++ codes "->" ∷ reply_words noted c.reply)) l (said_are_words noted c f.are i.fit) i.text in
-    let named : w ≡ name_at noted c.by.session = some_name _ _ (sym n ∙ ap said_name ws ∙ command_said noted c i.fit.by.command) in
+    let ws : words_in bytes ≡ item_words noted (items.command c) = line_again bytes (name_at noted c.by.session) (decimal c.by.command ∷ command_word c.command ∷ (command_rest c.command ++ codes "->" ∷ reply_words noted c.reply)) l (said_are_words noted c f.are i.fit) i.text in
+    let named : w ≡ name_at noted c.by.session = some_same _ _ (sym n ∙ ap said_name ws ∙ command_said noted c i.fit.by.command) in
     let names : m.names ≡ noted = ap (λ (k : Told). k.names) g in
     record {
       item = items.command c;
@@ -101,10 +104,6 @@ none_silent t bytes s l n o = none_unsaid t bytes s l n (λ a b e. false≢true 
 step_noted : (t : Told) (bytes : List ℕ) → 1 ≤ length bytes → (v : Step) (m : Told) → Follows t (items.step v) m → drop 1 bytes ≡ step_text m.names v → m.names ≡ note_some t.names (pending_name (words_in bytes))
 step_noted t bytes l v m f e = step_named t v m.names f.rule ∙ ap (λ ws. note_some t.names (pending_name ws)) (sym (line_words t (items.step v) m.names bytes l f.rule e))
 
-step_few : (t : Told) (v : Step) (o : Option ℕ) (names : Names) → AreNamed t.names o names → AreFew t.names → AreFew names
-step_few t v None names a f = subst (λ (k : Names). AreFew k) (sym a) f
-step_few t v (Some s) names a f = record { are = a.are; few = a.few }
-
 pub step_unread : (t : Told) (bytes : List ℕ) (noted : Names) → 1 ≤ length bytes → noted ≡ note_some t.names (pending_name (words_in bytes)) → ((v : Step) → IsLineOf (FitsStep noted) (step_text noted) (drop 1 bytes) v → ⊥) → (v : Step) (m : Told) → Follows t (items.step v) m → drop 1 bytes ≡ step_text m.names v → ⊥
 step_unread t bytes noted l g d v m f e =
     let same : m.names ≡ noted = step_noted t bytes l v m f e ∙ sym g in
@@ -115,11 +114,8 @@ unfolding name_somewhere
 named_back old names None w e f = e
 named_back old names (Some s) w e f = record { within = w s refl; noted = e; few = f.few; are = f.are }
 
-some_session : (a b : ℕ) → Some a ≡ Some b → a ≡ b
-some_session a b e = cc
-
 reply_within : (names : Names) (r : Reply) (s : ℕ) → FitsCheckpointReply names r → session_of (steps.Checkpoint r) ≡ Some s → s < length names
-reply_within names (replies.Pending session refusal) s f e = subst (λ k. k < length names) (some_session session s e) f.0
+reply_within names (replies.Pending session refusal) s f e = subst (λ k. k < length names) (some_same session s e) f.0
 reply_within names replies.Done s f e = absurd cc
 reply_within names (replies.Refused refusal) s f e = absurd cc
 reply_within names _ s f e = absurd f
@@ -145,7 +141,7 @@ step_taken t bytes noted v m s l q f i g =
     }
 
 pub step_unnoted : (t : Told) (bytes : List ℕ) → 1 ≤ length bytes → AreFew t.names → (AreFew (note_some t.names (pending_name (words_in bytes))) → ⊥) → (v : Step) (m : Told) → Follows t (items.step v) m → drop 1 bytes ≡ step_text m.names v → ⊥
-step_unnoted t bytes l few c v m f e = c (subst (λ (k : Names). AreFew k) (step_noted t bytes l v m f e) (step_few t v (session_of v) m.names f.rule.0 few))
+step_unnoted t bytes l few c v m f e = c (subst (λ (k : Names). AreFew k) (step_noted t bytes l v m f e) (are_few t.names (session_of v) m.names f.rule.0 few))
 
 pub no_step : (u : Unread) (t : Told) (line : List ℕ) → (u ≡ unreads.Form → (v : Step) (m : Told) → Follows t (items.step v) m → line ≡ step_text m.names v → ⊥) → IsNoStep u t line
 no_step unreads.Form t line f = f refl
@@ -159,11 +155,4 @@ nothing_stands unreads.Memory t bytes s l n r h d = tt
 -- names are no steps
 pub steps_names : (s : Stage) (t : Told) (names : Names) → steps_told s (record t { names = names }) ≡ steps_told s t
 steps_names stages.Opening t names = refl
-steps_names stages.Between t names = refl
-steps_names stages.Steps t names = refl
-steps_names stages.Silent t names = refl
-steps_names stages.Spoken t names = refl
-steps_names stages.History t names = refl
-steps_names stages.Multis t names = refl
-steps_names stages.Log t names = refl
-steps_names stages.Closed t names = refl
+steps_names _ t names = refl

@@ -37,10 +37,14 @@ end_cut b t bytes n e f =
     let k : length (b ∷ t) ≡ n = omega arith in
     rw e (take_at (b ∷ t) (10 ∷ []) n k)
 
-pub line_again : (bytes w : List ℕ) (ws : List (List ℕ)) → 1 ≤ length bytes → IsWord w → AreWords ws → drop 1 bytes ≡ line_text (w ∷ ws) → behind (take (length bytes - 1) bytes) ≡ w ∷ ws
+pub line_again : (bytes w : List ℕ) (ws : List (List ℕ)) → 1 ≤ length bytes → AreWords (w ∷ ws) → drop 1 bytes ≡ line_text (w ∷ ws) → behind (take (length bytes - 1) bytes) ≡ w ∷ ws
 unfolding line_text
-line_again [] w ws l i a e = absurd (omega arith)
-line_again (b ∷ bytes) w ws l i a e = ap behind (end_cut b (w ++ more ws) bytes (length (b ∷ bytes) - 1) e refl) ∙ words_split w ws i a
+line_again [] w ws l a e = absurd (omega arith)
+line_again (b ∷ bytes) w ws l a e = ap behind (end_cut b (w ++ more ws) bytes (length (b ∷ bytes) - 1) e refl) ∙ words_split w ws a.0 a.1
+
+-- what is read of its words is read of the line
+pub line_gives : {X : Type 0} (read : List (List ℕ) → X) (bytes w : List ℕ) (ws : List (List ℕ)) (x : X) → 1 ≤ length bytes → read (w ∷ ws) ≡ x → AreWords (w ∷ ws) → drop 1 bytes ≡ line_text (w ∷ ws) → read (behind (take (length bytes - 1) bytes)) ≡ x
+line_gives read bytes w ws x l r a e = ap read (line_again bytes w ws l a e) ∙ r
 
 -- ---- numbers
 
@@ -132,10 +136,3 @@ pub gives_only : {X : Type 0} (r : Result X Unread) (read : Option X) (x : X) �
 gives_only (Ok y) read x g e = cc
 gives_only (Err unreads.Form) read x g e = absurd cc
 gives_only (Err unreads.Memory) read x g e = tt
-
--- the line that was printed is this one
-pub is_printed : (text line : List ℕ) (b : Bool) → b ≡ bytes_eq text line → b ≡ true → line ≡ text
-is_printed text line b e f = sym ((bytes_eq-Decides text line).0 (sym e ∙ f))
-
-pub not_printed : (text line : List ℕ) (b : Bool) → b ≡ bytes_eq text line → b ≡ false → line ≡ text → ⊥
-not_printed text line b e f g = false≢true (sym f ∙ e ∙ (bytes_eq-Decides text line).1 (sym g))

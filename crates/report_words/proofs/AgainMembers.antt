@@ -41,56 +41,37 @@ small_again n l = rw (is_small n l) refl
 mode_again : (m : Mode) → mode_of (mode_word m) ≡ Some m
 unfolding mode_of mode_word
 mode_again modes.KeySh = refl
-mode_again modes.Sh = refl
-mode_again modes.ForNoKeyUpd = refl
-mode_again modes.ForUpd = refl
-mode_again modes.NoKeyUpd = refl
-mode_again modes.Upd = refl
+mode_again _ = refl
 
 mode_pieces : (m : Mode) → pieces (mode_word m) ≡ mode_word m ∷ []
 unfolding mode_word
 mode_pieces modes.KeySh = refl
-mode_pieces modes.Sh = refl
-mode_pieces modes.ForNoKeyUpd = refl
-mode_pieces modes.ForUpd = refl
-mode_pieces modes.NoKeyUpd = refl
-mode_pieces modes.Upd = refl
+mode_pieces _ = refl
 
 mode_plain : (m : Mode) → AllByRecursion (λ b. is_colon b ≡ false) (mode_word m)
 unfolding mode_word
 mode_plain modes.KeySh = search rules
-mode_plain modes.Sh = search rules
-mode_plain modes.ForNoKeyUpd = search rules
-mode_plain modes.ForUpd = search rules
-mode_plain modes.NoKeyUpd = search rules
-mode_plain modes.Upd = search rules
+mode_plain _ = search rules
 
 mode_is_word : (m : Mode) → IsWord (mode_word m)
 unfolding mode_word
 mode_is_word modes.KeySh = search rules
-mode_is_word modes.Sh = search rules
-mode_is_word modes.ForNoKeyUpd = search rules
-mode_is_word modes.ForUpd = search rules
-mode_is_word modes.NoKeyUpd = search rules
-mode_is_word modes.Upd = search rules
+mode_is_word _ = search rules
 
 verdict_in_again : (v : Verdict) → verdict_in (verdict_word v) ≡ Some v
 unfolding verdict_in verdict_word
 verdict_in_again verdicts.Visible = refl
-verdict_in_again verdicts.Hidden = refl
-verdict_in_again verdicts.TooOld = refl
+verdict_in_again _ = refl
 
 verdict_pieces : (v : Verdict) → pieces (verdict_word v) ≡ verdict_word v ∷ []
 unfolding verdict_word
 verdict_pieces verdicts.Visible = refl
-verdict_pieces verdicts.Hidden = refl
-verdict_pieces verdicts.TooOld = refl
+verdict_pieces _ = refl
 
 verdict_is_word : (v : Verdict) → IsWord (verdict_word v)
 unfolding verdict_word
 verdict_is_word verdicts.Visible = search rules
-verdict_is_word verdicts.Hidden = search rules
-verdict_is_word verdicts.TooOld = search rules
+verdict_is_word _ = search rules
 
 pub moded_again : (n : ℕ) (m : Mode) → n < 2 ^ 64 → moded_at (pieces (id_word n m)) ≡ Some (n, m, [])
 unfolding moded_at id_word

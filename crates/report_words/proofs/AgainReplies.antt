@@ -60,10 +60,8 @@ reply_again names k (replies.Did false) f = rw f refl
 reply_again names k (replies.Multi multi offset warn) f = rw (f.0, number_at_again multi _ f.1.0, multi_again multi f.1, number_at_again offset _ f.2, warn_again warn) refl
 reply_again names k (replies.Verdicts list) f = rw (f.0, verdicts_again list f.1) refl
 reply_again names k (replies.Horizon id) f = rw (f.0, number_at_again id _ f.1.0, id_again id f.1) refl
-reply_again names k (replies.Bytes bytes) f = absurd f
-reply_again names k (replies.Cut cutoff) f = absurd f
-reply_again names k (replies.Pending session refusal) f = absurd f
 reply_again names k (replies.Refused refusal) f = reply_again_refused k refusal f
+reply_again names k _ f = absurd f
 
 -- ---- checkpoints and dumps
 
@@ -211,10 +209,8 @@ reply_are_words names k (replies.Did b) f = (yes_is_word b, tt)
 reply_are_words names k (replies.Multi multi offset warn) f = (search rules, (number_word multi f.1.0, (number_word offset f.2, warned_are_words warn)))
 reply_are_words names k (replies.Verdicts list) f = (search rules, verdicts_are_words list f.1)
 reply_are_words names k (replies.Horizon id) f = (search rules, (number_word id f.1.0, tt))
-reply_are_words names k (replies.Bytes bytes) f = absurd f
-reply_are_words names k (replies.Cut cutoff) f = absurd f
-reply_are_words names k (replies.Pending session refusal) f = absurd f
 reply_are_words names k (replies.Refused refusal) f = refusal_are_words refusal f
+reply_are_words names k _ f = absurd f
 
 checkpoint_refusal_fits : (r : Refusal) → FitsCheckpointRefusal r → FitsRefusal r
 checkpoint_refusal_fits (refusals.LogDown at) f = f

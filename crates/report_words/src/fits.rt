@@ -110,61 +110,23 @@ fn fits_lock(lock: Lock) -> bool
 {
     match lock {
         Lock::Log => true,
-        Lock::Proc => false,
-        Lock::Multi => false,
         Lock::Xact(bank) => bank < 16,
         Lock::Subtrans(bank) => bank < 16,
         Lock::Offsets(bank) => bank < 16,
         Lock::Members(bank) => bank < 16,
+        _ => false,
     }
 }
 
 /// Whether a command can be refused so.
-fn fits_refusal(refusal: &Refusal) -> bool
-    ensures { IsTrue result ↔ FitsRefusal refusal.now }
+fn fits_refusal(refusal: Refusal) -> bool
+    ensures { IsTrue result ↔ FitsRefusal refusal }
 {
     match refusal {
-        Refusal::MultiPending => return false,
-        Refusal::DiskFault { lock } => return fits_lock(*lock),
-        Refusal::Stop { next, stop } => {
-            id_fits(*next);
-            id_fits(*stop);
-        }
-        Refusal::LogDown { at } => number_fits(*at),
-        Refusal::TooOld { oldest } => id_fits(*oldest),
-        Refusal::Future { next } => id_fits(*next),
-        Refusal::NotGiven { x } => small_fits(*x),
-        Refusal::MultiStop { next, stop } => {
-            multi_fits(*next);
-            multi_fits(*stop);
-        }
-        Refusal::MemberStop { next, stop } => {
-            number_fits(*next);
-            number_fits(*stop);
-        }
-        Refusal::NotYet { multi } => multi_fits(*multi),
-        Refusal::MultiTooOld { oldest } => multi_fits(*oldest),
-        Refusal::MultiFuture { next } => multi_fits(*next),
-        Refusal::Backward { now } => number_fits(*now),
-        Refusal::TooNew { limit } => id_fits(*limit),
-        Refusal::Held { limit } => multi_fits(*limit),
-        Refusal::AlreadyOpen => (),
-        Refusal::NoTransaction => (),
-        Refusal::NoSavepoint => (),
-        Refusal::DepthLimit => (),
-        Refusal::CommitPending => (),
-        Refusal::AbortPending => (),
-        Refusal::UndoPending => (),
-        Refusal::LogFault => (),
-        Refusal::Full => (),
-        Refusal::NameTaken => (),
-        Refusal::SnapLimit => (),
-        Refusal::NoSnapshot => (),
-        Refusal::TwoUpdaters => (),
-        Refusal::MemberCount => (),
-        Refusal::Memory => (),
+        Refusal::MultiPending => false,
+        Refusal::DiskFault { lock } => fits_lock(lock),
+        _ => true,
     }
-    true
 }
 
 /// Whether a command of this kind can be answered so.
@@ -197,10 +159,8 @@ pub fn fits_reply(kind: Kind, reply: &Reply) -> bool
             id_fits(*oldest_xmin);
             kind == Kind::Horizon
         }
-        Reply::Bytes { .. } => false,
-        Reply::Cut { .. } => false,
-        Reply::Pending { .. } => false,
-        Reply::Refused { refusal } => fits_refusal(refusal),
+        Reply::Refused { refusal } => fits_refusal(*refusal),
+        _ => false,
     }
 }
 

@@ -44,24 +44,15 @@ pub fn kind_of(command: &Command) -> Kind
     ensures { result ≡ kind_of command.now }
 {
     match command {
-        Command::Begin => Kind::Plain,
-        Command::Save => Kind::Plain,
         Command::Write => Kind::Ids,
-        Command::Release => Kind::Plain,
-        Command::Undo => Kind::Plain,
-        Command::Commit => Kind::Plain,
-        Command::Abort => Kind::Plain,
-        Command::Trim => Kind::Plain,
         Command::Horizon => Kind::Horizon,
         Command::Snap { .. } => Kind::Snapshot,
-        Command::DropSnap { .. } => Kind::Plain,
         Command::See { .. } => Kind::Look,
         Command::Status { .. } => Kind::Status,
         Command::Did { .. } => Kind::Did,
         Command::Multi { .. } => Kind::Multi,
         Command::SeeMulti { .. } => Kind::Members,
-        Command::Freeze { .. } => Kind::Plain,
-        Command::MultiFreeze { .. } => Kind::Plain,
+        _ => Kind::Plain,
     }
 }
 
@@ -119,9 +110,6 @@ fn ok_at(alloc: Global, kind: Kind, rest: &[u8]) -> Result<Reply, Unread>
             let lists = snap_at(alloc, rest)?;
             Ok(Reply::Snapped { lists })
         }
-        Kind::Look => Err(Unread::Form),
-        Kind::Status => Err(Unread::Form),
-        Kind::Did => Err(Unread::Form),
         Kind::Multi => multi_reply_at(rest),
         Kind::Members => {
             let mut verdicts = VerdictList::new(alloc);
@@ -129,6 +117,7 @@ fn ok_at(alloc: Global, kind: Kind, rest: &[u8]) -> Result<Reply, Unread>
             Ok(Reply::Verdicts { verdicts })
         }
         Kind::Horizon => horizon_at(rest),
+        _ => Err(Unread::Form),
     }
 }
 
@@ -181,12 +170,7 @@ fn answer_in(kind: Kind, word: &[u8]) -> Result<Reply, Unread>
             let yes = word == b"yes".as_slice();
             Ok(Reply::Did { yes })
         }
-        Kind::Plain => Err(Unread::Form),
-        Kind::Ids => Err(Unread::Form),
-        Kind::Snapshot => Err(Unread::Form),
-        Kind::Multi => Err(Unread::Form),
-        Kind::Members => Err(Unread::Form),
-        Kind::Horizon => Err(Unread::Form),
+        _ => Err(Unread::Form),
     }
 }
 

@@ -17,6 +17,3 @@ pub use mem_log::MemLog;
 pub use mem_media::MemMedia;
 pub use mem_pages::MemPages;
 pub use page_disk::PageDisk;
-
-#[cfg(test)]
-mod tests;

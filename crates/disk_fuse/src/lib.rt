@@ -11,6 +11,3 @@ mod fused_volumes;
 pub use fuse::Fuse;
 pub use fused_log::FusedLog;
 pub use fused_pages::FusedPages;
-
-#[cfg(test)]
-mod tests;

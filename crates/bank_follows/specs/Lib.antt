@@ -1,0 +1,4 @@
+pub mod Cells
+pub mod Stores
+pub mod Laws
+pub mod WordSets

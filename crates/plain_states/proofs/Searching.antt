@@ -32,9 +32,9 @@ comparisons_rise : (xs : List IdState) (x : ℕ) → InOrder xs → IsNonDecreas
 comparisons_rise xs x a i j d l m = let f : (get_or xs i d).id ≤ (get_or xs j d).id = rises xs a i j d l m in grind (arith, nat_tests)
 
 -- a binary search finds the place of an id, or that it stands at none
-pub searched : (xs : List IdState) (x : ℕ) (r : Result ℕ ℕ) → InOrder xs → IsSearchInRange r (length xs) → IsBinarySearchResult (λ s. nat_cmp s.id x) xs r → MatchResult r (IsPlaceOf xs x) (λ i. IsMissing xs x)
-searched xs x (Ok i) a b f = (b, λ d. ranked _ x _ (sym (f d)))
-searched xs x (Err i) a b f = λ k l d e. ⊎_elim
+pub search_finds : (xs : List IdState) (x : ℕ) (r : Result ℕ ℕ) → InOrder xs → IsSearchInRange r (length xs) → IsBinarySearchResult (λ s. nat_cmp s.id x) xs r → MatchResult r (IsPlaceOf xs x) (λ i. IsMissing xs x)
+search_finds xs x (Ok i) a b f = (b, λ d. ranked _ x _ (sym (f d)))
+search_finds xs x (Err i) a b f = λ k l d e. ⊎_elim
     (λ (u : k < i). let g : (get_or xs k d).id < x = ranked _ x _ (sym ((f (comparisons_rise xs x a)).0 k d (omega arith) u)) in omega arith)
     (λ (u : i ≤ k). let g : x < (get_or xs k d).id = ranked _ x _ (sym ((f (comparisons_rise xs x a)).1 k d u l)) in omega arith)
     (cases_lt k i)

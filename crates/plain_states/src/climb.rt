@@ -11,7 +11,7 @@ use tx_events::SnapData;
 use xid_order::FullXid;
 
 /// Where the id is kept, by a search. None where it isn't.
-fn searched(states: &[IdState], x: FullXid) -> Option<usize>
+fn place_by_search(states: &[IdState], x: FullXid) -> Option<usize>
     requires { InOrder states.now }
     ensures some { IfSome result (IsPlaceOf states.now x) }
     ensures none { IfNone result (IsMissing states.now x) }
@@ -20,7 +20,7 @@ fn searched(states: &[IdState], x: FullXid) -> Option<usize>
 }
 
 /// Where the id is kept, if its distance from the first one tells.
-fn guessed(states: &[IdState], x: FullXid) -> Option<usize>
+fn place_by_distance(states: &[IdState], x: FullXid) -> Option<usize>
     ensures some { IfSome result (IsPlaceOf states.now x) }
 {
     if states.is_empty() {
@@ -41,9 +41,9 @@ fn place_of(states: &[IdState], x: FullXid) -> Option<usize>
     ensures some { IfSome result (IsPlaceOf states.now x) }
     ensures none { IfNone result (IsMissing states.now x) }
 {
-    match guessed(states, x) {
+    match place_by_distance(states, x) {
         Some(place) => Some(place),
-        None => searched(states, x),
+        None => place_by_search(states, x),
     }
 }
 

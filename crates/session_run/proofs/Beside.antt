@@ -125,12 +125,12 @@ pub stands_beside : (base : Counters) (h es : List Event) (session n : ℕ) (s :
 stands_beside base h es session n s legal more o st = record {
   opened = open_rest base session h es more (beside_has session es o) ∙ st.opened;
   ascend = st.ascend;
-  nest = nest_by h (h ++ es) s.opened.items s.named.items (λ x k. (later base h es more x (is_given x k)).line) st.nest;
+  nest = nest_by h (h ++ es) s.open_ids.items s.level_ids.items (λ x k. (later base h es more x (is_given x k)).line) st.nest;
   depth = st.depth;
   turn = subst (AllByRecursion (λ e. (by_of e).command ≤ n)) (sym (own_beside session h es o)) st.turn;
   live = λ name. live_beside base.next session name h es o ∙ st.live name;
   snaps = all_members (IsRegistered base h session) (IsRegistered base (h ++ es) session) s.registered.items (λ k j i. kept_grows base h es session k i) st.snaps;
 }
   where
-    is_given : (x : ℕ) → Has s.opened.items x → Has (given h) x
+    is_given : (x : ℕ) → Has s.open_ids.items x → Has (given h) x
     is_given x k = given_to_given session h x (has_filter (is_open h) (given_to session h) x (subst (λ t. Has t x) (sym st.opened) k)).0

@@ -6,6 +6,7 @@ mod SoundLemmas
 mod StandsLemmas
 mod RegisteredLemmas
 mod ActsLemmas
+mod RunsLemmas
 mod TurnLemmas
 mod GivingLemmas
 mod EndLemmas

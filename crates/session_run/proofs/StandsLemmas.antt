@@ -46,10 +46,10 @@ pub record Stood (base : Counters) (h : List Event) (session number : ℕ) (open
   pub live : (name : List ℕ) → is_live base.next session name h ≡ list_any (λ k. same_name k.name name) registered
   pub snaps : AllByRecursion (IsRegistered base h session) registered
 
-pub stood : (base : Counters) (h : List Event) (session number : ℕ) (s : Session) → Stands base h session number s → Stood base h session number s.opened.items s.named.items s.unnamed s.registered.items
+pub stood : (base : Counters) (h : List Event) (session number : ℕ) (s : Session) → Stands base h session number s → Stood base h session number s.open_ids.items s.level_ids.items s.unnamed s.registered.items
 stood base h session number s k = record { opened_are = k.opened; ascend = k.ascend; nest = k.nest; depth = k.depth; turn = k.turn; live = k.live; snaps = k.snaps }
 
-pub stands : (base : Counters) (h : List Event) (session number : ℕ) (s : Session) → Stood base h session number s.opened.items s.named.items s.unnamed s.registered.items → Stands base h session number s
+pub stands : (base : Counters) (h : List Event) (session number : ℕ) (s : Session) → Stood base h session number s.open_ids.items s.level_ids.items s.unnamed s.registered.items → Stands base h session number s
 stands base h session number s k = record { opened = k.opened_are; ascend = k.ascend; nest = k.nest; depth = k.depth; turn = k.turn; live = k.live; snaps = k.snaps }
 
 -- its levels changed alone

@@ -1,5 +1,5 @@
 -- What a command does.
-use Rattle.std.specs.Prelude.{◌≡◌, ◌+◌, ◌<◌, ◌≤◌, List, [], ◌++◌, Bool, cond, length}
+use Rattle.std.specs.Prelude.{◌≡◌, ℕ, ◌+◌, ◌<◌, ◌≤◌, List, [], ◌++◌, Bool, cond, length}
 use Rattle.std.specs.List.{AllByRecursion, filter}
 use Rattle.tx_events.specs.declared.xact_end.XactEnd.{XactEnd}
 use Rattle.tx_events.specs.declared.xact_end.XactEnd.TheVariants as ends
@@ -51,8 +51,22 @@ pub record Ready (w : Shared) (by : By) (s : Session) : Type 0 where
   -- the session's events so far are of earlier commands
   pub fresh : AllByRecursion (λ e. (by_of e).command < by.command) (filter (is_of by.session) w.table.events)
 
--- the base stays, and a command adds at most one record
+-- the base stays, and at most one record is added
 pub record GrowsLittle (w w' : Shared) : Type 0 where
   pub base : w'.table.base ≡ w.table.base
   pub sessions : w'.table.sessions ≡ w.table.sessions
   pub short : length w'.log.recs ≤ length w.log.recs + 1
+
+-- A command of the session ran and was answered so.
+pub record Runs (w w' : Shared) (by : By) (s s' : Session) (command : Command) (reply : Reply) : Type 0 where
+  pub acts : ActsOn w w' by s s' command reply
+  pub sound : IsSoundAt w'
+  pub stands : StandsAt w' by s'
+  pub few : GrowsLittle w w'
+  pub count : s'.commands ≡ s.commands
+
+-- A command changed its session alone, whatever happened before.
+pub record RunsAlone (s s' : Session) (command : Command) (reply : Reply) : Type 0 where
+  pub acts : (base : Counters) (h : List Event) (by : By) → Acts base by (stance_of s) (stance_of s') command reply h h
+  pub stands : (base : Counters) (h : List Event) (session number : ℕ) → Stands base h session number s → Stands base h session number s'
+  pub count : s'.commands ≡ s.commands

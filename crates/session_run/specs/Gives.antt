@@ -68,19 +68,19 @@ last_of ids = fold (λ _ id. Some id) None ids
 
 -- the outermost level that lacked an id has this one
 pub record IsNamed (s s' : Session) (id : ℕ) : Type 0 where
-  pub named : s'.named.items ≡ s.named.items ++ id ∷ []
+  pub named : s'.level_ids.items ≡ s.level_ids.items ++ id ∷ []
   pub unnamed : s'.unnamed + 1 ≡ s.unnamed
   pub registered : s'.registered.items ≡ s.registered.items
   pub count : s'.commands ≡ s.commands
 
 pub record IsUnchanged (s s' : Session) : Type 0 where
-  pub named : s'.named.items ≡ s.named.items
+  pub named : s'.level_ids.items ≡ s.level_ids.items
   pub unnamed : s'.unnamed ≡ s.unnamed
   pub registered : s'.registered.items ≡ s.registered.items
   pub count : s'.commands ≡ s.commands
 
 abbrev pub Names : Shared → Shared → By → Session → Session → NewId → Type 0
-Names w w' by s s' (news.Given id warn) = IsGiven w w' by (last_of s.named.items) id warn × IsNamed s s' id × StandsAt w' by s'
+Names w w' by s s' (news.Given id warn) = IsGiven w w' by (last_of s.level_ids.items) id warn × IsNamed s s' id × StandsAt w' by s'
 Names w w' by s s' (news.Stop next stop) = IsStopAt w w' next stop × IsUnchanged s s' × StandsAt w' by s'
 
 -- a write on its way: these ids were given so far, from the outermost level that lacked one
@@ -88,8 +88,8 @@ pub record Writing (w w' : Shared) (by : By) (s s' : Session) (ids : List ℕ) (
   pub round : StaysRound w w'
   pub sound : IsSoundAt w'
   pub stands : StandsAt w' by s'
-  pub events : w'.table.events ≡ w.table.events ++ level_events by None (levels_of s.named.items s.unnamed) ids
-  pub named : s'.named.items ≡ s.named.items ++ ids
+  pub events : w'.table.events ≡ w.table.events ++ level_events by None (levels_of s.level_ids.items s.unnamed) ids
+  pub named : s'.level_ids.items ≡ s.level_ids.items ++ ids
   pub left : s.unnamed ≡ length ids + s'.unnamed
   pub registered : s'.registered.items ≡ s.registered.items
   pub count : s'.commands ≡ s.commands

@@ -65,7 +65,7 @@ pub record GoesOn (life : OpenLife) : Type 0 where
 
 -- the session has done nothing yet
 abbrev pub IsFresh : Session → Type 0
-IsFresh s = (s.commands ≡ 0) × (s.named.items ≡ []) × (s.unnamed ≡ 0) × (s.opened.items ≡ []) × (s.registered.items ≡ [])
+IsFresh s = (s.commands ≡ 0) × (s.level_ids.items ≡ []) × (s.unnamed ≡ 0) × (s.open_ids.items ≡ []) × (s.registered.items ≡ [])
 
 -- nothing has happened yet, and the log has the checkpoint of the base
 pub record IsNew (base : Counters) (sessions : ℕ) (w : Shared) : Type 0 where

@@ -30,7 +30,7 @@ told_of k = (k.name, k.command)
 
 -- the session as its lines leave it
 abbrev pub stance_of : Session → Stance
-stance_of s = record { levels = levels_of s.named.items s.unnamed; snaps = map told_of s.registered.items }
+stance_of s = record { levels = levels_of s.level_ids.items s.unnamed; snaps = map told_of s.registered.items }
 
 -- the snapshot was taken at its place
 pub record IsRegistered (base : Counters) (h : List Event) (session : ℕ) (k : RegisteredSnapshot) : Type 0 where
@@ -48,10 +48,10 @@ Nest h ids (top ∷ savepoints) = (rest : List ℕ) × (ids ≡ top ∷ rest) ×
 
 -- the session has these levels, ids and snapshots, and its events so far are of commands up to a number
 pub record Stands (base : Counters) (h : List Event) (session number : ℕ) (s : Session) : Type 0 where
-  pub opened : open_ids session h ≡ s.opened.items
-  pub ascend : Ascending s.opened.items
-  pub nest : Nest h s.opened.items s.named.items
-  pub depth : length s.named.items + s.unnamed ≤ most_levels
+  pub opened : open_ids session h ≡ s.open_ids.items
+  pub ascend : Ascending s.open_ids.items
+  pub nest : Nest h s.open_ids.items s.level_ids.items
+  pub depth : length s.level_ids.items + s.unnamed ≤ most_levels
   pub turn : AllByRecursion (λ e. (by_of e).command ≤ number) (filter (is_of session) h)
   pub live : (name : List ℕ) → is_live base.next session name h ≡ list_any (λ k. same_name k.name name) s.registered.items
   pub snaps : AllByRecursion (IsRegistered base h session) s.registered.items

@@ -1,10 +1,10 @@
 //! Savepoints, snapshots and verdicts, command by command.
-use crate::test_help::report_of;
+use crate::test_help::{check_parts, check_report};
 use std::test::Fail;
 
 #[test]
 fn undo_of_many_levels(rt: HostRuntime) -> Result<(), Fail> {
-    let report = report_of(
+    check_report(
         &rt,
         "a begin
 a write
@@ -25,9 +25,6 @@ b see s 4
 b see s 5
 b see s 6
 ",
-    )?;
-    assert_eq!(rt;
-        report.as_str(),
         "txid report 1
 life 1 from 0 next 3 oldest 3 multi 1 offset 1 oldest-multi 1 oldest-offset 1
 round 1
@@ -63,14 +60,13 @@ log flushed 2 end 80
 0 checkpoint next 3 oldest 3 multi 1 offset 1 oldest-multi 1 oldest-offset 1
 1 commit 3
 end
-"
-    );
-    Ok(())
+",
+    )
 }
 
 #[test]
 fn snapshot_outlives_its_transaction(rt: HostRuntime) -> Result<(), Fail> {
-    let report = report_of(
+    check_report(
         &rt,
         "a begin
 a write
@@ -89,9 +85,6 @@ a see s 3
 a snap s
 a see s 4
 ",
-    )?;
-    assert_eq!(rt;
-        report.as_str(),
         "txid report 1
 life 1 from 0 next 3 oldest 3 multi 1 offset 1 oldest-multi 1 oldest-offset 1
 round 1
@@ -125,14 +118,13 @@ log flushed 2 end 88
 0 checkpoint next 3 oldest 3 multi 1 offset 1 oldest-multi 1 oldest-offset 1
 1 commit 3 4
 end
-"
-    );
-    Ok(())
+",
+    )
 }
 
 #[test]
 fn aborted_savepoint_is_hidden(rt: HostRuntime) -> Result<(), Fail> {
-    let report = report_of(
+    check_report(
         &rt,
         "a begin
 a save
@@ -141,9 +133,6 @@ a abort
 b snap s
 b see s 4
 ",
-    )?;
-    assert_eq!(rt;
-        report.as_str(),
         "txid report 1
 life 1 from 0 next 3 oldest 3 multi 1 offset 1 oldest-multi 1 oldest-offset 1
 round 1
@@ -163,51 +152,44 @@ log flushed 1 end 62
 0 checkpoint next 3 oldest 3 multi 1 offset 1 oldest-multi 1 oldest-offset 1
 1 abort 3 4
 end
-"
-    );
-    Ok(())
+",
+    )
 }
 
 /// The full id near the xmax that ends so would be below 0.
 #[test]
 fn id_below_zero_is_too_old(rt: HostRuntime) -> Result<(), Fail> {
-    let report = report_of(
+    check_parts(
         &rt,
         ".start 10
 a snap s
 a see s 4294967295
 ",
-    )?;
-    assert!(rt;
-        report.contains(
+        &[
             "
 a 1 snap s -> ok xmin 10 xmax 10 xip - sub - overflow no
 a 2 see s 4294967295 -> too-old 3
 history
-"
-        )
-    );
-    Ok(())
+",
+        ],
+    )
 }
 
 #[test]
 fn id_below_the_oldest_is_too_old(rt: HostRuntime) -> Result<(), Fail> {
-    let report = report_of(
+    check_parts(
         &rt,
         ".start 10
 .oldest 10
 a snap s
 a see s 4
 ",
-    )?;
-    assert!(rt;
-        report.contains(
+        &[
             "
 a 1 snap s -> ok xmin 10 xmax 10 xip - sub - overflow no
 a 2 see s 4 -> too-old 10
 history
-"
-        )
-    );
-    Ok(())
+",
+        ],
+    )
 }

@@ -6,7 +6,7 @@ ghost use Rattle.tx_events.specs.IdLists.{Ascending};
 ghost use Rattle.tx_events.specs.Running.{open_ids};
 ghost use Rattle.plain_states.specs.States.{with_commit};
 ghost use Rattle.tx_model.specs.declared.command.Command.TheVariants as commands;
-ghost use Rattle.session_run.specs.Acts.{ActsOn, Ready, IsSoundAt, StandsAt, GrowsLittle, end_command};
+ghost use Rattle.session_run.specs.Acts.{Ready, Runs, IsSoundAt, end_command};
 ghost use Rattle.session_run.specs.Closes.{ended_states, Ended};
 ghost use Rattle.session_run.specs.Gives.{IsInTurn};
 ghost use Rattle.session_run.specs.Sound.{HasRoom};
@@ -34,31 +34,23 @@ fn place_of(ids: &[FullXid], id: FullXid) -> usize
 fn undo_named(shared: &mut Shared, by: By, session: &mut Session)
     requires ready { Ready shared.old by session.old }
     requires all_named { session.old.unnamed ≡ 0 }
-    requires savepoint { 2 ≤ length session.old.named.items }
-    ensures acts { ActsOn shared.old shared.new by session.old session.new commands.Undo Reply.Done }
-    ensures sound { IsSoundAt shared.new }
-    ensures stands { StandsAt shared.new by session.new }
-    ensures few { GrowsLittle shared.old shared.new }
-    ensures count { session.new.commands ≡ session.old.commands }
+    requires savepoint { 2 ≤ length session.old.level_ids.items }
+    ensures { Runs shared.old shared.new by session.old session.new commands.Undo Reply.Done }
 {
-    let id = match session.named.pop() {
+    let id = match session.level_ids.pop() {
         Some(id) => id,
         None => unreachable!(),
     };
-    let from = place_of(&session.opened, id);
-    shared.table.undo(by, id, &session.opened[from..]);
-    session.opened.truncate(from);
+    let from = place_of(&session.open_ids, id);
+    shared.table.undo(by, id, &session.open_ids[from..]);
+    session.open_ids.truncate(from);
 }
 
 /// Rolls back the innermost savepoint and closes it (`RollbackToSavepoint` and `AbortSubTransaction` of
 /// `src/backend/access/transam/xact.c`). Takes no memory and writes no record.
 pub fn undo(shared: &mut Shared, by: By, session: &mut Session) -> Reply
     requires ready { Ready shared.old by session.old }
-    ensures acts { ActsOn shared.old shared.new by session.old session.new commands.Undo result }
-    ensures sound { IsSoundAt shared.new }
-    ensures stands { StandsAt shared.new by session.new }
-    ensures few { GrowsLittle shared.old shared.new }
-    ensures count { session.new.commands ≡ session.old.commands }
+    ensures { Runs shared.old shared.new by session.old session.new commands.Undo result }
 {
     if depth(session) < 2 {
         return Reply::Refused {
@@ -108,7 +100,8 @@ fn end_ids(
     requires opened { open_ids by.session shared.old.table.events ≡ ids.now }
     requires ascend { Ascending ids.now }
     requires some { 1 ≤ length ids.now }
-    requires top { (top : ℕ) (subs : List ℕ) → ids.now ≡ top ∷ subs → is_top shared.old.table.events top ≡ true }
+    requires top { (top : ℕ) (subs : List ℕ) →
+        ids.now ≡ top ∷ subs → is_top shared.old.table.events top ≡ true }
     ensures { OnOk result (Ended shared.old shared.new by ids.now how) }
 {
     let top = ids[0];
@@ -128,25 +121,22 @@ fn end_transaction(
     how: XactEnd,
 ) -> Result<Reply, Memory>
     requires ready { Ready shared.old by session.old }
-    ensures acts { IfOk result (λ reply. ActsOn shared.old shared.new by session.old session.new (end_command how) reply) }
-    ensures sound { OnOk result (IsSoundAt shared.new) }
-    ensures stands { OnOk result (StandsAt shared.new by session.new) }
-    ensures few { OnOk result (GrowsLittle shared.old shared.new) }
-    ensures count { OnOk result (session.new.commands ≡ session.old.commands) }
+    ensures { IfOk result (λ reply.
+        Runs shared.old shared.new by session.old session.new (end_command how) reply) }
 {
     if depth(session) == 0 {
         return Ok(Reply::Refused {
             refusal: Refusal::NoTransaction,
         });
     }
-    if session.named.is_empty() {
+    if session.level_ids.is_empty() {
         session.unnamed = 0;
         return Ok(Reply::Done);
     }
-    end_ids(shared, alloc, by, &session.opened, how)?;
-    session.named.clear();
+    end_ids(shared, alloc, by, &session.open_ids, how)?;
+    session.level_ids.clear();
     session.unnamed = 0;
-    session.opened.clear();
+    session.open_ids.clear();
     Ok(Reply::Done)
 }
 
@@ -159,11 +149,8 @@ pub fn commit(
     session: &mut Session,
 ) -> Result<Reply, Memory>
     requires ready { Ready shared.old by session.old }
-    ensures acts { IfOk result (λ reply. ActsOn shared.old shared.new by session.old session.new commands.Commit reply) }
-    ensures sound { OnOk result (IsSoundAt shared.new) }
-    ensures stands { OnOk result (StandsAt shared.new by session.new) }
-    ensures few { OnOk result (GrowsLittle shared.old shared.new) }
-    ensures count { OnOk result (session.new.commands ≡ session.old.commands) }
+    ensures { IfOk result (λ reply.
+        Runs shared.old shared.new by session.old session.new commands.Commit reply) }
 {
     end_transaction(shared, alloc, by, session, XactEnd::Commit)
 }
@@ -176,11 +163,8 @@ pub fn abort(
     session: &mut Session,
 ) -> Result<Reply, Memory>
     requires ready { Ready shared.old by session.old }
-    ensures acts { IfOk result (λ reply. ActsOn shared.old shared.new by session.old session.new commands.Abort reply) }
-    ensures sound { OnOk result (IsSoundAt shared.new) }
-    ensures stands { OnOk result (StandsAt shared.new by session.new) }
-    ensures few { OnOk result (GrowsLittle shared.old shared.new) }
-    ensures count { OnOk result (session.new.commands ≡ session.old.commands) }
+    ensures { IfOk result (λ reply.
+        Runs shared.old shared.new by session.old session.new commands.Abort reply) }
 {
     end_transaction(shared, alloc, by, session, XactEnd::Abort)
 }

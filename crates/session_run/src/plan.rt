@@ -44,8 +44,11 @@ impl Plan {
     /// The session's next command stands at this place.
     fn add(&mut self, session: u32, place: usize) -> Result<(), Memory>
         requires known { session < length self.old.places.items }
-        ensures places { OnOk result (self.new.places.items ≡ set self.old.places.items session (get_or self.old.places.items session [] ++ place ∷ [])) }
-        ensures sessions { OnOk result (self.new.sessions.items ≡ cond (length (get_or self.old.places.items session []) == 0) (self.old.sessions.items ++ session ∷ []) self.old.sessions.items) }
+        ensures places { OnOk result (self.new.places.items
+            ≡ set self.old.places.items session (get_or self.old.places.items session [] ++ place ∷ [])) }
+        ensures sessions { OnOk result (self.new.sessions.items
+            ≡ cond (length (get_or self.old.places.items session []) == 0)
+            (self.old.sessions.items ++ session ∷ []) self.old.sessions.items) }
     {
         let places = &mut self.places[session as usize];
         if places.items().is_empty() {

@@ -1,5 +1,5 @@
 //! Rounds, limits, and commands many times over.
-use crate::test_help::report_of;
+use crate::test_help::{check_parts, check_report};
 use std::alloc::Global;
 use std::test::Fail;
 
@@ -15,7 +15,7 @@ fn repeated(alloc: Global, head: &str, line: &str, count: u32, tail: &str) -> Re
 
 #[test]
 fn undone_savepoint_is_hidden(rt: HostRuntime) -> Result<(), Fail> {
-    let report = report_of(
+    check_report(
         &rt,
         "a begin
 a write
@@ -29,9 +29,6 @@ a snap s
 a see s 4
 a see s 5
 ",
-    )?;
-    assert_eq!(rt;
-        report.as_str(),
         "txid report 1
 life 1 from 0 next 3 oldest 3 multi 1 offset 1 oldest-multi 1 oldest-offset 1
 round 1
@@ -58,14 +55,13 @@ log flushed 2 end 88
 0 checkpoint next 3 oldest 3 multi 1 offset 1 oldest-multi 1 oldest-offset 1
 1 commit 3 5
 end
-"
-    );
-    Ok(())
+",
+    )
 }
 
 #[test]
 fn xmax_past_running_top(rt: HostRuntime) -> Result<(), Fail> {
-    let report = report_of(
+    check_report(
         &rt,
         "a begin
 a write
@@ -78,9 +74,6 @@ a snap s
 a commit
 a see s 3
 ",
-    )?;
-    assert_eq!(rt;
-        report.as_str(),
         "txid report 1
 life 1 from 0 next 3 oldest 3 multi 1 offset 1 oldest-multi 1 oldest-offset 1
 round 1
@@ -106,14 +99,13 @@ log flushed 3 end 98
 1 commit 4
 2 commit 3
 end
-"
-    );
-    Ok(())
+",
+    )
 }
 
 #[test]
 fn every_session_refusal(rt: HostRuntime) -> Result<(), Fail> {
-    let report = report_of(
+    check_report(
         &rt,
         "a commit
 a undo
@@ -133,9 +125,6 @@ a undo
 a abort
 a abort
 ",
-    )?;
-    assert_eq!(rt;
-        report.as_str(),
         "txid report 1
 life 1 from 0 next 3 oldest 3 multi 1 offset 1 oldest-multi 1 oldest-offset 1
 round 1
@@ -163,15 +152,14 @@ multis
 log flushed 1 end 62
 0 checkpoint next 3 oldest 3 multi 1 offset 1 oldest-multi 1 oldest-offset 1
 end
-"
-    );
-    Ok(())
+",
+    )
 }
 
 /// A round takes its sessions in the order in which they first appear there, and an empty one isn't told.
 #[test]
 fn rounds_have_orders_of_their_own(rt: HostRuntime) -> Result<(), Fail> {
-    let report = report_of(
+    check_parts(
         &rt,
         ".round
 a begin
@@ -183,9 +171,7 @@ a write
 b commit
 .round
 ",
-    )?;
-    assert!(rt;
-        report.contains(
+        &[
             "
 round 1
 a 1 begin -> ok
@@ -195,15 +181,14 @@ b 2 write -> ok 3
 b 3 commit -> ok
 a 2 write -> ok 4
 history
-"
-        )
-    );
-    Ok(())
+",
+        ],
+    )
 }
 
 #[test]
 fn ids_wrap_around(rt: HostRuntime) -> Result<(), Fail> {
-    let report = report_of(
+    check_parts(
         &rt,
         ".start 4294967294
 .oldest 4294967290
@@ -220,9 +205,7 @@ a snap s
 a see s 3
 a see s 4294967295
 ",
-    )?;
-    assert!(rt;
-        report.contains(
+        &[
             "life 1 from 0 next 4294967294 oldest 4294967290 multi 1 offset 1 oldest-multi 1 oldest-offset 1
 round 1
 a 1 begin -> ok
@@ -237,15 +220,14 @@ a 9 commit -> ok
 a 10 snap s -> ok xmin 4294967300 xmax 4294967300 xip - sub - overflow no
 a 11 see s 3 -> visible
 a 12 see s 4294967295 -> visible
-"
-        )
-    );
-    Ok(())
+",
+        ],
+    )
 }
 
 #[test]
 fn id_warn_limit(rt: HostRuntime) -> Result<(), Fail> {
-    let report = report_of(
+    check_parts(
         &rt,
         ".start 2107483649
 a begin
@@ -254,22 +236,19 @@ a commit
 a begin
 a write
 ",
-    )?;
-    assert!(rt;
-        report.contains(
+        &[
             "a 2 write -> ok 2107483649
 a 3 commit -> ok
 a 4 begin -> ok
 a 5 write -> ok 2107483650 warn
-"
-        )
-    );
-    Ok(())
+",
+        ],
+    )
 }
 
 #[test]
 fn id_stop_limit(rt: HostRuntime) -> Result<(), Fail> {
-    let report = report_of(
+    check_parts(
         &rt,
         ".start 2144483649
 a begin
@@ -278,32 +257,29 @@ a commit
 a begin
 a write
 ",
-    )?;
-    assert!(rt;
-        report.contains(
+        &[
             "a 2 write -> ok 2144483649 warn
 a 3 commit -> ok
 a 4 begin -> ok
 a 5 write -> stop 2144483650 2144483650
-"
-        )
-    );
-    Ok(())
+",
+        ],
+    )
 }
 
 #[test]
 fn savepoint_1001_is_refused(rt: HostRuntime) -> Result<(), Fail> {
     let alloc = rt.alloc();
     let script = repeated(alloc, "a begin\n", "a save\n", 1_001, "")?;
-    let report = report_of(&rt, script.as_str())?;
-    assert!(rt;
-        report.contains(
+    check_parts(
+        &rt,
+        script.as_str(),
+        &[
             "a 1001 save -> ok
 a 1002 save -> depth-limit
-"
-        )
-    );
-    Ok(())
+",
+        ],
+    )
 }
 
 /// Adds eight commands that take snapshots, whose names begin so.
@@ -325,16 +301,16 @@ fn snapshot_65_is_refused(rt: HostRuntime) -> Result<(), Fail> {
         push_snaps(&mut script, front)?;
     }
     script.push_str("a snap t\na drop sss7\na snap t\n")?;
-    let report = report_of(&rt, script.as_str())?;
-    assert!(rt;
-        report.contains(
+    check_parts(
+        &rt,
+        script.as_str(),
+        &[
             "a 65 snap t -> snap-limit
 a 66 drop sss7 -> ok
 a 67 snap t -> ok xmin 3 xmax 3 xip - sub - overflow no
-"
-        )
-    );
-    Ok(())
+",
+        ],
+    )
 }
 
 /// With 64 running subtransactions a snapshot still lists all; the 65th takes them out, and parents are asked.
@@ -375,16 +351,13 @@ b snap u
 b see u 67
 ",
     )?;
-    let report = report_of(&rt, script.as_str())?;
-    assert!(rt;
-        report.contains(
+    check_parts(
+        &rt,
+        script.as_str(),
+        &[
             " 65 66 67 overflow no
 round 4
-"
-        )
-    );
-    assert!(rt;
-        report.contains(
+",
             "b 2 snap t -> ok xmin 3 xmax 71 xip 3 sub - overflow yes
 b 3 see s 67 -> hidden
 b 4 see t 67 -> hidden
@@ -397,8 +370,7 @@ round 8
 b 8 see t 67 -> hidden
 b 9 snap u -> ok xmin 71 xmax 71 xip - sub - overflow no
 b 10 see u 67 -> visible
-"
-        )
-    );
-    Ok(())
+",
+        ],
+    )
 }

@@ -33,11 +33,14 @@ fn next_reply(
 ) -> Result<(By, Reply), Memory>
     requires has { has_command command.now ≡ true }
     requires sound { IsSoundAt shared.old }
-    requires stands { Stands shared.old.table.base shared.old.table.events number session.old.commands session.old }
+    requires stands { Stands shared.old.table.base shared.old.table.events
+        number session.old.commands session.old }
     requires known { number < shared.old.table.sessions }
     requires room { HasRoom shared.old.log.recs }
     requires numbers { session.old.commands < 2 ^ 32 }
-    ensures { IfOk result (λ r. Ran shared.old shared.new number session.old session.new command.now (record { by = r.0; command = command.now; reply = r.1 })) }
+    ensures { IfOk result (λ r.
+        Ran shared.old shared.new number session.old session.new command.now
+        (record { by = r.0; command = command.now; reply = r.1 })) }
 {
     session.commands += 1;
     let by = By {
@@ -61,7 +64,8 @@ fn command_of(number: u32, item: &Item) -> Option<&Command>
 
 /// The session's command at this place of the round.
 fn command_at(number: u32, round: &[Item], place: usize) -> Option<&Command>
-    ensures some { IfSome result (λ command. slice_get round.now place ≡ Some (items.Run number command.now)) }
+    ensures some { IfSome result (λ command.
+        slice_get round.now place ≡ Some (items.Run number command.now)) }
     ensures none { IfNone result (turns_at number round.now (place ∷ []) ≡ []) }
 {
     match round.get(place) {
@@ -115,7 +119,8 @@ impl OpenLife {
         requires known { number < length self.old.sessions.items }
         requires room { MayAdd self.old 1 }
         ensures goes_on { OnOk result (GoesOn self.new) }
-        ensures line { OnOk result (map turn_of self.new.lines ≡ map turn_of self.old.lines ++ (number, command.now) ∷ []) }
+        ensures line { OnOk result (map turn_of self.new.lines
+            ≡ map turn_of self.old.lines ++ (number, command.now) ∷ []) }
         ensures steps { OnOk result (self.new.steps ≡ self.old.steps) }
         ensures on { OnOk result (Continues self.old self.new) }
         ensures tells { OnOk result (Tells names.now self.old self.new) }
@@ -140,7 +145,8 @@ impl OpenLife {
         requires places { HasPlaces number round.now round.now places.now }
         requires room { MayAdd self.old (length (turns_of number (turns_in round.now))) }
         ensures goes_on { OnOk result (GoesOn self.new) }
-        ensures lines { OnOk result (map turn_of self.new.lines ≡ map turn_of self.old.lines ++ turns_of number (turns_in round.now)) }
+        ensures lines { OnOk result (map turn_of self.new.lines
+            ≡ map turn_of self.old.lines ++ turns_of number (turns_in round.now)) }
         ensures steps { OnOk result (self.new.steps ≡ self.old.steps) }
         ensures on { OnOk result (Continues self.old self.new) }
         ensures tells { OnOk result (Tells names.now self.old self.new) }
@@ -164,9 +170,12 @@ impl OpenLife {
         requires goes_on { GoesOn self.old }
         requires items { All (MayRun (length self.old.sessions.items)) round.now }
         requires plan { IsPlanOf round.now round.now plan.now }
-        requires room { MayAdd self.old (length (flat_map (λ s. turns_of s (turns_in round.now)) plan.now.sessions.items)) }
+        requires room { MayAdd self.old
+            (length (flat_map (λ s. turns_of s (turns_in round.now)) plan.now.sessions.items)) }
         ensures goes_on { OnOk result (GoesOn self.new) }
-        ensures lines { OnOk result (map turn_of self.new.lines ≡ map turn_of self.old.lines ++ flat_map (λ s. turns_of s (turns_in round.now)) plan.now.sessions.items) }
+        ensures lines { OnOk result (map turn_of self.new.lines
+            ≡ map turn_of self.old.lines
+            ++ flat_map (λ s. turns_of s (turns_in round.now)) plan.now.sessions.items) }
         ensures steps { OnOk result (self.new.steps ≡ self.old.steps) }
         ensures on { OnOk result (Continues self.old self.new) }
         ensures tells { OnOk result (Tells names.now self.old self.new) }
@@ -196,8 +205,10 @@ impl OpenLife {
         ensures goes_on { OnOk result (GoesOn self.new) }
         ensures ended { OnOk result (self.new.lines ≡ []) }
         ensures step { OnOk result (AddsRound self.old.steps (turns_in round.now) self.new.steps) }
-        ensures plan { OnOk result (IsBlank plan.new × (length plan.new.places.items ≡ length plan.old.places.items)) }
-        ensures room { OnOk result (length (lines_of self.new) ≤ length (lines_of self.old) + length round.now) }
+        ensures plan { OnOk result (IsBlank plan.new
+            × (length plan.new.places.items ≡ length plan.old.places.items)) }
+        ensures room { OnOk result (length (lines_of self.new)
+            ≤ length (lines_of self.old) + length round.now) }
         ensures on { OnOk result (Continues self.old self.new) }
         ensures told { OnOk result (IsTold names.now self.new) }
     {

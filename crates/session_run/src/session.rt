@@ -1,6 +1,7 @@
 //! A session: how it stands, and its commands.
-ghost use Rattle.std.specs.Prelude.{◌≡◌, ℕ, [], true, OnOk, IfOk};
-ghost use Rattle.session_run.specs.Acts.{ActsOn, Ready, IsSoundAt, StandsAt, GrowsLittle};
+ghost use Rattle.std.specs.Prelude.{◌≡◌, true, IfOk};
+ghost use Rattle.session_run.specs.Acts.{Ready, Runs};
+ghost use Rattle.session_run.specs.Progress.{IsFresh};
 ghost use Rattle.session_run.specs.Turns.{has_command};
 
 use crate::ends::{abort, commit, undo};
@@ -27,24 +28,24 @@ pub struct Session {
     /// How many commands it has run in this life.
     pub commands: u64,
     /// The ids of its levels, from the transaction down. A level behind one without an id has none.
-    pub named: Vec<FullXid>,
+    pub level_ids: Vec<FullXid>,
     /// How many levels have no id yet.
     pub unnamed: usize,
     /// Its open ids, ascending.
-    pub opened: Vec<FullXid>,
+    pub open_ids: Vec<FullXid>,
     pub registered: Vec<RegisteredSnapshot>,
 }
 
 impl Session {
     /// A session that has done nothing yet.
     pub fn new(alloc: Global) -> Session
-        ensures { (result.commands ≡ 0) × (result.named.items ≡ []) × (result.unnamed ≡ 0) × (result.opened.items ≡ []) × (result.registered.items ≡ []) }
+        ensures { IsFresh result }
     {
         Session {
             commands: 0,
-            named: Vec::new(alloc),
+            level_ids: Vec::new(alloc),
             unnamed: 0,
-            opened: Vec::new(alloc),
+            open_ids: Vec::new(alloc),
             registered: Vec::new(alloc),
         }
     }
@@ -61,11 +62,8 @@ pub fn run_command(
 ) -> Result<Reply, Memory>
     requires has { has_command command.now ≡ true }
     requires ready { Ready shared.old by session.old }
-    ensures acts { IfOk result (λ reply. ActsOn shared.old shared.new by session.old session.new command.now reply) }
-    ensures sound { OnOk result (IsSoundAt shared.new) }
-    ensures stands { OnOk result (StandsAt shared.new by session.new) }
-    ensures few { OnOk result (GrowsLittle shared.old shared.new) }
-    ensures count { OnOk result (session.new.commands ≡ session.old.commands) }
+    ensures { IfOk result (λ reply.
+        Runs shared.old shared.new by session.old session.new command.now reply) }
 {
     match command {
         Command::Begin => Ok(begin(session)),

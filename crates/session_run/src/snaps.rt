@@ -1,9 +1,9 @@
 //! Snapshots of a session: taken, registered, dropped, and asked.
-ghost use Rattle.std.specs.Prelude.{◌≡◌, ℕ, ◌<◌, ◌≤◌, ◌≢◌, not, length, IfSome, IfNone, Some, None, IfOk, OnOk};
+ghost use Rattle.std.specs.Prelude.{◌≡◌, ℕ, ◌<◌, ◌≤◌, ◌≢◌, not, length, IfSome, IfNone, Some, None, IfOk};
 ghost use Rattle.std.specs.List.{find, filter};
 ghost use Rattle.tx_events.specs.Events.{same_name};
 ghost use Rattle.tx_model.specs.declared.command.Command.TheVariants as commands;
-ghost use Rattle.session_run.specs.Acts.{ActsOn, Ready, IsSoundAt, StandsAt, GrowsLittle};
+ghost use Rattle.session_run.specs.Acts.{Ready, Runs, IsSoundAt};
 ghost use Rattle.session_run.specs.Seen.{IsSeen};
 ghost use Rattle.session_run.specs.Stands.{IsRegistered};
 
@@ -38,7 +38,8 @@ fn find_registered<'a>(
 }
 
 fn registered_as<'a>(session: &'a Session, name: &Name) -> Option<&'a RegisteredSnapshot>
-    ensures found { IfSome result (λ k. find (λ x. same_name x.name name.now) session.now.registered.items ≡ Some k.now) }
+    ensures found { IfSome result (λ k.
+        find (λ x. same_name x.name name.now) session.now.registered.items ≡ Some k.now) }
     ensures none { IfNone result (find (λ x. same_name x.name name.now) session.now.registered.items ≡ None) }
 {
     find_registered(session.registered.as_slice(), name.items())
@@ -50,11 +51,8 @@ fn take(shared: &mut Shared, by: By, session: &mut Session, name: &Name) -> Resu
     requires ready { Ready shared.old by session.old }
     requires free { find (λ k. same_name k.name name.now) session.old.registered.items ≡ None }
     requires room { length session.old.registered.items < 64 }
-    ensures acts { IfOk result (λ reply. ActsOn shared.old shared.new by session.old session.new (commands.Snap name.now) reply) }
-    ensures sound { OnOk result (IsSoundAt shared.new) }
-    ensures stands { OnOk result (StandsAt shared.new by session.new) }
-    ensures few { OnOk result (GrowsLittle shared.old shared.new) }
-    ensures count { OnOk result (session.new.commands ≡ session.old.commands) }
+    ensures { IfOk result (λ reply.
+        Runs shared.old shared.new by session.old session.new (commands.Snap name.now) reply) }
 {
     session.registered.reserve(1)?;
     let copy = name.copy()?;
@@ -79,11 +77,8 @@ pub fn snap(
     name: &Name,
 ) -> Result<Reply, Memory>
     requires ready { Ready shared.old by session.old }
-    ensures acts { IfOk result (λ reply. ActsOn shared.old shared.new by session.old session.new (commands.Snap name.now) reply) }
-    ensures sound { OnOk result (IsSoundAt shared.new) }
-    ensures stands { OnOk result (StandsAt shared.new by session.new) }
-    ensures few { OnOk result (GrowsLittle shared.old shared.new) }
-    ensures count { OnOk result (session.new.commands ≡ session.old.commands) }
+    ensures { IfOk result (λ reply.
+        Runs shared.old shared.new by session.old session.new (commands.Snap name.now) reply) }
 {
     if let Some(_registered) = registered_as(session, name) {
         return Ok(Reply::Refused {
@@ -108,11 +103,7 @@ fn forget(registered: &mut Vec<RegisteredSnapshot>, name: &[u8])
 /// Drops the session's snapshot of this name (`UnregisterSnapshot` of `snapmgr.c`). Takes no memory.
 pub fn drop_snap(shared: &mut Shared, by: By, session: &mut Session, name: &Name) -> Reply
     requires ready { Ready shared.old by session.old }
-    ensures acts { ActsOn shared.old shared.new by session.old session.new (commands.DropSnap name.now) result }
-    ensures sound { IsSoundAt shared.new }
-    ensures stands { StandsAt shared.new by session.new }
-    ensures few { GrowsLittle shared.old shared.new }
-    ensures count { session.new.commands ≡ session.old.commands }
+    ensures { Runs shared.old shared.new by session.old session.new (commands.DropSnap name.now) result }
 {
     match shared.table.live_xmin(by.session, name) {
         Some(xmin) => {
@@ -157,7 +148,7 @@ fn verdict(shared: &Shared, session: u32, registered: &RegisteredSnapshot, x: Xi
 /// special ids have fixed answers, each other one means the full id nearest to the snapshot's xmax.
 pub fn see(shared: &Shared, by: By, session: &Session, name: &Name, x: Xid) -> Reply
     requires ready { Ready shared.now by session.now }
-    ensures acts { ActsOn shared.now shared.now by session.now session.now (commands.See name.now x) result }
+    ensures { Runs shared.now shared.now by session.now session.now (commands.See name.now x) result }
 {
     match registered_as(session, name) {
         Some(registered) => verdict(shared, by.session, registered, x),

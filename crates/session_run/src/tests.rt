@@ -1,14 +1,14 @@
 //! The first worked runs, and how a run ends otherwise.
 use crate::run_tool;
-use crate::test_help::{report_of, run};
+use crate::test_help::{check_report, check_run};
 use std::test::Fail;
 use tx_io::{Failed, MemSink, MemSource, Source};
 
 #[test]
 fn empty_script(rt: HostRuntime) -> Result<(), Fail> {
-    let report = report_of(&rt, "")?;
-    assert_eq!(rt;
-        report.as_str(),
+    check_report(
+        &rt,
+        "",
         "txid report 1
 life 1 from 0 next 3 oldest 3 multi 1 offset 1 oldest-multi 1 oldest-offset 1
 history
@@ -16,14 +16,13 @@ multis
 log flushed 1 end 62
 0 checkpoint next 3 oldest 3 multi 1 offset 1 oldest-multi 1 oldest-offset 1
 end
-"
-    );
-    Ok(())
+",
+    )
 }
 
 #[test]
 fn commit_is_visible(rt: HostRuntime) -> Result<(), Fail> {
-    let report = report_of(
+    check_report(
         &rt,
         "a begin
 a write
@@ -31,9 +30,6 @@ a commit
 a snap s
 a see s 3
 ",
-    )?;
-    assert_eq!(rt;
-        report.as_str(),
         "txid report 1
 life 1 from 0 next 3 oldest 3 multi 1 offset 1 oldest-multi 1 oldest-offset 1
 round 1
@@ -51,14 +47,13 @@ log flushed 2 end 80
 0 checkpoint next 3 oldest 3 multi 1 offset 1 oldest-multi 1 oldest-offset 1
 1 commit 3
 end
-"
-    );
-    Ok(())
+",
+    )
 }
 
 #[test]
 fn commit_after_snapshot_is_hidden(rt: HostRuntime) -> Result<(), Fail> {
-    let report = report_of(
+    check_report(
         &rt,
         "a begin
 a write
@@ -66,9 +61,6 @@ a snap s
 a commit
 a see s 3
 ",
-    )?;
-    assert_eq!(rt;
-        report.as_str(),
         "txid report 1
 life 1 from 0 next 3 oldest 3 multi 1 offset 1 oldest-multi 1 oldest-offset 1
 round 1
@@ -86,23 +78,19 @@ log flushed 2 end 80
 0 checkpoint next 3 oldest 3 multi 1 offset 1 oldest-multi 1 oldest-offset 1
 1 commit 3
 end
-"
-    );
-    Ok(())
+",
+    )
 }
 
 #[test]
 fn special_ids(rt: HostRuntime) -> Result<(), Fail> {
-    let report = report_of(
+    check_report(
         &rt,
         "a snap s
 a see s 0
 a see s 1
 a see s 2
 ",
-    )?;
-    assert_eq!(rt;
-        report.as_str(),
         "txid report 1
 life 1 from 0 next 3 oldest 3 multi 1 offset 1 oldest-multi 1 oldest-offset 1
 round 1
@@ -116,15 +104,14 @@ multis
 log flushed 1 end 62
 0 checkpoint next 3 oldest 3 multi 1 offset 1 oldest-multi 1 oldest-offset 1
 end
-"
-    );
-    Ok(())
+",
+    )
 }
 
 /// An aborted transaction's record waits for the next flush: three aborts of 13 bytes and a commit in one batch.
 #[test]
 fn abort_records_wait_for_a_flush(rt: HostRuntime) -> Result<(), Fail> {
-    let report = report_of(
+    check_report(
         &rt,
         "a begin
 a write
@@ -136,9 +123,6 @@ c begin
 c write
 c abort
 ",
-    )?;
-    assert_eq!(rt;
-        report.as_str(),
         "txid report 1
 life 1 from 0 next 3 oldest 3 multi 1 offset 1 oldest-multi 1 oldest-offset 1
 round 1
@@ -165,17 +149,14 @@ log flushed 3 end 93
 2 commit 4
 3 abort 5
 end
-"
-    );
-    Ok(())
+",
+    )
 }
 
 #[test]
 fn other_words_are_refused(rt: HostRuntime) -> Result<(), Fail> {
     let alloc = rt.alloc();
-    let (status, held) = run(alloc, "runs", "", Vec::new(alloc), 100)?;
-    assert_eq!(rt; status, 2);
-    assert_eq!(rt; held.as_slice(), b"words\n".as_slice());
+    check_run(&rt, "runs", "", Vec::new(alloc), 100, (2, "words\n"))?;
     let mut source = MemSource::new(Vec::new(alloc), Vec::new(alloc));
     let mut sink = MemSink::new(alloc, 100, Vec::new(alloc))?;
     let two = [
@@ -189,40 +170,47 @@ fn other_words_are_refused(rt: HostRuntime) -> Result<(), Fail> {
 
 #[test]
 fn bytes_that_are_no_script_are_refused(rt: HostRuntime) -> Result<(), Fail> {
-    let alloc = rt.alloc();
-    let (status, held) = run(alloc, "run", "a begin\na frob\n", Vec::new(alloc), 100)?;
-    assert_eq!(rt; status, 1);
-    assert_eq!(rt; held.as_slice(), b"script 2 command\n".as_slice());
-    Ok(())
+    let script = "a begin\na frob\n";
+    check_run(
+        &rt,
+        "run",
+        script,
+        Vec::new(rt.alloc()),
+        100,
+        (1, "script 2 command\n"),
+    )
 }
 
 /// They stand in the grammar, and the run doesn't have them.
 #[test]
 fn first_line_that_the_run_lacks_is_refused(rt: HostRuntime) -> Result<(), Fail> {
-    let alloc = rt.alloc();
     let script = "# a line\n.banks 2\n\na begin\na trim\n.checkpoint\n";
-    let (status, held) = run(alloc, "run", script, Vec::new(alloc), 100)?;
-    assert_eq!(rt; status, 1);
-    assert_eq!(rt; held.as_slice(), b"script 5 command\n".as_slice());
-    Ok(())
+    check_run(
+        &rt,
+        "run",
+        script,
+        Vec::new(rt.alloc()),
+        100,
+        (1, "script 5 command\n"),
+    )
 }
 
 #[test]
 fn a_failing_read_is_a_read_fault(rt: HostRuntime) -> Result<(), Fail> {
-    let alloc = rt.alloc();
-    let (status, held) = run(alloc, "run", "a begin\n", vec![in alloc; 1]?, 100)?;
-    assert_eq!(rt; status, 3);
-    assert_eq!(rt; held.as_slice(), b"read-fault\n".as_slice());
-    Ok(())
+    let failing = vec![in rt.alloc(); 1]?;
+    check_run(&rt, "run", "a begin\n", failing, 100, (3, "read-fault\n"))
 }
 
 #[test]
 fn a_sink_of_twenty_holds_the_front_of_the_report(rt: HostRuntime) -> Result<(), Fail> {
-    let alloc = rt.alloc();
-    let (status, held) = run(alloc, "run", "", Vec::new(alloc), 20)?;
-    assert_eq!(rt; status, 4);
-    assert_eq!(rt; held.as_slice(), b"txid report 1\nlife 1".as_slice());
-    Ok(())
+    check_run(
+        &rt,
+        "run",
+        "",
+        Vec::new(rt.alloc()),
+        20,
+        (4, "txid report 1\nlife 1"),
+    )
 }
 
 /// A source that never ends.

@@ -88,7 +88,8 @@ fn answer(alloc: Global, bytes: &[u8]) -> Ending
 
 /// Reads the source and makes the report.
 fn work<S: Source>(alloc: Global, source: &mut S) -> Ending
-    ensures ends { Ends (S.left source.old) (S.left source.new) (S.faults source.old) (S.faults source.new) result }
+    ensures ends { Ends (S.left source.old) (S.left source.new)
+        (S.faults source.old) (S.faults source.new) result }
     ensures later { S.faults source.old ≤ S.faults source.new }
     ensures amount { ReadsUpTo most_read (S.left source.old) (S.left source.new) }
 {
@@ -102,7 +103,8 @@ fn work<S: Source>(alloc: Global, source: &mut S) -> Ending
 
 /// Writes the last text, and answers the status, or 4 where the sink fails.
 fn finish<K: Sink>(sink: &mut K, text: &[u8], status: u8) -> u8
-    ensures ends { ((result ≡ status) × Appends (K.held sink.old) (K.held sink.new) text.now) ⊎ ((result ≡ 4) × Rose (K.faults sink.old) (K.faults sink.new)) }
+    ensures ends { ((result ≡ status) × Appends (K.held sink.old) (K.held sink.new) text.now)
+        ⊎ ((result ≡ 4) × Rose (K.faults sink.old) (K.faults sink.new)) }
     ensures front { (n : ℕ) × Appends (K.held sink.old) (K.held sink.new) (take n text.now) }
 {
     match write_all(sink, text) {
@@ -114,8 +116,10 @@ fn finish<K: Sink>(sink: &mut K, text: &[u8], status: u8) -> u8
 /// Says that the words of the command line found no memory, by the line `memory`. Answers status 6, or 4 where the sink
 /// failed.
 pub fn say_out_of_memory<K: Sink>(sink: &mut K) -> u8
-    ensures said { ((result ≡ 6) × Appends (K.held sink.old) (K.held sink.new) (codes "memory" ++ 10 ∷ [])) ⊎ ((result ≡ 4) × Rose (K.faults sink.old) (K.faults sink.new)) }
-    ensures front { result ≡ 4 → (n : ℕ) × Appends (K.held sink.old) (K.held sink.new) (take n (codes "memory" ++ 10 ∷ [])) }
+    ensures said { ((result ≡ 6) × Appends (K.held sink.old) (K.held sink.new) (codes "memory" ++ 10 ∷ []))
+        ⊎ ((result ≡ 4) × Rose (K.faults sink.old) (K.faults sink.new)) }
+    ensures front { result ≡ 4 → (n : ℕ)
+        × Appends (K.held sink.old) (K.held sink.new) (take n (codes "memory" ++ 10 ∷ [])) }
 {
     finish(sink, b"memory\n", 6)
 }
@@ -142,7 +146,8 @@ pub fn run_tool<S: Source, K: Sink>(
     ensures words_only { (IsRun (map string_bytes words.now) → ⊥) → (result ≡ 2) ⊎ (result ≡ 4) }
     ensures read { result ≡ 3 → Rose (S.faults source.old) (S.faults source.new) }
     ensures write { result ≡ 4 → Rose (K.faults sink.old) (K.faults sink.new) }
-    ensures front { result ≡ 4 → HoldsFront (S.left source.old) (S.left source.new) (K.held sink.old) (K.held sink.new) }
+    ensures front { result ≡ 4 →
+        HoldsFront (S.left source.old) (S.left source.new) (K.held sink.old) (K.held sink.new) }
     ensures statuses { (result ≤ 6) × (result ≢ 5) }
 
     // What it reads.
@@ -151,7 +156,8 @@ pub fn run_tool<S: Source, K: Sink>(
 
     // And the line that it then writes.
     ensures no_words { result ≡ 2 → Appends (K.held sink.old) (K.held sink.new) (codes "words" ++ 10 ∷ []) }
-    ensures read_fault { result ≡ 3 → Appends (K.held sink.old) (K.held sink.new) (codes "read-fault" ++ 10 ∷ []) }
+    ensures read_fault { result ≡ 3 →
+        Appends (K.held sink.old) (K.held sink.new) (codes "read-fault" ++ 10 ∷ []) }
     ensures no_memory { result ≡ 6 → Appends (K.held sink.old) (K.held sink.new) (codes "memory" ++ 10 ∷ []) }
 {
     if !is_run(words) {

@@ -1,9 +1,9 @@
 //! Ids for the levels of a transaction, given as late as a write asks for them.
-ghost use Rattle.std.specs.Prelude.{◌≡◌, ℕ, ◌+◌, ◌<◌, ◌≤◌, max, length, OnOk, IfOk};
+ghost use Rattle.std.specs.Prelude.{◌≡◌, ℕ, ◌+◌, ◌<◌, ◌≤◌, max, length, IfOk};
 ghost use Rattle.tx_model.specs.CommandEvents.{giving};
 ghost use Rattle.proc_table.specs.Table.{Gives as TableGives, next_of, page_of};
 ghost use Rattle.tx_model.specs.declared.command.Command.TheVariants as commands;
-ghost use Rattle.session_run.specs.Acts.{ActsOn, Ready, IsSoundAt, StandsAt, GrowsLittle};
+ghost use Rattle.session_run.specs.Acts.{Ready, Runs, IsSoundAt, StandsAt};
 ghost use Rattle.session_run.specs.Gives.{Gives, Names, IsStopOf, IsParent, IsInTurn, last_of};
 ghost use Rattle.session_run.specs.Stands.{levels_of};
 
@@ -30,7 +30,10 @@ fn next_id(table: &mut ProcTable, by: By, parent: &Option<FullXid>) -> Result<Gi
     requires session { by.session < table.old.sessions }
     requires turn { IsInTurn by table.old.events }
     requires parent { IsParent by.session table.old.events parent.now }
-    ensures { TableGives (record table.old { initialised_up_to = max table.old.initialised_up_to (page_of (next_of table.old)) }) table.new (λ id. giving by parent.now id) result }
+    ensures { TableGives (record table.old {
+      initialised_up_to = max table.old.initialised_up_to (page_of (next_of table.old));
+    })
+        table.new (λ id. giving by parent.now id) result }
 {
     let next = table.next();
     table.made(next);
@@ -81,9 +84,9 @@ fn give_id(shared: &mut Shared, by: By, parent: Option<FullXid>) -> Result<NewId
 
 /// The id of the innermost level that has one.
 fn innermost_id(session: &Session) -> Option<FullXid>
-    ensures { result ≡ last_of session.now.named.items }
+    ensures { result ≡ last_of session.now.level_ids.items }
 {
-    match session.named.last() {
+    match session.level_ids.last() {
         Some(id) => Some(*id),
         None => None,
     }
@@ -97,13 +100,13 @@ fn name_level(shared: &mut Shared, by: By, session: &mut Session) -> Result<NewI
     requires some { 1 ≤ session.old.unnamed }
     ensures { IfOk result (λ new. Names shared.old shared.new by session.old session.new new) }
 {
-    session.named.reserve(1)?;
-    session.opened.reserve(1)?;
+    session.level_ids.reserve(1)?;
+    session.open_ids.reserve(1)?;
     let parent = innermost_id(session);
     match give_id(shared, by, parent)? {
         NewId::Given { id, warn } => {
-            session.named.push_reserved(id);
-            session.opened.push_reserved(id);
+            session.level_ids.push_reserved(id);
+            session.open_ids.push_reserved(id);
             session.unnamed -= 1;
             Ok(NewId::Given { id, warn })
         }
@@ -119,12 +122,9 @@ fn name_levels(
     session: &mut Session,
 ) -> Result<Reply, Memory>
     requires ready { Ready shared.old by session.old }
-    requires some { 1 ≤ length (levels_of session.old.named.items session.old.unnamed) }
-    ensures acts { IfOk result (λ reply. ActsOn shared.old shared.new by session.old session.new commands.Write reply) }
-    ensures sound { OnOk result (IsSoundAt shared.new) }
-    ensures stands { OnOk result (StandsAt shared.new by session.new) }
-    ensures few { OnOk result (GrowsLittle shared.old shared.new) }
-    ensures count { OnOk result (session.new.commands ≡ session.old.commands) }
+    requires some { 1 ≤ length (levels_of session.old.level_ids.items session.old.unnamed) }
+    ensures { IfOk result (λ reply.
+        Runs shared.old shared.new by session.old session.new commands.Write reply) }
 {
     let mut ids = Vec::with_capacity(alloc, session.unnamed)?;
     let mut warn = false;
@@ -156,11 +156,8 @@ pub fn write(
     session: &mut Session,
 ) -> Result<Reply, Memory>
     requires ready { Ready shared.old by session.old }
-    ensures acts { IfOk result (λ reply. ActsOn shared.old shared.new by session.old session.new commands.Write reply) }
-    ensures sound { OnOk result (IsSoundAt shared.new) }
-    ensures stands { OnOk result (StandsAt shared.new by session.new) }
-    ensures few { OnOk result (GrowsLittle shared.old shared.new) }
-    ensures count { OnOk result (session.new.commands ≡ session.old.commands) }
+    ensures { IfOk result (λ reply.
+        Runs shared.old shared.new by session.old session.new commands.Write reply) }
 {
     if depth(session) == 0 {
         return Ok(Reply::Refused {

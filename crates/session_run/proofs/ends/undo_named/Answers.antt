@@ -18,7 +18,7 @@ undo-requires-clause-id_open c =
     let s = c.args.session.now in
     let r = c.requires.ready in
     let some : 1 ≤ length c.pop.new.self.items = omega (arith, c.in-Some.ensures.len, c.requires.savepoint) in
-    let p = last_savepoint w.table.events s.opened.items c.pop.new.self.items c.in-Some.id some (subst (Nest w.table.events s.opened.items) c.in-Some.ensures.items r.stands.nest) in
+    let p = last_savepoint w.table.events s.open_ids.items c.pop.new.self.items c.in-Some.id some (subst (Nest w.table.events s.open_ids.items) c.in-Some.ensures.items r.stands.nest) in
     subst (λ l. Contains l c.in-Some.id) (sym r.stands.opened) p.0
 
 pub undo-requires-clause-id_sub : goal.undo-requires-clause-id_sub
@@ -27,7 +27,7 @@ undo-requires-clause-id_sub c =
     let s = c.args.session.now in
     let r = c.requires.ready in
     let some : 1 ≤ length c.pop.new.self.items = omega (arith, c.in-Some.ensures.len, c.requires.savepoint) in
-    (last_savepoint w.table.events s.opened.items c.pop.new.self.items c.in-Some.id some (subst (Nest w.table.events s.opened.items) c.in-Some.ensures.items r.stands.nest)).1
+    (last_savepoint w.table.events s.open_ids.items c.pop.new.self.items c.in-Some.id some (subst (Nest w.table.events s.open_ids.items) c.in-Some.ensures.items r.stands.nest)).1
 
 pub undo-requires-clause-ids : goal.undo-requires-clause-ids
 undo-requires-clause-ids c =
@@ -36,45 +36,38 @@ undo-requires-clause-ids c =
     let r = c.requires.ready in
     let id = c.in-Some.id in
     let some : 1 ≤ length c.pop.new.self.items = omega (arith, c.in-Some.ensures.len, c.requires.savepoint) in
-    let p = last_savepoint w.table.events s.opened.items c.pop.new.self.items id some (subst (Nest w.table.events s.opened.items) c.in-Some.ensures.items r.stands.nest) in
-    let cut : drop c.place_of-from.result s.opened.items ≡ filter (λ x. nat_le id x) s.opened.items = subst (λ l. drop c.place_of-from.result l ≡ filter (λ x. nat_le id x) l) c.deref.ensures.value c.place_of-from.ensures.from in
+    let p = last_savepoint w.table.events s.open_ids.items c.pop.new.self.items id some (subst (Nest w.table.events s.open_ids.items) c.in-Some.ensures.items r.stands.nest) in
+    let cut : drop c.place_of-from.result s.open_ids.items ≡ filter (λ x. nat_le id x) s.open_ids.items = subst (λ l. drop c.place_of-from.result l ≡ filter (λ x. nat_le id x) l) c.deref.ensures.value c.place_of-from.ensures.from in
     take_rest c.deref-2.result.now c.place_of-from.result
     ∙ ap (drop c.place_of-from.result) c.deref-2.ensures.value
     ∙ cut
-    ∙ sym (inside_from w.table.events s.opened.items id p)
+    ∙ sym (inside_from w.table.events s.open_ids.items id p)
     ∙ ap (filter (is_inside w.table.events id)) (sym r.stands.opened)
 
-pub returns-clause-acts : goal.returns-clause-acts
-returns-clause-acts c =
-    let w = c.args.shared.now in
-    let s = c.args.session.now in
-    let some : 1 ≤ length c.pop.new.self.items = omega (arith, c.in-Some.ensures.len, c.requires.savepoint) in
-    rw c.undo.ensures.events
-    (subst (λ l. Acts w.table.base c.args.by (record { levels = levels_of l s.unnamed; snaps = map told_of s.registered.items }) (record { levels = levels_of c.pop.new.self.items s.unnamed; snaps = map told_of s.registered.items }) commands.Undo replies.Done w.table.events (w.table.events ++ events.Undo c.args.by c.in-Some.id ∷ []))
-    (sym c.in-Some.ensures.items)
-    (acts_undone w.table.base c.args.by w.table.events c.pop.new.self.items c.in-Some.id s.unnamed (map told_of s.registered.items) some c.requires.all_named))
-
-pub returns-clause-sound : goal.returns-clause-sound
-returns-clause-sound c =
-    let w = c.args.shared.now in
-    let s = c.args.session.now in
-    let r = c.requires.ready in
-    let some : 1 ≤ length c.pop.new.self.items = omega (arith, c.in-Some.ensures.len, c.requires.savepoint) in
-    let p = last_savepoint w.table.events s.opened.items c.pop.new.self.items c.in-Some.id some (subst (Nest w.table.events s.opened.items) c.in-Some.ensures.items r.stands.nest) in
-    rw (c.undo.ensures.events, c.undo.ensures.base)
-    (sound_still w.table.base w.table.events (events.Undo c.args.by c.in-Some.id) c.args.by w.log.recs w.states.items refl refl (λ t. refl) refl
-    (subst (λ l. Contains l c.in-Some.id) (sym r.stands.opened) p.0, p.1) r.stands.turn r.sound)
-
-pub returns-clause-stands : goal.returns-clause-stands
-returns-clause-stands c =
+pub returns : goal.returns
+returns c =
     let w = c.args.shared.now in
     let s = c.args.session.now in
     let r = c.requires.ready in
     let id = c.in-Some.id in
-    let some : 1 ≤ length c.pop.new.self.items = omega (arith, c.in-Some.ensures.len, c.requires.savepoint) in
-    let cut : take c.place_of-from.result s.opened.items ≡ filter (λ x. not (nat_le id x)) s.opened.items = subst (λ l. take c.place_of-from.result l ≡ filter (λ x. not (nat_le id x)) l) c.deref.ensures.value c.place_of-from.ensures.before in
-    rw (c.undo.ensures.events, c.undo.ensures.base)
-    (stands w.table.base _ c.args.by.session c.args.by.command _
-    (subst (λ o. Stood w.table.base (w.table.events ++ events.Undo c.args.by id ∷ []) c.args.by.session c.args.by.command o c.pop.new.self.items s.unnamed s.registered.items) (sym (c.truncate.ensures.items ∙ cut))
-    (stood_undone w.table.base w.table.events c.args.by id s.unnamed s.opened.items c.pop.new.self.items s.registered.items some
-    (subst (λ l. Stood w.table.base w.table.events c.args.by.session c.args.by.command s.opened.items l s.unnamed s.registered.items) c.in-Some.ensures.items (stood w.table.base w.table.events c.args.by.session c.args.by.command s r.stands)))))
+    let left = c.pop.new.self.items in
+    let snaps = map told_of s.registered.items in
+    let some : 1 ≤ length left = omega (arith, c.in-Some.ensures.len, c.requires.savepoint) in
+    let p = last_savepoint w.table.events s.open_ids.items left id some (subst (Nest w.table.events s.open_ids.items) c.in-Some.ensures.items r.stands.nest) in
+    let cut : take c.place_of-from.result s.open_ids.items ≡ filter (λ x. not (nat_le id x)) s.open_ids.items = subst (λ l. take c.place_of-from.result l ≡ filter (λ x. not (nat_le id x)) l) c.deref.ensures.value c.place_of-from.ensures.before in
+    record {
+      acts = rw c.undo.ensures.events
+          (subst (λ l. Acts w.table.base c.args.by (record { levels = levels_of l s.unnamed; snaps = snaps }) (record { levels = levels_of left s.unnamed; snaps = snaps }) commands.Undo replies.Done w.table.events (w.table.events ++ events.Undo c.args.by id ∷ []))
+          (sym c.in-Some.ensures.items)
+          (acts_undone w.table.base c.args.by w.table.events left id s.unnamed snaps some c.requires.all_named));
+      sound = rw (c.undo.ensures.events, c.undo.ensures.base)
+          (sound_still w.table.base w.table.events (events.Undo c.args.by id) c.args.by w.log.recs w.states.items refl refl (λ t. refl) refl
+          (subst (λ l. Contains l id) (sym r.stands.opened) p.0, p.1) r.stands.turn r.sound);
+      stands = rw (c.undo.ensures.events, c.undo.ensures.base)
+          (stands w.table.base _ c.args.by.session c.args.by.command _
+          (subst (λ o. Stood w.table.base (w.table.events ++ events.Undo c.args.by id ∷ []) c.args.by.session c.args.by.command o left s.unnamed s.registered.items) (sym (c.truncate.ensures.items ∙ cut))
+          (stood_undone w.table.base w.table.events c.args.by id s.unnamed s.open_ids.items left s.registered.items some
+          (subst (λ l. Stood w.table.base w.table.events c.args.by.session c.args.by.command s.open_ids.items l s.unnamed s.registered.items) c.in-Some.ensures.items (stood w.table.base w.table.events c.args.by.session c.args.by.command s r.stands)))));
+      few = record { base = c.undo.ensures.base; sessions = c.undo.ensures.sessions; short = omega arith };
+      count = refl;
+    }

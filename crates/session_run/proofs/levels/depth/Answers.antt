@@ -3,4 +3,4 @@ use Rattle.session_run.proofs.LevelLemmas.{levels_length}
 use Rattle.session_run.proofs.levels.depth.Goals as goal
 
 pub returns : goal.returns
-returns c = let s = c.args.session.now in omega (arith, levels_length s.named.items s.unnamed)
+returns c = let s = c.args.session.now in omega (arith, levels_length s.level_ids.items s.unnamed)

@@ -1,10 +1,11 @@
+use Rattle.session_run.proofs.RunsLemmas.{runs_alone}
 use Rattle.session_run.proofs.session.run_command.Goals as goal
 
-pub returns-in-Begin-clause-stands : goal.returns-in-Begin-clause-stands
-returns-in-Begin-clause-stands c = c.begin.ensures.stands c.args.shared.now.table.base c.args.shared.now.table.events c.args.by.session c.args.by.command c.requires.ready.stands
+pub returns-in-Begin : goal.returns-in-Begin
+returns-in-Begin c = rw c.in-Begin.is (runs_alone c.args.shared.now c.args.by c.args.session.now _ _ _ c.requires.ready c.begin.ensures)
 
-pub returns-in-Save-clause-stands : goal.returns-in-Save-clause-stands
-returns-in-Save-clause-stands c = c.save.ensures.stands c.args.shared.now.table.base c.args.shared.now.table.events c.args.by.session c.args.by.command c.requires.ready.stands
+pub returns-in-Save : goal.returns-in-Save
+returns-in-Save c = rw c.in-Save.is (runs_alone c.args.shared.now c.args.by c.args.session.now _ _ _ c.requires.ready c.save.ensures)
 
-pub returns-in-Release-clause-stands : goal.returns-in-Release-clause-stands
-returns-in-Release-clause-stands c = c.release.ensures.stands c.args.shared.now.table.base c.args.shared.now.table.events c.args.by.session c.args.by.command c.requires.ready.stands
+pub returns-in-Release : goal.returns-in-Release
+returns-in-Release c = rw c.in-Release.is (runs_alone c.args.shared.now c.args.by c.args.session.now _ _ _ c.requires.ready c.release.ensures)

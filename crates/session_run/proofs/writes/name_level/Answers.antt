@@ -9,7 +9,7 @@ give_id-requires-clause-parent c =
     let w = c.args.shared.now in
     let s = c.args.session.now in
     rw (c.innermost_id-parent.ensures, c.in_ok-reserve.ensures.items)
-    (is_parent w.table.events c.args.by.session s.opened.items s.named.items c.requires.stands.opened c.requires.stands.nest)
+    (is_parent w.table.events c.args.by.session s.open_ids.items s.level_ids.items c.requires.stands.opened c.requires.stands.nest)
 
 pub returns-in-Given : goal.returns-in-Given
 returns-in-Given c =
@@ -17,8 +17,8 @@ returns-in-Given c =
     let s = c.args.session.now in
     let w' = c.give_id.new.shared in
     let id = c.in-Given.id in
-    let below : c.innermost_id-parent.result ≡ last_of s.named.items = c.innermost_id-parent.ensures ∙ ap last_of c.in_ok-reserve.ensures.items in
-    let g : IsGiven w w' c.args.by (last_of s.named.items) id c.in-Given.warn =
+    let below : c.innermost_id-parent.result ≡ last_of s.level_ids.items = c.innermost_id-parent.ensures ∙ ap last_of c.in_ok-reserve.ensures.items in
+    let g : IsGiven w w' c.args.by (last_of s.level_ids.items) id c.in-Given.warn =
     subst (λ (p : Option ℕ). IsGiven w w' c.args.by p id c.in-Given.warn) below (subst (Gives w w' c.args.by c.innermost_id-parent.result) c.in-Given.is c.in_ok-id.ensures) in (
       g,
       record {
@@ -30,6 +30,6 @@ returns-in-Given c =
       rw (g.event, g.round.base)
           (stands w.table.base _ c.args.by.session c.args.by.command _
           (rw (c.push_reserved.ensures.items, c.push_reserved-in-Given.ensures.items, c.in_ok-reserve.ensures.items, c.in_ok-reserve-2.ensures.items)
-          (stood_given w.table.base w.table.events c.args.by id s.unnamed (s.unnamed - 1) s.opened.items s.named.items s.registered.items c.requires.sound.legal g.may (omega (arith, c.requires.some))
+          (stood_given w.table.base w.table.events c.args.by id s.unnamed (s.unnamed - 1) s.open_ids.items s.level_ids.items s.registered.items c.requires.sound.legal g.may (omega (arith, c.requires.some))
           (stood w.table.base w.table.events c.args.by.session c.args.by.command s c.requires.stands)))),
     )

@@ -18,14 +18,14 @@ loop-session-preserved c =
       omega (arith, l.invariant.1, n.1.unnamed, c.push_reserved.ensures.len, c.push_reserved.ensures.capacity),
     )
 
-pub returns-in-Stop-clause-acts : goal.returns-in-Stop-clause-acts
-returns-in-Stop-clause-acts c =
+pub returns-in-Stop : goal.returns-in-Stop
+returns-in-Stop c =
     let l = c.loop-session in
     let n = subst (Names l.shared c.name_level.new.shared c.args.by l.session c.name_level.new.session) c.in-Stop.is c.in_ok-id.ensures in
-    stopped c.args.shared.now l.shared c.name_level.new.shared c.args.by c.args.session.now l.session c.name_level.new.session l.ids.items l.warn c.in-Stop.next c.in-Stop.stop (omega arith) l.invariant.0 n.0 n.1
+    stopped c.args.shared.now l.shared c.name_level.new.shared c.args.by c.args.session.now l.session c.name_level.new.session l.ids.items l.warn c.in-Stop.next c.in-Stop.stop (omega arith) l.invariant.0 n.0 n.1 n.2
 
-pub returns-clause-acts : goal.returns-clause-acts
-returns-clause-acts c =
+pub returns : goal.returns
+returns c =
     let l = c.loop-session in
     rw c.of.ensures
     (written c.args.shared.now l.shared c.args.by c.args.session.now l.session l.ids.items l.warn c.requires.some (omega arith) l.invariant.0)

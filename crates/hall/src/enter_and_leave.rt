@@ -38,7 +38,7 @@ impl<L: Law> Hall<L> {
         if found != 0 {
             return None;
         }
-        pass.seat.slot_mut(shared, pass.cell).take()
+        pass.seat.slot_mut(shared, cell as usize).take()
     }
 
     /// Looks until it has the lock's value, as LWLockAcquire, and may wait for ever.
@@ -56,12 +56,34 @@ impl<L: Law> Hall<L> {
         ensures cell { pass.new.cell ≡ cell }
         ensures view { (v : View L.Start L.Entry) × Looked (view pass.old) v × Entered L.session L.writer L.stands L.kept (start_of self.now) cell v result (view pass.new) }
     {
+        if let Some(value) = self.look(pass, cell) {
+            return value;
+        }
+        self.look_again(rt, pass, cell)
+    }
+
+    // The same where a look was in vain. A look takes the cache line of the lock from whoever is inside, also where
+    // it finds the lock taken, and a load leaves it there. So it looks only after a load that shows the lock free.
+    #[cold]
+    #[inline(never)]
+    fn look_again<R: Wait>(&self, rt: &R, pass: &mut Pass<L>, cell: u32) -> L::Value
+        requires own { IsOf self.now pass.old }
+        requires free { (view pass.old).stage ≡ Free }
+        requires cell { cell < self.now.cells }
+        ensures own { IsOf self.now pass.new × IsSame pass.old pass.new }
+        ensures cell { pass.new.cell ≡ cell }
+        ensures view { (v : View L.Start L.Entry) × Looked (view pass.old) v × Entered L.session L.writer L.stands L.kept (start_of self.now) cell v result (view pass.new) }
+    {
+        let word = line_at(cell as usize);
         let backoff = Backoff::new();
         for _ in rt.forever() {
+            backoff.snooze();
+            if self.table.shared.peek(word) != 0 {
+                continue;
+            }
             if let Some(value) = self.look(pass, cell) {
                 return value;
             }
-            backoff.snooze();
         }
         unreachable!()
     }

@@ -1,5 +1,5 @@
 -- From each place a report can be ended.
-use Rattle.std.proofs.Common.{rules, ◌≡◌, ℕ, ◌+◌, ◌≤◌, ◌<◌, ◌^◌, List, [], ◌∷◌, ◌++◌, true, None, inr, refl, sym, ap, subst, arith, length, get_or, codes}
+use Rattle.std.proofs.Common.{◌≡◌, ℕ, ◌+◌, ◌≤◌, ◌<◌, ◌^◌, List, [], ◌∷◌, ◌++◌, true, None, inr, refl, sym, ap, subst, arith, length, get_or, codes}
 use Rattle.std.specs.List.{IsDistinct}
 use Rattle.tx_events.specs.Base.{first_base}
 use Rattle.tx_model.specs.declared.command.Command.TheVariants as commands

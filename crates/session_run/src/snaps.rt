@@ -114,15 +114,14 @@ pub fn drop_snap(shared: &mut Shared, by: By, session: &mut Session, name: &Name
     ensures few { GrowsLittle shared.old shared.new }
     ensures count { session.new.commands ≡ session.old.commands }
 {
-    match shared.table.live_xmin(by.session, name) {
-        Some(xmin) => {
-            shared.table.drop_snapshot(by, name, xmin);
-            forget(&mut session.registered, name.items());
-            Reply::Done
-        }
-        None => Reply::Refused {
+    if shared.table.is_live(by.session, name) {
+        shared.table.drop_snapshot(by, name);
+        forget(&mut session.registered, name.items());
+        Reply::Done
+    } else {
+        Reply::Refused {
             refusal: Refusal::NoSnapshot,
-        },
+        }
     }
 }
 

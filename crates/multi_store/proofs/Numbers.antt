@@ -147,6 +147,3 @@ cmp_lt a b = one (nat_lt a b) (a == b)
 
 pub lt_from_cmp : (a b : ℕ) → is_lt (nat_cmp a b) ≡ true → a < b
 lt_from_cmp a b f = let e : nat_lt a b ≡ true = sym (cmp_lt a b) ∙ f in grind (arith, nat_tests)
-
-pub le_from_cmp : (a b : ℕ) → is_lt (nat_cmp a b) ≡ false → b ≤ a
-le_from_cmp a b f = let e : nat_lt a b ≡ false = sym (cmp_lt a b) ∙ f in grind (arith, nat_tests)

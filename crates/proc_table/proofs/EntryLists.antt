@@ -85,6 +85,3 @@ cmp_lt a b = one (nat_lt a b) (a == b)
     one true d = refl
     one false true = refl
     one false false = refl
-
-pub not_lt_cmp : (a b : ℕ) → is_lt (nat_cmp a b) ≡ false → b ≤ a
-not_lt_cmp a b f = let e : nat_lt a b ≡ false = sym (cmp_lt a b) ∙ f in grind (arith, nat_tests)

@@ -16,5 +16,5 @@ pub mod SortedSame
 pub mod SnapshotLemmas
 pub mod AskLemmas
 pub mod QuietStates
-pub mod CountLemmas
+pub mod KeptContents
 pub mod ReaderLemmas

@@ -3,12 +3,12 @@ use Rattle.std.proofs.Common.{◌≡◌, ℕ, ◌+◌, List, [], ◌∷◌, ◌+
 use Rattle.std.proofs.lemmas.List.Sums.{sum_by-cons}
 use Rattle.std.specs.Cmp.Lexicographic.{pointwise, same_text}
 use Rattle.std.specs.List.{filter, list_any}
-use Rattle.std.specs.Prelude.{nat_eq, sum_by, IfSome, IfNone}
+use Rattle.std.specs.Prelude.{nat_eq, sum_by, IfSome, is_some}
 use Rattle.tx_events.proofs.ListSteps.{eqb-refl, list_any-push, not_both}
 use Rattle.tx_events.proofs.Membership.{Has}
 use Rattle.tx_events.proofs.Names.{same_name_refl, same_name_equal}
 use Rattle.std.proofs.Math.Bool.{or-true}
-use Rattle.std.proofs.lemmas.Bool.{or_parts, and_parts}
+use Rattle.std.proofs.lemmas.Bool.{false≢true, or_parts, and_parts}
 use Rattle.tx_events.specs.Events.{same_name}
 use Rattle.tx_events.specs.Horizon.{LiveSnap, is_snap_of}
 use Rattle.proc_table.specs.Lives.{AreApart, live_xmin, others}
@@ -139,13 +139,20 @@ live_some (s ∷ ss) session name = one (is_snap_of session name s) refl (live_s
     one true e h = inl (same_snap (twin_session session name s e) (twin_name session name s e))
     one false e h = later (live_xmin session name ss) h
 
-pub live_none : (ss : List LiveSnap) (session : ℕ) (name : List ℕ) → IfNone (live_xmin session name ss) (list_any (is_snap_of session name) ss ≡ false)
-live_none [] session name = refl
-live_none (s ∷ ss) session name = one (is_snap_of session name s) (live_none ss session name)
+pub live_is_some : (ss : List LiveSnap) (session : ℕ) (name : List ℕ) → is_some (live_xmin session name ss) ≡ list_any (is_snap_of session name) ss
+live_is_some [] session name = refl
+live_is_some (s ∷ ss) session name = one (is_snap_of session name s) (live_is_some ss session name)
   where
-    one : (b : Bool) → IfNone (live_xmin session name ss) (list_any (is_snap_of session name) ss ≡ false) → IfNone (cond b (Some s.xmin) (live_xmin session name ss)) ((b || list_any (is_snap_of session name) ss) ≡ false)
-    one true h = tt
-    one false h = h
+    one : (b : Bool) → is_some (live_xmin session name ss) ≡ list_any (is_snap_of session name) ss → is_some (cond b (Some s.xmin) (live_xmin session name ss)) ≡ (b || list_any (is_snap_of session name) ss)
+    one true i = refl
+    one false i = i
+
+pub live_found : (ss : List LiveSnap) (session : ℕ) (name : List ℕ) → list_any (is_snap_of session name) ss ≡ true → (x : ℕ) × Has ss (record { session = session; name = name; xmin = x })
+live_found ss session name e = one (live_xmin session name ss) (live_is_some ss session name ∙ e) (live_some ss session name)
+  where
+    one : (o : Option ℕ) → is_some o ≡ true → IfSome o (λ x. Has ss (record { session = session; name = name; xmin = x })) → (x : ℕ) × Has ss (record { session = session; name = name; xmin = x })
+    one None f h = absurd (false≢true f)
+    one (Some x) f h = (x, h)
 
 -- one of them is taken out
 pub one_taken : (g : LiveSnap → ℕ) (ss : List LiveSnap) (r : LiveSnap) → AreApart ss → Has ss r → sum_by g (others r.session r.name ss) + g r ≡ sum_by g ss

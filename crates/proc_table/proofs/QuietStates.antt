@@ -1,7 +1,7 @@
 -- The state after an event that gives and closes nothing: a snapshot, a drop, an announcement, a question.
 use Rattle.tx_events.proofs.Extremes.{fold_min_start}
 use Rattle.proc_table.proofs.Bounds.{next_id_to}
-use Rattle.proc_table.proofs.LiveLemmas.{own_twin, has_any, one_taken}
+use Rattle.proc_table.proofs.LiveLemmas.{live_found, one_taken}
 use Rattle.proc_table.proofs.SnapshotLemmas.{xmin_is}
 use Rattle.proc_table.proofs.StateBounds.{late_bounds}
 use Rattle.proc_table.proofs.States.{state_quiet}
@@ -11,13 +11,13 @@ use Rattle.proc_table.specs.State.{IsState}
 use Rattle.proc_table.specs.Table.{InTurn}
 use Rattle.proc_table.specs.declared.entry.Entry.{Entry}
 use Rattle.proc_table.specs.declared.live.LiveSnapshots.{LiveSnapshots}
-use Rattle.std.proofs.Common.{◌≡◌, ℕ, suc, ◌-◌, ◌<◌, ◌≤◌, List, [], ◌∷◌, ◌++◌, length, reverse, refl, ap, sym, subst, ◌∙◌, arith, false, Contains, ◌+◌, ◌^◌, map, min}
+use Rattle.std.proofs.Common.{◌≡◌, ℕ, suc, ◌-◌, ◌<◌, ◌≤◌, List, [], ◌∷◌, ◌++◌, length, reverse, refl, ap, sym, subst, ◌∙◌, arith, false, true, ◌+◌, ◌^◌, map, min}
 use Rattle.std.proofs.lemmas.List.{reverse-reverse}
 use Rattle.std.proofs.lemmas.List.Sums.{sum_by-cons}
 use Rattle.std.specs.List.{list_any, fold}
 use Rattle.std.specs.Prelude.{sum_by}
 use Rattle.tx_events.proofs.ListSteps.{length_push}
-use Rattle.tx_events.proofs.Membership.{Has, contains_has}
+use Rattle.tx_events.proofs.Membership.{Has}
 use Rattle.tx_events.specs.Horizon.{oldest_id, live_snaps, LiveSnap, oldest_xmin, is_snap_of, is_live}
 use Rattle.tx_events.specs.Running.{running, running_tops}
 use Rattle.tx_events.specs.Snapshots.{snapshot_xmax, snapshot_xmin}
@@ -65,18 +65,18 @@ sum_ones : {X : Type 0} (xs : List X) → sum_by (λ _. 1) xs ≡ length xs
 sum_ones [] = refl
 sum_ones (x ∷ xs) = let e : sum_by (λ _. 1) (x ∷ xs) ≡ 1 + sum_by (λ _. 1) xs = sum_by-cons (λ _. 1) x xs in let i : sum_by (λ _. 1) xs ≡ length xs = sum_ones xs in omega arith
 
-pub state_dropped : (base : Counters) (h : List Event) (n oldest late promised : ℕ) (entries : List Entry) (lives lives' : LiveSnapshots) (by : By) (name : List ℕ) (xmin : ℕ) →
-    IsState base h n oldest late promised entries lives → InTurn by h → Contains (live_snaps base.next h) (record { session = by.session; name = name; xmin = xmin }) →
-    ((ss : List LiveSnap) → HoldsLive ss lives → Contains ss (record { session = by.session; name = name; xmin = xmin }) → HoldsLive (others by.session name ss) lives') →
+pub state_dropped : (base : Counters) (h : List Event) (n oldest late promised : ℕ) (entries : List Entry) (lives lives' : LiveSnapshots) (by : By) (name : List ℕ) →
+    IsState base h n oldest late promised entries lives → InTurn by h → is_live base.next by.session name h ≡ true → ((ss : List LiveSnap) → HoldsLive ss lives → HoldsLive (others by.session name ss) lives') →
     (1 ≤ promised) × IsState base (h ++ events.SnapDrop by name ∷ []) n oldest late (promised - 1) entries lives'
-state_dropped base h n oldest late promised entries lives lives' by name xmin s turn has less =
+state_dropped base h n oldest late promised entries lives lives' by name s turn live less =
     let ss : List LiveSnap = live_snaps base.next h in
-    let snap : LiveSnap = record { session = by.session; name = name; xmin = xmin } in
-    let here : Has ss snap = contains_has ss snap has in
+    let found = live_found ss by.session name live in
+    let snap : LiveSnap = record { session = by.session; name = name; xmin = found.0 } in
+    let here : Has ss snap = found.1 in
     let taken : sum_by (λ _. 1) (others by.session name ss) + 1 ≡ sum_by (λ _. 1) ss = one_taken (λ _. 1) ss snap s.live.apart here in
     let before : sum_by (λ _. 1) ss ≡ length ss = sum_ones ss in
     let after : sum_by (λ _. 1) (others by.session name ss) ≡ length (others by.session name ss) = sum_ones (others by.session name ss) in
     let room : length (running h) + length ss ≤ promised = s.room in (
       omega arith,
-      state_quiet base h (events.SnapDrop by name) n oldest oldest late promised (promised - 1) entries lives lives' s tt (has_any (is_snap_of by.session name) ss snap here (own_twin snap)) turn refl s.oldest_to (less ss s.live has) (omega arith),
+      state_quiet base h (events.SnapDrop by name) n oldest oldest late promised (promised - 1) entries lives lives' s tt live turn refl s.oldest_to (less ss s.live) (omega arith),
     )

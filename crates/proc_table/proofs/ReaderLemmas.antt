@@ -1,20 +1,16 @@
 -- What the table tells of one session.
 use Rattle.proc_table.proofs.EntryLists.{any_all}
-use Rattle.proc_table.proofs.LiveLemmas.{live_some, live_none, has_any, own_twin}
 use Rattle.proc_table.specs.Entries.{IsEntryAt}
-use Rattle.proc_table.specs.Lives.{live_xmin}
 use Rattle.proc_table.specs.State.{IsState}
 use Rattle.proc_table.specs.declared.entry.Entry.{Entry}
 use Rattle.proc_table.specs.declared.live.LiveSnapshots.{LiveSnapshots}
-use Rattle.std.proofs.Common.{◌≡◌, ℕ, suc, ◌<◌, List, [], ◌∷◌, length, Some, ap, sym, ◌∙◌, arith, true, false, ◌==◌, Contains, subst, ⊎_elim, Option, None, eqb-true}
+use Rattle.std.proofs.Common.{◌≡◌, ℕ, suc, ◌<◌, List, [], ◌∷◌, length, Some, ap, sym, ◌∙◌, arith, true, false, ◌==◌, Contains, ⊎_elim, Option, None, eqb-true}
 use Rattle.std.proofs.lemmas.Bool.{false≢true, or_cases}
-use Rattle.std.specs.List.{Any, list_any}
+use Rattle.std.specs.List.{Any}
 use Rattle.std.specs.Prelude.{IfSome, IfNone}
 use Rattle.tx_events.proofs.ListSteps.{eqb-refl}
-use Rattle.tx_events.proofs.Membership.{Has, has_contains, contains_has as contains_member}
 use Rattle.tx_events.proofs.RunningFamily.{family_member}
 use Rattle.tx_events.specs.Families.{is_top}
-use Rattle.tx_events.specs.Horizon.{LiveSnap, live_snaps, is_live, is_snap_of}
 use Rattle.tx_events.specs.IdLists.{has}
 use Rattle.tx_events.specs.Running.{open_ids}
 use Rattle.tx_events.specs.Savepoints.{family}
@@ -47,20 +43,3 @@ some_weaker P Q (Some x) f s = f x s
 pub none_weaker : {A P Q : Type 0} (o : Option A) → (P → Q) → IfNone o P → IfNone o Q
 none_weaker None f s = f s
 none_weaker (Some x) f s = s
-
--- what is looked up under a name is live
-pub live_is : (first : ℕ) (h : List Event) (session : ℕ) (name : List ℕ) (o : Option ℕ) → o ≡ live_xmin session name (live_snaps first h) → IfSome o (λ x. Contains (live_snaps first h) (record { session = session; name = name; xmin = x }))
-live_is first h session name o e =
-    subst (λ o. IfSome o (λ x. Contains (live_snaps first h) (record { session = session; name = name; xmin = x }))) (sym e)
-    (some_weaker (λ x. Has (live_snaps first h) (record { session = session; name = name; xmin = x })) (λ x. Contains (live_snaps first h) (record { session = session; name = name; xmin = x })) (live_xmin session name (live_snaps first h))
-    (λ x k. has_contains (live_snaps first h) (record { session = session; name = name; xmin = x }) k)
-    (live_some (live_snaps first h) session name))
-
-pub not_live : (first : ℕ) (h : List Event) (session : ℕ) (name : List ℕ) (o : Option ℕ) → o ≡ live_xmin session name (live_snaps first h) → IfNone o (is_live first session name h ≡ false)
-not_live first h session name o e = subst (λ o. IfNone o (is_live first session name h ≡ false)) (sym e) (live_none (live_snaps first h) session name)
-
--- a live snapshot is found
-pub found_live : (ss : List LiveSnap) (r : LiveSnap) → Contains ss r → live_xmin r.session r.name ss ≡ None → ⊥
-found_live ss r has e =
-    let none : list_any (is_snap_of r.session r.name) ss ≡ false = subst (λ o. IfNone o (list_any (is_snap_of r.session r.name) ss ≡ false)) e (live_none ss r.session r.name) in
-    false≢true (sym none ∙ has_any (is_snap_of r.session r.name) ss r (contains_member ss r has) (own_twin r))

@@ -73,11 +73,5 @@ none_counted [] f = refl
 none_counted (s ∷ ss) f = absurd (let h : 1 ≤ with_xmin (s ∷ ss) s.xmin = has_counted (s ∷ ss) s.xmin (inl refl) in let z = f s.xmin in omega arith)
 
 -- what the order of two numbers tells
-pub le_or_over : (a b : ℕ) → (a ≤ b) ⊎ (b < a)
-le_or_over a b = grind arith
-
 pub lt_from_cmp : (a b : ℕ) → is_lt (nat_cmp a b) ≡ true → a < b
 lt_from_cmp a b f = grind (arith, nat_tests)
-
-pub le_from_cmp : (a b : ℕ) → is_lt (nat_cmp a b) ≡ false → b ≤ a
-le_from_cmp a b f = grind (arith, nat_tests)

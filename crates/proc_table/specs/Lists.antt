@@ -1,5 +1,5 @@
 -- What the entries list in a snapshot.
-use Rattle.std.specs.Prelude.{◌≡◌, ℕ, ◌+◌, Bool, true, false, cond, length, nat_lt, sum_by, List, [], map}
+use Rattle.std.specs.Prelude.{◌≡◌, ℕ, Bool, true, false, nat_lt, List, [], map}
 use Rattle.std.specs.List.{filter, flat_map, list_any}
 use Rattle.std.specs.List.Sorted.{IsPermutation, IsSorted}
 use Rattle.std.specs.Ordering.{nat_cmp}
@@ -26,10 +26,3 @@ pub record AreSorted (ids sorted : List ℕ) : Type 0 where
 pub record AreListed (entries : List Entry) (limit : ℕ) (overflowed : Bool) (listed : List ℕ) : Type 0 where
   pub none : overflowed ≡ true → listed ≡ []
   pub all : overflowed ≡ false → AreSorted (subs_of (entries_below entries limit)) listed
-
--- how many ids an entry lists
-abbrev pub count_of : Bool → Entry → ℕ
-count_of overflowed e = cond overflowed 1 (1 + length e.subs.items)
-
-abbrev pub total_of : Bool → List Entry → ℕ
-total_of overflowed entries = sum_by (count_of overflowed) entries

@@ -1,12 +1,13 @@
 -- The state of the table is that of its events.
-use Rattle.std.specs.Prelude.{◌≡◌, ℕ, ◌+◌, ◌^◌, ◌<◌, ◌≤◌, ◌==◌, false, List, [], length}
+use Rattle.std.specs.Prelude.{◌≡◌, ℕ, ◌+◌, ◌^◌, ◌<◌, ◌≤◌, ◌==◌, false, List, [], length, Option, IfSome}
 use Rattle.std.specs.List.{AllByRecursion, list_any}
 use Rattle.tx_events.specs.declared.event.Event.{Event}
 use Rattle.tx_events.specs.declared.record.Counters.{Counters}
 use Rattle.tx_events.specs.Base.{IsBase}
 use Rattle.tx_events.specs.History.{IsLegal, next_given}
 use Rattle.tx_events.specs.Running.{running, running_tops, open_ids}
-use Rattle.tx_events.specs.Snapshots.{latest}
+use Rattle.tx_events.specs.Snapshots.{latest, snapshot_data}
+use Rattle.tx_events.specs.declared.snapshot.SnapData.{SnapData}
 use Rattle.tx_events.specs.Horizon.{oldest_id, live_snaps}
 use Rattle.proc_table.specs.declared.entry.Entry.{Entry}
 use Rattle.proc_table.specs.declared.live.LiveSnapshots.{LiveSnapshots}
@@ -28,3 +29,7 @@ pub record IsState (base : Counters) (h : List Event) (next oldest late promised
   pub room : length (running h) + length (live_snaps base.next h) ≤ promised
   pub next_to : next < 2 ^ 63
   pub oldest_to : oldest < 2 ^ 63
+
+-- what is kept of a snapshot's contents, if anything, is what a snapshot holds that is taken now
+abbrev pub IsOfNow : ℕ → List Event → Option SnapData → Type 0
+IsOfNow first h contents = IfSome contents (λ d. d ≡ snapshot_data first h)

@@ -15,7 +15,7 @@ use Rattle.tx_events.specs.Families.{is_top}
 use Rattle.tx_events.specs.Running.{running, open_ids}
 use Rattle.xid_order.specs.Limits.{stop_limit, warn_limit}
 use Rattle.tx_events.specs.Snapshots.{snapshot_data}
-use Rattle.tx_events.specs.Horizon.{oldest_id, oldest_xmin, live_snaps}
+use Rattle.tx_events.specs.Horizon.{oldest_id, oldest_xmin}
 use Rattle.tx_events.specs.IdLists.{has}
 use Rattle.tx_events.specs.declared.snapshot.SnapData.{SnapData}
 use Rattle.proc_table.specs.declared.answers.Given.{Given}
@@ -55,10 +55,6 @@ stop_of t = stop_limit (oldest_of t)
 -- what a snapshot holds that is taken now
 abbrev pub data_at : Table → SnapData
 data_at t = snapshot_data t.base.next t.events
-
--- a live snapshot of this session, name and xmin
-abbrev pub IsLiveAt : Table → ℕ → List ℕ → ℕ → Type 0
-IsLiveAt t session name xmin = Contains (live_snaps t.base.next t.events) (record { session = session; name = name; xmin = xmin })
 
 -- an open id of the session that is a top
 abbrev pub IsOpenTop : Table → ℕ → ℕ → Type 0

@@ -4,7 +4,7 @@ ghost use Rattle.std.specs.List.{All, Any, filter, fold, list_any};
 ghost use Rattle.tx_events.specs.IdLists.{has};
 ghost use Rattle.proc_table.specs.declared.entry.Entry.{Entry};
 ghost use Rattle.proc_table.specs.Entries.{IsSame, IsAdded, IsTaken, IsEach, HasRoomFor, SubsAscend, is_of_entry};
-ghost use Rattle.proc_table.specs.Lists.{entries_below, tops_of, subs_of, some_overflowed, total_of, AreListed};
+ghost use Rattle.proc_table.specs.Lists.{entries_below, tops_of, subs_of, some_overflowed, AreListed};
 
 use crate::entry::Entry;
 use std::alloc::Global;
@@ -140,20 +140,6 @@ pub fn listed_subs(
     let mut subs = subs_below(alloc, entries, limit)?;
     subs.sort()?;
     Ok(IdList::of(subs))
-}
-
-/// How many ids the entries with a top below the limit list: their tops, and their subids unless one has overflowed.
-pub fn count_listed(entries: &[Entry], limit: FullXid, overflowed: bool) -> usize
-    requires { total_of overflowed (entries_below entries.now limit) < 2 ^ 64 }
-    ensures { result ≡ total_of overflowed (entries_below entries.now limit) }
-{
-    let mut count = 0;
-    for entry in entries {
-        if entry.top < limit {
-            count += entry.count(overflowed);
-        }
-    }
-    count
 }
 
 /// The subids of the entries with a top below the limit, entry by entry.

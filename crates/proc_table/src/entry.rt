@@ -3,7 +3,6 @@ ghost use Rattle.std.specs.Prelude.{◌≡◌, ◌++◌, ◌==◌, ◌^◌, ◌|
 ghost use Rattle.std.specs.List.{filter, fold};
 ghost use Rattle.std.specs.Vec.{vec_len, vec_capacity};
 ghost use Rattle.tx_events.specs.IdLists.{has, Ascending};
-ghost use Rattle.proc_table.specs.Lists.{count_of};
 ghost use Rattle.proc_table.specs.Entries.{IsSame, IsAdded, IsTaken, HasRoomFor};
 
 use snap_core::is_listed;
@@ -79,14 +78,6 @@ impl Entry {
         if self.session == session {
             without(&mut self.subs, ids);
         }
-    }
-
-    /// How many ids it lists.
-    pub fn count(&self, overflowed: bool) -> usize
-        requires { count_of overflowed self.now < 2 ^ 64 }
-        ensures { result ≡ count_of overflowed self.now }
-    {
-        if overflowed { 1 } else { 1 + self.subs.len() }
     }
 
     /// Whether the id is the top-level one or among the subids.

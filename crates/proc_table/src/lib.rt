@@ -4,6 +4,7 @@
 #![tactic(auto)]
 
 mod answers;
+mod contents;
 mod entries;
 mod entry;
 mod live;

@@ -1,5 +1,5 @@
 //! The live snapshots, which hold back the oldest xmin.
-ghost use Rattle.std.specs.Prelude.{◌≡◌, ℕ, ◌+◌, ◌^◌, ◌<◌, List, [], ◌∷◌, ◌++◌, Contains, Some, None, cond, length, map, min, false, IfSome, IfNone, IfOk, OnOk, OnErr, option_map};
+ghost use Rattle.std.specs.Prelude.{◌≡◌, ℕ, ◌+◌, ◌^◌, ◌<◌, List, [], ◌∷◌, ◌++◌, Some, None, cond, length, map, min, false, IfSome, IfNone, IfOk, OnOk, OnErr, option_map};
 ghost use Rattle.std.specs.List.{fold, list_any};
 ghost use Rattle.std.specs.BTreeMap.{get};
 ghost use Rattle.std.specs.Ordering.{nat_cmp};
@@ -70,17 +70,21 @@ impl LiveSnapshots {
         }
     }
 
-    /// Takes out the snapshot of this session, name and xmin, and gives its name back. Takes no memory.
-    pub fn take_out(&mut self, session: u32, name: &Name, xmin: FullXid) -> Option<Name>
+    /// Takes out the session's snapshot of this name, and gives its name back. Takes no memory.
+    pub fn take_out(&mut self, session: u32, name: &Name) -> Option<Name>
         requires within { session < length self.old.sessions.items }
         ensures name { IfSome result (λ n. n ≡ name.now) }
-        ensures left { IfSome result (λ _. (snaps : List LiveSnap) → HoldsLive snaps self.old → Contains snaps (record { session = session; name = name.now; xmin = xmin }) → HoldsLive (others session name.now snaps) self.new) }
+        ensures left { IfSome result (λ _. (snaps : List LiveSnap) → HoldsLive snaps self.old → HoldsLive (others session name.now snaps) self.new) }
         ensures none { IfNone result ((snaps : List LiveSnap) → HoldsLive snaps self.old → live_xmin session name.now snaps ≡ None) }
         ensures sessions { length self.new.sessions.items ≡ length self.old.sessions.items }
     {
-        let name = take_name(&mut self.sessions[session as usize], name)?;
-        count_less(&mut self.xmins, xmin);
-        Some(name)
+        match take_name(&mut self.sessions[session as usize], name) {
+            Some((name, xmin)) => {
+                count_less(&mut self.xmins, xmin);
+                Some(name)
+            }
+            None => None,
+        }
     }
 
     /// The least of an id and the xmins of all.
@@ -113,14 +117,16 @@ fn put_name(names: &mut NamedXmins, name: Vec<u8>, xmin: FullXid) -> Result<(), 
     Ok(())
 }
 
-fn take_name(names: &mut NamedXmins, name: &Name) -> Option<Name>
-    ensures name { IfSome result (λ n. n ≡ name.now) }
+/// Takes a name out, and gives it back with its xmin.
+fn take_name(names: &mut NamedXmins, name: &Name) -> Option<(Name, FullXid)>
+    ensures name { IfSome result (λ p. p.0 ≡ name.now) }
+    ensures xmin { IfSome result (λ p. xmin_under name.now names.old ≡ Some p.1) }
     ensures left { IfSome result (λ _. (n : List ℕ) → xmin_under n names.new ≡ cond (same_name name.now n) None (xmin_under n names.old)) }
     ensures none { IfNone result (xmin_under name.now names.old ≡ None) }
     ensures same { IfNone result ((n : List ℕ) → xmin_under n names.new ≡ xmin_under n names.old) }
 {
     match names.remove_entry(name.items()) {
-        Some(_entry) => Some(name.same()),
+        Some((_key, xmin)) => Some((name.same(), xmin)),
         None => None,
     }
 }

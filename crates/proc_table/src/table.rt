@@ -1,6 +1,6 @@
 //! The table and its calls, each one step under the table's lock. A call that may want memory takes it before anything
 //! is changed; the calls that close ids take none, since their events' room was taken when the ids were given.
-ghost use Rattle.std.specs.Prelude.{◌≡◌, ℕ, ◌+◌, ◌^◌, ◌<◌, ◌≤◌, List, [], ◌∷◌, ◌++◌, Contains, true, false, length, max, IfOk, IfSome, IfNone};
+ghost use Rattle.std.specs.Prelude.{◌≡◌, ℕ, ◌+◌, ◌^◌, ◌<◌, ◌≤◌, List, [], ◌∷◌, ◌++◌, Contains, true, false, length, max, IfOk, OnOk, OnErr, IfSome, IfNone};
 ghost use Rattle.std.specs.List.{filter};
 ghost use Rattle.std.specs.Vec.{vec_len, vec_capacity};
 ghost use Rattle.tx_events.specs.declared.event.Event.TheVariants as events;
@@ -13,12 +13,13 @@ ghost use Rattle.tx_events.specs.Savepoints.{is_inside};
 ghost use Rattle.tx_events.specs.Snapshots.{snapshot_xmax};
 ghost use Rattle.tx_events.specs.XactEnds.{end_event};
 ghost use Rattle.xid_order.specs.Ids.{IsFullId, next_id};
-ghost use Rattle.proc_table.specs.Table.{Table, InTurn, Gives, Adds, Takes, Raises, Asks, IsLiveAt, IsOpenTop, data_at, next_of, oldest_of, xmin_of, page_of};
+ghost use Rattle.proc_table.specs.Table.{Table, InTurn, Gives, Adds, Takes, Raises, Asks, IsOpenTop, data_at, next_of, oldest_of, xmin_of, page_of};
 
 use crate::answers::{Asked, Given};
+use crate::contents::copy_of;
 use crate::entries::{
-    add_id, count_listed, drop_top, has_overflow_below, is_running, last_given, least_top,
-    listed_subs, make_sub_room, take_ids, top_of, tops_below,
+    add_id, drop_top, has_overflow_below, is_running, last_given, least_top, listed_subs,
+    make_sub_room, take_ids, top_of, tops_below,
 };
 use crate::entry::{Entry, greatest};
 use crate::live::LiveSnapshots;
@@ -52,6 +53,10 @@ pub struct ProcTable {
     /// One for each running transaction, ascending by top. PostgreSQL's array has one for each backend (`ProcArrayAdd`).
     entries: Vec<Entry>,
     live: LiveSnapshots,
+    /// What a snapshot holds that is taken now, where it was computed since the last end, undo or sub event.
+    contents: Option<SnapData>,
+    /// How often that was computed. Only tests read it.
+    computations: u64,
     /// With room for the promised ones.
     events: Vec<Event>,
 }
@@ -60,13 +65,13 @@ impl Model for ProcTable {
     ghost use Rattle.std.specs.Prelude.{◌≡◌, ◌+◌, ◌≤◌, length};
     ghost use Rattle.std.specs.Vec.{vec_len, vec_capacity};
     ghost use Rattle.proc_table.specs.Table.{Table};
-    ghost use Rattle.proc_table.specs.State.{IsState};
+    ghost use Rattle.proc_table.specs.State.{IsState, IsOfNow};
 
     ghost Value = { Table };
 
     ghost view = { λ t. record { base = t.base; sessions = t.sessions; initialised_up_to = t.initialised_up_to; events = t.events.items } };
 
-    ghost invariant = { λ t. IsState t.base t.events.items t.next t.oldest t.latest_completed t.owed_events t.entries.items t.live × (vec_len t.events + t.owed_events ≤ vec_capacity t.events) × (length t.live.sessions.items ≡ t.sessions) };
+    ghost invariant = { λ t. IsState t.base t.events.items t.next t.oldest t.latest_completed t.owed_events t.entries.items t.live × (vec_len t.events + t.owed_events ≤ vec_capacity t.events) × (length t.live.sessions.items ≡ t.sessions) × IsOfNow t.base.next t.events.items t.contents };
 }
 
 /// The page on which the id's parent stands.
@@ -94,6 +99,8 @@ impl ProcTable {
             owed_events: 0,
             entries: Vec::with_capacity(alloc, sessions as usize)?,
             live: LiveSnapshots::new(alloc, sessions)?,
+            contents: None,
+            computations: 0,
             events: Vec::new(alloc),
         })
     }
@@ -138,6 +145,7 @@ impl ProcTable {
         let warn = check_id(self.oldest, id)?;
         make_room(&mut self.events, self.owed_events, 2)?;
         make_sub_room(&mut self.entries, by.session)?;
+        self.contents = None;
         add_id(&mut self.entries, by.session, id);
         self.events.push_reserved(Event::Sub { by, parent, id });
         self.next = id.advance();
@@ -164,6 +172,7 @@ impl ProcTable {
         ensures { Adds self.old self.new (events.Undo by id) }
     {
         self.latest_completed = greatest(self.latest_completed, ids);
+        self.contents = None;
         take_ids(&mut self.entries, by.session, ids);
         self.events.push_reserved(Event::Undo { by, id });
         self.owed_events -= 1;
@@ -183,6 +192,7 @@ impl ProcTable {
             None => unreachable!(),
         };
         self.latest_completed = greatest(self.latest_completed, &[last]);
+        self.contents = None;
         drop_top(&mut self.entries, top);
         self.events.push_reserved(how.event(by, top));
         self.owed_events -= 1;
@@ -197,19 +207,54 @@ impl ProcTable {
         ensures { Takes self.old self.new (events.Snap by name.now) result }
     {
         let taken = self.snapshot_data()?;
+        self.register(by, name, taken.xmin)?;
+        Ok(taken)
+    }
+
+    /// Registers the xmin of a snapshot that is taken now.
+    fn register(&mut self, by: By, name: &Name, xmin: FullXid) -> Result<(), Memory>
+        requires session { by.session < self.old.sessions }
+        requires turn { InTurn by self.old.events }
+        requires free { is_live self.old.base.next by.session name.now self.old.events ≡ false }
+        requires xmin { xmin ≡ (data_at self.old).xmin }
+        ensures ok { OnOk result (Adds self.old self.new (events.Snap by name.now)) }
+        ensures err { OnErr result (self.new ≡ self.old) }
+    {
         let event = Event::Snap {
             by,
             name: name.copy()?,
         };
         make_room(&mut self.events, self.owed_events, 2)?;
-        self.live.insert(by.session, name, taken.xmin)?;
+        self.live.insert(by.session, name, xmin)?;
         self.events.push_reserved(event);
         self.owed_events += 1;
-        Ok(taken)
+        Ok(())
     }
 
-    /// What a snapshot holds that is taken now.
-    pub fn snapshot_data(&self) -> Result<SnapData, Memory>
+    /// What a snapshot holds that is taken now. It is computed once, and copied until an end, an undo or a sub event
+    /// changes it (`GetSnapshotDataReuse`).
+    pub fn snapshot_data(&mut self) -> Result<SnapData, Memory>
+        ensures data { IfOk result (λ s. s ≡ data_at self.old) }
+        ensures same { self.new ≡ self.old }
+    {
+        if let Some(contents) = &self.contents {
+            return copy_of(*self.events.allocator(), contents);
+        }
+        let contents = self.compute()?;
+        let copy = copy_of(*self.events.allocator(), &contents)?;
+        self.contents = Some(contents);
+        self.computations = self.computations.wrapping_add(1);
+        Ok(copy)
+    }
+
+    /// How often what a snapshot holds was computed.
+    #[cfg(test)]
+    pub(crate) fn computations(&self) -> u64 {
+        self.computations
+    }
+
+    /// What a snapshot holds that is taken now, from the running transactions.
+    fn compute(&self) -> Result<SnapData, Memory>
         ensures { IfOk result (λ s. s ≡ data_at self.now) }
     {
         let alloc = *self.events.allocator();
@@ -224,23 +269,14 @@ impl ProcTable {
         })
     }
 
-    /// How many ids a snapshot lists that is taken now: so much room its copy needs.
-    pub fn listed(&self) -> usize
-        ensures { result ≡ length (data_at self.now).xip + length (data_at self.now).subxip }
-    {
-        let xmax = self.xmax();
-        let overflowed = has_overflow_below(&self.entries, xmax);
-        count_listed(&self.entries, xmax, overflowed)
-    }
-
-    /// Drops the session's snapshot of this name, which has this xmin. Takes no memory.
-    pub fn drop_snapshot(&mut self, by: By, name: &Name, xmin: FullXid)
+    /// Drops the session's live snapshot of this name. Takes no memory.
+    pub fn drop_snapshot(&mut self, by: By, name: &Name)
         requires session { by.session < self.old.sessions }
         requires turn { InTurn by self.old.events }
-        requires registered { IsLiveAt self.old by.session name.now xmin }
+        requires registered { is_live self.old.base.next by.session name.now self.old.events ≡ true }
         ensures { Adds self.old self.new (events.SnapDrop by name.now) }
     {
-        let name = match self.live.take_out(by.session, name, xmin) {
+        let name = match self.live.take_out(by.session, name) {
             Some(name) => name,
             None => unreachable!(),
         };
@@ -296,12 +332,11 @@ impl ProcTable {
         top_of(&self.entries, session)
     }
 
-    /// The xmin of the session's live snapshot of this name. None where it has none.
-    pub fn live_xmin(&self, session: u32, name: &Name) -> Option<FullXid>
-        ensures some { IfSome result (λ x. IsLiveAt self.now session name.now x) }
-        ensures none { IfNone result (is_live self.now.base.next session name.now self.now.events ≡ false) }
+    /// Whether the session has a live snapshot of this name.
+    pub fn is_live(&self, session: u32, name: &Name) -> bool
+        ensures { result ≡ is_live self.now.base.next session name.now self.now.events }
     {
-        self.live.xmin_of(session, name)
+        self.live.xmin_of(session, name).is_some()
     }
 
     /// The id that is given next.

@@ -62,7 +62,6 @@ fn snapshot_overflows_at_65_subids(rt: HostRuntime) {
     }
     assert!(rt; driver.write(2) == gives(&rt, 68, false));
     driver.end(2, XactEnd::Commit);
-    assert_eq!(rt; driver.table.listed(), 65);
     let snap = driver.snap(&rt, 1, &name(b's')).expect(&rt, "memory");
     assert_limits(&rt, &snap, 3, 69, false);
     assert_ids(&rt, &snap.xip, &[3]);
@@ -73,7 +72,6 @@ fn snapshot_overflows_at_65_subids(rt: HostRuntime) {
     assert!(rt; driver.write(0) == gives(&rt, 69, false));
     assert!(rt; driver.write(2) == gives(&rt, 70, false));
     driver.end(2, XactEnd::Commit);
-    assert_eq!(rt; driver.table.listed(), 1);
     let snap = driver.snap(&rt, 1, &name(b't')).expect(&rt, "memory");
     assert_limits(&rt, &snap, 3, 71, true);
     assert_ids(&rt, &snap.xip, &[3]);
@@ -148,4 +146,40 @@ fn the_oldest_id_rises_to_the_oldest_xmin(rt: HostRuntime) {
     assert!(rt; driver.raise(1, id(&rt, 11)) == Err(Refusal::TooNew { limit: id(&rt, 10) }));
     assert!(rt; driver.raise(1, id(&rt, 10)) == Ok(()));
     assert_eq!(rt; driver.table.oldest().number(), 10);
+}
+
+/// Takes and drops a snapshot so often, and answers how often what it holds was computed by then.
+fn computed_after<R: Abort + AllocGlobal>(rt: &R, driver: &mut Driver, snaps: u32) -> u64 {
+    let name = name(b's');
+    for _ in 0..snaps {
+        assert!(rt; driver.snap(rt, 1, &name).is_ok());
+        driver.drop_snap(rt, 1, &name);
+    }
+    driver.table.computations()
+}
+
+#[test]
+fn snapshots_share_a_computation(rt: HostRuntime) {
+    let mut driver = Driver::new(&rt, 3, 3);
+    assert!(rt; driver.write(0) == gives(&rt, 3, false));
+    assert_eq!(rt; computed_after(&rt, &mut driver, 10), 1);
+    // A top, a question and an announcement leave it.
+    assert!(rt; driver.write(2) == gives(&rt, 4, false));
+    assert!(rt; driver.ask(&rt, 1, id(&rt, 3)).is_ok());
+    assert!(rt; driver.raise(1, id(&rt, 3)) == Ok(()));
+    assert_eq!(rt; computed_after(&rt, &mut driver, 10), 1);
+    // A subid, and an end, change it.
+    assert!(rt; driver.write(0) == gives(&rt, 5, false));
+    assert_eq!(rt; computed_after(&rt, &mut driver, 10), 2);
+    driver.end(2, XactEnd::Abort);
+    assert_eq!(rt; computed_after(&rt, &mut driver, 10), 3);
+    let snap = driver.snap(&rt, 1, &name(b't')).expect(&rt, "memory");
+    assert_limits(&rt, &snap, 3, 5, false);
+    assert_ids(&rt, &snap.xip, &[3]);
+    assert_ids(&rt, &snap.subxip, &[5]);
+    driver.end(0, XactEnd::Commit);
+    let snap = driver.snap(&rt, 1, &name(b'u')).expect(&rt, "memory");
+    assert_limits(&rt, &snap, 6, 6, false);
+    assert_ids(&rt, &snap.xip, &[]);
+    assert_eq!(rt; driver.table.computations(), 4);
 }

@@ -1,7 +1,7 @@
 -- How a session stands, after it took or dropped a snapshot.
 use Rattle.std.proofs.Math.Seq.{take-append_seam}
-use Rattle.tx_events.proofs.Names.{same_name_refl, same_name_equal}
-use Rattle.std.proofs.Common.{◌≡◌, ℕ, List, [], ◌∷◌, ◌++◌, length, take, refl, ap, sym, ◌∙◌, subst, Bool, true, false, not, cond, ◌==◌, ◌&&◌, ◌||◌, reverse, nat_le, Contains}
+use Rattle.tx_events.proofs.Names.{same_name_equal}
+use Rattle.std.proofs.Common.{◌≡◌, ℕ, List, [], ◌∷◌, ◌++◌, length, take, refl, ap, sym, ◌∙◌, subst, Bool, true, false, not, cond, ◌==◌, ◌&&◌, ◌||◌, reverse, nat_le}
 use Rattle.std.specs.List.{filter, AllByRecursion, list_any}
 use Rattle.std.proofs.lemmas.Bool.{false≢true}
 use Rattle.tx_events.specs.declared.event.By.{By}
@@ -13,7 +13,6 @@ use Rattle.tx_events.specs.Savepoints.{is_inside}
 use Rattle.tx_events.specs.Snapshots.{snapshot_data}
 use Rattle.tx_events.proofs.HorizonSteps.{live_push}
 use Rattle.tx_events.proofs.ListSteps.{eqb-refl, list_any-push, all_push, all_filter, all_weaker}
-use Rattle.tx_events.proofs.Membership.{contains_has, any_has}
 use Rattle.tx_events.proofs.Lineages.{top_kept, enclosing_kept}
 use Rattle.tx_events.proofs.PlaceLemmas.{last_at}
 use Rattle.tx_events.proofs.QuietGrowth.{quiet_open_ids, quiet_family, IsQuiet}
@@ -127,9 +126,3 @@ stood_dropped base h by name opened named unnamed registered s =
     (λ other. live_dropped base.next h by name other registered s.live)
     (all_filter (IsRegistered base (h ++ e ∷ []) by.session) (λ k. not (same_name k.name name)) registered (kept_grows base h (e ∷ []) by.session registered s.snaps))
     s
-
--- a snapshot that is registered is live
-pub live_here : (first : ℕ) (h : List Event) (session : ℕ) (name : List ℕ) (xmin : ℕ) → Contains (live_snaps first h) (record { session = session; name = name; xmin = xmin }) → is_live first session name h ≡ true
-live_here first h session name xmin k =
-    any_has (is_snap_of session name) (live_snaps first h) (record { session = session; name = name; xmin = xmin }) (contains_has (live_snaps first h) (record { session = session; name = name; xmin = xmin }) k)
-    (ap (λ b. b && same_name name name) (eqb-refl session) ∙ same_name_refl name)

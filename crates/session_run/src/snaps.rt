@@ -9,7 +9,7 @@ ghost use Rattle.session_run.specs.Stands.{IsRegistered};
 
 use crate::session::{RegisteredSnapshot, Session};
 use crate::shared::Shared;
-use tx_model::{By, Copied, Memory, Name, Refusal, Reply};
+use tx_model::{By, Memory, Name, Refusal, Reply};
 use xid_order::{Xid, near};
 
 /// A session registers at most so many snapshots.
@@ -55,12 +55,11 @@ fn take(shared: &mut Shared, by: By, session: &mut Session, name: &Name) -> Resu
         Runs shared.old shared.new by session.old session.new (commands.Snap name.now) reply) }
 {
     session.registered.reserve(1)?;
-    let copy = name.copy()?;
     let taken = shared.table.snapshot_data()?;
     let place = shared.table.events().len();
     let snapshot = shared.table.snapshot(by, name)?;
     session.registered.push_reserved(RegisteredSnapshot {
-        name: copy,
+        name: name.same(),
         command: by.command,
         place,
         snapshot,
@@ -105,15 +104,14 @@ pub fn drop_snap(shared: &mut Shared, by: By, session: &mut Session, name: &Name
     requires ready { Ready shared.old by session.old }
     ensures { Runs shared.old shared.new by session.old session.new (commands.DropSnap name.now) result }
 {
-    match shared.table.live_xmin(by.session, name) {
-        Some(xmin) => {
-            shared.table.drop_snapshot(by, name, xmin);
-            forget(&mut session.registered, name.items());
-            Reply::Done
-        }
-        None => Reply::Refused {
+    if shared.table.is_live(by.session, name) {
+        shared.table.drop_snapshot(by, name);
+        forget(&mut session.registered, name.items());
+        Reply::Done
+    } else {
+        Reply::Refused {
             refusal: Refusal::NoSnapshot,
-        },
+        }
     }
 }
 

@@ -92,10 +92,10 @@ impl Driver {
         requires { session < 3 }
     {
         let by = self.by(session);
-        match self.table.live_xmin(session, name) {
-            Some(_) => panic!(rt; "the name is in use"),
-            None => self.table.snapshot(by, name),
+        if self.table.is_live(session, name) {
+            panic!(rt; "the name is in use");
         }
+        self.table.snapshot(by, name)
     }
 
     /// The drop of a live snapshot.
@@ -103,10 +103,10 @@ impl Driver {
         requires { session < 3 }
     {
         let by = self.by(session);
-        match self.table.live_xmin(session, name) {
-            Some(xmin) => self.table.drop_snapshot(by, name, xmin),
-            None => panic!(rt; "there is no such snapshot"),
+        if !self.table.is_live(session, name) {
+            panic!(rt; "there is no such snapshot");
         }
+        self.table.drop_snapshot(by, name);
     }
 
     pub fn raise(&mut self, session: u32, oldest: FullXid) -> Result<(), Refusal>

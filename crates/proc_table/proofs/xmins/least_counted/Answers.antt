@@ -2,7 +2,8 @@ use Rattle.std.proofs.Common.{◌≡◌, map, min, ◌<◌, ◌≤◌, sym, ◌�
 use Rattle.std.specs.List.{fold}
 use Rattle.tx_events.specs.Horizon.{LiveSnap}
 use Rattle.proc_table.specs.Lives.{with_xmin}
-use Rattle.proc_table.proofs.XminTallies.{none_counted, tally_least, lt_from_cmp, le_from_cmp}
+use Rattle.std.proofs.lemmas.Map.Keys.{ge_from_not_lt}
+use Rattle.proc_table.proofs.XminTallies.{none_counted, tally_least, lt_from_cmp}
 use Rattle.proc_table.proofs.xmins.least_counted.Goals as goal
 
 pub returns-then-lt : goal.returns-then-lt
@@ -15,7 +16,7 @@ returns-then-lt c = λ ss t.
 
 pub returns-else-lt : goal.returns-else-lt
 returns-else-lt c = λ ss t.
-    let from : c.args.from ≤ c.in-Some.xmin = le_from_cmp _ _ (sym c.lt.ensures ∙ c.if-lt.false) in
+    let from : c.args.from ≤ c.in-Some.xmin = ge_from_not_lt _ _ (sym c.lt.ensures ∙ c.if-lt.false) in
     let is = c.in-Some.ensures (with_xmin ss) t in
     let least : fold min c.args.from (map (λ (s : LiveSnap). s.xmin) ss) ≡ min c.args.from c.in-Some.xmin = tally_least ss c.in-Some.xmin c.args.from is.0 is.1 in
     let one : min c.args.from c.in-Some.xmin ≡ c.args.from = omega arith in

@@ -8,16 +8,16 @@ use Rattle.session_run.specs.Stands.{stance_of}
 use Rattle.session_run.proofs.ActsLemmas.{acts_idle, acts_dropped, snap_missing, none_found}
 use Rattle.session_run.proofs.RunsLemmas.{runs_still}
 use Rattle.session_run.proofs.SoundLemmas.{sound_still}
-use Rattle.session_run.proofs.RegisteredLemmas.{stood_dropped, live_here}
+use Rattle.session_run.proofs.RegisteredLemmas.{stood_dropped}
 use Rattle.session_run.proofs.StandsLemmas.{stood, stands}
 use Rattle.session_run.proofs.snaps.drop_snap.Goals as goal
 
-pub returns-in-Some : goal.returns-in-Some
-returns-in-Some c =
+pub returns-then-is_live : goal.returns-then-is_live
+returns-then-is_live c =
     let w = c.args.shared.now in
     let s = c.args.session.now in
     let r = c.requires.ready in
-    let live : is_live w.table.base.next c.args.by.session c.args.name.now w.table.events ≡ true = live_here w.table.base.next w.table.events c.args.by.session c.args.name.now c.in-Some.xmin c.in-Some.ensures.some in
+    let live : is_live w.table.base.next c.args.by.session c.args.name.now w.table.events ≡ true = sym c.is_live.ensures ∙ c.if-is_live.true in
     record {
       acts = rw (c.drop_snapshot.ensures.events, c.forget.ensures, c.items.ensures)
           (acts_dropped w.table.base c.args.by w.table.events (stance_of s).levels s.registered.items c.args.name.now (sym (r.stands.live c.args.name.now) ∙ live));
@@ -30,11 +30,11 @@ returns-in-Some c =
       count = refl;
     }
 
-pub returns-in-None : goal.returns-in-None
-returns-in-None c =
+pub returns-else-is_live : goal.returns-else-is_live
+returns-else-is_live c =
     let w = c.args.shared.now in
     let s = c.args.session.now in
     let r = c.requires.ready in
     runs_still w c.args.by s _ _ r
     (acts_idle w.table.base c.args.by (stance_of s) (stance_of s) (commands.DropSnap c.args.name.now) (replies.Refused refusals.NoSnapshot) w.table.events refl
-    (snap_missing c.args.name.now (stance_of s).levels s.registered.items (none_found c.args.name.now s.registered.items (sym (r.stands.live c.args.name.now) ∙ c.in-None.ensures.none))) refl)
+    (snap_missing c.args.name.now (stance_of s).levels s.registered.items (none_found c.args.name.now s.registered.items (sym (r.stands.live c.args.name.now) ∙ (sym c.is_live.ensures ∙ c.if-is_live.false)))) refl)

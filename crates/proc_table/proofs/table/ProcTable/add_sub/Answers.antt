@@ -12,6 +12,7 @@ invariant_of-self-in_err-make_sub_room c = (
   rw c.in_ok-make_room.ensures.items (state_same _ _ _ _ _ _ _ _ _ c.self.invariant.0 (zip_from_each _ _ _ c.in_err-make_sub_room.ensures.same)),
   omega (arith, c.in_ok-make_room.ensures.len, c.in_ok-make_room.ensures.capacity, c.self.invariant.1),
   c.self.invariant.2,
+  rw c.in_ok-make_room.ensures.items c.self.invariant.3,
 )
 
 pub advance-self-inside-requires-clause-from : goal.advance-self-inside-requires-clause-from
@@ -28,4 +29,5 @@ invariant_of-self-2 c =
           (state_same _ _ _ _ _ _ _ _ _ c.self.invariant.0 (zip_from_each _ _ _ c.in_ok-make_sub_room.ensures.same)) below turn parent (zip_from_each _ _ _ c.add_id.ensures)),
       omega (arith, c.push_reserved.ensures.len, c.push_reserved.ensures.capacity, c.in_ok-make_room.ensures.room),
       c.self.invariant.2,
+      tt,
     )

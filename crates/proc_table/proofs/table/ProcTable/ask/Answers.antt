@@ -5,6 +5,8 @@ use Rattle.tx_events.specs.Running.{running}
 use Rattle.proc_table.specs.Entries.{SubsAscend, is_of_entry}
 use Rattle.proc_table.specs.Table.{InTurn}
 use Rattle.proc_table.proofs.AskLemmas.{asked_is, subs_ascend}
+use Rattle.proc_table.proofs.KeptContents.{of_now_quiet}
+use Rattle.tx_events.specs.declared.event.Event.TheVariants as events
 use Rattle.proc_table.proofs.QuietStates.{state_asked}
 use Rattle.proc_table.proofs.table.ProcTable.ask.Goals as goal
 
@@ -18,6 +20,7 @@ invariant_of-self-2 c =
       rw (c.push_reserved.ensures.items, c.in_ok-make_room.ensures.items) (state_asked _ _ _ _ _ _ _ _ c.args.by c.args.x c.self.invariant.0 turn c.requires.full),
       omega (arith, c.push_reserved.ensures.len, c.push_reserved.ensures.capacity, c.in_ok-make_room.ensures.room),
       c.self.invariant.2,
+      rw (c.push_reserved.ensures.items, c.in_ok-make_room.ensures.items) (of_now_quiet c.self.inside.base.next c.self.inside.events.items (events.Ask c.args.by c.args.x) c.self.inside.contents tt c.self.invariant.3),
     )
 
 pub returns : goal.returns

@@ -2,6 +2,7 @@ use Rattle.std.proofs.Common.{◌≡◌, refl, sym, ◌∙◌, subst, ap, arith,
 use Rattle.xid_order.specs.Limits.{stop_limit}
 use Rattle.tx_events.specs.Running.{open_ids}
 use Rattle.proc_table.specs.Table.{InTurn}
+use Rattle.proc_table.proofs.KeptContents.{of_now_id}
 use Rattle.proc_table.proofs.States.{state_id}
 use Rattle.proc_table.proofs.StateBounds.{next_from}
 use Rattle.proc_table.proofs.table.ProcTable.assign.Goals as goal
@@ -19,4 +20,5 @@ invariant_of-self-2 c =
           (state_id _ _ c.args.by c.self.inside.next _ _ _ _ _ _ c.self.invariant.0 below turn none c.of_top.ensures.session c.of_top.ensures.top c.of_top.ensures.last c.of_top.ensures.subs c.of_top.ensures.overflowed),
       omega (arith, c.push_reserved-2.ensures.len, c.push_reserved-2.ensures.capacity, c.in_ok-make_room.ensures.room),
       c.self.invariant.2,
+      rw (c.push_reserved-2.ensures.items, c.in_ok-make_room.ensures.items) (of_now_id _ _ c.args.by _ _ _ _ _ _ c.self.inside.contents c.self.invariant.0 c.self.invariant.3),
     )

@@ -29,4 +29,5 @@ invariant_of-self c =
           (state_ended _ _ c.args.by c.args.top c.in-Some.last c.self.inside.next _ _ _ c.args.how _ _ c.self.invariant.0 turn top_open top_top one),
       omega (arith, c.push_reserved.ensures.len, c.push_reserved.ensures.capacity),
       c.self.invariant.2,
+      tt,
     )

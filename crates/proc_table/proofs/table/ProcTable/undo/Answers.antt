@@ -22,4 +22,5 @@ invariant_of-self c =
           (state_undo _ _ c.args.by c.args.id c.self.inside.next _ _ _ c.args.ids.now _ _ _ c.self.invariant.0 (id_open, id_sub) turn ids (zip_from_each _ _ _ c.take_ids.ensures) some),
       omega (arith, c.push_reserved.ensures.len, c.push_reserved.ensures.capacity),
       c.self.invariant.2,
+      tt,
     )

@@ -4,7 +4,7 @@ use Rattle.std.specs.List.{fold}
 use Rattle.proc_table.specs.Lists.{tops_of, entries_below, some_overflowed, AreListed}
 use Rattle.tx_events.specs.Snapshots.{snapshot_xmax}
 use Rattle.proc_table.proofs.SnapshotLemmas.{taken_is}
-use Rattle.proc_table.proofs.table.ProcTable.snapshot_data.Goals as goal
+use Rattle.proc_table.proofs.table.ProcTable.compute.Goals as goal
 
 pub returns : goal.returns
 returns c =

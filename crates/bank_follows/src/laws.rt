@@ -1,4 +1,5 @@
 ghost use Rattle.bank_follows.specs.WordSets.{ParentSet, OffsetSet};
+ghost use Rattle.bank_follows.specs.StoreSets.{StatesSet, MemberSet};
 ghost use Rattle.bank_follows.specs.Laws.{XactKeeps, ParentsKeep, OffsetsKeep, MembersKeep, ImagesFollow, OnePage};
 
 /// A bank of pg_xact, one entry of its lock's list more (`SimpleLruReadPage`, `SimpleLruZeroPage`, `SimpleLruWriteAll`
@@ -32,7 +33,12 @@ pub fn one_page()
     ensures { OnePage }
 {}
 
-/// What `set_parent` of `subtrans_log` does to the map is what an entry of this parent says.
+/// What `set_states` of `pg_xact_log` does to the map is what an entry of these states says.
+pub fn states_set()
+    ensures { StatesSet }
+{}
+
+/// The same of `set_parent` of `subtrans_log`.
 pub fn parent_set()
     ensures { ParentSet }
 {}
@@ -40,4 +46,9 @@ pub fn parent_set()
 /// The same of `set_offset` of `multi_offsets`.
 pub fn offset_set()
     ensures { OffsetSet }
+{}
+
+/// The same of `write_member` of `multi_members`.
+pub fn member_set()
+    ensures { MemberSet }
 {}

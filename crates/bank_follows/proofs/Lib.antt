@@ -6,3 +6,6 @@ pub mod WordSetting
 pub mod StateSetting
 pub mod SlotSetting
 pub mod OnePage
+pub mod Moments
+pub mod Tails
+pub mod Sections

@@ -1,0 +1,119 @@
+-- A script's commands fit a report.
+use Rattle.std.proofs.Common.{◌≡◌, ℕ, ◌<◌, ◌==◌, ◌&&◌, ◌||◌, List, [], ◌∷◌, ◌++◌, true, refl, sym, ap, subst, ◌∙◌, arith, length, nat_lt, append-nil, append_assoc}
+use Rattle.std.proofs.lemmas.Bool.{and_parts, or_right}
+use Rattle.std.proofs.lemmas.Bool.Decides.{nat_tests}
+use Rattle.std.proofs.lemmas.Grind.{flat_map-append}
+use Rattle.std.proofs.lemmas.List.{map-append}
+use Rattle.std.proofs.lemmas.List.Elements.{recursion_from_All}
+use Rattle.std.specs.List.{AllByRecursion, flat_map, list_all}
+use Rattle.tx_events.specs.Base.{IsBase}
+use Rattle.tx_events.specs.Places.{first_seen}
+use Rattle.tx_events.proofs.ListSteps.{all_push, all_weaker, both_all, eqb-refl}
+use Rattle.tx_model.specs.declared.command.Command.{Command}
+use Rattle.tx_model.specs.declared.command.Command.TheVariants as commands
+use Rattle.tx_model.specs.declared.report.LifeReport.{LifeReport}
+use Rattle.script_lines.specs.LineWords.{is_letter, is_name, is_name_byte}
+use Rattle.session_lang.specs.declared.script.Item.{Item}
+use Rattle.session_lang.specs.declared.script.Item.TheVariants as items
+use Rattle.session_lang.specs.declared.script.Script.{Script}
+use Rattle.session_lang.specs.Plain.{IsInRange, IsItem}
+use Rattle.session_lang.specs.Reading.{IsSound}
+use Rattle.session_lang.specs.Rounds.{round_of, rounds_from, rounds_of, sessions_in}
+use Rattle.session_lang.proofs.SeenLemmas.{is_in, old_number}
+use Rattle.report_text.specs.Names.{IsName}
+use Rattle.report_words.specs.Fits.{AreNames, FitsCounters}
+use Rattle.report_lines.specs.Fits.{FitsCommand}
+use Rattle.report_read.specs.Reports.{IsReport}
+use Rattle.run_report.specs.Whole.{IsRead, IsShortLife, RanScript}
+use Rattle.run_report.proofs.Turns.{sessions_of}
+use Rattle.run_report.proofs.Whole.{RoundFits, TurnFits, told_again}
+
+all_bytes : (bs : List ℕ) → list_all is_name_byte bs ≡ true → AllByRecursion (λ b. is_name_byte b ≡ true) bs
+all_bytes [] e = tt
+all_bytes (b ∷ bs) e = let r = and_parts (is_name_byte b) (list_all is_name_byte bs) e in (r.0, all_bytes bs r.1)
+
+name_fits : (name : List ℕ) → is_name name ≡ true → IsName name
+name_fits [] e = absurd cc
+name_fits (b ∷ bs) e =
+    let whole = and_parts (is_letter b && list_all is_name_byte bs) (nat_lt (length bs) 16) e in
+    let bytes = and_parts (is_letter b) (list_all is_name_byte bs) whole.0 in
+    let short = whole.1 in
+    (bytes.0, all_bytes bs bytes.1, grind (arith, nat_tests))
+
+command_fits : (c : Command) → IsInRange c → FitsCommand c
+command_fits (commands.Snap name) i = name_fits name i
+command_fits (commands.DropSnap name) i = name_fits name i
+command_fits (commands.See name x) i = (name_fits name i.0, i.1)
+command_fits (commands.Status x) i = i
+command_fits (commands.Did x) i = i
+command_fits (commands.Multi members) i = i
+command_fits (commands.SeeMulti name m) i = (name_fits name i.0, i.1, i.2)
+command_fits (commands.Freeze x) i = i
+command_fits (commands.MultiFreeze m) i = i
+command_fits c i = tt
+
+abbrev ItemFits : List (List ℕ) → Item → Type 0
+ItemFits names (items.Run s c) = TurnFits names (s, c)
+ItemFits names _ = Unit {0}
+
+items_fit : (names : List (List ℕ)) (script : List Item) → ((k : ℕ) → is_in k (sessions_in script) ≡ true → k < length names) → AllByRecursion IsItem script → AllByRecursion (ItemFits names) script
+items_fit names [] f r = tt
+items_fit names (items.Run s c ∷ script) f r = (
+  record { session = f s (ap (λ b. b || is_in s (sessions_in script)) (eqb-refl s)); command = command_fits c r.0 },
+  items_fit names script (λ k e. f k (or_right (k == s) (is_in k (sessions_in script)) e)) r.1,
+)
+items_fit names (items.Round ∷ script) f r = (tt, items_fit names script f r.1)
+items_fit names (items.Checkpoint ∷ script) f r = (tt, items_fit names script f r.1)
+items_fit names (items.Crash how ∷ script) f r = (tt, items_fit names script f r.1)
+items_fit names (items.Dump what at size ∷ script) f r = (tt, items_fit names script f r.1)
+
+round_fits : (names : List (List ℕ)) (turns : List (ℕ × Command)) → AllByRecursion (TurnFits names) turns → AllByRecursion (RoundFits names) (round_of turns)
+round_fits names [] a = tt
+round_fits names (t ∷ turns) a = (record { some = λ n. cc; each = a }, tt)
+
+rounds_fit : (names : List (List ℕ)) (turns : List (ℕ × Command)) (script : List Item) → AllByRecursion (TurnFits names) turns → AllByRecursion (ItemFits names) script → AllByRecursion (RoundFits names) (rounds_from turns script)
+rounds_fit names turns [] a f = round_fits names turns a
+rounds_fit names turns (items.Run s c ∷ script) a f = rounds_fit names (turns ++ (s, c) ∷ []) script (all_push (TurnFits names) turns (s, c) a f.0) f.1
+rounds_fit names turns (x ∷ script) a f = both_all (RoundFits names) (round_of turns) (rounds_from [] script) (round_fits names turns a) (rounds_fit names [] script tt f.1)
+
+one_round : (turns : List (ℕ × Command)) → flat_map sessions_of (round_of turns) ≡ sessions_of turns
+one_round [] = refl
+one_round (t ∷ turns) = append-nil (sessions_of (t ∷ turns))
+
+next_round : (turns : List (ℕ × Command)) (script : List Item) → flat_map sessions_of (rounds_from [] script) ≡ sessions_in script → flat_map sessions_of (round_of turns ++ rounds_from [] script) ≡ sessions_of turns ++ sessions_in script
+next_round turns script e =
+    flat_map-append sessions_of (round_of turns) (rounds_from [] script)
+    ∙ ap (λ t. t ++ flat_map sessions_of (rounds_from [] script)) (one_round turns)
+    ∙ ap (λ t. sessions_of turns ++ t) e
+
+rounds_sessions : (turns : List (ℕ × Command)) (script : List Item) → flat_map sessions_of (rounds_from turns script) ≡ sessions_of turns ++ sessions_in script
+rounds_sessions turns [] = one_round turns ∙ sym (append-nil (sessions_of turns))
+rounds_sessions turns (items.Run s c ∷ script) =
+    rounds_sessions (turns ++ (s, c) ∷ []) script
+    ∙ ap (λ t. t ++ sessions_in script) (map-append (λ (t : ℕ × Command). t.0) turns ((s, c) ∷ []))
+    ∙ append_assoc (sessions_of turns) (s ∷ []) (sessions_in script)
+rounds_sessions turns (items.Round ∷ script) = next_round turns script (rounds_sessions [] script)
+rounds_sessions turns (items.Checkpoint ∷ script) = next_round turns script (rounds_sessions [] script)
+rounds_sessions turns (items.Crash how ∷ script) = next_round turns script (rounds_sessions [] script)
+rounds_sessions turns (items.Dump what at size ∷ script) = next_round turns script (rounds_sessions [] script)
+
+names_fit : (s : Script) → IsSound s → AreNames s.names
+names_fit s i = record { each = all_weaker (λ name. is_name name ≡ true) IsName name_fits s.names (recursion_from_All (λ name. is_name name ≡ true) s.names i.names); distinct = i.distinct }
+
+pub script_told_again : (s : Script) (r : LifeReport) → IsRead s → RanScript s r → IsShortLife r → IsReport (record { names = s.names; lives = r ∷ [] })
+script_told_again s r read ran short =
+    let i = read.sound in
+    let base = ran.begins.base_is in
+    told_again s.names (rounds_of s.items) s.base r ran.begins ran.last ran.lawful
+    (record {
+      names_are = names_fit s i;
+      few = i.sessions;
+      base_is = subst IsBase (sym base) i.base;
+      counters = subst FitsCounters (sym base) read.counters;
+      lines = short.lines;
+      rounds = short.rounds;
+      recs = short.recs;
+      end = short.end;
+    })
+    (rounds_fit s.names [] s.items tt (items_fit s.names s.items (λ k e. old_number k (length s.names) (sessions_in s.items) i.numbered e) read.items))
+    (ap first_seen (rounds_sessions [] s.items) ∙ i.numbered)

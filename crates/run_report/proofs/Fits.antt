@@ -28,7 +28,7 @@ use Rattle.tx_model.specs.LifeLog.{end_records, record_of, records_up}
 use Rattle.tx_model.specs.Lines.{has_line}
 use Rattle.tx_model.specs.Replies.{MayReply, RoundSpan}
 use Rattle.tx_model.specs.Stance.{Stance, lacking, top_level}
-use Rattle.report_text.specs.Names.{IsName}
+use Rattle.tx_events.specs.Names.{IsName}
 use Rattle.report_words.specs.Fits.{FitsBy, FitsId, FitsReply, FitsSnap}
 use Rattle.report_words.specs.Replies.{kind_of}
 use Rattle.report_lines.specs.Fits.{FitsCommand, FitsEvent, FitsRecord}

@@ -18,7 +18,7 @@ use Rattle.tx_events.proofs.Names.{same_name_refl}
 use Rattle.tx_events.proofs.PlaceLemmas.{last_at}
 use Rattle.tx_model.specs.Lines.{is_line_of}
 use Rattle.tx_model.proofs.LineGrowth.{lines_counted}
-use Rattle.report_text.specs.Names.{IsName}
+use Rattle.tx_events.specs.Names.{IsName}
 use Rattle.report_text.specs.Words.{name_at}
 use Rattle.report_words.specs.Fits.{AreNames, FitsReply}
 use Rattle.report_words.specs.Reading.{name_place}

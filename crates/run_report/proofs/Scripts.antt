@@ -1,18 +1,16 @@
 -- A script's commands fit a report.
-use Rattle.std.proofs.Common.{◌≡◌, ℕ, ◌<◌, ◌==◌, ◌&&◌, ◌||◌, List, [], ◌∷◌, ◌++◌, true, refl, sym, ap, subst, ◌∙◌, arith, length, nat_lt, append-nil, append_assoc}
-use Rattle.std.proofs.lemmas.Bool.{and_parts, or_right}
-use Rattle.std.proofs.lemmas.Bool.Decides.{nat_tests}
+use Rattle.std.proofs.Common.{◌≡◌, ℕ, ◌<◌, ◌==◌, ◌||◌, List, [], ◌∷◌, ◌++◌, true, refl, sym, ap, subst, ◌∙◌, length, append-nil, append_assoc}
+use Rattle.std.proofs.lemmas.Bool.{or_right}
 use Rattle.std.proofs.lemmas.Grind.{flat_map-append}
 use Rattle.std.proofs.lemmas.List.{map-append}
 use Rattle.std.proofs.lemmas.List.Elements.{recursion_from_All}
-use Rattle.std.specs.List.{AllByRecursion, flat_map, list_all}
+use Rattle.std.specs.List.{AllByRecursion, flat_map}
 use Rattle.tx_events.specs.Base.{IsBase}
 use Rattle.tx_events.specs.Places.{first_seen}
-use Rattle.tx_events.proofs.ListSteps.{all_push, all_weaker, both_all, eqb-refl}
+use Rattle.tx_events.proofs.ListSteps.{all_push, both_all, eqb-refl}
 use Rattle.tx_model.specs.declared.command.Command.{Command}
 use Rattle.tx_model.specs.declared.command.Command.TheVariants as commands
 use Rattle.tx_model.specs.declared.report.LifeReport.{LifeReport}
-use Rattle.script_lines.specs.LineWords.{is_letter, is_name, is_name_byte}
 use Rattle.session_lang.specs.declared.script.Item.{Item}
 use Rattle.session_lang.specs.declared.script.Item.TheVariants as items
 use Rattle.session_lang.specs.declared.script.Script.{Script}
@@ -20,7 +18,7 @@ use Rattle.session_lang.specs.Plain.{IsInRange, IsItem}
 use Rattle.session_lang.specs.Reading.{IsSound}
 use Rattle.session_lang.specs.Rounds.{round_of, rounds_from, rounds_of, sessions_in}
 use Rattle.session_lang.proofs.SeenLemmas.{is_in, old_number}
-use Rattle.report_text.specs.Names.{IsName}
+use Rattle.tx_events.specs.Names.{IsName}
 use Rattle.report_words.specs.Fits.{AreNames, FitsCounters}
 use Rattle.report_lines.specs.Fits.{FitsCommand}
 use Rattle.report_read.specs.Reports.{IsReport}
@@ -28,26 +26,14 @@ use Rattle.run_report.specs.Whole.{IsRead, IsShortLife, RanScript}
 use Rattle.run_report.proofs.Turns.{sessions_of}
 use Rattle.run_report.proofs.Whole.{RoundFits, TurnFits, told_again}
 
-all_bytes : (bs : List ℕ) → list_all is_name_byte bs ≡ true → AllByRecursion (λ b. is_name_byte b ≡ true) bs
-all_bytes [] e = tt
-all_bytes (b ∷ bs) e = let r = and_parts (is_name_byte b) (list_all is_name_byte bs) e in (r.0, all_bytes bs r.1)
-
-name_fits : (name : List ℕ) → is_name name ≡ true → IsName name
-name_fits [] e = absurd cc
-name_fits (b ∷ bs) e =
-    let whole = and_parts (is_letter b && list_all is_name_byte bs) (nat_lt (length bs) 16) e in
-    let bytes = and_parts (is_letter b) (list_all is_name_byte bs) whole.0 in
-    let short = whole.1 in
-    (bytes.0, all_bytes bs bytes.1, grind (arith, nat_tests))
-
 command_fits : (c : Command) → IsInRange c → FitsCommand c
-command_fits (commands.Snap name) i = name_fits name i
-command_fits (commands.DropSnap name) i = name_fits name i
-command_fits (commands.See name x) i = (name_fits name i.0, i.1)
+command_fits (commands.Snap name) i = i
+command_fits (commands.DropSnap name) i = i
+command_fits (commands.See name x) i = (i.0, i.1)
 command_fits (commands.Status x) i = i
 command_fits (commands.Did x) i = i
 command_fits (commands.Multi members) i = i
-command_fits (commands.SeeMulti name m) i = (name_fits name i.0, i.1, i.2)
+command_fits (commands.SeeMulti name m) i = (i.0, i.1, i.2)
 command_fits (commands.Freeze x) i = i
 command_fits (commands.MultiFreeze m) i = i
 command_fits c i = tt
@@ -98,7 +84,7 @@ rounds_sessions turns (items.Crash how ∷ script) = next_round turns script (ro
 rounds_sessions turns (items.Dump what at size ∷ script) = next_round turns script (rounds_sessions [] script)
 
 names_fit : (s : Script) → IsSound s → AreNames s.names
-names_fit s i = record { each = all_weaker (λ name. is_name name ≡ true) IsName name_fits s.names (recursion_from_All (λ name. is_name name ≡ true) s.names i.names); distinct = i.distinct }
+names_fit s i = record { each = recursion_from_All IsName s.names i.names; distinct = i.distinct }
 
 pub script_told_again : (s : Script) (r : LifeReport) → IsRead s → RanScript s r → IsShortLife r → IsReport (record { names = s.names; lives = r ∷ [] })
 script_told_again s r read ran short =

@@ -32,6 +32,7 @@ use Rattle.tx_events.specs.Names.{IsName}
 use Rattle.report_words.specs.Fits.{FitsBy, FitsId, FitsReply, FitsSnap}
 use Rattle.report_words.specs.Replies.{kind_of}
 use Rattle.report_lines.specs.Fits.{FitsCommand, FitsEvent, FitsRecord}
+use Rattle.run_report.proofs.Ends.{EndsOnce}
 use Rattle.run_report.proofs.Ids.{IdsFit, IsPlain, all_ids_fit, ids_fit, next_fits, oldest_fits, oldest_same, open_fits, snap_fits, stop_fits}
 
 -- ---- replies
@@ -150,10 +151,11 @@ own_named by s (commands.Snap name) (replies.Snapped lists) es f e = subst (AllB
 own_named by s (commands.DropSnap name) replies.Done es f e = subst (AllByRecursion NamesFit) (sym e) (f, tt)
 own_named by s c r es f e = subst (AllByRecursion NamesFit) (sym e) tt
 
--- a line whose number and events fit
+-- a line whose number and events fit, of which one at the most is an end
 pub record LineFits (names : List (List ℕ)) (h : List Event) (l : Line) : Type 0 where
   pub by : FitsBy names l.by
   pub events : AllByRecursion NamesFit (events_of l.by h)
+  pub once : EndsOnce (events_of l.by h)
 
 pub record EventFits (names : List (List ℕ)) (e : Event) : Type 0 where
   pub by : FitsBy names (by_of e)

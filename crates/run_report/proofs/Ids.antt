@@ -22,13 +22,17 @@ use Rattle.tx_events.proofs.Membership.{Has, all_from, by_end, contains_has}
 use Rattle.proc_table.proofs.Bounds.{latest_bounds, next_id_to, stop_to}
 use Rattle.report_words.specs.Fits.{FitsId, FitsSnap}
 
+pub front_all : {X : Type 0} (P : X → Type 0) (xs ys : List X) → AllByRecursion P (xs ++ ys) → AllByRecursion P xs
+front_all P [] ys a = tt
+front_all P (x ∷ xs) ys a = (a.0, front_all P xs ys a.1)
+
 -- an event gives an id below the stop limit
-below_stop : (base : Counters) (h : List Event) (e : Event) (x : ℕ) → MayCome base h e → given_by e ≡ Some x → x < stop_limit (oldest_id base.oldest h)
+pub below_stop : (base : Counters) (h : List Event) (e : Event) (x : ℕ) → MayCome base h e → given_by e ≡ Some x → x < stop_limit (oldest_id base.oldest h)
 below_stop base h (events.Id by id) x may g = let q : id ≡ x = cc in subst (λ n. n < stop_limit (oldest_id base.oldest h)) q may.0.below_stop
 below_stop base h (events.Sub by parent id) x may g = let q : id ≡ x = cc in subst (λ n. n < stop_limit (oldest_id base.oldest h)) q may.0.below_stop
 below_stop base h e x may g = absurd cc
 
-full_fits : (n : ℕ) → IsFullId n → n < 2 ^ 63 → FitsId n
+pub full_fits : (n : ℕ) → IsFullId n → n < 2 ^ 63 → FitsId n
 full_fits n f l = (omega arith, inr f)
 
 -- each id that was given
@@ -80,7 +84,7 @@ all_ids_fit base h b = by_end (λ g. IsLegal base g → AllByRecursion IdsFit g)
 
 -- ---- the next id, the limits and snapshots
 
-gives_one : (e : Event) (x : ℕ) → given_by e ≡ Some x → given (e ∷ []) ≡ x ∷ []
+pub gives_one : (e : Event) (x : ℕ) → given_by e ≡ Some x → given (e ∷ []) ≡ x ∷ []
 gives_one e x g = ap (λ o. cons_option o []) g
 
 pub next_small : (base : Counters) (h : List Event) → IsBase base → IsLegal base h → next_given base.next h < 2 ^ 63

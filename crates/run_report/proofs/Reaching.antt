@@ -32,6 +32,7 @@ use Rattle.report_read.specs.Reports.{IsRun}
 use Rattle.report_read.specs.declared.told.Stage.TheVariants as stages
 use Rattle.report_read.specs.declared.told.Told.{Told}
 use Rattle.run_report.proofs.Fits.{RecFits, fits_by}
+use Rattle.run_report.proofs.Ids.{front_all}
 use Rattle.run_report.proofs.Turns.{Climbs, MaySpeak}
 
 -- lines lead from what is told to what is told then
@@ -53,10 +54,6 @@ pub reach_on : (t m last : Told) → Reaches t m → Reaches m last → Reaches 
 reach_on t m last a b = record { run = a.run ++ b.run; goes = run_on t m last a.run b.run a.goes b.goes }
 
 -- ---- names
-
-front_all : {X : Type 0} (P : X → Type 0) (xs ys : List X) → AllByRecursion P (xs ++ ys) → AllByRecursion P xs
-front_all P [] ys a = tt
-front_all P (x ∷ xs) ys a = (a.0, front_all P xs ys a.1)
 
 last_of_all : {X : Type 0} (P : X → Type 0) (xs : List X) (y : X) → AllByRecursion P (xs ++ y ∷ []) → P y
 last_of_all P [] y a = a.0

@@ -1,30 +1,30 @@
 -- A script's commands fit a report.
-use Rattle.std.proofs.Common.{◌≡◌, ℕ, ◌<◌, ◌==◌, ◌||◌, List, [], ◌∷◌, ◌++◌, true, refl, sym, ap, subst, ◌∙◌, length, append-nil, append_assoc}
+use Rattle.std.proofs.Common.{◌≡◌, ℕ, ◌<◌, ◌≤◌, ◌==◌, ◌||◌, List, [], ◌∷◌, ◌++◌, true, Ok, refl, sym, ap, subst, ◌∙◌, arith, length, append-nil, append_assoc}
 use Rattle.std.proofs.lemmas.Bool.{or_right}
 use Rattle.std.proofs.lemmas.Grind.{flat_map-append}
 use Rattle.std.proofs.lemmas.List.{map-append}
-use Rattle.std.proofs.lemmas.List.Elements.{recursion_from_All}
 use Rattle.std.specs.List.{AllByRecursion, flat_map}
 use Rattle.tx_events.specs.Base.{IsBase}
 use Rattle.tx_events.specs.Places.{first_seen}
 use Rattle.tx_events.proofs.ListSteps.{all_push, both_all, eqb-refl}
 use Rattle.tx_model.specs.declared.command.Command.{Command}
 use Rattle.tx_model.specs.declared.command.Command.TheVariants as commands
-use Rattle.tx_model.specs.declared.report.LifeReport.{LifeReport}
+use Rattle.tx_model.specs.declared.report.Report.{Report}
 use Rattle.session_lang.specs.declared.script.Item.{Item}
 use Rattle.session_lang.specs.declared.script.Item.TheVariants as items
 use Rattle.session_lang.specs.declared.script.Script.{Script}
 use Rattle.session_lang.specs.Plain.{IsInRange, IsItem}
-use Rattle.session_lang.specs.Reading.{IsSound}
 use Rattle.session_lang.specs.Rounds.{round_of, rounds_from, rounds_of, sessions_in}
+use Rattle.session_lang.specs.Script.{read_script}
 use Rattle.session_lang.proofs.SeenLemmas.{is_in, old_number}
-use Rattle.tx_events.specs.Names.{IsName}
-use Rattle.report_words.specs.Fits.{AreNames, FitsCounters}
+use Rattle.report_words.specs.Fits.{FitsCounters}
 use Rattle.report_lines.specs.Fits.{FitsCommand}
 use Rattle.report_read.specs.Reports.{IsReport}
-use Rattle.run_report.specs.Whole.{IsRead, IsShortLife, RanScript}
+use Rattle.run_report.specs.Whole.{RanScript}
+use Rattle.run_report.proofs.Readings.{script_read}
 use Rattle.run_report.proofs.Turns.{sessions_of}
-use Rattle.run_report.proofs.Whole.{RoundFits, TurnFits, told_again}
+use Rattle.run_report.proofs.Sizes.{RoundFits, TurnFits}
+use Rattle.run_report.proofs.Whole.{told_again}
 
 command_fits : (c : Command) → IsInRange c → FitsCommand c
 command_fits (commands.Snap name) i = i
@@ -83,23 +83,27 @@ rounds_sessions turns (items.Checkpoint ∷ script) = next_round turns script (r
 rounds_sessions turns (items.Crash how ∷ script) = next_round turns script (rounds_sessions [] script)
 rounds_sessions turns (items.Dump what at size ∷ script) = next_round turns script (rounds_sessions [] script)
 
-names_fit : (s : Script) → IsSound s → AreNames s.names
-names_fit s i = record { each = recursion_from_All IsName s.names i.names; distinct = i.distinct }
+sessions_short : (script : List Item) → length (sessions_in script) ≤ length script
+sessions_short [] = omega arith
+sessions_short (items.Run s c ∷ script) = let i = sessions_short script in omega arith
+sessions_short (items.Round ∷ script) = let i = sessions_short script in omega arith
+sessions_short (items.Checkpoint ∷ script) = let i = sessions_short script in omega arith
+sessions_short (items.Crash how ∷ script) = let i = sessions_short script in omega arith
+sessions_short (items.Dump what at size ∷ script) = let i = sessions_short script in omega arith
 
-pub script_told_again : (s : Script) (r : LifeReport) → IsRead s → RanScript s r → IsShortLife r → IsReport (record { names = s.names; lives = r ∷ [] })
-script_told_again s r read ran short =
-    let i = read.sound in
+pub script_told_again : (bytes : List ℕ) (s : Script) (r : Report) → read_script bytes ≡ Ok s → RanScript s r → IsReport r
+script_told_again bytes s r e ran =
+    let read = script_read bytes s e in
     let base = ran.begins.base_is in
-    told_again s.names (rounds_of s.items) s.base r ran.begins ran.last ran.lawful
+    subst (λ names. IsReport (record { names = names; lives = r.lives })) (sym ran.names)
+    (subst (λ lives. IsReport (record { names = s.names; lives = lives })) (sym ran.one)
+    (told_again s.names (rounds_of s.items) s.base ran.life ran.begins ran.last ran.lawful
     (record {
-      names_are = names_fit s i;
-      few = i.sessions;
-      base_is = subst IsBase (sym base) i.base;
+      names_are = read.names;
+      few = read.sessions;
+      base_is = subst IsBase (sym base) read.base;
       counters = subst FitsCounters (sym base) read.counters;
-      lines = short.lines;
-      rounds = short.rounds;
-      recs = short.recs;
-      end = short.end;
+      turns = let all = ap length (rounds_sessions [] s.items) in let few = sessions_short s.items in let m = read.few in omega arith;
     })
-    (rounds_fit s.names [] s.items tt (items_fit s.names s.items (λ k e. old_number k (length s.names) (sessions_in s.items) i.numbered e) read.items))
-    (ap first_seen (rounds_sessions [] s.items) ∙ i.numbered)
+    (rounds_fit s.names [] s.items tt (items_fit s.names s.items (λ k e. old_number k (length s.names) (sessions_in s.items) read.numbered e) read.items))
+    (ap first_seen (rounds_sessions [] s.items) ∙ read.numbered)))

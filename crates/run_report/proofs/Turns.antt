@@ -1,10 +1,11 @@
 -- The sessions of a report's lines: each is one that was named before or the next one, and in a round those of one stand
 -- together.
-use Rattle.std.proofs.Common.{◌≡◌, ◌≢◌, ◌⊎◌, ℕ, suc, ◌<◌, List, [], ◌∷◌, ◌++◌, Bool, true, false, cond, not, Option, Some, None, refl, sym, ap, subst, ◌∙◌, inl, inr, ⊎_elim, arith, length, map, ◌==◌, ◌||◌, eqb-true, append-nil, append_assoc}
+use Rattle.std.proofs.Common.{◌≡◌, ◌≢◌, ◌⊎◌, ℕ, suc, ◌+◌, ◌<◌, ◌≤◌, List, [], ◌∷◌, ◌++◌, Bool, true, false, cond, not, Option, Some, None, refl, sym, ap, subst, ◌∙◌, inl, inr, ⊎_elim, arith, length, map, ◌==◌, ◌||◌, eqb-true, append-nil, append_assoc, length-append}
 use Rattle.std.proofs.lemmas.Bool.{false≢true}
 use Rattle.std.proofs.lemmas.List.{map-append}
 use Rattle.std.proofs.lemmas.List.FromFn.{length-range_with_len}
-use Rattle.std.specs.List.{AllByRecursion, filter, flat_map, range_with_len}
+use Rattle.std.proofs.lemmas.List.Sums.{sum_by-cons}
+use Rattle.std.specs.List.{AllByRecursion, count_by, filter, flat_map, range_with_len}
 use Rattle.tx_model.specs.declared.command.Command.{Command}
 use Rattle.tx_model.specs.Lines.{grouped}
 use Rattle.tx_events.specs.IdLists.{has}
@@ -109,6 +110,52 @@ fewer_apart q (z ∷ xs) a = elim (q z) as (λ c. AreApart (cond c (z ∷ filter
 pub seen_apart : (xs : List ℕ) → AreApart (first_seen xs)
 seen_apart [] = tt
 seen_apart (x ∷ xs) = (not_in_others x (first_seen xs), fewer_apart (λ y. not (y == x)) (first_seen xs) (seen_apart xs))
+
+pub count_cons : {X : Type 0} (p : X → Bool) (x : X) (xs : List X) → count_by p (x ∷ xs) ≡ cond (p x) 1 0 + count_by p xs
+count_cons p x xs = sum_by-cons (λ x. cond (p x) 1 0) x xs
+
+count_none : (x : ℕ) (ss : List ℕ) → is_in x ss ≡ false → count_by (λ s. x == s) ss ≡ 0
+count_none x [] i = refl
+count_none x (s ∷ ss) i = count_cons (λ s. x == s) s ss ∙ step (x == s) i (λ k. count_none x ss k)
+  where
+    step : (b : Bool) → b || is_in x ss ≡ false → (is_in x ss ≡ false → count_by (λ s. x == s) ss ≡ 0) → cond b 1 0 + count_by (λ s. x == s) ss ≡ 0
+    step true i rest = absurd (false≢true (sym i))
+    step false i rest = let r = rest i in omega arith
+
+count_once : (x : ℕ) (ss : List ℕ) → AreApart ss → count_by (λ s. x == s) ss ≤ 1
+count_once x [] a = omega arith
+count_once x (s ∷ ss) a = let c = count_cons (λ s. x == s) s ss in let t = step (x == s) refl (count_once x ss a.1) in omega arith
+  where
+    step : (b : Bool) → (x == s) ≡ b → count_by (λ s. x == s) ss ≤ 1 → cond b 1 0 + count_by (λ s. x == s) ss ≤ 1
+    step true e i = let z = count_none x ss (ap (λ y. is_in y ss) (eqb-true x s e) ∙ a.0) in omega arith
+    step false e i = omega arith
+
+-- a command more is told by as many blocks as are its session's
+blocks_more : (t : ℕ × Command) (turns : List (ℕ × Command)) (ss : List ℕ) → length (flat_map (λ s. turns_of s (t ∷ turns)) ss) ≡ count_by (λ s. t.0 == s) ss + length (flat_map (λ s. turns_of s turns) ss)
+blocks_more t turns [] = refl
+blocks_more t turns (s ∷ ss) =
+    let more = length-append (turns_of s (t ∷ turns)) (flat_map (λ s. turns_of s (t ∷ turns)) ss) in
+    let old = length-append (turns_of s turns) (flat_map (λ s. turns_of s turns) ss) in
+    let count = count_cons (λ s. t.0 == s) s ss in
+    let one = step (t.0 == s) in
+    let rest = blocks_more t turns ss in
+    omega arith
+  where
+    step : (b : Bool) → length (cond b (t ∷ turns_of s turns) (turns_of s turns)) ≡ cond b 1 0 + length (turns_of s turns)
+    step true = omega arith
+    step false = omega arith
+
+blocks_none : (ss : List ℕ) → length (flat_map (λ s. turns_of s []) ss) ≡ 0
+blocks_none [] = refl
+blocks_none (s ∷ ss) = blocks_none ss
+
+blocks_short : (ss : List ℕ) (turns : List (ℕ × Command)) → AreApart ss → length (flat_map (λ s. turns_of s turns) ss) ≤ length turns
+blocks_short ss [] a = let z = blocks_none ss in omega arith
+blocks_short ss (t ∷ turns) a = let m = blocks_more t turns ss in let c = count_once t.0 ss a in let i = blocks_short ss turns a in omega arith
+
+-- grouped by session the commands are no more than before
+pub grouped_short : (turns : List (ℕ × Command)) → length (grouped turns) ≤ length turns
+grouped_short turns = blocks_short (first_seen (sessions_of turns)) turns (seen_apart (sessions_of turns))
 
 -- a block of lines for each session, none of them empty
 abbrev blocks : List (ℕ × Command) → List ℕ → List ℕ

@@ -31,13 +31,14 @@ use Rattle.report_words.specs.Fits.{AreNames, FitsCounters}
 use Rattle.report_lines.specs.declared.life.LogHead.{LogHead}
 use Rattle.report_lines.specs.declared.life.Start.{Start}
 use Rattle.report_lines.specs.Fits.{FitsCommand, FitsStart}
-use Rattle.report_read.specs.Item.{Item}
 use Rattle.report_read.specs.Item as items
 use Rattle.report_read.specs.Grammar.{Follows, after, begins_step, life_told, no_counts, steps_told}
 use Rattle.report_read.specs.Reports.{IsReport, nothing_told}
 use Rattle.report_read.specs.declared.told.Told.{Told}
+use Rattle.run_report.proofs.Ends.{own_once}
 use Rattle.run_report.proofs.Fits.{EventFits, LineFits, all_event_fit, end_records_fit, events_fit, named_plain, own_named, reply_fits}
 use Rattle.run_report.proofs.Ids.{IsPlain, all_ids_fit}
+use Rattle.run_report.proofs.Sizes.{IsShortLog, RoundFits, TurnFits, lines_short, rounds_short, short_log}
 use Rattle.run_report.proofs.Reaching.{AreCounted, AreNumbered, Between, Reaches, Rounded, Sayable, SoFar, a_round, all_numbered, counted_apart, events_reach, follows_on, reach_on, records_reach, speakers, stays}
 use Rattle.run_report.proofs.Turns.{Climbs, Cut, MaySpeak, climbs, climbs_apart, grouped_seen, grouped_speak, sessions_of}
 
@@ -87,15 +88,6 @@ counted_from base h done [] e = tt
 counted_from base h done (l ∷ ls) e = (e.0.number, counted_from base h (done ++ l ∷ []) ls e.1)
 
 -- ---- the rounds' commands
-
--- what a script says of a command
-pub record TurnFits (names : List (List ℕ)) (t : ℕ × Command) : Type 0 where
-  pub session : t.0 < length names
-  pub command : FitsCommand t.1
-
-pub record RoundFits (names : List (List ℕ)) (turns : List (ℕ × Command)) : Type 0 where
-  pub some : turns ≢ []
-  pub each : AllByRecursion (TurnFits names) turns
 
 record SaidSo (names : List (List ℕ)) (l : Line) : Type 0 where
   session : l.by.session < length names
@@ -204,16 +196,13 @@ rounds_reach names k k' done told n t (turns ∷ rounds) (steps.Dump what at siz
 
 -- ---- the whole report
 
--- the numbers that aren't the history's are small, and the names are names
-pub record IsSmall (names : List (List ℕ)) (r : LifeReport) : Type 0 where
+-- the names are names, the numbers of the base can be told, and the commands are few
+pub record IsSmall (names : List (List ℕ)) (rounds : List (List (ℕ × Command))) (r : LifeReport) : Type 0 where
   pub names_are : AreNames names
   pub few : length names ≤ 64
   pub base_is : IsBase r.life.base
   pub counters : FitsCounters r.life.base
-  pub lines : length (flat_map lines_in r.steps) < 2 ^ 28
-  pub rounds : length r.steps < 2 ^ 28
-  pub recs : length r.life.recs < 2 ^ 28
-  pub end : r.life.end < 2 ^ 64
+  pub turns : length (flat_map sessions_of rounds) ≤ 2 ^ 25
 
 -- each line can be told
 lines_sayable : (names : List (List ℕ)) (base : Counters) (h : List Event) (lines : List Line) → IsBase base → IsLegal base h → AllByRecursion IsPlain h → length lines < 2 ^ 28 → EachOn (LineIs base h) [] lines → AllByRecursion (SaidSo names) lines → AllByRecursion (Sayable names) lines
@@ -233,6 +222,7 @@ lines_fit names base h lines few e a =
     (λ d k small i s. record {
       by = record { session = s.session; command = let c = count_by-le-length (is_line_of k.by.session) d in let n = i.number in omega arith };
       events = own_named k.by (stance h d k.by.session) k.command k.reply (events_of k.by h) s.command i.events;
+      once = own_once k.by (stance h d k.by.session) k.command k.reply (events_of k.by h) i.events;
     })
     (omega arith) e a
 
@@ -277,8 +267,8 @@ record Ended (names : List (List ℕ)) (r : LifeReport) (t : Told) : Type 0 wher
   start : t.start ≡ record { from = r.life.from; base = r.life.base }
   steps_are : steps_told t.stage t ≡ r.steps
 
-ends_whole : (names : List (List ℕ)) (rounds : List (List (ℕ × Command))) (base : Counters) (r : LifeReport) (t : Told) → BeginsLog base r.life → r.crash ≡ None → IsLawfulLife rounds r → IsSmall names r → AllByRecursion (EventFits names) r.life.events → Ended names r t → Reaches nothing_told t → IsReport (record { names = names; lives = r ∷ [] })
-ends_whole names rounds base r t begins last lawful small named ended before =
+ends_whole : (names : List (List ℕ)) (rounds : List (List (ℕ × Command))) (base : Counters) (r : LifeReport) (t : Told) → BeginsLog base r.life → r.crash ≡ None → IsLawfulLife rounds r → IsSmall names rounds r → IsShortLog r → AllByRecursion (EventFits names) r.life.events → Ended names r t → Reaches nothing_told t → IsReport (record { names = names; lives = r ∷ [] })
+ends_whole names rounds base r t begins last lawful small short named ended before =
     let h = r.life.events in
     let t4 : Told = after t items.history in
     let t5 : Told = record t4 { events = h } in
@@ -292,12 +282,12 @@ ends_whole names rounds base r t begins last lawful small named ended before =
     let legal = lawful.history in
     let fits = events_fit t4.names h (subst (λ ns. AllByRecursion (EventFits ns) h) (sym ended.names_are) named) (all_ids_fit r.life.base h small.base_is legal) in
     let log = lawful.log in
-    let flushed : r.life.flushed < 2 ^ 64 = let w = log.known.within in let f = log.flushed_to in let z = begins.from in let m = small.recs in omega arith in
+    let flushed : r.life.flushed < 2 ^ 64 = let w = log.known.within in let f = log.flushed_to in let z = begins.from in let m = short.recs in omega arith in
     let numbered : AreNumbered 0 r.life.recs = subst (AreNumbered 0) (sym log.records) ((begins.from, small.counters), all_numbered 1 (end_records h) (end_records_fit r.life.base h small.base_is legal)) in
     let from : 0 ≡ t7.start.from + length t7.recs = let z : t.start.from ≡ r.life.from = ap (λ (s : Start). s.from) ended.start in let y = begins.from in omega arith in
     let history : Follows t items.history t4 = record { stands = ended.begins; rule = refl; told = refl } in
     let multis : Follows t5 items.multis t6 = record { stands = refl; rule = refl; told = refl } in
-    let logs : Follows t6 (items.log head) t7 = record { stands = refl; rule = (refl, record { flushed = flushed; end = small.end }); told = refl } in
+    let logs : Follows t6 (items.log head) t7 = record { stands = refl; rule = (refl, record { flushed = flushed; end = short.end }); told = refl } in
     let close : Follows t8 items.last t9 = record { stands = refl; rule = refl; told = refl } in
     let reach : Reaches nothing_told t9 =
     reach_on nothing_told t t9 before
@@ -305,7 +295,7 @@ ends_whole names rounds base r t begins last lawful small named ended before =
     (reach_on t4 t5 t9 (events_reach t4 h refl are few fits)
     (follows_on t5 t6 t9 items.multis multis
     (follows_on t6 t7 t9 (items.log head) logs
-    (reach_on t7 t8 t9 (records_reach t7 r.life.recs 0 refl from (let m = small.recs in omega arith) numbered)
+    (reach_on t7 t8 t9 (records_reach t7 r.life.recs 0 refl from (let m = short.recs in omega arith) numbered)
     (follows_on t8 t9 t9 items.last close (stays t9))))))) in
     let lives : r ∷ [] ≡ t9.lives = ap (λ x. x ∷ []) (same_life r t.start (steps_told t.stage t) begins.committed begins.recorded lawful.multis last ended.start ended.steps_are) ∙ ap (λ ls. ls ++ life_told t8 None ∷ []) (sym ended.lives) in
     record {
@@ -347,7 +337,7 @@ unfolding begin nothing_told
 begin_start s = refl
 
 -- a lawful life whose commands are a script's is told by a report that can be read back
-pub told_again : (names : List (List ℕ)) (rounds : List (List (ℕ × Command))) (base : Counters) (r : LifeReport) → BeginsLog base r.life → r.crash ≡ None → IsLawfulLife rounds r → IsSmall names r → AllByRecursion (RoundFits names) rounds → first_seen (flat_map sessions_of rounds) ≡ range_with_len 0 (length names) →
+pub told_again : (names : List (List ℕ)) (rounds : List (List (ℕ × Command))) (base : Counters) (r : LifeReport) → BeginsLog base r.life → r.crash ≡ None → IsLawfulLife rounds r → IsSmall names rounds r → AllByRecursion (RoundFits names) rounds → first_seen (flat_map sessions_of rounds) ≡ range_with_len 0 (length names) →
     IsReport (record { names = names; lives = r ∷ [] })
 told_again names rounds base r begins last lawful small fits seen =
     let h = r.life.events in
@@ -361,14 +351,16 @@ told_again names rounds base r begins last lawful small fits seen =
       reply = subst (λ c. MayReply b c h (span_of h (flat_map lines_in (take p r.steps)) (lines_in step)) l.by (stance h (flat_map lines_in (take p r.steps) ++ take q (lines_in step)) l.by.session) l.command l.reply) begins.committed k.reply;
     }) in
     let said = rounds_said names 1 rounds r.steps lawful.told fits in
-    let line_fit = lines_fit names b h lines small.lines each said in
-    let named = all_event_fit names h lines line_fit (recursion_from_All (λ e. IsTrue (has_line lines e)) h lawful.lawful.no_other) in
+    let lines_few : length lines ≤ 2 ^ 25 = let k = lines_short 1 rounds r.steps lawful.told in let m = small.turns in omega arith in
+    let line_fit = lines_fit names b h lines (omega arith) each said in
+    let has = recursion_from_All (λ e. IsTrue (has_line lines e)) h lawful.lawful.no_other in
+    let named = all_event_fit names h lines line_fit has in
     let plain = all_weaker (EventFits names) IsPlain (λ e k. named_plain e k.named) h named in
-    let sayable = lines_sayable names b h lines small.base_is lawful.history plain small.lines each said in
+    let sayable = lines_sayable names b h lines small.base_is lawful.history plain (omega arith) each said in
     let climb = climbs (length names) (speakers lines) (rounds_seen 1 rounds r.steps lawful.told ∙ seen) in
-    let w = rounds_reach names 0 (length names) [] [] 0 (begin start) rounds r.steps small.names_are small.few (begins_between names start) lawful.told fits sayable (counted_from b h [] lines each) climb (let m = small.rounds in omega arith) in
+    let w = rounds_reach names 0 (length names) [] [] 0 (begin start) rounds r.steps small.names_are small.few (begins_between names start) lawful.told fits sayable (counted_from b h [] lines each) climb (let k = rounds_short names 1 rounds r.steps lawful.told fits in let m = small.turns in omega arith) in
     let all = none_left names w.between.known w.between.rest w.between.so_far.split w.between.count in
-    ends_whole names rounds base r w.last begins last lawful small named
+    ends_whole names rounds base r w.last begins last lawful small (short_log names rounds r lawful small.base_is plain has line_fit lines_few) named
     (record {
       names_are = w.between.so_far.told ∙ all;
       begins = w.between.begins;

@@ -1,5 +1,5 @@
 -- A script's commands fit a report.
-use Rattle.std.proofs.Common.{◌≡◌, ℕ, ◌<◌, ◌≤◌, ◌==◌, ◌||◌, List, [], ◌∷◌, ◌++◌, true, Ok, refl, sym, ap, subst, ◌∙◌, arith, length, append-nil, append_assoc}
+use Rattle.std.proofs.Common.{◌≡◌, ℕ, ◌<◌, ◌≤◌, ◌==◌, ◌||◌, Option, List, [], ◌∷◌, ◌++◌, true, Ok, refl, sym, ap, subst, ◌∙◌, arith, length, append-nil, append_assoc}
 use Rattle.std.proofs.lemmas.Bool.{or_right}
 use Rattle.std.proofs.lemmas.Grind.{flat_map-append}
 use Rattle.std.proofs.lemmas.List.{map-append}
@@ -19,8 +19,10 @@ use Rattle.session_lang.specs.Script.{read_script}
 use Rattle.session_lang.proofs.SeenLemmas.{is_in, old_number}
 use Rattle.report_words.specs.Fits.{FitsCounters}
 use Rattle.report_lines.specs.Fits.{FitsCommand}
+use Rattle.report_text.specs.ReportText.{report_text}
 use Rattle.report_read.specs.Reports.{IsReport}
-use Rattle.run_report.specs.Whole.{RanScript}
+use Rattle.report_read.proofs.Reading.{one_report}
+use Rattle.session_run.specs.Tool.{IsAnswer, IsReportOf}
 use Rattle.run_report.proofs.Readings.{script_read}
 use Rattle.run_report.proofs.Turns.{sessions_of}
 use Rattle.run_report.proofs.Sizes.{RoundFits, TurnFits}
@@ -91,7 +93,7 @@ sessions_short (items.Checkpoint ∷ script) = let i = sessions_short script in 
 sessions_short (items.Crash how ∷ script) = let i = sessions_short script in omega arith
 sessions_short (items.Dump what at size ∷ script) = let i = sessions_short script in omega arith
 
-pub script_told_again : (bytes : List ℕ) (s : Script) (r : Report) → read_script bytes ≡ Ok s → RanScript s r → IsReport r
+pub script_told_again : (bytes : List ℕ) (s : Script) (r : Report) → read_script bytes ≡ Ok s → IsReportOf s r → IsReport r
 script_told_again bytes s r e ran =
     let read = script_read bytes s e in
     let base = ran.begins.base_is in
@@ -107,3 +109,11 @@ script_told_again bytes s r e ran =
     })
     (rounds_fit s.names [] s.items tt (items_fit s.names s.items (λ k e. old_number k (length s.names) (sessions_in s.items) read.numbered e) read.items))
     (ap first_seen (rounds_sessions [] s.items) ∙ read.numbered)))
+
+-- The text that a run answers is that of its report, and of no other.
+pub answer_of_one : (left left' : Option (List ℕ)) (text : List ℕ) (a : IsAnswer left left' text)
+    → (text ≡ report_text a.report) × ((r : Report) → IsReport r → text ≡ report_text r → r ≡ a.report)
+answer_of_one left left' text a = (
+  a.exact,
+  λ r is e. one_report r a.report is (script_told_again a.bytes a.script a.report a.spelled a.lawful) (sym e ∙ a.exact),
+)

@@ -140,7 +140,7 @@ fresh_at by (f ∷ h) (suc p) e a g own = fresh_at by h p e (rest (is_of by.sess
 pub not_warned : (base : Counters) (by : By) (h : List Event) → AllByRecursion (λ f. (by_of f).command < by.command) (filter (is_of by.session) h) → IsTrue false ↔ IsWarned base h by
 not_warned base by h f = (λ e. absurd (false≢true e), λ w. absurd (fresh_at by h w.place w.given.event f w.given.at w.given.own))
 
-giving_by : (by : By) (p : Option ℕ) (id : ℕ) → by_of (giving by p id) ≡ by
+pub giving_by : (by : By) (p : Option ℕ) (id : ℕ) → by_of (giving by p id) ≡ by
 giving_by by None id = refl
 giving_by by (Some q) id = refl
 
@@ -214,7 +214,7 @@ is_stopped base by h h' next stop l t n s r = record {
   reached = r;
 }
 
-events_own : (by : By) (p : Option ℕ) (levels : List (Option ℕ)) (ids : List ℕ) → AllByRecursion (λ e. by_of e ≡ by) (level_events by p levels ids)
+pub events_own : (by : By) (p : Option ℕ) (levels : List (Option ℕ)) (ids : List ℕ) → AllByRecursion (λ e. by_of e ≡ by) (level_events by p levels ids)
 events_own by p [] ids = tt
 events_own by p (Some x ∷ levels) ids = events_own by (Some x) levels ids
 events_own by p (None ∷ levels) [] = tt

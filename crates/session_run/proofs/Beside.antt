@@ -41,7 +41,7 @@ none_beside session (e ∷ es) o =
     ap (λ b. cond b (e ∷ filter (is_of session) es) (filter (is_of session) es)) (ne_eqb (by_of e).session session o.0) ∙ none_beside session es o.1
 
 -- what the session's own events are
-own_beside : (session : ℕ) (h es : List Event) → AreBeside session es → filter (is_of session) (h ++ es) ≡ filter (is_of session) h
+pub own_beside : (session : ℕ) (h es : List Event) → AreBeside session es → filter (is_of session) (h ++ es) ≡ filter (is_of session) h
 own_beside session h es o = filter-append (is_of session) h es ∙ ap (λ t. filter (is_of session) h ++ t) (none_beside session es o) ∙ append-nil (filter (is_of session) h)
 
 -- a filter that keeps what the test finds

@@ -35,7 +35,7 @@ pub sound_given : (base : Counters) (h : List Event) (by : By) (parent : Option 
 sound_given base h by None id recs states m t s = sound_id base h by id recs states m t s
 sound_given base h by (Some parent) id recs states m t s = sound_sub base h by parent id recs states m t s
 
-last_some : (x : ℕ) (xs : List ℕ) → (p : ℕ) × (last_of (x ∷ xs) ≡ Some p)
+pub last_some : (x : ℕ) (xs : List ℕ) → (p : ℕ) × (last_of (x ∷ xs) ≡ Some p)
 last_some x [] = (x, refl)
 last_some x (y ∷ xs) = last_some y xs
 

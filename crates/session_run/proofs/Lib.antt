@@ -1,19 +1,19 @@
 mod LogLemmas
-mod ListLemmas
-mod CutLemmas
-mod LevelLemmas
+pub mod ListLemmas
+pub mod CutLemmas
+pub mod LevelLemmas
 mod SoundLemmas
-mod StandsLemmas
-mod RegisteredLemmas
-mod ActsLemmas
-mod RunsLemmas
+pub mod StandsLemmas
+pub mod RegisteredLemmas
+pub mod ActsLemmas
+pub mod RunsLemmas
 mod TurnLemmas
-mod GivingLemmas
-mod EndLemmas
+pub mod GivingLemmas
+pub mod EndLemmas
 mod WriteLemmas
 mod RoomLemmas
 mod SeenLemmas
-mod Beside
+pub mod Beside
 mod ProgressLemmas
 mod RoundLemmas
 mod ToldLemmas

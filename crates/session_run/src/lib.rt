@@ -18,7 +18,10 @@ mod told;
 mod tool;
 mod writes;
 
+pub use levels::{begin, depth, release, save};
 pub use run::run_script;
+pub use session::{RegisteredSnapshot, Session};
+pub use snaps::{forget, registered_as};
 pub use tool::{run_tool, say_out_of_memory};
 
 #[cfg(test)]

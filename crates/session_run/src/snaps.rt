@@ -21,7 +21,7 @@ fn is_named(registered: &RegisteredSnapshot, name: &[u8]) -> bool
     registered.name.items() == name
 }
 
-/// The session's snapshot of this name.
+/// The snapshot of this name.
 fn find_registered<'a>(
     registered: &'a [RegisteredSnapshot],
     name: &[u8],
@@ -37,7 +37,8 @@ fn find_registered<'a>(
     None
 }
 
-fn registered_as<'a>(session: &'a Session, name: &Name) -> Option<&'a RegisteredSnapshot>
+/// The session's snapshot of this name.
+pub fn registered_as<'a>(session: &'a Session, name: &Name) -> Option<&'a RegisteredSnapshot>
     ensures found { IfSome result (λ k.
         find (λ x. same_name x.name name.now) session.now.registered.items ≡ Some k.now) }
     ensures none { IfNone result (find (λ x. same_name x.name name.now) session.now.registered.items ≡ None) }
@@ -93,7 +94,7 @@ pub fn snap(
 }
 
 /// Lets go of the snapshot of this name.
-fn forget(registered: &mut Vec<RegisteredSnapshot>, name: &[u8])
+pub fn forget(registered: &mut Vec<RegisteredSnapshot>, name: &[u8])
     ensures { registered.new.items ≡ filter (λ k. not (same_name k.name name.now)) registered.old.items }
 {
     registered.retain(|k| !is_named(k, name));

@@ -3,4 +3,9 @@ pub mod Calls
 pub mod Stores
 pub mod Bytes
 pub mod WordSetting
+pub mod StateSetting
+pub mod SlotSetting
 pub mod OnePage
+pub mod Moments
+pub mod Tails
+pub mod Sections

@@ -2,3 +2,7 @@ pub mod Cells
 pub mod Stores
 pub mod Laws
 pub mod WordSets
+pub mod StoreSets
+pub mod Moments
+pub mod Tails
+pub mod Sections

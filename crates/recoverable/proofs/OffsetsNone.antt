@@ -1,5 +1,5 @@
 -- A multixact that isn't recorded has no offset in an image, below the next one of the checkpoint where the log begins.
-use Rattle.std.proofs.Common.{Contains, List, Option, Some, ap, arith, drop, length, refl, subst, sym, take, ℕ, ⊎_elim, ◌++◌, ◌+◌, ◌-◌, ◌<◌, ◌∙◌, ◌≡◌, ◌≤◌, ◌⊎◌}
+use Rattle.std.proofs.Common.{Contains, List, Option, Some, ap, arith, drop, length, refl, subst, sym, take, ℕ, ⊎_elim, ◌++◌, ◌+◌, ◌-◌, ◌<◌, ◌∙◌, ◌≡◌, ◌≤◌}
 use Rattle.std.proofs.lemmas.List.{take-append-drop, take-append-le}
 use Rattle.std.proofs.lemmas.List.Sums.{fold-append}
 use Rattle.std.specs.List.{filter, slice_get}

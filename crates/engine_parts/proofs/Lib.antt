@@ -11,3 +11,5 @@ pub mod Answering
 pub mod Acting
 pub mod Pending
 pub mod Stepping
+pub mod Newness
+pub mod Placing

@@ -4,6 +4,7 @@ pub mod Law
 pub mod Holds
 pub mod Stages
 pub mod Sessions
+pub mod New
 pub mod Answers
 pub mod Steps
 pub mod Faults

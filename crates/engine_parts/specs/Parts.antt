@@ -1,5 +1,5 @@
 -- What a part behind a lock stands for.
-use Rattle.std.specs.Prelude.{◌≡◌, ℕ, List}
+use Rattle.std.specs.Prelude.{◌≡◌, ◌≢◌, ℕ, List}
 use Rattle.disk_core.specs.declared.log_disk.LogDisk as logs
 use Rattle.disk_core.specs.declared.page_disk.PageDisk as disks
 use Rattle.store_pages.specs.declared.page_rule.PageRule as rules
@@ -32,6 +32,13 @@ module _ {P O : Type 0} {g : disks.Ghosts P} {r : rules.Ghosts O} where
   IsSubtransOf start bank store es =
       SubtransStands start bank g.tells (faults_of store) (last_page store) (cutoff_of store) (pages_of store) es
 
+-- the lock of a part that isn't built: none of the others' locks
+pub record IsVacant (lock : ℕ) : Type 0 where
+  pub log : lock ≢ log_lock
+  pub proc : lock ≢ proc_lock
+  pub xact : (bank : ℕ) → lock ≢ xact_lock bank
+  pub subtrans : (bank : ℕ) → lock ≢ subtrans_lock bank
+
 module _ {L P : Type 0} {l : logs.Ghosts L} {p : disks.Ghosts P} where
   -- each kind of part lies behind its locks alone
   abbrev pub PartStands : Start → ℕ → Part L P l p → List Entry → Type 0
@@ -40,3 +47,4 @@ module _ {L P : Type 0} {l : logs.Ghosts L} {p : disks.Ghosts P} where
   PartStands start lock (parts.Xact store) es = (bank : ℕ) × (lock ≡ xact_lock bank) × IsXactOf start bank store es
   PartStands start lock (parts.Subtrans store) es =
       (bank : ℕ) × (lock ≡ subtrans_lock bank) × IsSubtransOf start bank store es
+  PartStands start lock parts.Vacant es = IsVacant lock

@@ -15,4 +15,7 @@ pub enum Part<L: LogDisk, P: PageDisk> {
     Xact(SlruBank<P, XactPages>),
     /// A bank of pg_subtrans (SubtransSLRULock of `subtrans.c`).
     Subtrans(SlruBank<P, SubtransPages>),
+    /// Nothing yet: behind the locks of the multixacts and of their two stores (MultiXactGenLock and the two locks of
+    /// the SLRUs of `multixact.c`).
+    Vacant,
 }

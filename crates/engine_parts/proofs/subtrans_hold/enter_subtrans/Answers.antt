@@ -4,6 +4,7 @@ use Rattle.tx_core.specs.Locks.{subtrans_lock}
 use Rattle.engine_parts.specs.Parts.{PartStands, IsSubtransOf}
 use Rattle.hall.specs.Calls.{view, start_of}
 use Rattle.engine_parts.proofs.Going.{at_on}
+use Rattle.engine_parts.proofs.Placing.{is_subtrans}
 use Rattle.engine_parts.proofs.subtrans_hold.enter_subtrans.Goals as goal
 
 pub returns-clause-at : goal.returns-clause-at
@@ -19,3 +20,7 @@ returns-clause-stands g c =
     let e = s.1 in
     let same : s.0 ≡ c.args.bank = omega arith in
     subst (λ z. IsSubtransOf start z c.in-Subtrans.store es) same s.2
+
+pub unreachable-requires : goal.unreachable-requires
+unreachable-requires g c =
+    is_subtrans (start_of c.args.hall.now) c.args.bank c.enter-part.result (at (view c.enter-part.new.pass).seen (subtrans_lock c.args.bank)) c.enter-part.ensures.stands c.in_default.not-Subtrans

@@ -4,6 +4,7 @@ use Rattle.tx_core.specs.Locks.{xact_lock}
 use Rattle.engine_parts.specs.Parts.{PartStands, IsXactOf}
 use Rattle.hall.specs.Calls.{view, start_of}
 use Rattle.engine_parts.proofs.Going.{at_on}
+use Rattle.engine_parts.proofs.Placing.{is_xact}
 use Rattle.engine_parts.proofs.xact_hold.enter_xact.Goals as goal
 
 pub returns-clause-at : goal.returns-clause-at
@@ -19,3 +20,7 @@ returns-clause-stands g c =
     let e = s.1 in
     let same : s.0 ≡ c.args.bank = omega arith in
     subst (λ z. IsXactOf start z c.in-Xact.store es) same s.2
+
+pub unreachable-requires : goal.unreachable-requires
+unreachable-requires g c =
+    is_xact (start_of c.args.hall.now) c.args.bank c.enter-part.result (at (view c.enter-part.new.pass).seen (xact_lock c.args.bank)) c.enter-part.ensures.stands c.in_default.not-Xact

@@ -1,0 +1,73 @@
+-- What a call did that had no event, or one.
+use Rattle.std.proofs.Common.{◌≡◌, ℕ, ◌<◌, List, [], ◌∷◌, None, Some, sym, ap, subst, ◌∙◌, length, arith, append-nil}
+use Rattle.std.specs.List.{filter}
+use Rattle.notes.specs.Lists.{Knows, at}
+use Rattle.notes.proofs.Growing.{begins_same}
+use Rattle.tx_events.specs.declared.event.Event.{Event}
+use Rattle.tx_events.specs.Events.{by_of, given, is_of}
+use Rattle.tx_model.specs.declared.command.Command.{Command}
+use Rattle.tx_model.specs.declared.reply.Reply.{Reply}
+use Rattle.tx_model.specs.CommandEvents.{HasEvents}
+use Rattle.tx_model.specs.Replies.{alone}
+use Rattle.tx_model.specs.Stance.{Stance, after}
+use Rattle.tx_core.specs.declared.entry.Entry.{Entry}
+use Rattle.tx_core.specs.declared.entry.Start.{Start}
+use Rattle.tx_core.specs.EngineInvariant.{EngineInvariant}
+use Rattle.tx_core.specs.Entries.{event_of, history, session_of}
+use Rattle.tx_core.specs.Locks.{proc_lock}
+use Rattle.engine_parts.specs.declared.session.Session.{Session}
+use Rattle.engine_parts.specs.declared.session.Stage.{Stage}
+use Rattle.engine_parts.specs.Answers.{Acted, MayAnswer}
+use Rattle.engine_parts.specs.Holds.{Knowledge, Learns, Leaves}
+use Rattle.engine_parts.specs.Sessions.{IsAt, by_at, stance_of}
+use Rattle.engine_parts.proofs.Going.{own_events}
+use Rattle.engine_parts.proofs.Leaving.{Added, event_added, grown_left, grows_then, history_same}
+
+-- with one critical section at most, which had no event
+pub acted_looked : (start : Start) (v u w : Knowledge) (n lock : ℕ) (s : Session) (s' : Stance) (stage : Stage) (command : Command) (reply : Reply) (e : Entry) → IsAt start v n s → EngineInvariant start u.seen → Learns v u → lock < length v.seen → event_of e ≡ None → Leaves start lock e u w
+    → HasEvents (by_at n s.levels.commands) (stance_of s) command reply [] → MayAnswer start w.seen (alone (history v.seen) (history w.seen)) (by_at n s.levels.commands) (stance_of s) stage command reply → after (stance_of s) s.levels.commands command reply [] ≡ s'
+    → Acted start (by_at n s.levels.commands) (stance_of s) s' stage command reply v.seen w.seen
+acted_looked start v u w n lock s s' stage command reply e a k learns inside looks l fitting allowed left =
+    let long = learns.long in
+    let there : lock < length u.seen = omega arith in
+    let knows : Knows session_of n v.seen u.seen = subst (λ z. Knows session_of z v.seen u.seen) a.name learns.knows in
+    record {
+      grows = grows_then v.seen u.seen w.seen learns.knows.grows (grown_left start u w lock e there l);
+      added = [];
+      own = ap (filter (is_of n)) (history_same start u w lock e looks there l) ∙ (own_events start n v.seen u.seen k knows ∙ sym (append-nil (filter (is_of n) (history v.seen))));
+      each = tt;
+      fitting = fitting;
+      allowed = allowed;
+      left = left;
+    }
+
+-- with one critical section, of the ProcArray, which had this event
+pub acted_event : (start : Start) (v u w : Knowledge) (n : ℕ) (s : Session) (s' : Stance) (command : Command) (reply : Reply) (e : Entry) (event : Event) → IsAt start v n s → EngineInvariant start u.seen → Learns v u → event_of e ≡ Some event → by_of event ≡ by_at n s.levels.commands → Leaves start proc_lock e u w
+    → HasEvents (by_at n s.levels.commands) (stance_of s) command reply (event ∷ []) → MayAnswer start w.seen (alone (history v.seen) (history w.seen)) (by_at n s.levels.commands) (stance_of s) s.stage command reply → after (stance_of s) s.levels.commands command reply (given (event ∷ [])) ≡ s'
+    → Acted start (by_at n s.levels.commands) (stance_of s) s' s.stage command reply v.seen w.seen
+acted_event start v u w n s s' command reply e event a k learns is own l fitting allowed left =
+    let by = by_at n s.levels.commands in
+    let d : Added by event v.seen w.seen = event_added start v u w by e event a.name k learns is own (let f = a.wide in omega arith) l in
+    record {
+      grows = d.grows;
+      added = event ∷ [];
+      own = d.own;
+      each = (own, tt);
+      fitting = fitting;
+      allowed = allowed;
+      left = left;
+    }
+
+-- with none
+pub acted_nothing : (start : Start) (lists lists' : List (List Entry)) (n number : ℕ) (s s' : Stance) (stage : Stage) (command : Command) (reply : Reply) → lists' ≡ lists → HasEvents (by_at n number) s command reply []
+    → MayAnswer start lists (alone (history lists) (history lists)) (by_at n number) s stage command reply → after s number command reply [] ≡ s' → Acted start (by_at n number) s s' stage command reply lists lists'
+acted_nothing start lists lists' n number s s' stage command reply same fitting allowed left =
+    subst (λ z. Acted start (by_at n number) s s' stage command reply lists z) (sym same) (record {
+      grows = record { begins = λ q. begins_same (at lists q) };
+      added = [];
+      own = sym (append-nil (filter (is_of n) (history lists)));
+      each = tt;
+      fitting = fitting;
+      allowed = allowed;
+      left = left;
+    })

@@ -1,0 +1,71 @@
+-- What a call promised stays true while lists grow, so it holds of the final lists.
+use Rattle.std.proofs.Common.{ℕ, List, ◌∷◌, ◌++◌, append_assoc, sym, ap, subst, ◌∙◌}
+use Rattle.notes.specs.Lists.{Grows, at}
+use Rattle.tx_core.proofs.Growing.{contains_begins}
+use Rattle.tx_events.specs.declared.event.By.{By}
+use Rattle.tx_events.specs.declared.event.Event.{Event}
+use Rattle.tx_events.specs.declared.refusal.Refusal.TheVariants as refusals
+use Rattle.tx_model.specs.declared.reply.Reply.TheVariants as replies
+use Rattle.tx_model.specs.Replies.{MayReply}
+use Rattle.tx_model.specs.Stance.{Stance}
+use Rattle.tx_model.proofs.Growth.{may_reply_grows}
+use Rattle.tx_core.specs.declared.entry.Entry.{Entry}
+use Rattle.tx_core.specs.declared.entry.Kind.TheVariants as kinds
+use Rattle.tx_core.specs.declared.entry.Start.{Start}
+use Rattle.tx_core.specs.Entries.{history}
+use Rattle.tx_core.specs.Locks.{log_lock, number_of}
+use Rattle.tx_core.proofs.Lasting.{history_grows}
+use Rattle.engine_parts.specs.Answers.{AnswersStay, IsCommitPending, MetFault, MetLogFault}
+use Rattle.engine_parts.specs.Stand.{IsDownAt}
+
+fault_grows : (lists more : List (List Entry)) (lock : ℕ) (by : By) → Grows lists more → MetFault lists lock by → MetFault more lock by
+fault_grows lists more lock by g f = record {
+  adder = f.adder;
+  callers = f.callers;
+  changes = f.changes;
+  cut = f.cut;
+  count = f.count;
+  hit = f.hit;
+  stands = contains_begins (at lists lock) (at more lock) _ (g.begins lock) f.stands;
+}
+
+log_fault_grows : (lists more : List (List Entry)) (by : By) → Grows lists more → MetLogFault lists by → MetLogFault more by
+log_fault_grows lists more by g f = record { asked = f.asked; count = f.count; stands = contains_begins (at lists log_lock) (at more log_lock) _ (g.begins log_lock) f.stands }
+
+pending_grows : (lists more : List (List Entry)) (by : By) (s : Stance) → Grows lists more → IsCommitPending lists by s → IsCommitPending more by s
+pending_grows lists more by s g p = record {
+  top = p.top;
+  subs = p.subs;
+  other = p.other;
+  own = p.own;
+  earlier = p.earlier;
+  top_is = p.top_is;
+  stands = contains_begins (at lists log_lock) (at more log_lock) _ (g.begins log_lock) p.stands;
+}
+
+down_grows : (start : Start) (lists more : List (List Entry)) (down : ℕ) → Grows lists more → IsDownAt start (at lists log_lock) down → IsDownAt start (at more log_lock) down
+down_grows start lists more down g d =
+    let b = g.begins log_lock in
+    let x : Entry = record { by = d.by; kind = kinds.LogFault d.asked d.count } in record {
+      before = d.before;
+      rest = d.rest ++ b.0;
+      by = d.by;
+      asked = d.asked;
+      count = d.count;
+      split = sym b.1 ∙ (ap (λ (t : List Entry). t ++ b.0) d.split ∙ append_assoc d.before (x ∷ d.rest) b.0);
+      flushed_is = d.flushed_is;
+    }
+
+pub answer_grows : AnswersStay
+answer_grows start lists more r r' by s stage command (replies.Refused refusals.Memory) from to within g later a = tt
+answer_grows start lists more r r' by s stage command (replies.Refused refusals.Full) from to within g later a = tt
+answer_grows start lists more r r' by s stage command (replies.Refused (refusals.DiskFault lock)) from to within g later a = fault_grows lists more (number_of lock) by g a
+answer_grows start lists more r r' by s stage command (replies.Refused refusals.LogFault) from to within g later a = log_fault_grows lists more by g a
+answer_grows start lists more r r' by s stage command (replies.Refused (refusals.LogDown down)) from to within g later a = down_grows start lists more down g a
+answer_grows start lists more r r' by s stage command (replies.Refused refusals.CommitPending) from to within g later a = pending_grows lists more by s g a
+answer_grows start lists more r r' by s stage command (replies.Refused refusals.AbortPending) from to within g later a = a
+answer_grows start lists more r r' by s stage command (replies.Refused refusals.UndoPending) from to within g later a = a
+answer_grows start lists more r r' by s stage command reply from to within g later a =
+    let b = history_grows lists more g in
+    subst (λ (h : List Event). MayReply start.base start.committed h r' by s command reply) b.1
+    (may_reply_grows start.base start.committed (history lists) b.0 r r' by s command reply from to within (later b.0 b.1) a)

@@ -1,0 +1,15 @@
+pub mod Holding
+pub mod Going
+pub mod Leaving
+pub mod May
+pub mod Tabling
+pub mod Logging
+pub mod Banking
+pub mod Setting
+pub mod SubBanking
+pub mod Answering
+pub mod Acting
+pub mod Pending
+pub mod Stepping
+pub mod Newness
+pub mod Placing

@@ -1,0 +1,91 @@
+-- The log stands for its list after each call.
+use Rattle.std.proofs.Common.{◌≡◌, ℕ, ◌+◌, ◌≤◌, List, [], ◌∷◌, ◌++◌, refl, sym, ap, subst, ◌∙◌, append-nil, append_assoc, length, map, arith, Bool, IsTrue, Option, Some, None}
+use Rattle.std.proofs.lemmas.List.{map_push, length-append}
+use Rattle.std.proofs.lemmas.List.Elements.{filter_map-append}
+use Rattle.std.specs.List.{filter_map, cons_option}
+use Rattle.std.proofs.lemmas.List.Sums.{fold_push}
+use Rattle.disk_core.specs.Volume.{Volume}
+use Rattle.tx_events.specs.declared.event.By.{By}
+use Rattle.tx_events.specs.declared.record.Counters.{Counters}
+use Rattle.tx_events.specs.declared.record.Rec.{Rec}
+use Rattle.tx_events.specs.After.{after_record, after_records}
+use Rattle.tx_core.specs.declared.entry.Entry.{Entry}
+use Rattle.tx_core.specs.declared.entry.Kind.{Kind}
+use Rattle.tx_core.specs.declared.entry.Kind.TheVariants as kinds
+use Rattle.tx_core.specs.declared.entry.LogCall.{LogCall}
+use Rattle.tx_core.specs.declared.entry.Start.{Start}
+use Rattle.tx_core.specs.Entries.{appended}
+use Rattle.wal_core.specs.Kept.{KeepsRecords}
+use Rattle.tx_core.specs.RecordsFollow.{counters_after}
+use Rattle.tx_core.specs.Entries.{recs_in}
+use Rattle.engine_parts.specs.Stand.{LogStands, IsDownAt, faults_told, count_in, flushed_in, flushed_to, last_from}
+
+-- one entry more
+recs_push : (es : List Entry) (e : Entry) (rec : Rec) → appended e ≡ Some (e.by, rec) → recs_in (es ++ e ∷ []) ≡ recs_in es ++ rec ∷ []
+recs_push es e rec is = ap (map (λ (a : By × Rec). a.1)) (filter_map-append appended es (e ∷ []) ∙ ap (λ o. filter_map appended es ++ cons_option o []) is) ∙ map_push (λ (a : By × Rec). a.1) (filter_map appended es) (e.by, rec)
+
+pub recs_same : (es : List Entry) (e : Entry) → appended e ≡ None → recs_in (es ++ e ∷ []) ≡ recs_in es
+recs_same es e is = ap (map (λ (a : By × Rec). a.1)) (filter_map-append appended es (e ∷ []) ∙ (ap (λ o. filter_map appended es ++ cons_option o []) is ∙ append-nil (filter_map appended es)))
+
+end_is : (n : ℕ) (xs : List ℕ) (x : ℕ) → last_from n (xs ++ x ∷ []) ≡ x
+end_is n [] x = refl
+end_is n (y ∷ xs) x = end_is y xs x
+
+pub number_push : (f : Kind → Option ℕ) (n : ℕ) (es : List Entry) (e : Entry) (x : ℕ) → f e.kind ≡ Some x → last_from n (filter_map (λ (d : Entry). f d.kind) (es ++ e ∷ [])) ≡ x
+number_push f n es e x is = ap (last_from n) (filter_map-append (λ (d : Entry). f d.kind) es (e ∷ []) ∙ ap (λ o. filter_map (λ (d : Entry). f d.kind) es ++ cons_option o []) is) ∙ end_is n (filter_map (λ (d : Entry). f d.kind) es) x
+
+pub number_same : (f : Kind → Option ℕ) (n : ℕ) (es : List Entry) (e : Entry) → f e.kind ≡ None → last_from n (filter_map (λ (d : Entry). f d.kind) (es ++ e ∷ [])) ≡ last_from n (filter_map (λ (d : Entry). f d.kind) es)
+number_same f n es e is = ap (last_from n) (filter_map-append (λ (d : Entry). f d.kind) es (e ∷ []) ∙ (ap (λ o. filter_map (λ (d : Entry). f d.kind) es ++ cons_option o []) is ∙ append-nil (filter_map (λ (d : Entry). f d.kind) es)))
+
+pub failed_more : (start : Start) (es : List Entry) (e : Entry) (n : ℕ) → IsDownAt start es n → IsDownAt start (es ++ e ∷ []) n
+failed_more start es e n d =
+    let x : Entry = record { by = d.by; kind = kinds.LogFault d.asked d.count } in record {
+      before = d.before;
+      rest = d.rest ++ e ∷ [];
+      by = d.by;
+      asked = d.asked;
+      count = d.count;
+      split = ap (λ (t : List Entry). t ++ e ∷ []) d.split ∙ append_assoc d.before (x ∷ d.rest) (e ∷ []);
+      flushed_is = d.flushed_is;
+    }
+
+pub failed_here : (start : Start) (es : List Entry) (by : By) (asked : LogCall) (count n : ℕ) → n ≡ flushed_to start es → IsDownAt start (es ++ record { by = by; kind = kinds.LogFault asked count } ∷ []) n
+failed_here start es by asked count n is = record { before = es; rest = []; by = by; asked = asked; count = count; split = refl; flushed_is = is }
+
+module _ (start : Start) (tells : Bool) (faults faults' : ℕ) (images images' : Volume → Type 0) (recs recs' : List Rec) (next next' first first' flushed flushed' : ℕ) (counters counters' : Option Counters) (down down' : Option ℕ) (es : List Entry) (by : By) (s : LogStands start tells faults images recs next first flushed counters down es) where
+  -- an append
+  pub appends : (rec : Rec) → recs' ≡ recs ++ rec ∷ [] → next' ≡ next + 1 → flushed' ≡ flushed → counters' ≡ Some (after_record (counters_after start es) rec) → down' ≡ down → faults' ≡ faults
+      → (IsTrue tells → (number : ℕ) (all : List Rec) → KeepsRecords number all recs next first flushed images → KeepsRecords number (all ++ rec ∷ []) recs' next' first' flushed' images')
+      → LogStands start tells faults' images' recs' next' first' flushed' counters' down' (es ++ record { by = by; kind = kinds.Append rec } ∷ [])
+  appends rec r n f c d u k =
+      let e : Entry = record { by = by; kind = kinds.Append rec } in
+      let more : recs_in (es ++ e ∷ []) ≡ recs_in es ++ rec ∷ [] = recs_push es e rec refl in record {
+        recs_are = r ∙ (ap (λ (l : List Rec). l ++ rec ∷ []) s.recs_are ∙ (append_assoc start.logged (recs_in es) (rec ∷ []) ∙ ap (λ (l : List Rec). start.logged ++ l) (sym more)));
+        next_is = let long : length (recs_in (es ++ e ∷ [])) ≡ length (recs_in es) + 1 = ap length more ∙ length-append (recs_in es) (rec ∷ []) in let old = s.next_is in omega arith;
+        flushed_is = f ∙ (s.flushed_is ∙ sym (number_same flushed_in start.from es e refl));
+        counters_are = c ∙ ap (λ (l : Counters). Some l) (sym (ap (after_records start.base) more ∙ fold_push after_record start.base (recs_in es) rec));
+        failed = λ m is. failed_more start es e m (s.failed m (sym d ∙ is));
+        count = let a : faults_told (es ++ e ∷ []) ≡ faults_told es = number_same count_in 0 es e refl in let b = s.count in omega arith;
+        kept = λ told.
+            let old = s.kept told in
+            (old.0, old.1, subst (λ (l : List Rec). KeepsRecords old.0 l recs' next' first' flushed' images') (append_assoc old.1 (recs_in es) (rec ∷ []) ∙ ap (λ (l : List Rec). old.1 ++ l) (sym more)) (k told old.0 (old.1 ++ recs_in es) old.2));
+      }
+
+  -- a call that appended nothing: what it says of flushes and faults comes with the entry
+  pub goes_on : (kind : Kind) → appended (record { by = by; kind = kind }) ≡ None → recs' ≡ recs → next' ≡ next → counters' ≡ counters → flushed' ≡ flushed_to start (es ++ record { by = by; kind = kind } ∷ [])
+      → faults_told (es ++ record { by = by; kind = kind } ∷ []) ≤ faults' → ((m : ℕ) → down' ≡ Some m → IsDownAt start (es ++ record { by = by; kind = kind } ∷ []) m)
+      → (IsTrue tells → (number : ℕ) (all : List Rec) → KeepsRecords number all recs next first flushed images → KeepsRecords number all recs' next' first' flushed' images')
+      → LogStands start tells faults' images' recs' next' first' flushed' counters' down' (es ++ record { by = by; kind = kind } ∷ [])
+  goes_on kind none r n c f u d k =
+      let e : Entry = record { by = by; kind = kind } in
+      let same : recs_in (es ++ e ∷ []) ≡ recs_in es = recs_same es e none in record {
+        recs_are = r ∙ (s.recs_are ∙ ap (λ (l : List Rec). start.logged ++ l) (sym same));
+        next_is = n ∙ (s.next_is ∙ ap (λ (l : List Rec). start.from + length l) (sym same));
+        flushed_is = f;
+        counters_are = c ∙ (s.counters_are ∙ ap (λ (l : List Rec). Some (after_records start.base l)) (sym same));
+        failed = d;
+        count = u;
+        kept = λ told.
+            let old = s.kept told in
+            (old.0, old.1, subst (λ (l : List Rec). KeepsRecords old.0 (old.1 ++ l) recs' next' first' flushed' images') (sym same) (k told old.0 (old.1 ++ recs_in es) old.2));
+      }

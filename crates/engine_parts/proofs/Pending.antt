@@ -1,0 +1,84 @@
+-- A commit is pending by the session's own record.
+use Rattle.std.proofs.Common.{Contains, IfSome, Option, Some, refl, subst, ◌≡◌, ℕ, ◌+◌, ◌≤◌, List, [], ◌∷◌, ◌==◌, true, sym, ap, ◌∙◌, eq-eqb, arith}
+use Rattle.std.specs.List.{filter}
+use Rattle.std.proofs.lemmas.Bool.{false≢true}
+use Rattle.std.proofs.lemmas.List.Elements.{All-contains}
+use Rattle.notes.specs.Lists.{at}
+use Rattle.tx_events.specs.declared.event.Event.{Event}
+use Rattle.tx_events.specs.declared.record.Rec.TheVariants as records
+use Rattle.tx_events.proofs.Membership.{contains_has, filter_has, has_contains}
+use Rattle.tx_events.specs.declared.refusal.Refusal.{Refusal}
+use Rattle.tx_model.specs.declared.command.Command.{Command}
+use Rattle.tx_model.specs.declared.reply.Reply.TheVariants as replies
+use Rattle.tx_model.specs.Replies.{RoundSpan}
+use Rattle.tx_model.specs.Stance.{top_level}
+use Rattle.tx_core.specs.declared.entry.Entry.{Entry}
+use Rattle.tx_core.specs.declared.entry.Kind.TheVariants as kinds
+use Rattle.tx_core.specs.declared.entry.Start.{Start}
+use Rattle.tx_core.specs.Entries.{IsAppended, history}
+use Rattle.tx_core.specs.Locks.{log_lock}
+use Rattle.tx_core.proofs.Reading.{flushed_appended}
+use Rattle.session_run.specs.Stands.{Nest, levels_of}
+use Rattle.session_run.proofs.LevelLemmas.{top_of_named}
+use Rattle.engine_parts.specs.declared.session.Session.{Session}
+use Rattle.engine_parts.specs.declared.session.Stage.{Stage}
+use Rattle.engine_parts.specs.declared.session.Stage.TheVariants as stages
+use Rattle.engine_parts.specs.Answers.{IsCommitPending, MayAnswer}
+use Rattle.engine_parts.specs.Holds.{Knowledge}
+use Rattle.engine_parts.specs.Sessions.{MayCall, by_at, stance_of}
+use Rattle.engine_parts.specs.Stages.{IsInStage, may_be_recorded, pending_in}
+
+-- the record that a stage tells of
+record HasRecord (lists : List (List Entry)) (n : ℕ) (opened : List ℕ) : Type 0 where
+  top : ℕ
+  subs : List ℕ
+  ids : opened ≡ top ∷ subs
+  appended : IsAppended lists n (records.Commit top subs)
+
+record_of : (start : Start) (lists : List (List Entry)) (n : ℕ) (opened : List ℕ) (stage : Stage) → may_be_recorded stage ≡ true → IsInStage start lists n opened stage → HasRecord lists n opened
+record_of start lists n opened stages.Clear q i = absurd (false≢true q)
+record_of start lists n opened stages.Logged q i = record { top = i.top; subs = i.subs; ids = i.ids; appended = i.appended }
+record_of start lists n opened (stages.Settling steps) q i = record { top = i.top; subs = i.subs; ids = i.ids; appended = flushed_appended start lists n (records.Commit i.top i.subs) i.flushed }
+record_of start lists n opened stages.Aborting q i = absurd (false≢true q)
+record_of start lists n opened stages.Undoing q i = absurd (false≢true q)
+
+first_level : (h : List Event) (opened named : List ℕ) (unnamed top : ℕ) (subs : List ℕ) → Nest h opened named → opened ≡ top ∷ subs → top_level (levels_of named unnamed) ≡ Some top
+first_level h opened [] unnamed top subs nest is = absurd (none (sym nest ∙ is))
+  where
+    none : [] ≡ top ∷ subs → ⊥
+    none e = cc
+first_level h opened (t ∷ savepoints) unnamed top subs nest is = top_of_named t savepoints unnamed ∙ ap (λ z. Some z) (same (sym nest.1 ∙ is))
+  where
+    same : t ∷ nest.0 ≡ top ∷ subs → t ≡ top
+    same e = cc
+
+pub commit_pends : (start : Start) (v : Knowledge) (n : ℕ) (s : Session) → MayCall start v n s → may_be_recorded s.stage ≡ true → IsCommitPending v.seen (by_at n (s.levels.commands + 1)) (stance_of s)
+commit_pends start v n s m recorded =
+    let a = m.ready.at in
+    let r = record_of start v.seen n s.levels.open_ids.items s.stage recorded m.stage in
+    let e : Entry = record { by = r.appended.0; kind = kinds.Append (records.Commit r.top r.subs) } in
+    let mine : Contains (filter (λ (f : Entry). f.by.session == n) (at v.seen log_lock)) e =
+    has_contains _ e (filter_has (λ (f : Entry). f.by.session == n) (at v.seen log_lock) e (contains_has (at v.seen log_lock) e r.appended.2) (eq-eqb r.appended.0.session n r.appended.1)) in
+    let before : r.appended.0.command ≤ s.levels.commands = All-contains (λ (f : Entry). f.by.command ≤ s.levels.commands) _ e (a.turns log_lock) mine in
+    record {
+      top = r.top;
+      subs = r.subs;
+      other = r.appended.0;
+      own = r.appended.1;
+      earlier = omega arith;
+      top_is = first_level (history v.seen) s.levels.open_ids.items s.levels.level_ids.items s.levels.unnamed r.top r.subs a.stands.nest r.ids;
+      stands = r.appended.2;
+    }
+
+-- the refusals by the stage are lawful
+pub pending_answer : (start : Start) (v : Knowledge) (n : ℕ) (s : Session) (span : RoundSpan) (command : Command) (r : Refusal) → MayCall start v n s → pending_in s.stage ≡ Some r
+    → MayAnswer start v.seen span (by_at n (s.levels.commands + 1)) (stance_of s) s.stage command (replies.Refused r)
+pending_answer start v n s span command r m is =
+    subst (λ (o : Option Refusal). IfSome o (λ x. MayAnswer start v.seen span (by_at n (s.levels.commands + 1)) (stance_of s) s.stage command (replies.Refused x))) is (each s.stage (commit_pends start v n s m))
+  where
+    each : (x : Stage) → (may_be_recorded x ≡ true → IsCommitPending v.seen (by_at n (s.levels.commands + 1)) (stance_of s)) → IfSome (pending_in x) (λ r. MayAnswer start v.seen span (by_at n (s.levels.commands + 1)) (stance_of s) x command (replies.Refused r))
+    each stages.Clear f = tt
+    each stages.Logged f = f refl
+    each (stages.Settling steps) f = f refl
+    each stages.Aborting f = refl
+    each stages.Undoing f = refl

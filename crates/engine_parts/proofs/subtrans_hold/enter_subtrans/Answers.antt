@@ -1,0 +1,26 @@
+use Rattle.std.proofs.Common.{◌≡◌, arith, subst}
+use Rattle.notes.specs.Lists.{at}
+use Rattle.tx_core.specs.Locks.{subtrans_lock}
+use Rattle.engine_parts.specs.Parts.{PartStands, IsSubtransOf}
+use Rattle.hall.specs.Calls.{view, start_of}
+use Rattle.engine_parts.proofs.Going.{at_on}
+use Rattle.engine_parts.proofs.Placing.{is_subtrans}
+use Rattle.engine_parts.proofs.subtrans_hold.enter_subtrans.Goals as goal
+
+pub returns-clause-at : goal.returns-clause-at
+returns-clause-at g c =
+    let e = c.enter-part.ensures.entered in
+    at_on (start_of c.args.hall.now) (view c.args.caller.now.pass) (view c.enter-part.new.pass) c.args.caller.now.number c.args.caller.now.session c.requires.ready.at e.learns e.kept
+
+pub returns-clause-stands : goal.returns-clause-stands
+returns-clause-stands g c =
+    let start = start_of c.args.hall.now in
+    let es = at (view c.enter-part.new.pass).seen (subtrans_lock c.args.bank) in
+    let s = subst (λ z. PartStands start (subtrans_lock c.args.bank) z es) c.in-Subtrans.is c.enter-part.ensures.stands in
+    let e = s.1 in
+    let same : s.0 ≡ c.args.bank = omega arith in
+    subst (λ z. IsSubtransOf start z c.in-Subtrans.store es) same s.2
+
+pub unreachable-requires : goal.unreachable-requires
+unreachable-requires g c =
+    is_subtrans (start_of c.args.hall.now) c.args.bank c.enter-part.result (at (view c.enter-part.new.pass).seen (subtrans_lock c.args.bank)) c.enter-part.ensures.stands c.in_default.not-Subtrans

@@ -1,0 +1,97 @@
+-- What a call of the engine promises, and keeps promising while others go on.
+use Rattle.std.specs.Prelude.{◌≡◌, ℕ, ◌<◌, ◌≤◌, length, List, ◌++◌, Result, Ok, Err, Option, Some, Contains}
+use Rattle.std.specs.List.{AllByRecursion, filter}
+use Rattle.notes.specs.Lists.{Grows, at}
+use Rattle.tx_events.specs.declared.event.By.{By}
+use Rattle.tx_events.specs.declared.event.Event.{Event}
+use Rattle.tx_events.specs.declared.record.Rec.TheVariants as records
+use Rattle.tx_events.specs.declared.refusal.Refusal.{Refusal}
+use Rattle.tx_events.specs.declared.refusal.Refusal.TheVariants as refusals
+use Rattle.tx_events.specs.Events.{by_of, given, is_of}
+use Rattle.tx_model.specs.declared.command.Command.{Command}
+use Rattle.tx_model.specs.declared.reply.Reply.{Reply}
+use Rattle.tx_model.specs.declared.reply.Reply.TheVariants as replies
+use Rattle.tx_model.specs.CommandEvents.{HasEvents}
+use Rattle.tx_model.specs.Replies.{MayReply, RoundSpan, alone}
+use Rattle.tx_model.specs.Stance.{Stance, after, top_level}
+use Rattle.tx_core.specs.declared.entry.Change.{Change}
+use Rattle.tx_core.specs.declared.entry.Entry.{Entry}
+use Rattle.tx_core.specs.declared.entry.Kind.TheVariants as kinds
+use Rattle.tx_core.specs.declared.entry.LogCall.{LogCall}
+use Rattle.tx_core.specs.declared.entry.Start.{Start}
+use Rattle.tx_core.specs.Entries.{history}
+use Rattle.tx_core.specs.Locks.{log_lock, number_of}
+use Rattle.engine_parts.specs.declared.session.Stage.{Stage}
+use Rattle.engine_parts.specs.declared.session.Stage.TheVariants as stages
+use Rattle.engine_parts.specs.Stand.{IsDownAt}
+
+-- the volume behind a bank failed, and this command was hit
+pub record MetFault (lists : List (List Entry)) (lock : ℕ) (by : By) : Type 0 where
+  pub adder : By
+  pub callers : List By
+  pub changes : List Change
+  pub cut : Option ℕ
+  pub count : ℕ
+  pub hit : Contains callers by
+  pub stands : Contains (at lists lock) (record { by = adder; kind = kinds.Fault callers changes cut count })
+
+-- the log's volume failed in a call of this command
+pub record MetLogFault (lists : List (List Entry)) (by : By) : Type 0 where
+  pub asked : LogCall
+  pub count : ℕ
+  pub stands : Contains (at lists log_lock) (record { by = by; kind = kinds.LogFault asked count })
+
+-- the commit record of the open transaction stands, and an earlier command of the session appended it
+pub record IsCommitPending (lists : List (List Entry)) (by : By) (s : Stance) : Type 0 where
+  pub top : ℕ
+  pub subs : List ℕ
+  pub other : By
+  pub own : other.session ≡ by.session
+  pub earlier : other.command < by.command
+  pub top_is : top_level s.levels ≡ Some top
+  pub stands : Contains (at lists log_lock) (record { by = other; kind = kinds.Append (records.Commit top subs) })
+
+-- The reply that a command may get, by the lists as they are then or later. A fault is one that this command met, a
+-- log is down behind a fault that its list has. A commit is pending by the session's own record, an abort or an undo
+-- by its stage. Memory may be wanting at any time; of `Full` the lists don't tell, as they have no sizes.
+abbrev pub MayAnswer : Start → List (List Entry) → RoundSpan → By → Stance → Stage → Command → Reply → Type 0
+MayAnswer start lists span by s stage command (replies.Refused refusals.Memory) = Unit {0}
+MayAnswer start lists span by s stage command (replies.Refused refusals.Full) = Unit {0}
+MayAnswer start lists span by s stage command (replies.Refused (refusals.DiskFault lock)) =
+    MetFault lists (number_of lock) by
+MayAnswer start lists span by s stage command (replies.Refused refusals.LogFault) = MetLogFault lists by
+MayAnswer start lists span by s stage command (replies.Refused (refusals.LogDown down)) =
+    IsDownAt start (at lists log_lock) down
+MayAnswer start lists span by s stage command (replies.Refused refusals.CommitPending) = IsCommitPending lists by s
+MayAnswer start lists span by s stage command (replies.Refused refusals.AbortPending) = stage ≡ stages.Aborting
+MayAnswer start lists span by s stage command (replies.Refused refusals.UndoPending) = stage ≡ stages.Undoing
+MayAnswer start lists span by s stage command reply =
+    MayReply start.base start.committed (history lists) span by s command reply
+
+-- What a call did: the lists went on, the session's events are those before and then these, which are the command's and
+-- fit its reply. The reply is lawful, and the session stands as it leaves it.
+pub record Acted (start : Start) (by : By) (s s' : Stance) (stage : Stage) (command : Command) (reply : Reply)
+    (lists lists' : List (List Entry)) : Type 0 where
+  pub grows : Grows lists lists'
+  pub added : List Event
+  pub own : filter (is_of by.session) (history lists') ≡ filter (is_of by.session) (history lists) ++ added
+  pub each : AllByRecursion (λ e. by_of e ≡ by) added
+  pub fitting : HasEvents by s command reply added
+  pub allowed : MayAnswer start lists' (alone (history lists) (history lists')) by s stage command reply
+  pub left : after s by.command command reply (given added) ≡ s'
+
+-- the reply of a result
+abbrev pub reply_of : {T : Type 0} → (T → Reply) → Result T Refusal → Reply
+reply_of f (Ok x) = f x
+reply_of f (Err r) = replies.Refused r
+
+-- What a command may be answered it may be answered in longer lists and over a wider span too, where the events that
+-- are more are of other sessions or of later commands.
+abbrev pub AnswersStay : Type 0
+AnswersStay =
+    (start : Start) (lists more : List (List Entry)) (span wider : RoundSpan) (by : By) (s : Stance) (stage : Stage)
+    (command : Command) (reply : Reply)
+    → wider.from ≤ span.from → span.to ≤ wider.to → span.to ≤ length (history lists) → Grows lists more
+    → ((rest : List Event) → history lists ++ rest ≡ history more → AllByRecursion (λ e.
+    (by_of e).session ≡ by.session → by.command < (by_of e).command) rest)
+    → MayAnswer start lists span by s stage command reply → MayAnswer start more wider by s stage command reply

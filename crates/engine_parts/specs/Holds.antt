@@ -1,0 +1,34 @@
+-- What a session learns at a lock, and leaves there.
+use Rattle.std.specs.Prelude.{◌≡◌, ℕ, length}
+use Rattle.hall.specs.declared.view.View.{View}
+use Rattle.hall.specs.declared.view.Stage.TheVariants.{Free, Inside}
+use Rattle.notes.specs.Lists.{Knows, add}
+use Rattle.tx_core.specs.declared.entry.Entry.{Entry}
+use Rattle.tx_core.specs.declared.entry.Start.{Start}
+use Rattle.tx_core.specs.Entries.{session_of}
+use Rattle.tx_core.specs.EngineInvariant.{EngineInvariant}
+
+-- what a pass knows of the lists of all locks
+abbrev pub Knowledge : Type 0
+Knowledge = View Start Entry
+
+-- The knowledge goes on: what is seen goes on from what was seen, and has no more entries of the session's own
+pub record Learns (v w : Knowledge) : Type 0 where
+  pub knows : Knows session_of v.name v.seen w.seen
+  pub long : length w.seen ≡ length v.seen
+  pub name : w.name ≡ v.name
+  pub holds : w.holds ≡ v.holds
+
+-- a lock was entered
+pub record Enters (start : Start) (lock : ℕ) (v w : Knowledge) : Type 0 where
+  pub learns : Learns v w
+  pub kept : EngineInvariant start w.seen
+  pub inside : w.stage ≡ Inside lock
+
+-- a lock was left with one entry more
+pub record Leaves (start : Start) (lock : ℕ) (e : Entry) (v w : Knowledge) : Type 0 where
+  pub seen : w.seen ≡ add v.seen lock e
+  pub kept : EngineInvariant start w.seen
+  pub free : w.stage ≡ Free
+  pub name : w.name ≡ v.name
+  pub holds : w.holds ≡ v.holds

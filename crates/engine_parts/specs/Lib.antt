@@ -1,0 +1,10 @@
+pub mod Stand
+pub mod Parts
+pub mod Law
+pub mod Holds
+pub mod Stages
+pub mod Sessions
+pub mod New
+pub mod Answers
+pub mod Steps
+pub mod Faults

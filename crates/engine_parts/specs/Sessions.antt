@@ -1,0 +1,68 @@
+-- How a session stands in the lists that it has seen.
+use Rattle.std.specs.Prelude.{◌≡◌, ℕ, ◌+◌, ◌*◌, ◌<◌, ◌≤◌, ◌⊎◌, false, List, Option, None, Some, IfSome, Contains, drop, length}
+use Rattle.hall.specs.declared.view.Stage.TheVariants.{Free}
+use Rattle.notes.specs.Lists.{at}
+use Rattle.tx_events.specs.declared.event.By.{By}
+use Rattle.tx_events.specs.Base.{IsBase}
+use Rattle.tx_core.specs.declared.entry.Entry.{Entry}
+use Rattle.tx_core.specs.declared.entry.Kind.TheVariants as kinds
+use Rattle.tx_core.specs.declared.entry.Start.{Start}
+use Rattle.tx_core.specs.CommitRecordsExact.{HasNoRecord}
+use Rattle.tx_core.specs.EngineInvariant.{EngineInvariant}
+use Rattle.tx_core.specs.Entries.{IsLinked, history}
+use Rattle.tx_core.specs.PagesBeforeIds.{IsMade}
+use Rattle.tx_core.specs.ParentsFollow.{IsGivenBelow}
+use Rattle.tx_core.specs.ProgramOrder.{IsInTurn}
+use Rattle.session_run.specs.Stands as levels
+use Rattle.tx_model.specs.Stance.{Stance}
+use Rattle.engine_parts.specs.declared.session.Session.{Session}
+use Rattle.engine_parts.specs.declared.session.Unlinked.{Unlinked}
+use Rattle.engine_parts.specs.Holds.{Knowledge}
+use Rattle.engine_parts.specs.Stages.{IsInStage, may_be_recorded}
+
+abbrev pub by_at : ℕ → ℕ → By
+by_at session command = record { session = session; command = command }
+
+-- the entry of a critical section in which the session's command changed nothing
+abbrev pub look_by : ℕ → Session → Entry
+look_by n s = record { by = by_at n s.levels.commands; kind = kinds.Look }
+
+-- the session as its lines leave it
+abbrev pub stance_of : Session → Stance
+stance_of s = levels.stance_of s.levels
+
+abbrev pub IsThe : Option Unlinked → ℕ → Type 0
+IsThe None id = ⊥
+IsThe (Some u) id = u.id ≡ id
+
+-- The parent of each open id but the first is recorded, but maybe that of one, which was given below it and has its
+-- pages
+pub record IsFiled (start : Start) (lists : List (List Entry)) (n : ℕ) (opened : List ℕ)
+    (unlinked : Option Unlinked) : Type 0 where
+  pub linked : (id : ℕ) → Contains (drop 1 opened) id → ((parent : ℕ) × IsLinked start lists id parent)
+      ⊎ IsThe unlinked id
+  pub pending : IfSome unlinked (λ u. IsGivenBelow lists n u.parent u.id × IsMade start lists u.id)
+
+-- The lists keep the invariant, all entries of the session are of its commands so far, its levels, ids and snapshots
+-- are those of the history, and the parents of its open ids are recorded. Between two critical sections and within
+-- one.
+pub record IsAt (start : Start) (v : Knowledge) (n : ℕ) (s : Session) : Type 0 where
+  pub base : IsBase start.base
+  pub kept : EngineInvariant start v.seen
+  pub name : v.name ≡ n
+  pub known : n < start.sessions
+  pub wide : 3 + 4 * start.banks ≤ length v.seen
+  pub turns : (lock : ℕ) → IsInTurn (at v.seen lock) (by_at n s.levels.commands)
+  pub stands : levels.Stands start.base (history v.seen) n s.levels.commands s.levels
+  pub clear : may_be_recorded s.stage ≡ false → HasNoRecord v.seen n
+  pub filed : IsFiled start v.seen n s.levels.open_ids.items s.unlinked
+
+-- it is inside no lock
+pub record IsReady (start : Start) (v : Knowledge) (n : ℕ) (s : Session) : Type 0 where
+  pub at : IsAt start v n s
+  pub free : v.stage ≡ Free
+
+-- it stands between two calls, with an end that was begun as far as its stage says
+pub record MayCall (start : Start) (v : Knowledge) (n : ℕ) (s : Session) : Type 0 where
+  pub ready : IsReady start v n s
+  pub stage : IsInStage start v.seen n s.levels.open_ids.items s.stage

@@ -1,0 +1,88 @@
+-- How far the end of a transaction has come, by the lists.
+use Rattle.std.specs.Prelude.{◌≡◌, ℕ, ◌+◌, ◌<◌, ◌≤◌, Bool, true, false, cond, List, ◌∷◌, Contains, Option, None, Some, length, slice_get}
+use Rattle.std.specs.List.{slice_range}
+use Rattle.tx_events.specs.declared.record.Rec.TheVariants as records
+use Rattle.tx_events.specs.declared.refusal.Refusal.{Refusal}
+use Rattle.tx_events.specs.declared.refusal.Refusal.TheVariants as refusals
+use Rattle.pg_xact_log.specs.declared.plan.PlanStep.{PlanStep}
+use Rattle.pg_xact_log.specs.declared.xact_state.State as stored
+use Rattle.pg_xact_log.specs.declared.xact_state.State.TheVariants as named
+use Rattle.pg_xact_log.specs.Plan.{plan}
+use Rattle.tx_core.specs.declared.entry.Entry.{Entry}
+use Rattle.tx_core.specs.declared.entry.Start.{Start}
+use Rattle.tx_core.specs.declared.entry.State.{State}
+use Rattle.tx_core.specs.declared.entry.State.TheVariants as states
+use Rattle.tx_core.specs.AbortRule.{Asks}
+use Rattle.tx_core.specs.Entries.{IsAppended, IsFlushed, IsMarked}
+use Rattle.engine_parts.specs.declared.session.Stage.{Stage}
+use Rattle.engine_parts.specs.declared.session.Stage.TheVariants as stages
+
+-- whether a commit record of what is open may stand in the log
+abbrev pub may_be_recorded : Stage → Bool
+may_be_recorded stages.Logged = true
+may_be_recorded (stages.Settling steps) = true
+may_be_recorded _ = false
+
+-- the session asked for no state of these ids
+abbrev pub AreUnasked : List (List Entry) → ℕ → List ℕ → Type 0
+AreUnasked lists n ids = (id : ℕ) (state : State) → Contains ids id → Asks lists n id state → ⊥
+
+-- why a call that needs the transaction as it was is refused in this stage
+abbrev pub pending_in : Stage → Option Refusal
+pending_in stages.Clear = None
+pending_in stages.Logged = Some refusals.CommitPending
+pending_in (stages.Settling steps) = Some refusals.CommitPending
+pending_in stages.Aborting = Some refusals.AbortPending
+pending_in stages.Undoing = Some refusals.UndoPending
+
+-- between two moments the session asked for no more states
+abbrev pub AsksNothing : ℕ → List (List Entry) → List (List Entry) → Type 0
+AsksNothing n lists more = (id : ℕ) (state : State) → Asks more n id state → Asks lists n id state
+
+-- the commit record of the open ids stands, and the session asked for no state of them yet
+pub record IsLogged (lists : List (List Entry)) (n : ℕ) (opened : List ℕ) : Type 0 where
+  pub top : ℕ
+  pub subs : List ℕ
+  pub ids : opened ≡ top ∷ subs
+  pub appended : IsAppended lists n (records.Commit top subs)
+  pub unasked : AreUnasked lists n opened
+
+-- a state of pg_xact that a commit sets
+abbrev pub state_of : stored.State → State
+state_of named.InProgress = states.Aborted
+state_of named.Committed = states.Committed
+state_of named.Aborted = states.Aborted
+state_of named.SubCommitted = states.SubCommitted
+
+-- where a step's ids begin among the open ids, the top and then the subtransactions
+abbrev pub step_first : PlanStep → ℕ
+step_first p = cond p.with_top 0 (p.first + 1)
+
+abbrev pub step_ids : List ℕ → PlanStep → List ℕ
+step_ids opened p = slice_range opened (step_first p) (p.past + 1)
+
+-- the first so many steps are done
+abbrev pub AreDone : Start → List (List Entry) → List ℕ → List PlanStep → ℕ → Type 0
+AreDone start lists opened plan steps =
+    (j : ℕ) (p : PlanStep) → j < steps → slice_get plan j ≡ Some p → (id : ℕ) → Contains (step_ids opened p) id
+    → IsMarked start lists id (state_of p.state)
+
+-- The commit record of the open ids is on disk, and the first so many steps of the tree rule are done. As long as the
+-- next step sets sub-committed, the session asked for no committed state of any of the ids.
+pub record IsSettling (start : Start) (lists : List (List Entry)) (n : ℕ) (opened : List ℕ) (steps : ℕ) : Type 0 where
+  pub top : ℕ
+  pub subs : List ℕ
+  pub ids : opened ≡ top ∷ subs
+  pub flushed : IsFlushed start lists n (records.Commit top subs)
+  pub upto : steps ≤ length (plan top subs)
+  pub done : AreDone start lists opened (plan top subs) steps
+  pub fresh : (p : PlanStep) → slice_get (plan top subs) steps ≡ Some p → state_of p.state ≡ states.SubCommitted
+      → (id : ℕ) → Contains opened id → Asks lists n id states.Committed → ⊥
+
+-- what the lists say where the session's end has come so far
+abbrev pub IsInStage : Start → List (List Entry) → ℕ → List ℕ → Stage → Type 0
+IsInStage start lists n opened stages.Clear = AreUnasked lists n opened
+IsInStage start lists n opened stages.Logged = IsLogged lists n opened
+IsInStage start lists n opened (stages.Settling steps) = IsSettling start lists n opened steps
+IsInStage start lists n opened stages.Aborting = Unit {0}
+IsInStage start lists n opened stages.Undoing = Unit {0}

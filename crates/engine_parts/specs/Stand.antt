@@ -1,0 +1,156 @@
+-- What a value behind a lock says, where the lock's list is this one. A record for each kind of value, over plain
+-- numbers, lists and maps.
+use Rattle.std.specs.Prelude.{◌≡◌, ℕ, ◌+◌, ◌*◌, ◌^◌, ◌%◌, ◌<◌, ◌≤◌, ◌⊎◌, Bool, false, IsTrue, List, ◌∷◌, ◌++◌, length, Option, Some, None, Contains}
+use Rattle.std.specs.List.{filter_map, fold}
+use Rattle.disk_core.specs.Volume.{Volume}
+use Rattle.tx_events.specs.declared.event.By.{By}
+use Rattle.tx_events.specs.declared.record.Counters.{Counters}
+use Rattle.tx_events.specs.declared.record.Rec.{Rec}
+use Rattle.proc_table.specs.Table.{Table}
+use Rattle.wal_core.specs.Kept.{KeepsRecords}
+use Rattle.xid_order.specs.Ids.{IsFullId}
+use Rattle.xid_order.specs.PageOrder.{Ids, is_cut}
+use Rattle.store_pages.specs.Layouts.{state_in, xact_page_of, xact_place_of, number_in, word_page_of, word_place_of}
+use Rattle.tx_core.specs.declared.entry.Entry.{Entry}
+use Rattle.tx_core.specs.declared.entry.Kind.{Kind}
+use Rattle.tx_core.specs.declared.entry.Kind.TheVariants as kinds
+use Rattle.tx_core.specs.declared.entry.LogCall.{LogCall}
+use Rattle.tx_core.specs.declared.entry.Start.{Start}
+use Rattle.tx_core.specs.declared.entry.State.{State}
+use Rattle.tx_core.specs.declared.entry.State.TheVariants as states
+use Rattle.tx_core.specs.CleanStart.{CleanStart}
+use Rattle.tx_core.specs.Entries.{events_in, recs_in}
+use Rattle.tx_core.specs.Locks.{subtrans_page}
+use Rattle.tx_core.specs.Pages.{Pages, pages_after, subtrans_store, xact_store}
+use Rattle.tx_core.specs.RecordsFollow.{counters_after}
+
+-- the last of the numbers, or n where there is none
+abbrev pub last_from : ℕ → List ℕ → ℕ
+last_from n xs = fold (λ _ x. x) n xs
+
+-- ---- faults
+
+-- the count of faults that an entry tells
+abbrev pub count_in : Kind → Option ℕ
+count_in (kinds.LogFault asked count) = Some count
+count_in (kinds.Fault callers changes cut count) = Some count
+count_in _ = None
+
+-- the count that the list tells last
+abbrev pub faults_told : List Entry → ℕ
+faults_told es = last_from 0 (filter_map (λ e. count_in e.kind) es)
+
+-- ---- the log
+
+abbrev pub flushed_in : Kind → Option ℕ
+flushed_in (kinds.Flush to) = Some to
+flushed_in _ = None
+
+-- the number below which all records are flushed
+abbrev pub flushed_to : Start → List Entry → ℕ
+flushed_to start es = last_from start.from (filter_map (λ e. flushed_in e.kind) es)
+
+-- a call of the log failed when the records below this number were flushed
+pub record IsDownAt (start : Start) (es : List Entry) (flushed : ℕ) : Type 0 where
+  pub before : List Entry
+  pub rest : List Entry
+  pub by : By
+  pub asked : LogCall
+  pub count : ℕ
+  pub split : es ≡ before ++ record { by = by; kind = kinds.LogFault asked count } ∷ rest
+  pub flushed_is : flushed ≡ flushed_to start before
+
+-- The log has the records from before and those that were appended. Its flushed number is that of the last flush, it is
+-- down only where it met a fault, and each image of its volume opens to the records that are flushed.
+pub record LogStands (start : Start) (tells : Bool) (faults : ℕ) (images : Volume → Type 0) (recs : List Rec)
+    (next first flushed : ℕ) (counters : Option Counters) (down : Option ℕ) (es : List Entry) : Type 0 where
+  pub recs_are : recs ≡ start.logged ++ recs_in es
+  pub next_is : next ≡ start.from + length (recs_in es)
+  pub flushed_is : flushed ≡ flushed_to start es
+  pub counters_are : counters ≡ Some (counters_after start es)
+  pub failed : (n : ℕ) → down ≡ Some n → IsDownAt start es n
+  pub count : faults_told es ≤ faults
+  pub kept : IsTrue tells → (number : ℕ) × (past : List Rec)
+      × KeepsRecords number (past ++ recs_in es) recs next first flushed images
+
+-- ---- the ProcArray
+
+-- The last page of pg_subtrans that the ProcArray was told of: that of the start's next id, or of an id that was told.
+abbrev pub IsFrontier : Start → List Entry → ℕ → Type 0
+IsFrontier start es page =
+    (page ≡ subtrans_page start.base.next)
+    ⊎ ((by : By) × (told : ℕ) × Contains es (record { by = by; kind = kinds.Made told }) × (page ≡ subtrans_page told))
+
+-- the table's events are the list's
+pub record ProcStands (start : Start) (table : Table) (es : List Entry) : Type 0 where
+  pub base : table.base ≡ start.base
+  pub sessions : table.sessions ≡ start.sessions
+  pub events : table.events ≡ events_in es
+  pub frontier : IsFrontier start es table.initialised_up_to
+
+-- ---- banks
+
+-- the ids for which the pages of a life have room
+abbrev pub IsInUse : Start → ℕ → Type 0
+IsInUse start x = IsFullId x × (start.base.oldest ≤ x) × (x < start.base.next + 2 ^ 30)
+
+-- the two bits of a state
+abbrev pub number_of_state : Option State → ℕ
+number_of_state None = 0
+number_of_state (Some states.Committed) = 1
+number_of_state (Some states.Aborted) = 2
+number_of_state (Some states.SubCommitted) = 3
+
+-- the pages of pg_xact that the list leaves, where they showed this at first
+abbrev pub xact_pages : Start → (ℕ → Option State) → List Entry → Pages State
+xact_pages start before es = pages_after xact_store start.base.next before es
+
+abbrev pub last_xact_page : Start → List Entry → ℕ
+last_xact_page start es = (xact_pages start (λ x. None) es).last
+
+-- Two full pages of one stored number are told apart as long as no page was made past the ids in use.
+abbrev pub AreXactPagesNear : Start → List Entry → Type 0
+AreXactPagesNear start es = last_xact_page start es * 32768 < start.base.next + 2 ^ 29
+
+-- each id in use of this bank whose page isn't cut shows its state
+pub record ShowsStates (start : Start) (bank cutoff : ℕ) (bytes : ℕ → List ℕ) (shows : ℕ → Option State) : Type 0 where
+  pub each : (x : ℕ) → IsInUse start x → xact_page_of x % start.banks ≡ bank
+      → is_cut Ids 32768 cutoff (xact_page_of x) ≡ false
+      → state_in (bytes (xact_page_of x)) (xact_place_of x) ≡ number_of_state (shows x)
+
+-- The bank's last made page is the list's, and it shows the states that the list set, over some pages that a clean
+-- start shows.
+pub record XactStands (start : Start) (bank : ℕ) (tells : Bool) (faults last cutoff : ℕ) (bytes : ℕ → List ℕ)
+    (es : List Entry) : Type 0 where
+  pub inside : bank < start.banks
+  pub count : faults_told es ≤ faults
+  pub last_is : AreXactPagesNear start es → last ≡ last_xact_page start es % 2 ^ 17
+  pub shown : IsTrue tells → AreXactPagesNear start es
+      → (before : ℕ → Option State) × CleanStart start before
+      × ShowsStates start bank cutoff bytes (xact_pages start before es).shows
+
+-- a parent as it is stored: 0 where none was set
+abbrev pub number_of_parent : Option ℕ → ℕ
+number_of_parent None = 0
+number_of_parent (Some parent) = parent % 2 ^ 32
+
+-- the pages of pg_subtrans that the list leaves; a life begins with none set
+abbrev pub subtrans_pages : Start → List Entry → Pages ℕ
+subtrans_pages start es = pages_after subtrans_store start.base.next (λ x. None) es
+
+abbrev pub AreSubtransPagesNear : Start → List Entry → Type 0
+AreSubtransPagesNear start es = (subtrans_pages start es).last * 2048 < start.base.next + 2 ^ 29
+
+pub record ShowsParents (start : Start) (bank cutoff : ℕ) (bytes : ℕ → List ℕ) (shows : ℕ → Option ℕ) : Type 0 where
+  pub each : (x : ℕ) → IsInUse start x → word_page_of x % start.banks ≡ bank
+      → is_cut Ids 2048 cutoff (word_page_of x) ≡ false
+      → number_in (bytes (word_page_of x)) (word_place_of x) ≡ number_of_parent (shows x)
+
+-- so a bank of pg_subtrans
+pub record SubtransStands (start : Start) (bank : ℕ) (tells : Bool) (faults last cutoff : ℕ) (bytes : ℕ → List ℕ)
+    (es : List Entry) : Type 0 where
+  pub inside : bank < start.banks
+  pub count : faults_told es ≤ faults
+  pub last_is : AreSubtransPagesNear start es → last ≡ (subtrans_pages start es).last % 2 ^ 21
+  pub shown : IsTrue tells → AreSubtransPagesNear start es
+      → ShowsParents start bank cutoff bytes (subtrans_pages start es).shows

@@ -1,0 +1,27 @@
+//! The parts of an engine behind the locks of a lock table, what each stands for by its lock's list of entries, and
+//! how a session stands that enters and leaves them. See `docs/ENGINE.md`.
+#![tactic(auto)]
+
+mod fault_notes;
+mod hold;
+mod law;
+/// What holds of the promises of all calls. The functions do nothing; their contracts are the laws.
+pub mod laws;
+mod log_hold;
+mod part;
+mod proc_hold;
+mod quiet;
+mod session;
+mod subtrans_hold;
+mod xact_hold;
+
+pub use fault_notes::{fault_note, flush_fault_note};
+pub use hold::{enter, leave};
+pub use law::EngineLaw;
+pub use log_hold::{enter_log, leave_log};
+pub use part::Part;
+pub use proc_hold::{enter_proc, leave_proc};
+pub use quiet::{leave_looked, leave_quiet};
+pub use session::{Caller, Session, Stage, Unlinked};
+pub use subtrans_hold::{enter_subtrans, leave_subtrans};
+pub use xact_hold::{enter_xact, leave_xact};

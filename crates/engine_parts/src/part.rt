@@ -1,0 +1,21 @@
+//! The parts of an engine.
+use disk_core::{LogDisk, PageDisk};
+use proc_table::ProcTable;
+use slru_bank::SlruBank;
+use store_pages::{SubtransPages, XactPages};
+use wal_core::WalLog;
+
+/// What lies behind a lock of an engine's lock table (the locks by their numbers: `docs/ENGINE.md`).
+pub enum Part<L: LogDisk, P: PageDisk> {
+    /// The write-ahead log (WALInsertLock and WALWriteLock of `xlog.c`).
+    Log(WalLog<L>),
+    /// The ProcArray with the next id (ProcArrayLock of `procarray.c`, XidGenLock of `varsup.c`).
+    Proc(ProcTable),
+    /// A bank of pg_xact (XactSLRULock of `clog.c`).
+    Xact(SlruBank<P, XactPages>),
+    /// A bank of pg_subtrans (SubtransSLRULock of `subtrans.c`).
+    Subtrans(SlruBank<P, SubtransPages>),
+    /// Nothing yet: behind the locks of the multixacts and of their two stores (MultiXactGenLock and the two locks of
+    /// the SLRUs of `multixact.c`).
+    Vacant,
+}

@@ -1,0 +1,66 @@
+//! How a session of an engine stands.
+ghost use Rattle.std.specs.Prelude.{◌≡◌};
+ghost use Rattle.engine_parts.specs.Stages.{pending_in};
+
+use crate::law::EngineLaw;
+use disk_core::{LogDisk, PageDisk};
+use hall::Pass;
+use session_run::Session as Levels;
+use tx_events::Refusal;
+use xid_order::FullXid;
+
+/// How far the end of a session's transaction, or the undo of its savepoint, has come that a fault stopped. A later
+/// command goes on with it.
+#[derive(Clone, Copy, Debug, PartialEq, Eq, Drop)]
+pub enum Stage {
+    /// None was begun.
+    Clear,
+    /// The commit record stands in the log (XactLogCommitRecord of `xact.c` is done).
+    Logged,
+    /// The record is on disk, and so many steps of `TransactionIdCommitTree` (`transam.c`) are done.
+    Settling { steps: u64 },
+    /// An abort was begun.
+    Aborting,
+    /// An undo was begun.
+    Undoing,
+}
+
+impl Stage {
+    /// Why a call is refused in this stage that needs the transaction as it was.
+    pub fn pending(self) -> Option<Refusal>
+        ensures { result ≡ pending_in self }
+    {
+        match self {
+            Stage::Clear => None,
+            Stage::Logged | Stage::Settling { .. } => Some(Refusal::CommitPending),
+            Stage::Aborting => Some(Refusal::AbortPending),
+            Stage::Undoing => Some(Refusal::UndoPending),
+        }
+    }
+}
+
+/// A given id whose parent isn't recorded in pg_subtrans yet.
+#[derive(Clone, Copy, Debug, PartialEq, Eq, Drop)]
+pub struct Unlinked {
+    pub id: FullXid,
+    pub parent: FullXid,
+}
+
+/// How a session stands between two critical sections.
+#[derive(Drop)]
+pub struct Session {
+    /// Its levels, open ids and snapshots, and how many commands it has run.
+    pub levels: Levels,
+    /// How far an end has come that was begun.
+    pub stage: Stage,
+    /// The id that it was given last, where that id's parent isn't recorded yet.
+    pub unlinked: Option<Unlinked>,
+}
+
+/// A session with its lock permit (a backend, with its `PGPROC` of `src/include/storage/proc.h`).
+pub struct Caller<L: LogDisk, P: PageDisk> {
+    pub pass: Pass<EngineLaw<L, P>>,
+    /// The session's number, below the number of sessions.
+    pub number: u32,
+    pub session: Session,
+}

@@ -1,0 +1,2 @@
+pub mod Snapping
+pub mod Levelling

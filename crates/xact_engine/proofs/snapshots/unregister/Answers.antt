@@ -1,0 +1,36 @@
+use Rattle.std.proofs.Common.{◌≡◌, ap, ◌∙◌, subst, sym, not, map}
+use Rattle.std.specs.List.{filter}
+use Rattle.hall.specs.Calls.{view, start_of}
+use Rattle.notes.specs.Lists.{at}
+use Rattle.tx_events.specs.declared.event.By.{By}
+use Rattle.tx_events.specs.Events.{same_name}
+use Rattle.tx_core.specs.Locks.{proc_lock}
+use Rattle.tx_core.specs.ProgramOrder.{IsInTurn}
+use Rattle.session_run.specs.Stands.{levels_of, told_of}
+use Rattle.session_run.proofs.ActsLemmas.{told_dropped}
+use Rattle.engine_parts.specs.Sessions.{stance_of}
+use Rattle.xact_engine.proofs.Snapping.{drop_entry, may_drop, ready_dropped}
+use Rattle.xact_engine.proofs.snapshots.unregister.Goals as goal
+
+pub leave_proc-requires-clause-may : goal.leave_proc-requires-clause-may
+leave_proc-requires-clause-may g c =
+    let seen = (view c.args.caller.now.pass).seen in
+    may_drop (start_of c.args.hall.now) seen c.args.by c.args.name.now c.by-entry.result.value c.by-entry.ensures c.requires.live (subst (λ (b : By). IsInTurn (at seen proc_lock) b) (sym c.requires.by) (c.requires.at.turns proc_lock))
+
+pub returns-clause-ready : goal.returns-clause-ready
+returns-clause-ready g c =
+    let s = c.args.caller.now.session in
+    let same = c.leave_proc.ensures.same in
+    ready_dropped (start_of c.args.hall.now) (view c.args.caller.now.pass) (view c.leave_proc.new.caller.pass) c.args.caller.now.number c.leave_proc.new.caller.number s _ c.args.name.now c.by-entry.result.value c.requires.at
+    (c.by-entry.ensures ∙ ap (λ (b : By). drop_entry b c.args.name.now) c.requires.by)
+    (ap (λ z. z.levels.commands) same.0) (ap (λ z. z.levels.level_ids.items) same.0) (ap (λ z. z.levels.unnamed) same.0) (ap (λ z. z.levels.open_ids.items) same.0)
+    (c.forget.ensures ∙ (λ j. filter (λ k. not (same_name k.name (c.items.ensures j))) (same.0 j).levels.registered.items)) (ap (λ z. z.stage) same.0) (ap (λ z. z.unlinked) same.0) same.1 c.leave_proc.ensures.left
+
+pub returns-clause-stance : goal.returns-clause-stance
+returns-clause-stance g c =
+    let s = c.args.caller.now.session in
+    let same = c.leave_proc.ensures.same in
+    let registered : c.forget.new.registered.items ≡ filter (λ k. not (same_name k.name c.args.name.now)) s.levels.registered.items =
+    c.forget.ensures ∙ (λ j. filter (λ k. not (same_name k.name (c.items.ensures j))) (same.0 j).levels.registered.items) in
+    (λ j. record { levels = levels_of (same.0 j).levels.level_ids.items (same.0 j).levels.unnamed; snaps = map told_of (registered j) })
+    ∙ ap (λ t. record (stance_of s) { snaps = t }) (sym (told_dropped c.args.name.now s.levels.registered.items))

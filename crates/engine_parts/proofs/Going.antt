@@ -19,9 +19,9 @@ use Rattle.tx_core.specs.PagesBeforeIds.{IsMade}
 use Rattle.tx_core.specs.ParentsFollow.{IsGivenBelow}
 use Rattle.tx_core.proofs.Lasting.{appended_grows, flushed_grows, history_grows, linked_grows, made_grows, marked_grows}
 use Rattle.tx_core.proofs.Stepping.{open_seen, others_since, own_appended}
-use Rattle.session_run.specs.declared.session.Session as plain
-use Rattle.session_run.specs.Stands.{Stands}
-use Rattle.session_run.proofs.Beside.{AreBeside, own_beside, stands_beside}
+use Rattle.session_levels.specs.declared.session.Session as plain
+use Rattle.session_levels.specs.Stands.{Stands}
+use Rattle.session_levels.proofs.Beside.{AreBeside, own_beside, stands_beside}
 use Rattle.engine_parts.specs.declared.session.Session.{Session}
 use Rattle.engine_parts.specs.declared.session.Stage.{Stage}
 use Rattle.engine_parts.specs.declared.session.Stage.TheVariants as stages

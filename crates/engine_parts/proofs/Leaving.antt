@@ -25,7 +25,7 @@ use Rattle.tx_core.specs.Entries.{IsAppended, Mark, appended, asks_in, event_of,
 use Rattle.tx_core.specs.Locks.{log_lock, proc_lock}
 use Rattle.tx_core.specs.ProgramOrder.{IsInTurn}
 use Rattle.tx_core.proofs.Stepping.{appended_cases, asks_cases, history_at, history_off, own_asks}
-use Rattle.session_run.specs.Stands.{Stands}
+use Rattle.session_levels.specs.Stands.{Stands}
 use Rattle.engine_parts.specs.declared.session.Session.{Session}
 use Rattle.engine_parts.specs.declared.session.Stage.{Stage}
 use Rattle.engine_parts.specs.declared.session.Stage.TheVariants as stages

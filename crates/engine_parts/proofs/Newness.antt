@@ -12,10 +12,10 @@ use Rattle.tx_core.specs.PagesBeforeIds.{IsMade}
 use Rattle.tx_core.specs.ParentsFollow.{IsGivenBelow}
 use Rattle.tx_core.specs.ProgramOrder.{IsInTurn}
 use Rattle.tx_core.proofs.Opening.{opens}
-use Rattle.session_run.specs.declared.session.Session as plain
-use Rattle.session_run.specs.Progress.{IsFresh}
-use Rattle.session_run.specs.Stands.{Stands}
-use Rattle.session_run.proofs.StandsLemmas.{Stood, stands}
+use Rattle.session_levels.specs.declared.session.Session as plain
+use Rattle.session_levels.specs.Stands.{IsFresh}
+use Rattle.session_levels.specs.Stands.{Stands}
+use Rattle.session_levels.proofs.StandsLemmas.{Stood, stands}
 use Rattle.engine_parts.specs.declared.session.Unlinked.{Unlinked}
 use Rattle.engine_parts.specs.New.{NewMayCall}
 use Rattle.engine_parts.specs.Sessions.{by_at}

@@ -18,8 +18,8 @@ use Rattle.tx_core.specs.declared.entry.Start.{Start}
 use Rattle.tx_core.specs.Entries.{IsAppended, history}
 use Rattle.tx_core.specs.Locks.{log_lock}
 use Rattle.tx_core.proofs.Reading.{flushed_appended}
-use Rattle.session_run.specs.Stands.{Nest, levels_of}
-use Rattle.session_run.proofs.LevelLemmas.{top_of_named}
+use Rattle.session_levels.specs.Stands.{Nest, levels_of}
+use Rattle.session_levels.proofs.LevelLemmas.{top_of_named}
 use Rattle.engine_parts.specs.declared.session.Session.{Session}
 use Rattle.engine_parts.specs.declared.session.Stage.{Stage}
 use Rattle.engine_parts.specs.declared.session.Stage.TheVariants as stages

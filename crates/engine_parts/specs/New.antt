@@ -4,7 +4,7 @@ use Rattle.hall.specs.declared.view.Stage.TheVariants.{Free}
 use Rattle.notes.specs.Lists.{at}
 use Rattle.tx_events.specs.Base.{IsBase}
 use Rattle.tx_core.specs.declared.entry.Start.{Start}
-use Rattle.session_run.specs.Progress.{IsFresh}
+use Rattle.session_levels.specs.Stands.{IsFresh}
 use Rattle.engine_parts.specs.declared.session.Session.{Session}
 use Rattle.engine_parts.specs.declared.session.Stage.TheVariants as stages
 use Rattle.engine_parts.specs.Holds.{Knowledge}

@@ -13,7 +13,7 @@ use Rattle.tx_core.specs.Entries.{IsLinked, history}
 use Rattle.tx_core.specs.PagesBeforeIds.{IsMade}
 use Rattle.tx_core.specs.ParentsFollow.{IsGivenBelow}
 use Rattle.tx_core.specs.ProgramOrder.{IsInTurn}
-use Rattle.session_run.specs.Stands as levels
+use Rattle.session_levels.specs.Stands as levels
 use Rattle.tx_model.specs.Stance.{Stance}
 use Rattle.engine_parts.specs.declared.session.Session.{Session}
 use Rattle.engine_parts.specs.declared.session.Unlinked.{Unlinked}

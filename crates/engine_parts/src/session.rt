@@ -5,7 +5,7 @@ ghost use Rattle.engine_parts.specs.Stages.{pending_in};
 use crate::law::EngineLaw;
 use disk_core::{LogDisk, PageDisk};
 use hall::Pass;
-use session_run::Session as Levels;
+use session_levels::Session as Levels;
 use tx_events::Refusal;
 use xid_order::FullXid;
 

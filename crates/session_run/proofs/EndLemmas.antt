@@ -16,10 +16,10 @@ use Rattle.tx_events.proofs.Membership.{has_contains}
 use Rattle.tx_events.specs.declared.xact_end.XactEnd.{XactEnd}
 use Rattle.tx_events.specs.declared.xact_end.XactEnd.TheVariants as ends
 use Rattle.tx_events.specs.XactEnds.{end_event, end_record}
-use Rattle.session_run.specs.Acts.{Acts, end_command}
-use Rattle.session_run.specs.Stands.{Nest, levels_of}
-use Rattle.session_run.proofs.ActsLemmas.{acts_idle}
-use Rattle.session_run.proofs.LevelLemmas.{no_levels}
+use Rattle.session_levels.specs.Acts.{Acts, end_command}
+use Rattle.session_levels.specs.Stands.{Nest, levels_of}
+use Rattle.session_levels.proofs.ActsLemmas.{acts_idle}
+use Rattle.session_levels.proofs.LevelLemmas.{no_levels}
 use Rattle.session_run.proofs.RoomLemmas.{open_few}
 use Rattle.tx_model.specs.declared.command.Command.TheVariants as commands
 use Rattle.tx_model.specs.declared.reply.Reply.TheVariants as replies

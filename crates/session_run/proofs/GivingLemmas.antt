@@ -11,12 +11,14 @@ use Rattle.tx_events.specs.Running.{open_ids}
 use Rattle.tx_events.proofs.GivenIds.{open_below}
 use Rattle.tx_events.proofs.Membership.{has_contains as has-contains}
 use Rattle.plain_states.specs.declared.id_states.IdState.{IdState}
-use Rattle.session_run.specs.declared.session.RegisteredSnapshot.{RegisteredSnapshot}
-use Rattle.session_run.specs.Gives.{IsInTurn, IsParent, last_of}
+use Rattle.session_levels.specs.declared.session.RegisteredSnapshot.{RegisteredSnapshot}
+use Rattle.session_run.specs.Gives.{IsParent}
+use Rattle.session_levels.specs.Acts.{IsInTurn}
+use Rattle.session_levels.specs.Stands.{last_of}
 use Rattle.session_run.specs.Sound.{IsSound}
-use Rattle.session_run.specs.Stands.{Nest}
+use Rattle.session_levels.specs.Stands.{Nest}
 use Rattle.session_run.proofs.SoundLemmas.{sound_id, sound_sub}
-use Rattle.session_run.proofs.StandsLemmas.{Stood, stood_id, stood_sub, parent_open}
+use Rattle.session_levels.proofs.StandsLemmas.{Stood, stood_id, stood_sub, parent_open}
 
 pub may_give : (base : Counters) (h : List Event) (by : By) (parent : Option ℕ) (id : ℕ) → IsNextGiven base h id → IsParent by.session h parent → MayCome base h (giving by parent id)
 may_give base h by None id n p = (n, p)

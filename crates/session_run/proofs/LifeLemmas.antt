@@ -21,7 +21,7 @@ use Rattle.session_lang.specs.declared.script.Item.{Item}
 use Rattle.session_lang.specs.Rounds.{round_of, rounds_of, sessions_in, turns_of}
 use Rattle.session_run.specs.declared.life.OpenLife.{OpenLife}
 use Rattle.session_run.specs.declared.shared.Shared.{Shared}
-use Rattle.session_run.specs.declared.session.Session.{Session}
+use Rattle.session_levels.specs.declared.session.Session.{Session}
 use Rattle.session_run.specs.Progress.{AddsRound, AreFew, Continues, GoesOn, MayAdd, Progress, lines_of}
 use Rattle.session_run.specs.Told.{round_step}
 use Rattle.session_run.specs.Turns.{IsFirstRound, is_command, turns_in}

@@ -20,13 +20,13 @@ use Rattle.tx_model.proofs.Counted.{all_no_line}
 use Rattle.tx_model.proofs.Growth.{all_later_others, stance_grows}
 use Rattle.tx_events.proofs.OwnEvents.{AreOthers, AreLater, same_by_refl, all_new}
 use Rattle.tx_model.proofs.LineGrowth.{lines_go_on, stance_push, lines_counted}
-use Rattle.session_run.specs.declared.session.Session.{Session}
+use Rattle.session_levels.specs.declared.session.Session.{Session}
 use Rattle.session_run.specs.declared.shared.Shared.{Shared}
-use Rattle.session_run.specs.Stands.{Stands, stance_of}
+use Rattle.session_levels.specs.Stands.{Stands, stance_of}
 use Rattle.session_run.specs.Acts.{IsSoundAt, Ready}
 use Rattle.session_run.specs.Sound.{HasRoom}
 use Rattle.session_run.specs.Progress.{AreFew, IsLeft, IsNotLater, Progress, Ran}
-use Rattle.session_run.proofs.Beside.{AreBeside, stands_beside}
+use Rattle.session_levels.proofs.Beside.{AreBeside, stands_beside}
 
 apart : (a b : By) → (a.session ≡ b.session → a.command < b.command) → same_by a b ≡ false
 apart a b h = grind (arith, nat_tests)

@@ -35,11 +35,12 @@ use Rattle.report_text.specs.Words.{line_text, more, name_at}
 use Rattle.report_text.proofs.OneLife.{one_life}
 use Rattle.session_lang.proofs.SeenLemmas.{is_in, old_number}
 use Rattle.session_run.specs.declared.life.OpenLife.{OpenLife}
-use Rattle.session_run.specs.declared.session.Session.{Session}
+use Rattle.session_levels.specs.declared.session.Session.{Session}
 use Rattle.session_run.specs.declared.shared.Shared.{Shared}
 use Rattle.session_run.specs.Acts.{IsSoundAt}
-use Rattle.session_run.specs.Progress.{GoesOn, IsFresh, IsLeft, IsNew, IsTold, Progress, lines_of}
-use Rattle.session_run.specs.Stands.{IsRegistered, Nest}
+use Rattle.session_run.specs.Progress.{GoesOn, IsLeft, IsNew, IsTold, Progress, lines_of}
+use Rattle.session_levels.specs.Stands.{IsFresh}
+use Rattle.session_levels.specs.Stands.{IsRegistered, Nest}
 use Rattle.session_run.specs.Tool.{IsReportOf}
 use Rattle.session_run.specs.Turns.{IsRunnable, MayRun, has_item}
 

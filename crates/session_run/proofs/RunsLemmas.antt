@@ -3,9 +3,10 @@ use Rattle.std.proofs.Common.{◌≡◌, ◌≤◌, ◌+◌, length, refl, ap, a
 use Rattle.tx_events.specs.declared.event.By.{By}
 use Rattle.tx_model.specs.declared.command.Command.{Command}
 use Rattle.tx_model.specs.declared.reply.Reply.{Reply}
-use Rattle.session_run.specs.declared.session.Session.{Session}
+use Rattle.session_levels.specs.declared.session.Session.{Session}
 use Rattle.session_run.specs.declared.shared.Shared.{Shared}
-use Rattle.session_run.specs.Acts.{ActsOn, GrowsLittle, Ready, Runs, RunsAlone}
+use Rattle.session_run.specs.Acts.{ActsOn, GrowsLittle, Ready, Runs}
+use Rattle.session_levels.specs.Acts.{RunsAlone}
 use Rattle.session_run.specs.Gives.{StaysRound}
 
 pub few_round : (w w' : Shared) → StaysRound w w' → GrowsLittle w w'

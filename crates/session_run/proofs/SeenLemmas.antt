@@ -19,13 +19,13 @@ use Rattle.tx_events.proofs.SnapshotBounds.{given_from}
 use Rattle.tx_events.proofs.GivenIds.{legal_take}
 use Rattle.tx_events.proofs.Visibility.{never_given}
 use Rattle.proc_table.proofs.Bounds.{full_from}
-use Rattle.session_run.specs.declared.session.RegisteredSnapshot.{RegisteredSnapshot}
+use Rattle.session_levels.specs.declared.session.RegisteredSnapshot.{RegisteredSnapshot}
 use Rattle.session_run.specs.declared.shared.Shared.{Shared}
-use Rattle.session_run.specs.Acts.{Acts}
+use Rattle.session_levels.specs.Acts.{Acts}
 use Rattle.session_run.specs.Seen.{IsSeen, IsVisibleAt, IsOlder, oldest_in, xmax_of}
-use Rattle.session_run.specs.Gives.{IsInTurn}
-use Rattle.session_run.specs.Stands.{IsRegistered, told_of}
-use Rattle.session_run.proofs.ActsLemmas.{reads_last, snap_found}
+use Rattle.session_levels.specs.Acts.{IsInTurn}
+use Rattle.session_levels.specs.Stands.{IsRegistered, told_of}
+use Rattle.session_levels.proofs.ActsLemmas.{reads_last, snap_found}
 use Rattle.tx_events.specs.declared.event.Event.TheVariants as events
 use Rattle.tx_model.specs.declared.command.Command.TheVariants as commands
 use Rattle.tx_model.specs.declared.reply.Reply.TheVariants as replies

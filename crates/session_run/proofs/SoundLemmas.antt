@@ -22,7 +22,7 @@ use Rattle.tx_events.specs.declared.xact_end.XactEnd.{XactEnd}
 use Rattle.tx_events.specs.declared.xact_end.XactEnd.TheVariants as ends
 use Rattle.tx_events.specs.XactEnds.{end_event, end_record}
 use Rattle.session_run.specs.Closes.{ended_states}
-use Rattle.session_run.specs.Gives.{IsInTurn}
+use Rattle.session_levels.specs.Acts.{IsInTurn}
 use Rattle.session_run.specs.Sound.{IsSound}
 
 -- the log's records with one event more

@@ -9,13 +9,14 @@ use Rattle.tx_events.specs.Horizon.{oldest_id}
 use Rattle.xid_order.specs.Limits.{warn_limit, stop_limit}
 use Rattle.tx_events.specs.History.{next_given}
 use Rattle.tx_model.specs.Replies.{IsWarned}
-use Rattle.session_run.specs.declared.session.Session.{Session}
+use Rattle.session_levels.specs.declared.session.Session.{Session}
 use Rattle.session_run.specs.declared.shared.Shared.{Shared}
 use Rattle.session_run.specs.Acts.{Ready, Runs, StandsAt}
-use Rattle.session_run.specs.Gives.{IsGiven, IsNamed, IsStopAt, IsUnchanged, Writing, last_of}
-use Rattle.session_run.specs.Stands.{levels_of, told_of, Stands}
-use Rattle.session_run.proofs.ActsLemmas.{acts_wrote, acts_stopped, not_warned, warned_push, is_stopped}
-use Rattle.session_run.proofs.LevelLemmas.{levels_none, level_step}
+use Rattle.session_run.specs.Gives.{IsGiven, IsNamed, IsStopAt, IsUnchanged, Writing}
+use Rattle.session_levels.specs.Stands.{last_of}
+use Rattle.session_levels.specs.Stands.{levels_of, told_of, Stands}
+use Rattle.session_levels.proofs.ActsLemmas.{acts_wrote, acts_stopped, not_warned, warned_push, is_stopped}
+use Rattle.session_levels.proofs.LevelLemmas.{levels_none, level_step}
 use Rattle.session_run.proofs.RunsLemmas.{few_round}
 use Rattle.tx_events.proofs.ListSteps.{length_push}
 

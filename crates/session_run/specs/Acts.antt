@@ -13,23 +13,10 @@ use Rattle.tx_events.specs.Events.{by_of, given, is_of}
 use Rattle.tx_model.specs.Stance.{Stance, after}
 use Rattle.tx_model.specs.CommandEvents.{HasEvents}
 use Rattle.tx_model.specs.Replies.{MayReply, alone}
-use Rattle.session_run.specs.declared.session.Session.{Session}
+use Rattle.session_levels.specs.declared.session.Session.{Session}
 use Rattle.session_run.specs.declared.shared.Shared.{Shared}
 use Rattle.session_run.specs.Sound.{IsSound, HasRoom}
-use Rattle.session_run.specs.Stands.{Stands, stance_of}
-
--- The command was answered so, its events were added, and the session stands as it leaves it.
-pub record Acts (base : Counters) (by : By) (s s' : Stance) (command : Command) (reply : Reply) (h h' : List Event) : Type 0 where
-  pub added : List Event
-  pub grown : h' ≡ h ++ added
-  pub own : AllByRecursion (λ e. by_of e ≡ by) added
-  pub fitting : HasEvents by s command reply added
-  pub allowed : MayReply base [] h' (alone h h') by s command reply
-  pub left : after s by.command command reply (given added) ≡ s'
-
-abbrev pub end_command : XactEnd → Command
-end_command ends.Commit = commands.Commit
-end_command ends.Abort = commands.Abort
+use Rattle.session_levels.specs.Stands.{Stands, stance_of}
 
 -- the same of the whole shared state and session
 abbrev pub ActsOn : Shared → Shared → By → Session → Session → Command → Reply → Type 0
@@ -63,10 +50,4 @@ pub record Runs (w w' : Shared) (by : By) (s s' : Session) (command : Command) (
   pub sound : IsSoundAt w'
   pub stands : StandsAt w' by s'
   pub few : GrowsLittle w w'
-  pub count : s'.commands ≡ s.commands
-
--- A command changed its session alone, whatever happened before.
-pub record RunsAlone (s s' : Session) (command : Command) (reply : Reply) : Type 0 where
-  pub acts : (base : Counters) (h : List Event) (by : By) → Acts base by (stance_of s) (stance_of s') command reply h h
-  pub stands : (base : Counters) (h : List Event) (session number : ℕ) → Stands base h session number s → Stands base h session number s'
   pub count : s'.commands ≡ s.commands

@@ -13,11 +13,11 @@ use Rattle.tx_model.specs.Replies.{IsWarned}
 use Rattle.tx_events.specs.Running.{open_ids}
 use Rattle.proc_table.specs.Table.{next_of, oldest_of, stop_of}
 use Rattle.session_run.specs.declared.shared.Shared.{Shared}
-use Rattle.session_run.specs.declared.session.Session.{Session}
+use Rattle.session_levels.specs.declared.session.Session.{Session}
 use Rattle.session_run.specs.declared.writes.NewId.{NewId}
 use Rattle.session_run.specs.declared.writes.NewId.TheVariants as news
 use Rattle.session_run.specs.Acts.{IsSoundAt, StandsAt}
-use Rattle.session_run.specs.Stands.{levels_of}
+use Rattle.session_levels.specs.Stands.{levels_of}
 
 -- nothing but the history and the states may have changed
 pub record StaysRound (w w' : Shared) : Type 0 where
@@ -57,14 +57,6 @@ pub record IsStopOf (refusal : Refusal) (new : NewId) : Type 0 where
   pub stop : ℕ
   pub refused : refusal ≡ refusals.Stop next stop
   pub answer : new ≡ news.Stop next stop
-
--- the session's events are of commands up to this one
-abbrev pub IsInTurn : By → List Event → Type 0
-IsInTurn by h = AllByRecursion (λ e. (by_of e).command ≤ by.command) (filter (is_of by.session) h)
-
--- the last of the ids
-abbrev pub last_of : List ℕ → Option ℕ
-last_of ids = fold (λ _ id. Some id) None ids
 
 -- the outermost level that lacked an id has this one
 pub record IsNamed (s s' : Session) (id : ℕ) : Type 0 where

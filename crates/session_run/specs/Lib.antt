@@ -1,5 +1,4 @@
 pub mod Sound
-pub mod Stands
 pub mod Acts
 pub mod Gives
 pub mod Closes

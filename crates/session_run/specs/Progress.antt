@@ -12,9 +12,9 @@ use Rattle.tx_model.specs.Lines.{AreLawfulLines, AreLinesOf, has_line, stance, i
 use Rattle.proc_table.specs.Table.{page_of}
 use Rattle.report_text.specs.ReportText.{command_line, front_text, step_text}
 use Rattle.session_run.specs.declared.life.OpenLife.{OpenLife}
-use Rattle.session_run.specs.declared.session.Session.{Session}
+use Rattle.session_levels.specs.declared.session.Session.{Session}
 use Rattle.session_run.specs.declared.shared.Shared.{Shared}
-use Rattle.session_run.specs.Stands.{Stands, stance_of}
+use Rattle.session_levels.specs.Stands.{Stands, stance_of}
 use Rattle.session_run.specs.Acts.{ActsOn, GrowsLittle, IsSoundAt, StandsAt}
 use Rattle.session_run.specs.Told.{round_step}
 
@@ -62,10 +62,6 @@ MayAdd life n = length (lines_of life) + n < 2 ^ 28
 pub record GoesOn (life : OpenLife) : Type 0 where
   pub progress : Progress life.shared life.sessions.items (lines_of life)
   pub few : AreFew life.shared (lines_of life)
-
--- the session has done nothing yet
-abbrev pub IsFresh : Session → Type 0
-IsFresh s = (s.commands ≡ 0) × (s.level_ids.items ≡ []) × (s.unnamed ≡ 0) × (s.open_ids.items ≡ []) × (s.registered.items ≡ [])
 
 -- nothing has happened yet, and the log has the checkpoint of the base
 pub record IsNew (base : Counters) (sessions : ℕ) (w : Shared) : Type 0 where

@@ -8,7 +8,7 @@ use Rattle.tx_model.specs.Replies.{seen_id}
 use Rattle.tx_events.specs.Horizon.{oldest_id}
 use Rattle.tx_events.specs.Snapshots.{snapshot_xmax}
 use Rattle.tx_events.specs.Visible.{is_visible}
-use Rattle.session_run.specs.declared.session.RegisteredSnapshot.{RegisteredSnapshot}
+use Rattle.session_levels.specs.declared.session.RegisteredSnapshot.{RegisteredSnapshot}
 use Rattle.session_run.specs.declared.shared.Shared.{Shared}
 
 -- where the stored id is looked for: near the xmax of the snapshot's place

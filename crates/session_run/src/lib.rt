@@ -2,15 +2,14 @@
 //! `docs/SCRIPT-AND-REPORT.md`.
 #![tactic(auto)]
 
+mod commands;
 mod ends;
-mod levels;
 mod life;
 mod other;
 mod plain_log;
 mod plan;
 mod rounds;
 mod run;
-mod session;
 mod shared;
 mod snaps;
 mod stream;
@@ -18,10 +17,7 @@ mod told;
 mod tool;
 mod writes;
 
-pub use levels::{begin, depth, release, save};
 pub use run::run_script;
-pub use session::{RegisteredSnapshot, Session};
-pub use snaps::{forget, registered_as};
 pub use tool::{run_tool, say_out_of_memory};
 
 #[cfg(test)]

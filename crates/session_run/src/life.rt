@@ -3,15 +3,16 @@ ghost use Rattle.std.specs.Prelude.{◌≡◌, ◌≤◌, [], IfOk, length};
 ghost use Rattle.std.specs.List.{All};
 ghost use Rattle.tx_events.specs.Base.{IsBase};
 ghost use Rattle.report_text.specs.ReportText.{front_text};
-ghost use Rattle.session_run.specs.Progress.{GoesOn, IsFresh, IsNew};
+ghost use Rattle.session_run.specs.Progress.{GoesOn, IsNew};
+ghost use Rattle.session_levels.specs.Stands.{IsFresh};
 
 use crate::plain_log::PlainLog;
-use crate::session::Session;
 use crate::shared::Shared;
 use crate::told::{ToldLines, ToldSteps};
 use plain_states::IdStates;
 use proc_table::ProcTable;
 use report_text::{Text, begin_report};
+use session_levels::Session;
 use std::alloc::Global;
 use tx_model::{Counters, IdList, Life, Memory, MultiEventList, Rec, RecList};
 

@@ -5,21 +5,22 @@ ghost use Rattle.tx_model.specs.LawfulLife.{AreInTurn, AreRounds};
 ghost use Rattle.tx_model.specs.Lines.{turn_of};
 ghost use Rattle.session_lang.specs.declared.script.Item.TheVariants as items;
 ghost use Rattle.session_lang.specs.Rounds.{rounds_of, turns_of};
-ghost use Rattle.session_run.specs.declared.session.Session.{Session};
+ghost use Rattle.session_levels.specs.declared.session.Session.{Session};
 ghost use Rattle.session_run.specs.Acts.{IsSoundAt};
 ghost use Rattle.session_run.specs.Plans.{HasPlaces, IsBlank, IsPlanOf, turns_at};
 ghost use Rattle.session_run.specs.Progress.{AddsRound, Continues, GoesOn, IsTold, MayAdd, Ran, Tells, lines_of};
 ghost use Rattle.session_run.specs.Sound.{HasRoom};
-ghost use Rattle.session_run.specs.Stands.{Stands};
+ghost use Rattle.session_levels.specs.Stands.{Stands};
 ghost use Rattle.session_run.specs.Told.{begin_text, rounds_with};
 ghost use Rattle.session_run.specs.Turns.{IsFirstRound, MayRun, has_command, is_command, turns_in};
 
 use crate::life::OpenLife;
 use crate::plan::Plan;
-use crate::session::{Session, run_command};
+use crate::commands::run_command;
 use crate::shared::Shared;
 use report_text::{Text, put_command_line, put_round_line};
 use session_lang::Item;
+use session_levels::Session;
 use std::alloc::Global;
 use tx_model::{By, Command, Memory, NameList, Reply};
 

@@ -5,46 +5,15 @@ ghost use Rattle.tx_events.specs.Events.{same_name};
 ghost use Rattle.tx_model.specs.declared.command.Command.TheVariants as commands;
 ghost use Rattle.session_run.specs.Acts.{Ready, Runs, IsSoundAt};
 ghost use Rattle.session_run.specs.Seen.{IsSeen};
-ghost use Rattle.session_run.specs.Stands.{IsRegistered};
+ghost use Rattle.session_levels.specs.Stands.{IsRegistered};
 
-use crate::session::{RegisteredSnapshot, Session};
 use crate::shared::Shared;
+use session_levels::{RegisteredSnapshot, Session, forget, registered_as};
 use tx_model::{By, Memory, Name, Refusal, Reply};
 use xid_order::{Xid, near};
 
 /// A session registers at most so many snapshots.
 const MOST_SNAPS: usize = 64;
-
-fn is_named(registered: &RegisteredSnapshot, name: &[u8]) -> bool
-    ensures { result ≡ same_name registered.now.name name.now }
-{
-    registered.name.items() == name
-}
-
-/// The snapshot of this name.
-fn find_registered<'a>(
-    registered: &'a [RegisteredSnapshot],
-    name: &[u8],
-) -> Option<&'a RegisteredSnapshot>
-    ensures found { IfSome result (λ k. find (λ x. same_name x.name name.now) registered.now ≡ Some k.now) }
-    ensures none { IfNone result (find (λ x. same_name x.name name.now) registered.now ≡ None) }
-{
-    for k in registered {
-        if is_named(k, name) {
-            return Some(k);
-        }
-    }
-    None
-}
-
-/// The session's snapshot of this name.
-pub fn registered_as<'a>(session: &'a Session, name: &Name) -> Option<&'a RegisteredSnapshot>
-    ensures found { IfSome result (λ k.
-        find (λ x. same_name x.name name.now) session.now.registered.items ≡ Some k.now) }
-    ensures none { IfNone result (find (λ x. same_name x.name name.now) session.now.registered.items ≡ None) }
-{
-    find_registered(session.registered.as_slice(), name.items())
-}
 
 /// Takes a snapshot and registers it under a name that isn't taken. All memory is taken before the snapshot counts as
 /// taken, or with it.
@@ -91,13 +60,6 @@ pub fn snap(
         });
     }
     take(shared, by, session, name)
-}
-
-/// Lets go of the snapshot of this name.
-pub fn forget(registered: &mut Vec<RegisteredSnapshot>, name: &[u8])
-    ensures { registered.new.items ≡ filter (λ k. not (same_name k.name name.now)) registered.old.items }
-{
-    registered.retain(|k| !is_named(k, name));
 }
 
 /// Drops the session's snapshot of this name (`UnregisterSnapshot` of `snapmgr.c`). Takes no memory.

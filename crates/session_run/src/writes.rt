@@ -4,13 +4,14 @@ ghost use Rattle.tx_model.specs.CommandEvents.{giving};
 ghost use Rattle.proc_table.specs.Table.{Gives as TableGives, next_of, page_of};
 ghost use Rattle.tx_model.specs.declared.command.Command.TheVariants as commands;
 ghost use Rattle.session_run.specs.Acts.{Ready, Runs, IsSoundAt, StandsAt};
-ghost use Rattle.session_run.specs.Gives.{Gives, Names, IsStopOf, IsParent, IsInTurn, last_of};
-ghost use Rattle.session_run.specs.Stands.{levels_of};
+ghost use Rattle.session_run.specs.Gives.{Gives, Names, IsStopOf, IsParent};
+ghost use Rattle.session_levels.specs.Acts.{IsInTurn};
+ghost use Rattle.session_levels.specs.Stands.{last_of};
+ghost use Rattle.session_levels.specs.Stands.{levels_of};
 
-use crate::levels::depth;
-use crate::session::Session;
 use crate::shared::Shared;
 use proc_table::{Given, ProcTable};
+use session_levels::{Session, depth};
 use std::alloc::Global;
 use tx_model::{By, IdList, Memory, Refusal, Reply};
 use xid_order::FullXid;

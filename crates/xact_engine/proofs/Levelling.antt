@@ -15,10 +15,10 @@ use Rattle.tx_model.specs.Stance.{Stance, after}
 use Rattle.tx_core.specs.declared.entry.Entry.{Entry}
 use Rattle.tx_core.specs.declared.entry.Start.{Start}
 use Rattle.tx_core.specs.Entries.{history}
-use Rattle.session_run.specs.Acts.{Acts}
-use Rattle.session_run.specs.declared.session.Session as plain
-use Rattle.session_run.specs.Stands.{Stands, levels_of}
-use Rattle.session_run.proofs.LevelLemmas.{no_levels}
+use Rattle.session_levels.specs.Acts.{Acts}
+use Rattle.session_levels.specs.declared.session.Session as plain
+use Rattle.session_levels.specs.Stands.{Stands, levels_of}
+use Rattle.session_levels.proofs.LevelLemmas.{no_levels}
 use Rattle.engine_parts.specs.declared.session.Session.{Session}
 use Rattle.engine_parts.specs.declared.session.Stage.{Stage}
 use Rattle.engine_parts.specs.Answers.{Acted, MayAnswer}

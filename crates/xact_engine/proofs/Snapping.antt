@@ -24,11 +24,11 @@ use Rattle.tx_core.specs.Entries.{appended, event_of, history}
 use Rattle.tx_core.specs.Locks.{proc_lock}
 use Rattle.tx_core.specs.ProgramOrder.{IsInTurn}
 use Rattle.tx_core.proofs.EventLaws.{snap_drop_law, snap_event_law}
-use Rattle.session_run.specs.declared.session.RegisteredSnapshot.{RegisteredSnapshot}
-use Rattle.session_run.specs.Stands.{Stands, told_of}
-use Rattle.session_run.proofs.ActsLemmas.{snap_missing, none_found, not_live, some_found}
-use Rattle.session_run.proofs.RegisteredLemmas.{stood_dropped, stood_snapped}
-use Rattle.session_run.proofs.StandsLemmas.{Stood, stood, stands}
+use Rattle.session_levels.specs.declared.session.RegisteredSnapshot.{RegisteredSnapshot}
+use Rattle.session_levels.specs.Stands.{Stands, told_of}
+use Rattle.session_levels.proofs.ActsLemmas.{snap_missing, none_found, not_live, some_found}
+use Rattle.session_levels.proofs.RegisteredLemmas.{stood_dropped, stood_snapped}
+use Rattle.session_levels.proofs.StandsLemmas.{Stood, stood, stands}
 use Rattle.engine_parts.specs.declared.session.Session.{Session}
 use Rattle.engine_parts.specs.declared.session.Unlinked.{Unlinked}
 use Rattle.engine_parts.specs.Answers.{Acted}

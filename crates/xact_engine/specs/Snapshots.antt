@@ -4,7 +4,7 @@ use Rattle.tx_events.specs.declared.event.By.{By}
 use Rattle.tx_events.specs.declared.event.Event.TheVariants as events
 use Rattle.tx_events.specs.declared.snapshot.SnapData.{SnapData}
 use Rattle.proc_table.specs.Table.{Table, Adds, data_at}
-use Rattle.session_run.specs.declared.session.RegisteredSnapshot.{RegisteredSnapshot}
+use Rattle.session_levels.specs.declared.session.RegisteredSnapshot.{RegisteredSnapshot}
 
 -- it holds what the table says, at the place that its event has
 pub record IsTaken (old new : Table) (by : By) (name : List ℕ) (lists : SnapData)

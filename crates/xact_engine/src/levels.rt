@@ -45,6 +45,6 @@ pub fn begin<L: LogDisk, P: PageDisk>(
         × (caller.new.number ≡ caller.old.number) }
 {
     count(caller);
-    let reply = session_run::begin(&mut caller.session.levels);
+    let reply = session_levels::begin(&mut caller.session.levels);
     result_of(reply)
 }

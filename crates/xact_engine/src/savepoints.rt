@@ -11,7 +11,7 @@ use crate::levels::result_of;
 use disk_core::{LogDisk, PageDisk};
 use engine_parts::{Caller, EngineLaw};
 use hall::Hall;
-use session_run::depth;
+use session_levels::depth;
 use tx_events::Refusal;
 
 /// Opens a savepoint, which has no id yet (`DefineSavepoint` and `StartSubTransaction` of `xact.c`). Refused, in this
@@ -41,7 +41,7 @@ pub fn save<L: LogDisk, P: PageDisk>(
     if let Some(refusal) = caller.session.stage.pending() {
         return Err(refusal);
     }
-    let reply = session_run::save(&mut caller.session.levels);
+    let reply = session_levels::save(&mut caller.session.levels);
     result_of(reply)
 }
 
@@ -71,6 +71,6 @@ pub fn release<L: LogDisk, P: PageDisk>(
     if let Some(refusal) = caller.session.stage.pending() {
         return Err(refusal);
     }
-    let reply = session_run::release(&mut caller.session.levels);
+    let reply = session_levels::release(&mut caller.session.levels);
     result_of(reply)
 }

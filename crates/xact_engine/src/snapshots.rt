@@ -26,7 +26,7 @@ use disk_core::{LogDisk, PageDisk};
 use engine_parts::{Caller, EngineLaw, Part, enter_proc, leave_looked, leave_proc};
 use hall::{Hall, Note};
 use proc_table::ProcTable;
-use session_run::{RegisteredSnapshot, forget, registered_as};
+use session_levels::{RegisteredSnapshot, forget, registered_as};
 use std::sync::Wait;
 use tx_events::{By, Memory, Name, Refusal, SnapData};
 

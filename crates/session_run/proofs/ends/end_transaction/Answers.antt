@@ -2,11 +2,11 @@ use Rattle.std.proofs.Common.{◌≤◌, ◌++◌, ◌∷◌, [], length, map, a
 use Rattle.std.proofs.lemmas.Bool.Decides.{nat_tests}
 use Rattle.tx_model.specs.declared.reply.Reply.TheVariants as replies
 use Rattle.tx_events.specs.XactEnds.{end_event}
-use Rattle.session_run.specs.Acts.{Acts, end_command}
-use Rattle.session_run.specs.Stands.{levels_of, told_of}
+use Rattle.session_levels.specs.Acts.{Acts, end_command}
+use Rattle.session_levels.specs.Stands.{levels_of, told_of}
 use Rattle.session_run.proofs.EndLemmas.{nest_head}
-use Rattle.session_run.proofs.StandsLemmas.{stood, stands, stood_ended}
-use Rattle.session_run.proofs.TurnLemmas.{acts_ended}
+use Rattle.session_levels.proofs.StandsLemmas.{stood, stands, stood_ended}
+use Rattle.session_levels.proofs.TurnLemmas.{acts_ended}
 use Rattle.session_run.proofs.ends.end_transaction.Goals as goal
 
 pub returns : goal.returns

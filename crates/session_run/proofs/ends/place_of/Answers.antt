@@ -1,6 +1,6 @@
 use Rattle.std.proofs.Common.{rules, of_calls, nat_lt}
 use Rattle.std.proofs.lemmas.Fn.{always_returns_same}
-use Rattle.session_run.proofs.CutLemmas.{are_parted, is_cut}
+use Rattle.session_levels.proofs.CutLemmas.{are_parted, is_cut}
 use Rattle.session_run.proofs.ends.place_of.Goals as goal
 
 pub returns-clause-from : goal.returns-clause-from

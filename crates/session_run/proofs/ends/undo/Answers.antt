@@ -1,7 +1,7 @@
 use Rattle.std.proofs.Common.{◌-◌, arith, map, refl}
-use Rattle.session_run.specs.Stands.{told_of}
-use Rattle.session_run.proofs.StandsLemmas.{stood, stands, stood_levels}
-use Rattle.session_run.proofs.TurnLemmas.{acts_unwound}
+use Rattle.session_levels.specs.Stands.{told_of}
+use Rattle.session_levels.proofs.StandsLemmas.{stood, stands, stood_levels}
+use Rattle.session_levels.proofs.TurnLemmas.{acts_unwound}
 use Rattle.session_run.proofs.ends.undo.Goals as goal
 
 pub returns-then-session-gt0 : goal.returns-then-session-gt0

@@ -5,11 +5,11 @@ use Rattle.tx_events.specs.declared.event.Event.TheVariants as events
 use Rattle.tx_model.specs.declared.command.Command.TheVariants as commands
 use Rattle.tx_model.specs.declared.reply.Reply.TheVariants as replies
 use Rattle.tx_events.specs.Savepoints.{is_inside}
-use Rattle.session_run.specs.Acts.{Acts}
-use Rattle.session_run.specs.Stands.{Nest, levels_of, told_of}
+use Rattle.session_levels.specs.Acts.{Acts}
+use Rattle.session_levels.specs.Stands.{Nest, levels_of, told_of}
 use Rattle.session_run.proofs.SoundLemmas.{sound_still}
-use Rattle.session_run.proofs.StandsLemmas.{Stood, stood, stands, stood_undone, last_savepoint, inside_from}
-use Rattle.session_run.proofs.TurnLemmas.{acts_undone}
+use Rattle.session_levels.proofs.StandsLemmas.{Stood, stood, stands, stood_undone, last_savepoint, inside_from}
+use Rattle.session_levels.proofs.TurnLemmas.{acts_undone}
 use Rattle.session_run.proofs.ends.undo_named.Goals as goal
 
 pub undo-requires-clause-id_open : goal.undo-requires-clause-id_open

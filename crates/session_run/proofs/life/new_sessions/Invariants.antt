@@ -1,6 +1,6 @@
 use Rattle.std.proofs.Common.{◌≡◌, length}
 use Rattle.std.specs.List.{All}
-use Rattle.session_run.specs.Progress.{IsFresh}
+use Rattle.session_levels.specs.Stands.{IsFresh}
 use Rattle.session_run.proofs.life.new_sessions.Given as goal
 
 abbrev pub invariant-loop : goal.invariant-loop

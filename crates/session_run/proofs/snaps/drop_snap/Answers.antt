@@ -4,12 +4,12 @@ use Rattle.tx_events.specs.declared.event.Event.TheVariants as events
 use Rattle.tx_model.specs.declared.reply.Reply.TheVariants as replies
 use Rattle.tx_events.specs.declared.refusal.Refusal.TheVariants as refusals
 use Rattle.tx_events.specs.Horizon.{is_live}
-use Rattle.session_run.specs.Stands.{stance_of}
-use Rattle.session_run.proofs.ActsLemmas.{acts_idle, acts_dropped, snap_missing, none_found}
+use Rattle.session_levels.specs.Stands.{stance_of}
+use Rattle.session_levels.proofs.ActsLemmas.{acts_idle, acts_dropped, snap_missing, none_found}
 use Rattle.session_run.proofs.RunsLemmas.{runs_still}
 use Rattle.session_run.proofs.SoundLemmas.{sound_still}
-use Rattle.session_run.proofs.RegisteredLemmas.{stood_dropped}
-use Rattle.session_run.proofs.StandsLemmas.{stood, stands}
+use Rattle.session_levels.proofs.RegisteredLemmas.{stood_dropped}
+use Rattle.session_levels.proofs.StandsLemmas.{stood, stands}
 use Rattle.session_run.proofs.snaps.drop_snap.Goals as goal
 
 pub returns-then-is_live : goal.returns-then-is_live

@@ -3,8 +3,8 @@ use Rattle.tx_model.specs.declared.command.Command.TheVariants as commands
 use Rattle.tx_model.specs.declared.reply.Reply.TheVariants as replies
 use Rattle.tx_events.specs.declared.refusal.Refusal.TheVariants as refusals
 use Rattle.tx_events.specs.Events.{same_name}
-use Rattle.session_run.specs.Stands.{stance_of}
-use Rattle.session_run.proofs.ActsLemmas.{acts_idle, snap_missing, registered_at}
+use Rattle.session_levels.specs.Stands.{stance_of}
+use Rattle.session_levels.proofs.ActsLemmas.{acts_idle, snap_missing, registered_at}
 use Rattle.session_run.proofs.RunsLemmas.{runs_still}
 use Rattle.session_run.proofs.SeenLemmas.{acts_seen}
 use Rattle.session_run.proofs.snaps.see.Goals as goal

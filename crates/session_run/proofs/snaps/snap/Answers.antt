@@ -3,8 +3,8 @@ use Rattle.std.proofs.Common.{arith, refl}
 use Rattle.tx_model.specs.declared.command.Command.TheVariants as commands
 use Rattle.tx_model.specs.declared.reply.Reply.TheVariants as replies
 use Rattle.tx_events.specs.declared.refusal.Refusal.TheVariants as refusals
-use Rattle.session_run.specs.Stands.{told_of, stance_of}
-use Rattle.session_run.proofs.ActsLemmas.{acts_idle, snap_found, snap_missing}
+use Rattle.session_levels.specs.Stands.{told_of, stance_of}
+use Rattle.session_levels.proofs.ActsLemmas.{acts_idle, snap_found, snap_missing}
 use Rattle.session_run.proofs.RunsLemmas.{runs_still}
 use Rattle.session_run.proofs.snaps.snap.Goals as goal
 

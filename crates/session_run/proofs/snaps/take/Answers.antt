@@ -1,12 +1,12 @@
 use Rattle.std.proofs.Common.{sym, ap, ◌∙◌, refl, length, arith}
 use Rattle.tx_events.specs.declared.event.Event.TheVariants as events
-use Rattle.session_run.specs.declared.session.RegisteredSnapshot.{RegisteredSnapshot}
+use Rattle.session_levels.specs.declared.session.RegisteredSnapshot.{RegisteredSnapshot}
 use Rattle.proc_table.specs.Table.{Table, data_at}
-use Rattle.session_run.specs.Stands.{stance_of}
-use Rattle.session_run.proofs.ActsLemmas.{acts_snapped, not_live}
+use Rattle.session_levels.specs.Stands.{stance_of}
+use Rattle.session_levels.proofs.ActsLemmas.{acts_snapped, not_live}
 use Rattle.session_run.proofs.SoundLemmas.{sound_still}
-use Rattle.session_run.proofs.RegisteredLemmas.{stood_snapped}
-use Rattle.session_run.proofs.StandsLemmas.{stood, stands}
+use Rattle.session_levels.proofs.RegisteredLemmas.{stood_snapped}
+use Rattle.session_levels.proofs.StandsLemmas.{stood, stands}
 use Rattle.session_run.proofs.snaps.take.Goals as goal
 
 pub snapshot-requires-clause-free : goal.snapshot-requires-clause-free

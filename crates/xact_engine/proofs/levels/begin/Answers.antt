@@ -5,7 +5,7 @@ use Rattle.tx_model.specs.declared.reply.Reply.{Reply}
 use Rattle.tx_model.specs.Replies.{alone}
 use Rattle.tx_model.specs.Stance.{Stance}
 use Rattle.tx_core.specs.Entries.{history}
-use Rattle.session_run.specs.Stands as levels
+use Rattle.session_levels.specs.Stands as levels
 use Rattle.engine_parts.specs.Answers.{Acted}
 use Rattle.engine_parts.specs.Sessions.{by_at}
 use Rattle.xact_engine.proofs.Levelling.{acted_levels, begin_answer, call_levels}

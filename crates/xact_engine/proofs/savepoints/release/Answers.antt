@@ -7,7 +7,7 @@ use Rattle.tx_model.specs.declared.reply.Reply.TheVariants as replies
 use Rattle.tx_model.specs.Replies.{alone}
 use Rattle.tx_model.specs.Stance.{Stance}
 use Rattle.tx_core.specs.Entries.{history}
-use Rattle.session_run.specs.Stands as levels
+use Rattle.session_levels.specs.Stands as levels
 use Rattle.engine_parts.specs.Answers.{Acted, MayAnswer}
 use Rattle.engine_parts.specs.Sessions.{by_at, stance_of}
 use Rattle.engine_parts.specs.Stages.{pending_in}

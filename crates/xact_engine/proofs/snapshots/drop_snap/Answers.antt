@@ -5,8 +5,8 @@ use Rattle.tx_model.specs.declared.command.Command.TheVariants as commands
 use Rattle.tx_model.specs.declared.reply.Reply.TheVariants as replies
 use Rattle.tx_model.specs.Stance.{Stance}
 use Rattle.tx_core.specs.declared.entry.Entry.{Entry}
-use Rattle.session_run.specs.Stands as levels
-use Rattle.session_run.proofs.ActsLemmas.{snap_missing}
+use Rattle.session_levels.specs.Stands as levels
+use Rattle.session_levels.proofs.ActsLemmas.{snap_missing}
 use Rattle.engine_parts.specs.declared.session.Stage.{Stage}
 use Rattle.engine_parts.specs.Answers.{Acted}
 use Rattle.engine_parts.specs.Sessions.{by_at, stance_of}

@@ -6,8 +6,8 @@ use Rattle.tx_events.specs.declared.event.By.{By}
 use Rattle.tx_events.specs.Events.{same_name}
 use Rattle.tx_core.specs.Locks.{proc_lock}
 use Rattle.tx_core.specs.ProgramOrder.{IsInTurn}
-use Rattle.session_run.specs.Stands.{levels_of, told_of}
-use Rattle.session_run.proofs.ActsLemmas.{told_dropped}
+use Rattle.session_levels.specs.Stands.{levels_of, told_of}
+use Rattle.session_levels.proofs.ActsLemmas.{told_dropped}
 use Rattle.engine_parts.specs.Sessions.{stance_of}
 use Rattle.xact_engine.proofs.Snapping.{drop_entry, may_drop, ready_dropped}
 use Rattle.xact_engine.proofs.snapshots.unregister.Goals as goal

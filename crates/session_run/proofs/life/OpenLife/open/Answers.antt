@@ -1,6 +1,6 @@
 use Rattle.std.proofs.lemmas.List.Elements.{recursion_from_All}
 use Rattle.session_run.specs.declared.life.OpenLife.{OpenLife}
-use Rattle.session_run.specs.Progress.{IsFresh}
+use Rattle.session_levels.specs.Stands.{IsFresh}
 use Rattle.session_run.proofs.RunLemmas.{life_begins}
 use Rattle.session_run.proofs.life.OpenLife.open.Goals as goal
 

@@ -1,5 +1,0 @@
-use Rattle.std.proofs.Common.{sym}
-use Rattle.session_run.proofs.snaps.registered_as.Goals as goal
-
-pub returns-clause-found : goal.returns-clause-found
-returns-clause-found c = rw (sym c.as_slice.ensures.value, sym c.items.ensures) c.find_registered.ensures.found

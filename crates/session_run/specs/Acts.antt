@@ -1,22 +1,15 @@
 -- What a command does.
-use Rattle.std.specs.Prelude.{◌≡◌, ℕ, ◌+◌, ◌<◌, ◌≤◌, List, [], ◌++◌, Bool, cond, length}
+use Rattle.std.specs.Prelude.{◌≡◌, ◌+◌, ◌<◌, ◌≤◌, length}
 use Rattle.std.specs.List.{AllByRecursion, filter}
-use Rattle.tx_events.specs.declared.xact_end.XactEnd.{XactEnd}
-use Rattle.tx_events.specs.declared.xact_end.XactEnd.TheVariants as ends
 use Rattle.tx_events.specs.declared.event.By.{By}
-use Rattle.tx_events.specs.declared.event.Event.{Event}
 use Rattle.tx_model.specs.declared.command.Command.{Command}
-use Rattle.tx_model.specs.declared.command.Command.TheVariants as commands
-use Rattle.tx_events.specs.declared.record.Counters.{Counters}
 use Rattle.tx_model.specs.declared.reply.Reply.{Reply}
-use Rattle.tx_events.specs.Events.{by_of, given, is_of}
-use Rattle.tx_model.specs.Stance.{Stance, after}
-use Rattle.tx_model.specs.CommandEvents.{HasEvents}
-use Rattle.tx_model.specs.Replies.{MayReply, alone}
+use Rattle.tx_events.specs.Events.{by_of, is_of}
 use Rattle.session_levels.specs.declared.session.Session.{Session}
 use Rattle.session_run.specs.declared.shared.Shared.{Shared}
 use Rattle.session_run.specs.Sound.{IsSound, HasRoom}
 use Rattle.session_levels.specs.Stands.{Stands, stance_of}
+use Rattle.session_levels.specs.Acts.{Acts}
 
 -- the same of the whole shared state and session
 abbrev pub ActsOn : Shared → Shared → By → Session → Session → Command → Reply → Type 0

@@ -1,12 +1,10 @@
 -- What giving an id leaves.
 use Rattle.std.specs.Prelude.{◌≡◌, ℕ, ◌+◌, ◌≤◌, ◌↔◌, Bool, IsTrue, List, [], ◌∷◌, ◌++◌, Option, None, Some, Contains, length}
-use Rattle.std.specs.List.{AllByRecursion, filter, fold}
 use Rattle.tx_events.specs.declared.event.By.{By}
 use Rattle.tx_events.specs.declared.event.Event.{Event}
 use Rattle.tx_events.specs.declared.refusal.Refusal.{Refusal}
 use Rattle.tx_events.specs.declared.refusal.Refusal.TheVariants as refusals
 use Rattle.tx_model.specs.CommandEvents.{giving, level_events}
-use Rattle.tx_events.specs.Events.{by_of, is_of}
 use Rattle.tx_events.specs.History.{MayCome}
 use Rattle.xid_order.specs.Limits.{warn_limit}
 use Rattle.tx_model.specs.Replies.{IsWarned}
@@ -18,6 +16,7 @@ use Rattle.session_run.specs.declared.writes.NewId.{NewId}
 use Rattle.session_run.specs.declared.writes.NewId.TheVariants as news
 use Rattle.session_run.specs.Acts.{IsSoundAt, StandsAt}
 use Rattle.session_levels.specs.Stands.{levels_of}
+use Rattle.session_levels.specs.Stands.{last_of}
 
 -- nothing but the history and the states may have changed
 pub record StaysRound (w w' : Shared) : Type 0 where

@@ -14,9 +14,9 @@ ghost use Rattle.session_levels.specs.Stands.{Stands};
 ghost use Rattle.session_run.specs.Told.{begin_text, rounds_with};
 ghost use Rattle.session_run.specs.Turns.{IsFirstRound, MayRun, has_command, is_command, turns_in};
 
+use crate::commands::run_command;
 use crate::life::OpenLife;
 use crate::plan::Plan;
-use crate::commands::run_command;
 use crate::shared::Shared;
 use report_text::{Text, put_command_line, put_round_line};
 use session_lang::Item;

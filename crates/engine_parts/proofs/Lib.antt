@@ -8,6 +8,7 @@ pub mod Banking
 pub mod Setting
 pub mod SubBanking
 pub mod Answering
+pub mod Refusing
 pub mod Acting
 pub mod Pending
 pub mod Stepping

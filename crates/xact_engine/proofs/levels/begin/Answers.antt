@@ -8,7 +8,7 @@ use Rattle.tx_core.specs.Entries.{history}
 use Rattle.session_run.specs.Stands as levels
 use Rattle.engine_parts.specs.Answers.{Acted}
 use Rattle.engine_parts.specs.Sessions.{by_at}
-use Rattle.xact_engine.proofs.Levelling.{acted_levels, begin_answer, call_levels}
+use Rattle.xact_engine.proofs.Levelling.{acted_levels, call_levels, done_or_not}
 use Rattle.xact_engine.proofs.levels.begin.Goals as goal
 
 pub begin-reply-requires : goal.begin-reply-requires
@@ -18,9 +18,8 @@ pub result_of-requires : goal.result_of-requires
 result_of-requires g c =
     let start = start_of c.args._hall.now in
     let by = by_at c.args.caller.now.number (c.args.caller.now.session.levels.commands + 1) in
-    let seen = (view c.args.caller.now.pass).seen in
     let a = c.begin-reply.ensures.acts start.base [] by in
-    (begin_answer start.base start seen (alone [] []) (alone (history seen) (history seen)) by (levels.stance_of c.count.new.caller.session.levels) c.args.caller.now.session.stage c.begin-reply.result a.allowed).1
+    done_or_not start.base [] (alone [] []) by (levels.stance_of c.count.new.caller.session.levels) commands.Begin c.begin-reply.result tt a.allowed
 
 pub returns-clause-own : goal.returns-clause-own
 returns-clause-own g c = subst (λ p. IsOf c.args._hall.now p) (sym c.count.ensures.pass) c.requires.own
@@ -45,6 +44,5 @@ returns-clause-acted g c =
     let s' = levels.stance_of c.begin-reply.new.session in
     let reply = c.begin-reply.result in
     let a = c.begin-reply.ensures.acts start.base [] by in
-    let allowed = (begin_answer start.base start seen (alone [] []) (alone (history seen) (history seen)) by s stage reply a.allowed).0 in
     subst (λ (z : Stance × Reply). Acted start by z.0 s' stage commands.Begin z.1 seen seen') (λ j. (ap levels.stance_of c.count.ensures.levels j, sym c.result_of.ensures j))
-    (acted_levels start seen seen' start.base n m s s' stage commands.Begin reply (ap (λ p. (view p).seen) c.count.ensures.pass) a allowed)
+    (acted_levels start seen seen' start.base n m s s' stage commands.Begin reply tt refl (ap (λ p. (view p).seen) c.count.ensures.pass) a)

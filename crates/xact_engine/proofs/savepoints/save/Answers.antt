@@ -1,19 +1,20 @@
-use Rattle.std.proofs.Common.{[], ◌+◌, ap, ◌∙◌, sym, refl, subst, arith}
+use Rattle.std.proofs.Common.{◌≡◌, ◌==◌, [], ◌+◌, None, Some, length, ap, ◌∙◌, sym, refl, subst, arith, eq-eqb, ne_eqb}
+use Rattle.std.proofs.lemmas.List.{nil_from_length}
 use Rattle.hall.specs.Calls.{view, start_of, IsOf}
 use Rattle.tx_events.specs.declared.refusal.Refusal.TheVariants as refusals
 use Rattle.tx_model.specs.declared.command.Command.TheVariants as commands
 use Rattle.tx_model.specs.declared.reply.Reply.{Reply}
-use Rattle.tx_model.specs.declared.reply.Reply.TheVariants as replies
 use Rattle.tx_model.specs.Replies.{alone}
 use Rattle.tx_model.specs.Stance.{Stance}
 use Rattle.tx_core.specs.Entries.{history}
 use Rattle.session_run.specs.Stands as levels
-use Rattle.engine_parts.specs.Answers.{Acted, MayAnswer}
+use Rattle.engine_parts.specs.Answers.{Acted}
 use Rattle.engine_parts.specs.Sessions.{by_at, stance_of}
 use Rattle.engine_parts.specs.Stages.{pending_in}
-use Rattle.engine_parts.proofs.Acting.{acted_nothing}
+use Rattle.engine_parts.proofs.Acting.{acted_refused}
 use Rattle.engine_parts.proofs.Pending.{pending_answer}
-use Rattle.xact_engine.proofs.Levelling.{acted_levels, call_levels, save_answer, save_none}
+use Rattle.engine_parts.proofs.Refusing.{first_fails, first_holds, held_up, pending_stands}
+use Rattle.xact_engine.proofs.Levelling.{acted_levels, call_levels, done_or_not}
 use Rattle.xact_engine.proofs.savepoints.save.Goals as goal
 
 pub depth-requires : goal.depth-requires
@@ -26,9 +27,8 @@ pub result_of-requires : goal.result_of-requires
 result_of-requires g c =
     let start = start_of c.args._hall.now in
     let by = by_at c.args.caller.now.number (c.args.caller.now.session.levels.commands + 1) in
-    let seen = (view c.args.caller.now.pass).seen in
     let a = c.save-reply.ensures.acts start.base [] by in
-    (save_answer start.base start seen (alone [] []) (alone (history seen) (history seen)) by (levels.stance_of c.count.new.caller.session.levels) c.args.caller.now.session.stage c.save-reply.result a.allowed).1
+    done_or_not start.base [] (alone [] []) by (levels.stance_of c.count.new.caller.session.levels) commands.Save c.save-reply.result tt a.allowed
 
 pub returns-then-depth-eq0-clause-own : goal.returns-then-depth-eq0-clause-own
 returns-then-depth-eq0-clause-own g c = subst (λ p. IsOf c.args._hall.now p) (sym c.count.ensures.pass) c.requires.own
@@ -38,15 +38,11 @@ returns-then-depth-eq0-clause-may g c = c.count.ensures.ready (start_of c.args._
 
 pub returns-then-depth-eq0-clause-acted : goal.returns-then-depth-eq0-clause-acted
 returns-then-depth-eq0-clause-acted g c =
-    let start = start_of c.args._hall.now in
-    let s = c.count.new.caller.session in
-    let seen = (view c.args.caller.now.pass).seen in
-    let n = c.args.caller.now.number in
-    let m = c.args.caller.now.session.levels.commands + 1 in
-    let stage = c.args.caller.now.session.stage in
-    subst (λ (z : Stance). Acted start (by_at n m) z (stance_of s) stage commands.Save (replies.Refused refusals.NoTransaction) seen (view c.count.new.caller.pass).seen) (ap levels.stance_of c.count.ensures.levels)
-    (acted_nothing start seen _ n m (stance_of s) (stance_of s) stage commands.Save (replies.Refused refusals.NoTransaction) (ap (λ p. (view p).seen) c.count.ensures.pass) refl
-    (save_none s.levels.level_ids.items s.levels.unnamed (let d = c.depth.ensures in let t = c.if-depth-eq0.true in omega arith)) refl)
+    let old = c.args.caller.now in
+    let s = stance_of old.session in
+    let empty : length s.levels ≡ 0 = let d = c.depth.ensures in let t = c.if-depth-eq0.true in let same = ap (λ z. length (levels.levels_of z.level_ids.items z.unnamed)) c.count.ensures.levels in omega arith in
+    acted_refused (start_of c.args._hall.now) (view old.pass).seen _ old.number (old.session.levels.commands + 1) s _ old.session.stage commands.Save refusals.NoTransaction (ap (λ p. (view p).seen) c.count.ensures.pass) (ap levels.stance_of c.count.ensures.levels)
+    (nil_from_length s.levels empty) (sym (first_holds (length s.levels == 0) refusals.NoTransaction _ (eq-eqb (length s.levels) 0 empty)))
 
 pub returns-in-Some-clause-own : goal.returns-in-Some-clause-own
 returns-in-Some-clause-own g c = subst (λ p. IsOf c.args._hall.now p) (sym c.count.ensures.pass) c.requires.own
@@ -57,17 +53,15 @@ returns-in-Some-clause-may g c = c.count.ensures.ready (start_of c.args._hall.no
 pub returns-in-Some-clause-acted : goal.returns-in-Some-clause-acted
 returns-in-Some-clause-acted g c =
     let start = start_of c.args._hall.now in
-    let s = c.count.new.caller.session in
     let old = c.args.caller.now in
-    let seen = (view old.pass).seen in
-    let n = old.number in
-    let m = old.session.levels.commands + 1 in
+    let s = stance_of old.session in
     let stage = old.session.stage in
+    let seen = (view old.pass).seen in
     let r = c.in-Some.refusal in
-    let allowed = pending_answer start (view old.pass) n old.session (alone (history seen) (history seen)) commands.Save r c.requires.may (sym (c.pending.ensures ∙ ap pending_in c.count.ensures.rest.0) ∙ c.in-Some.is) in
-    subst (λ (z : Stance). Acted start (by_at n m) z (stance_of s) stage commands.Save (replies.Refused r) seen (view c.count.new.caller.pass).seen) (ap levels.stance_of c.count.ensures.levels)
-    (acted_nothing start seen _ n m (stance_of s) (stance_of s) stage commands.Save (replies.Refused r) (ap (λ p. (view p).seen) c.count.ensures.pass) refl
-    (subst (λ (z : Stance). MayAnswer start seen (alone (history seen) (history seen)) (by_at n m) z stage commands.Save (replies.Refused r)) (sym (ap levels.stance_of c.count.ensures.levels)) allowed) refl)
+    let pending : pending_in stage ≡ Some r = sym (c.pending.ensures ∙ ap pending_in c.count.ensures.rest.0) ∙ c.in-Some.is in
+    acted_refused start seen _ old.number (old.session.levels.commands + 1) s _ stage commands.Save r (ap (λ p. (view p).seen) c.count.ensures.pass) (ap levels.stance_of c.count.ensures.levels)
+    (pending_answer start (view old.pass) old.number old.session (alone (history seen) (history seen)) commands.Save r c.requires.may pending)
+    (pending_stands stage r pending ∙ sym (first_fails (length s.levels == 0) refusals.NoTransaction _ (ne_eqb (length s.levels) 0 (λ e. let d = c.depth.ensures in let t = c.if-depth-eq0.false in let same = ap (λ z. length (levels.levels_of z.level_ids.items z.unnamed)) c.count.ensures.levels in omega arith)) ∙ held_up (pending_in stage) r _ pending))
 
 pub returns-clause-own : goal.returns-clause-own
 returns-clause-own g c = subst (λ p. IsOf c.args._hall.now p) (sym c.count.ensures.pass) c.requires.own
@@ -92,6 +86,6 @@ returns-clause-acted g c =
     let s' = levels.stance_of c.save-reply.new.session in
     let reply = c.save-reply.result in
     let a = c.save-reply.ensures.acts start.base [] by in
-    let allowed = (save_answer start.base start seen (alone [] []) (alone (history seen) (history seen)) by s stage reply a.allowed).0 in
+    let free : pending_in stage ≡ None = sym (c.pending.ensures ∙ ap pending_in c.count.ensures.rest.0) ∙ c.in_default.is in
     subst (λ (z : Stance × Reply). Acted start by z.0 s' stage commands.Save z.1 seen seen') (λ j. (ap levels.stance_of c.count.ensures.levels j, sym c.result_of.ensures j))
-    (acted_levels start seen seen' start.base n m s s' stage commands.Save reply (ap (λ p. (view p).seen) c.count.ensures.pass) a allowed)
+    (acted_levels start seen seen' start.base n m s s' stage commands.Save reply tt free (ap (λ p. (view p).seen) c.count.ensures.pass) a)

@@ -1,10 +1,10 @@
-use Rattle.std.proofs.Common.{ℕ, List, refl, arith, ◌+◌, ap, subst}
+use Rattle.std.proofs.Common.{◌≡◌, ◌≤◌, ℕ, List, Some, None, is_some, nat_le, length, arith, ◌+◌, sym, ap, ◌∙◌, subst, le-leb}
 use Rattle.std.proofs.lemmas.List.{length-map}
 use Rattle.hall.specs.Calls.{view, start_of}
 use Rattle.tx_events.specs.declared.refusal.Refusal.TheVariants as refusals
 use Rattle.tx_model.specs.declared.command.Command.TheVariants as commands
 use Rattle.tx_model.specs.declared.reply.Reply.TheVariants as replies
-use Rattle.tx_model.specs.Stance.{Stance}
+use Rattle.tx_model.specs.Stance.{Stance, snap_of}
 use Rattle.tx_core.specs.declared.entry.Entry.{Entry}
 use Rattle.session_run.specs.Stands.{told_of}
 use Rattle.session_run.specs.Stands as levels
@@ -12,30 +12,32 @@ use Rattle.session_run.proofs.ActsLemmas.{snap_found, snap_missing}
 use Rattle.engine_parts.specs.declared.session.Stage.{Stage}
 use Rattle.engine_parts.specs.Answers.{Acted, reply_of}
 use Rattle.engine_parts.specs.Sessions.{by_at, stance_of}
-use Rattle.engine_parts.proofs.Acting.{acted_nothing}
+use Rattle.engine_parts.proofs.Acting.{acted_refused}
+use Rattle.engine_parts.proofs.Refusing.{first_fails, first_holds}
 use Rattle.xact_engine.proofs.snapshots.snap.Goals as goal
 
 pub returns-in-Some-clause-acted : goal.returns-in-Some-clause-acted
 returns-in-Some-clause-acted g c =
-    let s = c.count.new.caller.session in
-    let seen = (view c.args.caller.now.pass).seen in
-    let n = c.args.caller.now.number in
-    let m = c.args.caller.now.session.levels.commands + 1 in
-    let stage = c.args.caller.now.session.stage in
-    subst (λ (z : Stance). Acted (start_of c.args.hall.now) (by_at n m) z (stance_of s) stage (commands.Snap c.args.name.now) (replies.Refused refusals.NameTaken) seen (view c.count.new.caller.pass).seen) (ap levels.stance_of c.count.ensures.levels)
-    (acted_nothing (start_of c.args.hall.now) seen _ n m (stance_of s) (stance_of s) stage (commands.Snap c.args.name.now) (replies.Refused refusals.NameTaken) (ap (λ p. (view p).seen) c.count.ensures.pass) refl
-    (λ n. let found = snap_found c.args.name.now (stance_of s).levels s.levels.registered.items c.in-Some._registered.now c.in-Some.ensures.found in cc) refl)
+    let old = c.args.caller.now in
+    let s = stance_of old.session in
+    let u = c.count.new.caller.session in
+    let name = c.args.name.now in
+    let same : stance_of u ≡ s = ap levels.stance_of c.count.ensures.levels in
+    let found : snap_of name s ≡ Some c.in-Some._registered.now.command = sym (ap (snap_of name) same) ∙ snap_found name (stance_of u).levels u.levels.registered.items c.in-Some._registered.now c.in-Some.ensures.found in
+    acted_refused (start_of c.args.hall.now) (view old.pass).seen _ old.number (old.session.levels.commands + 1) s _ old.session.stage (commands.Snap name) refusals.NameTaken (ap (λ p. (view p).seen) c.count.ensures.pass) same
+    (λ none. let taken = found in cc) (sym (first_holds (is_some (snap_of name s)) refusals.NameTaken _ (ap is_some found)))
 
 pub returns-then-len-ge-MOST_SNAPS-clause-acted : goal.returns-then-len-ge-MOST_SNAPS-clause-acted
 returns-then-len-ge-MOST_SNAPS-clause-acted g c =
-    let s = c.count.new.caller.session in
-    let seen = (view c.args.caller.now.pass).seen in
-    let n = c.args.caller.now.number in
-    let m = c.args.caller.now.session.levels.commands + 1 in
-    let stage = c.args.caller.now.session.stage in
-    subst (λ (z : Stance). Acted (start_of c.args.hall.now) (by_at n m) z (stance_of s) stage (commands.Snap c.args.name.now) (replies.Refused refusals.SnapLimit) seen (view c.count.new.caller.pass).seen) (ap levels.stance_of c.count.ensures.levels)
-    (acted_nothing (start_of c.args.hall.now) seen _ n m (stance_of s) (stance_of s) stage (commands.Snap c.args.name.now) (replies.Refused refusals.SnapLimit) (ap (λ p. (view p).seen) c.count.ensures.pass) refl
-    (snap_missing c.args.name.now (stance_of s).levels s.levels.registered.items c.in_default.ensures.none, omega (arith, length-map s.levels.registered.items told_of)) refl)
+    let old = c.args.caller.now in
+    let s = stance_of old.session in
+    let u = c.count.new.caller.session in
+    let name = c.args.name.now in
+    let same : stance_of u ≡ s = ap levels.stance_of c.count.ensures.levels in
+    let none : snap_of name s ≡ None = sym (ap (snap_of name) same) ∙ snap_missing name (stance_of u).levels u.levels.registered.items c.in_default.ensures.none in
+    let many : 64 ≤ length s.snaps = let count = ap (λ z. length z.snaps) same in omega (arith, length-map u.levels.registered.items told_of) in
+    acted_refused (start_of c.args.hall.now) (view old.pass).seen _ old.number (old.session.levels.commands + 1) s _ old.session.stage (commands.Snap name) refusals.SnapLimit (ap (λ p. (view p).seen) c.count.ensures.pass) same
+    (none, many) (sym (first_fails (is_some (snap_of name s)) refusals.NameTaken _ (ap is_some none) ∙ first_holds (nat_le 64 (length s.snaps)) refusals.SnapLimit None (le-leb 64 (length s.snaps) many)))
 
 pub returns-clause-acted : goal.returns-clause-acted
 returns-clause-acted g c =

@@ -15,11 +15,11 @@ use Rattle.tx_core.specs.Locks.{proc_lock}
 use Rattle.session_run.specs.Stands.{told_of, levels_of}
 use Rattle.engine_parts.specs.Sessions.{by_at, stance_of}
 use Rattle.engine_parts.specs.Stand.{ProcStands}
-use Rattle.engine_parts.proofs.Acting.{acted_looked}
+use Rattle.engine_parts.proofs.Acting.{acted_looked, acted_refused}
 use Rattle.engine_parts.proofs.Leaving.{call_left}
 use Rattle.engine_parts.proofs.Tabling.{proc_adds, proc_looks}
 use Rattle.proc_table.specs.Table.{Table}
-use Rattle.xact_engine.proofs.Snapping.{acted_snapped, free_here, snap_entry}
+use Rattle.xact_engine.proofs.Snapping.{acted_snapped, free_here, not_refused, snap_entry}
 use Rattle.xact_engine.proofs.snapshots.take.Goals as goal
 
 pub take_of-requires-clause-free : goal.take_of-requires-clause-free
@@ -40,6 +40,11 @@ register-requires-clause-table g c =
     let es = at (view c.enter_proc-table.new.caller.pass).seen proc_lock in
     subst (λ (z : List ℕ). ProcStands (start_of c.args.hall.now) c.take_of.new.table (es ++ record { by = by; kind = kinds.Event (events.Snap by z) } ∷ [])) (sym c.in-Ok-take_of.ensures.name_is)
     (proc_adds (start_of c.args.hall.now) c.enter_proc-table.result c.take_of.new.table es by (events.Snap by c.args.name.now) c.enter_proc-table.ensures.stands c.in-Ok-take_of.ensures.adds)
+
+pub returns-in_default-clause-acted : goal.returns-in_default-clause-acted
+returns-in_default-clause-acted g c =
+    let s = c.args.caller.now.session in
+    acted_refused (start_of c.args.hall.now) (view c.args.caller.now.pass).seen _ c.args.caller.now.number s.levels.commands (stance_of s) _ s.stage (commands.Snap c.args.name.now) refusals.Memory refl (ap (λ z. record { levels = levels_of s.levels.level_ids.items s.levels.unnamed; snaps = map told_of z }) c.reserve.ensures.items) refl (sym (not_refused s c.args.name.now c.requires.free c.requires.room))
 
 pub returns-in-Ok-take_of-clause-acted : goal.returns-in-Ok-take_of-clause-acted
 returns-in-Ok-take_of-clause-acted g c =
@@ -68,7 +73,7 @@ returns-in-Err-clause-acted g c =
     let stance : stance_of c.leave_looked.new.caller.session ≡ stance_of s = ap stance_of c.leave_looked.ensures.same.0 ∙ (ap stance_of e.same.0 ∙ ap (λ z. record { levels = levels_of s.levels.level_ids.items s.levels.unnamed; snaps = map told_of z }) c.in-Ok.ensures.items) in
     let wide = c.requires.may.ready.at.wide in
     acted_looked (start_of c.args.hall.now) (view c.args.caller.now.pass) (view c.enter_proc-table.new.caller.pass) (view c.leave_looked.new.caller.pass) c.args.caller.now.number proc_lock s (stance_of c.leave_looked.new.caller.session) s.stage (commands.Snap c.args.name.now) (replies.Refused refusals.Memory) _
-    c.requires.may.ready.at e.entered.kept e.entered.learns (omega arith) refl c.leave_looked.ensures.left refl tt (sym stance)
+    c.requires.may.ready.at e.entered.kept e.entered.learns (omega arith) refl c.leave_looked.ensures.left refl refl (sym (not_refused s c.args.name.now c.requires.free c.requires.room)) (sym stance)
 
 pub returns-in-Err-clause-may : goal.returns-in-Err-clause-may
 returns-in-Err-clause-may g c =

@@ -10,6 +10,7 @@ pub mod SubBanking
 pub mod Answering
 pub mod Refusing
 pub mod Acting
+pub mod Calling
 pub mod Pending
 pub mod Stepping
 pub mod Newness

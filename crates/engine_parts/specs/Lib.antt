@@ -7,5 +7,6 @@ pub mod Sessions
 pub mod New
 pub mod Standing
 pub mod Answers
+pub mod Calls
 pub mod Steps
 pub mod Faults

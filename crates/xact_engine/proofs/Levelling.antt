@@ -3,6 +3,10 @@ use Rattle.std.proofs.Common.{◌≡◌, ◌≢◌, ◌<◌, ℕ, Bool, false, l
 use Rattle.std.proofs.lemmas.Bool.{lt-leb}
 use Rattle.std.specs.Bool.{then_some}
 use Rattle.std.proofs.lemmas.List.{nil_from_length}
+use Rattle.disk_core.specs.declared.log_disk.LogDisk as logs
+use Rattle.disk_core.specs.declared.page_disk.PageDisk as disks
+use Rattle.hall.specs.declared.hall.Hall.{Hall}
+use Rattle.hall.specs.Calls.{start_of, view}
 use Rattle.tx_events.specs.declared.event.Event.{Event}
 use Rattle.tx_events.specs.declared.refusal.Refusal.TheVariants as refusals
 use Rattle.tx_events.specs.Events.{given}
@@ -18,19 +22,24 @@ use Rattle.tx_model.specs.Stance.{Stance, after}
 use Rattle.tx_core.specs.declared.entry.Entry.{Entry}
 use Rattle.tx_core.specs.declared.entry.Start.{Start}
 use Rattle.tx_core.specs.Entries.{history}
-use Rattle.session_run.specs.Acts.{Acts}
+use Rattle.session_run.specs.Acts.{Acts, RunsAlone}
 use Rattle.session_run.specs.declared.session.Session as plain
 use Rattle.session_run.specs.Stands.{Stands}
+use Rattle.session_run.specs.Stands as levels
+use Rattle.engine_parts.specs.declared.part.Part.{Part}
+use Rattle.engine_parts.specs.declared.session.Caller.{Caller}
 use Rattle.engine_parts.specs.declared.session.Session.{Session}
 use Rattle.engine_parts.specs.declared.session.Stage.{Stage}
 use Rattle.engine_parts.specs.Answers.{Acted, MayAnswer}
+use Rattle.engine_parts.specs.Calls.{IsCounted, MayRun, Ran, next_command}
 use Rattle.engine_parts.specs.Holds.{Knowledge}
-use Rattle.engine_parts.specs.Sessions.{IsFiled, MayCall, by_at}
+use Rattle.engine_parts.specs.Sessions.{IsFiled, MayCall, by_at, stance_of}
 use Rattle.engine_parts.specs.Stages.{IsInStage}
 use Rattle.engine_parts.specs.Standing.{by_standing, held_by, refused_by}
 use Rattle.tx_core.specs.ProgramOrder.{IsInTurn}
 use Rattle.notes.specs.Lists.{at}
 use Rattle.engine_parts.proofs.Acting.{acted_nothing}
+use Rattle.engine_parts.proofs.Calling.{may_counted, own_counted}
 use Rattle.engine_parts.proofs.Refusing.{first_fails, first_holds, not_held}
 use Rattle.xact_engine.specs.Levels.{IsDoneOrNot}
 
@@ -89,7 +98,7 @@ level_reply base start lists r span by s stage commands.Release _ l free a = abs
 level_reply base start lists r span by s stage command reply l free a = absurd l
 
 -- what is said of such a command over no history is said over any
-pub acted_levels : (start : Start) (lists lists' : List (List Entry)) (base : Counters) (n number : ℕ) (s s' : Stance) (stage : Stage) (command : Command) (reply : Reply) → IsOnLevels command → held_by command stage ≡ None → lists' ≡ lists → Acts base (by_at n number) s s' command reply [] []
+acted_levels : (start : Start) (lists lists' : List (List Entry)) (base : Counters) (n number : ℕ) (s s' : Stance) (stage : Stage) (command : Command) (reply : Reply) → IsOnLevels command → held_by command stage ≡ None → lists' ≡ lists → Acts base (by_at n number) s s' command reply [] []
     → Acted start (by_at n number) s s' stage command reply lists lists'
 acted_levels start lists lists' base n number s s' stage command reply l free same a =
     let none : a.added ≡ [] = sym a.grown in
@@ -99,7 +108,7 @@ acted_levels start lists lists' base n number s s' stage command reply l free sa
     (sym (ap (λ (es : List Event). after s number command reply (given es)) none) ∙ a.left)
 
 -- a session whose levels alone changed, as they stand
-pub call_levels : (start : Start) (v : Knowledge) (n : ℕ) (s s' : Session) (new : plain.Session) → s' ≡ record s { levels = new } → new.commands ≡ s.levels.commands
+call_levels : (start : Start) (v : Knowledge) (n : ℕ) (s s' : Session) (new : plain.Session) → s' ≡ record s { levels = new } → new.commands ≡ s.levels.commands
     → (Stands start.base (history v.seen) n s.levels.commands s.levels → Stands start.base (history v.seen) n s.levels.commands new) → MayCall start v n s → MayCall start v n s'
 call_levels start v n s s' new is count stands m =
     let a = m.ready.at in
@@ -122,3 +131,18 @@ call_levels start v n s s' new is count stands m =
       };
       stage = subst (λ (z : List ℕ). IsInStage start v.seen n z s.stage) (sym opened) m.stage;
     })
+
+-- what a call did that changed levels alone
+module _ {H L P : Type 0} {l : logs.Ghosts L} {p : disks.Ghosts P} (hall : Hall H (Part L P l p) Entry Start) where
+  pub ran_levels : (old u : Caller L P l p) (t : plain.Session) (command : Command) (reply : Reply) → IsOnLevels command → held_by command old.session.stage ≡ None → IsCounted old u → MayRun hall old → RunsAlone u.session.levels t command reply
+      → Ran hall (next_command old) command reply old (record u { session = record u.session { levels = t } })
+  ran_levels old u t command reply on free c m r =
+      let start = start_of hall in
+      let by = by_at old.number (next_command old) in
+      let seen = (view old.pass).seen in record {
+        own = own_counted hall old u c m.own;
+        may = call_levels start (view u.pass) u.number u.session (record u.session { levels = t }) t refl r.count (λ st. r.stands start.base (history (view u.pass).seen) u.number u.session.levels.commands st) (may_counted hall old u c m);
+        acted = acted_levels start seen (view u.pass).seen start.base old.number (next_command old) (stance_of old.session) (levels.stance_of t) old.session.stage command reply on free (ap (λ q. (view q).seen) c.pass)
+            (subst (λ (z : Stance). Acts start.base by z (levels.stance_of t) command reply [] []) (ap levels.stance_of c.levels) (r.acts start.base [] by));
+        count = (r.count ∙ ap (λ z. z.commands) c.levels, c.number);
+      }

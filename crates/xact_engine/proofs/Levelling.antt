@@ -108,7 +108,7 @@ acted_levels start lists lists' base n number s s' stage command reply l free sa
     (sym (ap (λ (es : List Event). after s number command reply (given es)) none) ∙ a.left)
 
 -- a session whose levels alone changed, as they stand
-call_levels : (start : Start) (v : Knowledge) (n : ℕ) (s s' : Session) (new : plain.Session) → s' ≡ record s { levels = new } → new.commands ≡ s.levels.commands
+pub call_levels : (start : Start) (v : Knowledge) (n : ℕ) (s s' : Session) (new : plain.Session) → s' ≡ record s { levels = new } → new.commands ≡ s.levels.commands
     → (Stands start.base (history v.seen) n s.levels.commands s.levels → Stands start.base (history v.seen) n s.levels.commands new) → MayCall start v n s → MayCall start v n s'
 call_levels start v n s s' new is count stands m =
     let a = m.ready.at in

@@ -28,6 +28,7 @@ use Rattle.tx_core.specs.Locks.{proc_lock}
 use Rattle.tx_core.specs.ProgramOrder.{IsInTurn}
 use Rattle.tx_core.proofs.EventLaws.{snap_drop_law, snap_event_law}
 use Rattle.session_run.specs.declared.session.RegisteredSnapshot.{RegisteredSnapshot}
+use Rattle.session_run.specs.declared.session.Session as plain
 use Rattle.session_run.specs.Stands.{Stands, told_of}
 use Rattle.session_run.proofs.ActsLemmas.{snap_missing, none_found, not_live, some_found}
 use Rattle.session_run.proofs.RegisteredLemmas.{stood_dropped, stood_snapped}
@@ -37,12 +38,13 @@ use Rattle.engine_parts.specs.declared.session.Unlinked.{Unlinked}
 use Rattle.engine_parts.specs.Answers.{Acted}
 use Rattle.engine_parts.specs.Holds.{Knowledge, Learns, Leaves}
 use Rattle.engine_parts.specs.Law.{MayKeep}
-use Rattle.engine_parts.specs.Sessions.{IsAt, IsFiled, IsReady, by_at, stance_of}
+use Rattle.engine_parts.specs.Sessions.{IsAt, IsFiled, IsReady, MayCall, by_at, stance_of}
 use Rattle.engine_parts.specs.Stages.{may_be_recorded}
 use Rattle.engine_parts.specs.Standing.{refused_by}
 use Rattle.engine_parts.proofs.Acting.{acted_event}
 use Rattle.engine_parts.proofs.Refusing.{first_fails}
 use Rattle.engine_parts.proofs.Leaving.{at_left, clear_same, filed_left, history_event}
+use Rattle.xact_engine.proofs.Levelling.{call_levels}
 
 abbrev pub snap_entry : By → List ℕ → Entry
 snap_entry by name = record { by = by; kind = kinds.Event (events.Snap by name) }
@@ -144,3 +146,9 @@ any_found name registered k found = either (list_any (λ x. same_name x.name nam
     either : (b : Bool) → list_any (λ x. same_name x.name name) registered ≡ b → b ≡ true
     either true q = refl
     either false q = let none = none_found name registered q in absurd cc
+
+-- a session whose list of snapshots holds the same in more room
+pub call_reserved : (start : Start) (v : Knowledge) (n : ℕ) (s : Session) (new : plain.Session) → new ≡ record s.levels { registered = new.registered } → new.registered.items ≡ s.levels.registered.items → MayCall start v n s → MayCall start v n (record s { levels = new })
+call_reserved start v n s new same items m =
+    call_levels start v n s (record s { levels = new }) new refl (ap (λ z. z.commands) same)
+    (λ st. stands start.base (history v.seen) n s.levels.commands new (rw (ap (λ z. z.open_ids.items) same, ap (λ z. z.level_ids.items) same, ap (λ z. z.unnamed) same, items) (stood start.base (history v.seen) n s.levels.commands s.levels st))) m

@@ -31,5 +31,4 @@ pub drop_registered-requires-clause-registered : goal.drop_registered-requires-c
 drop_registered-requires-clause-registered g c = any_found c.args.name.now c.count.new.caller.session.levels.registered.items c.in-Some._registered.now c.in-Some.ensures.found
 
 pub returns : goal.returns
-returns g c = ran_counted c.args.hall.now c.args.caller.now c.count.new.caller c.drop_registered.new.caller (commands.DropSnap c.args.name.now) replies.Done c.count.ensures
-    (let e = c.drop_registered.ensures in record { own = e.own; may = e.may; acted = e.acted; count = e.count })
+returns g c = ran_counted c.args.hall.now c.args.caller.now c.count.new.caller c.drop_registered.new.caller (commands.DropSnap c.args.name.now) replies.Done c.count.ensures c.drop_registered.ensures

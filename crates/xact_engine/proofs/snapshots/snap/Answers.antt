@@ -36,8 +36,7 @@ returns-then-len-ge-MOST_SNAPS g c =
 
 pub returns : goal.returns
 returns g c =
-    ran_counted c.args.hall.now c.args.caller.now c.count.new.caller c.take.new.caller (commands.Snap c.args.name.now) (reply_of replies.Snapped c.take.result) c.count.ensures
-    (let e = c.take.ensures in record { own = e.own; may = e.may; acted = e.acted; count = e.count })
+    ran_counted c.args.hall.now c.args.caller.now c.count.new.caller c.take.new.caller (commands.Snap c.args.name.now) (reply_of replies.Snapped c.take.result) c.count.ensures c.take.ensures
 
 pub take-requires-clause-own : goal.take-requires-clause-own
 take-requires-clause-own g c = own_counted c.args.hall.now c.args.caller.now c.count.new.caller c.count.ensures c.requires.run.own

@@ -4,9 +4,11 @@ use Rattle.std.specs.List.{filter}
 use Rattle.notes.specs.Lists.{Knows, at}
 use Rattle.notes.proofs.Growing.{begins_same}
 use Rattle.tx_events.specs.declared.event.Event.{Event}
+use Rattle.tx_events.specs.declared.refusal.Refusal.{Refusal}
 use Rattle.tx_events.specs.Events.{by_of, given, is_of}
 use Rattle.tx_model.specs.declared.command.Command.{Command}
 use Rattle.tx_model.specs.declared.reply.Reply.{Reply}
+use Rattle.tx_model.specs.declared.reply.Reply.TheVariants as replies
 use Rattle.tx_model.specs.CommandEvents.{HasEvents}
 use Rattle.tx_model.specs.Replies.{alone}
 use Rattle.tx_model.specs.Stance.{Stance, after}
@@ -20,14 +22,16 @@ use Rattle.engine_parts.specs.declared.session.Stage.{Stage}
 use Rattle.engine_parts.specs.Answers.{Acted, MayAnswer}
 use Rattle.engine_parts.specs.Holds.{Knowledge, Learns, Leaves}
 use Rattle.engine_parts.specs.Sessions.{IsAt, by_at, stance_of}
+use Rattle.engine_parts.specs.Standing.{by_standing, refused_by}
 use Rattle.engine_parts.proofs.Going.{own_events}
+use Rattle.engine_parts.proofs.Refusing.{refused_events, refused_leaves}
 use Rattle.engine_parts.proofs.Leaving.{Added, event_added, grown_left, grows_then, history_same}
 
 -- with one critical section at most, which had no event
 pub acted_looked : (start : Start) (v u w : Knowledge) (n lock : ℕ) (s : Session) (s' : Stance) (stage : Stage) (command : Command) (reply : Reply) (e : Entry) → IsAt start v n s → EngineInvariant start u.seen → Learns v u → lock < length v.seen → event_of e ≡ None → Leaves start lock e u w
-    → HasEvents (by_at n s.levels.commands) (stance_of s) command reply [] → MayAnswer start w.seen (alone (history v.seen) (history w.seen)) (by_at n s.levels.commands) (stance_of s) stage command reply → after (stance_of s) s.levels.commands command reply [] ≡ s'
+    → HasEvents (by_at n s.levels.commands) (stance_of s) command reply [] → MayAnswer start w.seen (alone (history v.seen) (history w.seen)) (by_at n s.levels.commands) (stance_of s) stage command reply → by_standing reply ≡ refused_by command (stance_of s) stage → after (stance_of s) s.levels.commands command reply [] ≡ s'
     → Acted start (by_at n s.levels.commands) (stance_of s) s' stage command reply v.seen w.seen
-acted_looked start v u w n lock s s' stage command reply e a k learns inside looks l fitting allowed left =
+acted_looked start v u w n lock s s' stage command reply e a k learns inside looks l fitting allowed standing left =
     let long = learns.long in
     let there : lock < length u.seen = omega arith in
     let knows : Knows session_of n v.seen u.seen = subst (λ z. Knows session_of z v.seen u.seen) a.name learns.knows in
@@ -38,14 +42,15 @@ acted_looked start v u w n lock s s' stage command reply e a k learns inside loo
       each = tt;
       fitting = fitting;
       allowed = allowed;
+      standing = standing;
       left = left;
     }
 
 -- with one critical section, of the ProcArray, which had this event
 pub acted_event : (start : Start) (v u w : Knowledge) (n : ℕ) (s : Session) (s' : Stance) (command : Command) (reply : Reply) (e : Entry) (event : Event) → IsAt start v n s → EngineInvariant start u.seen → Learns v u → event_of e ≡ Some event → by_of event ≡ by_at n s.levels.commands → Leaves start proc_lock e u w
-    → HasEvents (by_at n s.levels.commands) (stance_of s) command reply (event ∷ []) → MayAnswer start w.seen (alone (history v.seen) (history w.seen)) (by_at n s.levels.commands) (stance_of s) s.stage command reply → after (stance_of s) s.levels.commands command reply (given (event ∷ [])) ≡ s'
+    → HasEvents (by_at n s.levels.commands) (stance_of s) command reply (event ∷ []) → MayAnswer start w.seen (alone (history v.seen) (history w.seen)) (by_at n s.levels.commands) (stance_of s) s.stage command reply → by_standing reply ≡ refused_by command (stance_of s) s.stage → after (stance_of s) s.levels.commands command reply (given (event ∷ [])) ≡ s'
     → Acted start (by_at n s.levels.commands) (stance_of s) s' s.stage command reply v.seen w.seen
-acted_event start v u w n s s' command reply e event a k learns is own l fitting allowed left =
+acted_event start v u w n s s' command reply e event a k learns is own l fitting allowed standing left =
     let by = by_at n s.levels.commands in
     let d : Added by event v.seen w.seen = event_added start v u w by e event a.name k learns is own (let f = a.wide in omega arith) l in
     record {
@@ -55,13 +60,14 @@ acted_event start v u w n s s' command reply e event a k learns is own l fitting
       each = (own, tt);
       fitting = fitting;
       allowed = allowed;
+      standing = standing;
       left = left;
     }
 
 -- with none
 pub acted_nothing : (start : Start) (lists lists' : List (List Entry)) (n number : ℕ) (s s' : Stance) (stage : Stage) (command : Command) (reply : Reply) → lists' ≡ lists → HasEvents (by_at n number) s command reply []
-    → MayAnswer start lists (alone (history lists) (history lists)) (by_at n number) s stage command reply → after s number command reply [] ≡ s' → Acted start (by_at n number) s s' stage command reply lists lists'
-acted_nothing start lists lists' n number s s' stage command reply same fitting allowed left =
+    → MayAnswer start lists (alone (history lists) (history lists)) (by_at n number) s stage command reply → by_standing reply ≡ refused_by command s stage → after s number command reply [] ≡ s' → Acted start (by_at n number) s s' stage command reply lists lists'
+acted_nothing start lists lists' n number s s' stage command reply same fitting allowed standing left =
     subst (λ z. Acted start (by_at n number) s s' stage command reply lists z) (sym same) (record {
       grows = record { begins = λ q. begins_same (at lists q) };
       added = [];
@@ -69,5 +75,13 @@ acted_nothing start lists lists' n number s s' stage command reply same fitting 
       each = tt;
       fitting = fitting;
       allowed = allowed;
+      standing = standing;
       left = left;
     })
+
+-- with none, and refused
+pub acted_refused : (start : Start) (lists lists' : List (List Entry)) (n number : ℕ) (s s' : Stance) (stage : Stage) (command : Command) (r : Refusal) → lists' ≡ lists → s' ≡ s
+    → MayAnswer start lists (alone (history lists) (history lists)) (by_at n number) s stage command (replies.Refused r) → by_standing (replies.Refused r) ≡ refused_by command s stage → Acted start (by_at n number) s s' stage command (replies.Refused r) lists lists'
+acted_refused start lists lists' n number s s' stage command r same stays allowed standing =
+    acted_nothing start lists lists' n number s s' stage command (replies.Refused r) same (refused_events (by_at n number) s command r) allowed standing
+    (refused_leaves s number command r ∙ sym stays)

@@ -57,11 +57,11 @@ down_grows start lists more down g d =
     }
 
 pub answer_grows : AnswersStay
-answer_grows start lists more r r' by s stage command (replies.Refused refusals.Memory) from to within g later a = tt
-answer_grows start lists more r r' by s stage command (replies.Refused refusals.Full) from to within g later a = tt
+answer_grows start lists more r r' by s stage command (replies.Refused refusals.Memory) from to within g later a = a
+answer_grows start lists more r r' by s stage command (replies.Refused refusals.Full) from to within g later a = a
 answer_grows start lists more r r' by s stage command (replies.Refused (refusals.DiskFault lock)) from to within g later a = fault_grows lists more (number_of lock) by g a
-answer_grows start lists more r r' by s stage command (replies.Refused refusals.LogFault) from to within g later a = log_fault_grows lists more by g a
-answer_grows start lists more r r' by s stage command (replies.Refused (refusals.LogDown down)) from to within g later a = down_grows start lists more down g a
+answer_grows start lists more r r' by s stage command (replies.Refused refusals.LogFault) from to within g later a = (a.0, log_fault_grows lists more by g a.1)
+answer_grows start lists more r r' by s stage command (replies.Refused (refusals.LogDown down)) from to within g later a = (a.0, down_grows start lists more down g a.1)
 answer_grows start lists more r r' by s stage command (replies.Refused refusals.CommitPending) from to within g later a = pending_grows lists more by s g a
 answer_grows start lists more r r' by s stage command (replies.Refused refusals.AbortPending) from to within g later a = a
 answer_grows start lists more r r' by s stage command (replies.Refused refusals.UndoPending) from to within g later a = a

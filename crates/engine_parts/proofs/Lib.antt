@@ -8,7 +8,9 @@ pub mod Banking
 pub mod Setting
 pub mod SubBanking
 pub mod Answering
+pub mod Refusing
 pub mod Acting
+pub mod Calling
 pub mod Pending
 pub mod Stepping
 pub mod Newness

@@ -1,5 +1,5 @@
 -- What a call of the engine promises, and keeps promising while others go on.
-use Rattle.std.specs.Prelude.{◌≡◌, ℕ, ◌<◌, ◌≤◌, length, List, ◌++◌, Result, Ok, Err, Option, Some, Contains}
+use Rattle.std.specs.Prelude.{◌≡◌, ℕ, ◌<◌, ◌≤◌, length, List, ◌++◌, Result, Ok, Err, Option, Some, Contains, IsTrue}
 use Rattle.std.specs.List.{AllByRecursion, filter}
 use Rattle.notes.specs.Lists.{Grows, at}
 use Rattle.tx_events.specs.declared.event.By.{By}
@@ -24,6 +24,7 @@ use Rattle.tx_core.specs.Locks.{log_lock, number_of}
 use Rattle.engine_parts.specs.declared.session.Stage.{Stage}
 use Rattle.engine_parts.specs.declared.session.Stage.TheVariants as stages
 use Rattle.engine_parts.specs.Stand.{IsDownAt}
+use Rattle.engine_parts.specs.Standing.{by_standing, needs_record, refused_by, takes_memory}
 
 -- the volume behind a bank failed, and this command was hit
 pub record MetFault (lists : List (List Entry)) (lock : ℕ) (by : By) : Type 0 where
@@ -53,15 +54,17 @@ pub record IsCommitPending (lists : List (List Entry)) (by : By) (s : Stance) : 
 
 -- The reply that a command may get, by the lists as they are then or later. A fault is one that this command met, a
 -- log is down behind a fault that its list has. A commit is pending by the session's own record, an abort or an undo
--- by its stage. Memory may be wanting at any time; of `Full` the lists don't tell, as they have no sizes.
+-- by its stage. Memory may be wanting to each command that takes some. Only a command that needs its record in the log
+-- is refused for the log; that it is full the lists don't tell, as they have no sizes.
 abbrev pub MayAnswer : Start → List (List Entry) → RoundSpan → By → Stance → Stage → Command → Reply → Type 0
-MayAnswer start lists span by s stage command (replies.Refused refusals.Memory) = Unit {0}
-MayAnswer start lists span by s stage command (replies.Refused refusals.Full) = Unit {0}
+MayAnswer start lists span by s stage command (replies.Refused refusals.Memory) = IsTrue (takes_memory command)
+MayAnswer start lists span by s stage command (replies.Refused refusals.Full) = IsTrue (needs_record command)
 MayAnswer start lists span by s stage command (replies.Refused (refusals.DiskFault lock)) =
     MetFault lists (number_of lock) by
-MayAnswer start lists span by s stage command (replies.Refused refusals.LogFault) = MetLogFault lists by
+MayAnswer start lists span by s stage command (replies.Refused refusals.LogFault) =
+    IsTrue (needs_record command) × MetLogFault lists by
 MayAnswer start lists span by s stage command (replies.Refused (refusals.LogDown down)) =
-    IsDownAt start (at lists log_lock) down
+    IsTrue (needs_record command) × IsDownAt start (at lists log_lock) down
 MayAnswer start lists span by s stage command (replies.Refused refusals.CommitPending) = IsCommitPending lists by s
 MayAnswer start lists span by s stage command (replies.Refused refusals.AbortPending) = stage ≡ stages.Aborting
 MayAnswer start lists span by s stage command (replies.Refused refusals.UndoPending) = stage ≡ stages.Undoing
@@ -69,7 +72,8 @@ MayAnswer start lists span by s stage command reply =
     MayReply start.base start.committed (history lists) span by s command reply
 
 -- What a call did: the lists went on, the session's events are those before and then these, which are the command's and
--- fit its reply. The reply is lawful, and the session stands as it leaves it.
+-- fit its reply. The reply is lawful, and a refusal by how the session stands comes exactly where the session stands so.
+-- The session stands as the reply leaves it.
 pub record Acted (start : Start) (by : By) (s s' : Stance) (stage : Stage) (command : Command) (reply : Reply)
     (lists lists' : List (List Entry)) : Type 0 where
   pub grows : Grows lists lists'
@@ -78,6 +82,7 @@ pub record Acted (start : Start) (by : By) (s s' : Stance) (stage : Stage) (comm
   pub each : AllByRecursion (λ e. by_of e ≡ by) added
   pub fitting : HasEvents by s command reply added
   pub allowed : MayAnswer start lists' (alone (history lists) (history lists')) by s stage command reply
+  pub standing : by_standing reply ≡ refused_by command s stage
   pub left : after s by.command command reply (given added) ≡ s'
 
 -- the reply of a result

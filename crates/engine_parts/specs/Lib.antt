@@ -5,6 +5,8 @@ pub mod Holds
 pub mod Stages
 pub mod Sessions
 pub mod New
+pub mod Standing
 pub mod Answers
+pub mod Calls
 pub mod Steps
 pub mod Faults

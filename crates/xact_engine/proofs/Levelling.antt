@@ -1,5 +1,12 @@
 -- What a command on levels leaves, which has no critical section.
-use Rattle.std.proofs.Common.{◌≡◌, ◌≤◌, ℕ, length, List, [], sym, ap, subst, ◌∙◌}
+use Rattle.std.proofs.Common.{◌≡◌, ◌≢◌, ◌<◌, ℕ, Bool, false, length, List, [], ◌∷◌, Option, None, nat_lt, nat_le, ◌==◌, refl, sym, ap, subst, ◌∙◌, eq-eqb, ne_eqb, le-leb, lt-ltb, arith}
+use Rattle.std.proofs.lemmas.Bool.{lt-leb}
+use Rattle.std.specs.Bool.{then_some}
+use Rattle.std.proofs.lemmas.List.{nil_from_length}
+use Rattle.disk_core.specs.declared.log_disk.LogDisk as logs
+use Rattle.disk_core.specs.declared.page_disk.PageDisk as disks
+use Rattle.hall.specs.declared.hall.Hall.{Hall}
+use Rattle.hall.specs.Calls.{start_of, view}
 use Rattle.tx_events.specs.declared.event.Event.{Event}
 use Rattle.tx_events.specs.declared.refusal.Refusal.TheVariants as refusals
 use Rattle.tx_events.specs.Events.{given}
@@ -10,40 +17,95 @@ use Rattle.tx_model.specs.declared.reply.Reply.TheVariants as replies
 use Rattle.tx_events.specs.declared.event.By.{By}
 use Rattle.tx_events.specs.declared.record.Counters.{Counters}
 use Rattle.tx_model.specs.CommandEvents.{HasEvents}
-use Rattle.tx_model.specs.Replies.{MayReply, RoundSpan, alone}
+use Rattle.tx_model.specs.Replies.{MayReply, RoundSpan, alone, most_levels}
 use Rattle.tx_model.specs.Stance.{Stance, after}
 use Rattle.tx_core.specs.declared.entry.Entry.{Entry}
 use Rattle.tx_core.specs.declared.entry.Start.{Start}
 use Rattle.tx_core.specs.Entries.{history}
-use Rattle.session_levels.specs.Acts.{Acts}
+use Rattle.session_levels.specs.Acts.{Acts, RunsAlone}
 use Rattle.session_levels.specs.declared.session.Session as plain
-use Rattle.session_levels.specs.Stands.{Stands, levels_of}
-use Rattle.session_levels.proofs.LevelLemmas.{no_levels}
+use Rattle.session_levels.specs.Stands.{Stands}
+use Rattle.session_levels.specs.Stands as levels
+use Rattle.engine_parts.specs.declared.part.Part.{Part}
+use Rattle.engine_parts.specs.declared.session.Caller.{Caller}
 use Rattle.engine_parts.specs.declared.session.Session.{Session}
 use Rattle.engine_parts.specs.declared.session.Stage.{Stage}
 use Rattle.engine_parts.specs.Answers.{Acted, MayAnswer}
+use Rattle.engine_parts.specs.Calls.{IsCounted, MayRun, Ran, next_command}
 use Rattle.engine_parts.specs.Holds.{Knowledge}
-use Rattle.engine_parts.specs.Sessions.{IsFiled, MayCall, by_at}
+use Rattle.engine_parts.specs.Sessions.{IsFiled, MayCall, by_at, stance_of}
 use Rattle.engine_parts.specs.Stages.{IsInStage}
+use Rattle.engine_parts.specs.Standing.{by_standing, held_by, refused_by}
 use Rattle.tx_core.specs.ProgramOrder.{IsInTurn}
 use Rattle.notes.specs.Lists.{at}
 use Rattle.engine_parts.proofs.Acting.{acted_nothing}
+use Rattle.engine_parts.proofs.Calling.{may_counted, own_counted}
+use Rattle.engine_parts.proofs.Refusing.{first_fails, first_holds, not_held}
 use Rattle.xact_engine.specs.Levels.{IsDoneOrNot}
 
--- what is said of a command without events over no history is said over any
-pub acted_levels : (start : Start) (lists lists' : List (List Entry)) (base : Counters) (n number : ℕ) (s s' : Stance) (stage : Stage) (command : Command) (reply : Reply) → lists' ≡ lists → Acts base (by_at n number) s s' command reply [] []
-    → MayAnswer start lists (alone (history lists) (history lists)) (by_at n number) s stage command reply → Acted start (by_at n number) s s' stage command reply lists lists'
-acted_levels start lists lists' base n number s s' stage command reply same a allowed =
-    let none : a.added ≡ [] = sym a.grown in
-    acted_nothing start lists lists' n number s s' stage command reply same
-    (subst (λ (es : List Event). HasEvents (by_at n number) s command reply es) none a.fitting) allowed
-    (sym (ap (λ (es : List Event). after s number command reply (given es)) none) ∙ a.left)
+-- the commands that change levels alone
+abbrev pub IsOnLevels : Command → Type 0
+IsOnLevels commands.Begin = Unit {0}
+IsOnLevels commands.Save = Unit {0}
+IsOnLevels commands.Release = Unit {0}
+IsOnLevels command = ⊥
 
--- the replies to `begin`
-pub begin_answer : (base : Counters) (start : Start) (lists : List (List Entry)) (r span : RoundSpan) (by : By) (s : Stance) (stage : Stage) (reply : Reply) → MayReply base [] [] r by s commands.Begin reply → MayAnswer start lists span by s stage commands.Begin reply × IsDoneOrNot reply
-begin_answer base start lists r span by s stage replies.Done a = (a, tt)
-begin_answer base start lists r span by s stage (replies.Refused refusals.AlreadyOpen) a = (a, tt)
-begin_answer base start lists r span by s stage _ a = absurd a
+pub done_or_not : (base : Counters) (h : List Event) (r : RoundSpan) (by : By) (s : Stance) (command : Command) (reply : Reply) → IsOnLevels command → MayReply base [] h r by s command reply → IsDoneOrNot reply
+done_or_not base h r by s commands.Begin replies.Done l a = tt
+done_or_not base h r by s commands.Begin (replies.Refused refusals.AlreadyOpen) l a = tt
+done_or_not base h r by s commands.Begin _ l a = absurd a
+done_or_not base h r by s commands.Save replies.Done l a = tt
+done_or_not base h r by s commands.Save (replies.Refused refusals.NoTransaction) l a = tt
+done_or_not base h r by s commands.Save (replies.Refused refusals.DepthLimit) l a = tt
+done_or_not base h r by s commands.Save _ l a = absurd a
+done_or_not base h r by s commands.Release replies.Done l a = tt
+done_or_not base h r by s commands.Release (replies.Refused refusals.NoSavepoint) l a = tt
+done_or_not base h r by s commands.Release _ l a = absurd a
+done_or_not base h r by s command reply l a = absurd l
+
+some_length : (levels : List (Option ℕ)) → levels ≢ [] → 0 < length levels
+some_length [] some = absurd (some refl)
+some_length (level ∷ levels) some = omega arith
+
+no_length : (levels : List (Option ℕ)) → levels ≢ [] → (length levels == 0) ≡ false
+no_length levels some = ne_eqb (length levels) 0 (λ e. some (nil_from_length levels e))
+
+-- Where no end that was begun holds it up, what such a command may be answered over no history it may be answered over
+-- any, and a refusal comes exactly where its levels stand so.
+level_reply : (base : Counters) (start : Start) (lists : List (List Entry)) (r span : RoundSpan) (by : By) (s : Stance) (stage : Stage) (command : Command) (reply : Reply) → IsOnLevels command → held_by command stage ≡ None → MayReply base [] [] r by s command reply
+    → MayAnswer start lists span by s stage command reply × (by_standing reply ≡ refused_by command s stage)
+level_reply base start lists r span by s stage commands.Begin replies.Done l free a = (a, sym (ap (λ (ls : List (Option ℕ)). then_some (nat_lt 0 (length ls)) refusals.AlreadyOpen) a))
+level_reply base start lists r span by s stage commands.Begin (replies.Refused refusals.AlreadyOpen) l free a =
+    (a, sym (ap (λ (b : Bool). then_some b refusals.AlreadyOpen) (lt-ltb 0 (length s.levels) (some_length s.levels a))))
+level_reply base start lists r span by s stage commands.Begin _ l free a = absurd a
+level_reply base start lists r span by s stage commands.Save replies.Done l free a = (
+  a,
+  sym
+      (first_fails (length s.levels == 0) refusals.NoTransaction _ (no_length s.levels a.0)
+      ∙ (not_held (held_by commands.Save stage) _ free ∙ first_fails (nat_le most_levels (length s.levels)) refusals.DepthLimit None (lt-leb most_levels (length s.levels) a.1))),
+)
+level_reply base start lists r span by s stage commands.Save (replies.Refused refusals.NoTransaction) l free a = (a, sym (first_holds (length s.levels == 0) refusals.NoTransaction _ (eq-eqb (length s.levels) 0 (ap length a))))
+level_reply base start lists r span by s stage commands.Save (replies.Refused refusals.DepthLimit) l free a = (
+  a,
+  sym
+      (first_fails (length s.levels == 0) refusals.NoTransaction _ (ne_eqb (length s.levels) 0 (λ e. let deep = a in omega arith))
+      ∙ (not_held (held_by commands.Save stage) _ free ∙ first_holds (nat_le most_levels (length s.levels)) refusals.DepthLimit None (le-leb most_levels (length s.levels) a))),
+)
+level_reply base start lists r span by s stage commands.Save _ l free a = absurd a
+level_reply base start lists r span by s stage commands.Release replies.Done l free a = (a, sym (first_fails (nat_le (length s.levels) 1) refusals.NoSavepoint _ (lt-leb (length s.levels) 1 (let deep = a in omega arith)) ∙ not_held (held_by commands.Release stage) None free))
+level_reply base start lists r span by s stage commands.Release (replies.Refused refusals.NoSavepoint) l free a = (a, sym (first_holds (nat_le (length s.levels) 1) refusals.NoSavepoint _ (le-leb (length s.levels) 1 a)))
+level_reply base start lists r span by s stage commands.Release _ l free a = absurd a
+level_reply base start lists r span by s stage command reply l free a = absurd l
+
+-- what is said of such a command over no history is said over any
+acted_levels : (start : Start) (lists lists' : List (List Entry)) (base : Counters) (n number : ℕ) (s s' : Stance) (stage : Stage) (command : Command) (reply : Reply) → IsOnLevels command → held_by command stage ≡ None → lists' ≡ lists → Acts base (by_at n number) s s' command reply [] []
+    → Acted start (by_at n number) s s' stage command reply lists lists'
+acted_levels start lists lists' base n number s s' stage command reply l free same a =
+    let none : a.added ≡ [] = sym a.grown in
+    let answer = level_reply base start lists (alone [] []) (alone (history lists) (history lists)) (by_at n number) s stage command reply l free a.allowed in
+    acted_nothing start lists lists' n number s s' stage command reply same
+    (subst (λ (es : List Event). HasEvents (by_at n number) s command reply es) none a.fitting) answer.0 answer.1
+    (sym (ap (λ (es : List Event). after s number command reply (given es)) none) ∙ a.left)
 
 -- a session whose levels alone changed, as they stand
 pub call_levels : (start : Start) (v : Knowledge) (n : ℕ) (s s' : Session) (new : plain.Session) → s' ≡ record s { levels = new } → new.commands ≡ s.levels.commands
@@ -70,21 +132,17 @@ call_levels start v n s s' new is count stands m =
       stage = subst (λ (z : List ℕ). IsInStage start v.seen n z s.stage) (sym opened) m.stage;
     })
 
--- the replies to `save`
-pub save_answer : (base : Counters) (start : Start) (lists : List (List Entry)) (r span : RoundSpan) (by : By) (s : Stance) (stage : Stage) (reply : Reply) → MayReply base [] [] r by s commands.Save reply → MayAnswer start lists span by s stage commands.Save reply × IsDoneOrNot reply
-save_answer base start lists r span by s stage replies.Done a = (a, tt)
-save_answer base start lists r span by s stage (replies.Refused refusals.NoTransaction) a = (a, tt)
-save_answer base start lists r span by s stage (replies.Refused refusals.DepthLimit) a = (a, tt)
-save_answer base start lists r span by s stage _ a = absurd a
-
-pub save_none : (named : List ℕ) (unnamed : ℕ) → length (levels_of named unnamed) ≡ 0 → levels_of named unnamed ≡ []
-save_none named unnamed none = no_levels named unnamed none
-
--- the replies to `release`
-pub release_answer : (base : Counters) (start : Start) (lists : List (List Entry)) (r span : RoundSpan) (by : By) (s : Stance) (stage : Stage) (reply : Reply) → MayReply base [] [] r by s commands.Release reply → MayAnswer start lists span by s stage commands.Release reply × IsDoneOrNot reply
-release_answer base start lists r span by s stage replies.Done a = (a, tt)
-release_answer base start lists r span by s stage (replies.Refused refusals.NoSavepoint) a = (a, tt)
-release_answer base start lists r span by s stage _ a = absurd a
-
-pub release_none : (named : List ℕ) (unnamed : ℕ) → length (levels_of named unnamed) ≤ 1 → length (levels_of named unnamed) ≤ 1
-release_none named unnamed few = few
+-- what a call did that changed levels alone
+module _ {H L P : Type 0} {l : logs.Ghosts L} {p : disks.Ghosts P} (hall : Hall H (Part L P l p) Entry Start) where
+  pub ran_levels : (old u : Caller L P l p) (t : plain.Session) (command : Command) (reply : Reply) → IsOnLevels command → held_by command old.session.stage ≡ None → IsCounted old u → MayRun hall old → RunsAlone u.session.levels t command reply
+      → Ran hall (next_command old) command reply old (record u { session = record u.session { levels = t } })
+  ran_levels old u t command reply on free c m r =
+      let start = start_of hall in
+      let by = by_at old.number (next_command old) in
+      let seen = (view old.pass).seen in record {
+        own = own_counted hall old u c m.own;
+        may = call_levels start (view u.pass) u.number u.session (record u.session { levels = t }) t refl r.count (λ st. r.stands start.base (history (view u.pass).seen) u.number u.session.levels.commands st) (may_counted hall old u c m);
+        acted = acted_levels start seen (view u.pass).seen start.base old.number (next_command old) (stance_of old.session) (levels.stance_of t) old.session.stage command reply on free (ap (λ q. (view q).seen) c.pass)
+            (subst (λ (z : Stance). Acts start.base by z (levels.stance_of t) command reply [] []) (ap levels.stance_of c.levels) (r.acts start.base [] by));
+        count = (r.count ∙ ap (λ z. z.commands) c.levels, c.number);
+      }

@@ -1,13 +1,16 @@
 -- What taking and dropping a snapshot leaves.
-use Rattle.std.proofs.Common.{◌≡◌, ℕ, ◌<◌, List, [], ◌∷◌, ◌++◌, refl, sym, ap, subst, ◌∙◌, false, true, not, Bool, length, arith, take, Option, Some, None}
+use Rattle.std.proofs.Common.{◌≡◌, ◌≢◌, ℕ, ◌<◌, nat_le, is_some, is_none, List, [], ◌∷◌, ◌++◌, refl, sym, ap, subst, ◌∙◌, false, true, not, Bool, length, arith, take, Option, Some, None}
+use Rattle.std.proofs.lemmas.Bool.{lt-leb}
 use Rattle.std.proofs.lemmas.List.{length-map}
 use Rattle.std.proofs.Math.Seq.{take-append_seam}
+use Rattle.std.specs.Bool.{then_some}
 use Rattle.std.specs.List.{filter, find, list_any}
 use Rattle.notes.specs.Lists.{at}
 use Rattle.tx_events.specs.declared.event.By.{By}
 use Rattle.tx_events.specs.declared.event.Event.{Event}
 use Rattle.tx_events.specs.declared.event.Event.TheVariants as events
 use Rattle.tx_events.specs.declared.snapshot.SnapData.{SnapData}
+use Rattle.tx_events.specs.declared.refusal.Refusal.TheVariants as refusals
 use Rattle.tx_events.specs.Events.{same_name}
 use Rattle.tx_events.specs.Horizon.{is_live}
 use Rattle.tx_events.specs.Running.{open_ids}
@@ -15,7 +18,7 @@ use Rattle.tx_events.specs.Snapshots.{snapshot_data}
 use Rattle.tx_events.proofs.PlaceLemmas.{last_at}
 use Rattle.tx_model.specs.declared.command.Command.TheVariants as commands
 use Rattle.tx_model.specs.declared.reply.Reply.TheVariants as replies
-use Rattle.tx_model.specs.Stance.{Stance, without_snap}
+use Rattle.tx_model.specs.Stance.{Stance, snap_of, without_snap}
 use Rattle.tx_core.specs.declared.entry.Entry.{Entry}
 use Rattle.tx_core.specs.declared.entry.Kind.TheVariants as kinds
 use Rattle.tx_core.specs.declared.entry.Start.{Start}
@@ -25,6 +28,7 @@ use Rattle.tx_core.specs.Locks.{proc_lock}
 use Rattle.tx_core.specs.ProgramOrder.{IsInTurn}
 use Rattle.tx_core.proofs.EventLaws.{snap_drop_law, snap_event_law}
 use Rattle.session_levels.specs.declared.session.RegisteredSnapshot.{RegisteredSnapshot}
+use Rattle.session_levels.specs.declared.session.Session as plain
 use Rattle.session_levels.specs.Stands.{Stands, told_of}
 use Rattle.session_levels.proofs.ActsLemmas.{snap_missing, none_found, not_live, some_found}
 use Rattle.session_levels.proofs.RegisteredLemmas.{stood_dropped, stood_snapped}
@@ -34,10 +38,13 @@ use Rattle.engine_parts.specs.declared.session.Unlinked.{Unlinked}
 use Rattle.engine_parts.specs.Answers.{Acted}
 use Rattle.engine_parts.specs.Holds.{Knowledge, Learns, Leaves}
 use Rattle.engine_parts.specs.Law.{MayKeep}
-use Rattle.engine_parts.specs.Sessions.{IsAt, IsFiled, IsReady, by_at, stance_of}
+use Rattle.engine_parts.specs.Sessions.{IsAt, IsFiled, IsReady, MayCall, by_at, stance_of}
 use Rattle.engine_parts.specs.Stages.{may_be_recorded}
+use Rattle.engine_parts.specs.Standing.{refused_by}
 use Rattle.engine_parts.proofs.Acting.{acted_event}
+use Rattle.engine_parts.proofs.Refusing.{first_fails}
 use Rattle.engine_parts.proofs.Leaving.{at_left, clear_same, filed_left, history_event}
+use Rattle.xact_engine.proofs.Levelling.{call_levels}
 
 abbrev pub snap_entry : By → List ℕ → Entry
 snap_entry by name = record { by = by; kind = kinds.Event (events.Snap by name) }
@@ -84,6 +91,13 @@ ready_dropped start v w n n' s s' name e a is count named unnamed opened registe
     ready_event start v w n n' s s' e (events.SnapDrop by name) a is count named unnamed opened stage unlinked number
     (rw registered (stood_dropped start.base (history v.seen) by name s.levels.open_ids.items s.levels.level_ids.items s.levels.unnamed s.levels.registered.items (stood start.base (history v.seen) n s.levels.commands s.levels a.stands))) l
 
+-- a name that isn't taken isn't refused, below the limit
+pub not_refused : (s : Session) (name : List ℕ) → find (λ k. same_name k.name name) s.levels.registered.items ≡ None → length s.levels.registered.items < 64 → refused_by (commands.Snap name) (stance_of s) s.stage ≡ None
+not_refused s name free room =
+    let missing = snap_missing name (stance_of s).levels s.levels.registered.items free in
+    first_fails (is_some (snap_of name (stance_of s))) refusals.NameTaken _ (ap is_some missing)
+    ∙ first_fails (nat_le 64 (length (stance_of s).snaps)) refusals.SnapLimit None (lt-leb 64 (length (stance_of s).snaps) (omega (arith, length-map s.levels.registered.items told_of)))
+
 -- what a call did that took one
 pub acted_snapped : (start : Start) (v u w : Knowledge) (n : ℕ) (s : Session) (s' : Stance) (name : List ℕ) (lists : SnapData) (e : Entry) → IsAt start v n s → EngineInvariant start u.seen → Learns v u → e ≡ snap_entry (by_at n s.levels.commands) name → Leaves start proc_lock e u w
     → find (λ k. same_name k.name name) s.levels.registered.items ≡ None → length s.levels.registered.items < 64 → lists ≡ snapshot_data start.base.next (history u.seen)
@@ -100,15 +114,20 @@ acted_snapped start v u w n s s' name lists e a k learns is l free room held sta
       rw grown (last_at (history u.seen) event),
       held ∙ ap (snapshot_data start.base.next) (sym (ap (λ (t : List Event). take (length (history u.seen)) t) grown ∙ take-append_seam (history u.seen) (event ∷ []))),
     )
-    (sym stance)
+    (sym (not_refused s name free room)) (sym stance)
+
+some_is : (o : Option ℕ) → o ≢ None → is_none o ≡ false
+some_is None some = absurd (some refl)
+some_is (Some x) some = refl
 
 -- and one that dropped one
 pub acted_dropped : (start : Start) (v u w : Knowledge) (n : ℕ) (s : Session) (s' : Stance) (name : List ℕ) (e : Entry) → IsAt start v n s → EngineInvariant start u.seen → Learns v u → e ≡ drop_entry (by_at n s.levels.commands) name → Leaves start proc_lock e u w
     → list_any (λ k. same_name k.name name) s.levels.registered.items ≡ true → s' ≡ record (stance_of s) { snaps = without_snap name (stance_of s).snaps }
     → Acted start (by_at n s.levels.commands) (stance_of s) s' s.stage (commands.DropSnap name) replies.Done v.seen w.seen
 acted_dropped start v u w n s s' name e a k learns is l registered stance =
+    let some = some_found name (stance_of s).levels s.levels.registered.items registered in
     acted_event start v u w n s s' (commands.DropSnap name) replies.Done e (events.SnapDrop (by_at n s.levels.commands) name) a k learns (ap event_of is) refl l refl
-    (some_found name (stance_of s).levels s.levels.registered.items registered) (sym stance)
+    some (sym (ap (λ (b : Bool). then_some b refusals.NoSnapshot) (some_is (snap_of name (stance_of s)) some))) (sym stance)
 
 -- a name is live in the history where the session has it
 pub live_here : (start : Start) (v : Knowledge) (n n' : ℕ) (s : Session) (registered : List RegisteredSnapshot) (name : List ℕ) → IsAt start v n' s → n' ≡ n → s.levels.registered.items ≡ registered → is_live start.base.next n name (history v.seen) ≡ list_any (λ k. same_name k.name name) registered
@@ -127,3 +146,9 @@ any_found name registered k found = either (list_any (λ x. same_name x.name nam
     either : (b : Bool) → list_any (λ x. same_name x.name name) registered ≡ b → b ≡ true
     either true q = refl
     either false q = let none = none_found name registered q in absurd cc
+
+-- a session whose list of snapshots holds the same in more room
+pub call_reserved : (start : Start) (v : Knowledge) (n : ℕ) (s : Session) (new : plain.Session) → new ≡ record s.levels { registered = new.registered } → new.registered.items ≡ s.levels.registered.items → MayCall start v n s → MayCall start v n (record s { levels = new })
+call_reserved start v n s new same items m =
+    call_levels start v n s (record s { levels = new }) new refl (ap (λ z. z.commands) same)
+    (λ st. stands start.base (history v.seen) n s.levels.commands new (rw (ap (λ z. z.open_ids.items) same, ap (λ z. z.level_ids.items) same, ap (λ z. z.unnamed) same, items) (stood start.base (history v.seen) n s.levels.commands s.levels st))) m

@@ -1,5 +1,5 @@
 //! Snapshots are taken and registered, and dropped.
-ghost use Rattle.std.specs.Prelude.{◌≡◌, ℕ, ◌+◌, ◌*◌, ◌^◌, ◌<◌, ◌≤◌, ◌++◌, ◌∷◌, [], length, vec_len, vec_capacity, Some, None, MatchResult, false, true};
+ghost use Rattle.std.specs.Prelude.{◌≡◌, ℕ, ◌+◌, ◌*◌, ◌<◌, ◌≤◌, ◌++◌, ◌∷◌, [], length, vec_len, vec_capacity, Some, None, MatchResult, false, true};
 ghost use Rattle.std.specs.List.{find, list_any};
 ghost use Rattle.hall.specs.declared.view.Stage.TheVariants.{Inside};
 ghost use Rattle.hall.specs.Calls.{view, IsOf, start_of};
@@ -15,7 +15,8 @@ ghost use Rattle.proc_table.specs.Table.{InTurn};
 ghost use Rattle.tx_core.specs.declared.entry.Kind.TheVariants as kinds;
 ghost use Rattle.tx_core.specs.Entries.{history};
 ghost use Rattle.tx_core.specs.Locks.{proc_lock};
-ghost use Rattle.engine_parts.specs.Answers.{Acted, reply_of};
+ghost use Rattle.engine_parts.specs.Answers.{reply_of};
+ghost use Rattle.engine_parts.specs.Calls.{MayRun, Ran, next_command};
 ghost use Rattle.engine_parts.specs.Holds.{Leaves};
 ghost use Rattle.engine_parts.specs.Sessions.{IsAt, IsReady, MayCall, by_at, stance_of};
 ghost use Rattle.engine_parts.specs.Stand.{ProcStands};
@@ -114,14 +115,8 @@ fn take<R: Wait, L: LogDisk, P: PageDisk>(
     requires may { MayCall (start_of hall.now) (view caller.old.pass) caller.old.number caller.old.session }
     requires free { find (λ k. same_name k.name name.now) caller.old.session.levels.registered.items ≡ None }
     requires room { length caller.old.session.levels.registered.items < 64 }
-    ensures own { IsOf hall.now caller.new.pass }
-    ensures may { MayCall (start_of hall.now) (view caller.new.pass) caller.new.number caller.new.session }
-    ensures acted { Acted (start_of hall.now) (by_at caller.old.number caller.old.session.levels.commands)
-        (stance_of caller.old.session) (stance_of caller.new.session)
-        caller.old.session.stage (commands.Snap name.now) (reply_of replies.Snapped result)
-        (view caller.old.pass).seen (view caller.new.pass).seen }
-    ensures count { (caller.new.session.levels.commands ≡ caller.old.session.levels.commands)
-        × (caller.new.number ≡ caller.old.number) }
+    ensures { Ran hall.now caller.old.session.levels.commands (commands.Snap name.now) (reply_of replies.Snapped result)
+        caller.old caller.new }
 {
     let Ok(()) = caller.session.levels.registered.reserve(1) else {
         return Err(Refusal::Memory);
@@ -154,18 +149,10 @@ pub fn snap<R: Wait, L: LogDisk, P: PageDisk>(
     caller: &mut Caller<L, P>,
     name: &Name,
 ) -> Result<SnapData, Refusal>
-    requires own { IsOf hall.now caller.old.pass }
     requires laid { hall.now.cells ≡ 3 + 4 * (start_of hall.now).banks }
-    requires may { MayCall (start_of hall.now) (view caller.old.pass) caller.old.number caller.old.session }
-    requires few { caller.old.session.levels.commands < 2 ^ 48 }
-    ensures own { IsOf hall.now caller.new.pass }
-    ensures may { MayCall (start_of hall.now) (view caller.new.pass) caller.new.number caller.new.session }
-    ensures acted { Acted (start_of hall.now) (by_at caller.old.number (caller.old.session.levels.commands + 1))
-        (stance_of caller.old.session) (stance_of caller.new.session)
-        caller.old.session.stage (commands.Snap name.now) (reply_of replies.Snapped result)
-        (view caller.old.pass).seen (view caller.new.pass).seen }
-    ensures count { (caller.new.session.levels.commands ≡ caller.old.session.levels.commands + 1)
-        × (caller.new.number ≡ caller.old.number) }
+    requires run { MayRun hall.now caller.old }
+    ensures { Ran hall.now (next_command caller.old) (commands.Snap name.now) (reply_of replies.Snapped result)
+        caller.old caller.new }
 {
     count(caller);
     if let Some(_registered) = registered_as(&caller.session.levels, name) {
@@ -227,14 +214,8 @@ fn drop_registered<R: Wait, L: LogDisk, P: PageDisk>(
     requires laid { hall.now.cells ≡ 3 + 4 * (start_of hall.now).banks }
     requires may { MayCall (start_of hall.now) (view caller.old.pass) caller.old.number caller.old.session }
     requires registered { list_any (λ k. same_name k.name name.now) caller.old.session.levels.registered.items ≡ true }
-    ensures own { IsOf hall.now caller.new.pass }
-    ensures may { MayCall (start_of hall.now) (view caller.new.pass) caller.new.number caller.new.session }
-    ensures acted { Acted (start_of hall.now) (by_at caller.old.number caller.old.session.levels.commands)
-        (stance_of caller.old.session) (stance_of caller.new.session)
-        caller.old.session.stage (commands.DropSnap name.now) replies.Done
-        (view caller.old.pass).seen (view caller.new.pass).seen }
-    ensures count { (caller.new.session.levels.commands ≡ caller.old.session.levels.commands)
-        × (caller.new.number ≡ caller.old.number) }
+    ensures { Ran hall.now caller.old.session.levels.commands (commands.DropSnap name.now) replies.Done
+        caller.old caller.new }
 {
     let by = By {
         session: caller.number,
@@ -255,18 +236,10 @@ pub fn drop_snap<R: Wait, L: LogDisk, P: PageDisk>(
     caller: &mut Caller<L, P>,
     name: &Name,
 ) -> Result<(), Refusal>
-    requires own { IsOf hall.now caller.old.pass }
     requires laid { hall.now.cells ≡ 3 + 4 * (start_of hall.now).banks }
-    requires may { MayCall (start_of hall.now) (view caller.old.pass) caller.old.number caller.old.session }
-    requires few { caller.old.session.levels.commands < 2 ^ 48 }
-    ensures own { IsOf hall.now caller.new.pass }
-    ensures may { MayCall (start_of hall.now) (view caller.new.pass) caller.new.number caller.new.session }
-    ensures acted { Acted (start_of hall.now) (by_at caller.old.number (caller.old.session.levels.commands + 1))
-        (stance_of caller.old.session) (stance_of caller.new.session)
-        caller.old.session.stage (commands.DropSnap name.now) (reply_of (λ _. replies.Done) result)
-        (view caller.old.pass).seen (view caller.new.pass).seen }
-    ensures count { (caller.new.session.levels.commands ≡ caller.old.session.levels.commands + 1)
-        × (caller.new.number ≡ caller.old.number) }
+    requires run { MayRun hall.now caller.old }
+    ensures { Ran hall.now (next_command caller.old) (commands.DropSnap name.now) (reply_of (λ _. replies.Done) result)
+        caller.old caller.new }
 {
     count(caller);
     let Some(_registered) = registered_as(&caller.session.levels, name) else {

@@ -1,97 +1,56 @@
-use Rattle.std.proofs.Common.{[], ◌+◌, ap, ◌∙◌, sym, refl, subst, arith}
-use Rattle.hall.specs.Calls.{view, start_of, IsOf}
+use Rattle.std.proofs.Common.{◌≡◌, [], ap, ◌∙◌, sym, subst, ◌==◌, Some, length, arith, eq-eqb, ne_eqb}
+use Rattle.std.proofs.lemmas.List.{nil_from_length}
+use Rattle.hall.specs.Calls.{start_of}
 use Rattle.tx_events.specs.declared.refusal.Refusal.TheVariants as refusals
 use Rattle.tx_model.specs.declared.command.Command.TheVariants as commands
 use Rattle.tx_model.specs.declared.reply.Reply.{Reply}
-use Rattle.tx_model.specs.declared.reply.Reply.TheVariants as replies
 use Rattle.tx_model.specs.Replies.{alone}
-use Rattle.tx_model.specs.Stance.{Stance}
-use Rattle.tx_core.specs.Entries.{history}
 use Rattle.session_levels.specs.Stands as levels
-use Rattle.engine_parts.specs.Answers.{Acted, MayAnswer}
+use Rattle.engine_parts.specs.Calls.{Ran, next_command}
 use Rattle.engine_parts.specs.Sessions.{by_at, stance_of}
 use Rattle.engine_parts.specs.Stages.{pending_in}
-use Rattle.engine_parts.proofs.Acting.{acted_nothing}
-use Rattle.engine_parts.proofs.Pending.{pending_answer}
-use Rattle.xact_engine.proofs.Levelling.{acted_levels, call_levels, save_answer, save_none}
+use Rattle.engine_parts.proofs.Calling.{may_counted, ran_held, ran_refused}
+use Rattle.engine_parts.proofs.Refusing.{first_fails, first_holds, held_up}
+use Rattle.xact_engine.proofs.Levelling.{done_or_not, ran_levels}
 use Rattle.xact_engine.proofs.savepoints.save.Goals as goal
 
 pub depth-requires : goal.depth-requires
-depth-requires g c = (c.count.ensures.ready (start_of c.args._hall.now) c.requires.may).ready.at.stands.depth
+depth-requires g c = (may_counted c.args._hall.now c.args.caller.now c.count.new.caller c.count.ensures c.requires).ready.at.stands.depth
 
 pub save-reply-requires : goal.save-reply-requires
-save-reply-requires g c = record { depth = (c.count.ensures.ready (start_of c.args._hall.now) c.requires.may).ready.at.stands.depth }
+save-reply-requires g c = record { depth = (may_counted c.args._hall.now c.args.caller.now c.count.new.caller c.count.ensures c.requires).ready.at.stands.depth }
 
 pub result_of-requires : goal.result_of-requires
 result_of-requires g c =
     let start = start_of c.args._hall.now in
-    let by = by_at c.args.caller.now.number (c.args.caller.now.session.levels.commands + 1) in
-    let seen = (view c.args.caller.now.pass).seen in
+    let by = by_at c.args.caller.now.number (next_command c.args.caller.now) in
     let a = c.save-reply.ensures.acts start.base [] by in
-    (save_answer start.base start seen (alone [] []) (alone (history seen) (history seen)) by (levels.stance_of c.count.new.caller.session.levels) c.args.caller.now.session.stage c.save-reply.result a.allowed).1
+    done_or_not start.base [] (alone [] []) by (levels.stance_of c.count.new.caller.session.levels) commands.Save c.save-reply.result tt a.allowed
 
-pub returns-then-depth-eq0-clause-own : goal.returns-then-depth-eq0-clause-own
-returns-then-depth-eq0-clause-own g c = subst (λ p. IsOf c.args._hall.now p) (sym c.count.ensures.pass) c.requires.own
-
-pub returns-then-depth-eq0-clause-may : goal.returns-then-depth-eq0-clause-may
-returns-then-depth-eq0-clause-may g c = c.count.ensures.ready (start_of c.args._hall.now) c.requires.may
-
-pub returns-then-depth-eq0-clause-acted : goal.returns-then-depth-eq0-clause-acted
-returns-then-depth-eq0-clause-acted g c =
-    let start = start_of c.args._hall.now in
-    let s = c.count.new.caller.session in
-    let seen = (view c.args.caller.now.pass).seen in
-    let n = c.args.caller.now.number in
-    let m = c.args.caller.now.session.levels.commands + 1 in
-    let stage = c.args.caller.now.session.stage in
-    subst (λ (z : Stance). Acted start (by_at n m) z (stance_of s) stage commands.Save (replies.Refused refusals.NoTransaction) seen (view c.count.new.caller.pass).seen) (ap levels.stance_of c.count.ensures.levels)
-    (acted_nothing start seen _ n m (stance_of s) (stance_of s) stage commands.Save (replies.Refused refusals.NoTransaction) (ap (λ p. (view p).seen) c.count.ensures.pass) refl
-    (save_none s.levels.level_ids.items s.levels.unnamed (let d = c.depth.ensures in let t = c.if-depth-eq0.true in omega arith)) refl)
-
-pub returns-in-Some-clause-own : goal.returns-in-Some-clause-own
-returns-in-Some-clause-own g c = subst (λ p. IsOf c.args._hall.now p) (sym c.count.ensures.pass) c.requires.own
-
-pub returns-in-Some-clause-may : goal.returns-in-Some-clause-may
-returns-in-Some-clause-may g c = c.count.ensures.ready (start_of c.args._hall.now) c.requires.may
-
-pub returns-in-Some-clause-acted : goal.returns-in-Some-clause-acted
-returns-in-Some-clause-acted g c =
-    let start = start_of c.args._hall.now in
-    let s = c.count.new.caller.session in
+pub returns-then-depth-eq0 : goal.returns-then-depth-eq0
+returns-then-depth-eq0 g c =
     let old = c.args.caller.now in
-    let seen = (view old.pass).seen in
-    let n = old.number in
-    let m = old.session.levels.commands + 1 in
+    let s = stance_of old.session in
+    let empty : length s.levels ≡ 0 = let d = c.depth.ensures in let t = c.if-depth-eq0.true in let same = ap (λ z. length (levels.levels_of z.level_ids.items z.unnamed)) c.count.ensures.levels in omega arith in
+    ran_refused c.args._hall.now old c.count.new.caller commands.Save refusals.NoTransaction c.count.ensures c.requires
+    (sym (first_holds (length s.levels == 0) refusals.NoTransaction _ (eq-eqb (length s.levels) 0 empty))) (nil_from_length s.levels empty)
+
+pub returns-in-Some : goal.returns-in-Some
+returns-in-Some g c =
+    let old = c.args.caller.now in
+    let s = stance_of old.session in
     let stage = old.session.stage in
     let r = c.in-Some.refusal in
-    let allowed = pending_answer start (view old.pass) n old.session (alone (history seen) (history seen)) commands.Save r c.requires.may (sym (c.pending.ensures ∙ ap pending_in c.count.ensures.rest.0) ∙ c.in-Some.is) in
-    subst (λ (z : Stance). Acted start (by_at n m) z (stance_of s) stage commands.Save (replies.Refused r) seen (view c.count.new.caller.pass).seen) (ap levels.stance_of c.count.ensures.levels)
-    (acted_nothing start seen _ n m (stance_of s) (stance_of s) stage commands.Save (replies.Refused r) (ap (λ p. (view p).seen) c.count.ensures.pass) refl
-    (subst (λ (z : Stance). MayAnswer start seen (alone (history seen) (history seen)) (by_at n m) z stage commands.Save (replies.Refused r)) (sym (ap levels.stance_of c.count.ensures.levels)) allowed) refl)
+    let pending : pending_in stage ≡ Some r = sym (c.pending.ensures ∙ ap pending_in c.count.ensures.stage) ∙ c.in-Some.is in
+    ran_held c.args._hall.now old c.count.new.caller commands.Save r c.count.ensures c.requires pending
+    (first_fails (length s.levels == 0) refusals.NoTransaction _ (ne_eqb (length s.levels) 0 (λ e. let d = c.depth.ensures in let t = c.if-depth-eq0.false in let same = ap (λ z. length (levels.levels_of z.level_ids.items z.unnamed)) c.count.ensures.levels in omega arith))
+    ∙ held_up (pending_in stage) r _ pending)
 
-pub returns-clause-own : goal.returns-clause-own
-returns-clause-own g c = subst (λ p. IsOf c.args._hall.now p) (sym c.count.ensures.pass) c.requires.own
-
-pub returns-clause-may : goal.returns-clause-may
-returns-clause-may g c =
-    let start = start_of c.args._hall.now in
+pub returns : goal.returns
+returns g c =
+    let hall = c.args._hall.now in
+    let old = c.args.caller.now in
     let u = c.count.new.caller in
-    call_levels start (view u.pass) u.number u.session _ c.save-reply.new.session refl c.save-reply.ensures.count
-    (λ st. c.save-reply.ensures.stands start.base (history (view u.pass).seen) u.number u.session.levels.commands st) (c.count.ensures.ready start c.requires.may)
-
-pub returns-clause-acted : goal.returns-clause-acted
-returns-clause-acted g c =
-    let start = start_of c.args._hall.now in
-    let n = c.args.caller.now.number in
-    let m = c.args.caller.now.session.levels.commands + 1 in
-    let by = by_at n m in
-    let stage = c.args.caller.now.session.stage in
-    let seen = (view c.args.caller.now.pass).seen in
-    let seen' = (view c.count.new.caller.pass).seen in
-    let s = levels.stance_of c.count.new.caller.session.levels in
-    let s' = levels.stance_of c.save-reply.new.session in
-    let reply = c.save-reply.result in
-    let a = c.save-reply.ensures.acts start.base [] by in
-    let allowed = (save_answer start.base start seen (alone [] []) (alone (history seen) (history seen)) by s stage reply a.allowed).0 in
-    subst (λ (z : Stance × Reply). Acted start by z.0 s' stage commands.Save z.1 seen seen') (λ j. (ap levels.stance_of c.count.ensures.levels j, sym c.result_of.ensures j))
-    (acted_levels start seen seen' start.base n m s s' stage commands.Save reply (ap (λ p. (view p).seen) c.count.ensures.pass) a allowed)
+    let t = c.save-reply.new.session in
+    subst (λ (z : Reply). Ran hall (next_command old) commands.Save z old (record u { session = record u.session { levels = t } })) (sym c.result_of.ensures)
+    (ran_levels hall old u t commands.Save c.save-reply.result tt (sym (c.pending.ensures ∙ ap pending_in c.count.ensures.stage) ∙ c.in_default.is) c.count.ensures c.requires c.save-reply.ensures)

@@ -29,19 +29,18 @@ unregister-requires-clause-table g c =
     let by = by_at c.args.caller.now.number c.args.caller.now.session.levels.commands in
     proc_adds (start_of c.args.hall.now) c.enter_proc-table.result c.drop_snapshot.new.self (at (view c.enter_proc-table.new.caller.pass).seen proc_lock) by (events.SnapDrop by c.args.name.now) c.enter_proc-table.ensures.stands c.drop_snapshot.ensures
 
-pub returns-clause-acted : goal.returns-clause-acted
-returns-clause-acted g c =
+pub returns : goal.returns
+returns g c =
     let e = c.enter_proc-table.ensures in
     let s = c.args.caller.now.session in
     let by = by_at c.args.caller.now.number s.levels.commands in
-    acted_dropped (start_of c.args.hall.now) (view c.args.caller.now.pass) (view c.enter_proc-table.new.caller.pass) (view c.unregister.new.caller.pass) c.args.caller.now.number s (stance_of c.unregister.new.caller.session) c.args.name.now (drop_entry by c.args.name.now)
-    c.requires.may.ready.at e.entered.kept e.entered.learns refl c.unregister.ensures.left c.requires.registered
-    (c.unregister.ensures.stance ∙ ap (λ z. record (stance_of z) { snaps = without_snap c.args.name.now (stance_of z).snaps }) e.same.0)
-
-pub returns-clause-may : goal.returns-clause-may
-returns-clause-may g c =
-    let e = c.enter_proc-table.ensures in
     let r = c.unregister.ensures in
-    let wide = c.requires.may.ready.at.wide in
-    call_left (start_of c.args.hall.now) (view c.args.caller.now.pass) (view c.enter_proc-table.new.caller.pass) (view c.unregister.new.caller.pass) c.args.caller.now.number c.unregister.new.caller.number proc_lock c.args.caller.now.session c.unregister.new.caller.session _
-    c.requires.may e.entered.learns (omega arith) r.left refl (r.opened ∙ ap (λ z. z.levels.open_ids.items) e.same.0) (r.stage ∙ ap (λ z. z.stage) e.same.0) (r.count.1 ∙ e.same.1) r.ready
+    let wide = c.requires.may.ready.at.wide in record {
+      own = r.own;
+      may = call_left (start_of c.args.hall.now) (view c.args.caller.now.pass) (view c.enter_proc-table.new.caller.pass) (view c.unregister.new.caller.pass) c.args.caller.now.number c.unregister.new.caller.number proc_lock c.args.caller.now.session c.unregister.new.caller.session _
+          c.requires.may e.entered.learns (omega arith) r.left refl (r.opened ∙ ap (λ z. z.levels.open_ids.items) e.same.0) (r.stage ∙ ap (λ z. z.stage) e.same.0) (r.count.1 ∙ e.same.1) r.ready;
+      acted = acted_dropped (start_of c.args.hall.now) (view c.args.caller.now.pass) (view c.enter_proc-table.new.caller.pass) (view c.unregister.new.caller.pass) c.args.caller.now.number s (stance_of c.unregister.new.caller.session) c.args.name.now (drop_entry by c.args.name.now)
+          c.requires.may.ready.at e.entered.kept e.entered.learns refl c.unregister.ensures.left c.requires.registered
+          (c.unregister.ensures.stance ∙ ap (λ z. record (stance_of z) { snaps = without_snap c.args.name.now (stance_of z).snaps }) e.same.0);
+      count = (r.count.0 ∙ ap (λ z. z.levels.commands) e.same.0, r.count.1 ∙ e.same.1);
+    }

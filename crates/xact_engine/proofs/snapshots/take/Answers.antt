@@ -15,11 +15,11 @@ use Rattle.tx_core.specs.Locks.{proc_lock}
 use Rattle.session_levels.specs.Stands.{told_of, levels_of}
 use Rattle.engine_parts.specs.Sessions.{by_at, stance_of}
 use Rattle.engine_parts.specs.Stand.{ProcStands}
-use Rattle.engine_parts.proofs.Acting.{acted_looked}
+use Rattle.engine_parts.proofs.Acting.{acted_looked, acted_refused}
 use Rattle.engine_parts.proofs.Leaving.{call_left}
 use Rattle.engine_parts.proofs.Tabling.{proc_adds, proc_looks}
 use Rattle.proc_table.specs.Table.{Table}
-use Rattle.xact_engine.proofs.Snapping.{acted_snapped, free_here, snap_entry}
+use Rattle.xact_engine.proofs.Snapping.{acted_snapped, call_reserved, free_here, not_refused, snap_entry}
 use Rattle.xact_engine.proofs.snapshots.take.Goals as goal
 
 pub take_of-requires-clause-free : goal.take_of-requires-clause-free
@@ -41,42 +41,48 @@ register-requires-clause-table g c =
     subst (λ (z : List ℕ). ProcStands (start_of c.args.hall.now) c.take_of.new.table (es ++ record { by = by; kind = kinds.Event (events.Snap by z) } ∷ [])) (sym c.in-Ok-take_of.ensures.name_is)
     (proc_adds (start_of c.args.hall.now) c.enter_proc-table.result c.take_of.new.table es by (events.Snap by c.args.name.now) c.enter_proc-table.ensures.stands c.in-Ok-take_of.ensures.adds)
 
-pub returns-in-Ok-take_of-clause-acted : goal.returns-in-Ok-take_of-clause-acted
-returns-in-Ok-take_of-clause-acted g c =
+pub returns-in_default : goal.returns-in_default
+returns-in_default g c =
+    let s = c.args.caller.now.session in record {
+      own = c.requires.own;
+      may = call_reserved (start_of c.args.hall.now) (view c.args.caller.now.pass) c.args.caller.now.number s (record s.levels { registered = c.reserve.new.self }) refl c.reserve.ensures.items c.requires.may;
+      acted = acted_refused (start_of c.args.hall.now) (view c.args.caller.now.pass).seen _ c.args.caller.now.number s.levels.commands (stance_of s) _ s.stage (commands.Snap c.args.name.now) refusals.Memory refl (ap (λ z. record { levels = levels_of s.levels.level_ids.items s.levels.unnamed; snaps = map told_of z }) c.reserve.ensures.items) refl (sym (not_refused s c.args.name.now c.requires.free c.requires.room));
+      count = (refl, refl);
+    }
+
+pub returns-in-Ok-take_of : goal.returns-in-Ok-take_of
+returns-in-Ok-take_of g c =
     let e = c.enter_proc-table.ensures in
     let t = c.in-Ok-take_of.ensures in
     let s = c.args.caller.now.session in
     let by = by_at c.args.caller.now.number s.levels.commands in
     let stance : stance_of c.enter_proc-table.new.caller.session ≡ stance_of s = ap stance_of e.same.0 ∙ ap (λ z. record { levels = levels_of s.levels.level_ids.items s.levels.unnamed; snaps = map told_of z }) c.in-Ok.ensures.items in
-    acted_snapped (start_of c.args.hall.now) (view c.args.caller.now.pass) (view c.enter_proc-table.new.caller.pass) (view c.register.new.caller.pass) c.args.caller.now.number s (stance_of c.register.new.caller.session) c.args.name.now c.in-Ok-take_of.lists (snap_entry by c.in-Ok-take_of.taken.name)
-    c.requires.may.ready.at e.entered.kept e.entered.learns (ap (snap_entry by) t.name_is) c.register.ensures.left c.requires.free c.requires.room
-    (t.lists_are ∙ (λ j. snapshot_data (e.stands.base j).next (e.stands.events j)))
-    (c.register.ensures.stance ∙ (λ j. record (stance j) { snaps = (stance j).snaps ++ (t.name_is j, t.command j) ∷ [] }))
-
-pub returns-in-Ok-take_of-clause-may : goal.returns-in-Ok-take_of-clause-may
-returns-in-Ok-take_of-clause-may g c =
-    let e = c.enter_proc-table.ensures in
     let r = c.register.ensures in
-    let wide = c.requires.may.ready.at.wide in
-    call_left (start_of c.args.hall.now) (view c.args.caller.now.pass) (view c.enter_proc-table.new.caller.pass) (view c.register.new.caller.pass) c.args.caller.now.number c.register.new.caller.number proc_lock c.args.caller.now.session c.register.new.caller.session _
-    c.requires.may e.entered.learns (omega arith) r.left refl (r.opened ∙ ap (λ z. z.levels.open_ids.items) e.same.0) (r.stage ∙ ap (λ z. z.stage) e.same.0) (r.count.1 ∙ e.same.1) r.ready
+    let wide = c.requires.may.ready.at.wide in record {
+      own = r.own;
+      may = call_left (start_of c.args.hall.now) (view c.args.caller.now.pass) (view c.enter_proc-table.new.caller.pass) (view c.register.new.caller.pass) c.args.caller.now.number c.register.new.caller.number proc_lock c.args.caller.now.session c.register.new.caller.session _
+          c.requires.may e.entered.learns (omega arith) r.left refl (r.opened ∙ ap (λ z. z.levels.open_ids.items) e.same.0) (r.stage ∙ ap (λ z. z.stage) e.same.0) (r.count.1 ∙ e.same.1) r.ready;
+      acted = acted_snapped (start_of c.args.hall.now) (view c.args.caller.now.pass) (view c.enter_proc-table.new.caller.pass) (view c.register.new.caller.pass) c.args.caller.now.number s (stance_of c.register.new.caller.session) c.args.name.now c.in-Ok-take_of.lists (snap_entry by c.in-Ok-take_of.taken.name)
+          c.requires.may.ready.at e.entered.kept e.entered.learns (ap (snap_entry by) t.name_is) c.register.ensures.left c.requires.free c.requires.room
+          (t.lists_are ∙ (λ j. snapshot_data (e.stands.base j).next (e.stands.events j)))
+          (c.register.ensures.stance ∙ (λ j. record (stance j) { snaps = (stance j).snaps ++ (t.name_is j, t.command j) ∷ [] }));
+      count = (r.count.0 ∙ ap (λ z. z.levels.commands) e.same.0, r.count.1 ∙ e.same.1);
+    }
 
-pub returns-in-Err-clause-acted : goal.returns-in-Err-clause-acted
-returns-in-Err-clause-acted g c =
+pub returns-in-Err : goal.returns-in-Err
+returns-in-Err g c =
     let e = c.enter_proc-table.ensures in
     let s = c.args.caller.now.session in
     let stance : stance_of c.leave_looked.new.caller.session ≡ stance_of s = ap stance_of c.leave_looked.ensures.same.0 ∙ (ap stance_of e.same.0 ∙ ap (λ z. record { levels = levels_of s.levels.level_ids.items s.levels.unnamed; snaps = map told_of z }) c.in-Ok.ensures.items) in
     let wide = c.requires.may.ready.at.wide in
-    acted_looked (start_of c.args.hall.now) (view c.args.caller.now.pass) (view c.enter_proc-table.new.caller.pass) (view c.leave_looked.new.caller.pass) c.args.caller.now.number proc_lock s (stance_of c.leave_looked.new.caller.session) s.stage (commands.Snap c.args.name.now) (replies.Refused refusals.Memory) _
-    c.requires.may.ready.at e.entered.kept e.entered.learns (omega arith) refl c.leave_looked.ensures.left refl tt (sym stance)
-
-pub returns-in-Err-clause-may : goal.returns-in-Err-clause-may
-returns-in-Err-clause-may g c =
-    let e = c.enter_proc-table.ensures in
-    let r = c.leave_looked.ensures in
-    let wide = c.requires.may.ready.at.wide in
-    call_left (start_of c.args.hall.now) (view c.args.caller.now.pass) (view c.enter_proc-table.new.caller.pass) (view c.leave_looked.new.caller.pass) c.args.caller.now.number c.leave_looked.new.caller.number proc_lock c.args.caller.now.session c.leave_looked.new.caller.session _
-    c.requires.may e.entered.learns (omega arith) r.left refl (ap (λ z. z.levels.open_ids.items) r.same.0 ∙ ap (λ z. z.levels.open_ids.items) e.same.0) (ap (λ z. z.stage) r.same.0 ∙ ap (λ z. z.stage) e.same.0) (r.same.1 ∙ e.same.1) r.ready
+    let r = c.leave_looked.ensures in record {
+      own = r.own;
+      may = call_left (start_of c.args.hall.now) (view c.args.caller.now.pass) (view c.enter_proc-table.new.caller.pass) (view c.leave_looked.new.caller.pass) c.args.caller.now.number c.leave_looked.new.caller.number proc_lock c.args.caller.now.session c.leave_looked.new.caller.session _
+          c.requires.may e.entered.learns (omega arith) r.left refl (ap (λ z. z.levels.open_ids.items) r.same.0 ∙ ap (λ z. z.levels.open_ids.items) e.same.0) (ap (λ z. z.stage) r.same.0 ∙ ap (λ z. z.stage) e.same.0) (r.same.1 ∙ e.same.1) r.ready;
+      acted = acted_looked (start_of c.args.hall.now) (view c.args.caller.now.pass) (view c.enter_proc-table.new.caller.pass) (view c.leave_looked.new.caller.pass) c.args.caller.now.number proc_lock s (stance_of c.leave_looked.new.caller.session) s.stage (commands.Snap c.args.name.now) (replies.Refused refusals.Memory) _
+          c.requires.may.ready.at e.entered.kept e.entered.learns (omega arith) refl c.leave_looked.ensures.left refl refl (sym (not_refused s c.args.name.now c.requires.free c.requires.room)) (sym stance);
+      count = (ap (λ z. z.levels.commands) r.same.0 ∙ ap (λ z. z.levels.commands) e.same.0, r.same.1 ∙ e.same.1);
+    }
 
 pub leave_looked-requires-clause-stands : goal.leave_looked-requires-clause-stands
 leave_looked-requires-clause-stands g c =

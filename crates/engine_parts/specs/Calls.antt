@@ -1,0 +1,43 @@
+-- What a call asks of its caller, and what it does.
+use Rattle.std.specs.Prelude.{◌≡◌, ℕ, ◌+◌, ◌^◌, ◌<◌}
+use Rattle.disk_core.specs.declared.log_disk.LogDisk as logs
+use Rattle.disk_core.specs.declared.page_disk.PageDisk as disks
+use Rattle.hall.specs.declared.hall.Hall.{Hall}
+use Rattle.hall.specs.Calls.{IsOf, start_of, view}
+use Rattle.tx_model.specs.declared.command.Command.{Command}
+use Rattle.tx_model.specs.declared.reply.Reply.{Reply}
+use Rattle.tx_core.specs.declared.entry.Entry.{Entry}
+use Rattle.tx_core.specs.declared.entry.Start.{Start}
+use Rattle.engine_parts.specs.declared.part.Part.{Part}
+use Rattle.engine_parts.specs.declared.session.Caller.{Caller}
+use Rattle.engine_parts.specs.Answers.{Acted}
+use Rattle.engine_parts.specs.Sessions.{MayCall, by_at, stance_of}
+
+module _ {L P : Type 0} {l : logs.Ghosts L} {p : disks.Ghosts P} where
+  -- the number of the session's next command
+  abbrev pub next_command : Caller L P l p → ℕ
+  next_command caller = caller.session.levels.commands + 1
+
+  -- the session went on to its next command
+  pub record IsCounted (old new : Caller L P l p) : Type 0 where
+    pub pass : new.pass ≡ old.pass
+    pub number : new.number ≡ old.number
+    pub levels : new.session.levels ≡ record old.session.levels { commands = next_command old }
+    pub stage : new.session.stage ≡ old.session.stage
+    pub unlinked : new.session.unlinked ≡ old.session.unlinked
+
+module _ {H L P : Type 0} {l : logs.Ghosts L} {p : disks.Ghosts P} where
+  -- the session is one of this table and stands between two calls, and has run fewer than 2^48 commands
+  pub record MayRun (hall : Hall H (Part L P l p) Entry Start) (caller : Caller L P l p) : Type 0 where
+    pub own : IsOf hall caller.pass
+    pub may : MayCall (start_of hall) (view caller.pass) caller.number caller.session
+    pub few : caller.session.levels.commands < 2 ^ 48
+
+  -- the session's command of this number ran and was answered so, and the session may call again
+  pub record Ran (hall : Hall H (Part L P l p) Entry Start) (number : ℕ) (command : Command) (reply : Reply)
+      (old new : Caller L P l p) : Type 0 where
+    pub own : IsOf hall new.pass
+    pub may : MayCall (start_of hall) (view new.pass) new.number new.session
+    pub acted : Acted (start_of hall) (by_at old.number number) (stance_of old.session) (stance_of new.session)
+        old.session.stage command reply (view old.pass).seen (view new.pass).seen
+    pub count : (new.session.levels.commands ≡ number) × (new.number ≡ old.number)

@@ -27,12 +27,14 @@ byte_in bytes at n i small e lt =
     k) h)
     (which i lt)
 
--- where two numbers are the same, so are their bytes
-pub byte_same : (old new : List ℕ) (at i : ℕ) → ((j : ℕ) → slice_index old j < 256) → ((j : ℕ) → slice_index new j < 256) → number_in new at ≡ number_in old at → i < 4 → slice_index new (at + i) ≡ slice_index old (at + i)
-byte_same old new at i old_small new_small e lt =
-    let s0 = old_small at in let s1 = old_small (at + 1) in let s2 = old_small (at + 2) in let s3 = old_small (at + 3) in
-    let within : number_in old at ≡ low_half (number_in old at) = small_number (slice_index old at) (slice_index old (at + 1)) (slice_index old (at + 2)) (slice_index old (at + 3)) s0 s1 s2 s3 in
-    byte_in new at (number_in old at) i new_small (e ∙ within) lt ∙ sym (byte_in old at (number_in old at) i old_small within lt)
+-- the bytes of a number are those that it is read from
+pub own_bytes : (bytes : List ℕ) (at i : ℕ) → ((j : ℕ) → slice_index bytes j < 256) → i < 4 → slice_index bytes (at + i) ≡ byte_of (number_in bytes at) i
+own_bytes bytes at i small lt =
+    byte_in bytes at (number_in bytes at) i small (small_number (slice_index bytes at) (slice_index bytes (at + 1)) (slice_index bytes (at + 2)) (slice_index bytes (at + 3)) (small at) (small (at + 1)) (small (at + 2)) (small (at + 3))) lt
   where
     small_number : (b0 b1 b2 b3 : ℕ) → b0 < 256 → b1 < 256 → b2 < 256 → b3 < 256 → b0 + 256 * (b1 + 256 * (b2 + 256 * b3)) ≡ (b0 + 256 * (b1 + 256 * (b2 + 256 * b3))) % 2 ^ 32
     small_number b0 b1 b2 b3 s0 s1 s2 s3 = omega arith
+
+-- where two numbers are the same, so are their bytes
+pub byte_same : (old new : List ℕ) (at i : ℕ) → ((j : ℕ) → slice_index old j < 256) → ((j : ℕ) → slice_index new j < 256) → number_in new at ≡ number_in old at → i < 4 → slice_index new (at + i) ≡ slice_index old (at + i)
+byte_same old new at i old_small new_small e lt = own_bytes new at i new_small lt ∙ ap (λ n. byte_of n i) e ∙ sym (own_bytes old at i old_small lt)

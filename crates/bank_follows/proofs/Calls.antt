@@ -1,5 +1,5 @@
 -- One entry more of each kind keeps what the map and the images stand for.
-use Rattle.std.proofs.Common.{Bool, List, None, Option, Some, [], ap, arith, cond, false, inl, inr, refl, subst, sym, true, ℕ, ⊎_elim, ◌++◌, ◌%◌, ◌<◌, ◌==◌, ◌∙◌, ◌∷◌, ◌≡◌, ◌≢◌, ◌⊎◌}
+use Rattle.std.proofs.Common.{Bool, List, None, Option, Some, [], ap, arith, cond, false, inl, inr, refl, subst, sym, true, ℕ, ⊎_elim, ◌++◌, ◌<◌, ◌==◌, ◌∙◌, ◌∷◌, ◌≡◌, ◌≢◌, ◌⊎◌}
 use Rattle.std.proofs.lemmas.Bool.{eqb-true}
 use Rattle.std.proofs.lemmas.Bool.Decides.{nat_tests}
 use Rattle.std.specs.List.{filter_map, last_or}
@@ -8,15 +8,15 @@ use Rattle.xid_order.specs.PageOrder.{is_cut, page_precedes}
 use Rattle.disk_core.specs.Pages.{Pages, page_bytes, zero_page}
 use Rattle.slru_bank.proofs.ZeroBytes.{zero_byte}
 use Rattle.slru_bank.specs.Bank.{PutsPage}
-use Rattle.slru_bank.specs.Crash.{IsMixture, IsMixtureOrGone, SameMap, byte_at}
-use Rattle.slru_bank.specs.Removal.{MayDrop, later_cutoff}
+use Rattle.slru_bank.specs.Crash.{IsMixture, SameMap, byte_at}
+use Rattle.slru_bank.specs.Removal.{MayDrop}
 use Rattle.tx_events.proofs.ListSteps.{not_both}
 use Rattle.tx_core.specs.declared.entry.Entry.{Entry}
 use Rattle.tx_core.specs.declared.entry.Kind.TheVariants as kinds
 use Rattle.tx_core.specs.Entries.{cut_in}
-use Rattle.tx_core.specs.Pages.{pages_after, zeroed_in}
+use Rattle.tx_core.specs.Pages.{zeroed_in}
 use Rattle.recoverable.specs.Images.{IsAsWanted, MayBeGone, Now, Since, shows_of}
-use Rattle.bank_follows.specs.Cells.{Cells, CutoffStands, ImageShows, IsOnePage, IsQuietOn, KeepsCalls, MapBetween, MapShows, SetsAsSaid, cut_by, value_in}
+use Rattle.bank_follows.specs.Cells.{Cells, CutoffStands, ImageShows, IsGoneOr, IsOnePage, IsQuietOn, KeepsCalls, MakesPage, MapBetween, MapShows, SetsAsSaid, cut_by, cutoff_behind, last_made, stored, value_in}
 use Rattle.bank_follows.proofs.Steps.{gone_more, kept_by, kept_more, shows_made, shows_same, shows_set, since_more, since_now}
 
 module _ {I V : Type 0} where
@@ -58,7 +58,7 @@ module _ {I V : Type 0} where
     gone_now all cutoff x i stands cut = inr (is.zero x, (stands.0, stands.1, subst (λ z. is_cut s.reading.ring.shape s.reading.ring.per_page z (s.page x) ≡ true) stands.2 cut))
 
     removes : (es : List Entry) (e : Entry) (m : ℕ → List ℕ) (cutoff : ℕ) (c d : Pages) → (e.kind ≡ kinds.Sync → ⊥) → CutoffStands s (es ++ e ∷ []) cutoff → MapBetween s Asked es e m
-        → IsMixtureOrGone (cut_by s cutoff) m m c d → ImageShows s Asked (es ++ e ∷ []) c → ImageShows s Asked (es ++ e ∷ []) d
+        → IsGoneOr s cutoff m c d → ImageShows s Asked (es ++ e ∷ []) c → ImageShows s Asked (es ++ e ∷ []) d
     removes es e m cutoff c d other stands between mixture image x i asked lt =
         let all : List Entry = es ++ e ∷ [] in
         let map = since_between es e m x i other between asked lt in
@@ -108,7 +108,7 @@ module _ {I V : Type 0} where
 
     -- a number of a page that was made past the last one shows nothing, and the others what they showed
     made_now : (es : List Entry) (e : Entry) (page x i : ℕ) (old new : ℕ → List ℕ) → zeroed_in e.kind ≡ Some page → s.reading.store.items_of e ≡ [] → IsOnePage s Asked page → Asked x → i < s.pieces
-        → (b : Bool) → nat_lt (pages_after s.reading.store s.reading.first s.reading.shown es).last page ≡ b → MatchBool b (PutsPage (page % s.reading.ring.pages) zero_page old new) (SameMap old new)
+        → (b : Bool) → nat_lt (last_made s es) page ≡ b → MatchBool b (PutsPage (stored s page) zero_page old new) (SameMap old new)
         → Now s.reading (s.wanted i) es es x (s.page x) (value_in s old x i) → Now s.reading (s.wanted i) (es ++ e ∷ []) (es ++ e ∷ []) x (s.page x) (value_in s new x i)
     made_now es e page x i old new made sets one asked lt true g puts now =
         let all : List Entry = es ++ e ∷ [] in
@@ -116,13 +116,13 @@ module _ {I V : Type 0} where
         = shows_made s.reading es e x page sets made ∙ ap (λ b. cond b (cond (s.reading.store.page_of x == page) None (shows_of s.reading es x)) (shows_of s.reading es x)) g in
         let step : (b : Bool) → (s.reading.store.page_of x == page) ≡ b → Now s.reading (s.wanted i) (es ++ e ∷ []) (es ++ e ∷ []) x (s.page x) (value_in s new x i) = elim [
           | true ↦ λ h.
-              let here : s.page x ≡ page % s.reading.ring.pages = (one x asked).1 (eqb-true (s.reading.store.page_of x) page h) in
+              let here : s.page x ≡ stored s page = (one x asked).1 (eqb-true (s.reading.store.page_of x) page h) in
               let none : shows_of s.reading (es ++ e ∷ []) x ≡ None = shows ∙ ap (λ b. cond b None (shows_of s.reading es x)) h in
               let byte : slice_index (new (s.page x)) (s.at x i) ≡ 0 = ap (λ q. slice_index (new q) (s.at x i)) here ∙ ap (λ (l : List ℕ). slice_index l (s.at x i)) puts.here ∙ zero_byte (s.at x i) in
               let value : value_in s new x i ≡ 0 = ap (s.value x) byte ∙ is.zero x in
               inl (subst (λ (o : Option V). IsAsWanted (s.wanted i o) (value_in s new x i)) (sym none) (subst (IsAsWanted (s.wanted i None)) (sym value) (is.none i lt)))
           | false ↦ λ h.
-              let away : s.page x ≢ page % s.reading.ring.pages = λ q. let r = (one x asked).0 q in not_both (s.reading.store.page_of x == page) (same_test (s.reading.store.page_of x) page r) h in
+              let away : s.page x ≢ stored s page = λ q. let r = (one x asked).0 q in not_both (s.reading.store.page_of x == page) (same_test (s.reading.store.page_of x) page r) h in
               let still : shows_of s.reading (es ++ e ∷ []) x ≡ shows_of s.reading es x = shows ∙ ap (λ b. cond b None (shows_of s.reading es x)) h in
               let old_page : new (s.page x) ≡ old (s.page x) = puts.others (s.page x) away in
               subst (λ (l : List ℕ). Now s.reading (s.wanted i) (es ++ e ∷ []) (es ++ e ∷ []) x (s.page x) (s.value x (slice_index l (s.at x i)))) (sym old_page)
@@ -145,10 +145,10 @@ module _ {I V : Type 0} where
         now)
 
     makes : (es : List Entry) (e : Entry) (page : ℕ) (old new : ℕ → List ℕ) → e.kind ≡ kinds.Zero page → s.reading.store.items_of e ≡ [] → IsOnePage s Asked page
-        → MatchBool (nat_lt (pages_after s.reading.store s.reading.first s.reading.shown es).last page) (PutsPage (page % s.reading.ring.pages) zero_page old new) (SameMap old new)
+        → MakesPage s es page old new
         → MapShows s Asked es old → MapShows s Asked (es ++ e ∷ []) new
     makes es e page old new kind sets one puts shows x i asked lt =
-        made_now es e page x i old new (ap zeroed_in kind) sets one asked lt (nat_lt (pages_after s.reading.store s.reading.first s.reading.shown es).last page) refl puts (shows x i asked lt)
+        made_now es e page x i old new (ap zeroed_in kind) sets one asked lt (nat_lt (last_made s es) page) refl puts (shows x i asked lt)
 
     sets : (es : List Entry) (e : Entry) (old new : ℕ → List ℕ) → SetsAsSaid s Asked e old new → MapShows s Asked es old → MapShows s Asked (es ++ e ∷ []) new
     sets es e old new said shows x i asked lt =
@@ -185,9 +185,9 @@ module _ {I V : Type 0} where
     cutoff_stays es e cutoff stands = (stands.0, kept_more s.reading.ring.kept es e stands.0 stands.1, stands.2)
 
     cuts : (es : List Entry) (e : Entry) (cutoff page : ℕ) → cut_in e.kind ≡ Some page → CutoffStands s es cutoff
-        → CutoffStands s (es ++ e ∷ []) (later_cutoff s.reading.ring.shape s.reading.ring.per_page cutoff (page % s.reading.ring.pages))
+        → CutoffStands s (es ++ e ∷ []) (cutoff_behind s cutoff page)
     cuts es e cutoff page cut stands =
-        elim (page_precedes s.reading.ring.shape s.reading.ring.per_page cutoff (page % s.reading.ring.pages)) as (λ b. CutoffStands s (es ++ e ∷ []) (cond b (page % s.reading.ring.pages) cutoff)) [
+        elim (page_precedes s.reading.ring.shape s.reading.ring.per_page cutoff (stored s page)) as (λ b. CutoffStands s (es ++ e ∷ []) (cond b (stored s page) cutoff)) [
           | true ↦ (page, kept_by s.reading.ring.kept es e page cut, refl)
           | false ↦ cutoff_stays es e cutoff stands
         ]

@@ -9,3 +9,5 @@ pub mod OnePage
 pub mod Moments
 pub mod Tails
 pub mod Sections
+pub mod Begins
+pub mod Making

@@ -2,9 +2,9 @@
 use Rattle.std.proofs.Common.{List, [], ap, append_assoc, ℕ, ◌++◌, ◌∙◌, ◌∷◌, ◌≡◌}
 use Rattle.disk_core.specs.Moments.{leaves_weaker, run_then, started}
 use Rattle.disk_core.specs.Pages.{Pages}
-use Rattle.slru_bank.specs.Crash.{CrashLeaves, IsMixture, IsMixtureOrGone, IsStepOf}
+use Rattle.slru_bank.specs.Crash.{CrashLeaves, IsMixture, IsStepOf}
 use Rattle.tx_core.specs.declared.entry.Entry.{Entry}
-use Rattle.bank_follows.specs.Cells.{Cells, ImageShows, KeepsCalls, cut_by}
+use Rattle.bank_follows.specs.Cells.{Cells, ImageShows, IsGoneOr, KeepsCalls}
 use Rattle.bank_follows.specs.Moments.{BeginningsShown, KeepsMoments, MemberMoments, OffsetMoments, ParentMoments, ShowsBeginning, Throughout, XactMoments}
 use Rattle.bank_follows.specs.Stores.{IsMemberAt, IsOffsetAt, IsParentAt, IsXactAt, member_cells, offset_cells, parent_cells, xact_cells}
 use Rattle.bank_follows.proofs.Stores.{members_keep, offsets_keep, parents_keep, xact_keeps}
@@ -38,7 +38,7 @@ module _ {D : Type 0} (images : D → Pages → Type 0) (moment : D → ℕ) (le
       begins = λ es e d other only_now shows. at_first (ImageShows s Asked (es ++ e ∷ [])) d only_now (λ c left. keeps.begins es e c other (shows c left));
       calls = λ es e m d0 d1 d2 other between so_far call. then_call (ImageShows s Asked (es ++ e ∷ [])) (IsMixture m m) d0 d1 d2 (λ c d step. keeps.calls es e m c d other between step) so_far call;
       removes = λ es e m cutoff d0 d1 d2 other stands between so_far call.
-          then_call (ImageShows s Asked (es ++ e ∷ [])) (IsMixtureOrGone (cut_by s cutoff) m m) d0 d1 d2 (λ c d step. keeps.removes es e m cutoff c d other stands between step) so_far call;
+          then_call (ImageShows s Asked (es ++ e ∷ [])) (IsGoneOr s cutoff m) d0 d1 d2 (λ c d step. keeps.removes es e m cutoff c d other stands between step) so_far call;
       flushes = λ es m d0 d1 map only_now shows call.
           then_call (ImageShows s Asked es) (IsMixture m m) d0 d0 d1 (λ c d step. keeps.flushes es m c d map step) (at_first (ImageShows s Asked es) d0 only_now shows) call;
       syncs = λ es e m d quiet map durable c left. keeps.syncs es e m c quiet map (durable c left);

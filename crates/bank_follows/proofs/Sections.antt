@@ -1,14 +1,14 @@
 -- A critical section of one call.
 use Rattle.std.proofs.Common.{List, [], inl, sym, ℕ, ◌++◌, ◌∙◌, ◌∷◌, ◌≡◌}
 use Rattle.disk_core.specs.Pages.{Pages}
-use Rattle.slru_bank.specs.Crash.{CrashLeaves, IsMixture, IsMixtureOrGone}
+use Rattle.slru_bank.specs.Crash.{CrashLeaves, IsMixture}
 use Rattle.tx_core.specs.declared.entry.Entry.{Entry}
 use Rattle.tx_core.specs.declared.entry.Kind.TheVariants as kinds
-use Rattle.bank_follows.specs.Cells.{Cells, CutoffStands, ImageShows, KeepsCalls, MapBetween, MapShows, cut_by}
-use Rattle.bank_follows.specs.Moments.{Throughout}
-use Rattle.bank_follows.specs.Sections.{BankShows, KeepBanks, KeepsSections, MemberSections, Moves, OffsetSections, ParentSections, XactSections, cutoff_behind}
+use Rattle.bank_follows.specs.Cells.{Cells, CutoffStands, ImageShows, IsGoneOr, KeepsCalls, MapBetween, MapShows, cutoff_behind}
+use Rattle.bank_follows.specs.Moments.{KeepsMoments, Throughout}
+use Rattle.bank_follows.specs.Sections.{BankShows, KeepBanks, KeepsSections, MemberSections, Moves, OffsetSections, ParentSections, XactSections}
 use Rattle.bank_follows.specs.Stores.{IsMemberAt, IsOffsetAt, IsParentAt, IsXactAt, member_cells, offset_cells, parent_cells, xact_cells}
-use Rattle.bank_follows.proofs.Moments.{at_first, then_call}
+use Rattle.bank_follows.proofs.Moments.{keeps_moments}
 use Rattle.bank_follows.proofs.Stores.{members_keep, offsets_keep, parents_keep, xact_keeps}
 
 module _ {D : Type 0} (images : D → Pages → Type 0) (moment : D → ℕ) (left_at : D → ℕ → Pages → Type 0) where
@@ -19,26 +19,25 @@ module _ {D : Type 0} (images : D → Pages → Type 0) (moment : D → ℕ) (le
       not_yet : MapBetween s Asked es e old
       not_yet x i asked lt = inl (was.map x i asked lt)
 
+      moments : KeepsMoments images moment left_at s Asked
+      moments = keeps_moments images moment left_at s Asked keeps
+
       -- before the call
       begun : (e.kind ≡ kinds.Sync → ⊥) → Throughout images moment left_at (ImageShows s Asked (es ++ e ∷ [])) before before
-      begun other = at_first images moment left_at (ImageShows s Asked (es ++ e ∷ [])) before only_now (λ c left. keeps.begins es e c other (was.left c left))
-
-      called : (e.kind ≡ kinds.Sync → ⊥) → CrashLeaves (IsMixture old old) images moment left_at before after → Throughout images moment left_at (ImageShows s Asked (es ++ e ∷ [])) before after
-      called other call = then_call images moment left_at (ImageShows s Asked (es ++ e ∷ [])) (IsMixture old old) before before after (λ c d step. keeps.calls es e old c d other not_yet step) (begun other) call
+      begun other = moments.begins es e before other only_now was.left
 
       moves : MapShows s Asked (es ++ e ∷ []) new → (e.kind ≡ kinds.Sync → ⊥) → CrashLeaves (IsMixture old old) images moment left_at before after → Moves images moment left_at s Asked es e new cutoff before after
       moves map other call =
-          let through = called other call in
+          let through = moments.calls es e old before before after other not_yet (begun other) call in
           record { shows = record { map = map; left = through.now; cut = keeps.cutoff_stays es e cutoff was.cut }; throughout = through }
 
       no_sync : (page : ℕ) → e.kind ≡ kinds.Zero page → e.kind ≡ kinds.Sync → ⊥
       no_sync page kind sync = let apart : kinds.Zero page ≡ kinds.Sync = sym kind ∙ sync in absurd cc
 
       cut_off : (page : ℕ) → (e.kind ≡ kinds.Sync → ⊥) → CutoffStands s (es ++ e ∷ []) (cutoff_behind s cutoff page) → MapShows s Asked (es ++ e ∷ []) new
-          → CrashLeaves (IsMixtureOrGone (cut_by s (cutoff_behind s cutoff page)) old old) images moment left_at before after → Moves images moment left_at s Asked es e new (cutoff_behind s cutoff page) before after
+          → CrashLeaves (IsGoneOr s (cutoff_behind s cutoff page) old) images moment left_at before after → Moves images moment left_at s Asked es e new (cutoff_behind s cutoff page) before after
       cut_off page other stands map call =
-          let through = then_call images moment left_at (ImageShows s Asked (es ++ e ∷ [])) (IsMixtureOrGone (cut_by s (cutoff_behind s cutoff page)) old old) before before after
-          (λ c d step. keeps.removes es e old (cutoff_behind s cutoff page) c d other stands not_yet step) (begun other) call in
+          let through = moments.removes es e old (cutoff_behind s cutoff page) before before after other stands not_yet (begun other) call in
           record { shows = record { map = map; left = through.now; cut = stands }; throughout = through }
 
       pub keeps_sections : KeepsSections images moment left_at s Asked es e old new cutoff before after
@@ -49,15 +48,14 @@ module _ {D : Type 0} (images : D → Pages → Type 0) (moment : D → ℕ) (le
         cuts = λ page other cut quiet drop call.
             let stands = keeps.cuts es e cutoff page cut was.cut in
             cut_off page other stands (keeps.drops es e (cutoff_behind s cutoff page) old new quiet stands drop was.map) call;
-        syncs = λ quiet same call durable.
-            let through = then_call images moment left_at (ImageShows s Asked es) (IsMixture old old) before before after (λ c d step. keeps.flushes es old c d was.map step) (at_first images moment left_at (ImageShows s Asked es) before only_now was.left) call in (
-              record {
-                map = keeps.same es e old new quiet same was.map;
-                left = λ c left. keeps.syncs es e old c quiet was.map (λ q. durable c left q ∙ same q);
-                cut = keeps.cutoff_stays es e cutoff was.cut;
-              },
-              through,
-            );
+        syncs = λ quiet same call durable. (
+          record {
+            map = keeps.same es e old new quiet same was.map;
+            left = moments.syncs es e old after quiet was.map (λ c left q. durable c left q ∙ same q);
+            cut = keeps.cutoff_stays es e cutoff was.cut;
+          },
+          moments.flushes es old before after was.map only_now was.left call,
+        );
       }
 
     keep_banks : KeepBanks images moment left_at s Asked

@@ -15,11 +15,11 @@ use Rattle.bank_follows.proofs.WordSetting.{in_window, one_near, other_number, o
 slot_halves : (a b : ℕ) → a / 1636 ≡ b / 1636 → a % 1636 ≡ b % 1636 → a ≡ b
 slot_halves a b p q = omega arith
 
-in_four : (i : ℕ) → i < 5 → (i == 4) ≡ false → i < 4
+pub in_four : (i : ℕ) → i < 5 → (i == 4) ≡ false → i < 4
 in_four i lt e = grind (arith, nat_tests)
 
 pub member_set : MemberSet
-member_set start shown bank by caller offset member old new near old_page new_page sets = record {
+member_set start shown bank by caller offset member old new near sets = record {
   makes_none = refl;
   others = λ x i at lt e.
       let a = in_window start.base.offset x at.near.from at.near.to in let b = in_window start.base.offset offset near.from near.to in
@@ -30,7 +30,7 @@ member_set start shown bank by caller offset member old new near old_page new_pa
       let slot = sets.same_page (low_half x % 1636) (below (low_half x)) away in
       let step : (t : Bool) → (i == 4) ≡ t → slice_index (new (member_page_of offset)) (cond t (mode_place_of x) (member_place_of x + i)) ≡ slice_index (old (member_page_of offset)) (cond t (mode_place_of x) (member_place_of x + i)) = elim [
         | true ↦ λ q. slot.mode
-        | false ↦ λ q. byte_same (old (member_page_of offset)) (new (member_page_of offset)) (member_place_of x) i old_page.small new_page.small slot.id (in_four i lt q)
+        | false ↦ λ q. byte_same (old (member_page_of offset)) (new (member_page_of offset)) (member_place_of x) i sets.pages.was.small sets.pages.is.small slot.id (in_four i lt q)
       ] in
       subst (λ q. slice_index (new q) (cond (i == 4) (mode_place_of x) (member_place_of x + i)) ≡ slice_index (old q) (cond (i == 4) (mode_place_of x) (member_place_of x + i))) (sym here) (step (i == 4) refl))
       (λ (there : member_page_of x ≢ member_page_of offset). ap (λ (l : List ℕ). slice_index l (cond (i == 4) (mode_place_of x) (member_place_of x + i))) (sets.others (member_page_of x) there))
@@ -39,7 +39,7 @@ member_set start shown bank by caller offset member old new near old_page new_pa
       let r = own_number offset x member v e in
       let step : (t : Bool) → (i == 4) ≡ t → IsAsWanted (cond t (wanted_mode (Some member)) (wanted_id i (Some member))) (slice_index (new (member_page_of offset)) (cond t (mode_place_of offset) (member_place_of offset + i))) = elim [
         | true ↦ λ q. sets.mode
-        | false ↦ λ q. byte_in (new (member_page_of offset)) (member_place_of offset) member.id i new_page.small sets.id (in_four i lt q)
+        | false ↦ λ q. byte_in (new (member_page_of offset)) (member_place_of offset) member.id i sets.pages.is.small sets.id (in_four i lt q)
       ] in
       subst (λ (m : Member). IsAsWanted (wanted_slot i (Some m)) (slice_index (new (member_page_of x)) (cond (i == 4) (mode_place_of x) (member_place_of x + i)))) r.1
       (subst (λ z. IsAsWanted (wanted_slot i (Some member)) (slice_index (new (member_page_of z)) (cond (i == 4) (mode_place_of z) (member_place_of z + i)))) r.0 (step (i == 4) refl));

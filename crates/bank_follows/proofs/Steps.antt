@@ -32,7 +32,7 @@ pub kept_by : (first : ℕ) (es : List Entry) (e : Entry) (page : ℕ) → cut_i
 kept_by first es e page cut = inr (e, has_contains (es ++ e ∷ []) e (has_right es (e ∷ []) e (inl refl)), cut)
 
 module _ {I V : Type 0} where
-  pages_push : (r : Reading I V) (es : List Entry) (e : Entry) → pages_after r.store r.first r.shown (es ++ e ∷ []) ≡ after_entry r.store (pages_after r.store r.first r.shown es) e
+  pub pages_push : (r : Reading I V) (es : List Entry) (e : Entry) → pages_after r.store r.first r.shown (es ++ e ∷ []) ≡ after_entry r.store (pages_after r.store r.first r.shown es) e
   pages_push r es e = fold_push (after_entry r.store) (record { last = r.store.page_of r.first; shows = r.shown }) es e
 
   -- an entry that makes no page

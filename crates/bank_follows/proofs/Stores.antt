@@ -6,6 +6,7 @@ use Rattle.disk_core.specs.Pages.{Pages, page_bytes}
 use Rattle.tx_events.specs.declared.multi.Member.{Member}
 use Rattle.tx_core.specs.declared.entry.Entry.{Entry}
 use Rattle.tx_core.specs.declared.entry.Start.{Start}
+use Rattle.tx_core.specs.declared.entry.State.{State}
 use Rattle.store_pages.specs.Layouts.{bits_at, member_page_of, member_place_of, mode_place_of, xact_place_of}
 use Rattle.recoverable.specs.FitMultis.{byte_of}
 use Rattle.recoverable.specs.Images.{IsAsWanted, Since}
@@ -13,7 +14,7 @@ use Rattle.recoverable.specs.MemberImages.{id_byte, member_reading, wanted_id, w
 use Rattle.bank_follows.specs.Cells.{ImageShows}
 use Rattle.bank_follows.specs.Laws.{ImagesFollow, MembersKeep, OffsetsKeep, ParentsKeep, XactKeeps}
 use Rattle.bank_follows.specs.Stores.{IsMemberAt, IsOffsetAt, IsParentAt, IsXactAt, member_cells, offset_cells, parent_cells, wanted_slot, xact_cells}
-use Rattle.bank_follows.proofs.Calls.{keeps_calls}
+use Rattle.bank_follows.proofs.Calls.{IsStore, keeps_calls}
 
 no_bits : (k : ℕ) → bits_at 0 k ≡ 0
 no_bits zero = refl
@@ -25,17 +26,29 @@ no_byte i = grind arith
 no_slot : (i : ℕ) → IsAsWanted (wanted_slot i None) 0
 no_slot i = elim (i == 4) as (λ b. IsAsWanted (cond b (wanted_mode None) (wanted_id i None)) 0) [ true ↦ tt | false ↦ no_byte i ]
 
+pub xact_is : (start : Start) (shown : ℕ → Option State) → IsStore (xact_cells start shown)
+xact_is start shown = record { zero = λ x. no_bits (xact_place_of x % 4); none = λ i lt. refl }
+
+pub parents_are : (start : Start) → IsStore (parent_cells start)
+parents_are start = record { zero = λ x. refl; none = λ i lt. no_byte i }
+
+pub offsets_are : (start : Start) (shown : ℕ → Option ℕ) → IsStore (offset_cells start shown)
+offsets_are start shown = record { zero = λ x. refl; none = λ i lt. no_byte i }
+
+pub members_are : (start : Start) (shown : ℕ → Option Member) → IsStore (member_cells start shown)
+members_are start shown = record { zero = λ x. refl; none = λ i lt. no_slot i }
+
 pub xact_keeps : XactKeeps
-xact_keeps start shown bank = keeps_calls (xact_cells start shown) (IsXactAt start bank) (record { zero = λ x. no_bits (xact_place_of x % 4); none = λ i lt. refl })
+xact_keeps start shown bank = keeps_calls (xact_cells start shown) (IsXactAt start bank) (xact_is start shown)
 
 pub parents_keep : ParentsKeep
-parents_keep start bank = keeps_calls (parent_cells start) (IsParentAt start bank) (record { zero = λ x. refl; none = λ i lt. no_byte i })
+parents_keep start bank = keeps_calls (parent_cells start) (IsParentAt start bank) (parents_are start)
 
 pub offsets_keep : OffsetsKeep
-offsets_keep start shown bank = keeps_calls (offset_cells start shown) (IsOffsetAt start bank) (record { zero = λ x. refl; none = λ i lt. no_byte i })
+offsets_keep start shown bank = keeps_calls (offset_cells start shown) (IsOffsetAt start bank) (offsets_are start shown)
 
 pub members_keep : MembersKeep
-members_keep start shown bank = keeps_calls (member_cells start shown) (IsMemberAt start bank) (record { zero = λ x. refl; none = λ i lt. no_slot i })
+members_keep start shown bank = keeps_calls (member_cells start shown) (IsMemberAt start bank) (members_are start shown)
 
 -- the four bytes of an id are the first four pieces, the mode is the fifth
 id_of : (start : Start) (shown : ℕ → Option Member) (bank : ℕ) (es : List Entry) (c : Pages) (x i : ℕ) → ImageShows (member_cells start shown) (IsMemberAt start bank) es c → IsMemberAt start bank x → i < 4

@@ -5,7 +5,6 @@ use Rattle.std.proofs.lemmas.Bool.Decides.{nat_tests}
 use Rattle.std.specs.List.{cons_option, last_or, slice_index}
 use Rattle.xid_order.specs.Ids.{low_half}
 use Rattle.store_pages.specs.Layouts.{word_page_of, word_place_of}
-use Rattle.slru_bank.specs.Bank.{IsPage}
 use Rattle.slru_bank.specs.ByteRange.{SetsEntry}
 use Rattle.tx_events.proofs.ListSteps.{not_both}
 use Rattle.tx_core.specs.CleanStart.{first_near}
@@ -45,14 +44,14 @@ word_halves : (a b : ℕ) → a / 2048 ≡ b / 2048 → a % 2048 ≡ b % 2048 �
 word_halves a b p q = omega arith
 
 -- another number of a window keeps its bytes
-word_other : (f x n place number i : ℕ) (old new : ℕ → List ℕ) → f ≤ x → x < f + 2 ^ 32 → f ≤ n → n < f + 2 ^ 32 → n ≢ x → IsPage (old (word_page_of n)) → IsPage (new (word_page_of n))
+word_other : (f x n place number i : ℕ) (old new : ℕ → List ℕ) → f ≤ x → x < f + 2 ^ 32 → f ≤ n → n < f + 2 ^ 32 → n ≢ x
     → SetsEntry (word_page_of n) (low_half n % 2048) number old new → i < 4 → slice_index (new (word_page_of x)) (word_place_of x + i) ≡ slice_index (old (word_page_of x)) (word_place_of x + i)
-word_other f x n place number i old new a b c d differs old_page new_page sets lt =
+word_other f x n place number i old new a b c d differs sets lt =
     ⊎_elim
     (λ (here : word_page_of x ≡ word_page_of n).
     let away : low_half x % 2048 ≢ low_half n % 2048 = λ q. differs (sym (one_near f x n a b c d (word_halves (low_half x) (low_half n) here q))) in
     subst (λ q. slice_index (new q) (word_place_of x + i) ≡ slice_index (old q) (word_place_of x + i)) (sym here)
-    (byte_same (old (word_page_of n)) (new (word_page_of n)) (word_place_of x) i old_page.small new_page.small (sets.same_page (low_half x % 2048) (below (low_half x)) away) lt))
+    (byte_same (old (word_page_of n)) (new (word_page_of n)) (word_place_of x) i sets.pages.was.small sets.pages.is.small (sets.same_page (low_half x % 2048) (below (low_half x)) away) lt))
     (λ (there : word_page_of x ≢ word_page_of n). ap (λ (l : List ℕ). slice_index l (word_place_of x + i)) (sets.others (word_page_of x) there))
     (same_or_not (word_page_of x) (word_page_of n))
   where
@@ -60,15 +59,15 @@ word_other f x n place number i old new a b c d differs old_page new_page sets l
     below a = omega arith
 
 -- and its own has those of the number
-word_own : (x n value i : ℕ) (old new : ℕ → List ℕ) → n ≡ x → IsPage (new (word_page_of n)) → SetsEntry (word_page_of n) (low_half n % 2048) (low_half value) old new → i < 4 → slice_index (new (word_page_of x)) (word_place_of x + i) ≡ byte_of value i
-word_own x n value i old new same new_page sets lt =
-    subst (λ z. slice_index (new (word_page_of z)) (word_place_of z + i) ≡ byte_of value i) same (byte_in (new (word_page_of n)) (word_place_of n) value i new_page.small sets.here lt)
+word_own : (x n value i : ℕ) (old new : ℕ → List ℕ) → n ≡ x → SetsEntry (word_page_of n) (low_half n % 2048) (low_half value) old new → i < 4 → slice_index (new (word_page_of x)) (word_place_of x + i) ≡ byte_of value i
+word_own x n value i old new same sets lt =
+    subst (λ z. slice_index (new (word_page_of z)) (word_place_of z + i) ≡ byte_of value i) same (byte_in (new (word_page_of n)) (word_place_of n) value i sets.pages.is.small sets.here lt)
 
 pub parent_set : ParentSet
-parent_set start bank by caller id parent old new near old_page new_page sets = record {
+parent_set start bank by caller id parent old new near sets = record {
   makes_none = refl;
-  others = λ x i at lt e. word_other (first_near start) x id (low_half id % 2048) (low_half parent) i old new at.near.from at.near.to near.from near.to (other_number id x parent e) old_page new_page sets lt;
-  set = λ x i v at lt e. let r = own_number id x parent v e in word_own x id parent i old new r.0 new_page sets lt ∙ ap (λ z. byte_of z i) r.1;
+  others = λ x i at lt e. word_other (first_near start) x id (low_half id % 2048) (low_half parent) i old new at.near.from at.near.to near.from near.to (other_number id x parent e) sets lt;
+  set = λ x i v at lt e. let r = own_number id x parent v e in word_own x id parent i old new r.0 sets lt ∙ ap (λ z. byte_of z i) r.1;
 }
 
 -- a window of numbers that ends 2^30 past one
@@ -76,10 +75,10 @@ pub in_window : (next x : ℕ) → next + 2 ^ 30 ≤ x + 2 ^ 32 → x < next + 2
 in_window next x from to = (omega arith, omega arith)
 
 pub offset_set : OffsetSet
-offset_set start shown bank by caller multi offset old new near old_page new_page sets = record {
+offset_set start shown bank by caller multi offset old new near sets = record {
   makes_none = refl;
   others = λ x i at lt e.
       let a = in_window start.base.multi x at.near.from at.near.to in let b = in_window start.base.multi multi near.from near.to in
-      word_other (start.base.multi + 2 ^ 30 - 2 ^ 32) x multi (low_half multi % 2048) (low_half offset) i old new a.0 a.1 b.0 b.1 (other_number multi x offset e) old_page new_page sets lt;
-  set = λ x i v at lt e. let r = own_number multi x offset v e in word_own x multi offset i old new r.0 new_page sets lt ∙ ap (λ z. byte_of z i) r.1;
+      word_other (start.base.multi + 2 ^ 30 - 2 ^ 32) x multi (low_half multi % 2048) (low_half offset) i old new a.0 a.1 b.0 b.1 (other_number multi x offset e) sets lt;
+  set = λ x i v at lt e. let r = own_number multi x offset v e in word_own x multi offset i old new r.0 sets lt ∙ ap (λ z. byte_of z i) r.1;
 }

@@ -40,13 +40,33 @@ module _ {I V : Type 0} where
   MapBetween s Asked es e m = (x i : ℕ) → Asked x → i < s.pieces
       → Now s.reading (s.wanted i) es es x (s.page x) (value_in s m x i) ⊎ Now s.reading (s.wanted i) (es ++ e ∷ []) (es ++ e ∷ []) x (s.page x) (value_in s m x i)
 
+  -- the number by which a page in full is stored
+  abbrev pub stored : Cells I V → ℕ → ℕ
+  stored s page = page % s.reading.ring.pages
+
+  -- the last page that the list made
+  abbrev pub last_made : Cells I V → List Entry → ℕ
+  last_made s es = (pages_after s.reading.store s.reading.first s.reading.shown es).last
+
   -- the bank's cutoff is a page from which on the list keeps the bank
   abbrev pub CutoffStands : Cells I V → List Entry → ℕ → Type 0
-  CutoffStands s es cutoff = (page : ℕ) × IsKeptAt s.reading.ring.kept es page × (cutoff ≡ page % s.reading.ring.pages)
+  CutoffStands s es cutoff = (page : ℕ) × IsKeptAt s.reading.ring.kept es page × (cutoff ≡ stored s page)
 
   -- the pages that are cut by this cutoff
   abbrev pub cut_by : Cells I V → ℕ → ℕ → Bool
   cut_by s cutoff q = is_cut s.reading.ring.shape s.reading.ring.per_page cutoff q
+
+  -- the cutoff behind a removal of what lies before this page
+  abbrev pub cutoff_behind : Cells I V → ℕ → ℕ → ℕ
+  cutoff_behind s cutoff page = later_cutoff s.reading.ring.shape s.reading.ring.per_page cutoff (stored s page)
+
+  -- each byte of an image is as in one of before or as the map had it, or it is 0 on a page that this cutoff cuts
+  abbrev pub IsGoneOr : Cells I V → ℕ → (ℕ → List ℕ) → Pages → Pages → Type 0
+  IsGoneOr s cutoff m = IsMixtureOrGone (cut_by s cutoff) m m
+
+  -- the page is made, where it is past the last one that the list made
+  abbrev pub MakesPage : Cells I V → List Entry → ℕ → (ℕ → List ℕ) → (ℕ → List ℕ) → Type 0
+  MakesPage s es page old new = MatchBool (nat_lt (last_made s es) page) (PutsPage (stored s page) zero_page old new) (SameMap old new)
 
   -- the entry sets nothing and makes no page
   pub record IsQuietOn (s : Cells I V) (e : Entry) : Type 0 where
@@ -55,7 +75,7 @@ module _ {I V : Type 0} where
 
   -- the page of this number in full is that of each number asked for on the same stored page, and only of these
   abbrev pub IsOnePage : Cells I V → (ℕ → Type 0) → ℕ → Type 0
-  IsOnePage s Asked page = (x : ℕ) → Asked x → (s.page x ≡ page % s.reading.ring.pages → s.reading.store.page_of x ≡ page) × (s.reading.store.page_of x ≡ page → s.page x ≡ page % s.reading.ring.pages)
+  IsOnePage s Asked page = (x : ℕ) → Asked x → (s.page x ≡ stored s page → s.reading.store.page_of x ≡ page) × (s.reading.store.page_of x ≡ page → s.page x ≡ stored s page)
 
   -- a map that sets what the entry says: the other pieces are as they were
   pub record SetsAsSaid (s : Cells I V) (Asked : ℕ → Type 0) (e : Entry) (old new : ℕ → List ℕ) : Type 0 where
@@ -71,7 +91,7 @@ module _ {I V : Type 0} where
         → ImageShows s Asked (es ++ e ∷ []) c → ImageShows s Asked (es ++ e ∷ []) d
     -- a removal of the pages that a cutoff cuts
     pub removes : (es : List Entry) (e : Entry) (m : ℕ → List ℕ) (cutoff : ℕ) (c d : Pages) → (e.kind ≡ kinds.Sync → ⊥) → CutoffStands s (es ++ e ∷ []) cutoff → MapBetween s Asked es e m
-        → IsMixtureOrGone (cut_by s cutoff) m m c d → ImageShows s Asked (es ++ e ∷ []) c → ImageShows s Asked (es ++ e ∷ []) d
+        → IsGoneOr s cutoff m c d → ImageShows s Asked (es ++ e ∷ []) c → ImageShows s Asked (es ++ e ∷ []) d
     -- in the midst of a flush, and after it
     pub flushes : (es : List Entry) (m : ℕ → List ℕ) (c d : Pages) → MapShows s Asked es m → IsMixture m m c d → ImageShows s Asked es c → ImageShows s Asked es d
     pub syncs : (es : List Entry) (e : Entry) (m : ℕ → List ℕ) (c : Pages) → IsQuietOn s e → MapShows s Asked es m → ((q : ℕ) → page_bytes (c q) ≡ m q) → ImageShows s Asked (es ++ e ∷ []) c
@@ -80,7 +100,7 @@ module _ {I V : Type 0} where
     pub drops : (es : List Entry) (e : Entry) (cutoff : ℕ) (old new : ℕ → List ℕ) → IsQuietOn s e → CutoffStands s (es ++ e ∷ []) cutoff → MayDrop (cut_by s cutoff) old new
         → MapShows s Asked es old → MapShows s Asked (es ++ e ∷ []) new
     pub makes : (es : List Entry) (e : Entry) (page : ℕ) (old new : ℕ → List ℕ) → e.kind ≡ kinds.Zero page → s.reading.store.items_of e ≡ [] → IsOnePage s Asked page
-        → MatchBool (nat_lt (pages_after s.reading.store s.reading.first s.reading.shown es).last page) (PutsPage (page % s.reading.ring.pages) zero_page old new) (SameMap old new)
+        → MakesPage s es page old new
         → MapShows s Asked es old → MapShows s Asked (es ++ e ∷ []) new
     pub sets : (es : List Entry) (e : Entry) (old new : ℕ → List ℕ) → SetsAsSaid s Asked e old new → MapShows s Asked es old → MapShows s Asked (es ++ e ∷ []) new
     -- a map that has some of what the entry sets
@@ -89,4 +109,4 @@ module _ {I V : Type 0} where
     -- the cutoff
     pub cutoff_stays : (es : List Entry) (e : Entry) (cutoff : ℕ) → CutoffStands s es cutoff → CutoffStands s (es ++ e ∷ []) cutoff
     pub cuts : (es : List Entry) (e : Entry) (cutoff page : ℕ) → cut_in e.kind ≡ Some page → CutoffStands s es cutoff
-        → CutoffStands s (es ++ e ∷ []) (later_cutoff s.reading.ring.shape s.reading.ring.per_page cutoff (page % s.reading.ring.pages))
+        → CutoffStands s (es ++ e ∷ []) (cutoff_behind s cutoff page)

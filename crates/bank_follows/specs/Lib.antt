@@ -6,3 +6,5 @@ pub mod StoreSets
 pub mod Moments
 pub mod Tails
 pub mod Sections
+pub mod Begins
+pub mod Making

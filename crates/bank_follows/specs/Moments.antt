@@ -2,13 +2,13 @@
 use Rattle.std.specs.Prelude.{◌≡◌, ℕ, List, [], ◌∷◌, ◌++◌, Option}
 use Rattle.disk_core.specs.Images.{LeavesOnly}
 use Rattle.disk_core.specs.Pages.{Pages, page_bytes}
-use Rattle.slru_bank.specs.Crash.{CrashLeaves, IsMixture, IsMixtureOrGone}
+use Rattle.slru_bank.specs.Crash.{CrashLeaves, IsMixture}
 use Rattle.tx_events.specs.declared.multi.Member.{Member}
 use Rattle.tx_core.specs.declared.entry.Entry.{Entry}
 use Rattle.tx_core.specs.declared.entry.Kind.TheVariants as kinds
 use Rattle.tx_core.specs.declared.entry.Start.{Start}
 use Rattle.tx_core.specs.declared.entry.State.{State}
-use Rattle.bank_follows.specs.Cells.{Cells, CutoffStands, ImageShows, IsQuietOn, MapBetween, MapShows, cut_by}
+use Rattle.bank_follows.specs.Cells.{Cells, CutoffStands, ImageShows, IsGoneOr, IsQuietOn, MapBetween, MapShows}
 use Rattle.bank_follows.specs.Stores.{IsMemberAt, IsOffsetAt, IsParentAt, IsXactAt, member_cells, offset_cells, parent_cells, xact_cells}
 
 -- an image shows a beginning of the list
@@ -42,7 +42,7 @@ module _ {D : Type 0} (images : D → Pages → Type 0) (moment : D → ℕ) (le
       pub removes : (es : List Entry) (e : Entry) (m : ℕ → List ℕ) (cutoff : ℕ) (d0 d1 d2 : D)
           → (e.kind ≡ kinds.Sync → ⊥) → CutoffStands s (es ++ e ∷ []) cutoff → MapBetween s Asked es e m
           → Throughout (ImageShows s Asked (es ++ e ∷ [])) d0 d1
-          → CrashLeaves (IsMixtureOrGone (cut_by s cutoff) m m) images moment left_at d1 d2
+          → CrashLeaves (IsGoneOr s cutoff m) images moment left_at d1 d2
           → Throughout (ImageShows s Asked (es ++ e ∷ [])) d0 d2
       -- a flush: till it is done the images show the list without the sync, and after it with it
       pub flushes : (es : List Entry) (m : ℕ → List ℕ) (d0 d1 : D) → MapShows s Asked es m

@@ -1,34 +1,17 @@
 -- A critical section of one call: what a bank's value stands for behind it, and at each moment of the call.
-use Rattle.std.specs.Prelude.{◌≡◌, ℕ, ◌%◌, nat_lt, List, [], ◌∷◌, ◌++◌, Option, Some, MatchBool}
-use Rattle.disk_core.specs.Pages.{Pages, page_bytes, zero_page}
-use Rattle.slru_bank.specs.Bank.{PutsPage}
-use Rattle.slru_bank.specs.Crash.{CrashLeaves, IsMixture, IsMixtureOrGone, SameMap}
-use Rattle.slru_bank.specs.Removal.{MayDrop, later_cutoff}
+use Rattle.std.specs.Prelude.{◌≡◌, ℕ, List, [], ◌∷◌, ◌++◌, Option, Some}
+use Rattle.disk_core.specs.Pages.{Pages, page_bytes}
+use Rattle.slru_bank.specs.Crash.{CrashLeaves, IsMixture, SameMap}
+use Rattle.slru_bank.specs.Removal.{MayDrop}
 use Rattle.tx_events.specs.declared.multi.Member.{Member}
 use Rattle.tx_core.specs.declared.entry.Entry.{Entry}
 use Rattle.tx_core.specs.declared.entry.Kind.TheVariants as kinds
 use Rattle.tx_core.specs.declared.entry.Start.{Start}
 use Rattle.tx_core.specs.declared.entry.State.{State}
 use Rattle.tx_core.specs.Entries.{cut_in}
-use Rattle.tx_core.specs.Pages.{pages_after}
-use Rattle.bank_follows.specs.Cells.{Cells, CutoffStands, ImageShows, IsOnePage, IsQuietOn, MapShows, SetsAsSaid, cut_by}
+use Rattle.bank_follows.specs.Cells.{Cells, CutoffStands, ImageShows, IsGoneOr, IsOnePage, IsQuietOn, MakesPage, MapShows, SetsAsSaid, cut_by, cutoff_behind}
 use Rattle.bank_follows.specs.Moments.{Throughout}
 use Rattle.bank_follows.specs.Stores.{IsMemberAt, IsOffsetAt, IsParentAt, IsXactAt, member_cells, offset_cells, parent_cells, xact_cells}
-
--- the cutoff behind a removal of what lies before this page
-abbrev pub cutoff_behind : {I V : Type 0} → Cells I V → ℕ → ℕ → ℕ
-cutoff_behind s cutoff page = later_cutoff s.reading.ring.shape s.reading.ring.per_page cutoff
-    (page % s.reading.ring.pages)
-
--- the page is made, where it is past the last one that the list made
-abbrev pub MakesPage : {I V : Type 0} → Cells I V → List Entry → ℕ → (ℕ → List ℕ) → (ℕ → List ℕ) → Type 0
-MakesPage s es page old new =
-    MatchBool (nat_lt (pages_after s.reading.store s.reading.first s.reading.shown es).last page)
-    (PutsPage (page % s.reading.ring.pages) zero_page old new) (SameMap old new)
-
--- each byte of an image is as in one of before or as the map had it, or it is 0 on a page that this cutoff cuts
-abbrev pub IsGoneOr : {I V : Type 0} → Cells I V → ℕ → (ℕ → List ℕ) → Pages → Pages → Type 0
-IsGoneOr s cutoff m = IsMixtureOrGone (cut_by s cutoff) m m
 
 module _ {D : Type 0} (images : D → Pages → Type 0) (moment : D → ℕ) (left_at : D → ℕ → Pages → Type 0) where
   module _ {I V : Type 0} (s : Cells I V) (Asked : ℕ → Type 0) where

@@ -3,7 +3,6 @@ use Rattle.std.specs.Prelude.{ℕ, ◌≤◌, List, [], ◌∷◌, length, Optio
 use Rattle.xid_order.specs.Ids.{low_half}
 use Rattle.store_pages.specs.Layouts.{member_page_of}
 use Rattle.store_pages.specs.Pages.{member_place}
-use Rattle.slru_bank.specs.Bank.{IsPage}
 use Rattle.pg_xact_log.specs.Changes.{SetsStates, ShareAPage}
 use Rattle.multi_members.specs.Changes.{SetsMember}
 use Rattle.tx_events.specs.Modes.{mode_number}
@@ -29,6 +28,5 @@ StatesSet = (start : Start) (shown : ℕ → Option State) (bank : ℕ) (by call
 -- one member
 abbrev pub MemberSet : Type 0
 MemberSet = (start : Start) (shown : ℕ → Option Member) (bank : ℕ) (by caller : By) (offset : ℕ) (member : Member) (old new : ℕ → List ℕ) →
-    IsNearOffset start offset → IsPage (old (member_page_of offset)) → IsPage (new (member_page_of offset))
-    → SetsMember (member_page_of offset) (member_place (low_half offset)) (mode_number member.mode) (low_half member.id) old new
+    IsNearOffset start offset → SetsMember (member_page_of offset) (member_place (low_half offset)) (mode_number member.mode) (low_half member.id) old new
     → SetsAsSaid (member_cells start shown) (IsMemberAt start bank) (record { by = by; kind = kinds.Set (changes.Slot caller offset member ∷ []) }) old new

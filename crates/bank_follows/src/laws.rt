@@ -4,28 +4,28 @@ ghost use Rattle.bank_follows.specs.Sections.{MemberSections, OffsetSections, Pa
 ghost use Rattle.bank_follows.specs.Tails.{KeepsTails};
 ghost use Rattle.bank_follows.specs.StoreSets.{StatesSet, MemberSet};
 ghost use Rattle.bank_follows.specs.Laws.{XactKeeps, ParentsKeep, OffsetsKeep, MembersKeep, ImagesFollow, OnePage};
+ghost use Rattle.bank_follows.specs.Begins.{BanksOpen, PagesShowWhatTheyHold, ZerosShowNothing};
+ghost use Rattle.bank_follows.specs.Making.{StoredPagesMade};
 
 use disk_core::PageDisk;
 
-/// A bank of pg_xact, one entry of its lock's list more (`SimpleLruReadPage`, `SimpleLruZeroPage`, `SimpleLruWriteAll`
-/// and `SimpleLruTruncate` in `src/backend/access/transam/slru.c`).
-pub fn xact_keeps()
-    ensures { XactKeeps }
+/// A bank of each store, one entry of its lock's list more (`SimpleLruReadPage`, `SimpleLruZeroPage`, `SimpleLruWriteAll`
+/// and `SimpleLruTruncate` in `src/backend/access/transam/slru.c`): of members by each member's mode byte and the bytes
+/// of its id.
+pub fn calls_keep()
+    ensures xact { XactKeeps }
+    ensures parents { ParentsKeep }
+    ensures offsets { OffsetsKeep }
+    ensures members { MembersKeep }
 {}
 
-/// The same of a bank of pg_subtrans.
-pub fn parents_keep()
-    ensures { ParentsKeep }
-{}
-
-/// The same of a bank of offsets.
-pub fn offsets_keep()
-    ensures { OffsetsKeep }
-{}
-
-/// The same of a bank of members, by each member's mode byte and the bytes of its id.
-pub fn members_keep()
-    ensures { MembersKeep }
+/// What a store's call does to the map is what its entry says: `set_states` of `pg_xact_log`, `set_parent` of
+/// `subtrans_log`, `set_offset` of `multi_offsets`, `write_member` of `multi_members`.
+pub fn sets_as_said()
+    ensures states { StatesSet }
+    ensures parent { ParentSet }
+    ensures offset { OffsetSet }
+    ensures member { MemberSet }
 {}
 
 /// Images that show a list are those of which the laws of `recoverable` speak.
@@ -38,64 +38,42 @@ pub fn one_page()
     ensures { OnePage }
 {}
 
-/// What `set_states` of `pg_xact_log` does to the map is what an entry of these states says.
-pub fn states_set()
-    ensures { StatesSet }
+/// What `zero` of a bank does, by stored pages in the order of `store_pages`, makes the page in full that the entry
+/// names, where a life gives few numbers; and the bank's last page stays the list's.
+pub fn stored_pages_made()
+    ensures { StoredPagesMade }
 {}
 
-/// The same of `set_parent` of `subtrans_log`.
-pub fn parent_set()
-    ensures { ParentSet }
+/// The images of a bank at every moment of a critical section, over any disk.
+pub fn moments_keep<P: PageDisk>()
+    ensures xact { XactMoments P.images P.moment P.left_at }
+    ensures parents { ParentMoments P.images P.moment P.left_at }
+    ensures offsets { OffsetMoments P.images P.moment P.left_at }
+    ensures members { MemberMoments P.images P.moment P.left_at }
 {}
 
-/// The same of `set_offset` of `multi_offsets`.
-pub fn offset_set()
-    ensures { OffsetSet }
+/// What a bank stands for behind a critical section of one call, over any disk.
+pub fn sections_keep<P: PageDisk>()
+    ensures xact { XactSections P.images P.moment P.left_at }
+    ensures parents { ParentSections P.images P.moment P.left_at }
+    ensures offsets { OffsetSections P.images P.moment P.left_at }
+    ensures members { MemberSections P.images P.moment P.left_at }
 {}
 
-/// The same of `write_member` of `multi_members`.
-pub fn member_set()
-    ensures { MemberSet }
+/// A bank that was just opened stands for the list without entries, over any disk: so the laws on sections hold from
+/// the begin of a life on.
+pub fn banks_open<P: PageDisk>()
+    ensures { BanksOpen P.images P.moment P.left_at }
 {}
 
-/// The images of a bank of pg_xact at every moment of a critical section, over any disk.
-pub fn xact_moments<P: PageDisk>()
-    ensures { XactMoments P.images P.moment P.left_at }
+/// Pages of zeros show nothing: those of a new volume, and those of pg_subtrans behind `clear_all`.
+pub fn zeros_show_nothing()
+    ensures { ZerosShowNothing }
 {}
 
-/// The same of a bank of pg_subtrans.
-pub fn parent_moments<P: PageDisk>()
-    ensures { ParentMoments P.images P.moment P.left_at }
-{}
-
-/// The same of a bank of offsets.
-pub fn offset_moments<P: PageDisk>()
-    ensures { OffsetMoments P.images P.moment P.left_at }
-{}
-
-/// The same of a bank of members.
-pub fn member_moments<P: PageDisk>()
-    ensures { MemberMoments P.images P.moment P.left_at }
-{}
-
-/// What a bank of pg_xact stands for behind a critical section of one call, over any disk.
-pub fn xact_sections<P: PageDisk>()
-    ensures { XactSections P.images P.moment P.left_at }
-{}
-
-/// The same of a bank of pg_subtrans.
-pub fn parent_sections<P: PageDisk>()
-    ensures { ParentSections P.images P.moment P.left_at }
-{}
-
-/// The same of a bank of offsets.
-pub fn offset_sections<P: PageDisk>()
-    ensures { OffsetSections P.images P.moment P.left_at }
-{}
-
-/// The same of a bank of members.
-pub fn member_sections<P: PageDisk>()
-    ensures { MemberSections P.images P.moment P.left_at }
+/// What the pages of a store's banks show when a life begins may be read off them.
+pub fn pages_show_what_they_hold()
+    ensures { PagesShowWhatTheyHold }
 {}
 
 /// The bytes behind the last slot of a page of members stay 0, in the map and in each image at every moment.

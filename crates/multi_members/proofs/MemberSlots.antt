@@ -5,7 +5,7 @@ use Rattle.std.proofs.lemmas.List.{get_or-set_same, get_or-set_other}
 use Rattle.xid_order.specs.PageOrder.{Offsets}
 use Rattle.store_pages.specs.Layouts.{number_in}
 use Rattle.store_pages.specs.Pages.{mode_at, id_at}
-use Rattle.slru_bank.specs.Bank.{masked, PutsPage, IsPage}
+use Rattle.slru_bank.specs.Bank.{masked, PutsPage, StaysAPage}
 use Rattle.slru_bank.specs.Removal.{ClearsAfter}
 use Rattle.slru_bank.specs.ByteRange.{PutsNumber, other_number, cleared_before, cleared_past, cleared_number_before, cleared_number_past}
 use Rattle.slru_bank.specs.declared.refusal.BankRefusal.{BankRefusal}
@@ -71,15 +71,15 @@ number_stays xs k at v d0 d1 d2 d3 =
 
 -- the mode was set
 pub record SetsMode (page place byte : ℕ) (m m1 : ℕ → List ℕ) : Type 0 where
-  pub whole : IsPage (m page)
+  pub pages : StaysAPage page m m1
   pub puts : PutsPage page (slice_set (m page) (mode_at place) (masked (slice_index (m page) (mode_at place)) 255 byte)) m m1
 
 pub sets_member : (m m1 m2 : ℕ → List ℕ) (page place byte number : ℕ) → place < 1636 → byte ≤ 5 → SetsMode page place byte m m1 → PutsNumber page (id_at place) number m1 m2 → SetsMember page place byte number m m2
 sets_member m m1 m2 page place byte number within small first second =
     let at : ℕ = mode_at place in
     let v : ℕ = masked (slice_index (m page) (mode_at place)) 255 byte in
-    let long : length (m page) ≡ 8192 = first.whole.whole in
-    let is : v ≡ byte = whole_byte (slice_index (m page) (mode_at place)) byte (first.whole.small (mode_at place)) small in
+    let long : length (m page) ≡ 8192 = first.pages.was.whole in
+    let is : v ≡ byte = whole_byte (slice_index (m page) (mode_at place)) byte (first.pages.was.small (mode_at place)) small in
     let set : slice_index (slice_set (m page) (mode_at place) v) (mode_at place) ≡ v = get_or-set_same (m page) (mode_at place) v 0 (omega arith) in
     record {
       mode = second.bytes (mode_at place) (mode_apart place place) ∙ ap (λ (l : List ℕ). slice_index l (mode_at place)) first.puts.here ∙ set ∙ is;
@@ -90,6 +90,7 @@ sets_member m m1 m2 page place byte number within small first second =
             ∙ number_stays (m page) (id_at k) (mode_at place) v (omega (arith, id_not_mode k place 0 (omega arith))) (id_not_mode k place 1 (omega arith)) (id_not_mode k place 2 (omega arith)) (id_not_mode k place 3 (omega arith));
       };
       tail = λ i past. second.bytes i (inr (omega arith)) ∙ ap (λ (l : List ℕ). slice_index l i) first.puts.here ∙ get_or-set_other (m page) (mode_at place) i v 0 (omega arith);
+      pages = record { was = first.pages.was; is = second.pages.is };
       others = λ q apart. second.others q apart ∙ first.puts.others q apart;
     }
 

@@ -4,7 +4,7 @@ use Rattle.disk_core.specs.Pages.{zero_page}
 use Rattle.xid_order.specs.PageOrder.{Offsets, page_precedes}
 use Rattle.store_pages.specs.Layouts.{number_in}
 use Rattle.store_pages.specs.Pages.{id_at, members_per_page, mode_at}
-use Rattle.slru_bank.specs.Bank.{OthersStay}
+use Rattle.slru_bank.specs.Bank.{OthersStay, StaysAPage}
 
 -- the k-th slot of a page is the same on two pages
 pub record SameSlot (k : ℕ) (old new : List ℕ) : Type 0 where
@@ -17,6 +17,7 @@ pub record SetsMember (page place byte number : ℕ) (old new : ℕ → List ℕ
   pub id : number_in (new page) (id_at place) ≡ number
   pub same_page : (k : ℕ) → k < members_per_page → k ≢ place → SameSlot k (old page) (new page)
   pub tail : (i : ℕ) → 8180 ≤ i → slice_index (new page) i ≡ slice_index (old page) i
+  pub pages : StaysAPage page old new
   pub others : OthersStay page old new
 
 -- on one page all bytes from the place-th slot's id on are 0, those before it as they were, and all pages that come after

@@ -3,7 +3,7 @@ use Rattle.std.proofs.Common.{◌≡◌, ◌≢◌, ◌⊎◌, ⊎_elim, ℕ, �
 use Rattle.std.proofs.lemmas.Bool.{ne_eqb, eq-eqb}
 use Rattle.std.proofs.lemmas.List.{get_or-set_same, get_or-set_other}
 use Rattle.slru_bank.specs.declared.refusal.BankRefusal.{BankRefusal}
-use Rattle.slru_bank.specs.Bank.{masked, PutsPage, IsPage}
+use Rattle.slru_bank.specs.Bank.{masked, PutsPage, IsPage, StaysAPage}
 use Rattle.store_pages.specs.Layouts.{bits_at, state_in}
 use Rattle.pg_xact_log.specs.States.{times_4}
 use Rattle.pg_xact_log.specs.Changes.{SetsState}
@@ -43,13 +43,13 @@ sets_state m after page n s n_small s_small is puts = record {
   others = puts.others;
 }
 
-pub sets_state_ok : (r : Result (Unit {0}) BankRefusal) (m after : ℕ → List ℕ) (page n s : ℕ) → n < 32768 → s < 4 → OnOk r (IsPage (m page)) → OnOk r (PutsPage page (slice_set (m page) (n / 4) (new_byte (m page) n s)) m after) → OnOk r (SetsState page n s m after)
-sets_state_ok (Ok x) m after page n s n_small s_small is puts = sets_state m after page n s n_small s_small is puts
-sets_state_ok (Err e) m after page n s n_small s_small is puts = tt
+pub sets_state_ok : (r : Result (Unit {0}) BankRefusal) (m after : ℕ → List ℕ) (page n s : ℕ) → n < 32768 → s < 4 → OnOk r (StaysAPage page m after) → OnOk r (PutsPage page (slice_set (m page) (n / 4) (new_byte (m page) n s)) m after) → OnOk r (SetsState page n s m after)
+sets_state_ok (Ok x) m after page n s n_small s_small pages puts = sets_state m after page n s n_small s_small pages.was puts
+sets_state_ok (Err e) m after page n s n_small s_small pages puts = tt
 
 pub sets_state_by : (r : Result (Unit {0}) BankRefusal) (m after : ℕ → List ℕ) (p page n s mask bits : ℕ) → n < 32768 → s < 4 → p ≡ page → mask ≡ times_4 3 (n % 4) → bits ≡ times_4 s (n % 4)
-    → OnOk r (IsPage (m p)) → OnOk r (PutsPage p (slice_set (m p) (n / 4) (masked (slice_index (m p) (n / 4)) mask bits)) m after) → OnOk r (SetsState page n s m after)
-sets_state_by r m after p page n s mask bits n_small s_small page_is mask_is bits_is is puts =
-    let is1 = rw page_is at is in
+    → OnOk r (StaysAPage p m after) → OnOk r (PutsPage p (slice_set (m p) (n / 4) (masked (slice_index (m p) (n / 4)) mask bits)) m after) → OnOk r (SetsState page n s m after)
+sets_state_by r m after p page n s mask bits n_small s_small page_is mask_is bits_is pages puts =
+    let pages1 = rw page_is at pages in
     let puts1 = rw (page_is, mask_is, bits_is) at puts in
-    sets_state_ok r m after page n s n_small s_small is1 puts1
+    sets_state_ok r m after page n s n_small s_small pages1 puts1

@@ -6,7 +6,7 @@ use Rattle.disk_core.specs.Pages.{Pages, zero_page}
 use Rattle.xid_order.specs.PageOrder.{Ids, page_precedes}
 use Rattle.xid_order.specs.PageWindow.{precedes_itself}
 use Rattle.store_pages.specs.Layouts.{bits_at, state_in}
-use Rattle.slru_bank.specs.Bank.{masked, PutsPage, IsPage}
+use Rattle.slru_bank.specs.Bank.{masked, PutsPage, IsPage, StaysAPage}
 use Rattle.disk_core.specs.declared.page_disk.PageDisk.{Ghosts as DiskGhosts}
 use Rattle.store_pages.specs.declared.page_rule.PageRule.{Ghosts as RuleGhosts}
 use Rattle.slru_bank.specs.declared.bank.SlruBank.{SlruBank}
@@ -158,7 +158,7 @@ module _ {P O : Type 0} {g : DiskGhosts P} {r : RuleGhosts O} (gone : ℕ → Bo
       subst (λ (e : P). CrashLeaves (IsMixtureOrGone gone (pages_of b0) (pages_of b0)) g.images g.moment g.left_at b0.disk e) (sym is) (runs_then g.images g.moment g.left_at (IsMixture m m) (IsMixtureOrGone gone m1 m1) (IsMixtureOrGone gone m m) b0.disk b1.disk b2.disk
       (none_gone gone m) (λ x y z s t. same_then_gone gone m m1 x y z (same told) s t) (keeps told) (lacks told))
 
-pub trims_ok : (r : Result (Unit {0}) BankRefusal) (page place : ℕ) (m old mid new : ℕ → List ℕ) → place % 4 ≢ 0 → place < 32768 → SameMap m old → ClearsAfter Ids 32768 page (place / 4 + 1) old mid → OnOk r (IsPage (mid page))
+pub trims_ok : (r : Result (Unit {0}) BankRefusal) (page place : ℕ) (m old mid new : ℕ → List ℕ) → place % 4 ≢ 0 → place < 32768 → SameMap m old → ClearsAfter Ids 32768 page (place / 4 + 1) old mid → OnOk r (StaysAPage page mid new)
     → OnOk r (PutsPage page (slice_set (mid page) (place / 4) (masked (slice_index (mid page) (place / 4)) (256 - times_4 1 (place % 4)) 0)) mid new) → OnOk r (TrimsStates page place m new)
-trims_ok (Ok x) page place m old mid new odd within same clears whole puts = trims_same page place m old new same (trims_set page place old mid new odd within clears whole puts)
-trims_ok (Err e) page place m old mid new odd within same clears whole puts = tt
+trims_ok (Ok x) page place m old mid new odd within same clears pages puts = trims_same page place m old new same (trims_set page place old mid new odd within clears pages.was puts)
+trims_ok (Err e) page place m old mid new odd within same clears pages puts = tt

@@ -1,4 +1,5 @@
 pub mod BufferLists
 pub mod NumberBytes
+pub mod PageBytes
 pub mod RemovalLists
 pub mod ZeroBytes

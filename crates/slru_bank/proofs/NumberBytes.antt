@@ -3,7 +3,7 @@ use Rattle.std.proofs.Common.{◌≡◌, ⊎_elim, ℕ, ◌+◌, ◌*◌, ◌/�
 use Rattle.byteorder.specs.Endian.{little_bytes, little_from}
 use Rattle.byteorder.specs.Numbers.{little_from-bytes}
 use Rattle.store_pages.specs.Layouts.{number_in}
-use Rattle.slru_bank.specs.Bank.{placed, PutsPage, IsPage}
+use Rattle.slru_bank.specs.Bank.{placed, PutsPage, StaysAPage}
 use Rattle.slru_bank.specs.ByteRange.{PutsNumber, placed_before, placed_in, placed_past}
 use Rattle.slru_bank.specs.declared.refusal.BankRefusal.{BankRefusal}
 
@@ -15,10 +15,10 @@ number_of_four from rest number fits is =
     omega (arith, here)
 
 pub puts_number : (m new : ℕ → List ℕ) (page at number : ℕ) (from rest : List ℕ) → at + 4 ≤ 8192 → number < 2 ^ 32 → length from ≡ 4 → from ≡ little_bytes 4 number ++ rest
-    → IsPage (m page) → PutsPage page (placed (m page) at from) m new → PutsNumber page at number m new
-puts_number m new page at number from rest within fits four is page_is puts =
+    → StaysAPage page m new → PutsPage page (placed (m page) at from) m new → PutsNumber page at number m new
+puts_number m new page at number from rest within fits four is pages puts =
     let xs : List ℕ = m page in
-    let long : length (m page) ≡ 8192 = page_is.whole in
+    let long : length (m page) ≡ 8192 = pages.was.whole in
     let b0 : slice_index (placed (m page) at from) (at + 0) ≡ slice_index from 0 = placed_in (m page) from at 0 (omega arith) (omega arith) in
     let b1 : slice_index (placed (m page) at from) (at + 1) ≡ slice_index from 1 = placed_in (m page) from at 1 (omega arith) (omega arith) in
     let b2 : slice_index (placed (m page) at from) (at + 2) ≡ slice_index from 2 = placed_in (m page) from at 2 (omega arith) (omega arith) in
@@ -31,10 +31,11 @@ puts_number m new page at number from rest within fits four is page_is puts =
           (λ (h : i < at). placed_before (m page) from at i (omega arith) h)
           (λ (h : at + 4 ≤ i). placed_past (m page) from at i (omega arith) (omega arith))
           side;
+      pages = pages;
       others = puts.others;
     }
 
 pub puts_number_ok : (r : Result (Unit {0}) BankRefusal) (m new : ℕ → List ℕ) (page at number : ℕ) (from rest : List ℕ) → at + 4 ≤ 8192 → number < 2 ^ 32 → length from ≡ 4 → from ≡ little_bytes 4 number ++ rest
-    → OnOk r (IsPage (m page)) → OnOk r (PutsPage page (placed (m page) at from) m new) → OnOk r (PutsNumber page at number m new)
-puts_number_ok (Ok x) m new page at number from rest within fits four is page_is puts = puts_number m new page at number from rest within fits four is page_is puts
-puts_number_ok (Err e) m new page at number from rest within fits four is page_is puts = tt
+    → OnOk r (StaysAPage page m new) → OnOk r (PutsPage page (placed (m page) at from) m new) → OnOk r (PutsNumber page at number m new)
+puts_number_ok (Ok x) m new page at number from rest within fits four is pages puts = puts_number m new page at number from rest within fits four is pages puts
+puts_number_ok (Err e) m new page at number from rest within fits four is pages puts = tt

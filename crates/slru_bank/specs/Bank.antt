@@ -103,6 +103,11 @@ pub record IsPage (bytes : List ℕ) : Type 0 where
   pub whole : length bytes ≡ 8192
   pub small : (i : ℕ) → slice_index bytes i < 256
 
+-- this page is one before and after
+pub record StaysAPage (page : ℕ) (old new : ℕ → List ℕ) : Type 0 where
+  pub was : IsPage (old page)
+  pub is : IsPage (new page)
+
 -- (facts of a bank's type)
 pub Distinct-prop : (bs : List Buffer) → IsProp (Distinct bs)
 Distinct-prop [] = Prim.hlevel props

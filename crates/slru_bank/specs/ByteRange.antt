@@ -2,7 +2,7 @@
 use Rattle.std.proofs.Common.{◌≡◌, ◌≢◌, ◌⊎◌, inl, inr, ⊎_elim, ℕ, zero, suc, ◌+◌, ◌-◌, ◌*◌, ◌<◌, ◌≤◌, ◌^◌, true, false, List, [], ◌∷◌, ◌++◌, length, take, drop, replicate, slice_index, Result, Ok, Err, OnOk, refl, sym, ◌∙◌, ap, arith}
 use Rattle.std.proofs.lemmas.List.{get_or-drop, get_or-take}
 use Rattle.store_pages.specs.Layouts.{number_in}
-use Rattle.slru_bank.specs.Bank.{placed, OthersStay}
+use Rattle.slru_bank.specs.Bank.{placed, OthersStay, StaysAPage}
 use Rattle.disk_core.specs.Pages.{zero_page}
 use Rattle.xid_order.specs.PageOrder.{Shape, page_precedes}
 use Rattle.slru_bank.specs.Removal.{cleared_from, ClearsAfter}
@@ -95,6 +95,7 @@ cleared_number_past xs at k from =
 pub record PutsNumber (page at number : ℕ) (old new : ℕ → List ℕ) : Type 0 where
   pub here : number_in (new page) at ≡ number
   pub bytes : (i : ℕ) → (i < at) ⊎ (at + 4 ≤ i) → slice_index (new page) i ≡ slice_index (old page) i
+  pub pages : StaysAPage page old new
   pub others : OthersStay page old new
 
 -- a number that doesn't share a byte with the range stays
@@ -121,12 +122,14 @@ apart_fours k n differs = ⊎_elim (λ (h : k < n). inl (omega arith)) (λ (h : 
 pub record SetsEntry (page place number : ℕ) (old new : ℕ → List ℕ) : Type 0 where
   pub here : number_in (new page) (4 * place) ≡ number
   pub same_page : (k : ℕ) → k < 2048 → k ≢ place → number_in (new page) (4 * k) ≡ number_in (old page) (4 * k)
+  pub pages : StaysAPage page old new
   pub others : OthersStay page old new
 
 pub sets_entry : {E : Type 0} (r : Result (Unit {0}) E) (page place number : ℕ) (old new : ℕ → List ℕ) → OnOk r (PutsNumber page (4 * place) number old new) → OnOk r (SetsEntry page place number old new)
 sets_entry (Ok x) page place number old new puts = record {
   here = puts.here;
   same_page = λ k within differs. other_number page (4 * place) number old new (4 * k) puts (apart_fours k place differs);
+  pages = puts.pages;
   others = puts.others;
 }
 sets_entry (Err e) page place number old new puts = tt

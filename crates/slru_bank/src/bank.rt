@@ -6,7 +6,7 @@ ghost use Rattle.disk_core.specs.Faults.{CountsFault, HasRisen};
 ghost use Rattle.disk_core.specs.Images.{Only};
 ghost use Rattle.disk_core.specs.Pages.{Pages, page_bytes, zero_page};
 ghost use Rattle.xid_order.specs.PageOrder.{is_cut, page_precedes};
-ghost use Rattle.slru_bank.specs.Bank.{buffered, map_of, Distinct, AllAgree, FirstHolds, PutsPage, OthersStay, masked, placed, IsPage, Distinct-prop, AllAgree-prop};
+ghost use Rattle.slru_bank.specs.Bank.{buffered, map_of, Distinct, AllAgree, FirstHolds, PutsPage, OthersStay, masked, placed, IsPage, StaysAPage, Distinct-prop, AllAgree-prop};
 ghost use Rattle.slru_bank.specs.Crash.{SameMap, CrashLeaves, IsMixture, IsMixtureOrGone};
 ghost use Rattle.slru_bank.specs.Removal.{removes, later_cutoff, MayDrop, Drops, ClearsAfter, AllAbsent};
 ghost use Rattle.slru_bank.specs.declared.refusal.BankRefusal.TheVariants.{Cut, DiskFault};
@@ -93,7 +93,7 @@ impl<P: PageDisk, O: PageRule> SlruBank<P, O> {
         ensures ok { IsTrue P.tells → OnOk result (PutsPage page
             (slice_set (pages_of self.old page) at (masked (slice_index (pages_of self.old page) at) mask bits))
             (pages_of self.old) (pages_of self.new)) }
-        ensures page { IsTrue P.tells → OnOk result (IsPage (pages_of self.old page)) }
+        ensures page { IsTrue P.tells → OnOk result (StaysAPage page (pages_of self.old) (pages_of self.new)) }
         ensures err { IsTrue P.tells → OnErr result (SamePages self.old self.new) }
         ensures bank { CallsBank page self.old self.new result }
     {
@@ -107,7 +107,7 @@ impl<P: PageDisk, O: PageRule> SlruBank<P, O> {
         requires { at + length from.now ≤ 8192 }
         ensures ok { IsTrue P.tells → OnOk result (PutsPage page (placed (pages_of self.old page) at from.now)
             (pages_of self.old) (pages_of self.new)) }
-        ensures page { IsTrue P.tells → OnOk result (IsPage (pages_of self.old page)) }
+        ensures page { IsTrue P.tells → OnOk result (StaysAPage page (pages_of self.old) (pages_of self.new)) }
         ensures err { IsTrue P.tells → OnErr result (SamePages self.old self.new) }
         ensures bank { CallsBank page self.old self.new result }
     {

@@ -11,9 +11,9 @@ returns-clause-ok g c told =
     let m1 = pages_of c.set.new.self in
     let m2 = pages_of c.put_number.new.bank in
     let page = c.member_page-page.ensures.page in
-    let whole = rw page at (c.in_ok-set.ensures.page told) in
+    let pages = rw page at (c.in_ok-set.ensures.page told) in
     let puts = rw (page, c.mode_position.ensures.position, c.number.ensures.number) at (c.in_ok-set.ensures.ok told) in
-    let first : SetsMode (member_page c.args.offset) (member_place c.args.offset) (mode_number c.args.mode) m m1 = record { whole = whole; puts = puts } in
+    let first : SetsMode (member_page c.args.offset) (member_place c.args.offset) (mode_number c.args.mode) m m1 = record { pages = pages; puts = puts } in
     let second = rw (page, c.id_position.ensures.position) at (c.put_number.ensures.ok told) in
     let small = rw c.number.ensures.number at c.number.ensures.small in
     sets_member_ok c.put_number.result m m1 m2 (member_page c.args.offset) (member_place c.args.offset) (mode_number c.args.mode) c.args.x.number (omega arith) small first second

@@ -1,5 +1,7 @@
-use Rattle.std.proofs.Common.{List, ℕ, ◌∙◌}
-use Rattle.slru_bank.specs.Bank.{map_of, placed, puts_after}
+use Rattle.std.proofs.Common.{List, arith, subst, ℕ, ◌∙◌}
+use Rattle.slru_bank.specs.Bank.{IsPage, map_of, placed, puts_after}
+use Rattle.slru_bank.specs.Calls.{pages_of}
+use Rattle.slru_bank.proofs.PageBytes.{put_stays}
 use Rattle.slru_bank.proofs.bank.SlruBank.put.Goals as goal
 
 pub returns-clause-ok : goal.returns-clause-ok
@@ -9,6 +11,11 @@ returns-clause-ok g c told =
     let m1 : ℕ → List ℕ = map_of (pages c.open.new.self.disk) c.open.new.self.buffers.items in
     let m2 : ℕ → List ℕ = map_of (pages c.open.new.self.disk) c.put_first.new.buffers.items in
     puts_after m m1 m2 c.args.page (λ (l : List ℕ). placed l c.args.at c.args.from.now) (c.open.ensures.same told) (c.put_first.ensures.puts (pages c.open.new.self.disk))
+
+pub returns-clause-page : goal.returns-clause-page
+returns-clause-page g c told =
+    let was = subst (λ (l : List ℕ). IsPage l) (c.open.ensures.same told c.args.page) (c.put_first.ensures.page (g.P.PageDisk.pages c.open.new.self.disk)) in
+    put_stays c.args.page c.args.at c.args.from.now (pages_of c.args.self.now) (map_of (g.P.PageDisk.pages c.open.new.self.disk) c.put_first.new.buffers.items) c.requires (λ i. omega (arith, c.type_inv.from i)) was (returns-clause-ok g c told)
 
 pub invariant_of-self : goal.invariant_of-self
 invariant_of-self g c = record {

@@ -1,5 +1,7 @@
-use Rattle.std.proofs.Common.{List, ℕ, slice_index, slice_set, ◌∙◌}
-use Rattle.slru_bank.specs.Bank.{map_of, masked, puts_after}
+use Rattle.std.proofs.Common.{List, arith, subst, ℕ, slice_index, slice_set, ◌∙◌}
+use Rattle.slru_bank.specs.Bank.{IsPage, map_of, masked, puts_after}
+use Rattle.slru_bank.specs.Calls.{pages_of}
+use Rattle.slru_bank.proofs.PageBytes.{set_stays}
 use Rattle.slru_bank.proofs.bank.SlruBank.set.Goals as goal
 
 pub returns-clause-ok : goal.returns-clause-ok
@@ -9,6 +11,11 @@ returns-clause-ok g c told =
     let m1 : ℕ → List ℕ = map_of (pages c.open.new.self.disk) c.open.new.self.buffers.items in
     let m2 : ℕ → List ℕ = map_of (pages c.open.new.self.disk) c.set_first.new.buffers.items in
     puts_after m m1 m2 c.args.page (λ (l : List ℕ). slice_set l c.args.at (masked (slice_index l c.args.at) c.args.mask c.args.bits)) (c.open.ensures.same told) (c.set_first.ensures.puts (pages c.open.new.self.disk))
+
+pub returns-clause-page : goal.returns-clause-page
+returns-clause-page g c told =
+    let was = subst (λ (l : List ℕ). IsPage l) (c.open.ensures.same told c.args.page) (c.set_first.ensures.page (g.P.PageDisk.pages c.open.new.self.disk)) in
+    set_stays c.args.page c.args.at c.args.mask c.args.bits (pages_of c.args.self.now) (map_of (g.P.PageDisk.pages c.open.new.self.disk) c.set_first.new.buffers.items) c.requires (omega (arith, c.ranges.mask.fits)) was (returns-clause-ok g c told)
 
 pub invariant_of-self : goal.invariant_of-self
 invariant_of-self g c = record {

@@ -102,11 +102,15 @@ pub appended_by : (by : By) (kind : Kind) (found : By × Rec) → appended_in by
 appended_by by (kinds.Append rec) found e = let q : (by, rec) ≡ found = same_Some _ _ e in ap (λ (z : By × Rec). z.0) q
 appended_by by _ found e = absurd cc
 
+-- a record at a place of the log was appended
+pub appended_at : (lists : List (List Entry)) (session : ℕ) (rec : Rec) (place : ℕ) (by : By) → by.session ≡ session → slice_get (records_of lists) place ≡ Some (by, rec) → IsAppended lists session rec
+appended_at lists session rec place by own stands =
+    let r = has_filter_map appended (at lists log_lock) (by, rec) (place_has (records_of lists) place (by, rec) stands) in
+    let same : r.0 ≡ record { by = by; kind = kinds.Append rec } = λ i. record { by = appended_by r.0.by r.0.kind (by, rec) r.2 i; kind = appended_is r.0.by r.0.kind (by, rec) r.2 i } in
+    (by, own, has_contains _ _ (subst (λ (e : Entry). Has (at lists log_lock) e) same r.1))
+
 pub flushed_appended : (start : Start) (lists : List (List Entry)) (session : ℕ) (rec : Rec) → IsFlushed start lists session rec → IsAppended lists session rec
-flushed_appended start lists session rec f =
-    let r = has_filter_map appended (at lists log_lock) (f.2, rec) (place_has (records_of lists) f.0 (f.2, rec) f.4) in
-    let same : r.0 ≡ record { by = f.2; kind = kinds.Append rec } = λ i. record { by = appended_by r.0.by r.0.kind (f.2, rec) r.2 i; kind = appended_is r.0.by r.0.kind (f.2, rec) r.2 i } in
-    (f.2, f.3, has_contains _ _ (subst (λ (e : Entry). Has (at lists log_lock) e) same r.1))
+flushed_appended start lists session rec f = appended_at lists session rec f.0 f.2 f.3 f.4
 
 -- a committed id is one of an appended commit record
 pub record IsOfRecord (lists : List (List Entry)) (x : ℕ) : Type 0 where

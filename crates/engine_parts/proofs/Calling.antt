@@ -24,11 +24,11 @@ use Rattle.engine_parts.specs.Calls.{IsCounted, MayRun, Ran, next_command}
 use Rattle.engine_parts.specs.Holds.{Knowledge}
 use Rattle.engine_parts.specs.Sessions.{MayCall, by_at, stance_of}
 use Rattle.engine_parts.specs.Stages.{pending_in}
-use Rattle.engine_parts.specs.Standing.{by_standing, refused_by}
+use Rattle.engine_parts.specs.Standing.{LeavesStage, by_standing, is_by_standing, refused_by}
 use Rattle.engine_parts.proofs.Acting.{acted_refused}
 use Rattle.engine_parts.proofs.Going.{ready_next}
 use Rattle.engine_parts.proofs.Pending.{pending_answer}
-use Rattle.engine_parts.proofs.Refusing.{pending_stands}
+use Rattle.engine_parts.proofs.Refusing.{is_pending, pending_stands, stands_still}
 
 module _ {H L P : Type 0} {l : logs.Ghosts L} {p : disks.Ghosts P} (hall : Hall H (Part L P l p) Entry Start) where
   -- a session that went on to its next command may call
@@ -50,17 +50,19 @@ module _ {H L P : Type 0} {l : logs.Ghosts L} {p : disks.Ghosts P} (hall : Hall 
         may = r.may;
         acted = subst (λ (z : ((Stance × Stage) × List (List Entry)) × (ℕ × ℕ)). Acted (start_of hall) (by_at z.1.0 z.1.1) z.0.0.0 (stance_of new.session) z.0.0.1 command reply z.0.1 (view new.pass).seen)
             (λ j. (((levels.stance_of (c.levels j), c.stage j), (view (c.pass j)).seen), (c.number j, counted j))) r.acted;
+        stage = subst (λ (z : Stage). LeavesStage command reply z new.session.stage) c.stage r.stage;
         count = (r.count.0 ∙ counted, r.count.1 ∙ c.number);
       }
 
   -- a command that is refused before any critical section
-  pub ran_refused : (old u : Caller L P l p) (command : Command) (r : Refusal) → IsCounted old u → MayRun hall old → by_standing (replies.Refused r) ≡ refused_by command (stance_of old.session) old.session.stage
+  pub ran_refused : (old u : Caller L P l p) (command : Command) (r : Refusal) → IsCounted old u → MayRun hall old → is_by_standing r ≡ true → by_standing (replies.Refused r) ≡ refused_by command (stance_of old.session) old.session.stage
       → MayAnswer (start_of hall) (view old.pass).seen (alone (history (view old.pass).seen) (history (view old.pass).seen)) (by_at old.number (next_command old)) (stance_of old.session) old.session.stage command (replies.Refused r)
       → Ran hall (next_command old) command (replies.Refused r) old u
-  ran_refused old u command r c m standing allowed = record {
+  ran_refused old u command r c m by standing allowed = record {
     own = own_counted old u c m.own;
     may = may_counted old u c m;
     acted = acted_refused (start_of hall) (view old.pass).seen (view u.pass).seen old.number (next_command old) (stance_of old.session) (stance_of u.session) old.session.stage command r (ap (λ p. (view p).seen) c.pass) (ap levels.stance_of c.levels) allowed standing;
+    stage = stands_still command r old.session.stage u.session.stage by c.stage;
     count = (ap (λ z. z.commands) c.levels, c.number);
   }
 
@@ -69,4 +71,4 @@ module _ {H L P : Type 0} {l : logs.Ghosts L} {p : disks.Ghosts P} (hall : Hall 
       → Ran hall (next_command old) command (replies.Refused r) old u
   ran_held old u command r c m pending refused =
       let h : List Event = history (view old.pass).seen in
-      ran_refused old u command r c m (pending_stands old.session.stage r pending ∙ sym refused) (pending_answer (start_of hall) (view old.pass) old.number old.session (alone h h) command r m.may pending)
+      ran_refused old u command r c m (is_pending old.session.stage r pending) (pending_stands old.session.stage r pending ∙ sym refused) (pending_answer (start_of hall) (view old.pass) old.number old.session (alone h h) command r m.may pending)

@@ -12,6 +12,7 @@ use Rattle.engine_parts.specs.declared.part.Part.{Part}
 use Rattle.engine_parts.specs.declared.session.Caller.{Caller}
 use Rattle.engine_parts.specs.Answers.{Acted}
 use Rattle.engine_parts.specs.Sessions.{MayCall, by_at, stance_of}
+use Rattle.engine_parts.specs.Standing.{LeavesStage}
 
 module _ {L P : Type 0} {l : logs.Ghosts L} {p : disks.Ghosts P} where
   -- the number of the session's next command
@@ -40,4 +41,5 @@ module _ {H L P : Type 0} {l : logs.Ghosts L} {p : disks.Ghosts P} where
     pub may : MayCall (start_of hall) (view new.pass) new.number new.session
     pub acted : Acted (start_of hall) (by_at old.number number) (stance_of old.session) (stance_of new.session)
         old.session.stage command reply (view old.pass).seen (view new.pass).seen
+    pub stage : LeavesStage command reply old.session.stage new.session.stage
     pub count : (new.session.levels.commands ≡ number) × (new.number ≡ old.number)

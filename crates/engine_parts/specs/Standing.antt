@@ -1,5 +1,5 @@
 -- The refusals that go by how a session stands, whatever the lists say.
-use Rattle.std.specs.Prelude.{ℕ, Bool, true, false, List, [], ◌∷◌, Option, None, is_some, is_none, length, nat_lt, nat_le, ◌==◌}
+use Rattle.std.specs.Prelude.{◌≡◌, ◌⊎◌, ℕ, Bool, true, false, IsTrue, List, [], ◌∷◌, Option, None, is_some, is_none, length, nat_lt, nat_le, ◌==◌}
 use Rattle.std.specs.Bool.{then_some}
 use Rattle.std.specs.Option.{option_or}
 use Rattle.tx_events.specs.declared.refusal.Refusal.{Refusal}
@@ -12,7 +12,7 @@ use Rattle.tx_model.specs.Replies.{most_levels}
 use Rattle.tx_model.specs.Stance.{Stance, snap_of}
 use Rattle.engine_parts.specs.declared.session.Stage.{Stage}
 use Rattle.engine_parts.specs.declared.session.Stage.TheVariants as stages
-use Rattle.engine_parts.specs.Stages.{pending_in}
+use Rattle.engine_parts.specs.Stages.{may_be_recorded, pending_in}
 
 abbrev pub first_of : List (Option Refusal) → Option Refusal
 first_of [] = None
@@ -99,3 +99,34 @@ needs_record commands.Commit = true
 needs_record (commands.Multi members) = true
 needs_record commands.Trim = true
 needs_record _ = false
+
+-- the commands that move the session's end
+abbrev pub moves_end : Command → Bool
+moves_end commands.Commit = true
+moves_end commands.Abort = true
+moves_end commands.Undo = true
+moves_end _ = false
+
+-- where the session's end stands behind a command that is done: a commit, an abort and an undo are over
+abbrev pub done_at : Command → Stage → Stage
+done_at commands.Commit stage = stages.Clear
+done_at commands.Abort stage = stages.Clear
+done_at commands.Undo stage = stages.Clear
+done_at command stage = stage
+
+-- and behind one that the lists or want of memory refused: a commit may have come on as far as its record and behind it,
+-- an abort or an undo that a fault met is begun
+abbrev pub IsLeftAt : Command → Stage → Stage → Type 0
+IsLeftAt commands.Commit old new = (new ≡ old) ⊎ IsTrue (may_be_recorded new)
+IsLeftAt commands.Abort old new = new ≡ stages.Aborting
+IsLeftAt commands.Undo old new = new ≡ stages.Undoing
+IsLeftAt command old new = new ≡ old
+
+abbrev pub IsLeftBy : Bool → Command → Stage → Stage → Type 0
+IsLeftBy true command old new = new ≡ old
+IsLeftBy false command old new = IsLeftAt command old new
+
+-- where the session's end stands behind a command that was answered so
+abbrev pub LeavesStage : Command → Reply → Stage → Stage → Type 0
+LeavesStage command (replies.Refused refusal) old new = IsLeftBy (is_by_standing refusal) command old new
+LeavesStage command reply old new = new ≡ done_at command old

@@ -35,10 +35,11 @@ use Rattle.engine_parts.specs.Calls.{IsCounted, MayRun, Ran, next_command}
 use Rattle.engine_parts.specs.Holds.{Knowledge}
 use Rattle.engine_parts.specs.Sessions.{IsFiled, MayCall, by_at, stance_of}
 use Rattle.engine_parts.specs.Stages.{IsInStage}
-use Rattle.engine_parts.specs.Standing.{by_standing, held_by, refused_by}
+use Rattle.engine_parts.specs.Standing.{by_standing, held_by, refused_by, moves_end}
 use Rattle.tx_core.specs.ProgramOrder.{IsInTurn}
 use Rattle.notes.specs.Lists.{at}
 use Rattle.engine_parts.proofs.Acting.{acted_nothing}
+use Rattle.engine_parts.proofs.Refusing.{keeps_stage}
 use Rattle.engine_parts.proofs.Calling.{may_counted, own_counted}
 use Rattle.engine_parts.proofs.Refusing.{first_fails, first_holds, not_held}
 use Rattle.xact_engine.specs.Levels.{IsDoneOrNot}
@@ -49,6 +50,12 @@ IsOnLevels commands.Begin = Unit {0}
 IsOnLevels commands.Save = Unit {0}
 IsOnLevels commands.Release = Unit {0}
 IsOnLevels command = ⊥
+
+on_levels_moves : (command : Command) → IsOnLevels command → moves_end command ≡ false
+on_levels_moves commands.Begin on = refl
+on_levels_moves commands.Save on = refl
+on_levels_moves commands.Release on = refl
+on_levels_moves command on = absurd on
 
 pub done_or_not : (base : Counters) (h : List Event) (r : RoundSpan) (by : By) (s : Stance) (command : Command) (reply : Reply) → IsOnLevels command → MayReply base [] h r by s command reply → IsDoneOrNot reply
 done_or_not base h r by s commands.Begin replies.Done l a = tt
@@ -144,5 +151,6 @@ module _ {H L P : Type 0} {l : logs.Ghosts L} {p : disks.Ghosts P} (hall : Hall 
         may = call_levels start (view u.pass) u.number u.session (record u.session { levels = t }) t refl r.count (λ st. r.stands start.base (history (view u.pass).seen) u.number u.session.levels.commands st) (may_counted hall old u c m);
         acted = acted_levels start seen (view u.pass).seen start.base old.number (next_command old) (stance_of old.session) (levels.stance_of t) old.session.stage command reply on free (ap (λ q. (view q).seen) c.pass)
             (subst (λ (z : Stance). Acts start.base by z (levels.stance_of t) command reply [] []) (ap levels.stance_of c.levels) (r.acts start.base [] by));
+        stage = keeps_stage command reply old.session.stage u.session.stage (on_levels_moves command on) c.stage;
         count = (r.count ∙ ap (λ z. z.commands) c.levels, c.number);
       }

@@ -42,5 +42,6 @@ returns g c =
       acted = acted_dropped (start_of c.args.hall.now) (view c.args.caller.now.pass) (view c.enter_proc-table.new.caller.pass) (view c.unregister.new.caller.pass) c.args.caller.now.number s (stance_of c.unregister.new.caller.session) c.args.name.now (drop_entry by c.args.name.now)
           c.requires.may.ready.at e.entered.kept e.entered.learns refl c.unregister.ensures.left c.requires.registered
           (c.unregister.ensures.stance ∙ ap (λ z. record (stance_of z) { snaps = without_snap c.args.name.now (stance_of z).snaps }) e.same.0);
+      stage = r.stage ∙ ap (λ z. z.stage) e.same.0;
       count = (r.count.0 ∙ ap (λ z. z.levels.commands) e.same.0, r.count.1 ∙ e.same.1);
     }

@@ -47,6 +47,7 @@ returns-in_default g c =
       own = c.requires.own;
       may = call_reserved (start_of c.args.hall.now) (view c.args.caller.now.pass) c.args.caller.now.number s (record s.levels { registered = c.reserve.new.self }) refl c.reserve.ensures.items c.requires.may;
       acted = acted_refused (start_of c.args.hall.now) (view c.args.caller.now.pass).seen _ c.args.caller.now.number s.levels.commands (stance_of s) _ s.stage (commands.Snap c.args.name.now) refusals.Memory refl (ap (λ z. record { levels = levels_of s.levels.level_ids.items s.levels.unnamed; snaps = map told_of z }) c.reserve.ensures.items) refl (sym (not_refused s c.args.name.now c.requires.free c.requires.room));
+      stage = refl;
       count = (refl, refl);
     }
 
@@ -66,6 +67,7 @@ returns-in-Ok-take_of g c =
           c.requires.may.ready.at e.entered.kept e.entered.learns (ap (snap_entry by) t.name_is) c.register.ensures.left c.requires.free c.requires.room
           (t.lists_are ∙ (λ j. snapshot_data (e.stands.base j).next (e.stands.events j)))
           (c.register.ensures.stance ∙ (λ j. record (stance j) { snaps = (stance j).snaps ++ (t.name_is j, t.command j) ∷ [] }));
+      stage = r.stage ∙ ap (λ z. z.stage) e.same.0;
       count = (r.count.0 ∙ ap (λ z. z.levels.commands) e.same.0, r.count.1 ∙ e.same.1);
     }
 
@@ -81,6 +83,7 @@ returns-in-Err g c =
           c.requires.may e.entered.learns (omega arith) r.left refl (ap (λ z. z.levels.open_ids.items) r.same.0 ∙ ap (λ z. z.levels.open_ids.items) e.same.0) (ap (λ z. z.stage) r.same.0 ∙ ap (λ z. z.stage) e.same.0) (r.same.1 ∙ e.same.1) r.ready;
       acted = acted_looked (start_of c.args.hall.now) (view c.args.caller.now.pass) (view c.enter_proc-table.new.caller.pass) (view c.leave_looked.new.caller.pass) c.args.caller.now.number proc_lock s (stance_of c.leave_looked.new.caller.session) s.stage (commands.Snap c.args.name.now) (replies.Refused refusals.Memory) _
           c.requires.may.ready.at e.entered.kept e.entered.learns (omega arith) refl c.leave_looked.ensures.left refl refl (sym (not_refused s c.args.name.now c.requires.free c.requires.room)) (sym stance);
+      stage = ap (λ z. z.stage) r.same.0 ∙ ap (λ z. z.stage) e.same.0;
       count = (ap (λ z. z.levels.commands) r.same.0 ∙ ap (λ z. z.levels.commands) e.same.0, r.same.1 ∙ e.same.1);
     }
 

@@ -1,5 +1,5 @@
 -- What a call did, from what it did behind the count of its command.
-use Rattle.std.proofs.Common.{◌≡◌, ℕ, List, refl, sym, ap, subst, ◌∙◌, Some}
+use Rattle.std.proofs.Common.{true, ◌≡◌, ℕ, List, refl, sym, ap, subst, ◌∙◌, Some}
 use Rattle.disk_core.specs.declared.log_disk.LogDisk as logs
 use Rattle.disk_core.specs.declared.page_disk.PageDisk as disks
 use Rattle.hall.specs.declared.hall.Hall.{Hall}

@@ -1,4 +1,4 @@
-use Rattle.std.proofs.Common.{◌≡◌, [], ap, ◌∙◌, sym, subst, ◌≤◌, Some, length, nat_le, arith, le-leb}
+use Rattle.std.proofs.Common.{refl, ◌≡◌, [], ap, ◌∙◌, sym, subst, ◌≤◌, Some, length, nat_le, arith, le-leb}
 use Rattle.std.proofs.lemmas.Bool.{lt-leb}
 use Rattle.hall.specs.Calls.{start_of}
 use Rattle.tx_events.specs.declared.refusal.Refusal.TheVariants as refusals

@@ -1,4 +1,4 @@
-use Rattle.std.proofs.Common.{◌≡◌, [], ap, ◌∙◌, sym, subst, ◌==◌, Some, length, arith, eq-eqb, ne_eqb}
+use Rattle.std.proofs.Common.{refl, ◌≡◌, [], ap, ◌∙◌, sym, subst, ◌==◌, Some, length, arith, eq-eqb, ne_eqb}
 use Rattle.std.proofs.lemmas.List.{nil_from_length}
 use Rattle.hall.specs.Calls.{start_of}
 use Rattle.tx_events.specs.declared.refusal.Refusal.TheVariants as refusals

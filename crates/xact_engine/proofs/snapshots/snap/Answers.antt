@@ -1,4 +1,4 @@
-use Rattle.std.proofs.Common.{◌≡◌, ◌≤◌, Some, None, is_some, nat_le, length, arith, sym, ap, ◌∙◌, le-leb}
+use Rattle.std.proofs.Common.{refl, ◌≡◌, ◌≤◌, Some, None, is_some, nat_le, length, arith, sym, ap, ◌∙◌, le-leb}
 use Rattle.std.proofs.lemmas.List.{length-map}
 use Rattle.tx_events.specs.declared.refusal.Refusal.TheVariants as refusals
 use Rattle.tx_model.specs.declared.command.Command.TheVariants as commands

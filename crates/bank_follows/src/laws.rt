@@ -9,9 +9,9 @@ ghost use Rattle.bank_follows.specs.Making.{StoredPagesMade};
 
 use disk_core::PageDisk;
 
-/// A bank of each store, one entry of its lock's list more (`SimpleLruReadPage`, `SimpleLruZeroPage`, `SimpleLruWriteAll`
-/// and `SimpleLruTruncate` in `src/backend/access/transam/slru.c`): of members by each member's mode byte and the bytes
-/// of its id.
+/// What a bank's calls do keeps what its map and its images stand for, one entry of its lock's list more
+/// (`SimpleLruReadPage`, `SimpleLruZeroPage`, `SimpleLruWriteAll` and `SimpleLruTruncate` in
+/// `src/backend/access/transam/slru.c`): of members by each member's mode byte and the bytes of its id.
 pub fn calls_keep()
     ensures xact { XactKeeps }
     ensures parents { ParentsKeep }

@@ -56,19 +56,28 @@ fn blanks_comments_and_line_ends_are_no_part_of_a_script(rt: HostRuntime) -> Res
     let script = parse(rt.alloc(), bytes)?;
     assert_eq!(rt; script.banks, 16);
     assert_eq!(rt; script.names.items().len(), 1);
-    let [
+    let items = script.items.items();
+    assert_eq!(rt; items.len(), 3);
+    let Some(
         Item::Run {
             session: 0,
             command: Command::Multi { members },
         },
-        Item::Crash { how: How::Torn },
+    ) = items.get(0)?
+    else {
+        return Err("another command".into());
+    };
+    let Some(Item::Crash { how: How::Torn }) = items.get(1)? else {
+        return Err("another directive".into());
+    };
+    let Some(
         Item::Run {
             session: 0,
             command: Command::Did { x },
         },
-    ] = script.items.items()
+    ) = items.get(2)?
     else {
-        return Err("other items".into());
+        return Err("another command".into());
     };
     let [first, second] = members.items() else {
         return Err("other members".into());
@@ -79,6 +88,57 @@ fn blanks_comments_and_line_ends_are_no_part_of_a_script(rt: HostRuntime) -> Res
     assert_eq!(rt; line_of(bytes, 0), 4);
     assert_eq!(rt; line_of(bytes, 1), 5);
     assert_eq!(rt; line_of(bytes, 3), 0);
+    Ok(())
+}
+
+#[test]
+fn each_command_has_its_own_name_and_number(rt: HostRuntime) -> Result<(), Fail> {
+    let bytes =
+        b"a snap first\nb see s 7\na seemulti second1 9\nb status 4294967303\na drop first\n";
+    let script = parse(rt.alloc(), bytes.as_slice())?;
+    let items = script.items.items();
+    let Some(
+        Item::Run {
+            session: 1,
+            command: Command::See { name, x },
+        },
+    ) = items.get(1)?
+    else {
+        return Err("another command".into());
+    };
+    assert_eq!(rt; (name.items(), x.number), (b"s".as_slice(), 7));
+    let Some(
+        Item::Run {
+            session: 0,
+            command: Command::SeeMulti { name, multi },
+        },
+    ) = items.get(2)?
+    else {
+        return Err("another command".into());
+    };
+    assert_eq!(rt; (name.items(), multi.number), (b"second1".as_slice(), 9));
+    let Some(
+        Item::Run {
+            session: 1,
+            command: Command::Status { x },
+        },
+    ) = items.get(3)?
+    else {
+        return Err("another command".into());
+    };
+    assert_eq!(rt; x.number(), 4_294_967_303);
+    let Some(
+        Item::Run {
+            session: 0,
+            command: Command::DropSnap { name },
+        },
+    ) = items.get(4)?
+    else {
+        return Err("another command".into());
+    };
+    assert_eq!(rt; name.items(), b"first".as_slice());
+    assert_eq!(rt; items.session_at(4), Some(0));
+    assert_eq!(rt; items.session_at(5), None);
     Ok(())
 }
 

@@ -7,6 +7,7 @@ mod WriteLemmas
 mod RoomLemmas
 mod SeenLemmas
 mod ProgressLemmas
+mod ItemLemmas
 mod RoundLemmas
 mod ToldLemmas
 mod LifeLemmas

@@ -4,6 +4,7 @@ pub mod Leaving
 pub mod May
 pub mod Tabling
 pub mod Logging
+pub mod Cutoffs
 pub mod Banking
 pub mod Setting
 pub mod SubBanking

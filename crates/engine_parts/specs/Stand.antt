@@ -19,8 +19,8 @@ use Rattle.tx_core.specs.declared.entry.Start.{Start}
 use Rattle.tx_core.specs.declared.entry.State.{State}
 use Rattle.tx_core.specs.declared.entry.State.TheVariants as states
 use Rattle.tx_core.specs.CleanStart.{CleanStart}
-use Rattle.tx_core.specs.Entries.{events_in, recs_in}
-use Rattle.tx_core.specs.Locks.{subtrans_page}
+use Rattle.tx_core.specs.Entries.{cut_in, events_in, recs_in}
+use Rattle.tx_core.specs.Locks.{subtrans_page, xact_page}
 use Rattle.tx_core.specs.Pages.{Pages, pages_after, subtrans_store, xact_store}
 use Rattle.tx_core.specs.RecordsFollow.{counters_after}
 
@@ -90,6 +90,13 @@ pub record ProcStands (start : Start) (table : Table) (es : List Entry) : Type 0
 
 -- ---- banks
 
+-- The cutoff is a stored page: that of the oldest id with which the life began, or a later one at which an entry cut the
+-- bank.
+abbrev pub IsCutoff : (ℕ → ℕ) → ℕ → Start → List Entry → ℕ → Type 0
+IsCutoff page_of pages start es cutoff =
+    (page : ℕ) × (cutoff ≡ page % pages) × (page_of start.base.oldest ≤ page)
+    × ((page ≡ page_of start.base.oldest) ⊎ ((e : Entry) × Contains es e × (cut_in e.kind ≡ Some page)))
+
 -- the ids for which the pages of a life have room
 abbrev pub IsInUse : Start → ℕ → Type 0
 IsInUse start x = IsFullId x × (start.base.oldest ≤ x) × (x < start.base.next + 2 ^ 30)
@@ -125,6 +132,7 @@ pub record XactStands (start : Start) (bank : ℕ) (tells : Bool) (faults last c
   pub inside : bank < start.banks
   pub count : faults_told es ≤ faults
   pub last_is : AreXactPagesNear start es → last ≡ last_xact_page start es % 2 ^ 17
+  pub cutoff_is : IsCutoff xact_page (2 ^ 17) start es cutoff
   pub shown : IsTrue tells → AreXactPagesNear start es
       → (before : ℕ → Option State) × CleanStart start before
       × ShowsStates start bank cutoff bytes (xact_pages start before es).shows
@@ -152,5 +160,6 @@ pub record SubtransStands (start : Start) (bank : ℕ) (tells : Bool) (faults la
   pub inside : bank < start.banks
   pub count : faults_told es ≤ faults
   pub last_is : AreSubtransPagesNear start es → last ≡ (subtrans_pages start es).last % 2 ^ 21
+  pub cutoff_is : IsCutoff subtrans_page (2 ^ 21) start es cutoff
   pub shown : IsTrue tells → AreSubtransPagesNear start es
       → ShowsParents start bank cutoff bytes (subtrans_pages start es).shows

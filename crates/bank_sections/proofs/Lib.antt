@@ -1,0 +1,10 @@
+pub mod Refusing
+pub mod Given
+pub mod Making
+pub mod Linking
+pub mod ParentSeen
+pub mod Sameness
+pub mod StateSeen
+pub mod StateSetting
+pub mod Uncut
+pub mod Visiting

@@ -1,0 +1,77 @@
+use Rattle.std.proofs.Common.{◌/◌, refl, ap, ◌∙◌}
+use Rattle.hall.specs.Calls.{view, start_of}
+use Rattle.notes.specs.Lists.{at}
+use Rattle.slru_bank.specs.Calls.{faults_of}
+use Rattle.tx_events.specs.declared.event.By.{By}
+use Rattle.tx_core.specs.declared.entry.Entry.{Entry}
+use Rattle.tx_core.specs.Entries.{appended, asks_in, event_of}
+use Rattle.tx_core.specs.Locks.{subtrans_lock, subtrans_page}
+use Rattle.tx_core.proofs.Lasting.{wanted_grows}
+use Rattle.engine_parts.specs.Sessions.{by_at}
+use Rattle.engine_parts.proofs.May.{may_make}
+use Rattle.engine_parts.specs.Faults.{fault_by}
+use Rattle.bank_sections.proofs.Making.{made_entry, subtrans_stands_made}
+use Rattle.bank_sections.proofs.Sameness.{subtrans_same}
+use Rattle.bank_sections.proofs.Visiting.{fault_met, is_subtrans_lock, made_stands, visited, visited_refused, subtrans_wanted}
+use Rattle.bank_sections.proofs.parents.make_parents.Goals as goal
+
+pub leave_quiet-requires-clause-by : goal.leave_quiet-requires-clause-by
+leave_quiet-requires-clause-by g c = ap (λ (e : Entry). e.by) c.made_note-entry.ensures ∙ c.command_of-by.ensures
+
+pub leave_quiet-requires-clause-quiet : goal.leave_quiet-requires-clause-quiet
+leave_quiet-requires-clause-quiet g c = (ap event_of c.made_note-entry.ensures, ap appended c.made_note-entry.ensures)
+
+pub leave_quiet-requires-clause-may : goal.leave_quiet-requires-clause-may
+leave_quiet-requires-clause-may g c =
+    let start = start_of c.args.hall.now in
+    let e = c.enter_subtrans-store.ensures in
+    let u = view c.enter_subtrans-store.new.caller.pass in
+    may_make start u.seen (subtrans_lock c.args.bank) (subtrans_page c.args.id) (by_at c.enter_subtrans-store.new.caller.number c.enter_subtrans-store.new.caller.session.levels.commands) c.made_note-entry.result.value (is_subtrans_lock start c.args.bank c.requires.bank.0)
+    (wanted_grows start (view c.args.caller.now.pass).seen u.seen (subtrans_lock c.args.bank) (subtrans_page c.args.id) e.entered.learns.knows.grows (subtrans_wanted start (view c.args.caller.now.pass).seen c.args.bank c.args.id c.requires.wanted))
+    (c.made_note-entry.ensures ∙ (λ j. made_entry (c.command_of-by.ensures j) (c.subtrans_page_in_full.ensures.page j))) (e.at.turns (subtrans_lock c.args.bank))
+
+pub leave_quiet-requires-clause-stands : goal.leave_quiet-requires-clause-stands
+leave_quiet-requires-clause-stands g c =
+    let r = c.in-Ok.ensures in (
+      c.args.bank,
+      refl,
+      subtrans_stands_made (start_of c.args.hall.now) c.args.bank c.enter_subtrans-store.result c.zero.new.self (at (view c.enter_subtrans-store.new.caller.pass).seen (subtrans_lock c.args.bank)) c.command_of-by.result c.args.id c.subtrans_page_in_full.result c.subtrans_page.result c.made_note-entry.result.value
+          c.requires.ready.at.base c.requires.wanted.0 c.made_note-entry.ensures c.subtrans_page_in_full.ensures.page (c.subtrans_page.ensures.page ∙ ap (λ z. z / 2048) c.low.ensures)
+          (record { last = r.last; cutoff = r.calls.cutoff; count = r.calls.count; pages = r.ok }) c.enter_subtrans-store.ensures.stands,
+    )
+
+pub leave_refused-requires-clause-lock : goal.leave_refused-requires-clause-lock
+leave_refused-requires-clause-lock g c = is_subtrans_lock (start_of c.args.hall.now) c.args.bank c.requires.bank.0
+
+pub leave_refused-requires-clause-fault : goal.leave_refused-requires-clause-fault
+leave_refused-requires-clause-fault g c = c.fault_note-fault.ensures ∙ ap (λ (b : By). fault_by b (faults_of c.zero.new.self)) c.command_of-by.ensures
+
+pub leave_refused-requires-clause-stands : goal.leave_refused-requires-clause-stands
+leave_refused-requires-clause-stands g c =
+    let r = c.in-Err.ensures in (
+      c.args.bank,
+      refl,
+      subtrans_same (start_of c.args.hall.now) c.args.bank c.enter_subtrans-store.result c.zero.new.self (at (view c.enter_subtrans-store.new.caller.pass).seen (subtrans_lock c.args.bank))
+          (record { last = r.last; cutoff = r.calls.cutoff; count = r.calls.count; pages = r.err }) c.enter_subtrans-store.ensures.stands,
+    )
+
+pub returns-in-Ok-clause-went : goal.returns-in-Ok-clause-went
+returns-in-Ok-clause-went g c =
+    visited (start_of c.args.hall.now) (view c.args.caller.now.pass) (view c.enter_subtrans-store.new.caller.pass) (view c.leave_quiet.new.caller.pass) c.args.caller.now.number (subtrans_lock c.args.bank) c.args.caller.now.session c.made_note-entry.result.value
+    c.requires.ready.at (is_subtrans_lock (start_of c.args.hall.now) c.args.bank c.requires.bank.0) c.enter_subtrans-store.ensures.entered (ap event_of c.made_note-entry.ensures) (ap asks_in c.made_note-entry.ensures) c.leave_quiet.ensures.left
+
+pub returns-in-Ok-clause-made : goal.returns-in-Ok-clause-made
+returns-in-Ok-clause-made g c =
+    made_stands (start_of c.args.hall.now) (view c.args.caller.now.pass) (view c.enter_subtrans-store.new.caller.pass) (view c.leave_quiet.new.caller.pass) c.args.caller.now.number (subtrans_lock c.args.bank) (subtrans_page c.args.id) c.args.caller.now.session c.command_of-by.result c.made_note-entry.result.value
+    c.requires.ready.at (is_subtrans_lock (start_of c.args.hall.now) c.args.bank c.requires.bank.0) c.enter_subtrans-store.ensures.entered (c.made_note-entry.ensures ∙ ap (made_entry c.command_of-by.result) c.subtrans_page_in_full.ensures.page) c.leave_quiet.ensures.left
+
+pub returns-in-Err-clause-went : goal.returns-in-Err-clause-went
+returns-in-Err-clause-went g c =
+    visited_refused (start_of c.args.hall.now) (view c.args.caller.now.pass) (view c.enter_subtrans-store.new.caller.pass) (view c.leave_refused.new.caller.pass) c.args.caller.now.number (subtrans_lock c.args.bank) c.args.caller.now.session _ _ c.in-Err.refusal
+    c.requires.ready.at (is_subtrans_lock (start_of c.args.hall.now) c.args.bank c.requires.bank.0) c.enter_subtrans-store.ensures.entered c.leave_refused.ensures.left
+
+pub returns-in-Err-clause-fault : goal.returns-in-Err-clause-fault
+returns-in-Err-clause-fault g c is =
+    let e = c.enter_subtrans-store.ensures in
+    fault_met (start_of c.args.hall.now) (view c.args.caller.now.pass) (view c.enter_subtrans-store.new.caller.pass) (view c.leave_refused.new.caller.pass) c.args.caller.now.number c.enter_subtrans-store.new.caller.number (subtrans_lock c.args.bank) c.args.caller.now.session c.enter_subtrans-store.new.caller.session _ c.in-Err.refusal
+    c.requires.ready.at (is_subtrans_lock (start_of c.args.hall.now) c.args.bank c.requires.bank.0) e.entered e.same.1 e.same.0 c.leave_refused.ensures.left cc

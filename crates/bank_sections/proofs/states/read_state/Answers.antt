@@ -1,0 +1,74 @@
+use Rattle.std.proofs.Common.{◌≡◌, ℕ, ◌/◌, ◌%◌, List, false, refl, sym, ap, subst, ◌∙◌}
+use Rattle.hall.specs.Calls.{view, start_of}
+use Rattle.notes.specs.Lists.{at}
+use Rattle.pg_xact_log.specs.States.{state_number}
+use Rattle.slru_bank.specs.Calls.{faults_of, pages_of}
+use Rattle.store_pages.specs.Layouts.{state_in, xact_page_of, xact_place_of}
+use Rattle.tx_events.specs.declared.event.By.{By}
+use Rattle.tx_core.specs.declared.entry.Entry.{Entry}
+use Rattle.tx_core.specs.Locks.{xact_lock}
+use Rattle.xid_order.specs.PageOrder.{Ids, is_cut}
+use Rattle.engine_parts.specs.Parts.{IsXactOf}
+use Rattle.engine_parts.specs.Sessions.{by_at, look_by}
+use Rattle.engine_parts.specs.Faults.{fault_by}
+use Rattle.bank_sections.proofs.Refusing.{xact_looked}
+use Rattle.bank_sections.proofs.Sameness.{xact_same}
+use Rattle.bank_sections.proofs.StateSeen.{state_seen}
+use Rattle.bank_sections.proofs.Visiting.{fault_met, is_xact_lock, list_left, not_true, visited, visited_refused}
+use Rattle.bank_sections.proofs.states.read_state.Goals as goal
+
+pub leave_looked-requires-clause-stands : goal.leave_looked-requires-clause-stands
+leave_looked-requires-clause-stands g c =
+    let start = start_of c.args.hall.now in
+    let r = c.state.ensures in
+    let es = at (view c.enter_xact-store.new.caller.pass).seen (xact_lock c.args.bank) in (
+      c.args.bank,
+      refl,
+      xact_looked start c.args.bank c.state.new.bank (by_at c.enter_xact-store.new.caller.number c.enter_xact-store.new.caller.session.levels.commands) es
+          (xact_same start c.args.bank c.enter_xact-store.result c.state.new.bank es (record { last = r.bank.last; cutoff = r.bank.calls.cutoff; count = r.bank.calls.count; pages = r.same }) c.enter_xact-store.ensures.stands),
+    )
+
+pub leave_refused-requires-clause-lock : goal.leave_refused-requires-clause-lock
+leave_refused-requires-clause-lock g c = is_xact_lock (start_of c.args.hall.now) c.args.bank c.requires.bank.0
+
+pub leave_refused-requires-clause-fault : goal.leave_refused-requires-clause-fault
+leave_refused-requires-clause-fault g c = c.fault_note-fault.ensures ∙ ap (λ (b : By). fault_by b (faults_of c.state.new.bank)) c.command_of-by.ensures
+
+pub leave_refused-requires-clause-stands : goal.leave_refused-requires-clause-stands
+leave_refused-requires-clause-stands g c =
+    let r = c.state.ensures in (
+      c.args.bank,
+      refl,
+      xact_same (start_of c.args.hall.now) c.args.bank c.enter_xact-store.result c.state.new.bank (at (view c.enter_xact-store.new.caller.pass).seen (xact_lock c.args.bank))
+          (record { last = r.bank.last; cutoff = r.bank.calls.cutoff; count = r.bank.calls.count; pages = r.same }) c.enter_xact-store.ensures.stands,
+    )
+
+pub returns-in-Ok-clause-went : goal.returns-in-Ok-clause-went
+returns-in-Ok-clause-went g c =
+    visited (start_of c.args.hall.now) (view c.args.caller.now.pass) (view c.enter_xact-store.new.caller.pass) (view c.leave_looked.new.caller.pass) c.args.caller.now.number (xact_lock c.args.bank) c.args.caller.now.session _
+    c.requires.ready.at (is_xact_lock (start_of c.args.hall.now) c.args.bank c.requires.bank.0) c.enter_xact-store.ensures.entered refl refl c.leave_looked.ensures.left
+
+pub returns-in-Ok-clause-state : goal.returns-in-Ok-clause-state
+returns-in-Ok-clause-state g c told =
+    let start = start_of c.args.hall.now in
+    let r = c.in-Ok.ensures in
+    let es = at (view c.enter_xact-store.new.caller.pass).seen (xact_lock c.args.bank) in
+    let pages = is_xact_lock start c.args.bank c.requires.bank.0 in
+    let looked = xact_looked start c.args.bank c.state.new.bank (by_at c.enter_xact-store.new.caller.number c.enter_xact-store.new.caller.session.levels.commands) es
+    (xact_same start c.args.bank c.enter_xact-store.result c.state.new.bank es (record { last = r.bank.last; cutoff = r.bank.calls.cutoff; count = r.bank.calls.count; pages = r.same }) c.enter_xact-store.ensures.stands) in
+    let left = list_left start (view c.args.caller.now.pass) (view c.enter_xact-store.new.caller.pass) (view c.leave_looked.new.caller.pass) c.args.caller.now.number (xact_lock c.args.bank) c.args.caller.now.session (look_by c.enter_xact-store.new.caller.number c.enter_xact-store.new.caller.session) c.requires.ready.at pages c.enter_xact-store.ensures.entered c.leave_looked.ensures.left in
+    state_seen start (view c.leave_looked.new.caller.pass).seen c.args.bank c.state.new.bank c.args.x c.named.result c.leave_looked.ensures.ready.at.kept
+    (subst (λ (t : List Entry). IsXactOf start c.args.bank c.state.new.bank t) (sym left) looked) c.requires.here
+    (subst (λ (z : ℕ × ℕ). is_cut Ids 32768 z.0 (z.1 / 32768) ≡ false) (λ j. (sym r.bank.calls.cutoff j, c.low.ensures j)) (not_true _ (λ t. (let f = r.bank.calls.cut t in cc)))) told
+    (c.named.ensures ∙ (subst (λ (z : ℕ). state_number c.in-Ok.found ≡ state_in (pages_of c.enter_xact-store.result (z / 32768)) (z % 32768)) c.low.ensures (r.is told) ∙ sym (ap (λ (t : List ℕ). state_in t (xact_place_of c.args.x)) (r.same told (xact_page_of c.args.x)))))
+
+pub returns-in-Err-clause-went : goal.returns-in-Err-clause-went
+returns-in-Err-clause-went g c =
+    visited_refused (start_of c.args.hall.now) (view c.args.caller.now.pass) (view c.enter_xact-store.new.caller.pass) (view c.leave_refused.new.caller.pass) c.args.caller.now.number (xact_lock c.args.bank) c.args.caller.now.session _ _ c.in-Err.refusal
+    c.requires.ready.at (is_xact_lock (start_of c.args.hall.now) c.args.bank c.requires.bank.0) c.enter_xact-store.ensures.entered c.leave_refused.ensures.left
+
+pub returns-in-Err-clause-fault : goal.returns-in-Err-clause-fault
+returns-in-Err-clause-fault g c is =
+    let e = c.enter_xact-store.ensures in
+    fault_met (start_of c.args.hall.now) (view c.args.caller.now.pass) (view c.enter_xact-store.new.caller.pass) (view c.leave_refused.new.caller.pass) c.args.caller.now.number c.enter_xact-store.new.caller.number (xact_lock c.args.bank) c.args.caller.now.session c.enter_xact-store.new.caller.session _ c.in-Err.refusal
+    c.requires.ready.at (is_xact_lock (start_of c.args.hall.now) c.args.bank c.requires.bank.0) e.entered e.same.1 e.same.0 c.leave_refused.ensures.left cc

@@ -1,0 +1,13 @@
+//! The critical sections of pg_xact and pg_subtrans: each enters the lock of a bank, does one thing and leaves the lock
+//! with one entry. See `docs/ENGINE.md`.
+#![tactic(auto)]
+
+mod entries;
+mod page_sets;
+mod parents;
+mod refused;
+mod states;
+
+pub use page_sets::set_page;
+pub use parents::{link_parent, make_parents, read_parent};
+pub use states::{make_page, read_state};

@@ -1,0 +1,99 @@
+//! States are set, of ids that share a page.
+ghost use Rattle.std.specs.Prelude.{◌≡◌, ℕ, ◌+◌, ◌*◌, ◌<◌, ◌≤◌, [], Contains, Err, OnErr, OnOk, Some, length};
+ghost use Rattle.std.specs.List.{slice_range};
+ghost use Rattle.hall.specs.Calls.{view, IsOf, start_of};
+ghost use Rattle.pg_xact_log.specs.States.{state_number};
+ghost use Rattle.slru_bank.specs.declared.refusal.BankRefusal.TheVariants.{Cut, DiskFault};
+ghost use Rattle.tx_core.specs.declared.entry.Kind.TheVariants as kinds;
+ghost use Rattle.tx_core.specs.Entries.{IsMarked};
+ghost use Rattle.tx_core.specs.Laws.{all_set};
+ghost use Rattle.tx_core.specs.Locks.{xact_lock};
+ghost use Rattle.engine_parts.specs.Answers.{MetFault};
+ghost use Rattle.engine_parts.specs.Sessions.{IsReady, by_at};
+ghost use Rattle.engine_parts.specs.Stages.{AsksNothing};
+ghost use Rattle.engine_parts.specs.Stand.{number_of_state};
+ghost use Rattle.engine_parts.specs.Steps.{GoesOn};
+ghost use Rattle.bank_sections.specs.Kept.{AreIdsNear};
+ghost use Rattle.bank_sections.specs.Sets.{AsksOnly, MaySet};
+
+use crate::entries::command_of;
+use crate::refused::leave_refused;
+use disk_core::{LogDisk, PageDisk};
+use engine_parts::{Caller, EngineLaw, Part, enter_xact, fault_note, leave_quiet};
+use hall::{Hall, Note};
+use pg_xact_log::set_states;
+use slru_bank::BankRefusal;
+use std::sync::Wait;
+use tx_core::{Entry, State};
+use tx_events::By;
+use xid_order::FullXid;
+
+/// The state as the pages name it.
+fn stored(state: State) -> pg_xact_log::State
+    ensures { state_number result ≡ number_of_state (Some state) }
+{
+    match state {
+        State::Committed => pg_xact_log::State::Committed,
+        State::Aborted => pg_xact_log::State::Aborted,
+        State::SubCommitted => pg_xact_log::State::SubCommitted,
+    }
+}
+
+fn set_note(by: By, ids: &[FullXid], state: State) -> Note<Entry>
+    ensures { result.value ≡ record { by = by; kind = kinds.Set (all_set by state ids.now) } }
+{
+    Note::by(&(by, ids, state))
+}
+
+/// Sets the state of the session's open ids from the `first` one to before the `past` one, which share a page of the
+/// bank (`TransactionIdSetPageStatus` of `clog.c`). After an error none is set. The page isn't cut, as long as the life's
+/// ids are near.
+pub fn set_page<R: Wait, L: LogDisk, P: PageDisk>(
+    rt: &R,
+    hall: &Hall<EngineLaw<L, P>>,
+    caller: &mut Caller<L, P>,
+    bank: u32,
+    first: usize,
+    past: usize,
+    state: State,
+) -> Result<(), BankRefusal>
+    requires own { IsOf hall.now caller.old.pass }
+    requires laid { hall.now.cells ≡ 3 + 4 * (start_of hall.now).banks }
+    requires bank { (bank < (start_of hall.now).banks) × ((start_of hall.now).banks ≤ 16) }
+    requires ready { IsReady (start_of hall.now) (view caller.old.pass) caller.old.number caller.old.session }
+    requires some { first < past }
+    requires among { past ≤ length caller.old.session.levels.open_ids.items }
+    requires may { MaySet (start_of hall.now) (view caller.old.pass).seen caller.old.number bank
+        (slice_range caller.old.session.levels.open_ids.items first past) state }
+    ensures own { IsOf hall.now caller.new.pass }
+    ensures ready { IsReady (start_of hall.now) (view caller.new.pass) caller.new.number caller.new.session }
+    ensures goes { GoesOn caller.old.number [] (view caller.old.pass).seen (view caller.new.pass).seen }
+    ensures asks { AsksOnly caller.old.number (slice_range caller.old.session.levels.open_ids.items first past) state
+        (view caller.old.pass).seen (view caller.new.pass).seen }
+    ensures unasked { OnErr result
+        (AsksNothing caller.old.number (view caller.old.pass).seen (view caller.new.pass).seen) }
+    ensures set { OnOk result ((id : ℕ) → Contains (slice_range caller.old.session.levels.open_ids.items first past) id
+        → IsMarked (start_of hall.now) (view caller.new.pass).seen id state) }
+    ensures fault { result ≡ Err DiskFault → MetFault (view caller.new.pass).seen (xact_lock bank)
+        (by_at caller.old.number caller.old.session.levels.commands) }
+    ensures uncut { AreIdsNear (start_of hall.now) (view caller.new.pass).seen
+        → (cutoff : ℕ) → result ≡ Err (Cut cutoff) → ⊥ }
+    ensures same { (caller.new.session ≡ caller.old.session) × (caller.new.number ≡ caller.old.number) }
+{
+    let mut store = enter_xact(rt, hall, caller, bank);
+    let lock = 3 + 4 * bank;
+    let by = command_of(caller);
+    let ids = &caller.session.levels.open_ids[first..past];
+    match set_states(&mut store, ids, stored(state)) {
+        Ok(()) => {
+            let entry = set_note(by, ids, state);
+            leave_quiet(hall, caller, lock, Part::Xact(store), entry);
+            Ok(())
+        }
+        Err(refusal) => {
+            let fault = fault_note(by, &store);
+            leave_refused(hall, caller, lock, Part::Xact(store), refusal, fault);
+            Err(refusal)
+        }
+    }
+}

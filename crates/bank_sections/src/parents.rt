@@ -1,0 +1,174 @@
+//! Pages of pg_subtrans are made, and parents are set and read.
+ghost use Rattle.std.specs.Prelude.{◌≡◌, ℕ, ◌+◌, ◌*◌, ◌^◌, ◌<◌, ◌≤◌, ◌∷◌, [], Contains, Err, IfOk, IsTrue, OnOk};
+ghost use Rattle.hall.specs.Calls.{view, IsOf, start_of};
+ghost use Rattle.slru_bank.specs.declared.refusal.BankRefusal.TheVariants.{Cut, DiskFault};
+ghost use Rattle.tx_core.specs.declared.entry.Change.TheVariants as changes;
+ghost use Rattle.tx_core.specs.declared.entry.Kind.TheVariants as kinds;
+ghost use Rattle.tx_core.specs.Entries.{IsLinked, Stands};
+ghost use Rattle.tx_core.specs.Locks.{subtrans_lock, subtrans_lock_of, subtrans_page};
+ghost use Rattle.tx_core.specs.PagesBeforeIds.{IsIdOf};
+ghost use Rattle.tx_core.specs.ParentsFollow.{IsGivenBelow};
+ghost use Rattle.engine_parts.specs.Answers.{MetFault};
+ghost use Rattle.engine_parts.specs.Sessions.{IsReady, by_at};
+ghost use Rattle.engine_parts.specs.Steps.{WentOn};
+ghost use Rattle.bank_sections.specs.Kept.{AreIdsNear};
+ghost use Rattle.bank_sections.specs.Reads.{IsNear, IsParentRead};
+
+use crate::entries::{command_of, made_note};
+use crate::refused::leave_refused;
+use disk_core::{LogDisk, PageDisk};
+use engine_parts::{
+    Caller, EngineLaw, Part, enter_subtrans, fault_note, leave_looked, leave_quiet,
+};
+use hall::{Hall, Note};
+use slru_bank::BankRefusal;
+use std::sync::Wait;
+use store_pages::{subtrans_page, subtrans_page_in_full};
+use subtrans_log::{parent as stored_parent, set_parent};
+use tx_core::Entry;
+use tx_events::By;
+use xid_order::{FullXid, Xid, near};
+
+/// Makes the page of the parent of `id`, which was given or comes next, where the bank's last made page is before it
+/// (`ExtendSUBTRANS` of `subtrans.c`).
+pub fn make_parents<R: Wait, L: LogDisk, P: PageDisk>(
+    rt: &R,
+    hall: &Hall<EngineLaw<L, P>>,
+    caller: &mut Caller<L, P>,
+    bank: u32,
+    id: FullXid,
+) -> Result<(), BankRefusal>
+    requires own { IsOf hall.now caller.old.pass }
+    requires laid { hall.now.cells ≡ 3 + 4 * (start_of hall.now).banks }
+    requires bank { (bank < (start_of hall.now).banks) × ((start_of hall.now).banks ≤ 16) }
+    requires ready { IsReady (start_of hall.now) (view caller.old.pass) caller.old.number caller.old.session }
+    requires wanted { IsIdOf (start_of hall.now) (view caller.old.pass).seen id }
+    ensures own { IsOf hall.now caller.new.pass }
+    ensures ready { IsReady (start_of hall.now) (view caller.new.pass) caller.new.number caller.new.session }
+    ensures went { WentOn caller.old.number [] (view caller.old.pass).seen (view caller.new.pass).seen }
+    ensures made { OnOk result (Stands (view caller.new.pass).seen (subtrans_lock bank) (kinds.Zero (subtrans_page id))) }
+    ensures fault { result ≡ Err DiskFault → MetFault (view caller.new.pass).seen (subtrans_lock bank)
+        (by_at caller.old.number caller.old.session.levels.commands) }
+    ensures same { (caller.new.session ≡ caller.old.session) × (caller.new.number ≡ caller.old.number) }
+{
+    let mut store = enter_subtrans(rt, hall, caller, bank);
+    let lock = 4 + 4 * bank;
+    let by = command_of(caller);
+    match store.zero(subtrans_page(id.low())) {
+        Ok(()) => {
+            let entry = made_note(by, subtrans_page_in_full(id));
+            leave_quiet(hall, caller, lock, Part::Subtrans(store), entry);
+            Ok(())
+        }
+        Err(refusal) => {
+            let fault = fault_note(by, &store);
+            leave_refused(hall, caller, lock, Part::Subtrans(store), refusal, fault);
+            Err(refusal)
+        }
+    }
+}
+
+fn linked_note(by: By, id: FullXid, parent: FullXid) -> Note<Entry>
+    ensures { result.value ≡ record { by = by; kind = kinds.Set (changes.Parent by id parent ∷ []) } }
+{
+    Note::by(&(by, id, parent))
+}
+
+/// Records the parent of `id`, which the session was given below it (`SubTransSetParent` of `subtrans.c`). The page of an
+/// open id isn't cut, as long as the life's ids are near.
+pub fn link_parent<R: Wait, L: LogDisk, P: PageDisk>(
+    rt: &R,
+    hall: &Hall<EngineLaw<L, P>>,
+    caller: &mut Caller<L, P>,
+    bank: u32,
+    id: FullXid,
+    parent: FullXid,
+) -> Result<(), BankRefusal>
+    requires own { IsOf hall.now caller.old.pass }
+    requires laid { hall.now.cells ≡ 3 + 4 * (start_of hall.now).banks }
+    requires bank { (bank < (start_of hall.now).banks) × ((start_of hall.now).banks ≤ 16) }
+    requires ready { IsReady (start_of hall.now) (view caller.old.pass) caller.old.number caller.old.session }
+    requires here { subtrans_lock_of (start_of hall.now) id ≡ subtrans_lock bank }
+    requires below { IsGivenBelow (view caller.old.pass).seen caller.old.number parent id }
+    ensures own { IsOf hall.now caller.new.pass }
+    ensures ready { IsReady (start_of hall.now) (view caller.new.pass) caller.new.number caller.new.session }
+    ensures went { WentOn caller.old.number [] (view caller.old.pass).seen (view caller.new.pass).seen }
+    ensures linked { OnOk result (IsLinked (start_of hall.now) (view caller.new.pass).seen id parent) }
+    ensures fault { result ≡ Err DiskFault → MetFault (view caller.new.pass).seen (subtrans_lock bank)
+        (by_at caller.old.number caller.old.session.levels.commands) }
+    ensures uncut { Contains caller.old.session.levels.open_ids.items id
+        → AreIdsNear (start_of hall.now) (view caller.new.pass).seen → (cutoff : ℕ) → result ≡ Err (Cut cutoff) → ⊥ }
+    ensures same { (caller.new.session ≡ caller.old.session) × (caller.new.number ≡ caller.old.number) }
+{
+    let mut store = enter_subtrans(rt, hall, caller, bank);
+    let lock = 4 + 4 * bank;
+    let by = command_of(caller);
+    match set_parent(&mut store, id.low(), parent.low()) {
+        Ok(()) => {
+            let entry = linked_note(by, id, parent);
+            leave_quiet(hall, caller, lock, Part::Subtrans(store), entry);
+            Ok(())
+        }
+        Err(refusal) => {
+            let fault = fault_note(by, &store);
+            leave_refused(hall, caller, lock, Part::Subtrans(store), refusal, fault);
+            Err(refusal)
+        }
+    }
+}
+
+/// The id that a stored parent means, near its child's.
+fn parent_near(x: FullXid, found: Option<Xid>) -> Option<FullXid>
+    requires from { 3 ≤ x }
+    requires to { x < 2 ^ 63 }
+    ensures { IsNear x found result }
+{
+    let Some(p) = found else {
+        return None;
+    };
+    if p.number < 3 {
+        return None;
+    }
+    near(x, p)
+}
+
+/// The parent of an id below 2^63 and not special, as its bank has it (`SubTransGetParent` of `subtrans.c`); None where
+/// none was set.
+pub fn read_parent<R: Wait, L: LogDisk, P: PageDisk>(
+    rt: &R,
+    hall: &Hall<EngineLaw<L, P>>,
+    caller: &mut Caller<L, P>,
+    bank: u32,
+    x: FullXid,
+) -> Result<Option<FullXid>, BankRefusal>
+    requires own { IsOf hall.now caller.old.pass }
+    requires laid { hall.now.cells ≡ 3 + 4 * (start_of hall.now).banks }
+    requires bank { (bank < (start_of hall.now).banks) × ((start_of hall.now).banks ≤ 16) }
+    requires ready { IsReady (start_of hall.now) (view caller.old.pass) caller.old.number caller.old.session }
+    requires here { subtrans_lock_of (start_of hall.now) x ≡ subtrans_lock bank }
+    requires from { 3 ≤ x }
+    requires to { x < 2 ^ 63 }
+    ensures own { IsOf hall.now caller.new.pass }
+    ensures ready { IsReady (start_of hall.now) (view caller.new.pass) caller.new.number caller.new.session }
+    ensures went { WentOn caller.old.number [] (view caller.old.pass).seen (view caller.new.pass).seen }
+    ensures parent { IsTrue P.tells
+        → IfOk result (λ parent. IsParentRead (start_of hall.now) (view caller.new.pass).seen x parent) }
+    ensures fault { result ≡ Err DiskFault → MetFault (view caller.new.pass).seen (subtrans_lock bank)
+        (by_at caller.old.number caller.old.session.levels.commands) }
+    ensures same { (caller.new.session ≡ caller.old.session) × (caller.new.number ≡ caller.old.number) }
+{
+    let mut store = enter_subtrans(rt, hall, caller, bank);
+    let lock = 4 + 4 * bank;
+    let by = command_of(caller);
+    match stored_parent(&mut store, x.low()) {
+        Ok(found) => {
+            leave_looked(hall, caller, lock, Part::Subtrans(store));
+            Ok(parent_near(x, found))
+        }
+        Err(refusal) => {
+            let fault = fault_note(by, &store);
+            leave_refused(hall, caller, lock, Part::Subtrans(store), refusal, fault);
+            Err(refusal)
+        }
+    }
+}

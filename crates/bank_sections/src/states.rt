@@ -1,0 +1,115 @@
+//! Pages of pg_xact are made, and states are read.
+ghost use Rattle.std.specs.Prelude.{◌≡◌, ℕ, ◌+◌, ◌*◌, ◌<◌, ◌≤◌, [], Err, IfOk, IsTrue, OnOk};
+ghost use Rattle.hall.specs.Calls.{view, IsOf, start_of};
+ghost use Rattle.pg_xact_log.specs.States.{state_number};
+ghost use Rattle.slru_bank.specs.declared.refusal.BankRefusal.TheVariants.{DiskFault};
+ghost use Rattle.tx_core.specs.declared.entry.Kind.TheVariants as kinds;
+ghost use Rattle.tx_core.specs.Entries.{Stands};
+ghost use Rattle.tx_core.specs.Locks.{xact_lock, xact_lock_of, xact_page};
+ghost use Rattle.tx_core.specs.PagesBeforeIds.{IsIdOf};
+ghost use Rattle.engine_parts.specs.Answers.{MetFault};
+ghost use Rattle.engine_parts.specs.Sessions.{IsReady, by_at};
+ghost use Rattle.engine_parts.specs.Stand.{number_of_state};
+ghost use Rattle.engine_parts.specs.Steps.{WentOn};
+ghost use Rattle.bank_sections.specs.Reads.{IsStateRead};
+
+use crate::entries::{command_of, made_note};
+use crate::refused::leave_refused;
+use disk_core::{LogDisk, PageDisk};
+use engine_parts::{Caller, EngineLaw, Part, enter_xact, fault_note, leave_looked, leave_quiet};
+use hall::Hall;
+use pg_xact_log::state;
+use slru_bank::BankRefusal;
+use std::sync::Wait;
+use store_pages::{xact_page, xact_page_in_full};
+use tx_core::State;
+use xid_order::FullXid;
+
+/// Makes the page of the state of `id`, which was given or comes next, where the bank's last made page is before it
+/// (`ExtendCLOG` of `clog.c`).
+pub fn make_page<R: Wait, L: LogDisk, P: PageDisk>(
+    rt: &R,
+    hall: &Hall<EngineLaw<L, P>>,
+    caller: &mut Caller<L, P>,
+    bank: u32,
+    id: FullXid,
+) -> Result<(), BankRefusal>
+    requires own { IsOf hall.now caller.old.pass }
+    requires laid { hall.now.cells ≡ 3 + 4 * (start_of hall.now).banks }
+    requires bank { (bank < (start_of hall.now).banks) × ((start_of hall.now).banks ≤ 16) }
+    requires ready { IsReady (start_of hall.now) (view caller.old.pass) caller.old.number caller.old.session }
+    requires wanted { IsIdOf (start_of hall.now) (view caller.old.pass).seen id }
+    ensures own { IsOf hall.now caller.new.pass }
+    ensures ready { IsReady (start_of hall.now) (view caller.new.pass) caller.new.number caller.new.session }
+    ensures went { WentOn caller.old.number [] (view caller.old.pass).seen (view caller.new.pass).seen }
+    ensures made { OnOk result (Stands (view caller.new.pass).seen (xact_lock bank) (kinds.Zero (xact_page id))) }
+    ensures fault { result ≡ Err DiskFault → MetFault (view caller.new.pass).seen (xact_lock bank)
+        (by_at caller.old.number caller.old.session.levels.commands) }
+    ensures same { (caller.new.session ≡ caller.old.session) × (caller.new.number ≡ caller.old.number) }
+{
+    let mut store = enter_xact(rt, hall, caller, bank);
+    let lock = 3 + 4 * bank;
+    let by = command_of(caller);
+    match store.zero(xact_page(id.low())) {
+        Ok(()) => {
+            let entry = made_note(by, xact_page_in_full(id));
+            leave_quiet(hall, caller, lock, Part::Xact(store), entry);
+            Ok(())
+        }
+        Err(refusal) => {
+            let fault = fault_note(by, &store);
+            leave_refused(hall, caller, lock, Part::Xact(store), refusal, fault);
+            Err(refusal)
+        }
+    }
+}
+
+/// The state as the entries name it.
+fn named(state: pg_xact_log::State) -> Option<State>
+    ensures { number_of_state result ≡ state_number state }
+{
+    match state {
+        pg_xact_log::State::InProgress => None,
+        pg_xact_log::State::Committed => Some(State::Committed),
+        pg_xact_log::State::Aborted => Some(State::Aborted),
+        pg_xact_log::State::SubCommitted => Some(State::SubCommitted),
+    }
+}
+
+/// The state of an id, as its bank has it (`TransactionIdGetStatus` of `clog.c`); None where none was set.
+pub fn read_state<R: Wait, L: LogDisk, P: PageDisk>(
+    rt: &R,
+    hall: &Hall<EngineLaw<L, P>>,
+    caller: &mut Caller<L, P>,
+    bank: u32,
+    x: FullXid,
+) -> Result<Option<State>, BankRefusal>
+    requires own { IsOf hall.now caller.old.pass }
+    requires laid { hall.now.cells ≡ 3 + 4 * (start_of hall.now).banks }
+    requires bank { (bank < (start_of hall.now).banks) × ((start_of hall.now).banks ≤ 16) }
+    requires ready { IsReady (start_of hall.now) (view caller.old.pass) caller.old.number caller.old.session }
+    requires here { xact_lock_of (start_of hall.now) x ≡ xact_lock bank }
+    ensures own { IsOf hall.now caller.new.pass }
+    ensures ready { IsReady (start_of hall.now) (view caller.new.pass) caller.new.number caller.new.session }
+    ensures went { WentOn caller.old.number [] (view caller.old.pass).seen (view caller.new.pass).seen }
+    ensures state { IsTrue P.tells
+        → IfOk result (λ state. IsStateRead (start_of hall.now) (view caller.new.pass).seen x state) }
+    ensures fault { result ≡ Err DiskFault → MetFault (view caller.new.pass).seen (xact_lock bank)
+        (by_at caller.old.number caller.old.session.levels.commands) }
+    ensures same { (caller.new.session ≡ caller.old.session) × (caller.new.number ≡ caller.old.number) }
+{
+    let mut store = enter_xact(rt, hall, caller, bank);
+    let lock = 3 + 4 * bank;
+    let by = command_of(caller);
+    match state(&mut store, x.low()) {
+        Ok(found) => {
+            leave_looked(hall, caller, lock, Part::Xact(store));
+            Ok(named(found))
+        }
+        Err(refusal) => {
+            let fault = fault_note(by, &store);
+            leave_refused(hall, caller, lock, Part::Xact(store), refusal, fault);
+            Err(refusal)
+        }
+    }
+}

@@ -9,6 +9,7 @@ pub mod CutLemmas
 pub mod WholeLemmas
 pub mod Again
 pub mod Ranges
+pub mod PackedLemmas
 pub mod PlainLines
 pub mod PlainItems
 pub mod PlainHeader

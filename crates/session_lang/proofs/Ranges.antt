@@ -170,6 +170,9 @@ command_within : (ws : List (List ℕ)) → IfOk (command_at ws) IsInRange
 command_within [] = tt
 command_within (w ∷ ws) = any_within w ws
 
+pub command_in_range : (ws : List (List ℕ)) (c : Command) → command_at ws ≡ Ok c → IsInRange c
+command_in_range ws c e = subst (λ r. IfOk r IsInRange) e (command_within ws)
+
 -- ---- directives
 
 log_dump_within : (ws : List (List ℕ)) → IfOk (log_dump_in ws) IsDirective

@@ -19,3 +19,4 @@ pub mod Places
 pub mod Answers
 pub mod Reading
 pub mod Plain
+pub mod Packed

@@ -2,15 +2,18 @@
 //! `report_text`.
 #![tactic(auto)]
 
+mod items;
 pub mod laws;
 mod lines;
+mod packed;
 mod parser;
 mod script;
 #[cfg(test)]
 mod tests;
 
+pub use items::{ItemList, Items};
 pub use lines::line_of;
 pub use parser::parse;
 pub use report_text::print_report;
-pub use script::{Item, ItemList, ParseRefusal, Script};
+pub use script::{Item, ParseRefusal, Script};
 pub use script_lines::Kind;

@@ -1,6 +1,7 @@
 //! A script: its sessions, its header and its lines.
+use crate::items::ItemList;
 use script_lines::Kind;
-use tx_model::{Command, Copied, Counters, DumpOf, How, Memory, NameList, Sequence};
+use tx_model::{Command, Copied, Counters, DumpOf, How, Memory, NameList};
 
 /// A line of a script that isn't of its header.
 #[derive(Clone, Drop)]
@@ -17,21 +18,15 @@ pub enum Item {
     Dump { what: DumpOf, at: u64, length: u32 },
 }
 
-// A script may have millions of them.
-const _: () = prove!(size_of::<Item>() == 32);
-
 impl Copied for Item {
     fn copy(&self) -> Result<Self, Memory> {
         Ok(self.clone()?)
     }
 }
 
-/// The lines of a script, in order.
-pub type ItemList = Sequence<Item>;
-
 /// A script: the counters and the number of banks that its header gives, the sessions' names in the order in which
 /// they appear, and its lines.
-#[derive(Clone, Drop)]
+#[derive(Drop)]
 pub struct Script {
     pub base: Counters,
     pub banks: u32,

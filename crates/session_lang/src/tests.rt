@@ -56,19 +56,28 @@ fn blanks_comments_and_line_ends_are_no_part_of_a_script(rt: HostRuntime) -> Res
     let script = parse(rt.alloc(), bytes)?;
     assert_eq!(rt; script.banks, 16);
     assert_eq!(rt; script.names.items().len(), 1);
-    let [
+    let items = script.items.items();
+    assert_eq!(rt; items.len(), 3);
+    let Some(
         Item::Run {
             session: 0,
             command: Command::Multi { members },
         },
-        Item::Crash { how: How::Torn },
+    ) = items.get(0)?
+    else {
+        return Err("another command".into());
+    };
+    let Some(Item::Crash { how: How::Torn }) = items.get(1)? else {
+        return Err("another directive".into());
+    };
+    let Some(
         Item::Run {
             session: 0,
             command: Command::Did { x },
         },
-    ] = script.items.items()
+    ) = items.get(2)?
     else {
-        return Err("other items".into());
+        return Err("another command".into());
     };
     let [first, second] = members.items() else {
         return Err("other members".into());

@@ -15,6 +15,7 @@ mod RoomLemmas
 mod SeenLemmas
 pub mod Beside
 mod ProgressLemmas
+mod ItemLemmas
 mod RoundLemmas
 mod ToldLemmas
 mod LifeLemmas

@@ -1,11 +1,10 @@
 //! Which commands of a round are whose.
 ghost use Rattle.std.specs.Prelude.{◌≡◌, ◌==◌, ℕ, ◌<◌, List, [], ◌∷◌, ◌++◌, cond, IfOk, OnOk, set, get_or, length};
 ghost use Rattle.std.specs.List.{All};
-ghost use Rattle.session_lang.specs.Rounds.{session_of};
 ghost use Rattle.session_run.specs.Plans.{IsBlank, IsListed, IsPlanOf};
 ghost use Rattle.session_run.specs.Turns.{MayRun};
 
-use session_lang::Item;
+use session_lang::Items;
 use std::alloc::Global;
 use tx_model::{Memory, Sequence};
 
@@ -16,16 +15,6 @@ pub struct Plan {
     pub sessions: Vec<u32>,
     /// The places of each session's commands, by the session's number.
     pub places: Vec<Sequence<usize>>,
-}
-
-/// The session of a command.
-fn session_of(item: &Item) -> Option<u32>
-    ensures { result ≡ session_of item.now }
-{
-    match item {
-        Item::Run { session, .. } => Some(*session),
-        _ => None,
-    }
 }
 
 /// No places, for so many sessions.
@@ -69,14 +58,14 @@ impl Plan {
     }
 
     /// Notes whose the commands of the round are.
-    pub fn fill(&mut self, round: &[Item]) -> Result<(), Memory>
+    pub fn fill(&mut self, round: &Items) -> Result<(), Memory>
         requires blank { IsBlank self.old }
         requires items { All (MayRun (length self.old.places.items)) round.now }
         ensures plan { OnOk result (IsPlanOf round.now round.now self.new) }
         ensures count { OnOk result (length self.new.places.items ≡ length self.old.places.items) }
     {
-        for (place, item) in round.iter().enumerate() {
-            if let Some(session) = session_of(item) {
+        for place in 0..round.len() {
+            if let Some(session) = round.session_at(place) {
                 self.add(session, place)?;
             }
         }

@@ -19,7 +19,7 @@ use crate::plan::Plan;
 use crate::session::{Session, run_command};
 use crate::shared::Shared;
 use report_text::{Text, put_command_line, put_round_line};
-use session_lang::Item;
+use session_lang::{Item, Items};
 use std::alloc::Global;
 use tx_model::{By, Command, Memory, NameList, Reply};
 
@@ -52,44 +52,39 @@ fn next_reply(
 }
 
 /// The command, where it is of this session.
-fn command_of(number: u32, item: &Item) -> Option<&Command>
-    ensures some { IfSome result (λ command. item.now ≡ items.Run number command.now) }
-    ensures none { IfNone result (turns_of number (turns_in (item.now ∷ [])) ≡ []) }
+fn command_of(number: u32, item: Item) -> Option<Command>
+    ensures some { IfSome result (λ command. item ≡ items.Run number command) }
+    ensures none { IfNone result (turns_of number (turns_in (item ∷ [])) ≡ []) }
 {
     match item {
-        Item::Run { session, command } if *session == number => Some(command),
+        Item::Run { session, command } if session == number => Some(command),
         _ => None,
     }
 }
 
 /// The session's command at this place of the round.
-fn command_at(number: u32, round: &[Item], place: usize) -> Option<&Command>
-    ensures some { IfSome result (λ command.
-        slice_get round.now place ≡ Some (items.Run number command.now)) }
-    ensures none { IfNone result (turns_at number round.now (place ∷ []) ≡ []) }
+fn command_at(number: u32, round: &Items, place: usize) -> Result<Option<Command>, Memory>
+    ensures some { IfOk result (λ found. IfSome found (λ command.
+        slice_get round.now place ≡ Some (items.Run number command))) }
+    ensures none { IfOk result (λ found. IfNone found (turns_at number round.now (place ∷ []) ≡ [])) }
 {
-    match round.get(place) {
-        Some(item) => command_of(number, item),
-        None => None,
+    match round.get(place)? {
+        Some(item) => Ok(command_of(number, item)),
+        None => Ok(None),
     }
-}
-
-fn is_command(item: &Item) -> bool
-    ensures { result ≡ is_command item.now }
-{
-    matches!(item, Item::Run { .. })
 }
 
 /// The commands up to the end of the round, and what stands behind that.
-fn next_round(items: &[Item]) -> (&[Item], &[Item])
-    ensures { IsFirstRound items.now result.0.now result.1.now }
+fn next_round<'a>(items: &Items<'a>) -> (Items<'a>, Items<'a>)
+    ensures { IsFirstRound items.now result.0 result.1 }
 {
-    for i in 0..items.len() {
-        if !is_command(&items[i]) {
-            return (&items[..i], &items[i + 1..]);
+    let count = items.len();
+    for i in 0..count {
+        if items.session_at(i).is_none() {
+            return (items.front(i), items.behind(i + 1));
         }
     }
-    (items, &[])
+    (items.front(count), items.behind(count))
 }
 
 /// Prints the line that begins a round of these sessions, where there are any, and counts it.
@@ -138,7 +133,7 @@ impl OpenLife {
         names: &NameList,
         number: u32,
         places: &[usize],
-        round: &[Item],
+        round: &Items,
     ) -> Result<(), Memory>
         requires goes_on { GoesOn self.old }
         requires items { All (MayRun (length self.old.sessions.items)) round.now }
@@ -152,8 +147,8 @@ impl OpenLife {
         ensures tells { OnOk result (Tells names.now self.old self.new) }
     {
         for place in places {
-            if let Some(command) = command_at(number, round, *place) {
-                self.run_turn(alloc, names, number, command)?;
+            if let Some(command) = command_at(number, round, *place)? {
+                self.run_turn(alloc, names, number, &command)?;
             }
         }
         Ok(())
@@ -165,7 +160,7 @@ impl OpenLife {
         alloc: Global,
         names: &NameList,
         plan: &Plan,
-        round: &[Item],
+        round: &Items,
     ) -> Result<(), Memory>
         requires goes_on { GoesOn self.old }
         requires items { All (MayRun (length self.old.sessions.items)) round.now }
@@ -194,7 +189,7 @@ impl OpenLife {
         alloc: Global,
         names: &NameList,
         plan: &mut Plan,
-        round: &[Item],
+        round: &Items,
     ) -> Result<(), Memory>
         requires goes_on { GoesOn self.old }
         requires begins { self.old.lines ≡ [] }
@@ -226,16 +221,16 @@ impl OpenLife {
         &mut self,
         alloc: Global,
         names: &NameList,
-        script: &[Item],
+        script: Items,
     ) -> Result<(), Memory>
         requires goes_on { GoesOn self.old }
         requires begins { (self.old.steps ≡ []) × (self.old.lines ≡ []) }
         requires told { IsTold names.now self.old }
-        requires items { All (MayRun (length self.old.sessions.items)) script.now }
-        requires room { length script.now ≤ 2 ^ 24 }
+        requires items { All (MayRun (length self.old.sessions.items)) script }
+        requires room { length script ≤ 2 ^ 24 }
         ensures goes_on { OnOk result (GoesOn self.new) }
         ensures ended { OnOk result (self.new.lines ≡ []) }
-        ensures rounds { OnOk result (AreRounds 1 (rounds_of script.now) self.new.steps) }
+        ensures rounds { OnOk result (AreRounds 1 (rounds_of script.entry) self.new.steps) }
         ensures in_turn { OnOk result (AreInTurn self.new.shared.table.events self.new.steps) }
         ensures on { OnOk result (Continues self.old self.new) }
         ensures told { OnOk result (IsTold names.now self.new) }
@@ -243,8 +238,8 @@ impl OpenLife {
         let mut plan = Plan::new(alloc, self.sessions.len())?;
         let mut rest = script;
         while !rest.is_empty() {
-            let (round, behind) = next_round(rest);
-            self.run_round(alloc, names, &mut plan, round)?;
+            let (round, behind) = next_round(&rest);
+            self.run_round(alloc, names, &mut plan, &round)?;
             rest = behind;
         }
         Ok(())

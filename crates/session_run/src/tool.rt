@@ -76,8 +76,12 @@ fn answer(alloc: Global, bytes: &[u8]) -> Ending
         Err(ParseRefusal::Fault { line, kind }) => return refused(alloc, line, kind),
         Err(ParseRefusal::Memory) => return Ending::Memory,
     };
-    let place = first_other(script.items.items());
-    if place < script.items.items().len() {
+    let items = script.items.items();
+    let place = match first_other(&items) {
+        Ok(place) => place,
+        Err(Memory) => return Ending::Memory,
+    };
+    if place < items.len() {
         return refused(alloc, line_of(bytes, place), Kind::Command);
     }
     match run_script(alloc, &script) {

@@ -6,11 +6,13 @@ ghost use Rattle.script_lines.specs.LineWords.{is_plain, words_in};
 ghost use Rattle.tx_events.specs.Names.{is_name};
 ghost use Rattle.session_lang.specs.Reading.{HasRead, IsNew};
 ghost use Rattle.session_lang.specs.Answers.{ReadsAs};
+ghost use Rattle.session_lang.specs.Plain.{IsInRange};
 ghost use Rattle.script_lines.specs.declared.kind.Kind.{Kind};
 ghost use Rattle.session_lang.specs.declared.parser.reading.Front.{Front};
-ghost use Rattle.session_lang.specs.Script.{at_line, place_of, with_turn, command_line, item_of, with_directive, is_dot, words_line, body_line, header_words, header_line, is_header_line, end_header, is_passed, read_line, no_front};
+ghost use Rattle.session_lang.specs.Script.{at_line, place_of, with_turn, command_line, with_directive, is_dot, words_line, body_line, header_words, header_line, is_header_line, end_header, is_passed, read_line, no_front};
 
-use crate::script::{Item, ItemList, ParseRefusal};
+use crate::items::ItemList;
+use crate::script::ParseRefusal;
 use script_lines::{
     Directive, Header, Kind, Stop, command_at, directive_at, is_header_word, is_plain, next_word,
 };
@@ -84,17 +86,6 @@ fn find_near(names: &[Name], last: usize, name: &[u8]) -> Option<usize>
     find(names, name)
 }
 
-fn item_of(directive: Directive) -> Item
-    ensures { result ≡ item_of directive }
-{
-    match directive {
-        Directive::Round => Item::Round,
-        Directive::Checkpoint => Item::Checkpoint,
-        Directive::Crash { how } => Item::Crash { how },
-        Directive::Dump { what, at, length } => Item::Dump { what, at, length },
-    }
-}
-
 /// Whether a line has no words, or is a comment without a fault.
 fn is_passed(plain: bool, line: &[u8]) -> bool
     ensures { result ≡ (plain && is_passed (words_in line.now)) }
@@ -158,6 +149,7 @@ impl Reading {
     fn add_old(&mut self, session: usize, name: &[u8], command: Command) -> Result<(), Stop>
         requires so_far { HasRead self.old.front.names self.old.commands.items self.old.front.items }
         requires known { session < length self.old.front.names }
+        requires ranges { IsInRange command }
         ensures adds { Gives (λ _. self.new.front) result (with_turn self.old.front session name.now command) }
         ensures few { OnOk result (length self.new.front.items ≡ length self.old.front.items + 1) }
         ensures so_far { OnOk result (HasRead self.new.front.names self.new.commands.items self.new.front.items) }
@@ -167,8 +159,7 @@ impl Reading {
             return Err(Stop::Fault(Kind::Limit));
         }
         self.commands[session] = count + 1;
-        let session = session as u32;
-        match self.front.items.push(Item::Run { session, command }) {
+        match self.front.items.push_command(session as u8, command) {
             Ok(()) => Ok(()),
             Err(Memory) => Err(Stop::Memory),
         }
@@ -180,6 +171,7 @@ impl Reading {
         requires named { is_name name.now ≡ true }
         requires short { length name.now ≤ 16 }
         requires fresh { IsNew self.old.front.names name.now }
+        requires ranges { IsInRange command }
         ensures adds { Gives (λ _. self.new.front) result (with_turn self.old.front (length self.old.front.names) name.now command) }
         ensures few { OnOk result (length self.new.front.items ≡ length self.old.front.items + 1) }
         ensures so_far { OnOk result (HasRead self.new.front.names self.new.commands.items self.new.front.items) }
@@ -194,8 +186,7 @@ impl Reading {
         let Ok(()) = self.commands.push(1) else {
             return Err(Stop::Memory);
         };
-        let session = session as u32;
-        match self.front.items.push(Item::Run { session, command }) {
+        match self.front.items.push_command(session as u8, command) {
             Ok(()) => Ok(()),
             Err(Memory) => Err(Stop::Memory),
         }
@@ -206,6 +197,7 @@ impl Reading {
         requires so_far { HasRead self.old.front.names self.old.commands.items self.old.front.items }
         requires named { is_name name.now ≡ true }
         requires short { length name.now ≤ 16 }
+        requires ranges { IsInRange command }
         ensures adds { Gives (λ _. self.new.front) result (with_turn self.old.front (place_of self.old.front.names name.now) name.now command) }
         ensures few { OnOk result (length self.new.front.items ≡ length self.old.front.items + 1) }
         ensures so_far { OnOk result (HasRead self.new.front.names self.new.commands.items self.new.front.items) }
@@ -227,7 +219,7 @@ impl Reading {
         ensures so_far { OnOk result (HasRead self.new.front.names self.new.commands.items self.new.front.items) }
     {
         self.commands.fill(0);
-        self.front.items.push(item_of(directive))
+        self.front.items.push_directive(directive)
     }
 
     /// Adds a line of commands.

@@ -25,29 +25,29 @@ loop-rest-init c = record {
 pub run_round-requires-clause-items : goal.run_round-requires-clause-items
 run_round-requires-clause-items c =
     let i = c.loop-rest.invariant in
-    (all_parts (MayRun (length c.loop-rest.self.sessions.items)) c.loop-rest.rest.now c.next_round.result.0.now c.next_round.result.1.now c.next_round.ensures i.items).0
+    (all_parts (MayRun (length c.loop-rest.self.sessions.items)) c.loop-rest.rest c.next_round-round.result.0 c.next_round-round.result.1 c.next_round-round.ensures i.items).0
 
 pub run_round-requires-clause-room : goal.run_round-requires-clause-room
 run_round-requires-clause-room c =
     let i = c.loop-rest.invariant in
-    let l = parts_length c.loop-rest.rest.now c.next_round.result.0.now c.next_round.result.1.now c.next_round.ensures in
+    let l = parts_length c.loop-rest.rest c.next_round-round.result.0 c.next_round-round.result.1 c.next_round-round.ensures in
     omega (arith, i.room, l)
 
 pub loop-rest-preserved : goal.loop-rest-preserved
 loop-rest-preserved c =
     let i = c.loop-rest.invariant in
     let e = c.in_ok-run_round.ensures in
-    let rest = c.loop-rest.rest.now in
-    let round = c.next_round.result.0.now in
-    let behind = c.next_round.result.1.now in
-    let f = c.next_round.ensures in
+    let rest = c.loop-rest.rest in
+    let round = c.next_round-round.result.0 in
+    let behind = c.next_round-round.result.1 in
+    let f = c.next_round-round.ensures in
     record {
       goes_on = e.goes_on;
       ended = e.ended;
       done = i.done ++ round_of (turns_in round);
       told = told_on i.done c.loop-rest.self.steps c.run_round.new.self.steps (turns_in round) i.told e.step;
       printed = e.told;
-      rounds = rounds_on c.args.script.now rest round behind i.done i.rounds f;
+      rounds = rounds_on c.args.script rest round behind i.done i.rounds f;
       items = subst (λ n. All (MayRun n) behind) (sym e.on.sessions) (all_parts (MayRun (length c.loop-rest.self.sessions.items)) rest round behind f i.items).1;
       room = omega (arith, i.room, e.room, parts_length rest round behind f);
       in_turn = in_turn_on c.loop-rest.self c.run_round.new.self (turns_in round) i.ended e.ended e.step i.in_turn e.goes_on e.on;

@@ -15,7 +15,7 @@ invariant-loop-rest l = record {
   done : List (List (ℕ × Command));
   told : AreRounds 1 done l.self.steps;
   printed : IsTold l.names l.self;
-  rounds : rounds_of l.script ≡ done ++ rounds_of l.rest;
+  rounds : rounds_of l.fn.script ≡ done ++ rounds_of l.rest;
   items : All (MayRun (length l.self.sessions.items)) l.rest;
   room : length (lines_of l.self) + length l.rest ≤ 2 ^ 24;
   in_turn : AreInTurn l.self.shared.table.events l.self.steps;

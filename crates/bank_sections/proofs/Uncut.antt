@@ -33,7 +33,7 @@ use Rattle.store_pages.specs.Layouts.{word_page_of, xact_page_of}
 use Rattle.engine_parts.specs.declared.session.Session.{Session}
 use Rattle.engine_parts.specs.Holds.{Knowledge, Leaves}
 use Rattle.engine_parts.specs.Sessions.{IsAt}
-use Rattle.engine_parts.specs.Stand.{IsCutoff}
+use Rattle.engine_parts.specs.Stand.{IsCutoff, first_subtrans_page, first_xact_page}
 use Rattle.engine_parts.proofs.Leaving.{history_same}
 use Rattle.bank_sections.specs.Kept.{AreIdsNear}
 use Rattle.bank_sections.proofs.Given.{given_full}
@@ -49,7 +49,7 @@ open_near start lists n x base k opened = record {
   to = open_below start.base (history lists) n x k.events.legal opened;
 }
 
--- a page from that of the base's oldest id to that of x is that of an id from the oldest one to x
+-- a page from that of an id to that of x is that of an id between them
 record IsIdOn (per_page page oldest x : ℕ) : Type 0 where
   id : ℕ
   on : id / per_page ≡ page
@@ -74,7 +74,7 @@ subtrans_on page oldest x low high le = ⊎_elim
     either : (a b : ℕ) → a ≤ b → (a ≡ b) ⊎ (a < b)
     either a b le = grind arith
 
-pub state_uncut : (start : Start) (lists : List (List Entry)) (n bank x cutoff : ℕ) → IsBase start.base → EngineInvariant start lists → IsCutoff xact_page (2 ^ 17) start (at lists (xact_lock bank)) cutoff → Contains (open_ids n (history lists)) x → AreIdsNear start lists → is_cut Ids 32768 cutoff (xact_page_of x) ≡ false
+pub state_uncut : (start : Start) (lists : List (List Entry)) (n bank x cutoff : ℕ) → IsBase start.base → EngineInvariant start lists → IsCutoff (first_xact_page start) (2 ^ 17) (at lists (xact_lock bank)) cutoff → Contains (open_ids n (history lists)) x → AreIdsNear start lists → is_cut Ids 32768 cutoff (xact_page_of x) ≡ false
 state_uncut start lists n bank x cutoff base k c opened near =
     let o = open_near start lists n x base k opened in
     let from = o.from in
@@ -103,15 +103,21 @@ open_past start lists n x k opened =
 before_upto : (n : ℕ) → id_before n ≤ n
 before_upto n = grind arith
 
-pub parent_uncut : (start : Start) (lists : List (List Entry)) (n bank x cutoff : ℕ) → IsBase start.base → EngineInvariant start lists → IsCutoff subtrans_page (2 ^ 21) start (at lists (subtrans_lock bank)) cutoff → Contains (open_ids n (history lists)) x → AreIdsNear start lists → is_cut Ids 2048 cutoff (word_page_of x) ≡ false
+before_near : (n : ℕ) → n ≤ id_before n + 4
+before_near n = grind arith
+
+pub parent_uncut : (start : Start) (lists : List (List Entry)) (n bank x cutoff : ℕ) → IsBase start.base → EngineInvariant start lists → IsCutoff (first_subtrans_page start) (2 ^ 21) (at lists (subtrans_lock bank)) cutoff → Contains (open_ids n (history lists)) x → AreIdsNear start lists → is_cut Ids 2048 cutoff (word_page_of x) ≡ false
 parent_uncut start lists n bank x cutoff base k c opened near =
     let h = history lists in
     let o = open_near start lists n x base k opened in
     let from = o.from in
     let to = o.to in
     let low = base.oldest in
+    let first = id_before start.base.next in
+    let under = before_upto start.base.next in
+    let near_next = before_near start.base.next in
     let upto : c.0 ≤ subtrans_page x = ⊎_elim
-    (λ (q : c.0 ≡ subtrans_page start.base.oldest). omega arith)
+    (λ (q : c.0 ≡ first_subtrans_page start). omega arith)
     (λ e.
     let cut = (cut_says start lists (subtrans_lock bank) c.0 e.0 k e.1 e.2).subtrans bank refl in
     let split = take-append-drop cut.0 h in
@@ -120,7 +126,7 @@ parent_uncut start lists n bank x cutoff base k c opened near =
     let below = before_upto (oldest_xmin start.base.next (take cut.0 h)) in
     let page = cut.2 in omega arith)
     c.3 in
-    let i = subtrans_on c.0 start.base.oldest x c.2 upto (omega arith) in
+    let i = subtrans_on c.0 first x c.2 upto (omega arith) in
     let on = i.on in
     let above = i.from in
     let is : cutoff ≡ low_half i.id / 2048 = let q = c.1 in omega arith in
@@ -132,7 +138,7 @@ cut_refused b q t = false≢true (sym q ∙ t)
 
 -- the ids were near before an entry without an event
 pub near_before : (start : Start) (u w : Knowledge) (lock : ℕ) (e : Entry) → event_of e ≡ None → lock < length u.seen → Leaves start lock e u w → AreIdsNear start w.seen → AreIdsNear start u.seen
-near_before start u w lock e none inside l near = subst (λ (h : List Event). next_given start.base.next h + 2 ^ 15 < start.base.oldest + 2 ^ 31) (history_same start u w lock e none inside l) near
+near_before start u w lock e none inside l near = subst (λ (h : List Event). next_given start.base.next h + 2 ^ 16 < start.base.oldest + 2 ^ 31) (history_same start u w lock e none inside l) near
 
 -- within a lock, an id of the session's open ones is open
 pub still_open : (start : Start) (u : Knowledge) (n n' id : ℕ) (s s' : Session) → IsAt start u n' s' → s' ≡ s → n' ≡ n → Contains s.levels.open_ids.items id → Contains (open_ids n (history u.seen)) id

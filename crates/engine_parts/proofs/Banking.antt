@@ -22,7 +22,7 @@ use Rattle.tx_core.specs.Locks.{xact_page}
 use Rattle.tx_core.specs.Pages.{Pages, after_entry, set_by, xact_store, zeroed, zeroed_in}
 use Rattle.tx_core.specs.Verdict.{state_for}
 use Rattle.store_pages.specs.Layouts.{bits_at, state_in, xact_page_of, xact_place_of}
-use Rattle.engine_parts.specs.Stand.{ShowsStates, XactStands, faults_told, number_of_state, xact_pages}
+use Rattle.engine_parts.specs.Stand.{ShowsStates, XactStands, faults_told, number_of_state, xact_pages, first_xact_page}
 use Rattle.engine_parts.proofs.Cutoffs.{cutoff_more}
 use Rattle.xid_order.specs.Order.{ring_before, xid_before}
 use Rattle.xid_order.specs.PageOrder.{Ids, page_number, page_precedes}
@@ -108,7 +108,7 @@ xact_quiet start bank faults faults' last cutoff tells bytes bytes' es e s sets 
       inside = s.inside;
       count = count;
       last_is = λ made. s.last_is (omega arith) ∙ sym (ap (λ z. z % 2 ^ 17) l);
-      cutoff_is = cutoff_more xact_page (2 ^ 17) start es e cutoff s.cutoff_is;
+      cutoff_is = cutoff_more (first_xact_page start) (2 ^ 17) es e cutoff s.cutoff_is;
       shown = λ told made.
           let old = s.shown told (omega arith) in
           (old.0, old.1, record { each = λ x used here uncut. same told (xact_page_of x) (xact_place_of x) (omega arith) ∙ (old.2.each x used here uncut ∙ sym (ap (λ (p : Pages State). number_of_state (p.shows x)) (still old.0))) });
@@ -210,4 +210,4 @@ module _ (start : Start) (bank faults last cutoff : ℕ) (tells : Bool) (bytes :
 
     -- a page is made, or it was made before
     pub xact_made : faults_told (es ++ made_entry ∷ []) ≤ faults' → XactStands start bank tells faults' last' cutoff bytes' (es ++ made_entry ∷ [])
-    xact_made count = record { inside = s.inside; count = count; last_is = lasts (nat_lt old_last page) refl; cutoff_is = cutoff_more xact_page (2 ^ 17) start es made_entry cutoff s.cutoff_is; shown = shows (nat_lt old_last page) refl }
+    xact_made count = record { inside = s.inside; count = count; last_is = lasts (nat_lt old_last page) refl; cutoff_is = cutoff_more (first_xact_page start) (2 ^ 17) es made_entry cutoff s.cutoff_is; shown = shows (nat_lt old_last page) refl }

@@ -20,7 +20,7 @@ use Rattle.tx_core.specs.Entries.{Mark}
 use Rattle.tx_core.specs.Pages.{Pages, set_by, xact_store, zeroed, zeroed_in}
 use Rattle.tx_core.specs.Verdict.{state_for}
 use Rattle.pg_xact_log.specs.Changes.{SetsStates}
-use Rattle.engine_parts.specs.Stand.{IsInUse, XactStands, faults_told, number_of_state, xact_pages}
+use Rattle.engine_parts.specs.Stand.{IsInUse, XactStands, faults_told, number_of_state, xact_pages, first_xact_page}
 use Rattle.engine_parts.proofs.Banking.{last_from_first, pages_push}
 use Rattle.engine_parts.proofs.Cutoffs.{cutoff_more}
 
@@ -112,7 +112,7 @@ xact_set start bank faults faults' last last' cutoff cutoff' tells bytes bytes' 
       inside = s.inside;
       count = count;
       last_is = λ made. s.last_is (omega arith) ∙ sym (ap (λ z. z % 2 ^ 17) same);
-      cutoff_is = cutoff_more xact_page (2 ^ 17) start es e cutoff s.cutoff_is;
+      cutoff_is = cutoff_more (first_xact_page start) (2 ^ 17) es e cutoff s.cutoff_is;
       shown = λ told made.
           let few : (xact_pages start (λ x. None) es).last * 32768 < start.base.next + 2 ^ 29 = omega arith in
           let old = s.shown told few in

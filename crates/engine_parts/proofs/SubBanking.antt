@@ -23,7 +23,7 @@ use Rattle.tx_core.specs.Entries.{Link, links_in}
 use Rattle.tx_core.specs.Locks.{subtrans_page}
 use Rattle.tx_core.specs.Pages.{Pages, after_entry, parent_for, set_by, subtrans_store, zeroed, zeroed_in}
 use Rattle.store_pages.specs.Layouts.{number_in, word_page_of, word_place_of}
-use Rattle.engine_parts.specs.Stand.{IsInUse, ShowsParents, SubtransStands, faults_told, number_of_parent, subtrans_pages}
+use Rattle.engine_parts.specs.Stand.{IsInUse, ShowsParents, SubtransStands, faults_told, number_of_parent, subtrans_pages, first_subtrans_page}
 use Rattle.xid_order.specs.Ids.{low_half}
 use Rattle.engine_parts.proofs.Cutoffs.{cutoff_more}
 use Rattle.xid_order.specs.Order.{ring_before, xid_before}
@@ -121,7 +121,7 @@ sub_quiet start bank faults faults' last cutoff tells bytes bytes' es e s sets z
       inside = s.inside;
       count = count;
       last_is = λ made. s.last_is (omega arith) ∙ sym (ap (λ z. z % 2 ^ 21) l);
-      cutoff_is = cutoff_more subtrans_page (2 ^ 21) start es e cutoff s.cutoff_is;
+      cutoff_is = cutoff_more (first_subtrans_page start) (2 ^ 21) es e cutoff s.cutoff_is;
       shown = λ told made.
           let old = s.shown told (omega arith) in
           record { each = λ x used here uncut. ap (λ (b : List ℕ). number_in b (word_place_of x)) (same told (word_page_of x)) ∙ (old.each x used here uncut ∙ sym (ap (λ (p : Pages ℕ). number_of_parent (p.shows x)) still)) };
@@ -207,7 +207,7 @@ module _ (start : Start) (bank faults last cutoff : ℕ) (tells : Bool) (bytes :
 
     -- a page is made, or it was made before
     pub sub_made : faults_told (es ++ made_entry ∷ []) ≤ faults' → SubtransStands start bank tells faults' last' cutoff bytes' (es ++ made_entry ∷ [])
-    sub_made count = record { inside = s.inside; count = count; last_is = lasts (nat_lt old_last page) refl; cutoff_is = cutoff_more subtrans_page (2 ^ 21) start es made_entry cutoff s.cutoff_is; shown = shows (nat_lt old_last page) refl }
+    sub_made count = record { inside = s.inside; count = count; last_is = lasts (nat_lt old_last page) refl; cutoff_is = cutoff_more (first_subtrans_page start) (2 ^ 21) es made_entry cutoff s.cutoff_is; shown = shows (nat_lt old_last page) refl }
 
 -- ---- a parent is set
 
@@ -233,7 +233,7 @@ module _ (start : Start) (bank faults last cutoff : ℕ) (tells : Bool) (bytes :
         inside = s.inside;
         count = count;
         last_is = λ made. s.last_is (omega arith) ∙ sym (ap (λ z. z % 2 ^ 21) same);
-        cutoff_is = cutoff_more subtrans_page (2 ^ 21) start es set_entry cutoff s.cutoff_is;
+        cutoff_is = cutoff_more (first_subtrans_page start) (2 ^ 21) es set_entry cutoff s.cutoff_is;
         shown = λ told made.
             let old = s.shown told (omega arith) in
             let put = sets told in

@@ -8,7 +8,7 @@ use Rattle.tx_events.specs.declared.record.Counters.{Counters}
 use Rattle.tx_events.specs.declared.record.Rec.{Rec}
 use Rattle.proc_table.specs.Table.{Table}
 use Rattle.wal_core.specs.Kept.{KeepsRecords}
-use Rattle.xid_order.specs.Ids.{IsFullId}
+use Rattle.xid_order.specs.Ids.{IsFullId, id_before}
 use Rattle.xid_order.specs.PageOrder.{Ids, is_cut}
 use Rattle.store_pages.specs.Layouts.{state_in, xact_page_of, xact_place_of, number_in, word_page_of, word_place_of}
 use Rattle.tx_core.specs.declared.entry.Entry.{Entry}
@@ -90,12 +90,19 @@ pub record ProcStands (start : Start) (table : Table) (es : List Entry) : Type 0
 
 -- ---- banks
 
--- The cutoff is a stored page: that of the oldest id with which the life began, or a later one at which an entry cut the
--- bank.
-abbrev pub IsCutoff : (ℕ → ℕ) → ℕ → Start → List Entry → ℕ → Type 0
-IsCutoff page_of pages start es cutoff =
-    (page : ℕ) × (cutoff ≡ page % pages) × (page_of start.base.oldest ≤ page)
-    × ((page ≡ page_of start.base.oldest) ⊎ ((e : Entry) × Contains es e × (cut_in e.kind ≡ Some page)))
+-- The cutoff is a stored page: the first one with which the life began, or a later one at which an entry cut the bank.
+abbrev pub IsCutoff : ℕ → ℕ → List Entry → ℕ → Type 0
+IsCutoff first pages es cutoff =
+    (page : ℕ) × (cutoff ≡ page % pages) × (first ≤ page)
+    × ((page ≡ first) ⊎ ((e : Entry) × Contains es e × (cut_in e.kind ≡ Some page)))
+
+-- That of pg_xact is the page of the oldest id. pg_subtrans is of use to ids that may run alone: its first one is the
+-- page of the id before the next one.
+abbrev pub first_xact_page : Start → ℕ
+first_xact_page start = xact_page start.base.oldest
+
+abbrev pub first_subtrans_page : Start → ℕ
+first_subtrans_page start = subtrans_page (id_before start.base.next)
 
 -- the ids for which the pages of a life have room
 abbrev pub IsInUse : Start → ℕ → Type 0
@@ -132,7 +139,7 @@ pub record XactStands (start : Start) (bank : ℕ) (tells : Bool) (faults last c
   pub inside : bank < start.banks
   pub count : faults_told es ≤ faults
   pub last_is : AreXactPagesNear start es → last ≡ last_xact_page start es % 2 ^ 17
-  pub cutoff_is : IsCutoff xact_page (2 ^ 17) start es cutoff
+  pub cutoff_is : IsCutoff (first_xact_page start) (2 ^ 17) es cutoff
   pub shown : IsTrue tells → AreXactPagesNear start es
       → (before : ℕ → Option State) × CleanStart start before
       × ShowsStates start bank cutoff bytes (xact_pages start before es).shows
@@ -160,6 +167,6 @@ pub record SubtransStands (start : Start) (bank : ℕ) (tells : Bool) (faults la
   pub inside : bank < start.banks
   pub count : faults_told es ≤ faults
   pub last_is : AreSubtransPagesNear start es → last ≡ (subtrans_pages start es).last % 2 ^ 21
-  pub cutoff_is : IsCutoff subtrans_page (2 ^ 21) start es cutoff
+  pub cutoff_is : IsCutoff (first_subtrans_page start) (2 ^ 21) es cutoff
   pub shown : IsTrue tells → AreSubtransPagesNear start es
       → ShowsParents start bank cutoff bytes (subtrans_pages start es).shows

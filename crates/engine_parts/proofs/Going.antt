@@ -5,6 +5,7 @@ use Rattle.std.specs.List.{filter, All}
 use Rattle.notes.specs.Lists.{Grows, Knows, at}
 use Rattle.tx_events.specs.declared.event.Event.{Event}
 use Rattle.tx_events.specs.declared.event.Event.TheVariants as events
+use Rattle.tx_events.specs.declared.record.Rec.{Rec}
 use Rattle.tx_events.specs.declared.record.Rec.TheVariants as records
 use Rattle.tx_events.specs.Events.{by_of, is_of}
 use Rattle.tx_events.specs.History.{IsLegal}
@@ -14,10 +15,12 @@ use Rattle.tx_core.specs.declared.entry.Entry.{Entry}
 use Rattle.tx_core.specs.declared.entry.Start.{Start}
 use Rattle.tx_core.specs.declared.entry.State.TheVariants as states
 use Rattle.tx_core.specs.EngineInvariant.{EngineInvariant}
-use Rattle.tx_core.specs.Entries.{history, session_of}
+use Rattle.tx_core.specs.Entries.{appended, history, records_of, session_of}
+use Rattle.tx_core.specs.Locks.{log_lock}
 use Rattle.tx_core.specs.PagesBeforeIds.{IsMade}
 use Rattle.tx_core.specs.ParentsFollow.{IsGivenBelow}
-use Rattle.tx_core.proofs.Lasting.{appended_grows, flushed_grows, history_grows, linked_grows, made_grows, marked_grows}
+use Rattle.tx_core.proofs.Growing.{begins_filter_map, slice_get_begins}
+use Rattle.tx_core.proofs.Lasting.{flushed_grows, history_grows, linked_grows, made_grows, marked_grows}
 use Rattle.tx_core.proofs.Stepping.{open_seen, others_since, own_appended}
 use Rattle.session_levels.specs.declared.session.Session as plain
 use Rattle.session_levels.specs.Stands.{Stands}
@@ -28,7 +31,7 @@ use Rattle.engine_parts.specs.declared.session.Stage.TheVariants as stages
 use Rattle.engine_parts.specs.declared.session.Unlinked.{Unlinked}
 use Rattle.engine_parts.specs.Holds.{Knowledge, Learns}
 use Rattle.engine_parts.specs.Sessions.{IsAt, IsFiled, IsReady}
-use Rattle.engine_parts.specs.Stages.{AsksNothing, IsInStage, IsLogged, state_of}
+use Rattle.engine_parts.specs.Stages.{AsksNothing, IsAppendedAt, IsInStage, IsLogged, state_of}
 
 beside_of : (n : ℕ) (es : List Event) → ((e : Event) → Has es e → (by_of e).session ≢ n) → AreBeside n es
 beside_of n [] f = tt
@@ -67,19 +70,28 @@ filed_later start lists more n opened unlinked g f = record {
     later None p = tt
     later (Some u) p = (below_later lists more n u.parent u.id g p.0, made_grows start lists more u.id g p.1)
 
-pub logged_later : (lists more : List (List Entry)) (n : ℕ) (opened : List ℕ) → Grows lists more → AsksNothing n lists more → IsLogged lists n opened → IsLogged more n opened
-logged_later lists more n opened g asks l = record {
+pub appended_at_later : (start : Start) (lists more : List (List Entry)) (n : ℕ) (rec : Rec) (number : ℕ) → Grows lists more → IsAppendedAt start lists n rec number → IsAppendedAt start more n rec number
+appended_at_later start lists more n rec number g a = record {
+  place = a.place;
+  by = a.by;
+  own = a.own;
+  stands = slice_get_begins (records_of lists) (records_of more) a.place (a.by, rec) (begins_filter_map appended (at lists log_lock) (at more log_lock) (g.begins log_lock)) a.stands;
+  numbered = a.numbered;
+}
+
+pub logged_later : (start : Start) (lists more : List (List Entry)) (n : ℕ) (opened : List ℕ) (number : ℕ) → Grows lists more → AsksNothing n lists more → IsLogged start lists n opened number → IsLogged start more n opened number
+logged_later start lists more n opened number g asks l = record {
   top = l.top;
   subs = l.subs;
   ids = l.ids;
-  appended = appended_grows lists more n (records.Commit l.top l.subs) g l.appended;
+  appended = appended_at_later start lists more n (records.Commit l.top l.subs) number g l.appended;
   unasked = λ id state c asked. l.unasked id state c (asks id state asked);
 }
 
 -- where the session asked for no more states
 pub stage_later : (start : Start) (lists more : List (List Entry)) (n : ℕ) (opened : List ℕ) (stage : Stage) → Grows lists more → AsksNothing n lists more → IsInStage start lists n opened stage → IsInStage start more n opened stage
 stage_later start lists more n opened stages.Clear g asks a = λ id state c asked. a id state c (asks id state asked)
-stage_later start lists more n opened stages.Logged g asks l = logged_later lists more n opened g asks l
+stage_later start lists more n opened (stages.Logged number) g asks l = logged_later start lists more n opened number g asks l
 stage_later start lists more n opened (stages.Settling steps) g asks l = record {
   top = l.top;
   subs = l.subs;

@@ -145,11 +145,11 @@ ready_looked start v w n n' lock s s' e a inside is same number l =
     ready_quiet start v w n n' lock s s' e a inside (ap (λ (z : Entry). z.by) is) (ap event_of is) (ap appended is) same number l
 
 -- a session whose commit record stands
-pub ready_recorded : (start : Start) (v w : Knowledge) (n n' : ℕ) (s s' : Session) (e : Entry) → IsAt start v n s → log_lock < length v.seen → e.by ≡ by_at n s.levels.commands → event_of e ≡ None → s' ≡ record s { stage = stages.Logged } → n' ≡ n → Leaves start log_lock e v w → IsReady start w n' s'
-ready_recorded start v w n n' s s' e a inside own none same number l =
+pub ready_recorded : (start : Start) (v w : Knowledge) (n n' number : ℕ) (s s' : Session) (e : Entry) → IsAt start v n s → log_lock < length v.seen → e.by ≡ by_at n s.levels.commands → event_of e ≡ None → s' ≡ record s { stage = stages.Logged number } → n' ≡ n → Leaves start log_lock e v w → IsReady start w n' s'
+ready_recorded start v w n n' number s s' e a inside own none same name l =
     let still : history w.seen ≡ history v.seen = history_same start v w log_lock e none inside l in
-    let t : Session = record s { stage = stages.Logged } in
-    subst (λ (z : ℕ × Session). IsReady start w z.0 z.1) (λ j. (sym number j, sym same j))
+    let t : Session = record s { stage = stages.Logged number } in
+    subst (λ (z : ℕ × Session). IsReady start w z.0 z.1) (λ j. (sym name j, sym same j))
     (at_left start v w n log_lock s t e a inside own refl l (subst (λ (h : List Event). Stands start.base h n s.levels.commands s.levels) (sym still) a.stands)
     (λ q. absurd (false≢true (sym q))) (filed_left start v w n log_lock s e a inside l))
 

@@ -1,13 +1,14 @@
 -- The log stands for its list after each call.
-use Rattle.std.proofs.Common.{◌≡◌, ℕ, ◌+◌, ◌≤◌, List, [], ◌∷◌, ◌++◌, refl, sym, ap, subst, ◌∙◌, append-nil, append_assoc, length, map, arith, Bool, IsTrue, Option, Some, None}
+use Rattle.std.proofs.Common.{Contains, ◌≡◌, ℕ, ◌+◌, ◌≤◌, ◌<◌, List, [], ◌∷◌, ◌++◌, refl, sym, ap, subst, ◌∙◌, append-nil, append_assoc, length, map, arith, Bool, IsTrue, Option, Some, None}
 use Rattle.std.proofs.lemmas.List.{map_push, length-append}
-use Rattle.std.proofs.lemmas.List.Elements.{filter_map-append}
+use Rattle.std.proofs.lemmas.List.Elements.{Contains-append_left, Contains-push, filter_map-append}
 use Rattle.std.specs.List.{filter_map, cons_option}
 use Rattle.std.proofs.lemmas.List.Sums.{fold_push}
 use Rattle.disk_core.specs.Volume.{Volume}
 use Rattle.tx_events.specs.declared.event.By.{By}
 use Rattle.tx_events.specs.declared.record.Counters.{Counters}
 use Rattle.tx_events.specs.declared.record.Rec.{Rec}
+use Rattle.tx_events.proofs.Membership.{by_end}
 use Rattle.tx_events.specs.After.{after_record, after_records}
 use Rattle.tx_core.specs.declared.entry.Entry.{Entry}
 use Rattle.tx_core.specs.declared.entry.Kind.{Kind}
@@ -15,9 +16,13 @@ use Rattle.tx_core.specs.declared.entry.Kind.TheVariants as kinds
 use Rattle.tx_core.specs.declared.entry.LogCall.{LogCall}
 use Rattle.tx_core.specs.declared.entry.Start.{Start}
 use Rattle.tx_core.specs.Entries.{appended}
+use Rattle.disk_core.specs.declared.log_disk.LogDisk as logs
+use Rattle.wal_core.specs.declared.wal_log.WalLog.{WalLog}
 use Rattle.wal_core.specs.Kept.{KeepsRecords}
+use Rattle.wal_core.specs.LogViews.{log_counters, log_disk, log_down, log_first, log_flushed, log_next, log_recs}
 use Rattle.tx_core.specs.RecordsFollow.{counters_after}
 use Rattle.tx_core.specs.Entries.{recs_in}
+use Rattle.engine_parts.specs.Parts.{IsLogOf}
 use Rattle.engine_parts.specs.Stand.{LogStands, IsDownAt, faults_told, count_in, flushed_in, flushed_to, last_from}
 
 -- one entry more
@@ -89,3 +94,31 @@ module _ (start : Start) (tells : Bool) (faults faults' : ℕ) (images images' :
             let old = s.kept told in
             (old.0, old.1, subst (λ (l : List Rec). KeepsRecords old.0 (old.1 ++ l) recs' next' first' flushed' images') (sym same) (k told old.0 (old.1 ++ recs_in es) old.2));
       }
+
+-- a log of which nothing changed stands for the list with the look too
+pub log_looks : {D : Type 0} {g : logs.Ghosts D} (start : Start) (log : WalLog D g) (es : List Entry) (by : By) → IsLogOf start log es → IsLogOf start log (es ++ record { by = by; kind = kinds.Look } ∷ [])
+log_looks {g = g} start log es by s =
+    let e : Entry = record { by = by; kind = kinds.Look } in
+    goes_on start g.tells (g.faults (log_disk log)) (g.faults (log_disk log)) (g.images (log_disk log)) (g.images (log_disk log)) (log_recs log) (log_recs log) (log_next log) (log_next log) (log_first log) (log_first log) (log_flushed log) (log_flushed log) (log_counters log) (log_counters log) (log_down log) (log_down log) es by s kinds.Look refl refl refl refl
+    (s.flushed_is ∙ sym (number_same flushed_in start.from es e refl))
+    (let same : faults_told (es ++ e ∷ []) ≡ faults_told es = number_same count_in 0 es e refl in let before = s.count in omega arith)
+    (λ m is. failed_more start es e m (s.failed m is)) (λ told number all k. k)
+
+-- the flushed number is that of a flush, where it is past the start's
+pub flush_stands : (start : Start) (es : List Entry) (number : ℕ) → start.from ≤ number → number < flushed_to start es → (to : ℕ) × (number < to) × (by : By) × Contains es (record { by = by; kind = kinds.Flush to })
+flush_stands start es number from past = by_end (λ es. number < flushed_to start es → (to : ℕ) × (number < to) × (by : By) × Contains es (record { by = by; kind = kinds.Flush to }))
+    (λ p. absurd (omega arith))
+    (λ es e before p. step es e e.kind refl before p) es past
+  where
+    older : (es : List Entry) (e : Entry) → flushed_in e.kind ≡ None → (number < flushed_to start es → (to : ℕ) × (number < to) × (by : By) × Contains es (record { by = by; kind = kinds.Flush to })) → number < flushed_to start (es ++ e ∷ [])
+        → (to : ℕ) × (number < to) × (by : By) × Contains (es ++ e ∷ []) (record { by = by; kind = kinds.Flush to })
+    older es e none before p =
+        let f = before (subst (λ z. number < z) (number_same flushed_in start.from es e none) p) in
+        (f.0, f.1, f.2, Contains-append_left es (e ∷ []) (record { by = f.2; kind = kinds.Flush f.0 }) f.3)
+
+    step : (es : List Entry) (e : Entry) (kind : Kind) → e.kind ≡ kind → (number < flushed_to start es → (to : ℕ) × (number < to) × (by : By) × Contains es (record { by = by; kind = kinds.Flush to })) → number < flushed_to start (es ++ e ∷ [])
+        → (to : ℕ) × (number < to) × (by : By) × Contains (es ++ e ∷ []) (record { by = by; kind = kinds.Flush to })
+    step es e (kinds.Flush to) is before p =
+        let same : e ≡ record { by = e.by; kind = kinds.Flush to } = ap (λ (k : Kind). record { by = e.by; kind = k }) is in
+        (to, subst (λ z. number < z) (number_push flushed_in start.from es e to (ap flushed_in is)) p, e.by, subst (λ (d : Entry). Contains (es ++ e ∷ []) d) same (Contains-push es e))
+    step es e _ is before p = older es e (ap flushed_in is) before p

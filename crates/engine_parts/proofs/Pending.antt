@@ -1,25 +1,22 @@
 -- A commit is pending by the session's own record.
-use Rattle.std.proofs.Common.{Contains, IfSome, Option, Some, refl, subst, ◌≡◌, ℕ, ◌+◌, ◌≤◌, List, [], ◌∷◌, ◌==◌, true, sym, ap, ◌∙◌, eq-eqb, arith}
+use Rattle.std.proofs.Common.{Contains, IfSome, Option, Some, refl, subst, ◌≡◌, ℕ, ◌+◌, ◌≤◌, List, ◌∷◌, ◌==◌, true, eq-eqb, arith}
 use Rattle.std.specs.List.{filter}
 use Rattle.std.proofs.lemmas.Bool.{false≢true}
 use Rattle.std.proofs.lemmas.List.Elements.{All-contains}
 use Rattle.notes.specs.Lists.{at}
-use Rattle.tx_events.specs.declared.event.Event.{Event}
 use Rattle.tx_events.specs.declared.record.Rec.TheVariants as records
 use Rattle.tx_events.proofs.Membership.{contains_has, filter_has, has_contains}
 use Rattle.tx_events.specs.declared.refusal.Refusal.{Refusal}
 use Rattle.tx_model.specs.declared.command.Command.{Command}
 use Rattle.tx_model.specs.declared.reply.Reply.TheVariants as replies
 use Rattle.tx_model.specs.Replies.{RoundSpan}
-use Rattle.tx_model.specs.Stance.{top_level}
 use Rattle.tx_core.specs.declared.entry.Entry.{Entry}
 use Rattle.tx_core.specs.declared.entry.Kind.TheVariants as kinds
 use Rattle.tx_core.specs.declared.entry.Start.{Start}
 use Rattle.tx_core.specs.Entries.{IsAppended, history}
 use Rattle.tx_core.specs.Locks.{log_lock}
-use Rattle.tx_core.proofs.Reading.{flushed_appended}
-use Rattle.session_levels.specs.Stands.{Nest, levels_of}
-use Rattle.session_levels.proofs.LevelLemmas.{top_of_named}
+use Rattle.tx_core.proofs.Reading.{appended_at, flushed_appended}
+use Rattle.session_levels.proofs.HeadLemmas.{first_level}
 use Rattle.engine_parts.specs.declared.session.Session.{Session}
 use Rattle.engine_parts.specs.declared.session.Stage.{Stage}
 use Rattle.engine_parts.specs.declared.session.Stage.TheVariants as stages
@@ -29,28 +26,18 @@ use Rattle.engine_parts.specs.Sessions.{MayCall, by_at, stance_of}
 use Rattle.engine_parts.specs.Stages.{IsInStage, may_be_recorded, pending_in}
 
 -- the record that a stage tells of
-record HasRecord (lists : List (List Entry)) (n : ℕ) (opened : List ℕ) : Type 0 where
-  top : ℕ
-  subs : List ℕ
-  ids : opened ≡ top ∷ subs
-  appended : IsAppended lists n (records.Commit top subs)
+pub record HasRecord (lists : List (List Entry)) (n : ℕ) (opened : List ℕ) : Type 0 where
+  pub top : ℕ
+  pub subs : List ℕ
+  pub ids : opened ≡ top ∷ subs
+  pub appended : IsAppended lists n (records.Commit top subs)
 
-record_of : (start : Start) (lists : List (List Entry)) (n : ℕ) (opened : List ℕ) (stage : Stage) → may_be_recorded stage ≡ true → IsInStage start lists n opened stage → HasRecord lists n opened
+pub record_of : (start : Start) (lists : List (List Entry)) (n : ℕ) (opened : List ℕ) (stage : Stage) → may_be_recorded stage ≡ true → IsInStage start lists n opened stage → HasRecord lists n opened
 record_of start lists n opened stages.Clear q i = absurd (false≢true q)
-record_of start lists n opened stages.Logged q i = record { top = i.top; subs = i.subs; ids = i.ids; appended = i.appended }
+record_of start lists n opened (stages.Logged number) q i = record { top = i.top; subs = i.subs; ids = i.ids; appended = appended_at lists n (records.Commit i.top i.subs) i.appended.place i.appended.by i.appended.own i.appended.stands }
 record_of start lists n opened (stages.Settling steps) q i = record { top = i.top; subs = i.subs; ids = i.ids; appended = flushed_appended start lists n (records.Commit i.top i.subs) i.flushed }
 record_of start lists n opened stages.Aborting q i = absurd (false≢true q)
 record_of start lists n opened stages.Undoing q i = absurd (false≢true q)
-
-first_level : (h : List Event) (opened named : List ℕ) (unnamed top : ℕ) (subs : List ℕ) → Nest h opened named → opened ≡ top ∷ subs → top_level (levels_of named unnamed) ≡ Some top
-first_level h opened [] unnamed top subs nest is = absurd (none (sym nest ∙ is))
-  where
-    none : [] ≡ top ∷ subs → ⊥
-    none e = cc
-first_level h opened (t ∷ savepoints) unnamed top subs nest is = top_of_named t savepoints unnamed ∙ ap (λ z. Some z) (same (sym nest.1 ∙ is))
-  where
-    same : t ∷ nest.0 ≡ top ∷ subs → t ≡ top
-    same e = cc
 
 pub commit_pends : (start : Start) (v : Knowledge) (n : ℕ) (s : Session) → MayCall start v n s → may_be_recorded s.stage ≡ true → IsCommitPending v.seen (by_at n (s.levels.commands + 1)) (stance_of s)
 commit_pends start v n s m recorded =
@@ -78,7 +65,7 @@ pending_answer start v n s span command r m is =
   where
     each : (x : Stage) → (may_be_recorded x ≡ true → IsCommitPending v.seen (by_at n (s.levels.commands + 1)) (stance_of s)) → IfSome (pending_in x) (λ r. MayAnswer start v.seen span (by_at n (s.levels.commands + 1)) (stance_of s) x command (replies.Refused r))
     each stages.Clear f = tt
-    each stages.Logged f = f refl
+    each (stages.Logged number) f = f refl
     each (stages.Settling steps) f = f refl
     each stages.Aborting f = refl
     each stages.Undoing f = refl

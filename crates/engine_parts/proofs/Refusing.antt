@@ -36,7 +36,7 @@ is_pending stage r is = subst (λ (o : Option Refusal). IfSome o (λ x. is_by_st
   where
     each : (x : Stage) → IfSome (pending_in x) (λ r. is_by_standing r ≡ true)
     each stages.Clear = tt
-    each stages.Logged = refl
+    each (stages.Logged number) = refl
     each (stages.Settling steps) = refl
     each stages.Aborting = refl
     each stages.Undoing = refl

@@ -10,7 +10,7 @@ use Rattle.tx_core.specs.declared.entry.Start.{Start}
 use Rattle.tx_core.specs.Entries.{event_of, events_in}
 use Rattle.engine_parts.specs.Stand.{ProcStands, IsFrontier}
 
-frontier_more : (start : Start) (es : List Entry) (e : Entry) (page : ℕ) → IsFrontier start es page → IsFrontier start (es ++ e ∷ []) page
+pub frontier_more : (start : Start) (es : List Entry) (e : Entry) (page : ℕ) → IsFrontier start es page → IsFrontier start (es ++ e ∷ []) page
 frontier_more start es e page f = ⊎_elim inl (λ h. inr (h.0, h.1, Contains-append_left es (e ∷ []) (record { by = h.0; kind = kinds.Made h.1 }) h.2, h.3)) f
 
 -- the table has the event of the entry too

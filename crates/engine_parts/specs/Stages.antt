@@ -1,6 +1,8 @@
 -- How far the end of a transaction has come, by the lists.
 use Rattle.std.specs.Prelude.{◌≡◌, ℕ, ◌+◌, ◌<◌, ◌≤◌, Bool, true, false, cond, List, ◌∷◌, Contains, Option, None, Some, length, slice_get}
 use Rattle.std.specs.List.{slice_range}
+use Rattle.tx_events.specs.declared.event.By.{By}
+use Rattle.tx_events.specs.declared.record.Rec.{Rec}
 use Rattle.tx_events.specs.declared.record.Rec.TheVariants as records
 use Rattle.tx_events.specs.declared.refusal.Refusal.{Refusal}
 use Rattle.tx_events.specs.declared.refusal.Refusal.TheVariants as refusals
@@ -13,13 +15,13 @@ use Rattle.tx_core.specs.declared.entry.Start.{Start}
 use Rattle.tx_core.specs.declared.entry.State.{State}
 use Rattle.tx_core.specs.declared.entry.State.TheVariants as states
 use Rattle.tx_core.specs.AbortRule.{Asks}
-use Rattle.tx_core.specs.Entries.{IsAppended, IsFlushed, IsMarked}
+use Rattle.tx_core.specs.Entries.{IsFlushed, IsMarked, records_of}
 use Rattle.engine_parts.specs.declared.session.Stage.{Stage}
 use Rattle.engine_parts.specs.declared.session.Stage.TheVariants as stages
 
 -- whether a commit record of what is open may stand in the log
 abbrev pub may_be_recorded : Stage → Bool
-may_be_recorded stages.Logged = true
+may_be_recorded (stages.Logged number) = true
 may_be_recorded (stages.Settling steps) = true
 may_be_recorded _ = false
 
@@ -30,7 +32,7 @@ AreUnasked lists n ids = (id : ℕ) (state : State) → Contains ids id → Asks
 -- why a call that needs the transaction as it was is refused in this stage
 abbrev pub pending_in : Stage → Option Refusal
 pending_in stages.Clear = None
-pending_in stages.Logged = Some refusals.CommitPending
+pending_in (stages.Logged number) = Some refusals.CommitPending
 pending_in (stages.Settling steps) = Some refusals.CommitPending
 pending_in stages.Aborting = Some refusals.AbortPending
 pending_in stages.Undoing = Some refusals.UndoPending
@@ -39,12 +41,20 @@ pending_in stages.Undoing = Some refusals.UndoPending
 abbrev pub AsksNothing : ℕ → List (List Entry) → List (List Entry) → Type 0
 AsksNothing n lists more = (id : ℕ) (state : State) → Asks more n id state → Asks lists n id state
 
--- the commit record of the open ids stands, and the session asked for no state of them yet
-pub record IsLogged (lists : List (List Entry)) (n : ℕ) (opened : List ℕ) : Type 0 where
+-- the session appended this record, under this number
+pub record IsAppendedAt (start : Start) (lists : List (List Entry)) (n : ℕ) (rec : Rec) (number : ℕ) : Type 0 where
+  pub place : ℕ
+  pub by : By
+  pub own : by.session ≡ n
+  pub stands : slice_get (records_of lists) place ≡ Some (by, rec)
+  pub numbered : number ≡ start.from + place
+
+-- the commit record of the open ids stands under this number, and the session asked for no state of them yet
+pub record IsLogged (start : Start) (lists : List (List Entry)) (n : ℕ) (opened : List ℕ) (number : ℕ) : Type 0 where
   pub top : ℕ
   pub subs : List ℕ
   pub ids : opened ≡ top ∷ subs
-  pub appended : IsAppended lists n (records.Commit top subs)
+  pub appended : IsAppendedAt start lists n (records.Commit top subs) number
   pub unasked : AreUnasked lists n opened
 
 -- a state of pg_xact that a commit sets
@@ -82,7 +92,7 @@ pub record IsSettling (start : Start) (lists : List (List Entry)) (n : ℕ) (ope
 -- what the lists say where the session's end has come so far
 abbrev pub IsInStage : Start → List (List Entry) → ℕ → List ℕ → Stage → Type 0
 IsInStage start lists n opened stages.Clear = AreUnasked lists n opened
-IsInStage start lists n opened stages.Logged = IsLogged lists n opened
+IsInStage start lists n opened (stages.Logged number) = IsLogged start lists n opened number
 IsInStage start lists n opened (stages.Settling steps) = IsSettling start lists n opened steps
 IsInStage start lists n opened stages.Aborting = Unit {0}
 IsInStage start lists n opened stages.Undoing = Unit {0}

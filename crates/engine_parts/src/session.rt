@@ -15,8 +15,8 @@ use xid_order::FullXid;
 pub enum Stage {
     /// None was begun.
     Clear,
-    /// The commit record stands in the log (XactLogCommitRecord of `xact.c` is done).
-    Logged,
+    /// The commit record stands in the log, under this number (XactLogCommitRecord of `xact.c` is done).
+    Logged { number: u64 },
     /// The record is on disk, and so many steps of `TransactionIdCommitTree` (`transam.c`) are done.
     Settling { steps: u64 },
     /// An abort was begun.
@@ -32,7 +32,7 @@ impl Stage {
     {
         match self {
             Stage::Clear => None,
-            Stage::Logged | Stage::Settling { .. } => Some(Refusal::CommitPending),
+            Stage::Logged { .. } | Stage::Settling { .. } => Some(Refusal::CommitPending),
             Stage::Aborting => Some(Refusal::AbortPending),
             Stage::Undoing => Some(Refusal::UndoPending),
         }

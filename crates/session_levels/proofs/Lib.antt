@@ -2,6 +2,8 @@ pub mod ListLemmas
 pub mod CutLemmas
 pub mod LevelLemmas
 pub mod StandsLemmas
+pub mod HeadLemmas
+pub mod GivingLemmas
 pub mod RegisteredLemmas
 pub mod ActsLemmas
 pub mod TurnLemmas

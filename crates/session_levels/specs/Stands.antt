@@ -63,3 +63,8 @@ IsFresh s = (s.commands ≡ 0) × (s.level_ids.items ≡ []) × (s.unnamed ≡ 0
 -- the last of the ids
 abbrev pub last_of : List ℕ → Option ℕ
 last_of ids = fold (λ _ id. Some id) None ids
+
+-- a level that lacks an id is the transaction, and the session has no id, or it is below an open id
+abbrev pub IsParent : ℕ → List Event → Option ℕ → Type 0
+IsParent session h None = open_ids session h ≡ []
+IsParent session h (Some parent) = Contains (open_ids session h) parent

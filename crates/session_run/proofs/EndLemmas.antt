@@ -1,21 +1,19 @@
 -- The end of a transaction.
-use Rattle.std.proofs.Common.{◌≡◌, ℕ, suc, ◌+◌, ◌^◌, ◌<◌, ◌≤◌, List, [], ◌∷◌, ◌++◌, length, drop, refl, sym, ap, subst, ◌∙◌, arith, Bool, true, false, Contains, inl}
-use Rattle.std.specs.List.{slice_index_or}
+use Rattle.std.proofs.Common.{◌≡◌, ℕ, suc, ◌+◌, ◌^◌, ◌<◌, ◌≤◌, List, [], ◌∷◌, ◌++◌, length, refl, sym, ap, subst, arith, true}
 use Rattle.tx_events.specs.declared.event.By.{By}
 use Rattle.tx_events.specs.declared.event.Event.{Event}
 use Rattle.tx_events.specs.declared.record.Counters.{Counters}
 use Rattle.tx_events.specs.declared.record.Rec.{Rec}
 use Rattle.tx_events.specs.Base.{IsBase}
 use Rattle.tx_events.specs.Families.{is_top}
-use Rattle.tx_events.specs.History.{IsLegal, MayCome}
+use Rattle.tx_events.specs.History.{IsLegal}
 use Rattle.tx_events.specs.IdLists.{Ascending}
 use Rattle.tx_events.specs.RecordSize.{record_size}
 use Rattle.tx_events.specs.Running.{open_ids}
 use Rattle.tx_events.proofs.ListSteps.{length_push}
-use Rattle.tx_events.proofs.Membership.{has_contains}
 use Rattle.tx_events.specs.declared.xact_end.XactEnd.{XactEnd}
 use Rattle.tx_events.specs.declared.xact_end.XactEnd.TheVariants as ends
-use Rattle.tx_events.specs.XactEnds.{end_event, end_record}
+use Rattle.tx_events.specs.XactEnds.{end_record}
 use Rattle.session_levels.specs.Acts.{Acts, end_command}
 use Rattle.session_levels.specs.Stands.{Nest, levels_of}
 use Rattle.session_levels.proofs.ActsLemmas.{acts_idle}
@@ -24,11 +22,6 @@ use Rattle.session_run.proofs.RoomLemmas.{open_few}
 use Rattle.tx_model.specs.declared.command.Command.TheVariants as commands
 use Rattle.tx_model.specs.declared.reply.Reply.TheVariants as replies
 use Rattle.tx_events.specs.declared.refusal.Refusal.TheVariants as refusals
-
--- the first id and the others
-pub head_tail : (ids : List ℕ) (d : ℕ) → 1 ≤ length ids → ids ≡ slice_index_or ids 0 d ∷ drop 1 ids
-head_tail [] d l = absurd (omega arith)
-head_tail (x ∷ ids) d l = refl
 
 -- the ids of a transaction that has one
 pub record IsHead (h : List Event) (opened named : List ℕ) : Type 0 where
@@ -42,16 +35,6 @@ pub record IsHead (h : List Event) (opened named : List ℕ) : Type 0 where
 pub nest_head : (h : List Event) (opened named : List ℕ) → 1 ≤ length named → Nest h opened named → IsHead h opened named
 nest_head h opened [] l n = absurd (omega arith)
 nest_head h opened (t ∷ ids) l n = record { top = t; ids = ids; rest = n.0; named_is = refl; opened_is = n.1; top_is = n.2 }
-
-pub heads : (a b : ℕ) (xs ys : List ℕ) → a ∷ xs ≡ b ∷ ys → a ≡ b
-heads a b xs ys e = cc
-
-pub head_top : (h : List Event) (opened named : List ℕ) (t : ℕ) (rest : List ℕ) → IsHead h opened named → opened ≡ t ∷ rest → is_top h t ≡ true
-head_top h opened named t rest k e = subst (λ u. is_top h u ≡ true) (heads k.top t k.rest rest (sym k.opened_is ∙ e)) k.top_is
-
-pub may_end : (base : Counters) (h : List Event) (by : By) (t : ℕ) (rest : List ℕ) (how : XactEnd) → open_ids by.session h ≡ t ∷ rest → is_top h t ≡ true → MayCome base h (end_event how by t)
-may_end base h by t rest ends.Commit o i = (subst (λ l. Contains l t) (sym o) (has_contains (t ∷ rest) t (inl refl)), i)
-may_end base h by t rest ends.Abort o i = (subst (λ l. Contains l t) (sym o) (has_contains (t ∷ rest) t (inl refl)), i)
 
 record_few : (how : XactEnd) (t : ℕ) (subs : List ℕ) → length subs < 2 ^ 32 → record_size (end_record how t subs) ≤ 2 ^ 35 + 13
 record_few ends.Commit t subs l = omega arith

@@ -2,9 +2,9 @@
 use Rattle.std.proofs.lemmas.Bool.{false≢true, or_right}
 use Rattle.std.proofs.lemmas.Bool.Decides.{nat_tests}
 use Rattle.tx_events.proofs.ListSteps.{eqb-refl}
-use Rattle.std.proofs.Common.{◌≡◌, ℕ, zero, suc, ◌<◌, ◌≤◌, ◌==◌, ◌||◌, List, [], ◌∷◌, ◌++◌, Some, None, Ok, Err, Bool, true, false, cond, nat_lt, get_or, refl, sym, ap, subst, ◌∙◌, arith, length, take, IsTrue, append-nil, length-append, codes}
+use Rattle.std.proofs.Common.{◌≡◌, ℕ, zero, suc, ◌<◌, ◌≤◌, ◌==◌, ◌||◌, List, [], ◌∷◌, ◌++◌, Some, None, Ok, Err, Bool, true, false, nat_lt, get_or, refl, sym, ap, subst, ◌∙◌, arith, length, take, IsTrue, append-nil}
 use Rattle.std.specs.List.{All, AllByRecursion, filter, flat_map, list_any, prefix_len, slice_get}
-use Rattle.std.proofs.lemmas.List.Elements.{All-from_recursion, All-nil, recursion_from_All}
+use Rattle.std.proofs.lemmas.List.Elements.{All-from_recursion, All-nil}
 use Rattle.tx_events.specs.declared.record.Counters.{Counters}
 use Rattle.tx_model.specs.declared.report.LifeReport.{LifeReport}
 use Rattle.tx_events.specs.Base.{IsBase}
@@ -21,7 +21,6 @@ use Rattle.tx_events.proofs.PlaceLemmas.{each_place_none}
 use Rattle.session_lang.specs.declared.script.Item.{Item}
 use Rattle.session_lang.specs.declared.script.Item.TheVariants as items
 use Rattle.session_lang.specs.declared.script.Script.{Script}
-use Rattle.report_text.specs.CommandText.{command_words}
 use Rattle.script_lines.specs.declared.kind.Kind.{Kind}
 use Rattle.script_lines.specs.declared.kind.Kind.TheVariants as kinds
 use Rattle.session_lang.specs.Lines.{lines_of as text_lines}
@@ -31,7 +30,6 @@ use Rattle.session_lang.specs.Rounds.{rounds_of, sessions_in}
 use Rattle.session_lang.specs.Script.{read_script}
 use Rattle.session_run.specs.Refusals.{refusal_of}
 use Rattle.report_text.specs.ReportText.{end_text, front_text, report_text, rest_text, step_text}
-use Rattle.report_text.specs.Words.{line_text, more, name_at}
 use Rattle.report_text.proofs.OneLife.{one_life}
 use Rattle.session_lang.proofs.SeenLemmas.{is_in, old_number}
 use Rattle.session_run.specs.declared.life.OpenLife.{OpenLife}

@@ -1,33 +1,25 @@
 -- What giving an id leaves.
-use Rattle.std.specs.Prelude.{◌≡◌, ℕ, ◌+◌, ◌≤◌, ◌↔◌, Bool, IsTrue, List, [], ◌∷◌, ◌++◌, Option, None, Some, Contains, length}
+use Rattle.std.specs.Prelude.{◌≡◌, ℕ, ◌+◌, ◌≤◌, ◌↔◌, Bool, IsTrue, List, [], ◌∷◌, ◌++◌, Option, None, length}
 use Rattle.tx_events.specs.declared.event.By.{By}
-use Rattle.tx_events.specs.declared.event.Event.{Event}
 use Rattle.tx_events.specs.declared.refusal.Refusal.{Refusal}
 use Rattle.tx_events.specs.declared.refusal.Refusal.TheVariants as refusals
 use Rattle.tx_model.specs.CommandEvents.{giving, level_events}
 use Rattle.tx_events.specs.History.{MayCome}
 use Rattle.xid_order.specs.Limits.{warn_limit}
 use Rattle.tx_model.specs.Replies.{IsWarned}
-use Rattle.tx_events.specs.Running.{open_ids}
 use Rattle.proc_table.specs.Table.{next_of, oldest_of, stop_of}
 use Rattle.session_run.specs.declared.shared.Shared.{Shared}
 use Rattle.session_levels.specs.declared.session.Session.{Session}
 use Rattle.session_run.specs.declared.writes.NewId.{NewId}
 use Rattle.session_run.specs.declared.writes.NewId.TheVariants as news
 use Rattle.session_run.specs.Acts.{IsSoundAt, StandsAt}
-use Rattle.session_levels.specs.Stands.{levels_of}
-use Rattle.session_levels.specs.Stands.{last_of}
+use Rattle.session_levels.specs.Stands.{last_of, levels_of}
 
 -- nothing but the history and the states may have changed
 pub record StaysRound (w w' : Shared) : Type 0 where
   pub base : w'.table.base ≡ w.table.base
   pub sessions : w'.table.sessions ≡ w.table.sessions
   pub recs : w'.log.recs ≡ w.log.recs
-
--- a level that lacks an id is the transaction, and the session has no id, or it is below an open id
-abbrev pub IsParent : ℕ → List Event → Option ℕ → Type 0
-IsParent session h None = open_ids session h ≡ []
-IsParent session h (Some parent) = Contains (open_ids session h) parent
 
 -- the next id was given below the parent
 pub record IsGiven (w w' : Shared) (by : By) (parent : Option ℕ) (id : ℕ) (warn : Bool) : Type 0 where

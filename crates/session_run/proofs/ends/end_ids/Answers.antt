@@ -3,7 +3,8 @@ use Rattle.std.proofs.Common.{◌≡◌, ◌++◌, ◌∷◌, [], drop, sym, ap,
 use Rattle.tx_events.specs.XactEnds.{end_event, end_record}
 use Rattle.session_run.specs.Closes.{ended_states}
 use Rattle.session_run.specs.Sound.{IsSound}
-use Rattle.session_run.proofs.EndLemmas.{head_tail, heads, tail_few, may_end, end_record_few}
+use Rattle.session_levels.proofs.HeadLemmas.{head_tail, heads, may_end}
+use Rattle.session_run.proofs.EndLemmas.{tail_few, end_record_few}
 use Rattle.session_run.proofs.SoundLemmas.{sound_ended}
 use Rattle.session_run.proofs.ends.end_ids.Goals as goal
 

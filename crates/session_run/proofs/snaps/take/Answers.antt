@@ -1,4 +1,4 @@
-use Rattle.std.proofs.Common.{sym, ap, ◌∙◌, refl, length, arith}
+use Rattle.std.proofs.Common.{ap, ◌∙◌, refl, length, arith}
 use Rattle.tx_events.specs.declared.event.Event.TheVariants as events
 use Rattle.session_levels.specs.declared.session.RegisteredSnapshot.{RegisteredSnapshot}
 use Rattle.proc_table.specs.Table.{Table, data_at}

@@ -1,4 +1,4 @@
-use Rattle.std.proofs.Common.{◌∙◌, ◌≤◌, ap, arith, length, subst}
+use Rattle.std.proofs.Common.{◌∙◌, ap, arith, length}
 use Rattle.std.specs.List.{prefix_len}
 use Rattle.session_run.specs.Turns.{has_item}
 use Rattle.session_run.proofs.RunLemmas.{fault_told, other_told, script_runs}

@@ -2,7 +2,8 @@ use Rattle.std.proofs.Common.{◌<◌, sym, subst, refl, IfSome, max}
 use Rattle.tx_model.specs.CommandEvents.{giving}
 use Rattle.plain_states.proofs.States.{states_below}
 use Rattle.proc_table.specs.Table.{IsGiven, page_of, next_of}
-use Rattle.session_run.proofs.GivingLemmas.{below_next, may_give, sound_given}
+use Rattle.session_levels.proofs.GivingLemmas.{below_next, may_give}
+use Rattle.session_run.proofs.GivingLemmas.{sound_given}
 use Rattle.session_run.proofs.writes.give_id.Goals as goal
 
 pub give-requires-clause-order : goal.give-requires-clause-order

@@ -1,7 +1,7 @@
 use Rattle.std.proofs.Common.{◌≡◌, ◌-◌, ◌++◌, ◌∷◌, [], ap, subst, ◌∙◌, refl, arith, Option, ℕ}
 use Rattle.session_run.specs.Gives.{Gives, IsGiven}
 use Rattle.session_levels.specs.Stands.{last_of}
-use Rattle.session_run.proofs.GivingLemmas.{is_parent, stood_given}
+use Rattle.session_levels.proofs.GivingLemmas.{is_parent, stood_given}
 use Rattle.session_levels.proofs.StandsLemmas.{stood, stands}
 use Rattle.session_run.proofs.writes.name_level.Goals as goal
 

@@ -1,0 +1,148 @@
+use Rattle.std.proofs.Common.{Err, ◌≡◌, ℕ, arith, ap, ◌∙◌, subst, sym, refl, ◌++◌, ◌∷◌, [], Some}
+use Rattle.std.proofs.lemmas.Bool.{false≢true}
+use Rattle.hall.specs.Calls.{view, start_of}
+use Rattle.notes.specs.Lists.{Knows, at}
+use Rattle.tx_events.specs.declared.event.By.{By}
+use Rattle.tx_events.specs.After.{after_record}
+use Rattle.tx_core.specs.declared.entry.Entry.{Entry}
+use Rattle.tx_core.specs.declared.entry.Kind.TheVariants as kinds
+use Rattle.tx_core.specs.Entries.{session_of}
+use Rattle.tx_core.specs.Locks.{log_lock}
+use Rattle.wal_core.specs.Log.{counters_or_none}
+use Rattle.wal_core.specs.LogViews.{log_counters, log_disk, log_down, log_first, log_flushed, log_next, log_recs}
+use Rattle.engine_parts.specs.declared.session.Session.{Session}
+use Rattle.engine_parts.specs.declared.session.Stage.TheVariants as stages
+use Rattle.engine_parts.specs.Holds.{Leaves}
+use Rattle.engine_parts.specs.Sessions.{by_at}
+use Rattle.engine_parts.specs.Stand.{count_in, faults_told, flushed_in}
+use Rattle.engine_parts.specs.Stages.{AreUnasked, IsInStage}
+use Rattle.engine_parts.proofs.Leaving.{call_left}
+use Rattle.engine_parts.proofs.Logging.{appends, failed_more, goes_on, log_looks, number_same}
+use Rattle.engine_parts.proofs.Stepping.{went_quiet}
+use Rattle.log_sections.proofs.Sections.{append_refused, base_of_log, call_recorded, down_left, may_come, unasked_on}
+use Rattle.log_sections.proofs.appending.append_commit.Goals as goal
+
+-- nothing was appended: the log isn't one that may take the record
+pub leave_looked-requires-clause-stands : goal.leave_looked-requires-clause-stands
+leave_looked-requires-clause-stands g c =
+    let u = c.enter_log-log.new.caller in
+    (refl, log_looks (start_of c.args.hall.now) c.enter_log-log.result (at (view u.pass).seen log_lock) (by_at u.number u.session.levels.commands) c.enter_log-log.ensures.stands)
+
+pub returns-then-not-may_append-clause-may : goal.returns-then-not-may_append-clause-may
+returns-then-not-may_append-clause-may g c =
+    let e = c.enter_log-log.ensures in
+    let r = c.leave_looked.ensures in
+    let wide = c.requires.may.ready.at.wide in
+    let same = r.same.0 ∙ e.same.0 in
+    call_left (start_of c.args.hall.now) (view c.args.caller.now.pass) (view c.enter_log-log.new.caller.pass) (view c.leave_looked.new.caller.pass) c.args.caller.now.number c.leave_looked.new.caller.number log_lock c.args.caller.now.session c.leave_looked.new.caller.session _
+    c.requires.may e.entered.learns (omega arith) r.left refl (ap (λ (z : Session). z.levels.open_ids.items) same) (ap (λ (z : Session). z.stage) same) (r.same.1 ∙ e.same.1) r.ready
+
+pub returns-then-not-may_append-clause-went : goal.returns-then-not-may_append-clause-went
+returns-then-not-may_append-clause-went g c =
+    let e = c.enter_log-log.ensures in
+    let wide = c.requires.may.ready.at.wide in
+    went_quiet (start_of c.args.hall.now) (view c.args.caller.now.pass) (view c.enter_log-log.new.caller.pass) (view c.leave_looked.new.caller.pass) c.args.caller.now.number log_lock c.args.caller.now.session _ c.requires.may.ready.at e.entered.kept e.entered.learns (omega arith) refl refl c.leave_looked.ensures.left
+
+-- the record is appended
+pub leave_appended-requires-clause-unasked : goal.leave_appended-requires-clause-unasked
+leave_appended-requires-clause-unasked g c =
+    let e = c.enter_log-log.ensures in
+    let s = c.args.caller.now.session in
+    let n = c.args.caller.now.number in
+    let v = view c.args.caller.now.pass in
+    let u = view c.enter_log-log.new.caller.pass in
+    let knows : Knows session_of n v.seen u.seen = subst (λ (z : ℕ). Knows session_of z v.seen u.seen) c.requires.may.ready.at.name e.entered.learns.knows in
+    let free : AreUnasked v.seen n s.levels.open_ids.items = subst (IsInStage (start_of c.args.hall.now) v.seen n s.levels.open_ids.items) c.requires.clear c.requires.may.stage in
+    subst (λ (z : ℕ × Session). AreUnasked u.seen z.0 z.1.levels.open_ids.items) (λ j. (sym e.same.1 j, sym e.same.0 j)) (unasked_on n v.seen u.seen s.levels.open_ids.items knows free)
+
+pub returns-in-Ok-clause-may : goal.returns-in-Ok-clause-may
+returns-in-Ok-clause-may g c =
+    let e = c.enter_log-log.ensures in
+    let r = c.leave_appended.ensures in
+    let wide = c.requires.may.ready.at.wide in
+    call_recorded (start_of c.args.hall.now) (view c.args.caller.now.pass) (view c.enter_log-log.new.caller.pass) (view c.leave_appended.new.caller.pass) c.args.caller.now.number c.leave_appended.new.caller.number c.in-Ok.number c.args.caller.now.session c.leave_appended.new.caller.session c.args.rec.now
+    c.requires.may c.requires.clear c.requires.record e.entered.learns (omega arith)
+    (subst (λ (b : By). Leaves (start_of c.args.hall.now) log_lock (record { by = b; kind = kinds.Append c.args.rec.now }) (view c.enter_log-log.new.caller.pass) (view c.leave_appended.new.caller.pass)) (λ j. by_at (e.same.1 j) (e.same.0 j).levels.commands) r.left) (c.in-Ok.ensures.number ∙ e.stands.next_is) (r.session ∙ ap (λ (z : Session). record z { stage = stages.Logged c.in-Ok.number }) e.same.0) (r.number ∙ e.same.1) r.ready
+
+pub returns-in-Ok-clause-went : goal.returns-in-Ok-clause-went
+returns-in-Ok-clause-went g c =
+    let e = c.enter_log-log.ensures in
+    let wide = c.requires.may.ready.at.wide in
+    went_quiet (start_of c.args.hall.now) (view c.args.caller.now.pass) (view c.enter_log-log.new.caller.pass) (view c.leave_appended.new.caller.pass) c.args.caller.now.number log_lock c.args.caller.now.session _ c.requires.may.ready.at e.entered.kept e.entered.learns (omega arith) refl refl c.leave_appended.ensures.left
+
+pub leave_appended-requires-clause-base : goal.leave_appended-requires-clause-base
+leave_appended-requires-clause-base g c =
+    let e = c.enter_log-log.ensures in
+    base_of_log (start_of c.args.hall.now) c.enter_log-log.result (at (view c.enter_log-log.new.caller.pass).seen log_lock) c.args.rec.now e.stands (c.may_append.ensures.0 c.if-not-may_append.false).base
+
+pub leave_appended-requires-clause-stands : goal.leave_appended-requires-clause-stands
+leave_appended-requires-clause-stands g c =
+    let d = g.L.LogDisk in
+    let u = c.enter_log-log.new.caller in
+    let o = c.enter_log-log.result in
+    let n = c.append.new.self in
+    let a = c.in-Ok.ensures in
+    let s = c.enter_log-log.ensures.stands in
+    appends (start_of c.args.hall.now) d.tells (d.faults (log_disk o)) (d.faults (log_disk n)) (d.images (log_disk o)) (d.images (log_disk n)) (log_recs o) (log_recs n) (log_next o) (log_next n) (log_first o) (log_first n) (log_flushed o) (log_flushed n) (log_counters o) (log_counters n) (log_down o) (log_down n) (at (view u.pass).seen log_lock) (by_at u.number u.session.levels.commands) s c.args.rec.now
+    a.recs a.next a.flushed (a.counters ∙ ap (λ (l : _). Some (after_record (counters_or_none l) c.args.rec.now)) s.counters_are) a.stays (ap d.faults a.disk) a.keeps
+
+pub leave_looked-requires-in-Err-clause-stands : goal.leave_looked-requires-in-Err-clause-stands
+leave_looked-requires-in-Err-clause-stands g c =
+    let start = start_of c.args.hall.now in
+    let d = g.L.LogDisk in
+    let u = c.enter_log-log.new.caller in
+    let o = c.enter_log-log.result in
+    let n = c.append.new.self in
+    let a = c.in-Err.ensures in
+    let s = c.enter_log-log.ensures.stands in
+    let es = at (view u.pass).seen log_lock in
+    let look : Entry = record { by = by_at u.number u.session.levels.commands; kind = kinds.Look } in (
+      refl,
+      goes_on start d.tells (d.faults (log_disk o)) (d.faults (log_disk n)) (d.images (log_disk o)) (d.images (log_disk n)) (log_recs o) (log_recs n) (log_next o) (log_next n) (log_first o) (log_first n) (log_flushed o) (log_flushed n) (log_counters o) (log_counters n) (log_down o) (log_down n) es (by_at u.number u.session.levels.commands) s kinds.Look refl
+          a.err_recs.0 a.err_counters.1 a.err_counters.0 (a.flushed ∙ (s.flushed_is ∙ sym (number_same flushed_in start.from es look refl)))
+          (let same : faults_told (es ++ look ∷ []) ≡ faults_told es = number_same count_in 0 es look refl in let before = s.count in let still = ap d.faults a.disk in omega arith)
+          (λ m is. failed_more start es look m (s.failed m (sym a.stays ∙ is))) a.err_keeps,
+    )
+
+pub refusal_of-requires : goal.refusal_of-requires
+refusal_of-requires g c place is = c.in-Err.ensures.no_other.1 place (ap Err is)
+
+pub returns-in-Err-clause-may : goal.returns-in-Err-clause-may
+returns-in-Err-clause-may g c =
+    let e = c.enter_log-log.ensures in
+    let r = c.leave_looked-in-Err.ensures in
+    let wide = c.requires.may.ready.at.wide in
+    let same = r.same.0 ∙ e.same.0 in
+    call_left (start_of c.args.hall.now) (view c.args.caller.now.pass) (view c.enter_log-log.new.caller.pass) (view c.leave_looked-in-Err.new.caller.pass) c.args.caller.now.number c.leave_looked-in-Err.new.caller.number log_lock c.args.caller.now.session c.leave_looked-in-Err.new.caller.session _
+    c.requires.may e.entered.learns (omega arith) r.left refl (ap (λ (z : Session). z.levels.open_ids.items) same) (ap (λ (z : Session). z.stage) same) (r.same.1 ∙ e.same.1) r.ready
+
+pub returns-in-Err-clause-went : goal.returns-in-Err-clause-went
+returns-in-Err-clause-went g c =
+    let e = c.enter_log-log.ensures in
+    let wide = c.requires.may.ready.at.wide in
+    went_quiet (start_of c.args.hall.now) (view c.args.caller.now.pass) (view c.enter_log-log.new.caller.pass) (view c.leave_looked-in-Err.new.caller.pass) c.args.caller.now.number log_lock c.args.caller.now.session _ c.requires.may.ready.at e.entered.kept e.entered.learns (omega arith) refl refl c.leave_looked-in-Err.ensures.left
+
+-- what came of the record
+pub returns-in-Ok-clause-appends : goal.returns-in-Ok-clause-appends
+returns-in-Ok-clause-appends g c = c.leave_appended.ensures.session ∙ ap (λ (z : Session). record z { stage = stages.Logged c.in-Ok.number }) c.enter_log-log.ensures.same.0
+
+pub returns-then-not-may_append-clause-appends : goal.returns-then-not-may_append-clause-appends
+returns-then-not-may_append-clause-appends g c =
+    let e = c.enter_log-log.ensures in
+    let wide = c.requires.may.ready.at.wide in
+    let long = e.entered.learns.long in (
+      c.leave_looked.ensures.same.0 ∙ e.same.0,
+      λ lawful base. false≢true (sym c.if-not-may_append.true ∙ c.may_append.ensures.1 (may_come (start_of c.args.hall.now) c.enter_log-log.result (view c.enter_log-log.new.caller.pass) (view c.leave_looked.new.caller.pass) c.args.caller.now.session.levels.open_ids.items c.args.rec.now _ e.stands c.requires.record (omega arith) refl c.leave_looked.ensures.left lawful base)),
+    )
+
+pub returns-in-Err-clause-appends : goal.returns-in-Err-clause-appends
+returns-in-Err-clause-appends g c =
+    let e = c.enter_log-log.ensures in
+    let wide = c.requires.may.ready.at.wide in
+    let long = e.entered.learns.long in
+    let start = start_of c.args.hall.now in (
+      c.leave_looked-in-Err.ensures.same.0 ∙ e.same.0,
+      append_refused start (view c.leave_looked-in-Err.new.caller.pass).seen c.in-Err.refusal c.refusal_of.result c.refusal_of.ensures
+          (λ is. c.in-Err.ensures.no_other.0 (ap Err is))
+          (λ down is. down_left start (view c.enter_log-log.new.caller.pass) (view c.leave_looked-in-Err.new.caller.pass) _ down (omega arith) c.leave_looked-in-Err.ensures.left (e.stands.failed down (c.in-Err.ensures.down down (ap Err is)))),
+    )

@@ -1,0 +1,62 @@
+-- What the critical sections of the log need, and leave.
+use Rattle.std.specs.Prelude.{◌≡◌, ℕ, ◌<◌, List, ◌∷◌, Result, Ok, Err}
+use Rattle.notes.specs.Lists.{at}
+use Rattle.tx_events.specs.declared.event.By.{By}
+use Rattle.tx_events.specs.declared.record.Rec.{Rec}
+use Rattle.tx_events.specs.declared.record.Rec.TheVariants as records
+use Rattle.tx_events.specs.declared.refusal.Refusal.{Refusal}
+use Rattle.tx_events.specs.declared.refusal.Refusal.TheVariants as refusals
+use Rattle.tx_core.specs.declared.entry.Entry.{Entry}
+use Rattle.tx_core.specs.declared.entry.Kind.TheVariants as kinds
+use Rattle.tx_core.specs.declared.entry.Start.{Start}
+use Rattle.tx_core.specs.Entries.{Stands}
+use Rattle.tx_core.specs.Laws.{StaysBase}
+use Rattle.tx_core.specs.Locks.{log_lock}
+use Rattle.wal_core.specs.declared.refusal.LogRefusal.{LogRefusal}
+use Rattle.wal_core.specs.declared.refusal.LogRefusal.TheVariants as refused
+use Rattle.wal_records.specs.Spelling.{IsLawful}
+use Rattle.engine_parts.specs.declared.session.Session.{Session}
+use Rattle.engine_parts.specs.declared.session.Stage.TheVariants as stages
+use Rattle.engine_parts.specs.Answers.{MetLogFault}
+use Rattle.engine_parts.specs.Stand.{IsDownAt}
+use Rattle.log_sections.specs.declared.appending.Appended.{Appended}
+use Rattle.log_sections.specs.declared.appending.Appended.TheVariants as came
+
+-- the refusal that a call answers where its log refused so; a log that was opened isn't damaged
+abbrev pub IsRefusalOf : LogRefusal → Refusal → Type 0
+IsRefusalOf refused.LogFault r = r ≡ refusals.LogFault
+IsRefusalOf (refused.Damaged place) r = ⊥
+IsRefusalOf (refused.LogDown down) r = r ≡ refusals.LogDown down
+IsRefusalOf refused.Full r = r ≡ refusals.Full
+IsRefusalOf refused.Memory r = r ≡ refusals.Memory
+
+-- it is the commit record of these open ids
+pub record IsCommitOf (opened : List ℕ) (rec : Rec) : Type 0 where
+  pub top : ℕ
+  pub subs : List ℕ
+  pub is : rec ≡ records.Commit top subs
+  pub ids : opened ≡ top ∷ subs
+
+-- why no record was appended: the log is down behind a fault of its list, or it is full, or memory was wanting
+abbrev pub IsAppendRefused : Start → List (List Entry) → Refusal → Type 0
+IsAppendRefused start lists (refusals.LogDown down) = IsDownAt start (at lists log_lock) down
+IsAppendRefused start lists refusals.Full = Unit {0}
+IsAppendRefused start lists refusals.Memory = Unit {0}
+IsAppendRefused start lists _ = ⊥
+
+-- The record stands under the number that the session's stage tells. Or the session stands as before: after the record,
+-- if it is lawful, the log's counters would be no base, or the log refused it.
+abbrev pub Appends : Start → List (List Entry) → Rec → Session → Session → Result Appended Refusal → Type 0
+Appends start lists rec s s' (Ok (came.At number)) = s' ≡ record s { stage = stages.Logged number }
+Appends start lists rec s s' (Ok came.NoBase) = (s' ≡ s) × (IsLawful rec → StaysBase start lists rec → ⊥)
+Appends start lists rec s s' (Err r) = (s' ≡ s) × IsAppendRefused start lists r
+
+-- a flush reached past this number
+abbrev pub IsFlushedPast : List (List Entry) → ℕ → Type 0
+IsFlushedPast lists number = (to : ℕ) × (number < to) × Stands lists log_lock (kinds.Flush to)
+
+-- why the log wasn't flushed: its volume failed in this command, or it is down behind a fault of its list
+abbrev pub IsFlushRefused : Start → List (List Entry) → By → Refusal → Type 0
+IsFlushRefused start lists by refusals.LogFault = MetLogFault lists by
+IsFlushRefused start lists by (refusals.LogDown down) = IsDownAt start (at lists log_lock) down
+IsFlushRefused start lists by _ = ⊥

@@ -1,0 +1,52 @@
+//! The ProcArray is told that pages are made.
+ghost use Rattle.std.specs.Prelude.{◌≡◌, ℕ, ◌+◌, ◌*◌, ◌≤◌, []};
+ghost use Rattle.hall.specs.Calls.{view, IsOf, start_of};
+ghost use Rattle.tx_events.specs.History.{next_given};
+ghost use Rattle.tx_core.specs.Entries.{history};
+ghost use Rattle.tx_core.specs.PagesBeforeIds.{IsMade};
+ghost use Rattle.engine_parts.specs.Sessions.{MayCall};
+ghost use Rattle.engine_parts.specs.Steps.{WentOn};
+ghost use Rattle.tx_core.specs.declared.entry.Kind.TheVariants as kinds;
+
+use disk_core::{LogDisk, PageDisk};
+use engine_parts::{Caller, EngineLaw, Part, enter_proc, leave_quiet};
+use hall::{Hall, Note};
+use std::sync::Wait;
+use tx_core::Entry;
+use tx_events::By;
+use xid_order::FullXid;
+
+/// The entry that the pages of an id are made.
+fn made_note(by: By, id: FullXid) -> Note<Entry>
+    ensures { result.value ≡ record { by = by; kind = kinds.Made id } }
+{
+    Note::by(&(by, id))
+}
+
+/// Tells the ProcArray that both pages of an id are made (`ExtendCLOG` of `clog.c` and `ExtendSUBTRANS` of `subtrans.c`
+/// are done), so that the ids on them can be given: one critical section of the ProcArray. The id isn't past the next.
+pub fn tell_made<R: Wait, L: LogDisk, P: PageDisk>(
+    rt: &R,
+    hall: &Hall<EngineLaw<L, P>>,
+    caller: &mut Caller<L, P>,
+    id: FullXid,
+)
+    requires own { IsOf hall.now caller.old.pass }
+    requires laid { hall.now.cells ≡ 3 + 4 * (start_of hall.now).banks }
+    requires may { MayCall (start_of hall.now) (view caller.old.pass) caller.old.number caller.old.session }
+    requires made { IsMade (start_of hall.now) (view caller.old.pass).seen id }
+    requires next { id ≤ next_given (start_of hall.now).base.next (history (view caller.old.pass).seen) }
+    ensures own { IsOf hall.now caller.new.pass }
+    ensures may { MayCall (start_of hall.now) (view caller.new.pass) caller.new.number caller.new.session }
+    ensures went { WentOn caller.old.number [] (view caller.old.pass).seen (view caller.new.pass).seen }
+    ensures same { (caller.new.session ≡ caller.old.session) × (caller.new.number ≡ caller.old.number) }
+{
+    let by = By {
+        session: caller.number,
+        command: caller.session.levels.commands,
+    };
+    let mut table = enter_proc(rt, hall, caller);
+    table.made(id);
+    let entry = made_note(by, id);
+    leave_quiet(hall, caller, 1, Part::Proc(table), entry);
+}

@@ -16,7 +16,7 @@ use Rattle.tx_core.specs.Entries.{history, recs_in, Stands}
 use Rattle.notes.specs.Lists.{at}
 use Rattle.tx_core.specs.Locks.{log_lock, members_lock, offsets_lock, xact_lock}
 use Rattle.recoverable.specs.LifeBase.{LifeBase, base_after}
-use Rattle.recoverable.specs.Fit.{KeptLog, MayBegin, XactFits, base_at}
+use Rattle.recoverable.specs.Fit.{KeptLog, MayBegin, XactFits, base_at, log_end}
 use Rattle.recoverable.specs.XactImages.{Follows}
 use Rattle.recoverable.specs.FitMultis.{MembersFit, OffsetsFit, ShowsOffsets, offset_at}
 use Rattle.recoverable.specs.MemberImages.{CleanMembers, MembersFollow}
@@ -33,6 +33,7 @@ pub record LogFollows (start : Start) (lists : List (List Entry)) (log : KeptLog
   pub from : start.from ≡ log.first + length start.logged
   pub base : base_after log.base start.logged ≡ life_base start
   pub begun : start.from ≤ log.flushed
+  pub upto : log.flushed ≤ log_end log
   pub flushed : (to : ℕ) → Stands lists log_lock (kinds.Flush to) → to ≤ log.flushed
 
 -- an image of the log may begin at this record: one before the life, or a checkpoint before which it was to be forgotten

@@ -7,7 +7,7 @@ use Rattle.tx_events.specs.declared.multi.Member.{Member}
 use Rattle.tx_events.specs.declared.record.Rec.TheVariants as records
 use Rattle.wal_core.specs.Opening.{History, next_number, opened}
 use Rattle.recoverable.specs.LifeBase.{LifeBase}
-use Rattle.recoverable.specs.Fit.{KeptLog, XactFits, base_at, log_end, recs_below}
+use Rattle.recoverable.specs.Fit.{KeptLog, MayBegin, XactFits, base_at, log_end, recs_below}
 use Rattle.recoverable.specs.FitMultis.{MembersFit, OffsetsFit}
 
 -- the log opens to the records from number n on, those on disk among them, and ends at a byte of the volume
@@ -30,8 +30,10 @@ pub record Left : Type 0 where
   pub offsets : ℕ → Pages
   pub members : ℕ → Pages
 
+-- the log begins at a checkpoint whose counters are the log's behind it, and each page volume fits it
 pub record ImageFits (banks : ℕ) (log : KeptLog) (left : Left) : Type 0 where
   pub begins : ℕ
+  pub may_begin : MayBegin log begins
   pub opens : LogFits log begins left.log
   pub xact : (bank : ℕ) → bank < banks → XactFits banks bank log begins (left.xact bank)
   pub offsets : (bank : ℕ) → bank < banks → OffsetsFit banks bank log begins (left.offsets bank)
@@ -51,16 +53,25 @@ pub record VolumesFit (banks : ℕ) (log : KeptLog) (images : Left → Type 0) :
   pub list : ListFits log
   pub each : (left : Left) → images left → ImageFits banks log left
 
--- a log whose later bases are bases of the first one: recovery from it answers what recovery from the first may answer
-pub record Recovers (log later : KeptLog) : Type 0 where
-  pub bases : (k : ℕ) → later.flushed ≤ k → k ≤ log_end later → (j : ℕ) × (log.flushed ≤ j) × (j ≤ log_end log) × (base_at later k ≡ base_at log j)
-
--- The contract of recovery, for volumes with these images before and after. Where it answers Ok:
+-- The contract of recovery, for volumes with these images before and after. Where it answers Ok, the log kept behind it
+-- ends with one record more, the checkpoint, which is on disk. What a later recovery answers from there is this base: so
+-- the volumes hold it, whatever records of before went off the log.
 pub record Recovered (banks : ℕ) (log : KeptLog) (after : Left → Type 0) (from : ℕ) (base : LifeBase) : Type 0 where
   pub from_flushed : log.flushed ≤ from
   pub to_end : from ≤ log_end log
   pub same : base_at log from ≡ base
   pub later : KeptLog
+  pub end : log_end later ≡ from + 1
+  pub flushed : from < later.flushed
+  pub kept : (k : ℕ) → later.flushed ≤ k → k ≤ log_end later → base_at later k ≡ base
+  pub fits : VolumesFit banks later after
+
+-- where it answers an error: a log whose later bases are bases of the first one, so recovery from it answers what
+-- recovery from the first may answer
+pub record Recovers (log later : KeptLog) : Type 0 where
+  pub bases : (k : ℕ) → later.flushed ≤ k → k ≤ log_end later → (j : ℕ) × (log.flushed ≤ j) × (j ≤ log_end log) × (base_at later k ≡ base_at log j)
+
+pub record NotRecovered (banks : ℕ) (log : KeptLog) (after : Left → Type 0) : Type 0 where
+  pub later : KeptLog
   pub recovers : Recovers log later
   pub fits : VolumesFit banks later after
-  pub flushed : from < later.flushed

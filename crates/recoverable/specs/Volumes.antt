@@ -1,12 +1,9 @@
 -- Volumes that fit a log: what a crash may leave of all of them at once.
-use Rattle.std.specs.Prelude.{◌≡◌, ℕ, ◌+◌, ◌-◌, ◌<◌, ◌≤◌, List, length, drop, Some, Ok, Contains}
+use Rattle.std.specs.Prelude.{◌≡◌, ℕ, ◌+◌, ◌-◌, ◌<◌, ◌≤◌, length, drop, Some, Ok}
 use Rattle.disk_core.specs.Pages.{Pages}
 use Rattle.disk_core.specs.Volume.{Volume}
-use Rattle.tx_events.specs.Base.{IsBase}
-use Rattle.tx_events.specs.declared.multi.Member.{Member}
-use Rattle.tx_events.specs.declared.record.Rec.TheVariants as records
 use Rattle.wal_core.specs.Opening.{History, next_number, opened}
-use Rattle.recoverable.specs.LifeBase.{LifeBase}
+use Rattle.recoverable.specs.LifeBase.{IsLifeBase, LifeBase}
 use Rattle.recoverable.specs.Fit.{KeptLog, MayBegin, XactFits, base_at, log_end, recs_below}
 use Rattle.recoverable.specs.FitMultis.{MembersFit, OffsetsFit}
 
@@ -39,14 +36,11 @@ pub record ImageFits (banks : ℕ) (log : KeptLog) (left : Left) : Type 0 where
   pub offsets : (bank : ℕ) → bank < banks → OffsetsFit banks bank log begins (left.offsets bank)
   pub members : (bank : ℕ) → bank < banks → MembersFit banks bank log begins (left.members bank)
 
--- the base of each prefix of the list from what is on disk on
+-- from what is on disk on, each prefix of the list gives what a life may start from
 pub record ListFits (log : KeptLog) : Type 0 where
   pub from : log.first ≤ log.flushed
   pub upto : log.flushed ≤ log_end log
-  pub bases : (k : ℕ) → log.flushed ≤ k → k ≤ log_end log → IsBase (base_at log k).counters
-  pub committed : (k x : ℕ) → log.flushed ≤ k → k ≤ log_end log → Contains (base_at log k).committed x → x < (base_at log k).counters.next
-  pub multis : (k multi offset : ℕ) (members : List Member) → log.flushed ≤ k → k ≤ log_end log → Contains (base_at log k).recorded (records.Multi multi offset members)
-      → (multi < (base_at log k).counters.multi) × (offset + length members ≤ (base_at log k).counters.offset)
+  pub bases : (k : ℕ) → log.flushed ≤ k → k ≤ log_end log → IsLifeBase (base_at log k)
 
 -- volumes fit where each image of them does: any of the log's with any of each page volume's
 pub record VolumesFit (banks : ℕ) (log : KeptLog) (images : Left → Type 0) : Type 0 where

@@ -100,16 +100,24 @@ raised_to low high n below =
     top : (a b : ℕ) → a ≤ b → max a b ≡ b
     top a b le = grind arith
 
+-- a record's entry was added behind the records before it, and met what its kind needs
+pub append_at : (start : Start) (lists : List (List Entry)) (j : ℕ) (by : By) (rec : Rec) → EngineInvariant start lists → slice_get (records_of lists) j ≡ Some (by, rec)
+    → (before : List Entry) × (recs_in before ≡ take j (life_recs lists)) × AppendOf start lists before (kinds.Append rec)
+append_at start lists j by rec k stands =
+    let found : Found appended (at lists log_lock) j (by, rec) = find appended (at lists log_lock) j (by, rec) stands in
+    let kind : found.item.kind ≡ kinds.Append rec = appended_is found.item.by found.item.kind (by, rec) found.is in (
+      take found.place (at lists log_lock),
+      ap (λ (t : List (By × Rec)). map (λ r. r.1) t) found.front ∙ map_take (λ (r : By × Rec). r.1) j (records_of lists),
+      subst (AppendOf start lists (take found.place (at lists log_lock))) kind (k.log.counters.each log_lock found.place found.item found.stands),
+    )
+
 pub counters_at : (start : Start) (lists : List (List Entry)) (log : KeptLog) (n : ℕ) (before : List Entry) → EngineInvariant start lists → LogFollows start lists log → Begins before (at lists log_lock) → (may : MayForget start lists before n)
     → (base_at log (n + 1)).counters ≡ may.counters
 counters_at start lists log n before k f begins may =
     let from = may.from in
     let stands = stands_at start lists n before begins may in
-    let found : Found appended (at lists log_lock) (n - start.from) (may.by, records.Checkpoint n may.counters) = find appended (at lists log_lock) (n - start.from) (may.by, records.Checkpoint n may.counters) stands in
-    let kind : found.item.kind ≡ kinds.Append (records.Checkpoint n may.counters) = appended_is found.item.by found.item.kind (may.by, records.Checkpoint n may.counters) found.is in
-    let need : AppendOf start lists (take found.place (at lists log_lock)) (kinds.Append (records.Checkpoint n may.counters)) = subst (AppendOf start lists (take found.place (at lists log_lock))) kind (k.log.counters.each log_lock found.place found.item found.stands) in
-    let recs : recs_in (take found.place (at lists log_lock)) ≡ take (n - start.from) (life_recs lists) = ap (λ (t : List (By × Rec)). map (λ r. r.1) t) found.front ∙ map_take (λ (r : By × Rec). r.1) (n - start.from) (records_of lists) in
-    let below : AreNotBelow (after_records start.base (take (n - start.from) (life_recs lists))) may.counters = subst (λ (t : List Rec). AreNotBelow (after_records start.base t) may.counters) recs need.1.not_below in
+    let added = append_at start lists (n - start.from) may.by (records.Checkpoint n may.counters) k stands in
+    let below : AreNotBelow (after_records start.base (take (n - start.from) (life_recs lists))) may.counters = subst (λ (t : List Rec). AreNotBelow (after_records start.base t) may.counters) added.1 added.2.1.not_below in
     let here : slice_get (life_recs lists) (n - start.from) ≡ Some (records.Checkpoint n may.counters) = get_map (λ (r : By × Rec). r.1) (records_of lists) (n - start.from) (may.by, records.Checkpoint n may.counters) stands in
     let next : n + 1 - start.from ≡ suc (n - start.from) = omega arith in
     let behind : take (n + 1 - start.from) (life_recs lists) ≡ take (n - start.from) (life_recs lists) ++ records.Checkpoint n may.counters ∷ []

@@ -9,4 +9,6 @@ pub mod OffsetsFit
 pub mod Checkpoints
 pub mod OffsetsNone
 pub mod MultiOrder
+pub mod MultiChain
 pub mod MembersFit
+pub mod LifeBases

@@ -132,11 +132,11 @@ module _ (start : Start) (lists : List (List Entry)) (log : KeptLog) (k : Engine
       let old = clean.before multi offset members among in
       ⊎_elim
       (λ (q : (m ≡ start.base.oldest_multi) × (o ≡ start.base.oldest_offset)).
-      let z = q.1 in let w = clean.within multi offset members among (omega arith) in let w0 = w.0 in (omega arith, omega arith))
+      let z = q.1 in let w = clean.in_order.within multi offset members among (omega arith) in let w0 = w.0 in (omega arith, omega arith))
       (λ (q : (b : By) × Contains (multi_history lists) (multis.Raise b m o)).
       let r = order.raised q.0 m o (contains_has (multi_history lists) (multis.Raise q.0 m o) q.1) in
       let tells = told q.0 m o q.1 (omega arith) in
-      let le = clean.order m multi o offset tells.0 members tells.1 among down (omega arith) in
+      let le = clean.in_order.order m multi o offset tells.0 members tells.1 among down (omega arith) in
       (r.0, omega arith))
       (announced_multi start lists oldest m o k t)
 
@@ -171,7 +171,7 @@ module _ (start : Start) (lists : List (List Entry)) (log : KeptLog) (k : Engine
       let x : ℕ = offset + i in
       let up = oldest_multi_from start lists log f in
       let inside = get_inside members i member here in
-      let w = clean.within multi offset members among (omega arith) in let w0 = w.0 in let w1 = w.1 in
+      let w = clean.in_order.within multi offset members among (omega arith) in let w0 = w.0 in let w1 = w.1 in
       shows_slot shown bank (offset + i) member c (kept_base shown multi offset (offset + i) members clean told among from (omega arith)) (omega arith) (omega arith) on follows (λ n synced.
       members_show start lists shown (members_lock bank) n (offset + i) k clean.clean (omega arith)
       ∙ last_all (shown (offset + i)) (filter_map (member_for (offset + i)) (flat_map slots_in (take n (at lists (members_lock bank))))) member (clean.recorded multi offset i members member among (omega arith) here) (λ y j.
@@ -295,7 +295,7 @@ module _ (start : Start) (lists : List (List Entry)) (log : KeptLog) (k : Engine
       ⊎_elim
       (λ (a : Has start.recorded (records.Multi multi offset members)).
       let old = has_contains start.recorded (records.Multi multi offset members) a in
-      let w = clean.within multi offset members old (omega arith) in let w0 = w.0 in let w1 = w.1 in
+      let w = clean.in_order.within multi offset members old (omega arith) in let w0 = w.0 in let w1 = w.1 in
       shows_none shown bank (offset + length members) c (clean.gap multi offset members old (omega arith) none) (λ slot o. no_slot (offset + length members) slot none (omega arith) o)
       (λ i lt. (follows (offset + length members) (record { from = omega arith; to = omega arith }) (ap members_lock on)).ids i lt))
       (λ (a : Has (take (log_end log - start.from) (life_recs lists)) (records.Multi multi offset members)).

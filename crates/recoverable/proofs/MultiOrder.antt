@@ -38,18 +38,18 @@ record Joins (base : Counters) (h : List MultiEvent) (e : MultiEvent) (free : �
   raised : (by : By) (m x : ℕ) → e ≡ multis.Raise by m x → (base.oldest_offset ≤ x) × (x ≤ free)
   past : (a b : By) (m n x y : ℕ) (ns : List Member) → e ≡ multis.Raise a m x → Has h (multis.Gen b n y ns) → m ≤ n → x ≤ y
 
-last_cases : (h : List MultiEvent) (e f : MultiEvent) → Has (h ++ e ∷ []) f → Has h f ⊎ (e ≡ f)
+pub last_cases : (h : List MultiEvent) (e f : MultiEvent) → Has (h ++ e ∷ []) f → Has h f ⊎ (e ≡ f)
 last_cases h e f k = ⊎_elim inl (λ t. ⊎_elim inr (λ z. absurd z) t) (has_cases h (e ∷ []) f k)
 
-abbrev multi_in : MultiEvent → ℕ
+abbrev pub multi_in : MultiEvent → ℕ
 multi_in (multis.Gen by multi offset members) = multi
 multi_in _ = 0
 
-abbrev offset_in : MultiEvent → ℕ
+abbrev pub offset_in : MultiEvent → ℕ
 offset_in (multis.Gen by multi offset members) = offset
 offset_in _ = 0
 
-abbrev members_in : MultiEvent → List Member
+abbrev pub members_in : MultiEvent → List Member
 members_in (multis.Gen by multi offset members) = members
 members_in _ = []
 

@@ -43,7 +43,7 @@ use Rattle.recoverable.specs.LifeBase.{LifeBase, is_multi}
 use Rattle.recoverable.specs.Images.{MayBeGone}
 use Rattle.recoverable.specs.OffsetImages.{ByteSince, CleanOffsets, OffsetsFollow, number_or_none, offset_after, offset_ring}
 use Rattle.recoverable.proofs.FitsXact.{logged_at, may_forget}
-use Rattle.recoverable.proofs.LogBases.{base_from, life_recs, oldest_multi_grows, oldest_multi_past}
+use Rattle.recoverable.proofs.LogBases.{base_from, life_recs, oldest_multi_grows, oldest_multi_past, recorded_split}
 use Rattle.recoverable.proofs.MultiFacts.{gen_below, multis_have_room, one_offset, raised_from}
 use Rattle.recoverable.proofs.Offsets.{given_from, set_of}
 use Rattle.recoverable.proofs.Stretches.{filter_map_has, flat_map_has, get_in_beginning, get_map, has_longer, has_taken, has_within, map_get, taken_place}
@@ -178,10 +178,7 @@ shows_base start lists log shown bank multi offset members c k is clean f few am
 
 -- the records of the base at a number from the life's start on
 pub recorded_cases : (start : Start) (lists : List (List Entry)) (log : KeptLog) (n : ℕ) (rec : Rec) → LogFollows start lists log → start.from ≤ n → Contains (base_at log n).recorded rec → Has start.recorded rec ⊎ Has (take (n - start.from) (life_recs lists)) rec
-recorded_cases start lists log n rec f up c =
-    let split : Contains (start.recorded ++ filter is_multi (take (n - start.from) (life_recs lists))) rec = subst (λ (b : LifeBase). Contains b.recorded rec) (base_from start lists log n f up) c in
-    ⊎_elim inl (λ h. inr (has_filter is_multi (take (n - start.from) (life_recs lists)) rec h).0)
-    (has_cases start.recorded (filter is_multi (take (n - start.from) (life_recs lists))) rec (contains_has _ rec split))
+recorded_cases start lists log n rec f up c = recorded_split start (take (n - start.from) (life_recs lists)) rec (subst (λ (b : LifeBase). Contains b.recorded rec) (base_from start lists log n f up) c)
 
 -- a record of a multixact was appended for one that was given
 pub appended_gen : (start : Start) (lists : List (List Entry)) (place : ℕ) (by : By) (multi offset : ℕ) (members : List Member) → EngineInvariant start lists → slice_get (records_of lists) place ≡ Some (by, records.Multi multi offset members)

@@ -1,5 +1,6 @@
 -- The law: where the engine invariant holds, and values stand for their lists, the volumes fit.
 use Rattle.std.specs.Prelude.{◌≡◌, ℕ, ◌+◌, ◌<◌, ◌≤◌, ◌⊎◌, List, ◌++◌, length, Option, None, IsTrue}
+use Rattle.xid_order.specs.Ids.{IsFullMulti}
 use Rattle.disk_core.specs.Pages.{Pages}
 use Rattle.tx_events.specs.Base.{IsBase}
 use Rattle.tx_events.specs.Events.{given}
@@ -15,8 +16,9 @@ use Rattle.tx_core.specs.EngineInvariant.{EngineInvariant}
 use Rattle.tx_core.specs.Entries.{history, recs_in, Stands}
 use Rattle.notes.specs.Lists.{at}
 use Rattle.tx_core.specs.Locks.{log_lock, members_lock, offsets_lock, xact_lock}
-use Rattle.recoverable.specs.LifeBase.{LifeBase, base_after}
-use Rattle.recoverable.specs.Fit.{KeptLog, MayBegin, XactFits, base_at}
+use Rattle.recoverable.specs.LifeBase.{IsLifeBase, LifeBase, base_after}
+use Rattle.recoverable.specs.Fit.{KeptLog, MayBegin, XactFits, base_at, log_end}
+use Rattle.recoverable.specs.Volumes.{ListFits}
 use Rattle.recoverable.specs.XactImages.{Follows}
 use Rattle.recoverable.specs.FitMultis.{MembersFit, OffsetsFit, ShowsOffsets, offset_at}
 use Rattle.recoverable.specs.MemberImages.{CleanMembers, MembersFollow}
@@ -33,12 +35,18 @@ pub record LogFollows (start : Start) (lists : List (List Entry)) (log : KeptLog
   pub from : start.from ≡ log.first + length start.logged
   pub base : base_after log.base start.logged ≡ life_base start
   pub begun : start.from ≤ log.flushed
+  pub upto : log.flushed ≤ log_end log
   pub flushed : (to : ℕ) → Stands lists log_lock (kinds.Flush to) → to ≤ log.flushed
 
 -- an image of the log may begin at this record: one before the life, or a checkpoint before which it was to be forgotten
 abbrev pub IsBeginning : Start → List (List Entry) → ℕ → Type 0
 IsBeginning start lists n =
     (n < start.from) ⊎ (Stands lists log_lock (kinds.Forget n) ⊎ ((count : ℕ) × Stands lists log_lock (kinds.LogFault (calls.Forget n) count)))
+
+-- Where the life's base is what a life may start from, and the pages told, so is each base that its log may give: the
+-- log's list fits.
+abbrev pub ListFitsLaw : Type 0
+ListFitsLaw = (start : Start) (lists : List (List Entry)) (log : KeptLog) → EngineInvariant start lists → IsTrue start.told → IsFullMulti start.base.multi → IsLifeBase (life_base start) → LogFollows start lists log → ListFits log
 
 -- A checkpoint before which the log was to be forgotten is on disk, and its counters are the log's behind it: so the
 -- log may begin there.

@@ -1,10 +1,14 @@
 -- What a life starts from, and what records make of it.
-use Rattle.std.specs.Prelude.{ℕ, List, [], ◌∷◌, ◌++◌, Bool, true, false}
+use Rattle.std.specs.Prelude.{◌≡◌, ℕ, ◌+◌, ◌<◌, ◌≤◌, List, [], ◌∷◌, ◌++◌, length, Bool, true, false, Contains}
 use Rattle.std.specs.List.{filter, flat_map}
+use Rattle.xid_order.specs.Ids.{next_multi}
+use Rattle.tx_events.specs.declared.multi.Member.{Member}
 use Rattle.tx_events.specs.declared.record.Counters.{Counters}
 use Rattle.tx_events.specs.declared.record.Rec.{Rec}
 use Rattle.tx_events.specs.declared.record.Rec.TheVariants as records
 use Rattle.tx_events.specs.After.{after_records}
+use Rattle.tx_events.specs.Base.{IsBase}
+use Rattle.tx_events.specs.Multis.{first_member}
 
 -- the counters, the ids that are committed, and the records of the multixacts
 pub record LifeBase : Type 0 where
@@ -30,3 +34,22 @@ base_after base recs = record {
   committed = base.committed ++ committed_in recs;
   recorded = base.recorded ++ filter is_multi recs;
 }
+
+-- The recorded multixacts from the oldest one on lie in the order of their numbers, from the oldest offset to below the
+-- next free one, each right behind the one whose number comes before, and the last up to the next free offset.
+pub record AreInOrder (c : Counters) (recorded : List Rec) : Type 0 where
+  pub within : (multi offset : ℕ) (members : List Member) → Contains recorded (records.Multi multi offset members) → c.oldest_multi ≤ multi
+      → (c.oldest_offset ≤ offset) × (offset + length members ≤ c.offset)
+  pub order : (m n x y : ℕ) (ms ns : List Member) → Contains recorded (records.Multi m x ms) → Contains recorded (records.Multi n y ns) → c.oldest_multi ≤ m → m ≤ n → x ≤ y
+  pub behind : (m n x y : ℕ) (ms ns : List Member) → Contains recorded (records.Multi m x ms) → Contains recorded (records.Multi n y ns) → c.oldest_multi ≤ m → n ≡ next_multi m
+      → y ≡ first_member (x + length ms)
+  pub last : (m x : ℕ) (ms : List Member) → Contains recorded (records.Multi m x ms) → c.oldest_multi ≤ m → next_multi m ≡ c.multi → x + length ms ≡ c.offset
+
+-- what a life may start from: its counters are a base, no id or multixact that it names is past them, and the recorded
+-- multixacts lie in order
+pub record IsLifeBase (base : LifeBase) : Type 0 where
+  pub counters : IsBase base.counters
+  pub committed : (x : ℕ) → Contains base.committed x → x < base.counters.next
+  pub multis : (multi offset : ℕ) (members : List Member) → Contains base.recorded (records.Multi multi offset members)
+      → (multi < base.counters.multi) × (offset + length members ≤ base.counters.offset)
+  pub in_order : AreInOrder base.counters base.recorded

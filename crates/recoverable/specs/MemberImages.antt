@@ -15,6 +15,7 @@ use Rattle.tx_events.specs.declared.multi.Member.{Member}
 use Rattle.tx_events.specs.declared.record.Rec.TheVariants as records
 use Rattle.recoverable.specs.FitMultis.{byte_of, mode_at}
 use Rattle.recoverable.specs.Images.{PageRing, Reading, Since}
+use Rattle.recoverable.specs.LifeBase.{AreInOrder}
 
 -- a slot with no member has the id 0
 abbrev pub id_or_none : Option Member → ℕ
@@ -54,14 +55,12 @@ pub record IsNearOffset (start : Start) (offset : ℕ) : Type 0 where
 abbrev pub MembersFollow : Start → ℕ → (ℕ → Option Member) → List Entry → Pages → Type 0
 MembersFollow start bank shown es c = (offset : ℕ) → IsNearOffset start offset → members_lock_of start offset ≡ members_lock bank → SlotSince start shown es c offset
 
--- What the pages of members show when a life begins: the recorded multixacts from the oldest one on have their
--- members, which lie in the order of their numbers from the oldest offset to below the next free one. No member shows
--- where an offset of low half 0 comes right behind them, nor at the offsets that come next.
+-- What the pages of members show when a life begins: the recorded multixacts from the oldest one on, which lie in order,
+-- have their members. No member shows where an offset of low half 0 comes right behind them, nor at the offsets that
+-- come next.
 pub record CleanMembers (start : Start) (shown : ℕ → Option Member) : Type 0 where
   pub before : (multi offset : ℕ) (members : List Member) → Contains start.recorded (records.Multi multi offset members) → multi < start.base.multi
-  pub within : (multi offset : ℕ) (members : List Member) → Contains start.recorded (records.Multi multi offset members) → start.base.oldest_multi ≤ multi
-      → (start.base.oldest_offset ≤ offset) × (offset + length members ≤ start.base.offset)
-  pub order : (m n x y : ℕ) (ms ns : List Member) → Contains start.recorded (records.Multi m x ms) → Contains start.recorded (records.Multi n y ns) → start.base.oldest_multi ≤ m → m ≤ n → x ≤ y
+  pub in_order : AreInOrder start.base start.recorded
   pub recorded : (multi offset k : ℕ) (members : List Member) (member : Member) → Contains start.recorded (records.Multi multi offset members) → start.base.oldest_multi ≤ multi
       → slice_get members k ≡ Some member → shown (offset + k) ≡ Some member
   pub gap : (multi offset : ℕ) (members : List Member) → Contains start.recorded (records.Multi multi offset members) → start.base.oldest_multi ≤ multi

@@ -1,13 +1,10 @@
 -- Volumes that fit a log: what a crash may leave of all of them at once.
-use Rattle.std.specs.Prelude.{◌≡◌, ℕ, ◌+◌, ◌-◌, ◌<◌, ◌≤◌, List, length, drop, Some, Ok, Contains}
+use Rattle.std.specs.Prelude.{◌≡◌, ℕ, ◌+◌, ◌-◌, ◌<◌, ◌≤◌, length, drop, Some, Ok}
 use Rattle.disk_core.specs.Pages.{Pages}
 use Rattle.disk_core.specs.Volume.{Volume}
-use Rattle.tx_events.specs.Base.{IsBase}
-use Rattle.tx_events.specs.declared.multi.Member.{Member}
-use Rattle.tx_events.specs.declared.record.Rec.TheVariants as records
 use Rattle.wal_core.specs.Opening.{History, next_number, opened}
-use Rattle.recoverable.specs.LifeBase.{LifeBase}
-use Rattle.recoverable.specs.Fit.{KeptLog, XactFits, base_at, log_end, recs_below}
+use Rattle.recoverable.specs.LifeBase.{IsLifeBase, LifeBase}
+use Rattle.recoverable.specs.Fit.{KeptLog, MayBegin, XactFits, base_at, log_end, recs_below}
 use Rattle.recoverable.specs.FitMultis.{MembersFit, OffsetsFit}
 
 -- the log opens to the records from number n on, those on disk among them, and ends at a byte of the volume
@@ -30,37 +27,45 @@ pub record Left : Type 0 where
   pub offsets : ℕ → Pages
   pub members : ℕ → Pages
 
+-- the log begins at a checkpoint whose counters are the log's behind it, and each page volume fits it
 pub record ImageFits (banks : ℕ) (log : KeptLog) (left : Left) : Type 0 where
   pub begins : ℕ
+  pub may_begin : MayBegin log begins
   pub opens : LogFits log begins left.log
   pub xact : (bank : ℕ) → bank < banks → XactFits banks bank log begins (left.xact bank)
   pub offsets : (bank : ℕ) → bank < banks → OffsetsFit banks bank log begins (left.offsets bank)
   pub members : (bank : ℕ) → bank < banks → MembersFit banks bank log begins (left.members bank)
 
--- the base of each prefix of the list from what is on disk on
+-- from what is on disk on, each prefix of the list gives what a life may start from
 pub record ListFits (log : KeptLog) : Type 0 where
   pub from : log.first ≤ log.flushed
   pub upto : log.flushed ≤ log_end log
-  pub bases : (k : ℕ) → log.flushed ≤ k → k ≤ log_end log → IsBase (base_at log k).counters
-  pub committed : (k x : ℕ) → log.flushed ≤ k → k ≤ log_end log → Contains (base_at log k).committed x → x < (base_at log k).counters.next
-  pub multis : (k multi offset : ℕ) (members : List Member) → log.flushed ≤ k → k ≤ log_end log → Contains (base_at log k).recorded (records.Multi multi offset members)
-      → (multi < (base_at log k).counters.multi) × (offset + length members ≤ (base_at log k).counters.offset)
+  pub bases : (k : ℕ) → log.flushed ≤ k → k ≤ log_end log → IsLifeBase (base_at log k)
 
 -- volumes fit where each image of them does: any of the log's with any of each page volume's
 pub record VolumesFit (banks : ℕ) (log : KeptLog) (images : Left → Type 0) : Type 0 where
   pub list : ListFits log
   pub each : (left : Left) → images left → ImageFits banks log left
 
--- a log whose later bases are bases of the first one: recovery from it answers what recovery from the first may answer
-pub record Recovers (log later : KeptLog) : Type 0 where
-  pub bases : (k : ℕ) → later.flushed ≤ k → k ≤ log_end later → (j : ℕ) × (log.flushed ≤ j) × (j ≤ log_end log) × (base_at later k ≡ base_at log j)
-
--- The contract of recovery, for volumes with these images before and after. Where it answers Ok:
+-- The contract of recovery, for volumes with these images before and after. Where it answers Ok, the log kept behind it
+-- ends with one record more, the checkpoint, which is on disk. What a later recovery answers from there is this base: so
+-- the volumes hold it, whatever records of before went off the log.
 pub record Recovered (banks : ℕ) (log : KeptLog) (after : Left → Type 0) (from : ℕ) (base : LifeBase) : Type 0 where
   pub from_flushed : log.flushed ≤ from
   pub to_end : from ≤ log_end log
   pub same : base_at log from ≡ base
   pub later : KeptLog
+  pub end : log_end later ≡ from + 1
+  pub flushed : from < later.flushed
+  pub kept : (k : ℕ) → later.flushed ≤ k → k ≤ log_end later → base_at later k ≡ base
+  pub fits : VolumesFit banks later after
+
+-- where it answers an error: a log whose later bases are bases of the first one, so recovery from it answers what
+-- recovery from the first may answer
+pub record Recovers (log later : KeptLog) : Type 0 where
+  pub bases : (k : ℕ) → later.flushed ≤ k → k ≤ log_end later → (j : ℕ) × (log.flushed ≤ j) × (j ≤ log_end log) × (base_at later k ≡ base_at log j)
+
+pub record NotRecovered (banks : ℕ) (log : KeptLog) (after : Left → Type 0) : Type 0 where
+  pub later : KeptLog
   pub recovers : Recovers log later
   pub fits : VolumesFit banks later after
-  pub flushed : from < later.flushed

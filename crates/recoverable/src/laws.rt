@@ -1,8 +1,14 @@
-ghost use Rattle.recoverable.specs.Laws.{MayBeginLaw, XactFitsLaw, OffsetsShownLaw, OffsetsFitLaw, MembersFitLaw, NoStrayOffset};
+ghost use Rattle.recoverable.specs.Laws.{ListFitsLaw, MayBeginLaw, XactFitsLaw, OffsetsShownLaw, OffsetsFitLaw, MembersFitLaw, NoStrayOffset};
 
 /// A checkpoint before which the log was to be forgotten is on disk, with counters that are the log's behind it.
 pub fn may_begin()
     ensures { MayBeginLaw }
+{}
+
+/// Each base that the log may give is what a life may start from: what is committed was given, and the recorded
+/// multixacts lie behind each other.
+pub fn list_fits()
+    ensures { ListFitsLaw }
 {}
 
 /// Where the invariant holds and a bank's value stands for its list, each image of a bank of pg_xact fits the log

@@ -10,5 +10,6 @@ pub mod Checkpoints
 pub mod OffsetsNone
 pub mod MultiOrder
 pub mod MultiChain
+pub mod Announced
 pub mod MembersFit
 pub mod LifeBases

@@ -27,10 +27,10 @@ use Rattle.tx_core.specs.MultiEntries.{multi_history}
 use Rattle.tx_core.specs.RecordsFollow.{CheckpointOf, CountersOf, IsMultiAnnounced, IsMultiAt, IsOldestAnnounced}
 use Rattle.recoverable.specs.Laws.{ListFitsLaw, life_base}
 use Rattle.recoverable.specs.LifeBase.{AreInOrder, IsLifeBase, base_after, committed_in, is_multi}
+use Rattle.recoverable.proofs.Announced.{announced_given, announced_old}
 use Rattle.recoverable.proofs.Checkpoints.{append_at}
 use Rattle.recoverable.proofs.LogBases.{base_from, committed_below, life_recs, multi_below, next_grows, oldest_multi_grows, offset_grows, multi_grows, recorded_split}
 use Rattle.recoverable.proofs.MultiChain.{Chained, chained, free_upto, next_later, next_upto}
-use Rattle.recoverable.proofs.MultiFacts.{raised_from}
 use Rattle.recoverable.proofs.MultiOrder.{Ordered, ordered}
 use Rattle.recoverable.proofs.OffsetsFit.{appended_gen}
 use Rattle.recoverable.proofs.Stretches.{map_get}
@@ -89,12 +89,8 @@ module _ (start : Start) (lists : List (List Entry)) (k : EngineInvariant start 
       let upto = next_upto m start.base.multi below full in
       record {
         from = w0;
-        announced = λ multi offset a le. ⊎_elim
-            (λ (q : (multi ≡ start.base.oldest_multi) × (offset ≡ start.base.oldest_offset)). let z = q.1 in omega arith)
-            (λ (q : (by : By) × Contains (multi_history lists) (multis.Raise by multi offset)).
-            let t = raises_told start lists q.0 multi offset k told q.1 (omega arith) in
-            is.in_order.order multi m offset x t.0 ms t.1 old (raised_from start.base (multi_history lists) q.0 multi offset legal q.1) le)
-            a;
+        announced = λ multi offset a le.
+            (announced_old start lists k is.counters m x ms is.in_order (λ by n y raised before. raises_told start lists by n y k told raised before) old from below multi offset a le).1;
         places = λ multi offset p le.
             let whole : AreLegalMultis start.base (InBase start.base) (take p.0 (multi_history lists) ++ drop p.0 (multi_history lists)) = subst (AreLegalMultis start.base (InBase start.base)) (sym (take-append-drop p.0 (multi_history lists))) legal in
             let c = chained start.base full (take p.0 (multi_history lists)) (each_place_start (MultiMayCome start.base (InBase start.base)) (take p.0 (multi_history lists)) (drop p.0 (multi_history lists)) whole) in
@@ -115,11 +111,7 @@ module _ (start : Start) (lists : List (List Entry)) (k : EngineInvariant start 
       let low : start.base.oldest_offset ≤ start.base.offset = is.counters.oldest_offset in
       record {
         from = omega arith;
-        announced = λ multi offset a le. ⊎_elim
-            (λ (q : (multi ≡ start.base.oldest_multi) × (offset ≡ start.base.oldest_offset)). let z = q.1 in omega arith)
-            (λ (q : (b : By) × Contains (multi_history lists) (multis.Raise b multi offset)).
-            order.past q.0 by multi m offset x ms (contains_has (multi_history lists) (multis.Raise q.0 multi offset) q.1) gen le)
-            a;
+        announced = λ multi offset a le. (announced_given start lists k is.counters by m x ms gen multi offset a le).1;
         places = λ multi offset p le.
             let split : take p.0 (multi_history lists) ++ drop p.0 (multi_history lists) ≡ multi_history lists = take-append-drop p.0 (multi_history lists) in
             let at = p.2 in let free = p.3 in

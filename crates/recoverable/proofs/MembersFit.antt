@@ -38,6 +38,7 @@ use Rattle.recoverable.specs.FitMultis.{ShowsMembers, ShowsNoGap, byte_of, membe
 use Rattle.recoverable.specs.Images.{IsAsWanted, MayBeGone, Since, shows_of}
 use Rattle.recoverable.specs.MemberImages.{CleanMembers, MembersFollow, SlotSince, id_byte, id_or_none, member_reading, member_ring, wanted_id, wanted_mode}
 use Rattle.recoverable.specs.Laws.{IsBeginning, LogFollows, MembersFitLaw}
+use Rattle.recoverable.proofs.Announced.{AreRaisesTold, announced_given, announced_old}
 use Rattle.recoverable.proofs.FitsXact.{may_forget}
 use Rattle.recoverable.proofs.LogBases.{life_recs}
 use Rattle.recoverable.proofs.MultiOrder.{Ordered, ordered}
@@ -45,11 +46,6 @@ use Rattle.recoverable.proofs.Offsets.{zero_byte}
 use Rattle.recoverable.proofs.OffsetsFit.{announced_multi, appended_gen, earlier_recorded, last_all, last_some, life_end, number_of_bytes, oldest_multi_from, recorded_below, recorded_cases, truncated_multi}
 use Rattle.recoverable.proofs.Places.{shows_from}
 use Rattle.recoverable.proofs.Stretches.{filter_map_has, flat_map_has, get_inside, has_longer, map_get, taken_place}
-
--- where a multixact of the base is announced as the oldest one, it is announced with its offset
-abbrev AreRaisesTold : Start → List (List Entry) → Type 0
-AreRaisesTold start lists = (by : By) (multi offset : ℕ) → Contains (multi_history lists) (multis.Raise by multi offset) → multi < start.base.multi
-    → (members : List Member) × Contains start.recorded (records.Multi multi offset members)
 
 slot_at : (offset : ℕ) (v : Member) (slot : SetSlot) → member_for offset slot ≡ Some v → (slot.offset ≡ offset) × (slot.member ≡ v)
 slot_at offset v slot e = of_number slot.offset offset slot.member v e
@@ -112,33 +108,16 @@ module _ (start : Start) (lists : List (List Entry)) (log : KeptLog) (k : Engine
   kept_life : (by : By) (multi offset x : ℕ) (members : List Member) → Has (multi_history lists) (multis.Gen by multi offset members) → (base_at log log.flushed).counters.oldest_multi ≤ multi → offset ≤ x → IsKept x
   kept_life by multi offset x members gen from on oldest m o t =
       let up = (truncated_multi start lists log oldest m o k f t).1 in
-      let ord = order in
-      let g = ord.given by multi offset members gen in let g0 = g.0 in
-      let low = is.oldest_offset in
-      ⊎_elim
-      (λ (q : (m ≡ start.base.oldest_multi) × (o ≡ start.base.oldest_offset)). let z = q.1 in (omega arith, omega arith))
-      (λ (q : (b : By) × Contains (multi_history lists) (multis.Raise b m o)).
-      let raise = contains_has (multi_history lists) (multis.Raise q.0 m o) q.1 in
-      let r = ord.raised q.0 m o raise in
-      let le = ord.past q.0 by m multi o offset members raise gen (omega arith) in
-      (r.0, omega arith))
-      (announced_multi start lists oldest m o k t)
+      let past = announced_given start lists k is by multi offset members gen m o (announced_multi start lists oldest m o k t) (omega arith) in
+      let upto = past.1 in (past.0, omega arith)
 
   -- and so does one of the base, where its announcements were told
   kept_base : (shown : ℕ → Option Member) (multi offset x : ℕ) (members : List Member) → CleanMembers start shown → AreRaisesTold start lists → Contains start.recorded (records.Multi multi offset members)
       → (base_at log log.flushed).counters.oldest_multi ≤ multi → offset ≤ x → IsKept x
   kept_base shown multi offset x members clean told among from on oldest m o t =
       let both = truncated_multi start lists log oldest m o k f t in let down = both.0 in let up = both.1 in
-      let old = clean.before multi offset members among in
-      ⊎_elim
-      (λ (q : (m ≡ start.base.oldest_multi) × (o ≡ start.base.oldest_offset)).
-      let z = q.1 in let w = clean.in_order.within multi offset members among (omega arith) in let w0 = w.0 in (omega arith, omega arith))
-      (λ (q : (b : By) × Contains (multi_history lists) (multis.Raise b m o)).
-      let r = order.raised q.0 m o (contains_has (multi_history lists) (multis.Raise q.0 m o) q.1) in
-      let tells = told q.0 m o q.1 (omega arith) in
-      let le = clean.in_order.order m multi o offset tells.0 members tells.1 among down (omega arith) in
-      (r.0, omega arith))
-      (announced_multi start lists oldest m o k t)
+      let past = announced_old start lists k is multi offset members clean.in_order told among (omega arith) (clean.before multi offset members among) m o (announced_multi start lists oldest m o k t) (omega arith) in
+      let upto = past.1 in (past.0, omega arith)
 
   -- an image shows what each entry list from the last sync on shows
   shows_slot : (shown : ℕ → Option Member) (bank x : ℕ) (member : Member) (c : Pages) → IsKept x → start.base.oldest_offset ≤ x → x < start.base.offset + 2 ^ 28 → member_page_of x % start.banks ≡ bank

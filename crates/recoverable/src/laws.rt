@@ -5,7 +5,7 @@ pub fn may_begin()
     ensures { MayBeginLaw }
 {}
 
-/// Each base that the log may give is what a life may start from: what is committed was given, and the recorded
+/// Each base that the log may give is one from which a life may start: its counters are past what it names, and its
 /// multixacts lie behind each other.
 pub fn list_fits()
     ensures { ListFitsLaw }

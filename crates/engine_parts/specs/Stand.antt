@@ -1,6 +1,6 @@
 -- What a value behind a lock says, where the lock's list is this one. A record for each kind of value, over plain
 -- numbers, lists and maps.
-use Rattle.std.specs.Prelude.{◌≡◌, ℕ, ◌+◌, ◌*◌, ◌^◌, ◌%◌, ◌<◌, ◌≤◌, ◌⊎◌, Bool, false, IsTrue, List, ◌∷◌, ◌++◌, length, Option, Some, None, Contains}
+use Rattle.std.specs.Prelude.{◌≡◌, ℕ, ◌+◌, ◌*◌, ◌^◌, ◌%◌, ◌<◌, ◌≤◌, ◌⊎◌, Bool, false, IsTrue, List, ◌∷◌, ◌++◌, length, Option, Some, None, Contains, max}
 use Rattle.std.specs.List.{filter_map, fold}
 use Rattle.disk_core.specs.Volume.{Volume}
 use Rattle.tx_events.specs.declared.event.By.{By}
@@ -75,18 +75,22 @@ pub record LogStands (start : Start) (tells : Bool) (faults : ℕ) (images : Vol
 
 -- ---- the ProcArray
 
--- The last page of pg_subtrans that the ProcArray was told of: that of the start's next id, or of an id that was told.
-abbrev pub IsFrontier : Start → List Entry → ℕ → Type 0
-IsFrontier start es page =
-    (page ≡ subtrans_page start.base.next)
-    ⊎ ((by : By) × (told : ℕ) × Contains es (record { by = by; kind = kinds.Made told }) × (page ≡ subtrans_page told))
+-- the id whose pages the ProcArray was told of
+abbrev pub told_in : Kind → Option ℕ
+told_in (kinds.Made id) = Some id
+told_in _ = None
+
+-- the last page of pg_subtrans that the ProcArray was told of; that of the start's next id is made
+abbrev pub frontier_of : Start → List Entry → ℕ
+frontier_of start es =
+    fold (λ page id. max page (subtrans_page id)) (subtrans_page start.base.next) (filter_map (λ e. told_in e.kind) es)
 
 -- the table's events are the list's
 pub record ProcStands (start : Start) (table : Table) (es : List Entry) : Type 0 where
   pub base : table.base ≡ start.base
   pub sessions : table.sessions ≡ start.sessions
   pub events : table.events ≡ events_in es
-  pub frontier : IsFrontier start es table.initialised_up_to
+  pub frontier : table.initialised_up_to ≡ frontier_of start es
 
 -- ---- banks
 

@@ -1,8 +1,9 @@
 -- The pages of the next id are made where the ProcArray was told so.
-use Rattle.std.proofs.Common.{max, ◌⊎◌, Bool, ◌≡◌, ℕ, ◌%◌, ◌≤◌, List, [], ◌∷◌, ◌++◌, refl, append-nil, sym, ap, subst, ◌∙◌, inl, inr, ⊎_elim, length, arith, take, drop}
+use Rattle.std.proofs.Common.{max, None, ◌<◌, Bool, ◌≡◌, ℕ, ◌%◌, ◌≤◌, List, [], ◌∷◌, ◌++◌, refl, append-nil, sym, ap, subst, ◌∙◌, inl, inr, ⊎_elim, length, arith, take, drop}
 use Rattle.std.proofs.lemmas.List.{take-append-drop}
-use Rattle.std.proofs.lemmas.List.Elements.{filter_map-append, Contains-push}
+use Rattle.std.proofs.lemmas.List.Elements.{filter_map-append}
 use Rattle.notes.specs.Lists.{Knows, at}
+use Rattle.notes.proofs.Growing.{at_here}
 use Rattle.tx_events.specs.declared.event.By.{By}
 use Rattle.tx_events.specs.declared.event.Event.{Event}
 use Rattle.tx_events.specs.Events.{given}
@@ -25,9 +26,10 @@ use Rattle.tx_core.proofs.Rising.{given_more}
 use Rattle.proc_table.specs.Table.{IsGiven, Table, next_of, page_of}
 use Rattle.proc_table.specs.declared.answers.Given.{Given}
 use Rattle.proc_table.specs.declared.answers.Given.TheVariants as gives
+use Rattle.engine_parts.specs.Holds.{Knowledge, Leaves}
 use Rattle.engine_parts.specs.Law.{MayKeep}
-use Rattle.engine_parts.specs.Stand.{IsFrontier, ProcStands}
-use Rattle.engine_parts.proofs.Tabling.{frontier_more}
+use Rattle.engine_parts.specs.Stand.{ProcStands, frontier_of, told_in}
+use Rattle.engine_parts.proofs.Tabling.{frontier_push, frontier_same, frontier_told, told_within}
 
 xact_same : (a b : ℕ) → subtrans_page a ≡ subtrans_page b → xact_page a ≡ xact_page b
 xact_same a b q = omega arith
@@ -54,7 +56,8 @@ made_here start seen t id k s next within =
     let is : id ≡ next_given start.base.next (history seen) = next ∙ (λ j. next_given (s.base j).next (s.events j)) in
     let from : start.base.next ≤ next_given start.base.next (history seen) = nth_from start.base.next (length (given (history seen))) in
     ⊎_elim
-    (λ (f : t.initialised_up_to ≡ subtrans_page start.base.next).
+    (λ (f : frontier_of start (at seen proc_lock) ≡ subtrans_page start.base.next).
+    let first : t.initialised_up_to ≡ subtrans_page start.base.next = s.frontier ∙ f in
     let q : subtrans_page id ≡ subtrans_page start.base.next = omega arith in
     ((inl (xact_same id start.base.next q), inl q), inl q))
     (λ f.
@@ -65,15 +68,24 @@ made_here start seen t id k s next within =
     let rises : next_given start.base.next (events_in (take p.0 es)) ≤ next_given start.base.next (history seen) =
     given_more start.base (events_in (take p.0 es)) (history seen) (begins_filter_map event_of (take p.0 es) es (drop p.0 es, take-append-drop p.0 es)) in
     let told_to : f.1 ≤ next_given start.base.next (events_in (take p.0 es)) = need.1 in
-    let page : t.initialised_up_to ≡ subtrans_page f.1 = f.3 in
+    let page : t.initialised_up_to ≡ subtrans_page f.1 = s.frontier ∙ f.3 in
     let q : subtrans_page f.1 ≡ subtrans_page id = omega arith in
     (made_same start seen f.1 id q need.0, inr (f.0, f.1, q, f.2)))
-    s.frontier
+    (frontier_told start (at seen proc_lock))
 
 -- what is no id is a page that has to be made
-pub need_page : (old new : Table) (event : ℕ → Event) (x : Given) → IsGiven old new event x → ((id : ℕ) (warn : Bool) → x ≡ gives.Id id warn → ⊥) → (id : ℕ) × (x ≡ gives.NeedPage id) × (id ≡ next_of old) × (new ≡ old)
+pub need_page : (old new : Table) (event : ℕ → Event) (x : Given) → IsGiven old new event x → ((id : ℕ) (warn : Bool) → x ≡ gives.Id id warn → ⊥) → (id : ℕ) × (x ≡ gives.NeedPage id) × (id ≡ next_of old) × (old.initialised_up_to < page_of id) × (new ≡ old)
 need_page old new event (gives.Id id warn) g other = absurd (other id warn refl)
-need_page old new event (gives.NeedPage id) g other = (id, refl, g.0, g.2)
+need_page old new event (gives.NeedPage id) g other = (id, refl, g.0, g.1, g.2)
+
+-- the ProcArray was told of no page past the table's last, also behind an entry that tells of none
+pub untold : (start : Start) (t : Table) (u w : Knowledge) (id : ℕ) (e : Entry) → proc_lock < length u.seen → told_in e.kind ≡ None → Leaves start proc_lock e u w → ProcStands start t (at u.seen proc_lock) → t.initialised_up_to < page_of id → IsTold start (at w.seen proc_lock) id → ⊥
+untold start t u w id e inside none l s past told =
+    let es = at u.seen proc_lock in
+    let grown : at w.seen proc_lock ≡ es ++ e ∷ [] = ap (λ (z : List (List Entry)). at z proc_lock) l.seen ∙ at_here u.seen proc_lock e inside in
+    let within : subtrans_page id ≤ frontier_of start (es ++ e ∷ []) = told_within start (es ++ e ∷ []) id (subst (λ (z : List Entry). IsTold start z id) grown told) in
+    let same : t.initialised_up_to ≡ frontier_of start (es ++ e ∷ []) = s.frontier ∙ sym (frontier_same start es e none) in
+    omega arith
 
 -- an id that isn't past the next one isn't later
 pub next_later : (start : Start) (n : ℕ) (seen lists : List (List Entry)) (id : ℕ) → Knows session_of n seen lists → id ≤ next_given start.base.next (history seen) → id ≤ next_given start.base.next (history lists)
@@ -90,11 +102,5 @@ proc_told start old new es by id s is =
       base = s.base;
       sessions = s.sessions;
       events = s.events ∙ sym (filter_map-append event_of es (e ∷ []) ∙ append-nil (events_in es));
-      frontier = ⊎_elim
-          (λ (h : max old.initialised_up_to (page_of id) ≡ old.initialised_up_to). subst (IsFrontier start (es ++ e ∷ [])) (sym h) (frontier_more start es e old.initialised_up_to s.frontier))
-          (λ (h : max old.initialised_up_to (page_of id) ≡ page_of id). inr (by, id, Contains-push es e, h))
-          (either old.initialised_up_to (page_of id));
+      frontier = ap (λ z. max z (page_of id)) s.frontier ∙ sym (frontier_push start es e id refl);
     })
-  where
-    either : (a b : ℕ) → (max a b ≡ a) ⊎ (max a b ≡ b)
-    either a b = grind arith

@@ -2,6 +2,7 @@
 use Rattle.std.specs.Prelude.{◌≡◌, ◌≢◌, ℕ, ◌+◌, ◌<◌, ◌≤◌, ◌↔◌, ◌⊎◌, Bool, IsTrue, List, [], ◌∷◌, ◌++◌, Option, None, Some, Result, Ok, Err, vec_len, vec_capacity}
 use Rattle.std.specs.List.{AllByRecursion}
 use Rattle.xid_order.specs.Limits.{stop_limit, warn_limit}
+use Rattle.notes.specs.Lists.{at}
 use Rattle.tx_events.specs.declared.event.Event.{Event}
 use Rattle.tx_events.specs.declared.record.Counters.{Counters}
 use Rattle.tx_events.specs.declared.refusal.Refusal.{Refusal}
@@ -15,6 +16,8 @@ use Rattle.proc_table.specs.declared.answers.Given.TheVariants as gives
 use Rattle.tx_core.specs.declared.entry.Entry.{Entry}
 use Rattle.tx_core.specs.declared.entry.Start.{Start}
 use Rattle.tx_core.specs.Entries.{history}
+use Rattle.tx_core.specs.Locks.{proc_lock}
+use Rattle.tx_core.specs.PagesBeforeIds.{IsTold}
 use Rattle.session_levels.specs.declared.session.Session as plain
 use Rattle.session_levels.specs.Stands.{last_of}
 use Rattle.engine_parts.specs.declared.session.Session.{Session}
@@ -53,11 +56,13 @@ pub record IsGivenIn (start : Start) (n : ℕ) (event : Event) (id : ℕ) (warn 
   pub after : history more ≡ (history lists ++ rest) ++ event ∷ []
   pub late : IsTrue warn ↔ (warn_limit (oldest_id start.base.oldest (history lists ++ rest)) ≤ id)
 
--- the next id was given; or its pages are wanted; or memory was wanting or the stop limit is reached, and nothing was given
+-- The next id was given. Or its pages weren't told yet, or memory was wanting, or the stop limit is reached; then nothing
+-- was given.
 abbrev pub GivesId : Start → ℕ → Session → Session → List (List Entry) → List (List Entry) → Result Given Refusal → Type 0
 GivesId start n s s' lists more (Ok (gives.Id id warn)) =
     WentOn n (naming n s id ∷ []) lists more × IsGivenIn start n (naming n s id) id warn lists more × IsNamed s s' id
-GivesId start n s s' lists more (Ok (gives.NeedPage id)) = WentOn n [] lists more × (id ≡ next_given start.base.next (history more)) × (s' ≡ s)
+GivesId start n s s' lists more (Ok (gives.NeedPage id)) =
+    WentOn n [] lists more × (id ≡ next_given start.base.next (history more)) × (IsTold start (at more proc_lock) id → ⊥) × (s' ≡ s)
 GivesId start n s s' lists more (Err r) = WentOn n [] lists more × (s' ≡ s) × ((r ≡ refusals.Memory) ⊎ IsStopIn start.base (history more) r)
 
 -- there is room for one id more

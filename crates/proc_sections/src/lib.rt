@@ -1,6 +1,5 @@
 //! The critical sections of the ProcArray that the engine's calls make: an id is given, its pages are told, and a
-//! transaction or a savepoint ends. Each takes the ProcArray, does one thing and gives it back with one entry. See
-//! `docs/ENGINE.md`.
+//! transaction ends. Each takes the ProcArray, does one thing and gives it back with one entry. See `docs/ENGINE.md`.
 #![tactic(auto)]
 
 mod ending;

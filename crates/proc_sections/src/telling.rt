@@ -2,7 +2,8 @@
 ghost use Rattle.std.specs.Prelude.{◌≡◌, ℕ, ◌+◌, ◌*◌, ◌≤◌, []};
 ghost use Rattle.hall.specs.Calls.{view, IsOf, start_of};
 ghost use Rattle.tx_events.specs.History.{next_given};
-ghost use Rattle.tx_core.specs.Entries.{history};
+ghost use Rattle.tx_core.specs.Entries.{Stands, history};
+ghost use Rattle.tx_core.specs.Locks.{proc_lock};
 ghost use Rattle.tx_core.specs.PagesBeforeIds.{IsMade};
 ghost use Rattle.engine_parts.specs.Sessions.{MayCall};
 ghost use Rattle.engine_parts.specs.Steps.{WentOn};
@@ -39,6 +40,7 @@ pub fn tell_made<R: Wait, L: LogDisk, P: PageDisk>(
     ensures own { IsOf hall.now caller.new.pass }
     ensures may { MayCall (start_of hall.now) (view caller.new.pass) caller.new.number caller.new.session }
     ensures went { WentOn caller.old.number [] (view caller.old.pass).seen (view caller.new.pass).seen }
+    ensures told { Stands (view caller.new.pass).seen proc_lock (kinds.Made id) }
     ensures same { (caller.new.session ≡ caller.old.session) × (caller.new.number ≡ caller.old.number) }
 {
     let by = By {

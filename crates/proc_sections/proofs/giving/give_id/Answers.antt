@@ -21,7 +21,7 @@ use Rattle.engine_parts.proofs.Leaving.{call_left, history_event, history_same}
 use Rattle.engine_parts.proofs.Stepping.{went_event, went_quiet}
 use Rattle.engine_parts.proofs.Tabling.{proc_adds, proc_looks}
 use Rattle.proc_sections.specs.Givings.{GivesId, IsNamed, IsStopIn}
-use Rattle.proc_sections.proofs.Making.{made_here, need_page}
+use Rattle.proc_sections.proofs.Making.{made_here, need_page, untold}
 use Rattle.proc_sections.proofs.Naming.{call_given, giving_by, giving_entry}
 use Rattle.proc_sections.proofs.giving.give_id.Goals as goal
 
@@ -151,7 +151,7 @@ leave_looked-requires-2-clause-stands g c =
     let es = at (view u.pass).seen proc_lock in
     let by = by_at c.args.caller.now.number c.args.caller.now.session.levels.commands in
     let p = need_page c.enter_proc-table.result c.next_id.new.table (λ id. giving by c.innermost_id-parent.result id) c.in-Ok.given c.in-Ok.ensures c.in_default.not-Id in
-    (refl, proc_looks (start_of c.args.hall.now) c.next_id.new.table es (by_at u.number u.session.levels.commands) (subst (λ (t : Table). ProcStands (start_of c.args.hall.now) t es) (sym p.3) e.stands))
+    (refl, proc_looks (start_of c.args.hall.now) c.next_id.new.table es (by_at u.number u.session.levels.commands) (subst (λ (t : Table). ProcStands (start_of c.args.hall.now) t es) (sym p.4) e.stands))
 
 pub returns-clause-may : goal.returns-clause-may
 returns-clause-may g c =
@@ -181,5 +181,6 @@ returns-clause-gives g c =
     subst (GivesId start c.args.caller.now.number s c.leave_looked-2.new.caller.session v.seen w.seen) (ap Ok (sym p.1)) (
       went_quiet start v u w c.args.caller.now.number proc_lock s _ c.requires.may.ready.at e.entered.kept e.entered.learns (omega arith) refl refl l,
       p.2 ∙ (λ j. next_given (st.base j).next ((st.events ∙ sym still) j)),
+      λ told. untold start c.enter_proc-table.result u w p.0 _ (omega arith) refl l st p.3 told,
       c.leave_looked-2.ensures.same.0 ∙ e.same.0,
     )

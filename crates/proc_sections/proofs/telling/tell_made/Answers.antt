@@ -1,4 +1,4 @@
-use Rattle.std.proofs.Common.{◌++◌, ◌∷◌, [], ◌≤◌, arith, ap, ◌∙◌, subst, sym, refl}
+use Rattle.std.proofs.Common.{Contains, ◌++◌, ◌∷◌, [], ◌≤◌, arith, ap, ◌∙◌, subst, sym, refl}
 use Rattle.hall.specs.Calls.{view, start_of}
 use Rattle.notes.specs.Lists.{at}
 use Rattle.tx_events.specs.declared.event.By.{By}
@@ -11,7 +11,7 @@ use Rattle.tx_core.proofs.Lasting.{made_grows}
 use Rattle.engine_parts.specs.declared.session.Session.{Session}
 use Rattle.engine_parts.specs.Sessions.{by_at}
 use Rattle.engine_parts.specs.Stand.{ProcStands}
-use Rattle.engine_parts.proofs.Leaving.{call_left}
+use Rattle.engine_parts.proofs.Leaving.{call_left, stands_left}
 use Rattle.engine_parts.proofs.Stepping.{went_quiet}
 use Rattle.proc_sections.proofs.Making.{may_told, next_later, proc_told}
 use Rattle.proc_sections.proofs.telling.tell_made.Goals as goal
@@ -64,3 +64,10 @@ returns-clause-went g c =
     let e = c.enter_proc-table.ensures in
     let wide = c.requires.may.ready.at.wide in
     went_quiet (start_of c.args.hall.now) (view c.args.caller.now.pass) (view c.enter_proc-table.new.caller.pass) (view c.leave_quiet.new.caller.pass) c.args.caller.now.number proc_lock c.args.caller.now.session c.made_note-entry.result.value c.requires.may.ready.at e.entered.kept e.entered.learns (omega arith) (ap event_of c.made_note-entry.ensures) (ap asks_in c.made_note-entry.ensures) c.leave_quiet.ensures.left
+
+pub returns-clause-told : goal.returns-clause-told
+returns-clause-told g c =
+    let wide = c.requires.may.ready.at.wide in
+    let long = c.enter_proc-table.ensures.entered.learns.long in
+    let w = view c.leave_quiet.new.caller.pass in
+    (by_at c.args.caller.now.number c.args.caller.now.session.levels.commands, subst (λ (d : Entry). Contains (at w.seen proc_lock) d) c.made_note-entry.ensures (stands_left (start_of c.args.hall.now) (view c.enter_proc-table.new.caller.pass) w proc_lock c.made_note-entry.result.value (omega arith) c.leave_quiet.ensures.left))

@@ -92,57 +92,6 @@ fn blanks_comments_and_line_ends_are_no_part_of_a_script(rt: HostRuntime) -> Res
 }
 
 #[test]
-fn each_command_has_its_own_name_and_number(rt: HostRuntime) -> Result<(), Fail> {
-    let bytes =
-        b"a snap first\nb see s 7\na seemulti second1 9\nb status 4294967303\na drop first\n";
-    let script = parse(rt.alloc(), bytes.as_slice())?;
-    let items = script.items.items();
-    let Some(
-        Item::Run {
-            session: 1,
-            command: Command::See { name, x },
-        },
-    ) = items.get(1)?
-    else {
-        return Err("another command".into());
-    };
-    assert_eq!(rt; (name.items(), x.number), (b"s".as_slice(), 7));
-    let Some(
-        Item::Run {
-            session: 0,
-            command: Command::SeeMulti { name, multi },
-        },
-    ) = items.get(2)?
-    else {
-        return Err("another command".into());
-    };
-    assert_eq!(rt; (name.items(), multi.number), (b"second1".as_slice(), 9));
-    let Some(
-        Item::Run {
-            session: 1,
-            command: Command::Status { x },
-        },
-    ) = items.get(3)?
-    else {
-        return Err("another command".into());
-    };
-    assert_eq!(rt; x.number(), 4_294_967_303);
-    let Some(
-        Item::Run {
-            session: 0,
-            command: Command::DropSnap { name },
-        },
-    ) = items.get(4)?
-    else {
-        return Err("another command".into());
-    };
-    assert_eq!(rt; name.items(), b"first".as_slice());
-    assert_eq!(rt; items.session_at(4), Some(0));
-    assert_eq!(rt; items.session_at(5), None);
-    Ok(())
-}
-
-#[test]
 fn header_sets_all_counters(rt: HostRuntime) -> Result<(), Fail> {
     let bytes = b".offset 9\n.start 4294967299\n.multi 77\n.oldest 4294967295\n".as_slice();
     let base = parse(rt.alloc(), bytes)?.base;

@@ -40,6 +40,8 @@ event_keeps start seen by event own rule pages leaves states closed lists k know
       members = record { slots = tt; offsets = tt };
       syncs = tt;
       posts = tt;
+      faults = tt;
+      down = tt;
     })
 
 pub id_event_law : IdEventKeeps
@@ -86,10 +88,12 @@ made_law start seen by id made next lists k knows inside whole turn =
       members = record { slots = tt; offsets = tt };
       syncs = tt;
       posts = tt;
+      faults = tt;
+      down = tt;
     })
 
 pub commit_record_law : CommitRecordKeeps
-commit_record_law start seen by top subs opened root parents unasked base lists k knows inside whole turn =
+commit_record_law start seen by top subs opened root parents unasked base up lists k knows inside whole turn =
     keeps start lists seen log_lock (record { by = by; kind = kinds.Append (records.Commit top subs) }) k knows inside whole (record {
       events = record { own = tt; rule = λ here. tt };
       pages = record { ids = tt; changes = record { marks = tt; links = tt; offsets = tt; slots = tt }; made = tt };
@@ -105,4 +109,6 @@ commit_record_law start seen by top subs opened root parents unasked base lists 
       members = record { slots = tt; offsets = tt };
       syncs = tt;
       posts = tt;
+      faults = tt;
+      down = up;
     })

@@ -17,7 +17,7 @@ use Rattle.tx_core.specs.declared.entry.Start.{Start}
 use Rattle.tx_core.proofs.Asking.{if_some, upheld_has}
 use Rattle.tx_core.specs.EngineInvariant.{EngineInvariant}
 use Rattle.tx_core.specs.Entries.{history}
-use Rattle.tx_core.specs.Laws.{MadeNear, MultisAreLegal, RaisesTold}
+use Rattle.tx_core.specs.Consequences.{MadeNear, MultisAreLegal, RaisesTold}
 use Rattle.notes.specs.Lists.{at}
 use Rattle.tx_core.specs.Locks.{multi_lock, subtrans_lock, xact_lock}
 use Rattle.tx_core.specs.MultiEntries.{multi_history, multi_of, multis_in}

@@ -40,6 +40,7 @@ start = record {
   recorded = [];
   logged = [];
   told = false;
+  faults = [];
 }
 
 abbrev pub by : ℕ → ℕ → By
@@ -141,10 +142,10 @@ after_record : EngineInvariant start two
 after_record =
     commit_record_law start one (by 0 3) 3 [] refl refl (λ id c. absurd (contains_has [] id c)) (λ id c a. unasked id a)
     (record { full = omega arith; full_oldest = omega arith; oldest = omega arith; next = omega arith; oldest_multi = omega arith; multi = omega arith; oldest_offset = omega arith; offset = omega arith; none = λ q. refl })
-    one after_id (sees_all 0 one) (omega arith) refl (turns (by 0 3) [] tt)
+    refl one after_id (sees_all 0 one) (omega arith) refl (turns (by 0 3) [] tt)
 
 after_flush : EngineInvariant start three
-after_flush = flush_law start two (by 0 3) 2 (omega arith) two after_record (sees_all 0 two) (omega arith) refl (turns (by 0 3) (logged ∷ []) (omega arith, tt))
+after_flush = flush_law start two (by 0 3) 2 (omega arith) (omega arith) refl two after_record (sees_all 0 two) (omega arith) refl (turns (by 0 3) (logged ∷ []) (omega arith, tt))
 
 only_three : (P : ℕ → Type 0) → P 3 → (id : ℕ) → Contains (3 ∷ []) id → P id
 only_three P p id c = ⊎_elim (λ (q : 3 ≡ id). subst P q p) (λ z. absurd z) (contains_has (3 ∷ []) id c)

@@ -16,8 +16,11 @@ pub mod MultisLegal
 pub mod MembersBeforeOffset
 pub mod SyncsBeforeForgets
 pub mod PostsFollow
+pub mod FaultsRise
+pub mod StaysDown
 pub mod CleanStart
 pub mod EngineInvariant
 pub mod Verdict
 pub mod Pages
 pub mod Laws
+pub mod Consequences

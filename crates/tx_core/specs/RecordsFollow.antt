@@ -16,7 +16,7 @@ use Rattle.tx_core.specs.declared.entry.Entry.{Entry}
 use Rattle.tx_core.specs.declared.entry.Kind.{Kind}
 use Rattle.tx_core.specs.declared.entry.Kind.TheVariants as kinds
 use Rattle.tx_core.specs.declared.entry.Start.{Start}
-use Rattle.tx_core.specs.Entries.{history, records_in, recs_in}
+use Rattle.tx_core.specs.Entries.{flushed_to, history, records_in, recs_in}
 use Rattle.tx_core.specs.Lists.{Upheld}
 use Rattle.tx_core.specs.MultiEntries.{multi_history}
 
@@ -89,9 +89,9 @@ NamedOf start lists by _ = Unit {0}
 abbrev pub NeedsNamed : Start → List (List Entry) → ℕ → List Entry → Entry → Type 0
 NeedsNamed start lists lock before e = NamedOf start lists e.by e.kind
 
--- a flush is of records that were appended before
+-- a flush is of records that were appended before, and of all that were flushed before
 abbrev pub FlushOf : Start → List Entry → Kind → Type 0
-FlushOf start before (kinds.Flush to) = to ≤ start.from + length (records_in before)
+FlushOf start before (kinds.Flush to) = (flushed_to start before ≤ to) × (to ≤ start.from + length (records_in before))
 FlushOf start before _ = Unit {0}
 
 abbrev pub NeedsFlush : Start → List (List Entry) → ℕ → List Entry → Entry → Type 0
@@ -99,7 +99,8 @@ NeedsFlush start lists lock before e = FlushOf start before e.kind
 
 -- The counters after each record are a base. A checkpoint's are not below those of the records before it, and neither
 -- they nor a truncation's are past what was given or announced. The ids that abort records and records of multixacts
--- name were given, and so was the multixact. A flush reaches no further than the records before it.
+-- name were given, and so was the multixact. A flush reaches no further than the records before it, and no less far than
+-- the flush before it.
 pub record RecordsFollow (start : Start) (lists : List (List Entry)) : Type 0 where
   pub counters : Upheld (NeedsCounters start) lists
   pub named : Upheld (NeedsNamed start) lists

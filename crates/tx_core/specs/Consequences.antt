@@ -44,14 +44,6 @@ AskedGiven = (start : Start) (lists : List (List Entry)) (session id : ℕ) (sta
 abbrev pub MultisAreLegal : Type 0
 MultisAreLegal = (start : Start) (lists : List (List Entry)) → EngineInvariant start lists → AreLegalMultis start.base (InBase start.base) (multi_history lists)
 
--- Where fewer than 2^28 ids were given, each page of a bank that was made is from that of the base's next id to that of
--- the id 2^30 past it: so no two of them are one stored page.
-abbrev pub MadeNear : Type 0
-MadeNear = (start : Start) (lists : List (List Entry)) (bank page : ℕ) →
-    EngineInvariant start lists → length (given (history lists)) < 2 ^ 28
-    → (Stands lists (xact_lock bank) (kinds.Zero page) → (xact_page start.base.next ≤ page) × (page ≤ xact_page (start.base.next + 2 ^ 30)))
-    × (Stands lists (subtrans_lock bank) (kinds.Zero page) → (subtrans_page start.base.next ≤ page) × (page ≤ subtrans_page (start.base.next + 2 ^ 30)))
-
 -- the records of the log don't raise the next id past those given
 abbrev pub NextGiven : Type 0
 NextGiven = (start : Start) (lists : List (List Entry)) → EngineInvariant start lists → IsBase start.base → (counters_after start (at lists log_lock)).next ≤ next_given start.base.next (history lists)

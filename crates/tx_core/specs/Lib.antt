@@ -22,5 +22,6 @@ pub mod CleanStart
 pub mod EngineInvariant
 pub mod Verdict
 pub mod Pages
+pub mod Nearness
 pub mod Laws
 pub mod Consequences

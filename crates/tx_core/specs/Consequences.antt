@@ -1,5 +1,5 @@
 -- What follows from the invariant, of any lists that keep it.
-use Rattle.std.specs.Prelude.{Contains, IsTrue, List, Some, length, slice_get, take, ℕ, ◌+◌, ◌<◌, ◌^◌, ◌∷◌, ◌≡◌, ◌≤◌}
+use Rattle.std.specs.Prelude.{Contains, IsTrue, List, Some, length, min, slice_get, take, true, ℕ, ◌+◌, ◌-◌, ◌<◌, ◌^◌, ◌∷◌, ◌≡◌, ◌≤◌}
 use Rattle.tx_events.specs.declared.event.By.{By}
 use Rattle.tx_events.specs.declared.event.Event.{Event}
 use Rattle.tx_events.specs.Base.{IsBase}
@@ -12,7 +12,9 @@ use Rattle.tx_core.specs.declared.entry.Start.{Start}
 use Rattle.tx_core.specs.declared.entry.State.{State}
 use Rattle.tx_core.specs.AbortRule.{Asks}
 use Rattle.tx_core.specs.EngineInvariant.{EngineInvariant}
-use Rattle.tx_core.specs.Entries.{IsAppended, IsMarked, history, Stands, cut_in}
+use Rattle.tx_core.specs.Entries.{IsAppended, IsMarked, history, Stands, cut_in, flushed_to, records_of}
+use Rattle.tx_core.specs.FaultsRise.{counts_in, faults_at, faults_told}
+use Rattle.tx_core.specs.StaysDown.{is_down}
 use Rattle.tx_core.specs.MultiEntries.{multi_history}
 use Rattle.notes.specs.Lists.{Grows, at}
 use Rattle.tx_core.specs.Locks.{log_lock, oldest_word, subtrans_lock, subtrans_page, xact_lock, xact_page, xmin_word}
@@ -94,3 +96,26 @@ RaisesTold = (start : Start) (lists : List (List Entry)) (by : By) (multi offset
 abbrev pub SnapshotsHold : Type 0
 SnapshotsHold = (start : Start) (lists more : List (List Entry)) (s : LiveSnap) → EngineInvariant start more → Grows lists more → IsBase start.base → Contains (live_snaps start.base.next (history more)) s
     → oldest_xmin start.base.next (history lists) ≤ s.xmin
+
+-- The volume's count has risen by no less than the faults that its list tells: what was told last is past the count at
+-- the start by their number, or the greatest 64-bit number.
+abbrev pub FaultsCounted : Type 0
+FaultsCounted = (start : Start) (lists : List (List Entry)) (lock : ℕ) → EngineInvariant start lists
+    → min (faults_at start lock + length (counts_in (at lists lock))) (2 ^ 64 - 1) ≤ faults_told start lock (at lists lock)
+
+-- The last flush reached the furthest, and no further than the records.
+pub record IsLastFlush (start : Start) (lists : List (List Entry)) (flushed : ℕ) : Type 0 where
+  pub from : start.from ≤ flushed
+  pub within : flushed ≤ start.from + length (records_of lists)
+  pub greatest : (to : ℕ) → Stands lists log_lock (kinds.Flush to) → to ≤ flushed
+
+abbrev pub FlushesRise : Type 0
+FlushesRise = (start : Start) (lists : List (List Entry)) → EngineInvariant start lists
+    → IsLastFlush start lists (flushed_to start (at lists log_lock))
+
+-- A log that is down has the same records from then on, and no more of them are flushed.
+abbrev pub DownStays : Type 0
+DownStays = (start : Start) (lists more : List (List Entry)) → EngineInvariant start more → Grows lists more
+    → is_down (at lists log_lock) ≡ true
+    → (records_of more ≡ records_of lists)
+    × (flushed_to start (at more log_lock) ≡ flushed_to start (at lists log_lock))

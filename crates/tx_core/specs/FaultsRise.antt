@@ -19,9 +19,13 @@ count_in _ = None
 abbrev pub faults_at : Start → ℕ → ℕ
 faults_at start lock = get_or start.faults lock 0
 
+-- the counts that a list tells, one after the other
+abbrev pub counts_in : List Entry → List ℕ
+counts_in es = filter_map (λ e. count_in e.kind) es
+
 -- the count that the list tells last, or that of the start
 abbrev pub faults_told : Start → ℕ → List Entry → ℕ
-faults_told start lock es = last_from (faults_at start lock) (filter_map (λ e. count_in e.kind) es)
+faults_told start lock es = last_from (faults_at start lock) (counts_in es)
 
 -- what the entry tells has risen past what was told before it
 abbrev pub NeedsCount : Start → List (List Entry) → ℕ → List Entry → Entry → Type 0

@@ -84,6 +84,7 @@ changes_law start seen lock by changes may lists k knows inside whole turn =
       posts = tt;
       faults = tt;
       down = tt;
+      once = tt;
     })
 
 pub fault_law : FaultKeeps
@@ -106,6 +107,7 @@ fault_law start seen lock by callers changes cut count may named truncated risen
       posts = tt;
       faults = risen;
       down = tt;
+      once = tt;
     })
 
 pub request_law : RequestKeeps
@@ -134,6 +136,7 @@ request_law start seen lock by changes behind given unrecorded lists k knows ins
       posts = tt;
       faults = tt;
       down = tt;
+      once = tt;
     })
 
 -- the states that a session sets for itself are all one

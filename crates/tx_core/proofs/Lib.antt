@@ -28,3 +28,5 @@ pub mod OpenKept
 pub mod LastNumbers
 pub mod FaultCounts
 pub mod LogLaws
+pub mod MultiGiven
+pub mod Once

@@ -34,6 +34,7 @@ use Rattle.tx_core.specs.SyncsBeforeForgets.{NeedsSync}
 use Rattle.tx_core.specs.PostsFollow.{NeedsPost}
 use Rattle.tx_core.specs.FaultsRise.{NeedsCount}
 use Rattle.tx_core.specs.StaysDown.{NeedsUp}
+use Rattle.tx_core.specs.RecordsOnce.{NeedsOnce}
 use Rattle.tx_core.specs.StatusBeforeCommit.{NeedsStates}
 use Rattle.tx_core.specs.declared.entry.Kind.TheVariants as kinds
 use Rattle.tx_events.specs.declared.record.Rec.TheVariants as records
@@ -69,6 +70,7 @@ opens start lists empty =
       posts = record { each = nothing_upheld (NeedsPost start) lists empty };
       faults = record { each = nothing_upheld (NeedsCount start) lists empty };
       down = record { each = nothing_upheld NeedsUp lists empty };
+      once = record { each = nothing_upheld NeedsOnce lists empty };
     }
 
 pub asked_given : AskedGiven

@@ -21,6 +21,8 @@ use Rattle.tx_core.specs.CommitRecordsExact.{HasNoRecord}
 use Rattle.tx_core.specs.EngineInvariant.{EngineInvariant, MayAdd}
 use Rattle.tx_core.specs.FaultsRise.{faults_told}
 use Rattle.tx_core.specs.StaysDown.{IsUp, UpOf}
+use Rattle.tx_core.specs.RecordsOnce.{HasNoAbort, HasNoCommit, HasNoMulti}
+use Rattle.xid_order.specs.Ids.{IsFullId}
 use Rattle.disk_core.specs.Faults.{HasRisen}
 use Rattle.tx_core.specs.Entries.{IsAppended, IsLinked, IsMarked, Link, Mark, history, link_of, mark_of, marks, records_of, session_of, flushed_to}
 use Rattle.tx_core.specs.MultiEntries.{SetOffset, SetSlot, multi_history, offset_of, slot_of}
@@ -66,32 +68,37 @@ Opens = (start : Start) (lists : List (List Entry)) → ((lock : ℕ) → at lis
 abbrev pub StaysBase : Start → List (List Entry) → Rec → Type 0
 StaysBase start seen rec = IsBase (after_record (counters_after start (at seen log_lock)) rec)
 
--- The log. A commit record names all that its session has open; the parents of the subtransactions were set, and the
--- session asked for no abort of any of them.
+-- The log. A commit record names all that its session has open; the parents of the subtransactions were set. The session
+-- asked for no abort of any of them, and has no other record of any of them.
 abbrev pub CommitRecordKeeps : Type 0
 CommitRecordKeeps = (start : Start) (seen : List (List Entry)) (by : By) (top : ℕ) (subs : List ℕ) →
     open_ids by.session (history seen) ≡ top ∷ subs
     → is_top (history seen) top ≡ true
     → ((id : ℕ) → Contains subs id → (parent : ℕ) × IsLinked start seen id parent)
     → ((id : ℕ) → Contains (top ∷ subs) id → AsksAbort seen by.session id → ⊥)
+    → HasNoRecord seen by.session
+    → ((id : ℕ) → Contains (top ∷ subs) id → HasNoAbort seen by.session id)
     → StaysBase start seen (records.Commit top subs)
     → IsUp (at seen log_lock)
     → KindKeeps start seen log_lock by (kinds.Append (records.Commit top subs))
 
--- an abort record names ids that were given to its session
+-- an abort record names ids that were given to its session, which has no commit record of them
 abbrev pub AbortRecordKeeps : Type 0
 AbortRecordKeeps = (start : Start) (seen : List (List Entry)) (by : By) (top : ℕ) (subs : List ℕ) →
     StaysBase start seen (records.Abort top subs)
     → ((id : ℕ) → Contains (top ∷ subs) id → Contains (given_to by.session (history seen)) id)
+    → ((id : ℕ) → Contains (top ∷ subs) id → HasNoCommit seen by.session id)
     → IsUp (at seen log_lock)
     → KindKeeps start seen log_lock by (kinds.Append (records.Abort top subs))
 
--- the multixact was given to the session, and its members were given
+-- the multixact was given to the session, which has no record of it yet, and its members are full ids that were given
 abbrev pub MultiRecordKeeps : Type 0
 MultiRecordKeeps = (start : Start) (seen : List (List Entry)) (by : By) (multi offset : ℕ) (members : List Member) →
     StaysBase start seen (records.Multi multi offset members)
     → IsGenOf seen by.session multi offset members
     → ((id : ℕ) → Contains (ids_of members) id → id < next_given start.base.next (history seen))
+    → ((id : ℕ) → Contains (ids_of members) id → IsFullId id)
+    → HasNoMulti seen by.session multi
     → IsUp (at seen log_lock)
     → KindKeeps start seen log_lock by (kinds.Append (records.Multi multi offset members))
 

@@ -18,6 +18,7 @@ pub mod SyncsBeforeForgets
 pub mod PostsFollow
 pub mod FaultsRise
 pub mod StaysDown
+pub mod RecordsOnce
 pub mod CleanStart
 pub mod EngineInvariant
 pub mod Verdict

@@ -1,5 +1,6 @@
 -- The counters after each record are a base; what the records name was given or announced; what is flushed was appended.
 use Rattle.std.specs.Prelude.{◌≡◌, ℕ, ◌+◌, ◌<◌, ◌≤◌, ◌⊎◌, List, ◌∷◌, length, take, Contains}
+use Rattle.xid_order.specs.Ids.{IsFullId}
 use Rattle.tx_events.specs.declared.event.By.{By}
 use Rattle.tx_events.specs.declared.event.Event.TheVariants as events
 use Rattle.tx_events.specs.declared.multi.Member.{Member}
@@ -75,11 +76,12 @@ abbrev pub IsGenOf : List (List Entry) → ℕ → ℕ → ℕ → List Member �
 IsGenOf lists session multi offset members = (by : By) × (by.session ≡ session) × Contains (multi_history lists) (multis.Gen by multi offset members)
 
 -- an abort record names ids that were given to its session; the record of a multixact one that its session was given, and
--- no id that wasn't given
+-- full ids as members, none that wasn't given
 abbrev pub IdsOf : Start → List (List Entry) → By → Rec → Type 0
 IdsOf start lists by (records.Abort top subs) = (id : ℕ) → Contains (top ∷ subs) id → Contains (given_to by.session (history lists)) id
 IdsOf start lists by (records.Multi multi offset members) =
     IsGenOf lists by.session multi offset members × ((id : ℕ) → Contains (ids_of members) id → id < next_given start.base.next (history lists))
+    × ((id : ℕ) → Contains (ids_of members) id → IsFullId id)
 IdsOf start lists by _ = Unit {0}
 
 abbrev pub NamedOf : Start → List (List Entry) → By → Kind → Type 0

@@ -29,4 +29,7 @@ pub mod LastNumbers
 pub mod FaultCounts
 pub mod LogLaws
 pub mod MultiGiven
+pub mod Room
+pub mod MultiOrder
+pub mod MultiRaised
 pub mod Once

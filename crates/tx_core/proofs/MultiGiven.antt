@@ -1,14 +1,15 @@
 -- Each multixact of a legal history is given once.
-use Rattle.std.proofs.Common.{List, [], ap, arith, length, length-append, refl, subst, suc, sym, ℕ, ⊎_elim, ◌++◌, ◌+◌, ◌<◌, ◌∙◌, ◌∷◌, ◌≡◌, ◌≤◌}
+use Rattle.std.proofs.Common.{Contains, List, [], ap, arith, drop, length, length-append, refl, subst, suc, sym, take, take-append-drop, ℕ, ⊎_elim, ◌++◌, ◌+◌, ◌<◌, ◌∙◌, ◌∷◌, ◌≡◌, ◌≤◌}
 use Rattle.std.proofs.lemmas.List.Elements.{filter_map-append}
+use Rattle.std.proofs.lemmas.List.Sums.{fold_push}
 use Rattle.tx_events.specs.declared.event.By.{By}
 use Rattle.tx_events.specs.declared.multi.Member.{Member}
 use Rattle.tx_events.specs.declared.multi.MultiEvent.{MultiEvent}
 use Rattle.tx_events.specs.declared.multi.MultiEvent.TheVariants as multis
 use Rattle.tx_events.specs.declared.record.Counters.{Counters}
-use Rattle.tx_events.proofs.Membership.{Has, by_end, has_cases}
-use Rattle.tx_events.proofs.PlaceLemmas.{each_place_last, each_place_start}
-use Rattle.tx_events.specs.Multis.{AreLegalMultis, InBase, IsNextMade, MultiMayCome, made, made_by, next_made, nth_multi}
+use Rattle.tx_events.proofs.Membership.{Has, by_end, contains_has, has_cases, has_place}
+use Rattle.tx_events.proofs.PlaceLemmas.{by_place, each_place_last, each_place_start}
+use Rattle.tx_events.specs.Multis.{AreLegalMultis, InBase, IsNextMade, IsRaised, MultiMayCome, made, made_by, next_made, nth_multi, oldest_multi, oldest_multi_after}
 use Rattle.tx_core.proofs.Rising.{made_more, multi_above}
 
 gen_rises : (first : ℕ) (h : List MultiEvent) (by : By) (multi offset : ℕ) (members : List Member) → next_made first h < next_made first (h ++ multis.Gen by multi offset members ∷ [])
@@ -62,3 +63,27 @@ one_gen base a b multi x y ms ns = by_end (λ h. AreLegalMultis base (InBase bas
     (has_cases h (e ∷ []) (multis.Gen b multi y ns) j))
     (λ z. absurd z) new)
     (has_cases h (e ∷ []) (multis.Gen a multi x ms) k))
+
+abbrev offset_in : MultiEvent → ℕ
+offset_in (multis.Gen by multi offset members) = offset
+offset_in _ = 0
+
+-- a multixact has one offset
+pub one_offset : (base : Counters) (a b : By) (multi x y : ℕ) (ms ns : List Member) (h : List MultiEvent) → AreLegalMultis base (InBase base) h → Has h (multis.Gen a multi x ms) → Has h (multis.Gen b multi y ns) → x ≡ y
+one_offset base a b multi x y ms ns h legal k j = ap offset_in (one_gen base a b multi x y ms ns h legal k j)
+
+raised_up : (base : Counters) (h : List MultiEvent) (e : MultiEvent) → base.oldest_multi ≤ oldest_multi base.oldest_multi h → MultiMayCome base (InBase base) h e → base.oldest_multi ≤ oldest_multi_after (oldest_multi base.oldest_multi h) e
+raised_up base h (multis.Raise by multi offset) le rule = let r : oldest_multi base.oldest_multi h ≤ multi = rule.not_back in omega arith
+raised_up base h _ le rule = le
+
+oldest_from : (base : Counters) (h : List MultiEvent) → AreLegalMultis base (InBase base) h → base.oldest_multi ≤ oldest_multi base.oldest_multi h
+oldest_from base = by_place (MultiMayCome base (InBase base)) (λ h. base.oldest_multi ≤ oldest_multi base.oldest_multi h) (omega arith)
+    (λ h e le rule. subst (λ z. base.oldest_multi ≤ z) (sym (fold_push oldest_multi_after base.oldest_multi h e)) (raised_up base h e le rule))
+
+-- an announced oldest multixact isn't before the base's
+pub raised_from : (base : Counters) (h : List MultiEvent) (by : By) (multi offset : ℕ) → AreLegalMultis base (InBase base) h → Contains h (multis.Raise by multi offset) → base.oldest_multi ≤ multi
+raised_from base h by multi offset legal c =
+    let p = has_place h (multis.Raise by multi offset) (contains_has h (multis.Raise by multi offset) c) in
+    let rule : IsRaised base (InBase base) (take p.0 h) multi offset = legal p.0 (multis.Raise by multi offset) p.1 in
+    let front : AreLegalMultis base (InBase base) (take p.0 h) = each_place_start (MultiMayCome base (InBase base)) (take p.0 h) (drop p.0 h) (subst (AreLegalMultis base (InBase base)) (sym (take-append-drop p.0 h)) legal) in
+    let le = oldest_from base (take p.0 h) front in let up = rule.not_back in omega arith

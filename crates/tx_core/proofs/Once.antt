@@ -1,5 +1,5 @@
 -- Records of others name other ids: so what a session knows of its own records is enough.
-use Rattle.std.proofs.Common.{Contains, List, Some, ap, inl, subst, sym, take, true, ℕ, ⊎_elim, ◌∙◌, ◌∷◌, ◌≡◌, eqb-true, refl, arith}
+use Rattle.std.proofs.Common.{Contains, List, Some, ap, inl, subst, sym, take, ℕ, ⊎_elim, ◌∙◌, ◌∷◌, ◌≡◌, eqb-true, refl}
 use Rattle.std.specs.List.{last_or, slice_get}
 use Rattle.std.specs.Option.{unwrap_or}
 use Rattle.tx_events.specs.declared.event.By.{By}
@@ -30,13 +30,13 @@ use Rattle.tx_core.proofs.MultiGiven.{one_gen}
 use Rattle.tx_core.proofs.Nearness.{multis_are_legal}
 use Rattle.tx_core.proofs.Rising.{multis_grow}
 use Rattle.tx_core.proofs.Stepping.{open_seen}
-use Rattle.tx_core.specs.CommitRecordsExact.{HasNoRecord, IsExactIn}
+use Rattle.tx_core.specs.CommitRecordsExact.{HasNoRecord}
 use Rattle.tx_core.specs.EngineInvariant.{EngineInvariant}
 use Rattle.tx_core.specs.Entries.{IsAppended, history, session_of}
 use Rattle.tx_core.specs.Locks.{log_lock}
 use Rattle.tx_core.specs.MultiEntries.{multi_history}
 use Rattle.tx_core.specs.RecordsFollow.{IsGenOf, NeedsNamed}
-use Rattle.tx_core.specs.RecordsOnce.{HasNoAbort, HasNoCommit, HasNoMulti, IsAbortNamed, IsCommitNamed, IsMultiNamed, OnceOf}
+use Rattle.tx_core.specs.RecordsOnce.{HasNoAbort, HasNoCommit, HasNoMulti, IsAbortNamed, IsCommitNamed, OnceOf}
 use Rattle.notes.specs.Lists.{Knows, at}
 
 -- an id that its commit event closed isn't open

@@ -3,7 +3,7 @@ use Rattle.std.specs.Prelude.{Contains, IsTrue, List, Some, length, min, slice_g
 use Rattle.tx_events.specs.declared.event.By.{By}
 use Rattle.tx_events.specs.declared.event.Event.{Event}
 use Rattle.tx_events.specs.Base.{IsBase}
-use Rattle.tx_events.specs.Events.{given, given_to}
+use Rattle.tx_events.specs.Events.{given_to}
 use Rattle.tx_events.specs.History.{next_given}
 use Rattle.tx_events.specs.Horizon.{LiveSnap, live_snaps, oldest_id, oldest_xmin}
 use Rattle.tx_events.specs.Running.{open_ids}

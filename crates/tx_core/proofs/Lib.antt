@@ -32,4 +32,5 @@ pub mod MultiGiven
 pub mod Room
 pub mod MultiOrder
 pub mod MultiRaised
+pub mod Holding
 pub mod Once

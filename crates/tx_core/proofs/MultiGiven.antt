@@ -76,7 +76,7 @@ raised_up : (base : Counters) (h : List MultiEvent) (e : MultiEvent) → base.ol
 raised_up base h (multis.Raise by multi offset) le rule = let r : oldest_multi base.oldest_multi h ≤ multi = rule.not_back in omega arith
 raised_up base h _ le rule = le
 
-oldest_from : (base : Counters) (h : List MultiEvent) → AreLegalMultis base (InBase base) h → base.oldest_multi ≤ oldest_multi base.oldest_multi h
+pub oldest_from : (base : Counters) (h : List MultiEvent) → AreLegalMultis base (InBase base) h → base.oldest_multi ≤ oldest_multi base.oldest_multi h
 oldest_from base = by_place (MultiMayCome base (InBase base)) (λ h. base.oldest_multi ≤ oldest_multi base.oldest_multi h) (omega arith)
     (λ h e le rule. subst (λ z. base.oldest_multi ≤ z) (sym (fold_push oldest_multi_after base.oldest_multi h e)) (raised_up base h e le rule))
 

@@ -149,9 +149,9 @@ module _ (start : Start) (lists : List (List Entry)) (bank : ℕ) (k : EngineInv
             let m0 = m.0 in
             let m1 = m.1 in
             let both : (start.base.oldest_multi ≤ cut.1) × (cut.1 ≤ oldest_multi start.base.oldest_multi h) = ⊎_elim
-                (λ (q : (cut.1 ≡ start.base.oldest_multi) × (cut.2 ≡ start.base.oldest_offset)). let z = q.0 in (omega arith, omega arith))
-                (λ (q : (by : By) × Contains h (multis.Raise by cut.1 cut.2)). (raised_from start.base h q.0 cut.1 cut.2 legal q.1, ((last_raised start.base is h legal).upto q.0 cut.1 cut.2 (contains_has h (multis.Raise q.0 cut.1 cut.2) q.1)).0))
-                (truncated_multi cut.0 cut.1 cut.2 cut.3) in
+            (λ (q : (cut.1 ≡ start.base.oldest_multi) × (cut.2 ≡ start.base.oldest_offset)). let z = q.0 in (omega arith, omega arith))
+            (λ (q : (by : By) × Contains h (multis.Raise by cut.1 cut.2)). (raised_from start.base h q.0 cut.1 cut.2 legal q.1, ((last_raised start.base is h legal).upto q.0 cut.1 cut.2 (contains_has h (multis.Raise q.0 cut.1 cut.2) q.1)).0))
+            (truncated_multi cut.0 cut.1 cut.2 cut.3) in
             let past = both.0 in
             let upto = both.1 in
             subst (λ p. is_cut Multis 2048 (p % 2 ^ 21) (offset_page (low_half multi)) ≡ false) (sym cut.4) (offset_kept (multi_before cut.1) multi (omega arith) (omega arith));
@@ -172,10 +172,10 @@ module _ (start : Start) (lists : List (List Entry)) (bank : ℕ) (k : EngineInv
         later = λ e page c g.
             let cut = (cut_says start lists (members_lock bank) page e k c g).members bank refl in
             let both : (start.base.oldest_offset ≤ cut.2) × (cut.2 ≤ oldest_offset start.base.oldest_offset h) = ⊎_elim
-                (λ (q : (cut.1 ≡ start.base.oldest_multi) × (cut.2 ≡ start.base.oldest_offset)). let z = q.1 in (omega arith, omega arith))
-                (λ (q : (by : By) × Contains h (multis.Raise by cut.1 cut.2)).
-                let raise = contains_has h (multis.Raise q.0 cut.1 cut.2) q.1 in ((o.raised q.0 cut.1 cut.2 raise).0, ((last_raised start.base is h legal).upto q.0 cut.1 cut.2 raise).1))
-                (truncated_multi cut.0 cut.1 cut.2 cut.3) in
+            (λ (q : (cut.1 ≡ start.base.oldest_multi) × (cut.2 ≡ start.base.oldest_offset)). let z = q.1 in (omega arith, omega arith))
+            (λ (q : (by : By) × Contains h (multis.Raise by cut.1 cut.2)).
+            let raise = contains_has h (multis.Raise q.0 cut.1 cut.2) q.1 in ((o.raised q.0 cut.1 cut.2 raise).0, ((last_raised start.base is h legal).upto q.0 cut.1 cut.2 raise).1))
+            (truncated_multi cut.0 cut.1 cut.2 cut.3) in
             let past = both.0 in
             let upto = both.1 in
             subst (λ p. is_cut Offsets 1636 (p % 2625286) (member_page (low_half offset)) ≡ false) (sym cut.4) (member_kept cut.2 offset (omega arith) (omega arith));

@@ -33,4 +33,5 @@ pub mod Room
 pub mod MultiOrder
 pub mod MultiRaised
 pub mod Holding
+pub mod LogBehind
 pub mod Once

@@ -2,6 +2,7 @@
 use Rattle.std.proofs.Common.{Contains, List, [], ap, arith, drop, length, length-append, refl, subst, suc, sym, take, take-append-drop, ℕ, ⊎_elim, ◌++◌, ◌+◌, ◌<◌, ◌∙◌, ◌∷◌, ◌≡◌, ◌≤◌}
 use Rattle.std.proofs.lemmas.List.Elements.{filter_map-append}
 use Rattle.std.proofs.lemmas.List.Sums.{fold_push}
+use Rattle.xid_order.specs.Ids.{next_multi}
 use Rattle.tx_events.specs.declared.event.By.{By}
 use Rattle.tx_events.specs.declared.multi.Member.{Member}
 use Rattle.tx_events.specs.declared.multi.MultiEvent.{MultiEvent}
@@ -12,16 +13,16 @@ use Rattle.tx_events.proofs.PlaceLemmas.{by_place, each_place_last, each_place_s
 use Rattle.tx_events.specs.Multis.{AreLegalMultis, InBase, IsNextMade, IsRaised, MultiMayCome, made, made_by, next_made, nth_multi, oldest_multi, oldest_multi_after}
 use Rattle.tx_core.proofs.Rising.{made_more, multi_above}
 
-gen_rises : (first : ℕ) (h : List MultiEvent) (by : By) (multi offset : ℕ) (members : List Member) → next_made first h < next_made first (h ++ multis.Gen by multi offset members ∷ [])
+gen_rises : (first : ℕ) (h : List MultiEvent) (by : By) (multi offset : ℕ) (members : List Member) → next_made first (h ++ multis.Gen by multi offset members ∷ []) ≡ next_multi (next_made first h)
 gen_rises first h by multi offset members =
     let split : length (made (h ++ multis.Gen by multi offset members ∷ [])) ≡ length (made h) + 1
     = ap (λ (t : List ℕ). length t) (filter_map-append made_by h (multis.Gen by multi offset members ∷ [])) ∙ length-append (made h) (multi ∷ []) in
-    let long : suc (length (made h)) ≡ length (made (h ++ multis.Gen by multi offset members ∷ [])) = omega arith in
-    subst (λ n. nth_multi first (length (made h)) < nth_multi first n) long (multi_above (nth_multi first (length (made h))))
+    let long : length (made (h ++ multis.Gen by multi offset members ∷ [])) ≡ suc (length (made h)) = omega arith in
+    ap (λ n. nth_multi first n) long
 
--- a given multixact is below the next one
-pub gen_below : (base : Counters) (by : By) (multi offset : ℕ) (members : List Member) (h : List MultiEvent) → AreLegalMultis base (InBase base) h → Has h (multis.Gen by multi offset members) → multi < next_made base.multi h
-gen_below base by multi offset members = by_end (λ h. AreLegalMultis base (InBase base) h → Has h (multis.Gen by multi offset members) → multi < next_made base.multi h)
+-- the number behind a given multixact is not past the next one
+pub gen_next : (base : Counters) (by : By) (multi offset : ℕ) (members : List Member) (h : List MultiEvent) → AreLegalMultis base (InBase base) h → Has h (multis.Gen by multi offset members) → next_multi multi ≤ next_made base.multi h
+gen_next base by multi offset members = by_end (λ h. AreLegalMultis base (InBase base) h → Has h (multis.Gen by multi offset members) → next_multi multi ≤ next_made base.multi h)
     (λ legal k. absurd k)
     (λ h e before legal k.
     let last : MultiMayCome base (InBase base) h e = each_place_last (MultiMayCome base (InBase base)) h e legal in
@@ -31,11 +32,14 @@ gen_below base by multi offset members = by_end (λ h. AreLegalMultis base (InBa
     (λ new. ⊎_elim
     (λ (q : e ≡ multis.Gen by multi offset members).
     let rule : IsNextMade base h multi offset members = subst (MultiMayCome base (InBase base) h) q last in
-    let next = rule.next in
-    let up : next_made base.multi h < next_made base.multi (h ++ e ∷ []) = subst (λ (z : MultiEvent). next_made base.multi h < next_made base.multi (h ++ z ∷ [])) (sym q) (gen_rises base.multi h by multi offset members) in
+    let now : next_made base.multi (h ++ e ∷ []) ≡ next_multi multi
+    = ap (λ (z : MultiEvent). next_made base.multi (h ++ z ∷ [])) q ∙ gen_rises base.multi h by multi offset members ∙ ap (λ n. next_multi n) (sym rule.next) in
     omega arith)
     (λ z. absurd z) new)
     (has_cases h (e ∷ []) (multis.Gen by multi offset members) k))
+
+pub gen_below : (base : Counters) (by : By) (multi offset : ℕ) (members : List Member) (h : List MultiEvent) → AreLegalMultis base (InBase base) h → Has h (multis.Gen by multi offset members) → multi < next_made base.multi h
+gen_below base by multi offset members h legal k = let a = gen_next base by multi offset members h legal k in let b = multi_above multi in omega arith
 
 -- so it has one event
 pub one_gen : (base : Counters) (a b : By) (multi x y : ℕ) (ms ns : List Member) (h : List MultiEvent) → AreLegalMultis base (InBase base) h → Has h (multis.Gen a multi x ms) → Has h (multis.Gen b multi y ns) → multis.Gen a multi x ms ≡ multis.Gen b multi y ns

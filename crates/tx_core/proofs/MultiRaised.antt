@@ -53,7 +53,7 @@ pushed base h e before l =
           (last_cases h e (multis.Raise by m x) k);
     }
 
-first_past : (free : ℕ) → free ≤ first_member free
+pub first_past : (free : ℕ) → free ≤ first_member free
 first_past free = grind arith
 
 -- a raise leaves the announced offset no lower

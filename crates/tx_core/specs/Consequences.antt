@@ -18,8 +18,9 @@ use Rattle.tx_core.specs.StaysDown.{is_down}
 use Rattle.tx_core.specs.MultiEntries.{multi_history}
 use Rattle.notes.specs.Lists.{Grows, at}
 use Rattle.tx_core.specs.Locks.{log_lock, oldest_word, subtrans_lock, subtrans_page, xact_lock, xact_page, xmin_word}
-use Rattle.tx_core.specs.RecordsFollow.{counters_after}
-use Rattle.tx_events.specs.Multis.{AreLegalMultis, InBase}
+use Rattle.tx_core.specs.RecordsFollow.{AreNotBelow, counters_after}
+use Rattle.tx_events.specs.Multis.{AreLegalMultis, InBase, multi_counters}
+use Rattle.tx_events.specs.declared.record.Counters.{Counters}
 use Rattle.tx_events.specs.declared.multi.Member.{Member}
 use Rattle.tx_events.specs.declared.multi.MultiEvent.TheVariants as multis
 use Rattle.tx_core.specs.declared.entry.Kind.TheVariants as kinds
@@ -119,3 +120,15 @@ DownStays = (start : Start) (lists more : List (List Entry)) → EngineInvariant
     → is_down (at lists log_lock) ≡ true
     → (records_of more ≡ records_of lists)
     × (flushed_to start (at more log_lock) ≡ flushed_to start (at lists log_lock))
+
+-- the counters that the ProcArray's list and the multixacts' list give
+abbrev pub counters_now : Start → List (List Entry) → Counters
+counters_now start lists = record (multi_counters start.base (multi_history lists)) {
+  next = next_given start.base.next (history lists);
+  oldest = oldest_id start.base.oldest (history lists);
+}
+
+-- No counter of the log is past them. So a checkpoint of these counters is not below the log's.
+abbrev pub LogIsBehind : Type 0
+LogIsBehind = (start : Start) (lists : List (List Entry)) → EngineInvariant start lists → IsBase start.base
+    → AreNotBelow (counters_after start (at lists log_lock)) (counters_now start lists)

@@ -1,5 +1,5 @@
 ghost use Rattle.tx_core.specs.Laws.{Keeps, Opens, CommitRecordKeeps, AbortRecordKeeps, MultiRecordKeeps, CheckpointRecordKeeps, TruncateRecordKeeps, FlushKeeps, ForgetKeeps, LogFaultKeeps, IdEventKeeps, SubEventKeeps, UndoEventKeeps, CommitEventKeeps, AbortEventKeeps, SnapEventKeeps, SnapDropKeeps, OldestKeeps, AskKeeps, MadeKeeps, MultiEventKeeps, ChangesKeep, CommittedKeeps, SubCommittedKeeps, AbortedKeeps, ParentKeeps, ZeroKeeps, CutKeeps, SyncKeeps, FaultKeeps, RequestKeeps, LookKeeps, OldestPostKeeps, XminPostKeeps};
-ghost use Rattle.tx_core.specs.Consequences.{NeverAborted, CommittedAsked, AskedGiven, OldestRises, PostsGoOn, MultisAreLegal, NextGiven, ParentsKept, StatesKept, HorizonRises, SnapshotsHold, OpenKept, RaisesTold, FaultsCounted, FlushesRise, DownStays};
+ghost use Rattle.tx_core.specs.Consequences.{NeverAborted, CommittedAsked, AskedGiven, OldestRises, PostsGoOn, MultisAreLegal, NextGiven, ParentsKept, StatesKept, HorizonRises, SnapshotsHold, OpenKept, RaisesTold, FaultsCounted, FlushesRise, DownStays, LogIsBehind};
 ghost use Rattle.tx_core.specs.Held.{OpenRuns, PagesHeld};
 ghost use Rattle.tx_core.specs.Nearness.{MadeNear};
 ghost use Rattle.tx_core.specs.Pages.{PagesShow, ParentsShow, OffsetsShow, MembersShow};
@@ -295,4 +295,10 @@ pub fn pages_held()
 /// An id that is open is from the oldest xmin on, and before the next one.
 pub fn open_runs()
     ensures { OpenRuns }
+{}
+
+/// No counter of the log is past those of the ProcArray and the multixacts: so a checkpoint of these is not below the log
+/// (`CreateCheckPoint` in `xlog.c`).
+pub fn log_is_behind()
+    ensures { LogIsBehind }
 {}

@@ -11,3 +11,4 @@ pub mod Tails
 pub mod Sections
 pub mod Begins
 pub mod Making
+pub mod Restored

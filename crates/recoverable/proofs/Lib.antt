@@ -2,6 +2,7 @@ pub mod Stretches
 pub mod LogBases
 pub mod Room
 pub mod Places
+pub mod BytesShow
 pub mod FitsXact
 pub mod Offsets
 pub mod MultiFacts
@@ -13,3 +14,6 @@ pub mod MultiChain
 pub mod Announced
 pub mod MembersFit
 pub mod LifeBases
+pub mod Earlier
+pub mod Opened
+pub mod Whole

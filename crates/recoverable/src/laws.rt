@@ -1,4 +1,8 @@
 ghost use Rattle.recoverable.specs.Laws.{ListFitsLaw, MayBeginLaw, XactFitsLaw, OffsetsShownLaw, OffsetsFitLaw, MembersFitLaw, NoStrayOffset};
+ghost use Rattle.recoverable.specs.Stored.{OffsetBytesShow, MemberBytesShow};
+ghost use Rattle.recoverable.specs.Whole.{VolumesFitLaw};
+
+use disk_core::{LogDisk, PageDisk};
 
 /// A checkpoint before which the log was to be forgotten is on disk, with counters that are the log's behind it.
 pub fn may_begin()
@@ -37,4 +41,17 @@ pub fn members_fit()
 /// A multixact that the life began with and that isn't recorded has no offset in any image.
 pub fn no_stray_offset()
     ensures { NoStrayOffset }
+{}
+
+/// What the pages of offsets and members hold of a number are the bytes that were set last, over whatever the life found
+/// there.
+pub fn bytes_show()
+    ensures offsets { OffsetBytesShow }
+    ensures members { MemberBytesShow }
+{}
+
+/// Where the invariant holds, the life began clean and was short, the log's images open to its list and each bank's show
+/// theirs, the volumes fit, over any disks.
+pub fn volumes_fit<L: LogDisk, P: PageDisk>()
+    ensures { VolumesFitLaw L.images P.images }
 {}

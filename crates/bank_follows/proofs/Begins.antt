@@ -9,7 +9,7 @@ use Rattle.recoverable.specs.Images.{IsAsWanted, Now}
 use Rattle.recoverable.specs.Bytes.{byte_held, slot_place_of}
 use Rattle.recoverable.specs.XactImages.{code_of}
 use Rattle.bank_follows.specs.Begins.{BanksOpen, OpenedShows, PagesShowWhatTheyHold, ShowsFirst, ZerosShowNothing, offset_bytes_on, slot_bytes_on, state_of_code}
-use Rattle.bank_follows.specs.Cells.{Cells, value_in}
+use Rattle.bank_follows.specs.Cells.{Cells, ImageShows, value_in}
 use Rattle.bank_follows.specs.Stores.{IsMemberAt, IsOffsetAt, IsParentAt, IsXactAt, member_cells, offset_cells, parent_cells, xact_cells}
 use Rattle.bank_follows.proofs.Bytes.{which}
 use Rattle.bank_follows.proofs.Calls.{IsStore}
@@ -17,14 +17,19 @@ use Rattle.bank_follows.proofs.SlotSetting.{in_four}
 use Rattle.bank_follows.proofs.Steps.{since_now}
 use Rattle.bank_follows.proofs.Stores.{members_are, offsets_are, parents_are, xact_is}
 
+-- an image with the bytes of pages that show what the life begins with
+pub first_shown : {I V : Type 0} (s : Cells I V) (Asked : ℕ → Type 0) (pages : ℕ → List ℕ) (c : Pages) → ShowsFirst s Asked pages → ((q : ℕ) → page_bytes (c q) ≡ pages q) → ImageShows s Asked [] c
+first_shown s Asked pages c first same x i asked lt =
+    since_now s.reading (s.wanted i) [] x (s.page x) (s.value x (slice_index (page_bytes (c (s.page x))) (s.at x i)))
+    (subst (λ (l : List ℕ). Now s.reading (s.wanted i) [] [] x (s.page x) (s.value x (slice_index l (s.at x i)))) (sym (same (s.page x))) (inl (first x i asked lt)))
+
 module _ {D : Type 0} (images : D → Pages → Type 0) (moment : D → ℕ) (left_at : D → ℕ → Pages → Type 0) where
   opened_shows : {I V : Type 0} (s : Cells I V) (Asked : ℕ → Type 0) → OpenedShows images moment left_at s Asked
   opened_shows s Asked pages cutoff d opened =
       let now : (x i : ℕ) → Asked x → i < s.pieces → Now s.reading (s.wanted i) [] [] x (s.page x) (value_in s pages x i) = λ x i asked lt. inl (opened.first x i asked lt) in
       record {
         map = now;
-        left = λ c left x i asked lt. since_now s.reading (s.wanted i) [] x (s.page x) (s.value x (slice_index (page_bytes (c (s.page x))) (s.at x i)))
-            (subst (λ (l : List ℕ). Now s.reading (s.wanted i) [] [] x (s.page x) (s.value x (slice_index l (s.at x i)))) (sym (opened.durable c left (s.page x))) (now x i asked lt));
+        left = λ c left. first_shown s Asked pages c opened.first (opened.durable c left);
         cut = (s.reading.ring.kept, inl refl, opened.kept);
       }
 

@@ -12,3 +12,4 @@ pub mod Sections
 pub mod Begins
 pub mod Making
 pub mod Restored
+pub mod LifeBegins

@@ -1,12 +1,14 @@
 -- A life that goes on from what a recovery leaves begins clean: the pages show its base.
-use Rattle.std.specs.Prelude.{◌≡◌, ℕ, ◌≤◌, List, IsTrue}
+use Rattle.std.specs.Prelude.{◌≡◌, ℕ, ◌+◌, ◌<◌, ◌≤◌, List, [], IsTrue}
+use Rattle.notes.specs.Lists.{at}
+use Rattle.tx_core.specs.declared.entry.Entry.{Entry}
 use Rattle.xid_order.specs.Ids.{IsFullMulti}
 use Rattle.disk_core.specs.Pages.{Pages, page_bytes}
 use Rattle.tx_core.specs.declared.entry.Start.{Start}
 use Rattle.recoverable.specs.Fit.{KeptLog}
-use Rattle.recoverable.specs.Laws.{life_base}
-use Rattle.recoverable.specs.Volumes.{EndsSettled, Left, ListFits, Restored}
-use Rattle.recoverable.specs.Whole.{BeganClean, Shown}
+use Rattle.recoverable.specs.Laws.{LogFollows, life_base}
+use Rattle.recoverable.specs.Volumes.{EndsSettled, ImageFits, Left, ListFits, Restored}
+use Rattle.recoverable.specs.Whole.{BeganClean, LeftFollows, Shown}
 use Rattle.bank_follows.specs.Begins.{members_on, offsets_on, states_on}
 
 -- the bytes of each bank's pages
@@ -26,3 +28,17 @@ RestoredBegins = (start : Start) (log : KeptLog) (from : ℕ) (left : Left)
     → 1 ≤ start.banks → IsTrue start.told → IsFullMulti start.base.multi
     → ListFits log → EndsSettled log from (life_base start) → Restored start.banks log from start.base left
     → BeganClean start (shown_on start.banks left)
+
+-- the page volumes of both have the same bytes, as all images have behind `flush_all`
+pub record HaveSameBytes (banks : ℕ) (left other : Left) : Type 0 where
+  pub xact : (bank q : ℕ) → bank < banks → page_bytes (other.xact bank q) ≡ page_bytes (left.xact bank q)
+  pub offsets : (bank q : ℕ) → bank < banks → page_bytes (other.offsets bank q) ≡ page_bytes (left.offsets bank q)
+  pub members : (bank q : ℕ) → bank < banks → page_bytes (other.members bank q) ≡ page_bytes (left.members bank q)
+
+-- And each image that it leaves follows the lists before their first entries.
+abbrev pub LifeBegins : Type 0
+LifeBegins = (start : Start) (lists : List (List Entry)) (log : KeptLog) (from : ℕ) (left other : Left)
+    → ((lock : ℕ) → at lists lock ≡ []) → start.from ≡ from + 1
+    → ListFits log → EndsSettled log from (life_base start) → Restored start.banks log from start.base left
+    → ImageFits start.banks log other → HaveSameBytes start.banks left other
+    → LogFollows start lists log × LeftFollows start lists (shown_on start.banks left) log other

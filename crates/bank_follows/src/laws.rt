@@ -6,7 +6,7 @@ ghost use Rattle.bank_follows.specs.StoreSets.{StatesSet, MemberSet};
 ghost use Rattle.bank_follows.specs.Laws.{XactKeeps, ParentsKeep, OffsetsKeep, MembersKeep, ImagesFollow, OnePage};
 ghost use Rattle.bank_follows.specs.Begins.{BanksOpen, PagesShowWhatTheyHold, ZerosShowNothing};
 ghost use Rattle.bank_follows.specs.Making.{StoredPagesMade};
-ghost use Rattle.bank_follows.specs.Restored.{RestoredBegins};
+ghost use Rattle.bank_follows.specs.Restored.{LifeBegins, RestoredBegins};
 
 use disk_core::PageDisk;
 
@@ -85,4 +85,9 @@ pub fn tails_stay<P: PageDisk>()
 /// What a recovery leaves (`StartupXLOG` and `TrimMultiXact`) is a clean start of the next life.
 pub fn restored_begins()
     ensures { RestoredBegins }
+{}
+
+/// And its images follow the lists of that life before their first entries.
+pub fn life_begins()
+    ensures { LifeBegins }
 {}

@@ -17,3 +17,4 @@ pub mod LifeBases
 pub mod Earlier
 pub mod Opened
 pub mod Whole
+pub mod LogBegins

@@ -14,11 +14,11 @@ use Rattle.notes.specs.Lists.{at}
 use Rattle.tx_core.specs.declared.entry.Entry.{Entry}
 use Rattle.tx_core.specs.declared.entry.Start.{Start}
 use Rattle.tx_core.specs.EngineInvariant.{EngineInvariant}
+use Rattle.tx_core.specs.Locks.{log_lock}
 use Rattle.tx_core.specs.Entries.{records_of}
 use Rattle.recoverable.specs.Fit.{KeptLog, MayBegin}
-use Rattle.recoverable.specs.Laws.{IsBeginning, LogFollows}
-use Rattle.recoverable.specs.Volumes.{ImageFits, Left}
-use Rattle.recoverable.specs.Whole.{BanksLeave, BeganClean, Disks, IsShort, LeftOf, LogLeaves, Shown, VolumesFitLaw}
+use Rattle.recoverable.specs.Laws.{LogFollows}
+use Rattle.recoverable.specs.Whole.{ImageFitsLaw, LogImage, VolumesFitLaw}
 use Rattle.recoverable.proofs.Checkpoints.{begins_at, get_past, may_begin}
 use Rattle.recoverable.proofs.Earlier.{members_earlier, offsets_earlier, xact_earlier}
 use Rattle.recoverable.proofs.FitsXact.{fits_xact}
@@ -56,55 +56,52 @@ opens_to log kept v begun has = with_history (opened v) refl has.opens
     with_history (Err at) e r = absurd r
     with_history (Ok o) e r = past o o.history refl e r
 
-module _ {L P : Type 0} (log_images : L → Volume → Type 0) (images : P → Pages → Type 0) where
-  module _ (start : Start) (lists : List (List Entry)) (log : KeptLog) (disk : L) (k : EngineInvariant start lists) (f : LogFollows start lists log) (leaves : LogLeaves log_images images start lists log disk) where
-    -- what was to be forgotten is on disk
-    flushed_past : start.from ≤ leaves.kept → leaves.kept < log.flushed
-    flushed_past le = ⊎_elim (λ (lt : leaves.kept < start.from). absurd (omega arith)) (λ h. (may_begin start lists log leaves.kept k f h).flushed) leaves.forgotten
+module _ (start : Start) (lists : List (List Entry)) (log : KeptLog) (v : Volume) (k : EngineInvariant start lists) (f : LogFollows start lists log) (image : LogImage start (at lists log_lock) log v) where
+  -- what was to be forgotten is on disk
+  flushed_past : start.from ≤ image.kept → image.kept < log.flushed
+  flushed_past le = ⊎_elim (λ (lt : image.kept < start.from). absurd (omega arith)) (λ h. (may_begin start lists log image.kept k f h).flushed) image.forgotten
 
-    -- an image begins where the log may
-    begins : (v : Volume) → log_images disk v → (o : Opens log leaves.kept v) → MayBegin log o.history.first
-    begins v left o =
-        let n : ℕ = o.history.first in
-        let upto = o.upto in
-        ⊎_elim
-        (λ (le : start.from ≤ n).
-        let past = flushed_past (omega arith) in
-        let first = first_is o.history.recs n (history_comes v o.history o.gate o.opens).0 in
-        let check : Rec = records.Checkpoint n first.0 in
-        let from = f.from in
-        let place : n - log.first ≡ length f.before + (n - start.from) = omega arith in
-        let here : slice_get (life_recs lists) (n - start.from) ≡ Some check
-        = sym (get_past f.before (life_recs lists) (n - start.from)) ∙ ap (λ j. slice_get (f.before ++ life_recs lists) j) (sym place) ∙ ap (λ (t : List Rec). slice_get t (n - log.first)) (sym f.recs)
-        ∙ first_stands log o.history o.stretch first.0 first.1 first.2 in
-        let g = map_get (λ (t : By × Rec). t.1) (records_of lists) (n - start.from) check here in
-        begins_at start lists log n g.0.0 first.0 k f le (g.1 ∙ ap (λ (z : Rec). Some (g.0.0, z)) g.2) (omega arith))
-        (λ (lt : n < start.from). leaves.earlier v o.history o.gate left o.opens lt)
-        (le_or_over start.from n)
+  -- an image begins where the log may
+  begins : (o : Opens log image.kept v) → MayBegin log o.history.first
+  begins o =
+      let n : ℕ = o.history.first in
+      let upto = o.upto in
+      ⊎_elim
+      (λ (le : start.from ≤ n).
+      let past = flushed_past (omega arith) in
+      let first = first_is o.history.recs n (history_comes v o.history o.gate o.opens).0 in
+      let check : Rec = records.Checkpoint n first.0 in
+      let from = f.from in
+      let place : n - log.first ≡ length f.before + (n - start.from) = omega arith in
+      let here : slice_get (life_recs lists) (n - start.from) ≡ Some check
+      = sym (get_past f.before (life_recs lists) (n - start.from)) ∙ ap (λ j. slice_get (f.before ++ life_recs lists) j) (sym place) ∙ ap (λ (t : List Rec). slice_get t (n - log.first)) (sym f.recs)
+      ∙ first_stands log o.history o.stretch first.0 first.1 first.2 in
+      let g = map_get (λ (t : By × Rec). t.1) (records_of lists) (n - start.from) check here in
+      begins_at start lists log n g.0.0 first.0 k f le (g.1 ∙ ap (λ (z : Rec). Some (g.0.0, z)) g.2) (omega arith))
+      (λ (lt : n < start.from). image.earlier o.history o.gate o.opens lt)
+      (le_or_over start.from n)
 
-  image_fits : (start : Start) (lists : List (List Entry)) (shown : Shown) (log : KeptLog) (disks : Disks L P) → EngineInvariant start lists → BeganClean start shown → IsShort lists → LogFollows start lists log
-      → LogLeaves log_images images start lists log disks.log → ((bank : ℕ) → bank < start.banks → BanksLeave log_images images start lists shown disks bank)
-      → (left : Left) → LeftOf log_images images start.banks disks left → ImageFits start.banks log left
-  image_fits start lists shown log disks k clean short f leaves each left of =
-      let begun = leaves.begun in let flushed = f.begun in
-      let has = leaves.keeps.each left.log of.log in
-      let o = opens_to log leaves.kept left.log (omega arith) has in
-      let may = begins start lists log disks.log k f leaves left.log of.log o in
-      let base = clean.base.counters in
-      record {
-        begins = o.history.first;
-        may_begin = may;
-        opens = log_opens log o.history o.stretch o.gate left.log o.opens has.ends o.flushed may;
-        xact = λ bank inside. xact_earlier start.banks bank log o.history.first leaves.kept (left.xact bank) o.upto
-            (fits_xact start lists shown.xact log bank leaves.kept (left.xact bank) k clean.xact f leaves.forgotten short.ids inside ((each bank inside).xact (left.xact bank) (of.xact bank inside)));
-        offsets = λ bank inside. offsets_earlier start.banks bank log o.history.first leaves.kept (left.offsets bank) o.upto
-            (offsets_fit start lists shown.offsets log bank leaves.kept (left.offsets bank) k base clean.offsets f leaves.forgotten short.multis inside ((each bank inside).offsets (left.offsets bank) (of.offsets bank inside)));
-        members = λ bank inside. members_earlier start.banks bank log o.history.first leaves.kept (left.members bank) o.upto
-            (members_fit start lists shown.members log bank leaves.kept (left.members bank) k base clean.told clean.members f leaves.forgotten short.multis inside ((each bank inside).members (left.members bank) (of.members bank inside)) ((each bank inside).tails (left.members bank) (of.members bank inside)));
-      }
+pub image_fits : ImageFitsLaw
+image_fits start lists shown log left k clean short f follows =
+    let image = follows.log_image in
+    let begun = image.begun in let flushed = f.begun in
+    let o = opens_to log image.kept left.log (omega arith) image.opens in
+    let may = begins start lists log left.log k f image o in
+    let base = clean.base.counters in
+    record {
+      begins = o.history.first;
+      may_begin = may;
+      opens = log_opens log o.history o.stretch o.gate left.log o.opens image.opens.ends o.flushed may;
+      xact = λ bank inside. xact_earlier start.banks bank log o.history.first image.kept (left.xact bank) o.upto
+          (fits_xact start lists shown.xact log bank image.kept (left.xact bank) k clean.xact f image.forgotten short.ids inside (follows.banks bank inside).states);
+      offsets = λ bank inside. offsets_earlier start.banks bank log o.history.first image.kept (left.offsets bank) o.upto
+          (offsets_fit start lists shown.offsets log bank image.kept (left.offsets bank) k base clean.offsets f image.forgotten short.multis inside (follows.banks bank inside).offsets_are);
+      members = λ bank inside. members_earlier start.banks bank log o.history.first image.kept (left.members bank) o.upto
+          (members_fit start lists shown.members log bank image.kept (left.members bank) k base clean.told clean.members f image.forgotten short.multis inside (follows.banks bank inside).members_are (follows.banks bank inside).tails);
+    }
 
-  pub volumes_fit : VolumesFitLaw log_images images
-  volumes_fit start lists shown log disks k clean short f leaves each = record {
-    list = list_fits start lists log k clean.told clean.full clean.base f;
-    each = image_fits start lists shown log disks k clean short f leaves each;
-  }
+pub volumes_fit : {L P : Type 0} (log_images : L → Volume → Type 0) (images : P → Pages → Type 0) → VolumesFitLaw log_images images
+volumes_fit log_images images start lists shown log disks k clean short f each = record {
+  list = list_fits start lists log k clean.told clean.full clean.base f;
+  each = λ left of. image_fits start lists shown log left k clean short f (each left of);
+}

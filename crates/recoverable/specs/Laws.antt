@@ -1,5 +1,7 @@
 -- The law: where the engine invariant holds, and values stand for their lists, the volumes fit.
-use Rattle.std.specs.Prelude.{◌≡◌, ℕ, ◌+◌, ◌<◌, ◌≤◌, ◌⊎◌, List, ◌++◌, length, Option, None, IsTrue}
+use Rattle.std.specs.Prelude.{◌≡◌, ℕ, ◌+◌, ◌<◌, ◌≤◌, ◌⊎◌, Contains, List, ◌++◌, length, Option, None, IsTrue}
+use Rattle.tx_events.specs.declared.event.By.{By}
+use Rattle.tx_core.specs.declared.entry.Kind.{Kind}
 use Rattle.xid_order.specs.Ids.{IsFullMulti}
 use Rattle.disk_core.specs.Pages.{Pages}
 use Rattle.tx_events.specs.Base.{IsBase}
@@ -30,21 +32,31 @@ use Rattle.recoverable.specs.Bytes.{ImageHasZeroTails, StoredBytes}
 abbrev pub life_base : Start → LifeBase
 life_base start = record { counters = start.base; committed = start.committed; recorded = start.recorded }
 
--- The log's records are those from before the life, which give its base, and those of the life. Those from before are at
--- least as many as the log had appended itself when the life began (`logged`).
-pub record LogFollows (start : Start) (lists : List (List Entry)) (log : KeptLog) : Type 0 where
+-- an entry of this kind stands in the list
+abbrev pub HasKind : List Entry → Kind → Type 0
+HasKind es kind = (by : By) × Contains es (record { by = by; kind = kind })
+
+-- A log's records are those from before the life, which give its base, and those that the list appends; what the list
+-- flushed is on disk. Those from before are at least the ones that the log had appended itself when the life began.
+pub record LogOf (start : Start) (es : List Entry) (log : KeptLog) : Type 0 where
   pub before : List Rec
-  pub recs : log.recs ≡ before ++ recs_in (at lists log_lock)
+  pub recs : log.recs ≡ before ++ recs_in es
   pub from : start.from ≡ log.first + length before
   pub base : base_after log.base before ≡ life_base start
   pub begun : start.from ≤ log.flushed
   pub upto : log.flushed ≤ log_end log
-  pub flushed : (to : ℕ) → Stands lists log_lock (kinds.Flush to) → to ≤ log.flushed
+  pub flushed : (to : ℕ) → HasKind es (kinds.Flush to) → to ≤ log.flushed
+
+abbrev pub LogFollows : Start → List (List Entry) → KeptLog → Type 0
+LogFollows start lists log = LogOf start (at lists log_lock) log
 
 -- an image of the log may begin at this record: one before the life, or a checkpoint before which it was to be forgotten
+abbrev pub IsBeginningOf : Start → List Entry → ℕ → Type 0
+IsBeginningOf start es n =
+    (n < start.from) ⊎ (HasKind es (kinds.Forget n) ⊎ ((count : ℕ) × HasKind es (kinds.LogFault (calls.Forget n) count)))
+
 abbrev pub IsBeginning : Start → List (List Entry) → ℕ → Type 0
-IsBeginning start lists n =
-    (n < start.from) ⊎ (Stands lists log_lock (kinds.Forget n) ⊎ ((count : ℕ) × Stands lists log_lock (kinds.LogFault (calls.Forget n) count)))
+IsBeginning start lists n = IsBeginningOf start (at lists log_lock) n
 
 -- Where the life's base is what a life may start from, and the pages told, so is each base that its log may give: the
 -- log's list fits.

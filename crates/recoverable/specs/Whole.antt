@@ -1,14 +1,13 @@
 -- The law on all volumes at once: where the engine invariant holds, the life began clean and was short, the log's images
 -- open to its list and each bank's show theirs, the volumes fit.
-use Rattle.std.specs.Prelude.{◌≡◌, ℕ, ◌+◌, ◌<◌, List, length, Option, Some, Ok, IsTrue}
+use Rattle.std.specs.Prelude.{◌≡◌, ℕ, ◌+◌, ◌<◌, List, [], length, Option, Some, Ok, IsTrue}
 use Rattle.xid_order.specs.Ids.{IsFullMulti}
 use Rattle.disk_core.specs.Pages.{Pages}
 use Rattle.disk_core.specs.Volume.{Volume}
-use Rattle.wal_core.specs.Kept.{KeepsRecords}
+use Rattle.wal_core.specs.Kept.{HasFlushed}
 use Rattle.wal_core.specs.Opening.{History, opened}
 use Rattle.tx_events.specs.Events.{given}
 use Rattle.tx_events.specs.Multis.{made}
-use Rattle.tx_events.specs.declared.record.Rec.{Rec}
 use Rattle.notes.specs.Lists.{at}
 use Rattle.tx_core.specs.declared.entry.Entry.{Entry}
 use Rattle.tx_core.specs.declared.entry.Start.{Start}
@@ -16,15 +15,15 @@ use Rattle.tx_core.specs.declared.entry.State.{State}
 use Rattle.tx_core.specs.CleanStart.{CleanStart}
 use Rattle.tx_core.specs.EngineInvariant.{EngineInvariant}
 use Rattle.tx_core.specs.Entries.{history}
-use Rattle.tx_core.specs.Locks.{members_lock, offsets_lock, xact_lock}
+use Rattle.tx_core.specs.Locks.{log_lock, members_lock, offsets_lock, xact_lock}
 use Rattle.tx_core.specs.MultiEntries.{multi_history}
 use Rattle.recoverable.specs.Bytes.{ImageHasZeroTails, StoredBytes}
 use Rattle.recoverable.specs.Fit.{KeptLog, MayBegin}
-use Rattle.recoverable.specs.Laws.{IsBeginning, LogFollows, life_base}
+use Rattle.recoverable.specs.Laws.{IsBeginningOf, LogFollows, LogOf, life_base}
 use Rattle.recoverable.specs.LifeBase.{IsLifeBase}
 use Rattle.recoverable.specs.MemberImages.{CleanMembers, MembersFollow}
 use Rattle.recoverable.specs.OffsetImages.{CleanOffsets, OffsetsFollow}
-use Rattle.recoverable.specs.Volumes.{Left, VolumesFit}
+use Rattle.recoverable.specs.Volumes.{EndsSettled, ImageFits, Left, ListFits, VolumesFit}
 use Rattle.recoverable.specs.XactImages.{Follows}
 
 -- what the pages showed when a life began
@@ -54,6 +53,38 @@ pub record Disks (L P : Type 0) : Type 0 where
   pub offsets : ℕ → P
   pub members : ℕ → P
 
+-- An image of the log's volume opens to records of the log, those on disk among them, and begins where the log may: not
+-- past the first record that is kept, which is one from before the life or a checkpoint before which the log was to be
+-- forgotten. One that begins before the life begins at a checkpoint with the log's own counters.
+pub record LogImage (start : Start) (es : List Entry) (log : KeptLog) (v : Volume) : Type 0 where
+  pub kept : ℕ
+  pub opens : HasFlushed log.first log.recs kept log.flushed v
+  pub begun : log.first < start.from
+  pub forgotten : IsBeginningOf start es kept
+  pub earlier : (h : History) (gate : ℕ) → opened v ≡ Ok (record { history = Some h; gate = gate })
+      → h.first < start.from → MayBegin log h.first
+
+-- and images of the banks of one number show their lists
+pub record BankImages (start : Start) (lists : List (List Entry)) (shown : Shown) (bank : ℕ)
+    (xact offsets members : Pages) : Type 0 where
+  pub states : Follows start bank shown.xact (at lists (xact_lock bank)) xact
+  pub offsets_are : OffsetsFollow start bank shown.offsets (at lists (offsets_lock bank)) offsets
+  pub members_are : MembersFollow start bank shown.members (at lists (members_lock bank)) members
+  pub tails : ImageHasZeroTails members
+
+-- what a crash left of all volumes follows the lists
+pub record LeftFollows (start : Start) (lists : List (List Entry)) (shown : Shown) (log : KeptLog)
+    (left : Left) : Type 0 where
+  pub log_image : LogImage start (at lists log_lock) log left.log
+  pub banks : (bank : ℕ) → bank < start.banks
+      → BankImages start lists shown bank (left.xact bank) (left.offsets bank) (left.members bank)
+
+-- Each combination of images that follow the lists fits the log, whichever moments they are of.
+abbrev pub ImageFitsLaw : Type 0
+ImageFitsLaw = (start : Start) (lists : List (List Entry)) (shown : Shown) (log : KeptLog) (left : Left)
+    → EngineInvariant start lists → BeganClean start shown → IsShort lists
+    → LogFollows start lists log → LeftFollows start lists shown log left → ImageFits start.banks log left
+
 module _ {L P : Type 0} (log_images : L → Volume → Type 0) (images : P → Pages → Type 0) where
   -- a crash leaves these disks so
   pub record LeftOf (banks : ℕ) (disks : Disks L P) (left : Left) : Type 0 where
@@ -62,32 +93,15 @@ module _ {L P : Type 0} (log_images : L → Volume → Type 0) (images : P → P
     pub offsets : (bank : ℕ) → bank < banks → images (disks.offsets bank) (left.offsets bank)
     pub members : (bank : ℕ) → bank < banks → images (disks.members bank) (left.members bank)
 
-  -- What the log's value stands for, as far as its images go: they open to its records, from one on that isn't past
-  -- `kept`. The log has records from before the life, the checkpoint with which it began among them. None was to be
-  -- forgotten past `kept`, and one that begins before the life begins at a checkpoint of the log's own counters.
-  pub record LogLeaves (start : Start) (lists : List (List Entry)) (log : KeptLog) (disk : L) : Type 0 where
-    pub recs : List Rec
-    pub next : ℕ
-    pub kept : ℕ
-    pub keeps : KeepsRecords log.first log.recs recs next kept log.flushed (log_images disk)
-    pub begun : log.first < start.from
-    pub forgotten : IsBeginning start lists kept
-    pub earlier : (v : Volume) (h : History) (gate : ℕ) → log_images disk v
-        → opened v ≡ Ok (record { history = Some h; gate = gate }) → h.first < start.from → MayBegin log h.first
-
-  -- and what the banks of one number stand for
-  pub record BanksLeave (start : Start) (lists : List (List Entry)) (shown : Shown) (disks : Disks L P)
-      (bank : ℕ) : Type 0 where
-    pub xact : (c : Pages) → images (disks.xact bank) c → Follows start bank shown.xact (at lists (xact_lock bank)) c
-    pub offsets : (c : Pages) → images (disks.offsets bank) c
-        → OffsetsFollow start bank shown.offsets (at lists (offsets_lock bank)) c
-    pub members : (c : Pages) → images (disks.members bank) c
-        → MembersFollow start bank shown.members (at lists (members_lock bank)) c
-    pub tails : (c : Pages) → images (disks.members bank) c → ImageHasZeroTails c
-
+  -- so the volumes of disks fit
   abbrev pub VolumesFitLaw : Type 0
   VolumesFitLaw = (start : Start) (lists : List (List Entry)) (shown : Shown) (log : KeptLog) (disks : Disks L P)
-      → EngineInvariant start lists → BeganClean start shown → IsShort lists
-      → LogFollows start lists log → LogLeaves start lists log disks.log
-      → ((bank : ℕ) → bank < start.banks → BanksLeave start lists shown disks bank)
+      → EngineInvariant start lists → BeganClean start shown → IsShort lists → LogFollows start lists log
+      → ((left : Left) → LeftOf start.banks disks left → LeftFollows start lists shown log left)
       → VolumesFit start.banks log (LeftOf start.banks disks)
+
+-- The log behind a recovery, of which each image fits, is as a life begins with it: before the first entry.
+abbrev pub LogBegins : Type 0
+LogBegins = (start : Start) (log : KeptLog) (from : ℕ) (left : Left) → start.from ≡ from + 1 → MayBegin log from
+    → ListFits log → EndsSettled log from (life_base start) → ImageFits start.banks log left
+    → LogOf start [] log × LogImage start [] log left.log

@@ -1,6 +1,6 @@
 ghost use Rattle.recoverable.specs.Laws.{ListFitsLaw, MayBeginLaw, XactFitsLaw, OffsetsShownLaw, OffsetsFitLaw, MembersFitLaw, NoStrayOffset};
 ghost use Rattle.recoverable.specs.Stored.{OffsetBytesShow, MemberBytesShow};
-ghost use Rattle.recoverable.specs.Whole.{VolumesFitLaw};
+ghost use Rattle.recoverable.specs.Whole.{ImageFitsLaw, LogBegins, VolumesFitLaw};
 
 use disk_core::{LogDisk, PageDisk};
 
@@ -50,8 +50,18 @@ pub fn bytes_show()
     ensures members { MemberBytesShow }
 {}
 
-/// Where the invariant holds, the life began clean and was short, the log's images open to its list and each bank's show
-/// theirs, the volumes fit, over any disks.
+/// Where the invariant holds and the life began clean and was short, what a crash left of all volumes fits, if the log's
+/// image opens to its list and each bank's image shows its own: at whatever moment of its own each of them was left.
+pub fn image_fits()
+    ensures { ImageFitsLaw }
+{}
+
+/// So the volumes fit, over any disks.
 pub fn volumes_fit<L: LogDisk, P: PageDisk>()
     ensures { VolumesFitLaw L.images P.images }
+{}
+
+/// The log behind a recovery is as the next life's laws want it, before that life's first entry.
+pub fn log_begins()
+    ensures { LogBegins }
 {}

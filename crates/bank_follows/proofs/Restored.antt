@@ -1,30 +1,28 @@
 -- What a recovery leaves is a clean start.
-use Rattle.std.proofs.Common.{Contains, List, None, Option, Some, [], ap, append-nil, arith, cond, eq-eqb, inl, inr, length, refl, subst, suc, sym, take, zero, ℕ, ⊎_elim, ◌+◌, ◌++◌, ◌-◌, ◌/◌, ◌%◌, ◌<◌, ◌==◌, ◌∙◌, ◌∷◌, ◌≡◌, ◌≤◌, ◌⊎◌}
+use Rattle.std.proofs.Common.{Contains, List, None, Some, [], ap, append-nil, arith, cond, eq-eqb, inl, inr, length, refl, subst, suc, sym, take, zero, ℕ, ⊎_elim, ◌+◌, ◌++◌, ◌-◌, ◌/◌, ◌%◌, ◌<◌, ◌∙◌, ◌∷◌, ◌≡◌, ◌≤◌, ◌⊎◌}
 use Rattle.std.proofs.lemmas.Nat.{mod_below}
-use Rattle.std.specs.List.{filter, slice_get, slice_index}
+use Rattle.std.specs.List.{slice_index}
 use Rattle.disk_core.specs.Pages.{page_bytes}
 use Rattle.store_pages.specs.Layouts.{member_page_of, member_place_of, mode_place_of, number_in, word_page_of, word_place_of, xact_page_of, xact_place_of}
-use Rattle.tx_events.specs.declared.multi.Member.{Member}
 use Rattle.tx_events.specs.declared.record.Rec.{Rec}
 use Rattle.tx_events.specs.declared.record.Rec.TheVariants as records
 use Rattle.tx_core.specs.declared.entry.Start.{Start}
-use Rattle.tx_core.specs.declared.entry.State.{State}
 use Rattle.tx_core.specs.declared.entry.State.TheVariants as states
 use Rattle.tx_core.specs.CleanStart.{CleanStart}
-use Rattle.recoverable.specs.Bytes.{byte_held, slot_byte, slot_place_of}
+use Rattle.recoverable.specs.Bytes.{byte_held, slot_place_of}
 use Rattle.recoverable.specs.Fit.{IsCommitCode, KeptLog, base_at, log_end, recs_below}
 use Rattle.recoverable.specs.FitMultis.{member_at, offset_at}
 use Rattle.recoverable.specs.Laws.{life_base}
-use Rattle.recoverable.specs.LifeBase.{IsLifeBase, LifeBase, base_after, committed_in, is_multi}
+use Rattle.recoverable.specs.LifeBase.{IsLifeBase, LifeBase, base_after}
 use Rattle.recoverable.specs.MemberImages.{CleanMembers}
 use Rattle.recoverable.specs.OffsetImages.{CleanOffsets}
-use Rattle.recoverable.specs.Volumes.{EndsSettled, IsNextOf, Left, ListFits, Restored}
+use Rattle.recoverable.specs.Volumes.{EndsSettled, Left, ListFits, Restored}
 use Rattle.recoverable.specs.XactImages.{code_at}
 use Rattle.recoverable.proofs.BytesShow.{in_id}
 use Rattle.recoverable.proofs.Checkpoints.{take_next}
 use Rattle.recoverable.proofs.LogBases.{base_then}
-use Rattle.bank_follows.specs.Begins.{offset_bytes_on, slot_bytes_on, state_of_code}
-use Rattle.bank_follows.specs.Restored.{RestoredBegins, pages_of, shown_on}
+use Rattle.bank_follows.specs.Begins.{offset_bytes_on, state_of_code}
+use Rattle.bank_follows.specs.Restored.{RestoredBegins, shown_on}
 use Rattle.bank_follows.proofs.Begins.{bits_small, offset_held, slot_held, zero_bytes}
 
 -- which codes a state that counts as committed is read of

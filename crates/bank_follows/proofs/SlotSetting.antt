@@ -1,5 +1,5 @@
 -- A member that is set is what its entry says.
-use Rattle.std.proofs.Common.{Bool, List, Some, ap, arith, cond, false, refl, subst, sym, true, ℕ, ⊎_elim, ◌+◌, ◌%◌, ◌/◌, ◌-◌, ◌==◌, ◌<◌, ◌^◌, ◌≡◌, ◌≢◌}
+use Rattle.std.proofs.Common.{Bool, List, ap, arith, cond, false, refl, subst, sym, true, ℕ, ⊎_elim, ◌+◌, ◌%◌, ◌/◌, ◌-◌, ◌==◌, ◌<◌, ◌^◌, ◌≡◌, ◌≢◌}
 use Rattle.std.proofs.lemmas.Bool.Decides.{nat_tests}
 use Rattle.std.specs.List.{slice_index}
 use Rattle.xid_order.specs.Ids.{low_half}

@@ -1,5 +1,5 @@
 -- The four stores.
-use Rattle.std.proofs.Common.{None, Option, arith, refl, suc, zero, ℕ, ◌%◌, ◌<◌, ◌≡◌}
+use Rattle.std.proofs.Common.{Option, arith, refl, suc, zero, ℕ, ◌%◌, ◌≡◌}
 use Rattle.tx_core.specs.declared.entry.Start.{Start}
 use Rattle.tx_core.specs.declared.entry.State.{State}
 use Rattle.store_pages.specs.Layouts.{bits_at, xact_place_of}

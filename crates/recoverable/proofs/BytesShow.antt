@@ -1,5 +1,5 @@
 -- What the pages of offsets and members hold is what was set last of a number.
-use Rattle.std.proofs.Common.{List, None, Option, Some, [], ap, arith, cond, eq-eqb, false, inl, inr, refl, sym, ℕ, ◌+◌, ◌<◌, ◌==◌, ◌^◌, ◌∙◌, ◌∷◌, ◌≡◌}
+use Rattle.std.proofs.Common.{List, None, Option, Some, [], ap, arith, cond, eq-eqb, false, inl, inr, refl, ℕ, ◌+◌, ◌<◌, ◌==◌, ◌^◌, ◌∷◌, ◌≡◌}
 use Rattle.std.proofs.lemmas.Bool.Decides.{nat_tests}
 use Rattle.std.specs.List.{last_or}
 use Rattle.tx_events.proofs.Membership.{Has}

@@ -18,3 +18,4 @@ pub mod Earlier
 pub mod Opened
 pub mod Whole
 pub mod LogBegins
+pub mod WorkedLife

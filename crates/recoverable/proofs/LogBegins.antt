@@ -1,5 +1,5 @@
 -- The log of a life before its first entry.
-use Rattle.std.proofs.Common.{IfOk, IsSome, List, None, Ok, Err, Option, Result, Some, [], ap, append-nil, append_assoc, arith, drop, inl, length, refl, subst, sym, take, ℕ, ◌++◌, ◌+◌, ◌-◌, ◌<◌, ◌∙◌, ◌≡◌, ◌≤◌}
+use Rattle.std.proofs.Common.{IfOk, IsSome, List, None, Ok, Err, Option, Result, Some, [], ap, append-nil, append_assoc, arith, drop, inl, length, subst, sym, take, ℕ, ◌++◌, ◌+◌, ◌-◌, ◌<◌, ◌∙◌, ◌≡◌}
 use Rattle.std.proofs.Math.Seq.{take-length}
 use Rattle.std.proofs.lemmas.List.{length-take-le, take-append-drop}
 use Rattle.disk_core.specs.Volume.{Volume}
@@ -7,11 +7,11 @@ use Rattle.tx_core.specs.declared.entry.Kind.TheVariants as kinds
 use Rattle.tx_core.specs.declared.entry.Start.{Start}
 use Rattle.tx_events.proofs.Membership.{contains_has}
 use Rattle.tx_events.specs.declared.record.Rec.{Rec}
-use Rattle.wal_core.specs.Kept.{HasFlushed, IsStretch, OpensToRecords}
+use Rattle.wal_core.specs.Kept.{IsStretch, OpensToRecords}
 use Rattle.wal_core.specs.Opening.{History, Opened, next_number, opened}
 use Rattle.recoverable.specs.Fit.{KeptLog, MayBegin, log_end, recs_below}
 use Rattle.recoverable.specs.Laws.{LogOf, life_base}
-use Rattle.recoverable.specs.LifeBase.{LifeBase, base_after}
+use Rattle.recoverable.specs.LifeBase.{base_after}
 use Rattle.recoverable.specs.Volumes.{EndsSettled, ImageFits, Left, ListFits, LogFits}
 use Rattle.recoverable.specs.Whole.{LogBegins, LogImage}
 

@@ -1,5 +1,5 @@
 -- Each image of a bank of members has the members of recorded multixacts, and none in the gaps behind them.
-use Rattle.std.proofs.Common.{Contains, List, None, Option, Some, ap, arith, cond, inl, inr, length, refl, subst, sym, take, true, ℕ, ⊎_elim, ◌+◌, ◌-◌, ◌/◌, ◌%◌, ◌<◌, ◌==◌, ◌^◌, ◌∙◌, ◌≡◌, ◌≤◌, ◌⊎◌}
+use Rattle.std.proofs.Common.{Contains, List, None, Option, Some, ap, arith, cond, inl, inr, length, refl, subst, sym, take, true, ℕ, ⊎_elim, ◌+◌, ◌-◌, ◌/◌, ◌%◌, ◌<◌, ◌^◌, ◌∙◌, ◌≡◌, ◌≤◌, ◌⊎◌}
 use Rattle.std.specs.List.{filter_map, flat_map, slice_get, slice_index}
 use Rattle.xid_order.specs.Ids.{low_half}
 use Rattle.xid_order.specs.Limits.{member_stop}

@@ -1,5 +1,5 @@
 -- A multixact that isn't recorded has no offset.
-use Rattle.std.proofs.Common.{◌≡◌, ℕ, ◌+◌, ◌<◌, ◌≤◌, ◌⊎◌, ⊎_elim, List, [], take, slice_index, Option, Some, None, Contains, refl, sym, ap, subst, arith, ◌∙◌}
+use Rattle.std.proofs.Common.{◌≡◌, ℕ, ◌+◌, ◌<◌, ◌≤◌, ⊎_elim, List, [], take, slice_index, Option, Some, None, Contains, refl, sym, ap, arith, ◌∙◌}
 use Rattle.std.specs.List.{flat_map}
 use Rattle.store_pages.specs.Layouts.{number_in, word_page_of, word_place_of}
 use Rattle.disk_core.specs.Pages.{page_bytes}

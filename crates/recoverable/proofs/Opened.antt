@@ -1,5 +1,5 @@
 -- What a volume that opens to records of a list says of the list.
-use Rattle.std.proofs.Common.{Bool, IfOk, IsSome, List, None, Option, Result, Ok, Err, Some, [], ap, append_assoc, arith, cond, drop, false, length, length-append, max, refl, subst, suc, sym, take, true, ℕ, ◌++◌, ◌+◌, ◌-◌, ◌<◌, ◌∙◌, ◌∷◌, ◌≡◌, ◌≤◌}
+use Rattle.std.proofs.Common.{Bool, IfOk, IsSome, List, None, Option, Result, Ok, Err, Some, [], ap, append_assoc, arith, cond, drop, false, length, length-append, refl, subst, suc, sym, take, true, ℕ, ◌++◌, ◌+◌, ◌-◌, ◌<◌, ◌∙◌, ◌∷◌, ◌≡◌, ◌≤◌}
 use Rattle.std.proofs.Math.Seq.{drop-append_seam, take-append_seam}
 use Rattle.std.proofs.lemmas.List.Sums.{fold-append, fold_push}
 use Rattle.std.specs.List.{slice_get}
@@ -9,11 +9,11 @@ use Rattle.tx_events.specs.declared.record.Counters.{Counters}
 use Rattle.tx_events.specs.declared.record.Rec.{Rec}
 use Rattle.tx_events.specs.declared.record.Rec.TheVariants as records
 use Rattle.wal_core.proofs.Comings.{opened_comes}
-use Rattle.wal_core.specs.Kept.{HasFlushed, IsStretch}
+use Rattle.wal_core.specs.Kept.{IsStretch}
 use Rattle.wal_core.specs.Log.{EndsWithin}
 use Rattle.wal_core.specs.LogContents.{ComesTo}
 use Rattle.wal_core.specs.Opening.{History, Opened, first_number, is_new, next_number, no_counters, opened, opened_bytes}
-use Rattle.recoverable.specs.Fit.{KeptLog, MayBegin, base_at, log_end, recs_below}
+use Rattle.recoverable.specs.Fit.{KeptLog, MayBegin, base_at, recs_below}
 use Rattle.recoverable.specs.Volumes.{LogFits}
 use Rattle.recoverable.proofs.Checkpoints.{get_past, raised_to, take_next}
 

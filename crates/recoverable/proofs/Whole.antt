@@ -1,5 +1,5 @@
 -- The volumes fit.
-use Rattle.std.proofs.Common.{List, None, Ok, Err, Option, Result, Some, ap, arith, inl, length, map, refl, subst, sym, ℕ, ⊎_elim, ◌++◌, ◌+◌, ◌-◌, ◌<◌, ◌∙◌, ◌≡◌, ◌≤◌}
+use Rattle.std.proofs.Common.{List, None, Ok, Err, Option, Result, Some, ap, arith, length, refl, sym, ℕ, ⊎_elim, ◌++◌, ◌+◌, ◌-◌, ◌<◌, ◌∙◌, ◌≡◌, ◌≤◌}
 use Rattle.std.specs.List.{slice_get}
 use Rattle.disk_core.specs.Pages.{Pages}
 use Rattle.disk_core.specs.Volume.{Volume}
@@ -7,7 +7,6 @@ use Rattle.wal_core.specs.Kept.{HasFlushed, IsStretch, OpensToRecords}
 use Rattle.wal_core.specs.Opening.{History, Opened, next_number, opened}
 use Rattle.tx_events.proofs.ListSteps.{le_or_over}
 use Rattle.tx_events.specs.declared.event.By.{By}
-use Rattle.tx_events.specs.declared.record.Counters.{Counters}
 use Rattle.tx_events.specs.declared.record.Rec.{Rec}
 use Rattle.tx_events.specs.declared.record.Rec.TheVariants as records
 use Rattle.notes.specs.Lists.{at}

@@ -10,3 +10,4 @@ pub mod OffsetImages
 pub mod MemberImages
 pub mod Laws
 pub mod Whole
+pub mod WorkedLife

@@ -1,6 +1,7 @@
 ghost use Rattle.recoverable.specs.Laws.{ListFitsLaw, MayBeginLaw, XactFitsLaw, OffsetsShownLaw, OffsetsFitLaw, MembersFitLaw, NoStrayOffset};
 ghost use Rattle.recoverable.specs.Stored.{OffsetBytesShow, MemberBytesShow};
 ghost use Rattle.recoverable.specs.Whole.{ImageFitsLaw, LogBegins, VolumesFitLaw};
+ghost use Rattle.recoverable.specs.WorkedLife.{AreRefused, IsWorked};
 
 use disk_core::{LogDisk, PageDisk};
 
@@ -64,4 +65,10 @@ pub fn volumes_fit<L: LogDisk, P: PageDisk>()
 /// The log behind a recovery is as the next life's laws want it, before that life's first entry.
 pub fn log_begins()
     ensures { LogBegins }
+{}
+
+/// A worked life: what a crash left of a small log and its pages fits, and wrong volumes don't.
+pub fn worked_life()
+    ensures fits { IsWorked }
+    ensures wrong { AreRefused }
 {}

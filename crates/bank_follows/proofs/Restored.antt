@@ -150,11 +150,9 @@ module _ (start : Start) (log : KeptLog) (from : â„•) (left : Left) (some : 1 â‰
   }
 
 pub restored_begins : RestoredBegins
-restored_begins start log from left some told full list settled r = record {
-  told = told;
-  full = full;
-  base = is_base start log from left some list settled r;
-  xact = xact_clean start log from left some list settled r;
-  offsets = offsets_clean start log from left some list settled r;
-  members = members_clean start log from left some list settled r;
+restored_begins start log from left on r = record {
+  right = record { told = on.told; full = on.full; base = is_base start log from left on.some on.list on.settled r };
+  xact = xact_clean start log from left on.some on.list on.settled r;
+  offsets = offsets_clean start log from left on.some on.list on.settled r;
+  members = members_clean start log from left on.some on.list on.settled r;
 }

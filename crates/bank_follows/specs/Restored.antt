@@ -23,11 +23,18 @@ shown_on banks left = record {
   members = members_on banks (pages_of left.members);
 }
 
+-- a life goes on from this record of a log that a recovery left
+pub record GoesOn (start : Start) (log : KeptLog) (from : ℕ) : Type 0 where
+  pub some : 1 ≤ start.banks
+  pub told : IsTrue start.told
+  pub full : IsFullMulti start.base.multi
+  pub next : start.from ≡ from + 1
+  pub list : ListFits log
+  pub settled : EndsSettled log from (life_base start)
+
 abbrev pub RestoredBegins : Type 0
-RestoredBegins = (start : Start) (log : KeptLog) (from : ℕ) (left : Left)
-    → 1 ≤ start.banks → IsTrue start.told → IsFullMulti start.base.multi
-    → ListFits log → EndsSettled log from (life_base start) → Restored start.banks log from start.base left
-    → BeganClean start (shown_on start.banks left)
+RestoredBegins = (start : Start) (log : KeptLog) (from : ℕ) (left : Left) → GoesOn start log from
+    → Restored start.banks log from start.base left → BeganClean start (shown_on start.banks left)
 
 -- the page volumes of both have the same bytes, as all images have behind `flush_all`
 pub record HaveSameBytes (banks : ℕ) (left other : Left) : Type 0 where
@@ -38,7 +45,6 @@ pub record HaveSameBytes (banks : ℕ) (left other : Left) : Type 0 where
 -- And each image that it leaves follows the lists before their first entries.
 abbrev pub LifeBegins : Type 0
 LifeBegins = (start : Start) (lists : List (List Entry)) (log : KeptLog) (from : ℕ) (left other : Left)
-    → ((lock : ℕ) → at lists lock ≡ []) → start.from ≡ from + 1
-    → ListFits log → EndsSettled log from (life_base start) → Restored start.banks log from start.base left
+    → ((lock : ℕ) → at lists lock ≡ []) → GoesOn start log from → Restored start.banks log from start.base left
     → ImageFits start.banks log other → HaveSameBytes start.banks left other
-    → LogFollows start lists log × LeftFollows start lists (shown_on start.banks left) log other
+    → LogFollows start lists log × LeftFollows start lists log other

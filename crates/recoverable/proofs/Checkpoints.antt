@@ -1,5 +1,5 @@
 -- Where a log may be forgotten up to stands a checkpoint, on disk, with counters that are the log's behind it.
-use Rattle.std.proofs.Common.{List, None, Option, Some, [], ap, arith, length, map, max, refl, subst, suc, sym, take, zero, ℕ, Contains, ◌++◌, ◌+◌, ◌-◌, ◌<◌, ◌∙◌, ◌∷◌, ◌≡◌, ◌≤◌}
+use Rattle.std.proofs.Common.{⊎_elim, List, None, Option, Some, [], ap, arith, length, map, max, refl, subst, suc, sym, take, zero, ℕ, Contains, ◌++◌, ◌+◌, ◌-◌, ◌<◌, ◌∙◌, ◌∷◌, ◌≡◌, ◌≤◌}
 use Rattle.std.proofs.lemmas.List.Sums.{fold_push}
 use Rattle.std.specs.List.{cons_option, filter_map, slice_get}
 use Rattle.tx_events.specs.declared.event.By.{By}
@@ -23,9 +23,11 @@ use Rattle.tx_core.specs.SyncsBeforeForgets.{MayForget}
 use Rattle.recoverable.specs.Fit.{KeptLog, MayBegin, base_at}
 use Rattle.recoverable.specs.Laws.{LogFollows, MayBeginLaw}
 use Rattle.recoverable.specs.LifeBase.{LifeBase}
+use Rattle.recoverable.specs.Volumes.{IsWholeAt}
+use Rattle.tx_events.proofs.ListSteps.{le_or_over}
 use Rattle.recoverable.proofs.FitsXact.{may_forget}
 use Rattle.recoverable.proofs.LogBases.{base_from, life_recs}
-use Rattle.recoverable.proofs.Stretches.{get_map}
+use Rattle.recoverable.proofs.Stretches.{get_map, map_get}
 
 -- where an item of a filtered list comes from
 module _ {A B : Type 0} where
@@ -140,7 +142,26 @@ checkpoint_flushed start lists log n before f begins may =
     let upto : may.to ≤ log.flushed = f.flushed may.to (may.flush, flush) in
     let past = may.past in omega arith
 
--- so the log may begin at a checkpoint of the life that is on disk
+-- what stands in a log from the life's start on was appended by an entry
+pub appended_at : (start : Start) (lists : List (List Entry)) (log : KeptLog) (n : ℕ) (rec : Rec) → LogFollows start lists log → start.from ≤ n → slice_get log.recs (n - log.first) ≡ Some rec
+    → (by : By) × (slice_get (records_of lists) (n - start.from) ≡ Some (by, rec))
+appended_at start lists log n rec f le stands =
+    let from = f.from in
+    let place : n - log.first ≡ length f.before + (n - start.from) = omega arith in
+    let here : slice_get (life_recs lists) (n - start.from) ≡ Some rec
+    = sym (get_past f.before (life_recs lists) (n - start.from)) ∙ ap (λ j. slice_get (f.before ++ life_recs lists) j) (sym place) ∙ ap (λ (t : List Rec). slice_get t (n - log.first)) (sym f.recs) ∙ stands in
+    let g = map_get (λ (t : By × Rec). t.1) (records_of lists) (n - start.from) rec here in
+    (g.0.0, g.1 ∙ ap (λ (z : Rec). Some (g.0.0, z)) g.2)
+
+-- so each checkpoint of the log is whole
+pub whole_in : (start : Start) (lists : List (List Entry)) (log : KeptLog) (n : ℕ) → EngineInvariant start lists → LogFollows start lists log → log.first ≤ n → IsWholeAt log n
+whole_in start lists log n k f first counters stands =
+    ⊎_elim
+    (λ (le : start.from ≤ n). let a = appended_at start lists log n (records.Checkpoint n counters) f le stands in whole_at start lists log n a.0 counters k f le a.1)
+    (λ (lt : n < start.from). f.whole n first lt counters stands)
+    (le_or_over start.from n)
+
+-- and the log may begin at a checkpoint of the life that is on disk
 pub begins_at : (start : Start) (lists : List (List Entry)) (log : KeptLog) (n : ℕ) (by : By) (counters : Counters) → EngineInvariant start lists → LogFollows start lists log → start.from ≤ n
     → slice_get (records_of lists) (n - start.from) ≡ Some (by, records.Checkpoint n counters) → n < log.flushed → MayBegin log n
 begins_at start lists log n by counters k f from stands flushed =

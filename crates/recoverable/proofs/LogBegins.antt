@@ -36,20 +36,9 @@ stretch log n v fits =
 abbrev opened_as_history : History → ℕ → Result Opened ℕ
 opened_as_history h gate = Ok (record { history = Some h; gate = gate })
 
--- a volume opens to one history
-one_history : (h k : History) (gate at : ℕ) → opened_as_history h gate ≡ opened_as_history k at → h ≡ k
-one_history h k gate at e = some_is (ap history_of e)
-  where
-    history_of : Result Opened ℕ → Option History
-    history_of (Ok o) = o.history
-    history_of (Err at) = None
-
-    some_is : Some h ≡ Some k → h ≡ k
-    some_is q = cc
-
-log_of : (start : Start) (log : KeptLog) (from : ℕ) → start.from ≡ from + 1 → ListFits log → EndsSettled log from (life_base start) → LogOf start [] log
-log_of start log from next list settled =
-    let end = settled.end in let past = settled.flushed in
+log_of : (start : Start) (log : KeptLog) (from : ℕ) → start.from ≡ from + 1 → MayBegin log from → ListFits log → EndsSettled log from (life_base start) → LogOf start [] log
+log_of start log from next may list settled =
+    let first = may.from in let end = settled.end in let past = settled.flushed in
     let count : log_end log - log.first ≡ length log.recs = omega arith in
     let all : recs_below log (log_end log) ≡ log.recs = ap (λ j. take j log.recs) count ∙ take-length log.recs in
     record {
@@ -57,6 +46,8 @@ log_of start log from next list settled =
       recs = sym (append-nil log.recs);
       from = omega arith;
       base = sym (ap (base_after log.base) all) ∙ settled.kept (log_end log) list.upto (omega arith);
+      some = omega arith;
+      whole = λ n first lt. list.whole n first;
       begun = omega arith;
       upto = list.upto;
       flushed = λ to stands. absurd (contains_has [] (record { by = stands.0; kind = kinds.Flush to }) stands.1);
@@ -73,12 +64,8 @@ log_image start log from left next may list settled fits =
         opens = subst (λ (r : Result Opened ℕ). OpensToRecords log.first log.recs from log.flushed r) (sym opens) (stretch log fits.begins left.log o, (omega arith, o.flushed));
         ends = subst (λ (r : Result Opened ℕ). IfOk r (λ o. IsSome o.history → o.gate < length left.log.bytes)) (sym opens) (λ some. o.within);
       };
-      begun = omega arith;
       forgotten = inl (omega arith);
-      earlier = λ h gate e lt.
-          let same : h ≡ o.history = one_history h o.history gate o.gate (sym e ∙ opens) in
-          subst (MayBegin log) (sym (ap (λ (h : History). h.first) same ∙ first)) fits.may_begin;
     }
 
 pub log_begins : LogBegins
-log_begins start log from left next may list settled fits = (log_of start log from next list settled, log_image start log from left next may list settled fits)
+log_begins start log from left next may list settled fits = (log_of start log from next may list settled, log_image start log from left next may list settled fits)

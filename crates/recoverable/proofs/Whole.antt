@@ -18,7 +18,7 @@ use Rattle.tx_core.specs.Entries.{records_of}
 use Rattle.recoverable.specs.Fit.{KeptLog, MayBegin}
 use Rattle.recoverable.specs.Laws.{LogFollows}
 use Rattle.recoverable.specs.Whole.{ImageFitsLaw, LogImage, VolumesFitLaw}
-use Rattle.recoverable.proofs.Checkpoints.{begins_at, get_past, may_begin}
+use Rattle.recoverable.proofs.Checkpoints.{may_begin, whole_in}
 use Rattle.recoverable.proofs.Earlier.{members_earlier, offsets_earlier, xact_earlier}
 use Rattle.recoverable.proofs.FitsXact.{fits_xact}
 use Rattle.recoverable.proofs.LifeBases.{list_fits}
@@ -64,43 +64,45 @@ module _ (start : Start) (lists : List (List Entry)) (log : KeptLog) (v : Volume
   begins : (o : Opens log image.kept v) → MayBegin log o.history.first
   begins o =
       let n : ℕ = o.history.first in
-      let upto = o.upto in
-      ⊎_elim
-      (λ (le : start.from ≤ n).
-      let past = flushed_past (omega arith) in
+      let upto = o.upto in let begun = f.begun in
       let first = first_is o.history.recs n (history_comes v o.history o.gate o.opens).0 in
-      let check : Rec = records.Checkpoint n first.0 in
-      let from = f.from in
-      let place : n - log.first ≡ length f.before + (n - start.from) = omega arith in
-      let here : slice_get (life_recs lists) (n - start.from) ≡ Some check
-      = sym (get_past f.before (life_recs lists) (n - start.from)) ∙ ap (λ j. slice_get (f.before ++ life_recs lists) j) (sym place) ∙ ap (λ (t : List Rec). slice_get t (n - log.first)) (sym f.recs)
-      ∙ first_stands log o.history o.stretch first.0 first.1 first.2 in
-      let g = map_get (λ (t : By × Rec). t.1) (records_of lists) (n - start.from) check here in
-      begins_at start lists log n g.0.0 first.0 k f le (g.1 ∙ ap (λ (z : Rec). Some (g.0.0, z)) g.2) (omega arith))
-      (λ (lt : n < start.from). image.earlier o.history o.gate o.opens lt)
-      (le_or_over start.from n)
+      let stands = first_stands log o.history o.stretch first.0 first.1 first.2 in
+      let low : log.first ≤ n = let p = o.stretch.place in omega arith in
+      record {
+        from = low;
+        flushed = ⊎_elim (λ (le : start.from ≤ n). let past = flushed_past (omega arith) in omega arith) (λ (lt : n < start.from). omega arith) (le_or_over start.from n);
+        counters = first.0;
+        checkpoint = stands;
+        whole = whole_in start lists log n k f low first.0 stands;
+      }
 
 pub image_fits : ImageFitsLaw
-image_fits start lists shown log left k clean short f follows =
+image_fits start lists log left k right short f follows =
     let image = follows.log_image in
-    let begun = image.begun in let flushed = f.begun in
+    let some = f.some in let flushed = f.begun in
     let o = opens_to log image.kept left.log (omega arith) image.opens in
     let may = begins start lists log left.log k f image o in
-    let base = clean.base.counters in
+    let base = right.base.counters in
     record {
       begins = o.history.first;
       may_begin = may;
       opens = log_opens log o.history o.stretch o.gate left.log o.opens image.opens.ends o.flushed may;
-      xact = λ bank inside. xact_earlier start.banks bank log o.history.first image.kept (left.xact bank) o.upto
-          (fits_xact start lists shown.xact log bank image.kept (left.xact bank) k clean.xact f image.forgotten short.ids inside (follows.banks bank inside).states);
-      offsets = λ bank inside. offsets_earlier start.banks bank log o.history.first image.kept (left.offsets bank) o.upto
-          (offsets_fit start lists shown.offsets log bank image.kept (left.offsets bank) k base clean.offsets f image.forgotten short.multis inside (follows.banks bank inside).offsets_are);
-      members = λ bank inside. members_earlier start.banks bank log o.history.first image.kept (left.members bank) o.upto
-          (members_fit start lists shown.members log bank image.kept (left.members bank) k base clean.told clean.members f image.forgotten short.multis inside (follows.banks bank inside).members_are (follows.banks bank inside).tails);
+      xact = λ bank inside.
+          let is = follows.states bank inside in
+          xact_earlier start.banks bank log o.history.first image.kept (left.xact bank) o.upto
+          (fits_xact start lists is.shown log bank image.kept (left.xact bank) k is.clean f image.forgotten short.ids inside is.follows);
+      offsets = λ bank inside.
+          let is = follows.offsets_are bank inside in
+          offsets_earlier start.banks bank log o.history.first image.kept (left.offsets bank) o.upto
+          (offsets_fit start lists is.shown log bank image.kept (left.offsets bank) k base is.clean f image.forgotten short.multis inside is.follows);
+      members = λ bank inside.
+          let is = follows.members_are bank inside in
+          members_earlier start.banks bank log o.history.first image.kept (left.members bank) o.upto
+          (members_fit start lists is.shown log bank image.kept (left.members bank) k base right.told is.clean f image.forgotten short.multis inside is.follows is.tails);
     }
 
 pub volumes_fit : {L P : Type 0} (log_images : L → Volume → Type 0) (images : P → Pages → Type 0) → VolumesFitLaw log_images images
-volumes_fit log_images images start lists shown log disks k clean short f each = record {
-  list = list_fits start lists log k clean.told clean.full clean.base f;
-  each = λ left of. image_fits start lists shown log left k clean short f (each left of);
+volumes_fit log_images images start lists log disks k right short f each = record {
+  list = list_fits start lists log k right.told right.full right.base f;
+  each = λ left of. image_fits start lists log left k right short f (each left of);
 }

@@ -1,5 +1,5 @@
 -- The worked life fits, and the wrong volumes don't.
-use Rattle.std.proofs.Common.{Contains, List, Ok, Err, Some, [], ap, arith, inl, length, refl, replicate, subst, suc, sym, zero, ℕ, ⊎_elim, ◌++◌, ◌+◌, ◌/◌, ◌%◌, ◌<◌, ◌∙◌, ◌∷◌, ◌≡◌, ◌≤◌, ◌⊎◌}
+use Rattle.std.proofs.Common.{◌-◌, Contains, List, Ok, Err, Some, [], ap, arith, inl, length, refl, replicate, subst, suc, sym, zero, ℕ, ⊎_elim, ◌++◌, ◌+◌, ◌/◌, ◌%◌, ◌<◌, ◌∙◌, ◌∷◌, ◌≡◌, ◌≤◌, ◌⊎◌}
 use Rattle.std.specs.List.{slice_get, slice_index}
 use Rattle.xid_order.specs.Ids.{low_half, next_multi}
 use Rattle.disk_core.specs.Pages.{page_bytes, zero_page}
@@ -17,8 +17,9 @@ use Rattle.recoverable.specs.Bytes.{ImageHasZeroTails, byte_of, offset_byte, slo
 use Rattle.recoverable.specs.Fit.{IsCommitCode, MayBegin, XactFits, base_at}
 use Rattle.recoverable.specs.FitMultis.{MembersFit, OffsetsFit}
 use Rattle.recoverable.specs.LifeBase.{AreInOrder, IsLifeBase}
-use Rattle.recoverable.specs.Volumes.{ImageFits, ListFits, LogFits}
-use Rattle.recoverable.specs.WorkedLife.{AreRefused, IsWorked, counters_at_3, left, log, log_volume, members, offsets, slots, states}
+use Rattle.recoverable.specs.Volumes.{ImageFits, IsWholeAt, ListFits, LogFits}
+use Rattle.recoverable.proofs.Stretches.{get_inside}
+use Rattle.recoverable.specs.WorkedLife.{recs, AreRefused, IsWorked, counters_at_3, left, log, log_volume, members, offsets, slots, states}
 use Rattle.recoverable.specs.XactImages.{code_at}
 
 -- ---- the log
@@ -88,8 +89,17 @@ list = record {
       (λ (e : k ≡ 4). subst (λ n. IsLifeBase (base_at log n)) (sym e) (life_base (3 ∷ []) below_one))
       (λ (e : k ≡ 5). subst (λ n. IsLifeBase (base_at log n)) (sym e) (life_base (3 ∷ 4 ∷ []) below_two))
       (either k from upto);
+  whole = λ n first. whole n;
 }
   where
+    whole : (n : ℕ) → IsWholeAt log n
+    whole zero counters stands = cc
+    whole (suc zero) counters stands = absurd cc
+    whole (suc (suc zero)) counters stands = absurd cc
+    whole (suc (suc (suc zero))) counters stands = cc
+    whole (suc (suc (suc (suc zero)))) counters stands = absurd cc
+    whole (suc (suc (suc (suc (suc n))))) counters stands = let inside = get_inside recs (suc (suc (suc (suc (suc n)))) - 0) (records.Checkpoint (suc (suc (suc (suc (suc n))))) counters) stands in absurd (omega arith)
+
     either : (k : ℕ) → 4 ≤ k → k ≤ 5 → (k ≡ 4) ⊎ (k ≡ 5)
     either k from upto = grind arith
 

@@ -21,7 +21,7 @@ use Rattle.notes.specs.Lists.{at}
 use Rattle.tx_core.specs.Locks.{log_lock, members_lock, offsets_lock, xact_lock}
 use Rattle.recoverable.specs.LifeBase.{IsLifeBase, LifeBase, base_after}
 use Rattle.recoverable.specs.Fit.{KeptLog, MayBegin, XactFits, base_at, log_end}
-use Rattle.recoverable.specs.Volumes.{ListFits}
+use Rattle.recoverable.specs.Volumes.{IsWholeAt, ListFits}
 use Rattle.recoverable.specs.XactImages.{Follows}
 use Rattle.recoverable.specs.FitMultis.{MembersFit, OffsetsFit, ShowsOffsets, offset_at}
 use Rattle.recoverable.specs.MemberImages.{CleanMembers, MembersFollow}
@@ -37,12 +37,15 @@ abbrev pub HasKind : List Entry → Kind → Type 0
 HasKind es kind = (by : By) × Contains es (record { by = by; kind = kind })
 
 -- A log's records are those from before the life, which give its base, and those that the list appends; what the list
--- flushed is on disk. Those from before are at least the ones that the log had appended itself when the life began.
+-- flushed is on disk. Those from before are at least the ones that the log had appended itself when the life began: so
+-- the checkpoint with which it began is among them. The checkpoints among them had the log's own counters.
 pub record LogOf (start : Start) (es : List Entry) (log : KeptLog) : Type 0 where
   pub before : List Rec
   pub recs : log.recs ≡ before ++ recs_in es
   pub from : start.from ≡ log.first + length before
   pub base : base_after log.base before ≡ life_base start
+  pub some : log.first < start.from
+  pub whole : (n : ℕ) → log.first ≤ n → n < start.from → IsWholeAt log n
   pub begun : start.from ≤ log.flushed
   pub upto : log.flushed ≤ log_end log
   pub flushed : (to : ℕ) → HasKind es (kinds.Flush to) → to ≤ log.flushed

@@ -1,8 +1,9 @@
 -- Volumes that fit a log: what a crash may leave of all of them at once.
-use Rattle.std.specs.Prelude.{◌≡◌, ℕ, ◌+◌, ◌-◌, ◌%◌, ◌^◌, ◌<◌, ◌≤◌, length, drop, Some, Ok}
+use Rattle.std.specs.Prelude.{◌≡◌, ℕ, ◌+◌, ◌-◌, ◌%◌, ◌^◌, ◌<◌, ◌≤◌, length, drop, Some, Ok, slice_get}
 use Rattle.store_pages.specs.Layouts.{member_page_of, word_page_of, xact_page_of}
 use Rattle.store_pages.specs.Pages.{member_page_in_full}
 use Rattle.tx_events.specs.declared.record.Counters.{Counters}
+use Rattle.tx_events.specs.declared.record.Rec.TheVariants as records
 use Rattle.disk_core.specs.Pages.{Pages}
 use Rattle.disk_core.specs.Volume.{Volume}
 use Rattle.wal_core.specs.Opening.{History, next_number, opened}
@@ -41,11 +42,18 @@ pub record ImageFits (banks : ℕ) (log : KeptLog) (left : Left) : Type 0 where
   pub offsets : (bank : ℕ) → bank < banks → OffsetsFit banks bank log begins (left.offsets bank)
   pub members : (bank : ℕ) → bank < banks → MembersFit banks bank log begins (left.members bank)
 
--- from what is on disk on, each prefix of the list gives what a life may start from
+-- a checkpoint of the list has the counters that the log gives behind it
+abbrev pub IsWholeAt : KeptLog → ℕ → Type 0
+IsWholeAt log n = (counters : Counters) → slice_get log.recs (n - log.first) ≡ Some (records.Checkpoint n counters)
+    → (base_at log (n + 1)).counters ≡ counters
+
+-- From what is on disk on, each prefix of the list gives what a life may start from. And wherever an image may begin,
+-- what it gives is what the whole list gives.
 pub record ListFits (log : KeptLog) : Type 0 where
   pub from : log.first ≤ log.flushed
   pub upto : log.flushed ≤ log_end log
   pub bases : (k : ℕ) → log.flushed ≤ k → k ≤ log_end log → IsLifeBase (base_at log k)
+  pub whole : (n : ℕ) → log.first ≤ n → IsWholeAt log n
 
 -- volumes fit where each image of them does: any of the log's with any of each page volume's
 pub record VolumesFit (banks : ℕ) (log : KeptLog) (images : Left → Type 0) : Type 0 where

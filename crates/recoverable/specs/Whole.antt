@@ -32,11 +32,15 @@ pub record Shown : Type 0 where
   pub offsets : ℕ → Option StoredBytes
   pub members : ℕ → Option StoredBytes
 
--- A life began clean: its base is one from which a life may start, and the pages showed it.
-pub record BeganClean (start : Start) (shown : Shown) : Type 0 where
+-- A life began with a base from which a life may start, and with pages that told.
+pub record BeganRight (start : Start) : Type 0 where
   pub told : IsTrue start.told
   pub full : IsFullMulti start.base.multi
   pub base : IsLifeBase (life_base start)
+
+-- It began clean, too: the pages showed its base.
+pub record BeganClean (start : Start) (shown : Shown) : Type 0 where
+  pub right : BeganRight start
   pub xact : CleanStart start shown.xact
   pub offsets : CleanOffsets start shown.offsets
   pub members : CleanMembers start shown.members
@@ -53,37 +57,44 @@ pub record Disks (L P : Type 0) : Type 0 where
   pub offsets : ℕ → P
   pub members : ℕ → P
 
--- An image of the log's volume opens to records of the log, those on disk among them, and begins where the log may: not
--- past the first record that is kept, which is one from before the life or a checkpoint before which the log was to be
--- forgotten. One that begins before the life begins at a checkpoint with the log's own counters.
+-- An image of the log's volume opens to records of the log, those on disk among them, and begins at none past the first
+-- that is kept: one from before the life, or a checkpoint before which the log was to be forgotten.
 pub record LogImage (start : Start) (es : List Entry) (log : KeptLog) (v : Volume) : Type 0 where
   pub kept : ℕ
   pub opens : HasFlushed log.first log.recs kept log.flushed v
-  pub begun : log.first < start.from
   pub forgotten : IsBeginningOf start es kept
-  pub earlier : (h : History) (gate : ℕ) → opened v ≡ Ok (record { history = Some h; gate = gate })
-      → h.first < start.from → MayBegin log h.first
 
--- and images of the banks of one number show their lists
-pub record BankImages (start : Start) (lists : List (List Entry)) (shown : Shown) (bank : ℕ)
-    (xact offsets members : Pages) : Type 0 where
-  pub states : Follows start bank shown.xact (at lists (xact_lock bank)) xact
-  pub offsets_are : OffsetsFollow start bank shown.offsets (at lists (offsets_lock bank)) offsets
-  pub members_are : MembersFollow start bank shown.members (at lists (members_lock bank)) members
-  pub tails : ImageHasZeroTails members
+-- An image of a bank shows its list, over pages that showed the life's base: of pg_xact, of offsets, and of members.
+pub record StatesLeft (start : Start) (bank : ℕ) (es : List Entry) (c : Pages) : Type 0 where
+  pub shown : ℕ → Option State
+  pub clean : CleanStart start shown
+  pub follows : Follows start bank shown es c
+
+pub record OffsetsLeft (start : Start) (bank : ℕ) (es : List Entry) (c : Pages) : Type 0 where
+  pub shown : ℕ → Option StoredBytes
+  pub clean : CleanOffsets start shown
+  pub follows : OffsetsFollow start bank shown es c
+
+pub record MembersLeft (start : Start) (bank : ℕ) (es : List Entry) (c : Pages) : Type 0 where
+  pub shown : ℕ → Option StoredBytes
+  pub clean : CleanMembers start shown
+  pub follows : MembersFollow start bank shown es c
+  pub tails : ImageHasZeroTails c
 
 -- what a crash left of all volumes follows the lists
-pub record LeftFollows (start : Start) (lists : List (List Entry)) (shown : Shown) (log : KeptLog)
-    (left : Left) : Type 0 where
+pub record LeftFollows (start : Start) (lists : List (List Entry)) (log : KeptLog) (left : Left) : Type 0 where
   pub log_image : LogImage start (at lists log_lock) log left.log
-  pub banks : (bank : ℕ) → bank < start.banks
-      → BankImages start lists shown bank (left.xact bank) (left.offsets bank) (left.members bank)
+  pub states : (bank : ℕ) → bank < start.banks → StatesLeft start bank (at lists (xact_lock bank)) (left.xact bank)
+  pub offsets_are : (bank : ℕ) → bank < start.banks
+      → OffsetsLeft start bank (at lists (offsets_lock bank)) (left.offsets bank)
+  pub members_are : (bank : ℕ) → bank < start.banks
+      → MembersLeft start bank (at lists (members_lock bank)) (left.members bank)
 
 -- Each combination of images that follow the lists fits the log, whichever moments they are of.
 abbrev pub ImageFitsLaw : Type 0
-ImageFitsLaw = (start : Start) (lists : List (List Entry)) (shown : Shown) (log : KeptLog) (left : Left)
-    → EngineInvariant start lists → BeganClean start shown → IsShort lists
-    → LogFollows start lists log → LeftFollows start lists shown log left → ImageFits start.banks log left
+ImageFitsLaw = (start : Start) (lists : List (List Entry)) (log : KeptLog) (left : Left)
+    → EngineInvariant start lists → BeganRight start → IsShort lists
+    → LogFollows start lists log → LeftFollows start lists log left → ImageFits start.banks log left
 
 module _ {L P : Type 0} (log_images : L → Volume → Type 0) (images : P → Pages → Type 0) where
   -- a crash leaves these disks so
@@ -95,9 +106,9 @@ module _ {L P : Type 0} (log_images : L → Volume → Type 0) (images : P → P
 
   -- so the volumes of disks fit
   abbrev pub VolumesFitLaw : Type 0
-  VolumesFitLaw = (start : Start) (lists : List (List Entry)) (shown : Shown) (log : KeptLog) (disks : Disks L P)
-      → EngineInvariant start lists → BeganClean start shown → IsShort lists → LogFollows start lists log
-      → ((left : Left) → LeftOf start.banks disks left → LeftFollows start lists shown log left)
+  VolumesFitLaw = (start : Start) (lists : List (List Entry)) (log : KeptLog) (disks : Disks L P)
+      → EngineInvariant start lists → BeganRight start → IsShort lists → LogFollows start lists log
+      → ((left : Left) → LeftOf start.banks disks left → LeftFollows start lists log left)
       → VolumesFit start.banks log (LeftOf start.banks disks)
 
 -- The log behind a recovery, of which each image fits, is as a life begins with it: before the first entry.

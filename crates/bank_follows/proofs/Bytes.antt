@@ -3,9 +3,9 @@ use Rattle.std.proofs.Common.{List, ap, arith, subst, sym, ℕ, ⊎_elim, ◌*�
 use Rattle.std.specs.List.{slice_index}
 use Rattle.xid_order.specs.Ids.{low_half}
 use Rattle.store_pages.specs.Layouts.{number_in}
-use Rattle.recoverable.specs.FitMultis.{byte_of}
+use Rattle.recoverable.specs.Bytes.{byte_of}
 
-which : (i : ℕ) → i < 4 → (i ≡ 0) ⊎ ((i ≡ 1) ⊎ ((i ≡ 2) ⊎ (i ≡ 3)))
+pub which : (i : ℕ) → i < 4 → (i ≡ 0) ⊎ ((i ≡ 1) ⊎ ((i ≡ 2) ⊎ (i ≡ 3)))
 which i lt = grind arith
 
 -- the bytes of four that make a number

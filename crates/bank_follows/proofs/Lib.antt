@@ -11,3 +11,5 @@ pub mod Tails
 pub mod Sections
 pub mod Begins
 pub mod Making
+pub mod Restored
+pub mod LifeBegins

@@ -1,14 +1,12 @@
 -- A member that is set is what its entry says.
-use Rattle.std.proofs.Common.{Bool, List, Some, ap, arith, cond, false, refl, subst, sym, true, ℕ, ⊎_elim, ◌+◌, ◌%◌, ◌/◌, ◌-◌, ◌==◌, ◌<◌, ◌^◌, ◌≡◌, ◌≢◌}
+use Rattle.std.proofs.Common.{Bool, List, ap, arith, cond, false, refl, subst, sym, true, ℕ, ⊎_elim, ◌+◌, ◌%◌, ◌/◌, ◌-◌, ◌==◌, ◌<◌, ◌^◌, ◌≡◌, ◌≢◌}
 use Rattle.std.proofs.lemmas.Bool.Decides.{nat_tests}
 use Rattle.std.specs.List.{slice_index}
 use Rattle.xid_order.specs.Ids.{low_half}
 use Rattle.store_pages.specs.Layouts.{member_page_of, member_place_of, mode_place_of}
-use Rattle.tx_events.specs.declared.multi.Member.{Member}
-use Rattle.recoverable.specs.Images.{IsAsWanted}
-use Rattle.recoverable.specs.MemberImages.{wanted_id, wanted_mode}
+use Rattle.tx_events.specs.Modes.{mode_number}
+use Rattle.recoverable.specs.Bytes.{StoredBytes, byte_of, slot_bytes, slot_place_of}
 use Rattle.bank_follows.specs.StoreSets.{MemberSet}
-use Rattle.bank_follows.specs.Stores.{wanted_slot}
 use Rattle.bank_follows.proofs.Bytes.{byte_in, byte_same}
 use Rattle.bank_follows.proofs.WordSetting.{in_window, one_near, other_number, own_number, same_or_not}
 
@@ -26,7 +24,7 @@ member_set start shown bank by caller offset member old new near sets = record {
       ⊎_elim
       (λ (here : member_page_of x ≡ member_page_of offset).
       let away : low_half x % 1636 ≢ low_half offset % 1636 = λ q.
-      other_number offset x member e (sym (one_near (start.base.offset + 2 ^ 30 - 2 ^ 32) x offset a.0 a.1 b.0 b.1 (slot_halves (low_half x) (low_half offset) here q))) in
+      other_number offset x (λ i. slot_bytes member i) e (sym (one_near (start.base.offset + 2 ^ 30 - 2 ^ 32) x offset a.0 a.1 b.0 b.1 (slot_halves (low_half x) (low_half offset) here q))) in
       let slot = sets.same_page (low_half x % 1636) (below (low_half x)) away in
       let step : (t : Bool) → (i == 4) ≡ t → slice_index (new (member_page_of offset)) (cond t (mode_place_of x) (member_place_of x + i)) ≡ slice_index (old (member_page_of offset)) (cond t (mode_place_of x) (member_place_of x + i)) = elim [
         | true ↦ λ q. slot.mode
@@ -36,13 +34,13 @@ member_set start shown bank by caller offset member old new near sets = record {
       (λ (there : member_page_of x ≢ member_page_of offset). ap (λ (l : List ℕ). slice_index l (cond (i == 4) (mode_place_of x) (member_place_of x + i))) (sets.others (member_page_of x) there))
       (same_or_not (member_page_of x) (member_page_of offset));
   set = λ x i v at lt e.
-      let r = own_number offset x member v e in
-      let step : (t : Bool) → (i == 4) ≡ t → IsAsWanted (cond t (wanted_mode (Some member)) (wanted_id i (Some member))) (slice_index (new (member_page_of offset)) (cond t (mode_place_of offset) (member_place_of offset + i))) = elim [
+      let r = own_number offset x (λ i. slot_bytes member i) v e in
+      let step : (t : Bool) → (i == 4) ≡ t → slice_index (new (member_page_of offset)) (cond t (mode_place_of offset) (member_place_of offset + i)) ≡ cond t (mode_number member.mode) (byte_of member.id i) = elim [
         | true ↦ λ q. sets.mode
         | false ↦ λ q. byte_in (new (member_page_of offset)) (member_place_of offset) member.id i sets.pages.is.small sets.id (in_four i lt q)
       ] in
-      subst (λ (m : Member). IsAsWanted (wanted_slot i (Some m)) (slice_index (new (member_page_of x)) (cond (i == 4) (mode_place_of x) (member_place_of x + i)))) r.1
-      (subst (λ z. IsAsWanted (wanted_slot i (Some member)) (slice_index (new (member_page_of z)) (cond (i == 4) (mode_place_of z) (member_place_of z + i)))) r.0 (step (i == 4) refl));
+      subst (λ (b : StoredBytes). slice_index (new (member_page_of x)) (slot_place_of x i) ≡ b i) r.1
+      (subst (λ z. slice_index (new (member_page_of z)) (slot_place_of z i) ≡ slot_bytes member i) r.0 (step (i == 4) refl));
 }
   where
     below : (a : ℕ) → a % 1636 < 1636

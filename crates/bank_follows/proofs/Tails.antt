@@ -8,7 +8,8 @@ use Rattle.store_pages.specs.Pages.{id_at}
 use Rattle.slru_bank.proofs.ZeroBytes.{zero_byte}
 use Rattle.slru_bank.specs.Crash.{IsMixture, IsMixtureOrGone, byte_at}
 use Rattle.multi_members.specs.Changes.{TrimsMembers}
-use Rattle.bank_follows.specs.Tails.{HasZeroTails, ImageHasZeroTails, KeepsTails, MapKeepsTails}
+use Rattle.recoverable.specs.Bytes.{HasZeroTails, ImageHasZeroTails}
+use Rattle.bank_follows.specs.Tails.{KeepsTails, MapKeepsTails}
 use Rattle.bank_follows.proofs.Moments.{at_first, then_call}
 use Rattle.bank_follows.proofs.WordSetting.{same_or_not}
 

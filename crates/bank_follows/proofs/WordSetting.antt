@@ -8,7 +8,7 @@ use Rattle.store_pages.specs.Layouts.{word_page_of, word_place_of}
 use Rattle.slru_bank.specs.ByteRange.{SetsEntry}
 use Rattle.tx_events.proofs.ListSteps.{not_both}
 use Rattle.tx_core.specs.CleanStart.{first_near}
-use Rattle.recoverable.specs.FitMultis.{byte_of}
+use Rattle.recoverable.specs.Bytes.{StoredBytes, byte_of}
 use Rattle.bank_follows.specs.WordSets.{OffsetSet, ParentSet}
 use Rattle.bank_follows.proofs.Bytes.{byte_in, byte_same}
 
@@ -79,6 +79,6 @@ offset_set start shown bank by caller multi offset old new near sets = record {
   makes_none = refl;
   others = λ x i at lt e.
       let a = in_window start.base.multi x at.near.from at.near.to in let b = in_window start.base.multi multi near.from near.to in
-      word_other (start.base.multi + 2 ^ 30 - 2 ^ 32) x multi (low_half multi % 2048) (low_half offset) i old new a.0 a.1 b.0 b.1 (other_number multi x offset e) sets lt;
-  set = λ x i v at lt e. let r = own_number multi x offset v e in word_own x multi offset i old new r.0 sets lt ∙ ap (λ z. byte_of z i) r.1;
+      word_other (start.base.multi + 2 ^ 30 - 2 ^ 32) x multi (low_half multi % 2048) (low_half offset) i old new a.0 a.1 b.0 b.1 (other_number multi x (λ i. byte_of offset i) e) sets lt;
+  set = λ x i v at lt e. let r = own_number multi x (λ i. byte_of offset i) v e in word_own x multi offset i old new r.0 sets lt ∙ ap (λ (b : StoredBytes). b i) r.1;
 }

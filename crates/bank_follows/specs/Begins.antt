@@ -1,17 +1,12 @@
 -- What a bank that was just opened stands for: the list without entries, over what its pages show.
-use Rattle.std.specs.Prelude.{◌≡◌, ◌≢◌, ℕ, ◌%◌, ◌<◌, ◌^◌, zero, suc, List, [], slice_index, Option, Some, None}
+use Rattle.std.specs.Prelude.{◌≡◌, ℕ, ◌+◌, ◌%◌, ◌<◌, ◌^◌, ◌==◌, cond, zero, suc, List, [], slice_index, Option, Some, None}
 use Rattle.disk_core.specs.Pages.{Pages, page_bytes, zero_page}
 use Rattle.store_pages.specs.Layouts.{member_page_of, member_place_of, mode_place_of, number_in, state_in, word_page_of, word_place_of, xact_page_of, xact_place_of}
-use Rattle.slru_bank.specs.Bank.{IsPage}
-use Rattle.multi_members.specs.Slots.{slot_of}
-use Rattle.multi_members.specs.declared.slot.Slot.{Slot}
-use Rattle.multi_members.specs.declared.slot.Slot.TheVariants as slots
-use Rattle.multi_offsets.specs.Offsets.{offset_of}
-use Rattle.tx_events.specs.declared.multi.Member.{Member}
 use Rattle.tx_core.specs.declared.entry.Start.{Start}
 use Rattle.tx_core.specs.declared.entry.State.{State}
 use Rattle.tx_core.specs.declared.entry.State.TheVariants as states
 use Rattle.recoverable.specs.Images.{IsAsWanted}
+use Rattle.recoverable.specs.Bytes.{StoredBytes, slot_place_of}
 use Rattle.bank_follows.specs.Cells.{Cells, stored, value_in}
 use Rattle.bank_follows.specs.Sections.{BankShows}
 use Rattle.bank_follows.specs.Stores.{IsMemberAt, IsOffsetAt, IsParentAt, IsXactAt, member_cells, offset_cells, parent_cells, xact_cells}
@@ -37,8 +32,8 @@ module _ {D : Type 0} (images : D → Pages → Type 0) (moment : D → ℕ) (le
   pub record OpenBanks (start : Start) (bank : ℕ) : Type 0 where
     pub xact : (shown : ℕ → Option State) → OpenedShows (xact_cells start shown) (IsXactAt start bank)
     pub parents : OpenedShows (parent_cells start) (IsParentAt start bank)
-    pub offsets : (shown : ℕ → Option ℕ) → OpenedShows (offset_cells start shown) (IsOffsetAt start bank)
-    pub members : (shown : ℕ → Option Member) → OpenedShows (member_cells start shown) (IsMemberAt start bank)
+    pub offsets : (shown : ℕ → Option StoredBytes) → OpenedShows (offset_cells start shown) (IsOffsetAt start bank)
+    pub members : (shown : ℕ → Option StoredBytes) → OpenedShows (member_cells start shown) (IsMemberAt start bank)
 
   abbrev pub BanksOpen : Type 0
   BanksOpen = (start : Start) (bank : ℕ) → OpenBanks start bank
@@ -66,28 +61,25 @@ state_of_code (suc (suc (suc n))) = Some states.SubCommitted
 abbrev pub states_on : ℕ → (ℕ → ℕ → List ℕ) → ℕ → Option State
 states_on banks pages x = state_of_code (state_in (pages (xact_page_of x % banks) (xact_page_of x)) (xact_place_of x))
 
-abbrev pub offsets_on : ℕ → (ℕ → ℕ → List ℕ) → ℕ → Option ℕ
-offsets_on banks pages x = offset_of (number_in (pages (word_page_of x % banks) (word_page_of x)) (word_place_of x))
+-- the bytes of a number, where the number isn't 0
+abbrev pub offset_bytes_on : List ℕ → ℕ → Option StoredBytes
+offset_bytes_on bytes x = cond (number_in bytes (word_place_of x) == 0) None (Some (λ i. slice_index bytes (word_place_of x + i)))
 
-abbrev pub slot_on : List ℕ → ℕ → Slot
-slot_on bytes x = slot_of (slice_index bytes (mode_place_of x)) (number_in bytes (member_place_of x))
+abbrev pub offsets_on : ℕ → (ℕ → ℕ → List ℕ) → ℕ → Option StoredBytes
+offsets_on banks pages x = offset_bytes_on (pages (word_page_of x % banks) (word_page_of x)) x
 
-abbrev pub member_in : Slot → Option Member
-member_in slots.Unused = None
-member_in (slots.Is x mode) = Some (record { id = x.number; mode = mode })
-member_in (slots.Odd byte) = None
+-- and those of a slot, whatever its mode is, where they aren't all 0
+abbrev pub slot_bytes_on : List ℕ → ℕ → Option StoredBytes
+slot_bytes_on bytes x = cond (number_in bytes (member_place_of x) + slice_index bytes (mode_place_of x) == 0) None (Some (λ i. slice_index bytes (slot_place_of x i)))
 
-abbrev pub members_on : ℕ → (ℕ → ℕ → List ℕ) → ℕ → Option Member
-members_on banks pages x = member_in (slot_on (pages (member_page_of x % banks) (member_page_of x)) x)
+abbrev pub members_on : ℕ → (ℕ → ℕ → List ℕ) → ℕ → Option StoredBytes
+members_on banks pages x = slot_bytes_on (pages (member_page_of x % banks) (member_page_of x)) x
 
--- a bank's pages show what is read on them; of numbers, where they hold bytes, and of members, where no mode is odd
+-- a bank's pages show what is read on them, whatever they hold
 pub record ShowWhatTheyHold (start : Start) (bank : ℕ) (pages : ℕ → ℕ → List ℕ) : Type 0 where
   pub xact : ShowsFirst (xact_cells start (states_on start.banks pages)) (IsXactAt start bank) (pages bank)
-  pub offsets : ((x : ℕ) → IsOffsetAt start bank x → IsPage (pages bank (word_page_of x)))
-      → ShowsFirst (offset_cells start (offsets_on start.banks pages)) (IsOffsetAt start bank) (pages bank)
-  pub members : ((x : ℕ) → IsMemberAt start bank x → IsPage (pages bank (member_page_of x)))
-      → ((x byte : ℕ) → IsMemberAt start bank x → slot_on (pages bank (member_page_of x)) x ≢ slots.Odd byte)
-      → ShowsFirst (member_cells start (members_on start.banks pages)) (IsMemberAt start bank) (pages bank)
+  pub offsets : ShowsFirst (offset_cells start (offsets_on start.banks pages)) (IsOffsetAt start bank) (pages bank)
+  pub members : ShowsFirst (member_cells start (members_on start.banks pages)) (IsMemberAt start bank) (pages bank)
 
 abbrev pub PagesShowWhatTheyHold : Type 0
 PagesShowWhatTheyHold = (start : Start) (bank : ℕ) (pages : ℕ → ℕ → List ℕ) → ShowWhatTheyHold start bank pages

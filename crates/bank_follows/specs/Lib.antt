@@ -8,3 +8,4 @@ pub mod Tails
 pub mod Sections
 pub mod Begins
 pub mod Making
+pub mod Restored

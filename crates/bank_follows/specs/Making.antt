@@ -4,12 +4,12 @@ use Rattle.xid_order.specs.PageOrder.{page_precedes}
 use Rattle.disk_core.specs.Pages.{zero_page}
 use Rattle.slru_bank.specs.Bank.{PutsPage}
 use Rattle.slru_bank.specs.Crash.{SameMap}
-use Rattle.tx_events.specs.declared.multi.Member.{Member}
 use Rattle.tx_core.specs.declared.entry.Entry.{Entry}
 use Rattle.tx_core.specs.declared.entry.Kind.TheVariants as kinds
 use Rattle.tx_core.specs.declared.entry.Start.{Start}
 use Rattle.tx_core.specs.declared.entry.State.{State}
 use Rattle.tx_core.specs.Pages.{zeroed_in}
+use Rattle.recoverable.specs.Bytes.{StoredBytes}
 use Rattle.bank_follows.specs.Cells.{Cells, MakesPage, last_made, stored}
 use Rattle.bank_follows.specs.Stores.{member_cells, offset_cells, parent_cells, xact_cells}
 
@@ -40,8 +40,8 @@ module _ {I V : Type 0} (s : Cells I V) where
 pub record MakeStored (start : Start) : Type 0 where
   pub xact : (shown : ℕ → Option State) → MakesStored (xact_cells start shown)
   pub parents : MakesStored (parent_cells start)
-  pub offsets : (shown : ℕ → Option ℕ) → MakesStored (offset_cells start shown)
-  pub members : (shown : ℕ → Option Member) → MakesStored (member_cells start shown)
+  pub offsets : (shown : ℕ → Option StoredBytes) → MakesStored (offset_cells start shown)
+  pub members : (shown : ℕ → Option StoredBytes) → MakesStored (member_cells start shown)
 
 abbrev pub StoredPagesMade : Type 0
 StoredPagesMade = (start : Start) → MakeStored start

@@ -3,11 +3,11 @@ use Rattle.std.specs.Prelude.{◌≡◌, ℕ, List, [], ◌∷◌, ◌++◌, Opt
 use Rattle.disk_core.specs.Images.{LeavesOnly}
 use Rattle.disk_core.specs.Pages.{Pages, page_bytes}
 use Rattle.slru_bank.specs.Crash.{CrashLeaves, IsMixture}
-use Rattle.tx_events.specs.declared.multi.Member.{Member}
 use Rattle.tx_core.specs.declared.entry.Entry.{Entry}
 use Rattle.tx_core.specs.declared.entry.Kind.TheVariants as kinds
 use Rattle.tx_core.specs.declared.entry.Start.{Start}
 use Rattle.tx_core.specs.declared.entry.State.{State}
+use Rattle.recoverable.specs.Bytes.{StoredBytes}
 use Rattle.bank_follows.specs.Cells.{Cells, CutoffStands, ImageShows, IsGoneOr, IsQuietOn, MapBetween, MapShows}
 use Rattle.bank_follows.specs.Stores.{IsMemberAt, IsOffsetAt, IsParentAt, IsXactAt, member_cells, offset_cells, parent_cells, xact_cells}
 
@@ -68,9 +68,9 @@ module _ {D : Type 0} (images : D → Pages → Type 0) (moment : D → ℕ) (le
       → KeepsMoments images moment left_at (parent_cells start) (IsParentAt start bank)
 
   abbrev pub OffsetMoments : Type 0
-  OffsetMoments = (start : Start) (shown : ℕ → Option ℕ) (bank : ℕ)
+  OffsetMoments = (start : Start) (shown : ℕ → Option StoredBytes) (bank : ℕ)
       → KeepsMoments images moment left_at (offset_cells start shown) (IsOffsetAt start bank)
 
   abbrev pub MemberMoments : Type 0
-  MemberMoments = (start : Start) (shown : ℕ → Option Member) (bank : ℕ)
+  MemberMoments = (start : Start) (shown : ℕ → Option StoredBytes) (bank : ℕ)
       → KeepsMoments images moment left_at (member_cells start shown) (IsMemberAt start bank)

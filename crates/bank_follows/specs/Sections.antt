@@ -3,12 +3,12 @@ use Rattle.std.specs.Prelude.{◌≡◌, ℕ, List, [], ◌∷◌, ◌++◌, Opt
 use Rattle.disk_core.specs.Pages.{Pages, page_bytes}
 use Rattle.slru_bank.specs.Crash.{CrashLeaves, IsMixture, SameMap}
 use Rattle.slru_bank.specs.Removal.{MayDrop}
-use Rattle.tx_events.specs.declared.multi.Member.{Member}
 use Rattle.tx_core.specs.declared.entry.Entry.{Entry}
 use Rattle.tx_core.specs.declared.entry.Kind.TheVariants as kinds
 use Rattle.tx_core.specs.declared.entry.Start.{Start}
 use Rattle.tx_core.specs.declared.entry.State.{State}
 use Rattle.tx_core.specs.Entries.{cut_in}
+use Rattle.recoverable.specs.Bytes.{StoredBytes}
 use Rattle.bank_follows.specs.Cells.{Cells, CutoffStands, ImageShows, IsGoneOr, IsOnePage, IsQuietOn, MakesPage, MapShows, SetsAsSaid, cut_by, cutoff_behind}
 use Rattle.bank_follows.specs.Moments.{Throughout}
 use Rattle.bank_follows.specs.Stores.{IsMemberAt, IsOffsetAt, IsParentAt, IsXactAt, member_cells, offset_cells, parent_cells, xact_cells}
@@ -70,9 +70,9 @@ module _ {D : Type 0} (images : D → Pages → Type 0) (moment : D → ℕ) (le
       → KeepBanks images moment left_at (parent_cells start) (IsParentAt start bank)
 
   abbrev pub OffsetSections : Type 0
-  OffsetSections = (start : Start) (shown : ℕ → Option ℕ) (bank : ℕ)
+  OffsetSections = (start : Start) (shown : ℕ → Option StoredBytes) (bank : ℕ)
       → KeepBanks images moment left_at (offset_cells start shown) (IsOffsetAt start bank)
 
   abbrev pub MemberSections : Type 0
-  MemberSections = (start : Start) (shown : ℕ → Option Member) (bank : ℕ)
+  MemberSections = (start : Start) (shown : ℕ → Option StoredBytes) (bank : ℕ)
       → KeepBanks images moment left_at (member_cells start shown) (IsMemberAt start bank)

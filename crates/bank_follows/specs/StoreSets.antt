@@ -16,6 +16,7 @@ use Rattle.tx_core.specs.CleanStart.{IsNear}
 use Rattle.tx_core.specs.Laws.{all_set}
 use Rattle.recoverable.specs.MemberImages.{IsNearOffset}
 use Rattle.recoverable.specs.XactImages.{code_of}
+use Rattle.recoverable.specs.Bytes.{StoredBytes}
 use Rattle.bank_follows.specs.Cells.{SetsAsSaid}
 use Rattle.bank_follows.specs.Stores.{IsMemberAt, IsXactAt, member_cells, xact_cells}
 
@@ -27,6 +28,6 @@ StatesSet = (start : Start) (shown : ℕ → Option State) (bank : ℕ) (by call
 
 -- one member
 abbrev pub MemberSet : Type 0
-MemberSet = (start : Start) (shown : ℕ → Option Member) (bank : ℕ) (by caller : By) (offset : ℕ) (member : Member) (old new : ℕ → List ℕ) →
+MemberSet = (start : Start) (shown : ℕ → Option StoredBytes) (bank : ℕ) (by caller : By) (offset : ℕ) (member : Member) (old new : ℕ → List ℕ) →
     IsNearOffset start offset → SetsMember (member_page_of offset) (member_place (low_half offset)) (mode_number member.mode) (low_half member.id) old new
     → SetsAsSaid (member_cells start shown) (IsMemberAt start bank) (record { by = by; kind = kinds.Set (changes.Slot caller offset member ∷ []) }) old new

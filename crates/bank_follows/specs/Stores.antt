@@ -1,10 +1,9 @@
 -- The pieces of the four stores: two bits of a byte in pg_xact, the four bytes of a number in pg_subtrans and the
--- offsets, a mode byte and four bytes of an id in the members.
-use Rattle.std.specs.Prelude.{◌≡◌, ℕ, ◌+◌, ◌/◌, ◌%◌, ◌==◌, cond, Option, None}
+-- offsets, the four bytes of an id and a mode byte in the members.
+use Rattle.std.specs.Prelude.{◌≡◌, ℕ, ◌+◌, ◌/◌, ◌%◌, Option, Some, None}
 use Rattle.xid_order.specs.Ids.{id_before}
 use Rattle.xid_order.specs.PageOrder.{Ids}
-use Rattle.store_pages.specs.Layouts.{bits_at, member_page_of, member_place_of, mode_place_of, word_page_of, word_place_of, xact_page_of, xact_place_of}
-use Rattle.tx_events.specs.declared.multi.Member.{Member}
+use Rattle.store_pages.specs.Layouts.{bits_at, member_page_of, word_page_of, word_place_of, xact_page_of, xact_place_of}
 use Rattle.tx_core.specs.declared.entry.Start.{Start}
 use Rattle.tx_core.specs.declared.entry.State.{State}
 use Rattle.tx_core.specs.CleanStart.{IsNear}
@@ -13,8 +12,9 @@ use Rattle.tx_core.specs.Locks.{members_lock, members_lock_of, offsets_lock, off
 use Rattle.tx_core.specs.MultiEntries.{SetOffset, SetSlot}
 use Rattle.tx_core.specs.Pages.{subtrans_store}
 use Rattle.recoverable.specs.Images.{PageRing, Reading}
-use Rattle.recoverable.specs.MemberImages.{IsNearOffset, member_reading, wanted_id, wanted_mode}
-use Rattle.recoverable.specs.OffsetImages.{IsNearMulti, offset_reading, wanted_byte}
+use Rattle.recoverable.specs.Bytes.{StoredBytes, byte_of, slot_place_of, wanted_byte}
+use Rattle.recoverable.specs.MemberImages.{IsNearOffset, member_reading}
+use Rattle.recoverable.specs.OffsetImages.{IsNearMulti, offset_reading}
 use Rattle.recoverable.specs.XactImages.{wanted_code, xact_reading}
 use Rattle.bank_follows.specs.Cells.{Cells}
 
@@ -53,6 +53,10 @@ parent_ring start = record { shape = Ids; per_page = 2048; pages = 2097152; kept
 abbrev pub parent_reading : Start → Reading Link ℕ
 parent_reading start = record { store = subtrans_store; first = start.base.next; shown = λ id. None; ring = parent_ring start }
 
+abbrev pub parent_or_none : Option ℕ → ℕ
+parent_or_none None = 0
+parent_or_none (Some parent) = parent
+
 abbrev pub parent_cells : Start → Cells Link ℕ
 parent_cells start = record {
   reading = parent_reading start;
@@ -60,10 +64,10 @@ parent_cells start = record {
   pieces = 4;
   at = λ x i. word_place_of x + i;
   value = λ x byte. byte;
-  wanted = wanted_byte;
+  wanted = λ i o. Some (byte_of (parent_or_none o) i);
 }
 
-abbrev pub offset_cells : Start → (ℕ → Option ℕ) → Cells SetOffset ℕ
+abbrev pub offset_cells : Start → (ℕ → Option StoredBytes) → Cells SetOffset StoredBytes
 offset_cells start shown = record {
   reading = offset_reading start shown;
   page = word_page_of;
@@ -73,16 +77,12 @@ offset_cells start shown = record {
   wanted = wanted_byte;
 }
 
--- the four bytes of an id, and then the mode
-abbrev pub wanted_slot : ℕ → Option Member → Option ℕ
-wanted_slot i o = cond (i == 4) (wanted_mode o) (wanted_id i o)
-
-abbrev pub member_cells : Start → (ℕ → Option Member) → Cells SetSlot Member
+abbrev pub member_cells : Start → (ℕ → Option StoredBytes) → Cells SetSlot StoredBytes
 member_cells start shown = record {
   reading = member_reading start shown;
   page = member_page_of;
   pieces = 5;
-  at = λ x i. cond (i == 4) (mode_place_of x) (member_place_of x + i);
+  at = slot_place_of;
   value = λ x byte. byte;
-  wanted = wanted_slot;
+  wanted = wanted_byte;
 }

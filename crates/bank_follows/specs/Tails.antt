@@ -1,19 +1,13 @@
 -- The bytes of a page of members past its last slot stay 0.
-use Rattle.std.specs.Prelude.{◌≡◌, ℕ, ◌<◌, ◌≤◌, ◌^◌, Bool, List, slice_index}
-use Rattle.disk_core.specs.Pages.{Pages, page_bytes, zero_page}
+use Rattle.std.specs.Prelude.{ℕ, ◌<◌, Bool, List}
+use Rattle.disk_core.specs.Pages.{Pages, zero_page}
 use Rattle.store_pages.specs.Pages.{members_per_page}
 use Rattle.slru_bank.specs.Bank.{PutsPage}
 use Rattle.slru_bank.specs.Crash.{CrashLeaves, IsMixture, IsMixtureOrGone, SameMap}
 use Rattle.slru_bank.specs.Removal.{MayDrop}
 use Rattle.multi_members.specs.Changes.{SetsMember, TrimsMembers}
+use Rattle.recoverable.specs.Bytes.{HasZeroTails, ImageHasZeroTails}
 use Rattle.bank_follows.specs.Moments.{Throughout}
-
--- 409 groups of 20 bytes end at byte 8180
-abbrev pub HasZeroTails : (ℕ → List ℕ) → Type 0
-HasZeroTails m = (q i : ℕ) → q < 2 ^ 32 → 8180 ≤ i → slice_index (m q) i ≡ 0
-
-abbrev pub ImageHasZeroTails : Pages → Type 0
-ImageHasZeroTails c = HasZeroTails (λ q. page_bytes (c q))
 
 -- what a call does to the map keeps them
 pub record MapKeepsTails (old new : ℕ → List ℕ) : Type 0 where

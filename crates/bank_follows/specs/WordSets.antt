@@ -10,6 +10,7 @@ use Rattle.tx_core.specs.declared.entry.Kind.TheVariants as kinds
 use Rattle.tx_core.specs.declared.entry.Start.{Start}
 use Rattle.tx_core.specs.CleanStart.{IsNear}
 use Rattle.recoverable.specs.OffsetImages.{IsNearMulti}
+use Rattle.recoverable.specs.Bytes.{StoredBytes}
 use Rattle.bank_follows.specs.Cells.{SetsAsSaid}
 use Rattle.bank_follows.specs.Stores.{IsOffsetAt, IsParentAt, offset_cells, parent_cells}
 
@@ -21,6 +22,6 @@ ParentSet = (start : Start) (bank : ℕ) (by caller : By) (id parent : ℕ) (old
 
 -- one offset
 abbrev pub OffsetSet : Type 0
-OffsetSet = (start : Start) (shown : ℕ → Option ℕ) (bank : ℕ) (by caller : By) (multi offset : ℕ) (old new : ℕ → List ℕ) →
+OffsetSet = (start : Start) (shown : ℕ → Option StoredBytes) (bank : ℕ) (by caller : By) (multi offset : ℕ) (old new : ℕ → List ℕ) →
     IsNearMulti start multi → SetsEntry (word_page_of multi) (offset_place (low_half multi)) (low_half offset) old new
     → SetsAsSaid (offset_cells start shown) (IsOffsetAt start bank) (record { by = by; kind = kinds.Set (changes.Offset caller multi offset ∷ []) }) old new

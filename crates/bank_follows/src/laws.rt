@@ -6,6 +6,7 @@ ghost use Rattle.bank_follows.specs.StoreSets.{StatesSet, MemberSet};
 ghost use Rattle.bank_follows.specs.Laws.{XactKeeps, ParentsKeep, OffsetsKeep, MembersKeep, ImagesFollow, OnePage};
 ghost use Rattle.bank_follows.specs.Begins.{BanksOpen, PagesShowWhatTheyHold, ZerosShowNothing};
 ghost use Rattle.bank_follows.specs.Making.{StoredPagesMade};
+ghost use Rattle.bank_follows.specs.Restored.{LifeBegins, RestoredBegins};
 
 use disk_core::PageDisk;
 
@@ -79,4 +80,14 @@ pub fn pages_show_what_they_hold()
 /// The bytes behind the last slot of a page of members stay 0, in the map and in each image at every moment.
 pub fn tails_stay<P: PageDisk>()
     ensures { KeepsTails P.images P.moment P.left_at }
+{}
+
+/// What a recovery leaves (`StartupXLOG` and `TrimMultiXact`) is a clean start of the next life.
+pub fn restored_begins()
+    ensures { RestoredBegins }
+{}
+
+/// And its images follow the lists of that life before their first entries.
+pub fn life_begins()
+    ensures { LifeBegins }
 {}

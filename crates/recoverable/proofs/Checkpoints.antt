@@ -1,5 +1,5 @@
 -- Where a log may be forgotten up to stands a checkpoint, on disk, with counters that are the log's behind it.
-use Rattle.std.proofs.Common.{List, None, Option, Some, [], ap, arith, length, map, max, refl, subst, suc, sym, take, zero, ℕ, Contains, ◌++◌, ◌+◌, ◌-◌, ◌<◌, ◌∙◌, ◌∷◌, ◌≡◌, ◌≤◌}
+use Rattle.std.proofs.Common.{⊎_elim, List, None, Option, Some, [], ap, arith, length, map, max, refl, subst, suc, sym, take, zero, ℕ, Contains, ◌++◌, ◌+◌, ◌-◌, ◌<◌, ◌∙◌, ◌∷◌, ◌≡◌, ◌≤◌}
 use Rattle.std.proofs.lemmas.List.Sums.{fold_push}
 use Rattle.std.specs.List.{cons_option, filter_map, slice_get}
 use Rattle.tx_events.specs.declared.event.By.{By}
@@ -20,12 +20,14 @@ use Rattle.notes.specs.Lists.{Begins, at}
 use Rattle.tx_core.specs.Locks.{log_lock}
 use Rattle.tx_core.specs.RecordsFollow.{AppendOf, AreNotBelow}
 use Rattle.tx_core.specs.SyncsBeforeForgets.{MayForget}
-use Rattle.recoverable.specs.Fit.{KeptLog, base_at}
+use Rattle.recoverable.specs.Fit.{KeptLog, MayBegin, base_at}
 use Rattle.recoverable.specs.Laws.{LogFollows, MayBeginLaw}
 use Rattle.recoverable.specs.LifeBase.{LifeBase}
+use Rattle.recoverable.specs.Volumes.{IsWholeAt}
+use Rattle.tx_events.proofs.ListSteps.{le_or_over}
 use Rattle.recoverable.proofs.FitsXact.{may_forget}
 use Rattle.recoverable.proofs.LogBases.{base_from, life_recs}
-use Rattle.recoverable.proofs.Stretches.{get_map}
+use Rattle.recoverable.proofs.Stretches.{get_map, map_get}
 
 -- where an item of a filtered list comes from
 module _ {A B : Type 0} where
@@ -70,12 +72,12 @@ module _ {A B : Type 0} where
 
 module _ {A : Type 0} where
   -- what stands behind another list
-  get_past : (xs ys : List A) (j : ℕ) → slice_get (xs ++ ys) (length xs + j) ≡ slice_get ys j
+  pub get_past : (xs ys : List A) (j : ℕ) → slice_get (xs ++ ys) (length xs + j) ≡ slice_get ys j
   get_past [] ys j = let e : 0 + j ≡ j = omega arith in ap (λ n. slice_get ys n) e
   get_past (x ∷ xs) ys j = let e : suc (length xs) + j ≡ suc (length xs + j) = omega arith in ap (λ n. slice_get (x ∷ (xs ++ ys)) n) e ∙ get_past xs ys j
 
   -- one item more
-  take_next : (xs : List A) (j : ℕ) (x : A) → slice_get xs j ≡ Some x → take (suc j) xs ≡ take j xs ++ x ∷ []
+  pub take_next : (xs : List A) (j : ℕ) (x : A) → slice_get xs j ≡ Some x → take (suc j) xs ≡ take j xs ++ x ∷ []
   take_next [] j x e = absurd cc
   take_next (y ∷ ys) zero x e = let q : y ≡ x = cc in ap (λ (z : A). z ∷ []) q
   take_next (y ∷ ys) (suc j) x e = ap (λ (t : List A). y ∷ t) (take_next ys j x e)
@@ -87,7 +89,7 @@ stands_at start lists n before begins may =
     subst (λ (t : List (By × Rec)). slice_get t (n - start.from) ≡ Some (may.by, records.Checkpoint n may.counters)) b.1 (slice_get-grows (records_in before) b.0 (may.by, records.Checkpoint n may.counters) (n - start.from) may.checkpoint)
 
 -- counters that are not below others are theirs behind them
-raised_to : (low high : Counters) (n : ℕ) → AreNotBelow low high → after_record low (records.Checkpoint n high) ≡ high
+pub raised_to : (low high : Counters) (n : ℕ) → AreNotBelow low high → after_record low (records.Checkpoint n high) ≡ high
 raised_to low high n below =
     let next : max low.next high.next ≡ high.next = top low.next high.next below.next in
     let oldest : max low.oldest high.oldest ≡ high.oldest = top low.oldest high.oldest below.oldest in
@@ -111,21 +113,24 @@ append_at start lists j by rec k stands =
       subst (AppendOf start lists (take found.place (at lists log_lock))) kind (k.log.counters.each log_lock found.place found.item found.stands),
     )
 
-pub counters_at : (start : Start) (lists : List (List Entry)) (log : KeptLog) (n : ℕ) (before : List Entry) → EngineInvariant start lists → LogFollows start lists log → Begins before (at lists log_lock) → (may : MayForget start lists before n)
-    → (base_at log (n + 1)).counters ≡ may.counters
-counters_at start lists log n before k f begins may =
-    let from = may.from in
-    let stands = stands_at start lists n before begins may in
-    let added = append_at start lists (n - start.from) may.by (records.Checkpoint n may.counters) k stands in
-    let below : AreNotBelow (after_records start.base (take (n - start.from) (life_recs lists))) may.counters = subst (λ (t : List Rec). AreNotBelow (after_records start.base t) may.counters) added.1 added.2.1.not_below in
-    let here : slice_get (life_recs lists) (n - start.from) ≡ Some (records.Checkpoint n may.counters) = get_map (λ (r : By × Rec). r.1) (records_of lists) (n - start.from) (may.by, records.Checkpoint n may.counters) stands in
+-- behind a checkpoint of the life the counters are its own
+pub whole_at : (start : Start) (lists : List (List Entry)) (log : KeptLog) (n : ℕ) (by : By) (counters : Counters) → EngineInvariant start lists → LogFollows start lists log → start.from ≤ n
+    → slice_get (records_of lists) (n - start.from) ≡ Some (by, records.Checkpoint n counters) → (base_at log (n + 1)).counters ≡ counters
+whole_at start lists log n by counters k f from stands =
+    let added = append_at start lists (n - start.from) by (records.Checkpoint n counters) k stands in
+    let below : AreNotBelow (after_records start.base (take (n - start.from) (life_recs lists))) counters = subst (λ (t : List Rec). AreNotBelow (after_records start.base t) counters) added.1 added.2.1.not_below in
+    let here : slice_get (life_recs lists) (n - start.from) ≡ Some (records.Checkpoint n counters) = get_map (λ (r : By × Rec). r.1) (records_of lists) (n - start.from) (by, records.Checkpoint n counters) stands in
     let next : n + 1 - start.from ≡ suc (n - start.from) = omega arith in
-    let behind : take (n + 1 - start.from) (life_recs lists) ≡ take (n - start.from) (life_recs lists) ++ records.Checkpoint n may.counters ∷ []
-    = ap (λ z. take z (life_recs lists)) next ∙ take_next (life_recs lists) (n - start.from) (records.Checkpoint n may.counters) here in
+    let behind : take (n + 1 - start.from) (life_recs lists) ≡ take (n - start.from) (life_recs lists) ++ records.Checkpoint n counters ∷ []
+    = ap (λ z. take z (life_recs lists)) next ∙ take_next (life_recs lists) (n - start.from) (records.Checkpoint n counters) here in
     ap (λ (b : LifeBase). b.counters) (base_from start lists log (n + 1) f (omega arith))
     ∙ ap (λ (t : List Rec). after_records start.base t) behind
-    ∙ fold_push after_record start.base (take (n - start.from) (life_recs lists)) (records.Checkpoint n may.counters)
-    ∙ raised_to (after_records start.base (take (n - start.from) (life_recs lists))) may.counters n below
+    ∙ fold_push after_record start.base (take (n - start.from) (life_recs lists)) (records.Checkpoint n counters)
+    ∙ raised_to (after_records start.base (take (n - start.from) (life_recs lists))) counters n below
+
+pub counters_at : (start : Start) (lists : List (List Entry)) (log : KeptLog) (n : ℕ) (before : List Entry) → EngineInvariant start lists → LogFollows start lists log → Begins before (at lists log_lock) → (may : MayForget start lists before n)
+    → (base_at log (n + 1)).counters ≡ may.counters
+counters_at start lists log n before k f begins may = whole_at start lists log n may.by may.counters k f may.from (stands_at start lists n before begins may)
 
 -- it is on disk
 pub checkpoint_flushed : (start : Start) (lists : List (List Entry)) (log : KeptLog) (n : ℕ) (before : List Entry) → LogFollows start lists log → Begins before (at lists log_lock) → MayForget start lists before n → n < log.flushed
@@ -137,18 +142,42 @@ checkpoint_flushed start lists log n before f begins may =
     let upto : may.to ≤ log.flushed = f.flushed may.to (may.flush, flush) in
     let past = may.past in omega arith
 
+-- what stands in a log from the life's start on was appended by an entry
+pub appended_at : (start : Start) (lists : List (List Entry)) (log : KeptLog) (n : ℕ) (rec : Rec) → LogFollows start lists log → start.from ≤ n → slice_get log.recs (n - log.first) ≡ Some rec
+    → (by : By) × (slice_get (records_of lists) (n - start.from) ≡ Some (by, rec))
+appended_at start lists log n rec f le stands =
+    let from = f.from in
+    let place : n - log.first ≡ length f.before + (n - start.from) = omega arith in
+    let here : slice_get (life_recs lists) (n - start.from) ≡ Some rec
+    = sym (get_past f.before (life_recs lists) (n - start.from)) ∙ ap (λ j. slice_get (f.before ++ life_recs lists) j) (sym place) ∙ ap (λ (t : List Rec). slice_get t (n - log.first)) (sym f.recs) ∙ stands in
+    let g = map_get (λ (t : By × Rec). t.1) (records_of lists) (n - start.from) rec here in
+    (g.0.0, g.1 ∙ ap (λ (z : Rec). Some (g.0.0, z)) g.2)
+
+-- so each checkpoint of the log is whole
+pub whole_in : (start : Start) (lists : List (List Entry)) (log : KeptLog) (n : ℕ) → EngineInvariant start lists → LogFollows start lists log → log.first ≤ n → IsWholeAt log n
+whole_in start lists log n k f first counters stands =
+    ⊎_elim
+    (λ (le : start.from ≤ n). let a = appended_at start lists log n (records.Checkpoint n counters) f le stands in whole_at start lists log n a.0 counters k f le a.1)
+    (λ (lt : n < start.from). f.whole n first lt counters stands)
+    (le_or_over start.from n)
+
+-- and the log may begin at a checkpoint of the life that is on disk
+pub begins_at : (start : Start) (lists : List (List Entry)) (log : KeptLog) (n : ℕ) (by : By) (counters : Counters) → EngineInvariant start lists → LogFollows start lists log → start.from ≤ n
+    → slice_get (records_of lists) (n - start.from) ≡ Some (by, records.Checkpoint n counters) → n < log.flushed → MayBegin log n
+begins_at start lists log n by counters k f from stands flushed =
+    let first = f.from in
+    let place : n - log.first ≡ length f.before + (n - start.from) = omega arith in
+    record {
+      from = omega arith;
+      flushed = flushed;
+      counters = counters;
+      checkpoint = ap (λ (t : List Rec). slice_get t (n - log.first)) f.recs ∙ ap (λ j. slice_get (f.before ++ life_recs lists) j) place ∙ get_past f.before (life_recs lists) (n - start.from)
+          ∙ get_map (λ (r : By × Rec). r.1) (records_of lists) (n - start.from) (by, records.Checkpoint n counters) stands;
+      whole = whole_at start lists log n by counters k f from stands;
+    }
+
 pub may_begin : MayBeginLaw
 may_begin start lists log n k f forgotten =
     let m = may_forget start lists n k forgotten in
     let may = m.2 in
-    let from = may.from in let first = f.from in
-    let stands = stands_at start lists n m.0 m.1 may in
-    let place : n - log.first ≡ length start.logged + (n - start.from) = omega arith in
-    record {
-      from = omega arith;
-      flushed = checkpoint_flushed start lists log n m.0 f m.1 may;
-      counters = may.counters;
-      checkpoint = ap (λ (t : List Rec). slice_get t (n - log.first)) f.recs ∙ ap (λ j. slice_get (start.logged ++ life_recs lists) j) place ∙ get_past start.logged (life_recs lists) (n - start.from)
-          ∙ get_map (λ (r : By × Rec). r.1) (records_of lists) (n - start.from) (may.by, records.Checkpoint n may.counters) stands;
-      whole = counters_at start lists log n m.0 k f m.1 may;
-    }
+    begins_at start lists log n may.by may.counters k f may.from (stands_at start lists n m.0 m.1 may) (checkpoint_flushed start lists log n m.0 f m.1 may)

@@ -146,7 +146,7 @@ room_of : (start : Start) (lists : List (List Entry)) (shown : ℕ → Option St
 room_of start lists shown log k is f few =
     let room = has_room start.base (history lists) is.base few in
     let recs : List Rec = life_recs lists in
-    let long : length log.recs ≡ length start.logged + length recs = ap (λ (t : List Rec). length t) f.recs ∙ length-append start.logged recs in
+    let long : length log.recs ≡ length f.before + length recs = ap (λ (t : List Rec). length t) f.recs ∙ length-append f.before recs in
     let from = f.from in
     let rest : log_end log - start.from ≡ length recs = omega arith in
     let all : take (log_end log - start.from) recs ≡ recs = ap (λ m. take m recs) rest ∙ take-length recs in
@@ -277,17 +277,17 @@ shows_synced start lists log shown bank number x before c k is f room inside beg
 -- ids committed before the life are committed in its base
 earlier_committed : (start : Start) (lists : List (List Entry)) (log : KeptLog) (n x : ℕ) → LogFollows start lists log → n ≤ start.from → Contains (base_at log n).committed x → Contains start.committed x
 earlier_committed start lists log n x f le c =
-    let from : start.from ≡ log.first + length start.logged = f.from in
+    let from : start.from ≡ log.first + length f.before = f.from in
     let m : ℕ = n - log.first in
-    let all : log.base.committed ++ committed_in start.logged ≡ start.committed = ap (λ (b : LifeBase). b.committed) f.base in
+    let all : log.base.committed ++ committed_in f.before ≡ start.committed = ap (λ (b : LifeBase). b.committed) f.base in
     subst (λ (t : List ℕ). Contains t x) all
-    (has_contains (log.base.committed ++ committed_in start.logged) x
+    (has_contains (log.base.committed ++ committed_in f.before) x
     (⊎_elim
-    (λ h. has_left log.base.committed (committed_in start.logged) x h)
+    (λ h. has_left log.base.committed (committed_in f.before) x h)
     (λ (h : Has (committed_in (take (n - log.first) log.recs)) x).
     let r = has_flat_map committed_by (take (n - log.first) log.recs) x h in
-    let within : Has start.logged r.0 = has_within start.logged (life_recs lists) (n - log.first) r.0 (omega arith) (subst (λ (t : List Rec). Has (take (n - log.first) t) r.0) f.recs r.1) in
-    has_right log.base.committed (committed_in start.logged) x (flat_map_has committed_by start.logged r.0 x within r.2))
+    let within : Has f.before r.0 = has_within f.before (life_recs lists) (n - log.first) r.0 (omega arith) (subst (λ (t : List Rec). Has (take (n - log.first) t) r.0) f.recs r.1) in
+    has_right log.base.committed (committed_in f.before) x (flat_map_has committed_by f.before r.0 x within r.2))
     (has_cases log.base.committed (committed_in (take (n - log.first) log.recs)) x (contains_has (base_at log n).committed x c))))
 
 pub may_forget : (start : Start) (lists : List (List Entry)) (n : ℕ) → EngineInvariant start lists

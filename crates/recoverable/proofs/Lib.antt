@@ -1,6 +1,7 @@
 pub mod Stretches
 pub mod LogBases
 pub mod Places
+pub mod BytesShow
 pub mod FitsXact
 pub mod Offsets
 pub mod OffsetsFit
@@ -10,3 +11,8 @@ pub mod MultiChain
 pub mod Announced
 pub mod MembersFit
 pub mod LifeBases
+pub mod Earlier
+pub mod Opened
+pub mod Whole
+pub mod LogBegins
+pub mod WorkedLife

@@ -28,7 +28,7 @@ use Rattle.tx_core.specs.RecordsFollow.{CheckpointOf, CountersOf, IsMultiAnnounc
 use Rattle.recoverable.specs.Laws.{ListFitsLaw, life_base}
 use Rattle.recoverable.specs.LifeBase.{AreInOrder, IsLifeBase, base_after, committed_in, is_multi}
 use Rattle.recoverable.proofs.Announced.{announced_given, announced_old}
-use Rattle.recoverable.proofs.Checkpoints.{append_at}
+use Rattle.recoverable.proofs.Checkpoints.{append_at, whole_in}
 use Rattle.recoverable.proofs.LogBases.{base_from, committed_below, life_recs, multi_below, next_grows, oldest_multi_grows, offset_grows, multi_grows, recorded_split}
 use Rattle.recoverable.proofs.MultiChain.{Chained, chained, free_upto, next_later, next_upto}
 use Rattle.tx_core.proofs.MultiOrder.{Ordered, ordered}
@@ -270,4 +270,5 @@ list_fits start lists log k told full is f =
           let each : EachPlace (take j (life_recs lists)) (Came start lists) = each_place_start (Came start lists) (take j (life_recs lists)) (drop j (life_recs lists))
           (subst (λ (t : List Rec). EachPlace t (Came start lists)) (sym (take-append-drop j (life_recs lists))) (came start lists k)) in
           subst IsLifeBase (sym (base_from start lists log n f (omega arith))) (life_base_after start lists k told full is (take j (life_recs lists)) each);
+      whole = λ n first. whole_in start lists log n k f first;
     }

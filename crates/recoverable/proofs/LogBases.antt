@@ -43,13 +43,13 @@ recorded_split start recs rec c = ⊎_elim inl (λ h. inr (has_filter is_multi r
 -- from the life's start on the base goes on from the life's
 pub base_from : (start : Start) (lists : List (List Entry)) (log : KeptLog) (k : ℕ) → LogFollows start lists log → start.from ≤ k → base_at log k ≡ base_after (life_base start) (take (k - start.from) (life_recs lists))
 base_from start lists log k f le =
-    let from : start.from ≡ log.first + length start.logged = f.from in
-    let long : length start.logged ≤ k - log.first = omega arith in
-    let rest : k - log.first - length start.logged ≡ k - start.from = omega arith in
+    let from : start.from ≡ log.first + length f.before = f.from in
+    let long : length f.before ≤ k - log.first = omega arith in
+    let rest : k - log.first - length f.before ≡ k - start.from = omega arith in
     ap (λ (t : List Rec). base_after log.base (take (k - log.first) t)) f.recs
-    ∙ ap (base_after log.base) (take_past start.logged (life_recs lists) (k - log.first) long)
-    ∙ base_then log.base start.logged (take (k - log.first - length start.logged) (life_recs lists))
-    ∙ ap (λ (b : LifeBase). base_after b (take (k - log.first - length start.logged) (life_recs lists))) f.base
+    ∙ ap (base_after log.base) (take_past f.before (life_recs lists) (k - log.first) long)
+    ∙ base_then log.base f.before (take (k - log.first - length f.before) (life_recs lists))
+    ∙ ap (λ (b : LifeBase). base_after b (take (k - log.first - length f.before) (life_recs lists))) f.base
     ∙ ap (λ z. base_after (life_base start) (take z (life_recs lists))) rest
 
 -- a counter that each record only raises

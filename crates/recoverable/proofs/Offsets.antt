@@ -1,5 +1,5 @@
 -- A multixact that isn't recorded has no offset.
-use Rattle.std.proofs.Common.{◌≡◌, ℕ, ◌+◌, ◌<◌, ◌≤◌, ◌⊎◌, ⊎_elim, List, [], take, slice_index, Option, Some, None, Contains, refl, sym, ap, subst, arith, ◌∙◌}
+use Rattle.std.proofs.Common.{◌≡◌, ℕ, ◌+◌, ◌<◌, ◌≤◌, ⊎_elim, List, [], take, slice_index, Option, Some, None, Contains, refl, sym, ap, arith, ◌∙◌}
 use Rattle.std.specs.List.{flat_map}
 use Rattle.store_pages.specs.Layouts.{number_in, word_page_of, word_place_of}
 use Rattle.disk_core.specs.Pages.{page_bytes}
@@ -8,7 +8,6 @@ use Rattle.tx_events.proofs.Membership.{Has, all_at, contains_has, has_flat_map,
 use Rattle.tx_core.proofs.Asking.{upheld_has}
 use Rattle.tx_core.specs.declared.entry.Entry.{Entry}
 use Rattle.tx_core.proofs.Nearness.{multis_are_legal}
-use Rattle.tx_core.proofs.PageShowing.{of_number}
 use Rattle.tx_core.proofs.Rising.{made_more}
 use Rattle.tx_core.specs.EngineInvariant.{EngineInvariant}
 use Rattle.tx_events.specs.declared.event.By.{By}
@@ -19,25 +18,18 @@ use Rattle.tx_events.specs.Multis.{InBase, MultiMayCome, next_made}
 use Rattle.tx_core.specs.declared.entry.Start.{Start}
 use Rattle.notes.specs.Lists.{at}
 use Rattle.tx_core.specs.Locks.{offsets_lock}
-use Rattle.tx_core.specs.Pages.{offset_for, offset_store, pages_after}
-use Rattle.recoverable.specs.FitMultis.{byte_of}
+use Rattle.tx_core.specs.Pages.{pages_after}
 use Rattle.tx_core.specs.MembersBeforeOffset.{NeedsOffsets, OffsetOf}
 use Rattle.tx_core.specs.MultiEntries.{SetOffset, multi_history, offsets_in}
-use Rattle.recoverable.specs.Images.{MayBeGone}
-use Rattle.recoverable.specs.OffsetImages.{number_or_none, offset_after, offset_ring}
+use Rattle.recoverable.specs.Images.{MayBeGone, shows_of}
+use Rattle.recoverable.specs.OffsetImages.{offset_reading, offset_ring}
+use Rattle.recoverable.specs.Bytes.{StoredBytes, byte_held}
+use Rattle.recoverable.specs.Stored.{offset_bytes_for, stored_offsets}
 use Rattle.recoverable.specs.Laws.{NoStrayOffset}
 use Rattle.recoverable.proofs.Places.{Source, shows_from}
+use Rattle.recoverable.proofs.BytesShow.{offset_at}
 
-pub zero_byte : (i : ℕ) → i < 4 → byte_of 0 i ≡ 0
-zero_byte i lt = ⊎_elim (λ (e : i ≡ 0). subst (λ z. byte_of 0 z ≡ 0) (sym e) refl) (λ h. ⊎_elim (λ (e : i ≡ 1). subst (λ z. byte_of 0 z ≡ 0) (sym e) refl) (λ k. ⊎_elim (λ (e : i ≡ 2). subst (λ z. byte_of 0 z ≡ 0) (sym e) refl) (λ (e : i ≡ 3). subst (λ z. byte_of 0 z ≡ 0) (sym e) refl) k) h) (which i lt)
-  where
-    which : (i : ℕ) → i < 4 → (i ≡ 0) ⊎ ((i ≡ 1) ⊎ ((i ≡ 2) ⊎ (i ≡ 3)))
-    which i lt = grind arith
-
-pub set_of : (multi v : ℕ) (set : SetOffset) → offset_for multi set ≡ Some v → set.multi ≡ multi
-set_of multi v set e = (of_number set.multi multi set.offset v e).0
-
-number_zero : (bytes : List ℕ) (place : ℕ) → ((i : ℕ) → i < 4 → slice_index bytes (place + i) ≡ 0) → number_in bytes place ≡ 0
+pub number_zero : (bytes : List ℕ) (place : ℕ) → ((i : ℕ) → i < 4 → slice_index bytes (place + i) ≡ 0) → number_in bytes place ≡ 0
 number_zero bytes place each =
     let b0 : slice_index bytes place ≡ 0 = ap (λ k. slice_index bytes k) (let e : place ≡ place + 0 = omega arith in e) ∙ each 0 (omega arith) in
     let b1 = each 1 (omega arith) in let b2 = each 2 (omega arith) in let b3 = each 3 (omega arith) in
@@ -59,23 +51,23 @@ no_stray_offset start lists shown bank multi c k clear old bytes =
     let es : List Entry = at lists (offsets_lock bank) in
     number_zero (page_bytes (c (word_page_of multi))) (word_place_of multi) (λ i lt.
     let since = bytes i lt in
-    let never : (v : ℕ) → Source offset_store shown (take since.count (at lists (offsets_lock bank))) multi v → ⊥ = λ v source.
+    let never : (v : StoredBytes) → Source stored_offsets shown (take since.count (at lists (offsets_lock bank))) multi v → ⊥ = λ v source.
     ⊎_elim
     (λ (q : shown multi ≡ Some v). let z : None ≡ Some v = sym clear ∙ q in absurd cc)
-    (λ (h : (set : SetOffset) × Has (flat_map offsets_in (take since.count (at lists (offsets_lock bank)))) set × (offset_for multi set ≡ Some v)).
+    (λ (h : (set : SetOffset) × Has (flat_map offsets_in (take since.count (at lists (offsets_lock bank)))) set × (offset_bytes_for multi set ≡ Some v)).
     let found = has_flat_map offsets_in (take since.count (at lists (offsets_lock bank))) h.0 h.1 in
     let need = upheld_has (NeedsOffsets start) lists (offsets_lock bank) found.0 k.members.offsets (has_take since.count (at lists (offsets_lock bank)) found.0 found.1) in
     let o : OffsetOf start lists h.0 = all_at (OffsetOf start lists) (offsets_in found.0) h.0 need.1 found.2 in
-    let same : h.0.multi ≡ multi = set_of multi v h.0 h.2 in
+    let same : h.0.multi ≡ multi = (offset_at multi v h.0 h.2).0 in
     let low : start.base.multi ≤ h.0.multi = given_from start lists o.recorded.by h.0.multi h.0.offset o.members k o.recorded.given in
     omega arith)
     source in
-    let none : (o : Option ℕ) → (pages_after offset_store start.base.multi shown (take since.count (at lists (offsets_lock bank)))).shows multi ≡ o → number_or_none o ≡ 0 = elim [
+    let none : (o : Option StoredBytes) → (pages_after stored_offsets start.base.multi shown (take since.count (at lists (offsets_lock bank)))).shows multi ≡ o → byte_held o i ≡ 0 = elim [
       | None ↦ λ q. refl
-      | Some v ↦ λ q. absurd (never v (shows_from offset_store start.base.multi shown multi v (take since.count (at lists (offsets_lock bank))) q))
+      | Some v ↦ λ q. absurd (never v (shows_from stored_offsets start.base.multi shown multi v (take since.count (at lists (offsets_lock bank))) q))
     ] in
-    let nothing : offset_after start shown (at lists (offsets_lock bank)) since.count multi ≡ 0 = none ((pages_after offset_store start.base.multi shown (take since.count (at lists (offsets_lock bank)))).shows multi) refl in
+    let nothing : byte_held (shows_of (offset_reading start shown) (take since.count (at lists (offsets_lock bank))) multi) i ≡ 0 = none (shows_of (offset_reading start shown) (take since.count (at lists (offsets_lock bank))) multi) refl in
     ⊎_elim
-    (λ (q : slice_index (page_bytes (c (word_page_of multi))) (word_place_of multi + i) ≡ byte_of (offset_after start shown (at lists (offsets_lock bank)) since.count multi) i). q ∙ ap (λ z. byte_of z i) nothing ∙ zero_byte i lt)
+    (λ (q : slice_index (page_bytes (c (word_page_of multi))) (word_place_of multi + i) ≡ byte_held (shows_of (offset_reading start shown) (take since.count (at lists (offsets_lock bank))) multi) i). q ∙ nothing)
     (λ (q : (slice_index (page_bytes (c (word_page_of multi))) (word_place_of multi + i) ≡ 0) × MayBeGone (offset_ring start) (at lists (offsets_lock bank)) (word_page_of multi)). q.0)
     since.shows)

@@ -1,11 +1,11 @@
 -- Each image of a bank of offsets has the offsets of recorded multixacts.
-use Rattle.std.proofs.Common.{Contains, List, None, Option, Some, [], ap, arith, cond, eq-eqb, inl, inr, length, length-append, refl, subst, sym, take, true, ℕ, ⊎_elim, ◌++◌, ◌+◌, ◌-◌, ◌/◌, ◌%◌, ◌<◌, ◌^◌, ◌∙◌, ◌∷◌, ◌≡◌, ◌≤◌, ◌⊎◌}
-use Rattle.std.specs.List.{filter, filter_map, flat_map, last_or, slice_get, slice_index}
+use Rattle.std.proofs.Common.{Contains, List, Option, Some, [], ap, arith, inr, length, length-append, refl, subst, sym, take, true, ℕ, ⊎_elim, ◌++◌, ◌+◌, ◌-◌, ◌/◌, ◌%◌, ◌<◌, ◌^◌, ◌∙◌, ◌≡◌, ◌≤◌, ◌⊎◌}
+use Rattle.std.specs.List.{filter, filter_map, flat_map, slice_get}
 use Rattle.xid_order.specs.Ids.{low_half}
-use Rattle.store_pages.specs.Layouts.{multi_before, number_in, word_page_of, word_place_of}
+use Rattle.store_pages.specs.Layouts.{multi_before, word_page_of}
 use Rattle.xid_order.specs.PageOrder.{Multis, is_cut}
 use Rattle.xid_order.specs.PageWindow.{multi_is_kept}
-use Rattle.disk_core.specs.Pages.{Pages, page_bytes}
+use Rattle.disk_core.specs.Pages.{Pages}
 use Rattle.tx_events.specs.declared.event.By.{By}
 use Rattle.tx_events.specs.declared.multi.Member.{Member}
 use Rattle.tx_events.specs.declared.multi.MultiEvent.TheVariants as multis
@@ -24,7 +24,6 @@ use Rattle.tx_core.proofs.Growing.{begins_filter_map}
 use Rattle.tx_core.proofs.Nearness.{multis_are_legal}
 use Rattle.tx_core.proofs.Rising.{made_more}
 use Rattle.xid_order.specs.Limits.{multi_stop_limit}
-use Rattle.tx_core.proofs.PageShowing.{of_number, offsets_show}
 use Rattle.tx_core.proofs.Reading.{flushed_appended}
 use Rattle.tx_core.specs.CutsFollow.{IsOffsetGone, IsTruncated}
 use Rattle.tx_core.specs.EngineInvariant.{EngineInvariant}
@@ -33,46 +32,22 @@ use Rattle.notes.specs.Lists.{Begins, at}
 use Rattle.tx_core.specs.Locks.{log_lock, offset_page, offsets_lock}
 use Rattle.tx_core.specs.MembersBeforeOffset.{NeedsOffsets, OffsetOf}
 use Rattle.tx_core.specs.MultiEntries.{SetOffset, multi_history, offsets_in}
-use Rattle.tx_core.specs.Pages.{offset_for, offset_store, pages_after}
 use Rattle.tx_core.specs.RecordsFollow.{IsGenOf, IsMultiAnnounced, NeedsCounters, NeedsNamed}
 use Rattle.tx_core.specs.SyncsBeforeForgets.{AreOffsetsSynced, IsMultiBelow, MayForget}
 use Rattle.recoverable.specs.Fit.{KeptLog, base_at, log_end}
-use Rattle.recoverable.specs.FitMultis.{byte_of, offset_at}
+use Rattle.recoverable.specs.Bytes.{StoredBytes, byte_held, byte_of, offset_byte}
 use Rattle.recoverable.specs.Laws.{LogFollows, OffsetsShownLaw}
 use Rattle.recoverable.specs.LifeBase.{LifeBase, is_multi}
-use Rattle.recoverable.specs.Images.{MayBeGone}
-use Rattle.recoverable.specs.OffsetImages.{ByteSince, CleanOffsets, OffsetsFollow, number_or_none, offset_after, offset_ring}
+use Rattle.recoverable.specs.Images.{MayBeGone, shows_of}
+use Rattle.recoverable.specs.OffsetImages.{ByteSince, CleanOffsets, OffsetsFollow, offset_reading, offset_ring}
+use Rattle.recoverable.specs.Stored.{offset_bytes_for}
 use Rattle.recoverable.proofs.FitsXact.{logged_at, may_forget}
 use Rattle.recoverable.proofs.LogBases.{base_from, life_recs, oldest_multi_grows, oldest_multi_past, recorded_split}
 use Rattle.tx_core.proofs.MultiGiven.{gen_below, one_offset, raised_from}
 use Rattle.tx_core.proofs.Room.{multis_have_room}
-use Rattle.recoverable.proofs.Offsets.{given_from, set_of}
+use Rattle.recoverable.proofs.BytesShow.{last_none, last_some, offset_at, offset_bytes_show, offset_to}
+use Rattle.recoverable.proofs.Offsets.{given_from}
 use Rattle.recoverable.proofs.Stretches.{filter_map_has, flat_map_has, get_in_beginning, get_map, has_longer, has_taken, has_within, map_get, taken_place}
-
--- the number of four bytes
-pub number_of_bytes : (bytes : List ℕ) (place n : ℕ) → ((i : ℕ) → i < 4 → slice_index bytes (place + i) ≡ byte_of n i) → number_in bytes place ≡ low_half n
-number_of_bytes bytes place n each =
-    let b0 : slice_index bytes place ≡ n % 256 = ap (λ k. slice_index bytes k) (let e : place ≡ place + 0 = omega arith in e) ∙ each 0 (omega arith) ∙ (let e : byte_of n 0 ≡ n % 256 = omega arith in e) in
-    let b1 : slice_index bytes (place + 1) ≡ n / 256 % 256 = each 1 (omega arith) ∙ (let e : byte_of n 1 ≡ n / 256 % 256 = omega arith in e) in
-    let b2 : slice_index bytes (place + 2) ≡ n / 65536 % 256 = each 2 (omega arith) ∙ (let e : byte_of n 2 ≡ n / 65536 % 256 = omega arith in e) in
-    let b3 : slice_index bytes (place + 3) ≡ n / 16777216 % 256 = each 3 (omega arith) ∙ (let e : byte_of n 3 ≡ n / 16777216 % 256 = omega arith in e) in
-    rw (b0, b1, b2, b3) (omega arith)
-
--- the last of items that are all one
-module _ {A : Type 0} where
-  pub last_all : (o : Option A) (xs : List A) (v : A) → o ≡ Some v → ((y : A) → Has xs y → y ≡ v) → last_or o xs ≡ Some v
-  last_all o [] v e each = e
-  last_all o (x ∷ xs) v e each = last_all (Some x) xs v (ap (λ z. Some z) (each x (inl refl))) (λ y k. each y (inr k))
-
-  pub last_some : (o : Option A) (xs : List A) (v : A) → Has xs v → ((y : A) → Has xs y → y ≡ v) → last_or o xs ≡ Some v
-  last_some o [] v h each = absurd h
-  last_some o (x ∷ xs) v h each = last_all (Some x) xs v (ap (λ z. Some z) (each x (inl refl))) (λ y k. each y (inr k))
-
-value_of : (multi v : ℕ) (set : SetOffset) → offset_for multi set ≡ Some v → set.offset ≡ v
-value_of multi v set e = (of_number set.multi multi set.offset v e).1
-
-offset_to : (multi : ℕ) (set : SetOffset) → set.multi ≡ multi → offset_for multi set ≡ Some set.offset
-offset_to multi set q = ap (λ b. cond b (Some set.offset) None) (eq-eqb set.multi multi q)
 
 -- an offset that was set is that of a multixact of the life
 set_given : (start : Start) (lists : List (List Entry)) (bank n : ℕ) (set : SetOffset) → EngineInvariant start lists → Has (flat_map offsets_in (take n (at lists (offsets_lock bank)))) set → OffsetOf start lists set
@@ -144,38 +119,38 @@ pub wide : (start : Start) (multi : ℕ) → start.base.multi ≤ multi_stop_lim
 wide start multi stop le = let b : multi_stop_limit start.base.oldest_multi ≤ start.base.oldest_multi + 2 ^ 31 - 2999000 = grind arith in omega arith
 
 -- an image shows what each entry list from the last sync on shows
-shows_offset : (start : Start) (lists : List (List Entry)) (log : KeptLog) (shown : ℕ → Option ℕ) (bank multi offset : ℕ) (c : Pages) → EngineInvariant start lists → IsBase start.base → LogFollows start lists log → length (made (multi_history lists)) < 2900000
+shows_offset : (start : Start) (lists : List (List Entry)) (log : KeptLog) (shown : ℕ → Option StoredBytes) (bank multi offset : ℕ) (c : Pages) → EngineInvariant start lists → IsBase start.base → LogFollows start lists log → length (made (multi_history lists)) < 2900000
     → (base_at log log.flushed).counters.oldest_multi ≤ multi → multi < next_made start.base.multi (multi_history lists) → word_page_of multi % start.banks ≡ bank → OffsetsFollow start bank shown (at lists (offsets_lock bank)) c
-    → ((n : ℕ) → ((s : ℕ) (by : By) → slice_get (at lists (offsets_lock bank)) s ≡ Some (record { by = by; kind = kinds.Sync }) → s < n) → (pages_after offset_store start.base.multi shown (take n (at lists (offsets_lock bank)))).shows multi ≡ Some offset)
-    → offset_at c multi ≡ low_half offset
-shows_offset start lists log shown bank multi offset c k is f few from below on follows each =
+    → ((n : ℕ) → ((s : ℕ) (by : By) → slice_get (at lists (offsets_lock bank)) s ≡ Some (record { by = by; kind = kinds.Sync }) → s < n) → (i : ℕ) → i < 4 → byte_held (shows_of (offset_reading start shown) (take n (at lists (offsets_lock bank))) multi) i ≡ byte_of offset i)
+    → (i : ℕ) → i < 4 → offset_byte c multi i ≡ byte_of offset i
+shows_offset start lists log shown bank multi offset c k is f few from below on follows each i lt =
     let up = oldest_multi_from start lists log f in
     let room = multis_have_room start.base (multi_history lists) is few in let window = room.0 in let near = room.1 in
     let low = is.oldest_multi in let stop = is.multi in
-    number_of_bytes (page_bytes (c (word_page_of multi))) (word_place_of multi) offset (λ i lt.
     let since : ByteSince start shown (at lists (offsets_lock bank)) c multi i = follows multi i (record { from = wide start multi stop (omega arith); to = omega arith }) (ap offsets_lock on) lt in
     ⊎_elim
-    (λ (q : slice_index (page_bytes (c (word_page_of multi))) (word_place_of multi + i) ≡ byte_of (offset_after start shown (at lists (offsets_lock bank)) since.count multi) i).
-    q ∙ ap (λ (o : Option ℕ). byte_of (number_or_none o) i) (each since.count since.synced))
-    (λ (q : (slice_index (page_bytes (c (word_page_of multi))) (word_place_of multi + i) ≡ 0) × MayBeGone (offset_ring start) (at lists (offsets_lock bank)) (word_page_of multi)).
-    absurd (not_gone start lists log bank multi k is f few from below q.1))
-    since.shows)
+    (λ (q : offset_byte c multi i ≡ byte_held (shows_of (offset_reading start shown) (take since.count (at lists (offsets_lock bank))) multi) i). q ∙ each since.count since.synced i lt)
+    (λ (q : (offset_byte c multi i ≡ 0) × MayBeGone (offset_ring start) (at lists (offsets_lock bank)) (word_page_of multi)). absurd (not_gone start lists log bank multi k is f few from below q.1))
+    since.shows
 
 -- a multixact that the life began with
-shows_base : (start : Start) (lists : List (List Entry)) (log : KeptLog) (shown : ℕ → Option ℕ) (bank multi offset : ℕ) (members : List Member) (c : Pages) → EngineInvariant start lists → IsBase start.base → CleanOffsets start shown → LogFollows start lists log → length (made (multi_history lists)) < 2900000
-    → Contains start.recorded (records.Multi multi offset members) → (base_at log log.flushed).counters.oldest_multi ≤ multi → word_page_of multi % start.banks ≡ bank → OffsetsFollow start bank shown (at lists (offsets_lock bank)) c → offset_at c multi ≡ low_half offset
+shows_base : (start : Start) (lists : List (List Entry)) (log : KeptLog) (shown : ℕ → Option StoredBytes) (bank multi offset : ℕ) (members : List Member) (c : Pages) → EngineInvariant start lists → IsBase start.base → CleanOffsets start shown → LogFollows start lists log → length (made (multi_history lists)) < 2900000
+    → Contains start.recorded (records.Multi multi offset members) → (base_at log log.flushed).counters.oldest_multi ≤ multi → word_page_of multi % start.banks ≡ bank → OffsetsFollow start bank shown (at lists (offsets_lock bank)) c → (i : ℕ) → i < 4 → offset_byte c multi i ≡ byte_of offset i
 shows_base start lists log shown bank multi offset members c k is clean f few among from on follows =
     let up = oldest_multi_from start lists log f in
     let old : multi < start.base.multi = clean.before multi offset members among in
     let next : start.base.multi ≤ next_made start.base.multi (multi_history lists) = made_more start.base.multi [] (multi_history lists) (multi_history lists, refl) in
-    shows_offset start lists log shown bank multi offset c k is f few from (omega arith) on follows (λ n synced.
-    offsets_show start lists shown (offsets_lock bank) n multi k clean.clean (omega arith)
-    ∙ last_all (shown multi) (filter_map (offset_for multi) (flat_map offsets_in (take n (at lists (offsets_lock bank))))) offset (clean.recorded multi offset members among (omega arith)) (λ y j.
-    let r = has_filter_map (offset_for multi) (flat_map offsets_in (take n (at lists (offsets_lock bank)))) y j in
+    let es : List Entry = at lists (offsets_lock bank) in
+    shows_offset start lists log shown bank multi offset c k is f few from (omega arith) on follows (λ n synced i lt.
+    ap (λ (o : Option StoredBytes). byte_held o i)
+    (offset_bytes_show start lists shown (offsets_lock bank) n multi k clean.clean (omega arith)
+    ∙ last_none (shown multi) (filter_map (offset_bytes_for multi) (flat_map offsets_in (take n es))) (λ y j.
+    let r = has_filter_map (offset_bytes_for multi) (flat_map offsets_in (take n es)) y j in
     let o = set_given start lists bank n r.0 k r.1 in
-    let same = set_of multi y r.0 r.2 in
+    let same = (offset_at multi y r.0 r.2).0 in
     let low = given_from start lists o.recorded.by r.0.multi r.0.offset o.members k o.recorded.given in
-    absurd (omega arith)))
+    omega arith))
+    ∙ clean.recorded multi offset members among (omega arith) i lt)
 
 -- the records of the base at a number from the life's start on
 pub recorded_cases : (start : Start) (lists : List (List Entry)) (log : KeptLog) (n : ℕ) (rec : Rec) → LogFollows start lists log → start.from ≤ n → Contains (base_at log n).recorded rec → Has start.recorded rec ⊎ Has (take (n - start.from) (life_recs lists)) rec
@@ -194,7 +169,7 @@ appended_gen start lists place by multi offset members k stands =
 pub life_end : (start : Start) (lists : List (List Entry)) (log : KeptLog) → LogFollows start lists log → start.from ≤ log_end log
 life_end start lists log f =
     let from = f.from in
-    let long : length log.recs ≡ length start.logged + length (life_recs lists) = ap (λ (t : List Rec). length t) f.recs ∙ length-append start.logged (life_recs lists) in
+    let long : length log.recs ≡ length f.before + length (life_recs lists) = ap (λ (t : List Rec). length t) f.recs ∙ length-append f.before (life_recs lists) in
     omega arith
 
 -- one that stands before a checkpoint before which the log was to be forgotten
@@ -212,9 +187,9 @@ recorded_below start lists before number multi offset members k begins may among
     (named, appended_gen start lists p.0 g.0.0 multi offset members k stands)
 
 -- one that was recorded before a checkpoint before which the log was to be forgotten
-shows_synced : (start : Start) (lists : List (List Entry)) (log : KeptLog) (shown : ℕ → Option ℕ) (bank number multi offset : ℕ) (members : List Member) (before : List Entry) (c : Pages) → EngineInvariant start lists → IsBase start.base → CleanOffsets start shown → LogFollows start lists log → length (made (multi_history lists)) < 2900000
+shows_synced : (start : Start) (lists : List (List Entry)) (log : KeptLog) (shown : ℕ → Option StoredBytes) (bank number multi offset : ℕ) (members : List Member) (before : List Entry) (c : Pages) → EngineInvariant start lists → IsBase start.base → CleanOffsets start shown → LogFollows start lists log → length (made (multi_history lists)) < 2900000
     → bank < start.banks → Begins before (at lists log_lock) → MayForget start lists before number → Has (take (number - start.from) (life_recs lists)) (records.Multi multi offset members)
-    → (base_at log log.flushed).counters.oldest_multi ≤ multi → word_page_of multi % start.banks ≡ bank → OffsetsFollow start bank shown (at lists (offsets_lock bank)) c → offset_at c multi ≡ low_half offset
+    → (base_at log log.flushed).counters.oldest_multi ≤ multi → word_page_of multi % start.banks ≡ bank → OffsetsFollow start bank shown (at lists (offsets_lock bank)) c → (i : ℕ) → i < 4 → offset_byte c multi i ≡ byte_of offset i
 shows_synced start lists log shown bank number multi offset members before c k is clean f few inside begins may among from on follows =
     let es : List Entry = at lists (offsets_lock bank) in
     let r = recorded_below start lists before number multi offset members k begins may among in
@@ -228,21 +203,23 @@ shows_synced start lists log shown bank number multi offset members before c k i
     ⊎_elim
     (λ (set : (caller : By) × Contains (flat_map offsets_in synced.before) (record { caller = caller; multi = multi; offset = offset })).
     let item : SetOffset = record { caller = set.0; multi = multi; offset = offset } in
-    shows_offset start lists log shown bank multi offset c k is f few from below on follows (λ n since.
+    let bytes_for : ℕ → StoredBytes = λ z i. byte_of z i in
+    let bytes : StoredBytes = λ i. byte_of offset i in
+    shows_offset start lists log shown bank multi offset c k is f few from below on follows (λ n since i lt.
     let later : sync.place < n = since sync.place sync.by sync.sync in
     let e = has_flat_map offsets_in synced.before item (contains_has (flat_map offsets_in synced.before) item set.1) in
     let stood : Has (take sync.place es) e.0 = subst (λ (t : List Entry). Has t e.0) (sym sync.front) e.1 in
     let longer : Has (flat_map offsets_in (take n es)) item = flat_map_has offsets_in (take n es) e.0 item (has_longer sync.place n es e.0 (omega arith) stood) e.2 in
-    let own : offset_for multi item ≡ Some offset = offset_to multi item refl in
-    offsets_show start lists shown (offsets_lock bank) n multi k clean.clean (omega arith)
-    ∙ last_some (shown multi) (filter_map (offset_for multi) (flat_map offsets_in (take n es))) offset (filter_map_has (offset_for multi) (flat_map offsets_in (take n es)) item offset longer own) (λ y j.
-    let r = has_filter_map (offset_for multi) (flat_map offsets_in (take n es)) y j in
+    let own : offset_bytes_for multi item ≡ Some bytes = offset_to multi item refl in
+    ap (λ (o : Option StoredBytes). byte_held o i)
+    (offset_bytes_show start lists shown (offsets_lock bank) n multi k clean.clean (omega arith)
+    ∙ last_some (shown multi) (filter_map (offset_bytes_for multi) (flat_map offsets_in (take n es))) bytes (filter_map_has (offset_bytes_for multi) (flat_map offsets_in (take n es)) item bytes longer own) (λ y j.
+    let r = has_filter_map (offset_bytes_for multi) (flat_map offsets_in (take n es)) y j in
     let o = set_given start lists bank n r.0 k r.1 in
-    let same = set_of multi y r.0 r.2 in
-    let value = value_of multi y r.0 r.2 in
-    let other : Has (multi_history lists) (multis.Gen o.recorded.by multi r.0.offset o.members) = subst (λ z. Has (multi_history lists) (multis.Gen o.recorded.by z r.0.offset o.members)) same (contains_has (multi_history lists) (multis.Gen o.recorded.by r.0.multi r.0.offset o.members) o.recorded.given) in
+    let read = offset_at multi y r.0 r.2 in
+    let other : Has (multi_history lists) (multis.Gen o.recorded.by multi r.0.offset o.members) = subst (λ z. Has (multi_history lists) (multis.Gen o.recorded.by z r.0.offset o.members)) read.0 (contains_has (multi_history lists) (multis.Gen o.recorded.by r.0.multi r.0.offset o.members) o.recorded.given) in
     let one : r.0.offset ≡ offset = one_offset start.base o.recorded.by gen.0 multi r.0.offset offset o.members members (multi_history lists) legal other made_gen in
-    sym value ∙ one)))
+    sym read.1 ∙ ap bytes_for one))))
     (λ (gone : IsOffsetGone synced.before multi).
     let entry : Has es gone.0 = has_take sync.place es gone.0 (subst (λ (t : List Entry). Has t gone.0) (sym sync.front) (contains_has synced.before gone.0 gone.2)) in
     absurd (not_gone start lists log bank multi k is f few from below (gone.1, inr (gone.0, has_contains es gone.0 entry, gone.3), gone.4)))
@@ -251,16 +228,16 @@ shows_synced start lists log shown bank number multi offset members before c k i
 -- what was recorded before the life is recorded in its base
 pub earlier_recorded : (start : Start) (lists : List (List Entry)) (log : KeptLog) (n : ℕ) (rec : Rec) → LogFollows start lists log → n ≤ start.from → Contains (base_at log n).recorded rec → Contains start.recorded rec
 earlier_recorded start lists log n rec f le c =
-    let from : start.from ≡ log.first + length start.logged = f.from in
-    let all : log.base.recorded ++ filter is_multi start.logged ≡ start.recorded = ap (λ (b : LifeBase). b.recorded) f.base in
+    let from : start.from ≡ log.first + length f.before = f.from in
+    let all : log.base.recorded ++ filter is_multi f.before ≡ start.recorded = ap (λ (b : LifeBase). b.recorded) f.base in
     subst (λ (t : List Rec). Contains t rec) all
-    (has_contains (log.base.recorded ++ filter is_multi start.logged) rec
+    (has_contains (log.base.recorded ++ filter is_multi f.before) rec
     (⊎_elim
-    (λ h. has_left log.base.recorded (filter is_multi start.logged) rec h)
+    (λ h. has_left log.base.recorded (filter is_multi f.before) rec h)
     (λ (h : Has (filter is_multi (take (n - log.first) log.recs)) rec).
     let r = has_filter is_multi (take (n - log.first) log.recs) rec h in
-    let within : Has start.logged rec = has_within start.logged (life_recs lists) (n - log.first) rec (omega arith) (subst (λ (t : List Rec). Has (take (n - log.first) t) rec) f.recs r.0) in
-    has_right log.base.recorded (filter is_multi start.logged) rec (filter_has is_multi start.logged rec within r.1))
+    let within : Has f.before rec = has_within f.before (life_recs lists) (n - log.first) rec (omega arith) (subst (λ (t : List Rec). Has (take (n - log.first) t) rec) f.recs r.0) in
+    has_right log.base.recorded (filter is_multi f.before) rec (filter_has is_multi f.before rec within r.1))
     (has_cases log.base.recorded (filter is_multi (take (n - log.first) log.recs)) rec (contains_has (base_at log n).recorded rec c))))
 
 pub offsets_shown : OffsetsShownLaw

@@ -25,6 +25,7 @@ use Rattle.tx_core.specs.Locks.{log_lock, offsets_lock}
 use Rattle.recoverable.specs.Fit.{KeptLog, base_at}
 use Rattle.recoverable.specs.FitMultis.{ShowsNoOffset}
 use Rattle.recoverable.specs.OffsetImages.{CleanOffsets, OffsetsFollow}
+use Rattle.recoverable.specs.Bytes.{StoredBytes}
 use Rattle.recoverable.specs.Laws.{IsBeginning, LogFollows, OffsetsFitLaw}
 use Rattle.recoverable.specs.LifeBase.{LifeBase, is_multi}
 use Rattle.recoverable.proofs.Checkpoints.{checkpoint_flushed, counters_at}
@@ -39,14 +40,14 @@ multi_before_life : (start : Start) (lists : List (List Entry)) (log : KeptLog) 
 multi_before_life start lists log k f le =
     let from = f.from in
     let m : ℕ = k - log.first in
-    let within : k - log.first ≤ length start.logged = omega arith in
-    let front : take (k - log.first) log.recs ≡ take (k - log.first) start.logged = ap (λ (t : List Rec). take (k - log.first) t) f.recs ∙ take-append-le (k - log.first) start.logged (life_recs lists) within in
-    let whole : (after_records log.base.counters start.logged).multi ≡ start.base.multi = ap (λ (b : LifeBase). b.counters.multi) f.base in
-    let split : after_records (after_records log.base.counters (take (k - log.first) start.logged)) (drop (k - log.first) start.logged) ≡ after_records log.base.counters start.logged
-    = sym (fold-append after_record log.base.counters (take (k - log.first) start.logged) (drop (k - log.first) start.logged)) ∙ ap (after_records log.base.counters) (take-append-drop (k - log.first) start.logged) in
-    let up = grows (λ c. c.multi) multi_up (after_records log.base.counters (take (k - log.first) start.logged)) (drop (k - log.first) start.logged) in
+    let within : k - log.first ≤ length f.before = omega arith in
+    let front : take (k - log.first) log.recs ≡ take (k - log.first) f.before = ap (λ (t : List Rec). take (k - log.first) t) f.recs ∙ take-append-le (k - log.first) f.before (life_recs lists) within in
+    let whole : (after_records log.base.counters f.before).multi ≡ start.base.multi = ap (λ (b : LifeBase). b.counters.multi) f.base in
+    let split : after_records (after_records log.base.counters (take (k - log.first) f.before)) (drop (k - log.first) f.before) ≡ after_records log.base.counters f.before
+    = sym (fold-append after_record log.base.counters (take (k - log.first) f.before) (drop (k - log.first) f.before)) ∙ ap (after_records log.base.counters) (take-append-drop (k - log.first) f.before) in
+    let up = grows (λ c. c.multi) multi_up (after_records log.base.counters (take (k - log.first) f.before)) (drop (k - log.first) f.before) in
     subst (λ (t : List Rec). (after_records log.base.counters t).multi ≤ start.base.multi) (sym front)
-    (subst (λ n. (after_records log.base.counters (take (k - log.first) start.logged)).multi ≤ n) (ap (λ (c : Counters). c.multi) split ∙ whole) up)
+    (subst (λ n. (after_records log.base.counters (take (k - log.first) f.before)).multi ≤ n) (ap (λ (c : Counters). c.multi) split ∙ whole) up)
 
 -- what was recorded in the life's base, or among its records below the flushed number, is recorded in the base there
 recorded_start : (start : Start) (lists : List (List Entry)) (log : KeptLog) (rec : Rec) → LogFollows start lists log → Contains start.recorded rec → Contains (base_at log log.flushed).recorded rec
@@ -66,7 +67,7 @@ recorded_flushed start lists log place by multi offset members f stands below =
     (has_right start.recorded (filter is_multi (take (log.flushed - start.from) (life_recs lists))) (records.Multi multi offset members)
     (filter_has is_multi (take (log.flushed - start.from) (life_recs lists)) (records.Multi multi offset members) among refl)))
 
-no_other : (start : Start) (lists : List (List Entry)) (shown : ℕ → Option ℕ) (log : KeptLog) (bank n : ℕ) (c : Pages) → EngineInvariant start lists → IsBase start.base → CleanOffsets start shown → LogFollows start lists log → IsBeginning start lists n
+no_other : (start : Start) (lists : List (List Entry)) (shown : ℕ → Option StoredBytes) (log : KeptLog) (bank n : ℕ) (c : Pages) → EngineInvariant start lists → IsBase start.base → CleanOffsets start shown → LogFollows start lists log → IsBeginning start lists n
     → OffsetsFollow start bank shown (at lists (offsets_lock bank)) c → ShowsNoOffset start.banks bank (base_at log log.flushed).recorded (base_at log log.flushed).counters.oldest_multi (base_at log (n + 1)).counters.multi c
 no_other start lists shown log bank n c k is clean f beginning follows multi full from below never on =
     let up = oldest_multi_from start lists log f in
@@ -87,7 +88,7 @@ no_other start lists shown log bank n c k is clean f beginning follows multi ful
     beginning))
     (λ (old : multi < start.base.multi).
     no_stray_offset start lists shown bank multi c k
-    (clean.other multi (omega arith) old (λ offset members h. never offset members (recorded_start start lists log (records.Multi multi offset members) f h)))
+    (clean.other multi full (omega arith) old (λ offset members h. never offset members (recorded_start start lists log (records.Multi multi offset members) f h)))
     old
     (λ i lt. follows multi i (record { from = wide start multi stop (omega arith); to = omega arith }) (ap offsets_lock on) lt))
     (le_or_over start.base.multi multi)

@@ -1,5 +1,7 @@
 pub mod LifeBase
+pub mod Bytes
 pub mod Images
+pub mod Stored
 pub mod XactImages
 pub mod Fit
 pub mod FitMultis
@@ -7,3 +9,5 @@ pub mod Volumes
 pub mod OffsetImages
 pub mod MemberImages
 pub mod Laws
+pub mod Whole
+pub mod WorkedLife

@@ -1,43 +1,29 @@
 -- What a crash leaves of a bank of offsets, byte by byte, since a number of four bytes may be torn.
-use Rattle.std.specs.Prelude.{◌≡◌, ℕ, ◌+◌, ◌^◌, ◌<◌, ◌≤◌, Contains, List, take, slice_index, Option, Some, None}
-use Rattle.store_pages.specs.Layouts.{multi_before, word_page_of, word_place_of}
+use Rattle.std.specs.Prelude.{◌≡◌, ℕ, ◌+◌, ◌^◌, ◌<◌, ◌≤◌, Contains, List, Option, None}
+use Rattle.xid_order.specs.Ids.{IsFullMulti}
+use Rattle.store_pages.specs.Layouts.{multi_before, word_page_of}
 use Rattle.xid_order.specs.PageOrder.{Multis}
-use Rattle.disk_core.specs.Pages.{Pages, page_bytes}
+use Rattle.disk_core.specs.Pages.{Pages}
 use Rattle.tx_core.specs.declared.entry.Entry.{Entry}
 use Rattle.tx_core.specs.declared.entry.Start.{Start}
 use Rattle.tx_core.specs.CleanStart.{IsClearFrom}
 use Rattle.tx_core.specs.Locks.{offset_page, offsets_lock, offsets_lock_of}
 use Rattle.tx_core.specs.MultiEntries.{SetOffset}
-use Rattle.tx_core.specs.Pages.{offset_store}
 use Rattle.tx_events.specs.declared.multi.Member.{Member}
 use Rattle.tx_events.specs.declared.record.Rec.TheVariants as records
-use Rattle.recoverable.specs.FitMultis.{byte_of}
-use Rattle.recoverable.specs.Images.{PageRing, Reading, Since, shows_of}
-
-abbrev pub number_or_none : Option ℕ → ℕ
-number_or_none None = 0
-number_or_none (Some n) = n
-
--- the i-th byte of an offset
-abbrev pub wanted_byte : ℕ → Option ℕ → Option ℕ
-wanted_byte i o = Some (byte_of (number_or_none o) i)
+use Rattle.recoverable.specs.Bytes.{StoredBytes, byte_held, byte_of, offset_byte, wanted_byte}
+use Rattle.recoverable.specs.Images.{PageRing, Reading, Since}
+use Rattle.recoverable.specs.Stored.{stored_offsets}
 
 abbrev pub offset_ring : Start → PageRing
 offset_ring start = record { shape = Multis; per_page = 2048; pages = 2097152; kept = offset_page (multi_before start.base.oldest_multi) }
 
-abbrev pub offset_reading : Start → (ℕ → Option ℕ) → Reading SetOffset ℕ
-offset_reading start shown = record { store = offset_store; first = start.base.multi; shown = shown; ring = offset_ring start }
-
-abbrev pub offset_after : Start → (ℕ → Option ℕ) → List Entry → ℕ → ℕ → ℕ
-offset_after start shown es n multi = number_or_none (shows_of (offset_reading start shown) (take n es) multi)
-
--- the i-th byte at the place of a multixact's offset
-abbrev pub offset_byte : Pages → ℕ → ℕ → ℕ
-offset_byte c multi i = slice_index (page_bytes (c (word_page_of multi))) (word_place_of multi + i)
+abbrev pub offset_reading : Start → (ℕ → Option StoredBytes) → Reading SetOffset StoredBytes
+offset_reading start shown = record { store = stored_offsets; first = start.base.multi; shown = shown; ring = offset_ring start }
 
 -- This byte of the place of a multixact has what it had behind some entry, and since the last sync, or is 0, where the
 -- page was cut.
-abbrev pub ByteSince : Start → (ℕ → Option ℕ) → List Entry → Pages → ℕ → ℕ → Type 0
+abbrev pub ByteSince : Start → (ℕ → Option StoredBytes) → List Entry → Pages → ℕ → ℕ → Type 0
 ByteSince start shown es c multi i = Since (offset_reading start shown) (wanted_byte i) es multi (word_page_of multi) (offset_byte c multi i)
 
 -- of each stored number one multixact: up to 2^30 past the base's next one, and 2^32 in all
@@ -46,14 +32,14 @@ pub record IsNearMulti (start : Start) (multi : ℕ) : Type 0 where
   pub to : multi < start.base.multi + 2 ^ 30
 
 -- A crash left a bank of offsets so.
-abbrev pub OffsetsFollow : Start → ℕ → (ℕ → Option ℕ) → List Entry → Pages → Type 0
+abbrev pub OffsetsFollow : Start → ℕ → (ℕ → Option StoredBytes) → List Entry → Pages → Type 0
 OffsetsFollow start bank shown es c = (multi i : ℕ) → IsNearMulti start multi → offsets_lock_of start multi ≡ offsets_lock bank → i < 4 → ByteSince start shown es c multi i
 
 -- what the pages of offsets show when a life begins: of the multixacts from the oldest one on the recorded ones
 -- have their offsets, and the others and those that come next have none
-pub record CleanOffsets (start : Start) (shown : ℕ → Option ℕ) : Type 0 where
+pub record CleanOffsets (start : Start) (shown : ℕ → Option StoredBytes) : Type 0 where
   pub before : (multi offset : ℕ) (members : List Member) → Contains start.recorded (records.Multi multi offset members) → multi < start.base.multi
-  pub recorded : (multi offset : ℕ) (members : List Member) → Contains start.recorded (records.Multi multi offset members) → start.base.oldest_multi ≤ multi → shown multi ≡ Some offset
-  pub other : (multi : ℕ) → start.base.oldest_multi ≤ multi → multi < start.base.multi
+  pub recorded : (multi offset : ℕ) (members : List Member) → Contains start.recorded (records.Multi multi offset members) → start.base.oldest_multi ≤ multi → (i : ℕ) → i < 4 → byte_held (shown multi) i ≡ byte_of offset i
+  pub other : (multi : ℕ) → IsFullMulti multi → start.base.oldest_multi ≤ multi → multi < start.base.multi
       → ((offset : ℕ) (members : List Member) → Contains start.recorded (records.Multi multi offset members) → ⊥) → shown multi ≡ None
   pub clean : IsClearFrom start.base.multi shown

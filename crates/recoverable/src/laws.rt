@@ -1,4 +1,9 @@
 ghost use Rattle.recoverable.specs.Laws.{ListFitsLaw, MayBeginLaw, XactFitsLaw, OffsetsShownLaw, OffsetsFitLaw, MembersFitLaw, NoStrayOffset};
+ghost use Rattle.recoverable.specs.Stored.{OffsetBytesShow, MemberBytesShow};
+ghost use Rattle.recoverable.specs.Whole.{ImageFitsLaw, LogBegins, VolumesFitLaw};
+ghost use Rattle.recoverable.specs.WorkedLife.{AreRefused, IsWorked};
+
+use disk_core::{LogDisk, PageDisk};
 
 /// A checkpoint before which the log was to be forgotten is on disk, with counters that are the log's behind it.
 pub fn may_begin()
@@ -37,4 +42,33 @@ pub fn members_fit()
 /// A multixact that the life began with and that isn't recorded has no offset in any image.
 pub fn no_stray_offset()
     ensures { NoStrayOffset }
+{}
+
+/// What the pages of offsets and members hold of a number are the bytes that were set last, over whatever the life found
+/// there.
+pub fn bytes_show()
+    ensures offsets { OffsetBytesShow }
+    ensures members { MemberBytesShow }
+{}
+
+/// Where the invariant holds and the life began clean and was short, what a crash left of all volumes fits, if the log's
+/// image opens to its list and each bank's image shows its own: at whatever moment of its own each of them was left.
+pub fn image_fits()
+    ensures { ImageFitsLaw }
+{}
+
+/// So the volumes fit, over any disks.
+pub fn volumes_fit<L: LogDisk, P: PageDisk>()
+    ensures { VolumesFitLaw L.images P.images }
+{}
+
+/// The log behind a recovery is as the next life's laws want it, before that life's first entry.
+pub fn log_begins()
+    ensures { LogBegins }
+{}
+
+/// A worked life: what a crash left of a small log and its pages fits, and wrong volumes don't.
+pub fn worked_life()
+    ensures fits { IsWorked }
+    ensures wrong { AreRefused }
 {}

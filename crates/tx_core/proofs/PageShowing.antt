@@ -30,17 +30,17 @@ zero_kind _ page g = absurd cc
 
 module _ {I V : Type 0} where
   -- what the items say of an id, the last of them, or what was shown at the start
-  abbrev read_of : Store I V → (ℕ → Option V) → List Entry → ℕ → Option V
+  abbrev pub read_of : Store I V → (ℕ → Option V) → List Entry → ℕ → Option V
   read_of s shown es x = last_or (shown x) (filter_map (s.value_for x) (flat_map s.items_of es))
 
   -- what an item sets lies on a page that was made before it
-  abbrev ArePlaced : Store I V → ℕ → List Entry → Type 0
+  abbrev pub ArePlaced : Store I V → ℕ → List Entry → Type 0
   ArePlaced s first es = (p : ℕ) (e : Entry) (i : I) (x : ℕ) (v : V) → slice_get es p ≡ Some e → Has (s.items_of e) i → s.value_for x i ≡ Some v → WasMade (take p es) (s.page_of first) (s.page_of x)
 
   -- a store of which a life begins with nothing on the pages past the first id's, as far as ids are asked for
-  record IsStore (s : Store I V) (first : ℕ) (shown : ℕ → Option V) (Asked : ℕ → Type 0) : Type 0 where
-    clean : (x : ℕ) → Asked x → s.page_of first < s.page_of x → shown x ≡ None
-    apart : (e : Entry) (page : ℕ) → zeroed_in e.kind ≡ Some page → s.items_of e ≡ []
+  pub record IsStore (s : Store I V) (first : ℕ) (shown : ℕ → Option V) (Asked : ℕ → Type 0) : Type 0 where
+    pub clean : (x : ℕ) → Asked x → s.page_of first < s.page_of x → shown x ≡ None
+    pub apart : (e : Entry) (page : ℕ) → zeroed_in e.kind ≡ Some page → s.items_of e ≡ []
 
   -- what is kept of the pages
   record Kept (s : Store I V) (first : ℕ) (shown : ℕ → Option V) (Asked : ℕ → Type 0) (es : List Entry) (pages : Pages V) : Type 0 where
@@ -119,13 +119,13 @@ module _ {I V : Type 0} where
   placed_front s first n es placed p e i x v g h read =
       subst (λ (t : List Entry). WasMade t (s.page_of first) (s.page_of x)) (sym (taken_twice n p es e g)) (placed p e i x v (get_of_take n p es e g) h read)
 
-  show_front : (s : Store I V) (first : ℕ) (shown : ℕ → Option V) (Asked : ℕ → Type 0) → IsStore s first shown Asked → (es : List Entry) → ArePlaced s first es
+  pub show_front : (s : Store I V) (first : ℕ) (shown : ℕ → Option V) (Asked : ℕ → Type 0) → IsStore s first shown Asked → (es : List Entry) → ArePlaced s first es
       → (n x : ℕ) → Asked x → (pages_after s first shown (take n es)).shows x ≡ read_of s shown (take n es) x
   show_front s first shown Asked is es placed n x asked = (kept_all s first shown Asked is (take n es) (placed_front s first n es placed)).show x asked
 
 -- an entry that makes a page sets nothing
 module _ {I : Type 0} where
-  zero_sets_none : (item_of : Change → Option I) (e : Entry) (page : ℕ) → zeroed_in e.kind ≡ Some page → filter_map item_of (changes_in e.kind) ≡ []
+  pub zero_sets_none : (item_of : Change → Option I) (e : Entry) (page : ℕ) → zeroed_in e.kind ≡ Some page → filter_map item_of (changes_in e.kind) ≡ []
   zero_sets_none item_of e page g = ap (λ (kind : Kind). filter_map item_of (changes_in kind)) (zero_kind e.kind page g)
 
 -- a value that is read of a number is one that was set of it
@@ -152,10 +152,10 @@ states_placed start lists lock k = all_placed xact_store start.base.next (λ m. 
 parents_placed : (start : Start) (lists : List (List Entry)) (lock : ℕ) → EngineInvariant start lists → ArePlaced subtrans_store start.base.next (at lists lock)
 parents_placed start lists lock k = all_placed subtrans_store start.base.next (λ l. l.id) (λ l. l.parent) (at lists lock) (λ x l. refl) (λ p e g. (k.pages.changes.each lock p e g).links)
 
-offsets_placed : (start : Start) (lists : List (List Entry)) (lock : ℕ) → EngineInvariant start lists → ArePlaced offset_store start.base.multi (at lists lock)
+pub offsets_placed : (start : Start) (lists : List (List Entry)) (lock : ℕ) → EngineInvariant start lists → ArePlaced offset_store start.base.multi (at lists lock)
 offsets_placed start lists lock k = all_placed offset_store start.base.multi (λ s. s.multi) (λ s. s.offset) (at lists lock) (λ x s. refl) (λ p e g. (k.pages.changes.each lock p e g).offsets)
 
-members_placed : (start : Start) (lists : List (List Entry)) (lock : ℕ) → EngineInvariant start lists → ArePlaced member_store start.base.offset (at lists lock)
+pub members_placed : (start : Start) (lists : List (List Entry)) (lock : ℕ) → EngineInvariant start lists → ArePlaced member_store start.base.offset (at lists lock)
 members_placed start lists lock k = all_placed member_store start.base.offset (λ s. s.offset) (λ s. s.member) (at lists lock) (λ x s. refl) (λ p e g. (k.pages.changes.each lock p e g).slots)
 
 pub pages_show : PagesShow

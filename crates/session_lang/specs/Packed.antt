@@ -1,16 +1,29 @@
 -- The items of a script in short, and what stands apart.
-use Rattle.std.specs.Prelude.{ℕ, ◌+◌, ◌<◌, ◌≤◌, List, drop, get_or, length, map, take}
+use Rattle.std.specs.Prelude.{ℕ, ◌+◌, ◌*◌, ◌^◌, ◌<◌, ◌≤◌, List, drop, get_or, length, map, take}
 use Rattle.std.specs.List.{All}
+use Rattle.xid_order.specs.Ids.{IsFullMulti, IsXidNumber}
 use Rattle.tx_model.specs.declared.command.Command.{Command}
 use Rattle.tx_model.specs.declared.command.Command.TheVariants as commands
+use Rattle.tx_model.specs.declared.report.DumpOf.{DumpOf}
+use Rattle.tx_model.specs.declared.report.DumpOf.TheVariants as dumps
+use Rattle.session_lang.specs.declared.packed.Apart.{Apart}
+use Rattle.session_lang.specs.declared.packed.DumpKind.{DumpKind}
+use Rattle.session_lang.specs.declared.packed.DumpKind.TheVariants as kinds
+use Rattle.session_lang.specs.declared.packed.Halves.{Halves}
+use Rattle.session_lang.specs.declared.packed.IdCommand.{IdCommand}
+use Rattle.session_lang.specs.declared.packed.IdCommand.TheVariants as ids
 use Rattle.session_lang.specs.declared.packed.NamedCommand.{NamedCommand}
 use Rattle.session_lang.specs.declared.packed.NamedCommand.TheVariants as named
 use Rattle.session_lang.specs.declared.packed.PackedItem.{PackedItem}
 use Rattle.session_lang.specs.declared.packed.PackedItem.TheVariants as packs
 use Rattle.session_lang.specs.declared.packed.PlainCommand.{PlainCommand}
 use Rattle.session_lang.specs.declared.packed.PlainCommand.TheVariants as plain
+use Rattle.session_lang.specs.declared.packed.Span.{Span}
 use Rattle.session_lang.specs.declared.script.Item.{Item}
 use Rattle.session_lang.specs.declared.script.Item.TheVariants as items
+
+abbrev pub whole : Halves → ℕ
+whole h = h.high * 2 ^ 32 + h.low
 
 abbrev pub plain_command : PlainCommand → Command
 plain_command plain.Begin = commands.Begin
@@ -29,25 +42,54 @@ named_command named.DropSnap name number = commands.DropSnap name
 named_command named.See name number = commands.See name (record { number = number })
 named_command named.SeeMulti name number = commands.SeeMulti name (record { number = number })
 
--- the item that is meant, beside the bytes of names and the items in full
-abbrev pub unpacked : List ℕ → List Item → PackedItem → Item
-unpacked names full (packs.Plain session command) = items.Run session (plain_command command)
-unpacked names full (packs.Named session command size at number) = items.Run session (named_command command (take size (drop at names)) number)
-unpacked names full (packs.Did session x) = items.Run session (commands.Did x)
-unpacked names full packs.Round = items.Round
-unpacked names full packs.Checkpoint = items.Checkpoint
-unpacked names full (packs.Crash how) = items.Crash how
-unpacked names full (packs.InFull at) = get_or full at items.Round
+abbrev pub id_command : IdCommand → ℕ → Command
+id_command ids.Status number = commands.Status number
+id_command ids.Freeze number = commands.Freeze number
+id_command ids.MultiFreeze number = commands.MultiFreeze number
 
--- what stands apart is there
-abbrev pub IsPacked : List ℕ → List Item → PackedItem → Type 0
-IsPacked names full (packs.Named session command size at number) = (size ≤ 16) × (at + size ≤ length names)
-IsPacked names full (packs.InFull at) = at < length full
-IsPacked names full _ = Unit {0}
+abbrev pub IsIdOf : IdCommand → ℕ → Type 0
+IsIdOf ids.Status number = IsXidNumber number
+IsIdOf ids.Freeze number = IsXidNumber number
+IsIdOf ids.MultiFreeze number = IsFullMulti number
+
+abbrev pub dump_of : DumpKind → ℕ → DumpOf
+dump_of kinds.Log page = dumps.Log
+dump_of kinds.Xact page = dumps.Xact page
+dump_of kinds.Subtrans page = dumps.Subtrans page
+dump_of kinds.Offsets page = dumps.Offsets page
+dump_of kinds.Members page = dumps.Members page
+
+abbrev pub dump_item : DumpOf → Span → Item
+dump_item what span = items.Dump what (whole span.at) span.length
+
+abbrev pub no_span : Span
+no_span = record { at = record { high = 0; low = 0 }; length = 0 }
+
+-- the item that is meant
+abbrev pub unpacked : Apart → PackedItem → Item
+unpacked apart (packs.Plain session command) = items.Run session (plain_command command)
+unpacked apart (packs.Named session command size at number) =
+    items.Run session (named_command command (take size (drop at apart.names.items)) number)
+unpacked apart (packs.Did session x) = items.Run session (commands.Did x)
+unpacked apart (packs.OfId session command id) = items.Run session (id_command command (whole id))
+unpacked apart (packs.Multi session at count) =
+    items.Run session (commands.Multi (take count (drop at apart.members.items)))
+unpacked apart packs.Round = items.Round
+unpacked apart packs.Checkpoint = items.Checkpoint
+unpacked apart (packs.Crash how) = items.Crash how
+unpacked apart (packs.Dump kind page at) = dump_item (dump_of kind page) (get_or apart.spans.items at no_span)
+
+-- what stands apart is there, and an id is one
+abbrev pub IsPacked : Apart → PackedItem → Type 0
+IsPacked apart (packs.Named session command size at number) = (size ≤ 16) × (at + size ≤ length apart.names.items)
+IsPacked apart (packs.OfId session command id) = IsIdOf command (whole id)
+IsPacked apart (packs.Multi session at count) = at + count ≤ length apart.members.items
+IsPacked apart (packs.Dump kind page at) = at < length apart.spans.items
+IsPacked apart _ = Unit {0}
 
 -- the items of a list in short
-abbrev pub unpacked_all : List ℕ → List Item → List PackedItem → List Item
-unpacked_all names full packed = map (unpacked names full) packed
+abbrev pub unpacked_all : Apart → List PackedItem → List Item
+unpacked_all apart packed = map (unpacked apart) packed
 
-abbrev pub ArePacked : List ℕ → List Item → List PackedItem → Type 0
-ArePacked names full packed = All (IsPacked names full) packed
+abbrev pub ArePacked : Apart → List PackedItem → Type 0
+ArePacked apart packed = All (IsPacked apart) packed

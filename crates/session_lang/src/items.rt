@@ -1,25 +1,29 @@
 //! The items of a script, in memory in proportion to its text.
 ghost use Rattle.std.specs.Prelude.{◌≡◌, ◌≤◌, ◌↔◌, [], ◌∷◌, ◌++◌, IfOk, OnOk, drop, get_or, length, slice_get, take, true};
 ghost use Rattle.session_lang.specs.declared.script.Item.TheVariants as items;
-ghost use Rattle.session_lang.specs.Packed.{named_command, plain_command};
+ghost use Rattle.tx_model.specs.declared.command.Command.TheVariants as commands;
+ghost use Rattle.session_lang.specs.Packed.{IsIdOf, id_command, named_command, plain_command};
 ghost use Rattle.session_lang.specs.Plain.{IsInRange};
 ghost use Rattle.session_lang.specs.Rounds.{session_of};
 ghost use Rattle.session_lang.specs.Script.{item_of};
 ghost use Rattle.tx_events.specs.Names.{is_name};
 
-use crate::packed::{NamedCommand, PackedItem, PlainCommand, packed_session, unpack};
+use crate::packed::{
+    Apart, Halves, IdCommand, NamedCommand, PackedItem, PlainCommand, Span, dump_parts,
+    packed_session, unpack,
+};
 use crate::script::Item;
 use script_lines::Directive;
 use std::alloc::Global;
 use std::marker::Model;
-use tx_model::{Command, Memory, Name};
+use tx_model::{Command, DumpOf, Memory, Name, PairList};
 
-/// The items of a script, in order: twelve bytes for most, and the bytes of their names. A contract sees the list of them.
+/// The items of a script, in order: twelve bytes for each, the bytes of its name, eight for each of its members, and
+/// twelve more for a dump. That is at most twice the text of any line. A contract sees the list of them.
 #[derive(Drop)]
 pub struct ItemList {
     packed: Vec<PackedItem>,
-    names: Vec<u8>,
-    full: Vec<Item>,
+    apart: Apart,
 }
 
 impl Model for ItemList {
@@ -29,17 +33,16 @@ impl Model for ItemList {
 
     ghost Value = { List Item };
 
-    ghost view = { λ a. unpacked_all a.names.items a.full.items a.packed.items };
+    ghost view = { λ a. unpacked_all a.apart a.packed.items };
 
-    ghost invariant = { λ a. ArePacked a.names.items a.full.items a.packed.items };
+    ghost invariant = { λ a. ArePacked a.apart a.packed.items };
 }
 
 /// A part of a script's items. A contract sees the list of them.
 #[derive(Drop)]
 pub struct Items<'a> {
     packed: &'a [PackedItem],
-    names: &'a [u8],
-    full: &'a [Item],
+    apart: &'a Apart,
 }
 
 impl<'a> Model for Items<'a> {
@@ -49,9 +52,9 @@ impl<'a> Model for Items<'a> {
 
     ghost Value = { List Item };
 
-    ghost view = { λ a. unpacked_all a.names.now a.full.now a.packed.now };
+    ghost view = { λ a. unpacked_all a.apart.now a.packed.now };
 
-    ghost invariant = { λ a. ArePacked a.names.now a.full.now a.packed.now };
+    ghost invariant = { λ a. ArePacked a.apart.now a.packed.now };
 }
 
 /// A place in 32 bits. A script has fewer bytes than that, so none is refused.
@@ -71,8 +74,11 @@ impl ItemList {
     {
         ItemList {
             packed: Vec::new(alloc),
-            names: Vec::new(alloc),
-            full: Vec::new(alloc),
+            apart: Apart {
+                names: Vec::new(alloc),
+                members: Vec::new(alloc),
+                spans: Vec::new(alloc),
+            },
         }
     }
 
@@ -82,19 +88,22 @@ impl ItemList {
     {
         Items {
             packed: self.packed.as_slice(),
-            names: self.names.as_slice(),
-            full: self.full.as_slice(),
+            apart: &self.apart,
         }
     }
 
-    /// Adds an item in full.
-    fn push_in_full(&mut self, item: Item) -> Result<(), Memory>
-        ensures { OnOk result (self.new ≡ self.old ++ item ∷ []) }
-    {
-        let at = place_of(self.full.len())?;
-        self.full.push(item)?;
-        self.packed.push(PackedItem::InFull { at })?;
-        Ok(())
+    /// How many bytes the items take, by count.
+    #[cfg(test)]
+    pub fn bytes_kept(&self) -> usize {
+        let Apart {
+            names,
+            members,
+            spans,
+        } = &self.apart;
+        (self.packed.len().saturating_mul(size_of::<PackedItem>()))
+            .saturating_add(names.len())
+            .saturating_add(members.len().saturating_mul(size_of::<tx_model::Pair>()))
+            .saturating_add(spans.len().saturating_mul(size_of::<Span>()))
     }
 
     /// Adds a command without arguments.
@@ -118,14 +127,57 @@ impl ItemList {
             ≡ self.old ++ items.Run session (named_command command name.now number) ∷ []) }
     {
         let bytes = name.items();
-        let at = place_of(self.names.len())?;
-        self.names.extend_from_slice(bytes)?;
+        let at = place_of(self.apart.names.len())?;
+        self.apart.names.extend_from_slice(bytes)?;
         self.packed.push(PackedItem::Named {
             session,
             command,
             length: bytes.len() as u8,
             at,
             number,
+        })?;
+        Ok(())
+    }
+
+    /// Adds a command of this id in full.
+    fn push_id(&mut self, session: u8, command: IdCommand, number: u64) -> Result<(), Memory>
+        requires { IsIdOf command number }
+        ensures { OnOk result (self.new ≡ self.old ++ items.Run session (id_command command number) ∷ []) }
+    {
+        self.packed.push(PackedItem::OfId {
+            session,
+            command,
+            id: Halves::of(number),
+        })?;
+        Ok(())
+    }
+
+    /// Adds a command that makes a multixact of these members.
+    fn push_multi(&mut self, session: u8, members: &PairList) -> Result<(), Memory>
+        ensures { OnOk result (self.new ≡ self.old ++ items.Run session (commands.Multi members.now) ∷ []) }
+    {
+        let pairs = members.items();
+        let at = place_of(self.apart.members.len())?;
+        let count = place_of(pairs.len())?;
+        self.apart.members.extend_from_slice(pairs)?;
+        self.packed.push(PackedItem::Multi { session, at, count })?;
+        Ok(())
+    }
+
+    /// Adds a dump.
+    fn push_dump(&mut self, what: DumpOf, at: u64, length: u32) -> Result<(), Memory>
+        ensures { OnOk result (self.new ≡ self.old ++ items.Dump what at length ∷ []) }
+    {
+        let (kind, page) = dump_parts(what);
+        let place = place_of(self.apart.spans.len())?;
+        self.apart.spans.push(Span {
+            at: Halves::of(at),
+            length,
+        })?;
+        self.packed.push(PackedItem::Dump {
+            kind,
+            page,
+            at: place,
         })?;
         Ok(())
     }
@@ -165,10 +217,14 @@ impl ItemList {
                 self.packed.push(PackedItem::Did { session, x })?;
                 Ok(())
             }
-            command => self.push_in_full(Item::Run {
-                session: u32::from(session),
-                command,
-            }),
+            Command::Status { x } => self.push_id(session, IdCommand::Status, x.number()),
+            Command::Multi { members } => self.push_multi(session, &members),
+            Command::Freeze { oldest } => {
+                self.push_id(session, IdCommand::Freeze, oldest.number())
+            }
+            Command::MultiFreeze { multi } => {
+                self.push_id(session, IdCommand::MultiFreeze, multi.number())
+            }
         }
     }
 
@@ -181,7 +237,7 @@ impl ItemList {
             Directive::Checkpoint => PackedItem::Checkpoint,
             Directive::Crash { how } => PackedItem::Crash { how },
             Directive::Dump { what, at, length } => {
-                return self.push_in_full(Item::Dump { what, at, length });
+                return self.push_dump(what, at, length);
             }
         };
         self.packed.push(packed)?;
@@ -209,7 +265,7 @@ impl<'a> Items<'a> {
         ensures { IfOk result (λ item. item ≡ slice_get self.now place) }
     {
         match self.packed.get(place) {
-            Some(packed) => Ok(Some(unpack(self.names, self.full, packed)?)),
+            Some(packed) => Ok(Some(unpack(self.apart, packed)?)),
             None => Ok(None),
         }
     }
@@ -219,7 +275,7 @@ impl<'a> Items<'a> {
         ensures { result ≡ session_of (get_or self.now place items.Round) }
     {
         match self.packed.get(place) {
-            Some(packed) => packed_session(self.names, self.full, packed),
+            Some(packed) => packed_session(packed),
             None => None,
         }
     }
@@ -231,8 +287,7 @@ impl<'a> Items<'a> {
     {
         Items {
             packed: &self.packed[..count],
-            names: self.names,
-            full: self.full,
+            apart: self.apart,
         }
     }
 
@@ -243,8 +298,7 @@ impl<'a> Items<'a> {
     {
         Items {
             packed: &self.packed[count..],
-            names: self.names,
-            full: self.full,
+            apart: self.apart,
         }
     }
 }

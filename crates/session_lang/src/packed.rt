@@ -1,11 +1,15 @@
-//! An item of a script in twelve bytes.
+//! An item of a script in twelve bytes, and what stands apart.
 ghost use Rattle.std.specs.Prelude.{◌≡◌, IfOk};
-ghost use Rattle.session_lang.specs.Packed.{IsPacked, named_command, plain_command, unpacked};
+ghost use Rattle.xid_order.specs.Ids.{IsFullMulti, IsXidNumber};
+ghost use Rattle.session_lang.specs.Packed.{IsIdOf, IsPacked, dump_of, id_command, named_command, plain_command};
+ghost use Rattle.session_lang.specs.Packed.{unpacked, whole};
+ghost use Rattle.session_lang.specs.declared.packed.Apart.{Apart};
 ghost use Rattle.session_lang.specs.Rounds.{session_of};
 
 use crate::script::Item;
-use tx_model::{Command, Copied, How, Memory, Name};
-use xid_order::{MultiId, Xid};
+use std::alloc::Global;
+use tx_model::{Command, DumpOf, How, Memory, Name, Pair, PairList, Sequence};
+use xid_order::{FullMulti, FullXid, MultiId, Xid};
 
 /// A command without arguments.
 #[derive(Clone, Copy)]
@@ -30,15 +34,46 @@ pub enum NamedCommand {
     SeeMulti,
 }
 
-/// An item in short. What has no room in it stands apart: a name from place `at` on among the bytes of names, and an item
-/// with members, with a number of 64 bits or with a dump's place at `at` among the items in full.
+/// A command of an id in full.
+#[derive(Clone, Copy)]
+pub enum IdCommand {
+    Status,
+    Freeze,
+    MultiFreeze,
+}
+
+/// What a dump shows bytes of, but for the page.
+#[derive(Clone, Copy)]
+pub enum DumpKind {
+    Log,
+    Xact,
+    Subtrans,
+    Offsets,
+    Members,
+}
+
+/// A number of 64 bits in two halves, which may stand at any multiple of four bytes.
+#[derive(Clone, Copy)]
+pub struct Halves {
+    pub high: u32,
+    pub low: u32,
+}
+
+/// `length` bytes from place `at` on.
+#[derive(Clone, Copy)]
+pub struct Span {
+    pub at: Halves,
+    pub length: u32,
+}
+
+/// An item in short. What has no room in it stands apart, from place `at` on.
 #[derive(Clone, Copy)]
 pub enum PackedItem {
     Plain {
         session: u8,
         command: PlainCommand,
     },
-    /// `number` is 0 where the command has none.
+    /// `length` bytes are the name. `number` is 0 where the command has none.
     Named {
         session: u8,
         command: NamedCommand,
@@ -50,18 +85,88 @@ pub enum PackedItem {
         session: u8,
         x: Xid,
     },
+    OfId {
+        session: u8,
+        command: IdCommand,
+        id: Halves,
+    },
+    Multi {
+        session: u8,
+        at: u32,
+        count: u32,
+    },
     Round,
     Checkpoint,
     Crash {
         how: How,
     },
-    InFull {
+    /// `page` is 0 for the log, which has none.
+    Dump {
+        kind: DumpKind,
+        page: u32,
         at: u32,
     },
 }
 
-// A script may have millions of them, and a line of it has seven bytes or more.
+// A script may have millions of them. A line of it has six bytes or more, a member five more, and a dump thirteen.
 const _: () = prove!(size_of::<PackedItem>() == 12);
+
+const _: () = prove!(size_of::<Pair>() == 8);
+
+const _: () = prove!(size_of::<Span>() == 12);
+
+/// What items in short have no room for: the bytes of names, the members of multixacts, and the spans of dumps, each kind
+/// in the order of the items.
+#[derive(Drop)]
+pub struct Apart {
+    pub names: Vec<u8>,
+    pub members: Vec<Pair>,
+    pub spans: Vec<Span>,
+}
+
+impl Halves {
+    /// The halves of a number.
+    pub fn of(number: u64) -> Halves
+        ensures { whole result ≡ number }
+    {
+        Halves {
+            high: (number >> 32) as u32,
+            low: (number & 0xffff_ffff) as u32,
+        }
+    }
+
+    /// The number.
+    fn whole(self) -> u64
+        ensures { result ≡ whole self }
+    {
+        u64::from(self.high) * (1 << 32) + u64::from(self.low)
+    }
+}
+
+/// What is dumped, and the page.
+pub fn dump_parts(what: DumpOf) -> (DumpKind, u32)
+    ensures { dump_of result.0 result.1 ≡ what }
+{
+    match what {
+        DumpOf::Log => (DumpKind::Log, 0),
+        DumpOf::Xact { page } => (DumpKind::Xact, page),
+        DumpOf::Subtrans { page } => (DumpKind::Subtrans, page),
+        DumpOf::Offsets { page } => (DumpKind::Offsets, page),
+        DumpOf::Members { page } => (DumpKind::Members, page),
+    }
+}
+
+fn dump_of(kind: DumpKind, page: u32) -> DumpOf
+    ensures { result ≡ dump_of kind page }
+{
+    match kind {
+        DumpKind::Log => DumpOf::Log,
+        DumpKind::Xact => DumpOf::Xact { page },
+        DumpKind::Subtrans => DumpOf::Subtrans { page },
+        DumpKind::Offsets => DumpOf::Offsets { page },
+        DumpKind::Members => DumpOf::Members { page },
+    }
+}
 
 fn plain_command(command: PlainCommand) -> Command
     ensures { result ≡ plain_command command }
@@ -96,34 +201,70 @@ fn named_command(command: NamedCommand, name: Name, number: u32) -> Command
     }
 }
 
-/// The session of a command.
-fn session_of(item: &Item) -> Option<u32>
-    ensures { result ≡ session_of item.now }
+/// The id of a number that is one.
+fn id_of(number: u64) -> FullXid
+    requires { IsXidNumber number }
+    ensures { result ≡ number }
 {
-    match item {
-        Item::Run { session, .. } => Some(*session),
-        _ => None,
+    match FullXid::new(number) {
+        Some(id) => id,
+        None => unreachable!(),
     }
 }
 
+/// The multixact's id of a number that is one.
+fn multi_of(number: u64) -> FullMulti
+    requires { IsFullMulti number }
+    ensures { result ≡ number }
+{
+    match FullMulti::new(number) {
+        Some(multi) => multi,
+        None => unreachable!(),
+    }
+}
+
+fn id_command(command: IdCommand, number: u64) -> Command
+    requires { IsIdOf command number }
+    ensures { result ≡ id_command command number }
+{
+    match command {
+        IdCommand::Status => Command::Status { x: id_of(number) },
+        IdCommand::Freeze => Command::Freeze {
+            oldest: id_of(number),
+        },
+        IdCommand::MultiFreeze => Command::MultiFreeze {
+            multi: multi_of(number),
+        },
+    }
+}
+
+/// A list of these members.
+fn pair_list(alloc: Global, members: &[Pair]) -> Result<PairList, Memory>
+    ensures { IfOk result (λ pairs. pairs ≡ members.now) }
+{
+    let mut pairs = Vec::new(alloc);
+    pairs.extend_from_slice(members)?;
+    PairList::of(alloc, Sequence::of(pairs))
+}
+
 /// The session of a command in short.
-pub fn packed_session(names: &[u8], full: &[Item], packed: &PackedItem) -> Option<u32>
-    requires { IsPacked names.now full.now packed.now }
-    ensures { result ≡ session_of (unpacked names.now full.now packed.now) }
+pub fn packed_session(packed: &PackedItem) -> Option<u32>
+    ensures { (apart : Apart) → result ≡ session_of (unpacked apart packed.now) }
 {
     match packed {
         PackedItem::Plain { session, .. }
         | PackedItem::Named { session, .. }
-        | PackedItem::Did { session, .. } => Some(u32::from(*session)),
-        PackedItem::InFull { at } => session_of(&full[*at as usize]),
+        | PackedItem::Did { session, .. }
+        | PackedItem::OfId { session, .. }
+        | PackedItem::Multi { session, .. } => Some(u32::from(*session)),
         _ => None,
     }
 }
 
 /// The item that is meant.
-pub fn unpack(names: &[u8], full: &[Item], packed: &PackedItem) -> Result<Item, Memory>
-    requires { IsPacked names.now full.now packed.now }
-    ensures { IfOk result (λ item. item ≡ unpacked names.now full.now packed.now) }
+pub fn unpack(apart: &Apart, packed: &PackedItem) -> Result<Item, Memory>
+    requires { IsPacked apart.now packed.now }
+    ensures { IfOk result (λ item. item ≡ unpacked apart.now packed.now) }
 {
     let item = match *packed {
         PackedItem::Plain { session, command } => Item::Run {
@@ -138,7 +279,7 @@ pub fn unpack(names: &[u8], full: &[Item], packed: &PackedItem) -> Result<Item, 
             number,
         } => {
             let from = at as usize;
-            let name = Name::of(&names[from..from + length as usize]);
+            let name = Name::of(&apart.names[from..from + length as usize]);
             Item::Run {
                 session: u32::from(session),
                 command: named_command(command, name, number),
@@ -148,10 +289,35 @@ pub fn unpack(names: &[u8], full: &[Item], packed: &PackedItem) -> Result<Item, 
             session: u32::from(session),
             command: Command::Did { x },
         },
+        PackedItem::OfId {
+            session,
+            command,
+            id,
+        } => Item::Run {
+            session: u32::from(session),
+            command: id_command(command, id.whole()),
+        },
+        PackedItem::Multi { session, at, count } => {
+            let from = at as usize;
+            let members = &apart.members[from..from + count as usize];
+            Item::Run {
+                session: u32::from(session),
+                command: Command::Multi {
+                    members: pair_list(*apart.members.allocator(), members)?,
+                },
+            }
+        }
         PackedItem::Round => Item::Round,
         PackedItem::Checkpoint => Item::Checkpoint,
         PackedItem::Crash { how } => Item::Crash { how },
-        PackedItem::InFull { at } => full[at as usize].copy()?,
+        PackedItem::Dump { kind, page, at } => {
+            let span = apart.spans[at as usize];
+            Item::Dump {
+                what: dump_of(kind, page),
+                at: span.at.whole(),
+                length: span.length,
+            }
+        }
     };
     Ok(item)
 }

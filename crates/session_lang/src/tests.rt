@@ -2,7 +2,7 @@
 use crate::{Item, Kind, ParseRefusal, line_of, parse};
 use std::alloc::Global;
 use std::test::Fail;
-use tx_model::{Command, How, Mode};
+use tx_model::{Command, DumpOf, How, Mode, Name};
 
 /// What is wrong with the bytes, and where.
 fn fault(alloc: Global, bytes: &[u8]) -> Option<(u64, Kind)> {
@@ -88,6 +88,148 @@ fn blanks_comments_and_line_ends_are_no_part_of_a_script(rt: HostRuntime) -> Res
     assert_eq!(rt; line_of(bytes, 0), 4);
     assert_eq!(rt; line_of(bytes, 1), 5);
     assert_eq!(rt; line_of(bytes, 3), 0);
+    Ok(())
+}
+
+/// Whether the name has these bytes.
+fn is_named(name: &Name, bytes: &[u8]) -> bool {
+    name.items() == bytes
+}
+
+#[test]
+fn each_command_has_its_own_name_and_number(rt: HostRuntime) -> Result<(), Fail> {
+    let bytes =
+        b"a snap first\nb see s 7\na seemulti second1 9\nb status 4294967303\na drop first\n";
+    let script = parse(rt.alloc(), bytes.as_slice())?;
+    let item = script.items.items().get(1)?;
+    let Some(
+        Item::Run {
+            session: 1,
+            command: Command::See { name, x },
+        },
+    ) = &item
+    else {
+        return Err("another command".into());
+    };
+    assert!(rt; is_named(name, b"s"));
+    assert_eq!(rt; x.number, 7);
+    let item = script.items.items().get(2)?;
+    let Some(
+        Item::Run {
+            session: 0,
+            command: Command::SeeMulti { name, multi },
+        },
+    ) = &item
+    else {
+        return Err("another command".into());
+    };
+    assert!(rt; is_named(name, b"second1"));
+    assert_eq!(rt; multi.number, 9);
+    let item = script.items.items().get(3)?;
+    let Some(
+        Item::Run {
+            session: 1,
+            command: Command::Status { x },
+        },
+    ) = &item
+    else {
+        return Err("another command".into());
+    };
+    assert_eq!(rt; x.number(), 4_294_967_303);
+    let item = script.items.items().get(4)?;
+    let Some(
+        Item::Run {
+            session: 0,
+            command: Command::DropSnap { name },
+        },
+    ) = &item
+    else {
+        return Err("another command".into());
+    };
+    assert!(rt; is_named(name, b"first"));
+    assert_eq!(rt; script.items.items().session_at(4), Some(0));
+    assert_eq!(rt; script.items.items().session_at(5), None);
+    Ok(())
+}
+
+#[test]
+fn each_multixact_and_dump_has_its_own_part(rt: HostRuntime) -> Result<(), Fail> {
+    let bytes =
+        b"a multi 3:sh 4:upd\n.dump log 1099511627776 64\na multi 5:keysh\n.dump xact 7 8 9\n";
+    let script = parse(rt.alloc(), bytes.as_slice())?;
+    let Some(
+        Item::Run {
+            session: 0,
+            command: Command::Multi { members },
+        },
+    ) = script.items.items().get(2)?
+    else {
+        return Err("another command".into());
+    };
+    let [only] = members.items() else {
+        return Err("other members".into());
+    };
+    assert_eq!(rt; (only.x.number, only.mode), (5, Mode::KeySh));
+    let Some(
+        Item::Dump {
+            what: DumpOf::Log,
+            at: 1_099_511_627_776,
+            length: 64,
+        },
+    ) = script.items.items().get(1)?
+    else {
+        return Err("another dump".into());
+    };
+    let Some(
+        Item::Dump {
+            what: DumpOf::Xact { page: 7 },
+            at: 8,
+            length: 9,
+        },
+    ) = script.items.items().get(3)?
+    else {
+        return Err("another dump".into());
+    };
+    Ok(())
+}
+
+/// The bytes kept of a script.
+fn kept(alloc: Global, bytes: &[u8]) -> Result<usize, ParseRefusal> {
+    Ok(parse(alloc, bytes)?.items.bytes_kept())
+}
+
+#[test]
+fn shortest_line_of_each_kind_takes_at_most_twice_its_text(rt: HostRuntime) -> Result<(), Fail> {
+    let lines: [&[u8]; 24] = [
+        b"a begin",
+        b"a save",
+        b"a write",
+        b"a release",
+        b"a undo",
+        b"a commit",
+        b"a abort",
+        b"a trim",
+        b"a horizon",
+        b"a snap s",
+        b"a drop s",
+        b"a see s 3",
+        b"a seemulti s 1",
+        b"a did 3",
+        b"a status 3",
+        b"a freeze 3",
+        b"a multifreeze 1",
+        b"a multi",
+        b"a multi 3:sh 4:sh 5:sh",
+        b".round",
+        b".checkpoint",
+        b".crash lost",
+        b".dump log 0 1",
+        b".dump xact 0 0 1",
+    ];
+    for line in lines {
+        let kept = kept(rt.alloc(), line)?;
+        assert!(rt; kept <= line.len() * 2, "{line:?} {kept}");
+    }
     Ok(())
 }
 

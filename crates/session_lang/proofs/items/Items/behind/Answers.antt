@@ -8,6 +8,6 @@ returns c =
     let i = c.self.inside in
     let all = i.packed.now in
     let left = length-drop c.args.count all in
-    ap (map (unpacked i.names.now i.full.now)) (take_all (length all - c.args.count) (drop c.args.count all) (omega (arith, left)))
-    ∙ sym (drop-map (unpacked i.names.now i.full.now) c.args.count all)
+    ap (map (unpacked i.apart.now)) (take_all (length all - c.args.count) (drop c.args.count all) (omega (arith, left)))
+    ∙ sym (drop-map (unpacked i.apart.now) c.args.count all)
     ∙ ap (drop c.args.count) c.self.view_is

@@ -6,4 +6,4 @@ use Rattle.session_lang.proofs.items.Items.front.Goals as goal
 pub returns : goal.returns
 returns c =
     let i = c.self.inside in
-    sym (take-map (unpacked i.names.now i.full.now) c.args.count i.packed.now) ∙ ap (take c.args.count) c.self.view_is
+    sym (take-map (unpacked i.apart.now) c.args.count i.packed.now) ∙ ap (take c.args.count) c.self.view_is

@@ -1,5 +1,5 @@
 ghost use Rattle.tx_core.specs.Laws.{Keeps, Opens, CommitRecordKeeps, AbortRecordKeeps, MultiRecordKeeps, CheckpointRecordKeeps, TruncateRecordKeeps, FlushKeeps, ForgetKeeps, LogFaultKeeps, IdEventKeeps, SubEventKeeps, UndoEventKeeps, CommitEventKeeps, AbortEventKeeps, SnapEventKeeps, SnapDropKeeps, OldestKeeps, AskKeeps, MadeKeeps, MultiEventKeeps, ChangesKeep, CommittedKeeps, SubCommittedKeeps, AbortedKeeps, ParentKeeps, ZeroKeeps, CutKeeps, SyncKeeps, FaultKeeps, RequestKeeps, LookKeeps, OldestPostKeeps, XminPostKeeps};
-ghost use Rattle.tx_core.specs.Consequences.{NeverAborted, CommittedAsked, AskedGiven, OldestRises, PostsGoOn, MultisAreLegal, NextGiven, ParentsKept, StatesKept, HorizonRises, SnapshotsHold, OpenKept, RaisesTold, FaultsCounted, FlushesRise, DownStays, LogIsBehind};
+ghost use Rattle.tx_core.specs.Consequences.{NeverAborted, CommittedAsked, AskedGiven, OldestRises, PostsGoOn, MultisAreLegal, NextGiven, ParentsKept, StatesKept, HorizonRises, SnapshotsHold, OpenKept, RaisesTold, FaultsCounted, FlushesRise, DownStays, LogIsBehind, CheckpointsTell, RecordsGiven};
 ghost use Rattle.tx_core.specs.Held.{OpenRuns, PagesHeld};
 ghost use Rattle.tx_core.specs.Nearness.{MadeNear};
 ghost use Rattle.tx_core.specs.Pages.{PagesShow, ParentsShow, OffsetsShow, MembersShow};
@@ -301,4 +301,14 @@ pub fn open_runs()
 /// (`CreateCheckPoint` in `xlog.c`).
 pub fn log_is_behind()
     ensures { LogIsBehind }
+{}
+
+/// The log's counters behind a checkpoint are the checkpoint's own.
+pub fn checkpoints_tell()
+    ensures { CheckpointsTell }
+{}
+
+/// What a session's record names was given to it.
+pub fn records_given()
+    ensures { RecordsGiven }
 {}

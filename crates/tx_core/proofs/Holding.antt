@@ -1,5 +1,5 @@
 -- No page is cut that is still asked for, as it is stored.
-use Rattle.std.proofs.Common.{Contains, List, [], ap, arith, drop, false, length, refl, subst, sym, take, take-append-drop, ℕ, ⊎_elim, ◌+◌, ◌%◌, ◌/◌, ◌^◌, ◌<◌, ◌∙◌, ◌∷◌, ◌≡◌, ◌≤◌}
+use Rattle.std.proofs.Common.{Contains, List, [], arith, drop, false, length, refl, subst, sym, take, take-append-drop, ℕ, ⊎_elim, ◌+◌, ◌%◌, ◌/◌, ◌^◌, ◌<◌, ◌≡◌, ◌≤◌}
 use Rattle.xid_order.specs.Ids.{id_before, low_half}
 use Rattle.xid_order.specs.Limits.{member_stop}
 use Rattle.xid_order.specs.PageOrder.{Ids, Multis, Offsets, is_cut}
@@ -9,7 +9,6 @@ use Rattle.tx_events.specs.declared.event.By.{By}
 use Rattle.tx_events.specs.declared.event.Event.{Event}
 use Rattle.tx_events.specs.declared.event.Event.TheVariants as events
 use Rattle.tx_events.specs.declared.multi.MultiEvent.TheVariants as multis
-use Rattle.tx_events.specs.declared.record.Counters.{Counters}
 use Rattle.tx_events.specs.declared.record.Rec.TheVariants as records
 use Rattle.tx_events.proofs.GivenIds.{legal_take}
 use Rattle.tx_events.proofs.Horizons.{xmin_at}
@@ -36,7 +35,7 @@ use Rattle.tx_core.proofs.Room.{has_room, multis_have_room}
 use Rattle.tx_core.specs.CutsFollow.{IsTruncated}
 use Rattle.tx_core.specs.EngineInvariant.{EngineInvariant}
 use Rattle.tx_core.specs.Entries.{history}
-use Rattle.tx_core.specs.Held.{AreHeld, IsHeld, PagesHeld}
+use Rattle.tx_core.specs.Held.{IsHeld, PagesHeld}
 use Rattle.tx_core.specs.Locks.{log_lock, member_page, member_page_in_full, members_lock, offset_page, offsets_lock, subtrans_lock, subtrans_page, xact_lock, xact_page}
 use Rattle.tx_core.specs.MultiEntries.{multi_history}
 use Rattle.tx_core.specs.RecordsFollow.{IsMultiAnnounced, IsOldestAnnounced, NeedsCounters}

@@ -1,43 +1,41 @@
 -- The log's counters are not past those of the ProcArray and the multixacts.
-use Rattle.std.proofs.Common.{Contains, List, None, Option, Some, [], append-nil, append_assoc, ap, arith, drop, inl, length, max, map, refl, subst, sym, take, take-append-drop, ℕ, ⊎_elim, ◌++◌, ◌+◌, ◌∙◌, ◌∷◌, ◌≡◌, ◌≤◌}
+use Rattle.std.proofs.Common.{Contains, List, None, Option, Some, [], append-nil, append_assoc, ap, arith, drop, length, max, map, refl, subst, sym, take, take-append-drop, ℕ, ⊎_elim, ◌++◌, ◌+◌, ◌∙◌, ◌∷◌, ◌≡◌, ◌≤◌}
 use Rattle.std.proofs.lemmas.List.Elements.{filter_map-append}
 use Rattle.std.proofs.lemmas.List.Sums.{fold_push}
 use Rattle.std.proofs.lemmas.List.{map_push}
-use Rattle.std.specs.List.{cons_option, slice_get}
+use Rattle.std.specs.List.{cons_option}
 use Rattle.xid_order.specs.Ids.{next_multi}
 use Rattle.tx_events.specs.declared.event.By.{By}
-use Rattle.tx_events.specs.declared.event.Event.{Event}
-use Rattle.tx_events.specs.declared.event.Event.TheVariants as events
-use Rattle.tx_events.specs.declared.multi.Member.{Member}
 use Rattle.tx_events.specs.declared.multi.MultiEvent.{MultiEvent}
 use Rattle.tx_events.specs.declared.multi.MultiEvent.TheVariants as multis
 use Rattle.tx_events.specs.declared.record.Counters.{Counters}
 use Rattle.tx_events.specs.declared.record.Rec.{Rec}
 use Rattle.tx_events.specs.declared.record.Rec.TheVariants as records
-use Rattle.tx_events.proofs.Membership.{Has, by_end, contains_has, has_place}
+use Rattle.tx_events.proofs.Membership.{by_end, contains_has, has_place}
 use Rattle.tx_events.proofs.PlaceLemmas.{by_place, each_place_last, each_place_start}
 use Rattle.tx_events.specs.After.{after_record, after_records}
 use Rattle.tx_events.specs.Base.{IsBase}
+use Rattle.tx_events.specs.Places.{EachPlace}
 use Rattle.tx_events.specs.Horizon.{oldest_id}
-use Rattle.tx_events.specs.Multis.{AreLegalMultis, InBase, IsRaised, MultiMayCome, first_member, free_after, free_offset, made, next_made, nth_multi, oldest_multi, oldest_offset}
+use Rattle.tx_events.specs.Multis.{AreLegalMultis, InBase, IsRaised, MultiMayCome, first_member, free_after, free_offset, next_made, oldest_multi, oldest_offset}
 use Rattle.tx_core.specs.declared.entry.Entry.{Entry}
 use Rattle.tx_core.specs.declared.entry.Kind.TheVariants as kinds
 use Rattle.tx_core.specs.declared.entry.Start.{Start}
 use Rattle.tx_core.proofs.Cutting.{oldest_upto}
 use Rattle.tx_core.proofs.MultiGiven.{gen_next, oldest_from}
-use Rattle.tx_core.proofs.MultiOrder.{Ordered, ordered}
-use Rattle.tx_core.proofs.MultiRaised.{LastRaised, first_past, last_raised, raise_within}
+use Rattle.tx_core.proofs.MultiOrder.{ordered}
+use Rattle.tx_core.proofs.MultiRaised.{first_past, last_raised, raise_within}
 use Rattle.tx_core.proofs.Nearness.{multis_are_legal}
 use Rattle.tx_core.proofs.Posting.{oldest_by_places}
-use Rattle.tx_core.proofs.Reading.{appended_by, appended_is}
+use Rattle.tx_core.proofs.Reading.{appended_is}
 use Rattle.tx_core.proofs.RecordNext.{next_given_all}
 use Rattle.tx_core.proofs.Rising.{made_more}
 use Rattle.tx_core.specs.EngineInvariant.{EngineInvariant}
 use Rattle.tx_core.specs.Entries.{appended, history, records_in, recs_in}
-use Rattle.tx_core.specs.Consequences.{LogIsBehind}
+use Rattle.tx_core.specs.Consequences.{CheckpointsTell, LogIsBehind}
 use Rattle.tx_core.specs.Locks.{log_lock}
 use Rattle.tx_core.specs.MultiEntries.{multi_history}
-use Rattle.tx_core.specs.RecordsFollow.{AppendOf, IsMultiAnnounced, IsMultiAt, NamedOf, NeedsCounters, NeedsNamed, counters_after}
+use Rattle.tx_core.specs.RecordsFollow.{AppendOf, AreNotBelow, IsMultiAnnounced, IsMultiAt, NamedOf, NeedsCounters, NeedsNamed, counters_after}
 use Rattle.notes.specs.Lists.{at}
 
 free_step : (base : Counters) (h : List MultiEvent) (e : MultiEvent) → MultiMayCome base (InBase base) h e → free_offset base.offset h ≤ free_after (free_offset base.offset h) e
@@ -192,3 +190,27 @@ log_is_behind start lists k is =
       oldest_multi = b.oldest_multi;
       oldest_offset = b.oldest_offset;
     }
+
+-- the counters behind a checkpoint
+
+same_counters : (low high : Counters) (number : ℕ) → AreNotBelow low high → after_record low (records.Checkpoint number high) ≡ high
+same_counters low high number n i = record {
+  next = greater low.next high.next n.next i;
+  oldest = greater low.oldest high.oldest n.oldest i;
+  multi = greater low.multi high.multi n.multi i;
+  offset = greater low.offset high.offset n.offset i;
+  oldest_multi = greater low.oldest_multi high.oldest_multi n.oldest_multi i;
+  oldest_offset = greater low.oldest_offset high.oldest_offset n.oldest_offset i;
+}
+  where
+    greater : (a b : ℕ) → a ≤ b → max a b ≡ b
+    greater a b le = grind arith
+
+pub checkpoints_tell : CheckpointsTell
+checkpoints_tell start lists before rest by number counters k split =
+    let e : Entry = record { by = by; kind = kinds.Append (records.Checkpoint number counters) } in
+    let Rule : List Entry → Entry → Type 0 = λ es f. NeedsCounters start lists log_lock es f in
+    let whole : (before ++ e ∷ []) ++ rest ≡ at lists log_lock = append_assoc before (e ∷ []) rest ∙ sym split in
+    let need : NeedsCounters start lists log_lock before e = each_place_last Rule before e (each_place_start Rule (before ++ e ∷ []) rest (subst (λ (t : List Entry). EachPlace t Rule) (sym whole) (k.log.counters.each log_lock))) in
+    let push : recs_in (before ++ e ∷ []) ≡ recs_in before ++ records.Checkpoint number counters ∷ [] = ap (map (λ (a : By × Rec). a.1)) (filter_map-append appended before (e ∷ [])) ∙ map_push (λ (a : By × Rec). a.1) (records_in before) (by, records.Checkpoint number counters) in
+    ap (after_records start.base) push ∙ fold_push after_record start.base (recs_in before) (records.Checkpoint number counters) ∙ same_counters (counters_after start before) counters number need.1.not_below

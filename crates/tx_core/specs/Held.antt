@@ -13,12 +13,13 @@ use Rattle.tx_core.specs.declared.entry.Entry.{Entry}
 use Rattle.tx_core.specs.declared.entry.Start.{Start}
 use Rattle.tx_core.specs.EngineInvariant.{EngineInvariant}
 use Rattle.tx_core.specs.Entries.{cut_in, history}
-use Rattle.tx_core.specs.Locks.{member_page, member_page_in_full, members_lock, offset_page, offsets_lock, subtrans_lock, subtrans_page, xact_lock, xact_page}
+use Rattle.tx_core.specs.Locks.{members_lock, offsets_lock, subtrans_lock, xact_lock}
+use Rattle.tx_core.specs.Locks.{member_page, member_page_in_full, offset_page, subtrans_page, xact_page}
 use Rattle.tx_core.specs.MultiEntries.{multi_history}
 use Rattle.notes.specs.Lists.{at}
 
--- A stored page isn't cut: neither by the page from which on its store was kept when the life began, nor by one at which
--- an entry cut the bank.
+-- A stored page isn't cut: neither by the page from which on its store was kept when the life began, nor by one at
+-- which an entry cut the bank.
 pub record IsHeld (shape : Shape) (per_page pages kept : ℕ) (es : List Entry) (stored : ℕ) : Type 0 where
   pub first : is_cut shape per_page (kept % pages) stored ≡ false
   pub later : (e : Entry) (page : ℕ) → Contains es e → cut_in e.kind ≡ Some page

@@ -45,4 +45,5 @@ pub record AreNear (start : Start) (lists : List (List Entry)) (bank : ℕ) : Ty
 
 -- No two pages of a bank that were made are one stored page, and none is the stored page of one past those in use.
 abbrev pub MadeNear : Type 0
-MadeNear = (start : Start) (lists : List (List Entry)) (bank : ℕ) → EngineInvariant start lists → AreNear start lists bank
+MadeNear = (start : Start) (lists : List (List Entry)) (bank : ℕ) → EngineInvariant start lists
+    → AreNear start lists bank

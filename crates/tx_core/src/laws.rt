@@ -1,5 +1,5 @@
 ghost use Rattle.tx_core.specs.Laws.{Keeps, Opens, CommitRecordKeeps, AbortRecordKeeps, MultiRecordKeeps, CheckpointRecordKeeps, TruncateRecordKeeps, FlushKeeps, ForgetKeeps, LogFaultKeeps, IdEventKeeps, SubEventKeeps, UndoEventKeeps, CommitEventKeeps, AbortEventKeeps, SnapEventKeeps, SnapDropKeeps, OldestKeeps, AskKeeps, MadeKeeps, MultiEventKeeps, ChangesKeep, CommittedKeeps, SubCommittedKeeps, AbortedKeeps, ParentKeeps, ZeroKeeps, CutKeeps, SyncKeeps, FaultKeeps, RequestKeeps, LookKeeps, OldestPostKeeps, XminPostKeeps};
-ghost use Rattle.tx_core.specs.Consequences.{NeverAborted, CommittedAsked, AskedGiven, OldestRises, PostsGoOn, MultisAreLegal, NextGiven, ParentsKept, StatesKept, HorizonRises, SnapshotsHold, OpenKept, RaisesTold, FaultsCounted, FlushesRise, DownStays, LogIsBehind};
+ghost use Rattle.tx_core.specs.Consequences.{NeverAborted, CommittedAsked, AskedGiven, OldestRises, PostsGoOn, MultisAreLegal, NextGiven, ParentsKept, StatesKept, HorizonRises, SnapshotsHold, OpenKept, RaisesTold, FaultsCounted, FlushesRise, DownStays, LogIsBehind, CheckpointsTell, RecordsGiven};
 ghost use Rattle.tx_core.specs.Held.{OpenRuns, PagesHeld};
 ghost use Rattle.tx_core.specs.Nearness.{MadeNear};
 ghost use Rattle.tx_core.specs.Pages.{PagesShow, ParentsShow, OffsetsShow, MembersShow};
@@ -231,7 +231,8 @@ pub fn multis_are_legal()
     ensures { MultisAreLegal }
 {}
 
-/// While few ids and multixacts were given, the pages that were made are near the life's first ones, in all four stores.
+/// While few ids and multixacts were given, the pages that were made are near the life's first ones, in all four
+/// stores.
 pub fn made_near()
     ensures { MadeNear }
 {}
@@ -297,8 +298,18 @@ pub fn open_runs()
     ensures { OpenRuns }
 {}
 
-/// No counter of the log is past those of the ProcArray and the multixacts: so a checkpoint of these is not below the log
-/// (`CreateCheckPoint` in `xlog.c`).
+/// No counter of the log is past those of the ProcArray and the multixacts: so a checkpoint of these is not below the
+/// log (`CreateCheckPoint` in `xlog.c`).
 pub fn log_is_behind()
     ensures { LogIsBehind }
+{}
+
+/// The log's counters behind a checkpoint are the checkpoint's own.
+pub fn checkpoints_tell()
+    ensures { CheckpointsTell }
+{}
+
+/// What a session's record names was given to it.
+pub fn records_given()
+    ensures { RecordsGiven }
 {}

@@ -13,3 +13,4 @@ pub mod Begins
 pub mod Making
 pub mod Restored
 pub mod LifeBegins
+pub mod Standing

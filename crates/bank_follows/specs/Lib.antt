@@ -9,3 +9,4 @@ pub mod Sections
 pub mod Begins
 pub mod Making
 pub mod Restored
+pub mod Standing

@@ -7,6 +7,7 @@ ghost use Rattle.bank_follows.specs.Laws.{XactKeeps, ParentsKeep, OffsetsKeep, M
 ghost use Rattle.bank_follows.specs.Begins.{BanksOpen, PagesShowWhatTheyHold, ZerosShowNothing};
 ghost use Rattle.bank_follows.specs.Making.{StoredPagesMade};
 ghost use Rattle.bank_follows.specs.Restored.{LifeBegins, RestoredBegins};
+ghost use Rattle.bank_follows.specs.Standing.{BanksStand};
 
 use disk_core::PageDisk;
 
@@ -65,6 +66,12 @@ pub fn sections_keep<P: PageDisk>()
 /// the begin of a life on.
 pub fn banks_open<P: PageDisk>()
     ensures { BanksOpen P.images P.moment P.left_at }
+{}
+
+/// What a bank's value is to stand for, with its last made page, is kept by each call, by the bank's own clauses; and its
+/// images are what `recoverable` asks of them.
+pub fn banks_stand<P: PageDisk>()
+    ensures { BanksStand P.images P.moment P.left_at }
 {}
 
 /// Pages of zeros show nothing: those of a new volume, and those of pg_subtrans behind `clear_all`.

@@ -14,3 +14,4 @@ pub mod Making
 pub mod Restored
 pub mod LifeBegins
 pub mod Standing
+pub mod Holding

@@ -1,11 +1,9 @@
 -- A bank's value stands for its list, call by call.
-use Rattle.std.proofs.Common.{List, None, Option, Some, [], arith, refl, subst, sym, ap, ℕ, ◌++◌, ◌∷◌, ◌∙◌, ◌≡◌}
+use Rattle.std.proofs.Common.{List, None, [], refl, subst, sym, ap, ℕ, ◌++◌, ◌∷◌, ◌∙◌, ◌≡◌}
 use Rattle.disk_core.specs.Pages.{Pages}
 use Rattle.tx_core.specs.declared.entry.Entry.{Entry}
-use Rattle.tx_core.specs.declared.entry.Kind.TheVariants as kinds
 use Rattle.tx_core.specs.Pages.{zeroed_in}
-use Rattle.tx_core.specs.declared.entry.Start.{Start}
-use Rattle.bank_follows.specs.Begins.{IsOpened, OpenedShows}
+use Rattle.bank_follows.specs.Begins.{OpenedShows}
 use Rattle.bank_follows.specs.Cells.{Cells, IsOnePage, last_made, stored}
 use Rattle.bank_follows.specs.Making.{IsGivenPage, MakesStored}
 use Rattle.bank_follows.specs.Sections.{KeepBanks, KeepsSections, Moves}

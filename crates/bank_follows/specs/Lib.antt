@@ -10,3 +10,4 @@ pub mod Begins
 pub mod Making
 pub mod Restored
 pub mod Standing
+pub mod Holding

@@ -8,8 +8,9 @@ ghost use Rattle.bank_follows.specs.Begins.{BanksOpen, PagesShowWhatTheyHold, Ze
 ghost use Rattle.bank_follows.specs.Making.{StoredPagesMade};
 ghost use Rattle.bank_follows.specs.Restored.{LifeBegins, RestoredBegins};
 ghost use Rattle.bank_follows.specs.Standing.{BanksStand};
+ghost use Rattle.bank_follows.specs.Holding.{EngineFits};
 
-use disk_core::PageDisk;
+use disk_core::{LogDisk, PageDisk};
 
 /// What a bank's calls do keeps what its map and its images stand for, one entry of its lock's list more
 /// (`SimpleLruReadPage`, `SimpleLruZeroPage`, `SimpleLruWriteAll` and `SimpleLruTruncate` in
@@ -97,4 +98,9 @@ pub fn restored_begins()
 /// And its images follow the lists of that life before their first entries.
 pub fn life_begins()
     ensures { LifeBegins }
+{}
+
+/// Where the values of all locks hold what they are to, the volumes of an engine fit, over any disks.
+pub fn engine_fits<L: LogDisk, P: PageDisk>()
+    ensures { EngineFits L.images P.images P.moment P.left_at }
 {}

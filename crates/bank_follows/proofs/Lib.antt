@@ -13,3 +13,5 @@ pub mod Begins
 pub mod Making
 pub mod Restored
 pub mod LifeBegins
+pub mod Standing
+pub mod Holding

@@ -1,17 +1,13 @@
 -- What a recovery leaves follows the lists before their first entries.
-use Rattle.std.proofs.Common.{List, [], ap, subst, sym, ℕ, ◌<◌, ◌∙◌, ◌≡◌}
+use Rattle.std.proofs.Common.{List, [], ap, subst, sym, ℕ, ◌<◌, ◌∙◌}
 use Rattle.std.specs.List.{slice_index}
-use Rattle.notes.specs.Lists.{at}
 use Rattle.tx_core.specs.declared.entry.Entry.{Entry}
 use Rattle.tx_core.specs.declared.entry.Start.{Start}
 use Rattle.tx_core.specs.Locks.{log_lock, members_lock, offsets_lock, xact_lock}
 use Rattle.recoverable.specs.Fit.{KeptLog}
 use Rattle.recoverable.specs.Laws.{LogOf}
-use Rattle.recoverable.specs.MemberImages.{MembersFollow}
-use Rattle.recoverable.specs.OffsetImages.{OffsetsFollow}
 use Rattle.recoverable.specs.Volumes.{Left, Restored}
 use Rattle.recoverable.specs.Whole.{BeganClean, LogImage, MembersLeft, OffsetsLeft, StatesLeft}
-use Rattle.recoverable.specs.XactImages.{Follows}
 use Rattle.recoverable.proofs.LogBegins.{log_begins}
 use Rattle.bank_follows.specs.Restored.{HaveSameBytes, LifeBegins, pages_of, shown_on}
 use Rattle.bank_follows.specs.Stores.{IsMemberAt, IsOffsetAt, IsXactAt, member_cells, offset_cells, xact_cells}

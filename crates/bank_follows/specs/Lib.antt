@@ -9,3 +9,5 @@ pub mod Sections
 pub mod Begins
 pub mod Making
 pub mod Restored
+pub mod Standing
+pub mod Holding

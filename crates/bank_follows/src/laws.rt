@@ -7,8 +7,10 @@ ghost use Rattle.bank_follows.specs.Laws.{XactKeeps, ParentsKeep, OffsetsKeep, M
 ghost use Rattle.bank_follows.specs.Begins.{BanksOpen, PagesShowWhatTheyHold, ZerosShowNothing};
 ghost use Rattle.bank_follows.specs.Making.{StoredPagesMade};
 ghost use Rattle.bank_follows.specs.Restored.{LifeBegins, RestoredBegins};
+ghost use Rattle.bank_follows.specs.Standing.{BanksStand};
+ghost use Rattle.bank_follows.specs.Holding.{EngineFits};
 
-use disk_core::PageDisk;
+use disk_core::{LogDisk, PageDisk};
 
 /// What a bank's calls do keeps what its map and its images stand for, one entry of its lock's list more
 /// (`SimpleLruReadPage`, `SimpleLruZeroPage`, `SimpleLruWriteAll` and `SimpleLruTruncate` in
@@ -67,6 +69,12 @@ pub fn banks_open<P: PageDisk>()
     ensures { BanksOpen P.images P.moment P.left_at }
 {}
 
+/// What a bank's value is to stand for, with its last made page, is kept by each call, by the bank's own clauses; and its
+/// images are what `recoverable` asks of them.
+pub fn banks_stand<P: PageDisk>()
+    ensures { BanksStand P.images P.moment P.left_at }
+{}
+
 /// Pages of zeros show nothing: those of a new volume, and those of pg_subtrans behind `clear_all`.
 pub fn zeros_show_nothing()
     ensures { ZerosShowNothing }
@@ -90,4 +98,9 @@ pub fn restored_begins()
 /// And its images follow the lists of that life before their first entries.
 pub fn life_begins()
     ensures { LifeBegins }
+{}
+
+/// Where the values of all locks hold what they are to, the volumes of an engine fit, over any disks.
+pub fn engine_fits<L: LogDisk, P: PageDisk>()
+    ensures { EngineFits L.images P.images P.moment P.left_at }
 {}

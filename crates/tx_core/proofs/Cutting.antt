@@ -23,7 +23,7 @@ use Rattle.tx_core.proofs.Reading.{flushed_appended}
 use Rattle.tx_core.specs.CutsFollow.{CutBy, NeedsCut}
 use Rattle.tx_core.specs.EngineInvariant.{EngineInvariant}
 use Rattle.tx_core.specs.Entries.{cut_in, history}
-use Rattle.tx_core.specs.Laws.{ParentsKept, StatesKept}
+use Rattle.tx_core.specs.Consequences.{ParentsKept, StatesKept}
 use Rattle.notes.specs.Lists.{at}
 use Rattle.tx_core.specs.Locks.{log_lock, subtrans_lock, xact_lock}
 use Rattle.tx_core.specs.RecordsFollow.{IsOldestAnnounced, NeedsCounters}

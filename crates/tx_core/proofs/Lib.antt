@@ -25,3 +25,8 @@ pub mod Nearness
 pub mod Cutting
 pub mod RecordNext
 pub mod OpenKept
+pub mod LastNumbers
+pub mod FaultCounts
+pub mod LogLaws
+pub mod MultiGiven
+pub mod Once

@@ -21,7 +21,7 @@ use Rattle.tx_events.specs.Running.{is_open, running_tops}
 use Rattle.tx_events.specs.Snapshots.{snapshot_xmax, snapshot_xmin}
 use Rattle.tx_core.proofs.HorizonLaws.{positive}
 use Rattle.tx_core.specs.Entries.{history}
-use Rattle.tx_core.specs.Laws.{OpenKept}
+use Rattle.tx_core.specs.Consequences.{OpenKept}
 
 announced_step : (base : Counters) (h : List Event) (e : Event) → oldest_id base.oldest h ≤ oldest_xmin base.next h → oldest_xmin base.next h ≤ oldest_xmin base.next (h ++ e ∷ []) → MayCome base h e
     → announced_after (oldest_id base.oldest h) e ≤ oldest_xmin base.next (h ++ e ∷ [])

@@ -29,4 +29,9 @@ pub mod LastNumbers
 pub mod FaultCounts
 pub mod LogLaws
 pub mod MultiGiven
+pub mod Room
+pub mod MultiOrder
+pub mod MultiRaised
+pub mod Holding
+pub mod LogBehind
 pub mod Once

@@ -1,5 +1,5 @@
 -- The last flush is the greatest, and a log that is down stays as it is.
-use Rattle.std.proofs.Common.{List, None, Option, Some, [], append-nil, append_assoc, ap, arith, false, inl, length, length-append, refl, subst, sym, true, ℕ, ⊎_elim, ◌++◌, ◌+◌, ◌||◌, ◌∙◌, ◌∷◌, ◌≡◌, ◌≤◌}
+use Rattle.std.proofs.Common.{List, None, Option, Some, [], append-nil, append_assoc, ap, arith, length, length-append, refl, subst, sym, true, ℕ, ⊎_elim, ◌++◌, ◌+◌, ◌||◌, ◌∙◌, ◌∷◌, ◌≡◌, ◌≤◌}
 use Rattle.std.proofs.lemmas.Bool.{false≢true}
 use Rattle.std.proofs.lemmas.List.Elements.{filter_map-append}
 use Rattle.std.proofs.lemmas.List.Folds.{list_any-append}
@@ -12,7 +12,7 @@ use Rattle.tx_core.specs.declared.entry.Entry.{Entry}
 use Rattle.tx_core.specs.declared.entry.Kind.{Kind}
 use Rattle.tx_core.specs.declared.entry.Kind.TheVariants as kinds
 use Rattle.tx_core.specs.declared.entry.Start.{Start}
-use Rattle.tx_core.specs.Consequences.{DownStays, FlushesRise, IsLastFlush}
+use Rattle.tx_core.specs.Consequences.{DownStays, FlushesRise}
 use Rattle.tx_core.specs.Entries.{appended, appended_in, flushed_in, flushed_to, records_in}
 use Rattle.tx_core.specs.Locks.{log_lock}
 use Rattle.tx_core.specs.RecordsFollow.{FlushOf, NeedsFlush}

@@ -83,7 +83,7 @@ free_step base h (multis.Gen by multi offset members) before rule =
     let near = first_near (free_offset base.offset h) in omega arith
 free_step base h _ before rule = omega arith
 
-free_upto : (base : Counters) (h : List MultiEvent) → AreLegalMultis base (InBase base) h → free_offset base.offset h ≤ base.offset + 65 * length (made h)
+pub free_upto : (base : Counters) (h : List MultiEvent) → AreLegalMultis base (InBase base) h → free_offset base.offset h ≤ base.offset + 65 * length (made h)
 free_upto base = by_place (MultiMayCome base (InBase base)) (λ h. free_offset base.offset h ≤ base.offset + 65 * length (made h)) (omega arith)
     (λ h e before rule.
     let step = free_step base h e before rule in

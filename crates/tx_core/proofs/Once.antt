@@ -1,5 +1,5 @@
 -- Records of others name other ids: so what a session knows of its own records is enough.
-use Rattle.std.proofs.Common.{Contains, List, Some, ap, inl, subst, sym, take, true, ℕ, ⊎_elim, ◌∙◌, ◌∷◌, ◌≡◌, eqb-true, refl, arith}
+use Rattle.std.proofs.Common.{Contains, List, Some, ap, inl, subst, sym, take, ℕ, ⊎_elim, ◌∙◌, ◌∷◌, ◌≡◌, eqb-true, refl}
 use Rattle.std.specs.List.{last_or, slice_get}
 use Rattle.std.specs.Option.{unwrap_or}
 use Rattle.tx_events.specs.declared.event.By.{By}
@@ -13,7 +13,7 @@ use Rattle.tx_events.specs.declared.record.Rec.TheVariants as records
 use Rattle.tx_events.proofs.Closing.{commit_ends, later_take, one_top, open_is}
 use Rattle.tx_events.proofs.GivenIds.{legal_take, one_session, open_given}
 use Rattle.tx_events.proofs.ListSteps.{not_both}
-use Rattle.tx_events.proofs.Membership.{Has, contains_has, has_filter, place_has}
+use Rattle.tx_events.proofs.Membership.{Has, contains_has, has_contains, has_filter, place_has}
 use Rattle.tx_events.specs.Events.{given_to}
 use Rattle.tx_events.specs.Families.{top}
 use Rattle.tx_events.specs.History.{IsLegal, MayCome}
@@ -30,13 +30,14 @@ use Rattle.tx_core.proofs.MultiGiven.{one_gen}
 use Rattle.tx_core.proofs.Nearness.{multis_are_legal}
 use Rattle.tx_core.proofs.Rising.{multis_grow}
 use Rattle.tx_core.proofs.Stepping.{open_seen}
-use Rattle.tx_core.specs.CommitRecordsExact.{HasNoRecord, IsExactIn}
+use Rattle.tx_core.specs.CommitRecordsExact.{HasNoRecord}
 use Rattle.tx_core.specs.EngineInvariant.{EngineInvariant}
+use Rattle.tx_core.specs.Consequences.{RecordsGiven}
 use Rattle.tx_core.specs.Entries.{IsAppended, history, session_of}
 use Rattle.tx_core.specs.Locks.{log_lock}
 use Rattle.tx_core.specs.MultiEntries.{multi_history}
 use Rattle.tx_core.specs.RecordsFollow.{IsGenOf, NeedsNamed}
-use Rattle.tx_core.specs.RecordsOnce.{HasNoAbort, HasNoCommit, HasNoMulti, IsAbortNamed, IsCommitNamed, IsMultiNamed, OnceOf}
+use Rattle.tx_core.specs.RecordsOnce.{HasNoAbort, HasNoCommit, HasNoMulti, IsAbortNamed, IsCommitNamed, OnceOf}
 use Rattle.notes.specs.Lists.{Knows, at}
 
 -- an id that its commit event closed isn't open
@@ -53,6 +54,18 @@ not_open base h session t id p by subs legal own stands opened among still =
     let now : top h id ≡ t = ap (λ (line : List ℕ). unwrap_or (last_or (Some id) line) id) l.line ∙ over in
     not_both (is_ended h id) (commit_ends h by t id (place_has h p (events.Commit by t) stands) now) (open_is h id (has_filter (is_open h) (given_to session h) id still).1).0
 
+pub records_given : RecordsGiven
+records_given start lists session k = record {
+  commit = λ top subs id a c. has_contains (given_to session (history lists)) id (exact_given (history lists) session top subs id (k.records.exact session top subs a) c);
+  abort = λ top subs id a c.
+      let e : Entry = record { by = a.0; kind = kinds.Append (records.Abort top subs) } in
+      let named = (upheld_has (NeedsNamed start) lists log_lock e k.log.named (contains_has (at lists log_lock) e a.2)).1 in
+      subst (λ n. Contains (given_to n (history lists)) id) a.1 (named id c);
+  multi = λ multi offset members a.
+      let e : Entry = record { by = a.0; kind = kinds.Append (records.Multi multi offset members) } in
+      let gen = (upheld_has (NeedsNamed start) lists log_lock e k.log.named (contains_has (at lists log_lock) e a.2)).1.0 in (gen.0, gen.1 ∙ a.1, gen.2);
+}
+
 -- what a session has seen, and the lists as they are
 module _ (start : Start) (seen lists : List (List Entry)) (by : By) (k : EngineInvariant start lists) (knows : Knows session_of by.session seen lists) (whole : at seen log_lock ≡ at lists log_lock) where
   -- a record that was seen stands
@@ -67,14 +80,15 @@ module _ (start : Start) (seen lists : List (List Entry)) (by : By) (k : EngineI
   own_commit : (id : ℕ) → Has (given_to by.session (history lists)) id → (n : IsCommitNamed (at seen log_lock) id) → n.by.session ≡ by.session
   own_commit id mine n =
       let a : IsAppended lists n.by.session (records.Commit n.top n.subs) = (n.by, refl, stands_now (record { by = n.by; kind = kinds.Append (records.Commit n.top n.subs) }) n.stands) in
-      one_session start.base (history lists) k.events.legal n.by.session by.session id (exact_given (history lists) n.by.session n.top n.subs id (k.records.exact n.by.session n.top n.subs a) n.among) mine
+      let his = (records_given start lists n.by.session k).commit n.top n.subs id a n.among in
+      one_session start.base (history lists) k.events.legal n.by.session by.session id (contains_has (given_to n.by.session (history lists)) id his) mine
 
   -- so an abort record
   own_abort : (id : ℕ) → Has (given_to by.session (history lists)) id → (n : IsAbortNamed (at seen log_lock) id) → n.by.session ≡ by.session
   own_abort id mine n =
-      let e : Entry = record { by = n.by; kind = kinds.Append (records.Abort n.top n.subs) } in
-      let named = (upheld_has (NeedsNamed start) lists log_lock e k.log.named (contains_has (at lists log_lock) e (stands_now e n.stands))).1 in
-      one_session start.base (history lists) k.events.legal n.by.session by.session id (contains_has (given_to n.by.session (history lists)) id (named id n.among)) mine
+      let a : IsAppended lists n.by.session (records.Abort n.top n.subs) = (n.by, refl, stands_now (record { by = n.by; kind = kinds.Append (records.Abort n.top n.subs) }) n.stands) in
+      let his = (records_given start lists n.by.session k).abort n.top n.subs id a n.among in
+      one_session start.base (history lists) k.events.legal n.by.session by.session id (contains_has (given_to n.by.session (history lists)) id his) mine
 
   pub commit_once : (top : ℕ) (subs : List ℕ) → open_ids by.session (history seen) ≡ top ∷ subs → HasNoRecord seen by.session → ((id : ℕ) → Contains (top ∷ subs) id → HasNoAbort seen by.session id) → OnceOf (at seen log_lock) (records.Commit top subs)
   commit_once top subs opened none unaborted id c =
@@ -98,8 +112,8 @@ module _ (start : Start) (seen lists : List (List Entry)) (by : By) (k : EngineI
   pub multi_once : (multi offset : ℕ) (members : List Member) → IsGenOf seen by.session multi offset members → HasNoMulti seen by.session multi → OnceOf (at seen log_lock) (records.Multi multi offset members)
   multi_once multi offset members gen none n =
       let h = multi_history lists in
-      let e : Entry = record { by = n.by; kind = kinds.Append (records.Multi multi n.offset n.members) } in
-      let theirs = (upheld_has (NeedsNamed start) lists log_lock e k.log.named (contains_has (at lists log_lock) e (stands_now e n.stands))).1.0 in
+      let a : IsAppended lists n.by.session (records.Multi multi n.offset n.members) = (n.by, refl, stands_now (record { by = n.by; kind = kinds.Append (records.Multi multi n.offset n.members) }) n.stands) in
+      let theirs = (records_given start lists n.by.session k).multi multi n.offset n.members a in
       let mine : Contains h (multis.Gen gen.0 multi offset members) = contains_begins (multi_history seen) h (multis.Gen gen.0 multi offset members) (multis_grow seen lists knows.grows) gen.2 in
       let one = one_gen start.base theirs.0 gen.0 multi n.offset offset n.members members h (multis_are_legal start lists k) (contains_has h (multis.Gen theirs.0 multi n.offset n.members) theirs.2) (contains_has h (multis.Gen gen.0 multi offset members) mine) in
       let same : n.by.session ≡ by.session = sym theirs.1 ∙ ap (λ (z : MultiEvent). (multi_by z).session) one ∙ gen.1 in

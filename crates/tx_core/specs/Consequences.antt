@@ -1,9 +1,9 @@
 -- What follows from the invariant, of any lists that keep it.
-use Rattle.std.specs.Prelude.{Contains, IsTrue, List, Some, length, min, slice_get, take, true, ℕ, ◌+◌, ◌-◌, ◌<◌, ◌^◌, ◌∷◌, ◌≡◌, ◌≤◌}
+use Rattle.std.specs.Prelude.{[], Contains, IsTrue, List, Some, length, min, slice_get, take, true, ℕ, ◌+◌, ◌++◌, ◌-◌, ◌<◌, ◌^◌, ◌∷◌, ◌≡◌, ◌≤◌}
 use Rattle.tx_events.specs.declared.event.By.{By}
 use Rattle.tx_events.specs.declared.event.Event.{Event}
 use Rattle.tx_events.specs.Base.{IsBase}
-use Rattle.tx_events.specs.Events.{given, given_to}
+use Rattle.tx_events.specs.Events.{given_to}
 use Rattle.tx_events.specs.History.{next_given}
 use Rattle.tx_events.specs.Horizon.{LiveSnap, live_snaps, oldest_id, oldest_xmin}
 use Rattle.tx_events.specs.Running.{open_ids}
@@ -18,8 +18,9 @@ use Rattle.tx_core.specs.StaysDown.{is_down}
 use Rattle.tx_core.specs.MultiEntries.{multi_history}
 use Rattle.notes.specs.Lists.{Grows, at}
 use Rattle.tx_core.specs.Locks.{log_lock, oldest_word, subtrans_lock, subtrans_page, xact_lock, xact_page, xmin_word}
-use Rattle.tx_core.specs.RecordsFollow.{counters_after}
-use Rattle.tx_events.specs.Multis.{AreLegalMultis, InBase}
+use Rattle.tx_core.specs.RecordsFollow.{AreNotBelow, IsGenOf, counters_after}
+use Rattle.tx_events.specs.Multis.{AreLegalMultis, InBase, multi_counters}
+use Rattle.tx_events.specs.declared.record.Counters.{Counters}
 use Rattle.tx_events.specs.declared.multi.Member.{Member}
 use Rattle.tx_events.specs.declared.multi.MultiEvent.TheVariants as multis
 use Rattle.tx_core.specs.declared.entry.Kind.TheVariants as kinds
@@ -119,3 +120,35 @@ DownStays = (start : Start) (lists more : List (List Entry)) → EngineInvariant
     → is_down (at lists log_lock) ≡ true
     → (records_of more ≡ records_of lists)
     × (flushed_to start (at more log_lock) ≡ flushed_to start (at lists log_lock))
+
+-- the counters that the ProcArray's list and the multixacts' list give
+abbrev pub counters_now : Start → List (List Entry) → Counters
+counters_now start lists = record (multi_counters start.base (multi_history lists)) {
+  next = next_given start.base.next (history lists);
+  oldest = oldest_id start.base.oldest (history lists);
+}
+
+-- No counter of the log is past them. So a checkpoint of these counters is not below the log's.
+abbrev pub LogIsBehind : Type 0
+LogIsBehind = (start : Start) (lists : List (List Entry)) → EngineInvariant start lists → IsBase start.base
+    → AreNotBelow (counters_after start (at lists log_lock)) (counters_now start lists)
+
+-- The log's counters behind a checkpoint are the checkpoint's own.
+abbrev pub CheckpointsTell : Type 0
+CheckpointsTell = (start : Start) (lists : List (List Entry)) (before rest : List Entry) (by : By) (number : ℕ) (counters : Counters) →
+    EngineInvariant start lists
+    → at lists log_lock ≡ before ++ record { by = by; kind = kinds.Append (records.Checkpoint number counters) } ∷ rest
+    → counters_after start (before ++ record { by = by; kind = kinds.Append (records.Checkpoint number counters) } ∷ [])
+    ≡ counters
+
+-- What a session's record names was given to it. So none of its records names what it is given later.
+pub record AreGiven (lists : List (List Entry)) (session : ℕ) : Type 0 where
+  pub commit : (top : ℕ) (subs : List ℕ) (id : ℕ) → IsAppended lists session (records.Commit top subs)
+      → Contains (top ∷ subs) id → Contains (given_to session (history lists)) id
+  pub abort : (top : ℕ) (subs : List ℕ) (id : ℕ) → IsAppended lists session (records.Abort top subs)
+      → Contains (top ∷ subs) id → Contains (given_to session (history lists)) id
+  pub multi : (multi offset : ℕ) (members : List Member) → IsAppended lists session (records.Multi multi offset members)
+      → IsGenOf lists session multi offset members
+
+abbrev pub RecordsGiven : Type 0
+RecordsGiven = (start : Start) (lists : List (List Entry)) (session : ℕ) → EngineInvariant start lists → AreGiven lists session

@@ -24,5 +24,6 @@ pub mod EngineInvariant
 pub mod Verdict
 pub mod Pages
 pub mod Nearness
+pub mod Held
 pub mod Laws
 pub mod Consequences

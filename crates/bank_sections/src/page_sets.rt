@@ -1,25 +1,25 @@
 //! States are set, of ids that share a page.
-ghost use Rattle.std.specs.Prelude.{◌≡◌, ℕ, ◌+◌, ◌*◌, ◌<◌, ◌≤◌, [], Contains, Err, OnErr, OnOk, Some, length};
+ghost use Rattle.std.specs.Prelude.{◌≡◌, ℕ, ◌+◌, ◌*◌, ◌<◌, ◌≤◌, [], Contains, Err, OnErr, OnOk, Some, length, slice_index};
 ghost use Rattle.std.specs.List.{slice_range};
 ghost use Rattle.hall.specs.Calls.{view, IsOf, start_of};
 ghost use Rattle.pg_xact_log.specs.States.{state_number};
 ghost use Rattle.slru_bank.specs.declared.refusal.BankRefusal.TheVariants.{Cut, DiskFault};
 ghost use Rattle.tx_core.specs.declared.entry.Kind.TheVariants as kinds;
+ghost use Rattle.store_pages.specs.Layouts.{xact_page_of};
 ghost use Rattle.tx_core.specs.Entries.{IsMarked};
 ghost use Rattle.tx_core.specs.Laws.{all_set};
 ghost use Rattle.tx_core.specs.Locks.{xact_lock};
-ghost use Rattle.engine_parts.specs.Answers.{MetFault};
+ghost use Rattle.engine_parts.specs.Answers.{AreFewIds, MetFault};
 ghost use Rattle.engine_parts.specs.Sessions.{IsReady, by_at};
 ghost use Rattle.engine_parts.specs.Stages.{AsksNothing};
 ghost use Rattle.engine_parts.specs.Stand.{number_of_state};
 ghost use Rattle.engine_parts.specs.Steps.{GoesOn};
-ghost use Rattle.bank_sections.specs.Kept.{AreIdsNear};
+ghost use Rattle.bank_sections.specs.Sections.{BankSection, IsXactCut};
 ghost use Rattle.bank_sections.specs.Sets.{AsksOnly, MaySet};
 
-use crate::entries::command_of;
 use crate::refused::leave_refused;
 use disk_core::{LogDisk, PageDisk};
-use engine_parts::{Caller, EngineLaw, Part, enter_xact, fault_note, leave_quiet};
+use engine_parts::{Caller, EngineLaw, Part, command_of, enter_xact, fault_note, leave_quiet};
 use hall::{Hall, Note};
 use pg_xact_log::set_states;
 use slru_bank::BankRefusal;
@@ -46,8 +46,8 @@ fn set_note(by: By, ids: &[FullXid], state: State) -> Note<Entry>
 }
 
 /// Sets the state of the session's open ids from the `first` one to before the `past` one, which share a page of the
-/// bank (`TransactionIdSetPageStatus` of `clog.c`). After an error none is set. The page isn't cut, as long as the life's
-/// ids are near.
+/// bank (`TransactionIdSetPageStatus` of `clog.c`). After an error none is set. The page isn't cut, in a life of few
+/// ids.
 pub fn set_page<R: Wait, L: LogDisk, P: PageDisk>(
     rt: &R,
     hall: &Hall<EngineLaw<L, P>>,
@@ -65,6 +65,13 @@ pub fn set_page<R: Wait, L: LogDisk, P: PageDisk>(
     requires among { past ≤ length caller.old.session.levels.open_ids.items }
     requires may { MaySet (start_of hall.now) (view caller.old.pass).seen caller.old.number bank
         (slice_range caller.old.session.levels.open_ids.items first past) state }
+    ensures section { BankSection (start_of hall.now) (xact_lock bank)
+        (by_at caller.old.number caller.old.session.levels.commands)
+        (IsXactCut (start_of hall.now) (view caller.new.pass).seen bank
+        (xact_page_of (slice_index (slice_range caller.old.session.levels.open_ids.items first past) 0)))
+        (kinds.Set (all_set (by_at caller.old.number caller.old.session.levels.commands) state
+        (slice_range caller.old.session.levels.open_ids.items first past)))
+        (view caller.old.pass) (view caller.new.pass) result }
     ensures own { IsOf hall.now caller.new.pass }
     ensures ready { IsReady (start_of hall.now) (view caller.new.pass) caller.new.number caller.new.session }
     ensures goes { GoesOn caller.old.number [] (view caller.old.pass).seen (view caller.new.pass).seen }
@@ -76,7 +83,7 @@ pub fn set_page<R: Wait, L: LogDisk, P: PageDisk>(
         → IsMarked (start_of hall.now) (view caller.new.pass).seen id state) }
     ensures fault { result ≡ Err DiskFault → MetFault (view caller.new.pass).seen (xact_lock bank)
         (by_at caller.old.number caller.old.session.levels.commands) }
-    ensures uncut { AreIdsNear (start_of hall.now) (view caller.new.pass).seen
+    ensures uncut { AreFewIds (view caller.new.pass).seen
         → (cutoff : ℕ) → result ≡ Err (Cut cutoff) → ⊥ }
     ensures same { (caller.new.session ≡ caller.old.session) × (caller.new.number ≡ caller.old.number) }
 {

@@ -6,13 +6,14 @@ ghost use Rattle.notes.specs.Lists.{at};
 ghost use Rattle.tx_core.specs.declared.entry.Kind.TheVariants as kinds;
 ghost use Rattle.tx_core.specs.Laws.{StaysBase};
 ghost use Rattle.tx_core.specs.Locks.{log_lock};
+ghost use Rattle.tx_core.specs.StaysDown.{IsUp};
 ghost use Rattle.engine_parts.specs.declared.session.Stage.TheVariants as stages;
 ghost use Rattle.engine_parts.specs.Holds.{Leaves};
 ghost use Rattle.engine_parts.specs.Parts.{IsLogOf};
 ghost use Rattle.engine_parts.specs.Sessions.{IsAt, IsReady, MayCall, by_at};
 ghost use Rattle.engine_parts.specs.Stages.{AreUnasked};
 ghost use Rattle.engine_parts.specs.Steps.{WentOn};
-ghost use Rattle.log_sections.specs.LogSections.{Appends, IsCommitOf};
+ghost use Rattle.log_sections.specs.LogSections.{AppendSection, Appends, IsCommitOf};
 
 use crate::refusals::refusal_of;
 use disk_core::{LogDisk, PageDisk};
@@ -45,8 +46,10 @@ fn leave_appended<L: LogDisk, P: PageDisk>(
     requires inside { (view caller.old.pass).stage ≡ Inside log_lock }
     requires cell { caller.old.pass.cell ≡ log_lock }
     requires at { IsAt (start_of hall.now) (view caller.old.pass) caller.old.number caller.old.session }
+    requires clear { caller.old.session.stage ≡ stages.Clear }
     requires linked { caller.old.session.unlinked ≡ None }
     requires record { IsCommitOf caller.old.session.levels.open_ids.items rec.now }
+    requires up { IsUp (at (view caller.old.pass).seen log_lock) }
     requires unasked { AreUnasked (view caller.old.pass).seen caller.old.number
         caller.old.session.levels.open_ids.items }
     requires base { StaysBase (start_of hall.now) (view caller.old.pass).seen rec.now }
@@ -76,7 +79,8 @@ fn leave_appended<L: LogDisk, P: PageDisk>(
 /// `src/backend/access/transam/xact.c`): one critical section of the log. No end was begun, and the parents of all open
 /// ids are recorded. From then on the session's commit is pending under the record's number.
 ///
-/// Refused with `LogDown`, `Full` or `Memory`; then, and where the log can't take the record, nothing was appended.
+/// Refused with `LogDown`, or where the log isn't down with `Full` or `Memory`; then, and where the log can't take the
+/// record, nothing was appended.
 pub fn append_commit<R: Wait, L: LogDisk, P: PageDisk>(
     rt: &R,
     hall: &Hall<EngineLaw<L, P>>,
@@ -92,6 +96,9 @@ pub fn append_commit<R: Wait, L: LogDisk, P: PageDisk>(
     ensures own { IsOf hall.now caller.new.pass }
     ensures may { MayCall (start_of hall.now) (view caller.new.pass) caller.new.number caller.new.session }
     ensures went { WentOn caller.old.number [] (view caller.old.pass).seen (view caller.new.pass).seen }
+    ensures section { AppendSection (start_of hall.now)
+        (by_at caller.old.number caller.old.session.levels.commands) rec.now (view caller.old.pass)
+        (view caller.new.pass) result }
     ensures appends { Appends (start_of hall.now) (view caller.new.pass).seen rec.now caller.old.session
         caller.new.session result }
     ensures number { caller.new.number ≡ caller.old.number }

@@ -4,15 +4,18 @@ ghost use Rattle.hall.specs.declared.view.Stage.TheVariants.{Inside};
 ghost use Rattle.hall.specs.Calls.{view, IsOf, start_of};
 ghost use Rattle.notes.specs.Lists.{at};
 ghost use Rattle.tx_core.specs.declared.entry.Kind.TheVariants as kinds;
-ghost use Rattle.tx_core.specs.Entries.{records_of};
+ghost use Rattle.disk_core.specs.Faults.{HasRisen};
+ghost use Rattle.tx_core.specs.Entries.{flushed_to, records_of};
+ghost use Rattle.tx_core.specs.FaultsRise.{faults_told};
 ghost use Rattle.tx_core.specs.Locks.{log_lock};
+ghost use Rattle.tx_core.specs.StaysDown.{IsUp};
 ghost use Rattle.wal_core.specs.LogViews.{log_disk};
 ghost use Rattle.engine_parts.specs.Faults.{flush_fault_by};
 ghost use Rattle.engine_parts.specs.Holds.{Leaves};
 ghost use Rattle.engine_parts.specs.Parts.{IsLogOf};
 ghost use Rattle.engine_parts.specs.Sessions.{IsAt, IsReady, MayCall, by_at};
 ghost use Rattle.engine_parts.specs.Steps.{WentOn};
-ghost use Rattle.log_sections.specs.LogSections.{IsFlushedPast, IsFlushRefused};
+ghost use Rattle.log_sections.specs.LogSections.{FlushSection, IsFlushedPast, IsFlushRefused};
 
 use crate::refusals::refusal_of;
 use disk_core::{LogDisk, PageDisk};
@@ -44,6 +47,8 @@ fn leave_flushed<L: LogDisk, P: PageDisk>(
     requires inside { (view caller.old.pass).stage ≡ Inside log_lock }
     requires cell { caller.old.pass.cell ≡ log_lock }
     requires at { IsAt (start_of hall.now) (view caller.old.pass) caller.old.number caller.old.session }
+    requires rises { flushed_to (start_of hall.now) (at (view caller.old.pass).seen log_lock) ≤ to }
+    requires up { IsUp (at (view caller.old.pass).seen log_lock) }
     requires within { to ≤ (start_of hall.now).from + length (records_of (view caller.old.pass).seen) }
     requires stands { IsLogOf (start_of hall.now) log
         (at (view caller.old.pass).seen log_lock ++ record {
@@ -76,6 +81,10 @@ fn leave_failed<L: LogDisk, P: PageDisk>(
     requires inside { (view caller.old.pass).stage ≡ Inside log_lock }
     requires cell { caller.old.pass.cell ≡ log_lock }
     requires at { IsAt (start_of hall.now) (view caller.old.pass) caller.old.number caller.old.session }
+    requires up { IsUp (at (view caller.old.pass).seen log_lock) }
+    requires risen { HasRisen
+        (faults_told (start_of hall.now) log_lock (at (view caller.old.pass).seen log_lock))
+        (L.faults (log_disk log)) }
     requires stands { IsLogOf (start_of hall.now) log
         (at (view caller.old.pass).seen log_lock
         ++ flush_fault_by (by_at caller.old.number caller.old.session.levels.commands) (L.faults (log_disk log)) ∷ []) }
@@ -98,7 +107,8 @@ fn leave_failed<L: LogDisk, P: PageDisk>(
 /// `src/backend/access/transam/xlog.c`): one critical section of the log. No device call is made where another
 /// session's flush covered the record, even on a log that is down; else all records are flushed.
 ///
-/// Refused with `LogFault`, after which the log is down and the record may be on disk or not, or with `LogDown`.
+/// Refused with `LogFault`, after which the log is down and the record may be on disk or not, or with `LogDown`, where
+/// the record wasn't on disk when the log went down.
 pub fn flush_log<R: Wait, L: LogDisk, P: PageDisk>(
     rt: &R,
     hall: &Hall<EngineLaw<L, P>>,
@@ -113,9 +123,12 @@ pub fn flush_log<R: Wait, L: LogDisk, P: PageDisk>(
     ensures own { IsOf hall.now caller.new.pass }
     ensures may { MayCall (start_of hall.now) (view caller.new.pass) caller.new.number caller.new.session }
     ensures went { WentOn caller.old.number [] (view caller.old.pass).seen (view caller.new.pass).seen }
+    ensures section { FlushSection (start_of hall.now)
+        (by_at caller.old.number caller.old.session.levels.commands) number (view caller.old.pass)
+        (view caller.new.pass) result }
     ensures flushes { MatchResult result (λ _. IsFlushedPast (view caller.new.pass).seen number)
         (IsFlushRefused (start_of hall.now) (view caller.new.pass).seen
-        (by_at caller.old.number caller.old.session.levels.commands)) }
+        (by_at caller.old.number caller.old.session.levels.commands) number) }
     ensures same { (caller.new.session ≡ caller.old.session) × (caller.new.number ≡ caller.old.number) }
 {
     let mut log = enter_log(rt, hall, caller);

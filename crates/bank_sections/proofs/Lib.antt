@@ -7,4 +7,5 @@ pub mod Sameness
 pub mod StateSeen
 pub mod StateSetting
 pub mod Uncut
+pub mod Unlinking
 pub mod Visiting

@@ -2,3 +2,4 @@ pub mod Refusals
 pub mod Reads
 pub mod Sets
 pub mod Kept
+pub mod Parents

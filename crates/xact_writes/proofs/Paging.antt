@@ -1,5 +1,5 @@
 -- The pages of an id.
-use Rattle.std.proofs.Common.{◌≡◌, ℕ, ◌≤◌, ◌%◌, List, inr, sym, ap, subst, ◌∙◌, arith, length}
+use Rattle.std.proofs.Common.{◌≡◌, ℕ, ◌%◌, List, inr, sym, ap, subst, ◌∙◌, arith, length}
 use Rattle.xid_order.specs.Ids.{low_half}
 use Rattle.tx_events.specs.Events.{given}
 use Rattle.tx_events.specs.History.{next_given}

@@ -1,5 +1,5 @@
 -- A write on its way, and what it did when it is done or refused.
-use Rattle.std.proofs.Common.{◌≡◌, ◌≢◌, ◌⊎◌, ◌↔◌, ℕ, ◌+◌, ◌≤◌, ◌<◌, ◌==◌, List, [], ◌∷◌, ◌++◌, Option, None, Some, Bool, false, IsTrue, ◌||◌, inl, inr, ⊎_elim, refl, sym, ap, subst, ◌∙◌, append-nil, append_assoc, arith, length, map, eq-eqb, ne_eqb}
+use Rattle.std.proofs.Common.{◌≡◌, ◌≢◌, ◌↔◌, ℕ, ◌+◌, ◌≤◌, ◌<◌, ◌==◌, List, [], ◌∷◌, ◌++◌, Option, None, Bool, false, IsTrue, ◌||◌, inr, ⊎_elim, refl, sym, ap, subst, ◌∙◌, append-nil, append_assoc, arith, length, map, eq-eqb, ne_eqb}
 use Rattle.std.specs.List.{AllByRecursion, filter}
 use Rattle.notes.proofs.Growing.{begins_length}
 use Rattle.tx_events.specs.declared.event.By.{By}
@@ -10,13 +10,13 @@ use Rattle.tx_events.specs.declared.refusal.Refusal.{Refusal}
 use Rattle.tx_events.specs.declared.refusal.Refusal.TheVariants as refusals
 use Rattle.tx_events.specs.Events.{by_of, given, is_of}
 use Rattle.tx_events.proofs.ListSteps.{all_weaker, length_push}
-use Rattle.tx_events.proofs.Membership.{Has, all_from, none_passes}
+use Rattle.tx_events.proofs.Membership.{all_from, none_passes}
 use Rattle.tx_events.proofs.OwnEvents.{AreLater}
 use Rattle.tx_model.specs.declared.command.Command.TheVariants as commands
 use Rattle.tx_model.specs.declared.reply.Reply.TheVariants as replies
 use Rattle.tx_model.specs.CommandEvents.{giving, level_events}
 use Rattle.tx_model.specs.Replies.{IsWarned, alone}
-use Rattle.tx_model.specs.Stance.{Stance, filled, lacking}
+use Rattle.tx_model.specs.Stance.{filled}
 use Rattle.tx_model.proofs.Growth.{may_reply_grows}
 use Rattle.tx_core.specs.declared.entry.Entry.{Entry}
 use Rattle.tx_core.specs.declared.entry.Start.{Start}

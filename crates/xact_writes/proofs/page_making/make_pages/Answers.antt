@@ -1,4 +1,4 @@
-use Rattle.std.proofs.Common.{◌≡◌, ℕ, [], Err, refl, sym, ap, subst, ◌∙◌}
+use Rattle.std.proofs.Common.{[], Err, ap, subst, ◌∙◌}
 use Rattle.hall.specs.Calls.{view, start_of}
 use Rattle.tx_events.specs.declared.event.By.{By}
 use Rattle.tx_core.specs.Locks.{subtrans_lock}

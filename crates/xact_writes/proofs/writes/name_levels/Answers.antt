@@ -1,4 +1,4 @@
-use Rattle.std.proofs.Common.{◌≡◌, ℕ, ◌+◌, ◌≤◌, ◌∷◌, ◌++◌, List, Bool, ◌||◌, arith, ap, ◌∙◌, subst, sym, refl, [], false}
+use Rattle.std.proofs.Common.{◌≡◌, ℕ, ◌≤◌, ◌∷◌, ◌++◌, List, ◌||◌, arith, ap, ◌∙◌, subst, sym, refl, [], false}
 use Rattle.std.specs.List.{AllByRecursion, filter}
 use Rattle.hall.specs.Calls.{view, start_of}
 use Rattle.tx_events.specs.declared.event.By.{By}

@@ -1,4 +1,4 @@
-use Rattle.std.proofs.Common.{◌≡◌, ℕ, ◌+◌, ◌≤◌, None}
+use Rattle.std.proofs.Common.{◌≡◌, ◌+◌, ◌≤◌, None}
 use Rattle.std.specs.Vec.{vec_len, vec_capacity}
 use Rattle.hall.specs.Calls.{view, IsOf, start_of}
 use Rattle.engine_parts.specs.Sessions.{MayCall}

@@ -1,13 +1,12 @@
-use Rattle.std.proofs.Common.{refl, ◌≡◌, ℕ, ◌==◌, List, ap, ◌∙◌, sym, subst, Some, None, length, arith, eq-eqb, ne_eqb}
+use Rattle.std.proofs.Common.{refl, ◌≡◌, ℕ, ◌==◌, List, ap, ◌∙◌, sym, subst, Some, length, arith, eq-eqb, ne_eqb}
 use Rattle.std.proofs.lemmas.List.{nil_from_length}
-use Rattle.hall.specs.Calls.{start_of, view}
+use Rattle.hall.specs.Calls.{view}
 use Rattle.tx_events.specs.declared.refusal.Refusal.TheVariants as refusals
 use Rattle.tx_model.specs.declared.command.Command.TheVariants as commands
 use Rattle.tx_core.specs.declared.entry.Entry.{Entry}
 use Rattle.session_levels.specs.Stands as levels
 use Rattle.engine_parts.specs.Answers.{reply_of}
-use Rattle.engine_parts.specs.Calls.{Ran, next_command}
-use Rattle.engine_parts.specs.Sessions.{by_at, stance_of}
+use Rattle.engine_parts.specs.Sessions.{stance_of}
 use Rattle.engine_parts.specs.Stages.{pending_in}
 use Rattle.engine_parts.proofs.Calling.{may_counted, own_counted, ran_counted, ran_held, ran_refused}
 use Rattle.engine_parts.proofs.Refusing.{first_fails, first_holds, held_up}

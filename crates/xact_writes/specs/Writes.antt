@@ -53,20 +53,24 @@ pub record IsAlike (s s' : Session) : Type 0 where
   pub unlinked : s'.unlinked ≡ s.unlinked
 
 -- the id of a level was given, after the lists went on without an event of the session's
-pub record IsGivenLater (start : Start) (n : ℕ) (s s' : Session) (id : ℕ) (warn : Bool) (lists more : List (List Entry)) : Type 0 where
+pub record IsGivenLater (start : Start) (n : ℕ) (s s' : Session) (id : ℕ) (warn : Bool)
+    (lists more : List (List Entry)) : Type 0 where
   pub middle : List (List Entry)
   pub went : WentOn n [] lists middle
   pub given : GivesId start n s s' middle more (Ok (answers.Id id warn))
 
-abbrev pub GivesLevel : Start → ℕ → Session → Session → List (List Entry) → List (List Entry) → Result (ℕ × Bool) Refusal → Type 0
+abbrev pub GivesLevel : Start → ℕ → Session → Session → List (List Entry) → List (List Entry)
+    → Result (ℕ × Bool) Refusal → Type 0
 GivesLevel start n s s' lists more (Ok given) = IsGivenLater start n s s' given.0 given.1 lists more
 GivesLevel start n s s' lists more (Err r) =
     WentOn n [] lists more × IsAlike s s' × IsWithout start more (by_at n s.levels.commands) r
 
 -- a write on its way: these ids were given so far, to the outermost levels that lacked one
-pub record Writing (start : Start) (n : ℕ) (s s' : Session) (ids : List ℕ) (warn : Bool) (lists more : List (List Entry)) : Type 0 where
+pub record Writing (start : Start) (n : ℕ) (s s' : Session) (ids : List ℕ) (warn : Bool)
+    (lists more : List (List Entry)) : Type 0 where
   pub went : WentOn n
-      (level_events (by_at n s.levels.commands) None (levels_of s.levels.level_ids.items s.levels.unnamed) ids) lists more
+      (level_events (by_at n s.levels.commands) None (levels_of s.levels.level_ids.items s.levels.unnamed) ids)
+      lists more
   pub named : s'.levels.level_ids.items ≡ s.levels.level_ids.items ++ ids
   pub left : s.levels.unnamed ≡ length ids + s'.levels.unnamed
   pub registered : s'.levels.registered ≡ s.levels.registered

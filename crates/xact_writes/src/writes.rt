@@ -77,11 +77,11 @@ fn name_levels<R: Wait, L: LogDisk, P: PageDisk>(
 
 /// Gives an id to each level that lacks one, from the transaction down (`AssignTransactionId` of
 /// `src/backend/access/transam/xact.c`, which gives a parent its id before its child). A parent that an earlier command
-/// couldn't record is recorded first.
+/// couldn't record is recorded first. `banks` is the number of banks of each store, 1 to 16.
 ///
-/// Refused, in this order, with `NoTransaction` where no transaction is open, and with `CommitPending`, `AbortPending` or
-/// `UndoPending` where an end was begun. Or with `DiskFault` of a bank of pg_xact or pg_subtrans, with `Stop` at the stop
-/// limit, or with `Memory`: then the ids given so far stay. The session has run fewer than 2^48 commands.
+/// Refused, in this order, with `NoTransaction` where no transaction is open, and with `CommitPending`, `AbortPending`
+/// or `UndoPending` where an end was begun. Or with `DiskFault` of a bank of pg_xact or pg_subtrans, with `Stop` at the
+/// stop limit, or with `Memory`: then the ids that were given stay. The session has run fewer than 2^48 commands.
 pub fn write<R: Wait, L: LogDisk, P: PageDisk>(
     rt: &R,
     hall: &Hall<EngineLaw<L, P>>,

@@ -1,5 +1,5 @@
 -- A session that went on through critical sections without an event, and the parent that is still to be recorded.
-use Rattle.std.proofs.Common.{◌≡◌, ℕ, List, ◌%◌, Option, Some, IfSome, inl, ⊎_elim, sym, ap, subst, ◌∙◌}
+use Rattle.std.proofs.Common.{Contains, drop, ◌≡◌, ℕ, List, ◌%◌, Option, Some, IfSome, inl, ⊎_elim, sym, ap, subst, ◌∙◌}
 use Rattle.xid_order.specs.Ids.{low_half}
 use Rattle.tx_events.specs.declared.event.Event.{Event}
 use Rattle.tx_core.specs.declared.entry.Start.{Start}
@@ -26,7 +26,7 @@ call_went start v w n n' s s' added m went number same r = record {
 
 -- the id was given below the parent
 pub still_below : (start : Start) (v : Knowledge) (n : ℕ) (s : Session) (u : Unlinked) → IsAt start v n s → s.unlinked ≡ Some u → IsGivenBelow v.seen n u.parent u.id
-still_below start v n s u a is = (subst (λ (o : Option Unlinked). IfSome o (λ u. IsGivenBelow v.seen n u.parent u.id × IsMade start v.seen u.id)) is a.filed.pending).0
+still_below start v n s u a is = (subst (λ (o : Option Unlinked). IfSome o (λ u. Contains (drop 1 s.levels.open_ids.items) u.id × IsGivenBelow v.seen n u.parent u.id × IsMade start v.seen u.id)) is a.filed.pending).1
 
 -- the bank that is asked is that of its page
 pub parent_lock : (start : Start) (id low page bank banks : ℕ) → low ≡ low_half id → page ≡ subtrans_page low → bank ≡ page % banks → banks ≡ start.banks → subtrans_lock_of start id ≡ subtrans_lock bank

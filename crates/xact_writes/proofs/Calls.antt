@@ -17,7 +17,7 @@ use Rattle.engine_parts.proofs.Refusing.{keeps_stage}
 
 module _ {H L P : Type 0} {l : logs.Ghosts L} {p : disks.Ghosts P} (hall : Hall H (Part L P l p) Entry Start) where
   pub ran_write : (old new : Caller L P l p) (reply : Reply) → IsOf hall new.pass → MayCall (start_of hall) (view new.pass) new.number new.session → new.session.stage ≡ old.session.stage → new.session.levels.commands ≡ old.session.levels.commands → new.number ≡ old.number
-      → Acted (start_of hall) (by_at old.number old.session.levels.commands) (stance_of old.session) (stance_of new.session) old.session.stage commands.Write reply (view old.pass).seen (view new.pass).seen
+      → Acted (p.tells) (start_of hall) (by_at old.number old.session.levels.commands) (stance_of old.session) (stance_of new.session) old.session.stage commands.Write reply (view old.pass).seen (view new.pass).seen
       → Ran hall old.session.levels.commands commands.Write reply old new
   ran_write old new reply own may stage count number acted = record {
     own = own;

@@ -133,7 +133,7 @@ not_refused s clear some =
     first_fails (length (stance_of s).levels == 0) refusals.NoTransaction _ (ne_eqb (length (stance_of s).levels) 0 (λ e. omega arith))
     ∙ ap (λ (z : Stage). first_of (held_by commands.Write z ∷ [])) clear
 
-module _ (start : Start) (n : ℕ) (s s1 : Session) (ids : List ℕ) (warn : Bool) (lists more : List (List Entry)) (k : Writing start n s s1 ids warn lists more) (clear : s.stage ≡ stages.Clear)
+module _ (tells : Bool) (start : Start) (n : ℕ) (s s1 : Session) (ids : List ℕ) (warn : Bool) (lists more : List (List Entry)) (k : Writing start n s s1 ids warn lists more) (clear : s.stage ≡ stages.Clear)
     (some : 1 ≤ length (levels_of s.levels.level_ids.items s.levels.unnamed)) where
   abbrev by : By
   by = by_at n s.levels.commands
@@ -148,7 +148,7 @@ module _ (start : Start) (n : ℕ) (s s1 : Session) (ids : List ℕ) (warn : Boo
       ∙ (λ j. record { levels = levels_of (sym k.named j) s1.levels.unnamed; snaps = map told_of (ap (λ z. z.items) (sym k.registered) j) }))
 
   -- each level has its id
-  pub acted_wrote : s1.levels.unnamed ≡ 0 → Acted start by (stance_of s) (stance_of s1) s.stage commands.Write (replies.Wrote ids warn) lists more
+  pub acted_wrote : s1.levels.unnamed ≡ 0 → Acted tells start by (stance_of s) (stance_of s1) s.stage commands.Write (replies.Wrote ids warn) lists more
   acted_wrote done = record {
     grows = k.went.on.grows;
     added = es;
@@ -161,14 +161,14 @@ module _ (start : Start) (n : ℕ) (s s1 : Session) (ids : List ℕ) (warn : Boo
   }
 
   -- a fault was met, at the last parent maybe
-  pub acted_faulted : (r : Refusal) → IsFaultOf more by r → Acted start by (stance_of s) (stance_of s1) s.stage commands.Write (replies.Refused r) lists more
+  pub acted_faulted : (r : Refusal) → IsFaultOf more by r → Acted tells start by (stance_of s) (stance_of s1) s.stage commands.Write (replies.Refused r) lists more
   acted_faulted (refusals.DiskFault (locks.Xact bank)) met = record {
     grows = k.went.on.grows;
     added = es;
     own = k.went.on.own;
     each = events_own by None (levels_of s.levels.level_ids.items s.levels.unnamed) ids;
     fitting = inr (ids, refl, (let l = k.left in let z = levels_lack s.levels.level_ids.items s.levels.unnamed in omega arith));
-    allowed = met;
+    allowed = (refl, met);
     standing = sym (not_refused s clear some);
     left = left_stance;
   }
@@ -178,14 +178,14 @@ module _ (start : Start) (n : ℕ) (s s1 : Session) (ids : List ℕ) (warn : Boo
     own = k.went.on.own;
     each = events_own by None (levels_of s.levels.level_ids.items s.levels.unnamed) ids;
     fitting = inr (ids, refl, (let l = k.left in let z = levels_lack s.levels.level_ids.items s.levels.unnamed in omega arith));
-    allowed = met;
+    allowed = (refl, met);
     standing = sym (not_refused s clear some);
     left = left_stance;
   }
   acted_faulted r met = absurd met
 
   -- want of memory
-  pub acted_starved : 1 ≤ s1.levels.unnamed → Acted start by (stance_of s) (stance_of s1) s.stage commands.Write (replies.Refused refusals.Memory) lists more
+  pub acted_starved : 1 ≤ s1.levels.unnamed → Acted tells start by (stance_of s) (stance_of s1) s.stage commands.Write (replies.Refused refusals.Memory) lists more
   acted_starved lacks = record {
     grows = k.went.on.grows;
     added = es;
@@ -198,14 +198,14 @@ module _ (start : Start) (n : ℕ) (s s1 : Session) (ids : List ℕ) (warn : Boo
   }
 
   -- the next level wasn't given an id
-  pub acted_without : (r : Refusal) → 1 ≤ s1.levels.unnamed → AllByRecursion (λ e. (by_of e).command ≤ s.levels.commands) (filter (is_of n) (history more)) → IsWithout start more by r → Acted start by (stance_of s) (stance_of s1) s.stage commands.Write (replies.Refused r) lists more
+  pub acted_without : (r : Refusal) → 1 ≤ s1.levels.unnamed → AllByRecursion (λ e. (by_of e).command ≤ s.levels.commands) (filter (is_of n) (history more)) → IsWithout start more by r → Acted tells start by (stance_of s) (stance_of s1) s.stage commands.Write (replies.Refused r) lists more
   acted_without r lacks turn why =
       let l = k.left in
       let z = levels_lack s.levels.level_ids.items s.levels.unnamed in
       let longer = begins_length (history lists) (history more) (history_grows lists more k.went.on.grows) in
       ⊎_elim (⊎_elim
-      (λ (m : r ≡ refusals.Memory). subst (λ (q : Refusal). Acted start by (stance_of s) (stance_of s1) s.stage commands.Write (replies.Refused q) lists more) (sym m) (acted_starved lacks))
-      (λ p. subst (λ (q : Refusal). Acted start by (stance_of s) (stance_of s1) s.stage commands.Write (replies.Refused q) lists more) (sym p.1) (record {
+      (λ (m : r ≡ refusals.Memory). subst (λ (q : Refusal). Acted tells start by (stance_of s) (stance_of s1) s.stage commands.Write (replies.Refused q) lists more) (sym m) (acted_starved lacks))
+      (λ p. subst (λ (q : Refusal). Acted tells start by (stance_of s) (stance_of s1) s.stage commands.Write (replies.Refused q) lists more) (sym p.1) (record {
         grows = k.went.on.grows;
         added = es;
         own = k.went.on.own;
@@ -219,9 +219,9 @@ module _ (start : Start) (n : ℕ) (s s1 : Session) (ids : List ℕ) (warn : Boo
       why
 
 -- want of memory before anything was done
-pub acted_at_once : (start : Start) (n : ℕ) (s : Session) (lists : List (List Entry)) → s.stage ≡ stages.Clear → 1 ≤ length (levels_of s.levels.level_ids.items s.levels.unnamed) → IsFresh lists n s.levels.commands → Acted start (by_at n s.levels.commands) (stance_of s) (stance_of s) s.stage commands.Write (replies.Refused refusals.Memory) lists lists
-acted_at_once start n s lists clear some fresh =
-    acted_refused start lists lists n s.levels.commands (stance_of s) (stance_of s) s.stage commands.Write refusals.Memory refl refl refl (sym (not_refused s clear some))
+pub acted_at_once : (tells : Bool) (start : Start) (n : ℕ) (s : Session) (lists : List (List Entry)) → s.stage ≡ stages.Clear → 1 ≤ length (levels_of s.levels.level_ids.items s.levels.unnamed) → IsFresh lists n s.levels.commands → Acted tells start (by_at n s.levels.commands) (stance_of s) (stance_of s) s.stage commands.Write (replies.Refused refusals.Memory) lists lists
+acted_at_once tells start n s lists clear some fresh =
+    acted_refused {tells = tells} start lists lists n s.levels.commands (stance_of s) (stance_of s) s.stage commands.Write refusals.Memory refl refl refl (sym (not_refused s clear some))
 
 -- a session that goes on to its next command has no event of it
 pub fresh_next : (n m : ℕ) (lists : List (List Entry)) → AllByRecursion (λ e. (by_of e).command ≤ m) (filter (is_of n) (history lists)) → IsFresh lists n (m + 1)

@@ -89,9 +89,7 @@ pub fn write<R: Wait, L: LogDisk, P: PageDisk>(
     banks: u32,
     alloc: Global,
 ) -> Result<Wrote, Refusal>
-    requires laid { hall.now.cells ≡ 3 + 4 * (start_of hall.now).banks }
-    requires banks { (banks ≡ (start_of hall.now).banks) × (1 ≤ banks) × (banks ≤ 16) }
-    requires run { MayRun hall.now caller.old }
+    requires { MayRun hall.now banks caller.old }
     ensures { Ran hall.now (next_command caller.old) commands.Write (reply_of reply_to result) caller.old caller.new }
 {
     count(caller);

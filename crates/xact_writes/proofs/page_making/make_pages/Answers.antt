@@ -10,6 +10,12 @@ use Rattle.bank_sections.proofs.Unlinking.{call_went, parent_lock}
 use Rattle.xact_writes.proofs.Paging.{both_made, is_id, state_lock}
 use Rattle.xact_writes.proofs.page_making.make_pages.Goals as goal
 
+pub make_page-requires-clause-here : goal.make_page-requires-clause-here
+make_page-requires-clause-here g c = state_lock (start_of c.args.hall.now) c.args.id c.low-low.result.number c.xact_page.result c.bank_of-xact_bank.result c.args.banks c.low-low.ensures c.xact_page.ensures.page c.bank_of-xact_bank.ensures.value c.requires.banks.0
+
+pub make_parents-requires-clause-here : goal.make_parents-requires-clause-here
+make_parents-requires-clause-here g c = parent_lock (start_of c.args.hall.now) c.args.id c.low-low.result.number c.subtrans_page.result c.bank_of-subtrans_bank.result c.args.banks c.low-low.ensures c.subtrans_page.ensures.page c.bank_of-subtrans_bank.ensures.value c.requires.banks.0
+
 pub make_page-requires-clause-wanted : goal.make_page-requires-clause-wanted
 make_page-requires-clause-wanted g c = let v = view c.args.caller.now.pass in is_id (start_of c.args.hall.now) v.seen v.seen c.args.id (went_nowhere c.args.caller.now.number v.seen).on.grows c.requires.next
 

@@ -20,7 +20,7 @@ pub returns-in_default : goal.returns-in_default
 returns-in_default g c =
     let old = c.args.caller.now in
     ran_write c.args.hall.now old old (replies.Refused refusals.Memory) c.requires.own c.requires.may refl refl refl
-    (acted_at_once (start_of c.args.hall.now) old.number old.session (view old.pass).seen c.requires.clear c.requires.some c.requires.fresh)
+    (acted_at_once g.P.PageDisk.tells (start_of c.args.hall.now) old.number old.session (view old.pass).seen c.requires.clear c.requires.some c.requires.fresh)
 
 pub returns-in-Err : goal.returns-in-Err
 returns-in-Err g c =
@@ -35,7 +35,7 @@ returns-in-Err g c =
     let m = e.recorded in
     let k = writing_on start n s s u.session [] false v v w (writing_none start n s v c.requires.fresh) e.went (levels_same s u.session m.0) in
     ran_write c.args.hall.now old u (replies.Refused c.in-Err.refusal) e.own e.may k.stage k.count e.number
-    (acted_faulted start n s u.session [] false v w k c.requires.clear c.requires.some c.in-Err.refusal (parent_fault w (by_at n s.levels.commands) c.in-Err.refusal m.1))
+    (acted_faulted g.P.PageDisk.tells start n s u.session [] false v w k c.requires.clear c.requires.some c.in-Err.refusal (parent_fault w (by_at n s.levels.commands) c.in-Err.refusal m.1))
 
 pub loop-caller-init : goal.loop-caller-init
 loop-caller-init g c =
@@ -75,7 +75,7 @@ returns-in-Err-name_level g c =
     let number = i.3.0 in
     let k = writing_on start n s l.caller.session t l.ids.items l.warn v u w i.2 (subst (λ z. WentOn z [] u w) number m.0) (levels_alike l.caller.session t a) in
     ran_write c.args.hall.now old x (replies.Refused c.in-Err-name_level.refusal) e.own e.may k.stage k.count (e.number ∙ number)
-    (acted_without start n s t l.ids.items l.warn v w k c.requires.clear c.requires.some c.in-Err-name_level.refusal (let o = c.loop-caller-test.true in let p = a.levels.unnamed in omega arith)
+    (acted_without g.P.PageDisk.tells start n s t l.ids.items l.warn v w k c.requires.clear c.requires.some c.in-Err-name_level.refusal (let o = c.loop-caller-test.true in let p = a.levels.unnamed in omega arith)
     (subst (λ (z : ℕ × ℕ). AllByRecursion (λ f. (by_of f).command ≤ z.1) (filter (is_of z.0) (history w))) (λ j. ((e.number ∙ number) j, k.count j)) e.may.ready.at.stands.turn)
     (subst (λ (b : By). IsWithout start w b c.in-Err-name_level.refusal) (λ j. by_at (number j) (i.2.count j)) m.2))
 
@@ -138,7 +138,7 @@ returns-in-Err-record_parent g c =
     let went = subst (λ z. WentOn z [] x w) (o.number ∙ number) e.went in
     let two = writing_on start n s y t (l.ids.items ++ id ∷ []) (l.warn || late) v x w one went (levels_same y t q.0) in
     ran_write c.args.hall.now old z (replies.Refused c.in-Err-record_parent.refusal) e.own e.may two.stage two.count (e.number ∙ (o.number ∙ number))
-    (acted_faulted start n s t (l.ids.items ++ id ∷ []) (l.warn || late) v w two c.requires.clear c.requires.some c.in-Err-record_parent.refusal
+    (acted_faulted g.P.PageDisk.tells start n s t (l.ids.items ++ id ∷ []) (l.warn || late) v w two c.requires.clear c.requires.some c.in-Err-record_parent.refusal
     (parent_fault w (by_at n s.levels.commands) c.in-Err-record_parent.refusal (subst (λ (b : By). IsParentFault w b c.in-Err-record_parent.refusal) (λ j. by_at ((o.number ∙ number) j) (one.count j)) q.1)))
 
 pub returns : goal.returns
@@ -150,4 +150,4 @@ returns g c =
     let i = l.invariant in
     subst (λ (z : List ℕ). Ran c.args.hall.now s.levels.commands commands.Write (replies.Wrote z l.warn) old l.caller) (sym c.of.ensures)
     (ran_write c.args.hall.now old l.caller (replies.Wrote l.ids.items l.warn) i.0 i.1 i.2.stage i.2.count i.3.0
-    (acted_wrote start old.number s l.caller.session l.ids.items l.warn (view old.pass).seen (view l.caller.pass).seen i.2 c.requires.clear c.requires.some (let f = c.loop-caller-test.false in omega arith)))
+    (acted_wrote g.P.PageDisk.tells start old.number s l.caller.session l.ids.items l.warn (view old.pass).seen (view l.caller.pass).seen i.2 c.requires.clear c.requires.some (let f = c.loop-caller-test.false in omega arith)))

@@ -15,14 +15,14 @@ use Rattle.xact_writes.proofs.Writing.{clear_stage, fresh_next}
 use Rattle.xact_writes.proofs.writes.write.Goals as goal
 
 pub depth-requires : goal.depth-requires
-depth-requires g c = (may_counted c.args.hall.now c.args.caller.now c.count.new.caller c.count.ensures c.requires.run).ready.at.stands.depth
+depth-requires g c = (may_counted c.args.hall.now c.args.caller.now c.count.new.caller c.count.ensures c.requires).ready.at.stands.depth
 
 pub returns-then-depth-eq0 : goal.returns-then-depth-eq0
 returns-then-depth-eq0 g c =
     let old = c.args.caller.now in
     let s = stance_of old.session in
     let empty : length s.levels ≡ 0 = let d = c.depth.ensures in let t = c.if-depth-eq0.true in let same = ap (λ z. length (levels.levels_of z.level_ids.items z.unnamed)) c.count.ensures.levels in omega arith in
-    ran_refused c.args.hall.now old c.count.new.caller commands.Write refusals.NoTransaction c.count.ensures c.requires.run refl
+    ran_refused c.args.hall.now old c.count.new.caller commands.Write refusals.NoTransaction c.count.ensures c.requires refl
     (sym (first_holds (length s.levels == 0) refusals.NoTransaction _ (eq-eqb (length s.levels) 0 empty))) (nil_from_length s.levels empty)
 
 pub returns-in-Some : goal.returns-in-Some
@@ -32,15 +32,18 @@ returns-in-Some g c =
     let stage = old.session.stage in
     let r = c.in-Some.refusal in
     let pending : pending_in stage ≡ Some r = sym (c.pending.ensures ∙ ap pending_in c.count.ensures.stage) ∙ c.in-Some.is in
-    ran_held c.args.hall.now old c.count.new.caller commands.Write r c.count.ensures c.requires.run pending
+    ran_held c.args.hall.now old c.count.new.caller commands.Write r c.count.ensures c.requires pending
     (first_fails (length s.levels == 0) refusals.NoTransaction _ (ne_eqb (length s.levels) 0 (λ e. let d = c.depth.ensures in let t = c.if-depth-eq0.false in let same = ap (λ z. length (levels.levels_of z.level_ids.items z.unnamed)) c.count.ensures.levels in omega arith))
     ∙ held_up (pending_in stage) r _ pending)
 
 pub name_levels-requires-clause-own : goal.name_levels-requires-clause-own
-name_levels-requires-clause-own g c = own_counted c.args.hall.now c.args.caller.now c.count.new.caller c.count.ensures c.requires.run.own
+name_levels-requires-clause-own g c = own_counted c.args.hall.now c.args.caller.now c.count.new.caller c.count.ensures c.requires.own
+
+pub name_levels-requires-clause-banks : goal.name_levels-requires-clause-banks
+name_levels-requires-clause-banks g c = (c.requires.each, c.requires.range.0, c.requires.range.1)
 
 pub name_levels-requires-clause-may : goal.name_levels-requires-clause-may
-name_levels-requires-clause-may g c = may_counted c.args.hall.now c.args.caller.now c.count.new.caller c.count.ensures c.requires.run
+name_levels-requires-clause-may g c = may_counted c.args.hall.now c.args.caller.now c.count.new.caller c.count.ensures c.requires
 
 pub name_levels-requires-clause-clear : goal.name_levels-requires-clause-clear
 name_levels-requires-clause-clear g c = clear_stage c.count.new.caller.session.stage (sym c.pending.ensures ∙ c.in_default.is)
@@ -50,7 +53,7 @@ name_levels-requires-clause-fresh g c =
     let old = c.args.caller.now in
     let u = c.count.new.caller in
     let k = c.count.ensures in
-    let fresh = fresh_next old.number old.session.levels.commands (view old.pass).seen c.requires.run.may.ready.at.stands.turn in
+    let fresh = fresh_next old.number old.session.levels.commands (view old.pass).seen c.requires.may.ready.at.stands.turn in
     subst (λ (z : (List (List Entry) × ℕ) × ℕ). IsFresh z.0.0 z.0.1 z.1) (λ j. (((view (sym k.pass j)).seen, sym k.number j), (sym k.levels j).commands)) fresh
 
 pub name_levels-requires-clause-some : goal.name_levels-requires-clause-some

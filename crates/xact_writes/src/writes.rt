@@ -1,5 +1,5 @@
 //! Each level of a transaction gets its id.
-ghost use Rattle.std.specs.Prelude.{◌≡◌, ℕ, ◌+◌, ◌*◌, ◌≤◌, length};
+ghost use Rattle.std.specs.Prelude.{◌≡◌, ℕ, ◌+◌, ◌*◌, ◌≤◌, None, OnOk, length};
 ghost use Rattle.hall.specs.Calls.{view, IsOf, start_of};
 ghost use Rattle.tx_model.specs.declared.command.Command.TheVariants as commands;
 ghost use Rattle.session_levels.specs.Stands.{levels_of};
@@ -46,8 +46,9 @@ fn name_levels<R: Wait, L: LogDisk, P: PageDisk>(
     requires fresh { IsFresh (view caller.old.pass).seen caller.old.number caller.old.session.levels.commands }
     requires some { 1 ≤ length
         (levels_of caller.old.session.levels.level_ids.items caller.old.session.levels.unnamed) }
-    ensures { Ran hall.now caller.old.session.levels.commands commands.Write (reply_of reply_to result)
+    ensures ran { Ran hall.now caller.old.session.levels.commands commands.Write (reply_of reply_to result)
         caller.old caller.new }
+    ensures linked { OnOk result (caller.new.session.unlinked ≡ None) }
 {
     let Ok(mut ids) = Vec::with_capacity(alloc, caller.session.levels.unnamed) else {
         return Err(Refusal::Memory);
@@ -77,7 +78,8 @@ fn name_levels<R: Wait, L: LogDisk, P: PageDisk>(
 
 /// Gives an id to each level that lacks one, from the transaction down (`AssignTransactionId` of
 /// `src/backend/access/transam/xact.c`, which gives a parent its id before its child). A parent that an earlier command
-/// couldn't record is recorded first. `banks` is the number of banks of each store, 1 to 16.
+/// couldn't record is recorded first, and behind a write that is done all parents are. `banks` is the number of banks of
+/// each store, 1 to 16.
 ///
 /// Refused, in this order, with `NoTransaction` where no transaction is open, and with `CommitPending`, `AbortPending`
 /// or `UndoPending` where an end was begun. Or with `DiskFault` of a bank of pg_xact or pg_subtrans, with `Stop` at the
@@ -90,7 +92,9 @@ pub fn write<R: Wait, L: LogDisk, P: PageDisk>(
     alloc: Global,
 ) -> Result<Wrote, Refusal>
     requires { MayRun hall.now banks caller.old }
-    ensures { Ran hall.now (next_command caller.old) commands.Write (reply_of reply_to result) caller.old caller.new }
+    ensures ran { Ran hall.now (next_command caller.old) commands.Write (reply_of reply_to result)
+        caller.old caller.new }
+    ensures linked { OnOk result (caller.new.session.unlinked ≡ None) }
 {
     count(caller);
     if depth(&caller.session.levels) == 0 {

@@ -16,14 +16,14 @@ use Rattle.xact_writes.proofs.Calls.{ran_write}
 use Rattle.xact_writes.proofs.Writing.{acted_at_once, acted_faulted, acted_without, acted_wrote, levels_alike, levels_linked, levels_same, parent_fault, writing_none, writing_on, writing_step}
 use Rattle.xact_writes.proofs.writes.name_levels.Goals as goal
 
-pub returns-in_default : goal.returns-in_default
-returns-in_default g c =
+pub returns-in_default-clause-ran : goal.returns-in_default-clause-ran
+returns-in_default-clause-ran g c =
     let old = c.args.caller.now in
     ran_write c.args.hall.now old old (replies.Refused refusals.Memory) c.requires.own c.requires.may refl refl refl
     (acted_at_once g.P.PageDisk.tells (start_of c.args.hall.now) old.number old.session (view old.pass).seen c.requires.clear c.requires.some c.requires.fresh)
 
-pub returns-in-Err : goal.returns-in-Err
-returns-in-Err g c =
+pub returns-in-Err-clause-ran : goal.returns-in-Err-clause-ran
+returns-in-Err-clause-ran g c =
     let start = start_of c.args.hall.now in
     let old = c.args.caller.now in
     let n = old.number in
@@ -56,8 +56,8 @@ loop-caller-init g c =
 pub name_level-requires-clause-clear : goal.name_level-requires-clause-clear
 name_level-requires-clause-clear g c = c.loop-caller.invariant.2.stage ∙ c.requires.clear
 
-pub returns-in-Err-name_level : goal.returns-in-Err-name_level
-returns-in-Err-name_level g c =
+pub returns-in-Err-name_level-clause-ran : goal.returns-in-Err-name_level-clause-ran
+returns-in-Err-name_level-clause-ran g c =
     let start = start_of c.args.hall.now in
     let old = c.args.caller.now in
     let n = old.number in
@@ -112,8 +112,8 @@ loop-caller-preserved g c =
       (let a = i.4 in let b = c.push_reserved.ensures.len in let r = c.push_reserved.ensures.capacity in omega arith),
     )
 
-pub returns-in-Err-record_parent : goal.returns-in-Err-record_parent
-returns-in-Err-record_parent g c =
+pub returns-in-Err-record_parent-clause-ran : goal.returns-in-Err-record_parent-clause-ran
+returns-in-Err-record_parent-clause-ran g c =
     let start = start_of c.args.hall.now in
     let old = c.args.caller.now in
     let n = old.number in
@@ -141,8 +141,8 @@ returns-in-Err-record_parent g c =
     (acted_faulted g.P.PageDisk.tells start n s t (l.ids.items ++ id ∷ []) (l.warn || late) v w two c.requires.clear c.requires.some c.in-Err-record_parent.refusal
     (parent_fault w (by_at n s.levels.commands) c.in-Err-record_parent.refusal (subst (λ (b : By). IsParentFault w b c.in-Err-record_parent.refusal) (λ j. by_at ((o.number ∙ number) j) (one.count j)) q.1)))
 
-pub returns : goal.returns
-returns g c =
+pub returns-clause-ran : goal.returns-clause-ran
+returns-clause-ran g c =
     let start = start_of c.args.hall.now in
     let old = c.args.caller.now in
     let s = old.session in
@@ -151,3 +151,6 @@ returns g c =
     subst (λ (z : List ℕ). Ran c.args.hall.now s.levels.commands commands.Write (replies.Wrote z l.warn) old l.caller) (sym c.of.ensures)
     (ran_write c.args.hall.now old l.caller (replies.Wrote l.ids.items l.warn) i.0 i.1 i.2.stage i.2.count i.3.0
     (acted_wrote g.P.PageDisk.tells start old.number s l.caller.session l.ids.items l.warn (view old.pass).seen (view l.caller.pass).seen i.2 c.requires.clear c.requires.some (let f = c.loop-caller-test.false in omega arith)))
+
+pub returns-clause-linked : goal.returns-clause-linked
+returns-clause-linked g c = c.loop-caller.invariant.3.1

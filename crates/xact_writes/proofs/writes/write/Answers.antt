@@ -17,16 +17,16 @@ use Rattle.xact_writes.proofs.writes.write.Goals as goal
 pub depth-requires : goal.depth-requires
 depth-requires g c = (may_counted c.args.hall.now c.args.caller.now c.count.new.caller c.count.ensures c.requires).ready.at.stands.depth
 
-pub returns-then-depth-eq0 : goal.returns-then-depth-eq0
-returns-then-depth-eq0 g c =
+pub returns-then-depth-eq0-clause-ran : goal.returns-then-depth-eq0-clause-ran
+returns-then-depth-eq0-clause-ran g c =
     let old = c.args.caller.now in
     let s = stance_of old.session in
     let empty : length s.levels ≡ 0 = let d = c.depth.ensures in let t = c.if-depth-eq0.true in let same = ap (λ z. length (levels.levels_of z.level_ids.items z.unnamed)) c.count.ensures.levels in omega arith in
     ran_refused c.args.hall.now old c.count.new.caller commands.Write refusals.NoTransaction c.count.ensures c.requires refl
     (sym (first_holds (length s.levels == 0) refusals.NoTransaction _ (eq-eqb (length s.levels) 0 empty))) (nil_from_length s.levels empty)
 
-pub returns-in-Some : goal.returns-in-Some
-returns-in-Some g c =
+pub returns-in-Some-clause-ran : goal.returns-in-Some-clause-ran
+returns-in-Some-clause-ran g c =
     let old = c.args.caller.now in
     let s = stance_of old.session in
     let stage = old.session.stage in
@@ -59,5 +59,5 @@ name_levels-requires-clause-fresh g c =
 pub name_levels-requires-clause-some : goal.name_levels-requires-clause-some
 name_levels-requires-clause-some g c = let d = c.depth.ensures in let t = c.if-depth-eq0.false in omega arith
 
-pub returns : goal.returns
-returns g c = ran_counted c.args.hall.now c.args.caller.now c.count.new.caller c.name_levels.new.caller commands.Write (reply_of reply_to c.name_levels.result) c.count.ensures c.name_levels.ensures
+pub returns-clause-ran : goal.returns-clause-ran
+returns-clause-ran g c = ran_counted c.args.hall.now c.args.caller.now c.count.new.caller c.name_levels.new.caller commands.Write (reply_of reply_to c.name_levels.result) c.count.ensures c.name_levels.ensures.ran

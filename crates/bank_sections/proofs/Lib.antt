@@ -7,5 +7,6 @@ pub mod Sameness
 pub mod StateSeen
 pub mod StateSetting
 pub mod Uncut
+pub mod Unlinking
 pub mod Visiting
 pub mod Nearing

@@ -1,0 +1,28 @@
+-- A write as a call.
+use Rattle.std.proofs.Common.{◌≡◌, refl}
+use Rattle.disk_core.specs.declared.log_disk.LogDisk as logs
+use Rattle.disk_core.specs.declared.page_disk.PageDisk as disks
+use Rattle.hall.specs.declared.hall.Hall.{Hall}
+use Rattle.hall.specs.Calls.{IsOf, start_of, view}
+use Rattle.tx_model.specs.declared.command.Command.TheVariants as commands
+use Rattle.tx_model.specs.declared.reply.Reply.{Reply}
+use Rattle.tx_core.specs.declared.entry.Entry.{Entry}
+use Rattle.tx_core.specs.declared.entry.Start.{Start}
+use Rattle.engine_parts.specs.declared.part.Part.{Part}
+use Rattle.engine_parts.specs.declared.session.Caller.{Caller}
+use Rattle.engine_parts.specs.Answers.{Acted}
+use Rattle.engine_parts.specs.Calls.{Ran}
+use Rattle.engine_parts.specs.Sessions.{MayCall, by_at, stance_of}
+use Rattle.engine_parts.proofs.Refusing.{keeps_stage}
+
+module _ {H L P : Type 0} {l : logs.Ghosts L} {p : disks.Ghosts P} (hall : Hall H (Part L P l p) Entry Start) where
+  pub ran_write : (old new : Caller L P l p) (reply : Reply) → IsOf hall new.pass → MayCall (start_of hall) (view new.pass) new.number new.session → new.session.stage ≡ old.session.stage → new.session.levels.commands ≡ old.session.levels.commands → new.number ≡ old.number
+      → Acted (p.tells) (start_of hall) (by_at old.number old.session.levels.commands) (stance_of old.session) (stance_of new.session) old.session.stage commands.Write reply (view old.pass).seen (view new.pass).seen
+      → Ran hall old.session.levels.commands commands.Write reply old new
+  ran_write old new reply own may stage count number acted = record {
+    own = own;
+    may = may;
+    acted = acted;
+    stage = keeps_stage commands.Write reply old.session.stage new.session.stage refl stage;
+    count = (count, number);
+  }

@@ -1,0 +1,4 @@
+pub mod Alike
+pub mod Paging
+pub mod Writing
+pub mod Calls

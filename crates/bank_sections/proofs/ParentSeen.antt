@@ -34,7 +34,7 @@ use Rattle.tx_core.proofs.PageShowing.{parents_show}
 use Rattle.tx_core.proofs.Reading.{last_has}
 use Rattle.xid_order.specs.declared.order.Xid.{Xid}
 use Rattle.subtrans_log.specs.Parents.{parent_of}
-use Rattle.bank_sections.specs.Reads.{IsNear, IsParentOf, IsParentRead}
+use Rattle.bank_sections.specs.Reads.{IsParentNear, IsParentOf, IsParentRead}
 use Rattle.bank_sections.proofs.Given.{filter_map_has, given_full}
 use Rattle.engine_parts.specs.Parts.{IsSubtransOf}
 use Rattle.engine_parts.specs.Stand.{AreSubtransPagesNear, IsInUse, number_of_parent, subtrans_pages}
@@ -146,7 +146,7 @@ module _ {P O : Type 0} {g : disks.Ghosts P} {r : rules.Ghosts O} where
       cases (Some v) q is = inr (v, read_linked start lists (subtrans_lock bank) x v here q, is ∙ ap number_of_parent q)
 
 -- the parent that the number means near x
-parent_is : (start : Start) (lists : List (List Entry)) (x number : ℕ) (found : Option Xid) (o : Option ℕ) → IsBase start.base → EngineInvariant start lists → IsInUse start x → IsShown start lists x number → found ≡ parent_of number → IsNear x found o → IsParentOf start lists x o
+parent_is : (start : Start) (lists : List (List Entry)) (x number : ℕ) (found : Option Xid) (o : Option ℕ) → IsBase start.base → EngineInvariant start lists → IsInUse start x → IsShown start lists x number → found ≡ parent_of number → IsParentNear x found o → IsParentOf start lists x o
 parent_is start lists x number found None base k used shown is near = λ v linked.
     ⊎_elim
     (λ (z : number ≡ 0). shown.set v linked z)
@@ -194,7 +194,7 @@ parent_is start lists x number found (Some y) base k used shown is near =
 
 module _ {P O : Type 0} {g : disks.Ghosts P} {r : rules.Ghosts O} where
   pub parent_seen : (start : Start) (lists : List (List Entry)) (bank : ℕ) (store : SlruBank P O g r) (x : ℕ) (found : Option Xid) (o : Option ℕ) → IsBase start.base → EngineInvariant start lists → IsSubtransOf start bank store (at lists (subtrans_lock bank)) → subtrans_lock_of start x ≡ subtrans_lock bank → is_cut Ids 2048 (cutoff_of store) (word_page_of x) ≡ false
-      → IsTrue g.tells → found ≡ parent_of (number_in (pages_of store (word_page_of x)) (word_place_of x)) → IsNear x found o → IsParentRead start lists x o
+      → IsTrue g.tells → found ≡ parent_of (number_in (pages_of store (word_page_of x)) (word_place_of x)) → IsParentNear x found o → IsParentRead start lists x o
   parent_seen start lists bank store x found o base k s here uncut told is near used few =
       parent_is start lists x (number_in (pages_of store (word_page_of x)) (word_place_of x)) found o base k used
       (parent_shown start lists bank store x base k s here uncut told used (subst (λ z. AreSubtransPagesNear start (at lists z)) here few)) is near

@@ -24,7 +24,7 @@ use Rattle.engine_parts.proofs.Banking.{xact_read}
 use Rattle.engine_parts.proofs.Logging.{number_push, number_same}
 use Rattle.engine_parts.proofs.May.{met_fault}
 use Rattle.engine_parts.proofs.SubBanking.{sub_read}
-use Rattle.bank_sections.specs.Refusals.{faults_in, refused_by}
+use Rattle.bank_sections.specs.Refusals.{faults_in, entry_of_refusal}
 
 -- it has no event and no record, asks for no state and changes nothing
 pub record IsQuiet (e : Entry) : Type 0 where
@@ -35,31 +35,31 @@ pub record IsQuiet (e : Entry) : Type 0 where
   pub links : links_in e ≡ []
   pub zeroed : zeroed_in e.kind ≡ None
 
-pub refused_quiet : (by : By) (count : ℕ) (refusal : BankRefusal) → IsQuiet (refused_by by count refusal)
+pub refused_quiet : (by : By) (count : ℕ) (refusal : BankRefusal) → IsQuiet (entry_of_refusal by count refusal)
 refused_quiet by count refused.DiskFault = record { event = refl; appended = refl; asks = refl; marks = refl; links = refl; zeroed = refl }
 refused_quiet by count (refused.Cut cutoff) = record { event = refl; appended = refl; asks = refl; marks = refl; links = refl; zeroed = refl }
 
-pub met_refusal : (start : Start) (v w : Knowledge) (lock : ℕ) (by : By) (count : ℕ) (refusal : BankRefusal) → lock < length v.seen → Leaves start lock (refused_by by count refusal) v w → refusal ≡ refused.DiskFault → MetFault w.seen lock by
+pub met_refusal : (start : Start) (v w : Knowledge) (lock : ℕ) (by : By) (count : ℕ) (refusal : BankRefusal) → lock < length v.seen → Leaves start lock (entry_of_refusal by count refusal) v w → refusal ≡ refused.DiskFault → MetFault w.seen lock by
 met_refusal start v w lock by count refused.DiskFault inside l is = met_fault start v w lock by count inside l
 met_refusal start v w lock by count (refused.Cut cutoff) inside l is = absurd cc
 
 -- the count that the list tells then
-refused_told : (by : By) (count : ℕ) (refusal : BankRefusal) (es : List Entry) → faults_told es ≤ count → faults_told (es ++ refused_by by count refusal ∷ []) ≤ count
-refused_told by count refused.DiskFault es le = let a = number_push count_in 0 es (refused_by by count refused.DiskFault) count refl in omega arith
-refused_told by count (refused.Cut cutoff) es le = let a = number_same count_in 0 es (refused_by by count (refused.Cut cutoff)) refl in omega arith
+refused_told : (by : By) (count : ℕ) (refusal : BankRefusal) (es : List Entry) → faults_told es ≤ count → faults_told (es ++ entry_of_refusal by count refusal ∷ []) ≤ count
+refused_told by count refused.DiskFault es le = let a = number_push count_in 0 es (entry_of_refusal by count refused.DiskFault) count refl in omega arith
+refused_told by count (refused.Cut cutoff) es le = let a = number_same count_in 0 es (entry_of_refusal by count (refused.Cut cutoff)) refl in omega arith
 
 module _ {P O : Type 0} {g : disks.Ghosts P} {r : rules.Ghosts O} where
   -- the bank stands for the longer list
-  pub xact_refused : (start : Start) (bank : ℕ) (store : SlruBank P O g r) (by : By) (refusal : BankRefusal) (es : List Entry) → IsXactOf start bank store es → IsXactOf start bank store (es ++ refused_by by (faults_of store) refusal ∷ [])
+  pub xact_refused : (start : Start) (bank : ℕ) (store : SlruBank P O g r) (by : By) (refusal : BankRefusal) (es : List Entry) → IsXactOf start bank store es → IsXactOf start bank store (es ++ entry_of_refusal by (faults_of store) refusal ∷ [])
   xact_refused start bank store by refusal es s =
       let q = refused_quiet by (faults_of store) refusal in
-      xact_read start bank (faults_of store) (faults_of store) (last_page store) (last_page store) (cutoff_of store) (cutoff_of store) g.tells (pages_of store) (pages_of store) es (refused_by by (faults_of store) refusal) s refl refl q.marks q.zeroed
+      xact_read start bank (faults_of store) (faults_of store) (last_page store) (last_page store) (cutoff_of store) (cutoff_of store) g.tells (pages_of store) (pages_of store) es (entry_of_refusal by (faults_of store) refusal) s refl refl q.marks q.zeroed
       (refused_told by (faults_of store) refusal es s.count) (λ told page. refl)
 
-  pub subtrans_refused : (start : Start) (bank : ℕ) (store : SlruBank P O g r) (by : By) (refusal : BankRefusal) (es : List Entry) → IsSubtransOf start bank store es → IsSubtransOf start bank store (es ++ refused_by by (faults_of store) refusal ∷ [])
+  pub subtrans_refused : (start : Start) (bank : ℕ) (store : SlruBank P O g r) (by : By) (refusal : BankRefusal) (es : List Entry) → IsSubtransOf start bank store es → IsSubtransOf start bank store (es ++ entry_of_refusal by (faults_of store) refusal ∷ [])
   subtrans_refused start bank store by refusal es s =
       let q = refused_quiet by (faults_of store) refusal in
-      sub_read start bank (faults_of store) (faults_of store) (last_page store) (last_page store) (cutoff_of store) (cutoff_of store) g.tells (pages_of store) (pages_of store) es (refused_by by (faults_of store) refusal) s refl refl q.links q.zeroed
+      sub_read start bank (faults_of store) (faults_of store) (last_page store) (last_page store) (cutoff_of store) (cutoff_of store) g.tells (pages_of store) (pages_of store) es (entry_of_refusal by (faults_of store) refusal) s refl refl q.links q.zeroed
       (refused_told by (faults_of store) refusal es s.count) (λ told page. refl)
 
   -- and one that was only looked at
@@ -70,7 +70,7 @@ module _ {P O : Type 0} {g : disks.Ghosts P} {r : rules.Ghosts O} where
   subtrans_looked start bank store by es s = subtrans_refused start bank store by (refused.Cut 0) es s
 
 module _ {L P : Type 0} {l : logs.Ghosts L} {p : disks.Ghosts P} where
-  pub stands_refused : (start : Start) (lock : ℕ) (part : Part L P l p) (by : By) (refusal : BankRefusal) (es : List Entry) → IsPageLock start lock → PartStands start lock part es → PartStands start lock part (es ++ refused_by by (faults_in part) refusal ∷ [])
+  pub stands_refused : (start : Start) (lock : ℕ) (part : Part L P l p) (by : By) (refusal : BankRefusal) (es : List Entry) → IsPageLock start lock → PartStands start lock part es → PartStands start lock part (es ++ entry_of_refusal by (faults_in part) refusal ∷ [])
   stands_refused start lock (parts.Log log) by refusal es pages s = let q : lock ≡ 0 = s.0 in let f = pages.from in absurd (omega arith)
   stands_refused start lock (parts.Proc table) by refusal es pages s = let q : lock ≡ 1 = s.0 in let f = pages.from in absurd (omega arith)
   stands_refused start lock (parts.Xact store) by refusal es pages s = (s.0, s.1, xact_refused start s.0 store by refusal es s.2)

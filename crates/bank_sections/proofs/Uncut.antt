@@ -1,14 +1,14 @@
--- The pages of an open id aren't cut.
+-- The pages of an open id aren't cut, nor are those of an id that isn't before the horizons.
 use Rattle.std.proofs.Common.{◌≡◌, ◌⊎◌, ⊎_elim, ℕ, ◌+◌, ◌*◌, ◌/◌, ◌^◌, ◌≤◌, ◌<◌, List, Bool, false, IsTrue, Contains, None, length, refl, sym, ap, subst, ◌∙◌, map, take, drop, arith}
 use Rattle.std.proofs.lemmas.Bool.{false≢true}
 use Rattle.std.proofs.lemmas.List.{take-append-drop}
-use Rattle.notes.specs.Lists.{at}
+use Rattle.notes.specs.Lists.{Grows, at}
 use Rattle.tx_events.specs.declared.event.Event.{Event}
 use Rattle.tx_events.specs.Base.{IsBase}
 use Rattle.tx_events.specs.Events.{given_to}
 use Rattle.tx_events.specs.Families.{top}
 use Rattle.tx_events.specs.History.{IsLegal, next_given}
-use Rattle.tx_events.specs.Horizon.{LiveSnap, live_snaps, oldest_xmin}
+use Rattle.tx_events.specs.Horizon.{LiveSnap, live_snaps, oldest_id, oldest_xmin}
 use Rattle.tx_events.specs.Running.{is_open, open_ids, running_tops}
 use Rattle.tx_events.specs.Snapshots.{snapshot_xmax, snapshot_xmin}
 use Rattle.tx_events.proofs.Extremes.{fold_min_has, fold_min_start}
@@ -23,6 +23,9 @@ use Rattle.tx_core.specs.declared.entry.Start.{Start}
 use Rattle.tx_core.specs.EngineInvariant.{EngineInvariant}
 use Rattle.tx_core.specs.Entries.{event_of, history}
 use Rattle.tx_core.specs.Locks.{subtrans_lock, subtrans_page, xact_lock, xact_page}
+use Rattle.tx_core.specs.PagesBeforeIds.{IsIdOf}
+use Rattle.tx_core.proofs.Lasting.{history_grows}
+use Rattle.tx_core.proofs.Rising.{given_more}
 use Rattle.tx_core.proofs.Cutting.{cut_says, states_kept}
 use Rattle.tx_core.proofs.HorizonLaws.{positive}
 use Rattle.tx_core.proofs.OpenKept.{open_kept}
@@ -74,21 +77,26 @@ subtrans_on page oldest x low high le = ⊎_elim
     either : (a b : ℕ) → a ≤ b → (a ≡ b) ⊎ (a < b)
     either a b le = grind arith
 
-pub state_uncut : (start : Start) (lists : List (List Entry)) (n bank x cutoff : ℕ) → IsBase start.base → EngineInvariant start lists → IsCutoff (first_xact_page start) (2 ^ 17) (at lists (xact_lock bank)) cutoff → Contains (open_ids n (history lists)) x → AreIdsNear start lists → is_cut Ids 32768 cutoff (xact_page_of x) ≡ false
-state_uncut start lists n bank x cutoff base k c opened near =
-    let o = open_near start lists n x base k opened in
-    let from = o.from in
-    let to = o.to in
+-- the page of an id that isn't before the announced oldest one
+pub xact_uncut : (start : Start) (lists : List (List Entry)) (bank x cutoff : ℕ) → IsBase start.base → EngineInvariant start lists → IsCutoff (first_xact_page start) (2 ^ 17) (at lists (xact_lock bank)) cutoff → start.base.next ≤ x → x ≤ next_given start.base.next (history lists) → oldest_id start.base.oldest (history lists) ≤ x → AreIdsNear start lists
+    → is_cut Ids 32768 cutoff (xact_page_of x) ≡ false
+xact_uncut start lists bank x cutoff base k c from to kept near =
     let low = base.oldest in
     let upto : c.0 ≤ xact_page x = ⊎_elim
     (λ (q : c.0 ≡ xact_page start.base.oldest). omega arith)
-    (λ e. let s = states_kept start lists bank c.0 e.0 k e.1 e.2 in let j = open_kept start lists n x k base opened in omega arith)
+    (λ e. let s = states_kept start lists bank c.0 e.0 k e.1 e.2 in omega arith)
     c.3 in
     let i = xact_on c.0 start.base.oldest x c.2 upto (omega arith) in
     let on = i.on in
     let above = i.from in
     let is : cutoff ≡ low_half i.id / 32768 = let q = c.1 in omega arith in
     subst (λ z. is_cut Ids 32768 z (xact_page_of x) ≡ false) (sym is) (id_is_kept i.id x i.to (omega arith))
+
+pub state_uncut : (start : Start) (lists : List (List Entry)) (n bank x cutoff : ℕ) → IsBase start.base → EngineInvariant start lists → IsCutoff (first_xact_page start) (2 ^ 17) (at lists (xact_lock bank)) cutoff → Contains (open_ids n (history lists)) x → AreIdsNear start lists → is_cut Ids 32768 cutoff (xact_page_of x) ≡ false
+state_uncut start lists n bank x cutoff base k c opened near =
+    let o = open_near start lists n x base k opened in
+    let to = o.to in
+    xact_uncut start lists bank x cutoff base k c o.from (omega arith) (open_kept start lists n x k base opened) near
 
 -- the oldest xmin is not past an open id
 open_past : (start : Start) (lists : List (List Entry)) (n x : ℕ) → EngineInvariant start lists → Contains (open_ids n (history lists)) x → oldest_xmin start.base.next (history lists) ≤ x
@@ -106,12 +114,11 @@ before_upto n = grind arith
 before_near : (n : ℕ) → n ≤ id_before n + 4
 before_near n = grind arith
 
-pub parent_uncut : (start : Start) (lists : List (List Entry)) (n bank x cutoff : ℕ) → IsBase start.base → EngineInvariant start lists → IsCutoff (first_subtrans_page start) (2 ^ 21) (at lists (subtrans_lock bank)) cutoff → Contains (open_ids n (history lists)) x → AreIdsNear start lists → is_cut Ids 2048 cutoff (word_page_of x) ≡ false
-parent_uncut start lists n bank x cutoff base k c opened near =
+-- the page of an id that isn't before the oldest xmin
+pub subtrans_uncut : (start : Start) (lists : List (List Entry)) (bank x cutoff : ℕ) → IsBase start.base → EngineInvariant start lists → IsCutoff (first_subtrans_page start) (2 ^ 21) (at lists (subtrans_lock bank)) cutoff → start.base.next ≤ x → x ≤ next_given start.base.next (history lists) → oldest_xmin start.base.next (history lists) ≤ x → AreIdsNear start lists
+    → is_cut Ids 2048 cutoff (word_page_of x) ≡ false
+subtrans_uncut start lists bank x cutoff base k c from to past near =
     let h = history lists in
-    let o = open_near start lists n x base k opened in
-    let from = o.from in
-    let to = o.to in
     let low = base.oldest in
     let first = id_before start.base.next in
     let under = before_upto start.base.next in
@@ -122,7 +129,6 @@ parent_uncut start lists n bank x cutoff base k c opened near =
     let cut = (cut_says start lists (subtrans_lock bank) c.0 e.0 k e.1 e.2).subtrans bank refl in
     let split = take-append-drop cut.0 h in
     let then : oldest_xmin start.base.next (take cut.0 h) ≤ oldest_xmin start.base.next h = subst (λ t. oldest_xmin start.base.next (take cut.0 h) ≤ oldest_xmin start.base.next t) split (xmin_at start.base (take cut.0 h) (drop cut.0 h) (subst (IsLegal start.base) (sym split) k.events.legal) base.full (positive start.base.next base.full)) in
-    let past = open_past start lists n x k opened in
     let below = before_upto (oldest_xmin start.base.next (take cut.0 h)) in
     let page = cut.2 in omega arith)
     c.3 in
@@ -131,6 +137,12 @@ parent_uncut start lists n bank x cutoff base k c opened near =
     let above = i.from in
     let is : cutoff ≡ low_half i.id / 2048 = let q = c.1 in omega arith in
     subst (λ z. is_cut Ids 2048 z (word_page_of x) ≡ false) (sym is) (parent_is_kept i.id x i.to (omega arith))
+
+pub parent_uncut : (start : Start) (lists : List (List Entry)) (n bank x cutoff : ℕ) → IsBase start.base → EngineInvariant start lists → IsCutoff (first_subtrans_page start) (2 ^ 21) (at lists (subtrans_lock bank)) cutoff → Contains (open_ids n (history lists)) x → AreIdsNear start lists → is_cut Ids 2048 cutoff (word_page_of x) ≡ false
+parent_uncut start lists n bank x cutoff base k c opened near =
+    let o = open_near start lists n x base k opened in
+    let to = o.to in
+    subtrans_uncut start lists bank x cutoff base k c o.from (omega arith) (open_past start lists n x k opened) near
 
 -- what isn't cut isn't refused as cut
 pub cut_refused : (b : Bool) → b ≡ false → IsTrue b → ⊥
@@ -145,3 +157,7 @@ pub still_open : (start : Start) (u : Knowledge) (n n' id : ℕ) (s s' : Session
 still_open start u n n' id s s' a same number c =
     let all : open_ids n (history u.seen) ≡ s.levels.open_ids.items = subst (λ z. open_ids z (history u.seen) ≡ s.levels.open_ids.items) number (a.stands.opened ∙ ap (λ (z : Session). z.levels.open_ids.items) same) in
     subst (λ (t : List ℕ). Contains t id) (sym all) c
+
+-- an id that was given or came next, as others go on
+pub id_later : (start : Start) (lists more : List (List Entry)) (id : ℕ) → Grows lists more → IsIdOf start lists id → IsIdOf start more id
+id_later start lists more id g is = let rises = given_more start.base (history lists) (history more) (history_grows lists more g) in let le = is.1 in (is.0, omega arith)

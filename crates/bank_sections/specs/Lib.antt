@@ -1,4 +1,5 @@
 pub mod Refusals
+pub mod Sections
 pub mod Reads
 pub mod Sets
 pub mod Kept

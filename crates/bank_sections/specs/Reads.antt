@@ -28,6 +28,6 @@ abbrev pub IsParentRead : Start → List (List Entry) → ℕ → Option ℕ →
 IsParentRead start lists x parent = IsInUse start x → AreSubtransPagesNear start (at lists (subtrans_lock_of start x)) → IsParentOf start lists x parent
 
 -- the full id that a stored parent means near x; a special one means none
-abbrev pub IsNear : ℕ → Option Xid → Option ℕ → Type 0
-IsNear x found (Some y) = (p : ℕ) × (found ≡ Some (record { number = p })) × IsNearest x p y
-IsNear x found None = (p : ℕ) → 3 ≤ p → found ≡ Some (record { number = p }) → (y : ℕ) → IsNearest x p y → ⊥
+abbrev pub IsParentNear : ℕ → Option Xid → Option ℕ → Type 0
+IsParentNear x found (Some y) = (p : ℕ) × (found ≡ Some (record { number = p })) × IsNearest x p y
+IsParentNear x found None = (p : ℕ) → 3 ≤ p → found ≡ Some (record { number = p }) → (y : ℕ) → IsNearest x p y → ⊥

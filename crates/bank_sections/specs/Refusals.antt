@@ -7,10 +7,9 @@ use Rattle.slru_bank.specs.declared.refusal.BankRefusal.TheVariants as refused
 use Rattle.slru_bank.specs.Calls.{faults_of}
 use Rattle.tx_events.specs.declared.event.By.{By}
 use Rattle.tx_core.specs.declared.entry.Entry.{Entry}
-use Rattle.tx_core.specs.declared.entry.Kind.TheVariants as kinds
 use Rattle.engine_parts.specs.declared.part.Part.{Part}
 use Rattle.engine_parts.specs.declared.part.Part.TheVariants as parts
-use Rattle.engine_parts.specs.Faults.{fault_by}
+use Rattle.engine_parts.specs.Faults.{fault_by, look_of}
 
 module _ {L P : Type 0} {l : logs.Ghosts L} {p : disks.Ghosts P} where
   -- the faults that the volume behind a bank has counted
@@ -20,6 +19,6 @@ module _ {L P : Type 0} {l : logs.Ghosts L} {p : disks.Ghosts P} where
   faults_in _ = 0
 
 -- the fault of the volume, or only a look where the page is cut
-abbrev pub refused_by : By → ℕ → BankRefusal → Entry
-refused_by by count refused.DiskFault = fault_by by count
-refused_by by count (refused.Cut cutoff) = record { by = by; kind = kinds.Look }
+abbrev pub entry_of_refusal : By → ℕ → BankRefusal → Entry
+entry_of_refusal by count refused.DiskFault = fault_by by count
+entry_of_refusal by count (refused.Cut cutoff) = look_of by

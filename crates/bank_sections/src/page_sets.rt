@@ -1,10 +1,11 @@
 //! States are set, of ids that share a page.
-ghost use Rattle.std.specs.Prelude.{◌≡◌, ℕ, ◌+◌, ◌*◌, ◌<◌, ◌≤◌, [], Contains, Err, OnErr, OnOk, Some, length};
+ghost use Rattle.std.specs.Prelude.{◌≡◌, ℕ, ◌+◌, ◌*◌, ◌<◌, ◌≤◌, [], Contains, Err, OnErr, OnOk, Some, length, slice_index};
 ghost use Rattle.std.specs.List.{slice_range};
 ghost use Rattle.hall.specs.Calls.{view, IsOf, start_of};
 ghost use Rattle.pg_xact_log.specs.States.{state_number};
 ghost use Rattle.slru_bank.specs.declared.refusal.BankRefusal.TheVariants.{Cut, DiskFault};
 ghost use Rattle.tx_core.specs.declared.entry.Kind.TheVariants as kinds;
+ghost use Rattle.store_pages.specs.Layouts.{xact_page_of};
 ghost use Rattle.tx_core.specs.Entries.{IsMarked};
 ghost use Rattle.tx_core.specs.Laws.{all_set};
 ghost use Rattle.tx_core.specs.Locks.{xact_lock};
@@ -14,12 +15,12 @@ ghost use Rattle.engine_parts.specs.Stages.{AsksNothing};
 ghost use Rattle.engine_parts.specs.Stand.{number_of_state};
 ghost use Rattle.engine_parts.specs.Steps.{GoesOn};
 ghost use Rattle.bank_sections.specs.Kept.{AreIdsNear};
+ghost use Rattle.bank_sections.specs.Sections.{BankSection, IsXactCut};
 ghost use Rattle.bank_sections.specs.Sets.{AsksOnly, MaySet};
 
-use crate::entries::command_of;
 use crate::refused::leave_refused;
 use disk_core::{LogDisk, PageDisk};
-use engine_parts::{Caller, EngineLaw, Part, enter_xact, fault_note, leave_quiet};
+use engine_parts::{Caller, EngineLaw, Part, command_of, enter_xact, fault_note, leave_quiet};
 use hall::{Hall, Note};
 use pg_xact_log::set_states;
 use slru_bank::BankRefusal;
@@ -65,6 +66,13 @@ pub fn set_page<R: Wait, L: LogDisk, P: PageDisk>(
     requires among { past ≤ length caller.old.session.levels.open_ids.items }
     requires may { MaySet (start_of hall.now) (view caller.old.pass).seen caller.old.number bank
         (slice_range caller.old.session.levels.open_ids.items first past) state }
+    ensures section { BankSection (start_of hall.now) (xact_lock bank)
+        (by_at caller.old.number caller.old.session.levels.commands)
+        (IsXactCut (start_of hall.now) (view caller.new.pass).seen bank
+        (xact_page_of (slice_index (slice_range caller.old.session.levels.open_ids.items first past) 0)))
+        (kinds.Set (all_set (by_at caller.old.number caller.old.session.levels.commands) state
+        (slice_range caller.old.session.levels.open_ids.items first past)))
+        (view caller.old.pass) (view caller.new.pass) result }
     ensures own { IsOf hall.now caller.new.pass }
     ensures ready { IsReady (start_of hall.now) (view caller.new.pass) caller.new.number caller.new.session }
     ensures goes { GoesOn caller.old.number [] (view caller.old.pass).seen (view caller.new.pass).seen }

@@ -4,7 +4,9 @@ ghost use Rattle.hall.specs.Calls.{view, IsOf, start_of};
 ghost use Rattle.slru_bank.specs.declared.refusal.BankRefusal.TheVariants.{Cut, DiskFault};
 ghost use Rattle.tx_core.specs.declared.entry.Change.TheVariants as changes;
 ghost use Rattle.tx_core.specs.declared.entry.Kind.TheVariants as kinds;
-ghost use Rattle.tx_core.specs.Entries.{IsLinked, Stands};
+ghost use Rattle.store_pages.specs.Layouts.{word_page_of};
+ghost use Rattle.tx_events.specs.Horizon.{oldest_xmin};
+ghost use Rattle.tx_core.specs.Entries.{IsLinked, Stands, history};
 ghost use Rattle.tx_core.specs.Locks.{subtrans_lock, subtrans_lock_of, subtrans_page};
 ghost use Rattle.tx_core.specs.PagesBeforeIds.{IsIdOf};
 ghost use Rattle.tx_core.specs.ParentsFollow.{IsGivenBelow};
@@ -12,13 +14,14 @@ ghost use Rattle.engine_parts.specs.Answers.{MetFault};
 ghost use Rattle.engine_parts.specs.Sessions.{IsReady, by_at};
 ghost use Rattle.engine_parts.specs.Steps.{WentOn};
 ghost use Rattle.bank_sections.specs.Kept.{AreIdsNear};
-ghost use Rattle.bank_sections.specs.Reads.{IsNear, IsParentRead};
+ghost use Rattle.bank_sections.specs.Reads.{IsParentNear, IsParentRead};
+ghost use Rattle.bank_sections.specs.Sections.{BankSection, IsSubtransCut};
 
-use crate::entries::{command_of, made_note};
+use crate::entries::zeroed_note;
 use crate::refused::leave_refused;
 use disk_core::{LogDisk, PageDisk};
 use engine_parts::{
-    Caller, EngineLaw, Part, enter_subtrans, fault_note, leave_looked, leave_quiet,
+    Caller, EngineLaw, Part, command_of, enter_subtrans, fault_note, leave_looked, leave_quiet,
 };
 use hall::{Hall, Note};
 use slru_bank::BankRefusal;
@@ -30,7 +33,8 @@ use tx_events::By;
 use xid_order::{FullXid, Xid, near};
 
 /// Makes the page of the parent of `id`, which was given or comes next, where the bank's last made page is before it
-/// (`ExtendSUBTRANS` of `subtrans.c`).
+/// (`ExtendSUBTRANS` of `subtrans.c`). The page of an id that isn't before the oldest xmin isn't cut, as long as the
+/// life's ids are near.
 pub fn make_parents<R: Wait, L: LogDisk, P: PageDisk>(
     rt: &R,
     hall: &Hall<EngineLaw<L, P>>,
@@ -42,13 +46,22 @@ pub fn make_parents<R: Wait, L: LogDisk, P: PageDisk>(
     requires laid { hall.now.cells ≡ 3 + 4 * (start_of hall.now).banks }
     requires bank { (bank < (start_of hall.now).banks) × ((start_of hall.now).banks ≤ 16) }
     requires ready { IsReady (start_of hall.now) (view caller.old.pass) caller.old.number caller.old.session }
+    requires here { subtrans_lock_of (start_of hall.now) id ≡ subtrans_lock bank }
     requires wanted { IsIdOf (start_of hall.now) (view caller.old.pass).seen id }
+    ensures section { BankSection (start_of hall.now) (subtrans_lock bank)
+        (by_at caller.old.number caller.old.session.levels.commands)
+        (IsSubtransCut (start_of hall.now) (view caller.new.pass).seen bank (word_page_of id))
+        (kinds.Zero (subtrans_page id)) (view caller.old.pass) (view caller.new.pass) result }
     ensures own { IsOf hall.now caller.new.pass }
     ensures ready { IsReady (start_of hall.now) (view caller.new.pass) caller.new.number caller.new.session }
     ensures went { WentOn caller.old.number [] (view caller.old.pass).seen (view caller.new.pass).seen }
-    ensures made { OnOk result (Stands (view caller.new.pass).seen (subtrans_lock bank) (kinds.Zero (subtrans_page id))) }
+    ensures made { OnOk result
+        (Stands (view caller.new.pass).seen (subtrans_lock bank) (kinds.Zero (subtrans_page id))) }
     ensures fault { result ≡ Err DiskFault → MetFault (view caller.new.pass).seen (subtrans_lock bank)
         (by_at caller.old.number caller.old.session.levels.commands) }
+    ensures uncut { AreIdsNear (start_of hall.now) (view caller.new.pass).seen
+        → oldest_xmin (start_of hall.now).base.next (history (view caller.new.pass).seen) ≤ id
+        → (cutoff : ℕ) → result ≡ Err (Cut cutoff) → ⊥ }
     ensures same { (caller.new.session ≡ caller.old.session) × (caller.new.number ≡ caller.old.number) }
 {
     let mut store = enter_subtrans(rt, hall, caller, bank);
@@ -56,7 +69,7 @@ pub fn make_parents<R: Wait, L: LogDisk, P: PageDisk>(
     let by = command_of(caller);
     match store.zero(subtrans_page(id.low())) {
         Ok(()) => {
-            let entry = made_note(by, subtrans_page_in_full(id));
+            let entry = zeroed_note(by, subtrans_page_in_full(id));
             leave_quiet(hall, caller, lock, Part::Subtrans(store), entry);
             Ok(())
         }
@@ -90,6 +103,10 @@ pub fn link_parent<R: Wait, L: LogDisk, P: PageDisk>(
     requires ready { IsReady (start_of hall.now) (view caller.old.pass) caller.old.number caller.old.session }
     requires here { subtrans_lock_of (start_of hall.now) id ≡ subtrans_lock bank }
     requires below { IsGivenBelow (view caller.old.pass).seen caller.old.number parent id }
+    ensures section { BankSection (start_of hall.now) (subtrans_lock bank)
+        (by_at caller.old.number caller.old.session.levels.commands)
+        (IsSubtransCut (start_of hall.now) (view caller.new.pass).seen bank (word_page_of id))
+        (kinds.Set (changes.Parent (by_at caller.old.number caller.old.session.levels.commands) id parent ∷ [])) (view caller.old.pass) (view caller.new.pass) result }
     ensures own { IsOf hall.now caller.new.pass }
     ensures ready { IsReady (start_of hall.now) (view caller.new.pass) caller.new.number caller.new.session }
     ensures went { WentOn caller.old.number [] (view caller.old.pass).seen (view caller.new.pass).seen }
@@ -121,7 +138,7 @@ pub fn link_parent<R: Wait, L: LogDisk, P: PageDisk>(
 fn parent_near(x: FullXid, found: Option<Xid>) -> Option<FullXid>
     requires from { 3 ≤ x }
     requires to { x < 2 ^ 63 }
-    ensures { IsNear x found result }
+    ensures { IsParentNear x found result }
 {
     let Some(p) = found else {
         return None;
@@ -148,6 +165,10 @@ pub fn read_parent<R: Wait, L: LogDisk, P: PageDisk>(
     requires here { subtrans_lock_of (start_of hall.now) x ≡ subtrans_lock bank }
     requires from { 3 ≤ x }
     requires to { x < 2 ^ 63 }
+    ensures section { BankSection (start_of hall.now) (subtrans_lock bank)
+        (by_at caller.old.number caller.old.session.levels.commands)
+        (IsSubtransCut (start_of hall.now) (view caller.new.pass).seen bank (word_page_of x))
+        kinds.Look (view caller.old.pass) (view caller.new.pass) result }
     ensures own { IsOf hall.now caller.new.pass }
     ensures ready { IsReady (start_of hall.now) (view caller.new.pass) caller.new.number caller.new.session }
     ensures went { WentOn caller.old.number [] (view caller.old.pass).seen (view caller.new.pass).seen }

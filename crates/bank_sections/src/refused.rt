@@ -8,7 +8,7 @@ ghost use Rattle.engine_parts.specs.Faults.{fault_by};
 ghost use Rattle.engine_parts.specs.Holds.{Leaves};
 ghost use Rattle.engine_parts.specs.Parts.{PartStands};
 ghost use Rattle.engine_parts.specs.Sessions.{IsAt, IsReady, by_at};
-ghost use Rattle.bank_sections.specs.Refusals.{faults_in, refused_by};
+ghost use Rattle.bank_sections.specs.Refusals.{faults_in, entry_of_refusal};
 
 use disk_core::{LogDisk, PageDisk};
 use engine_parts::{Caller, EngineLaw, Part, leave_looked, leave_quiet};
@@ -38,7 +38,7 @@ pub(crate) fn leave_refused<L: LogDisk, P: PageDisk>(
     ensures own { IsOf hall.now caller.new.pass }
     ensures ready { IsReady (start_of hall.now) (view caller.new.pass) caller.new.number caller.new.session }
     ensures left { Leaves (start_of hall.now) lock
-        (refused_by (by_at caller.old.number caller.old.session.levels.commands) (faults_in part) refusal)
+        (entry_of_refusal (by_at caller.old.number caller.old.session.levels.commands) (faults_in part) refusal)
         (view caller.old.pass) (view caller.new.pass) }
     ensures same { (caller.new.session ≡ caller.old.session) × (caller.new.number ≡ caller.old.number) }
 {

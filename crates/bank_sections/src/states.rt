@@ -2,21 +2,27 @@
 ghost use Rattle.std.specs.Prelude.{◌≡◌, ℕ, ◌+◌, ◌*◌, ◌<◌, ◌≤◌, [], Err, IfOk, IsTrue, OnOk};
 ghost use Rattle.hall.specs.Calls.{view, IsOf, start_of};
 ghost use Rattle.pg_xact_log.specs.States.{state_number};
-ghost use Rattle.slru_bank.specs.declared.refusal.BankRefusal.TheVariants.{DiskFault};
+ghost use Rattle.slru_bank.specs.declared.refusal.BankRefusal.TheVariants.{Cut, DiskFault};
 ghost use Rattle.tx_core.specs.declared.entry.Kind.TheVariants as kinds;
-ghost use Rattle.tx_core.specs.Entries.{Stands};
+ghost use Rattle.store_pages.specs.Layouts.{xact_page_of};
+ghost use Rattle.tx_events.specs.Horizon.{oldest_id};
+ghost use Rattle.tx_core.specs.Entries.{Stands, history};
 ghost use Rattle.tx_core.specs.Locks.{xact_lock, xact_lock_of, xact_page};
 ghost use Rattle.tx_core.specs.PagesBeforeIds.{IsIdOf};
 ghost use Rattle.engine_parts.specs.Answers.{MetFault};
 ghost use Rattle.engine_parts.specs.Sessions.{IsReady, by_at};
 ghost use Rattle.engine_parts.specs.Stand.{number_of_state};
 ghost use Rattle.engine_parts.specs.Steps.{WentOn};
+ghost use Rattle.bank_sections.specs.Kept.{AreIdsNear};
 ghost use Rattle.bank_sections.specs.Reads.{IsStateRead};
+ghost use Rattle.bank_sections.specs.Sections.{BankSection, IsXactCut};
 
-use crate::entries::{command_of, made_note};
+use crate::entries::zeroed_note;
 use crate::refused::leave_refused;
 use disk_core::{LogDisk, PageDisk};
-use engine_parts::{Caller, EngineLaw, Part, enter_xact, fault_note, leave_looked, leave_quiet};
+use engine_parts::{
+    Caller, EngineLaw, Part, command_of, enter_xact, fault_note, leave_looked, leave_quiet,
+};
 use hall::Hall;
 use pg_xact_log::state;
 use slru_bank::BankRefusal;
@@ -26,7 +32,8 @@ use tx_core::State;
 use xid_order::FullXid;
 
 /// Makes the page of the state of `id`, which was given or comes next, where the bank's last made page is before it
-/// (`ExtendCLOG` of `clog.c`).
+/// (`ExtendCLOG` of `clog.c`). The page of an id that isn't before the announced oldest one isn't cut, as long as the
+/// life's ids are near.
 pub fn make_page<R: Wait, L: LogDisk, P: PageDisk>(
     rt: &R,
     hall: &Hall<EngineLaw<L, P>>,
@@ -38,13 +45,21 @@ pub fn make_page<R: Wait, L: LogDisk, P: PageDisk>(
     requires laid { hall.now.cells ≡ 3 + 4 * (start_of hall.now).banks }
     requires bank { (bank < (start_of hall.now).banks) × ((start_of hall.now).banks ≤ 16) }
     requires ready { IsReady (start_of hall.now) (view caller.old.pass) caller.old.number caller.old.session }
+    requires here { xact_lock_of (start_of hall.now) id ≡ xact_lock bank }
     requires wanted { IsIdOf (start_of hall.now) (view caller.old.pass).seen id }
+    ensures section { BankSection (start_of hall.now) (xact_lock bank)
+        (by_at caller.old.number caller.old.session.levels.commands)
+        (IsXactCut (start_of hall.now) (view caller.new.pass).seen bank (xact_page_of id))
+        (kinds.Zero (xact_page id)) (view caller.old.pass) (view caller.new.pass) result }
     ensures own { IsOf hall.now caller.new.pass }
     ensures ready { IsReady (start_of hall.now) (view caller.new.pass) caller.new.number caller.new.session }
     ensures went { WentOn caller.old.number [] (view caller.old.pass).seen (view caller.new.pass).seen }
     ensures made { OnOk result (Stands (view caller.new.pass).seen (xact_lock bank) (kinds.Zero (xact_page id))) }
     ensures fault { result ≡ Err DiskFault → MetFault (view caller.new.pass).seen (xact_lock bank)
         (by_at caller.old.number caller.old.session.levels.commands) }
+    ensures uncut { AreIdsNear (start_of hall.now) (view caller.new.pass).seen
+        → oldest_id (start_of hall.now).base.oldest (history (view caller.new.pass).seen) ≤ id
+        → (cutoff : ℕ) → result ≡ Err (Cut cutoff) → ⊥ }
     ensures same { (caller.new.session ≡ caller.old.session) × (caller.new.number ≡ caller.old.number) }
 {
     let mut store = enter_xact(rt, hall, caller, bank);
@@ -52,7 +67,7 @@ pub fn make_page<R: Wait, L: LogDisk, P: PageDisk>(
     let by = command_of(caller);
     match store.zero(xact_page(id.low())) {
         Ok(()) => {
-            let entry = made_note(by, xact_page_in_full(id));
+            let entry = zeroed_note(by, xact_page_in_full(id));
             leave_quiet(hall, caller, lock, Part::Xact(store), entry);
             Ok(())
         }
@@ -89,6 +104,10 @@ pub fn read_state<R: Wait, L: LogDisk, P: PageDisk>(
     requires bank { (bank < (start_of hall.now).banks) × ((start_of hall.now).banks ≤ 16) }
     requires ready { IsReady (start_of hall.now) (view caller.old.pass) caller.old.number caller.old.session }
     requires here { xact_lock_of (start_of hall.now) x ≡ xact_lock bank }
+    ensures section { BankSection (start_of hall.now) (xact_lock bank)
+        (by_at caller.old.number caller.old.session.levels.commands)
+        (IsXactCut (start_of hall.now) (view caller.new.pass).seen bank (xact_page_of x))
+        kinds.Look (view caller.old.pass) (view caller.new.pass) result }
     ensures own { IsOf hall.now caller.new.pass }
     ensures ready { IsReady (start_of hall.now) (view caller.new.pass) caller.new.number caller.new.session }
     ensures went { WentOn caller.old.number [] (view caller.old.pass).seen (view caller.new.pass).seen }

@@ -1,5 +1,5 @@
 -- What a call did that had no event, or one.
-use Rattle.std.proofs.Common.{◌≡◌, ℕ, ◌<◌, List, [], ◌∷◌, None, Some, sym, ap, subst, ◌∙◌, length, arith, append-nil}
+use Rattle.std.proofs.Common.{Bool, ◌≡◌, ℕ, ◌<◌, List, [], ◌∷◌, None, Some, sym, ap, subst, ◌∙◌, length, arith, append-nil}
 use Rattle.std.specs.List.{filter}
 use Rattle.notes.specs.Lists.{Knows, at}
 use Rattle.notes.proofs.Growing.{begins_same}
@@ -28,9 +28,9 @@ use Rattle.engine_parts.proofs.Refusing.{refused_events, refused_leaves}
 use Rattle.engine_parts.proofs.Leaving.{Added, event_added, grown_left, grows_then, history_same}
 
 -- with one critical section at most, which had no event
-pub acted_looked : (start : Start) (v u w : Knowledge) (n lock : ℕ) (s : Session) (s' : Stance) (stage : Stage) (command : Command) (reply : Reply) (e : Entry) → IsAt start v n s → EngineInvariant start u.seen → Learns v u → lock < length v.seen → event_of e ≡ None → Leaves start lock e u w
-    → HasEvents (by_at n s.levels.commands) (stance_of s) command reply [] → MayAnswer start w.seen (alone (history v.seen) (history w.seen)) (by_at n s.levels.commands) (stance_of s) stage command reply → by_standing reply ≡ refused_by command (stance_of s) stage → after (stance_of s) s.levels.commands command reply [] ≡ s'
-    → Acted start (by_at n s.levels.commands) (stance_of s) s' stage command reply v.seen w.seen
+pub acted_looked : {tells : Bool} (start : Start) (v u w : Knowledge) (n lock : ℕ) (s : Session) (s' : Stance) (stage : Stage) (command : Command) (reply : Reply) (e : Entry) → IsAt start v n s → EngineInvariant start u.seen → Learns v u → lock < length v.seen → event_of e ≡ None → Leaves start lock e u w
+    → HasEvents (by_at n s.levels.commands) (stance_of s) command reply [] → MayAnswer tells start w.seen (alone (history v.seen) (history w.seen)) (by_at n s.levels.commands) (stance_of s) stage command reply → by_standing reply ≡ refused_by command (stance_of s) stage → after (stance_of s) s.levels.commands command reply [] ≡ s'
+    → Acted tells start (by_at n s.levels.commands) (stance_of s) s' stage command reply v.seen w.seen
 acted_looked start v u w n lock s s' stage command reply e a k learns inside looks l fitting allowed standing left =
     let long = learns.long in
     let there : lock < length u.seen = omega arith in
@@ -47,9 +47,9 @@ acted_looked start v u w n lock s s' stage command reply e a k learns inside loo
     }
 
 -- with one critical section, of the ProcArray, which had this event
-pub acted_event : (start : Start) (v u w : Knowledge) (n : ℕ) (s : Session) (s' : Stance) (command : Command) (reply : Reply) (e : Entry) (event : Event) → IsAt start v n s → EngineInvariant start u.seen → Learns v u → event_of e ≡ Some event → by_of event ≡ by_at n s.levels.commands → Leaves start proc_lock e u w
-    → HasEvents (by_at n s.levels.commands) (stance_of s) command reply (event ∷ []) → MayAnswer start w.seen (alone (history v.seen) (history w.seen)) (by_at n s.levels.commands) (stance_of s) s.stage command reply → by_standing reply ≡ refused_by command (stance_of s) s.stage → after (stance_of s) s.levels.commands command reply (given (event ∷ [])) ≡ s'
-    → Acted start (by_at n s.levels.commands) (stance_of s) s' s.stage command reply v.seen w.seen
+pub acted_event : {tells : Bool} (start : Start) (v u w : Knowledge) (n : ℕ) (s : Session) (s' : Stance) (command : Command) (reply : Reply) (e : Entry) (event : Event) → IsAt start v n s → EngineInvariant start u.seen → Learns v u → event_of e ≡ Some event → by_of event ≡ by_at n s.levels.commands → Leaves start proc_lock e u w
+    → HasEvents (by_at n s.levels.commands) (stance_of s) command reply (event ∷ []) → MayAnswer tells start w.seen (alone (history v.seen) (history w.seen)) (by_at n s.levels.commands) (stance_of s) s.stage command reply → by_standing reply ≡ refused_by command (stance_of s) s.stage → after (stance_of s) s.levels.commands command reply (given (event ∷ [])) ≡ s'
+    → Acted tells start (by_at n s.levels.commands) (stance_of s) s' s.stage command reply v.seen w.seen
 acted_event start v u w n s s' command reply e event a k learns is own l fitting allowed standing left =
     let by = by_at n s.levels.commands in
     let d : Added by event v.seen w.seen = event_added start v u w by e event a.name k learns is own (let f = a.wide in omega arith) l in
@@ -65,10 +65,10 @@ acted_event start v u w n s s' command reply e event a k learns is own l fitting
     }
 
 -- with none
-pub acted_nothing : (start : Start) (lists lists' : List (List Entry)) (n number : ℕ) (s s' : Stance) (stage : Stage) (command : Command) (reply : Reply) → lists' ≡ lists → HasEvents (by_at n number) s command reply []
-    → MayAnswer start lists (alone (history lists) (history lists)) (by_at n number) s stage command reply → by_standing reply ≡ refused_by command s stage → after s number command reply [] ≡ s' → Acted start (by_at n number) s s' stage command reply lists lists'
-acted_nothing start lists lists' n number s s' stage command reply same fitting allowed standing left =
-    subst (λ z. Acted start (by_at n number) s s' stage command reply lists z) (sym same) (record {
+pub acted_nothing : {tells : Bool} (start : Start) (lists lists' : List (List Entry)) (n number : ℕ) (s s' : Stance) (stage : Stage) (command : Command) (reply : Reply) → lists' ≡ lists → HasEvents (by_at n number) s command reply []
+    → MayAnswer tells start lists (alone (history lists) (history lists)) (by_at n number) s stage command reply → by_standing reply ≡ refused_by command s stage → after s number command reply [] ≡ s' → Acted tells start (by_at n number) s s' stage command reply lists lists'
+acted_nothing {tells = tells} start lists lists' n number s s' stage command reply same fitting allowed standing left =
+    subst (λ z. Acted tells start (by_at n number) s s' stage command reply lists z) (sym same) (record {
       grows = record { begins = λ q. begins_same (at lists q) };
       added = [];
       own = sym (append-nil (filter (is_of n) (history lists)));
@@ -80,8 +80,8 @@ acted_nothing start lists lists' n number s s' stage command reply same fitting 
     })
 
 -- with none, and refused
-pub acted_refused : (start : Start) (lists lists' : List (List Entry)) (n number : ℕ) (s s' : Stance) (stage : Stage) (command : Command) (r : Refusal) → lists' ≡ lists → s' ≡ s
-    → MayAnswer start lists (alone (history lists) (history lists)) (by_at n number) s stage command (replies.Refused r) → by_standing (replies.Refused r) ≡ refused_by command s stage → Acted start (by_at n number) s s' stage command (replies.Refused r) lists lists'
-acted_refused start lists lists' n number s s' stage command r same stays allowed standing =
-    acted_nothing start lists lists' n number s s' stage command (replies.Refused r) same (refused_events (by_at n number) s command r) allowed standing
+pub acted_refused : {tells : Bool} (start : Start) (lists lists' : List (List Entry)) (n number : ℕ) (s s' : Stance) (stage : Stage) (command : Command) (r : Refusal) → lists' ≡ lists → s' ≡ s
+    → MayAnswer tells start lists (alone (history lists) (history lists)) (by_at n number) s stage command (replies.Refused r) → by_standing (replies.Refused r) ≡ refused_by command s stage → Acted tells start (by_at n number) s s' stage command (replies.Refused r) lists lists'
+acted_refused {tells = tells} start lists lists' n number s s' stage command r same stays allowed standing =
+    acted_nothing {tells = tells} start lists lists' n number s s' stage command (replies.Refused r) same (refused_events (by_at n number) s command r) allowed standing
     (refused_leaves s number command r ∙ sym stays)

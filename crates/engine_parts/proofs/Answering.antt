@@ -1,12 +1,17 @@
 -- What a call promised stays true while lists grow, so it holds of the final lists.
-use Rattle.std.proofs.Common.{ℕ, List, ◌∷◌, ◌++◌, append_assoc, sym, ap, subst, ◌∙◌}
+use Rattle.std.proofs.Common.{ℕ, ◌+◌, ◌<◌, ◌≤◌, ◌≡◌, List, ◌∷◌, ◌++◌, length, append_assoc, length-append, arith, sym, ap, subst, ◌∙◌}
+use Rattle.std.specs.List.{AllByRecursion}
+use Rattle.std.proofs.lemmas.List.Elements.{filter_map-append}
 use Rattle.notes.specs.Lists.{Grows, at}
 use Rattle.tx_core.proofs.Growing.{contains_begins}
 use Rattle.tx_events.specs.declared.event.By.{By}
 use Rattle.tx_events.specs.declared.event.Event.{Event}
 use Rattle.tx_events.specs.declared.refusal.Refusal.TheVariants as refusals
+use Rattle.tx_events.specs.Events.{by_of, given, given_by}
+use Rattle.tx_model.specs.declared.command.Command.{Command}
+use Rattle.tx_model.specs.declared.reply.Reply.{Reply}
 use Rattle.tx_model.specs.declared.reply.Reply.TheVariants as replies
-use Rattle.tx_model.specs.Replies.{MayReply}
+use Rattle.tx_model.specs.Replies.{MayReply, RoundSpan}
 use Rattle.tx_model.specs.Stance.{Stance}
 use Rattle.tx_model.proofs.Growth.{may_reply_grows}
 use Rattle.tx_core.specs.declared.entry.Entry.{Entry}
@@ -15,7 +20,7 @@ use Rattle.tx_core.specs.declared.entry.Start.{Start}
 use Rattle.tx_core.specs.Entries.{history}
 use Rattle.tx_core.specs.Locks.{log_lock, number_of}
 use Rattle.tx_core.proofs.Lasting.{history_grows}
-use Rattle.engine_parts.specs.Answers.{AnswersStay, IsCommitPending, MetFault, MetLogFault}
+use Rattle.engine_parts.specs.Answers.{AnswersStay, AreFew, IsCommitPending, MetFault, MetLogFault}
 use Rattle.engine_parts.specs.Stand.{IsDownAt}
 
 fault_grows : (lists more : List (List Entry)) (lock : ℕ) (by : By) → Grows lists more → MetFault lists lock by → MetFault more lock by
@@ -56,16 +61,31 @@ down_grows start lists more down g d =
       flushed_is = d.flushed_is;
     }
 
-pub answer_grows : AnswersStay
-answer_grows start lists more r r' by s stage command (replies.Refused refusals.Memory) from to within g later a = a
-answer_grows start lists more r r' by s stage command (replies.Refused refusals.Full) from to within g later a = a
-answer_grows start lists more r r' by s stage command (replies.Refused (refusals.DiskFault lock)) from to within g later a = fault_grows lists more (number_of lock) by g a
-answer_grows start lists more r r' by s stage command (replies.Refused refusals.LogFault) from to within g later a = (a.0, log_fault_grows lists more by g a.1)
-answer_grows start lists more r r' by s stage command (replies.Refused (refusals.LogDown down)) from to within g later a = (a.0, down_grows start lists more down g a.1)
-answer_grows start lists more r r' by s stage command (replies.Refused refusals.CommitPending) from to within g later a = pending_grows lists more by s g a
-answer_grows start lists more r r' by s stage command (replies.Refused refusals.AbortPending) from to within g later a = a
-answer_grows start lists more r r' by s stage command (replies.Refused refusals.UndoPending) from to within g later a = a
-answer_grows start lists more r r' by s stage command reply from to within g later a =
+lawful_grows : (start : Start) (lists more : List (List Entry)) (span wider : RoundSpan) (by : By) (s : Stance) (command : Command) (reply : Reply) → wider.from ≤ span.from → span.to ≤ wider.to → span.to ≤ length (history lists) → Grows lists more
+    → ((rest : List Event) → history lists ++ rest ≡ history more → AllByRecursion (λ e. (by_of e).session ≡ by.session → by.command < (by_of e).command) rest)
+    → MayReply start.base start.committed (history lists) span by s command reply → MayReply start.base start.committed (history more) wider by s command reply
+lawful_grows start lists more span wider by s command reply from to within g later a =
     let b = history_grows lists more g in
-    subst (λ (h : List Event). MayReply start.base start.committed h r' by s command reply) b.1
-    (may_reply_grows start.base start.committed (history lists) b.0 r r' by s command reply from to within (later b.0 b.1) a)
+    subst (λ (h : List Event). MayReply start.base start.committed h wider by s command reply) b.1
+    (may_reply_grows start.base start.committed (history lists) b.0 span wider by s command reply from to within (later b.0 b.1) a)
+
+few_before : (start : Start) (lists more : List (List Entry)) → Grows lists more → AreFew start more → AreFew start lists
+few_before start lists more g few =
+    let b = history_grows lists more g in
+    let long : length (given (history lists ++ b.0)) ≡ length (given (history more)) = ap (λ (h : List Event). length (given h)) b.1 in
+    let parts : length (given (history lists ++ b.0)) ≡ length (given (history lists)) + length (given b.0) = ap length (filter_map-append given_by (history lists) b.0) ∙ length-append (given (history lists)) (given b.0) in
+    let below : length (given (history more)) < 2900000 = few in
+    omega arith
+
+pub answer_grows : AnswersStay
+answer_grows tells start lists more r r' by s stage command (replies.Refused refusals.Memory) from to within g later a = a
+answer_grows tells start lists more r r' by s stage command (replies.Refused refusals.Full) from to within g later a = a
+answer_grows tells start lists more r r' by s stage command (replies.Refused (refusals.DiskFault lock)) from to within g later a = (a.0, fault_grows lists more (number_of lock) by g a.1)
+answer_grows tells start lists more r r' by s stage command (replies.Refused refusals.LogFault) from to within g later a = (a.0, log_fault_grows lists more by g a.1)
+answer_grows tells start lists more r r' by s stage command (replies.Refused (refusals.LogDown down)) from to within g later a = (a.0, down_grows start lists more down g a.1, a.2)
+answer_grows tells start lists more r r' by s stage command (replies.Refused refusals.CommitPending) from to within g later a = pending_grows lists more by s g a
+answer_grows tells start lists more r r' by s stage command (replies.Refused refusals.AbortPending) from to within g later a = a
+answer_grows tells start lists more r r' by s stage command (replies.Refused refusals.UndoPending) from to within g later a = a
+answer_grows tells start lists more r r' by s stage command (replies.Seen verdict) from to within g later a =
+    λ t few. lawful_grows start lists more r r' by s command (replies.Seen verdict) from to within g later (a t (few_before start lists more g few))
+answer_grows tells start lists more r r' by s stage command reply from to within g later a = lawful_grows start lists more r r' by s command reply from to within g later a

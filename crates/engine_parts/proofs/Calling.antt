@@ -35,7 +35,7 @@ module _ {H L P : Type 0} {l : logs.Ghosts L} {p : disks.Ghosts P} (hall : Hall 
   pub own_counted : (old u : Caller L P l p) → IsCounted old u → IsOf hall old.pass → IsOf hall u.pass
   own_counted old u c own = subst (λ p. IsOf hall p) (sym c.pass) own
 
-  pub may_counted : (old u : Caller L P l p) → IsCounted old u → MayRun hall old → MayCall (start_of hall) (view u.pass) u.number u.session
+  pub may_counted : {banks : ℕ} (old u : Caller L P l p) → IsCounted old u → MayRun hall banks old → MayCall (start_of hall) (view u.pass) u.number u.session
   may_counted old u c m =
       let t : Session = record old.session { levels = record old.session.levels { commands = next_command old } } in
       let is : u.session ≡ t = λ j. record { levels = c.levels j; stage = c.stage j; unlinked = c.unlinked j } in
@@ -48,15 +48,15 @@ module _ {H L P : Type 0} {l : logs.Ghosts L} {p : disks.Ghosts P} (hall : Hall 
       let counted = ap (λ z. z.commands) c.levels in record {
         own = r.own;
         may = r.may;
-        acted = subst (λ (z : ((Stance × Stage) × List (List Entry)) × (ℕ × ℕ)). Acted (start_of hall) (by_at z.1.0 z.1.1) z.0.0.0 (stance_of new.session) z.0.0.1 command reply z.0.1 (view new.pass).seen)
+        acted = subst (λ (z : ((Stance × Stage) × List (List Entry)) × (ℕ × ℕ)). Acted (p.tells) (start_of hall) (by_at z.1.0 z.1.1) z.0.0.0 (stance_of new.session) z.0.0.1 command reply z.0.1 (view new.pass).seen)
             (λ j. (((levels.stance_of (c.levels j), c.stage j), (view (c.pass j)).seen), (c.number j, counted j))) r.acted;
         stage = subst (λ (z : Stage). LeavesStage command reply z new.session.stage) c.stage r.stage;
         count = (r.count.0 ∙ counted, r.count.1 ∙ c.number);
       }
 
   -- a command that is refused before any critical section
-  pub ran_refused : (old u : Caller L P l p) (command : Command) (r : Refusal) → IsCounted old u → MayRun hall old → is_by_standing r ≡ true → by_standing (replies.Refused r) ≡ refused_by command (stance_of old.session) old.session.stage
-      → MayAnswer (start_of hall) (view old.pass).seen (alone (history (view old.pass).seen) (history (view old.pass).seen)) (by_at old.number (next_command old)) (stance_of old.session) old.session.stage command (replies.Refused r)
+  pub ran_refused : {banks : ℕ} (old u : Caller L P l p) (command : Command) (r : Refusal) → IsCounted old u → MayRun hall banks old → is_by_standing r ≡ true → by_standing (replies.Refused r) ≡ refused_by command (stance_of old.session) old.session.stage
+      → MayAnswer (p.tells) (start_of hall) (view old.pass).seen (alone (history (view old.pass).seen) (history (view old.pass).seen)) (by_at old.number (next_command old)) (stance_of old.session) old.session.stage command (replies.Refused r)
       → Ran hall (next_command old) command (replies.Refused r) old u
   ran_refused old u command r c m by standing allowed = record {
     own = own_counted old u c m.own;
@@ -67,8 +67,8 @@ module _ {H L P : Type 0} {l : logs.Ghosts L} {p : disks.Ghosts P} (hall : Hall 
   }
 
   -- by an end that was begun
-  pub ran_held : (old u : Caller L P l p) (command : Command) (r : Refusal) → IsCounted old u → MayRun hall old → pending_in old.session.stage ≡ Some r → refused_by command (stance_of old.session) old.session.stage ≡ Some r
+  pub ran_held : {banks : ℕ} (old u : Caller L P l p) (command : Command) (r : Refusal) → IsCounted old u → MayRun hall banks old → pending_in old.session.stage ≡ Some r → refused_by command (stance_of old.session) old.session.stage ≡ Some r
       → Ran hall (next_command old) command (replies.Refused r) old u
   ran_held old u command r c m pending refused =
       let h : List Event = history (view old.pass).seen in
-      ran_refused old u command r c m (is_pending old.session.stage r pending) (pending_stands old.session.stage r pending ∙ sym refused) (pending_answer (start_of hall) (view old.pass) old.number old.session (alone h h) command r m.may pending)
+      ran_refused old u command r c m (is_pending old.session.stage r pending) (pending_stands old.session.stage r pending ∙ sym refused) (pending_answer (p.tells) (start_of hall) (view old.pass) old.number old.session (alone h h) command r m.may pending)

@@ -1,5 +1,5 @@
 -- How a session stands while others go on.
-use Rattle.std.proofs.Common.{Contains, Option, None, Some, IfSome, ⊎_elim, ◌≡◌, ◌≢◌, ℕ, ◌+◌, ◌≤◌, List, [], ◌∷◌, ◌++◌, inl, inr, refl, sym, ap, subst, ◌∙◌, ◌==◌, arith}
+use Rattle.std.proofs.Common.{Contains, drop, Option, None, Some, IfSome, ⊎_elim, ◌≡◌, ◌≢◌, ℕ, ◌+◌, ◌≤◌, List, [], ◌∷◌, ◌++◌, inl, inr, refl, sym, ap, subst, ◌∙◌, ◌==◌, arith}
 use Rattle.std.proofs.lemmas.List.Elements.{All-weaker, Contains-append_left}
 use Rattle.std.specs.List.{filter, All}
 use Rattle.notes.specs.Lists.{Grows, Knows, at}
@@ -13,9 +13,10 @@ use Rattle.tx_events.proofs.ListSteps.{all_weaker}
 use Rattle.tx_events.proofs.Membership.{Has}
 use Rattle.tx_core.specs.declared.entry.Entry.{Entry}
 use Rattle.tx_core.specs.declared.entry.Start.{Start}
+use Rattle.tx_core.specs.declared.entry.State.{State}
 use Rattle.tx_core.specs.declared.entry.State.TheVariants as states
 use Rattle.tx_core.specs.EngineInvariant.{EngineInvariant}
-use Rattle.tx_core.specs.Entries.{appended, history, records_of, session_of}
+use Rattle.tx_core.specs.Entries.{IsMarked, appended, history, records_of, session_of}
 use Rattle.tx_core.specs.Locks.{log_lock}
 use Rattle.tx_core.specs.PagesBeforeIds.{IsMade}
 use Rattle.tx_core.specs.ParentsFollow.{IsGivenBelow}
@@ -66,9 +67,9 @@ filed_later start lists more n opened unlinked g f = record {
   pending = later unlinked f.pending;
 }
   where
-    later : (o : Option Unlinked) → IfSome o (λ u. IsGivenBelow lists n u.parent u.id × IsMade start lists u.id) → IfSome o (λ u. IsGivenBelow more n u.parent u.id × IsMade start more u.id)
+    later : (o : Option Unlinked) → IfSome o (λ u. Contains (drop 1 opened) u.id × IsGivenBelow lists n u.parent u.id × IsMade start lists u.id) → IfSome o (λ u. Contains (drop 1 opened) u.id × IsGivenBelow more n u.parent u.id × IsMade start more u.id)
     later None p = tt
-    later (Some u) p = (below_later lists more n u.parent u.id g p.0, made_grows start lists more u.id g p.1)
+    later (Some u) p = (p.0, below_later lists more n u.parent u.id g p.1, made_grows start lists more u.id g p.2)
 
 pub appended_at_later : (start : Start) (lists more : List (List Entry)) (n : ℕ) (rec : Rec) (number : ℕ) → Grows lists more → IsAppendedAt start lists n rec number → IsAppendedAt start more n rec number
 appended_at_later start lists more n rec number g a = record {
@@ -88,6 +89,10 @@ logged_later start lists more n opened number g asks l = record {
   unasked = λ id state c asked. l.unasked id state c (asks id state asked);
 }
 
+marked_later : (start : Start) (lists more : List (List Entry)) (id : ℕ) (o : Option State) → Grows lists more → IfSome o (λ state. IsMarked start lists id state) → IfSome o (λ state. IsMarked start more id state)
+marked_later start lists more id None g m = tt
+marked_later start lists more id (Some state) g m = marked_grows start lists more id state g m
+
 -- where the session asked for no more states
 pub stage_later : (start : Start) (lists more : List (List Entry)) (n : ℕ) (opened : List ℕ) (stage : Stage) → Grows lists more → AsksNothing n lists more → IsInStage start lists n opened stage → IsInStage start more n opened stage
 stage_later start lists more n opened stages.Clear g asks a = λ id state c asked. a id state c (asks id state asked)
@@ -98,7 +103,7 @@ stage_later start lists more n opened (stages.Settling steps) g asks l = record 
   ids = l.ids;
   flushed = flushed_grows start lists more n (records.Commit l.top l.subs) g l.flushed;
   upto = l.upto;
-  done = λ j p before found id c. marked_grows start lists more id (state_of p.state) g (l.done j p before found id c);
+  done = λ j p before found id c. marked_later start lists more id (state_of p.state) g (l.done j p before found id c);
   fresh = λ p found sub id c asked. l.fresh p found sub id c (asks id states.Committed asked);
 }
 stage_later start lists more n opened stages.Aborting g asks a = tt

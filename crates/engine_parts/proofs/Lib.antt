@@ -16,3 +16,4 @@ pub mod Pending
 pub mod Stepping
 pub mod Newness
 pub mod Placing
+pub mod Sectioning

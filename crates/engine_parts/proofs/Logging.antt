@@ -1,5 +1,5 @@
 -- The log stands for its list after each call.
-use Rattle.std.proofs.Common.{Contains, ◌≡◌, ℕ, ◌+◌, ◌≤◌, ◌<◌, List, [], ◌∷◌, ◌++◌, refl, sym, ap, subst, ◌∙◌, append-nil, append_assoc, length, map, arith, Bool, IsTrue, Option, Some, None}
+use Rattle.std.proofs.Common.{Contains, ⊎_elim, ◌≡◌, ℕ, ◌+◌, ◌≤◌, ◌<◌, List, [], ◌∷◌, ◌++◌, refl, sym, ap, subst, ◌∙◌, append-nil, append_assoc, length, map, arith, Bool, IsTrue, Option, Some, None}
 use Rattle.std.proofs.lemmas.List.{map_push, length-append}
 use Rattle.std.proofs.lemmas.List.Elements.{Contains-append_left, Contains-push, filter_map-append}
 use Rattle.std.specs.List.{filter_map, cons_option}
@@ -8,7 +8,7 @@ use Rattle.disk_core.specs.Volume.{Volume}
 use Rattle.tx_events.specs.declared.event.By.{By}
 use Rattle.tx_events.specs.declared.record.Counters.{Counters}
 use Rattle.tx_events.specs.declared.record.Rec.{Rec}
-use Rattle.tx_events.proofs.Membership.{by_end}
+use Rattle.tx_events.proofs.Membership.{by_end, contains_has, has_cases, has_contains}
 use Rattle.tx_events.specs.After.{after_record, after_records}
 use Rattle.tx_core.specs.declared.entry.Entry.{Entry}
 use Rattle.tx_core.specs.declared.entry.Kind.{Kind}
@@ -23,7 +23,7 @@ use Rattle.wal_core.specs.LogViews.{log_counters, log_disk, log_down, log_first,
 use Rattle.tx_core.specs.RecordsFollow.{counters_after}
 use Rattle.tx_core.specs.Entries.{recs_in}
 use Rattle.engine_parts.specs.Parts.{IsLogOf}
-use Rattle.engine_parts.specs.Stand.{LogStands, IsDownAt, faults_told, count_in, flushed_in, flushed_to, last_from}
+use Rattle.engine_parts.specs.Stand.{HasNoLogFault, LogStands, IsDownAt, faults_told, count_in, flushed_in, flushed_to, last_from}
 
 -- one entry more
 recs_push : (es : List Entry) (e : Entry) (rec : Rec) → appended e ≡ Some (e.by, rec) → recs_in (es ++ e ∷ []) ≡ recs_in es ++ rec ∷ []
@@ -57,6 +57,13 @@ failed_more start es e n d =
 pub failed_here : (start : Start) (es : List Entry) (by : By) (asked : LogCall) (count n : ℕ) → n ≡ flushed_to start es → IsDownAt start (es ++ record { by = by; kind = kinds.LogFault asked count } ∷ []) n
 failed_here start es by asked count n is = record { before = es; rest = []; by = by; asked = asked; count = count; split = refl; flushed_is = is }
 
+-- no fault, and an entry more that is none
+pub faultless_more : (es : List Entry) (e : Entry) → ((asked : LogCall) (count : ℕ) → e.kind ≡ kinds.LogFault asked count → ⊥) → HasNoLogFault es → HasNoLogFault (es ++ e ∷ [])
+faultless_more es e other none by asked count k =
+    let x : Entry = record { by = by; kind = kinds.LogFault asked count } in
+    ⊎_elim (λ old. none by asked count (has_contains es x old)) (λ new. ⊎_elim (λ (q : e ≡ x). other asked count (ap (λ (f : Entry). f.kind) q)) (λ nowhere. absurd nowhere) new)
+    (has_cases es (e ∷ []) x (contains_has (es ++ e ∷ []) x k))
+
 module _ (start : Start) (tells : Bool) (faults faults' : ℕ) (images images' : Volume → Type 0) (recs recs' : List Rec) (next next' first first' flushed flushed' : ℕ) (counters counters' : Option Counters) (down down' : Option ℕ) (es : List Entry) (by : By) (s : LogStands start tells faults images recs next first flushed counters down es) where
   -- an append
   pub appends : (rec : Rec) → recs' ≡ recs ++ rec ∷ [] → next' ≡ next + 1 → flushed' ≡ flushed → counters' ≡ Some (after_record (counters_after start es) rec) → down' ≡ down → faults' ≡ faults
@@ -69,7 +76,8 @@ module _ (start : Start) (tells : Bool) (faults faults' : ℕ) (images images' :
         next_is = let long : length (recs_in (es ++ e ∷ [])) ≡ length (recs_in es) + 1 = ap length more ∙ length-append (recs_in es) (rec ∷ []) in let old = s.next_is in omega arith;
         flushed_is = f ∙ (s.flushed_is ∙ sym (number_same flushed_in start.from es e refl));
         counters_are = c ∙ ap (λ (l : Counters). Some l) (sym (ap (after_records start.base) more ∙ fold_push after_record start.base (recs_in es) rec));
-        failed = λ m is. failed_more start es e m (s.failed m (sym d ∙ is));
+        failed = λ m is. let before = s.failed m (sym d ∙ is) in (failed_more start es e m before.0, (let le = before.1 in omega arith));
+        up = λ none. faultless_more es e (λ asked count q. cc) (s.up (sym d ∙ none));
         count = let a : faults_told (es ++ e ∷ []) ≡ faults_told es = number_same count_in 0 es e refl in let b = s.count in omega arith;
         kept = λ told.
             let old = s.kept told in
@@ -78,10 +86,10 @@ module _ (start : Start) (tells : Bool) (faults faults' : ℕ) (images images' :
 
   -- a call that appended nothing: what it says of flushes and faults comes with the entry
   pub goes_on : (kind : Kind) → appended (record { by = by; kind = kind }) ≡ None → recs' ≡ recs → next' ≡ next → counters' ≡ counters → flushed' ≡ flushed_to start (es ++ record { by = by; kind = kind } ∷ [])
-      → faults_told (es ++ record { by = by; kind = kind } ∷ []) ≤ faults' → ((m : ℕ) → down' ≡ Some m → IsDownAt start (es ++ record { by = by; kind = kind } ∷ []) m)
+      → faults_told (es ++ record { by = by; kind = kind } ∷ []) ≤ faults' → ((m : ℕ) → down' ≡ Some m → IsDownAt start (es ++ record { by = by; kind = kind } ∷ []) m × (m ≤ flushed')) → (down' ≡ None → HasNoLogFault (es ++ record { by = by; kind = kind } ∷ []))
       → (IsTrue tells → (number : ℕ) (all : List Rec) → KeepsRecords number all recs next first flushed images → KeepsRecords number all recs' next' first' flushed' images')
       → LogStands start tells faults' images' recs' next' first' flushed' counters' down' (es ++ record { by = by; kind = kind } ∷ [])
-  goes_on kind none r n c f u d k =
+  goes_on kind none r n c f u d up k =
       let e : Entry = record { by = by; kind = kind } in
       let same : recs_in (es ++ e ∷ []) ≡ recs_in es = recs_same es e none in record {
         recs_are = r ∙ (s.recs_are ∙ ap (λ (l : List Rec). start.logged ++ l) (sym same));
@@ -89,6 +97,7 @@ module _ (start : Start) (tells : Bool) (faults faults' : ℕ) (images images' :
         flushed_is = f;
         counters_are = c ∙ (s.counters_are ∙ ap (λ (l : List Rec). Some (after_records start.base l)) (sym same));
         failed = d;
+        up = up;
         count = u;
         kept = λ told.
             let old = s.kept told in
@@ -102,7 +111,7 @@ log_looks {g = g} start log es by s =
     goes_on start g.tells (g.faults (log_disk log)) (g.faults (log_disk log)) (g.images (log_disk log)) (g.images (log_disk log)) (log_recs log) (log_recs log) (log_next log) (log_next log) (log_first log) (log_first log) (log_flushed log) (log_flushed log) (log_counters log) (log_counters log) (log_down log) (log_down log) es by s kinds.Look refl refl refl refl
     (s.flushed_is ∙ sym (number_same flushed_in start.from es e refl))
     (let same : faults_told (es ++ e ∷ []) ≡ faults_told es = number_same count_in 0 es e refl in let before = s.count in omega arith)
-    (λ m is. failed_more start es e m (s.failed m is)) (λ told number all k. k)
+    (λ m is. let before = s.failed m is in (failed_more start es e m before.0, before.1)) (λ none. faultless_more es e (λ asked count q. cc) (s.up none)) (λ told number all k. k)
 
 -- the flushed number is that of a flush, where it is past the start's
 pub flush_stands : (start : Start) (es : List Entry) (number : ℕ) → start.from ≤ number → number < flushed_to start es → (to : ℕ) × (number < to) × (by : By) × Contains es (record { by = by; kind = kinds.Flush to })

@@ -1,5 +1,5 @@
 -- A session that has done nothing may call, where nothing was done at all.
-use Rattle.std.proofs.Common.{◌≡◌, ℕ, ◌≤◌, List, [], ◌∷◌, refl, sym, ap, subst, ◌∙◌, arith, drop, IfSome, Option}
+use Rattle.std.proofs.Common.{Contains, ◌≡◌, ℕ, ◌≤◌, List, [], ◌∷◌, refl, sym, ap, subst, ◌∙◌, arith, drop, IfSome, Option}
 use Rattle.std.proofs.lemmas.List.Elements.{All-nil}
 use Rattle.tx_events.specs.declared.event.Event.{Event}
 use Rattle.tx_events.specs.declared.record.Counters.{Counters}
@@ -51,7 +51,7 @@ new_may_call start v n s w =
           clear = λ q top subs k opened. let z : [] ≡ top ∷ subs = sym (ap (open_ids n) none) ∙ opened in absurd cc;
           filed = record {
             linked = λ id k. absurd (subst (λ (t : List ℕ). Has (drop 1 t) id) w.fresh.3 (contains_has (drop 1 s.levels.open_ids.items) id k));
-            pending = subst (λ (o : Option Unlinked). IfSome o (λ u. IsGivenBelow v.seen n u.parent u.id × IsMade start v.seen u.id)) (sym w.unlinked) tt;
+            pending = subst (λ (o : Option Unlinked). IfSome o (λ u. Contains (drop 1 s.levels.open_ids.items) u.id × IsGivenBelow v.seen n u.parent u.id × IsMade start v.seen u.id)) (sym w.unlinked) tt;
           };
         };
       };

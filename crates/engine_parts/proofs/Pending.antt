@@ -1,5 +1,5 @@
 -- A commit is pending by the session's own record.
-use Rattle.std.proofs.Common.{Contains, IfSome, Option, Some, refl, subst, ◌≡◌, ℕ, ◌+◌, ◌≤◌, List, ◌∷◌, ◌==◌, true, eq-eqb, arith}
+use Rattle.std.proofs.Common.{Bool, Contains, IfSome, Option, Some, refl, subst, ◌≡◌, ℕ, ◌+◌, ◌≤◌, List, ◌∷◌, ◌==◌, true, eq-eqb, arith}
 use Rattle.std.specs.List.{filter}
 use Rattle.std.proofs.lemmas.Bool.{false≢true}
 use Rattle.std.proofs.lemmas.List.Elements.{All-contains}
@@ -58,12 +58,12 @@ commit_pends start v n s m recorded =
     }
 
 -- the refusals by the stage are lawful
-pub pending_answer : (start : Start) (v : Knowledge) (n : ℕ) (s : Session) (span : RoundSpan) (command : Command) (r : Refusal) → MayCall start v n s → pending_in s.stage ≡ Some r
-    → MayAnswer start v.seen span (by_at n (s.levels.commands + 1)) (stance_of s) s.stage command (replies.Refused r)
-pending_answer start v n s span command r m is =
-    subst (λ (o : Option Refusal). IfSome o (λ x. MayAnswer start v.seen span (by_at n (s.levels.commands + 1)) (stance_of s) s.stage command (replies.Refused x))) is (each s.stage (commit_pends start v n s m))
+pub pending_answer : (tells : Bool) (start : Start) (v : Knowledge) (n : ℕ) (s : Session) (span : RoundSpan) (command : Command) (r : Refusal) → MayCall start v n s → pending_in s.stage ≡ Some r
+    → MayAnswer tells start v.seen span (by_at n (s.levels.commands + 1)) (stance_of s) s.stage command (replies.Refused r)
+pending_answer tells start v n s span command r m is =
+    subst (λ (o : Option Refusal). IfSome o (λ x. MayAnswer tells start v.seen span (by_at n (s.levels.commands + 1)) (stance_of s) s.stage command (replies.Refused x))) is (each s.stage (commit_pends start v n s m))
   where
-    each : (x : Stage) → (may_be_recorded x ≡ true → IsCommitPending v.seen (by_at n (s.levels.commands + 1)) (stance_of s)) → IfSome (pending_in x) (λ r. MayAnswer start v.seen span (by_at n (s.levels.commands + 1)) (stance_of s) x command (replies.Refused r))
+    each : (x : Stage) → (may_be_recorded x ≡ true → IsCommitPending v.seen (by_at n (s.levels.commands + 1)) (stance_of s)) → IfSome (pending_in x) (λ r. MayAnswer tells start v.seen span (by_at n (s.levels.commands + 1)) (stance_of s) x command (replies.Refused r))
     each stages.Clear f = tt
     each (stages.Logged number) f = f refl
     each (stages.Settling steps) f = f refl

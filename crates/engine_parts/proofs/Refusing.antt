@@ -60,20 +60,20 @@ refused_leaves s number commands.Write r = ap (λ (ls : List (Option ℕ)). reco
 refused_leaves s number command r = refl
 
 -- a command that moves no end leaves it where it stands
-kept_by : (b : Bool) (command : Command) (old new : Stage) → moves_end command ≡ false → new ≡ old → IsLeftBy b command old new
-kept_by true command old new still same = same
-kept_by false commands.Commit old new still same = absurd (false≢true (sym still))
-kept_by false commands.Abort old new still same = absurd (false≢true (sym still))
-kept_by false commands.Undo old new still same = absurd (false≢true (sym still))
-kept_by false command old new still same = same
+kept_by : (b : Bool) (command : Command) (r : Refusal) (old new : Stage) → moves_end command ≡ false → new ≡ old → IsLeftBy b command r old new
+kept_by true command r old new still same = same
+kept_by false commands.Commit r old new still same = absurd (false≢true (sym still))
+kept_by false commands.Abort r old new still same = absurd (false≢true (sym still))
+kept_by false commands.Undo r old new still same = absurd (false≢true (sym still))
+kept_by false command r old new still same = same
 
 pub keeps_stage : (command : Command) (reply : Reply) (old new : Stage) → moves_end command ≡ false → new ≡ old → LeavesStage command reply old new
 keeps_stage commands.Commit reply old new still same = absurd (false≢true (sym still))
 keeps_stage commands.Abort reply old new still same = absurd (false≢true (sym still))
 keeps_stage commands.Undo reply old new still same = absurd (false≢true (sym still))
-keeps_stage command (replies.Refused r) old new still same = kept_by (is_by_standing r) command old new still same
+keeps_stage command (replies.Refused r) old new still same = kept_by (is_by_standing r) command r old new still same
 keeps_stage command reply old new still same = same
 
 -- and so does a refusal by how the session stands
 pub stands_still : (command : Command) (r : Refusal) (old new : Stage) → is_by_standing r ≡ true → new ≡ old → LeavesStage command (replies.Refused r) old new
-stands_still command r old new standing same = subst (λ (b : Bool). IsLeftBy b command old new) (sym standing) same
+stands_still command r old new standing same = subst (λ (b : Bool). IsLeftBy b command r old new) (sym standing) same

@@ -1,5 +1,5 @@
 -- What a call of the engine promises, and keeps promising while others go on.
-use Rattle.std.specs.Prelude.{◌≡◌, ℕ, ◌<◌, ◌≤◌, length, List, ◌++◌, Result, Ok, Err, Option, Some, Contains, IsTrue}
+use Rattle.std.specs.Prelude.{◌≡◌, ℕ, ◌<◌, ◌≤◌, length, List, ◌++◌, Result, Ok, Err, Option, Some, Bool, Contains, IsTrue}
 use Rattle.std.specs.List.{AllByRecursion, filter}
 use Rattle.notes.specs.Lists.{Grows, at}
 use Rattle.tx_events.specs.declared.event.By.{By}
@@ -24,7 +24,7 @@ use Rattle.tx_core.specs.Locks.{log_lock, number_of}
 use Rattle.engine_parts.specs.declared.session.Stage.{Stage}
 use Rattle.engine_parts.specs.declared.session.Stage.TheVariants as stages
 use Rattle.engine_parts.specs.Stand.{IsDownAt}
-use Rattle.engine_parts.specs.Standing.{by_standing, needs_record, refused_by, takes_memory}
+use Rattle.engine_parts.specs.Standing.{IsHeldDown, appends, asks_volume, by_standing, flushes, needs_log, refused_by, takes_memory}
 
 -- the volume behind a bank failed, and this command was hit
 pub record MetFault (lists : List (List Entry)) (lock : ℕ) (by : By) : Type 0 where
@@ -52,36 +52,49 @@ pub record IsCommitPending (lists : List (List Entry)) (by : By) (s : Stance) : 
   pub top_is : top_level s.levels ≡ Some top
   pub stands : Contains (at lists log_lock) (record { by = other; kind = kinds.Append (records.Commit top subs) })
 
--- The reply that a command may get, by the lists as they are then or later. A fault is one that this command met, a
--- log is down behind a fault that its list has. A commit is pending by the session's own record, an abort or an undo
--- by its stage. Memory may be wanting to each command that takes some. Only a command that needs its record in the log
--- is refused for the log; that it is full the lists don't tell, as they have no sizes.
-abbrev pub MayAnswer : Start → List (List Entry) → RoundSpan → By → Stance → Stage → Command → Reply → Type 0
-MayAnswer start lists span by s stage command (replies.Refused refusals.Memory) = IsTrue (takes_memory command)
-MayAnswer start lists span by s stage command (replies.Refused refusals.Full) = IsTrue (needs_record command)
-MayAnswer start lists span by s stage command (replies.Refused (refusals.DiskFault lock)) =
-    MetFault lists (number_of lock) by
-MayAnswer start lists span by s stage command (replies.Refused refusals.LogFault) =
-    IsTrue (needs_record command) × MetLogFault lists by
-MayAnswer start lists span by s stage command (replies.Refused (refusals.LogDown down)) =
-    IsTrue (needs_record command) × IsDownAt start (at lists log_lock) down
-MayAnswer start lists span by s stage command (replies.Refused refusals.CommitPending) = IsCommitPending lists by s
-MayAnswer start lists span by s stage command (replies.Refused refusals.AbortPending) = stage ≡ stages.Aborting
-MayAnswer start lists span by s stage command (replies.Refused refusals.UndoPending) = stage ≡ stages.Undoing
-MayAnswer start lists span by s stage command reply =
+-- fewer ids were given than would bring two pages of one stored number near each other
+abbrev pub AreFew : Start → List (List Entry) → Type 0
+AreFew start lists = length (given (history lists)) < 2900000
+
+-- A verdict is told where the volumes tell, in a life of few ids.
+abbrev pub MayTell : Bool → Start → List (List Entry) → RoundSpan → By → Stance → Command → Reply → Type 0
+MayTell tells start lists span by s command (replies.Seen verdict) =
+    IsTrue tells → AreFew start lists
+    → MayReply start.base start.committed (history lists) span by s command (replies.Seen verdict)
+MayTell tells start lists span by s command reply =
     MayReply start.base start.committed (history lists) span by s command reply
+
+-- The reply that a command may get, by the lists as they are then or later. A fault is one that this command met, of a
+-- volume that it asks. A log is down behind a fault that its list has, and holds up no record that was on disk before. A
+-- commit is pending by the session's own record, an abort or an undo by its stage. Memory may be wanting to each command
+-- that takes some. That a log is full the lists don't tell, as they have no sizes.
+abbrev pub MayAnswer : Bool → Start → List (List Entry) → RoundSpan → By → Stance → Stage → Command → Reply → Type 0
+MayAnswer tells start lists span by s stage command (replies.Refused refusals.Memory) =
+    IsTrue (takes_memory command s stage)
+MayAnswer tells start lists span by s stage command (replies.Refused refusals.Full) = IsTrue (appends command s stage)
+MayAnswer tells start lists span by s stage command (replies.Refused (refusals.DiskFault lock)) =
+    IsTrue (asks_volume command stage lock) × MetFault lists (number_of lock) by
+MayAnswer tells start lists span by s stage command (replies.Refused refusals.LogFault) =
+    IsTrue (flushes command s stage) × MetLogFault lists by
+MayAnswer tells start lists span by s stage command (replies.Refused (refusals.LogDown down)) =
+    IsTrue (needs_log command s stage) × IsDownAt start (at lists log_lock) down × IsHeldDown stage down
+MayAnswer tells start lists span by s stage command (replies.Refused refusals.CommitPending) =
+    IsCommitPending lists by s
+MayAnswer tells start lists span by s stage command (replies.Refused refusals.AbortPending) = stage ≡ stages.Aborting
+MayAnswer tells start lists span by s stage command (replies.Refused refusals.UndoPending) = stage ≡ stages.Undoing
+MayAnswer tells start lists span by s stage command reply = MayTell tells start lists span by s command reply
 
 -- What a call did: the lists went on, the session's events are those before and then these, which are the command's and
 -- fit its reply. The reply is lawful, and a refusal by how the session stands comes exactly where the session stands so.
 -- The session stands as the reply leaves it.
-pub record Acted (start : Start) (by : By) (s s' : Stance) (stage : Stage) (command : Command) (reply : Reply)
-    (lists lists' : List (List Entry)) : Type 0 where
+pub record Acted (tells : Bool) (start : Start) (by : By) (s s' : Stance) (stage : Stage) (command : Command)
+    (reply : Reply) (lists lists' : List (List Entry)) : Type 0 where
   pub grows : Grows lists lists'
   pub added : List Event
   pub own : filter (is_of by.session) (history lists') ≡ filter (is_of by.session) (history lists) ++ added
   pub each : AllByRecursion (λ e. by_of e ≡ by) added
   pub fitting : HasEvents by s command reply added
-  pub allowed : MayAnswer start lists' (alone (history lists) (history lists')) by s stage command reply
+  pub allowed : MayAnswer tells start lists' (alone (history lists) (history lists')) by s stage command reply
   pub standing : by_standing reply ≡ refused_by command s stage
   pub left : after s by.command command reply (given added) ≡ s'
 
@@ -94,9 +107,10 @@ reply_of f (Err r) = replies.Refused r
 -- are more are of other sessions or of later commands.
 abbrev pub AnswersStay : Type 0
 AnswersStay =
-    (start : Start) (lists more : List (List Entry)) (span wider : RoundSpan) (by : By) (s : Stance) (stage : Stage)
-    (command : Command) (reply : Reply)
+    (tells : Bool) (start : Start) (lists more : List (List Entry)) (span wider : RoundSpan) (by : By) (s : Stance)
+    (stage : Stage) (command : Command) (reply : Reply)
     → wider.from ≤ span.from → span.to ≤ wider.to → span.to ≤ length (history lists) → Grows lists more
     → ((rest : List Event) → history lists ++ rest ≡ history more → AllByRecursion (λ e.
     (by_of e).session ≡ by.session → by.command < (by_of e).command) rest)
-    → MayAnswer start lists span by s stage command reply → MayAnswer start more wider by s stage command reply
+    → MayAnswer tells start lists span by s stage command reply
+    → MayAnswer tells start more wider by s stage command reply

@@ -1,5 +1,5 @@
 -- What a call asks of its caller, and what it does.
-use Rattle.std.specs.Prelude.{◌≡◌, ℕ, ◌+◌, ◌^◌, ◌<◌}
+use Rattle.std.specs.Prelude.{◌≡◌, ℕ, ◌+◌, ◌*◌, ◌^◌, ◌<◌, ◌≤◌}
 use Rattle.disk_core.specs.declared.log_disk.LogDisk as logs
 use Rattle.disk_core.specs.declared.page_disk.PageDisk as disks
 use Rattle.hall.specs.declared.hall.Hall.{Hall}
@@ -28,9 +28,13 @@ module _ {L P : Type 0} {l : logs.Ghosts L} {p : disks.Ghosts P} where
     pub unlinked : new.session.unlinked ≡ old.session.unlinked
 
 module _ {H L P : Type 0} {l : logs.Ghosts L} {p : disks.Ghosts P} where
-  -- the session is one of this table and stands between two calls, and has run fewer than 2^48 commands
-  pub record MayRun (hall : Hall H (Part L P l p) Entry Start) (caller : Caller L P l p) : Type 0 where
+  -- The session is one of this table, which has the locks of so many banks, and stands between two calls. It has run
+  -- fewer than 2^48 commands.
+  pub record MayRun (hall : Hall H (Part L P l p) Entry Start) (banks : ℕ) (caller : Caller L P l p) : Type 0 where
     pub own : IsOf hall caller.pass
+    pub laid : hall.cells ≡ 3 + 4 * (start_of hall).banks
+    pub range : (1 ≤ banks) × (banks ≤ 16)
+    pub each : banks ≡ (start_of hall).banks
     pub may : MayCall (start_of hall) (view caller.pass) caller.number caller.session
     pub few : caller.session.levels.commands < 2 ^ 48
 
@@ -39,7 +43,7 @@ module _ {H L P : Type 0} {l : logs.Ghosts L} {p : disks.Ghosts P} where
       (old new : Caller L P l p) : Type 0 where
     pub own : IsOf hall new.pass
     pub may : MayCall (start_of hall) (view new.pass) new.number new.session
-    pub acted : Acted (start_of hall) (by_at old.number number) (stance_of old.session) (stance_of new.session)
-        old.session.stage command reply (view old.pass).seen (view new.pass).seen
+    pub acted : Acted (p.tells) (start_of hall) (by_at old.number number) (stance_of old.session)
+        (stance_of new.session) old.session.stage command reply (view old.pass).seen (view new.pass).seen
     pub stage : LeavesStage command reply old.session.stage new.session.stage
     pub count : (new.session.levels.commands ≡ number) × (new.number ≡ old.number)

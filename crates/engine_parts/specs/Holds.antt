@@ -32,3 +32,10 @@ pub record Leaves (start : Start) (lock : ℕ) (e : Entry) (v w : Knowledge) : T
   pub free : w.stage ≡ Free
   pub name : w.name ≡ v.name
   pub holds : w.holds ≡ v.holds
+
+-- One critical section, with this entry: the lock was entered, and left again with no other entry of the session's
+-- between.
+pub record Section (start : Start) (lock : ℕ) (e : Entry) (v w : Knowledge) : Type 0 where
+  pub within : Knowledge
+  pub enters : Enters start lock v within
+  pub leaves : Leaves start lock e within w

@@ -5,7 +5,6 @@ use Rattle.notes.specs.Lists.{at}
 use Rattle.tx_events.specs.declared.event.By.{By}
 use Rattle.tx_events.specs.Base.{IsBase}
 use Rattle.tx_core.specs.declared.entry.Entry.{Entry}
-use Rattle.tx_core.specs.declared.entry.Kind.TheVariants as kinds
 use Rattle.tx_core.specs.declared.entry.Start.{Start}
 use Rattle.tx_core.specs.CommitRecordsExact.{HasNoRecord}
 use Rattle.tx_core.specs.EngineInvariant.{EngineInvariant}
@@ -17,6 +16,7 @@ use Rattle.session_levels.specs.Stands as levels
 use Rattle.tx_model.specs.Stance.{Stance}
 use Rattle.engine_parts.specs.declared.session.Session.{Session}
 use Rattle.engine_parts.specs.declared.session.Unlinked.{Unlinked}
+use Rattle.engine_parts.specs.Faults.{look_of}
 use Rattle.engine_parts.specs.Holds.{Knowledge}
 use Rattle.engine_parts.specs.Stages.{IsInStage, may_be_recorded}
 
@@ -25,7 +25,7 @@ by_at session command = record { session = session; command = command }
 
 -- the entry of a critical section in which the session's command changed nothing
 abbrev pub look_by : ℕ → Session → Entry
-look_by n s = record { by = by_at n s.levels.commands; kind = kinds.Look }
+look_by n s = look_of (by_at n s.levels.commands)
 
 -- the session as its lines leave it
 abbrev pub stance_of : Session → Stance
@@ -35,13 +35,14 @@ abbrev pub IsThe : Option Unlinked → ℕ → Type 0
 IsThe None id = ⊥
 IsThe (Some u) id = u.id ≡ id
 
--- The parent of each open id but the first is recorded, but maybe that of one, which was given below it and has its
--- pages
+-- The parent of each open id but the first is recorded, but maybe that of one of them, which was given below it and
+-- has its pages
 pub record IsFiled (start : Start) (lists : List (List Entry)) (n : ℕ) (opened : List ℕ)
     (unlinked : Option Unlinked) : Type 0 where
   pub linked : (id : ℕ) → Contains (drop 1 opened) id → ((parent : ℕ) × IsLinked start lists id parent)
       ⊎ IsThe unlinked id
-  pub pending : IfSome unlinked (λ u. IsGivenBelow lists n u.parent u.id × IsMade start lists u.id)
+  pub pending : IfSome unlinked (λ u. Contains (drop 1 opened) u.id × IsGivenBelow lists n u.parent u.id
+      × IsMade start lists u.id)
 
 -- The lists keep the invariant, all entries of the session are of its commands so far, its levels, ids and snapshots
 -- are those of the history, and the parents of its open ids are recorded. Between two critical sections and within

@@ -1,5 +1,5 @@
 -- How far the end of a transaction has come, by the lists.
-use Rattle.std.specs.Prelude.{◌≡◌, ℕ, ◌+◌, ◌<◌, ◌≤◌, Bool, true, false, cond, List, ◌∷◌, Contains, Option, None, Some, length, slice_get}
+use Rattle.std.specs.Prelude.{◌≡◌, ℕ, ◌+◌, ◌<◌, ◌≤◌, Bool, true, false, cond, List, ◌∷◌, Contains, Option, None, Some, IfSome, length, slice_get}
 use Rattle.std.specs.List.{slice_range}
 use Rattle.tx_events.specs.declared.event.By.{By}
 use Rattle.tx_events.specs.declared.record.Rec.{Rec}
@@ -57,12 +57,12 @@ pub record IsLogged (start : Start) (lists : List (List Entry)) (n : ℕ) (opene
   pub appended : IsAppendedAt start lists n (records.Commit top subs) number
   pub unasked : AreUnasked lists n opened
 
--- a state of pg_xact that a commit sets
-abbrev pub state_of : stored.State → State
-state_of named.InProgress = states.Aborted
-state_of named.Committed = states.Committed
-state_of named.Aborted = states.Aborted
-state_of named.SubCommitted = states.SubCommitted
+-- the state that a step of a commit sets; none where its ids would be in progress
+abbrev pub state_of : stored.State → Option State
+state_of named.InProgress = None
+state_of named.Committed = Some states.Committed
+state_of named.Aborted = Some states.Aborted
+state_of named.SubCommitted = Some states.SubCommitted
 
 -- where a step's ids begin among the open ids, the top and then the subtransactions
 abbrev pub step_first : PlanStep → ℕ
@@ -75,7 +75,7 @@ step_ids opened p = slice_range opened (step_first p) (p.past + 1)
 abbrev pub AreDone : Start → List (List Entry) → List ℕ → List PlanStep → ℕ → Type 0
 AreDone start lists opened plan steps =
     (j : ℕ) (p : PlanStep) → j < steps → slice_get plan j ≡ Some p → (id : ℕ) → Contains (step_ids opened p) id
-    → IsMarked start lists id (state_of p.state)
+    → IfSome (state_of p.state) (λ state. IsMarked start lists id state)
 
 -- The commit record of the open ids is on disk, and the first so many steps of the tree rule are done. As long as the
 -- next step sets sub-committed, the session asked for no committed state of any of the ids.
@@ -86,7 +86,7 @@ pub record IsSettling (start : Start) (lists : List (List Entry)) (n : ℕ) (ope
   pub flushed : IsFlushed start lists n (records.Commit top subs)
   pub upto : steps ≤ length (plan top subs)
   pub done : AreDone start lists opened (plan top subs) steps
-  pub fresh : (p : PlanStep) → slice_get (plan top subs) steps ≡ Some p → state_of p.state ≡ states.SubCommitted
+  pub fresh : (p : PlanStep) → slice_get (plan top subs) steps ≡ Some p → state_of p.state ≡ Some states.SubCommitted
       → (id : ℕ) → Contains opened id → Asks lists n id states.Committed → ⊥
 
 -- what the lists say where the session's end has come so far

@@ -60,15 +60,22 @@ pub record IsDownAt (start : Start) (es : List Entry) (flushed : ℕ) : Type 0 w
   pub split : es ≡ before ++ record { by = by; kind = kinds.LogFault asked count } ∷ rest
   pub flushed_is : flushed ≡ flushed_to start before
 
--- The log has the records from before and those that were appended. Its flushed number is that of the last flush, it is
--- down only where it met a fault, and each image of its volume opens to the records that are flushed.
+-- no call of the log failed
+abbrev pub HasNoLogFault : List Entry → Type 0
+HasNoLogFault es =
+    (by : By) (asked : LogCall) (count : ℕ) → Contains es (record { by = by; kind = kinds.LogFault asked count }) → ⊥
+
+-- The log has the records from before and those that were appended. Its flushed number is that of the last flush. It is
+-- down exactly where it met a fault, from what was flushed then on. Each image of its volume opens to the records that
+-- are flushed.
 pub record LogStands (start : Start) (tells : Bool) (faults : ℕ) (images : Volume → Type 0) (recs : List Rec)
     (next first flushed : ℕ) (counters : Option Counters) (down : Option ℕ) (es : List Entry) : Type 0 where
   pub recs_are : recs ≡ start.logged ++ recs_in es
   pub next_is : next ≡ start.from + length (recs_in es)
   pub flushed_is : flushed ≡ flushed_to start es
   pub counters_are : counters ≡ Some (counters_after start es)
-  pub failed : (n : ℕ) → down ≡ Some n → IsDownAt start es n
+  pub failed : (n : ℕ) → down ≡ Some n → IsDownAt start es n × (n ≤ flushed)
+  pub up : down ≡ None → HasNoLogFault es
   pub count : faults_told es ≤ faults
   pub kept : IsTrue tells → (number : ℕ) × (past : List Rec)
       × KeepsRecords number (past ++ recs_in es) recs next first flushed images

@@ -3,8 +3,8 @@ ghost use Rattle.std.specs.Prelude.{◌≡◌, ℕ, ◌+◌, ◌*◌, ◌<◌, �
 ghost use Rattle.hall.specs.declared.view.Stage.TheVariants.{Inside};
 ghost use Rattle.hall.specs.Calls.{view, IsOf, start_of};
 ghost use Rattle.notes.specs.Lists.{at};
-ghost use Rattle.tx_core.specs.declared.entry.Kind.TheVariants as kinds;
 ghost use Rattle.tx_core.specs.Entries.{appended, event_of};
+ghost use Rattle.engine_parts.specs.Faults.{look_of};
 ghost use Rattle.engine_parts.specs.Holds.{Leaves};
 ghost use Rattle.engine_parts.specs.Law.{MayKeep};
 ghost use Rattle.engine_parts.specs.Parts.{PartStands};
@@ -13,7 +13,7 @@ ghost use Rattle.engine_parts.specs.Sessions.{IsAt, IsReady, by_at, look_by};
 use crate::hold::leave;
 use crate::law::EngineLaw;
 use crate::part::Part;
-use crate::session::Caller;
+use crate::session::{Caller, command_of};
 use disk_core::{LogDisk, PageDisk};
 use hall::{Hall, Note};
 use tx_core::Entry;
@@ -48,7 +48,7 @@ pub fn leave_quiet<L: LogDisk, P: PageDisk>(
 }
 
 fn look_note(by: By) -> Note<Entry>
-    ensures { result.value ≡ record { by = by; kind = kinds.Look } }
+    ensures { result.value ≡ look_of by }
 {
     Note::by(&by)
 }
@@ -75,9 +75,7 @@ pub fn leave_looked<L: LogDisk, P: PageDisk>(
         (view caller.new.pass) }
     ensures same { (caller.new.session ≡ caller.old.session) × (caller.new.number ≡ caller.old.number) }
 {
-    let entry = look_note(By {
-        session: caller.number,
-        command: caller.session.levels.commands,
-    });
+    let by = command_of(caller);
+    let entry = look_note(by);
     leave_quiet(hall, caller, lock, part, entry);
 }

@@ -1,12 +1,13 @@
 //! How a session of an engine stands.
 ghost use Rattle.std.specs.Prelude.{◌≡◌};
+ghost use Rattle.engine_parts.specs.Sessions.{by_at};
 ghost use Rattle.engine_parts.specs.Stages.{pending_in};
 
 use crate::law::EngineLaw;
 use disk_core::{LogDisk, PageDisk};
 use hall::Pass;
 use session_levels::Session as Levels;
-use tx_events::Refusal;
+use tx_events::{By, Refusal};
 use xid_order::FullXid;
 
 /// How far the end of a session's transaction, or the undo of its savepoint, has come that a fault stopped. A later
@@ -63,4 +64,14 @@ pub struct Caller<L: LogDisk, P: PageDisk> {
     /// The session's number, below the number of sessions.
     pub number: u32,
     pub session: Session,
+}
+
+/// The command that the session is at.
+pub fn command_of<L: LogDisk, P: PageDisk>(caller: &Caller<L, P>) -> By
+    ensures { result ≡ by_at caller.now.number caller.now.session.levels.commands }
+{
+    By {
+        session: caller.number,
+        command: caller.session.levels.commands,
+    }
 }

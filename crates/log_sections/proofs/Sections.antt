@@ -1,5 +1,5 @@
 -- What the critical sections of the log need, and leave.
-use Rattle.std.proofs.Common.{Contains, Err, Result, IsNone, IsTrue, None, Option, ⊎_elim, ◌≡◌, ℕ, ◌+◌, ◌<◌, List, [], ◌∷◌, ◌++◌, drop, refl, sym, ap, subst, ◌∙◌, length, arith}
+use Rattle.std.proofs.Common.{Contains, Err, Result, IsNone, IsTrue, None, Some, Option, inl, inr, ⊎_elim, ◌⊎◌, ◌≡◌, ℕ, ◌+◌, ◌<◌, ◌≤◌, List, [], ◌∷◌, ◌++◌, drop, refl, sym, ap, subst, ◌∙◌, length, arith}
 use Rattle.std.specs.List.{slice_get}
 use Rattle.std.proofs.lemmas.Bool.{false≢true}
 use Rattle.std.proofs.lemmas.List.{length-append, length-map}
@@ -15,6 +15,7 @@ use Rattle.tx_events.specs.Base.{IsBase}
 use Rattle.tx_events.proofs.PlaceLemmas.{last_at}
 use Rattle.tx_core.specs.declared.entry.Entry.{Entry}
 use Rattle.tx_core.specs.declared.entry.Kind.TheVariants as kinds
+use Rattle.tx_core.specs.declared.entry.LogCall.{LogCall}
 use Rattle.tx_core.specs.declared.entry.Start.{Start}
 use Rattle.tx_core.specs.declared.entry.State.TheVariants as states
 use Rattle.tx_core.specs.Entries.{IsLinked, appended, history, records_in, records_of, recs_in, session_of}
@@ -34,16 +35,17 @@ use Rattle.wal_core.specs.LogViews.{log_counters, log_next}
 use Rattle.wal_core.specs.Opening.{number_fits}
 use Rattle.engine_parts.specs.declared.session.Session.{Session}
 use Rattle.engine_parts.specs.declared.session.Stage.TheVariants as stages
-use Rattle.engine_parts.specs.Holds.{Knowledge, Learns, Leaves}
+use Rattle.engine_parts.specs.Holds.{Knowledge, Learns, Leaves, Section}
+use Rattle.engine_parts.specs.Faults.{look_of}
 use Rattle.engine_parts.specs.Law.{MayKeep}
 use Rattle.engine_parts.specs.Parts.{IsLogOf}
 use Rattle.engine_parts.specs.Sessions.{IsAt, IsReady, IsThe, MayCall, by_at}
 use Rattle.engine_parts.specs.Stages.{AreUnasked, IsAppendedAt, IsInStage}
-use Rattle.engine_parts.specs.Stand.{IsDownAt}
+use Rattle.engine_parts.specs.Stand.{HasNoLogFault, IsDownAt}
 use Rattle.session_levels.proofs.HeadLemmas.{first_top}
 use Rattle.engine_parts.proofs.Leaving.{asks_nothing}
-use Rattle.engine_parts.proofs.Logging.{failed_more, recs_same}
-use Rattle.log_sections.specs.LogSections.{IsAppendRefused, IsCommitOf, IsFlushRefused, IsRefusalOf}
+use Rattle.engine_parts.proofs.Logging.{failed_more, faultless_more, recs_same}
+use Rattle.log_sections.specs.LogSections.{FlushRefused, IsAppendRefused, IsCommitOf, IsFlushRefused, IsRefusalOf}
 
 -- the session asked for no state of these ids, as others go on
 pub unasked_on : (n : ℕ) (seen lists : List (List Entry)) (ids : List ℕ) → Knows session_of n seen lists → AreUnasked seen n ids → AreUnasked lists n ids
@@ -96,6 +98,19 @@ call_recorded start v u w n n' number s s' rec m clear r learns inside l is same
 pub down_left : (start : Start) (u w : Knowledge) (e : Entry) (down : ℕ) → log_lock < length u.seen → Leaves start log_lock e u w → IsDownAt start (at u.seen log_lock) down → IsDownAt start (at w.seen log_lock) down
 down_left start u w e down inside l d = subst (λ (t : List Entry). IsDownAt start t down) (sym (ap (λ (z : List (List Entry)). at z log_lock) l.seen ∙ at_here u.seen log_lock e inside)) (failed_more start (at u.seen log_lock) e down d)
 
+-- the log met no fault, and so it is behind an entry more that is none
+pub up_left : (start : Start) (u w : Knowledge) (e : Entry) → log_lock < length u.seen → Leaves start log_lock e u w → ((asked : LogCall) (count : ℕ) → e.kind ≡ kinds.LogFault asked count → ⊥) → HasNoLogFault (at u.seen log_lock) → HasNoLogFault (at w.seen log_lock)
+up_left start u w e inside l other up = subst HasNoLogFault (sym (ap (λ (z : List (List Entry)). at z log_lock) l.seen ∙ at_here u.seen log_lock e inside)) (faultless_more (at u.seen log_lock) e other up)
+
+-- what isn't down by a number isn't down
+pub not_down : (down : Option ℕ) → ((n : ℕ) → down ≡ Some n → ⊥) → down ≡ None
+not_down None other = refl
+not_down (Some n) other = absurd (other n refl)
+
+-- what is full or lacks memory isn't refused as down
+pub log_refused : (why : LogRefusal) (n : ℕ) → why ≡ refused.LogDown n → (why ≡ refused.Full) ⊎ (why ≡ refused.Memory) → ⊥
+log_refused why n down other = ⊎_elim (λ (q : why ≡ refused.Full). cc) (λ (q : why ≡ refused.Memory). cc) other
+
 -- the log's counters are the list's
 pub base_of_log : {D : Type 0} {g : logs.Ghosts D} (start : Start) (log : WalLog D g) (es : List Entry) (rec : Rec) → IsLogOf start log es → IsBase (after_record (counters_or_none (log_counters log)) rec) → IsBase (after_record (counters_after start es) rec)
 base_of_log start log es rec s base = subst (λ (o : Option Counters). IsBase (after_record (counters_or_none o) rec)) s.counters_are base
@@ -115,20 +130,28 @@ may_come start log u w opened rec e s r inside none l lawful base =
     }
 
 -- what the log refused an append for
-pub append_refused : (start : Start) (lists : List (List Entry)) (why : LogRefusal) (r : Refusal) → IsRefusalOf why r → (why ≡ refused.LogFault → ⊥) → ((down : ℕ) → why ≡ refused.LogDown down → IsDownAt start (at lists log_lock) down) → IsAppendRefused start lists r
-append_refused start lists refused.LogFault r is fault down = absurd (fault refl)
-append_refused start lists (refused.Damaged place) r is fault down = absurd is
-append_refused start lists (refused.LogDown at) r is fault down = subst (IsAppendRefused start lists) (sym is) (down at refl)
-append_refused start lists refused.Full r is fault down = subst (IsAppendRefused start lists) (sym is) tt
-append_refused start lists refused.Memory r is fault down = subst (IsAppendRefused start lists) (sym is) tt
+pub append_refused : (start : Start) (lists : List (List Entry)) (why : LogRefusal) (r : Refusal) → IsRefusalOf why r → (why ≡ refused.LogFault → ⊥) → ((down : ℕ) → why ≡ refused.LogDown down → IsDownAt start (at lists log_lock) down) → ((why ≡ refused.Full) ⊎ (why ≡ refused.Memory) → HasNoLogFault (at lists log_lock)) → IsAppendRefused start lists r
+append_refused start lists refused.LogFault r is fault down up = absurd (fault refl)
+append_refused start lists (refused.Damaged place) r is fault down up = absurd is
+append_refused start lists (refused.LogDown at) r is fault down up = subst (IsAppendRefused start lists) (sym is) (down at refl)
+append_refused start lists refused.Full r is fault down up = subst (IsAppendRefused start lists) (sym is) (up (inl refl))
+append_refused start lists refused.Memory r is fault down up = subst (IsAppendRefused start lists) (sym is) (up (inr refl))
 
 -- and a flush, where its volume didn't fail
-pub flush_refused : (start : Start) (lists : List (List Entry)) (by : By) (why : LogRefusal) (r : Refusal) → IsRefusalOf why r → (why ≡ refused.LogFault → ⊥) → (why ≡ refused.Full → ⊥) → (why ≡ refused.Memory → ⊥) → ((down : ℕ) → why ≡ refused.LogDown down → IsDownAt start (at lists log_lock) down) → IsFlushRefused start lists by r
-flush_refused start lists by refused.LogFault r is fault full memory down = absurd (fault refl)
-flush_refused start lists by (refused.Damaged place) r is fault full memory down = absurd is
-flush_refused start lists by (refused.LogDown at) r is fault full memory down = subst (IsFlushRefused start lists by) (sym is) (down at refl)
-flush_refused start lists by refused.Full r is fault full memory down = absurd (full refl)
-flush_refused start lists by refused.Memory r is fault full memory down = absurd (memory refl)
+pub flush_refused : (start : Start) (lists : List (List Entry)) (by : By) (number : ℕ) (why : LogRefusal) (r : Refusal) → IsRefusalOf why r → (why ≡ refused.LogFault → ⊥) → (why ≡ refused.Full → ⊥) → (why ≡ refused.Memory → ⊥) → ((down : ℕ) → why ≡ refused.LogDown down → IsDownAt start (at lists log_lock) down × (down ≤ number)) → IsFlushRefused start lists by number r
+flush_refused start lists by number refused.LogFault r is fault full memory down = absurd (fault refl)
+flush_refused start lists by number (refused.Damaged place) r is fault full memory down = absurd is
+flush_refused start lists by number (refused.LogDown at) r is fault full memory down = subst (IsFlushRefused start lists by number) (sym is) (down at refl)
+flush_refused start lists by number refused.Full r is fault full memory down = absurd (full refl)
+flush_refused start lists by number refused.Memory r is fault full memory down = absurd (memory refl)
+
+-- the critical section of a flush that a log refused whose volume didn't fail
+pub flush_looked : (start : Start) (by : By) (v w : Knowledge) (why : LogRefusal) (r : Refusal) → IsRefusalOf why r → (why ≡ refused.LogFault → ⊥) → Section start log_lock (look_of by) v w → FlushRefused start by v w r
+flush_looked start by v w refused.LogFault r is fault s = absurd (fault refl)
+flush_looked start by v w (refused.Damaged place) r is fault s = absurd is
+flush_looked start by v w (refused.LogDown at) r is fault s = subst (λ (z : Refusal). FlushRefused start by v w z) (sym is) s
+flush_looked start by v w refused.Full r is fault s = subst (λ (z : Refusal). FlushRefused start by v w z) (sym is) s
+flush_looked start by v w refused.Memory r is fault s = subst (λ (z : Refusal). FlushRefused start by v w z) (sym is) s
 
 -- a record that was seen has a number below the next one
 pub seen_below : (start : Start) (seen lists : List (List Entry)) (number : ℕ) → Grows seen lists → number < start.from + length (records_of seen) → number < start.from + length (recs_in (at lists log_lock))
@@ -138,8 +161,8 @@ seen_below start seen lists number g below =
     let same = length-map (records_of lists) (λ (r : By × Rec). r.1) in
     omega arith
 
-abbrev same_result : Result (Unit {0}) LogRefusal → Result (Unit {0}) LogRefusal → Type 0
+abbrev same_result : {T : Type 0} → Result T LogRefusal → Result T LogRefusal → Type 0
 same_result x y = x ≡ y
 
-pub same_err : {a b : LogRefusal} → same_result (Err a) (Err b) → a ≡ b
+pub same_err : {T : Type 0} {a b : LogRefusal} → same_result {T = T} (Err a) (Err b) → a ≡ b
 same_err q = cc

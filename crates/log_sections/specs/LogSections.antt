@@ -1,5 +1,5 @@
 -- What the critical sections of the log need, and leave.
-use Rattle.std.specs.Prelude.{◌≡◌, ℕ, ◌<◌, List, ◌∷◌, Result, Ok, Err}
+use Rattle.std.specs.Prelude.{◌≡◌, ◌⊎◌, ℕ, ◌<◌, ◌≤◌, List, ◌∷◌, Result, Ok, Err}
 use Rattle.notes.specs.Lists.{at}
 use Rattle.tx_events.specs.declared.event.By.{By}
 use Rattle.tx_events.specs.declared.record.Rec.{Rec}
@@ -18,7 +18,9 @@ use Rattle.wal_records.specs.Spelling.{IsLawful}
 use Rattle.engine_parts.specs.declared.session.Session.{Session}
 use Rattle.engine_parts.specs.declared.session.Stage.TheVariants as stages
 use Rattle.engine_parts.specs.Answers.{MetLogFault}
-use Rattle.engine_parts.specs.Stand.{IsDownAt}
+use Rattle.engine_parts.specs.Faults.{flush_fault_by, look_of}
+use Rattle.engine_parts.specs.Holds.{Knowledge, Section}
+use Rattle.engine_parts.specs.Stand.{HasNoLogFault, IsDownAt}
 use Rattle.log_sections.specs.declared.appending.Appended.{Appended}
 use Rattle.log_sections.specs.declared.appending.Appended.TheVariants as came
 
@@ -37,11 +39,12 @@ pub record IsCommitOf (opened : List ℕ) (rec : Rec) : Type 0 where
   pub is : rec ≡ records.Commit top subs
   pub ids : opened ≡ top ∷ subs
 
--- why no record was appended: the log is down behind a fault of its list, or it is full, or memory was wanting
+-- Why no record was appended: the log is down behind a fault of its list. Or it isn't, and is full, or memory was
+-- wanting.
 abbrev pub IsAppendRefused : Start → List (List Entry) → Refusal → Type 0
 IsAppendRefused start lists (refusals.LogDown down) = IsDownAt start (at lists log_lock) down
-IsAppendRefused start lists refusals.Full = Unit {0}
-IsAppendRefused start lists refusals.Memory = Unit {0}
+IsAppendRefused start lists refusals.Full = HasNoLogFault (at lists log_lock)
+IsAppendRefused start lists refusals.Memory = HasNoLogFault (at lists log_lock)
 IsAppendRefused start lists _ = ⊥
 
 -- The record stands under the number that the session's stage tells. Or the session stands as before: after the record,
@@ -51,12 +54,33 @@ Appends start lists rec s s' (Ok (came.At number)) = s' ≡ record s { stage = s
 Appends start lists rec s s' (Ok came.NoBase) = (s' ≡ s) × (IsLawful rec → StaysBase start lists rec → ⊥)
 Appends start lists rec s s' (Err r) = (s' ≡ s) × IsAppendRefused start lists r
 
+-- the critical section: its entry is the record that was appended, or a look
+abbrev pub AppendSection : Start → By → Rec → Knowledge → Knowledge → Result Appended Refusal → Type 0
+AppendSection start by rec v w (Ok (came.At number)) =
+    Section start log_lock (record { by = by; kind = kinds.Append rec }) v w
+AppendSection start by rec v w (Ok came.NoBase) = Section start log_lock (look_of by) v w
+AppendSection start by rec v w (Err r) = Section start log_lock (look_of by) v w
+
 -- a flush reached past this number
 abbrev pub IsFlushedPast : List (List Entry) → ℕ → Type 0
 IsFlushedPast lists number = (to : ℕ) × (number < to) × Stands lists log_lock (kinds.Flush to)
 
--- why the log wasn't flushed: its volume failed in this command, or it is down behind a fault of its list
-abbrev pub IsFlushRefused : Start → List (List Entry) → By → Refusal → Type 0
-IsFlushRefused start lists by refusals.LogFault = MetLogFault lists by
-IsFlushRefused start lists by (refusals.LogDown down) = IsDownAt start (at lists log_lock) down
-IsFlushRefused start lists by _ = ⊥
+-- Why the log wasn't flushed past this number: its volume failed in this command, or it is down behind a fault of its
+-- list, with no more on disk than what comes before the number.
+abbrev pub IsFlushRefused : Start → List (List Entry) → By → ℕ → Refusal → Type 0
+IsFlushRefused start lists by number refusals.LogFault = MetLogFault lists by
+IsFlushRefused start lists by number (refusals.LogDown down) = IsDownAt start (at lists log_lock) down × (down ≤ number)
+IsFlushRefused start lists by number _ = ⊥
+
+-- The critical section of a flush that was refused: its entry is the fault that the volume met, or a look where the log
+-- is down.
+abbrev pub FlushRefused : Start → By → Knowledge → Knowledge → Refusal → Type 0
+FlushRefused start by v w refusals.LogFault = (count : ℕ) × Section start log_lock (flush_fault_by by count) v w
+FlushRefused start by v w _ = Section start log_lock (look_of by) v w
+
+-- And else the flush, or a look where one had reached past the number.
+abbrev pub FlushSection : {T : Type 0} → Start → By → ℕ → Knowledge → Knowledge → Result T Refusal → Type 0
+FlushSection start by number v w (Ok done) =
+    ((to : ℕ) × (number < to) × Section start log_lock (record { by = by; kind = kinds.Flush to }) v w)
+    ⊎ Section start log_lock (look_of by) v w
+FlushSection start by number v w (Err r) = FlushRefused start by v w r

@@ -12,7 +12,7 @@ ghost use Rattle.engine_parts.specs.Parts.{IsLogOf};
 ghost use Rattle.engine_parts.specs.Sessions.{IsAt, IsReady, MayCall, by_at};
 ghost use Rattle.engine_parts.specs.Stages.{AreUnasked};
 ghost use Rattle.engine_parts.specs.Steps.{WentOn};
-ghost use Rattle.log_sections.specs.LogSections.{Appends, IsCommitOf};
+ghost use Rattle.log_sections.specs.LogSections.{AppendSection, Appends, IsCommitOf};
 
 use crate::refusals::refusal_of;
 use disk_core::{LogDisk, PageDisk};
@@ -76,7 +76,8 @@ fn leave_appended<L: LogDisk, P: PageDisk>(
 /// `src/backend/access/transam/xact.c`): one critical section of the log. No end was begun, and the parents of all open
 /// ids are recorded. From then on the session's commit is pending under the record's number.
 ///
-/// Refused with `LogDown`, `Full` or `Memory`; then, and where the log can't take the record, nothing was appended.
+/// Refused with `LogDown`, or where the log isn't down with `Full` or `Memory`; then, and where the log can't take the
+/// record, nothing was appended.
 pub fn append_commit<R: Wait, L: LogDisk, P: PageDisk>(
     rt: &R,
     hall: &Hall<EngineLaw<L, P>>,
@@ -92,6 +93,9 @@ pub fn append_commit<R: Wait, L: LogDisk, P: PageDisk>(
     ensures own { IsOf hall.now caller.new.pass }
     ensures may { MayCall (start_of hall.now) (view caller.new.pass) caller.new.number caller.new.session }
     ensures went { WentOn caller.old.number [] (view caller.old.pass).seen (view caller.new.pass).seen }
+    ensures section { AppendSection (start_of hall.now)
+        (by_at caller.old.number caller.old.session.levels.commands) rec.now (view caller.old.pass)
+        (view caller.new.pass) result }
     ensures appends { Appends (start_of hall.now) (view caller.new.pass).seen rec.now caller.old.session
         caller.new.session result }
     ensures number { caller.new.number ≡ caller.old.number }

@@ -12,7 +12,7 @@ ghost use Rattle.engine_parts.specs.Holds.{Leaves};
 ghost use Rattle.engine_parts.specs.Parts.{IsLogOf};
 ghost use Rattle.engine_parts.specs.Sessions.{IsAt, IsReady, MayCall, by_at};
 ghost use Rattle.engine_parts.specs.Steps.{WentOn};
-ghost use Rattle.log_sections.specs.LogSections.{IsFlushedPast, IsFlushRefused};
+ghost use Rattle.log_sections.specs.LogSections.{FlushSection, IsFlushedPast, IsFlushRefused};
 
 use crate::refusals::refusal_of;
 use disk_core::{LogDisk, PageDisk};
@@ -98,7 +98,8 @@ fn leave_failed<L: LogDisk, P: PageDisk>(
 /// `src/backend/access/transam/xlog.c`): one critical section of the log. No device call is made where another
 /// session's flush covered the record, even on a log that is down; else all records are flushed.
 ///
-/// Refused with `LogFault`, after which the log is down and the record may be on disk or not, or with `LogDown`.
+/// Refused with `LogFault`, after which the log is down and the record may be on disk or not, or with `LogDown`, where
+/// the record wasn't on disk when the log went down.
 pub fn flush_log<R: Wait, L: LogDisk, P: PageDisk>(
     rt: &R,
     hall: &Hall<EngineLaw<L, P>>,
@@ -113,9 +114,12 @@ pub fn flush_log<R: Wait, L: LogDisk, P: PageDisk>(
     ensures own { IsOf hall.now caller.new.pass }
     ensures may { MayCall (start_of hall.now) (view caller.new.pass) caller.new.number caller.new.session }
     ensures went { WentOn caller.old.number [] (view caller.old.pass).seen (view caller.new.pass).seen }
+    ensures section { FlushSection (start_of hall.now)
+        (by_at caller.old.number caller.old.session.levels.commands) number (view caller.old.pass)
+        (view caller.new.pass) result }
     ensures flushes { MatchResult result (λ _. IsFlushedPast (view caller.new.pass).seen number)
         (IsFlushRefused (start_of hall.now) (view caller.new.pass).seen
-        (by_at caller.old.number caller.old.session.levels.commands)) }
+        (by_at caller.old.number caller.old.session.levels.commands) number) }
     ensures same { (caller.new.session ≡ caller.old.session) × (caller.new.number ≡ caller.old.number) }
 {
     let mut log = enter_log(rt, hall, caller);

@@ -1,5 +1,5 @@
 -- A level is given its id.
-use Rattle.std.proofs.Common.{◌≡◌, ◌⊎◌, ℕ, ◌<◌, ◌≤◌, List, [], ◌∷◌, ◌++◌, Some, None, Option, IfSome, refl, sym, ap, subst, ◌∙◌, inl, inr, ⊎_elim, Contains, take, drop, length, arith}
+use Rattle.std.proofs.Common.{◌≡◌, ◌⊎◌, ℕ, ◌<◌, ◌≤◌, List, [], ◌∷◌, ◌++◌, Some, None, Option, IfSome, refl, sym, ap, subst, ◌∙◌, inl, inr, ⊎_elim, Contains, take, drop, length, suc, arith}
 use Rattle.std.proofs.lemmas.List.{take-append-drop}
 use Rattle.std.proofs.lemmas.List.Elements.{Contains-push}
 use Rattle.notes.specs.Lists.{Grows, at}
@@ -70,6 +70,10 @@ drop_push : (xs : List ℕ) (x y : ℕ) → Has (drop 1 (xs ++ x ∷ [])) y → 
 drop_push [] x y k = absurd k
 drop_push (z ∷ zs) x y k = ⊎_elim inl (λ o. ⊎_elim (λ q. inr (q, omega arith)) (λ n. absurd n) o) (has_cases zs (x ∷ []) y k)
 
+drop_last : (xs : List ℕ) (x : ℕ) → 1 ≤ length xs → Contains (drop 1 (xs ++ x ∷ [])) x
+drop_last [] x some = absurd (omega arith)
+drop_last (z ∷ zs) x some = Contains-push zs x
+
 -- a session whose outermost level without an id is given one
 module _ (start : Start) (v w : Knowledge) (n : ℕ) (s s' : Session) (id : ℕ) (e : Entry) (a : IsAt start v n s) (is : e ≡ giving_entry (by_at n s.levels.commands) (last_of s.levels.level_ids.items) id) (may : MayCome start.base (history v.seen) (naming n s id)) (made : IsMade start v.seen id) (record_free : s.stage ≡ stages.Clear) (linked_up : s.unlinked ≡ None) (g : IsNamed s s' id) (l : Leaves start proc_lock e v w) where
   abbrev event : Event
@@ -102,7 +106,7 @@ module _ (start : Start) (v w : Knowledge) (n : ℕ) (s s' : Session) (id : ℕ)
       at_left start v w n proc_lock s s' e a inside (ap (λ (z : Entry). z.by) is) g.count l
       (subst (λ (z : List Event × ℕ). Stands start.base z.0 n z.1 s'.levels) (λ j. (sym grown j, sym g.count j)) (stands start.base (history v.seen ++ event ∷ []) n s.levels.commands s'.levels (rw (g.opened, g.named, g.registered) st)))
       (λ q. clear)
-      (subst (λ (z : List ℕ × Option Unlinked). IsFiled start w.seen n z.0 z.1) (λ j. (sym g.opened j, sym g.unlinked j)) (record { linked = links; pending = pend (last_of s.levels.level_ids.items) grown }))
+      (subst (λ (z : List ℕ × Option Unlinked). IsFiled start w.seen n z.0 z.1) (λ j. (sym g.opened j, sym g.unlinked j)) (record { linked = links; pending = pend (last_of s.levels.level_ids.items) refl grown }))
     where
       no_open : (named opened : List ℕ) → last_of named ≡ None → 1 ≤ length opened → Nest (history v.seen) opened named → ⊥
       no_open [] opened q some nest = let z : length opened ≡ 0 = ap length nest in omega arith
@@ -118,9 +122,14 @@ module _ (start : Start) (v w : Knowledge) (n : ℕ) (s s' : Session) (id : ℕ)
           the (Some p) q same some = same
           the None q same some = absurd (no_open s.levels.level_ids.items s.levels.open_ids.items q some a.stands.nest)
 
-      pend : (o : Option ℕ) → history w.seen ≡ history v.seen ++ giving (by_at n s.levels.commands) o id ∷ [] → IfSome (unlinked_of id o) (λ u. IsGivenBelow w.seen n u.parent u.id × IsMade start w.seen u.id)
-      pend None q = tt
-      pend (Some p) q = ((by_at n s.levels.commands, refl, subst (λ (h : List Event). Contains h (events.Sub (by_at n s.levels.commands) p id)) (sym q) (Contains-push (history v.seen) (events.Sub (by_at n s.levels.commands) p id))), made_grows start v.seen w.seen id (grown_left start v w proc_lock e inside l) made)
+      some_open : (named opened : List ℕ) (p : ℕ) → last_of named ≡ Some p → Nest (history v.seen) opened named → 1 ≤ length opened
+      some_open [] opened p q nest = absurd cc
+      some_open (y ∷ ys) opened p q nest = let z : length opened ≡ suc (length nest.0) = ap length nest.1 in omega arith
+
+      pend : (o : Option ℕ) → last_of s.levels.level_ids.items ≡ o → history w.seen ≡ history v.seen ++ giving (by_at n s.levels.commands) o id ∷ []
+          → IfSome (unlinked_of id o) (λ u. Contains (drop 1 (s.levels.open_ids.items ++ id ∷ [])) u.id × IsGivenBelow w.seen n u.parent u.id × IsMade start w.seen u.id)
+      pend None last q = tt
+      pend (Some p) last q = (drop_last s.levels.open_ids.items id (some_open s.levels.level_ids.items s.levels.open_ids.items p last a.stands.nest), (by_at n s.levels.commands, refl, subst (λ (h : List Event). Contains h (events.Sub (by_at n s.levels.commands) p id)) (sym q) (Contains-push (history v.seen) (events.Sub (by_at n s.levels.commands) p id))), made_grows start v.seen w.seen id (grown_left start v w proc_lock e inside l) made)
 
 pub ready_given_at : (start : Start) (v w : Knowledge) (n n' : ℕ) (s s' : Session) (id : ℕ) (e : Entry) → IsAt start v n s → e ≡ giving_entry (by_at n s.levels.commands) (last_of s.levels.level_ids.items) id → MayCome start.base (history v.seen) (naming n s id) → IsMade start v.seen id → s.stage ≡ stages.Clear → s.unlinked ≡ None → IsNamed s s' id → Leaves start proc_lock e v w → n' ≡ n → IsReady start w n' s'
 ready_given_at start v w n n' s s' id e a is may made free up g l q = subst (λ z. IsReady start w z s') (sym q) (ready_given start v w n s s' id e a is may made free up g l)

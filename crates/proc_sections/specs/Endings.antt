@@ -31,7 +31,8 @@ pub record MayEnd (start : Start) (lists : List (List Entry)) (s : Session) (how
 
 -- the end of the transaction is the session's only new event, and it has no level, no open id and no pending end
 pub record HasEnded (n : ℕ) (how : XactEnd) (s s' : Session) (lists more : List (List Entry)) : Type 0 where
-  pub went : (top : ℕ) (subs : List ℕ) → s.levels.open_ids.items ≡ top ∷ subs → WentOn n (end_event how (by_at n s.levels.commands) top ∷ []) lists more
+  pub went : (top : ℕ) (subs : List ℕ) → s.levels.open_ids.items ≡ top ∷ subs
+      → WentOn n (end_event how (by_at n s.levels.commands) top ∷ []) lists more
   pub named : s'.levels.level_ids.items ≡ []
   pub unnamed : s'.levels.unnamed ≡ 0
   pub opened : s'.levels.open_ids.items ≡ []

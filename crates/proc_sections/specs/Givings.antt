@@ -14,6 +14,7 @@ use Rattle.tx_model.specs.CommandEvents.{giving}
 use Rattle.proc_table.specs.declared.answers.Given.{Given}
 use Rattle.proc_table.specs.declared.answers.Given.TheVariants as gives
 use Rattle.tx_core.specs.declared.entry.Entry.{Entry}
+use Rattle.tx_core.specs.declared.entry.Kind.TheVariants as kinds
 use Rattle.tx_core.specs.declared.entry.Start.{Start}
 use Rattle.tx_core.specs.Entries.{history}
 use Rattle.tx_core.specs.Locks.{proc_lock}
@@ -22,12 +23,15 @@ use Rattle.session_levels.specs.declared.session.Session as plain
 use Rattle.session_levels.specs.Stands.{last_of}
 use Rattle.engine_parts.specs.declared.session.Session.{Session}
 use Rattle.engine_parts.specs.declared.session.Unlinked.{Unlinked}
-use Rattle.engine_parts.specs.Sessions.{by_at}
+use Rattle.engine_parts.specs.Holds.{Knowledge, Section}
+use Rattle.engine_parts.specs.Sessions.{by_at, look_by}
 use Rattle.engine_parts.specs.Steps.{WentOn}
 
 -- the next id is at or past the stop limit
 abbrev pub IsStopIn : Counters → List Event → Refusal → Type 0
-IsStopIn base h r = (stop_limit (oldest_id base.oldest h) ≤ next_given base.next h) × (r ≡ refusals.Stop (next_given base.next h) (stop_limit (oldest_id base.oldest h)))
+IsStopIn base h r =
+    (stop_limit (oldest_id base.oldest h) ≤ next_given base.next h)
+    × (r ≡ refusals.Stop (next_given base.next h) (stop_limit (oldest_id base.oldest h)))
 
 -- a given id, where its parent is still to be recorded
 abbrev pub unlinked_of : ℕ → Option ℕ → Option Unlinked
@@ -50,7 +54,8 @@ pub record IsNamed (s s' : Session) (id : ℕ) : Type 0 where
 
 -- The event stands at the end of a history that went on from the one seen by events of others, at which its warning is
 -- right.
-pub record IsGivenIn (start : Start) (n : ℕ) (event : Event) (id : ℕ) (warn : Bool) (lists more : List (List Entry)) : Type 0 where
+pub record IsGivenIn (start : Start) (n : ℕ) (event : Event) (id : ℕ) (warn : Bool)
+    (lists more : List (List Entry)) : Type 0 where
   pub rest : List Event
   pub beside : AllByRecursion (λ e. (by_of e).session ≢ n) rest
   pub after : history more ≡ (history lists ++ rest) ++ event ∷ []
@@ -58,12 +63,22 @@ pub record IsGivenIn (start : Start) (n : ℕ) (event : Event) (id : ℕ) (warn 
 
 -- The next id was given. Or its pages weren't told yet, or memory was wanting, or the stop limit is reached; then nothing
 -- was given.
-abbrev pub GivesId : Start → ℕ → Session → Session → List (List Entry) → List (List Entry) → Result Given Refusal → Type 0
+abbrev pub GivesId : Start → ℕ → Session → Session → List (List Entry) → List (List Entry) → Result Given Refusal
+    → Type 0
 GivesId start n s s' lists more (Ok (gives.Id id warn)) =
     WentOn n (naming n s id ∷ []) lists more × IsGivenIn start n (naming n s id) id warn lists more × IsNamed s s' id
 GivesId start n s s' lists more (Ok (gives.NeedPage id)) =
-    WentOn n [] lists more × (id ≡ next_given start.base.next (history more)) × (IsTold start (at more proc_lock) id → ⊥) × (s' ≡ s)
-GivesId start n s s' lists more (Err r) = WentOn n [] lists more × (s' ≡ s) × ((r ≡ refusals.Memory) ⊎ IsStopIn start.base (history more) r)
+    WentOn n [] lists more × (id ≡ next_given start.base.next (history more))
+    × (IsTold start (at more proc_lock) id → ⊥) × (s' ≡ s)
+GivesId start n s s' lists more (Err r) =
+    WentOn n [] lists more × (s' ≡ s) × ((r ≡ refusals.Memory) ⊎ IsStopIn start.base (history more) r)
+
+-- the critical section: its entry is the event of the id that was given, or a look
+abbrev pub GiveSection : Start → ℕ → Session → Knowledge → Knowledge → Result Given Refusal → Type 0
+GiveSection start n s v w (Ok (gives.Id id warn)) =
+    Section start proc_lock (record { by = by_at n s.levels.commands; kind = kinds.Event (naming n s id) }) v w
+GiveSection start n s v w (Ok (gives.NeedPage id)) = Section start proc_lock (look_by n s) v w
+GiveSection start n s v w (Err r) = Section start proc_lock (look_by n s) v w
 
 -- there is room for one id more
 pub record HasRoom (s : plain.Session) : Type 0 where

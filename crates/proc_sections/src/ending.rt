@@ -1,7 +1,11 @@
 //! A transaction ends.
-ghost use Rattle.std.specs.Prelude.{◌≡◌, ℕ, ◌+◌, ◌*◌, ◌≤◌, length};
+ghost use Rattle.std.specs.Prelude.{◌≡◌, ℕ, ◌+◌, ◌*◌, ◌≤◌, List, ◌∷◌, length};
 ghost use Rattle.hall.specs.Calls.{view, IsOf, start_of};
-ghost use Rattle.engine_parts.specs.Sessions.{MayCall};
+ghost use Rattle.tx_events.specs.XactEnds.{end_event};
+ghost use Rattle.tx_core.specs.declared.entry.Kind.TheVariants as kinds;
+ghost use Rattle.tx_core.specs.Locks.{proc_lock};
+ghost use Rattle.engine_parts.specs.Holds.{Section};
+ghost use Rattle.engine_parts.specs.Sessions.{MayCall, by_at};
 ghost use Rattle.proc_sections.specs.Endings.{HasEnded, MayEnd};
 
 use disk_core::{LogDisk, PageDisk};
@@ -27,6 +31,13 @@ pub fn end_transaction<R: Wait, L: LogDisk, P: PageDisk>(
     requires end { MayEnd (start_of hall.now) (view caller.old.pass).seen caller.old.session how }
     ensures own { IsOf hall.now caller.new.pass }
     ensures may { MayCall (start_of hall.now) (view caller.new.pass) caller.new.number caller.new.session }
+    ensures section { (top : ℕ) (subs : List ℕ) → caller.old.session.levels.open_ids.items ≡ top ∷ subs
+        → Section (start_of hall.now) proc_lock (record {
+          by = by_at caller.old.number caller.old.session.levels.commands;
+          kind = kinds.Event
+              (end_event how (by_at caller.old.number caller.old.session.levels.commands) top);
+        })
+        (view caller.old.pass) (view caller.new.pass) }
     ensures ended { HasEnded caller.old.number how caller.old.session caller.new.session
         (view caller.old.pass).seen (view caller.new.pass).seen }
     ensures number { caller.new.number ≡ caller.old.number }

@@ -15,7 +15,7 @@ ghost use Rattle.engine_parts.specs.declared.session.Stage.TheVariants as stages
 ghost use Rattle.engine_parts.specs.Holds.{Leaves};
 ghost use Rattle.engine_parts.specs.Sessions.{IsAt, IsReady, MayCall, by_at};
 ghost use Rattle.engine_parts.specs.Stand.{ProcStands};
-ghost use Rattle.proc_sections.specs.Givings.{GivesId, HasRoom, IsNamed, unlinked_of};
+ghost use Rattle.proc_sections.specs.Givings.{GiveSection, GivesId, HasRoom, IsNamed, unlinked_of};
 
 use disk_core::{LogDisk, PageDisk};
 use engine_parts::{
@@ -129,6 +129,8 @@ pub fn give_id<R: Wait, L: LogDisk, P: PageDisk>(
     requires room { HasRoom caller.old.session.levels }
     ensures own { IsOf hall.now caller.new.pass }
     ensures may { MayCall (start_of hall.now) (view caller.new.pass) caller.new.number caller.new.session }
+    ensures section { GiveSection (start_of hall.now) caller.old.number caller.old.session (view caller.old.pass)
+        (view caller.new.pass) result }
     ensures gives { GivesId (start_of hall.now) caller.old.number caller.old.session caller.new.session
         (view caller.old.pass).seen (view caller.new.pass).seen result }
     ensures number { caller.new.number ≡ caller.old.number }

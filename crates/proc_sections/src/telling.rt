@@ -5,7 +5,8 @@ ghost use Rattle.tx_events.specs.History.{next_given};
 ghost use Rattle.tx_core.specs.Entries.{Stands, history};
 ghost use Rattle.tx_core.specs.Locks.{proc_lock};
 ghost use Rattle.tx_core.specs.PagesBeforeIds.{IsMade};
-ghost use Rattle.engine_parts.specs.Sessions.{MayCall};
+ghost use Rattle.engine_parts.specs.Holds.{Section};
+ghost use Rattle.engine_parts.specs.Sessions.{MayCall, by_at};
 ghost use Rattle.engine_parts.specs.Steps.{WentOn};
 ghost use Rattle.tx_core.specs.declared.entry.Kind.TheVariants as kinds;
 
@@ -39,6 +40,9 @@ pub fn tell_made<R: Wait, L: LogDisk, P: PageDisk>(
     requires next { id ≤ next_given (start_of hall.now).base.next (history (view caller.old.pass).seen) }
     ensures own { IsOf hall.now caller.new.pass }
     ensures may { MayCall (start_of hall.now) (view caller.new.pass) caller.new.number caller.new.session }
+    ensures section { Section (start_of hall.now) proc_lock
+        (record { by = by_at caller.old.number caller.old.session.levels.commands; kind = kinds.Made id })
+        (view caller.old.pass) (view caller.new.pass) }
     ensures went { WentOn caller.old.number [] (view caller.old.pass).seen (view caller.new.pass).seen }
     ensures told { Stands (view caller.new.pass).seen proc_lock (kinds.Made id) }
     ensures same { (caller.new.session ≡ caller.old.session) × (caller.new.number ≡ caller.old.number) }

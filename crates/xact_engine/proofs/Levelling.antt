@@ -79,38 +79,38 @@ no_length levels some = ne_eqb (length levels) 0 (λ e. some (nil_from_length le
 
 -- Where no end that was begun holds it up, what such a command may be answered over no history it may be answered over
 -- any, and a refusal comes exactly where its levels stand so.
-level_reply : (base : Counters) (start : Start) (lists : List (List Entry)) (r span : RoundSpan) (by : By) (s : Stance) (stage : Stage) (command : Command) (reply : Reply) → IsOnLevels command → held_by command stage ≡ None → MayReply base [] [] r by s command reply
-    → MayAnswer start lists span by s stage command reply × (by_standing reply ≡ refused_by command s stage)
-level_reply base start lists r span by s stage commands.Begin replies.Done l free a = (a, sym (ap (λ (ls : List (Option ℕ)). then_some (nat_lt 0 (length ls)) refusals.AlreadyOpen) a))
-level_reply base start lists r span by s stage commands.Begin (replies.Refused refusals.AlreadyOpen) l free a =
+level_reply : (tells : Bool) (base : Counters) (start : Start) (lists : List (List Entry)) (r span : RoundSpan) (by : By) (s : Stance) (stage : Stage) (command : Command) (reply : Reply) → IsOnLevels command → held_by command stage ≡ None → MayReply base [] [] r by s command reply
+    → MayAnswer tells start lists span by s stage command reply × (by_standing reply ≡ refused_by command s stage)
+level_reply tells base start lists r span by s stage commands.Begin replies.Done l free a = (a, sym (ap (λ (ls : List (Option ℕ)). then_some (nat_lt 0 (length ls)) refusals.AlreadyOpen) a))
+level_reply tells base start lists r span by s stage commands.Begin (replies.Refused refusals.AlreadyOpen) l free a =
     (a, sym (ap (λ (b : Bool). then_some b refusals.AlreadyOpen) (lt-ltb 0 (length s.levels) (some_length s.levels a))))
-level_reply base start lists r span by s stage commands.Begin _ l free a = absurd a
-level_reply base start lists r span by s stage commands.Save replies.Done l free a = (
+level_reply tells base start lists r span by s stage commands.Begin _ l free a = absurd a
+level_reply tells base start lists r span by s stage commands.Save replies.Done l free a = (
   a,
   sym
       (first_fails (length s.levels == 0) refusals.NoTransaction _ (no_length s.levels a.0)
       ∙ (not_held (held_by commands.Save stage) _ free ∙ first_fails (nat_le most_levels (length s.levels)) refusals.DepthLimit None (lt-leb most_levels (length s.levels) a.1))),
 )
-level_reply base start lists r span by s stage commands.Save (replies.Refused refusals.NoTransaction) l free a = (a, sym (first_holds (length s.levels == 0) refusals.NoTransaction _ (eq-eqb (length s.levels) 0 (ap length a))))
-level_reply base start lists r span by s stage commands.Save (replies.Refused refusals.DepthLimit) l free a = (
+level_reply tells base start lists r span by s stage commands.Save (replies.Refused refusals.NoTransaction) l free a = (a, sym (first_holds (length s.levels == 0) refusals.NoTransaction _ (eq-eqb (length s.levels) 0 (ap length a))))
+level_reply tells base start lists r span by s stage commands.Save (replies.Refused refusals.DepthLimit) l free a = (
   a,
   sym
       (first_fails (length s.levels == 0) refusals.NoTransaction _ (ne_eqb (length s.levels) 0 (λ e. let deep = a in omega arith))
       ∙ (not_held (held_by commands.Save stage) _ free ∙ first_holds (nat_le most_levels (length s.levels)) refusals.DepthLimit None (le-leb most_levels (length s.levels) a))),
 )
-level_reply base start lists r span by s stage commands.Save _ l free a = absurd a
-level_reply base start lists r span by s stage commands.Release replies.Done l free a = (a, sym (first_fails (nat_le (length s.levels) 1) refusals.NoSavepoint _ (lt-leb (length s.levels) 1 (let deep = a in omega arith)) ∙ not_held (held_by commands.Release stage) None free))
-level_reply base start lists r span by s stage commands.Release (replies.Refused refusals.NoSavepoint) l free a = (a, sym (first_holds (nat_le (length s.levels) 1) refusals.NoSavepoint _ (le-leb (length s.levels) 1 a)))
-level_reply base start lists r span by s stage commands.Release _ l free a = absurd a
-level_reply base start lists r span by s stage command reply l free a = absurd l
+level_reply tells base start lists r span by s stage commands.Save _ l free a = absurd a
+level_reply tells base start lists r span by s stage commands.Release replies.Done l free a = (a, sym (first_fails (nat_le (length s.levels) 1) refusals.NoSavepoint _ (lt-leb (length s.levels) 1 (let deep = a in omega arith)) ∙ not_held (held_by commands.Release stage) None free))
+level_reply tells base start lists r span by s stage commands.Release (replies.Refused refusals.NoSavepoint) l free a = (a, sym (first_holds (nat_le (length s.levels) 1) refusals.NoSavepoint _ (le-leb (length s.levels) 1 a)))
+level_reply tells base start lists r span by s stage commands.Release _ l free a = absurd a
+level_reply tells base start lists r span by s stage command reply l free a = absurd l
 
 -- what is said of such a command over no history is said over any
-acted_levels : (start : Start) (lists lists' : List (List Entry)) (base : Counters) (n number : ℕ) (s s' : Stance) (stage : Stage) (command : Command) (reply : Reply) → IsOnLevels command → held_by command stage ≡ None → lists' ≡ lists → Acts base (by_at n number) s s' command reply [] []
-    → Acted start (by_at n number) s s' stage command reply lists lists'
-acted_levels start lists lists' base n number s s' stage command reply l free same a =
+acted_levels : (tells : Bool) (start : Start) (lists lists' : List (List Entry)) (base : Counters) (n number : ℕ) (s s' : Stance) (stage : Stage) (command : Command) (reply : Reply) → IsOnLevels command → held_by command stage ≡ None → lists' ≡ lists → Acts base (by_at n number) s s' command reply [] []
+    → Acted tells start (by_at n number) s s' stage command reply lists lists'
+acted_levels tells start lists lists' base n number s s' stage command reply l free same a =
     let none : a.added ≡ [] = sym a.grown in
-    let answer = level_reply base start lists (alone [] []) (alone (history lists) (history lists)) (by_at n number) s stage command reply l free a.allowed in
-    acted_nothing start lists lists' n number s s' stage command reply same
+    let answer = level_reply tells base start lists (alone [] []) (alone (history lists) (history lists)) (by_at n number) s stage command reply l free a.allowed in
+    acted_nothing {tells = tells} start lists lists' n number s s' stage command reply same
     (subst (λ (es : List Event). HasEvents (by_at n number) s command reply es) none a.fitting) answer.0 answer.1
     (sym (ap (λ (es : List Event). after s number command reply (given es)) none) ∙ a.left)
 
@@ -141,7 +141,7 @@ call_levels start v n s s' new is count stands m =
 
 -- what a call did that changed levels alone
 module _ {H L P : Type 0} {l : logs.Ghosts L} {p : disks.Ghosts P} (hall : Hall H (Part L P l p) Entry Start) where
-  pub ran_levels : (old u : Caller L P l p) (t : plain.Session) (command : Command) (reply : Reply) → IsOnLevels command → held_by command old.session.stage ≡ None → IsCounted old u → MayRun hall old → RunsAlone u.session.levels t command reply
+  pub ran_levels : {banks : ℕ} (old u : Caller L P l p) (t : plain.Session) (command : Command) (reply : Reply) → IsOnLevels command → held_by command old.session.stage ≡ None → IsCounted old u → MayRun hall banks old → RunsAlone u.session.levels t command reply
       → Ran hall (next_command old) command reply old (record u { session = record u.session { levels = t } })
   ran_levels old u t command reply on free c m r =
       let start = start_of hall in
@@ -149,7 +149,7 @@ module _ {H L P : Type 0} {l : logs.Ghosts L} {p : disks.Ghosts P} (hall : Hall 
       let seen = (view old.pass).seen in record {
         own = own_counted hall old u c m.own;
         may = call_levels start (view u.pass) u.number u.session (record u.session { levels = t }) t refl r.count (λ st. r.stands start.base (history (view u.pass).seen) u.number u.session.levels.commands st) (may_counted hall old u c m);
-        acted = acted_levels start seen (view u.pass).seen start.base old.number (next_command old) (stance_of old.session) (levels.stance_of t) old.session.stage command reply on free (ap (λ q. (view q).seen) c.pass)
+        acted = acted_levels (p.tells) start seen (view u.pass).seen start.base old.number (next_command old) (stance_of old.session) (levels.stance_of t) old.session.stage command reply on free (ap (λ q. (view q).seen) c.pass)
             (subst (λ (z : Stance). Acts start.base by z (levels.stance_of t) command reply [] []) (ap levels.stance_of c.levels) (r.acts start.base [] by));
         stage = keeps_stage command reply old.session.stage u.session.stage (on_levels_moves command on) c.stage;
         count = (r.count ∙ ap (λ z. z.commands) c.levels, c.number);

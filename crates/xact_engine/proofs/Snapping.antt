@@ -99,10 +99,10 @@ not_refused s name free room =
     ∙ first_fails (nat_le 64 (length (stance_of s).snaps)) refusals.SnapLimit None (lt-leb 64 (length (stance_of s).snaps) (omega (arith, length-map s.levels.registered.items told_of)))
 
 -- what a call did that took one
-pub acted_snapped : (start : Start) (v u w : Knowledge) (n : ℕ) (s : Session) (s' : Stance) (name : List ℕ) (lists : SnapData) (e : Entry) → IsAt start v n s → EngineInvariant start u.seen → Learns v u → e ≡ snap_entry (by_at n s.levels.commands) name → Leaves start proc_lock e u w
+pub acted_snapped : {tells : Bool} (start : Start) (v u w : Knowledge) (n : ℕ) (s : Session) (s' : Stance) (name : List ℕ) (lists : SnapData) (e : Entry) → IsAt start v n s → EngineInvariant start u.seen → Learns v u → e ≡ snap_entry (by_at n s.levels.commands) name → Leaves start proc_lock e u w
     → find (λ k. same_name k.name name) s.levels.registered.items ≡ None → length s.levels.registered.items < 64 → lists ≡ snapshot_data start.base.next (history u.seen)
     → s' ≡ record (stance_of s) { snaps = (stance_of s).snaps ++ (name, s.levels.commands) ∷ [] }
-    → Acted start (by_at n s.levels.commands) (stance_of s) s' s.stage (commands.Snap name) (replies.Snapped lists) v.seen w.seen
+    → Acted tells start (by_at n s.levels.commands) (stance_of s) s' s.stage (commands.Snap name) (replies.Snapped lists) v.seen w.seen
 acted_snapped start v u w n s s' name lists e a k learns is l free room held stance =
     let event : Event = events.Snap (by_at n s.levels.commands) name in
     let wide = a.wide in let long = learns.long in
@@ -121,9 +121,9 @@ some_is None some = absurd (some refl)
 some_is (Some x) some = refl
 
 -- and one that dropped one
-pub acted_dropped : (start : Start) (v u w : Knowledge) (n : ℕ) (s : Session) (s' : Stance) (name : List ℕ) (e : Entry) → IsAt start v n s → EngineInvariant start u.seen → Learns v u → e ≡ drop_entry (by_at n s.levels.commands) name → Leaves start proc_lock e u w
+pub acted_dropped : {tells : Bool} (start : Start) (v u w : Knowledge) (n : ℕ) (s : Session) (s' : Stance) (name : List ℕ) (e : Entry) → IsAt start v n s → EngineInvariant start u.seen → Learns v u → e ≡ drop_entry (by_at n s.levels.commands) name → Leaves start proc_lock e u w
     → list_any (λ k. same_name k.name name) s.levels.registered.items ≡ true → s' ≡ record (stance_of s) { snaps = without_snap name (stance_of s).snaps }
-    → Acted start (by_at n s.levels.commands) (stance_of s) s' s.stage (commands.DropSnap name) replies.Done v.seen w.seen
+    → Acted tells start (by_at n s.levels.commands) (stance_of s) s' s.stage (commands.DropSnap name) replies.Done v.seen w.seen
 acted_dropped start v u w n s s' name e a k learns is l registered stance =
     let some = some_found name (stance_of s).levels s.levels.registered.items registered in
     acted_event start v u w n s s' (commands.DropSnap name) replies.Done e (events.SnapDrop (by_at n s.levels.commands) name) a k learns (ap event_of is) refl l refl

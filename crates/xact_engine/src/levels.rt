@@ -1,5 +1,6 @@
 //! Transactions and savepoints begin: the session alone, under no lock.
 ghost use Rattle.std.specs.Prelude.{◌≡◌};
+ghost use Rattle.hall.specs.Calls.{start_of};
 ghost use Rattle.tx_model.specs.declared.command.Command.TheVariants as commands;
 ghost use Rattle.tx_model.specs.declared.reply.Reply.TheVariants as replies;
 ghost use Rattle.engine_parts.specs.Answers.{reply_of};
@@ -31,7 +32,7 @@ pub fn begin<L: LogDisk, P: PageDisk>(
     _hall: &Hall<EngineLaw<L, P>>,
     caller: &mut Caller<L, P>,
 ) -> Result<(), Refusal>
-    requires { MayRun _hall.now caller.old }
+    requires { MayRun _hall.now (start_of _hall.now).banks caller.old }
     ensures { Ran _hall.now (next_command caller.old) commands.Begin (reply_of (λ _. replies.Done) result)
         caller.old caller.new }
 {

@@ -1,4 +1,5 @@
 //! Savepoints are opened and released: the session alone, under no lock.
+ghost use Rattle.hall.specs.Calls.{start_of};
 ghost use Rattle.tx_model.specs.declared.command.Command.TheVariants as commands;
 ghost use Rattle.tx_model.specs.declared.reply.Reply.TheVariants as replies;
 ghost use Rattle.engine_parts.specs.Answers.{reply_of};
@@ -20,7 +21,7 @@ pub fn save<L: LogDisk, P: PageDisk>(
     _hall: &Hall<EngineLaw<L, P>>,
     caller: &mut Caller<L, P>,
 ) -> Result<(), Refusal>
-    requires { MayRun _hall.now caller.old }
+    requires { MayRun _hall.now (start_of _hall.now).banks caller.old }
     ensures { Ran _hall.now (next_command caller.old) commands.Save (reply_of (λ _. replies.Done) result)
         caller.old caller.new }
 {
@@ -42,7 +43,7 @@ pub fn release<L: LogDisk, P: PageDisk>(
     _hall: &Hall<EngineLaw<L, P>>,
     caller: &mut Caller<L, P>,
 ) -> Result<(), Refusal>
-    requires { MayRun _hall.now caller.old }
+    requires { MayRun _hall.now (start_of _hall.now).banks caller.old }
     ensures { Ran _hall.now (next_command caller.old) commands.Release (reply_of (λ _. replies.Done) result)
         caller.old caller.new }
 {

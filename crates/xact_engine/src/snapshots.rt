@@ -149,8 +149,7 @@ pub fn snap<R: Wait, L: LogDisk, P: PageDisk>(
     caller: &mut Caller<L, P>,
     name: &Name,
 ) -> Result<SnapData, Refusal>
-    requires laid { hall.now.cells ≡ 3 + 4 * (start_of hall.now).banks }
-    requires run { MayRun hall.now caller.old }
+    requires { MayRun hall.now (start_of hall.now).banks caller.old }
     ensures { Ran hall.now (next_command caller.old) (commands.Snap name.now) (reply_of replies.Snapped result)
         caller.old caller.new }
 {
@@ -236,8 +235,7 @@ pub fn drop_snap<R: Wait, L: LogDisk, P: PageDisk>(
     caller: &mut Caller<L, P>,
     name: &Name,
 ) -> Result<(), Refusal>
-    requires laid { hall.now.cells ≡ 3 + 4 * (start_of hall.now).banks }
-    requires run { MayRun hall.now caller.old }
+    requires { MayRun hall.now (start_of hall.now).banks caller.old }
     ensures { Ran hall.now (next_command caller.old) (commands.DropSnap name.now) (reply_of (λ _. replies.Done) result)
         caller.old caller.new }
 {

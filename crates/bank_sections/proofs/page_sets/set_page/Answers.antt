@@ -1,8 +1,8 @@
-use Rattle.std.proofs.Common.{ℕ, ◌<◌, List, Contains, inl, length, slice_index, refl, sym, ap, subst, ◌∙◌, arith}
+use Rattle.std.proofs.Common.{ℕ, ◌<◌, List, Contains, inl, length, slice_index, refl, sym, ap, subst, ◌∙◌, arith, Err}
 use Rattle.std.specs.List.{slice_range}
 use Rattle.hall.specs.Calls.{view, start_of}
 use Rattle.notes.specs.Lists.{at}
-use Rattle.slru_bank.specs.Calls.{faults_of}
+use Rattle.slru_bank.specs.Calls.{faults_of, cutoff_of}
 use Rattle.tx_events.specs.declared.event.By.{By}
 use Rattle.tx_core.specs.declared.entry.Entry.{Entry}
 use Rattle.tx_core.specs.Entries.{IsMarked, appended, event_of}
@@ -16,7 +16,9 @@ use Rattle.bank_sections.proofs.Refusing.{refused_quiet}
 use Rattle.bank_sections.proofs.Sameness.{xact_same}
 use Rattle.bank_sections.proofs.StateSetting.{asks_only, index_in, may_set, range_some, set_entry, set_stands, settable, share_stored, stands_set}
 use Rattle.bank_sections.proofs.Uncut.{cut_refused, near_before, state_uncut}
-use Rattle.bank_sections.proofs.Visiting.{below_locks, fault_met, is_xact_lock, list_left, visited_refused}
+use Rattle.bank_sections.proofs.Visiting.{below_locks, fault_met, is_xact_lock, list_left, visited_refused, xact_refused_at}
+use Rattle.engine_parts.proofs.Sectioning.{same_command, section_of}
+use Rattle.store_pages.specs.Layouts.{xact_page_of}
 use Rattle.bank_sections.proofs.page_sets.set_page.Goals as goal
 
 pub set_states-requires-clause-one_page : goal.set_states-requires-clause-one_page
@@ -152,3 +154,36 @@ returns-in-Err-clause-uncut g c near cutoff is =
     let before = near_before start u w (xact_lock c.args.bank) _ (refused_quiet _ _ c.in-Err.refusal).event (omega arith) c.leave_refused.ensures.left near in
     let some : 0 < length part = subst (λ (xs : List ℕ). 0 < length xs) (sym m.is) (range_some c.args.caller.now.session.levels.open_ids.items c.args.first c.args.past c.requires.some c.requires.among) in
     cut_refused _ (state_uncut start u.seen n c.args.bank (slice_index part 0) _ c.requires.ready.at.base e.entered.kept e.stands.cutoff_is (m.opened (slice_index part 0) (index_in part 0 some)) before) (c.in-Err.ensures.bank.calls.only_cut cutoff is).1
+
+pub returns-in-Ok-clause-section : goal.returns-in-Ok-clause-section
+returns-in-Ok-clause-section g c =
+    let start = start_of c.args.hall.now in
+    let e = c.enter_xact-store.ensures in
+    let v = view c.args.caller.now.pass in
+    let u = view c.enter_xact-store.new.caller.pass in
+    let w = view c.leave_quiet.new.caller.pass in
+    let t = c.enter_xact-store.new.caller in
+    let s = c.args.caller.now.session in
+    let n = c.args.caller.now.number in
+    let part = slice_range c.deref.result.now c.args.first c.args.past in
+    let m = settable start v u n t.number (xact_lock c.args.bank) c.args.bank c.args.first c.args.past s t.session part c.args.state
+    c.requires.ready.at.name e.entered e.at e.same.0 e.same.1 (ap (λ (xs : List ℕ). slice_range xs c.args.first c.args.past) c.deref.ensures.value) c.requires.may in
+    let mine = c.command_of-by.ensures ∙ same_command n t.number s t.session e.same.1 e.same.0 in
+    section_of start v u w (xact_lock c.args.bank) c.set_note-entry.result.value (set_entry (by_at n s.levels.commands) c.args.state (slice_range s.levels.open_ids.items c.args.first c.args.past)) e.entered
+    (c.set_note-entry.ensures ∙ (λ j. set_entry (mine j) c.args.state (m.is j))) c.leave_quiet.ensures.left
+
+pub returns-in-Err-clause-section : goal.returns-in-Err-clause-section
+returns-in-Err-clause-section g c =
+    let start = start_of c.args.hall.now in
+    let e = c.enter_xact-store.ensures in
+    let v = view c.args.caller.now.pass in
+    let u = view c.enter_xact-store.new.caller.pass in
+    let w = view c.leave_refused.new.caller.pass in
+    let t = c.enter_xact-store.new.caller in
+    let s = c.args.caller.now.session in
+    let n = c.args.caller.now.number in
+    let part = slice_range c.deref.result.now c.args.first c.args.past in
+    let m = settable start v u n t.number (xact_lock c.args.bank) c.args.bank c.args.first c.args.past s t.session part c.args.state
+    c.requires.ready.at.name e.entered e.at e.same.0 e.same.1 (ap (λ (xs : List ℕ). slice_range xs c.args.first c.args.past) c.deref.ensures.value) c.requires.may in
+    xact_refused_at start v u w n t.number c.args.bank s t.session _ (xact_page_of (slice_index (slice_range s.levels.open_ids.items c.args.first c.args.past) 0)) _ (cutoff_of c.enter_xact-store.result) c.in-Err.refusal c.requires.ready.at c.requires.bank.0 e.same.1 e.same.0
+    (ap (λ (xs : List ℕ). xact_page_of (slice_index xs 0)) m.is) e.entered c.leave_refused.ensures.left e.stands.cutoff_is (λ cutoff is. c.in-Err.ensures.bank.calls.only_cut cutoff (ap Err is))

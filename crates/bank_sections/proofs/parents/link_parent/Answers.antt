@@ -1,4 +1,4 @@
-use Rattle.std.proofs.Common.{ℕ, ◌/◌, ◌%◌, IsTrue, refl, sym, ap, subst, ◌∙◌, arith}
+use Rattle.std.proofs.Common.{ℕ, ◌/◌, ◌%◌, IsTrue, refl, sym, ap, subst, ◌∙◌, arith, Err}
 use Rattle.hall.specs.Calls.{view, start_of}
 use Rattle.notes.specs.Lists.{at}
 use Rattle.slru_bank.specs.ByteRange.{SetsEntry}
@@ -18,7 +18,9 @@ use Rattle.bank_sections.proofs.ParentSeen.{given_below_is}
 use Rattle.bank_sections.proofs.Refusing.{refused_quiet}
 use Rattle.bank_sections.proofs.Sameness.{subtrans_same}
 use Rattle.bank_sections.proofs.Uncut.{cut_refused, near_before, parent_uncut, still_open}
-use Rattle.bank_sections.proofs.Visiting.{below_locks, fault_met, is_subtrans_lock, list_left, visited, visited_refused}
+use Rattle.bank_sections.proofs.Visiting.{below_locks, fault_met, is_subtrans_lock, list_left, visited, visited_refused, subtrans_refused_at}
+use Rattle.engine_parts.proofs.Sectioning.{same_command, section_of}
+use Rattle.store_pages.specs.Layouts.{word_page_of}
 use Rattle.bank_sections.proofs.parents.link_parent.Goals as goal
 
 pub leave_quiet-requires-clause-by : goal.leave_quiet-requires-clause-by
@@ -113,3 +115,30 @@ returns-in-Err-clause-uncut g c opened near cutoff is =
     let mine = still_open start u n c.enter_subtrans-store.new.caller.number c.args.id c.args.caller.now.session c.enter_subtrans-store.new.caller.session e.at e.same.0 e.same.1 opened in
     cut_refused _ (parent_uncut start u.seen n c.args.bank c.args.id (cutoff_of c.enter_subtrans-store.result) c.requires.ready.at.base e.entered.kept e.stands.cutoff_is mine before)
     (subst (λ z. IsTrue (is_cut Ids 2048 (cutoff_of c.enter_subtrans-store.result) (z / 2048))) c.low.ensures (c.in-Err.ensures.bank.calls.only_cut cutoff is).1)
+
+pub returns-in-Ok-clause-section : goal.returns-in-Ok-clause-section
+returns-in-Ok-clause-section g c =
+    let start = start_of c.args.hall.now in
+    let e = c.enter_subtrans-store.ensures in
+    let v = view c.args.caller.now.pass in
+    let u = view c.enter_subtrans-store.new.caller.pass in
+    let w = view c.leave_quiet.new.caller.pass in
+    let t = c.enter_subtrans-store.new.caller in
+    let s = c.args.caller.now.session in
+    let n = c.args.caller.now.number in
+    let mine = c.command_of-by.ensures ∙ same_command n t.number s t.session e.same.1 e.same.0 in
+    section_of start v u w (subtrans_lock c.args.bank) c.linked_note-entry.result.value (linked_entry (by_at n s.levels.commands) c.args.id c.args.parent) e.entered
+    (c.linked_note-entry.ensures ∙ ap (λ (b : By). linked_entry b c.args.id c.args.parent) mine) c.leave_quiet.ensures.left
+
+pub returns-in-Err-clause-section : goal.returns-in-Err-clause-section
+returns-in-Err-clause-section g c =
+    let start = start_of c.args.hall.now in
+    let e = c.enter_subtrans-store.ensures in
+    let v = view c.args.caller.now.pass in
+    let u = view c.enter_subtrans-store.new.caller.pass in
+    let w = view c.leave_refused.new.caller.pass in
+    let t = c.enter_subtrans-store.new.caller in
+    let s = c.args.caller.now.session in
+    let n = c.args.caller.now.number in
+    subtrans_refused_at start v u w n t.number c.args.bank s t.session _ (word_page_of c.args.id) _ (cutoff_of c.enter_subtrans-store.result) c.in-Err.refusal c.requires.ready.at c.requires.bank.0 e.same.1 e.same.0
+    (ap (λ (z : ℕ). z / 2048) c.low.ensures) e.entered c.leave_refused.ensures.left e.stands.cutoff_is (λ cutoff is. c.in-Err.ensures.bank.calls.only_cut cutoff (ap Err is))

@@ -1,7 +1,7 @@
-use Rattle.std.proofs.Common.{◌≡◌, ℕ, ◌*◌, ◌/◌, ◌%◌, List, false, refl, sym, ap, subst, ◌∙◌}
+use Rattle.std.proofs.Common.{◌≡◌, ℕ, ◌*◌, ◌/◌, ◌%◌, List, false, refl, sym, ap, subst, ◌∙◌, Err}
 use Rattle.hall.specs.Calls.{view, start_of}
 use Rattle.notes.specs.Lists.{at}
-use Rattle.slru_bank.specs.Calls.{faults_of, pages_of}
+use Rattle.slru_bank.specs.Calls.{faults_of, pages_of, cutoff_of}
 use Rattle.store_pages.specs.Layouts.{number_in, word_page_of, word_place_of}
 use Rattle.subtrans_log.specs.Parents.{parent_of}
 use Rattle.tx_events.specs.declared.event.By.{By}
@@ -10,11 +10,12 @@ use Rattle.tx_core.specs.Locks.{subtrans_lock}
 use Rattle.xid_order.specs.PageOrder.{Ids, is_cut}
 use Rattle.engine_parts.specs.Parts.{IsSubtransOf}
 use Rattle.engine_parts.specs.Sessions.{by_at, look_by}
-use Rattle.engine_parts.specs.Faults.{fault_by}
+use Rattle.engine_parts.specs.Faults.{fault_by, look_of}
 use Rattle.bank_sections.proofs.Refusing.{subtrans_looked}
 use Rattle.bank_sections.proofs.Sameness.{subtrans_same}
 use Rattle.bank_sections.proofs.ParentSeen.{parent_seen}
-use Rattle.bank_sections.proofs.Visiting.{fault_met, is_subtrans_lock, list_left, not_true, visited, visited_refused}
+use Rattle.bank_sections.proofs.Visiting.{fault_met, is_subtrans_lock, list_left, not_true, visited, visited_refused, subtrans_refused_at}
+use Rattle.engine_parts.proofs.Sectioning.{same_command, section_of}
 use Rattle.bank_sections.proofs.parents.read_parent.Goals as goal
 
 pub leave_looked-requires-clause-stands : goal.leave_looked-requires-clause-stands
@@ -72,3 +73,28 @@ returns-in-Err-clause-fault g c is =
     let e = c.enter_subtrans-store.ensures in
     fault_met (start_of c.args.hall.now) (view c.args.caller.now.pass) (view c.enter_subtrans-store.new.caller.pass) (view c.leave_refused.new.caller.pass) c.args.caller.now.number c.enter_subtrans-store.new.caller.number (subtrans_lock c.args.bank) c.args.caller.now.session c.enter_subtrans-store.new.caller.session _ c.in-Err.refusal
     c.requires.ready.at (is_subtrans_lock (start_of c.args.hall.now) c.args.bank c.requires.bank.0) e.entered e.same.1 e.same.0 c.leave_refused.ensures.left cc
+
+pub returns-in-Ok-clause-section : goal.returns-in-Ok-clause-section
+returns-in-Ok-clause-section g c =
+    let start = start_of c.args.hall.now in
+    let e = c.enter_subtrans-store.ensures in
+    let v = view c.args.caller.now.pass in
+    let u = view c.enter_subtrans-store.new.caller.pass in
+    let w = view c.leave_looked.new.caller.pass in
+    let t = c.enter_subtrans-store.new.caller in
+    let s = c.args.caller.now.session in
+    let n = c.args.caller.now.number in
+    section_of start v u w (subtrans_lock c.args.bank) (look_by t.number t.session) (look_by n s) e.entered (ap look_of (same_command n t.number s t.session e.same.1 e.same.0)) c.leave_looked.ensures.left
+
+pub returns-in-Err-clause-section : goal.returns-in-Err-clause-section
+returns-in-Err-clause-section g c =
+    let start = start_of c.args.hall.now in
+    let e = c.enter_subtrans-store.ensures in
+    let v = view c.args.caller.now.pass in
+    let u = view c.enter_subtrans-store.new.caller.pass in
+    let w = view c.leave_refused.new.caller.pass in
+    let t = c.enter_subtrans-store.new.caller in
+    let s = c.args.caller.now.session in
+    let n = c.args.caller.now.number in
+    subtrans_refused_at start v u w n t.number c.args.bank s t.session _ (word_page_of c.args.x) _ (cutoff_of c.enter_subtrans-store.result) c.in-Err.refusal c.requires.ready.at c.requires.bank.0 e.same.1 e.same.0
+    (ap (λ (z : ℕ). z / 2048) c.low.ensures) e.entered c.leave_refused.ensures.left e.stands.cutoff_is (λ cutoff is. c.in-Err.ensures.bank.calls.only_cut cutoff (ap Err is))

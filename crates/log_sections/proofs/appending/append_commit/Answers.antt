@@ -13,13 +13,15 @@ use Rattle.wal_core.specs.LogViews.{log_counters, log_disk, log_down, log_first,
 use Rattle.engine_parts.specs.declared.session.Session.{Session}
 use Rattle.engine_parts.specs.declared.session.Stage.TheVariants as stages
 use Rattle.engine_parts.specs.Holds.{Leaves}
-use Rattle.engine_parts.specs.Sessions.{by_at}
+use Rattle.engine_parts.specs.Faults.{look_of}
+use Rattle.engine_parts.specs.Sessions.{by_at, look_by}
 use Rattle.engine_parts.specs.Stand.{count_in, faults_told, flushed_in}
 use Rattle.engine_parts.specs.Stages.{AreUnasked, IsInStage}
 use Rattle.engine_parts.proofs.Leaving.{call_left}
-use Rattle.engine_parts.proofs.Logging.{appends, failed_more, goes_on, log_looks, number_same}
+use Rattle.engine_parts.proofs.Logging.{appends, failed_more, faultless_more, goes_on, log_looks, number_same}
+use Rattle.engine_parts.proofs.Sectioning.{same_command, section_of}
 use Rattle.engine_parts.proofs.Stepping.{went_quiet}
-use Rattle.log_sections.proofs.Sections.{append_refused, base_of_log, call_recorded, down_left, may_come, unasked_on}
+use Rattle.log_sections.proofs.Sections.{append_refused, base_of_log, call_recorded, down_left, log_refused, may_come, not_down, same_err, unasked_on, up_left}
 use Rattle.log_sections.proofs.appending.append_commit.Goals as goal
 
 -- nothing was appended: the log isn't one that may take the record
@@ -101,7 +103,8 @@ leave_looked-requires-in-Err-clause-stands g c =
       goes_on start d.tells (d.faults (log_disk o)) (d.faults (log_disk n)) (d.images (log_disk o)) (d.images (log_disk n)) (log_recs o) (log_recs n) (log_next o) (log_next n) (log_first o) (log_first n) (log_flushed o) (log_flushed n) (log_counters o) (log_counters n) (log_down o) (log_down n) es (by_at u.number u.session.levels.commands) s kinds.Look refl
           a.err_recs.0 a.err_counters.1 a.err_counters.0 (a.flushed ∙ (s.flushed_is ∙ sym (number_same flushed_in start.from es look refl)))
           (let same : faults_told (es ++ look ∷ []) ≡ faults_told es = number_same count_in 0 es look refl in let before = s.count in let still = ap d.faults a.disk in omega arith)
-          (λ m is. failed_more start es look m (s.failed m (sym a.stays ∙ is))) a.err_keeps,
+          (λ m is. let f = s.failed m (sym a.stays ∙ is) in let same = a.flushed in (failed_more start es look m f.0, (let le = f.1 in omega arith)))
+          (λ none. faultless_more es look (λ asked count q. cc) (s.up (sym a.stays ∙ none))) a.err_keeps,
     )
 
 pub refusal_of-requires : goal.refusal_of-requires
@@ -144,5 +147,33 @@ returns-in-Err-clause-appends g c =
       c.leave_looked-in-Err.ensures.same.0 ∙ e.same.0,
       append_refused start (view c.leave_looked-in-Err.new.caller.pass).seen c.in-Err.refusal c.refusal_of.result c.refusal_of.ensures
           (λ is. c.in-Err.ensures.no_other.0 (ap Err is))
-          (λ down is. down_left start (view c.enter_log-log.new.caller.pass) (view c.leave_looked-in-Err.new.caller.pass) _ down (omega arith) c.leave_looked-in-Err.ensures.left (e.stands.failed down (c.in-Err.ensures.down down (ap Err is)))),
+          (λ down is. down_left start (view c.enter_log-log.new.caller.pass) (view c.leave_looked-in-Err.new.caller.pass) _ down (omega arith) c.leave_looked-in-Err.ensures.left (e.stands.failed down (c.in-Err.ensures.down down (ap Err is))).0)
+          (λ why. up_left start (view c.enter_log-log.new.caller.pass) (view c.leave_looked-in-Err.new.caller.pass) _ (omega arith) c.leave_looked-in-Err.ensures.left (λ asked count q. cc)
+          (e.stands.up (not_down (log_down c.enter_log-log.result) (λ n is. log_refused c.in-Err.refusal n (same_err (c.in-Err.ensures.is_down n is)) why)))),
     )
+
+-- the critical section
+pub returns-then-not-may_append-clause-section : goal.returns-then-not-may_append-clause-section
+returns-then-not-may_append-clause-section g c =
+    let e = c.enter_log-log.ensures in
+    let t = c.enter_log-log.new.caller in
+    let s = c.args.caller.now.session in
+    let n = c.args.caller.now.number in
+    section_of (start_of c.args.hall.now) (view c.args.caller.now.pass) (view t.pass) (view c.leave_looked.new.caller.pass) log_lock (look_by t.number t.session) (look_by n s) e.entered (ap look_of (same_command n t.number s t.session e.same.1 e.same.0)) c.leave_looked.ensures.left
+
+pub returns-in-Ok-clause-section : goal.returns-in-Ok-clause-section
+returns-in-Ok-clause-section g c =
+    let e = c.enter_log-log.ensures in
+    let t = c.enter_log-log.new.caller in
+    let s = c.args.caller.now.session in
+    let n = c.args.caller.now.number in
+    section_of (start_of c.args.hall.now) (view c.args.caller.now.pass) (view t.pass) (view c.leave_appended.new.caller.pass) log_lock _ (record { by = by_at n s.levels.commands; kind = kinds.Append c.args.rec.now }) e.entered
+    (ap (λ (b : By). record { by = b; kind = kinds.Append c.args.rec.now }) (same_command n t.number s t.session e.same.1 e.same.0)) c.leave_appended.ensures.left
+
+pub returns-in-Err-clause-section : goal.returns-in-Err-clause-section
+returns-in-Err-clause-section g c =
+    let e = c.enter_log-log.ensures in
+    let t = c.enter_log-log.new.caller in
+    let s = c.args.caller.now.session in
+    let n = c.args.caller.now.number in
+    section_of (start_of c.args.hall.now) (view c.args.caller.now.pass) (view t.pass) (view c.leave_looked-in-Err.new.caller.pass) log_lock (look_by t.number t.session) (look_by n s) e.entered (ap look_of (same_command n t.number s t.session e.same.1 e.same.0)) c.leave_looked-in-Err.ensures.left

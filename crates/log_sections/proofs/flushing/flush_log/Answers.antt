@@ -1,4 +1,4 @@
-use Rattle.std.proofs.Common.{Err, ◌≡◌, ◌<◌, arith, ap, ◌∙◌, subst, sym, refl, ◌++◌, ◌∷◌, []}
+use Rattle.std.proofs.Common.{Err, ℕ, inl, inr, ◌≡◌, ◌<◌, ◌≤◌, arith, ap, ◌∙◌, subst, sym, refl, ◌++◌, ◌∷◌, []}
 use Rattle.std.proofs.lemmas.List.{length-map}
 use Rattle.std.proofs.lemmas.Bool.Decides.{nat_tests}
 use Rattle.std.proofs.lemmas.Option.{same_Some}
@@ -15,14 +15,15 @@ use Rattle.tx_core.proofs.Lasting.{stands_grows}
 use Rattle.wal_core.specs.LogViews.{log_counters, log_disk, log_down, log_first, log_flushed, log_next, log_recs}
 use Rattle.engine_parts.specs.declared.session.Session.{Session}
 use Rattle.engine_parts.specs.Answers.{MetLogFault}
-use Rattle.engine_parts.specs.Faults.{flush_fault_by}
-use Rattle.engine_parts.specs.Sessions.{by_at}
+use Rattle.engine_parts.specs.Faults.{flush_fault_by, look_of}
+use Rattle.engine_parts.specs.Sessions.{by_at, look_by}
 use Rattle.engine_parts.specs.Stand.{count_in, faults_told, flushed_in, flushed_to}
 use Rattle.engine_parts.proofs.Leaving.{call_left, grown_left, stands_left}
-use Rattle.engine_parts.proofs.Logging.{failed_here, failed_more, flush_stands, goes_on, log_looks, number_push, number_same}
+use Rattle.engine_parts.proofs.Logging.{failed_here, failed_more, faultless_more, flush_stands, goes_on, log_looks, number_push, number_same}
 use Rattle.engine_parts.proofs.May.{met_log_fault}
+use Rattle.engine_parts.proofs.Sectioning.{same_command, section_of}
 use Rattle.engine_parts.proofs.Stepping.{went_quiet}
-use Rattle.log_sections.proofs.Sections.{down_left, flush_refused, same_err, seen_below}
+use Rattle.log_sections.proofs.Sections.{down_left, flush_looked, flush_refused, same_err, seen_below}
 use Rattle.log_sections.proofs.flushing.flush_log.Goals as goal
 
 -- the record is on disk already
@@ -55,7 +56,8 @@ leave_flushed-requires-clause-stands g c =
     goes_on start d.tells (d.faults (log_disk o)) (d.faults (log_disk n)) (d.images (log_disk o)) (d.images (log_disk n)) (log_recs o) (log_recs n) (log_next o) (log_next n) (log_first o) (log_first n) (log_flushed o) (log_flushed n) (log_counters o) (log_counters n) (log_down o) (log_down n) es by s (kinds.Flush c.next-next.result) refl
     f.recs f.next f.counters (f.ok ∙ (sym c.next-next.ensures ∙ sym (number_push flushed_in start.from es flush c.next-next.result refl)))
     (let same : faults_told (es ++ flush ∷ []) ≡ faults_told es = number_same count_in 0 es flush refl in let before = s.count in let rises = f.faults in omega arith)
-    (λ m is. failed_more start es flush m (s.failed m (sym (f.stays (λ q. cc)) ∙ is))) f.keeps
+    (λ m is. absurd (let refused = f.is_down m (sym (f.stays (λ q. cc)) ∙ is) in cc))
+    (λ none. faultless_more es flush (λ asked count q. cc) (s.up (sym (f.stays (λ q. cc)) ∙ none))) f.keeps
 
 pub returns-then-flushed-number-clause-may : goal.returns-then-flushed-number-clause-may
 returns-then-flushed-number-clause-may g c =
@@ -130,7 +132,11 @@ leave_failed-requires-clause-stands g c =
     goes_on start d.tells (d.faults (log_disk o)) (d.faults (log_disk n)) (d.images (log_disk o)) (d.images (log_disk n)) (log_recs o) (log_recs n) (log_next o) (log_next n) (log_first o) (log_first n) (log_flushed o) (log_flushed n) (log_counters o) (log_counters n) (log_down o) (log_down n) es by s fault.kind refl
     f.recs f.next f.counters (f.err ∙ (s.flushed_is ∙ sym (number_same flushed_in start.from es fault refl)))
     (let here = number_push count_in 0 es fault (d.faults (log_disk n)) refl in omega arith)
-    (λ m is. failed_here start es by calls.Flush (d.faults (log_disk n)) m (same_Some m (log_flushed o) (sym is ∙ f.put_down (ap Err c.in-LogFault.is)) ∙ s.flushed_is)) f.keeps
+    (λ m is.
+    let here : m ≡ log_flushed o = same_Some m (log_flushed o) (sym is ∙ f.put_down (ap Err c.in-LogFault.is)) in
+    let still = f.err in
+    (failed_here start es by calls.Flush (d.faults (log_disk n)) m (here ∙ s.flushed_is), omega arith))
+    (λ none. absurd (let some = sym none ∙ f.put_down (ap Err c.in-LogFault.is) in cc)) f.keeps
 
 pub returns-in-LogFault-clause-may : goal.returns-in-LogFault-clause-may
 returns-in-LogFault-clause-may g c =
@@ -174,7 +180,8 @@ leave_looked-requires-in-Err-clause-stands g c =
       goes_on start d.tells (d.faults (log_disk o)) (d.faults (log_disk n)) (d.images (log_disk o)) (d.images (log_disk n)) (log_recs o) (log_recs n) (log_next o) (log_next n) (log_first o) (log_first n) (log_flushed o) (log_flushed n) (log_counters o) (log_counters n) (log_down o) (log_down n) es by s kinds.Look refl
           f.recs f.next f.counters (f.err ∙ (s.flushed_is ∙ sym (number_same flushed_in start.from es look refl)))
           (let same : faults_told (es ++ look ∷ []) ≡ faults_told es = number_same count_in 0 es look refl in let before = s.count in let rises = f.faults in omega arith)
-          (λ m is. failed_more start es look m (s.failed m (sym (f.stays (λ q. c.in_default.not-LogFault (same_err q))) ∙ is))) f.keeps,
+          (λ m is. let before = s.failed m (sym (f.stays (λ q. c.in_default.not-LogFault (same_err q))) ∙ is) in let still = f.err in (failed_more start es look m before.0, (let le = before.1 in omega arith)))
+          (λ none. faultless_more es look (λ asked count q. cc) (s.up (sym (f.stays (λ q. c.in_default.not-LogFault (same_err q))) ∙ none))) f.keeps,
     )
 
 pub refusal_of-requires : goal.refusal_of-requires
@@ -204,5 +211,55 @@ returns-in_default-clause-flushes g c =
     let u = view c.enter_log-log.new.caller.pass in
     let w = view c.leave_looked-in-Err.new.caller.pass in
     let none = c.in-Err.ensures.no_other in
-    flush_refused start w.seen (by_at c.args.caller.now.number c.args.caller.now.session.levels.commands) c.in-Err.refusal c.refusal_of.result c.refusal_of.ensures c.in_default.not-LogFault (λ is. none.0 (ap Err is)) (λ is. none.1 (ap Err is))
-    (λ down is. down_left start u w _ down (omega arith) c.leave_looked-in-Err.ensures.left (e.stands.failed down (c.in-Err.ensures.down down (ap Err is))))
+    flush_refused start w.seen (by_at c.args.caller.now.number c.args.caller.now.session.levels.commands) c.args.number c.in-Err.refusal c.refusal_of.result c.refusal_of.ensures c.in_default.not-LogFault (λ is. none.0 (ap Err is)) (λ is. none.1 (ap Err is))
+    (λ down is.
+    let f = e.stands.failed down (c.in-Err.ensures.down down (ap Err is)) in
+    let le = f.1 in
+    let to = c.flushed.ensures in
+    let within : log_flushed c.enter_log-log.result ≤ c.args.number = grind (arith, nat_tests) in
+    (down_left start u w _ down (omega arith) c.leave_looked-in-Err.ensures.left f.0, omega arith))
+
+-- the critical section
+pub returns-then-flushed-number-clause-section : goal.returns-then-flushed-number-clause-section
+returns-then-flushed-number-clause-section g c =
+    let e = c.enter_log-log.ensures in
+    let t = c.enter_log-log.new.caller in
+    let s = c.args.caller.now.session in
+    let n = c.args.caller.now.number in
+    inr (section_of (start_of c.args.hall.now) (view c.args.caller.now.pass) (view t.pass) (view c.leave_looked.new.caller.pass) log_lock (look_by t.number t.session) (look_by n s) e.entered (ap look_of (same_command n t.number s t.session e.same.1 e.same.0)) c.leave_looked.ensures.left)
+
+pub returns-in-Ok-clause-section : goal.returns-in-Ok-clause-section
+returns-in-Ok-clause-section g c =
+    let start = start_of c.args.hall.now in
+    let e = c.enter_log-log.ensures in
+    let t = c.enter_log-log.new.caller in
+    let s = c.args.caller.now.session in
+    let n = c.args.caller.now.number in
+    let v = view c.args.caller.now.pass in
+    let u = view t.pass in
+    let to = c.next-next.result in
+    let below = seen_below start v.seen u.seen c.args.number e.entered.learns.knows.grows c.requires.stands.1 in
+    let next = c.next-next.ensures in
+    let is = e.stands.next_is in
+    inl
+    (to, omega arith, section_of start v u (view c.leave_flushed.new.caller.pass) log_lock _ (record { by = by_at n s.levels.commands; kind = kinds.Flush to }) e.entered (ap (λ (b : By). record { by = b; kind = kinds.Flush to }) (same_command n t.number s t.session e.same.1 e.same.0)) c.leave_flushed.ensures.left)
+
+pub returns-in-LogFault-clause-section : goal.returns-in-LogFault-clause-section
+returns-in-LogFault-clause-section g c =
+    let e = c.enter_log-log.ensures in
+    let t = c.enter_log-log.new.caller in
+    let s = c.args.caller.now.session in
+    let n = c.args.caller.now.number in
+    let count = g.L.LogDisk.faults (log_disk c.flush.new.self) in
+    (count, section_of (start_of c.args.hall.now) (view c.args.caller.now.pass) (view t.pass) (view c.leave_failed.new.caller.pass) log_lock _ (flush_fault_by (by_at n s.levels.commands) count) e.entered (ap (λ (b : By). flush_fault_by b count) (same_command n t.number s t.session e.same.1 e.same.0)) c.leave_failed.ensures.left)
+
+pub returns-in_default-clause-section : goal.returns-in_default-clause-section
+returns-in_default-clause-section g c =
+    let start = start_of c.args.hall.now in
+    let e = c.enter_log-log.ensures in
+    let t = c.enter_log-log.new.caller in
+    let s = c.args.caller.now.session in
+    let n = c.args.caller.now.number in
+    let none = c.in-Err.ensures.no_other in
+    flush_looked start (by_at n s.levels.commands) (view c.args.caller.now.pass) (view c.leave_looked-in-Err.new.caller.pass) c.in-Err.refusal c.refusal_of.result c.refusal_of.ensures c.in_default.not-LogFault
+    (section_of start (view c.args.caller.now.pass) (view t.pass) (view c.leave_looked-in-Err.new.caller.pass) log_lock (look_by t.number t.session) (look_by n s) e.entered (ap look_of (same_command n t.number s t.session e.same.1 e.same.0)) c.leave_looked-in-Err.ensures.left)

@@ -9,7 +9,7 @@ use Rattle.tx_core.specs.Entries.{history}
 use Rattle.tx_core.specs.Locks.{proc_lock}
 use Rattle.tx_core.specs.ProgramOrder.{IsInTurn}
 use Rattle.engine_parts.specs.declared.session.Session.{Session}
-use Rattle.engine_parts.specs.Holds.{Leaves}
+use Rattle.engine_parts.specs.Holds.{Leaves, Section}
 use Rattle.engine_parts.specs.Sessions.{IsAt, by_at}
 use Rattle.engine_parts.specs.Stand.{ProcStands}
 use Rattle.engine_parts.specs.Steps.{WentOn}
@@ -17,6 +17,7 @@ use Rattle.session_levels.proofs.HeadLemmas.{first_top, heads}
 use Rattle.engine_parts.proofs.Stepping.{went_event}
 use Rattle.engine_parts.proofs.Tabling.{proc_adds}
 use Rattle.proc_sections.proofs.Closing.{call_ended, end_by, end_entry, marked_on, may_add_end, ready_ended, record_for, split_first}
+use Rattle.engine_parts.proofs.Sectioning.{same_command, section_of}
 use Rattle.proc_sections.proofs.ending.end_transaction.Goals as goal
 
 pub leave_proc-requires-clause-may : goal.leave_proc-requires-clause-may
@@ -82,3 +83,15 @@ returns-clause-ended g c =
       stage = refl;
       unlinked = refl;
     }
+
+pub returns-clause-section : goal.returns-clause-section
+returns-clause-section g c t subs is =
+    let start = start_of c.args.hall.now in
+    let s = c.args.caller.now.session in
+    let by = by_at c.args.caller.now.number s.levels.commands in
+    let v = view c.args.caller.now.pass in
+    let w = view c.leave_proc.new.caller.pass in
+    let top = c.index-top.result.now in
+    let split = split_first s.levels.open_ids.items top c.requires.some c.index-top.ensures in
+    subst (λ (z : ℕ). Section start proc_lock (end_entry c.args.how by z) v w) (heads top t (drop 1 s.levels.open_ids.items) subs (sym split ∙ is))
+    (section_of start v (view c.enter_proc-table.new.caller.pass) w proc_lock c.by-entry.result.value (end_entry c.args.how by top) c.enter_proc-table.ensures.entered c.by-entry.ensures c.leave_proc.ensures.left)

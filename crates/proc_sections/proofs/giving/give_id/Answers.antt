@@ -13,16 +13,18 @@ use Rattle.proc_table.specs.Table.{IsGiven, Table}
 use Rattle.session_levels.specs.Stands.{IsParent, last_of}
 use Rattle.session_levels.proofs.GivingLemmas.{is_parent, may_give}
 use Rattle.engine_parts.specs.declared.session.Session.{Session}
-use Rattle.engine_parts.specs.Sessions.{by_at}
+use Rattle.engine_parts.specs.Sessions.{by_at, look_by}
 use Rattle.engine_parts.specs.Stand.{ProcStands}
 use Rattle.engine_parts.specs.Steps.{WentOn}
 use Rattle.engine_parts.proofs.Going.{rest_of}
 use Rattle.engine_parts.proofs.Leaving.{call_left, history_event, history_same}
 use Rattle.engine_parts.proofs.Stepping.{went_event, went_quiet}
 use Rattle.engine_parts.proofs.Tabling.{proc_adds, proc_looks}
-use Rattle.proc_sections.specs.Givings.{GivesId, IsNamed, IsStopIn}
+use Rattle.proc_sections.specs.Givings.{GivesId, IsNamed, IsStopIn, GiveSection}
 use Rattle.proc_sections.proofs.Making.{made_here, need_page, untold}
 use Rattle.proc_sections.proofs.Naming.{call_given, giving_by, giving_entry}
+use Rattle.engine_parts.proofs.Sectioning.{same_command, section_of}
+use Rattle.engine_parts.specs.Faults.{look_of}
 use Rattle.proc_sections.proofs.giving.give_id.Goals as goal
 
 pub next_id-requires-clause-parent : goal.next_id-requires-clause-parent
@@ -184,3 +186,39 @@ returns-clause-gives g c =
       λ told. untold start c.enter_proc-table.result u w p.0 _ (omega arith) refl l st p.3 told,
       c.leave_looked-2.ensures.same.0 ∙ e.same.0,
     )
+
+-- the critical section
+pub returns-in-Err-clause-section : goal.returns-in-Err-clause-section
+returns-in-Err-clause-section g c =
+    let e = c.enter_proc-table.ensures in
+    let t = c.enter_proc-table.new.caller in
+    let s = c.args.caller.now.session in
+    let n = c.args.caller.now.number in
+    section_of (start_of c.args.hall.now) (view c.args.caller.now.pass) (view t.pass) (view c.leave_looked.new.caller.pass) proc_lock (look_by t.number t.session) (look_by n s) e.entered (ap look_of (same_command n t.number s t.session e.same.1 e.same.0)) c.leave_looked.ensures.left
+
+pub returns-in-Id-clause-section : goal.returns-in-Id-clause-section
+returns-in-Id-clause-section g c =
+    let start = start_of c.args.hall.now in
+    let e = c.enter_proc-table.ensures in
+    let s = c.args.caller.now.session in
+    let n = c.args.caller.now.number in
+    let by = by_at n s.levels.commands in
+    let v = view c.args.caller.now.pass in
+    let u = view c.enter_proc-table.new.caller.pass in
+    let w = view c.name_level.new.caller.pass in
+    let par = c.innermost_id-parent.result in
+    subst (GiveSection start n s v w) (ap Ok (sym c.in-Id.is))
+    (section_of start v u w proc_lock (giving_entry by par c.in-Id.id) (giving_entry by (last_of s.levels.level_ids.items) c.in-Id.id) e.entered (ap (λ (p : Option ℕ). giving_entry by p c.in-Id.id) c.innermost_id-parent.ensures) c.name_level.ensures.left)
+
+pub returns-clause-section : goal.returns-clause-section
+returns-clause-section g c =
+    let start = start_of c.args.hall.now in
+    let e = c.enter_proc-table.ensures in
+    let t = c.enter_proc-table.new.caller in
+    let s = c.args.caller.now.session in
+    let n = c.args.caller.now.number in
+    let v = view c.args.caller.now.pass in
+    let w = view c.leave_looked-2.new.caller.pass in
+    let p = need_page c.enter_proc-table.result c.next_id.new.table (λ id. giving (by_at n s.levels.commands) c.innermost_id-parent.result id) c.in-Ok.given c.in-Ok.ensures c.in_default.not-Id in
+    subst (GiveSection start n s v w) (ap Ok (sym p.1))
+    (section_of start v (view t.pass) w proc_lock (look_by t.number t.session) (look_by n s) e.entered (ap look_of (same_command n t.number s t.session e.same.1 e.same.0)) c.leave_looked-2.ensures.left)

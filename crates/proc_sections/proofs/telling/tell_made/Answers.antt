@@ -14,6 +14,7 @@ use Rattle.engine_parts.specs.Stand.{ProcStands}
 use Rattle.engine_parts.proofs.Leaving.{call_left, stands_left}
 use Rattle.engine_parts.proofs.Stepping.{went_quiet}
 use Rattle.proc_sections.proofs.Making.{may_told, next_later, proc_told}
+use Rattle.engine_parts.proofs.Sectioning.{same_command, section_of}
 use Rattle.proc_sections.proofs.telling.tell_made.Goals as goal
 
 pub made-requires : goal.made-requires
@@ -71,3 +72,7 @@ returns-clause-told g c =
     let long = c.enter_proc-table.ensures.entered.learns.long in
     let w = view c.leave_quiet.new.caller.pass in
     (by_at c.args.caller.now.number c.args.caller.now.session.levels.commands, subst (λ (d : Entry). Contains (at w.seen proc_lock) d) c.made_note-entry.ensures (stands_left (start_of c.args.hall.now) (view c.enter_proc-table.new.caller.pass) w proc_lock c.made_note-entry.result.value (omega arith) c.leave_quiet.ensures.left))
+
+pub returns-clause-section : goal.returns-clause-section
+returns-clause-section g c =
+    section_of (start_of c.args.hall.now) (view c.args.caller.now.pass) (view c.enter_proc-table.new.caller.pass) (view c.leave_quiet.new.caller.pass) proc_lock c.made_note-entry.result.value _ c.enter_proc-table.ensures.entered c.made_note-entry.ensures c.leave_quiet.ensures.left

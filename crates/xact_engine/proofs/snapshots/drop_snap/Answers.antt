@@ -18,17 +18,20 @@ returns-in_default g c =
     let u = c.count.new.caller.session in
     let name = c.args.name.now in
     let none : snap_of name s ≡ None = sym (ap (λ z. snap_of name (levels.stance_of z)) c.count.ensures.levels) ∙ snap_missing name (stance_of u).levels u.levels.registered.items c.in_default.ensures.none in
-    ran_refused c.args.hall.now old c.count.new.caller (commands.DropSnap name) refusals.NoSnapshot c.count.ensures c.requires.run refl
+    ran_refused c.args.hall.now old c.count.new.caller (commands.DropSnap name) refusals.NoSnapshot c.count.ensures c.requires refl
     (sym (ap (λ (o : Option ℕ). then_some (is_none o) refusals.NoSnapshot) none)) none
 
 pub drop_registered-requires-clause-own : goal.drop_registered-requires-clause-own
-drop_registered-requires-clause-own g c = own_counted c.args.hall.now c.args.caller.now c.count.new.caller c.count.ensures c.requires.run.own
+drop_registered-requires-clause-own g c = own_counted c.args.hall.now c.args.caller.now c.count.new.caller c.count.ensures c.requires.own
 
 pub drop_registered-requires-clause-may : goal.drop_registered-requires-clause-may
-drop_registered-requires-clause-may g c = may_counted c.args.hall.now c.args.caller.now c.count.new.caller c.count.ensures c.requires.run
+drop_registered-requires-clause-may g c = may_counted c.args.hall.now c.args.caller.now c.count.new.caller c.count.ensures c.requires
 
 pub drop_registered-requires-clause-registered : goal.drop_registered-requires-clause-registered
 drop_registered-requires-clause-registered g c = any_found c.args.name.now c.count.new.caller.session.levels.registered.items c.in-Some._registered.now c.in-Some.ensures.found
 
 pub returns : goal.returns
 returns g c = ran_counted c.args.hall.now c.args.caller.now c.count.new.caller c.drop_registered.new.caller (commands.DropSnap c.args.name.now) replies.Done c.count.ensures c.drop_registered.ensures
+
+pub drop_registered-requires-clause-laid : goal.drop_registered-requires-clause-laid
+drop_registered-requires-clause-laid g c = c.requires.laid

@@ -1,6 +1,5 @@
 -- How far the end of a transaction has come, by the lists.
-use Rattle.std.specs.Prelude.{◌≡◌, ℕ, ◌+◌, ◌<◌, ◌≤◌, Bool, true, false, cond, List, ◌∷◌, Contains, Option, None, Some, IfSome, length, slice_get}
-use Rattle.std.specs.List.{slice_range}
+use Rattle.std.specs.Prelude.{◌≡◌, ℕ, ◌+◌, ◌<◌, ◌≤◌, Bool, true, false, List, ◌∷◌, Contains, Option, None, Some, IfSome, length, slice_get}
 use Rattle.tx_events.specs.declared.event.By.{By}
 use Rattle.tx_events.specs.declared.record.Rec.{Rec}
 use Rattle.tx_events.specs.declared.record.Rec.TheVariants as records
@@ -10,6 +9,7 @@ use Rattle.pg_xact_log.specs.declared.plan.PlanStep.{PlanStep}
 use Rattle.pg_xact_log.specs.declared.xact_state.State as stored
 use Rattle.pg_xact_log.specs.declared.xact_state.State.TheVariants as named
 use Rattle.pg_xact_log.specs.Plan.{plan}
+use Rattle.pg_xact_log.specs.Steps.{step_ids}
 use Rattle.tx_core.specs.declared.entry.Entry.{Entry}
 use Rattle.tx_core.specs.declared.entry.Start.{Start}
 use Rattle.tx_core.specs.declared.entry.State.{State}
@@ -74,13 +74,6 @@ state_of named.InProgress = None
 state_of named.Committed = Some states.Committed
 state_of named.Aborted = Some states.Aborted
 state_of named.SubCommitted = Some states.SubCommitted
-
--- where a step's ids begin among the open ids, the top and then the subtransactions
-abbrev pub step_first : PlanStep → ℕ
-step_first p = cond p.with_top 0 (p.first + 1)
-
-abbrev pub step_ids : List ℕ → PlanStep → List ℕ
-step_ids opened p = slice_range opened (step_first p) (p.past + 1)
 
 -- the first so many steps are done
 abbrev pub AreDone : Start → List (List Entry) → List ℕ → List PlanStep → ℕ → Type 0

@@ -1,6 +1,7 @@
 pub mod ManyStates
 pub mod Mask
 pub mod OneState
+pub mod Planning
 pub mod RunLemmas
 pub mod TrimBits
 pub mod TrimLemmas

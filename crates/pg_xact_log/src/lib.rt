@@ -10,7 +10,7 @@ mod tests;
 mod trim;
 mod xact_state;
 
-pub use plan::{PlanStep, commits_each_once, plan_step};
+pub use plan::{PlanStep, commits_each_once, plan_step, run_end};
 pub use states::{set_states, state};
 pub use trim::trim_after;
 pub use xact_state::State;

@@ -18,8 +18,8 @@ pub struct PlanStep {
     pub past: usize,
 }
 
-// Where the run ends that begins with this subid.
-fn run_end(subs: &[FullXid], first: usize) -> usize
+/// Where the ids end that lie side by side on one page of pg_xact from the `first` one on.
+pub fn run_end(subs: &[FullXid], first: usize) -> usize
     requires { first < length subs.now }
     ensures past { first < result }
     ensures within { result ≤ length subs.now }

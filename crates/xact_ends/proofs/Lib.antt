@@ -1,0 +1,6 @@
+pub mod Aborted
+pub mod Acts
+pub mod Finishing
+pub mod Staging
+pub mod Treeing
+pub mod Unrecorded

@@ -1,0 +1,53 @@
+use Rattle.std.proofs.Common.{◌≡◌, ℕ, ap, ◌∙◌, subst, sym, refl}
+use Rattle.hall.specs.Calls.{view, start_of}
+use Rattle.engine_parts.specs.declared.session.Session.{Session}
+use Rattle.engine_parts.specs.declared.session.Stage.{Stage}
+use Rattle.engine_parts.specs.declared.session.Stage.TheVariants as stages
+use Rattle.engine_parts.specs.Sessions.{by_at}
+use Rattle.xact_ends.specs.Stops.{Stops}
+use Rattle.xact_ends.proofs.Finishing.{commits_then, flush_stops, flushed_settling, logged_at, number_stands, stops_flushed}
+use Rattle.xact_ends.proofs.Staging.{call_settled}
+use Rattle.xact_ends.proofs.committing.flush_and_finish.Goals as goal
+
+pub flush_log-requires-clause-stands : goal.flush_log-requires-clause-stands
+flush_log-requires-clause-stands g c =
+    let start = start_of c.args.hall.now in
+    let v = view c.args.caller.now.pass in
+    let s = c.args.caller.now.session in
+    let n = c.args.caller.now.number in
+    number_stands start v.seen n c.args.number s.levels.open_ids.items (logged_at start v n c.args.number s c.requires.may c.requires.stage)
+
+pub finish-requires-clause-may : goal.finish-requires-clause-may
+finish-requires-clause-may g c =
+    let start = start_of c.args.hall.now in
+    let t = c.flush_log.new.caller in
+    let w = view t.pass in
+    let m = c.flush_log.ensures.may in
+    let l = logged_at start w t.number c.args.number t.session m (ap (λ (z : Session). z.stage) c.flush_log.ensures.same.0 ∙ c.requires.stage) in
+    call_settled start w t.number t.session 0 m.ready (flushed_settling start w.seen t.number c.args.number t.session.levels.open_ids.items l c.in-Ok.ensures.flushes)
+
+pub returns-in-Ok-clause-commits : goal.returns-in-Ok-clause-commits
+returns-in-Ok-clause-commits g c =
+    let start = start_of c.args.hall.now in
+    let s = c.args.caller.now.session in
+    let n = c.args.caller.now.number in
+    let t = c.flush_log.new.caller in
+    let x = c.finish.new.caller in
+    let more = (view x.pass).seen in
+    let same = c.flush_log.ensures.same in
+    commits_then start n t.number s (record t.session { stage = stages.Settling 0 }) x.session (view c.args.caller.now.pass).seen (view t.pass).seen more c.finish.result same.1 (ap (λ (z : Session). z.levels) same.0) c.flush_log.ensures.went.on
+    (λ e q. subst (λ (z : Stage). Stops start more (by_at n s.levels.commands) z x.session.stage e) (sym c.requires.stage) (stops_flushed start more (by_at n s.levels.commands) c.args.number x.session.stage e q))
+    c.finish.ensures.commits
+
+pub returns-in-Err-clause-commits : goal.returns-in-Err-clause-commits
+returns-in-Err-clause-commits g c =
+    let start = start_of c.args.hall.now in
+    let s = c.args.caller.now.session in
+    let t = c.flush_log.new.caller in
+    let same = c.flush_log.ensures.same in
+    let by = by_at c.args.caller.now.number s.levels.commands in
+    let stage : t.session.stage ≡ stages.Logged c.args.number = ap (λ (z : Session). z.stage) same.0 ∙ c.requires.stage in (
+      c.flush_log.ensures.went.on,
+      ap (λ (z : Session). z.levels) same.0,
+      subst (λ (z : Stage × Stage). Stops start (view t.pass).seen by z.0 z.1 c.in-Err.refusal) (λ j. (sym c.requires.stage j, sym stage j)) (flush_stops start (view t.pass).seen by c.args.number c.in-Err.refusal c.in-Err.ensures.flushes),
+    )

@@ -1,0 +1,43 @@
+use Rattle.std.proofs.Common.{◌≡◌, ℕ, List, Ok, ap, ◌∙◌, subst, sym, refl}
+use Rattle.hall.specs.Calls.{view, start_of}
+use Rattle.engine_parts.specs.declared.session.Session.{Session}
+use Rattle.engine_parts.specs.declared.session.Stage.{Stage}
+use Rattle.engine_parts.specs.declared.session.Stage.TheVariants as stages
+use Rattle.engine_parts.specs.Sessions.{by_at}
+use Rattle.log_sections.specs.declared.appending.Appended.{Appended}
+use Rattle.log_sections.specs.declared.appending.Appended.TheVariants as came
+use Rattle.log_sections.specs.LogSections.{Appends, IsCommitOf}
+use Rattle.xact_ends.specs.Stops.{Stops}
+use Rattle.xact_ends.proofs.Finishing.{append_stops, commits_then, stops_appended}
+use Rattle.xact_ends.proofs.committing.log_and_finish.Goals as goal
+
+pub append_commit-requires-clause-record : goal.append_commit-requires-clause-record
+append_commit-requires-clause-record g c = subst (λ (l : List ℕ). IsCommitOf l c.in-Ok.rec) c.deref.ensures.value c.in-Ok.ensures
+
+pub returns-in-Err-append_commit-clause-commits : goal.returns-in-Err-append_commit-clause-commits
+returns-in-Err-append_commit-clause-commits g c =
+    let start = start_of c.args.hall.now in
+    let s = c.args.caller.now.session in
+    let t = c.append_commit.new.caller in
+    let by = by_at c.args.caller.now.number s.levels.commands in
+    let x = c.in-Err-append_commit.ensures.appends in
+    let stage : t.session.stage ≡ stages.Clear = ap (λ (z : Session). z.stage) x.0 ∙ c.requires.stage in (
+      c.append_commit.ensures.went.on,
+      ap (λ (z : Session). z.levels) x.0,
+      subst (λ (z : Stage × Stage). Stops start (view t.pass).seen by z.0 z.1 c.in-Err-append_commit.refusal) (λ j. (sym c.requires.stage j, sym stage j)) (append_stops start (view t.pass).seen by c.in-Err-append_commit.refusal x.1),
+    )
+
+pub returns-in-At-clause-commits : goal.returns-in-At-clause-commits
+returns-in-At-clause-commits g c =
+    let start = start_of c.args.hall.now in
+    let s = c.args.caller.now.session in
+    let n = c.args.caller.now.number in
+    let t = c.append_commit.new.caller in
+    let x = c.flush_and_finish.new.caller in
+    let more = (view x.pass).seen in
+    let number = c.in-At.number in
+    let by = by_at n s.levels.commands in
+    let appends : Appends start (view t.pass).seen c.in-Ok.rec s t.session (Ok (came.At number)) = subst (λ (a : Appended). Appends start (view t.pass).seen c.in-Ok.rec s t.session (Ok a)) c.in-At.is c.in-Ok-append_commit.ensures.appends in
+    commits_then start n t.number s t.session x.session (view c.args.caller.now.pass).seen (view t.pass).seen more c.flush_and_finish.result c.append_commit.ensures.number (ap (λ (z : Session). z.levels) appends) c.append_commit.ensures.went.on
+    (λ e q. subst (λ (z : Stage). Stops start more by z x.session.stage e) (sym c.requires.stage) (stops_appended start more by number x.session.stage e (subst (λ (z : Stage). Stops start more by z x.session.stage e) (ap (λ (z : Session). z.stage) appends) q)))
+    c.flush_and_finish.ensures.commits

@@ -1,0 +1,44 @@
+use Rattle.std.proofs.Common.{◌≡◌, ℕ, ◌≤◌, None, ap, ◌∙◌, subst, sym, refl, length}
+use Rattle.hall.specs.Calls.{view, start_of}
+use Rattle.engine_parts.specs.declared.session.Session.{Session}
+use Rattle.engine_parts.specs.declared.session.Stage.{Stage}
+use Rattle.engine_parts.specs.declared.session.Stage.TheVariants as stages
+use Rattle.engine_parts.specs.Sessions.{by_at}
+use Rattle.xact_ends.specs.Stops.{Stops}
+use Rattle.xact_ends.proofs.Finishing.{commits_then, link_stops}
+use Rattle.xact_ends.proofs.committing.start_commit.Goals as goal
+
+pub log_and_finish-requires-clause-stage : goal.log_and_finish-requires-clause-stage
+log_and_finish-requires-clause-stage g c = ap (λ (z : Session). z.stage) c.in-Ok.ensures.links.1 ∙ c.requires.stage
+
+pub log_and_finish-requires-clause-linked : goal.log_and_finish-requires-clause-linked
+log_and_finish-requires-clause-linked g c = ap (λ (z : Session). z.unlinked) c.in-Ok.ensures.links.1
+
+pub log_and_finish-requires-clause-some : goal.log_and_finish-requires-clause-some
+log_and_finish-requires-clause-some g c = subst (λ (z : Session). 1 ≤ length z.levels.open_ids.items) (sym c.in-Ok.ensures.links.1) c.requires.some
+
+pub returns-in-Ok-clause-commits : goal.returns-in-Ok-clause-commits
+returns-in-Ok-clause-commits g c =
+    let start = start_of c.args.hall.now in
+    let s = c.args.caller.now.session in
+    let n = c.args.caller.now.number in
+    let t = c.link_missing.new.caller in
+    let x = c.log_and_finish.new.caller in
+    let more = (view x.pass).seen in
+    let links = c.in-Ok.ensures.links in
+    commits_then start n t.number s t.session x.session (view c.args.caller.now.pass).seen (view t.pass).seen more c.log_and_finish.result c.link_missing.ensures.number (ap (λ (z : Session). z.levels) links.1) links.0
+    (λ e q. subst (λ (z : Stage). Stops start more (by_at n s.levels.commands) z x.session.stage e) (ap (λ (z : Session). z.stage) links.1) q)
+    c.log_and_finish.ensures.commits
+
+pub returns-in-Err-clause-commits : goal.returns-in-Err-clause-commits
+returns-in-Err-clause-commits g c =
+    let start = start_of c.args.hall.now in
+    let s = c.args.caller.now.session in
+    let t = c.link_missing.new.caller in
+    let x = c.in-Err.ensures.links in
+    let by = by_at c.args.caller.now.number s.levels.commands in
+    let stage : t.session.stage ≡ stages.Clear = ap (λ (z : Session). z.stage) x.1 ∙ c.requires.stage in (
+      x.0,
+      ap (λ (z : Session). z.levels) x.1,
+      subst (λ (z : Stage × Stage). Stops start (view t.pass).seen by z.0 z.1 c.in-Err.refusal) (λ j. (sym c.requires.stage j, sym stage j)) (link_stops start (view t.pass).seen by c.in-Err.refusal x.2),
+    )

@@ -1,0 +1,4 @@
+pub mod Stops
+pub mod Trees
+pub mod Ends
+pub mod Aborts

@@ -1,0 +1,79 @@
+//! The call that aborts.
+ghost use Rattle.std.specs.Prelude.{◌≡◌, ℕ, ◌+◌, ◌*◌, ◌≤◌, false, length};
+ghost use Rattle.hall.specs.Calls.{view, IsOf, start_of};
+ghost use Rattle.tx_model.specs.declared.command.Command.TheVariants as commands;
+ghost use Rattle.tx_model.specs.declared.reply.Reply.TheVariants as replies;
+ghost use Rattle.engine_parts.specs.Answers.{reply_of};
+ghost use Rattle.engine_parts.specs.Calls.{MayRun, Ran, next_command};
+ghost use Rattle.engine_parts.specs.Sessions.{MayCall, stance_of};
+ghost use Rattle.engine_parts.specs.Stages.{may_be_recorded};
+
+use crate::aborting::abort_named;
+use crate::counting::count;
+use crate::idless::close_idless;
+use disk_core::{LogDisk, PageDisk};
+use engine_parts::{Caller, EngineLaw, Stage};
+use hall::Hall;
+use session_levels::depth;
+use std::sync::Wait;
+use tx_events::Refusal;
+
+/// Whether the commit record of what is open may stand in the log.
+fn is_recorded(stage: Stage) -> bool
+    ensures { result ≡ may_be_recorded stage }
+{
+    match stage {
+        Stage::Logged { .. } | Stage::Settling { .. } => true,
+        Stage::Clear | Stage::Aborting | Stage::Undoing => false,
+    }
+}
+
+/// Aborts a transaction of which no commit is pending. One without an id has no event.
+fn abort_open<R: Wait, L: LogDisk, P: PageDisk>(
+    rt: &R,
+    hall: &Hall<EngineLaw<L, P>>,
+    caller: &mut Caller<L, P>,
+    banks: u32,
+) -> Result<(), Refusal>
+    requires own { IsOf hall.now caller.old.pass }
+    requires laid { hall.now.cells ≡ 3 + 4 * (start_of hall.now).banks }
+    requires banks { (banks ≡ (start_of hall.now).banks) × (1 ≤ banks) × (banks ≤ 16) }
+    requires may { MayCall (start_of hall.now) (view caller.old.pass) caller.old.number caller.old.session }
+    requires stage { may_be_recorded caller.old.session.stage ≡ false }
+    requires levels { 1 ≤ length (stance_of caller.old.session).levels }
+    ensures { Ran hall.now caller.old.session.levels.commands commands.Abort (reply_of (λ _. replies.Done) result)
+        caller.old caller.new }
+{
+    if caller.session.levels.open_ids.is_empty() {
+        close_idless(caller);
+        return Ok(());
+    }
+    abort_named(rt, hall, caller, banks)
+}
+
+/// Aborts the session's transaction (`AbortTransaction` of `src/backend/access/transam/xact.c`): the states of all open
+/// ids are set aborted, page by page, and then the transaction counts as ended. It has no record in the log: behind a crash
+/// an id without a commit record counts as aborted too. An abort that a fault stopped is begun anew, and one without an id
+/// ends at once; an undo that was begun ends with it. Takes no memory.
+///
+/// Refused, in this order, with `NoTransaction` where no transaction is open, with `CommitPending` where its commit record
+/// may stand, and with `DiskFault` of pg_xact. The session has run fewer than 2^48 commands.
+pub fn abort<R: Wait, L: LogDisk, P: PageDisk>(
+    rt: &R,
+    hall: &Hall<EngineLaw<L, P>>,
+    caller: &mut Caller<L, P>,
+    banks: u32,
+) -> Result<(), Refusal>
+    requires { MayRun hall.now banks caller.old }
+    ensures { Ran hall.now (next_command caller.old) commands.Abort (reply_of (λ _. replies.Done) result)
+        caller.old caller.new }
+{
+    count(caller);
+    if depth(&caller.session.levels) == 0 {
+        return Err(Refusal::NoTransaction);
+    }
+    if is_recorded(caller.session.stage) {
+        return Err(Refusal::CommitPending);
+    }
+    abort_open(rt, hall, caller, banks)
+}

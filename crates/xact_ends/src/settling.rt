@@ -1,0 +1,128 @@
+//! The states of a commit are set, step by step.
+ghost use Rattle.std.specs.Prelude.{◌≡◌, ℕ, ◌+◌, ◌*◌, ◌^◌, ◌<◌, ◌≤◌, ◌∷◌, List, Some, length, slice_get};
+ghost use Rattle.hall.specs.Calls.{view, IsOf, start_of};
+ghost use Rattle.pg_xact_log.specs.Plan.{plan};
+ghost use Rattle.pg_xact_log.specs.Steps.{step_first};
+ghost use Rattle.engine_parts.specs.declared.session.Stage.TheVariants as stages;
+ghost use Rattle.engine_parts.specs.Sessions.{MayCall};
+ghost use Rattle.engine_parts.specs.Stages.{state_of};
+ghost use Rattle.xact_ends.specs.Trees.{IsStepOf, IsStepState, SetsStep, Settles};
+
+use crate::waiting::stall;
+use bank_sections::set_page;
+use disk_core::{LogDisk, PageDisk};
+use engine_parts::{Caller, EngineLaw, Stage};
+use hall::Hall;
+use pg_xact_log::{PlanStep, plan_step};
+use slru_bank::BankRefusal;
+use std::sync::Wait;
+use tx_core::State;
+use tx_events::{Lock, Refusal};
+use xid_order::FullXid;
+
+/// The state of a step as the entries name it.
+fn entered(state: pg_xact_log::State) -> State
+    requires { IsStepState state }
+    ensures { state_of state ≡ Some result }
+{
+    match state {
+        pg_xact_log::State::Committed => State::Committed,
+        pg_xact_log::State::SubCommitted => State::SubCommitted,
+        pg_xact_log::State::InProgress | pg_xact_log::State::Aborted => unreachable!(),
+    }
+}
+
+/// Step `k` of the commit of these open ids.
+fn step_of(opened: &[FullXid], k: u64) -> Option<PlanStep>
+    requires { 1 ≤ length opened.now }
+    ensures { (top : ℕ) (subs : List ℕ) → opened.now ≡ top ∷ subs → result ≡ slice_get (plan top subs) k }
+{
+    plan_step(opened[0], &opened[1..], k)
+}
+
+/// Where the ids of a step begin among the open ids.
+fn first_of(step: &PlanStep) -> usize
+    requires { step.now.first < 2 ^ 63 }
+    ensures { result ≡ step_first step.now }
+{
+    if step.with_top { 0 } else { step.first + 1 }
+}
+
+/// Sets the states of step `k` (`TransactionIdSetPageStatus` of `clog.c`).
+fn set_step<R: Wait, L: LogDisk, P: PageDisk>(
+    rt: &R,
+    hall: &Hall<EngineLaw<L, P>>,
+    caller: &mut Caller<L, P>,
+    banks: u32,
+    k: u64,
+    step: &PlanStep,
+) -> Result<(), Refusal>
+    requires own { IsOf hall.now caller.old.pass }
+    requires laid { hall.now.cells ≡ 3 + 4 * (start_of hall.now).banks }
+    requires banks { (banks ≡ (start_of hall.now).banks) × (1 ≤ banks) × (banks ≤ 16) }
+    requires may { MayCall (start_of hall.now) (view caller.old.pass) caller.old.number caller.old.session }
+    requires stage { caller.old.session.stage ≡ stages.Settling k }
+    requires step { IsStepOf caller.old.session.levels.open_ids.items k step.now }
+    ensures own { IsOf hall.now caller.new.pass }
+    ensures may { MayCall (start_of hall.now) (view caller.new.pass) caller.new.number caller.new.session }
+    ensures sets { SetsStep caller.old.number k caller.old.session caller.new.session
+        (view caller.old.pass).seen (view caller.new.pass).seen result }
+    ensures number { caller.new.number ≡ caller.old.number }
+{
+    let bank = step.page % banks;
+    let first = first_of(step);
+    match set_page(
+        rt,
+        hall,
+        caller,
+        bank,
+        first,
+        step.past + 1,
+        entered(step.state),
+    ) {
+        Ok(()) => {
+            caller.session.stage = Stage::Settling { steps: k + 1 };
+            Ok(())
+        }
+        Err(BankRefusal::DiskFault) => Err(Refusal::DiskFault {
+            lock: Lock::Xact(bank),
+        }),
+        Err(BankRefusal::Cut { .. }) => {
+            stall(rt);
+            unreachable!()
+        }
+    }
+}
+
+/// Sets the states of a commit whose record is on disk, from the step on that was reached (`TransactionIdSetTreeStatus`
+/// of `clog.c`).
+pub(crate) fn set_tree<R: Wait, L: LogDisk, P: PageDisk>(
+    rt: &R,
+    hall: &Hall<EngineLaw<L, P>>,
+    caller: &mut Caller<L, P>,
+    banks: u32,
+    from: u64,
+) -> Result<(), Refusal>
+    requires own { IsOf hall.now caller.old.pass }
+    requires laid { hall.now.cells ≡ 3 + 4 * (start_of hall.now).banks }
+    requires banks { (banks ≡ (start_of hall.now).banks) × (1 ≤ banks) × (banks ≤ 16) }
+    requires may { MayCall (start_of hall.now) (view caller.old.pass) caller.old.number caller.old.session }
+    requires stage { caller.old.session.stage ≡ stages.Settling from }
+    ensures own { IsOf hall.now caller.new.pass }
+    ensures may { MayCall (start_of hall.now) (view caller.new.pass) caller.new.number caller.new.session }
+    ensures settles { Settles (start_of hall.now) caller.old.number from caller.old.session caller.new.session
+        (view caller.old.pass).seen (view caller.new.pass).seen result }
+    ensures number { caller.new.number ≡ caller.old.number }
+{
+    for k in from..u64::MAX {
+        let step = match step_of(&caller.session.levels.open_ids, k) {
+            Some(step) => step,
+            None => return Ok(()),
+        };
+        match set_step(rt, hall, caller, banks, k, &step) {
+            Ok(()) => {}
+            Err(refusal) => return Err(refusal),
+        }
+    }
+    unreachable!()
+}

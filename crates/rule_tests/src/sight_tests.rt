@@ -1,5 +1,5 @@
 // What snapshots say, from rows worked out by hand.
-use crate::{Sight, sight_of, sight_of_top};
+use snap_core::{Sight, sight_of, sight_of_top};
 use std::process::Abort;
 use tx_events::{IdList, SnapData};
 use xid_order::FullXid;

@@ -1,5 +1,5 @@
 //! Members that join, drain and hand back one after the other.
-use crate::{Batch, GroupList, Memory, Role};
+use group_list::{Batch, GroupList, Memory, Role};
 use std::test::Fail;
 
 #[test]

@@ -1,9 +1,19 @@
 //! What the tests share: runs of the tool on a script in memory, and what they are held against.
-use crate::run_tool;
+use session_run::run_tool;
 use std::alloc::{AllocGlobal, Global};
 use std::process::Abort;
 use std::test::Fail;
-use tx_io::{MemSink, MemSource};
+use tx_io::{MemSink, MemSource, Sink, Source};
+
+/// The tool without its contract, so that a test proves no more than that it is safe.
+pub fn status_of<S: Source, K: Sink>(
+    alloc: Global,
+    words: &[String],
+    source: &mut S,
+    sink: &mut K,
+) -> u8 {
+    run_tool(alloc, words, source, sink)
+}
 
 /// Runs the tool with one word on a script, into a sink with this room, where these reads fail. Answers the status and
 /// the bytes held.
@@ -17,7 +27,7 @@ fn run(
     let mut source = MemSource::new(Vec::from_slice(alloc, script.as_bytes())?, failing);
     let mut sink = MemSink::new(alloc, room, Vec::new(alloc))?;
     let words = [String::from_str(alloc, word)?];
-    let status = run_tool(alloc, &words, &mut source, &mut sink);
+    let status = status_of(alloc, &words, &mut source, &mut sink);
     Ok((status, Vec::from_slice(alloc, sink.held())?))
 }
 

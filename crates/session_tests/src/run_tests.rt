@@ -1,6 +1,5 @@
 //! The first worked runs, and how a run ends otherwise.
-use crate::run_tool;
-use crate::test_help::{check_report, check_run};
+use crate::test_help::{check_report, check_run, status_of};
 use std::test::Fail;
 use tx_io::{Failed, MemSink, MemSource, Source};
 
@@ -163,7 +162,7 @@ fn other_words_are_refused(rt: HostRuntime) -> Result<(), Fail> {
         String::from_str(alloc, "run")?,
         String::from_str(alloc, "now")?,
     ];
-    assert_eq!(rt; run_tool(alloc, &two, &mut source, &mut sink), 2);
+    assert_eq!(rt; status_of(alloc, &two, &mut source, &mut sink), 2);
     assert_eq!(rt; sink.held(), b"words\n".as_slice());
     Ok(())
 }
@@ -242,7 +241,7 @@ fn script_past_the_limit_is_refused(rt: HostRuntime) -> Result<(), Fail> {
     let alloc = rt.alloc();
     let mut sink = MemSink::new(alloc, 100, Vec::new(alloc))?;
     let words = [String::from_str(alloc, "run")?];
-    assert_eq!(rt; run_tool(alloc, &words, &mut Endless, &mut sink), 1);
+    assert_eq!(rt; status_of(alloc, &words, &mut Endless, &mut sink), 1);
     assert_eq!(rt; sink.held(), b"script 0 size\n".as_slice());
     Ok(())
 }

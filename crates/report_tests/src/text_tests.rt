@@ -1,7 +1,5 @@
 // Lines of a report, from the rows of its format.
-use crate::print_report;
-use crate::reply::put_answer;
-use crate::text::Text;
+use crate::texts::{answer_text, text_of, two_sessions};
 use std::alloc::{AllocGlobal, Global};
 use std::process::Abort;
 use std::test::Fail;
@@ -24,26 +22,13 @@ fn listed<T: Drop>(alloc: Global, items: Vec<T>) -> Result<Sequence<T>, Memory> 
     Ok(list)
 }
 
-/// The sessions `a` and `b`.
-fn sessions(alloc: Global) -> Result<NameList, Memory> {
-    let mut names = Sequence::new(alloc);
-    names.push(Name::of(b"a"))?;
-    names.push(Name::of(b"b"))?;
-    Ok(names)
-}
-
 fn spelled(rt: &(impl Abort + AllocGlobal), reply: &Reply, want: &str) -> Result<(), Fail> {
-    let names = sessions(rt.alloc())?;
-    let mut out = Text::new(rt.alloc());
-    put_answer(&mut out, &names, reply)?;
-    let text = String::from_utf8(out.into_bytes()).ok().ok_or("no text")?;
+    let text = answer_text(rt.alloc(), reply)?;
     assert_eq!(rt; text.as_str(), want);
     Ok(())
 }
 
-#[test]
-fn snapshots_have_a_dash_for_no_ids(rt: HostRuntime) -> Result<(), Fail> {
-    let alloc = rt.alloc();
+fn overflowed(alloc: Global) -> Result<Reply, Fail> {
     let lists = SnapData {
         xmin: id(3)?,
         xmax: id(71)?,
@@ -51,91 +36,93 @@ fn snapshots_have_a_dash_for_no_ids(rt: HostRuntime) -> Result<(), Fail> {
         subxip: Sequence::new(alloc),
         overflowed: true,
     };
+    Ok(Reply::Snapped { lists })
+}
+
+fn wrote_nothing(alloc: Global) -> Reply {
+    Reply::Wrote {
+        ids: Sequence::new(alloc),
+        warn: false,
+    }
+}
+
+fn wrote_two(alloc: Global) -> Result<Reply, Fail> {
+    let ids = listed(alloc, vec![in alloc; id(3)?, id(4)?]?)?;
+    Ok(Reply::Wrote { ids, warn: true })
+}
+
+#[test]
+fn snapshots_have_a_dash_for_no_ids(rt: HostRuntime) -> Result<(), Fail> {
+    let alloc = rt.alloc();
     spelled(
         &rt,
-        &Reply::Snapped { lists },
+        &overflowed(alloc)?,
         " -> ok xmin 3 xmax 71 xip 3 sub - overflow yes",
     )?;
-    spelled(
-        &rt,
-        &Reply::Wrote {
-            ids: Sequence::new(alloc),
-            warn: false,
-        },
-        " -> ok -",
-    )?;
-    let ids = listed(alloc, vec![in alloc; id(3)?, id(4)?]?)?;
-    spelled(&rt, &Reply::Wrote { ids, warn: true }, " -> ok 3 4 warn")
+    spelled(&rt, &wrote_nothing(alloc), " -> ok -")?;
+    spelled(&rt, &wrote_two(alloc)?, " -> ok 3 4 warn")
+}
+
+fn verdict(number: u64, mode: Mode) -> Result<MemberVerdict, Fail> {
+    Ok(MemberVerdict {
+        id: id(number)?,
+        mode,
+        verdict: Verdict::Hidden,
+    })
+}
+
+fn verdicts(alloc: Global) -> Result<Reply, Fail> {
+    let two = vec![in alloc; verdict(3, Mode::KeySh)?, verdict(4, Mode::Upd)?]?;
+    Ok(Reply::Verdicts {
+        verdicts: listed(alloc, two)?,
+    })
+}
+
+fn first_multi() -> Result<Reply, Fail> {
+    Ok(Reply::Multi {
+        multi: multi(1)?,
+        offset: 1,
+        warn: false,
+    })
 }
 
 #[test]
 fn members_have_colons(rt: HostRuntime) -> Result<(), Fail> {
-    let alloc = rt.alloc();
-    let first = MemberVerdict {
-        id: id(3)?,
-        mode: Mode::KeySh,
-        verdict: Verdict::Hidden,
-    };
-    let second = MemberVerdict {
-        id: id(4)?,
-        mode: Mode::Upd,
-        verdict: Verdict::Hidden,
-    };
-    let verdicts = listed(alloc, vec![in alloc; first, second]?)?;
     spelled(
         &rt,
-        &Reply::Verdicts { verdicts },
+        &verdicts(rt.alloc())?,
         " -> ok 3:keysh:hidden 4:upd:hidden",
     )?;
-    spelled(
-        &rt,
-        &Reply::Multi {
-            multi: multi(1)?,
-            offset: 1,
-            warn: false,
-        },
-        " -> ok 1 1",
-    )
+    spelled(&rt, &first_multi()?, " -> ok 1 1")
+}
+
+fn stop() -> Result<Refusal, Fail> {
+    Ok(Refusal::Stop {
+        next: id(2147483650)?,
+        stop: id(2147483647)?,
+    })
+}
+
+fn refused(rt: &(impl Abort + AllocGlobal), refusal: Refusal, want: &str) -> Result<(), Fail> {
+    spelled(rt, &Reply::Refused { refusal }, want)
+}
+
+fn no_bytes(alloc: Global) -> Reply {
+    Reply::Bytes {
+        bytes: Sequence::new(alloc),
+    }
 }
 
 #[test]
 fn refusals_have_their_numbers(rt: HostRuntime) -> Result<(), Fail> {
-    let stop = Refusal::Stop {
-        next: id(2147483650)?,
-        stop: id(2147483647)?,
-    };
-    let disk = Refusal::DiskFault {
-        lock: Lock::Xact(2),
-    };
-    let member = Refusal::NotGiven {
-        x: Xid { number: 7 },
-    };
-    spelled(
-        &rt,
-        &Reply::Refused { refusal: stop },
-        " -> stop 2147483650 2147483647",
-    )?;
-    spelled(
-        &rt,
-        &Reply::Refused { refusal: disk },
-        " -> disk-fault xact 2",
-    )?;
-    spelled(&rt, &Reply::Refused { refusal: member }, " -> not-given 7")?;
-    spelled(
-        &rt,
-        &Reply::Refused {
-            refusal: Refusal::Full,
-        },
-        " -> log-full",
-    )?;
+    refused(&rt, stop()?, " -> stop 2147483650 2147483647")?;
+    let lock = Lock::Xact(2);
+    refused(&rt, Refusal::DiskFault { lock }, " -> disk-fault xact 2")?;
+    let x = Xid { number: 7 };
+    refused(&rt, Refusal::NotGiven { x }, " -> not-given 7")?;
+    refused(&rt, Refusal::Full, " -> log-full")?;
     spelled(&rt, &Reply::Cut { cutoff: 32 }, " -> cut 32")?;
-    spelled(
-        &rt,
-        &Reply::Bytes {
-            bytes: Sequence::new(rt.alloc()),
-        },
-        " -> -",
-    )
+    spelled(&rt, &no_bytes(rt.alloc()), " -> -")
 }
 
 fn first_counters() -> Result<Counters, Fail> {
@@ -174,17 +161,15 @@ fn quiet_life(alloc: Global, number: u64, flushed: u64, end: u64) -> Result<Life
     })
 }
 
+fn empty_run(alloc: Global) -> Result<Report, Fail> {
+    Ok(Report {
+        names: Sequence::new(alloc),
+        lives: listed(alloc, vec![in alloc; quiet_life(alloc, 0, 1, 62)?]?)?,
+    })
+}
+
 #[test]
 fn an_empty_run_has_seven_lines(rt: HostRuntime) -> Result<(), Fail> {
-    let alloc = rt.alloc();
-    let lives = listed(alloc, vec![in alloc; quiet_life(alloc, 0, 1, 62)?]?)?;
-    let report = Report {
-        names: Sequence::new(alloc),
-        lives,
-    };
-    let text = String::from_utf8(print_report(alloc, &report)?)
-        .ok()
-        .ok_or("no text")?;
     let want = "txid report 1\n\
         life 1 from 0 next 3 oldest 3 multi 1 offset 1 oldest-multi 1 oldest-offset 1\n\
         history\n\
@@ -192,7 +177,8 @@ fn an_empty_run_has_seven_lines(rt: HostRuntime) -> Result<(), Fail> {
         log flushed 1 end 62\n\
         0 checkpoint next 3 oldest 3 multi 1 offset 1 oldest-multi 1 oldest-offset 1\n\
         end\n";
-    assert_eq!(rt; text.as_str(), want);
+    let alloc = rt.alloc();
+    assert_eq!(rt; text_of(alloc, &empty_run(alloc)?)?.as_str(), want);
     Ok(())
 }
 
@@ -338,27 +324,36 @@ fn records(alloc: Global) -> Result<RecList, Fail> {
     Ok(listed(alloc, records)?)
 }
 
+fn full_life(alloc: Global) -> Result<LifeReport, Fail> {
+    let (events, multis) = histories(alloc)?;
+    let life = Life {
+        from: 8,
+        base: first_counters()?,
+        committed: Sequence::new(alloc),
+        recorded: Sequence::new(alloc),
+        events,
+        multis,
+        recs: records(alloc)?,
+        flushed: 9,
+        end: 131,
+    };
+    Ok(LifeReport {
+        life,
+        steps: steps(alloc)?,
+        crash: Some(How::Torn),
+    })
+}
+
+fn two_lives(alloc: Global) -> Result<Report, Fail> {
+    let lives = vec![in alloc; full_life(alloc)?, quiet_life(alloc, 12, 13, 193)?]?;
+    Ok(Report {
+        names: two_sessions(alloc)?,
+        lives: listed(alloc, lives)?,
+    })
+}
+
 #[test]
 fn each_kind_of_line_is_spelled(rt: HostRuntime) -> Result<(), Fail> {
-    let alloc = rt.alloc();
-    let (events, multis) = histories(alloc)?;
-    let mut first = quiet_life(alloc, 8, 9, 131)?;
-    first.life.events = events;
-    first.life.multis = multis;
-    first.life.recs = records(alloc)?;
-    first.steps = steps(alloc)?;
-    first.crash = Some(How::Torn);
-    let lives = listed(
-        alloc,
-        vec![in alloc; first, quiet_life(alloc, 12, 13, 193)?]?,
-    )?;
-    let report = Report {
-        names: sessions(alloc)?,
-        lives,
-    };
-    let text = String::from_utf8(print_report(alloc, &report)?)
-        .ok()
-        .ok_or("no text")?;
     let want = "txid report 1\n\
         life 1 from 8 next 3 oldest 3 multi 1 offset 1 oldest-multi 1 oldest-offset 1\n\
         round 1\n\
@@ -387,6 +382,7 @@ fn each_kind_of_line_is_spelled(rt: HostRuntime) -> Result<(), Fail> {
         log flushed 13 end 193\n\
         12 checkpoint next 3 oldest 3 multi 1 offset 1 oldest-multi 1 oldest-offset 1\n\
         end\n";
-    assert_eq!(rt; text.as_str(), want);
+    let alloc = rt.alloc();
+    assert_eq!(rt; text_of(alloc, &two_lives(alloc)?)?.as_str(), want);
     Ok(())
 }

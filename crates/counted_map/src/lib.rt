@@ -73,6 +73,3 @@ impl<K: Ord + Copy + Drop> CountedMap<K> {
         }
     }
 }
-
-#[cfg(test)]
-mod tests;

@@ -13,8 +13,6 @@ mod memory;
 mod order;
 mod plays;
 mod role;
-#[cfg(test)]
-mod tests;
 mod view;
 
 pub use batch::Batch;

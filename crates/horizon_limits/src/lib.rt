@@ -5,8 +5,6 @@
 
 mod ids;
 mod multis;
-#[cfg(test)]
-mod tests;
 
 pub use ids::check_id;
 pub use multis::check_multi;

@@ -5,8 +5,6 @@
 mod members;
 mod modes;
 mod slot;
-#[cfg(test)]
-mod tests;
 
 pub use members::{read_member, trim_members, write_member};
 pub use slot::Slot;

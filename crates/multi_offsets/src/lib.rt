@@ -3,7 +3,5 @@
 #![tactic(auto)]
 
 mod offsets;
-#[cfg(test)]
-mod tests;
 
 pub use offsets::{offset, set_offset, trim_offsets};

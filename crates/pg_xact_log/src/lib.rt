@@ -5,8 +5,6 @@
 mod bits;
 mod plan;
 mod states;
-#[cfg(test)]
-mod tests;
 mod trim;
 mod xact_state;
 

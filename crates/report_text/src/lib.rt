@@ -9,8 +9,6 @@ mod refusal;
 mod reply;
 mod report;
 mod step;
-#[cfg(test)]
-mod tests;
 mod text;
 
 pub use event::{put_event, put_multi_event};

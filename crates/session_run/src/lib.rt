@@ -19,12 +19,3 @@ mod writes;
 
 pub use run::run_script;
 pub use tool::{run_tool, say_out_of_memory};
-
-#[cfg(test)]
-mod command_tests;
-#[cfg(test)]
-mod round_tests;
-#[cfg(test)]
-mod test_help;
-#[cfg(test)]
-mod tests;

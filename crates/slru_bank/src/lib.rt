@@ -8,8 +8,6 @@ mod buffers;
 mod numbers;
 mod refusal;
 mod removal;
-#[cfg(test)]
-mod tests;
 
 pub use bank::SlruBank;
 pub use numbers::{put_number, read_number};

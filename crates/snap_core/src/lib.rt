@@ -5,8 +5,6 @@
 mod listed;
 mod sight;
 mod snapshot;
-#[cfg(test)]
-mod tests;
 
 pub use listed::is_listed;
 pub use sight::{Sight, sight_of, sight_of_top};

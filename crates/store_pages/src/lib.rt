@@ -10,8 +10,6 @@ mod offsets;
 mod page_rule;
 mod ring;
 mod subtrans;
-#[cfg(test)]
-mod tests;
 
 pub use banks::bank_of;
 pub use clog::{XACTS_PER_PAGE, XactPages, xact_page, xact_page_in_full, xact_place};

@@ -3,7 +3,5 @@
 #![tactic(auto)]
 
 mod parents;
-#[cfg(test)]
-mod tests;
 
 pub use parents::{climb_ends, parent, set_parent};

@@ -3,8 +3,6 @@
 #![tactic(auto)]
 
 mod base;
-#[cfg(test)]
-mod base_tests;
 mod event;
 mod multi;
 mod name;

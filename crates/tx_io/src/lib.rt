@@ -9,6 +9,3 @@ mod traits;
 pub use memory::{MemSink, MemSource};
 pub use stream::{StdSink, StdSource};
 pub use traits::{Failed, Memory, Sink, Source};
-
-#[cfg(test)]
-mod tests;

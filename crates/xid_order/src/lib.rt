@@ -12,8 +12,6 @@ mod members;
 mod multi_limits;
 mod order;
 mod rounding;
-#[cfg(test)]
-mod tests;
 
 pub use full_multi::{FullMulti, MultiId, near_multi};
 pub use full_xid::{FullXid, near};

@@ -1,0 +1,15 @@
+//! Tests of the tool over scripts in memory: the worked runs of docs/EXAMPLES.md, and how a run ends otherwise; and of the
+//! sources and sinks that it is given. They stand in a crate of their own so that the sessions aren't proved once more
+//! with them.
+#![tactic(auto)]
+
+#[cfg(test)]
+mod command_tests;
+#[cfg(test)]
+mod round_tests;
+#[cfg(test)]
+mod run_tests;
+#[cfg(test)]
+mod stream_tests;
+#[cfg(test)]
+mod test_help;

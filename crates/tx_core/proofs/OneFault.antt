@@ -1,6 +1,6 @@
 -- A commit that meets faults: its record stands, the bank of its state fails twice, and then the log fails in a flush. The
 -- counts that the bank's list tells rise, and the log stays down.
-use Rattle.std.proofs.Common.{List, None, [], arith, false, inl, refl, true, ◌<◌, ◌∷◌, ◌≡◌, ℕ}
+use Rattle.std.proofs.Common.{List, None, [], arith, inl, refl, true, ◌∷◌, ◌≡◌, ℕ}
 use Rattle.disk_core.specs.Faults.{HasRisen}
 use Rattle.tx_events.proofs.Membership.{contains_has, has_contains}
 use Rattle.tx_core.specs.declared.entry.Entry.{Entry}
@@ -12,7 +12,7 @@ use Rattle.tx_core.specs.FaultsRise.{faults_told}
 use Rattle.tx_core.specs.Laws.{MayChange}
 use Rattle.tx_core.specs.Locks.{log_lock, xact_lock}
 use Rattle.tx_core.specs.ProgramOrder.{AreCallers}
-use Rattle.tx_core.specs.StaysDown.{IsUp, is_down}
+use Rattle.tx_core.specs.StaysDown.{is_down}
 use Rattle.tx_core.specs.declared.entry.Kind.TheVariants as kinds
 use Rattle.tx_core.specs.declared.entry.LogCall.TheVariants as calls
 use Rattle.notes.specs.Lists.{add, at}

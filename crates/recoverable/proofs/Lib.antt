@@ -19,3 +19,4 @@ pub mod Opened
 pub mod Whole
 pub mod LogBegins
 pub mod WorkedLife
+pub mod LogSteps

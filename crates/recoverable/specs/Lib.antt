@@ -10,4 +10,5 @@ pub mod OffsetImages
 pub mod MemberImages
 pub mod Laws
 pub mod Whole
+pub mod LogSteps
 pub mod WorkedLife

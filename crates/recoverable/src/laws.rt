@@ -1,6 +1,7 @@
 ghost use Rattle.recoverable.specs.Laws.{ListFitsLaw, MayBeginLaw, XactFitsLaw, OffsetsShownLaw, OffsetsFitLaw, MembersFitLaw, NoStrayOffset};
 ghost use Rattle.recoverable.specs.Stored.{OffsetBytesShow, MemberBytesShow};
 ghost use Rattle.recoverable.specs.Whole.{ImageFitsLaw, LogBegins, VolumesFitLaw};
+ghost use Rattle.recoverable.specs.LogSteps.{LogGoesOn};
 ghost use Rattle.recoverable.specs.WorkedLife.{AreRefused, IsWorked};
 
 use disk_core::{LogDisk, PageDisk};
@@ -65,6 +66,11 @@ pub fn volumes_fit<L: LogDisk, P: PageDisk>()
 /// The log behind a recovery is as the next life's laws want it, before that life's first entry.
 pub fn log_begins()
     ensures { LogBegins }
+{}
+
+/// One entry more of the log's list, and its log goes on: by a record, by what is on disk, or as it was.
+pub fn log_goes_on()
+    ensures { LogGoesOn }
 {}
 
 /// A worked life: what a crash left of a small log and its pages fits, and wrong volumes don't.

@@ -20,3 +20,4 @@ pub mod Whole
 pub mod LogBegins
 pub mod WorkedLife
 pub mod LogSteps
+pub mod WorkedBank

@@ -12,3 +12,4 @@ pub mod Laws
 pub mod Whole
 pub mod LogSteps
 pub mod WorkedLife
+pub mod WorkedBank

@@ -3,6 +3,7 @@ ghost use Rattle.recoverable.specs.Stored.{OffsetBytesShow, MemberBytesShow};
 ghost use Rattle.recoverable.specs.Whole.{ImageFitsLaw, LogBegins, VolumesFitLaw};
 ghost use Rattle.recoverable.specs.LogSteps.{LogGoesOn};
 ghost use Rattle.recoverable.specs.WorkedLife.{AreRefused, IsWorked};
+ghost use Rattle.recoverable.specs.WorkedBank.{WorkedBank};
 
 use disk_core::{LogDisk, PageDisk};
 
@@ -73,8 +74,10 @@ pub fn log_goes_on()
     ensures { LogGoesOn }
 {}
 
-/// A worked life: what a crash left of a small log and its pages fits, and wrong volumes don't.
+/// A worked life: what a crash left of a small log and its pages fits, and wrong volumes don't; and which images of its
+/// bank of pg_xact follow the bank's list, before and behind a sync.
 pub fn worked_life()
     ensures fits { IsWorked }
     ensures wrong { AreRefused }
+    ensures bank { WorkedBank }
 {}

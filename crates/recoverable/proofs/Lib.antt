@@ -16,3 +16,5 @@ pub mod Opened
 pub mod Whole
 pub mod LogBegins
 pub mod WorkedLife
+pub mod LogSteps
+pub mod WorkedBank

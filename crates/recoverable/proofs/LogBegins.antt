@@ -1,5 +1,5 @@
 -- The log of a life before its first entry.
-use Rattle.std.proofs.Common.{IfOk, IsSome, List, None, Ok, Err, Option, Result, Some, [], ap, append-nil, append_assoc, arith, drop, inl, length, subst, sym, take, ℕ, ◌++◌, ◌+◌, ◌-◌, ◌<◌, ◌∙◌, ◌≡◌}
+use Rattle.std.proofs.Common.{IfOk, IsSome, List, Ok, Result, Some, [], ap, append-nil, append_assoc, arith, drop, inl, length, subst, sym, take, ℕ, ◌++◌, ◌+◌, ◌-◌, ◌<◌, ◌∙◌, ◌≡◌}
 use Rattle.std.proofs.Math.Seq.{take-length}
 use Rattle.std.proofs.lemmas.List.{length-take-le, take-append-drop}
 use Rattle.disk_core.specs.Volume.{Volume}

@@ -1,20 +1,15 @@
 -- The volumes fit.
-use Rattle.std.proofs.Common.{List, None, Ok, Err, Option, Result, Some, ap, arith, length, refl, sym, ℕ, ⊎_elim, ◌++◌, ◌+◌, ◌-◌, ◌<◌, ◌∙◌, ◌≡◌, ◌≤◌}
-use Rattle.std.specs.List.{slice_get}
+use Rattle.std.proofs.Common.{List, None, Ok, Err, Option, Result, Some, arith, refl, ℕ, ⊎_elim, ◌<◌, ◌∙◌, ◌≡◌, ◌≤◌}
 use Rattle.disk_core.specs.Pages.{Pages}
 use Rattle.disk_core.specs.Volume.{Volume}
 use Rattle.wal_core.specs.Kept.{HasFlushed, IsStretch, OpensToRecords}
 use Rattle.wal_core.specs.Opening.{History, Opened, next_number, opened}
 use Rattle.tx_events.proofs.ListSteps.{le_or_over}
-use Rattle.tx_events.specs.declared.event.By.{By}
-use Rattle.tx_events.specs.declared.record.Rec.{Rec}
-use Rattle.tx_events.specs.declared.record.Rec.TheVariants as records
 use Rattle.notes.specs.Lists.{at}
 use Rattle.tx_core.specs.declared.entry.Entry.{Entry}
 use Rattle.tx_core.specs.declared.entry.Start.{Start}
 use Rattle.tx_core.specs.EngineInvariant.{EngineInvariant}
 use Rattle.tx_core.specs.Locks.{log_lock}
-use Rattle.tx_core.specs.Entries.{records_of}
 use Rattle.recoverable.specs.Fit.{KeptLog, MayBegin}
 use Rattle.recoverable.specs.Laws.{LogFollows}
 use Rattle.recoverable.specs.Whole.{ImageFitsLaw, LogImage, VolumesFitLaw}
@@ -22,11 +17,9 @@ use Rattle.recoverable.proofs.Checkpoints.{may_begin, whole_in}
 use Rattle.recoverable.proofs.Earlier.{members_earlier, offsets_earlier, xact_earlier}
 use Rattle.recoverable.proofs.FitsXact.{fits_xact}
 use Rattle.recoverable.proofs.LifeBases.{list_fits}
-use Rattle.recoverable.proofs.LogBases.{life_recs}
 use Rattle.recoverable.proofs.MembersFit.{members_fit}
 use Rattle.recoverable.proofs.OffsetsNone.{offsets_fit}
 use Rattle.recoverable.proofs.Opened.{first_is, first_stands, history_comes, log_opens}
-use Rattle.recoverable.proofs.Stretches.{map_get}
 
 -- an image of the log opens to records from the first one on
 record Opens (log : KeptLog) (kept : ℕ) (v : Volume) : Type 0 where

@@ -123,14 +123,14 @@ log_fits = record {
 -- ---- pages
 
 -- behind their first bytes pages are 0
-past : (bytes : List ℕ) (n i : ℕ) → length bytes ≤ i → slice_index (bytes ++ replicate n 0) i ≡ 0
+pub past : (bytes : List ℕ) (n i : ℕ) → length bytes ≤ i → slice_index (bytes ++ replicate n 0) i ≡ 0
 past [] zero i le = refl
 past [] (suc n) zero le = refl
 past [] (suc n) (suc i) le = past [] n i (omega arith)
 past (b ∷ bytes) n zero le = absurd (omega arith)
 past (b ∷ bytes) n (suc i) le = past bytes n i (omega arith)
 
-no_byte : (i : ℕ) → slice_index zero_page i ≡ 0
+pub no_byte : (i : ℕ) → slice_index zero_page i ≡ 0
 unfolding zero_page
 no_byte i = past [] 8192 i (omega arith)
 
@@ -139,7 +139,7 @@ no_bits zero = refl
 no_bits (suc k) = no_bits k
 
 -- the code of an id whose byte is 0
-no_state : (bytes : List ℕ) (n : ℕ) → slice_index bytes (n / 4) ≡ 0 → state_in bytes n ≡ 0
+pub no_state : (bytes : List ℕ) (n : ℕ) → slice_index bytes (n / 4) ≡ 0 → state_in bytes n ≡ 0
 no_state bytes n e = ap (λ b. bits_at b (n % 4)) e ∙ no_bits (n % 4)
 
 not_commit : (code : ℕ) → code ≡ 0 → IsCommitCode code → ⊥

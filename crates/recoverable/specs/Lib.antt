@@ -10,4 +10,6 @@ pub mod OffsetImages
 pub mod MemberImages
 pub mod Laws
 pub mod Whole
+pub mod LogSteps
 pub mod WorkedLife
+pub mod WorkedBank

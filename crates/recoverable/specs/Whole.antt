@@ -1,11 +1,10 @@
 -- The law on all volumes at once: where the engine invariant holds, the life began clean and was short, the log's images
 -- open to its list and each bank's show theirs, the volumes fit.
-use Rattle.std.specs.Prelude.{◌≡◌, ℕ, ◌+◌, ◌<◌, List, [], length, Option, Some, Ok, IsTrue}
+use Rattle.std.specs.Prelude.{◌≡◌, ℕ, ◌+◌, ◌<◌, List, [], length, Option, IsTrue}
 use Rattle.xid_order.specs.Ids.{IsFullMulti}
 use Rattle.disk_core.specs.Pages.{Pages}
 use Rattle.disk_core.specs.Volume.{Volume}
 use Rattle.wal_core.specs.Kept.{HasFlushed}
-use Rattle.wal_core.specs.Opening.{History, opened}
 use Rattle.tx_events.specs.Events.{given}
 use Rattle.tx_events.specs.Multis.{made}
 use Rattle.notes.specs.Lists.{at}

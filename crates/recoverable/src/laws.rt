@@ -1,7 +1,9 @@
 ghost use Rattle.recoverable.specs.Laws.{ListFitsLaw, MayBeginLaw, XactFitsLaw, OffsetsShownLaw, OffsetsFitLaw, MembersFitLaw, NoStrayOffset};
 ghost use Rattle.recoverable.specs.Stored.{OffsetBytesShow, MemberBytesShow};
 ghost use Rattle.recoverable.specs.Whole.{ImageFitsLaw, LogBegins, VolumesFitLaw};
+ghost use Rattle.recoverable.specs.LogSteps.{LogGoesOn};
 ghost use Rattle.recoverable.specs.WorkedLife.{AreRefused, IsWorked};
+ghost use Rattle.recoverable.specs.WorkedBank.{WorkedBank};
 
 use disk_core::{LogDisk, PageDisk};
 
@@ -67,8 +69,15 @@ pub fn log_begins()
     ensures { LogBegins }
 {}
 
-/// A worked life: what a crash left of a small log and its pages fits, and wrong volumes don't.
+/// One entry more of the log's list, and its log goes on: by a record, by what is on disk, or as it was.
+pub fn log_goes_on()
+    ensures { LogGoesOn }
+{}
+
+/// A worked life: what a crash left of a small log and its pages fits, and wrong volumes don't; and which images of its
+/// bank of pg_xact follow the bank's list, before and behind a sync.
 pub fn worked_life()
     ensures fits { IsWorked }
     ensures wrong { AreRefused }
+    ensures bank { WorkedBank }
 {}

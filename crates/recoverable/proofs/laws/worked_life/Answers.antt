@@ -1,4 +1,5 @@
 use Rattle.recoverable.proofs.WorkedLife.{are_refused, is_worked}
+use Rattle.recoverable.proofs.WorkedBank.{worked_bank}
 use Rattle.recoverable.proofs.laws.worked_life.Goals as goal
 
 pub returns-clause-fits : goal.returns-clause-fits
@@ -6,3 +7,6 @@ returns-clause-fits c = is_worked
 
 pub returns-clause-wrong : goal.returns-clause-wrong
 returns-clause-wrong c = are_refused
+
+pub returns-clause-bank : goal.returns-clause-bank
+returns-clause-bank c = worked_bank

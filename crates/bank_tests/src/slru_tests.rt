@@ -11,11 +11,11 @@ use std::test::Fail;
 // Whether each of seventeen pages has the byte that was set there.
 fn read_back(alloc: Global) -> Result<bool, Fail> {
     let mut bank = memory_bank::<IdPages>(alloc)?;
-    for page in 0..17 {
-        set_byte(&mut bank, page, 5, page as u8 + 1)?;
+    for page in 0..17u8 {
+        set_byte(&mut bank, u32::from(page), 5, page + 1)?;
     }
-    for page in 0..17 {
-        if byte(&mut bank, page, 5)? != page as u8 + 1 {
+    for page in 0..17u8 {
+        if byte(&mut bank, u32::from(page), 5)? != page + 1 {
             return Ok(false);
         }
     }

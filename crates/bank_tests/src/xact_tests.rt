@@ -54,15 +54,19 @@ fn status_bits_on_page(rt: HostRuntime) -> Result<(), Fail> {
     Ok(())
 }
 
+fn step(top: FullXid, subs: &[FullXid], k: u64) -> Option<PlanStep> {
+    plan_step(top, subs, k)
+}
+
 // The first steps of a commit of 32767 with a subtransaction 32768, the first id of the next page.
 fn steps() -> Result<[Option<PlanStep>; 4], Fail> {
     let top = FullXid::new(32767).ok_or("no id")?;
     let subs = [FullXid::new(32768).ok_or("no id")?];
     Ok([
-        plan_step(top, &subs, 0),
-        plan_step(top, &subs, 1),
-        plan_step(top, &subs, 2),
-        plan_step(top, &subs, 3),
+        step(top, &subs, 0),
+        step(top, &subs, 1),
+        step(top, &subs, 2),
+        step(top, &subs, 3),
     ])
 }
 

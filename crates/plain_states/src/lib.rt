@@ -5,7 +5,5 @@
 
 mod climb;
 mod id_states;
-#[cfg(test)]
-mod tests;
 
 pub use id_states::{IdState, IdStates};

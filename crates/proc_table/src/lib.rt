@@ -9,8 +9,6 @@ mod entries;
 mod entry;
 mod live;
 mod table;
-#[cfg(test)]
-mod tests;
 mod xmins;
 
 pub use answers::{Asked, Given};

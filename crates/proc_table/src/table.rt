@@ -247,9 +247,8 @@ impl ProcTable {
         Ok(copy)
     }
 
-    /// How often what a snapshot holds was computed.
-    #[cfg(test)]
-    pub(crate) fn computations(&self) -> u64 {
+    /// How often what a snapshot holds was computed, for tests: snapshots between which nothing ends share it.
+    pub fn computations(&self) -> u64 {
         self.computations
     }
 

@@ -3,7 +3,7 @@ ghost use Rattle.std.specs.Prelude.{◌≡◌, ℕ, ◌+◌, ◌<◌, IfSome};
 ghost use Rattle.std.specs.List.{All};
 ghost use Rattle.plain_states.specs.declared.id_states.IdState.{IdState};
 
-use crate::{IdState, IdStates};
+use plain_states::{IdState, IdStates};
 use std::process::Abort;
 use tx_events::{IdList, SnapData};
 use xid_order::FullXid;

@@ -4,7 +4,7 @@ ghost use Rattle.std.specs.List.{All};
 ghost use Rattle.tx_events.specs.Events.{by_of};
 ghost use Rattle.proc_table.specs.Table.{InTurn};
 
-use crate::{Asked, Given, ProcTable};
+use proc_table::{Asked, Given, ProcTable};
 use std::process::Abort;
 use tx_events::{By, Counters, Memory, Name, Refusal, SnapData, XactEnd, is_base};
 use xid_order::{FullMulti, FullXid};

@@ -3,7 +3,7 @@ use Rattle.std.proofs.lemmas.List.Elements.{All-from_recursion, recursion_from_A
 use Rattle.std.specs.List.{All, AllByRecursion}
 use Rattle.plain_states.specs.declared.id_states.IdState.{IdState}
 use Rattle.plain_states.specs.States.{with_commit}
-use Rattle.plain_states.proofs.tests.commit.Goals as goal
+use Rattle.table_tests.proofs.state_tests.commit.Goals as goal
 
 marked : (n : ℕ) (ids : List ℕ) (xs : List IdState) → AllByRecursion (λ (s : IdState). s.id < n) xs → AllByRecursion (λ (s : IdState). s.id < n) (map (with_commit ids) xs)
 marked n ids [] a = tt

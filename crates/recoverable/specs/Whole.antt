@@ -1,5 +1,5 @@
--- The law on all volumes at once: where the engine invariant holds, the life began clean and was short, the log's images
--- open to its list and each bank's show theirs, the volumes fit.
+-- The law on all volumes at once: where the engine invariant holds, the life began right and was short, and each image
+-- of a volume follows its list, over pages that showed the life's base, the volumes fit.
 use Rattle.std.specs.Prelude.{◌≡◌, ℕ, ◌+◌, ◌<◌, List, [], length, Option, IsTrue}
 use Rattle.xid_order.specs.Ids.{IsFullMulti}
 use Rattle.disk_core.specs.Pages.{Pages}

@@ -21,8 +21,8 @@ use Rattle.recoverable.specs.Whole.{BeganRight, Disks, IsShort, LeftOf}
 use Rattle.bank_follows.specs.Standing.{BankStands}
 use Rattle.bank_follows.specs.Stores.{IsMemberAt, IsOffsetAt, IsXactAt, member_cells, offset_cells, xact_cells}
 
--- The log's value: this is its log, of which each image has the records on disk, and the first record that is kept is one
--- at which the log may begin. `recs`, `next` and `kept` are `log_recs`, `log_next` and `log_first`.
+-- The log's value: this is its log, of which each image has the records on disk, and the first record that is kept is
+-- one at which the log may begin. `recs`, `next` and `kept` are `log_recs`, `log_next` and `log_first`.
 pub record LogHolds (start : Start) (es : List Entry) (log : KeptLog) (recs : List Rec) (next kept : ℕ)
     (images : Volume → Type 0) : Type 0 where
   pub is_of : LogOf start es log
@@ -30,25 +30,28 @@ pub record LogHolds (start : Start) (es : List Entry) (log : KeptLog) (recs : Li
   pub beginning : IsBeginningOf start es kept
 
 module _ {D : Type 0} (images : D → Pages → Type 0) (moment : D → ℕ) (left_at : D → ℕ → Pages → Type 0) where
-  -- A bank's value, whose pages, cutoff and last page are these: it stands for its list, over pages that showed the life's
-  -- base.
+  -- A bank's value, whose pages, cutoff and last page are these: it stands for its list, over pages that showed the
+  -- life's base.
   pub record XactHolds (start : Start) (bank : ℕ) (es : List Entry) (pages : ℕ → List ℕ) (cutoff last : ℕ)
       (d : D) : Type 0 where
     pub shown : ℕ → Option State
     pub clean : CleanStart start shown
-    pub stands : BankStands images moment left_at (xact_cells start shown) (IsXactAt start bank) es pages cutoff last d
+    pub stands :
+        BankStands images moment left_at (xact_cells start shown) (IsXactAt start bank) es pages cutoff last d
 
   pub record OffsetsHold (start : Start) (bank : ℕ) (es : List Entry) (pages : ℕ → List ℕ) (cutoff last : ℕ)
       (d : D) : Type 0 where
     pub shown : ℕ → Option StoredBytes
     pub clean : CleanOffsets start shown
-    pub stands : BankStands images moment left_at (offset_cells start shown) (IsOffsetAt start bank) es pages cutoff last d
+    pub stands :
+        BankStands images moment left_at (offset_cells start shown) (IsOffsetAt start bank) es pages cutoff last d
 
   pub record MembersHold (start : Start) (bank : ℕ) (es : List Entry) (pages : ℕ → List ℕ) (cutoff last : ℕ)
       (d : D) : Type 0 where
     pub shown : ℕ → Option StoredBytes
     pub clean : CleanMembers start shown
-    pub stands : BankStands images moment left_at (member_cells start shown) (IsMemberAt start bank) es pages cutoff last d
+    pub stands :
+        BankStands images moment left_at (member_cells start shown) (IsMemberAt start bank) es pages cutoff last d
     pub map_tails : HasZeroTails pages
     pub tails : (c : Pages) → images d c → ImageHasZeroTails c
 
@@ -74,7 +77,8 @@ disks_of engine = record {
   members = λ bank. (engine.members bank).disk;
 }
 
-module _ {L D : Type 0} (log_images : L → Volume → Type 0) (images : D → Pages → Type 0) (moment : D → ℕ) (left_at : D → ℕ → Pages → Type 0) where
+module _ {L D : Type 0} (log_images : L → Volume → Type 0) (images : D → Pages → Type 0) (moment : D → ℕ)
+    (left_at : D → ℕ → Pages → Type 0) where
   -- what the values of all locks hold
   pub record EngineHolds (start : Start) (lists : List (List Entry)) (log : KeptLog) (recs : List Rec) (next kept : ℕ)
       (engine : SeenEngine L D) : Type 0 where

@@ -50,7 +50,8 @@ module _ {D : Type 0} (images : D → Pages → Type 0) (moment : D → ℕ) (le
           → Stands (es ++ e ∷ []) (es ++ e ∷ []) new cutoff last before after
       -- `zero`
       pub makes : (page : ℕ) → e.kind ≡ kinds.Zero page → s.reading.store.items_of e ≡ [] → IsGivenPage s page
-          → MatchBool (stored_before s last (stored s page)) (PutsPage (stored s page) zero_page old new) (SameMap old new)
+          → MatchBool (stored_before s last (stored s page))
+          (PutsPage (stored s page) zero_page old new) (SameMap old new)
           → CrashLeaves (IsMixture old old) images moment left_at before after
           → Stands (es ++ e ∷ []) (es ++ e ∷ []) new cutoff (last_behind last page) before after
       -- `truncate`, also where it failed
@@ -69,7 +70,8 @@ module _ {D : Type 0} (images : D → Pages → Type 0) (moment : D → ℕ) (le
           → ((c : Pages) → left_at before (moment before) c → images before c)
           → BankStands es old cutoff last before → KeepsStanding es e old new cutoff last before after
       -- a bank that was just opened
-      pub opens : (pages : ℕ → List ℕ) (cutoff last : ℕ) (d : D) → IsOpened images moment left_at s Asked pages cutoff d
+      pub opens : (pages : ℕ → List ℕ) (cutoff last : ℕ) (d : D)
+          → IsOpened images moment left_at s Asked pages cutoff d
           → last ≡ stored s (s.reading.store.page_of s.reading.first) → BankStands [] pages cutoff last d
 
   -- the four stores; and of three of them what fit asks of the images
@@ -78,14 +80,17 @@ module _ {D : Type 0} (images : D → Pages → Type 0) (moment : D → ℕ) (le
     pub parents : KeepStanding (parent_cells start) (IsParentAt start bank)
     pub offsets : (shown : ℕ → Option StoredBytes) → KeepStanding (offset_cells start shown) (IsOffsetAt start bank)
     pub members : (shown : ℕ → Option StoredBytes) → KeepStanding (member_cells start shown) (IsMemberAt start bank)
-    pub states_left : (shown : ℕ → Option State) (es : List Entry) (pages : ℕ → List ℕ) (cutoff last : ℕ) (d : D) (c : Pages)
-        → CleanStart start shown → BankStands (xact_cells start shown) (IsXactAt start bank) es pages cutoff last d
+    pub states_left : (shown : ℕ → Option State) (es : List Entry) (pages : ℕ → List ℕ) (cutoff last : ℕ) (d : D)
+        (c : Pages) → CleanStart start shown
+        → BankStands (xact_cells start shown) (IsXactAt start bank) es pages cutoff last d
         → images d c → StatesLeft start bank es c
-    pub offsets_left : (shown : ℕ → Option StoredBytes) (es : List Entry) (pages : ℕ → List ℕ) (cutoff last : ℕ) (d : D) (c : Pages)
-        → CleanOffsets start shown → BankStands (offset_cells start shown) (IsOffsetAt start bank) es pages cutoff last d
+    pub offsets_left : (shown : ℕ → Option StoredBytes) (es : List Entry) (pages : ℕ → List ℕ) (cutoff last : ℕ) (d : D)
+        (c : Pages) → CleanOffsets start shown
+        → BankStands (offset_cells start shown) (IsOffsetAt start bank) es pages cutoff last d
         → images d c → OffsetsLeft start bank es c
-    pub members_left : (shown : ℕ → Option StoredBytes) (es : List Entry) (pages : ℕ → List ℕ) (cutoff last : ℕ) (d : D) (c : Pages)
-        → CleanMembers start shown → BankStands (member_cells start shown) (IsMemberAt start bank) es pages cutoff last d
+    pub members_left : (shown : ℕ → Option StoredBytes) (es : List Entry) (pages : ℕ → List ℕ) (cutoff last : ℕ) (d : D)
+        (c : Pages) → CleanMembers start shown
+        → BankStands (member_cells start shown) (IsMemberAt start bank) es pages cutoff last d
         → images d c → ImageHasZeroTails c → MembersLeft start bank es c
 
   abbrev pub BanksStand : Type 0

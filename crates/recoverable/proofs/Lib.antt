@@ -18,3 +18,4 @@ pub mod LogBegins
 pub mod WorkedLife
 pub mod LogSteps
 pub mod WorkedBank
+pub mod NewBegins

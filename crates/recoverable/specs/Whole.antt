@@ -1,12 +1,13 @@
--- The law on all volumes at once: where the engine invariant holds, the life began clean and was short, the log's images
--- open to its list and each bank's show theirs, the volumes fit.
-use Rattle.std.specs.Prelude.{◌≡◌, ℕ, ◌+◌, ◌<◌, List, [], length, Option, IsTrue}
+-- The law on all volumes at once: where the engine invariant holds, the life began right and was short, and each image
+-- of a volume follows its list, over pages that showed the life's base, the volumes fit.
+use Rattle.std.specs.Prelude.{◌≡◌, ℕ, ◌+◌, ◌<◌, List, [], length, Option, IsTrue, None}
 use Rattle.xid_order.specs.Ids.{IsFullMulti}
 use Rattle.disk_core.specs.Pages.{Pages}
 use Rattle.disk_core.specs.Volume.{Volume}
 use Rattle.wal_core.specs.Kept.{HasFlushed}
 use Rattle.tx_events.specs.Events.{given}
 use Rattle.tx_events.specs.Multis.{made}
+use Rattle.tx_events.specs.Base.{IsBase}
 use Rattle.notes.specs.Lists.{at}
 use Rattle.tx_core.specs.declared.entry.Entry.{Entry}
 use Rattle.tx_core.specs.declared.entry.Start.{Start}
@@ -43,6 +44,12 @@ pub record BeganClean (start : Start) (shown : Shown) : Type 0 where
   pub xact : CleanStart start shown.xact
   pub offsets : CleanOffsets start shown.offsets
   pub members : CleanMembers start shown.members
+
+-- Over new volumes, which show nothing, a life begins clean.
+abbrev pub NewBegins : Type 0
+NewBegins = (start : Start) → IsTrue start.told → IsFullMulti start.base.multi → IsBase start.base
+    → start.committed ≡ [] → start.recorded ≡ []
+    → BeganClean start (record { xact = λ x. None; offsets = λ x. None; members = λ x. None })
 
 -- so few ids and multixacts were given that no stored number came round
 pub record IsShort (lists : List (List Entry)) : Type 0 where

@@ -1,6 +1,6 @@
--- A worked life. Ids 3 and 4 were given, and multixact 1 of both, at offset 1; it was recorded, and 3 committed. The pages
--- were synced, checkpoint 3 was flushed, and the log was forgotten before it. Then 4 committed, and a crash came before
--- that was flushed. What it left fits, and wrong volumes don't.
+-- A worked life. Ids 3 and 4 were given, and multixact 1 of both, at offset 1; it was recorded, and 3 committed. The
+-- pages were synced, checkpoint 3 was flushed, and the log was forgotten before it. Then 4 committed, and a crash came
+-- before that was flushed. What it left fits, and wrong volumes don't.
 use Rattle.std.specs.Prelude.{ℕ, zero, suc, ◌-◌, List, [], ◌∷◌, ◌++◌, length, replicate, Some, None}
 use Rattle.disk_core.specs.Pages.{Pages}
 use Rattle.disk_core.specs.Volume.{Volume}
@@ -30,7 +30,12 @@ recs =
     ∷ records.Checkpoint 3 counters_at_3 ∷ records.Commit 4 [] ∷ []
 
 abbrev pub log : KeptLog
-log = record { base = record { counters = first_counters; committed = []; recorded = [] }; first = 0; recs = recs; flushed = 4 }
+log = record {
+  base = record { counters = first_counters; committed = []; recorded = [] };
+  first = 0;
+  recs = recs;
+  flushed = 4;
+}
 
 -- ---- what the crash left
 
@@ -43,7 +48,10 @@ checkpoint_bytes =
     ∷ 1 ∷ 0 ∷ 0 ∷ 0 ∷ 0 ∷ 0 ∷ 0 ∷ 0 ∷ 1 ∷ 0 ∷ 0 ∷ 0 ∷ 0 ∷ 0 ∷ 0 ∷ 0 ∷ []
 
 abbrev pub log_volume : ℕ → Volume
-log_volume gate = record { start = 160; bytes = replicate 160 0 ++ (1 ∷ 57 ∷ 0 ∷ 0 ∷ 0 ∷ checkpoint_bytes) ++ gate ∷ [] }
+log_volume gate = record {
+  start = 160;
+  bytes = replicate 160 0 ++ (1 ∷ 57 ∷ 0 ∷ 0 ∷ 0 ∷ checkpoint_bytes) ++ gate ∷ [];
+}
 
 -- a volume with one page, which begins with these bytes
 abbrev pub page_with : List ℕ → Pages

@@ -1,6 +1,6 @@
 ghost use Rattle.recoverable.specs.Laws.{ListFitsLaw, MayBeginLaw, XactFitsLaw, OffsetsShownLaw, OffsetsFitLaw, MembersFitLaw, NoStrayOffset};
 ghost use Rattle.recoverable.specs.Stored.{OffsetBytesShow, MemberBytesShow};
-ghost use Rattle.recoverable.specs.Whole.{ImageFitsLaw, LogBegins, VolumesFitLaw};
+ghost use Rattle.recoverable.specs.Whole.{ImageFitsLaw, LogBegins, NewBegins, VolumesFitLaw};
 ghost use Rattle.recoverable.specs.LogSteps.{LogGoesOn};
 ghost use Rattle.recoverable.specs.WorkedLife.{AreRefused, IsWorked};
 ghost use Rattle.recoverable.specs.WorkedBank.{WorkedBank};
@@ -62,6 +62,11 @@ pub fn image_fits()
 /// So the volumes fit, over any disks.
 pub fn volumes_fit<L: LogDisk, P: PageDisk>()
     ensures { VolumesFitLaw L.images P.images }
+{}
+
+/// Over new volumes a life begins clean (`BootStrapXLOG`).
+pub fn new_begins()
+    ensures { NewBegins }
 {}
 
 /// The log behind a recovery is as the next life's laws want it, before that life's first entry.

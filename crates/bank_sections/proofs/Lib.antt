@@ -9,3 +9,4 @@ pub mod StateSetting
 pub mod Uncut
 pub mod Unlinking
 pub mod Visiting
+pub mod Nearing

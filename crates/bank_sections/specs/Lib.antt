@@ -2,5 +2,4 @@ pub mod Refusals
 pub mod Sections
 pub mod Reads
 pub mod Sets
-pub mod Kept
 pub mod Parents

@@ -47,6 +47,7 @@ call_linked start v n s u m is done =
           turns = a.turns;
           stands = a.stands;
           clear = a.clear;
+          unaborted = a.unaborted;
           filed = record {
             linked = λ id c. ⊎_elim inl (λ t. inl (u.parent, subst (λ z. IsLinked start v.seen z u.parent) (subst (λ o. IsThe o id) is t) done)) (a.filed.linked id c);
             pending = tt;

@@ -2,7 +2,7 @@
 
 use std::sync::Wait;
 
-/// Waits for ever, where a call met what no life of near ids has, as a page of an open id that is cut.
+/// Waits for ever, where a call met what no life of few ids has, as a page of an open id that is cut.
 pub fn stall<R: Wait>(rt: &R)
     ensures { ⊥ }
 {

@@ -17,8 +17,8 @@ use tx_events::{Lock, Refusal};
 
 /// Records the parent of the id that the session was given last, where it isn't recorded yet (`SubTransSetParent` of
 /// `subtrans.c`): one critical section of a bank of pg_subtrans, or none. After a `DiskFault` it is still to be
-/// recorded. Waits for ever where the page is cut, which can't be as long as the life's ids are near. `banks` is the
-/// number of banks of each store.
+/// recorded. Waits for ever where the page is cut, which can't be in a life of few ids. `banks` is the number of banks
+/// of each store.
 pub fn record_parent<R: Wait, L: LogDisk, P: PageDisk>(
     rt: &R,
     hall: &Hall<EngineLaw<L, P>>,

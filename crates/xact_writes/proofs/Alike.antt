@@ -17,7 +17,7 @@ use Rattle.engine_parts.specs.declared.session.Stage.{Stage}
 use Rattle.engine_parts.specs.declared.session.Unlinked.{Unlinked}
 use Rattle.engine_parts.specs.Holds.{Knowledge}
 use Rattle.engine_parts.specs.Sessions.{IsFiled, MayCall, by_at}
-use Rattle.engine_parts.specs.Stages.{IsInStage, may_be_recorded}
+use Rattle.engine_parts.specs.Stages.{AreUnaborted, IsInStage, may_be_aborted, may_be_recorded}
 use Rattle.engine_parts.specs.Steps.{WentOn}
 use Rattle.proc_sections.specs.Givings.{GivesId, IsGivenIn, IsNamed, naming, unlinked_of}
 use Rattle.xact_writes.specs.Writes.{HasReserved, IsAlike, IsGivenLater}
@@ -53,6 +53,7 @@ call_alike start v n s s' m k =
               (λ j. ((sym l.commands j, sym l.opened j), ((sym l.named j, sym l.unnamed j), sym (ap (λ z. z.items) l.registered) j)))
               (stood start.base h n s.levels.commands s.levels a.stands));
           clear = λ q. a.clear (ap may_be_recorded (sym k.stage) ∙ q);
+          unaborted = λ q. subst (AreUnaborted v.seen n) (sym l.opened) (a.unaborted (ap may_be_aborted (sym k.stage) ∙ q));
           filed = subst (λ (z : List ℕ × Option Unlinked). IsFiled start v.seen n z.0 z.1) (λ j. (sym l.opened j, sym k.unlinked j)) a.filed;
         };
       };

@@ -6,6 +6,7 @@ ghost use Rattle.notes.specs.Lists.{at};
 ghost use Rattle.tx_core.specs.declared.entry.Kind.TheVariants as kinds;
 ghost use Rattle.tx_core.specs.Laws.{StaysBase};
 ghost use Rattle.tx_core.specs.Locks.{log_lock};
+ghost use Rattle.tx_core.specs.StaysDown.{IsUp};
 ghost use Rattle.engine_parts.specs.declared.session.Stage.TheVariants as stages;
 ghost use Rattle.engine_parts.specs.Holds.{Leaves};
 ghost use Rattle.engine_parts.specs.Parts.{IsLogOf};
@@ -45,8 +46,10 @@ fn leave_appended<L: LogDisk, P: PageDisk>(
     requires inside { (view caller.old.pass).stage ≡ Inside log_lock }
     requires cell { caller.old.pass.cell ≡ log_lock }
     requires at { IsAt (start_of hall.now) (view caller.old.pass) caller.old.number caller.old.session }
+    requires clear { caller.old.session.stage ≡ stages.Clear }
     requires linked { caller.old.session.unlinked ≡ None }
     requires record { IsCommitOf caller.old.session.levels.open_ids.items rec.now }
+    requires up { IsUp (at (view caller.old.pass).seen log_lock) }
     requires unasked { AreUnasked (view caller.old.pass).seen caller.old.number
         caller.old.session.levels.open_ids.items }
     requires base { StaysBase (start_of hall.now) (view caller.old.pass).seen rec.now }

@@ -19,7 +19,7 @@ leave_quiet-requires-clause-quiet g c = (ap event_of c.flush_fault_note-entry.en
 
 pub leave_quiet-requires-clause-may : goal.leave_quiet-requires-clause-may
 leave_quiet-requires-clause-may g c =
-    may_fail_flush (start_of c.args.hall.now) (view c.args.caller.now.pass).seen (by_at c.args.caller.now.number c.args.caller.now.session.levels.commands) (g.L.LogDisk.faults (log_disk c.args.log)) c.flush_fault_note-entry.result.value c.flush_fault_note-entry.ensures (c.requires.at.turns log_lock)
+    may_fail_flush (start_of c.args.hall.now) (view c.args.caller.now.pass).seen (by_at c.args.caller.now.number c.args.caller.now.session.levels.commands) (g.L.LogDisk.faults (log_disk c.args.log)) c.flush_fault_note-entry.result.value c.requires.up c.requires.risen c.flush_fault_note-entry.ensures (c.requires.at.turns log_lock)
 
 pub leave_quiet-requires-clause-stands : goal.leave_quiet-requires-clause-stands
 leave_quiet-requires-clause-stands g c =

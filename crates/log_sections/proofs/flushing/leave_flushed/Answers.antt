@@ -18,7 +18,7 @@ leave_quiet-requires-clause-quiet g c = (ap event_of c.flush_note-entry.ensures,
 
 pub leave_quiet-requires-clause-may : goal.leave_quiet-requires-clause-may
 leave_quiet-requires-clause-may g c =
-    may_flush (start_of c.args.hall.now) (view c.args.caller.now.pass).seen c.args.to (by_at c.args.caller.now.number c.args.caller.now.session.levels.commands) c.flush_note-entry.result.value c.requires.within c.flush_note-entry.ensures (c.requires.at.turns log_lock)
+    may_flush (start_of c.args.hall.now) (view c.args.caller.now.pass).seen c.args.to (by_at c.args.caller.now.number c.args.caller.now.session.levels.commands) c.flush_note-entry.result.value c.requires.rises c.requires.within c.requires.up c.flush_note-entry.ensures (c.requires.at.turns log_lock)
 
 pub leave_quiet-requires-clause-stands : goal.leave_quiet-requires-clause-stands
 leave_quiet-requires-clause-stands g c =

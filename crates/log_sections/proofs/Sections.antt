@@ -122,19 +122,24 @@ log_refused why n down other = ⊎_elim (λ (q : why ≡ refused.Full). cc) (λ 
 pub base_of_log : {D : Type 0} {g : logs.Ghosts D} (start : Start) (log : WalLog D g) (es : List Entry) (rec : Rec) → IsLogOf start log es → IsBase (after_record (counters_or_none (log_counters log)) rec) → IsBase (after_record (counters_after start es) rec)
 base_of_log start log es rec s base = subst (λ (o : Option Counters). IsBase (after_record (counters_or_none o) rec)) s.counters_are base
 
--- a lawful commit record with which the counters are a base may come next
-pub may_come : {D : Type 0} {g : logs.Ghosts D} (start : Start) (log : WalLog D g) (u w : Knowledge) (opened : List ℕ) (rec : Rec) (e : Entry) → IsLogOf start log (at u.seen log_lock) → IsCommitOf opened rec → log_lock < length u.seen → appended e ≡ None → Leaves start log_lock e u w → IsLawful rec → StaysBase start w.seen rec
+-- a lawful record with which the counters are a base may come next, where its number fits
+pub may_follow : {D : Type 0} {g : logs.Ghosts D} (start : Start) (log : WalLog D g) (u w : Knowledge) (rec : Rec) (e : Entry) → IsLogOf start log (at u.seen log_lock) → IsTrue (number_fits (log_next log) rec) → log_lock < length u.seen → appended e ≡ None → Leaves start log_lock e u w → IsLawful rec → StaysBase start w.seen rec
     → MayAppend (log_counters log) (log_next log) rec
-may_come start log u w opened rec e s r inside none l lawful base =
+may_follow start log u w rec e s fits inside none l lawful base =
     let es = at u.seen log_lock in
     let same : counters_after start (at w.seen log_lock) ≡ counters_after start es = ap (λ (z : List (List Entry)). counters_after start (at z log_lock)) l.seen ∙ (ap (λ (t : List Entry). counters_after start t) (at_here u.seen log_lock e inside) ∙ ap (after_records start.base) (recs_same es e none)) in
     let before : IsBase (after_record (counters_after start es) rec) = subst (λ (c : Counters). IsBase (after_record c rec)) same base in
     record {
       lawful = lawful;
       first = λ missing. absurd (false≢true (sym (subst IsNone s.counters_are missing)));
-      fits = subst (λ (z : Rec). IsTrue (number_fits (log_next log) z)) (sym r.is) refl;
+      fits = fits;
       base = subst (λ (o : Option Counters). IsBase (after_record (counters_or_none o) rec)) (sym s.counters_are) before;
     }
+
+-- so a commit record
+pub may_come : {D : Type 0} {g : logs.Ghosts D} (start : Start) (log : WalLog D g) (u w : Knowledge) (opened : List ℕ) (rec : Rec) (e : Entry) → IsLogOf start log (at u.seen log_lock) → IsCommitOf opened rec → log_lock < length u.seen → appended e ≡ None → Leaves start log_lock e u w → IsLawful rec → StaysBase start w.seen rec
+    → MayAppend (log_counters log) (log_next log) rec
+may_come start log u w opened rec e s r inside none l lawful base = may_follow start log u w rec e s (subst (λ (z : Rec). IsTrue (number_fits (log_next log) z)) (sym r.is) refl) inside none l lawful base
 
 -- what the log refused an append for
 pub append_refused : (start : Start) (lists : List (List Entry)) (why : LogRefusal) (r : Refusal) → IsRefusalOf why r → (why ≡ refused.LogFault → ⊥) → ((down : ℕ) → why ≡ refused.LogDown down → IsDownAt start (at lists log_lock) down) → ((why ≡ refused.Full) ⊎ (why ≡ refused.Memory) → IsUp (at lists log_lock)) → IsAppendRefused start lists r

@@ -40,6 +40,13 @@ pub record IsCommitOf (opened : List ℕ) (rec : Rec) : Type 0 where
   pub is : rec ≡ records.Commit top subs
   pub ids : opened ≡ top ∷ subs
 
+-- it is their abort record
+pub record IsAbortOf (opened : List ℕ) (rec : Rec) : Type 0 where
+  pub top : ℕ
+  pub subs : List ℕ
+  pub is : rec ≡ records.Abort top subs
+  pub ids : opened ≡ top ∷ subs
+
 -- Why no record was appended: the log is down behind a fault of its list. Or it isn't, and is full, or memory was
 -- wanting.
 abbrev pub IsAppendRefused : Start → List (List Entry) → Refusal → Type 0
@@ -54,6 +61,12 @@ abbrev pub Appends : Start → List (List Entry) → Rec → Session → Session
 Appends start lists rec s s' (Ok (came.At number)) = s' ≡ record s { stage = stages.Logged number }
 Appends start lists rec s s' (Ok came.NoBase) = (s' ≡ s) × (IsLawful rec → StaysBase start lists rec → ⊥)
 Appends start lists rec s s' (Err r) = (s' ≡ s) × IsAppendRefused start lists r
+
+-- An abort record stands. Or after it, if it is lawful, the log's counters would be no base, or the log refused it.
+abbrev pub TakesAbort : Start → List (List Entry) → Rec → Result Appended Refusal → Type 0
+TakesAbort start lists rec (Ok (came.At number)) = Unit {0}
+TakesAbort start lists rec (Ok came.NoBase) = IsLawful rec → StaysBase start lists rec → ⊥
+TakesAbort start lists rec (Err r) = IsAppendRefused start lists r
 
 -- the critical section: its entry is the record that was appended, or a look
 abbrev pub AppendSection : Start → By → Rec → Knowledge → Knowledge → Result Appended Refusal → Type 0

@@ -339,6 +339,7 @@ module _ {H L P : Type 0} {l : logs.Ghosts L} {p : disks.Ghosts P} (hall : Hall 
               snaps = a.stands.snaps;
             };
             clear = λ q top subs appended opened. no_top top subs (sym none ∙ (sym a.stands.opened ∙ opened));
+            unaborted = λ q id k. absurd (contains_none id (subst (λ (o : List ℕ). Contains o id) none k));
             filed = a.filed;
           };
         };

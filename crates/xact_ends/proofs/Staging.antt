@@ -9,13 +9,13 @@ use Rattle.engine_parts.specs.declared.session.Stage.TheVariants as stages
 use Rattle.engine_parts.specs.declared.session.Unlinked.{Unlinked}
 use Rattle.engine_parts.specs.Holds.{Knowledge}
 use Rattle.engine_parts.specs.Sessions.{IsReady, IsThe, MayCall}
-use Rattle.engine_parts.specs.Stages.{IsInStage, IsSettling, may_be_recorded}
+use Rattle.engine_parts.specs.Stages.{IsInStage, IsSettling, may_be_aborted, may_be_recorded}
 use Rattle.engine_parts.specs.Steps.{WentOn}
 use Rattle.engine_parts.proofs.Going.{stage_later}
 
 -- a session that goes on to a stage in which no more is asked of its records
-pub ready_staged : (start : Start) (v : Knowledge) (n : ℕ) (s : Session) (stage : Stage) → (may_be_recorded stage ≡ false → may_be_recorded s.stage ≡ false) → IsReady start v n s → IsReady start v n (record s { stage = stage })
-ready_staged start v n s stage alike r =
+pub ready_staged : (start : Start) (v : Knowledge) (n : ℕ) (s : Session) (stage : Stage) → (may_be_recorded stage ≡ false → may_be_recorded s.stage ≡ false) → (may_be_aborted stage ≡ false → may_be_aborted s.stage ≡ false) → IsReady start v n s → IsReady start v n (record s { stage = stage })
+ready_staged start v n s stage recorded aborted r =
     let a = r.at in record {
       free = r.free;
       at = record {
@@ -26,18 +26,19 @@ ready_staged start v n s stage alike r =
         wide = a.wide;
         turns = a.turns;
         stands = a.stands;
-        clear = λ q. a.clear (alike q);
+        clear = λ q. a.clear (recorded q);
+        unaborted = λ q. a.unaborted (aborted q);
         filed = a.filed;
       };
     }
 
 -- and may call where the lists say so
-pub call_staged : (start : Start) (v : Knowledge) (n : ℕ) (s : Session) (stage : Stage) → (may_be_recorded stage ≡ false → may_be_recorded s.stage ≡ false) → IsReady start v n s → IsInStage start v.seen n s.levels.open_ids.items stage → MayCall start v n (record s { stage = stage })
-call_staged start v n s stage alike r i = record { ready = ready_staged start v n s stage alike r; stage = i }
+pub call_staged : (start : Start) (v : Knowledge) (n : ℕ) (s : Session) (stage : Stage) → (may_be_recorded stage ≡ false → may_be_recorded s.stage ≡ false) → (may_be_aborted stage ≡ false → may_be_aborted s.stage ≡ false) → IsReady start v n s → IsInStage start v.seen n s.levels.open_ids.items stage → MayCall start v n (record s { stage = stage })
+call_staged start v n s stage recorded aborted r i = record { ready = ready_staged start v n s stage recorded aborted r; stage = i }
 
 -- so many steps are done
-pub call_settled : (start : Start) (v : Knowledge) (n : ℕ) (s : Session) (steps : ℕ) → IsReady start v n s → IsSettling start v.seen n s.levels.open_ids.items steps → MayCall start v n (record s { stage = stages.Settling steps })
-call_settled start v n s steps r g = call_staged start v n s (stages.Settling steps) (λ q. absurd (false≢true (sym q))) r g
+pub call_settled : (start : Start) (v : Knowledge) (n : ℕ) (s : Session) (steps : ℕ) → may_be_aborted s.stage ≡ false → IsReady start v n s → IsSettling start v.seen n s.levels.open_ids.items steps → MayCall start v n (record s { stage = stages.Settling steps })
+call_settled start v n s steps clear r g = call_staged start v n s (stages.Settling steps) (λ q. absurd (false≢true (sym q))) (λ q. clear) r g
 
 -- a session that went on asking for no state
 pub call_went : (start : Start) (v w : Knowledge) (n n' : ℕ) (s s' : Session) → MayCall start v n s → WentOn n [] v.seen w.seen → s' ≡ s → n' ≡ n → IsReady start w n' s' → MayCall start w n' s'
@@ -65,6 +66,7 @@ call_linked start v n s u is linked m =
           turns = a.turns;
           stands = a.stands;
           clear = a.clear;
+          unaborted = a.unaborted;
           filed = record {
             linked = λ id c. inl (⊎_elim (λ old. old)
                 (λ missing. (u.parent, subst (λ z. IsLinked start v.seen z u.parent) (subst (λ (o : Option Unlinked). IsThe o id) is missing) linked))

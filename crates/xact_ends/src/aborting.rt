@@ -1,23 +1,29 @@
-//! The states of an abort are set, page by page.
-ghost use Rattle.std.specs.Prelude.{◌≡◌, ℕ, ◌+◌, ◌*◌, ◌<◌, ◌≤◌, false, length};
+//! An abort: its record, the states of its ids, page by page, and the end.
+ghost use Rattle.std.specs.Prelude.{◌≡◌, ℕ, ◌+◌, ◌*◌, ◌<◌, ◌≤◌, [], false, IfOk, length};
 ghost use Rattle.hall.specs.Calls.{view, IsOf, start_of};
 ghost use Rattle.engine_parts.specs.declared.session.Stage.TheVariants as stages;
 ghost use Rattle.engine_parts.specs.Sessions.{MayCall};
 ghost use Rattle.engine_parts.specs.Stages.{may_be_recorded};
+ghost use Rattle.engine_parts.specs.Steps.{GoesOn};
+ghost use Rattle.log_sections.specs.LogSections.{IsAbortOf};
 ghost use Rattle.xact_ends.specs.Aborts.{Aborts, IsOnePage, SetsAborted};
 
+use crate::committing::id_list;
 use crate::waiting::stall;
 use bank_sections::set_page;
 use disk_core::{LogDisk, PageDisk};
 use engine_parts::{Caller, EngineLaw, Stage};
 use hall::Hall;
+use log_sections::append_abort;
 use pg_xact_log::run_end;
 use proc_sections::end_transaction;
 use slru_bank::BankRefusal;
+use std::alloc::Global;
 use std::sync::Wait;
 use store_pages::xact_page;
 use tx_core::State;
-use tx_events::{Lock, Refusal, XactEnd};
+use tx_events::{Lock, Memory, Rec, Refusal, XactEnd};
+use xid_order::FullXid;
 
 /// Sets the open ids from the `first` one to before the `past` one aborted, which lie on one page.
 fn set_run<R: Wait, L: LogDisk, P: PageDisk>(
@@ -86,11 +92,73 @@ fn set_aborted<R: Wait, L: LogDisk, P: PageDisk>(
     Ok(())
 }
 
-/// Aborts a transaction that has an id: from here on its abort is pending, until it is over.
+/// The abort record of these open ids.
+fn record_of(alloc: Global, opened: &[FullXid]) -> Result<Rec, Memory>
+    requires { 1 ≤ length opened.now }
+    ensures { IfOk result (λ rec. IsAbortOf opened.now rec) }
+{
+    let top = opened[0];
+    let subs = id_list(alloc, &opened[1..])?;
+    Ok(Rec::Abort { top, subs })
+}
+
+/// Appends the abort record, where there is memory for it and the log takes it: an abort goes on without one.
+fn log_abort<R: Wait, L: LogDisk, P: PageDisk>(
+    rt: &R,
+    hall: &Hall<EngineLaw<L, P>>,
+    caller: &mut Caller<L, P>,
+    alloc: Global,
+)
+    requires own { IsOf hall.now caller.old.pass }
+    requires laid { hall.now.cells ≡ 3 + 4 * (start_of hall.now).banks }
+    requires may { MayCall (start_of hall.now) (view caller.old.pass) caller.old.number caller.old.session }
+    requires pending { caller.old.session.stage ≡ stages.Aborting }
+    requires some { 1 ≤ length caller.old.session.levels.open_ids.items }
+    ensures own { IsOf hall.now caller.new.pass }
+    ensures may { MayCall (start_of hall.now) (view caller.new.pass) caller.new.number caller.new.session }
+    ensures goes { GoesOn caller.old.number [] (view caller.old.pass).seen (view caller.new.pass).seen }
+    ensures same { (caller.new.session ≡ caller.old.session) × (caller.new.number ≡ caller.old.number) }
+{
+    match record_of(alloc, &caller.session.levels.open_ids) {
+        Ok(rec) => {
+            let _appended = append_abort(rt, hall, caller, &rec);
+            return;
+        }
+        Err(Memory) => return,
+    }
+}
+
+/// From here on the session's abort is pending. The record is appended where none was begun.
+fn start_abort<R: Wait, L: LogDisk, P: PageDisk>(
+    rt: &R,
+    hall: &Hall<EngineLaw<L, P>>,
+    caller: &mut Caller<L, P>,
+    alloc: Global,
+)
+    requires own { IsOf hall.now caller.old.pass }
+    requires laid { hall.now.cells ≡ 3 + 4 * (start_of hall.now).banks }
+    requires may { MayCall (start_of hall.now) (view caller.old.pass) caller.old.number caller.old.session }
+    requires stage { may_be_recorded caller.old.session.stage ≡ false }
+    requires some { 1 ≤ length caller.old.session.levels.open_ids.items }
+    ensures own { IsOf hall.now caller.new.pass }
+    ensures may { MayCall (start_of hall.now) (view caller.new.pass) caller.new.number caller.new.session }
+    ensures goes { GoesOn caller.old.number [] (view caller.old.pass).seen (view caller.new.pass).seen }
+    ensures session { caller.new.session ≡ record caller.old.session { stage = stages.Aborting } }
+    ensures number { caller.new.number ≡ caller.old.number }
+{
+    if let Stage::Aborting = caller.session.stage {
+        return;
+    }
+    caller.session.stage = Stage::Aborting;
+    log_abort(rt, hall, caller, alloc);
+}
+
+/// Aborts a transaction that has an id.
 pub(crate) fn abort_named<R: Wait, L: LogDisk, P: PageDisk>(
     rt: &R,
     hall: &Hall<EngineLaw<L, P>>,
     caller: &mut Caller<L, P>,
+    alloc: Global,
     banks: u32,
 ) -> Result<(), Refusal>
     requires own { IsOf hall.now caller.old.pass }
@@ -105,7 +173,7 @@ pub(crate) fn abort_named<R: Wait, L: LogDisk, P: PageDisk>(
         (view caller.old.pass).seen (view caller.new.pass).seen result }
     ensures number { caller.new.number ≡ caller.old.number }
 {
-    caller.session.stage = Stage::Aborting;
+    start_abort(rt, hall, caller, alloc);
     match set_aborted(rt, hall, caller, banks) {
         Ok(()) => {
             end_transaction(rt, hall, caller, XactEnd::Abort);

@@ -15,6 +15,7 @@ use disk_core::{LogDisk, PageDisk};
 use engine_parts::{Caller, EngineLaw, Stage};
 use hall::Hall;
 use session_levels::depth;
+use std::alloc::Global;
 use std::sync::Wait;
 use tx_events::Refusal;
 
@@ -33,6 +34,7 @@ fn abort_open<R: Wait, L: LogDisk, P: PageDisk>(
     rt: &R,
     hall: &Hall<EngineLaw<L, P>>,
     caller: &mut Caller<L, P>,
+    alloc: Global,
     banks: u32,
 ) -> Result<(), Refusal>
     requires own { IsOf hall.now caller.old.pass }
@@ -48,20 +50,21 @@ fn abort_open<R: Wait, L: LogDisk, P: PageDisk>(
         close_idless(caller);
         return Ok(());
     }
-    abort_named(rt, hall, caller, banks)
+    abort_named(rt, hall, caller, alloc, banks)
 }
 
-/// Aborts the session's transaction (`AbortTransaction` of `src/backend/access/transam/xact.c`): the states of all open
-/// ids are set aborted, page by page, and then the transaction counts as ended. It has no record in the log: behind a crash
-/// an id without a commit record counts as aborted too. An abort that a fault stopped is begun anew, and one without an id
-/// ends at once; an undo that was begun ends with it. Takes no memory.
+/// Aborts the session's transaction (`AbortTransaction` of `src/backend/access/transam/xact.c`): its record is appended,
+/// unflushed, where there is memory for it and the log takes it; the states of all open ids are set aborted, page by
+/// page; and then the transaction counts as ended. An abort that a fault stopped sets all states anew and appends no
+/// second record, an undo that was begun ends with it, and one without an id ends at once.
 ///
-/// Refused, in this order, with `NoTransaction` where no transaction is open, with `CommitPending` where its commit record
-/// may stand, and with `DiskFault` of pg_xact. The session has run fewer than 2^48 commands.
+/// Refused, in this order, with `NoTransaction` where no transaction is open, with `CommitPending` where its commit
+/// record may stand, and with `DiskFault` of pg_xact. The session has run fewer than 2^48 commands.
 pub fn abort<R: Wait, L: LogDisk, P: PageDisk>(
     rt: &R,
     hall: &Hall<EngineLaw<L, P>>,
     caller: &mut Caller<L, P>,
+    alloc: Global,
     banks: u32,
 ) -> Result<(), Refusal>
     requires { MayRun hall.now banks caller.old }
@@ -75,5 +78,5 @@ pub fn abort<R: Wait, L: LogDisk, P: PageDisk>(
     if is_recorded(caller.session.stage) {
         return Err(Refusal::CommitPending);
     }
-    abort_open(rt, hall, caller, banks)
+    abort_open(rt, hall, caller, alloc, banks)
 }

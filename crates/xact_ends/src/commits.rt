@@ -49,9 +49,9 @@ fn commit_anew<R: Wait, L: LogDisk, P: PageDisk>(
 /// without an id ends at once.
 ///
 /// Refused, in this order, with `NoTransaction` where no transaction is open, and with `AbortPending` or `UndoPending`
-/// where another end was begun. Then, before the record, with `DiskFault` of pg_subtrans, `Memory`, `Full` or `LogDown`;
-/// before it is on disk with `LogFault` or `LogDown`; and behind that with `DiskFault` of pg_xact. The session has run
-/// fewer than 2^48 commands.
+/// where another end was begun. Then, before the record is appended, with `DiskFault` of pg_subtrans, `Memory`, `Full`
+/// or `LogDown`; before it is on disk with `LogFault` or `LogDown`; and behind that with `DiskFault` of pg_xact. The
+/// session has run fewer than 2^48 commands.
 pub fn commit<R: Wait, L: LogDisk, P: PageDisk>(
     rt: &R,
     hall: &Hall<EngineLaw<L, P>>,

@@ -75,7 +75,8 @@ pub(crate) fn flush_and_finish<R: Wait, L: LogDisk, P: PageDisk>(
     }
 }
 
-fn id_list(alloc: Global, ids: &[FullXid]) -> Result<IdList, Memory>
+/// These ids in a list of their own.
+pub(crate) fn id_list(alloc: Global, ids: &[FullXid]) -> Result<IdList, Memory>
     ensures { IfOk result (λ list. list ≡ ids.now) }
 {
     let mut list = IdList::new(alloc);

@@ -1,33 +1,49 @@
-use Rattle.std.proofs.Common.{◌≡◌, ℕ, ◌≤◌, ap, ◌∙◌, subst, sym, refl, length}
+use Rattle.std.proofs.Common.{◌≡◌, ℕ, ◌≤◌, [], ap, ◌∙◌, subst, sym, refl, length}
 use Rattle.hall.specs.Calls.{view, start_of}
+use Rattle.tx_events.specs.declared.event.By.{By}
 use Rattle.tx_events.specs.declared.xact_end.XactEnd.TheVariants as ends
 use Rattle.engine_parts.specs.declared.session.Session.{Session}
-use Rattle.engine_parts.specs.declared.session.Stage.TheVariants as stages
+use Rattle.engine_parts.specs.Sessions.{by_at}
+use Rattle.engine_parts.specs.Stages.{may_be_recorded}
+use Rattle.engine_parts.specs.Steps.{GoesOn}
+use Rattle.engine_parts.proofs.Stepping.{goes_then}
+use Rattle.xact_ends.specs.Stops.{IsXactFault}
 use Rattle.xact_ends.proofs.Aborted.{may_end_aborted}
 use Rattle.xact_ends.proofs.Finishing.{finished_then}
-use Rattle.xact_ends.proofs.Staging.{call_staged}
 use Rattle.xact_ends.proofs.aborting.abort_named.Goals as goal
 
-pub set_aborted-requires-clause-may : goal.set_aborted-requires-clause-may
-set_aborted-requires-clause-may g c = call_staged (start_of c.args.hall.now) (view c.args.caller.now.pass) c.args.caller.now.number c.args.caller.now.session stages.Aborting (λ q. c.requires.stage) c.requires.may.ready tt
-
 pub end_transaction-requires-clause-some : goal.end_transaction-requires-clause-some
-end_transaction-requires-clause-some g c = subst (λ (z : Session). 1 ≤ length z.levels.open_ids.items) (sym c.in-Ok.ensures.sets.1) c.requires.some
+end_transaction-requires-clause-some g c = subst (λ (z : Session). 1 ≤ length z.levels.open_ids.items) (sym (c.in-Ok.ensures.sets.1 ∙ c.start_abort.ensures.session)) c.requires.some
 
 pub end_transaction-requires-clause-end : goal.end_transaction-requires-clause-end
 end_transaction-requires-clause-end g c =
     let x = c.in-Ok.ensures.sets in
-    let s = c.args.caller.now.session in
-    may_end_aborted (start_of c.args.hall.now) (view c.set_aborted.new.caller.pass).seen (record s { stage = stages.Aborting }) c.set_aborted.new.caller.session x.1 refl x.2
+    let t = c.start_abort.new.caller in
+    may_end_aborted (start_of c.args.hall.now) (view c.set_aborted.new.caller.pass).seen t.session c.set_aborted.new.caller.session x.1 (ap (λ (z : Session). may_be_recorded z.stage) c.start_abort.ensures.session) x.2
 
 pub returns-in-Ok-clause-aborts : goal.returns-in-Ok-clause-aborts
 returns-in-Ok-clause-aborts g c =
     let x = c.in-Ok.ensures.sets in
+    let n = c.args.caller.now.number in
+    let a = c.start_abort.new.caller in
     let t = c.set_aborted.new.caller in
-    finished_then c.args.caller.now.number t.number ends.Abort c.args.caller.now.session t.session c.end_transaction.new.caller.session (view c.args.caller.now.pass).seen (view t.pass).seen (view c.end_transaction.new.caller.pass).seen
-    c.set_aborted.ensures.number (ap (λ (z : Session). z.levels) x.1) x.0 c.end_transaction.ensures.ended
+    let first = (view c.args.caller.now.pass).seen in
+    let mid = (view a.pass).seen in
+    let more = (view t.pass).seen in
+    finished_then n t.number ends.Abort c.args.caller.now.session t.session c.end_transaction.new.caller.session first more (view c.end_transaction.new.caller.pass).seen
+    (c.set_aborted.ensures.number ∙ c.start_abort.ensures.number) (ap (λ (z : Session). z.levels) (x.1 ∙ c.start_abort.ensures.session))
+    (goes_then n [] [] first mid more c.start_abort.ensures.goes (subst (λ z. GoesOn z [] mid more) c.start_abort.ensures.number x.0)) c.end_transaction.ensures.ended
 
 pub returns-in-Err-clause-aborts : goal.returns-in-Err-clause-aborts
 returns-in-Err-clause-aborts g c =
     let x = c.in-Err.ensures.sets in
-    (x.0, ap (λ (z : Session). z.levels) x.1, ap (λ (z : Session). z.stage) x.1, x.2)
+    let n = c.args.caller.now.number in
+    let a = c.start_abort.ensures in
+    let first = (view c.args.caller.now.pass).seen in
+    let mid = (view c.start_abort.new.caller.pass).seen in
+    let more = (view c.set_aborted.new.caller.pass).seen in (
+      goes_then n [] [] first mid more a.goes (subst (λ z. GoesOn z [] mid more) a.number x.0),
+      ap (λ (z : Session). z.levels) (x.1 ∙ a.session),
+      ap (λ (z : Session). z.stage) (x.1 ∙ a.session),
+      subst (λ (b : By). IsXactFault more b c.in-Err.refusal) (λ j. by_at (a.number j) (a.session j).levels.commands) x.2,
+    )

@@ -4,6 +4,7 @@ use Rattle.engine_parts.specs.declared.session.Session.{Session}
 use Rattle.engine_parts.specs.declared.session.Stage.{Stage}
 use Rattle.engine_parts.specs.declared.session.Stage.TheVariants as stages
 use Rattle.engine_parts.specs.Sessions.{by_at}
+use Rattle.engine_parts.specs.Stages.{may_be_aborted}
 use Rattle.xact_ends.specs.Stops.{Stops}
 use Rattle.xact_ends.proofs.Finishing.{commits_then, flush_stops, flushed_settling, logged_at, number_stands, stops_flushed}
 use Rattle.xact_ends.proofs.Staging.{call_settled}
@@ -23,8 +24,9 @@ finish-requires-clause-may g c =
     let t = c.flush_log.new.caller in
     let w = view t.pass in
     let m = c.flush_log.ensures.may in
-    let l = logged_at start w t.number c.args.number t.session m (ap (λ (z : Session). z.stage) c.flush_log.ensures.same.0 ∙ c.requires.stage) in
-    call_settled start w t.number t.session 0 m.ready (flushed_settling start w.seen t.number c.args.number t.session.levels.open_ids.items l c.in-Ok.ensures.flushes)
+    let stage : t.session.stage ≡ stages.Logged c.args.number = ap (λ (z : Session). z.stage) c.flush_log.ensures.same.0 ∙ c.requires.stage in
+    let l = logged_at start w t.number c.args.number t.session m stage in
+    call_settled start w t.number t.session 0 (ap may_be_aborted stage) m.ready (flushed_settling start w.seen t.number c.args.number t.session.levels.open_ids.items l c.in-Ok.ensures.flushes)
 
 pub returns-in-Ok-clause-commits : goal.returns-in-Ok-clause-commits
 returns-in-Ok-clause-commits g c =

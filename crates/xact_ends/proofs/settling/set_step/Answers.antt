@@ -8,7 +8,7 @@ use Rattle.tx_core.specs.declared.entry.State.{State}
 use Rattle.engine_parts.specs.declared.session.Session.{Session}
 use Rattle.engine_parts.specs.declared.session.Stage.TheVariants as stages
 use Rattle.pg_xact_log.specs.Steps.{step_first, step_ids}
-use Rattle.engine_parts.specs.Stages.{IsSettling}
+use Rattle.engine_parts.specs.Stages.{IsSettling, may_be_aborted}
 use Rattle.bank_sections.specs.Sets.{AsksOnly, MaySet}
 use Rattle.xact_ends.specs.Trees.{IsStepState}
 use Rattle.xact_ends.proofs.Finishing.{settling_at}
@@ -92,7 +92,7 @@ returns-in-Ok-clause-may g c =
     let more = settled_more start v.seen n s.levels.open_ids.items k settling p at_step w.seen c.entered.result c.entered.ensures e.goes.grows
     (λ id m. c.in-Ok.ensures.set id (subst (λ (l : List ℕ). Contains l id) (sym same) m))
     (subst (λ (l : List ℕ). AsksOnly n l c.entered.result v.seen w.seen) same e.asks) in
-    call_settled start w t.number t.session (k + 1) e.ready (subst (λ (z : ℕ × List ℕ). IsSettling start w.seen z.0 z.1 (k + 1)) (λ j. (sym e.same.1 j, (sym e.same.0 j).levels.open_ids.items)) more)
+    call_settled start w t.number t.session (k + 1) (ap (λ (z : Session). may_be_aborted z.stage) e.same.0 ∙ ap may_be_aborted c.requires.stage) e.ready (subst (λ (z : ℕ × List ℕ). IsSettling start w.seen z.0 z.1 (k + 1)) (λ j. (sym e.same.1 j, (sym e.same.0 j).levels.open_ids.items)) more)
 
 pub returns-in-Ok-clause-sets : goal.returns-in-Ok-clause-sets
 returns-in-Ok-clause-sets g c = (c.set_page.ensures.goes, ap (λ (z : Session). record z { stage = stages.Settling (c.args.k + 1) }) c.set_page.ensures.same.0)

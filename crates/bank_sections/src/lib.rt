@@ -6,8 +6,10 @@ mod entries;
 mod page_sets;
 mod parents;
 mod refused;
+mod stalling;
 mod states;
 
 pub use page_sets::set_page;
 pub use parents::{link_parent, make_parents, read_parent};
+pub use stalling::stall;
 pub use states::{make_page, read_state};

@@ -56,10 +56,14 @@ pub record IsCommitPending (lists : List (List Entry)) (by : By) (s : Stance) : 
 abbrev pub AreFew : Start → List (List Entry) → Type 0
 AreFew start lists = length (given (history lists)) < 2900000
 
--- A verdict is told where the volumes tell, in a life of few ids.
+-- the ids that the life begins with as committed were given before it
+abbrev pub AreGivenBefore : Start → Type 0
+AreGivenBefore start = (x : ℕ) → Contains start.committed x → (3 ≤ x) × (x < start.base.next)
+
+-- A verdict is told where the volumes tell, in a life of few ids that begins with none of its own.
 abbrev pub MayTell : Bool → Start → List (List Entry) → RoundSpan → By → Stance → Command → Reply → Type 0
 MayTell tells start lists span by s command (replies.Seen verdict) =
-    IsTrue tells → AreFew start lists
+    IsTrue tells → AreFew start lists → AreGivenBefore start
     → MayReply start.base start.committed (history lists) span by s command (replies.Seen verdict)
 MayTell tells start lists span by s command reply =
     MayReply start.base start.committed (history lists) span by s command reply

@@ -85,7 +85,7 @@ module _ {A : Type 0} where
       go o x e (y ∷ ys) = go (Some y) y refl ys
 
 -- what was read as the parent set last was set
-read_linked : (start : Start) (lists : List (List Entry)) (lock x v : ℕ) → subtrans_lock_of start x ≡ lock → parent_read (flat_map links_in (at lists lock)) x ≡ Some v → IsLinked start lists x v
+pub read_linked : (start : Start) (lists : List (List Entry)) (lock x v : ℕ) → subtrans_lock_of start x ≡ lock → parent_read (flat_map links_in (at lists lock)) x ≡ Some v → IsLinked start lists x v
 read_linked start lists lock x v here is =
     let links : List Link = flat_map links_in (at lists lock) in
     ⊎_elim

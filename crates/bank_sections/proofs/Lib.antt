@@ -8,3 +8,4 @@ pub mod StateSeen
 pub mod StateSetting
 pub mod Uncut
 pub mod Visiting
+pub mod Nearing

@@ -25,9 +25,9 @@ use Rattle.tx_core.proofs.ChangeLaws.{parent_law}
 use Rattle.xid_order.specs.Ids.{IsFullId, low_half}
 use Rattle.engine_parts.specs.Law.{MayKeep}
 use Rattle.engine_parts.specs.Parts.{IsSubtransOf}
-use Rattle.engine_parts.specs.Stand.{count_in}
-use Rattle.engine_parts.proofs.Logging.{number_same}
 use Rattle.engine_parts.proofs.SubBanking.{page_reached, sub_set}
+use Rattle.tx_core.specs.FaultsRise.{count_in, faults_at}
+use Rattle.tx_core.proofs.LastNumbers.{number_same}
 use Rattle.bank_sections.proofs.Making.{base_near}
 
 abbrev pub linked_entry : By → ℕ → ℕ → Entry
@@ -58,4 +58,4 @@ module _ {P O : Type 0} {g : disks.Ghosts P} {r : rules.Ghosts O} where
       subst (λ (f : Entry). IsSubtransOf start bank new (es ++ f ∷ [])) (sym is)
       (sub_set start bank (faults_of old) (last_page old) (cutoff_of old) g.tells (pages_of old) es by id parent s (base_near start base) full (let o = base.oldest in omega arith) (page_reached start es (subtrans_page id) made)
       (faults_of new) (last_page new) (cutoff_of new) (pages_of new) last cutoff
-      (let a = number_same count_in 0 es (linked_entry by id parent) refl in let c = s.count in omega arith) sets)
+      (let a = number_same count_in (faults_at start (subtrans_lock bank)) es (linked_entry by id parent) refl in let c = s.count in omega arith) sets)

@@ -13,21 +13,22 @@ use Rattle.xid_order.specs.Limits.{stop_limit}
 use Rattle.tx_core.specs.declared.entry.Entry.{Entry}
 use Rattle.tx_core.specs.declared.entry.Kind.TheVariants as kinds
 use Rattle.tx_core.specs.declared.entry.Start.{Start}
-use Rattle.tx_core.specs.Locks.{subtrans_page, xact_page}
+use Rattle.tx_core.specs.Locks.{subtrans_page, xact_page, subtrans_lock, xact_lock}
 use Rattle.xid_order.specs.Ids.{low_half}
 use Rattle.xid_order.specs.PageOrder.{Ids, page_precedes}
 use Rattle.engine_parts.specs.Parts.{IsSubtransOf, IsXactOf}
-use Rattle.engine_parts.specs.Stand.{SubtransStands, XactStands, count_in, faults_told}
+use Rattle.engine_parts.specs.Stand.{SubtransStands, XactStands}
 use Rattle.engine_parts.proofs.Banking.{xact_made}
-use Rattle.engine_parts.proofs.Logging.{number_same}
+use Rattle.tx_core.specs.FaultsRise.{count_in, faults_at, faults_told}
+use Rattle.tx_core.proofs.LastNumbers.{number_same}
 use Rattle.engine_parts.proofs.SubBanking.{sub_made}
 
 abbrev pub made_entry : By → ℕ → Entry
 made_entry by page = record { by = by; kind = kinds.Zero page }
 
 -- a page that was made is no fault
-pub made_told : (by : By) (page count : ℕ) (es : List Entry) → faults_told es ≤ count → faults_told (es ++ made_entry by page ∷ []) ≤ count
-made_told by page count es le = let a = number_same count_in 0 es (made_entry by page) refl in omega arith
+pub made_told : (start : Start) (lock : ℕ) (by : By) (page count : ℕ) (es : List Entry) → faults_told start lock es ≤ count → faults_told start lock (es ++ made_entry by page ∷ []) ≤ count
+made_told start lock by page count es le = let a = number_same count_in (faults_at start lock) es (made_entry by page) refl in omega arith
 
 -- ---- the counters of a base
 
@@ -64,7 +65,7 @@ module _ {P O : Type 0} {g : disks.Ghosts P} {r : rules.Ghosts O} where
       (xact_made start bank (faults_of old) (last_page old) (cutoff_of old) g.tells (pages_of old) es by page s (base_near start base) (omega arith)
       (faults_of new) (last_page new) (pages_of new) (subst (λ z. last_page new ≡ cond (page_precedes Ids 32768 (last_page old) z) z (last_page old)) at m.last)
       (λ told. subst (λ z. MatchBool (page_precedes Ids 32768 (last_page old) z) (PutsPage z zero_page (pages_of old) (pages_of new)) (SameMap (pages_of old) (pages_of new))) at (m.pages told))
-      (made_told by page (faults_of new) es (let c = s.count in let f = m.count in omega arith))))
+      (made_told start (xact_lock bank) by page (faults_of new) es (let c = s.count in let f = m.count in omega arith))))
 
   pub subtrans_stands_made : (start : Start) (bank : ℕ) (old new : SlruBank P O g r) (es : List Entry) (by : By) (id page stored : ℕ) (e : Entry) → IsBase start.base → start.base.next ≤ id → e ≡ made_entry by page → page ≡ subtrans_page id → stored ≡ low_half id / 2048 → Makes stored 2048 old new → IsSubtransOf start bank old es
       → IsSubtransOf start bank new (es ++ e ∷ [])
@@ -75,4 +76,4 @@ module _ {P O : Type 0} {g : disks.Ghosts P} {r : rules.Ghosts O} where
       (sub_made start bank (faults_of old) (last_page old) (cutoff_of old) g.tells (pages_of old) es by page s (base_near start base) (omega arith)
       (faults_of new) (last_page new) (pages_of new) (subst (λ z. last_page new ≡ cond (page_precedes Ids 2048 (last_page old) z) z (last_page old)) at m.last)
       (λ told. subst (λ z. MatchBool (page_precedes Ids 2048 (last_page old) z) (PutsPage z zero_page (pages_of old) (pages_of new)) (SameMap (pages_of old) (pages_of new))) at (m.pages told))
-      (made_told by page (faults_of new) es (let c = s.count in let f = m.count in omega arith))))
+      (made_told start (subtrans_lock bank) by page (faults_of new) es (let c = s.count in let f = m.count in omega arith))))

@@ -37,6 +37,7 @@ use Rattle.subtrans_log.specs.Parents.{parent_of}
 use Rattle.bank_sections.specs.Reads.{IsParentNear, IsParentOf, IsParentRead}
 use Rattle.bank_sections.proofs.Given.{filter_map_has, given_full}
 use Rattle.engine_parts.specs.Parts.{IsSubtransOf}
+use Rattle.bank_sections.proofs.Nearing.{subtrans_near}
 use Rattle.engine_parts.specs.Stand.{AreSubtransPagesNear, IsInUse, number_of_parent, subtrans_pages}
 
 -- an id that was given below a parent
@@ -197,4 +198,4 @@ module _ {P O : Type 0} {g : disks.Ghosts P} {r : rules.Ghosts O} where
       → IsTrue g.tells → found ≡ parent_of (number_in (pages_of store (word_page_of x)) (word_place_of x)) → IsParentNear x found o → IsParentRead start lists x o
   parent_seen start lists bank store x found o base k s here uncut told is near used few =
       parent_is start lists x (number_in (pages_of store (word_page_of x)) (word_place_of x)) found o base k used
-      (parent_shown start lists bank store x base k s here uncut told used (subst (λ z. AreSubtransPagesNear start (at lists z)) here few)) is near
+      (parent_shown start lists bank store x base k s here uncut told used (subtrans_near start lists bank k few)) is near

@@ -12,18 +12,18 @@ use Rattle.tx_core.specs.declared.entry.Entry.{Entry}
 use Rattle.tx_core.specs.declared.entry.Kind.TheVariants as kinds
 use Rattle.tx_core.specs.declared.entry.Start.{Start}
 use Rattle.tx_core.specs.Entries.{appended, asks_in, event_of, links_in, marks_in}
-use Rattle.tx_core.specs.Locks.{IsPageLock}
+use Rattle.tx_core.specs.Locks.{IsPageLock, subtrans_lock, xact_lock}
 use Rattle.tx_core.specs.Pages.{zeroed_in}
 use Rattle.engine_parts.specs.declared.part.Part.{Part}
 use Rattle.engine_parts.specs.declared.part.Part.TheVariants as parts
 use Rattle.engine_parts.specs.Answers.{MetFault}
 use Rattle.engine_parts.specs.Holds.{Knowledge, Leaves}
 use Rattle.engine_parts.specs.Parts.{IsSubtransOf, IsXactOf, PartStands}
-use Rattle.engine_parts.specs.Stand.{count_in, faults_told}
 use Rattle.engine_parts.proofs.Banking.{xact_read}
-use Rattle.engine_parts.proofs.Logging.{number_push, number_same}
 use Rattle.engine_parts.proofs.May.{met_fault}
 use Rattle.engine_parts.proofs.SubBanking.{sub_read}
+use Rattle.tx_core.specs.FaultsRise.{count_in, faults_at, faults_told}
+use Rattle.tx_core.proofs.LastNumbers.{number_same, number_push}
 use Rattle.bank_sections.specs.Refusals.{faults_in, entry_of_refusal}
 
 -- it has no event and no record, asks for no state and changes nothing
@@ -44,9 +44,9 @@ met_refusal start v w lock by count refused.DiskFault inside l is = met_fault st
 met_refusal start v w lock by count (refused.Cut cutoff) inside l is = absurd cc
 
 -- the count that the list tells then
-refused_told : (by : By) (count : ℕ) (refusal : BankRefusal) (es : List Entry) → faults_told es ≤ count → faults_told (es ++ entry_of_refusal by count refusal ∷ []) ≤ count
-refused_told by count refused.DiskFault es le = let a = number_push count_in 0 es (entry_of_refusal by count refused.DiskFault) count refl in omega arith
-refused_told by count (refused.Cut cutoff) es le = let a = number_same count_in 0 es (entry_of_refusal by count (refused.Cut cutoff)) refl in omega arith
+refused_told : (start : Start) (lock : ℕ) (by : By) (count : ℕ) (refusal : BankRefusal) (es : List Entry) → faults_told start lock es ≤ count → faults_told start lock (es ++ entry_of_refusal by count refusal ∷ []) ≤ count
+refused_told start lock by count refused.DiskFault es le = let a = number_push count_in (faults_at start lock) es (entry_of_refusal by count refused.DiskFault) count refl in omega arith
+refused_told start lock by count (refused.Cut cutoff) es le = let a = number_same count_in (faults_at start lock) es (entry_of_refusal by count (refused.Cut cutoff)) refl in omega arith
 
 module _ {P O : Type 0} {g : disks.Ghosts P} {r : rules.Ghosts O} where
   -- the bank stands for the longer list
@@ -54,13 +54,13 @@ module _ {P O : Type 0} {g : disks.Ghosts P} {r : rules.Ghosts O} where
   xact_refused start bank store by refusal es s =
       let q = refused_quiet by (faults_of store) refusal in
       xact_read start bank (faults_of store) (faults_of store) (last_page store) (last_page store) (cutoff_of store) (cutoff_of store) g.tells (pages_of store) (pages_of store) es (entry_of_refusal by (faults_of store) refusal) s refl refl q.marks q.zeroed
-      (refused_told by (faults_of store) refusal es s.count) (λ told page. refl)
+      (refused_told start (xact_lock bank) by (faults_of store) refusal es s.count) (λ told page. refl)
 
   pub subtrans_refused : (start : Start) (bank : ℕ) (store : SlruBank P O g r) (by : By) (refusal : BankRefusal) (es : List Entry) → IsSubtransOf start bank store es → IsSubtransOf start bank store (es ++ entry_of_refusal by (faults_of store) refusal ∷ [])
   subtrans_refused start bank store by refusal es s =
       let q = refused_quiet by (faults_of store) refusal in
       sub_read start bank (faults_of store) (faults_of store) (last_page store) (last_page store) (cutoff_of store) (cutoff_of store) g.tells (pages_of store) (pages_of store) es (entry_of_refusal by (faults_of store) refusal) s refl refl q.links q.zeroed
-      (refused_told by (faults_of store) refusal es s.count) (λ told page. refl)
+      (refused_told start (subtrans_lock bank) by (faults_of store) refusal es s.count) (λ told page. refl)
 
   -- and one that was only looked at
   pub xact_looked : (start : Start) (bank : ℕ) (store : SlruBank P O g r) (by : By) (es : List Entry) → IsXactOf start bank store es → IsXactOf start bank store (es ++ record { by = by; kind = kinds.Look } ∷ [])

@@ -19,7 +19,8 @@ use Rattle.tx_core.specs.Verdict.{state_read}
 use Rattle.tx_core.proofs.PageShowing.{pages_show}
 use Rattle.xid_order.specs.PageOrder.{Ids, is_cut}
 use Rattle.engine_parts.specs.Parts.{IsXactOf}
-use Rattle.engine_parts.specs.Stand.{AreXactPagesNear, number_of_state, xact_pages}
+use Rattle.engine_parts.specs.Stand.{number_of_state, xact_pages}
+use Rattle.bank_sections.proofs.Nearing.{xact_near}
 use Rattle.bank_sections.specs.Reads.{IsStateRead}
 
 -- two states of one number are one
@@ -47,9 +48,9 @@ bank_at start x bank q = omega arith
 module _ {P O : Type 0} {g : disks.Ghosts P} {r : rules.Ghosts O} where
   pub state_seen : (start : Start) (lists : List (List Entry)) (bank : ℕ) (store : SlruBank P O g r) (x : ℕ) (state : Option State) → EngineInvariant start lists → IsXactOf start bank store (at lists (xact_lock bank)) → xact_lock_of start x ≡ xact_lock bank → is_cut Ids 32768 (cutoff_of store) (xact_page_of x) ≡ false
       → IsTrue g.tells → number_of_state state ≡ state_in (pages_of store (xact_page_of x)) (xact_place_of x) → IsStateRead start lists x state
-  state_seen start lists bank store x state k s here uncut told read used near =
+  state_seen start lists bank store x state k s here uncut told read used few =
       let es : List Entry = at lists (xact_lock bank) in
-      let show = s.shown told (subst (λ z. AreXactPagesNear start (at lists z)) here near) in
+      let show = s.shown told (xact_near start lists bank k few) in
       let there = show.2.each x used (bank_at start x bank here) uncut in
       let all : (xact_pages start show.0 es).shows x ≡ state_read show.0 (marks es) x =
       subst (λ (t : List Entry). (pages_after xact_store start.base.next show.0 t).shows x ≡ state_read show.0 (marks t) x) (take-length es) (pages_show start lists show.0 (xact_lock bank) (length es) x k show.1 used.2) in

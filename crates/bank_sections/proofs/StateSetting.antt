@@ -37,12 +37,13 @@ use Rattle.engine_parts.specs.Law.{MayKeep}
 use Rattle.engine_parts.specs.Parts.{IsXactOf}
 use Rattle.engine_parts.specs.declared.session.Session.{Session}
 use Rattle.engine_parts.specs.Sessions.{IsAt, by_at}
-use Rattle.engine_parts.specs.Stand.{count_in, number_of_state}
+use Rattle.engine_parts.specs.Stand.{number_of_state}
 use Rattle.engine_parts.proofs.Leaving.{grows_then}
-use Rattle.engine_parts.proofs.Logging.{number_same}
 use Rattle.engine_parts.proofs.Setting.{xact_set}
 use Rattle.bank_sections.specs.Sets.{AsksOnly, MaySet}
 use Rattle.bank_sections.proofs.Given.{given_full, open_made}
+use Rattle.tx_core.specs.FaultsRise.{count_in, faults_at}
+use Rattle.tx_core.proofs.LastNumbers.{number_same}
 use Rattle.bank_sections.proofs.Making.{base_near}
 
 abbrev pub set_entry : By → State → List ℕ → Entry
@@ -154,7 +155,7 @@ module _ {P O : Type 0} {g : disks.Ghosts P} {r : rules.Ghosts O} where
       let oldest = base.oldest in
       (open_made start lists n bank (slice_index ids j) k o (m.here (slice_index ids j) c), f.0, omega arith))
       (share_stored ids m.page m.share)
-      (let a = number_same count_in 0 (at lists (xact_lock bank)) (set_entry by state ids) refl in let c = s.count in omega arith)
+      (let a = number_same count_in (faults_at start (xact_lock bank)) (at lists (xact_lock bank)) (set_entry by state ids) refl in let c = s.count in omega arith)
       (λ told. subst (λ z. SetsStates ids (length ids) z (pages_of old) (pages_of new)) number_is (sets told)))
 
 -- an id of a part of the open ids is open

@@ -38,7 +38,7 @@ use Rattle.engine_parts.specs.Holds.{Knowledge, Leaves}
 use Rattle.engine_parts.specs.Sessions.{IsAt}
 use Rattle.engine_parts.specs.Stand.{IsCutoff, first_subtrans_page, first_xact_page}
 use Rattle.engine_parts.proofs.Leaving.{history_same}
-use Rattle.bank_sections.specs.Kept.{AreIdsNear}
+use Rattle.bank_sections.proofs.Nearing.{AreIdsNear}
 use Rattle.bank_sections.proofs.Given.{given_full}
 
 -- an open id is from the next one of the base on, and before the next one

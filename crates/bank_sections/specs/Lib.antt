@@ -2,4 +2,3 @@ pub mod Refusals
 pub mod Sections
 pub mod Reads
 pub mod Sets
-pub mod Kept

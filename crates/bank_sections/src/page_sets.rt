@@ -9,12 +9,11 @@ ghost use Rattle.store_pages.specs.Layouts.{xact_page_of};
 ghost use Rattle.tx_core.specs.Entries.{IsMarked};
 ghost use Rattle.tx_core.specs.Laws.{all_set};
 ghost use Rattle.tx_core.specs.Locks.{xact_lock};
-ghost use Rattle.engine_parts.specs.Answers.{MetFault};
+ghost use Rattle.engine_parts.specs.Answers.{AreFewIds, MetFault};
 ghost use Rattle.engine_parts.specs.Sessions.{IsReady, by_at};
 ghost use Rattle.engine_parts.specs.Stages.{AsksNothing};
 ghost use Rattle.engine_parts.specs.Stand.{number_of_state};
 ghost use Rattle.engine_parts.specs.Steps.{GoesOn};
-ghost use Rattle.bank_sections.specs.Kept.{AreIdsNear};
 ghost use Rattle.bank_sections.specs.Sections.{BankSection, IsXactCut};
 ghost use Rattle.bank_sections.specs.Sets.{AsksOnly, MaySet};
 
@@ -47,8 +46,8 @@ fn set_note(by: By, ids: &[FullXid], state: State) -> Note<Entry>
 }
 
 /// Sets the state of the session's open ids from the `first` one to before the `past` one, which share a page of the
-/// bank (`TransactionIdSetPageStatus` of `clog.c`). After an error none is set. The page isn't cut, as long as the life's
-/// ids are near.
+/// bank (`TransactionIdSetPageStatus` of `clog.c`). After an error none is set. The page isn't cut, in a life of few
+/// ids.
 pub fn set_page<R: Wait, L: LogDisk, P: PageDisk>(
     rt: &R,
     hall: &Hall<EngineLaw<L, P>>,
@@ -84,7 +83,7 @@ pub fn set_page<R: Wait, L: LogDisk, P: PageDisk>(
         → IsMarked (start_of hall.now) (view caller.new.pass).seen id state) }
     ensures fault { result ≡ Err DiskFault → MetFault (view caller.new.pass).seen (xact_lock bank)
         (by_at caller.old.number caller.old.session.levels.commands) }
-    ensures uncut { AreIdsNear (start_of hall.now) (view caller.new.pass).seen
+    ensures uncut { AreFewIds (view caller.new.pass).seen
         → (cutoff : ℕ) → result ≡ Err (Cut cutoff) → ⊥ }
     ensures same { (caller.new.session ≡ caller.old.session) × (caller.new.number ≡ caller.old.number) }
 {

@@ -10,10 +10,9 @@ ghost use Rattle.tx_core.specs.Entries.{IsLinked, Stands, history};
 ghost use Rattle.tx_core.specs.Locks.{subtrans_lock, subtrans_lock_of, subtrans_page};
 ghost use Rattle.tx_core.specs.PagesBeforeIds.{IsIdOf};
 ghost use Rattle.tx_core.specs.ParentsFollow.{IsGivenBelow};
-ghost use Rattle.engine_parts.specs.Answers.{MetFault};
+ghost use Rattle.engine_parts.specs.Answers.{AreFewIds, MetFault};
 ghost use Rattle.engine_parts.specs.Sessions.{IsReady, by_at};
 ghost use Rattle.engine_parts.specs.Steps.{WentOn};
-ghost use Rattle.bank_sections.specs.Kept.{AreIdsNear};
 ghost use Rattle.bank_sections.specs.Reads.{IsParentNear, IsParentRead};
 ghost use Rattle.bank_sections.specs.Sections.{BankSection, IsSubtransCut};
 
@@ -33,8 +32,8 @@ use tx_events::By;
 use xid_order::{FullXid, Xid, near};
 
 /// Makes the page of the parent of `id`, which was given or comes next, where the bank's last made page is before it
-/// (`ExtendSUBTRANS` of `subtrans.c`). The page of an id that isn't before the oldest xmin isn't cut, as long as the
-/// life's ids are near.
+/// (`ExtendSUBTRANS` of `subtrans.c`). The page of an id that isn't before the oldest xmin isn't cut, in a life of few
+/// ids.
 pub fn make_parents<R: Wait, L: LogDisk, P: PageDisk>(
     rt: &R,
     hall: &Hall<EngineLaw<L, P>>,
@@ -59,7 +58,7 @@ pub fn make_parents<R: Wait, L: LogDisk, P: PageDisk>(
         (Stands (view caller.new.pass).seen (subtrans_lock bank) (kinds.Zero (subtrans_page id))) }
     ensures fault { result ≡ Err DiskFault → MetFault (view caller.new.pass).seen (subtrans_lock bank)
         (by_at caller.old.number caller.old.session.levels.commands) }
-    ensures uncut { AreIdsNear (start_of hall.now) (view caller.new.pass).seen
+    ensures uncut { AreFewIds (view caller.new.pass).seen
         → oldest_xmin (start_of hall.now).base.next (history (view caller.new.pass).seen) ≤ id
         → (cutoff : ℕ) → result ≡ Err (Cut cutoff) → ⊥ }
     ensures same { (caller.new.session ≡ caller.old.session) × (caller.new.number ≡ caller.old.number) }
@@ -87,8 +86,8 @@ fn linked_note(by: By, id: FullXid, parent: FullXid) -> Note<Entry>
     Note::by(&(by, id, parent))
 }
 
-/// Records the parent of `id`, which the session was given below it (`SubTransSetParent` of `subtrans.c`). The page of an
-/// open id isn't cut, as long as the life's ids are near.
+/// Records the parent of `id`, which the session was given below it (`SubTransSetParent` of `subtrans.c`). The page of
+/// an open id isn't cut, in a life of few ids.
 pub fn link_parent<R: Wait, L: LogDisk, P: PageDisk>(
     rt: &R,
     hall: &Hall<EngineLaw<L, P>>,
@@ -106,7 +105,8 @@ pub fn link_parent<R: Wait, L: LogDisk, P: PageDisk>(
     ensures section { BankSection (start_of hall.now) (subtrans_lock bank)
         (by_at caller.old.number caller.old.session.levels.commands)
         (IsSubtransCut (start_of hall.now) (view caller.new.pass).seen bank (word_page_of id))
-        (kinds.Set (changes.Parent (by_at caller.old.number caller.old.session.levels.commands) id parent ∷ [])) (view caller.old.pass) (view caller.new.pass) result }
+        (kinds.Set (changes.Parent (by_at caller.old.number caller.old.session.levels.commands) id parent ∷ []))
+        (view caller.old.pass) (view caller.new.pass) result }
     ensures own { IsOf hall.now caller.new.pass }
     ensures ready { IsReady (start_of hall.now) (view caller.new.pass) caller.new.number caller.new.session }
     ensures went { WentOn caller.old.number [] (view caller.old.pass).seen (view caller.new.pass).seen }
@@ -114,7 +114,7 @@ pub fn link_parent<R: Wait, L: LogDisk, P: PageDisk>(
     ensures fault { result ≡ Err DiskFault → MetFault (view caller.new.pass).seen (subtrans_lock bank)
         (by_at caller.old.number caller.old.session.levels.commands) }
     ensures uncut { Contains caller.old.session.levels.open_ids.items id
-        → AreIdsNear (start_of hall.now) (view caller.new.pass).seen → (cutoff : ℕ) → result ≡ Err (Cut cutoff) → ⊥ }
+        → AreFewIds (view caller.new.pass).seen → (cutoff : ℕ) → result ≡ Err (Cut cutoff) → ⊥ }
     ensures same { (caller.new.session ≡ caller.old.session) × (caller.new.number ≡ caller.old.number) }
 {
     let mut store = enter_subtrans(rt, hall, caller, bank);

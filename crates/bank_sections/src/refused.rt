@@ -3,6 +3,9 @@ ghost use Rattle.std.specs.Prelude.{◌≡◌, ℕ, ◌+◌, ◌*◌, ◌<◌};
 ghost use Rattle.hall.specs.declared.view.Stage.TheVariants.{Inside};
 ghost use Rattle.hall.specs.Calls.{view, IsOf, start_of};
 ghost use Rattle.notes.specs.Lists.{at};
+ghost use Rattle.disk_core.specs.Faults.{HasRisen};
+ghost use Rattle.slru_bank.specs.declared.refusal.BankRefusal.TheVariants.{DiskFault};
+ghost use Rattle.tx_core.specs.FaultsRise.{faults_told};
 ghost use Rattle.tx_core.specs.Locks.{IsPageLock};
 ghost use Rattle.engine_parts.specs.Faults.{fault_by};
 ghost use Rattle.engine_parts.specs.Holds.{Leaves};
@@ -16,8 +19,8 @@ use hall::{Hall, Note};
 use slru_bank::BankRefusal;
 use tx_core::Entry;
 
-/// Gives a bank back that refused the call, and so stands for its list as before. The entry is the fault, or a look where
-/// the page is cut.
+/// Gives a bank back that refused the call, and so stands for its list as before. The entry is the fault, with a count
+/// that has risen, or a look where the page is cut.
 pub(crate) fn leave_refused<L: LogDisk, P: PageDisk>(
     hall: &Hall<EngineLaw<L, P>>,
     caller: &mut Caller<L, P>,
@@ -35,6 +38,8 @@ pub(crate) fn leave_refused<L: LogDisk, P: PageDisk>(
     requires stands { PartStands (start_of hall.now) lock part (at (view caller.old.pass).seen lock) }
     requires fault { fault.value
         ≡ fault_by (by_at caller.old.number caller.old.session.levels.commands) (faults_in part) }
+    requires risen { refusal ≡ DiskFault
+        → HasRisen (faults_told (start_of hall.now) lock (at (view caller.old.pass).seen lock)) (faults_in part) }
     ensures own { IsOf hall.now caller.new.pass }
     ensures ready { IsReady (start_of hall.now) (view caller.new.pass) caller.new.number caller.new.session }
     ensures left { Leaves (start_of hall.now) lock

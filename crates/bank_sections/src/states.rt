@@ -9,11 +9,10 @@ ghost use Rattle.tx_events.specs.Horizon.{oldest_id};
 ghost use Rattle.tx_core.specs.Entries.{Stands, history};
 ghost use Rattle.tx_core.specs.Locks.{xact_lock, xact_lock_of, xact_page};
 ghost use Rattle.tx_core.specs.PagesBeforeIds.{IsIdOf};
-ghost use Rattle.engine_parts.specs.Answers.{MetFault};
+ghost use Rattle.engine_parts.specs.Answers.{AreFewIds, MetFault};
 ghost use Rattle.engine_parts.specs.Sessions.{IsReady, by_at};
 ghost use Rattle.engine_parts.specs.Stand.{number_of_state};
 ghost use Rattle.engine_parts.specs.Steps.{WentOn};
-ghost use Rattle.bank_sections.specs.Kept.{AreIdsNear};
 ghost use Rattle.bank_sections.specs.Reads.{IsStateRead};
 ghost use Rattle.bank_sections.specs.Sections.{BankSection, IsXactCut};
 
@@ -32,8 +31,8 @@ use tx_core::State;
 use xid_order::FullXid;
 
 /// Makes the page of the state of `id`, which was given or comes next, where the bank's last made page is before it
-/// (`ExtendCLOG` of `clog.c`). The page of an id that isn't before the announced oldest one isn't cut, as long as the
-/// life's ids are near.
+/// (`ExtendCLOG` of `clog.c`). The page of an id that isn't before the announced oldest one isn't cut, in a life of few
+/// ids.
 pub fn make_page<R: Wait, L: LogDisk, P: PageDisk>(
     rt: &R,
     hall: &Hall<EngineLaw<L, P>>,
@@ -57,7 +56,7 @@ pub fn make_page<R: Wait, L: LogDisk, P: PageDisk>(
     ensures made { OnOk result (Stands (view caller.new.pass).seen (xact_lock bank) (kinds.Zero (xact_page id))) }
     ensures fault { result ≡ Err DiskFault → MetFault (view caller.new.pass).seen (xact_lock bank)
         (by_at caller.old.number caller.old.session.levels.commands) }
-    ensures uncut { AreIdsNear (start_of hall.now) (view caller.new.pass).seen
+    ensures uncut { AreFewIds (view caller.new.pass).seen
         → oldest_id (start_of hall.now).base.oldest (history (view caller.new.pass).seen) ≤ id
         → (cutoff : ℕ) → result ≡ Err (Cut cutoff) → ⊥ }
     ensures same { (caller.new.session ≡ caller.old.session) × (caller.new.number ≡ caller.old.number) }

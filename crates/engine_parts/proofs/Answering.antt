@@ -20,7 +20,7 @@ use Rattle.tx_core.specs.declared.entry.Start.{Start}
 use Rattle.tx_core.specs.Entries.{history}
 use Rattle.tx_core.specs.Locks.{log_lock, number_of}
 use Rattle.tx_core.proofs.Lasting.{history_grows}
-use Rattle.engine_parts.specs.Answers.{AnswersStay, AreFew, IsCommitPending, MetFault, MetLogFault}
+use Rattle.engine_parts.specs.Answers.{AnswersStay, AreFewIds, IsCommitPending, MetFault, MetLogFault}
 use Rattle.engine_parts.specs.Stand.{IsDownAt}
 
 fault_grows : (lists more : List (List Entry)) (lock : ℕ) (by : By) → Grows lists more → MetFault lists lock by → MetFault more lock by
@@ -57,6 +57,7 @@ down_grows start lists more down g d =
       by = d.by;
       asked = d.asked;
       count = d.count;
+      down = d.down;
       split = sym b.1 ∙ (ap (λ (t : List Entry). t ++ b.0) d.split ∙ append_assoc d.before (x ∷ d.rest) b.0);
       flushed_is = d.flushed_is;
     }
@@ -69,8 +70,8 @@ lawful_grows start lists more span wider by s command reply from to within g lat
     subst (λ (h : List Event). MayReply start.base start.committed h wider by s command reply) b.1
     (may_reply_grows start.base start.committed (history lists) b.0 span wider by s command reply from to within (later b.0 b.1) a)
 
-pub few_before : (start : Start) (lists more : List (List Entry)) → Grows lists more → AreFew start more → AreFew start lists
-few_before start lists more g few =
+pub few_before : (lists more : List (List Entry)) → Grows lists more → AreFewIds more → AreFewIds lists
+few_before lists more g few =
     let b = history_grows lists more g in
     let long : length (given (history lists ++ b.0)) ≡ length (given (history more)) = ap (λ (h : List Event). length (given h)) b.1 in
     let parts : length (given (history lists ++ b.0)) ≡ length (given (history lists)) + length (given b.0) = ap length (filter_map-append given_by (history lists) b.0) ∙ length-append (given (history lists)) (given b.0) in
@@ -87,5 +88,5 @@ answer_grows tells start lists more r r' by s stage command (replies.Refused ref
 answer_grows tells start lists more r r' by s stage command (replies.Refused refusals.AbortPending) from to within g later a = a
 answer_grows tells start lists more r r' by s stage command (replies.Refused refusals.UndoPending) from to within g later a = a
 answer_grows tells start lists more r r' by s stage command (replies.Seen verdict) from to within g later a =
-    λ t few before. lawful_grows start lists more r r' by s command (replies.Seen verdict) from to within g later (a t (few_before start lists more g few) before)
+    λ t few before. lawful_grows start lists more r r' by s command (replies.Seen verdict) from to within g later (a t (few_before lists more g few) before)
 answer_grows tells start lists more r r' by s stage command reply from to within g later a = lawful_grows start lists more r r' by s command reply from to within g later a

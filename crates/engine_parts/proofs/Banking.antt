@@ -18,13 +18,14 @@ use Rattle.tx_core.specs.declared.entry.Start.{Start}
 use Rattle.tx_core.specs.declared.entry.State.{State}
 use Rattle.tx_core.specs.CleanStart.{CleanStart}
 use Rattle.tx_core.specs.Entries.{Mark, marks_in}
-use Rattle.tx_core.specs.Locks.{xact_page}
+use Rattle.tx_core.specs.Locks.{xact_page, xact_lock}
 use Rattle.tx_core.specs.Pages.{Pages, after_entry, set_by, xact_store, zeroed, zeroed_in}
 use Rattle.tx_core.specs.Verdict.{state_for}
 use Rattle.store_pages.specs.Layouts.{bits_at, state_in, xact_page_of, xact_place_of}
-use Rattle.engine_parts.specs.Stand.{ShowsStates, XactStands, faults_told, number_of_state, xact_pages, first_xact_page}
+use Rattle.engine_parts.specs.Stand.{ShowsStates, XactStands, number_of_state, xact_pages, first_xact_page}
 use Rattle.engine_parts.proofs.Cutoffs.{cutoff_more}
 use Rattle.xid_order.specs.Order.{ring_before, xid_before}
+use Rattle.tx_core.specs.FaultsRise.{faults_told}
 use Rattle.xid_order.specs.PageOrder.{Ids, page_number, page_precedes}
 
 -- before on the ring
@@ -100,7 +101,7 @@ last_from_first start a = by_end (λ es. xact_page start.base.next ≤ (xact_pag
         one false e = h
 
 -- an entry that makes no page and sets no state
-pub xact_quiet : (start : Start) (bank faults faults' last cutoff : ℕ) (tells : Bool) (bytes bytes' : ℕ → List ℕ) (es : List Entry) (e : Entry) → XactStands start bank tells faults last cutoff bytes es → marks_in e ≡ [] → zeroed_in e.kind ≡ None → faults_told (es ++ e ∷ []) ≤ faults' → (IsTrue tells → (q k : ℕ) → k < 32768 → state_in (bytes' q) k ≡ state_in (bytes q) k)
+pub xact_quiet : (start : Start) (bank faults faults' last cutoff : ℕ) (tells : Bool) (bytes bytes' : ℕ → List ℕ) (es : List Entry) (e : Entry) → XactStands start bank tells faults last cutoff bytes es → marks_in e ≡ [] → zeroed_in e.kind ≡ None → faults_told start (xact_lock bank) (es ++ e ∷ []) ≤ faults' → (IsTrue tells → (q k : ℕ) → k < 32768 → state_in (bytes' q) k ≡ state_in (bytes q) k)
     → XactStands start bank tells faults' last cutoff bytes' (es ++ e ∷ [])
 xact_quiet start bank faults faults' last cutoff tells bytes bytes' es e s sets zeros count same =
     let still : (before : ℕ → Option State) → xact_pages start before (es ++ e ∷ []) ≡ xact_pages start before es = λ before. pages_push start before es e ∙ (λ j. zeroed xact_store (zeros j) (set_by xact_store (sets j) (xact_pages start before es))) in
@@ -115,13 +116,13 @@ xact_quiet start bank faults faults' last cutoff tells bytes bytes' es e s sets 
     }
 
 -- a call that read alone
-pub xact_read : (start : Start) (bank faults faults' last last' cutoff cutoff' : ℕ) (tells : Bool) (bytes bytes' : ℕ → List ℕ) (es : List Entry) (e : Entry) → XactStands start bank tells faults last cutoff bytes es → last' ≡ last → cutoff' ≡ cutoff → marks_in e ≡ [] → zeroed_in e.kind ≡ None → faults_told (es ++ e ∷ []) ≤ faults' → (IsTrue tells → (q : ℕ) → bytes' q ≡ bytes q)
+pub xact_read : (start : Start) (bank faults faults' last last' cutoff cutoff' : ℕ) (tells : Bool) (bytes bytes' : ℕ → List ℕ) (es : List Entry) (e : Entry) → XactStands start bank tells faults last cutoff bytes es → last' ≡ last → cutoff' ≡ cutoff → marks_in e ≡ [] → zeroed_in e.kind ≡ None → faults_told start (xact_lock bank) (es ++ e ∷ []) ≤ faults' → (IsTrue tells → (q : ℕ) → bytes' q ≡ bytes q)
     → XactStands start bank tells faults' last' cutoff' bytes' (es ++ e ∷ [])
 xact_read start bank faults faults' last last' cutoff cutoff' tells bytes bytes' es e s l c sets zeros count same =
     subst (λ (z : ℕ × ℕ). XactStands start bank tells faults' z.0 z.1 bytes' (es ++ e ∷ [])) (λ j. (sym l j, sym c j)) (xact_quiet start bank faults faults' last cutoff tells bytes bytes' es e s sets zeros count (λ told q k within. ap (λ (b : List ℕ). state_in b k) (same told q)))
 
 -- a call that set no state
-pub xact_unset : (start : Start) (bank faults faults' last last' cutoff cutoff' : ℕ) (tells : Bool) (bytes bytes' : ℕ → List ℕ) (es : List Entry) (e : Entry) → XactStands start bank tells faults last cutoff bytes es → last' ≡ last → cutoff' ≡ cutoff → marks_in e ≡ [] → zeroed_in e.kind ≡ None → faults_told (es ++ e ∷ []) ≤ faults' → (IsTrue tells → (q k : ℕ) → k < 32768 → state_in (bytes' q) k ≡ state_in (bytes q) k)
+pub xact_unset : (start : Start) (bank faults faults' last last' cutoff cutoff' : ℕ) (tells : Bool) (bytes bytes' : ℕ → List ℕ) (es : List Entry) (e : Entry) → XactStands start bank tells faults last cutoff bytes es → last' ≡ last → cutoff' ≡ cutoff → marks_in e ≡ [] → zeroed_in e.kind ≡ None → faults_told start (xact_lock bank) (es ++ e ∷ []) ≤ faults' → (IsTrue tells → (q k : ℕ) → k < 32768 → state_in (bytes' q) k ≡ state_in (bytes q) k)
     → XactStands start bank tells faults' last' cutoff' bytes' (es ++ e ∷ [])
 xact_unset start bank faults faults' last last' cutoff cutoff' tells bytes bytes' es e s l c sets zeros count same =
     subst (λ (z : ℕ × ℕ). XactStands start bank tells faults' z.0 z.1 bytes' (es ++ e ∷ [])) (λ j. (sym l j, sym c j)) (xact_quiet start bank faults faults' last cutoff tells bytes bytes' es e s sets zeros count same)
@@ -209,5 +210,5 @@ module _ (start : Start) (bank faults last cutoff : ℕ) (tells : Bool) (bytes :
         )
 
     -- a page is made, or it was made before
-    pub xact_made : faults_told (es ++ made_entry ∷ []) ≤ faults' → XactStands start bank tells faults' last' cutoff bytes' (es ++ made_entry ∷ [])
+    pub xact_made : faults_told start (xact_lock bank) (es ++ made_entry ∷ []) ≤ faults' → XactStands start bank tells faults' last' cutoff bytes' (es ++ made_entry ∷ [])
     xact_made count = record { inside = s.inside; count = count; last_is = lasts (nat_lt old_last page) refl; cutoff_is = cutoff_more (first_xact_page start) (2 ^ 17) es made_entry cutoff s.cutoff_is; shown = shows (nat_lt old_last page) refl }

@@ -123,6 +123,7 @@ at_on start v w n s a l k =
       turns = λ lock. subst (λ (t : List Entry). All (λ (f : Entry). f.by.command ≤ s.levels.commands) t) (sym (knows.own lock)) (a.turns lock);
       stands = stands_on start n s.levels.commands s.levels v.seen w.seen a.kept k knows a.stands;
       clear = λ q top subs appended opened. a.clear q top subs (own_appended n v.seen w.seen (records.Commit top subs) knows appended) (sym (open_seen start n v.seen w.seen k knows) ∙ opened);
+      unaborted = λ q id c top subs named among. a.unaborted q id c top subs (own_appended n v.seen w.seen (records.Abort top subs) knows named) among;
       filed = filed_later start v.seen w.seen n s.levels.open_ids.items s.unlinked knows.grows a.filed;
     }
 
@@ -141,6 +142,7 @@ ready_next start v n s s' is r =
         known = a.known;
         wide = a.wide;
         clear = a.clear;
+        unaborted = a.unaborted;
         filed = a.filed;
         turns = λ lock. All-weaker (λ (f : Entry). f.by.command ≤ s.levels.commands) (λ (f : Entry). f.by.command ≤ s.levels.commands + 1) (λ f le. omega arith) (filter (λ (f : Entry). f.by.session == n) (at v.seen lock)) (a.turns lock);
         stands = record {

@@ -21,7 +21,7 @@ use Rattle.tx_core.specs.declared.entry.Start.{Start}
 use Rattle.tx_core.specs.CommitRecordsExact.{HasNoRecord}
 use Rattle.tx_core.specs.EngineInvariant.{EngineInvariant}
 use Rattle.tx_core.specs.AbortRule.{Asks}
-use Rattle.tx_core.specs.Entries.{IsAppended, Mark, appended, asks_in, event_of, history, session_of}
+use Rattle.tx_core.specs.Entries.{IsAppended, Mark, appended, appended_in, asks_in, event_of, history, session_of}
 use Rattle.tx_core.specs.Locks.{log_lock, proc_lock}
 use Rattle.tx_core.specs.ProgramOrder.{IsInTurn}
 use Rattle.tx_core.proofs.Stepping.{appended_cases, asks_cases, history_at, history_off, own_asks}
@@ -31,7 +31,7 @@ use Rattle.engine_parts.specs.declared.session.Stage.{Stage}
 use Rattle.engine_parts.specs.declared.session.Stage.TheVariants as stages
 use Rattle.engine_parts.specs.Holds.{Knowledge, Learns, Leaves}
 use Rattle.engine_parts.specs.Sessions.{IsAt, IsFiled, IsReady, MayCall, by_at}
-use Rattle.engine_parts.specs.Stages.{AsksNothing, IsInStage, may_be_recorded}
+use Rattle.engine_parts.specs.Stages.{AreUnaborted, AsksNothing, IsInStage, may_be_aborted, may_be_recorded}
 use Rattle.engine_parts.proofs.Going.{filed_later, own_events, stage_later}
 
 -- an entry of the command goes in turn
@@ -97,8 +97,8 @@ asks_nothing start v u w n lock e name learns inside l none id state a =
 
 -- a session that added an entry stands by what it left of the history, of its records and of its parents
 pub at_left : (start : Start) (v w : Knowledge) (n lock : ℕ) (s s' : Session) (e : Entry) → IsAt start v n s → lock < length v.seen → e.by ≡ by_at n s.levels.commands → s'.levels.commands ≡ s.levels.commands → Leaves start lock e v w
-    → Stands start.base (history w.seen) n s'.levels.commands s'.levels → (may_be_recorded s'.stage ≡ false → HasNoRecord w.seen n) → IsFiled start w.seen n s'.levels.open_ids.items s'.unlinked → IsReady start w n s'
-at_left start v w n lock s s' e a inside own count l st clear filed =
+    → Stands start.base (history w.seen) n s'.levels.commands s'.levels → (may_be_recorded s'.stage ≡ false → HasNoRecord w.seen n) → (may_be_aborted s'.stage ≡ false → AreUnaborted w.seen n s'.levels.open_ids.items) → IsFiled start w.seen n s'.levels.open_ids.items s'.unlinked → IsReady start w n s'
+at_left start v w n lock s s' e a inside own count l st clear unaborted filed =
     let turn : (k : ℕ) → IsInTurn (at (add v.seen lock e) k) (by_at n s.levels.commands) = λ k.
     dite (ℕ_discrete k lock)
     (λ (q : k ≡ lock). subst (λ z. IsInTurn (at (add v.seen lock e) z) (by_at n s.levels.commands)) (sym q) (subst (λ (t : List Entry). IsInTurn t (by_at n s.levels.commands)) (sym (at_here v.seen lock e inside)) (turn_push (at v.seen lock) (by_at n s.levels.commands) e own (a.turns lock))))
@@ -114,6 +114,7 @@ at_left start v w n lock s s' e a inside own count l st clear filed =
         turns = λ k. subst (λ (z : List (List Entry) × ℕ). IsInTurn (at z.0 k) (by_at n z.1)) (λ j. (sym l.seen j, sym count j)) (turn k);
         stands = st;
         clear = clear;
+        unaborted = unaborted;
         filed = filed;
       };
     }
@@ -129,6 +130,17 @@ clear_same start v w n lock s e a inside none same l q top subs k opened =
     some_none : (e : Entry) (rec : Rec) → appended e ≡ None → e.kind ≡ kinds.Append rec → ⊥
     some_none e rec none is = cc
 
+-- and one that is no abort record leaves it so of the ids that were open
+pub unaborted_same : (start : Start) (v w : Knowledge) (n lock : ℕ) (s : Session) (e : Entry) → IsAt start v n s → lock < length v.seen → ((top : ℕ) (subs : List ℕ) → e.kind ≡ kinds.Append (records.Abort top subs) → ⊥) → Leaves start lock e v w → may_be_aborted s.stage ≡ false → AreUnaborted w.seen n s.levels.open_ids.items
+unaborted_same start v w n lock s e a inside other l q id c top subs named among =
+    let rec : Rec = records.Abort top subs in
+    a.unaborted q id c top subs
+    (⊎_elim (λ old. old) (λ new. absurd (other top subs new.2)) (appended_cases v.seen lock e n rec inside (subst (λ (z : List (List Entry)). IsAppended z n rec) l.seen named))) among
+
+-- no record at all
+pub no_abort : (e : Entry) → appended e ≡ None → (top : ℕ) (subs : List ℕ) → e.kind ≡ kinds.Append (records.Abort top subs) → ⊥
+no_abort e none top subs is = let some = sym (ap (appended_in e.by) is) ∙ none in cc
+
 pub filed_left : (start : Start) (v w : Knowledge) (n lock : ℕ) (s : Session) (e : Entry) → IsAt start v n s → lock < length v.seen → Leaves start lock e v w → IsFiled start w.seen n s.levels.open_ids.items s.unlinked
 filed_left start v w n lock s e a inside l = filed_later start v.seen w.seen n s.levels.open_ids.items s.unlinked (grown_left start v w lock e inside l) a.filed
 
@@ -137,21 +149,25 @@ pub ready_quiet : (start : Start) (v w : Knowledge) (n n' lock : ℕ) (s s' : Se
 ready_quiet start v w n n' lock s s' e a inside own none no_record same number l =
     let still : history w.seen ≡ history v.seen = history_same start v w lock e none inside l in
     subst (λ (z : ℕ × Session). IsReady start w z.0 z.1) (λ j. (sym number j, sym same j))
-    (at_left start v w n lock s s e a inside own refl l (subst (λ (h : List Event). Stands start.base h n s.levels.commands s.levels) (sym still) a.stands) (clear_same start v w n lock s e a inside no_record (ap (open_ids n) still) l) (filed_left start v w n lock s e a inside l))
+    (at_left start v w n lock s s e a inside own refl l (subst (λ (h : List Event). Stands start.base h n s.levels.commands s.levels) (sym still) a.stands) (clear_same start v w n lock s e a inside no_record (ap (open_ids n) still) l) (unaborted_same start v w n lock s e a inside (no_abort e no_record) l) (filed_left start v w n lock s e a inside l))
 
 -- a session that only looked stands as before
 pub ready_looked : (start : Start) (v w : Knowledge) (n n' lock : ℕ) (s s' : Session) (e : Entry) → IsAt start v n s → lock < length v.seen → e ≡ record { by = by_at n s.levels.commands; kind = kinds.Look } → s' ≡ s → n' ≡ n → Leaves start lock e v w → IsReady start w n' s'
 ready_looked start v w n n' lock s s' e a inside is same number l =
     ready_quiet start v w n n' lock s s' e a inside (ap (λ (z : Entry). z.by) is) (ap event_of is) (ap appended is) same number l
 
+same_record : (a b : Rec) → kinds.Append a ≡ kinds.Append b → a ≡ b
+same_record a b q = cc
+
 -- a session whose commit record stands
-pub ready_recorded : (start : Start) (v w : Knowledge) (n n' number : ℕ) (s s' : Session) (e : Entry) → IsAt start v n s → log_lock < length v.seen → e.by ≡ by_at n s.levels.commands → event_of e ≡ None → s' ≡ record s { stage = stages.Logged number } → n' ≡ n → Leaves start log_lock e v w → IsReady start w n' s'
-ready_recorded start v w n n' number s s' e a inside own none same name l =
-    let still : history w.seen ≡ history v.seen = history_same start v w log_lock e none inside l in
+pub ready_recorded : (start : Start) (v w : Knowledge) (n n' number : ℕ) (s s' : Session) (rec : Rec) (e : Entry) → IsAt start v n s → log_lock < length v.seen → e ≡ record { by = by_at n s.levels.commands; kind = kinds.Append rec } → ((top : ℕ) (subs : List ℕ) → rec ≡ records.Abort top subs → ⊥) → s.stage ≡ stages.Clear → s' ≡ record s { stage = stages.Logged number } → n' ≡ n → Leaves start log_lock e v w → IsReady start w n' s'
+ready_recorded start v w n n' number s s' rec e a inside is other clear same name l =
+    let still : history w.seen ≡ history v.seen = history_same start v w log_lock e (ap event_of is) inside l in
     let t : Session = record s { stage = stages.Logged number } in
     subst (λ (z : ℕ × Session). IsReady start w z.0 z.1) (λ j. (sym name j, sym same j))
-    (at_left start v w n log_lock s t e a inside own refl l (subst (λ (h : List Event). Stands start.base h n s.levels.commands s.levels) (sym still) a.stands)
-    (λ q. absurd (false≢true (sym q))) (filed_left start v w n log_lock s e a inside l))
+    (at_left start v w n log_lock s t e a inside (ap (λ (z : Entry). z.by) is) refl l (subst (λ (h : List Event). Stands start.base h n s.levels.commands s.levels) (sym still) a.stands)
+    (λ q. absurd (false≢true (sym q)))
+    (λ q. unaborted_same start v w n log_lock s e a inside (λ top subs k. other top subs (same_record rec (records.Abort top subs) (sym (ap (λ (z : Entry). z.kind) is) ∙ k))) l (ap may_be_aborted clear)) (filed_left start v w n log_lock s e a inside l))
 
 -- a call's session at its end, where its one entry asked for no state and it has the same open ids and stage
 pub call_left : (start : Start) (v u w : Knowledge) (n n' lock : ℕ) (s s' : Session) (e : Entry) → MayCall start v n s → Learns v u → lock < length v.seen → Leaves start lock e u w → asks_in e ≡ []

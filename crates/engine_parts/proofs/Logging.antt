@@ -1,5 +1,5 @@
 -- The log stands for its list after each call.
-use Rattle.std.proofs.Common.{Contains, ⊎_elim, ◌≡◌, ℕ, ◌+◌, ◌≤◌, ◌<◌, List, [], ◌∷◌, ◌++◌, refl, sym, ap, subst, ◌∙◌, append-nil, append_assoc, length, map, arith, Bool, IsTrue, Option, Some, None}
+use Rattle.std.proofs.Common.{Contains, ⊎_elim, ◌≡◌, ℕ, ◌+◌, ◌≤◌, ◌<◌, List, [], ◌∷◌, ◌++◌, refl, sym, ap, subst, ◌∙◌, append-nil, append_assoc, length, map, arith, Bool, IsTrue, Option, Some, None, ◌||◌, false, true}
 use Rattle.std.proofs.lemmas.List.{map_push, length-append}
 use Rattle.std.proofs.lemmas.List.Elements.{Contains-append_left, Contains-push, filter_map-append}
 use Rattle.std.specs.List.{filter_map, cons_option}
@@ -8,14 +8,14 @@ use Rattle.disk_core.specs.Volume.{Volume}
 use Rattle.tx_events.specs.declared.event.By.{By}
 use Rattle.tx_events.specs.declared.record.Counters.{Counters}
 use Rattle.tx_events.specs.declared.record.Rec.{Rec}
-use Rattle.tx_events.proofs.Membership.{by_end, contains_has, has_cases, has_contains}
+use Rattle.tx_events.proofs.Membership.{by_end}
 use Rattle.tx_events.specs.After.{after_record, after_records}
 use Rattle.tx_core.specs.declared.entry.Entry.{Entry}
 use Rattle.tx_core.specs.declared.entry.Kind.{Kind}
 use Rattle.tx_core.specs.declared.entry.Kind.TheVariants as kinds
 use Rattle.tx_core.specs.declared.entry.LogCall.{LogCall}
 use Rattle.tx_core.specs.declared.entry.Start.{Start}
-use Rattle.tx_core.specs.Entries.{appended}
+use Rattle.tx_core.specs.Entries.{appended, flushed_in, flushed_to}
 use Rattle.disk_core.specs.declared.log_disk.LogDisk as logs
 use Rattle.wal_core.specs.declared.wal_log.WalLog.{WalLog}
 use Rattle.wal_core.specs.Kept.{KeepsRecords}
@@ -23,7 +23,12 @@ use Rattle.wal_core.specs.LogViews.{log_counters, log_disk, log_down, log_first,
 use Rattle.tx_core.specs.RecordsFollow.{counters_after}
 use Rattle.tx_core.specs.Entries.{recs_in}
 use Rattle.engine_parts.specs.Parts.{IsLogOf}
-use Rattle.engine_parts.specs.Stand.{HasNoLogFault, LogStands, IsDownAt, faults_told, count_in, flushed_in, flushed_to, last_from}
+use Rattle.std.proofs.lemmas.List.Folds.{list_any-append}
+use Rattle.tx_core.specs.FaultsRise.{count_in, faults_at, faults_told}
+use Rattle.tx_core.specs.Locks.{log_lock}
+use Rattle.tx_core.specs.StaysDown.{IsUp, is_put_down, puts_down}
+use Rattle.tx_core.proofs.LastNumbers.{number_push, number_same}
+use Rattle.engine_parts.specs.Stand.{LogStands, IsDownAt}
 
 -- one entry more
 recs_push : (es : List Entry) (e : Entry) (rec : Rec) → appended e ≡ Some (e.by, rec) → recs_in (es ++ e ∷ []) ≡ recs_in es ++ rec ∷ []
@@ -31,16 +36,6 @@ recs_push es e rec is = ap (map (λ (a : By × Rec). a.1)) (filter_map-append ap
 
 pub recs_same : (es : List Entry) (e : Entry) → appended e ≡ None → recs_in (es ++ e ∷ []) ≡ recs_in es
 recs_same es e is = ap (map (λ (a : By × Rec). a.1)) (filter_map-append appended es (e ∷ []) ∙ (ap (λ o. filter_map appended es ++ cons_option o []) is ∙ append-nil (filter_map appended es)))
-
-end_is : (n : ℕ) (xs : List ℕ) (x : ℕ) → last_from n (xs ++ x ∷ []) ≡ x
-end_is n [] x = refl
-end_is n (y ∷ xs) x = end_is y xs x
-
-pub number_push : (f : Kind → Option ℕ) (n : ℕ) (es : List Entry) (e : Entry) (x : ℕ) → f e.kind ≡ Some x → last_from n (filter_map (λ (d : Entry). f d.kind) (es ++ e ∷ [])) ≡ x
-number_push f n es e x is = ap (last_from n) (filter_map-append (λ (d : Entry). f d.kind) es (e ∷ []) ∙ ap (λ o. filter_map (λ (d : Entry). f d.kind) es ++ cons_option o []) is) ∙ end_is n (filter_map (λ (d : Entry). f d.kind) es) x
-
-pub number_same : (f : Kind → Option ℕ) (n : ℕ) (es : List Entry) (e : Entry) → f e.kind ≡ None → last_from n (filter_map (λ (d : Entry). f d.kind) (es ++ e ∷ [])) ≡ last_from n (filter_map (λ (d : Entry). f d.kind) es)
-number_same f n es e is = ap (last_from n) (filter_map-append (λ (d : Entry). f d.kind) es (e ∷ []) ∙ (ap (λ o. filter_map (λ (d : Entry). f d.kind) es ++ cons_option o []) is ∙ append-nil (filter_map (λ (d : Entry). f d.kind) es)))
 
 pub failed_more : (start : Start) (es : List Entry) (e : Entry) (n : ℕ) → IsDownAt start es n → IsDownAt start (es ++ e ∷ []) n
 failed_more start es e n d =
@@ -50,19 +45,17 @@ failed_more start es e n d =
       by = d.by;
       asked = d.asked;
       count = d.count;
+      down = d.down;
       split = ap (λ (t : List Entry). t ++ e ∷ []) d.split ∙ append_assoc d.before (x ∷ d.rest) (e ∷ []);
       flushed_is = d.flushed_is;
     }
 
-pub failed_here : (start : Start) (es : List Entry) (by : By) (asked : LogCall) (count n : ℕ) → n ≡ flushed_to start es → IsDownAt start (es ++ record { by = by; kind = kinds.LogFault asked count } ∷ []) n
-failed_here start es by asked count n is = record { before = es; rest = []; by = by; asked = asked; count = count; split = refl; flushed_is = is }
+pub failed_here : (start : Start) (es : List Entry) (by : By) (asked : LogCall) (count n : ℕ) → puts_down asked ≡ true → n ≡ flushed_to start es → IsDownAt start (es ++ record { by = by; kind = kinds.LogFault asked count } ∷ []) n
+failed_here start es by asked count n down is = record { before = es; rest = []; by = by; asked = asked; count = count; down = down; split = refl; flushed_is = is }
 
--- no fault, and an entry more that is none
-pub faultless_more : (es : List Entry) (e : Entry) → ((asked : LogCall) (count : ℕ) → e.kind ≡ kinds.LogFault asked count → ⊥) → HasNoLogFault es → HasNoLogFault (es ++ e ∷ [])
-faultless_more es e other none by asked count k =
-    let x : Entry = record { by = by; kind = kinds.LogFault asked count } in
-    ⊎_elim (λ old. none by asked count (has_contains es x old)) (λ new. ⊎_elim (λ (q : e ≡ x). other asked count (ap (λ (f : Entry). f.kind) q)) (λ nowhere. absurd nowhere) new)
-    (has_cases es (e ∷ []) x (contains_has (es ++ e ∷ []) x k))
+-- a log that isn't down, and an entry more that doesn't put it down
+pub up_more : (es : List Entry) (e : Entry) → is_put_down e.kind ≡ false → IsUp es → IsUp (es ++ e ∷ [])
+up_more es e none up = list_any-append (λ (d : Entry). is_put_down d.kind) es (e ∷ []) ∙ (λ j. up j || (none j || false))
 
 module _ (start : Start) (tells : Bool) (faults faults' : ℕ) (images images' : Volume → Type 0) (recs recs' : List Rec) (next next' first first' flushed flushed' : ℕ) (counters counters' : Option Counters) (down down' : Option ℕ) (es : List Entry) (by : By) (s : LogStands start tells faults images recs next first flushed counters down es) where
   -- an append
@@ -77,8 +70,8 @@ module _ (start : Start) (tells : Bool) (faults faults' : ℕ) (images images' :
         flushed_is = f ∙ (s.flushed_is ∙ sym (number_same flushed_in start.from es e refl));
         counters_are = c ∙ ap (λ (l : Counters). Some l) (sym (ap (after_records start.base) more ∙ fold_push after_record start.base (recs_in es) rec));
         failed = λ m is. let before = s.failed m (sym d ∙ is) in (failed_more start es e m before.0, (let le = before.1 in omega arith));
-        up = λ none. faultless_more es e (λ asked count q. cc) (s.up (sym d ∙ none));
-        count = let a : faults_told (es ++ e ∷ []) ≡ faults_told es = number_same count_in 0 es e refl in let b = s.count in omega arith;
+        up = λ none. up_more es e refl (s.up (sym d ∙ none));
+        count = let a : faults_told start log_lock (es ++ e ∷ []) ≡ faults_told start log_lock es = number_same count_in (faults_at start log_lock) es e refl in let b = s.count in omega arith;
         kept = λ told.
             let old = s.kept told in
             (old.0, old.1, subst (λ (l : List Rec). KeepsRecords old.0 l recs' next' first' flushed' images') (append_assoc old.1 (recs_in es) (rec ∷ []) ∙ ap (λ (l : List Rec). old.1 ++ l) (sym more)) (k told old.0 (old.1 ++ recs_in es) old.2));
@@ -86,7 +79,7 @@ module _ (start : Start) (tells : Bool) (faults faults' : ℕ) (images images' :
 
   -- a call that appended nothing: what it says of flushes and faults comes with the entry
   pub goes_on : (kind : Kind) → appended (record { by = by; kind = kind }) ≡ None → recs' ≡ recs → next' ≡ next → counters' ≡ counters → flushed' ≡ flushed_to start (es ++ record { by = by; kind = kind } ∷ [])
-      → faults_told (es ++ record { by = by; kind = kind } ∷ []) ≤ faults' → ((m : ℕ) → down' ≡ Some m → IsDownAt start (es ++ record { by = by; kind = kind } ∷ []) m × (m ≤ flushed')) → (down' ≡ None → HasNoLogFault (es ++ record { by = by; kind = kind } ∷ []))
+      → faults_told start log_lock (es ++ record { by = by; kind = kind } ∷ []) ≤ faults' → ((m : ℕ) → down' ≡ Some m → IsDownAt start (es ++ record { by = by; kind = kind } ∷ []) m × (m ≤ flushed')) → (down' ≡ None → IsUp (es ++ record { by = by; kind = kind } ∷ []))
       → (IsTrue tells → (number : ℕ) (all : List Rec) → KeepsRecords number all recs next first flushed images → KeepsRecords number all recs' next' first' flushed' images')
       → LogStands start tells faults' images' recs' next' first' flushed' counters' down' (es ++ record { by = by; kind = kind } ∷ [])
   goes_on kind none r n c f u d up k =
@@ -110,8 +103,8 @@ log_looks {g = g} start log es by s =
     let e : Entry = record { by = by; kind = kinds.Look } in
     goes_on start g.tells (g.faults (log_disk log)) (g.faults (log_disk log)) (g.images (log_disk log)) (g.images (log_disk log)) (log_recs log) (log_recs log) (log_next log) (log_next log) (log_first log) (log_first log) (log_flushed log) (log_flushed log) (log_counters log) (log_counters log) (log_down log) (log_down log) es by s kinds.Look refl refl refl refl
     (s.flushed_is ∙ sym (number_same flushed_in start.from es e refl))
-    (let same : faults_told (es ++ e ∷ []) ≡ faults_told es = number_same count_in 0 es e refl in let before = s.count in omega arith)
-    (λ m is. let before = s.failed m is in (failed_more start es e m before.0, before.1)) (λ none. faultless_more es e (λ asked count q. cc) (s.up none)) (λ told number all k. k)
+    (let same : faults_told start log_lock (es ++ e ∷ []) ≡ faults_told start log_lock es = number_same count_in (faults_at start log_lock) es e refl in let before = s.count in omega arith)
+    (λ m is. let before = s.failed m is in (failed_more start es e m before.0, before.1)) (λ none. up_more es e refl (s.up none)) (λ told number all k. k)
 
 -- the flushed number is that of a flush, where it is past the start's
 pub flush_stands : (start : Start) (es : List Entry) (number : ℕ) → start.from ≤ number → number < flushed_to start es → (to : ℕ) × (number < to) × (by : By) × Contains es (record { by = by; kind = kinds.Flush to })

@@ -49,6 +49,7 @@ new_may_call start v n s w =
           turns = λ lock. subst (λ (t : List Entry). IsInTurn t (by_at n s.levels.commands)) (sym (w.empty lock)) (All-nil (λ (f : Entry). f.by.command ≤ s.levels.commands));
           stands = subst (λ (h : List Event). Stands start.base h n s.levels.commands s.levels) (sym none) (fresh_stands start.base n s.levels.commands s.levels w.fresh);
           clear = λ q top subs k opened. let z : [] ≡ top ∷ subs = sym (ap (open_ids n) none) ∙ opened in absurd cc;
+          unaborted = λ q id c. absurd (subst (λ (t : List ℕ). Has t id) w.fresh.3 (contains_has s.levels.open_ids.items id c));
           filed = record {
             linked = λ id k. absurd (subst (λ (t : List ℕ). Has (drop 1 t) id) w.fresh.3 (contains_has (drop 1 s.levels.open_ids.items) id k));
             pending = subst (λ (o : Option Unlinked). IfSome o (λ u. Contains (drop 1 s.levels.open_ids.items) u.id × IsGivenBelow v.seen n u.parent u.id × IsMade start v.seen u.id)) (sym w.unlinked) tt;

@@ -11,7 +11,7 @@ use Rattle.tx_core.specs.declared.entry.Start.{Start}
 use Rattle.tx_core.specs.declared.entry.State.{State}
 use Rattle.tx_core.specs.Entries.{mark_of, marks_in}
 use Rattle.tx_core.specs.Laws.{all_set}
-use Rattle.tx_core.specs.Locks.{xact_page}
+use Rattle.tx_core.specs.Locks.{xact_page, xact_lock}
 use Rattle.tx_core.specs.PagesBeforeIds.{WasMade}
 use Rattle.tx_events.proofs.Membership.{Has, by_end, contains_has, has_cases}
 use Rattle.xid_order.specs.Ids.{IsFullId}
@@ -20,8 +20,9 @@ use Rattle.tx_core.specs.Entries.{Mark}
 use Rattle.tx_core.specs.Pages.{Pages, set_by, xact_store, zeroed, zeroed_in}
 use Rattle.tx_core.specs.Verdict.{state_for}
 use Rattle.pg_xact_log.specs.Changes.{SetsStates}
-use Rattle.engine_parts.specs.Stand.{IsInUse, XactStands, faults_told, number_of_state, xact_pages, first_xact_page}
+use Rattle.engine_parts.specs.Stand.{IsInUse, XactStands, number_of_state, xact_pages, first_xact_page}
 use Rattle.engine_parts.proofs.Banking.{last_from_first, pages_push}
+use Rattle.tx_core.specs.FaultsRise.{faults_told}
 use Rattle.engine_parts.proofs.Cutoffs.{cutoff_more}
 
 -- what the last of these changes says of x
@@ -101,7 +102,7 @@ in_use start es id few made full old = let up = made_upto start (λ x. None) es 
 
 pub xact_set : (start : Start) (bank faults faults' last last' cutoff cutoff' : ℕ) (tells : Bool) (bytes bytes' : ℕ → List ℕ) (es : List Entry) (by : By) (state : State) (ids : List ℕ) → XactStands start bank tells faults last cutoff bytes es → last' ≡ last → cutoff' ≡ cutoff
     → start.base.next ≤ start.base.oldest + 2 ^ 31 → ((j : ℕ) → j < length ids → WasMade es (xact_page start.base.next) (xact_page (slice_index ids j)) × IsFullId (slice_index ids j) × (start.base.oldest ≤ slice_index ids j)) → ((j : ℕ) → j < length ids → xact_page_of (slice_index ids j) ≡ xact_page_of (slice_index ids 0))
-    → faults_told (es ++ record { by = by; kind = kinds.Set (all_set by state ids) } ∷ []) ≤ faults'
+    → faults_told start (xact_lock bank) (es ++ record { by = by; kind = kinds.Set (all_set by state ids) } ∷ []) ≤ faults'
     → (IsTrue tells → SetsStates ids (length ids) (number_of_state (Some state)) bytes bytes')
     → XactStands start bank tells faults' last' cutoff' bytes' (es ++ record { by = by; kind = kinds.Set (all_set by state ids) } ∷ [])
 xact_set start bank faults faults' last last' cutoff cutoff' tells bytes bytes' es by state ids s l c window used one_page count sets =

@@ -20,13 +20,14 @@ use Rattle.tx_core.specs.declared.entry.Entry.{Entry}
 use Rattle.tx_core.specs.declared.entry.Kind.TheVariants as kinds
 use Rattle.tx_core.specs.declared.entry.Start.{Start}
 use Rattle.tx_core.specs.Entries.{Link, links_in}
-use Rattle.tx_core.specs.Locks.{subtrans_page}
+use Rattle.tx_core.specs.Locks.{subtrans_page, subtrans_lock}
 use Rattle.tx_core.specs.Pages.{Pages, after_entry, parent_for, set_by, subtrans_store, zeroed, zeroed_in}
 use Rattle.store_pages.specs.Layouts.{number_in, word_page_of, word_place_of}
-use Rattle.engine_parts.specs.Stand.{IsInUse, ShowsParents, SubtransStands, faults_told, number_of_parent, subtrans_pages, first_subtrans_page}
+use Rattle.engine_parts.specs.Stand.{IsInUse, ShowsParents, SubtransStands, number_of_parent, subtrans_pages, first_subtrans_page}
 use Rattle.xid_order.specs.Ids.{low_half}
 use Rattle.engine_parts.proofs.Cutoffs.{cutoff_more}
 use Rattle.xid_order.specs.Order.{ring_before, xid_before}
+use Rattle.tx_core.specs.FaultsRise.{faults_told}
 use Rattle.xid_order.specs.PageOrder.{Ids, page_number, page_precedes}
 
 -- before on the ring
@@ -113,7 +114,7 @@ page_reached start es page made = ⊎_elim (λ (q : page ≡ subtrans_page start
         (has_cases es (e ∷ []) (record { by = by; kind = kinds.Zero page }) k)) es
 
 -- an entry that makes no page and sets no parent
-pub sub_quiet : (start : Start) (bank faults faults' last cutoff : ℕ) (tells : Bool) (bytes bytes' : ℕ → List ℕ) (es : List Entry) (e : Entry) → SubtransStands start bank tells faults last cutoff bytes es → links_in e ≡ [] → zeroed_in e.kind ≡ None → faults_told (es ++ e ∷ []) ≤ faults' → (IsTrue tells → (q : ℕ) → bytes' q ≡ bytes q)
+pub sub_quiet : (start : Start) (bank faults faults' last cutoff : ℕ) (tells : Bool) (bytes bytes' : ℕ → List ℕ) (es : List Entry) (e : Entry) → SubtransStands start bank tells faults last cutoff bytes es → links_in e ≡ [] → zeroed_in e.kind ≡ None → faults_told start (subtrans_lock bank) (es ++ e ∷ []) ≤ faults' → (IsTrue tells → (q : ℕ) → bytes' q ≡ bytes q)
     → SubtransStands start bank tells faults' last cutoff bytes' (es ++ e ∷ [])
 sub_quiet start bank faults faults' last cutoff tells bytes bytes' es e s sets zeros count same =
     let still : subtrans_pages start (es ++ e ∷ []) ≡ subtrans_pages start es = links_push start es e ∙ (λ j. zeroed subtrans_store (zeros j) (set_by subtrans_store (sets j) (subtrans_pages start es))) in
@@ -128,7 +129,7 @@ sub_quiet start bank faults faults' last cutoff tells bytes bytes' es e s sets z
     }
 
 -- a call that read alone
-pub sub_read : (start : Start) (bank faults faults' last last' cutoff cutoff' : ℕ) (tells : Bool) (bytes bytes' : ℕ → List ℕ) (es : List Entry) (e : Entry) → SubtransStands start bank tells faults last cutoff bytes es → last' ≡ last → cutoff' ≡ cutoff → links_in e ≡ [] → zeroed_in e.kind ≡ None → faults_told (es ++ e ∷ []) ≤ faults' → (IsTrue tells → (q : ℕ) → bytes' q ≡ bytes q)
+pub sub_read : (start : Start) (bank faults faults' last last' cutoff cutoff' : ℕ) (tells : Bool) (bytes bytes' : ℕ → List ℕ) (es : List Entry) (e : Entry) → SubtransStands start bank tells faults last cutoff bytes es → last' ≡ last → cutoff' ≡ cutoff → links_in e ≡ [] → zeroed_in e.kind ≡ None → faults_told start (subtrans_lock bank) (es ++ e ∷ []) ≤ faults' → (IsTrue tells → (q : ℕ) → bytes' q ≡ bytes q)
     → SubtransStands start bank tells faults' last' cutoff' bytes' (es ++ e ∷ [])
 sub_read start bank faults faults' last last' cutoff cutoff' tells bytes bytes' es e s l c sets zeros count same =
     subst (λ (z : ℕ × ℕ). SubtransStands start bank tells faults' z.0 z.1 bytes' (es ++ e ∷ [])) (λ j. (sym l j, sym c j)) (sub_quiet start bank faults faults' last cutoff tells bytes bytes' es e s sets zeros count same)
@@ -206,7 +207,7 @@ module _ (start : Start) (bank faults last cutoff : ℕ) (tells : Bool) (bytes :
         }
 
     -- a page is made, or it was made before
-    pub sub_made : faults_told (es ++ made_entry ∷ []) ≤ faults' → SubtransStands start bank tells faults' last' cutoff bytes' (es ++ made_entry ∷ [])
+    pub sub_made : faults_told start (subtrans_lock bank) (es ++ made_entry ∷ []) ≤ faults' → SubtransStands start bank tells faults' last' cutoff bytes' (es ++ made_entry ∷ [])
     sub_made count = record { inside = s.inside; count = count; last_is = lasts (nat_lt old_last page) refl; cutoff_is = cutoff_more (first_subtrans_page start) (2 ^ 21) es made_entry cutoff s.cutoff_is; shown = shows (nat_lt old_last page) refl }
 
 -- ---- a parent is set
@@ -226,7 +227,7 @@ module _ (start : Start) (bank faults last cutoff : ℕ) (tells : Bool) (bytes :
       turned x true = refl
       turned x false = refl
 
-  pub sub_set : (faults' last' cutoff' : ℕ) (bytes' : ℕ → List ℕ) → last' ≡ last → cutoff' ≡ cutoff → faults_told (es ++ set_entry ∷ []) ≤ faults' → (IsTrue tells → SetsEntry (word_page_of id) (low_half id % 2048) (low_half parent) bytes bytes') → SubtransStands start bank tells faults' last' cutoff' bytes' (es ++ set_entry ∷ [])
+  pub sub_set : (faults' last' cutoff' : ℕ) (bytes' : ℕ → List ℕ) → last' ≡ last → cutoff' ≡ cutoff → faults_told start (subtrans_lock bank) (es ++ set_entry ∷ []) ≤ faults' → (IsTrue tells → SetsEntry (word_page_of id) (low_half id % 2048) (low_half parent) bytes bytes') → SubtransStands start bank tells faults' last' cutoff' bytes' (es ++ set_entry ∷ [])
   sub_set faults' last' cutoff' bytes' l c count sets =
       let same : (subtrans_pages start (es ++ set_entry ∷ [])).last ≡ (subtrans_pages start es).last = ap (λ (p : Pages ℕ). p.last) after_set in
       subst (λ (z : ℕ × ℕ). SubtransStands start bank tells faults' z.0 z.1 bytes' (es ++ set_entry ∷ [])) (λ j. (sym l j, sym c j)) (record {

@@ -53,25 +53,26 @@ pub record IsCommitPending (lists : List (List Entry)) (by : By) (s : Stance) : 
   pub stands : Contains (at lists log_lock) (record { by = other; kind = kinds.Append (records.Commit top subs) })
 
 -- fewer ids were given than would bring two pages of one stored number near each other
-abbrev pub AreFew : Start → List (List Entry) → Type 0
-AreFew start lists = length (given (history lists)) < 2900000
+abbrev pub AreFewIds : List (List Entry) → Type 0
+AreFewIds lists = length (given (history lists)) < 2900000
 
--- the ids that the life begins with as committed were given before it
+-- the ids with which a life begins as committed were given before it
 abbrev pub AreGivenBefore : Start → Type 0
 AreGivenBefore start = (x : ℕ) → Contains start.committed x → (3 ≤ x) × (x < start.base.next)
 
--- A verdict is told where the volumes tell, in a life of few ids that begins with none of its own.
+-- A verdict is told where the volumes tell, in a life of few ids, whose first committed ones were given before it:
+-- nothing is read of an id that the snapshot hides by itself.
 abbrev pub MayTell : Bool → Start → List (List Entry) → RoundSpan → By → Stance → Command → Reply → Type 0
 MayTell tells start lists span by s command (replies.Seen verdict) =
-    IsTrue tells → AreFew start lists → AreGivenBefore start
+    IsTrue tells → AreFewIds lists → AreGivenBefore start
     → MayReply start.base start.committed (history lists) span by s command (replies.Seen verdict)
 MayTell tells start lists span by s command reply =
     MayReply start.base start.committed (history lists) span by s command reply
 
 -- The reply that a command may get, by the lists as they are then or later. A fault is one that this command met, of a
--- volume that it asks. A log is down behind a fault that its list has, and holds up no record that was on disk before. A
--- commit is pending by the session's own record, an abort or an undo by its stage. Memory may be wanting to each command
--- that takes some. That a log is full the lists don't tell, as they have no sizes.
+-- volume that it asks. A log is down behind a fault that its list has, and holds up no record that was on disk before.
+-- A commit is pending by the session's own record, an abort or an undo by its stage. Memory may be wanting to each
+-- command that takes some. That a log is full the lists don't tell, as they have no sizes.
 abbrev pub MayAnswer : Bool → Start → List (List Entry) → RoundSpan → By → Stance → Stage → Command → Reply → Type 0
 MayAnswer tells start lists span by s stage command (replies.Refused refusals.Memory) =
     IsTrue (takes_memory command s stage)
@@ -88,9 +89,9 @@ MayAnswer tells start lists span by s stage command (replies.Refused refusals.Ab
 MayAnswer tells start lists span by s stage command (replies.Refused refusals.UndoPending) = stage ≡ stages.Undoing
 MayAnswer tells start lists span by s stage command reply = MayTell tells start lists span by s command reply
 
--- What a call did: the lists went on, the session's events are those before and then these, which are the command's and
--- fit its reply. The reply is lawful, and a refusal by how the session stands comes exactly where the session stands so.
--- The session stands as the reply leaves it.
+-- What a call did: the lists went on, the session's events are those before and then these, which are the command's
+-- and fit its reply. The reply is lawful, and a refusal by how the session stands comes exactly where the session
+-- stands so. The session stands as the reply leaves it.
 pub record Acted (tells : Bool) (start : Start) (by : By) (s s' : Stance) (stage : Stage) (command : Command)
     (reply : Reply) (lists lists' : List (List Entry)) : Type 0 where
   pub grows : Grows lists lists'

@@ -7,11 +7,10 @@ use Rattle.notes.specs.Lists.{Knows, add, at}
 use Rattle.tx_events.specs.Horizon.{oldest_xmin}
 use Rattle.tx_core.specs.declared.entry.Entry.{Entry}
 use Rattle.tx_core.specs.declared.entry.Start.{Start}
-use Rattle.tx_core.specs.Entries.{session_of}
+use Rattle.tx_core.specs.Entries.{session_of, last_from}
 use Rattle.tx_core.specs.EngineInvariant.{EngineInvariant}
 use Rattle.tx_core.specs.Locks.{first_request, oldest_word, proc_lock, xmin_word}
 use Rattle.tx_core.specs.PostsFollow.{posts}
-use Rattle.engine_parts.specs.Stand.{last_from}
 
 -- A lock's list is added to by whoever is inside; the two published words are written inside the ProcArray's lock, and
 -- each session's requests by itself.

@@ -18,7 +18,7 @@ use Rattle.engine_parts.specs.declared.session.Session.{Session}
 use Rattle.engine_parts.specs.declared.session.Unlinked.{Unlinked}
 use Rattle.engine_parts.specs.Faults.{look_of}
 use Rattle.engine_parts.specs.Holds.{Knowledge}
-use Rattle.engine_parts.specs.Stages.{IsInStage, may_be_recorded}
+use Rattle.engine_parts.specs.Stages.{AreUnaborted, IsInStage, may_be_aborted, may_be_recorded}
 
 abbrev pub by_at : ℕ → ℕ → By
 by_at session command = record { session = session; command = command }
@@ -56,6 +56,7 @@ pub record IsAt (start : Start) (v : Knowledge) (n : ℕ) (s : Session) : Type 0
   pub turns : (lock : ℕ) → IsInTurn (at v.seen lock) (by_at n s.levels.commands)
   pub stands : levels.Stands start.base (history v.seen) n s.levels.commands s.levels
   pub clear : may_be_recorded s.stage ≡ false → HasNoRecord v.seen n
+  pub unaborted : may_be_aborted s.stage ≡ false → AreUnaborted v.seen n s.levels.open_ids.items
   pub filed : IsFiled start v.seen n s.levels.open_ids.items s.unlinked
 
 -- it is inside no lock

@@ -17,6 +17,7 @@ use Rattle.tx_core.specs.declared.entry.State.TheVariants as states
 use Rattle.tx_core.specs.AbortRule.{Asks}
 use Rattle.tx_core.specs.Entries.{IsFlushed, IsMarked, records_of}
 use Rattle.engine_parts.specs.declared.session.Stage.{Stage}
+use Rattle.tx_core.specs.RecordsOnce.{HasNoAbort}
 use Rattle.engine_parts.specs.declared.session.Stage.TheVariants as stages
 
 -- whether a commit record of what is open may stand in the log
@@ -24,6 +25,16 @@ abbrev pub may_be_recorded : Stage → Bool
 may_be_recorded (stages.Logged number) = true
 may_be_recorded (stages.Settling steps) = true
 may_be_recorded _ = false
+
+-- whether an abort record of some of it may
+abbrev pub may_be_aborted : Stage → Bool
+may_be_aborted stages.Aborting = true
+may_be_aborted stages.Undoing = true
+may_be_aborted _ = false
+
+-- no abort record of the session names one of these ids
+abbrev pub AreUnaborted : List (List Entry) → ℕ → List ℕ → Type 0
+AreUnaborted lists n ids = (id : ℕ) → Contains ids id → HasNoAbort lists n id
 
 -- the session asked for no state of these ids
 abbrev pub AreUnasked : List (List Entry) → ℕ → List ℕ → Type 0

@@ -1,6 +1,6 @@
 -- What a value behind a lock says, where the lock's list is this one. A record for each kind of value, over plain
 -- numbers, lists and maps.
-use Rattle.std.specs.Prelude.{◌≡◌, ℕ, ◌+◌, ◌*◌, ◌^◌, ◌%◌, ◌<◌, ◌≤◌, ◌⊎◌, Bool, false, IsTrue, List, ◌∷◌, ◌++◌, length, Option, Some, None, Contains, max}
+use Rattle.std.specs.Prelude.{◌≡◌, ℕ, ◌+◌, ◌*◌, ◌^◌, ◌%◌, ◌<◌, ◌≤◌, ◌⊎◌, Bool, false, IsTrue, List, ◌∷◌, ◌++◌, length, Option, Some, None, Contains, max, true}
 use Rattle.std.specs.List.{filter_map, fold}
 use Rattle.disk_core.specs.Volume.{Volume}
 use Rattle.tx_events.specs.declared.event.By.{By}
@@ -19,55 +19,29 @@ use Rattle.tx_core.specs.declared.entry.Start.{Start}
 use Rattle.tx_core.specs.declared.entry.State.{State}
 use Rattle.tx_core.specs.declared.entry.State.TheVariants as states
 use Rattle.tx_core.specs.CleanStart.{CleanStart}
-use Rattle.tx_core.specs.Entries.{cut_in, events_in, recs_in}
-use Rattle.tx_core.specs.Locks.{subtrans_page, xact_page}
+use Rattle.tx_core.specs.Entries.{cut_in, events_in, recs_in, flushed_to}
+use Rattle.tx_core.specs.Locks.{subtrans_page, xact_page, log_lock, subtrans_lock, xact_lock}
 use Rattle.tx_core.specs.Pages.{Pages, pages_after, subtrans_store, xact_store}
+use Rattle.tx_core.specs.FaultsRise.{faults_told}
+use Rattle.tx_core.specs.StaysDown.{IsUp, puts_down}
 use Rattle.tx_core.specs.RecordsFollow.{counters_after}
-
--- the last of the numbers, or n where there is none
-abbrev pub last_from : ℕ → List ℕ → ℕ
-last_from n xs = fold (λ _ x. x) n xs
-
--- ---- faults
-
--- the count of faults that an entry tells
-abbrev pub count_in : Kind → Option ℕ
-count_in (kinds.LogFault asked count) = Some count
-count_in (kinds.Fault callers changes cut count) = Some count
-count_in _ = None
-
--- the count that the list tells last
-abbrev pub faults_told : List Entry → ℕ
-faults_told es = last_from 0 (filter_map (λ e. count_in e.kind) es)
 
 -- ---- the log
 
-abbrev pub flushed_in : Kind → Option ℕ
-flushed_in (kinds.Flush to) = Some to
-flushed_in _ = None
-
--- the number below which all records are flushed
-abbrev pub flushed_to : Start → List Entry → ℕ
-flushed_to start es = last_from start.from (filter_map (λ e. flushed_in e.kind) es)
-
--- a call of the log failed when the records below this number were flushed
+-- a call put the log down when the records below this number were flushed
 pub record IsDownAt (start : Start) (es : List Entry) (flushed : ℕ) : Type 0 where
   pub before : List Entry
   pub rest : List Entry
   pub by : By
   pub asked : LogCall
   pub count : ℕ
+  pub down : puts_down asked ≡ true
   pub split : es ≡ before ++ record { by = by; kind = kinds.LogFault asked count } ∷ rest
   pub flushed_is : flushed ≡ flushed_to start before
 
--- no call of the log failed
-abbrev pub HasNoLogFault : List Entry → Type 0
-HasNoLogFault es =
-    (by : By) (asked : LogCall) (count : ℕ) → Contains es (record { by = by; kind = kinds.LogFault asked count }) → ⊥
-
--- The log has the records from before and those that were appended. Its flushed number is that of the last flush. It is
--- down exactly where it met a fault, from what was flushed then on. Each image of its volume opens to the records that
--- are flushed.
+-- The log has the records from before and those that were appended. Its flushed number is that of the last flush. It
+-- is down exactly where its list says so, from what was flushed then on. Each image of its volume opens to the records
+-- that are flushed.
 pub record LogStands (start : Start) (tells : Bool) (faults : ℕ) (images : Volume → Type 0) (recs : List Rec)
     (next first flushed : ℕ) (counters : Option Counters) (down : Option ℕ) (es : List Entry) : Type 0 where
   pub recs_are : recs ≡ start.logged ++ recs_in es
@@ -75,8 +49,8 @@ pub record LogStands (start : Start) (tells : Bool) (faults : ℕ) (images : Vol
   pub flushed_is : flushed ≡ flushed_to start es
   pub counters_are : counters ≡ Some (counters_after start es)
   pub failed : (n : ℕ) → down ≡ Some n → IsDownAt start es n × (n ≤ flushed)
-  pub up : down ≡ None → HasNoLogFault es
-  pub count : faults_told es ≤ faults
+  pub up : down ≡ None → IsUp es
+  pub count : faults_told start log_lock es ≤ faults
   pub kept : IsTrue tells → (number : ℕ) × (past : List Rec)
       × KeepsRecords number (past ++ recs_in es) recs next first flushed images
 
@@ -148,7 +122,7 @@ pub record ShowsStates (start : Start) (bank cutoff : ℕ) (bytes : ℕ → List
 pub record XactStands (start : Start) (bank : ℕ) (tells : Bool) (faults last cutoff : ℕ) (bytes : ℕ → List ℕ)
     (es : List Entry) : Type 0 where
   pub inside : bank < start.banks
-  pub count : faults_told es ≤ faults
+  pub count : faults_told start (xact_lock bank) es ≤ faults
   pub last_is : AreXactPagesNear start es → last ≡ last_xact_page start es % 2 ^ 17
   pub cutoff_is : IsCutoff (first_xact_page start) (2 ^ 17) es cutoff
   pub shown : IsTrue tells → AreXactPagesNear start es
@@ -176,7 +150,7 @@ pub record ShowsParents (start : Start) (bank cutoff : ℕ) (bytes : ℕ → Lis
 pub record SubtransStands (start : Start) (bank : ℕ) (tells : Bool) (faults last cutoff : ℕ) (bytes : ℕ → List ℕ)
     (es : List Entry) : Type 0 where
   pub inside : bank < start.banks
-  pub count : faults_told es ≤ faults
+  pub count : faults_told start (subtrans_lock bank) es ≤ faults
   pub last_is : AreSubtransPagesNear start es → last ≡ (subtrans_pages start es).last % 2 ^ 21
   pub cutoff_is : IsCutoff (first_subtrans_page start) (2 ^ 21) es cutoff
   pub shown : IsTrue tells → AreSubtransPagesNear start es

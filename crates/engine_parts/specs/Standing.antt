@@ -29,8 +29,8 @@ no_savepoint s = then_some (nat_le (length s.levels) 1) refusals.NoSavepoint
 abbrev pub no_snapshot : List ℕ → Stance → Option Refusal
 no_snapshot name s = then_some (is_none (snap_of name s)) refusals.NoSnapshot
 
--- The pending end that a command is refused for: `undo` goes on with an undo and `commit` with a commit; `abort` goes on
--- with an abort, and ends what an undo has left.
+-- The pending end that a command is refused for: `undo` goes on with an undo and `commit` with a commit; `abort` goes
+-- on with an abort, and ends what an undo has left.
 abbrev pub held_by : Command → Stage → Option Refusal
 held_by commands.Save stage = pending_in stage
 held_by commands.Write stage = pending_in stage
@@ -180,8 +180,8 @@ abbrev pub IsLoggedFrom : Stage → Stage → Type 0
 IsLoggedFrom (stages.Logged number) new = new ≡ stages.Logged number
 IsLoggedFrom old new = (old ≡ stages.Clear) × (number : ℕ) × (new ≡ stages.Logged number)
 
--- Behind a commit that was refused so: its record is in doubt behind a fault of the log's volume. A log that is down has
--- it or hasn't. A fault of pg_xact comes behind the flush, any other refusal before the record.
+-- Behind a commit that was refused so: its record is in doubt behind a fault of the log's volume. A log that is down
+-- has it or hasn't. A fault of pg_xact comes behind the flush, any other refusal before the record.
 abbrev pub IsLeftByCommit : Refusal → Stage → Stage → Type 0
 IsLeftByCommit refusals.LogFault old new = IsLoggedFrom old new
 IsLeftByCommit (refusals.LogDown down) old new = (new ≡ old) ⊎ IsLoggedFrom old new

@@ -1,5 +1,5 @@
 -- What the critical sections of the log need, and leave.
-use Rattle.std.proofs.Common.{Contains, Err, Result, IsNone, IsTrue, None, Some, Option, inl, inr, ⊎_elim, ◌⊎◌, ◌≡◌, ℕ, ◌+◌, ◌<◌, ◌≤◌, List, [], ◌∷◌, ◌++◌, drop, refl, sym, ap, subst, ◌∙◌, length, arith}
+use Rattle.std.proofs.Common.{Contains, Err, Result, IsNone, IsTrue, None, Some, Option, inl, inr, ⊎_elim, ◌⊎◌, ◌≡◌, ℕ, ◌+◌, ◌<◌, ◌≤◌, List, [], ◌∷◌, ◌++◌, drop, refl, sym, ap, subst, ◌∙◌, length, arith, false}
 use Rattle.std.specs.List.{slice_get}
 use Rattle.std.proofs.lemmas.Bool.{false≢true}
 use Rattle.std.proofs.lemmas.List.{length-append, length-map}
@@ -15,7 +15,6 @@ use Rattle.tx_events.specs.Base.{IsBase}
 use Rattle.tx_events.proofs.PlaceLemmas.{last_at}
 use Rattle.tx_core.specs.declared.entry.Entry.{Entry}
 use Rattle.tx_core.specs.declared.entry.Kind.TheVariants as kinds
-use Rattle.tx_core.specs.declared.entry.LogCall.{LogCall}
 use Rattle.tx_core.specs.declared.entry.Start.{Start}
 use Rattle.tx_core.specs.declared.entry.State.TheVariants as states
 use Rattle.tx_core.specs.Entries.{IsLinked, appended, history, records_in, records_of, recs_in, session_of}
@@ -40,26 +39,34 @@ use Rattle.engine_parts.specs.Faults.{look_of}
 use Rattle.engine_parts.specs.Law.{MayKeep}
 use Rattle.engine_parts.specs.Parts.{IsLogOf}
 use Rattle.engine_parts.specs.Sessions.{IsAt, IsReady, IsThe, MayCall, by_at}
-use Rattle.engine_parts.specs.Stages.{AreUnasked, IsAppendedAt, IsInStage}
-use Rattle.engine_parts.specs.Stand.{HasNoLogFault, IsDownAt}
+use Rattle.engine_parts.specs.Stages.{AreUnasked, IsAppendedAt, IsInStage, may_be_aborted, may_be_recorded}
+use Rattle.engine_parts.specs.Stand.{IsDownAt}
 use Rattle.session_levels.proofs.HeadLemmas.{first_top}
 use Rattle.engine_parts.proofs.Leaving.{asks_nothing}
-use Rattle.engine_parts.proofs.Logging.{failed_more, faultless_more, recs_same}
+use Rattle.engine_parts.proofs.Logging.{failed_more, recs_same, up_more}
+use Rattle.tx_core.specs.StaysDown.{IsUp, is_put_down}
 use Rattle.log_sections.specs.LogSections.{FlushRefused, IsAppendRefused, IsCommitOf, IsFlushRefused, IsRefusalOf}
+
+abbrev pub append_entry : By → Rec → Entry
+append_entry by rec = record { by = by; kind = kinds.Append rec }
+
+abbrev pub flush_entry : By → ℕ → Entry
+flush_entry by to = record { by = by; kind = kinds.Flush to }
 
 -- the session asked for no state of these ids, as others go on
 pub unasked_on : (n : ℕ) (seen lists : List (List Entry)) (ids : List ℕ) → Knows session_of n seen lists → AreUnasked seen n ids → AreUnasked lists n ids
 unasked_on n seen lists ids knows a id state c asked = a id state c (own_asks n id state seen lists knows asked)
 
 -- the commit record of what the session has open may be appended
-pub may_append_commit : (start : Start) (v : Knowledge) (n : ℕ) (s : Session) (rec : Rec) (e : Entry) → IsAt start v n s → s.unlinked ≡ None → IsCommitOf s.levels.open_ids.items rec → AreUnasked v.seen n s.levels.open_ids.items → StaysBase start v.seen rec → e ≡ record { by = by_at n s.levels.commands; kind = kinds.Append rec }
+pub may_append_commit : (start : Start) (v : Knowledge) (n : ℕ) (s : Session) (rec : Rec) (e : Entry) → IsAt start v n s → s.stage ≡ stages.Clear → s.unlinked ≡ None → IsCommitOf s.levels.open_ids.items rec → AreUnasked v.seen n s.levels.open_ids.items → StaysBase start v.seen rec → IsUp (at v.seen log_lock) → e ≡ record { by = by_at n s.levels.commands; kind = kinds.Append rec }
     → MayKeep start v.seen log_lock e
-may_append_commit start v n s rec e a none r unasked base is =
+may_append_commit start v n s rec e a clear none r unasked base up is =
     let links : (id : ℕ) → Contains r.subs id → (parent : ℕ) × IsLinked start v.seen id parent = λ id k.
     ⊎_elim (λ p. p) (λ t. absurd (subst (λ o. IsThe o id) none t)) (a.filed.linked id (subst (λ (l : List ℕ). Contains (drop 1 l) id) (sym r.ids) k)) in
     subst (MayKeep start v.seen log_lock) (sym (is ∙ ap (λ (z : Rec). record { by = by_at n s.levels.commands; kind = kinds.Append z }) r.is)) (λ lists k knows inside whole.
     commit_record_law start v.seen (by_at n s.levels.commands) r.top r.subs (a.stands.opened ∙ r.ids) (first_top (history v.seen) s.levels.open_ids.items s.levels.level_ids.items r.top r.subs a.stands.nest r.ids) links
-    (λ id k asked. unasked id states.Aborted (subst (λ (l : List ℕ). Contains l id) (sym r.ids) k) asked) (subst (StaysBase start v.seen) r.is base) lists k knows inside whole (a.turns log_lock))
+    (λ id k asked. unasked id states.Aborted (subst (λ (l : List ℕ). Contains l id) (sym r.ids) k) asked)
+    (a.clear (ap may_be_recorded clear)) (λ id k. a.unaborted (ap may_be_aborted clear) id (subst (λ (l : List ℕ). Contains l id) (sym r.ids) k)) (subst (StaysBase start v.seen) r.is base) up lists k knows inside whole (a.turns log_lock))
 
 -- an appended record stands under its number
 pub numbered : (start : Start) (u w : Knowledge) (n number : ℕ) (by : By) (rec : Rec) → by.session ≡ n → log_lock < length u.seen → number ≡ start.from + length (recs_in (at u.seen log_lock)) → Leaves start log_lock (record { by = by; kind = kinds.Append rec }) u w → IsAppendedAt start w.seen n rec number
@@ -98,9 +105,9 @@ call_recorded start v u w n n' number s s' rec m clear r learns inside l is same
 pub down_left : (start : Start) (u w : Knowledge) (e : Entry) (down : ℕ) → log_lock < length u.seen → Leaves start log_lock e u w → IsDownAt start (at u.seen log_lock) down → IsDownAt start (at w.seen log_lock) down
 down_left start u w e down inside l d = subst (λ (t : List Entry). IsDownAt start t down) (sym (ap (λ (z : List (List Entry)). at z log_lock) l.seen ∙ at_here u.seen log_lock e inside)) (failed_more start (at u.seen log_lock) e down d)
 
--- the log met no fault, and so it is behind an entry more that is none
-pub up_left : (start : Start) (u w : Knowledge) (e : Entry) → log_lock < length u.seen → Leaves start log_lock e u w → ((asked : LogCall) (count : ℕ) → e.kind ≡ kinds.LogFault asked count → ⊥) → HasNoLogFault (at u.seen log_lock) → HasNoLogFault (at w.seen log_lock)
-up_left start u w e inside l other up = subst HasNoLogFault (sym (ap (λ (z : List (List Entry)). at z log_lock) l.seen ∙ at_here u.seen log_lock e inside)) (faultless_more (at u.seen log_lock) e other up)
+-- the log wasn't down, and so it isn't behind an entry more that doesn't put it down
+pub up_left : (start : Start) (u w : Knowledge) (e : Entry) → log_lock < length u.seen → Leaves start log_lock e u w → is_put_down e.kind ≡ false → IsUp (at u.seen log_lock) → IsUp (at w.seen log_lock)
+up_left start u w e inside l other up = subst (λ (t : List Entry). IsUp t) (sym (ap (λ (z : List (List Entry)). at z log_lock) l.seen ∙ at_here u.seen log_lock e inside)) (up_more (at u.seen log_lock) e other up)
 
 -- what isn't down by a number isn't down
 pub not_down : (down : Option ℕ) → ((n : ℕ) → down ≡ Some n → ⊥) → down ≡ None
@@ -130,7 +137,7 @@ may_come start log u w opened rec e s r inside none l lawful base =
     }
 
 -- what the log refused an append for
-pub append_refused : (start : Start) (lists : List (List Entry)) (why : LogRefusal) (r : Refusal) → IsRefusalOf why r → (why ≡ refused.LogFault → ⊥) → ((down : ℕ) → why ≡ refused.LogDown down → IsDownAt start (at lists log_lock) down) → ((why ≡ refused.Full) ⊎ (why ≡ refused.Memory) → HasNoLogFault (at lists log_lock)) → IsAppendRefused start lists r
+pub append_refused : (start : Start) (lists : List (List Entry)) (why : LogRefusal) (r : Refusal) → IsRefusalOf why r → (why ≡ refused.LogFault → ⊥) → ((down : ℕ) → why ≡ refused.LogDown down → IsDownAt start (at lists log_lock) down) → ((why ≡ refused.Full) ⊎ (why ≡ refused.Memory) → IsUp (at lists log_lock)) → IsAppendRefused start lists r
 append_refused start lists refused.LogFault r is fault down up = absurd (fault refl)
 append_refused start lists (refused.Damaged place) r is fault down up = absurd is
 append_refused start lists (refused.LogDown at) r is fault down up = subst (IsAppendRefused start lists) (sym is) (down at refl)

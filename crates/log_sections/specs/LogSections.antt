@@ -20,8 +20,9 @@ use Rattle.engine_parts.specs.declared.session.Stage.TheVariants as stages
 use Rattle.engine_parts.specs.Answers.{MetLogFault}
 use Rattle.engine_parts.specs.Faults.{flush_fault_by, look_of}
 use Rattle.engine_parts.specs.Holds.{Knowledge, Section}
-use Rattle.engine_parts.specs.Stand.{HasNoLogFault, IsDownAt}
+use Rattle.engine_parts.specs.Stand.{IsDownAt}
 use Rattle.log_sections.specs.declared.appending.Appended.{Appended}
+use Rattle.tx_core.specs.StaysDown.{IsUp}
 use Rattle.log_sections.specs.declared.appending.Appended.TheVariants as came
 
 -- the refusal that a call answers where its log refused so; a log that was opened isn't damaged
@@ -43,8 +44,8 @@ pub record IsCommitOf (opened : List ℕ) (rec : Rec) : Type 0 where
 -- wanting.
 abbrev pub IsAppendRefused : Start → List (List Entry) → Refusal → Type 0
 IsAppendRefused start lists (refusals.LogDown down) = IsDownAt start (at lists log_lock) down
-IsAppendRefused start lists refusals.Full = HasNoLogFault (at lists log_lock)
-IsAppendRefused start lists refusals.Memory = HasNoLogFault (at lists log_lock)
+IsAppendRefused start lists refusals.Full = IsUp (at lists log_lock)
+IsAppendRefused start lists refusals.Memory = IsUp (at lists log_lock)
 IsAppendRefused start lists _ = ⊥
 
 -- The record stands under the number that the session's stage tells. Or the session stands as before: after the record,

@@ -6,6 +6,7 @@ ghost use Rattle.notes.specs.Lists.{at};
 ghost use Rattle.tx_core.specs.declared.entry.Kind.TheVariants as kinds;
 ghost use Rattle.tx_core.specs.Laws.{StaysBase};
 ghost use Rattle.tx_core.specs.Locks.{log_lock};
+ghost use Rattle.tx_core.specs.StaysDown.{IsUp};
 ghost use Rattle.engine_parts.specs.declared.session.Stage.TheVariants as stages;
 ghost use Rattle.engine_parts.specs.Holds.{Leaves};
 ghost use Rattle.engine_parts.specs.Parts.{IsLogOf};
@@ -16,10 +17,12 @@ ghost use Rattle.log_sections.specs.LogSections.{AppendSection, Appends, IsCommi
 
 use crate::refusals::refusal_of;
 use disk_core::{LogDisk, PageDisk};
-use engine_parts::{Caller, EngineLaw, Part, Stage, enter_log, leave_log, leave_looked};
+use engine_parts::{
+    Caller, EngineLaw, Part, Stage, command_of, enter_log, leave_log, leave_looked,
+};
 use hall::{Hall, Note};
 use std::sync::Wait;
-use tx_events::{By, Rec, Refusal};
+use tx_events::{Rec, Refusal};
 use wal_core::WalLog;
 
 /// What came of a commit record.
@@ -45,8 +48,10 @@ fn leave_appended<L: LogDisk, P: PageDisk>(
     requires inside { (view caller.old.pass).stage ≡ Inside log_lock }
     requires cell { caller.old.pass.cell ≡ log_lock }
     requires at { IsAt (start_of hall.now) (view caller.old.pass) caller.old.number caller.old.session }
+    requires clear { caller.old.session.stage ≡ stages.Clear }
     requires linked { caller.old.session.unlinked ≡ None }
     requires record { IsCommitOf caller.old.session.levels.open_ids.items rec.now }
+    requires up { IsUp (at (view caller.old.pass).seen log_lock) }
     requires unasked { AreUnasked (view caller.old.pass).seen caller.old.number
         caller.old.session.levels.open_ids.items }
     requires base { StaysBase (start_of hall.now) (view caller.old.pass).seen rec.now }
@@ -63,10 +68,7 @@ fn leave_appended<L: LogDisk, P: PageDisk>(
     ensures session { caller.new.session ≡ record caller.old.session { stage = stages.Logged number } }
     ensures number { caller.new.number ≡ caller.old.number }
 {
-    let by = By {
-        session: caller.number,
-        command: caller.session.levels.commands,
-    };
+    let by = command_of(caller);
     let entry = Note::by(&(by, rec));
     leave_log(hall, caller, log, entry);
     caller.session.stage = Stage::Logged { number };

@@ -4,8 +4,11 @@ ghost use Rattle.hall.specs.declared.view.Stage.TheVariants.{Inside};
 ghost use Rattle.hall.specs.Calls.{view, IsOf, start_of};
 ghost use Rattle.notes.specs.Lists.{at};
 ghost use Rattle.tx_core.specs.declared.entry.Kind.TheVariants as kinds;
-ghost use Rattle.tx_core.specs.Entries.{records_of};
+ghost use Rattle.disk_core.specs.Faults.{HasRisen};
+ghost use Rattle.tx_core.specs.Entries.{flushed_to, records_of};
+ghost use Rattle.tx_core.specs.FaultsRise.{faults_told};
 ghost use Rattle.tx_core.specs.Locks.{log_lock};
+ghost use Rattle.tx_core.specs.StaysDown.{IsUp};
 ghost use Rattle.wal_core.specs.LogViews.{log_disk};
 ghost use Rattle.engine_parts.specs.Faults.{flush_fault_by};
 ghost use Rattle.engine_parts.specs.Holds.{Leaves};
@@ -17,7 +20,7 @@ ghost use Rattle.log_sections.specs.LogSections.{FlushSection, IsFlushedPast, Is
 use crate::refusals::refusal_of;
 use disk_core::{LogDisk, PageDisk};
 use engine_parts::{
-    Caller, EngineLaw, Part, enter_log, flush_fault_note, leave_looked, leave_quiet,
+    Caller, EngineLaw, Part, command_of, enter_log, flush_fault_note, leave_looked, leave_quiet,
 };
 use hall::{Hall, Note};
 use std::sync::Wait;
@@ -44,6 +47,8 @@ fn leave_flushed<L: LogDisk, P: PageDisk>(
     requires inside { (view caller.old.pass).stage ≡ Inside log_lock }
     requires cell { caller.old.pass.cell ≡ log_lock }
     requires at { IsAt (start_of hall.now) (view caller.old.pass) caller.old.number caller.old.session }
+    requires rises { flushed_to (start_of hall.now) (at (view caller.old.pass).seen log_lock) ≤ to }
+    requires up { IsUp (at (view caller.old.pass).seen log_lock) }
     requires within { to ≤ (start_of hall.now).from + length (records_of (view caller.old.pass).seen) }
     requires stands { IsLogOf (start_of hall.now) log
         (at (view caller.old.pass).seen log_lock ++ record {
@@ -57,10 +62,7 @@ fn leave_flushed<L: LogDisk, P: PageDisk>(
         (view caller.old.pass) (view caller.new.pass) }
     ensures same { (caller.new.session ≡ caller.old.session) × (caller.new.number ≡ caller.old.number) }
 {
-    let by = By {
-        session: caller.number,
-        command: caller.session.levels.commands,
-    };
+    let by = command_of(caller);
     let entry = flush_note(by, to);
     leave_quiet(hall, caller, 0, Part::Log(log), entry);
 }
@@ -76,6 +78,10 @@ fn leave_failed<L: LogDisk, P: PageDisk>(
     requires inside { (view caller.old.pass).stage ≡ Inside log_lock }
     requires cell { caller.old.pass.cell ≡ log_lock }
     requires at { IsAt (start_of hall.now) (view caller.old.pass) caller.old.number caller.old.session }
+    requires up { IsUp (at (view caller.old.pass).seen log_lock) }
+    requires risen { HasRisen
+        (faults_told (start_of hall.now) log_lock (at (view caller.old.pass).seen log_lock))
+        (L.faults (log_disk log)) }
     requires stands { IsLogOf (start_of hall.now) log
         (at (view caller.old.pass).seen log_lock
         ++ flush_fault_by (by_at caller.old.number caller.old.session.levels.commands) (L.faults (log_disk log)) ∷ []) }
@@ -86,10 +92,7 @@ fn leave_failed<L: LogDisk, P: PageDisk>(
         (view caller.old.pass) (view caller.new.pass) }
     ensures same { (caller.new.session ≡ caller.old.session) × (caller.new.number ≡ caller.old.number) }
 {
-    let by = By {
-        session: caller.number,
-        command: caller.session.levels.commands,
-    };
+    let by = command_of(caller);
     let entry = flush_fault_note(by, &log);
     leave_quiet(hall, caller, 0, Part::Log(log), entry);
 }

@@ -30,6 +30,7 @@ use Rattle.engine_parts.specs.Law.{MayKeep}
 use Rattle.engine_parts.specs.Sessions.{IsAt, IsReady, MayCall, by_at}
 use Rattle.engine_parts.proofs.Leaving.{at_left, history_event}
 use Rattle.engine_parts.proofs.Pending.{record_of}
+use Rattle.engine_parts.specs.Stages.{AreUnaborted}
 use Rattle.proc_sections.specs.Endings.{MayEnd, end_state}
 
 abbrev pub end_entry : XactEnd → By → ℕ → Entry
@@ -75,6 +76,7 @@ ready_ended start v w n n' s s' how top subs e a is split count named unnamed op
     (at_left start v w n proc_lock s s' e a (omega arith) (ap (λ (z : Entry). z.by) is) count l
     (subst (λ (z : List Event × ℕ). Stands start.base z.0 n z.1 s'.levels) (λ j. (sym grown j, sym count j)) (stands start.base (h ++ event ∷ []) n s.levels.commands s'.levels (rw (opened, named, unnamed, registered) st)))
     (λ q t more k now. absurd (none_open t more (sym st.opened_are ∙ (ap (open_ids n) (sym grown) ∙ now))))
+    (λ q. subst (λ (t : List ℕ). AreUnaborted w.seen n t) (sym opened) (λ id c. absurd (contains_has [] id c)))
     (rw (opened, unlinked) (record { linked = λ id c. absurd (contains_has [] id c); pending = tt })))
   where
     none_open : (t : ℕ) (more : List ℕ) → [] ≡ t ∷ more → ⊥

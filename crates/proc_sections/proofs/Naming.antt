@@ -9,7 +9,7 @@ use Rattle.tx_events.specs.declared.event.Event.TheVariants as events
 use Rattle.tx_events.specs.declared.record.Counters.{Counters}
 use Rattle.tx_events.specs.declared.record.Rec.{Rec}
 use Rattle.tx_events.specs.declared.record.Rec.TheVariants as records
-use Rattle.tx_events.specs.Events.{by_of}
+use Rattle.tx_events.specs.Events.{by_of, given_to}
 use Rattle.tx_events.specs.History.{IsLegal, MayCome, next_given}
 use Rattle.tx_events.specs.Running.{open_ids}
 use Rattle.tx_events.proofs.GivenIds.{given_below, given_to_given, legal_take, open_below}
@@ -23,7 +23,7 @@ use Rattle.tx_core.specs.AbortRule.{Asks}
 use Rattle.tx_core.specs.CommitRecordsExact.{HasNoRecord}
 use Rattle.tx_core.specs.EngineInvariant.{EngineInvariant}
 use Rattle.tx_core.specs.Entries.{IsAppended, IsLinked, appended, event_of, history}
-use Rattle.tx_core.specs.Locks.{proc_lock}
+use Rattle.tx_core.specs.Locks.{proc_lock, log_lock}
 use Rattle.tx_core.specs.PagesBeforeIds.{IsMade, IsTold}
 use Rattle.tx_core.specs.ParentsFollow.{IsGivenBelow}
 use Rattle.tx_core.specs.ProgramOrder.{IsInTurn}
@@ -41,8 +41,10 @@ use Rattle.engine_parts.specs.declared.session.Unlinked.{Unlinked}
 use Rattle.engine_parts.specs.Holds.{Knowledge, Leaves}
 use Rattle.engine_parts.specs.Law.{MayKeep}
 use Rattle.engine_parts.specs.Sessions.{IsAt, IsFiled, IsReady, IsThe, MayCall, by_at}
-use Rattle.engine_parts.specs.Stages.{AreUnasked, AsksNothing, IsInStage, may_be_recorded}
+use Rattle.engine_parts.specs.Stages.{AreUnasked, AsksNothing, IsInStage, may_be_recorded, AreUnaborted, may_be_aborted}
 use Rattle.engine_parts.proofs.Leaving.{at_left, grown_left, history_event}
+use Rattle.tx_core.proofs.Asking.{upheld_has}
+use Rattle.tx_core.specs.RecordsFollow.{NeedsNamed}
 use Rattle.proc_sections.specs.Givings.{IsNamed, naming, unlinked_of}
 
 abbrev pub giving_entry : By → Option ℕ → ℕ → Entry
@@ -101,11 +103,29 @@ module _ (start : Start) (v w : Knowledge) (n : ℕ) (s s' : Session) (id : ℕ)
       (λ c. not_open_before start.base (history v.seen) c.0 n id a.kept.events.legal next_is (subst (λ (t : List ℕ). Contains t id) (sym c.4) mine))
       (a.kept.records.exact n top subs before).ids
 
+  -- no abort record names an id that is given now
+  unnamed : (top : ℕ) (subs : List ℕ) → IsAppended v.seen n (records.Abort top subs) → Contains (top ∷ subs) id → ⊥
+  unnamed top subs k among =
+      let x : Entry = record { by = k.0; kind = kinds.Append (records.Abort top subs) } in
+      let named = (upheld_has (NeedsNamed start) v.seen log_lock x a.kept.log.named (contains_has (at v.seen log_lock) x k.2)).1 in
+      let below = given_below start.base (history v.seen) a.kept.events.legal id (given_to_given k.0.session (history v.seen) id (contains_has (given_to k.0.session (history v.seen)) id (named id among))) in
+      let same = next_is in
+      omega arith
+
+  unaborted : AreUnaborted w.seen n (s.levels.open_ids.items ++ id ∷ [])
+  unaborted x k top subs named among =
+      let before : IsAppended v.seen n (records.Abort top subs) = ⊎_elim (λ old. old) (λ new. absurd (no_record e (records.Abort top subs) (ap appended is) new.2)) (appended_cases v.seen proc_lock e n (records.Abort top subs) inside (subst (λ (z : List (List Entry)). IsAppended z n (records.Abort top subs)) l.seen named)) in
+      ⊎_elim
+      (λ o. a.unaborted (ap may_be_aborted record_free) x (has_contains s.levels.open_ids.items x o) top subs before among)
+      (λ q. ⊎_elim (λ (same : id ≡ x). unnamed top subs before (subst (λ z. Contains (top ∷ subs) z) (sym same) among)) (λ z. absurd z) q)
+      (has_cases s.levels.open_ids.items (id ∷ []) x (contains_has (s.levels.open_ids.items ++ id ∷ []) x k))
+
   pub ready_given : IsReady start w n s'
   ready_given =
       at_left start v w n proc_lock s s' e a inside (ap (λ (z : Entry). z.by) is) g.count l
       (subst (λ (z : List Event × ℕ). Stands start.base z.0 n z.1 s'.levels) (λ j. (sym grown j, sym g.count j)) (stands start.base (history v.seen ++ event ∷ []) n s.levels.commands s'.levels (rw (g.opened, g.named, g.registered) st)))
       (λ q. clear)
+      (λ q. subst (λ (t : List ℕ). AreUnaborted w.seen n t) (sym g.opened) unaborted)
       (subst (λ (z : List ℕ × Option Unlinked). IsFiled start w.seen n z.0 z.1) (λ j. (sym g.opened j, sym g.unlinked j)) (record { linked = links; pending = pend (last_of s.levels.level_ids.items) refl grown }))
     where
       no_open : (named opened : List ℕ) → last_of named ≡ None → 1 ≤ length opened → Nest (history v.seen) opened named → ⊥

@@ -61,8 +61,8 @@ pub record IsGivenIn (start : Start) (n : ℕ) (event : Event) (id : ℕ) (warn 
   pub after : history more ≡ (history lists ++ rest) ++ event ∷ []
   pub late : IsTrue warn ↔ (warn_limit (oldest_id start.base.oldest (history lists ++ rest)) ≤ id)
 
--- The next id was given. Or its pages weren't told yet, or memory was wanting, or the stop limit is reached; then nothing
--- was given.
+-- The next id was given. Or its pages weren't told yet, or memory was wanting, or the stop limit is reached; then
+-- nothing was given.
 abbrev pub GivesId : Start → ℕ → Session → Session → List (List Entry) → List (List Entry) → Result Given Refusal
     → Type 0
 GivesId start n s s' lists more (Ok (gives.Id id warn)) =

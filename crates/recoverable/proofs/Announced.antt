@@ -13,8 +13,8 @@ use Rattle.tx_core.specs.EngineInvariant.{EngineInvariant}
 use Rattle.tx_core.specs.MultiEntries.{multi_history}
 use Rattle.tx_core.specs.RecordsFollow.{IsMultiAnnounced}
 use Rattle.recoverable.specs.LifeBase.{AreInOrder}
-use Rattle.recoverable.proofs.MultiFacts.{raised_from}
-use Rattle.recoverable.proofs.MultiOrder.{Ordered, ordered}
+use Rattle.tx_core.proofs.MultiGiven.{raised_from}
+use Rattle.tx_core.proofs.MultiOrder.{Ordered, ordered}
 
 -- where a multixact of the base is announced as the oldest one, it is announced with its offset
 abbrev pub AreRaisesTold : Start → List (List Entry) → Type 0

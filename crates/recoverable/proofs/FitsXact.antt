@@ -8,7 +8,7 @@ use Rattle.disk_core.specs.Pages.{Pages, page_bytes}
 use Rattle.std.proofs.lemmas.List.{take-append-drop}
 use Rattle.std.proofs.Math.Seq.{take-length}
 use Rattle.tx_core.proofs.RecordNext.{next_given_all}
-use Rattle.recoverable.proofs.Room.{has_room}
+use Rattle.tx_core.proofs.Room.{has_room}
 use Rattle.tx_events.proofs.GivenIds.{given_below, given_to_given, legal_take}
 use Rattle.tx_events.proofs.ListSteps.{not_both}
 use Rattle.tx_events.proofs.IdOrder.{nth_from}

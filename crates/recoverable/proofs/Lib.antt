@@ -1,14 +1,11 @@
 pub mod Stretches
 pub mod LogBases
-pub mod Room
 pub mod Places
 pub mod FitsXact
 pub mod Offsets
-pub mod MultiFacts
 pub mod OffsetsFit
 pub mod Checkpoints
 pub mod OffsetsNone
-pub mod MultiOrder
 pub mod MultiChain
 pub mod Announced
 pub mod MembersFit

@@ -31,7 +31,7 @@ use Rattle.recoverable.proofs.Announced.{announced_given, announced_old}
 use Rattle.recoverable.proofs.Checkpoints.{append_at}
 use Rattle.recoverable.proofs.LogBases.{base_from, committed_below, life_recs, multi_below, next_grows, oldest_multi_grows, offset_grows, multi_grows, recorded_split}
 use Rattle.recoverable.proofs.MultiChain.{Chained, chained, free_upto, next_later, next_upto}
-use Rattle.recoverable.proofs.MultiOrder.{Ordered, ordered}
+use Rattle.tx_core.proofs.MultiOrder.{Ordered, ordered}
 use Rattle.recoverable.proofs.OffsetsFit.{appended_gen}
 use Rattle.recoverable.proofs.Stretches.{map_get}
 

@@ -22,7 +22,7 @@ use Rattle.tx_core.specs.declared.entry.Kind.TheVariants as kinds
 use Rattle.tx_core.specs.declared.entry.Start.{Start}
 use Rattle.tx_core.proofs.Asking.{upheld_has}
 use Rattle.tx_core.proofs.Cutting.{cut_says}
-use Rattle.tx_core.proofs.Nearness.{multis_are_legal, raises_told}
+use Rattle.tx_core.proofs.Nearness.{free_upto, multis_are_legal, raises_told}
 use Rattle.tx_core.proofs.PageShowing.{members_show, of_number}
 use Rattle.tx_core.specs.CutsFollow.{IsMemberGone, IsTruncated}
 use Rattle.tx_core.specs.EngineInvariant.{EngineInvariant}
@@ -41,7 +41,7 @@ use Rattle.recoverable.specs.Laws.{IsBeginning, LogFollows, MembersFitLaw}
 use Rattle.recoverable.proofs.Announced.{AreRaisesTold, announced_given, announced_old}
 use Rattle.recoverable.proofs.FitsXact.{may_forget}
 use Rattle.recoverable.proofs.LogBases.{life_recs}
-use Rattle.recoverable.proofs.MultiOrder.{Ordered, ordered}
+use Rattle.tx_core.proofs.MultiOrder.{Ordered, ordered}
 use Rattle.recoverable.proofs.Offsets.{zero_byte}
 use Rattle.recoverable.proofs.OffsetsFit.{announced_multi, appended_gen, earlier_recorded, last_all, last_some, life_end, number_of_bytes, oldest_multi_from, recorded_below, recorded_cases, truncated_multi}
 use Rattle.recoverable.proofs.Places.{shows_from}
@@ -60,7 +60,7 @@ module _ (start : Start) (lists : List (List Entry)) (log : KeptLog) (k : Engine
   -- a life of few multixacts has room for their members
   room : (free_offset start.base.offset (multi_history lists) ≤ start.base.offset + 2 ^ 28) × (start.base.offset ≤ start.base.oldest_offset + 2 ^ 30)
   room =
-      let o = order in let r = o.room in let s : start.base.offset ≤ member_stop start.base.oldest_offset = is.offset in
+      let r = free_upto start.base (multi_history lists) (multis_are_legal start lists k) in let s : start.base.offset ≤ member_stop start.base.oldest_offset = is.offset in
       let b : member_stop start.base.oldest_offset ≤ start.base.oldest_offset + 2 ^ 30 = below start.base.oldest_offset in (omega arith, omega arith)
     where
       below : (oldest : ℕ) → member_stop oldest ≤ oldest + 2 ^ 30

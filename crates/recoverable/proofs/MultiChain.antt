@@ -13,7 +13,7 @@ use Rattle.tx_events.proofs.Membership.{Has, by_end, has_cases}
 use Rattle.tx_events.proofs.PlaceLemmas.{by_place, each_place_last, each_place_start}
 use Rattle.tx_events.specs.Multis.{AreLegalMultis, InBase, IsNextMade, MultiMayCome, first_member, free_after, free_offset, made, made_by, next_made, nth_multi}
 use Rattle.tx_core.proofs.Rising.{made_more, multi_above}
-use Rattle.recoverable.proofs.MultiOrder.{last_cases, members_in, multi_in, offset_in}
+use Rattle.tx_core.proofs.MultiOrder.{last_cases, members_in, multi_in, offset_in}
 
 next_full : (n : ℕ) → IsFullMulti (next_multi n)
 next_full n = grind arith

@@ -44,7 +44,8 @@ use Rattle.recoverable.specs.Images.{MayBeGone}
 use Rattle.recoverable.specs.OffsetImages.{ByteSince, CleanOffsets, OffsetsFollow, number_or_none, offset_after, offset_ring}
 use Rattle.recoverable.proofs.FitsXact.{logged_at, may_forget}
 use Rattle.recoverable.proofs.LogBases.{base_from, life_recs, oldest_multi_grows, oldest_multi_past, recorded_split}
-use Rattle.recoverable.proofs.MultiFacts.{gen_below, multis_have_room, one_offset, raised_from}
+use Rattle.tx_core.proofs.MultiGiven.{gen_below, one_offset, raised_from}
+use Rattle.tx_core.proofs.Room.{multis_have_room}
 use Rattle.recoverable.proofs.Offsets.{given_from, set_of}
 use Rattle.recoverable.proofs.Stretches.{filter_map_has, flat_map_has, get_in_beginning, get_map, has_longer, has_taken, has_within, map_get, taken_place}
 

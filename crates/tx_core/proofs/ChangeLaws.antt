@@ -82,10 +82,13 @@ changes_law start seen lock by changes may lists k knows inside whole turn =
       members = record { slots = a.slots; offsets = a.offsets };
       syncs = tt;
       posts = tt;
+      faults = tt;
+      down = tt;
+      once = tt;
     })
 
 pub fault_law : FaultKeeps
-fault_law start seen lock by callers changes cut count may named truncated lists k knows inside whole turn =
+fault_law start seen lock by callers changes cut count may named truncated risen lists k knows inside whole turn =
     let a = asked_of_each start seen lock by.session changes may in
     keeps start lists seen lock (record { by = by; kind = kinds.Fault callers changes cut count }) k knows inside whole (record {
       events = record { own = tt; rule = λ here. tt };
@@ -102,6 +105,9 @@ fault_law start seen lock by callers changes cut count may named truncated lists
       members = record { slots = a.slots; offsets = a.offsets };
       syncs = tt;
       posts = tt;
+      faults = risen;
+      down = tt;
+      once = tt;
     })
 
 pub request_law : RequestKeeps
@@ -128,6 +134,9 @@ request_law start seen lock by changes behind given unrecorded lists k knows ins
       members = record { slots = tt; offsets = tt };
       syncs = tt;
       posts = tt;
+      faults = tt;
+      down = tt;
+      once = tt;
     })
 
 -- the states that a session sets for itself are all one

@@ -23,7 +23,7 @@ use Rattle.tx_core.proofs.Reading.{flushed_appended}
 use Rattle.tx_core.specs.CutsFollow.{CutBy, NeedsCut}
 use Rattle.tx_core.specs.EngineInvariant.{EngineInvariant}
 use Rattle.tx_core.specs.Entries.{cut_in, history}
-use Rattle.tx_core.specs.Laws.{ParentsKept, StatesKept}
+use Rattle.tx_core.specs.Consequences.{ParentsKept, StatesKept}
 use Rattle.notes.specs.Lists.{at}
 use Rattle.tx_core.specs.Locks.{log_lock, subtrans_lock, xact_lock}
 use Rattle.tx_core.specs.RecordsFollow.{IsOldestAnnounced, NeedsCounters}
@@ -33,7 +33,7 @@ pub cut_says : (start : Start) (lists : List (List Entry)) (lock page : ℕ) (e 
 cut_says start lists lock page e k c g =
     if_some (cut_in e.kind) (CutBy start lists lock) page (upheld_has (NeedsCut start) lists lock e k.cuts.each (contains_has (at lists lock) e c)).1 g
 
-before_upto : (n : ℕ) → id_before n ≤ n
+pub before_upto : (n : ℕ) → id_before n ≤ n
 before_upto n =
     elim (nat_lt (n - 1) 3) as (λ b. cond b (n - 1) (cond (nat_lt (low_half (n - 1)) 3) (n - 1 - low_half (n - 1) - 1) (n - 1)) ≤ n) [
       | true ↦ omega arith

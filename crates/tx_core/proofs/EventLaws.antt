@@ -9,6 +9,7 @@ use Rattle.tx_events.specs.Running.{closed}
 use Rattle.tx_core.specs.declared.entry.Entry.{Entry}
 use Rattle.tx_core.specs.declared.entry.Start.{Start}
 use Rattle.tx_core.proofs.Keeping.{keeps}
+use Rattle.tx_core.proofs.Once.{commit_once}
 use Rattle.tx_core.specs.AbortRule.{AbortsOf}
 use Rattle.tx_core.specs.CommitRecordsExact.{LeavesRecords}
 use Rattle.tx_core.specs.Entries.{appended, history}
@@ -40,6 +41,9 @@ event_keeps start seen by event own rule pages leaves states closed lists k know
       members = record { slots = tt; offsets = tt };
       syncs = tt;
       posts = tt;
+      faults = tt;
+      down = tt;
+      once = tt;
     })
 
 pub id_event_law : IdEventKeeps
@@ -86,10 +90,13 @@ made_law start seen by id made next lists k knows inside whole turn =
       members = record { slots = tt; offsets = tt };
       syncs = tt;
       posts = tt;
+      faults = tt;
+      down = tt;
+      once = tt;
     })
 
 pub commit_record_law : CommitRecordKeeps
-commit_record_law start seen by top subs opened root parents unasked base lists k knows inside whole turn =
+commit_record_law start seen by top subs opened root parents unasked none unaborted base up lists k knows inside whole turn =
     keeps start lists seen log_lock (record { by = by; kind = kinds.Append (records.Commit top subs) }) k knows inside whole (record {
       events = record { own = tt; rule = λ here. tt };
       pages = record { ids = tt; changes = record { marks = tt; links = tt; offsets = tt; slots = tt }; made = tt };
@@ -105,4 +112,7 @@ commit_record_law start seen by top subs opened root parents unasked base lists 
       members = record { slots = tt; offsets = tt };
       syncs = tt;
       posts = tt;
+      faults = tt;
+      down = up;
+      once = commit_once start seen lists by k knows whole top subs opened none unaborted;
     })

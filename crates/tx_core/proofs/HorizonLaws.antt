@@ -7,7 +7,7 @@ use Rattle.tx_events.specs.History.{IsLegal}
 use Rattle.tx_events.specs.Horizon.{live_snaps, oldest_xmin}
 use Rattle.tx_core.proofs.Lasting.{history_grows}
 use Rattle.tx_core.specs.Entries.{history}
-use Rattle.tx_core.specs.Laws.{HorizonRises, SnapshotsHold}
+use Rattle.tx_core.specs.Consequences.{HorizonRises, SnapshotsHold}
 
 pub positive : (n : ℕ) → IsFullId n → 0 < n
 positive n full = let f : 3 ≤ n % 2 ^ 32 = full in omega arith

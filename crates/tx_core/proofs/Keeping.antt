@@ -37,7 +37,10 @@ use Rattle.tx_core.specs.MultisLegal.{NeedsMulti}
 use Rattle.tx_core.specs.MembersBeforeOffset.{MembersBeforeOffset, NeedsOffsets, NeedsSlots}
 use Rattle.tx_core.specs.SyncsBeforeForgets.{NeedsSync}
 use Rattle.tx_core.specs.PostsFollow.{NeedsPost}
-use Rattle.tx_core.proofs.LastingFurther.{counters_lasting, cuts_lasting, multis_lasting, offsets_lasting, posts_lasting, slots_lasting, syncs_lasting}
+use Rattle.tx_core.specs.FaultsRise.{NeedsCount}
+use Rattle.tx_core.specs.StaysDown.{NeedsUp}
+use Rattle.tx_core.specs.RecordsOnce.{NeedsOnce}
+use Rattle.tx_core.proofs.LastingFurther.{counters_lasting, cuts_lasting, down_lasting, faults_lasting, multis_lasting, offsets_lasting, once_lasting, posts_lasting, slots_lasting, syncs_lasting}
 use Rattle.tx_core.specs.StatusBeforeCommit.{NeedsStates}
 use Rattle.tx_events.specs.declared.event.Event.TheVariants as events
 use Rattle.tx_core.specs.declared.entry.Kind.TheVariants as kinds
@@ -219,4 +222,7 @@ keeps start lists seen lock e k knows inside whole may =
       members = members_kept start seen lists lock e s;
       syncs = record { each = kept start seen lists lock e s (NeedsSync start) (syncs_lasting start) k.syncs.each may.syncs };
       posts = record { each = kept start seen lists lock e s (NeedsPost start) (posts_lasting start) k.posts.each may.posts };
+      faults = record { each = kept start seen lists lock e s (NeedsCount start) (faults_lasting start) k.faults.each may.faults };
+      down = record { each = kept start seen lists lock e s NeedsUp down_lasting k.down.each may.down };
+      once = record { each = kept start seen lists lock e s NeedsOnce once_lasting k.once.each may.once };
     }

@@ -199,6 +199,7 @@ ids_stay start lists more by (records.Abort top subs) g n = λ id c. contains_be
 ids_stay start lists more by (records.Multi multi offset members) g n = (
   (n.0.0, n.0.1, contains_begins (multi_history lists) (multi_history more) (multis.Gen n.0.0 multi offset members) (multis_grow lists more g) n.0.2),
   λ id c. let le = given_more start.base (history lists) (history more) (history_grows lists more g) in let lt = n.1 id c in omega arith,
+  n.2,
 )
 ids_stay start lists more by _ g n = tt
 

@@ -26,6 +26,9 @@ use Rattle.tx_core.specs.MembersBeforeOffset.{IsRecorded, NeedsOffsets, NeedsSlo
 use Rattle.tx_core.specs.MultiEntries.{IsSlotSet, multi_history, offsets_in, slots_in}
 use Rattle.tx_core.specs.MultisLegal.{NeedsMulti}
 use Rattle.tx_core.specs.PostsFollow.{IsFound, NeedsPost, PostIn}
+use Rattle.tx_core.specs.FaultsRise.{NeedsCount}
+use Rattle.tx_core.specs.StaysDown.{NeedsUp}
+use Rattle.tx_core.specs.RecordsOnce.{NeedsOnce}
 use Rattle.tx_core.specs.RecordsFollow.{AppendOf, CountersOf, IsMultiAnnounced, IsMultiAt, IsOldestAnnounced, NeedsCounters}
 use Rattle.tx_core.specs.SyncsBeforeForgets.{AreMembersSynced, AreOffsetsSynced, AreStatesSynced, ForgetOf, IsMultiBelow, IsNamedBelow, IsSynced, MayForget, NeedsSync}
 use Rattle.tx_core.specs.declared.entry.Kind.TheVariants as kinds
@@ -187,3 +190,14 @@ post_stays start lists more lock before _ g n = tt
 
 pub posts_lasting : (start : Start) → IsLasting (NeedsPost start)
 posts_lasting start = record { stays = λ lists more lock before e g n. post_stays start lists more lock before e.kind g n }
+
+-- faults, and records that contradict none
+
+pub faults_lasting : (start : Start) → IsLasting (NeedsCount start)
+faults_lasting start = record { stays = λ lists more lock before e g n. n }
+
+pub down_lasting : IsLasting NeedsUp
+down_lasting = record { stays = λ lists more lock before e g n. n }
+
+pub once_lasting : IsLasting NeedsOnce
+once_lasting = record { stays = λ lists more lock before e g n. n }

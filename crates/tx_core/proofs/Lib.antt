@@ -25,3 +25,13 @@ pub mod Nearness
 pub mod Cutting
 pub mod RecordNext
 pub mod OpenKept
+pub mod LastNumbers
+pub mod FaultCounts
+pub mod LogLaws
+pub mod MultiGiven
+pub mod Room
+pub mod MultiOrder
+pub mod MultiRaised
+pub mod Holding
+pub mod LogBehind
+pub mod Once

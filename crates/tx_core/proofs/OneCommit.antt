@@ -18,7 +18,8 @@ use Rattle.tx_core.proofs.Opening.{opens}
 use Rattle.tx_core.proofs.Quiet.{flush_law}
 use Rattle.tx_core.specs.AbortRule.{AsksAbort}
 use Rattle.tx_core.specs.EngineInvariant.{EngineInvariant}
-use Rattle.tx_core.specs.Entries.{IsMarked, Mark, asks_in, history, session_of}
+use Rattle.tx_events.specs.declared.record.Rec.{Rec}
+use Rattle.tx_core.specs.Entries.{IsAppended, IsMarked, Mark, asks_in, history, session_of}
 use Rattle.tx_core.specs.Laws.{all_set}
 use Rattle.notes.specs.Lists.{Knows, add, at}
 use Rattle.tx_core.specs.Locks.{log_lock, proc_lock, xact_lock, xact_lock_of, xact_page}
@@ -40,6 +41,7 @@ start = record {
   recorded = [];
   logged = [];
   told = false;
+  faults = [];
 }
 
 abbrev pub by : ℕ → ℕ → By
@@ -137,14 +139,18 @@ unasked id a =
     let none : asks_in a.entry ≡ [] = all_at (λ (e : Entry). asks_in e ≡ []) (at one a.lock) a.entry (quiet_one a.lock) (contains_has (at one a.lock) a.entry a.stands) in
     subst (λ (t : List Mark). Has t (record { caller = a.caller; id = id; state = states.Aborted })) none (contains_has (asks_in a.entry) (record { caller = a.caller; id = id; state = states.Aborted }) a.asks)
 
+nothing_logged : (rec : Rec) → IsAppended one 0 rec → ⊥
+nothing_logged rec a = contains_has [] (entry a.0 (kinds.Append rec)) a.2
+
 after_record : EngineInvariant start two
 after_record =
     commit_record_law start one (by 0 3) 3 [] refl refl (λ id c. absurd (contains_has [] id c)) (λ id c a. unasked id a)
+    (λ top subs a q. nothing_logged (records.Commit top subs) a) (λ id c top subs a d. nothing_logged (records.Abort top subs) a)
     (record { full = omega arith; full_oldest = omega arith; oldest = omega arith; next = omega arith; oldest_multi = omega arith; multi = omega arith; oldest_offset = omega arith; offset = omega arith; none = λ q. refl })
-    one after_id (sees_all 0 one) (omega arith) refl (turns (by 0 3) [] tt)
+    refl one after_id (sees_all 0 one) (omega arith) refl (turns (by 0 3) [] tt)
 
 after_flush : EngineInvariant start three
-after_flush = flush_law start two (by 0 3) 2 (omega arith) two after_record (sees_all 0 two) (omega arith) refl (turns (by 0 3) (logged ∷ []) (omega arith, tt))
+after_flush = flush_law start two (by 0 3) 2 (omega arith) (omega arith) refl two after_record (sees_all 0 two) (omega arith) refl (turns (by 0 3) (logged ∷ []) (omega arith, tt))
 
 only_three : (P : ℕ → Type 0) → P 3 → (id : ℕ) → Contains (3 ∷ []) id → P id
 only_three P p id c = ⊎_elim (λ (q : 3 ≡ id). subst P q p) (λ z. absurd z) (contains_has (3 ∷ []) id c)

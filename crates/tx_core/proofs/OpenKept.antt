@@ -4,7 +4,7 @@ use Rattle.tx_events.specs.declared.event.Event.{Event}
 use Rattle.tx_events.specs.declared.event.Event.TheVariants as events
 use Rattle.tx_events.specs.declared.record.Counters.{Counters}
 use Rattle.tx_events.proofs.Extremes.{fold_min_has, fold_min_start}
-use Rattle.tx_events.proofs.GivenIds.{given_to_given, legal_front, legal_last}
+use Rattle.tx_events.proofs.GivenIds.{given_to_given, legal_front, legal_last, open_below}
 use Rattle.tx_events.proofs.Horizons.{xmin_at}
 use Rattle.tx_events.proofs.HorizonSteps.{oldest_push}
 use Rattle.tx_events.proofs.IdOrder.{next_of_before}
@@ -21,7 +21,8 @@ use Rattle.tx_events.specs.Running.{is_open, running_tops}
 use Rattle.tx_events.specs.Snapshots.{snapshot_xmax, snapshot_xmin}
 use Rattle.tx_core.proofs.HorizonLaws.{positive}
 use Rattle.tx_core.specs.Entries.{history}
-use Rattle.tx_core.specs.Laws.{OpenKept}
+use Rattle.tx_core.specs.Consequences.{OpenKept}
+use Rattle.tx_core.specs.Held.{OpenRuns}
 
 announced_step : (base : Counters) (h : List Event) (e : Event) → oldest_id base.oldest h ≤ oldest_xmin base.next h → oldest_xmin base.next h ≤ oldest_xmin base.next (h ++ e ∷ []) → MayCome base h e
     → announced_after (oldest_id base.oldest h) e ≤ oldest_xmin base.next (h ++ e ∷ [])
@@ -36,8 +37,9 @@ announced_under base is = by_end (λ h. IsLegal base h → oldest_id base.oldest
     let up = xmin_at base h (e ∷ []) legal is.full (positive base.next is.full) in
     subst (λ z. z ≤ oldest_xmin base.next (h ++ e ∷ [])) (sym (oldest_push base.oldest h e)) (announced_step base h e (before (legal_front base h e legal)) up (legal_last base h e legal)))
 
-pub open_kept : OpenKept
-open_kept start lists session x k is among =
+-- it is from the oldest xmin on
+pub open_runs : OpenRuns
+open_runs start lists session x k among =
     let h : List Event = history lists in
     let base : Counters = start.base in
     let o = has_filter (is_open h) (given_to session h) x (contains_has _ x among) in
@@ -45,4 +47,9 @@ open_kept start lists session x k is among =
     let low : top h x ≤ x = f.below (top h x) (top_in h x) in
     let runs : snapshot_xmin base.next h ≤ top h x = fold_min_has (snapshot_xmax base.next h) (running_tops h) (top h x) (top_runs h x f o.1) in
     let xmin : oldest_xmin base.next h ≤ snapshot_xmin base.next h = fold_min_start (snapshot_xmin base.next h) (map (λ (s : LiveSnap). s.xmin) (live_snaps base.next h)) in
-    let announced = announced_under base is h k.events.legal in omega arith
+    (omega arith, open_below base h session x k.events.legal among)
+
+pub open_kept : OpenKept
+open_kept start lists session x k is among =
+    let past = (open_runs start lists session x k among).0 in
+    let announced = announced_under start.base is (history lists) k.events.legal in omega arith

@@ -17,7 +17,8 @@ use Rattle.tx_core.specs.CommitRecordsExact.{NeedsLinks}
 use Rattle.tx_core.specs.EngineInvariant.{EngineInvariant}
 use Rattle.tx_core.specs.Entries.{IsAppended, IsMarked, Mark, asks_in, events_in, history, marks, marks_in}
 use Rattle.tx_core.specs.EventsLegal.{NeedsOwn}
-use Rattle.tx_core.specs.Laws.{AskedGiven, CommittedAsked, NeverAborted, Opens}
+use Rattle.tx_core.specs.Laws.{Opens}
+use Rattle.tx_core.specs.Consequences.{AskedGiven, CommittedAsked, NeverAborted}
 use Rattle.notes.specs.Lists.{at}
 use Rattle.tx_core.specs.Lists.{Upheld}
 use Rattle.tx_core.specs.Locks.{log_lock, proc_lock, xact_lock_of}
@@ -31,6 +32,9 @@ use Rattle.tx_core.specs.MultisLegal.{NeedsMulti}
 use Rattle.tx_core.specs.MembersBeforeOffset.{NeedsOffsets, NeedsSlots}
 use Rattle.tx_core.specs.SyncsBeforeForgets.{NeedsSync}
 use Rattle.tx_core.specs.PostsFollow.{NeedsPost}
+use Rattle.tx_core.specs.FaultsRise.{NeedsCount}
+use Rattle.tx_core.specs.StaysDown.{NeedsUp}
+use Rattle.tx_core.specs.RecordsOnce.{NeedsOnce}
 use Rattle.tx_core.specs.StatusBeforeCommit.{NeedsStates}
 use Rattle.tx_core.specs.declared.entry.Kind.TheVariants as kinds
 use Rattle.tx_events.specs.declared.record.Rec.TheVariants as records
@@ -64,6 +68,9 @@ opens start lists empty =
       members = record { slots = nothing_upheld NeedsSlots lists empty; offsets = nothing_upheld (NeedsOffsets start) lists empty };
       syncs = record { each = nothing_upheld (NeedsSync start) lists empty };
       posts = record { each = nothing_upheld (NeedsPost start) lists empty };
+      faults = record { each = nothing_upheld (NeedsCount start) lists empty };
+      down = record { each = nothing_upheld NeedsUp lists empty };
+      once = record { each = nothing_upheld NeedsOnce lists empty };
     }
 
 pub asked_given : AskedGiven

@@ -24,7 +24,7 @@ use Rattle.tx_core.specs.Pages.{MembersShow, OffsetsShow, Pages, PagesShow, Pare
 use Rattle.tx_core.specs.PagesBeforeIds.{WasMade}
 use Rattle.tx_core.specs.declared.entry.Kind.TheVariants as kinds
 
-zero_kind : (kind : Kind) (page : ℕ) → zeroed_in kind ≡ Some page → kind ≡ kinds.Zero page
+pub zero_kind : (kind : Kind) (page : ℕ) → zeroed_in kind ≡ Some page → kind ≡ kinds.Zero page
 zero_kind (kinds.Zero other) page g = let q : other ≡ page = cc in ap kinds.Zero q
 zero_kind _ page g = absurd cc
 

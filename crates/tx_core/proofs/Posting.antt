@@ -21,7 +21,8 @@ use Rattle.tx_core.proofs.HorizonLaws.{positive}
 use Rattle.tx_core.proofs.Lasting.{history_grows}
 use Rattle.tx_core.proofs.Quiet.{post_keeps}
 use Rattle.tx_core.specs.Entries.{history}
-use Rattle.tx_core.specs.Laws.{IsLater, OldestPostKeeps, OldestRises, PostsGoOn, XminPostKeeps}
+use Rattle.tx_core.specs.Laws.{OldestPostKeeps, XminPostKeeps}
+use Rattle.tx_core.specs.Consequences.{IsLater, OldestRises, PostsGoOn}
 use Rattle.tx_core.proofs.Taking.{get_in_take, take_in}
 use Rattle.notes.specs.Lists.{at}
 use Rattle.tx_core.specs.Locks.{oldest_word, xmin_word}

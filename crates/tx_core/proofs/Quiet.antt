@@ -25,6 +25,11 @@ use Rattle.tx_core.specs.CutsFollow.{CutBy}
 use Rattle.tx_core.specs.MembersBeforeOffset.{OffsetOf, SlotOf}
 use Rattle.tx_core.specs.SyncsBeforeForgets.{ForgetOf}
 use Rattle.tx_core.specs.PostsFollow.{PostIn, PostOf}
+use Rattle.tx_core.specs.FaultsRise.{count_in, faults_told}
+use Rattle.tx_core.specs.StaysDown.{UpOf}
+use Rattle.tx_core.specs.RecordsOnce.{OnceIn}
+use Rattle.tx_core.proofs.Once.{abort_once, multi_once}
+use Rattle.disk_core.specs.Faults.{HasRisen}
 use Rattle.tx_core.specs.Locks.{oldest_word, xmin_word}
 use Rattle.tx_events.specs.Multis.{InBase, MultiMayCome, multi_by}
 use Rattle.tx_core.specs.ParentsFollow.{IsGivenBelow}
@@ -108,6 +113,9 @@ pub record HasNeeds (start : Start) (seen : List (List Entry)) (lock : ℕ) (by 
   pub multis : IfSome (multi_in kind) (λ event. (multi_by event ≡ by) × MultiMayCome start.base (InBase start.base) (multis_in (at seen lock)) event × ToldOf start event)
   pub syncs : ForgetOf start seen (at seen lock) kind
   pub posts : PostIn start seen lock (at seen lock) kind
+  pub faults : IfSome (count_in kind) (HasRisen (faults_told start lock (at seen lock)))
+  pub down : UpOf (at seen lock) kind
+  pub once : OnceIn (at seen lock) kind
 
 -- so its turn, that it may stand there, and these needs are all that it needs
 pub quiet_keeps : (start : Start) (seen : List (List Entry)) (lock : ℕ) (by : By) (kind : Kind) → is_quiet kind ≡ true → MayStand start lock by kind → HasNeeds start seen lock by kind → KindKeeps start seen lock by kind
@@ -155,47 +163,52 @@ quiet_keeps start seen lock by kind q stands needs lists k knows inside whole tu
       members = record { slots = quiet_slots (λ slot. SlotOf seen slot) kind q; offsets = quiet_offsets (λ set. OffsetOf start seen set) kind q };
       syncs = needs.syncs;
       posts = needs.posts;
+      faults = needs.faults;
+      down = needs.down;
+      once = needs.once;
     })
 
 pub abort_record_law : AbortRecordKeeps
-abort_record_law start seen by top subs base given =
-    quiet_keeps start seen log_lock by (kinds.Append (records.Abort top subs)) refl refl (record { made = tt; counters = (base, tt); named = given; flushed = tt; cuts = tt; multis = tt; syncs = tt; posts = tt })
+abort_record_law start seen by top subs base given uncommitted up lists k knows inside whole turn =
+    quiet_keeps start seen log_lock by (kinds.Append (records.Abort top subs)) refl refl (record { made = tt; counters = (base, tt); named = given; flushed = tt; cuts = tt; multis = tt; syncs = tt; posts = tt; faults = tt; down = up; once = abort_once start seen lists by k knows whole top subs given uncommitted })
+    lists k knows inside whole turn
 
 pub multi_record_law : MultiRecordKeeps
-multi_record_law start seen by multi offset members base gen given =
-    quiet_keeps start seen log_lock by (kinds.Append (records.Multi multi offset members)) refl refl (record { made = tt; counters = (base, tt); named = (gen, given); flushed = tt; cuts = tt; multis = tt; syncs = tt; posts = tt })
+multi_record_law start seen by multi offset members base gen given full none up lists k knows inside whole turn =
+    quiet_keeps start seen log_lock by (kinds.Append (records.Multi multi offset members)) refl refl (record { made = tt; counters = (base, tt); named = (gen, given, full); flushed = tt; cuts = tt; multis = tt; syncs = tt; posts = tt; faults = tt; down = up; once = multi_once start seen lists by k knows whole multi offset members gen none })
+    lists k knows inside whole turn
 
 pub checkpoint_record_law : CheckpointRecordKeeps
-checkpoint_record_law start seen by number counters base follows =
-    quiet_keeps start seen log_lock by (kinds.Append (records.Checkpoint number counters)) refl refl (record { made = tt; counters = (base, follows); named = tt; flushed = tt; cuts = tt; multis = tt; syncs = tt; posts = tt })
+checkpoint_record_law start seen by number counters base follows up =
+    quiet_keeps start seen log_lock by (kinds.Append (records.Checkpoint number counters)) refl refl (record { made = tt; counters = (base, follows); named = tt; flushed = tt; cuts = tt; multis = tt; syncs = tt; posts = tt; faults = tt; down = up; once = tt })
 
 pub truncate_record_law : TruncateRecordKeeps
-truncate_record_law start seen by oldest multi offset base id announced =
-    quiet_keeps start seen log_lock by (kinds.Append (records.Truncate oldest multi offset)) refl refl (record { made = tt; counters = (base, (id, announced)); named = tt; flushed = tt; cuts = tt; multis = tt; syncs = tt; posts = tt })
+truncate_record_law start seen by oldest multi offset base id announced up =
+    quiet_keeps start seen log_lock by (kinds.Append (records.Truncate oldest multi offset)) refl refl (record { made = tt; counters = (base, (id, announced)); named = tt; flushed = tt; cuts = tt; multis = tt; syncs = tt; posts = tt; faults = tt; down = up; once = tt })
 
 pub flush_law : FlushKeeps
-flush_law start seen by to within = quiet_keeps start seen log_lock by (kinds.Flush to) refl refl (record { made = tt; counters = tt; named = tt; flushed = within; cuts = tt; multis = tt; syncs = tt; posts = tt })
+flush_law start seen by to rises within up = quiet_keeps start seen log_lock by (kinds.Flush to) refl refl (record { made = tt; counters = tt; named = tt; flushed = (rises, within); cuts = tt; multis = tt; syncs = tt; posts = tt; faults = tt; down = up; once = tt })
 
 pub forget_law : ForgetKeeps
-forget_law start seen by number may = quiet_keeps start seen log_lock by (kinds.Forget number) refl refl (record { made = tt; counters = tt; named = tt; flushed = tt; cuts = tt; multis = tt; syncs = may; posts = tt })
+forget_law start seen by number may up = quiet_keeps start seen log_lock by (kinds.Forget number) refl refl (record { made = tt; counters = tt; named = tt; flushed = tt; cuts = tt; multis = tt; syncs = may; posts = tt; faults = tt; down = up; once = tt })
 
 pub log_fault_law : LogFaultKeeps
-log_fault_law start seen by asked count may = quiet_keeps start seen log_lock by (kinds.LogFault asked count) refl refl (record { made = tt; counters = tt; named = tt; flushed = tt; cuts = tt; multis = tt; syncs = may; posts = tt })
+log_fault_law start seen by asked count may up risen = quiet_keeps start seen log_lock by (kinds.LogFault asked count) refl refl (record { made = tt; counters = tt; named = tt; flushed = tt; cuts = tt; multis = tt; syncs = may; posts = tt; faults = risen; down = up; once = tt })
 
 pub multi_event_law : MultiEventKeeps
-multi_event_law start seen by event own rule told = quiet_keeps start seen multi_lock by (kinds.Multi event) refl refl (record { made = tt; counters = tt; named = tt; flushed = tt; cuts = tt; multis = (own, rule, told); syncs = tt; posts = tt })
+multi_event_law start seen by event own rule told = quiet_keeps start seen multi_lock by (kinds.Multi event) refl refl (record { made = tt; counters = tt; named = tt; flushed = tt; cuts = tt; multis = (own, rule, told); syncs = tt; posts = tt; faults = tt; down = tt; once = tt })
 
 pub zero_law : ZeroKeeps
-zero_law start seen lock by page on wanted = quiet_keeps start seen lock by (kinds.Zero page) refl on (record { made = wanted; counters = tt; named = tt; flushed = tt; cuts = tt; multis = tt; syncs = tt; posts = tt })
+zero_law start seen lock by page on wanted = quiet_keeps start seen lock by (kinds.Zero page) refl on (record { made = wanted; counters = tt; named = tt; flushed = tt; cuts = tt; multis = tt; syncs = tt; posts = tt; faults = tt; down = tt; once = tt })
 
 pub cut_law : CutKeeps
-cut_law start seen lock by page on says = quiet_keeps start seen lock by (kinds.Cut page) refl on (record { made = tt; counters = tt; named = tt; flushed = tt; cuts = says; multis = tt; syncs = tt; posts = tt })
+cut_law start seen lock by page on says = quiet_keeps start seen lock by (kinds.Cut page) refl on (record { made = tt; counters = tt; named = tt; flushed = tt; cuts = says; multis = tt; syncs = tt; posts = tt; faults = tt; down = tt; once = tt })
 
 pub sync_law : SyncKeeps
-sync_law start seen lock by on = quiet_keeps start seen lock by kinds.Sync refl on (record { made = tt; counters = tt; named = tt; flushed = tt; cuts = tt; multis = tt; syncs = tt; posts = tt })
+sync_law start seen lock by on = quiet_keeps start seen lock by kinds.Sync refl on (record { made = tt; counters = tt; named = tt; flushed = tt; cuts = tt; multis = tt; syncs = tt; posts = tt; faults = tt; down = tt; once = tt })
 
 pub look_law : LookKeeps
-look_law start seen lock by = quiet_keeps start seen lock by kinds.Look refl tt (record { made = tt; counters = tt; named = tt; flushed = tt; cuts = tt; multis = tt; syncs = tt; posts = tt })
+look_law start seen lock by = quiet_keeps start seen lock by kinds.Look refl tt (record { made = tt; counters = tt; named = tt; flushed = tt; cuts = tt; multis = tt; syncs = tt; posts = tt; faults = tt; down = tt; once = tt })
 
 pub post_keeps : (start : Start) (seen : List (List Entry)) (lock : ℕ) (by : By) (number : ℕ) → (lock ≡ oldest_word start) ⊎ (lock ≡ xmin_word start) → PostOf start seen lock (at seen lock) number → KindKeeps start seen lock by (kinds.Post number)
-post_keeps start seen lock by number on posted = quiet_keeps start seen lock by (kinds.Post number) refl on (record { made = tt; counters = tt; named = tt; flushed = tt; cuts = tt; multis = tt; syncs = tt; posts = posted })
+post_keeps start seen lock by number on posted = quiet_keeps start seen lock by (kinds.Post number) refl on (record { made = tt; counters = tt; named = tt; flushed = tt; cuts = tt; multis = tt; syncs = tt; posts = posted; faults = tt; down = tt; once = tt })

@@ -30,7 +30,7 @@ use Rattle.tx_core.proofs.Reading.{appended_by, appended_is}
 use Rattle.tx_core.proofs.Rising.{given_more}
 use Rattle.tx_core.specs.EngineInvariant.{EngineInvariant}
 use Rattle.tx_core.specs.Entries.{IsAppended, appended, history, records_in, recs_in}
-use Rattle.tx_core.specs.Laws.{NextGiven}
+use Rattle.tx_core.specs.Consequences.{NextGiven}
 use Rattle.notes.specs.Lists.{at}
 use Rattle.tx_core.specs.Locks.{log_lock}
 use Rattle.tx_core.specs.RecordsFollow.{IsOldestAnnounced, NeedsCounters, NeedsNamed}

@@ -17,6 +17,9 @@ use Rattle.tx_core.specs.MultisLegal.{MultisLegal, NeedsMulti}
 use Rattle.tx_core.specs.MembersBeforeOffset.{MembersBeforeOffset, MaySetMulti}
 use Rattle.tx_core.specs.SyncsBeforeForgets.{SyncsBeforeForgets, NeedsSync}
 use Rattle.tx_core.specs.PostsFollow.{PostsFollow, NeedsPost}
+use Rattle.tx_core.specs.FaultsRise.{FaultsRise, NeedsCount}
+use Rattle.tx_core.specs.StaysDown.{StaysDown, NeedsUp}
+use Rattle.tx_core.specs.RecordsOnce.{RecordsOnce, NeedsOnce}
 
 -- The engine invariant, part by part. A further part is a field here and one below.
 pub record EngineInvariant (start : Start) (lists : List (List Entry)) : Type 0 where
@@ -34,6 +37,9 @@ pub record EngineInvariant (start : Start) (lists : List (List Entry)) : Type 0 
   pub members : MembersBeforeOffset start lists
   pub syncs : SyncsBeforeForgets start lists
   pub posts : PostsFollow start lists
+  pub faults : FaultsRise start lists
+  pub down : StaysDown lists
+  pub once : RecordsOnce lists
 
 -- what a session shows of the lists that it has seen, before it adds an entry to one of them
 pub record MayAdd (start : Start) (seen : List (List Entry)) (lock : ℕ) (e : Entry) : Type 0 where
@@ -51,3 +57,6 @@ pub record MayAdd (start : Start) (seen : List (List Entry)) (lock : ℕ) (e : E
   pub members : MaySetMulti start seen lock (at seen lock) e
   pub syncs : NeedsSync start seen lock (at seen lock) e
   pub posts : NeedsPost start seen lock (at seen lock) e
+  pub faults : NeedsCount start seen lock (at seen lock) e
+  pub down : NeedsUp seen lock (at seen lock) e
+  pub once : NeedsOnce seen lock (at seen lock) e

@@ -1,6 +1,6 @@
 -- What an entry says.
 use Rattle.std.specs.Prelude.{◌≡◌, ℕ, ◌+◌, ◌<◌, List, [], Option, Some, None, Contains, map, slice_get}
-use Rattle.std.specs.List.{filter_map, flat_map, AllByRecursion}
+use Rattle.std.specs.List.{filter_map, flat_map, fold, AllByRecursion}
 use Rattle.tx_events.specs.declared.event.By.{By}
 use Rattle.tx_events.specs.declared.event.Event.{Event}
 use Rattle.tx_events.specs.declared.record.Rec.{Rec}
@@ -123,6 +123,19 @@ records_of lists = records_in (at lists log_lock)
 
 abbrev pub recs_in : List Entry → List Rec
 recs_in es = map (λ r. r.1) (records_in es)
+
+-- the last of the numbers, or n where there is none
+abbrev pub last_from : ℕ → List ℕ → ℕ
+last_from n xs = fold (λ _ x. x) n xs
+
+-- the number below which an entry flushed the records
+abbrev pub flushed_in : Kind → Option ℕ
+flushed_in (kinds.Flush to) = Some to
+flushed_in _ = None
+
+-- the number below which all records are flushed
+abbrev pub flushed_to : Start → List Entry → ℕ
+flushed_to start es = last_from start.from (filter_map (λ e. flushed_in e.kind) es)
 
 -- the page from which on a critical section kept the bank, with a fault or without
 abbrev pub cut_in : Kind → Option ℕ

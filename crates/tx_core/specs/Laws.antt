@@ -1,15 +1,14 @@
 -- What the laws say: each kind of entry, with what its session needs of the lists that it has seen, keeps the invariant.
 use Rattle.std.specs.List.{filter_map}
-use Rattle.std.specs.Prelude.{Contains, IfSome, IsTrue, List, Option, Some, [], length, map, slice_get, take, true, ℕ, ◌+◌, ◌<◌, ◌^◌, ◌∷◌, ◌≡◌, ◌≤◌, ◌⊎◌}
+use Rattle.std.specs.Prelude.{Contains, IfSome, List, Option, [], length, map, true, ℕ, ◌+◌, ◌<◌, ◌∷◌, ◌≡◌, ◌≤◌, ◌⊎◌}
 use Rattle.tx_events.specs.declared.event.By.{By}
-use Rattle.tx_events.specs.declared.event.Event.{Event}
 use Rattle.tx_events.specs.declared.multi.MultiEvent.{MultiEvent}
 use Rattle.tx_events.specs.declared.record.Rec.{Rec}
 use Rattle.tx_events.specs.Base.{IsBase}
-use Rattle.tx_events.specs.Events.{given, given_to}
+use Rattle.tx_events.specs.Events.{given_to}
 use Rattle.tx_events.specs.Families.{enclosing, is_top}
 use Rattle.tx_events.specs.History.{MayCome, next_given}
-use Rattle.tx_events.specs.Horizon.{LiveSnap, live_snaps, oldest_id, oldest_xmin}
+use Rattle.tx_events.specs.Horizon.{oldest_id, oldest_xmin}
 use Rattle.tx_events.specs.Running.{open_ids}
 use Rattle.tx_core.specs.declared.entry.Change.{Change}
 use Rattle.tx_core.specs.declared.entry.Entry.{Entry}
@@ -17,12 +16,17 @@ use Rattle.tx_core.specs.declared.entry.Kind.{Kind}
 use Rattle.tx_core.specs.declared.entry.LogCall.{LogCall}
 use Rattle.tx_core.specs.declared.entry.Start.{Start}
 use Rattle.tx_core.specs.declared.entry.State.{State}
-use Rattle.tx_core.specs.AbortRule.{AskUnrecorded, AskedOf, Asks, AsksAbort, GivenOf, IsSameAfter}
+use Rattle.tx_core.specs.AbortRule.{AskUnrecorded, AskedOf, AsksAbort, GivenOf, IsSameAfter}
 use Rattle.tx_core.specs.CommitRecordsExact.{HasNoRecord}
 use Rattle.tx_core.specs.EngineInvariant.{EngineInvariant, MayAdd}
-use Rattle.tx_core.specs.Entries.{IsAppended, IsLinked, IsMarked, Link, Mark, history, link_of, mark_of, marks, records_of, session_of, Stands, cut_in}
+use Rattle.tx_core.specs.FaultsRise.{faults_told}
+use Rattle.tx_core.specs.StaysDown.{IsUp, UpOf}
+use Rattle.tx_core.specs.RecordsOnce.{HasNoAbort, HasNoCommit, HasNoMulti}
+use Rattle.xid_order.specs.Ids.{IsFullId}
+use Rattle.disk_core.specs.Faults.{HasRisen}
+use Rattle.tx_core.specs.Entries.{IsAppended, IsLinked, IsMarked, Link, Mark, history, link_of, mark_of, marks, records_of, session_of, flushed_to}
 use Rattle.tx_core.specs.MultiEntries.{SetOffset, SetSlot, multi_history, offset_of, slot_of}
-use Rattle.notes.specs.Lists.{Grows, Knows, add, at}
+use Rattle.notes.specs.Lists.{Knows, add, at}
 use Rattle.tx_core.specs.Locks.{IsPageLock, first_request, log_lock, member_page_in_full, offset_page, multi_lock, oldest_word, proc_lock, subtrans_lock, subtrans_lock_of, subtrans_page, xact_lock, xact_lock_of, xact_page, xmin_word}
 use Rattle.tx_core.specs.LogBeforeStatus.{InTree, IsDurable, RecordOf, TreeOf}
 use Rattle.tx_core.specs.PagesBeforeIds.{IsMade, IsTold, IsWanted, WasMade}
@@ -34,12 +38,11 @@ use Rattle.tx_core.specs.MultisLegal.{ToldOf}
 use Rattle.tx_core.specs.MembersBeforeOffset.{OffsetOf, SlotOf}
 use Rattle.tx_core.specs.SyncsBeforeForgets.{ForgetOf, MayForget}
 use Rattle.tx_events.specs.After.{after_record, ids_of}
-use Rattle.tx_events.specs.Multis.{AreLegalMultis, InBase, MultiMayCome, multi_by}
+use Rattle.tx_events.specs.Multis.{InBase, MultiMayCome, multi_by}
 use Rattle.tx_events.specs.declared.multi.Member.{Member}
 use Rattle.tx_events.specs.declared.record.Counters.{Counters}
 use Rattle.tx_core.specs.declared.entry.Change.TheVariants as changes
 use Rattle.tx_events.specs.declared.event.Event.TheVariants as events
-use Rattle.tx_events.specs.declared.multi.MultiEvent.TheVariants as multis
 use Rattle.tx_core.specs.declared.entry.Kind.TheVariants as kinds
 use Rattle.tx_events.specs.declared.record.Rec.TheVariants as records
 use Rattle.tx_core.specs.declared.entry.State.TheVariants as states
@@ -65,36 +68,45 @@ Opens = (start : Start) (lists : List (List Entry)) → ((lock : ℕ) → at lis
 abbrev pub StaysBase : Start → List (List Entry) → Rec → Type 0
 StaysBase start seen rec = IsBase (after_record (counters_after start (at seen log_lock)) rec)
 
--- The log. A commit record names all that its session has open; the parents of the subtransactions were set, and the
--- session asked for no abort of any of them.
+-- The log. A commit record names all that its session has open; the parents of the subtransactions were set. The session
+-- asked for no abort of any of them, and has no other record of any of them.
 abbrev pub CommitRecordKeeps : Type 0
 CommitRecordKeeps = (start : Start) (seen : List (List Entry)) (by : By) (top : ℕ) (subs : List ℕ) →
     open_ids by.session (history seen) ≡ top ∷ subs
     → is_top (history seen) top ≡ true
     → ((id : ℕ) → Contains subs id → (parent : ℕ) × IsLinked start seen id parent)
     → ((id : ℕ) → Contains (top ∷ subs) id → AsksAbort seen by.session id → ⊥)
+    → HasNoRecord seen by.session
+    → ((id : ℕ) → Contains (top ∷ subs) id → HasNoAbort seen by.session id)
     → StaysBase start seen (records.Commit top subs)
+    → IsUp (at seen log_lock)
     → KindKeeps start seen log_lock by (kinds.Append (records.Commit top subs))
 
--- an abort record names ids that were given to its session
+-- an abort record names ids that were given to its session, which has no commit record of them
 abbrev pub AbortRecordKeeps : Type 0
 AbortRecordKeeps = (start : Start) (seen : List (List Entry)) (by : By) (top : ℕ) (subs : List ℕ) →
     StaysBase start seen (records.Abort top subs)
     → ((id : ℕ) → Contains (top ∷ subs) id → Contains (given_to by.session (history seen)) id)
+    → ((id : ℕ) → Contains (top ∷ subs) id → HasNoCommit seen by.session id)
+    → IsUp (at seen log_lock)
     → KindKeeps start seen log_lock by (kinds.Append (records.Abort top subs))
 
--- the multixact was given to the session, and its members were given
+-- the multixact was given to the session, which has no record of it yet, and its members are full ids that were given
 abbrev pub MultiRecordKeeps : Type 0
 MultiRecordKeeps = (start : Start) (seen : List (List Entry)) (by : By) (multi offset : ℕ) (members : List Member) →
     StaysBase start seen (records.Multi multi offset members)
     → IsGenOf seen by.session multi offset members
     → ((id : ℕ) → Contains (ids_of members) id → id < next_given start.base.next (history seen))
+    → ((id : ℕ) → Contains (ids_of members) id → IsFullId id)
+    → HasNoMulti seen by.session multi
+    → IsUp (at seen log_lock)
     → KindKeeps start seen log_lock by (kinds.Append (records.Multi multi offset members))
 
 abbrev pub CheckpointRecordKeeps : Type 0
 CheckpointRecordKeeps = (start : Start) (seen : List (List Entry)) (by : By) (number : ℕ) (counters : Counters) →
     StaysBase start seen (records.Checkpoint number counters)
     → CheckpointOf start seen (at seen log_lock) number counters
+    → IsUp (at seen log_lock)
     → KindKeeps start seen log_lock by (kinds.Append (records.Checkpoint number counters))
 
 -- what a truncation names was announced
@@ -103,20 +115,29 @@ TruncateRecordKeeps = (start : Start) (seen : List (List Entry)) (by : By) (olde
     StaysBase start seen (records.Truncate oldest multi offset)
     → IsOldestAnnounced start seen oldest
     → IsMultiAnnounced start seen multi offset
+    → IsUp (at seen log_lock)
     → KindKeeps start seen log_lock by (kinds.Append (records.Truncate oldest multi offset))
 
--- a flush is of records that stand
+-- A flush is of records that stand, and of no fewer than the flush before it. A log that is down flushes nothing.
 abbrev pub FlushKeeps : Type 0
-FlushKeeps = (start : Start) (seen : List (List Entry)) (by : By) (to : ℕ) → to ≤ start.from + length (records_of seen) → KindKeeps start seen log_lock by (kinds.Flush to)
+FlushKeeps = (start : Start) (seen : List (List Entry)) (by : By) (to : ℕ) →
+    flushed_to start (at seen log_lock) ≤ to
+    → to ≤ start.from + length (records_of seen)
+    → IsUp (at seen log_lock)
+    → KindKeeps start seen log_lock by (kinds.Flush to)
 
 -- the log is forgotten up to a checkpoint on disk, when all that it would restore is on disk
 abbrev pub ForgetKeeps : Type 0
-ForgetKeeps = (start : Start) (seen : List (List Entry)) (by : By) (number : ℕ) → MayForget start seen (at seen log_lock) number → KindKeeps start seen log_lock by (kinds.Forget number)
+ForgetKeeps = (start : Start) (seen : List (List Entry)) (by : By) (number : ℕ) →
+    MayForget start seen (at seen log_lock) number → IsUp (at seen log_lock) → KindKeeps start seen log_lock by (kinds.Forget number)
 
--- a forget that failed may have been done
+-- A forget that failed may have been done. The count of faults has risen.
 abbrev pub LogFaultKeeps : Type 0
 LogFaultKeeps = (start : Start) (seen : List (List Entry)) (by : By) (asked : LogCall) (count : ℕ) →
-    ForgetOf start seen (at seen log_lock) (kinds.LogFault asked count) → KindKeeps start seen log_lock by (kinds.LogFault asked count)
+    ForgetOf start seen (at seen log_lock) (kinds.LogFault asked count)
+    → UpOf (at seen log_lock) (kinds.LogFault asked count)
+    → HasRisen (faults_told start log_lock (at seen log_lock)) count
+    → KindKeeps start seen log_lock by (kinds.LogFault asked count)
 
 -- The ProcArray. An id comes next, and its pages are made.
 abbrev pub IdEventKeeps : Type 0
@@ -238,10 +259,12 @@ abbrev pub ChangesKeep : Type 0
 ChangesKeep = (start : Start) (seen : List (List Entry)) (lock : ℕ) (by : By) (changes : List Change) →
     MayChange start seen lock by.session changes → KindKeeps start seen lock by (kinds.Set changes)
 
--- what a fault leaves changed or cut needs the same
+-- what a fault leaves changed or cut needs the same, and the count of faults has risen
 abbrev pub FaultKeeps : Type 0
 FaultKeeps = (start : Start) (seen : List (List Entry)) (lock : ℕ) (by : By) (callers : List By) (changes : List Change) (cut : Option ℕ) (count : ℕ) →
-    MayChange start seen lock by.session changes → AreCallers by callers changes → IfSome cut (CutBy start seen lock) → KindKeeps start seen lock by (kinds.Fault callers changes cut count)
+    MayChange start seen lock by.session changes → AreCallers by callers changes → IfSome cut (CutBy start seen lock)
+    → HasRisen (faults_told start lock (at seen lock)) count
+    → KindKeeps start seen lock by (kinds.Fault callers changes cut count)
 
 -- a page is made of a number that was given or comes next
 abbrev pub ZeroKeeps : Type 0
@@ -314,82 +337,3 @@ ParentKeeps = (start : Start) (seen : List (List Entry)) (bank : ℕ) (by : By) 
     → WasMade (at seen (subtrans_lock bank)) (subtrans_page start.base.next) (subtrans_page id)
     → IsGivenBelow seen by.session parent id
     → KindKeeps start seen (subtrans_lock bank) by (kinds.Set (changes.Parent by id parent ∷ []))
-
--- no id of a commit record was set aborted, for whatever session and by whatever session
-abbrev pub NeverAborted : Type 0
-NeverAborted = (start : Start) (lists : List (List Entry)) (session top : ℕ) (subs : List ℕ) (id : ℕ) →
-    EngineInvariant start lists → IsAppended lists session (records.Commit top subs) → Contains (top ∷ subs) id → IsMarked start lists id states.Aborted → ⊥
-
--- an id of a commit record that was set committed, by whatever session, was asked to be so by the record's session
-abbrev pub CommittedAsked : Type 0
-CommittedAsked = (start : Start) (lists : List (List Entry)) (session top : ℕ) (subs : List ℕ) (id : ℕ) →
-    EngineInvariant start lists → IsAppended lists session (records.Commit top subs) → Contains (top ∷ subs) id → IsMarked start lists id states.Committed
-    → Asks lists session id states.Committed
-
--- a session asks for a state only of what it was given
-abbrev pub AskedGiven : Type 0
-AskedGiven = (start : Start) (lists : List (List Entry)) (session id : ℕ) (state : State) →
-    EngineInvariant start lists → Asks lists session id state → Contains (given_to session (history lists)) id
-
--- The multixacts' list is one legal history.
-abbrev pub MultisAreLegal : Type 0
-MultisAreLegal = (start : Start) (lists : List (List Entry)) → EngineInvariant start lists → AreLegalMultis start.base (InBase start.base) (multi_history lists)
-
--- Where fewer than 2^28 ids were given, each page of a bank that was made is from that of the base's next id to that of
--- the id 2^30 past it: so no two of them are one stored page.
-abbrev pub MadeNear : Type 0
-MadeNear = (start : Start) (lists : List (List Entry)) (bank page : ℕ) →
-    EngineInvariant start lists → length (given (history lists)) < 2 ^ 28
-    → (Stands lists (xact_lock bank) (kinds.Zero page) → (xact_page start.base.next ≤ page) × (page ≤ xact_page (start.base.next + 2 ^ 30)))
-    × (Stands lists (subtrans_lock bank) (kinds.Zero page) → (subtrans_page start.base.next ≤ page) × (page ≤ subtrans_page (start.base.next + 2 ^ 30)))
-
--- the records of the log don't raise the next id past those given
-abbrev pub NextGiven : Type 0
-NextGiven = (start : Start) (lists : List (List Entry)) → EngineInvariant start lists → IsBase start.base → (counters_after start (at lists log_lock)).next ≤ next_given start.base.next (history lists)
-
--- the oldest xmin never falls
-abbrev pub HorizonRises : Type 0
-HorizonRises = (start : Start) (lists more : List (List Entry)) → EngineInvariant start more → Grows lists more → IsBase start.base → oldest_xmin start.base.next (history lists) ≤ oldest_xmin start.base.next (history more)
-
--- the announced oldest id never falls
-abbrev pub OldestRises : Type 0
-OldestRises = (start : Start) (lists more : List (List Entry)) → EngineInvariant start more → Grows lists more → oldest_id start.base.oldest (history lists) ≤ oldest_id start.base.oldest (history more)
-
--- A published number that came behind another is that of a place no earlier.
-abbrev pub IsLater : (List Event → ℕ) → List (List Entry) → ℕ → Type 0
-IsLater shown lists lock = (i j m n p : ℕ) (a b : By) →
-    slice_get (at lists lock) i ≡ Some (record { by = a; kind = kinds.Post m }) → slice_get (at lists lock) j ≡ Some (record { by = b; kind = kinds.Post n }) → i < j
-    → p ≤ length (history lists) → m ≡ shown (take p (history lists))
-    → (q : ℕ) × (p ≤ q) × (q ≤ length (history lists)) × (n ≡ shown (take q (history lists)))
-
-abbrev pub PostsGoOn : Type 0
-PostsGoOn = (start : Start) (lists : List (List Entry)) → EngineInvariant start lists → IsBase start.base
-    → IsLater (oldest_id start.base.oldest) lists (oldest_word start) × IsLater (oldest_xmin start.base.next) lists (xmin_word start)
-
--- A page of pg_subtrans is never cut past the parent of an id that a live snapshot may ask for.
-abbrev pub ParentsKept : Type 0
-ParentsKept = (start : Start) (lists : List (List Entry)) (bank page x : ℕ) (e : Entry) (s : LiveSnap) →
-    EngineInvariant start lists → IsBase start.base → Contains (at lists (subtrans_lock bank)) e → cut_in e.kind ≡ Some page
-    → Contains (live_snaps start.base.next (history lists)) s → s.xmin ≤ x → page ≤ subtrans_page x
-
--- And one of pg_xact is never cut past the announced oldest id.
-abbrev pub StatesKept : Type 0
-StatesKept = (start : Start) (lists : List (List Entry)) (bank page : ℕ) (e : Entry) →
-    EngineInvariant start lists → Contains (at lists (xact_lock bank)) e → cut_in e.kind ≡ Some page
-    → page ≤ xact_page (oldest_id start.base.oldest (history lists))
-
--- An id that is open is not before the announced oldest one.
-abbrev pub OpenKept : Type 0
-OpenKept = (start : Start) (lists : List (List Entry)) (session x : ℕ) →
-    EngineInvariant start lists → IsBase start.base → Contains (open_ids session (history lists)) x → oldest_id start.base.oldest (history lists) ≤ x
-
--- Where the pages told, a multixact that the life began with is announced with its offset.
-abbrev pub RaisesTold : Type 0
-RaisesTold = (start : Start) (lists : List (List Entry)) (by : By) (multi offset : ℕ) →
-    EngineInvariant start lists → IsTrue start.told → Contains (multi_history lists) (multis.Raise by multi offset) → multi < start.base.multi
-    → (members : List Member) × Contains start.recorded (records.Multi multi offset members)
-
--- so an oldest xmin that was seen is not past the xmin of any snapshot that is live later
-abbrev pub SnapshotsHold : Type 0
-SnapshotsHold = (start : Start) (lists more : List (List Entry)) (s : LiveSnap) → EngineInvariant start more → Grows lists more → IsBase start.base → Contains (live_snaps start.base.next (history more)) s
-    → oldest_xmin start.base.next (history lists) ≤ s.xmin

@@ -16,8 +16,14 @@ pub mod MultisLegal
 pub mod MembersBeforeOffset
 pub mod SyncsBeforeForgets
 pub mod PostsFollow
+pub mod FaultsRise
+pub mod StaysDown
+pub mod RecordsOnce
 pub mod CleanStart
 pub mod EngineInvariant
 pub mod Verdict
 pub mod Pages
+pub mod Nearness
+pub mod Held
 pub mod Laws
+pub mod Consequences

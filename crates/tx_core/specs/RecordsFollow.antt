@@ -1,5 +1,6 @@
 -- The counters after each record are a base; what the records name was given or announced; what is flushed was appended.
 use Rattle.std.specs.Prelude.{◌≡◌, ℕ, ◌+◌, ◌<◌, ◌≤◌, ◌⊎◌, List, ◌∷◌, length, take, Contains}
+use Rattle.xid_order.specs.Ids.{IsFullId}
 use Rattle.tx_events.specs.declared.event.By.{By}
 use Rattle.tx_events.specs.declared.event.Event.TheVariants as events
 use Rattle.tx_events.specs.declared.multi.Member.{Member}
@@ -16,7 +17,7 @@ use Rattle.tx_core.specs.declared.entry.Entry.{Entry}
 use Rattle.tx_core.specs.declared.entry.Kind.{Kind}
 use Rattle.tx_core.specs.declared.entry.Kind.TheVariants as kinds
 use Rattle.tx_core.specs.declared.entry.Start.{Start}
-use Rattle.tx_core.specs.Entries.{history, records_in, recs_in}
+use Rattle.tx_core.specs.Entries.{flushed_to, history, records_in, recs_in}
 use Rattle.tx_core.specs.Lists.{Upheld}
 use Rattle.tx_core.specs.MultiEntries.{multi_history}
 
@@ -75,11 +76,12 @@ abbrev pub IsGenOf : List (List Entry) → ℕ → ℕ → ℕ → List Member �
 IsGenOf lists session multi offset members = (by : By) × (by.session ≡ session) × Contains (multi_history lists) (multis.Gen by multi offset members)
 
 -- an abort record names ids that were given to its session; the record of a multixact one that its session was given, and
--- no id that wasn't given
+-- full ids as members, none that wasn't given
 abbrev pub IdsOf : Start → List (List Entry) → By → Rec → Type 0
 IdsOf start lists by (records.Abort top subs) = (id : ℕ) → Contains (top ∷ subs) id → Contains (given_to by.session (history lists)) id
 IdsOf start lists by (records.Multi multi offset members) =
     IsGenOf lists by.session multi offset members × ((id : ℕ) → Contains (ids_of members) id → id < next_given start.base.next (history lists))
+    × ((id : ℕ) → Contains (ids_of members) id → IsFullId id)
 IdsOf start lists by _ = Unit {0}
 
 abbrev pub NamedOf : Start → List (List Entry) → By → Kind → Type 0
@@ -89,9 +91,9 @@ NamedOf start lists by _ = Unit {0}
 abbrev pub NeedsNamed : Start → List (List Entry) → ℕ → List Entry → Entry → Type 0
 NeedsNamed start lists lock before e = NamedOf start lists e.by e.kind
 
--- a flush is of records that were appended before
+-- a flush is of records that were appended before, and of all that were flushed before
 abbrev pub FlushOf : Start → List Entry → Kind → Type 0
-FlushOf start before (kinds.Flush to) = to ≤ start.from + length (records_in before)
+FlushOf start before (kinds.Flush to) = (flushed_to start before ≤ to) × (to ≤ start.from + length (records_in before))
 FlushOf start before _ = Unit {0}
 
 abbrev pub NeedsFlush : Start → List (List Entry) → ℕ → List Entry → Entry → Type 0
@@ -99,7 +101,8 @@ NeedsFlush start lists lock before e = FlushOf start before e.kind
 
 -- The counters after each record are a base. A checkpoint's are not below those of the records before it, and neither
 -- they nor a truncation's are past what was given or announced. The ids that abort records and records of multixacts
--- name were given, and so was the multixact. A flush reaches no further than the records before it.
+-- name were given, and so was the multixact. A flush reaches no further than the records before it, and no less far than
+-- the flush before it.
 pub record RecordsFollow (start : Start) (lists : List (List Entry)) : Type 0 where
   pub counters : Upheld (NeedsCounters start) lists
   pub named : Upheld (NeedsNamed start) lists

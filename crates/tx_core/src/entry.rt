@@ -134,4 +134,6 @@ pub struct Start {
     pub logged: RecList,
     /// Whether the pages told at what offset each of the multixacts that were made before begins.
     pub told: bool,
+    /// The volumes' counts of faults when the life began, by the numbers of their locks; 0 where there is none.
+    pub faults: Sequence<u64>,
 }

@@ -1,4 +1,7 @@
-ghost use Rattle.tx_core.specs.Laws.{Keeps, Opens, CommitRecordKeeps, AbortRecordKeeps, MultiRecordKeeps, CheckpointRecordKeeps, TruncateRecordKeeps, FlushKeeps, ForgetKeeps, LogFaultKeeps, IdEventKeeps, SubEventKeeps, UndoEventKeeps, CommitEventKeeps, AbortEventKeeps, SnapEventKeeps, SnapDropKeeps, OldestKeeps, AskKeeps, MadeKeeps, MultiEventKeeps, ChangesKeep, CommittedKeeps, SubCommittedKeeps, AbortedKeeps, ParentKeeps, ZeroKeeps, CutKeeps, SyncKeeps, FaultKeeps, RequestKeeps, LookKeeps, NeverAborted, CommittedAsked, AskedGiven, OldestPostKeeps, XminPostKeeps, OldestRises, PostsGoOn, MultisAreLegal, MadeNear, NextGiven, ParentsKept, StatesKept, HorizonRises, SnapshotsHold, OpenKept, RaisesTold};
+ghost use Rattle.tx_core.specs.Laws.{Keeps, Opens, CommitRecordKeeps, AbortRecordKeeps, MultiRecordKeeps, CheckpointRecordKeeps, TruncateRecordKeeps, FlushKeeps, ForgetKeeps, LogFaultKeeps, IdEventKeeps, SubEventKeeps, UndoEventKeeps, CommitEventKeeps, AbortEventKeeps, SnapEventKeeps, SnapDropKeeps, OldestKeeps, AskKeeps, MadeKeeps, MultiEventKeeps, ChangesKeep, CommittedKeeps, SubCommittedKeeps, AbortedKeeps, ParentKeeps, ZeroKeeps, CutKeeps, SyncKeeps, FaultKeeps, RequestKeeps, LookKeeps, OldestPostKeeps, XminPostKeeps};
+ghost use Rattle.tx_core.specs.Consequences.{NeverAborted, CommittedAsked, AskedGiven, OldestRises, PostsGoOn, MultisAreLegal, NextGiven, ParentsKept, StatesKept, HorizonRises, SnapshotsHold, OpenKept, RaisesTold, FaultsCounted, FlushesRise, DownStays, LogIsBehind, CheckpointsTell, RecordsGiven};
+ghost use Rattle.tx_core.specs.Held.{OpenRuns, PagesHeld};
+ghost use Rattle.tx_core.specs.Nearness.{MadeNear};
 ghost use Rattle.tx_core.specs.Pages.{PagesShow, ParentsShow, OffsetsShow, MembersShow};
 ghost use Rattle.tx_core.specs.Verdict.{Decides};
 
@@ -228,7 +231,7 @@ pub fn multis_are_legal()
     ensures { MultisAreLegal }
 {}
 
-/// While few ids were given, pages that were made are near the life's first one.
+/// While few ids and multixacts were given, the pages that were made are near the life's first ones, in all four stores.
 pub fn made_near()
     ensures { MadeNear }
 {}
@@ -267,4 +270,45 @@ pub fn open_kept()
 /// `multixact.c`).
 pub fn raises_told()
     ensures { RaisesTold }
+{}
+
+/// The count of faults of a lock's volume has risen by no less than the faults that the lock's list tells.
+pub fn faults_counted()
+    ensures { FaultsCounted }
+{}
+
+/// The last flush reached the furthest, and no further than the records.
+pub fn flushes_rise()
+    ensures { FlushesRise }
+{}
+
+/// A log that is down has the same records from then on, and no more of them are flushed (a server would PANIC).
+pub fn down_stays()
+    ensures { DownStays }
+{}
+
+/// No page is cut that is still asked for: in each of the four stores the pages of the numbers in use are held.
+pub fn pages_held()
+    ensures { PagesHeld }
+{}
+
+/// An id that is open is from the oldest xmin on, and before the next one.
+pub fn open_runs()
+    ensures { OpenRuns }
+{}
+
+/// No counter of the log is past those of the ProcArray and the multixacts: so a checkpoint of these is not below the log
+/// (`CreateCheckPoint` in `xlog.c`).
+pub fn log_is_behind()
+    ensures { LogIsBehind }
+{}
+
+/// The log's counters behind a checkpoint are the checkpoint's own.
+pub fn checkpoints_tell()
+    ensures { CheckpointsTell }
+{}
+
+/// What a session's record names was given to it.
+pub fn records_given()
+    ensures { RecordsGiven }
 {}

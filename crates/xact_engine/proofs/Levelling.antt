@@ -34,7 +34,7 @@ use Rattle.engine_parts.specs.Answers.{Acted, MayAnswer}
 use Rattle.engine_parts.specs.Calls.{IsCounted, MayRun, Ran, next_command}
 use Rattle.engine_parts.specs.Holds.{Knowledge}
 use Rattle.engine_parts.specs.Sessions.{IsFiled, MayCall, by_at, stance_of}
-use Rattle.engine_parts.specs.Stages.{IsInStage}
+use Rattle.engine_parts.specs.Stages.{IsInStage, AreUnaborted}
 use Rattle.engine_parts.specs.Standing.{by_standing, held_by, refused_by, moves_end}
 use Rattle.tx_core.specs.ProgramOrder.{IsInTurn}
 use Rattle.notes.specs.Lists.{at}
@@ -133,6 +133,7 @@ call_levels start v n s s' new is count stands m =
           turns = λ lock. subst (λ (z : ℕ). IsInTurn (at v.seen lock) (by_at n z)) (sym count) (a.turns lock);
           stands = subst (λ (z : ℕ). Stands start.base (history v.seen) n z new) (sym count) (stands a.stands);
           clear = a.clear;
+          unaborted = λ q. subst (λ (z : List ℕ). AreUnaborted v.seen n z) (sym opened) (a.unaborted q);
           filed = subst (λ (z : List ℕ). IsFiled start v.seen n z s.unlinked) (sym opened) a.filed;
         };
       };

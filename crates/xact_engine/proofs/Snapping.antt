@@ -39,11 +39,11 @@ use Rattle.engine_parts.specs.Answers.{Acted}
 use Rattle.engine_parts.specs.Holds.{Knowledge, Learns, Leaves}
 use Rattle.engine_parts.specs.Law.{MayKeep}
 use Rattle.engine_parts.specs.Sessions.{IsAt, IsFiled, IsReady, MayCall, by_at, stance_of}
-use Rattle.engine_parts.specs.Stages.{may_be_recorded}
+use Rattle.engine_parts.specs.Stages.{may_be_recorded, AreUnaborted, may_be_aborted}
 use Rattle.engine_parts.specs.Standing.{refused_by}
 use Rattle.engine_parts.proofs.Acting.{acted_event}
 use Rattle.engine_parts.proofs.Refusing.{first_fails}
-use Rattle.engine_parts.proofs.Leaving.{at_left, clear_same, filed_left, history_event}
+use Rattle.engine_parts.proofs.Leaving.{at_left, clear_same, filed_left, history_event, no_abort, unaborted_same}
 use Rattle.xact_engine.proofs.Levelling.{call_levels}
 
 abbrev pub snap_entry : By → List ℕ → Entry
@@ -70,6 +70,7 @@ ready_event start v w n n' s s' e event a is count named unnamed opened stage un
     (at_left start v w n proc_lock s s' e a (omega arith) (ap (λ (z : Entry). z.by) is) count l
     (subst (λ (z : List Event × ℕ). Stands start.base z.0 n z.1 s'.levels) (λ j. (sym grown j, sym count j)) (stands start.base (h ++ event ∷ []) n s.levels.commands s'.levels (rw (opened, named, unnamed) st)))
     (λ q. clear_same start v w n proc_lock s e a (omega arith) (ap appended is) (ap (open_ids n) grown ∙ (st.opened_are ∙ sym a.stands.opened)) l (ap may_be_recorded (sym stage) ∙ q))
+    (λ q. subst (λ (t : List ℕ). AreUnaborted w.seen n t) (sym opened) (unaborted_same start v w n proc_lock s e a (omega arith) (no_abort e (ap appended is)) l (ap may_be_aborted (sym stage) ∙ q)))
     (subst (λ (z : List ℕ × Option Unlinked). IsFiled start w.seen n z.0 z.1) (λ j. (sym opened j, sym unlinked j)) (filed_left start v w n proc_lock s e a (omega arith) l)))
 
 -- with one that it took

@@ -19,6 +19,9 @@ use Rattle.bank_sections.proofs.Uncut.{cut_refused, near_before, state_uncut}
 use Rattle.bank_sections.proofs.Visiting.{below_locks, fault_met, is_xact_lock, list_left, visited_refused, xact_refused_at}
 use Rattle.engine_parts.proofs.Sectioning.{same_command, section_of}
 use Rattle.store_pages.specs.Layouts.{xact_page_of}
+use Rattle.bank_sections.proofs.Nearing.{ids_near}
+use Rattle.tx_core.specs.FaultsRise.{faults_told}
+use Rattle.tx_core.proofs.FaultCounts.{risen_past}
 use Rattle.bank_sections.proofs.page_sets.set_page.Goals as goal
 
 pub set_states-requires-clause-one_page : goal.set_states-requires-clause-one_page
@@ -138,7 +141,7 @@ returns-in-Err-clause-fault g c is =
     c.requires.ready.at (is_xact_lock (start_of c.args.hall.now) c.args.bank c.requires.bank.0) e.entered e.same.1 e.same.0 c.leave_refused.ensures.left cc
 
 pub returns-in-Err-clause-uncut : goal.returns-in-Err-clause-uncut
-returns-in-Err-clause-uncut g c near cutoff is =
+returns-in-Err-clause-uncut g c few cutoff is =
     let start = start_of c.args.hall.now in
     let e = c.enter_xact-store.ensures in
     let v = view c.args.caller.now.pass in
@@ -151,7 +154,7 @@ returns-in-Err-clause-uncut g c near cutoff is =
     c.requires.ready.at.name e.entered e.at e.same.0 e.same.1 (ap (λ (xs : List ℕ). slice_range xs c.args.first c.args.past) c.deref.ensures.value) c.requires.may in
     let long = e.entered.learns.long in
     let below = below_locks start v n (xact_lock c.args.bank) c.args.caller.now.session c.requires.ready.at (is_xact_lock start c.args.bank c.requires.bank.0) in
-    let before = near_before start u w (xact_lock c.args.bank) _ (refused_quiet _ _ c.in-Err.refusal).event (omega arith) c.leave_refused.ensures.left near in
+    let before = near_before start u w (xact_lock c.args.bank) _ (refused_quiet _ _ c.in-Err.refusal).event (omega arith) c.leave_refused.ensures.left (ids_near start w.seen c.requires.ready.at.base few) in
     let some : 0 < length part = subst (λ (xs : List ℕ). 0 < length xs) (sym m.is) (range_some c.args.caller.now.session.levels.open_ids.items c.args.first c.args.past c.requires.some c.requires.among) in
     cut_refused _ (state_uncut start u.seen n c.args.bank (slice_index part 0) _ c.requires.ready.at.base e.entered.kept e.stands.cutoff_is (m.opened (slice_index part 0) (index_in part 0 some)) before) (c.in-Err.ensures.bank.calls.only_cut cutoff is).1
 
@@ -187,3 +190,6 @@ returns-in-Err-clause-section g c =
     c.requires.ready.at.name e.entered e.at e.same.0 e.same.1 (ap (λ (xs : List ℕ). slice_range xs c.args.first c.args.past) c.deref.ensures.value) c.requires.may in
     xact_refused_at start v u w n t.number c.args.bank s t.session _ (xact_page_of (slice_index (slice_range s.levels.open_ids.items c.args.first c.args.past) 0)) _ (cutoff_of c.enter_xact-store.result) c.in-Err.refusal c.requires.ready.at c.requires.bank.0 e.same.1 e.same.0
     (ap (λ (xs : List ℕ). xact_page_of (slice_index xs 0)) m.is) e.entered c.leave_refused.ensures.left e.stands.cutoff_is (λ cutoff is. c.in-Err.ensures.bank.calls.only_cut cutoff (ap Err is))
+
+pub leave_refused-requires-clause-risen : goal.leave_refused-requires-clause-risen
+leave_refused-requires-clause-risen g c is = let e = c.enter_xact-store.ensures in risen_past (faults_told (start_of c.args.hall.now) (xact_lock c.args.bank) (at (view c.enter_xact-store.new.caller.pass).seen (xact_lock c.args.bank))) (faults_of c.enter_xact-store.result) _ e.stands.count (c.in-Err.ensures.bank.calls.fault (ap Err is))

@@ -21,6 +21,9 @@ use Rattle.bank_sections.proofs.Uncut.{cut_refused, near_before, parent_uncut, s
 use Rattle.bank_sections.proofs.Visiting.{below_locks, fault_met, is_subtrans_lock, list_left, visited, visited_refused, subtrans_refused_at}
 use Rattle.engine_parts.proofs.Sectioning.{same_command, section_of}
 use Rattle.store_pages.specs.Layouts.{word_page_of}
+use Rattle.bank_sections.proofs.Nearing.{ids_near}
+use Rattle.tx_core.specs.FaultsRise.{faults_told}
+use Rattle.tx_core.proofs.FaultCounts.{risen_past}
 use Rattle.bank_sections.proofs.parents.link_parent.Goals as goal
 
 pub leave_quiet-requires-clause-by : goal.leave_quiet-requires-clause-by
@@ -102,7 +105,7 @@ returns-in-Err-clause-fault g c is =
     c.requires.ready.at (is_subtrans_lock (start_of c.args.hall.now) c.args.bank c.requires.bank.0) e.entered e.same.1 e.same.0 c.leave_refused.ensures.left cc
 
 pub returns-in-Err-clause-uncut : goal.returns-in-Err-clause-uncut
-returns-in-Err-clause-uncut g c opened near cutoff is =
+returns-in-Err-clause-uncut g c opened few cutoff is =
     let start = start_of c.args.hall.now in
     let e = c.enter_subtrans-store.ensures in
     let v = view c.args.caller.now.pass in
@@ -111,7 +114,7 @@ returns-in-Err-clause-uncut g c opened near cutoff is =
     let n = c.args.caller.now.number in
     let long = e.entered.learns.long in
     let below = below_locks start v n (subtrans_lock c.args.bank) c.args.caller.now.session c.requires.ready.at (is_subtrans_lock start c.args.bank c.requires.bank.0) in
-    let before = near_before start u w (subtrans_lock c.args.bank) _ (refused_quiet _ _ c.in-Err.refusal).event (omega arith) c.leave_refused.ensures.left near in
+    let before = near_before start u w (subtrans_lock c.args.bank) _ (refused_quiet _ _ c.in-Err.refusal).event (omega arith) c.leave_refused.ensures.left (ids_near start w.seen c.requires.ready.at.base few) in
     let mine = still_open start u n c.enter_subtrans-store.new.caller.number c.args.id c.args.caller.now.session c.enter_subtrans-store.new.caller.session e.at e.same.0 e.same.1 opened in
     cut_refused _ (parent_uncut start u.seen n c.args.bank c.args.id (cutoff_of c.enter_subtrans-store.result) c.requires.ready.at.base e.entered.kept e.stands.cutoff_is mine before)
     (subst (λ z. IsTrue (is_cut Ids 2048 (cutoff_of c.enter_subtrans-store.result) (z / 2048))) c.low.ensures (c.in-Err.ensures.bank.calls.only_cut cutoff is).1)
@@ -142,3 +145,6 @@ returns-in-Err-clause-section g c =
     let n = c.args.caller.now.number in
     subtrans_refused_at start v u w n t.number c.args.bank s t.session _ (word_page_of c.args.id) _ (cutoff_of c.enter_subtrans-store.result) c.in-Err.refusal c.requires.ready.at c.requires.bank.0 e.same.1 e.same.0
     (ap (λ (z : ℕ). z / 2048) c.low.ensures) e.entered c.leave_refused.ensures.left e.stands.cutoff_is (λ cutoff is. c.in-Err.ensures.bank.calls.only_cut cutoff (ap Err is))
+
+pub leave_refused-requires-clause-risen : goal.leave_refused-requires-clause-risen
+leave_refused-requires-clause-risen g c is = let e = c.enter_subtrans-store.ensures in risen_past (faults_told (start_of c.args.hall.now) (subtrans_lock c.args.bank) (at (view c.enter_subtrans-store.new.caller.pass).seen (subtrans_lock c.args.bank))) (faults_of c.enter_subtrans-store.result) _ e.stands.count (c.in-Err.ensures.bank.calls.fault (ap Err is))

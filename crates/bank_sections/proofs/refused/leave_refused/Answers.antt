@@ -19,7 +19,7 @@ leave_quiet-requires-clause-quiet g c = (ap event_of c.requires.fault, ap append
 
 pub leave_quiet-requires-clause-may : goal.leave_quiet-requires-clause-may
 leave_quiet-requires-clause-may g c =
-    may_fault (start_of c.args.hall.now) (view c.args.caller.now.pass).seen c.args.lock (by_at c.args.caller.now.number c.args.caller.now.session.levels.commands) (faults_in c.args.part) c.args.fault.value c.requires.lock c.requires.fault (c.requires.at.turns c.args.lock)
+    may_fault (start_of c.args.hall.now) (view c.args.caller.now.pass).seen c.args.lock (by_at c.args.caller.now.number c.args.caller.now.session.levels.commands) (faults_in c.args.part) c.args.fault.value c.requires.lock (c.requires.risen c.in-DiskFault.is) c.requires.fault (c.requires.at.turns c.args.lock)
 
 pub leave_quiet-requires-clause-stands : goal.leave_quiet-requires-clause-stands
 leave_quiet-requires-clause-stands g c =

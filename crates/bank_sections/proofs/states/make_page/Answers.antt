@@ -21,6 +21,9 @@ use Rattle.store_pages.specs.Layouts.{xact_page_of}
 use Rattle.engine_parts.proofs.Leaving.{history_same}
 use Rattle.bank_sections.proofs.Refusing.{refused_quiet}
 use Rattle.bank_sections.proofs.Uncut.{cut_refused, id_later, near_before, xact_uncut}
+use Rattle.bank_sections.proofs.Nearing.{ids_near}
+use Rattle.tx_core.specs.FaultsRise.{faults_told}
+use Rattle.tx_core.proofs.FaultCounts.{risen_past}
 use Rattle.bank_sections.proofs.states.make_page.Goals as goal
 
 pub leave_quiet-requires-clause-by : goal.leave_quiet-requires-clause-by
@@ -112,7 +115,7 @@ returns-in-Err-clause-section g c =
     (c.xact_page.ensures.page ∙ ap (λ z. z / 32768) c.low.ensures) e.entered c.leave_refused.ensures.left e.stands.cutoff_is (λ cutoff is. c.in-Err.ensures.calls.only_cut cutoff (ap Err is))
 
 pub returns-in-Err-clause-uncut : goal.returns-in-Err-clause-uncut
-returns-in-Err-clause-uncut g c near kept cutoff is =
+returns-in-Err-clause-uncut g c few kept cutoff is =
     let start = start_of c.args.hall.now in
     let e = c.enter_xact-store.ensures in
     let v = view c.args.caller.now.pass in
@@ -124,8 +127,11 @@ returns-in-Err-clause-uncut g c near kept cutoff is =
     let long = e.entered.learns.long in
     let below = below_locks start v n (xact_lock c.args.bank) s c.requires.ready.at (is_xact_lock start c.args.bank c.requires.bank.0) in
     let quiet = (refused_quiet _ _ c.in-Err.refusal).event in
-    let before = near_before start u w (xact_lock c.args.bank) _ quiet (omega arith) c.leave_refused.ensures.left near in
+    let before = near_before start u w (xact_lock c.args.bank) _ quiet (omega arith) c.leave_refused.ensures.left (ids_near start w.seen c.requires.ready.at.base few) in
     let held = subst (λ (h : List Event). oldest_id (start_of c.args.hall.now).base.oldest h ≤ c.args.id) (history_same start u w (xact_lock c.args.bank) _ quiet (omega arith) c.leave_refused.ensures.left) kept in
     let wanted = id_later start v.seen u.seen c.args.id e.entered.learns.knows.grows c.requires.wanted in
     cut_refused _ (xact_uncut start u.seen c.args.bank c.args.id (cutoff_of c.enter_xact-store.result) c.requires.ready.at.base e.entered.kept e.stands.cutoff_is wanted.0 wanted.1 held before)
     (subst (λ z. IsTrue (is_cut Ids 32768 (cutoff_of c.enter_xact-store.result) z)) (c.xact_page.ensures.page ∙ ap (λ z. z / 32768) c.low.ensures) (c.in-Err.ensures.calls.only_cut cutoff is).1)
+
+pub leave_refused-requires-clause-risen : goal.leave_refused-requires-clause-risen
+leave_refused-requires-clause-risen g c is = let e = c.enter_xact-store.ensures in risen_past (faults_told (start_of c.args.hall.now) (xact_lock c.args.bank) (at (view c.enter_xact-store.new.caller.pass).seen (xact_lock c.args.bank))) (faults_of c.enter_xact-store.result) _ e.stands.count (c.in-Err.ensures.calls.fault (ap Err is))

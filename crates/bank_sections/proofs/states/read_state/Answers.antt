@@ -16,6 +16,8 @@ use Rattle.bank_sections.proofs.Sameness.{xact_same}
 use Rattle.bank_sections.proofs.StateSeen.{state_seen}
 use Rattle.bank_sections.proofs.Visiting.{fault_met, is_xact_lock, list_left, not_true, visited, visited_refused, xact_refused_at}
 use Rattle.engine_parts.proofs.Sectioning.{same_command, section_of}
+use Rattle.tx_core.specs.FaultsRise.{faults_told}
+use Rattle.tx_core.proofs.FaultCounts.{risen_past}
 use Rattle.bank_sections.proofs.states.read_state.Goals as goal
 
 pub leave_looked-requires-clause-stands : goal.leave_looked-requires-clause-stands
@@ -98,3 +100,6 @@ returns-in-Err-clause-section g c =
     let n = c.args.caller.now.number in
     xact_refused_at start v u w n t.number c.args.bank s t.session _ (xact_page_of c.args.x) _ (cutoff_of c.enter_xact-store.result) c.in-Err.refusal c.requires.ready.at c.requires.bank.0 e.same.1 e.same.0
     (ap (λ (z : ℕ). z / 32768) c.low.ensures) e.entered c.leave_refused.ensures.left e.stands.cutoff_is (λ cutoff is. c.in-Err.ensures.bank.calls.only_cut cutoff (ap Err is))
+
+pub leave_refused-requires-clause-risen : goal.leave_refused-requires-clause-risen
+leave_refused-requires-clause-risen g c is = let e = c.enter_xact-store.ensures in risen_past (faults_told (start_of c.args.hall.now) (xact_lock c.args.bank) (at (view c.enter_xact-store.new.caller.pass).seen (xact_lock c.args.bank))) (faults_of c.enter_xact-store.result) _ e.stands.count (c.in-Err.ensures.bank.calls.fault (ap Err is))

@@ -6,7 +6,7 @@ use Rattle.tx_events.specs.declared.event.By.{By}
 use Rattle.tx_events.specs.After.{after_record}
 use Rattle.tx_core.specs.declared.entry.Entry.{Entry}
 use Rattle.tx_core.specs.declared.entry.Kind.TheVariants as kinds
-use Rattle.tx_core.specs.Entries.{session_of}
+use Rattle.tx_core.specs.Entries.{session_of, flushed_in}
 use Rattle.tx_core.specs.Locks.{log_lock}
 use Rattle.wal_core.specs.Log.{counters_or_none}
 use Rattle.wal_core.specs.LogViews.{log_counters, log_disk, log_down, log_first, log_flushed, log_next, log_recs}
@@ -15,13 +15,14 @@ use Rattle.engine_parts.specs.declared.session.Stage.TheVariants as stages
 use Rattle.engine_parts.specs.Holds.{Leaves}
 use Rattle.engine_parts.specs.Faults.{look_of}
 use Rattle.engine_parts.specs.Sessions.{by_at, look_by}
-use Rattle.engine_parts.specs.Stand.{count_in, faults_told, flushed_in}
 use Rattle.engine_parts.specs.Stages.{AreUnasked, IsInStage}
 use Rattle.engine_parts.proofs.Leaving.{call_left}
-use Rattle.engine_parts.proofs.Logging.{appends, failed_more, faultless_more, goes_on, log_looks, number_same}
+use Rattle.engine_parts.proofs.Logging.{appends, failed_more, goes_on, up_more, log_looks}
 use Rattle.engine_parts.proofs.Sectioning.{same_command, section_of}
 use Rattle.engine_parts.proofs.Stepping.{went_quiet}
 use Rattle.log_sections.proofs.Sections.{append_refused, base_of_log, call_recorded, down_left, log_refused, may_come, not_down, same_err, unasked_on, up_left}
+use Rattle.tx_core.specs.FaultsRise.{count_in, faults_at, faults_told}
+use Rattle.tx_core.proofs.LastNumbers.{number_same}
 use Rattle.log_sections.proofs.appending.append_commit.Goals as goal
 
 -- nothing was appended: the log isn't one that may take the record
@@ -102,9 +103,9 @@ leave_looked-requires-in-Err-clause-stands g c =
       refl,
       goes_on start d.tells (d.faults (log_disk o)) (d.faults (log_disk n)) (d.images (log_disk o)) (d.images (log_disk n)) (log_recs o) (log_recs n) (log_next o) (log_next n) (log_first o) (log_first n) (log_flushed o) (log_flushed n) (log_counters o) (log_counters n) (log_down o) (log_down n) es (by_at u.number u.session.levels.commands) s kinds.Look refl
           a.err_recs.0 a.err_counters.1 a.err_counters.0 (a.flushed ∙ (s.flushed_is ∙ sym (number_same flushed_in start.from es look refl)))
-          (let same : faults_told (es ++ look ∷ []) ≡ faults_told es = number_same count_in 0 es look refl in let before = s.count in let still = ap d.faults a.disk in omega arith)
+          (let same : faults_told start log_lock (es ++ look ∷ []) ≡ faults_told start log_lock es = number_same count_in (faults_at start log_lock) es look refl in let before = s.count in let still = ap d.faults a.disk in omega arith)
           (λ m is. let f = s.failed m (sym a.stays ∙ is) in let same = a.flushed in (failed_more start es look m f.0, (let le = f.1 in omega arith)))
-          (λ none. faultless_more es look (λ asked count q. cc) (s.up (sym a.stays ∙ none))) a.err_keeps,
+          (λ none. up_more es look refl (s.up (sym a.stays ∙ none))) a.err_keeps,
     )
 
 pub refusal_of-requires : goal.refusal_of-requires
@@ -148,7 +149,7 @@ returns-in-Err-clause-appends g c =
       append_refused start (view c.leave_looked-in-Err.new.caller.pass).seen c.in-Err.refusal c.refusal_of.result c.refusal_of.ensures
           (λ is. c.in-Err.ensures.no_other.0 (ap Err is))
           (λ down is. down_left start (view c.enter_log-log.new.caller.pass) (view c.leave_looked-in-Err.new.caller.pass) _ down (omega arith) c.leave_looked-in-Err.ensures.left (e.stands.failed down (c.in-Err.ensures.down down (ap Err is))).0)
-          (λ why. up_left start (view c.enter_log-log.new.caller.pass) (view c.leave_looked-in-Err.new.caller.pass) _ (omega arith) c.leave_looked-in-Err.ensures.left (λ asked count q. cc)
+          (λ why. up_left start (view c.enter_log-log.new.caller.pass) (view c.leave_looked-in-Err.new.caller.pass) _ (omega arith) c.leave_looked-in-Err.ensures.left refl
           (e.stands.up (not_down (log_down c.enter_log-log.result) (λ n is. log_refused c.in-Err.refusal n (same_err (c.in-Err.ensures.is_down n is)) why)))),
     )
 
@@ -177,3 +178,9 @@ returns-in-Err-clause-section g c =
     let s = c.args.caller.now.session in
     let n = c.args.caller.now.number in
     section_of (start_of c.args.hall.now) (view c.args.caller.now.pass) (view t.pass) (view c.leave_looked-in-Err.new.caller.pass) log_lock (look_by t.number t.session) (look_by n s) e.entered (ap look_of (same_command n t.number s t.session e.same.1 e.same.0)) c.leave_looked-in-Err.ensures.left
+
+pub leave_appended-requires-clause-up : goal.leave_appended-requires-clause-up
+leave_appended-requires-clause-up g c = c.enter_log-log.ensures.stands.up (not_down (log_down c.enter_log-log.result) (λ n is. let refused = c.in-Ok.ensures.is_down n is in cc))
+
+pub leave_appended-requires-clause-clear : goal.leave_appended-requires-clause-clear
+leave_appended-requires-clause-clear g c = ap (λ (z : Session). z.stage) c.enter_log-log.ensures.same.0 ∙ c.requires.clear

@@ -9,7 +9,7 @@ use Rattle.tx_events.specs.declared.record.Rec.{Rec}
 use Rattle.tx_core.specs.declared.entry.Entry.{Entry}
 use Rattle.tx_core.specs.declared.entry.Kind.TheVariants as kinds
 use Rattle.tx_core.specs.declared.entry.LogCall.TheVariants as calls
-use Rattle.tx_core.specs.Entries.{records_of}
+use Rattle.tx_core.specs.Entries.{records_of, flushed_in, flushed_to}
 use Rattle.tx_core.specs.Locks.{log_lock}
 use Rattle.tx_core.proofs.Lasting.{stands_grows}
 use Rattle.wal_core.specs.LogViews.{log_counters, log_disk, log_down, log_first, log_flushed, log_next, log_recs}
@@ -17,13 +17,16 @@ use Rattle.engine_parts.specs.declared.session.Session.{Session}
 use Rattle.engine_parts.specs.Answers.{MetLogFault}
 use Rattle.engine_parts.specs.Faults.{flush_fault_by, look_of}
 use Rattle.engine_parts.specs.Sessions.{by_at, look_by}
-use Rattle.engine_parts.specs.Stand.{count_in, faults_told, flushed_in, flushed_to}
 use Rattle.engine_parts.proofs.Leaving.{call_left, grown_left, stands_left}
-use Rattle.engine_parts.proofs.Logging.{failed_here, failed_more, faultless_more, flush_stands, goes_on, log_looks, number_push, number_same}
+use Rattle.engine_parts.proofs.Logging.{failed_here, failed_more, flush_stands, goes_on, log_looks, up_more}
 use Rattle.engine_parts.proofs.May.{met_log_fault}
 use Rattle.engine_parts.proofs.Sectioning.{same_command, section_of}
 use Rattle.engine_parts.proofs.Stepping.{went_quiet}
-use Rattle.log_sections.proofs.Sections.{down_left, flush_looked, flush_refused, same_err, seen_below}
+use Rattle.log_sections.proofs.Sections.{down_left, flush_looked, flush_refused, same_err, seen_below, not_down}
+use Rattle.tx_core.specs.FaultsRise.{count_in, faults_at, faults_told}
+use Rattle.tx_core.proofs.FaultCounts.{risen_past}
+use Rattle.tx_core.proofs.LastNumbers.{number_push, number_same}
+use Rattle.tx_core.proofs.LogLaws.{flushes_rise}
 use Rattle.log_sections.proofs.flushing.flush_log.Goals as goal
 
 -- the record is on disk already
@@ -55,9 +58,9 @@ leave_flushed-requires-clause-stands g c =
     let flush : Entry = record { by = by; kind = kinds.Flush c.next-next.result } in
     goes_on start d.tells (d.faults (log_disk o)) (d.faults (log_disk n)) (d.images (log_disk o)) (d.images (log_disk n)) (log_recs o) (log_recs n) (log_next o) (log_next n) (log_first o) (log_first n) (log_flushed o) (log_flushed n) (log_counters o) (log_counters n) (log_down o) (log_down n) es by s (kinds.Flush c.next-next.result) refl
     f.recs f.next f.counters (f.ok ∙ (sym c.next-next.ensures ∙ sym (number_push flushed_in start.from es flush c.next-next.result refl)))
-    (let same : faults_told (es ++ flush ∷ []) ≡ faults_told es = number_same count_in 0 es flush refl in let before = s.count in let rises = f.faults in omega arith)
+    (let same : faults_told start log_lock (es ++ flush ∷ []) ≡ faults_told start log_lock es = number_same count_in (faults_at start log_lock) es flush refl in let before = s.count in let rises = f.faults in omega arith)
     (λ m is. absurd (let refused = f.is_down m (sym (f.stays (λ q. cc)) ∙ is) in cc))
-    (λ none. faultless_more es flush (λ asked count q. cc) (s.up (sym (f.stays (λ q. cc)) ∙ none))) f.keeps
+    (λ none. up_more es flush refl (s.up (sym (f.stays (λ q. cc)) ∙ none))) f.keeps
 
 pub returns-then-flushed-number-clause-may : goal.returns-then-flushed-number-clause-may
 returns-then-flushed-number-clause-may g c =
@@ -131,11 +134,11 @@ leave_failed-requires-clause-stands g c =
     let fault : Entry = flush_fault_by by (d.faults (log_disk n)) in
     goes_on start d.tells (d.faults (log_disk o)) (d.faults (log_disk n)) (d.images (log_disk o)) (d.images (log_disk n)) (log_recs o) (log_recs n) (log_next o) (log_next n) (log_first o) (log_first n) (log_flushed o) (log_flushed n) (log_counters o) (log_counters n) (log_down o) (log_down n) es by s fault.kind refl
     f.recs f.next f.counters (f.err ∙ (s.flushed_is ∙ sym (number_same flushed_in start.from es fault refl)))
-    (let here = number_push count_in 0 es fault (d.faults (log_disk n)) refl in omega arith)
+    (let here = number_push count_in (faults_at start log_lock) es fault (d.faults (log_disk n)) refl in omega arith)
     (λ m is.
     let here : m ≡ log_flushed o = same_Some m (log_flushed o) (sym is ∙ f.put_down (ap Err c.in-LogFault.is)) in
     let still = f.err in
-    (failed_here start es by calls.Flush (d.faults (log_disk n)) m (here ∙ s.flushed_is), omega arith))
+    (failed_here start es by calls.Flush (d.faults (log_disk n)) m refl (here ∙ s.flushed_is), omega arith))
     (λ none. absurd (let some = sym none ∙ f.put_down (ap Err c.in-LogFault.is) in cc)) f.keeps
 
 pub returns-in-LogFault-clause-may : goal.returns-in-LogFault-clause-may
@@ -179,9 +182,9 @@ leave_looked-requires-in-Err-clause-stands g c =
       refl,
       goes_on start d.tells (d.faults (log_disk o)) (d.faults (log_disk n)) (d.images (log_disk o)) (d.images (log_disk n)) (log_recs o) (log_recs n) (log_next o) (log_next n) (log_first o) (log_first n) (log_flushed o) (log_flushed n) (log_counters o) (log_counters n) (log_down o) (log_down n) es by s kinds.Look refl
           f.recs f.next f.counters (f.err ∙ (s.flushed_is ∙ sym (number_same flushed_in start.from es look refl)))
-          (let same : faults_told (es ++ look ∷ []) ≡ faults_told es = number_same count_in 0 es look refl in let before = s.count in let rises = f.faults in omega arith)
+          (let same : faults_told start log_lock (es ++ look ∷ []) ≡ faults_told start log_lock es = number_same count_in (faults_at start log_lock) es look refl in let before = s.count in let rises = f.faults in omega arith)
           (λ m is. let before = s.failed m (sym (f.stays (λ q. c.in_default.not-LogFault (same_err q))) ∙ is) in let still = f.err in (failed_more start es look m before.0, (let le = before.1 in omega arith)))
-          (λ none. faultless_more es look (λ asked count q. cc) (s.up (sym (f.stays (λ q. c.in_default.not-LogFault (same_err q))) ∙ none))) f.keeps,
+          (λ none. up_more es look refl (s.up (sym (f.stays (λ q. c.in_default.not-LogFault (same_err q))) ∙ none))) f.keeps,
     )
 
 pub refusal_of-requires : goal.refusal_of-requires
@@ -263,3 +266,27 @@ returns-in_default-clause-section g c =
     let none = c.in-Err.ensures.no_other in
     flush_looked start (by_at n s.levels.commands) (view c.args.caller.now.pass) (view c.leave_looked-in-Err.new.caller.pass) c.in-Err.refusal c.refusal_of.result c.refusal_of.ensures c.in_default.not-LogFault
     (section_of start (view c.args.caller.now.pass) (view t.pass) (view c.leave_looked-in-Err.new.caller.pass) log_lock (look_by t.number t.session) (look_by n s) e.entered (ap look_of (same_command n t.number s t.session e.same.1 e.same.0)) c.leave_looked-in-Err.ensures.left)
+
+-- what the entries need
+pub leave_flushed-requires-clause-rises : goal.leave_flushed-requires-clause-rises
+leave_flushed-requires-clause-rises g c =
+    let start = start_of c.args.hall.now in
+    let e = c.enter_log-log.ensures in
+    let u = view c.enter_log-log.new.caller.pass in
+    let last = (flushes_rise start u.seen e.entered.kept).within in
+    let same = length-map (records_of u.seen) (λ (r : By × Rec). r.1) in
+    let next = c.next-next.ensures in
+    let is = e.stands.next_is in
+    omega arith
+
+pub leave_flushed-requires-clause-up : goal.leave_flushed-requires-clause-up
+leave_flushed-requires-clause-up g c = c.enter_log-log.ensures.stands.up (not_down (log_down c.enter_log-log.result) (λ n is. let refused = c.in-Ok.ensures.is_down n is in cc))
+
+pub leave_failed-requires-clause-up : goal.leave_failed-requires-clause-up
+leave_failed-requires-clause-up g c =
+    c.enter_log-log.ensures.stands.up (not_down (log_down c.enter_log-log.result) (λ n is. let refused = same_err (c.in-Err.ensures.is_down n is) in let failed = c.in-LogFault.is in cc))
+
+pub leave_failed-requires-clause-risen : goal.leave_failed-requires-clause-risen
+leave_failed-requires-clause-risen g c =
+    let d = g.L.LogDisk in
+    risen_past (faults_told (start_of c.args.hall.now) log_lock (at (view c.enter_log-log.new.caller.pass).seen log_lock)) (d.faults (log_disk c.enter_log-log.result)) (d.faults (log_disk c.flush.new.self)) c.enter_log-log.ensures.stands.count (c.in-Err.ensures.fault (ap Err c.in-LogFault.is))

@@ -1,7 +1,6 @@
 -- Multixacts of a legal history lie one behind another, in the order of their numbers.
-use Rattle.std.proofs.Common.{List, Some, Bool, true, false, [], cond, ap, arith, inl, inr, length, length-append, refl, subst, sym, ℕ, ⊎_elim, ◌++◌, ◌+◌, ◌*◌, ◌==◌, ◌<◌, ◌∙◌, ◌∷◌, ◌≡◌, ◌≤◌, ◌⊎◌, map}
+use Rattle.std.proofs.Common.{List, Some, Bool, true, false, [], cond, ap, arith, inl, inr, length, refl, subst, sym, ℕ, ⊎_elim, ◌++◌, ◌+◌, ◌==◌, ◌<◌, ◌∙◌, ◌∷◌, ◌≡◌, ◌≤◌, ◌⊎◌, map}
 use Rattle.std.proofs.lemmas.Bool.{eqb-true}
-use Rattle.std.proofs.lemmas.List.Elements.{filter_map-append}
 use Rattle.std.proofs.lemmas.List.Sums.{fold_push}
 use Rattle.xid_order.specs.Ids.{low_half}
 use Rattle.tx_events.specs.declared.event.By.{By}
@@ -14,12 +13,11 @@ use Rattle.tx_events.proofs.ListSteps.{le_or_over}
 use Rattle.tx_events.proofs.Membership.{Has, by_end, has_cases}
 use Rattle.tx_events.proofs.PlaceLemmas.{each_place_last, each_place_start}
 use Rattle.tx_events.specs.Base.{IsBase}
-use Rattle.tx_events.specs.Multis.{AreLegalMultis, InBase, IsNextMade, IsRaised, MultiMayCome, Pin, first_member, free_after, free_offset, made, made_at, made_by, next_made, oldest_offset, oldest_offset_after, pin_limit, pins}
-use Rattle.recoverable.proofs.MultiFacts.{gen_below}
+use Rattle.tx_events.specs.Multis.{AreLegalMultis, InBase, IsNextMade, IsRaised, MultiMayCome, Pin, first_member, free_after, free_offset, made_at, next_made, oldest_offset, oldest_offset_after, pin_limit, pins}
+use Rattle.tx_core.proofs.MultiGiven.{gen_below}
 
 pub record Ordered (base : Counters) (h : List MultiEvent) : Type 0 where
   pub from : base.offset ≤ free_offset base.offset h
-  pub room : free_offset base.offset h ≤ base.offset + 65 * length (made h)
   pub oldest : base.oldest_offset ≤ oldest_offset base.oldest_offset h
   pub given : (by : By) (multi offset : ℕ) (members : List Member) → Has h (multis.Gen by multi offset members)
       → (base.offset ≤ offset) × (offset + length members ≤ free_offset base.offset h) × (1 ≤ low_half offset)
@@ -54,13 +52,12 @@ members_in (multis.Gen by multi offset members) = members
 members_in _ = []
 
 joined : (base : Counters) (h : List MultiEvent) (e : MultiEvent) (free : ℕ) → AreLegalMultis base (InBase base) h → Ordered base h → free_offset base.offset (h ++ e ∷ []) ≡ free
-    → free ≤ base.offset + 65 * length (made (h ++ e ∷ [])) → base.oldest_offset ≤ oldest_offset base.oldest_offset (h ++ e ∷ []) → Joins base h e free → Ordered base (h ++ e ∷ [])
-joined base h e free legal o same room oldest j =
+    → base.oldest_offset ≤ oldest_offset base.oldest_offset (h ++ e ∷ []) → Joins base h e free → Ordered base (h ++ e ∷ [])
+joined base h e free legal o same oldest j =
     let all : List MultiEvent = h ++ e ∷ [] in
     let low = o.from in let up = j.rises in
     record {
       from = omega arith;
-      room = omega arith;
       oldest = oldest;
       given = λ by multi offset members k. ⊎_elim
           (λ old. let g = o.given by multi offset members old in let b = g.1 in (g.0, omega arith, g.2))
@@ -93,7 +90,7 @@ joined base h e free legal o same room oldest j =
     }
 
 -- an offset that is told of a multixact of the life is that of its event
-made_at_has : (multi x : ℕ) (h : List MultiEvent) → made_at multi h ≡ Some x → (by : By) × (members : List Member) × Has h (multis.Gen by multi x members)
+pub made_at_has : (multi x : ℕ) (h : List MultiEvent) → made_at multi h ≡ Some x → (by : By) × (members : List Member) × Has h (multis.Gen by multi x members)
 made_at_has multi x [] e = absurd cc
 made_at_has multi x (multis.Gen by n offset members ∷ h) e =
     let event : MultiEvent = multis.Gen by n offset members in
@@ -109,7 +106,7 @@ made_at_has multi x (multis.Raise by m o ∷ h) e = let r = made_at_has multi x 
 first_of : (free : ℕ) → (free ≤ first_member free) × (first_member free ≤ free + 1) × (1 ≤ low_half (first_member free))
 first_of free = grind arith
 
-raise_from : (base : Counters) (h : List MultiEvent) (m x : ℕ) → IsBase base → AreLegalMultis base (InBase base) h → Ordered base h → IsRaised base (InBase base) h m x
+pub raise_from : (base : Counters) (h : List MultiEvent) (m x : ℕ) → IsBase base → AreLegalMultis base (InBase base) h → Ordered base h → IsRaised base (InBase base) h m x
     → (base.oldest_offset ≤ x) × (x ≤ free_offset base.offset h) × ((b : By) (n y : ℕ) (ns : List Member) → Has h (multis.Gen b n y ns) → m ≤ n → x ≤ y)
 raise_from base h m x is legal o r =
     let low = o.from in let oldest = o.oldest in let below = is.oldest_offset in
@@ -141,12 +138,10 @@ raise_from base h m x is legal o r =
 
 -- an event that neither gives nor announces
 quiet : (base : Counters) (h : List MultiEvent) (e : MultiEvent) → AreLegalMultis base (InBase base) h → Ordered base h
-    → free_after (free_offset base.offset h) e ≡ free_offset base.offset h → oldest_offset_after (oldest_offset base.oldest_offset h) e ≡ oldest_offset base.oldest_offset h → made (h ++ e ∷ []) ≡ made h ++ []
+    → free_after (free_offset base.offset h) e ≡ free_offset base.offset h → oldest_offset_after (oldest_offset base.oldest_offset h) e ≡ oldest_offset base.oldest_offset h
     → ((by : By) (n y : ℕ) (ns : List Member) → e ≡ multis.Gen by n y ns → ⊥) → ((by : By) (m x : ℕ) → e ≡ multis.Raise by m x → ⊥) → Ordered base (h ++ e ∷ [])
-quiet base h e legal o free_same oldest_same none no_gen no_raise =
-    let more : length (made (h ++ e ∷ [])) ≡ length (made h) + 0 = ap (λ (t : List ℕ). length t) none ∙ length-append (made h) [] in
-    let room = o.room in
-    joined base h e (free_offset base.offset h) legal o (fold_push free_after base.offset h e ∙ free_same) (omega arith)
+quiet base h e legal o free_same oldest_same no_gen no_raise =
+    joined base h e (free_offset base.offset h) legal o (fold_push free_after base.offset h e ∙ free_same)
     (subst (λ z. base.oldest_offset ≤ z) (sym (fold_push oldest_offset_after base.oldest_offset h e ∙ oldest_same)) o.oldest)
     (record {
       rises = omega arith;
@@ -155,11 +150,11 @@ quiet base h e legal o free_same oldest_same none no_gen no_raise =
       past = λ a b m n x y ns q k le. absurd (no_raise a m x q);
     })
 
-abbrev raised_at : MultiEvent → ℕ
+abbrev pub raised_at : MultiEvent → ℕ
 raised_at (multis.Raise by multi offset) = offset
 raised_at _ = 0
 
-abbrev raised_to : MultiEvent → ℕ
+abbrev pub raised_to : MultiEvent → ℕ
 raised_to (multis.Raise by multi offset) = multi
 raised_to _ = 0
 
@@ -167,11 +162,8 @@ ordered_step : (base : Counters) (h : List MultiEvent) (e : MultiEvent) → IsBa
 ordered_step base h (multis.Gen by multi offset members) is legal o rule =
     let next : IsNextMade base h multi offset members = rule in
     let f = first_of (free_offset base.offset h) in let f0 = f.0 in let f1 = f.1 in
-    let at = next.first in let most = next.fit.most in let fits : length members ≤ 64 = most in
-    let more : length (made (h ++ multis.Gen by multi offset members ∷ [])) ≡ length (made h) + 1
-    = ap (λ (t : List ℕ). length t) (filter_map-append made_by h (multis.Gen by multi offset members ∷ [])) ∙ length-append (made h) (multi ∷ []) in
-    let room = o.room in let oldest = o.oldest in
-    joined base h (multis.Gen by multi offset members) (offset + length members) legal o (fold_push free_after base.offset h (multis.Gen by multi offset members)) (omega arith)
+    let at = next.first in let oldest = o.oldest in
+    joined base h (multis.Gen by multi offset members) (offset + length members) legal o (fold_push free_after base.offset h (multis.Gen by multi offset members))
     (subst (λ z. base.oldest_offset ≤ z) (sym (fold_push oldest_offset_after base.oldest_offset h (multis.Gen by multi offset members))) oldest)
     (record {
       rises = omega arith;
@@ -183,10 +175,7 @@ ordered_step base h (multis.Gen by multi offset members) is legal o rule =
     })
 ordered_step base h (multis.Raise by multi offset) is legal o rule =
     let r = raise_from base h multi offset is legal o rule in let r0 = r.0 in let r1 = r.1 in
-    let none : made (h ++ multis.Raise by multi offset ∷ []) ≡ made h ++ [] = filter_map-append made_by h (multis.Raise by multi offset ∷ []) in
-    let more : length (made (h ++ multis.Raise by multi offset ∷ [])) ≡ length (made h) + 0 = ap (λ (t : List ℕ). length t) none ∙ length-append (made h) [] in
-    let room = o.room in
-    joined base h (multis.Raise by multi offset) (free_offset base.offset h) legal o (fold_push free_after base.offset h (multis.Raise by multi offset)) (omega arith)
+    joined base h (multis.Raise by multi offset) (free_offset base.offset h) legal o (fold_push free_after base.offset h (multis.Raise by multi offset))
     (subst (λ z. base.oldest_offset ≤ z) (sym (fold_push oldest_offset_after base.oldest_offset h (multis.Raise by multi offset))) r0)
     (record {
       rises = omega arith;
@@ -194,14 +183,13 @@ ordered_step base h (multis.Raise by multi offset) is legal o rule =
       raised = λ b m x q. let s : offset ≡ x = ap raised_at q in (omega arith, omega arith);
       past = λ a b m n x y ns q k le. let sm : multi ≡ m = ap raised_to q in let sx : offset ≡ x = ap raised_at q in let z = r.2 b n y ns k (omega arith) in omega arith;
     })
-ordered_step base h (multis.Hold by multi) is legal o rule = quiet base h (multis.Hold by multi) legal o refl refl (filter_map-append made_by h (multis.Hold by multi ∷ [])) (λ b n y ns q. absurd cc) (λ b m x q. absurd cc)
-ordered_step base h (multis.Unhold by multi) is legal o rule = quiet base h (multis.Unhold by multi) legal o refl refl (filter_map-append made_by h (multis.Unhold by multi ∷ [])) (λ b n y ns q. absurd cc) (λ b m x q. absurd cc)
+ordered_step base h (multis.Hold by multi) is legal o rule = quiet base h (multis.Hold by multi) legal o refl refl (λ b n y ns q. absurd cc) (λ b m x q. absurd cc)
+ordered_step base h (multis.Unhold by multi) is legal o rule = quiet base h (multis.Unhold by multi) legal o refl refl (λ b n y ns q. absurd cc) (λ b m x q. absurd cc)
 
 pub ordered : (base : Counters) → IsBase base → (h : List MultiEvent) → AreLegalMultis base (InBase base) h → Ordered base h
 ordered base is = by_end (λ h. AreLegalMultis base (InBase base) h → Ordered base h)
     (λ legal. record {
       from = omega arith;
-      room = omega arith;
       oldest = omega arith;
       given = λ by multi offset members k. absurd k;
       apart = λ a b m n x y ms ns k l. absurd k;

@@ -67,7 +67,7 @@ pub given_below_is : (start : Start) (lists : List (List Entry)) (n parent x : �
 given_below_is start lists n parent x base k below = sub_below start.base (history lists) k.events.legal base.full below.0 parent x (contains_has (history lists) (events.Sub below.0 parent x) below.2)
 
 -- a parent that was set of an id
-linked_below : (start : Start) (lists : List (List Entry)) (x parent : ℕ) → IsBase start.base → EngineInvariant start lists → IsLinked start lists x parent → IsBelow start.base parent x
+pub linked_below : (start : Start) (lists : List (List Entry)) (x parent : ℕ) → IsBase start.base → EngineInvariant start lists → IsLinked start lists x parent → IsBelow start.base parent x
 linked_below start lists x parent base k linked =
     let lock : ℕ = subtrans_lock_of start x in
     let link : Link = record { caller = linked.0; id = x; parent = parent } in
@@ -86,7 +86,7 @@ module _ {A : Type 0} where
       go o x e (y ∷ ys) = go (Some y) y refl ys
 
 -- what was read as the parent set last was set
-read_linked : (start : Start) (lists : List (List Entry)) (lock x v : ℕ) → subtrans_lock_of start x ≡ lock → parent_read (flat_map links_in (at lists lock)) x ≡ Some v → IsLinked start lists x v
+pub read_linked : (start : Start) (lists : List (List Entry)) (lock x v : ℕ) → subtrans_lock_of start x ≡ lock → parent_read (flat_map links_in (at lists lock)) x ≡ Some v → IsLinked start lists x v
 read_linked start lists lock x v here is =
     let links : List Link = flat_map links_in (at lists lock) in
     ⊎_elim
@@ -108,7 +108,7 @@ read_linked start lists lock x v here is =
         ] in
         step (link.id == x) refl e
 
-linked_read : (start : Start) (lists : List (List Entry)) (lock x v : ℕ) → subtrans_lock_of start x ≡ lock → IsLinked start lists x v → (z : ℕ) × (parent_read (flat_map links_in (at lists lock)) x ≡ Some z)
+pub linked_read : (start : Start) (lists : List (List Entry)) (lock x v : ℕ) → subtrans_lock_of start x ≡ lock → IsLinked start lists x v → (z : ℕ) × (parent_read (flat_map links_in (at lists lock)) x ≡ Some z)
 linked_read start lists lock x v here linked =
     let links : List Link = flat_map links_in (at lists lock) in
     let link : Link = record { caller = linked.0; id = x; parent = v } in

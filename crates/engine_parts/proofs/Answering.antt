@@ -70,7 +70,7 @@ lawful_grows start lists more span wider by s command reply from to within g lat
     subst (λ (h : List Event). MayReply start.base start.committed h wider by s command reply) b.1
     (may_reply_grows start.base start.committed (history lists) b.0 span wider by s command reply from to within (later b.0 b.1) a)
 
-few_before : (lists more : List (List Entry)) → Grows lists more → AreFewIds more → AreFewIds lists
+pub few_before : (lists more : List (List Entry)) → Grows lists more → AreFewIds more → AreFewIds lists
 few_before lists more g few =
     let b = history_grows lists more g in
     let long : length (given (history lists ++ b.0)) ≡ length (given (history more)) = ap (λ (h : List Event). length (given h)) b.1 in
@@ -88,5 +88,5 @@ answer_grows tells start lists more r r' by s stage command (replies.Refused ref
 answer_grows tells start lists more r r' by s stage command (replies.Refused refusals.AbortPending) from to within g later a = a
 answer_grows tells start lists more r r' by s stage command (replies.Refused refusals.UndoPending) from to within g later a = a
 answer_grows tells start lists more r r' by s stage command (replies.Seen verdict) from to within g later a =
-    λ t few. lawful_grows start lists more r r' by s command (replies.Seen verdict) from to within g later (a t (few_before lists more g few))
+    λ t few before. lawful_grows start lists more r r' by s command (replies.Seen verdict) from to within g later (a t (few_before lists more g few) before)
 answer_grows tells start lists more r r' by s stage command reply from to within g later a = lawful_grows start lists more r r' by s command reply from to within g later a

@@ -1,0 +1,40 @@
+//! The ProcArray is only looked at.
+ghost use Rattle.std.specs.Prelude.{◌≡◌, ℕ, ◌+◌, ◌*◌, []};
+ghost use Rattle.hall.specs.Calls.{view, IsOf, start_of};
+ghost use Rattle.tx_events.specs.Horizon.{oldest_id};
+ghost use Rattle.tx_core.specs.Entries.{history};
+ghost use Rattle.tx_core.specs.Locks.{proc_lock};
+ghost use Rattle.engine_parts.specs.Holds.{Section};
+ghost use Rattle.engine_parts.specs.Sessions.{IsReady, look_by};
+ghost use Rattle.engine_parts.specs.Steps.{WentOn};
+
+use disk_core::{LogDisk, PageDisk};
+use engine_parts::{Caller, EngineLaw, Part, enter_proc, leave_looked};
+use hall::Hall;
+use std::sync::Wait;
+use xid_order::FullXid;
+
+/// The announced oldest id (`oldestXid` of `TransamVariables` in `src/backend/access/transam/varsup.c`): one critical
+/// section of the ProcArray.
+pub fn read_oldest<R: Wait, L: LogDisk, P: PageDisk>(
+    rt: &R,
+    hall: &Hall<EngineLaw<L, P>>,
+    caller: &mut Caller<L, P>,
+) -> FullXid
+    requires own { IsOf hall.now caller.old.pass }
+    requires laid { hall.now.cells ≡ 3 + 4 * (start_of hall.now).banks }
+    requires ready { IsReady (start_of hall.now) (view caller.old.pass) caller.old.number caller.old.session }
+    ensures section { Section (start_of hall.now) proc_lock (look_by caller.old.number caller.old.session)
+        (view caller.old.pass) (view caller.new.pass) }
+    ensures own { IsOf hall.now caller.new.pass }
+    ensures ready { IsReady (start_of hall.now) (view caller.new.pass) caller.new.number caller.new.session }
+    ensures went { WentOn caller.old.number [] (view caller.old.pass).seen (view caller.new.pass).seen }
+    ensures oldest { result
+        ≡ oldest_id (start_of hall.now).base.oldest (history (view caller.new.pass).seen) }
+    ensures same { (caller.new.session ≡ caller.old.session) × (caller.new.number ≡ caller.old.number) }
+{
+    let table = enter_proc(rt, hall, caller);
+    let oldest = table.oldest();
+    leave_looked(hall, caller, 1, Part::Proc(table));
+    oldest
+}

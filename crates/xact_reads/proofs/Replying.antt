@@ -1,0 +1,217 @@
+-- The replies of a look at a snapshot are lawful.
+use Rattle.std.proofs.Common.{◌≡◌, ℕ, zero, suc, ◌+◌, ◌-◌, ◌<◌, ◌≤◌, ◌==◌, ◌||◌, ◌++◌, List, [], Option, None, Some, IfSome, IsTrue, Bool, true, false, not, nat_eq, nat_lt, cond, is_none, length, length-append, take, take_all, Contains, refl, sym, ap, subst, ◌∙◌, arith}
+use Rattle.std.proofs.lemmas.Bool.{false_from_ne_true}
+use Rattle.std.proofs.lemmas.Bool.Decides.{nat_tests}
+use Rattle.std.specs.Bool.{then_some}
+use Rattle.std.specs.List.{list_any, find}
+use Rattle.disk_core.specs.declared.log_disk.LogDisk as logs
+use Rattle.disk_core.specs.declared.page_disk.PageDisk as disks
+use Rattle.hall.specs.declared.hall.Hall.{Hall}
+use Rattle.hall.specs.Calls.{IsOf, start_of, view}
+use Rattle.notes.specs.Lists.{at}
+use Rattle.notes.proofs.Growing.{begins_length}
+use Rattle.xid_order.specs.declared.order.Xid.{Xid}
+use Rattle.xid_order.specs.Nearest.{near_id}
+use Rattle.tx_events.specs.declared.event.By.{By}
+use Rattle.tx_events.specs.declared.event.Event.{Event}
+use Rattle.tx_events.specs.declared.event.Event.TheVariants as events
+use Rattle.tx_events.specs.declared.record.Counters.{Counters}
+use Rattle.tx_events.specs.declared.refusal.Lock.TheVariants as locks
+use Rattle.tx_events.specs.declared.refusal.Refusal.{Refusal}
+use Rattle.tx_events.specs.declared.refusal.Refusal.TheVariants as refusals
+use Rattle.tx_events.specs.declared.snapshot.SnapData.{SnapData}
+use Rattle.tx_events.specs.Base.{IsBase}
+use Rattle.tx_events.specs.Events.{same_name}
+use Rattle.tx_events.specs.History.{IsLegal}
+use Rattle.tx_events.specs.Horizon.{oldest_id}
+use Rattle.tx_events.specs.Snapshots.{snapshot_xmax}
+use Rattle.tx_events.specs.Visible.{is_visible}
+use Rattle.tx_events.proofs.GivenIds.{legal_take}
+use Rattle.tx_events.proofs.Membership.{has_contains}
+use Rattle.tx_events.proofs.Names.{same_name_equal}
+use Rattle.tx_events.proofs.PlaceLemmas.{take-grows}
+use Rattle.tx_events.proofs.SnapshotBounds.{given_from}
+use Rattle.tx_events.proofs.Visibility.{among_has, lives, never_given}
+use Rattle.tx_model.specs.declared.command.Command.{Command}
+use Rattle.tx_model.specs.declared.command.Command.TheVariants as commands
+use Rattle.tx_model.specs.declared.reply.Reply.{Reply}
+use Rattle.tx_model.specs.declared.reply.Reply.TheVariants as replies
+use Rattle.tx_model.specs.CommandEvents.{HasEvents}
+use Rattle.tx_model.specs.Replies.{MayFindOldest, MayReply, alone}
+use Rattle.tx_model.specs.Stance.{after, snap_of}
+use Rattle.tx_model.proofs.Growth.{may_reply_grows}
+use Rattle.tx_core.specs.declared.entry.Entry.{Entry}
+use Rattle.tx_core.specs.declared.entry.Start.{Start}
+use Rattle.tx_core.specs.EngineInvariant.{EngineInvariant}
+use Rattle.tx_core.specs.Entries.{history}
+use Rattle.tx_core.proofs.Lasting.{history_grows}
+use Rattle.tx_core.proofs.Posting.{oldest_rises}
+use Rattle.proc_table.proofs.Bounds.{full_from}
+use Rattle.session_levels.specs.declared.session.RegisteredSnapshot.{RegisteredSnapshot}
+use Rattle.session_levels.specs.declared.session.Session as plain
+use Rattle.session_levels.specs.Acts.{IsInTurn}
+use Rattle.session_levels.specs.Stands.{IsRegistered}
+use Rattle.session_levels.specs.Stands as levels
+use Rattle.session_levels.proofs.ActsLemmas.{reads_last, registered_at, snap_found, snap_missing}
+use Rattle.engine_parts.specs.declared.part.Part.{Part}
+use Rattle.engine_parts.specs.declared.session.Caller.{Caller}
+use Rattle.engine_parts.specs.declared.session.Session.{Session}
+use Rattle.engine_parts.specs.declared.session.Stage.{Stage}
+use Rattle.engine_parts.specs.Answers.{MayAnswer}
+use Rattle.engine_parts.specs.Calls.{IsCounted, MayRun, Ran, next_command}
+use Rattle.engine_parts.specs.Holds.{Knowledge}
+use Rattle.engine_parts.specs.Sessions.{IsAt, IsReady, by_at, stance_of}
+use Rattle.engine_parts.specs.Standing.{by_standing, moves_end, refused_by}
+use Rattle.engine_parts.specs.Steps.{WentOn}
+use Rattle.engine_parts.proofs.Calling.{may_counted, ran_counted}
+use Rattle.engine_parts.proofs.Refusing.{keeps_stage}
+use Rattle.xact_reads.specs.declared.glances.Glance.{Glance}
+use Rattle.xact_reads.specs.Glances.{IsNamed, Shows}
+use Rattle.xact_reads.specs.Readings.{IsShown, IsUnread}
+use Rattle.xact_reads.proofs.Going.{call_read, others_went}
+
+-- a session's snapshot of this name is registered in what it has seen
+pub named_at : (start : Start) (v : Knowledge) (n : ℕ) (s : Session) (name : List ℕ) (k : RegisteredSnapshot) → IsAt start v n s → IsNamed s.levels name k → IsRegistered start.base (history v.seen) n k × (same_name k.name name ≡ true)
+named_at start v n s name k a named = registered_at start.base (history v.seen) n (λ x. same_name x.name name) s.levels.registered.items k a.stands.snaps named
+
+-- a command finds the announced oldest id at the end of what it has seen
+finds_oldest : (base : Counters) (by : By) (h h' : List Event) → length h ≤ length h' → IsInTurn by h' → MayFindOldest base h' (alone h h') by (oldest_id base.oldest h')
+finds_oldest base by h h' longer turn = record {
+  place = length h';
+  read = reads_last by h h' longer turn;
+  lag = 0;
+  short = omega arith;
+  oldest_is = ap (oldest_id base.oldest) (sym (take_all (length h' - 0) h' (omega arith)));
+}
+
+-- it is never before the one with which the life began
+oldest_from : (start : Start) (lists : List (List Entry)) → EngineInvariant start lists → start.base.oldest ≤ oldest_id start.base.oldest (history lists)
+oldest_from start lists k = oldest_rises start [] lists k (record { begins = λ q. (at lists q, refl) })
+
+went_longer : (n : ℕ) (lists more : List (List Entry)) → WentOn n [] lists more → length (history lists) ≤ length (history more)
+went_longer n lists more went = begins_length (history lists) (history more) (history_grows lists more went.on.grows)
+
+below_special : (x : ℕ) → x < 3 → nat_lt x 3 ≡ true
+below_special x l = grind (arith, nat_tests)
+
+above_special : (x : ℕ) → 3 ≤ x → nat_lt x 3 ≡ false
+above_special x l = grind (arith, nat_tests)
+
+-- ids 0 to 2 have fixed answers
+special : (base : Counters) (committed : List ℕ) (g : List Event) (x : ℕ) → IsBase base → IsLegal base g → (Contains committed 0 → ⊥) → x < 3 → not (nat_eq x 0) ≡ is_visible committed g x
+special base committed g zero b legal none l =
+    sym
+    (ap (λ b. b || lives g 0) (false_from_ne_true (list_any (λ y. y == 0) committed) (λ e. none (has_contains committed 0 (among_has 0 committed e))))
+    ∙ never_given base g 0 legal (λ k. let f = given_from base g legal 0 k in let n = full_from base.next b.full in omega arith))
+special base committed g (suc zero) b legal none l = refl
+special base committed g (suc (suc zero)) b legal none l = refl
+special base committed g (suc (suc (suc x))) b legal none l = absurd (omega arith)
+
+module _ (start : Start) (v w : Knowledge) (n : ℕ) (s : Session) (name : List ℕ) (x : Xid) (k : RegisteredSnapshot) (a : IsAt start w n s) (went : WentOn n [] v.seen w.seen) (named : IsNamed s.levels name k) where
+  abbrev by : By
+  by = by_at n s.levels.commands
+
+  abbrev h : List Event
+  h = history w.seen
+
+  -- a special id
+  pub special_answer : (tells : Bool) → x.number < 3 → MayAnswer tells start w.seen (alone (history v.seen) h) by (stance_of s) s.stage (commands.See name x) (replies.Seen (not (nat_eq x.number 0)))
+  special_answer tells small told few before =
+      let r = named_at start w n s name k a named in (
+        k.command,
+        snap_found name (stance_of s).levels s.levels.registered.items k named,
+        record {
+          place = k.place;
+          taken = r.0.taken ∙ ap (λ m. Some (events.Snap (record { session = n; command = k.command }) m)) (same_name_equal k.name name r.1);
+          id = x.number;
+          near = ap (λ c. cond c (Some x.number) (near_id (snapshot_xmax start.base.next (take k.place h)) x.number)) (below_special x.number small);
+          young = λ normal. absurd (omega arith);
+          exact = special start.base start.committed (take k.place h) x.number a.base (legal_take start.base h k.place a.kept.events.legal) (λ c. let z = (before 0 c).0 in omega arith) small;
+        },
+      )
+
+  -- an id before the oldest one, or none
+  pub old_answer : (tells : Bool) (o : Option ℕ) (oldest : ℕ) → 3 ≤ x.number → near_id k.snapshot.xmax x.number ≡ o → IfSome o (λ id. id < oldest) → oldest ≡ oldest_id start.base.oldest h
+      → MayAnswer tells start w.seen (alone (history v.seen) h) by (stance_of s) s.stage (commands.See name x) (replies.Refused (refusals.TooOld oldest))
+  old_answer tells o oldest normal near older is =
+      let r = named_at start w n s name k a named in (
+        k.command,
+        snap_found name (stance_of s).levels s.levels.registered.items k named,
+        record {
+          place = k.place;
+          taken = r.0.taken ∙ ap (λ m. Some (events.Snap (record { session = n; command = k.command }) m)) (same_name_equal k.name name r.1);
+          normal = normal;
+          older = subst (λ p. IfSome p (λ id. id < oldest)) (sym near ∙ ap (λ (d : SnapData). near_id d.xmax x.number) r.0.holds) older;
+          found = subst (MayFindOldest start.base h (alone (history v.seen) h) by) (sym is) (finds_oldest start.base by (history v.seen) h (went_longer n v.seen w.seen went) a.stands.turn);
+        },
+      )
+
+  -- nothing was read of it
+  pub unread_answer : (tells : Bool) (g : Glance) (r : Refusal) → 3 ≤ x.number → Shows k.snapshot x.number g → IsUnread start w.seen by g.id r
+      → MayAnswer tells start w.seen (alone (history v.seen) h) by (stance_of s) s.stage (commands.See name x) (replies.Refused r) × (by_standing (replies.Refused r) ≡ None)
+  unread_answer tells g (refusals.DiskFault (locks.Xact bank)) normal shows u = ((refl, u), refl)
+  unread_answer tells g (refusals.DiskFault (locks.Subtrans bank)) normal shows u = ((refl, u), refl)
+  unread_answer tells g (refusals.TooOld oldest) normal shows u = (old_answer tells (Some g.id) oldest normal shows.near u.1 u.0, refl)
+  unread_answer tells g r normal shows u = absurd u
+
+-- what is shown of an id that wasn't too old when the oldest one was read
+pub seen_answer : (tells : Bool) (start : Start) (v u w : Knowledge) (n : ℕ) (s : Session) (name : List ℕ) (x : Xid) (k : RegisteredSnapshot) (g : Glance) (oldest : ℕ) (shown : Bool) → IsAt start u n s → WentOn n [] v.seen u.seen → WentOn n [] u.seen w.seen → IsNamed s.levels name k
+    → 3 ≤ x.number → Shows k.snapshot x.number g → oldest ≡ oldest_id start.base.oldest (history u.seen) → oldest ≤ g.id → (IsTrue tells → IsShown start w.seen s.levels name g.id shown)
+    → MayAnswer tells start w.seen (alone (history v.seen) (history w.seen)) (by_at n s.levels.commands) (stance_of s) s.stage (commands.See name x) (replies.Seen shown)
+seen_answer tells start v u w n s name x k g oldest shown a first second named normal shows is young each told few before =
+    let by : By = by_at n s.levels.commands in
+    let h : List Event = history u.seen in
+    let others = others_went by u.seen w.seen second in
+    let r = named_at start u n s name k a named in
+    let from = oldest_from start u.seen a.kept in
+    let exact = each told few before (omega arith) k named in
+    let longer = went_longer n v.seen u.seen first in
+    subst (λ (t : List Event). MayReply start.base start.committed t (alone (history v.seen) t) by (stance_of s) (commands.See name x) (replies.Seen shown)) others.split
+    (may_reply_grows start.base start.committed h others.rest (alone (history v.seen) h) (alone (history v.seen) (h ++ others.rest)) by (stance_of s) (commands.See name x) (replies.Seen shown) (omega arith) (omega (arith, length-append h others.rest)) (omega arith) others.later (
+      k.command,
+      snap_found name (stance_of s).levels s.levels.registered.items k named,
+      record {
+        place = k.place;
+        taken = r.0.taken ∙ ap (λ m. Some (events.Snap (record { session = n; command = k.command }) m)) (same_name_equal k.name name r.1);
+        id = g.id;
+        near = ap (λ c. cond c (Some x.number) (near_id (snapshot_xmax start.base.next (take k.place h)) x.number)) (above_special x.number normal) ∙ (ap (λ (d : SnapData). near_id d.xmax x.number) (sym r.0.holds) ∙ shows.near);
+        young = λ _. record { oldest = oldest; found = subst (MayFindOldest start.base h (alone (history v.seen) h) by) (sym is) (finds_oldest start.base by (history v.seen) h longer a.stands.turn); young = young };
+        exact = exact ∙ ap (λ (t : List Event). is_visible start.committed t g.id) (ap (take k.place) (sym others.split) ∙ take-grows h others.rest _ k.place r.0.taken);
+      },
+    ))
+
+-- what a call did that only read
+module _ {H L P : Type 0} {l : logs.Ghosts L} {p : disks.Ghosts P} (hall : Hall H (Part L P l p) Entry Start) where
+  pub ran_read : {banks : ℕ} (old u new : Caller L P l p) (command : Command) (reply : Reply) → IsCounted old u → MayRun hall banks old → IsOf hall new.pass → IsReady (start_of hall) (view new.pass) new.number new.session → WentOn u.number [] (view u.pass).seen (view new.pass).seen → new.session ≡ u.session → new.number ≡ u.number
+      → HasEvents (by_at u.number u.session.levels.commands) (stance_of u.session) command reply []
+      → MayAnswer (p.tells) (start_of hall) (view new.pass).seen (alone (history (view u.pass).seen) (history (view new.pass).seen)) (by_at u.number u.session.levels.commands) (stance_of u.session) u.session.stage command reply
+      → by_standing reply ≡ refused_by command (stance_of u.session) u.session.stage → after (stance_of u.session) u.session.levels.commands command reply [] ≡ stance_of u.session → moves_end command ≡ false
+      → Ran hall (next_command old) command reply old new
+  ran_read old u new command reply c m own ready went same number fitting allowed standing left still =
+      ran_counted hall old u new command reply c (record {
+        own = own;
+        may = call_read (start_of hall) (view u.pass) (view new.pass) u.number new.number u.session new.session (may_counted hall old u c m) went number same ready;
+        acted = record {
+          grows = went.on.grows;
+          added = [];
+          own = went.on.own;
+          each = tt;
+          fitting = fitting;
+          allowed = allowed;
+          standing = standing;
+          left = left ∙ sym (ap stance_of same);
+        };
+        stage = keeps_stage command reply u.session.stage new.session.stage still (ap (λ (z : Session). z.stage) same);
+        count = (ap (λ (z : Session). z.levels.commands) same, number);
+      })
+
+-- where the session has a snapshot of this name, it isn't refused by how it stands
+pub not_refused : (s : Session) (name : List ℕ) (x : Xid) (k : RegisteredSnapshot) → IsNamed s.levels name k → refused_by (commands.See name x) (stance_of s) s.stage ≡ None
+not_refused s name x k named = ap (λ (o : Option ℕ). then_some (is_none o) refusals.NoSnapshot) (snap_found name (stance_of s).levels s.levels.registered.items k named)
+
+-- and where it had none before its command was counted, it is
+pub refused_before : (s t : plain.Session) (stage : Stage) (name : List ℕ) (x : Xid) → t ≡ record s { commands = s.commands + 1 } → find (λ k. same_name k.name name) t.registered.items ≡ None
+    → (snap_of name (levels.stance_of s) ≡ None) × (by_standing (replies.Refused refusals.NoSnapshot) ≡ refused_by (commands.See name x) (levels.stance_of s) stage)
+refused_before s t stage name x counted missing =
+    let none : snap_of name (levels.stance_of s) ≡ None = sym (ap (λ z. snap_of name (levels.stance_of z)) counted) ∙ snap_missing name (levels.stance_of t).levels t.registered.items missing in
+    (none, sym (ap (λ (o : Option ℕ). then_some (is_none o) refusals.NoSnapshot) none))

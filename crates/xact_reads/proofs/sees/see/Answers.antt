@@ -1,0 +1,59 @@
+use Rattle.std.proofs.Common.{◌≡◌, ℕ, Option, None, not, nat_eq, is_none, arith, refl, sym, ap, ◌∙◌}
+use Rattle.std.specs.Bool.{then_some}
+use Rattle.hall.specs.Calls.{view, start_of}
+use Rattle.tx_events.specs.declared.refusal.Refusal.TheVariants as refusals
+use Rattle.tx_model.specs.declared.command.Command.TheVariants as commands
+use Rattle.tx_model.specs.declared.reply.Reply.TheVariants as replies
+use Rattle.tx_model.specs.Stance.{snap_of}
+use Rattle.session_levels.specs.Stands as levels
+use Rattle.session_levels.proofs.ActsLemmas.{snap_missing}
+use Rattle.engine_parts.specs.Sessions.{stance_of}
+use Rattle.engine_parts.proofs.Calling.{may_counted, own_counted, ran_refused}
+use Rattle.engine_parts.proofs.Stepping.{went_nowhere}
+use Rattle.xact_reads.proofs.Limits.{registered_limits}
+use Rattle.xact_reads.proofs.Replying.{named_at, not_refused, ran_read, refused_before, special_answer}
+use Rattle.xact_reads.proofs.sees.see.Goals as goal
+
+pub returns-in-None : goal.returns-in-None
+returns-in-None g c =
+    let old = c.args.caller.now in
+    let u = c.count.new.caller in
+    let r = refused_before old.session.levels u.session.levels old.session.stage c.args.name.now c.args.x c.count.ensures.levels c.in-None.ensures.none in
+    ran_refused c.args.hall.now old u (commands.See c.args.name.now c.args.x) refusals.NoSnapshot c.count.ensures c.requires refl r.1 r.0
+
+pub returns-then-x-lt3 : goal.returns-then-x-lt3
+returns-then-x-lt3 g c =
+    let old = c.args.caller.now in
+    let u = c.count.new.caller in
+    let name = c.args.name.now in
+    let k = c.in-Some.registered.now in
+    let start = start_of c.args.hall.now in
+    let may = may_counted c.args.hall.now old u c.count.ensures c.requires in
+    let went = went_nowhere u.number (view u.pass).seen in
+    ran_read c.args.hall.now old u u (commands.See name c.args.x) (replies.Seen (not (nat_eq c.args.x.number 0))) c.count.ensures c.requires (own_counted c.args.hall.now old u c.count.ensures c.requires.own) may.ready went refl refl refl
+    (special_answer start (view u.pass) (view u.pass) u.number u.session name c.args.x k may.ready.at went c.in-Some.ensures.found (g.P.PageDisk.tells) (omega arith))
+    (sym (not_refused u.session name c.args.x k c.in-Some.ensures.found)) refl refl
+
+pub glance_at-found-requires-clause-limits : goal.glance_at-found-requires-clause-limits
+glance_at-found-requires-clause-limits g c =
+    let u = c.count.new.caller in
+    let k = c.in-Some.registered.now in
+    let a = (may_counted c.args.hall.now c.args.caller.now u c.count.ensures c.requires).ready.at in
+    registered_limits (start_of c.args.hall.now).base _ u.number k a.base a.kept.events.legal (named_at (start_of c.args.hall.now) (view u.pass) u.number u.session c.args.name.now k a c.in-Some.ensures.found).0
+
+pub see_found-requires-clause-ready : goal.see_found-requires-clause-ready
+see_found-requires-clause-ready g c = (may_counted c.args.hall.now c.args.caller.now c.count.new.caller c.count.ensures c.requires).ready
+
+pub returns-in-Ok : goal.returns-in-Ok
+returns-in-Ok g c =
+    let e = c.in-Ok.ensures in
+    let u = c.count.new.caller in
+    ran_read c.args.hall.now c.args.caller.now u c.see_found.new.caller (commands.See c.args.name.now c.args.x) (replies.Seen c.in-Ok.seen) c.count.ensures c.requires e.own e.ready e.went e.same.0 e.same.1 refl e.allowed
+    (e.standing ∙ sym (not_refused u.session c.args.name.now c.args.x c.in-Some.registered.now c.in-Some.ensures.found)) refl refl
+
+pub returns-in-Err : goal.returns-in-Err
+returns-in-Err g c =
+    let e = c.in-Err.ensures in
+    let u = c.count.new.caller in
+    ran_read c.args.hall.now c.args.caller.now u c.see_found.new.caller (commands.See c.args.name.now c.args.x) (replies.Refused c.in-Err.refusal) c.count.ensures c.requires e.own e.ready e.went e.same.0 e.same.1 refl e.allowed
+    (e.standing ∙ sym (not_refused u.session c.args.name.now c.args.x c.in-Some.registered.now c.in-Some.ensures.found)) refl refl

@@ -1,0 +1,92 @@
+use Rattle.std.proofs.Common.{[], None, Some, arith, subst, ◌∙◌}
+use Rattle.std.proofs.lemmas.Bool.Decides.{nat_tests}
+use Rattle.hall.specs.Calls.{view, start_of}
+use Rattle.tx_events.specs.declared.event.By.{By}
+use Rattle.engine_parts.specs.declared.session.Session.{Session}
+use Rattle.engine_parts.specs.Steps.{WentOn}
+use Rattle.engine_parts.proofs.Sectioning.{same_command}
+use Rattle.xact_reads.specs.Glances.{IsGlance, Shows}
+use Rattle.xact_reads.specs.Readings.{IsShown, IsUnread}
+use Rattle.xact_reads.proofs.Going.{at_same, went_both}
+use Rattle.xact_reads.proofs.Replying.{old_answer, seen_answer, unread_answer}
+use Rattle.xact_reads.proofs.sees.see_found.Goals as goal
+
+pub returns-in-None-clause-allowed : goal.returns-in-None-clause-allowed
+returns-in-None-clause-allowed g c =
+    let old = c.args.caller.now in
+    let u = c.read_oldest-oldest.new.caller in
+    let e = c.read_oldest-oldest.ensures in
+    let h = c.requires.glanced in
+    let start = start_of c.args.hall.now in
+    old_answer start (view old.pass) (view u.pass) old.number old.session c.args.name.now c.args._x h.registered (at_same start (view u.pass) old.number u.number old.session u.session e.same.1 e.same.0 e.ready) e.went h.named (g.P.PageDisk.tells) None c.read_oldest-oldest.result c.requires.normal
+    (subst (IsGlance h.registered.snapshot c.args._x.number) c.in-None.is h.glance) tt e.oldest
+
+pub returns-then-lt-clause-allowed : goal.returns-then-lt-clause-allowed
+returns-then-lt-clause-allowed g c =
+    let old = c.args.caller.now in
+    let u = c.read_oldest-oldest.new.caller in
+    let e = c.read_oldest-oldest.ensures in
+    let h = c.requires.glanced in
+    let start = start_of c.args.hall.now in
+    let glance = c.in-Some.glance in
+    let shows : Shows h.registered.snapshot c.args._x.number glance = subst (IsGlance h.registered.snapshot c.args._x.number) c.in-Some.is h.glance in
+    old_answer start (view old.pass) (view u.pass) old.number old.session c.args.name.now c.args._x h.registered (at_same start (view u.pass) old.number u.number old.session u.session e.same.1 e.same.0 e.ready) e.went h.named (g.P.PageDisk.tells) (Some glance.id) c.read_oldest-oldest.result c.requires.normal shows.near
+    (grind (arith, nat_tests, c.if-lt.true, c.lt.ensures)) e.oldest
+
+pub returns-in-Ok-clause-went : goal.returns-in-Ok-clause-went
+returns-in-Ok-clause-went g c =
+    let u = c.read_oldest-oldest.new.caller in
+    let e = c.read_oldest-oldest.ensures in
+    went_both c.args.caller.now.number u.number (view c.args.caller.now.pass).seen (view u.pass).seen (view c.show.new.caller.pass).seen e.same.1 e.went c.in-Ok.ensures.went
+
+pub returns-in-Ok-clause-allowed : goal.returns-in-Ok-clause-allowed
+returns-in-Ok-clause-allowed g c =
+    let old = c.args.caller.now in
+    let u = c.read_oldest-oldest.new.caller in
+    let w = c.show.new.caller in
+    let e = c.read_oldest-oldest.ensures in
+    let f = c.in-Ok.ensures in
+    let h = c.requires.glanced in
+    let start = start_of c.args.hall.now in
+    let glance = c.in-Some.glance in
+    let shows : Shows h.registered.snapshot c.args._x.number glance = subst (IsGlance h.registered.snapshot c.args._x.number) c.in-Some.is h.glance in
+    seen_answer (g.P.PageDisk.tells) start (view old.pass) (view u.pass) (view w.pass) old.number old.session c.args.name.now c.args._x h.registered glance c.read_oldest-oldest.result c.in-Ok.shown (at_same start (view u.pass) old.number u.number old.session u.session e.same.1 e.same.0 e.ready) e.went
+    (subst (λ z. WentOn z [] (view u.pass).seen (view w.pass).seen) e.same.1 f.went) h.named c.requires.normal shows e.oldest
+    (grind (arith, nat_tests, c.if-lt.false, c.lt.ensures))
+    (λ told. subst (λ (z : Session). IsShown start (view w.pass).seen z.levels c.args.name.now glance.id c.in-Ok.shown) e.same.0 (f.shown told))
+
+pub returns-in-Err-clause-went : goal.returns-in-Err-clause-went
+returns-in-Err-clause-went g c =
+    let u = c.read_oldest-oldest.new.caller in
+    let e = c.read_oldest-oldest.ensures in
+    went_both c.args.caller.now.number u.number (view c.args.caller.now.pass).seen (view u.pass).seen (view c.show.new.caller.pass).seen e.same.1 e.went c.in-Err.ensures.went
+
+pub returns-in-Err-clause-allowed : goal.returns-in-Err-clause-allowed
+returns-in-Err-clause-allowed g c =
+    let old = c.args.caller.now in
+    let u = c.read_oldest-oldest.new.caller in
+    let w = c.show.new.caller in
+    let e = c.read_oldest-oldest.ensures in
+    let f = c.in-Err.ensures in
+    let h = c.requires.glanced in
+    let start = start_of c.args.hall.now in
+    let glance = c.in-Some.glance in
+    let went = went_both old.number u.number (view old.pass).seen (view u.pass).seen (view w.pass).seen e.same.1 e.went f.went in
+    (unread_answer start (view old.pass) (view w.pass) old.number old.session c.args.name.now c.args._x h.registered (at_same start (view w.pass) old.number w.number old.session w.session (f.same.1 ∙ e.same.1) (f.same.0 ∙ e.same.0) f.ready) went h.named (g.P.PageDisk.tells) glance c.in-Err.refusal c.requires.normal
+    (subst (IsGlance h.registered.snapshot c.args._x.number) c.in-Some.is h.glance)
+    (subst (λ (b : By). IsUnread start (view w.pass).seen b glance.id c.in-Err.refusal) (same_command old.number u.number old.session u.session e.same.1 e.same.0) f.unread)).0
+
+pub returns-in-Err-clause-standing : goal.returns-in-Err-clause-standing
+returns-in-Err-clause-standing g c =
+    let old = c.args.caller.now in
+    let u = c.read_oldest-oldest.new.caller in
+    let w = c.show.new.caller in
+    let e = c.read_oldest-oldest.ensures in
+    let f = c.in-Err.ensures in
+    let h = c.requires.glanced in
+    let start = start_of c.args.hall.now in
+    let glance = c.in-Some.glance in
+    let went = went_both old.number u.number (view old.pass).seen (view u.pass).seen (view w.pass).seen e.same.1 e.went f.went in
+    (unread_answer start (view old.pass) (view w.pass) old.number old.session c.args.name.now c.args._x h.registered (at_same start (view w.pass) old.number w.number old.session w.session (f.same.1 ∙ e.same.1) (f.same.0 ∙ e.same.0) f.ready) went h.named (g.P.PageDisk.tells) glance c.in-Err.refusal c.requires.normal
+    (subst (IsGlance h.registered.snapshot c.args._x.number) c.in-Some.is h.glance)
+    (subst (λ (b : By). IsUnread start (view w.pass).seen b glance.id c.in-Err.refusal) (same_command old.number u.number old.session u.session e.same.1 e.same.0) f.unread)).1

@@ -13,7 +13,7 @@ use Rattle.tx_core.specs.declared.entry.Entry.{Entry}
 use Rattle.tx_core.specs.declared.entry.Start.{Start}
 use Rattle.tx_core.specs.EngineInvariant.{EngineInvariant}
 use Rattle.tx_core.specs.Entries.{history, AreFewIds}
-use Rattle.tx_core.specs.Locks.{subtrans_lock, subtrans_page, xact_lock, xact_page}
+use Rattle.tx_core.specs.Locks.{subtrans_lock, xact_lock}
 use Rattle.tx_core.proofs.Nearness.{made_near}
 use Rattle.engine_parts.specs.Stand.{AreSubtransPagesNear, AreXactPagesNear}
 

@@ -47,6 +47,12 @@ use Rattle.engine_parts.proofs.Logging.{failed_more, recs_same, up_more}
 use Rattle.tx_core.specs.StaysDown.{IsUp, is_put_down}
 use Rattle.log_sections.specs.LogSections.{FlushRefused, IsAppendRefused, IsCommitOf, IsFlushRefused, IsRefusalOf}
 
+abbrev pub append_entry : By → Rec → Entry
+append_entry by rec = record { by = by; kind = kinds.Append rec }
+
+abbrev pub flush_entry : By → ℕ → Entry
+flush_entry by to = record { by = by; kind = kinds.Flush to }
+
 -- the session asked for no state of these ids, as others go on
 pub unasked_on : (n : ℕ) (seen lists : List (List Entry)) (ids : List ℕ) → Knows session_of n seen lists → AreUnasked seen n ids → AreUnasked lists n ids
 unasked_on n seen lists ids knows a id state c asked = a id state c (own_asks n id state seen lists knows asked)

@@ -17,10 +17,12 @@ ghost use Rattle.log_sections.specs.LogSections.{AppendSection, Appends, IsCommi
 
 use crate::refusals::refusal_of;
 use disk_core::{LogDisk, PageDisk};
-use engine_parts::{Caller, EngineLaw, Part, Stage, enter_log, leave_log, leave_looked};
+use engine_parts::{
+    Caller, EngineLaw, Part, Stage, command_of, enter_log, leave_log, leave_looked,
+};
 use hall::{Hall, Note};
 use std::sync::Wait;
-use tx_events::{By, Rec, Refusal};
+use tx_events::{Rec, Refusal};
 use wal_core::WalLog;
 
 /// What came of a commit record.
@@ -66,10 +68,7 @@ fn leave_appended<L: LogDisk, P: PageDisk>(
     ensures session { caller.new.session ≡ record caller.old.session { stage = stages.Logged number } }
     ensures number { caller.new.number ≡ caller.old.number }
 {
-    let by = By {
-        session: caller.number,
-        command: caller.session.levels.commands,
-    };
+    let by = command_of(caller);
     let entry = Note::by(&(by, rec));
     leave_log(hall, caller, log, entry);
     caller.session.stage = Stage::Logged { number };

@@ -20,7 +20,7 @@ ghost use Rattle.log_sections.specs.LogSections.{FlushSection, IsFlushedPast, Is
 use crate::refusals::refusal_of;
 use disk_core::{LogDisk, PageDisk};
 use engine_parts::{
-    Caller, EngineLaw, Part, enter_log, flush_fault_note, leave_looked, leave_quiet,
+    Caller, EngineLaw, Part, command_of, enter_log, flush_fault_note, leave_looked, leave_quiet,
 };
 use hall::{Hall, Note};
 use std::sync::Wait;
@@ -62,10 +62,7 @@ fn leave_flushed<L: LogDisk, P: PageDisk>(
         (view caller.old.pass) (view caller.new.pass) }
     ensures same { (caller.new.session ≡ caller.old.session) × (caller.new.number ≡ caller.old.number) }
 {
-    let by = By {
-        session: caller.number,
-        command: caller.session.levels.commands,
-    };
+    let by = command_of(caller);
     let entry = flush_note(by, to);
     leave_quiet(hall, caller, 0, Part::Log(log), entry);
 }
@@ -95,10 +92,7 @@ fn leave_failed<L: LogDisk, P: PageDisk>(
         (view caller.old.pass) (view caller.new.pass) }
     ensures same { (caller.new.session ≡ caller.old.session) × (caller.new.number ≡ caller.old.number) }
 {
-    let by = By {
-        session: caller.number,
-        command: caller.session.levels.commands,
-    };
+    let by = command_of(caller);
     let entry = flush_fault_note(by, &log);
     leave_quiet(hall, caller, 0, Part::Log(log), entry);
 }

@@ -94,6 +94,9 @@ next_later start n seen lists id knows le = let up = given_more start.base (hist
 pub may_told : (start : Start) (seen : List (List Entry)) (by : By) (id : ℕ) (e : Entry) → e ≡ record { by = by; kind = kinds.Made id } → IsMade start seen id → id ≤ next_given start.base.next (history seen) → IsInTurn (at seen proc_lock) by → MayKeep start seen proc_lock e
 may_told start seen by id e is made next turn = subst (MayKeep start seen proc_lock) (sym is) (λ lists k knows inside whole. made_law start seen by id made next lists k knows inside whole turn)
 
+abbrev pub told_entry : By → ℕ → Entry
+told_entry by id = record { by = by; kind = kinds.Made id }
+
 -- the frontier is the table's or the id's page
 pub proc_told : (start : Start) (old new : Table) (es : List Entry) (by : By) (id : ℕ) → ProcStands start old es → new ≡ record old { initialised_up_to = max old.initialised_up_to (page_of id) } → ProcStands start new (es ++ record { by = by; kind = kinds.Made id } ∷ [])
 proc_told start old new es by id s is =

@@ -11,7 +11,7 @@ ghost use Rattle.engine_parts.specs.Steps.{WentOn};
 ghost use Rattle.tx_core.specs.declared.entry.Kind.TheVariants as kinds;
 
 use disk_core::{LogDisk, PageDisk};
-use engine_parts::{Caller, EngineLaw, Part, enter_proc, leave_quiet};
+use engine_parts::{Caller, EngineLaw, Part, command_of, enter_proc, leave_quiet};
 use hall::{Hall, Note};
 use std::sync::Wait;
 use tx_core::Entry;
@@ -47,10 +47,7 @@ pub fn tell_made<R: Wait, L: LogDisk, P: PageDisk>(
     ensures told { Stands (view caller.new.pass).seen proc_lock (kinds.Made id) }
     ensures same { (caller.new.session ≡ caller.old.session) × (caller.new.number ≡ caller.old.number) }
 {
-    let by = By {
-        session: caller.number,
-        command: caller.session.levels.commands,
-    };
+    let by = command_of(caller);
     let mut table = enter_proc(rt, hall, caller);
     table.made(id);
     let entry = made_note(by, id);

@@ -53,10 +53,10 @@ fn abort_open<R: Wait, L: LogDisk, P: PageDisk>(
     abort_named(rt, hall, caller, alloc, banks)
 }
 
-/// Aborts the session's transaction (`AbortTransaction` of `src/backend/access/transam/xact.c`): its record is appended,
-/// unflushed, where there is memory for it and the log takes it; the states of all open ids are set aborted, page by
-/// page; and then the transaction counts as ended. An abort that a fault stopped sets all states anew and appends no
-/// second record, an undo that was begun ends with it, and one without an id ends at once.
+/// Aborts the session's transaction (`AbortTransaction` of `src/backend/access/transam/xact.c`): its record is
+/// appended, unflushed, where there is memory for it and the log takes it; the states of all open ids are set aborted,
+/// page by page; and then the transaction counts as ended. An abort that a fault stopped sets all states anew and
+/// appends no second record, an undo that was begun ends with it, and one without an id ends at once.
 ///
 /// Refused, in this order, with `NoTransaction` where no transaction is open, with `CommitPending` where its commit
 /// record may stand, and with `DiskFault` of pg_xact. The session has run fewer than 2^48 commands.

@@ -36,3 +36,4 @@ pub mod Holding
 pub mod LogBehind
 pub mod OneFault
 pub mod Once
+pub mod Flushed

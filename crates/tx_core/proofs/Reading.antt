@@ -102,12 +102,16 @@ pub appended_by : (by : By) (kind : Kind) (found : By × Rec) → appended_in by
 appended_by by (kinds.Append rec) found e = let q : (by, rec) ≡ found = same_Some _ _ e in ap (λ (z : By × Rec). z.0) q
 appended_by by _ found e = absurd cc
 
--- a record at a place of the log was appended
-pub appended_at : (lists : List (List Entry)) (session : ℕ) (rec : Rec) (place : ℕ) (by : By) → by.session ≡ session → slice_get (records_of lists) place ≡ Some (by, rec) → IsAppended lists session rec
-appended_at lists session rec place by own stands =
+-- a record at a place of the log has its entry
+pub record_entry : (lists : List (List Entry)) (rec : Rec) (place : ℕ) (by : By) → slice_get (records_of lists) place ≡ Some (by, rec) → Has (at lists log_lock) (record { by = by; kind = kinds.Append rec })
+record_entry lists rec place by stands =
     let r = has_filter_map appended (at lists log_lock) (by, rec) (place_has (records_of lists) place (by, rec) stands) in
     let same : r.0 ≡ record { by = by; kind = kinds.Append rec } = λ i. record { by = appended_by r.0.by r.0.kind (by, rec) r.2 i; kind = appended_is r.0.by r.0.kind (by, rec) r.2 i } in
-    (by, own, has_contains _ _ (subst (λ (e : Entry). Has (at lists log_lock) e) same r.1))
+    subst (λ (e : Entry). Has (at lists log_lock) e) same r.1
+
+-- so it was appended
+pub appended_at : (lists : List (List Entry)) (session : ℕ) (rec : Rec) (place : ℕ) (by : By) → by.session ≡ session → slice_get (records_of lists) place ≡ Some (by, rec) → IsAppended lists session rec
+appended_at lists session rec place by own stands = (by, own, has_contains (at lists log_lock) (record { by = by; kind = kinds.Append rec }) (record_entry lists rec place by stands))
 
 pub flushed_appended : (start : Start) (lists : List (List Entry)) (session : ℕ) (rec : Rec) → IsFlushed start lists session rec → IsAppended lists session rec
 flushed_appended start lists session rec f = appended_at lists session rec f.0 f.2 f.3 f.4

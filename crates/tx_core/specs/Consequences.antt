@@ -2,6 +2,7 @@
 use Rattle.std.specs.Prelude.{[], Contains, IsTrue, List, Some, length, min, slice_get, take, true, ℕ, ◌+◌, ◌++◌, ◌-◌, ◌<◌, ◌^◌, ◌∷◌, ◌≡◌, ◌≤◌}
 use Rattle.tx_events.specs.declared.event.By.{By}
 use Rattle.tx_events.specs.declared.event.Event.{Event}
+use Rattle.tx_events.specs.declared.event.Event.TheVariants as events
 use Rattle.tx_events.specs.Base.{IsBase}
 use Rattle.tx_events.specs.Events.{given_to}
 use Rattle.tx_events.specs.History.{next_given}
@@ -113,6 +114,15 @@ pub record IsLastFlush (start : Start) (lists : List (List Entry)) (flushed : �
 abbrev pub FlushesRise : Type 0
 FlushesRise = (start : Start) (lists : List (List Entry)) → EngineInvariant start lists
     → IsLastFlush start lists (flushed_to start (at lists log_lock))
+
+-- A transaction that counts as committed has its record on disk: below the last flush, in these lists and so in all
+-- later ones.
+abbrev pub CommitsAreFlushed : Type 0
+CommitsAreFlushed = (start : Start) (lists : List (List Entry)) (by : By) (top : ℕ) → EngineInvariant start lists
+    → Contains (history lists) (events.Commit by top)
+    → (n : ℕ) × (other : By) × (subs : List ℕ) × (other.session ≡ by.session)
+    × (slice_get (records_of lists) n ≡ Some (other, records.Commit top subs))
+    × (start.from + n < flushed_to start (at lists log_lock))
 
 -- A log that is down has the same records from then on, and no more of them are flushed.
 abbrev pub DownStays : Type 0

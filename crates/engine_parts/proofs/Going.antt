@@ -22,7 +22,7 @@ use Rattle.tx_core.specs.PagesBeforeIds.{IsMade}
 use Rattle.tx_core.specs.ParentsFollow.{IsGivenBelow}
 use Rattle.tx_core.proofs.Growing.{begins_filter_map, slice_get_begins}
 use Rattle.tx_core.proofs.Lasting.{flushed_grows, history_grows, linked_grows, made_grows, marked_grows}
-use Rattle.tx_core.proofs.Stepping.{open_seen, others_since, own_appended}
+use Rattle.tx_core.proofs.Stepping.{open_seen, others_since, own_appended, own_asks}
 use Rattle.session_levels.specs.declared.session.Session as plain
 use Rattle.session_levels.specs.Stands.{Stands}
 use Rattle.session_levels.proofs.Beside.{AreBeside, own_beside, stands_beside}
@@ -31,7 +31,7 @@ use Rattle.engine_parts.specs.declared.session.Stage.{Stage}
 use Rattle.engine_parts.specs.declared.session.Stage.TheVariants as stages
 use Rattle.engine_parts.specs.declared.session.Unlinked.{Unlinked}
 use Rattle.engine_parts.specs.Holds.{Knowledge, Learns}
-use Rattle.engine_parts.specs.Sessions.{IsAt, IsFiled, IsReady}
+use Rattle.engine_parts.specs.Sessions.{CallsStay, IsAt, IsFiled, IsReady}
 use Rattle.engine_parts.specs.Stages.{AsksNothing, IsAppendedAt, IsInStage, IsLogged, state_of}
 
 beside_of : (n : ℕ) (es : List Event) → ((e : Event) → Has es e → (by_of e).session ≢ n) → AreBeside n es
@@ -125,6 +125,15 @@ at_on start v w n s a l k =
       clear = λ q top subs appended opened. a.clear q top subs (own_appended n v.seen w.seen (records.Commit top subs) knows appended) (sym (open_seen start n v.seen w.seen k knows) ∙ opened);
       unaborted = λ q id c top subs named among. a.unaborted q id c top subs (own_appended n v.seen w.seen (records.Abort top subs) knows named) among;
       filed = filed_later start v.seen w.seen n s.levels.open_ids.items s.unlinked knows.grows a.filed;
+    }
+
+-- and may call as it might
+pub calls_stay : CallsStay
+calls_stay start v w n s may l k free =
+    let a = may.ready.at in
+    let knows : Knows session_of n v.seen w.seen = subst (λ (z : ℕ). Knows session_of z v.seen w.seen) a.name l.knows in record {
+      ready = record { at = at_on start v w n s a l k; free = free };
+      stage = stage_later start v.seen w.seen n s.levels.open_ids.items s.stage knows.grows (λ id state asked. own_asks n id state v.seen w.seen knows asked) may.stage;
     }
 
 -- a session that goes on to its next command

@@ -17,7 +17,7 @@ use Rattle.tx_model.specs.Stance.{Stance}
 use Rattle.engine_parts.specs.declared.session.Session.{Session}
 use Rattle.engine_parts.specs.declared.session.Unlinked.{Unlinked}
 use Rattle.engine_parts.specs.Faults.{look_of}
-use Rattle.engine_parts.specs.Holds.{Knowledge}
+use Rattle.engine_parts.specs.Holds.{Knowledge, Learns}
 use Rattle.engine_parts.specs.Stages.{AreUnaborted, IsInStage, may_be_aborted, may_be_recorded}
 
 abbrev pub by_at : ℕ → ℕ → By
@@ -68,3 +68,8 @@ pub record IsReady (start : Start) (v : Knowledge) (n : ℕ) (s : Session) : Typ
 pub record MayCall (start : Start) (v : Knowledge) (n : ℕ) (s : Session) : Type 0 where
   pub ready : IsReady start v n s
   pub stage : IsInStage start v.seen n s.levels.open_ids.items s.stage
+
+-- while others go on, it may call still
+abbrev pub CallsStay : Type 0
+CallsStay = (start : Start) (v w : Knowledge) (n : ℕ) (s : Session) → MayCall start v n s → Learns v w
+    → EngineInvariant start w.seen → w.stage ≡ Free → MayCall start w n s

@@ -12,10 +12,9 @@ use Rattle.tx_events.proofs.IdOrder.{nth_full, nth_upto}
 use Rattle.tx_core.specs.declared.entry.Entry.{Entry}
 use Rattle.tx_core.specs.declared.entry.Start.{Start}
 use Rattle.tx_core.specs.EngineInvariant.{EngineInvariant}
-use Rattle.tx_core.specs.Entries.{history}
-use Rattle.tx_core.specs.Locks.{subtrans_lock, subtrans_page, xact_lock, xact_page}
+use Rattle.tx_core.specs.Entries.{history, AreFewIds}
+use Rattle.tx_core.specs.Locks.{subtrans_lock, xact_lock}
 use Rattle.tx_core.proofs.Nearness.{made_near}
-use Rattle.engine_parts.specs.Answers.{AreFewIds}
 use Rattle.engine_parts.specs.Stand.{AreSubtransPagesNear, AreXactPagesNear}
 
 -- The next id is less than half a ring, by two pages of pg_xact, past the oldest one with which the life began. So none of

@@ -6,10 +6,10 @@ ghost use Rattle.slru_bank.specs.declared.refusal.BankRefusal.TheVariants.{Cut, 
 ghost use Rattle.tx_core.specs.declared.entry.Kind.TheVariants as kinds;
 ghost use Rattle.store_pages.specs.Layouts.{xact_page_of};
 ghost use Rattle.tx_events.specs.Horizon.{oldest_id};
-ghost use Rattle.tx_core.specs.Entries.{Stands, history};
+ghost use Rattle.tx_core.specs.Entries.{AreFewIds, Stands, history};
 ghost use Rattle.tx_core.specs.Locks.{xact_lock, xact_lock_of, xact_page};
 ghost use Rattle.tx_core.specs.PagesBeforeIds.{IsIdOf};
-ghost use Rattle.engine_parts.specs.Answers.{AreFewIds, MetFault};
+ghost use Rattle.engine_parts.specs.Answers.{MetFault};
 ghost use Rattle.engine_parts.specs.Sessions.{IsReady, by_at};
 ghost use Rattle.engine_parts.specs.Stand.{number_of_state};
 ghost use Rattle.engine_parts.specs.Steps.{WentOn};

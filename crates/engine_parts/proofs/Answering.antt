@@ -17,10 +17,10 @@ use Rattle.tx_model.proofs.Growth.{may_reply_grows}
 use Rattle.tx_core.specs.declared.entry.Entry.{Entry}
 use Rattle.tx_core.specs.declared.entry.Kind.TheVariants as kinds
 use Rattle.tx_core.specs.declared.entry.Start.{Start}
-use Rattle.tx_core.specs.Entries.{history}
+use Rattle.tx_core.specs.Entries.{history, AreFewIds}
 use Rattle.tx_core.specs.Locks.{log_lock, number_of}
 use Rattle.tx_core.proofs.Lasting.{history_grows}
-use Rattle.engine_parts.specs.Answers.{AnswersStay, AreFewIds, IsCommitPending, MetFault, MetLogFault}
+use Rattle.engine_parts.specs.Answers.{AnswersStay, IsCommitPending, MetFault, MetLogFault}
 use Rattle.engine_parts.specs.Stand.{IsDownAt}
 
 fault_grows : (lists more : List (List Entry)) (lock : ℕ) (by : By) → Grows lists more → MetFault lists lock by → MetFault more lock by

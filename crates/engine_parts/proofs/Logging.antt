@@ -1,5 +1,5 @@
 -- The log stands for its list after each call.
-use Rattle.std.proofs.Common.{Contains, ⊎_elim, ◌≡◌, ℕ, ◌+◌, ◌≤◌, ◌<◌, List, [], ◌∷◌, ◌++◌, refl, sym, ap, subst, ◌∙◌, append-nil, append_assoc, length, map, arith, Bool, IsTrue, Option, Some, None, ◌||◌, false, true}
+use Rattle.std.proofs.Common.{Contains, ◌≡◌, ℕ, ◌+◌, ◌≤◌, ◌<◌, List, [], ◌∷◌, ◌++◌, refl, sym, ap, subst, ◌∙◌, append-nil, append_assoc, length, map, arith, Bool, IsTrue, Option, Some, None, ◌||◌, false, true}
 use Rattle.std.proofs.lemmas.List.{map_push, length-append}
 use Rattle.std.proofs.lemmas.List.Elements.{Contains-append_left, Contains-push, filter_map-append}
 use Rattle.std.specs.List.{filter_map, cons_option}

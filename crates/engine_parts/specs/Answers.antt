@@ -19,7 +19,7 @@ use Rattle.tx_core.specs.declared.entry.Entry.{Entry}
 use Rattle.tx_core.specs.declared.entry.Kind.TheVariants as kinds
 use Rattle.tx_core.specs.declared.entry.LogCall.{LogCall}
 use Rattle.tx_core.specs.declared.entry.Start.{Start}
-use Rattle.tx_core.specs.Entries.{history}
+use Rattle.tx_core.specs.Entries.{history, AreFewIds}
 use Rattle.tx_core.specs.Locks.{log_lock, number_of}
 use Rattle.engine_parts.specs.declared.session.Stage.{Stage}
 use Rattle.engine_parts.specs.declared.session.Stage.TheVariants as stages
@@ -51,10 +51,6 @@ pub record IsCommitPending (lists : List (List Entry)) (by : By) (s : Stance) : 
   pub earlier : other.command < by.command
   pub top_is : top_level s.levels ≡ Some top
   pub stands : Contains (at lists log_lock) (record { by = other; kind = kinds.Append (records.Commit top subs) })
-
--- fewer ids were given than would bring two pages of one stored number near each other
-abbrev pub AreFewIds : List (List Entry) → Type 0
-AreFewIds lists = length (given (history lists)) < 2900000
 
 -- the ids with which a life begins as committed were given before it
 abbrev pub AreGivenBefore : Start → Type 0

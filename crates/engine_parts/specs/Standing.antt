@@ -1,5 +1,5 @@
 -- The refusals that go by how a session stands, whatever the lists say.
-use Rattle.std.specs.Prelude.{◌≡◌, ◌⊎◌, ◌≤◌, ℕ, Bool, true, false, IsTrue, List, [], ◌∷◌, Option, None, is_some, is_none, length, nat_lt, nat_le, ◌==◌}
+use Rattle.std.specs.Prelude.{◌≡◌, ◌⊎◌, ◌≤◌, ℕ, Bool, true, false, List, [], ◌∷◌, Option, None, is_some, is_none, length, nat_lt, nat_le, ◌==◌}
 use Rattle.std.specs.Bool.{then_some}
 use Rattle.std.specs.Option.{option_or}
 use Rattle.tx_events.specs.declared.refusal.Lock.{Lock}
@@ -14,7 +14,7 @@ use Rattle.tx_model.specs.Replies.{most_levels}
 use Rattle.tx_model.specs.Stance.{Stance, snap_of, top_level}
 use Rattle.engine_parts.specs.declared.session.Stage.{Stage}
 use Rattle.engine_parts.specs.declared.session.Stage.TheVariants as stages
-use Rattle.engine_parts.specs.Stages.{may_be_recorded, pending_in}
+use Rattle.engine_parts.specs.Stages.{pending_in}
 
 abbrev pub first_of : List (Option Refusal) → Option Refusal
 first_of [] = None

@@ -33,7 +33,7 @@ use Rattle.tx_core.proofs.Taking.{get_in_take, get_of_take, taken_twice}
 use Rattle.tx_core.specs.CleanStart.{CleanStart}
 use Rattle.tx_core.specs.CommitRecordsExact.{IsExactIn}
 use Rattle.tx_core.specs.EngineInvariant.{EngineInvariant}
-use Rattle.tx_core.specs.Entries.{IsMarked, event_of, history, marks}
+use Rattle.tx_core.specs.Entries.{AreFewIds, IsMarked, event_of, history, marks}
 use Rattle.notes.specs.Lists.{at}
 use Rattle.tx_core.specs.Locks.{proc_lock, xact_lock_of}
 use Rattle.tx_core.specs.StatusBeforeCommit.{NeedsStates}
@@ -115,7 +115,7 @@ state_test None e = absurd cc
 
 -- the verdict, wherever what the snapshot says of an id of a commit record is whether it isn't open
 pub decides_by : (start : Start) (lists : List (List Entry)) (shown : ℕ → Option State) (p : ℕ) (x topmost : ℕ) → EngineInvariant start lists → CleanStart start shown
-    → IsFullId x → start.base.oldest ≤ x → length (given (history lists)) < 2900000
+    → IsFullId x → start.base.oldest ≤ x → AreFewIds lists
     → (IsOfRecord lists x → Has (given (take p (history lists))) x → x < snapshot_xmax start.base.next (take p (history lists)) → says_ended (snapshot_data start.base.next (take p (history lists))) topmost x ≡ not (is_open (take p (history lists)) x))
     → verdict (snapshot_data start.base.next (take p (history lists))) (state_read shown (marks (at lists (xact_lock_of start x))) x) topmost x ≡ is_visible start.committed (take p (history lists)) x
 decides_by start lists shown p x topmost k is full oldest few exact =

@@ -1,5 +1,5 @@
 -- No page is cut that is still asked for, as it is stored.
-use Rattle.std.proofs.Common.{Contains, List, [], arith, drop, false, length, refl, subst, sym, take, take-append-drop, ℕ, ⊎_elim, ◌+◌, ◌%◌, ◌/◌, ◌^◌, ◌<◌, ◌≡◌, ◌≤◌}
+use Rattle.std.proofs.Common.{Contains, List, [], arith, drop, false, refl, subst, sym, take, take-append-drop, ℕ, ⊎_elim, ◌+◌, ◌%◌, ◌/◌, ◌^◌, ◌<◌, ◌≡◌, ◌≤◌}
 use Rattle.xid_order.specs.Ids.{id_before, low_half}
 use Rattle.xid_order.specs.Limits.{member_stop}
 use Rattle.xid_order.specs.PageOrder.{Ids, Multis, Offsets, is_cut}
@@ -15,10 +15,9 @@ use Rattle.tx_events.proofs.Horizons.{xmin_at}
 use Rattle.tx_events.proofs.IdOrder.{next_of_before}
 use Rattle.tx_events.proofs.Membership.{contains_has, has_place}
 use Rattle.tx_events.specs.Base.{IsBase}
-use Rattle.tx_events.specs.Events.{given}
 use Rattle.tx_events.specs.History.{IsLegal, MayCome, next_given}
 use Rattle.tx_events.specs.Horizon.{oldest_id, oldest_xmin}
-use Rattle.tx_events.specs.Multis.{free_offset, made, next_made, oldest_multi, oldest_offset}
+use Rattle.tx_events.specs.Multis.{free_offset, next_made, oldest_multi, oldest_offset}
 use Rattle.tx_core.specs.declared.entry.Entry.{Entry}
 use Rattle.tx_core.specs.declared.entry.Kind.TheVariants as kinds
 use Rattle.tx_core.specs.declared.entry.Start.{Start}
@@ -34,10 +33,10 @@ use Rattle.tx_core.proofs.Reading.{flushed_appended}
 use Rattle.tx_core.proofs.Room.{has_room, multis_have_room}
 use Rattle.tx_core.specs.CutsFollow.{IsTruncated}
 use Rattle.tx_core.specs.EngineInvariant.{EngineInvariant}
-use Rattle.tx_core.specs.Entries.{history}
+use Rattle.tx_core.specs.Entries.{AreFewIds, history}
 use Rattle.tx_core.specs.Held.{IsHeld, PagesHeld}
 use Rattle.tx_core.specs.Locks.{log_lock, member_page, member_page_in_full, members_lock, offset_page, offsets_lock, subtrans_lock, subtrans_page, xact_lock, xact_page}
-use Rattle.tx_core.specs.MultiEntries.{multi_history}
+use Rattle.tx_core.specs.MultiEntries.{AreFewMultis, multi_history}
 use Rattle.tx_core.specs.RecordsFollow.{IsMultiAnnounced, IsOldestAnnounced, NeedsCounters}
 use Rattle.notes.specs.Lists.{at}
 
@@ -94,7 +93,7 @@ module _ (start : Start) (lists : List (List Entry)) (bank : ℕ) (k : EngineInv
       let a = next_of_before start.base.next is.full in
       let low : start.base.next ≤ oldest_xmin start.base.next [] = omega arith in omega arith
 
-  states : length (given (history lists)) < 2900000 → (x : ℕ) → oldest_id start.base.oldest (history lists) ≤ x → x ≤ next_given start.base.next (history lists)
+  states : AreFewIds lists → (x : ℕ) → oldest_id start.base.oldest (history lists) ≤ x → x ≤ next_given start.base.next (history lists)
       → IsHeld Ids 32768 (2 ^ 17) (xact_page start.base.oldest) (at lists (xact_lock bank)) (xact_page (low_half x))
   states few x from to =
       let room = (has_room start.base (history lists) is few).0 in
@@ -109,7 +108,7 @@ module _ (start : Start) (lists : List (List Entry)) (bank : ℕ) (k : EngineInv
             subst (λ p. is_cut Ids 32768 (p % 2 ^ 17) (xact_page (low_half x)) ≡ false) (sym cut.4) (xact_kept cut.0 x (omega arith) (omega arith));
       }
 
-  parents : length (given (history lists)) < 2900000 → (x : ℕ) → oldest_xmin start.base.next (history lists) ≤ x → x ≤ next_given start.base.next (history lists)
+  parents : AreFewIds lists → (x : ℕ) → oldest_xmin start.base.next (history lists) ≤ x → x ≤ next_given start.base.next (history lists)
       → IsHeld Ids 2048 (2 ^ 21) (subtrans_page (id_before start.base.next)) (at lists (subtrans_lock bank)) (subtrans_page (low_half x))
   parents few x from to =
       let h = history lists in
@@ -130,7 +129,7 @@ module _ (start : Start) (lists : List (List Entry)) (bank : ℕ) (k : EngineInv
             subst (λ p. is_cut Ids 2048 (p % 2 ^ 21) (subtrans_page (low_half x)) ≡ false) (sym cut.2) (subtrans_kept (id_before (oldest_xmin start.base.next front)) x (omega arith) (omega arith));
       }
 
-  offsets : length (made (multi_history lists)) < 2900000 → (multi : ℕ) → oldest_multi start.base.oldest_multi (multi_history lists) ≤ multi → multi ≤ next_made start.base.multi (multi_history lists)
+  offsets : AreFewMultis lists → (multi : ℕ) → oldest_multi start.base.oldest_multi (multi_history lists) ≤ multi → multi ≤ next_made start.base.multi (multi_history lists)
       → IsHeld Multis 2048 (2 ^ 21) (offset_page (multi_before start.base.oldest_multi)) (at lists (offsets_lock bank)) (offset_page (low_half multi))
   offsets few multi from to =
       let h = multi_history lists in
@@ -156,7 +155,7 @@ module _ (start : Start) (lists : List (List Entry)) (bank : ℕ) (k : EngineInv
             subst (λ p. is_cut Multis 2048 (p % 2 ^ 21) (offset_page (low_half multi)) ≡ false) (sym cut.4) (offset_kept (multi_before cut.1) multi (omega arith) (omega arith));
       }
 
-  members : length (made (multi_history lists)) < 2900000 → (offset : ℕ) → oldest_offset start.base.oldest_offset (multi_history lists) ≤ offset → offset ≤ free_offset start.base.offset (multi_history lists)
+  members : AreFewMultis lists → (offset : ℕ) → oldest_offset start.base.oldest_offset (multi_history lists) ≤ offset → offset ≤ free_offset start.base.offset (multi_history lists)
       → IsHeld Offsets 1636 2625286 (member_page_in_full start.base.oldest_offset) (at lists (members_lock bank)) (member_page (low_half offset))
   members few offset from to =
       let h = multi_history lists in

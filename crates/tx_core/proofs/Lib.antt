@@ -34,4 +34,5 @@ pub mod MultiOrder
 pub mod MultiRaised
 pub mod Holding
 pub mod LogBehind
+pub mod OneFault
 pub mod Once

@@ -1,5 +1,5 @@
 -- The last flush is the greatest, and a log that is down stays as it is.
-use Rattle.std.proofs.Common.{List, None, Option, Some, [], append-nil, append_assoc, ap, arith, length, length-append, refl, subst, sym, true, ℕ, ⊎_elim, ◌++◌, ◌+◌, ◌||◌, ◌∙◌, ◌∷◌, ◌≡◌, ◌≤◌}
+use Rattle.std.proofs.Common.{Bool, false, List, None, Option, Some, [], append-nil, append_assoc, ap, arith, length, length-append, refl, subst, sym, true, ℕ, ⊎_elim, ◌++◌, ◌+◌, ◌||◌, ◌∙◌, ◌∷◌, ◌≡◌, ◌≤◌}
 use Rattle.std.proofs.lemmas.Bool.{false≢true}
 use Rattle.std.proofs.lemmas.List.Elements.{filter_map-append}
 use Rattle.std.proofs.lemmas.List.Folds.{list_any-append}
@@ -80,6 +80,23 @@ down_quiet : (before : List Entry) (by : By) (kind : Kind) → is_down before �
 down_quiet before by (kinds.Append rec) down up = absurd (false≢true (sym up ∙ down))
 down_quiet before by (kinds.Flush to) down up = absurd (false≢true (sym up ∙ down))
 down_quiet before by _ down up = (refl, refl)
+
+-- one entry more
+pub down_same : (es : List Entry) (e : Entry) → is_put_down e.kind ≡ false → is_down (es ++ e ∷ []) ≡ is_down es
+down_same es e still =
+    list_any-append (λ (d : Entry). is_put_down d.kind) es (e ∷ []) ∙ (ap (λ b. is_down es || (b || false)) still ∙ or_false (is_down es))
+  where
+    or_false : (b : Bool) → (b || false) ≡ b
+    or_false true = refl
+    or_false false = refl
+
+pub down_now : (es : List Entry) (e : Entry) → is_put_down e.kind ≡ true → is_down (es ++ e ∷ []) ≡ true
+down_now es e put =
+    list_any-append (λ (d : Entry). is_put_down d.kind) es (e ∷ []) ∙ (ap (λ b. is_down es || (b || false)) put ∙ or_true (is_down es))
+  where
+    or_true : (b : Bool) → (b || true) ≡ true
+    or_true true = refl
+    or_true false = refl
 
 record Stays (start : Start) (es more : List Entry) : Type 0 where
   down : is_down more ≡ true

@@ -57,7 +57,7 @@ empty = [] ∷ [] ∷ [] ∷ [] ∷ [] ∷ [] ∷ [] ∷ [] ∷ [] ∷ [] ∷ []
 abbrev pub given_id : Entry
 given_id = entry (by 0 2) (kinds.Event (events.Id (by 0 2) 3))
 
-abbrev logged : Entry
+abbrev pub logged : Entry
 logged = entry (by 0 3) (kinds.Append (records.Commit 3 []))
 
 abbrev flushed : Entry
@@ -80,7 +80,7 @@ sees_all n lists = record { grows = record { begins = λ lock. begins_same (at l
 abbrev pub one : List (List Entry)
 one = add empty proc_lock given_id
 
-abbrev two : List (List Entry)
+abbrev pub two : List (List Entry)
 two = add one log_lock logged
 
 abbrev three : List (List Entry)
@@ -142,7 +142,7 @@ unasked id a =
 nothing_logged : (rec : Rec) → IsAppended one 0 rec → ⊥
 nothing_logged rec a = contains_has [] (entry a.0 (kinds.Append rec)) a.2
 
-after_record : EngineInvariant start two
+pub after_record : EngineInvariant start two
 after_record =
     commit_record_law start one (by 0 3) 3 [] refl refl (λ id c. absurd (contains_has [] id c)) (λ id c a. unasked id a)
     (λ top subs a q. nothing_logged (records.Commit top subs) a) (λ id c top subs a d. nothing_logged (records.Abort top subs) a)

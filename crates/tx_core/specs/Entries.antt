@@ -1,9 +1,10 @@
 -- What an entry says.
-use Rattle.std.specs.Prelude.{◌≡◌, ℕ, ◌+◌, ◌<◌, List, [], Option, Some, None, Contains, map, slice_get}
+use Rattle.std.specs.Prelude.{◌≡◌, ℕ, ◌+◌, ◌<◌, List, [], length, Option, Some, None, Contains, map, slice_get}
 use Rattle.std.specs.List.{filter_map, flat_map, fold, AllByRecursion}
 use Rattle.tx_events.specs.declared.event.By.{By}
 use Rattle.tx_events.specs.declared.event.Event.{Event}
 use Rattle.tx_events.specs.declared.record.Rec.{Rec}
+use Rattle.tx_events.specs.Events.{given}
 use Rattle.tx_core.specs.declared.entry.Change.{Change}
 use Rattle.tx_core.specs.declared.entry.Change.TheVariants as changes
 use Rattle.tx_core.specs.declared.entry.Entry.{Entry}
@@ -32,6 +33,10 @@ events_in es = filter_map event_of es
 -- the history, which is the ProcArray's list
 abbrev pub history : List (List Entry) → List Event
 history lists = events_in (at lists proc_lock)
+
+-- the life gave fewer than 2,900,000 ids
+abbrev pub AreFewIds : List (List Entry) → Type 0
+AreFewIds lists = length (given (history lists)) < 2900000
 
 -- the changes that a critical section made, with a fault or without
 abbrev pub changes_in : Kind → List Change

@@ -1,9 +1,10 @@
 -- What entries say of multixacts: their events, and the offsets and members that were set.
-use Rattle.std.specs.Prelude.{ℕ, List, Option, Some, None, Contains}
+use Rattle.std.specs.Prelude.{ℕ, ◌<◌, List, length, Option, Some, None, Contains}
 use Rattle.std.specs.List.{filter_map, flat_map, AllByRecursion}
 use Rattle.tx_events.specs.declared.event.By.{By}
 use Rattle.tx_events.specs.declared.multi.Member.{Member}
 use Rattle.tx_events.specs.declared.multi.MultiEvent.{MultiEvent}
+use Rattle.tx_events.specs.Multis.{made}
 use Rattle.tx_core.specs.declared.entry.Change.{Change}
 use Rattle.tx_core.specs.declared.entry.Change.TheVariants as changes
 use Rattle.tx_core.specs.declared.entry.Entry.{Entry}
@@ -28,6 +29,10 @@ multis_in es = filter_map multi_of es
 -- the history of multixacts, which is their lock's list
 abbrev pub multi_history : List (List Entry) → List MultiEvent
 multi_history lists = multis_in (at lists multi_lock)
+
+-- the life gave fewer than 2,900,000 multixacts
+abbrev pub AreFewMultis : List (List Entry) → Type 0
+AreFewMultis lists = length (made (multi_history lists)) < 2900000
 
 -- an offset that was set, and for whom
 pub record SetOffset : Type 0 where

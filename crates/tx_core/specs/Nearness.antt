@@ -1,22 +1,15 @@
 -- In a life of few ids and multixacts all pages that are made are near those with which it began.
-use Rattle.std.specs.Prelude.{◌≡◌, ℕ, ◌+◌, ◌^◌, ◌<◌, ◌≤◌, List, Option, length, Contains}
+use Rattle.std.specs.Prelude.{◌≡◌, ℕ, ◌+◌, ◌^◌, ◌<◌, ◌≤◌, List, Option, Contains}
 use Rattle.tx_events.specs.declared.event.By.{By}
-use Rattle.tx_events.specs.Events.{given}
-use Rattle.tx_events.specs.Multis.{made}
 use Rattle.tx_core.specs.declared.entry.Entry.{Entry}
 use Rattle.tx_core.specs.declared.entry.Kind.TheVariants as kinds
 use Rattle.tx_core.specs.declared.entry.Start.{Start}
 use Rattle.tx_core.specs.EngineInvariant.{EngineInvariant}
-use Rattle.tx_core.specs.Entries.{history}
+use Rattle.tx_core.specs.Entries.{AreFewIds}
 use Rattle.tx_core.specs.Locks.{members_lock, offsets_lock, subtrans_lock, xact_lock}
-use Rattle.tx_core.specs.MultiEntries.{multi_history}
+use Rattle.tx_core.specs.MultiEntries.{AreFewMultis}
 use Rattle.tx_core.specs.Pages.{Store, member_store, offset_store, pages_after, subtrans_store, xact_store}
 use Rattle.notes.specs.Lists.{at}
-
--- the life gave fewer than 2,900,000 ids, and as few multixacts
-pub record AreFew (lists : List (List Entry)) : Type 0 where
-  pub ids : length (given (history lists)) < 2900000
-  pub multis : length (made (multi_history lists)) < 2900000
 
 -- the page is that of a number from the first one on, less than 2^29 past it
 pub record IsNearPage (page_of : ℕ → ℕ) (first page : ℕ) : Type 0 where
@@ -34,15 +27,12 @@ module _ {I V : Type 0} where
 
 -- the banks of this number
 pub record AreNear (start : Start) (lists : List (List Entry)) (bank : ℕ) : Type 0 where
-  pub xact : length (given (history lists)) < 2900000
-      → IsBankNear xact_store start.base.next (at lists (xact_lock bank))
-  pub subtrans : length (given (history lists)) < 2900000
-      → IsBankNear subtrans_store start.base.next (at lists (subtrans_lock bank))
-  pub offsets : length (made (multi_history lists)) < 2900000
-      → IsBankNear offset_store start.base.multi (at lists (offsets_lock bank))
-  pub members : length (made (multi_history lists)) < 2900000
-      → IsBankNear member_store start.base.offset (at lists (members_lock bank))
+  pub xact : AreFewIds lists → IsBankNear xact_store start.base.next (at lists (xact_lock bank))
+  pub subtrans : AreFewIds lists → IsBankNear subtrans_store start.base.next (at lists (subtrans_lock bank))
+  pub offsets : AreFewMultis lists → IsBankNear offset_store start.base.multi (at lists (offsets_lock bank))
+  pub members : AreFewMultis lists → IsBankNear member_store start.base.offset (at lists (members_lock bank))
 
 -- No two pages of a bank that were made are one stored page, and none is the stored page of one past those in use.
 abbrev pub MadeNear : Type 0
-MadeNear = (start : Start) (lists : List (List Entry)) (bank : ℕ) → EngineInvariant start lists → AreNear start lists bank
+MadeNear = (start : Start) (lists : List (List Entry)) (bank : ℕ) → EngineInvariant start lists
+    → AreNear start lists bank

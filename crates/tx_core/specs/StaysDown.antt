@@ -36,7 +36,7 @@ UpOf before _ = Unit {0}
 abbrev pub NeedsUp : List (List Entry) → ℕ → List Entry → Entry → Type 0
 NeedsUp lists lock before e = UpOf before e.kind
 
--- Behind a flush or a forget that failed the log takes no record, and nothing is flushed or forgotten. So what was below
--- the last flush stays all that is known to be on disk.
+-- Behind a flush or a forget that failed the log takes no record, and nothing is flushed or forgotten. So what was
+-- below the last flush stays all that is known to be on disk.
 pub record StaysDown (lists : List (List Entry)) : Type 0 where
   pub each : Upheld NeedsUp lists

@@ -1,10 +1,9 @@
 -- The rule by which a verdict is given, and what it must answer.
 use Rattle.std.specs.List.{filter_map, last_or, list_any, slice_get}
-use Rattle.std.specs.Prelude.{Bool, List, None, Option, Some, [], cond, false, length, nat_le, nat_lt, not, take, true, ℕ, ◌&&◌, ◌<◌, ◌==◌, ◌||◌, ◌∷◌, ◌≡◌, ◌≤◌, ◌⊎◌}
+use Rattle.std.specs.Prelude.{Bool, List, None, Option, Some, [], cond, false, nat_le, nat_lt, not, take, true, ℕ, ◌&&◌, ◌<◌, ◌==◌, ◌||◌, ◌∷◌, ◌≡◌, ◌≤◌, ◌⊎◌}
 use Rattle.xid_order.specs.Ids.{IsFullId}
 use Rattle.tx_events.specs.declared.event.By.{By}
 use Rattle.tx_events.specs.declared.snapshot.SnapData.{SnapData}
-use Rattle.tx_events.specs.Events.{given}
 use Rattle.tx_events.specs.Snapshots.{is_overflowed, snapshot_data, snapshot_xmin}
 use Rattle.tx_events.specs.Visible.{is_visible}
 use Rattle.tx_core.specs.declared.entry.Entry.{Entry}
@@ -12,7 +11,7 @@ use Rattle.tx_core.specs.declared.entry.Start.{Start}
 use Rattle.tx_core.specs.declared.entry.State.{State}
 use Rattle.tx_core.specs.CleanStart.{CleanStart}
 use Rattle.tx_core.specs.EngineInvariant.{EngineInvariant}
-use Rattle.tx_core.specs.Entries.{IsLinked, Mark, history, marks}
+use Rattle.tx_core.specs.Entries.{AreFewIds, IsLinked, Mark, history, marks}
 use Rattle.notes.specs.Lists.{Grows, at}
 use Rattle.tx_core.specs.Locks.{xact_lock_of}
 use Rattle.tx_events.specs.declared.event.Event.TheVariants as events
@@ -54,7 +53,7 @@ IsClimb start lists more xmin x (parent ∷ parents) topmost = IsLinked start mo
 abbrev pub Decides : Type 0
 Decides = (start : Start) (lists more : List (List Entry)) (shown : ℕ → Option State) (p : ℕ) (by : By) (name : List ℕ) (x topmost : ℕ) (parents : List ℕ) →
     EngineInvariant start lists → EngineInvariant start more → Grows lists more → CleanStart start shown → slice_get (history lists) p ≡ Some (events.Snap by name)
-    → IsFullId x → start.base.oldest ≤ x → length (given (history lists)) < 2900000
+    → IsFullId x → start.base.oldest ≤ x → AreFewIds lists
     → (is_overflowed start.base.next (take p (history lists)) ≡ true → IsClimb start lists more (snapshot_xmin start.base.next (take p (history lists))) x parents topmost)
     → verdict (snapshot_data start.base.next (take p (history lists))) (state_read shown (marks (at lists (xact_lock_of start x))) x) topmost x ≡ is_visible start.committed (take p (history lists)) x
 
@@ -65,6 +64,6 @@ IsRight snap state topmost x answer = (start : Start) (lists more : List (List E
     EngineInvariant start lists → EngineInvariant start more → Grows lists more → CleanStart start shown → slice_get (history lists) p ≡ Some (events.Snap by name)
     → snap ≡ snapshot_data start.base.next (take p (history lists))
     → state ≡ state_read shown (marks (at lists (xact_lock_of start x))) x
-    → IsFullId x → start.base.oldest ≤ x → length (given (history lists)) < 2900000
+    → IsFullId x → start.base.oldest ≤ x → AreFewIds lists
     → (snap.overflowed ≡ true → IsClimb start lists more snap.xmin x parents topmost)
     → answer ≡ is_visible start.committed (take p (history lists)) x

@@ -231,7 +231,8 @@ pub fn multis_are_legal()
     ensures { MultisAreLegal }
 {}
 
-/// While few ids and multixacts were given, the pages that were made are near the life's first ones, in all four stores.
+/// While few ids and multixacts were given, the pages that were made are near the life's first ones, in all four
+/// stores.
 pub fn made_near()
     ensures { MadeNear }
 {}
@@ -297,8 +298,8 @@ pub fn open_runs()
     ensures { OpenRuns }
 {}
 
-/// No counter of the log is past those of the ProcArray and the multixacts: so a checkpoint of these is not below the log
-/// (`CreateCheckPoint` in `xlog.c`).
+/// No counter of the log is past those of the ProcArray and the multixacts: so a checkpoint of these is not below the
+/// log (`CreateCheckPoint` in `xlog.c`).
 pub fn log_is_behind()
     ensures { LogIsBehind }
 {}

@@ -6,12 +6,11 @@ use Rattle.tx_events.specs.Base.{IsBase}
 use Rattle.tx_core.specs.declared.entry.Entry.{Entry}
 use Rattle.tx_core.specs.declared.entry.Start.{Start}
 use Rattle.tx_core.specs.EngineInvariant.{EngineInvariant}
-use Rattle.tx_core.specs.Entries.{IsLinked, links_in}
+use Rattle.tx_core.specs.Entries.{IsLinked, links_in, AreFewIds}
 use Rattle.tx_core.specs.Locks.{subtrans_lock_of}
 use Rattle.tx_core.specs.Pages.{parent_read}
 use Rattle.tx_core.specs.Verdict.{IsClimb}
 use Rattle.tx_core.proofs.Lasting.{linked_grows}
-use Rattle.engine_parts.specs.Answers.{AreFewIds}
 use Rattle.engine_parts.specs.Stand.{IsInUse}
 use Rattle.bank_sections.specs.Reads.{IsParentOf, IsParentRead}
 use Rattle.engine_parts.proofs.Answering.{few_before}

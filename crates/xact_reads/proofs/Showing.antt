@@ -26,14 +26,14 @@ use Rattle.tx_core.specs.declared.entry.State.{State}
 use Rattle.tx_core.specs.declared.entry.State.TheVariants as states
 use Rattle.tx_core.specs.CleanStart.{CleanStart}
 use Rattle.tx_core.specs.EngineInvariant.{EngineInvariant}
-use Rattle.tx_core.specs.Entries.{history, marks}
+use Rattle.tx_core.specs.Entries.{history, marks, AreFewIds}
 use Rattle.tx_core.specs.Locks.{xact_lock_of}
 use Rattle.tx_core.specs.Verdict.{IsClimb, is_among, is_committed, state_read, verdict}
 use Rattle.tx_core.proofs.Climbing.{decides}
 use Rattle.tx_core.proofs.Rising.{given_more}
 use Rattle.session_levels.specs.declared.session.RegisteredSnapshot.{RegisteredSnapshot}
 use Rattle.session_levels.specs.Stands.{IsRegistered}
-use Rattle.engine_parts.specs.Answers.{AreFewIds, AreGivenBefore}
+use Rattle.engine_parts.specs.Answers.{AreGivenBefore}
 use Rattle.engine_parts.specs.Stand.{IsInUse}
 use Rattle.xact_reads.proofs.Climbing.{climb_there}
 use Rattle.xact_reads.proofs.Limits.{xmax_to_next}

@@ -10,13 +10,13 @@ use Rattle.tx_core.specs.declared.entry.Entry.{Entry}
 use Rattle.tx_core.specs.declared.entry.Start.{Start}
 use Rattle.tx_core.specs.declared.entry.State.{State}
 use Rattle.tx_core.specs.CleanStart.{CleanStart}
-use Rattle.tx_core.specs.Entries.{history, marks}
+use Rattle.tx_core.specs.Entries.{history, marks, AreFewIds}
 use Rattle.tx_core.specs.Locks.{subtrans_lock, xact_lock, xact_lock_of}
 use Rattle.tx_core.specs.Verdict.{IsClimb, is_committed, state_read}
 use Rattle.notes.specs.Lists.{at}
 use Rattle.session_levels.specs.declared.session.RegisteredSnapshot.{RegisteredSnapshot}
 use Rattle.session_levels.specs.declared.session.Session as plain
-use Rattle.engine_parts.specs.Answers.{AreFewIds, AreGivenBefore, MetFault}
+use Rattle.engine_parts.specs.Answers.{AreGivenBefore, MetFault}
 use Rattle.engine_parts.specs.Stand.{IsInUse}
 use Rattle.xact_reads.specs.Glances.{IsNamed}
 

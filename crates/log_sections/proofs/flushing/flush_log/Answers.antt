@@ -1,4 +1,4 @@
-use Rattle.std.proofs.Common.{Err, ℕ, inl, inr, ◌≡◌, ◌<◌, ◌≤◌, arith, ap, ◌∙◌, subst, sym, refl, ◌++◌, ◌∷◌, []}
+use Rattle.std.proofs.Common.{Err, inl, inr, ◌≡◌, ◌<◌, ◌≤◌, arith, ap, ◌∙◌, subst, sym, refl, ◌++◌, ◌∷◌, []}
 use Rattle.std.proofs.lemmas.List.{length-map}
 use Rattle.std.proofs.lemmas.Bool.Decides.{nat_tests}
 use Rattle.std.proofs.lemmas.Option.{same_Some}

@@ -17,7 +17,7 @@ use Rattle.session_levels.proofs.HeadLemmas.{first_top, heads}
 use Rattle.engine_parts.proofs.Stepping.{went_event}
 use Rattle.engine_parts.proofs.Tabling.{proc_adds}
 use Rattle.proc_sections.proofs.Closing.{call_ended, end_by, end_entry, marked_on, may_add_end, ready_ended, record_for, split_first}
-use Rattle.engine_parts.proofs.Sectioning.{same_command, section_of}
+use Rattle.engine_parts.proofs.Sectioning.{section_of}
 use Rattle.proc_sections.proofs.ending.end_transaction.Goals as goal
 
 pub leave_proc-requires-clause-may : goal.leave_proc-requires-clause-may

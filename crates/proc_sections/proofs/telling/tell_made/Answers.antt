@@ -14,7 +14,7 @@ use Rattle.engine_parts.specs.Stand.{ProcStands}
 use Rattle.engine_parts.proofs.Leaving.{call_left, stands_left}
 use Rattle.engine_parts.proofs.Stepping.{went_quiet}
 use Rattle.proc_sections.proofs.Making.{may_told, next_later, proc_told, told_entry}
-use Rattle.engine_parts.proofs.Sectioning.{same_command, section_of}
+use Rattle.engine_parts.proofs.Sectioning.{section_of}
 use Rattle.proc_sections.proofs.telling.tell_made.Goals as goal
 
 pub made-requires : goal.made-requires

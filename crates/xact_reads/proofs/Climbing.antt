@@ -6,7 +6,7 @@ use Rattle.tx_events.specs.Base.{IsBase}
 use Rattle.tx_core.specs.declared.entry.Entry.{Entry}
 use Rattle.tx_core.specs.declared.entry.Start.{Start}
 use Rattle.tx_core.specs.EngineInvariant.{EngineInvariant}
-use Rattle.tx_core.specs.Entries.{AreFewIds, IsLinked, links_in}
+use Rattle.tx_core.specs.Entries.{IsLinked, links_in, AreFewIds}
 use Rattle.tx_core.specs.Locks.{subtrans_lock_of}
 use Rattle.tx_core.specs.Pages.{parent_read}
 use Rattle.tx_core.specs.Verdict.{IsClimb}

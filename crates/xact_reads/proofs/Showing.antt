@@ -26,7 +26,7 @@ use Rattle.tx_core.specs.declared.entry.State.{State}
 use Rattle.tx_core.specs.declared.entry.State.TheVariants as states
 use Rattle.tx_core.specs.CleanStart.{CleanStart}
 use Rattle.tx_core.specs.EngineInvariant.{EngineInvariant}
-use Rattle.tx_core.specs.Entries.{AreFewIds, history, marks}
+use Rattle.tx_core.specs.Entries.{history, marks, AreFewIds}
 use Rattle.tx_core.specs.Locks.{xact_lock_of}
 use Rattle.tx_core.specs.Verdict.{IsClimb, is_among, is_committed, state_read, verdict}
 use Rattle.tx_core.proofs.Climbing.{decides}

@@ -10,7 +10,7 @@ use Rattle.tx_core.specs.declared.entry.Entry.{Entry}
 use Rattle.tx_core.specs.declared.entry.Start.{Start}
 use Rattle.tx_core.specs.declared.entry.State.{State}
 use Rattle.tx_core.specs.CleanStart.{CleanStart}
-use Rattle.tx_core.specs.Entries.{AreFewIds, history, marks}
+use Rattle.tx_core.specs.Entries.{history, marks, AreFewIds}
 use Rattle.tx_core.specs.Locks.{subtrans_lock, xact_lock, xact_lock_of}
 use Rattle.tx_core.specs.Verdict.{IsClimb, is_committed, state_read}
 use Rattle.notes.specs.Lists.{at}

@@ -1,13 +1,8 @@
-use Rattle.std.proofs.Common.{◌≡◌, ℕ, Option, None, not, nat_eq, is_none, arith, refl, sym, ap, ◌∙◌}
-use Rattle.std.specs.Bool.{then_some}
+use Rattle.std.proofs.Common.{not, nat_eq, arith, refl, sym, ◌∙◌}
 use Rattle.hall.specs.Calls.{view, start_of}
 use Rattle.tx_events.specs.declared.refusal.Refusal.TheVariants as refusals
 use Rattle.tx_model.specs.declared.command.Command.TheVariants as commands
 use Rattle.tx_model.specs.declared.reply.Reply.TheVariants as replies
-use Rattle.tx_model.specs.Stance.{snap_of}
-use Rattle.session_levels.specs.Stands as levels
-use Rattle.session_levels.proofs.ActsLemmas.{snap_missing}
-use Rattle.engine_parts.specs.Sessions.{stance_of}
 use Rattle.engine_parts.proofs.Calling.{may_counted, own_counted, ran_refused}
 use Rattle.engine_parts.proofs.Stepping.{went_nowhere}
 use Rattle.xact_reads.proofs.Limits.{registered_limits}

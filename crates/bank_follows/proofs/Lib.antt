@@ -11,6 +11,7 @@ pub mod Tails
 pub mod Sections
 pub mod Begins
 pub mod Making
+pub mod Near
 pub mod Restored
 pub mod LifeBegins
 pub mod Standing

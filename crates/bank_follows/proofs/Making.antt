@@ -83,10 +83,10 @@ offset_order next x y p q x_from x_to p_is y_from y_to q_is =
     ∙ same_order p q (p * 2048 + 2) (q * 2048 + 2) (λ lt. omega arith) (λ ge. omega arith)
 
 -- the first offset on a page of members in full
-abbrev first_on : ℕ → ℕ
+abbrev pub first_on : ℕ → ℕ
 first_on p = p / 2625286 * 2 ^ 32 + p % 2625286 * 1636
 
-member_on : (x p : ℕ) → p ≡ member_page_in_full x → (first_on p ≤ x) × (x < first_on p + 1636)
+pub member_on : (x p : ℕ) → p ≡ member_page_in_full x → (first_on p ≤ x) × (x < first_on p + 1636)
 member_on x p is =
     let lap : p / 2625286 ≡ x / 2 ^ 32 = omega arith in
     let page : p % 2625286 ≡ x % 2 ^ 32 / 1636 = omega arith in

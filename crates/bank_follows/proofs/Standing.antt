@@ -1,16 +1,20 @@
 -- A bank's value stands for its list, call by call.
-use Rattle.std.proofs.Common.{List, None, [], refl, subst, sym, ap, ℕ, ◌++◌, ◌∷◌, ◌∙◌, ◌≡◌}
+use Rattle.std.proofs.Common.{List, None, [], inl, refl, subst, sym, ap, ℕ, ◌++◌, ◌∷◌, ◌∙◌, ◌≡◌}
 use Rattle.disk_core.specs.Pages.{Pages}
+use Rattle.tx_events.proofs.Membership.{has_contains, has_right}
 use Rattle.tx_core.specs.declared.entry.Entry.{Entry}
+use Rattle.tx_core.specs.declared.entry.Kind.TheVariants as kinds
 use Rattle.tx_core.specs.Pages.{zeroed_in}
 use Rattle.bank_follows.specs.Begins.{OpenedShows}
 use Rattle.bank_follows.specs.Cells.{Cells, IsOnePage, last_made, stored}
 use Rattle.bank_follows.specs.Making.{IsGivenPage, MakesStored}
 use Rattle.bank_follows.specs.Sections.{KeepBanks, KeepsSections, Moves}
-use Rattle.bank_follows.specs.Standing.{BankStands, BanksStand, KeepStanding, KeepsStanding, Stands}
+use Rattle.bank_follows.specs.Near.{AreMadeNear}
+use Rattle.bank_follows.specs.Standing.{BankStands, BanksStand, KeepStanding, KeepsStanding, Stands, StandsIfNear}
 use Rattle.bank_follows.specs.Stores.{IsMemberAt, IsOffsetAt, IsParentAt, IsXactAt, member_cells, offset_cells, parent_cells, xact_cells}
 use Rattle.bank_follows.proofs.Begins.{banks_open}
 use Rattle.bank_follows.proofs.Making.{stored_pages_made}
+use Rattle.bank_follows.proofs.Near.{near_before}
 use Rattle.bank_follows.proofs.OnePage.{one_page}
 use Rattle.bank_follows.proofs.Sections.{member_sections, offset_sections, parent_sections, xact_sections}
 use Rattle.bank_follows.proofs.Stores.{images_follow}
@@ -18,8 +22,9 @@ use Rattle.bank_follows.proofs.Stores.{images_follow}
 module _ {D : Type 0} (images : D → Pages → Type 0) (moment : D → ℕ) (left_at : D → ℕ → Pages → Type 0) where
   module _ {I V : Type 0} (s : Cells I V) (Asked : ℕ → Type 0) (made : MakesStored s) (sections : KeepBanks images moment left_at s Asked) (one : (page : ℕ) → IsGivenPage s page → IsOnePage s Asked page) where
     keeps_standing : (es : List Entry) (e : Entry) (old new : ℕ → List ℕ) (cutoff last : ℕ) (before after : D) → ((c : Pages) → left_at before (moment before) c → images before c)
-        → BankStands images moment left_at s Asked es old cutoff last before → KeepsStanding images moment left_at s Asked es e old new cutoff last before after
-    keeps_standing es e old new cutoff last before after only_now was =
+        → StandsIfNear images moment left_at s Asked es old cutoff last before → AreMadeNear s (es ++ e ∷ []) → KeepsStanding images moment left_at s Asked es e old new cutoff last before after
+    keeps_standing es e old new cutoff last before after only_now held near =
+        let was : BankStands images moment left_at s Asked es old cutoff last before = held (near_before s es e near) in
         let all : List Entry = es ++ e ∷ [] in
         let keep : KeepsSections images moment left_at s Asked es e old new cutoff before after = sections es e old new cutoff before after only_now was.shows in
         -- the last page behind an entry that makes none
@@ -35,7 +40,9 @@ module _ {D : Type 0} (images : D → Pages → Type 0) (moment : D → ℕ) (le
         record {
           looks = λ other quiet same call. stays quiet.makes_none cutoff (keep.looks other quiet same call);
           sets = λ other said call. stays said.makes_none cutoff (keep.sets other said call);
-          makes = λ page kind none given puts call.
+          makes = λ page kind none puts call.
+              let zero : Entry = record { by = e.by; kind = kinds.Zero page } in
+              let given : IsGivenPage s page = near e.by page (has_contains (es ++ e ∷ []) zero (has_right es (e ∷ []) zero (inl (λ i. record { by = e.by; kind = kind i })))) in
               let moves = keep.makes page kind none (one page given) (made.makes es page last old new was.given given was.last_is puts) call in
               record {
                 behind = record {

@@ -8,6 +8,7 @@ pub mod Tails
 pub mod Sections
 pub mod Begins
 pub mod Making
+pub mod Near
 pub mod Restored
 pub mod Standing
 pub mod Holding

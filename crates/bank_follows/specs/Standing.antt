@@ -18,6 +18,7 @@ use Rattle.bank_follows.specs.Begins.{IsOpened}
 use Rattle.bank_follows.specs.Cells.{Cells, ImageShows, IsGoneOr, IsQuietOn, SetsAsSaid, cut_by, cutoff_behind, last_made, stored}
 use Rattle.bank_follows.specs.Making.{IsGivenPage, stored_before}
 use Rattle.bank_follows.specs.Moments.{Throughout}
+use Rattle.bank_follows.specs.Near.{AreMadeNear}
 use Rattle.bank_follows.specs.Sections.{BankShows}
 use Rattle.bank_follows.specs.Stores.{IsMemberAt, IsOffsetAt, IsParentAt, IsXactAt, member_cells, offset_cells, parent_cells, xact_cells}
 
@@ -27,6 +28,10 @@ module _ {D : Type 0} (images : D → Pages → Type 0) (moment : D → ℕ) (le
       pub shows : BankShows images moment left_at s Asked es pages cutoff d
       pub last_is : last ≡ stored s (last_made s es)
       pub given : IsGivenPage s (last_made s es)
+
+    -- what a value holds: it stands so for a list of a life of few numbers
+    abbrev pub StandsIfNear : List Entry → (ℕ → List ℕ) → ℕ → ℕ → D → Type 0
+    StandsIfNear es pages cutoff last d = AreMadeNear s es → BankStands es pages cutoff last d
 
     -- behind a call, and at each moment of it
     pub record Stands (es during : List Entry) (pages : ℕ → List ℕ) (cutoff last : ℕ) (before after : D) : Type 0 where
@@ -49,7 +54,7 @@ module _ {D : Type 0} (images : D → Pages → Type 0) (moment : D → ℕ) (le
           → CrashLeaves (IsMixture old old) images moment left_at before after
           → Stands (es ++ e ∷ []) (es ++ e ∷ []) new cutoff last before after
       -- `zero`
-      pub makes : (page : ℕ) → e.kind ≡ kinds.Zero page → s.reading.store.items_of e ≡ [] → IsGivenPage s page
+      pub makes : (page : ℕ) → e.kind ≡ kinds.Zero page → s.reading.store.items_of e ≡ []
           → MatchBool (stored_before s last (stored s page))
           (PutsPage (stored s page) zero_page old new) (SameMap old new)
           → CrashLeaves (IsMixture old old) images moment left_at before after
@@ -66,9 +71,11 @@ module _ {D : Type 0} (images : D → Pages → Type 0) (moment : D → ℕ) (le
           → Stands (es ++ e ∷ []) es new cutoff last before after
 
     pub record KeepStanding : Type 0 where
+      -- from what the value held of the list to what it holds of the longer one
       pub keeps : (es : List Entry) (e : Entry) (old new : ℕ → List ℕ) (cutoff last : ℕ) (before after : D)
           → ((c : Pages) → left_at before (moment before) c → images before c)
-          → BankStands es old cutoff last before → KeepsStanding es e old new cutoff last before after
+          → StandsIfNear es old cutoff last before → AreMadeNear s (es ++ e ∷ [])
+          → KeepsStanding es e old new cutoff last before after
       -- a bank that was just opened
       pub opens : (pages : ℕ → List ℕ) (cutoff last : ℕ) (d : D)
           → IsOpened images moment left_at s Asked pages cutoff d

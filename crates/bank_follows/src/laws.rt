@@ -6,6 +6,7 @@ ghost use Rattle.bank_follows.specs.StoreSets.{StatesSet, MemberSet};
 ghost use Rattle.bank_follows.specs.Laws.{XactKeeps, ParentsKeep, OffsetsKeep, MembersKeep, ImagesFollow, OnePage};
 ghost use Rattle.bank_follows.specs.Begins.{BanksOpen, PagesShowWhatTheyHold, ZerosShowNothing};
 ghost use Rattle.bank_follows.specs.Making.{StoredPagesMade};
+ghost use Rattle.bank_follows.specs.Near.{NearOnMade, ShortMakesNear};
 ghost use Rattle.bank_follows.specs.Restored.{LifeBegins, RestoredBegins};
 ghost use Rattle.bank_follows.specs.Standing.{BanksStand};
 ghost use Rattle.bank_follows.specs.Holding.{EngineFits};
@@ -47,6 +48,13 @@ pub fn stored_pages_made()
     ensures { StoredPagesMade }
 {}
 
+/// What lies on a page that the list made is near the life's first number, where these pages are; and a short life makes
+/// no others.
+pub fn made_is_near()
+    ensures numbers { NearOnMade }
+    ensures pages { ShortMakesNear }
+{}
+
 /// The images of a bank at every moment of a critical section, over any disk.
 pub fn moments_keep<P: PageDisk>()
     ensures xact { XactMoments P.images P.moment P.left_at }
@@ -69,8 +77,8 @@ pub fn banks_open<P: PageDisk>()
     ensures { BanksOpen P.images P.moment P.left_at }
 {}
 
-/// What a bank's value is to stand for, with its last made page, is kept by each call, by the bank's own clauses; and its
-/// images are what `recoverable` asks of them.
+/// What a bank's value is to stand for in a life of few numbers, with its last made page, is kept by each call, by the
+/// bank's own clauses; and its images are what `recoverable` asks of them.
 pub fn banks_stand<P: PageDisk>()
     ensures { BanksStand P.images P.moment P.left_at }
 {}

@@ -19,3 +19,4 @@ pub mod WorkedLife
 pub mod LogSteps
 pub mod WorkedBank
 pub mod NewBegins
+pub mod Settled

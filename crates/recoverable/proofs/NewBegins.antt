@@ -1,11 +1,17 @@
--- Over new volumes a life begins clean.
-use Rattle.std.proofs.Common.{Contains, List, None, Option, Some, [], refl, subst, ℕ, ⊎_elim, ◌≡◌, ◌⊎◌}
+-- Over new volumes a life begins clean, and its log as its list wants it.
+use Rattle.std.proofs.Common.{Contains, List, None, Some, [], ap, arith, inl, refl, subst, sym, take, ℕ, ⊎_elim, ◌+◌, ◌-◌, ◌<◌, ◌∙◌, ◌≡◌, ◌≤◌, ◌⊎◌}
+use Rattle.std.specs.List.{slice_get}
 use Rattle.tx_events.proofs.Membership.{contains_has}
-use Rattle.tx_events.specs.declared.record.Rec.{Rec}
 use Rattle.tx_core.specs.declared.entry.Start.{Start}
 use Rattle.tx_core.specs.declared.entry.State.TheVariants as states
-use Rattle.recoverable.specs.LifeBase.{AreInOrder}
-use Rattle.recoverable.specs.Whole.{NewBegins}
+use Rattle.recoverable.specs.LifeBase.{AreInOrder, LifeBase, base_after}
+use Rattle.tx_events.specs.declared.record.Counters.{Counters}
+use Rattle.tx_events.specs.declared.record.Rec.TheVariants as records
+use Rattle.tx_core.specs.declared.entry.Kind.TheVariants as kinds
+use Rattle.recoverable.specs.Laws.{life_base}
+use Rattle.recoverable.specs.Volumes.{IsWholeAt}
+use Rattle.recoverable.specs.Whole.{NewBegins, NewLogBegins, new_log}
+use Rattle.recoverable.proofs.Settled.{checkpoint_settles}
 
 module _ {A : Type 0} where
   none_in : (xs : List A) (x : A) → xs ≡ [] → Contains xs x → ⊥
@@ -57,3 +63,33 @@ new_begins start told full base committed recorded = record {
     behind = λ x past high. refl;
   };
 }
+
+-- the one checkpoint has the counters of the base, and leaves them
+new_whole : (start : Start) (number n : ℕ) → number ≤ n → n < number + 1 → IsWholeAt (new_log start number) n
+new_whole start number n low high counters stands =
+    let front : n - number ≡ 0 = omega arith in
+    let next : n + 1 - number ≡ 1 = omega arith in
+    let here : Some (records.Checkpoint number start.base) ≡ Some (records.Checkpoint n counters) = ap (λ j. slice_get (new_log start number).recs j) (sym front) ∙ stands in
+    let same : start.base ≡ counters = counters_of here in
+    ap (λ j. (base_after (life_base start) (take j (new_log start number).recs)).counters) next
+    ∙ ap (λ (b : LifeBase). b.counters) (checkpoint_settles (life_base start) number)
+    ∙ same
+  where
+    counters_of : {m n : ℕ} {a b : Counters} → Some (records.Checkpoint m a) ≡ Some (records.Checkpoint n b) → a ≡ b
+    counters_of e = cc
+
+pub new_log_begins : NewLogBegins
+new_log_begins start number v next has = (
+  record {
+    before = (new_log start number).recs;
+    recs = refl;
+    from = next;
+    base = checkpoint_settles (life_base start) number;
+    some = omega arith;
+    whole = λ n low high. new_whole start number n low (omega arith);
+    begun = omega arith;
+    upto = omega arith;
+    flushed = λ to stands. absurd (contains_has [] (record { by = stands.0; kind = kinds.Flush to }) stands.1);
+  },
+  record { kept = number; opens = has; forgotten = inl (omega arith) },
+)

@@ -36,9 +36,9 @@ life_base start = record { counters = start.base; committed = start.committed; r
 abbrev pub HasKind : List Entry → Kind → Type 0
 HasKind es kind = (by : By) × Contains es (record { by = by; kind = kind })
 
--- A log's records are those from before the life, which give its base, and those that the list appends; what the list
--- flushed is on disk. Those from before are at least the ones that the log had appended itself when the life began: so
--- the checkpoint with which it began is among them. The checkpoints among them had the log's own counters.
+-- A log's records are those from before the life, which give its base, and those that the list appends. At least one is
+-- from before, and all of these are on disk when the life begins; so is what the list flushed. The checkpoints from
+-- before have the counters that the log gives behind them.
 pub record LogOf (start : Start) (es : List Entry) (log : KeptLog) : Type 0 where
   pub before : List Rec
   pub recs : log.recs ≡ before ++ recs_in es

@@ -1,8 +1,9 @@
 -- Volumes that fit a log: what a crash may leave of all of them at once.
-use Rattle.std.specs.Prelude.{◌≡◌, ℕ, ◌+◌, ◌-◌, ◌%◌, ◌^◌, ◌<◌, ◌≤◌, length, drop, Some, Ok, slice_get}
+use Rattle.std.specs.Prelude.{◌≡◌, ℕ, ◌+◌, ◌-◌, ◌%◌, ◌^◌, ◌<◌, ◌≤◌, ◌⊎◌, List, [], ◌∷◌, ◌++◌, length, drop, Some, Ok, slice_get}
 use Rattle.store_pages.specs.Layouts.{member_page_of, word_page_of, xact_page_of}
 use Rattle.store_pages.specs.Pages.{member_page_in_full}
 use Rattle.tx_events.specs.declared.record.Counters.{Counters}
+use Rattle.tx_events.specs.declared.record.Rec.{Rec}
 use Rattle.tx_events.specs.declared.record.Rec.TheVariants as records
 use Rattle.disk_core.specs.Pages.{Pages}
 use Rattle.disk_core.specs.Volume.{Volume}
@@ -84,24 +85,49 @@ pub record Restored (banks : ℕ) (log : KeptLog) (from : ℕ) (counters : Count
   pub no_mode : (x : ℕ) → IsNextOf counters.offset x → member_page_in_full counters.offset < member_page_in_full x
       → slot_byte (left.members (member_page_of x % banks)) x 4 ≡ 0
 
+-- The log that a recovery keeps of another one, of which it found the records below number k: those from its own first
+-- one on, over the base that the other's records give before it, and these behind them. What was on disk stays there.
+pub record KeepsUpTo (log later : KeptLog) (k : ℕ) (behind : List Rec) : Type 0 where
+  pub flushed_before : log.flushed ≤ k
+  pub upto : k ≤ log_end log
+  pub from : log.first ≤ later.first
+  pub within : later.first ≤ k
+  pub base : later.base ≡ base_at log later.first
+  pub recs : later.recs ≡ drop (later.first - log.first) (recs_below log k) ++ behind
+  pub flushed : log.flushed ≤ later.flushed
+
+-- the checkpoint that recovery writes behind what it found
+abbrev pub checkpoint_of : ℕ → LifeBase → List Rec
+checkpoint_of number base = records.Checkpoint number base.counters ∷ []
+
 -- The contract of recovery, for volumes with these images before and after. Where it answers Ok, the log kept behind it
--- ends with one record more, the checkpoint, which is on disk. What a later recovery answers from there is this base: so
--- the volumes hold it, whatever records of before went off the log. And the pages are such that a life may begin.
+-- has the records that it found and one more, the checkpoint, which is on disk. And the pages are such that a life may
+-- begin.
 pub record Recovered (banks : ℕ) (log : KeptLog) (after : Left → Type 0) (from : ℕ) (base : LifeBase) : Type 0 where
-  pub from_flushed : log.flushed ≤ from
-  pub to_end : from ≤ log_end log
   pub same : base_at log from ≡ base
   pub later : KeptLog
-  pub settled : EndsSettled later from base
+  pub keeps : KeepsUpTo log later from (checkpoint_of from base)
+  pub flushed : from < later.flushed
   pub fits : VolumesFit banks later after
   pub restored : (left : Left) → after left → Restored banks later from base.counters left
 
--- where it answers an error: a log whose later bases are bases of the first one, so recovery from it answers what
--- recovery from the first may answer
+-- where it answers an error: it found the records below some number, and the checkpoint stands behind them or doesn't
 pub record Recovers (log later : KeptLog) : Type 0 where
-  pub bases : (k : ℕ) → later.flushed ≤ k → k ≤ log_end later → (j : ℕ) × (log.flushed ≤ j) × (j ≤ log_end log) × (base_at later k ≡ base_at log j)
+  pub upto : ℕ
+  pub keeps : KeepsUpTo log later upto [] ⊎ KeepsUpTo log later upto (checkpoint_of upto (base_at log upto))
 
 pub record NotRecovered (banks : ℕ) (log : KeptLog) (after : Left → Type 0) : Type 0 where
   pub later : KeptLog
   pub recovers : Recovers log later
   pub fits : VolumesFit banks later after
+
+-- What a later recovery answers behind one that answered Ok is the same base: so the volumes hold it, whatever records
+-- of before went off the log.
+abbrev pub RecoverySettles : Type 0
+RecoverySettles = (log later : KeptLog) (from : ℕ) (base : LifeBase) → base_at log from ≡ base
+    → KeepsUpTo log later from (checkpoint_of from base) → from < later.flushed → EndsSettled later from base
+
+-- And behind one that answered an error it is a base that this one might have answered.
+abbrev pub RefusalKeeps : Type 0
+RefusalKeeps = (log later : KeptLog) (k : ℕ) → Recovers log later → ListFits later → later.flushed ≤ k
+    → k ≤ log_end later → (j : ℕ) × (log.flushed ≤ j) × (j ≤ log_end log) × (base_at later k ≡ base_at log j)

@@ -1,6 +1,6 @@
 -- The law on all volumes at once: where the engine invariant holds, the life began right and was short, and each image
 -- of a volume follows its list, over pages that showed the life's base, the volumes fit.
-use Rattle.std.specs.Prelude.{◌≡◌, ℕ, ◌+◌, ◌<◌, List, [], length, Option, IsTrue, None}
+use Rattle.std.specs.Prelude.{◌≡◌, ℕ, ◌+◌, ◌<◌, List, [], ◌∷◌, length, Option, IsTrue, None}
 use Rattle.xid_order.specs.Ids.{IsFullMulti}
 use Rattle.disk_core.specs.Pages.{Pages}
 use Rattle.disk_core.specs.Volume.{Volume}
@@ -8,6 +8,7 @@ use Rattle.wal_core.specs.Kept.{HasFlushed}
 use Rattle.tx_events.specs.Events.{given}
 use Rattle.tx_events.specs.Multis.{made}
 use Rattle.tx_events.specs.Base.{IsBase}
+use Rattle.tx_events.specs.declared.record.Rec.TheVariants as records
 use Rattle.notes.specs.Lists.{at}
 use Rattle.tx_core.specs.declared.entry.Entry.{Entry}
 use Rattle.tx_core.specs.declared.entry.Start.{Start}
@@ -32,7 +33,8 @@ pub record Shown : Type 0 where
   pub offsets : ℕ → Option StoredBytes
   pub members : ℕ → Option StoredBytes
 
--- A life began with a base from which a life may start, and with pages that told.
+-- A life began with a base from which a life may start, and with pages that told. That its next multixact is one comes
+-- from that counter's type, `FullMulti`.
 pub record BeganRight (start : Start) : Type 0 where
   pub told : IsTrue start.told
   pub full : IsFullMulti start.base.multi
@@ -96,7 +98,7 @@ pub record LeftFollows (start : Start) (lists : List (List Entry)) (log : KeptLo
   pub members_are : (bank : ℕ) → bank < start.banks
       → MembersLeft start bank (at lists (members_lock bank)) (left.members bank)
 
--- Each combination of images that follow the lists fits the log, whichever moments they are of.
+-- Each combination of images that follow the same lists fits the log.
 abbrev pub ImageFitsLaw : Type 0
 ImageFitsLaw = (start : Start) (lists : List (List Entry)) (log : KeptLog) (left : Left)
     → EngineInvariant start lists → BeganRight start → IsShort lists
@@ -122,3 +124,18 @@ abbrev pub LogBegins : Type 0
 LogBegins = (start : Start) (log : KeptLog) (from : ℕ) (left : Left) → start.from ≡ from + 1 → MayBegin log from
     → ListFits log → EndsSettled log from (life_base start) → ImageFits start.banks log left
     → LogOf start [] log × LogImage start [] log left.log
+
+-- the log of new volumes: one checkpoint, of the life's base, which is on disk
+abbrev pub new_log : Start → ℕ → KeptLog
+new_log start number = record {
+  base = life_base start;
+  first = number;
+  recs = records.Checkpoint number start.base ∷ [];
+  flushed = number + 1;
+}
+
+-- So is that log, and each image that has its record.
+abbrev pub NewLogBegins : Type 0
+NewLogBegins = (start : Start) (number : ℕ) (v : Volume) → start.from ≡ number + 1
+    → (let log = new_log start number in HasFlushed log.first log.recs number log.flushed v
+    → LogOf start [] log × LogImage start [] log v)

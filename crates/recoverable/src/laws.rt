@@ -1,6 +1,7 @@
 ghost use Rattle.recoverable.specs.Laws.{ListFitsLaw, MayBeginLaw, XactFitsLaw, OffsetsShownLaw, OffsetsFitLaw, MembersFitLaw, NoStrayOffset};
 ghost use Rattle.recoverable.specs.Stored.{OffsetBytesShow, MemberBytesShow};
-ghost use Rattle.recoverable.specs.Whole.{ImageFitsLaw, LogBegins, NewBegins, VolumesFitLaw};
+ghost use Rattle.recoverable.specs.Volumes.{RecoverySettles, RefusalKeeps};
+ghost use Rattle.recoverable.specs.Whole.{ImageFitsLaw, LogBegins, NewBegins, NewLogBegins, VolumesFitLaw};
 ghost use Rattle.recoverable.specs.LogSteps.{LogGoesOn};
 ghost use Rattle.recoverable.specs.WorkedLife.{AreRefused, IsWorked};
 ghost use Rattle.recoverable.specs.WorkedBank.{WorkedBank};
@@ -54,7 +55,7 @@ pub fn bytes_show()
 {}
 
 /// Where the invariant holds and the life began clean and was short, what a crash left of all volumes fits, if the log's
-/// image opens to its list and each bank's image shows its own: at whatever moment of its own each of them was left.
+/// image opens to its list and each bank's image shows its own, all of the same lists.
 pub fn image_fits()
     ensures { ImageFitsLaw }
 {}
@@ -64,14 +65,23 @@ pub fn volumes_fit<L: LogDisk, P: PageDisk>()
     ensures { VolumesFitLaw L.images P.images }
 {}
 
-/// Over new volumes a life begins clean (`BootStrapXLOG`).
+/// Over new volumes a life begins clean, and so does its log (`BootStrapXLOG` in
+/// `src/backend/access/transam/xlog.c`).
 pub fn new_begins()
-    ensures { NewBegins }
+    ensures clean { NewBegins }
+    ensures log { NewLogBegins }
 {}
 
 /// The log behind a recovery is as the next life's laws want it, before that life's first entry.
 pub fn log_begins()
     ensures { LogBegins }
+{}
+
+/// A recovery that answered Ok is settled: any later one answers the same base. Behind one that answered an error, a later
+/// one answers what this one might have answered.
+pub fn recoveries_settle()
+    ensures answered { RecoverySettles }
+    ensures refused { RefusalKeeps }
 {}
 
 /// One entry more of the log's list, and its log goes on: by a record, by what is on disk, or as it was.

@@ -1,6 +1,6 @@
 -- A commit that counts has its record on disk.
 use Rattle.std.proofs.lemmas.Option.{same_Some}
-use Rattle.std.proofs.Common.{Contains, List, ap, arith, sym, take, ℕ, ⊎_elim, ◌+◌, ◌<◌, ◌∙◌, ◌∷◌, ◌≡◌, ◌≤◌, refl, Some, []}
+use Rattle.std.proofs.Common.{Contains, List, ap, arith, sym, take, ℕ, ⊎_elim, ◌<◌, ◌∙◌, ◌∷◌, ◌≡◌, ◌≤◌, refl, Some, []}
 use Rattle.std.specs.List.{slice_get}
 use Rattle.tx_events.specs.declared.event.By.{By}
 use Rattle.tx_events.specs.declared.event.Event.TheVariants as events
@@ -78,5 +78,5 @@ commits_are_flushed start lists by top k counts =
     = one_commit lists top flushed.2 own.0 durable.0 top durable.1 stated.0 k.once (record_entry lists logged flushed.0 flushed.2 flushed.4) (contains_has (at lists log_lock) (commit_by own.0 top stated.0) own.2) durable.3 first in
     let last : IsLastFlush start lists (flushed_to start (at lists log_lock)) = flushes_rise start lists k in
     let upto : flushed.1 ≤ flushed_to start (at lists log_lock) = last.greatest flushed.1 flushed.6 in
-    let below : start.from + flushed.0 < flushed.1 = flushed.5 in
+    let below = flushed.5 in
     (flushed.0, own.0, stated.0, own.1, flushed.4 ∙ ap (λ (e : Entry). appended e) same, omega arith)

@@ -1,13 +1,12 @@
 -- A table over lists without entries, and the names that its host has.
-use Rattle.std.proofs.Common.{ℕ, zero, suc, ◌+◌, ◌*◌, ◌<◌, ◌≤◌, ◌≡◌, ◌≢◌, ◌⊎◌, ⊎_elim, Bool, true, false, ◌||◌, not, cond, if◌then◌else◌, ltb, eqb, List, [], ◌∷◌, Contains, Option, None, Some, length, replicate, get_or, inl, inr, refl, sym, ap, subst, ◌∙◌, arith}
-use Rattle.std.proofs.lemmas.Bool.{lt-ltb, le-ltb, eq-eqb}
+use Rattle.std.proofs.Common.{ℕ, zero, suc, ◌+◌, ◌*◌, ◌<◌, ◌≤◌, ◌≡◌, ◌≢◌, ◌⊎◌, ⊎_elim, Bool, true, false, ◌||◌, not, cond, eqb, List, [], ◌∷◌, Contains, None, Some, length, replicate, get_or, inl, inr, refl, sym, ap, subst, ◌∙◌, arith}
+use Rattle.std.proofs.lemmas.Bool.{lt-ltb, eq-eqb}
 use Rattle.std.proofs.lemmas.Bool.Decides.{eqb_tells, nat_tests}
 use Rattle.std.proofs.lemmas.List.{get_or-set_other, length-replicate}
 use Rattle.std.proofs.Math.Bool.{or-true}
-use Rattle.std.specs.List.{filter, slice_get}
+use Rattle.std.specs.List.{slice_get}
 use Rattle.notes.specs.Lists.{at}
 use Rattle.hall.specs.declared.view.View.{View}
-use Rattle.hall.specs.declared.writer.Writer.{Writer}
 use Rattle.hall.specs.declared.writer.Writer.TheVariants.{Lock}
 use Rattle.hall.specs.Calls.{ShownBy}
 use Rattle.hall.specs.Rule.{Holds}
@@ -20,7 +19,7 @@ use Rattle.tx_events.proofs.IdOrder.{before_below, next_least, next_of_before}
 use Rattle.tx_events.proofs.Membership.{Has, contains_has, has_contains}
 use Rattle.tx_core.specs.declared.entry.Entry.{Entry}
 use Rattle.tx_core.specs.declared.entry.Start.{Start}
-use Rattle.tx_core.specs.Locks.{first_request, oldest_word, proc_lock, xmin_word}
+use Rattle.tx_core.specs.Locks.{first_request, oldest_word, xmin_word}
 use Rattle.session_levels.specs.Stands.{IsFresh}
 use Rattle.engine_parts.specs.declared.session.Session.{Session}
 use Rattle.engine_parts.specs.declared.session.Stage.TheVariants as stages

@@ -18,7 +18,6 @@ use Rattle.wal_core.specs.Kept.{KeepsRecords}
 use Rattle.wal_core.specs.Opening.{no_counters}
 use Rattle.xid_order.specs.Ids.{id_before, low_half}
 use Rattle.tx_core.specs.CleanStart.{CleanStart}
-use Rattle.tx_core.specs.declared.entry.State.{State}
 use Rattle.tx_core.specs.declared.entry.State.TheVariants as states
 use Rattle.tx_core.specs.Locks.{log_lock, subtrans_lock, subtrans_page, xact_lock, xact_page}
 use Rattle.engine_parts.specs.declared.part.Part.{Part}
@@ -88,9 +87,13 @@ xact_begins c bank faults last cutoff tells bytes counts base inside count last_
   count = count;
   last_is = λ near. last_is ∙ low_page c.base.next;
   cutoff_is = (xact_page c.base.oldest, cutoff_is ∙ low_page c.base.oldest, omega arith, inl refl);
-  shown = λ told near. (λ x. None, clean c counts base, record {
-    each = λ x used here kept. ap (λ page. state_in page (xact_place_of x)) (zeros told (xact_page_of x) (small x)) ∙ zero_state (xact_place_of x);
-  });
+  shown = λ told near. (
+    λ x. None,
+    clean c counts base,
+    record {
+      each = λ x used here kept. ap (λ page. state_in page (xact_place_of x)) (zeros told (xact_page_of x) (small x)) ∙ zero_state (xact_place_of x);
+    },
+  );
 }
   where
     low_page : (n : ℕ) → xact_page (low_half n) ≡ xact_page n % 2 ^ 17
@@ -176,6 +179,6 @@ module _ {L P : Type 0} {l : logs.Ghosts L} {p : disks.Ghosts P} where
   pub all_stand : (c : Cluster) (xs : List (Part L P l p)) → AreNew c 0 xs → (lock : ℕ) (part : Part L P l p) → slice_get xs lock ≡ Some part → PartStands (new_life c xs) lock part []
   all_stand c xs are lock part at =
       let counted : get_or (map faults_behind xs) lock 0 ≡ faults_behind part =
-          get_or_from_slice_get (map faults_behind xs) lock (faults_behind part) 0 (slice_get-map faults_behind xs lock ∙ ap (option_map faults_behind) at) in
+      get_or_from_slice_get (map faults_behind xs) lock (faults_behind part) 0 (slice_get-map faults_behind xs lock ∙ ap (option_map faults_behind) at) in
       let same : 0 + lock ≡ lock = omega arith in
       subst (λ k. IsNewPart c k part) same (are lock part at) (map faults_behind xs) (omega (arith, counted))

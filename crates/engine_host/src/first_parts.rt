@@ -109,27 +109,53 @@ fn add_banks<L: LogDisk, P: PageDisk + Drop>(
 // Takes the parts apart, the last one first, and puts their volumes back before those that are left.
 fn take_apart<L: LogDisk + Drop, P: PageDisk + Drop>(
     locks: Vec<Part<L, P>>,
-    log: L,
     xact: Vec<P>,
     subtrans: Vec<P>,
-) -> NewVolumes<L, P> {
-    let mut volumes = NewVolumes {
-        log,
-        xact,
-        subtrans,
-    };
+) -> (Option<L>, Vec<P>, Vec<P>) {
+    let mut log = None;
+    let mut xact = xact;
+    let mut subtrans = subtrans;
     let mut locks = locks;
     while let Some(part) = locks.pop() {
         match part {
-            Part::Xact(store) => put_back(&mut volumes.xact, store.into_disk()),
-            Part::Subtrans(store) => put_back(&mut volumes.subtrans, store.into_disk()),
-            Part::Log(log) => volumes.log = log.into_disk(),
+            Part::Xact(store) => put_back(&mut xact, store.into_disk()),
+            Part::Subtrans(store) => put_back(&mut subtrans, store.into_disk()),
+            Part::Log(found) => log = Some(found.into_disk()),
             Part::Proc(_table) => {}
             Part::Vacant => {}
         }
     }
     locks.destroy_empty();
-    volumes
+    (log, xact, subtrans)
+}
+
+/// Takes the parts apart. Gives back the volumes of the log, and of the banks of pg_xact and of pg_subtrans in their
+/// order; one for which there is no memory is dropped. What isn't on them yet is lost.
+pub fn into_volumes<L: LogDisk + Drop, P: PageDisk + Drop>(
+    alloc: Global,
+    parts: Parts<L, P>,
+) -> (Option<L>, Vec<P>, Vec<P>) {
+    let Parts {
+        cluster: _,
+        locks,
+        start: _,
+    } = parts;
+    take_apart(locks, Vec::new(alloc), Vec::new(alloc))
+}
+
+// The volumes of an engine that wasn't opened.
+fn taken_apart<L: LogDisk + Drop, P: PageDisk + Drop>(
+    log: WalLog<L>,
+    locks: Vec<Part<L, P>>,
+    xact: Vec<P>,
+    subtrans: Vec<P>,
+) -> NewVolumes<L, P> {
+    let (_, xact, subtrans) = take_apart(locks, xact, subtrans);
+    NewVolumes {
+        log: log.into_disk(),
+        xact,
+        subtrans,
+    }
 }
 
 // A new cluster's parts, of which the life isn't told yet.
@@ -223,10 +249,10 @@ pub fn open_new<L: LogDisk + Drop, P: PageDisk + Drop>(
         }
     };
     if let Err(refusal) = add_banks(alloc, &mut locks, &mut xact, &mut subtrans, &cluster) {
-        return Err((take_apart(locks, log.into_disk(), xact, subtrans), refusal));
+        return Err((taken_apart(log, locks, xact, subtrans), refusal));
     }
     if let Err(refusal) = begin_log(&mut log, &cluster) {
-        return Err((take_apart(locks, log.into_disk(), xact, subtrans), refusal));
+        return Err((taken_apart(log, locks, xact, subtrans), refusal));
     }
     Ok(gather(cluster, log, locks))
 }

@@ -10,6 +10,6 @@ mod host;
 mod refusal;
 
 pub use cluster::{Cluster, NewVolumes, Parts};
-pub use first_parts::open_new;
+pub use first_parts::{into_volumes, open_new};
 pub use host::{Host, admit, close, dismiss, make_table};
 pub use refusal::OpenRefusal;

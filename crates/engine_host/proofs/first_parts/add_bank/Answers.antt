@@ -1,5 +1,4 @@
-use Rattle.std.proofs.Common.{◌++◌, ◌∷◌, [], List, ap, refl, subst, sym, ◌∙◌}
-use Rattle.engine_parts.specs.declared.part.Part.{Part}
+use Rattle.std.proofs.Common.{◌++◌, ◌∷◌, [], ap, refl, subst, sym, ◌∙◌}
 use Rattle.engine_parts.specs.declared.part.Part.TheVariants as parts
 use Rattle.engine_host.specs.Opening.{AreNew}
 use Rattle.engine_host.proofs.Starting.{bank_new}

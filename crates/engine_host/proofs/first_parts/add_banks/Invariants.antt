@@ -1,4 +1,4 @@
-use Rattle.std.proofs.Common.{◌≡◌, ◌+◌, ◌*◌, ◌≤◌, length, vec_capacity}
+use Rattle.std.proofs.Common.{◌≡◌, ◌+◌, ◌*◌, length, vec_capacity}
 use Rattle.engine_host.specs.Opening.{AreNew}
 use Rattle.engine_host.proofs.first_parts.add_banks.Given as goal
 

@@ -1,11 +1,7 @@
-use Rattle.std.proofs.Common.{ℕ, ◌<◌, ◌≤◌, ◌+◌, ◌*◌, ◌^◌, ◌≡◌, ap, arith, refl, subst, sym, ◌∙◌}
+use Rattle.std.proofs.Common.{◌<◌, arith, refl, subst, sym}
 use Rattle.hall.specs.Calls.{start_of, view}
-use Rattle.hall.specs.declared.view.View.{View}
-use Rattle.notes.specs.Lists.{at}
 use Rattle.tx_events.specs.Base.{IsBase}
 use Rattle.tx_events.specs.declared.record.Counters.{Counters}
-use Rattle.tx_core.specs.declared.entry.Entry.{Entry}
-use Rattle.tx_core.specs.declared.entry.Start.{Start}
 use Rattle.engine_parts.proofs.Newness.{new_may_call}
 use Rattle.engine_host.proofs.Hosting.{name_given, name_stays, new_knows}
 use Rattle.engine_host.proofs.host.admit.Goals as goal

@@ -1,4 +1,4 @@
-use Rattle.std.proofs.Common.{ℕ, ◌<◌, ◌+◌, ◌≡◌, [], ⊎_elim, arith, ap, sym, ◌∙◌}
+use Rattle.std.proofs.Common.{[], ⊎_elim, arith}
 use Rattle.tx_events.proofs.Membership.{contains_has}
 use Rattle.engine_host.proofs.host.close.Goals as goal
 

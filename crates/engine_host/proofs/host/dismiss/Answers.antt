@@ -1,8 +1,7 @@
-use Rattle.std.proofs.Common.{ℕ, ◌≡◌, ap, subst, ◌∙◌, sym}
+use Rattle.std.proofs.Common.{ℕ, ap, subst, ◌∙◌}
 use Rattle.hall.specs.Calls.{view}
 use Rattle.hall.specs.Rule.{Holds}
 use Rattle.hall.specs.declared.view.View.{View}
-use Rattle.hall.specs.declared.view.Stage.TheVariants.{Free}
 use Rattle.tx_core.specs.declared.entry.Entry.{Entry}
 use Rattle.tx_core.specs.declared.entry.Start.{Start}
 use Rattle.engine_host.proofs.Hosting.{name_back}

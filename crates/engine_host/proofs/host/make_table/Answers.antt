@@ -1,8 +1,8 @@
-use Rattle.std.proofs.Common.{ℕ, ◌<◌, ◌≤◌, ◌+◌, ◌*◌, ◌^◌, ◌≡◌, List, [], true, false, ap, arith, inl, length, refl, replicate, slice_index_or, subst, sym, ◌∙◌}
+use Rattle.std.proofs.Common.{ℕ, ◌+◌, ◌*◌, ◌≡◌, List, [], true, false, ap, arith, inl, length, replicate, slice_index_or, subst, sym, ◌∙◌}
 use Rattle.std.proofs.lemmas.List.{get_or-replicate, length-replicate}
 use Rattle.std.specs.List.{slice_get}
 use Rattle.std.specs.Prelude.{Some}
-use Rattle.hall.specs.Calls.{ShownBy, StandFor, view}
+use Rattle.hall.specs.Calls.{ShownBy, StandFor}
 use Rattle.hall.specs.declared.view.Opening.{Opening}
 use Rattle.hall.specs.declared.view.View.{View}
 use Rattle.hall.specs.declared.writer.Writer.TheVariants.{Lock}

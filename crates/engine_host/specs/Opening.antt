@@ -1,0 +1,105 @@
+-- What a new engine starts from, and what its parts stand for.
+use Rattle.std.specs.Prelude.{◌≡◌, ℕ, ◌+◌, ◌*◌, ◌≤◌, false, IsTrue, List, [], ◌∷◌, None, Some, slice_get, get_or, length, map}
+use Rattle.disk_core.specs.declared.log_disk.LogDisk as logs
+use Rattle.disk_core.specs.declared.page_disk.PageDisk as disks
+use Rattle.tx_events.specs.Base.{IsBase}
+use Rattle.tx_events.specs.declared.record.Rec.TheVariants as records
+use Rattle.wal_core.specs.declared.wal_log.WalLog.{WalLog}
+use Rattle.wal_core.specs.LogViews.{KeepsAll, log_counters, log_disk, log_down, log_flushed, log_next, log_recs}
+use Rattle.slru_bank.specs.Calls.{faults_of}
+use Rattle.slru_bank.specs.declared.bank.SlruBank.{SlruBank}
+use Rattle.store_pages.specs.declared.page_rule.PageRule as rules
+use Rattle.tx_core.specs.declared.entry.Start.{Start}
+use Rattle.tx_core.specs.Locks.{log_lock, subtrans_lock, xact_lock}
+use Rattle.engine_parts.specs.declared.part.Part.{Part}
+use Rattle.engine_parts.specs.declared.part.Part.TheVariants as parts
+use Rattle.engine_parts.specs.Parts.{IsLogOf, IsSubtransOf, IsXactOf, PartStands}
+use Rattle.engine_host.specs.declared.cluster.Cluster.{Cluster}
+use Rattle.engine_host.specs.declared.cluster.Parts.{Parts}
+
+-- the counters are a base, and there are so many banks and sessions
+pub record IsCluster (c : Cluster) : Type 0 where
+  pub base : IsBase c.base
+  pub banks : (1 ≤ c.banks) × (c.banks ≤ 16)
+  pub sessions : c.sessions ≤ 64
+
+-- A life over a new log, which has one record, a checkpoint of the base. Nothing is committed, and no multixact was
+-- recorded. These are the volumes' counts of faults.
+abbrev pub life_of : Cluster → List ℕ → Start
+life_of c faults = record {
+  banks = c.banks;
+  sessions = c.sessions;
+  from = 1;
+  base = c.base;
+  committed = [];
+  recorded = [];
+  logged = records.Checkpoint 0 c.base ∷ [];
+  told = false;
+  faults = faults;
+}
+
+-- a log without a record
+pub record IsNewLog {D : Type 0} {g : logs.Ghosts D} (log : WalLog D g) : Type 0 where
+  pub recs : log_recs log ≡ []
+  pub next : log_next log ≡ 0
+  pub flushed : log_flushed log ≡ 0
+  pub down : log_down log ≡ None
+  pub counters : log_counters log ≡ None
+  pub keeps : IsTrue g.tells → KeepsAll 0 [] g.images log
+
+-- a log with one record, the first checkpoint
+pub record HasFirst {D : Type 0} {g : logs.Ghosts D} (c : Cluster) (log : WalLog D g) : Type 0 where
+  pub recs : log_recs log ≡ records.Checkpoint 0 c.base ∷ []
+  pub next : log_next log ≡ 1
+  pub down : log_down log ≡ None
+  pub counters : log_counters log ≡ Some c.base
+  pub keeps : IsTrue g.tells → KeepsAll 0 (records.Checkpoint 0 c.base ∷ []) g.images log
+
+-- a log that stands for a list without entries, with the first checkpoint on disk
+abbrev pub IsBegunLog : {D : Type 0} → {g : logs.Ghosts D} → Cluster → WalLog D g → Type 0
+IsBegunLog {g = g} c log =
+    (faults : List ℕ) → get_or faults log_lock 0 ≤ g.faults (log_disk log) → IsLogOf (life_of c faults) log []
+
+module _ {P O : Type 0} {g : disks.Ghosts P} {r : rules.Ghosts O} where
+  -- banks that stand for lists without entries
+  abbrev pub IsNewXact : Cluster → ℕ → SlruBank P O g r → Type 0
+  IsNewXact c bank store =
+      (faults : List ℕ) → get_or faults (xact_lock bank) 0 ≤ faults_of store
+      → IsXactOf (life_of c faults) bank store []
+
+  abbrev pub IsNewSubtrans : Cluster → ℕ → SlruBank P O g r → Type 0
+  IsNewSubtrans c bank store =
+      (faults : List ℕ) → get_or faults (subtrans_lock bank) 0 ≤ faults_of store
+      → IsSubtransOf (life_of c faults) bank store []
+
+module _ {L P : Type 0} {l : logs.Ghosts L} {p : disks.Ghosts P} where
+  -- how often the volume of a part has failed
+  abbrev pub faults_behind : Part L P l p → ℕ
+  faults_behind (parts.Log log) = l.faults (log_disk log)
+  faults_behind (parts.Xact store) = faults_of store
+  faults_behind (parts.Subtrans store) = faults_of store
+  faults_behind part = 0
+
+  -- the part stands for a list without entries, whatever counts the life begins with that its volume has reached
+  abbrev pub IsNewPart : Cluster → ℕ → Part L P l p → Type 0
+  IsNewPart c lock part =
+      (faults : List ℕ) → get_or faults lock 0 ≤ faults_behind part → PartStands (life_of c faults) lock part []
+
+  -- so each of these, the first of which lies behind this lock
+  abbrev pub AreNew : Cluster → ℕ → List (Part L P l p) → Type 0
+  AreNew c first locks =
+      (n : ℕ) (part : Part L P l p) → slice_get locks n ≡ Some part → IsNewPart c (first + n) part
+
+  -- a part behind each lock, which stands for the list without entries
+  pub record AreParts (parts : Parts L P l p) : Type 0 where
+    pub cluster : IsCluster parts.cluster
+    pub banks : parts.start.value.banks ≡ parts.cluster.banks
+    pub sessions : parts.start.value.sessions ≡ parts.cluster.sessions
+    pub base : parts.start.value.base ≡ parts.cluster.base
+    pub count : length parts.locks.items ≡ 3 + 4 * parts.cluster.banks
+    pub stand : (lock : ℕ) (part : Part L P l p) → slice_get parts.locks.items lock ≡ Some part
+        → PartStands parts.start.value lock part []
+
+  -- what a new engine starts from
+  abbrev pub new_life : Cluster → List (Part L P l p) → Start
+  new_life cluster locks = life_of cluster (map faults_behind locks)

@@ -1,0 +1,68 @@
+//! The banks of a new cluster (`BootStrapCLOG` of `clog.c`, `BootStrapSUBTRANS` of `subtrans.c`).
+ghost use Rattle.std.specs.Prelude.{◌<◌, IfOk};
+ghost use Rattle.tx_events.specs.Base.{IsBase};
+ghost use Rattle.engine_host.specs.Opening.{IsNewSubtrans, IsNewXact};
+
+use crate::cluster::Cluster;
+use crate::refusal::OpenRefusal;
+use disk_core::PageDisk;
+use slru_bank::SlruBank;
+use std::alloc::Global;
+use store_pages::{SubtransPages, XactPages, subtrans_page, xact_page};
+use tx_events::Lock;
+
+// A bank of pg_xact. The pages that its volume has are removed; that of the next id counts as made.
+pub(crate) fn new_xact<P: PageDisk + Drop>(
+    alloc: Global,
+    disk: P,
+    cluster: &Cluster,
+    bank: u32,
+) -> Result<SlruBank<P, XactPages>, (P, OpenRefusal)>
+    requires base { IsBase cluster.now.base }
+    requires inside { bank < cluster.now.banks }
+    ensures { IfOk result (λ store. IsNewXact cluster.now bank store) }
+{
+    let last = xact_page(cluster.base.next.low());
+    let cutoff = xact_page(cluster.base.oldest.low());
+    let mut store = match SlruBank::<P, XactPages>::new(alloc, disk, last, cutoff) {
+        Ok(store) => store,
+        Err((disk, _)) => return Err((disk, OpenRefusal::Memory)),
+    };
+    match store.clear_all() {
+        Ok(()) => Ok(store),
+        Err(_) => Err((
+            store.into_disk(),
+            OpenRefusal::DiskFault {
+                lock: Lock::Xact(bank),
+            },
+        )),
+    }
+}
+
+// So a bank of pg_subtrans.
+pub(crate) fn new_subtrans<P: PageDisk + Drop>(
+    alloc: Global,
+    disk: P,
+    cluster: &Cluster,
+    bank: u32,
+) -> Result<SlruBank<P, SubtransPages>, (P, OpenRefusal)>
+    requires base { IsBase cluster.now.base }
+    requires inside { bank < cluster.now.banks }
+    ensures { IfOk result (λ store. IsNewSubtrans cluster.now bank store) }
+{
+    let last = subtrans_page(cluster.base.next.low());
+    let cutoff = subtrans_page(cluster.base.next.retreat().low());
+    let mut store = match SlruBank::<P, SubtransPages>::new(alloc, disk, last, cutoff) {
+        Ok(store) => store,
+        Err((disk, _)) => return Err((disk, OpenRefusal::Memory)),
+    };
+    match store.clear_all() {
+        Ok(()) => Ok(store),
+        Err(_) => Err((
+            store.into_disk(),
+            OpenRefusal::DiskFault {
+                lock: Lock::Subtrans(bank),
+            },
+        )),
+    }
+}

@@ -1,0 +1,34 @@
+//! What an engine is opened over, and what it consists of.
+use disk_core::{LogDisk, PageDisk};
+use engine_parts::Part;
+use notes::Note;
+use tx_core::Start;
+use tx_events::Counters;
+
+/// What a new cluster begins with.
+#[derive(Clone, Copy, Debug, Drop)]
+pub struct Cluster {
+    /// The next id, the oldest one, and those of the multixacts.
+    pub base: Counters,
+    /// How many banks each store has, 1 to 16.
+    pub banks: u32,
+    /// How many sessions there may be, at most 64.
+    pub sessions: u32,
+}
+
+/// The volumes of a new cluster: the log's, and one for each bank of pg_xact and of pg_subtrans.
+#[derive(Drop)]
+pub struct NewVolumes<L, P> {
+    pub log: L,
+    pub xact: Vec<P>,
+    pub subtrans: Vec<P>,
+}
+
+/// The parts of an engine.
+pub struct Parts<L: LogDisk, P: PageDisk> {
+    pub cluster: Cluster,
+    /// What lies behind each lock, in the order of the locks (`docs/ENGINE.md`).
+    pub locks: Vec<Part<L, P>>,
+    /// What the life starts from, for contracts alone.
+    pub start: Note<Start>,
+}

@@ -1,0 +1,258 @@
+//! The parts of a new engine.
+ghost use Rattle.std.specs.Prelude.{◌≡◌, ◌+◌, ◌*◌, ◌≤◌, ◌<◌, IfOk, OnOk, length, vec_capacity};
+ghost use Rattle.engine_host.specs.Opening.{AreNew, AreParts, IsBegunLog, IsCluster, new_life};
+
+use crate::banks::{new_subtrans, new_xact};
+use crate::cluster::{Cluster, NewVolumes, Parts};
+use crate::first_log::{begin_log, start_log};
+use crate::refusal::OpenRefusal;
+use disk_core::{LogDisk, PageDisk};
+use engine_parts::Part;
+use notes::Note;
+use proc_table::ProcTable;
+use std::alloc::Global;
+use tx_core::Start;
+use wal_core::WalLog;
+
+// Puts a volume back as the first one.
+fn put_back<P: PageDisk + Drop>(volumes: &mut Vec<P>, disk: P) {
+    // There is room, since the volume was taken out of the same vector.
+    let _ = volumes.insert(0, disk);
+}
+
+// The parts behind the locks from 1 on that have no bank.
+fn first_locks<L: LogDisk, P: PageDisk>(
+    alloc: Global,
+    cluster: &Cluster,
+) -> Result<Vec<Part<L, P>>, OpenRefusal>
+    requires { IsCluster cluster.now }
+    ensures count { IfOk result (λ locks. length locks.items ≡ 2) }
+    ensures room { IfOk result (λ locks. 3 + 4 * cluster.now.banks ≤ vec_capacity locks) }
+    ensures stand { IfOk result (λ locks. AreNew cluster.now 1 locks.items) }
+{
+    let Ok(table) = ProcTable::new(alloc, cluster.base, cluster.sessions) else {
+        return Err(OpenRefusal::Memory);
+    };
+    let Ok(mut locks) = Vec::with_capacity(alloc, 3 + 4 * cluster.banks as usize) else {
+        return Err(OpenRefusal::Memory);
+    };
+    locks.push_reserved(Part::Proc(table));
+    locks.push_reserved(Part::Vacant);
+    Ok(locks)
+}
+
+// Adds the parts of one bank, over the first volumes that are left. After an error these are back in their place.
+fn add_bank<L: LogDisk, P: PageDisk + Drop>(
+    alloc: Global,
+    locks: &mut Vec<Part<L, P>>,
+    xact: &mut Vec<P>,
+    subtrans: &mut Vec<P>,
+    cluster: &Cluster,
+    bank: u32,
+) -> Result<(), OpenRefusal>
+    requires cluster { IsCluster cluster.now }
+    requires inside { bank < cluster.now.banks }
+    requires volumes { (0 < length xact.old.items) × (0 < length subtrans.old.items) }
+    requires count { length locks.old.items ≡ 2 + 4 * bank }
+    requires room { 3 + 4 * cluster.now.banks ≤ vec_capacity locks.old }
+    requires stand { AreNew cluster.now 1 locks.old.items }
+    ensures volumes { OnOk result ((length xact.new.items + 1 ≡ length xact.old.items) × (length subtrans.new.items + 1 ≡ length subtrans.old.items)) }
+    ensures count { OnOk result (length locks.new.items ≡ 2 + 4 * (bank + 1)) }
+    ensures room { OnOk result (vec_capacity locks.new ≡ vec_capacity locks.old) }
+    ensures stand { OnOk result (AreNew cluster.now 1 locks.new.items) }
+{
+    let states = match new_xact(alloc, xact.remove(0), cluster, bank) {
+        Ok(store) => store,
+        Err((disk, refusal)) => {
+            put_back(xact, disk);
+            return Err(refusal);
+        }
+    };
+    let parents = match new_subtrans(alloc, subtrans.remove(0), cluster, bank) {
+        Ok(store) => store,
+        Err((disk, refusal)) => {
+            put_back(subtrans, disk);
+            put_back(xact, states.into_disk());
+            return Err(refusal);
+        }
+    };
+    locks.push_reserved(Part::Xact(states));
+    locks.push_reserved(Part::Subtrans(parents));
+    locks.push_reserved(Part::Vacant);
+    locks.push_reserved(Part::Vacant);
+    Ok(())
+}
+
+// Adds those of all banks. After an error the volumes of the banks that weren't added are left.
+fn add_banks<L: LogDisk, P: PageDisk + Drop>(
+    alloc: Global,
+    locks: &mut Vec<Part<L, P>>,
+    xact: &mut Vec<P>,
+    subtrans: &mut Vec<P>,
+    cluster: &Cluster,
+) -> Result<(), OpenRefusal>
+    requires cluster { IsCluster cluster.now }
+    requires volumes { (length xact.old.items ≡ cluster.now.banks) × (length subtrans.old.items ≡ cluster.now.banks) }
+    requires count { length locks.old.items ≡ 2 }
+    requires room { 3 + 4 * cluster.now.banks ≤ vec_capacity locks.old }
+    requires stand { AreNew cluster.now 1 locks.old.items }
+    ensures count { OnOk result (length locks.new.items ≡ 2 + 4 * cluster.now.banks) }
+    ensures room { OnOk result (vec_capacity locks.new ≡ vec_capacity locks.old) }
+    ensures stand { OnOk result (AreNew cluster.now 1 locks.new.items) }
+{
+    for bank in 0..cluster.banks {
+        add_bank(alloc, locks, xact, subtrans, cluster, bank)?;
+    }
+    Ok(())
+}
+
+// Takes the parts apart, the last one first, and puts their volumes back before those that are left.
+fn take_apart<L: LogDisk + Drop, P: PageDisk + Drop>(
+    locks: Vec<Part<L, P>>,
+    xact: Vec<P>,
+    subtrans: Vec<P>,
+) -> (Option<L>, Vec<P>, Vec<P>) {
+    let mut log = None;
+    let mut xact = xact;
+    let mut subtrans = subtrans;
+    let mut locks = locks;
+    while let Some(part) = locks.pop() {
+        match part {
+            Part::Xact(store) => put_back(&mut xact, store.into_disk()),
+            Part::Subtrans(store) => put_back(&mut subtrans, store.into_disk()),
+            Part::Log(found) => log = Some(found.into_disk()),
+            Part::Proc(_table) => {}
+            Part::Vacant => {}
+        }
+    }
+    locks.destroy_empty();
+    (log, xact, subtrans)
+}
+
+/// Takes the parts apart. Gives back the volumes of the log, and of the banks of pg_xact and of pg_subtrans in their
+/// order; one for which there is no memory is dropped. What isn't on them yet is lost.
+pub fn into_volumes<L: LogDisk + Drop, P: PageDisk + Drop>(
+    alloc: Global,
+    parts: Parts<L, P>,
+) -> (Option<L>, Vec<P>, Vec<P>) {
+    let Parts {
+        cluster: _,
+        locks,
+        start: _,
+    } = parts;
+    take_apart(locks, Vec::new(alloc), Vec::new(alloc))
+}
+
+// The volumes of an engine that wasn't opened.
+fn taken_apart<L: LogDisk + Drop, P: PageDisk + Drop>(
+    log: WalLog<L>,
+    locks: Vec<Part<L, P>>,
+    xact: Vec<P>,
+    subtrans: Vec<P>,
+) -> NewVolumes<L, P> {
+    let (_, xact, subtrans) = take_apart(locks, xact, subtrans);
+    NewVolumes {
+        log: log.into_disk(),
+        xact,
+        subtrans,
+    }
+}
+
+// A new cluster's parts, of which the life isn't told yet.
+struct Built<L: LogDisk, P: PageDisk> {
+    cluster: Cluster,
+    locks: Vec<Part<L, P>>,
+}
+
+// What the life starts from.
+fn life_note<L: LogDisk, P: PageDisk>(built: &Built<L, P>) -> Note<Start>
+    ensures { result.value ≡ new_life built.now.cluster built.now.locks.items }
+{
+    Note::by(built)
+}
+
+// The parts of an engine whose log is begun.
+fn gather<L: LogDisk, P: PageDisk>(
+    cluster: Cluster,
+    log: WalLog<L>,
+    locks: Vec<Part<L, P>>,
+) -> Parts<L, P>
+    requires cluster { IsCluster cluster }
+    requires log { IsBegunLog cluster log }
+    requires count { length locks.items ≡ 2 + 4 * cluster.banks }
+    requires room { 3 + 4 * cluster.banks ≤ vec_capacity locks }
+    requires stand { AreNew cluster 1 locks.items }
+    ensures cluster { result.cluster ≡ cluster }
+    ensures parts { AreParts result }
+    ensures start { result.start.value ≡ new_life cluster result.locks.items }
+{
+    let mut locks = locks;
+    let inserted = locks.insert(0, Part::Log(log));
+    let Ok(()) = inserted else { unreachable!() };
+    let built = Built { cluster, locks };
+    let start = life_note(&built);
+    let Built { cluster, locks } = built;
+    Parts {
+        cluster,
+        locks,
+        start,
+    }
+}
+
+/// Makes the parts of a new cluster over volumes of which the log's has no record (`BootStrapXLOG` of `xlog.c`,
+/// `BootStrapCLOG` of `clog.c`, `BootStrapSUBTRANS` of `subtrans.c`). All pages of the page volumes are removed. The
+/// log's first record, which is on disk then, is a checkpoint of the base. There is a volume for each bank of both
+/// stores.
+///
+/// The parts stand for lists without entries, in a life that begins with these volumes' counts of faults. After an
+/// error the volumes come back, in the order of their banks; pages may be removed then, and the checkpoint written.
+pub fn open_new<L: LogDisk + Drop, P: PageDisk + Drop>(
+    alloc: Global,
+    volumes: NewVolumes<L, P>,
+    cluster: Cluster,
+) -> Result<Parts<L, P>, (NewVolumes<L, P>, OpenRefusal)>
+    requires cluster { IsCluster cluster }
+    requires volumes { (length volumes.xact.items ≡ cluster.banks) × (length volumes.subtrans.items ≡ cluster.banks) }
+    ensures cluster { IfOk result (λ parts. parts.cluster ≡ cluster) }
+    ensures parts { IfOk result (λ parts. AreParts parts) }
+    ensures start { IfOk result (λ parts. parts.start.value ≡ new_life cluster parts.locks.items) }
+{
+    let NewVolumes {
+        log,
+        mut xact,
+        mut subtrans,
+    } = volumes;
+    let mut log = match start_log(alloc, log) {
+        Ok(log) => log,
+        Err((log, refusal)) => {
+            return Err((
+                NewVolumes {
+                    log,
+                    xact,
+                    subtrans,
+                },
+                refusal,
+            ));
+        }
+    };
+    let mut locks = match first_locks(alloc, &cluster) {
+        Ok(locks) => locks,
+        Err(refusal) => {
+            return Err((
+                NewVolumes {
+                    log: log.into_disk(),
+                    xact,
+                    subtrans,
+                },
+                refusal,
+            ));
+        }
+    };
+    if let Err(refusal) = add_banks(alloc, &mut locks, &mut xact, &mut subtrans, &cluster) {
+        return Err((taken_apart(log, locks, xact, subtrans), refusal));
+    }
+    if let Err(refusal) = begin_log(&mut log, &cluster) {
+        return Err((taken_apart(log, locks, xact, subtrans), refusal));
+    }
+    Ok(gather(cluster, log, locks))
+}

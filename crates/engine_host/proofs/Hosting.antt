@@ -5,7 +5,7 @@ use Rattle.std.proofs.lemmas.Bool.Decides.{eqb_tells, nat_tests}
 use Rattle.std.proofs.lemmas.List.{get_or-set_other, length-replicate}
 use Rattle.std.proofs.Math.Bool.{or-true}
 use Rattle.std.specs.List.{slice_get}
-use Rattle.notes.specs.Lists.{at}
+use Rattle.notes.specs.Lists.{at, own}
 use Rattle.hall.specs.declared.view.View.{View}
 use Rattle.hall.specs.declared.writer.Writer.TheVariants.{Lock}
 use Rattle.hall.specs.Calls.{ShownBy}
@@ -19,7 +19,9 @@ use Rattle.tx_events.proofs.IdOrder.{before_below, next_least, next_of_before}
 use Rattle.tx_events.proofs.Membership.{Has, contains_has, has_contains}
 use Rattle.tx_core.specs.declared.entry.Entry.{Entry}
 use Rattle.tx_core.specs.declared.entry.Start.{Start}
+use Rattle.tx_core.specs.Entries.{session_of}
 use Rattle.tx_core.specs.Locks.{first_request, oldest_word, xmin_word}
+use Rattle.tx_core.proofs.Opening.{opens}
 use Rattle.session_levels.specs.Stands.{IsFresh}
 use Rattle.engine_parts.specs.declared.session.Session.{Session}
 use Rattle.engine_parts.specs.declared.session.Stage.TheVariants as stages
@@ -143,9 +145,11 @@ module _ {S E : Type 0} where
 -- what a pass knows that was split off from one that has seen nothing
 pub new_knows : (start : Start) (v w : View Start Entry) (number : ℕ) (s : Session) → IsBase start.base → ((place : ℕ) → at v.seen place ≡ []) → w ≡ given (asking number v) → number < start.sessions → 3 + 4 * start.banks ≤ length w.seen
     → IsFresh s.levels → s.stage ≡ stages.Clear → s.unlinked ≡ None → IsNew start w number s
-new_knows start v w number s base unseen is known wide fresh stage unlinked = record {
+new_knows start v w number s base unseen is known wide fresh stage unlinked =
+    let bare : (place : ℕ) → at w.seen place ≡ [] = λ place. ap (λ (u : View Start Entry). at u.seen place) is ∙ unseen place in record {
   base = base;
-  empty = λ place. ap (λ (u : View Start Entry). at u.seen place) is ∙ unseen place;
+  kept = opens start w.seen bare;
+  empty = λ place. ap (own session_of number) (bare place);
   name = ap (λ (u : View Start Entry). u.name) is;
   known = known;
   free = ap (λ (u : View Start Entry). u.stage) is;

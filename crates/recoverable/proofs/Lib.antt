@@ -16,6 +16,7 @@ pub mod Opened
 pub mod Whole
 pub mod LogBegins
 pub mod WorkedLife
+pub mod WorkedRestored
 pub mod LogSteps
 pub mod WorkedBank
 pub mod NewBegins

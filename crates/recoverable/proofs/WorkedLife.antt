@@ -157,7 +157,7 @@ one_code zero (suc (suc (suc (suc p)))) e = absurd (not_commit (state_in (page_b
 code_of_3 : (x : ℕ) → IsCommitCode (code_at states x) → low_half x ≡ 3
 code_of_3 x e = let at = one_code (xact_page_of x) (xact_place_of x) e in let page = at.0 in let place = at.1 in omega arith
 
-xact_fits : XactFits 1 0 log 3 states
+pub xact_fits : XactFits 1 0 log 3 states
 xact_fits = record {
   committed = λ x among old on. ⊎_elim (λ (e : 3 ≡ x). subst (λ z. code_at states z ≡ 1) e refl) (λ none. absurd none) (contains_has (3 ∷ []) x among);
   no_other = record {
@@ -173,7 +173,7 @@ offset_bytes (suc (suc zero)) lt = refl
 offset_bytes (suc (suc (suc zero))) lt = refl
 offset_bytes (suc (suc (suc (suc i)))) lt = absurd (omega arith)
 
-offsets_fit : OffsetsFit 1 0 log 3 offsets
+pub offsets_fit : OffsetsFit 1 0 log 3 offsets
 offsets_fit = record {
   recorded = λ m x ms among old on i lt. let e = only m x ms among in subst (λ z. offset_byte offsets z i ≡ byte_of x i) e.0 (subst (λ z. offset_byte offsets 1 i ≡ byte_of z i) e.1 (offset_bytes i lt));
   no_other = λ m full old below never on. absurd (never 1 members (has_contains (records.Multi 1 1 members ∷ []) (records.Multi m 1 members) (inl (ap (λ z. records.Multi z 1 members) (let z : 1 ≡ m = omega arith in z)))));
@@ -204,7 +204,7 @@ tails : ImageHasZeroTails (slots 3)
 tails zero i small le = past (0 ∷ 3 ∷ 1 ∷ 0 ∷ 0 ∷ 0 ∷ 0 ∷ 0 ∷ 3 ∷ 0 ∷ 0 ∷ 0 ∷ 4 ∷ []) 8179 i (omega arith)
 tails (suc q) i small le = no_byte i
 
-members_fit : MembersFit 1 0 log 3 (slots 3)
+pub members_fit : MembersFit 1 0 log 3 (slots 3)
 members_fit = record {
   recorded = λ m x k ms member among old here on i lt.
       let e = only m x ms among in

@@ -9,9 +9,9 @@ use Rattle.tx_events.specs.declared.multi.Mode.TheVariants.{ForUpd, Sh}
 use Rattle.tx_events.specs.declared.record.Counters.{Counters}
 use Rattle.tx_events.specs.declared.record.Rec.{Rec}
 use Rattle.tx_events.specs.declared.record.Rec.TheVariants as records
-use Rattle.recoverable.specs.Fit.{KeptLog, XactFits}
+use Rattle.recoverable.specs.Fit.{KeptLog, XactFits, base_at}
 use Rattle.recoverable.specs.FitMultis.{MembersFit, OffsetsFit}
-use Rattle.recoverable.specs.Volumes.{ImageFits, Left, ListFits, LogFits}
+use Rattle.recoverable.specs.Volumes.{ImageFits, KeepsUpTo, Left, ListFits, LogFits, Restored, checkpoint_of}
 
 -- ---- the log
 
@@ -87,3 +87,18 @@ pub record AreRefused : Type 0 where
   pub lost_offset : OffsetsFit 1 0 log 3 (page_with []) → ⊥
   pub torn_mode : MembersFit 1 0 log 3 (slots 2) → ⊥
   pub open_gate : LogFits log 3 (log_volume 1) → ⊥
+
+-- ---- what a recovery leaves
+
+-- It found the records below 4 and wrote a checkpoint behind them: so the commit of 4 is none.
+abbrev pub later : KeptLog
+later = record {
+  base = base_at log 3;
+  first = 3;
+  recs = records.Checkpoint 3 counters_at_3 ∷ records.Checkpoint 4 counters_at_3 ∷ [];
+  flushed = 5;
+}
+
+pub record IsRestored : Type 0 where
+  pub keeps : KeepsUpTo log later 4 (checkpoint_of 4 (base_at log 4))
+  pub restored : Restored 1 later 4 counters_at_3 left

@@ -3,7 +3,7 @@ ghost use Rattle.recoverable.specs.Stored.{OffsetBytesShow, MemberBytesShow};
 ghost use Rattle.recoverable.specs.Volumes.{RecoverySettles, RefusalKeeps};
 ghost use Rattle.recoverable.specs.Whole.{ImageFitsLaw, LogBegins, NewBegins, NewLogBegins, VolumesFitLaw};
 ghost use Rattle.recoverable.specs.LogSteps.{LogGoesOn};
-ghost use Rattle.recoverable.specs.WorkedLife.{AreRefused, IsWorked};
+ghost use Rattle.recoverable.specs.WorkedLife.{AreRefused, IsRestored, IsWorked};
 ghost use Rattle.recoverable.specs.WorkedBank.{WorkedBank};
 
 use disk_core::{LogDisk, PageDisk};
@@ -54,8 +54,8 @@ pub fn bytes_show()
     ensures members { MemberBytesShow }
 {}
 
-/// Where the invariant holds and the life began clean and was short, what a crash left of all volumes fits, if the log's
-/// image opens to its list and each bank's image shows its own, all of the same lists.
+/// Where the invariant holds and the life began clean and was short, what a crash left of all volumes fits, if the
+/// log's image opens to its list and each bank's image shows its own, all of the same lists.
 pub fn image_fits()
     ensures { ImageFitsLaw }
 {}
@@ -77,8 +77,8 @@ pub fn log_begins()
     ensures { LogBegins }
 {}
 
-/// A recovery that answered Ok is settled: any later one answers the same base. Behind one that answered an error, a later
-/// one answers what this one might have answered.
+/// A recovery that answered Ok is settled: any later one answers the same base. Behind one that answered an error, a
+/// later one answers what this one might have answered.
 pub fn recoveries_settle()
     ensures answered { RecoverySettles }
     ensures refused { RefusalKeeps }
@@ -89,10 +89,11 @@ pub fn log_goes_on()
     ensures { LogGoesOn }
 {}
 
-/// A worked life: what a crash left of a small log and its pages fits, and wrong volumes don't; and which images of its
-/// bank of pg_xact follow the bank's list, before and behind a sync.
+/// A worked life: what a crash left of a small log and its pages fits, and wrong volumes don't; a recovery may leave
+/// these pages; and which images of its bank of pg_xact follow the bank's list, before and behind a sync.
 pub fn worked_life()
     ensures fits { IsWorked }
     ensures wrong { AreRefused }
+    ensures restored { IsRestored }
     ensures bank { WorkedBank }
 {}

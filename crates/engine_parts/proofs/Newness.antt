@@ -42,6 +42,7 @@ new_may_call start v n s w =
         free = w.free;
         at = record {
           base = w.base;
+          before = w.before;
           kept = opens start v.seen w.empty;
           name = w.name;
           known = w.known;

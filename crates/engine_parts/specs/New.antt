@@ -8,11 +8,12 @@ use Rattle.session_levels.specs.Stands.{IsFresh}
 use Rattle.engine_parts.specs.declared.session.Session.{Session}
 use Rattle.engine_parts.specs.declared.session.Stage.TheVariants as stages
 use Rattle.engine_parts.specs.Holds.{Knowledge}
-use Rattle.engine_parts.specs.Sessions.{MayCall}
+use Rattle.engine_parts.specs.Sessions.{AreGivenBefore, MayCall}
 
 -- nothing was done yet, at any lock or by the session
 pub record IsNew (start : Start) (v : Knowledge) (n : ℕ) (s : Session) : Type 0 where
   pub base : IsBase start.base
+  pub before : AreGivenBefore start
   pub empty : (place : ℕ) → at v.seen place ≡ []
   pub name : v.name ≡ n
   pub known : n < start.sessions

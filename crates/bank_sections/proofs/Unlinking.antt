@@ -40,6 +40,7 @@ call_linked start v n s u m is done =
         free = m.ready.free;
         at = record {
           base = a.base;
+          before = a.before;
           kept = a.kept;
           name = a.name;
           known = a.known;

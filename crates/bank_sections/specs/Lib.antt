@@ -2,4 +2,5 @@ pub mod Refusals
 pub mod Sections
 pub mod Reads
 pub mod Sets
+pub mod Faults
 pub mod Parents

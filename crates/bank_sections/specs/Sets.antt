@@ -21,7 +21,8 @@ pub record MaySet (start : Start) (seen : List (List Entry)) (n bank : ℕ) (ids
   pub logged : (id : ℕ) → Contains ids id → RecordOf start seen n id state
   pub tree : (id : ℕ) → Contains ids id → TreeOf start seen n id state
   pub unrecorded : (id : ℕ) → Contains ids id → AskUnrecorded seen n n id state
-  pub only : (lists : List (List Entry)) → EngineInvariant start lists → Knows session_of n seen lists → IsOnly start lists bank ids state
+  pub only : (lists : List (List Entry)) → EngineInvariant start lists → Knows session_of n seen lists
+      → IsOnly start lists bank ids state
 
 -- between two moments the session asked for no other state than this one of these ids
 abbrev pub AsksOnly : ℕ → List ℕ → State → List (List Entry) → List (List Entry) → Type 0

@@ -3,7 +3,8 @@ ghost use Rattle.std.specs.Prelude.{◌≡◌, ℕ, ◌+◌, ◌*◌, ◌≤◌,
 ghost use Rattle.hall.specs.Calls.{view, IsOf, start_of};
 ghost use Rattle.engine_parts.specs.Sessions.{MayCall, by_at};
 ghost use Rattle.engine_parts.specs.Steps.{WentOn};
-ghost use Rattle.bank_sections.specs.Parents.{IsParentFault, linked};
+ghost use Rattle.bank_sections.specs.Faults.{IsSubtransFault};
+ghost use Rattle.bank_sections.specs.Parents.{linked};
 
 use crate::parents::link_parent;
 use crate::stalling::stall;
@@ -33,7 +34,7 @@ pub fn record_parent<R: Wait, L: LogDisk, P: PageDisk>(
     ensures may { MayCall (start_of hall.now) (view caller.new.pass) caller.new.number caller.new.session }
     ensures went { WentOn caller.old.number [] (view caller.old.pass).seen (view caller.new.pass).seen }
     ensures recorded { MatchResult result (λ _. caller.new.session ≡ linked caller.old.session)
-        (λ refusal. (caller.new.session ≡ caller.old.session) × IsParentFault (view caller.new.pass).seen
+        (λ refusal. (caller.new.session ≡ caller.old.session) × IsSubtransFault (view caller.new.pass).seen
         (by_at caller.old.number caller.old.session.levels.commands) refusal) }
     ensures number { caller.new.number ≡ caller.old.number }
 {

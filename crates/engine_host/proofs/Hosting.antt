@@ -27,6 +27,7 @@ use Rattle.engine_parts.specs.declared.session.Session.{Session}
 use Rattle.engine_parts.specs.declared.session.Stage.TheVariants as stages
 use Rattle.engine_parts.specs.Law.{number_of_word, writer_of}
 use Rattle.engine_parts.specs.New.{IsNew}
+use Rattle.engine_parts.specs.Sessions.{AreGivenBefore}
 use Rattle.engine_host.specs.declared.cluster.Cluster.{Cluster}
 use Rattle.engine_host.specs.Hosts.{without, words_of}
 
@@ -143,11 +144,12 @@ module _ {S E : Type 0} where
 -- ---- sessions let in
 
 -- what a pass knows that was split off from one that has seen nothing
-pub new_knows : (start : Start) (v w : View Start Entry) (number : ℕ) (s : Session) → IsBase start.base → ((place : ℕ) → at v.seen place ≡ []) → w ≡ given (asking number v) → number < start.sessions → 3 + 4 * start.banks ≤ length w.seen
+pub new_knows : (start : Start) (v w : View Start Entry) (number : ℕ) (s : Session) → IsBase start.base → AreGivenBefore start → ((place : ℕ) → at v.seen place ≡ []) → w ≡ given (asking number v) → number < start.sessions → 3 + 4 * start.banks ≤ length w.seen
     → IsFresh s.levels → s.stage ≡ stages.Clear → s.unlinked ≡ None → IsNew start w number s
-new_knows start v w number s base unseen is known wide fresh stage unlinked =
+new_knows start v w number s base earlier unseen is known wide fresh stage unlinked =
     let bare : (place : ℕ) → at w.seen place ≡ [] = λ place. ap (λ (u : View Start Entry). at u.seen place) is ∙ unseen place in record {
   base = base;
+  before = earlier;
   kept = opens start w.seen bare;
   empty = λ place. ap (own session_of number) (bare place);
   name = ap (λ (u : View Start Entry). u.name) is;

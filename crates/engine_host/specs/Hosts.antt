@@ -12,6 +12,7 @@ use Rattle.hall.specs.declared.view.Stage.TheVariants.{Free}
 use Rattle.tx_core.specs.declared.entry.Entry.{Entry}
 use Rattle.tx_core.specs.declared.entry.Start.{Start}
 use Rattle.engine_parts.specs.declared.part.Part.{Part}
+use Rattle.engine_parts.specs.Sessions.{AreGivenBefore}
 use Rattle.engine_host.specs.declared.cluster.Cluster.{Cluster}
 use Rattle.engine_host.specs.declared.host.Host.{Host}
 use Rattle.engine_host.specs.Opening.{IsCluster}
@@ -52,4 +53,5 @@ module _ {H L P : Type 0} {l : logs.Ghosts L} {p : disks.Ghosts P} where
     pub banks : (start_of hall).banks ≡ host.cluster.banks
     pub sessions : (start_of hall).sessions ≡ host.cluster.sessions
     pub base : (start_of hall).base ≡ host.cluster.base
+    pub before : AreGivenBefore (start_of hall)
     pub passes : passes_of hall ≡ host.cluster.sessions + 1

@@ -14,6 +14,7 @@ use Rattle.tx_core.specs.Locks.{log_lock, subtrans_lock, xact_lock}
 use Rattle.engine_parts.specs.declared.part.Part.{Part}
 use Rattle.engine_parts.specs.declared.part.Part.TheVariants as parts
 use Rattle.engine_parts.specs.Parts.{IsLogOf, IsSubtransOf, IsXactOf, PartStands}
+use Rattle.engine_parts.specs.Sessions.{AreGivenBefore}
 use Rattle.engine_host.specs.declared.cluster.Cluster.{Cluster}
 use Rattle.engine_host.specs.declared.cluster.Parts.{Parts}
 
@@ -96,6 +97,7 @@ module _ {L P : Type 0} {l : logs.Ghosts L} {p : disks.Ghosts P} where
     pub banks : parts.start.value.banks ≡ parts.cluster.banks
     pub sessions : parts.start.value.sessions ≡ parts.cluster.sessions
     pub base : parts.start.value.base ≡ parts.cluster.base
+    pub before : AreGivenBefore parts.start.value
     pub count : length parts.locks.items ≡ 3 + 4 * parts.cluster.banks
     pub stand : (lock : ℕ) (part : Part L P l p) → slice_get parts.locks.items lock ≡ Some part
         → PartStands parts.start.value lock part []

@@ -88,5 +88,5 @@ answer_grows tells start lists more r r' by s stage command (replies.Refused ref
 answer_grows tells start lists more r r' by s stage command (replies.Refused refusals.AbortPending) from to within g later a = a
 answer_grows tells start lists more r r' by s stage command (replies.Refused refusals.UndoPending) from to within g later a = a
 answer_grows tells start lists more r r' by s stage command (replies.Seen verdict) from to within g later a =
-    λ t few before. lawful_grows start lists more r r' by s command (replies.Seen verdict) from to within g later (a t (few_before lists more g few) before)
+    λ t few. lawful_grows start lists more r r' by s command (replies.Seen verdict) from to within g later (a t (few_before lists more g few))
 answer_grows tells start lists more r r' by s stage command reply from to within g later a = lawful_grows start lists more r r' by s command reply from to within g later a

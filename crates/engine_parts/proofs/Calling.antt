@@ -20,7 +20,7 @@ use Rattle.engine_parts.specs.declared.session.Caller.{Caller}
 use Rattle.engine_parts.specs.declared.session.Session.{Session}
 use Rattle.engine_parts.specs.declared.session.Stage.{Stage}
 use Rattle.engine_parts.specs.Answers.{Acted, MayAnswer}
-use Rattle.engine_parts.specs.Calls.{IsCounted, MayRun, Ran, next_command}
+use Rattle.engine_parts.specs.Calls.{IsCounted, MayRun, MayStep, Ran, next_command}
 use Rattle.engine_parts.specs.Holds.{Knowledge}
 use Rattle.engine_parts.specs.Sessions.{MayCall, by_at, stance_of}
 use Rattle.engine_parts.specs.Stages.{pending_in}
@@ -40,7 +40,10 @@ module _ {H L P : Type 0} {l : logs.Ghosts L} {p : disks.Ghosts P} (hall : Hall 
       let t : Session = record old.session { levels = record old.session.levels { commands = next_command old } } in
       let is : u.session ≡ t = λ j. record { levels = c.levels j; stage = c.stage j; unlinked = c.unlinked j } in
       subst (λ (z : (Knowledge × ℕ) × Session). MayCall (start_of hall) z.0.0 z.0.1 z.1) (λ j. ((view (sym c.pass j), sym c.number j), sym is j))
-      (record { ready = ready_next (start_of hall) (view old.pass) old.number old.session t refl m.may.ready; stage = m.may.stage })
+      (record { ready = ready_next (start_of hall) (view old.pass) old.number old.session t refl m.step.may.ready; stage = m.step.may.stage })
+
+  pub step_counted : {banks : ℕ} (old u : Caller L P l p) → IsCounted old u → MayRun hall banks old → MayStep hall banks u
+  step_counted old u c m = record { own = own_counted old u c m.step.own; laid = m.step.laid; each = m.step.each; may = may_counted old u c m }
 
   -- what a call did behind that
   pub ran_counted : (old u new : Caller L P l p) (command : Command) (reply : Reply) → IsCounted old u → Ran hall u.session.levels.commands command reply u new → Ran hall (next_command old) command reply old new
@@ -59,7 +62,7 @@ module _ {H L P : Type 0} {l : logs.Ghosts L} {p : disks.Ghosts P} (hall : Hall 
       → MayAnswer (p.tells) (start_of hall) (view old.pass).seen (alone (history (view old.pass).seen) (history (view old.pass).seen)) (by_at old.number (next_command old)) (stance_of old.session) old.session.stage command (replies.Refused r)
       → Ran hall (next_command old) command (replies.Refused r) old u
   ran_refused old u command r c m by standing allowed = record {
-    own = own_counted old u c m.own;
+    own = own_counted old u c m.step.own;
     may = may_counted old u c m;
     acted = acted_refused (start_of hall) (view old.pass).seen (view u.pass).seen old.number (next_command old) (stance_of old.session) (stance_of u.session) old.session.stage command r (ap (λ p. (view p).seen) c.pass) (ap levels.stance_of c.levels) allowed standing;
     stage = stands_still command r old.session.stage u.session.stage by c.stage;
@@ -71,4 +74,4 @@ module _ {H L P : Type 0} {l : logs.Ghosts L} {p : disks.Ghosts P} (hall : Hall 
       → Ran hall (next_command old) command (replies.Refused r) old u
   ran_held old u command r c m pending refused =
       let h : List Event = history (view old.pass).seen in
-      ran_refused old u command r c m (is_pending old.session.stage r pending) (pending_stands old.session.stage r pending ∙ sym refused) (pending_answer (p.tells) (start_of hall) (view old.pass) old.number old.session (alone h h) command r m.may pending)
+      ran_refused old u command r c m (is_pending old.session.stage r pending) (pending_stands old.session.stage r pending ∙ sym refused) (pending_answer (p.tells) (start_of hall) (view old.pass) old.number old.session (alone h h) command r m.step.may pending)

@@ -116,6 +116,7 @@ pub at_on : (start : Start) (v w : Knowledge) (n : ℕ) (s : Session) → IsAt s
 at_on start v w n s a l k =
     let knows : Knows session_of n v.seen w.seen = subst (λ (z : ℕ). Knows session_of z v.seen w.seen) a.name l.knows in record {
       base = a.base;
+      before = a.before;
       kept = k;
       name = l.name ∙ a.name;
       known = a.known;
@@ -146,6 +147,7 @@ ready_next start v n s s' is r =
       free = r.free;
       at = record {
         base = a.base;
+        before = a.before;
         kept = a.kept;
         name = a.name;
         known = a.known;

@@ -107,6 +107,7 @@ at_left start v w n lock s s' e a inside own count l st clear unaborted filed =
       free = l.free;
       at = record {
         base = a.base;
+        before = a.before;
         kept = l.kept;
         name = l.name ∙ a.name;
         known = a.known;

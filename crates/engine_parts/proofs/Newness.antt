@@ -50,6 +50,7 @@ first_call start v n s w nothing =
         free = w.free;
         at = record {
           base = w.base;
+          before = w.before;
           kept = w.kept;
           name = w.name;
           known = w.known;
@@ -76,6 +77,7 @@ new_may_call start v n s w =
     let before : Knowledge = record v { seen = bare } in
     let is : IsNew start before n s = record {
       base = w.base;
+      before = w.before;
       kept = opens start bare none;
       empty = λ place. ap (own session_of n) (none place);
       name = w.name;

@@ -52,15 +52,10 @@ pub record IsCommitPending (lists : List (List Entry)) (by : By) (s : Stance) : 
   pub top_is : top_level s.levels ≡ Some top
   pub stands : Contains (at lists log_lock) (record { by = other; kind = kinds.Append (records.Commit top subs) })
 
--- the ids with which a life begins as committed were given before it
-abbrev pub AreGivenBefore : Start → Type 0
-AreGivenBefore start = (x : ℕ) → Contains start.committed x → (3 ≤ x) × (x < start.base.next)
-
--- A verdict is told where the volumes tell, in a life of few ids, whose first committed ones were given before it:
--- nothing is read of an id that the snapshot hides by itself.
+-- A verdict is told where the volumes tell, in a life of few ids.
 abbrev pub MayTell : Bool → Start → List (List Entry) → RoundSpan → By → Stance → Command → Reply → Type 0
 MayTell tells start lists span by s command (replies.Seen verdict) =
-    IsTrue tells → AreFewIds lists → AreGivenBefore start
+    IsTrue tells → AreFewIds lists
     → MayReply start.base start.committed (history lists) span by s command (replies.Seen verdict)
 MayTell tells start lists span by s command reply =
     MayReply start.base start.committed (history lists) span by s command reply

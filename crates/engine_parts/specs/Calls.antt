@@ -28,14 +28,17 @@ module _ {L P : Type 0} {l : logs.Ghosts L} {p : disks.Ghosts P} where
     pub unlinked : new.session.unlinked ≡ old.session.unlinked
 
 module _ {H L P : Type 0} {l : logs.Ghosts L} {p : disks.Ghosts P} where
-  -- The session is one of this table, which has the locks of so many banks, and stands between two calls. It has run
-  -- fewer than 2^48 commands.
-  pub record MayRun (hall : Hall H (Part L P l p) Entry Start) (banks : ℕ) (caller : Caller L P l p) : Type 0 where
+  -- The session is one of this table, which has the locks of so many banks, and stands between two calls, or between
+  -- two steps of one.
+  pub record MayStep (hall : Hall H (Part L P l p) Entry Start) (banks : ℕ) (caller : Caller L P l p) : Type 0 where
     pub own : IsOf hall caller.pass
     pub laid : hall.cells ≡ 3 + 4 * (start_of hall).banks
-    pub range : (1 ≤ banks) × (banks ≤ 16)
-    pub each : banks ≡ (start_of hall).banks
+    pub each : (banks ≡ (start_of hall).banks) × (1 ≤ banks) × (banks ≤ 16)
     pub may : MayCall (start_of hall) (view caller.pass) caller.number caller.session
+
+  -- It may begin a command, as it has run fewer than 2^48.
+  pub record MayRun (hall : Hall H (Part L P l p) Entry Start) (banks : ℕ) (caller : Caller L P l p) : Type 0 where
+    pub step : MayStep hall banks caller
     pub few : caller.session.levels.commands < 2 ^ 48
 
   -- the session's command of this number ran and was answered so, and the session may call again

@@ -10,11 +10,12 @@ use Rattle.session_levels.specs.Stands.{IsFresh}
 use Rattle.engine_parts.specs.declared.session.Session.{Session}
 use Rattle.engine_parts.specs.declared.session.Stage.TheVariants as stages
 use Rattle.engine_parts.specs.Holds.{Knowledge}
-use Rattle.engine_parts.specs.Sessions.{MayCall}
+use Rattle.engine_parts.specs.Sessions.{AreGivenBefore, MayCall}
 
 -- The session has done nothing yet, and has no entry at any lock. Others may have: the lists keep the invariant.
 pub record IsNew (start : Start) (v : Knowledge) (n : ℕ) (s : Session) : Type 0 where
   pub base : IsBase start.base
+  pub before : AreGivenBefore start
   pub kept : EngineInvariant start v.seen
   pub empty : (place : ℕ) → own session_of n (at v.seen place) ≡ []
   pub name : v.name ≡ n

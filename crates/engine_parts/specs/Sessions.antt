@@ -44,11 +44,16 @@ pub record IsFiled (start : Start) (lists : List (List Entry)) (n : ℕ) (opened
   pub pending : IfSome unlinked (λ u. Contains (drop 1 opened) u.id × IsGivenBelow lists n u.parent u.id
       × IsMade start lists u.id)
 
+-- the ids with which a life begins as committed were given before it
+abbrev pub AreGivenBefore : Start → Type 0
+AreGivenBefore start = (x : ℕ) → Contains start.committed x → (3 ≤ x) × (x < start.base.next)
+
 -- The lists keep the invariant, all entries of the session are of its commands so far, its levels, ids and snapshots
 -- are those of the history, and the parents of its open ids are recorded. Between two critical sections and within
 -- one.
 pub record IsAt (start : Start) (v : Knowledge) (n : ℕ) (s : Session) : Type 0 where
   pub base : IsBase start.base
+  pub before : AreGivenBefore start
   pub kept : EngineInvariant start v.seen
   pub name : v.name ≡ n
   pub known : n < start.sessions

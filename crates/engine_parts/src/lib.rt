@@ -22,6 +22,6 @@ pub use log_hold::{enter_log, leave_log};
 pub use part::Part;
 pub use proc_hold::{enter_proc, leave_proc};
 pub use quiet::{leave_looked, leave_quiet};
-pub use session::{Caller, Session, Stage, Unlinked, command_of};
+pub use session::{Caller, Session, Stage, Unlinked, command_of, count};
 pub use subtrans_hold::{enter_subtrans, leave_subtrans};
 pub use xact_hold::{enter_xact, leave_xact};

@@ -1,5 +1,6 @@
 //! How a session of an engine stands.
-ghost use Rattle.std.specs.Prelude.{◌≡◌};
+ghost use Rattle.std.specs.Prelude.{◌≡◌, ◌^◌, ◌<◌};
+ghost use Rattle.engine_parts.specs.Calls.{IsCounted};
 ghost use Rattle.engine_parts.specs.Sessions.{by_at};
 ghost use Rattle.engine_parts.specs.Stages.{pending_in};
 
@@ -74,4 +75,12 @@ pub fn command_of<L: LogDisk, P: PageDisk>(caller: &Caller<L, P>) -> By
         session: caller.number,
         command: caller.session.levels.commands,
     }
+}
+
+/// The session goes on to its next command.
+pub fn count<L: LogDisk, P: PageDisk>(caller: &mut Caller<L, P>)
+    requires few { caller.old.session.levels.commands < 2 ^ 48 }
+    ensures { IsCounted caller.old caller.new }
+{
+    caller.session.levels.commands += 1;
 }

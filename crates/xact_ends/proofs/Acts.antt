@@ -46,10 +46,11 @@ use Rattle.engine_parts.specs.Standing.{IsLoggedFrom, LeavesStage, asks_volume, 
 use Rattle.engine_parts.specs.Steps.{GoesOn}
 use Rattle.engine_parts.proofs.Acting.{acted_nothing}
 use Rattle.engine_parts.proofs.Refusing.{first_fails, not_held, refused_events, refused_leaves}
+use Rattle.bank_sections.specs.Faults.{IsXactFault}
 use Rattle.proc_sections.proofs.Closing.{end_by}
 use Rattle.xact_ends.specs.Aborts.{Aborts}
 use Rattle.xact_ends.specs.Ends.{Commits, HasFinished, IsClosed}
-use Rattle.xact_ends.specs.Stops.{IsUnflushed, IsXactFault, Stops}
+use Rattle.xact_ends.specs.Stops.{IsUnflushed, Stops}
 
 -- ---- levels
 
@@ -324,6 +325,7 @@ module _ {H L P : Type 0} {l : logs.Ghosts L} {p : disks.Ghosts P} (hall : Hall 
           free = was.ready.free;
           at = record {
             base = a.base;
+            before = a.before;
             kept = a.kept;
             name = a.name;
             known = a.known;

@@ -22,10 +22,11 @@ use Rattle.engine_parts.specs.Sessions.{MayCall, by_at}
 use Rattle.engine_parts.specs.Stages.{IsInStage, IsLogged, IsSettling, may_be_recorded}
 use Rattle.engine_parts.specs.Steps.{GoesOn}
 use Rattle.engine_parts.proofs.Stepping.{goes_then}
+use Rattle.bank_sections.specs.Faults.{IsSubtransFault, IsXactFault}
 use Rattle.log_sections.specs.LogSections.{IsAppendRefused, IsFlushRefused, IsFlushedPast}
 use Rattle.proc_sections.specs.Endings.{HasEnded, MayEnd}
 use Rattle.xact_ends.specs.Ends.{Commits, HasFinished}
-use Rattle.xact_ends.specs.Stops.{IsSubtransFault, IsXactFault, Stops}
+use Rattle.xact_ends.specs.Stops.{Stops}
 use Rattle.xact_ends.specs.Trees.{IsSettledTo}
 
 -- ---- the lists by the stage

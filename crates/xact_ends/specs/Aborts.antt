@@ -13,7 +13,7 @@ use Rattle.engine_parts.specs.declared.session.Stage.TheVariants as stages
 use Rattle.engine_parts.specs.Sessions.{by_at}
 use Rattle.engine_parts.specs.Steps.{GoesOn}
 use Rattle.xact_ends.specs.Ends.{HasFinished}
-use Rattle.xact_ends.specs.Stops.{IsXactFault}
+use Rattle.bank_sections.specs.Faults.{IsXactFault}
 
 -- the ids from the first one to before the past one lie on one page
 abbrev pub IsOnePage : List ℕ → ℕ → ℕ → Type 0

@@ -1,5 +1,5 @@
 -- What the end of a transaction leaves.
-use Rattle.std.specs.Prelude.{◌≡◌, ℕ, List, [], ◌∷◌, Result, Ok, Err, None}
+use Rattle.std.specs.Prelude.{◌≡◌, ℕ, List, [], ◌∷◌, Result, Ok, Err}
 use Rattle.tx_events.specs.declared.refusal.Refusal.{Refusal}
 use Rattle.tx_events.specs.declared.xact_end.XactEnd.{XactEnd}
 use Rattle.tx_events.specs.declared.xact_end.XactEnd.TheVariants as ends
@@ -13,7 +13,7 @@ use Rattle.engine_parts.specs.declared.session.Session.{Session}
 use Rattle.engine_parts.specs.declared.session.Stage.TheVariants as stages
 use Rattle.engine_parts.specs.Sessions.{by_at}
 use Rattle.engine_parts.specs.Steps.{GoesOn}
-use Rattle.xact_ends.specs.Stops.{IsSubtransFault, Stops}
+use Rattle.xact_ends.specs.Stops.{Stops}
 
 -- the end of the transaction is the session's only new event, and it has no level, no open id and no pending end
 pub record HasFinished (n : ℕ) (how : XactEnd) (s s' : Session) (lists more : List (List Entry)) : Type 0 where
@@ -32,12 +32,6 @@ abbrev pub Commits : Start → ℕ → Session → Session → List (List Entry)
 Commits start n s s' lists more (Ok _) = HasFinished n ends.Commit s s' lists more
 Commits start n s s' lists more (Err r) =
     GoesOn n [] lists more × (s'.levels ≡ s.levels) × Stops start more (by_at n s.levels.commands) s.stage s'.stage r
-
--- the parents of all open ids are recorded, or a volume of pg_subtrans failed
-abbrev pub LinksAll : ℕ → Session → Session → List (List Entry) → List (List Entry) → Result (Unit {0}) Refusal → Type 0
-LinksAll n s s' lists more (Ok _) = GoesOn n [] lists more × (s' ≡ record s { unlinked = None })
-LinksAll n s s' lists more (Err r) =
-    GoesOn n [] lists more × (s' ≡ s) × IsSubtransFault more (by_at n s.levels.commands) r
 
 module _ {L P : Type 0} {l : logs.Ghosts L} {p : disks.Ghosts P} where
   -- a transaction without an id is closed

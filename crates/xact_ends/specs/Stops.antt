@@ -14,16 +14,6 @@ use Rattle.engine_parts.specs.Answers.{MetFault, MetLogFault}
 use Rattle.engine_parts.specs.Stand.{IsDownAt}
 use Rattle.engine_parts.specs.Standing.{IsHeldDown, IsLoggedFrom, steps_of}
 
--- a volume of pg_xact failed in this command
-abbrev pub IsXactFault : List (List Entry) → By → Refusal → Type 0
-IsXactFault lists by (refusals.DiskFault (locks.Xact bank)) = MetFault lists (xact_lock bank) by
-IsXactFault lists by _ = ⊥
-
--- a volume of pg_subtrans failed in this command
-abbrev pub IsSubtransFault : List (List Entry) → By → Refusal → Type 0
-IsSubtransFault lists by (refusals.DiskFault (locks.Subtrans bank)) = MetFault lists (subtrans_lock bank) by
-IsSubtransFault lists by _ = ⊥
-
 -- a commit has its record on disk only behind this stage
 abbrev pub IsUnflushed : Stage → Type 0
 IsUnflushed stages.Clear = Unit {0}

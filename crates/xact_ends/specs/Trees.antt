@@ -13,7 +13,7 @@ use Rattle.engine_parts.specs.declared.session.Session.{Session}
 use Rattle.engine_parts.specs.declared.session.Stage.TheVariants as stages
 use Rattle.engine_parts.specs.Sessions.{by_at}
 use Rattle.engine_parts.specs.Steps.{GoesOn}
-use Rattle.xact_ends.specs.Stops.{IsXactFault}
+use Rattle.bank_sections.specs.Faults.{IsXactFault}
 
 -- a step of a commit sets one of these
 abbrev pub IsStepState : stored.State → Type 0

@@ -1,7 +1,8 @@
 //! An abort: its record, the states of its ids, page by page, and the end.
-ghost use Rattle.std.specs.Prelude.{◌≡◌, ℕ, ◌+◌, ◌*◌, ◌<◌, ◌≤◌, [], false, IfOk, length};
+ghost use Rattle.std.specs.Prelude.{◌≡◌, ◌+◌, ◌*◌, ◌<◌, ◌≤◌, [], false, IfOk, length};
 ghost use Rattle.hall.specs.Calls.{view, IsOf, start_of};
 ghost use Rattle.engine_parts.specs.declared.session.Stage.TheVariants as stages;
+ghost use Rattle.engine_parts.specs.Calls.{MayStep};
 ghost use Rattle.engine_parts.specs.Sessions.{MayCall};
 ghost use Rattle.engine_parts.specs.Stages.{may_be_recorded};
 ghost use Rattle.engine_parts.specs.Steps.{GoesOn};
@@ -9,8 +10,7 @@ ghost use Rattle.log_sections.specs.LogSections.{IsAbortOf};
 ghost use Rattle.xact_ends.specs.Aborts.{Aborts, IsOnePage, SetsAborted};
 
 use crate::committing::id_list;
-use crate::waiting::stall;
-use bank_sections::set_page;
+use bank_sections::{set_page, stall};
 use disk_core::{LogDisk, PageDisk};
 use engine_parts::{Caller, EngineLaw, Stage};
 use hall::Hall;
@@ -20,7 +20,7 @@ use proc_sections::end_transaction;
 use slru_bank::BankRefusal;
 use std::alloc::Global;
 use std::sync::Wait;
-use store_pages::xact_page;
+use store_pages::{bank_of, xact_page};
 use tx_core::State;
 use tx_events::{Lock, Memory, Rec, Refusal, XactEnd};
 use xid_order::FullXid;
@@ -34,22 +34,18 @@ fn set_run<R: Wait, L: LogDisk, P: PageDisk>(
     first: usize,
     past: usize,
 ) -> Result<(), Refusal>
-    requires own { IsOf hall.now caller.old.pass }
-    requires laid { hall.now.cells ≡ 3 + 4 * (start_of hall.now).banks }
-    requires banks { (banks ≡ (start_of hall.now).banks) × (1 ≤ banks) × (banks ≤ 16) }
-    requires may { MayCall (start_of hall.now) (view caller.old.pass) caller.old.number caller.old.session }
+    requires step { MayStep hall.now banks caller.old }
     requires stage { caller.old.session.stage ≡ stages.Aborting }
     requires some { first < past }
     requires among { past ≤ length caller.old.session.levels.open_ids.items }
     requires page { IsOnePage caller.old.session.levels.open_ids.items first past }
-    ensures own { IsOf hall.now caller.new.pass }
-    ensures may { MayCall (start_of hall.now) (view caller.new.pass) caller.new.number caller.new.session }
+    ensures step { MayStep hall.now banks caller.new }
     ensures sets { SetsAborted (start_of hall.now) caller.old.number caller.old.session caller.new.session first past
         (view caller.old.pass).seen (view caller.new.pass).seen result }
     ensures number { caller.new.number ≡ caller.old.number }
 {
     let id = caller.session.levels.open_ids[first];
-    let bank = xact_page(id.low()) % banks;
+    let bank = bank_of(xact_page(id.low()), banks);
     match set_page(rt, hall, caller, bank, first, past, State::Aborted) {
         Ok(()) => Ok(()),
         Err(BankRefusal::DiskFault) => Err(Refusal::DiskFault {
@@ -69,13 +65,9 @@ fn set_aborted<R: Wait, L: LogDisk, P: PageDisk>(
     caller: &mut Caller<L, P>,
     banks: u32,
 ) -> Result<(), Refusal>
-    requires own { IsOf hall.now caller.old.pass }
-    requires laid { hall.now.cells ≡ 3 + 4 * (start_of hall.now).banks }
-    requires banks { (banks ≡ (start_of hall.now).banks) × (1 ≤ banks) × (banks ≤ 16) }
-    requires may { MayCall (start_of hall.now) (view caller.old.pass) caller.old.number caller.old.session }
+    requires step { MayStep hall.now banks caller.old }
     requires stage { caller.old.session.stage ≡ stages.Aborting }
-    ensures own { IsOf hall.now caller.new.pass }
-    ensures may { MayCall (start_of hall.now) (view caller.new.pass) caller.new.number caller.new.session }
+    ensures step { MayStep hall.now banks caller.new }
     ensures sets { SetsAborted (start_of hall.now) caller.old.number caller.old.session caller.new.session
         0 (length caller.old.session.levels.open_ids.items) (view caller.old.pass).seen (view caller.new.pass).seen
         result }
@@ -158,17 +150,13 @@ pub(crate) fn abort_named<R: Wait, L: LogDisk, P: PageDisk>(
     rt: &R,
     hall: &Hall<EngineLaw<L, P>>,
     caller: &mut Caller<L, P>,
-    alloc: Global,
     banks: u32,
+    alloc: Global,
 ) -> Result<(), Refusal>
-    requires own { IsOf hall.now caller.old.pass }
-    requires laid { hall.now.cells ≡ 3 + 4 * (start_of hall.now).banks }
-    requires banks { (banks ≡ (start_of hall.now).banks) × (1 ≤ banks) × (banks ≤ 16) }
-    requires may { MayCall (start_of hall.now) (view caller.old.pass) caller.old.number caller.old.session }
+    requires step { MayStep hall.now banks caller.old }
     requires stage { may_be_recorded caller.old.session.stage ≡ false }
     requires some { 1 ≤ length caller.old.session.levels.open_ids.items }
-    ensures own { IsOf hall.now caller.new.pass }
-    ensures may { MayCall (start_of hall.now) (view caller.new.pass) caller.new.number caller.new.session }
+    ensures step { MayStep hall.now banks caller.new }
     ensures aborts { Aborts caller.old.number caller.old.session caller.new.session
         (view caller.old.pass).seen (view caller.new.pass).seen result }
     ensures number { caller.new.number ≡ caller.old.number }

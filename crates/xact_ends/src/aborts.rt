@@ -1,18 +1,16 @@
 //! The call that aborts.
-ghost use Rattle.std.specs.Prelude.{◌≡◌, ℕ, ◌+◌, ◌*◌, ◌≤◌, false, length};
-ghost use Rattle.hall.specs.Calls.{view, IsOf, start_of};
+ghost use Rattle.std.specs.Prelude.{◌≡◌, ◌≤◌, false, length};
 ghost use Rattle.tx_model.specs.declared.command.Command.TheVariants as commands;
 ghost use Rattle.tx_model.specs.declared.reply.Reply.TheVariants as replies;
 ghost use Rattle.engine_parts.specs.Answers.{reply_of};
-ghost use Rattle.engine_parts.specs.Calls.{MayRun, Ran, next_command};
-ghost use Rattle.engine_parts.specs.Sessions.{MayCall, stance_of};
+ghost use Rattle.engine_parts.specs.Calls.{MayRun, MayStep, Ran, next_command};
+ghost use Rattle.engine_parts.specs.Sessions.{stance_of};
 ghost use Rattle.engine_parts.specs.Stages.{may_be_recorded};
 
 use crate::aborting::abort_named;
-use crate::counting::count;
 use crate::idless::close_idless;
 use disk_core::{LogDisk, PageDisk};
-use engine_parts::{Caller, EngineLaw, Stage};
+use engine_parts::{Caller, EngineLaw, Stage, count};
 use hall::Hall;
 use session_levels::depth;
 use std::alloc::Global;
@@ -34,13 +32,10 @@ fn abort_open<R: Wait, L: LogDisk, P: PageDisk>(
     rt: &R,
     hall: &Hall<EngineLaw<L, P>>,
     caller: &mut Caller<L, P>,
-    alloc: Global,
     banks: u32,
+    alloc: Global,
 ) -> Result<(), Refusal>
-    requires own { IsOf hall.now caller.old.pass }
-    requires laid { hall.now.cells ≡ 3 + 4 * (start_of hall.now).banks }
-    requires banks { (banks ≡ (start_of hall.now).banks) × (1 ≤ banks) × (banks ≤ 16) }
-    requires may { MayCall (start_of hall.now) (view caller.old.pass) caller.old.number caller.old.session }
+    requires step { MayStep hall.now banks caller.old }
     requires stage { may_be_recorded caller.old.session.stage ≡ false }
     requires levels { 1 ≤ length (stance_of caller.old.session).levels }
     ensures { Ran hall.now caller.old.session.levels.commands commands.Abort (reply_of (λ _. replies.Done) result)
@@ -50,22 +45,24 @@ fn abort_open<R: Wait, L: LogDisk, P: PageDisk>(
         close_idless(caller);
         return Ok(());
     }
-    abort_named(rt, hall, caller, alloc, banks)
+    abort_named(rt, hall, caller, banks, alloc)
 }
 
 /// Aborts the session's transaction (`AbortTransaction` of `src/backend/access/transam/xact.c`): its record is
 /// appended, unflushed, where there is memory for it and the log takes it; the states of all open ids are set aborted,
 /// page by page; and then the transaction counts as ended. An abort that a fault stopped sets all states anew and
-/// appends no second record, an undo that was begun ends with it, and one without an id ends at once.
+/// appends no second record, an undo that was begun ends with it, and one without an id ends at once. `banks` is the
+/// number of banks of each store, 1 to 16; the record's list is of `alloc`.
 ///
-/// Refused, in this order, with `NoTransaction` where no transaction is open, with `CommitPending` where its commit
-/// record may stand, and with `DiskFault` of pg_xact. The session has run fewer than 2^48 commands.
+/// Refused, in this order, with `NoTransaction` where no transaction is open, and with `CommitPending` where its commit
+/// record may stand. Or with `DiskFault` of a bank of pg_xact: then the abort is pending. The session has run fewer
+/// than 2^48 commands.
 pub fn abort<R: Wait, L: LogDisk, P: PageDisk>(
     rt: &R,
     hall: &Hall<EngineLaw<L, P>>,
     caller: &mut Caller<L, P>,
-    alloc: Global,
     banks: u32,
+    alloc: Global,
 ) -> Result<(), Refusal>
     requires { MayRun hall.now banks caller.old }
     ensures { Ran hall.now (next_command caller.old) commands.Abort (reply_of (λ _. replies.Done) result)
@@ -78,5 +75,5 @@ pub fn abort<R: Wait, L: LogDisk, P: PageDisk>(
     if is_recorded(caller.session.stage) {
         return Err(Refusal::CommitPending);
     }
-    abort_open(rt, hall, caller, alloc, banks)
+    abort_open(rt, hall, caller, banks, alloc)
 }

@@ -1,18 +1,16 @@
 //! The call that commits.
-ghost use Rattle.std.specs.Prelude.{◌≡◌, ℕ, ◌+◌, ◌*◌, ◌≤◌, length};
-ghost use Rattle.hall.specs.Calls.{view, IsOf, start_of};
+ghost use Rattle.std.specs.Prelude.{◌≡◌, ◌≤◌, length};
 ghost use Rattle.tx_model.specs.declared.command.Command.TheVariants as commands;
 ghost use Rattle.tx_model.specs.declared.reply.Reply.TheVariants as replies;
 ghost use Rattle.engine_parts.specs.declared.session.Stage.TheVariants as stages;
 ghost use Rattle.engine_parts.specs.Answers.{reply_of};
-ghost use Rattle.engine_parts.specs.Calls.{MayRun, Ran, next_command};
-ghost use Rattle.engine_parts.specs.Sessions.{MayCall, stance_of};
+ghost use Rattle.engine_parts.specs.Calls.{MayRun, MayStep, Ran, next_command};
+ghost use Rattle.engine_parts.specs.Sessions.{stance_of};
 
 use crate::committing::{finish, flush_and_finish, start_commit};
-use crate::counting::count;
 use crate::idless::close_idless;
 use disk_core::{LogDisk, PageDisk};
-use engine_parts::{Caller, EngineLaw, Stage};
+use engine_parts::{Caller, EngineLaw, Stage, count};
 use hall::Hall;
 use session_levels::depth;
 use std::alloc::Global;
@@ -24,13 +22,10 @@ fn commit_anew<R: Wait, L: LogDisk, P: PageDisk>(
     rt: &R,
     hall: &Hall<EngineLaw<L, P>>,
     caller: &mut Caller<L, P>,
-    alloc: Global,
     banks: u32,
+    alloc: Global,
 ) -> Result<(), Refusal>
-    requires own { IsOf hall.now caller.old.pass }
-    requires laid { hall.now.cells ≡ 3 + 4 * (start_of hall.now).banks }
-    requires banks { (banks ≡ (start_of hall.now).banks) × (1 ≤ banks) × (banks ≤ 16) }
-    requires may { MayCall (start_of hall.now) (view caller.old.pass) caller.old.number caller.old.session }
+    requires step { MayStep hall.now banks caller.old }
     requires stage { caller.old.session.stage ≡ stages.Clear }
     requires levels { 1 ≤ length (stance_of caller.old.session).levels }
     ensures { Ran hall.now caller.old.session.levels.commands commands.Commit (reply_of (λ _. replies.Done) result)
@@ -40,24 +35,24 @@ fn commit_anew<R: Wait, L: LogDisk, P: PageDisk>(
         close_idless(caller);
         return Ok(());
     }
-    start_commit(rt, hall, caller, alloc, banks)
+    start_commit(rt, hall, caller, banks, alloc)
 }
 
 /// Commits the session's transaction (`CommitTransaction` of `src/backend/access/transam/xact.c`): the parent that is
 /// missing is recorded, the commit record of all open ids is appended and put on disk, their states are set by the tree
 /// rule, and then the transaction counts as ended. A commit that a fault stopped goes on behind what is done, and one
-/// without an id ends at once.
+/// without an id ends at once. `banks` is the number of banks of each store, 1 to 16; the record's list is of `alloc`.
 ///
 /// Refused, in this order, with `NoTransaction` where no transaction is open, and with `AbortPending` or `UndoPending`
-/// where another end was begun. Then, before the record is appended, with `DiskFault` of pg_subtrans, `Memory`, `Full`
-/// or `LogDown`; before it is on disk with `LogFault` or `LogDown`; and behind that with `DiskFault` of pg_xact. The
-/// session has run fewer than 2^48 commands.
+/// where another end was begun. Or, before the record is appended, with `DiskFault` of a bank of pg_subtrans, `Memory`,
+/// `Full` or `LogDown`; before it is on disk with `LogFault` or `LogDown`; and behind that with `DiskFault` of a bank
+/// of pg_xact. Where its record stands, the commit is pending. The session has run fewer than 2^48 commands.
 pub fn commit<R: Wait, L: LogDisk, P: PageDisk>(
     rt: &R,
     hall: &Hall<EngineLaw<L, P>>,
     caller: &mut Caller<L, P>,
-    alloc: Global,
     banks: u32,
+    alloc: Global,
 ) -> Result<(), Refusal>
     requires { MayRun hall.now banks caller.old }
     ensures { Ran hall.now (next_command caller.old) commands.Commit (reply_of (λ _. replies.Done) result)
@@ -68,7 +63,7 @@ pub fn commit<R: Wait, L: LogDisk, P: PageDisk>(
         return Err(Refusal::NoTransaction);
     }
     match caller.session.stage {
-        Stage::Clear => commit_anew(rt, hall, caller, alloc, banks),
+        Stage::Clear => commit_anew(rt, hall, caller, banks, alloc),
         Stage::Logged { number } => flush_and_finish(rt, hall, caller, banks, number),
         Stage::Settling { steps } => finish(rt, hall, caller, banks, steps),
         Stage::Aborting => Err(Refusal::AbortPending),

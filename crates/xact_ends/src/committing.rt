@@ -1,14 +1,13 @@
 //! A commit, from each stage to its end.
-ghost use Rattle.std.specs.Prelude.{◌≡◌, ℕ, ◌+◌, ◌*◌, ◌≤◌, None, IfOk, length};
-ghost use Rattle.hall.specs.Calls.{view, IsOf, start_of};
+ghost use Rattle.std.specs.Prelude.{◌≡◌, ◌≤◌, None, IfOk, length};
+ghost use Rattle.hall.specs.Calls.{view, start_of};
 ghost use Rattle.log_sections.specs.LogSections.{IsCommitOf};
 ghost use Rattle.engine_parts.specs.declared.session.Stage.TheVariants as stages;
-ghost use Rattle.engine_parts.specs.Sessions.{MayCall};
+ghost use Rattle.engine_parts.specs.Calls.{MayStep};
 ghost use Rattle.xact_ends.specs.Ends.{Commits};
 
-use crate::linking::link_missing;
 use crate::settling::set_tree;
-use crate::waiting::stall;
+use bank_sections::{record_parent, stall};
 use disk_core::{LogDisk, PageDisk};
 use engine_parts::{Caller, EngineLaw, Stage};
 use hall::Hall;
@@ -27,13 +26,9 @@ pub(crate) fn finish<R: Wait, L: LogDisk, P: PageDisk>(
     banks: u32,
     from: u64,
 ) -> Result<(), Refusal>
-    requires own { IsOf hall.now caller.old.pass }
-    requires laid { hall.now.cells ≡ 3 + 4 * (start_of hall.now).banks }
-    requires banks { (banks ≡ (start_of hall.now).banks) × (1 ≤ banks) × (banks ≤ 16) }
-    requires may { MayCall (start_of hall.now) (view caller.old.pass) caller.old.number caller.old.session }
+    requires step { MayStep hall.now banks caller.old }
     requires stage { caller.old.session.stage ≡ stages.Settling from }
-    ensures own { IsOf hall.now caller.new.pass }
-    ensures may { MayCall (start_of hall.now) (view caller.new.pass) caller.new.number caller.new.session }
+    ensures step { MayStep hall.now banks caller.new }
     ensures commits { Commits (start_of hall.now) caller.old.number caller.old.session caller.new.session
         (view caller.old.pass).seen (view caller.new.pass).seen result }
     ensures number { caller.new.number ≡ caller.old.number }
@@ -55,13 +50,9 @@ pub(crate) fn flush_and_finish<R: Wait, L: LogDisk, P: PageDisk>(
     banks: u32,
     number: u64,
 ) -> Result<(), Refusal>
-    requires own { IsOf hall.now caller.old.pass }
-    requires laid { hall.now.cells ≡ 3 + 4 * (start_of hall.now).banks }
-    requires banks { (banks ≡ (start_of hall.now).banks) × (1 ≤ banks) × (banks ≤ 16) }
-    requires may { MayCall (start_of hall.now) (view caller.old.pass) caller.old.number caller.old.session }
+    requires step { MayStep hall.now banks caller.old }
     requires stage { caller.old.session.stage ≡ stages.Logged number }
-    ensures own { IsOf hall.now caller.new.pass }
-    ensures may { MayCall (start_of hall.now) (view caller.new.pass) caller.new.number caller.new.session }
+    ensures step { MayStep hall.now banks caller.new }
     ensures commits { Commits (start_of hall.now) caller.old.number caller.old.session caller.new.session
         (view caller.old.pass).seen (view caller.new.pass).seen result }
     ensures number { caller.new.number ≡ caller.old.number }
@@ -101,18 +92,14 @@ fn log_and_finish<R: Wait, L: LogDisk, P: PageDisk>(
     rt: &R,
     hall: &Hall<EngineLaw<L, P>>,
     caller: &mut Caller<L, P>,
-    alloc: Global,
     banks: u32,
+    alloc: Global,
 ) -> Result<(), Refusal>
-    requires own { IsOf hall.now caller.old.pass }
-    requires laid { hall.now.cells ≡ 3 + 4 * (start_of hall.now).banks }
-    requires banks { (banks ≡ (start_of hall.now).banks) × (1 ≤ banks) × (banks ≤ 16) }
-    requires may { MayCall (start_of hall.now) (view caller.old.pass) caller.old.number caller.old.session }
+    requires step { MayStep hall.now banks caller.old }
     requires stage { caller.old.session.stage ≡ stages.Clear }
     requires linked { caller.old.session.unlinked ≡ None }
     requires some { 1 ≤ length caller.old.session.levels.open_ids.items }
-    ensures own { IsOf hall.now caller.new.pass }
-    ensures may { MayCall (start_of hall.now) (view caller.new.pass) caller.new.number caller.new.session }
+    ensures step { MayStep hall.now banks caller.new }
     ensures commits { Commits (start_of hall.now) caller.old.number caller.old.session caller.new.session
         (view caller.old.pass).seen (view caller.new.pass).seen result }
     ensures number { caller.new.number ≡ caller.old.number }
@@ -138,23 +125,19 @@ pub(crate) fn start_commit<R: Wait, L: LogDisk, P: PageDisk>(
     rt: &R,
     hall: &Hall<EngineLaw<L, P>>,
     caller: &mut Caller<L, P>,
-    alloc: Global,
     banks: u32,
+    alloc: Global,
 ) -> Result<(), Refusal>
-    requires own { IsOf hall.now caller.old.pass }
-    requires laid { hall.now.cells ≡ 3 + 4 * (start_of hall.now).banks }
-    requires banks { (banks ≡ (start_of hall.now).banks) × (1 ≤ banks) × (banks ≤ 16) }
-    requires may { MayCall (start_of hall.now) (view caller.old.pass) caller.old.number caller.old.session }
+    requires step { MayStep hall.now banks caller.old }
     requires stage { caller.old.session.stage ≡ stages.Clear }
     requires some { 1 ≤ length caller.old.session.levels.open_ids.items }
-    ensures own { IsOf hall.now caller.new.pass }
-    ensures may { MayCall (start_of hall.now) (view caller.new.pass) caller.new.number caller.new.session }
+    ensures step { MayStep hall.now banks caller.new }
     ensures commits { Commits (start_of hall.now) caller.old.number caller.old.session caller.new.session
         (view caller.old.pass).seen (view caller.new.pass).seen result }
     ensures number { caller.new.number ≡ caller.old.number }
 {
-    match link_missing(rt, hall, caller, banks) {
-        Ok(()) => log_and_finish(rt, hall, caller, alloc, banks),
+    match record_parent(rt, hall, caller, banks) {
+        Ok(()) => log_and_finish(rt, hall, caller, banks, alloc),
         Err(refusal) => Err(refusal),
     }
 }

@@ -5,11 +5,8 @@ mod aborting;
 mod aborts;
 mod commits;
 mod committing;
-mod counting;
 mod idless;
-mod linking;
 mod settling;
-mod waiting;
 
 pub use aborts::abort;
 pub use commits::commit;

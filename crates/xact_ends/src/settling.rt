@@ -1,21 +1,21 @@
 //! The states of a commit are set, step by step.
-ghost use Rattle.std.specs.Prelude.{◌≡◌, ℕ, ◌+◌, ◌*◌, ◌^◌, ◌<◌, ◌≤◌, ◌∷◌, List, Some, length, slice_get};
-ghost use Rattle.hall.specs.Calls.{view, IsOf, start_of};
+ghost use Rattle.std.specs.Prelude.{◌≡◌, ℕ, ◌+◌, ◌^◌, ◌<◌, ◌≤◌, ◌∷◌, List, Some, length, slice_get};
+ghost use Rattle.hall.specs.Calls.{view, start_of};
 ghost use Rattle.pg_xact_log.specs.Plan.{plan};
 ghost use Rattle.pg_xact_log.specs.Steps.{step_first};
 ghost use Rattle.engine_parts.specs.declared.session.Stage.TheVariants as stages;
-ghost use Rattle.engine_parts.specs.Sessions.{MayCall};
+ghost use Rattle.engine_parts.specs.Calls.{MayStep};
 ghost use Rattle.engine_parts.specs.Stages.{state_of};
 ghost use Rattle.xact_ends.specs.Trees.{IsStepOf, IsStepState, SetsStep, Settles};
 
-use crate::waiting::stall;
-use bank_sections::set_page;
+use bank_sections::{set_page, stall};
 use disk_core::{LogDisk, PageDisk};
 use engine_parts::{Caller, EngineLaw, Stage};
 use hall::Hall;
 use pg_xact_log::{PlanStep, plan_step};
 use slru_bank::BankRefusal;
 use std::sync::Wait;
+use store_pages::bank_of;
 use tx_core::State;
 use tx_events::{Lock, Refusal};
 use xid_order::FullXid;
@@ -57,19 +57,15 @@ fn set_step<R: Wait, L: LogDisk, P: PageDisk>(
     k: u64,
     step: &PlanStep,
 ) -> Result<(), Refusal>
-    requires own { IsOf hall.now caller.old.pass }
-    requires laid { hall.now.cells ≡ 3 + 4 * (start_of hall.now).banks }
-    requires banks { (banks ≡ (start_of hall.now).banks) × (1 ≤ banks) × (banks ≤ 16) }
-    requires may { MayCall (start_of hall.now) (view caller.old.pass) caller.old.number caller.old.session }
+    requires step { MayStep hall.now banks caller.old }
     requires stage { caller.old.session.stage ≡ stages.Settling k }
-    requires step { IsStepOf caller.old.session.levels.open_ids.items k step.now }
-    ensures own { IsOf hall.now caller.new.pass }
-    ensures may { MayCall (start_of hall.now) (view caller.new.pass) caller.new.number caller.new.session }
+    requires planned { IsStepOf caller.old.session.levels.open_ids.items k step.now }
+    ensures step { MayStep hall.now banks caller.new }
     ensures sets { SetsStep caller.old.number k caller.old.session caller.new.session
         (view caller.old.pass).seen (view caller.new.pass).seen result }
     ensures number { caller.new.number ≡ caller.old.number }
 {
-    let bank = step.page % banks;
+    let bank = bank_of(step.page, banks);
     let first = first_of(step);
     match set_page(
         rt,
@@ -103,13 +99,9 @@ pub(crate) fn set_tree<R: Wait, L: LogDisk, P: PageDisk>(
     banks: u32,
     from: u64,
 ) -> Result<(), Refusal>
-    requires own { IsOf hall.now caller.old.pass }
-    requires laid { hall.now.cells ≡ 3 + 4 * (start_of hall.now).banks }
-    requires banks { (banks ≡ (start_of hall.now).banks) × (1 ≤ banks) × (banks ≤ 16) }
-    requires may { MayCall (start_of hall.now) (view caller.old.pass) caller.old.number caller.old.session }
+    requires step { MayStep hall.now banks caller.old }
     requires stage { caller.old.session.stage ≡ stages.Settling from }
-    ensures own { IsOf hall.now caller.new.pass }
-    ensures may { MayCall (start_of hall.now) (view caller.new.pass) caller.new.number caller.new.session }
+    ensures step { MayStep hall.now banks caller.new }
     ensures settles { Settles (start_of hall.now) caller.old.number from caller.old.session caller.new.session
         (view caller.old.pass).seen (view caller.new.pass).seen result }
     ensures number { caller.new.number ≡ caller.old.number }

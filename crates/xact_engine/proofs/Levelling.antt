@@ -126,6 +126,7 @@ call_levels start v n s s' new is count stands m =
         free = m.ready.free;
         at = record {
           base = a.base;
+          before = a.before;
           kept = a.kept;
           name = a.name;
           known = a.known;
@@ -148,7 +149,7 @@ module _ {H L P : Type 0} {l : logs.Ghosts L} {p : disks.Ghosts P} (hall : Hall 
       let start = start_of hall in
       let by = by_at old.number (next_command old) in
       let seen = (view old.pass).seen in record {
-        own = own_counted hall old u c m.own;
+        own = own_counted hall old u c m.step.own;
         may = call_levels start (view u.pass) u.number u.session (record u.session { levels = t }) t refl r.count (λ st. r.stands start.base (history (view u.pass).seen) u.number u.session.levels.commands st) (may_counted hall old u c m);
         acted = acted_levels (p.tells) start seen (view u.pass).seen start.base old.number (next_command old) (stance_of old.session) (levels.stance_of t) old.session.stage command reply on free (ap (λ q. (view q).seen) c.pass)
             (subst (λ (z : Stance). Acts start.base by z (levels.stance_of t) command reply [] []) (ap levels.stance_of c.levels) (r.acts start.base [] by));

@@ -7,9 +7,8 @@ ghost use Rattle.engine_parts.specs.Answers.{reply_of};
 ghost use Rattle.engine_parts.specs.Calls.{MayRun, Ran, next_command};
 ghost use Rattle.xact_engine.specs.Levels.{IsDoneOrNot};
 
-use crate::counting::count;
 use disk_core::{LogDisk, PageDisk};
-use engine_parts::{Caller, EngineLaw};
+use engine_parts::{Caller, EngineLaw, count};
 use hall::Hall;
 use tx_events::Refusal;
 use tx_model::Reply;
@@ -26,8 +25,10 @@ pub(crate) fn result_of(reply: Reply) -> Result<(), Refusal>
     }
 }
 
-/// Begins a transaction, which has no id yet (`StartTransaction` of `src/backend/access/transam/xact.c`).
-/// `AlreadyOpen` where the session has one. The session has run fewer than 2^48 commands.
+/// Begins a transaction, which has no id yet (`StartTransaction` of `src/backend/access/transam/xact.c`): the session
+/// alone, under no lock. Takes no memory.
+///
+/// Refused with `AlreadyOpen` where the session has one. The session has run fewer than 2^48 commands.
 pub fn begin<L: LogDisk, P: PageDisk>(
     _hall: &Hall<EngineLaw<L, P>>,
     caller: &mut Caller<L, P>,

@@ -1,7 +1,7 @@
-//! The calls of an engine over its lock table: transactions, savepoints, snapshots. See `docs/ENGINE.md`.
+//! The calls of an engine over its lock table that begin transactions, open and release savepoints, and take and drop
+//! snapshots. See `docs/ENGINE.md`.
 #![tactic(auto)]
 
-mod counting;
 mod levels;
 mod savepoints;
 mod snapshots;

@@ -5,18 +5,19 @@ ghost use Rattle.tx_model.specs.declared.reply.Reply.TheVariants as replies;
 ghost use Rattle.engine_parts.specs.Answers.{reply_of};
 ghost use Rattle.engine_parts.specs.Calls.{MayRun, Ran, next_command};
 
-use crate::counting::count;
 use crate::levels::result_of;
 use disk_core::{LogDisk, PageDisk};
-use engine_parts::{Caller, EngineLaw};
+use engine_parts::{Caller, EngineLaw, count};
 use hall::Hall;
 use session_levels::depth;
 use tx_events::Refusal;
 
-/// Opens a savepoint, which has no id yet (`DefineSavepoint` and `StartSubTransaction` of `xact.c`). Refused, in this
-/// order, with `NoTransaction` where no transaction is open, with `CommitPending`, `AbortPending` or `UndoPending`
-/// where an end was begun, and with `DepthLimit` where 1,000 savepoints are open. The session has run fewer than 2^48
-/// commands.
+/// Opens a savepoint, which has no id yet (`DefineSavepoint` and `StartSubTransaction` of
+/// `src/backend/access/transam/xact.c`): the session alone, under no lock. Takes no memory.
+///
+/// Refused, in this order, with `NoTransaction` where no transaction is open, with `CommitPending`, `AbortPending` or
+/// `UndoPending` where an end was begun, and with `DepthLimit` where 1,000 savepoints are open. The session has run
+/// fewer than 2^48 commands.
 pub fn save<L: LogDisk, P: PageDisk>(
     _hall: &Hall<EngineLaw<L, P>>,
     caller: &mut Caller<L, P>,
@@ -36,7 +37,9 @@ pub fn save<L: LogDisk, P: PageDisk>(
     result_of(reply)
 }
 
-/// Joins the innermost savepoint to its parent, which keeps what was done in it (`CommitSubTransaction` of `xact.c`).
+/// Joins the innermost savepoint to its parent, which keeps what was done in it (`CommitSubTransaction` of
+/// `src/backend/access/transam/xact.c`): the session alone, under no lock. Takes no memory.
+///
 /// Refused, in this order, with `NoSavepoint` where no savepoint is open, and with `CommitPending`, `AbortPending` or
 /// `UndoPending` where an end was begun. The session has run fewer than 2^48 commands.
 pub fn release<L: LogDisk, P: PageDisk>(

@@ -22,9 +22,8 @@ ghost use Rattle.engine_parts.specs.Sessions.{IsAt, IsReady, MayCall, by_at, sta
 ghost use Rattle.engine_parts.specs.Stand.{ProcStands};
 ghost use Rattle.xact_engine.specs.Snapshots.{IsTaken};
 
-use crate::counting::count;
 use disk_core::{LogDisk, PageDisk};
-use engine_parts::{Caller, EngineLaw, Part, enter_proc, leave_looked, leave_proc};
+use engine_parts::{Caller, EngineLaw, Part, count, enter_proc, leave_looked, leave_proc};
 use hall::{Hall, Note};
 use proc_table::ProcTable;
 use session_levels::{RegisteredSnapshot, forget, registered_as};
@@ -141,8 +140,8 @@ fn take<R: Wait, L: LogDisk, P: PageDisk>(
 /// Takes a snapshot (`GetSnapshotData` of `src/backend/storage/ipc/procarray.c`) and registers it under this name
 /// (`RegisterSnapshot` of `src/backend/utils/time/snapmgr.c`): one critical section of the ProcArray.
 ///
-/// Refused with `NameTaken` where the session has a snapshot of this name, with `SnapLimit` where it has 64, or with
-/// `Memory`; then nothing was taken. The session has run fewer than 2^48 commands.
+/// Refused, in this order, with `NameTaken` where the session has a snapshot of this name, and with `SnapLimit` where
+/// it has 64. Or with `Memory`: then nothing was taken. The session has run fewer than 2^48 commands.
 pub fn snap<R: Wait, L: LogDisk, P: PageDisk>(
     rt: &R,
     hall: &Hall<EngineLaw<L, P>>,
@@ -225,8 +224,8 @@ fn drop_registered<R: Wait, L: LogDisk, P: PageDisk>(
     unregister(hall, caller, table, by, name);
 }
 
-/// Drops the session's snapshot of this name (`UnregisterSnapshot` of `snapmgr.c`): one critical section of the
-/// ProcArray. Takes no memory.
+/// Drops the session's snapshot of this name (`UnregisterSnapshot` of `src/backend/utils/time/snapmgr.c`): one critical
+/// section of the ProcArray. Takes no memory.
 ///
 /// Refused with `NoSnapshot` where the session has none of this name. The session has run fewer than 2^48 commands.
 pub fn drop_snap<R: Wait, L: LogDisk, P: PageDisk>(

@@ -29,7 +29,8 @@ use Rattle.engine_parts.proofs.Answering.{few_before}
 use Rattle.bank_sections.specs.Reads.{IsStateRead}
 use Rattle.xact_reads.specs.declared.glances.Glance.{Glance}
 use Rattle.xact_reads.specs.Glances.{HasGlanced, HasLimits, IsNamed, Shows}
-use Rattle.xact_reads.specs.Readings.{IsCommittedIn, IsParentFault, IsShown, IsTopOf, IsUnread}
+use Rattle.bank_sections.specs.Faults.{IsSubtransFault}
+use Rattle.xact_reads.specs.Readings.{IsCommittedIn, IsShown, IsTopOf, IsUnread}
 use Rattle.xact_reads.proofs.Limits.{registered_limits}
 use Rattle.xact_reads.proofs.Replying.{named_at}
 use Rattle.xact_reads.proofs.Showing.{ascends, in_use, shown_asked, shown_hidden, shown_not, shown_read}
@@ -53,12 +54,12 @@ module _ (start : Start) (w : Knowledge) (n : ℕ) (s : Session) (name : List �
       let shows = glance_of s.levels name x g k h named in record { registered = r; ascend = up; shows = shows; sight_is = sym (shows.sight up.0 up.1) ∙ is }
 
   pub hides : g.sight ≡ sights.Hidden → IsShown start w.seen s.levels name g.id false
-  hides is few before old k named =
+  hides is few old k named =
       let f = known k sights.Hidden named is in
-      shown_hidden start w.seen n k a.base a.kept f.registered g.id f.shows.full old few before f.sight_is
+      shown_hidden start w.seen n k a.base a.kept f.registered g.id f.shows.full old few a.before f.sight_is
 
   pub shows_state : (committed : Bool) → g.sight ≡ sights.Seen → IsCommittedIn start w.seen g.id committed → IsShown start w.seen s.levels name g.id committed
-  shows_state committed is read few before old k named =
+  shows_state committed is read few old k named =
       let f = known k sights.Seen named is in
       let r = f.registered in
       let full = f.shows.full in
@@ -73,7 +74,7 @@ module _ (start : Start) (w : Knowledge) (n : ℕ) (s : Session) (name : List �
   not_asked e = cc
 
   pub shows_none : (committed : Bool) → g.sight ≡ sights.AskParents → IsCommittedIn start w.seen g.id committed → committed ≡ false → IsShown start w.seen s.levels name g.id false
-  shows_none committed is read no_commit few before old k named =
+  shows_none committed is read no_commit few old k named =
       let f = known k sights.AskParents named is in
       let r = f.registered in
       let full = f.shows.full in
@@ -93,7 +94,7 @@ module _ (start : Start) (w : Knowledge) (n : ℕ) (s : Session) (name : List �
 
   pub shows_parents : (more : Knowledge) (committed answer : Bool) (topmost : ℕ) → IsAt start more n s → Grows w.seen more.seen → g.sight ≡ sights.AskParents → IsCommittedIn start w.seen g.id committed → committed ≡ true → IsTopOf start w.seen more.seen g.xmin g.id topmost
       → ((k : RegisteredSnapshot) → IsNamed s.levels name k → Ascending k.snapshot.xip → answer ≡ top_sight_by k.snapshot topmost) → IsShown start more.seen s.levels name g.id answer
-  shows_parents more committed answer topmost b grows is read committed_is top says few before old k named =
+  shows_parents more committed answer topmost b grows is read committed_is top says few old k named =
       let f = known k sights.AskParents named is in
       let r = f.registered in
       let full = f.shows.full in
@@ -112,6 +113,6 @@ pub state_says : (start : Start) (lists : List (List Entry)) (x : ℕ) (state : 
 state_says start lists x state committed says read used few = let s = read used few in (s.0, s.1, says ∙ ap is_committed s.2)
 
 -- a fault of pg_subtrans
-pub parent_unread : (start : Start) (lists : List (List Entry)) (by : By) (x : ℕ) (r : Refusal) → IsParentFault lists by r → IsUnread start lists by x r
+pub parent_unread : (start : Start) (lists : List (List Entry)) (by : By) (x : ℕ) (r : Refusal) → IsSubtransFault lists by r → IsUnread start lists by x r
 parent_unread start lists by x (refusals.DiskFault (locks.Subtrans bank)) f = f
 parent_unread start lists by x r f = absurd f

@@ -116,7 +116,7 @@ module _ (start : Start) (v w : Knowledge) (n : ℕ) (s : Session) (name : List 
 
   -- a special id
   pub special_answer : (tells : Bool) → x.number < 3 → MayAnswer tells start w.seen (alone (history v.seen) h) by (stance_of s) s.stage (commands.See name x) (replies.Seen (not (nat_eq x.number 0)))
-  special_answer tells small told few before =
+  special_answer tells small told few =
       let r = named_at start w n s name k a named in (
         k.command,
         snap_found name (stance_of s).levels s.levels.registered.items k named,
@@ -126,7 +126,7 @@ module _ (start : Start) (v w : Knowledge) (n : ℕ) (s : Session) (name : List 
           id = x.number;
           near = ap (λ c. cond c (Some x.number) (near_id (snapshot_xmax start.base.next (take k.place h)) x.number)) (below_special x.number small);
           young = λ normal. absurd (omega arith);
-          exact = special start.base start.committed (take k.place h) x.number a.base (legal_take start.base h k.place a.kept.events.legal) (λ c. let z = (before 0 c).0 in omega arith) small;
+          exact = special start.base start.committed (take k.place h) x.number a.base (legal_take start.base h k.place a.kept.events.legal) (λ c. let z = (a.before 0 c).0 in omega arith) small;
         },
       )
 
@@ -158,13 +158,13 @@ module _ (start : Start) (v w : Knowledge) (n : ℕ) (s : Session) (name : List 
 pub seen_answer : (tells : Bool) (start : Start) (v u w : Knowledge) (n : ℕ) (s : Session) (name : List ℕ) (x : Xid) (k : RegisteredSnapshot) (g : Glance) (oldest : ℕ) (shown : Bool) → IsAt start u n s → WentOn n [] v.seen u.seen → WentOn n [] u.seen w.seen → IsNamed s.levels name k
     → 3 ≤ x.number → Shows k.snapshot x.number g → oldest ≡ oldest_id start.base.oldest (history u.seen) → oldest ≤ g.id → (IsTrue tells → IsShown start w.seen s.levels name g.id shown)
     → MayAnswer tells start w.seen (alone (history v.seen) (history w.seen)) (by_at n s.levels.commands) (stance_of s) s.stage (commands.See name x) (replies.Seen shown)
-seen_answer tells start v u w n s name x k g oldest shown a first second named normal shows is young each told few before =
+seen_answer tells start v u w n s name x k g oldest shown a first second named normal shows is young each told few =
     let by : By = by_at n s.levels.commands in
     let h : List Event = history u.seen in
     let others = others_went by u.seen w.seen second in
     let r = named_at start u n s name k a named in
     let from = oldest_from start u.seen a.kept in
-    let exact = each told few before (omega arith) k named in
+    let exact = each told few (omega arith) k named in
     let longer = went_longer n v.seen u.seen first in
     subst (λ (t : List Event). MayReply start.base start.committed t (alone (history v.seen) t) by (stance_of s) (commands.See name x) (replies.Seen shown)) others.split
     (may_reply_grows start.base start.committed h others.rest (alone (history v.seen) h) (alone (history v.seen) (h ++ others.rest)) by (stance_of s) (commands.See name x) (replies.Seen shown) (omega arith) (omega (arith, length-append h others.rest)) (omega arith) others.later (

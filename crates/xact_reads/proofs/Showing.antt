@@ -33,7 +33,7 @@ use Rattle.tx_core.proofs.Climbing.{decides}
 use Rattle.tx_core.proofs.Rising.{given_more}
 use Rattle.session_levels.specs.declared.session.RegisteredSnapshot.{RegisteredSnapshot}
 use Rattle.session_levels.specs.Stands.{IsRegistered}
-use Rattle.engine_parts.specs.Answers.{AreGivenBefore}
+use Rattle.engine_parts.specs.Sessions.{AreGivenBefore}
 use Rattle.engine_parts.specs.Stand.{IsInUse}
 use Rattle.xact_reads.proofs.Climbing.{climb_there}
 use Rattle.xact_reads.proofs.Limits.{xmax_to_next}

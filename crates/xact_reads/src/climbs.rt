@@ -4,7 +4,8 @@ ghost use Rattle.hall.specs.Calls.{view, IsOf, start_of};
 ghost use Rattle.engine_parts.specs.Sessions.{IsReady, by_at};
 ghost use Rattle.engine_parts.specs.Steps.{WentOn};
 ghost use Rattle.bank_sections.specs.Reads.{IsParentRead};
-ghost use Rattle.xact_reads.specs.Readings.{IsParentFault, IsTopOf};
+ghost use Rattle.bank_sections.specs.Faults.{IsSubtransFault};
+ghost use Rattle.xact_reads.specs.Readings.{IsTopOf};
 
 use bank_sections::{read_parent, stall};
 use disk_core::{LogDisk, PageDisk};
@@ -50,7 +51,7 @@ fn parent_of<R: Wait, L: LogDisk, P: PageDisk>(
     ensures below { IfOk result (λ parent. IfSome parent (λ y. y < x)) }
     ensures parent { IsTrue P.tells
         → IfOk result (λ parent. IsParentRead (start_of hall.now) (view caller.new.pass).seen x parent) }
-    ensures fault { IfErr result (λ refusal. IsParentFault (view caller.new.pass).seen
+    ensures fault { IfErr result (λ refusal. IsSubtransFault (view caller.new.pass).seen
         (by_at caller.old.number caller.old.session.levels.commands) refusal) }
     ensures same { (caller.new.session ≡ caller.old.session) × (caller.new.number ≡ caller.old.number) }
 {
@@ -88,7 +89,7 @@ pub(crate) fn climb<R: Wait, L: LogDisk, P: PageDisk>(
     ensures went { WentOn caller.old.number [] (view caller.old.pass).seen (view caller.new.pass).seen }
     ensures top { IsTrue P.tells → IfOk result (λ topmost.
         IsTopOf (start_of hall.now) (view caller.old.pass).seen (view caller.new.pass).seen xmin x topmost) }
-    ensures fault { IfErr result (λ refusal. IsParentFault (view caller.new.pass).seen
+    ensures fault { IfErr result (λ refusal. IsSubtransFault (view caller.new.pass).seen
         (by_at caller.old.number caller.old.session.levels.commands) refusal) }
     ensures same { (caller.new.session ≡ caller.old.session) × (caller.new.number ≡ caller.old.number) }
 {

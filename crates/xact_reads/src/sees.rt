@@ -12,11 +12,10 @@ ghost use Rattle.engine_parts.specs.Standing.{by_standing};
 ghost use Rattle.engine_parts.specs.Steps.{WentOn};
 ghost use Rattle.xact_reads.specs.Glances.{HasGlanced};
 
-use crate::counting::count;
 use crate::glances::{Glance, glance_at};
 use crate::shows::show;
 use disk_core::{LogDisk, PageDisk};
-use engine_parts::{Caller, EngineLaw};
+use engine_parts::{Caller, EngineLaw, count};
 use hall::Hall;
 use proc_sections::read_oldest;
 use session_levels::registered_as;

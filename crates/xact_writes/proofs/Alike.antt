@@ -43,6 +43,7 @@ call_alike start v n s s' m k =
         free = m.ready.free;
         at = record {
           base = a.base;
+          before = a.before;
           kept = a.kept;
           name = a.name;
           known = a.known;

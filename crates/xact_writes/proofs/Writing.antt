@@ -36,8 +36,9 @@ use Rattle.engine_parts.specs.Steps.{WentOn}
 use Rattle.engine_parts.proofs.Acting.{acted_refused}
 use Rattle.engine_parts.proofs.Refusing.{first_fails}
 use Rattle.engine_parts.proofs.Stepping.{went_nowhere, went_then}
-use Rattle.bank_sections.specs.Parents.{IsParentFault, linked}
-use Rattle.xact_writes.specs.Writes.{HasReserved, IsAlike, IsFaultOf, IsFresh, IsGivenLater, IsWithout, Writing}
+use Rattle.bank_sections.specs.Faults.{IsBankFault, IsSubtransFault}
+use Rattle.bank_sections.specs.Parents.{linked}
+use Rattle.xact_writes.specs.Writes.{HasReserved, IsAlike, IsFresh, IsGivenLater, IsWithout, Writing}
 use Rattle.xact_writes.proofs.Alike.{reserved_from}
 
 -- what came between is of others
@@ -124,8 +125,9 @@ writing_step start n s s1 s2 ids id warn late a b c k g =
     }
 
 -- the fault of a parent
-pub parent_fault : (lists : List (List Entry)) (by : By) (r : Refusal) → IsParentFault lists by r → IsFaultOf lists by r
-parent_fault lists by r f = subst (IsFaultOf lists by) (sym f.is) f.met
+pub parent_fault : (lists : List (List Entry)) (by : By) (r : Refusal) → IsSubtransFault lists by r → IsBankFault lists by r
+parent_fault lists by (refusals.DiskFault (locks.Subtrans bank)) met = met
+parent_fault lists by _ met = absurd met
 
 -- none of the refusals by how a session stands
 pub not_refused : (s : Session) → s.stage ≡ stages.Clear → 1 ≤ length (levels_of s.levels.level_ids.items s.levels.unnamed) → refused_by commands.Write (stance_of s) s.stage ≡ None
@@ -161,7 +163,7 @@ module _ (tells : Bool) (start : Start) (n : ℕ) (s s1 : Session) (ids : List �
   }
 
   -- a fault was met, at the last parent maybe
-  pub acted_faulted : (r : Refusal) → IsFaultOf more by r → Acted tells start by (stance_of s) (stance_of s1) s.stage commands.Write (replies.Refused r) lists more
+  pub acted_faulted : (r : Refusal) → IsBankFault more by r → Acted tells start by (stance_of s) (stance_of s1) s.stage commands.Write (replies.Refused r) lists more
   acted_faulted (refusals.DiskFault (locks.Xact bank)) met = record {
     grows = k.went.on.grows;
     added = es;

@@ -2,7 +2,6 @@
 use Rattle.std.specs.Prelude.{◌≡◌, ℕ, ◌+◌, ◌<◌, ◌↔◌, ◌⊎◌, Bool, IsTrue, List, [], ◌++◌, None, length, Result, Ok, Err}
 use Rattle.std.specs.List.{AllByRecursion, filter}
 use Rattle.tx_events.specs.declared.event.By.{By}
-use Rattle.tx_events.specs.declared.refusal.Lock.TheVariants as locks
 use Rattle.tx_events.specs.declared.refusal.Refusal.{Refusal}
 use Rattle.tx_events.specs.declared.refusal.Refusal.TheVariants as refusals
 use Rattle.tx_events.specs.Events.{by_of, is_of}
@@ -13,14 +12,13 @@ use Rattle.tx_model.specs.Replies.{IsWarned}
 use Rattle.tx_core.specs.declared.entry.Entry.{Entry}
 use Rattle.tx_core.specs.declared.entry.Start.{Start}
 use Rattle.tx_core.specs.Entries.{history}
-use Rattle.tx_core.specs.Locks.{subtrans_lock, xact_lock}
 use Rattle.proc_table.specs.declared.answers.Given.TheVariants as answers
 use Rattle.session_levels.specs.declared.session.Session as plain
 use Rattle.session_levels.specs.Stands.{levels_of}
 use Rattle.engine_parts.specs.declared.session.Session.{Session}
-use Rattle.engine_parts.specs.Answers.{MetFault}
 use Rattle.engine_parts.specs.Sessions.{by_at}
 use Rattle.engine_parts.specs.Steps.{WentOn}
+use Rattle.bank_sections.specs.Faults.{IsBankFault}
 use Rattle.proc_sections.specs.Givings.{GivesId, IsStopIn}
 use Rattle.xact_writes.specs.declared.writes.Wrote.{Wrote}
 
@@ -28,15 +26,9 @@ use Rattle.xact_writes.specs.declared.writes.Wrote.{Wrote}
 abbrev pub reply_to : Wrote → Reply
 reply_to wrote = replies.Wrote wrote.ids wrote.warn
 
--- the refusal is that of a fault that this command met, of a bank of pg_xact or of pg_subtrans
-abbrev pub IsFaultOf : List (List Entry) → By → Refusal → Type 0
-IsFaultOf lists by (refusals.DiskFault (locks.Xact bank)) = MetFault lists (xact_lock bank) by
-IsFaultOf lists by (refusals.DiskFault (locks.Subtrans bank)) = MetFault lists (subtrans_lock bank) by
-IsFaultOf lists by _ = ⊥
-
 -- why a level was given no id: memory was wanting, the stop limit was reached, or a fault was met
 abbrev pub IsWithout : Start → List (List Entry) → By → Refusal → Type 0
-IsWithout start lists by r = ((r ≡ refusals.Memory) ⊎ IsStopIn start.base (history lists) r) ⊎ IsFaultOf lists by r
+IsWithout start lists by r = ((r ≡ refusals.Memory) ⊎ IsStopIn start.base (history lists) r) ⊎ IsBankFault lists by r
 
 -- the session's lists have the same items, in more room maybe
 pub record HasReserved (s s' : plain.Session) : Type 0 where

@@ -1,8 +1,8 @@
 //! A level is given its id.
-ghost use Rattle.std.specs.Prelude.{◌≡◌, ℕ, ◌+◌, ◌*◌, ◌≤◌, None, OnOk};
-ghost use Rattle.hall.specs.Calls.{view, IsOf, start_of};
+ghost use Rattle.std.specs.Prelude.{◌≡◌, ◌≤◌, None, OnOk};
+ghost use Rattle.hall.specs.Calls.{view, start_of};
 ghost use Rattle.engine_parts.specs.declared.session.Stage.TheVariants as stages;
-ghost use Rattle.engine_parts.specs.Sessions.{MayCall};
+ghost use Rattle.engine_parts.specs.Calls.{MayStep};
 ghost use Rattle.proc_sections.specs.Givings.{HasRoom};
 ghost use Rattle.xact_writes.specs.Writes.{GivesLevel, HasReserved};
 
@@ -35,16 +35,12 @@ fn give_level<R: Wait, L: LogDisk, P: PageDisk>(
     caller: &mut Caller<L, P>,
     banks: u32,
 ) -> Result<(FullXid, bool), Refusal>
-    requires own { IsOf hall.now caller.old.pass }
-    requires laid { hall.now.cells ≡ 3 + 4 * (start_of hall.now).banks }
-    requires banks { (banks ≡ (start_of hall.now).banks) × (1 ≤ banks) × (banks ≤ 16) }
-    requires may { MayCall (start_of hall.now) (view caller.old.pass) caller.old.number caller.old.session }
+    requires step { MayStep hall.now banks caller.old }
     requires some { 1 ≤ caller.old.session.levels.unnamed }
     requires clear { caller.old.session.stage ≡ stages.Clear }
     requires linked { caller.old.session.unlinked ≡ None }
     requires room { HasRoom caller.old.session.levels }
-    ensures own { IsOf hall.now caller.new.pass }
-    ensures may { MayCall (start_of hall.now) (view caller.new.pass) caller.new.number caller.new.session }
+    ensures step { MayStep hall.now banks caller.new }
     ensures gives { GivesLevel (start_of hall.now) caller.old.number caller.old.session caller.new.session
         (view caller.old.pass).seen (view caller.new.pass).seen result }
     ensures number { caller.new.number ≡ caller.old.number }
@@ -72,15 +68,11 @@ pub(crate) fn name_level<R: Wait, L: LogDisk, P: PageDisk>(
     caller: &mut Caller<L, P>,
     banks: u32,
 ) -> Result<(FullXid, bool), Refusal>
-    requires own { IsOf hall.now caller.old.pass }
-    requires laid { hall.now.cells ≡ 3 + 4 * (start_of hall.now).banks }
-    requires banks { (banks ≡ (start_of hall.now).banks) × (1 ≤ banks) × (banks ≤ 16) }
-    requires may { MayCall (start_of hall.now) (view caller.old.pass) caller.old.number caller.old.session }
+    requires step { MayStep hall.now banks caller.old }
     requires some { 1 ≤ caller.old.session.levels.unnamed }
     requires clear { caller.old.session.stage ≡ stages.Clear }
     requires linked { caller.old.session.unlinked ≡ None }
-    ensures own { IsOf hall.now caller.new.pass }
-    ensures may { MayCall (start_of hall.now) (view caller.new.pass) caller.new.number caller.new.session }
+    ensures step { MayStep hall.now banks caller.new }
     ensures gives { GivesLevel (start_of hall.now) caller.old.number caller.old.session caller.new.session
         (view caller.old.pass).seen (view caller.new.pass).seen result }
     ensures number { caller.new.number ≡ caller.old.number }

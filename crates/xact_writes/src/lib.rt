@@ -1,8 +1,7 @@
-//! The call `write` of an engine over its lock table: each level of a session's transaction gets its id. See
+//! The call of an engine over its lock table that gives each level of a session's transaction its id. See
 //! `docs/ENGINE.md`.
 #![tactic(auto)]
 
-mod counting;
 mod levels;
 mod page_making;
 mod writes;

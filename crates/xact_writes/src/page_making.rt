@@ -1,11 +1,12 @@
 //! The pages of an id are made.
-ghost use Rattle.std.specs.Prelude.{◌≡◌, ℕ, ◌+◌, ◌*◌, ◌≤◌, [], IfErr};
-ghost use Rattle.hall.specs.Calls.{view, IsOf, start_of};
+ghost use Rattle.std.specs.Prelude.{◌≡◌, [], IfErr};
+ghost use Rattle.hall.specs.Calls.{view, start_of};
 ghost use Rattle.tx_events.specs.History.{next_given};
 ghost use Rattle.tx_core.specs.Entries.{history};
-ghost use Rattle.engine_parts.specs.Sessions.{MayCall, by_at};
+ghost use Rattle.engine_parts.specs.Calls.{MayStep};
+ghost use Rattle.engine_parts.specs.Sessions.{by_at};
 ghost use Rattle.engine_parts.specs.Steps.{WentOn};
-ghost use Rattle.xact_writes.specs.Writes.{IsFaultOf};
+ghost use Rattle.bank_sections.specs.Faults.{IsBankFault};
 
 use bank_sections::{make_page, make_parents};
 use disk_core::{LogDisk, PageDisk};
@@ -27,15 +28,11 @@ pub(crate) fn make_pages<R: Wait, L: LogDisk, P: PageDisk>(
     banks: u32,
     id: FullXid,
 ) -> Result<(), Refusal>
-    requires own { IsOf hall.now caller.old.pass }
-    requires laid { hall.now.cells ≡ 3 + 4 * (start_of hall.now).banks }
-    requires banks { (banks ≡ (start_of hall.now).banks) × (1 ≤ banks) × (banks ≤ 16) }
-    requires may { MayCall (start_of hall.now) (view caller.old.pass) caller.old.number caller.old.session }
+    requires step { MayStep hall.now banks caller.old }
     requires next { id ≡ next_given (start_of hall.now).base.next (history (view caller.old.pass).seen) }
-    ensures own { IsOf hall.now caller.new.pass }
-    ensures may { MayCall (start_of hall.now) (view caller.new.pass) caller.new.number caller.new.session }
+    ensures step { MayStep hall.now banks caller.new }
     ensures went { WentOn caller.old.number [] (view caller.old.pass).seen (view caller.new.pass).seen }
-    ensures fault { IfErr result (λ refusal. IsFaultOf (view caller.new.pass).seen
+    ensures fault { IfErr result (λ refusal. IsBankFault (view caller.new.pass).seen
         (by_at caller.old.number caller.old.session.levels.commands) refusal) }
     ensures same { (caller.new.session ≡ caller.old.session) × (caller.new.number ≡ caller.old.number) }
 {

@@ -1,19 +1,17 @@
 //! Each level of a transaction gets its id.
-ghost use Rattle.std.specs.Prelude.{◌≡◌, ℕ, ◌+◌, ◌*◌, ◌≤◌, None, OnOk, length};
-ghost use Rattle.hall.specs.Calls.{view, IsOf, start_of};
+ghost use Rattle.std.specs.Prelude.{◌≡◌, ◌≤◌, None, OnOk, length};
+ghost use Rattle.hall.specs.Calls.{view};
 ghost use Rattle.tx_model.specs.declared.command.Command.TheVariants as commands;
 ghost use Rattle.session_levels.specs.Stands.{levels_of};
 ghost use Rattle.engine_parts.specs.declared.session.Stage.TheVariants as stages;
 ghost use Rattle.engine_parts.specs.Answers.{reply_of};
-ghost use Rattle.engine_parts.specs.Calls.{MayRun, Ran, next_command};
-ghost use Rattle.engine_parts.specs.Sessions.{MayCall};
+ghost use Rattle.engine_parts.specs.Calls.{MayRun, MayStep, Ran, next_command};
 ghost use Rattle.xact_writes.specs.Writes.{IsFresh, reply_to};
 
-use crate::counting::count;
 use crate::levels::name_level;
 use bank_sections::record_parent;
 use disk_core::{LogDisk, PageDisk};
-use engine_parts::{Caller, EngineLaw};
+use engine_parts::{Caller, EngineLaw, count};
 use hall::Hall;
 use session_levels::depth;
 use std::alloc::Global;
@@ -38,10 +36,7 @@ fn name_levels<R: Wait, L: LogDisk, P: PageDisk>(
     banks: u32,
     alloc: Global,
 ) -> Result<Wrote, Refusal>
-    requires own { IsOf hall.now caller.old.pass }
-    requires laid { hall.now.cells ≡ 3 + 4 * (start_of hall.now).banks }
-    requires banks { (banks ≡ (start_of hall.now).banks) × (1 ≤ banks) × (banks ≤ 16) }
-    requires may { MayCall (start_of hall.now) (view caller.old.pass) caller.old.number caller.old.session }
+    requires step { MayStep hall.now banks caller.old }
     requires clear { caller.old.session.stage ≡ stages.Clear }
     requires fresh { IsFresh (view caller.old.pass).seen caller.old.number caller.old.session.levels.commands }
     requires some { 1 ≤ length
@@ -78,8 +73,8 @@ fn name_levels<R: Wait, L: LogDisk, P: PageDisk>(
 
 /// Gives an id to each level that lacks one, from the transaction down (`AssignTransactionId` of
 /// `src/backend/access/transam/xact.c`, which gives a parent its id before its child). A parent that an earlier command
-/// couldn't record is recorded first, and behind a write that is done all parents are. `banks` is the number of banks of
-/// each store, 1 to 16.
+/// couldn't record is recorded first, and behind a write that is done all parents are. `banks` is the number of banks
+/// of each store, 1 to 16; the reply's list is of `alloc`.
 ///
 /// Refused, in this order, with `NoTransaction` where no transaction is open, and with `CommitPending`, `AbortPending`
 /// or `UndoPending` where an end was begun. Or with `DiskFault` of a bank of pg_xact or pg_subtrans, with `Stop` at the

@@ -1,4 +1,4 @@
-use Rattle.std.proofs.Common.{[], Err, refl, ap, ◌∙◌}
+use Rattle.std.proofs.Common.{[], Err, ap, ◌∙◌}
 use Rattle.hall.specs.Calls.{view, start_of}
 use Rattle.bank_sections.proofs.Unlinking.{call_linked, call_went, parent_lock, still_below}
 use Rattle.bank_sections.proofs.unlinked.record_parent.Goals as goal
@@ -29,4 +29,4 @@ returns-in-Err-DiskFault-clause-may g c =
 pub returns-in-Err-DiskFault-clause-recorded : goal.returns-in-Err-DiskFault-clause-recorded
 returns-in-Err-DiskFault-clause-recorded g c =
     let e = c.in-Err-DiskFault.ensures in
-    (e.same.0, record { bank = c.bank_of-bank.result; is = refl; met = e.fault (ap (λ z. Err z) c.in-Err-DiskFault.field-0-is) })
+    (e.same.0, e.fault (ap (λ z. Err z) c.in-Err-DiskFault.field-0-is))

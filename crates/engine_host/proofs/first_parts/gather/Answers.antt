@@ -1,7 +1,9 @@
-use Rattle.std.proofs.Common.{[], ap, arith, length, refl, subst, sym, ◌∙◌}
+use Rattle.std.proofs.Common.{[], absurd, ap, arith, length, refl, subst, sym, ◌∙◌}
+use Rattle.tx_events.proofs.Membership.{contains_has}
 use Rattle.tx_core.specs.declared.entry.Start.{Start}
 use Rattle.engine_parts.specs.declared.part.Part.TheVariants as parts
 use Rattle.engine_parts.specs.Parts.{PartStands}
+use Rattle.engine_parts.specs.Sessions.{AreGivenBefore}
 use Rattle.engine_host.specs.Opening.{AreNew}
 use Rattle.engine_host.proofs.Starting.{all_stand, cons_new, inserted_first}
 use Rattle.engine_host.proofs.first_parts.gather.Goals as goal
@@ -17,6 +19,7 @@ returns-clause-parts g c =
       banks = ap (λ (s : Start). s.banks) life;
       sessions = ap (λ (s : Start). s.sessions) life;
       base = ap (λ (s : Start). s.base) life;
+      before = subst AreGivenBefore (sym life) (λ x k. absurd (contains_has [] x k));
       count = ap length put ∙ omega (arith, c.requires.count);
       stand = λ lock part at. subst (λ (s : Start). PartStands s lock part []) (sym life) (all_stand cluster c.insert-inserted.new.self.items all lock part at);
     }

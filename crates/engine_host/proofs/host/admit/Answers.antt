@@ -16,11 +16,12 @@ returns-in-Some-clause-caller g c =
     let known : c.args.number < start.sessions = omega (arith, host.sessions, c.if-number-host.false) in
     let fresh = c.new.ensures in
     record {
-      own = split.0;
-      laid = host.laid;
-      range = host.cluster.banks;
-      each = sym host.banks;
-      may = new_may_call start w c.args.number _ (new_knows start (view c.args.host.now.pass) w c.args.number _ base c.requires.unseen split.2 known (omega (arith, split.0.wide, host.laid)) fresh refl refl);
+      step = record {
+        own = split.0;
+        laid = host.laid;
+        each = (sym host.banks, host.cluster.banks);
+        may = new_may_call start w c.args.number _ (new_knows start (view c.args.host.now.pass) w c.args.number _ base host.before c.requires.unseen split.2 known (omega (arith, split.0.wide, host.laid)) fresh refl refl);
+      };
       few = omega (arith, fresh.0);
     }
 

@@ -19,6 +19,7 @@ returns-clause-host g c =
       banks = host.banks;
       sessions = host.sessions;
       base = host.base;
+      before = host.before;
       passes = host.passes;
     }
 
@@ -27,4 +28,4 @@ returns-clause-names g c away has n inside =
     let host = view c.args.host.now.pass in
     let other = view c.args.caller.pass in
     name_back host other (view c.join.new.pass) c.args.caller.number n away (ap (λ (u : View Start Entry). u.holds) c.join.ensures.view.view_is)
-    (subst (λ (m : ℕ). Holds other m) c.requires.caller.may.ready.at.name c.requires.caller.own.named) (has n inside)
+    (subst (λ (m : ℕ). Holds other m) c.requires.caller.step.may.ready.at.name c.requires.caller.step.own.named) (has n inside)

@@ -13,6 +13,7 @@ use Rattle.tx_core.specs.EngineInvariant.{EngineInvariant}
 use Rattle.tx_core.proofs.Opening.{opens}
 use Rattle.engine_parts.specs.Law.{number_of_word, writer_of}
 use Rattle.engine_parts.specs.Parts.{PartStands}
+use Rattle.engine_parts.specs.Sessions.{AreGivenBefore}
 use Rattle.engine_host.proofs.Hosting.{lock_writes, nothing_at, places_of, words_long, words_shown}
 use Rattle.engine_host.proofs.host.make_table.Goals as goal
 
@@ -72,6 +73,7 @@ returns-in-Ok-new-clause-host g c =
       banks = banks;
       sessions = ap (λ (s : Start). s.sessions) is ∙ c.requires.sessions;
       base = ap (λ (s : Start). s.base) is ∙ c.requires.base;
+      before = subst AreGivenBefore (sym is) c.requires.before;
       passes = hall.1 ∙ (ap (λ (o : Opening Start Entry). o.passes) c.opening_note-from.ensures ∙ ap (λ n. n + 1) c.requires.sessions);
     }
 

@@ -7,10 +7,13 @@ use Rattle.engine_parts.specs.Sessions.{by_at}
 use Rattle.engine_parts.specs.Stages.{may_be_recorded}
 use Rattle.engine_parts.specs.Steps.{GoesOn}
 use Rattle.engine_parts.proofs.Stepping.{goes_then}
-use Rattle.xact_ends.specs.Stops.{IsXactFault}
+use Rattle.bank_sections.specs.Faults.{IsXactFault}
 use Rattle.xact_ends.proofs.Aborted.{may_end_aborted}
 use Rattle.xact_ends.proofs.Finishing.{finished_then}
 use Rattle.xact_ends.proofs.aborting.abort_named.Goals as goal
+
+pub set_aborted-requires-clause-step : goal.set_aborted-requires-clause-step
+set_aborted-requires-clause-step g c = let e = c.start_abort.ensures in record { own = e.own; laid = c.requires.step.laid; each = c.requires.step.each; may = e.may }
 
 pub end_transaction-requires-clause-some : goal.end_transaction-requires-clause-some
 end_transaction-requires-clause-some g c = subst (λ (z : Session). 1 ≤ length z.levels.open_ids.items) (sym (c.in-Ok.ensures.sets.1 ∙ c.start_abort.ensures.session)) c.requires.some
@@ -20,6 +23,9 @@ end_transaction-requires-clause-end g c =
     let x = c.in-Ok.ensures.sets in
     let t = c.start_abort.new.caller in
     may_end_aborted (start_of c.args.hall.now) (view c.set_aborted.new.caller.pass).seen t.session c.set_aborted.new.caller.session x.1 (ap (λ (z : Session). may_be_recorded z.stage) c.start_abort.ensures.session) x.2
+
+pub returns-in-Ok-clause-step : goal.returns-in-Ok-clause-step
+returns-in-Ok-clause-step g c = let e = c.end_transaction.ensures in record { own = e.own; laid = c.requires.step.laid; each = c.requires.step.each; may = e.may }
 
 pub returns-in-Ok-clause-aborts : goal.returns-in-Ok-clause-aborts
 returns-in-Ok-clause-aborts g c =

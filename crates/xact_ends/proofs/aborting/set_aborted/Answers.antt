@@ -8,7 +8,7 @@ use Rattle.engine_parts.specs.Sessions.{by_at}
 use Rattle.engine_parts.specs.Steps.{GoesOn}
 use Rattle.engine_parts.proofs.Stepping.{goes_then, went_nowhere}
 use Rattle.xact_ends.specs.Aborts.{AreAborted, IsOnePage}
-use Rattle.xact_ends.specs.Stops.{IsXactFault}
+use Rattle.bank_sections.specs.Faults.{IsXactFault}
 use Rattle.xact_ends.proofs.Aborted.{aborted_more, aborted_none, aborted_on}
 use Rattle.xact_ends.proofs.aborting.set_aborted.Goals as goal
 
@@ -36,8 +36,7 @@ loop-first-preserved g c =
     let same : t.session.levels.open_ids.items ≡ opened = ap (λ (z : Session). z.levels.open_ids.items) i.session in
     let goes : GoesOn n [] mid more = subst (λ z. GoesOn z [] mid more) i.number x.0 in
     record {
-      own = e.own;
-      may = e.may;
+      step = e.step;
       session = x.1 ∙ i.session;
       number = e.number ∙ i.number;
       goes = goes_then n [] [] (view c.args.caller.now.pass).seen mid more i.goes goes;

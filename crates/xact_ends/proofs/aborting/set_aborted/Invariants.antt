@@ -1,14 +1,13 @@
 use Rattle.std.proofs.Common.{◌≡◌, ℕ, ◌-◌, ◌≤◌, [], length}
-use Rattle.hall.specs.Calls.{view, IsOf, start_of}
-use Rattle.engine_parts.specs.Sessions.{MayCall}
+use Rattle.hall.specs.Calls.{view, start_of}
+use Rattle.engine_parts.specs.Calls.{MayStep}
 use Rattle.engine_parts.specs.Steps.{GoesOn}
 use Rattle.xact_ends.specs.Aborts.{AreAborted}
 use Rattle.xact_ends.proofs.aborting.set_aborted.Given as goal
 
 abbrev pub invariant-loop-first : goal.invariant-loop-first
 invariant-loop-first g l = record {
-  own : IsOf l.hall l.caller.pass;
-  may : MayCall (start_of l.hall) (view l.caller.pass) l.caller.number l.caller.session;
+  step : MayStep l.hall l.banks l.caller;
   session : l.caller.session ≡ l.fn.caller.session;
   number : l.caller.number ≡ l.fn.caller.number;
   goes : GoesOn l.fn.caller.number [] (view l.fn.caller.pass).seen (view l.caller.pass).seen;

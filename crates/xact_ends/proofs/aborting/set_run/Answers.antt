@@ -21,21 +21,31 @@ set_page-requires-clause-may g c =
     let n = c.args.caller.now.number in
     let opened = s.levels.open_ids.items in
     let first = c.args.first in
-    let a = c.requires.may.ready.at in
+    let a = c.requires.step.may.ready.at in
     let within : first < length opened = let x = c.requires.some in let y = c.requires.among in omega arith in
     let id_is : c.index-id.result.now ≡ slice_index opened first = c.index-id.ensures ∙ get_or_default opened first c.index-id.result.now 0 within in
     let page_is : c.xact_page.result ≡ xact_page (low_half (slice_index opened first)) = c.xact_page.ensures.page ∙ (ap xact_page c.low.ensures ∙ ap (λ z. xact_page (low_half z)) id_is) in
-    subst (λ (z : ℕ × ℕ). MaySet start v.seen n (z.0 % z.1) (slice_range opened first c.args.past) states.Aborted) (λ j. (sym page_is j, sym c.requires.banks.0 j))
+    subst (λ z. MaySet start v.seen n z (slice_range opened first c.args.past) states.Aborted) (sym (c.bank_of-bank.ensures.value ∙ (λ j. page_is j % c.requires.step.each.0 j)))
     (may_abort start v.seen n first c.args.past opened a.kept (a.clear (ap may_be_recorded c.requires.stage)) a.stands.opened (among_all opened first c.args.past) c.requires.page)
 
-pub returns-in-Ok-clause-may : goal.returns-in-Ok-clause-may
-returns-in-Ok-clause-may g c =
+pub returns-in-Ok-clause-step : goal.returns-in-Ok-clause-step
+returns-in-Ok-clause-step g c =
     let t = c.set_page.new.caller in
     let e = c.set_page.ensures in
-    call_aborting (start_of c.args.hall.now) (view t.pass) t.number t.session (ap (λ (z : Session). z.stage) e.same.0 ∙ c.requires.stage) e.ready
+    record {
+      own = e.own;
+      laid = c.requires.step.laid;
+      each = c.requires.step.each;
+      may = call_aborting (start_of c.args.hall.now) (view t.pass) t.number t.session (ap (λ (z : Session). z.stage) e.same.0 ∙ c.requires.stage) e.ready;
+    }
 
-pub returns-in-Err-DiskFault-clause-may : goal.returns-in-Err-DiskFault-clause-may
-returns-in-Err-DiskFault-clause-may g c =
+pub returns-in-Err-DiskFault-clause-step : goal.returns-in-Err-DiskFault-clause-step
+returns-in-Err-DiskFault-clause-step g c =
     let t = c.set_page.new.caller in
     let e = c.set_page.ensures in
-    call_aborting (start_of c.args.hall.now) (view t.pass) t.number t.session (ap (λ (z : Session). z.stage) e.same.0 ∙ c.requires.stage) e.ready
+    record {
+      own = e.own;
+      laid = c.requires.step.laid;
+      each = c.requires.step.each;
+      may = call_aborting (start_of c.args.hall.now) (view t.pass) t.number t.session (ap (λ (z : Session). z.stage) e.same.0 ∙ c.requires.stage) e.ready;
+    }

@@ -7,7 +7,7 @@ use Rattle.session_levels.specs.Stands as levels
 use Rattle.engine_parts.specs.Sessions.{stance_of}
 use Rattle.engine_parts.specs.Stages.{may_be_recorded}
 use Rattle.engine_parts.specs.Standing.{held_by}
-use Rattle.engine_parts.proofs.Calling.{may_counted, own_counted, ran_counted, ran_held, ran_refused}
+use Rattle.engine_parts.proofs.Calling.{may_counted, ran_counted, ran_held, ran_refused, step_counted}
 use Rattle.engine_parts.proofs.Refusing.{first_fails, first_holds, held_up}
 use Rattle.xact_ends.proofs.Acts.{abort_held}
 use Rattle.xact_ends.proofs.aborts.abort.Goals as goal
@@ -34,11 +34,8 @@ returns-then-is_recorded g c =
     (first_fails (length s.levels == 0) refusals.NoTransaction _ (ne_eqb (length s.levels) 0 (λ e. let d = c.depth.ensures in let t = c.if-depth-eq0.false in let same = ap (λ z. length (levels.levels_of z.level_ids.items z.unnamed)) c.count.ensures.levels in omega arith))
     ∙ held_up (held_by commands.Abort stage) refusals.CommitPending _ held.1)
 
-pub abort_open-requires-clause-own : goal.abort_open-requires-clause-own
-abort_open-requires-clause-own g c = own_counted c.args.hall.now c.args.caller.now c.count.new.caller c.count.ensures c.requires.own
-
-pub abort_open-requires-clause-may : goal.abort_open-requires-clause-may
-abort_open-requires-clause-may g c = may_counted c.args.hall.now c.args.caller.now c.count.new.caller c.count.ensures c.requires
+pub abort_open-requires-clause-step : goal.abort_open-requires-clause-step
+abort_open-requires-clause-step g c = step_counted c.args.hall.now c.args.caller.now c.count.new.caller c.count.ensures c.requires
 
 pub abort_open-requires-clause-stage : goal.abort_open-requires-clause-stage
 abort_open-requires-clause-stage g c = sym c.is_recorded.ensures ∙ c.if-is_recorded.false

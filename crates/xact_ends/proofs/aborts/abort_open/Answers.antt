@@ -7,10 +7,10 @@ use Rattle.xact_ends.proofs.aborts.abort_open.Goals as goal
 pub returns-then-is_empty : goal.returns-then-is_empty
 returns-then-is_empty g c =
     let none : c.args.caller.now.session.levels.open_ids.items ≡ [] = search rules in
-    ran_idless c.args.hall.now ends.Abort c.args.caller.now c.close_idless.new.caller c.requires.own c.requires.may none c.requires.levels (abort_free c.args.caller.now.session.stage c.requires.stage) c.close_idless.ensures
+    ran_idless c.args.hall.now ends.Abort c.args.caller.now c.close_idless.new.caller c.requires.step.own c.requires.step.may none c.requires.levels (abort_free c.args.caller.now.session.stage c.requires.stage) c.close_idless.ensures
 
 pub returns : goal.returns
 returns g c =
     let f = c.abort_named in
     let some : 1 ≤ length c.args.caller.now.session.levels.open_ids.items = search rules in
-    ran_abort c.args.hall.now c.args.caller.now f.new.caller f.result f.ensures.own c.requires.may f.ensures.may f.ensures.number some c.requires.stage f.ensures.aborts
+    ran_abort c.args.hall.now c.args.caller.now f.new.caller f.result f.ensures.step.own c.requires.step.may f.ensures.step.may f.ensures.number some c.requires.stage f.ensures.aborts

@@ -9,7 +9,7 @@ use Rattle.engine_parts.specs.declared.session.Stage.TheVariants as stages
 use Rattle.engine_parts.specs.Sessions.{stance_of}
 use Rattle.engine_parts.specs.Stages.{pending_in}
 use Rattle.engine_parts.specs.Standing.{held_by}
-use Rattle.engine_parts.proofs.Calling.{may_counted, own_counted, ran_counted, ran_held, ran_refused}
+use Rattle.engine_parts.proofs.Calling.{may_counted, ran_counted, ran_held, ran_refused, step_counted}
 use Rattle.engine_parts.proofs.Refusing.{first_fails, first_holds, held_up}
 use Rattle.xact_ends.proofs.Acts.{ran_commit}
 use Rattle.xact_ends.proofs.Finishing.{logged_at, settling_at, some_logged, some_settling}
@@ -26,26 +26,17 @@ returns-then-depth-eq0 g c =
     ran_refused c.args.hall.now old c.count.new.caller commands.Commit refusals.NoTransaction c.count.ensures c.requires refl
     (sym (first_holds (length s.levels == 0) refusals.NoTransaction _ (eq-eqb (length s.levels) 0 empty))) (nil_from_length s.levels empty)
 
-pub commit_anew-requires-clause-own : goal.commit_anew-requires-clause-own
-commit_anew-requires-clause-own g c = own_counted c.args.hall.now c.args.caller.now c.count.new.caller c.count.ensures c.requires.own
-
-pub commit_anew-requires-clause-may : goal.commit_anew-requires-clause-may
-commit_anew-requires-clause-may g c = may_counted c.args.hall.now c.args.caller.now c.count.new.caller c.count.ensures c.requires
+pub commit_anew-requires-clause-step : goal.commit_anew-requires-clause-step
+commit_anew-requires-clause-step g c = step_counted c.args.hall.now c.args.caller.now c.count.new.caller c.count.ensures c.requires
 
 pub commit_anew-requires-clause-levels : goal.commit_anew-requires-clause-levels
 commit_anew-requires-clause-levels g c = let d = c.depth.ensures in let t = c.if-depth-eq0.false in omega arith
 
-pub flush_and_finish-requires-clause-own : goal.flush_and_finish-requires-clause-own
-flush_and_finish-requires-clause-own g c = own_counted c.args.hall.now c.args.caller.now c.count.new.caller c.count.ensures c.requires.own
+pub flush_and_finish-requires-clause-step : goal.flush_and_finish-requires-clause-step
+flush_and_finish-requires-clause-step g c = step_counted c.args.hall.now c.args.caller.now c.count.new.caller c.count.ensures c.requires
 
-pub flush_and_finish-requires-clause-may : goal.flush_and_finish-requires-clause-may
-flush_and_finish-requires-clause-may g c = may_counted c.args.hall.now c.args.caller.now c.count.new.caller c.count.ensures c.requires
-
-pub finish-requires-clause-own : goal.finish-requires-clause-own
-finish-requires-clause-own g c = own_counted c.args.hall.now c.args.caller.now c.count.new.caller c.count.ensures c.requires.own
-
-pub finish-requires-clause-may : goal.finish-requires-clause-may
-finish-requires-clause-may g c = may_counted c.args.hall.now c.args.caller.now c.count.new.caller c.count.ensures c.requires
+pub finish-requires-clause-step : goal.finish-requires-clause-step
+finish-requires-clause-step g c = step_counted c.args.hall.now c.args.caller.now c.count.new.caller c.count.ensures c.requires
 
 pub returns-in-Clear : goal.returns-in-Clear
 returns-in-Clear g c = ran_counted c.args.hall.now c.args.caller.now c.count.new.caller c.commit_anew.new.caller commands.Commit _ c.count.ensures c.commit_anew.ensures
@@ -58,7 +49,7 @@ returns-in-Logged g c =
     let f = c.flush_and_finish in
     let m = may_counted hall old u c.count.ensures c.requires in
     ran_counted hall old u f.new.caller commands.Commit _ c.count.ensures
-    (ran_commit hall u f.new.caller f.result f.ensures.own m f.ensures.may f.ensures.number
+    (ran_commit hall u f.new.caller f.result f.ensures.step.own m f.ensures.step.may f.ensures.number
     (some_logged (start_of hall) (view u.pass).seen u.number c.in-Logged.number u.session.levels.open_ids.items (logged_at (start_of hall) (view u.pass) u.number c.in-Logged.number u.session m c.in-Logged.is))
     (ap (held_by commands.Commit) c.in-Logged.is) f.ensures.commits)
 
@@ -70,7 +61,7 @@ returns-in-Settling g c =
     let f = c.finish in
     let m = may_counted hall old u c.count.ensures c.requires in
     ran_counted hall old u f.new.caller commands.Commit _ c.count.ensures
-    (ran_commit hall u f.new.caller f.result f.ensures.own m f.ensures.may f.ensures.number
+    (ran_commit hall u f.new.caller f.result f.ensures.step.own m f.ensures.step.may f.ensures.number
     (some_settling (start_of hall) (view u.pass).seen u.number c.in-Settling.steps u.session.levels.open_ids.items (settling_at (start_of hall) (view u.pass) u.number c.in-Settling.steps u.session m c.in-Settling.is))
     (ap (held_by commands.Commit) c.in-Settling.is) f.ensures.commits)
 

@@ -9,10 +9,10 @@ use Rattle.xact_ends.proofs.commits.commit_anew.Goals as goal
 pub returns-then-is_empty : goal.returns-then-is_empty
 returns-then-is_empty g c =
     let none : c.args.caller.now.session.levels.open_ids.items ≡ [] = search rules in
-    ran_idless c.args.hall.now ends.Commit c.args.caller.now c.close_idless.new.caller c.requires.own c.requires.may none c.requires.levels (ap (held_by commands.Commit) c.requires.stage) c.close_idless.ensures
+    ran_idless c.args.hall.now ends.Commit c.args.caller.now c.close_idless.new.caller c.requires.step.own c.requires.step.may none c.requires.levels (ap (held_by commands.Commit) c.requires.stage) c.close_idless.ensures
 
 pub returns : goal.returns
 returns g c =
     let f = c.start_commit in
     let some : 1 ≤ length c.args.caller.now.session.levels.open_ids.items = search rules in
-    ran_commit c.args.hall.now c.args.caller.now f.new.caller f.result f.ensures.own c.requires.may f.ensures.may f.ensures.number some (ap (held_by commands.Commit) c.requires.stage) f.ensures.commits
+    ran_commit c.args.hall.now c.args.caller.now f.new.caller f.result f.ensures.step.own c.requires.step.may f.ensures.step.may f.ensures.number some (ap (held_by commands.Commit) c.requires.stage) f.ensures.commits

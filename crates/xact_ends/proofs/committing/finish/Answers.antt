@@ -16,12 +16,15 @@ end_transaction-requires-clause-some g c =
     let n = c.args.caller.now.number in
     let settled = c.in-Ok.ensures.settles.1 in
     subst (λ (z : Session). 1 ≤ length z.levels.open_ids.items) (sym settled.1)
-    (some_settling start v.seen n c.args.from s.levels.open_ids.items (settling_at start v n c.args.from s c.requires.may c.requires.stage))
+    (some_settling start v.seen n c.args.from s.levels.open_ids.items (settling_at start v n c.args.from s c.requires.step.may c.requires.stage))
 
 pub end_transaction-requires-clause-end : goal.end_transaction-requires-clause-end
 end_transaction-requires-clause-end g c =
     let x = c.in-Ok.ensures.settles in
     may_end_settled (start_of c.args.hall.now) (view c.set_tree.new.caller.pass).seen c.args.caller.now.session c.set_tree.new.caller.session x.1.0 x.1.1 x.2
+
+pub returns-in-Ok-clause-step : goal.returns-in-Ok-clause-step
+returns-in-Ok-clause-step g c = let e = c.end_transaction.ensures in record { own = e.own; laid = c.requires.step.laid; each = c.requires.step.each; may = e.may }
 
 pub returns-in-Ok-clause-commits : goal.returns-in-Ok-clause-commits
 returns-in-Ok-clause-commits g c =

@@ -16,17 +16,22 @@ flush_log-requires-clause-stands g c =
     let v = view c.args.caller.now.pass in
     let s = c.args.caller.now.session in
     let n = c.args.caller.now.number in
-    number_stands start v.seen n c.args.number s.levels.open_ids.items (logged_at start v n c.args.number s c.requires.may c.requires.stage)
+    number_stands start v.seen n c.args.number s.levels.open_ids.items (logged_at start v n c.args.number s c.requires.step.may c.requires.stage)
 
-pub finish-requires-clause-may : goal.finish-requires-clause-may
-finish-requires-clause-may g c =
+pub finish-requires-clause-step : goal.finish-requires-clause-step
+finish-requires-clause-step g c =
     let start = start_of c.args.hall.now in
     let t = c.flush_log.new.caller in
     let w = view t.pass in
     let m = c.flush_log.ensures.may in
     let stage : t.session.stage ≡ stages.Logged c.args.number = ap (λ (z : Session). z.stage) c.flush_log.ensures.same.0 ∙ c.requires.stage in
     let l = logged_at start w t.number c.args.number t.session m stage in
-    call_settled start w t.number t.session 0 (ap may_be_aborted stage) m.ready (flushed_settling start w.seen t.number c.args.number t.session.levels.open_ids.items l c.in-Ok.ensures.flushes)
+    record {
+      own = c.flush_log.ensures.own;
+      laid = c.requires.step.laid;
+      each = c.requires.step.each;
+      may = call_settled start w t.number t.session 0 (ap may_be_aborted stage) m.ready (flushed_settling start w.seen t.number c.args.number t.session.levels.open_ids.items l c.in-Ok.ensures.flushes);
+    }
 
 pub returns-in-Ok-clause-commits : goal.returns-in-Ok-clause-commits
 returns-in-Ok-clause-commits g c =
@@ -40,6 +45,9 @@ returns-in-Ok-clause-commits g c =
     commits_then start n t.number s (record t.session { stage = stages.Settling 0 }) x.session (view c.args.caller.now.pass).seen (view t.pass).seen more c.finish.result same.1 (ap (λ (z : Session). z.levels) same.0) c.flush_log.ensures.went.on
     (λ e q. subst (λ (z : Stage). Stops start more (by_at n s.levels.commands) z x.session.stage e) (sym c.requires.stage) (stops_flushed start more (by_at n s.levels.commands) c.args.number x.session.stage e q))
     c.finish.ensures.commits
+
+pub returns-in-Err-clause-step : goal.returns-in-Err-clause-step
+returns-in-Err-clause-step g c = let e = c.flush_log.ensures in record { own = e.own; laid = c.requires.step.laid; each = c.requires.step.each; may = e.may }
 
 pub returns-in-Err-clause-commits : goal.returns-in-Err-clause-commits
 returns-in-Err-clause-commits g c =

@@ -14,6 +14,12 @@ use Rattle.xact_ends.proofs.committing.log_and_finish.Goals as goal
 pub append_commit-requires-clause-record : goal.append_commit-requires-clause-record
 append_commit-requires-clause-record g c = subst (λ (l : List ℕ). IsCommitOf l c.in-Ok.rec) c.deref.ensures.value c.in-Ok.ensures
 
+pub flush_and_finish-requires-clause-step : goal.flush_and_finish-requires-clause-step
+flush_and_finish-requires-clause-step g c = let e = c.append_commit.ensures in record { own = e.own; laid = c.requires.step.laid; each = c.requires.step.each; may = e.may }
+
+pub returns-in-Err-append_commit-clause-step : goal.returns-in-Err-append_commit-clause-step
+returns-in-Err-append_commit-clause-step g c = let e = c.append_commit.ensures in record { own = e.own; laid = c.requires.step.laid; each = c.requires.step.each; may = e.may }
+
 pub returns-in-Err-append_commit-clause-commits : goal.returns-in-Err-append_commit-clause-commits
 returns-in-Err-append_commit-clause-commits g c =
     let start = start_of c.args.hall.now in

@@ -8,37 +8,43 @@ use Rattle.xact_ends.specs.Stops.{Stops}
 use Rattle.xact_ends.proofs.Finishing.{commits_then, link_stops}
 use Rattle.xact_ends.proofs.committing.start_commit.Goals as goal
 
+pub log_and_finish-requires-clause-step : goal.log_and_finish-requires-clause-step
+log_and_finish-requires-clause-step g c = let e = c.record_parent.ensures in record { own = e.own; laid = c.requires.step.laid; each = c.requires.step.each; may = e.may }
+
 pub log_and_finish-requires-clause-stage : goal.log_and_finish-requires-clause-stage
-log_and_finish-requires-clause-stage g c = ap (λ (z : Session). z.stage) c.in-Ok.ensures.links.1 ∙ c.requires.stage
+log_and_finish-requires-clause-stage g c = ap (λ (z : Session). z.stage) c.in-Ok.ensures.recorded ∙ c.requires.stage
 
 pub log_and_finish-requires-clause-linked : goal.log_and_finish-requires-clause-linked
-log_and_finish-requires-clause-linked g c = ap (λ (z : Session). z.unlinked) c.in-Ok.ensures.links.1
+log_and_finish-requires-clause-linked g c = ap (λ (z : Session). z.unlinked) c.in-Ok.ensures.recorded
 
 pub log_and_finish-requires-clause-some : goal.log_and_finish-requires-clause-some
-log_and_finish-requires-clause-some g c = subst (λ (z : Session). 1 ≤ length z.levels.open_ids.items) (sym c.in-Ok.ensures.links.1) c.requires.some
+log_and_finish-requires-clause-some g c = subst (λ (z : Session). 1 ≤ length z.levels.open_ids.items) (sym c.in-Ok.ensures.recorded) c.requires.some
 
 pub returns-in-Ok-clause-commits : goal.returns-in-Ok-clause-commits
 returns-in-Ok-clause-commits g c =
     let start = start_of c.args.hall.now in
     let s = c.args.caller.now.session in
     let n = c.args.caller.now.number in
-    let t = c.link_missing.new.caller in
+    let t = c.record_parent.new.caller in
     let x = c.log_and_finish.new.caller in
     let more = (view x.pass).seen in
-    let links = c.in-Ok.ensures.links in
-    commits_then start n t.number s t.session x.session (view c.args.caller.now.pass).seen (view t.pass).seen more c.log_and_finish.result c.link_missing.ensures.number (ap (λ (z : Session). z.levels) links.1) links.0
-    (λ e q. subst (λ (z : Stage). Stops start more (by_at n s.levels.commands) z x.session.stage e) (ap (λ (z : Session). z.stage) links.1) q)
+    let recorded = c.in-Ok.ensures.recorded in
+    commits_then start n t.number s t.session x.session (view c.args.caller.now.pass).seen (view t.pass).seen more c.log_and_finish.result c.record_parent.ensures.number (ap (λ (z : Session). z.levels) recorded) c.record_parent.ensures.went.on
+    (λ e q. subst (λ (z : Stage). Stops start more (by_at n s.levels.commands) z x.session.stage e) (ap (λ (z : Session). z.stage) recorded) q)
     c.log_and_finish.ensures.commits
+
+pub returns-in-Err-clause-step : goal.returns-in-Err-clause-step
+returns-in-Err-clause-step g c = let e = c.record_parent.ensures in record { own = e.own; laid = c.requires.step.laid; each = c.requires.step.each; may = e.may }
 
 pub returns-in-Err-clause-commits : goal.returns-in-Err-clause-commits
 returns-in-Err-clause-commits g c =
     let start = start_of c.args.hall.now in
     let s = c.args.caller.now.session in
-    let t = c.link_missing.new.caller in
-    let x = c.in-Err.ensures.links in
+    let t = c.record_parent.new.caller in
+    let x = c.in-Err.ensures.recorded in
     let by = by_at c.args.caller.now.number s.levels.commands in
-    let stage : t.session.stage ≡ stages.Clear = ap (λ (z : Session). z.stage) x.1 ∙ c.requires.stage in (
-      x.0,
-      ap (λ (z : Session). z.levels) x.1,
-      subst (λ (z : Stage × Stage). Stops start (view t.pass).seen by z.0 z.1 c.in-Err.refusal) (λ j. (sym c.requires.stage j, sym stage j)) (link_stops start (view t.pass).seen by c.in-Err.refusal x.2),
+    let stage : t.session.stage ≡ stages.Clear = ap (λ (z : Session). z.stage) x.0 ∙ c.requires.stage in (
+      c.record_parent.ensures.went.on,
+      ap (λ (z : Session). z.levels) x.0,
+      subst (λ (z : Stage × Stage). Stops start (view t.pass).seen by z.0 z.1 c.in-Err.refusal) (λ j. (sym c.requires.stage j, sym stage j)) (link_stops start (view t.pass).seen by c.in-Err.refusal x.1),
     )

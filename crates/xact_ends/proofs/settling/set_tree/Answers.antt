@@ -8,7 +8,7 @@ use Rattle.engine_parts.specs.declared.session.Stage.TheVariants as stages
 use Rattle.engine_parts.specs.Sessions.{by_at}
 use Rattle.engine_parts.specs.Steps.{GoesOn}
 use Rattle.engine_parts.proofs.Stepping.{goes_then}
-use Rattle.xact_ends.specs.Stops.{IsXactFault}
+use Rattle.bank_sections.specs.Faults.{IsXactFault}
 use Rattle.xact_ends.proofs.Finishing.{settling_at, some_settling}
 use Rattle.xact_ends.proofs.Treeing.{settled_all, steps_few}
 use Rattle.xact_ends.proofs.settling.set_tree.Goals as goal
@@ -20,13 +20,13 @@ step_of-requires g c =
     let start = start_of c.args.hall.now in
     let u = view t.pass in
     subst (λ (l : List ℕ). 1 ≤ length l) (sym c.deref.ensures.value)
-    (some_settling start u.seen t.number c.loop-k.k t.session.levels.open_ids.items (settling_at start u t.number c.loop-k.k t.session i.may (ap (λ (z : Session). z.stage) i.settled)))
+    (some_settling start u.seen t.number c.loop-k.k t.session.levels.open_ids.items (settling_at start u t.number c.loop-k.k t.session i.step.may (ap (λ (z : Session). z.stage) i.settled)))
 
 pub set_step-requires-clause-stage : goal.set_step-requires-clause-stage
 set_step-requires-clause-stage g c = ap (λ (z : Session). z.stage) c.loop-k.invariant.settled
 
-pub set_step-requires-clause-step : goal.set_step-requires-clause-step
-set_step-requires-clause-step g c top subs is = sym (c.in-Some.ensures top subs (c.deref.ensures.value ∙ is))
+pub set_step-requires-clause-planned : goal.set_step-requires-clause-planned
+set_step-requires-clause-planned g c top subs is = sym (c.in-Some.ensures top subs (c.deref.ensures.value ∙ is))
 
 pub returns-in-None-clause-settles : goal.returns-in-None-clause-settles
 returns-in-None-clause-settles g c =
@@ -35,7 +35,7 @@ returns-in-None-clause-settles g c =
     let k = c.loop-k.k in
     let start = start_of c.args.hall.now in
     let u = view t.pass in
-    let settling = settling_at start u t.number k t.session i.may (ap (λ (z : Session). z.stage) i.settled) in
+    let settling = settling_at start u t.number k t.session i.step.may (ap (λ (z : Session). z.stage) i.settled) in
     let none = sym (c.in-None.ensures settling.top settling.subs (c.deref.ensures.value ∙ settling.ids)) in
     (i.goes, (k, i.settled), λ id m. settled_all start u.seen t.number t.session.levels.open_ids.items k settling none id (subst (λ (z : Session). Contains z.levels.open_ids.items id) (sym i.settled) m))
 
@@ -62,8 +62,7 @@ loop-k-preserved g c =
     let more = (view c.set_step.new.caller.pass).seen in
     let x = c.in-Ok.ensures.sets in
     record {
-      own = e.own;
-      may = e.may;
+      step = e.step;
       settled = x.1 ∙ ap (λ (z : Session). record z { stage = stages.Settling (k + 1) }) i.settled;
       number = e.number ∙ i.number;
       goes = goes_then n [] [] (view c.args.caller.now.pass).seen (view t.pass).seen more i.goes (subst (λ z. GoesOn z [] (view t.pass).seen more) i.number x.0);
@@ -78,6 +77,6 @@ unreachable-requires g c =
     let u = view t.pass in
     let few : length c.args.caller.now.session.levels.open_ids.items < 2 ^ 63 = search rules in
     let same = ap (λ (z : Session). length z.levels.open_ids.items) i.settled in
-    let f = steps_few start u.seen t.number t.session.levels.open_ids.items c.loop-k.k (settling_at start u t.number c.loop-k.k t.session i.may (ap (λ (z : Session). z.stage) i.settled)) in
+    let f = steps_few start u.seen t.number t.session.levels.open_ids.items c.loop-k.k (settling_at start u t.number c.loop-k.k t.session i.step.may (ap (λ (z : Session). z.stage) i.settled)) in
     let past = c.loop-k-test.false in
     omega arith

@@ -22,7 +22,7 @@ returns-in_default g c =
     (sym (ap (λ (o : Option ℕ). then_some (is_none o) refusals.NoSnapshot) none)) none
 
 pub drop_registered-requires-clause-own : goal.drop_registered-requires-clause-own
-drop_registered-requires-clause-own g c = own_counted c.args.hall.now c.args.caller.now c.count.new.caller c.count.ensures c.requires.own
+drop_registered-requires-clause-own g c = own_counted c.args.hall.now c.args.caller.now c.count.new.caller c.count.ensures c.requires.step.own
 
 pub drop_registered-requires-clause-may : goal.drop_registered-requires-clause-may
 drop_registered-requires-clause-may g c = may_counted c.args.hall.now c.args.caller.now c.count.new.caller c.count.ensures c.requires
@@ -34,4 +34,4 @@ pub returns : goal.returns
 returns g c = ran_counted c.args.hall.now c.args.caller.now c.count.new.caller c.drop_registered.new.caller (commands.DropSnap c.args.name.now) replies.Done c.count.ensures c.drop_registered.ensures
 
 pub drop_registered-requires-clause-laid : goal.drop_registered-requires-clause-laid
-drop_registered-requires-clause-laid g c = c.requires.laid
+drop_registered-requires-clause-laid g c = c.requires.step.laid

@@ -39,10 +39,10 @@ returns g c =
     ran_counted c.args.hall.now c.args.caller.now c.count.new.caller c.take.new.caller (commands.Snap c.args.name.now) (reply_of replies.Snapped c.take.result) c.count.ensures c.take.ensures
 
 pub take-requires-clause-own : goal.take-requires-clause-own
-take-requires-clause-own g c = own_counted c.args.hall.now c.args.caller.now c.count.new.caller c.count.ensures c.requires.own
+take-requires-clause-own g c = own_counted c.args.hall.now c.args.caller.now c.count.new.caller c.count.ensures c.requires.step.own
 
 pub take-requires-clause-may : goal.take-requires-clause-may
 take-requires-clause-may g c = may_counted c.args.hall.now c.args.caller.now c.count.new.caller c.count.ensures c.requires
 
 pub take-requires-clause-laid : goal.take-requires-clause-laid
-take-requires-clause-laid g c = c.requires.laid
+take-requires-clause-laid g c = c.requires.step.laid

@@ -25,7 +25,7 @@ returns-then-x-lt3 g c =
     let start = start_of c.args.hall.now in
     let may = may_counted c.args.hall.now old u c.count.ensures c.requires in
     let went = went_nowhere u.number (view u.pass).seen in
-    ran_read c.args.hall.now old u u (commands.See name c.args.x) (replies.Seen (not (nat_eq c.args.x.number 0))) c.count.ensures c.requires (own_counted c.args.hall.now old u c.count.ensures c.requires.own) may.ready went refl refl refl
+    ran_read c.args.hall.now old u u (commands.See name c.args.x) (replies.Seen (not (nat_eq c.args.x.number 0))) c.count.ensures c.requires (own_counted c.args.hall.now old u c.count.ensures c.requires.step.own) may.ready went refl refl refl
     (special_answer start (view u.pass) (view u.pass) u.number u.session name c.args.x k may.ready.at went c.in-Some.ensures.found (g.P.PageDisk.tells) (omega arith))
     (sym (not_refused u.session name c.args.x k c.in-Some.ensures.found)) refl refl
 

@@ -5,7 +5,7 @@ use Rattle.engine_parts.specs.declared.session.Session.{Session}
 use Rattle.engine_parts.specs.Sessions.{by_at}
 use Rattle.engine_parts.proofs.Sectioning.{same_command}
 use Rattle.xact_reads.specs.Glances.{IsNamed}
-use Rattle.xact_reads.specs.Readings.{IsParentFault}
+use Rattle.bank_sections.specs.Faults.{IsSubtransFault}
 use Rattle.xact_reads.proofs.Going.{at_same, went_both}
 use Rattle.xact_reads.proofs.Looking.{climb_limits, parent_unread, shows_none, shows_parents}
 use Rattle.xact_reads.proofs.shows.ask_parents.Goals as goal
@@ -45,7 +45,7 @@ returns-in-Err-climb-clause-unread g c =
     let e = c.in-Ok.ensures in
     let w = view c.climb.new.caller.pass in
     parent_unread (start_of c.args.hall.now) w.seen (by_at old.number old.session.levels.commands) c.args.glance.id c.in-Err-climb.refusal
-    (subst (λ (b : By). IsParentFault w.seen b c.in-Err-climb.refusal) (same_command old.number u.number old.session u.session e.same.1 e.same.0) c.in-Err-climb.ensures.fault)
+    (subst (λ (b : By). IsSubtransFault w.seen b c.in-Err-climb.refusal) (same_command old.number u.number old.session u.session e.same.1 e.same.0) c.in-Err-climb.ensures.fault)
 
 pub returns-in-Ok-climb-clause-shown : goal.returns-in-Ok-climb-clause-shown
 returns-in-Ok-climb-clause-shown g c told =

@@ -7,12 +7,12 @@ use Rattle.engine_parts.specs.Sessions.{by_at}
 use Rattle.engine_parts.specs.Steps.{WentOn}
 use Rattle.engine_parts.proofs.Stepping.{went_nowhere, went_then}
 use Rattle.proc_sections.specs.Givings.{GivesId}
-use Rattle.xact_writes.specs.Writes.{IsFaultOf}
+use Rattle.bank_sections.specs.Faults.{IsBankFault}
 use Rattle.xact_writes.proofs.Alike.{alike_from}
 use Rattle.xact_writes.proofs.levels.give_level.Goals as goal
 
 pub loop-init : goal.loop-init
-loop-init g c = (c.requires.own, c.requires.may, went_nowhere c.args.caller.now.number (view c.args.caller.now.pass).seen, (refl, refl))
+loop-init g c = (c.requires.step, went_nowhere c.args.caller.now.number (view c.args.caller.now.pass).seen, (refl, refl))
 
 pub returns-in-Err-clause-gives : goal.returns-in-Err-clause-gives
 returns-in-Err-clause-gives g c =
@@ -22,8 +22,8 @@ returns-in-Err-clause-gives g c =
     let u = view c.loop.caller.pass in
     let w = view c.give_id.new.caller.pass in
     let m = c.in-Err.ensures.gives in (
-      went_then n [] [] v.seen u.seen w.seen i.2 (subst (λ z. WentOn z [] u.seen w.seen) i.3.1 m.0),
-      alike_from c.args.caller.now.session c.give_id.new.caller.session (m.1 ∙ i.3.0),
+      went_then n [] [] v.seen u.seen w.seen i.1 (subst (λ z. WentOn z [] u.seen w.seen) i.2.1 m.0),
+      alike_from c.args.caller.now.session c.give_id.new.caller.session (m.1 ∙ i.2.0),
       inl m.2,
     )
 
@@ -35,9 +35,18 @@ returns-in-Id-clause-gives g c =
     let w = c.give_id.new.caller in
     let a = subst (λ z. GivesId start u.number u.session w.session (view u.pass).seen (view w.pass).seen (Ok z)) c.in-Id.is c.in-Ok.ensures.gives in record {
       middle = (view u.pass).seen;
-      went = i.2;
-      given = subst (λ (z : ℕ × Session). GivesId start z.0 z.1 w.session (view u.pass).seen (view w.pass).seen (Ok (answers.Id c.in-Id.id c.in-Id.warn))) (λ j. (i.3.1 j, i.3.0 j)) a;
+      went = i.1;
+      given = subst (λ (z : ℕ × Session). GivesId start z.0 z.1 w.session (view u.pass).seen (view w.pass).seen (Ok (answers.Id c.in-Id.id c.in-Id.warn))) (λ j. (i.2.1 j, i.2.0 j)) a;
     }
+
+pub returns-in-Err-clause-step : goal.returns-in-Err-clause-step
+returns-in-Err-clause-step g c = let e = c.give_id.ensures in record { own = e.own; laid = c.requires.step.laid; each = c.requires.step.each; may = e.may }
+
+pub returns-in-Id-clause-step : goal.returns-in-Id-clause-step
+returns-in-Id-clause-step g c = let e = c.give_id.ensures in record { own = e.own; laid = c.requires.step.laid; each = c.requires.step.each; may = e.may }
+
+pub make_pages-requires-clause-step : goal.make_pages-requires-clause-step
+make_pages-requires-clause-step g c = let e = c.give_id.ensures in record { own = e.own; laid = c.requires.step.laid; each = c.requires.step.each; may = e.may }
 
 pub make_pages-requires-clause-next : goal.make_pages-requires-clause-next
 make_pages-requires-clause-next g c =
@@ -55,12 +64,12 @@ returns-in-Err-make_pages-clause-gives g c =
     let w = c.make_pages.new.caller in
     let a = subst (λ z. GivesId (start_of c.args.hall.now) u.number u.session x.session (view u.pass).seen (view x.pass).seen (Ok z)) c.in-NeedPage.is c.in-Ok.ensures.gives in
     let e = c.in-Err-make_pages.ensures in
-    let number = c.in-Ok.ensures.number ∙ i.3.1 in
-    let session = a.3 ∙ i.3.0 in
-    let first = went_then n [] [] v.seen (view u.pass).seen (view x.pass).seen i.2 (subst (λ z. WentOn z [] (view u.pass).seen (view x.pass).seen) i.3.1 a.0) in (
+    let number = c.in-Ok.ensures.number ∙ i.2.1 in
+    let session = a.3 ∙ i.2.0 in
+    let first = went_then n [] [] v.seen (view u.pass).seen (view x.pass).seen i.1 (subst (λ z. WentOn z [] (view u.pass).seen (view x.pass).seen) i.2.1 a.0) in (
       went_then n [] [] v.seen (view x.pass).seen (view w.pass).seen first (subst (λ z. WentOn z [] (view x.pass).seen (view w.pass).seen) number e.went),
       alike_from c.args.caller.now.session w.session (e.same.0 ∙ session),
-      inr (subst (λ (b : By). IsFaultOf (view w.pass).seen b c.in-Err-make_pages.refusal) (λ j. by_at (number j) (ap (λ z. z.levels.commands) session j)) e.fault),
+      inr (subst (λ (b : By). IsBankFault (view w.pass).seen b c.in-Err-make_pages.refusal) (λ j. by_at (number j) (ap (λ z. z.levels.commands) session j)) e.fault),
     )
 
 pub loop-preserved : goal.loop-preserved
@@ -73,6 +82,6 @@ loop-preserved g c =
     let w = c.make_pages.new.caller in
     let a = subst (λ z. GivesId (start_of c.args.hall.now) u.number u.session x.session (view u.pass).seen (view x.pass).seen (Ok z)) c.in-NeedPage.is c.in-Ok.ensures.gives in
     let e = c.in-Ok-make_pages.ensures in
-    let number = c.in-Ok.ensures.number ∙ i.3.1 in
-    let first = went_then n [] [] v.seen (view u.pass).seen (view x.pass).seen i.2 (subst (λ z. WentOn z [] (view u.pass).seen (view x.pass).seen) i.3.1 a.0) in
-    (e.own, e.may, went_then n [] [] v.seen (view x.pass).seen (view w.pass).seen first (subst (λ z. WentOn z [] (view x.pass).seen (view w.pass).seen) number e.went), (e.same.0 ∙ (a.3 ∙ i.3.0), e.same.1 ∙ number))
+    let number = c.in-Ok.ensures.number ∙ i.2.1 in
+    let first = went_then n [] [] v.seen (view u.pass).seen (view x.pass).seen i.1 (subst (λ z. WentOn z [] (view u.pass).seen (view x.pass).seen) i.2.1 a.0) in
+    (e.step, went_then n [] [] v.seen (view x.pass).seen (view w.pass).seen first (subst (λ z. WentOn z [] (view x.pass).seen (view w.pass).seen) number e.went), (e.same.0 ∙ (a.3 ∙ i.2.0), e.same.1 ∙ number))

@@ -11,14 +11,28 @@ use Rattle.xact_writes.proofs.levels.name_level.Goals as goal
 alike : (s s' : Session) → HasReserved s.levels s'.levels → s'.stage ≡ s.stage → s'.unlinked ≡ s.unlinked → IsAlike s s'
 alike s s' l stage unlinked = record { levels = l; stage = stage; unlinked = unlinked }
 
-pub returns-in_default-clause-may : goal.returns-in_default-clause-may
-returns-in_default-clause-may g c = let old = c.args.caller.now in call_alike (start_of c.args.hall.now) (view old.pass) old.number old.session (record old.session { levels = c.make_room.new.levels }) c.requires.may (record { levels = c.in_default.ensures.reserved; stage = refl; unlinked = refl })
+pub returns-in_default-clause-step : goal.returns-in_default-clause-step
+returns-in_default-clause-step g c =
+    let old = c.args.caller.now in
+    record {
+      own = c.requires.step.own;
+      laid = c.requires.step.laid;
+      each = c.requires.step.each;
+      may = call_alike (start_of c.args.hall.now) (view old.pass) old.number old.session (record old.session { levels = c.make_room.new.levels }) c.requires.step.may (record { levels = c.in_default.ensures.reserved; stage = refl; unlinked = refl });
+    }
 
 pub returns-in_default-clause-gives : goal.returns-in_default-clause-gives
 returns-in_default-clause-gives g c = let old = c.args.caller.now in (went_nowhere old.number (view old.pass).seen, record { levels = c.in_default.ensures.reserved; stage = refl; unlinked = refl }, inl (inl refl))
 
-pub give_level-requires-clause-may : goal.give_level-requires-clause-may
-give_level-requires-clause-may g c = let old = c.args.caller.now in call_alike (start_of c.args.hall.now) (view old.pass) old.number old.session (record old.session { levels = c.make_room.new.levels }) c.requires.may (record { levels = c.in-Ok.ensures.reserved; stage = refl; unlinked = refl })
+pub give_level-requires-clause-step : goal.give_level-requires-clause-step
+give_level-requires-clause-step g c =
+    let old = c.args.caller.now in
+    record {
+      own = c.requires.step.own;
+      laid = c.requires.step.laid;
+      each = c.requires.step.each;
+      may = call_alike (start_of c.args.hall.now) (view old.pass) old.number old.session (record old.session { levels = c.make_room.new.levels }) c.requires.step.may (record { levels = c.in-Ok.ensures.reserved; stage = refl; unlinked = refl });
+    }
 
 pub returns-in-Ok-give_level-clause-gives : goal.returns-in-Ok-give_level-clause-gives
 returns-in-Ok-give_level-clause-gives g c =

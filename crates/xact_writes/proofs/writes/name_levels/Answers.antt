@@ -7,7 +7,7 @@ use Rattle.tx_events.specs.Events.{by_of, is_of}
 use Rattle.tx_model.specs.declared.command.Command.TheVariants as commands
 use Rattle.tx_model.specs.declared.reply.Reply.TheVariants as replies
 use Rattle.tx_core.specs.Entries.{history}
-use Rattle.bank_sections.specs.Parents.{IsParentFault}
+use Rattle.bank_sections.specs.Faults.{IsSubtransFault}
 use Rattle.engine_parts.specs.Calls.{Ran}
 use Rattle.engine_parts.specs.Sessions.{by_at}
 use Rattle.engine_parts.specs.Steps.{WentOn}
@@ -19,7 +19,7 @@ use Rattle.xact_writes.proofs.writes.name_levels.Goals as goal
 pub returns-in_default-clause-ran : goal.returns-in_default-clause-ran
 returns-in_default-clause-ran g c =
     let old = c.args.caller.now in
-    ran_write c.args.hall.now old old (replies.Refused refusals.Memory) c.requires.own c.requires.may refl refl refl
+    ran_write c.args.hall.now old old (replies.Refused refusals.Memory) c.requires.step.own c.requires.step.may refl refl refl
     (acted_at_once g.P.PageDisk.tells (start_of c.args.hall.now) old.number old.session (view old.pass).seen c.requires.clear c.requires.some c.requires.fresh)
 
 pub returns-in-Err-clause-ran : goal.returns-in-Err-clause-ran
@@ -51,10 +51,10 @@ loop-caller-init g c =
     let k = writing_on start n s s u.session [] false v v w (writing_none start n s v c.requires.fresh) e.went (levels_linked s u.session q) in
     let r = c.in-Ok.ensures in
     let unnamed : u.session.levels.unnamed ≡ s.levels.unnamed = ap (λ z. z.levels.unnamed) q in
-    (e.own, e.may, subst (λ (l : List ℕ). Writing start n s u.session l false v w) (sym r.items) k, (e.number, ap (λ z. z.unlinked) q), (let a = r.len in let b = r.exact in omega arith))
+    (record { own = e.own; laid = c.requires.step.laid; each = c.requires.step.each; may = e.may }, subst (λ (l : List ℕ). Writing start n s u.session l false v w) (sym r.items) k, (e.number, ap (λ z. z.unlinked) q), (let a = r.len in let b = r.exact in omega arith))
 
 pub name_level-requires-clause-clear : goal.name_level-requires-clause-clear
-name_level-requires-clause-clear g c = c.loop-caller.invariant.2.stage ∙ c.requires.clear
+name_level-requires-clause-clear g c = c.loop-caller.invariant.1.stage ∙ c.requires.clear
 
 pub returns-in-Err-name_level-clause-ran : goal.returns-in-Err-name_level-clause-ran
 returns-in-Err-name_level-clause-ran g c =
@@ -72,12 +72,12 @@ returns-in-Err-name_level-clause-ran g c =
     let e = c.in-Err-name_level.ensures in
     let m = e.gives in
     let a = m.1 in
-    let number = i.3.0 in
-    let k = writing_on start n s l.caller.session t l.ids.items l.warn v u w i.2 (subst (λ z. WentOn z [] u w) number m.0) (levels_alike l.caller.session t a) in
-    ran_write c.args.hall.now old x (replies.Refused c.in-Err-name_level.refusal) e.own e.may k.stage k.count (e.number ∙ number)
+    let number = i.2.0 in
+    let k = writing_on start n s l.caller.session t l.ids.items l.warn v u w i.1 (subst (λ z. WentOn z [] u w) number m.0) (levels_alike l.caller.session t a) in
+    ran_write c.args.hall.now old x (replies.Refused c.in-Err-name_level.refusal) e.step.own e.step.may k.stage k.count (e.number ∙ number)
     (acted_without g.P.PageDisk.tells start n s t l.ids.items l.warn v w k c.requires.clear c.requires.some c.in-Err-name_level.refusal (let o = c.loop-caller-test.true in let p = a.levels.unnamed in omega arith)
-    (subst (λ (z : ℕ × ℕ). AllByRecursion (λ f. (by_of f).command ≤ z.1) (filter (is_of z.0) (history w))) (λ j. ((e.number ∙ number) j, k.count j)) e.may.ready.at.stands.turn)
-    (subst (λ (b : By). IsWithout start w b c.in-Err-name_level.refusal) (λ j. by_at (number j) (i.2.count j)) m.2))
+    (subst (λ (z : ℕ × ℕ). AllByRecursion (λ f. (by_of f).command ≤ z.1) (filter (is_of z.0) (history w))) (λ j. ((e.number ∙ number) j, k.count j)) e.step.may.ready.at.stands.turn)
+    (subst (λ (b : By). IsWithout start w b c.in-Err-name_level.refusal) (λ j. by_at (number j) (i.1.count j)) m.2))
 
 pub loop-caller-preserved : goal.loop-caller-preserved
 loop-caller-preserved g c =
@@ -93,23 +93,22 @@ loop-caller-preserved g c =
     let y = c.name_level.new.caller.session in
     let w = (view c.record_parent-in-loop-caller.new.caller.pass).seen in
     let t = c.record_parent-in-loop-caller.new.caller.session in
-    let number = i.3.0 in
+    let number = i.2.0 in
     let o = c.in-Ok-name_level.ensures in
     let id = c.in-Ok-name_level.given.0 in
     let late = c.in-Ok-name_level.given.1 in
     let given = subst (λ z. IsGivenLater start z l.caller.session y id late u x) number o.gives in
-    let one = writing_step start n s l.caller.session y l.ids.items id l.warn late v u x i.2 given in
+    let one = writing_step start n s l.caller.session y l.ids.items id l.warn late v u x i.1 given in
     let e = c.in-Ok-record_parent-2.ensures in
     let q = e.recorded in
     let went = subst (λ z. WentOn z [] x w) (o.number ∙ number) e.went in
     let two = writing_on start n s y t (l.ids.items ++ id ∷ []) (l.warn || late) v x w one went (levels_linked y t q) in
     let unnamed : t.levels.unnamed ≡ y.levels.unnamed = ap (λ z. z.levels.unnamed) q in
     let less = given.given.2.unnamed in (
-      e.own,
-      e.may,
+      record { own = e.own; laid = c.requires.step.laid; each = c.requires.step.each; may = e.may },
       subst (λ (z : List ℕ). Writing start n s t z (l.warn || late) v w) (sym c.push_reserved.ensures.items) two,
       (e.number ∙ (o.number ∙ number), ap (λ z. z.unlinked) q),
-      (let a = i.4 in let b = c.push_reserved.ensures.len in let r = c.push_reserved.ensures.capacity in omega arith),
+      (let a = i.3 in let b = c.push_reserved.ensures.len in let r = c.push_reserved.ensures.capacity in omega arith),
     )
 
 pub returns-in-Err-record_parent-clause-ran : goal.returns-in-Err-record_parent-clause-ran
@@ -127,19 +126,19 @@ returns-in-Err-record_parent-clause-ran g c =
     let z = c.record_parent-in-loop-caller.new.caller in
     let w = (view z.pass).seen in
     let t = z.session in
-    let number = i.3.0 in
+    let number = i.2.0 in
     let o = c.in-Ok-name_level.ensures in
     let id = c.in-Ok-name_level.given.0 in
     let late = c.in-Ok-name_level.given.1 in
     let given = subst (λ z. IsGivenLater start z l.caller.session y id late u x) number o.gives in
-    let one = writing_step start n s l.caller.session y l.ids.items id l.warn late v u x i.2 given in
+    let one = writing_step start n s l.caller.session y l.ids.items id l.warn late v u x i.1 given in
     let e = c.in-Err-record_parent.ensures in
     let q = e.recorded in
     let went = subst (λ z. WentOn z [] x w) (o.number ∙ number) e.went in
     let two = writing_on start n s y t (l.ids.items ++ id ∷ []) (l.warn || late) v x w one went (levels_same y t q.0) in
     ran_write c.args.hall.now old z (replies.Refused c.in-Err-record_parent.refusal) e.own e.may two.stage two.count (e.number ∙ (o.number ∙ number))
     (acted_faulted g.P.PageDisk.tells start n s t (l.ids.items ++ id ∷ []) (l.warn || late) v w two c.requires.clear c.requires.some c.in-Err-record_parent.refusal
-    (parent_fault w (by_at n s.levels.commands) c.in-Err-record_parent.refusal (subst (λ (b : By). IsParentFault w b c.in-Err-record_parent.refusal) (λ j. by_at ((o.number ∙ number) j) (one.count j)) q.1)))
+    (parent_fault w (by_at n s.levels.commands) c.in-Err-record_parent.refusal (subst (λ (b : By). IsSubtransFault w b c.in-Err-record_parent.refusal) (λ j. by_at ((o.number ∙ number) j) (one.count j)) q.1)))
 
 pub returns-clause-ran : goal.returns-clause-ran
 returns-clause-ran g c =
@@ -149,8 +148,8 @@ returns-clause-ran g c =
     let l = c.loop-caller in
     let i = l.invariant in
     subst (λ (z : List ℕ). Ran c.args.hall.now s.levels.commands commands.Write (replies.Wrote z l.warn) old l.caller) (sym c.of.ensures)
-    (ran_write c.args.hall.now old l.caller (replies.Wrote l.ids.items l.warn) i.0 i.1 i.2.stage i.2.count i.3.0
-    (acted_wrote g.P.PageDisk.tells start old.number s l.caller.session l.ids.items l.warn (view old.pass).seen (view l.caller.pass).seen i.2 c.requires.clear c.requires.some (let f = c.loop-caller-test.false in omega arith)))
+    (ran_write c.args.hall.now old l.caller (replies.Wrote l.ids.items l.warn) i.0.own i.0.may i.1.stage i.1.count i.2.0
+    (acted_wrote g.P.PageDisk.tells start old.number s l.caller.session l.ids.items l.warn (view old.pass).seen (view l.caller.pass).seen i.1 c.requires.clear c.requires.some (let f = c.loop-caller-test.false in omega arith)))
 
 pub returns-clause-linked : goal.returns-clause-linked
-returns-clause-linked g c = c.loop-caller.invariant.3.1
+returns-clause-linked g c = c.loop-caller.invariant.2.1

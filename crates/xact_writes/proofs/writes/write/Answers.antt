@@ -8,7 +8,7 @@ use Rattle.session_levels.specs.Stands as levels
 use Rattle.engine_parts.specs.Answers.{reply_of}
 use Rattle.engine_parts.specs.Sessions.{stance_of}
 use Rattle.engine_parts.specs.Stages.{pending_in}
-use Rattle.engine_parts.proofs.Calling.{may_counted, own_counted, ran_counted, ran_held, ran_refused}
+use Rattle.engine_parts.proofs.Calling.{may_counted, ran_counted, ran_held, ran_refused, step_counted}
 use Rattle.engine_parts.proofs.Refusing.{first_fails, first_holds, held_up}
 use Rattle.xact_writes.specs.Writes.{IsFresh, reply_to}
 use Rattle.xact_writes.proofs.Writing.{clear_stage, fresh_next}
@@ -36,14 +36,8 @@ returns-in-Some-clause-ran g c =
     (first_fails (length s.levels == 0) refusals.NoTransaction _ (ne_eqb (length s.levels) 0 (λ e. let d = c.depth.ensures in let t = c.if-depth-eq0.false in let same = ap (λ z. length (levels.levels_of z.level_ids.items z.unnamed)) c.count.ensures.levels in omega arith))
     ∙ held_up (pending_in stage) r _ pending)
 
-pub name_levels-requires-clause-own : goal.name_levels-requires-clause-own
-name_levels-requires-clause-own g c = own_counted c.args.hall.now c.args.caller.now c.count.new.caller c.count.ensures c.requires.own
-
-pub name_levels-requires-clause-banks : goal.name_levels-requires-clause-banks
-name_levels-requires-clause-banks g c = (c.requires.each, c.requires.range.0, c.requires.range.1)
-
-pub name_levels-requires-clause-may : goal.name_levels-requires-clause-may
-name_levels-requires-clause-may g c = may_counted c.args.hall.now c.args.caller.now c.count.new.caller c.count.ensures c.requires
+pub name_levels-requires-clause-step : goal.name_levels-requires-clause-step
+name_levels-requires-clause-step g c = step_counted c.args.hall.now c.args.caller.now c.count.new.caller c.count.ensures c.requires
 
 pub name_levels-requires-clause-clear : goal.name_levels-requires-clause-clear
 name_levels-requires-clause-clear g c = clear_stage c.count.new.caller.session.stage (sym c.pending.ensures ∙ c.in_default.is)
@@ -53,7 +47,7 @@ name_levels-requires-clause-fresh g c =
     let old = c.args.caller.now in
     let u = c.count.new.caller in
     let k = c.count.ensures in
-    let fresh = fresh_next old.number old.session.levels.commands (view old.pass).seen c.requires.may.ready.at.stands.turn in
+    let fresh = fresh_next old.number old.session.levels.commands (view old.pass).seen c.requires.step.may.ready.at.stands.turn in
     subst (λ (z : (List (List Entry) × ℕ) × ℕ). IsFresh z.0.0 z.0.1 z.1) (λ j. (((view (sym k.pass j)).seen, sym k.number j), (sym k.levels j).commands)) fresh
 
 pub name_levels-requires-clause-some : goal.name_levels-requires-clause-some

@@ -1,5 +1,5 @@
 use Rattle.std.proofs.Common.{refl}
-use Rattle.xact_reads.proofs.counting.count.Goals as goal
+use Rattle.engine_parts.proofs.session.count.Goals as goal
 
 pub returns : goal.returns
 returns g c = record { pass = refl; number = refl; levels = refl; stage = refl; unlinked = refl }

@@ -1,5 +1,0 @@
-use Rattle.std.proofs.Common.{refl}
-use Rattle.xact_ends.proofs.counting.count.Goals as goal
-
-pub returns : goal.returns
-returns g c = record { pass = refl; number = refl; levels = refl; stage = refl; unlinked = refl }

@@ -1,4 +1,4 @@
-use Rattle.std.proofs.Common.{[], absurd, ap, arith, length, refl, subst, sym, ◌∙◌}
+use Rattle.std.proofs.Common.{[], ap, arith, length, refl, subst, sym, ◌∙◌}
 use Rattle.tx_events.proofs.Membership.{contains_has}
 use Rattle.tx_core.specs.declared.entry.Start.{Start}
 use Rattle.engine_parts.specs.declared.part.Part.TheVariants as parts

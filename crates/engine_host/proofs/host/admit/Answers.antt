@@ -19,7 +19,7 @@ returns-in-Some-clause-caller g c =
       step = record {
         own = split.0;
         laid = host.laid;
-        each = (sym host.banks, host.cluster.banks);
+        each = (sym host.banks, host.cluster.banks.0, host.cluster.banks.1);
         may = new_may_call start w c.args.number _ (new_knows start (view c.args.host.now.pass) w c.args.number _ base host.before c.requires.unseen split.2 known (omega (arith, split.0.wide, host.laid)) fresh refl refl);
       };
       few = omega (arith, fresh.0);

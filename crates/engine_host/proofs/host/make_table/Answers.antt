@@ -92,4 +92,4 @@ pub returns-in-Err-new-clause-refused : goal.returns-in-Err-new-clause-refused
 returns-in-Err-new-clause-refused g c =
     let same = c.in-Err-new.ensures.refused in
     let r = c.requires in
-    record { cluster = r.cluster; banks = r.banks; sessions = r.sessions; base = r.base; count = ap length same ∙ r.count; stand = λ lock part get. r.stand lock part (subst (λ l. slice_get l lock ≡ Some part) same get) }
+    record { cluster = r.cluster; banks = r.banks; sessions = r.sessions; base = r.base; before = r.before; count = ap length same ∙ r.count; stand = λ lock part get. r.stand lock part (subst (λ l. slice_get l lock ≡ Some part) same get) }

@@ -94,10 +94,10 @@ marked_later start lists more id None g m = tt
 marked_later start lists more id (Some state) g m = marked_grows start lists more id state g m
 
 -- where the session asked for no more states
-pub stage_later : (start : Start) (lists more : List (List Entry)) (n : ℕ) (opened : List ℕ) (stage : Stage) → Grows lists more → AsksNothing n lists more → IsInStage start lists n opened stage → IsInStage start more n opened stage
-stage_later start lists more n opened stages.Clear g asks a = λ id state c asked. a id state c (asks id state asked)
-stage_later start lists more n opened (stages.Logged number) g asks l = logged_later start lists more n opened number g asks l
-stage_later start lists more n opened (stages.Settling steps) g asks l = record {
+pub stage_later : (start : Start) (lists more : List (List Entry)) (n : ℕ) (inner : Option ℕ) (opened : List ℕ) (stage : Stage) → Grows lists more → AsksNothing n lists more → IsInStage start lists n inner opened stage → IsInStage start more n inner opened stage
+stage_later start lists more n inner opened stages.Clear g asks a = λ id state c asked. a id state c (asks id state asked)
+stage_later start lists more n inner opened (stages.Logged number) g asks l = logged_later start lists more n opened number g asks l
+stage_later start lists more n inner opened (stages.Settling steps) g asks l = record {
   top = l.top;
   subs = l.subs;
   ids = l.ids;
@@ -106,8 +106,8 @@ stage_later start lists more n opened (stages.Settling steps) g asks l = record 
   done = λ j p before found id c. marked_later start lists more id (state_of p.state) g (l.done j p before found id c);
   fresh = λ p found sub id c asked. l.fresh p found sub id c (asks id states.Committed asked);
 }
-stage_later start lists more n opened stages.Aborting g asks a = tt
-stage_later start lists more n opened stages.Undoing g asks a = tt
+stage_later start lists more n inner opened stages.Aborting g asks a = tt
+stage_later start lists more n inner opened stages.Undoing g asks u = record { savepoint = u.savepoint; innermost = u.innermost; unasked = λ id state c below asked. u.unasked id state c below (asks id state asked) }
 
 -- ---- the session
 

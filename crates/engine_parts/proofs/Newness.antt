@@ -18,7 +18,7 @@ use Rattle.session_levels.specs.Stands.{Stands}
 use Rattle.session_levels.proofs.StandsLemmas.{Stood, stands}
 use Rattle.engine_parts.specs.declared.session.Unlinked.{Unlinked}
 use Rattle.engine_parts.specs.New.{NewMayCall}
-use Rattle.engine_parts.specs.Sessions.{by_at}
+use Rattle.engine_parts.specs.Sessions.{by_at, inner_id}
 use Rattle.engine_parts.specs.Stages.{IsInStage}
 
 fresh_stands : (base : Counters) (n m : ℕ) (s : plain.Session) → IsFresh s → Stands base [] n m s
@@ -56,5 +56,5 @@ new_may_call start v n s w =
           };
         };
       };
-      stage = subst (IsInStage start v.seen n s.levels.open_ids.items) (sym w.stage) (λ id state c asked. subst (λ (t : List ℕ). Has t id) w.fresh.3 (contains_has s.levels.open_ids.items id c));
+      stage = subst (IsInStage start v.seen n (inner_id s) s.levels.open_ids.items) (sym w.stage) (λ id state c asked. subst (λ (t : List ℕ). Has t id) w.fresh.3 (contains_has s.levels.open_ids.items id c));
     }

@@ -8,7 +8,7 @@ use Rattle.engine_parts.specs.declared.session.Stage.{Stage}
 use Rattle.engine_parts.specs.declared.session.Stage.TheVariants as stages
 use Rattle.engine_parts.specs.declared.session.Unlinked.{Unlinked}
 use Rattle.engine_parts.specs.Holds.{Knowledge}
-use Rattle.engine_parts.specs.Sessions.{IsReady, IsThe, MayCall}
+use Rattle.engine_parts.specs.Sessions.{IsReady, IsThe, MayCall, inner_id}
 use Rattle.engine_parts.specs.Stages.{IsInStage, IsSettling, may_be_aborted, may_be_recorded}
 use Rattle.engine_parts.specs.Steps.{WentOn}
 use Rattle.engine_parts.proofs.Going.{stage_later}
@@ -33,7 +33,7 @@ ready_staged start v n s stage recorded aborted r =
     }
 
 -- and may call where the lists say so
-pub call_staged : (start : Start) (v : Knowledge) (n : ℕ) (s : Session) (stage : Stage) → (may_be_recorded stage ≡ false → may_be_recorded s.stage ≡ false) → (may_be_aborted stage ≡ false → may_be_aborted s.stage ≡ false) → IsReady start v n s → IsInStage start v.seen n s.levels.open_ids.items stage → MayCall start v n (record s { stage = stage })
+pub call_staged : (start : Start) (v : Knowledge) (n : ℕ) (s : Session) (stage : Stage) → (may_be_recorded stage ≡ false → may_be_recorded s.stage ≡ false) → (may_be_aborted stage ≡ false → may_be_aborted s.stage ≡ false) → IsReady start v n s → IsInStage start v.seen n (inner_id s) s.levels.open_ids.items stage → MayCall start v n (record s { stage = stage })
 call_staged start v n s stage recorded aborted r i = record { ready = ready_staged start v n s stage recorded aborted r; stage = i }
 
 -- so many steps are done
@@ -44,12 +44,12 @@ call_settled start v n s steps clear r g = call_staged start v n s (stages.Settl
 pub call_went : (start : Start) (v w : Knowledge) (n n' : ℕ) (s s' : Session) → MayCall start v n s → WentOn n [] v.seen w.seen → s' ≡ s → n' ≡ n → IsReady start w n' s' → MayCall start w n' s'
 call_went start v w n n' s s' m went same number r = record {
   ready = r;
-  stage = subst (λ (z : ℕ × Session). IsInStage start w.seen z.0 z.1.levels.open_ids.items z.1.stage) (λ j. (sym number j, sym same j)) (stage_later start v.seen w.seen n s.levels.open_ids.items s.stage went.on.grows went.asks m.stage);
+  stage = subst (λ (z : ℕ × Session). IsInStage start w.seen z.0 (inner_id z.1) z.1.levels.open_ids.items z.1.stage) (λ j. (sym number j, sym same j)) (stage_later start v.seen w.seen n (inner_id s) s.levels.open_ids.items s.stage went.on.grows went.asks m.stage);
 }
 
 -- a session whose abort is pending
 pub call_aborting : (start : Start) (v : Knowledge) (n : ℕ) (s : Session) → s.stage ≡ stages.Aborting → IsReady start v n s → MayCall start v n s
-call_aborting start v n s is r = record { ready = r; stage = subst (IsInStage start v.seen n s.levels.open_ids.items) (sym is) tt }
+call_aborting start v n s is r = record { ready = r; stage = subst (IsInStage start v.seen n (inner_id s) s.levels.open_ids.items) (sym is) tt }
 
 -- the parent that was missing is recorded
 pub call_linked : (start : Start) (v : Knowledge) (n : ℕ) (s : Session) (u : Unlinked) → s.unlinked ≡ Some u → IsLinked start v.seen u.id u.parent → MayCall start v n s → MayCall start v n (record s { unlinked = None })

@@ -9,7 +9,10 @@ mod counting;
 mod idless;
 mod linking;
 mod settling;
+mod undoing;
+mod undos;
 mod waiting;
 
 pub use aborts::abort;
 pub use commits::commit;
+pub use undos::undo;

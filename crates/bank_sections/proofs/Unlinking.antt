@@ -10,7 +10,7 @@ use Rattle.tx_core.specs.ParentsFollow.{IsGivenBelow}
 use Rattle.engine_parts.specs.declared.session.Session.{Session}
 use Rattle.engine_parts.specs.declared.session.Unlinked.{Unlinked}
 use Rattle.engine_parts.specs.Holds.{Knowledge}
-use Rattle.engine_parts.specs.Sessions.{IsAt, IsReady, IsThe, MayCall}
+use Rattle.engine_parts.specs.Sessions.{IsAt, IsReady, IsThe, MayCall, inner_id}
 use Rattle.engine_parts.specs.Stages.{IsInStage}
 use Rattle.engine_parts.specs.Steps.{WentOn}
 use Rattle.engine_parts.proofs.Going.{stage_later}
@@ -20,8 +20,8 @@ use Rattle.bank_sections.specs.Parents.{linked}
 pub call_went : (start : Start) (v w : Knowledge) (n n' : ℕ) (s s' : Session) (added : List Event) → MayCall start v n s → WentOn n added v.seen w.seen → n' ≡ n → s' ≡ s → IsReady start w n' s' → MayCall start w n' s'
 call_went start v w n n' s s' added m went number same r = record {
   ready = r;
-  stage = subst (λ (z : ℕ × Session). IsInStage start w.seen z.0 z.1.levels.open_ids.items z.1.stage) (λ j. (sym number j, sym same j))
-      (stage_later start v.seen w.seen n s.levels.open_ids.items s.stage went.on.grows went.asks m.stage);
+  stage = subst (λ (z : ℕ × Session). IsInStage start w.seen z.0 (inner_id z.1) z.1.levels.open_ids.items z.1.stage) (λ j. (sym number j, sym same j))
+      (stage_later start v.seen w.seen n (inner_id s) s.levels.open_ids.items s.stage went.on.grows went.asks m.stage);
 }
 
 -- the id was given below the parent

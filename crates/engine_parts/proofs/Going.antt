@@ -31,7 +31,7 @@ use Rattle.engine_parts.specs.declared.session.Stage.{Stage}
 use Rattle.engine_parts.specs.declared.session.Stage.TheVariants as stages
 use Rattle.engine_parts.specs.declared.session.Unlinked.{Unlinked}
 use Rattle.engine_parts.specs.Holds.{Knowledge, Learns}
-use Rattle.engine_parts.specs.Sessions.{CallsStay, IsAt, IsFiled, IsReady}
+use Rattle.engine_parts.specs.Sessions.{CallsStay, IsAt, IsFiled, IsReady, inner_id}
 use Rattle.engine_parts.specs.Stages.{AsksNothing, IsAppendedAt, IsInStage, IsLogged, state_of}
 
 beside_of : (n : ℕ) (es : List Event) → ((e : Event) → Has es e → (by_of e).session ≢ n) → AreBeside n es
@@ -94,10 +94,10 @@ marked_later start lists more id None g m = tt
 marked_later start lists more id (Some state) g m = marked_grows start lists more id state g m
 
 -- where the session asked for no more states
-pub stage_later : (start : Start) (lists more : List (List Entry)) (n : ℕ) (opened : List ℕ) (stage : Stage) → Grows lists more → AsksNothing n lists more → IsInStage start lists n opened stage → IsInStage start more n opened stage
-stage_later start lists more n opened stages.Clear g asks a = λ id state c asked. a id state c (asks id state asked)
-stage_later start lists more n opened (stages.Logged number) g asks l = logged_later start lists more n opened number g asks l
-stage_later start lists more n opened (stages.Settling steps) g asks l = record {
+pub stage_later : (start : Start) (lists more : List (List Entry)) (n : ℕ) (inner : Option ℕ) (opened : List ℕ) (stage : Stage) → Grows lists more → AsksNothing n lists more → IsInStage start lists n inner opened stage → IsInStage start more n inner opened stage
+stage_later start lists more n inner opened stages.Clear g asks a = λ id state c asked. a id state c (asks id state asked)
+stage_later start lists more n inner opened (stages.Logged number) g asks l = logged_later start lists more n opened number g asks l
+stage_later start lists more n inner opened (stages.Settling steps) g asks l = record {
   top = l.top;
   subs = l.subs;
   ids = l.ids;
@@ -106,8 +106,8 @@ stage_later start lists more n opened (stages.Settling steps) g asks l = record 
   done = λ j p before found id c. marked_later start lists more id (state_of p.state) g (l.done j p before found id c);
   fresh = λ p found sub id c asked. l.fresh p found sub id c (asks id states.Committed asked);
 }
-stage_later start lists more n opened stages.Aborting g asks a = tt
-stage_later start lists more n opened stages.Undoing g asks a = tt
+stage_later start lists more n inner opened stages.Aborting g asks a = tt
+stage_later start lists more n inner opened stages.Undoing g asks u = record { savepoint = u.savepoint; innermost = u.innermost; unasked = λ id state c below asked. u.unasked id state c below (asks id state asked) }
 
 -- ---- the session
 
@@ -134,7 +134,7 @@ calls_stay start v w n s may l k free =
     let a = may.ready.at in
     let knows : Knows session_of n v.seen w.seen = subst (λ (z : ℕ). Knows session_of z v.seen w.seen) a.name l.knows in record {
       ready = record { at = at_on start v w n s a l k; free = free };
-      stage = stage_later start v.seen w.seen n s.levels.open_ids.items s.stage knows.grows (λ id state asked. own_asks n id state v.seen w.seen knows asked) may.stage;
+      stage = stage_later start v.seen w.seen n (inner_id s) s.levels.open_ids.items s.stage knows.grows (λ id state asked. own_asks n id state v.seen w.seen knows asked) may.stage;
     }
 
 -- a session that goes on to its next command

@@ -1,5 +1,5 @@
 -- How a session stands when it has left a lock, and how the lists went on.
-use Rattle.std.proofs.Common.{None, Contains, Some, ⊎_elim, ◌≡◌, ℕ, ◌≤◌, ◌<◌, List, [], ◌∷◌, ◌++◌, refl, sym, ap, append-nil, subst, ◌∙◌, true, false, Bool, cond, ◌==◌, length, arith, length-set}
+use Rattle.std.proofs.Common.{Option, None, Contains, Some, ⊎_elim, ◌≡◌, ℕ, ◌≤◌, ◌<◌, List, [], ◌∷◌, ◌++◌, refl, sym, ap, append-nil, subst, ◌∙◌, true, false, Bool, cond, ◌==◌, length, arith, length-set}
 use Rattle.std.specs.List.{filter, All, cons_option}
 use Rattle.std.proofs.lemmas.Bool.{false≢true}
 use Rattle.std.proofs.lemmas.List.Elements.{filter-append, Contains-push, All-append, All-cons, All-nil}
@@ -30,7 +30,7 @@ use Rattle.engine_parts.specs.declared.session.Session.{Session}
 use Rattle.engine_parts.specs.declared.session.Stage.{Stage}
 use Rattle.engine_parts.specs.declared.session.Stage.TheVariants as stages
 use Rattle.engine_parts.specs.Holds.{Knowledge, Learns, Leaves}
-use Rattle.engine_parts.specs.Sessions.{IsAt, IsFiled, IsReady, MayCall, by_at}
+use Rattle.engine_parts.specs.Sessions.{IsAt, IsFiled, IsReady, MayCall, by_at, inner_id}
 use Rattle.engine_parts.specs.Stages.{AreUnaborted, AsksNothing, IsInStage, may_be_aborted, may_be_recorded}
 use Rattle.engine_parts.proofs.Going.{filed_later, own_events, stage_later}
 
@@ -172,12 +172,12 @@ ready_recorded start v w n n' number s s' rec e a inside is other clear same nam
 
 -- a call's session at its end, where its one entry asked for no state and it has the same open ids and stage
 pub call_left : (start : Start) (v u w : Knowledge) (n n' lock : ℕ) (s s' : Session) (e : Entry) → MayCall start v n s → Learns v u → lock < length v.seen → Leaves start lock e u w → asks_in e ≡ []
-    → s'.levels.open_ids.items ≡ s.levels.open_ids.items → s'.stage ≡ s.stage → n' ≡ n → IsReady start w n' s' → MayCall start w n' s'
-call_left start v u w n n' lock s s' e m learns inside l none opened stage number r =
+    → inner_id s' ≡ inner_id s → s'.levels.open_ids.items ≡ s.levels.open_ids.items → s'.stage ≡ s.stage → n' ≡ n → IsReady start w n' s' → MayCall start w n' s'
+call_left start v u w n n' lock s s' e m learns inside l none inner opened stage number r =
     let long = learns.long in
     let grown : Grows v.seen w.seen = grows_then v.seen u.seen w.seen learns.knows.grows (grown_left start u w lock e (omega arith) l) in
     record {
       ready = r;
-      stage = subst (λ (z : (List ℕ × Stage) × ℕ). IsInStage start w.seen z.1 z.0.0 z.0.1) (λ j. ((sym opened j, sym stage j), sym number j))
-          (stage_later start v.seen w.seen n s.levels.open_ids.items s.stage grown (asks_nothing start v u w n lock e m.ready.at.name learns inside l none) m.stage);
+      stage = subst (λ (z : ((Option ℕ × List ℕ) × Stage) × ℕ). IsInStage start w.seen z.1 z.0.0.0 z.0.0.1 z.0.1) (λ j. (((sym inner j, sym opened j), sym stage j), sym number j))
+          (stage_later start v.seen w.seen n (inner_id s) s.levels.open_ids.items s.stage grown (asks_nothing start v u w n lock e m.ready.at.name learns inside l none) m.stage);
     }

@@ -17,3 +17,4 @@ pub mod Stepping
 pub mod Newness
 pub mod Placing
 pub mod Sectioning
+pub mod Unrecorded

@@ -24,7 +24,7 @@ use Rattle.engine_parts.specs.declared.session.Session.{Session}
 use Rattle.engine_parts.specs.declared.session.Unlinked.{Unlinked}
 use Rattle.engine_parts.specs.Holds.{Knowledge, Learns}
 use Rattle.engine_parts.specs.New.{IsNew, NewMayCall}
-use Rattle.engine_parts.specs.Sessions.{MayCall, by_at}
+use Rattle.engine_parts.specs.Sessions.{MayCall, by_at, inner_id}
 use Rattle.engine_parts.proofs.Going.{calls_stay}
 use Rattle.engine_parts.specs.Stages.{IsInStage}
 
@@ -65,7 +65,7 @@ first_call start v n s w nothing =
           };
         };
       };
-      stage = subst (IsInStage start v.seen n s.levels.open_ids.items) (sym w.stage) (λ id state c asked. subst (λ (t : List ℕ). Has t id) w.fresh.3 (contains_has s.levels.open_ids.items id c));
+      stage = subst (IsInStage start v.seen n (inner_id s) s.levels.open_ids.items) (sym w.stage) (λ id state c asked. subst (λ (t : List ℕ). Has t id) w.fresh.3 (contains_has s.levels.open_ids.items id c));
     }
 
 -- A session that has no entry knows of the lists as much without all entries: so it stands as it did before the first.

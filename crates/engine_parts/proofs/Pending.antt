@@ -22,7 +22,7 @@ use Rattle.engine_parts.specs.declared.session.Stage.{Stage}
 use Rattle.engine_parts.specs.declared.session.Stage.TheVariants as stages
 use Rattle.engine_parts.specs.Answers.{IsCommitPending, MayAnswer}
 use Rattle.engine_parts.specs.Holds.{Knowledge}
-use Rattle.engine_parts.specs.Sessions.{MayCall, by_at, stance_of}
+use Rattle.engine_parts.specs.Sessions.{MayCall, by_at, inner_id, stance_of}
 use Rattle.engine_parts.specs.Stages.{IsInStage, may_be_recorded, pending_in}
 
 -- the record that a stage tells of
@@ -32,17 +32,17 @@ pub record HasRecord (lists : List (List Entry)) (n : ℕ) (opened : List ℕ) :
   pub ids : opened ≡ top ∷ subs
   pub appended : IsAppended lists n (records.Commit top subs)
 
-pub record_of : (start : Start) (lists : List (List Entry)) (n : ℕ) (opened : List ℕ) (stage : Stage) → may_be_recorded stage ≡ true → IsInStage start lists n opened stage → HasRecord lists n opened
-record_of start lists n opened stages.Clear q i = absurd (false≢true q)
-record_of start lists n opened (stages.Logged number) q i = record { top = i.top; subs = i.subs; ids = i.ids; appended = appended_at lists n (records.Commit i.top i.subs) i.appended.place i.appended.by i.appended.own i.appended.stands }
-record_of start lists n opened (stages.Settling steps) q i = record { top = i.top; subs = i.subs; ids = i.ids; appended = flushed_appended start lists n (records.Commit i.top i.subs) i.flushed }
-record_of start lists n opened stages.Aborting q i = absurd (false≢true q)
-record_of start lists n opened stages.Undoing q i = absurd (false≢true q)
+pub record_of : (start : Start) (lists : List (List Entry)) (n : ℕ) (inner : Option ℕ) (opened : List ℕ) (stage : Stage) → may_be_recorded stage ≡ true → IsInStage start lists n inner opened stage → HasRecord lists n opened
+record_of start lists n inner opened stages.Clear q i = absurd (false≢true q)
+record_of start lists n inner opened (stages.Logged number) q i = record { top = i.top; subs = i.subs; ids = i.ids; appended = appended_at lists n (records.Commit i.top i.subs) i.appended.place i.appended.by i.appended.own i.appended.stands }
+record_of start lists n inner opened (stages.Settling steps) q i = record { top = i.top; subs = i.subs; ids = i.ids; appended = flushed_appended start lists n (records.Commit i.top i.subs) i.flushed }
+record_of start lists n inner opened stages.Aborting q i = absurd (false≢true q)
+record_of start lists n inner opened stages.Undoing q i = absurd (false≢true q)
 
 pub commit_pends : (start : Start) (v : Knowledge) (n : ℕ) (s : Session) → MayCall start v n s → may_be_recorded s.stage ≡ true → IsCommitPending v.seen (by_at n (s.levels.commands + 1)) (stance_of s)
 commit_pends start v n s m recorded =
     let a = m.ready.at in
-    let r = record_of start v.seen n s.levels.open_ids.items s.stage recorded m.stage in
+    let r = record_of start v.seen n (inner_id s) s.levels.open_ids.items s.stage recorded m.stage in
     let e : Entry = record { by = r.appended.0; kind = kinds.Append (records.Commit r.top r.subs) } in
     let mine : Contains (filter (λ (f : Entry). f.by.session == n) (at v.seen log_lock)) e =
     has_contains _ e (filter_has (λ (f : Entry). f.by.session == n) (at v.seen log_lock) e (contains_has (at v.seen log_lock) e r.appended.2) (eq-eqb r.appended.0.session n r.appended.1)) in

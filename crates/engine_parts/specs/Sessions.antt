@@ -13,6 +13,7 @@ use Rattle.tx_core.specs.PagesBeforeIds.{IsMade}
 use Rattle.tx_core.specs.ParentsFollow.{IsGivenBelow}
 use Rattle.tx_core.specs.ProgramOrder.{IsInTurn}
 use Rattle.session_levels.specs.Stands as levels
+use Rattle.tx_model.specs.CommandEvents.{innermost}
 use Rattle.tx_model.specs.Stance.{Stance}
 use Rattle.engine_parts.specs.declared.session.Session.{Session}
 use Rattle.engine_parts.specs.declared.session.Unlinked.{Unlinked}
@@ -30,6 +31,10 @@ look_by n s = look_of (by_at n s.levels.commands)
 -- the session as its lines leave it
 abbrev pub stance_of : Session → Stance
 stance_of s = levels.stance_of s.levels
+
+-- the id of its innermost level
+abbrev pub inner_id : Session → Option ℕ
+inner_id s = innermost (stance_of s).levels
 
 abbrev pub IsThe : Option Unlinked → ℕ → Type 0
 IsThe None id = ⊥
@@ -72,7 +77,7 @@ pub record IsReady (start : Start) (v : Knowledge) (n : ℕ) (s : Session) : Typ
 -- it stands between two calls, with an end that was begun as far as its stage says
 pub record MayCall (start : Start) (v : Knowledge) (n : ℕ) (s : Session) : Type 0 where
   pub ready : IsReady start v n s
-  pub stage : IsInStage start v.seen n s.levels.open_ids.items s.stage
+  pub stage : IsInStage start v.seen n (inner_id s) s.levels.open_ids.items s.stage
 
 -- while others go on, it may call still
 abbrev pub CallsStay : Type 0

@@ -29,7 +29,6 @@ may_be_recorded _ = false
 -- whether an abort record of some of it may
 abbrev pub may_be_aborted : Stage → Bool
 may_be_aborted stages.Aborting = true
-may_be_aborted stages.Undoing = true
 may_be_aborted _ = false
 
 -- no abort record of the session names one of these ids
@@ -93,10 +92,16 @@ pub record IsSettling (start : Start) (lists : List (List Entry)) (n : ℕ) (ope
   pub fresh : (p : PlanStep) → slice_get (plan top subs) steps ≡ Some p → state_of p.state ≡ Some states.SubCommitted
       → (id : ℕ) → Contains opened id → Asks lists n id states.Committed → ⊥
 
--- what the lists say where the session's end has come so far
-abbrev pub IsInStage : Start → List (List Entry) → ℕ → List ℕ → Stage → Type 0
-IsInStage start lists n opened stages.Clear = AreUnasked lists n opened
-IsInStage start lists n opened (stages.Logged number) = IsLogged start lists n opened number
-IsInStage start lists n opened (stages.Settling steps) = IsSettling start lists n opened steps
-IsInStage start lists n opened stages.Aborting = Unit {0}
-IsInStage start lists n opened stages.Undoing = Unit {0}
+-- the innermost level has an id, and of the open ids before it the session asked for no state
+pub record IsUndoing (lists : List (List Entry)) (n : ℕ) (inner : Option ℕ) (opened : List ℕ) : Type 0 where
+  pub savepoint : ℕ
+  pub innermost : inner ≡ Some savepoint
+  pub unasked : (id : ℕ) (state : State) → Contains opened id → id < savepoint → Asks lists n id state → ⊥
+
+-- What the lists say where the session's end has come so far. An undo is of the innermost level.
+abbrev pub IsInStage : Start → List (List Entry) → ℕ → Option ℕ → List ℕ → Stage → Type 0
+IsInStage start lists n inner opened stages.Clear = AreUnasked lists n opened
+IsInStage start lists n inner opened (stages.Logged number) = IsLogged start lists n opened number
+IsInStage start lists n inner opened (stages.Settling steps) = IsSettling start lists n opened steps
+IsInStage start lists n inner opened stages.Aborting = Unit {0}
+IsInStage start lists n inner opened stages.Undoing = IsUndoing lists n inner opened

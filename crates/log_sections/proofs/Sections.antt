@@ -38,7 +38,7 @@ use Rattle.engine_parts.specs.Holds.{Knowledge, Learns, Leaves, Section}
 use Rattle.engine_parts.specs.Faults.{look_of}
 use Rattle.engine_parts.specs.Law.{MayKeep}
 use Rattle.engine_parts.specs.Parts.{IsLogOf}
-use Rattle.engine_parts.specs.Sessions.{IsAt, IsReady, IsThe, MayCall, by_at}
+use Rattle.engine_parts.specs.Sessions.{IsAt, IsReady, IsThe, MayCall, by_at, inner_id}
 use Rattle.engine_parts.specs.Stages.{AreUnasked, IsAppendedAt, IsInStage, may_be_aborted, may_be_recorded}
 use Rattle.engine_parts.specs.Stand.{IsDownAt}
 use Rattle.session_levels.proofs.HeadLemmas.{first_top}
@@ -89,10 +89,10 @@ call_recorded start v u w n n' number s s' rec m clear r learns inside l is same
     let long = learns.long in
     let e : Entry = record { by = by_at n s.levels.commands; kind = kinds.Append rec } in
     let asks = asks_nothing start v u w n log_lock e m.ready.at.name learns inside l refl in
-    let free : AreUnasked v.seen n s.levels.open_ids.items = subst (IsInStage start v.seen n s.levels.open_ids.items) clear m.stage in
+    let free : AreUnasked v.seen n s.levels.open_ids.items = subst (IsInStage start v.seen n (inner_id s) s.levels.open_ids.items) clear m.stage in
     record {
       ready = ready;
-      stage = subst (λ (z : Session × ℕ). IsInStage start w.seen z.1 z.0.levels.open_ids.items z.0.stage) (λ j. (sym same j, sym name j)) (record {
+      stage = subst (λ (z : Session × ℕ). IsInStage start w.seen z.1 (inner_id z.0) z.0.levels.open_ids.items z.0.stage) (λ j. (sym same j, sym name j)) (record {
         top = r.top;
         subs = r.subs;
         ids = r.ids;

@@ -27,7 +27,7 @@ use Rattle.engine_parts.specs.declared.session.Session.{Session}
 use Rattle.engine_parts.specs.declared.session.Stage.TheVariants as stages
 use Rattle.engine_parts.specs.Holds.{Knowledge, Leaves}
 use Rattle.engine_parts.specs.Law.{MayKeep}
-use Rattle.engine_parts.specs.Sessions.{IsAt, IsReady, MayCall, by_at}
+use Rattle.engine_parts.specs.Sessions.{IsAt, IsReady, MayCall, by_at, inner_id}
 use Rattle.engine_parts.proofs.Leaving.{at_left, history_event}
 use Rattle.engine_parts.proofs.Pending.{record_of}
 use Rattle.engine_parts.specs.Stages.{AreUnaborted}
@@ -47,7 +47,7 @@ RecordFor ends.Abort lists n top subs = HasNoRecord lists n
 
 pub record_for : (start : Start) (how : XactEnd) (v u : Knowledge) (n top : ℕ) (subs : List ℕ) (s : Session) → MayCall start v n s → IsAt start u n s → Grows v.seen u.seen → s.levels.open_ids.items ≡ top ∷ subs → MayEnd start v.seen s how → RecordFor how u.seen n top subs
 record_for start ends.Commit v u n top subs s m a g split end =
-    let r = record_of start v.seen n s.levels.open_ids.items s.stage end.recorded m.stage in
+    let r = record_of start v.seen n (inner_id s) s.levels.open_ids.items s.stage end.recorded m.stage in
     let same : r.top ∷ r.subs ≡ top ∷ subs = sym r.ids ∙ split in
     appended_grows v.seen u.seen n (records.Commit top subs) g (subst (λ (z : ℕ × List ℕ). IsAppended v.seen n (records.Commit z.0 z.1)) (λ j. (heads r.top top r.subs subs same j, tails r.top top r.subs subs same j)) r.appended)
 record_for start ends.Abort v u n top subs s m a g split end = a.clear end.recorded

@@ -1,3 +1,4 @@
 pub mod Making
 pub mod Naming
 pub mod Closing
+pub mod Cutting

@@ -40,7 +40,7 @@ use Rattle.engine_parts.specs.declared.session.Stage.TheVariants as stages
 use Rattle.engine_parts.specs.declared.session.Unlinked.{Unlinked}
 use Rattle.engine_parts.specs.Holds.{Knowledge, Leaves}
 use Rattle.engine_parts.specs.Law.{MayKeep}
-use Rattle.engine_parts.specs.Sessions.{IsAt, IsFiled, IsReady, IsThe, MayCall, by_at}
+use Rattle.engine_parts.specs.Sessions.{IsAt, IsFiled, IsReady, IsThe, MayCall, by_at, inner_id}
 use Rattle.engine_parts.specs.Stages.{AreUnasked, AsksNothing, IsInStage, may_be_recorded, AreUnaborted, may_be_aborted}
 use Rattle.engine_parts.proofs.Leaving.{at_left, grown_left, history_event}
 use Rattle.tx_core.proofs.Asking.{upheld_has}
@@ -165,7 +165,7 @@ unasked_given start v n id more k is on state asked =
 -- a call's session that was given an id
 pub call_given : (start : Start) (v u w : Knowledge) (n n' : ℕ) (s s' : Session) (id : ℕ) → MayCall start v n s → s.stage ≡ stages.Clear → Grows v.seen u.seen → id ≡ next_given start.base.next (history u.seen) → AsksNothing n v.seen w.seen → IsNamed s s' id → n' ≡ n → IsReady start w n' s' → MayCall start w n' s'
 call_given start v u w n n' s s' id m clear grows is asks g name ready =
-    let free : AreUnasked v.seen n s.levels.open_ids.items = subst (IsInStage start v.seen n s.levels.open_ids.items) clear m.stage in
+    let free : AreUnasked v.seen n s.levels.open_ids.items = subst (IsInStage start v.seen n (inner_id s) s.levels.open_ids.items) clear m.stage in
     let all : AreUnasked w.seen n (s.levels.open_ids.items ++ id ∷ []) = λ x state c asked.
     ⊎_elim
     (λ o. free x state (has_contains s.levels.open_ids.items x o) (asks x state asked))
@@ -173,5 +173,5 @@ call_given start v u w n n' s s' id m clear grows is asks g name ready =
     (has_cases s.levels.open_ids.items (id ∷ []) x (contains_has (s.levels.open_ids.items ++ id ∷ []) x c)) in
     record {
       ready = ready;
-      stage = subst (λ (z : ℕ × List ℕ). IsInStage start w.seen z.0 z.1 s'.stage) (λ j. (sym name j, sym g.opened j)) (subst (IsInStage start w.seen n (s.levels.open_ids.items ++ id ∷ [])) (sym (g.stage ∙ clear)) all);
+      stage = subst (λ (z : ℕ × List ℕ). IsInStage start w.seen z.0 (inner_id s') z.1 s'.stage) (λ j. (sym name j, sym g.opened j)) (subst (IsInStage start w.seen n (inner_id s') (s.levels.open_ids.items ++ id ∷ [])) (sym (g.stage ∙ clear)) all);
     }

@@ -18,7 +18,7 @@ use Rattle.engine_parts.specs.declared.session.Session.{Session}
 use Rattle.engine_parts.specs.declared.session.Stage.{Stage}
 use Rattle.engine_parts.specs.declared.session.Stage.TheVariants as stages
 use Rattle.engine_parts.specs.Holds.{Knowledge}
-use Rattle.engine_parts.specs.Sessions.{MayCall, by_at}
+use Rattle.engine_parts.specs.Sessions.{MayCall, by_at, inner_id}
 use Rattle.engine_parts.specs.Stages.{IsInStage, IsLogged, IsSettling, may_be_recorded}
 use Rattle.engine_parts.specs.Steps.{GoesOn}
 use Rattle.engine_parts.proofs.Stepping.{goes_then}
@@ -32,10 +32,10 @@ use Rattle.xact_ends.specs.Trees.{IsSettledTo}
 -- ---- the lists by the stage
 
 pub logged_at : (start : Start) (v : Knowledge) (n number : ℕ) (s : Session) → MayCall start v n s → s.stage ≡ stages.Logged number → IsLogged start v.seen n s.levels.open_ids.items number
-logged_at start v n number s m is = subst (IsInStage start v.seen n s.levels.open_ids.items) is m.stage
+logged_at start v n number s m is = subst (IsInStage start v.seen n (inner_id s) s.levels.open_ids.items) is m.stage
 
 pub settling_at : (start : Start) (v : Knowledge) (n steps : ℕ) (s : Session) → MayCall start v n s → s.stage ≡ stages.Settling steps → IsSettling start v.seen n s.levels.open_ids.items steps
-settling_at start v n steps s m is = subst (IsInStage start v.seen n s.levels.open_ids.items) is m.stage
+settling_at start v n steps s m is = subst (IsInStage start v.seen n (inner_id s) s.levels.open_ids.items) is m.stage
 
 pub some_logged : (start : Start) (lists : List (List Entry)) (n number : ℕ) (opened : List ℕ) → IsLogged start lists n opened number → 1 ≤ length opened
 some_logged start lists n number opened l = let e = ap length l.ids in omega arith

@@ -4,3 +4,5 @@ pub mod Finishing
 pub mod Staging
 pub mod Treeing
 pub mod Unrecorded
+pub mod RolledBack
+pub mod Undone

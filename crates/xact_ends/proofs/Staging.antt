@@ -6,7 +6,7 @@ use Rattle.engine_parts.specs.declared.session.Session.{Session}
 use Rattle.engine_parts.specs.declared.session.Stage.{Stage}
 use Rattle.engine_parts.specs.declared.session.Stage.TheVariants as stages
 use Rattle.engine_parts.specs.Holds.{Knowledge}
-use Rattle.engine_parts.specs.Sessions.{IsReady, MayCall}
+use Rattle.engine_parts.specs.Sessions.{IsReady, MayCall, inner_id}
 use Rattle.engine_parts.specs.Stages.{IsInStage, IsSettling, may_be_aborted, may_be_recorded}
 
 -- a session that goes on to a stage in which no more is asked of its records
@@ -30,7 +30,7 @@ ready_staged start v n s stage recorded aborted r =
     }
 
 -- and may call where the lists say so
-pub call_staged : (start : Start) (v : Knowledge) (n : ℕ) (s : Session) (stage : Stage) → (may_be_recorded stage ≡ false → may_be_recorded s.stage ≡ false) → (may_be_aborted stage ≡ false → may_be_aborted s.stage ≡ false) → IsReady start v n s → IsInStage start v.seen n s.levels.open_ids.items stage → MayCall start v n (record s { stage = stage })
+pub call_staged : (start : Start) (v : Knowledge) (n : ℕ) (s : Session) (stage : Stage) → (may_be_recorded stage ≡ false → may_be_recorded s.stage ≡ false) → (may_be_aborted stage ≡ false → may_be_aborted s.stage ≡ false) → IsReady start v n s → IsInStage start v.seen n (inner_id s) s.levels.open_ids.items stage → MayCall start v n (record s { stage = stage })
 call_staged start v n s stage recorded aborted r i = record { ready = ready_staged start v n s stage recorded aborted r; stage = i }
 
 -- so many steps are done
@@ -39,4 +39,4 @@ call_settled start v n s steps clear r g = call_staged start v n s (stages.Settl
 
 -- a session whose abort is pending
 pub call_aborting : (start : Start) (v : Knowledge) (n : ℕ) (s : Session) → s.stage ≡ stages.Aborting → IsReady start v n s → MayCall start v n s
-call_aborting start v n s is r = record { ready = r; stage = subst (IsInStage start v.seen n s.levels.open_ids.items) (sym is) tt }
+call_aborting start v n s is r = record { ready = r; stage = subst (IsInStage start v.seen n (inner_id s) s.levels.open_ids.items) (sym is) tt }

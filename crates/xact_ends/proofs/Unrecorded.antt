@@ -25,7 +25,7 @@ use Rattle.tx_core.proofs.Lasting.{given_to_begins, history_grows}
 use Rattle.tx_core.proofs.Reading.{flushed_appended}
 use Rattle.tx_core.proofs.Stepping.{own_appended}
 use Rattle.bank_sections.specs.Sets.{MaySet}
-use Rattle.log_sections.proofs.Aborted.{open_unrecorded}
+use Rattle.engine_parts.proofs.Unrecorded.{open_unrecorded}
 use Rattle.xact_ends.specs.Aborts.{IsOnePage}
 
 -- a committed state of an id has a record of the session to which the id was given

@@ -2,3 +2,4 @@ pub mod Stops
 pub mod Trees
 pub mod Ends
 pub mod Aborts
+pub mod Undos

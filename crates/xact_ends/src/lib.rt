@@ -7,6 +7,9 @@ mod commits;
 mod committing;
 mod idless;
 mod settling;
+mod undoing;
+mod undos;
 
 pub use aborts::abort;
 pub use commits::commit;
+pub use undos::undo;

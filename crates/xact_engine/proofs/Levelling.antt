@@ -1,5 +1,5 @@
 -- What a command on levels leaves, which has no critical section.
-use Rattle.std.proofs.Common.{◌≡◌, ◌≢◌, ◌<◌, ℕ, Bool, false, length, List, [], ◌∷◌, Option, None, nat_lt, nat_le, ◌==◌, refl, sym, ap, subst, ◌∙◌, eq-eqb, ne_eqb, le-leb, lt-ltb, arith}
+use Rattle.std.proofs.Common.{◌≡◌, ◌≢◌, ◌<◌, ℕ, Bool, false, length, List, [], ◌∷◌, Option, None, Some, ◌⊎◌, ⊎_elim, inl, inr, nat_lt, nat_le, ◌==◌, refl, sym, ap, subst, ◌∙◌, eq-eqb, ne_eqb, le-leb, lt-ltb, arith}
 use Rattle.std.proofs.lemmas.Bool.{lt-leb}
 use Rattle.std.specs.Bool.{then_some}
 use Rattle.std.proofs.lemmas.List.{nil_from_length}
@@ -8,6 +8,7 @@ use Rattle.disk_core.specs.declared.page_disk.PageDisk as disks
 use Rattle.hall.specs.declared.hall.Hall.{Hall}
 use Rattle.hall.specs.Calls.{start_of, view}
 use Rattle.tx_events.specs.declared.event.Event.{Event}
+use Rattle.tx_events.specs.declared.refusal.Refusal.{Refusal}
 use Rattle.tx_events.specs.declared.refusal.Refusal.TheVariants as refusals
 use Rattle.tx_events.specs.Events.{given}
 use Rattle.tx_model.specs.declared.command.Command.{Command}
@@ -16,7 +17,7 @@ use Rattle.tx_model.specs.declared.reply.Reply.{Reply}
 use Rattle.tx_model.specs.declared.reply.Reply.TheVariants as replies
 use Rattle.tx_events.specs.declared.event.By.{By}
 use Rattle.tx_events.specs.declared.record.Counters.{Counters}
-use Rattle.tx_model.specs.CommandEvents.{HasEvents}
+use Rattle.tx_model.specs.CommandEvents.{HasEvents, innermost}
 use Rattle.tx_model.specs.Replies.{MayReply, RoundSpan, alone, most_levels}
 use Rattle.tx_model.specs.Stance.{Stance, after}
 use Rattle.tx_core.specs.declared.entry.Entry.{Entry}
@@ -30,11 +31,12 @@ use Rattle.engine_parts.specs.declared.part.Part.{Part}
 use Rattle.engine_parts.specs.declared.session.Caller.{Caller}
 use Rattle.engine_parts.specs.declared.session.Session.{Session}
 use Rattle.engine_parts.specs.declared.session.Stage.{Stage}
+use Rattle.engine_parts.specs.declared.session.Stage.TheVariants as stages
 use Rattle.engine_parts.specs.Answers.{Acted, MayAnswer}
 use Rattle.engine_parts.specs.Calls.{IsCounted, MayRun, Ran, next_command}
 use Rattle.engine_parts.specs.Holds.{Knowledge}
-use Rattle.engine_parts.specs.Sessions.{IsFiled, MayCall, by_at, stance_of}
-use Rattle.engine_parts.specs.Stages.{IsInStage, AreUnaborted}
+use Rattle.engine_parts.specs.Sessions.{IsFiled, MayCall, by_at, inner_id, stance_of}
+use Rattle.engine_parts.specs.Stages.{AreUnaborted, IsInStage, IsUndoing}
 use Rattle.engine_parts.specs.Standing.{by_standing, held_by, refused_by, moves_end}
 use Rattle.tx_core.specs.ProgramOrder.{IsInTurn}
 use Rattle.notes.specs.Lists.{at}
@@ -114,10 +116,40 @@ acted_levels tells start lists lists' base n number s s' stage command reply l f
     (subst (λ (es : List Event). HasEvents (by_at n number) s command reply es) none a.fitting) answer.0 answer.1
     (sym (ap (λ (es : List Event). after s number command reply (given es)) none) ∙ a.left)
 
+-- the session's innermost level is as before, where an undo is pending of it
+abbrev IsInnerKept : Session → Session → Type 0
+IsInnerKept s s' = s.stage ≡ stages.Undoing → (inner_id s' ≡ inner_id s) ⊎ (inner_id s ≡ None)
+
+stage_kept : (start : Start) (lists : List (List Entry)) (n : ℕ) (inner inner' : Option ℕ) (opened : List ℕ) (stage : Stage) → (stage ≡ stages.Undoing → (inner' ≡ inner) ⊎ (inner ≡ None)) → IsInStage start lists n inner opened stage → IsInStage start lists n inner' opened stage
+stage_kept start lists n inner inner' opened stages.Clear kept i = i
+stage_kept start lists n inner inner' opened (stages.Logged number) kept i = i
+stage_kept start lists n inner inner' opened (stages.Settling steps) kept i = i
+stage_kept start lists n inner inner' opened stages.Aborting kept i = i
+stage_kept start lists n inner inner' opened stages.Undoing kept i =
+    ⊎_elim (λ same. subst (λ (o : Option ℕ). IsUndoing lists n o opened) (sym same) i) (λ none. absurd (some_none i.savepoint (sym i.innermost ∙ none))) (kept refl)
+  where
+    some_none : (id : ℕ) → Some id ≡ None → ⊥
+    some_none id e = cc
+
+-- a command on levels is refused where an undo is pending, or finds none
+inner_kept : (base : Counters) (h : List Event) (r : RoundSpan) (by : By) (number : ℕ) (s s' : Stance) (stage : Stage) (command : Command) (reply : Reply) → IsOnLevels command → held_by command stage ≡ None → MayReply base [] h r by s command reply → after s number command reply [] ≡ s' → stage ≡ stages.Undoing → (innermost s'.levels ≡ innermost s.levels) ⊎ (innermost s.levels ≡ None)
+inner_kept base h r by number s s' stage commands.Begin replies.Done on free a left is = inr (ap innermost a)
+inner_kept base h r by number s s' stage commands.Begin (replies.Refused refusals.AlreadyOpen) on free a left is = inl (sym (ap (λ (z : Stance). innermost z.levels) left))
+inner_kept base h r by number s s' stage commands.Begin _ on free a left is = absurd a
+inner_kept base h r by number s s' stage commands.Save reply on free a left is = absurd (held refusals.UndoPending (ap (held_by commands.Save) (sym is) ∙ free))
+  where
+    held : (x : Refusal) → Some x ≡ None → ⊥
+    held x e = cc
+inner_kept base h r by number s s' stage commands.Release reply on free a left is = absurd (held refusals.UndoPending (ap (held_by commands.Release) (sym is) ∙ free))
+  where
+    held : (x : Refusal) → Some x ≡ None → ⊥
+    held x e = cc
+inner_kept base h r by number s s' stage command reply on free a left is = absurd on
+
 -- a session whose levels alone changed, as they stand
 pub call_levels : (start : Start) (v : Knowledge) (n : ℕ) (s s' : Session) (new : plain.Session) → s' ≡ record s { levels = new } → new.commands ≡ s.levels.commands
-    → (Stands start.base (history v.seen) n s.levels.commands s.levels → Stands start.base (history v.seen) n s.levels.commands new) → MayCall start v n s → MayCall start v n s'
-call_levels start v n s s' new is count stands m =
+    → (Stands start.base (history v.seen) n s.levels.commands s.levels → Stands start.base (history v.seen) n s.levels.commands new) → IsInnerKept s (record s { levels = new }) → MayCall start v n s → MayCall start v n s'
+call_levels start v n s s' new is count stands kept m =
     let a = m.ready.at in
     let opened : new.open_ids.items ≡ s.levels.open_ids.items = sym (stands a.stands).opened ∙ a.stands.opened in
     let t : Session = record s { levels = new } in
@@ -138,7 +170,7 @@ call_levels start v n s s' new is count stands m =
           filed = subst (λ (z : List ℕ). IsFiled start v.seen n z s.unlinked) (sym opened) a.filed;
         };
       };
-      stage = subst (λ (z : List ℕ). IsInStage start v.seen n z s.stage) (sym opened) m.stage;
+      stage = subst (λ (z : List ℕ). IsInStage start v.seen n (inner_id t) z s.stage) (sym opened) (stage_kept start v.seen n (inner_id s) (inner_id t) s.levels.open_ids.items s.stage kept m.stage);
     })
 
 -- what a call did that changed levels alone
@@ -148,9 +180,11 @@ module _ {H L P : Type 0} {l : logs.Ghosts L} {p : disks.Ghosts P} (hall : Hall 
   ran_levels old u t command reply on free c m r =
       let start = start_of hall in
       let by = by_at old.number (next_command old) in
+      let a = r.acts start.base [] by in
       let seen = (view old.pass).seen in record {
         own = own_counted hall old u c m.step.own;
-        may = call_levels start (view u.pass) u.number u.session (record u.session { levels = t }) t refl r.count (λ st. r.stands start.base (history (view u.pass).seen) u.number u.session.levels.commands st) (may_counted hall old u c m);
+        may = call_levels start (view u.pass) u.number u.session (record u.session { levels = t }) t refl r.count (λ st. r.stands start.base (history (view u.pass).seen) u.number u.session.levels.commands st) (λ q. inner_kept start.base [] (alone [] []) by by.command (levels.stance_of u.session.levels) (levels.stance_of t) old.session.stage command reply on free a.allowed
+            (ap (λ (es : List Event). after (levels.stance_of u.session.levels) by.command command reply (given es)) a.grown ∙ a.left) (sym c.stage ∙ q)) (may_counted hall old u c m);
         acted = acted_levels (p.tells) start seen (view u.pass).seen start.base old.number (next_command old) (stance_of old.session) (levels.stance_of t) old.session.stage command reply on free (ap (λ q. (view q).seen) c.pass)
             (subst (λ (z : Stance). Acts start.base by z (levels.stance_of t) command reply [] []) (ap levels.stance_of c.levels) (r.acts start.base [] by));
         stage = keeps_stage command reply old.session.stage u.session.stage (on_levels_moves command on) c.stage;

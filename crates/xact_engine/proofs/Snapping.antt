@@ -1,5 +1,5 @@
 -- What taking and dropping a snapshot leaves.
-use Rattle.std.proofs.Common.{◌≡◌, ◌≢◌, ℕ, ◌<◌, nat_le, is_some, is_none, List, [], ◌∷◌, ◌++◌, refl, sym, ap, subst, ◌∙◌, false, true, not, Bool, length, arith, take, Option, Some, None}
+use Rattle.std.proofs.Common.{◌≡◌, ◌≢◌, ℕ, ◌<◌, nat_le, is_some, is_none, List, [], ◌∷◌, ◌++◌, refl, sym, ap, subst, ◌∙◌, false, true, not, Bool, length, arith, take, Option, Some, None, inl}
 use Rattle.std.proofs.lemmas.Bool.{lt-leb}
 use Rattle.std.proofs.lemmas.List.{length-map}
 use Rattle.std.proofs.Math.Seq.{take-append_seam}
@@ -18,6 +18,7 @@ use Rattle.tx_events.specs.Snapshots.{snapshot_data}
 use Rattle.tx_events.proofs.PlaceLemmas.{last_at}
 use Rattle.tx_model.specs.declared.command.Command.TheVariants as commands
 use Rattle.tx_model.specs.declared.reply.Reply.TheVariants as replies
+use Rattle.tx_model.specs.CommandEvents.{innermost}
 use Rattle.tx_model.specs.Stance.{Stance, snap_of, without_snap}
 use Rattle.tx_core.specs.declared.entry.Entry.{Entry}
 use Rattle.tx_core.specs.declared.entry.Kind.TheVariants as kinds
@@ -29,7 +30,7 @@ use Rattle.tx_core.specs.ProgramOrder.{IsInTurn}
 use Rattle.tx_core.proofs.EventLaws.{snap_drop_law, snap_event_law}
 use Rattle.session_levels.specs.declared.session.RegisteredSnapshot.{RegisteredSnapshot}
 use Rattle.session_levels.specs.declared.session.Session as plain
-use Rattle.session_levels.specs.Stands.{Stands, told_of}
+use Rattle.session_levels.specs.Stands.{Stands, levels_of, told_of}
 use Rattle.session_levels.proofs.ActsLemmas.{snap_missing, none_found, not_live, some_found}
 use Rattle.session_levels.proofs.RegisteredLemmas.{stood_dropped, stood_snapped}
 use Rattle.session_levels.proofs.StandsLemmas.{Stood, stood, stands}
@@ -152,4 +153,4 @@ any_found name registered k found = either (list_any (λ x. same_name x.name nam
 pub call_reserved : (start : Start) (v : Knowledge) (n : ℕ) (s : Session) (new : plain.Session) → new ≡ record s.levels { registered = new.registered } → new.registered.items ≡ s.levels.registered.items → MayCall start v n s → MayCall start v n (record s { levels = new })
 call_reserved start v n s new same items m =
     call_levels start v n s (record s { levels = new }) new refl (ap (λ z. z.commands) same)
-    (λ st. stands start.base (history v.seen) n s.levels.commands new (rw (ap (λ z. z.open_ids.items) same, ap (λ z. z.level_ids.items) same, ap (λ z. z.unnamed) same, items) (stood start.base (history v.seen) n s.levels.commands s.levels st))) m
+    (λ st. stands start.base (history v.seen) n s.levels.commands new (rw (ap (λ z. z.open_ids.items) same, ap (λ z. z.level_ids.items) same, ap (λ z. z.unnamed) same, items) (stood start.base (history v.seen) n s.levels.commands s.levels st))) (λ q. inl (ap (λ (z : plain.Session). innermost (levels_of z.level_ids.items z.unnamed)) same)) m

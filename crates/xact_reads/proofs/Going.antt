@@ -12,7 +12,7 @@ use Rattle.tx_core.specs.Entries.{history}
 use Rattle.tx_core.proofs.Lasting.{history_grows}
 use Rattle.engine_parts.specs.declared.session.Session.{Session}
 use Rattle.engine_parts.specs.Holds.{Knowledge}
-use Rattle.engine_parts.specs.Sessions.{IsAt, IsReady, MayCall}
+use Rattle.engine_parts.specs.Sessions.{IsAt, IsReady, MayCall, inner_id}
 use Rattle.engine_parts.specs.Stages.{IsInStage}
 use Rattle.engine_parts.specs.Steps.{WentOn}
 use Rattle.engine_parts.proofs.Going.{stage_later}
@@ -46,8 +46,8 @@ others_went by lists more went =
 pub call_read : (start : Start) (v w : Knowledge) (n n' : ℕ) (s s' : Session) → MayCall start v n s → WentOn n [] v.seen w.seen → n' ≡ n → s' ≡ s → IsReady start w n' s' → MayCall start w n' s'
 call_read start v w n n' s s' m went number same r = record {
   ready = r;
-  stage = subst (λ (z : ℕ × Session). IsInStage start w.seen z.0 z.1.levels.open_ids.items z.1.stage) (λ j. (sym number j, sym same j))
-      (stage_later start v.seen w.seen n s.levels.open_ids.items s.stage went.on.grows went.asks m.stage);
+  stage = subst (λ (z : ℕ × Session). IsInStage start w.seen z.0 (inner_id z.1) z.1.levels.open_ids.items z.1.stage) (λ j. (sym number j, sym same j))
+      (stage_later start v.seen w.seen n (inner_id s) s.levels.open_ids.items s.stage went.on.grows went.asks m.stage);
 }
 
 -- a session that stands the same, in what it has seen since

@@ -10,13 +10,14 @@ use Rattle.tx_core.specs.Entries.{history}
 use Rattle.tx_core.specs.ProgramOrder.{IsInTurn}
 use Rattle.session_levels.specs.declared.session.RegisteredSnapshot.{RegisteredSnapshot}
 use Rattle.session_levels.specs.declared.session.Session as plain
-use Rattle.session_levels.specs.Stands.{last_of}
+use Rattle.session_levels.specs.Stands.{last_of, levels_of}
 use Rattle.session_levels.proofs.StandsLemmas.{Stood, stands, stood}
 use Rattle.engine_parts.specs.declared.session.Session.{Session}
 use Rattle.engine_parts.specs.declared.session.Stage.{Stage}
 use Rattle.engine_parts.specs.declared.session.Unlinked.{Unlinked}
 use Rattle.engine_parts.specs.Holds.{Knowledge}
 use Rattle.engine_parts.specs.Sessions.{IsFiled, MayCall, by_at}
+use Rattle.tx_model.specs.CommandEvents.{innermost}
 use Rattle.engine_parts.specs.Stages.{AreUnaborted, IsInStage, may_be_aborted, may_be_recorded}
 use Rattle.engine_parts.specs.Steps.{WentOn}
 use Rattle.proc_sections.specs.Givings.{GivesId, IsGivenIn, IsNamed, naming, unlinked_of}
@@ -58,7 +59,7 @@ call_alike start v n s s' m k =
           filed = subst (λ (z : List ℕ × Option Unlinked). IsFiled start v.seen n z.0 z.1) (λ j. (sym l.opened j, sym k.unlinked j)) a.filed;
         };
       };
-      stage = subst (λ (z : List ℕ × Stage). IsInStage start v.seen n z.0 z.1) (λ j. (sym l.opened j, sym k.stage j)) m.stage;
+      stage = subst (λ (z : ((List ℕ × ℕ) × List ℕ) × Stage). IsInStage start v.seen n (innermost (levels_of z.0.0.0 z.0.0.1)) z.0.1 z.1) (λ j. (((sym l.named j, sym l.unnamed j), sym l.opened j), sym k.stage j)) m.stage;
     }
 
 pub named_alike : (a b c : Session) (id : ℕ) → IsAlike a b → IsNamed b c id → IsNamed a c id

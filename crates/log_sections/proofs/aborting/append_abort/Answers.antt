@@ -14,7 +14,7 @@ use Rattle.wal_core.specs.Opening.{number_fits}
 use Rattle.wal_core.specs.LogViews.{log_counters, log_disk, log_down, log_first, log_flushed, log_next, log_recs}
 use Rattle.engine_parts.specs.declared.session.Session.{Session}
 use Rattle.engine_parts.specs.Faults.{look_of}
-use Rattle.engine_parts.specs.Sessions.{by_at, look_by}
+use Rattle.engine_parts.specs.Sessions.{by_at, inner_id, look_by}
 use Rattle.engine_parts.proofs.Leaving.{call_left}
 use Rattle.engine_parts.proofs.Logging.{appends, failed_more, goes_on, up_more, log_looks}
 use Rattle.engine_parts.proofs.Sectioning.{same_command, section_of}
@@ -38,7 +38,7 @@ returns-then-not-may_append-clause-may g c =
     let wide = c.requires.may.ready.at.wide in
     let same = r.same.0 ∙ e.same.0 in
     call_left (start_of c.args.hall.now) (view c.args.caller.now.pass) (view c.enter_log-log.new.caller.pass) (view c.leave_looked.new.caller.pass) c.args.caller.now.number c.leave_looked.new.caller.number log_lock c.args.caller.now.session c.leave_looked.new.caller.session _
-    c.requires.may e.entered.learns (omega arith) r.left refl (ap (λ (z : Session). z.levels.open_ids.items) same) (ap (λ (z : Session). z.stage) same) (r.same.1 ∙ e.same.1) r.ready
+    c.requires.may e.entered.learns (omega arith) r.left refl (ap (λ (z : Session). inner_id z) same) (ap (λ (z : Session). z.levels.open_ids.items) same) (ap (λ (z : Session). z.stage) same) (r.same.1 ∙ e.same.1) r.ready
 
 pub returns-then-not-may_append-clause-went : goal.returns-then-not-may_append-clause-went
 returns-then-not-may_append-clause-went g c =
@@ -104,7 +104,7 @@ returns-in-Err-clause-may g c =
     let wide = c.requires.may.ready.at.wide in
     let same = r.same.0 ∙ e.same.0 in
     call_left (start_of c.args.hall.now) (view c.args.caller.now.pass) (view c.enter_log-log.new.caller.pass) (view c.leave_looked-in-Err.new.caller.pass) c.args.caller.now.number c.leave_looked-in-Err.new.caller.number log_lock c.args.caller.now.session c.leave_looked-in-Err.new.caller.session _
-    c.requires.may e.entered.learns (omega arith) r.left refl (ap (λ (z : Session). z.levels.open_ids.items) same) (ap (λ (z : Session). z.stage) same) (r.same.1 ∙ e.same.1) r.ready
+    c.requires.may e.entered.learns (omega arith) r.left refl (ap (λ (z : Session). inner_id z) same) (ap (λ (z : Session). z.levels.open_ids.items) same) (ap (λ (z : Session). z.stage) same) (r.same.1 ∙ e.same.1) r.ready
 
 pub returns-in-Err-clause-went : goal.returns-in-Err-clause-went
 returns-in-Err-clause-went g c =

@@ -16,7 +16,7 @@ use Rattle.wal_core.specs.LogViews.{log_counters, log_disk, log_down, log_first,
 use Rattle.engine_parts.specs.declared.session.Session.{Session}
 use Rattle.engine_parts.specs.Answers.{MetLogFault}
 use Rattle.engine_parts.specs.Faults.{flush_fault_by, look_of}
-use Rattle.engine_parts.specs.Sessions.{by_at, look_by}
+use Rattle.engine_parts.specs.Sessions.{by_at, inner_id, look_by}
 use Rattle.engine_parts.proofs.Leaving.{call_left, grown_left, stands_left}
 use Rattle.engine_parts.proofs.Logging.{failed_here, failed_more, flush_stands, goes_on, log_looks, up_more}
 use Rattle.engine_parts.proofs.May.{met_log_fault}
@@ -69,7 +69,7 @@ returns-then-flushed-number-clause-may g c =
     let wide = c.requires.may.ready.at.wide in
     let same = r.same.0 ∙ e.same.0 in
     call_left (start_of c.args.hall.now) (view c.args.caller.now.pass) (view c.enter_log-log.new.caller.pass) (view c.leave_looked.new.caller.pass) c.args.caller.now.number c.leave_looked.new.caller.number log_lock c.args.caller.now.session c.leave_looked.new.caller.session _
-    c.requires.may e.entered.learns (omega arith) r.left refl (ap (λ (z : Session). z.levels.open_ids.items) same) (ap (λ (z : Session). z.stage) same) (r.same.1 ∙ e.same.1) r.ready
+    c.requires.may e.entered.learns (omega arith) r.left refl (ap (λ (z : Session). inner_id z) same) (ap (λ (z : Session). z.levels.open_ids.items) same) (ap (λ (z : Session). z.stage) same) (r.same.1 ∙ e.same.1) r.ready
 
 pub returns-then-flushed-number-clause-went : goal.returns-then-flushed-number-clause-went
 returns-then-flushed-number-clause-went g c =
@@ -98,7 +98,7 @@ returns-in-Ok-clause-may g c =
     let wide = c.requires.may.ready.at.wide in
     let same = r.same.0 ∙ e.same.0 in
     call_left (start_of c.args.hall.now) (view c.args.caller.now.pass) (view c.enter_log-log.new.caller.pass) (view c.leave_flushed.new.caller.pass) c.args.caller.now.number c.leave_flushed.new.caller.number log_lock c.args.caller.now.session c.leave_flushed.new.caller.session _
-    c.requires.may e.entered.learns (omega arith) r.left refl (ap (λ (z : Session). z.levels.open_ids.items) same) (ap (λ (z : Session). z.stage) same) (r.same.1 ∙ e.same.1) r.ready
+    c.requires.may e.entered.learns (omega arith) r.left refl (ap (λ (z : Session). inner_id z) same) (ap (λ (z : Session). z.levels.open_ids.items) same) (ap (λ (z : Session). z.stage) same) (r.same.1 ∙ e.same.1) r.ready
 
 pub returns-in-Ok-clause-went : goal.returns-in-Ok-clause-went
 returns-in-Ok-clause-went g c =
@@ -148,7 +148,7 @@ returns-in-LogFault-clause-may g c =
     let wide = c.requires.may.ready.at.wide in
     let same = r.same.0 ∙ e.same.0 in
     call_left (start_of c.args.hall.now) (view c.args.caller.now.pass) (view c.enter_log-log.new.caller.pass) (view c.leave_failed.new.caller.pass) c.args.caller.now.number c.leave_failed.new.caller.number log_lock c.args.caller.now.session c.leave_failed.new.caller.session _
-    c.requires.may e.entered.learns (omega arith) r.left refl (ap (λ (z : Session). z.levels.open_ids.items) same) (ap (λ (z : Session). z.stage) same) (r.same.1 ∙ e.same.1) r.ready
+    c.requires.may e.entered.learns (omega arith) r.left refl (ap (λ (z : Session). inner_id z) same) (ap (λ (z : Session). z.levels.open_ids.items) same) (ap (λ (z : Session). z.stage) same) (r.same.1 ∙ e.same.1) r.ready
 
 pub returns-in-LogFault-clause-went : goal.returns-in-LogFault-clause-went
 returns-in-LogFault-clause-went g c =
@@ -197,7 +197,7 @@ returns-in_default-clause-may g c =
     let wide = c.requires.may.ready.at.wide in
     let same = r.same.0 ∙ e.same.0 in
     call_left (start_of c.args.hall.now) (view c.args.caller.now.pass) (view c.enter_log-log.new.caller.pass) (view c.leave_looked-in-Err.new.caller.pass) c.args.caller.now.number c.leave_looked-in-Err.new.caller.number log_lock c.args.caller.now.session c.leave_looked-in-Err.new.caller.session _
-    c.requires.may e.entered.learns (omega arith) r.left refl (ap (λ (z : Session). z.levels.open_ids.items) same) (ap (λ (z : Session). z.stage) same) (r.same.1 ∙ e.same.1) r.ready
+    c.requires.may e.entered.learns (omega arith) r.left refl (ap (λ (z : Session). inner_id z) same) (ap (λ (z : Session). z.levels.open_ids.items) same) (ap (λ (z : Session). z.stage) same) (r.same.1 ∙ e.same.1) r.ready
 
 pub returns-in_default-clause-went : goal.returns-in_default-clause-went
 returns-in_default-clause-went g c =

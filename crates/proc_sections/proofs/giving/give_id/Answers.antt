@@ -13,7 +13,7 @@ use Rattle.proc_table.specs.Table.{IsGiven, Table}
 use Rattle.session_levels.specs.Stands.{IsParent, last_of}
 use Rattle.session_levels.proofs.GivingLemmas.{is_parent, may_give}
 use Rattle.engine_parts.specs.declared.session.Session.{Session}
-use Rattle.engine_parts.specs.Sessions.{by_at, look_by}
+use Rattle.engine_parts.specs.Sessions.{by_at, inner_id, look_by}
 use Rattle.engine_parts.specs.Stand.{ProcStands}
 use Rattle.engine_parts.specs.Steps.{WentOn}
 use Rattle.engine_parts.proofs.Going.{rest_of}
@@ -76,7 +76,7 @@ returns-in-Err-clause-may g c =
     let wide = c.requires.may.ready.at.wide in
     let same = r.same.0 ∙ e.same.0 in
     call_left (start_of c.args.hall.now) (view c.args.caller.now.pass) (view c.enter_proc-table.new.caller.pass) (view c.leave_looked.new.caller.pass) c.args.caller.now.number c.leave_looked.new.caller.number proc_lock c.args.caller.now.session c.leave_looked.new.caller.session _
-    c.requires.may e.entered.learns (omega arith) r.left refl (ap (λ (z : Session). z.levels.open_ids.items) same) (ap (λ (z : Session). z.stage) same) (r.same.1 ∙ e.same.1) r.ready
+    c.requires.may e.entered.learns (omega arith) r.left refl (ap (λ (z : Session). inner_id z) same) (ap (λ (z : Session). z.levels.open_ids.items) same) (ap (λ (z : Session). z.stage) same) (r.same.1 ∙ e.same.1) r.ready
 
 pub returns-in-Err-clause-gives : goal.returns-in-Err-clause-gives
 returns-in-Err-clause-gives g c =
@@ -162,7 +162,7 @@ returns-clause-may g c =
     let wide = c.requires.may.ready.at.wide in
     let same = r.same.0 ∙ e.same.0 in
     call_left (start_of c.args.hall.now) (view c.args.caller.now.pass) (view c.enter_proc-table.new.caller.pass) (view c.leave_looked-2.new.caller.pass) c.args.caller.now.number c.leave_looked-2.new.caller.number proc_lock c.args.caller.now.session c.leave_looked-2.new.caller.session _
-    c.requires.may e.entered.learns (omega arith) r.left refl (ap (λ (z : Session). z.levels.open_ids.items) same) (ap (λ (z : Session). z.stage) same) (r.same.1 ∙ e.same.1) r.ready
+    c.requires.may e.entered.learns (omega arith) r.left refl (ap (λ (z : Session). inner_id z) same) (ap (λ (z : Session). z.levels.open_ids.items) same) (ap (λ (z : Session). z.stage) same) (r.same.1 ∙ e.same.1) r.ready
 
 pub returns-clause-gives : goal.returns-clause-gives
 returns-clause-gives g c =

@@ -9,7 +9,7 @@ use Rattle.tx_core.specs.Locks.{proc_lock}
 use Rattle.tx_core.specs.ProgramOrder.{IsInTurn}
 use Rattle.tx_core.proofs.Lasting.{made_grows}
 use Rattle.engine_parts.specs.declared.session.Session.{Session}
-use Rattle.engine_parts.specs.Sessions.{by_at}
+use Rattle.engine_parts.specs.Sessions.{by_at, inner_id}
 use Rattle.engine_parts.specs.Stand.{ProcStands}
 use Rattle.engine_parts.proofs.Leaving.{call_left, stands_left}
 use Rattle.engine_parts.proofs.Stepping.{went_quiet}
@@ -58,7 +58,7 @@ returns-clause-may g c =
     let wide = c.requires.may.ready.at.wide in
     let same = r.same.0 ∙ e.same.0 in
     call_left (start_of c.args.hall.now) (view c.args.caller.now.pass) (view c.enter_proc-table.new.caller.pass) (view c.leave_quiet.new.caller.pass) c.args.caller.now.number c.leave_quiet.new.caller.number proc_lock c.args.caller.now.session c.leave_quiet.new.caller.session c.made_note-entry.result.value
-    c.requires.may e.entered.learns (omega arith) r.left (ap asks_in (c.made_note-entry.ensures ∙ ap (λ (b : By). told_entry b c.args.id) c.command_of-by.ensures)) (ap (λ (z : Session). z.levels.open_ids.items) same) (ap (λ (z : Session). z.stage) same) (r.same.1 ∙ e.same.1) r.ready
+    c.requires.may e.entered.learns (omega arith) r.left (ap asks_in (c.made_note-entry.ensures ∙ ap (λ (b : By). told_entry b c.args.id) c.command_of-by.ensures)) (ap (λ (z : Session). inner_id z) same) (ap (λ (z : Session). z.levels.open_ids.items) same) (ap (λ (z : Session). z.stage) same) (r.same.1 ∙ e.same.1) r.ready
 
 pub returns-clause-went : goal.returns-clause-went
 returns-clause-went g c =

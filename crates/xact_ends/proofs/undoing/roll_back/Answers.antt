@@ -1,0 +1,95 @@
+use Rattle.std.proofs.Common.{◌≡◌, ℕ, ◌<◌, ◌≤◌, [], ap, ◌∙◌, subst, sym, refl, length, drop, slice_index, List, Contains, arith}
+use Rattle.std.specs.List.{slice_range}
+use Rattle.hall.specs.Calls.{view, start_of}
+use Rattle.tx_events.specs.declared.event.By.{By}
+use Rattle.pg_xact_log.proofs.RunShapes.{run_shares}
+use Rattle.bank_sections.specs.Faults.{IsXactFault}
+use Rattle.engine_parts.specs.declared.session.Session.{Session}
+use Rattle.engine_parts.specs.Sessions.{by_at}
+use Rattle.engine_parts.specs.Steps.{GoesOn}
+use Rattle.engine_parts.proofs.Stepping.{goes_then, went_nowhere}
+use Rattle.xact_ends.specs.Aborts.{AreAborted, IsOnePage}
+use Rattle.xact_ends.proofs.Aborted.{aborted_on}
+use Rattle.xact_ends.proofs.RolledBack.{inside_part, rolled_more, rolled_none}
+use Rattle.xact_ends.proofs.undoing.roll_back.Goals as goal
+
+pub roll_back_run-requires-clause-page : goal.roll_back_run-requires-clause-page
+roll_back_run-requires-clause-page g c =
+    let opened = c.loop-first.caller.session.levels.open_ids.items in
+    subst (λ (l : List ℕ). IsOnePage l c.loop-first.first c.run_end-past.result) c.deref.ensures.value
+    (λ id m. run_shares c.deref.result.now c.loop-first.first c.run_end-past.result _ c.run_end-past.ensures.run id m)
+
+pub roll_back_run-requires-clause-among : goal.roll_back_run-requires-clause-among
+roll_back_run-requires-clause-among g c = subst (λ (l : List ℕ). c.run_end-past.result ≤ length l) c.deref.ensures.value c.run_end-past.ensures.within
+
+pub roll_back_run-requires-clause-inside : goal.roll_back_run-requires-clause-inside
+roll_back_run-requires-clause-inside g c =
+    let i = c.loop-first.invariant in
+    let s = c.args.caller.now.session in
+    let same : c.loop-first.caller.session.levels.open_ids.items ≡ s.levels.open_ids.items = ap (λ (z : Session). z.levels.open_ids.items) i.session in
+    inside_part s c.loop-first.caller.session c.args.from c.loop-first.first c.run_end-past.result i.session i.low (subst (λ (l : List ℕ). c.run_end-past.result ≤ length l) (c.deref.ensures.value ∙ same) c.run_end-past.ensures.within) c.requires.inside
+
+pub loop-first-init : goal.loop-first-init
+loop-first-init g c =
+    let old = c.args.caller.now in
+    record {
+      own = c.requires.own;
+      may = c.requires.may;
+      session = refl;
+      number = refl;
+      goes = (went_nowhere old.number (view old.pass).seen).on;
+      low = omega arith;
+      within = c.requires.within;
+      set = rolled_none (start_of c.args.hall.now) (view old.pass).seen old.session.levels.open_ids.items c.args.from;
+    }
+
+pub loop-first-preserved : goal.loop-first-preserved
+loop-first-preserved g c =
+    let i = c.loop-first.invariant in
+    let n = c.args.caller.now.number in
+    let s = c.args.caller.now.session in
+    let opened = s.levels.open_ids.items in
+    let t = c.loop-first.caller in
+    let start = start_of c.args.hall.now in
+    let e = c.roll_back_run.ensures in
+    let mid = (view t.pass).seen in
+    let more = (view c.roll_back_run.new.caller.pass).seen in
+    let x = c.in-Ok.ensures.sets in
+    let same : t.session.levels.open_ids.items ≡ opened = ap (λ (z : Session). z.levels.open_ids.items) i.session in
+    let low : c.args.from ≤ c.run_end-past.result = (let at_least = i.low in let past = c.run_end-past.ensures.past in omega arith) in
+    let goes : GoesOn n [] mid more = subst (λ z. GoesOn z [] mid more) i.number x.0 in
+    record {
+      own = e.own;
+      may = e.may;
+      session = x.1 ∙ i.session;
+      number = e.number ∙ i.number;
+      goes = goes_then n [] [] (view c.args.caller.now.pass).seen mid more i.goes goes;
+      low = low;
+      within = subst (λ (l : List ℕ). c.run_end-past.result ≤ length l) (c.deref.ensures.value ∙ same) c.run_end-past.ensures.within;
+      set = rolled_more start more opened c.args.from c.loop-first.first c.run_end-past.result i.low (aborted_on start mid more opened c.args.from c.loop-first.first goes.grows i.set) (subst (λ (l : List ℕ). AreAborted start more l c.loop-first.first c.run_end-past.result) same x.2);
+    }
+
+pub returns-in-Err-clause-sets : goal.returns-in-Err-clause-sets
+returns-in-Err-clause-sets g c =
+    let i = c.loop-first.invariant in
+    let n = c.args.caller.now.number in
+    let t = c.loop-first.caller in
+    let mid = (view t.pass).seen in
+    let more = (view c.roll_back_run.new.caller.pass).seen in
+    let x = c.in-Err.ensures.sets in (
+      goes_then n [] [] (view c.args.caller.now.pass).seen mid more i.goes (subst (λ z. GoesOn z [] mid more) i.number x.0),
+      x.1 ∙ i.session,
+      subst (λ (b : By). IsXactFault more b c.in-Err.refusal) (λ j. by_at (i.number j) (i.session j).levels.commands) x.2,
+    )
+
+pub returns-clause-sets : goal.returns-clause-sets
+returns-clause-sets g c =
+    let i = c.loop-first.invariant in
+    let opened = c.args.caller.now.session.levels.open_ids.items in
+    let all : c.loop-first.first ≡ length opened =
+    let same = ap (λ (z : Session). length z.levels.open_ids.items) i.session in
+    let long = c.len.ensures in
+    let past = c.loop-first-test.false in
+    let within = i.within in
+    omega arith in
+    (i.goes, i.session, subst (λ z. AreAborted (start_of c.args.hall.now) (view c.loop-first.caller.pass).seen opened c.args.from z) all i.set)

@@ -148,15 +148,15 @@ pub new_knows : (start : Start) (v w : View Start Entry) (number : ℕ) (s : Ses
     → IsFresh s.levels → s.stage ≡ stages.Clear → s.unlinked ≡ None → IsNew start w number s
 new_knows start v w number s base earlier unseen is known wide fresh stage unlinked =
     let bare : (place : ℕ) → at w.seen place ≡ [] = λ place. ap (λ (u : View Start Entry). at u.seen place) is ∙ unseen place in record {
-  base = base;
-  before = earlier;
-  kept = opens start w.seen bare;
-  empty = λ place. ap (own session_of number) (bare place);
-  name = ap (λ (u : View Start Entry). u.name) is;
-  known = known;
-  free = ap (λ (u : View Start Entry). u.stage) is;
-  wide = wide;
-  fresh = fresh;
-  stage = stage;
-  unlinked = unlinked;
-}
+      base = base;
+      before = earlier;
+      kept = opens start w.seen bare;
+      empty = λ place. ap (own session_of number) (bare place);
+      name = ap (λ (u : View Start Entry). u.name) is;
+      known = known;
+      free = ap (λ (u : View Start Entry). u.stage) is;
+      wide = wide;
+      fresh = fresh;
+      stage = stage;
+      unlinked = unlinked;
+    }

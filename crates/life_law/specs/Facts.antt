@@ -1,0 +1,29 @@
+-- What the lines of a life are judged by.
+use Rattle.std.specs.Prelude.{ℕ, Bool, true, false, List}
+use Rattle.std.specs.List.{list_any}
+use Rattle.tx_events.specs.declared.event.Event.{Event}
+use Rattle.tx_events.specs.declared.record.Counters.{Counters}
+use Rattle.tx_events.specs.declared.record.Rec.{Rec}
+use Rattle.tx_events.specs.declared.refusal.Refusal.TheVariants as refusals
+use Rattle.tx_model.specs.declared.reply.Reply.{Reply}
+use Rattle.tx_model.specs.declared.reply.Reply.TheVariants as replies
+use Rattle.tx_model.specs.declared.report.Line.{Line}
+
+-- Whether the page volumes told what they hold, how many banks each store has, what the life begins from, its history
+-- and its log, and whether a command of the life was answered that the log's volume failed.
+pub record Facts : Type 0 where
+  pub tells : Bool
+  pub banks : ℕ
+  pub base : Counters
+  pub committed : List ℕ
+  pub events : List Event
+  pub recs : List Rec
+  pub flushed : ℕ
+  pub log_failed : Bool
+
+abbrev pub is_log_fault : Reply → Bool
+is_log_fault (replies.Refused refusals.LogFault) = true
+is_log_fault _ = false
+
+abbrev pub has_log_fault : List Line → Bool
+has_log_fault lines = list_any (λ l. is_log_fault l.reply) lines

@@ -1,0 +1,44 @@
+-- Which lives are lawful.
+use Rattle.std.specs.Prelude.{◌≡◌, ℕ, Bool, IsTrue, List, []}
+use Rattle.std.specs.List.{All, flat_map}
+use Rattle.tx_events.specs.declared.record.Rec.TheVariants as records
+use Rattle.tx_events.specs.History.{IsLegal}
+use Rattle.tx_events.specs.Places.{EachPlace}
+use Rattle.tx_model.specs.declared.command.Command.{Command}
+use Rattle.tx_model.specs.declared.report.Life.{Life}
+use Rattle.tx_model.specs.declared.report.LifeReport.{LifeReport}
+use Rattle.tx_model.specs.declared.report.Line.{Line}
+use Rattle.tx_model.specs.declared.report.Step.{Step}
+use Rattle.tx_model.specs.LawfulLife.{AreInTurn, AreRounds, lines_in}
+use Rattle.tx_model.specs.Lines.{has_line}
+use Rattle.life_law.specs.Facts.{Facts, has_log_fault}
+use Rattle.life_law.specs.LifeLog.{IsLogOf}
+use Rattle.life_law.specs.Lines.{IsLawfulRound}
+
+-- what a life tells with these lines
+abbrev pub facts_of : Bool → ℕ → Life → List Line → Facts
+facts_of tells banks life lines = record {
+  tells = tells;
+  banks = banks;
+  base = life.base;
+  committed = life.committed;
+  events = life.events;
+  recs = life.recs;
+  flushed = life.flushed;
+  log_failed = has_log_fault lines;
+}
+
+-- each line is lawful in its round, and each event is of a line
+pub record AreLawfulSteps (f : Facts) (steps : List Step) : Type 0 where
+  pub each : EachPlace steps (λ before step. IsLawfulRound f (flat_map lines_in before) (lines_in step))
+  pub no_other : All (λ e. IsTrue (has_line (flat_map lines_in steps) e)) f.events
+
+-- One legal history, round by round; the lines are the rounds' commands, each lawful; no multixact; the log of these
+-- ends. Each store has so many banks, and verdicts are told where the volumes tell.
+pub record IsLawfulLife (tells : Bool) (banks : ℕ) (rounds : List (List (ℕ × Command))) (r : LifeReport) : Type 0 where
+  pub history : IsLegal r.life.base r.life.events
+  pub told : AreRounds 1 rounds r.steps
+  pub in_turn : AreInTurn r.life.events r.steps
+  pub lawful : AreLawfulSteps (facts_of tells banks r.life (flat_map lines_in r.steps)) r.steps
+  pub multis : r.life.multis ≡ []
+  pub log : IsLogOf r.life.from (records.Checkpoint r.life.from r.life.base) r.life.events r.life.recs r.life.flushed r.life.end

@@ -1,0 +1,51 @@
+-- Which log a life may have whose sessions run on threads: its records are those of its ends, in whatever order the ends
+-- came to it, and those of ends that were begun.
+use Rattle.std.specs.Prelude.{◌≡◌, ℕ, ◌+◌, ◌-◌, ◌^◌, ◌<◌, ◌≤◌, ◌⊎◌, true, List, [], ◌∷◌, Some, Contains, drop, take, length, slice_get}
+use Rattle.tx_events.specs.declared.event.By.{By}
+use Rattle.tx_events.specs.declared.event.Event.{Event}
+use Rattle.tx_events.specs.declared.event.Event.TheVariants as events
+use Rattle.tx_events.specs.declared.record.Rec.{Rec}
+use Rattle.tx_events.specs.declared.record.Rec.TheVariants as records
+use Rattle.tx_events.specs.declared.xact_end.XactEnd.{XactEnd}
+use Rattle.tx_events.specs.declared.xact_end.XactEnd.TheVariants as ends
+use Rattle.tx_events.specs.Families.{is_top}
+use Rattle.tx_events.specs.Running.{open_ids}
+use Rattle.tx_events.specs.XactEnds.{end_event}
+
+-- The ids of a session's transaction that has ended so, or that is still open: its top, and then, ascending, all
+-- subtransactions that weren't rolled back.
+pub record IsTransaction (h : List Event) (how : XactEnd) (top : ℕ) (subs : List ℕ) : Type 0 where
+  pub session : ℕ
+  pub root : is_top h top ≡ true
+  pub ids : (open_ids session h ≡ top ∷ subs)
+      ⊎ ((p : ℕ) × (by : By) × (by.session ≡ session) × (slice_get h p ≡ Some (end_event how by top))
+      × (open_ids session (take p h) ≡ top ∷ subs))
+
+-- a commit or an abort names a transaction whole
+abbrev pub IsRecordOf : List Event → Rec → Type 0
+IsRecordOf h (records.Commit top subs) = IsTransaction h ends.Commit top subs
+IsRecordOf h (records.Abort top subs) = IsTransaction h ends.Abort top subs
+IsRecordOf h _ = ⊥
+
+-- the top that the record ends
+abbrev pub ends_top : Rec → ℕ → Type 0
+ends_top (records.Commit top subs) id = top ≡ id
+ends_top (records.Abort top subs) id = top ≡ id
+ends_top _ id = ⊥
+
+-- the record stands among the first n
+abbrev pub IsAmong : ℕ → List Rec → Rec → Type 0
+IsAmong n recs rec = Contains (take n recs) rec
+
+-- The life's records: first the one with which it begins, then at most one of each transaction, each of them whole. A
+-- transaction that committed has its record, and that is flushed. The next gate's position is below 2^41.
+pub record IsLogOf (from : ℕ) (first : Rec) (h : List Event) (recs : List Rec) (flushed end : ℕ) : Type 0 where
+  pub rest : List Rec
+  pub split : recs ≡ first ∷ rest
+  pub begun : from < flushed
+  pub within : flushed ≤ from + length recs
+  pub each : (rec : Rec) → Contains rest rec → IsRecordOf h rec
+  pub once : (i j id : ℕ) (a b : Rec) → slice_get rest i ≡ Some a → slice_get rest j ≡ Some b → ends_top a id → ends_top b id → i ≡ j
+  pub committed : (p top : ℕ) (by : By) → slice_get h p ≡ Some (events.Commit by top)
+      → IsAmong (flushed - from) recs (records.Commit top (drop 1 (open_ids by.session (take p h))))
+  pub gate : end < 2 ^ 41

@@ -17,6 +17,8 @@ use Rattle.tx_core.specs.declared.entry.Entry.{Entry}
 use Rattle.tx_core.specs.declared.entry.Start.{Start}
 use Rattle.tx_core.specs.CommitRecordsExact.{HasNoRecord}
 use Rattle.tx_core.specs.EngineInvariant.{EngineInvariant}
+use Rattle.tx_core.specs.AbortRecordsExact.{HasNoAbortRecord}
+use Rattle.engine_parts.specs.Stages.{AreUnaborted}
 use Rattle.tx_core.specs.Entries.{IsAppended, history}
 
 -- no commit record of the session names an id that it has open, where it has none of what is open
@@ -36,3 +38,9 @@ open_unrecorded start lists n id t subs k none opened appended among =
     let open_now = (has_filter (is_open h) (given_to n h) id (contains_has (open_ids n h) id opened)).1 in
     not_both _ (commit_ends h q.1 t id (place_has h q.0 (events.Commit q.1 t) q.3) same) (open_is h id open_now).0)
     exact.ids
+
+-- a session of whose open ids none has an abort record has none of what is open
+pub open_unaborted : (lists : List (List Entry)) (n : ℕ) (opened : List ℕ) → open_ids n (history lists) ≡ opened → AreUnaborted lists n opened → HasNoAbortRecord lists n
+open_unaborted lists n opened is unaborted top subs appended now =
+    let among : Contains (top ∷ subs) top = has_contains (top ∷ subs) top (inl refl) in
+    unaborted top (subst (λ (l : List ℕ). Contains l top) (sym now ∙ is) among) top subs appended among

@@ -26,37 +26,36 @@ use Rattle.engine_parts.specs.Sessions.{IsAt, IsReady, MayCall, by_at, inner_id}
 use Rattle.engine_parts.specs.Stages.{IsInStage, may_be_aborted, may_be_recorded}
 use Rattle.engine_parts.proofs.Unrecorded.{open_unrecorded}
 use Rattle.engine_parts.proofs.Leaving.{at_left, filed_left, history_same}
+use Rattle.session_levels.proofs.HeadLemmas.{first_top}
 use Rattle.log_sections.specs.LogSections.{IsAbortOf}
 
 -- the abort record may be appended
-pub may_append_abort : (start : Start) (v : Knowledge) (n : ℕ) (s : Session) (rec : Rec) (e : Entry) → IsAt start v n s → s.stage ≡ stages.Aborting → IsAbortOf s.levels.open_ids.items rec → StaysBase start v.seen rec → IsUp (at v.seen log_lock) → e ≡ record { by = by_at n s.levels.commands; kind = kinds.Append rec } → MayKeep start v.seen log_lock e
-may_append_abort start v n s rec e a pending r base up is =
-    let open_one : (id : ℕ) → Contains (r.top ∷ r.subs) id → Contains (open_ids n (history v.seen)) id = λ id c. subst (λ (l : List ℕ). Contains l id) (sym (a.stands.opened ∙ r.ids)) c in
+pub may_append_abort : (start : Start) (v : Knowledge) (n : ℕ) (s : Session) (rec : Rec) (e : Entry) → IsAt start v n s → may_be_recorded s.stage ≡ false → may_be_aborted s.stage ≡ false → IsAbortOf s.levels.open_ids.items rec → StaysBase start v.seen rec → IsUp (at v.seen log_lock) → e ≡ record { by = by_at n s.levels.commands; kind = kinds.Append rec } → MayKeep start v.seen log_lock e
+may_append_abort start v n s rec e a clear unaborted r base up is =
     subst (MayKeep start v.seen log_lock) (sym (is ∙ ap (λ (z : Rec). record { by = by_at n s.levels.commands; kind = kinds.Append z }) r.is)) (λ lists k knows inside whole.
-    abort_record_law start v.seen (by_at n s.levels.commands) r.top r.subs (subst (StaysBase start v.seen) r.is base)
-    (λ id c. has_contains (given_to n (history v.seen)) id (has_filter (is_open (history v.seen)) (given_to n (history v.seen)) id (contains_has (open_ids n (history v.seen)) id (open_one id c))).0)
-    (λ id c t subs appended among. open_unrecorded start v.seen n id t subs a.kept (a.clear (ap may_be_recorded pending)) (open_one id c) appended among)
-    up lists k knows inside whole (a.turns log_lock))
+    abort_record_law start v.seen (by_at n s.levels.commands) r.top r.subs (a.stands.opened ∙ r.ids) (first_top (history v.seen) s.levels.open_ids.items s.levels.level_ids.items r.top r.subs a.stands.nest r.ids)
+    (a.clear clear) (λ id k. a.unaborted unaborted id (subst (λ (l : List ℕ). Contains l id) (sym r.ids) k)) (subst (StaysBase start v.seen) r.is base) up lists k knows inside whole (a.turns log_lock))
 
 no_commit : (r s : ℕ) (subs others : List ℕ) → kinds.Append (records.Abort r subs) ≡ kinds.Append (records.Commit s others) → ⊥
 no_commit r s subs others e = cc
 
--- behind it the session stands as before
-pub ready_aborted : (start : Start) (v w : Knowledge) (n n' : ℕ) (s s' : Session) (rec : Rec) (e : Entry) → IsAt start v n s → s.stage ≡ stages.Aborting → IsAbortOf s.levels.open_ids.items rec → log_lock < length v.seen → e ≡ record { by = by_at n s.levels.commands; kind = kinds.Append rec } → s' ≡ s → n' ≡ n → Leaves start log_lock e v w → IsReady start w n' s'
-ready_aborted start v w n n' s s' rec e a pending r inside is same number l =
+-- behind it the session's abort is pending
+pub ready_aborted : (start : Start) (v w : Knowledge) (n n' : ℕ) (s s' : Session) (rec : Rec) (e : Entry) → IsAt start v n s → may_be_recorded s.stage ≡ false → IsAbortOf s.levels.open_ids.items rec → log_lock < length v.seen → e ≡ record { by = by_at n s.levels.commands; kind = kinds.Append rec } → s' ≡ record s { stage = stages.Aborting } → n' ≡ n → Leaves start log_lock e v w → IsReady start w n' s'
+ready_aborted start v w n n' s s' rec e a clear r inside is same number l =
+    let t : Session = record s { stage = stages.Aborting } in
     let still : history w.seen ≡ history v.seen = history_same start v w log_lock e (ap event_of is) inside l in
     let kind : e.kind ≡ kinds.Append (records.Abort r.top r.subs) = ap (λ (z : Entry). z.kind) is ∙ ap (λ (z : Rec). kinds.Append z) r.is in
     subst (λ (z : ℕ × Session). IsReady start w z.0 z.1) (λ j. (sym number j, sym same j))
-    (at_left start v w n log_lock s s e a inside (ap (λ (z : Entry). z.by) is) refl l (subst (λ (h : List Event). Stands start.base h n s.levels.commands s.levels) (sym still) a.stands)
-    (λ q t subs k opened. a.clear q t subs
-    (⊎_elim (λ old. old) (λ new. absurd (no_commit r.top t r.subs subs (sym kind ∙ new.2))) (appended_cases v.seen log_lock e n (records.Commit t subs) inside (subst (λ (z : List (List Entry)). IsAppended z n (records.Commit t subs)) l.seen k)))
+    (at_left start v w n log_lock s t e a inside (ap (λ (z : Entry). z.by) is) refl l (subst (λ (h : List Event). Stands start.base h n s.levels.commands s.levels) (sym still) a.stands)
+    (λ q top subs k opened. a.clear clear top subs
+    (⊎_elim (λ old. old) (λ new. absurd (no_commit r.top top r.subs subs (sym kind ∙ new.2))) (appended_cases v.seen log_lock e n (records.Commit top subs) inside (subst (λ (z : List (List Entry)). IsAppended z n (records.Commit top subs)) l.seen k)))
     (sym (ap (open_ids n) still) ∙ opened))
-    (λ q. absurd (false≢true (sym q ∙ ap may_be_aborted pending)))
+    (λ q. absurd (false≢true (sym q)))
     (filed_left start v w n log_lock s e a inside l))
 
--- and may call
-pub call_pending : (start : Start) (w : Knowledge) (n n' : ℕ) (s s' : Session) → s.stage ≡ stages.Aborting → s' ≡ s → n' ≡ n → IsReady start w n' s' → MayCall start w n' s'
-call_pending start w n n' s s' pending same number r = record {
+-- and it may call
+pub call_pending : (start : Start) (w : Knowledge) (n n' : ℕ) (s s' : Session) → s' ≡ record s { stage = stages.Aborting } → n' ≡ n → IsReady start w n' s' → MayCall start w n' s'
+call_pending start w n n' s s' same number r = record {
   ready = r;
-  stage = subst (λ z. IsInStage start w.seen n' (inner_id s') s'.levels.open_ids.items z) (sym (ap (λ (z : Session). z.stage) same ∙ pending)) tt;
+  stage = subst (λ z. IsInStage start w.seen n' (inner_id s') s'.levels.open_ids.items z) (sym (ap (λ (z : Session). z.stage) same)) tt;
 }

@@ -48,11 +48,12 @@ Appends start lists rec s s' (Ok (came.At number)) = s' ≡ record s { stage = s
 Appends start lists rec s s' (Ok came.NoBase) = (s' ≡ s) × (IsLawful rec → StaysBase start lists rec → ⊥)
 Appends start lists rec s s' (Err r) = (s' ≡ s) × IsAppendRefused start lists r
 
--- An abort record stands. Or after it, if it is lawful, the log's counters would be no base, or the log refused it.
-abbrev pub TakesAbort : Start → List (List Entry) → Rec → Result Appended Refusal → Type 0
-TakesAbort start lists rec (Ok (came.At number)) = Unit {0}
-TakesAbort start lists rec (Ok came.NoBase) = IsLawful rec → StaysBase start lists rec → ⊥
-TakesAbort start lists rec (Err r) = IsAppendRefused start lists r
+-- An abort record stands, and the abort is pending. Or the session stands as before: after the record, if it is
+-- lawful, the log's counters would be no base, or the log refused it.
+abbrev pub TakesAbort : Start → List (List Entry) → Rec → Session → Session → Result Appended Refusal → Type 0
+TakesAbort start lists rec s s' (Ok (came.At number)) = s' ≡ record s { stage = stages.Aborting }
+TakesAbort start lists rec s s' (Ok came.NoBase) = (s' ≡ s) × (IsLawful rec → StaysBase start lists rec → ⊥)
+TakesAbort start lists rec s s' (Err r) = (s' ≡ s) × IsAppendRefused start lists r
 
 -- the critical section: its entry is the record that was appended, or a look
 abbrev pub AppendSection : Start → By → Rec → Knowledge → Knowledge → Result Appended Refusal → Type 0

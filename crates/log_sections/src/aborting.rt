@@ -1,5 +1,5 @@
 //! The abort record is appended.
-ghost use Rattle.std.specs.Prelude.{◌≡◌, ℕ, ◌+◌, ◌*◌, ◌++◌, ◌∷◌, []};
+ghost use Rattle.std.specs.Prelude.{◌≡◌, ℕ, ◌+◌, ◌*◌, ◌++◌, ◌∷◌, [], false};
 ghost use Rattle.hall.specs.declared.view.Stage.TheVariants.{Inside};
 ghost use Rattle.hall.specs.Calls.{view, IsOf, start_of};
 ghost use Rattle.notes.specs.Lists.{at};
@@ -11,13 +11,16 @@ ghost use Rattle.engine_parts.specs.declared.session.Stage.TheVariants as stages
 ghost use Rattle.engine_parts.specs.Holds.{Leaves};
 ghost use Rattle.engine_parts.specs.Parts.{IsLogOf};
 ghost use Rattle.engine_parts.specs.Sessions.{IsAt, IsReady, MayCall, by_at};
+ghost use Rattle.engine_parts.specs.Stages.{may_be_aborted, may_be_recorded};
 ghost use Rattle.engine_parts.specs.Steps.{WentOn};
 ghost use Rattle.log_sections.specs.LogSections.{AppendSection, IsAbortOf, TakesAbort};
 
 use crate::appending::Appended;
 use crate::refusals::refusal_of;
 use disk_core::{LogDisk, PageDisk};
-use engine_parts::{Caller, EngineLaw, Part, command_of, enter_log, leave_log, leave_looked};
+use engine_parts::{
+    Caller, EngineLaw, Part, Stage, command_of, enter_log, leave_log, leave_looked,
+};
 use hall::{Hall, Note};
 use std::sync::Wait;
 use tx_events::{Rec, Refusal};
@@ -35,7 +38,8 @@ fn leave_with_abort<L: LogDisk, P: PageDisk>(
     requires inside { (view caller.old.pass).stage ≡ Inside log_lock }
     requires cell { caller.old.pass.cell ≡ log_lock }
     requires at { IsAt (start_of hall.now) (view caller.old.pass) caller.old.number caller.old.session }
-    requires pending { caller.old.session.stage ≡ stages.Aborting }
+    requires unrecorded { may_be_recorded caller.old.session.stage ≡ false }
+    requires unaborted { may_be_aborted caller.old.session.stage ≡ false }
     requires record { IsAbortOf caller.old.session.levels.open_ids.items rec.now }
     requires up { IsUp (at (view caller.old.pass).seen log_lock) }
     requires base { StaysBase (start_of hall.now) (view caller.old.pass).seen rec.now }
@@ -49,15 +53,18 @@ fn leave_with_abort<L: LogDisk, P: PageDisk>(
     ensures left { Leaves (start_of hall.now) log_lock
         (record { by = by_at caller.old.number caller.old.session.levels.commands; kind = kinds.Append rec.now })
         (view caller.old.pass) (view caller.new.pass) }
-    ensures same { (caller.new.session ≡ caller.old.session) × (caller.new.number ≡ caller.old.number) }
+    ensures session { caller.new.session ≡ record caller.old.session { stage = stages.Aborting } }
+    ensures number { caller.new.number ≡ caller.old.number }
 {
     let by = command_of(caller);
     let entry = Note::by(&(by, rec));
     leave_log(hall, caller, log, entry);
+    caller.session.stage = Stage::Aborting;
 }
 
 /// Appends the abort record of what the session has open (`XactLogAbortRecord` of
-/// `src/backend/access/transam/xact.c`): one critical section of the log. The session's abort is pending, and stays so.
+/// `src/backend/access/transam/xact.c`): one critical section of the log. No commit and no abort was begun. From then
+/// on the session's abort is pending.
 ///
 /// Refused with `LogDown`, `Full` or `Memory`; then, and where the log can't take the record, nothing was appended.
 pub fn append_abort<R: Wait, L: LogDisk, P: PageDisk>(
@@ -69,7 +76,8 @@ pub fn append_abort<R: Wait, L: LogDisk, P: PageDisk>(
     requires own { IsOf hall.now caller.old.pass }
     requires laid { hall.now.cells ≡ 3 + 4 * (start_of hall.now).banks }
     requires may { MayCall (start_of hall.now) (view caller.old.pass) caller.old.number caller.old.session }
-    requires pending { caller.old.session.stage ≡ stages.Aborting }
+    requires unrecorded { may_be_recorded caller.old.session.stage ≡ false }
+    requires unaborted { may_be_aborted caller.old.session.stage ≡ false }
     requires record { IsAbortOf caller.old.session.levels.open_ids.items rec.now }
     ensures section { AppendSection (start_of hall.now)
         (by_at caller.old.number caller.old.session.levels.commands) rec.now (view caller.old.pass)
@@ -77,8 +85,9 @@ pub fn append_abort<R: Wait, L: LogDisk, P: PageDisk>(
     ensures own { IsOf hall.now caller.new.pass }
     ensures may { MayCall (start_of hall.now) (view caller.new.pass) caller.new.number caller.new.session }
     ensures went { WentOn caller.old.number [] (view caller.old.pass).seen (view caller.new.pass).seen }
-    ensures takes { TakesAbort (start_of hall.now) (view caller.new.pass).seen rec.now result }
-    ensures same { (caller.new.session ≡ caller.old.session) × (caller.new.number ≡ caller.old.number) }
+    ensures takes { TakesAbort (start_of hall.now) (view caller.new.pass).seen rec.now caller.old.session
+        caller.new.session result }
+    ensures number { caller.new.number ≡ caller.old.number }
 {
     let mut log = enter_log(rt, hall, caller);
     if !log.may_append(rec) {

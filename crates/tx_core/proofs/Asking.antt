@@ -14,6 +14,7 @@ use Rattle.tx_core.specs.declared.entry.Entry.{Entry}
 use Rattle.tx_core.specs.declared.entry.Kind.{Kind}
 use Rattle.tx_core.specs.declared.entry.Start.{Start}
 use Rattle.tx_core.specs.AbortRule.{AskUnrecorded, AskedOf, GivenOf, IsSameAfter, MayAbort, NeedsAsked, NeedsGiven, NeedsSame, RecordUnasked}
+use Rattle.tx_core.specs.AbortRecordsExact.{AbortMay, LeavesAborts, MayEndExactly}
 use Rattle.tx_core.specs.CommitRecordsExact.{LeavesRecords, MayBeExact, RecordMay}
 use Rattle.tx_core.specs.Entries.{Link, Mark, asked_in, asks_in, changes_in, event_in, event_of, history, links_in, mark_of, marks_in}
 use Rattle.tx_core.specs.EventsLegal.{MayBeLegal, NeedsOwn}
@@ -82,6 +83,12 @@ leaves_of start seen lock before e event may q g = if_some (event_of e) (λ even
 
 pub ids_of_record : (start : Start) (seen : List (List Entry)) (lock : ℕ) (before : List Entry) (e : Entry) (top : ℕ) (subs : List ℕ) → MayBeExact start seen lock before e → lock ≡ log_lock → e.kind ≡ kinds.Append (records.Commit top subs) → RecordMay seen e.by.session (kinds.Append (records.Commit top subs))
 ids_of_record start seen lock before e top subs may q g = subst (RecordMay seen e.by.session) g (may.ids q)
+
+pub aborts_of : (seen : List (List Entry)) (lock : ℕ) (e : Entry) (event : Event) → MayEndExactly seen lock e → lock ≡ proc_lock → event_of e ≡ Some event → LeavesAborts seen event
+aborts_of seen lock e event may q g = if_some (event_of e) (λ event. LeavesAborts seen event) event (may.event q) g
+
+pub ids_of_abort : (seen : List (List Entry)) (lock : ℕ) (e : Entry) (top : ℕ) (subs : List ℕ) → MayEndExactly seen lock e → lock ≡ log_lock → e.kind ≡ kinds.Append (records.Abort top subs) → AbortMay seen e.by.session (kinds.Append (records.Abort top subs))
+ids_of_abort seen lock e top subs may q g = subst (AbortMay seen e.by.session) g (may.ids q)
 
 pub unasked_of : (start : Start) (seen : List (List Entry)) (lock : ℕ) (before : List Entry) (e : Entry) (top : ℕ) (subs : List ℕ) → MayAbort start seen lock before e → lock ≡ log_lock → e.kind ≡ kinds.Append (records.Commit top subs) → RecordUnasked seen e.by.session (kinds.Append (records.Commit top subs))
 unasked_of start seen lock before e top subs may q g = subst (RecordUnasked seen e.by.session) g (may.unasked q)

@@ -85,6 +85,7 @@ changes_law start seen lock by changes may lists k knows inside whole turn =
       faults = tt;
       down = tt;
       once = tt;
+      ends = record { event = λ here. tt; ids = λ here. tt };
     })
 
 pub fault_law : FaultKeeps
@@ -108,6 +109,7 @@ fault_law start seen lock by callers changes cut count may named truncated risen
       faults = risen;
       down = tt;
       once = tt;
+      ends = record { event = λ here. tt; ids = λ here. tt };
     })
 
 pub request_law : RequestKeeps
@@ -137,6 +139,7 @@ request_law start seen lock by changes behind given unrecorded lists k knows ins
       faults = tt;
       down = tt;
       once = tt;
+      ends = record { event = λ here. tt; ids = λ here. tt };
     })
 
 -- the states that a session sets for itself are all one

@@ -9,8 +9,9 @@ use Rattle.tx_events.specs.Running.{closed}
 use Rattle.tx_core.specs.declared.entry.Entry.{Entry}
 use Rattle.tx_core.specs.declared.entry.Start.{Start}
 use Rattle.tx_core.proofs.Keeping.{keeps}
-use Rattle.tx_core.proofs.Once.{commit_once}
+use Rattle.tx_core.proofs.Once.{end_once}
 use Rattle.tx_core.specs.AbortRule.{AbortsOf}
+use Rattle.tx_core.specs.AbortRecordsExact.{LeavesAborts}
 use Rattle.tx_core.specs.CommitRecordsExact.{LeavesRecords}
 use Rattle.tx_core.specs.Entries.{appended, history}
 use Rattle.tx_core.specs.Laws.{AbortEventKeeps, AskKeeps, CommitEventKeeps, CommitRecordKeeps, IdEventKeeps, KindKeeps, MadeKeeps, OldestKeeps, SnapDropKeeps, SnapEventKeeps, SubEventKeeps, UndoEventKeeps}
@@ -23,9 +24,9 @@ use Rattle.tx_core.specs.declared.entry.Kind.TheVariants as kinds
 use Rattle.tx_events.specs.declared.record.Rec.TheVariants as records
 
 -- an event, from what each part asks of it
-event_keeps : (start : Start) (seen : List (List Entry)) (by : By) (event : Event) → by_of event ≡ by → MayCome start.base (history seen) event → PagesOf start seen (at seen proc_lock) (kinds.Event event) → LeavesRecords seen event → StatesOf start seen (kinds.Event event) → AbortsOf start seen (history seen) (kinds.Event event)
+event_keeps : (start : Start) (seen : List (List Entry)) (by : By) (event : Event) → by_of event ≡ by → MayCome start.base (history seen) event → PagesOf start seen (at seen proc_lock) (kinds.Event event) → LeavesRecords seen event → LeavesAborts seen event → StatesOf start seen (kinds.Event event) → AbortsOf start seen (history seen) (kinds.Event event)
     → KindKeeps start seen proc_lock by (kinds.Event event)
-event_keeps start seen by event own rule pages leaves states closed lists k knows inside whole turn =
+event_keeps start seen by event own rule pages leaves aborts states closed lists k knows inside whole turn =
     keeps start lists seen proc_lock (record { by = by; kind = kinds.Event event }) k knows inside whole (record {
       events = record { own = own; rule = λ here. rule };
       pages = record { ids = pages; changes = record { marks = tt; links = tt; offsets = tt; slots = tt }; made = tt };
@@ -44,34 +45,35 @@ event_keeps start seen by event own rule pages leaves states closed lists k know
       faults = tt;
       down = tt;
       once = tt;
+      ends = record { event = λ here. aborts; ids = λ here. tt };
     })
 
 pub id_event_law : IdEventKeeps
-id_event_law start seen by id rule made told = event_keeps start seen by (events.Id by id) refl rule (made, told) tt tt tt
+id_event_law start seen by id rule made told = event_keeps start seen by (events.Id by id) refl rule (made, told) tt tt tt tt
 
 pub sub_event_law : SubEventKeeps
-sub_event_law start seen by parent id rule made told none = event_keeps start seen by (events.Sub by parent id) refl rule (made, told) none tt tt
+sub_event_law start seen by parent id rule made told none aborts = event_keeps start seen by (events.Sub by parent id) refl rule (made, told) none aborts tt tt
 
 pub undo_event_law : UndoEventKeeps
-undo_event_law start seen by id rule none aborted = event_keeps start seen by (events.Undo by id) refl rule tt none tt aborted
+undo_event_law start seen by id rule none aborts aborted = event_keeps start seen by (events.Undo by id) refl rule tt none aborts tt aborted
 
 pub commit_event_law : CommitEventKeeps
-commit_event_law start seen by top subs rule appended marked = event_keeps start seen by (events.Commit by top) refl rule tt tt (subs, appended, marked) tt
+commit_event_law start seen by top subs rule appended marked = event_keeps start seen by (events.Commit by top) refl rule tt tt tt (subs, appended, marked) tt
 
 pub abort_event_law : AbortEventKeeps
-abort_event_law start seen by top rule none aborted = event_keeps start seen by (events.Abort by top) refl rule tt none tt aborted
+abort_event_law start seen by top rule none aborted = event_keeps start seen by (events.Abort by top) refl rule tt none tt tt aborted
 
 pub snap_event_law : SnapEventKeeps
-snap_event_law start seen by name rule = event_keeps start seen by (events.Snap by name) refl rule tt tt tt tt
+snap_event_law start seen by name rule = event_keeps start seen by (events.Snap by name) refl rule tt tt tt tt tt
 
 pub snap_drop_law : SnapDropKeeps
-snap_drop_law start seen by name rule = event_keeps start seen by (events.SnapDrop by name) refl rule tt tt tt tt
+snap_drop_law start seen by name rule = event_keeps start seen by (events.SnapDrop by name) refl rule tt tt tt tt tt
 
 pub oldest_law : OldestKeeps
-oldest_law start seen by oldest rule = event_keeps start seen by (events.Oldest by oldest) refl rule tt tt tt tt
+oldest_law start seen by oldest rule = event_keeps start seen by (events.Oldest by oldest) refl rule tt tt tt tt tt
 
 pub ask_law : AskKeeps
-ask_law start seen by id rule = event_keeps start seen by (events.Ask by id) refl rule tt tt tt tt
+ask_law start seen by id rule = event_keeps start seen by (events.Ask by id) refl rule tt tt tt tt tt
 
 pub made_law : MadeKeeps
 made_law start seen by id made next lists k knows inside whole turn =
@@ -93,6 +95,7 @@ made_law start seen by id made next lists k knows inside whole turn =
       faults = tt;
       down = tt;
       once = tt;
+      ends = record { event = λ here. tt; ids = λ here. tt };
     })
 
 pub commit_record_law : CommitRecordKeeps
@@ -114,5 +117,6 @@ commit_record_law start seen by top subs opened root parents unasked none unabor
       posts = tt;
       faults = tt;
       down = up;
-      once = commit_once start seen lists by k knows whole top subs opened none unaborted;
+      once = end_once start seen lists by k knows whole top subs opened none unaborted;
+      ends = record { event = λ here. tt; ids = λ here. tt };
     })

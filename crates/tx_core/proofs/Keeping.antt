@@ -1,26 +1,32 @@
 -- An entry that may be added keeps the engine invariant, part by part.
-use Rattle.std.proofs.Common.{List, None, Option, Some, [], ap, append-nil, arith, inl, length, refl, subst, sym, true, ℕ, ⊎_elim, ◌++◌, ◌<◌, ◌==◌, ◌∙◌, ◌∷◌, ◌≡◌, ◌≤◌}
+use Rattle.std.proofs.Common.{Contains, List, None, Option, Some, [], ap, append-nil, arith, inl, inr, length, refl, slice_get, suc, zero, subst, sym, take, true, ◌⊎◌, ℕ, ⊎_elim, ◌++◌, ◌<◌, ◌==◌, ◌∙◌, ◌∷◌, ◌≡◌, ◌≤◌}
 use Rattle.std.specs.List.{cons_option, filter}
+use Rattle.std.proofs.lemmas.Option.{same_Some}
 use mathlib.Core.Logic.{dite}
 use native.Mathlib.Decide.{ℕ_discrete}
 use Rattle.tx_events.specs.declared.event.By.{By}
 use Rattle.tx_events.specs.declared.event.Event.{Event}
 use Rattle.tx_events.specs.declared.record.Rec.{Rec}
 use Rattle.tx_events.proofs.GivenIds.{legal_push}
-use Rattle.tx_events.proofs.Membership.{Has, filter_has, has_filter, has_filter_map}
+use Rattle.tx_events.proofs.Membership.{Has, contains_has, filter_has, has_contains, has_filter, has_filter_map, has_place, place_has}
 use Rattle.tx_events.specs.Events.{by_of, is_of}
-use Rattle.tx_events.specs.Families.{top}
+use Rattle.tx_events.specs.Families.{is_top, top}
+use Rattle.tx_events.specs.XactEnds.{end_record}
+use Rattle.tx_events.specs.declared.xact_end.XactEnd.{XactEnd}
+use Rattle.tx_events.specs.declared.xact_end.XactEnd.TheVariants as ends
 use Rattle.tx_events.specs.History.{ComesInTurn, IsLegal, MayCome}
 use Rattle.tx_events.specs.Running.{open_ids}
 use Rattle.tx_core.specs.declared.entry.Entry.{Entry}
 use Rattle.tx_core.specs.declared.entry.Start.{Start}
-use Rattle.tx_core.proofs.Asking.{all_has, append_asks, has_all, ids_of_record, leaves_of, own_event, rule_of, states_of, unasked_of, unrecorded_of, upheld_has}
-use Rattle.tx_core.proofs.Exactness.{Leaves, exact_push}
+use Rattle.tx_core.proofs.Asking.{aborts_of, all_has, append_asks, has_all, ids_of_abort, ids_of_record, leaves_of, own_event, rule_of, states_of, unasked_of, unrecorded_of, upheld_has}
+use Rattle.tx_core.proofs.Exactness.{Leaves, ends_own, whole_push}
 use Rattle.tx_core.proofs.Growing.{upheld_add}
 use Rattle.tx_core.proofs.Lasting.{aborts_lasting, asked_lasting, flush_lasting, given_lasting, links_lasting, named_lasting, logged_lasting, own_lasting, pages_lasting, places_lasting, same_lasting, stand_lasting, states_lasting, subs_lasting, tree_lasting, turns_lasting, zero_lasting}
 use Rattle.tx_core.proofs.Stepping.{appended_cases, asks_cases, history_at, history_off, open_seen, own_appended, own_asks, root_seen}
 use Rattle.tx_core.specs.AbortRule.{AbortRule, AsksAbort, NeedsAborts, NeedsAsked, NeedsGiven, NeedsSame}
-use Rattle.tx_core.specs.CommitRecordsExact.{CommitRecordsExact, HasNoRecord, IsExactIn, LeavesRecords, NeedsLinks}
+use Rattle.tx_core.specs.CommitRecordsExact.{CommitRecordsExact, LeavesRecords, NeedsLinks}
+use Rattle.tx_core.specs.AbortRecordsExact.{AbortRecordsExact, LeavesAborts}
+use Rattle.tx_core.specs.Wholeness.{IsWholeIn}
 use Rattle.tx_core.specs.EngineInvariant.{EngineInvariant, MayAdd}
 use Rattle.tx_core.specs.Entries.{IsAppended, Mark, asks_in, event_of, events_in, history, session_of}
 use Rattle.tx_core.specs.EventsLegal.{EventsLegal, NeedsOwn}
@@ -131,51 +137,121 @@ members_kept start seen lists lock e s = record {
   offsets = kept start seen lists lock e s (NeedsOffsets start) (offsets_lasting start) s.k.members.offsets s.may.members.offsets;
 }
 
-no_record : (start : Start) (seen lists : List (List Entry)) (lock : ℕ) (e : Entry) (by : By) (session top : ℕ) (subs : List ℕ) → Step start seen lists lock e → by ≡ e.by → by.session ≡ session
-    → HasNoRecord seen by.session → IsAppended lists session (records.Commit top subs) → open_ids session (history lists) ≡ top ∷ subs → ⊥
-no_record start seen lists lock e by session top subs s mine same may a q =
+-- a record that the real lists have was seen by the session that appended it
+no_record : (start : Start) (seen lists : List (List Entry)) (lock : ℕ) (e : Entry) (how : XactEnd) (by : By) (session top : ℕ) (subs : List ℕ) → Step start seen lists lock e → by ≡ e.by → by.session ≡ session
+    → ((t : ℕ) (others : List ℕ) → IsAppended seen by.session (end_record how t others) → open_ids by.session (history seen) ≡ t ∷ others → ⊥) → IsAppended lists session (end_record how top subs) → open_ids session (history lists) ≡ top ∷ subs → ⊥
+no_record start seen lists lock e how by session top subs s mine same may a q =
     let n : e.by.session ≡ by.session = ap (λ (z : By). z.session) (sym mine) in
     let known : Knows session_of by.session seen lists = subst (λ z. Knows session_of z seen lists) n s.knows in
-    may top subs (own_appended by.session seen lists (records.Commit top subs) known (subst (λ z. IsAppended lists z (records.Commit top subs)) (sym same) a))
+    may top subs (own_appended by.session seen lists (end_record how top subs) known (subst (λ z. IsAppended lists z (end_record how top subs)) (sym same) a))
     (sym (open_seen start by.session seen lists s.k known) ∙ ap (λ z. open_ids z (history lists)) same ∙ q)
 
--- what the event of an entry does to a record of its session
-leaves : (start : Start) (seen lists : List (List Entry)) (lock : ℕ) (e : Entry) (event : Event) (session top : ℕ) (subs : List ℕ) → Step start seen lists lock e → event_of e ≡ Some event → by_of event ≡ e.by → (by_of event).session ≡ session
-    → LeavesRecords seen event → NeedsStates start lists proc_lock (at lists proc_lock) e → IsAppended lists session (records.Commit top subs) → open_ids session (history lists) ≡ top ∷ subs → Leaves (history lists) event session top subs
-leaves start seen lists lock e (events.Commit by t) session top subs s g mine same may states a q =
-    let r = states_of start lists proc_lock (at lists proc_lock) e by t states g in (r.0, s.k.records.exact by.session t r.0 r.1)
-leaves start seen lists lock e (events.Sub by parent id) session top subs s g mine same may states a q = no_record start seen lists lock e by session top subs s mine same may a q
-leaves start seen lists lock e (events.Undo by id) session top subs s g mine same may states a q = no_record start seen lists lock e by session top subs s mine same may a q
-leaves start seen lists lock e (events.Abort by t) session top subs s g mine same may states a q = no_record start seen lists lock e by session top subs s mine same may a q
-leaves start seen lists lock e _ session top subs s g mine same may states a q = tt
+-- no id has both a commit record and an abort record
+apart_ends : (start : Start) (lists : List (List Entry)) (m n top other : ℕ) (subs others : List ℕ) (id : ℕ) → EngineInvariant start lists → IsAppended lists m (records.Commit top subs) → Contains (top ∷ subs) id → IsAppended lists n (records.Abort other others) → Contains (other ∷ others) id → ⊥
+apart_ends start lists m n top other subs others id k a c b d =
+    let es = at lists log_lock in
+    let commit : Entry = record { by = a.0; kind = kinds.Append (records.Commit top subs) } in
+    let abort : Entry = record { by = b.0; kind = kinds.Append (records.Abort other others) } in
+    let i = has_place es commit (contains_has es commit a.2) in
+    let j = has_place es abort (contains_has es abort b.2) in
+    ⊎_elim
+    (λ (l : i.0 < j.0). (k.once.each.each log_lock j.0 abort j.1 id d).0 (record { by = a.0; top = top; subs = subs; stands = has_contains _ _ (taken_before es i.0 j.0 commit l i.1); among = c }))
+    (λ r. ⊎_elim
+    (λ (l : j.0 < i.0). (k.once.each.each log_lock i.0 commit i.1 id c).1 (record { by = b.0; top = other; subs = others; stands = has_contains _ _ (taken_before es j.0 i.0 abort l j.1); among = d }))
+    (λ (same : i.0 ≡ j.0). two_kinds top other subs others (same_Some commit abort (sym i.1 ∙ (ap (λ z. slice_get es z) same ∙ j.1)))) r)
+    (three i.0 j.0)
+  where
+    three : (i j : ℕ) → (i < j) ⊎ ((j < i) ⊎ (i ≡ j))
+    three i j = grind arith
+
+    two_kinds : {x y : By} (top other : ℕ) (subs others : List ℕ) → ◌≡◌ {A = Entry} (record { by = x; kind = kinds.Append (records.Commit top subs) }) (record { by = y; kind = kinds.Append (records.Abort other others) }) → ⊥
+    two_kinds top other subs others q = let z : kinds.Append (records.Commit top subs) ≡ kinds.Append (records.Abort other others) = ap (λ (e : Entry). e.kind) q in cc
+
+    -- an entry is among those before a later place
+    taken_before : (es : List Entry) (i j : ℕ) (e : Entry) → i < j → slice_get es i ≡ Some e → Has (take j es) e
+    taken_before [] zero j e l g = absurd cc
+    taken_before [] (suc i) j e l g = absurd cc
+    taken_before (x ∷ es) i zero e l g = absurd (omega arith)
+    taken_before (x ∷ es) zero (suc j) e l g = inl (same_Some x e g)
+    taken_before (x ∷ es) (suc i) (suc j) e l g = inr (taken_before es i j e (omega arith) g)
+
+-- what the event of an entry does to a commit record of its session
+leaves : (start : Start) (seen lists : List (List Entry)) (lock : ℕ) (e : Entry) (event : Event) (session top : ℕ) (subs : List ℕ) → Step start seen lists lock e → event_of e ≡ Some event → by_of event ≡ e.by → (by_of event).session ≡ session → MayCome start.base (history lists) event
+    → LeavesRecords seen event → IsAppended lists session (records.Commit top subs) → open_ids session (history lists) ≡ top ∷ subs → Leaves ends.Commit (history lists) event top
+leaves start seen lists lock e (events.Commit by t) session top subs s g mine same rule may a q =
+    ap (λ z. events.Commit by z) (ends_own start.base (history lists) session t top subs s.k.events.legal (subst (λ z. Contains (open_ids z (history lists)) t) same rule.0) rule.1 q (s.k.records.exact session top subs a).root)
+leaves start seen lists lock e (events.Sub by parent id) session top subs s g mine same rule may a q = no_record start seen lists lock e ends.Commit by session top subs s mine same may a q
+leaves start seen lists lock e (events.Undo by id) session top subs s g mine same rule may a q = no_record start seen lists lock e ends.Commit by session top subs s mine same may a q
+leaves start seen lists lock e (events.Abort by t) session top subs s g mine same rule may a q = absurd (no_record start seen lists lock e ends.Commit by session top subs s mine same may a q)
+leaves start seen lists lock e (events.Id by id) session top subs s g mine same rule may a q = tt
+leaves start seen lists lock e (events.Snap by name) session top subs s g mine same rule may a q = tt
+leaves start seen lists lock e (events.SnapDrop by name) session top subs s g mine same rule may a q = tt
+leaves start seen lists lock e (events.Oldest by oldest) session top subs s g mine same rule may a q = tt
+leaves start seen lists lock e (events.Ask by id) session top subs s g mine same rule may a q = tt
+
+-- and to an abort record: a commit event has its own record, of ids of which none has an abort record
+leaves_abort : (start : Start) (seen lists : List (List Entry)) (lock : ℕ) (e : Entry) (event : Event) (session top : ℕ) (subs : List ℕ) → Step start seen lists lock e → event_of e ≡ Some event → by_of event ≡ e.by → (by_of event).session ≡ session → MayCome start.base (history lists) event
+    → LeavesAborts seen event → NeedsStates start lists proc_lock (at lists proc_lock) e → IsAppended lists session (records.Abort top subs) → open_ids session (history lists) ≡ top ∷ subs → Leaves ends.Abort (history lists) event top
+leaves_abort start seen lists lock e (events.Abort by t) session top subs s g mine same rule may states a q =
+    ap (λ z. events.Abort by z) (ends_own start.base (history lists) session t top subs s.k.events.legal (subst (λ z. Contains (open_ids z (history lists)) t) same rule.0) rule.1 q (s.k.ends.exact session top subs a).root)
+leaves_abort start seen lists lock e (events.Commit by t) session top subs s g mine same rule may states a q =
+    let r = states_of start lists proc_lock (at lists proc_lock) e by t states g in
+    let named : t ≡ top = ends_own start.base (history lists) session t top subs s.k.events.legal (subst (λ z. Contains (open_ids z (history lists)) t) same rule.0) rule.1 q (s.k.ends.exact session top subs a).root in
+    absurd (apart_ends start lists by.session session t top r.0 subs t s.k r.1 (has_contains (t ∷ r.0) t (inl refl)) a (has_contains (top ∷ subs) t (inl (sym named))))
+leaves_abort start seen lists lock e (events.Sub by parent id) session top subs s g mine same rule may states a q = no_record start seen lists lock e ends.Abort by session top subs s mine same may a q
+leaves_abort start seen lists lock e (events.Undo by id) session top subs s g mine same rule may states a q = no_record start seen lists lock e ends.Abort by session top subs s mine same may a q
+leaves_abort start seen lists lock e (events.Id by id) session top subs s g mine same rule may states a q = tt
+leaves_abort start seen lists lock e (events.Snap by name) session top subs s g mine same rule may states a q = tt
+leaves_abort start seen lists lock e (events.SnapDrop by name) session top subs s g mine same rule may states a q = tt
+leaves_abort start seen lists lock e (events.Oldest by oldest) session top subs s g mine same rule may states a q = tt
+leaves_abort start seen lists lock e (events.Ask by id) session top subs s g mine same rule may states a q = tt
+
+-- a record of an end is whole with the entry, be it the entry's or an older one
+whole_kept : (how : XactEnd) (start : Start) (seen lists : List (List Entry)) (lock : ℕ) (e : Entry) (session top : ℕ) (subs : List ℕ) → Step start seen lists lock e
+    → (IsAppended lists session (end_record how top subs) → IsWholeIn how (history lists) session top subs)
+    → ((event : Event) → proc_lock ≡ lock → event_of e ≡ Some event → by_of event ≡ e.by → (by_of event).session ≡ session → MayCome start.base (history lists) event → IsAppended lists session (end_record how top subs) → open_ids session (history lists) ≡ top ∷ subs → Leaves how (history lists) event top)
+    → (lock ≡ log_lock → e.kind ≡ kinds.Append (end_record how top subs) → (open_ids e.by.session (history seen) ≡ top ∷ subs) × (is_top (history seen) top ≡ true))
+    → IsAppended (add lists lock e) session (end_record how top subs) → IsWholeIn how (history (add lists lock e)) session top subs
+whole_kept how start seen lists lock e session top subs s old left new a =
+    dite (ℕ_discrete proc_lock lock)
+    (λ (q : proc_lock ≡ lock).
+    let same = seen_whole start seen lists lock e s q in
+    let before : IsAppended lists session (end_record how top subs) = ⊎_elim (λ b. b) (λ b. absurd (let z : proc_lock ≡ log_lock = q ∙ b.0 in omega arith)) (appended_cases lists lock e session (end_record how top subs) s.inside a) in
+    let exact = old before in
+    let own : NeedsOwn lists lock (at lists lock) e = need_now start seen lists lock e s NeedsOwn own_lasting s.may.events.own in
+    let step : (o : Option Event) → event_of e ≡ o → IsWholeIn how (history lists ++ cons_option o []) session top subs = elim [
+      | None ↦ λ g. subst (λ t. IsWholeIn how t session top subs) (sym (append-nil (history lists))) exact
+      | Some event ↦ λ g. let r = rule_of start seen lock (at seen lock) e event s.may.events (sym q) g in
+          let rule = subst (λ t. MayCome start.base t event) same r in
+          whole_push how start.base (history lists) event session top subs s.k.events.legal rule exact
+          (λ n w. left event q g (own_event lists lock (at lists lock) e event own g) n rule before w)
+    ] in
+    subst (λ t. IsWholeIn how t session top subs) (sym (history_here start seen lists lock e s q)) (step (event_of e) refl))
+    (λ n.
+    let same : history (add lists lock e) ≡ history lists = history_off lists lock e n in
+    subst (λ t. IsWholeIn how t session top subs) (sym same)
+    (⊎_elim old
+    (λ (b : (lock ≡ log_lock) × (e.by.session ≡ session) × (e.kind ≡ kinds.Append (end_record how top subs))).
+    let r = new b.0 b.2 in
+    record { root = root_seen start e.by.session top subs seen lists s.k s.knows r.0 r.1; ids = inl (ap (λ z. open_ids z (history lists)) (sym b.1) ∙ open_seen start e.by.session seen lists s.k s.knows ∙ r.0) })
+    (appended_cases lists lock e session (end_record how top subs) s.inside a)))
 
 records_kept : (start : Start) (seen lists : List (List Entry)) (lock : ℕ) (e : Entry) → Step start seen lists lock e → CommitRecordsExact start (add lists lock e)
 records_kept start seen lists lock e s = record {
   parents = kept start seen lists lock e s (NeedsLinks start) (links_lasting start) s.k.records.parents s.may.records.parents;
   exact = λ session top subs a.
-      dite (ℕ_discrete proc_lock lock)
-      (λ (q : proc_lock ≡ lock).
-      let same = seen_whole start seen lists lock e s q in
-      let before : IsAppended lists session (records.Commit top subs) = ⊎_elim (λ b. b) (λ b. absurd (let z : proc_lock ≡ log_lock = q ∙ b.0 in omega arith)) (appended_cases lists lock e session (records.Commit top subs) s.inside a) in
-      let exact = s.k.records.exact session top subs before in
-      let own : NeedsOwn lists lock (at lists lock) e = need_now start seen lists lock e s NeedsOwn own_lasting s.may.events.own in
+      whole_kept ends.Commit start seen lists lock e session top subs s (s.k.records.exact session top subs)
+      (λ event q g mine same rule before w. leaves start seen lists lock e event session top subs s g mine same rule (leaves_of start seen lock (at seen lock) e event s.may.records (sym q) g) before w)
+      (λ here is. ids_of_record start seen lock (at seen lock) e top subs s.may.records here is) a;
+}
+
+ends_kept : (start : Start) (seen lists : List (List Entry)) (lock : ℕ) (e : Entry) → Step start seen lists lock e → AbortRecordsExact (add lists lock e)
+ends_kept start seen lists lock e s = record {
+  exact = λ session top subs a.
       let states : NeedsStates start lists lock (at lists lock) e = need_now start seen lists lock e s (NeedsStates start) (states_lasting start) s.may.commits in
-      let step : (o : Option Event) → event_of e ≡ o → IsExactIn (history lists ++ cons_option o []) session top subs = elim [
-        | None ↦ λ g. subst (λ t. IsExactIn t session top subs) (sym (append-nil (history lists))) exact
-        | Some event ↦ λ g. let r = rule_of start seen lock (at seen lock) e event s.may.events (sym q) g in
-            let l = leaves_of start seen lock (at seen lock) e event s.may.records (sym q) g in
-            exact_push start.base (history lists) event session top subs s.k.events.legal (subst (λ t. MayCome start.base t event) same r) exact
-            (λ n w. leaves start seen lists lock e event session top subs s g (own_event lists lock (at lists lock) e event own g) n l (subst (λ z. NeedsStates start lists z (at lists z) e) (sym q) states) before w)
-      ] in
-      subst (λ t. IsExactIn t session top subs) (sym (history_here start seen lists lock e s q)) (step (event_of e) refl))
-      (λ n.
-      let same : history (add lists lock e) ≡ history lists = history_off lists lock e n in
-      subst (λ t. IsExactIn t session top subs) (sym same)
-      (⊎_elim (λ b. s.k.records.exact session top subs b)
-      (λ (b : (lock ≡ log_lock) × (e.by.session ≡ session) × (e.kind ≡ kinds.Append (records.Commit top subs))).
-      let r = ids_of_record start seen lock (at seen lock) e top subs s.may.records b.0 b.2 in
-      record { root = root_seen start e.by.session top subs seen lists s.k s.knows r.0 r.1; ids = inl (ap (λ z. open_ids z (history lists)) (sym b.1) ∙ open_seen start e.by.session seen lists s.k s.knows ∙ r.0) })
-      (appended_cases lists lock e session (records.Commit top subs) s.inside a)));
+      whole_kept ends.Abort start seen lists lock e session top subs s (s.k.ends.exact session top subs)
+      (λ event q g mine same rule before w. leaves_abort start seen lists lock e event session top subs s g mine same rule (aborts_of seen lock e event s.may.ends (sym q) g) (subst (λ z. NeedsStates start lists z (at lists z) e) (sym q) states) before w)
+      (λ here is. ids_of_abort seen lock e top subs s.may.ends here is) a;
 }
 
 aborts_kept : (start : Start) (seen lists : List (List Entry)) (lock : ℕ) (e : Entry) → Step start seen lists lock e → AbortRule start (add lists lock e)
@@ -225,4 +301,5 @@ keeps start lists seen lock e k knows inside whole may =
       faults = record { each = kept start seen lists lock e s (NeedsCount start) (faults_lasting start) k.faults.each may.faults };
       down = record { each = kept start seen lists lock e s NeedsUp down_lasting k.down.each may.down };
       once = record { each = kept start seen lists lock e s NeedsOnce once_lasting k.once.each may.once };
+      ends = ends_kept start seen lists lock e s;
     }

@@ -37,7 +37,7 @@ use Rattle.tx_core.specs.Entries.{IsAppended, history, session_of}
 use Rattle.tx_core.specs.Locks.{log_lock}
 use Rattle.tx_core.specs.MultiEntries.{multi_history}
 use Rattle.tx_core.specs.RecordsFollow.{IsGenOf, NeedsNamed}
-use Rattle.tx_core.specs.RecordsOnce.{HasNoAbort, HasNoCommit, HasNoMulti, IsAbortNamed, IsCommitNamed, OnceOf}
+use Rattle.tx_core.specs.RecordsOnce.{EndsOnce, HasNoAbort, HasNoMulti, IsAbortNamed, IsCommitNamed, OnceOf}
 use Rattle.notes.specs.Lists.{Knows, at}
 
 -- an id that its commit event closed isn't open
@@ -90,8 +90,9 @@ module _ (start : Start) (seen lists : List (List Entry)) (by : By) (k : EngineI
       let his = (records_given start lists n.by.session k).abort n.top n.subs id a n.among in
       one_session start.base (history lists) k.events.legal n.by.session by.session id (contains_has (given_to n.by.session (history lists)) id his) mine
 
-  pub commit_once : (top : ℕ) (subs : List ℕ) → open_ids by.session (history seen) ≡ top ∷ subs → HasNoRecord seen by.session → ((id : ℕ) → Contains (top ∷ subs) id → HasNoAbort seen by.session id) → OnceOf (at seen log_lock) (records.Commit top subs)
-  commit_once top subs opened none unaborted id c =
+  -- so no record of others names what the session has open
+  pub end_once : (top : ℕ) (subs : List ℕ) → open_ids by.session (history seen) ≡ top ∷ subs → HasNoRecord seen by.session → ((id : ℕ) → Contains (top ∷ subs) id → HasNoAbort seen by.session id) → EndsOnce (at seen log_lock) (top ∷ subs)
+  end_once top subs opened none unaborted id c =
       let same : open_ids by.session (history lists) ≡ open_ids by.session (history seen) = open_seen start by.session seen lists k knows in
       let still : Has (open_ids by.session (history lists)) id = subst (λ (l : List ℕ). Has l id) (sym (same ∙ opened)) (contains_has (top ∷ subs) id c) in
       let mine : Has (given_to by.session (history lists)) id = (has_filter (is_open (history lists)) (given_to by.session (history lists)) id still).0 in (
@@ -105,9 +106,6 @@ module _ (start : Start) (seen lists : List (List Entry)) (by : By) (k : EngineI
             (k.records.exact by.session n.top n.subs a).ids,
         λ n. unaborted id c n.top n.subs (n.by, own_abort id mine n, n.stands) n.among,
       )
-
-  pub abort_once : (top : ℕ) (subs : List ℕ) → ((id : ℕ) → Contains (top ∷ subs) id → Contains (given_to by.session (history seen)) id) → ((id : ℕ) → Contains (top ∷ subs) id → HasNoCommit seen by.session id) → OnceOf (at seen log_lock) (records.Abort top subs)
-  abort_once top subs given uncommitted id c n = uncommitted id c n.top n.subs (n.by, own_commit id (given_now id (given id c)) n, n.stands) n.among
 
   pub multi_once : (multi offset : ℕ) (members : List Member) → IsGenOf seen by.session multi offset members → HasNoMulti seen by.session multi → OnceOf (at seen log_lock) (records.Multi multi offset members)
   multi_once multi offset members gen none n =

@@ -71,6 +71,7 @@ opens start lists empty =
       faults = record { each = nothing_upheld (NeedsCount start) lists empty };
       down = record { each = nothing_upheld NeedsUp lists empty };
       once = record { each = nothing_upheld NeedsOnce lists empty };
+      ends = record { exact = λ session top subs a. absurd (no (record { by = a.0; kind = kinds.Append (records.Abort top subs) }) a.2) };
     }
 
 pub asked_given : AskedGiven

@@ -1,11 +1,14 @@
 -- Entries that say nothing of ids ask for nothing.
-use Rattle.std.proofs.Common.{Bool, IfSome, List, false, refl, true, ℕ, ◌≡◌, ◌⊎◌}
+use Rattle.std.proofs.Common.{Bool, IfSome, List, false, refl, true, ℕ, ◌≡◌, ◌⊎◌, Contains, subst, sym, ◌∷◌}
 use Rattle.std.specs.List.{AllByRecursion, filter_map}
 use Rattle.tx_events.specs.declared.event.By.{By}
 use Rattle.tx_events.specs.declared.event.Event.{Event}
 use Rattle.tx_events.specs.Events.{by_of}
 use Rattle.tx_events.specs.Families.{top}
 use Rattle.tx_events.specs.History.{MayCome}
+use Rattle.tx_events.proofs.Membership.{Has, contains_has, has_contains, has_filter}
+use Rattle.tx_events.specs.Running.{is_open}
+use Rattle.tx_events.specs.Events.{given_to}
 use Rattle.tx_core.specs.declared.entry.Entry.{Entry}
 use Rattle.tx_core.specs.declared.entry.Kind.{Kind}
 use Rattle.tx_core.specs.declared.entry.Start.{Start}
@@ -28,7 +31,8 @@ use Rattle.tx_core.specs.PostsFollow.{PostIn, PostOf}
 use Rattle.tx_core.specs.FaultsRise.{count_in, faults_told}
 use Rattle.tx_core.specs.StaysDown.{UpOf}
 use Rattle.tx_core.specs.RecordsOnce.{OnceIn}
-use Rattle.tx_core.proofs.Once.{abort_once, multi_once}
+use Rattle.tx_core.proofs.Once.{end_once, multi_once}
+use Rattle.tx_core.specs.AbortRecordsExact.{AbortMay, LeavesAborts}
 use Rattle.disk_core.specs.Faults.{HasRisen}
 use Rattle.tx_core.specs.Locks.{oldest_word, xmin_word}
 use Rattle.tx_events.specs.Multis.{InBase, MultiMayCome, multi_by}
@@ -116,6 +120,7 @@ pub record HasNeeds (start : Start) (seen : List (List Entry)) (lock : ℕ) (by 
   pub faults : IfSome (count_in kind) (HasRisen (faults_told start lock (at seen lock)))
   pub down : UpOf (at seen lock) kind
   pub once : OnceIn (at seen lock) kind
+  pub ends : AbortMay seen by.session kind
 
 -- so its turn, that it may stand there, and these needs are all that it needs
 pub quiet_keeps : (start : Start) (seen : List (List Entry)) (lock : ℕ) (by : By) (kind : Kind) → is_quiet kind ≡ true → MayStand start lock by kind → HasNeeds start seen lock by kind → KindKeeps start seen lock by kind
@@ -166,49 +171,53 @@ quiet_keeps start seen lock by kind q stands needs lists k knows inside whole tu
       faults = needs.faults;
       down = needs.down;
       once = needs.once;
+      ends = record { event = λ here. quiet_event (λ event. LeavesAborts seen event) kind q; ids = λ here. needs.ends };
     })
 
 pub abort_record_law : AbortRecordKeeps
-abort_record_law start seen by top subs base given uncommitted up lists k knows inside whole turn =
-    quiet_keeps start seen log_lock by (kinds.Append (records.Abort top subs)) refl refl (record { made = tt; counters = (base, tt); named = given; flushed = tt; cuts = tt; multis = tt; syncs = tt; posts = tt; faults = tt; down = up; once = abort_once start seen lists by k knows whole top subs given uncommitted })
+abort_record_law start seen by top subs opened root none unaborted base up lists k knows inside whole turn =
+    let h = history seen in
+    let given : (id : ℕ) → Contains (top ∷ subs) id → Contains (given_to by.session h) id
+    = λ id c. has_contains (given_to by.session h) id (has_filter (is_open h) (given_to by.session h) id (subst (λ (l : List ℕ). Has l id) (sym opened) (contains_has (top ∷ subs) id c))).0 in
+    quiet_keeps start seen log_lock by (kinds.Append (records.Abort top subs)) refl refl (record { made = tt; counters = (base, tt); named = given; flushed = tt; cuts = tt; multis = tt; syncs = tt; posts = tt; faults = tt; down = up; once = end_once start seen lists by k knows whole top subs opened none unaborted; ends = (opened, root) })
     lists k knows inside whole turn
 
 pub multi_record_law : MultiRecordKeeps
 multi_record_law start seen by multi offset members base gen given full none up lists k knows inside whole turn =
-    quiet_keeps start seen log_lock by (kinds.Append (records.Multi multi offset members)) refl refl (record { made = tt; counters = (base, tt); named = (gen, given, full); flushed = tt; cuts = tt; multis = tt; syncs = tt; posts = tt; faults = tt; down = up; once = multi_once start seen lists by k knows whole multi offset members gen none })
+    quiet_keeps start seen log_lock by (kinds.Append (records.Multi multi offset members)) refl refl (record { made = tt; counters = (base, tt); named = (gen, given, full); flushed = tt; cuts = tt; multis = tt; syncs = tt; posts = tt; faults = tt; down = up; once = multi_once start seen lists by k knows whole multi offset members gen none; ends = tt })
     lists k knows inside whole turn
 
 pub checkpoint_record_law : CheckpointRecordKeeps
 checkpoint_record_law start seen by number counters base follows up =
-    quiet_keeps start seen log_lock by (kinds.Append (records.Checkpoint number counters)) refl refl (record { made = tt; counters = (base, follows); named = tt; flushed = tt; cuts = tt; multis = tt; syncs = tt; posts = tt; faults = tt; down = up; once = tt })
+    quiet_keeps start seen log_lock by (kinds.Append (records.Checkpoint number counters)) refl refl (record { made = tt; counters = (base, follows); named = tt; flushed = tt; cuts = tt; multis = tt; syncs = tt; posts = tt; faults = tt; down = up; once = tt; ends = tt })
 
 pub truncate_record_law : TruncateRecordKeeps
 truncate_record_law start seen by oldest multi offset base id announced up =
-    quiet_keeps start seen log_lock by (kinds.Append (records.Truncate oldest multi offset)) refl refl (record { made = tt; counters = (base, (id, announced)); named = tt; flushed = tt; cuts = tt; multis = tt; syncs = tt; posts = tt; faults = tt; down = up; once = tt })
+    quiet_keeps start seen log_lock by (kinds.Append (records.Truncate oldest multi offset)) refl refl (record { made = tt; counters = (base, (id, announced)); named = tt; flushed = tt; cuts = tt; multis = tt; syncs = tt; posts = tt; faults = tt; down = up; once = tt; ends = tt })
 
 pub flush_law : FlushKeeps
-flush_law start seen by to rises within up = quiet_keeps start seen log_lock by (kinds.Flush to) refl refl (record { made = tt; counters = tt; named = tt; flushed = (rises, within); cuts = tt; multis = tt; syncs = tt; posts = tt; faults = tt; down = up; once = tt })
+flush_law start seen by to rises within up = quiet_keeps start seen log_lock by (kinds.Flush to) refl refl (record { made = tt; counters = tt; named = tt; flushed = (rises, within); cuts = tt; multis = tt; syncs = tt; posts = tt; faults = tt; down = up; once = tt; ends = tt })
 
 pub forget_law : ForgetKeeps
-forget_law start seen by number may up = quiet_keeps start seen log_lock by (kinds.Forget number) refl refl (record { made = tt; counters = tt; named = tt; flushed = tt; cuts = tt; multis = tt; syncs = may; posts = tt; faults = tt; down = up; once = tt })
+forget_law start seen by number may up = quiet_keeps start seen log_lock by (kinds.Forget number) refl refl (record { made = tt; counters = tt; named = tt; flushed = tt; cuts = tt; multis = tt; syncs = may; posts = tt; faults = tt; down = up; once = tt; ends = tt })
 
 pub log_fault_law : LogFaultKeeps
-log_fault_law start seen by asked count may up risen = quiet_keeps start seen log_lock by (kinds.LogFault asked count) refl refl (record { made = tt; counters = tt; named = tt; flushed = tt; cuts = tt; multis = tt; syncs = may; posts = tt; faults = risen; down = up; once = tt })
+log_fault_law start seen by asked count may up risen = quiet_keeps start seen log_lock by (kinds.LogFault asked count) refl refl (record { made = tt; counters = tt; named = tt; flushed = tt; cuts = tt; multis = tt; syncs = may; posts = tt; faults = risen; down = up; once = tt; ends = tt })
 
 pub multi_event_law : MultiEventKeeps
-multi_event_law start seen by event own rule told = quiet_keeps start seen multi_lock by (kinds.Multi event) refl refl (record { made = tt; counters = tt; named = tt; flushed = tt; cuts = tt; multis = (own, rule, told); syncs = tt; posts = tt; faults = tt; down = tt; once = tt })
+multi_event_law start seen by event own rule told = quiet_keeps start seen multi_lock by (kinds.Multi event) refl refl (record { made = tt; counters = tt; named = tt; flushed = tt; cuts = tt; multis = (own, rule, told); syncs = tt; posts = tt; faults = tt; down = tt; once = tt; ends = tt })
 
 pub zero_law : ZeroKeeps
-zero_law start seen lock by page on wanted = quiet_keeps start seen lock by (kinds.Zero page) refl on (record { made = wanted; counters = tt; named = tt; flushed = tt; cuts = tt; multis = tt; syncs = tt; posts = tt; faults = tt; down = tt; once = tt })
+zero_law start seen lock by page on wanted = quiet_keeps start seen lock by (kinds.Zero page) refl on (record { made = wanted; counters = tt; named = tt; flushed = tt; cuts = tt; multis = tt; syncs = tt; posts = tt; faults = tt; down = tt; once = tt; ends = tt })
 
 pub cut_law : CutKeeps
-cut_law start seen lock by page on says = quiet_keeps start seen lock by (kinds.Cut page) refl on (record { made = tt; counters = tt; named = tt; flushed = tt; cuts = says; multis = tt; syncs = tt; posts = tt; faults = tt; down = tt; once = tt })
+cut_law start seen lock by page on says = quiet_keeps start seen lock by (kinds.Cut page) refl on (record { made = tt; counters = tt; named = tt; flushed = tt; cuts = says; multis = tt; syncs = tt; posts = tt; faults = tt; down = tt; once = tt; ends = tt })
 
 pub sync_law : SyncKeeps
-sync_law start seen lock by on = quiet_keeps start seen lock by kinds.Sync refl on (record { made = tt; counters = tt; named = tt; flushed = tt; cuts = tt; multis = tt; syncs = tt; posts = tt; faults = tt; down = tt; once = tt })
+sync_law start seen lock by on = quiet_keeps start seen lock by kinds.Sync refl on (record { made = tt; counters = tt; named = tt; flushed = tt; cuts = tt; multis = tt; syncs = tt; posts = tt; faults = tt; down = tt; once = tt; ends = tt })
 
 pub look_law : LookKeeps
-look_law start seen lock by = quiet_keeps start seen lock by kinds.Look refl tt (record { made = tt; counters = tt; named = tt; flushed = tt; cuts = tt; multis = tt; syncs = tt; posts = tt; faults = tt; down = tt; once = tt })
+look_law start seen lock by = quiet_keeps start seen lock by kinds.Look refl tt (record { made = tt; counters = tt; named = tt; flushed = tt; cuts = tt; multis = tt; syncs = tt; posts = tt; faults = tt; down = tt; once = tt; ends = tt })
 
 pub post_keeps : (start : Start) (seen : List (List Entry)) (lock : ℕ) (by : By) (number : ℕ) → (lock ≡ oldest_word start) ⊎ (lock ≡ xmin_word start) → PostOf start seen lock (at seen lock) number → KindKeeps start seen lock by (kinds.Post number)
-post_keeps start seen lock by number on posted = quiet_keeps start seen lock by (kinds.Post number) refl on (record { made = tt; counters = tt; named = tt; flushed = tt; cuts = tt; multis = tt; syncs = tt; posts = posted; faults = tt; down = tt; once = tt })
+post_keeps start seen lock by number on posted = quiet_keeps start seen lock by (kinds.Post number) refl on (record { made = tt; counters = tt; named = tt; flushed = tt; cuts = tt; multis = tt; syncs = tt; posts = posted; faults = tt; down = tt; once = tt; ends = tt })

@@ -1,9 +1,9 @@
 -- A commit record names exactly what its session has open.
-use Rattle.std.specs.Prelude.{◌≡◌, ℕ, ◌⊎◌, List, ◌∷◌, Some, take, slice_get, Contains, true, IfSome}
-use Rattle.tx_events.specs.declared.event.By.{By}
+use Rattle.std.specs.Prelude.{◌≡◌, ℕ, List, ◌∷◌, Contains, true, IfSome}
 use Rattle.tx_events.specs.declared.event.Event.{Event}
 use Rattle.tx_events.specs.declared.event.Event.TheVariants as events
 use Rattle.tx_events.specs.declared.record.Rec.TheVariants as records
+use Rattle.tx_events.specs.declared.xact_end.XactEnd.TheVariants as ends
 use Rattle.tx_events.specs.Families.{is_top}
 use Rattle.tx_events.specs.Running.{open_ids}
 use Rattle.tx_core.specs.declared.entry.Entry.{Entry}
@@ -13,6 +13,7 @@ use Rattle.tx_core.specs.declared.entry.Start.{Start}
 use Rattle.tx_core.specs.Lists.{Upheld}
 use Rattle.tx_core.specs.Locks.{log_lock, proc_lock}
 use Rattle.tx_core.specs.Entries.{event_of, history, IsLinked, IsAppended}
+use Rattle.tx_core.specs.Wholeness.{IsWholeIn}
 
 abbrev pub LinksOf : Start → List (List Entry) → Kind → Type 0
 LinksOf start lists (kinds.Append (records.Commit top subs)) = (id : ℕ) → Contains subs id → (parent : ℕ) × IsLinked start lists id parent
@@ -21,11 +22,9 @@ LinksOf start lists _ = Unit {0}
 abbrev pub NeedsLinks : Start → List (List Entry) → ℕ → List Entry → Entry → Type 0
 NeedsLinks start lists lock before e = LinksOf start lists e.kind
 
--- the top is a top, and these are the ids that its session has open, or that its commit event closed
-pub record IsExactIn (h : List Event) (session top : ℕ) (subs : List ℕ) : Type 0 where
-  pub root : is_top h top ≡ true
-  pub ids : (open_ids session h ≡ top ∷ subs)
-      ⊎ ((p : ℕ) × (by : By) × (by.session ≡ session) × (slice_get h p ≡ Some (events.Commit by top)) × (open_ids session (take p h) ≡ top ∷ subs))
+-- these are the ids of a top that its session has open, or that its commit event closed
+abbrev pub IsExactIn : List Event → ℕ → ℕ → List ℕ → Type 0
+IsExactIn = IsWholeIn ends.Commit
 
 -- Each commit record in the log names its top and then, ascending, the subtransactions: all that its session has open,
 -- or all that its commit event closed, and nothing else. So none of them was undone, nothing was given after it, and its

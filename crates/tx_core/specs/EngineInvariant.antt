@@ -20,6 +20,7 @@ use Rattle.tx_core.specs.PostsFollow.{PostsFollow, NeedsPost}
 use Rattle.tx_core.specs.FaultsRise.{FaultsRise, NeedsCount}
 use Rattle.tx_core.specs.StaysDown.{StaysDown, NeedsUp}
 use Rattle.tx_core.specs.RecordsOnce.{RecordsOnce, NeedsOnce}
+use Rattle.tx_core.specs.AbortRecordsExact.{AbortRecordsExact, MayEndExactly}
 
 -- The engine invariant, part by part. A further part is a field here and one below.
 pub record EngineInvariant (start : Start) (lists : List (List Entry)) : Type 0 where
@@ -40,6 +41,7 @@ pub record EngineInvariant (start : Start) (lists : List (List Entry)) : Type 0 
   pub faults : FaultsRise start lists
   pub down : StaysDown lists
   pub once : RecordsOnce lists
+  pub ends : AbortRecordsExact lists
 
 -- what a session shows of the lists that it has seen, before it adds an entry to one of them
 pub record MayAdd (start : Start) (seen : List (List Entry)) (lock : ℕ) (e : Entry) : Type 0 where
@@ -60,3 +62,4 @@ pub record MayAdd (start : Start) (seen : List (List Entry)) (lock : ℕ) (e : E
   pub faults : NeedsCount start seen lock (at seen lock) e
   pub down : NeedsUp seen lock (at seen lock) e
   pub once : NeedsOnce seen lock (at seen lock) e
+  pub ends : MayEndExactly seen lock e

@@ -21,7 +21,8 @@ use Rattle.tx_core.specs.CommitRecordsExact.{HasNoRecord}
 use Rattle.tx_core.specs.EngineInvariant.{EngineInvariant, MayAdd}
 use Rattle.tx_core.specs.FaultsRise.{faults_told}
 use Rattle.tx_core.specs.StaysDown.{IsUp, UpOf}
-use Rattle.tx_core.specs.RecordsOnce.{HasNoAbort, HasNoCommit, HasNoMulti}
+use Rattle.tx_core.specs.RecordsOnce.{HasNoAbort, HasNoMulti}
+use Rattle.tx_core.specs.AbortRecordsExact.{HasNoAbortRecord}
 use Rattle.xid_order.specs.Ids.{IsFullId}
 use Rattle.disk_core.specs.Faults.{HasRisen}
 use Rattle.tx_core.specs.Entries.{IsAppended, IsLinked, IsMarked, Link, Mark, history, link_of, mark_of, marks, records_of, session_of, flushed_to}
@@ -82,12 +83,14 @@ CommitRecordKeeps = (start : Start) (seen : List (List Entry)) (by : By) (top : 
     → IsUp (at seen log_lock)
     → KindKeeps start seen log_lock by (kinds.Append (records.Commit top subs))
 
--- an abort record names ids that were given to its session, which has no commit record of them
+-- So an abort record. The session has no other record of any of its ids.
 abbrev pub AbortRecordKeeps : Type 0
 AbortRecordKeeps = (start : Start) (seen : List (List Entry)) (by : By) (top : ℕ) (subs : List ℕ) →
-    StaysBase start seen (records.Abort top subs)
-    → ((id : ℕ) → Contains (top ∷ subs) id → Contains (given_to by.session (history seen)) id)
-    → ((id : ℕ) → Contains (top ∷ subs) id → HasNoCommit seen by.session id)
+    open_ids by.session (history seen) ≡ top ∷ subs
+    → is_top (history seen) top ≡ true
+    → HasNoRecord seen by.session
+    → ((id : ℕ) → Contains (top ∷ subs) id → HasNoAbort seen by.session id)
+    → StaysBase start seen (records.Abort top subs)
     → IsUp (at seen log_lock)
     → KindKeeps start seen log_lock by (kinds.Append (records.Abort top subs))
 
@@ -145,16 +148,16 @@ IdEventKeeps = (start : Start) (seen : List (List Entry)) (by : By) (id : ℕ) �
     MayCome start.base (history seen) (events.Id by id) → IsMade start seen id → IsTold start (at seen proc_lock) id
     → KindKeeps start seen proc_lock by (kinds.Event (events.Id by id))
 
--- the session has no commit record of what it has open
+-- the session has no record of what it has open
 abbrev pub SubEventKeeps : Type 0
 SubEventKeeps = (start : Start) (seen : List (List Entry)) (by : By) (parent id : ℕ) →
-    MayCome start.base (history seen) (events.Sub by parent id) → IsMade start seen id → IsTold start (at seen proc_lock) id → HasNoRecord seen by.session
+    MayCome start.base (history seen) (events.Sub by parent id) → IsMade start seen id → IsTold start (at seen proc_lock) id → HasNoRecord seen by.session → HasNoAbortRecord seen by.session
     → KindKeeps start seen proc_lock by (kinds.Event (events.Sub by parent id))
 
 -- what the undo closes was set aborted
 abbrev pub UndoEventKeeps : Type 0
 UndoEventKeeps = (start : Start) (seen : List (List Entry)) (by : By) (id : ℕ) →
-    MayCome start.base (history seen) (events.Undo by id) → HasNoRecord seen by.session
+    MayCome start.base (history seen) (events.Undo by id) → HasNoRecord seen by.session → HasNoAbortRecord seen by.session
     → ((x : ℕ) → Contains (open_ids by.session (history seen)) x → Contains (enclosing (history seen) x) id → IsMarked start seen x states.Aborted)
     → KindKeeps start seen proc_lock by (kinds.Event (events.Undo by id))
 

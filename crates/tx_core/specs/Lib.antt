@@ -5,7 +5,9 @@ pub mod MultiEntries
 pub mod EventsLegal
 pub mod PagesBeforeIds
 pub mod ParentsFollow
+pub mod Wholeness
 pub mod CommitRecordsExact
+pub mod AbortRecordsExact
 pub mod LogBeforeStatus
 pub mod StatusBeforeCommit
 pub mod AbortRule

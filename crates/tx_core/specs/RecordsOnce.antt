@@ -33,10 +33,13 @@ pub record IsMultiNamed (es : List Entry) (multi : ℕ) : Type 0 where
   pub members : List Member
   pub stands : Contains es (record { by = by; kind = kinds.Append (records.Multi multi offset members) })
 
+-- no record of an end names one of these ids
+abbrev pub EndsOnce : List Entry → List ℕ → Type 0
+EndsOnce before ids = (id : ℕ) → Contains ids id → (IsCommitNamed before id → ⊥) × (IsAbortNamed before id → ⊥)
+
 abbrev pub OnceOf : List Entry → Rec → Type 0
-OnceOf before (records.Commit top subs) =
-    (id : ℕ) → Contains (top ∷ subs) id → (IsCommitNamed before id → ⊥) × (IsAbortNamed before id → ⊥)
-OnceOf before (records.Abort top subs) = (id : ℕ) → Contains (top ∷ subs) id → IsCommitNamed before id → ⊥
+OnceOf before (records.Commit top subs) = EndsOnce before (top ∷ subs)
+OnceOf before (records.Abort top subs) = EndsOnce before (top ∷ subs)
 OnceOf before (records.Multi multi offset members) = IsMultiNamed before multi → ⊥
 OnceOf before _ = Unit {0}
 
@@ -47,7 +50,7 @@ OnceIn before _ = Unit {0}
 abbrev pub NeedsOnce : List (List Entry) → ℕ → List Entry → Entry → Type 0
 NeedsOnce lists lock before e = OnceIn before e.kind
 
--- No id stands in two commit records, nor in a commit record and an abort record. No multixact has two records.
+-- No id stands in two records of ends, be they commits or aborts. No multixact has two records.
 pub record RecordsOnce (lists : List (List Entry)) : Type 0 where
   pub each : Upheld NeedsOnce lists
 
@@ -55,11 +58,6 @@ pub record RecordsOnce (lists : List (List Entry)) : Type 0 where
 abbrev pub HasNoAbort : List (List Entry) → ℕ → ℕ → Type 0
 HasNoAbort seen session id =
     (top : ℕ) (subs : List ℕ) → IsAppended seen session (records.Abort top subs) → Contains (top ∷ subs) id → ⊥
-
--- nor a commit record of it,
-abbrev pub HasNoCommit : List (List Entry) → ℕ → ℕ → Type 0
-HasNoCommit seen session id =
-    (top : ℕ) (subs : List ℕ) → IsAppended seen session (records.Commit top subs) → Contains (top ∷ subs) id → ⊥
 
 -- nor the record of this multixact.
 abbrev pub HasNoMulti : List (List Entry) → ℕ → ℕ → Type 0

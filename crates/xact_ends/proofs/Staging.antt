@@ -1,5 +1,5 @@
 -- A session at another stage of its end.
-use Rattle.std.proofs.Common.{◌≡◌, ◌≢◌, ℕ, false, refl, sym, subst}
+use Rattle.std.proofs.Common.{◌≡◌, ◌≢◌, ℕ, false, refl, sym, subst, List, Result, Ok, Err, ap, ◌∙◌}
 use Rattle.std.proofs.lemmas.Bool.{false≢true}
 use Rattle.tx_core.specs.declared.entry.Start.{Start}
 use Rattle.engine_parts.specs.declared.session.Session.{Session}
@@ -7,6 +7,12 @@ use Rattle.engine_parts.specs.declared.session.Stage.{Stage}
 use Rattle.engine_parts.specs.declared.session.Stage.TheVariants as stages
 use Rattle.engine_parts.specs.Holds.{Knowledge}
 use Rattle.engine_parts.specs.Sessions.{IsReady, MayCall, inner_id}
+use Rattle.tx_events.specs.declared.record.Rec.{Rec}
+use Rattle.tx_events.specs.declared.refusal.Refusal.{Refusal}
+use Rattle.tx_core.specs.declared.entry.Entry.{Entry}
+use Rattle.log_sections.specs.LogSections.{TakesAbort}
+use Rattle.log_sections.specs.declared.appending.Appended.{Appended}
+use Rattle.log_sections.specs.declared.appending.Appended.TheVariants as came
 use Rattle.engine_parts.specs.Stages.{IsInStage, IsSettling, may_be_aborted, may_be_recorded}
 
 -- a session that goes on to a stage in which no more is asked of its records
@@ -48,3 +54,10 @@ not_aborting (stages.Logged number) other = refl
 not_aborting (stages.Settling steps) other = refl
 not_aborting stages.Aborting other = absurd (other refl)
 not_aborting stages.Undoing other = refl
+
+-- a session whose abort record was appended, or wasn't, before its abort is pending
+pub taken_stage : (start : Start) (lists : List (List Entry)) (rec : Rec) (s t : Session) (result : Result Appended Refusal) → may_be_recorded s.stage ≡ false → TakesAbort start lists rec s t result
+    → (may_be_recorded t.stage ≡ false) × (◌≡◌ {A = Session} (record t { stage = stages.Aborting }) (record s { stage = stages.Aborting }))
+taken_stage start lists rec s t (Ok (came.At number)) clear k = (ap (λ (z : Session). may_be_recorded z.stage) k, ap (λ (z : Session). record z { stage = stages.Aborting }) k)
+taken_stage start lists rec s t (Ok came.NoBase) clear k = (ap (λ (z : Session). may_be_recorded z.stage) k.0 ∙ clear, ap (λ (z : Session). record z { stage = stages.Aborting }) k.0)
+taken_stage start lists rec s t (Err r) clear k = (ap (λ (z : Session). may_be_recorded z.stage) k.0 ∙ clear, ap (λ (z : Session). record z { stage = stages.Aborting }) k.0)

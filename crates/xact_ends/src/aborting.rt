@@ -6,7 +6,7 @@ ghost use Rattle.engine_parts.specs.declared.session.Stage.TheVariants as stages
 ghost use Rattle.engine_parts.specs.Adding.{Adds, IsAbortOf, IsRecordBy, IsToldBy, MayAdd, MayFault};
 ghost use Rattle.engine_parts.specs.Calls.{MayStep};
 ghost use Rattle.engine_parts.specs.Sessions.{MayCall, by_at, stance_of};
-ghost use Rattle.engine_parts.specs.Stages.{may_be_recorded};
+ghost use Rattle.engine_parts.specs.Stages.{may_be_aborted, may_be_recorded};
 ghost use Rattle.engine_parts.specs.Steps.{GoesOn};
 ghost use Rattle.xact_ends.specs.Aborts.{Aborts, IsOnePage, SetsAborted};
 
@@ -99,7 +99,8 @@ fn record_of(alloc: Global, opened: &[FullXid]) -> Result<Rec, Memory>
     Ok(Rec::Abort { top, subs })
 }
 
-/// Appends the abort record, where there is memory for it and the log takes it: an abort goes on without one.
+/// From here on the session's abort is pending. Its record is appended, where there is memory for it and the log takes
+/// it: an abort goes on without one.
 fn log_abort<R: Wait, L: LogDisk, P: PageDisk>(
     rt: &R,
     hall: &Hall<EngineLaw<L, P>>,
@@ -109,7 +110,8 @@ fn log_abort<R: Wait, L: LogDisk, P: PageDisk>(
     requires own { IsOf hall.now caller.old.pass }
     requires laid { hall.now.cells ≡ 3 + 4 * (start_of hall.now).banks }
     requires may { MayCall (start_of hall.now) (view caller.old.pass) caller.old.number caller.old.session }
-    requires pending { caller.old.session.stage ≡ stages.Aborting }
+    requires unrecorded { may_be_recorded caller.old.session.stage ≡ false }
+    requires unaborted { may_be_aborted caller.old.session.stage ≡ false }
     requires some { 1 ≤ length caller.old.session.levels.open_ids.items }
     ensures own { IsOf hall.now caller.new.pass }
     ensures may { MayCall (start_of hall.now) (view caller.new.pass) caller.new.number caller.new.session }
@@ -117,18 +119,23 @@ fn log_abort<R: Wait, L: LogDisk, P: PageDisk>(
         (MayAdd (IsAbortOf caller.old.session.levels.open_ids.items) ⊥ (λ _. ⊥))
         (view caller.old.pass).seen (view caller.new.pass).seen }
     ensures goes { GoesOn caller.old.number [] (view caller.old.pass).seen (view caller.new.pass).seen }
-    ensures same { (caller.new.session ≡ caller.old.session) × (caller.new.number ≡ caller.old.number) }
+    ensures session { caller.new.session ≡ record caller.old.session { stage = stages.Aborting } }
+    ensures number { caller.new.number ≡ caller.old.number }
 {
     match record_of(alloc, &caller.session.levels.open_ids) {
         Ok(rec) => {
             let _appended = append_abort(rt, hall, caller, &rec);
+            caller.session.stage = Stage::Aborting;
             return;
         }
-        Err(Memory) => return,
+        Err(Memory) => {
+            caller.session.stage = Stage::Aborting;
+            return;
+        }
     }
 }
 
-/// From here on the session's abort is pending. The record is appended where none was begun.
+/// Begins the abort where none was begun.
 fn start_abort<R: Wait, L: LogDisk, P: PageDisk>(
     rt: &R,
     hall: &Hall<EngineLaw<L, P>>,
@@ -153,7 +160,6 @@ fn start_abort<R: Wait, L: LogDisk, P: PageDisk>(
     if let Stage::Aborting = caller.session.stage {
         return;
     }
-    caller.session.stage = Stage::Aborting;
     log_abort(rt, hall, caller, alloc);
 }
 

@@ -23,6 +23,8 @@ use Rattle.log_sections.proofs.Aborted.{call_pending}
 use Rattle.log_sections.proofs.Sections.{append_refused, base_of_log, down_left, log_refused, may_follow, not_down, same_err, up_left}
 use Rattle.tx_core.specs.FaultsRise.{count_in, faults_at, faults_told}
 use Rattle.tx_core.proofs.LastNumbers.{number_same}
+use Rattle.engine_parts.specs.Stages.{may_be_aborted, may_be_recorded}
+use Rattle.engine_parts.specs.declared.session.Stage.TheVariants as stages
 use Rattle.log_sections.proofs.aborting.append_abort.Goals as goal
 
 -- nothing was appended: the log isn't one that may take the record
@@ -51,7 +53,7 @@ pub returns-in-Ok-clause-may : goal.returns-in-Ok-clause-may
 returns-in-Ok-clause-may g c =
     let e = c.enter_log-log.ensures in
     let r = c.leave_with_abort.ensures in
-    call_pending (start_of c.args.hall.now) (view c.leave_with_abort.new.caller.pass) c.args.caller.now.number c.leave_with_abort.new.caller.number c.args.caller.now.session c.leave_with_abort.new.caller.session c.requires.pending (r.same.0 ∙ e.same.0) (r.same.1 ∙ e.same.1) r.ready
+    call_pending (start_of c.args.hall.now) (view c.leave_with_abort.new.caller.pass) c.args.caller.now.number c.leave_with_abort.new.caller.number c.args.caller.now.session c.leave_with_abort.new.caller.session (r.session ∙ ap (λ (z : Session). record z { stage = stages.Aborting }) e.same.0) (r.number ∙ e.same.1) r.ready
 
 pub returns-in-Ok-clause-went : goal.returns-in-Ok-clause-went
 returns-in-Ok-clause-went g c =
@@ -113,14 +115,17 @@ returns-in-Err-clause-went g c =
     went_quiet (start_of c.args.hall.now) (view c.args.caller.now.pass) (view c.enter_log-log.new.caller.pass) (view c.leave_looked-in-Err.new.caller.pass) c.args.caller.now.number log_lock c.args.caller.now.session _ c.requires.may.ready.at e.entered.kept e.entered.learns (omega arith) refl refl c.leave_looked-in-Err.ensures.left
 
 -- what came of the record
+pub returns-in-Ok-clause-takes : goal.returns-in-Ok-clause-takes
+returns-in-Ok-clause-takes g c = c.leave_with_abort.ensures.session ∙ ap (λ (z : Session). record z { stage = stages.Aborting }) c.enter_log-log.ensures.same.0
+
 pub returns-then-not-may_append-clause-takes : goal.returns-then-not-may_append-clause-takes
-returns-then-not-may_append-clause-takes g c lawful base =
+returns-then-not-may_append-clause-takes g c =
     let e = c.enter_log-log.ensures in
     let wide = c.requires.may.ready.at.wide in
     let long = e.entered.learns.long in
     let log = c.enter_log-log.result in
-    false≢true (sym c.if-not-may_append.true ∙ c.may_append.ensures.1 (may_follow (start_of c.args.hall.now) log (view c.enter_log-log.new.caller.pass) (view c.leave_looked.new.caller.pass) c.args.rec.now _ e.stands
-    (subst (λ (z : Rec). IsTrue (number_fits (log_next log) z)) (sym c.requires.record.is) refl) (omega arith) refl c.leave_looked.ensures.left lawful base))
+    (c.leave_looked.ensures.same.0 ∙ e.same.0, λ lawful base. false≢true (sym c.if-not-may_append.true ∙ c.may_append.ensures.1 (may_follow (start_of c.args.hall.now) log (view c.enter_log-log.new.caller.pass) (view c.leave_looked.new.caller.pass) c.args.rec.now _ e.stands
+    (subst (λ (z : Rec). IsTrue (number_fits (log_next log) z)) (sym c.requires.record.is) refl) (omega arith) refl c.leave_looked.ensures.left lawful base)))
 
 pub returns-in-Err-clause-takes : goal.returns-in-Err-clause-takes
 returns-in-Err-clause-takes g c =
@@ -128,11 +133,11 @@ returns-in-Err-clause-takes g c =
     let wide = c.requires.may.ready.at.wide in
     let long = e.entered.learns.long in
     let start = start_of c.args.hall.now in
-    append_refused start (view c.leave_looked-in-Err.new.caller.pass).seen c.in-Err.refusal c.refusal_of.result c.refusal_of.ensures
+    (c.leave_looked-in-Err.ensures.same.0 ∙ e.same.0, append_refused start (view c.leave_looked-in-Err.new.caller.pass).seen c.in-Err.refusal c.refusal_of.result c.refusal_of.ensures
     (λ is. c.in-Err.ensures.no_other.0 (ap Err is))
     (λ down is. down_left start (view c.enter_log-log.new.caller.pass) (view c.leave_looked-in-Err.new.caller.pass) _ down (omega arith) c.leave_looked-in-Err.ensures.left (e.stands.failed down (c.in-Err.ensures.down down (ap Err is))).0)
     (λ why. up_left start (view c.enter_log-log.new.caller.pass) (view c.leave_looked-in-Err.new.caller.pass) _ (omega arith) c.leave_looked-in-Err.ensures.left refl
-    (e.stands.up (not_down (log_down c.enter_log-log.result) (λ n is. log_refused c.in-Err.refusal n (same_err (c.in-Err.ensures.is_down n is)) why))))
+    (e.stands.up (not_down (log_down c.enter_log-log.result) (λ n is. log_refused c.in-Err.refusal n (same_err (c.in-Err.ensures.is_down n is)) why)))))
 
 -- the critical section
 pub returns-then-not-may_append-clause-section : goal.returns-then-not-may_append-clause-section
@@ -163,5 +168,8 @@ returns-in-Err-clause-section g c =
 pub leave_with_abort-requires-clause-up : goal.leave_with_abort-requires-clause-up
 leave_with_abort-requires-clause-up g c = c.enter_log-log.ensures.stands.up (not_down (log_down c.enter_log-log.result) (λ n is. let refused = c.in-Ok.ensures.is_down n is in cc))
 
-pub leave_with_abort-requires-clause-pending : goal.leave_with_abort-requires-clause-pending
-leave_with_abort-requires-clause-pending g c = ap (λ (z : Session). z.stage) c.enter_log-log.ensures.same.0 ∙ c.requires.pending
+pub leave_with_abort-requires-clause-unrecorded : goal.leave_with_abort-requires-clause-unrecorded
+leave_with_abort-requires-clause-unrecorded g c = ap (λ (z : Session). may_be_recorded z.stage) c.enter_log-log.ensures.same.0 ∙ c.requires.unrecorded
+
+pub leave_with_abort-requires-clause-unaborted : goal.leave_with_abort-requires-clause-unaborted
+leave_with_abort-requires-clause-unaborted g c = ap (λ (z : Session). may_be_aborted z.stage) c.enter_log-log.ensures.same.0 ∙ c.requires.unaborted

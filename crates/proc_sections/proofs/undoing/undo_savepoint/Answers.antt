@@ -18,11 +18,12 @@ use Rattle.session_levels.proofs.StandsLemmas.{inside_from}
 use Rattle.engine_parts.specs.declared.session.Session.{Session}
 use Rattle.engine_parts.specs.Holds.{Leaves}
 use Rattle.engine_parts.specs.Sessions.{IsAt, by_at}
-use Rattle.engine_parts.specs.Stages.{may_be_recorded}
+use Rattle.engine_parts.specs.Stages.{may_be_recorded, may_be_aborted}
 use Rattle.engine_parts.specs.Stand.{ProcStands}
 use Rattle.engine_parts.proofs.Stepping.{went_event}
 use Rattle.engine_parts.proofs.Tabling.{proc_adds}
 use Rattle.proc_sections.proofs.Cutting.{call_undone, may_add_undo, ready_undone_at, savepoint_of, undo_entry, undone_is}
+use Rattle.engine_parts.proofs.Unrecorded.{open_unaborted}
 use Rattle.proc_sections.proofs.undoing.undo_savepoint.Goals as goal
 
 pub undo-requires-clause-id_open : goal.undo-requires-clause-id_open
@@ -72,7 +73,7 @@ leave_proc-requires-clause-may g c =
     let u = view c.enter_proc-table.new.caller.pass in
     let a = subst (λ (z : ℕ × Session). IsAt start u z.0 z.1) (λ j. (e.same.1 j, e.same.0 j)) e.at in
     let sp = savepoint_of (history u.seen) s.levels.open_ids.items s.levels.level_ids.items s.levels.unnamed c.args.id c.requires.savepoint c.requires.innermost a.stands.nest in
-    may_add_undo start u.seen (by_at n s.levels.commands) s.levels.open_ids.items c.args.id c.undo_note-entry.result.value c.undo_note-entry.ensures a.stands.opened sp (a.clear (ap may_be_recorded c.requires.pending))
+    may_add_undo start u.seen (by_at n s.levels.commands) s.levels.open_ids.items c.args.id c.undo_note-entry.result.value c.undo_note-entry.ensures a.stands.opened sp (a.clear (ap may_be_recorded c.requires.pending)) (open_unaborted u.seen n s.levels.open_ids.items a.stands.opened (a.unaborted (ap may_be_aborted c.requires.pending)))
     (λ x k past. marked_grows start (view c.args.caller.now.pass).seen u.seen x states.Aborted e.entered.learns.knows.grows (c.requires.aborted x k past)) (a.turns proc_lock)
 
 pub leave_proc-requires-clause-stands : goal.leave_proc-requires-clause-stands

@@ -10,8 +10,8 @@ use Rattle.engine_parts.proofs.Adding.{adds_wider, may_wider}
 use Rattle.xact_ends.proofs.Staging.{call_staged, not_aborting}
 use Rattle.xact_ends.proofs.aborting.start_abort.Goals as goal
 
-pub log_abort-requires-clause-may : goal.log_abort-requires-clause-may
-log_abort-requires-clause-may g c = call_staged (start_of c.args.hall.now) (view c.args.caller.now.pass) c.args.caller.now.number c.args.caller.now.session stages.Aborting (λ q. c.requires.stage) (λ q. absurd (false≢true (sym q))) c.requires.may.ready tt
+pub log_abort-requires-clause-unaborted : goal.log_abort-requires-clause-unaborted
+log_abort-requires-clause-unaborted g c = not_aborting c.args.caller.now.session.stage c.in_default.not-Aborting
 
 pub returns : goal.returns
 returns g c =
@@ -25,6 +25,6 @@ returns g c =
       adds = adds_wider (by_at old.number s.levels.commands) (MayAdd (IsAbortOf opened) ⊥ (λ r. ⊥)) (MayAdd (IsRecordBy commands.Abort (stance_of s) s.stage opened) ⊥ (λ r. ⊥)) (view old.pass).seen (view c.log_abort.new.caller.pass).seen
           (may_wider (IsAbortOf opened) (IsRecordBy commands.Abort (stance_of s) s.stage opened) ⊥ ⊥ (λ r. ⊥) (λ r. ⊥) (λ rec of. (not_aborting s.stage c.in_default.not-Aborting, of)) (λ m. m) (λ r m. m)) e.adds;
       goes = e.goes;
-      session = e.same.0;
-      number = e.same.1;
+      session = e.session;
+      number = e.number;
     }

@@ -3,7 +3,6 @@ use Rattle.std.specs.Prelude.{◌≡◌, ℕ, ◌<◌, Bool, true, false, IsTrue
 use Rattle.tx_events.specs.declared.event.By.{By}
 use Rattle.tx_events.specs.declared.refusal.Lock.{Lock}
 use Rattle.tx_events.specs.declared.refusal.Lock.TheVariants as locks
-use Rattle.tx_events.specs.declared.refusal.Refusal.{Refusal}
 use Rattle.tx_events.specs.declared.refusal.Refusal.TheVariants as refusals
 use Rattle.tx_model.specs.declared.command.Command.{Command}
 use Rattle.tx_model.specs.declared.command.Command.TheVariants as commands
@@ -59,6 +58,6 @@ IsLawfulReply f round by s command (replies.Refused (refusals.LogDown at)) =
 IsLawfulReply f round by s command (replies.Refused refusals.CommitPending) = Unit {0}
 IsLawfulReply f round by s command (replies.Refused refusals.AbortPending) = Unit {0}
 IsLawfulReply f round by s command (replies.Refused refusals.UndoPending) = Unit {0}
-IsLawfulReply f round by s command (replies.Seen visible) =
-    IsTrue f.tells → MayReply f.base f.committed f.events round by s command (replies.Seen visible)
+IsLawfulReply f round by s (commands.See name x) (replies.Seen visible) =
+    IsTrue f.tells → MayReply f.base f.committed f.events round by s (commands.See name x) (replies.Seen visible)
 IsLawfulReply f round by s command reply = MayReply f.base f.committed f.events round by s command reply

@@ -1,6 +1,6 @@
 -- What a run's lines and events say fits a report.
 use Rattle.std.proofs.Common.{◌≡◌, ℕ, zero, suc, ◌-◌, ◌^◌, ◌<◌, ◌≤◌, List, [], ◌∷◌, true, Option, Some, None, refl, sym, ap, subst, ◌∙◌, ⊎_elim, arith, length, take, eqb-true, ◌==◌}
-use Rattle.std.proofs.lemmas.Bool.{and_parts}
+use Rattle.std.proofs.lemmas.Bool.{and_parts, false≢true}
 use Rattle.std.proofs.lemmas.Grind.{common_steps}
 use Rattle.std.specs.List.{AllByRecursion}
 use Rattle.tx_events.specs.declared.event.By.{By}
@@ -9,6 +9,7 @@ use Rattle.tx_events.specs.declared.event.Event.TheVariants as events
 use Rattle.tx_events.specs.declared.record.Counters.{Counters}
 use Rattle.tx_events.specs.declared.refusal.Lock.{Lock}
 use Rattle.tx_events.specs.declared.refusal.Lock.TheVariants as locks
+use Rattle.tx_events.specs.declared.refusal.Refusal.{Refusal}
 use Rattle.tx_events.specs.declared.refusal.Refusal.TheVariants as refusals
 use Rattle.tx_model.specs.declared.command.Command.{Command}
 use Rattle.tx_model.specs.declared.command.Command.TheVariants as commands
@@ -110,17 +111,18 @@ bank_fits banks (locks.Members bank) b i = omega arith
 bank_fits banks lock b i = absurd i
 
 -- a lawful reply
-pub reply_fits : (f : Facts) (round : RoundSpan) (by : By) (s : Stance) (c : Command) (r : Reply) → CanTell f → IsLawfulReply f round by s c r → HasEvents by s c r (events_of by f.events) → FitsReply (kind_of c) r
-reply_fits f round by s c (replies.Refused refusals.Memory) t m e = tt
-reply_fits f round by s c (replies.Refused (refusals.DiskFault lock)) t m e = bank_fits f.banks lock t.banks m.1
-reply_fits f round by s c (replies.Refused refusals.LogFault) t m e = tt
-reply_fits f round by s c (replies.Refused refusals.Full) t m e = tt
-reply_fits f round by s c (replies.Refused (refusals.LogDown at)) t m e = subst (λ n. n < 2 ^ 64) (sym m.1) t.flushed
-reply_fits f round by s c (replies.Refused refusals.CommitPending) t m e = tt
-reply_fits f round by s c (replies.Refused refusals.AbortPending) t m e = tt
-reply_fits f round by s c (replies.Refused refusals.UndoPending) t m e = tt
-reply_fits f round by s (commands.See name x) (replies.Seen visible) t m e = refl
-reply_fits f round by s c r t m e = history_reply_fits f.base f.committed f.events round by s c r t.base t.history t.plain m e
+pub reply_fits : (f : Facts) (round : RoundSpan) (by : By) (s : Stance) (o : Option Refusal) (c : Command) (r : Reply) → CanTell f → IsLawfulReply f round by s o c r → HasEvents by s c r (events_of by f.events) → FitsReply (kind_of c) r
+reply_fits f round by s o c (replies.Refused refusals.Memory) t m e = tt
+reply_fits f round by s o c (replies.Refused (refusals.DiskFault lock)) t m e = bank_fits f.banks lock t.banks m.1
+reply_fits f round by s o c (replies.Refused refusals.LogFault) t m e = tt
+reply_fits f round by s o c (replies.Refused refusals.Full) t m e = tt
+reply_fits f round by s o c (replies.Refused (refusals.LogDown at)) t m e = subst (λ n. n < 2 ^ 64) (sym m.1) t.flushed
+reply_fits f round by s o c (replies.Refused refusals.CommitPending) t m e = tt
+reply_fits f round by s o c (replies.Refused refusals.AbortPending) t m e = tt
+reply_fits f round by s o c (replies.Refused refusals.UndoPending) t m e = tt
+reply_fits f round by s o (commands.See name x) (replies.Seen visible) t m e = refl
+reply_fits f round by s o c (replies.Seen visible) t m e = absurd (false≢true m.0)
+reply_fits f round by s o c r t m e = history_reply_fits f.base f.committed f.events round by s c r t.base t.history t.plain m e
 
 -- ---- events
 

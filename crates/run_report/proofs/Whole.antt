@@ -27,6 +27,7 @@ use Rattle.life_law.specs.Facts.{Facts}
 use Rattle.life_law.specs.LawfulLife.{IsLawfulLife, facts_of}
 use Rattle.life_law.specs.LifeLog.{IsLogOf}
 use Rattle.life_law.specs.Lines.{IsLawfulLine}
+use Rattle.life_law.specs.Pending.{pending}
 use Rattle.session_lang.proofs.SeenLemmas.{is_in, is_in_seen, seen-append}
 use Rattle.report_words.specs.Fits.{AreNames, FitsCounters}
 use Rattle.report_lines.specs.declared.life.LogHead.{LogHead}
@@ -211,7 +212,7 @@ lines_sayable names f lines t few e a =
       session = s.session;
       small = let c = count_by-le-length (is_line_of k.by.session) d in let n = i.lawful.number in omega arith;
       command = s.command;
-      reply = reply_fits f i.round k.by (stance f.events d k.by.session) k.command k.reply t i.lawful.reply i.lawful.events;
+      reply = reply_fits f i.round k.by (stance f.events d k.by.session) (pending f.recs f.events d k.by.session) k.command k.reply t i.lawful.reply i.lawful.events;
     })
     (omega arith) e a
 

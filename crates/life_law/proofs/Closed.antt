@@ -1,5 +1,5 @@
--- What an abort has closed is in no commit record.
-use Rattle.std.proofs.Common.{◌≡◌, ◌⊎◌, ℕ, suc, ◌<◌, ◌≤◌, List, [], ◌∷◌, ◌++◌, ◌&&◌, Bool, true, false, not, Contains, Some, refl, sym, ap, subst, ◌∙◌, inl, ⊎_elim, arith, take, ◌==◌, eqb-true, slice_get}
+-- What an abort or an undo has closed is in no commit record.
+use Rattle.std.proofs.Common.{◌≡◌, ℕ, suc, ◌<◌, ◌≤◌, List, [], ◌∷◌, ◌++◌, ◌&&◌, Bool, true, false, not, Some, refl, sym, ap, subst, ◌∙◌, ⊎_elim, arith, take, ◌==◌, eqb-true, slice_get}
 use Rattle.std.proofs.Math.Seq.{take-suc}
 use Rattle.std.proofs.lemmas.List.{take-take}
 use Rattle.std.proofs.lemmas.Option.{get_or_from_slice_get, slice_get_within}
@@ -10,13 +10,14 @@ use Rattle.tx_events.specs.declared.record.Counters.{Counters}
 use Rattle.tx_events.specs.declared.xact_end.XactEnd.{XactEnd}
 use Rattle.tx_events.specs.declared.xact_end.XactEnd.TheVariants as ends
 use Rattle.tx_events.specs.Events.{given, given_to}
-use Rattle.tx_events.specs.Families.{is_top, top}
+use Rattle.tx_events.specs.Families.{top}
 use Rattle.tx_events.specs.History.{IsLegal}
-use Rattle.tx_events.specs.Running.{is_open, open_ids}
+use Rattle.tx_events.specs.Running.{is_open, is_undone, open_ids}
 use Rattle.tx_events.specs.XactEnds.{end_event}
-use Rattle.tx_events.proofs.Closing.{later_take, one_top}
+use Rattle.tx_events.proofs.Closing.{later_take, never_undone, one_top, open_is}
 use Rattle.tx_events.proofs.ClosingGrowth.{closing_abort, closing_commit}
 use Rattle.tx_events.proofs.GivenIds.{given_stays, legal_take, open_given}
+use Rattle.tx_events.proofs.Lineages.{top_line}
 use Rattle.tx_events.proofs.ListSteps.{eqb-refl, le_or_over, not_both}
 use Rattle.tx_events.proofs.Membership.{Has, contains_has, has_filter}
 use Rattle.life_law.specs.LifeLog.{IsTransaction}
@@ -41,13 +42,18 @@ closed_with g e x t opens same = opens ∙ ap (λ b. is_open g x && not b) (ap (
     none true = refl
     none false = refl
 
+-- what a session has open at its commit is of the transaction that commits
+family_of : (base : Counters) (h : List Event) (q t x : ℕ) (by : By) → IsLegal base h → slice_get h q ≡ Some (events.Commit by t) → Has (open_ids by.session (take q h)) x → top (take q h) x ≡ t
+family_of base h q t x by legal at k =
+    let g = take q h in
+    let may = legal.rules q (events.Commit by t) at in
+    one_top base g (legal_take base h q legal) by.session x t k (contains_has (open_ids by.session g) t may.0) ∙ eqb-true (top g t) t may.1
+
 -- an end closes all that its session has open
 end_closes : (base : Counters) (h : List Event) (how : XactEnd) (q t x : ℕ) (by : By) → IsLegal base h → slice_get h q ≡ Some (end_event how by t) → Has (open_ids by.session (take q h)) x → is_open (take (suc q) h) x ≡ false
 end_closes base h ends.Commit q t x by legal at k =
     let g = take q h in
-    let may = legal.rules q (events.Commit by t) at in
-    let same : top g x ≡ t = one_top base g (legal_take base h q legal) by.session x t k (contains_has (open_ids by.session g) t may.0) ∙ eqb-true (top g t) t may.1 in
-    ap (λ z. is_open z x) (take_next h q (events.Commit by t) at) ∙ closed_with g (events.Commit by t) x t ((closing_commit g by t).opens x) same
+    ap (λ z. is_open z x) (take_next h q (events.Commit by t) at) ∙ closed_with g (events.Commit by t) x t ((closing_commit g by t).opens x) (family_of base h q t x by legal at k)
 end_closes base h ends.Abort q t x by legal at k =
     let g = take q h in
     let may = legal.rules q (events.Abort by t) at in
@@ -58,12 +64,12 @@ opened_is : (s : ℕ) (h : List Event) (x : ℕ) → Has (open_ids s h) x → is
 opened_is s h x k = (has_filter (is_open h) (given_to s h) x k).1
 
 -- No transaction that committed, or is open at the end, has an id that an abort closed.
-pub aborted_unrecorded : (base : Counters) (h : List Event) (q t x top : ℕ) (by : By) (subs : List ℕ) → IsLegal base h → slice_get h q ≡ Some (events.Abort by t) → Has (open_ids by.session (take q h)) x → IsTransaction h ends.Commit top subs → Has (top ∷ subs) x → ⊥
-aborted_unrecorded base h q t x top by subs legal at k transaction among = ⊎_elim
-    (λ (e : open_ids transaction.session h ≡ top ∷ subs).
+pub aborted_unrecorded : (base : Counters) (h : List Event) (q t x c_top : ℕ) (by : By) (subs : List ℕ) → IsLegal base h → slice_get h q ≡ Some (events.Abort by t) → Has (open_ids by.session (take q h)) x → IsTransaction h ends.Commit c_top subs → Has (c_top ∷ subs) x → ⊥
+aborted_unrecorded base h q t x c_top by subs legal at k transaction among = ⊎_elim
+    (λ (e : open_ids transaction.session h ≡ c_top ∷ subs).
     let o = opened_is transaction.session h x (subst (λ ids. Has ids x) (sym e) among) in
     not_both (is_open (take (suc q) h) x) ((later_take base h (suc q) x legal given_then).opened o) closed)
-    (λ (e : (p : ℕ) × (c : By) × (c.session ≡ transaction.session) × (slice_get h p ≡ Some (end_event ends.Commit c top)) × (open_ids transaction.session (take p h) ≡ top ∷ subs)).
+    (λ (e : (p : ℕ) × (c : By) × (c.session ≡ transaction.session) × (slice_get h p ≡ Some (end_event ends.Commit c c_top)) × (open_ids transaction.session (take p h) ≡ c_top ∷ subs)).
     let p : ℕ = e.0 in
     let c : By = e.1 in
     let opened : Has (open_ids c.session (take p h)) x = subst (λ s. Has (open_ids s (take p h)) x) (sym e.2) (subst (λ ids. Has ids x) (sym e.4) among) in
@@ -72,11 +78,11 @@ aborted_unrecorded base h q t x top by subs legal at k transaction among = ⊎_e
     (λ (l : suc q ≤ p). not_both (is_open (take (suc q) h) x) (open_before base h (suc q) p x legal l given_then o) closed)
     (λ (l : p < suc q). ⊎_elim
     (λ (m : suc p ≤ q).
-    let given_there = given_next h p x (events.Commit c top) e.3 (open_given c.session (take p h) x opened) in
-    not_both (is_open (take (suc p) h) x) (open_before base h (suc p) q x legal m given_there (opened_is by.session (take q h) x k)) (end_closes base h ends.Commit p top x c legal e.3 opened))
+    let given_there = given_next h p x (events.Commit c c_top) e.3 (open_given c.session (take p h) x opened) in
+    not_both (is_open (take (suc p) h) x) (open_before base h (suc p) q x legal m given_there (opened_is by.session (take q h) x k)) (end_closes base h ends.Commit p c_top x c legal e.3 opened))
     (λ (m : q < suc p).
     let same : p ≡ q = omega arith in
-    let both : Some (events.Commit c top) ≡ Some (events.Abort by t) = sym e.3 ∙ ap (λ n. slice_get h n) same ∙ at in
+    let both : Some (events.Commit c c_top) ≡ Some (events.Abort by t) = sym e.3 ∙ ap (λ n. slice_get h n) same ∙ at in
     absurd cc)
     (le_or_over (suc p) q))
     (le_or_over (suc q) p))
@@ -87,3 +93,17 @@ aborted_unrecorded base h q t x top by subs legal at k transaction among = ⊎_e
 
     given_then : Has (given (take (suc q) h)) x
     given_then = given_next h q x (events.Abort by t) at (open_given by.session (take q h) x k)
+
+-- nor one of which a savepoint was rolled back
+pub undone_unrecorded : (base : Counters) (h : List Event) (x t : ℕ) (subs : List ℕ) → IsLegal base h → is_undone h x ≡ true → IsTransaction h ends.Commit t subs → Has (t ∷ subs) x → ⊥
+undone_unrecorded base h x t subs legal undone transaction among = ⊎_elim
+    (λ (e : open_ids transaction.session h ≡ t ∷ subs). not_both (is_undone h x) undone (open_is h x (opened_is transaction.session h x (subst (λ ids. Has ids x) (sym e) among))).1)
+    (λ (e : (p : ℕ) × (c : By) × (c.session ≡ transaction.session) × (slice_get h p ≡ Some (end_event ends.Commit c t)) × (open_ids transaction.session (take p h) ≡ t ∷ subs)).
+    let p : ℕ = e.0 in
+    let c : By = e.1 in
+    let g : List Event = take p h in
+    let opened : Has (open_ids c.session g) x = subst (λ s. Has (open_ids s g) x) (sym e.2) (subst (λ ids. Has ids x) (sym e.4) among) in
+    let after = later_take base h p x legal (open_given c.session g x opened) in
+    let same : top h x ≡ t = ap (λ line. top_line line x) after.line ∙ family_of base h p t x c legal e.3 opened in
+    not_both (is_undone h x) undone (never_undone base h legal p x t c after.given e.3 same (open_is g x (opened_is c.session g x opened)).1))
+    transaction.ids

@@ -1,5 +1,5 @@
 -- What follows of a lawful life.
-use Rattle.std.proofs.Common.{◌≡◌, ◌≢◌, ◌⊎◌, ℕ, ◌-◌, List, [], ◌∷◌, ◌++◌, Contains, Option, None, Some, refl, sym, ap, subst, ◌∙◌, inl, ⊎_elim, cond, drop, take, slice_get}
+use Rattle.std.proofs.Common.{◌≡◌, ◌≢◌, ℕ, List, [], ◌∷◌, ◌++◌, Contains, Option, None, Some, refl, sym, ap, subst, ◌∙◌, inl, ⊎_elim, cond, drop, take, slice_get}
 use Rattle.std.specs.List.{filter, flat_map, fold}
 use Rattle.tx_events.specs.declared.event.By.{By}
 use Rattle.tx_events.specs.declared.event.Event.{Event}
@@ -22,14 +22,13 @@ use Rattle.tx_model.specs.declared.report.Line.{Line}
 use Rattle.tx_model.specs.CommandEvents.{HasEvents, abort_event, commit_event}
 use Rattle.tx_model.specs.LawfulLife.{lines_in}
 use Rattle.tx_model.specs.Lines.{is_line_of, span_of, stance}
-use Rattle.tx_model.specs.Stance.{Stance, after, nothing_yet, top_level}
-use Rattle.life_law.specs.Facts.{Facts}
+use Rattle.tx_model.specs.Stance.{Stance, after, nothing_yet}
 use Rattle.life_law.specs.LawfulLife.{facts_of}
-use Rattle.life_law.specs.Laws.{AbortedIdsAreUnrecorded, IsInDoubt, IsLawful, IsOkOf, OkAbortsAreUnrecorded, OkCommitsAreFlushed, StandsBehind, UncommittedRecordsAreInDoubt, is_commit, last_commit, lines_of}
+use Rattle.life_law.specs.Laws.{AbortedIdsAreUnrecorded, IsLawful, IsOkOf, OkAbortsAreUnrecorded, OkCommitsAreFlushed, StandsBehind, UncommittedRecordsAreInDoubt, UndoneIdsAreUnrecorded, is_commit, last_commit, lines_of}
 use Rattle.life_law.specs.LifeLog.{IsTransaction}
 use Rattle.life_law.specs.Lines.{IsLawfulLine}
-use Rattle.life_law.specs.Pending.{pending, pending_after, pending_from}
-use Rattle.life_law.proofs.Closed.{aborted_unrecorded}
+use Rattle.life_law.specs.Pending.{pending_after, pending_from}
+use Rattle.life_law.proofs.Closed.{aborted_unrecorded, undone_unrecorded}
 
 -- ---- the events of a line
 
@@ -80,6 +79,10 @@ pub aborts_unrecorded : OkAbortsAreUnrecorded
 aborts_unrecorded r l top id subs w o c among =
     let place = abort_place r l id w o in
     aborted_ids r place.0 top id id subs l.by w place.1 (w.life.history.rules place.0 (events.Abort l.by id) place.1).0 c among
+
+pub undone_ids : UndoneIdsAreUnrecorded
+undone_ids r top id subs w undone c among =
+    undone_unrecorded r.life.base r.life.events id top subs w.life.history undone (recorded r top subs w c) (contains_has (top ∷ subs) id among)
 
 -- ---- commits in doubt
 

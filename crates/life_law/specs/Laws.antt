@@ -5,12 +5,11 @@ use Rattle.tx_events.specs.declared.event.By.{By}
 use Rattle.tx_events.specs.declared.event.Event.TheVariants as events
 use Rattle.tx_events.specs.declared.record.Rec.TheVariants as records
 use Rattle.tx_events.specs.declared.refusal.Refusal.TheVariants as refusals
-use Rattle.tx_events.specs.Running.{open_ids}
+use Rattle.tx_events.specs.Running.{is_undone, open_ids}
 use Rattle.tx_model.specs.declared.command.Command.{Command}
 use Rattle.tx_model.specs.declared.command.Command.TheVariants as commands
 use Rattle.tx_model.specs.declared.reply.Reply.{Reply}
 use Rattle.tx_model.specs.declared.reply.Reply.TheVariants as replies
-use Rattle.tx_model.specs.declared.report.Life.{Life}
 use Rattle.tx_model.specs.declared.report.LifeReport.{LifeReport}
 use Rattle.tx_model.specs.declared.report.Line.{Line}
 use Rattle.tx_model.specs.declared.report.Step.{Step}
@@ -90,4 +89,10 @@ AbortedIdsAreUnrecorded =
 abbrev pub OkAbortsAreUnrecorded : Type 0
 OkAbortsAreUnrecorded =
     (r : LifeReport) (l : Line) (top id : ℕ) (subs : List ℕ) → IsLawful r → IsOkOf r l commands.Abort id
+    → Contains r.life.recs (records.Commit top subs) → Contains (top ∷ subs) id → ⊥
+
+-- An id of which a savepoint was rolled back stands in none either.
+abbrev pub UndoneIdsAreUnrecorded : Type 0
+UndoneIdsAreUnrecorded =
+    (r : LifeReport) (top id : ℕ) (subs : List ℕ) → IsLawful r → is_undone r.life.events id ≡ true
     → Contains r.life.recs (records.Commit top subs) → Contains (top ∷ subs) id → ⊥

@@ -1,5 +1,5 @@
 //! What the definitions say together. The functions do nothing; their contracts are the laws.
-ghost use Rattle.life_law.specs.Laws.{AbortedIdsAreUnrecorded, OkAbortsAreUnrecorded, OkCommitsAreFlushed, UncommittedRecordsAreInDoubt};
+ghost use Rattle.life_law.specs.Laws.{AbortedIdsAreUnrecorded, OkAbortsAreUnrecorded, OkCommitsAreFlushed, UncommittedRecordsAreInDoubt, UndoneIdsAreUnrecorded};
 
 /// A commit that was answered `ok` has its record below the flushed number.
 pub fn ok_commits_are_flushed()
@@ -20,4 +20,9 @@ pub fn aborted_ids_are_unrecorded()
 /// No commit record names the id of a transaction whose abort was answered `ok`.
 pub fn ok_aborts_are_unrecorded()
     ensures { OkAbortsAreUnrecorded }
+{}
+
+/// No commit record names an id that an undo closed.
+pub fn undone_ids_are_unrecorded()
+    ensures { UndoneIdsAreUnrecorded }
 {}

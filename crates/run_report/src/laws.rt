@@ -13,8 +13,7 @@ pub fn run_report_is_read_back()
         → IsReport r }
 {}
 
-/// The text that a run answers, by the clause `done` of `session_run::run_tool`, is the text of its report and of no
-/// other.
+/// The text that a run answers (`IsAnswer` of `run_law`) is the text of its report and of no other.
 pub fn answer_is_of_one_report()
     ensures { (tells : Bool) (left left' : Option (List ℕ)) (text : List ℕ) (a : IsAnswer tells left left' text) →
         (text ≡ report_text a.report) × ((r : Report) → IsReport r → text ≡ report_text r → r ≡ a.report) }

@@ -40,6 +40,11 @@ may_lack_memory commands.Commit = true
 may_lack_memory (commands.Snap name) = true
 may_lack_memory command = false
 
+-- whether it asks for a verdict
+abbrev pub is_told_verdict : Command → Bool
+is_told_verdict (commands.See name x) = true
+is_told_verdict command = false
+
 -- whether it must have its record in the log
 abbrev pub may_need_log : Command → Bool
 may_need_log commands.Commit = true
@@ -60,5 +65,6 @@ IsLawfulReply f round by s command (replies.Refused refusals.CommitPending) = Un
 IsLawfulReply f round by s command (replies.Refused refusals.AbortPending) = Unit {0}
 IsLawfulReply f round by s command (replies.Refused refusals.UndoPending) = Unit {0}
 IsLawfulReply f round by s command (replies.Seen visible) =
-    IsTrue f.tells → MayReply f.base f.committed f.events round by s command (replies.Seen visible)
+    IsTrue (is_told_verdict command)
+    × (IsTrue f.tells → MayReply f.base f.committed f.events round by s command (replies.Seen visible))
 IsLawfulReply f round by s command reply = MayReply f.base f.committed f.events round by s command reply

@@ -19,6 +19,7 @@ use Rattle.tx_model.specs.Stance.{lacking}
 use Rattle.tx_events.specs.Places.{EachPlace}
 use Rattle.life_law.specs.Pending.{pending}
 use Rattle.life_law.specs.Refused.{by_standing, refused_by}
+use Rattle.life_law.specs.Replies.{is_told_verdict}
 use Rattle.tx_core.specs.declared.entry.Entry.{Entry}
 use Rattle.tx_core.specs.declared.entry.Kind.{Kind}
 use Rattle.tx_core.specs.declared.entry.Kind.TheVariants as kinds
@@ -47,6 +48,11 @@ abbrev pub IsInRound : List Event → Told → Type 0
 IsInRound h t =
     (p : ℕ) (e : Event) → slice_get h p ≡ Some e → by_of e ≡ t.line.by → (t.span.from ≤ p) × (p < t.span.to)
 
+-- a verdict is told to a command that asks for one alone
+abbrev pub IsToAsker : Command → Reply → Type 0
+IsToAsker command (replies.Seen visible) = IsTrue (is_told_verdict command)
+IsToAsker command reply = Unit {0}
+
 -- A line of the session n in these lists, given those of its lines before it: its number, its events, which stand in
 -- its round, that it is refused by how the session stood exactly where that stood so, and its reply.
 pub record IsToldWell (tells : Bool) (start : Start) (lists : List (List Entry)) (n : ℕ) (before : List Line) (t : Told)
@@ -63,6 +69,7 @@ pub record IsToldWell (tells : Bool) (start : Start) (lists : List (List Entry))
       ≡ refused_by t.line.command (stance (history lists) before n) (pending_in stage)
   pub answer : MayAnswer tells start lists t.span t.line.by (stance (history lists) before n) stage t.line.command
       t.line.reply
+  pub asker : IsToAsker t.line.command t.line.reply
 
 -- whether a command makes a level, which may be given an id
 abbrev pub makes_level : Command → Bool
@@ -131,6 +138,7 @@ pub record Answered (tells : Bool) (start : Start) (v w : Knowledge) (n : ℕ) (
   pub acted : Acted tells start (by_at n (s.levels.commands + 1)) (stance_of s) (stance_of s') s.stage command reply
       v.seen w.seen
   pub stage : LeavesStage command reply s.stage s'.stage
+  pub asker : IsToAsker command reply
   pub count : s'.levels.commands ≡ s.levels.commands + 1
   pub log : AddsToLog (by_at n (s.levels.commands + 1)) reply (at v.seen log_lock) (at w.seen log_lock)
 

@@ -1,0 +1,12 @@
+pub mod PendingGrowth
+pub mod Widening
+pub mod Growing
+pub mod Settling
+pub mod Staying
+pub mod PendingFollows
+pub mod RecordPlaces
+pub mod Known
+pub mod IdSteps
+pub mod Bridging
+pub mod GoingOn
+pub mod Beginning

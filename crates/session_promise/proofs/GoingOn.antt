@@ -173,7 +173,7 @@ module _ (tells : Bool) (start : Start) (v w : Knowledge) (n : ℕ) (past : List
     answer = subst (λ z. MayAnswer tells start w.seen (between from (length hw)) by z s.stage command reply) (sym stance_before)
         (answer_grows tells start w.seen w.seen (alone hv hw) (between from (length hw)) by (stance_of s) s.stage command reply low (omega arith) (omega arith) (record { begins = λ q. begins_same (at w.seen q) })
         (λ rest q. subst (AllByRecursion (λ e. (by_of e).session ≡ n → by.command < (by_of e).command)) (append_cancel_left hw [] rest (append-nil hw ∙ sym q)) tt) a.acted.allowed);
-    asker = a.asker;
+    fits = a.fits;
   }
 
   abbrev all : List Line
@@ -191,7 +191,7 @@ module _ (tells : Bool) (start : Start) (v w : Knowledge) (n : ℕ) (past : List
 
   pending_then : pending (recs_of w.seen) hw all n ≡ pending_in s'.stage
   pending_then = pending_push (recs_of w.seen) hw (lines_of told) l ∙ (ap (λ z. pending_after (recs_of w.seen) z (pending (recs_of w.seen) hw (lines_of told) n) command reply) stance_before ∙ (ap (λ o. pending_after (recs_of w.seen) (stance_of s) o command reply) pending_before
-      ∙ by_reply tells start w.seen (alone hv hw) by (recs_of w.seen) (stance_of s) (stance_of s') s.stage s'.stage command reply (given added) a.acted.allowed a.asker a.stage a.acted.left known))
+      ∙ by_reply tells start w.seen (alone hv hw) by (recs_of w.seen) (stance_of s) (stance_of s') s.stage s'.stage command reply (given added) a.acted.allowed (a.fits).1 a.stage a.acted.left known))
 
   ids_then : length (given_to n hw) + lacking (stance_of s').levels ≤ count_by is_made_level all
   ids_then =

@@ -90,7 +90,7 @@ module _ (tells : Bool) (start : Start) (n number : ℕ) (lists more : List (Lis
         standing = k.standing ∙ ap (λ s. refused_by l.command s (pending_in k.stage)) (sym same);
         answer = subst (λ s. MayAnswer tells start more (between t.span.from to) l.by s k.stage l.command l.reply) (sym same)
             (answer_grows tells start lists more t.span (between t.span.from to) l.by (stance (history lists) before n) k.stage l.command l.reply (omega arith) wide (k.within).1 g (λ rest q. is_later l.by k.own low rest q) k.answer);
-        asker = k.asker;
+        fits = k.fits;
       }
 
   pub each_grows : (told wider : List Told) → AreWider (length (history more)) told wider → AllByRecursion (λ t. IsUpTo n number t.line) told → AreSettled (recs_of lists) (recs_of more) (lines_of told)

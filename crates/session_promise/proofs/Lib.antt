@@ -10,3 +10,4 @@ pub mod IdSteps
 pub mod Bridging
 pub mod GoingOn
 pub mod Beginning
+pub mod Parting

@@ -17,6 +17,7 @@ use Rattle.tx_model.specs.CommandEvents.{HasEvents}
 use Rattle.tx_model.specs.Lines.{has_line, stance}
 use Rattle.tx_model.specs.Stance.{lacking}
 use Rattle.tx_events.specs.Places.{EachPlace}
+use Rattle.life_law.specs.Commands.{has_command}
 use Rattle.life_law.specs.Pending.{pending}
 use Rattle.life_law.specs.Refused.{by_standing, refused_by}
 use Rattle.life_law.specs.Replies.{is_told_verdict}
@@ -53,6 +54,10 @@ abbrev pub IsToAsker : Command → Reply → Type 0
 IsToAsker command (replies.Seen visible) = IsTrue (is_told_verdict command)
 IsToAsker command reply = Unit {0}
 
+-- the run has the command, and the reply is to such a one
+abbrev pub IsAskedFor : Command → Reply → Type 0
+IsAskedFor command reply = IsTrue (has_command command) × IsToAsker command reply
+
 -- A line of the session n in these lists, given those of its lines before it: its number, its events, which stand in
 -- its round, that it is refused by how the session stood exactly where that stood so, and its reply.
 pub record IsToldWell (tells : Bool) (start : Start) (lists : List (List Entry)) (n : ℕ) (before : List Line) (t : Told)
@@ -69,7 +74,7 @@ pub record IsToldWell (tells : Bool) (start : Start) (lists : List (List Entry))
       ≡ refused_by t.line.command (stance (history lists) before n) (pending_in stage)
   pub answer : MayAnswer tells start lists t.span t.line.by (stance (history lists) before n) stage t.line.command
       t.line.reply
-  pub asker : IsToAsker t.line.command t.line.reply
+  pub fits : IsAskedFor t.line.command t.line.reply
 
 -- whether a command makes a level, which may be given an id
 abbrev pub makes_level : Command → Bool
@@ -138,7 +143,7 @@ pub record Answered (tells : Bool) (start : Start) (v w : Knowledge) (n : ℕ) (
   pub acted : Acted tells start (by_at n (s.levels.commands + 1)) (stance_of s) (stance_of s') s.stage command reply
       v.seen w.seen
   pub stage : LeavesStage command reply s.stage s'.stage
-  pub asker : IsToAsker command reply
+  pub fits : IsAskedFor command reply
   pub count : s'.levels.commands ≡ s.levels.commands + 1
   pub log : AddsToLog (by_at n (s.levels.commands + 1)) reply (at v.seen log_lock) (at w.seen log_lock)
 

@@ -11,3 +11,7 @@ pub mod Bridging
 pub mod GoingOn
 pub mod Beginning
 pub mod Parting
+pub mod Telling
+pub mod Summing
+pub mod FewIds
+pub mod Standing

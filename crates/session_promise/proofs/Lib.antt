@@ -15,3 +15,5 @@ pub mod Telling
 pub mod Summing
 pub mod FewIds
 pub mod Standing
+pub mod LawfulReplies
+pub mod LawfulSteps

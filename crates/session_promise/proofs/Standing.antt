@@ -43,7 +43,8 @@ at_drop (suc m) (y ∷ xs) p x e = let q : suc m + p ≡ suc (m + p) = omega ari
 none_counted : {X : Type 0} (p : X → Bool) (xs : List X) → AllByRecursion (λ x. p x ≡ false) xs → count_by p xs ≡ 0
 none_counted p [] a = refl
 none_counted p (x ∷ xs) a =
-    let here : cond (p x) 1 0 ≡ 0 = ap (λ b. cond b 1 0) a.0 in
+    let one : ℕ = cond (p x) 1 0 in
+    let here : one ≡ 0 = ap (λ b. cond b 1 0) a.0 in
     let rest = none_counted p xs a.1 in
     sum_by-cons (λ y. cond (p y) 1 0) x xs ∙ omega (arith, here, rest)
 
@@ -68,7 +69,7 @@ follow_in from to (x ∷ rounds) r f k =
     (λ t. let i = follow_in x.span.to to rounds r f.2 t in let up = f.1 in (omega (arith, i.0, up), i.1))
     k
 
-lines_have : (rounds : List ToldRound) (r : ToldRound) (l : Line) → Has rounds r → Has r.lines l → Has (all_lines rounds) l
+pub lines_have : (rounds : List ToldRound) (r : ToldRound) (l : Line) → Has rounds r → Has r.lines l → Has (all_lines rounds) l
 lines_have [] r l k j = absurd k
 lines_have (x ∷ rounds) r l k j =
     ⊎_elim

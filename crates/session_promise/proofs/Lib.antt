@@ -17,3 +17,5 @@ pub mod FewIds
 pub mod Standing
 pub mod LawfulReplies
 pub mod LawfulSteps
+pub mod LawfulLog
+pub mod LawfulLives

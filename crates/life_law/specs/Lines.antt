@@ -1,5 +1,5 @@
 -- Which lines of a life's report are lawful.
-use Rattle.std.specs.Prelude.{◌≡◌, ℕ, ◌+◌, List, ◌++◌}
+use Rattle.std.specs.Prelude.{◌≡◌, ◌+◌, List, ◌++◌}
 use Rattle.std.specs.List.{count_by}
 use Rattle.tx_events.specs.Events.{events_of}
 use Rattle.tx_events.specs.Places.{EachPlace}

@@ -1,6 +1,6 @@
 -- Which end of a session is pending, by its lines: a commit, an abort or an undo that a fault met, and that wasn't gone
 -- on with to its end.
-use Rattle.std.specs.Prelude.{ℕ, ◌==◌, Bool, true, false, List, [], ◌∷◌, Option, None, Some, cond}
+use Rattle.std.specs.Prelude.{ℕ, ◌==◌, Bool, false, List, [], ◌∷◌, Option, None, Some, cond}
 use Rattle.std.specs.List.{filter, list_any}
 use Rattle.tx_events.specs.declared.event.Event.{Event}
 use Rattle.tx_events.specs.declared.record.Rec.{Rec}

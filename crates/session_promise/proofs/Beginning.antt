@@ -1,14 +1,12 @@
 -- A session that has done nothing promises of no line.
-use Rattle.std.proofs.Common.{Bool, List, Some, [], ap, arith, eq-eqb, eqb-true, false, length, map, refl, subst, sym, true, ℕ, ⊎_elim, ◌++◌, ◌==◌, ◌≡◌, ◌∙◌, ◌∷◌, Contains}
-use Rattle.std.specs.List.{count_by, filter, slice_get}
+use Rattle.std.proofs.Common.{Bool, List, Some, [], ap, arith, eq-eqb, eqb-true, false, length, map, refl, subst, sym, true, ℕ, ◌==◌, ◌≡◌, ◌∙◌}
+use Rattle.std.specs.List.{slice_get}
 use Rattle.std.proofs.lemmas.Option.{slice_get_within}
 use Rattle.notes.specs.Lists.{at, own}
 use Rattle.tx_events.specs.declared.event.By.{By}
 use Rattle.tx_events.specs.declared.event.Event.{Event}
-use Rattle.tx_events.specs.declared.record.Rec.{Rec}
 use Rattle.tx_events.specs.Events.{by_of, given, given_to, is_of}
-use Rattle.tx_events.proofs.ListSteps.{eqb-refl}
-use Rattle.tx_events.proofs.Membership.{Has, contains_has, filter_has, filter_none_on, has_contains, has_filter_map}
+use Rattle.tx_events.proofs.Membership.{Has, contains_has, filter_has, filter_none_on, has_filter_map}
 use Rattle.tx_model.specs.Stance.{Stance, lacking, nothing_yet}
 use Rattle.tx_core.specs.declared.entry.Entry.{Entry}
 use Rattle.tx_core.specs.declared.entry.Kind.TheVariants as kinds

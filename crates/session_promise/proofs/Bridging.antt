@@ -1,6 +1,5 @@
 -- The refusals by how a session stands go by its stage as by what is pending.
-use Rattle.std.proofs.Common.{◌≡◌, Option, refl}
-use Rattle.tx_events.specs.declared.refusal.Refusal.{Refusal}
+use Rattle.std.proofs.Common.{◌≡◌, refl}
 use Rattle.tx_events.specs.declared.refusal.Refusal.TheVariants as refusals
 use Rattle.tx_model.specs.declared.command.Command.{Command}
 use Rattle.tx_model.specs.declared.command.Command.TheVariants as commands

@@ -1,6 +1,6 @@
 -- A life gives no more ids than its commands made levels.
-use Rattle.std.proofs.Common.{List, None, Option, Some, [], ap, arith, cond, length, refl, subst, sym, ℕ, ◌+◌, ◌<◌, ◌==◌, ◌≡◌, ◌≤◌, ◌∙◌, ◌∷◌}
-use Rattle.std.specs.List.{AllByRecursion, cons_option, count_by, filter, sum_by}
+use Rattle.std.proofs.Common.{List, None, Option, Some, [], arith, cond, length, refl, subst, sym, ℕ, ◌+◌, ◌<◌, ◌==◌, ◌≡◌, ◌≤◌, ◌∷◌}
+use Rattle.std.specs.List.{cons_option, count_by, filter, sum_by}
 use Rattle.std.proofs.lemmas.List.Sums.{sum_by-cons}
 use Rattle.notes.specs.Lists.{at}
 use Rattle.tx_events.specs.declared.event.By.{By}
@@ -11,14 +11,14 @@ use Rattle.tx_model.specs.declared.report.Line.{Line}
 use Rattle.tx_core.specs.declared.entry.Entry.{Entry}
 use Rattle.tx_core.specs.declared.entry.Start.{Start}
 use Rattle.tx_core.specs.EngineInvariant.{EngineInvariant}
-use Rattle.tx_core.specs.Entries.{AreFewIds, event_of, history}
+use Rattle.tx_core.specs.Entries.{event_of, history}
 use Rattle.tx_core.specs.EventsLegal.{NeedsOwn}
 use Rattle.tx_core.specs.Locks.{proc_lock}
 use Rattle.tx_core.proofs.Asking.{own_event, upheld_has}
-use Rattle.session_promise.specs.Closing.{AreOfSessions, IsOver, LevelsBoundIds}
+use Rattle.session_promise.specs.Closing.{AreOfSessions, LevelsBoundIds}
 use Rattle.session_promise.specs.Promise.{is_made_level}
-use Rattle.session_promise.specs.Told.{ToldRound, all_lines, lines_by}
-use Rattle.session_promise.proofs.Summing.{keyed, total, total_less}
+use Rattle.session_promise.specs.Told.{all_lines, lines_by}
+use Rattle.session_promise.proofs.Summing.{keyed, total_less}
 use Rattle.session_promise.proofs.Telling.{lines_told}
 
 -- how many ids an event gives

@@ -1,6 +1,6 @@
 -- Behind its next command a session promises of one line more.
-use Rattle.std.proofs.Common.{Bool, Contains, IsTrue, List, Some, [], ap, append-nil, append_assoc, arith, cond, eq-eqb, get_or, inl, inr, length, map, refl, subst, sym, true, ℕ, ⊎_elim, ◌+◌, ◌++◌, ◌<◌, ◌==◌, ◌||◌, ◌≡◌, ◌≤◌, ◌∙◌, ◌∷◌, ◌⊎◌}
-use Rattle.std.specs.List.{AllByRecursion, count_by, filter, list_any, slice_get}
+use Rattle.std.proofs.Common.{Bool, Contains, IsTrue, List, [], ap, append-nil, append_assoc, arith, cond, eq-eqb, get_or, inl, inr, length, refl, subst, sym, ℕ, ⊎_elim, ◌+◌, ◌++◌, ◌<◌, ◌==◌, ◌||◌, ◌≡◌, ◌≤◌, ◌∙◌, ◌∷◌, ◌⊎◌}
+use Rattle.std.specs.List.{AllByRecursion, count_by, filter, slice_get}
 use Rattle.std.proofs.Math.Bool.{or-true}
 use Rattle.std.proofs.lemmas.List.{append_cancel_left, length-append, length-map, map-append}
 use Rattle.std.proofs.lemmas.List.Elements.{Contains-append_left, Contains-push, filter-append, filter_map-append}
@@ -10,10 +10,8 @@ use Rattle.notes.specs.Lists.{at, own}
 use Rattle.notes.proofs.Growing.{begins_same}
 use Rattle.tx_events.specs.declared.event.By.{By}
 use Rattle.tx_events.specs.declared.event.Event.{Event}
-use Rattle.tx_events.specs.declared.record.Rec.{Rec}
-use Rattle.tx_events.specs.declared.refusal.Refusal.{Refusal}
 use Rattle.tx_events.specs.Events.{by_of, events_of, given, given_by, given_to, is_of, same_by}
-use Rattle.tx_events.proofs.ListSteps.{all_weaker, below_not, filter_all, filter_in_turn, filter_none, le_or_over, list_any-push, eqb-refl}
+use Rattle.tx_events.proofs.ListSteps.{all_weaker, below_not, filter_all, filter_in_turn, filter_none, le_or_over, list_any-push}
 use Rattle.tx_events.proofs.Membership.{Has, all_at, all_from, contains_has, filter_has, has_cases, has_contains, has_filter, place_has}
 use Rattle.tx_events.proofs.OwnEvents.{same_by_refl}
 use Rattle.tx_events.proofs.PlaceLemmas.{each_place_push, slice_get-grows}
@@ -22,14 +20,13 @@ use Rattle.tx_model.specs.declared.reply.Reply.{Reply}
 use Rattle.tx_model.specs.declared.report.Line.{Line}
 use Rattle.tx_model.specs.CommandEvents.{HasEvents}
 use Rattle.tx_model.specs.Lines.{has_line, stance}
-use Rattle.tx_model.specs.Replies.{RoundSpan, alone}
+use Rattle.tx_model.specs.Replies.{alone}
 use Rattle.tx_model.specs.Stance.{Stance, after, lacking}
 use Rattle.tx_model.proofs.LineGrowth.{stance_push}
 use Rattle.life_law.specs.Pending.{pending, pending_after}
-use Rattle.life_law.specs.Refused.{by_standing, refused_by}
+use Rattle.life_law.specs.Refused.{refused_by}
 use Rattle.tx_core.specs.declared.entry.Entry.{Entry}
 use Rattle.tx_core.specs.declared.entry.Kind.TheVariants as kinds
-use Rattle.tx_core.specs.declared.entry.LogCall.{LogCall}
 use Rattle.tx_core.specs.declared.entry.Start.{Start}
 use Rattle.tx_core.specs.EngineInvariant.{EngineInvariant}
 use Rattle.tx_core.specs.Entries.{history, session_of}
@@ -40,10 +37,9 @@ use Rattle.engine_parts.specs.Answers.{MayAnswer}
 use Rattle.engine_parts.specs.Holds.{Knowledge}
 use Rattle.engine_parts.specs.Sessions.{by_at, stance_of}
 use Rattle.engine_parts.specs.Stages.{pending_in}
-use Rattle.engine_parts.specs.Standing as parts
 use Rattle.engine_parts.proofs.Answering.{answer_grows}
 use Rattle.session_promise.specs.Told.{Told, between, lines_of, told_in}
-use Rattle.session_promise.specs.Promise.{Answered, IsInRound, IsOwnEntry, IsToldWell, Promise, PromiseGoesOn, SaysLogFault, is_made_level, makes_level, recs_of}
+use Rattle.session_promise.specs.Promise.{Answered, IsInRound, IsOwnEntry, IsToldWell, Promise, PromiseGoesOn, SaysLogFault, is_made_level, recs_of}
 use Rattle.session_promise.proofs.Bridging.{refused_same, standing_same}
 use Rattle.session_promise.proofs.Growing.{all_lines_of, each_grows, IsUpTo, pending_same, stance_same}
 use Rattle.session_promise.proofs.IdSteps.{bounds_of}

@@ -1,7 +1,7 @@
 -- Told lines stay told well while lists grow.
-use Rattle.std.proofs.Common.{◌≡◌, ◌⊎◌, ℕ, zero, suc, ◌<◌, ◌≤◌, Bool, true, false, List, [], ◌∷◌, ◌++◌, Some, ap, refl, sym, subst, ◌∙◌, arith, inl, inr, ⊎_elim, length, take}
+use Rattle.std.proofs.Common.{◌≡◌, ℕ, zero, suc, ◌<◌, ◌≤◌, Bool, List, [], ◌∷◌, ◌++◌, Some, ap, sym, subst, ◌∙◌, arith, inl, inr, ⊎_elim, length, take}
 use Rattle.std.specs.List.{AllByRecursion, slice_get}
-use Rattle.notes.specs.Lists.{Begins, Grows, at}
+use Rattle.notes.specs.Lists.{Grows, at}
 use Rattle.tx_events.specs.declared.event.By.{By}
 use Rattle.tx_events.specs.declared.event.Event.{Event}
 use Rattle.tx_events.specs.Events.{by_of, events_of}
@@ -13,10 +13,9 @@ use Rattle.tx_events.proofs.PlaceLemmas.{slice_get-append_cases}
 use Rattle.tx_model.specs.declared.report.Line.{Line}
 use Rattle.tx_model.specs.CommandEvents.{HasEvents}
 use Rattle.tx_model.specs.Lines.{stance}
-use Rattle.tx_model.specs.Stance.{Stance}
 use Rattle.tx_model.proofs.Growth.{stance_grows}
 use Rattle.life_law.specs.Pending.{pending}
-use Rattle.life_law.specs.Refused.{by_standing, refused_by}
+use Rattle.life_law.specs.Refused.{refused_by}
 use Rattle.tx_core.specs.declared.entry.Entry.{Entry}
 use Rattle.tx_core.specs.declared.entry.Start.{Start}
 use Rattle.tx_core.specs.Entries.{history}
@@ -27,7 +26,7 @@ use Rattle.engine_parts.proofs.Answering.{answer_grows}
 use Rattle.session_promise.specs.Told.{Told, between, lines_of}
 use Rattle.session_promise.specs.Promise.{IsInRound, IsToldWell, recs_of}
 use Rattle.session_promise.proofs.PendingGrowth.{AreSettled, IsNotDown, pending_grows}
-use Rattle.session_promise.proofs.Widening.{AreWider, IsWider, wider_at}
+use Rattle.session_promise.proofs.Widening.{AreWider, wider_at}
 
 -- what holds of the lines of all
 pub all_lines_of : (P : Line → Type 0) (told : List Told) → AllByRecursion (λ t. P t.line) told → AllByRecursion P (lines_of told)

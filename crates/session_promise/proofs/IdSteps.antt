@@ -1,17 +1,15 @@
 -- A command gives no more ids than there are levels that lack one, and makes one level at most.
-use Rattle.std.proofs.Common.{List, None, Option, Some, [], ap, arith, length, refl, subst, sym, zero, suc, take, ℕ, ⊎_elim, ◌+◌, ◌-◌, ◌++◌, ◌∷◌, ◌≡◌, ◌∙◌, ◌≤◌, cond, true, false, is_none}
-use Rattle.std.specs.List.{count_by}
+use Rattle.std.proofs.Common.{List, None, Option, Some, [], ap, arith, length, refl, subst, sym, zero, suc, take, ℕ, ⊎_elim, ◌+◌, ◌-◌, ◌∷◌, ◌≡◌, ◌∙◌, ◌≤◌, cond, is_none}
 use Rattle.std.proofs.lemmas.List.Sums.{sum_by-append, sum_by-cons}
 use Rattle.tx_events.specs.declared.event.By.{By}
 use Rattle.tx_events.specs.declared.event.Event.{Event}
-use Rattle.tx_events.specs.declared.event.Event.TheVariants as events
 use Rattle.tx_events.specs.Events.{given}
 use Rattle.tx_model.specs.declared.command.Command.{Command}
 use Rattle.tx_model.specs.declared.command.Command.TheVariants as commands
 use Rattle.tx_model.specs.declared.reply.Reply.{Reply}
 use Rattle.tx_model.specs.declared.reply.Reply.TheVariants as replies
 use Rattle.tx_model.specs.CommandEvents.{HasEvents, abort_event, commit_event, giving, innermost, level_events, undo_event}
-use Rattle.tx_model.specs.Stance.{Stance, after, filled, lacking, top_level, without_last}
+use Rattle.tx_model.specs.Stance.{Stance, after, filled, lacking, top_level}
 use Rattle.session_promise.specs.Promise.{makes_level}
 
 -- an id's event gives it

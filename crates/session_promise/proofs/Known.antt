@@ -1,9 +1,6 @@
 -- Whether the commit record of what a session has open stands, its stage says.
-use Rattle.std.proofs.Common.{zero, suc, Contains, List, None, Option, Some, Bool, true, false, [], ap, eqb-true, inl, inr, refl, subst, sym, ℕ, ⊎_elim, ◌∷◌, ◌≡◌, ◌∙◌, ◌==◌}
-use Rattle.std.specs.List.{filter}
-use Rattle.std.proofs.lemmas.Bool.{false≢true}
+use Rattle.std.proofs.Common.{zero, suc, Contains, List, None, Option, Some, Bool, true, false, [], ap, eqb-true, inl, refl, subst, sym, ℕ, ◌∷◌, ◌≡◌, ◌∙◌, ◌==◌}
 use Rattle.std.proofs.lemmas.Option.{same_Some}
-use Rattle.tx_events.specs.declared.event.By.{By}
 use Rattle.tx_events.specs.declared.event.Event.{Event}
 use Rattle.tx_events.specs.declared.record.Rec.{Rec}
 use Rattle.tx_events.specs.declared.record.Rec.TheVariants as records
@@ -14,14 +11,12 @@ use Rattle.tx_events.proofs.ListSteps.{eqb-refl}
 use Rattle.tx_events.proofs.Membership.{Has, any_has, contains_has, has_contains, has_filter, list_any_none_on}
 use Rattle.tx_model.specs.Stance.{top_level}
 use Rattle.life_law.specs.Pending.{is_commit_of, is_recorded}
-use Rattle.tx_core.specs.declared.entry.Entry.{Entry}
-use Rattle.tx_core.specs.declared.entry.Kind.TheVariants as kinds
 use Rattle.tx_core.specs.declared.entry.Start.{Start}
 use Rattle.tx_core.specs.Entries.{IsAppended, history}
 use Rattle.tx_core.specs.Locks.{log_lock}
 use Rattle.notes.specs.Lists.{at}
 use Rattle.tx_core.proofs.Once.{records_given}
-use Rattle.session_levels.specs.Stands.{Nest, levels_of, nameless}
+use Rattle.session_levels.specs.Stands.{Nest, levels_of}
 use Rattle.session_levels.proofs.HeadLemmas.{first_level}
 use Rattle.engine_parts.specs.declared.session.Session.{Session}
 use Rattle.engine_parts.specs.Holds.{Knowledge}

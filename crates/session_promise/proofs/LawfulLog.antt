@@ -1,7 +1,7 @@
 -- The log at the end of a life is that of its ends.
-use Rattle.std.proofs.Common.{Bool, Contains, List, None, Option, Some, [], ap, arith, drop, eqb-true, inl, inr, length, map, refl, subst, sym, take, true, zero, suc, ℕ, ⊎_elim, ◌+◌, ◌++◌, ◌-◌, ◌<◌, ◌≡◌, ◌≤◌, ◌∙◌, ◌∷◌, ◌⊎◌, ◌^◌}
+use Rattle.std.proofs.Common.{Bool, Contains, List, None, Option, Some, [], ap, arith, drop, eqb-true, inl, length, map, refl, subst, sym, take, zero, suc, ℕ, ⊎_elim, ◌++◌, ◌-◌, ◌<◌, ◌≡◌, ◌≤◌, ◌∙◌, ◌∷◌, ◌^◌}
 use Rattle.std.specs.List.{cons_option, slice_get}
-use Rattle.std.proofs.lemmas.List.{length-append, length-map}
+use Rattle.std.proofs.lemmas.List.{length-map}
 use Rattle.std.proofs.lemmas.Option.{same_Some}
 use Rattle.notes.specs.Lists.{at}
 use Rattle.tx_events.specs.declared.event.By.{By}
@@ -10,7 +10,6 @@ use Rattle.tx_events.specs.declared.event.Event.TheVariants as events
 use Rattle.tx_events.specs.declared.record.Counters.{Counters}
 use Rattle.tx_events.specs.declared.record.Rec.{Rec}
 use Rattle.tx_events.specs.declared.record.Rec.TheVariants as records
-use Rattle.tx_events.specs.declared.xact_end.XactEnd.TheVariants as ends
 use Rattle.tx_events.specs.Events.{given_to}
 use Rattle.tx_events.specs.Families.{top}
 use Rattle.tx_events.specs.History.{IsLegal, MayCome}
@@ -18,12 +17,11 @@ use Rattle.tx_events.specs.Running.{is_open, open_ids}
 use Rattle.tx_events.proofs.Closing.{commit_ends, open_is}
 use Rattle.tx_events.proofs.ListSteps.{le_or_over, not_both}
 use Rattle.tx_events.proofs.Membership.{Has, contains_has, has_contains, has_filter, place_has}
-use Rattle.life_law.specs.LifeLog.{IsAmong, IsLogOf, IsRecordOf, IsTransaction, ends_top}
+use Rattle.life_law.specs.LifeLog.{IsAmong, IsLogOf, IsRecordOf, ends_top}
 use Rattle.tx_core.specs.declared.entry.Entry.{Entry}
 use Rattle.tx_core.specs.declared.entry.Kind.TheVariants as kinds
 use Rattle.tx_core.specs.declared.entry.Start.{Start}
 use Rattle.tx_core.specs.CommitRecordsExact.{IsExactIn}
-use Rattle.tx_core.specs.EngineInvariant.{EngineInvariant}
 use Rattle.tx_core.specs.Entries.{IsAppended, appended, flushed_to, history, records_in, records_of, recs_in}
 use Rattle.tx_core.specs.Locks.{log_lock}
 use Rattle.tx_core.specs.RecordsOnce.{OnceIn}

@@ -1,6 +1,5 @@
 -- What may be answered in the lists at the end is lawful.
-use Rattle.std.proofs.Common.{Bool, Contains, IsTrue, List, Some, [], ap, append_assoc, arith, false, inl, inr, length, refl, subst, sym, true, zero, suc, ℕ, ◌*◌, ◌+◌, ◌++◌, ◌<◌, ◌≡◌, ◌≤◌, ◌∙◌, ◌∷◌}
-use Rattle.std.specs.List.{AllByRecursion, list_any}
+use Rattle.std.proofs.Common.{Bool, Contains, IsTrue, List, [], ap, append_assoc, arith, inl, refl, subst, sym, zero, suc, ℕ, ◌++◌, ◌≡◌, ◌∙◌, ◌∷◌}
 use Rattle.std.proofs.lemmas.Bool.{false≢true}
 use Rattle.notes.specs.Lists.{Begins, Grows, at}
 use Rattle.tx_events.specs.declared.event.By.{By}
@@ -30,7 +29,6 @@ use Rattle.tx_core.proofs.Asking.{upheld_has}
 use Rattle.tx_core.proofs.LogLaws.{down_now, down_stays}
 use Rattle.tx_core.proofs.LastNumbers.{number_same}
 use Rattle.engine_parts.specs.declared.session.Stage.{Stage}
-use Rattle.engine_parts.specs.declared.session.Stage.TheVariants as stages
 use Rattle.engine_parts.specs.Answers.{MayAnswer, MetFault}
 use Rattle.engine_parts.specs.Stand.{IsDownAt}
 use Rattle.engine_parts.specs.Standing.{appends, asks_volume, flushes, needs_log, takes_memory}

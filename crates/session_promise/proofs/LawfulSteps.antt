@@ -1,13 +1,11 @@
 -- The promises of all sessions make lawful lines, round by round.
-use Rattle.std.proofs.Common.{Bool, IsTrue, List, None, Option, Some, [], ap, append-nil, append_assoc, arith, cond, drop, false, inl, inr, length, refl, subst, sym, take, true, zero, suc, ℕ, ⊎_elim, ◌+◌, ◌++◌, ◌<◌, ◌==◌, ◌||◌, ◌≡◌, ◌≤◌, ◌∙◌, ◌∷◌}
-use Rattle.std.specs.List.{All, AllByRecursion, count_by, filter, flat_map, list_any, slice_get}
+use Rattle.std.proofs.Common.{Bool, IsTrue, List, None, Option, Some, [], ap, append-nil, append_assoc, cond, drop, length, refl, subst, sym, take, true, zero, suc, ℕ, ◌+◌, ◌++◌, ◌<◌, ◌≡◌, ◌∙◌, ◌∷◌}
+use Rattle.std.specs.List.{count_by, filter, flat_map, slice_get}
 use Rattle.std.proofs.Math.Seq.{take-append_seam}
 use Rattle.std.proofs.lemmas.Grind.{flat_map-append}
 use Rattle.std.proofs.lemmas.List.{map-append, take-append-drop}
 use Rattle.std.proofs.lemmas.List.Elements.{All-from_recursion, filter-append}
 use Rattle.std.proofs.lemmas.List.Sums.{length-filter}
-use Rattle.notes.specs.Lists.{at}
-use Rattle.tx_events.specs.declared.event.By.{By}
 use Rattle.tx_events.specs.declared.event.Event.{Event}
 use Rattle.tx_events.specs.declared.record.Rec.{Rec}
 use Rattle.tx_events.specs.declared.record.Rec.TheVariants as records
@@ -18,13 +16,12 @@ use Rattle.tx_events.specs.declared.refusal.Refusal.TheVariants as refusals
 use Rattle.tx_events.specs.Events.{events_of, given}
 use Rattle.tx_events.specs.Places.{EachPlace}
 use Rattle.tx_events.proofs.ListSteps.{eqb-refl, filter_all, filter_passes}
-use Rattle.tx_events.proofs.Membership.{Has, all_at, all_from, place_has, has_left, has_right}
+use Rattle.tx_events.proofs.Membership.{all_at, all_from, place_has}
 use Rattle.tx_events.proofs.PlaceLemmas.{last_at, slice_get-grows}
 use Rattle.tx_model.specs.declared.command.Command.{Command}
 use Rattle.tx_model.specs.declared.command.Command.TheVariants as commands
 use Rattle.tx_model.specs.declared.reply.Reply.{Reply}
 use Rattle.tx_model.specs.declared.reply.Reply.TheVariants as replies
-use Rattle.tx_model.specs.declared.report.LifeReport.{LifeReport}
 use Rattle.tx_model.specs.declared.report.Line.{Line}
 use Rattle.tx_model.specs.declared.report.Step.{Step}
 use Rattle.tx_model.specs.declared.report.Step.TheVariants as steps
@@ -37,14 +34,13 @@ use Rattle.life_law.specs.Facts.{Facts, has_log_fault}
 use Rattle.life_law.specs.LawfulLife.{AreLawfulSteps, facts_of}
 use Rattle.life_law.specs.Lines.{IsLawfulLine, IsLawfulRound}
 use Rattle.life_law.specs.Pending.{is_recorded, pending, pending_after, pending_from}
-use Rattle.life_law.specs.Refused.{by_standing, refused_by}
+use Rattle.life_law.specs.Refused.{refused_by}
 use Rattle.life_law.specs.Replies.{IsLawfulReply}
 use Rattle.tx_core.specs.declared.entry.Entry.{Entry}
 use Rattle.tx_core.specs.declared.entry.Start.{Start}
-use Rattle.tx_core.specs.Entries.{AreFewIds, flushed_to, history}
-use Rattle.tx_core.specs.Locks.{log_lock}
+use Rattle.tx_core.specs.Entries.{AreFewIds, history}
 use Rattle.engine_parts.specs.Stages.{pending_in}
-use Rattle.session_promise.specs.Closing.{AreFewLevels, BeginsNewLog, IsOver, IsReportOf, PromisesMakeSteps, steps_of}
+use Rattle.session_promise.specs.Closing.{BeginsNewLog, IsOver, PromisesMakeSteps, steps_of}
 use Rattle.session_promise.specs.Promise.{IsToldWell, recs_of}
 use Rattle.session_promise.specs.Told.{Follow, Told, ToldRound, all_lines, lines_by, lines_of, told_by, told_in, told_of}
 use Rattle.session_promise.proofs.FewIds.{levels_bound_ids}
@@ -234,6 +230,7 @@ pub promises_make_steps : PromisesMakeSteps
 promises_make_steps tells start lists rounds r begins over few is =
     let ids = levels_bound_ids tells start lists rounds over few in
     let same : facts tells start lists rounds over ids ≡ facts_of tells start.banks r.life (all_lines rounds)
-    = λ j. record { tells = tells; banks = start.banks; base = sym is.base j; committed = sym is.committed j; events = sym is.events j; recs = sym is.recs j; flushed = sym is.flushed j; log_failed = has_log_fault (all_lines rounds) } in
-    (subst (λ (x : Facts × List Step). AreLawfulSteps x.0 x.1) (λ j. (same j, sym is.steps j)) (lawful tells start lists rounds begins over ids),
-    subst (λ (x : List Event × List Step). AreInTurn x.0 x.1) (λ j. (sym is.events j, sym is.steps j)) (in_turn tells start lists rounds begins over ids))
+    = λ j. record { tells = tells; banks = start.banks; base = sym is.base j; committed = sym is.committed j; events = sym is.events j; recs = sym is.recs j; flushed = sym is.flushed j; log_failed = has_log_fault (all_lines rounds) } in (
+      subst (λ (x : Facts × List Step). AreLawfulSteps x.0 x.1) (λ j. (same j, sym is.steps j)) (lawful tells start lists rounds begins over ids),
+      subst (λ (x : List Event × List Step). AreInTurn x.0 x.1) (λ j. (sym is.events j, sym is.steps j)) (in_turn tells start lists rounds begins over ids),
+    )

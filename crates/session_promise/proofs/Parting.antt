@@ -1,5 +1,5 @@
 -- The parts of a round, one after another.
-use Rattle.std.proofs.Common.{Bool, Contains, List, [], ap, append-nil, cond, eqb-true, false, inl, inr, map, not, refl, subst, sym, true, ℕ, ⊎_elim, ◌++◌, ◌==◌, ◌||◌, ◌≡◌, ◌∙◌, ◌∷◌}
+use Rattle.std.proofs.Common.{Bool, Contains, List, [], ap, append-nil, cond, eqb-true, false, map, not, refl, subst, sym, true, ℕ, ⊎_elim, ◌++◌, ◌==◌, ◌||◌, ◌≡◌, ◌∙◌, ◌∷◌}
 use Rattle.std.specs.List.{AllByRecursion, filter, flat_map, list_any}
 use Rattle.std.proofs.lemmas.Bool.{false≢true}
 use Rattle.std.proofs.lemmas.List.{map-append}
@@ -9,8 +9,8 @@ use Rattle.tx_events.proofs.ListSteps.{eqb-refl, filter_all, filter_none}
 use Rattle.tx_events.proofs.Membership.{Has, all_from, any_has, contains_has, has_contains, has_filter, map_has, list_any_none_on}
 use Rattle.tx_model.specs.declared.command.Command.{Command}
 use Rattle.tx_model.specs.declared.report.Line.{Line}
-use Rattle.tx_model.specs.Lines.{AreLinesOf, is_line_of, turn_of}
-use Rattle.session_promise.specs.Rounds.{ArePartsOf, ArePut, IsPartOf, PartsMakeRound, RoundPart, lines_of_parts, sessions_of}
+use Rattle.tx_model.specs.Lines.{is_line_of, turn_of}
+use Rattle.session_promise.specs.Rounds.{IsPartOf, PartsMakeRound, RoundPart, lines_of_parts, sessions_of}
 use Rattle.session_promise.specs.Told.{lines_by}
 
 abbrev is_among : List ℕ → ℕ → Bool
@@ -89,10 +89,10 @@ its_part [] a d p k = absurd k
 its_part (x ∷ parts) a d p k =
     ⊎_elim
     (λ (q : x ≡ p). subst (λ (z : RoundPart). lines_by z.session (x.lines ++ lines_of_parts parts) ≡ z.lines) q
-        (filter-append (is_line_of x.session) x.lines (lines_of_parts parts) ∙ ((λ j. all_its x.session x.lines a.0 j ++ lines_none x.session parts a.1 d.0 j) ∙ append-nil x.lines)))
+    (filter-append (is_line_of x.session) x.lines (lines_of_parts parts) ∙ ((λ j. all_its x.session x.lines a.0 j ++ lines_none x.session parts a.1 d.0 j) ∙ append-nil x.lines)))
     (λ t.
-        filter-append (is_line_of p.session) x.lines (lines_of_parts parts)
-        ∙ (λ j. none_its p.session x.session x.lines (not_first x.session p.session (sessions_of parts) d.0 (map_has (λ (y : RoundPart). y.session) parts p t)) a.0 j ++ its_part parts a.1 d.1 p t j))
+    filter-append (is_line_of p.session) x.lines (lines_of_parts parts)
+    ∙ (λ j. none_its p.session x.session x.lines (not_first x.session p.session (sessions_of parts) d.0 (map_has (λ (y : RoundPart). y.session) parts p t)) a.0 j ++ its_part parts a.1 d.1 p t j))
     k
 
 turns_all : (turns : List (ℕ × Command)) (parts : List RoundPart) → AllByRecursion (IsPartOf turns) parts → map turn_of (lines_of_parts parts) ≡ flat_map (λ s. filter (λ t. t.0 == s) turns) (sessions_of parts)

@@ -1,45 +1,26 @@
 -- What is pending behind a command is what its reply says.
-use Rattle.std.proofs.Common.{◌≡◌, ◌⊎◌, ℕ, ◌≤◌, Bool, true, false, Contains, List, [], ◌∷◌, Option, Some, None, IsTrue, ap, cond, eqb-true, inl, inr, map, refl, sym, subst, ◌∙◌, ◌==◌, ⊎_elim, nat_eq, is_some}
-use Rattle.std.specs.List.{list_any}
+use Rattle.std.proofs.Common.{◌≡◌, ◌⊎◌, ℕ, Bool, true, false, List, Option, Some, IsTrue, ap, cond, refl, sym, subst, ◌∙◌, ⊎_elim}
 use Rattle.std.proofs.lemmas.Bool.{false≢true}
-use Rattle.notes.specs.Lists.{at}
 use Rattle.tx_events.specs.declared.event.By.{By}
 use Rattle.tx_events.specs.declared.record.Rec.{Rec}
-use Rattle.tx_events.specs.declared.record.Rec.TheVariants as records
 use Rattle.tx_events.specs.declared.refusal.Lock.TheVariants as locks
 use Rattle.tx_events.specs.declared.refusal.Refusal.{Refusal}
 use Rattle.tx_events.specs.declared.refusal.Refusal.TheVariants as refusals
-use Rattle.tx_events.specs.Events.{given_to}
-use Rattle.tx_events.proofs.GivenIds.{one_session}
-use Rattle.tx_events.proofs.ListSteps.{eqb-refl}
-use Rattle.tx_events.proofs.Membership.{Has, any_has, contains_has, has_contains, has_filter, has_filter_map, has_map, list_any_none_on, map_has}
-use Rattle.tx_events.specs.Running.{is_open, open_ids}
 use Rattle.tx_model.specs.declared.command.Command.{Command}
 use Rattle.tx_model.specs.declared.command.Command.TheVariants as commands
 use Rattle.tx_model.specs.declared.reply.Reply.{Reply}
 use Rattle.tx_model.specs.declared.reply.Reply.TheVariants as replies
 use Rattle.tx_model.specs.Replies.{RoundSpan}
 use Rattle.tx_model.specs.Stance.{Stance, after, top_level}
-use Rattle.life_law.specs.Pending.{is_commit_of, is_recorded, pending_after}
+use Rattle.life_law.specs.Pending.{is_recorded, pending_after}
 use Rattle.tx_core.specs.declared.entry.Entry.{Entry}
-use Rattle.tx_core.specs.declared.entry.Kind.TheVariants as kinds
 use Rattle.tx_core.specs.declared.entry.Start.{Start}
-use Rattle.tx_core.specs.EngineInvariant.{EngineInvariant}
-use Rattle.tx_core.specs.Entries.{IsAppended, appended, history, records_of}
-use Rattle.tx_core.specs.Locks.{log_lock}
-use Rattle.tx_core.proofs.Once.{records_given}
-use Rattle.engine_parts.specs.declared.session.Session.{Session}
 use Rattle.engine_parts.specs.declared.session.Stage.{Stage}
 use Rattle.engine_parts.specs.declared.session.Stage.TheVariants as stages
 use Rattle.engine_parts.specs.Answers.{MayAnswer}
-use Rattle.engine_parts.specs.Holds.{Knowledge}
-use Rattle.engine_parts.specs.Sessions.{MayCall, inner_id, stance_of}
 use Rattle.engine_parts.specs.Stages.{may_be_recorded, pending_in}
 use Rattle.engine_parts.specs.Standing.{IsLeftAt, IsLeftBy, IsLoggedFrom, LeavesStage, is_by_standing, is_unflushed}
-use Rattle.engine_parts.proofs.Pending.{record_of}
-use Rattle.engine_parts.proofs.Unrecorded.{open_unrecorded}
-use Rattle.session_levels.proofs.HeadLemmas.{first_level}
-use Rattle.session_promise.specs.Promise.{IsToAsker, recs_of}
+use Rattle.session_promise.specs.Promise.{IsToAsker}
 
 -- whether the log has a commit record of the session's top
 abbrev pub IsKnownOf : List Rec → Stance → Stage → Type 0

@@ -1,5 +1,5 @@
 -- What is pending by some lines, as the history and the records grow.
-use Rattle.std.proofs.Common.{◌≡◌, ◌⊎◌, Bool, true, false, List, [], ◌∷◌, ◌++◌, None, Option, ap, refl, sym, ◌∙◌, ⊎_elim, cond, inl, inr, subst, ℕ}
+use Rattle.std.proofs.Common.{◌≡◌, ◌⊎◌, Bool, true, false, List, [], ◌∷◌, ◌++◌, None, Option, ap, refl, sym, ◌∙◌, ⊎_elim, cond, ℕ}
 use Rattle.std.specs.List.{AllByRecursion, filter}
 use Rattle.std.proofs.lemmas.Bool.{false≢true}
 use Rattle.std.proofs.lemmas.List.Elements.{filter-append}

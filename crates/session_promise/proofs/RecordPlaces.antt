@@ -1,6 +1,6 @@
 -- The records of the log's list, and its entries.
-use Rattle.std.proofs.Common.{Contains, List, None, Option, Some, [], ap, inl, inr, map, refl, subst, sym, ℕ, ⊎_elim, ◌∷◌, ◌≡◌, ◌∙◌}
-use Rattle.std.specs.List.{cons_option, filter_map, slice_get}
+use Rattle.std.proofs.Common.{List, None, Option, Some, [], ap, inl, inr, refl, subst, sym, ⊎_elim, ◌∷◌, ◌≡◌, ◌∙◌}
+use Rattle.std.specs.List.{cons_option, filter_map}
 use Rattle.notes.specs.Lists.{at}
 use Rattle.tx_events.specs.declared.event.By.{By}
 use Rattle.tx_events.specs.declared.record.Rec.{Rec}

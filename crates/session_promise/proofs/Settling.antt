@@ -1,6 +1,6 @@
 -- The records of a log that is down stay, so what is pending by them does.
-use Rattle.std.proofs.Common.{◌≡◌, ◌≢◌, ◌⊎◌, ℕ, ◌+◌, ◌<◌, ◌≤◌, Bool, true, false, List, [], ◌∷◌, ◌++◌, Some, ap, refl, sym, subst, ◌∙◌, arith, inl, inr, ⊎_elim, length, take, map}
-use Rattle.std.specs.List.{AllByRecursion, slice_get}
+use Rattle.std.proofs.Common.{◌≡◌, ℕ, ◌≤◌, Bool, true, false, List, ◌∷◌, ap, refl, sym, subst, ◌∙◌, arith, inl, inr, length, take, map}
+use Rattle.std.specs.List.{AllByRecursion}
 use Rattle.std.proofs.lemmas.List.{length-map, length-take-le}
 use Rattle.std.proofs.lemmas.Option.{slice_get_within}
 use Rattle.notes.specs.Lists.{Grows, at}
@@ -13,7 +13,6 @@ use Rattle.tx_events.proofs.Membership.{any_has, has_right, Has}
 use Rattle.tx_model.specs.declared.command.Command.{Command}
 use Rattle.tx_model.specs.declared.reply.Reply.{Reply}
 use Rattle.tx_model.specs.declared.reply.Reply.TheVariants as replies
-use Rattle.tx_model.specs.declared.report.Line.{Line}
 use Rattle.tx_model.specs.Replies.{RoundSpan}
 use Rattle.tx_model.specs.Stance.{Stance}
 use Rattle.tx_core.specs.declared.entry.Entry.{Entry}

@@ -1,6 +1,6 @@
 -- Where the rounds' events stand in the history.
-use Rattle.std.proofs.Common.{Bool, IsTrue, List, Some, None, [], ap, arith, cond, drop, eqb-true, false, inl, inr, length, refl, subst, sym, take, true, zero, suc, ℕ, ⊎_elim, ◌&&◌, ◌+◌, ◌++◌, ◌<◌, ◌==◌, ◌≡◌, ◌≤◌, ◌∙◌, ◌∷◌}
-use Rattle.std.specs.List.{All, AllByRecursion, count_by, list_any, slice_get}
+use Rattle.std.proofs.Common.{Bool, IsTrue, List, Some, [], ap, arith, cond, drop, eqb-true, false, inl, inr, length, refl, subst, sym, take, true, zero, suc, ℕ, ⊎_elim, ◌&&◌, ◌+◌, ◌++◌, ◌<◌, ◌==◌, ◌≡◌, ◌≤◌, ◌∙◌, ◌∷◌}
+use Rattle.std.specs.List.{AllByRecursion, count_by, slice_get}
 use Rattle.std.proofs.lemmas.Bool.{false≢true}
 use Rattle.std.proofs.lemmas.List.{length-take-le, take-append-drop}
 use Rattle.std.proofs.lemmas.List.Elements.{All-from_recursion}
@@ -21,7 +21,7 @@ use Rattle.tx_core.specs.declared.entry.Start.{Start}
 use Rattle.tx_core.specs.Entries.{history}
 use Rattle.tx_core.proofs.Taking.{get_of_take}
 use Rattle.session_promise.specs.Closing.{IsOver}
-use Rattle.session_promise.specs.Told.{Follow, Told, ToldRound, all_lines, lines_by, lines_of, told_by, told_in, told_of}
+use Rattle.session_promise.specs.Told.{Follow, Told, ToldRound, all_lines, lines_by, told_by, told_in, told_of}
 use Rattle.session_promise.proofs.FewIds.{event_known}
 use Rattle.session_promise.proofs.Growing.{all_places}
 use Rattle.session_promise.proofs.Telling.{lines_told}

@@ -1,11 +1,9 @@
 -- A session promises the same while others go on.
 use Rattle.std.proofs.Common.{Bool, ◌≡◌, ◌≢◌, ℕ, ◌+◌, ◌<◌, ◌≤◌, List, [], ◌∷◌, ◌++◌, Contains, IsTrue, ap, sym, subst, ◌∙◌, arith, length, eq-eqb}
-use Rattle.std.specs.List.{AllByRecursion, count_by, filter}
+use Rattle.std.specs.List.{AllByRecursion, count_by}
 use Rattle.std.proofs.lemmas.List.{append_cancel_left, length-append, length-map}
 use Rattle.notes.specs.Lists.{Knows, at}
-use Rattle.tx_events.specs.declared.event.By.{By}
 use Rattle.tx_events.specs.declared.event.Event.{Event}
-use Rattle.tx_events.specs.declared.record.Rec.{Rec}
 use Rattle.tx_events.specs.Events.{by_of, given, is_of}
 use Rattle.tx_events.proofs.ListSteps.{all_weaker}
 use Rattle.tx_events.proofs.Membership.{Has, contains_has, filter_has, has_contains, has_filter}
@@ -14,7 +12,6 @@ use Rattle.tx_model.specs.Lines.{has_line, stance}
 use Rattle.tx_model.specs.Stance.{lacking}
 use Rattle.tx_core.specs.declared.entry.Entry.{Entry}
 use Rattle.tx_core.specs.declared.entry.Kind.TheVariants as kinds
-use Rattle.tx_core.specs.declared.entry.LogCall.{LogCall}
 use Rattle.tx_core.specs.declared.entry.Start.{Start}
 use Rattle.tx_core.specs.EngineInvariant.{EngineInvariant}
 use Rattle.tx_core.specs.Entries.{history, session_of}
@@ -22,7 +19,6 @@ use Rattle.tx_core.specs.Locks.{log_lock}
 use Rattle.life_law.specs.Pending.{pending}
 use Rattle.tx_core.proofs.Lasting.{history_grows}
 use Rattle.tx_core.proofs.Stepping.{own_seen}
-use Rattle.session_levels.proofs.Beside.{AreBeside}
 use Rattle.engine_parts.specs.declared.session.Session.{Session}
 use Rattle.engine_parts.specs.Sessions.{stance_of}
 use Rattle.engine_parts.proofs.Going.{own_events, rest_of}

@@ -1,5 +1,5 @@
 -- A sum over a list is that of the sums over the items of each key.
-use Rattle.std.proofs.Common.{Bool, List, [], ap, arith, cond, eqb-true, false, ne_eqb, refl, subst, sym, true, zero, suc, ℕ, ⊎_elim, ◌+◌, ◌<◌, ◌==◌, ◌≡◌, ◌≤◌, ◌∙◌, ◌∷◌}
+use Rattle.std.proofs.Common.{Bool, List, [], ap, arith, cond, false, refl, true, zero, suc, ℕ, ⊎_elim, ◌+◌, ◌<◌, ◌==◌, ◌≡◌, ◌≤◌, ◌∙◌, ◌∷◌}
 use Rattle.std.specs.List.{AllByRecursion, filter, sum_by}
 use Rattle.std.proofs.lemmas.List.Sums.{sum_by-cons}
 use Rattle.tx_events.proofs.ListSteps.{above_not, below_not, eqb-refl, le_or_over}

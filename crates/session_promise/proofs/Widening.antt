@@ -2,7 +2,6 @@
 use Rattle.std.proofs.Common.{◌≡◌, ℕ, zero, suc, ◌≤◌, List, [], ◌∷◌, ◌++◌, Some, ap, refl, sym, ◌∙◌, arith, take}
 use Rattle.std.specs.List.{AllByRecursion, slice_get}
 use Rattle.tx_model.specs.declared.report.Line.{Line}
-use Rattle.tx_model.specs.Replies.{RoundSpan}
 use Rattle.session_promise.specs.Told.{Told, between, lines_of, told_in}
 
 -- the same line, and its round has come as far or further, but not past m

@@ -1,5 +1,5 @@
 -- What a session promises of its own lines, whatever other sessions do between its critical sections.
-use Rattle.std.specs.Prelude.{◌≡◌, ◌⊎◌, ℕ, ◌+◌, ◌<◌, ◌≤◌, Bool, true, false, List, [], ◌∷◌, ◌++◌, Contains, IsTrue, Some, length, slice_get}
+use Rattle.std.specs.Prelude.{◌≡◌, ℕ, ◌+◌, ◌<◌, ◌≤◌, Bool, true, false, List, [], ◌∷◌, ◌++◌, Contains, IsTrue, Some, length, slice_get}
 use Rattle.std.specs.List.{AllByRecursion, count_by}
 use Rattle.notes.specs.Lists.{Knows, at, own}
 use Rattle.tx_events.specs.declared.event.By.{By}

@@ -6,3 +6,4 @@ pub mod Lines
 pub mod LifeLog
 pub mod LawfulLife
 pub mod Laws
+pub mod Worked

@@ -1,3 +1,4 @@
+pub mod Commands
 pub mod Refused
 pub mod Pending
 pub mod Facts

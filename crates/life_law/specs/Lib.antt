@@ -6,3 +6,5 @@ pub mod Replies
 pub mod Lines
 pub mod LifeLog
 pub mod LawfulLife
+pub mod Laws
+pub mod Worked

@@ -38,7 +38,7 @@ abbrev pub IsAmong : ℕ → List Rec → Rec → Type 0
 IsAmong n recs rec = Contains (take n recs) rec
 
 -- The life's records: first the one with which it begins, then at most one of each transaction, each of them whole. A
--- transaction that committed has its record, and that is flushed. The next gate's position is below 2^41.
+-- transaction that committed has its record, and that is flushed. The next gate's position has 64 bits.
 pub record IsLogOf (from : ℕ) (first : Rec) (h : List Event) (recs : List Rec) (flushed end : ℕ) : Type 0 where
   pub rest : List Rec
   pub split : recs ≡ first ∷ rest
@@ -48,4 +48,4 @@ pub record IsLogOf (from : ℕ) (first : Rec) (h : List Event) (recs : List Rec)
   pub once : (i j id : ℕ) (a b : Rec) → slice_get rest i ≡ Some a → slice_get rest j ≡ Some b → ends_top a id → ends_top b id → i ≡ j
   pub committed : (p top : ℕ) (by : By) → slice_get h p ≡ Some (events.Commit by top)
       → IsAmong (flushed - from) recs (records.Commit top (drop 1 (open_ids by.session (take p h))))
-  pub gate : end < 2 ^ 41
+  pub gate : end < 2 ^ 64

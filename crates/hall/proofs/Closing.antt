@@ -1,5 +1,5 @@
 -- The values of a hall that was closed.
-use Rattle.std.proofs.Common.{Contains, ◌≡◌, ℕ, zero, suc, ◌+◌, ◌<◌, ◌≤◌, Bool, true, false, List, [], ◌∷◌, ◌++◌, map, length, get_or, set, take, refl, sym, ◌∙◌, ap, subst, arith, Option, Some, None, slice_get, take_all, take-suc, add-one, get_or-set_same, get_or-set_other}
+use Rattle.std.proofs.Common.{◌≡◌, ℕ, zero, suc, ◌+◌, ◌<◌, ◌≤◌, Bool, true, false, List, [], ◌∷◌, ◌++◌, map, length, get_or, set, take, refl, sym, ◌∙◌, ap, subst, arith, Option, Some, None, slice_get, take_all, take-suc, add-one, get_or-set_same, get_or-set_other}
 use Rattle.std.proofs.lemmas.List.{length-map}
 use mathlib.Core.List.{map-append}
 use mathlib.Core.Option.{some, some-injective, some-ne-none}
@@ -32,13 +32,12 @@ pub record Full {S V E : Type 0} (start : S) (stands : S → ℕ → V → List 
 
 module _ {S V E : Type 0} (start : S) (passes places : ℕ) (session : E → ℕ) (writer : S → ℕ → Writer) (stands : S → ℕ → V → List E → Type 0) (number : S → ℕ → List E → ℕ) (kept : S → List (List E) → Type 0) where
   pub closed_tells : (id : ℕ) (v : View S E) (ws : List ℕ) (items : List (Held V E)) → Final (Viewed (Kept start passes places session writer stands number kept) id v) ws items → v.stage ≡ Free → ((m : ℕ) → m < passes → Holds v m) → length v.seen ≡ places
-      → kept start v.seen × ((c : ℕ) → c < length items → Full start stands v items c) × ((c : ℕ) (x : E) → Contains (at v.seen c) x → session x < passes)
+      → kept start v.seen × ((c : ℕ) → c < length items → Full start stands v items c)
   closed_tells id v ws items f free all wide =
       let s = f.0 in let e = closes start passes places session writer stands number kept id v s f.1 free all in let deep = f.3 in
       let same : v.seen ≡ e.0 = ext_get_or [] v.seen e.0 (wide ∙ sym e.2) (λ c lt. e.4 c (let many = e.2 in omega arith)) in (
         subst (kept start) (sym same) e.1,
         (λ c lt. let h = e.5 c (omega arith) in record { held = h.0; value = h.1; there = f.4 c h.0 h.2; filled = h.3; stood = subst (λ (z : List (List E)). stands start c h.1 (at z c)) (sym same) h.4 }),
-        (λ c x there. e.6 c x (subst (λ (z : List (List E)). Contains (at z c) x) same there)),
       )
 
 rest_of : {A : Type 0} → List A → List A

@@ -1,5 +1,5 @@
 -- The table at the end, where one pass has all names.
-use Rattle.std.proofs.Common.{Contains, ◌≡◌, ℕ, ◌<◌, ◌≤◌, List, length, sym, ◌∙◌, ap, subst, ⊎_elim, arith}
+use Rattle.std.proofs.Common.{◌≡◌, ℕ, ◌<◌, ◌≤◌, List, length, sym, ◌∙◌, ap, subst, ⊎_elim, arith}
 use mathlib.Core.Option.{some, none, some-injective, some-ne-none}
 use mathlib.Core.Option as maybe
 use lib.ListN.{get_elem?}
@@ -18,7 +18,7 @@ module _ {S V E : Type 0} (start : S) (passes places : ℕ) (session : E → ℕ
 
   -- the table at the end, where one pass has all names
   abbrev pub Ended : View S E → List (maybe.Option (Held V E)) → Type 0
-  Ended v homes = (lists : List (List E)) × kept start lists × (length lists ≡ places) × (length homes ≤ places) × ((c : ℕ) → c < places → at v.seen c ≡ at lists c) × ((c : ℕ) → c < length homes → AtHome start stands homes c (at lists c)) × ((c : ℕ) (e : E) → Contains (at lists c) e → session e < passes)
+  Ended v homes = (lists : List (List E)) × kept start lists × (length lists ≡ places) × (length homes ≤ places) × ((c : ℕ) → c < places → at v.seen c ≡ at lists c) × ((c : ℕ) → c < length homes → AtHome start stands homes c (at lists c))
 
   pub closes : (id : ℕ) (v : View S E) (s : State (Held V E) (View S E)) → Viewed Rule id v s → v.stage ≡ Free → ((m : ℕ) → m < passes → Holds v m) → Ended v s.homes
   closes id v s w free all =
@@ -36,5 +36,4 @@ module _ {S V E : Type 0} (start : S) (passes places : ℕ) (session : E → ℕ
             let same : o.0 ≡ id = r.alone o.0 id o.1 v o.1.name o.2 is has (all o.1.name (r.named o.0 o.1 o.1.name o.2 has)) in
             let d_is : o.1 ≡ v = some-injective _ _ (sym o.2 ∙ (ap (get_elem? s.views) same ∙ is)) in
             absurd (free_not_in c (sym free ∙ (ap (λ (z : View S E). z.stage) (sym d_is) ∙ o.3)))) (r.home c inside_n)),
-        r.known,
       )

@@ -95,7 +95,6 @@ module _ {S V E : Type 0} (start : S) (passes places : ℕ) (session : E → ℕ
       deep = r.deep;
       wide = r.wide;
       law = r.law;
-      known = r.known;
       starts = λ j d a at e. each_two (λ _ z. (c : S) → z.start ≡ c ∷ [] → c ≡ start) (λ c q. r.starts me v c is q) (λ c q. absurd (not_nil c q)) (λ i z _ _ o c q. r.starts i z c o q) j d at a e;
       home = λ c lt. ⊎_elim (λ h. inl h) (λ k. inr (k.0, still_out c k.1)) (r.home c lt);
       stages = each_two (λ _ z. Stands (writer start) r.n s.words r.lists z.seen z.stage)

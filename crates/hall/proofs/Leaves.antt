@@ -1,6 +1,5 @@
 -- Releasing a lock keeps the rule.
-use Rattle.std.proofs.Common.{◌≡◌, ℕ, ◌+◌, ◌<◌, ◌≢◌, List, [], ◌∷◌, ◌++◌, length, get_or, set, sym, ◌∙◌, ap, subst, inl, inr, ⊎_elim, get_or-set_same, get_or-set_other, length-set, arith, Option, Some, None, Contains}
-use Rattle.std.proofs.lemmas.List.Elements.{Contains-push_cases}
+use Rattle.std.proofs.Common.{◌≡◌, ℕ, ◌+◌, ◌<◌, ◌≢◌, List, [], ◌∷◌, ◌++◌, length, get_or, set, sym, ◌∙◌, ap, subst, inl, inr, ⊎_elim, get_or-set_same, get_or-set_other, length-set, arith, Option, Some, None}
 use mathlib.Core.Option.{some, none, some-injective}
 use mathlib.Core.Logic.{dite}
 use native.Mathlib.Decide.{ℕ_discrete}
@@ -131,10 +130,6 @@ module _ {S V E : Type 0} (start : S) (passes places : ℕ) (session : E → ℕ
       deep = length-set s.homes c (some h) ∙ r.deep;
       wide = length-set s.words (line_of c) 0 ∙ r.wide;
       law = lawful r.lists r.law record { grows = (r.knows me v is).0; own = own_here.entries } own_here.words (let m = r.many in let k = cell_ok in omega arith) whole_all;
-      known = λ k f there. dite (ℕ_discrete k c)
-          (λ (q : k ≡ c). ⊎_elim (λ old. r.known c f old) (λ (new : e ≡ f). subst (λ (z : E). session z < passes) new (subst (λ (z : ℕ). z < passes) (sym by) (r.named me v v.name is mine)))
-          (Contains-push_cases (at r.lists c) e f (subst (λ (z : List E). Contains z f) (ap (λ (z : ℕ). at ls z) q ∙ list_here) there)))
-          (λ ne. r.known k f (subst (λ (z : List E). Contains z f) (list_else k ne) there));
       starts = λ j d a at e. each_set (λ _ z. (b : S) → z.start ≡ b ∷ [] → b ≡ start) s.views me u (λ b q. r.starts me v b is q) (λ i z _ o b q. r.starts i z b o q) j d at a e;
       home = λ k lt. dite (ℕ_discrete k c)
           (λ (q : k ≡ c). let P : ℕ → Type 0 = λ z. (get_or wl (line_of z) 0 ≡ 0) × AtHome start stands (set s.homes c (some h)) z (at ls z) in inl (subst P (sym q)

@@ -78,7 +78,6 @@ module _ {S V E : Type 0} (start : S) (passes places : ℕ) (session : E → ℕ
       deep = long;
       wide = same ∙ r.wide;
       law = r.law;
-      known = r.known;
       starts = λ j d a at e. each_set (λ _ z. (b : S) → z.start ≡ b ∷ [] → b ≡ start) s.views me w (λ b q. r.starts me v b is (begun b q)) (λ i z _ o b q. r.starts i z b o q) j d at a e;
       home = home;
       stages = each_set (λ _ z. Stands (writer start) r.n ws r.lists z.seen z.stage) s.views me w mine others;

@@ -1,5 +1,5 @@
 -- The table at the start meets the rule.
-use Rattle.std.proofs.Common.{Contains, ◌≡◌, ℕ, zero, suc, ◌+◌, ◌-◌, ◌<◌, true, false, List, [], ◌∷◌, length, get_or, replicate, refl, sym, ◌∙◌, ap, subst, inl, arith, Some, slice_get}
+use Rattle.std.proofs.Common.{◌≡◌, ℕ, zero, suc, ◌+◌, ◌-◌, ◌<◌, true, false, List, [], ◌∷◌, length, get_or, replicate, refl, sym, ◌∙◌, ap, subst, inl, arith, Some, slice_get}
 use Rattle.std.proofs.lemmas.List.{length-map}
 use Rattle.std.proofs.lemmas.Option.{slice_get-get_or}
 use mathlib.Core.Option.{some, some-injective, some-ne-none}
@@ -26,7 +26,7 @@ module _ {S V E : Type 0} (start : S) (passes places : ℕ) (session : E → ℕ
   Rule = Kept start passes places session writer stands number kept
 
   -- the table at the start
-  module _ (o : Opening S E) (n : ℕ) (posts words : List ℕ) (slots : List (Held V E)) (first : Starts n posts words) (count : length slots ≡ n) (many : length o.lists ≡ n + length posts) (size : places ≡ length o.lists) (each_lock : (c : ℕ) → c < n → writer start c ≡ Lock c) (some_pass : 0 < o.passes) (at_start : start ≡ o.start) (all : passes ≡ o.passes) (law : kept start o.lists) (known : (c : ℕ) (e : E) → Contains (at o.lists c) e → session e < o.passes)
+  module _ (o : Opening S E) (n : ℕ) (posts words : List ℕ) (slots : List (Held V E)) (first : Starts n posts words) (count : length slots ≡ n) (many : length o.lists ≡ n + length posts) (size : places ≡ length o.lists) (each_lock : (c : ℕ) → c < n → writer start c ≡ Lock c) (some_pass : 0 < o.passes) (at_start : start ≡ o.start) (all : passes ≡ o.passes) (law : kept start o.lists)
       (full : (c : ℕ) (h : Held V E) → get_elem? slots c ≡ some h → (x : V) × (h.value ≡ Some x) × stands start c x (at o.lists c))
       (shown : (w x : ℕ) → slice_get posts w ≡ Some x → number start (n + w) (at o.lists (n + w)) ≡ x) where
     here : (l : List (Held V E)) (c : ℕ) → c < length l → (h : Held V E) × (get_elem? l c ≡ some h)
@@ -56,7 +56,6 @@ module _ {S V E : Type 0} (start : S) (passes places : ℕ) (session : E → ℕ
       deep = length-map slots some ∙ count;
       wide = first.long;
       law = law;
-      known = λ c e there. let k = known c e there in let q = all in omega arith;
       starts = λ j d a at e. of_first (λ z. (b : S) → z.start ≡ b ∷ [] → b ≡ start) (λ b q. sym (ap (λ (z : List S). get_or z 0 b) q) ∙ sym at_start) j d at a e;
       home = λ c lt. let h = here slots c (omega arith) in let f = full c h.0 h.1 in inl (first.unlocked c lt, (h.0, f.0, at_map some slots c h.0 h.1, f.1, f.2));
       stages = of_first (λ z. Stands (writer start) n words o.lists z.seen z.stage) tt;

@@ -1,6 +1,5 @@
 -- Publishing a word keeps the rule.
-use Rattle.std.proofs.Common.{◌≡◌, ℕ, ◌+◌, ◌<◌, ◌≢◌, List, [], ◌∷◌, ◌++◌, length, get_or, set, refl, sym, ◌∙◌, ap, subst, inl, inr, ⊎_elim, eqb, get_or-set_same, get_or-set_other, length-set, arith, Option, Some, None, Contains}
-use Rattle.std.proofs.lemmas.List.Elements.{Contains-push_cases}
+use Rattle.std.proofs.Common.{◌≡◌, ℕ, ◌+◌, ◌<◌, ◌≢◌, List, [], ◌∷◌, ◌++◌, length, get_or, set, refl, sym, ◌∙◌, ap, subst, inl, inr, ⊎_elim, eqb, get_or-set_same, get_or-set_other, length-set, arith, Option, Some, None}
 use mathlib.Core.Option.{some, none, some-injective}
 use mathlib.Core.Option as maybe
 use mathlib.Core.Logic.{dite}
@@ -135,10 +134,6 @@ module _ {S V E : Type 0} (start : S) (passes places : ℕ) (session : E → ℕ
       law = lawful r.lists r.law record { grows = (r.knows me v is).0; own = own_here.entries } own_here.words (let m = r.many in omega arith) all_whole;
       total = r.total;
       locks = r.locks;
-      known = λ k f there. dite (ℕ_discrete k place)
-          (λ (q : k ≡ place). ⊎_elim (λ old. r.known place f old) (λ (new : e ≡ f). subst (λ (z : E). session z < passes) new (subst (λ (z : ℕ). z < passes) (sym by) (r.named me v v.name is mine)))
-          (Contains-push_cases (at r.lists place) e f (subst (λ (z : List E). Contains z f) (ap (λ (z : ℕ). at ls z) q ∙ list_here) there)))
-          (λ ne. r.known k f (subst (λ (z : List E). Contains z f) (list_else k ne) there));
       starts = λ j d a at q. each_set (λ _ z. (c : S) → z.start ≡ c ∷ [] → c ≡ start) s.views me u (λ c z. r.starts me v c is z) (λ i z _ o c y. r.starts i z c o y) j d at a q;
       home = λ c lt. let ne : c ≢ place = λ q. omega arith in let same : get_or wl (line_of c) 0 ≡ get_or s.words (line_of c) 0 = word_else (line_of c) (λ q. omega arith) in
           ⊎_elim (λ a. inl (same ∙ a.0, (a.1.0, a.1.1, a.1.2, a.1.3, subst (stands start c a.1.1) (sym (list_else c ne)) a.1.4)))

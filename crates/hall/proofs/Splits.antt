@@ -82,7 +82,6 @@ module _ {S V E : Type 0} (start : S) (passes places : ℕ) (session : E → ℕ
       deep = r.deep;
       wide = r.wide;
       law = r.law;
-      known = r.known;
       starts = λ j d a at e. each (λ _ z. (b : S) → z.start ≡ b ∷ [] → b ≡ start) (λ b q. r.starts me v b is q) (λ _ b q. r.starts me v b is q) (λ i z _ o b q. r.starts i z b o q) j d at a e;
       home = λ c lt. ⊎_elim (λ h. inl h) (λ o. inr (o.0, (o.1.0, o.1.1, at_longer vs (g ∷ []) o.1.0 o.1.1 o.1.2, o.1.3))) (home_stays start passes places session writer stands number kept s r me v l is (λ a e. e) c lt);
       stages = each (λ _ z. Stands (writer start) r.n s.words r.lists z.seen z.stage) (r.stages me v is) (λ _. tt) (λ j d _ o. r.stages j d o);

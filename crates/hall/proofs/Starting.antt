@@ -1,5 +1,5 @@
 -- The table and the first pass of a new hall.
-use Rattle.std.proofs.Common.{Contains, ◌≡◌, ℕ, zero, suc, ◌+◌, ◌-◌, ◌<◌, true, false, List, [], ◌∷◌, map, length, get_or, replicate, refl, sym, ◌∙◌, ap, subst, arith, Option, Some, None, slice_get}
+use Rattle.std.proofs.Common.{◌≡◌, ℕ, zero, suc, ◌+◌, ◌-◌, ◌<◌, true, false, List, [], ◌∷◌, map, length, get_or, replicate, refl, sym, ◌∙◌, ap, subst, arith, Option, Some, None, slice_get}
 use Rattle.std.proofs.lemmas.List.{length-map}
 use mathlib.Core.Option.{some, some-injective, some-ne-none}
 use lib.ListN.{get_elem?, get_or-replicate}
@@ -33,11 +33,11 @@ filled_from (k ∷ hs) (x ∷ xs) (suc c) h e is = filled_from hs xs c h (ap res
 
 module _ {S V E : Type 0} (session : E → ℕ) (writer : S → ℕ → Writer) (stands : S → ℕ → V → List E → Type 0) (number : S → ℕ → List E → ℕ) (kept : S → List (List E) → Type 0) where
   pub opens_from : (o : Opening S E) (passes n : ℕ) (posts words : List ℕ) (hs : List (Held V E)) (xs : List V) → 0 < passes → o.passes ≡ passes → n ≡ length xs → Starts n posts words → map (λ h. h.value) hs ≡ map Some xs
-      → length o.lists ≡ length xs + length posts → ((c : ℕ) → c < length xs → writer o.start c ≡ Lock c) → kept o.start o.lists → ((c : ℕ) (e : E) → Contains (at o.lists c) e → session e < o.passes) → StandFor stands o.start xs o.lists → ShownBy number o.start (length xs) posts o.lists
+      → length o.lists ≡ length xs + length posts → ((c : ℕ) → c < length xs → writer o.start c ≡ Lock c) → kept o.start o.lists → StandFor stands o.start xs o.lists → ShownBy number o.start (length xs) posts o.lists
       → Kept o.start o.passes (length o.lists) session writer stands number kept (opening words hs (first_view o))
-  opens_from o passes n posts words hs xs pos same count first wrapped many locks law known stand shown =
+  opens_from o passes n posts words hs xs pos same count first wrapped many locks law stand shown =
       let long : length hs ≡ n = sym (length-map hs (λ (h : Held V E). h.value)) ∙ (ap length wrapped ∙ (length-map xs Some ∙ sym count)) in
-      opens o.start o.passes (length o.lists) session writer stands number kept o n posts words hs first long (omega arith) refl (λ c lt. locks c (omega arith)) (omega arith) refl refl law known
+      opens o.start o.passes (length o.lists) session writer stands number kept o n posts words hs first long (omega arith) refl (λ c lt. locks c (omega arith)) (omega arith) refl refl law
       (λ c h is. let f = filled_from hs xs c h wrapped is in (f.0, f.1, stand c f.0 f.2))
       (λ w x is. let P : ℕ → Type 0 = λ z. number o.start (z + w) (at o.lists (z + w)) ≡ x in subst P (sym count) (shown w x is))
 

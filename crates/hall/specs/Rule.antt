@@ -1,5 +1,5 @@
 -- The rule of a table, over n locks and p published words.
-use Rattle.std.specs.Prelude.{Contains, ◌≡◌, ℕ, ◌+◌, ◌-◌, ◌<◌, Bool, true, false, List, [], ◌∷◌, ◌⊎◌, length, Some, slice_index, slice_index_or, replicate}
+use Rattle.std.specs.Prelude.{◌≡◌, ℕ, ◌+◌, ◌-◌, ◌<◌, Bool, true, false, List, [], ◌∷◌, ◌⊎◌, length, Some, slice_index, slice_index_or, replicate}
 use mathlib.Core.Option.{some}
 use lib.ListN.{get_elem?}
 use Rattle.atomic_table.specs.Table.{State}
@@ -89,8 +89,6 @@ pub record Kept {S V E : Type 0} (start : S) (passes places : ℕ) (session : E 
   pub told : (j : ℕ) (d : View S E) → get_elem? s.views j ≡ some d → Told session (writer start) d.merged
   -- names are below the number of passes, and who is inside a lock has its own
   pub named : (j : ℕ) (d : View S E) (m : ℕ) → get_elem? s.views j ≡ some d → Holds d m → m < passes
-  -- each entry is of such a name
-  pub known : (c : ℕ) (e : E) → Contains (at lists c) e → session e < passes
   pub owner : (j : ℕ) (d : View S E) (c : ℕ) → get_elem? s.views j ≡ some d → IsIn d c → Holds d d.name
   -- some pass has seen each history whole
   pub whole : (c : ℕ) → c < n + p → (j : ℕ) × (d : View S E) × (m : ℕ) × (get_elem? s.views j ≡ some d) × Holds d m × (at d.seen c ≡ at lists c)

@@ -1,5 +1,5 @@
 //! A table is made, and taken apart.
-ghost use Rattle.std.specs.Prelude.{Contains, ◌≡◌, ℕ, ◌+◌, ◌^◌, ◌<◌, ◌≤◌, [], ◌∷◌, IfOk, IfErr, length, slice_get, Some};
+ghost use Rattle.std.specs.Prelude.{◌≡◌, ℕ, ◌+◌, ◌^◌, ◌<◌, ◌≤◌, [], ◌∷◌, IfOk, IfErr, length, slice_get, Some};
 ghost use Rattle.hall.specs.declared.writer.Writer.TheVariants.{Lock};
 ghost use Rattle.hall.specs.declared.view.Stage.TheVariants.{Free};
 ghost use Rattle.notes.specs.Lists.{at};
@@ -23,7 +23,7 @@ impl<L: Law> Hall<L> {
     ///
     /// `passes` is 1 to 65. The first pass has the names below it, adds under the name
     /// `passes - 1`, and may give the others to new passes. `from` has the table's start and its
-    /// first histories, of which the relation holds, and each entry of which is of a name: the values stand for those of the locks, and
+    /// first histories, of which the relation holds: the values stand for those of the locks, and
     /// the numbers are what those of the words show.
     ///
     /// A lock takes 144 bytes and twice the size of its value, a word 64 bytes, and the table 64
@@ -44,7 +44,6 @@ impl<L: Law> Hall<L> {
         requires places { length from.value.lists ≡ length values.items + length posts.items }
         requires locks { (c : ℕ) → c < length values.items → L.writer from.value.start c ≡ Lock c }
         requires kept { L.kept from.value.start from.value.lists }
-        requires known { (c : ℕ) (e : L.Entry) → Contains (at from.value.lists c) e → L.session e < passes }
         requires stand { StandFor L.stands from.value.start values.items from.value.lists }
         requires shown { ShownBy L.number from.value.start (length values.items) posts.items from.value.lists }
         ensures hall { IfOk result (λ r. (start_of r.0 ≡ from.value.start) × (passes_of r.0 ≡ from.value.passes) × (r.0.cells ≡ length values.items) × (r.0.posts ≡ length posts.items)) }
@@ -83,14 +82,13 @@ impl<L: Law> Hall<L> {
     }
 
     /// The values, in the order of their locks, once all other passes were joined into this one and
-    /// it is inside no lock. The pass has seen all histories whole, the relation holds of them, each
-    /// entry is of a name below the number of passes, and each value stands for its lock's.
+    /// it is inside no lock. The pass has seen all histories whole, the relation holds of them, and
+    /// each value stands for its lock's.
     pub fn close_with(self, pass: Pass<L>) -> Vec<L::Value>
         requires own { IsOf self pass }
         requires free { (view pass).stage ≡ Free }
         requires all { (m : ℕ) → m < passes_of self → Holds (view pass) m }
         ensures kept { L.kept (start_of self) (view pass).seen }
-        ensures known { (c : ℕ) (e : L.Entry) → Contains (at (view pass).seen c) e → L.session e < passes_of self }
         ensures stand { (length result.items ≡ self.cells) × StandFor L.stands (start_of self) result.items (view pass).seen }
     {
         let Hall {

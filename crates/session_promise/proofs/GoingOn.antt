@@ -10,12 +10,15 @@ use Rattle.notes.specs.Lists.{at, own}
 use Rattle.notes.proofs.Growing.{begins_same}
 use Rattle.tx_events.specs.declared.event.By.{By}
 use Rattle.tx_events.specs.declared.event.Event.{Event}
+use Rattle.tx_events.specs.declared.record.Rec.{Rec}
+use Rattle.tx_events.specs.Running.{open_ids}
 use Rattle.tx_events.specs.Events.{by_of, events_of, given, given_by, given_to, is_of, same_by}
 use Rattle.tx_events.proofs.ListSteps.{all_weaker, below_not, filter_all, filter_in_turn, filter_none, le_or_over, list_any-push}
 use Rattle.tx_events.proofs.Membership.{Has, all_at, all_from, contains_has, filter_has, has_cases, has_contains, has_filter, place_has}
 use Rattle.tx_events.proofs.OwnEvents.{same_by_refl}
 use Rattle.tx_events.proofs.PlaceLemmas.{each_place_push, slice_get-grows}
 use Rattle.tx_model.specs.declared.command.Command.{Command}
+use Rattle.tx_model.specs.declared.command.Command.TheVariants as commands
 use Rattle.tx_model.specs.declared.reply.Reply.{Reply}
 use Rattle.tx_model.specs.declared.report.Line.{Line}
 use Rattle.tx_model.specs.CommandEvents.{HasEvents}
@@ -33,13 +36,15 @@ use Rattle.tx_core.specs.Entries.{history, session_of}
 use Rattle.tx_core.specs.Locks.{log_lock}
 use Rattle.tx_core.proofs.Lasting.{history_grows}
 use Rattle.engine_parts.specs.declared.session.Session.{Session}
+use Rattle.engine_parts.specs.declared.session.Stage.{Stage}
+use Rattle.engine_parts.specs.Adding.{AddsTo, IsRecordBy, MayLeave}
 use Rattle.engine_parts.specs.Answers.{MayAnswer}
 use Rattle.engine_parts.specs.Holds.{Knowledge}
 use Rattle.engine_parts.specs.Sessions.{by_at, stance_of}
 use Rattle.engine_parts.specs.Stages.{pending_in}
 use Rattle.engine_parts.proofs.Answering.{answer_grows}
 use Rattle.session_promise.specs.Told.{Told, between, lines_of, told_in}
-use Rattle.session_promise.specs.Promise.{Answered, IsInRound, IsOwnEntry, IsToldWell, Promise, PromiseGoesOn, SaysLogFault, is_made_level, recs_of}
+use Rattle.session_promise.specs.Promise.{Answered, IsEnd, IsInRound, IsToldWell, Promise, PromiseGoesOn, SaysLogFault, is_made_level, recs_of}
 use Rattle.session_promise.proofs.Bridging.{refused_same, standing_same}
 use Rattle.session_promise.proofs.Growing.{all_lines_of, each_grows, IsUpTo, pending_same, stance_same}
 use Rattle.session_promise.proofs.IdSteps.{bounds_of}
@@ -56,6 +61,12 @@ all_front P (x ∷ xs) ys a = (a.0, all_front P xs ys a.1)
 all_back : {X : Type 0} (P : X → Type 0) (xs ys : List X) → AllByRecursion P (xs ++ ys) → AllByRecursion P ys
 all_back P [] ys a = a
 all_back P (x ∷ xs) ys a = all_back P xs ys a.1
+
+-- the record that a command may append is of an end
+end_of : (command : Command) (s : Stance) (stage : Stage) (opened : List ℕ) (rec : Rec) → IsRecordBy command s stage opened rec → IsEnd rec
+end_of commands.Commit s stage opened rec r = subst IsEnd (sym r.1.is) tt
+end_of commands.Abort s stage opened rec r = subst IsEnd (sym r.1.is) tt
+end_of command s stage opened rec r = absurd r
 
 -- the session's next command, and its line
 module _ (tells : Bool) (start : Start) (v w : Knowledge) (n : ℕ) (past : List Told) (from to : ℕ) (lines : List Line) (command : Command) (reply : Reply) (s s' : Session)
@@ -198,14 +209,21 @@ module _ (tells : Bool) (start : Start) (v w : Knowledge) (n : ℕ) (past : List
       let before = p.ids in
       omega (arith, split, bound, left, more, before)
 
+  -- what the command added to the log
+  abbrev mine : AddsTo by (MayLeave command (stance_of s) s.stage (open_ids n hv) reply log_lock) (at v.seen log_lock) (at w.seen log_lock)
+  mine = a.acted.adds.each log_lock
+
+  abbrev IsMine : Entry → Type 0
+  IsMine e = (e.by ≡ by) × MayLeave command (stance_of s) s.stage (open_ids n hv) reply log_lock e.kind
+
   -- an own entry of the log was there, or is of the command
-  log_cases : (e : Entry) → e.by.session ≡ n → Contains (at w.seen log_lock) e → Contains (at v.seen log_lock) e ⊎ Has a.log.entries e
+  log_cases : (e : Entry) → e.by.session ≡ n → Contains (at w.seen log_lock) e → Contains (at v.seen log_lock) e ⊎ Has mine.added e
   log_cases e own c =
       ⊎_elim
       (λ k. inl (has_contains (at v.seen log_lock) e (has_filter (λ (f : Entry). session_of f == n) (at v.seen log_lock) e k).0))
       inr
-      (has_cases (filter (λ (f : Entry). session_of f == n) (at v.seen log_lock)) a.log.entries e
-      (subst (λ (es : List Entry). Has es e) a.log.own (filter_has (λ (f : Entry). session_of f == n) (at w.seen log_lock) e (contains_has (at w.seen log_lock) e c) (eq-eqb e.by.session n own))))
+      (has_cases (filter (λ (f : Entry). session_of f == n) (at v.seen log_lock)) mine.added e
+      (subst (λ (es : List Entry). Has es e) mine.grown (filter_has (λ (f : Entry). session_of f == n) (at w.seen log_lock) e (contains_has (at w.seen log_lock) e c) (eq-eqb e.by.session n own))))
 
   promise_then : Promise tells start w.seen n (wide ++ t ∷ []) s'
   promise_then = record {
@@ -228,12 +246,12 @@ module _ (tells : Bool) (start : Start) (v w : Knowledge) (n : ℕ) (past : List
     faults = λ b asked count own c.
         subst (λ ls. SaysLogFault ls b) (sym all_are) (⊎_elim
         (λ old. let f = p.faults b asked count own old in (f.0, Contains-append_left (lines_of told) (l ∷ []) f.0 f.1, f.2, f.3))
-        (λ new. let k = all_at (λ (e : Entry). (e.by ≡ by) × IsOwnEntry reply e.kind) a.log.entries (record { by = b; kind = kinds.LogFault asked count }) a.log.each new in (l, Contains-push (lines_of told) l, sym k.0, k.1))
+        (λ new. let k = all_at IsMine mine.added (record { by = b; kind = kinds.LogFault asked count }) mine.each new in (l, Contains-push (lines_of told) l, sym k.0, k.1.1))
         (log_cases (record { by = b; kind = kinds.LogFault asked count }) own c));
     ends = λ b rec own c.
         ⊎_elim
         (λ old. p.ends b rec own old)
-        (λ new. (all_at (λ (e : Entry). (e.by ≡ by) × IsOwnEntry reply e.kind) a.log.entries (record { by = b; kind = kinds.Append rec }) a.log.each new).1)
+        (λ new. end_of command (stance_of s) s.stage (open_ids n hv) rec (all_at IsMine mine.added (record { by = b; kind = kinds.Append rec }) mine.each new).1)
         (log_cases (record { by = b; kind = kinds.Append rec }) own c);
   }
 

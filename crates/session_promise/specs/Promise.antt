@@ -123,18 +123,6 @@ pub record Promise (tells : Bool) (start : Start) (lists : List (List Entry)) (n
 
 -- ---- what keeps it
 
--- an own entry of the log that a command may add which is answered so
-abbrev pub IsOwnEntry : Reply → Kind → Type 0
-IsOwnEntry reply (kinds.LogFault asked count) = reply ≡ replies.Refused refusals.LogFault
-IsOwnEntry reply (kinds.Append rec) = IsEnd rec
-IsOwnEntry reply kind = Unit {0}
-
--- the session's entries in the log's list are those before, and then some of this command
-pub record AddsToLog (by : By) (reply : Reply) (before after : List Entry) : Type 0 where
-  pub entries : List Entry
-  pub own : own session_of by.session after ≡ own session_of by.session before ++ entries
-  pub each : AllByRecursion (λ e. (e.by ≡ by) × IsOwnEntry reply e.kind) entries
-
 -- between these two points the session's next command ran and was answered so
 pub record Answered (tells : Bool) (start : Start) (v w : Knowledge) (n : ℕ) (command : Command) (reply : Reply)
     (s s' : Session) : Type 0 where
@@ -145,7 +133,6 @@ pub record Answered (tells : Bool) (start : Start) (v w : Knowledge) (n : ℕ) (
   pub stage : LeavesStage command reply s.stage s'.stage
   pub fits : IsAskedFor command reply
   pub count : s'.levels.commands ≡ s.levels.commands + 1
-  pub log : AddsToLog (by_at n (s.levels.commands + 1)) reply (at v.seen log_lock) (at w.seen log_lock)
 
 -- a session that has done nothing, whatever others have done
 pub record HasDoneNothing (start : Start) (lists : List (List Entry)) (n : ℕ) (s : Session) : Type 0 where

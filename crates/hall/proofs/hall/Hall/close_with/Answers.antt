@@ -38,8 +38,3 @@ returns-clause-stand g c =
     let w = c.args.pass.fits.wide in let q = ap (λ t. t.slots) c.requires.own.table in let t = c.loop-i-test.false in let i = c.loop-i.auto.i-end in let many = l.many in
     let told = closed_tells _ _ _ _ _ _ _ _ _ _ _ (slots_items row) c.close_with-closed.ensures.values.2 c.requires.free c.requires.all (sees_places _ _ _ _ _ c.args.pass.fits _ _ _ (ap (λ t. t.words) c.requires.own.table ∙ c.args.self.sized.1) c.args.self.places) in
     ((let n = l.count in omega arith), stand_for _ _ _ _ _ _ _ l.back l.items (omega arith) told.1)
-
-pub returns-clause-known : goal.returns-clause-known
-returns-clause-known g c =
-    let row = c.close_with-closed.result.slots in let k = (slots_counts row).0 in let e = c.close_with-closed.ensures.counts.1 in let w = c.args.pass.fits.wide in let q = ap (λ t. t.slots) c.requires.own.table in
-    (closed_tells _ _ _ _ _ _ _ _ _ _ _ (slots_items row) c.close_with-closed.ensures.values.2 c.requires.free c.requires.all (sees_places _ _ _ _ _ c.args.pass.fits _ _ _ (ap (λ t. t.words) c.requires.own.table ∙ c.args.self.sized.1) c.args.self.places)).2

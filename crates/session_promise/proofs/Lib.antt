@@ -18,4 +18,5 @@ pub mod Standing
 pub mod LawfulReplies
 pub mod LawfulSteps
 pub mod LawfulLog
+pub mod Opened
 pub mod LawfulLives

@@ -24,15 +24,16 @@ use Rattle.engine_parts.specs.Adding.{IsPlain, MayLeave}
 use Rattle.engine_parts.specs.Answers.{Acted, MayAnswer}
 use Rattle.engine_parts.specs.Holds.{Knowledge, Learns, Leaves}
 use Rattle.engine_parts.specs.Sessions.{IsAt, by_at, stance_of}
-use Rattle.engine_parts.specs.Standing.{by_standing, refused_by}
+use Rattle.life_law.specs.Refused.{by_standing, refused_by}
 use Rattle.engine_parts.proofs.Adding.{adds_nothing, event_plain, plain_leaves, section_added}
 use Rattle.engine_parts.proofs.Going.{own_events}
 use Rattle.engine_parts.proofs.Refusing.{refused_events, refused_leaves}
+use Rattle.engine_parts.specs.Stages.{pending_in}
 use Rattle.engine_parts.proofs.Leaving.{Added, event_added, grown_left, grows_then, history_same}
 
 -- with one critical section at most, which had no event
 pub acted_looked : {tells : Bool} (start : Start) (v u w : Knowledge) (n lock : ℕ) (s : Session) (s' : Stance) (stage : Stage) (command : Command) (reply : Reply) (e : Entry) → IsAt start v n s → EngineInvariant start u.seen → Learns v u → lock < length v.seen → event_of e ≡ None → e.by ≡ by_at n s.levels.commands → IsPlain lock e.kind → Leaves start lock e u w
-    → HasEvents (by_at n s.levels.commands) (stance_of s) command reply [] → MayAnswer tells start w.seen (alone (history v.seen) (history w.seen)) (by_at n s.levels.commands) (stance_of s) stage command reply → by_standing reply ≡ refused_by command (stance_of s) stage → after (stance_of s) s.levels.commands command reply [] ≡ s'
+    → HasEvents (by_at n s.levels.commands) (stance_of s) command reply [] → MayAnswer tells start w.seen (alone (history v.seen) (history w.seen)) (by_at n s.levels.commands) (stance_of s) stage command reply → by_standing reply ≡ refused_by command (stance_of s) (pending_in stage) → after (stance_of s) s.levels.commands command reply [] ≡ s'
     → Acted tells start (by_at n s.levels.commands) (stance_of s) s' stage command reply v.seen w.seen
 acted_looked start v u w n lock s s' stage command reply e a k learns inside looks mine plain l fitting allowed standing left =
     let long = learns.long in
@@ -52,7 +53,7 @@ acted_looked start v u w n lock s s' stage command reply e a k learns inside loo
 
 -- with one critical section, of the ProcArray, which had this event
 pub acted_event : {tells : Bool} (start : Start) (v u w : Knowledge) (n : ℕ) (s : Session) (s' : Stance) (command : Command) (reply : Reply) (e : Entry) (event : Event) → IsAt start v n s → EngineInvariant start u.seen → Learns v u → event_of e ≡ Some event → by_of event ≡ by_at n s.levels.commands → e.by ≡ by_at n s.levels.commands → Leaves start proc_lock e u w
-    → HasEvents (by_at n s.levels.commands) (stance_of s) command reply (event ∷ []) → MayAnswer tells start w.seen (alone (history v.seen) (history w.seen)) (by_at n s.levels.commands) (stance_of s) s.stage command reply → by_standing reply ≡ refused_by command (stance_of s) s.stage → after (stance_of s) s.levels.commands command reply (given (event ∷ [])) ≡ s'
+    → HasEvents (by_at n s.levels.commands) (stance_of s) command reply (event ∷ []) → MayAnswer tells start w.seen (alone (history v.seen) (history w.seen)) (by_at n s.levels.commands) (stance_of s) s.stage command reply → by_standing reply ≡ refused_by command (stance_of s) (pending_in s.stage) → after (stance_of s) s.levels.commands command reply (given (event ∷ [])) ≡ s'
     → Acted tells start (by_at n s.levels.commands) (stance_of s) s' s.stage command reply v.seen w.seen
 acted_event start v u w n s s' command reply e event a k learns is own mine l fitting allowed standing left =
     let by = by_at n s.levels.commands in
@@ -71,7 +72,7 @@ acted_event start v u w n s s' command reply e event a k learns is own mine l fi
 
 -- with none
 pub acted_nothing : {tells : Bool} (start : Start) (lists lists' : List (List Entry)) (n number : ℕ) (s s' : Stance) (stage : Stage) (command : Command) (reply : Reply) → lists' ≡ lists → HasEvents (by_at n number) s command reply []
-    → MayAnswer tells start lists (alone (history lists) (history lists)) (by_at n number) s stage command reply → by_standing reply ≡ refused_by command s stage → after s number command reply [] ≡ s' → Acted tells start (by_at n number) s s' stage command reply lists lists'
+    → MayAnswer tells start lists (alone (history lists) (history lists)) (by_at n number) s stage command reply → by_standing reply ≡ refused_by command s (pending_in stage) → after s number command reply [] ≡ s' → Acted tells start (by_at n number) s s' stage command reply lists lists'
 acted_nothing {tells = tells} start lists lists' n number s s' stage command reply same fitting allowed standing left =
     subst (λ z. Acted tells start (by_at n number) s s' stage command reply lists z) (sym same) (record {
       grows = record { begins = λ q. begins_same (at lists q) };
@@ -87,7 +88,7 @@ acted_nothing {tells = tells} start lists lists' n number s s' stage command rep
 
 -- with none, and refused
 pub acted_refused : {tells : Bool} (start : Start) (lists lists' : List (List Entry)) (n number : ℕ) (s s' : Stance) (stage : Stage) (command : Command) (r : Refusal) → lists' ≡ lists → s' ≡ s
-    → MayAnswer tells start lists (alone (history lists) (history lists)) (by_at n number) s stage command (replies.Refused r) → by_standing (replies.Refused r) ≡ refused_by command s stage → Acted tells start (by_at n number) s s' stage command (replies.Refused r) lists lists'
+    → MayAnswer tells start lists (alone (history lists) (history lists)) (by_at n number) s stage command (replies.Refused r) → by_standing (replies.Refused r) ≡ refused_by command s (pending_in stage) → Acted tells start (by_at n number) s s' stage command (replies.Refused r) lists lists'
 acted_refused {tells = tells} start lists lists' n number s s' stage command r same stays allowed standing =
     acted_nothing {tells = tells} start lists lists' n number s s' stage command (replies.Refused r) same (refused_events (by_at n number) s command r) allowed standing
     (refused_leaves s number command r ∙ sym stays)

@@ -24,10 +24,12 @@ use Rattle.engine_parts.specs.Calls.{IsCounted, MayRun, MayStep, Ran, next_comma
 use Rattle.engine_parts.specs.Holds.{Knowledge}
 use Rattle.engine_parts.specs.Sessions.{MayCall, by_at, stance_of}
 use Rattle.engine_parts.specs.Stages.{pending_in}
-use Rattle.engine_parts.specs.Standing.{LeavesStage, by_standing, is_by_standing, refused_by}
+use Rattle.life_law.specs.Refused.{by_standing, is_by_standing, refused_by}
+use Rattle.engine_parts.specs.Standing.{LeavesStage}
 use Rattle.engine_parts.proofs.Acting.{acted_refused}
 use Rattle.engine_parts.proofs.Going.{ready_next}
 use Rattle.engine_parts.proofs.Pending.{pending_answer}
+use Rattle.engine_parts.proofs.Beholding.{held_standing}
 use Rattle.engine_parts.proofs.Refusing.{is_pending, pending_stands, stands_still}
 
 module _ {H L P : Type 0} {l : logs.Ghosts L} {p : disks.Ghosts P} (hall : Hall H (Part L P l p) Entry Start) where
@@ -54,11 +56,13 @@ module _ {H L P : Type 0} {l : logs.Ghosts L} {p : disks.Ghosts P} (hall : Hall 
         acted = subst (λ (z : ((Stance × Stage) × List (List Entry)) × (ℕ × ℕ)). Acted (p.tells) (start_of hall) (by_at z.1.0 z.1.1) z.0.0.0 (stance_of new.session) z.0.0.1 command reply z.0.1 (view new.pass).seen)
             (λ j. (((levels.stance_of (c.levels j), c.stage j), (view (c.pass j)).seen), (c.number j, counted j))) r.acted;
         stage = subst (λ (z : Stage). LeavesStage command reply z new.session.stage) c.stage r.stage;
+        held = r.held;
+        still = λ q by. r.still q by ∙ ap (λ p. (view p).seen) c.pass;
         count = (r.count.0 ∙ counted, r.count.1 ∙ c.number);
       }
 
   -- a command that is refused before any critical section
-  pub ran_refused : {banks : ℕ} (old u : Caller L P l p) (command : Command) (r : Refusal) → IsCounted old u → MayRun hall banks old → is_by_standing r ≡ true → by_standing (replies.Refused r) ≡ refused_by command (stance_of old.session) old.session.stage
+  pub ran_refused : {banks : ℕ} (old u : Caller L P l p) (command : Command) (r : Refusal) → IsCounted old u → MayRun hall banks old → is_by_standing r ≡ true → by_standing (replies.Refused r) ≡ refused_by command (stance_of old.session) (pending_in old.session.stage)
       → MayAnswer (p.tells) (start_of hall) (view old.pass).seen (alone (history (view old.pass).seen) (history (view old.pass).seen)) (by_at old.number (next_command old)) (stance_of old.session) old.session.stage command (replies.Refused r)
       → Ran hall (next_command old) command (replies.Refused r) old u
   ran_refused old u command r c m by standing allowed = record {
@@ -66,11 +70,13 @@ module _ {H L P : Type 0} {l : logs.Ghosts L} {p : disks.Ghosts P} (hall : Hall 
     may = may_counted old u c m;
     acted = acted_refused (start_of hall) (view old.pass).seen (view u.pass).seen old.number (next_command old) (stance_of old.session) (stance_of u.session) old.session.stage command r (ap (λ p. (view p).seen) c.pass) (ap levels.stance_of c.levels) allowed standing;
     stage = stands_still command r old.session.stage u.session.stage by c.stage;
+    held = held_standing (start_of hall) (view u.pass).seen r u.session.stage by;
+    still = λ q is. ap (λ p. (view p).seen) c.pass;
     count = (ap (λ z. z.commands) c.levels, c.number);
   }
 
   -- by an end that was begun
-  pub ran_held : {banks : ℕ} (old u : Caller L P l p) (command : Command) (r : Refusal) → IsCounted old u → MayRun hall banks old → pending_in old.session.stage ≡ Some r → refused_by command (stance_of old.session) old.session.stage ≡ Some r
+  pub ran_held : {banks : ℕ} (old u : Caller L P l p) (command : Command) (r : Refusal) → IsCounted old u → MayRun hall banks old → pending_in old.session.stage ≡ Some r → refused_by command (stance_of old.session) (pending_in old.session.stage) ≡ Some r
       → Ran hall (next_command old) command (replies.Refused r) old u
   ran_held old u command r c m pending refused =
       let h : List Event = history (view old.pass).seen in

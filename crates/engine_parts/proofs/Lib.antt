@@ -14,6 +14,7 @@ pub mod Refusing
 pub mod Acting
 pub mod Calling
 pub mod Pending
+pub mod Beholding
 pub mod Stepping
 pub mod Newness
 pub mod Placing

@@ -14,7 +14,8 @@ use Rattle.tx_model.specs.Stance.{Stance, after, filled}
 use Rattle.engine_parts.specs.declared.session.Stage.{Stage}
 use Rattle.engine_parts.specs.declared.session.Stage.TheVariants as stages
 use Rattle.engine_parts.specs.Stages.{pending_in}
-use Rattle.engine_parts.specs.Standing.{IsLeftBy, LeavesStage, by_standing, is_by_standing, moves_end}
+use Rattle.life_law.specs.Refused.{by_standing, is_by_standing}
+use Rattle.engine_parts.specs.Standing.{IsLeftBy, LeavesStage, moves_end}
 
 -- of two refusals: the first where its condition holds, and else the second
 pub first_holds : (b : Bool) (r : Refusal) (second : Option Refusal) → b ≡ true → option_or (then_some b r) second ≡ Some r

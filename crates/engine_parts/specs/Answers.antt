@@ -26,7 +26,9 @@ use Rattle.engine_parts.specs.declared.session.Stage.TheVariants as stages
 use Rattle.engine_parts.specs.Adding.{Adds, MayLeave}
 use Rattle.engine_parts.specs.Faults.{flush_fault_by}
 use Rattle.engine_parts.specs.Stand.{IsDownAt}
-use Rattle.engine_parts.specs.Standing.{IsHeldDown, appends, asks_volume, by_standing, flushes, needs_log, refused_by, takes_memory}
+use Rattle.life_law.specs.Refused.{by_standing, refused_by}
+use Rattle.engine_parts.specs.Stages.{pending_in}
+use Rattle.engine_parts.specs.Standing.{IsHeldDown, appends, asks_volume, flushes, needs_log, takes_memory}
 
 -- the volume behind a bank failed, and this command was hit
 pub record MetFault (lists : List (List Entry)) (lock : ℕ) (by : By) : Type 0 where
@@ -70,7 +72,7 @@ MayAnswer tells start lists span by s stage command (replies.Refused refusals.Me
     IsTrue (takes_memory command s stage)
 MayAnswer tells start lists span by s stage command (replies.Refused refusals.Full) = IsTrue (appends command s stage)
 MayAnswer tells start lists span by s stage command (replies.Refused (refusals.DiskFault lock)) =
-    IsTrue (asks_volume command stage lock) × MetFault lists (number_of lock) by
+    IsTrue (asks_volume command s stage lock) × MetFault lists (number_of lock) by
 MayAnswer tells start lists span by s stage command (replies.Refused refusals.LogFault) =
     IsTrue (flushes command s stage) × MetLogFault lists by
 MayAnswer tells start lists span by s stage command (replies.Refused (refusals.LogDown down)) =
@@ -93,7 +95,7 @@ pub record Acted (tells : Bool) (start : Start) (by : By) (s s' : Stance) (stage
   pub fitting : HasEvents by s command reply added
   pub adds : Adds by (MayLeave command s stage (open_ids by.session (history lists)) reply) lists lists'
   pub allowed : MayAnswer tells start lists' (alone (history lists) (history lists')) by s stage command reply
-  pub standing : by_standing reply ≡ refused_by command s stage
+  pub standing : by_standing reply ≡ refused_by command s (pending_in stage)
   pub left : after s by.command command reply (given added) ≡ s'
 
 -- the reply of a result

@@ -1,18 +1,34 @@
 -- What a call asks of its caller, and what it does.
-use Rattle.std.specs.Prelude.{◌≡◌, ℕ, ◌+◌, ◌*◌, ◌^◌, ◌<◌, ◌≤◌}
+use Rattle.std.specs.Prelude.{◌≡◌, ℕ, ◌+◌, ◌*◌, ◌^◌, ◌<◌, ◌≤◌, List, Some}
 use Rattle.disk_core.specs.declared.log_disk.LogDisk as logs
 use Rattle.disk_core.specs.declared.page_disk.PageDisk as disks
 use Rattle.hall.specs.declared.hall.Hall.{Hall}
 use Rattle.hall.specs.Calls.{IsOf, start_of, view}
+use Rattle.notes.specs.Lists.{at}
+use Rattle.tx_events.specs.declared.refusal.Refusal.{Refusal}
+use Rattle.tx_events.specs.declared.refusal.Refusal.TheVariants as refusals
 use Rattle.tx_model.specs.declared.command.Command.{Command}
 use Rattle.tx_model.specs.declared.reply.Reply.{Reply}
+use Rattle.tx_model.specs.declared.reply.Reply.TheVariants as replies
+use Rattle.life_law.specs.Refused.{by_standing}
 use Rattle.tx_core.specs.declared.entry.Entry.{Entry}
 use Rattle.tx_core.specs.declared.entry.Start.{Start}
+use Rattle.tx_core.specs.Locks.{log_lock}
 use Rattle.engine_parts.specs.declared.part.Part.{Part}
 use Rattle.engine_parts.specs.declared.session.Caller.{Caller}
+use Rattle.engine_parts.specs.declared.session.Stage.{Stage}
 use Rattle.engine_parts.specs.Answers.{Acted}
 use Rattle.engine_parts.specs.Sessions.{MayCall, by_at, stance_of}
-use Rattle.engine_parts.specs.Standing.{LeavesStage}
+use Rattle.engine_parts.specs.Stand.{IsDownAt}
+use Rattle.engine_parts.specs.Standing.{IsHeldDown, LeavesStage}
+
+-- Behind a log that is down, or that this command's fault put down, a record of the session that stands there is held
+-- down: it isn't among those that were on disk by then.
+abbrev pub IsHeldBehind : Start → List (List Entry) → Reply → Stage → Type 0
+IsHeldBehind start lists (replies.Refused refusals.LogFault) new =
+    (down : ℕ) × IsDownAt start (at lists log_lock) down × IsHeldDown new down
+IsHeldBehind start lists (replies.Refused (refusals.LogDown down)) new = IsHeldDown new down
+IsHeldBehind start lists reply new = Unit {0}
 
 module _ {L P : Type 0} {l : logs.Ghosts L} {p : disks.Ghosts P} where
   -- the number of the session's next command
@@ -49,4 +65,7 @@ module _ {H L P : Type 0} {l : logs.Ghosts L} {p : disks.Ghosts P} where
     pub acted : Acted (p.tells) (start_of hall) (by_at old.number number) (stance_of old.session)
         (stance_of new.session) old.session.stage command reply (view old.pass).seen (view new.pass).seen
     pub stage : LeavesStage command reply old.session.stage new.session.stage
+    pub held : IsHeldBehind (start_of hall) (view new.pass).seen reply new.session.stage
+    -- a command that is refused by how its session stands enters no lock
+    pub still : (r : Refusal) → by_standing reply ≡ Some r → (view new.pass).seen ≡ (view old.pass).seen
     pub count : (new.session.levels.commands ≡ number) × (new.number ≡ old.number)

@@ -17,7 +17,7 @@ use Rattle.tx_core.specs.declared.entry.Entry.{Entry}
 use Rattle.tx_core.specs.declared.entry.Kind.TheVariants as kinds
 use Rattle.tx_core.specs.declared.entry.Start.{Start}
 use Rattle.tx_core.specs.declared.entry.State.TheVariants as states
-use Rattle.tx_core.specs.Entries.{IsLinked, appended, history, records_in, records_of, recs_in, session_of}
+use Rattle.tx_core.specs.Entries.{IsLinked, appended, history, records_in, records_of, recs_in, session_of, flushed_to}
 use Rattle.tx_core.specs.Laws.{StaysBase}
 use Rattle.tx_core.specs.Locks.{log_lock}
 use Rattle.tx_core.proofs.EventLaws.{commit_record_law}
@@ -35,7 +35,7 @@ use Rattle.wal_core.specs.Opening.{number_fits}
 use Rattle.engine_parts.specs.declared.session.Session.{Session}
 use Rattle.engine_parts.specs.declared.session.Stage.TheVariants as stages
 use Rattle.engine_parts.specs.Holds.{Knowledge, Learns, Leaves, Section}
-use Rattle.engine_parts.specs.Faults.{look_of}
+use Rattle.engine_parts.specs.Faults.{look_of, flush_fault_by}
 use Rattle.engine_parts.specs.Law.{MayKeep}
 use Rattle.engine_parts.specs.Parts.{IsLogOf}
 use Rattle.engine_parts.specs.Sessions.{IsAt, IsReady, IsThe, MayCall, by_at, inner_id}
@@ -43,8 +43,9 @@ use Rattle.engine_parts.specs.Stages.{AreUnasked, IsAppendedAt, IsInStage, may_b
 use Rattle.engine_parts.specs.Stand.{IsDownAt}
 use Rattle.session_levels.proofs.HeadLemmas.{first_top}
 use Rattle.engine_parts.proofs.Leaving.{asks_nothing}
-use Rattle.engine_parts.proofs.Logging.{failed_more, recs_same, up_more}
+use Rattle.engine_parts.proofs.Logging.{failed_more, recs_same, up_more, failed_here}
 use Rattle.tx_core.specs.StaysDown.{IsUp, is_put_down}
+use Rattle.tx_core.specs.declared.entry.LogCall.TheVariants as calls
 use Rattle.log_sections.specs.LogSections.{FlushRefused, IsAppendRefused, IsCommitOf, IsFlushRefused, IsRefusalOf}
 
 abbrev pub append_entry : By → Rec → Entry
@@ -104,6 +105,12 @@ call_recorded start v u w n n' number s s' rec m clear r learns inside l is same
 -- the log was down before, and so it is behind an entry more
 pub down_left : (start : Start) (u w : Knowledge) (e : Entry) (down : ℕ) → log_lock < length u.seen → Leaves start log_lock e u w → IsDownAt start (at u.seen log_lock) down → IsDownAt start (at w.seen log_lock) down
 down_left start u w e down inside l d = subst (λ (t : List Entry). IsDownAt start t down) (sym (ap (λ (z : List (List Entry)). at z log_lock) l.seen ∙ at_here u.seen log_lock e inside)) (failed_more start (at u.seen log_lock) e down d)
+
+-- the log is down behind a flush that failed, at what was flushed then
+pub fault_left : (start : Start) (u w : Knowledge) (by : By) (count : ℕ) → log_lock < length u.seen → Leaves start log_lock (flush_fault_by by count) u w → IsDownAt start (at w.seen log_lock) (flushed_to start (at u.seen log_lock))
+fault_left start u w by count inside l =
+    subst (λ (t : List Entry). IsDownAt start t (flushed_to start (at u.seen log_lock))) (sym (ap (λ (z : List (List Entry)). at z log_lock) l.seen ∙ at_here u.seen log_lock (flush_fault_by by count) inside))
+    (failed_here start (at u.seen log_lock) by calls.Flush count (flushed_to start (at u.seen log_lock)) refl refl)
 
 -- the log wasn't down, and so it isn't behind an entry more that doesn't put it down
 pub up_left : (start : Start) (u w : Knowledge) (e : Entry) → log_lock < length u.seen → Leaves start log_lock e u w → is_put_down e.kind ≡ false → IsUp (at u.seen log_lock) → IsUp (at w.seen log_lock)

@@ -66,10 +66,11 @@ AppendSection start by rec v w (Err r) = Section start log_lock (look_of by) v w
 abbrev pub IsFlushedPast : List (List Entry) → ℕ → Type 0
 IsFlushedPast lists number = (to : ℕ) × (number < to) × Stands lists log_lock (kinds.Flush to)
 
--- Why the log wasn't flushed past this number: its volume failed in this command, or it is down behind a fault of its
--- list, with no more on disk than what comes before the number.
+-- Why the log wasn't flushed past this number: its volume failed in this command, or it was down before, and either way
+-- it is down behind a fault of its list, with no more on disk by then than what comes before the number.
 abbrev pub IsFlushRefused : Start → List (List Entry) → By → ℕ → Refusal → Type 0
-IsFlushRefused start lists by number refusals.LogFault = MetLogFault lists by
+IsFlushRefused start lists by number refusals.LogFault =
+    MetLogFault lists by × ((down : ℕ) × IsDownAt start (at lists log_lock) down × (down ≤ number))
 IsFlushRefused start lists by number (refusals.LogDown down) = IsDownAt start (at lists log_lock) down × (down ≤ number)
 IsFlushRefused start lists by number _ = ⊥
 

@@ -45,7 +45,6 @@ use Rattle.engine_parts.specs.Stages.{pending_in}
 use Rattle.engine_parts.proofs.Answering.{answer_grows}
 use Rattle.session_promise.specs.Told.{Told, between, lines_of, told_in}
 use Rattle.session_promise.specs.Promise.{Answered, IsEnd, IsInRound, IsToldWell, Promise, PromiseGoesOn, SaysLogFault, is_made_level, recs_of}
-use Rattle.session_promise.proofs.Bridging.{refused_same, standing_same}
 use Rattle.session_promise.proofs.Growing.{all_lines_of, each_grows, IsUpTo, pending_same, stance_same}
 use Rattle.session_promise.proofs.IdSteps.{bounds_of}
 use Rattle.session_promise.proofs.Known.{known_of}
@@ -176,7 +175,7 @@ module _ (tells : Bool) (start : Start) (v w : Knowledge) (n : ℕ) (past : List
     within = (let g = longer in omega (arith, low, g), omega arith);
     stage = s.stage;
     pending_is = sym pending_before;
-    standing = sym (standing_same reply) ∙ (a.acted.standing ∙ (refused_same command (stance_of s) s.stage ∙ ap (λ z. refused_by command z (pending_in s.stage)) (sym stance_before)));
+    standing = a.acted.standing ∙ ap (λ z. refused_by command z (pending_in s.stage)) (sym stance_before);
     answer = subst (λ z. MayAnswer tells start w.seen (between from (length hw)) by z s.stage command reply) (sym stance_before)
         (answer_grows tells start w.seen w.seen (alone hv hw) (between from (length hw)) by (stance_of s) s.stage command reply low (omega arith) (omega arith) (record { begins = λ q. begins_same (at w.seen q) })
         (λ rest q. subst (AllByRecursion (λ e. (by_of e).session ≡ n → by.command < (by_of e).command)) (append_cancel_left hw [] rest (append-nil hw ∙ sym q)) tt) a.acted.allowed);

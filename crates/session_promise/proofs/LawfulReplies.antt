@@ -71,22 +71,22 @@ needs : (command : Command) (s : Stance) (stage : Stage) → IsTrue (has_command
 needs (commands.Multi members) s stage h t = absurd (false≢true h)
 needs command s stage h t = logs command s stage h t
 
-asks : (command : Command) (stage : Stage) (lock : Lock) → IsTrue (has_command command) → IsTrue (asks_volume command stage lock) → IsTrue (may_ask command (pending_in stage) lock)
-asks commands.Write stage (locks.Xact bank) h t = refl
-asks commands.Write stage (locks.Subtrans bank) h t = refl
-asks commands.Commit stage (locks.Xact bank) h t = refl
-asks commands.Commit stages.Clear (locks.Subtrans bank) h t = refl
-asks commands.Undo stage (locks.Xact bank) h t = refl
-asks commands.Abort stage (locks.Xact bank) h t = refl
-asks (commands.See name x) stage (locks.Xact bank) h t = refl
-asks (commands.See name x) stage (locks.Subtrans bank) h t = refl
-asks (commands.Status x) stage lock h t = absurd (false≢true h)
-asks (commands.Did x) stage lock h t = absurd (false≢true h)
-asks (commands.Multi members) stage lock h t = absurd (false≢true h)
-asks (commands.SeeMulti name multi) stage lock h t = absurd (false≢true h)
-asks (commands.MultiFreeze multi) stage lock h t = absurd (false≢true h)
-asks commands.Trim stage lock h t = absurd (false≢true h)
-asks command stage lock h t = absurd (false≢true t)
+asks : (command : Command) (s : Stance) (stage : Stage) (lock : Lock) → IsTrue (has_command command) → IsTrue (asks_volume command s stage lock) → IsTrue (may_ask command (pending_in stage) lock)
+asks commands.Write s stage (locks.Xact bank) h t = refl
+asks commands.Write s stage (locks.Subtrans bank) h t = refl
+asks commands.Commit s stage (locks.Xact bank) h t = refl
+asks commands.Commit s stages.Clear (locks.Subtrans bank) h t = refl
+asks commands.Undo s stage (locks.Xact bank) h t = refl
+asks commands.Abort s stage (locks.Xact bank) h t = refl
+asks (commands.See name x) s stage (locks.Xact bank) h t = refl
+asks (commands.See name x) s stage (locks.Subtrans bank) h t = refl
+asks (commands.Status x) s stage lock h t = absurd (false≢true h)
+asks (commands.Did x) s stage lock h t = absurd (false≢true h)
+asks (commands.Multi members) s stage lock h t = absurd (false≢true h)
+asks (commands.SeeMulti name multi) s stage lock h t = absurd (false≢true h)
+asks (commands.MultiFreeze multi) s stage lock h t = absurd (false≢true h)
+asks commands.Trim s stage lock h t = absurd (false≢true h)
+asks command s stage lock h t = absurd (false≢true t)
 
 bank_of : (start : Start) (lock : Lock) → IsPageLock start (number_of lock) → IsBank start.banks lock
 bank_of start locks.Log p = let f = p.from in absurd (omega (arith, f))
@@ -143,7 +143,7 @@ module _ (tells : Bool) (start : Start) (lists : List (List Entry)) (rounds : Li
   pub lawful_reply : (span : RoundSpan) (by : By) (s : Stance) (stage : Stage) (command : Command) (reply : Reply) → IsAskedFor command reply → MayAnswer tells start lists span by s stage command reply → IsLawfulReply facts span by s (pending_in stage) command reply
   lawful_reply span by s stage command (replies.Refused refusals.Memory) f a = lacks command s stage f.0 a
   lawful_reply span by s stage command (replies.Refused refusals.Full) f a = fills_log command s stage f.0 a
-  lawful_reply span by s stage command (replies.Refused (refusals.DiskFault lock)) f a = (asks command stage lock f.0 a.0, fault_at start lists lock by over.kept a.1)
+  lawful_reply span by s stage command (replies.Refused (refusals.DiskFault lock)) f a = (asks command s stage lock f.0 a.0, fault_at start lists lock by over.kept a.1)
   lawful_reply span by s stage command (replies.Refused refusals.LogFault) f a = logs command s stage f.0 a.0
   lawful_reply span by s stage command (replies.Refused (refusals.LogDown down)) f a = (needs command s stage f.0 a.0, down_flushed start lists down over.kept a.1, failed down a.1)
   lawful_reply span by s stage command (replies.Refused refusals.CommitPending) f a = tt

@@ -7,7 +7,6 @@ pub mod PendingFollows
 pub mod RecordPlaces
 pub mod Known
 pub mod IdSteps
-pub mod Bridging
 pub mod GoingOn
 pub mod Beginning
 pub mod Parting

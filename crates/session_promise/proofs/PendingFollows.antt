@@ -19,7 +19,8 @@ use Rattle.engine_parts.specs.declared.session.Stage.{Stage}
 use Rattle.engine_parts.specs.declared.session.Stage.TheVariants as stages
 use Rattle.engine_parts.specs.Answers.{MayAnswer}
 use Rattle.engine_parts.specs.Stages.{may_be_recorded, pending_in}
-use Rattle.engine_parts.specs.Standing.{IsLeftAt, IsLeftBy, IsLoggedFrom, LeavesStage, is_by_standing, is_unflushed}
+use Rattle.engine_parts.specs.Standing.{IsLeftAt, IsLeftBy, IsLoggedFrom, LeavesStage, is_unflushed}
+use Rattle.life_law.specs.Refused.{is_by_standing}
 use Rattle.session_promise.specs.Promise.{IsToAsker}
 
 -- whether the log has a commit record of the session's top

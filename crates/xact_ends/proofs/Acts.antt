@@ -41,11 +41,12 @@ use Rattle.engine_parts.specs.declared.session.Stage.{Stage}
 use Rattle.engine_parts.specs.declared.session.Stage.TheVariants as stages
 use Rattle.engine_parts.specs.Adding.{Adds, IsCommitOf, IsRecordBy, IsToldBy, MayAdd, MayLeave}
 use Rattle.engine_parts.specs.Answers.{Acted, MayAnswer, reply_of}
-use Rattle.engine_parts.specs.Calls.{Ran}
+use Rattle.engine_parts.specs.Calls.{Ran, IsHeldBehind}
 use Rattle.engine_parts.specs.Holds.{Knowledge}
 use Rattle.engine_parts.specs.Sessions.{IsAt, MayCall, by_at, stance_of}
 use Rattle.engine_parts.specs.Stages.{may_be_recorded, pending_in}
-use Rattle.engine_parts.specs.Standing.{IsLoggedFrom, LeavesStage, asks_volume, flushes, held_by, is_by_standing, is_unflushed, is_unrecorded, refused_by}
+use Rattle.life_law.specs.Refused.{held_by, is_by_standing, refused_by, by_standing}
+use Rattle.engine_parts.specs.Standing.{IsLoggedFrom, LeavesStage, asks_volume, flushes, is_unflushed, is_unrecorded}
 use Rattle.engine_parts.specs.Steps.{GoesOn}
 use Rattle.engine_parts.proofs.Acting.{acted_nothing}
 use Rattle.engine_parts.proofs.Adding.{may_wider}
@@ -55,6 +56,7 @@ use Rattle.proc_sections.proofs.Closing.{end_by}
 use Rattle.xact_ends.specs.Aborts.{Aborts}
 use Rattle.xact_ends.specs.Ends.{Commits, HasFinished, IsClosed}
 use Rattle.xact_ends.specs.Stops.{IsUnflushed, Stops}
+use Rattle.engine_parts.proofs.Beholding.{not_standing}
 use Rattle.xact_ends.proofs.Added.{told_reply}
 
 -- ---- levels
@@ -70,15 +72,15 @@ has_top ls top is none = none_some top (sym (ap top_level none) ∙ is)
     none_some top e = cc
 
 -- a command that ends the transaction isn't refused where no other end holds it
-pub not_refused : (how : XactEnd) (s : Stance) (stage : Stage) → 1 ≤ length s.levels → held_by (end_command how) stage ≡ None → refused_by (end_command how) s stage ≡ None
+pub not_refused : (how : XactEnd) (s : Stance) (stage : Stage) → 1 ≤ length s.levels → held_by (end_command how) (pending_in stage) ≡ None → refused_by (end_command how) s (pending_in stage) ≡ None
 not_refused how s stage some free = of how free
   where
     apart : (length s.levels == 0) ≡ false
     apart = ne_eqb (length s.levels) 0 (λ e. absurd (omega arith))
 
-    of : (how : XactEnd) → held_by (end_command how) stage ≡ None → refused_by (end_command how) s stage ≡ None
-    of ends.Commit free = first_fails (length s.levels == 0) refusals.NoTransaction _ apart ∙ not_held (held_by commands.Commit stage) None free
-    of ends.Abort free = first_fails (length s.levels == 0) refusals.NoTransaction _ apart ∙ not_held (held_by commands.Abort stage) None free
+    of : (how : XactEnd) → held_by (end_command how) (pending_in stage) ≡ None → refused_by (end_command how) s (pending_in stage) ≡ None
+    of ends.Commit free = first_fails (length s.levels == 0) refusals.NoTransaction _ apart ∙ not_held (held_by commands.Commit (pending_in stage)) None free
+    of ends.Abort free = first_fails (length s.levels == 0) refusals.NoTransaction _ apart ∙ not_held (held_by commands.Abort (pending_in stage)) None free
 
 -- ---- the transaction ended
 
@@ -98,7 +100,7 @@ left_done : (how : XactEnd) (s : Stance) (number : ℕ) (ids : List ℕ) → aft
 left_done ends.Commit s number ids = refl
 left_done ends.Abort s number ids = refl
 
-pub acted_finished : {tells : Bool} (start : Start) (n : ℕ) (how : XactEnd) (h : List Event) (s s' : Session) (stage : Stage) (lists more : List (List Entry)) → Nest h s.levels.open_ids.items s.levels.level_ids.items → 1 ≤ length s.levels.open_ids.items → held_by (end_command how) stage ≡ None → HasFinished n how s s' lists more
+pub acted_finished : {tells : Bool} (start : Start) (n : ℕ) (how : XactEnd) (h : List Event) (s s' : Session) (stage : Stage) (lists more : List (List Entry)) → Nest h s.levels.open_ids.items s.levels.level_ids.items → 1 ≤ length s.levels.open_ids.items → held_by (end_command how) (pending_in stage) ≡ None → HasFinished n how s s' lists more
     → Adds (by_at n s.levels.commands) (MayLeave (end_command how) (stance_of s) stage (open_ids n (history lists)) replies.Done) lists more
     → Acted tells start (by_at n s.levels.commands) (stance_of s) (stance_of s') stage (end_command how) replies.Done lists more
 acted_finished {tells = tells} start n how h s s' stage lists more nest some free f adds =
@@ -141,9 +143,13 @@ logged_from stages.Undoing new q = absurd (let e : stages.Undoing ≡ stages.Cle
 unrecorded : (s : Stance) (top : ℕ) (old : Stage) → top_level s.levels ≡ Some top → old ≡ stages.Clear → IsTrue (is_unrecorded s old)
 unrecorded s top old level is = subst (λ (z : Stage). IsTrue (is_unrecorded s z)) (sym is) (subst (λ (o : Option ℕ). IsTrue (is_some o)) (sym level) refl)
 
+-- the transaction has an id
+some_top : (s : Stance) (top : ℕ) → top_level s.levels ≡ Some top → IsTrue (is_some (top_level s.levels))
+some_top s top level = subst (λ (o : Option ℕ). IsTrue (is_some o)) (sym level) refl
+
 stops_answer : (tells : Bool) (start : Start) (lists : List (List Entry)) (span : RoundSpan) (by : By) (s : Stance) (top : ℕ) (old new : Stage) (r : Refusal) → top_level s.levels ≡ Some top → Stops start lists by old new r → MayAnswer tells start lists span by s old commands.Commit (replies.Refused r)
-stops_answer tells start lists span by s top old new (refusals.DiskFault (locks.Xact bank)) level c = (refl, c.0)
-stops_answer tells start lists span by s top old new (refusals.DiskFault (locks.Subtrans bank)) level c = (subst (λ (z : Stage). IsTrue (asks_volume commands.Commit z (locks.Subtrans bank))) (sym c.1) refl, c.0)
+stops_answer tells start lists span by s top old new (refusals.DiskFault (locks.Xact bank)) level c = (some_top s top level, c.0)
+stops_answer tells start lists span by s top old new (refusals.DiskFault (locks.Subtrans bank)) level c = (subst (λ (z : Stage). IsTrue (asks_volume commands.Commit s z (locks.Subtrans bank))) (sym c.1) (some_top s top level), c.0)
 stops_answer tells start lists span by s top old new refusals.LogFault level c = (unflushed s top old level (logged_from old new c.1), c.0)
 stops_answer tells start lists span by s top old new (refusals.LogDown down) level c = (unflushed s top old level c.2, c.0, c.1)
 stops_answer tells start lists span by s top old new refusals.Full level c = unrecorded s top old level c.0
@@ -168,8 +174,17 @@ stops_stage start lists by old new refusals.Full c = c.1
 stops_stage start lists by old new refusals.Memory c = c.1
 stops_stage start lists by old new _ c = absurd c
 
+stops_held : (start : Start) (lists : List (List Entry)) (by : By) (old new : Stage) (r : Refusal) → Stops start lists by old new r → IsHeldBehind start lists (replies.Refused r) new
+stops_held start lists by old new refusals.LogFault c = c.2
+stops_held start lists by old new (refusals.LogDown down) c = c.4
+stops_held start lists by old new _ c = tt
+
+-- a refusal that isn't by how the session stands
+pub else_none : (r : Refusal) → is_by_standing r ≡ false → by_standing (replies.Refused r) ≡ None
+else_none r apart = ap (λ (b : Bool). then_some b r) apart
+
 -- the lists went on, and the command was refused by none of how its session stands
-pub acted_stopped : {tells : Bool} (start : Start) (n : ℕ) (s s' : Session) (stage : Stage) (command : Command) (r : Refusal) (lists more : List (List Entry)) → GoesOn n [] lists more → s'.levels ≡ s.levels → is_by_standing r ≡ false → refused_by command (stance_of s) stage ≡ None
+pub acted_stopped : {tells : Bool} (start : Start) (n : ℕ) (s s' : Session) (stage : Stage) (command : Command) (r : Refusal) (lists more : List (List Entry)) → GoesOn n [] lists more → s'.levels ≡ s.levels → is_by_standing r ≡ false → refused_by command (stance_of s) (pending_in stage) ≡ None
     → Adds (by_at n s.levels.commands) (MayLeave command (stance_of s) stage (open_ids n (history lists)) (replies.Refused r)) lists more
     → MayAnswer tells start more (alone (history lists) (history more)) (by_at n s.levels.commands) (stance_of s) stage command (replies.Refused r) → Acted tells start (by_at n s.levels.commands) (stance_of s) (stance_of s') stage command (replies.Refused r) lists more
 acted_stopped start n s s' stage command r lists more goes same apart free adds allowed =
@@ -188,7 +203,7 @@ acted_stopped start n s s' stage command r lists more goes same apart free adds 
 -- ---- an abort
 
 -- it goes on behind an abort and an undo that were begun
-pub abort_free : (stage : Stage) → may_be_recorded stage ≡ false → held_by commands.Abort stage ≡ None
+pub abort_free : (stage : Stage) → may_be_recorded stage ≡ false → held_by commands.Abort (pending_in stage) ≡ None
 abort_free stages.Clear q = refl
 abort_free (stages.Logged number) q = absurd (false≢true (sym q))
 abort_free (stages.Settling steps) q = absurd (false≢true (sym q))
@@ -196,20 +211,24 @@ abort_free stages.Aborting q = refl
 abort_free stages.Undoing q = refl
 
 -- and not behind a commit
-pub abort_held : (stage : Stage) → may_be_recorded stage ≡ true → (pending_in stage ≡ Some refusals.CommitPending) × (held_by commands.Abort stage ≡ Some refusals.CommitPending)
+pub abort_held : (stage : Stage) → may_be_recorded stage ≡ true → (pending_in stage ≡ Some refusals.CommitPending) × (held_by commands.Abort (pending_in stage) ≡ Some refusals.CommitPending)
 abort_held stages.Clear q = absurd (false≢true q)
 abort_held (stages.Logged number) q = (refl, refl)
 abort_held (stages.Settling steps) q = (refl, refl)
 abort_held stages.Aborting q = absurd (false≢true q)
 abort_held stages.Undoing q = absurd (false≢true q)
 
-fault_answer : (tells : Bool) (start : Start) (lists : List (List Entry)) (span : RoundSpan) (by : By) (s : Stance) (stage : Stage) (r : Refusal) → IsXactFault lists by r → MayAnswer tells start lists span by s stage commands.Abort (replies.Refused r)
-fault_answer tells start lists span by s stage (refusals.DiskFault (locks.Xact bank)) c = (refl, c)
-fault_answer tells start lists span by s stage _ c = absurd c
+fault_answer : (tells : Bool) (start : Start) (lists : List (List Entry)) (span : RoundSpan) (by : By) (s : Stance) (stage : Stage) (r : Refusal) → IsTrue (is_some (top_level s.levels)) → IsXactFault lists by r → MayAnswer tells start lists span by s stage commands.Abort (replies.Refused r)
+fault_answer tells start lists span by s stage (refusals.DiskFault (locks.Xact bank)) some c = (some, c)
+fault_answer tells start lists span by s stage _ some c = absurd c
 
 fault_else : (lists : List (List Entry)) (by : By) (r : Refusal) → IsXactFault lists by r → is_by_standing r ≡ false
 fault_else lists by (refusals.DiskFault (locks.Xact bank)) c = refl
 fault_else lists by _ c = absurd c
+
+pub fault_held : (start : Start) (lists : List (List Entry)) (by : By) (new : Stage) (r : Refusal) → IsXactFault lists by r → IsHeldBehind start lists (replies.Refused r) new
+fault_held start lists by new (refusals.DiskFault (locks.Xact bank)) c = tt
+fault_held start lists by new _ c = absurd c
 
 fault_stage : (lists : List (List Entry)) (by : By) (old new : Stage) (r : Refusal) → new ≡ stages.Aborting → IsXactFault lists by r → LeavesStage commands.Abort (replies.Refused r) old new
 fault_stage lists by old new (refusals.DiskFault (locks.Xact bank)) is c = is
@@ -260,7 +279,7 @@ module _ (start : Start) (v : Knowledge) (n : ℕ) (s : Session) (a : IsAt start
 
 module _ {H L P : Type 0} {l : logs.Ghosts L} {p : disks.Ghosts P} (hall : Hall H (Part L P l p) Entry Start) where
   -- a commit that is over, or that stopped
-  pub ran_commit : (u new : Caller L P l p) (r : Result (Unit {0}) Refusal) → IsOf hall new.pass → MayCall (start_of hall) (view u.pass) u.number u.session → MayCall (start_of hall) (view new.pass) new.number new.session → new.number ≡ u.number → 1 ≤ length u.session.levels.open_ids.items → held_by commands.Commit u.session.stage ≡ None
+  pub ran_commit : (u new : Caller L P l p) (r : Result (Unit {0}) Refusal) → IsOf hall new.pass → MayCall (start_of hall) (view u.pass) u.number u.session → MayCall (start_of hall) (view new.pass) new.number new.session → new.number ≡ u.number → 1 ≤ length u.session.levels.open_ids.items → held_by commands.Commit (pending_in u.session.stage) ≡ None
       → Adds (by_at u.number u.session.levels.commands) (MayLeave commands.Commit (stance_of u.session) u.session.stage (open_ids u.number (history (view u.pass).seen)) (reply_of (λ x. replies.Done) r)) (view u.pass).seen (view new.pass).seen
       → Commits (start_of hall) u.number u.session new.session (view u.pass).seen (view new.pass).seen r → Ran hall u.session.levels.commands commands.Commit (reply_of (λ x. replies.Done) r) u new
   ran_commit u new (Ok x) own was may number some free adds f = record {
@@ -268,6 +287,8 @@ module _ {H L P : Type 0} {l : logs.Ghosts L} {p : disks.Ghosts P} (hall : Hall 
     may = may;
     acted = acted_finished (start_of hall) u.number ends.Commit (history (view u.pass).seen) u.session new.session u.session.stage (view u.pass).seen (view new.pass).seen was.ready.at.stands.nest some free f adds;
     stage = f.stage;
+    held = tt;
+    still = λ q is. not_standing None q refl is;
     count = (f.count, number);
   }
   ran_commit u new (Err r) own was may number some free adds c =
@@ -280,6 +301,8 @@ module _ {H L P : Type 0} {l : logs.Ghosts L} {p : disks.Ghosts P} (hall : Hall 
             (not_refused ends.Commit (stance_of u.session) u.session.stage (some_list (stance_of u.session).levels (has_top (stance_of u.session).levels (top_open u.session) (levelled h u.session was.ready.at.stands.nest some))) free) adds
             (stops_answer p.tells (start_of hall) (view new.pass).seen (alone h (history (view new.pass).seen)) by (stance_of u.session) (top_open u.session) u.session.stage new.session.stage r (levelled h u.session was.ready.at.stands.nest some) c.2);
         stage = stops_stage (start_of hall) (view new.pass).seen by u.session.stage new.session.stage r c.2;
+        held = stops_held (start_of hall) (view new.pass).seen by u.session.stage new.session.stage r c.2;
+        still = λ q is. not_standing (by_standing (replies.Refused r)) q (else_none r (stops_else (start_of hall) (view new.pass).seen by u.session.stage new.session.stage r c.2)) is;
         count = (ap (λ (z : plain.Session). z.commands) c.1, number);
       }
 
@@ -292,6 +315,8 @@ module _ {H L P : Type 0} {l : logs.Ghosts L} {p : disks.Ghosts P} (hall : Hall 
     may = may;
     acted = acted_finished (start_of hall) u.number ends.Abort (history (view u.pass).seen) u.session new.session u.session.stage (view u.pass).seen (view new.pass).seen was.ready.at.stands.nest some (abort_free u.session.stage clear) f adds;
     stage = f.stage;
+    held = tt;
+    still = λ q is. not_standing None q refl is;
     count = (f.count, number);
   }
   ran_abort u new (Err r) own was may number some clear adds c =
@@ -302,13 +327,15 @@ module _ {H L P : Type 0} {l : logs.Ghosts L} {p : disks.Ghosts P} (hall : Hall 
         may = may;
         acted = acted_stopped (start_of hall) u.number u.session new.session u.session.stage commands.Abort r (view u.pass).seen (view new.pass).seen c.0 c.1 (fault_else (view new.pass).seen by r c.3)
             (not_refused ends.Abort (stance_of u.session) u.session.stage (some_list (stance_of u.session).levels (has_top (stance_of u.session).levels (top_open u.session) (levelled h u.session was.ready.at.stands.nest some))) (abort_free u.session.stage clear)) adds
-            (fault_answer p.tells (start_of hall) (view new.pass).seen (alone h (history (view new.pass).seen)) by (stance_of u.session) u.session.stage r c.3);
+            (fault_answer p.tells (start_of hall) (view new.pass).seen (alone h (history (view new.pass).seen)) by (stance_of u.session) u.session.stage r (some_top (stance_of u.session) (top_open u.session) (levelled h u.session was.ready.at.stands.nest some)) c.3);
         stage = fault_stage (view new.pass).seen by u.session.stage new.session.stage r c.2 c.3;
+        held = fault_held (start_of hall) (view new.pass).seen by new.session.stage r c.3;
+        still = λ q is. not_standing (by_standing (replies.Refused r)) q (else_none r (fault_else (view new.pass).seen by r c.3)) is;
         count = (ap (λ (z : plain.Session). z.commands) c.1, number);
       }
 
   -- a transaction without an id
-  pub ran_idless : (how : XactEnd) (u new : Caller L P l p) → IsOf hall u.pass → MayCall (start_of hall) (view u.pass) u.number u.session → u.session.levels.open_ids.items ≡ [] → 1 ≤ length (stance_of u.session).levels → held_by (end_command how) u.session.stage ≡ None → IsClosed u new
+  pub ran_idless : (how : XactEnd) (u new : Caller L P l p) → IsOf hall u.pass → MayCall (start_of hall) (view u.pass) u.number u.session → u.session.levels.open_ids.items ≡ [] → 1 ≤ length (stance_of u.session).levels → held_by (end_command how) (pending_in u.session.stage) ≡ None → IsClosed u new
       → Ran hall u.session.levels.commands (end_command how) replies.Done u new
   ran_idless how u new own was none some free c = record {
     own = subst (λ z. IsOf hall z) (sym c.pass) own;
@@ -319,6 +346,8 @@ module _ {H L P : Type 0} {l : logs.Ghosts L} {p : disks.Ghosts P} (hall : Hall 
         (sym (not_refused how (stance_of u.session) u.session.stage some free))
         (left_done how (stance_of u.session) u.session.levels.commands [] ∙ stance);
     stage = left_clear how;
+    held = tt;
+    still = λ q is. not_standing None q refl is;
     count = (ap (λ (z : plain.Session). z.commands) c.levels, c.number);
   }
     where

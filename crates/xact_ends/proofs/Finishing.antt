@@ -86,12 +86,12 @@ finished_then n n' how s t s' lists mid more number same goes h = record {
 -- ---- why a tail stops
 
 pub flush_stops : (start : Start) (lists : List (List Entry)) (by : By) (number : ℕ) (r : Refusal) → IsFlushRefused start lists by number r → Stops start lists by (stages.Logged number) (stages.Logged number) r
-flush_stops start lists by number refusals.LogFault c = (c, refl)
-flush_stops start lists by number (refusals.LogDown down) c = (c.0, c.1, tt, inl refl)
+flush_stops start lists by number refusals.LogFault c = (c.0, refl, c.1)
+flush_stops start lists by number (refusals.LogDown down) c = (c.0, c.1, tt, inl refl, c.1)
 flush_stops start lists by number _ c = absurd c
 
 pub append_stops : (start : Start) (lists : List (List Entry)) (by : By) (r : Refusal) → IsAppendRefused start lists r → Stops start lists by stages.Clear stages.Clear r
-append_stops start lists by (refusals.LogDown down) c = (c, tt, tt, inl refl)
+append_stops start lists by (refusals.LogDown down) c = (c, tt, tt, inl refl, tt)
 append_stops start lists by refusals.Full c = (refl, refl)
 append_stops start lists by refusals.Memory c = (refl, refl)
 append_stops start lists by _ c = absurd c
@@ -126,8 +126,8 @@ stops_flushed start lists by number new _ c = absurd c
 pub stops_appended : (start : Start) (lists : List (List Entry)) (by : By) (number : ℕ) (new : Stage) (r : Refusal) → Stops start lists by (stages.Logged number) new r → Stops start lists by stages.Clear new r
 stops_appended start lists by number new (refusals.DiskFault (locks.Xact bank)) c = c
 stops_appended start lists by number new (refusals.DiskFault (locks.Subtrans bank)) c = absurd (logged_not_clear number c.1)
-stops_appended start lists by number new refusals.LogFault c = (c.0, (refl, number, c.1))
-stops_appended start lists by number new (refusals.LogDown down) c = (c.0, tt, tt, inr (refl, number, ⊎_elim (λ q. q) (λ q. q) c.3))
+stops_appended start lists by number new refusals.LogFault c = (c.0, (refl, number, c.1), c.2)
+stops_appended start lists by number new (refusals.LogDown down) c = (c.0, tt, tt, inr (refl, number, ⊎_elim (λ q. q) (λ q. q) c.3), c.4)
 stops_appended start lists by number new refusals.Full c = absurd (logged_not_clear number c.0)
 stops_appended start lists by number new refusals.Memory c = absurd (logged_not_clear number c.0)
 stops_appended start lists by number new _ c = absurd c

@@ -1,5 +1,5 @@
 -- What a call did that rolls a savepoint back.
-use Rattle.std.proofs.Common.{◌≡◌, ◌⊎◌, ℕ, zero, suc, ◌+◌, ◌-◌, ◌≤◌, nat_le, Bool, false, true, List, [], ◌∷◌, ◌++◌, Option, None, Some, Result, Ok, Err, refl, sym, ap, subst, ◌∙◌, inl, inr, ⊎_elim, length, map, arith}
+use Rattle.std.proofs.Common.{◌≡◌, ◌⊎◌, ℕ, zero, suc, ◌+◌, ◌-◌, ◌≤◌, nat_le, Bool, false, true, List, [], ◌∷◌, ◌++◌, Option, None, Some, Result, Ok, Err, refl, sym, ap, subst, ◌∙◌, inl, inr, ⊎_elim, length, map, arith, IsTrue, is_some}
 use Rattle.std.proofs.lemmas.Bool.{lt-leb}
 use Rattle.disk_core.specs.declared.log_disk.LogDisk as logs
 use Rattle.disk_core.specs.declared.page_disk.PageDisk as disks
@@ -32,8 +32,9 @@ use Rattle.engine_parts.specs.Answers.{MayAnswer, reply_of}
 use Rattle.engine_parts.specs.Calls.{Ran}
 use Rattle.engine_parts.specs.Holds.{Knowledge}
 use Rattle.engine_parts.specs.Sessions.{MayCall, by_at, inner_id, stance_of}
-use Rattle.engine_parts.specs.Stages.{AreUnasked, IsInStage, IsUndoing}
-use Rattle.engine_parts.specs.Standing.{LeavesStage, held_by, is_by_standing, refused_by}
+use Rattle.engine_parts.specs.Stages.{AreUnasked, IsInStage, IsUndoing, pending_in}
+use Rattle.life_law.specs.Refused.{held_by, is_by_standing, refused_by, by_standing}
+use Rattle.engine_parts.specs.Standing.{LeavesStage}
 use Rattle.engine_parts.specs.Steps.{GoesOn}
 use Rattle.engine_parts.proofs.Acting.{acted_nothing}
 use Rattle.engine_parts.proofs.Refusing.{first_fails, not_held}
@@ -41,23 +42,24 @@ use Rattle.proc_sections.proofs.Cutting.{inner_last}
 use Rattle.xact_ends.specs.Undos.{IsUnwound, Undoes}
 use Rattle.engine_parts.specs.Adding.{Adds, MayLeave}
 use Rattle.tx_events.specs.Running.{open_ids}
-use Rattle.xact_ends.proofs.Acts.{acted_stopped}
+use Rattle.engine_parts.proofs.Beholding.{not_standing}
+use Rattle.xact_ends.proofs.Acts.{acted_stopped, else_none, fault_held}
 
 -- no other end was begun
 abbrev pub IsFreeToUndo : Stage → Type 0
 IsFreeToUndo stage = (stage ≡ stages.Clear) ⊎ (stage ≡ stages.Undoing)
 
-undo_free : (stage : Stage) → IsFreeToUndo stage → held_by commands.Undo stage ≡ None
-undo_free stage free = ⊎_elim (λ (c : stage ≡ stages.Clear). ap (held_by commands.Undo) c) (λ (u : stage ≡ stages.Undoing). ap (held_by commands.Undo) u) free
+undo_free : (stage : Stage) → IsFreeToUndo stage → held_by commands.Undo (pending_in stage) ≡ None
+undo_free stage free = ⊎_elim (λ (c : stage ≡ stages.Clear). ap (λ (z : Stage). held_by commands.Undo (pending_in z)) c) (λ (u : stage ≡ stages.Undoing). ap (λ (z : Stage). held_by commands.Undo (pending_in z)) u) free
 
-not_refused : (s : Stance) (stage : Stage) → 2 ≤ length s.levels → IsFreeToUndo stage → refused_by commands.Undo s stage ≡ None
-not_refused s stage two free = first_fails (nat_le (length s.levels) 1) refusals.NoSavepoint _ (lt-leb (length s.levels) 1 (omega arith)) ∙ not_held (held_by commands.Undo stage) None (undo_free stage free)
+not_refused : (s : Stance) (stage : Stage) → 2 ≤ length s.levels → IsFreeToUndo stage → refused_by commands.Undo s (pending_in stage) ≡ None
+not_refused s stage two free = first_fails (nat_le (length s.levels) 1) refusals.NoSavepoint _ (lt-leb (length s.levels) 1 (omega arith)) ∙ not_held (held_by commands.Undo (pending_in stage)) None (undo_free stage free)
 
 -- ---- a fault
 
-fault_answer : (tells : Bool) (start : Start) (lists : List (List Entry)) (span : RoundSpan) (by : By) (s : Stance) (stage : Stage) (r : Refusal) → IsXactFault lists by r → MayAnswer tells start lists span by s stage commands.Undo (replies.Refused r)
-fault_answer tells start lists span by s stage (refusals.DiskFault (locks.Xact bank)) c = (refl, c)
-fault_answer tells start lists span by s stage _ c = absurd c
+fault_answer : (tells : Bool) (start : Start) (lists : List (List Entry)) (span : RoundSpan) (by : By) (s : Stance) (stage : Stage) (r : Refusal) → IsTrue (is_some (innermost s.levels)) → IsXactFault lists by r → MayAnswer tells start lists span by s stage commands.Undo (replies.Refused r)
+fault_answer tells start lists span by s stage (refusals.DiskFault (locks.Xact bank)) some c = (some, c)
+fault_answer tells start lists span by s stage _ some c = absurd c
 
 fault_else : (lists : List (List Entry)) (by : By) (r : Refusal) → IsXactFault lists by r → is_by_standing r ≡ false
 fault_else lists by (refusals.DiskFault (locks.Xact bank)) c = refl
@@ -104,6 +106,8 @@ module _ {H L P : Type 0} {l : logs.Ghosts L} {p : disks.Ghosts P} (hall : Hall 
           };
         };
         stage = c.1.stage;
+        held = tt;
+        still = λ q is. not_standing None q refl is;
         count = (c.1.count, number);
       }
   ran_undo u new id (Err r) own may number two inner free adds c =
@@ -114,8 +118,10 @@ module _ {H L P : Type 0} {l : logs.Ghosts L} {p : disks.Ghosts P} (hall : Hall 
         may = may;
         acted = acted_stopped (start_of hall) u.number u.session new.session u.session.stage commands.Undo r (view u.pass).seen (view new.pass).seen c.0 c.1 (fault_else (view new.pass).seen by r c.3)
             (not_refused (stance_of u.session) u.session.stage two free) adds
-            (fault_answer p.tells (start_of hall) (view new.pass).seen (alone h (history (view new.pass).seen)) by (stance_of u.session) u.session.stage r c.3);
+            (fault_answer p.tells (start_of hall) (view new.pass).seen (alone h (history (view new.pass).seen)) by (stance_of u.session) u.session.stage r (subst (λ (o : Option ℕ). IsTrue (is_some o)) (sym inner) refl) c.3);
         stage = fault_stage (view new.pass).seen by u.session.stage new.session.stage r c.2 c.3;
+        held = fault_held (start_of hall) (view new.pass).seen by new.session.stage r c.3;
+        still = λ q is. not_standing (by_standing (replies.Refused r)) q (else_none r (fault_else (view new.pass).seen by r c.3)) is;
         count = (ap (λ (z : plain.Session). z.commands) c.1, number);
       }
 
@@ -129,6 +135,8 @@ module _ {H L P : Type 0} {l : logs.Ghosts L} {p : disks.Ghosts P} (hall : Hall 
         (sym (ap (undo_event (by_at u.number u.session.levels.commands)) none)) two (sym (not_refused (stance_of u.session) u.session.stage two free))
         ((λ j. record { levels = level_less u.session.levels.level_ids.items u.session.levels.unnamed (u.session.levels.unnamed - 1) fewer j; snaps = map told_of u.session.levels.registered.items }) ∙ sym (ap stance_of is));
     stage = c.stage ∙ clear;
+    held = tt;
+    still = λ q is. not_standing None q refl is;
     count = (ap (λ (z : plain.Session). z.commands) c.levels, c.number);
   }
     where

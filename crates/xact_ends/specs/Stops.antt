@@ -26,10 +26,12 @@ Stops start lists by old new (refusals.DiskFault (locks.Xact bank)) =
     MetFault lists (xact_lock bank) by × (steps : ℕ) × (steps_of old ≤ steps) × (new ≡ stages.Settling steps)
 Stops start lists by old new (refusals.DiskFault (locks.Subtrans bank)) =
     MetFault lists (subtrans_lock bank) by × (old ≡ stages.Clear) × (new ≡ old)
-Stops start lists by old new refusals.LogFault = MetLogFault lists by × IsLoggedFrom old new
+Stops start lists by old new refusals.LogFault =
+    MetLogFault lists by × IsLoggedFrom old new
+    × ((down : ℕ) × IsDownAt start (at lists log_lock) down × IsHeldDown new down)
 Stops start lists by old new (refusals.LogDown down) =
     IsDownAt start (at lists log_lock) down × IsHeldDown old down × IsUnflushed old
-    × ((new ≡ old) ⊎ IsLoggedFrom old new)
+    × ((new ≡ old) ⊎ IsLoggedFrom old new) × IsHeldDown new down
 Stops start lists by old new refusals.Full = (old ≡ stages.Clear) × (new ≡ old)
 Stops start lists by old new refusals.Memory = (old ≡ stages.Clear) × (new ≡ old)
 Stops start lists by old new _ = ⊥

@@ -36,14 +36,16 @@ use Rattle.engine_parts.specs.Answers.{Acted, MayAnswer}
 use Rattle.engine_parts.specs.Calls.{IsCounted, MayRun, Ran, next_command}
 use Rattle.engine_parts.specs.Holds.{Knowledge}
 use Rattle.engine_parts.specs.Sessions.{IsFiled, MayCall, by_at, inner_id, stance_of}
-use Rattle.engine_parts.specs.Stages.{AreUnaborted, IsInStage, IsUndoing}
-use Rattle.engine_parts.specs.Standing.{by_standing, held_by, refused_by, moves_end}
+use Rattle.engine_parts.specs.Stages.{AreUnaborted, IsInStage, IsUndoing, pending_in}
+use Rattle.life_law.specs.Refused.{by_standing, held_by, refused_by}
+use Rattle.engine_parts.specs.Standing.{moves_end, flushes, needs_log}
 use Rattle.tx_core.specs.ProgramOrder.{IsInTurn}
 use Rattle.notes.specs.Lists.{at}
 use Rattle.engine_parts.proofs.Acting.{acted_nothing}
 use Rattle.engine_parts.proofs.Refusing.{keeps_stage}
 use Rattle.engine_parts.proofs.Calling.{may_counted, own_counted}
 use Rattle.engine_parts.proofs.Refusing.{first_fails, first_holds, not_held}
+use Rattle.engine_parts.proofs.Beholding.{held_unneeded}
 use Rattle.xact_engine.specs.Levels.{IsDoneOrNot}
 
 -- the commands that change levels alone
@@ -58,6 +60,12 @@ on_levels_moves commands.Begin on = refl
 on_levels_moves commands.Save on = refl
 on_levels_moves commands.Release on = refl
 on_levels_moves command on = absurd on
+
+on_levels_needs : (command : Command) (s : Stance) (stage : Stage) → IsOnLevels command → (flushes command s stage ≡ false) × (needs_log command s stage ≡ false)
+on_levels_needs commands.Begin s stage on = (refl, refl)
+on_levels_needs commands.Save s stage on = (refl, refl)
+on_levels_needs commands.Release s stage on = (refl, refl)
+on_levels_needs command s stage on = absurd on
 
 pub done_or_not : (base : Counters) (h : List Event) (r : RoundSpan) (by : By) (s : Stance) (command : Command) (reply : Reply) → IsOnLevels command → MayReply base [] h r by s command reply → IsDoneOrNot reply
 done_or_not base h r by s commands.Begin replies.Done l a = tt
@@ -81,8 +89,8 @@ no_length levels some = ne_eqb (length levels) 0 (λ e. some (nil_from_length le
 
 -- Where no end that was begun holds it up, what such a command may be answered over no history it may be answered over
 -- any, and a refusal comes exactly where its levels stand so.
-level_reply : (tells : Bool) (base : Counters) (start : Start) (lists : List (List Entry)) (r span : RoundSpan) (by : By) (s : Stance) (stage : Stage) (command : Command) (reply : Reply) → IsOnLevels command → held_by command stage ≡ None → MayReply base [] [] r by s command reply
-    → MayAnswer tells start lists span by s stage command reply × (by_standing reply ≡ refused_by command s stage)
+level_reply : (tells : Bool) (base : Counters) (start : Start) (lists : List (List Entry)) (r span : RoundSpan) (by : By) (s : Stance) (stage : Stage) (command : Command) (reply : Reply) → IsOnLevels command → held_by command (pending_in stage) ≡ None → MayReply base [] [] r by s command reply
+    → MayAnswer tells start lists span by s stage command reply × (by_standing reply ≡ refused_by command s (pending_in stage))
 level_reply tells base start lists r span by s stage commands.Begin replies.Done l free a = (a, sym (ap (λ (ls : List (Option ℕ)). then_some (nat_lt 0 (length ls)) refusals.AlreadyOpen) a))
 level_reply tells base start lists r span by s stage commands.Begin (replies.Refused refusals.AlreadyOpen) l free a =
     (a, sym (ap (λ (b : Bool). then_some b refusals.AlreadyOpen) (lt-ltb 0 (length s.levels) (some_length s.levels a))))
@@ -91,23 +99,23 @@ level_reply tells base start lists r span by s stage commands.Save replies.Done 
   a,
   sym
       (first_fails (length s.levels == 0) refusals.NoTransaction _ (no_length s.levels a.0)
-      ∙ (not_held (held_by commands.Save stage) _ free ∙ first_fails (nat_le most_levels (length s.levels)) refusals.DepthLimit None (lt-leb most_levels (length s.levels) a.1))),
+      ∙ (not_held (held_by commands.Save (pending_in stage)) _ free ∙ first_fails (nat_le most_levels (length s.levels)) refusals.DepthLimit None (lt-leb most_levels (length s.levels) a.1))),
 )
 level_reply tells base start lists r span by s stage commands.Save (replies.Refused refusals.NoTransaction) l free a = (a, sym (first_holds (length s.levels == 0) refusals.NoTransaction _ (eq-eqb (length s.levels) 0 (ap length a))))
 level_reply tells base start lists r span by s stage commands.Save (replies.Refused refusals.DepthLimit) l free a = (
   a,
   sym
       (first_fails (length s.levels == 0) refusals.NoTransaction _ (ne_eqb (length s.levels) 0 (λ e. let deep = a in omega arith))
-      ∙ (not_held (held_by commands.Save stage) _ free ∙ first_holds (nat_le most_levels (length s.levels)) refusals.DepthLimit None (le-leb most_levels (length s.levels) a))),
+      ∙ (not_held (held_by commands.Save (pending_in stage)) _ free ∙ first_holds (nat_le most_levels (length s.levels)) refusals.DepthLimit None (le-leb most_levels (length s.levels) a))),
 )
 level_reply tells base start lists r span by s stage commands.Save _ l free a = absurd a
-level_reply tells base start lists r span by s stage commands.Release replies.Done l free a = (a, sym (first_fails (nat_le (length s.levels) 1) refusals.NoSavepoint _ (lt-leb (length s.levels) 1 (let deep = a in omega arith)) ∙ not_held (held_by commands.Release stage) None free))
+level_reply tells base start lists r span by s stage commands.Release replies.Done l free a = (a, sym (first_fails (nat_le (length s.levels) 1) refusals.NoSavepoint _ (lt-leb (length s.levels) 1 (let deep = a in omega arith)) ∙ not_held (held_by commands.Release (pending_in stage)) None free))
 level_reply tells base start lists r span by s stage commands.Release (replies.Refused refusals.NoSavepoint) l free a = (a, sym (first_holds (nat_le (length s.levels) 1) refusals.NoSavepoint _ (le-leb (length s.levels) 1 a)))
 level_reply tells base start lists r span by s stage commands.Release _ l free a = absurd a
 level_reply tells base start lists r span by s stage command reply l free a = absurd l
 
 -- what is said of such a command over no history is said over any
-acted_levels : (tells : Bool) (start : Start) (lists lists' : List (List Entry)) (base : Counters) (n number : ℕ) (s s' : Stance) (stage : Stage) (command : Command) (reply : Reply) → IsOnLevels command → held_by command stage ≡ None → lists' ≡ lists → Acts base (by_at n number) s s' command reply [] []
+acted_levels : (tells : Bool) (start : Start) (lists lists' : List (List Entry)) (base : Counters) (n number : ℕ) (s s' : Stance) (stage : Stage) (command : Command) (reply : Reply) → IsOnLevels command → held_by command (pending_in stage) ≡ None → lists' ≡ lists → Acts base (by_at n number) s s' command reply [] []
     → Acted tells start (by_at n number) s s' stage command reply lists lists'
 acted_levels tells start lists lists' base n number s s' stage command reply l free same a =
     let none : a.added ≡ [] = sym a.grown in
@@ -132,15 +140,15 @@ stage_kept start lists n inner inner' opened stages.Undoing kept i =
     some_none id e = cc
 
 -- a command on levels is refused where an undo is pending, or finds none
-inner_kept : (base : Counters) (h : List Event) (r : RoundSpan) (by : By) (number : ℕ) (s s' : Stance) (stage : Stage) (command : Command) (reply : Reply) → IsOnLevels command → held_by command stage ≡ None → MayReply base [] h r by s command reply → after s number command reply [] ≡ s' → stage ≡ stages.Undoing → (innermost s'.levels ≡ innermost s.levels) ⊎ (innermost s.levels ≡ None)
+inner_kept : (base : Counters) (h : List Event) (r : RoundSpan) (by : By) (number : ℕ) (s s' : Stance) (stage : Stage) (command : Command) (reply : Reply) → IsOnLevels command → held_by command (pending_in stage) ≡ None → MayReply base [] h r by s command reply → after s number command reply [] ≡ s' → stage ≡ stages.Undoing → (innermost s'.levels ≡ innermost s.levels) ⊎ (innermost s.levels ≡ None)
 inner_kept base h r by number s s' stage commands.Begin replies.Done on free a left is = inr (ap innermost a)
 inner_kept base h r by number s s' stage commands.Begin (replies.Refused refusals.AlreadyOpen) on free a left is = inl (sym (ap (λ (z : Stance). innermost z.levels) left))
 inner_kept base h r by number s s' stage commands.Begin _ on free a left is = absurd a
-inner_kept base h r by number s s' stage commands.Save reply on free a left is = absurd (held refusals.UndoPending (ap (held_by commands.Save) (sym is) ∙ free))
+inner_kept base h r by number s s' stage commands.Save reply on free a left is = absurd (held refusals.UndoPending (ap (λ (z : Stage). held_by commands.Save (pending_in z)) (sym is) ∙ free))
   where
     held : (x : Refusal) → Some x ≡ None → ⊥
     held x e = cc
-inner_kept base h r by number s s' stage commands.Release reply on free a left is = absurd (held refusals.UndoPending (ap (held_by commands.Release) (sym is) ∙ free))
+inner_kept base h r by number s s' stage commands.Release reply on free a left is = absurd (held refusals.UndoPending (ap (λ (z : Stage). held_by commands.Release (pending_in z)) (sym is) ∙ free))
   where
     held : (x : Refusal) → Some x ≡ None → ⊥
     held x e = cc
@@ -175,18 +183,22 @@ call_levels start v n s s' new is count stands kept m =
 
 -- what a call did that changed levels alone
 module _ {H L P : Type 0} {l : logs.Ghosts L} {p : disks.Ghosts P} (hall : Hall H (Part L P l p) Entry Start) where
-  pub ran_levels : {banks : ℕ} (old u : Caller L P l p) (t : plain.Session) (command : Command) (reply : Reply) → IsOnLevels command → held_by command old.session.stage ≡ None → IsCounted old u → MayRun hall banks old → RunsAlone u.session.levels t command reply
+  pub ran_levels : {banks : ℕ} (old u : Caller L P l p) (t : plain.Session) (command : Command) (reply : Reply) → IsOnLevels command → held_by command (pending_in old.session.stage) ≡ None → IsCounted old u → MayRun hall banks old → RunsAlone u.session.levels t command reply
       → Ran hall (next_command old) command reply old (record u { session = record u.session { levels = t } })
   ran_levels old u t command reply on free c m r =
       let start = start_of hall in
       let by = by_at old.number (next_command old) in
       let a = r.acts start.base [] by in
-      let seen = (view old.pass).seen in record {
+      let seen = (view old.pass).seen in
+      let acts : Acted (p.tells) start by (stance_of old.session) (levels.stance_of t) old.session.stage command reply seen (view u.pass).seen = acted_levels (p.tells) start seen (view u.pass).seen start.base old.number (next_command old) (stance_of old.session) (levels.stance_of t) old.session.stage command reply on free (ap (λ q. (view q).seen) c.pass)
+            (subst (λ (z : Stance). Acts start.base by z (levels.stance_of t) command reply [] []) (ap levels.stance_of c.levels) (r.acts start.base [] by)) in
+      let needs = on_levels_needs command (stance_of old.session) old.session.stage on in record {
         own = own_counted hall old u c m.step.own;
         may = call_levels start (view u.pass) u.number u.session (record u.session { levels = t }) t refl r.count (λ st. r.stands start.base (history (view u.pass).seen) u.number u.session.levels.commands st) (λ q. inner_kept start.base [] (alone [] []) by by.command (levels.stance_of u.session.levels) (levels.stance_of t) old.session.stage command reply on free a.allowed
             (ap (λ (es : List Event). after (levels.stance_of u.session.levels) by.command command reply (given es)) a.grown ∙ a.left) (sym c.stage ∙ q)) (may_counted hall old u c m);
-        acted = acted_levels (p.tells) start seen (view u.pass).seen start.base old.number (next_command old) (stance_of old.session) (levels.stance_of t) old.session.stage command reply on free (ap (λ q. (view q).seen) c.pass)
-            (subst (λ (z : Stance). Acts start.base by z (levels.stance_of t) command reply [] []) (ap levels.stance_of c.levels) (r.acts start.base [] by));
+        acted = acts;
         stage = keeps_stage command reply old.session.stage u.session.stage (on_levels_moves command on) c.stage;
+        held = held_unneeded p.tells start (view u.pass).seen (alone (history seen) (history (view u.pass).seen)) by (stance_of old.session) old.session.stage u.session.stage command reply needs.0 needs.1 acts.allowed;
+        still = λ q is. ap (λ p. (view p).seen) c.pass;
         count = (r.count ∙ ap (λ z. z.commands) c.levels, c.number);
       }

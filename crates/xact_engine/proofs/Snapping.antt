@@ -40,8 +40,8 @@ use Rattle.engine_parts.specs.Answers.{Acted}
 use Rattle.engine_parts.specs.Holds.{Knowledge, Learns, Leaves}
 use Rattle.engine_parts.specs.Law.{MayKeep}
 use Rattle.engine_parts.specs.Sessions.{IsAt, IsFiled, IsReady, MayCall, by_at, stance_of}
-use Rattle.engine_parts.specs.Stages.{may_be_recorded, AreUnaborted, may_be_aborted}
-use Rattle.engine_parts.specs.Standing.{refused_by}
+use Rattle.engine_parts.specs.Stages.{may_be_recorded, AreUnaborted, may_be_aborted, pending_in}
+use Rattle.life_law.specs.Refused.{refused_by}
 use Rattle.engine_parts.proofs.Acting.{acted_event}
 use Rattle.engine_parts.proofs.Refusing.{first_fails}
 use Rattle.engine_parts.proofs.Leaving.{at_left, clear_same, filed_left, history_event, no_abort, unaborted_same}
@@ -94,7 +94,7 @@ ready_dropped start v w n n' s s' name e a is count named unnamed opened registe
     (rw registered (stood_dropped start.base (history v.seen) by name s.levels.open_ids.items s.levels.level_ids.items s.levels.unnamed s.levels.registered.items (stood start.base (history v.seen) n s.levels.commands s.levels a.stands))) l
 
 -- a name that isn't taken isn't refused, below the limit
-pub not_refused : (s : Session) (name : List ℕ) → find (λ k. same_name k.name name) s.levels.registered.items ≡ None → length s.levels.registered.items < 64 → refused_by (commands.Snap name) (stance_of s) s.stage ≡ None
+pub not_refused : (s : Session) (name : List ℕ) → find (λ k. same_name k.name name) s.levels.registered.items ≡ None → length s.levels.registered.items < 64 → refused_by (commands.Snap name) (stance_of s) (pending_in s.stage) ≡ None
 not_refused s name free room =
     let missing = snap_missing name (stance_of s).levels s.levels.registered.items free in
     first_fails (is_some (snap_of name (stance_of s))) refusals.NameTaken _ (ap is_some missing)

@@ -63,13 +63,16 @@ use Rattle.engine_parts.specs.Answers.{MayAnswer}
 use Rattle.engine_parts.specs.Calls.{IsCounted, MayRun, Ran, next_command}
 use Rattle.engine_parts.specs.Holds.{Knowledge}
 use Rattle.engine_parts.specs.Sessions.{IsAt, IsReady, by_at, stance_of}
-use Rattle.engine_parts.specs.Standing.{by_standing, moves_end, refused_by}
+use Rattle.life_law.specs.Refused.{by_standing, refused_by}
+use Rattle.engine_parts.specs.Standing.{moves_end, flushes, needs_log}
 use Rattle.engine_parts.specs.Steps.{WentOn}
 use Rattle.engine_parts.proofs.Calling.{may_counted, ran_counted}
 use Rattle.engine_parts.proofs.Refusing.{keeps_stage}
 use Rattle.xact_reads.specs.declared.glances.Glance.{Glance}
 use Rattle.xact_reads.specs.Glances.{IsNamed, Shows}
 use Rattle.xact_reads.specs.Readings.{IsShown, IsUnread}
+use Rattle.engine_parts.specs.Stages.{pending_in}
+use Rattle.engine_parts.proofs.Beholding.{held_unneeded, not_standing}
 use Rattle.xact_reads.proofs.Going.{call_read, others_went}
 
 -- a session's snapshot of this name is registered in what it has seen
@@ -188,9 +191,9 @@ module _ {H L P : Type 0} {l : logs.Ghosts L} {p : disks.Ghosts P} (hall : Hall 
       → HasEvents (by_at u.number u.session.levels.commands) (stance_of u.session) command reply []
       → Adds (by_at u.number u.session.levels.commands) (MayLeave command (stance_of u.session) u.session.stage (open_ids u.number (history (view u.pass).seen)) reply) (view u.pass).seen (view new.pass).seen
       → MayAnswer (p.tells) (start_of hall) (view new.pass).seen (alone (history (view u.pass).seen) (history (view new.pass).seen)) (by_at u.number u.session.levels.commands) (stance_of u.session) u.session.stage command reply
-      → by_standing reply ≡ refused_by command (stance_of u.session) u.session.stage → after (stance_of u.session) u.session.levels.commands command reply [] ≡ stance_of u.session → moves_end command ≡ false
+      → by_standing reply ≡ refused_by command (stance_of u.session) (pending_in u.session.stage) → after (stance_of u.session) u.session.levels.commands command reply [] ≡ stance_of u.session → moves_end command ≡ false → flushes command (stance_of u.session) u.session.stage ≡ false → needs_log command (stance_of u.session) u.session.stage ≡ false → by_standing reply ≡ None
       → Ran hall (next_command old) command reply old new
-  ran_read old u new command reply c m own ready went same number fitting adds allowed standing left still =
+  ran_read old u new command reply c m own ready went same number fitting adds allowed standing left still unflushed unneeded free =
       ran_counted hall old u new command reply c (record {
         own = own;
         may = call_read (start_of hall) (view u.pass) (view new.pass) u.number new.number u.session new.session (may_counted hall old u c m) went number same ready;
@@ -206,16 +209,18 @@ module _ {H L P : Type 0} {l : logs.Ghosts L} {p : disks.Ghosts P} (hall : Hall 
           left = left ∙ sym (ap stance_of same);
         };
         stage = keeps_stage command reply u.session.stage new.session.stage still (ap (λ (z : Session). z.stage) same);
+        held = held_unneeded p.tells (start_of hall) (view new.pass).seen (alone (history (view u.pass).seen) (history (view new.pass).seen)) (by_at u.number u.session.levels.commands) (stance_of u.session) u.session.stage new.session.stage command reply unflushed unneeded allowed;
+        still = λ q is. not_standing (by_standing reply) q free is;
         count = (ap (λ (z : Session). z.levels.commands) same, number);
       })
 
 -- where the session has a snapshot of this name, it isn't refused by how it stands
-pub not_refused : (s : Session) (name : List ℕ) (x : Xid) (k : RegisteredSnapshot) → IsNamed s.levels name k → refused_by (commands.See name x) (stance_of s) s.stage ≡ None
+pub not_refused : (s : Session) (name : List ℕ) (x : Xid) (k : RegisteredSnapshot) → IsNamed s.levels name k → refused_by (commands.See name x) (stance_of s) (pending_in s.stage) ≡ None
 not_refused s name x k named = ap (λ (o : Option ℕ). then_some (is_none o) refusals.NoSnapshot) (snap_found name (stance_of s).levels s.levels.registered.items k named)
 
 -- and where it had none before its command was counted, it is
 pub refused_before : (s t : plain.Session) (stage : Stage) (name : List ℕ) (x : Xid) → t ≡ record s { commands = s.commands + 1 } → find (λ k. same_name k.name name) t.registered.items ≡ None
-    → (snap_of name (levels.stance_of s) ≡ None) × (by_standing (replies.Refused refusals.NoSnapshot) ≡ refused_by (commands.See name x) (levels.stance_of s) stage)
+    → (snap_of name (levels.stance_of s) ≡ None) × (by_standing (replies.Refused refusals.NoSnapshot) ≡ refused_by (commands.See name x) (levels.stance_of s) (pending_in stage))
 refused_before s t stage name x counted missing =
     let none : snap_of name (levels.stance_of s) ≡ None = sym (ap (λ z. snap_of name (levels.stance_of z)) counted) ∙ snap_missing name (levels.stance_of t).levels t.registered.items missing in
     (none, sym (ap (λ (o : Option ℕ). then_some (is_none o) refusals.NoSnapshot) none))

@@ -9,7 +9,7 @@ ghost use Rattle.engine_parts.specs.Adding.{Adds, MayFault};
 ghost use Rattle.engine_parts.specs.Answers.{MayAnswer, reply_of};
 ghost use Rattle.engine_parts.specs.Calls.{MayRun, Ran, next_command};
 ghost use Rattle.engine_parts.specs.Sessions.{IsReady, by_at, stance_of};
-ghost use Rattle.engine_parts.specs.Standing.{by_standing};
+ghost use Rattle.life_law.specs.Refused.{by_standing};
 ghost use Rattle.engine_parts.specs.Steps.{WentOn};
 ghost use Rattle.xact_reads.specs.Glances.{HasGlanced};
 

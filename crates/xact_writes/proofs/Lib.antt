@@ -3,3 +3,4 @@ pub mod Paging
 pub mod Writing
 pub mod Calls
 pub mod Giving
+pub mod Filing

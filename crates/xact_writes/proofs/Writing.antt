@@ -1,6 +1,6 @@
 -- A write on its way, and what it did when it is done or refused.
-use Rattle.std.proofs.Common.{◌≡◌, ◌≢◌, ◌↔◌, ℕ, ◌+◌, ◌≤◌, ◌<◌, ◌==◌, List, [], ◌∷◌, ◌++◌, Option, None, Bool, false, IsTrue, ◌||◌, inr, ⊎_elim, refl, sym, ap, subst, ◌∙◌, append-nil, append_assoc, arith, length, map, eq-eqb, ne_eqb}
-use Rattle.std.specs.List.{AllByRecursion, filter}
+use Rattle.std.proofs.Common.{◌≡◌, ◌≢◌, ◌↔◌, ℕ, ◌+◌, ◌≤◌, ◌<◌, ◌==◌, List, [], ◌∷◌, ◌++◌, Option, None, Bool, false, IsTrue, ◌||◌, inr, ⊎_elim, refl, sym, ap, subst, ◌∙◌, append-nil, append_assoc, arith, length, map, eq-eqb, ne_eqb, zero, suc, is_none}
+use Rattle.std.specs.List.{AllByRecursion, filter, list_any}
 use Rattle.notes.proofs.Growing.{begins_length}
 use Rattle.tx_events.specs.declared.event.By.{By}
 use Rattle.tx_events.specs.declared.event.Event.{Event}
@@ -33,7 +33,7 @@ use Rattle.engine_parts.specs.Adding.{Adds, IsPlain, MayLeave, MayMeet}
 use Rattle.engine_parts.specs.Answers.{Acted}
 use Rattle.engine_parts.specs.Sessions.{by_at, stance_of}
 use Rattle.engine_parts.specs.Stages.{pending_in}
-use Rattle.engine_parts.specs.Standing.{first_of, held_by, refused_by}
+use Rattle.life_law.specs.Refused.{first_of, held_by, refused_by}
 use Rattle.engine_parts.specs.Steps.{WentOn}
 use Rattle.engine_parts.proofs.Acting.{acted_refused}
 use Rattle.engine_parts.proofs.Adding.{adds_wider, met_leaves, plain_leaves}
@@ -127,16 +127,17 @@ writing_step start n s s1 s2 ids id warn late a b c k g =
       warned = subst (λ (t : List Event). IsTrue (warn || late) ↔ IsWarned start.base t by) (sym after) third;
     }
 
--- the fault of a parent
-pub parent_fault : (lists : List (List Entry)) (by : By) (r : Refusal) → IsSubtransFault lists by r → IsBankFault lists by r
-parent_fault lists by (refusals.DiskFault (locks.Subtrans bank)) met = met
-parent_fault lists by _ met = absurd met
+-- a level that has no id is one that lacks one
+lacks_some : (named : List ℕ) (unnamed : ℕ) → 1 ≤ unnamed → IsTrue (list_any is_none (levels_of named unnamed))
+lacks_some [] (suc k) some = refl
+lacks_some [] zero some = absurd (omega arith)
+lacks_some (x ∷ named) unnamed some = lacks_some named unnamed some
 
 -- none of the refusals by how a session stands
-pub not_refused : (s : Session) → s.stage ≡ stages.Clear → 1 ≤ length (levels_of s.levels.level_ids.items s.levels.unnamed) → refused_by commands.Write (stance_of s) s.stage ≡ None
+pub not_refused : (s : Session) → s.stage ≡ stages.Clear → 1 ≤ length (levels_of s.levels.level_ids.items s.levels.unnamed) → refused_by commands.Write (stance_of s) (pending_in s.stage) ≡ None
 not_refused s clear some =
     first_fails (length (stance_of s).levels == 0) refusals.NoTransaction _ (ne_eqb (length (stance_of s).levels) 0 (λ e. omega arith))
-    ∙ ap (λ (z : Stage). first_of (held_by commands.Write z ∷ [])) clear
+    ∙ ap (λ (z : Stage). first_of (held_by commands.Write (pending_in z) ∷ [])) clear
 
 module _ (tells : Bool) (start : Start) (n : ℕ) (s s1 : Session) (ids : List ℕ) (warn : Bool) (lists more : List (List Entry)) (k : Writing start n s s1 ids warn lists more) (clear : s.stage ≡ stages.Clear)
     (some : 1 ≤ length (levels_of s.levels.level_ids.items s.levels.unnamed)) where
@@ -176,20 +177,9 @@ module _ (tells : Bool) (start : Start) (n : ℕ) (s s1 : Session) (ids : List �
     left = left_stance;
   }
 
-  -- a fault was met, at the last parent maybe
-  pub acted_faulted : (r : Refusal) → IsBankFault more by r → Adds by (MayMeet r) lists more → Acted tells start by (stance_of s) (stance_of s1) s.stage commands.Write (replies.Refused r) lists more
-  acted_faulted (refusals.DiskFault (locks.Xact bank)) fault adds = record {
-    grows = k.went.on.grows;
-    added = es;
-    own = k.went.on.own;
-    each = events_own by None (levels_of s.levels.level_ids.items s.levels.unnamed) ids;
-    fitting = inr (ids, refl, (let l = k.left in let z = levels_lack s.levels.level_ids.items s.levels.unnamed in omega arith));
-    adds = met (refusals.DiskFault (locks.Xact bank)) adds;
-    allowed = (refl, fault);
-    standing = sym (not_refused s clear some);
-    left = left_stance;
-  }
-  acted_faulted (refusals.DiskFault (locks.Subtrans bank)) fault adds = record {
+  -- a fault was met at the last parent
+  pub acted_unlinked : (r : Refusal) → IsSubtransFault more by r → Adds by (MayMeet r) lists more → Acted tells start by (stance_of s) (stance_of s1) s.stage commands.Write (replies.Refused r) lists more
+  acted_unlinked (refusals.DiskFault (locks.Subtrans bank)) fault adds = record {
     grows = k.went.on.grows;
     added = es;
     own = k.went.on.own;
@@ -200,7 +190,23 @@ module _ (tells : Bool) (start : Start) (n : ℕ) (s s1 : Session) (ids : List �
     standing = sym (not_refused s clear some);
     left = left_stance;
   }
-  acted_faulted r fault adds = absurd fault
+  acted_unlinked r fault adds = absurd fault
+
+  -- a fault was met
+  pub acted_faulted : (r : Refusal) → 1 ≤ s.levels.unnamed → IsBankFault more by r → Adds by (MayMeet r) lists more → Acted tells start by (stance_of s) (stance_of s1) s.stage commands.Write (replies.Refused r) lists more
+  acted_faulted (refusals.DiskFault (locks.Xact bank)) lacked fault adds = record {
+    grows = k.went.on.grows;
+    added = es;
+    own = k.went.on.own;
+    each = events_own by None (levels_of s.levels.level_ids.items s.levels.unnamed) ids;
+    fitting = inr (ids, refl, (let l = k.left in let z = levels_lack s.levels.level_ids.items s.levels.unnamed in omega arith));
+    adds = met (refusals.DiskFault (locks.Xact bank)) adds;
+    allowed = (lacks_some s.levels.level_ids.items s.levels.unnamed lacked, fault);
+    standing = sym (not_refused s clear some);
+    left = left_stance;
+  }
+  acted_faulted (refusals.DiskFault (locks.Subtrans bank)) lacked fault adds = acted_unlinked (refusals.DiskFault (locks.Subtrans bank)) fault adds
+  acted_faulted r lacked fault adds = absurd fault
 
   -- want of memory
   pub acted_starved : 1 ≤ s1.levels.unnamed → Adds by (MayMeet refusals.Memory) lists more → Acted tells start by (stance_of s) (stance_of s1) s.stage commands.Write (replies.Refused refusals.Memory) lists more
@@ -211,7 +217,7 @@ module _ (tells : Bool) (start : Start) (n : ℕ) (s s1 : Session) (ids : List �
     each = events_own by None (levels_of s.levels.level_ids.items s.levels.unnamed) ids;
     fitting = inr (ids, refl, (let l = k.left in let z = levels_lack s.levels.level_ids.items s.levels.unnamed in omega arith));
     adds = met refusals.Memory adds;
-    allowed = refl;
+    allowed = lacks_some s.levels.level_ids.items s.levels.unnamed (let l = k.left in omega arith);
     standing = sym (not_refused s clear some);
     left = left_stance;
   }
@@ -235,13 +241,13 @@ module _ (tells : Bool) (start : Start) (n : ℕ) (s s1 : Session) (ids : List �
         standing = sym (not_refused s clear some);
         left = left_stance;
       })))
-      (λ fault. acted_faulted r fault adds)
+      (λ fault. acted_faulted r (let l = k.left in omega arith) fault adds)
       why
 
 -- want of memory before anything was done
-pub acted_at_once : (tells : Bool) (start : Start) (n : ℕ) (s : Session) (lists : List (List Entry)) → s.stage ≡ stages.Clear → 1 ≤ length (levels_of s.levels.level_ids.items s.levels.unnamed) → IsFresh lists n s.levels.commands → Acted tells start (by_at n s.levels.commands) (stance_of s) (stance_of s) s.stage commands.Write (replies.Refused refusals.Memory) lists lists
-acted_at_once tells start n s lists clear some fresh =
-    acted_refused {tells = tells} start lists lists n s.levels.commands (stance_of s) (stance_of s) s.stage commands.Write refusals.Memory refl refl refl (sym (not_refused s clear some))
+pub acted_at_once : (tells : Bool) (start : Start) (n : ℕ) (s : Session) (lists : List (List Entry)) → s.stage ≡ stages.Clear → 1 ≤ length (levels_of s.levels.level_ids.items s.levels.unnamed) → 1 ≤ s.levels.unnamed → Acted tells start (by_at n s.levels.commands) (stance_of s) (stance_of s) s.stage commands.Write (replies.Refused refusals.Memory) lists lists
+acted_at_once tells start n s lists clear some lacked =
+    acted_refused {tells = tells} start lists lists n s.levels.commands (stance_of s) (stance_of s) s.stage commands.Write refusals.Memory refl refl (lacks_some s.levels.level_ids.items s.levels.unnamed lacked) (sym (not_refused s clear some))
 
 -- a session that goes on to its next command has no event of it
 pub fresh_next : (n m : ℕ) (lists : List (List Entry)) → AllByRecursion (λ e. (by_of e).command ≤ m) (filter (is_of n) (history lists)) → IsFresh lists n (m + 1)
@@ -254,3 +260,8 @@ clear_stage (stages.Logged number) q = absurd cc
 clear_stage (stages.Settling steps) q = absurd cc
 clear_stage stages.Aborting q = absurd cc
 clear_stage stages.Undoing q = absurd cc
+
+-- a number that isn't 0
+pub positive : (n : ℕ) → (n ≡ 0 → ⊥) → 1 ≤ n
+positive zero other = absurd (other refl)
+positive (suc n) other = omega arith

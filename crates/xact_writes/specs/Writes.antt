@@ -1,5 +1,5 @@
 -- What the steps of a write leave.
-use Rattle.std.specs.Prelude.{◌≡◌, ℕ, ◌+◌, ◌<◌, ◌↔◌, ◌⊎◌, Bool, IsTrue, List, [], ◌++◌, None, length, Result, Ok, Err}
+use Rattle.std.specs.Prelude.{◌≡◌, ℕ, ◌+◌, ◌<◌, ◌↔◌, ◌⊎◌, Bool, IsTrue, List, [], ◌++◌, None, length, Result, Ok, Err, Option}
 use Rattle.std.specs.List.{AllByRecursion, filter}
 use Rattle.tx_events.specs.declared.event.By.{By}
 use Rattle.tx_events.specs.declared.refusal.Refusal.{Refusal}
@@ -20,6 +20,8 @@ use Rattle.engine_parts.specs.Sessions.{by_at}
 use Rattle.engine_parts.specs.Steps.{WentOn}
 use Rattle.bank_sections.specs.Faults.{IsBankFault}
 use Rattle.proc_sections.specs.Givings.{GivesId, IsStopIn}
+use Rattle.tx_events.specs.declared.refusal.Lock.TheVariants as locks
+use Rattle.engine_parts.specs.declared.session.Unlinked.{Unlinked}
 use Rattle.xact_writes.specs.declared.writes.Wrote.{Wrote}
 
 -- the reply of a write that is done
@@ -73,3 +75,9 @@ pub record Writing (start : Start) (n : ℕ) (s s' : Session) (ids : List ℕ) (
 -- no event so far is of this command
 abbrev pub IsFresh : List (List Entry) → ℕ → ℕ → Type 0
 IsFresh lists n command = AllByRecursion (λ e. (by_of e).command < command) (filter (is_of n) (history lists))
+
+-- Behind a write that was refused the same parent is still to be recorded, or none is. Only behind a fault of
+-- pg_subtrans it may be that of an id that the write gave.
+abbrev pub IsFiledBehind : Option Unlinked → Option Unlinked → Refusal → Type 0
+IsFiledBehind old new (refusals.DiskFault (locks.Subtrans bank)) = Unit {0}
+IsFiledBehind old new refusal = (new ≡ None) ⊎ (new ≡ old)

@@ -1,12 +1,12 @@
 //! Each level of a transaction gets its id.
-ghost use Rattle.std.specs.Prelude.{◌≡◌, ◌≤◌, None, OnOk, length};
+ghost use Rattle.std.specs.Prelude.{◌≡◌, ◌≤◌, None, IfErr, OnOk, length};
 ghost use Rattle.hall.specs.Calls.{view};
 ghost use Rattle.tx_model.specs.declared.command.Command.TheVariants as commands;
 ghost use Rattle.session_levels.specs.Stands.{levels_of};
 ghost use Rattle.engine_parts.specs.declared.session.Stage.TheVariants as stages;
 ghost use Rattle.engine_parts.specs.Answers.{reply_of};
 ghost use Rattle.engine_parts.specs.Calls.{MayRun, MayStep, Ran, next_command};
-ghost use Rattle.xact_writes.specs.Writes.{IsFresh, reply_to};
+ghost use Rattle.xact_writes.specs.Writes.{IsFiledBehind, IsFresh, reply_to};
 
 use crate::levels::name_level;
 use bank_sections::record_parent;
@@ -44,6 +44,7 @@ fn name_levels<R: Wait, L: LogDisk, P: PageDisk>(
     ensures ran { Ran hall.now caller.old.session.levels.commands commands.Write (reply_of reply_to result)
         caller.old caller.new }
     ensures linked { OnOk result (caller.new.session.unlinked ≡ None) }
+    ensures filed { IfErr result (IsFiledBehind caller.old.session.unlinked caller.new.session.unlinked) }
 {
     let Ok(mut ids) = Vec::with_capacity(alloc, caller.session.levels.unnamed) else {
         return Err(Refusal::Memory);
@@ -90,6 +91,7 @@ pub fn write<R: Wait, L: LogDisk, P: PageDisk>(
     ensures ran { Ran hall.now (next_command caller.old) commands.Write (reply_of reply_to result)
         caller.old caller.new }
     ensures linked { OnOk result (caller.new.session.unlinked ≡ None) }
+    ensures filed { IfErr result (IsFiledBehind caller.old.session.unlinked caller.new.session.unlinked) }
 {
     count(caller);
     if depth(&caller.session.levels) == 0 {

@@ -22,7 +22,7 @@ use Rattle.engine_parts.proofs.Logging.{failed_here, failed_more, flush_stands, 
 use Rattle.engine_parts.proofs.May.{met_log_fault}
 use Rattle.engine_parts.proofs.Sectioning.{same_command, section_of}
 use Rattle.engine_parts.proofs.Stepping.{went_quiet}
-use Rattle.log_sections.proofs.Sections.{down_left, flush_looked, flush_refused, same_err, seen_below, not_down}
+use Rattle.log_sections.proofs.Sections.{down_left, flush_looked, flush_refused, same_err, seen_below, not_down, fault_left}
 use Rattle.tx_core.specs.FaultsRise.{count_in, faults_at, faults_told}
 use Rattle.tx_core.proofs.FaultCounts.{risen_past}
 use Rattle.tx_core.proofs.LastNumbers.{number_push, number_same}
@@ -164,7 +164,14 @@ returns-in-LogFault-clause-flushes g c =
     let start = start_of c.args.hall.now in
     let u = view c.enter_log-log.new.caller.pass in
     let w = view c.leave_failed.new.caller.pass in
-    subst (λ (b : By). MetLogFault w.seen b) (λ j. by_at (e.same.1 j) (e.same.0 j).levels.commands) (met_log_fault start u w (by_at c.enter_log-log.new.caller.number c.enter_log-log.new.caller.session.levels.commands) _ (omega arith) c.leave_failed.ensures.left)
+    let by = by_at c.enter_log-log.new.caller.number c.enter_log-log.new.caller.session.levels.commands in
+    let count = g.L.LogDisk.faults (log_disk c.flush.new.self) in
+    let es = at u.seen log_lock in
+    let flushed = e.stands.flushed_is in
+    let asked = c.flushed.ensures in (
+      subst (λ (b : By). MetLogFault w.seen b) (λ j. by_at (e.same.1 j) (e.same.0 j).levels.commands) (met_log_fault start u w by count (omega arith) c.leave_failed.ensures.left),
+      (flushed_to start es, fault_left start u w by count (omega arith) c.leave_failed.ensures.left, omega arith),
+    )
 
 -- the log was down
 pub leave_looked-requires-in-Err-clause-stands : goal.leave_looked-requires-in-Err-clause-stands

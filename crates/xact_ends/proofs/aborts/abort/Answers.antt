@@ -5,8 +5,8 @@ use Rattle.tx_events.specs.declared.refusal.Refusal.TheVariants as refusals
 use Rattle.tx_model.specs.declared.command.Command.TheVariants as commands
 use Rattle.session_levels.specs.Stands as levels
 use Rattle.engine_parts.specs.Sessions.{stance_of}
-use Rattle.engine_parts.specs.Stages.{may_be_recorded}
-use Rattle.engine_parts.specs.Standing.{held_by}
+use Rattle.engine_parts.specs.Stages.{may_be_recorded, pending_in}
+use Rattle.life_law.specs.Refused.{held_by}
 use Rattle.engine_parts.proofs.Calling.{may_counted, ran_counted, ran_held, ran_refused, step_counted}
 use Rattle.engine_parts.proofs.Refusing.{first_fails, first_holds, held_up}
 use Rattle.xact_ends.proofs.Acts.{abort_held}
@@ -32,7 +32,7 @@ returns-then-is_recorded g c =
     let held = abort_held stage recorded in
     ran_held c.args.hall.now old c.count.new.caller commands.Abort refusals.CommitPending c.count.ensures c.requires held.0
     (first_fails (length s.levels == 0) refusals.NoTransaction _ (ne_eqb (length s.levels) 0 (λ e. let d = c.depth.ensures in let t = c.if-depth-eq0.false in let same = ap (λ z. length (levels.levels_of z.level_ids.items z.unnamed)) c.count.ensures.levels in omega arith))
-    ∙ held_up (held_by commands.Abort stage) refusals.CommitPending _ held.1)
+    ∙ held_up (held_by commands.Abort (pending_in stage)) refusals.CommitPending _ held.1)
 
 pub abort_open-requires-clause-step : goal.abort_open-requires-clause-step
 abort_open-requires-clause-step g c = step_counted c.args.hall.now c.args.caller.now c.count.new.caller c.count.ensures c.requires

@@ -8,7 +8,7 @@ use Rattle.engine_parts.specs.declared.session.Stage.{Stage}
 use Rattle.engine_parts.specs.declared.session.Stage.TheVariants as stages
 use Rattle.engine_parts.specs.Sessions.{stance_of, by_at}
 use Rattle.engine_parts.specs.Stages.{pending_in}
-use Rattle.engine_parts.specs.Standing.{held_by}
+use Rattle.life_law.specs.Refused.{held_by}
 use Rattle.engine_parts.proofs.Calling.{may_counted, ran_counted, ran_held, ran_refused, step_counted}
 use Rattle.engine_parts.proofs.Refusing.{first_fails, first_holds, held_up}
 use Rattle.xact_ends.proofs.Acts.{ran_commit, logged_leaves}
@@ -55,7 +55,7 @@ returns-in-Logged g c =
     ran_counted hall old u f.new.caller commands.Commit _ c.count.ensures
     (ran_commit hall u f.new.caller f.result f.ensures.step.own m f.ensures.step.may f.ensures.number
     (some_logged (start_of hall) (view u.pass).seen u.number c.in-Logged.number u.session.levels.open_ids.items (logged_at (start_of hall) (view u.pass) u.number c.in-Logged.number u.session m c.in-Logged.is))
-    (ap (held_by commands.Commit) c.in-Logged.is)
+    (ap (λ (z : Stage). held_by commands.Commit (pending_in z)) c.in-Logged.is)
     (adds_wider (by_at u.number u.session.levels.commands) _ _ (view u.pass).seen (view f.new.caller.pass).seen (logged_leaves (start_of hall) (view u.pass) u.number u.session m.ready.at f.result c.in-Logged.number c.in-Logged.is) f.ensures.adds) f.ensures.commits)
 
 pub returns-in-Settling : goal.returns-in-Settling
@@ -68,7 +68,7 @@ returns-in-Settling g c =
     ran_counted hall old u f.new.caller commands.Commit _ c.count.ensures
     (ran_commit hall u f.new.caller f.result f.ensures.step.own m f.ensures.step.may f.ensures.number
     (some_settling (start_of hall) (view u.pass).seen u.number c.in-Settling.steps u.session.levels.open_ids.items (settling_at (start_of hall) (view u.pass) u.number c.in-Settling.steps u.session m c.in-Settling.is))
-    (ap (held_by commands.Commit) c.in-Settling.is)
+    (ap (λ (z : Stage). held_by commands.Commit (pending_in z)) c.in-Settling.is)
     (adds_wider (by_at u.number u.session.levels.commands) _ _ (view u.pass).seen (view f.new.caller.pass).seen (fault_leaves commands.Commit (stance_of u.session) u.session.stage (open_ids u.number (history (view u.pass).seen)) f.result) f.ensures.adds) f.ensures.commits)
 
 pub returns-in-Aborting : goal.returns-in-Aborting
@@ -79,7 +79,7 @@ returns-in-Aborting g c =
     let is : stage ≡ stages.Aborting = sym c.count.ensures.stage ∙ c.in-Aborting.is in
     ran_held c.args.hall.now old c.count.new.caller commands.Commit refusals.AbortPending c.count.ensures c.requires (ap pending_in is)
     (first_fails (length s.levels == 0) refusals.NoTransaction _ (ne_eqb (length s.levels) 0 (λ e. let d = c.depth.ensures in let t = c.if-depth-eq0.false in let same = ap (λ z. length (levels.levels_of z.level_ids.items z.unnamed)) c.count.ensures.levels in omega arith))
-    ∙ held_up (held_by commands.Commit stage) refusals.AbortPending _ (ap (held_by commands.Commit) is))
+    ∙ held_up (held_by commands.Commit (pending_in stage)) refusals.AbortPending _ (ap (λ (z : Stage). held_by commands.Commit (pending_in z)) is))
 
 pub returns-in-Undoing : goal.returns-in-Undoing
 returns-in-Undoing g c =
@@ -89,4 +89,4 @@ returns-in-Undoing g c =
     let is : stage ≡ stages.Undoing = sym c.count.ensures.stage ∙ c.in-Undoing.is in
     ran_held c.args.hall.now old c.count.new.caller commands.Commit refusals.UndoPending c.count.ensures c.requires (ap pending_in is)
     (first_fails (length s.levels == 0) refusals.NoTransaction _ (ne_eqb (length s.levels) 0 (λ e. let d = c.depth.ensures in let t = c.if-depth-eq0.false in let same = ap (λ z. length (levels.levels_of z.level_ids.items z.unnamed)) c.count.ensures.levels in omega arith))
-    ∙ held_up (held_by commands.Commit stage) refusals.UndoPending _ (ap (held_by commands.Commit) is))
+    ∙ held_up (held_by commands.Commit (pending_in stage)) refusals.UndoPending _ (ap (λ (z : Stage). held_by commands.Commit (pending_in z)) is))

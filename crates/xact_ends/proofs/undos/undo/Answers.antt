@@ -7,9 +7,10 @@ use Rattle.session_levels.specs.Stands as levels
 use Rattle.engine_parts.specs.declared.session.Stage.TheVariants as stages
 use Rattle.engine_parts.specs.Sessions.{stance_of}
 use Rattle.engine_parts.specs.Stages.{pending_in}
-use Rattle.engine_parts.specs.Standing.{held_by}
+use Rattle.life_law.specs.Refused.{held_by}
 use Rattle.engine_parts.proofs.Calling.{may_counted, ran_held, ran_refused}
 use Rattle.engine_parts.proofs.Refusing.{first_fails, first_holds, held_up}
+use Rattle.engine_parts.specs.declared.session.Stage.{Stage}
 use Rattle.xact_ends.proofs.undos.undo.Goals as goal
 
 pub returns-then-depth-lt2 : goal.returns-then-depth-lt2
@@ -34,7 +35,7 @@ returns-in-Logged g c =
     let is : stage ≡ stages.Logged c.in-Logged.number = sym c.count.ensures.stage ∙ c.in-Logged.is in
     ran_held c.args.hall.now old c.count.new.caller commands.Undo refusals.CommitPending c.count.ensures c.requires (ap pending_in is)
     (first_fails (nat_le (length s.levels) 1) refusals.NoSavepoint _ (lt-leb (length s.levels) 1 (let d = c.depth.ensures in let t = c.if-depth-lt2.false in let same = ap (λ z. length (levels.levels_of z.level_ids.items z.unnamed)) c.count.ensures.levels in omega arith))
-    ∙ held_up (held_by commands.Undo stage) refusals.CommitPending _ (ap (held_by commands.Undo) is))
+    ∙ held_up (held_by commands.Undo (pending_in stage)) refusals.CommitPending _ (ap (λ (z : Stage). held_by commands.Undo (pending_in z)) is))
 
 pub returns-in-Settling : goal.returns-in-Settling
 returns-in-Settling g c =
@@ -44,7 +45,7 @@ returns-in-Settling g c =
     let is : stage ≡ stages.Settling c.in-Settling.steps = sym c.count.ensures.stage ∙ c.in-Settling.is in
     ran_held c.args.hall.now old c.count.new.caller commands.Undo refusals.CommitPending c.count.ensures c.requires (ap pending_in is)
     (first_fails (nat_le (length s.levels) 1) refusals.NoSavepoint _ (lt-leb (length s.levels) 1 (let d = c.depth.ensures in let t = c.if-depth-lt2.false in let same = ap (λ z. length (levels.levels_of z.level_ids.items z.unnamed)) c.count.ensures.levels in omega arith))
-    ∙ held_up (held_by commands.Undo stage) refusals.CommitPending _ (ap (held_by commands.Undo) is))
+    ∙ held_up (held_by commands.Undo (pending_in stage)) refusals.CommitPending _ (ap (λ (z : Stage). held_by commands.Undo (pending_in z)) is))
 
 pub returns-in-Aborting : goal.returns-in-Aborting
 returns-in-Aborting g c =
@@ -54,4 +55,4 @@ returns-in-Aborting g c =
     let is : stage ≡ stages.Aborting = sym c.count.ensures.stage ∙ c.in-Aborting.is in
     ran_held c.args.hall.now old c.count.new.caller commands.Undo refusals.AbortPending c.count.ensures c.requires (ap pending_in is)
     (first_fails (nat_le (length s.levels) 1) refusals.NoSavepoint _ (lt-leb (length s.levels) 1 (let d = c.depth.ensures in let t = c.if-depth-lt2.false in let same = ap (λ z. length (levels.levels_of z.level_ids.items z.unnamed)) c.count.ensures.levels in omega arith))
-    ∙ held_up (held_by commands.Undo stage) refusals.AbortPending _ (ap (held_by commands.Undo) is))
+    ∙ held_up (held_by commands.Undo (pending_in stage)) refusals.AbortPending _ (ap (λ (z : Stage). held_by commands.Undo (pending_in z)) is))

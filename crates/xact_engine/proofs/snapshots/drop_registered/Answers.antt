@@ -1,4 +1,4 @@
-use Rattle.std.proofs.Common.{◌≡◌, arith, ap, ◌∙◌, subst, sym, refl, List, true}
+use Rattle.std.proofs.Common.{◌≡◌, arith, ap, ◌∙◌, subst, sym, refl, List, true, None}
 use Rattle.hall.specs.Calls.{view, start_of}
 use Rattle.notes.specs.Lists.{at}
 use Rattle.tx_events.specs.declared.event.Event.{Event}
@@ -12,6 +12,7 @@ use Rattle.engine_parts.specs.Sessions.{by_at, inner_id, stance_of}
 use Rattle.engine_parts.proofs.Leaving.{call_left}
 use Rattle.engine_parts.proofs.Tabling.{proc_adds}
 use Rattle.xact_engine.proofs.Snapping.{acted_dropped, drop_entry, live_here}
+use Rattle.engine_parts.proofs.Beholding.{not_standing}
 use Rattle.xact_engine.proofs.snapshots.drop_registered.Goals as goal
 
 pub drop_snapshot-requires-clause-registered : goal.drop_snapshot-requires-clause-registered
@@ -44,5 +45,7 @@ returns g c =
           c.requires.may.ready.at e.entered.kept e.entered.learns refl c.unregister.ensures.left c.requires.registered
           (c.unregister.ensures.stance ∙ ap (λ z. record (stance_of z) { snaps = without_snap c.args.name.now (stance_of z).snaps }) e.same.0);
       stage = r.stage ∙ ap (λ z. z.stage) e.same.0;
+      held = tt;
+      still = λ q is. not_standing None q refl is;
       count = (r.count.0 ∙ ap (λ z. z.levels.commands) e.same.0, r.count.1 ∙ e.same.1);
     }

@@ -1,4 +1,4 @@
-use Rattle.std.proofs.Common.{◌≡◌, ℕ, arith, ap, ◌∙◌, subst, sym, refl, List, [], ◌∷◌, ◌++◌, false, map}
+use Rattle.std.proofs.Common.{◌≡◌, ℕ, arith, ap, ◌∙◌, subst, sym, refl, List, [], ◌∷◌, ◌++◌, false, map, None}
 use Rattle.hall.specs.Calls.{view, start_of}
 use Rattle.notes.specs.Lists.{at}
 use Rattle.tx_events.specs.declared.event.Event.{Event}
@@ -22,6 +22,7 @@ use Rattle.engine_parts.proofs.Leaving.{call_left}
 use Rattle.engine_parts.proofs.Tabling.{proc_adds, proc_looks}
 use Rattle.proc_table.specs.Table.{Table}
 use Rattle.xact_engine.proofs.Snapping.{acted_snapped, call_reserved, free_here, not_refused, snap_entry}
+use Rattle.engine_parts.proofs.Beholding.{not_standing}
 use Rattle.xact_engine.proofs.snapshots.take.Goals as goal
 
 pub take_of-requires-clause-free : goal.take_of-requires-clause-free
@@ -50,6 +51,8 @@ returns-in_default g c =
       may = call_reserved (start_of c.args.hall.now) (view c.args.caller.now.pass) c.args.caller.now.number s (record s.levels { registered = c.reserve.new.self }) refl c.reserve.ensures.items c.requires.may;
       acted = acted_refused (start_of c.args.hall.now) (view c.args.caller.now.pass).seen _ c.args.caller.now.number s.levels.commands (stance_of s) _ s.stage (commands.Snap c.args.name.now) refusals.Memory refl (ap (λ z. record { levels = levels_of s.levels.level_ids.items s.levels.unnamed; snaps = map told_of z }) c.reserve.ensures.items) refl (sym (not_refused s c.args.name.now c.requires.free c.requires.room));
       stage = refl;
+      held = tt;
+      still = λ r is. refl;
       count = (refl, refl);
     }
 
@@ -70,6 +73,8 @@ returns-in-Ok-take_of g c =
           (t.lists_are ∙ (λ j. snapshot_data (e.stands.base j).next (e.stands.events j)))
           (c.register.ensures.stance ∙ (λ j. record (stance j) { snaps = (stance j).snaps ++ (t.name_is j, t.command j) ∷ [] }));
       stage = r.stage ∙ ap (λ z. z.stage) e.same.0;
+      held = tt;
+      still = λ q is. not_standing None q refl is;
       count = (r.count.0 ∙ ap (λ z. z.levels.commands) e.same.0, r.count.1 ∙ e.same.1);
     }
 
@@ -86,6 +91,8 @@ returns-in-Err g c =
       acted = acted_looked (start_of c.args.hall.now) (view c.args.caller.now.pass) (view c.enter_proc-table.new.caller.pass) (view c.leave_looked.new.caller.pass) c.args.caller.now.number proc_lock s (stance_of c.leave_looked.new.caller.session) s.stage (commands.Snap c.args.name.now) (replies.Refused refusals.Memory) _
           c.requires.may.ready.at e.entered.kept e.entered.learns (omega arith) refl (λ j. by_at (e.same.1 j) (e.same.0 j).levels.commands) tt c.leave_looked.ensures.left refl refl (sym (not_refused s c.args.name.now c.requires.free c.requires.room)) (sym stance);
       stage = ap (λ z. z.stage) r.same.0 ∙ ap (λ z. z.stage) e.same.0;
+      held = tt;
+      still = λ q is. not_standing None q refl is;
       count = (ap (λ z. z.levels.commands) r.same.0 ∙ ap (λ z. z.levels.commands) e.same.0, r.same.1 ∙ e.same.1);
     }
 

@@ -1,4 +1,4 @@
-use Rattle.std.proofs.Common.{refl, ◌≡◌, ℕ, ◌==◌, List, ap, ◌∙◌, sym, subst, Some, length, arith, eq-eqb, ne_eqb}
+use Rattle.std.proofs.Common.{refl, ◌≡◌, ℕ, ◌==◌, List, ap, ◌∙◌, sym, subst, Some, length, arith, eq-eqb, ne_eqb, IfErr, Option, inr}
 use Rattle.std.proofs.lemmas.List.{nil_from_length}
 use Rattle.hall.specs.Calls.{view}
 use Rattle.tx_events.specs.declared.refusal.Refusal.TheVariants as refusals
@@ -10,8 +10,10 @@ use Rattle.engine_parts.specs.Sessions.{stance_of}
 use Rattle.engine_parts.specs.Stages.{pending_in}
 use Rattle.engine_parts.proofs.Calling.{may_counted, ran_counted, ran_held, ran_refused, step_counted}
 use Rattle.engine_parts.proofs.Refusing.{first_fails, first_holds, held_up}
-use Rattle.xact_writes.specs.Writes.{IsFresh, reply_to}
+use Rattle.xact_writes.specs.Writes.{IsFresh, reply_to, IsFiledBehind}
 use Rattle.xact_writes.proofs.Writing.{clear_stage, fresh_next}
+use Rattle.engine_parts.specs.declared.session.Unlinked.{Unlinked}
+use Rattle.xact_writes.proofs.Filing.{filed_same}
 use Rattle.xact_writes.proofs.writes.write.Goals as goal
 
 pub depth-requires : goal.depth-requires
@@ -55,3 +57,14 @@ name_levels-requires-clause-some g c = let d = c.depth.ensures in let t = c.if-d
 
 pub returns-clause-ran : goal.returns-clause-ran
 returns-clause-ran g c = ran_counted c.args.hall.now c.args.caller.now c.count.new.caller c.name_levels.new.caller commands.Write (reply_of reply_to c.name_levels.result) c.count.ensures c.name_levels.ensures.ran
+
+pub returns-then-depth-eq0-clause-filed : goal.returns-then-depth-eq0-clause-filed
+returns-then-depth-eq0-clause-filed g c = inr c.count.ensures.unlinked
+
+pub returns-in-Some-clause-filed : goal.returns-in-Some-clause-filed
+returns-in-Some-clause-filed g c = filed_same c.args.caller.now.session.unlinked c.count.new.caller.session.unlinked c.in-Some.refusal c.count.ensures.unlinked
+
+pub returns-clause-filed : goal.returns-clause-filed
+returns-clause-filed g c =
+    let w = c.name_levels.new.caller.session in
+    subst (λ (o : Option Unlinked). IfErr c.name_levels.result (IsFiledBehind o w.unlinked)) c.count.ensures.unlinked c.name_levels.ensures.filed

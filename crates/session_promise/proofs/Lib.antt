@@ -19,3 +19,4 @@ pub mod LawfulReplies
 pub mod LawfulSteps
 pub mod LawfulLog
 pub mod LawfulLives
+pub mod Rounding

@@ -11,10 +11,12 @@ use Rattle.tx_model.specs.declared.report.Line.{Line}
 use Rattle.tx_model.specs.LawfulLife.{AreRounds, lines_in}
 use Rattle.life_law.specs.LawfulLife.{AreLawfulSteps, facts_of}
 use Rattle.life_law.specs.LifeLog.{IsLogOf}
+use Rattle.life_law.specs.Pending.{IsOpenAsTold}
 use Rattle.session_promise.specs.Closing.{AreRoundsOf, PromisesMakeLife, steps_of}
 use Rattle.session_promise.specs.Told.{ToldRound, all_lines}
 use Rattle.session_promise.proofs.LawfulLog.{promises_make_log}
 use Rattle.session_promise.proofs.LawfulSteps.{promises_make_steps, step_lines}
+use Rattle.session_promise.proofs.Opened.{opened_told}
 
 rounds_told : (n : ℕ) (commands : List (List (ℕ × Command))) (rounds : List ToldRound) → AreRoundsOf commands rounds → AreRounds n commands (steps_of n rounds)
 rounds_told n [] [] a = tt
@@ -34,4 +36,5 @@ promises_make_life tells start lists rounds commands r begins over few aborts as
       multis = is.multis;
       log = subst (λ (x : (ℕ × Counters) × ((List Event × List Rec) × ℕ)). IsLogOf x.0.0 (records.Checkpoint x.0.0 x.0.1) x.1.0.0 x.1.0.1 x.1.1 r.life.end)
           (λ j. ((sym is.from j, sym is.base j), ((sym is.events j, sym is.recs j), sym is.flushed j))) log;
+      opened = λ n. subst (λ (x : (List Rec × List Event) × List Line). IsOpenAsTold x.0.0 x.0.1 x.1 n) (λ j. ((sym is.recs j, sym is.events j), sym lines j)) (opened_told tells start lists rounds begins over n);
     }

@@ -176,7 +176,7 @@ module _ (tells : Bool) (start : Start) (lists : List (List Entry)) (rounds : Li
       let among : Has (take (flushed - 0) (first_rec ∷ recs_of lists)) rec = place_has (take (flushed - 0) (first_rec ∷ recs_of lists)) (suc f.0) rec (get_in_take (flushed - 0) (suc f.0) (first_rec ∷ recs_of lists) rec low there) in
       subst (λ (x : List Rec × List ℕ). Contains (take (flushed - 0) x.0) (records.Commit t x.1)) (λ j. (sym recs_are j, sym subs j)) (has_contains (take (flushed - 0) (first_rec ∷ recs_of lists)) rec among)
 
-  pub log_of : (end : ℕ) → end < 2 ^ 41 → IsLogOf 0 first_rec h (start.logged ++ recs_of lists) flushed end
+  pub log_of : (end : ℕ) → end < 2 ^ 64 → IsLogOf 0 first_rec h (start.logged ++ recs_of lists) flushed end
   log_of end gate =
       let last = flushes_rise start lists over.kept in
       let one = begins.from in

@@ -1,6 +1,7 @@
 -- What may be answered in the lists at the end is lawful.
-use Rattle.std.proofs.Common.{Bool, Contains, IsTrue, List, [], ap, append_assoc, arith, inl, refl, subst, sym, zero, suc, ℕ, ◌++◌, ◌≡◌, ◌∙◌, ◌∷◌}
-use Rattle.std.proofs.lemmas.Bool.{false≢true}
+use Rattle.engine_parts.specs.Stages.{pending_in}
+use Rattle.std.proofs.Common.{Bool, Contains, IsTrue, List, [], ap, append_assoc, arith, inl, refl, subst, sym, zero, suc, ℕ, ◌++◌, ◌≡◌, ◌∙◌, ◌∷◌, is_some, false}
+use Rattle.std.proofs.lemmas.Bool.{false≢true, or_left}
 use Rattle.notes.specs.Lists.{Begins, Grows, at}
 use Rattle.tx_events.specs.declared.event.By.{By}
 use Rattle.tx_events.specs.declared.refusal.Lock.{Lock}
@@ -14,10 +15,10 @@ use Rattle.tx_model.specs.declared.reply.Reply.TheVariants as replies
 use Rattle.tx_model.specs.declared.report.Line.{Line}
 use Rattle.tx_model.specs.Lines.{is_line_of}
 use Rattle.tx_model.specs.Replies.{RoundSpan}
-use Rattle.tx_model.specs.Stance.{Stance}
+use Rattle.tx_model.specs.Stance.{Stance, top_level}
 use Rattle.life_law.specs.Commands.{has_command}
 use Rattle.life_law.specs.Facts.{Facts, has_log_fault, is_log_fault}
-use Rattle.life_law.specs.Replies.{IsBank, IsLawfulReply, may_ask, may_lack_memory, may_need_log}
+use Rattle.life_law.specs.Replies.{IsBank, IsLawfulReply, may_ask, may_lack_memory, may_need_log, may_append}
 use Rattle.tx_core.specs.declared.entry.Entry.{Entry}
 use Rattle.tx_core.specs.declared.entry.Kind.TheVariants as kinds
 use Rattle.tx_core.specs.declared.entry.Start.{Start}
@@ -29,6 +30,7 @@ use Rattle.tx_core.proofs.Asking.{upheld_has}
 use Rattle.tx_core.proofs.LogLaws.{down_now, down_stays}
 use Rattle.tx_core.proofs.LastNumbers.{number_same}
 use Rattle.engine_parts.specs.declared.session.Stage.{Stage}
+use Rattle.engine_parts.specs.declared.session.Stage.TheVariants as stages
 use Rattle.engine_parts.specs.Answers.{MayAnswer, MetFault}
 use Rattle.engine_parts.specs.Stand.{IsDownAt}
 use Rattle.engine_parts.specs.Standing.{appends, asks_volume, flushes, needs_log, takes_memory}
@@ -37,9 +39,10 @@ use Rattle.session_promise.specs.Promise.{IsAskedFor, recs_of}
 use Rattle.session_promise.specs.Told.{ToldRound, all_lines, lines_by}
 use Rattle.session_promise.proofs.Telling.{lines_told}
 
-lacks : (command : Command) (s : Stance) (stage : Stage) → IsTrue (has_command command) → IsTrue (takes_memory command s stage) → IsTrue (may_lack_memory command)
+lacks : (command : Command) (s : Stance) (stage : Stage) → IsTrue (has_command command) → IsTrue (takes_memory command s stage) → IsTrue (may_lack_memory command s (pending_in stage))
 lacks commands.Write s stage h t = refl
-lacks commands.Commit s stage h t = refl
+lacks commands.Commit s stages.Clear h t = t
+lacks commands.Commit s stage h t = absurd (false≢true t)
 lacks (commands.Snap name) s stage h t = refl
 lacks commands.Begin s stage h t = absurd (false≢true t)
 lacks commands.Save s stage h t = absurd (false≢true t)
@@ -50,26 +53,29 @@ lacks (commands.DropSnap name) s stage h t = absurd (false≢true t)
 lacks (commands.See name x) s stage h t = absurd (false≢true t)
 lacks command s stage h t = absurd (false≢true h)
 
-logs : (command : Command) (s : Stance) (stage : Stage) → IsTrue (has_command command) → IsTrue (flushes command s stage) → IsTrue (may_need_log command)
-logs commands.Commit s stage h t = refl
+logs : (command : Command) (s : Stance) (stage : Stage) → IsTrue (has_command command) → IsTrue (flushes command s stage) → IsTrue (may_need_log command s (pending_in stage))
+logs commands.Commit s stages.Clear h t = or_left (is_some (top_level s.levels)) false t
+logs commands.Commit s (stages.Logged number) h t = refl
+logs commands.Commit s stage h t = absurd (false≢true t)
 logs commands.Trim s stage h t = absurd (false≢true h)
 logs command s stage h t = absurd (false≢true t)
 
-fills_log : (command : Command) (s : Stance) (stage : Stage) → IsTrue (has_command command) → IsTrue (appends command s stage) → IsTrue (may_need_log command)
-fills_log commands.Commit s stage h t = refl
+fills_log : (command : Command) (s : Stance) (stage : Stage) → IsTrue (has_command command) → IsTrue (appends command s stage) → IsTrue (may_append command s (pending_in stage))
+fills_log commands.Commit s stages.Clear h t = t
+fills_log commands.Commit s stage h t = absurd (false≢true t)
 fills_log (commands.Multi members) s stage h t = absurd (false≢true h)
 fills_log commands.Trim s stage h t = absurd (false≢true h)
 fills_log command s stage h t = absurd (false≢true t)
 
-needs : (command : Command) (s : Stance) (stage : Stage) → IsTrue (has_command command) → IsTrue (needs_log command s stage) → IsTrue (may_need_log command)
+needs : (command : Command) (s : Stance) (stage : Stage) → IsTrue (has_command command) → IsTrue (needs_log command s stage) → IsTrue (may_need_log command s (pending_in stage))
 needs (commands.Multi members) s stage h t = absurd (false≢true h)
 needs command s stage h t = logs command s stage h t
 
-asks : (command : Command) (stage : Stage) (lock : Lock) → IsTrue (has_command command) → IsTrue (asks_volume command stage lock) → IsTrue (may_ask command lock)
+asks : (command : Command) (stage : Stage) (lock : Lock) → IsTrue (has_command command) → IsTrue (asks_volume command stage lock) → IsTrue (may_ask command (pending_in stage) lock)
 asks commands.Write stage (locks.Xact bank) h t = refl
 asks commands.Write stage (locks.Subtrans bank) h t = refl
 asks commands.Commit stage (locks.Xact bank) h t = refl
-asks commands.Commit stage (locks.Subtrans bank) h t = refl
+asks commands.Commit stages.Clear (locks.Subtrans bank) h t = refl
 asks commands.Undo stage (locks.Xact bank) h t = refl
 asks commands.Abort stage (locks.Xact bank) h t = refl
 asks (commands.See name x) stage (locks.Xact bank) h t = refl
@@ -134,7 +140,7 @@ module _ (tells : Bool) (start : Start) (lists : List (List Entry)) (rounds : Li
     log_failed = has_log_fault (all_lines rounds);
   }
 
-  pub lawful_reply : (span : RoundSpan) (by : By) (s : Stance) (stage : Stage) (command : Command) (reply : Reply) → IsAskedFor command reply → MayAnswer tells start lists span by s stage command reply → IsLawfulReply facts span by s command reply
+  pub lawful_reply : (span : RoundSpan) (by : By) (s : Stance) (stage : Stage) (command : Command) (reply : Reply) → IsAskedFor command reply → MayAnswer tells start lists span by s stage command reply → IsLawfulReply facts span by s (pending_in stage) command reply
   lawful_reply span by s stage command (replies.Refused refusals.Memory) f a = lacks command s stage f.0 a
   lawful_reply span by s stage command (replies.Refused refusals.Full) f a = fills_log command s stage f.0 a
   lawful_reply span by s stage command (replies.Refused (refusals.DiskFault lock)) f a = (asks command stage lock f.0 a.0, fault_at start lists lock by over.kept a.1)

@@ -61,7 +61,7 @@ each_mid P xs front rest x split each =
     let here : slice_get (front ++ x ∷ rest) (length front) ≡ Some x = subst (λ t. slice_get t (length front) ≡ Some x) (append_assoc front (x ∷ []) rest) (slice_get-grows (front ++ x ∷ []) rest x (length front) (last_at front x)) in
     subst (λ t. P t x) (ap (take (length front)) split ∙ take-append_seam front (x ∷ rest)) (each (length front) x (subst (λ t. slice_get t (length front) ≡ Some x) (sym split) here))
 
-filter_twice : {X : Type 0} (p : X → Bool) (xs : List X) → filter p (filter p xs) ≡ filter p xs
+pub filter_twice : {X : Type 0} (p : X → Bool) (xs : List X) → filter p (filter p xs) ≡ filter p xs
 filter_twice p xs = filter_all (λ x. p x ≡ true) p (filter p xs) (λ x e. e) (filter_passes p xs)
 
 -- ---- steps
@@ -87,7 +87,7 @@ take_lines n (suc i) (r ∷ rounds) = ap (λ ls. r.lines ++ ls) (take_lines (n +
 
 -- ---- what is pending doesn't go by a checkpoint
 
-recorded_same : (number : ℕ) (counters : Counters) (recs : List Rec) (o : Option ℕ) → is_recorded (records.Checkpoint number counters ∷ recs) o ≡ is_recorded recs o
+pub recorded_same : (number : ℕ) (counters : Counters) (recs : List Rec) (o : Option ℕ) → is_recorded (records.Checkpoint number counters ∷ recs) o ≡ is_recorded recs o
 recorded_same number counters recs None = refl
 recorded_same number counters recs (Some top) = refl
 
@@ -102,7 +102,7 @@ after_logged number counters recs s old commands.Undo replies.Done = refl
 after_logged number counters recs s old commands.Undo (replies.Refused (refusals.DiskFault lock)) = refl
 after_logged number counters recs s old command reply = refl
 
-from_logged : (number : ℕ) (counters : Counters) (recs : List Rec) (h : List Event) (lines : List Line) (s : Stance) (old : Option Refusal) → pending_from (records.Checkpoint number counters ∷ recs) h s old lines ≡ pending_from recs h s old lines
+pub from_logged : (number : ℕ) (counters : Counters) (recs : List Rec) (h : List Event) (lines : List Line) (s : Stance) (old : Option Refusal) → pending_from (records.Checkpoint number counters ∷ recs) h s old lines ≡ pending_from recs h s old lines
 from_logged number counters recs h [] s old = refl
 from_logged number counters recs h (l ∷ lines) s old =
     from_logged number counters recs h lines (after s l.by.command l.command l.reply (given (events_of l.by h))) (pending_after (records.Checkpoint number counters ∷ recs) s old l.command l.reply)
@@ -205,7 +205,7 @@ module _ (tells : Bool) (start : Start) (lists : List (List Entry)) (rounds : Li
       number = told.number ∙ ap (λ k. k + 1) (length-filter (is_line_of n) before);
       events = subst (λ s. HasEvents l.by s l.command l.reply (events_of l.by h)) stance_same told.events;
       standing = told.standing ∙ (ap (λ s. refused_by l.command s (pending_in told.stage)) stance_same ∙ ap (refused_by l.command (stance h before n)) (told.pending_is ∙ pending_same));
-      reply = subst (λ (x : RoundSpan × Stance). IsLawfulReply f x.0 l.by x.1 l.command l.reply) (λ j. (span_is j, stance_same j)) (lawful_reply tells start lists rounds over few r.span l.by (stance h (lines_by n before) n) told.stage l.command l.reply told.fits told.answer);
+      reply = subst (λ (x : RoundSpan × (Stance × Option Refusal)). IsLawfulReply f x.0 l.by x.1.0 x.1.1 l.command l.reply) (λ j. (span_is j, (stance_same j, (told.pending_is ∙ pending_same) j))) (lawful_reply tells start lists rounds over few r.span l.by (stance h (lines_by n before) n) told.stage l.command l.reply told.fits told.answer);
     }
 
   each_step : EachPlace (steps_of 1 rounds) (λ before step. IsLawfulRound f (flat_map lines_in before) (lines_in step))

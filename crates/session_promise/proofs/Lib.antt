@@ -18,5 +18,6 @@ pub mod Standing
 pub mod LawfulReplies
 pub mod LawfulSteps
 pub mod LawfulLog
+pub mod Opened
 pub mod LawfulLives
 pub mod Rounding

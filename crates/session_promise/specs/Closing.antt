@@ -1,4 +1,6 @@
 -- What the promises of all sessions make of a life that is over.
+use Rattle.engine_parts.specs.Sessions.{MayCall}
+use Rattle.engine_parts.specs.Holds.{Knowledge}
 use Rattle.std.specs.Prelude.{◌≡◌, ℕ, ◌+◌, ◌^◌, ◌<◌, Bool, List, [], ◌∷◌, ◌++◌, Contains, Some, length, slice_get, take}
 use Rattle.std.specs.List.{AllByRecursion, count_by}
 use Rattle.notes.specs.Lists.{at}
@@ -40,13 +42,20 @@ abbrev pub AreOfSessions : Start → List (List Entry) → Type 0
 AreOfSessions start lists =
     (lock : ℕ) (e : Entry) → Contains (at lists lock) e → e.by.session < start.sessions
 
--- All sessions of the life promise of their lines in its lists, in which its rounds stand one after another.
+-- the session may call in these lists, whatever pass it gets
+pub record MayCallIn (start : Start) (lists : List (List Entry)) (n : ℕ) (s : Session) : Type 0 where
+  pub pass : Knowledge
+  pub seen : pass.seen ≡ lists
+  pub may : MayCall start pass n s
+
+-- All sessions of the life promise of their lines in its lists, in which its rounds stand one after another, and may
+-- call there.
 pub record IsOver (tells : Bool) (start : Start) (lists : List (List Entry)) (rounds : List ToldRound) : Type 0 where
   pub kept : EngineInvariant start lists
   pub known : AreOfSessions start lists
   pub lines : AllByRecursion (λ l. l.by.session < start.sessions) (all_lines rounds)
   pub places : Follow 0 rounds (length (history lists))
-  pub each : (n : ℕ) → n < start.sessions → (s : Session) × Promise tells start lists n (told_by n rounds) s
+  pub each : (n : ℕ) → n < start.sessions → (s : Session) × Promise tells start lists n (told_by n rounds) s × MayCallIn start lists n s
 
 -- fewer than 2,900,000 of the commands make levels
 abbrev pub AreFewLevels : List ToldRound → Type 0
@@ -99,7 +108,7 @@ PromisesMakeSteps =
 abbrev pub PromisesMakeLog : Type 0
 PromisesMakeLog =
     (tells : Bool) (start : Start) (lists : List (List Entry)) (rounds : List ToldRound) (end : ℕ)
-    → BeginsNewLog start → IsOver tells start lists rounds → AbortRecordsExact lists → end < 2 ^ 41
+    → BeginsNewLog start → IsOver tells start lists rounds → AbortRecordsExact lists → end < 2 ^ 64
     → IsLogOf 0 (records.Checkpoint 0 start.base) (history lists) (start.logged ++ recs_of lists)
     (flushed_to start (at lists log_lock)) end
 
@@ -109,5 +118,5 @@ PromisesMakeLife =
     (tells : Bool) (start : Start) (lists : List (List Entry)) (rounds : List ToldRound)
     (commands : List (List (ℕ × Command))) (r : LifeReport)
     → BeginsNewLog start → IsOver tells start lists rounds → AreFewLevels rounds → AbortRecordsExact lists
-    → AreRoundsOf commands rounds → IsReportOf start lists rounds r → r.life.end < 2 ^ 41
+    → AreRoundsOf commands rounds → IsReportOf start lists rounds r → r.life.end < 2 ^ 64
     → IsLawfulLife tells start.banks commands r

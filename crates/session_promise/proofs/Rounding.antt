@@ -1,28 +1,30 @@
 -- A life goes on by a round.
-use Rattle.std.proofs.Common.{Contains, List, None, Option, Some, [], ap, append-nil, append_assoc, arith, inl, inr, length, refl, subst, sym, true, false, Bool, ℕ, ⊎_elim, ◌+◌, ◌++◌, ◌<◌, ◌==◌, ◌≡◌, ◌≤◌, ◌∙◌, ◌∷◌, ◌⊎◌, eq-eqb, eqb-true, get_or}
+use Rattle.std.proofs.Common.{Contains, List, Some, [], ap, append-nil, append_assoc, arith, inl, inr, length, refl, subst, sym, true, false, Bool, ℕ, ⊎_elim, ◌+◌, ◌++◌, ◌<◌, ◌==◌, ◌≡◌, ◌≤◌, ◌∙◌, ◌∷◌, ◌⊎◌, eq-eqb, eqb-true, get_or, zero, suc}
 use Rattle.std.specs.List.{AllByRecursion, list_any, slice_get}
 use Rattle.std.proofs.lemmas.Grind.{flat_map-append}
 use Rattle.std.proofs.lemmas.List.{length-append}
 use Rattle.std.proofs.lemmas.Option.{slice_get-get_or, slice_get_within}
-use Rattle.notes.specs.Lists.{Grows, Knows}
-use Rattle.tx_events.specs.declared.event.By.{By}
-use Rattle.tx_events.specs.declared.event.Event.{Event}
+use Rattle.notes.specs.Lists.{Grows, Knows, own}
 use Rattle.tx_events.proofs.ListSteps.{both_all, not_both}
-use Rattle.tx_events.proofs.Membership.{Has, all_at, all_from, any_has, contains_has, has_any, has_contains, has_flat_map, has_map, map_has}
+use Rattle.tx_events.proofs.Membership.{Has, all_at, all_from, any_has, contains_has, has_any, has_contains, has_flat_map, has_map}
 use Rattle.tx_model.specs.declared.command.Command.{Command}
 use Rattle.tx_model.specs.declared.report.Line.{Line}
 use Rattle.tx_core.specs.declared.entry.Entry.{Entry}
 use Rattle.tx_core.specs.declared.entry.Start.{Start}
 use Rattle.tx_core.specs.EngineInvariant.{EngineInvariant}
-use Rattle.tx_core.specs.Entries.{history, session_of}
+use Rattle.tx_core.specs.Entries.{events_in, history, session_of}
+use Rattle.tx_core.specs.Locks.{proc_lock}
+use Rattle.tx_core.proofs.Opening.{opens}
 use Rattle.tx_core.proofs.Lasting.{history_grows}
 use Rattle.engine_parts.specs.declared.session.Session.{Session}
 use Rattle.engine_parts.specs.Holds.{Knowledge}
 use Rattle.engine_parts.specs.Sessions.{by_at}
 use Rattle.session_promise.specs.Promise.{Answered, Promise}
-use Rattle.session_promise.specs.Rounds.{ArePartsOf, ArePut, IsPartOf, RoundPart, lines_of_parts, sessions_of}
-use Rattle.session_promise.specs.SoFar.{AnsweredLines, IsSoFar, PromiseThroughRound, SoFarGoesOn, TookPart, WentRound, round_of, span_between}
+use Rattle.session_promise.specs.Rounds.{ArePut, RoundPart, lines_of_parts, sessions_of}
+use Rattle.session_promise.specs.SoFar.{AnsweredLines, IsSoFar, PromiseThroughRound, SoFarGoesOn, TookPart, SoFarBegins, SoFarEnds, WentRound, round_of}
 use Rattle.session_promise.specs.Told.{Follow, Told, ToldRound, all_lines, between, lines_by, told_by, told_in, told_of}
+use Rattle.session_promise.specs.Closing.{MayCallIn}
+use Rattle.session_promise.proofs.Beginning.{promise_begins}
 use Rattle.session_promise.proofs.GoingOn.{promise_goes_on}
 use Rattle.session_promise.proofs.Parting.{own_parts, parts_make_round}
 use Rattle.session_promise.proofs.Staying.{promise_stays}
@@ -90,9 +92,11 @@ part_or_none parts n = step (list_any (λ (p : RoundPart). p.session == n) parts
   where
     step : (b : Bool) → list_any (λ (p : RoundPart). p.session == n) parts ≡ b → PartOrNone parts n
     step true q = let f = has_any (λ (p : RoundPart). p.session == n) parts q in record { is = inl (f.0, f.1, eqb-true f.0.session n f.2) }
-    step false q = record { is = inr (λ c.
-        let m = has_map (λ (p : RoundPart). p.session) parts n (contains_has (sessions_of parts) n c) in
-        not_both (list_any (λ (p : RoundPart). p.session == n) parts) (any_has (λ (p : RoundPart). p.session == n) parts m.0 m.1 (eq-eqb m.0.session n m.2)) q) }
+    step false q = record {
+      is = inr (λ c.
+          let m = has_map (λ (p : RoundPart). p.session) parts n (contains_has (sessions_of parts) n c) in
+          not_both (list_any (λ (p : RoundPart). p.session == n) parts) (any_has (λ (p : RoundPart). p.session == n) parts m.0 m.1 (eq-eqb m.0.session n m.2)) q);
+    }
 
 module _ (tells : Bool) (start : Start) (before after : List (List Entry)) (old new : List Session) (turns : List (ℕ × Command)) (parts : List RoundPart) (rounds : List ToldRound)
     (so_far : IsSoFar tells start before old rounds) (went : WentRound tells start before after old new turns parts) where
@@ -143,3 +147,31 @@ module _ (tells : Bool) (start : Start) (before after : List (List Entry)) (old 
 
 pub so_far_goes_on : SoFarGoesOn
 so_far_goes_on tells start before after old new turns parts rounds so_far went = so_far_then tells start before after old new turns parts rounds so_far went
+
+-- before the first round
+pub so_far_begins : SoFarBegins
+so_far_begins tells start lists sessions empty count new = record {
+  count = count;
+  each = λ n s at_n.
+      let fresh = new n s at_n in
+      promise_begins tells start lists n s (record { kept = opens start lists empty; empty = λ place. ap (own session_of n) (empty place); fresh = fresh.0; stage = fresh.1 });
+  places = sym (ap (λ (es : List Entry). length (events_in es)) (empty proc_lock));
+  lines = tt;
+}
+
+-- and when all is over
+pub so_far_ends : SoFarEnds
+so_far_ends tells start lists sessions rounds so_far kept calls = record {
+  kept = kept;
+  lines = so_far.lines;
+  places = so_far.places;
+  each = λ n low. ended n low (there sessions n (let c = so_far.count in omega (arith, c, low)));
+}
+  where
+    there : (ss : List Session) (n : ℕ) → n < length ss → (s : Session) × (slice_get ss n ≡ Some s)
+    there [] n l = absurd (omega (arith, l))
+    there (s ∷ ss) zero l = (s, refl)
+    there (s ∷ ss) (suc n) l = there ss n (omega (arith, l))
+
+    ended : (n : ℕ) → n < start.sessions → (s : Session) × (slice_get sessions n ≡ Some s) → (s : Session) × Promise tells start lists n (told_by n rounds) s × MayCallIn start lists n s
+    ended n low s = (s.0, so_far.each n s.0 s.1, calls n s.0 s.1)

@@ -1,7 +1,7 @@
 -- A life so far, between two rounds.
 use Rattle.std.specs.Prelude.{◌≡◌, ℕ, ◌+◌, ◌<◌, Bool, List, [], ◌∷◌, ◌++◌, Contains, Some, length, slice_get}
 use Rattle.std.specs.List.{AllByRecursion}
-use Rattle.notes.specs.Lists.{Grows, Knows}
+use Rattle.notes.specs.Lists.{Grows, Knows, at}
 use Rattle.tx_model.specs.declared.command.Command.{Command}
 use Rattle.tx_model.specs.declared.report.Line.{Line}
 use Rattle.tx_model.specs.Replies.{RoundSpan}
@@ -10,8 +10,11 @@ use Rattle.tx_core.specs.declared.entry.Start.{Start}
 use Rattle.tx_core.specs.EngineInvariant.{EngineInvariant}
 use Rattle.tx_core.specs.Entries.{history, session_of}
 use Rattle.engine_parts.specs.declared.session.Session.{Session}
+use Rattle.engine_parts.specs.declared.session.Stage.TheVariants as stages
 use Rattle.engine_parts.specs.Holds.{Knowledge}
 use Rattle.engine_parts.specs.Sessions.{by_at}
+use Rattle.session_levels.specs.Stands.{IsFresh}
+use Rattle.session_promise.specs.Closing.{IsOver, MayCallIn}
 use Rattle.session_promise.specs.Promise.{Answered, Promise}
 use Rattle.session_promise.specs.Rounds.{ArePartsOf, RoundPart, lines_of_parts, sessions_of}
 use Rattle.session_promise.specs.Told.{Follow, Told, ToldRound, all_lines, between, told_by, told_in}
@@ -55,6 +58,14 @@ pub record IsSoFar (tells : Bool) (start : Start) (lists : List (List Entry)) (s
   pub places : Follow 0 rounds (length (history lists))
   pub lines : AllByRecursion (λ l. l.by.session < start.sessions) (all_lines rounds)
 
+-- so it is before the first round
+abbrev pub SoFarBegins : Type 0
+SoFarBegins =
+    (tells : Bool) (start : Start) (lists : List (List Entry)) (sessions : List Session)
+    → ((place : ℕ) → at lists place ≡ []) → length sessions ≡ start.sessions
+    → ((n : ℕ) (s : Session) → slice_get sessions n ≡ Some s → IsFresh s.levels × (s.stage ≡ stages.Clear))
+    → IsSoFar tells start lists sessions []
+
 -- Each session of the round ran its commands, and the others did nothing.
 pub record WentRound (tells : Bool) (start : Start) (before after : List (List Entry)) (old new : List Session)
     (turns : List (ℕ × Command)) (parts : List RoundPart) : Type 0 where
@@ -78,3 +89,11 @@ SoFarGoesOn =
     (turns : List (ℕ × Command)) (parts : List RoundPart) (rounds : List ToldRound)
     → IsSoFar tells start before old rounds → WentRound tells start before after old new turns parts
     → IsSoFar tells start after new (rounds ++ round_of before after parts ∷ [])
+
+-- and then the life may be over
+abbrev pub SoFarEnds : Type 0
+SoFarEnds =
+    (tells : Bool) (start : Start) (lists : List (List Entry)) (sessions : List Session) (rounds : List ToldRound)
+    → IsSoFar tells start lists sessions rounds → EngineInvariant start lists
+    → ((n : ℕ) (s : Session) → slice_get sessions n ≡ Some s → MayCallIn start lists n s)
+    → IsOver tells start lists rounds

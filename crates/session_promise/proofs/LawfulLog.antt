@@ -26,6 +26,7 @@ use Rattle.tx_core.specs.Entries.{IsAppended, appended, flushed_to, history, rec
 use Rattle.tx_core.specs.Locks.{log_lock}
 use Rattle.tx_core.specs.RecordsOnce.{OnceIn}
 use Rattle.tx_core.proofs.Flushed.{commits_are_flushed}
+use Rattle.tx_core.proofs.Opening.{sessions_known}
 use Rattle.tx_core.proofs.LogLaws.{flushes_rise}
 use Rattle.tx_core.proofs.Reading.{appended_at, appended_by, appended_is}
 use Rattle.tx_core.proofs.Taking.{get_in_take}
@@ -123,7 +124,7 @@ module _ (tells : Bool) (start : Start) (lists : List (List Entry)) (rounds : Li
       let r = has_rec lists rec (contains_has (recs_of lists) rec c) in
       let by : By = r.1.0 in
       let stands : Contains es (record { by = by; kind = kinds.Append rec }) = r.1.2 in
-      let low = over.known log_lock (record { by = by; kind = kinds.Append rec }) stands in
+      let low = sessions_known start lists over.kept log_lock (record { by = by; kind = kinds.Append rec }) stands in
       whole r.0.session rec ((over.each by.session low).1.ends by rec refl stands) r.1
 
   -- an earlier record of the same top is none

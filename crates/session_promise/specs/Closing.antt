@@ -37,11 +37,6 @@ AreRoundsOf [] [] = Unit {0}
 AreRoundsOf (turns ∷ commands) (r ∷ rounds) = AreLinesOf turns r.lines × AreRoundsOf commands rounds
 AreRoundsOf commands rounds = ⊥
 
--- each entry is of one of the life's sessions
-abbrev pub AreOfSessions : Start → List (List Entry) → Type 0
-AreOfSessions start lists =
-    (lock : ℕ) (e : Entry) → Contains (at lists lock) e → e.by.session < start.sessions
-
 -- the session may call in these lists, whatever pass it gets
 pub record MayCallIn (start : Start) (lists : List (List Entry)) (n : ℕ) (s : Session) : Type 0 where
   pub pass : Knowledge
@@ -52,7 +47,6 @@ pub record MayCallIn (start : Start) (lists : List (List Entry)) (n : ℕ) (s : 
 -- call there.
 pub record IsOver (tells : Bool) (start : Start) (lists : List (List Entry)) (rounds : List ToldRound) : Type 0 where
   pub kept : EngineInvariant start lists
-  pub known : AreOfSessions start lists
   pub lines : AllByRecursion (λ l. l.by.session < start.sessions) (all_lines rounds)
   pub places : Follow 0 rounds (length (history lists))
   pub each : (n : ℕ) → n < start.sessions → (s : Session) × Promise tells start lists n (told_by n rounds) s × MayCallIn start lists n s

@@ -1,6 +1,6 @@
 -- What a session promises of its own lines, whatever other sessions do between its critical sections.
 use Rattle.std.specs.Prelude.{◌≡◌, ℕ, ◌+◌, ◌<◌, ◌≤◌, Bool, true, false, List, [], ◌∷◌, ◌++◌, Contains, IsTrue, Some, length, slice_get}
-use Rattle.std.specs.List.{AllByRecursion, count_by}
+use Rattle.std.specs.List.{count_by}
 use Rattle.notes.specs.Lists.{Knows, at, own}
 use Rattle.tx_events.specs.declared.event.By.{By}
 use Rattle.tx_events.specs.declared.event.Event.{Event}
@@ -22,7 +22,6 @@ use Rattle.life_law.specs.Pending.{pending}
 use Rattle.life_law.specs.Refused.{by_standing, refused_by}
 use Rattle.life_law.specs.Replies.{is_told_verdict}
 use Rattle.tx_core.specs.declared.entry.Entry.{Entry}
-use Rattle.tx_core.specs.declared.entry.Kind.{Kind}
 use Rattle.tx_core.specs.declared.entry.Kind.TheVariants as kinds
 use Rattle.tx_core.specs.declared.entry.LogCall.{LogCall}
 use Rattle.tx_core.specs.declared.entry.Start.{Start}

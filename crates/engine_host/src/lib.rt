@@ -12,5 +12,6 @@ mod volumes;
 
 pub use cluster::{Cluster, NewVolumes, Parts};
 pub use first_parts::open_new;
-pub use host::{Host, admit, close, dismiss, make_table};
+pub use host::{Host, admit, close, dismiss, make_table, new_session};
 pub use refusal::OpenRefusal;
+pub use volumes::{TakenApart, take_apart};

@@ -1,5 +1,5 @@
 -- Why no engine was opened, by its volumes before and after.
-use Rattle.std.specs.Prelude.{◌≡◌, ℕ, IsSome, IsTrue, List, ◌++◌, length, None, Ok, Err, Option, Some, slice_get}
+use Rattle.std.specs.Prelude.{◌≡◌, ℕ, IsSome, IsTrue, List, length, None, Ok, Err, Option, Some, slice_get}
 use Rattle.std.specs.List.{filter_map}
 use Rattle.disk_core.specs.declared.log_disk.LogDisk as logs
 use Rattle.disk_core.specs.declared.page_disk.PageDisk as disks
@@ -14,6 +14,9 @@ use Rattle.wal_core.specs.Log.{IsFull, history_on}
 use Rattle.wal_core.specs.LogViews.{log_disk, log_end}
 use Rattle.wal_core.specs.Opening.{opened}
 use Rattle.wal_records.specs.Spelling.{rec_bytes}
+use Rattle.tx_core.specs.declared.entry.Entry.{Entry}
+use Rattle.tx_core.specs.declared.entry.Start.{Start}
+use Rattle.engine_parts.specs.Parts.{PartStands}
 use Rattle.engine_parts.specs.declared.part.Part.{Part}
 use Rattle.engine_parts.specs.declared.part.Part.TheVariants as parts
 use Rattle.engine_host.specs.declared.cluster.Cluster.{Cluster}
@@ -33,7 +36,7 @@ refusal_by log_refusals.Memory = refusals.Memory
 abbrev pub HasNoRoom : Cluster → ℕ → Type 0
 HasNoRoom c gate = IsFull gate 0 (length (rec_bytes (records.Checkpoint 0 c.base)))
 
-module _ {D : Type 0} {g : logs.Ghosts D} where
+module _ {D : Type 0} (g : logs.Ghosts D) where
   -- a volume that tells opens to no record, with this next gate
   abbrev pub OpensEmpty : D → ℕ → Type 0
   OpensEmpty disk gate = IsTrue g.tells → opened (g.reads disk) ≡ Ok (record { history = None; gate = gate })
@@ -46,6 +49,7 @@ module _ {D : Type 0} {g : logs.Ghosts D} where
   IsStartRefusal old new refusals.Memory = Unit {0}
   IsStartRefusal old new refusal = ⊥
 
+module _ {D : Type 0} {g : logs.Ghosts D} where
   -- why the first checkpoint of a log isn't on disk
   abbrev pub IsBeginRefusal : Cluster → WalLog D g → WalLog D g → OpenRefusal → Type 0
   IsBeginRefusal c old new refusals.LogFault = HasRisen (g.faults (log_disk old)) (g.faults (log_disk new))
@@ -61,7 +65,7 @@ pub record HasFailedAt {P : Type 0} (faults : P → ℕ) (place : ℕ) (old new 
   pub is : slice_get new place ≡ Some now
   pub risen : HasRisen (faults before) (faults now)
 
-module _ {P : Type 0} {p : disks.Ghosts P} where
+module _ {P : Type 0} (p : disks.Ghosts P) where
   -- Why this bank wasn't opened over the first of these volumes of pg_xact and of pg_subtrans, of which the first ones
   -- came back so.
   abbrev pub IsBankRefusal : ℕ → List P → List P → List P → List P → OpenRefusal → Type 0
@@ -88,11 +92,17 @@ module _ {L P : Type 0} {l : logs.Ghosts L} {p : disks.Ghosts P} where
   abbrev pub subtrans_disks : List (Part L P l p) → List P
   subtrans_disks locks = filter_map subtrans_disk locks
 
+  -- each part lies behind its lock, where it stands for some list
+  abbrev pub AreInPlace : List (Part L P l p) → Type 0
+  AreInPlace locks = (lock : ℕ) (part : Part L P l p) → slice_get locks lock ≡ Some part
+      → (start : Start) × (es : List Entry) × PartStands start lock part es
+
   -- there are so many banks of each kind
   pub record HaveDisks (banks : ℕ) (locks : List (Part L P l p)) : Type 0 where
     pub xact : length (xact_disks locks) ≡ banks
     pub subtrans : length (subtrans_disks locks) ≡ banks
 
+module _ {L P : Type 0} (l : logs.Ghosts L) (p : disks.Ghosts P) where
   -- Why no new engine was opened over these volumes, which came back so: the log isn't new, or has no room, a volume
   -- failed, or memory was wanting.
   abbrev pub IsRefusal : Cluster → NewVolumes L P → NewVolumes L P → OpenRefusal → Type 0
@@ -104,5 +114,5 @@ module _ {L P : Type 0} {l : logs.Ghosts L} {p : disks.Ghosts P} where
   IsRefusal c old new (refusals.DiskFault (locks.Subtrans bank)) =
       HasFailedAt p.faults bank old.subtrans.items new.subtrans.items
   IsRefusal c old new (refusals.DiskFault lock) = ⊥
-  IsRefusal c old new refusals.Full = (gate : ℕ) × OpensEmpty {g = l} old.log gate × HasNoRoom c gate
+  IsRefusal c old new refusals.Full = (gate : ℕ) × OpensEmpty l old.log gate × HasNoRoom c gate
   IsRefusal c old new refusals.Memory = Unit {0}

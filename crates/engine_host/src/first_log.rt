@@ -20,9 +20,9 @@ pub(crate) fn start_log<L: LogDisk + Drop>(
     disk: L,
 ) -> Result<WalLog<L>, (L, OpenRefusal)>
     ensures new { IfOk result (λ log. IsNewLog log) }
-    ensures opens { IfOk result (λ log. OpensEmpty {g = L.LogDisk} disk (log_end log)) }
+    ensures opens { IfOk result (λ log. OpensEmpty L.LogDisk disk (log_end log)) }
     ensures count { IfOk result (λ log. L.faults disk ≤ L.faults (log_disk log)) }
-    ensures refused { IfErr result (λ e. IsStartRefusal {g = L.LogDisk} disk e.0 e.1) }
+    ensures refused { IfErr result (λ e. IsStartRefusal L.LogDisk disk e.0 e.1) }
 {
     match WalLog::start(alloc, disk) {
         Ok(started) => {

@@ -2,13 +2,14 @@
 ghost use Rattle.std.specs.Prelude.{◌≡◌, ◌+◌, ◌*◌, ◌≤◌, ◌<◌, ◌++◌, ℕ, IfErr, IfOk, OnErr, OnOk, drop, length, remove, vec_capacity};
 ghost use Rattle.wal_core.specs.LogViews.{log_disk};
 ghost use Rattle.engine_host.specs.Opening.{AreNew, AreParts, IsBegunLog, IsCluster, new_life};
+ghost use Rattle.engine_host.specs.declared.refusal.OpenRefusal.TheVariants as refusals;
 ghost use Rattle.engine_host.specs.Refused.{HaveDisks, IsBankRefusal, IsRefusal, subtrans_disks, xact_disks};
 
 use crate::banks::{new_subtrans, new_xact};
 use crate::cluster::{Cluster, NewVolumes, Parts};
 use crate::first_log::{begin_log, start_log};
 use crate::refusal::OpenRefusal;
-use crate::volumes::{put_back, take_apart};
+use crate::volumes::{bank_volumes, put_back};
 use disk_core::{LogDisk, PageDisk};
 use engine_parts::Part;
 use notes::Note;
@@ -27,6 +28,7 @@ fn first_locks<L: LogDisk, P: PageDisk>(
     ensures disks { IfOk result (λ locks. HaveDisks 0 locks.items) }
     ensures room { IfOk result (λ locks. 3 + 4 * cluster.now.banks ≤ vec_capacity locks) }
     ensures stand { IfOk result (λ locks. AreNew cluster.now 1 locks.items) }
+    ensures refused { IfErr result (λ refusal. refusal ≡ refusals.Memory) }
 {
     let Ok(table) = ProcTable::new(alloc, cluster.base, cluster.sessions) else {
         return Err(OpenRefusal::Memory);
@@ -65,7 +67,7 @@ fn add_bank<L: LogDisk, P: PageDisk + Drop>(
     ensures same { OnErr result (locks.new.items ≡ locks.old.items) }
     ensures back { OnErr result ((length xact.new.items ≡ length xact.old.items)
         × (length subtrans.new.items ≡ length subtrans.old.items)) }
-    ensures refused { IfErr result (λ refusal. IsBankRefusal {p = P.PageDisk} bank xact.old.items xact.new.items
+    ensures refused { IfErr result (λ refusal. IsBankRefusal P.PageDisk bank xact.old.items xact.new.items
         subtrans.old.items subtrans.new.items refusal) }
 {
     let states = match new_xact(alloc, xact.remove(0), cluster, bank) {
@@ -111,7 +113,7 @@ fn add_banks<L: LogDisk, P: PageDisk + Drop>(
     ensures back { (length (xact_disks locks.new.items) + length xact.new.items ≡ cluster.now.banks)
         × (length (subtrans_disks locks.new.items) + length subtrans.new.items ≡ cluster.now.banks) }
     ensures refused { IfErr result (λ refusal. (bank : ℕ) × HaveDisks bank locks.new.items
-        × IsBankRefusal {p = P.PageDisk} bank (drop bank xact.old.items) xact.new.items
+        × IsBankRefusal P.PageDisk bank (drop bank xact.old.items) xact.new.items
         (drop bank subtrans.old.items) subtrans.new.items refusal) }
 {
     for bank in 0..cluster.banks {
@@ -133,7 +135,7 @@ fn taken_apart<L: LogDisk + Drop, P: PageDisk + Drop>(
     ensures xact { result.xact.items ≡ xact_disks locks.items ++ xact.items }
     ensures subtrans { result.subtrans.items ≡ subtrans_disks locks.items ++ subtrans.items }
 {
-    let (xact, subtrans) = take_apart(locks, xact, subtrans);
+    let (xact, subtrans) = bank_volumes(locks, xact, subtrans);
     NewVolumes {
         log: log.into_disk(),
         xact,
@@ -199,7 +201,7 @@ pub fn open_new<L: LogDisk + Drop, P: PageDisk + Drop>(
     ensures cluster { IfOk result (λ parts. parts.cluster ≡ cluster) }
     ensures parts { IfOk result (λ parts. AreParts parts) }
     ensures start { IfOk result (λ parts. parts.start.value ≡ new_life cluster parts.locks.items) }
-    ensures refused { IfErr result (λ e. IsRefusal {l = L.LogDisk} {p = P.PageDisk} cluster volumes e.0 e.1) }
+    ensures refused { IfErr result (λ e. IsRefusal L.LogDisk P.PageDisk cluster volumes e.0 e.1) }
 {
     let NewVolumes {
         log,

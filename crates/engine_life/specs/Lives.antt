@@ -6,6 +6,7 @@ use Rattle.hall.specs.Calls.{start_of}
 use Rattle.tx_events.specs.declared.event.Event.{Event}
 use Rattle.tx_events.specs.declared.record.Counters.{Counters}
 use Rattle.tx_model.specs.declared.report.Life.{Life}
+use Rattle.tx_core.specs.declared.entry.Start.{Start}
 use Rattle.wal_core.specs.declared.wal_log.WalLog.{WalLog}
 use Rattle.wal_core.specs.LogViews.{log_end, log_flushed, log_recs}
 use Rattle.engine_parts.specs.declared.session.Session.{Session}
@@ -15,16 +16,18 @@ use Rattle.engine_host.specs.Opening.{life_of}
 use Rattle.engine_life.specs.declared.opened.OpenLife.{OpenLife}
 
 module _ {L P : Type 0} {l : logs.Ghosts L} {p : disks.Ghosts P} where
-  -- Nothing was done yet. The life begins over a new log, with some counts of faults of its volumes, and each of its
-  -- sessions may be let in.
-  pub record IsNewLife (c : Cluster) (life : OpenLife L P l p) : Type 0 where
+  -- Nothing was done yet in a life that starts so, and each of its sessions may be let in.
+  pub record IsBegun (c : Cluster) (start : Start) (life : OpenLife L P l p) : Type 0 where
     pub host : IsHost life.hall life.host
     pub cluster : life.host.cluster ≡ c
-    pub faults : List ℕ
-    pub start : start_of life.hall ≡ life_of c faults
+    pub start_is : start_of life.hall ≡ start
     pub unseen : HasSeenNothing life.host
     pub names : HoldsAllBut life.host []
     pub parked : (n : ℕ) (s : Session) → n < c.sessions → IsNewSession s → IsParked life.hall life.host n s
+
+  -- it begins over a new log, with some counts of faults of its volumes
+  abbrev pub IsNewLife : Cluster → OpenLife L P l p → Type 0
+  IsNewLife c life = (faults : List ℕ) × IsBegun c (life_of c faults) life
 
 -- the life over a new log that had this history and left this log
 abbrev pub life_told : {D : Type 0} → {g : logs.Ghosts D} → Counters → List Event → WalLog D g → Life

@@ -24,7 +24,7 @@ refusal_by (refusals.DiskFault lock) = no_lives.Device
 refusal_by refusals.Full = no_lives.Full
 refusal_by refusals.Memory = no_lives.Memory
 
-module _ {L P : Type 0} {l : logs.Ghosts L} {p : disks.Ghosts P} where
+module _ {L P : Type 0} (l : logs.Ghosts L) (p : disks.Ghosts P) where
   -- the log's volume failed, or that of a bank
   abbrev pub HasVolumeFailed : Volumes L P → Volumes L P → Type 0
   HasVolumeFailed old new =
@@ -37,7 +37,7 @@ module _ {L P : Type 0} {l : logs.Ghosts L} {p : disks.Ghosts P} where
   IsNoLife c old new (no_lives.Damaged at) = IsTrue l.tells → opened (l.reads old.log) ≡ Err at
   IsNoLife c old new no_lives.OldLog = IsTrue l.tells → IsSome (history_on (l.reads old.log))
   IsNoLife c old new no_lives.Device = HasVolumeFailed old new
-  IsNoLife c old new no_lives.Full = (gate : ℕ) × OpensEmpty {g = l} old.log gate × HasNoRoom c gate
+  IsNoLife c old new no_lives.Full = (gate : ℕ) × OpensEmpty l old.log gate × HasNoRoom c gate
   IsNoLife c old new no_lives.Memory = Unit {0}
 
   -- the media's count rose, or that of a volume since the mounting, until the media took the volumes back

@@ -1,6 +1,6 @@
 use Rattle.std.proofs.Common.{◌≡◌, ◌+◌, ◌≤◌, ◌++◌, length, vec_capacity, vec_len}
 use Rattle.engine_host.specs.Refused.{subtrans_disks, xact_disks}
-use Rattle.engine_host.proofs.volumes.take_apart.Given as goal
+use Rattle.engine_host.proofs.volumes.bank_volumes.Given as goal
 
 abbrev pub invariant-loop-part : goal.invariant-loop-part
 invariant-loop-part g l = record {

@@ -13,7 +13,7 @@ use Rattle.engine_parts.specs.declared.session.Session.{Session}
 use Rattle.engine_host.specs.declared.cluster.Cluster.{Cluster}
 use Rattle.engine_host.specs.Hosts.{HasSeenNothing, HoldsAllBut, IsHost, IsNewSession, IsParked}
 use Rattle.engine_host.specs.Opening.{life_of}
-use Rattle.engine_life.specs.declared.opened.OpenLife.{OpenLife}
+use Rattle.engine_life.specs.declared.life.OpenLife.{OpenLife}
 
 module _ {L P : Type 0} {l : logs.Ghosts L} {p : disks.Ghosts P} where
   -- Nothing was done yet in a life that starts so, and each of its sessions may be let in.

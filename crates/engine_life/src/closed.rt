@@ -8,7 +8,7 @@ ghost use Rattle.tx_core.specs.Locks.{log_lock};
 ghost use Rattle.engine_parts.specs.Parts.{IsLogOf};
 ghost use Rattle.engine_host.specs.Hosts.{HoldsAllBut, IsHost};
 
-use crate::opened::{Aside, OpenLife};
+use crate::life::{Aside, OpenLife};
 use disk_core::{LogDisk, PageDisk, Volumes};
 use engine_host::{Parts, TakenApart, close, take_apart};
 use tx_events::EventList;
@@ -26,9 +26,7 @@ pub struct ClosedLife<L: LogDisk, P> {
 
 /// Closes a life whose sessions are all dismissed. Its history and its log are those of the lists that the host has seen,
 /// which are all that was done, and of which the engine invariant holds. Takes no memory.
-pub fn close_life<L: LogDisk + Drop, P: PageDisk + Drop>(
-    life: OpenLife<L, P>,
-) -> ClosedLife<L, P>
+pub fn close_life<L: LogDisk + Drop, P: PageDisk + Drop>(life: OpenLife<L, P>) -> ClosedLife<L, P>
     requires host { IsHost life.hall life.host }
     requires all { HoldsAllBut life.host [] }
     ensures events { result.events ≡ history (view life.host.pass).seen }
@@ -36,7 +34,12 @@ pub fn close_life<L: LogDisk + Drop, P: PageDisk + Drop>(
     ensures kept { EngineInvariant (start_of life.hall) (view life.host.pass).seen }
 {
     let OpenLife { hall, host, aside } = life;
-    let Parts { locks, .. } = close(hall, host);
+    let parts = close(hall, host);
+    let Parts {
+        cluster: _,
+        locks,
+        start: _,
+    } = parts;
     let Aside {
         offsets,
         members,

@@ -61,7 +61,8 @@ fn put_rest<L: LogDisk>(
 {
     put_history(out, names, events)?;
     put_no_multis(out, names)?;
-    put_log(out, log, events)
+    put_log(out, log, events)?;
+    Ok(())
 }
 
 /// Ends the report of a life over a new log, which had this history and left this log: what stands behind its steps, and

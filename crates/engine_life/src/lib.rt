@@ -4,10 +4,12 @@
 
 mod closed;
 mod ending;
+mod life;
 mod opened;
 mod refusal;
 
 pub use closed::{ClosedLife, close_life};
 pub use ending::end_report;
-pub use opened::{Aside, OpenLife, open_life};
+pub use life::{Aside, OpenLife};
+pub use opened::open_life;
 pub use refusal::NoLife;

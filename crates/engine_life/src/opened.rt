@@ -6,31 +6,11 @@ ghost use Rattle.engine_life.specs.Lives.{IsBegun, IsNewLife};
 ghost use Rattle.engine_life.specs.declared.refusal.NoLife.TheVariants as no_lives;
 ghost use Rattle.engine_life.specs.Refusals.{IsNoLife, IsUnopened};
 
+use crate::life::{Aside, OpenLife};
 use crate::refusal::{NoLife, refusal_of};
 use disk_core::{LogDisk, Media, MountRefusal, PageDisk, Volumes};
-use engine_host::{Cluster, Host, NewVolumes, Parts, TakenApart, make_table, open_new, take_apart};
-use engine_parts::EngineLaw;
-use hall::Hall;
+use engine_host::{Cluster, NewVolumes, Parts, TakenApart, make_table, open_new, take_apart};
 use std::alloc::{AllocError, Global};
-
-/// The volumes that no part of the engine uses, those of the multixacts' stores, and room to put those of its banks
-/// into when it is taken apart.
-#[derive(Drop)]
-pub struct Aside<P> {
-    offsets: Vec<P>,
-    members: Vec<P>,
-    xact: Vec<P>,
-    subtrans: Vec<P>,
-    ghost empty: { (xact.items ≡ []) × (subtrans.items ≡ []) },
-    ghost room: { (67 ≤ vec_capacity xact) × (67 ≤ vec_capacity subtrans) },
-}
-
-/// A life: its lock table with the host, and the volumes that they don't use.
-pub struct OpenLife<L: LogDisk, P: PageDisk> {
-    pub hall: Hall<EngineLaw<L, P>>,
-    pub host: Host<L, P>,
-    pub aside: Aside<P>,
-}
 
 // The most locks that an engine has: those of 16 banks.
 const MOST_LOCKS: usize = 67;
@@ -45,7 +25,9 @@ fn together<L: LogDisk + Drop, P: PageDisk + Drop>(
     ensures subtrans { result.subtrans ≡ volumes.subtrans }
 {
     let Aside {
-        offsets, members, ..
+        offsets,
+        members,
+        ..
     } = aside;
     let NewVolumes {
         log,
@@ -68,7 +50,11 @@ fn volumes_of<L: LogDisk + Drop, P: PageDisk + Drop>(
 ) -> Volumes<L, P>
     requires { AreParts parts }
 {
-    let Parts { locks, .. } = parts;
+    let Parts {
+        cluster: _,
+        locks,
+        start: _,
+    } = parts;
     let Aside {
         offsets,
         members,

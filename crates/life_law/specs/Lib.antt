@@ -1,3 +1,4 @@
+pub mod Commands
 pub mod Refused
 pub mod Pending
 pub mod Facts
@@ -5,3 +6,5 @@ pub mod Replies
 pub mod Lines
 pub mod LifeLog
 pub mod LawfulLife
+pub mod Laws
+pub mod Worked

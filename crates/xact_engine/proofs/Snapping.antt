@@ -53,10 +53,10 @@ snap_entry by name = record { by = by; kind = kinds.Event (events.Snap by name) 
 abbrev pub drop_entry : By → List ℕ → Entry
 drop_entry by name = record { by = by; kind = kinds.Event (events.SnapDrop by name) }
 
-pub may_snap : (start : Start) (seen : List (List Entry)) (by : By) (name : List ℕ) (e : Entry) → e ≡ snap_entry by name → is_live start.base.next by.session name (history seen) ≡ false → IsInTurn (at seen proc_lock) by → MayKeep start seen proc_lock e
+pub may_snap : (start : Start) (seen : List (List Entry)) (by : By) (name : List ℕ) (e : Entry) → e ≡ snap_entry by name → is_live start.base.next by.session name (history seen) ≡ false → IsInTurn start (at seen proc_lock) by → MayKeep start seen proc_lock e
 may_snap start seen by name e is free turn = subst (MayKeep start seen proc_lock) (sym is) (λ lists k knows inside whole. snap_event_law start seen by name free lists k knows inside whole turn)
 
-pub may_drop : (start : Start) (seen : List (List Entry)) (by : By) (name : List ℕ) (e : Entry) → e ≡ drop_entry by name → is_live start.base.next by.session name (history seen) ≡ true → IsInTurn (at seen proc_lock) by → MayKeep start seen proc_lock e
+pub may_drop : (start : Start) (seen : List (List Entry)) (by : By) (name : List ℕ) (e : Entry) → e ≡ drop_entry by name → is_live start.base.next by.session name (history seen) ≡ true → IsInTurn start (at seen proc_lock) by → MayKeep start seen proc_lock e
 may_drop start seen by name e is live turn = subst (MayKeep start seen proc_lock) (sym is) (λ lists k knows inside whole. snap_drop_law start seen by name live lists k knows inside whole turn)
 
 -- The session stands with the snapshots that it has after an event that closes no id.
@@ -109,7 +109,7 @@ acted_snapped start v u w n s s' name lists e a k learns is l free room held sta
     let event : Event = events.Snap (by_at n s.levels.commands) name in
     let wide = a.wide in let long = learns.long in
     let grown : history w.seen ≡ history u.seen ++ event ∷ [] = history_event start u w e event (ap event_of is) (omega arith) l in
-    acted_event start v u w n s s' (commands.Snap name) (replies.Snapped lists) e event a k learns (ap event_of is) refl l refl (
+    acted_event start v u w n s s' (commands.Snap name) (replies.Snapped lists) e event a k learns (ap event_of is) refl (ap (λ (z : Entry). z.by) is) l refl (
       snap_missing name (stance_of s).levels s.levels.registered.items free,
       omega (arith, length-map s.levels.registered.items told_of),
       length (history u.seen),
@@ -128,7 +128,7 @@ pub acted_dropped : {tells : Bool} (start : Start) (v u w : Knowledge) (n : ℕ)
     → Acted tells start (by_at n s.levels.commands) (stance_of s) s' s.stage (commands.DropSnap name) replies.Done v.seen w.seen
 acted_dropped start v u w n s s' name e a k learns is l registered stance =
     let some = some_found name (stance_of s).levels s.levels.registered.items registered in
-    acted_event start v u w n s s' (commands.DropSnap name) replies.Done e (events.SnapDrop (by_at n s.levels.commands) name) a k learns (ap event_of is) refl l refl
+    acted_event start v u w n s s' (commands.DropSnap name) replies.Done e (events.SnapDrop (by_at n s.levels.commands) name) a k learns (ap event_of is) refl (ap (λ (z : Entry). z.by) is) l refl
     some (sym (ap (λ (b : Bool). then_some b refusals.NoSnapshot) (some_is (snap_of name (stance_of s)) some))) (sym stance)
 
 -- a name is live in the history where the session has it

@@ -1,0 +1,81 @@
+-- What a run of the tool says.
+use Rattle.std.specs.Prelude.{◌≡◌, ℕ, Bool, ◌<◌, ◌≤◌, ◌⊎◌, List, [], ◌∷◌, ◌++◌, Option, None, Some, Ok, take, length, codes, Contains}
+use Rattle.std.specs.Io.KnownBytes.{Consumes, Appends, IsAtEnd}
+use Rattle.tx_model.specs.declared.report.Report.{Report}
+use Rattle.tx_model.specs.declared.report.LifeReport.{LifeReport}
+use Rattle.tx_model.specs.LawfulLife.{BeginsLog}
+use Rattle.life_law.specs.LawfulLife.{IsLawfulLife}
+use Rattle.script_lines.specs.declared.kind.Kind.{Kind}
+use Rattle.session_lang.specs.declared.script.Script.{Script}
+use Rattle.report_text.specs.ReportText.{report_text}
+use Rattle.session_lang.specs.Rounds.{rounds_of}
+use Rattle.session_lang.specs.Script.{read_script}
+use Rattle.run_law.specs.Refusals.{refusal_of, refusal_text}
+
+-- The report of a run of the script over a new log: one life, from the script's counters, round by round. Verdicts are
+-- told where the page volumes tell what they hold.
+pub record IsReportOf (tells : Bool) (s : Script) (r : Report) : Type 0 where
+  pub names : r.names ≡ s.names
+  pub life : LifeReport
+  pub one : r.lives ≡ life ∷ []
+  pub last : life.crash ≡ None
+  pub begins : BeginsLog s.base life.life
+  pub lawful : IsLawfulLife tells s.banks (rounds_of s.items) life
+
+-- the most bytes that a run reads: one past the limit of a script
+abbrev pub most_read : ℕ
+most_read = 16777217
+
+-- at most so many bytes were read
+pub record ReadsUpTo (most : ℕ) (left left' : Option (List ℕ)) : Type 0 where
+  pub bytes : List ℕ
+  pub read : Consumes left left' bytes
+  pub few : length bytes ≤ most
+
+-- the one list of words that is accepted
+abbrev pub IsRun : List (List ℕ) → Type 0
+IsRun words = words ≡ codes "run" ∷ []
+
+-- The source was read to its end and its bytes are a script, and the text is that of a report of this script.
+pub record IsAnswer (tells : Bool) (left left' : Option (List ℕ)) (text : List ℕ) : Type 0 where
+  pub bytes : List ℕ
+  pub read : Consumes left left' bytes
+  pub ended : IsAtEnd left'
+  pub script : Script
+  pub spelled : read_script bytes ≡ Ok script
+  pub report : Report
+  pub lawful : IsReportOf tells script report
+  pub exact : text ≡ report_text report
+
+-- The sink holds such a text more.
+pub record IsWholeRun (tells : Bool) (left left' held held' : Option (List ℕ)) : Type 0 where
+  pub text : List ℕ
+  pub answer : IsAnswer tells left left' text
+  pub written : Appends held held' text
+
+-- The source was read to its end or past the limit, its bytes are refused, and the text tells where and why.
+pub record IsNoScript (left left' : Option (List ℕ)) (text : List ℕ) : Type 0 where
+  pub bytes : List ℕ
+  pub read : Consumes left left' bytes
+  pub ended : IsAtEnd left' ⊎ (16777216 < length bytes)
+  pub fault : ℕ × Kind
+  pub refused : refusal_of bytes ≡ Some fault
+  pub exact : text ≡ refusal_text fault
+
+-- The sink holds such a text more.
+pub record IsRefused (left left' held held' : Option (List ℕ)) : Type 0 where
+  pub text : List ℕ
+  pub refusal : IsNoScript left left' text
+  pub written : Appends held held' text
+
+-- the other lines that end a run without a report
+abbrev pub last_lines : List (List ℕ)
+last_lines =
+    (codes "words" ++ 10 ∷ []) ∷ (codes "read-fault" ++ 10 ∷ []) ∷ (codes "memory" ++ 10 ∷ []) ∷ []
+
+-- The sink holds a front of a run's report more, or of a last line.
+pub record HoldsFront (tells : Bool) (left left' held held' : Option (List ℕ)) : Type 0 where
+  pub text : List ℕ
+  pub whole : IsAnswer tells left left' text ⊎ (IsNoScript left left' text ⊎ Contains last_lines text)
+  pub count : ℕ
+  pub front : Appends held held' (take count text)

@@ -1,0 +1,58 @@
+-- The commands of a script, round by round, and which scripts a life can run.
+use Rattle.std.specs.Prelude.{◌≡◌, ℕ, ◌<◌, ◌≤◌, ◌^◌, ◌⊎◌, Bool, true, false, List, [], ◌∷◌, ◌++◌, Option, Some, None, length}
+use Rattle.std.specs.List.{All, filter_map}
+use Rattle.tx_model.specs.declared.command.Command.{Command}
+use Rattle.tx_model.specs.declared.command.Command.TheVariants as commands
+use Rattle.tx_events.specs.Base.{IsBase}
+use Rattle.session_lang.specs.declared.script.Item.{Item}
+use Rattle.session_lang.specs.declared.script.Item.TheVariants as items
+use Rattle.session_lang.specs.declared.script.Script.{Script}
+
+abbrev pub turn_in : Item → Option (ℕ × Command)
+turn_in (items.Run session command) = Some (session, command)
+turn_in _ = None
+
+abbrev pub turns_in : List Item → List (ℕ × Command)
+turns_in script = filter_map turn_in script
+
+abbrev pub is_command : Item → Bool
+is_command (items.Run session command) = true
+is_command _ = false
+
+-- the round is the commands before the first directive, and the rest stands behind that
+pub record IsFirstRound (script round rest : List Item) : Type 0 where
+  pub commands : All (λ item. is_command item ≡ true) round
+  pub split : ((script ≡ round) × (rest ≡ [])) ⊎ ((directive : Item) × (is_command directive ≡ false) × (script ≡ round ++ directive ∷ rest))
+
+-- a command that the run has
+abbrev pub has_command : Command → Bool
+has_command commands.Begin = true
+has_command commands.Save = true
+has_command commands.Write = true
+has_command commands.Release = true
+has_command commands.Undo = true
+has_command commands.Commit = true
+has_command commands.Abort = true
+has_command (commands.Snap name) = true
+has_command (commands.DropSnap name) = true
+has_command (commands.See name x) = true
+has_command _ = false
+
+-- and a line
+abbrev pub has_item : Item → Bool
+has_item (items.Run session command) = has_command command
+has_item items.Round = true
+has_item _ = false
+
+-- a life with so many sessions can run the item
+abbrev pub MayRun : ℕ → Item → Type 0
+MayRun sessions (items.Run session command) = (has_command command ≡ true) × (session < sessions)
+MayRun sessions items.Round = Unit {0}
+MayRun sessions _ = ⊥
+
+-- a script that sessions can run, round by round
+pub record IsRunnable (s : Script) : Type 0 where
+  pub base : IsBase s.base
+  pub items : All (MayRun (length s.names)) s.items
+  pub sessions : length s.names ≤ 64
+  pub few : length s.items ≤ 2 ^ 24

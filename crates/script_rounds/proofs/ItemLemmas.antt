@@ -8,7 +8,7 @@ use Rattle.std.specs.Option.{is_some}
 use Rattle.session_lang.specs.declared.script.Item.{Item}
 use Rattle.session_lang.specs.declared.script.Item.TheVariants as items
 use Rattle.session_lang.specs.Rounds.{session_of}
-use Rattle.script_rounds.specs.Turns.{IsFirstRound, is_command}
+use Rattle.run_law.specs.Turns.{IsFirstRound, is_command}
 
 -- a command is what has a session
 pub has_session : (x : Item) → is_command x ≡ is_some (session_of x)

@@ -15,7 +15,7 @@ use Rattle.std.proofs.lemmas.List.{nil_from_length}
 use Rattle.session_lang.proofs.SeenLemmas.{is_in, is_in_seen, push_next, push_old}
 use Rattle.script_rounds.specs.declared.plan.Plan.{Plan}
 use Rattle.script_rounds.specs.Plans.{HasPlaces, IsBlank, IsListed, IsPlanOf, turns_at}
-use Rattle.script_rounds.specs.Turns.{MayRun, turn_in, turns_in}
+use Rattle.run_law.specs.Turns.{MayRun, turn_in, turns_in}
 use Rattle.script_rounds.proofs.ListLemmas.{all_front, set_cases}
 use Rattle.script_rounds.proofs.RoundLemmas.{others_turn, own_turn, turns_step}
 

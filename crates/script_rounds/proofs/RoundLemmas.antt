@@ -19,7 +19,7 @@ use Rattle.session_lang.specs.declared.script.Item.{Item}
 use Rattle.session_lang.specs.declared.script.Item.TheVariants as items
 use Rattle.session_lang.specs.Rounds.{round_of, rounds_from, rounds_of, sessions_in, turns_of}
 use Rattle.script_rounds.specs.Told.{round_step}
-use Rattle.script_rounds.specs.Turns.{is_command, turn_in, turns_in}
+use Rattle.run_law.specs.Turns.{is_command, turn_in, turns_in}
 
 -- the commands of the sessions other than x
 abbrev others : ℕ → List (ℕ × Command) → List (ℕ × Command)

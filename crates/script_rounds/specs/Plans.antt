@@ -6,7 +6,7 @@ use Rattle.tx_events.specs.Places.{first_seen}
 use Rattle.session_lang.specs.declared.script.Item.{Item}
 use Rattle.session_lang.specs.Rounds.{sessions_in, turns_of}
 use Rattle.script_rounds.specs.declared.plan.Plan.{Plan}
-use Rattle.script_rounds.specs.Turns.{turns_in}
+use Rattle.run_law.specs.Turns.{turns_in}
 
 -- a session's commands at these places of a round
 abbrev pub turns_at : ℕ → List Item → List ℕ → List (ℕ × Command)

@@ -2,7 +2,7 @@
 ghost use Rattle.std.specs.Prelude.{◌≡◌, ◌==◌, ℕ, ◌<◌, List, [], ◌∷◌, ◌++◌, cond, IfOk, OnOk, set, get_or, length};
 ghost use Rattle.std.specs.List.{All};
 ghost use Rattle.script_rounds.specs.Plans.{IsBlank, IsListed, IsPlanOf};
-ghost use Rattle.script_rounds.specs.Turns.{MayRun};
+ghost use Rattle.run_law.specs.Turns.{MayRun};
 
 use session_lang::Items;
 use std::alloc::Global;

@@ -3,7 +3,7 @@ ghost use Rattle.std.specs.Prelude.{◌≡◌, [], ◌∷◌, IfNone, IfOk, IfSo
 ghost use Rattle.session_lang.specs.declared.script.Item.TheVariants as items;
 ghost use Rattle.session_lang.specs.Rounds.{turns_of};
 ghost use Rattle.script_rounds.specs.Plans.{turns_at};
-ghost use Rattle.script_rounds.specs.Turns.{IsFirstRound, turns_in};
+ghost use Rattle.run_law.specs.Turns.{IsFirstRound, turns_in};
 
 use session_lang::{Item, Items};
 use tx_model::{Command, Memory};

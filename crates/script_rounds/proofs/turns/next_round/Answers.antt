@@ -4,7 +4,7 @@ use Rattle.std.proofs.lemmas.List.{drop_all, get_or_default, take_all}
 use Rattle.std.specs.List.{All}
 use Rattle.std.specs.Option.{is_some}
 use Rattle.session_lang.specs.declared.script.Item.TheVariants as items
-use Rattle.script_rounds.specs.Turns.{IsFirstRound, is_command}
+use Rattle.run_law.specs.Turns.{IsFirstRound, is_command}
 use Rattle.script_rounds.proofs.ItemLemmas.{has_session, round_at}
 use Rattle.script_rounds.proofs.ListLemmas.{all_more}
 use Rattle.script_rounds.proofs.turns.next_round.Goals as goal

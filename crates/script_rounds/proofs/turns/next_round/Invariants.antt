@@ -1,6 +1,6 @@
 use Rattle.std.proofs.Common.{◌≡◌, take, true}
 use Rattle.std.specs.List.{All}
-use Rattle.script_rounds.specs.Turns.{is_command}
+use Rattle.run_law.specs.Turns.{is_command}
 use Rattle.script_rounds.proofs.turns.next_round.Given as goal
 
 abbrev pub invariant-loop-i : goal.invariant-loop-i

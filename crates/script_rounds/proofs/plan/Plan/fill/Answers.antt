@@ -4,7 +4,7 @@ use Rattle.std.proofs.lemmas.List.Elements.{All-get_or}
 use Rattle.session_lang.specs.declared.script.Item.TheVariants as items
 use Rattle.script_rounds.specs.declared.plan.Plan.{Plan}
 use Rattle.script_rounds.specs.Plans.{IsPlanOf}
-use Rattle.script_rounds.specs.Turns.{MayRun}
+use Rattle.run_law.specs.Turns.{MayRun}
 use Rattle.script_rounds.proofs.PlanLemmas.{may_run, plan_more, plan_none, plan_same}
 use Rattle.script_rounds.proofs.plan.Plan.fill.Goals as goal
 use Rattle.script_rounds.proofs.plan.Plan.fill.Goals.{in-Some+in_ok-add, in_default}

@@ -6,6 +6,7 @@ use Rattle.std.proofs.lemmas.List.{get_or-set_other, length-replicate}
 use Rattle.std.proofs.Math.Bool.{or-true}
 use Rattle.std.specs.List.{slice_get}
 use Rattle.notes.specs.Lists.{at, own}
+use Rattle.notes.proofs.Names.{blank}
 use Rattle.hall.specs.declared.view.View.{View}
 use Rattle.hall.specs.declared.writer.Writer.TheVariants.{Lock}
 use Rattle.hall.specs.Calls.{ShownBy}
@@ -107,36 +108,45 @@ has_kept (x ∷ xs) number n differs h =
 
 module _ {S E : Type 0} where
   -- all but one name stay
+  pub name_left : (v w : View S E) (number n : ℕ) → w ≡ giving (asking number v) → n ≢ number → Holds v n → Holds w n
+  name_left v w number n is differs has = subst (λ (u : View S E). Holds u n) (sym is) (get_or-set_other v.holds number n false false differs ∙ has)
+
   pub name_given : (v w : View S E) (number n : ℕ) (away : List ℕ) → w ≡ giving (asking number v) → Holds v n ⊎ Contains away n → Holds w n ⊎ Contains (number ∷ away) n
   name_given v w number n away is has =
       ⊎_elim
       (λ (same : (eqb n number ≡ true) × (n ≡ number)). inr (has_contains (number ∷ away) n (inl (sym same.1))))
       (λ (other : (eqb n number ≡ false) × (n ≢ number)).
       ⊎_elim
-      (λ (h : Holds v n). inl (subst (λ (u : View S E). Holds u n) (sym is) (get_or-set_other v.holds number n false false other.1 ∙ h)))
+      (λ (h : Holds v n). inl (name_left v w number n is other.1 h))
       (λ (k : Contains away n). inr (has_contains (number ∷ away) n (inr (contains_has away n k))))
       has)
       (eqb_tells n number)
 
-  -- one may be said to be away that isn't
-  pub name_stays : (v w : View S E) (number n : ℕ) (away : List ℕ) → w ≡ v → Holds v n ⊎ Contains away n → Holds w n ⊎ Contains (number ∷ away) n
-  name_stays v w number n away is has =
+  -- the pass that is given has this name and no other
+  pub name_of_given : (v w : View S E) (number n : ℕ) → w ≡ given (asking number v) → Holds w n → n ≡ number
+  name_of_given v w number n is has =
       ⊎_elim
-      (λ (h : Holds v n). inl (subst (λ (u : View S E). Holds u n) (sym is) h))
-      (λ (k : Contains away n). inr (has_contains (number ∷ away) n (inr (contains_has away n k))))
-      has
+      (λ (same : (eqb n number ≡ true) × (n ≡ number)). same.1)
+      (λ (other : (eqb n number ≡ false) × (n ≢ number)).
+      absurd (let b : false ≡ true = sym (get_or-set_other (replicate (length v.holds) false) number n true false other.1 ∙ blank (length v.holds) n) ∙ (ap (λ (u : View S E). get_or u.holds n false) (sym is) ∙ has) in cc))
+      (eqb_tells n number)
+
+  -- a pass has the names of both of which it was joined
+  pub name_kept : (v w u : View S E) (n : ℕ) → u.holds ≡ either_of v.holds w.holds → Holds v n → Holds u n
+  name_kept v w u n is has = ap (λ (l : List Bool). get_or l n false) is ∙ (either_at v.holds w.holds n ∙ ap (λ b. b || get_or w.holds n false) has)
+
+  pub name_taken : (v w u : View S E) (n : ℕ) → u.holds ≡ either_of v.holds w.holds → Holds w n → Holds u n
+  name_taken v w u n is has =
+      ap (λ (l : List Bool). get_or l n false) is ∙ (either_at v.holds w.holds n ∙ (ap (λ b. get_or v.holds n false || b) has ∙ or-true (get_or v.holds n false)))
 
   -- the name of a pass that was joined is back
   pub name_back : (v w u : View S E) (number n : ℕ) (away : List ℕ) → u.holds ≡ either_of v.holds w.holds → Holds w number → Holds v n ⊎ Contains away n → Holds u n ⊎ Contains (without number away) n
   name_back v w u number n away is own has =
-      let read : get_or u.holds n false ≡ (get_or v.holds n false || get_or w.holds n false) = ap (λ (l : List Bool). get_or l n false) is ∙ either_at v.holds w.holds n in
       ⊎_elim
-      (λ (h : Holds v n). inl (read ∙ ap (λ b. b || get_or w.holds n false) h))
+      (λ (h : Holds v n). inl (name_kept v w u n is h))
       (λ (k : Contains away n).
       ⊎_elim
-      (λ (same : (eqb n number ≡ true) × (n ≡ number)).
-      let there : get_or w.holds n false ≡ true = subst (λ m. get_or w.holds m false ≡ true) (sym same.1) own in
-      inl (read ∙ (ap (λ b. get_or v.holds n false || b) there ∙ or-true (get_or v.holds n false))))
+      (λ (same : (eqb n number ≡ true) × (n ≡ number)). inl (name_taken v w u n is (subst (λ m. get_or w.holds m false ≡ true) (sym same.1) own)))
       (λ (other : (eqb n number ≡ false) × (n ≢ number)). inr (has_contains (without number away) n (has_kept away number n other.1 (contains_has away n k))))
       (eqb_tells n number))
       has

@@ -1,14 +1,15 @@
 //! The lock table of an engine, and its host.
-ghost use Rattle.std.specs.Prelude.{◌≡◌, ◌⊎◌, ◌≤◌, ℕ, [], ◌∷◌, List, IfOk, IfErr, IfSome, IfNone, false, slice_index_or};
+ghost use Rattle.std.specs.Prelude.{◌≡◌, ◌↔◌, ◌<◌, ◌≤◌, ℕ, [], ◌∷◌, List, IfOk, IfErr};
 ghost use Rattle.hall.specs.Calls.{StandFor, Joined, start_of, view};
-ghost use Rattle.session_levels.specs.Stands.{IsFresh};
+ghost use Rattle.hall.specs.Rule.{Holds};
 ghost use Rattle.tx_core.specs.Entries.{session_of};
 ghost use Rattle.tx_core.specs.EngineInvariant.{EngineInvariant};
 ghost use Rattle.engine_parts.specs.Calls.{MayRun};
 ghost use Rattle.engine_parts.specs.Law.{writer_of};
 ghost use Rattle.engine_parts.specs.Parts.{PartStands};
+ghost use Rattle.engine_parts.specs.declared.session.Session.{Session};
 ghost use Rattle.engine_host.specs.Opening.{AreParts};
-ghost use Rattle.engine_host.specs.Hosts.{HasSeenNothing, HoldsAllBut, IsHost, opening, without, words_of};
+ghost use Rattle.engine_host.specs.Hosts.{HasSeenNothing, HoldsAllBut, IsHost, IsNewSession, IsParked, OthersStayParked, opening, without, words_of};
 
 use crate::cluster::{Cluster, Parts};
 use disk_core::{LogDisk, PageDisk};
@@ -58,6 +59,8 @@ pub fn make_table<L: LogDisk, P: PageDisk>(
     ensures host { IfOk result (λ r. IsHost r.0 r.1) }
     ensures unseen { IfOk result (λ r. HasSeenNothing r.1) }
     ensures names { IfOk result (λ r. HoldsAllBut r.1 []) }
+    ensures parked { IfOk result (λ r. (n : ℕ) (s : Session) → n < parts.cluster.sessions → IsNewSession s
+        → IsParked r.0 r.1 n s) }
     ensures refused { IfErr result (λ back. AreParts back) }
 {
     let Parts {
@@ -93,46 +96,50 @@ pub fn make_table<L: LogDisk, P: PageDisk>(
     }
 }
 
-/// Lets a new session in, under its number (`InitProcess` of `src/backend/storage/lmgr/proc.c`). None exactly where the
-/// number isn't below that of the sessions, or was given before. The sessions of a table are let in before any of them
-/// is dismissed.
-pub fn admit<L: LogDisk, P: PageDisk>(
-    hall: &Hall<EngineLaw<L, P>>,
-    alloc: Global,
-    host: &mut Host<L, P>,
-    number: u32,
-) -> Option<Caller<L, P>>
-    requires host { IsHost hall.now host.old }
-    requires unseen { HasSeenNothing host.old }
-    ensures none { IfNone result ((host.old.cluster.sessions ≤ number)
-        ⊎ (slice_index_or (view host.old.pass).gives number false ≡ false)) }
-    ensures same { IfNone result (view host.new.pass ≡ view host.old.pass) }
-    ensures caller { IfSome result (λ caller. MayRun hall.now host.old.cluster.banks caller) }
-    ensures fresh { IfSome result (λ caller. (caller.number ≡ number) × IsFresh caller.session.levels) }
-    ensures host { IsHost hall.now host.new }
-    ensures unseen { HasSeenNothing host.new }
-    ensures cluster { host.new.cluster ≡ host.old.cluster }
-    ensures names { (away : List ℕ) → HoldsAllBut host.old away → HoldsAllBut host.new (number ∷ away) }
+/// A session that has run no command yet.
+pub fn new_session(alloc: Global) -> Session
+    ensures { IsNewSession result }
 {
-    if number >= host.cluster.sessions {
-        return None;
-    }
-    match hall.split(&mut host.pass, number) {
-        Some(pass) => Some(Caller {
-            pass,
-            number,
-            session: Session {
-                levels: Levels::new(alloc),
-                stage: Stage::Clear,
-                unlinked: None,
-            },
-        }),
-        None => None,
+    Session {
+        levels: Levels::new(alloc),
+        stage: Stage::Clear,
+        unlinked: None,
     }
 }
 
-/// Takes a session's permit back (`ProcKill` of `proc.c`); its transaction and snapshots stay as they are. Its number
-/// isn't given again. The host learns the lists of one moment.
+/// Lets a session in, under its number (`InitProcess` of `src/backend/storage/lmgr/proc.c`): a new one, or one that was
+/// taken back.
+pub fn admit<L: LogDisk, P: PageDisk>(
+    hall: &Hall<EngineLaw<L, P>>,
+    host: &mut Host<L, P>,
+    number: u32,
+    session: Session,
+) -> Caller<L, P>
+    requires host { IsHost hall.now host.old }
+    requires parked { IsParked hall.now host.old number session }
+    ensures caller { MayRun hall.now host.old.cluster.banks result }
+    ensures number { result.number ≡ number }
+    ensures session { result.session ≡ session }
+    ensures name { (n : ℕ) → Holds (view result.pass) n ↔ (n ≡ number) }
+    ensures told { (view result.pass).seen ≡ (view host.old.pass).seen }
+    ensures host { IsHost hall.now host.new }
+    ensures seen { (view host.new.pass).seen ≡ (view host.old.pass).seen }
+    ensures cluster { host.new.cluster ≡ host.old.cluster }
+    ensures names { (away : List ℕ) → HoldsAllBut host.old away → HoldsAllBut host.new (number ∷ away) }
+    ensures stay { OthersStayParked hall.now number host.old host.new }
+{
+    let Some(pass) = hall.split(&mut host.pass, number) else {
+        unreachable!()
+    };
+    Caller {
+        pass,
+        number,
+        session,
+    }
+}
+
+/// Takes a session's permit back (`ProcKill` of `proc.c`) between two of its calls; its transaction and snapshots stay
+/// as they are, and it may be let in again. The host learns the lists of one moment.
 pub fn dismiss<L: LogDisk, P: PageDisk>(
     hall: &Hall<EngineLaw<L, P>>,
     host: &mut Host<L, P>,
@@ -141,12 +148,14 @@ pub fn dismiss<L: LogDisk, P: PageDisk>(
     requires host { IsHost hall.now host.old }
     requires caller { MayRun hall.now host.old.cluster.banks caller }
     ensures session { result ≡ caller.session }
+    ensures parked { IsParked hall.now host.new caller.number result }
     ensures host { IsHost hall.now host.new }
     ensures cluster { host.new.cluster ≡ host.old.cluster }
     ensures joined { Joined session_of writer_of EngineInvariant (start_of hall.now) (view host.old.pass)
         (view caller.pass) (view host.new.pass) }
     ensures names { (away : List ℕ) → HoldsAllBut host.old away
         → HoldsAllBut host.new (without caller.number away) }
+    ensures stay { OthersStayParked hall.now caller.number host.old host.new }
 {
     let Caller {
         pass,

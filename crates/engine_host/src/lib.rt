@@ -11,5 +11,5 @@ mod refusal;
 
 pub use cluster::{Cluster, NewVolumes, Parts};
 pub use first_parts::{into_volumes, open_new};
-pub use host::{Host, admit, close, dismiss, make_table};
+pub use host::{Host, admit, close, dismiss, make_table, new_session};
 pub use refusal::OpenRefusal;

@@ -10,6 +10,7 @@ use Rattle.hall.specs.declared.writer.Writer.TheVariants.{Session}
 use Rattle.hall.specs.declared.view.Stage.TheVariants.{Free, Inside}
 use Rattle.hall.specs.declared.view.View.{View}
 use Rattle.hall.specs.declared.view.Held.{Held}
+use Rattle.hall.specs.declared.names.Names.{Names}
 use Rattle.notes.specs.declared.note.Note.{Note}
 use Rattle.hall.specs.Rule.{Kept}
 use Rattle.hall.specs.Told.{entered, missed, left, published, learned, Got, Learnt, went}
@@ -32,7 +33,7 @@ module _ {V E : Type 0} where
       let head : List (ℕ × Bool) → ℕ = λ z. (get_or z 0 (c, k)).0 in let tail : List (ℕ × Bool) → List (ℕ × Bool) = λ l. elim l [ [] ↦ [] | ◌∷◌ _ t ↦ t ] in
       (x.1, (λ i. (ap head e i, x.1) ∷ xs), none_carried xs (ap tail e))
 
-module _ {S V E : Type 0} (cells words cell : ℕ) (names : List Bool) (m : Me (Held V E) (View S E)) (f : Fits cells words cell names m) where
+module _ {S V E : Type 0} (cells words cell : ℕ) (names : Names) (m : Me (Held V E) (View S E)) (f : Fits cells words cell names m) where
   -- the pass has seen a history for each place of its table
   pub sees_places : (locks posts places : ℕ) → words ≡ line_of (locks + posts) → places ≡ locks + posts → length m.0.seen ≡ places
   sees_places locks posts places b c = let w = f.wide in omega arith
@@ -43,7 +44,7 @@ module _ {S V E : Type 0} (cells words cell : ℕ) (names : List Bool) (m : Me (
     wide = (let w = f.wide in omega arith);
     inside = λ a e. let p = stage_same c a e in (sym p, (let q = p in omega arith));
     carried = out;
-    mirrors = f.mirrors;
+    own = f.own;
     held = f.held;
   }
 
@@ -68,7 +69,7 @@ module _ {S V E : Type 0} (cells words cell : ℕ) (names : List Bool) (m : Me (
     wide = f.wide;
     inside = λ a e. absurd (free_not_in a (sym free ∙ e));
     carried = f.carried;
-    mirrors = f.mirrors;
+    own = f.own;
     held = f.held;
   }
 
@@ -81,7 +82,7 @@ module _ {S V E : Type 0} (cells words cell : ℕ) (names : List Bool) (m : Me (
     wide = (let w = f.wide in omega arith);
     inside = f.inside;
     carried = f.carried;
-    mirrors = f.mirrors;
+    own = f.own;
     held = f.held;
   }
 
@@ -91,7 +92,7 @@ module _ {S V E : Type 0} (cells words cell : ℕ) (names : List Bool) (m : Me (
     wide = (let l = length-set m.0.seen q (at m.0.seen q ++ e ∷ []) in let w = f.wide in omega arith);
     inside = f.inside;
     carried = f.carried;
-    mirrors = f.mirrors;
+    own = f.own;
     held = f.held;
   }
 
@@ -108,7 +109,7 @@ module _ {S V E : Type 0} (cells words cell : ℕ) (names : List Bool) (m : Me (
     wide = (let l = length-set m.0.seen cell (at m.0.seen cell ++ e ∷ []) in let w = f.wide in omega arith);
     inside = λ c e. absurd (free_not_in c e);
     carried = refl;
-    mirrors = f.mirrors;
+    own = f.own;
     held = f.held;
   }
 

@@ -4,6 +4,7 @@ pub mod Leaves
 pub mod Posting
 pub mod Merging
 pub mod Laying
+pub mod Naming
 pub mod Splits
 pub mod Joins
 pub mod Opens

@@ -1,5 +1,5 @@
 -- The fields of passes fit their views after a split and a join.
-use Rattle.std.proofs.Common.{◌≡◌, ℕ, zero, suc, Bool, true, false, List, [], ◌∷◌, length, get_or, set, replicate, refl, sym, ◌∙◌, ap, subst, get_or-set_same, get_or-set_other, arith}
+use Rattle.std.proofs.Common.{◌≡◌, ◌<◌, ◌||◌, ℕ, zero, suc, Bool, true, false, List, [], ◌∷◌, length, get_or, set, replicate, refl, sym, ◌∙◌, ap, subst, get_or-set_same, get_or-set_other, arith}
 use mathlib.Core.Option.{none}
 use lib.ListN.{length-replicate}
 use Rattle.atomic_table.specs.Table.{Me, Splits, step}
@@ -11,10 +11,13 @@ use Rattle.hall.specs.Rule.{Holds, Extends, Kept}
 use Rattle.notes.specs.Lists.{at}
 use Rattle.hall.specs.Lists.{OwnSeen}
 use Rattle.hall.specs.Told.{Moment, asking, giving, given, joined, settled, settles, longer}
-use Rattle.hall.specs.Calls.{Joined}
+use Rattle.hall.specs.Calls.{Joined, MayGive}
+use Rattle.hall.specs.declared.names.Names.{Names}
+use Rattle.hall.specs.Names.{AreHeld, IsGivable, only}
 use Rattle.hall.specs.Fits.{Fits, carried_at}
 use Rattle.notes.proofs.Growing.{begins_then}
-use Rattle.notes.proofs.Names.{still_mirrors, still_true, true_inside}
+use Rattle.notes.proofs.Names.{still_mirrors, true_inside}
+use Rattle.hall.proofs.Naming.{one_name}
 use Rattle.hall.proofs.Merging.{either_at, or_true}
 use Rattle.hall.proofs.Splits.{splits_off}
 use Rattle.hall.proofs.Moves.{free_not_in}
@@ -26,18 +29,19 @@ longer_length (x ∷ xs) [] n a b = a
 longer_length (x ∷ xs) (y ∷ ys) zero a b = absurd (omega arith)
 longer_length (x ∷ xs) (y ∷ ys) (suc n) a b = let e = longer_length xs ys n (omega arith) (omega arith) in omega arith
 
-module _ {S V E : Type 0} (cells words cell : ℕ) (names : List Bool) (m : Me (Held V E) (View S E)) (f : Fits cells words cell names m) where
+module _ {S V E : Type 0} (cells words cell : ℕ) (names : Names) (m : Me (Held V E) (View S E)) (f : Fits cells words cell names m) where
   pub free_empty : m.0.stage ≡ Free → m.1 ≡ []
   free_empty free = none_carried m.1 (f.carried ∙ ap carried_at free)
 
-  pub fits_joined : (slots ws : ℕ) (w : View S E) (m' : Me (Held V E) (View S E)) → slots ≡ cells → ws ≡ words → length w.seen ≡ length m.0.seen → m' ≡ (joined m.0 w, m.1) → Fits slots ws cell names m'
-  fits_joined slots ws w m' same same' wide is = subst (λ (z : (ℕ × ℕ) × Me (Held V E) (View S E)). Fits z.0.0 z.0.1 cell names z.1) (λ i. ((sym same i, sym same' i), sym is i)) record {
-    named = either_at m.0.holds w.holds m.0.name ∙ ap (λ b. Rattle.std.proofs.Common.◌||◌ b (get_or w.holds m.0.name false)) f.named;
+  pub fits_joined : (slots ws : ℕ) (w : View S E) (m' : Me (Held V E) (View S E)) (theirs both : Names) → slots ≡ cells → ws ≡ words → length w.seen ≡ length m.0.seen → m' ≡ (joined m.0 w, m.1) → AreHeld w.holds theirs → both.own ≡ names.own
+      → ((k : ℕ) → get_or both.held k false ≡ (get_or names.held k false || get_or theirs.held k false)) → Fits slots ws cell both m'
+  fits_joined slots ws w m' theirs both same same' wide is held own all = subst (λ (z : (ℕ × ℕ) × Me (Held V E) (View S E)). Fits z.0.0 z.0.1 cell both z.1) (λ i. ((sym same i, sym same' i), sym is i)) record {
+    named = either_at m.0.holds w.holds m.0.name ∙ ap (λ b. b || get_or w.holds m.0.name false) f.named;
     wide = (let l = longer_length m.0.seen w.seen (length m.0.seen) refl wide in let k = f.wide in omega arith);
     inside = f.inside;
     carried = f.carried;
-    mirrors = f.mirrors;
-    held = λ k h. let t = f.held k h in (either_at m.0.holds w.holds k ∙ ap (λ b. Rattle.std.proofs.Common.◌||◌ b (get_or w.holds k false)) t.0, t.1);
+    own = f.own ∙ sym own;
+    held = λ k. either_at m.0.holds w.holds k ∙ ((λ i. f.held k i || held k i) ∙ sym (all k));
   }
 
   pub fits_settled : (slots ws : ℕ) (ls : List (List E)) (m' : Me (Held V E) (View S E)) → slots ≡ cells → ws ≡ words → length ls ≡ length m.0.seen → m'.0 ≡ settled ls m.0 → m'.1 ≡ m.1 → Fits slots ws cell names m'
@@ -46,37 +50,38 @@ module _ {S V E : Type 0} (cells words cell : ℕ) (names : List Bool) (m : Me (
     wide = (let w = f.wide in omega arith);
     inside = f.inside;
     carried = f.carried;
-    mirrors = f.mirrors;
+    own = f.own;
     held = f.held;
   }
 
-  module _ (n : ℕ) (may : get_or names n false ≡ true) where
-    may_give : get_or m.0.gives n false ≡ true
-    may_give = f.mirrors n ∙ may
+  module _ (n : ℕ) (may : IsGivable names n) where
+    -- the pass has the name, and another of its own
+    pub may_give : MayGive m.0 n
+    may_give = (f.held n ∙ may.0, λ e. may.1 (e ∙ f.own))
 
-    pub fits_giving : (slots ws : ℕ) (m' : Me (Held V E) (View S E)) → slots ≡ cells → ws ≡ words → m' ≡ (giving (asking n m.0), m.1) → Fits slots ws cell (set names n false) m'
-    fits_giving slots ws m' same same' is = subst (λ (z : (ℕ × ℕ) × Me (Held V E) (View S E)). Fits z.0.0 z.0.1 cell (set names n false) z.1) (λ i. ((sym same i, sym same' i), sym is i)) record {
-      named = get_or-set_other m.0.holds n m.0.name false false (λ e. (f.held n may_give).1 (sym e)) ∙ f.named;
+    pub fits_giving : (slots ws : ℕ) (less : Names) (m' : Me (Held V E) (View S E)) → slots ≡ cells → ws ≡ words → less ≡ record names { held = set names.held n false } → m' ≡ (giving (asking n m.0), m.1) → Fits slots ws cell less m'
+    fits_giving slots ws less m' same same' fewer is = subst (λ (z : (ℕ × ℕ) × Names × Me (Held V E) (View S E)). Fits z.0.0 z.0.1 cell z.1 z.2) (λ i. ((sym same i, sym same' i), sym fewer i, sym is i)) record {
+      named = get_or-set_other m.0.holds n m.0.name false false (λ e. may_give.1 (sym e)) ∙ f.named;
       wide = f.wide;
       inside = f.inside;
       carried = f.carried;
-      mirrors = still_mirrors m.0.gives names n f.mirrors;
-      held = λ k h. let t = still_true m.0.gives n k h in let o = f.held k t.1 in (get_or-set_other m.0.holds n k false false t.0 ∙ o.0, o.1);
+      own = f.own;
+      held = still_mirrors m.0.holds names.held n f.held;
     }
 
-    pub fits_given : (slots ws : ℕ) (new : List Bool) (m' : Me (Held V E) (View S E)) → slots ≡ cells → ws ≡ words → ((k : ℕ) → get_or new k false ≡ false) → m' ≡ (given (asking n m.0), []) → Fits slots ws 0 new m'
-    fits_given slots ws new m' same same' blanks is = subst (λ (z : (ℕ × ℕ) × Me (Held V E) (View S E)). Fits z.0.0 z.0.1 0 new z.1) (λ i. ((sym same i, sym same' i), sym is i)) record {
-      named = get_or-set_same (replicate (length m.0.holds) false) n true false (let t = true_inside m.0.holds n (f.held n may_give).0 in let e = length-replicate (length m.0.holds) false in omega arith);
+    pub fits_given : (slots ws : ℕ) (new : Names) (m' : Me (Held V E) (View S E)) → slots ≡ cells → ws ≡ words → n < 65 → new.own ≡ n → new.held ≡ only 65 n → m' ≡ (given (asking n m.0), []) → Fits slots ws 0 new m'
+    fits_given slots ws new m' same same' small own one is = subst (λ (z : (ℕ × ℕ) × Me (Held V E) (View S E)). Fits z.0.0 z.0.1 0 new z.1) (λ i. ((sym same i, sym same' i), sym is i)) record {
+      named = get_or-set_same (replicate (length m.0.holds) false) n true false (let t = true_inside m.0.holds n may_give.0 in let e = length-replicate (length m.0.holds) false in omega arith);
       wide = f.wide;
       inside = λ c e. absurd (free_not_in c e);
       carried = refl;
-      mirrors = λ k. sym (blanks k);
-      held = λ k h. absurd (let b : false ≡ true = h in cc);
+      own = sym own;
+      held = λ k. one_name (length m.0.holds) 65 n k (true_inside m.0.holds n may_give.0) small ∙ ap (λ (l : List Bool). get_or l k false) (sym one);
     }
 
     pub asked_splits : (start : S) (passes places : ℕ) (session : E → ℕ) (writer : S → ℕ → Writer) (stands : S → ℕ → V → List E → Type 0) (number : S → ℕ → List E → ℕ) (kept : S → List (List E) → Type 0) (id : ℕ) (w : View S E) → w ≡ asking n m.0 → Splits (Kept start passes places session writer stands number kept) id w (giving w) (given w)
     asked_splits start passes places session writer stands number kept id w is = subst (λ (z : View S E). Splits (Kept start passes places session writer stands number kept) id z (giving z) (given z)) (sym is)
-        (splits_off start passes places session writer stands number kept id (asking n m.0) may_give (f.held n may_give).0 (f.held n may_give).1)
+        (splits_off start passes places session writer stands number kept id (asking n m.0) may_give.0 may_give.1)
 
 -- a joined pass has seen as many histories as each of the two
 pub joined_wide : {S E : Type 0} (v w u : View S E) → length w.seen ≡ length v.seen → u ≡ joined v w → length u.seen ≡ length v.seen
@@ -104,7 +109,7 @@ module _ {S E : Type 0} (session : E → ℕ) (writer : S → ℕ → Writer) (k
       let t = (subst P is told) start _ started refl in
       let len : length (longer v.seen w.seen) ≡ length v.seen = longer_length v.seen w.seen (length v.seen) refl wide in record {
         lists = t.lists;
-        moment = learns_more v (joined v w) t.lists t.moment (sym len) free (λ m h. either_at v.holds w.holds m ∙ ap (λ b. Rattle.std.proofs.Common.◌||◌ b (get_or w.holds m false)) h) t.told.0;
-        other = learns_more w (joined v w) t.lists t.moment (wide ∙ sym len) other_free (λ m h. either_at v.holds w.holds m ∙ (ap (λ b. Rattle.std.proofs.Common.◌||◌ (get_or v.holds m false) b) h ∙ or_true (get_or v.holds m false))) t.told.1;
+        moment = learns_more v (joined v w) t.lists t.moment (sym len) free (λ m h. either_at v.holds w.holds m ∙ ap (λ b. b || get_or w.holds m false) h) t.told.0;
+        other = learns_more w (joined v w) t.lists t.moment (wide ∙ sym len) other_free (λ m h. either_at v.holds w.holds m ∙ (ap (λ b. get_or v.holds m false || b) h ∙ or_true (get_or v.holds m false))) t.told.1;
         view_is = t.view_is;
       }

@@ -35,7 +35,7 @@ module _ {S V E : Type 0} (start : S) (passes places : ℕ) (session : E → ℕ
       )
 
   -- the pass gives the name that it asked for
-  module _ (s : State (Held V E) (View S E)) (r : Rule s) (me : ℕ) (v : View S E) (is : get_elem? s.views me ≡ some v) (may : get_or v.gives v.asked false ≡ true) (has : Holds v v.asked) (other : v.asked ≢ v.name) where
+  module _ (s : State (Held V E) (View S E)) (r : Rule s) (me : ℕ) (v : View S E) (is : get_elem? s.views me ≡ some v) (has : Holds v v.asked) (other : v.asked ≢ v.name) where
     abbrev l : View S E
     l = giving v
 
@@ -100,5 +100,5 @@ module _ {S V E : Type 0} (start : S) (passes places : ℕ) (session : E → ℕ
           (λ ne. (o.0, o.1, o.2, at_longer vs (g ∷ []) o.0 o.1 (set_else s.views me o.0 l ne ∙ o.3), o.4, o.5));
     }
 
-  pub splits_off : (id : ℕ) (v : View S E) → get_or v.gives v.asked false ≡ true → Holds v v.asked → v.asked ≢ v.name → Splits Rule id v (giving v) (given v)
-  splits_off id v may has other s r is = splits s r id v is may has other
+  pub splits_off : (id : ℕ) (v : View S E) → Holds v v.asked → v.asked ≢ v.name → Splits Rule id v (giving v) (given v)
+  splits_off id v has other s r is = splits s r id v is has other

@@ -1,10 +1,8 @@
 -- The table and the first pass of a new hall.
-use Rattle.std.proofs.Common.{◌≡◌, ℕ, zero, suc, ◌+◌, ◌-◌, ◌<◌, Bool, true, false, List, [], ◌∷◌, map, length, get_or, replicate, refl, sym, ◌∙◌, ap, subst, arith, Option, Some, None, slice_get}
+use Rattle.std.proofs.Common.{◌≡◌, ℕ, zero, suc, ◌+◌, ◌-◌, ◌<◌, true, false, List, [], ◌∷◌, map, length, get_or, replicate, refl, sym, ◌∙◌, ap, subst, arith, Option, Some, None, slice_get}
 use Rattle.std.proofs.lemmas.List.{length-map}
 use mathlib.Core.Option.{some, some-injective, some-ne-none}
-use mathlib.Core.Logic.{dite}
-use native.Mathlib.Decide.{dec_le}
-use lib.ListN.{get_elem?, length-replicate, get_or-replicate}
+use lib.ListN.{get_elem?, get_or-replicate}
 use Rattle.atomic_table.specs.Table.{Me, opening}
 use Rattle.hall.specs.declared.view.View.{View}
 use Rattle.hall.specs.declared.view.Held.{Held}
@@ -15,8 +13,9 @@ use Rattle.notes.specs.Lists.{at}
 use Rattle.hall.specs.Calls.{StandFor, ShownBy}
 use Rattle.hall.specs.declared.writer.Writer.{Writer}
 use Rattle.hall.specs.declared.writer.Writer.TheVariants.{Lock}
+use Rattle.hall.specs.declared.names.Names.{Names}
+use Rattle.hall.specs.Names.{AreHeld}
 use Rattle.hall.specs.Fits.{Fits}
-use Rattle.notes.proofs.Names.{past}
 use Rattle.hall.proofs.Opens.{opens}
 use Rattle.hall.proofs.Moves.{free_not_in}
 
@@ -43,15 +42,14 @@ module _ {S V E : Type 0} (session : E → ℕ) (writer : S → ℕ → Writer) 
       (λ w x is. let P : ℕ → Type 0 = λ z. number o.start (z + w) (at o.lists (z + w)) ≡ x in subst P (sym count) (shown w x is))
 
 module _ {S V E : Type 0} where
-  pub fits_first : (o : Opening S E) (passes slots words : ℕ) (names : List Bool) (m : Me (Held V E) (View S E)) → 0 < passes → o.passes ≡ passes → line_of (length o.lists) ≡ words → ((k : ℕ) → get_or (replicate (passes - 1) true) k false ≡ get_or names k false) → m ≡ (first_view o, []) → Fits slots words 0 names m
-  fits_first o passes slots words names m pos same wide mirrors is = subst (λ (z : Me (Held V E) (View S E)). Fits slots words 0 names z) (sym is) record {
+  pub fits_first : (o : Opening S E) (passes slots words : ℕ) (names : Names) (m : Me (Held V E) (View S E)) → 0 < passes → o.passes ≡ passes → line_of (length o.lists) ≡ words → names.own ≡ passes - 1 → AreHeld (replicate passes true) names → m ≡ (first_view o, []) → Fits slots words 0 names m
+  fits_first o passes slots words names m pos same wide own held is = subst (λ (z : Me (Held V E) (View S E)). Fits slots words 0 names z) (sym is) record {
     named = get_or-replicate o.passes (o.passes - 1) true false (omega arith);
     wide = wide;
     inside = λ c e. absurd (free_not_in c e);
     carried = refl;
-    mirrors = λ k. subst (λ (z : ℕ). get_or (replicate (z - 1) true) k false ≡ get_or names k false) (sym same) (mirrors k);
-    held = λ k h. let lt : k < o.passes - 1 = dite (dec_le (o.passes - 1) k) (λ le. absurd (let f = past (replicate (o.passes - 1) true) k false (let e = length-replicate (o.passes - 1) true in omega arith) in let q : false ≡ true = sym f ∙ h in cc)) (λ l. omega arith) in
-        (get_or-replicate o.passes k true false (omega arith), (λ e. omega arith));
+    own = ap (λ (z : ℕ). z - 1) same ∙ sym own;
+    held = λ k. ap (λ (z : ℕ). get_or (replicate z true) k false) same ∙ held k;
   }
 
 pub wrapped_length : {V E : Type 0} (hs : List (Held V E)) (xs : List V) → map (λ h. h.value) hs ≡ map Some xs → length hs ≡ length xs

@@ -1,5 +1,5 @@
 -- What the calls of a table say.
-use Rattle.std.specs.Prelude.{◌≡◌, ℕ, ◌+◌, ◌≤◌, List, [], ◌∷◌, length, Some, slice_get}
+use Rattle.std.specs.Prelude.{◌≡◌, ◌≢◌, ℕ, ◌+◌, ◌≤◌, List, [], ◌∷◌, length, Some, slice_get}
 use Rattle.hall.specs.declared.writer.Writer.{Writer}
 use Rattle.hall.specs.declared.view.View.{View}
 use Rattle.hall.specs.declared.pass.Token.{Token}
@@ -34,6 +34,10 @@ module _ {L V E S : Type 0} where
     pub named : Holds p.seat.me.0 p.seat.me.0.name
 
 module _ {S E : Type 0} where
+  -- the pass may give the name: it has it, and it isn't its own
+  abbrev pub MayGive : View S E → ℕ → Type 0
+  MayGive v n = Holds v n × (n ≢ v.name)
+
   -- some looks found the lock taken, and nothing else changed
   abbrev pub Looked : View S E → View S E → Type 0
   Looked v w = (v.looks ≤ w.looks) × (w ≡ record v { looks = w.looks; found = w.found })

@@ -93,6 +93,6 @@ pub record Kept {S V E : Type 0} (start : S) (passes places : ℕ) (session : E 
   -- some pass has seen each history whole
   pub whole : (c : ℕ) → c < n + p → (j : ℕ) × (d : View S E) × (m : ℕ) × (get_elem? s.views j ≡ some d) × Holds d m × (at d.seen c ≡ at lists c)
 
--- the first pass has seen all histories, has all names, adds under the last, and may give the others
+-- the first pass has seen all histories, has all names, and adds under the last
 abbrev pub first_view : {S E : Type 0} → Opening S E → View S E
-first_view o = record { start = o.start ∷ []; name = o.passes - 1; holds = replicate o.passes true; gives = replicate (o.passes - 1) true; seen = o.lists; stage = Free; looks = 0; found = 0; reads = 0; asked = 0; merged = [] }
+first_view o = record { start = o.start ∷ []; name = o.passes - 1; holds = replicate o.passes true; seen = o.lists; stage = Free; looks = 0; found = 0; reads = 0; asked = 0; merged = [] }

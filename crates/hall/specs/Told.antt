@@ -62,11 +62,11 @@ module _ {S E : Type 0} where
 
   -- the pass gives the name that it asked for
   abbrev pub giving : View S E → View S E
-  giving v = record v { holds = slice_set v.holds v.asked false; gives = slice_set v.gives v.asked false }
+  giving v = record v { holds = slice_set v.holds v.asked false }
 
   -- the new pass, which has the name that was asked for
   abbrev pub given : View S E → View S E
-  given v = record { start = v.start; name = v.asked; holds = slice_set (replicate (length v.holds) false) v.asked true; gives = []; seen = v.seen; stage = Free; looks = 0; found = 0; reads = 0; asked = 0; merged = [] }
+  given v = record { start = v.start; name = v.asked; holds = slice_set (replicate (length v.holds) false) v.asked true; seen = v.seen; stage = Free; looks = 0; found = 0; reads = 0; asked = 0; merged = [] }
 
   -- the pass v took in w
   abbrev pub joined : View S E → View S E → View S E
@@ -78,7 +78,7 @@ module _ {S E : Type 0} where
 
   -- a pass that was taken in
   abbrev pub spent : View S E
-  spent = record { start = []; name = 0; holds = []; gives = []; seen = []; stage = Free; looks = 0; found = 0; reads = 0; asked = 0; merged = [] }
+  spent = record { start = []; name = 0; holds = []; seen = []; stage = Free; looks = 0; found = 0; reads = 0; asked = 0; merged = [] }
 
   -- The histories at one moment, as a pass learns them: the relation holds of them, and each begins with what the pass had seen of it. Where only this pass may write, it had seen all: there are no other entries of its names, and nothing new in its sessions' words, in the lock that it is inside, and in the words that this lock guards
   pub record Moment (session : E → ℕ) (writer : S → ℕ → Writer) (kept : S → List (List E) → Type 0) (start : S) (v : View S E) (lists : List (List E)) : Type 0 where

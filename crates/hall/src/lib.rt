@@ -12,6 +12,7 @@ mod law;
 mod layout;
 mod make_and_close;
 mod memory;
+mod names;
 mod parts;
 mod pass;
 mod published;

@@ -9,7 +9,8 @@ ghost use Rattle.hall.specs.Calls.{view, IsOf, start_of, passes_of, StandFor, Sh
 use crate::hall::Hall;
 use crate::law::Law;
 use crate::memory::Memory;
-use crate::parts::{first_names, first_words, unwrap, wrap};
+use crate::names::Names;
+use crate::parts::{first_words, unwrap, wrap};
 use crate::pass::{Pass, Token};
 use crate::view::{Held, Opening};
 use atomic_table::{Refused, Table};
@@ -69,7 +70,7 @@ impl<L: Law> Hall<L> {
                 let pass = Token {
                     seat,
                     cell: 0,
-                    gives: first_names(passes),
+                    names: Names::first(passes),
                 };
                 Ok((hall, pass))
             }
@@ -99,7 +100,7 @@ impl<L: Law> Hall<L> {
         let Token {
             seat,
             cell: _,
-            gives: _,
+            names: _,
         } = pass;
         let mut closed = table.close_with(seat);
         for i in 0..cells {

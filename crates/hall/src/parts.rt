@@ -7,18 +7,6 @@ use crate::memory::Memory;
 use crate::view::Held;
 use std::alloc::Global;
 
-// The names below `passes - 1`.
-pub(crate) fn first_names(passes: u32) -> [bool; 64]
-    requires { (0 < passes) × (passes ≤ 65) }
-    ensures { (k : ℕ) → slice_index_or (replicate (passes - 1) true) k false ≡ slice_index_or result k false }
-{
-    let mut names = [false; 64];
-    for i in 0..passes as usize - 1 {
-        names[i] = true;
-    }
-    names
-}
-
 // Each lock is free, and the published words have their first numbers.
 pub(crate) fn first_words(alloc: Global, cells: usize, posts: &[u64]) -> Result<Vec<u64>, Memory>
     requires { (cells < 2 ^ 62) × (length posts.now < 2 ^ 62) }

@@ -3,6 +3,7 @@ ghost use Rattle.std.specs.Prelude.{◌≡◌};
 ghost use Rattle.hall.specs.Fits.{Fits};
 
 use crate::law::Law;
+use crate::names::Names;
 use crate::view::{Held, View};
 use atomic_table::Seat;
 
@@ -12,8 +13,8 @@ use atomic_table::Seat;
 pub struct Token<V, E, S> {
     pub(crate) seat: Seat<Held<V, E>, View<S, E>>,
     pub(crate) cell: usize,
-    pub(crate) gives: [bool; 64],
-    ghost fits: { Fits seat.table_id.slots seat.table_id.words cell gives seat.me },
+    pub(crate) names: Names,
+    ghost fits: { Fits seat.table_id.slots seat.table_id.words cell names seat.me },
 }
 
 /// The permit of a table over the law `L`.

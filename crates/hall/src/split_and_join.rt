@@ -1,8 +1,8 @@
 //! Passes are given, and taken in.
-ghost use Rattle.std.specs.Prelude.{◌≡◌, ℕ, ◌*◌, ◌<◌, true, false, MatchOption, slice_index_or};
+ghost use Rattle.std.specs.Prelude.{◌≡◌, ℕ, ◌*◌, ◌<◌, MatchOption};
 ghost use Rattle.hall.specs.declared.view.Stage.TheVariants.{Free};
 ghost use Rattle.hall.specs.Told.{asking, giving, given};
-ghost use Rattle.hall.specs.Calls.{view, IsOf, IsSame, Joined, start_of};
+ghost use Rattle.hall.specs.Calls.{view, IsOf, IsSame, Joined, MayGive, start_of};
 
 use crate::hall::Hall;
 use crate::law::Law;
@@ -12,34 +12,32 @@ use crate::step_kinds::{Ask, Cut, Glue, Settle};
 
 impl<L: Law> Hall<L> {
     /// A new pass with the name `name`, which has seen what this pass has. None exactly where this
-    /// pass may not give the name: it was given before, or is not below the first pass's own, or
-    /// this is not the first pass.
+    /// pass may not give the name: it hasn't got it, as where it gave it and didn't join it yet, or
+    /// the name is its own.
     ///
-    /// Until it is joined, all entries of that name are the new pass's. It may give no names.
+    /// Until it is joined, all entries of that name are the new pass's.
     pub fn split(&self, pass: &mut Pass<L>, name: u32) -> Option<Pass<L>>
         requires own { IsOf self.now pass.old }
         ensures own { IsOf self.now pass.new × IsSame pass.old pass.new }
         ensures cell { pass.new.cell ≡ pass.old.cell }
-        ensures none { MatchOption result (slice_index_or (view pass.old).gives name false ≡ false) (λ _. slice_index_or (view pass.old).gives name false ≡ true) }
+        ensures none { MatchOption result (MayGive (view pass.old) name → ⊥) (λ _. MayGive (view pass.old) name) }
         ensures view { MatchOption result (view pass.new ≡ view pass.old) (λ p. IsOf self.now p × (view pass.new ≡ giving (asking name (view pass.old))) × (view p ≡ given (asking name (view pass.old)))) }
     {
-        if name >= 64 || !pass.gives[name as usize] {
+        if !pass.names.may_give(name) {
             return None;
         }
-        let at = name as usize;
         let shared = &self.table.shared;
         shared.compare_exchange::<Ask>(&mut pass.seat, SPARE, name as u64, name as u64);
         let seat = shared.split_seat::<Cut>(&mut pass.seat);
-        pass.gives[at] = false;
         Some(Token {
             seat,
             cell: 0,
-            gives: [false; 64],
+            names: pass.names.give(name),
         })
     }
 
-    /// Takes in what another pass knows, and its names. Neither is inside a lock. The other's name is
-    /// not given again.
+    /// Takes in what another pass knows, and its names, which this pass may give again. Neither is
+    /// inside a lock.
     ///
     /// The pass learns all histories as they were at one moment of this call, and contracts know
     /// from then on that the entries of the other's name are just those that the other had seen.
@@ -55,8 +53,9 @@ impl<L: Law> Hall<L> {
         let Token {
             seat,
             cell: _,
-            gives: _,
+            names,
         } = other;
+        pass.names.take_in(&names);
         let shared = &self.table.shared;
         shared.join_seat::<Glue>(&mut pass.seat, seat);
         shared.load::<Settle<L>>(&mut pass.seat, SPARE);

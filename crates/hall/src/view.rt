@@ -21,8 +21,6 @@ pub struct View<S, E> {
     pub name: u64,
     /// Of each name, whether this pass has it, and so has seen all of its entries.
     pub holds: LinkedList<bool>,
-    /// Of each name, whether this pass may still give it to a new pass.
-    pub gives: LinkedList<bool>,
     /// The observed histories: of each place the beginning that was seen.
     pub seen: LinkedList<LinkedList<E>>,
     pub stage: Stage,

@@ -73,23 +73,29 @@ fn published_words_are_read_by_another_pass(rt: HostRuntime) {
 }
 
 #[test]
-fn names_are_given_once(rt: HostRuntime) {
+fn names_are_given_again_once_they_are_joined(rt: HostRuntime) {
     let (hall, mut first) = counters(rt.alloc()).expect(&rt, "there is memory");
-    let Some(mut a) = hall.split(&mut first, 1) else {
+    let Some(mut a) = hall.split(&mut first, 0) else {
         unreachable!()
     };
-    assert!(rt; hall.split(&mut first, 1).is_none(), "it was given");
+    assert!(rt; hall.split(&mut first, 0).is_none(), "it isn't back yet");
     assert!(rt;
         hall.split(&mut first, 2).is_none(),
         "it is the first pass's own"
     );
     assert!(rt; hall.split(&mut first, 64).is_none(), "no pass may have it");
     assert!(rt;
-        hall.split(&mut a, 0).is_none(),
-        "only the first pass gives names"
+        hall.split(&mut a, 1).is_none(),
+        "the first pass has it"
     );
+    assert!(rt; hall.split(&mut a, 0).is_none(), "it is this pass's own");
+    tell(&hall, &mut a, 7);
     hall.join(&mut first, a);
-    assert!(rt; hall.split(&mut first, 1).is_none(), "it was joined");
+    let Some(mut again) = hall.split(&mut first, 0) else {
+        unreachable!()
+    };
+    assert_eq!(rt; hall.read_post(&mut again, 1), 7);
+    hall.join(&mut first, again);
     let values = hall.close_with(first);
     assert!(rt; values.as_slice() == [0, 0].as_slice());
 }

@@ -1,4 +1,4 @@
-use Rattle.std.proofs.Common.{ℕ, ◌+◌, ◌*◌, ◌≡◌, List, [], true, false, ap, arith, inl, length, replicate, slice_index_or, subst, sym, ◌∙◌}
+use Rattle.std.proofs.Common.{ℕ, ◌+◌, ◌-◌, ◌*◌, ◌≡◌, List, [], true, false, ap, arith, inl, length, replicate, slice_index_or, subst, sym, ◌∙◌}
 use Rattle.std.proofs.lemmas.List.{get_or-replicate, length-replicate}
 use Rattle.std.specs.List.{slice_get}
 use Rattle.std.specs.Prelude.{Some}
@@ -14,6 +14,7 @@ use Rattle.tx_core.proofs.Opening.{opens}
 use Rattle.engine_parts.specs.Law.{number_of_word, writer_of}
 use Rattle.engine_parts.specs.Parts.{PartStands}
 use Rattle.engine_parts.specs.Sessions.{AreGivenBefore}
+use Rattle.engine_host.proofs.Parking.{new_parked}
 use Rattle.engine_host.proofs.Hosting.{lock_writes, nothing_at, places_of, words_long, words_shown}
 use Rattle.engine_host.proofs.host.make_table.Goals as goal
 
@@ -75,6 +76,7 @@ returns-in-Ok-new-clause-host g c =
       base = ap (λ (s : Start). s.base) is ∙ c.requires.base;
       before = subst AreGivenBefore (sym is) c.requires.before;
       passes = hall.1 ∙ (ap (λ (o : Opening Start Entry). o.passes) c.opening_note-from.ensures ∙ ap (λ n. n + 1) c.requires.sessions);
+      name = ap (λ (v : View Start Entry). v.name) pass.1 ∙ (ap (λ (o : Opening Start Entry). o.passes - 1) c.opening_note-from.ensures ∙ omega (arith, c.requires.sessions));
     }
 
 pub returns-in-Ok-new-clause-unseen : goal.returns-in-Ok-new-clause-unseen
@@ -93,3 +95,10 @@ returns-in-Err-new-clause-refused g c =
     let same = c.in-Err-new.ensures.refused in
     let r = c.requires in
     record { cluster = r.cluster; banks = r.banks; sessions = r.sessions; base = r.base; before = r.before; count = ap length same ∙ r.count; stand = λ lock part get. r.stand lock part (subst (λ l. slice_get l lock ≡ Some part) same get) }
+
+pub returns-in-Ok-new-clause-parked : goal.returns-in-Ok-new-clause-parked
+returns-in-Ok-new-clause-parked g c n s inside new =
+    let start = c.args.parts.start.value in
+    let passes = ap (λ (o : Opening Start Entry). o.passes) c.opening_note-from.ensures ∙ ap (λ k. k + 1) c.requires.sessions in
+    let held = ap (λ (v : View Start Entry). slice_index_or v.holds n false) c.in-Ok-new.ensures.pass.1 ∙ get_or-replicate c.opening_note-from.result.value.passes n true false (omega (arith, inside, passes)) in
+    new_parked c.in-Ok-new.hall _ n s (returns-in-Ok-new-clause-host g c) (returns-in-Ok-new-clause-unseen g c) held inside new

@@ -24,7 +24,7 @@ load-requires g c =
 pub invariant_of-pass : goal.invariant_of-pass
 invariant_of-pass g c =
     let j = c.join_seat.ensures in let l = c.load.ensures in let mine = c.args.pass.now.fits.wide in let theirs = c.args.other.fits.wide in let t = c.requires.other.table ∙ sym c.requires.own.table in let slots = ap (λ z. z.slots) t in let words = ap (λ z. z.words) t in
-    let f = fits_joined _ _ _ _ _ c.args.pass.now.fits _ _ c.args.other.seat.me.0 _ (ap (λ z. z.slots) j.0) (ap (λ z. z.words) j.0) (omega arith) j.2 in
+    let f = fits_joined _ _ _ _ _ c.args.pass.now.fits _ _ c.args.other.seat.me.0 _ c.args.other.names c.take_in.new.self (ap (λ z. z.slots) j.0) (ap (λ z. z.words) j.0) (omega arith) j.2 c.args.other.fits.held c.take_in.ensures.own c.take_in.ensures.held in
     let k = l.2 _ _ (ap (λ z. z.0.start) j.2 ∙ c.requires.own.start) (ap (λ z. z.0.merged) j.2) in
     record { fits = fits_settled _ _ _ _ _ f _ _ k.lists _ (ap (λ z. z.slots) l.0) (ap (λ z. z.words) l.0) k.moment.long k.view_is k.slots_are }
 

@@ -14,7 +14,7 @@ new-requires g c =
 pub invariant_of-pass : goal.invariant_of-pass
 invariant_of-pass g c =
     let r = c.requires in let n = c.in-Ok-new.ensures.ok in
-    record { fits = fits_first c.args.from.value c.args.passes _ _ _ _ r.passes.0 r.passes.2 (search rules) c.first_names.ensures n.4 }
+    record { fits = fits_first c.args.from.value c.args.passes _ _ _ _ r.passes.0 r.passes.2 (search rules) c.first.ensures.own c.first.ensures.held n.4 }
 
 pub unwrap-requires-clause-full : goal.unwrap-requires-clause-full
 unwrap-requires-clause-full g c = all_full _ _ (ap (map (λ h. h.value)) c.in-Err.ensures.err ∙ c.wrap.ensures.items)

@@ -9,4 +9,5 @@ pub mod StateSetting
 pub mod Uncut
 pub mod Unlinking
 pub mod Visiting
+pub mod Faulting
 pub mod Nearing

@@ -1,6 +1,7 @@
 //! The parent that is still to be recorded.
 ghost use Rattle.std.specs.Prelude.{◌≡◌, ℕ, ◌+◌, ◌*◌, ◌≤◌, [], MatchResult};
 ghost use Rattle.hall.specs.Calls.{view, IsOf, start_of};
+ghost use Rattle.engine_parts.specs.Adding.{Adds, MayFault};
 ghost use Rattle.engine_parts.specs.Sessions.{MayCall, by_at};
 ghost use Rattle.engine_parts.specs.Steps.{WentOn};
 ghost use Rattle.bank_sections.specs.Faults.{IsSubtransFault};
@@ -33,6 +34,8 @@ pub fn record_parent<R: Wait, L: LogDisk, P: PageDisk>(
     ensures own { IsOf hall.now caller.new.pass }
     ensures may { MayCall (start_of hall.now) (view caller.new.pass) caller.new.number caller.new.session }
     ensures went { WentOn caller.old.number [] (view caller.old.pass).seen (view caller.new.pass).seen }
+    ensures adds { Adds (by_at caller.old.number caller.old.session.levels.commands) (MayFault result)
+        (view caller.old.pass).seen (view caller.new.pass).seen }
     ensures recorded { MatchResult result (λ _. caller.new.session ≡ linked caller.old.session)
         (λ refusal. (caller.new.session ≡ caller.old.session) × IsSubtransFault (view caller.new.pass).seen
         (by_at caller.old.number caller.old.session.levels.commands) refusal) }

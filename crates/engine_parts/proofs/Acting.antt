@@ -6,6 +6,7 @@ use Rattle.notes.proofs.Growing.{begins_same}
 use Rattle.tx_events.specs.declared.event.Event.{Event}
 use Rattle.tx_events.specs.declared.refusal.Refusal.{Refusal}
 use Rattle.tx_events.specs.Events.{by_of, given, is_of}
+use Rattle.tx_events.specs.Running.{open_ids}
 use Rattle.tx_model.specs.declared.command.Command.{Command}
 use Rattle.tx_model.specs.declared.reply.Reply.{Reply}
 use Rattle.tx_model.specs.declared.reply.Reply.TheVariants as replies
@@ -19,19 +20,21 @@ use Rattle.tx_core.specs.Entries.{event_of, history, session_of}
 use Rattle.tx_core.specs.Locks.{proc_lock}
 use Rattle.engine_parts.specs.declared.session.Session.{Session}
 use Rattle.engine_parts.specs.declared.session.Stage.{Stage}
+use Rattle.engine_parts.specs.Adding.{IsPlain, MayLeave}
 use Rattle.engine_parts.specs.Answers.{Acted, MayAnswer}
 use Rattle.engine_parts.specs.Holds.{Knowledge, Learns, Leaves}
 use Rattle.engine_parts.specs.Sessions.{IsAt, by_at, stance_of}
 use Rattle.engine_parts.specs.Standing.{by_standing, refused_by}
+use Rattle.engine_parts.proofs.Adding.{adds_nothing, event_plain, plain_leaves, section_added}
 use Rattle.engine_parts.proofs.Going.{own_events}
 use Rattle.engine_parts.proofs.Refusing.{refused_events, refused_leaves}
 use Rattle.engine_parts.proofs.Leaving.{Added, event_added, grown_left, grows_then, history_same}
 
 -- with one critical section at most, which had no event
-pub acted_looked : {tells : Bool} (start : Start) (v u w : Knowledge) (n lock : ℕ) (s : Session) (s' : Stance) (stage : Stage) (command : Command) (reply : Reply) (e : Entry) → IsAt start v n s → EngineInvariant start u.seen → Learns v u → lock < length v.seen → event_of e ≡ None → Leaves start lock e u w
+pub acted_looked : {tells : Bool} (start : Start) (v u w : Knowledge) (n lock : ℕ) (s : Session) (s' : Stance) (stage : Stage) (command : Command) (reply : Reply) (e : Entry) → IsAt start v n s → EngineInvariant start u.seen → Learns v u → lock < length v.seen → event_of e ≡ None → e.by ≡ by_at n s.levels.commands → IsPlain lock e.kind → Leaves start lock e u w
     → HasEvents (by_at n s.levels.commands) (stance_of s) command reply [] → MayAnswer tells start w.seen (alone (history v.seen) (history w.seen)) (by_at n s.levels.commands) (stance_of s) stage command reply → by_standing reply ≡ refused_by command (stance_of s) stage → after (stance_of s) s.levels.commands command reply [] ≡ s'
     → Acted tells start (by_at n s.levels.commands) (stance_of s) s' stage command reply v.seen w.seen
-acted_looked start v u w n lock s s' stage command reply e a k learns inside looks l fitting allowed standing left =
+acted_looked start v u w n lock s s' stage command reply e a k learns inside looks mine plain l fitting allowed standing left =
     let long = learns.long in
     let there : lock < length u.seen = omega arith in
     let knows : Knows session_of n v.seen u.seen = subst (λ z. Knows session_of z v.seen u.seen) a.name learns.knows in
@@ -41,16 +44,17 @@ acted_looked start v u w n lock s s' stage command reply e a k learns inside loo
       own = ap (filter (is_of n)) (history_same start u w lock e looks there l) ∙ (own_events start n v.seen u.seen k knows ∙ sym (append-nil (filter (is_of n) (history v.seen))));
       each = tt;
       fitting = fitting;
+      adds = section_added start v u w lock e (by_at n s.levels.commands) (MayLeave command (stance_of s) stage (open_ids n (history v.seen)) reply) a.name learns inside l mine (plain_leaves command (stance_of s) stage (open_ids n (history v.seen)) reply lock e.kind plain);
       allowed = allowed;
       standing = standing;
       left = left;
     }
 
 -- with one critical section, of the ProcArray, which had this event
-pub acted_event : {tells : Bool} (start : Start) (v u w : Knowledge) (n : ℕ) (s : Session) (s' : Stance) (command : Command) (reply : Reply) (e : Entry) (event : Event) → IsAt start v n s → EngineInvariant start u.seen → Learns v u → event_of e ≡ Some event → by_of event ≡ by_at n s.levels.commands → Leaves start proc_lock e u w
+pub acted_event : {tells : Bool} (start : Start) (v u w : Knowledge) (n : ℕ) (s : Session) (s' : Stance) (command : Command) (reply : Reply) (e : Entry) (event : Event) → IsAt start v n s → EngineInvariant start u.seen → Learns v u → event_of e ≡ Some event → by_of event ≡ by_at n s.levels.commands → e.by ≡ by_at n s.levels.commands → Leaves start proc_lock e u w
     → HasEvents (by_at n s.levels.commands) (stance_of s) command reply (event ∷ []) → MayAnswer tells start w.seen (alone (history v.seen) (history w.seen)) (by_at n s.levels.commands) (stance_of s) s.stage command reply → by_standing reply ≡ refused_by command (stance_of s) s.stage → after (stance_of s) s.levels.commands command reply (given (event ∷ [])) ≡ s'
     → Acted tells start (by_at n s.levels.commands) (stance_of s) s' s.stage command reply v.seen w.seen
-acted_event start v u w n s s' command reply e event a k learns is own l fitting allowed standing left =
+acted_event start v u w n s s' command reply e event a k learns is own mine l fitting allowed standing left =
     let by = by_at n s.levels.commands in
     let d : Added by event v.seen w.seen = event_added start v u w by e event a.name k learns is own (let f = a.wide in omega arith) l in
     record {
@@ -59,6 +63,7 @@ acted_event start v u w n s s' command reply e event a k learns is own l fitting
       own = d.own;
       each = (own, tt);
       fitting = fitting;
+      adds = section_added start v u w proc_lock e by (MayLeave command (stance_of s) s.stage (open_ids n (history v.seen)) reply) a.name learns (let f = a.wide in omega arith) l mine (plain_leaves command (stance_of s) s.stage (open_ids n (history v.seen)) reply proc_lock e.kind (event_plain proc_lock e.kind event is));
       allowed = allowed;
       standing = standing;
       left = left;
@@ -74,6 +79,7 @@ acted_nothing {tells = tells} start lists lists' n number s s' stage command rep
       own = sym (append-nil (filter (is_of n) (history lists)));
       each = tt;
       fitting = fitting;
+      adds = adds_nothing (by_at n number) _ lists;
       allowed = allowed;
       standing = standing;
       left = left;

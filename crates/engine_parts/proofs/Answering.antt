@@ -35,7 +35,7 @@ fault_grows lists more lock by g f = record {
 }
 
 log_fault_grows : (lists more : List (List Entry)) (by : By) → Grows lists more → MetLogFault lists by → MetLogFault more by
-log_fault_grows lists more by g f = record { asked = f.asked; count = f.count; stands = contains_begins (at lists log_lock) (at more log_lock) _ (g.begins log_lock) f.stands }
+log_fault_grows lists more by g f = record { count = f.count; stands = contains_begins (at lists log_lock) (at more log_lock) _ (g.begins log_lock) f.stands }
 
 pending_grows : (lists more : List (List Entry)) (by : By) (s : Stance) → Grows lists more → IsCommitPending lists by s → IsCommitPending more by s
 pending_grows lists more by s g p = record {

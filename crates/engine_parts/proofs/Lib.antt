@@ -1,6 +1,7 @@
 pub mod Holding
 pub mod Going
 pub mod Leaving
+pub mod Adding
 pub mod May
 pub mod Tabling
 pub mod Logging

@@ -65,5 +65,5 @@ may_flush start seen to by e rises within up is turn = subst (MayKeep start seen
 pub may_fail_flush : (start : Start) (seen : List (List Entry)) (by : By) (count : ℕ) (e : Entry) → IsUp (at seen log_lock) → HasRisen (faults_told start log_lock (at seen log_lock)) count → e ≡ flush_fault_by by count → IsInTurn (at seen log_lock) by → MayKeep start seen log_lock e
 may_fail_flush start seen by count e up risen is turn = subst (MayKeep start seen log_lock) (sym is) (λ lists k knows there whole. log_fault_law start seen by calls.Flush count tt (λ puts. up) risen lists k knows there whole turn)
 
-pub met_log_fault : (start : Start) (v w : Knowledge) (by : By) (asked : LogCall) (count : ℕ) → log_lock < length v.seen → Leaves start log_lock (record { by = by; kind = kinds.LogFault asked count }) v w → MetLogFault w.seen by
-met_log_fault start v w by asked count inside l = record { asked = asked; count = count; stands = stands_left start v w log_lock (record { by = by; kind = kinds.LogFault asked count }) inside l }
+pub met_log_fault : (start : Start) (v w : Knowledge) (by : By) (count : ℕ) → log_lock < length v.seen → Leaves start log_lock (flush_fault_by by count) v w → MetLogFault w.seen by
+met_log_fault start v w by count inside l = record { count = count; stands = stands_left start v w log_lock (flush_fault_by by count) inside l }

@@ -6,19 +6,21 @@ use Rattle.tx_events.specs.declared.event.By.{By}
 use Rattle.tx_events.specs.declared.event.Event.{Event}
 use Rattle.tx_events.specs.Events.{by_of}
 use Rattle.tx_core.specs.declared.entry.Entry.{Entry}
+use Rattle.tx_core.specs.declared.entry.Kind.{Kind}
 use Rattle.tx_core.specs.declared.entry.Start.{Start}
 use Rattle.tx_core.specs.Entries.{asks_in, event_of}
 use Rattle.tx_core.specs.Locks.{log_lock, proc_lock}
 use Rattle.engine_parts.specs.declared.session.Session.{Session}
+use Rattle.engine_parts.specs.Adding.{Adds}
 use Rattle.engine_parts.specs.Answers.{MetFault, MetLogFault}
 use Rattle.engine_parts.specs.Faults.{fault_by, flush_fault_by}
 use Rattle.engine_parts.specs.Holds.{Enters, Knowledge, Leaves, Section}
 use Rattle.engine_parts.specs.Sessions.{IsAt, by_at}
 use Rattle.engine_parts.specs.Steps.{GoesOn, WentOn}
+use Rattle.engine_parts.proofs.Adding.{section_added}
 use Rattle.engine_parts.proofs.Leaving.{grown_left, grows_then, stands_left}
 use Rattle.engine_parts.proofs.May.{met_fault, met_log_fault}
 use Rattle.engine_parts.proofs.Stepping.{goes_quiet, went_event, went_quiet}
-use Rattle.tx_core.specs.declared.entry.LogCall.TheVariants as calls
 
 -- the lock was entered, and left with this entry
 pub section_of : (start : Start) (v u w : Knowledge) (lock : ℕ) (e e' : Entry) → Enters start lock v u → e ≡ e' → Leaves start lock e u w → Section start lock e' v w
@@ -48,9 +50,17 @@ module _ (start : Start) (v w : Knowledge) (lock : ℕ) (e : Entry) (s : Section
   pub section_goes : (n : ℕ) (t : Session) → IsAt start v n t → event_of e ≡ None → GoesOn n [] v.seen w.seen
   section_goes n t a none = goes_quiet start v s.within w n lock t e a s.enters.kept s.enters.learns inside none s.leaves
 
+  -- what the command added
+  pub section_adds : (by : By) (t : Session) (May : ℕ → Kind → Type 0) → IsAt start v by.session t → e.by ≡ by → May lock e.kind → Adds by May v.seen w.seen
+  section_adds by t May a mine may = section_added start v s.within w lock e by May a.name s.enters.learns inside s.leaves mine may
+
   -- and without a state asked for
   pub section_went : (n : ℕ) (t : Session) → IsAt start v n t → event_of e ≡ None → asks_in e ≡ [] → WentOn n [] v.seen w.seen
   section_went n t a none asks = went_quiet start v s.within w n lock t e a s.enters.kept s.enters.learns inside none asks s.leaves
+
+-- so in one of the three locks that come before the banks'
+pub shared_adds : (start : Start) (v w : Knowledge) (lock : ℕ) (e : Entry) (by : By) (t : Session) (May : ℕ → Kind → Type 0) → lock < 3 → IsAt start v by.session t → Section start lock e v w → e.by ≡ by → May lock e.kind → Adds by May v.seen w.seen
+shared_adds start v w lock e by t May shared a s mine may = section_adds start v w lock e s (let f = a.wide in omega arith) by t May a mine may
 
 -- an entry with an event
 pub section_event : (start : Start) (v w : Knowledge) (by : By) (t : Session) (e : Entry) (event : Event) → IsAt start v by.session t → Section start proc_lock e v w → event_of e ≡ Some event → by_of event ≡ by → asks_in e ≡ [] → WentOn by.session (event ∷ []) v.seen w.seen
@@ -62,4 +72,4 @@ section_met start v w lock by count inside s = met_fault start s.within w lock b
 
 -- and of the log
 pub section_met_log : (start : Start) (v w : Knowledge) (by : By) (count : ℕ) → log_lock < length v.seen → Section start log_lock (flush_fault_by by count) v w → MetLogFault w.seen by
-section_met_log start v w by count inside s = met_log_fault start s.within w by calls.Flush count (let long = s.enters.learns.long in omega arith) s.leaves
+section_met_log start v w by count inside s = met_log_fault start s.within w by count (let long = s.enters.learns.long in omega arith) s.leaves

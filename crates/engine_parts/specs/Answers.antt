@@ -8,6 +8,7 @@ use Rattle.tx_events.specs.declared.record.Rec.TheVariants as records
 use Rattle.tx_events.specs.declared.refusal.Refusal.{Refusal}
 use Rattle.tx_events.specs.declared.refusal.Refusal.TheVariants as refusals
 use Rattle.tx_events.specs.Events.{by_of, given, is_of}
+use Rattle.tx_events.specs.Running.{open_ids}
 use Rattle.tx_model.specs.declared.command.Command.{Command}
 use Rattle.tx_model.specs.declared.reply.Reply.{Reply}
 use Rattle.tx_model.specs.declared.reply.Reply.TheVariants as replies
@@ -17,12 +18,13 @@ use Rattle.tx_model.specs.Stance.{Stance, after, top_level}
 use Rattle.tx_core.specs.declared.entry.Change.{Change}
 use Rattle.tx_core.specs.declared.entry.Entry.{Entry}
 use Rattle.tx_core.specs.declared.entry.Kind.TheVariants as kinds
-use Rattle.tx_core.specs.declared.entry.LogCall.{LogCall}
 use Rattle.tx_core.specs.declared.entry.Start.{Start}
 use Rattle.tx_core.specs.Entries.{history, AreFewIds}
 use Rattle.tx_core.specs.Locks.{log_lock, number_of}
 use Rattle.engine_parts.specs.declared.session.Stage.{Stage}
 use Rattle.engine_parts.specs.declared.session.Stage.TheVariants as stages
+use Rattle.engine_parts.specs.Adding.{Adds, MayLeave}
+use Rattle.engine_parts.specs.Faults.{flush_fault_by}
 use Rattle.engine_parts.specs.Stand.{IsDownAt}
 use Rattle.engine_parts.specs.Standing.{IsHeldDown, appends, asks_volume, by_standing, flushes, needs_log, refused_by, takes_memory}
 
@@ -36,11 +38,10 @@ pub record MetFault (lists : List (List Entry)) (lock : ℕ) (by : By) : Type 0 
   pub hit : Contains callers by
   pub stands : Contains (at lists lock) (record { by = adder; kind = kinds.Fault callers changes cut count })
 
--- the log's volume failed in a call of this command
+-- the log's volume failed in a flush of this command
 pub record MetLogFault (lists : List (List Entry)) (by : By) : Type 0 where
-  pub asked : LogCall
   pub count : ℕ
-  pub stands : Contains (at lists log_lock) (record { by = by; kind = kinds.LogFault asked count })
+  pub stands : Contains (at lists log_lock) (flush_fault_by by count)
 
 -- the commit record of the open transaction stands, and an earlier command of the session appended it
 pub record IsCommitPending (lists : List (List Entry)) (by : By) (s : Stance) : Type 0 where
@@ -81,7 +82,7 @@ MayAnswer tells start lists span by s stage command (replies.Refused refusals.Un
 MayAnswer tells start lists span by s stage command reply = MayTell tells start lists span by s command reply
 
 -- What a call did: the lists went on, the session's events are those before and then these, which are the command's
--- and fit its reply. The reply is lawful, and a refusal by how the session stands comes exactly where the session
+-- and fit its reply. No entry of it but such as this command leaves with this reply. The reply is lawful, and a refusal by how the session stands comes exactly where the session
 -- stands so. The session stands as the reply leaves it.
 pub record Acted (tells : Bool) (start : Start) (by : By) (s s' : Stance) (stage : Stage) (command : Command)
     (reply : Reply) (lists lists' : List (List Entry)) : Type 0 where
@@ -90,6 +91,7 @@ pub record Acted (tells : Bool) (start : Start) (by : By) (s s' : Stance) (stage
   pub own : filter (is_of by.session) (history lists') ≡ filter (is_of by.session) (history lists) ++ added
   pub each : AllByRecursion (λ e. by_of e ≡ by) added
   pub fitting : HasEvents by s command reply added
+  pub adds : Adds by (MayLeave command s stage (open_ids by.session (history lists)) reply) lists lists'
   pub allowed : MayAnswer tells start lists' (alone (history lists) (history lists')) by s stage command reply
   pub standing : by_standing reply ≡ refused_by command s stage
   pub left : after s by.command command reply (given added) ≡ s'

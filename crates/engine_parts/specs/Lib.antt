@@ -6,6 +6,7 @@ pub mod Stages
 pub mod Sessions
 pub mod New
 pub mod Standing
+pub mod Adding
 pub mod Answers
 pub mod Calls
 pub mod Steps

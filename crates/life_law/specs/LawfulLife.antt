@@ -14,6 +14,7 @@ use Rattle.tx_model.specs.Lines.{has_line}
 use Rattle.life_law.specs.Facts.{Facts, has_log_fault}
 use Rattle.life_law.specs.LifeLog.{IsLogOf}
 use Rattle.life_law.specs.Lines.{IsLawfulRound}
+use Rattle.life_law.specs.Pending.{IsOpenAsTold}
 
 -- what a life tells with these lines
 abbrev pub facts_of : Bool → ℕ → Life → List Line → Facts
@@ -34,7 +35,7 @@ pub record AreLawfulSteps (f : Facts) (steps : List Step) : Type 0 where
   pub no_other : All (λ e. IsTrue (has_line (flat_map lines_in steps) e)) f.events
 
 -- One legal history, round by round; the lines are the rounds' commands, each lawful; no multixact; the log of these
--- ends. Each store has so many banks, and verdicts are told where the volumes tell.
+-- ends, and of a transaction that is still open no more than its session's lines tell. Each store has so many banks, and verdicts are told where the volumes tell.
 pub record IsLawfulLife (tells : Bool) (banks : ℕ) (rounds : List (List (ℕ × Command))) (r : LifeReport) : Type 0 where
   pub history : IsLegal r.life.base r.life.events
   pub told : AreRounds 1 rounds r.steps
@@ -42,3 +43,4 @@ pub record IsLawfulLife (tells : Bool) (banks : ℕ) (rounds : List (List (ℕ �
   pub lawful : AreLawfulSteps (facts_of tells banks r.life (flat_map lines_in r.steps)) r.steps
   pub multis : r.life.multis ≡ []
   pub log : IsLogOf r.life.from (records.Checkpoint r.life.from r.life.base) r.life.events r.life.recs r.life.flushed r.life.end
+  pub opened : (session : ℕ) → IsOpenAsTold r.life.recs r.life.events (flat_map lines_in r.steps) session

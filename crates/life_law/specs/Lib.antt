@@ -5,3 +5,4 @@ pub mod Replies
 pub mod Lines
 pub mod LifeLog
 pub mod LawfulLife
+pub mod Laws

@@ -1,6 +1,6 @@
 -- Which log a life may have whose sessions run on threads: its records are those of its ends, in whatever order the ends
 -- came to it, and those of ends that were begun.
-use Rattle.std.specs.Prelude.{◌≡◌, ℕ, ◌+◌, ◌-◌, ◌^◌, ◌<◌, ◌≤◌, ◌⊎◌, true, List, [], ◌∷◌, Some, Contains, drop, take, length, slice_get}
+use Rattle.std.specs.Prelude.{◌≡◌, ℕ, ◌+◌, ◌-◌, ◌^◌, ◌<◌, ◌≤◌, ◌⊎◌, true, List, ◌∷◌, Some, Contains, drop, take, length, slice_get}
 use Rattle.tx_events.specs.declared.event.By.{By}
 use Rattle.tx_events.specs.declared.event.Event.{Event}
 use Rattle.tx_events.specs.declared.event.Event.TheVariants as events
@@ -38,7 +38,7 @@ abbrev pub IsAmong : ℕ → List Rec → Rec → Type 0
 IsAmong n recs rec = Contains (take n recs) rec
 
 -- The life's records: first the one with which it begins, then at most one of each transaction, each of them whole. A
--- transaction that committed has its record, and that is flushed. The next gate's position is below 2^41.
+-- transaction that committed has its record, and that is flushed. The next gate's position has 64 bits.
 pub record IsLogOf (from : ℕ) (first : Rec) (h : List Event) (recs : List Rec) (flushed end : ℕ) : Type 0 where
   pub rest : List Rec
   pub split : recs ≡ first ∷ rest
@@ -48,4 +48,4 @@ pub record IsLogOf (from : ℕ) (first : Rec) (h : List Event) (recs : List Rec)
   pub once : (i j id : ℕ) (a b : Rec) → slice_get rest i ≡ Some a → slice_get rest j ≡ Some b → ends_top a id → ends_top b id → i ≡ j
   pub committed : (p top : ℕ) (by : By) → slice_get h p ≡ Some (events.Commit by top)
       → IsAmong (flushed - from) recs (records.Commit top (drop 1 (open_ids by.session (take p h))))
-  pub gate : end < 2 ^ 41
+  pub gate : end < 2 ^ 64

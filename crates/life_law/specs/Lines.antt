@@ -1,5 +1,5 @@
 -- Which lines of a life's report are lawful.
-use Rattle.std.specs.Prelude.{◌≡◌, ℕ, ◌+◌, List, ◌++◌}
+use Rattle.std.specs.Prelude.{◌≡◌, ◌+◌, List, ◌++◌}
 use Rattle.std.specs.List.{count_by}
 use Rattle.tx_events.specs.Events.{events_of}
 use Rattle.tx_events.specs.Places.{EachPlace}
@@ -19,7 +19,8 @@ pub record IsLawfulLine (f : Facts) (round : RoundSpan) (before : List Line) (l 
   pub events : HasEvents l.by (stance f.events before l.by.session) l.command l.reply (events_of l.by f.events)
   pub standing : by_standing l.reply
       ≡ refused_by l.command (stance f.events before l.by.session) (pending f.recs f.events before l.by.session)
-  pub reply : IsLawfulReply f round l.by (stance f.events before l.by.session) l.command l.reply
+  pub reply : IsLawfulReply f round l.by (stance f.events before l.by.session)
+      (pending f.recs f.events before l.by.session) l.command l.reply
 
 -- the lines of a round, given the lines of the rounds before it
 abbrev pub IsLawfulRound : Facts → List Line → List Line → Type 0

@@ -1,6 +1,6 @@
 -- Which end of a session is pending, by its lines: a commit, an abort or an undo that a fault met, and that wasn't gone
 -- on with to its end.
-use Rattle.std.specs.Prelude.{ℕ, ◌==◌, Bool, true, false, List, [], ◌∷◌, Option, None, Some, cond}
+use Rattle.std.specs.Prelude.{ℕ, ◌==◌, Bool, false, List, [], ◌∷◌, Option, None, Some, cond, ◌≡◌, IsTrue, Contains}
 use Rattle.std.specs.List.{filter, list_any}
 use Rattle.tx_events.specs.declared.event.Event.{Event}
 use Rattle.tx_events.specs.declared.record.Rec.{Rec}
@@ -9,12 +9,13 @@ use Rattle.tx_events.specs.declared.refusal.Lock.TheVariants as locks
 use Rattle.tx_events.specs.declared.refusal.Refusal.{Refusal}
 use Rattle.tx_events.specs.declared.refusal.Refusal.TheVariants as refusals
 use Rattle.tx_events.specs.Events.{events_of, given}
+use Rattle.tx_events.specs.Running.{open_ids}
 use Rattle.tx_model.specs.declared.command.Command.{Command}
 use Rattle.tx_model.specs.declared.command.Command.TheVariants as commands
 use Rattle.tx_model.specs.declared.reply.Reply.{Reply}
 use Rattle.tx_model.specs.declared.reply.Reply.TheVariants as replies
 use Rattle.tx_model.specs.declared.report.Line.{Line}
-use Rattle.tx_model.specs.Lines.{is_line_of}
+use Rattle.tx_model.specs.Lines.{is_line_of, stance}
 use Rattle.tx_model.specs.Stance.{Stance, after, nothing_yet, top_level}
 
 -- the record is the commit of this top
@@ -51,3 +52,13 @@ pending_from recs h s old (l ∷ lines) =
 -- what is pending of a session after the lines before
 abbrev pub pending : List Rec → List Event → List Line → ℕ → Option Refusal
 pending recs h before session = pending_from recs h nothing_yet None (filter (is_line_of session) before)
+
+-- What stands in the log of a transaction that a session has open: its commit record where a commit is pending by its
+-- lines, and there alone; an abort record only where an abort is.
+pub record IsOpenAsTold (recs : List Rec) (h : List Event) (lines : List Line) (session : ℕ) : Type 0 where
+  pub commit : (top : ℕ) (subs : List ℕ) → Contains recs (records.Commit top subs)
+      → open_ids session h ≡ top ∷ subs → pending recs h lines session ≡ Some refusals.CommitPending
+  pub abort : (top : ℕ) (subs : List ℕ) → Contains recs (records.Abort top subs)
+      → open_ids session h ≡ top ∷ subs → pending recs h lines session ≡ Some refusals.AbortPending
+  pub recorded : pending recs h lines session ≡ Some refusals.CommitPending
+      → IsTrue (is_recorded recs (top_level (stance h lines session).levels))

@@ -75,3 +75,7 @@ is_by_standing _ = false
 abbrev pub by_standing : Reply → Option Refusal
 by_standing (replies.Refused refusal) = then_some (is_by_standing refusal) refusal
 by_standing _ = None
+
+abbrev pub is_commit_pending : Option Refusal → Bool
+is_commit_pending (Some refusals.CommitPending) = true
+is_commit_pending pending = false

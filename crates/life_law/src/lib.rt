@@ -2,3 +2,5 @@
 //! of events and of replies by the history alone stands in `tx_events` and `tx_model`. docs/SCRIPT-AND-REPORT.md and
 //! docs/GUARANTEES.md tell it in words.
 #![tactic(auto)]
+
+pub mod laws;

@@ -3,7 +3,6 @@ use Rattle.std.specs.Prelude.{◌≡◌, ◌⊎◌, ℕ, ◌<◌, ◌≤◌, Lis
 use Rattle.notes.specs.Lists.{at}
 use Rattle.tx_events.specs.declared.event.By.{By}
 use Rattle.tx_events.specs.declared.record.Rec.{Rec}
-use Rattle.tx_events.specs.declared.record.Rec.TheVariants as records
 use Rattle.tx_events.specs.declared.refusal.Refusal.{Refusal}
 use Rattle.tx_events.specs.declared.refusal.Refusal.TheVariants as refusals
 use Rattle.tx_core.specs.declared.entry.Entry.{Entry}
@@ -17,6 +16,7 @@ use Rattle.wal_core.specs.declared.refusal.LogRefusal.TheVariants as refused
 use Rattle.wal_records.specs.Spelling.{IsLawful}
 use Rattle.engine_parts.specs.declared.session.Session.{Session}
 use Rattle.engine_parts.specs.declared.session.Stage.TheVariants as stages
+pub use Rattle.engine_parts.specs.Adding.{IsAbortOf, IsCommitOf}
 use Rattle.engine_parts.specs.Answers.{MetLogFault}
 use Rattle.engine_parts.specs.Faults.{flush_fault_by, look_of}
 use Rattle.engine_parts.specs.Holds.{Knowledge, Section}
@@ -32,20 +32,6 @@ IsRefusalOf (refused.Damaged place) r = ⊥
 IsRefusalOf (refused.LogDown down) r = r ≡ refusals.LogDown down
 IsRefusalOf refused.Full r = r ≡ refusals.Full
 IsRefusalOf refused.Memory r = r ≡ refusals.Memory
-
--- it is the commit record of these open ids
-pub record IsCommitOf (opened : List ℕ) (rec : Rec) : Type 0 where
-  pub top : ℕ
-  pub subs : List ℕ
-  pub is : rec ≡ records.Commit top subs
-  pub ids : opened ≡ top ∷ subs
-
--- it is their abort record
-pub record IsAbortOf (opened : List ℕ) (rec : Rec) : Type 0 where
-  pub top : ℕ
-  pub subs : List ℕ
-  pub is : rec ≡ records.Abort top subs
-  pub ids : opened ≡ top ∷ subs
 
 -- Why no record was appended: the log is down behind a fault of its list. Or it isn't, and is full, or memory was
 -- wanting.

@@ -23,12 +23,12 @@ use Rattle.script_lines.specs.declared.directive.Directive.{Directive}
 use Rattle.script_lines.specs.declared.header.Header.{Header}
 use Rattle.script_lines.specs.declared.kind.Kind.{Kind}
 use Rattle.script_lines.specs.declared.kind.Kind.TheVariants as kinds
-use Rattle.script_lines.specs.Arguments.{multi_in, number_in, one_of, such}
+use Rattle.script_lines.specs.Arguments.{multi_in, number_in, one_of, some_number, such}
 use Rattle.script_lines.specs.Commands.{command_at}
 use Rattle.script_lines.specs.Directives.{directive_at}
 use Rattle.script_lines.specs.Header.{base_of, given_id, given_multi, given_number, header_with, is_base, no_header}
 use Rattle.script_lines.specs.Kinds.{◌>>=◌, fault_if}
-use Rattle.script_lines.specs.LineWords.{is_plain, words_in}
+use Rattle.script_lines.specs.LineWords.{is_plain, number_of, words_in}
 use Rattle.script_lines.proofs.Bases.{passes_base}
 use Rattle.session_lang.specs.declared.parser.reading.Front.{Front}
 use Rattle.session_lang.specs.declared.script.Item.TheVariants as items
@@ -74,8 +74,8 @@ above m n e = grind (arith, nat_tests)
 
 -- ---- counters
 
-abbrev HasMultis : Header → Type 0
-HasMultis h = IfSome h.multi IsFullMulti × IfSome h.oldest_multi IsFullMulti
+abbrev HasFit : Header → Type 0
+HasFit h = IfSome h.multi IsFullMulti × IfSome h.oldest_multi IsFullMulti × IfSome h.banks (λ n. n ≤ 16)
 
 full_from : (n : ℕ) → nat_le 1 (low_half n) ≡ true → IsFullMulti n
 full_from n e = grind (arith, nat_tests)
@@ -88,16 +88,27 @@ given_full : (o : Option ℕ) (ws : List (List ℕ)) → IfOk (given_multi o ws)
 unfolding given_multi
 given_full o ws = behind IsFullMulti (fault_if (is_some o) kinds.Directive) _ (λ _. behind IsFullMulti (one_of ws) multi_in multi_full)
 
-header_within : (h : Header) (w : List ℕ) (ws : List (List ℕ)) → HasMultis h → IfOk (header_with h w ws) HasMultis
+within : (low high : ℕ) (w : List ℕ) → IfOk (number_in low high w) (λ n. n ≤ high)
+within low high w = behind (λ n. n ≤ high) (some_number (number_of w)) (λ n. cond (nat_le low n && nat_le n high) (Ok n) (Err kinds.Number)) (λ n. either_holds (λ n. n ≤ high) (nat_le low n && nat_le n high) (Ok n) (Err kinds.Number) (λ e. upto n (nat_le low n) e) (λ _. tt))
+  where
+    upto : (n : ℕ) (b : Bool) → (b && nat_le n high) ≡ true → n ≤ high
+    upto n true e = grind (arith, nat_tests)
+    upto n false e = absurd (false≢true e)
+
+given_within : (high : ℕ) (o : Option ℕ) (ws : List (List ℕ)) → IfOk (given_number high o ws) (λ n. n ≤ high)
+unfolding given_number
+given_within high o ws = behind (λ n. n ≤ high) (fault_if (is_some o) kinds.Directive) _ (λ _. behind (λ n. n ≤ high) (one_of ws) (number_in 1 high) (within 1 high))
+
+header_within : (h : Header) (w : List ℕ) (ws : List (List ℕ)) → HasFit h → IfOk (header_with h w ws) HasFit
 unfolding header_with
 header_within h w ws m =
-    either_holds HasMultis (bytes_eq w (codes ".start")) _ _ (λ _. behind HasMultis (given_id h.start ws) (λ n. Ok (record h { start = Some n })) (λ _. m)) (λ _.
-    either_holds HasMultis (bytes_eq w (codes ".oldest")) _ _ (λ _. behind HasMultis (given_id h.oldest ws) (λ n. Ok (record h { oldest = Some n })) (λ _. m)) (λ _.
-    either_holds HasMultis (bytes_eq w (codes ".multi")) _ _ (λ _. then_holds IsFullMulti HasMultis (given_multi h.multi ws) (λ n. Ok (record h { multi = Some n })) (given_full h.multi ws) (λ _ f. (f, m.1))) (λ _.
-    either_holds HasMultis (bytes_eq w (codes ".offset")) _ _ (λ _. behind HasMultis (given_number (2 ^ 62) h.offset ws) (λ n. Ok (record h { offset = Some n })) (λ _. m)) (λ _.
-    either_holds HasMultis (bytes_eq w (codes ".oldest-multi")) _ _ (λ _. then_holds IsFullMulti HasMultis (given_multi h.oldest_multi ws) (λ n. Ok (record h { oldest_multi = Some n })) (given_full h.oldest_multi ws) (λ _ f. (m.0, f))) (λ _.
-    either_holds HasMultis (bytes_eq w (codes ".oldest-offset")) _ _ (λ _. behind HasMultis (given_number (2 ^ 62) h.oldest_offset ws) (λ n. Ok (record h { oldest_offset = Some n })) (λ _. m)) (λ _.
-    either_holds HasMultis (bytes_eq w (codes ".banks")) _ _ (λ _. behind HasMultis (given_number 16 h.banks ws) (λ n. Ok (record h { banks = Some n })) (λ _. m)) (λ _. tt)))))))
+    either_holds HasFit (bytes_eq w (codes ".start")) _ _ (λ _. behind HasFit (given_id h.start ws) (λ n. Ok (record h { start = Some n })) (λ _. m)) (λ _.
+    either_holds HasFit (bytes_eq w (codes ".oldest")) _ _ (λ _. behind HasFit (given_id h.oldest ws) (λ n. Ok (record h { oldest = Some n })) (λ _. m)) (λ _.
+    either_holds HasFit (bytes_eq w (codes ".multi")) _ _ (λ _. then_holds IsFullMulti HasFit (given_multi h.multi ws) (λ n. Ok (record h { multi = Some n })) (given_full h.multi ws) (λ _ f. (f, m.1, m.2))) (λ _.
+    either_holds HasFit (bytes_eq w (codes ".offset")) _ _ (λ _. behind HasFit (given_number (2 ^ 62) h.offset ws) (λ n. Ok (record h { offset = Some n })) (λ _. m)) (λ _.
+    either_holds HasFit (bytes_eq w (codes ".oldest-multi")) _ _ (λ _. then_holds IsFullMulti HasFit (given_multi h.oldest_multi ws) (λ n. Ok (record h { oldest_multi = Some n })) (given_full h.oldest_multi ws) (λ _ f. (m.0, f, m.2))) (λ _.
+    either_holds HasFit (bytes_eq w (codes ".oldest-offset")) _ _ (λ _. behind HasFit (given_number (2 ^ 62) h.oldest_offset ws) (λ n. Ok (record h { oldest_offset = Some n })) (λ _. m)) (λ _.
+    either_holds HasFit (bytes_eq w (codes ".banks")) _ _ (λ _. then_holds (λ n. n ≤ 16) HasFit (given_number 16 h.banks ws) (λ n. Ok (record h { banks = Some n })) (given_within 16 h.banks ws) (λ _ f. (m.0, m.1, f))) (λ _. tt)))))))
 
 or_full : (o : Option ℕ) (n : ℕ) → IfSome o IsFullMulti → IsFullMulti n → IsFullMulti (unwrap_or o n)
 or_full None n f g = g
@@ -154,15 +165,19 @@ placed (v ∷ names) w = step (same_name v w) refl (placed names w)
     step true e p = inr (omega arith)
     step false e p = rw one-add (placed_behind v w names e p)
 
+banks_few : (o : Option ℕ) → IfSome o (λ n. n ≤ 16) → unwrap_or o 4 ≤ 16
+banks_few None f = omega arith
+banks_few (Some n) f = f
+
 -- the lines so far, at most so many of them items
 record Goes (n : ℕ) (f : Front) : Type 0 where
   counts : List ℕ
   read : HasRead f.names counts f.items
-  multis : HasMultis f.header
+  header : HasFit f.header
   few : length f.items ≤ n
 
 goes_up : (m n : ℕ) (f : Front) → Goes m f → m ≤ n → Goes n f
-goes_up m n f g l = record { counts = g.counts; read = g.read; multis = g.multis; few = let a = g.few in omega arith }
+goes_up m n f g l = record { counts = g.counts; read = g.read; header = g.header; few = let a = g.few in omega arith }
 
 abbrev with_run : Front → ℕ → List ℕ → Command → Front
 with_run f k name command = record f { names = names_with f.names k name; items = f.items ++ items.Run k command ∷ [] }
@@ -176,7 +191,7 @@ run_new n f k name command g i l e new =
     (record {
       counts = g.counts ++ 1 ∷ [];
       read = subst (λ b. HasRead (cond b (named ++ name ∷ []) named) (g.counts ++ 1 ∷ []) (f.items ++ items.Run (length named) command ∷ [])) (sym (eqb-refl (length named))) read;
-      multis = g.multis;
+      header = g.header;
       few = let a = g.few in let p = length_push f.items (items.Run (length named) command) in omega arith;
     })
 
@@ -190,7 +205,7 @@ run_old n f k name command g l within =
     record {
       counts = counts;
       read = subst (λ b. HasRead (cond b (named ++ name ∷ []) named) counts (f.items ++ items.Run k command ∷ [])) (sym (below_not k (length named) within)) read;
-      multis = g.multis;
+      header = g.header;
       few = let a = g.few in let p = length_push f.items (items.Run k command) in omega arith;
     }
 
@@ -216,7 +231,7 @@ directive_goes : (n : ℕ) (f : Front) (d : Directive) → Goes n f → Goes (su
 directive_goes n f d g = record {
   counts = replicate (length g.counts) 0;
   read = has_read_end f.names g.counts f.items d g.read;
-  multis = g.multis;
+  header = g.header;
   few = let a = g.few in let p = length_push f.items (item_of d) in omega arith;
 }
 
@@ -234,8 +249,8 @@ body_goes n f line g = behind (Goes (suc n)) (fault_if (not (is_plain line)) kin
 header_words_go : (n : ℕ) (f : Front) (number : ℕ) (ws : List (List ℕ)) → Goes n f → IfOk (header_words f number ws) (Goes (suc n))
 header_words_go n f number [] g = goes_up n (suc n) f g (omega arith)
 header_words_go n f number (w ∷ ws) g =
-    then_holds HasMultis (Goes (suc n)) (header_with f.header w ws) (λ h. Ok (record f { header = h; header_end = number })) (header_within f.header w ws g.multis)
-    (λ h m. record { counts = g.counts; read = g.read; multis = m; few = let a = g.few in omega arith })
+    then_holds HasFit (Goes (suc n)) (header_with f.header w ws) (λ h. Ok (record f { header = h; header_end = number })) (header_within f.header w ws g.header)
+    (λ h m. record { counts = g.counts; read = g.read; header = m; few = let a = g.few in omega arith })
 
 header_goes : (n : ℕ) (f : Front) (number : ℕ) (line : List ℕ) → Goes n f → IfOk (header_line f number line) (Goes (suc n))
 unfolding header_line
@@ -248,7 +263,7 @@ at_line_goes n number (Err k) g = tt
 end_goes : (n : ℕ) (f : Front) → Goes n f → IfOk (end_header f) (Goes n)
 end_goes n f g =
     either_holds (Goes n) (f.late || is_base (base_of f.header)) (Ok (record f { late = true })) (Err (f.header_end, kinds.Base))
-    (λ _. record { counts = g.counts; read = g.read; multis = g.multis; few = g.few }) (λ _. tt)
+    (λ _. record { counts = g.counts; read = g.read; header = g.header; few = g.few }) (λ _. tt)
 
 line_goes : (n : ℕ) (f : Front) (number : ℕ) (line : List ℕ) → Goes n f → IfOk (read_line f number line) (Goes (suc n))
 unfolding read_line
@@ -263,7 +278,7 @@ lines_go n most f number (line ∷ lines) l g = then_holds (Goes (suc n)) (Goes 
 
 begins : Goes 0 no_front
 unfolding no_front no_header
-begins = record { counts = []; read = has_read_none [] refl; multis = (tt, tt); few = omega arith }
+begins = record { counts = []; read = has_read_none [] refl; header = (tt, tt, tt); few = omega arith }
 
 -- ---- a script
 
@@ -288,6 +303,7 @@ pub record IsRead (s : Script) : Type 0 where
   pub numbered : first_seen (sessions_in s.items) ≡ range_with_len 0 (length s.names)
   pub items : AllByRecursion IsItem s.items
   pub few : length s.items ≤ 2 ^ 25
+  pub banks : s.banks ≤ 16
 
 front_read : (n : ℕ) (f : Front) → n ≤ 2 ^ 25 → is_base (base_of f.header) ≡ true → AllByRecursion IsItem f.items → Goes n f → IsRead (script_of f)
 front_read n f l b i g =
@@ -296,12 +312,13 @@ front_read n f l b i g =
     let read = g.read in
     record {
       base = base;
-      counters = counters_fit (base_of f.header) base (or_full f.header.multi 1 g.multis.0 one) (or_full f.header.oldest_multi (unwrap_or f.header.multi 1) g.multis.1 (or_full f.header.multi 1 g.multis.0 one));
+      counters = counters_fit (base_of f.header) base (or_full f.header.multi 1 g.header.0 one) (or_full f.header.oldest_multi (unwrap_or f.header.multi 1) g.header.1 (or_full f.header.multi 1 g.header.0 one));
       names = record { each = recursion_from_All IsName f.names read.names; distinct = read.distinct };
       sessions = read.sessions;
       numbered = read.numbered;
       items = i;
       few = let a = g.few in omega arith;
+      banks = banks_few f.header.banks g.header.2;
     }
 
 went : {A B F : Type 0} (r : Result A F) (f : A → Result B F) (y : B) → (r >>= f) ≡ Ok y → (x : A) × (r ≡ Ok x) × (f x ≡ Ok y)

@@ -15,6 +15,7 @@ use Rattle.tx_events.specs.declared.refusal.Refusal.{Refusal}
 use Rattle.tx_events.specs.declared.refusal.Refusal.TheVariants as refusals
 use Rattle.tx_events.specs.declared.xact_end.XactEnd.{XactEnd}
 use Rattle.tx_events.specs.declared.xact_end.XactEnd.TheVariants as ends
+use Rattle.tx_events.specs.Running.{open_ids}
 use Rattle.tx_events.specs.XactEnds.{end_event}
 use Rattle.tx_model.specs.declared.command.Command.{Command}
 use Rattle.tx_model.specs.declared.command.Command.TheVariants as commands
@@ -23,6 +24,7 @@ use Rattle.tx_model.specs.CommandEvents.{HasEvents, abort_event, commit_event}
 use Rattle.tx_model.specs.Replies.{RoundSpan, alone}
 use Rattle.tx_model.specs.Stance.{Stance, after, top_level}
 use Rattle.tx_core.specs.declared.entry.Entry.{Entry}
+use Rattle.tx_core.specs.declared.entry.Kind.{Kind}
 use Rattle.tx_core.specs.declared.entry.Start.{Start}
 use Rattle.tx_core.specs.CommitRecordsExact.{HasNoRecord}
 use Rattle.tx_core.specs.Entries.{history}
@@ -37,20 +39,23 @@ use Rattle.engine_parts.specs.declared.session.Caller.{Caller}
 use Rattle.engine_parts.specs.declared.session.Session.{Session}
 use Rattle.engine_parts.specs.declared.session.Stage.{Stage}
 use Rattle.engine_parts.specs.declared.session.Stage.TheVariants as stages
+use Rattle.engine_parts.specs.Adding.{Adds, IsCommitOf, IsRecordBy, IsToldBy, MayAdd, MayLeave}
 use Rattle.engine_parts.specs.Answers.{Acted, MayAnswer, reply_of}
 use Rattle.engine_parts.specs.Calls.{Ran}
 use Rattle.engine_parts.specs.Holds.{Knowledge}
-use Rattle.engine_parts.specs.Sessions.{IsReady, MayCall, by_at, stance_of}
+use Rattle.engine_parts.specs.Sessions.{IsAt, MayCall, by_at, stance_of}
 use Rattle.engine_parts.specs.Stages.{may_be_recorded, pending_in}
-use Rattle.engine_parts.specs.Standing.{IsLoggedFrom, LeavesStage, asks_volume, held_by, is_by_standing, is_unflushed, is_unrecorded, refused_by}
+use Rattle.engine_parts.specs.Standing.{IsLoggedFrom, LeavesStage, asks_volume, flushes, held_by, is_by_standing, is_unflushed, is_unrecorded, refused_by}
 use Rattle.engine_parts.specs.Steps.{GoesOn}
 use Rattle.engine_parts.proofs.Acting.{acted_nothing}
+use Rattle.engine_parts.proofs.Adding.{may_wider}
 use Rattle.engine_parts.proofs.Refusing.{first_fails, not_held, refused_events, refused_leaves}
 use Rattle.bank_sections.specs.Faults.{IsXactFault}
 use Rattle.proc_sections.proofs.Closing.{end_by}
 use Rattle.xact_ends.specs.Aborts.{Aborts}
 use Rattle.xact_ends.specs.Ends.{Commits, HasFinished, IsClosed}
 use Rattle.xact_ends.specs.Stops.{IsUnflushed, Stops}
+use Rattle.xact_ends.proofs.Added.{told_reply}
 
 -- ---- levels
 
@@ -94,8 +99,9 @@ left_done ends.Commit s number ids = refl
 left_done ends.Abort s number ids = refl
 
 pub acted_finished : {tells : Bool} (start : Start) (n : ℕ) (how : XactEnd) (h : List Event) (s s' : Session) (stage : Stage) (lists more : List (List Entry)) → Nest h s.levels.open_ids.items s.levels.level_ids.items → 1 ≤ length s.levels.open_ids.items → held_by (end_command how) stage ≡ None → HasFinished n how s s' lists more
+    → Adds (by_at n s.levels.commands) (MayLeave (end_command how) (stance_of s) stage (open_ids n (history lists)) replies.Done) lists more
     → Acted tells start (by_at n s.levels.commands) (stance_of s) (stance_of s') stage (end_command how) replies.Done lists more
-acted_finished {tells = tells} start n how h s s' stage lists more nest some free f =
+acted_finished {tells = tells} start n how h s s' stage lists more nest some free f adds =
     let opened = s.levels.open_ids.items in
     let top : ℕ = slice_index_or opened 0 0 in
     let by = by_at n s.levels.commands in
@@ -109,6 +115,7 @@ acted_finished {tells = tells} start n how h s s' stage lists more nest some fre
       own = g.own;
       each = (end_by how by top, tt);
       fitting = fitting_done how by (stance_of s) top level;
+      adds = adds;
       allowed = allowed_done tells start more (alone (history lists) (history more)) by (stance_of s) stage how levelled;
       standing = sym (not_refused how (stance_of s) stage (some_list (stance_of s).levels levelled) free);
       left = left_done how (stance_of s) s.levels.commands _ ∙ (λ j. record { levels = levels_of (sym f.named j) (sym f.unnamed j); snaps = map told_of ((sym f.registered j).items) });
@@ -163,14 +170,16 @@ stops_stage start lists by old new _ c = absurd c
 
 -- the lists went on, and the command was refused by none of how its session stands
 pub acted_stopped : {tells : Bool} (start : Start) (n : ℕ) (s s' : Session) (stage : Stage) (command : Command) (r : Refusal) (lists more : List (List Entry)) → GoesOn n [] lists more → s'.levels ≡ s.levels → is_by_standing r ≡ false → refused_by command (stance_of s) stage ≡ None
+    → Adds (by_at n s.levels.commands) (MayLeave command (stance_of s) stage (open_ids n (history lists)) (replies.Refused r)) lists more
     → MayAnswer tells start more (alone (history lists) (history more)) (by_at n s.levels.commands) (stance_of s) stage command (replies.Refused r) → Acted tells start (by_at n s.levels.commands) (stance_of s) (stance_of s') stage command (replies.Refused r) lists more
-acted_stopped start n s s' stage command r lists more goes same apart free allowed =
+acted_stopped start n s s' stage command r lists more goes same apart free adds allowed =
     let by = by_at n s.levels.commands in record {
       grows = goes.grows;
       added = [];
       own = goes.own;
       each = tt;
       fitting = refused_events by (stance_of s) command r;
+      adds = adds;
       allowed = allowed;
       standing = ap (λ (b : Bool). then_some b r) apart ∙ sym free;
       left = refused_leaves (stance_of s) s.levels.commands command r ∙ sym (ap levels.stance_of same);
@@ -223,25 +232,52 @@ no_names : (h : List Event) (opened named : List ℕ) → Nest h opened named �
 no_names h opened [] nest none = refl
 no_names h opened (t ∷ named) nest none = absurd (let l : length opened ≡ 0 = ap length none in let m : length opened ≡ suc (length nest.0) = ap length nest.1 in omega arith)
 
+-- what it adds from each stage, by what the whole command may
+module _ (start : Start) (v : Knowledge) (n : ℕ) (s : Session) (a : IsAt start v n s) {T : Type 0} (r : Result T Refusal) where
+  abbrev opened_now : List ℕ
+  opened_now = open_ids n (history v.seen)
+
+  -- a commit of which no end was begun
+  pub commit_leaves : 1 ≤ length s.levels.open_ids.items → s.stage ≡ stages.Clear → (lock : ℕ) (kind : Kind) → MayAdd (IsCommitOf s.levels.open_ids.items) (Unit {0}) (IsToldBy r) lock kind
+      → MayLeave commands.Commit (stance_of s) s.stage opened_now (reply_of (λ x. replies.Done) r) lock kind
+  commit_leaves some clear =
+      let level = levelled (history v.seen) s a.stands.nest some in
+      may_wider (IsCommitOf s.levels.open_ids.items) (IsRecordBy commands.Commit (stance_of s) s.stage opened_now) (Unit {0}) (IsTrue (flushes commands.Commit (stance_of s) s.stage)) (IsToldBy r) (λ q. reply_of (λ x. replies.Done) r ≡ replies.Refused q)
+      (λ rec of. (unrecorded (stance_of s) (top_open s) s.stage level clear, subst (λ (l : List ℕ). IsCommitOf l rec) (sym a.stands.opened) of))
+      (λ u. unflushed (stance_of s) (top_open s) s.stage level (subst (λ (z : Stage). IsUnflushed z) (sym clear) tt)) (told_reply r)
+
+  -- one whose record stands
+  pub logged_leaves : (number : ℕ) → s.stage ≡ stages.Logged number → (lock : ℕ) (kind : Kind) → MayAdd (λ rec. ⊥) (Unit {0}) (IsToldBy r) lock kind → MayLeave commands.Commit (stance_of s) s.stage opened_now (reply_of (λ x. replies.Done) r) lock kind
+  logged_leaves number is =
+      may_wider (λ rec. ⊥) (IsRecordBy commands.Commit (stance_of s) s.stage opened_now) (Unit {0}) (IsTrue (flushes commands.Commit (stance_of s) s.stage)) (IsToldBy r) (λ q. reply_of (λ x. replies.Done) r ≡ replies.Refused q)
+      (λ rec m. absurd m) (λ u. subst (λ (z : Stage). IsTrue (is_unflushed (stance_of s) z)) (sym is) refl) (told_reply r)
+
+  -- an abort
+  pub abort_leaves : (lock : ℕ) (kind : Kind) → MayAdd (IsRecordBy commands.Abort (stance_of s) s.stage s.levels.open_ids.items) ⊥ (IsToldBy r) lock kind → MayLeave commands.Abort (stance_of s) s.stage opened_now (reply_of (λ x. replies.Done) r) lock kind
+  abort_leaves =
+      may_wider (IsRecordBy commands.Abort (stance_of s) s.stage s.levels.open_ids.items) (IsRecordBy commands.Abort (stance_of s) s.stage opened_now) ⊥ (IsTrue (flushes commands.Abort (stance_of s) s.stage)) (IsToldBy r) (λ q. reply_of (λ x. replies.Done) r ≡ replies.Refused q)
+      (λ rec m. subst (λ (l : List ℕ). IsRecordBy commands.Abort (stance_of s) s.stage l rec) (sym a.stands.opened) m) (λ m. absurd m) (told_reply r)
+
 module _ {H L P : Type 0} {l : logs.Ghosts L} {p : disks.Ghosts P} (hall : Hall H (Part L P l p) Entry Start) where
   -- a commit that is over, or that stopped
   pub ran_commit : (u new : Caller L P l p) (r : Result (Unit {0}) Refusal) → IsOf hall new.pass → MayCall (start_of hall) (view u.pass) u.number u.session → MayCall (start_of hall) (view new.pass) new.number new.session → new.number ≡ u.number → 1 ≤ length u.session.levels.open_ids.items → held_by commands.Commit u.session.stage ≡ None
+      → Adds (by_at u.number u.session.levels.commands) (MayLeave commands.Commit (stance_of u.session) u.session.stage (open_ids u.number (history (view u.pass).seen)) (reply_of (λ x. replies.Done) r)) (view u.pass).seen (view new.pass).seen
       → Commits (start_of hall) u.number u.session new.session (view u.pass).seen (view new.pass).seen r → Ran hall u.session.levels.commands commands.Commit (reply_of (λ x. replies.Done) r) u new
-  ran_commit u new (Ok x) own was may number some free f = record {
+  ran_commit u new (Ok x) own was may number some free adds f = record {
     own = own;
     may = may;
-    acted = acted_finished (start_of hall) u.number ends.Commit (history (view u.pass).seen) u.session new.session u.session.stage (view u.pass).seen (view new.pass).seen was.ready.at.stands.nest some free f;
+    acted = acted_finished (start_of hall) u.number ends.Commit (history (view u.pass).seen) u.session new.session u.session.stage (view u.pass).seen (view new.pass).seen was.ready.at.stands.nest some free f adds;
     stage = f.stage;
     count = (f.count, number);
   }
-  ran_commit u new (Err r) own was may number some free c =
+  ran_commit u new (Err r) own was may number some free adds c =
       let by = by_at u.number u.session.levels.commands in
       let h : List Event = history (view u.pass).seen in
       record {
         own = own;
         may = may;
         acted = acted_stopped (start_of hall) u.number u.session new.session u.session.stage commands.Commit r (view u.pass).seen (view new.pass).seen c.0 c.1 (stops_else (start_of hall) (view new.pass).seen by u.session.stage new.session.stage r c.2)
-            (not_refused ends.Commit (stance_of u.session) u.session.stage (some_list (stance_of u.session).levels (has_top (stance_of u.session).levels (top_open u.session) (levelled h u.session was.ready.at.stands.nest some))) free)
+            (not_refused ends.Commit (stance_of u.session) u.session.stage (some_list (stance_of u.session).levels (has_top (stance_of u.session).levels (top_open u.session) (levelled h u.session was.ready.at.stands.nest some))) free) adds
             (stops_answer p.tells (start_of hall) (view new.pass).seen (alone h (history (view new.pass).seen)) by (stance_of u.session) (top_open u.session) u.session.stage new.session.stage r (levelled h u.session was.ready.at.stands.nest some) c.2);
         stage = stops_stage (start_of hall) (view new.pass).seen by u.session.stage new.session.stage r c.2;
         count = (ap (λ (z : plain.Session). z.commands) c.1, number);
@@ -249,22 +285,23 @@ module _ {H L P : Type 0} {l : logs.Ghosts L} {p : disks.Ghosts P} (hall : Hall 
 
   -- an abort that is over, or that a fault stopped
   pub ran_abort : (u new : Caller L P l p) (r : Result (Unit {0}) Refusal) → IsOf hall new.pass → MayCall (start_of hall) (view u.pass) u.number u.session → MayCall (start_of hall) (view new.pass) new.number new.session → new.number ≡ u.number → 1 ≤ length u.session.levels.open_ids.items → may_be_recorded u.session.stage ≡ false
+      → Adds (by_at u.number u.session.levels.commands) (MayLeave commands.Abort (stance_of u.session) u.session.stage (open_ids u.number (history (view u.pass).seen)) (reply_of (λ x. replies.Done) r)) (view u.pass).seen (view new.pass).seen
       → Aborts u.number u.session new.session (view u.pass).seen (view new.pass).seen r → Ran hall u.session.levels.commands commands.Abort (reply_of (λ x. replies.Done) r) u new
-  ran_abort u new (Ok x) own was may number some clear f = record {
+  ran_abort u new (Ok x) own was may number some clear adds f = record {
     own = own;
     may = may;
-    acted = acted_finished (start_of hall) u.number ends.Abort (history (view u.pass).seen) u.session new.session u.session.stage (view u.pass).seen (view new.pass).seen was.ready.at.stands.nest some (abort_free u.session.stage clear) f;
+    acted = acted_finished (start_of hall) u.number ends.Abort (history (view u.pass).seen) u.session new.session u.session.stage (view u.pass).seen (view new.pass).seen was.ready.at.stands.nest some (abort_free u.session.stage clear) f adds;
     stage = f.stage;
     count = (f.count, number);
   }
-  ran_abort u new (Err r) own was may number some clear c =
+  ran_abort u new (Err r) own was may number some clear adds c =
       let by = by_at u.number u.session.levels.commands in
       let h : List Event = history (view u.pass).seen in
       record {
         own = own;
         may = may;
         acted = acted_stopped (start_of hall) u.number u.session new.session u.session.stage commands.Abort r (view u.pass).seen (view new.pass).seen c.0 c.1 (fault_else (view new.pass).seen by r c.3)
-            (not_refused ends.Abort (stance_of u.session) u.session.stage (some_list (stance_of u.session).levels (has_top (stance_of u.session).levels (top_open u.session) (levelled h u.session was.ready.at.stands.nest some))) (abort_free u.session.stage clear))
+            (not_refused ends.Abort (stance_of u.session) u.session.stage (some_list (stance_of u.session).levels (has_top (stance_of u.session).levels (top_open u.session) (levelled h u.session was.ready.at.stands.nest some))) (abort_free u.session.stage clear)) adds
             (fault_answer p.tells (start_of hall) (view new.pass).seen (alone h (history (view new.pass).seen)) by (stance_of u.session) u.session.stage r c.3);
         stage = fault_stage (view new.pass).seen by u.session.stage new.session.stage r c.2 c.3;
         count = (ap (λ (z : plain.Session). z.commands) c.1, number);

@@ -1,4 +1,5 @@
 pub mod Aborted
+pub mod Added
 pub mod Acts
 pub mod Finishing
 pub mod Staging

@@ -1,5 +1,5 @@
 -- A session at another stage of its end.
-use Rattle.std.proofs.Common.{◌≡◌, ℕ, false, sym, subst}
+use Rattle.std.proofs.Common.{◌≡◌, ◌≢◌, ℕ, false, refl, sym, subst}
 use Rattle.std.proofs.lemmas.Bool.{false≢true}
 use Rattle.tx_core.specs.declared.entry.Start.{Start}
 use Rattle.engine_parts.specs.declared.session.Session.{Session}
@@ -40,3 +40,11 @@ call_settled start v n s steps clear r g = call_staged start v n s (stages.Settl
 -- a session whose abort is pending
 pub call_aborting : (start : Start) (v : Knowledge) (n : ℕ) (s : Session) → s.stage ≡ stages.Aborting → IsReady start v n s → MayCall start v n s
 call_aborting start v n s is r = record { ready = r; stage = subst (IsInStage start v.seen n (inner_id s) s.levels.open_ids.items) (sym is) tt }
+
+-- a stage that isn't that of an abort
+pub not_aborting : (stage : Stage) → stage ≢ stages.Aborting → may_be_aborted stage ≡ false
+not_aborting stages.Clear other = refl
+not_aborting (stages.Logged number) other = refl
+not_aborting (stages.Settling steps) other = refl
+not_aborting stages.Aborting other = absurd (other refl)
+not_aborting stages.Undoing other = refl

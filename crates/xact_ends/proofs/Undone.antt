@@ -39,6 +39,8 @@ use Rattle.engine_parts.proofs.Acting.{acted_nothing}
 use Rattle.engine_parts.proofs.Refusing.{first_fails, not_held}
 use Rattle.proc_sections.proofs.Cutting.{inner_last}
 use Rattle.xact_ends.specs.Undos.{IsUnwound, Undoes}
+use Rattle.engine_parts.specs.Adding.{Adds, MayLeave}
+use Rattle.tx_events.specs.Running.{open_ids}
 use Rattle.xact_ends.proofs.Acts.{acted_stopped}
 
 -- no other end was begun
@@ -78,8 +80,9 @@ unnamed_inner named (suc k) some = innermost_nameless named k
 module _ {H L P : Type 0} {l : logs.Ghosts L} {p : disks.Ghosts P} (hall : Hall H (Part L P l p) Entry Start) where
   -- an undo that is over, or that a fault stopped
   pub ran_undo : (u new : Caller L P l p) (id : ℕ) (r : Result (Unit {0}) Refusal) → IsOf hall new.pass → MayCall (start_of hall) (view new.pass) new.number new.session → new.number ≡ u.number → 2 ≤ length (stance_of u.session).levels → inner_id u.session ≡ Some id → IsFreeToUndo u.session.stage
+      → Adds (by_at u.number u.session.levels.commands) (MayLeave commands.Undo (stance_of u.session) u.session.stage (open_ids u.number (history (view u.pass).seen)) (reply_of (λ x. replies.Done) r)) (view u.pass).seen (view new.pass).seen
       → Undoes u.number id u.session new.session (view u.pass).seen (view new.pass).seen r → Ran hall u.session.levels.commands commands.Undo (reply_of (λ x. replies.Done) r) u new
-  ran_undo u new id (Ok x) own may number two inner free c =
+  ran_undo u new id (Ok x) own may number two inner free adds c =
       let s = u.session in
       let g : GoesOn u.number (events.Undo (by_at u.number s.levels.commands) id ∷ []) (view u.pass).seen (view new.pass).seen = c.0 in
       let none = (inner_last s.levels.level_ids.items s.levels.unnamed id inner).0 in
@@ -92,6 +95,7 @@ module _ {H L P : Type 0} {l : logs.Ghosts L} {p : disks.Ghosts P} (hall : Hall 
           own = g.own;
           each = (refl, tt);
           fitting = sym (ap (undo_event (by_at u.number s.levels.commands)) inner);
+          adds = adds;
           allowed = two;
           standing = sym (not_refused (stance_of s) s.stage two free);
           left = λ j. record {
@@ -102,14 +106,14 @@ module _ {H L P : Type 0} {l : logs.Ghosts L} {p : disks.Ghosts P} (hall : Hall 
         stage = c.1.stage;
         count = (c.1.count, number);
       }
-  ran_undo u new id (Err r) own may number two inner free c =
+  ran_undo u new id (Err r) own may number two inner free adds c =
       let by = by_at u.number u.session.levels.commands in
       let h : List Event = history (view u.pass).seen in
       record {
         own = own;
         may = may;
         acted = acted_stopped (start_of hall) u.number u.session new.session u.session.stage commands.Undo r (view u.pass).seen (view new.pass).seen c.0 c.1 (fault_else (view new.pass).seen by r c.3)
-            (not_refused (stance_of u.session) u.session.stage two free)
+            (not_refused (stance_of u.session) u.session.stage two free) adds
             (fault_answer p.tells (start_of hall) (view new.pass).seen (alone h (history (view new.pass).seen)) by (stance_of u.session) u.session.stage r c.3);
         stage = fault_stage (view new.pass).seen by u.session.stage new.session.stage r c.2 c.3;
         count = (ap (λ (z : plain.Session). z.commands) c.1, number);

@@ -1,12 +1,13 @@
 //! An abort: its record, the states of its ids, page by page, and the end.
 ghost use Rattle.std.specs.Prelude.{◌≡◌, ◌+◌, ◌*◌, ◌<◌, ◌≤◌, [], false, IfOk, length};
 ghost use Rattle.hall.specs.Calls.{view, IsOf, start_of};
+ghost use Rattle.tx_model.specs.declared.command.Command.TheVariants as commands;
 ghost use Rattle.engine_parts.specs.declared.session.Stage.TheVariants as stages;
+ghost use Rattle.engine_parts.specs.Adding.{Adds, IsAbortOf, IsRecordBy, IsToldBy, MayAdd, MayFault};
 ghost use Rattle.engine_parts.specs.Calls.{MayStep};
-ghost use Rattle.engine_parts.specs.Sessions.{MayCall};
+ghost use Rattle.engine_parts.specs.Sessions.{MayCall, by_at, stance_of};
 ghost use Rattle.engine_parts.specs.Stages.{may_be_recorded};
 ghost use Rattle.engine_parts.specs.Steps.{GoesOn};
-ghost use Rattle.log_sections.specs.LogSections.{IsAbortOf};
 ghost use Rattle.xact_ends.specs.Aborts.{Aborts, IsOnePage, SetsAborted};
 
 use crate::committing::id_list;
@@ -40,6 +41,8 @@ fn set_run<R: Wait, L: LogDisk, P: PageDisk>(
     requires among { past ≤ length caller.old.session.levels.open_ids.items }
     requires page { IsOnePage caller.old.session.levels.open_ids.items first past }
     ensures step { MayStep hall.now banks caller.new }
+    ensures adds { Adds (by_at caller.old.number caller.old.session.levels.commands) (MayFault result)
+        (view caller.old.pass).seen (view caller.new.pass).seen }
     ensures sets { SetsAborted (start_of hall.now) caller.old.number caller.old.session caller.new.session first past
         (view caller.old.pass).seen (view caller.new.pass).seen result }
     ensures number { caller.new.number ≡ caller.old.number }
@@ -68,6 +71,8 @@ fn set_aborted<R: Wait, L: LogDisk, P: PageDisk>(
     requires step { MayStep hall.now banks caller.old }
     requires stage { caller.old.session.stage ≡ stages.Aborting }
     ensures step { MayStep hall.now banks caller.new }
+    ensures adds { Adds (by_at caller.old.number caller.old.session.levels.commands) (MayFault result)
+        (view caller.old.pass).seen (view caller.new.pass).seen }
     ensures sets { SetsAborted (start_of hall.now) caller.old.number caller.old.session caller.new.session
         0 (length caller.old.session.levels.open_ids.items) (view caller.old.pass).seen (view caller.new.pass).seen
         result }
@@ -108,6 +113,9 @@ fn log_abort<R: Wait, L: LogDisk, P: PageDisk>(
     requires some { 1 ≤ length caller.old.session.levels.open_ids.items }
     ensures own { IsOf hall.now caller.new.pass }
     ensures may { MayCall (start_of hall.now) (view caller.new.pass) caller.new.number caller.new.session }
+    ensures adds { Adds (by_at caller.old.number caller.old.session.levels.commands)
+        (MayAdd (IsAbortOf caller.old.session.levels.open_ids.items) ⊥ (λ _. ⊥))
+        (view caller.old.pass).seen (view caller.new.pass).seen }
     ensures goes { GoesOn caller.old.number [] (view caller.old.pass).seen (view caller.new.pass).seen }
     ensures same { (caller.new.session ≡ caller.old.session) × (caller.new.number ≡ caller.old.number) }
 {
@@ -134,6 +142,10 @@ fn start_abort<R: Wait, L: LogDisk, P: PageDisk>(
     requires some { 1 ≤ length caller.old.session.levels.open_ids.items }
     ensures own { IsOf hall.now caller.new.pass }
     ensures may { MayCall (start_of hall.now) (view caller.new.pass) caller.new.number caller.new.session }
+    ensures adds { Adds (by_at caller.old.number caller.old.session.levels.commands)
+        (MayAdd (IsRecordBy commands.Abort (stance_of caller.old.session) caller.old.session.stage
+        caller.old.session.levels.open_ids.items) ⊥ (λ _. ⊥))
+        (view caller.old.pass).seen (view caller.new.pass).seen }
     ensures goes { GoesOn caller.old.number [] (view caller.old.pass).seen (view caller.new.pass).seen }
     ensures session { caller.new.session ≡ record caller.old.session { stage = stages.Aborting } }
     ensures number { caller.new.number ≡ caller.old.number }
@@ -157,6 +169,10 @@ pub(crate) fn abort_named<R: Wait, L: LogDisk, P: PageDisk>(
     requires stage { may_be_recorded caller.old.session.stage ≡ false }
     requires some { 1 ≤ length caller.old.session.levels.open_ids.items }
     ensures step { MayStep hall.now banks caller.new }
+    ensures adds { Adds (by_at caller.old.number caller.old.session.levels.commands)
+        (MayAdd (IsRecordBy commands.Abort (stance_of caller.old.session) caller.old.session.stage
+        caller.old.session.levels.open_ids.items) ⊥ (IsToldBy result))
+        (view caller.old.pass).seen (view caller.new.pass).seen }
     ensures aborts { Aborts caller.old.number caller.old.session caller.new.session
         (view caller.old.pass).seen (view caller.new.pass).seen result }
     ensures number { caller.new.number ≡ caller.old.number }

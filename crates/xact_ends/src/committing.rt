@@ -1,9 +1,10 @@
 //! A commit, from each stage to its end.
 ghost use Rattle.std.specs.Prelude.{◌≡◌, ◌≤◌, None, IfOk, length};
 ghost use Rattle.hall.specs.Calls.{view, start_of};
-ghost use Rattle.log_sections.specs.LogSections.{IsCommitOf};
 ghost use Rattle.engine_parts.specs.declared.session.Stage.TheVariants as stages;
+ghost use Rattle.engine_parts.specs.Adding.{Adds, IsCommitOf, IsToldBy, MayAdd, MayFault};
 ghost use Rattle.engine_parts.specs.Calls.{MayStep};
+ghost use Rattle.engine_parts.specs.Sessions.{by_at};
 ghost use Rattle.xact_ends.specs.Ends.{Commits};
 
 use crate::settling::set_tree;
@@ -29,6 +30,8 @@ pub(crate) fn finish<R: Wait, L: LogDisk, P: PageDisk>(
     requires step { MayStep hall.now banks caller.old }
     requires stage { caller.old.session.stage ≡ stages.Settling from }
     ensures step { MayStep hall.now banks caller.new }
+    ensures adds { Adds (by_at caller.old.number caller.old.session.levels.commands) (MayFault result)
+        (view caller.old.pass).seen (view caller.new.pass).seen }
     ensures commits { Commits (start_of hall.now) caller.old.number caller.old.session caller.new.session
         (view caller.old.pass).seen (view caller.new.pass).seen result }
     ensures number { caller.new.number ≡ caller.old.number }
@@ -53,6 +56,9 @@ pub(crate) fn flush_and_finish<R: Wait, L: LogDisk, P: PageDisk>(
     requires step { MayStep hall.now banks caller.old }
     requires stage { caller.old.session.stage ≡ stages.Logged number }
     ensures step { MayStep hall.now banks caller.new }
+    ensures adds { Adds (by_at caller.old.number caller.old.session.levels.commands)
+        (MayAdd (λ _. ⊥) (Unit {0}) (IsToldBy result))
+        (view caller.old.pass).seen (view caller.new.pass).seen }
     ensures commits { Commits (start_of hall.now) caller.old.number caller.old.session caller.new.session
         (view caller.old.pass).seen (view caller.new.pass).seen result }
     ensures number { caller.new.number ≡ caller.old.number }
@@ -100,6 +106,9 @@ fn log_and_finish<R: Wait, L: LogDisk, P: PageDisk>(
     requires linked { caller.old.session.unlinked ≡ None }
     requires some { 1 ≤ length caller.old.session.levels.open_ids.items }
     ensures step { MayStep hall.now banks caller.new }
+    ensures adds { Adds (by_at caller.old.number caller.old.session.levels.commands)
+        (MayAdd (IsCommitOf caller.old.session.levels.open_ids.items) (Unit {0}) (IsToldBy result))
+        (view caller.old.pass).seen (view caller.new.pass).seen }
     ensures commits { Commits (start_of hall.now) caller.old.number caller.old.session caller.new.session
         (view caller.old.pass).seen (view caller.new.pass).seen result }
     ensures number { caller.new.number ≡ caller.old.number }
@@ -132,6 +141,9 @@ pub(crate) fn start_commit<R: Wait, L: LogDisk, P: PageDisk>(
     requires stage { caller.old.session.stage ≡ stages.Clear }
     requires some { 1 ≤ length caller.old.session.levels.open_ids.items }
     ensures step { MayStep hall.now banks caller.new }
+    ensures adds { Adds (by_at caller.old.number caller.old.session.levels.commands)
+        (MayAdd (IsCommitOf caller.old.session.levels.open_ids.items) (Unit {0}) (IsToldBy result))
+        (view caller.old.pass).seen (view caller.new.pass).seen }
     ensures commits { Commits (start_of hall.now) caller.old.number caller.old.session caller.new.session
         (view caller.old.pass).seen (view caller.new.pass).seen result }
     ensures number { caller.new.number ≡ caller.old.number }

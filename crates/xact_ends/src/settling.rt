@@ -4,7 +4,9 @@ ghost use Rattle.hall.specs.Calls.{view, start_of};
 ghost use Rattle.pg_xact_log.specs.Plan.{plan};
 ghost use Rattle.pg_xact_log.specs.Steps.{step_first};
 ghost use Rattle.engine_parts.specs.declared.session.Stage.TheVariants as stages;
+ghost use Rattle.engine_parts.specs.Adding.{Adds, MayFault};
 ghost use Rattle.engine_parts.specs.Calls.{MayStep};
+ghost use Rattle.engine_parts.specs.Sessions.{by_at};
 ghost use Rattle.engine_parts.specs.Stages.{state_of};
 ghost use Rattle.xact_ends.specs.Trees.{IsStepOf, IsStepState, SetsStep, Settles};
 
@@ -61,6 +63,8 @@ fn set_step<R: Wait, L: LogDisk, P: PageDisk>(
     requires stage { caller.old.session.stage ≡ stages.Settling k }
     requires planned { IsStepOf caller.old.session.levels.open_ids.items k step.now }
     ensures step { MayStep hall.now banks caller.new }
+    ensures adds { Adds (by_at caller.old.number caller.old.session.levels.commands) (MayFault result)
+        (view caller.old.pass).seen (view caller.new.pass).seen }
     ensures sets { SetsStep caller.old.number k caller.old.session caller.new.session
         (view caller.old.pass).seen (view caller.new.pass).seen result }
     ensures number { caller.new.number ≡ caller.old.number }
@@ -102,6 +106,8 @@ pub(crate) fn set_tree<R: Wait, L: LogDisk, P: PageDisk>(
     requires step { MayStep hall.now banks caller.old }
     requires stage { caller.old.session.stage ≡ stages.Settling from }
     ensures step { MayStep hall.now banks caller.new }
+    ensures adds { Adds (by_at caller.old.number caller.old.session.levels.commands) (MayFault result)
+        (view caller.old.pass).seen (view caller.new.pass).seen }
     ensures settles { Settles (start_of hall.now) caller.old.number from caller.old.session caller.new.session
         (view caller.old.pass).seen (view caller.new.pass).seen result }
     ensures number { caller.new.number ≡ caller.old.number }

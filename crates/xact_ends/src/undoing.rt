@@ -2,7 +2,8 @@
 ghost use Rattle.std.specs.Prelude.{◌≡◌, ◌⊎◌, ℕ, ◌+◌, ◌*◌, ◌<◌, ◌≤◌, Some, length};
 ghost use Rattle.hall.specs.Calls.{view, IsOf, start_of};
 ghost use Rattle.engine_parts.specs.declared.session.Stage.TheVariants as stages;
-ghost use Rattle.engine_parts.specs.Sessions.{MayCall, inner_id};
+ghost use Rattle.engine_parts.specs.Adding.{Adds, MayFault};
+ghost use Rattle.engine_parts.specs.Sessions.{MayCall, by_at, inner_id};
 ghost use Rattle.xact_ends.specs.Aborts.{IsOnePage, SetsAborted};
 ghost use Rattle.xact_ends.specs.Undos.{AreOfSavepoint, Undoes};
 
@@ -14,7 +15,7 @@ use pg_xact_log::run_end;
 use proc_sections::{place_of, undo_savepoint};
 use slru_bank::BankRefusal;
 use std::sync::Wait;
-use store_pages::xact_page;
+use store_pages::{bank_of, xact_page};
 use tx_core::State;
 use tx_events::{Lock, Refusal};
 use xid_order::FullXid;
@@ -40,12 +41,14 @@ fn roll_back_run<R: Wait, L: LogDisk, P: PageDisk>(
     requires page { IsOnePage caller.old.session.levels.open_ids.items first past }
     ensures own { IsOf hall.now caller.new.pass }
     ensures may { MayCall (start_of hall.now) (view caller.new.pass) caller.new.number caller.new.session }
+    ensures adds { Adds (by_at caller.old.number caller.old.session.levels.commands) (MayFault result)
+        (view caller.old.pass).seen (view caller.new.pass).seen }
     ensures sets { SetsAborted (start_of hall.now) caller.old.number caller.old.session caller.new.session first past
         (view caller.old.pass).seen (view caller.new.pass).seen result }
     ensures number { caller.new.number ≡ caller.old.number }
 {
     let id = caller.session.levels.open_ids[first];
-    let bank = xact_page(id.low()) % banks;
+    let bank = bank_of(xact_page(id.low()), banks);
     match set_page(rt, hall, caller, bank, first, past, State::Aborted) {
         Ok(()) => Ok(()),
         Err(BankRefusal::DiskFault) => Err(Refusal::DiskFault {
@@ -75,6 +78,8 @@ fn roll_back<R: Wait, L: LogDisk, P: PageDisk>(
     requires inside { AreOfSavepoint caller.old.session from (length caller.old.session.levels.open_ids.items) }
     ensures own { IsOf hall.now caller.new.pass }
     ensures may { MayCall (start_of hall.now) (view caller.new.pass) caller.new.number caller.new.session }
+    ensures adds { Adds (by_at caller.old.number caller.old.session.levels.commands) (MayFault result)
+        (view caller.old.pass).seen (view caller.new.pass).seen }
     ensures sets { SetsAborted (start_of hall.now) caller.old.number caller.old.session caller.new.session
         from (length caller.old.session.levels.open_ids.items) (view caller.old.pass).seen (view caller.new.pass).seen
         result }
@@ -108,6 +113,8 @@ pub(crate) fn undo_named<R: Wait, L: LogDisk, P: PageDisk>(
     requires innermost { inner_id caller.old.session ≡ Some id }
     ensures own { IsOf hall.now caller.new.pass }
     ensures may { MayCall (start_of hall.now) (view caller.new.pass) caller.new.number caller.new.session }
+    ensures adds { Adds (by_at caller.old.number caller.old.session.levels.commands) (MayFault result)
+        (view caller.old.pass).seen (view caller.new.pass).seen }
     ensures undoes { Undoes caller.old.number id caller.old.session caller.new.session
         (view caller.old.pass).seen (view caller.new.pass).seen result }
     ensures number { caller.new.number ≡ caller.old.number }

@@ -1,5 +1,5 @@
 -- A session that reads goes on through critical sections without an event.
-use Rattle.std.proofs.Common.{◌≡◌, ◌≢◌, ℕ, List, [], ◌∷◌, ◌++◌, sym, ap, subst, ◌∙◌, append-nil, eq-eqb}
+use Rattle.std.proofs.Common.{◌≡◌, ◌≢◌, ℕ, ◌<◌, List, arith, refl, [], ◌∷◌, ◌++◌, sym, ap, subst, ◌∙◌, append-nil, eq-eqb}
 use Rattle.std.specs.List.{AllByRecursion, filter}
 use Rattle.tx_events.specs.declared.event.By.{By}
 use Rattle.tx_events.specs.declared.event.Event.{Event}
@@ -7,20 +7,34 @@ use Rattle.tx_events.specs.Events.{by_of, is_of}
 use Rattle.tx_events.proofs.Membership.{all_from, none_passes}
 use Rattle.tx_events.proofs.OwnEvents.{AreLater}
 use Rattle.tx_core.specs.declared.entry.Entry.{Entry}
+use Rattle.tx_core.specs.declared.entry.Kind.{Kind}
+use Rattle.tx_core.specs.declared.entry.Kind.TheVariants as kinds
 use Rattle.tx_core.specs.declared.entry.Start.{Start}
 use Rattle.tx_core.specs.Entries.{history}
+use Rattle.tx_core.specs.Locks.{proc_lock}
 use Rattle.tx_core.proofs.Lasting.{history_grows}
 use Rattle.engine_parts.specs.declared.session.Session.{Session}
-use Rattle.engine_parts.specs.Holds.{Knowledge}
-use Rattle.engine_parts.specs.Sessions.{IsAt, IsReady, MayCall, inner_id}
+use Rattle.engine_parts.specs.Adding.{Adds, IsPlain}
+use Rattle.engine_parts.specs.Holds.{Knowledge, Section}
+use Rattle.engine_parts.specs.Sessions.{IsAt, IsReady, MayCall, by_at, inner_id, look_by}
 use Rattle.engine_parts.specs.Stages.{IsInStage}
 use Rattle.engine_parts.specs.Steps.{WentOn}
+use Rattle.engine_parts.proofs.Adding.{adds_after}
 use Rattle.engine_parts.proofs.Going.{stage_later}
+use Rattle.engine_parts.proofs.Sectioning.{same_command, shared_adds}
 use Rattle.engine_parts.proofs.Stepping.{went_then}
 
 -- one such step after another
 pub went_both : (n m : ℕ) (a b c : List (List Entry)) → m ≡ n → WentOn n [] a b → WentOn m [] b c → WentOn n [] a c
 went_both n m a b c same first second = went_then n [] [] a b c first (subst (λ z. WentOn z [] b c) same second)
+
+-- and what it adds, behind a plain one
+pub read_adds : (n m : ℕ) (s t : Session) (May : ℕ → Kind → Type 0) (a b c : List (List Entry)) → m ≡ n → t ≡ s → ((lock : ℕ) (kind : Kind) → IsPlain lock kind → May lock kind) → Adds (by_at n s.levels.commands) IsPlain a b → Adds (by_at m t.levels.commands) May b c → Adds (by_at n s.levels.commands) May a c
+read_adds n m s t May a b c number same wider first second = adds_after (by_at n s.levels.commands) (by_at m t.levels.commands) May a b c (same_command n m s t number same) wider first second
+
+-- a look at the ProcArray
+pub look_adds : (start : Start) (v w : Knowledge) (n : ℕ) (s : Session) (May : ℕ → Kind → Type 0) → IsAt start v n s → May proc_lock kinds.Look → Section start proc_lock (look_by n s) v w → Adds (by_at n s.levels.commands) May v.seen w.seen
+look_adds start v w n s May a may section = shared_adds start v w proc_lock (look_by n s) (by_at n s.levels.commands) s May (omega arith) a section refl may
 
 -- what came between is of others
 pub record Others (by : By) (h more : List Event) : Type 0 where

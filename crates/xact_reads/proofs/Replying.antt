@@ -24,6 +24,7 @@ use Rattle.tx_events.specs.Base.{IsBase}
 use Rattle.tx_events.specs.Events.{same_name}
 use Rattle.tx_events.specs.History.{IsLegal}
 use Rattle.tx_events.specs.Horizon.{oldest_id}
+use Rattle.tx_events.specs.Running.{open_ids}
 use Rattle.tx_events.specs.Snapshots.{snapshot_xmax}
 use Rattle.tx_events.specs.Visible.{is_visible}
 use Rattle.tx_events.proofs.GivenIds.{legal_take}
@@ -57,6 +58,7 @@ use Rattle.engine_parts.specs.declared.part.Part.{Part}
 use Rattle.engine_parts.specs.declared.session.Caller.{Caller}
 use Rattle.engine_parts.specs.declared.session.Session.{Session}
 use Rattle.engine_parts.specs.declared.session.Stage.{Stage}
+use Rattle.engine_parts.specs.Adding.{Adds, MayLeave}
 use Rattle.engine_parts.specs.Answers.{MayAnswer}
 use Rattle.engine_parts.specs.Calls.{IsCounted, MayRun, Ran, next_command}
 use Rattle.engine_parts.specs.Holds.{Knowledge}
@@ -184,10 +186,11 @@ seen_answer tells start v u w n s name x k g oldest shown a first second named n
 module _ {H L P : Type 0} {l : logs.Ghosts L} {p : disks.Ghosts P} (hall : Hall H (Part L P l p) Entry Start) where
   pub ran_read : {banks : ℕ} (old u new : Caller L P l p) (command : Command) (reply : Reply) → IsCounted old u → MayRun hall banks old → IsOf hall new.pass → IsReady (start_of hall) (view new.pass) new.number new.session → WentOn u.number [] (view u.pass).seen (view new.pass).seen → new.session ≡ u.session → new.number ≡ u.number
       → HasEvents (by_at u.number u.session.levels.commands) (stance_of u.session) command reply []
+      → Adds (by_at u.number u.session.levels.commands) (MayLeave command (stance_of u.session) u.session.stage (open_ids u.number (history (view u.pass).seen)) reply) (view u.pass).seen (view new.pass).seen
       → MayAnswer (p.tells) (start_of hall) (view new.pass).seen (alone (history (view u.pass).seen) (history (view new.pass).seen)) (by_at u.number u.session.levels.commands) (stance_of u.session) u.session.stage command reply
       → by_standing reply ≡ refused_by command (stance_of u.session) u.session.stage → after (stance_of u.session) u.session.levels.commands command reply [] ≡ stance_of u.session → moves_end command ≡ false
       → Ran hall (next_command old) command reply old new
-  ran_read old u new command reply c m own ready went same number fitting allowed standing left still =
+  ran_read old u new command reply c m own ready went same number fitting adds allowed standing left still =
       ran_counted hall old u new command reply c (record {
         own = own;
         may = call_read (start_of hall) (view u.pass) (view new.pass) u.number new.number u.session new.session (may_counted hall old u c m) went number same ready;
@@ -197,6 +200,7 @@ module _ {H L P : Type 0} {l : logs.Ghosts L} {p : disks.Ghosts P} (hall : Hall 
           own = went.on.own;
           each = tt;
           fitting = fitting;
+          adds = adds;
           allowed = allowed;
           standing = standing;
           left = left ∙ sym (ap stance_of same);

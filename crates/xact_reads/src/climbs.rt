@@ -1,6 +1,7 @@
 //! The climb from an id over the parents in pg_subtrans.
 ghost use Rattle.std.specs.Prelude.{◌≡◌, ℕ, ◌+◌, ◌*◌, ◌^◌, ◌<◌, ◌≤◌, [], IfErr, IfOk, IfSome, IsTrue};
 ghost use Rattle.hall.specs.Calls.{view, IsOf, start_of};
+ghost use Rattle.engine_parts.specs.Adding.{Adds, MayFault};
 ghost use Rattle.engine_parts.specs.Sessions.{IsReady, by_at};
 ghost use Rattle.engine_parts.specs.Steps.{WentOn};
 ghost use Rattle.bank_sections.specs.Reads.{IsParentRead};
@@ -48,6 +49,8 @@ fn parent_of<R: Wait, L: LogDisk, P: PageDisk>(
     ensures own { IsOf hall.now caller.new.pass }
     ensures ready { IsReady (start_of hall.now) (view caller.new.pass) caller.new.number caller.new.session }
     ensures went { WentOn caller.old.number [] (view caller.old.pass).seen (view caller.new.pass).seen }
+    ensures adds { Adds (by_at caller.old.number caller.old.session.levels.commands) (MayFault result)
+        (view caller.old.pass).seen (view caller.new.pass).seen }
     ensures below { IfOk result (λ parent. IfSome parent (λ y. y < x)) }
     ensures parent { IsTrue P.tells
         → IfOk result (λ parent. IsParentRead (start_of hall.now) (view caller.new.pass).seen x parent) }
@@ -87,6 +90,8 @@ pub(crate) fn climb<R: Wait, L: LogDisk, P: PageDisk>(
     ensures own { IsOf hall.now caller.new.pass }
     ensures ready { IsReady (start_of hall.now) (view caller.new.pass) caller.new.number caller.new.session }
     ensures went { WentOn caller.old.number [] (view caller.old.pass).seen (view caller.new.pass).seen }
+    ensures adds { Adds (by_at caller.old.number caller.old.session.levels.commands) (MayFault result)
+        (view caller.old.pass).seen (view caller.new.pass).seen }
     ensures top { IsTrue P.tells → IfOk result (λ topmost.
         IsTopOf (start_of hall.now) (view caller.old.pass).seen (view caller.new.pass).seen xmin x topmost) }
     ensures fault { IfErr result (λ refusal. IsSubtransFault (view caller.new.pass).seen

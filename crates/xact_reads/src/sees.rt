@@ -5,6 +5,7 @@ ghost use Rattle.tx_model.specs.declared.command.Command.TheVariants as commands
 ghost use Rattle.tx_model.specs.declared.reply.Reply.TheVariants as replies;
 ghost use Rattle.tx_model.specs.Replies.{alone};
 ghost use Rattle.tx_core.specs.Entries.{history};
+ghost use Rattle.engine_parts.specs.Adding.{Adds, MayFault};
 ghost use Rattle.engine_parts.specs.Answers.{MayAnswer, reply_of};
 ghost use Rattle.engine_parts.specs.Calls.{MayRun, Ran, next_command};
 ghost use Rattle.engine_parts.specs.Sessions.{IsReady, by_at, stance_of};
@@ -43,6 +44,8 @@ fn see_found<R: Wait, L: LogDisk, P: PageDisk>(
     ensures own { IsOf hall.now caller.new.pass }
     ensures ready { IsReady (start_of hall.now) (view caller.new.pass) caller.new.number caller.new.session }
     ensures went { WentOn caller.old.number [] (view caller.old.pass).seen (view caller.new.pass).seen }
+    ensures adds { Adds (by_at caller.old.number caller.old.session.levels.commands) (MayFault result)
+        (view caller.old.pass).seen (view caller.new.pass).seen }
     ensures allowed { MayAnswer P.tells (start_of hall.now) (view caller.new.pass).seen
         (alone (history (view caller.old.pass).seen) (history (view caller.new.pass).seen))
         (by_at caller.old.number caller.old.session.levels.commands) (stance_of caller.old.session)

@@ -5,6 +5,7 @@ ghost use Rattle.tx_events.specs.IdLists.{Ascending};
 ghost use Rattle.snap_core.specs.Sights.{top_sight_by};
 ghost use Rattle.snap_core.specs.declared.sight.Sight.TheVariants as sights;
 ghost use Rattle.session_levels.specs.declared.session.RegisteredSnapshot.{RegisteredSnapshot};
+ghost use Rattle.engine_parts.specs.Adding.{Adds, MayFault};
 ghost use Rattle.engine_parts.specs.Sessions.{IsReady, by_at};
 ghost use Rattle.engine_parts.specs.Steps.{WentOn};
 ghost use Rattle.xact_reads.specs.Glances.{HasGlanced, IsNamed};
@@ -52,6 +53,8 @@ fn ask_parents<R: Wait, L: LogDisk, P: PageDisk>(
     ensures own { IsOf hall.now caller.new.pass }
     ensures ready { IsReady (start_of hall.now) (view caller.new.pass) caller.new.number caller.new.session }
     ensures went { WentOn caller.old.number [] (view caller.old.pass).seen (view caller.new.pass).seen }
+    ensures adds { Adds (by_at caller.old.number caller.old.session.levels.commands) (MayFault result)
+        (view caller.old.pass).seen (view caller.new.pass).seen }
     ensures shown { IsTrue P.tells → IfOk result (λ shown. IsShown (start_of hall.now) (view caller.new.pass).seen
         caller.old.session.levels name.now glance.id shown) }
     ensures unread { IfErr result (λ refusal. IsUnread (start_of hall.now) (view caller.new.pass).seen
@@ -89,6 +92,8 @@ pub(crate) fn show<R: Wait, L: LogDisk, P: PageDisk>(
     ensures own { IsOf hall.now caller.new.pass }
     ensures ready { IsReady (start_of hall.now) (view caller.new.pass) caller.new.number caller.new.session }
     ensures went { WentOn caller.old.number [] (view caller.old.pass).seen (view caller.new.pass).seen }
+    ensures adds { Adds (by_at caller.old.number caller.old.session.levels.commands) (MayFault result)
+        (view caller.old.pass).seen (view caller.new.pass).seen }
     ensures shown { IsTrue P.tells → IfOk result (λ shown. IsShown (start_of hall.now) (view caller.new.pass).seen
         caller.old.session.levels name.now glance.id shown) }
     ensures unread { IfErr result (λ refusal. IsUnread (start_of hall.now) (view caller.new.pass).seen

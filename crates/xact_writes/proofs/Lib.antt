@@ -2,3 +2,4 @@ pub mod Alike
 pub mod Paging
 pub mod Writing
 pub mod Calls
+pub mod Giving

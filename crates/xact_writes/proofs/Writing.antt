@@ -9,6 +9,7 @@ use Rattle.tx_events.specs.declared.refusal.Lock.TheVariants as locks
 use Rattle.tx_events.specs.declared.refusal.Refusal.{Refusal}
 use Rattle.tx_events.specs.declared.refusal.Refusal.TheVariants as refusals
 use Rattle.tx_events.specs.Events.{by_of, given, is_of}
+use Rattle.tx_events.specs.Running.{open_ids}
 use Rattle.tx_events.proofs.ListSteps.{all_weaker, length_push}
 use Rattle.tx_events.proofs.Membership.{all_from, none_passes}
 use Rattle.tx_events.proofs.OwnEvents.{AreLater}
@@ -28,12 +29,14 @@ use Rattle.session_levels.proofs.LevelLemmas.{level_step, levels_filled, levels_
 use Rattle.engine_parts.specs.declared.session.Session.{Session}
 use Rattle.engine_parts.specs.declared.session.Stage.{Stage}
 use Rattle.engine_parts.specs.declared.session.Stage.TheVariants as stages
+use Rattle.engine_parts.specs.Adding.{Adds, IsPlain, MayLeave, MayMeet}
 use Rattle.engine_parts.specs.Answers.{Acted}
 use Rattle.engine_parts.specs.Sessions.{by_at, stance_of}
 use Rattle.engine_parts.specs.Stages.{pending_in}
 use Rattle.engine_parts.specs.Standing.{first_of, held_by, refused_by}
 use Rattle.engine_parts.specs.Steps.{WentOn}
 use Rattle.engine_parts.proofs.Acting.{acted_refused}
+use Rattle.engine_parts.proofs.Adding.{adds_wider, met_leaves, plain_leaves}
 use Rattle.engine_parts.proofs.Refusing.{first_fails}
 use Rattle.engine_parts.proofs.Stepping.{went_nowhere, went_then}
 use Rattle.bank_sections.specs.Faults.{IsBankFault, IsSubtransFault}
@@ -149,75 +152,90 @@ module _ (tells : Bool) (start : Start) (n : ℕ) (s s1 : Session) (ids : List �
       ∙ (ap (λ ls. record (stance_of s) { levels = ls }) (levels_filled s.levels.level_ids.items ids s1.levels.unnamed s.levels.unnamed k.left)
       ∙ (λ j. record { levels = levels_of (sym k.named j) s1.levels.unnamed; snaps = map told_of (ap (λ z. z.items) (sym k.registered) j) }))
 
+  -- these were the ids that the session had open
+  abbrev opened : List ℕ
+  opened = open_ids n (history lists)
+
+  plain : (ids : List ℕ) (warn : Bool) → Adds by IsPlain lists more → Adds by (MayLeave commands.Write (stance_of s) s.stage opened (replies.Wrote ids warn)) lists more
+  plain ids warn = adds_wider by IsPlain _ lists more (plain_leaves commands.Write (stance_of s) s.stage opened (replies.Wrote ids warn))
+
+  met : (r : Refusal) → Adds by (MayMeet r) lists more → Adds by (MayLeave commands.Write (stance_of s) s.stage opened (replies.Refused r)) lists more
+  met r = adds_wider by (MayMeet r) _ lists more (met_leaves commands.Write (stance_of s) s.stage opened r)
+
   -- each level has its id
-  pub acted_wrote : s1.levels.unnamed ≡ 0 → Acted tells start by (stance_of s) (stance_of s1) s.stage commands.Write (replies.Wrote ids warn) lists more
-  acted_wrote done = record {
+  pub acted_wrote : s1.levels.unnamed ≡ 0 → Adds by IsPlain lists more → Acted tells start by (stance_of s) (stance_of s1) s.stage commands.Write (replies.Wrote ids warn) lists more
+  acted_wrote done adds = record {
     grows = k.went.on.grows;
     added = es;
     own = k.went.on.own;
     each = events_own by None (levels_of s.levels.level_ids.items s.levels.unnamed) ids;
     fitting = (refl, (let l = k.left in let z = levels_lack s.levels.level_ids.items s.levels.unnamed in omega arith));
+    adds = plain ids warn adds;
     allowed = (some_levels s.levels.level_ids.items s.levels.unnamed some, k.warned);
     standing = sym (not_refused s clear some);
     left = left_stance;
   }
 
   -- a fault was met, at the last parent maybe
-  pub acted_faulted : (r : Refusal) → IsBankFault more by r → Acted tells start by (stance_of s) (stance_of s1) s.stage commands.Write (replies.Refused r) lists more
-  acted_faulted (refusals.DiskFault (locks.Xact bank)) met = record {
+  pub acted_faulted : (r : Refusal) → IsBankFault more by r → Adds by (MayMeet r) lists more → Acted tells start by (stance_of s) (stance_of s1) s.stage commands.Write (replies.Refused r) lists more
+  acted_faulted (refusals.DiskFault (locks.Xact bank)) fault adds = record {
     grows = k.went.on.grows;
     added = es;
     own = k.went.on.own;
     each = events_own by None (levels_of s.levels.level_ids.items s.levels.unnamed) ids;
     fitting = inr (ids, refl, (let l = k.left in let z = levels_lack s.levels.level_ids.items s.levels.unnamed in omega arith));
-    allowed = (refl, met);
+    adds = met (refusals.DiskFault (locks.Xact bank)) adds;
+    allowed = (refl, fault);
     standing = sym (not_refused s clear some);
     left = left_stance;
   }
-  acted_faulted (refusals.DiskFault (locks.Subtrans bank)) met = record {
+  acted_faulted (refusals.DiskFault (locks.Subtrans bank)) fault adds = record {
     grows = k.went.on.grows;
     added = es;
     own = k.went.on.own;
     each = events_own by None (levels_of s.levels.level_ids.items s.levels.unnamed) ids;
     fitting = inr (ids, refl, (let l = k.left in let z = levels_lack s.levels.level_ids.items s.levels.unnamed in omega arith));
-    allowed = (refl, met);
+    adds = met (refusals.DiskFault (locks.Subtrans bank)) adds;
+    allowed = (refl, fault);
     standing = sym (not_refused s clear some);
     left = left_stance;
   }
-  acted_faulted r met = absurd met
+  acted_faulted r fault adds = absurd fault
 
   -- want of memory
-  pub acted_starved : 1 ≤ s1.levels.unnamed → Acted tells start by (stance_of s) (stance_of s1) s.stage commands.Write (replies.Refused refusals.Memory) lists more
-  acted_starved lacks = record {
+  pub acted_starved : 1 ≤ s1.levels.unnamed → Adds by (MayMeet refusals.Memory) lists more → Acted tells start by (stance_of s) (stance_of s1) s.stage commands.Write (replies.Refused refusals.Memory) lists more
+  acted_starved lacks adds = record {
     grows = k.went.on.grows;
     added = es;
     own = k.went.on.own;
     each = events_own by None (levels_of s.levels.level_ids.items s.levels.unnamed) ids;
     fitting = inr (ids, refl, (let l = k.left in let z = levels_lack s.levels.level_ids.items s.levels.unnamed in omega arith));
+    adds = met refusals.Memory adds;
     allowed = refl;
     standing = sym (not_refused s clear some);
     left = left_stance;
   }
 
   -- the next level wasn't given an id
-  pub acted_without : (r : Refusal) → 1 ≤ s1.levels.unnamed → AllByRecursion (λ e. (by_of e).command ≤ s.levels.commands) (filter (is_of n) (history more)) → IsWithout start more by r → Acted tells start by (stance_of s) (stance_of s1) s.stage commands.Write (replies.Refused r) lists more
-  acted_without r lacks turn why =
+  pub acted_without : (r : Refusal) → 1 ≤ s1.levels.unnamed → AllByRecursion (λ e. (by_of e).command ≤ s.levels.commands) (filter (is_of n) (history more)) → IsWithout start more by r → Adds by (MayMeet r) lists more → Acted tells start by (stance_of s) (stance_of s1) s.stage commands.Write (replies.Refused r) lists more
+  acted_without r lacks turn why adds =
       let l = k.left in
       let z = levels_lack s.levels.level_ids.items s.levels.unnamed in
       let longer = begins_length (history lists) (history more) (history_grows lists more k.went.on.grows) in
       ⊎_elim (⊎_elim
-      (λ (m : r ≡ refusals.Memory). subst (λ (q : Refusal). Acted tells start by (stance_of s) (stance_of s1) s.stage commands.Write (replies.Refused q) lists more) (sym m) (acted_starved lacks))
+      (λ (m : r ≡ refusals.Memory). subst (λ (q : Refusal). Acted tells start by (stance_of s) (stance_of s1) s.stage commands.Write (replies.Refused q) lists more) (sym m) (acted_starved lacks (subst (λ (q : Refusal). Adds by (MayMeet q) lists more) m adds)))
       (λ p. subst (λ (q : Refusal). Acted tells start by (stance_of s) (stance_of s1) s.stage commands.Write (replies.Refused q) lists more) (sym p.1) (record {
         grows = k.went.on.grows;
         added = es;
         own = k.went.on.own;
         each = events_own by None (levels_of s.levels.level_ids.items s.levels.unnamed) ids;
         fitting = inr (ids, refl, omega arith);
+        adds = met _ (subst (λ (q : Refusal). Adds by (MayMeet q) lists more) p.1 adds);
         allowed = ((let y = levels_lack s.levels.level_ids.items s.levels.unnamed in omega arith), is_stopped start.base by (history lists) (history more) _ _ longer turn refl refl p.0);
         standing = sym (not_refused s clear some);
         left = left_stance;
       })))
-      (acted_faulted r)
+      (λ fault. acted_faulted r fault adds)
       why
 
 -- want of memory before anything was done

@@ -2,7 +2,9 @@
 ghost use Rattle.std.specs.Prelude.{◌≡◌, ◌≤◌, None, OnOk};
 ghost use Rattle.hall.specs.Calls.{view, start_of};
 ghost use Rattle.engine_parts.specs.declared.session.Stage.TheVariants as stages;
+ghost use Rattle.engine_parts.specs.Adding.{Adds, MayFault};
 ghost use Rattle.engine_parts.specs.Calls.{MayStep};
+ghost use Rattle.engine_parts.specs.Sessions.{by_at};
 ghost use Rattle.proc_sections.specs.Givings.{HasRoom};
 ghost use Rattle.xact_writes.specs.Writes.{GivesLevel, HasReserved};
 
@@ -43,6 +45,8 @@ fn give_level<R: Wait, L: LogDisk, P: PageDisk>(
     ensures step { MayStep hall.now banks caller.new }
     ensures gives { GivesLevel (start_of hall.now) caller.old.number caller.old.session caller.new.session
         (view caller.old.pass).seen (view caller.new.pass).seen result }
+    ensures adds { Adds (by_at caller.old.number caller.old.session.levels.commands) (MayFault result)
+        (view caller.old.pass).seen (view caller.new.pass).seen }
     ensures number { caller.new.number ≡ caller.old.number }
 {
     for _ in rt.forever() {
@@ -75,6 +79,8 @@ pub(crate) fn name_level<R: Wait, L: LogDisk, P: PageDisk>(
     ensures step { MayStep hall.now banks caller.new }
     ensures gives { GivesLevel (start_of hall.now) caller.old.number caller.old.session caller.new.session
         (view caller.old.pass).seen (view caller.new.pass).seen result }
+    ensures adds { Adds (by_at caller.old.number caller.old.session.levels.commands) (MayFault result)
+        (view caller.old.pass).seen (view caller.new.pass).seen }
     ensures number { caller.new.number ≡ caller.old.number }
 {
     let Ok(()) = make_room(&mut caller.session.levels) else {

@@ -3,6 +3,7 @@ ghost use Rattle.std.specs.Prelude.{◌≡◌, [], IfErr};
 ghost use Rattle.hall.specs.Calls.{view, start_of};
 ghost use Rattle.tx_events.specs.History.{next_given};
 ghost use Rattle.tx_core.specs.Entries.{history};
+ghost use Rattle.engine_parts.specs.Adding.{Adds, MayFault};
 ghost use Rattle.engine_parts.specs.Calls.{MayStep};
 ghost use Rattle.engine_parts.specs.Sessions.{by_at};
 ghost use Rattle.engine_parts.specs.Steps.{WentOn};
@@ -32,6 +33,8 @@ pub(crate) fn make_pages<R: Wait, L: LogDisk, P: PageDisk>(
     requires next { id ≡ next_given (start_of hall.now).base.next (history (view caller.old.pass).seen) }
     ensures step { MayStep hall.now banks caller.new }
     ensures went { WentOn caller.old.number [] (view caller.old.pass).seen (view caller.new.pass).seen }
+    ensures adds { Adds (by_at caller.old.number caller.old.session.levels.commands) (MayFault result)
+        (view caller.old.pass).seen (view caller.new.pass).seen }
     ensures fault { IfErr result (λ refusal. IsBankFault (view caller.new.pass).seen
         (by_at caller.old.number caller.old.session.levels.commands) refusal) }
     ensures same { (caller.new.session ≡ caller.old.session) × (caller.new.number ≡ caller.old.number) }

@@ -1,5 +1,12 @@
-use Rattle.std.proofs.Common.{[], Err, ap, ◌∙◌}
+use Rattle.std.proofs.Common.{[], ◌∷◌, ◌<◌, Err, ap, refl, subst, ◌∙◌}
 use Rattle.hall.specs.Calls.{view, start_of}
+use Rattle.tx_events.specs.declared.refusal.Lock.TheVariants as locks
+use Rattle.tx_core.specs.declared.entry.Change.TheVariants as changes
+use Rattle.tx_core.specs.declared.entry.Kind.TheVariants as kinds
+use Rattle.tx_core.specs.Locks.{subtrans_lock}
+use Rattle.engine_parts.specs.Sessions.{by_at}
+use Rattle.bank_sections.proofs.Faulting.{done_adds, fault_adds}
+use Rattle.bank_sections.proofs.Visiting.{is_subtrans_lock}
 use Rattle.bank_sections.proofs.Unlinking.{call_linked, call_went, parent_lock, still_below}
 use Rattle.bank_sections.proofs.unlinked.record_parent.Goals as goal
 
@@ -30,3 +37,21 @@ pub returns-in-Err-DiskFault-clause-recorded : goal.returns-in-Err-DiskFault-cla
 returns-in-Err-DiskFault-clause-recorded g c =
     let e = c.in-Err-DiskFault.ensures in
     (e.same.0, e.fault (ap (λ z. Err z) c.in-Err-DiskFault.field-0-is))
+
+pub returns-in-Ok-clause-adds : goal.returns-in-Ok-clause-adds
+returns-in-Ok-clause-adds g c =
+    let old = c.args.caller.now in
+    let bank = c.bank_of-bank.result in
+    let start = start_of c.args.hall.now in
+    let m = c.in-Some.missing in
+    let by = by_at old.number old.session.levels.commands in
+    let inside : bank < start.banks = subst (λ z. bank < z) c.requires.banks.0 c.bank_of-bank.ensures.within in
+    done_adds start (view old.pass) (view c.link_parent.new.caller.pass) (subtrans_lock bank) by old.session c.requires.may.ready.at (is_subtrans_lock start bank inside) (kinds.Set (changes.Parent by m.id m.parent ∷ [])) tt c.in-Ok.ensures.section
+
+pub returns-in-Err-DiskFault-clause-adds : goal.returns-in-Err-DiskFault-clause-adds
+returns-in-Err-DiskFault-clause-adds g c =
+    let old = c.args.caller.now in
+    let bank = c.bank_of-bank.result in
+    let start = start_of c.args.hall.now in
+    let inside : bank < start.banks = subst (λ z. bank < z) c.requires.banks.0 c.bank_of-bank.ensures.within in
+    fault_adds start (view old.pass) (view c.link_parent.new.caller.pass) (subtrans_lock bank) (by_at old.number old.session.levels.commands) old.session c.requires.may.ready.at (is_subtrans_lock start bank inside) _ c.in-Err-DiskFault.field-0 (locks.Subtrans bank) refl c.in-Err-DiskFault.field-0-is c.in-Err-DiskFault.ensures.section

@@ -164,7 +164,7 @@ returns-in-LogFault-clause-flushes g c =
     let start = start_of c.args.hall.now in
     let u = view c.enter_log-log.new.caller.pass in
     let w = view c.leave_failed.new.caller.pass in
-    subst (λ (b : By). MetLogFault w.seen b) (λ j. by_at (e.same.1 j) (e.same.0 j).levels.commands) (met_log_fault start u w (by_at c.enter_log-log.new.caller.number c.enter_log-log.new.caller.session.levels.commands) calls.Flush _ (omega arith) c.leave_failed.ensures.left)
+    subst (λ (b : By). MetLogFault w.seen b) (λ j. by_at (e.same.1 j) (e.same.0 j).levels.commands) (met_log_fault start u w (by_at c.enter_log-log.new.caller.number c.enter_log-log.new.caller.session.levels.commands) _ (omega arith) c.leave_failed.ensures.left)
 
 -- the log was down
 pub leave_looked-requires-in-Err-clause-stands : goal.leave_looked-requires-in-Err-clause-stands

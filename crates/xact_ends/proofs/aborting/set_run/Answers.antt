@@ -4,13 +4,19 @@ use Rattle.std.specs.List.{slice_range}
 use Rattle.hall.specs.Calls.{view, start_of}
 use Rattle.xid_order.specs.Ids.{low_half}
 use Rattle.tx_core.specs.declared.entry.State.TheVariants as states
-use Rattle.tx_core.specs.Locks.{xact_page}
+use Rattle.tx_core.specs.Locks.{xact_page, xact_lock}
 use Rattle.engine_parts.specs.declared.session.Session.{Session}
 use Rattle.engine_parts.specs.Stages.{may_be_recorded}
 use Rattle.bank_sections.specs.Sets.{MaySet}
 use Rattle.xact_ends.proofs.Aborted.{among_all}
 use Rattle.xact_ends.proofs.Staging.{call_aborting}
 use Rattle.xact_ends.proofs.Unrecorded.{may_abort}
+use Rattle.tx_events.specs.declared.refusal.Lock.TheVariants as locks
+use Rattle.tx_core.specs.declared.entry.Kind.TheVariants as kinds
+use Rattle.tx_core.specs.Laws.{all_set}
+use Rattle.engine_parts.specs.Sessions.{by_at}
+use Rattle.bank_sections.proofs.Faulting.{done_adds, fault_adds}
+use Rattle.bank_sections.proofs.Visiting.{is_xact_lock}
 use Rattle.xact_ends.proofs.aborting.set_run.Goals as goal
 
 pub set_page-requires-clause-may : goal.set_page-requires-clause-may
@@ -49,3 +55,22 @@ returns-in-Err-DiskFault-clause-step g c =
       each = c.requires.step.each;
       may = call_aborting (start_of c.args.hall.now) (view t.pass) t.number t.session (ap (λ (z : Session). z.stage) e.same.0 ∙ c.requires.stage) e.ready;
     }
+
+
+pub returns-in-Ok-clause-adds : goal.returns-in-Ok-clause-adds
+returns-in-Ok-clause-adds g c =
+    let old = c.args.caller.now in
+    let start = start_of c.args.hall.now in
+    let by = by_at old.number old.session.levels.commands in
+    let bank = c.bank_of-bank.result in
+    let inside : bank < start.banks = subst (λ z. bank < z) c.requires.step.each.0 c.bank_of-bank.ensures.within in
+    done_adds start (view old.pass) (view c.set_page.new.caller.pass) (xact_lock bank) by old.session c.requires.step.may.ready.at (is_xact_lock start bank inside) (kinds.Set (all_set by states.Aborted (slice_range old.session.levels.open_ids.items c.args.first c.args.past))) tt c.in-Ok.ensures.section
+
+pub returns-in-Err-DiskFault-clause-adds : goal.returns-in-Err-DiskFault-clause-adds
+returns-in-Err-DiskFault-clause-adds g c =
+    let old = c.args.caller.now in
+    let start = start_of c.args.hall.now in
+    let by = by_at old.number old.session.levels.commands in
+    let bank = c.bank_of-bank.result in
+    let inside : bank < start.banks = subst (λ z. bank < z) c.requires.step.each.0 c.bank_of-bank.ensures.within in
+    fault_adds start (view old.pass) (view c.set_page.new.caller.pass) (xact_lock bank) by old.session c.requires.step.may.ready.at (is_xact_lock start bank inside) _ c.in-Err-DiskFault.field-0 (locks.Xact bank) refl c.in-Err-DiskFault.field-0-is c.in-Err-DiskFault.ensures.section

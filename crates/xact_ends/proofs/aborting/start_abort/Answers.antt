@@ -3,8 +3,28 @@ use Rattle.std.proofs.lemmas.Bool.{false≢true}
 use Rattle.hall.specs.Calls.{view, start_of}
 use Rattle.engine_parts.specs.declared.session.Session.{Session}
 use Rattle.engine_parts.specs.declared.session.Stage.TheVariants as stages
-use Rattle.xact_ends.proofs.Staging.{call_staged}
+use Rattle.tx_model.specs.declared.command.Command.TheVariants as commands
+use Rattle.engine_parts.specs.Adding.{IsAbortOf, IsRecordBy, MayAdd}
+use Rattle.engine_parts.specs.Sessions.{by_at, stance_of}
+use Rattle.engine_parts.proofs.Adding.{adds_wider, may_wider}
+use Rattle.xact_ends.proofs.Staging.{call_staged, not_aborting}
 use Rattle.xact_ends.proofs.aborting.start_abort.Goals as goal
 
 pub log_abort-requires-clause-may : goal.log_abort-requires-clause-may
 log_abort-requires-clause-may g c = call_staged (start_of c.args.hall.now) (view c.args.caller.now.pass) c.args.caller.now.number c.args.caller.now.session stages.Aborting (λ q. c.requires.stage) (λ q. absurd (false≢true (sym q))) c.requires.may.ready tt
+
+pub returns : goal.returns
+returns g c =
+    let old = c.args.caller.now in
+    let s = old.session in
+    let opened = s.levels.open_ids.items in
+    let e = c.log_abort.ensures in
+    record {
+      own = e.own;
+      may = e.may;
+      adds = adds_wider (by_at old.number s.levels.commands) (MayAdd (IsAbortOf opened) ⊥ (λ r. ⊥)) (MayAdd (IsRecordBy commands.Abort (stance_of s) s.stage opened) ⊥ (λ r. ⊥)) (view old.pass).seen (view c.log_abort.new.caller.pass).seen
+          (may_wider (IsAbortOf opened) (IsRecordBy commands.Abort (stance_of s) s.stage opened) ⊥ ⊥ (λ r. ⊥) (λ r. ⊥) (λ rec of. (not_aborting s.stage c.in_default.not-Aborting, of)) (λ m. m) (λ r m. m)) e.adds;
+      goes = e.goes;
+      session = e.same.0;
+      number = e.same.1;
+    }

@@ -6,13 +6,17 @@ use Rattle.tx_model.specs.declared.command.Command.TheVariants as commands
 use Rattle.session_levels.specs.Stands as levels
 use Rattle.engine_parts.specs.declared.session.Stage.{Stage}
 use Rattle.engine_parts.specs.declared.session.Stage.TheVariants as stages
-use Rattle.engine_parts.specs.Sessions.{stance_of}
+use Rattle.engine_parts.specs.Sessions.{stance_of, by_at}
 use Rattle.engine_parts.specs.Stages.{pending_in}
 use Rattle.engine_parts.specs.Standing.{held_by}
 use Rattle.engine_parts.proofs.Calling.{may_counted, ran_counted, ran_held, ran_refused, step_counted}
 use Rattle.engine_parts.proofs.Refusing.{first_fails, first_holds, held_up}
-use Rattle.xact_ends.proofs.Acts.{ran_commit}
+use Rattle.xact_ends.proofs.Acts.{ran_commit, logged_leaves}
 use Rattle.xact_ends.proofs.Finishing.{logged_at, settling_at, some_logged, some_settling}
+use Rattle.engine_parts.proofs.Adding.{adds_wider}
+use Rattle.xact_ends.proofs.Added.{fault_leaves}
+use Rattle.tx_events.specs.Running.{open_ids}
+use Rattle.tx_core.specs.Entries.{history}
 use Rattle.xact_ends.proofs.commits.commit.Goals as goal
 
 pub depth-requires : goal.depth-requires
@@ -51,7 +55,8 @@ returns-in-Logged g c =
     ran_counted hall old u f.new.caller commands.Commit _ c.count.ensures
     (ran_commit hall u f.new.caller f.result f.ensures.step.own m f.ensures.step.may f.ensures.number
     (some_logged (start_of hall) (view u.pass).seen u.number c.in-Logged.number u.session.levels.open_ids.items (logged_at (start_of hall) (view u.pass) u.number c.in-Logged.number u.session m c.in-Logged.is))
-    (ap (held_by commands.Commit) c.in-Logged.is) f.ensures.commits)
+    (ap (held_by commands.Commit) c.in-Logged.is)
+    (adds_wider (by_at u.number u.session.levels.commands) _ _ (view u.pass).seen (view f.new.caller.pass).seen (logged_leaves (start_of hall) (view u.pass) u.number u.session m.ready.at f.result c.in-Logged.number c.in-Logged.is) f.ensures.adds) f.ensures.commits)
 
 pub returns-in-Settling : goal.returns-in-Settling
 returns-in-Settling g c =
@@ -63,7 +68,8 @@ returns-in-Settling g c =
     ran_counted hall old u f.new.caller commands.Commit _ c.count.ensures
     (ran_commit hall u f.new.caller f.result f.ensures.step.own m f.ensures.step.may f.ensures.number
     (some_settling (start_of hall) (view u.pass).seen u.number c.in-Settling.steps u.session.levels.open_ids.items (settling_at (start_of hall) (view u.pass) u.number c.in-Settling.steps u.session m c.in-Settling.is))
-    (ap (held_by commands.Commit) c.in-Settling.is) f.ensures.commits)
+    (ap (held_by commands.Commit) c.in-Settling.is)
+    (adds_wider (by_at u.number u.session.levels.commands) _ _ (view u.pass).seen (view f.new.caller.pass).seen (fault_leaves commands.Commit (stance_of u.session) u.session.stage (open_ids u.number (history (view u.pass).seen)) f.result) f.ensures.adds) f.ensures.commits)
 
 pub returns-in-Aborting : goal.returns-in-Aborting
 returns-in-Aborting g c =

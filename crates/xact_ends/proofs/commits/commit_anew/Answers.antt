@@ -3,7 +3,9 @@ use Rattle.hall.specs.Calls.{view, start_of}
 use Rattle.tx_events.specs.declared.xact_end.XactEnd.TheVariants as ends
 use Rattle.tx_model.specs.declared.command.Command.TheVariants as commands
 use Rattle.engine_parts.specs.Standing.{held_by}
-use Rattle.xact_ends.proofs.Acts.{ran_commit, ran_idless}
+use Rattle.xact_ends.proofs.Acts.{ran_commit, ran_idless, commit_leaves}
+use Rattle.engine_parts.proofs.Adding.{adds_wider}
+use Rattle.engine_parts.specs.Sessions.{by_at}
 use Rattle.xact_ends.proofs.commits.commit_anew.Goals as goal
 
 pub returns-then-is_empty : goal.returns-then-is_empty
@@ -14,5 +16,7 @@ returns-then-is_empty g c =
 pub returns : goal.returns
 returns g c =
     let f = c.start_commit in
+    let u = c.args.caller.now in
     let some : 1 ≤ length c.args.caller.now.session.levels.open_ids.items = search rules in
-    ran_commit c.args.hall.now c.args.caller.now f.new.caller f.result f.ensures.step.own c.requires.step.may f.ensures.step.may f.ensures.number some (ap (held_by commands.Commit) c.requires.stage) f.ensures.commits
+    ran_commit c.args.hall.now c.args.caller.now f.new.caller f.result f.ensures.step.own c.requires.step.may f.ensures.step.may f.ensures.number some (ap (held_by commands.Commit) c.requires.stage)
+    (adds_wider (by_at u.number u.session.levels.commands) _ _ (view u.pass).seen (view f.new.caller.pass).seen (commit_leaves (start_of c.args.hall.now) (view u.pass) u.number u.session c.requires.step.may.ready.at f.result some c.requires.stage) f.ensures.adds) f.ensures.commits

@@ -6,6 +6,8 @@ use Rattle.engine_parts.specs.declared.session.Stage.{Stage}
 use Rattle.engine_parts.specs.Sessions.{by_at}
 use Rattle.xact_ends.specs.Stops.{Stops}
 use Rattle.xact_ends.proofs.Finishing.{finished_then, may_end_settled, settling_at, some_settling, tree_stops}
+use Rattle.engine_parts.specs.Adding.{IsPlain}
+use Rattle.xact_ends.proofs.Added.{both_add, end_adds}
 use Rattle.xact_ends.proofs.committing.finish.Goals as goal
 
 pub end_transaction-requires-clause-some : goal.end_transaction-requires-clause-some
@@ -45,3 +47,16 @@ returns-in-Err-clause-commits g c =
       ap (λ (z : Session). z.levels) is,
       subst (λ (z : Stage × Stage). Stops start u.seen by z.0 z.1 c.in-Err.refusal) (λ j. (sym c.requires.stage j, (sym is j).stage)) (tree_stops start u.seen by c.args.from x.1.0 c.in-Err.refusal x.1.1 x.2),
     )
+
+pub returns-in-Ok-clause-adds : goal.returns-in-Ok-clause-adds
+returns-in-Ok-clause-adds g c =
+    let old = c.args.caller.now in
+    let t = c.set_tree.new.caller in
+    let w = c.end_transaction.new.caller in
+    let start = start_of c.args.hall.now in
+    let v = view old.pass in
+    let s = old.session in
+    let settled = c.in-Ok.ensures.settles.1.1 in
+    let some = subst (λ (z : Session). 1 ≤ length z.levels.open_ids.items) (sym settled) (some_settling start v.seen old.number c.args.from s.levels.open_ids.items (settling_at start v old.number c.args.from s c.requires.step.may c.requires.stage)) in
+    both_add (by_at old.number s.levels.commands) (by_at t.number t.session.levels.commands) IsPlain IsPlain IsPlain v.seen (view t.pass).seen (view w.pass).seen (λ j. by_at (c.set_tree.ensures.number j) (settled j).levels.commands) (λ lock kind m. m) (λ lock kind m. m) c.in-Ok.ensures.adds
+    (end_adds start (view t.pass) (view w.pass) t.number t.session ends.Commit c.set_tree.ensures.step.may.ready.at some c.end_transaction.ensures.section)

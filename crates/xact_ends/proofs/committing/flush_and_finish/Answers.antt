@@ -1,4 +1,4 @@
-use Rattle.std.proofs.Common.{◌≡◌, ℕ, ap, ◌∙◌, subst, sym, refl}
+use Rattle.std.proofs.Common.{Ok, ◌≡◌, ℕ, ap, ◌∙◌, subst, sym, refl, Err}
 use Rattle.hall.specs.Calls.{view, start_of}
 use Rattle.engine_parts.specs.declared.session.Session.{Session}
 use Rattle.engine_parts.specs.declared.session.Stage.{Stage}
@@ -8,6 +8,10 @@ use Rattle.engine_parts.specs.Stages.{may_be_aborted}
 use Rattle.xact_ends.specs.Stops.{Stops}
 use Rattle.xact_ends.proofs.Finishing.{commits_then, flush_stops, flushed_settling, logged_at, number_stands, stops_flushed}
 use Rattle.xact_ends.proofs.Staging.{call_settled}
+use Rattle.engine_parts.specs.Adding.{IsToldBy, MayAdd, MayFault}
+use Rattle.engine_parts.proofs.Adding.{may_wider}
+use Rattle.engine_parts.proofs.Sectioning.{same_command}
+use Rattle.xact_ends.proofs.Added.{both_add, fault_wider, flush_adds}
 use Rattle.xact_ends.proofs.committing.flush_and_finish.Goals as goal
 
 pub flush_log-requires-clause-stands : goal.flush_log-requires-clause-stands
@@ -61,3 +65,20 @@ returns-in-Err-clause-commits g c =
       ap (λ (z : Session). z.levels) same.0,
       subst (λ (z : Stage × Stage). Stops start (view t.pass).seen by z.0 z.1 c.in-Err.refusal) (λ j. (sym c.requires.stage j, sym stage j)) (flush_stops start (view t.pass).seen by c.args.number c.in-Err.refusal c.in-Err.ensures.flushes),
     )
+
+pub returns-in-Ok-clause-adds : goal.returns-in-Ok-clause-adds
+returns-in-Ok-clause-adds g c =
+    let old = c.args.caller.now in
+    let t = c.flush_log.new.caller in
+    let x = c.finish.new.caller in
+    let same = c.flush_log.ensures.same in
+    let by = by_at old.number old.session.levels.commands in
+    let r = c.finish.result in
+    both_add by (by_at t.number t.session.levels.commands) (MayAdd (λ rec. ⊥) (Unit {0}) (λ q. ⊥)) (MayFault r) (MayAdd (λ rec. ⊥) (Unit {0}) (IsToldBy r)) (view old.pass).seen (view t.pass).seen (view x.pass).seen (same_command old.number t.number old.session t.session same.1 same.0)
+    (may_wider (λ rec. ⊥) (λ rec. ⊥) (Unit {0}) (Unit {0}) (λ q. ⊥) (IsToldBy r) (λ rec m. m) (λ m. m) (λ q m. absurd m)) (fault_wider (λ rec. ⊥) (Unit {0}) r)
+    (flush_adds {T = Unit {0}} (start_of c.args.hall.now) (view old.pass) (view t.pass) by old.session c.args.number (Ok tt) c.requires.step.may.ready.at c.in-Ok.ensures.section) c.finish.ensures.adds
+
+pub returns-in-Err-clause-adds : goal.returns-in-Err-clause-adds
+returns-in-Err-clause-adds g c =
+    let old = c.args.caller.now in
+    flush_adds {T = Unit {0}} (start_of c.args.hall.now) (view old.pass) (view c.flush_log.new.caller.pass) (by_at old.number old.session.levels.commands) old.session c.args.number (Err c.in-Err.refusal) c.requires.step.may.ready.at c.in-Err.ensures.section

@@ -1,4 +1,4 @@
-use Rattle.std.proofs.Common.{◌≡◌, ℕ, ◌≤◌, None, ap, ◌∙◌, subst, sym, refl, length}
+use Rattle.std.proofs.Common.{◌≡◌, ℕ, ◌≤◌, None, ap, ◌∙◌, subst, sym, refl, length, List, Err}
 use Rattle.hall.specs.Calls.{view, start_of}
 use Rattle.engine_parts.specs.declared.session.Session.{Session}
 use Rattle.engine_parts.specs.declared.session.Stage.{Stage}
@@ -6,6 +6,9 @@ use Rattle.engine_parts.specs.declared.session.Stage.TheVariants as stages
 use Rattle.engine_parts.specs.Sessions.{by_at}
 use Rattle.xact_ends.specs.Stops.{Stops}
 use Rattle.xact_ends.proofs.Finishing.{commits_then, link_stops}
+use Rattle.engine_parts.specs.Adding.{IsCommitOf, IsPlain, IsToldBy, MayAdd, MayMeet}
+use Rattle.engine_parts.proofs.Adding.{adds_wider, may_wider, plain_wider}
+use Rattle.xact_ends.proofs.Added.{both_add, fault_wider}
 use Rattle.xact_ends.proofs.committing.start_commit.Goals as goal
 
 pub log_and_finish-requires-clause-step : goal.log_and_finish-requires-clause-step
@@ -48,3 +51,22 @@ returns-in-Err-clause-commits g c =
       ap (λ (z : Session). z.levels) x.0,
       subst (λ (z : Stage × Stage). Stops start (view t.pass).seen by z.0 z.1 c.in-Err.refusal) (λ j. (sym c.requires.stage j, sym stage j)) (link_stops start (view t.pass).seen by c.in-Err.refusal x.1),
     )
+
+pub returns-in-Ok-clause-adds : goal.returns-in-Ok-clause-adds
+returns-in-Ok-clause-adds g c =
+    let old = c.args.caller.now in
+    let s = old.session in
+    let t = c.record_parent.new.caller in
+    let x = c.log_and_finish.new.caller in
+    let r = c.log_and_finish.result in
+    let recorded = c.in-Ok.ensures.recorded in
+    let opened = s.levels.open_ids.items in
+    let same : t.session.levels.open_ids.items ≡ opened = ap (λ (z : Session). z.levels.open_ids.items) recorded in
+    both_add (by_at old.number s.levels.commands) (by_at t.number t.session.levels.commands) IsPlain (MayAdd (IsCommitOf t.session.levels.open_ids.items) (Unit {0}) (IsToldBy r)) (MayAdd (IsCommitOf opened) (Unit {0}) (IsToldBy r)) (view old.pass).seen (view t.pass).seen (view x.pass).seen (λ j. by_at (c.record_parent.ensures.number j) (recorded j).levels.commands)
+    (plain_wider (IsCommitOf opened) (Unit {0}) (IsToldBy r)) (may_wider (IsCommitOf t.session.levels.open_ids.items) (IsCommitOf opened) (Unit {0}) (Unit {0}) (IsToldBy r) (IsToldBy r) (λ z of. subst (λ (l : List ℕ). IsCommitOf l z) same of) (λ m. m) (λ q m. m)) c.in-Ok.ensures.adds c.log_and_finish.ensures.adds
+
+pub returns-in-Err-clause-adds : goal.returns-in-Err-clause-adds
+returns-in-Err-clause-adds g c =
+    let old = c.args.caller.now in
+    let r = c.in-Err.refusal in
+    adds_wider (by_at old.number old.session.levels.commands) (MayMeet r) _ (view old.pass).seen (view c.record_parent.new.caller.pass).seen (fault_wider (IsCommitOf old.session.levels.open_ids.items) (Unit {0}) {T = Unit {0}} (Err r)) c.in-Err.ensures.adds

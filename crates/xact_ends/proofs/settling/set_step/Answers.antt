@@ -15,6 +15,13 @@ use Rattle.xact_ends.specs.Trees.{IsStepState}
 use Rattle.xact_ends.proofs.Finishing.{settling_at}
 use Rattle.xact_ends.proofs.Staging.{call_settled}
 use Rattle.xact_ends.proofs.Treeing.{may_step, settled_more, step_order, step_sets, step_some, step_within, steps_few}
+use Rattle.tx_events.specs.declared.refusal.Lock.TheVariants as locks
+use Rattle.tx_core.specs.declared.entry.Kind.TheVariants as kinds
+use Rattle.tx_core.specs.Laws.{all_set}
+use Rattle.tx_core.specs.Locks.{xact_lock}
+use Rattle.engine_parts.specs.Sessions.{by_at}
+use Rattle.bank_sections.proofs.Faulting.{done_adds, fault_adds}
+use Rattle.bank_sections.proofs.Visiting.{is_xact_lock}
 use Rattle.xact_ends.proofs.settling.set_step.Goals as goal
 
 pub first_of-first-requires : goal.first_of-first-requires
@@ -134,3 +141,22 @@ overflow_add-caller g c =
     let few : length s.levels.open_ids.items < 2 ^ 63 = search rules in
     let f = steps_few start v.seen n s.levels.open_ids.items c.args.k (settling_at start v n c.args.k s c.requires.step.may c.requires.stage) in
     omega arith
+
+
+pub returns-in-Ok-clause-adds : goal.returns-in-Ok-clause-adds
+returns-in-Ok-clause-adds g c =
+    let old = c.args.caller.now in
+    let start = start_of c.args.hall.now in
+    let by = by_at old.number old.session.levels.commands in
+    let bank = c.bank_of-bank.result in
+    let inside : bank < start.banks = subst (λ z. bank < z) c.requires.step.each.0 c.bank_of-bank.ensures.within in
+    done_adds start (view old.pass) (view c.set_page.new.caller.pass) (xact_lock bank) by old.session c.requires.step.may.ready.at (is_xact_lock start bank inside) (kinds.Set (all_set by c.entered.result (slice_range old.session.levels.open_ids.items c.first_of-first.result (c.args.step.now.past + 1)))) tt c.in-Ok.ensures.section
+
+pub returns-in-Err-DiskFault-clause-adds : goal.returns-in-Err-DiskFault-clause-adds
+returns-in-Err-DiskFault-clause-adds g c =
+    let old = c.args.caller.now in
+    let start = start_of c.args.hall.now in
+    let by = by_at old.number old.session.levels.commands in
+    let bank = c.bank_of-bank.result in
+    let inside : bank < start.banks = subst (λ z. bank < z) c.requires.step.each.0 c.bank_of-bank.ensures.within in
+    fault_adds start (view old.pass) (view c.set_page.new.caller.pass) (xact_lock bank) by old.session c.requires.step.may.ready.at (is_xact_lock start bank inside) _ c.in-Err-DiskFault.field-0 (locks.Xact bank) refl c.in-Err-DiskFault.field-0-is c.in-Err-DiskFault.ensures.section

@@ -11,6 +11,9 @@ use Rattle.engine_parts.proofs.Stepping.{goes_then}
 use Rattle.bank_sections.specs.Faults.{IsXactFault}
 use Rattle.xact_ends.proofs.Finishing.{settling_at, some_settling}
 use Rattle.xact_ends.proofs.Treeing.{settled_all, steps_few}
+use Rattle.engine_parts.specs.Adding.{IsPlain, MayMeet}
+use Rattle.engine_parts.proofs.Adding.{adds_after, adds_nothing, plain_meets}
+use Rattle.engine_parts.proofs.Sectioning.{same_command}
 use Rattle.xact_ends.proofs.settling.set_tree.Goals as goal
 
 pub step_of-requires : goal.step_of-requires
@@ -67,6 +70,7 @@ loop-k-preserved g c =
       number = e.number ∙ i.number;
       goes = goes_then n [] [] (view c.args.caller.now.pass).seen (view t.pass).seen more i.goes (subst (λ z. GoesOn z [] (view t.pass).seen more) i.number x.0);
       from = (let f = i.from in omega arith);
+      adds = adds_after (by_at n c.args.caller.now.session.levels.commands) (by_at t.number t.session.levels.commands) IsPlain (view c.args.caller.now.pass).seen (view t.pass).seen more (λ j. by_at (i.number j) (i.settled j).levels.commands) (λ lock kind m. m) i.adds c.in-Ok.ensures.adds;
     }
 
 pub unreachable-requires : goal.unreachable-requires
@@ -80,3 +84,13 @@ unreachable-requires g c =
     let f = steps_few start u.seen t.number t.session.levels.open_ids.items c.loop-k.k (settling_at start u t.number c.loop-k.k t.session i.step.may (ap (λ (z : Session). z.stage) i.settled)) in
     let past = c.loop-k-test.false in
     omega arith
+
+pub returns-in-None-clause-adds : goal.returns-in-None-clause-adds
+returns-in-None-clause-adds g c = c.loop-k.invariant.adds
+
+pub returns-in-Err-clause-adds : goal.returns-in-Err-clause-adds
+returns-in-Err-clause-adds g c =
+    let i = c.loop-k.invariant in
+    let old = c.args.caller.now in
+    let t = c.loop-k.caller in
+    adds_after (by_at old.number old.session.levels.commands) (by_at t.number t.session.levels.commands) (MayMeet c.in-Err.refusal) (view old.pass).seen (view t.pass).seen (view c.set_step.new.caller.pass).seen (λ j. by_at (i.number j) (i.settled j).levels.commands) (plain_meets c.in-Err.refusal) i.adds c.in-Err.ensures.adds

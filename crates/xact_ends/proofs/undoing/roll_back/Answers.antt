@@ -11,6 +11,9 @@ use Rattle.engine_parts.proofs.Stepping.{goes_then, went_nowhere}
 use Rattle.xact_ends.specs.Aborts.{AreAborted, IsOnePage}
 use Rattle.xact_ends.proofs.Aborted.{aborted_on}
 use Rattle.xact_ends.proofs.RolledBack.{inside_part, rolled_more, rolled_none}
+use Rattle.engine_parts.specs.Adding.{IsPlain, MayMeet}
+use Rattle.engine_parts.proofs.Adding.{adds_after, adds_nothing, plain_meets}
+use Rattle.engine_parts.proofs.Sectioning.{same_command}
 use Rattle.xact_ends.proofs.undoing.roll_back.Goals as goal
 
 pub roll_back_run-requires-clause-page : goal.roll_back_run-requires-clause-page
@@ -41,6 +44,7 @@ loop-first-init g c =
       low = omega arith;
       within = c.requires.within;
       set = rolled_none (start_of c.args.hall.now) (view old.pass).seen old.session.levels.open_ids.items c.args.from;
+      adds = adds_nothing (by_at old.number old.session.levels.commands) IsPlain (view old.pass).seen;
     }
 
 pub loop-first-preserved : goal.loop-first-preserved
@@ -67,6 +71,7 @@ loop-first-preserved g c =
       low = low;
       within = subst (λ (l : List ℕ). c.run_end-past.result ≤ length l) (c.deref.ensures.value ∙ same) c.run_end-past.ensures.within;
       set = rolled_more start more opened c.args.from c.loop-first.first c.run_end-past.result i.low (aborted_on start mid more opened c.args.from c.loop-first.first goes.grows i.set) (subst (λ (l : List ℕ). AreAborted start more l c.loop-first.first c.run_end-past.result) same x.2);
+      adds = adds_after (by_at n c.args.caller.now.session.levels.commands) (by_at t.number t.session.levels.commands) IsPlain (view c.args.caller.now.pass).seen (view t.pass).seen more (same_command n t.number c.args.caller.now.session t.session i.number i.session) (λ lock kind m. m) i.adds c.in-Ok.ensures.adds;
     }
 
 pub returns-in-Err-clause-sets : goal.returns-in-Err-clause-sets
@@ -93,3 +98,13 @@ returns-clause-sets g c =
     let within = i.within in
     omega arith in
     (i.goes, i.session, subst (λ z. AreAborted (start_of c.args.hall.now) (view c.loop-first.caller.pass).seen opened c.args.from z) all i.set)
+
+pub returns-clause-adds : goal.returns-clause-adds
+returns-clause-adds g c = c.loop-first.invariant.adds
+
+pub returns-in-Err-clause-adds : goal.returns-in-Err-clause-adds
+returns-in-Err-clause-adds g c =
+    let i = c.loop-first.invariant in
+    let old = c.args.caller.now in
+    let t = c.loop-first.caller in
+    adds_after (by_at old.number old.session.levels.commands) (by_at t.number t.session.levels.commands) (MayMeet c.in-Err.refusal) (view old.pass).seen (view t.pass).seen (view c.roll_back_run.new.caller.pass).seen (same_command old.number t.number old.session t.session i.number i.session) (plain_meets c.in-Err.refusal) i.adds c.in-Err.ensures.adds

@@ -1,4 +1,4 @@
-use Rattle.std.proofs.Common.{◌≡◌, ℕ, ◌≤◌, nat_le, List, [], ◌∷◌, ap, ◌∙◌, subst, sym, refl, length, drop, Some}
+use Rattle.std.proofs.Common.{◌≡◌, ℕ, ◌≤◌, nat_le, List, [], ◌∷◌, ap, ◌∙◌, subst, sym, refl, length, drop, Some, arith}
 use Rattle.std.specs.List.{filter}
 use Rattle.hall.specs.Calls.{view, start_of}
 use Rattle.tx_events.specs.declared.event.By.{By}
@@ -12,6 +12,11 @@ use Rattle.engine_parts.specs.Steps.{GoesOn}
 use Rattle.engine_parts.proofs.Stepping.{goes_then}
 use Rattle.proc_sections.specs.Undos.{AreRolledBack}
 use Rattle.xact_ends.proofs.RolledBack.{call_undoing, inside_place, rolled_back, undone_from}
+use Rattle.engine_parts.specs.Adding.{IsPlain}
+use Rattle.tx_core.specs.declared.entry.Kind.TheVariants as kinds
+use Rattle.tx_core.specs.Locks.{proc_lock}
+use Rattle.engine_parts.proofs.Sectioning.{shared_adds}
+use Rattle.xact_ends.proofs.Added.{both_add}
 use Rattle.xact_ends.proofs.undoing.undo_named.Goals as goal
 
 pub place_of-from-requires : goal.place_of-from-requires
@@ -68,3 +73,13 @@ pub returns-in-Err-clause-undoes : goal.returns-in-Err-clause-undoes
 returns-in-Err-clause-undoes g c =
     let x = c.in-Err.ensures.sets in
     (x.0, ap (λ (z : Session). z.levels) x.1, ap (λ (z : Session). z.stage) x.1, x.2)
+
+pub returns-in-Ok-clause-adds : goal.returns-in-Ok-clause-adds
+returns-in-Ok-clause-adds g c =
+    let x = c.in-Ok.ensures.sets in
+    let old = c.args.caller.now in
+    let t = c.roll_back.new.caller in
+    let by = by_at old.number old.session.levels.commands in
+    let own = by_at t.number t.session.levels.commands in
+    both_add by own IsPlain IsPlain IsPlain (view old.pass).seen (view t.pass).seen (view c.undo_savepoint.new.caller.pass).seen (λ j. by_at (c.roll_back.ensures.number j) (x.1 j).levels.commands) (λ lock kind m. m) (λ lock kind m. m) c.in-Ok.ensures.adds
+    (shared_adds (start_of c.args.hall.now) (view t.pass) (view c.undo_savepoint.new.caller.pass) proc_lock (record { by = own; kind = kinds.Event (events.Undo own c.args.id) }) own t.session IsPlain (omega arith) c.roll_back.ensures.may.ready.at c.undo_savepoint.ensures.section refl tt)

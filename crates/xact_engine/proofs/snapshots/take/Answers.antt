@@ -84,7 +84,7 @@ returns-in-Err g c =
       may = call_left (start_of c.args.hall.now) (view c.args.caller.now.pass) (view c.enter_proc-table.new.caller.pass) (view c.leave_looked.new.caller.pass) c.args.caller.now.number c.leave_looked.new.caller.number proc_lock c.args.caller.now.session c.leave_looked.new.caller.session _
           c.requires.may e.entered.learns (omega arith) r.left refl (ap (λ z. inner_id z) r.same.0 ∙ ap (λ z. inner_id z) e.same.0) (ap (λ z. z.levels.open_ids.items) r.same.0 ∙ ap (λ z. z.levels.open_ids.items) e.same.0) (ap (λ z. z.stage) r.same.0 ∙ ap (λ z. z.stage) e.same.0) (r.same.1 ∙ e.same.1) r.ready;
       acted = acted_looked (start_of c.args.hall.now) (view c.args.caller.now.pass) (view c.enter_proc-table.new.caller.pass) (view c.leave_looked.new.caller.pass) c.args.caller.now.number proc_lock s (stance_of c.leave_looked.new.caller.session) s.stage (commands.Snap c.args.name.now) (replies.Refused refusals.Memory) _
-          c.requires.may.ready.at e.entered.kept e.entered.learns (omega arith) refl c.leave_looked.ensures.left refl refl (sym (not_refused s c.args.name.now c.requires.free c.requires.room)) (sym stance);
+          c.requires.may.ready.at e.entered.kept e.entered.learns (omega arith) refl (λ j. by_at (e.same.1 j) (e.same.0 j).levels.commands) tt c.leave_looked.ensures.left refl refl (sym (not_refused s c.args.name.now c.requires.free c.requires.room)) (sym stance);
       stage = ap (λ z. z.stage) r.same.0 ∙ ap (λ z. z.stage) e.same.0;
       count = (ap (λ z. z.levels.commands) r.same.0 ∙ ap (λ z. z.levels.commands) e.same.0, r.same.1 ∙ e.same.1);
     }

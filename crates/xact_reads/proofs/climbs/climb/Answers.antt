@@ -2,13 +2,16 @@ use Rattle.std.proofs.Common.{◌<◌, IfSome, IsTrue, inl, inr, arith, refl, su
 use Rattle.std.proofs.lemmas.Bool.Decides.{nat_tests}
 use Rattle.hall.specs.Calls.{view, start_of}
 use Rattle.bank_sections.specs.Reads.{IsParentOf, IsParentRead}
+use Rattle.engine_parts.specs.Adding.{IsPlain, MayMeet}
+use Rattle.engine_parts.specs.Sessions.{by_at}
+use Rattle.engine_parts.proofs.Adding.{adds_nothing, plain_meets}
 use Rattle.engine_parts.proofs.Stepping.{went_nowhere}
 use Rattle.xact_reads.proofs.Climbing.{come_nowhere, none_before, stops_at, way_on}
-use Rattle.xact_reads.proofs.Going.{went_both}
+use Rattle.xact_reads.proofs.Going.{read_adds, went_both}
 use Rattle.xact_reads.proofs.climbs.climb.Goals as goal
 
 pub loop-xmin-init : goal.loop-xmin-init
-loop-xmin-init g c = (c.requires.own, c.requires.ready, went_nowhere c.args.caller.now.number (view c.args.caller.now.pass).seen, (refl, refl), omega arith, λ told. come_nowhere (start_of c.args.hall.now) (view c.args.caller.now.pass).seen c.args.x)
+loop-xmin-init g c = (c.requires.own, c.requires.ready, went_nowhere c.args.caller.now.number (view c.args.caller.now.pass).seen, (refl, refl), omega arith, λ told. come_nowhere (start_of c.args.hall.now) (view c.args.caller.now.pass).seen c.args.x, adds_nothing (by_at c.args.caller.now.number c.args.caller.now.session.levels.commands) IsPlain (view c.args.caller.now.pass).seen)
 
 pub loop-xmin-preserved : goal.loop-xmin-preserved
 loop-xmin-preserved g c =
@@ -24,6 +27,7 @@ loop-xmin-preserved g c =
       (e.same.0 ∙ i.3.0, e.same.1 ∙ i.3.1),
       (let to = i.4 in omega arith),
       λ told. way_on (start_of c.args.hall.now) (view u.pass).seen (view w.pass).seen c.args.x c.loop-xmin.top c.in-Some.parent e.ready.at.base e.ready.at.kept e.went.on.grows (i.5 told) (read told),
+      read_adds c.args.caller.now.number u.number c.args.caller.now.session u.session IsPlain (view c.args.caller.now.pass).seen (view u.pass).seen (view w.pass).seen i.3.1 i.3.0 (λ lock kind m. m) i.6 e.adds,
     )
 
 pub returns-in-None-clause-went : goal.returns-in-None-clause-went
@@ -54,3 +58,20 @@ returns-clause-top g c told =
     let i = c.loop-xmin.invariant in
     let u = c.loop-xmin.caller in
     stops_at (start_of c.args.hall.now) (view c.args.caller.now.pass).seen (view u.pass).seen (view u.pass).seen c.args.xmin c.args.x c.loop-xmin.top (went_nowhere u.number (view u.pass).seen).on.grows (i.5 told) (λ used few. inl (grind (arith, nat_tests, c.loop-xmin-test)))
+
+pub returns-in-None-clause-adds : goal.returns-in-None-clause-adds
+returns-in-None-clause-adds g c =
+    let i = c.loop-xmin.invariant in
+    let u = c.loop-xmin.caller in
+    let w = c.parent_of.new.caller in
+    read_adds c.args.caller.now.number u.number c.args.caller.now.session u.session IsPlain (view c.args.caller.now.pass).seen (view u.pass).seen (view w.pass).seen i.3.1 i.3.0 (λ lock kind m. m) i.6 c.in-Ok.ensures.adds
+
+pub returns-in-Err-clause-adds : goal.returns-in-Err-clause-adds
+returns-in-Err-clause-adds g c =
+    let i = c.loop-xmin.invariant in
+    let u = c.loop-xmin.caller in
+    let w = c.parent_of.new.caller in
+    read_adds c.args.caller.now.number u.number c.args.caller.now.session u.session (MayMeet c.in-Err.refusal) (view c.args.caller.now.pass).seen (view u.pass).seen (view w.pass).seen i.3.1 i.3.0 (plain_meets c.in-Err.refusal) i.6 c.in-Err.ensures.adds
+
+pub returns-clause-adds : goal.returns-clause-adds
+returns-clause-adds g c = c.loop-xmin.invariant.6

@@ -1,5 +1,11 @@
-use Rattle.std.proofs.Common.{sym, subst}
+use Rattle.std.proofs.Common.{◌<◌, refl, sym, subst}
 use Rattle.hall.specs.Calls.{view, start_of}
+use Rattle.tx_events.specs.declared.refusal.Lock.TheVariants as locks
+use Rattle.tx_core.specs.declared.entry.Kind.TheVariants as kinds
+use Rattle.tx_core.specs.Locks.{subtrans_lock}
+use Rattle.engine_parts.specs.Sessions.{by_at}
+use Rattle.bank_sections.proofs.Faulting.{done_adds, fault_adds}
+use Rattle.bank_sections.proofs.Visiting.{is_subtrans_lock}
 use Rattle.bank_sections.specs.Reads.{IsParentOf}
 use Rattle.xact_reads.proofs.Climbing.{parent_below}
 use Rattle.xact_reads.proofs.climbs.parent_of.Goals as goal
@@ -10,3 +16,19 @@ returns-in-Ok-clause-parent g c told used few =
     let lists = (view c.read_parent.new.caller.pass).seen in
     let is = c.in-Ok.ensures.parent told used few in
     subst (IsParentOf start lists c.args.x) (sym (c.below.ensures.kept (parent_below start lists c.args.x c.in-Ok.parent c.requires.ready.at.base c.in-Ok.ensures.ready.at.kept is))) is
+
+pub returns-in-Ok-clause-adds : goal.returns-in-Ok-clause-adds
+returns-in-Ok-clause-adds g c =
+    let old = c.args.caller.now in
+    let bank = c.bank_of-bank.result in
+    let start = start_of c.args.hall.now in
+    let inside : bank < start.banks = subst (λ z. bank < z) c.requires.banks.0 c.bank_of-bank.ensures.within in
+    done_adds start (view old.pass) (view c.read_parent.new.caller.pass) (subtrans_lock bank) (by_at old.number old.session.levels.commands) old.session c.requires.ready.at (is_subtrans_lock start bank inside) kinds.Look tt c.in-Ok.ensures.section
+
+pub returns-in-Err-DiskFault-clause-adds : goal.returns-in-Err-DiskFault-clause-adds
+returns-in-Err-DiskFault-clause-adds g c =
+    let old = c.args.caller.now in
+    let bank = c.bank_of-bank.result in
+    let start = start_of c.args.hall.now in
+    let inside : bank < start.banks = subst (λ z. bank < z) c.requires.banks.0 c.bank_of-bank.ensures.within in
+    fault_adds start (view old.pass) (view c.read_parent.new.caller.pass) (subtrans_lock bank) (by_at old.number old.session.levels.commands) old.session c.requires.ready.at (is_subtrans_lock start bank inside) _ c.in-Err-DiskFault.field-0 (locks.Subtrans bank) refl c.in-Err-DiskFault.field-0-is c.in-Err-DiskFault.ensures.section

@@ -3,6 +3,11 @@ use Rattle.hall.specs.Calls.{view, start_of}
 use Rattle.tx_events.specs.declared.refusal.Refusal.TheVariants as refusals
 use Rattle.tx_model.specs.declared.command.Command.TheVariants as commands
 use Rattle.tx_model.specs.declared.reply.Reply.TheVariants as replies
+use Rattle.tx_events.specs.Running.{open_ids}
+use Rattle.tx_core.specs.Entries.{history}
+use Rattle.engine_parts.specs.Adding.{IsPlain, MayMeet}
+use Rattle.engine_parts.specs.Sessions.{by_at, stance_of}
+use Rattle.engine_parts.proofs.Adding.{adds_nothing, adds_wider, met_leaves, plain_leaves}
 use Rattle.engine_parts.proofs.Calling.{may_counted, own_counted, ran_refused}
 use Rattle.engine_parts.proofs.Stepping.{went_nowhere}
 use Rattle.xact_reads.proofs.Limits.{registered_limits}
@@ -26,6 +31,7 @@ returns-then-x-lt3 g c =
     let may = may_counted c.args.hall.now old u c.count.ensures c.requires in
     let went = went_nowhere u.number (view u.pass).seen in
     ran_read c.args.hall.now old u u (commands.See name c.args.x) (replies.Seen (not (nat_eq c.args.x.number 0))) c.count.ensures c.requires (own_counted c.args.hall.now old u c.count.ensures c.requires.step.own) may.ready went refl refl refl
+    (adds_nothing (by_at u.number u.session.levels.commands) _ (view u.pass).seen)
     (special_answer start (view u.pass) (view u.pass) u.number u.session name c.args.x k may.ready.at went c.in-Some.ensures.found (g.P.PageDisk.tells) (omega arith))
     (sym (not_refused u.session name c.args.x k c.in-Some.ensures.found)) refl refl
 
@@ -43,12 +49,14 @@ pub returns-in-Ok : goal.returns-in-Ok
 returns-in-Ok g c =
     let e = c.in-Ok.ensures in
     let u = c.count.new.caller in
-    ran_read c.args.hall.now c.args.caller.now u c.see_found.new.caller (commands.See c.args.name.now c.args.x) (replies.Seen c.in-Ok.seen) c.count.ensures c.requires e.own e.ready e.went e.same.0 e.same.1 refl e.allowed
+    ran_read c.args.hall.now c.args.caller.now u c.see_found.new.caller (commands.See c.args.name.now c.args.x) (replies.Seen c.in-Ok.seen) c.count.ensures c.requires e.own e.ready e.went e.same.0 e.same.1 refl
+    (adds_wider (by_at u.number u.session.levels.commands) IsPlain _ (view u.pass).seen (view c.see_found.new.caller.pass).seen (plain_leaves (commands.See c.args.name.now c.args.x) (stance_of u.session) u.session.stage (open_ids u.number (history (view u.pass).seen)) (replies.Seen c.in-Ok.seen)) e.adds) e.allowed
     (e.standing ∙ sym (not_refused u.session c.args.name.now c.args.x c.in-Some.registered.now c.in-Some.ensures.found)) refl refl
 
 pub returns-in-Err : goal.returns-in-Err
 returns-in-Err g c =
     let e = c.in-Err.ensures in
     let u = c.count.new.caller in
-    ran_read c.args.hall.now c.args.caller.now u c.see_found.new.caller (commands.See c.args.name.now c.args.x) (replies.Refused c.in-Err.refusal) c.count.ensures c.requires e.own e.ready e.went e.same.0 e.same.1 refl e.allowed
+    ran_read c.args.hall.now c.args.caller.now u c.see_found.new.caller (commands.See c.args.name.now c.args.x) (replies.Refused c.in-Err.refusal) c.count.ensures c.requires e.own e.ready e.went e.same.0 e.same.1 refl
+    (adds_wider (by_at u.number u.session.levels.commands) (MayMeet c.in-Err.refusal) _ (view u.pass).seen (view c.see_found.new.caller.pass).seen (met_leaves (commands.See c.args.name.now c.args.x) (stance_of u.session) u.session.stage (open_ids u.number (history (view u.pass).seen)) c.in-Err.refusal) e.adds) e.allowed
     (e.standing ∙ sym (not_refused u.session c.args.name.now c.args.x c.in-Some.registered.now c.in-Some.ensures.found)) refl refl

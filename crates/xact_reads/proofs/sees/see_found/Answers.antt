@@ -2,12 +2,15 @@ use Rattle.std.proofs.Common.{[], None, Some, arith, subst, ◌∙◌}
 use Rattle.std.proofs.lemmas.Bool.Decides.{nat_tests}
 use Rattle.hall.specs.Calls.{view, start_of}
 use Rattle.tx_events.specs.declared.event.By.{By}
+use Rattle.tx_events.specs.declared.refusal.Refusal.TheVariants as refusals
 use Rattle.engine_parts.specs.declared.session.Session.{Session}
+use Rattle.engine_parts.specs.Adding.{IsPlain, MayMeet}
 use Rattle.engine_parts.specs.Steps.{WentOn}
+use Rattle.engine_parts.proofs.Adding.{plain_meets}
 use Rattle.engine_parts.proofs.Sectioning.{same_command}
 use Rattle.xact_reads.specs.Glances.{IsGlance, Shows}
 use Rattle.xact_reads.specs.Readings.{IsShown, IsUnread}
-use Rattle.xact_reads.proofs.Going.{at_same, went_both}
+use Rattle.xact_reads.proofs.Going.{at_same, look_adds, read_adds, went_both}
 use Rattle.xact_reads.proofs.Replying.{old_answer, seen_answer, unread_answer}
 use Rattle.xact_reads.proofs.sees.see_found.Goals as goal
 
@@ -90,3 +93,29 @@ returns-in-Err-clause-standing g c =
     (unread_answer start (view old.pass) (view w.pass) old.number old.session c.args.name.now c.args._x h.registered (at_same start (view w.pass) old.number w.number old.session w.session (f.same.1 ∙ e.same.1) (f.same.0 ∙ e.same.0) f.ready) went h.named (g.P.PageDisk.tells) glance c.in-Err.refusal c.requires.normal
     (subst (IsGlance h.registered.snapshot c.args._x.number) c.in-Some.is h.glance)
     (subst (λ (b : By). IsUnread start (view w.pass).seen b glance.id c.in-Err.refusal) (same_command old.number u.number old.session u.session e.same.1 e.same.0) f.unread)).1
+
+pub returns-in-None-clause-adds : goal.returns-in-None-clause-adds
+returns-in-None-clause-adds g c =
+    let old = c.args.caller.now in
+    look_adds (start_of c.args.hall.now) (view old.pass) (view c.read_oldest-oldest.new.caller.pass) old.number old.session (MayMeet (refusals.TooOld c.read_oldest-oldest.result)) c.requires.ready.at tt c.read_oldest-oldest.ensures.section
+
+pub returns-then-lt-clause-adds : goal.returns-then-lt-clause-adds
+returns-then-lt-clause-adds g c =
+    let old = c.args.caller.now in
+    look_adds (start_of c.args.hall.now) (view old.pass) (view c.read_oldest-oldest.new.caller.pass) old.number old.session (MayMeet (refusals.TooOld c.read_oldest-oldest.result)) c.requires.ready.at tt c.read_oldest-oldest.ensures.section
+
+pub returns-in-Ok-clause-adds : goal.returns-in-Ok-clause-adds
+returns-in-Ok-clause-adds g c =
+    let old = c.args.caller.now in
+    let u = c.read_oldest-oldest.new.caller in
+    let e = c.read_oldest-oldest.ensures in
+    read_adds old.number u.number old.session u.session IsPlain (view old.pass).seen (view u.pass).seen (view c.show.new.caller.pass).seen e.same.1 e.same.0 (λ lock kind m. m)
+    (look_adds (start_of c.args.hall.now) (view old.pass) (view u.pass) old.number old.session IsPlain c.requires.ready.at tt e.section) c.in-Ok.ensures.adds
+
+pub returns-in-Err-clause-adds : goal.returns-in-Err-clause-adds
+returns-in-Err-clause-adds g c =
+    let old = c.args.caller.now in
+    let u = c.read_oldest-oldest.new.caller in
+    let e = c.read_oldest-oldest.ensures in
+    read_adds old.number u.number old.session u.session (MayMeet c.in-Err.refusal) (view old.pass).seen (view u.pass).seen (view c.show.new.caller.pass).seen e.same.1 e.same.0 (plain_meets c.in-Err.refusal)
+    (look_adds (start_of c.args.hall.now) (view old.pass) (view u.pass) old.number old.session IsPlain c.requires.ready.at tt e.section) c.in-Err.ensures.adds

@@ -2,11 +2,13 @@ use Rattle.std.proofs.Common.{sym, subst, ◌∙◌}
 use Rattle.hall.specs.Calls.{view, start_of}
 use Rattle.tx_events.specs.declared.event.By.{By}
 use Rattle.engine_parts.specs.declared.session.Session.{Session}
+use Rattle.engine_parts.specs.Adding.{IsPlain, MayMeet}
 use Rattle.engine_parts.specs.Sessions.{by_at}
+use Rattle.engine_parts.proofs.Adding.{plain_meets}
 use Rattle.engine_parts.proofs.Sectioning.{same_command}
 use Rattle.xact_reads.specs.Glances.{IsNamed}
 use Rattle.bank_sections.specs.Faults.{IsSubtransFault}
-use Rattle.xact_reads.proofs.Going.{at_same, went_both}
+use Rattle.xact_reads.proofs.Going.{at_same, read_adds, went_both}
 use Rattle.xact_reads.proofs.Looking.{climb_limits, parent_unread, shows_none, shows_parents}
 use Rattle.xact_reads.proofs.shows.ask_parents.Goals as goal
 
@@ -59,3 +61,17 @@ returns-in-Ok-climb-clause-shown g c told =
     shows_parents start (view u.pass) old.number old.session c.args.name.now c.requires.glanced.0 c.args.glance (at_same start (view u.pass) old.number u.number old.session u.session d.same.1 d.same.0 d.ready) c.requires.glanced.1 (view w.pass) c.in-Ok.committed c.shows_top.result c.in-Ok-climb.topmost
     (at_same start (view w.pass) old.number w.number old.session w.session (e.same.1 ∙ d.same.1) same e.ready) e.went.on.grows c.requires.asks (d.state told) (search (c.if-not-committed.false)) (e.top told)
     (λ k named up. c.shows_top.ensures k (subst (λ (z : Session). IsNamed z.levels c.args.name.now k) (sym same) named) up)
+
+pub returns-in-Ok-climb-clause-adds : goal.returns-in-Ok-climb-clause-adds
+returns-in-Ok-climb-clause-adds g c =
+    let old = c.args.caller.now in
+    let u = c.is_committed.new.caller in
+    let e = c.in-Ok.ensures in
+    read_adds old.number u.number old.session u.session IsPlain (view old.pass).seen (view u.pass).seen (view c.climb.new.caller.pass).seen e.same.1 e.same.0 (λ lock kind m. m) e.adds c.in-Ok-climb.ensures.adds
+
+pub returns-in-Err-climb-clause-adds : goal.returns-in-Err-climb-clause-adds
+returns-in-Err-climb-clause-adds g c =
+    let old = c.args.caller.now in
+    let u = c.is_committed.new.caller in
+    let e = c.in-Ok.ensures in
+    read_adds old.number u.number old.session u.session (MayMeet c.in-Err-climb.refusal) (view old.pass).seen (view u.pass).seen (view c.climb.new.caller.pass).seen e.same.1 e.same.0 (plain_meets c.in-Err-climb.refusal) e.adds c.in-Err-climb.ensures.adds

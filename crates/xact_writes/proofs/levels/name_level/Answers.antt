@@ -1,7 +1,10 @@
 use Rattle.std.proofs.Common.{◌≡◌, inl, refl, subst}
 use Rattle.hall.specs.Calls.{view, start_of}
+use Rattle.tx_events.specs.declared.refusal.Refusal.TheVariants as refusals
 use Rattle.engine_parts.specs.declared.session.Session.{Session}
+use Rattle.engine_parts.specs.Adding.{Adds, IsPlain, MayMeet}
 use Rattle.engine_parts.specs.Sessions.{by_at}
+use Rattle.engine_parts.proofs.Adding.{adds_nothing}
 use Rattle.engine_parts.proofs.Stepping.{went_nowhere}
 use Rattle.xact_writes.specs.Writes.{HasReserved, IsAlike, IsWithout}
 use Rattle.xact_writes.proofs.Alike.{alike_then, call_alike, later_alike}
@@ -51,3 +54,12 @@ returns-in-Err-clause-gives g c =
       alike_then old.session u w.session (record { levels = c.in-Ok.ensures.reserved; stage = refl; unlinked = refl }) m.1,
       subst (λ z. IsWithout (start_of c.args.hall.now) (view w.pass).seen (by_at old.number z) c.in-Err.refusal) c.in-Ok.ensures.reserved.commands m.2,
     )
+
+pub returns-in_default-clause-adds : goal.returns-in_default-clause-adds
+returns-in_default-clause-adds g c = let old = c.args.caller.now in adds_nothing (by_at old.number old.session.levels.commands) (MayMeet refusals.Memory) (view old.pass).seen
+
+pub returns-in-Ok-give_level-clause-adds : goal.returns-in-Ok-give_level-clause-adds
+returns-in-Ok-give_level-clause-adds g c = let old = c.args.caller.now in subst (λ z. Adds (by_at old.number z) IsPlain (view old.pass).seen (view c.give_level.new.caller.pass).seen) c.in-Ok.ensures.reserved.commands c.in-Ok-give_level.ensures.adds
+
+pub returns-in-Err-clause-adds : goal.returns-in-Err-clause-adds
+returns-in-Err-clause-adds g c = let old = c.args.caller.now in subst (λ z. Adds (by_at old.number z) (MayMeet c.in-Err.refusal) (view old.pass).seen (view c.give_level.new.caller.pass).seen) c.in-Ok.ensures.reserved.commands c.in-Err.ensures.adds

@@ -1,0 +1,28 @@
+//! What the definitions say together. The functions do nothing; their contracts are the laws.
+ghost use Rattle.life_law.specs.Laws.{AbortedIdsAreUnrecorded, OkAbortsAreUnrecorded, OkCommitsAreFlushed, UncommittedRecordsAreInDoubt, UndoneIdsAreUnrecorded};
+
+/// A commit that was answered `ok` has its record below the flushed number.
+pub fn ok_commits_are_flushed()
+    ensures { OkCommitsAreFlushed }
+{}
+
+/// A commit record without a commit event is of a transaction that is still open, whose session's last commit wasn't
+/// answered `ok` and is pending by its lines.
+pub fn uncommitted_records_are_in_doubt()
+    ensures { UncommittedRecordsAreInDoubt }
+{}
+
+/// No commit record names an id that an abort closed.
+pub fn aborted_ids_are_unrecorded()
+    ensures { AbortedIdsAreUnrecorded }
+{}
+
+/// No commit record names the id of a transaction whose abort was answered `ok`.
+pub fn ok_aborts_are_unrecorded()
+    ensures { OkAbortsAreUnrecorded }
+{}
+
+/// No commit record names an id that an undo closed.
+pub fn undone_ids_are_unrecorded()
+    ensures { UndoneIdsAreUnrecorded }
+{}

@@ -33,7 +33,7 @@ use Rattle.bank_sections.proofs.Making.{base_near}
 abbrev pub linked_entry : By → ℕ → ℕ → Entry
 linked_entry by id parent = record { by = by; kind = kinds.Set (changes.Parent by id parent ∷ []) }
 
-pub may_link : (start : Start) (seen : List (List Entry)) (bank id parent : ℕ) (by : By) (e : Entry) → bank < start.banks → e ≡ linked_entry by id parent → subtrans_lock_of start id ≡ subtrans_lock bank → WasMade (at seen (subtrans_lock bank)) (subtrans_page start.base.next) (subtrans_page id) → IsGivenBelow seen by.session parent id → IsInTurn (at seen (subtrans_lock bank)) by
+pub may_link : (start : Start) (seen : List (List Entry)) (bank id parent : ℕ) (by : By) (e : Entry) → bank < start.banks → e ≡ linked_entry by id parent → subtrans_lock_of start id ≡ subtrans_lock bank → WasMade (at seen (subtrans_lock bank)) (subtrans_page start.base.next) (subtrans_page id) → IsGivenBelow seen by.session parent id → IsInTurn start (at seen (subtrans_lock bank)) by
     → MayKeep start seen (subtrans_lock bank) e
 may_link start seen bank id parent by e inside is here made below turn =
     subst (MayKeep start seen (subtrans_lock bank)) (sym is) (λ lists k knows there whole. parent_law start seen bank by id parent inside here made below lists k knows there whole turn)

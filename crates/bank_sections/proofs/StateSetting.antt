@@ -78,7 +78,7 @@ may_set_later start seen lists n bank ids state knows m = record {
 open_to : (n : ℕ) (lists : List (List Entry)) (ids : List ℕ) → ((id : ℕ) → Contains ids id → Contains (open_ids n (history lists)) id) → (id : ℕ) → Contains ids id → Contains (given_to n (history lists)) id
 open_to n lists ids opened id c = has_contains (given_to n (history lists)) id (has_filter (is_open (history lists)) (given_to n (history lists)) id (contains_has (open_ids n (history lists)) id (opened id c))).0
 
-pub may_set : (start : Start) (seen : List (List Entry)) (n command bank : ℕ) (ids : List ℕ) (state : State) (e : Entry) → e ≡ set_entry (by_at n command) state ids → bank < start.banks → EngineInvariant start seen → ((id : ℕ) → Contains ids id → Contains (open_ids n (history seen)) id) → MaySet start seen n bank ids state → IsInTurn (at seen (xact_lock bank)) (by_at n command)
+pub may_set : (start : Start) (seen : List (List Entry)) (n command bank : ℕ) (ids : List ℕ) (state : State) (e : Entry) → e ≡ set_entry (by_at n command) state ids → bank < start.banks → EngineInvariant start seen → ((id : ℕ) → Contains ids id → Contains (open_ids n (history seen)) id) → MaySet start seen n bank ids state → IsInTurn start (at seen (xact_lock bank)) (by_at n command)
     → MayKeep start seen (xact_lock bank) e
 may_set start seen n command bank ids state e is inside k opened m turn = subst (MayKeep start seen (xact_lock bank)) (sym is) (law state m.logged m.tree m.unrecorded (m.only seen k (knows_same n seen)))
   where

@@ -121,7 +121,7 @@ at_on start v w n s a l k =
       name = l.name ∙ a.name;
       known = a.known;
       wide = let e = l.long in let f = a.wide in omega arith;
-      turns = λ lock. subst (λ (t : List Entry). All (λ (f : Entry). f.by.command ≤ s.levels.commands) t) (sym (knows.own lock)) (a.turns lock);
+      turns = λ lock. let t = a.turns lock in record { known = t.known; after = subst (λ (es : List Entry). All (λ (f : Entry). f.by.command ≤ s.levels.commands) es) (sym (knows.own lock)) t.after };
       stands = stands_on start n s.levels.commands s.levels v.seen w.seen a.kept k knows a.stands;
       clear = λ q top subs appended opened. a.clear q top subs (own_appended n v.seen w.seen (records.Commit top subs) knows appended) (sym (open_seen start n v.seen w.seen k knows) ∙ opened);
       unaborted = λ q id c top subs named among. a.unaborted q id c top subs (own_appended n v.seen w.seen (records.Abort top subs) knows named) among;
@@ -155,7 +155,7 @@ ready_next start v n s s' is r =
         clear = a.clear;
         unaborted = a.unaborted;
         filed = a.filed;
-        turns = λ lock. All-weaker (λ (f : Entry). f.by.command ≤ s.levels.commands) (λ (f : Entry). f.by.command ≤ s.levels.commands + 1) (λ f le. omega arith) (filter (λ (f : Entry). f.by.session == n) (at v.seen lock)) (a.turns lock);
+        turns = λ lock. let t = a.turns lock in record { known = t.known; after = All-weaker (λ (f : Entry). f.by.command ≤ s.levels.commands) (λ (f : Entry). f.by.command ≤ s.levels.commands + 1) (λ f le. omega arith) (filter (λ (f : Entry). f.by.session == n) (at v.seen lock)) t.after };
         stands = record {
           opened = st.opened;
           ascend = st.ascend;

@@ -35,10 +35,13 @@ use Rattle.engine_parts.specs.Stages.{AreUnaborted, AsksNothing, IsInStage, may_
 use Rattle.engine_parts.proofs.Going.{filed_later, own_events, stage_later}
 
 -- an entry of the command goes in turn
-turn_push : (es : List Entry) (by : By) (e : Entry) → e.by ≡ by → IsInTurn es by → IsInTurn (es ++ e ∷ []) by
-turn_push es by e own t =
-    subst (λ (l : List Entry). All (λ f. f.by.command ≤ by.command) l) (sym (filter-append (λ f. f.by.session == by.session) es (e ∷ [])))
-    (All-append (λ f. f.by.command ≤ by.command) (filter (λ f. f.by.session == by.session) es) (filter (λ f. f.by.session == by.session) (e ∷ [])) t (last (e.by.session == by.session)))
+turn_push : (start : Start) (es : List Entry) (by : By) (e : Entry) → e.by ≡ by → IsInTurn start es by → IsInTurn start (es ++ e ∷ []) by
+turn_push start es by e own t = record {
+  known = t.known;
+  after =
+      subst (λ (l : List Entry). All (λ f. f.by.command ≤ by.command) l) (sym (filter-append (λ f. f.by.session == by.session) es (e ∷ [])))
+      (All-append (λ f. f.by.command ≤ by.command) (filter (λ f. f.by.session == by.session) es) (filter (λ f. f.by.session == by.session) (e ∷ [])) t.after (last (e.by.session == by.session)));
+}
   where
     last : (b : Bool) → All (λ (f : Entry). f.by.command ≤ by.command) (cond b (e ∷ []) [])
     last true = All-cons (λ (f : Entry). f.by.command ≤ by.command) e [] (let q : e.by.command ≡ by.command = ap (λ (b : By). b.command) own in omega arith) (All-nil (λ (f : Entry). f.by.command ≤ by.command))
@@ -99,10 +102,10 @@ asks_nothing start v u w n lock e name learns inside l none id state a =
 pub at_left : (start : Start) (v w : Knowledge) (n lock : ℕ) (s s' : Session) (e : Entry) → IsAt start v n s → lock < length v.seen → e.by ≡ by_at n s.levels.commands → s'.levels.commands ≡ s.levels.commands → Leaves start lock e v w
     → Stands start.base (history w.seen) n s'.levels.commands s'.levels → (may_be_recorded s'.stage ≡ false → HasNoRecord w.seen n) → (may_be_aborted s'.stage ≡ false → AreUnaborted w.seen n s'.levels.open_ids.items) → IsFiled start w.seen n s'.levels.open_ids.items s'.unlinked → IsReady start w n s'
 at_left start v w n lock s s' e a inside own count l st clear unaborted filed =
-    let turn : (k : ℕ) → IsInTurn (at (add v.seen lock e) k) (by_at n s.levels.commands) = λ k.
+    let turn : (k : ℕ) → IsInTurn start (at (add v.seen lock e) k) (by_at n s.levels.commands) = λ k.
     dite (ℕ_discrete k lock)
-    (λ (q : k ≡ lock). subst (λ z. IsInTurn (at (add v.seen lock e) z) (by_at n s.levels.commands)) (sym q) (subst (λ (t : List Entry). IsInTurn t (by_at n s.levels.commands)) (sym (at_here v.seen lock e inside)) (turn_push (at v.seen lock) (by_at n s.levels.commands) e own (a.turns lock))))
-    (λ q. subst (λ (t : List Entry). IsInTurn t (by_at n s.levels.commands)) (sym (at_else v.seen lock k e q)) (a.turns k)) in
+    (λ (q : k ≡ lock). subst (λ z. IsInTurn start (at (add v.seen lock e) z) (by_at n s.levels.commands)) (sym q) (subst (λ (t : List Entry). IsInTurn start t (by_at n s.levels.commands)) (sym (at_here v.seen lock e inside)) (turn_push start (at v.seen lock) (by_at n s.levels.commands) e own (a.turns lock))))
+    (λ q. subst (λ (t : List Entry). IsInTurn start t (by_at n s.levels.commands)) (sym (at_else v.seen lock k e q)) (a.turns k)) in
     record {
       free = l.free;
       at = record {
@@ -112,7 +115,7 @@ at_left start v w n lock s s' e a inside own count l st clear unaborted filed =
         name = l.name ∙ a.name;
         known = a.known;
         wide = let g : length w.seen ≡ length v.seen = ap length l.seen ∙ length-set v.seen lock (at v.seen lock ++ e ∷ []) in let f = a.wide in omega arith;
-        turns = λ k. subst (λ (z : List (List Entry) × ℕ). IsInTurn (at z.0 k) (by_at n z.1)) (λ j. (sym l.seen j, sym count j)) (turn k);
+        turns = λ k. subst (λ (z : List (List Entry) × ℕ). IsInTurn start (at z.0 k) (by_at n z.1)) (λ j. (sym l.seen j, sym count j)) (turn k);
         stands = st;
         clear = clear;
         unaborted = unaborted;

@@ -55,7 +55,7 @@ first_call start v n s w nothing =
           name = w.name;
           known = w.known;
           wide = w.wide;
-          turns = λ lock. subst (λ (t : List Entry). IsInTurn t (by_at n s.levels.commands)) (sym (nothing lock)) (All-nil (λ (f : Entry). f.by.command ≤ s.levels.commands));
+          turns = λ lock. subst (λ (t : List Entry). IsInTurn start t (by_at n s.levels.commands)) (sym (nothing lock)) (record { known = w.known; after = All-nil (λ (f : Entry). f.by.command ≤ s.levels.commands) });
           stands = subst (λ (h : List Event). Stands start.base h n s.levels.commands s.levels) (sym none) (fresh_stands start.base n s.levels.commands s.levels w.fresh);
           clear = λ q top subs k opened. let z : [] ≡ top ∷ subs = sym (ap (open_ids n) none) ∙ opened in absurd cc;
           unaborted = λ q id c. absurd (subst (λ (t : List ℕ). Has t id) w.fresh.3 (contains_has s.levels.open_ids.items id c));

@@ -46,7 +46,7 @@ commit_pends start v n s m recorded =
     let e : Entry = record { by = r.appended.0; kind = kinds.Append (records.Commit r.top r.subs) } in
     let mine : Contains (filter (λ (f : Entry). f.by.session == n) (at v.seen log_lock)) e =
     has_contains _ e (filter_has (λ (f : Entry). f.by.session == n) (at v.seen log_lock) e (contains_has (at v.seen log_lock) e r.appended.2) (eq-eqb r.appended.0.session n r.appended.1)) in
-    let before : r.appended.0.command ≤ s.levels.commands = All-contains (λ (f : Entry). f.by.command ≤ s.levels.commands) _ e (a.turns log_lock) mine in
+    let before : r.appended.0.command ≤ s.levels.commands = All-contains (λ (f : Entry). f.by.command ≤ s.levels.commands) _ e (a.turns log_lock).after mine in
     record {
       top = r.top;
       subs = r.subs;

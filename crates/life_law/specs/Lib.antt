@@ -1,3 +1,4 @@
+pub mod Commands
 pub mod Refused
 pub mod Pending
 pub mod Facts
@@ -6,3 +7,4 @@ pub mod Lines
 pub mod LifeLog
 pub mod LawfulLife
 pub mod Laws
+pub mod Worked

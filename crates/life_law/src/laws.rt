@@ -1,5 +1,6 @@
 //! What the definitions say together. The functions do nothing; their contracts are the laws.
 ghost use Rattle.life_law.specs.Laws.{AbortedIdsAreUnrecorded, OkAbortsAreUnrecorded, OkCommitsAreFlushed, UncommittedRecordsAreInDoubt, UndoneIdsAreUnrecorded};
+ghost use Rattle.life_law.specs.Worked.{WorkedLives};
 
 /// A commit that was answered `ok` has its record below the flushed number.
 pub fn ok_commits_are_flushed()
@@ -25,4 +26,9 @@ pub fn ok_aborts_are_unrecorded()
 /// No commit record names an id that an undo closed.
 pub fn undone_ids_are_unrecorded()
     ensures { UndoneIdsAreUnrecorded }
+{}
+
+/// A life in which the log's volume fails at a commit is lawful, and wrong reports of it aren't.
+pub fn worked_lives()
+    ensures { WorkedLives }
 {}

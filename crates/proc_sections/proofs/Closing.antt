@@ -53,7 +53,7 @@ record_for start ends.Commit v u n top subs s m a g split end =
 record_for start ends.Abort v u n top subs s m a g split end = a.clear end.recorded
 
 pub may_add_end : (start : Start) (seen : List (List Entry)) (how : XactEnd) (by : By) (top : ℕ) (subs : List ℕ) (e : Entry) → e ≡ end_entry how by top → open_ids by.session (history seen) ≡ top ∷ subs → is_top (history seen) top ≡ true → RecordFor how seen by.session top subs
-    → ((id : ℕ) → Contains (top ∷ subs) id → IsMarked start seen id (end_state how)) → IsInTurn (at seen proc_lock) by → MayKeep start seen proc_lock e
+    → ((id : ℕ) → Contains (top ∷ subs) id → IsMarked start seen id (end_state how)) → IsInTurn start (at seen proc_lock) by → MayKeep start seen proc_lock e
 may_add_end start seen ends.Commit by top subs e is opened root rec marked turn =
     subst (MayKeep start seen proc_lock) (sym is) (λ lists k knows inside whole. commit_event_law start seen by top subs (may_end start.base (history seen) by top subs ends.Commit opened root) rec marked lists k knows inside whole turn)
 may_add_end start seen ends.Abort by top subs e is opened root rec marked turn =

@@ -87,7 +87,7 @@ closed_aborted start seen n opened id is sp aborted x c e =
     let past : nat_le id x ≡ true = sym (all_has (λ y. is_inside (history seen) id y ≡ nat_le id y) opened x sp.2 (contains_true opened x here)) ∙ contains_true (enclosing (history seen) x) id e in
     aborted x here (at_or_past id x past)
 
-pub may_add_undo : (start : Start) (seen : List (List Entry)) (by : By) (opened : List ℕ) (id : ℕ) (e : Entry) → e ≡ undo_entry by id → open_ids by.session (history seen) ≡ opened → IsSavepointIn (history seen) opened id → HasNoRecord seen by.session → AreRolledBack start seen opened id → IsInTurn (at seen proc_lock) by → MayKeep start seen proc_lock e
+pub may_add_undo : (start : Start) (seen : List (List Entry)) (by : By) (opened : List ℕ) (id : ℕ) (e : Entry) → e ≡ undo_entry by id → open_ids by.session (history seen) ≡ opened → IsSavepointIn (history seen) opened id → HasNoRecord seen by.session → AreRolledBack start seen opened id → IsInTurn start (at seen proc_lock) by → MayKeep start seen proc_lock e
 may_add_undo start seen by opened id e is opened_is sp none aborted turn =
     subst (MayKeep start seen proc_lock) (sym is)
     (λ lists k knows inside whole. undo_event_law start seen by id (subst (λ (l : List ℕ). Contains l id) (sym opened_is) sp.0, sp.1) none (closed_aborted start seen by.session opened id opened_is sp aborted) lists k knows inside whole turn)

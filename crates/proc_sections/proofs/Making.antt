@@ -91,7 +91,7 @@ untold start t u w id e inside none l s past told =
 pub next_later : (start : Start) (n : ℕ) (seen lists : List (List Entry)) (id : ℕ) → Knows session_of n seen lists → id ≤ next_given start.base.next (history seen) → id ≤ next_given start.base.next (history lists)
 next_later start n seen lists id knows le = let up = given_more start.base (history seen) (history lists) (history_grows seen lists knows.grows) in omega arith
 
-pub may_told : (start : Start) (seen : List (List Entry)) (by : By) (id : ℕ) (e : Entry) → e ≡ record { by = by; kind = kinds.Made id } → IsMade start seen id → id ≤ next_given start.base.next (history seen) → IsInTurn (at seen proc_lock) by → MayKeep start seen proc_lock e
+pub may_told : (start : Start) (seen : List (List Entry)) (by : By) (id : ℕ) (e : Entry) → e ≡ record { by = by; kind = kinds.Made id } → IsMade start seen id → id ≤ next_given start.base.next (history seen) → IsInTurn start (at seen proc_lock) by → MayKeep start seen proc_lock e
 may_told start seen by id e is made next turn = subst (MayKeep start seen proc_lock) (sym is) (λ lists k knows inside whole. made_law start seen by id made next lists k knows inside whole turn)
 
 abbrev pub told_entry : By → ℕ → Entry

@@ -54,7 +54,7 @@ pub giving_by : (by : By) (p : Option ℕ) (id : ℕ) → by_of (giving by p id)
 giving_by by None id = refl
 giving_by by (Some q) id = refl
 
-pub may_giving : (start : Start) (seen : List (List Entry)) (by : By) (parent : Option ℕ) (id : ℕ) (e : Entry) → e ≡ giving_entry by parent id → MayCome start.base (history seen) (giving by parent id) → IsMade start seen id × IsTold start (at seen proc_lock) id → HasNoRecord seen by.session → IsInTurn (at seen proc_lock) by → MayKeep start seen proc_lock e
+pub may_giving : (start : Start) (seen : List (List Entry)) (by : By) (parent : Option ℕ) (id : ℕ) (e : Entry) → e ≡ giving_entry by parent id → MayCome start.base (history seen) (giving by parent id) → IsMade start seen id × IsTold start (at seen proc_lock) id → HasNoRecord seen by.session → IsInTurn start (at seen proc_lock) by → MayKeep start seen proc_lock e
 may_giving start seen by None id e is may made none turn = subst (MayKeep start seen proc_lock) (sym is) (λ lists k knows inside whole. id_event_law start seen by id may made.0 made.1 lists k knows inside whole turn)
 may_giving start seen by (Some parent) id e is may made none turn = subst (MayKeep start seen proc_lock) (sym is) (λ lists k knows inside whole. sub_event_law start seen by parent id may made.0 made.1 none lists k knows inside whole turn)
 

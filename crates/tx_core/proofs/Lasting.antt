@@ -165,8 +165,8 @@ asked_lasting = record {
 pub same_lasting : IsLasting NeedsSame
 same_lasting = record { stays = λ lists more lock before e g n. record { later = n.later; alike = n.alike } }
 
-pub turns_lasting : IsLasting NeedsTurn
-turns_lasting = record { stays = λ lists more lock before e g n. n }
+pub turns_lasting : (start : Start) → IsLasting (NeedsTurn start)
+turns_lasting start = record { stays = λ lists more lock before e g n. n }
 
 pub stand_lasting : (start : Start) → IsLasting (NeedsStand start)
 stand_lasting start = record { stays = λ lists more lock before e g n. n }

@@ -1,6 +1,6 @@
 -- One life, entry by entry: a transaction takes an id and commits it, another session's snapshot sees it. The laws carry the
 -- invariant from the empty lists to the end, so what they ask for can be had.
-use Rattle.std.proofs.Common.{Contains, List, [], arith, false, inl, refl, subst, suc, take, true, zero, ℕ, ⊎_elim, ◌==◌, ◌∷◌, ◌≡◌, ◌≤◌}
+use Rattle.std.proofs.Common.{Contains, List, [], arith, false, inl, refl, subst, suc, take, true, zero, ℕ, ⊎_elim, ◌<◌, ◌==◌, ◌∷◌, ◌≡◌, ◌≤◌}
 use Rattle.std.proofs.lemmas.List.Elements.{All-from_recursion}
 use Rattle.std.specs.List.{AllByRecursion, filter}
 use Rattle.tx_events.specs.declared.event.By.{By}
@@ -10,7 +10,6 @@ use Rattle.tx_events.specs.Visible.{is_visible}
 use Rattle.tx_core.specs.declared.entry.Entry.{Entry}
 use Rattle.tx_core.specs.declared.entry.Kind.{Kind}
 use Rattle.tx_core.specs.declared.entry.Start.{Start}
-use Rattle.tx_core.proofs.Asking.{all_has}
 use Rattle.tx_core.proofs.ChangeLaws.{committed_law}
 use Rattle.tx_core.proofs.EventLaws.{commit_event_law, commit_record_law, id_event_law, snap_event_law}
 use Rattle.notes.proofs.Growing.{begins_same}
@@ -111,14 +110,11 @@ none_at (suc (suc (suc (suc (suc (suc (suc (suc (suc (suc lock)))))))))) = refl
 at_first : EngineInvariant start empty
 at_first = opens start empty none_at
 
-no_turn : (b : By) → IsInTurn [] b
-no_turn b = all_has (λ (f : Entry). f.by.command ≤ b.command) [] (λ f k. absurd k)
-
-pub turns : (b : By) (es : List Entry) → AllByRecursion (λ (f : Entry). f.by.command ≤ b.command) (filter (λ (f : Entry). f.by.session == b.session) es) → IsInTurn es b
-turns b es each = All-from_recursion (λ (f : Entry). f.by.command ≤ b.command) (filter (λ (f : Entry). f.by.session == b.session) es) each
+pub turns : (b : By) (es : List Entry) → b.session < start.sessions → AllByRecursion (λ (f : Entry). f.by.command ≤ b.command) (filter (λ (f : Entry). f.by.session == b.session) es) → IsInTurn start es b
+turns b es known each = record { known = known; after = All-from_recursion (λ (f : Entry). f.by.command ≤ b.command) (filter (λ (f : Entry). f.by.session == b.session) es) each }
 
 pub after_id : EngineInvariant start one
-after_id = id_event_law start empty (by 0 2) 3 (record { next = refl; below_stop = omega arith }, refl) (inl refl, inl refl) (inl refl) empty at_first (sees_all 0 empty) (omega arith) refl (turns (by 0 2) [] tt)
+after_id = id_event_law start empty (by 0 2) 3 (record { next = refl; below_stop = omega arith }, refl) (inl refl, inl refl) (inl refl) empty at_first (sees_all 0 empty) (omega arith) refl (turns (by 0 2) [] (omega arith) tt)
 
 -- nothing was asked to be aborted
 quiet_one : (lock : ℕ) → AllByRecursion (λ (e : Entry). asks_in e ≡ []) (at one lock)
@@ -147,10 +143,10 @@ after_record =
     commit_record_law start one (by 0 3) 3 [] refl refl (λ id c. absurd (contains_has [] id c)) (λ id c a. unasked id a)
     (λ top subs a q. nothing_logged (records.Commit top subs) a) (λ id c top subs a d. nothing_logged (records.Abort top subs) a)
     (record { full = omega arith; full_oldest = omega arith; oldest = omega arith; next = omega arith; oldest_multi = omega arith; multi = omega arith; oldest_offset = omega arith; offset = omega arith; none = λ q. refl })
-    refl one after_id (sees_all 0 one) (omega arith) refl (turns (by 0 3) [] tt)
+    refl one after_id (sees_all 0 one) (omega arith) refl (turns (by 0 3) [] (omega arith) tt)
 
 after_flush : EngineInvariant start three
-after_flush = flush_law start two (by 0 3) 2 (omega arith) (omega arith) refl two after_record (sees_all 0 two) (omega arith) refl (turns (by 0 3) (logged ∷ []) (omega arith, tt))
+after_flush = flush_law start two (by 0 3) 2 (omega arith) (omega arith) refl two after_record (sees_all 0 two) (omega arith) refl (turns (by 0 3) (logged ∷ []) (omega arith) (omega arith, tt))
 
 only_three : (P : ℕ → Type 0) → P 3 → (id : ℕ) → Contains (3 ∷ []) id → P id
 only_three P p id c = ⊎_elim (λ (q : 3 ≡ id). subst P q p) (λ z. absurd z) (contains_has (3 ∷ []) id c)
@@ -180,16 +176,16 @@ after_states =
     (only_three (λ id. IsDurable start three 0 id) durable)
     (only_three (λ id. InTree start three 0 id) in_tree)
     (λ id old c j q. absurd (contains_has [] old j))
-    three after_flush (sees_all 0 three) (omega arith) refl (turns (by 0 3) [] tt)
+    three after_flush (sees_all 0 three) (omega arith) refl (turns (by 0 3) [] (omega arith) tt)
 
 after_commit : EngineInvariant start five
 after_commit =
     commit_event_law start four (by 0 3) 3 [] ((0, omega arith, refl), refl) (by 0 3, refl, (0, omega arith, refl))
     (only_three (λ id. IsMarked start four id states.Committed) (by 0 3, (0, omega arith, refl)))
-    four after_states (sees_all 0 four) (omega arith) refl (turns (by 0 3) (given_id ∷ []) (omega arith, tt))
+    four after_states (sees_all 0 four) (omega arith) refl (turns (by 0 3) (given_id ∷ []) (omega arith) (omega arith, tt))
 
 after_snap : EngineInvariant start six
-after_snap = snap_event_law start five (by 1 2) (115 ∷ []) refl five after_commit (sees_all 1 five) (omega arith) refl (turns (by 1 2) (given_id ∷ committed ∷ []) tt)
+after_snap = snap_event_law start five (by 1 2) (115 ∷ []) refl five after_commit (sees_all 1 five) (omega arith) refl (turns (by 1 2) (given_id ∷ committed ∷ []) (omega arith) tt)
 
 -- the snapshot at place 2 sees the id, and one before the commit doesn't
 seen : is_visible [] (take 2 (history six)) 3 ≡ true

@@ -54,17 +54,17 @@ second_rises : HasRisen (faults_told start (xact_lock 0) (at once (xact_lock 0))
 second_rises = grind arith
 
 after_first : EngineInvariant start once
-after_first = fault_law start two (xact_lock 0) (by 0 3) (by 0 3 ∷ []) [] None 1 (nothing_changed two) own_call tt first_rises two after_record (sees_all 0 two) (omega arith) refl (turns (by 0 3) [] tt)
+after_first = fault_law start two (xact_lock 0) (by 0 3) (by 0 3 ∷ []) [] None 1 (nothing_changed two) own_call tt first_rises two after_record (sees_all 0 two) (omega arith) refl (turns (by 0 3) [] (omega arith) tt)
 
 after_second : EngineInvariant start twice
 after_second =
-    fault_law start once (xact_lock 0) (by 0 3) (by 0 3 ∷ []) [] None 2 (nothing_changed once) own_call tt second_rises once after_first (sees_all 0 once) (omega arith) refl (turns (by 0 3) (failed 1 ∷ []) (omega arith, tt))
+    fault_law start once (xact_lock 0) (by 0 3) (by 0 3 ∷ []) [] None 2 (nothing_changed once) own_call tt second_rises once after_first (sees_all 0 once) (omega arith) refl (turns (by 0 3) (failed 1 ∷ []) (omega arith) (omega arith, tt))
 
 log_rises : HasRisen (faults_told start log_lock (at twice log_lock)) 1
 log_rises = grind arith
 
 after_log : EngineInvariant start downed
-after_log = log_fault_law start twice (by 0 3) calls.Flush 1 tt (λ q. refl) log_rises twice after_second (sees_all 0 twice) (omega arith) refl (turns (by 0 3) (logged ∷ []) (omega arith, tt))
+after_log = log_fault_law start twice (by 0 3) calls.Flush 1 tt (λ q. refl) log_rises twice after_second (sees_all 0 twice) (omega arith) refl (turns (by 0 3) (logged ∷ []) (omega arith) (omega arith, tt))
 
 -- a count that was told can't be told again, and the log takes nothing more
 told_once : HasRisen (faults_told start (xact_lock 0) (at twice (xact_lock 0))) 2 → ⊥

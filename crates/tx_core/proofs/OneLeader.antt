@@ -43,7 +43,7 @@ no_records n top subs lists none a = subst (λ (t : List Entry). Has t (record {
 after_request : EngineInvariant start asked
 after_request =
     request_law start one 9 (by 0 3) change (omega arith) (only_mark (GivenOf one) (0, omega arith, refl)) (only_mark (λ m. AskUnrecorded one 0 m.caller.session m.id m.state) (λ q top subs a c. no_records 0 top subs one refl a))
-    one after_id (sees_all 0 one) (omega arith) refl (turns (by 0 3) [] tt)
+    one after_id (sees_all 0 one) (omega arith) refl (turns (by 0 3) [] (omega arith) tt)
 
 asked_abort : AsksAbort asked 0 3
 asked_abort = record { lock = 9; entry = requested; stands = (0, omega arith, refl); own = refl; caller = by 0 3; same = refl; asks = (0, omega arith, refl) }
@@ -67,10 +67,10 @@ led_change = record {
 }
 
 after_leader : EngineInvariant start done
-after_leader = changes_law start asked 3 (by 1 2) change led_change asked after_request (sees_all 1 asked) (omega arith) refl (turns (by 1 2) [] tt)
+after_leader = changes_law start asked 3 (by 1 2) change led_change asked after_request (sees_all 1 asked) (omega arith) refl (turns (by 1 2) [] (omega arith) tt)
 
 after_abort : EngineInvariant start (add done proc_lock (entry (by 0 3) (kinds.Event (events.Abort (by 0 3) 3))))
 after_abort =
     abort_event_law start done (by 0 3) 3 ((0, omega arith, refl), refl) (λ top subs a q. no_records 0 top subs done refl a)
     (λ x c. ⊎_elim (λ (q : 3 ≡ x). subst (λ z. IsMarked start done z states.Aborted) q (by 0 3, (0, omega arith, refl))) (λ z. absurd z) (contains_has (3 ∷ []) x c))
-    done after_leader (sees_all 0 done) (omega arith) refl (turns (by 0 3) (given_id ∷ []) (omega arith, tt))
+    done after_leader (sees_all 0 done) (omega arith) refl (turns (by 0 3) (given_id ∷ []) (omega arith) (omega arith, tt))

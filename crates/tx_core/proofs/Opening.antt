@@ -1,4 +1,4 @@
--- The invariant holds before the first entry, and keeps commits and aborts apart.
+-- The invariant holds before the first entry. Entries are of the life's sessions, and commits and aborts are apart.
 use Rattle.std.proofs.Common.{Contains, List, None, Some, [], ap, subst, sym, ℕ, ⊎_elim, ◌∙◌, ◌∷◌, ◌≡◌}
 use Rattle.std.specs.List.{slice_get}
 use Rattle.tx_events.proofs.GivenIds.{one_session}
@@ -18,7 +18,7 @@ use Rattle.tx_core.specs.EngineInvariant.{EngineInvariant}
 use Rattle.tx_core.specs.Entries.{IsAppended, IsMarked, Mark, asks_in, events_in, history, marks, marks_in}
 use Rattle.tx_core.specs.EventsLegal.{NeedsOwn}
 use Rattle.tx_core.specs.Laws.{Opens}
-use Rattle.tx_core.specs.Consequences.{AskedGiven, CommittedAsked, NeverAborted}
+use Rattle.tx_core.specs.Consequences.{AskedGiven, CommittedAsked, NeverAborted, SessionsKnown}
 use Rattle.notes.specs.Lists.{at}
 use Rattle.tx_core.specs.Lists.{Upheld}
 use Rattle.tx_core.specs.Locks.{log_lock, proc_lock, xact_lock_of}
@@ -61,7 +61,7 @@ opens start lists empty =
         apart = λ session top subs id a c m. no (record { by = a.0; kind = kinds.Append (records.Commit top subs) }) a.2;
         final = nothing_upheld NeedsSame lists empty;
       };
-      order = record { turns = nothing_upheld NeedsTurn lists empty; stand = nothing_upheld (NeedsStand start) lists empty };
+      order = record { turns = nothing_upheld (NeedsTurn start) lists empty; stand = nothing_upheld (NeedsStand start) lists empty };
       log = record { counters = nothing_upheld (NeedsCounters start) lists empty; named = nothing_upheld (NeedsNamed start) lists empty; flushed = nothing_upheld (NeedsFlush start) lists empty };
       cuts = record { each = nothing_upheld (NeedsCut start) lists empty };
       multis = record { each = nothing_upheld (NeedsMulti start) lists empty };
@@ -72,6 +72,9 @@ opens start lists empty =
       down = record { each = nothing_upheld NeedsUp lists empty };
       once = record { each = nothing_upheld NeedsOnce lists empty };
     }
+
+pub sessions_known : SessionsKnown
+sessions_known start lists k lock e c = (upheld_has (NeedsTurn start) lists lock e k.order.turns (contains_has (at lists lock) e c)).1.known
 
 pub asked_given : AskedGiven
 asked_given start lists session id state k a =

@@ -28,6 +28,13 @@ use Rattle.tx_core.specs.declared.entry.Kind.TheVariants as kinds
 use Rattle.tx_events.specs.declared.record.Rec.TheVariants as records
 use Rattle.tx_core.specs.declared.entry.State.TheVariants as states
 
+-- each entry is of one of the life's sessions
+abbrev pub AreOfSessions : Start → List (List Entry) → Type 0
+AreOfSessions start lists = (lock : ℕ) (e : Entry) → Contains (at lists lock) e → e.by.session < start.sessions
+
+abbrev pub SessionsKnown : Type 0
+SessionsKnown = (start : Start) (lists : List (List Entry)) → EngineInvariant start lists → AreOfSessions start lists
+
 -- no id of a commit record was set aborted, for whatever session and by whatever session
 abbrev pub NeverAborted : Type 0
 NeverAborted = (start : Start) (lists : List (List Entry)) (session top : ℕ) (subs : List ℕ) (id : ℕ) →

@@ -54,10 +54,10 @@ Keeps =
     (start : Start) (lists seen : List (List Entry)) (lock : ℕ) (e : Entry) → EngineInvariant start lists → Knows session_of (session_of e) seen lists → lock < length lists → at seen lock ≡ at lists lock → MayAdd start seen lock e
     → EngineInvariant start (add lists lock e)
 
--- the same of one kind, which the command `by` adds in its turn
+-- the same of one kind, which the command `by` of one of the life's sessions adds in its turn
 abbrev pub KindKeeps : Start → List (List Entry) → ℕ → By → Kind → Type 0
 KindKeeps start seen lock by kind =
-    (lists : List (List Entry)) → EngineInvariant start lists → Knows session_of by.session seen lists → lock < length lists → at seen lock ≡ at lists lock → IsInTurn (at seen lock) by
+    (lists : List (List Entry)) → EngineInvariant start lists → Knows session_of by.session seen lists → lock < length lists → at seen lock ≡ at lists lock → IsInTurn start (at seen lock) by
     → EngineInvariant start (add lists lock (record { by = by; kind = kind }))
 
 -- before the first entry

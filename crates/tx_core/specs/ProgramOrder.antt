@@ -1,6 +1,6 @@
--- A session's entries go by its commands, and each stands where some call may add it.
+-- Entries are of the life's sessions and go by their commands, and each stands where some call may add it.
 use Rattle.std.specs.List.{All, AllByRecursion, filter}
-use Rattle.std.specs.Prelude.{Contains, List, map, ℕ, ◌==◌, ◌≡◌, ◌≤◌, ◌⊎◌}
+use Rattle.std.specs.Prelude.{Contains, List, map, ℕ, ◌==◌, ◌≡◌, ◌<◌, ◌≤◌, ◌⊎◌}
 use Rattle.tx_events.specs.declared.event.By.{By}
 use Rattle.tx_events.specs.Places.{first_seen}
 use Rattle.tx_core.specs.declared.entry.Change.{Change}
@@ -12,12 +12,13 @@ use Rattle.tx_core.specs.Locks.{IsPageLock, first_request, log_lock, members_loc
 use Rattle.tx_core.specs.declared.entry.Change.TheVariants as changes
 use Rattle.tx_core.specs.declared.entry.Kind.TheVariants as kinds
 
--- the command comes after the session's commands before it, or is the last of them
-abbrev pub IsInTurn : List Entry → By → Type 0
-IsInTurn before by = All (λ f. f.by.command ≤ by.command) (filter (λ f. f.by.session == by.session) before)
+-- the command is of one of the life's sessions, and comes after the session's commands before it, or is the last of them
+pub record IsInTurn (start : Start) (before : List Entry) (by : By) : Type 0 where
+  pub known : by.session < start.sessions
+  pub after : All (λ f. f.by.command ≤ by.command) (filter (λ f. f.by.session == by.session) before)
 
-abbrev pub NeedsTurn : List (List Entry) → ℕ → List Entry → Entry → Type 0
-NeedsTurn lists lock before e = IsInTurn before e.by
+abbrev pub NeedsTurn : Start → List (List Entry) → ℕ → List Entry → Entry → Type 0
+NeedsTurn start lists lock before e = IsInTurn start before e.by
 
 -- the lock of the page that a change is made on
 abbrev pub change_lock : Start → Change → ℕ
@@ -64,12 +65,13 @@ MayStand start lock by kinds.Look = Unit {0}
 abbrev pub NeedsStand : Start → List (List Entry) → ℕ → List Entry → Entry → Type 0
 NeedsStand start lists lock before e = MayStand start lock e.by e.kind
 
--- In each list the command numbers of a session never fall, and each entry is of a kind that some call adds there.
+-- In each list each entry is of one of the life's sessions, whose command numbers never fall, and of a kind that some
+-- call adds there.
 pub record ProgramOrder (start : Start) (lists : List (List Entry)) : Type 0 where
-  pub turns : Upheld NeedsTurn lists
+  pub turns : Upheld (NeedsTurn start) lists
   pub stand : Upheld (NeedsStand start) lists
 
 -- what a session knows that adds the entry
 pub record MayComeNext (start : Start) (seen : List (List Entry)) (lock : ℕ) (before : List Entry) (e : Entry) : Type 0 where
-  pub turn : NeedsTurn seen lock before e
+  pub turn : NeedsTurn start seen lock before e
   pub stands : NeedsStand start seen lock before e

@@ -1,5 +1,5 @@
 ghost use Rattle.tx_core.specs.Laws.{Keeps, Opens, CommitRecordKeeps, AbortRecordKeeps, MultiRecordKeeps, CheckpointRecordKeeps, TruncateRecordKeeps, FlushKeeps, ForgetKeeps, LogFaultKeeps, IdEventKeeps, SubEventKeeps, UndoEventKeeps, CommitEventKeeps, AbortEventKeeps, SnapEventKeeps, SnapDropKeeps, OldestKeeps, AskKeeps, MadeKeeps, MultiEventKeeps, ChangesKeep, CommittedKeeps, SubCommittedKeeps, AbortedKeeps, ParentKeeps, ZeroKeeps, CutKeeps, SyncKeeps, FaultKeeps, RequestKeeps, LookKeeps, OldestPostKeeps, XminPostKeeps};
-ghost use Rattle.tx_core.specs.Consequences.{NeverAborted, CommittedAsked, AskedGiven, OldestRises, PostsGoOn, MultisAreLegal, NextGiven, ParentsKept, StatesKept, HorizonRises, SnapshotsHold, OpenKept, RaisesTold, FaultsCounted, FlushesRise, CommitsAreFlushed, DownStays, LogIsBehind, CheckpointsTell, RecordsGiven};
+ghost use Rattle.tx_core.specs.Consequences.{SessionsKnown, NeverAborted, CommittedAsked, AskedGiven, OldestRises, PostsGoOn, MultisAreLegal, NextGiven, ParentsKept, StatesKept, HorizonRises, SnapshotsHold, OpenKept, RaisesTold, FaultsCounted, FlushesRise, CommitsAreFlushed, DownStays, LogIsBehind, CheckpointsTell, RecordsGiven};
 ghost use Rattle.tx_core.specs.Held.{OpenRuns, PagesHeld};
 ghost use Rattle.tx_core.specs.Nearness.{MadeNear};
 ghost use Rattle.tx_core.specs.Pages.{PagesShow, ParentsShow, OffsetsShow, MembersShow};
@@ -174,6 +174,11 @@ pub fn request()
 /// A value is only read.
 pub fn look()
     ensures { LookKeeps }
+{}
+
+/// Each entry is of one of the life's sessions.
+pub fn sessions_known()
+    ensures { SessionsKnown }
 {}
 
 /// What a commit record names is never set aborted.

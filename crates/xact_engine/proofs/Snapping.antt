@@ -53,10 +53,10 @@ snap_entry by name = record { by = by; kind = kinds.Event (events.Snap by name) 
 abbrev pub drop_entry : By → List ℕ → Entry
 drop_entry by name = record { by = by; kind = kinds.Event (events.SnapDrop by name) }
 
-pub may_snap : (start : Start) (seen : List (List Entry)) (by : By) (name : List ℕ) (e : Entry) → e ≡ snap_entry by name → is_live start.base.next by.session name (history seen) ≡ false → IsInTurn (at seen proc_lock) by → MayKeep start seen proc_lock e
+pub may_snap : (start : Start) (seen : List (List Entry)) (by : By) (name : List ℕ) (e : Entry) → e ≡ snap_entry by name → is_live start.base.next by.session name (history seen) ≡ false → IsInTurn start (at seen proc_lock) by → MayKeep start seen proc_lock e
 may_snap start seen by name e is free turn = subst (MayKeep start seen proc_lock) (sym is) (λ lists k knows inside whole. snap_event_law start seen by name free lists k knows inside whole turn)
 
-pub may_drop : (start : Start) (seen : List (List Entry)) (by : By) (name : List ℕ) (e : Entry) → e ≡ drop_entry by name → is_live start.base.next by.session name (history seen) ≡ true → IsInTurn (at seen proc_lock) by → MayKeep start seen proc_lock e
+pub may_drop : (start : Start) (seen : List (List Entry)) (by : By) (name : List ℕ) (e : Entry) → e ≡ drop_entry by name → is_live start.base.next by.session name (history seen) ≡ true → IsInTurn start (at seen proc_lock) by → MayKeep start seen proc_lock e
 may_drop start seen by name e is live turn = subst (MayKeep start seen proc_lock) (sym is) (λ lists k knows inside whole. snap_drop_law start seen by name live lists k knows inside whole turn)
 
 -- The session stands with the snapshots that it has after an event that closes no id.

@@ -49,7 +49,7 @@ call_alike start v n s s' m k =
           name = a.name;
           known = a.known;
           wide = a.wide;
-          turns = λ lock. subst (λ (z : ℕ). IsInTurn (at v.seen lock) (by_at n z)) (sym l.commands) (a.turns lock);
+          turns = λ lock. subst (λ (z : ℕ). IsInTurn start (at v.seen lock) (by_at n z)) (sym l.commands) (a.turns lock);
           stands = stands start.base h n s'.levels.commands s'.levels
               (subst (λ (z : (ℕ × List ℕ) × ((List ℕ × ℕ) × List RegisteredSnapshot)). Stood start.base h n z.0.0 z.0.1 z.1.0.0 z.1.0.1 z.1.1)
               (λ j. ((sym l.commands j, sym l.opened j), ((sym l.named j, sym l.unnamed j), sym (ap (λ z. z.items) l.registered) j)))

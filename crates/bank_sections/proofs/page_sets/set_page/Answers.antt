@@ -48,7 +48,7 @@ leave_quiet-requires-clause-may g c =
     c.requires.ready.at.name e.entered e.at e.same.0 e.same.1 (ap (λ (xs : List ℕ). slice_range xs c.args.first c.args.past) c.deref.ensures.value) c.requires.may in
     may_set start u.seen c.args.caller.now.number t.session.levels.commands c.args.bank part c.args.state c.set_note-entry.result.value
     (c.set_note-entry.ensures ∙ ap (λ (b : By). set_entry b c.args.state part) (c.command_of-by.ensures ∙ ap (λ z. by_at z t.session.levels.commands) e.same.1)) c.requires.bank.0 e.entered.kept m.opened m.may
-    (subst (λ z. IsInTurn (at u.seen (xact_lock c.args.bank)) (by_at z t.session.levels.commands)) e.same.1 (e.at.turns (xact_lock c.args.bank)))
+    (subst (λ z. IsInTurn start (at u.seen (xact_lock c.args.bank)) (by_at z t.session.levels.commands)) e.same.1 (e.at.turns (xact_lock c.args.bank)))
 
 pub leave_quiet-requires-clause-stands : goal.leave_quiet-requires-clause-stands
 leave_quiet-requires-clause-stands g c =

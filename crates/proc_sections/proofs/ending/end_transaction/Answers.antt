@@ -38,7 +38,7 @@ leave_proc-requires-clause-may g c =
     (first_top (history (view u.pass).seen) t.levels.open_ids.items t.levels.level_ids.items top subs e.at.stands.nest opened)
     (record_for start c.args.how v (view u.pass) n top subs s c.requires.may (subst (λ (z : ℕ × Session). IsAt start (view u.pass) z.0 z.1) (λ j. (e.same.1 j, e.same.0 j)) e.at) e.entered.learns.knows.grows split c.requires.end)
     (marked_on start v.seen (view u.pass).seen s.levels.open_ids.items top subs c.args.how e.entered.learns.knows.grows split c.requires.end.marked)
-    (subst (λ (b : By). IsInTurn (at (view u.pass).seen proc_lock) b) (λ j. by_at (e.same.1 j) (e.same.0 j).levels.commands) (e.at.turns proc_lock))
+    (subst (λ (b : By). IsInTurn (start_of c.args.hall.now) (at (view u.pass).seen proc_lock) b) (λ j. by_at (e.same.1 j) (e.same.0 j).levels.commands) (e.at.turns proc_lock))
 
 pub leave_proc-requires-clause-stands : goal.leave_proc-requires-clause-stands
 leave_proc-requires-clause-stands g c =

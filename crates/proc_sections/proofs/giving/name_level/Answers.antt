@@ -18,7 +18,7 @@ pub leave_proc-requires-clause-may : goal.leave_proc-requires-clause-may
 leave_proc-requires-clause-may g c =
     let seen = (view c.args.caller.now.pass).seen in
     may_giving (start_of c.args.hall.now) seen c.args.by c.args.parent.now c.args.id c.by-entry.result.value c.by-entry.ensures c.requires.may c.requires.made
-    (subst (λ (b : By). HasNoRecord seen b.session) (sym c.requires.by) (c.requires.at.clear (ap may_be_recorded c.requires.clear))) (subst (λ (b : By). IsInTurn (at seen proc_lock) b) (sym c.requires.by) (c.requires.at.turns proc_lock))
+    (subst (λ (b : By). HasNoRecord seen b.session) (sym c.requires.by) (c.requires.at.clear (ap may_be_recorded c.requires.clear))) (subst (λ (b : By). IsInTurn (start_of c.args.hall.now) (at seen proc_lock) b) (sym c.requires.by) (c.requires.at.turns proc_lock))
 
 pub returns-clause-named : goal.returns-clause-named
 returns-clause-named g c =

@@ -39,7 +39,7 @@ leave_quiet-requires-clause-may g c =
     let by = by_at c.args.caller.now.number c.args.caller.now.session.levels.commands in
     may_told start u.seen by c.args.id c.made_note-entry.result.value (c.made_note-entry.ensures ∙ ap (λ (b : By). told_entry b c.args.id) c.command_of-by.ensures) (made_grows start v.seen u.seen c.args.id e.entered.learns.knows.grows c.requires.made)
     (next_later start v.name v.seen u.seen c.args.id e.entered.learns.knows c.requires.next)
-    (subst (λ (b : By). IsInTurn (at u.seen proc_lock) b) (λ j. by_at (e.same.1 j) (e.same.0 j).levels.commands) (e.at.turns proc_lock))
+    (subst (λ (b : By). IsInTurn (start_of c.args.hall.now) (at u.seen proc_lock) b) (λ j. by_at (e.same.1 j) (e.same.0 j).levels.commands) (e.at.turns proc_lock))
 
 pub leave_quiet-requires-clause-stands : goal.leave_quiet-requires-clause-stands
 leave_quiet-requires-clause-stands g c =

@@ -1,0 +1,17 @@
+-- The commands that the run has.
+use Rattle.std.specs.Prelude.{Bool, true, false}
+use Rattle.tx_model.specs.declared.command.Command.{Command}
+use Rattle.tx_model.specs.declared.command.Command.TheVariants as commands
+
+abbrev pub has_command : Command → Bool
+has_command commands.Begin = true
+has_command commands.Save = true
+has_command commands.Write = true
+has_command commands.Release = true
+has_command commands.Undo = true
+has_command commands.Commit = true
+has_command commands.Abort = true
+has_command (commands.Snap name) = true
+has_command (commands.DropSnap name) = true
+has_command (commands.See name x) = true
+has_command _ = false

@@ -1,0 +1,236 @@
+-- The promises of all sessions make lawful lines, round by round.
+use Rattle.std.proofs.Common.{Bool, IsTrue, List, None, Option, Some, [], ap, append-nil, append_assoc, cond, drop, length, refl, subst, sym, take, true, zero, suc, ℕ, ◌+◌, ◌++◌, ◌<◌, ◌≡◌, ◌∙◌, ◌∷◌}
+use Rattle.std.specs.List.{count_by, filter, flat_map, slice_get}
+use Rattle.std.proofs.Math.Seq.{take-append_seam}
+use Rattle.std.proofs.lemmas.Grind.{flat_map-append}
+use Rattle.std.proofs.lemmas.List.{map-append, take-append-drop}
+use Rattle.std.proofs.lemmas.List.Elements.{All-from_recursion, filter-append}
+use Rattle.std.proofs.lemmas.List.Sums.{length-filter}
+use Rattle.tx_events.specs.declared.event.Event.{Event}
+use Rattle.tx_events.specs.declared.record.Rec.{Rec}
+use Rattle.tx_events.specs.declared.record.Rec.TheVariants as records
+use Rattle.tx_events.specs.declared.record.Counters.{Counters}
+use Rattle.tx_events.specs.declared.refusal.Lock.TheVariants as locks
+use Rattle.tx_events.specs.declared.refusal.Refusal.{Refusal}
+use Rattle.tx_events.specs.declared.refusal.Refusal.TheVariants as refusals
+use Rattle.tx_events.specs.Events.{events_of, given}
+use Rattle.tx_events.specs.Places.{EachPlace}
+use Rattle.tx_events.proofs.ListSteps.{eqb-refl, filter_all, filter_passes}
+use Rattle.tx_events.proofs.Membership.{all_at, all_from, place_has}
+use Rattle.tx_events.proofs.PlaceLemmas.{last_at, slice_get-grows}
+use Rattle.tx_model.specs.declared.command.Command.{Command}
+use Rattle.tx_model.specs.declared.command.Command.TheVariants as commands
+use Rattle.tx_model.specs.declared.reply.Reply.{Reply}
+use Rattle.tx_model.specs.declared.reply.Reply.TheVariants as replies
+use Rattle.tx_model.specs.declared.report.Line.{Line}
+use Rattle.tx_model.specs.declared.report.Step.{Step}
+use Rattle.tx_model.specs.declared.report.Step.TheVariants as steps
+use Rattle.tx_model.specs.CommandEvents.{HasEvents}
+use Rattle.tx_model.specs.LawfulLife.{AreInTurn, StandFirst, lines_in}
+use Rattle.tx_model.specs.Lines.{has_line, is_line_of, span_of, stance}
+use Rattle.tx_model.specs.Replies.{RoundSpan}
+use Rattle.tx_model.specs.Stance.{Stance, after, nothing_yet, stance_from, top_level}
+use Rattle.life_law.specs.Facts.{Facts, has_log_fault}
+use Rattle.life_law.specs.LawfulLife.{AreLawfulSteps, facts_of}
+use Rattle.life_law.specs.Lines.{IsLawfulLine, IsLawfulRound}
+use Rattle.life_law.specs.Pending.{is_recorded, pending, pending_after, pending_from}
+use Rattle.life_law.specs.Refused.{refused_by}
+use Rattle.life_law.specs.Replies.{IsLawfulReply}
+use Rattle.tx_core.specs.declared.entry.Entry.{Entry}
+use Rattle.tx_core.specs.declared.entry.Start.{Start}
+use Rattle.tx_core.specs.Entries.{AreFewIds, history}
+use Rattle.engine_parts.specs.Stages.{pending_in}
+use Rattle.session_promise.specs.Closing.{BeginsNewLog, IsOver, PromisesMakeSteps, steps_of}
+use Rattle.session_promise.specs.Promise.{IsToldWell, recs_of}
+use Rattle.session_promise.specs.Told.{Follow, Told, ToldRound, all_lines, lines_by, lines_of, told_by, told_in, told_of}
+use Rattle.session_promise.proofs.FewIds.{levels_bound_ids}
+use Rattle.session_promise.proofs.LawfulReplies.{facts, lawful_reply}
+use Rattle.session_promise.proofs.Standing.{all_told, follow_split, front_counts, lines_have, stands_first}
+use Rattle.session_promise.proofs.Telling.{lines_in_round, lines_of_both, lines_told}
+
+-- ---- lists
+
+-- a list, cut at a place
+split_at : {X : Type 0} (xs : List X) (p : ℕ) (x : X) → slice_get xs p ≡ Some x → (rest : List X) × (xs ≡ take p xs ++ x ∷ rest)
+split_at [] p x e = absurd cc
+split_at (y ∷ xs) zero x e = let same : y ≡ x = cc in (xs, ap (λ z. z ∷ xs) same)
+split_at (y ∷ xs) (suc p) x e = let r = split_at xs p x e in (r.0, ap (λ t. y ∷ t) r.1)
+
+each_mid : {X : Type 0} (P : List X → X → Type 0) (xs front rest : List X) (x : X) → xs ≡ front ++ x ∷ rest → EachPlace xs P → P front x
+each_mid P xs front rest x split each =
+    let here : slice_get (front ++ x ∷ rest) (length front) ≡ Some x = subst (λ t. slice_get t (length front) ≡ Some x) (append_assoc front (x ∷ []) rest) (slice_get-grows (front ++ x ∷ []) rest x (length front) (last_at front x)) in
+    subst (λ t. P t x) (ap (take (length front)) split ∙ take-append_seam front (x ∷ rest)) (each (length front) x (subst (λ t. slice_get t (length front) ≡ Some x) (sym split) here))
+
+pub filter_twice : {X : Type 0} (p : X → Bool) (xs : List X) → filter p (filter p xs) ≡ filter p xs
+filter_twice p xs = filter_all (λ x. p x ≡ true) p (filter p xs) (λ x e. e) (filter_passes p xs)
+
+-- ---- steps
+
+record IsStepOf (n i : ℕ) (rounds : List ToldRound) (step : Step) : Type 0 where
+  round : ToldRound
+  at : slice_get rounds i ≡ Some round
+  lines : lines_in step ≡ round.lines
+
+step_at : (n i : ℕ) (rounds : List ToldRound) (step : Step) → slice_get (steps_of n rounds) i ≡ Some step → IsStepOf n i rounds step
+step_at n i [] step e = absurd cc
+step_at n zero (r ∷ rounds) step e = let same : steps.Round n r.lines ≡ step = cc in record { round = r; at = refl; lines = ap lines_in (sym same) }
+step_at n (suc i) (r ∷ rounds) step e = let s = step_at (n + 1) i rounds step e in record { round = s.round; at = s.at; lines = s.lines }
+
+pub step_lines : (n : ℕ) (rounds : List ToldRound) → flat_map lines_in (steps_of n rounds) ≡ all_lines rounds
+step_lines n [] = refl
+step_lines n (r ∷ rounds) = ap (λ ls. r.lines ++ ls) (step_lines (n + 1) rounds)
+
+take_lines : (n i : ℕ) (rounds : List ToldRound) → flat_map lines_in (take i (steps_of n rounds)) ≡ all_lines (take i rounds)
+take_lines n zero rounds = refl
+take_lines n (suc i) [] = refl
+take_lines n (suc i) (r ∷ rounds) = ap (λ ls. r.lines ++ ls) (take_lines (n + 1) i rounds)
+
+-- ---- what is pending doesn't go by a checkpoint
+
+pub recorded_same : (number : ℕ) (counters : Counters) (recs : List Rec) (o : Option ℕ) → is_recorded (records.Checkpoint number counters ∷ recs) o ≡ is_recorded recs o
+recorded_same number counters recs None = refl
+recorded_same number counters recs (Some top) = refl
+
+after_logged : (number : ℕ) (counters : Counters) (recs : List Rec) (s : Stance) (old : Option Refusal) (command : Command) (reply : Reply) → pending_after (records.Checkpoint number counters ∷ recs) s old command reply ≡ pending_after recs s old command reply
+after_logged number counters recs s old commands.Commit replies.Done = refl
+after_logged number counters recs s old commands.Commit (replies.Refused refusals.LogFault) = refl
+after_logged number counters recs s old commands.Commit (replies.Refused (refusals.DiskFault (locks.Xact bank))) = refl
+after_logged number counters recs s old commands.Commit (replies.Refused (refusals.LogDown down)) = ap (λ b. cond b (Some refusals.CommitPending) old) (recorded_same number counters recs (top_level s.levels))
+after_logged number counters recs s old commands.Abort replies.Done = refl
+after_logged number counters recs s old commands.Abort (replies.Refused (refusals.DiskFault lock)) = refl
+after_logged number counters recs s old commands.Undo replies.Done = refl
+after_logged number counters recs s old commands.Undo (replies.Refused (refusals.DiskFault lock)) = refl
+after_logged number counters recs s old command reply = refl
+
+pub from_logged : (number : ℕ) (counters : Counters) (recs : List Rec) (h : List Event) (lines : List Line) (s : Stance) (old : Option Refusal) → pending_from (records.Checkpoint number counters ∷ recs) h s old lines ≡ pending_from recs h s old lines
+from_logged number counters recs h [] s old = refl
+from_logged number counters recs h (l ∷ lines) s old =
+    from_logged number counters recs h lines (after s l.by.command l.command l.reply (given (events_of l.by h))) (pending_after (records.Checkpoint number counters ∷ recs) s old l.command l.reply)
+    ∙ ap (λ o. pending_from recs h (after s l.by.command l.command l.reply (given (events_of l.by h))) o lines) (after_logged number counters recs s old l.command l.reply)
+
+-- ---- the lines
+
+module _ (tells : Bool) (start : Start) (lists : List (List Entry)) (rounds : List ToldRound) (begins : BeginsNewLog start) (over : IsOver tells start lists rounds) (few : AreFewIds lists) where
+  abbrev h : List Event
+  h = history lists
+
+  abbrev f : Facts
+  f = facts tells start lists rounds over few
+
+  logged_same : (before : List Line) (n : ℕ) → pending f.recs h before n ≡ pending (recs_of lists) h before n
+  logged_same before n = ap (λ (rs : List Rec). pending (rs ++ recs_of lists) h before n) begins.logged ∙ from_logged 0 start.base (recs_of lists) h (filter (is_line_of n) before) nothing_yet None
+
+  -- the round i, and its line q
+  module _ (i : ℕ) (r : ToldRound) (at_round : slice_get rounds i ≡ Some r) (q : ℕ) (l : Line) (at_line : slice_get r.lines q ≡ Some l) where
+    abbrev n : ℕ
+    n = l.by.session
+
+    abbrev front : List ToldRound
+    front = take i rounds
+
+    abbrev earlier : List Line
+    earlier = take q r.lines
+
+    abbrev before : List Line
+    before = all_lines front ++ earlier
+
+    abbrev t : Told
+    t = record { line = l; span = r.span }
+
+    abbrev rest : List ToldRound
+    rest = (split_at rounds i r at_round).0
+
+    cut : rounds ≡ front ++ r ∷ rest
+    cut = (split_at rounds i r at_round).1
+
+    abbrev behind : List Line
+    behind = (split_at r.lines q l at_line).0
+
+    line_cut : r.lines ≡ earlier ++ l ∷ behind
+    line_cut = (split_at r.lines q l at_line).1
+
+    own_cut : told_of n r ≡ told_in r.span (lines_by n earlier) ++ t ∷ told_in r.span (lines_by n behind)
+    own_cut =
+        ap (told_in r.span) (ap (lines_by n) line_cut ∙ (filter-append (is_line_of n) earlier (l ∷ behind) ∙ ap (λ b. lines_by n earlier ++ cond b (l ∷ lines_by n behind) (lines_by n behind)) (eqb-refl n)))
+        ∙ map-append (λ (x : Line). record { line = x; span = r.span }) (lines_by n earlier) (l ∷ lines_by n behind)
+
+    abbrev mine : List Told
+    mine = told_by n front ++ told_in r.span (lines_by n earlier)
+
+    abbrev more : List Told
+    more = told_in r.span (lines_by n behind) ++ told_by n rest
+
+    told_cut : told_by n rounds ≡ mine ++ t ∷ more
+    told_cut =
+        ap (told_by n) cut
+        ∙ (flat_map-append (told_of n) front (r ∷ rest)
+        ∙ (ap (λ (x : List Told). told_by n front ++ (x ++ told_by n rest)) own_cut
+        ∙ (ap (λ (x : List Told). told_by n front ++ x) (append_assoc (told_in r.span (lines_by n earlier)) (t ∷ told_in r.span (lines_by n behind)) (told_by n rest))
+        ∙ sym (append_assoc (told_by n front) (told_in r.span (lines_by n earlier)) (t ∷ more)))))
+
+    mine_lines : lines_of mine ≡ lines_by n before
+    mine_lines =
+        lines_of_both (told_by n front) (told_in r.span (lines_by n earlier))
+        ∙ ((λ j. lines_told n front j ++ lines_in_round r.span (lines_by n earlier) j)
+        ∙ sym (filter-append (is_line_of n) (all_lines front) earlier))
+
+    low : n < start.sessions
+    low = all_at (λ (l : Line). l.by.session < start.sessions) (all_lines rounds) l over.lines (lines_have rounds r l (place_has rounds i r at_round) (place_has r.lines q l at_line))
+
+    told : IsToldWell tells start lists n (lines_by n before) t
+    told = subst (λ ls. IsToldWell tells start lists n ls t) mine_lines (each_mid (λ before t. IsToldWell tells start lists n (lines_of before) t) (told_by n rounds) mine more t told_cut (over.each n low).1.each)
+
+    stance_same : stance h (lines_by n before) n ≡ stance h before n
+    stance_same = ap (stance_from nothing_yet h) (filter_twice (is_line_of n) before)
+
+    pending_same : pending (recs_of lists) h (lines_by n before) n ≡ pending f.recs h before n
+    pending_same = ap (pending_from (recs_of lists) h nothing_yet None) (filter_twice (is_line_of n) before) ∙ sym (logged_same before n)
+
+    -- the round's place in the history
+    span_is : r.span ≡ span_of h (all_lines front) r.lines
+    span_is =
+        let cut_two : rounds ≡ (front ++ r ∷ []) ++ rest = cut ∙ sym (append_assoc front (r ∷ []) rest) in
+        let s = follow_split 0 (length h) front (r ∷ rest) (subst (λ rs. Follow 0 rs (length h)) cut over.places) in
+        let here = front_counts tells start lists rounds over front (r ∷ rest) s.0 cut s.1 s.2 in
+        let s2 = follow_split 0 (length h) (front ++ r ∷ []) rest (subst (λ rs. Follow 0 rs (length h)) cut_two over.places) in
+        let s3 = follow_split 0 s2.0 front (r ∷ []) s2.1 in
+        let there = front_counts tells start lists rounds over (front ++ r ∷ []) rest s2.0 cut_two s2.1 s2.2 in
+        let lines_are : all_lines (front ++ r ∷ []) ≡ all_lines front ++ r.lines = flat_map-append (λ (x : ToldRound). x.lines) front (r ∷ []) ∙ ap (λ ls. all_lines front ++ ls) (append-nil r.lines) in
+        let from_is : r.span.from ≡ count_by (has_line (all_lines front)) h = s.2.0 ∙ sym here in
+        let to_is : r.span.to ≡ count_by (has_line (all_lines front ++ r.lines)) h = s3.2.2 ∙ (sym there ∙ ap (λ ls. count_by (has_line ls) h) lines_are) in
+        λ j. record { from = from_is j; to = to_is j }
+
+    pub line_lawful : IsLawfulLine f (span_of h (all_lines front) r.lines) before l
+    line_lawful = record {
+      number = told.number ∙ ap (λ k. k + 1) (length-filter (is_line_of n) before);
+      events = subst (λ s. HasEvents l.by s l.command l.reply (events_of l.by h)) stance_same told.events;
+      standing = told.standing ∙ (ap (λ s. refused_by l.command s (pending_in told.stage)) stance_same ∙ ap (refused_by l.command (stance h before n)) (told.pending_is ∙ pending_same));
+      reply = subst (λ (x : RoundSpan × (Stance × Option Refusal)). IsLawfulReply f x.0 l.by x.1.0 x.1.1 l.command l.reply) (λ j. (span_is j, (stance_same j, (told.pending_is ∙ pending_same) j))) (lawful_reply tells start lists rounds over few r.span l.by (stance h (lines_by n before) n) told.stage l.command l.reply told.fits told.answer);
+    }
+
+  each_step : EachPlace (steps_of 1 rounds) (λ before step. IsLawfulRound f (flat_map lines_in before) (lines_in step))
+  each_step i step e =
+      let s = step_at 1 i rounds step e in
+      subst (λ (x : List Line × List Line). IsLawfulRound f x.0 x.1) (λ j. (sym (take_lines 1 i rounds) j, sym s.lines j))
+      (λ q l at. line_lawful i s.round s.at q l at)
+
+  lawful : AreLawfulSteps f (steps_of 1 rounds)
+  lawful = record {
+    each = each_step;
+    no_other = All-from_recursion (λ e. IsTrue (has_line (flat_map lines_in (steps_of 1 rounds)) e)) h (all_from (λ e. IsTrue (has_line (flat_map lines_in (steps_of 1 rounds)) e)) h (λ e k. subst (λ ls. IsTrue (has_line ls e)) (sym (step_lines 1 rounds)) (all_told tells start lists rounds over e k)));
+  }
+
+  in_turn : AreInTurn h (steps_of 1 rounds)
+  in_turn n =
+      let cut : rounds ≡ take n rounds ++ drop n rounds = sym (take-append-drop n rounds) in
+      let s = follow_split 0 (length h) (take n rounds) (drop n rounds) (subst (λ rs. Follow 0 rs (length h)) cut over.places) in
+      subst (StandFirst h) (sym (take_lines 1 n rounds)) (stands_first tells start lists rounds over (take n rounds) (drop n rounds) s.0 cut s.1 s.2)
+
+pub promises_make_steps : PromisesMakeSteps
+promises_make_steps tells start lists rounds r begins over few is =
+    let ids = levels_bound_ids tells start lists rounds over few in
+    let same : facts tells start lists rounds over ids ≡ facts_of tells start.banks r.life (all_lines rounds)
+    = λ j. record { tells = tells; banks = start.banks; base = sym is.base j; committed = sym is.committed j; events = sym is.events j; recs = sym is.recs j; flushed = sym is.flushed j; log_failed = has_log_fault (all_lines rounds) } in (
+      subst (λ (x : Facts × List Step). AreLawfulSteps x.0 x.1) (λ j. (same j, sym is.steps j)) (lawful tells start lists rounds begins over ids),
+      subst (λ (x : List Event × List Step). AreInTurn x.0 x.1) (λ j. (sym is.events j, sym is.steps j)) (in_turn tells start lists rounds begins over ids),
+    )

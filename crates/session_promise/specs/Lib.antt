@@ -1,0 +1,4 @@
+pub mod Told
+pub mod Promise
+pub mod Rounds
+pub mod Closing

@@ -1,0 +1,43 @@
+ghost use Rattle.session_promise.specs.Closing.{LevelsBoundIds, PromisesMakeLife, PromisesMakeLog, PromisesMakeSteps};
+ghost use Rattle.session_promise.specs.Promise.{PromiseBegins, PromiseGoesOn, PromiseStays};
+ghost use Rattle.session_promise.specs.Rounds.{PartsMakeRound};
+
+/// A session that has done nothing promises of no line.
+pub fn promise_begins()
+    ensures { PromiseBegins }
+{}
+
+/// While others go on, a session promises the same.
+pub fn promise_stays()
+    ensures { PromiseStays }
+{}
+
+/// Behind its next command a session promises of one line more.
+pub fn promise_goes_on()
+    ensures { PromiseGoesOn }
+{}
+
+/// The lines of a round's sessions, one session after another, are the round's lines in the report's order.
+pub fn parts_make_round()
+    ensures { PartsMakeRound }
+{}
+
+/// A life gives no more ids than its commands made levels.
+pub fn levels_bound_ids()
+    ensures { LevelsBoundIds }
+{}
+
+/// The promises of all sessions make lawful lines, round by round.
+pub fn promises_make_steps()
+    ensures { PromisesMakeSteps }
+{}
+
+/// And a lawful log.
+pub fn promises_make_log()
+    ensures { PromisesMakeLog }
+{}
+
+/// And a lawful life.
+pub fn promises_make_life()
+    ensures { PromisesMakeLife }
+{}

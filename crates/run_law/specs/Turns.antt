@@ -2,8 +2,8 @@
 use Rattle.std.specs.Prelude.{◌≡◌, ℕ, ◌<◌, ◌≤◌, ◌^◌, ◌⊎◌, Bool, true, false, List, [], ◌∷◌, ◌++◌, Option, Some, None, length}
 use Rattle.std.specs.List.{All, filter_map}
 use Rattle.tx_model.specs.declared.command.Command.{Command}
-use Rattle.tx_model.specs.declared.command.Command.TheVariants as commands
 use Rattle.tx_events.specs.Base.{IsBase}
+pub use Rattle.life_law.specs.Commands.{has_command}
 use Rattle.session_lang.specs.declared.script.Item.{Item}
 use Rattle.session_lang.specs.declared.script.Item.TheVariants as items
 use Rattle.session_lang.specs.declared.script.Script.{Script}
@@ -24,21 +24,7 @@ pub record IsFirstRound (script round rest : List Item) : Type 0 where
   pub commands : All (λ item. is_command item ≡ true) round
   pub split : ((script ≡ round) × (rest ≡ [])) ⊎ ((directive : Item) × (is_command directive ≡ false) × (script ≡ round ++ directive ∷ rest))
 
--- a command that the run has
-abbrev pub has_command : Command → Bool
-has_command commands.Begin = true
-has_command commands.Save = true
-has_command commands.Write = true
-has_command commands.Release = true
-has_command commands.Undo = true
-has_command commands.Commit = true
-has_command commands.Abort = true
-has_command (commands.Snap name) = true
-has_command (commands.DropSnap name) = true
-has_command (commands.See name x) = true
-has_command _ = false
-
--- and a line
+-- an item that the run has
 abbrev pub has_item : Item → Bool
 has_item (items.Run session command) = has_command command
 has_item items.Round = true

@@ -1,9 +1,10 @@
 //! The commands of a session over the lock table.
-ghost use Rattle.std.specs.Prelude.{◌≡◌, true};
+ghost use Rattle.std.specs.Prelude.{◌≡◌, Bool, IsTrue, true};
 ghost use Rattle.tx_model.specs.declared.reply.Reply.TheVariants as replies;
 ghost use Rattle.engine_parts.specs.Answers.{reply_of};
 ghost use Rattle.engine_parts.specs.Calls.{MayRun, Ran, next_command};
-ghost use Rattle.script_rounds.specs.Turns.{has_command};
+ghost use Rattle.run_law.specs.Turns.{has_command};
+ghost use Rattle.life_law.specs.Replies.{is_told_verdict};
 ghost use Rattle.xact_writes.specs.Writes.{reply_to};
 
 use disk_core::{LogDisk, PageDisk};
@@ -69,7 +70,8 @@ pub fn run_command<R: Wait, L: LogDisk, P: PageDisk>(
 ) -> Reply
     requires has { has_command command.now ≡ true }
     requires may { MayRun hall.now banks caller.old }
-    ensures { Ran hall.now (next_command caller.old) command.now result caller.old caller.new }
+    ensures ran { Ran hall.now (next_command caller.old) command.now result caller.old caller.new }
+    ensures verdict { (verdict : Bool) → result ≡ replies.Seen verdict → IsTrue (is_told_verdict command.now) }
 {
     match command {
         Command::Begin => done(begin(hall, caller)),

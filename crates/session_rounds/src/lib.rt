@@ -2,5 +2,10 @@
 #![tactic(auto)]
 
 mod commands;
+mod member;
+mod rest;
+mod round;
 
 pub use commands::run_command;
+pub use rest::{Resting, new_sessions};
+pub use round::run_round;

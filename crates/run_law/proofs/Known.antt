@@ -112,10 +112,10 @@ with_run f k name command = record f { names = names_with f.names k name; items 
 run_reads : (n : ℕ) (f : Front) (k : ℕ) (name : List ℕ) (ws : List (List ℕ)) (c : Command) → Reads n f → is_name name ≡ true → HasRoom ws c → Reads (n + size_of (name ∷ ws)) (with_run f k name c)
 run_reads n f k name ws c r i room = record {
   levels =
-    let before = r.levels in
-    let more = levels_push f.items k c in
-    let line = seven (makes_level c) (length name) (size_of ws) room (has_letter name i) in
-    omega arith;
+      let before = r.levels in
+      let more = levels_push f.items k c in
+      let line = seven (makes_level c) (length name) (size_of ws) room (has_letter name i) in
+      omega arith;
   banks = r.banks;
 }
 

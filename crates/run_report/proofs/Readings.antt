@@ -23,12 +23,12 @@ use Rattle.script_lines.specs.declared.directive.Directive.{Directive}
 use Rattle.script_lines.specs.declared.header.Header.{Header}
 use Rattle.script_lines.specs.declared.kind.Kind.{Kind}
 use Rattle.script_lines.specs.declared.kind.Kind.TheVariants as kinds
-use Rattle.script_lines.specs.Arguments.{multi_in, number_in, one_of, some_number, such}
+use Rattle.script_lines.specs.Arguments.{multi_in, number_in, one_of, such}
 use Rattle.script_lines.specs.Commands.{command_at}
 use Rattle.script_lines.specs.Directives.{directive_at}
 use Rattle.script_lines.specs.Header.{base_of, given_id, given_multi, given_number, header_with, is_base, no_header}
 use Rattle.script_lines.specs.Kinds.{◌>>=◌, fault_if}
-use Rattle.script_lines.specs.LineWords.{is_plain, number_of, words_in}
+use Rattle.script_lines.specs.LineWords.{is_plain, words_in}
 use Rattle.script_lines.proofs.Bases.{passes_base}
 use Rattle.session_lang.specs.declared.parser.reading.Front.{Front}
 use Rattle.session_lang.specs.declared.script.Item.TheVariants as items

@@ -17,7 +17,7 @@ use Rattle.tx_model.specs.CommandEvents.{HasEvents}
 use Rattle.tx_model.specs.Lines.{has_line, stance}
 use Rattle.tx_model.specs.Stance.{lacking}
 use Rattle.tx_events.specs.Places.{EachPlace}
-use Rattle.life_law.specs.Commands.{has_command}
+use Rattle.life_law.specs.Commands.{has_command, makes_level}
 use Rattle.life_law.specs.Pending.{pending}
 use Rattle.life_law.specs.Refused.{by_standing, refused_by}
 use Rattle.life_law.specs.Replies.{is_told_verdict}
@@ -74,12 +74,6 @@ pub record IsToldWell (tells : Bool) (start : Start) (lists : List (List Entry))
   pub answer : MayAnswer tells start lists t.span t.line.by (stance (history lists) before n) stage t.line.command
       t.line.reply
   pub fits : IsAskedFor t.line.command t.line.reply
-
--- whether a command makes a level, which may be given an id
-abbrev pub makes_level : Command → Bool
-makes_level commands.Begin = true
-makes_level commands.Save = true
-makes_level command = false
 
 abbrev pub is_made_level : Line → Bool
 is_made_level l = makes_level l.command

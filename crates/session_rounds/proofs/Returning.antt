@@ -160,26 +160,26 @@ module _ {H L P : Type 0} {l : logs.Ghosts L} {p : disks.Ghosts P} where
         back = nat_cases (λ j. (d : Resting) (x : Member L P l p) → j < length (m ∷ i.gone)
             → IsGone (length start) host' sessions' front d (get_or (m ∷ i.gone) j x))
             (λ d x inside. (
-            apart.1,
-            mine.known,
-            record {
-              session = ap (λ (r : Resting). r.session) (own d) ∙ new_session ∙ session_is;
-              known = subst (Knows session_of n (view m.caller.pass).seen) (sym seen) (record {
-                grows = joined.other.grows;
-                own = λ place. (joined.other.own_seen n (named_own m.caller mine.may)).entries place;
-              });
-            }
+              apart.1,
+              mine.known,
+              record {
+                session = ap (λ (r : Resting). r.session) (own d) ∙ new_session ∙ session_is;
+                known = subst (Knows session_of n (view m.caller.pass).seen) (sym seen) (record {
+                  grows = joined.other.grows;
+                  own = λ place. (joined.other.own_seen n (named_own m.caller mine.may)).entries place;
+                });
+              },
             ))
             (λ j d x inside.
             let g = i.back j d x (omega (arith, inside)) in
             let k = (get_or i.gone j x).caller.number in
             let o = outside k g.0 in (
-            o.0,
-            g.1,
-            record {
-              session = ap (λ (r : Resting). r.session) (other k d o.1) ∙ g.2.session;
-              known = knows_then k (view (get_or i.gone j x).caller.pass).seen (view host.pass).seen (view host'.pass).seen g.2.known (learnt k (i.others k d g.1 g.0).parked.held);
-            }
+              o.0,
+              g.1,
+              record {
+                session = ap (λ (r : Resting). r.session) (other k d o.1) ∙ g.2.session;
+                known = knows_then k (view (get_or i.gone j x).caller.pass).seen (view host.pass).seen (view host'.pass).seen g.2.known (learnt k (i.others k d g.1 g.0).parked.held);
+              },
             ));
         same = λ k d e. other k d (outside k (left_out k e)).1 ∙ i.same k d e;
         idle = λ k inside e.

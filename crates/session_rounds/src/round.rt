@@ -190,8 +190,25 @@ pub fn run_round<R: Threads + Wait + Sync, L: LogDisk + Send + Sync, P: PageDisk
 {
     let mut members = Vec::with_capacity(alloc, plan.sessions.len())?;
     let banks = host.cluster.banks;
-    let_in(hall, alloc, host, plan.sessions.as_slice(), sessions, &mut members);
-    run_members(rt, hall, &mut members, banks, alloc, names, plan, round, threads);
+    let_in(
+        hall,
+        alloc,
+        host,
+        plan.sessions.as_slice(),
+        sessions,
+        &mut members,
+    );
+    run_members(
+        rt,
+        hall,
+        &mut members,
+        banks,
+        alloc,
+        names,
+        plan,
+        round,
+        threads,
+    );
     let put = put_lines(members.as_slice(), text);
     take_back(hall, host, &mut members, sessions);
     members.destroy_empty();

@@ -1,6 +1,7 @@
 use Rattle.std.proofs.Common.{◌∙◌, ap, arith, length}
 use Rattle.std.specs.List.{prefix_len}
 use Rattle.run_law.specs.Turns.{has_item}
+use Rattle.run_law.proofs.Known.{script_known}
 use Rattle.script_source.proofs.RunLemmas.{fault_told, other_told, script_runs}
 use Rattle.script_source.proofs.StreamLemmas.{refused_so}
 use Rattle.script_source.proofs.source.script_of.Goals as goal
@@ -22,3 +23,9 @@ returns-then-place-count-clause-refused c =
     let size = ap length c.items-items.ensures in
     let low = c.if-place-count.true in
     refused_so c.args.bytes.now _ c.refused-then-place-count.result (other_told c.args.bytes.now c.in-Ok.script c.in-Ok-first_other.place c.line_of.result c.in-Ok.ensures.reads place (omega (arith, place, size, low, c.len-count.ensures)) c.line_of.ensures) c.refused-then-place-count.ensures
+
+pub returns-clause-banks : goal.returns-clause-banks
+returns-clause-banks c = (script_known c.args.bytes.now c.in-Ok.script c.in-Ok.ensures.reads).banks
+
+pub returns-clause-few : goal.returns-clause-few
+returns-clause-few c = (script_known c.args.bytes.now c.in-Ok.script c.in-Ok.ensures.reads).few

@@ -1,3 +1,4 @@
 mod Starting
 mod Hosting
 mod Parking
+mod Refusing

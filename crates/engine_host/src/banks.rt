@@ -1,6 +1,9 @@
 //! The banks of a new cluster (`BootStrapCLOG` of `clog.c`, `BootStrapSUBTRANS` of `subtrans.c`).
-ghost use Rattle.std.specs.Prelude.{◌<◌, IfOk};
+ghost use Rattle.std.specs.Prelude.{◌≡◌, ◌⊎◌, ◌<◌, IfErr, IfOk};
+ghost use Rattle.disk_core.specs.Faults.{HasRisen};
 ghost use Rattle.tx_events.specs.Base.{IsBase};
+ghost use Rattle.tx_events.specs.declared.refusal.Lock.TheVariants as locks;
+ghost use Rattle.engine_host.specs.declared.refusal.OpenRefusal.TheVariants as refusals;
 ghost use Rattle.engine_host.specs.Opening.{IsNewSubtrans, IsNewXact};
 
 use crate::cluster::Cluster;
@@ -20,7 +23,9 @@ pub(crate) fn new_xact<P: PageDisk + Drop>(
 ) -> Result<SlruBank<P, XactPages>, (P, OpenRefusal)>
     requires base { IsBase cluster.now.base }
     requires inside { bank < cluster.now.banks }
-    ensures { IfOk result (λ store. IsNewXact cluster.now bank store) }
+    ensures new { IfOk result (λ store. IsNewXact cluster.now bank store) }
+    ensures refused { IfErr result (λ e. (e.1 ≡ refusals.Memory)
+        ⊎ ((e.1 ≡ refusals.DiskFault (locks.Xact bank)) × HasRisen (P.faults disk) (P.faults e.0))) }
 {
     let last = xact_page(cluster.base.next.low());
     let cutoff = xact_page(cluster.base.oldest.low());
@@ -48,7 +53,9 @@ pub(crate) fn new_subtrans<P: PageDisk + Drop>(
 ) -> Result<SlruBank<P, SubtransPages>, (P, OpenRefusal)>
     requires base { IsBase cluster.now.base }
     requires inside { bank < cluster.now.banks }
-    ensures { IfOk result (λ store. IsNewSubtrans cluster.now bank store) }
+    ensures new { IfOk result (λ store. IsNewSubtrans cluster.now bank store) }
+    ensures refused { IfErr result (λ e. (e.1 ≡ refusals.Memory)
+        ⊎ ((e.1 ≡ refusals.DiskFault (locks.Subtrans bank)) × HasRisen (P.faults disk) (P.faults e.0))) }
 {
     let last = subtrans_page(cluster.base.next.low());
     let cutoff = subtrans_page(cluster.base.next.retreat().low());

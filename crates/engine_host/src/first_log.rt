@@ -1,12 +1,17 @@
 //! The log of a new cluster (`BootStrapXLOG` of `src/backend/access/transam/xlog.c`).
-ghost use Rattle.std.specs.Prelude.{IfOk, OnOk};
+ghost use Rattle.std.specs.Prelude.{◌≡◌, ◌≤◌, IfErr, IfOk, OnOk};
+ghost use Rattle.tx_events.specs.Base.{IsBase};
+ghost use Rattle.tx_events.specs.declared.record.Rec.TheVariants as records;
+ghost use Rattle.wal_core.specs.LogViews.{log_disk, log_end};
+ghost use Rattle.wal_records.specs.Spelling.{AreCounters};
 ghost use Rattle.engine_host.specs.Opening.{HasFirst, IsBegunLog, IsNewLog};
+ghost use Rattle.engine_host.specs.Refused.{IsBeginRefusal, IsStartRefusal, OpensEmpty};
 
 use crate::cluster::Cluster;
 use crate::refusal::{OpenRefusal, refusal_of};
 use disk_core::LogDisk;
 use std::alloc::Global;
-use tx_events::Rec;
+use tx_events::{Counters, Rec};
 use wal_core::{Started, WalLog};
 
 // Opens the log of a volume on which nothing was ever written.
@@ -14,7 +19,10 @@ pub(crate) fn start_log<L: LogDisk + Drop>(
     alloc: Global,
     disk: L,
 ) -> Result<WalLog<L>, (L, OpenRefusal)>
-    ensures { IfOk result (λ log. IsNewLog log) }
+    ensures new { IfOk result (λ log. IsNewLog log) }
+    ensures opens { IfOk result (λ log. OpensEmpty L.LogDisk disk (log_end log)) }
+    ensures count { IfOk result (λ log. L.faults disk ≤ L.faults (log_disk log)) }
+    ensures refused { IfErr result (λ e. IsStartRefusal L.LogDisk disk e.0 e.1) }
 {
     match WalLog::start(alloc, disk) {
         Ok(started) => {
@@ -32,21 +40,30 @@ pub(crate) fn start_log<L: LogDisk + Drop>(
     }
 }
 
+// The first checkpoint.
+fn first_record(base: Counters) -> Rec
+    requires { IsBase base }
+    ensures rec { result ≡ records.Checkpoint 0 base }
+    ensures lawful { AreCounters base }
+{
+    Rec::Checkpoint {
+        number: 0,
+        counters: base,
+    }
+}
+
 // Puts the first checkpoint on disk, which has the number 0.
 pub(crate) fn begin_log<L: LogDisk>(
     log: &mut WalLog<L>,
     cluster: &Cluster,
 ) -> Result<(), OpenRefusal>
-    requires { IsNewLog log.old }
-    ensures { OnOk result (IsBegunLog cluster.now log.new) }
+    requires new { IsNewLog log.old }
+    requires base { IsBase cluster.now.base }
+    ensures begun { OnOk result (IsBegunLog cluster.now log.new) }
+    ensures count { L.faults (log_disk log.old) ≤ L.faults (log_disk log.new) }
+    ensures refused { IfErr result (λ refusal. IsBeginRefusal cluster.now log.old log.new refusal) }
 {
-    let first = Rec::Checkpoint {
-        number: 0,
-        counters: cluster.base,
-    };
-    if !log.may_append(&first) {
-        return Err(OpenRefusal::NotNew);
-    }
+    let first = first_record(cluster.base);
     match log.append(&first) {
         Ok(_) => flush_first(log, cluster),
         Err(refusal) => Err(refusal_of(refusal)),
@@ -56,7 +73,9 @@ pub(crate) fn begin_log<L: LogDisk>(
 // Flushes the first checkpoint.
 fn flush_first<L: LogDisk>(log: &mut WalLog<L>, _cluster: &Cluster) -> Result<(), OpenRefusal>
     requires { HasFirst _cluster.now log.old }
-    ensures { OnOk result (IsBegunLog _cluster.now log.new) }
+    ensures begun { OnOk result (IsBegunLog _cluster.now log.new) }
+    ensures count { L.faults (log_disk log.old) ≤ L.faults (log_disk log.new) }
+    ensures refused { IfErr result (λ refusal. IsBeginRefusal _cluster.now log.old log.new refusal) }
 {
     match log.flush() {
         Ok(()) => Ok(()),

@@ -1,11 +1,15 @@
 //! The parts of a new engine.
-ghost use Rattle.std.specs.Prelude.{◌≡◌, ◌+◌, ◌*◌, ◌≤◌, ◌<◌, IfOk, OnOk, length, vec_capacity};
+ghost use Rattle.std.specs.Prelude.{◌≡◌, ◌+◌, ◌*◌, ◌≤◌, ◌<◌, ◌++◌, ℕ, IfErr, IfOk, OnErr, OnOk, drop, length, remove, vec_capacity};
+ghost use Rattle.wal_core.specs.LogViews.{log_disk};
 ghost use Rattle.engine_host.specs.Opening.{AreNew, AreParts, IsBegunLog, IsCluster, new_life};
+ghost use Rattle.engine_host.specs.declared.refusal.OpenRefusal.TheVariants as refusals;
+ghost use Rattle.engine_host.specs.Refused.{HaveDisks, IsBankRefusal, IsRefusal, subtrans_disks, xact_disks};
 
 use crate::banks::{new_subtrans, new_xact};
 use crate::cluster::{Cluster, NewVolumes, Parts};
 use crate::first_log::{begin_log, start_log};
 use crate::refusal::OpenRefusal;
+use crate::volumes::{bank_volumes, put_back};
 use disk_core::{LogDisk, PageDisk};
 use engine_parts::Part;
 use notes::Note;
@@ -14,12 +18,6 @@ use std::alloc::Global;
 use tx_core::Start;
 use wal_core::WalLog;
 
-// Puts a volume back as the first one.
-fn put_back<P: PageDisk + Drop>(volumes: &mut Vec<P>, disk: P) {
-    // There is room, since the volume was taken out of the same vector.
-    let _ = volumes.insert(0, disk);
-}
-
 // The parts behind the locks from 1 on that have no bank.
 fn first_locks<L: LogDisk, P: PageDisk>(
     alloc: Global,
@@ -27,8 +25,10 @@ fn first_locks<L: LogDisk, P: PageDisk>(
 ) -> Result<Vec<Part<L, P>>, OpenRefusal>
     requires { IsCluster cluster.now }
     ensures count { IfOk result (λ locks. length locks.items ≡ 2) }
+    ensures disks { IfOk result (λ locks. HaveDisks 0 locks.items) }
     ensures room { IfOk result (λ locks. 3 + 4 * cluster.now.banks ≤ vec_capacity locks) }
     ensures stand { IfOk result (λ locks. AreNew cluster.now 1 locks.items) }
+    ensures refused { IfErr result (λ refusal. refusal ≡ refusals.Memory) }
 {
     let Ok(table) = ProcTable::new(alloc, cluster.base, cluster.sessions) else {
         return Err(OpenRefusal::Memory);
@@ -54,12 +54,21 @@ fn add_bank<L: LogDisk, P: PageDisk + Drop>(
     requires inside { bank < cluster.now.banks }
     requires volumes { (0 < length xact.old.items) × (0 < length subtrans.old.items) }
     requires count { length locks.old.items ≡ 2 + 4 * bank }
+    requires disks { HaveDisks bank locks.old.items }
     requires room { 3 + 4 * cluster.now.banks ≤ vec_capacity locks.old }
     requires stand { AreNew cluster.now 1 locks.old.items }
-    ensures volumes { OnOk result ((length xact.new.items + 1 ≡ length xact.old.items) × (length subtrans.new.items + 1 ≡ length subtrans.old.items)) }
+    ensures xact { OnOk result (xact.new.items ≡ remove xact.old.items 0) }
+    ensures subtrans { OnOk result (subtrans.new.items ≡ remove subtrans.old.items 0) }
     ensures count { OnOk result (length locks.new.items ≡ 2 + 4 * (bank + 1)) }
+    ensures disks { OnOk result (HaveDisks (bank + 1) locks.new.items) }
     ensures room { OnOk result (vec_capacity locks.new ≡ vec_capacity locks.old) }
     ensures stand { OnOk result (AreNew cluster.now 1 locks.new.items) }
+    ensures capacity { (vec_capacity xact.new ≡ vec_capacity xact.old) × (vec_capacity subtrans.new ≡ vec_capacity subtrans.old) }
+    ensures same { OnErr result (locks.new.items ≡ locks.old.items) }
+    ensures back { OnErr result ((length xact.new.items ≡ length xact.old.items)
+        × (length subtrans.new.items ≡ length subtrans.old.items)) }
+    ensures refused { IfErr result (λ refusal. IsBankRefusal P.PageDisk bank xact.old.items xact.new.items
+        subtrans.old.items subtrans.new.items refusal) }
 {
     let states = match new_xact(alloc, xact.remove(0), cluster, bank) {
         Ok(store) => store,
@@ -94,53 +103,23 @@ fn add_banks<L: LogDisk, P: PageDisk + Drop>(
     requires cluster { IsCluster cluster.now }
     requires volumes { (length xact.old.items ≡ cluster.now.banks) × (length subtrans.old.items ≡ cluster.now.banks) }
     requires count { length locks.old.items ≡ 2 }
+    requires disks { HaveDisks 0 locks.old.items }
     requires room { 3 + 4 * cluster.now.banks ≤ vec_capacity locks.old }
     requires stand { AreNew cluster.now 1 locks.old.items }
     ensures count { OnOk result (length locks.new.items ≡ 2 + 4 * cluster.now.banks) }
     ensures room { OnOk result (vec_capacity locks.new ≡ vec_capacity locks.old) }
     ensures stand { OnOk result (AreNew cluster.now 1 locks.new.items) }
+    ensures capacity { (vec_capacity xact.new ≡ vec_capacity xact.old) × (vec_capacity subtrans.new ≡ vec_capacity subtrans.old) }
+    ensures back { (length (xact_disks locks.new.items) + length xact.new.items ≡ cluster.now.banks)
+        × (length (subtrans_disks locks.new.items) + length subtrans.new.items ≡ cluster.now.banks) }
+    ensures refused { IfErr result (λ refusal. (bank : ℕ) × HaveDisks bank locks.new.items
+        × IsBankRefusal P.PageDisk bank (drop bank xact.old.items) xact.new.items
+        (drop bank subtrans.old.items) subtrans.new.items refusal) }
 {
     for bank in 0..cluster.banks {
         add_bank(alloc, locks, xact, subtrans, cluster, bank)?;
     }
     Ok(())
-}
-
-// Takes the parts apart, the last one first, and puts their volumes back before those that are left.
-fn take_apart<L: LogDisk + Drop, P: PageDisk + Drop>(
-    locks: Vec<Part<L, P>>,
-    xact: Vec<P>,
-    subtrans: Vec<P>,
-) -> (Option<L>, Vec<P>, Vec<P>) {
-    let mut log = None;
-    let mut xact = xact;
-    let mut subtrans = subtrans;
-    let mut locks = locks;
-    while let Some(part) = locks.pop() {
-        match part {
-            Part::Xact(store) => put_back(&mut xact, store.into_disk()),
-            Part::Subtrans(store) => put_back(&mut subtrans, store.into_disk()),
-            Part::Log(found) => log = Some(found.into_disk()),
-            Part::Proc(_table) => {}
-            Part::Vacant => {}
-        }
-    }
-    locks.destroy_empty();
-    (log, xact, subtrans)
-}
-
-/// Takes the parts apart. Gives back the volumes of the log, and of the banks of pg_xact and of pg_subtrans in their
-/// order; one for which there is no memory is dropped. What isn't on them yet is lost.
-pub fn into_volumes<L: LogDisk + Drop, P: PageDisk + Drop>(
-    alloc: Global,
-    parts: Parts<L, P>,
-) -> (Option<L>, Vec<P>, Vec<P>) {
-    let Parts {
-        cluster: _,
-        locks,
-        start: _,
-    } = parts;
-    take_apart(locks, Vec::new(alloc), Vec::new(alloc))
 }
 
 // The volumes of an engine that wasn't opened.
@@ -149,8 +128,14 @@ fn taken_apart<L: LogDisk + Drop, P: PageDisk + Drop>(
     locks: Vec<Part<L, P>>,
     xact: Vec<P>,
     subtrans: Vec<P>,
-) -> NewVolumes<L, P> {
-    let (_, xact, subtrans) = take_apart(locks, xact, subtrans);
+) -> NewVolumes<L, P>
+    requires xact_room { length (xact_disks locks.items) + length xact.items ≤ vec_capacity xact }
+    requires subtrans_room { length (subtrans_disks locks.items) + length subtrans.items ≤ vec_capacity subtrans }
+    ensures log { result.log ≡ log_disk log }
+    ensures xact { result.xact.items ≡ xact_disks locks.items ++ xact.items }
+    ensures subtrans { result.subtrans.items ≡ subtrans_disks locks.items ++ subtrans.items }
+{
+    let (xact, subtrans) = bank_volumes(locks, xact, subtrans);
     NewVolumes {
         log: log.into_disk(),
         xact,
@@ -216,6 +201,7 @@ pub fn open_new<L: LogDisk + Drop, P: PageDisk + Drop>(
     ensures cluster { IfOk result (λ parts. parts.cluster ≡ cluster) }
     ensures parts { IfOk result (λ parts. AreParts parts) }
     ensures start { IfOk result (λ parts. parts.start.value ≡ new_life cluster parts.locks.items) }
+    ensures refused { IfErr result (λ e. IsRefusal L.LogDisk P.PageDisk cluster volumes e.0 e.1) }
 {
     let NewVolumes {
         log,

@@ -1,5 +1,5 @@
 //! The lock table of an engine, and its host.
-ghost use Rattle.std.specs.Prelude.{◌≡◌, ◌↔◌, ◌<◌, ◌≤◌, ℕ, [], ◌∷◌, List, IfOk, IfErr};
+ghost use Rattle.std.specs.Prelude.{◌≡◌, ◌↔◌, ◌<◌, ◌≤◌, ℕ, [], ◌∷◌, List, IfOk, IfErr, ◌+◌, ◌*◌, length};
 ghost use Rattle.hall.specs.Calls.{StandFor, Joined, start_of, view};
 ghost use Rattle.hall.specs.Rule.{Holds};
 ghost use Rattle.tx_core.specs.Entries.{session_of};
@@ -174,6 +174,7 @@ pub fn close<L: LogDisk, P: PageDisk>(hall: Hall<EngineLaw<L, P>>, host: Host<L,
     ensures cluster { result.cluster ≡ host.cluster }
     ensures start { result.start.value ≡ start_of hall }
     ensures kept { EngineInvariant (start_of hall) (view host.pass).seen }
+    ensures count { length result.locks.items ≡ 3 + 4 * host.cluster.banks }
     ensures stand { StandFor PartStands (start_of hall) result.locks.items (view host.pass).seen }
 {
     let Host {

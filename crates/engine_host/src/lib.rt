@@ -8,8 +8,10 @@ mod first_log;
 mod first_parts;
 mod host;
 mod refusal;
+mod volumes;
 
 pub use cluster::{Cluster, NewVolumes, Parts};
-pub use first_parts::{into_volumes, open_new};
+pub use first_parts::open_new;
 pub use host::{Host, admit, close, dismiss, make_table, new_session};
 pub use refusal::OpenRefusal;
+pub use volumes::{TakenApart, take_apart};

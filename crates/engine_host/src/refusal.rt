@@ -1,11 +1,16 @@
 //! Why no engine was opened.
+ghost use Rattle.std.specs.Prelude.{◌≡◌};
+ghost use Rattle.engine_host.specs.Refused.{refusal_by};
+
 use tx_events::Lock;
 use wal_core::LogRefusal;
 
 /// Why an engine wasn't opened over new volumes.
 #[derive(Clone, Copy, Debug, PartialEq, Eq)]
 pub enum OpenRefusal {
-    /// The log's volume has records, or is damaged.
+    /// The log's volume is no lawful log, from the gate at this place on.
+    Damaged { at: u64 },
+    /// The log has records: it is that of an earlier life.
     NotNew,
     /// The log's volume failed.
     LogFault,
@@ -18,9 +23,11 @@ pub enum OpenRefusal {
 }
 
 // What a refusal of the log means here. A log that was just started isn't down.
-pub(crate) fn refusal_of(refusal: LogRefusal) -> OpenRefusal {
+pub(crate) fn refusal_of(refusal: LogRefusal) -> OpenRefusal
+    ensures { result ≡ refusal_by refusal }
+{
     match refusal {
-        LogRefusal::Damaged { .. } => OpenRefusal::NotNew,
+        LogRefusal::Damaged { at } => OpenRefusal::Damaged { at },
         LogRefusal::LogFault | LogRefusal::LogDown { .. } => OpenRefusal::LogFault,
         LogRefusal::Full => OpenRefusal::Full,
         LogRefusal::Memory => OpenRefusal::Memory,

@@ -1,4 +1,4 @@
--- The commands that the run has.
+-- The commands that the run has, and those that make a level.
 use Rattle.std.specs.Prelude.{Bool, true, false}
 use Rattle.tx_model.specs.declared.command.Command.{Command}
 use Rattle.tx_model.specs.declared.command.Command.TheVariants as commands
@@ -15,3 +15,9 @@ has_command (commands.Snap name) = true
 has_command (commands.DropSnap name) = true
 has_command (commands.See name x) = true
 has_command _ = false
+
+-- whether a command makes a level, which may be given an id
+abbrev pub makes_level : Command → Bool
+makes_level commands.Begin = true
+makes_level commands.Save = true
+makes_level command = false

@@ -23,12 +23,12 @@ use Rattle.script_lines.specs.declared.directive.Directive.{Directive}
 use Rattle.script_lines.specs.declared.header.Header.{Header}
 use Rattle.script_lines.specs.declared.kind.Kind.{Kind}
 use Rattle.script_lines.specs.declared.kind.Kind.TheVariants as kinds
-use Rattle.script_lines.specs.Arguments.{multi_in, number_in, one_of, some_number, such}
+use Rattle.script_lines.specs.Arguments.{multi_in, number_in, one_of, such}
 use Rattle.script_lines.specs.Commands.{command_at}
 use Rattle.script_lines.specs.Directives.{directive_at}
 use Rattle.script_lines.specs.Header.{base_of, given_id, given_multi, given_number, header_with, is_base, no_header}
 use Rattle.script_lines.specs.Kinds.{◌>>=◌, fault_if}
-use Rattle.script_lines.specs.LineWords.{is_plain, number_of, words_in}
+use Rattle.script_lines.specs.LineWords.{is_plain, words_in}
 use Rattle.script_lines.proofs.Bases.{passes_base}
 use Rattle.session_lang.specs.declared.parser.reading.Front.{Front}
 use Rattle.session_lang.specs.declared.script.Item.TheVariants as items
@@ -41,33 +41,9 @@ use Rattle.session_lang.specs.Script.{at_line, body_line, command_line, end_head
 use Rattle.session_lang.proofs.Ranges.{read_in_range}
 use Rattle.session_lang.proofs.StepLemmas.{has_read_end, has_read_new, has_read_none, has_read_old}
 use Rattle.report_words.specs.Fits.{AreNames, FitsCounters}
+use Rattle.run_law.proofs.Known.{script_known}
+use Rattle.run_law.proofs.Steps.{behind, both_false, either_holds, no_fault, not_false, of_ok, then_holds, went}
 use Rattle.run_report.proofs.Ids.{full_fits, oldest_fits}
-
--- ---- steps
-
-then_holds : {A B F : Type 0} (P : A → Type 0) (Q : B → Type 0) (r : Result A F) (f : A → Result B F) → IfOk r P → ((x : A) → P x → IfOk (f x) Q) → IfOk (r >>= f) Q
-then_holds P Q (Ok x) f p g = g x p
-then_holds P Q (Err k) f p g = tt
-
-behind : {A B F : Type 0} (Q : B → Type 0) (r : Result A F) (f : A → Result B F) → ((x : A) → IfOk (f x) Q) → IfOk (r >>= f) Q
-behind Q (Ok x) f g = g x
-behind Q (Err k) f g = tt
-
-either_holds : {A F : Type 0} (P : A → Type 0) (b : Bool) (r s : Result A F) → (b ≡ true → IfOk r P) → (b ≡ false → IfOk s P) → IfOk (cond b r s) P
-either_holds P true r s p q = p refl
-either_holds P false r s p q = q refl
-
-no_fault : {F : Type 0} (b : Bool) (k : F) → IfOk (fault_if b k) (λ _. b ≡ false)
-no_fault true k = tt
-no_fault false k = refl
-
-not_false : (b : Bool) → not b ≡ false → b ≡ true
-not_false true e = refl
-not_false false e = absurd (false≢true (sym e))
-
-both_false : (a b : Bool) → (a || b) ≡ false → (a ≡ false) × (b ≡ false)
-both_false true b e = absurd (false≢true (sym e))
-both_false false b e = (refl, e)
 
 above : (m n : ℕ) → nat_le m n ≡ false → n < m
 above m n e = grind (arith, nat_tests)
@@ -75,7 +51,7 @@ above m n e = grind (arith, nat_tests)
 -- ---- counters
 
 abbrev HasFit : Header → Type 0
-HasFit h = IfSome h.multi IsFullMulti × IfSome h.oldest_multi IsFullMulti × IfSome h.banks (λ n. n ≤ 16)
+HasFit h = IfSome h.multi IsFullMulti × IfSome h.oldest_multi IsFullMulti
 
 full_from : (n : ℕ) → nat_le 1 (low_half n) ≡ true → IsFullMulti n
 full_from n e = grind (arith, nat_tests)
@@ -88,27 +64,16 @@ given_full : (o : Option ℕ) (ws : List (List ℕ)) → IfOk (given_multi o ws)
 unfolding given_multi
 given_full o ws = behind IsFullMulti (fault_if (is_some o) kinds.Directive) _ (λ _. behind IsFullMulti (one_of ws) multi_in multi_full)
 
-within : (low high : ℕ) (w : List ℕ) → IfOk (number_in low high w) (λ n. n ≤ high)
-within low high w = behind (λ n. n ≤ high) (some_number (number_of w)) (λ n. cond (nat_le low n && nat_le n high) (Ok n) (Err kinds.Number)) (λ n. either_holds (λ n. n ≤ high) (nat_le low n && nat_le n high) (Ok n) (Err kinds.Number) (λ e. upto n (nat_le low n) e) (λ _. tt))
-  where
-    upto : (n : ℕ) (b : Bool) → (b && nat_le n high) ≡ true → n ≤ high
-    upto n true e = grind (arith, nat_tests)
-    upto n false e = absurd (false≢true e)
-
-given_within : (high : ℕ) (o : Option ℕ) (ws : List (List ℕ)) → IfOk (given_number high o ws) (λ n. n ≤ high)
-unfolding given_number
-given_within high o ws = behind (λ n. n ≤ high) (fault_if (is_some o) kinds.Directive) _ (λ _. behind (λ n. n ≤ high) (one_of ws) (number_in 1 high) (within 1 high))
-
 header_within : (h : Header) (w : List ℕ) (ws : List (List ℕ)) → HasFit h → IfOk (header_with h w ws) HasFit
 unfolding header_with
 header_within h w ws m =
     either_holds HasFit (bytes_eq w (codes ".start")) _ _ (λ _. behind HasFit (given_id h.start ws) (λ n. Ok (record h { start = Some n })) (λ _. m)) (λ _.
     either_holds HasFit (bytes_eq w (codes ".oldest")) _ _ (λ _. behind HasFit (given_id h.oldest ws) (λ n. Ok (record h { oldest = Some n })) (λ _. m)) (λ _.
-    either_holds HasFit (bytes_eq w (codes ".multi")) _ _ (λ _. then_holds IsFullMulti HasFit (given_multi h.multi ws) (λ n. Ok (record h { multi = Some n })) (given_full h.multi ws) (λ _ f. (f, m.1, m.2))) (λ _.
+    either_holds HasFit (bytes_eq w (codes ".multi")) _ _ (λ _. then_holds IsFullMulti HasFit (given_multi h.multi ws) (λ n. Ok (record h { multi = Some n })) (given_full h.multi ws) (λ _ f. (f, m.1))) (λ _.
     either_holds HasFit (bytes_eq w (codes ".offset")) _ _ (λ _. behind HasFit (given_number (2 ^ 62) h.offset ws) (λ n. Ok (record h { offset = Some n })) (λ _. m)) (λ _.
-    either_holds HasFit (bytes_eq w (codes ".oldest-multi")) _ _ (λ _. then_holds IsFullMulti HasFit (given_multi h.oldest_multi ws) (λ n. Ok (record h { oldest_multi = Some n })) (given_full h.oldest_multi ws) (λ _ f. (m.0, f, m.2))) (λ _.
+    either_holds HasFit (bytes_eq w (codes ".oldest-multi")) _ _ (λ _. then_holds IsFullMulti HasFit (given_multi h.oldest_multi ws) (λ n. Ok (record h { oldest_multi = Some n })) (given_full h.oldest_multi ws) (λ _ f. (m.0, f))) (λ _.
     either_holds HasFit (bytes_eq w (codes ".oldest-offset")) _ _ (λ _. behind HasFit (given_number (2 ^ 62) h.oldest_offset ws) (λ n. Ok (record h { oldest_offset = Some n })) (λ _. m)) (λ _.
-    either_holds HasFit (bytes_eq w (codes ".banks")) _ _ (λ _. then_holds (λ n. n ≤ 16) HasFit (given_number 16 h.banks ws) (λ n. Ok (record h { banks = Some n })) (given_within 16 h.banks ws) (λ _ f. (m.0, m.1, f))) (λ _. tt)))))))
+    either_holds HasFit (bytes_eq w (codes ".banks")) _ _ (λ _. behind HasFit (given_number 16 h.banks ws) (λ n. Ok (record h { banks = Some n })) (λ _. m)) (λ _. tt)))))))
 
 or_full : (o : Option ℕ) (n : ℕ) → IfSome o IsFullMulti → IsFullMulti n → IsFullMulti (unwrap_or o n)
 or_full None n f g = g
@@ -164,10 +129,6 @@ placed (v ∷ names) w = step (same_name v w) refl (placed names w)
     step : (b : Bool) → same_name v w ≡ b → IsPlaced names w (place_of names w) → IsPlaced (v ∷ names) w (cond (not b) (1 + place_of names w) 0)
     step true e p = inr (omega arith)
     step false e p = rw one-add (placed_behind v w names e p)
-
-banks_few : (o : Option ℕ) → IfSome o (λ n. n ≤ 16) → unwrap_or o 4 ≤ 16
-banks_few None f = omega arith
-banks_few (Some n) f = f
 
 -- the lines so far, at most so many of them items
 record Goes (n : ℕ) (f : Front) : Type 0 where
@@ -278,7 +239,7 @@ lines_go n most f number (line ∷ lines) l g = then_holds (Goes (suc n)) (Goes 
 
 begins : Goes 0 no_front
 unfolding no_front no_header
-begins = record { counts = []; read = has_read_none [] refl; header = (tt, tt, tt); few = omega arith }
+begins = record { counts = []; read = has_read_none [] refl; header = (tt, tt); few = omega arith }
 
 -- ---- a script
 
@@ -305,8 +266,8 @@ pub record IsRead (s : Script) : Type 0 where
   pub few : length s.items ≤ 2 ^ 25
   pub banks : s.banks ≤ 16
 
-front_read : (n : ℕ) (f : Front) → n ≤ 2 ^ 25 → is_base (base_of f.header) ≡ true → AllByRecursion IsItem f.items → Goes n f → IsRead (script_of f)
-front_read n f l b i g =
+front_read : (n : ℕ) (f : Front) → n ≤ 2 ^ 25 → is_base (base_of f.header) ≡ true → AllByRecursion IsItem f.items → (script_of f).banks ≤ 16 → Goes n f → IsRead (script_of f)
+front_read n f l b i banks g =
     let base = passes_base (base_of f.header) b in
     let one : IsFullMulti 1 = omega arith in
     let read = g.read in
@@ -318,15 +279,8 @@ front_read n f l b i g =
       numbered = read.numbered;
       items = i;
       few = let a = g.few in omega arith;
-      banks = banks_few f.header.banks g.header.2;
+      banks = banks;
     }
-
-went : {A B F : Type 0} (r : Result A F) (f : A → Result B F) (y : B) → (r >>= f) ≡ Ok y → (x : A) × (r ≡ Ok x) × (f x ≡ Ok y)
-went (Ok x) f y e = (x, refl, e)
-went (Err k) f y e = absurd cc
-
-of_ok : {A F : Type 0} (P : A → Type 0) (r : Result A F) (x : A) → IfOk r P → r ≡ Ok x → P x
-of_ok P r x p e = subst (λ r. IfOk r P) e p
 
 pub script_read : (bytes : List ℕ) (s : Script) → read_script bytes ≡ Ok s → IsRead s
 unfolding read_script
@@ -341,4 +295,5 @@ script_read bytes s e =
     let short : length bytes ≤ 16777216 = grind (arith, nat_tests) in
     let goes : Goes (2 ^ 25) f = of_ok (Goes (2 ^ 25)) (read_lines no_front 1 (lines_of bytes)) f (lines_go 0 (2 ^ 25) no_front 1 (lines_of bytes) (omega arith) begins) read.1 in
     let same : script_of f ≡ s = cc in
-    subst IsRead same (front_read (2 ^ 25) f (omega arith) (not_false (is_base (base_of f.header)) none) (read_in_range (lines_of bytes) f read.1) goes)
+    let banks : (script_of f).banks ≤ 16 = subst (λ (t : Script). t.banks ≤ 16) (sym same) (script_known bytes s e).banks.1 in
+    subst IsRead same (front_read (2 ^ 25) f (omega arith) (not_false (is_base (base_of f.header)) none) (read_in_range (lines_of bytes) f read.1) banks goes)

@@ -15,7 +15,8 @@ use Rattle.tx_core.specs.Entries.{event_of, history}
 use Rattle.tx_core.specs.EventsLegal.{NeedsOwn}
 use Rattle.tx_core.specs.Locks.{proc_lock}
 use Rattle.tx_core.proofs.Asking.{own_event, upheld_has}
-use Rattle.session_promise.specs.Closing.{AreOfSessions, LevelsBoundIds}
+use Rattle.tx_core.proofs.Opening.{sessions_known}
+use Rattle.session_promise.specs.Closing.{LevelsBoundIds}
 use Rattle.session_promise.specs.Promise.{is_made_level}
 use Rattle.session_promise.specs.Told.{all_lines, lines_by}
 use Rattle.session_promise.proofs.Summing.{keyed, total_less}
@@ -38,17 +39,17 @@ given_length (e ∷ h) =
     one (Some id) = omega arith
 
 -- each event is of one of the sessions
-pub event_known : (start : Start) (lists : List (List Entry)) → EngineInvariant start lists → AreOfSessions start lists → (e : Event) → Has (history lists) e → (by_of e).session < start.sessions
-event_known start lists k known e h =
+pub event_known : (start : Start) (lists : List (List Entry)) → EngineInvariant start lists → (e : Event) → Has (history lists) e → (by_of e).session < start.sessions
+event_known start lists k e h =
     let from = has_filter_map event_of (at lists proc_lock) e h in
     let mine = own_event lists proc_lock [] from.0 e (upheld_has NeedsOwn lists proc_lock from.0 k.events.own from.1).1 from.2 in
-    subst (λ (b : By). b.session < start.sessions) (sym mine) (known proc_lock from.0 (has_contains (at lists proc_lock) from.0 from.1))
+    subst (λ (b : By). b.session < start.sessions) (sym mine) (sessions_known start lists k proc_lock from.0 (has_contains (at lists proc_lock) from.0 from.1))
 
 pub levels_bound_ids : LevelsBoundIds
 levels_bound_ids tells start lists rounds over few =
     let h : List Event = history lists in
     let lines : List Line = all_lines rounds in
-    let ids = keyed gives (λ (e : Event). (by_of e).session) start.sessions h (all_from (λ e. (by_of e).session < start.sessions) h (event_known start lists over.kept over.known)) in
+    let ids = keyed gives (λ (e : Event). (by_of e).session) start.sessions h (all_from (λ e. (by_of e).session < start.sessions) h (event_known start lists over.kept)) in
     let made = keyed (λ (l : Line). cond (is_made_level l) 1 0) (λ (l : Line). l.by.session) start.sessions lines over.lines in
     let less = total_less (λ k. sum_by gives (filter (λ (e : Event). (by_of e).session == k) h)) (λ k. sum_by (λ (l : Line). cond (is_made_level l) 1 0) (filter (λ (l : Line). l.by.session == k) lines)) start.sessions (λ k low. each k low) in
     let total_given = given_length h in

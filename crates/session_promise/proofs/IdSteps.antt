@@ -4,13 +4,13 @@ use Rattle.std.proofs.lemmas.List.Sums.{sum_by-append, sum_by-cons}
 use Rattle.tx_events.specs.declared.event.By.{By}
 use Rattle.tx_events.specs.declared.event.Event.{Event}
 use Rattle.tx_events.specs.Events.{given}
+use Rattle.life_law.specs.Commands.{makes_level}
 use Rattle.tx_model.specs.declared.command.Command.{Command}
 use Rattle.tx_model.specs.declared.command.Command.TheVariants as commands
 use Rattle.tx_model.specs.declared.reply.Reply.{Reply}
 use Rattle.tx_model.specs.declared.reply.Reply.TheVariants as replies
 use Rattle.tx_model.specs.CommandEvents.{HasEvents, abort_event, commit_event, giving, innermost, level_events, undo_event}
 use Rattle.tx_model.specs.Stance.{Stance, after, filled, lacking, top_level}
-use Rattle.session_promise.specs.Promise.{makes_level}
 
 -- an id's event gives it
 given_giving : (by : By) (parent : Option ℕ) (id : ℕ) (es : List Event) → given (giving by parent id ∷ es) ≡ id ∷ given es

@@ -25,10 +25,10 @@ rounds_told n (turns ∷ commands) [] a = absurd a
 rounds_told n (turns ∷ commands) (r ∷ rounds) a = (refl, a.0, rounds_told (n + 1) commands rounds a.1)
 
 pub promises_make_life : PromisesMakeLife
-promises_make_life tells start lists rounds commands r begins over few aborts asked is gate =
+promises_make_life tells start lists rounds commands r begins over few asked is gate =
     let made = promises_make_steps tells start lists rounds r begins over few is in
     let lines : flat_map lines_in r.steps ≡ all_lines rounds = ap (flat_map lines_in) is.steps ∙ step_lines 1 rounds in
-    let log = promises_make_log tells start lists rounds r.life.end begins over aborts gate in record {
+    let log = promises_make_log tells start lists rounds r.life.end begins over gate in record {
       history = subst (λ (x : Counters × List Event). IsLegal x.0 x.1) (λ j. (sym is.base j, sym is.events j)) over.kept.events.legal;
       told = subst (AreRounds 1 commands) (sym is.steps) (rounds_told 1 commands rounds asked);
       in_turn = made.1;

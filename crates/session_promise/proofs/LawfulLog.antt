@@ -26,10 +26,11 @@ use Rattle.tx_core.specs.Entries.{IsAppended, appended, flushed_to, history, rec
 use Rattle.tx_core.specs.Locks.{log_lock}
 use Rattle.tx_core.specs.RecordsOnce.{OnceIn}
 use Rattle.tx_core.proofs.Flushed.{commits_are_flushed}
+use Rattle.tx_core.proofs.Opening.{sessions_known}
 use Rattle.tx_core.proofs.LogLaws.{flushes_rise}
 use Rattle.tx_core.proofs.Reading.{appended_at, appended_by, appended_is}
 use Rattle.tx_core.proofs.Taking.{get_in_take}
-use Rattle.session_promise.specs.Closing.{AbortOnceIn, AbortRecordsExact, BeginsNewLog, IsOver, PromisesMakeLog}
+use Rattle.session_promise.specs.Closing.{BeginsNewLog, IsOver, PromisesMakeLog}
 use Rattle.session_promise.specs.Promise.{IsEnd, recs_of}
 use Rattle.session_promise.specs.Told.{ToldRound}
 use Rattle.session_promise.proofs.RecordPlaces.{has_rec}
@@ -103,7 +104,7 @@ named base h p t session by subs legal own at_p exact =
 
 -- ---- the log
 
-module _ (tells : Bool) (start : Start) (lists : List (List Entry)) (rounds : List ToldRound) (begins : BeginsNewLog start) (over : IsOver tells start lists rounds) (aborts : AbortRecordsExact lists) where
+module _ (tells : Bool) (start : Start) (lists : List (List Entry)) (rounds : List ToldRound) (begins : BeginsNewLog start) (over : IsOver tells start lists rounds) where
   abbrev h : List Event
   h = history lists
 
@@ -115,7 +116,7 @@ module _ (tells : Bool) (start : Start) (lists : List (List Entry)) (rounds : Li
 
   whole : (session : ℕ) (rec : Rec) → IsEnd rec → IsAppended lists session rec → IsRecordOf h rec
   whole session (records.Commit t subs) is a = let x = over.kept.records.exact session t subs a in record { session = session; root = x.root; ids = x.ids }
-  whole session (records.Abort t subs) is a = aborts.exact session t subs a
+  whole session (records.Abort t subs) is a = let x = over.kept.ends.exact session t subs a in record { session = session; root = x.root; ids = x.ids }
   whole session rec is a = absurd is
 
   each_whole : (rec : Rec) → Contains (recs_of lists) rec → IsRecordOf h rec
@@ -123,7 +124,7 @@ module _ (tells : Bool) (start : Start) (lists : List (List Entry)) (rounds : Li
       let r = has_rec lists rec (contains_has (recs_of lists) rec c) in
       let by : By = r.1.0 in
       let stands : Contains es (record { by = by; kind = kinds.Append rec }) = r.1.2 in
-      let low = over.known log_lock (record { by = by; kind = kinds.Append rec }) stands in
+      let low = sessions_known start lists over.kept log_lock (record { by = by; kind = kinds.Append rec }) stands in
       whole r.0.session rec ((over.each by.session low).1.ends by rec refl stands) r.1
 
   -- an earlier record of the same top is none
@@ -132,19 +133,18 @@ module _ (tells : Bool) (start : Start) (lists : List (List Entry)) (rounds : Li
       clash a b is_a is_b
       (has_contains (take q es) (record { by = ba; kind = kinds.Append a }) (place_has (take q es) p (record { by = ba; kind = kinds.Append a }) (get_in_take q p es (record { by = ba; kind = kinds.Append a }) low at_p)))
       (over.kept.once.each.each log_lock q (record { by = bb; kind = kinds.Append b }) at_q)
-      (aborts.once q (record { by = bb; kind = kinds.Append b }) at_q)
     where
       first : (t : ℕ) (subs : List ℕ) → t ≡ id → Contains (t ∷ subs) id
       first t subs e = has_contains (t ∷ subs) id (inl e)
 
-      clash : (a b : Rec) → ends_top a id → ends_top b id → Contains (take q es) (record { by = ba; kind = kinds.Append a }) → OnceIn (take q es) (kinds.Append b) → AbortOnceIn (take q es) (kinds.Append b) → ⊥
-      clash (records.Commit t subs) (records.Commit u more) e f c once abort = (once id (first u more f)).0 (record { by = ba; top = t; subs = subs; stands = c; among = first t subs e })
-      clash (records.Abort t subs) (records.Commit u more) e f c once abort = (once id (first u more f)).1 (record { by = ba; top = t; subs = subs; stands = c; among = first t subs e })
-      clash (records.Commit t subs) (records.Abort u more) e f c once abort = once id (first u more f) (record { by = ba; top = t; subs = subs; stands = c; among = first t subs e })
-      clash (records.Abort t subs) (records.Abort u more) e f c once abort = abort id (first u more f) (record { by = ba; top = t; subs = subs; stands = c; among = first t subs e })
-      clash (records.Commit t subs) b e f c once abort = absurd f
-      clash (records.Abort t subs) b e f c once abort = absurd f
-      clash a b e f c once abort = absurd e
+      clash : (a b : Rec) → ends_top a id → ends_top b id → Contains (take q es) (record { by = ba; kind = kinds.Append a }) → OnceIn (take q es) (kinds.Append b) → ⊥
+      clash (records.Commit t subs) (records.Commit u more) e f c once = (once id (first u more f)).0 (record { by = ba; top = t; subs = subs; stands = c; among = first t subs e })
+      clash (records.Abort t subs) (records.Commit u more) e f c once = (once id (first u more f)).1 (record { by = ba; top = t; subs = subs; stands = c; among = first t subs e })
+      clash (records.Commit t subs) (records.Abort u more) e f c once = (once id (first u more f)).0 (record { by = ba; top = t; subs = subs; stands = c; among = first t subs e })
+      clash (records.Abort t subs) (records.Abort u more) e f c once = (once id (first u more f)).1 (record { by = ba; top = t; subs = subs; stands = c; among = first t subs e })
+      clash (records.Commit t subs) b e f c once = absurd f
+      clash (records.Abort t subs) b e f c once = absurd f
+      clash a b e f c once = absurd e
 
   once : (i j id : ℕ) (a b : Rec) → slice_get (recs_of lists) i ≡ Some a → slice_get (recs_of lists) j ≡ Some b → ends_top a id → ends_top b id → i ≡ j
   once i j id a b at_i at_j is_a is_b =
@@ -192,4 +192,4 @@ module _ (tells : Bool) (start : Start) (lists : List (List Entry)) (rounds : Li
       }
 
 pub promises_make_log : PromisesMakeLog
-promises_make_log tells start lists rounds end begins over aborts gate = log_of tells start lists rounds begins over aborts end gate
+promises_make_log tells start lists rounds end begins over gate = log_of tells start lists rounds begins over end gate

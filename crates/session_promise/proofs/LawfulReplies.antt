@@ -27,6 +27,7 @@ use Rattle.tx_core.specs.Entries.{AreFewIds, flushed_in, flushed_to, history}
 use Rattle.tx_core.specs.Locks.{IsPageLock, log_lock, number_of}
 use Rattle.tx_core.specs.ProgramOrder.{NeedsStand}
 use Rattle.tx_core.proofs.Asking.{upheld_has}
+use Rattle.tx_core.proofs.Opening.{sessions_known}
 use Rattle.tx_core.proofs.LogLaws.{down_now, down_stays}
 use Rattle.tx_core.proofs.LastNumbers.{number_same}
 use Rattle.engine_parts.specs.declared.session.Stage.{Stage}
@@ -124,7 +125,7 @@ module _ (tells : Bool) (start : Start) (lists : List (List Entry)) (rounds : Li
       let there : Has (at lists log_lock) e = subst (λ (t : List Entry). Has t e) (sym d.split) (has_right d.before (e ∷ d.rest) e (inl refl)) in
       let stands : Contains (at lists log_lock) e = has_contains (at lists log_lock) e there in
       let n : ℕ = d.by.session in
-      let said = (over.each n (over.known log_lock e stands)).1.faults d.by d.asked d.count refl stands in
+      let said = (over.each n (sessions_known start lists over.kept log_lock e stands)).1.faults d.by d.asked d.count refl stands in
       let mine : Has (lines_by n (all_lines rounds)) said.0 = subst (λ ls. Has ls said.0) (lines_told n rounds) (contains_has _ said.0 said.1) in
       any_has (λ (l : Line). is_log_fault l.reply) (all_lines rounds) said.0 (has_filter (is_line_of n) (all_lines rounds) said.0 mine).0 (ap is_log_fault said.3)
 

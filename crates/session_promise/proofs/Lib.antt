@@ -19,3 +19,4 @@ pub mod LawfulSteps
 pub mod LawfulLog
 pub mod Opened
 pub mod LawfulLives
+pub mod Rounding

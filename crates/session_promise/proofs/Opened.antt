@@ -153,7 +153,7 @@ module _ (tells : Bool) (start : Start) (lists : List (List Entry)) (rounds : Li
     other m l = below_not m n (omega arith)
 
     none_open : open_ids n h ≡ []
-    none_open = ap (λ (es : List Event). filter (is_open h) (given es)) (filter_none_on (is_of n) h (λ e k. other (by_of e).session (event_known start lists over.kept over.known e k)))
+    none_open = ap (λ (es : List Event). filter (is_open h) (given es)) (filter_none_on (is_of n) h (λ e k. other (by_of e).session (event_known start lists over.kept e k)))
 
     no_line : filter (is_line_of n) lines ≡ []
     no_line = filter_none_on (is_line_of n) lines (λ l k. other l.by.session (all_at (λ (x : Line). x.by.session < start.sessions) lines l over.lines k))

@@ -58,7 +58,7 @@ own_part : (turns : List (ℕ × Command)) (p : RoundPart) → IsPartOf turns p 
 own_part turns p is = all_from (λ (l : Line). l.by.session ≡ p.session) p.lines (λ l k.
     eqb-true l.by.session p.session (has_filter (λ (t : ℕ × Command). t.0 == p.session) turns (turn_of l) (subst (λ (ts : List (ℕ × Command)). Has ts (turn_of l)) is (map_has turn_of p.lines l k))).1)
 
-own_parts : (turns : List (ℕ × Command)) (parts : List RoundPart) → AllByRecursion (IsPartOf turns) parts → AllByRecursion IsOwnPart parts
+pub own_parts : (turns : List (ℕ × Command)) (parts : List RoundPart) → AllByRecursion (IsPartOf turns) parts → AllByRecursion IsOwnPart parts
 own_parts turns [] a = tt
 own_parts turns (p ∷ parts) a = (own_part turns p a.0, own_parts turns parts a.1)
 

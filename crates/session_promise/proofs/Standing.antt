@@ -120,7 +120,7 @@ module _ (tells : Bool) (start : Start) (lists : List (List Entry)) (rounds : Li
   event_line : (e : Event) → Has h e → IsOfLine e
   event_line e k =
       let n : ℕ = (by_of e).session in
-      let low = event_known start lists over.kept over.known e k in
+      let low = event_known start lists over.kept e k in
       let said = (over.each n low).1.no_other e (has_contains h e k) refl in
       let found = has_any (λ (l : Line). same_by l.by (by_of e)) (lines_by n (all_lines rounds)) (subst (λ ls. has_line ls e ≡ true) (lines_told n rounds) said) in
       let line = has_filter (is_line_of n) (all_lines rounds) found.0 found.1 in

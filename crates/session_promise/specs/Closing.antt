@@ -1,11 +1,10 @@
 -- What the promises of all sessions make of a life that is over.
 use Rattle.engine_parts.specs.Sessions.{MayCall}
 use Rattle.engine_parts.specs.Holds.{Knowledge}
-use Rattle.std.specs.Prelude.{◌≡◌, ℕ, ◌+◌, ◌^◌, ◌<◌, Bool, List, [], ◌∷◌, ◌++◌, Contains, Some, length, slice_get, take}
+use Rattle.std.specs.Prelude.{◌≡◌, ℕ, ◌+◌, ◌^◌, ◌<◌, Bool, List, [], ◌∷◌, ◌++◌, length}
 use Rattle.std.specs.List.{AllByRecursion, count_by}
 use Rattle.notes.specs.Lists.{at}
 use Rattle.tx_events.specs.declared.record.Rec.TheVariants as records
-use Rattle.tx_events.specs.declared.xact_end.XactEnd.TheVariants as ends
 use Rattle.tx_model.specs.declared.command.Command.{Command}
 use Rattle.tx_model.specs.declared.report.LifeReport.{LifeReport}
 use Rattle.tx_model.specs.declared.report.Step.{Step}
@@ -13,15 +12,12 @@ use Rattle.tx_model.specs.declared.report.Step.TheVariants as steps
 use Rattle.tx_model.specs.LawfulLife.{AreInTurn}
 use Rattle.tx_model.specs.Lines.{AreLinesOf}
 use Rattle.life_law.specs.LawfulLife.{AreLawfulSteps, IsLawfulLife, facts_of}
-use Rattle.life_law.specs.LifeLog.{IsLogOf, IsTransaction}
+use Rattle.life_law.specs.LifeLog.{IsLogOf}
 use Rattle.tx_core.specs.declared.entry.Entry.{Entry}
-use Rattle.tx_core.specs.declared.entry.Kind.{Kind}
-use Rattle.tx_core.specs.declared.entry.Kind.TheVariants as kinds
 use Rattle.tx_core.specs.declared.entry.Start.{Start}
 use Rattle.tx_core.specs.EngineInvariant.{EngineInvariant}
-use Rattle.tx_core.specs.Entries.{AreFewIds, IsAppended, flushed_to, history}
+use Rattle.tx_core.specs.Entries.{AreFewIds, flushed_to, history}
 use Rattle.tx_core.specs.Locks.{log_lock}
-use Rattle.tx_core.specs.RecordsOnce.{IsAbortNamed}
 use Rattle.engine_parts.specs.declared.session.Session.{Session}
 use Rattle.session_promise.specs.Promise.{Promise, is_made_level, recs_of}
 use Rattle.session_promise.specs.Told.{Follow, ToldRound, all_lines, told_by}
@@ -37,11 +33,6 @@ AreRoundsOf [] [] = Unit {0}
 AreRoundsOf (turns ∷ commands) (r ∷ rounds) = AreLinesOf turns r.lines × AreRoundsOf commands rounds
 AreRoundsOf commands rounds = ⊥
 
--- each entry is of one of the life's sessions
-abbrev pub AreOfSessions : Start → List (List Entry) → Type 0
-AreOfSessions start lists =
-    (lock : ℕ) (e : Entry) → Contains (at lists lock) e → e.by.session < start.sessions
-
 -- the session may call in these lists, whatever pass it gets
 pub record MayCallIn (start : Start) (lists : List (List Entry)) (n : ℕ) (s : Session) : Type 0 where
   pub pass : Knowledge
@@ -52,7 +43,6 @@ pub record MayCallIn (start : Start) (lists : List (List Entry)) (n : ℕ) (s : 
 -- call there.
 pub record IsOver (tells : Bool) (start : Start) (lists : List (List Entry)) (rounds : List ToldRound) : Type 0 where
   pub kept : EngineInvariant start lists
-  pub known : AreOfSessions start lists
   pub lines : AllByRecursion (λ l. l.by.session < start.sessions) (all_lines rounds)
   pub places : Follow 0 rounds (length (history lists))
   pub each : (n : ℕ) → n < start.sessions → (s : Session) × Promise tells start lists n (told_by n rounds) s × MayCallIn start lists n s
@@ -71,19 +61,6 @@ LevelsBoundIds =
 pub record BeginsNewLog (start : Start) : Type 0 where
   pub from : start.from ≡ 1
   pub logged : start.logged ≡ records.Checkpoint 0 start.base ∷ []
-
--- no abort record before an entry names what it names
-abbrev pub AbortOnceIn : List Entry → Kind → Type 0
-AbortOnceIn before (kinds.Append (records.Abort top subs)) =
-    (id : ℕ) → Contains (top ∷ subs) id → IsAbortNamed before id → ⊥
-AbortOnceIn before kind = Unit {0}
-
--- an abort record names a transaction whole, and no two of them one id
-pub record AbortRecordsExact (lists : List (List Entry)) : Type 0 where
-  pub exact : (session top : ℕ) (subs : List ℕ) → IsAppended lists session (records.Abort top subs)
-      → IsTransaction (history lists) ends.Abort top subs
-  pub once : (p : ℕ) (e : Entry) → slice_get (at lists log_lock) p ≡ Some e
-      → AbortOnceIn (take p (at lists log_lock)) e.kind
 
 -- the report of the life tells these lists and rounds
 pub record IsReportOf (start : Start) (lists : List (List Entry)) (rounds : List ToldRound) (r : LifeReport)
@@ -108,7 +85,7 @@ PromisesMakeSteps =
 abbrev pub PromisesMakeLog : Type 0
 PromisesMakeLog =
     (tells : Bool) (start : Start) (lists : List (List Entry)) (rounds : List ToldRound) (end : ℕ)
-    → BeginsNewLog start → IsOver tells start lists rounds → AbortRecordsExact lists → end < 2 ^ 64
+    → BeginsNewLog start → IsOver tells start lists rounds → end < 2 ^ 64
     → IsLogOf 0 (records.Checkpoint 0 start.base) (history lists) (start.logged ++ recs_of lists)
     (flushed_to start (at lists log_lock)) end
 
@@ -117,6 +94,6 @@ abbrev pub PromisesMakeLife : Type 0
 PromisesMakeLife =
     (tells : Bool) (start : Start) (lists : List (List Entry)) (rounds : List ToldRound)
     (commands : List (List (ℕ × Command))) (r : LifeReport)
-    → BeginsNewLog start → IsOver tells start lists rounds → AreFewLevels rounds → AbortRecordsExact lists
+    → BeginsNewLog start → IsOver tells start lists rounds → AreFewLevels rounds
     → AreRoundsOf commands rounds → IsReportOf start lists rounds r → r.life.end < 2 ^ 64
     → IsLawfulLife tells start.banks commands r

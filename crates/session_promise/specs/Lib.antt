@@ -2,3 +2,4 @@ pub mod Told
 pub mod Promise
 pub mod Rounds
 pub mod Closing
+pub mod SoFar

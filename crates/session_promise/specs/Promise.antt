@@ -1,6 +1,6 @@
 -- What a session promises of its own lines, whatever other sessions do between its critical sections.
-use Rattle.std.specs.Prelude.{◌≡◌, ℕ, ◌+◌, ◌<◌, ◌≤◌, Bool, true, false, List, [], ◌∷◌, ◌++◌, Contains, IsTrue, Some, length, slice_get}
-use Rattle.std.specs.List.{AllByRecursion, count_by}
+use Rattle.std.specs.Prelude.{◌≡◌, ℕ, ◌+◌, ◌<◌, ◌≤◌, Bool, List, [], ◌∷◌, ◌++◌, Contains, IsTrue, Some, length, slice_get}
+use Rattle.std.specs.List.{count_by}
 use Rattle.notes.specs.Lists.{Knows, at, own}
 use Rattle.tx_events.specs.declared.event.By.{By}
 use Rattle.tx_events.specs.declared.event.Event.{Event}
@@ -9,7 +9,6 @@ use Rattle.tx_events.specs.declared.record.Rec.TheVariants as records
 use Rattle.tx_events.specs.declared.refusal.Refusal.TheVariants as refusals
 use Rattle.tx_events.specs.Events.{by_of, events_of, given_to}
 use Rattle.tx_model.specs.declared.command.Command.{Command}
-use Rattle.tx_model.specs.declared.command.Command.TheVariants as commands
 use Rattle.tx_model.specs.declared.reply.Reply.{Reply}
 use Rattle.tx_model.specs.declared.reply.Reply.TheVariants as replies
 use Rattle.tx_model.specs.declared.report.Line.{Line}
@@ -17,12 +16,11 @@ use Rattle.tx_model.specs.CommandEvents.{HasEvents}
 use Rattle.tx_model.specs.Lines.{has_line, stance}
 use Rattle.tx_model.specs.Stance.{lacking}
 use Rattle.tx_events.specs.Places.{EachPlace}
-use Rattle.life_law.specs.Commands.{has_command}
+use Rattle.life_law.specs.Commands.{has_command, makes_level}
 use Rattle.life_law.specs.Pending.{pending}
 use Rattle.life_law.specs.Refused.{by_standing, refused_by}
 use Rattle.life_law.specs.Replies.{is_told_verdict}
 use Rattle.tx_core.specs.declared.entry.Entry.{Entry}
-use Rattle.tx_core.specs.declared.entry.Kind.{Kind}
 use Rattle.tx_core.specs.declared.entry.Kind.TheVariants as kinds
 use Rattle.tx_core.specs.declared.entry.LogCall.{LogCall}
 use Rattle.tx_core.specs.declared.entry.Start.{Start}
@@ -75,12 +73,6 @@ pub record IsToldWell (tells : Bool) (start : Start) (lists : List (List Entry))
   pub answer : MayAnswer tells start lists t.span t.line.by (stance (history lists) before n) stage t.line.command
       t.line.reply
   pub fits : IsAskedFor t.line.command t.line.reply
-
--- whether a command makes a level, which may be given an id
-abbrev pub makes_level : Command → Bool
-makes_level commands.Begin = true
-makes_level commands.Save = true
-makes_level command = false
 
 abbrev pub is_made_level : Line → Bool
 is_made_level l = makes_level l.command

@@ -1,6 +1,7 @@
 ghost use Rattle.session_promise.specs.Closing.{LevelsBoundIds, PromisesMakeLife, PromisesMakeLog, PromisesMakeSteps};
 ghost use Rattle.session_promise.specs.Promise.{PromiseBegins, PromiseGoesOn, PromiseStays};
 ghost use Rattle.session_promise.specs.Rounds.{PartsMakeRound};
+ghost use Rattle.session_promise.specs.SoFar.{PromiseThroughRound, SoFarBegins, SoFarEnds, SoFarGoesOn};
 
 /// A session that has done nothing promises of no line.
 pub fn promise_begins()
@@ -15,6 +16,26 @@ pub fn promise_stays()
 /// Behind its next command a session promises of one line more.
 pub fn promise_goes_on()
     ensures { PromiseGoesOn }
+{}
+
+/// Behind a round a session promises of its lines there.
+pub fn promise_through_round()
+    ensures { PromiseThroughRound }
+{}
+
+/// Before the first round all sessions promise of no line.
+pub fn so_far_begins()
+    ensures { SoFarBegins }
+{}
+
+/// Behind a round all sessions promise of one round more.
+pub fn so_far_goes_on()
+    ensures { SoFarGoesOn }
+{}
+
+/// Behind the last round the life may be over.
+pub fn so_far_ends()
+    ensures { SoFarEnds }
 {}
 
 /// The lines of a round's sessions, one session after another, are the round's lines in the report's order.

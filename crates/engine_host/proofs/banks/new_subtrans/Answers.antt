@@ -3,8 +3,8 @@ use Rattle.slru_bank.specs.Calls.{cutoff_of, faults_of, last_page, pages_of}
 use Rattle.engine_host.proofs.Starting.{subtrans_begins}
 use Rattle.engine_host.proofs.banks.new_subtrans.Goals as goal
 
-pub returns-in-Ok-clear_all : goal.returns-in-Ok-clear_all
-returns-in-Ok-clear_all g c counts reached =
+pub returns-in-Ok-clear_all-clause-new : goal.returns-in-Ok-clear_all-clause-new
+returns-in-Ok-clear_all-clause-new g c counts reached =
     let store = c.clear_all.new.self in
     let cleared = c.in-Ok-clear_all.ensures in
     subtrans_begins c.args.cluster.now c.args.bank (faults_of store) (last_page store) (cutoff_of store) g.P.PageDisk.tells (pages_of store) counts c.requires.inside reached

@@ -4,8 +4,8 @@ use Rattle.wal_core.specs.LogViews.{log_counters, log_disk, log_down, log_first,
 use Rattle.engine_host.proofs.Starting.{log_begins}
 use Rattle.engine_host.proofs.first_log.flush_first.Goals as goal
 
-pub returns-in-Ok : goal.returns-in-Ok
-returns-in-Ok g c counts reached =
+pub returns-in-Ok-clause-begun : goal.returns-in-Ok-clause-begun
+returns-in-Ok-clause-begun g c counts reached =
     let log = c.flush.new.self in
     let disk = g.L.LogDisk in
     let new = c.in-Ok.ensures in

@@ -1,0 +1,259 @@
+-- Why no engine was opened, and what its volumes are then.
+use Rattle.std.proofs.Common.{ℕ, zero, suc, ◌≡◌, ◌≢◌, ◌⊎◌, ◌+◌, ◌<◌, ◌≤◌, ◌++◌, ◌∷◌, [], ◌∙◌, ⊎_elim, Bool, IsNone, IsSome, IsTrue, List, None, Ok, Err, Option, Some, ap, append-nil, append_assoc, arith, drop, false, length, length-append, refl, remove, subst, sym, true}
+use Rattle.std.proofs.lemmas.List.Elements.{filter_map-append}
+use Rattle.std.specs.List.{cons_option, filter_map, slice_get, slice_index_or}
+use Rattle.disk_core.specs.Faults.{HasRisen}
+use Rattle.disk_core.specs.Volume.{Volume}
+use Rattle.disk_core.specs.declared.log_disk.LogDisk as logs
+use Rattle.disk_core.specs.declared.page_disk.PageDisk as disks
+use Rattle.tx_core.proofs.FaultCounts.{risen_past}
+use Rattle.tx_events.specs.declared.record.Counters.{Counters}
+use Rattle.tx_events.specs.declared.record.Rec.{Rec}
+use Rattle.tx_events.specs.declared.record.Rec.TheVariants as records
+use Rattle.tx_events.specs.declared.refusal.Lock.TheVariants as locks
+use Rattle.wal_core.specs.declared.refusal.LogRefusal.{LogRefusal}
+use Rattle.wal_core.specs.declared.refusal.LogRefusal.TheVariants as log_refusals
+use Rattle.wal_core.specs.declared.wal_log.WalLog.{WalLog}
+use Rattle.wal_core.specs.Log.{IsFull, bytes_of, history_in, history_on}
+use Rattle.wal_core.specs.LogContents.{history_with}
+use Rattle.wal_core.specs.LogViews.{log_disk, log_down, log_end, log_pending, log_recs}
+use Rattle.wal_core.specs.Opening.{opened}
+use Rattle.wal_records.specs.Spelling.{rec_bytes}
+use Rattle.proc_table.specs.Table.{Table}
+use Rattle.tx_core.specs.declared.entry.Entry.{Entry}
+use Rattle.tx_core.specs.declared.entry.Start.{Start}
+use Rattle.engine_parts.specs.Parts.{PartStands}
+use Rattle.engine_parts.specs.declared.part.Part.{Part}
+use Rattle.engine_parts.specs.declared.part.Part.TheVariants as parts
+use Rattle.engine_host.specs.declared.cluster.Cluster.{Cluster}
+use Rattle.engine_host.specs.declared.cluster.NewVolumes.{NewVolumes}
+use Rattle.engine_host.specs.declared.refusal.OpenRefusal.{OpenRefusal}
+use Rattle.engine_host.specs.declared.refusal.OpenRefusal.TheVariants as refusals
+use Rattle.engine_host.specs.Refused.{AreInPlace, HasFailedAt, HaveDisks, IsBankRefusal, IsBeginRefusal, IsRefusal, IsStartRefusal, OpensEmpty, refusal_by, subtrans_disk, subtrans_disks, xact_disk, xact_disks}
+
+-- ---- what was popped, or is put at the end
+
+module _ {X Y : Type 0} (f : X → Option Y) where
+  pub with_one : (old new : List X) (x : X) (y : Y) → old ≡ new ++ x ∷ [] → f x ≡ Some y
+      → filter_map f old ≡ filter_map f new ++ y ∷ []
+  with_one old new x y e is =
+      ap (filter_map f) e ∙ (filter_map-append f new (x ∷ []) ∙ ap (λ (o : Option Y). filter_map f new ++ cons_option o []) is)
+
+  pub with_none : (old new : List X) (x : X) → old ≡ new ++ x ∷ [] → f x ≡ None → filter_map f old ≡ filter_map f new
+  with_none old new x e is =
+      ap (filter_map f) e
+      ∙ (filter_map-append f new (x ∷ []) ∙ (ap (λ (o : Option Y). filter_map f new ++ cons_option o []) is ∙ append-nil (filter_map f new)))
+
+  -- the one that was popped stands before the rest now
+  pub moved : (old new : List X) (x : X) (y : Y) (rest rest' whole : List Y) → old ≡ new ++ x ∷ [] → f x ≡ Some y → rest' ≡ y ∷ rest
+      → filter_map f old ++ rest ≡ whole → filter_map f new ++ rest' ≡ whole
+  moved old new x y rest rest' whole e is put all =
+      ap (λ (l : List Y). filter_map f new ++ l) put
+      ∙ (sym (append_assoc (filter_map f new) (y ∷ []) rest) ∙ (sym (ap (λ (l : List Y). l ++ rest) (with_one old new x y e is)) ∙ all))
+
+  pub passed : (old new : List X) (x : X) (rest whole : List Y) → old ≡ new ++ x ∷ [] → f x ≡ None
+      → filter_map f old ++ rest ≡ whole → filter_map f new ++ rest ≡ whole
+  passed old new x rest whole e is all = sym (ap (λ (l : List Y). l ++ rest) (with_none old new x e is)) ∙ all
+
+  pub moved_length : (old new : List X) (x : X) (y : Y) → old ≡ new ++ x ∷ [] → f x ≡ Some y
+      → length (filter_map f old) ≡ length (filter_map f new) + 1
+  moved_length old new x y e is = ap length (with_one old new x y e is) ∙ length-append (filter_map f new) (y ∷ [])
+
+  pub passed_length : (old new : List X) (x : X) → old ≡ new ++ x ∷ [] → f x ≡ None
+      → length (filter_map f old) ≡ length (filter_map f new)
+  passed_length old new x e is = ap length (with_none old new x e is)
+
+  few_step : (x : X) (xs : List X) (o : Option Y) → f x ≡ o → length (filter_map f xs) ≤ length xs
+      → length (cons_option o (filter_map f xs)) ≤ suc (length xs)
+  few_step x xs None is l = omega arith
+  few_step x xs (Some y) is l = omega arith
+
+  pub no_more : (xs : List X) → length (filter_map f xs) ≤ length xs
+  no_more [] = omega arith
+  no_more (x ∷ xs) = few_step x xs (f x) refl (no_more xs)
+
+-- ---- places
+
+pub first_is : {X : Type 0} (xs : List X) (x : X) → 0 < length xs → x ≡ slice_index_or xs 0 x → slice_get xs 0 ≡ Some x
+first_is [] x l e = absurd (omega arith)
+first_is {X} (y ∷ xs) x l e = ap (λ (z : X). Some z) (sym e)
+
+pub second_is : {X : Type 0} (xs ys : List X) (x : X) → 2 ≤ length xs → ys ≡ remove xs 0 → x ≡ slice_index_or ys 0 x → slice_get xs 1 ≡ Some x
+second_is [] ys x l e is = absurd (omega arith)
+second_is (y ∷ []) ys x l e is = absurd (omega arith)
+second_is {X} (y ∷ z ∷ xs) ys x l e is = ap (λ (v : X). Some v) (sym (is ∙ ap (λ (l : List X). slice_index_or l 0 x) e))
+
+pub no_longer : {X : Type 0} (xs ys : List X) → ys ≡ remove xs 0 → length ys ≤ length xs
+no_longer [] ys e = omega (arith, ap length e)
+no_longer (x ∷ xs) ys e = omega (arith, ap length e)
+
+drop_get : {X : Type 0} (n : ℕ) (xs : List X) (x : X) → slice_get (drop n xs) 0 ≡ Some x → slice_get xs n ≡ Some x
+drop_get zero xs x e = e
+drop_get (suc n) [] x e = e
+drop_get (suc n) (y ∷ xs) x e = drop_get n xs x e
+
+past_get : {X : Type 0} (xs ys : List X) → slice_get (xs ++ ys) (length xs) ≡ slice_get ys 0
+past_get [] ys = refl
+past_get (x ∷ xs) ys = past_get xs ys
+
+pub drop_next : {X : Type 0} (n : ℕ) (xs : List X) → remove (drop n xs) 0 ≡ drop (suc n) xs
+drop_next zero [] = refl
+drop_next zero (x ∷ xs) = refl
+drop_next (suc n) [] = refl
+drop_next (suc n) (x ∷ xs) = drop_next n xs
+
+-- ---- the log
+
+pub old_history : (v : Volume) (first gate : ℕ) (recs : List Rec) (counters : Option Counters) (b : Bool)
+    → opened v ≡ Ok (record { history = history_with first recs counters; gate = gate })
+    → ((IsTrue b → IsNone counters) × (IsNone counters → IsTrue b)) → b ≡ false → IsSome (history_on v)
+old_history v first gate recs None b e new old = let z : false ≡ true = sym old ∙ new.1 refl in absurd cc
+old_history v first gate recs (Some c) b e new old = subst IsSome (sym (ap history_in e)) refl
+
+pub new_history : (v : Volume) (first gate : ℕ) (recs : List Rec) (counters : Option Counters) (b : Bool)
+    → opened v ≡ Ok (record { history = history_with first recs counters; gate = gate })
+    → ((IsTrue b → IsNone counters) × (IsNone counters → IsTrue b)) → b ≡ true
+    → opened v ≡ Ok (record { history = None; gate = gate })
+new_history v first gate recs None b e new is = e
+new_history v first gate recs (Some c) b e new is = let none : IsNone (Some c) = new.0 is in absurd cc
+
+pub start_refused : {D : Type 0} (g : logs.Ghosts D) (old new : D) (r : LogRefusal) (told : OpenRefusal) → told ≡ refusal_by r
+    → (IsTrue g.tells → (at : ℕ) → r ≡ log_refusals.Damaged at → opened (g.reads old) ≡ Err at)
+    → (r ≡ log_refusals.LogFault → HasRisen (g.faults old) (g.faults new))
+    → (r ≢ log_refusals.Full) × ((at : ℕ) → r ≢ log_refusals.LogDown at) → IsStartRefusal g old new told
+start_refused g old new (log_refusals.Damaged at) told is damaged fault others = subst (IsStartRefusal g old new) (sym is) (λ t. damaged t at refl)
+start_refused g old new log_refusals.LogFault told is damaged fault others = subst (IsStartRefusal g old new) (sym is) (fault refl)
+start_refused g old new (log_refusals.LogDown at) told is damaged fault others = absurd (others.1 at refl)
+start_refused g old new log_refusals.Full told is damaged fault others = absurd (others.0 refl)
+start_refused g old new log_refusals.Memory told is damaged fault others = subst (IsStartRefusal g old new) (sym is) tt
+
+drop_none : {X : Type 0} (n : ℕ) → drop {A = X} n [] ≡ []
+drop_none zero = refl
+drop_none (suc n) = refl
+
+pub begin_refused : {D : Type 0} {g : logs.Ghosts D} (c : Cluster) (old new : WalLog D g) (rec : Rec) (r : LogRefusal) (told : OpenRefusal)
+    → told ≡ refusal_by r → rec ≡ records.Checkpoint 0 c.base → log_recs old ≡ [] → log_down old ≡ None
+    → ((at : ℕ) → r ≡ log_refusals.LogDown at → log_down old ≡ Some at)
+    → (r ≡ log_refusals.Full → IsFull (log_end old) (length (bytes_of (log_pending old))) (length (rec_bytes rec)))
+    → (r ≢ log_refusals.LogFault) × ((at : ℕ) → r ≢ log_refusals.Damaged at) → IsBeginRefusal c old new told
+begin_refused c old new rec (log_refusals.Damaged at) told is rec_is none up down full others = absurd (others.1 at refl)
+begin_refused c old new rec log_refusals.LogFault told is rec_is none up down full others = absurd (others.0 refl)
+begin_refused c old new rec (log_refusals.LogDown at) told is rec_is none up down full others = let z : None ≡ Some at = sym up ∙ down at refl in absurd cc
+begin_refused c old new rec log_refusals.Full told is rec_is none up down full others =
+    let empty : log_pending old ≡ [] = ap (λ (l : List Rec). drop old.flushed l) none ∙ drop_none old.flushed in
+    subst (IsBeginRefusal c old new) (sym is)
+    (subst (λ n. IsFull (log_end old) n (length (rec_bytes (records.Checkpoint 0 c.base)))) (ap (λ (l : List Rec). length (bytes_of l)) empty)
+    (subst (λ (rec : Rec). IsFull (log_end old) (length (bytes_of (log_pending old))) (length (rec_bytes rec))) rec_is (full refl)))
+begin_refused c old new rec log_refusals.Memory told is rec_is none up down full others = subst (IsBeginRefusal c old new) (sym is) tt
+
+-- ---- the banks
+
+module _ {P : Type 0} (p : disks.Ghosts P) where
+  first_failed : (xs xs' rest : List P) (d q : P) → 0 < length xs → d ≡ slice_index_or xs 0 d → xs' ≡ q ∷ rest → HasRisen (p.faults d) (p.faults q)
+      → HasFailedAt p.faults 0 xs xs'
+  first_failed xs xs' rest d q some was is up = record {
+    before = d;
+    now = q;
+    was = first_is xs d some was;
+    is = ap (λ (l : List P). slice_get l 0) is;
+    risen = up;
+  }
+
+  pub xact_refused : (bank : ℕ) (xs xs' ys ys' rest : List P) (d q : P) (r : OpenRefusal) → 0 < length xs → d ≡ slice_index_or xs 0 d → xs' ≡ q ∷ rest
+      → (r ≡ refusals.Memory) ⊎ ((r ≡ refusals.DiskFault (locks.Xact bank)) × HasRisen (p.faults d) (p.faults q))
+      → IsBankRefusal p bank xs xs' ys ys' r
+  xact_refused bank xs xs' ys ys' rest d q r some was is why = ⊎_elim
+      (λ (m : r ≡ refusals.Memory). subst (IsBankRefusal p bank xs xs' ys ys') (sym m) tt)
+      (λ k. subst (IsBankRefusal p bank xs xs' ys ys') (sym k.0) (refl, first_failed xs xs' rest d q some was is k.1)) why
+
+  pub subtrans_refused : (bank : ℕ) (xs xs' ys ys' rest : List P) (d q : P) (r : OpenRefusal) → 0 < length ys → d ≡ slice_index_or ys 0 d → ys' ≡ q ∷ rest
+      → (r ≡ refusals.Memory) ⊎ ((r ≡ refusals.DiskFault (locks.Subtrans bank)) × HasRisen (p.faults d) (p.faults q))
+      → IsBankRefusal p bank xs xs' ys ys' r
+  subtrans_refused bank xs xs' ys ys' rest d q r some was is why = ⊎_elim
+      (λ (m : r ≡ refusals.Memory). subst (IsBankRefusal p bank xs xs' ys ys') (sym m) tt)
+      (λ k. subst (IsBankRefusal p bank xs xs' ys ys') (sym k.0) (refl, first_failed ys ys' rest d q some was is k.1)) why
+
+  failed_behind : (bank b : ℕ) (old ds new whole : List P) → b ≡ bank → length ds ≡ bank → whole ≡ ds ++ new
+      → HasFailedAt p.faults 0 (drop bank old) new → HasFailedAt p.faults b old whole
+  failed_behind bank b old ds new whole same count put k = record {
+    before = k.before;
+    now = k.now;
+    was = subst (λ n. slice_get old n ≡ Some k.before) (sym same) (drop_get bank old k.before k.was);
+    is = ap (λ (l : List P). slice_get l b) put ∙ (ap (λ n. slice_get (ds ++ new) n) (same ∙ sym count) ∙ (past_get ds new ∙ k.is));
+    risen = k.risen;
+  }
+
+module _ {L P : Type 0} {l : logs.Ghosts L} {p : disks.Ghosts P} where
+  -- with the parts of a bank more
+  pub disks_more : (n : ℕ) (xs : List (Part L P l p)) (a b : Part L P l p) (d e : P) → HaveDisks n xs
+      → xact_disk a ≡ Some d → subtrans_disk a ≡ None → xact_disk b ≡ None → subtrans_disk b ≡ Some e
+      → HaveDisks (n + 1) ((((xs ++ a ∷ []) ++ b ∷ []) ++ parts.Vacant ∷ []) ++ parts.Vacant ∷ [])
+  disks_more n xs a b d e have ax ay bx b2 =
+      let v : Part L P l p = parts.Vacant in
+      let ys : List (Part L P l p) = xs ++ a ∷ [] in
+      let zs : List (Part L P l p) = ys ++ b ∷ [] in
+      let vs : List (Part L P l p) = zs ++ v ∷ [] in
+      let ws : List (Part L P l p) = vs ++ v ∷ [] in
+      record {
+        xact = passed_length xact_disk ws vs v refl refl
+            ∙ (passed_length xact_disk vs zs v refl refl
+            ∙ (passed_length xact_disk zs ys b refl bx ∙ (moved_length xact_disk ys xs a d refl ax ∙ ap (λ k. k + 1) have.xact)));
+        subtrans = passed_length subtrans_disk ws vs v refl refl
+            ∙ (passed_length subtrans_disk vs zs v refl refl
+            ∙ (moved_length subtrans_disk zs ys b e refl b2 ∙ ap (λ k. k + 1) (passed_length subtrans_disk ys xs a refl ay ∙ have.subtrans)));
+      }
+
+  -- ---- the engine
+
+  -- the parts that lie behind the first two locks
+  pub log_there : (rest : List (Part L P l p)) (part : Part L P l p) → AreInPlace rest → slice_get rest 0 ≡ Some part
+      → ((x : WalLog L l) → part ≡ parts.Log x → ⊥) → ⊥
+  log_there rest part place at other = is_there part (place 0 part at) other
+    where
+      is_there : (q : Part L P l p) → ((start : Start) × (es : List Entry) × PartStands start 0 q es) → ((x : WalLog L l) → q ≡ parts.Log x → ⊥) → ⊥
+      is_there (parts.Log log) k none = none log refl
+      is_there (parts.Proc table) k none = absurd (omega (arith, k.2.0))
+      is_there (parts.Xact store) k none = absurd (omega (arith, k.2.1))
+      is_there (parts.Subtrans store) k none = absurd (omega (arith, k.2.1))
+      is_there parts.Vacant k none = k.2.log refl
+
+  pub table_there : (rest : List (Part L P l p)) (part : Part L P l p) → AreInPlace rest → slice_get rest 1 ≡ Some part
+      → ((x : Table) → part ≡ parts.Proc x → ⊥) → ⊥
+  table_there rest part place at other = is_there part (place 1 part at) other
+    where
+      is_there : (q : Part L P l p) → ((start : Start) × (es : List Entry) × PartStands start 1 q es) → ((x : Table) → q ≡ parts.Proc x → ⊥) → ⊥
+      is_there (parts.Log log) k none = absurd (omega (arith, k.2.0))
+      is_there (parts.Proc table) k none = none table refl
+      is_there (parts.Xact store) k none = absurd (omega (arith, k.2.1))
+      is_there (parts.Subtrans store) k none = absurd (omega (arith, k.2.1))
+      is_there parts.Vacant k none = k.2.proc refl
+
+  pub from_bank : (c : Cluster) (old new : NewVolumes L P) (bank : ℕ) (rest : List (Part L P l p)) (xs ys : List P) (r : OpenRefusal)
+      → HaveDisks bank rest → IsBankRefusal p bank (drop bank old.xact.items) xs (drop bank old.subtrans.items) ys r
+      → new.xact.items ≡ xact_disks rest ++ xs → new.subtrans.items ≡ subtrans_disks rest ++ ys → IsRefusal l p c old new r
+  from_bank c old new bank rest xs ys (refusals.Damaged at) have k x y = absurd k
+  from_bank c old new bank rest xs ys refusals.NotNew have k x y = absurd k
+  from_bank c old new bank rest xs ys refusals.LogFault have k x y = absurd k
+  from_bank c old new bank rest xs ys (refusals.DiskFault locks.Log) have k x y = absurd k
+  from_bank c old new bank rest xs ys (refusals.DiskFault locks.Proc) have k x y = absurd k
+  from_bank c old new bank rest xs ys (refusals.DiskFault locks.Multi) have k x y = absurd k
+  from_bank c old new bank rest xs ys (refusals.DiskFault (locks.Xact b)) have k x y =
+      failed_behind p bank b old.xact.items (xact_disks rest) xs new.xact.items k.0 have.xact x k.1
+  from_bank c old new bank rest xs ys (refusals.DiskFault (locks.Subtrans b)) have k x y =
+      failed_behind p bank b old.subtrans.items (subtrans_disks rest) ys new.subtrans.items k.0 have.subtrans y k.1
+  from_bank c old new bank rest xs ys (refusals.DiskFault (locks.Offsets b)) have k x y = absurd k
+  from_bank c old new bank rest xs ys (refusals.DiskFault (locks.Members b)) have k x y = absurd k
+  from_bank c old new bank rest xs ys refusals.Full have k x y = absurd k
+  from_bank c old new bank rest xs ys refusals.Memory have k x y = tt
+
+module _ {L P : Type 0} {l : logs.Ghosts L} (p : disks.Ghosts P) where
+  pub from_begin : (c : Cluster) (old new : NewVolumes L P) (log log' : WalLog L l) (r : OpenRefusal)
+      → OpensEmpty l old.log (log_end log) → l.faults old.log ≤ l.faults (log_disk log) → new.log ≡ log_disk log'
+      → IsBeginRefusal c log log' r → IsRefusal l p c old new r
+  from_begin c old new log log' (refusals.Damaged at) opens count back k = absurd k
+  from_begin c old new log log' refusals.NotNew opens count back k = absurd k
+  from_begin c old new log log' refusals.LogFault opens count back k =
+      subst (λ (d : L). HasRisen (l.faults old.log) (l.faults d)) (sym back) (risen_past (l.faults old.log) (l.faults (log_disk log)) (l.faults (log_disk log')) count k)
+  from_begin c old new log log' (refusals.DiskFault lock) opens count back k = absurd k
+  from_begin c old new log log' refusals.Full opens count back k = (log_end log, opens, k)
+  from_begin c old new log log' refusals.Memory opens count back k = tt

@@ -1,0 +1,22 @@
+use Rattle.std.proofs.Common.{◌≡◌, ◌+◌, ◌∙◌, ap, arith, drop, remove, subst, suc}
+use Rattle.engine_host.proofs.Refusing.{drop_next}
+use Rattle.engine_host.proofs.first_parts.add_banks.Goals as goal
+
+pub loop-bank-preserved : goal.loop-bank-preserved
+loop-bank-preserved g c =
+    let e = c.in_ok-add_bank.ensures in
+    let i = c.loop-bank.invariant in
+    let n = c.loop-bank.bank in
+    let xs = c.args.xact.now.items in
+    let ys = c.args.subtrans.now.items in
+    let more : suc n ≡ n + 1 = omega arith in
+    record {
+      xact = e.xact ∙ (ap (λ l. remove l 0) i.xact ∙ subst (λ k. remove (drop n xs) 0 ≡ drop k xs) more (drop_next n xs));
+      subtrans = e.subtrans ∙ (ap (λ l. remove l 0) i.subtrans ∙ subst (λ k. remove (drop n ys) 0 ≡ drop k ys) more (drop_next n ys));
+      count = e.count;
+      disks = e.disks;
+      room = e.room ∙ i.room;
+      stand = e.stand;
+      xact_room = e.capacity.0 ∙ i.xact_room;
+      subtrans_room = e.capacity.1 ∙ i.subtrans_room;
+    }

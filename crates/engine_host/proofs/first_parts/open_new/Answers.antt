@@ -1,0 +1,12 @@
+use Rattle.engine_host.proofs.Refusing.{from_bank, from_begin}
+use Rattle.engine_host.proofs.first_parts.open_new.Goals as goal
+
+pub returns-in-Err-add_banks-clause-refused : goal.returns-in-Err-add_banks-clause-refused
+returns-in-Err-add_banks-clause-refused g c =
+    let k = c.in-Err-add_banks.ensures.refused in
+    let t = c.taken_apart.ensures in
+    from_bank c.args.cluster c.args.volumes c.taken_apart.result k.0 c.add_banks.new.locks.items c.add_banks.new.xact.items c.add_banks.new.subtrans.items c.in-Err-add_banks.refusal k.1 k.2 t.xact t.subtrans
+
+pub returns-in-Err-begin_log-clause-refused : goal.returns-in-Err-begin_log-clause-refused
+returns-in-Err-begin_log-clause-refused g c =
+    from_begin g.P.PageDisk c.args.cluster c.args.volumes c.taken_apart-in-Err-begin_log.result c.in-Ok.log c.begin_log.new.log c.in-Err-begin_log.refusal c.in-Ok.ensures.opens c.in-Ok.ensures.count c.taken_apart-in-Err-begin_log.ensures.log c.in-Err-begin_log.ensures.refused

@@ -1,0 +1,20 @@
+use Rattle.std.proofs.Common.{◌∙◌}
+use Rattle.hall.specs.Calls.{start_of, view}
+use Rattle.notes.specs.Lists.{at as list_at}
+use Rattle.engine_parts.specs.declared.part.Part.TheVariants as parts
+use Rattle.engine_life.proofs.closed.close_life.Goals as goal
+
+pub take_apart-log-requires-clause-stand : goal.take_apart-log-requires-clause-stand
+take_apart-log-requires-clause-stand g c lock part there =
+    (start_of c.args.life.hall, list_at (view c.args.life.host.pass).seen lock, c.close-parts.ensures.stand lock part there)
+
+pub returns-clause-events : goal.returns-clause-events
+returns-clause-events g c =
+    let taken = c.take_apart-log in
+    let stands = c.close-parts.ensures.stand 1 (parts.Proc taken.result.table) taken.ensures.table in
+    c.into_parts-events.ensures.events ∙ stands.1.events
+
+pub returns-clause-log : goal.returns-clause-log
+returns-clause-log g c =
+    let taken = c.take_apart-log in
+    (c.close-parts.ensures.stand 0 (parts.Log taken.result.log) taken.ensures.log).1

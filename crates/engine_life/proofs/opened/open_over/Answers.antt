@@ -1,0 +1,22 @@
+use Rattle.std.proofs.Common.{map, subst, sym}
+use Rattle.tx_core.specs.declared.entry.Start.{Start}
+use Rattle.engine_host.specs.declared.cluster.Cluster.{Cluster}
+use Rattle.engine_host.specs.Opening.{faults_behind}
+use Rattle.engine_life.specs.declared.refusal.NoLife.{NoLife}
+use Rattle.engine_life.specs.Lives.{IsBegun}
+use Rattle.engine_life.specs.Refusals.{IsNoLife}
+use Rattle.engine_life.proofs.Living.{of_err, of_ok}
+use Rattle.engine_life.proofs.opened.open_over.Goals as goal
+
+pub returns-in-Ok-open_new-clause-life : goal.returns-in-Ok-open_new-clause-life
+returns-in-Ok-open_new-clause-life g c =
+    let parts = c.in-Ok-open_new.parts in
+    let k = c.in-Ok-open_new.ensures in
+    of_ok c.begin_life.result _ _ (λ life begun. (
+      map faults_behind parts.locks.items,
+      subst (λ (s : Start). IsBegun c.args.cluster s life) k.start (subst (λ (d : Cluster). IsBegun d parts.start.value life) k.cluster begun),
+    )) c.begin_life.ensures.life
+
+pub returns-in-Ok-open_new-clause-refused : goal.returns-in-Ok-open_new-clause-refused
+returns-in-Ok-open_new-clause-refused g c =
+    of_err c.begin_life.result _ _ (λ e memory. subst (λ (r : NoLife). IsNoLife g.L.LogDisk g.P.PageDisk c.args.cluster c.args.volumes e.0 r) (sym memory) tt) c.begin_life.ensures.refused

@@ -1,0 +1,56 @@
+-- Why no life was opened over a media.
+use Rattle.std.specs.Prelude.{◌≡◌, ◌⊎◌, ℕ, IsSome, IsTrue, Err}
+use Rattle.disk_core.specs.declared.log_disk.LogDisk as logs
+use Rattle.disk_core.specs.declared.page_disk.PageDisk as disks
+use Rattle.disk_core.specs.declared.media.Volumes.{Volumes}
+use Rattle.disk_core.specs.Faults.{HasRisen}
+use Rattle.disk_core.specs.Images.{Only}
+use Rattle.disk_core.specs.Media.{HasBanks}
+use Rattle.wal_core.specs.Log.{history_on}
+use Rattle.wal_core.specs.Opening.{opened}
+use Rattle.engine_host.specs.declared.cluster.Cluster.{Cluster}
+use Rattle.engine_host.specs.declared.refusal.OpenRefusal.{OpenRefusal}
+use Rattle.engine_host.specs.declared.refusal.OpenRefusal.TheVariants as refusals
+use Rattle.engine_host.specs.Refused.{HasFailedAt, HasNoRoom, OpensEmpty}
+use Rattle.engine_life.specs.declared.refusal.NoLife.{NoLife}
+use Rattle.engine_life.specs.declared.refusal.NoLife.TheVariants as no_lives
+
+abbrev pub refusal_by : OpenRefusal → NoLife
+refusal_by (refusals.Damaged at) = no_lives.Damaged at
+refusal_by refusals.NotNew = no_lives.OldLog
+refusal_by refusals.LogFault = no_lives.Device
+refusal_by (refusals.DiskFault lock) = no_lives.Device
+refusal_by refusals.Full = no_lives.Full
+refusal_by refusals.Memory = no_lives.Memory
+
+module _ {L P : Type 0} (l : logs.Ghosts L) (p : disks.Ghosts P) where
+  -- the log's volume failed, or that of a bank
+  abbrev pub HasVolumeFailed : Volumes L P → Volumes L P → Type 0
+  HasVolumeFailed old new =
+      HasRisen (l.faults old.log) (l.faults new.log)
+      ⊎ (((bank : ℕ) × HasFailedAt p.faults bank old.xact.items new.xact.items)
+      ⊎ ((bank : ℕ) × HasFailedAt p.faults bank old.subtrans.items new.subtrans.items))
+
+  -- why no life was opened over these volumes, which came back so
+  abbrev pub IsNoLife : Cluster → Volumes L P → Volumes L P → NoLife → Type 0
+  IsNoLife c old new (no_lives.Damaged at) = IsTrue l.tells → opened (l.reads old.log) ≡ Err at
+  IsNoLife c old new no_lives.OldLog = IsTrue l.tells → IsSome (history_on (l.reads old.log))
+  IsNoLife c old new no_lives.Device = HasVolumeFailed old new
+  IsNoLife c old new no_lives.Full = (gate : ℕ) × OpensEmpty l old.log gate × HasNoRoom c gate
+  IsNoLife c old new no_lives.Memory = Unit {0}
+
+  -- the media's count rose, or that of a volume since the mounting, until the media took the volumes back
+  abbrev pub HasDeviceFailed : ℕ → ℕ → (Volumes L P → Type 0) → Type 0
+  HasDeviceFailed before now gives =
+      HasRisen before now ⊎ ((old new : Volumes L P) × Only new gives × HasVolumeFailed old new)
+
+  -- the volumes were mounted so, were given back so, and no life was opened over them
+  abbrev pub HasRestedVolumes : Cluster → (Volumes L P → Type 0) → NoLife → Type 0
+  HasRestedVolumes c gives refusal =
+      (old new : Volumes L P) × HasBanks c.banks old × Only new gives × IsNoLife c old new refusal
+
+  -- why no life was opened over a media with these counts of faults, which holds these volumes now
+  abbrev pub IsUnopened : Cluster → ℕ → ℕ → (Volumes L P → Type 0) → NoLife → Type 0
+  IsUnopened c before now gives no_lives.Device = HasDeviceFailed before now gives
+  IsUnopened c before now gives no_lives.Memory = Unit {0}
+  IsUnopened c before now gives refusal = HasRestedVolumes c gives refusal

@@ -1,0 +1,90 @@
+//! What a life leaves.
+ghost use Rattle.std.specs.Prelude.{◌≡◌, []};
+ghost use Rattle.hall.specs.Calls.{start_of, view};
+ghost use Rattle.notes.specs.Lists.{at};
+ghost use Rattle.tx_core.specs.EngineInvariant.{EngineInvariant};
+ghost use Rattle.tx_core.specs.Entries.{history};
+ghost use Rattle.tx_core.specs.Locks.{log_lock};
+ghost use Rattle.engine_parts.specs.Parts.{IsLogOf};
+ghost use Rattle.engine_host.specs.Hosts.{HoldsAllBut, IsHost};
+
+use crate::life::{Aside, OpenLife};
+use disk_core::{LogDisk, PageDisk, Volumes};
+use engine_host::{Parts, TakenApart, close, take_apart};
+use tx_events::EventList;
+use wal_core::WalLog;
+
+/// What a life leaves: its log, its history, and the other volumes of the media.
+pub struct ClosedLife<L: LogDisk, P> {
+    pub log: WalLog<L>,
+    pub events: EventList,
+    xact: Vec<P>,
+    subtrans: Vec<P>,
+    offsets: Vec<P>,
+    members: Vec<P>,
+}
+
+/// Closes a life whose sessions are all dismissed. Its history and its log are those of the lists that the host has seen,
+/// which are all that was done, and of which the engine invariant holds. Takes no memory.
+pub fn close_life<L: LogDisk + Drop, P: PageDisk + Drop>(life: OpenLife<L, P>) -> ClosedLife<L, P>
+    requires host { IsHost life.hall life.host }
+    requires all { HoldsAllBut life.host [] }
+    ensures events { result.events ≡ history (view life.host.pass).seen }
+    ensures log { IsLogOf (start_of life.hall) result.log (at (view life.host.pass).seen log_lock) }
+    ensures kept { EngineInvariant (start_of life.hall) (view life.host.pass).seen }
+{
+    let OpenLife { hall, host, aside } = life;
+    let parts = close(hall, host);
+    let Parts {
+        cluster: _,
+        locks,
+        start: _,
+    } = parts;
+    let Aside {
+        offsets,
+        members,
+        xact,
+        subtrans,
+    } = aside;
+    let TakenApart {
+        log,
+        table,
+        xact,
+        subtrans,
+    } = take_apart(locks, xact, subtrans);
+    let (_, events) = table.into_parts();
+    ClosedLife {
+        log,
+        events,
+        xact,
+        subtrans,
+        offsets,
+        members,
+    }
+}
+
+impl<L: LogDisk + Drop, P: PageDisk + Drop> ClosedLife<L, P> {
+    ghost use Rattle.std.specs.Prelude.{◌≡◌};
+    ghost use Rattle.wal_core.specs.LogViews.{log_disk};
+
+    /// The volumes, which the media takes back.
+    pub fn into_volumes(self) -> Volumes<L, P>
+        ensures log { result.log ≡ log_disk self.log }
+    {
+        let ClosedLife {
+            log,
+            events: _,
+            xact,
+            subtrans,
+            offsets,
+            members,
+        } = self;
+        Volumes {
+            log: log.into_disk(),
+            xact,
+            subtrans,
+            offsets,
+            members,
+        }
+    }
+}

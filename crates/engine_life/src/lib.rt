@@ -1,0 +1,15 @@
+//! A life of an engine over the volumes of a media: how it is opened, what it leaves, and how that is printed. See
+//! `docs/ENGINE.md`.
+#![tactic(auto)]
+
+mod closed;
+mod ending;
+mod life;
+mod opened;
+mod refusal;
+
+pub use closed::{ClosedLife, close_life};
+pub use ending::end_report;
+pub use life::{Aside, OpenLife};
+pub use opened::open_life;
+pub use refusal::NoLife;

@@ -1,0 +1,4 @@
+pub mod Steps
+pub mod Sizes
+pub mod Commands
+pub mod Known

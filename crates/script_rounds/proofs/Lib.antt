@@ -1,0 +1,4 @@
+pub mod ListLemmas
+pub mod ItemLemmas
+pub mod RoundLemmas
+pub mod PlanLemmas

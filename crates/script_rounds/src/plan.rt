@@ -1,0 +1,85 @@
+//! Which commands of a round are whose.
+ghost use Rattle.std.specs.Prelude.{◌≡◌, ◌==◌, ℕ, ◌<◌, List, [], ◌∷◌, ◌++◌, cond, IfOk, OnOk, set, get_or, length};
+ghost use Rattle.std.specs.List.{All};
+ghost use Rattle.script_rounds.specs.Plans.{IsBlank, IsListed, IsPlanOf};
+ghost use Rattle.run_law.specs.Turns.{MayRun};
+
+use session_lang::Items;
+use std::alloc::Global;
+use tx_model::{Memory, Sequence};
+
+/// Whose the commands of a round are, so that no session has to look through those of the others.
+#[derive(Drop)]
+pub struct Plan {
+    /// The sessions that have commands, in the order in which they first appear.
+    pub sessions: Vec<u32>,
+    /// The places of each session's commands, by the session's number.
+    pub places: Vec<Sequence<usize>>,
+}
+
+/// No places, for so many sessions.
+fn no_places(alloc: Global, sessions: usize) -> Result<Vec<Sequence<usize>>, Memory>
+    ensures count { IfOk result (λ all. length all.items ≡ sessions) }
+    ensures none { IfOk result (λ all. All (λ (places : List ℕ). places ≡ []) all.items) }
+{
+    let mut all = Vec::with_capacity(alloc, sessions)?;
+    for _ in 0..sessions {
+        all.push(Sequence::new(alloc))?;
+    }
+    Ok(all)
+}
+
+impl Plan {
+    /// The session's next command stands at this place.
+    fn add(&mut self, session: u32, place: usize) -> Result<(), Memory>
+        requires known { session < length self.old.places.items }
+        ensures places { OnOk result (self.new.places.items
+            ≡ set self.old.places.items session (get_or self.old.places.items session [] ++ place ∷ [])) }
+        ensures sessions { OnOk result (self.new.sessions.items
+            ≡ cond (length (get_or self.old.places.items session []) == 0)
+            (self.old.sessions.items ++ session ∷ []) self.old.sessions.items) }
+    {
+        let places = &mut self.places[session as usize];
+        if places.items().is_empty() {
+            self.sessions.push(session)?;
+        }
+        places.push(place)
+    }
+
+    /// A plan of no commands, for so many sessions.
+    pub fn new(alloc: Global, sessions: usize) -> Result<Plan, Memory>
+        ensures blank { IfOk result (λ plan. IsBlank plan) }
+        ensures count { IfOk result (λ plan. length plan.places.items ≡ sessions) }
+    {
+        Ok(Plan {
+            sessions: Vec::new(alloc),
+            places: no_places(alloc, sessions)?,
+        })
+    }
+
+    /// Notes whose the commands of the round are.
+    pub fn fill(&mut self, round: &Items) -> Result<(), Memory>
+        requires blank { IsBlank self.old }
+        requires items { All (MayRun (length self.old.places.items)) round.now }
+        ensures plan { OnOk result (IsPlanOf round.now round.now self.new) }
+        ensures count { OnOk result (length self.new.places.items ≡ length self.old.places.items) }
+    {
+        for place in 0..round.len() {
+            if let Some(session) = round.session_at(place) {
+                self.add(session, place)?;
+            }
+        }
+        Ok(())
+    }
+
+    /// Forgets the round. Takes time for the sessions that have commands in it alone.
+    pub fn clear(&mut self, alloc: Global)
+        requires { IsListed self.old }
+        ensures blank { IsBlank self.new }
+        ensures count { length self.new.places.items ≡ length self.old.places.items }
+    {
+        while let Some(session) = self.sessions.pop() {
+            self.places[session as usize] = Sequence::new(alloc);
+        }
+    }
+}

@@ -1,0 +1,3 @@
+mod ItemLemmas
+mod StreamLemmas
+mod RunLemmas

@@ -1,0 +1,86 @@
+//! Takes a script from a source.
+ghost use Rattle.std.specs.Prelude.{◌≡◌, ◌<◌, ◌≤◌, ℕ, IfErr, IfOk, Ok, length};
+ghost use Rattle.std.specs.List.{count_by};
+ghost use Rattle.tx_model.specs.declared.command.Command.{Command};
+ghost use Rattle.life_law.specs.Commands.{makes_level};
+ghost use Rattle.session_lang.specs.Script.{read_script};
+ghost use Rattle.run_law.specs.Refusals.{refusal_text};
+ghost use Rattle.run_law.specs.Tool.{ReadsUpTo, most_read};
+ghost use Rattle.run_law.specs.Turns.{IsRunnable, turns_in};
+ghost use Rattle.script_source.specs.Sources.{HasScript, IsNoScriptOf, Refuses, TellsFault};
+
+use crate::other::first_other;
+use crate::script::NoScript;
+use crate::stream::{ReadStop, read_all};
+use report_text::Text;
+use session_lang::{Kind, ParseRefusal, Script, line_of, parse};
+use std::alloc::Global;
+use tx_io::Source;
+use tx_model::Memory;
+
+/// The line that tells at which line of a script a fault is, and its kind.
+#[tactic(auto, unfolding(run_law::specs::Refusals::refusal_text, report_text::specs::Words::line_text, report_text::specs::Words::more))]
+fn refusal_text(alloc: Global, line: u64, kind: Kind) -> Result<Vec<u8>, Memory>
+    ensures { IfOk result (λ text. text.items ≡ refusal_text (line, kind)) }
+{
+    let mut text = Text::new(alloc);
+    text.put(b"script")?;
+    text.number(line)?;
+    text.word(kind.word())?;
+    text.end_line()?;
+    Ok(text.into_bytes())
+}
+
+/// A script with this fault is refused.
+fn refused(alloc: Global, line: u64, kind: Kind) -> NoScript
+    ensures { TellsFault (line, kind) result }
+{
+    match refusal_text(alloc, line, kind) {
+        Ok(text) => NoScript::Refused(text),
+        Err(Memory) => NoScript::Memory,
+    }
+}
+
+/// The script that bytes are, where sessions can run it.
+fn script_of(alloc: Global, bytes: &[u8]) -> Result<Script, NoScript>
+    requires { length bytes.now ≤ 16777216 }
+    ensures script { IfOk result (λ s. (read_script bytes.now ≡ Ok s) × IsRunnable s) }
+    ensures banks { IfOk result (λ s. (1 ≤ s.banks) × (s.banks ≤ 16)) }
+    ensures few { IfOk result (λ s. count_by (λ (t : ℕ × Command). makes_level t.1) (turns_in s.items) < 2900000) }
+    ensures refused { IfErr result (Refuses bytes.now) }
+{
+    let script = match parse(alloc, bytes) {
+        Ok(script) => script,
+        Err(ParseRefusal::Fault { line, kind }) => return Err(refused(alloc, line, kind)),
+        Err(ParseRefusal::Memory) => return Err(NoScript::Memory),
+    };
+    let items = script.items.items();
+    let count = items.len();
+    let place = match first_other(&items) {
+        Ok(place) => place,
+        Err(Memory) => return Err(NoScript::Memory),
+    };
+    if place < count {
+        return Err(refused(alloc, line_of(bytes, place), Kind::Command));
+    }
+    Ok(script)
+}
+
+/// Takes a script from a source, and says why where it gives none. Reads at most 16,777,217 bytes. A script has from 1 to
+/// 16 banks, and fewer than 2,900,000 of its commands make a level, as their lines would not fit in so many bytes.
+pub fn take_script<S: Source>(alloc: Global, source: &mut S) -> Result<Script, NoScript>
+    ensures script { IfOk result (HasScript (S.left source.old) (S.left source.new)) }
+    ensures banks { IfOk result (λ s. (1 ≤ s.banks) × (s.banks ≤ 16)) }
+    ensures few { IfOk result (λ s. count_by (λ (t : ℕ × Command). makes_level t.1) (turns_in s.items) < 2900000) }
+    ensures refused { IfErr result (IsNoScriptOf (S.left source.old) (S.left source.new)
+        (S.faults source.old) (S.faults source.new)) }
+    ensures later { S.faults source.old ≤ S.faults source.new }
+    ensures amount { ReadsUpTo most_read (S.left source.old) (S.left source.new) }
+{
+    match read_all(alloc, source) {
+        Ok(bytes) => script_of(alloc, bytes.as_slice()),
+        Err(ReadStop::Fault) => Err(NoScript::ReadFault),
+        Err(ReadStop::TooLong) => Err(refused(alloc, 0, Kind::Size)),
+        Err(ReadStop::Memory) => Err(NoScript::Memory),
+    }
+}

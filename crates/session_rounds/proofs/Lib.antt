@@ -1,0 +1,5 @@
+mod TurnLemmas
+mod Among
+mod Letting
+mod Returning
+mod Rounding

@@ -84,10 +84,7 @@ fn names_are_given_again_once_they_are_joined(rt: HostRuntime) {
         "it is the first pass's own"
     );
     assert!(rt; hall.split(&mut first, 64).is_none(), "no pass may have it");
-    assert!(rt;
-        hall.split(&mut a, 1).is_none(),
-        "the first pass has it"
-    );
+    assert!(rt; hall.split(&mut a, 1).is_none(), "the first pass has it");
     assert!(rt; hall.split(&mut a, 0).is_none(), "it is this pass's own");
     tell(&hall, &mut a, 7);
     hall.join(&mut first, a);

@@ -191,7 +191,7 @@ module _ {H L P : Type 0} {l : logs.Ghosts L} {p : disks.Ghosts P} (hall : Hall 
       let a = r.acts start.base [] by in
       let seen = (view old.pass).seen in
       let acts : Acted (p.tells) start by (stance_of old.session) (levels.stance_of t) old.session.stage command reply seen (view u.pass).seen = acted_levels (p.tells) start seen (view u.pass).seen start.base old.number (next_command old) (stance_of old.session) (levels.stance_of t) old.session.stage command reply on free (ap (λ q. (view q).seen) c.pass)
-            (subst (λ (z : Stance). Acts start.base by z (levels.stance_of t) command reply [] []) (ap levels.stance_of c.levels) (r.acts start.base [] by)) in
+      (subst (λ (z : Stance). Acts start.base by z (levels.stance_of t) command reply [] []) (ap levels.stance_of c.levels) (r.acts start.base [] by)) in
       let needs = on_levels_needs command (stance_of old.session) old.session.stage on in record {
         own = own_counted hall old u c m.step.own;
         may = call_levels start (view u.pass) u.number u.session (record u.session { levels = t }) t refl r.count (λ st. r.stands start.base (history (view u.pass).seen) u.number u.session.levels.commands st) (λ q. inner_kept start.base [] (alone [] []) by by.command (levels.stance_of u.session.levels) (levels.stance_of t) old.session.stage command reply on free a.allowed

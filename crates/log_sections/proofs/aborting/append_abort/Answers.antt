@@ -123,21 +123,25 @@ returns-then-not-may_append-clause-takes g c =
     let e = c.enter_log-log.ensures in
     let wide = c.requires.may.ready.at.wide in
     let long = e.entered.learns.long in
-    let log = c.enter_log-log.result in
-    (c.leave_looked.ensures.same.0 ∙ e.same.0, λ lawful base. false≢true (sym c.if-not-may_append.true ∙ c.may_append.ensures.1 (may_follow (start_of c.args.hall.now) log (view c.enter_log-log.new.caller.pass) (view c.leave_looked.new.caller.pass) c.args.rec.now _ e.stands
-    (subst (λ (z : Rec). IsTrue (number_fits (log_next log) z)) (sym c.requires.record.is) refl) (omega arith) refl c.leave_looked.ensures.left lawful base)))
+    let log = c.enter_log-log.result in (
+      c.leave_looked.ensures.same.0 ∙ e.same.0,
+      λ lawful base. false≢true (sym c.if-not-may_append.true ∙ c.may_append.ensures.1 (may_follow (start_of c.args.hall.now) log (view c.enter_log-log.new.caller.pass) (view c.leave_looked.new.caller.pass) c.args.rec.now _ e.stands
+          (subst (λ (z : Rec). IsTrue (number_fits (log_next log) z)) (sym c.requires.record.is) refl) (omega arith) refl c.leave_looked.ensures.left lawful base)),
+    )
 
 pub returns-in-Err-clause-takes : goal.returns-in-Err-clause-takes
 returns-in-Err-clause-takes g c =
     let e = c.enter_log-log.ensures in
     let wide = c.requires.may.ready.at.wide in
     let long = e.entered.learns.long in
-    let start = start_of c.args.hall.now in
-    (c.leave_looked-in-Err.ensures.same.0 ∙ e.same.0, append_refused start (view c.leave_looked-in-Err.new.caller.pass).seen c.in-Err.refusal c.refusal_of.result c.refusal_of.ensures
-    (λ is. c.in-Err.ensures.no_other.0 (ap Err is))
-    (λ down is. down_left start (view c.enter_log-log.new.caller.pass) (view c.leave_looked-in-Err.new.caller.pass) _ down (omega arith) c.leave_looked-in-Err.ensures.left (e.stands.failed down (c.in-Err.ensures.down down (ap Err is))).0)
-    (λ why. up_left start (view c.enter_log-log.new.caller.pass) (view c.leave_looked-in-Err.new.caller.pass) _ (omega arith) c.leave_looked-in-Err.ensures.left refl
-    (e.stands.up (not_down (log_down c.enter_log-log.result) (λ n is. log_refused c.in-Err.refusal n (same_err (c.in-Err.ensures.is_down n is)) why)))))
+    let start = start_of c.args.hall.now in (
+      c.leave_looked-in-Err.ensures.same.0 ∙ e.same.0,
+      append_refused start (view c.leave_looked-in-Err.new.caller.pass).seen c.in-Err.refusal c.refusal_of.result c.refusal_of.ensures
+          (λ is. c.in-Err.ensures.no_other.0 (ap Err is))
+          (λ down is. down_left start (view c.enter_log-log.new.caller.pass) (view c.leave_looked-in-Err.new.caller.pass) _ down (omega arith) c.leave_looked-in-Err.ensures.left (e.stands.failed down (c.in-Err.ensures.down down (ap Err is))).0)
+          (λ why. up_left start (view c.enter_log-log.new.caller.pass) (view c.leave_looked-in-Err.new.caller.pass) _ (omega arith) c.leave_looked-in-Err.ensures.left refl
+          (e.stands.up (not_down (log_down c.enter_log-log.result) (λ n is. log_refused c.in-Err.refusal n (same_err (c.in-Err.ensures.is_down n is)) why)))),
+    )
 
 -- the critical section
 pub returns-then-not-may_append-clause-section : goal.returns-then-not-may_append-clause-section

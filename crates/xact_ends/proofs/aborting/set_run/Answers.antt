@@ -56,7 +56,6 @@ returns-in-Err-DiskFault-clause-step g c =
       may = call_aborting (start_of c.args.hall.now) (view t.pass) t.number t.session (ap (λ (z : Session). z.stage) e.same.0 ∙ c.requires.stage) e.ready;
     }
 
-
 pub returns-in-Ok-clause-adds : goal.returns-in-Ok-clause-adds
 returns-in-Ok-clause-adds g c =
     let old = c.args.caller.now in

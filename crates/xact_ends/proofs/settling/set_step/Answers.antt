@@ -142,7 +142,6 @@ overflow_add-caller g c =
     let f = steps_few start v.seen n s.levels.open_ids.items c.args.k (settling_at start v n c.args.k s c.requires.step.may c.requires.stage) in
     omega arith
 
-
 pub returns-in-Ok-clause-adds : goal.returns-in-Ok-clause-adds
 returns-in-Ok-clause-adds g c =
     let old = c.args.caller.now in

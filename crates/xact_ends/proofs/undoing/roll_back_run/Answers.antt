@@ -48,7 +48,6 @@ returns-in-Err-DiskFault-clause-may g c =
     let e = c.set_page.ensures in
     call_rolling (start_of c.args.hall.now) (view old.pass) (view t.pass) old.number t.number old.session t.session c.args.first c.args.past c.requires.may c.requires.stage c.requires.inside e.asks e.same.0 e.same.1 e.ready
 
-
 pub returns-in-Ok-clause-adds : goal.returns-in-Ok-clause-adds
 returns-in-Ok-clause-adds g c =
     let old = c.args.caller.now in

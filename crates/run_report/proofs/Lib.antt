@@ -1,6 +1,6 @@
 pub mod Ids
 pub mod Turns
-pub mod Records
+pub mod Ends
 pub mod Fits
 pub mod Sizes
 pub mod Reaching

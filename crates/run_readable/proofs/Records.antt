@@ -19,7 +19,7 @@ use Rattle.tx_events.proofs.Membership.{all_at, all_from, has_any, has_contains}
 use Rattle.life_law.specs.LifeLog.{IsLogOf, IsRecordOf, IsTransaction, ends_top}
 use Rattle.report_words.specs.Fits.{FitsId}
 use Rattle.report_lines.specs.Fits.{FitsRecord}
-use Rattle.run_report.proofs.Ids.{given_small, open_fits}
+use Rattle.run_readable.proofs.Ids.{given_small, open_fits}
 
 -- ---- the ids of a record
 

@@ -1,0 +1,228 @@
+-- What a run's lines and events say fits a report.
+use Rattle.std.proofs.Common.{◌≡◌, ℕ, zero, suc, ◌-◌, ◌^◌, ◌<◌, ◌≤◌, List, [], ◌∷◌, true, Option, Some, None, refl, sym, ap, subst, ◌∙◌, ⊎_elim, arith, length, take, eqb-true, ◌==◌}
+use Rattle.std.proofs.lemmas.Bool.{and_parts, false≢true}
+use Rattle.std.proofs.lemmas.Grind.{common_steps}
+use Rattle.std.specs.List.{AllByRecursion}
+use Rattle.tx_events.specs.declared.event.By.{By}
+use Rattle.tx_events.specs.declared.event.Event.{Event}
+use Rattle.tx_events.specs.declared.event.Event.TheVariants as events
+use Rattle.tx_events.specs.declared.record.Counters.{Counters}
+use Rattle.tx_events.specs.declared.refusal.Lock.{Lock}
+use Rattle.tx_events.specs.declared.refusal.Lock.TheVariants as locks
+use Rattle.tx_events.specs.declared.refusal.Refusal.{Refusal}
+use Rattle.tx_events.specs.declared.refusal.Refusal.TheVariants as refusals
+use Rattle.tx_model.specs.declared.command.Command.{Command}
+use Rattle.tx_model.specs.declared.command.Command.TheVariants as commands
+use Rattle.tx_model.specs.declared.reply.Reply.{Reply}
+use Rattle.tx_model.specs.declared.reply.Reply.TheVariants as replies
+use Rattle.tx_model.specs.declared.report.Line.{Line}
+use Rattle.tx_events.specs.Base.{IsBase}
+use Rattle.tx_events.specs.Events.{by_of, events_of, given, same_by}
+use Rattle.tx_events.specs.History.{IsLegal}
+use Rattle.tx_events.proofs.GivenIds.{legal_take}
+use Rattle.tx_events.proofs.ListSteps.{all_filter}
+use Rattle.tx_events.proofs.Membership.{Has, all_at, all_from, filter_has, has_any}
+use Rattle.tx_events.proofs.OwnEvents.{same_by_swap}
+use Rattle.tx_model.specs.CommandEvents.{HasEvents, MayHaveGiven, abort_event, commit_event, giving, innermost, level_events, undo_event}
+use Rattle.tx_model.specs.Lines.{has_line}
+use Rattle.tx_model.specs.Replies.{MayReply, RoundSpan}
+use Rattle.tx_model.specs.Stance.{Stance, lacking, top_level}
+use Rattle.tx_events.specs.Names.{IsName}
+use Rattle.life_law.specs.Facts.{Facts}
+use Rattle.life_law.specs.Replies.{IsBank, IsLawfulReply}
+use Rattle.report_words.specs.Fits.{FitsBy, FitsId, FitsLock, FitsReply, FitsSnap}
+use Rattle.report_words.specs.Replies.{kind_of}
+use Rattle.report_lines.specs.Fits.{FitsCommand, FitsEvent}
+use Rattle.run_readable.proofs.Ids.{IdsFit, IsPlain, all_ids_fit, next_fits, oldest_fits, oldest_same, snap_fits, stop_fits}
+
+-- ---- replies
+
+given_one : (by : By) (p : Option ℕ) (id : ℕ) (es : List Event) → given (giving by p id ∷ es) ≡ id ∷ given es
+given_one by None id es = refl
+given_one by (Some q) id es = refl
+
+-- the ids that go to the levels
+level_given : (by : By) (p : Option ℕ) (levels : List (Option ℕ)) (ids : List ℕ) → length ids ≡ lacking levels → given (level_events by p levels ids) ≡ ids
+level_given by p [] [] e = refl
+level_given by p [] (x ∷ ids) e = absurd (omega arith)
+level_given by p (Some x ∷ levels) ids e = level_given by (Some x) levels ids e
+level_given by p (None ∷ levels) [] e = refl
+level_given by p (None ∷ levels) (id ∷ ids) e = given_one by p id (level_events by (Some id) levels ids) ∙ ap (λ t. id ∷ t) (level_given by (Some id) levels ids (grind (arith, common_steps)))
+
+given_of_fit : (es : List Event) → AllByRecursion IdsFit es → AllByRecursion FitsId (given es)
+given_of_fit [] a = tt
+given_of_fit (events.Id by id ∷ es) a = (a.0, given_of_fit es a.1)
+given_of_fit (events.Sub by parent id ∷ es) a = (a.0.1, given_of_fit es a.1)
+given_of_fit (e ∷ es) a = given_of_fit es a.1
+
+wrote_fits : (base : Counters) (h : List Event) (by : By) (s : Stance) (ids : List ℕ) → IsBase base → IsLegal base h → events_of by h ≡ level_events by None s.levels ids → length ids ≡ lacking s.levels → AllByRecursion FitsId ids
+wrote_fits base h by s ids b l e n =
+    subst (AllByRecursion FitsId) (ap given e ∙ level_given by None s.levels ids n) (given_of_fit (events_of by h) (all_filter IdsFit (λ x. same_by (by_of x) by) h (all_ids_fit base h b l)))
+
+all_taken : {X : Type 0} (P : X → Type 0) (n : ℕ) (xs : List X) → AllByRecursion P xs → AllByRecursion P (take n xs)
+all_taken P zero xs a = tt
+all_taken P (suc n) [] a = tt
+all_taken P (suc n) (x ∷ xs) a = (a.0, all_taken P n xs a.1)
+
+-- a reply of the history
+history_reply_fits : (base : Counters) (committed : List ℕ) (h : List Event) (round : RoundSpan) (by : By) (s : Stance) (c : Command) (r : Reply) → IsBase base → IsLegal base h → AllByRecursion IsPlain h → MayReply base committed h round by s c r → HasEvents by s c r (events_of by h) → FitsReply (kind_of c) r
+history_reply_fits base committed h round by s commands.Begin replies.Done b l p m e = refl
+history_reply_fits base committed h round by s commands.Begin (replies.Refused refusals.AlreadyOpen) b l p m e = tt
+history_reply_fits base committed h round by s commands.Save replies.Done b l p m e = refl
+history_reply_fits base committed h round by s commands.Save (replies.Refused refusals.NoTransaction) b l p m e = tt
+history_reply_fits base committed h round by s commands.Save (replies.Refused refusals.DepthLimit) b l p m e = tt
+history_reply_fits base committed h round by s commands.Write (replies.Wrote ids warn) b l p m e = (refl, wrote_fits base h by s ids b l e.0 e.1)
+history_reply_fits base committed h round by s commands.Write (replies.Refused refusals.NoTransaction) b l p m e = tt
+history_reply_fits base committed h round by s commands.Write (replies.Refused (refusals.Stop next stop)) b l p m e =
+    (subst FitsId (sym m.1.next_is) (next_fits base (take m.1.place h) b (legal_take base h m.1.place l)), subst FitsId (sym m.1.stop_is) (stop_fits _))
+history_reply_fits base committed h round by s commands.Release replies.Done b l p m e = refl
+history_reply_fits base committed h round by s commands.Release (replies.Refused refusals.NoSavepoint) b l p m e = tt
+history_reply_fits base committed h round by s commands.Undo replies.Done b l p m e = refl
+history_reply_fits base committed h round by s commands.Undo (replies.Refused refusals.NoSavepoint) b l p m e = tt
+history_reply_fits base committed h round by s commands.Commit replies.Done b l p m e = refl
+history_reply_fits base committed h round by s commands.Commit (replies.Refused refusals.NoTransaction) b l p m e = tt
+history_reply_fits base committed h round by s commands.Abort replies.Done b l p m e = refl
+history_reply_fits base committed h round by s commands.Abort (replies.Refused refusals.NoTransaction) b l p m e = tt
+history_reply_fits base committed h round by s (commands.Snap name) (replies.Snapped lists) b l p m e = (refl, subst FitsSnap (sym m.4) (snap_fits base (take m.2 h) b (legal_take base h m.2 l)))
+history_reply_fits base committed h round by s (commands.Snap name) (replies.Refused refusals.NameTaken) b l p m e = tt
+history_reply_fits base committed h round by s (commands.Snap name) (replies.Refused refusals.SnapLimit) b l p m e = tt
+history_reply_fits base committed h round by s (commands.DropSnap name) replies.Done b l p m e = refl
+history_reply_fits base committed h round by s (commands.DropSnap name) (replies.Refused refusals.NoSnapshot) b l p m e = tt
+history_reply_fits base committed h round by s (commands.See name x) (replies.Seen visible) b l p m e = refl
+history_reply_fits base committed h round by s (commands.See name x) (replies.Refused (refusals.TooOld oldest)) b l p m e =
+    let n : ℕ = m.2.found.place - m.2.found.lag in
+    subst FitsId (sym (m.2.found.oldest_is ∙ oldest_same base.oldest (take n h) (all_taken IsPlain n h p))) (oldest_fits base b)
+history_reply_fits base committed h round by s (commands.See name x) (replies.Refused refusals.NoSnapshot) b l p m e = tt
+history_reply_fits base committed h round by s c r b l p m e = absurd m
+
+-- what a life tells with which its replies can be told
+pub record CanTell (f : Facts) : Type 0 where
+  pub base : IsBase f.base
+  pub history : IsLegal f.base f.events
+  pub plain : AllByRecursion IsPlain f.events
+  pub banks : f.banks ≤ 16
+  pub flushed : f.flushed < 2 ^ 64
+
+bank_fits : (banks : ℕ) (lock : Lock) → banks ≤ 16 → IsBank banks lock → FitsLock lock
+bank_fits banks (locks.Xact bank) b i = omega arith
+bank_fits banks (locks.Subtrans bank) b i = omega arith
+bank_fits banks (locks.Offsets bank) b i = omega arith
+bank_fits banks (locks.Members bank) b i = omega arith
+bank_fits banks lock b i = absurd i
+
+-- a lawful reply
+pub reply_fits : (f : Facts) (round : RoundSpan) (by : By) (s : Stance) (o : Option Refusal) (c : Command) (r : Reply) → CanTell f → IsLawfulReply f round by s o c r → HasEvents by s c r (events_of by f.events) → FitsReply (kind_of c) r
+reply_fits f round by s o c (replies.Refused refusals.Memory) t m e = tt
+reply_fits f round by s o c (replies.Refused (refusals.DiskFault lock)) t m e = bank_fits f.banks lock t.banks m.1
+reply_fits f round by s o c (replies.Refused refusals.LogFault) t m e = tt
+reply_fits f round by s o c (replies.Refused refusals.Full) t m e = tt
+reply_fits f round by s o c (replies.Refused (refusals.LogDown at)) t m e = subst (λ n. n < 2 ^ 64) (sym m.1) t.flushed
+reply_fits f round by s o c (replies.Refused refusals.CommitPending) t m e = tt
+reply_fits f round by s o c (replies.Refused refusals.AbortPending) t m e = tt
+reply_fits f round by s o c (replies.Refused refusals.UndoPending) t m e = tt
+reply_fits f round by s o (commands.See name x) (replies.Seen visible) t m e = refl
+reply_fits f round by s o c (replies.Seen visible) t m e = absurd (false≢true m.0)
+reply_fits f round by s o c r t m e = history_reply_fits f.base f.committed f.events round by s c r t.base t.history t.plain m e
+
+-- ---- events
+
+-- the names of snapshots; no event announces or asks
+abbrev pub NamesFit : Event → Type 0
+NamesFit (events.Snap by name) = IsName name
+NamesFit (events.SnapDrop by name) = IsName name
+NamesFit (events.Oldest by oldest) = ⊥
+NamesFit (events.Ask by id) = ⊥
+NamesFit _ = Unit {0}
+
+pub named_plain : (e : Event) → NamesFit e → IsPlain e
+named_plain (events.Oldest by oldest) n = n
+named_plain (events.Ask by id) n = n
+named_plain e n = tt
+
+giving_named : (by : By) (p : Option ℕ) (id : ℕ) → NamesFit (giving by p id)
+giving_named by None id = tt
+giving_named by (Some q) id = tt
+
+levels_named : (by : By) (p : Option ℕ) (levels : List (Option ℕ)) (ids : List ℕ) → AllByRecursion NamesFit (level_events by p levels ids)
+levels_named by p [] ids = tt
+levels_named by p (Some x ∷ levels) ids = levels_named by (Some x) levels ids
+levels_named by p (None ∷ levels) [] = tt
+levels_named by p (None ∷ levels) (id ∷ ids) = (giving_named by p id, levels_named by (Some id) levels ids)
+
+undo_named : (by : By) (o : Option ℕ) → AllByRecursion NamesFit (undo_event by o)
+undo_named by None = tt
+undo_named by (Some id) = (tt, tt)
+
+commit_named : (by : By) (o : Option ℕ) → AllByRecursion NamesFit (commit_event by o)
+commit_named by None = tt
+commit_named by (Some id) = (tt, tt)
+
+abort_named : (by : By) (o : Option ℕ) → AllByRecursion NamesFit (abort_event by o)
+abort_named by None = tt
+abort_named by (Some id) = (tt, tt)
+
+-- the events of a command
+pub own_named : (by : By) (s : Stance) (c : Command) (r : Reply) (es : List Event) → FitsCommand c → HasEvents by s c r es → AllByRecursion NamesFit es
+own_named by s commands.Write (replies.Wrote ids warn) es f e = subst (AllByRecursion NamesFit) (sym e.0) (levels_named by None s.levels ids)
+own_named by s commands.Write (replies.Refused refusal) es f e = ⊎_elim
+    (λ (a : es ≡ []). subst (AllByRecursion NamesFit) (sym a) tt)
+    (λ (a : (ids : List ℕ) × (es ≡ level_events by None s.levels ids) × MayHaveGiven refusal (lacking s.levels) (length ids)). subst (AllByRecursion NamesFit) (sym a.1) (levels_named by None s.levels a.0))
+    e
+own_named by s commands.Undo replies.Done es f e = subst (AllByRecursion NamesFit) (sym e) (undo_named by (innermost s.levels))
+own_named by s commands.Commit replies.Done es f e = subst (AllByRecursion NamesFit) (sym e) (commit_named by (top_level s.levels))
+own_named by s commands.Abort replies.Done es f e = subst (AllByRecursion NamesFit) (sym e) (abort_named by (top_level s.levels))
+own_named by s (commands.Snap name) (replies.Snapped lists) es f e = subst (AllByRecursion NamesFit) (sym e) (f, tt)
+own_named by s (commands.DropSnap name) replies.Done es f e = subst (AllByRecursion NamesFit) (sym e) (f, tt)
+own_named by s c r es f e = subst (AllByRecursion NamesFit) (sym e) tt
+
+-- a line whose number and events fit
+pub record LineFits (names : List (List ℕ)) (h : List Event) (l : Line) : Type 0 where
+  pub by : FitsBy names l.by
+  pub events : AllByRecursion NamesFit (events_of l.by h)
+
+pub record EventFits (names : List (List ℕ)) (e : Event) : Type 0 where
+  pub by : FitsBy names (by_of e)
+  pub named : NamesFit e
+
+-- an event of one of these lines
+event_of_line : (names : List (List ℕ)) (h : List Event) (lines : List Line) → AllByRecursion (LineFits names h) lines → (e : Event) → Has h e → has_line lines e ≡ true → EventFits names e
+event_of_line names h lines a e k t =
+    let one = has_any (λ l. same_by l.by (by_of e)) lines t in
+    let fits = all_at (LineFits names h) lines one.0 a one.1 in
+    let parts = and_parts (one.0.by.session == (by_of e).session) (one.0.by.command == (by_of e).command) one.2 in
+    record {
+      by = record {
+        session = subst (λ n. n < length names) (eqb-true one.0.by.session (by_of e).session parts.0) fits.by.session;
+        command = subst (λ n. n < 2 ^ 64) (eqb-true one.0.by.command (by_of e).command parts.1) fits.by.command;
+      };
+      named = all_at NamesFit (events_of one.0.by h) e fits.events (filter_has (λ x. same_by (by_of x) one.0.by) h e k (same_by_swap one.0.by (by_of e) one.2));
+    }
+
+pub all_event_fit : (names : List (List ℕ)) (h : List Event) (lines : List Line) → AllByRecursion (LineFits names h) lines → AllByRecursion (λ e. has_line lines e ≡ true) h → AllByRecursion (EventFits names) h
+all_event_fit names h lines a t = all_from (EventFits names) h (λ e k. event_of_line names h lines a e k (all_at (λ x. has_line lines x ≡ true) h e t k))
+
+event_fits : (names : List (List ℕ)) (e : Event) → FitsBy names (by_of e) → NamesFit e → IdsFit e → FitsEvent names e
+event_fits names (events.Id by id) f n i = (f, i)
+event_fits names (events.Sub by parent id) f n i = (f, i.0, i.1)
+event_fits names (events.Undo by id) f n i = (f, i)
+event_fits names (events.Commit by top) f n i = (f, i)
+event_fits names (events.Abort by top) f n i = (f, i)
+event_fits names (events.Snap by name) f n i = (f, n)
+event_fits names (events.SnapDrop by name) f n i = (f, n)
+event_fits names (events.Oldest by oldest) f n i = absurd n
+event_fits names (events.Ask by id) f n i = absurd n
+
+pub events_fit : (names : List (List ℕ)) (h : List Event) → AllByRecursion (EventFits names) h → AllByRecursion IdsFit h → AllByRecursion (FitsEvent names) h
+events_fit names [] a i = tt
+events_fit names (e ∷ h) a i = (event_fits names e a.0.by a.0.named i.0, events_fit names h a.1 i.1)
+
+pub fits_by : (names : List (List ℕ)) (e : Event) → FitsEvent names e → FitsBy names (by_of e)
+fits_by names (events.Id by id) f = f.0
+fits_by names (events.Sub by parent id) f = f.0
+fits_by names (events.Undo by id) f = f.0
+fits_by names (events.Commit by top) f = f.0
+fits_by names (events.Abort by top) f = f.0
+fits_by names (events.Snap by name) f = f.0
+fits_by names (events.SnapDrop by name) f = f.0
+fits_by names (events.Oldest by oldest) f = f.0
+fits_by names (events.Ask by id) f = f.0

@@ -1,0 +1,119 @@
+-- A script's commands fit a report.
+use Rattle.std.proofs.Common.{◌≡◌, Bool, ℕ, ◌<◌, ◌≤◌, ◌==◌, ◌||◌, Option, List, [], ◌∷◌, ◌++◌, true, Ok, refl, sym, ap, subst, ◌∙◌, arith, length, append-nil, append_assoc}
+use Rattle.std.proofs.lemmas.Bool.{or_right}
+use Rattle.std.proofs.lemmas.Grind.{flat_map-append}
+use Rattle.std.proofs.lemmas.List.{map-append}
+use Rattle.std.specs.List.{AllByRecursion, flat_map}
+use Rattle.tx_events.specs.Base.{IsBase}
+use Rattle.tx_events.specs.Places.{first_seen}
+use Rattle.tx_events.proofs.ListSteps.{all_push, both_all, eqb-refl}
+use Rattle.tx_model.specs.declared.command.Command.{Command}
+use Rattle.tx_model.specs.declared.command.Command.TheVariants as commands
+use Rattle.tx_model.specs.declared.report.Report.{Report}
+use Rattle.session_lang.specs.declared.script.Item.{Item}
+use Rattle.session_lang.specs.declared.script.Item.TheVariants as items
+use Rattle.session_lang.specs.declared.script.Script.{Script}
+use Rattle.session_lang.specs.Plain.{IsInRange, IsItem}
+use Rattle.session_lang.specs.Rounds.{round_of, rounds_from, rounds_of, sessions_in}
+use Rattle.session_lang.specs.Script.{read_script}
+use Rattle.session_lang.proofs.SeenLemmas.{is_in, old_number}
+use Rattle.report_words.specs.Fits.{FitsCounters}
+use Rattle.report_lines.specs.Fits.{FitsCommand}
+use Rattle.report_text.specs.ReportText.{report_text}
+use Rattle.report_read.specs.Reports.{IsReport}
+use Rattle.report_read.proofs.Reading.{one_report}
+use Rattle.run_law.specs.Tool.{IsAnswer, IsReportOf}
+use Rattle.run_readable.proofs.Readings.{script_read}
+use Rattle.run_readable.proofs.Turns.{sessions_of}
+use Rattle.run_readable.proofs.Sizes.{RoundFits, TurnFits}
+use Rattle.run_readable.proofs.Whole.{told_again}
+
+command_fits : (c : Command) → IsInRange c → FitsCommand c
+command_fits (commands.Snap name) i = i
+command_fits (commands.DropSnap name) i = i
+command_fits (commands.See name x) i = (i.0, i.1)
+command_fits (commands.Status x) i = i
+command_fits (commands.Did x) i = i
+command_fits (commands.Multi members) i = i
+command_fits (commands.SeeMulti name m) i = (i.0, i.1, i.2)
+command_fits (commands.Freeze x) i = i
+command_fits (commands.MultiFreeze m) i = i
+command_fits c i = tt
+
+abbrev ItemFits : List (List ℕ) → Item → Type 0
+ItemFits names (items.Run s c) = TurnFits names (s, c)
+ItemFits names _ = Unit {0}
+
+items_fit : (names : List (List ℕ)) (script : List Item) → ((k : ℕ) → is_in k (sessions_in script) ≡ true → k < length names) → AllByRecursion IsItem script → AllByRecursion (ItemFits names) script
+items_fit names [] f r = tt
+items_fit names (items.Run s c ∷ script) f r = (
+  record { session = f s (ap (λ b. b || is_in s (sessions_in script)) (eqb-refl s)); command = command_fits c r.0 },
+  items_fit names script (λ k e. f k (or_right (k == s) (is_in k (sessions_in script)) e)) r.1,
+)
+items_fit names (items.Round ∷ script) f r = (tt, items_fit names script f r.1)
+items_fit names (items.Checkpoint ∷ script) f r = (tt, items_fit names script f r.1)
+items_fit names (items.Crash how ∷ script) f r = (tt, items_fit names script f r.1)
+items_fit names (items.Dump what at size ∷ script) f r = (tt, items_fit names script f r.1)
+
+round_fits : (names : List (List ℕ)) (turns : List (ℕ × Command)) → AllByRecursion (TurnFits names) turns → AllByRecursion (RoundFits names) (round_of turns)
+round_fits names [] a = tt
+round_fits names (t ∷ turns) a = (record { some = λ n. cc; each = a }, tt)
+
+rounds_fit : (names : List (List ℕ)) (turns : List (ℕ × Command)) (script : List Item) → AllByRecursion (TurnFits names) turns → AllByRecursion (ItemFits names) script → AllByRecursion (RoundFits names) (rounds_from turns script)
+rounds_fit names turns [] a f = round_fits names turns a
+rounds_fit names turns (items.Run s c ∷ script) a f = rounds_fit names (turns ++ (s, c) ∷ []) script (all_push (TurnFits names) turns (s, c) a f.0) f.1
+rounds_fit names turns (x ∷ script) a f = both_all (RoundFits names) (round_of turns) (rounds_from [] script) (round_fits names turns a) (rounds_fit names [] script tt f.1)
+
+one_round : (turns : List (ℕ × Command)) → flat_map sessions_of (round_of turns) ≡ sessions_of turns
+one_round [] = refl
+one_round (t ∷ turns) = append-nil (sessions_of (t ∷ turns))
+
+next_round : (turns : List (ℕ × Command)) (script : List Item) → flat_map sessions_of (rounds_from [] script) ≡ sessions_in script → flat_map sessions_of (round_of turns ++ rounds_from [] script) ≡ sessions_of turns ++ sessions_in script
+next_round turns script e =
+    flat_map-append sessions_of (round_of turns) (rounds_from [] script)
+    ∙ ap (λ t. t ++ flat_map sessions_of (rounds_from [] script)) (one_round turns)
+    ∙ ap (λ t. sessions_of turns ++ t) e
+
+rounds_sessions : (turns : List (ℕ × Command)) (script : List Item) → flat_map sessions_of (rounds_from turns script) ≡ sessions_of turns ++ sessions_in script
+rounds_sessions turns [] = one_round turns ∙ sym (append-nil (sessions_of turns))
+rounds_sessions turns (items.Run s c ∷ script) =
+    rounds_sessions (turns ++ (s, c) ∷ []) script
+    ∙ ap (λ t. t ++ sessions_in script) (map-append (λ (t : ℕ × Command). t.0) turns ((s, c) ∷ []))
+    ∙ append_assoc (sessions_of turns) (s ∷ []) (sessions_in script)
+rounds_sessions turns (items.Round ∷ script) = next_round turns script (rounds_sessions [] script)
+rounds_sessions turns (items.Checkpoint ∷ script) = next_round turns script (rounds_sessions [] script)
+rounds_sessions turns (items.Crash how ∷ script) = next_round turns script (rounds_sessions [] script)
+rounds_sessions turns (items.Dump what at size ∷ script) = next_round turns script (rounds_sessions [] script)
+
+sessions_short : (script : List Item) → length (sessions_in script) ≤ length script
+sessions_short [] = omega arith
+sessions_short (items.Run s c ∷ script) = let i = sessions_short script in omega arith
+sessions_short (items.Round ∷ script) = let i = sessions_short script in omega arith
+sessions_short (items.Checkpoint ∷ script) = let i = sessions_short script in omega arith
+sessions_short (items.Crash how ∷ script) = let i = sessions_short script in omega arith
+sessions_short (items.Dump what at size ∷ script) = let i = sessions_short script in omega arith
+
+pub script_told_again : (tells : Bool) (bytes : List ℕ) (s : Script) (r : Report) → read_script bytes ≡ Ok s → IsReportOf tells s r → IsReport r
+script_told_again tells bytes s r e ran =
+    let read = script_read bytes s e in
+    let base = ran.begins.base_is in
+    subst (λ names. IsReport (record { names = names; lives = r.lives })) (sym ran.names)
+    (subst (λ lives. IsReport (record { names = s.names; lives = lives })) (sym ran.one)
+    (told_again tells s.banks s.names (rounds_of s.items) s.base ran.life read.banks ran.begins ran.last ran.lawful
+    (record {
+      names_are = read.names;
+      few = read.sessions;
+      base_is = subst IsBase (sym base) read.base;
+      counters = subst FitsCounters (sym base) read.counters;
+      turns = let all = ap length (rounds_sessions [] s.items) in let few = sessions_short s.items in let m = read.few in omega arith;
+    })
+    (rounds_fit s.names [] s.items tt (items_fit s.names s.items (λ k e. old_number k (length s.names) (sessions_in s.items) read.numbered e) read.items))
+    (ap first_seen (rounds_sessions [] s.items) ∙ read.numbered)))
+
+-- The text that a run answers is that of its report, and of no other.
+pub answer_of_one : (tells : Bool) (left left' : Option (List ℕ)) (text : List ℕ) (a : IsAnswer tells left left' text)
+    → (text ≡ report_text a.report) × ((r : Report) → IsReport r → text ≡ report_text r → r ≡ a.report)
+answer_of_one tells left left' text a = (
+  a.exact,
+  λ r is e. one_report r a.report is (script_told_again tells a.bytes a.script a.report a.spelled a.lawful) (sym e ∙ a.exact),
+)

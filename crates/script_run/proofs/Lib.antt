@@ -1,0 +1,5 @@
+mod RoundCounts
+mod RoundSteps
+mod RoundsRun
+mod LifeTold
+mod ToolEnds

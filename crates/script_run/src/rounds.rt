@@ -1,0 +1,183 @@
+//! Runs the rounds of a script over one lock table, and prints them as they are done.
+ghost use Rattle.std.specs.Prelude.{◌≡◌, ◌+◌, ◌^◌, ◌<◌, ◌≤◌, ◌∷◌, ℕ, List, [], IfOk, OnOk, length, true};
+ghost use Rattle.std.specs.List.{All};
+ghost use Rattle.engine_parts.specs.declared.session.Session.{Session};
+ghost use Rattle.engine_host.specs.Hosts.{HasSeenNothing, HoldsAllBut, IsHost, IsNewSession, IsParked};
+ghost use Rattle.session_lang.specs.Rounds.{round_of, rounds_of};
+ghost use Rattle.run_law.specs.Turns.{IsRunnable, MayRun, is_command, turns_in};
+ghost use Rattle.script_rounds.specs.Plans.{IsBlank};
+ghost use Rattle.session_rounds.specs.declared.rest.Resting.{Resting as Here};
+ghost use Rattle.session_rounds.specs.Rounds.{MayAdd};
+ghost use Rattle.life_rounds.specs.GoesOn.{AreHome, GoesOn};
+ghost use Rattle.script_run.specs.Runs.{HasRun, RunsOn};
+
+use disk_core::{LogDisk, PageDisk};
+use engine_host::Host;
+use engine_parts::EngineLaw;
+use hall::Hall;
+use life_rounds::laws::{life_begins, life_goes_on};
+use report_text::{Text, put_round_line};
+use script_rounds::{Plan, next_round};
+use session_lang::{Items, Script};
+use session_rounds::{Resting, new_sessions, run_round};
+use std::alloc::Global;
+use std::sync::Wait;
+use std::thread::Threads;
+use tx_model::{Memory, NameList};
+
+// A round of fewer commands isn't worth a thread.
+const FEW_COMMANDS: usize = 64;
+
+/// How many threads a round takes, of at most so many.
+fn threads_for(plan: &Plan, round: &Items, most: usize) -> usize
+    ensures { 0 < result }
+{
+    if plan.sessions.len() <= 1 || round.len() < FEW_COMMANDS {
+        return 1;
+    }
+    most.max(1)
+}
+
+/// Runs a round that has commands, behind so many rounds, and prints it.
+fn run_numbered<R: Threads + Wait + Sync, L: LogDisk + Send + Sync, P: PageDisk + Send + Sync>(
+    rt: &R,
+    alloc: Global,
+    hall: &Hall<EngineLaw<L, P>>,
+    host: &mut Host<L, P>,
+    sessions: &mut [Resting],
+    plan: &mut Plan,
+    rounds: u64,
+    round: &Items,
+    names: &NameList,
+    text: &mut Text,
+    threads: usize,
+) -> Result<(), Memory>
+    requires home { AreHome hall.now host.old sessions.old }
+    requires room { MayAdd (length round.now) sessions.old }
+    requires items { All (MayRun (length sessions.old)) round.now }
+    requires plan { IsBlank plan.old × (length plan.old.places.items ≡ length sessions.old) }
+    requires few { rounds < 2 ^ 32 }
+    ensures home { AreHome hall.now host.new sessions.new }
+    ensures cluster { host.new.cluster ≡ host.old.cluster }
+    ensures count { length sessions.new ≡ length sessions.old }
+    ensures plan { OnOk result (IsBlank plan.new × (length plan.new.places.items ≡ length sessions.new)) }
+    ensures ran { OnOk result (RunsOn hall.now names.now rounds (turns_in round.now ∷ []) host.old host.new
+        sessions.old sessions.new text.old text.new) }
+{
+    life_goes_on(hall);
+    plan.fill(round)?;
+    put_round_line(text, rounds + 1)?;
+    let count = threads_for(plan, round, threads);
+    run_round(
+        rt, alloc, hall, host, sessions, plan, round, names, text, count,
+    )?;
+    plan.clear(alloc);
+    Ok(())
+}
+
+/// Runs a round behind so many rounds, if it has commands, and answers how many have run then.
+fn run_next<R: Threads + Wait + Sync, L: LogDisk + Send + Sync, P: PageDisk + Send + Sync>(
+    rt: &R,
+    alloc: Global,
+    hall: &Hall<EngineLaw<L, P>>,
+    host: &mut Host<L, P>,
+    sessions: &mut [Resting],
+    plan: &mut Plan,
+    rounds: u64,
+    round: &Items,
+    names: &NameList,
+    text: &mut Text,
+    threads: usize,
+) -> Result<u64, Memory>
+    requires home { AreHome hall.now host.old sessions.old }
+    requires room { MayAdd (length round.now) sessions.old }
+    requires items { All (MayRun (length sessions.old)) round.now }
+    requires commands { All (λ item. is_command item ≡ true) round.now }
+    requires plan { IsBlank plan.old × (length plan.old.places.items ≡ length sessions.old) }
+    requires few { rounds < 2 ^ 32 }
+    ensures home { AreHome hall.now host.new sessions.new }
+    ensures cluster { host.new.cluster ≡ host.old.cluster }
+    ensures count { length sessions.new ≡ length sessions.old }
+    ensures plan { OnOk result (IsBlank plan.new × (length plan.new.places.items ≡ length sessions.new)) }
+    ensures rounds { IfOk result (λ n. n ≡ rounds + length (round_of (turns_in round.now))) }
+    ensures ran { OnOk result (RunsOn hall.now names.now rounds (round_of (turns_in round.now)) host.old host.new
+        sessions.old sessions.new text.old text.new) }
+{
+    if round.is_empty() {
+        return Ok(rounds);
+    }
+    run_numbered(
+        rt, alloc, hall, host, sessions, plan, rounds, round, names, text, threads,
+    )?;
+    Ok(rounds + 1)
+}
+
+/// Runs the rounds of a script, one after another, its sessions being these.
+fn run_each<R: Threads + Wait + Sync, L: LogDisk + Send + Sync, P: PageDisk + Send + Sync>(
+    rt: &R,
+    alloc: Global,
+    hall: &Hall<EngineLaw<L, P>>,
+    host: &mut Host<L, P>,
+    sessions: &mut [Resting],
+    script: Items,
+    names: &NameList,
+    text: &mut Text,
+    threads: usize,
+) -> Result<(), Memory>
+    requires begins { GoesOn hall.now host.old sessions.old [] }
+    requires items { All (MayRun (length sessions.old)) script }
+    requires few { length script ≤ 2 ^ 24 }
+    ensures home { AreHome hall.now host.new sessions.new }
+    ensures cluster { host.new.cluster ≡ host.old.cluster }
+    ensures ran { OnOk result (HasRun hall.now host.new sessions.new names.now (rounds_of script.entry)
+        text.old text.new) }
+{
+    let mut plan = Plan::new(alloc, sessions.len())?;
+    let mut rest = script;
+    let mut rounds = 0;
+    while !rest.is_empty() {
+        let (round, behind) = next_round(&rest);
+        rounds = run_next(
+            rt, alloc, hall, host, sessions, &mut plan, rounds, &round, names, text, threads,
+        )?;
+        rest = behind;
+    }
+    Ok(())
+}
+
+/// Runs the rounds of a script, one after another: the sessions of a round on at most so many threads.
+pub fn run_rounds<R: Threads + Wait + Sync, L: LogDisk + Send + Sync, P: PageDisk + Send + Sync>(
+    rt: &R,
+    alloc: Global,
+    hall: &Hall<EngineLaw<L, P>>,
+    host: &mut Host<L, P>,
+    script: &Script,
+    text: &mut Text,
+    threads: usize,
+) -> Result<(), Memory>
+    requires host { IsHost hall.now host.old }
+    requires all { HoldsAllBut host.old [] }
+    requires unseen { HasSeenNothing host.old }
+    requires parked { (n : ℕ) (s : Session) → n < host.old.cluster.sessions → IsNewSession s → IsParked hall.now host.old n s }
+    requires runnable { IsRunnable script.now }
+    requires count { host.old.cluster.sessions ≡ length script.now.names }
+    ensures host { IsHost hall.now host.new }
+    ensures all { HoldsAllBut host.new [] }
+    ensures ran { OnOk result ((sessions : List Here) × HasRun hall.now host.new sessions script.now.names
+        (rounds_of script.now.items) text.old text.new) }
+{
+    let mut sessions = new_sessions(alloc, host.cluster.sessions)?;
+    life_begins(hall);
+    let all = sessions.as_mut_slice();
+    run_each(
+        rt,
+        alloc,
+        hall,
+        host,
+        all,
+        script.items.items(),
+        &script.names,
+        text,
+        threads,
+    )
+}

@@ -20,7 +20,7 @@ use Rattle.tx_model.specs.declared.reply.Reply.TheVariants as replies
 use Rattle.tx_model.specs.declared.report.LifeReport.{LifeReport}
 use Rattle.tx_model.specs.declared.report.Line.{Line}
 use Rattle.tx_model.specs.CommandEvents.{HasEvents, abort_event, commit_event}
-use Rattle.tx_model.specs.LawfulLife.{lines_in}
+use Rattle.tx_model.specs.Rounds.{lines_in}
 use Rattle.tx_model.specs.Lines.{is_line_of, span_of, stance}
 use Rattle.tx_model.specs.Stance.{Stance, after, nothing_yet}
 use Rattle.life_law.specs.LawfulLife.{facts_of}

@@ -9,7 +9,7 @@ use Rattle.tx_model.specs.declared.report.Life.{Life}
 use Rattle.tx_model.specs.declared.report.LifeReport.{LifeReport}
 use Rattle.tx_model.specs.declared.report.Line.{Line}
 use Rattle.tx_model.specs.declared.report.Step.{Step}
-use Rattle.tx_model.specs.LawfulLife.{AreInTurn, AreRounds, lines_in}
+use Rattle.tx_model.specs.Rounds.{AreInTurn, AreRounds, lines_in}
 use Rattle.tx_model.specs.Lines.{has_line}
 use Rattle.life_law.specs.Facts.{Facts, has_log_fault}
 use Rattle.life_law.specs.LifeLog.{IsLogOf}

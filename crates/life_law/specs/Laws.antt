@@ -13,7 +13,7 @@ use Rattle.tx_model.specs.declared.reply.Reply.TheVariants as replies
 use Rattle.tx_model.specs.declared.report.LifeReport.{LifeReport}
 use Rattle.tx_model.specs.declared.report.Line.{Line}
 use Rattle.tx_model.specs.declared.report.Step.{Step}
-use Rattle.tx_model.specs.LawfulLife.{lines_in}
+use Rattle.tx_model.specs.Rounds.{lines_in}
 use Rattle.tx_model.specs.Lines.{is_line_of, stance}
 use Rattle.tx_model.specs.Stance.{top_level}
 use Rattle.life_law.specs.LawfulLife.{IsLawfulLife}

@@ -1,9 +1,9 @@
 -- What a run of the tool says.
-use Rattle.std.specs.Prelude.{◌≡◌, ℕ, Bool, ◌<◌, ◌≤◌, ◌⊎◌, List, [], ◌∷◌, ◌++◌, Option, None, Some, Ok, take, length, codes, Contains}
+use Rattle.std.specs.Prelude.{◌≡◌, ℕ, Bool, ◌<◌, ◌≤◌, ◌⊎◌, List, [], ◌∷◌, Option, None, Some, Ok, length, codes}
 use Rattle.std.specs.Io.KnownBytes.{Consumes, Appends, IsAtEnd}
 use Rattle.tx_model.specs.declared.report.Report.{Report}
 use Rattle.tx_model.specs.declared.report.LifeReport.{LifeReport}
-use Rattle.tx_model.specs.LawfulLife.{BeginsLog}
+use Rattle.tx_model.specs.Rounds.{BeginsLog}
 use Rattle.life_law.specs.LawfulLife.{IsLawfulLife}
 use Rattle.script_lines.specs.declared.kind.Kind.{Kind}
 use Rattle.session_lang.specs.declared.script.Script.{Script}
@@ -67,15 +67,3 @@ pub record IsRefused (left left' held held' : Option (List ℕ)) : Type 0 where
   pub text : List ℕ
   pub refusal : IsNoScript left left' text
   pub written : Appends held held' text
-
--- the other lines that end a run without a report
-abbrev pub last_lines : List (List ℕ)
-last_lines =
-    (codes "words" ++ 10 ∷ []) ∷ (codes "read-fault" ++ 10 ∷ []) ∷ (codes "memory" ++ 10 ∷ []) ∷ []
-
--- The sink holds a front of a run's report more, or of a last line.
-pub record HoldsFront (tells : Bool) (left left' held held' : Option (List ℕ)) : Type 0 where
-  pub text : List ℕ
-  pub whole : IsAnswer tells left left' text ⊎ (IsNoScript left left' text ⊎ Contains last_lines text)
-  pub count : ℕ
-  pub front : Appends held held' (take count text)

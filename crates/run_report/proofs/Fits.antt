@@ -1,14 +1,15 @@
--- What a run's lines, events and records say fits a report.
-use Rattle.std.proofs.Common.{◌≡◌, ℕ, zero, suc, ◌-◌, ◌^◌, ◌<◌, List, [], ◌∷◌, ◌++◌, true, Option, Some, None, refl, sym, ap, subst, ◌∙◌, ⊎_elim, arith, length, take, drop, reverse, eqb-true, ◌==◌}
-use Rattle.std.proofs.lemmas.Bool.{and_parts}
+-- What a run's lines and events say fits a report.
+use Rattle.std.proofs.Common.{◌≡◌, ℕ, zero, suc, ◌-◌, ◌^◌, ◌<◌, ◌≤◌, List, [], ◌∷◌, true, Option, Some, None, refl, sym, ap, subst, ◌∙◌, ⊎_elim, arith, length, take, eqb-true, ◌==◌}
+use Rattle.std.proofs.lemmas.Bool.{and_parts, false≢true}
 use Rattle.std.proofs.lemmas.Grind.{common_steps}
-use Rattle.std.proofs.lemmas.List.{reverse-append, reverse-reverse}
 use Rattle.std.specs.List.{AllByRecursion}
 use Rattle.tx_events.specs.declared.event.By.{By}
 use Rattle.tx_events.specs.declared.event.Event.{Event}
 use Rattle.tx_events.specs.declared.event.Event.TheVariants as events
 use Rattle.tx_events.specs.declared.record.Counters.{Counters}
-use Rattle.tx_events.specs.declared.record.Rec.{Rec}
+use Rattle.tx_events.specs.declared.refusal.Lock.{Lock}
+use Rattle.tx_events.specs.declared.refusal.Lock.TheVariants as locks
+use Rattle.tx_events.specs.declared.refusal.Refusal.{Refusal}
 use Rattle.tx_events.specs.declared.refusal.Refusal.TheVariants as refusals
 use Rattle.tx_model.specs.declared.command.Command.{Command}
 use Rattle.tx_model.specs.declared.command.Command.TheVariants as commands
@@ -18,22 +19,21 @@ use Rattle.tx_model.specs.declared.report.Line.{Line}
 use Rattle.tx_events.specs.Base.{IsBase}
 use Rattle.tx_events.specs.Events.{by_of, events_of, given, same_by}
 use Rattle.tx_events.specs.History.{IsLegal}
-use Rattle.tx_events.specs.Running.{open_ids}
-use Rattle.tx_events.proofs.GivenIds.{legal_front, legal_take}
-use Rattle.tx_events.proofs.ListSteps.{all_filter, both_all}
+use Rattle.tx_events.proofs.GivenIds.{legal_take}
+use Rattle.tx_events.proofs.ListSteps.{all_filter}
 use Rattle.tx_events.proofs.Membership.{Has, all_at, all_from, filter_has, has_any}
 use Rattle.tx_events.proofs.OwnEvents.{same_by_swap}
 use Rattle.tx_model.specs.CommandEvents.{HasEvents, MayHaveGiven, abort_event, commit_event, giving, innermost, level_events, undo_event}
-use Rattle.tx_model.specs.LifeLog.{end_records, record_of, records_up}
 use Rattle.tx_model.specs.Lines.{has_line}
 use Rattle.tx_model.specs.Replies.{MayReply, RoundSpan}
 use Rattle.tx_model.specs.Stance.{Stance, lacking, top_level}
 use Rattle.tx_events.specs.Names.{IsName}
-use Rattle.report_words.specs.Fits.{FitsBy, FitsId, FitsReply, FitsSnap}
+use Rattle.life_law.specs.Facts.{Facts}
+use Rattle.life_law.specs.Replies.{IsBank, IsLawfulReply}
+use Rattle.report_words.specs.Fits.{FitsBy, FitsId, FitsLock, FitsReply, FitsSnap}
 use Rattle.report_words.specs.Replies.{kind_of}
-use Rattle.report_lines.specs.Fits.{FitsCommand, FitsEvent, FitsRecord}
-use Rattle.run_report.proofs.Ends.{EndsOnce}
-use Rattle.run_report.proofs.Ids.{IdsFit, IsPlain, all_ids_fit, ids_fit, next_fits, oldest_fits, oldest_same, open_fits, snap_fits, stop_fits}
+use Rattle.report_lines.specs.Fits.{FitsCommand, FitsEvent}
+use Rattle.run_report.proofs.Ids.{IdsFit, IsPlain, all_ids_fit, next_fits, oldest_fits, oldest_same, snap_fits, stop_fits}
 
 -- ---- replies
 
@@ -64,41 +64,65 @@ all_taken P zero xs a = tt
 all_taken P (suc n) [] a = tt
 all_taken P (suc n) (x ∷ xs) a = (a.0, all_taken P n xs a.1)
 
-all_dropped : {X : Type 0} (P : X → Type 0) (n : ℕ) (xs : List X) → AllByRecursion P xs → AllByRecursion P (drop n xs)
-all_dropped P zero xs a = a
-all_dropped P (suc n) [] a = tt
-all_dropped P (suc n) (x ∷ xs) a = all_dropped P n xs a.1
-
--- a lawful reply
-pub reply_fits : (base : Counters) (h : List Event) (round : RoundSpan) (by : By) (s : Stance) (c : Command) (r : Reply) → IsBase base → IsLegal base h → AllByRecursion IsPlain h → MayReply base [] h round by s c r → HasEvents by s c r (events_of by h) → FitsReply (kind_of c) r
-reply_fits base h round by s commands.Begin replies.Done b l p m e = refl
-reply_fits base h round by s commands.Begin (replies.Refused refusals.AlreadyOpen) b l p m e = tt
-reply_fits base h round by s commands.Save replies.Done b l p m e = refl
-reply_fits base h round by s commands.Save (replies.Refused refusals.NoTransaction) b l p m e = tt
-reply_fits base h round by s commands.Save (replies.Refused refusals.DepthLimit) b l p m e = tt
-reply_fits base h round by s commands.Write (replies.Wrote ids warn) b l p m e = (refl, wrote_fits base h by s ids b l e.0 e.1)
-reply_fits base h round by s commands.Write (replies.Refused refusals.NoTransaction) b l p m e = tt
-reply_fits base h round by s commands.Write (replies.Refused (refusals.Stop next stop)) b l p m e =
+-- a reply of the history
+history_reply_fits : (base : Counters) (committed : List ℕ) (h : List Event) (round : RoundSpan) (by : By) (s : Stance) (c : Command) (r : Reply) → IsBase base → IsLegal base h → AllByRecursion IsPlain h → MayReply base committed h round by s c r → HasEvents by s c r (events_of by h) → FitsReply (kind_of c) r
+history_reply_fits base committed h round by s commands.Begin replies.Done b l p m e = refl
+history_reply_fits base committed h round by s commands.Begin (replies.Refused refusals.AlreadyOpen) b l p m e = tt
+history_reply_fits base committed h round by s commands.Save replies.Done b l p m e = refl
+history_reply_fits base committed h round by s commands.Save (replies.Refused refusals.NoTransaction) b l p m e = tt
+history_reply_fits base committed h round by s commands.Save (replies.Refused refusals.DepthLimit) b l p m e = tt
+history_reply_fits base committed h round by s commands.Write (replies.Wrote ids warn) b l p m e = (refl, wrote_fits base h by s ids b l e.0 e.1)
+history_reply_fits base committed h round by s commands.Write (replies.Refused refusals.NoTransaction) b l p m e = tt
+history_reply_fits base committed h round by s commands.Write (replies.Refused (refusals.Stop next stop)) b l p m e =
     (subst FitsId (sym m.1.next_is) (next_fits base (take m.1.place h) b (legal_take base h m.1.place l)), subst FitsId (sym m.1.stop_is) (stop_fits _))
-reply_fits base h round by s commands.Release replies.Done b l p m e = refl
-reply_fits base h round by s commands.Release (replies.Refused refusals.NoSavepoint) b l p m e = tt
-reply_fits base h round by s commands.Undo replies.Done b l p m e = refl
-reply_fits base h round by s commands.Undo (replies.Refused refusals.NoSavepoint) b l p m e = tt
-reply_fits base h round by s commands.Commit replies.Done b l p m e = refl
-reply_fits base h round by s commands.Commit (replies.Refused refusals.NoTransaction) b l p m e = tt
-reply_fits base h round by s commands.Abort replies.Done b l p m e = refl
-reply_fits base h round by s commands.Abort (replies.Refused refusals.NoTransaction) b l p m e = tt
-reply_fits base h round by s (commands.Snap name) (replies.Snapped lists) b l p m e = (refl, subst FitsSnap (sym m.4) (snap_fits base (take m.2 h) b (legal_take base h m.2 l)))
-reply_fits base h round by s (commands.Snap name) (replies.Refused refusals.NameTaken) b l p m e = tt
-reply_fits base h round by s (commands.Snap name) (replies.Refused refusals.SnapLimit) b l p m e = tt
-reply_fits base h round by s (commands.DropSnap name) replies.Done b l p m e = refl
-reply_fits base h round by s (commands.DropSnap name) (replies.Refused refusals.NoSnapshot) b l p m e = tt
-reply_fits base h round by s (commands.See name x) (replies.Seen visible) b l p m e = refl
-reply_fits base h round by s (commands.See name x) (replies.Refused (refusals.TooOld oldest)) b l p m e =
+history_reply_fits base committed h round by s commands.Release replies.Done b l p m e = refl
+history_reply_fits base committed h round by s commands.Release (replies.Refused refusals.NoSavepoint) b l p m e = tt
+history_reply_fits base committed h round by s commands.Undo replies.Done b l p m e = refl
+history_reply_fits base committed h round by s commands.Undo (replies.Refused refusals.NoSavepoint) b l p m e = tt
+history_reply_fits base committed h round by s commands.Commit replies.Done b l p m e = refl
+history_reply_fits base committed h round by s commands.Commit (replies.Refused refusals.NoTransaction) b l p m e = tt
+history_reply_fits base committed h round by s commands.Abort replies.Done b l p m e = refl
+history_reply_fits base committed h round by s commands.Abort (replies.Refused refusals.NoTransaction) b l p m e = tt
+history_reply_fits base committed h round by s (commands.Snap name) (replies.Snapped lists) b l p m e = (refl, subst FitsSnap (sym m.4) (snap_fits base (take m.2 h) b (legal_take base h m.2 l)))
+history_reply_fits base committed h round by s (commands.Snap name) (replies.Refused refusals.NameTaken) b l p m e = tt
+history_reply_fits base committed h round by s (commands.Snap name) (replies.Refused refusals.SnapLimit) b l p m e = tt
+history_reply_fits base committed h round by s (commands.DropSnap name) replies.Done b l p m e = refl
+history_reply_fits base committed h round by s (commands.DropSnap name) (replies.Refused refusals.NoSnapshot) b l p m e = tt
+history_reply_fits base committed h round by s (commands.See name x) (replies.Seen visible) b l p m e = refl
+history_reply_fits base committed h round by s (commands.See name x) (replies.Refused (refusals.TooOld oldest)) b l p m e =
     let n : ℕ = m.2.found.place - m.2.found.lag in
     subst FitsId (sym (m.2.found.oldest_is ∙ oldest_same base.oldest (take n h) (all_taken IsPlain n h p))) (oldest_fits base b)
-reply_fits base h round by s (commands.See name x) (replies.Refused refusals.NoSnapshot) b l p m e = tt
-reply_fits base h round by s c r b l p m e = absurd m
+history_reply_fits base committed h round by s (commands.See name x) (replies.Refused refusals.NoSnapshot) b l p m e = tt
+history_reply_fits base committed h round by s c r b l p m e = absurd m
+
+-- what a life tells with which its replies can be told
+pub record CanTell (f : Facts) : Type 0 where
+  pub base : IsBase f.base
+  pub history : IsLegal f.base f.events
+  pub plain : AllByRecursion IsPlain f.events
+  pub banks : f.banks ≤ 16
+  pub flushed : f.flushed < 2 ^ 64
+
+bank_fits : (banks : ℕ) (lock : Lock) → banks ≤ 16 → IsBank banks lock → FitsLock lock
+bank_fits banks (locks.Xact bank) b i = omega arith
+bank_fits banks (locks.Subtrans bank) b i = omega arith
+bank_fits banks (locks.Offsets bank) b i = omega arith
+bank_fits banks (locks.Members bank) b i = omega arith
+bank_fits banks lock b i = absurd i
+
+-- a lawful reply
+pub reply_fits : (f : Facts) (round : RoundSpan) (by : By) (s : Stance) (o : Option Refusal) (c : Command) (r : Reply) → CanTell f → IsLawfulReply f round by s o c r → HasEvents by s c r (events_of by f.events) → FitsReply (kind_of c) r
+reply_fits f round by s o c (replies.Refused refusals.Memory) t m e = tt
+reply_fits f round by s o c (replies.Refused (refusals.DiskFault lock)) t m e = bank_fits f.banks lock t.banks m.1
+reply_fits f round by s o c (replies.Refused refusals.LogFault) t m e = tt
+reply_fits f round by s o c (replies.Refused refusals.Full) t m e = tt
+reply_fits f round by s o c (replies.Refused (refusals.LogDown at)) t m e = subst (λ n. n < 2 ^ 64) (sym m.1) t.flushed
+reply_fits f round by s o c (replies.Refused refusals.CommitPending) t m e = tt
+reply_fits f round by s o c (replies.Refused refusals.AbortPending) t m e = tt
+reply_fits f round by s o c (replies.Refused refusals.UndoPending) t m e = tt
+reply_fits f round by s o (commands.See name x) (replies.Seen visible) t m e = refl
+reply_fits f round by s o c (replies.Seen visible) t m e = absurd (false≢true m.0)
+reply_fits f round by s o c r t m e = history_reply_fits f.base f.committed f.events round by s c r t.base t.history t.plain m e
 
 -- ---- events
 
@@ -151,11 +175,10 @@ own_named by s (commands.Snap name) (replies.Snapped lists) es f e = subst (AllB
 own_named by s (commands.DropSnap name) replies.Done es f e = subst (AllByRecursion NamesFit) (sym e) (f, tt)
 own_named by s c r es f e = subst (AllByRecursion NamesFit) (sym e) tt
 
--- a line whose number and events fit, of which one at the most is an end
+-- a line whose number and events fit
 pub record LineFits (names : List (List ℕ)) (h : List Event) (l : Line) : Type 0 where
   pub by : FitsBy names l.by
   pub events : AllByRecursion NamesFit (events_of l.by h)
-  pub once : EndsOnce (events_of l.by h)
 
 pub record EventFits (names : List (List ℕ)) (e : Event) : Type 0 where
   pub by : FitsBy names (by_of e)
@@ -203,22 +226,3 @@ fits_by names (events.Snap by name) f = f.0
 fits_by names (events.SnapDrop by name) f = f.0
 fits_by names (events.Oldest by oldest) f = f.0
 fits_by names (events.Ask by id) f = f.0
-
--- ---- records
-
-abbrev pub RecFits : Rec → Type 0
-RecFits r = (n : ℕ) → FitsRecord n r
-
-record_fits : (base : Counters) (h : List Event) (e : Event) → IsBase base → IsLegal base (h ++ e ∷ []) → AllByRecursion RecFits (record_of h e)
-record_fits base h (events.Commit by top) b l = (λ n. (ids_fit base h (events.Commit by top) b l, all_dropped FitsId 1 (open_ids by.session h) (open_fits base h by.session b (legal_front base h (events.Commit by top) l))), tt)
-record_fits base h (events.Abort by top) b l = (λ n. (ids_fit base h (events.Abort by top) b l, all_dropped FitsId 1 (open_ids by.session h) (open_fits base h by.session b (legal_front base h (events.Abort by top) l))), tt)
-record_fits base h e b l = tt
-
-up_fit : (base : Counters) (older : List Event) → IsBase base → IsLegal base (reverse older) → AllByRecursion RecFits (records_up older)
-up_fit base [] b l = tt
-up_fit base (e ∷ older) b l =
-    let legal : IsLegal base (reverse older ++ e ∷ []) = subst (IsLegal base) (reverse-append (e ∷ []) older) l in
-    both_all RecFits (records_up older) (record_of (reverse older) e) (up_fit base older b (legal_front base (reverse older) e legal)) (record_fits base (reverse older) e b legal)
-
-pub end_records_fit : (base : Counters) (h : List Event) → IsBase base → IsLegal base h → AllByRecursion RecFits (end_records h)
-end_records_fit base h b l = up_fit base (reverse h) b (subst (IsLegal base) (sym (reverse-reverse h)) l)

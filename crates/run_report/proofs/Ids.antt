@@ -36,8 +36,8 @@ pub full_fits : (n : ℕ) → IsFullId n → n < 2 ^ 63 → FitsId n
 full_fits n f l = (omega arith, inr f)
 
 -- each id that was given
-pub given_fits : (base : Counters) (h : List Event) → IsBase base → IsLegal base h → (x : ℕ) → Has (given h) x → FitsId x
-given_fits base h b = by_end (λ g. IsLegal base g → (x : ℕ) → Has (given g) x → FitsId x)
+pub given_small : (base : Counters) (h : List Event) → IsBase base → IsLegal base h → (x : ℕ) → Has (given h) x → IsFullId x × (x < 2 ^ 63)
+given_small base h b = by_end (λ g. IsLegal base g → (x : ℕ) → Has (given g) x → IsFullId x × (x < 2 ^ 63))
     (λ legal x k. absurd k)
     (λ g e before legal x k. ⊎_elim (λ a. before (legal_front base g e legal) x a)
     (λ a.
@@ -45,8 +45,11 @@ given_fits base h b = by_end (λ g. IsLegal base g → (x : ℕ) → Has (given 
     let is : x ≡ next_given base.next g = may_give base g e x may a in
     let below = below_stop base g e x may a in
     let stop = stop_to (oldest_id base.oldest g) in
-    full_fits x (subst IsFullId (sym is) (nth_full base.next (length (given g)) b.full)) (omega arith))
+    (subst IsFullId (sym is) (nth_full base.next (length (given g)) b.full), omega arith))
     (given_push_cases g e x k)) h
+
+given_fits : (base : Counters) (h : List Event) → IsBase base → IsLegal base h → (x : ℕ) → Has (given h) x → FitsId x
+given_fits base h b legal x k = let small = given_small base h b legal x k in full_fits x small.0 small.1
 
 pub all_given_fit : (base : Counters) (h : List Event) → IsBase base → IsLegal base h → AllByRecursion FitsId (given h)
 all_given_fit base h b legal = all_from FitsId (given h) (given_fits base h b legal)

@@ -1,6 +1,6 @@
 pub mod Ids
 pub mod Turns
-pub mod Ends
+pub mod Records
 pub mod Fits
 pub mod Sizes
 pub mod Reaching

@@ -31,8 +31,9 @@ use Rattle.report_read.specs.Grammar.{Follows, IsNamed, after, begins_step, is_r
 use Rattle.report_read.specs.Reports.{IsRun}
 use Rattle.report_read.specs.declared.told.Stage.TheVariants as stages
 use Rattle.report_read.specs.declared.told.Told.{Told}
-use Rattle.run_report.proofs.Fits.{RecFits, fits_by}
+use Rattle.run_report.proofs.Fits.{fits_by}
 use Rattle.run_report.proofs.Ids.{front_all}
+use Rattle.run_report.proofs.Records.{RecFits}
 use Rattle.run_report.proofs.Turns.{Climbs, MaySpeak}
 
 -- lines lead from what is told to what is told then

@@ -41,41 +41,17 @@ use Rattle.session_lang.specs.Script.{at_line, body_line, command_line, end_head
 use Rattle.session_lang.proofs.Ranges.{read_in_range}
 use Rattle.session_lang.proofs.StepLemmas.{has_read_end, has_read_new, has_read_none, has_read_old}
 use Rattle.report_words.specs.Fits.{AreNames, FitsCounters}
+use Rattle.run_law.proofs.Known.{script_known}
+use Rattle.run_law.proofs.Steps.{behind, both_false, either_holds, no_fault, not_false, of_ok, then_holds, went}
 use Rattle.run_report.proofs.Ids.{full_fits, oldest_fits}
-
--- ---- steps
-
-then_holds : {A B F : Type 0} (P : A → Type 0) (Q : B → Type 0) (r : Result A F) (f : A → Result B F) → IfOk r P → ((x : A) → P x → IfOk (f x) Q) → IfOk (r >>= f) Q
-then_holds P Q (Ok x) f p g = g x p
-then_holds P Q (Err k) f p g = tt
-
-behind : {A B F : Type 0} (Q : B → Type 0) (r : Result A F) (f : A → Result B F) → ((x : A) → IfOk (f x) Q) → IfOk (r >>= f) Q
-behind Q (Ok x) f g = g x
-behind Q (Err k) f g = tt
-
-either_holds : {A F : Type 0} (P : A → Type 0) (b : Bool) (r s : Result A F) → (b ≡ true → IfOk r P) → (b ≡ false → IfOk s P) → IfOk (cond b r s) P
-either_holds P true r s p q = p refl
-either_holds P false r s p q = q refl
-
-no_fault : {F : Type 0} (b : Bool) (k : F) → IfOk (fault_if b k) (λ _. b ≡ false)
-no_fault true k = tt
-no_fault false k = refl
-
-not_false : (b : Bool) → not b ≡ false → b ≡ true
-not_false true e = refl
-not_false false e = absurd (false≢true (sym e))
-
-both_false : (a b : Bool) → (a || b) ≡ false → (a ≡ false) × (b ≡ false)
-both_false true b e = absurd (false≢true (sym e))
-both_false false b e = (refl, e)
 
 above : (m n : ℕ) → nat_le m n ≡ false → n < m
 above m n e = grind (arith, nat_tests)
 
 -- ---- counters
 
-abbrev HasMultis : Header → Type 0
-HasMultis h = IfSome h.multi IsFullMulti × IfSome h.oldest_multi IsFullMulti
+abbrev HasFit : Header → Type 0
+HasFit h = IfSome h.multi IsFullMulti × IfSome h.oldest_multi IsFullMulti
 
 full_from : (n : ℕ) → nat_le 1 (low_half n) ≡ true → IsFullMulti n
 full_from n e = grind (arith, nat_tests)
@@ -88,16 +64,16 @@ given_full : (o : Option ℕ) (ws : List (List ℕ)) → IfOk (given_multi o ws)
 unfolding given_multi
 given_full o ws = behind IsFullMulti (fault_if (is_some o) kinds.Directive) _ (λ _. behind IsFullMulti (one_of ws) multi_in multi_full)
 
-header_within : (h : Header) (w : List ℕ) (ws : List (List ℕ)) → HasMultis h → IfOk (header_with h w ws) HasMultis
+header_within : (h : Header) (w : List ℕ) (ws : List (List ℕ)) → HasFit h → IfOk (header_with h w ws) HasFit
 unfolding header_with
 header_within h w ws m =
-    either_holds HasMultis (bytes_eq w (codes ".start")) _ _ (λ _. behind HasMultis (given_id h.start ws) (λ n. Ok (record h { start = Some n })) (λ _. m)) (λ _.
-    either_holds HasMultis (bytes_eq w (codes ".oldest")) _ _ (λ _. behind HasMultis (given_id h.oldest ws) (λ n. Ok (record h { oldest = Some n })) (λ _. m)) (λ _.
-    either_holds HasMultis (bytes_eq w (codes ".multi")) _ _ (λ _. then_holds IsFullMulti HasMultis (given_multi h.multi ws) (λ n. Ok (record h { multi = Some n })) (given_full h.multi ws) (λ _ f. (f, m.1))) (λ _.
-    either_holds HasMultis (bytes_eq w (codes ".offset")) _ _ (λ _. behind HasMultis (given_number (2 ^ 62) h.offset ws) (λ n. Ok (record h { offset = Some n })) (λ _. m)) (λ _.
-    either_holds HasMultis (bytes_eq w (codes ".oldest-multi")) _ _ (λ _. then_holds IsFullMulti HasMultis (given_multi h.oldest_multi ws) (λ n. Ok (record h { oldest_multi = Some n })) (given_full h.oldest_multi ws) (λ _ f. (m.0, f))) (λ _.
-    either_holds HasMultis (bytes_eq w (codes ".oldest-offset")) _ _ (λ _. behind HasMultis (given_number (2 ^ 62) h.oldest_offset ws) (λ n. Ok (record h { oldest_offset = Some n })) (λ _. m)) (λ _.
-    either_holds HasMultis (bytes_eq w (codes ".banks")) _ _ (λ _. behind HasMultis (given_number 16 h.banks ws) (λ n. Ok (record h { banks = Some n })) (λ _. m)) (λ _. tt)))))))
+    either_holds HasFit (bytes_eq w (codes ".start")) _ _ (λ _. behind HasFit (given_id h.start ws) (λ n. Ok (record h { start = Some n })) (λ _. m)) (λ _.
+    either_holds HasFit (bytes_eq w (codes ".oldest")) _ _ (λ _. behind HasFit (given_id h.oldest ws) (λ n. Ok (record h { oldest = Some n })) (λ _. m)) (λ _.
+    either_holds HasFit (bytes_eq w (codes ".multi")) _ _ (λ _. then_holds IsFullMulti HasFit (given_multi h.multi ws) (λ n. Ok (record h { multi = Some n })) (given_full h.multi ws) (λ _ f. (f, m.1))) (λ _.
+    either_holds HasFit (bytes_eq w (codes ".offset")) _ _ (λ _. behind HasFit (given_number (2 ^ 62) h.offset ws) (λ n. Ok (record h { offset = Some n })) (λ _. m)) (λ _.
+    either_holds HasFit (bytes_eq w (codes ".oldest-multi")) _ _ (λ _. then_holds IsFullMulti HasFit (given_multi h.oldest_multi ws) (λ n. Ok (record h { oldest_multi = Some n })) (given_full h.oldest_multi ws) (λ _ f. (m.0, f))) (λ _.
+    either_holds HasFit (bytes_eq w (codes ".oldest-offset")) _ _ (λ _. behind HasFit (given_number (2 ^ 62) h.oldest_offset ws) (λ n. Ok (record h { oldest_offset = Some n })) (λ _. m)) (λ _.
+    either_holds HasFit (bytes_eq w (codes ".banks")) _ _ (λ _. behind HasFit (given_number 16 h.banks ws) (λ n. Ok (record h { banks = Some n })) (λ _. m)) (λ _. tt)))))))
 
 or_full : (o : Option ℕ) (n : ℕ) → IfSome o IsFullMulti → IsFullMulti n → IsFullMulti (unwrap_or o n)
 or_full None n f g = g
@@ -158,11 +134,11 @@ placed (v ∷ names) w = step (same_name v w) refl (placed names w)
 record Goes (n : ℕ) (f : Front) : Type 0 where
   counts : List ℕ
   read : HasRead f.names counts f.items
-  multis : HasMultis f.header
+  header : HasFit f.header
   few : length f.items ≤ n
 
 goes_up : (m n : ℕ) (f : Front) → Goes m f → m ≤ n → Goes n f
-goes_up m n f g l = record { counts = g.counts; read = g.read; multis = g.multis; few = let a = g.few in omega arith }
+goes_up m n f g l = record { counts = g.counts; read = g.read; header = g.header; few = let a = g.few in omega arith }
 
 abbrev with_run : Front → ℕ → List ℕ → Command → Front
 with_run f k name command = record f { names = names_with f.names k name; items = f.items ++ items.Run k command ∷ [] }
@@ -176,7 +152,7 @@ run_new n f k name command g i l e new =
     (record {
       counts = g.counts ++ 1 ∷ [];
       read = subst (λ b. HasRead (cond b (named ++ name ∷ []) named) (g.counts ++ 1 ∷ []) (f.items ++ items.Run (length named) command ∷ [])) (sym (eqb-refl (length named))) read;
-      multis = g.multis;
+      header = g.header;
       few = let a = g.few in let p = length_push f.items (items.Run (length named) command) in omega arith;
     })
 
@@ -190,7 +166,7 @@ run_old n f k name command g l within =
     record {
       counts = counts;
       read = subst (λ b. HasRead (cond b (named ++ name ∷ []) named) counts (f.items ++ items.Run k command ∷ [])) (sym (below_not k (length named) within)) read;
-      multis = g.multis;
+      header = g.header;
       few = let a = g.few in let p = length_push f.items (items.Run k command) in omega arith;
     }
 
@@ -216,7 +192,7 @@ directive_goes : (n : ℕ) (f : Front) (d : Directive) → Goes n f → Goes (su
 directive_goes n f d g = record {
   counts = replicate (length g.counts) 0;
   read = has_read_end f.names g.counts f.items d g.read;
-  multis = g.multis;
+  header = g.header;
   few = let a = g.few in let p = length_push f.items (item_of d) in omega arith;
 }
 
@@ -234,8 +210,8 @@ body_goes n f line g = behind (Goes (suc n)) (fault_if (not (is_plain line)) kin
 header_words_go : (n : ℕ) (f : Front) (number : ℕ) (ws : List (List ℕ)) → Goes n f → IfOk (header_words f number ws) (Goes (suc n))
 header_words_go n f number [] g = goes_up n (suc n) f g (omega arith)
 header_words_go n f number (w ∷ ws) g =
-    then_holds HasMultis (Goes (suc n)) (header_with f.header w ws) (λ h. Ok (record f { header = h; header_end = number })) (header_within f.header w ws g.multis)
-    (λ h m. record { counts = g.counts; read = g.read; multis = m; few = let a = g.few in omega arith })
+    then_holds HasFit (Goes (suc n)) (header_with f.header w ws) (λ h. Ok (record f { header = h; header_end = number })) (header_within f.header w ws g.header)
+    (λ h m. record { counts = g.counts; read = g.read; header = m; few = let a = g.few in omega arith })
 
 header_goes : (n : ℕ) (f : Front) (number : ℕ) (line : List ℕ) → Goes n f → IfOk (header_line f number line) (Goes (suc n))
 unfolding header_line
@@ -248,7 +224,7 @@ at_line_goes n number (Err k) g = tt
 end_goes : (n : ℕ) (f : Front) → Goes n f → IfOk (end_header f) (Goes n)
 end_goes n f g =
     either_holds (Goes n) (f.late || is_base (base_of f.header)) (Ok (record f { late = true })) (Err (f.header_end, kinds.Base))
-    (λ _. record { counts = g.counts; read = g.read; multis = g.multis; few = g.few }) (λ _. tt)
+    (λ _. record { counts = g.counts; read = g.read; header = g.header; few = g.few }) (λ _. tt)
 
 line_goes : (n : ℕ) (f : Front) (number : ℕ) (line : List ℕ) → Goes n f → IfOk (read_line f number line) (Goes (suc n))
 unfolding read_line
@@ -263,7 +239,7 @@ lines_go n most f number (line ∷ lines) l g = then_holds (Goes (suc n)) (Goes 
 
 begins : Goes 0 no_front
 unfolding no_front no_header
-begins = record { counts = []; read = has_read_none [] refl; multis = (tt, tt); few = omega arith }
+begins = record { counts = []; read = has_read_none [] refl; header = (tt, tt); few = omega arith }
 
 -- ---- a script
 
@@ -288,28 +264,23 @@ pub record IsRead (s : Script) : Type 0 where
   pub numbered : first_seen (sessions_in s.items) ≡ range_with_len 0 (length s.names)
   pub items : AllByRecursion IsItem s.items
   pub few : length s.items ≤ 2 ^ 25
+  pub banks : s.banks ≤ 16
 
-front_read : (n : ℕ) (f : Front) → n ≤ 2 ^ 25 → is_base (base_of f.header) ≡ true → AllByRecursion IsItem f.items → Goes n f → IsRead (script_of f)
-front_read n f l b i g =
+front_read : (n : ℕ) (f : Front) → n ≤ 2 ^ 25 → is_base (base_of f.header) ≡ true → AllByRecursion IsItem f.items → (script_of f).banks ≤ 16 → Goes n f → IsRead (script_of f)
+front_read n f l b i banks g =
     let base = passes_base (base_of f.header) b in
     let one : IsFullMulti 1 = omega arith in
     let read = g.read in
     record {
       base = base;
-      counters = counters_fit (base_of f.header) base (or_full f.header.multi 1 g.multis.0 one) (or_full f.header.oldest_multi (unwrap_or f.header.multi 1) g.multis.1 (or_full f.header.multi 1 g.multis.0 one));
+      counters = counters_fit (base_of f.header) base (or_full f.header.multi 1 g.header.0 one) (or_full f.header.oldest_multi (unwrap_or f.header.multi 1) g.header.1 (or_full f.header.multi 1 g.header.0 one));
       names = record { each = recursion_from_All IsName f.names read.names; distinct = read.distinct };
       sessions = read.sessions;
       numbered = read.numbered;
       items = i;
       few = let a = g.few in omega arith;
+      banks = banks;
     }
-
-went : {A B F : Type 0} (r : Result A F) (f : A → Result B F) (y : B) → (r >>= f) ≡ Ok y → (x : A) × (r ≡ Ok x) × (f x ≡ Ok y)
-went (Ok x) f y e = (x, refl, e)
-went (Err k) f y e = absurd cc
-
-of_ok : {A F : Type 0} (P : A → Type 0) (r : Result A F) (x : A) → IfOk r P → r ≡ Ok x → P x
-of_ok P r x p e = subst (λ r. IfOk r P) e p
 
 pub script_read : (bytes : List ℕ) (s : Script) → read_script bytes ≡ Ok s → IsRead s
 unfolding read_script
@@ -324,4 +295,5 @@ script_read bytes s e =
     let short : length bytes ≤ 16777216 = grind (arith, nat_tests) in
     let goes : Goes (2 ^ 25) f = of_ok (Goes (2 ^ 25)) (read_lines no_front 1 (lines_of bytes)) f (lines_go 0 (2 ^ 25) no_front 1 (lines_of bytes) (omega arith) begins) read.1 in
     let same : script_of f ≡ s = cc in
-    subst IsRead same (front_read (2 ^ 25) f (omega arith) (not_false (is_base (base_of f.header)) none) (read_in_range (lines_of bytes) f read.1) goes)
+    let banks : (script_of f).banks ≤ 16 = subst (λ (t : Script). t.banks ≤ 16) (sym same) (script_known bytes s e).banks.1 in
+    subst IsRead same (front_read (2 ^ 25) f (omega arith) (not_false (is_base (base_of f.header)) none) (read_in_range (lines_of bytes) f read.1) banks goes)

@@ -1,5 +1,5 @@
 -- A script's commands fit a report.
-use Rattle.std.proofs.Common.{◌≡◌, ℕ, ◌<◌, ◌≤◌, ◌==◌, ◌||◌, Option, List, [], ◌∷◌, ◌++◌, true, Ok, refl, sym, ap, subst, ◌∙◌, arith, length, append-nil, append_assoc}
+use Rattle.std.proofs.Common.{◌≡◌, Bool, ℕ, ◌<◌, ◌≤◌, ◌==◌, ◌||◌, Option, List, [], ◌∷◌, ◌++◌, true, Ok, refl, sym, ap, subst, ◌∙◌, arith, length, append-nil, append_assoc}
 use Rattle.std.proofs.lemmas.Bool.{or_right}
 use Rattle.std.proofs.lemmas.Grind.{flat_map-append}
 use Rattle.std.proofs.lemmas.List.{map-append}
@@ -22,7 +22,7 @@ use Rattle.report_lines.specs.Fits.{FitsCommand}
 use Rattle.report_text.specs.ReportText.{report_text}
 use Rattle.report_read.specs.Reports.{IsReport}
 use Rattle.report_read.proofs.Reading.{one_report}
-use Rattle.session_run.specs.Tool.{IsAnswer, IsReportOf}
+use Rattle.run_law.specs.Tool.{IsAnswer, IsReportOf}
 use Rattle.run_report.proofs.Readings.{script_read}
 use Rattle.run_report.proofs.Turns.{sessions_of}
 use Rattle.run_report.proofs.Sizes.{RoundFits, TurnFits}
@@ -93,13 +93,13 @@ sessions_short (items.Checkpoint ∷ script) = let i = sessions_short script in 
 sessions_short (items.Crash how ∷ script) = let i = sessions_short script in omega arith
 sessions_short (items.Dump what at size ∷ script) = let i = sessions_short script in omega arith
 
-pub script_told_again : (bytes : List ℕ) (s : Script) (r : Report) → read_script bytes ≡ Ok s → IsReportOf s r → IsReport r
-script_told_again bytes s r e ran =
+pub script_told_again : (tells : Bool) (bytes : List ℕ) (s : Script) (r : Report) → read_script bytes ≡ Ok s → IsReportOf tells s r → IsReport r
+script_told_again tells bytes s r e ran =
     let read = script_read bytes s e in
     let base = ran.begins.base_is in
     subst (λ names. IsReport (record { names = names; lives = r.lives })) (sym ran.names)
     (subst (λ lives. IsReport (record { names = s.names; lives = lives })) (sym ran.one)
-    (told_again s.names (rounds_of s.items) s.base ran.life ran.begins ran.last ran.lawful
+    (told_again tells s.banks s.names (rounds_of s.items) s.base ran.life read.banks ran.begins ran.last ran.lawful
     (record {
       names_are = read.names;
       few = read.sessions;
@@ -111,9 +111,9 @@ script_told_again bytes s r e ran =
     (ap first_seen (rounds_sessions [] s.items) ∙ read.numbered)))
 
 -- The text that a run answers is that of its report, and of no other.
-pub answer_of_one : (left left' : Option (List ℕ)) (text : List ℕ) (a : IsAnswer left left' text)
+pub answer_of_one : (tells : Bool) (left left' : Option (List ℕ)) (text : List ℕ) (a : IsAnswer tells left left' text)
     → (text ≡ report_text a.report) × ((r : Report) → IsReport r → text ≡ report_text r → r ≡ a.report)
-answer_of_one left left' text a = (
+answer_of_one tells left left' text a = (
   a.exact,
-  λ r is e. one_report r a.report is (script_told_again a.bytes a.script a.report a.spelled a.lawful) (sym e ∙ a.exact),
+  λ r is e. one_report r a.report is (script_told_again tells a.bytes a.script a.report a.spelled a.lawful) (sym e ∙ a.exact),
 )

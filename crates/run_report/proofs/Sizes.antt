@@ -1,24 +1,13 @@
--- A life is as short as its script: no more lines, rounds and ends than commands.
-use Rattle.std.proofs.Common.{◌≡◌, ◌≢◌, ℕ, ◌+◌, ◌^◌, ◌<◌, ◌≤◌, List, [], ◌∷◌, true, refl, sym, ap, subst, arith, length, take, length-append}
+-- A life is as short as its script: no more lines and rounds than commands.
+use Rattle.std.proofs.Common.{◌≢◌, ℕ, ◌+◌, ◌<◌, ◌≤◌, List, [], ◌∷◌, refl, ap, arith, length, length-append}
 use Rattle.std.proofs.lemmas.List.{length-map}
 use Rattle.std.specs.List.{AllByRecursion, flat_map}
-use Rattle.tx_events.specs.declared.record.Rec.{Rec}
-use Rattle.tx_events.specs.declared.record.Rec.TheVariants as records
 use Rattle.tx_model.specs.declared.command.Command.{Command}
-use Rattle.tx_model.specs.declared.report.LifeReport.{LifeReport}
-use Rattle.tx_model.specs.declared.report.Line.{Line}
 use Rattle.tx_model.specs.declared.report.Step.{Step}
 use Rattle.tx_model.specs.declared.report.Step.TheVariants as steps
-use Rattle.tx_events.specs.Base.{IsBase}
-use Rattle.tx_events.specs.Events.{events_of}
-use Rattle.tx_events.proofs.ListSteps.{all_weaker}
-use Rattle.tx_model.specs.LawfulLife.{AreRounds, IsLawfulLife, lines_in}
-use Rattle.tx_model.specs.LifeLog.{batches_size, end_records}
-use Rattle.tx_model.specs.Lines.{has_line, turn_of}
+use Rattle.tx_model.specs.Rounds.{AreRounds, lines_in}
+use Rattle.tx_model.specs.Lines.{turn_of}
 use Rattle.report_lines.specs.Fits.{FitsCommand}
-use Rattle.run_report.proofs.Ends.{EndsOnce, ends_few, gate_small}
-use Rattle.run_report.proofs.Fits.{LineFits}
-use Rattle.run_report.proofs.Ids.{IsPlain}
 use Rattle.run_report.proofs.Turns.{grouped_short, sessions_of}
 
 -- what a script says of a command
@@ -63,20 +52,3 @@ rounds_short names n [] (s ∷ ss) r a = absurd r
 rounds_short names n (turns ∷ rounds) [] r a = absurd r
 rounds_short names n (turns ∷ rounds) (steps.Checkpoint reply ∷ ss) r a = absurd r
 rounds_short names n (turns ∷ rounds) (steps.Dump what at size reply ∷ ss) r a = absurd r
-
--- the log has few records, and its next gate stands at a number of 64 bits
-pub record IsShortLog (r : LifeReport) : Type 0 where
-  pub recs : length r.life.recs < 2 ^ 28
-  pub end : r.life.end < 2 ^ 64
-
-pub short_log : (names : List (List ℕ)) (rounds : List (List (ℕ × Command))) (r : LifeReport) → IsLawfulLife rounds r → IsBase r.life.base → AllByRecursion IsPlain r.life.events → AllByRecursion (λ e. has_line (flat_map lines_in r.steps) e ≡ true) r.life.events → AllByRecursion (LineFits names r.life.events) (flat_map lines_in r.steps) → length (flat_map lines_in r.steps) ≤ 2 ^ 25 → IsShortLog r
-short_log names rounds r lawful base plain all fit few =
-    let h = r.life.events in
-    let lines : List Line = flat_map lines_in r.steps in
-    let log = lawful.log in
-    let first : Rec = records.Checkpoint r.life.from r.life.base in
-    let ends : length (end_records h) ≤ length lines = ends_few h lines all (all_weaker (LineFits names h) (λ l. EndsOnce (events_of l.by h)) (λ l k. k.once) lines fit) in
-    record {
-      recs = let e = ap length log.records in omega arith;
-      end = subst (λ n. n < 2 ^ 64) (sym log.gate) (subst (λ rs. batches_size (take log.count rs) < 2 ^ 64) (sym log.records) (gate_small r.life.base h first log.count base lawful.history plain (omega arith) (omega arith)));
-    }

@@ -3,12 +3,12 @@ use Rattle.std.proofs.Common.{◌≡◌, ◌≢◌, ◌==◌, ℕ, zero, suc, �
 use Rattle.std.proofs.lemmas.List.{map-append}
 use Rattle.std.proofs.lemmas.List.Elements.{recursion_from_All}
 use Rattle.std.proofs.lemmas.List.Sums.{count_by-le-length}
-use Rattle.std.specs.List.{AllByRecursion, count_by, filter, flat_map, range_with_len}
+use Rattle.std.specs.List.{AllByRecursion, filter, flat_map, range_with_len}
 use Rattle.std.specs.Prelude.{replicate}
-use Rattle.tx_events.specs.declared.event.Event.{Event}
 use Rattle.tx_events.specs.declared.multi.MultiEvent.{MultiEvent}
 use Rattle.tx_events.specs.declared.record.Counters.{Counters}
 use Rattle.tx_events.specs.declared.record.Rec.{Rec}
+use Rattle.tx_events.specs.declared.record.Rec.TheVariants as records
 use Rattle.tx_model.specs.declared.command.Command.{Command}
 use Rattle.tx_model.specs.declared.report.How.{How}
 use Rattle.tx_model.specs.declared.report.LifeReport.{LifeReport}
@@ -17,15 +17,17 @@ use Rattle.tx_model.specs.declared.report.Step.{Step}
 use Rattle.tx_model.specs.declared.report.Step.TheVariants as steps
 use Rattle.tx_events.specs.Base.{IsBase}
 use Rattle.tx_events.specs.Events.{events_of}
-use Rattle.tx_events.specs.History.{IsLegal}
 use Rattle.tx_events.specs.Places.{EachPlace, first_seen}
 use Rattle.tx_events.proofs.ListSteps.{all_weaker, both_all, all_filter}
 use Rattle.tx_events.proofs.Membership.{filter_agree_on}
-use Rattle.tx_model.specs.CommandEvents.{HasEvents}
-use Rattle.tx_model.specs.LawfulLife.{AreRounds, BeginsLog, IsLawfulLife, lines_in}
-use Rattle.tx_model.specs.LifeLog.{end_records}
-use Rattle.tx_model.specs.Lines.{IsLawfulLine, grouped, has_line, is_line_of, span_of, stance, turn_of}
-use Rattle.tx_model.specs.Replies.{MayReply, RoundSpan}
+use Rattle.tx_model.specs.Rounds.{AreRounds, BeginsLog, lines_in}
+use Rattle.tx_model.specs.Lines.{grouped, has_line, is_line_of, span_of, stance, turn_of}
+use Rattle.tx_model.specs.Replies.{RoundSpan}
+use Rattle.life_law.specs.Facts.{Facts}
+use Rattle.life_law.specs.LawfulLife.{IsLawfulLife, facts_of}
+use Rattle.life_law.specs.LifeLog.{IsLogOf}
+use Rattle.life_law.specs.Lines.{IsLawfulLine}
+use Rattle.life_law.specs.Pending.{pending}
 use Rattle.session_lang.proofs.SeenLemmas.{is_in, is_in_seen, seen-append}
 use Rattle.report_words.specs.Fits.{AreNames, FitsCounters}
 use Rattle.report_lines.specs.declared.life.LogHead.{LogHead}
@@ -35,21 +37,19 @@ use Rattle.report_read.specs.Item as items
 use Rattle.report_read.specs.Grammar.{Follows, after, begins_step, life_told, no_counts, steps_told}
 use Rattle.report_read.specs.Reports.{IsReport, nothing_told}
 use Rattle.report_read.specs.declared.told.Told.{Told}
-use Rattle.run_report.proofs.Ends.{own_once}
-use Rattle.run_report.proofs.Fits.{EventFits, LineFits, all_event_fit, end_records_fit, events_fit, named_plain, own_named, reply_fits}
+use Rattle.run_report.proofs.Fits.{CanTell, EventFits, LineFits, all_event_fit, events_fit, named_plain, own_named, reply_fits}
 use Rattle.run_report.proofs.Ids.{IsPlain, all_ids_fit}
-use Rattle.run_report.proofs.Sizes.{IsShortLog, RoundFits, TurnFits, lines_short, rounds_short, short_log}
+use Rattle.run_report.proofs.Records.{log_fits, rest_fits}
+use Rattle.run_report.proofs.Sizes.{RoundFits, TurnFits, lines_short, rounds_short}
 use Rattle.run_report.proofs.Reaching.{AreCounted, AreNumbered, Between, Reaches, Rounded, Sayable, SoFar, a_round, all_numbered, counted_apart, events_reach, follows_on, reach_on, records_reach, speakers, stays}
 use Rattle.run_report.proofs.Turns.{Climbs, Cut, MaySpeak, climbs, climbs_apart, grouped_seen, grouped_speak, sessions_of}
 
 -- ---- lines, each with those before it
 
 -- what a lawful line is, in some round
-record LineIs (base : Counters) (h : List Event) (done : List Line) (l : Line) : Type 0 where
-  number : l.by.command ≡ count_by (is_line_of l.by.session) done + 1
-  events : HasEvents l.by (stance h done l.by.session) l.command l.reply (events_of l.by h)
+record LineIs (f : Facts) (done : List Line) (l : Line) : Type 0 where
   round : RoundSpan
-  reply : MayReply base [] h round l.by (stance h done l.by.session) l.command l.reply
+  lawful : IsLawfulLine f round done l
 
 abbrev EachOn : (List Line → Line → Type 0) → List Line → List Line → Type 0
 EachOn P done [] = Unit {0}
@@ -76,16 +76,16 @@ each_steps P done (s ∷ ss) e =
     move p q x = ap (λ t. done ++ t) (append_assoc (lines_in s) (flat_map lines_in (take p ss)) (take q (lines_in x))) ∙ sym (append_assoc done (lines_in s) (flat_map lines_in (take p ss) ++ take q (lines_in x)))
 
 -- a fact about lines that are numbered so, and of which another fact holds
-each_all : (base : Counters) (h : List Event) (P Q : Line → Type 0) (n : ℕ) (done ls : List Line) → ((d : List Line) (l : Line) → length d < n → LineIs base h d l → P l → Q l) → length done + length ls ≤ n → EachOn (LineIs base h) done ls → AllByRecursion P ls → AllByRecursion Q ls
-each_all base h P Q n done [] f k e a = tt
-each_all base h P Q n done (l ∷ ls) f k e a = (
-  f done l (omega arith) e.0 a.0,
-  each_all base h P Q n (done ++ l ∷ []) ls f (let m = length-append done (l ∷ []) in omega arith) e.1 a.1,
+each_all : (f : Facts) (P Q : Line → Type 0) (n : ℕ) (done ls : List Line) → ((d : List Line) (l : Line) → length d < n → LineIs f d l → P l → Q l) → length done + length ls ≤ n → EachOn (LineIs f) done ls → AllByRecursion P ls → AllByRecursion Q ls
+each_all f P Q n done [] g k e a = tt
+each_all f P Q n done (l ∷ ls) g k e a = (
+  g done l (omega arith) e.0 a.0,
+  each_all f P Q n (done ++ l ∷ []) ls g (let m = length-append done (l ∷ []) in omega arith) e.1 a.1,
 )
 
-counted_from : (base : Counters) (h : List Event) (done ls : List Line) → EachOn (LineIs base h) done ls → AreCounted done ls
-counted_from base h done [] e = tt
-counted_from base h done (l ∷ ls) e = (e.0.number, counted_from base h (done ++ l ∷ []) ls e.1)
+counted_from : (f : Facts) (done ls : List Line) → EachOn (LineIs f) done ls → AreCounted done ls
+counted_from f done [] e = tt
+counted_from f done (l ∷ ls) e = (e.0.lawful.number, counted_from f (done ++ l ∷ []) ls e.1)
 
 -- ---- the rounds' commands
 
@@ -205,24 +205,23 @@ pub record IsSmall (names : List (List ℕ)) (rounds : List (List (ℕ × Comman
   pub turns : length (flat_map sessions_of rounds) ≤ 2 ^ 25
 
 -- each line can be told
-lines_sayable : (names : List (List ℕ)) (base : Counters) (h : List Event) (lines : List Line) → IsBase base → IsLegal base h → AllByRecursion IsPlain h → length lines < 2 ^ 28 → EachOn (LineIs base h) [] lines → AllByRecursion (SaidSo names) lines → AllByRecursion (Sayable names) lines
-lines_sayable names base h lines b l p few e a =
-    each_all base h (SaidSo names) (Sayable names) (2 ^ 28) [] lines
+lines_sayable : (names : List (List ℕ)) (f : Facts) (lines : List Line) → CanTell f → length lines < 2 ^ 28 → EachOn (LineIs f) [] lines → AllByRecursion (SaidSo names) lines → AllByRecursion (Sayable names) lines
+lines_sayable names f lines t few e a =
+    each_all f (SaidSo names) (Sayable names) (2 ^ 28) [] lines
     (λ d k small i s. record {
       session = s.session;
-      small = let c = count_by-le-length (is_line_of k.by.session) d in let n = i.number in omega arith;
+      small = let c = count_by-le-length (is_line_of k.by.session) d in let n = i.lawful.number in omega arith;
       command = s.command;
-      reply = reply_fits base h i.round k.by (stance h d k.by.session) k.command k.reply b l p i.reply i.events;
+      reply = reply_fits f i.round k.by (stance f.events d k.by.session) (pending f.recs f.events d k.by.session) k.command k.reply t i.lawful.reply i.lawful.events;
     })
     (omega arith) e a
 
-lines_fit : (names : List (List ℕ)) (base : Counters) (h : List Event) (lines : List Line) → length lines < 2 ^ 28 → EachOn (LineIs base h) [] lines → AllByRecursion (SaidSo names) lines → AllByRecursion (LineFits names h) lines
-lines_fit names base h lines few e a =
-    each_all base h (SaidSo names) (LineFits names h) (2 ^ 28) [] lines
+lines_fit : (names : List (List ℕ)) (f : Facts) (lines : List Line) → length lines < 2 ^ 28 → EachOn (LineIs f) [] lines → AllByRecursion (SaidSo names) lines → AllByRecursion (LineFits names f.events) lines
+lines_fit names f lines few e a =
+    each_all f (SaidSo names) (LineFits names f.events) (2 ^ 28) [] lines
     (λ d k small i s. record {
-      by = record { session = s.session; command = let c = count_by-le-length (is_line_of k.by.session) d in let n = i.number in omega arith };
-      events = own_named k.by (stance h d k.by.session) k.command k.reply (events_of k.by h) s.command i.events;
-      once = own_once k.by (stance h d k.by.session) k.command k.reply (events_of k.by h) i.events;
+      by = record { session = s.session; command = let c = count_by-le-length (is_line_of k.by.session) d in let n = i.lawful.number in omega arith };
+      events = own_named k.by (stance f.events d k.by.session) k.command k.reply (events_of k.by f.events) s.command i.lawful.events;
     })
     (omega arith) e a
 
@@ -267,8 +266,11 @@ record Ended (names : List (List ℕ)) (r : LifeReport) (t : Told) : Type 0 wher
   start : t.start ≡ record { from = r.life.from; base = r.life.base }
   steps_are : steps_told t.stage t ≡ r.steps
 
-ends_whole : (names : List (List ℕ)) (rounds : List (List (ℕ × Command))) (base : Counters) (r : LifeReport) (t : Told) → BeginsLog base r.life → r.crash ≡ None → IsLawfulLife rounds r → IsSmall names rounds r → IsShortLog r → AllByRecursion (EventFits names) r.life.events → Ended names r t → Reaches nothing_told t → IsReport (record { names = names; lives = r ∷ [] })
-ends_whole names rounds base r t begins last lawful small short named ended before =
+log_of : (tells : Bool) (banks : ℕ) (rounds : List (List (ℕ × Command))) (base : Counters) (r : LifeReport) → BeginsLog base r.life → IsLawfulLife tells banks rounds r → IsLogOf 0 (records.Checkpoint r.life.from r.life.base) r.life.events r.life.recs r.life.flushed r.life.end
+log_of tells banks rounds base r begins lawful = subst (λ from. IsLogOf from (records.Checkpoint r.life.from r.life.base) r.life.events r.life.recs r.life.flushed r.life.end) begins.from lawful.log
+
+ends_whole : (tells : Bool) (banks : ℕ) (names : List (List ℕ)) (rounds : List (List (ℕ × Command))) (base : Counters) (r : LifeReport) (t : Told) → BeginsLog base r.life → r.crash ≡ None → IsLawfulLife tells banks rounds r → IsSmall names rounds r → AllByRecursion (EventFits names) r.life.events → Ended names r t → Reaches nothing_told t → IsReport (record { names = names; lives = r ∷ [] })
+ends_whole tells banks names rounds base r t begins last lawful small named ended before =
     let h = r.life.events in
     let t4 : Told = after t items.history in
     let t5 : Told = record t4 { events = h } in
@@ -281,13 +283,13 @@ ends_whole names rounds base r t begins last lawful small short named ended befo
     let few : length t4.names ≤ 64 = subst (λ ns. length ns ≤ 64) (sym ended.names_are) small.few in
     let legal = lawful.history in
     let fits = events_fit t4.names h (subst (λ ns. AllByRecursion (EventFits ns) h) (sym ended.names_are) named) (all_ids_fit r.life.base h small.base_is legal) in
-    let log = lawful.log in
-    let flushed : r.life.flushed < 2 ^ 64 = let w = log.known.within in let f = log.flushed_to in let z = begins.from in let m = short.recs in omega arith in
-    let numbered : AreNumbered 0 r.life.recs = subst (AreNumbered 0) (sym log.records) ((begins.from, small.counters), all_numbered 1 (end_records h) (end_records_fit r.life.base h small.base_is legal)) in
+    let log = log_of tells banks rounds base r begins lawful in
+    let short = log_fits r.life.base _ h r.life.recs r.life.flushed r.life.end small.base_is legal log in
+    let numbered : AreNumbered 0 r.life.recs = subst (AreNumbered 0) (sym log.split) ((begins.from, small.counters), all_numbered 1 log.rest (rest_fits r.life.base _ h r.life.recs r.life.flushed r.life.end small.base_is legal log)) in
     let from : 0 ≡ t7.start.from + length t7.recs = let z : t.start.from ≡ r.life.from = ap (λ (s : Start). s.from) ended.start in let y = begins.from in omega arith in
     let history : Follows t items.history t4 = record { stands = ended.begins; rule = refl; told = refl } in
     let multis : Follows t5 items.multis t6 = record { stands = refl; rule = refl; told = refl } in
-    let logs : Follows t6 (items.log head) t7 = record { stands = refl; rule = (refl, record { flushed = flushed; end = short.end }); told = refl } in
+    let logs : Follows t6 (items.log head) t7 = record { stands = refl; rule = (refl, record { flushed = short.flushed_to; end = short.gate }); told = refl } in
     let close : Follows t8 items.last t9 = record { stands = refl; rule = refl; told = refl } in
     let reach : Reaches nothing_told t9 =
     reach_on nothing_told t t9 before
@@ -295,7 +297,7 @@ ends_whole names rounds base r t begins last lawful small short named ended befo
     (reach_on t4 t5 t9 (events_reach t4 h refl are few fits)
     (follows_on t5 t6 t9 items.multis multis
     (follows_on t6 t7 t9 (items.log head) logs
-    (reach_on t7 t8 t9 (records_reach t7 r.life.recs 0 refl from (let m = short.recs in omega arith) numbered)
+    (reach_on t7 t8 t9 (records_reach t7 r.life.recs 0 refl from (let m = short.few in omega arith) numbered)
     (follows_on t8 t9 t9 items.last close (stays t9))))))) in
     let lives : r ∷ [] ≡ t9.lives = ap (λ x. x ∷ []) (same_life r t.start (steps_told t.stage t) begins.committed begins.recorded lawful.multis last ended.start ended.steps_are) ∙ ap (λ ls. ls ++ life_told t8 None ∷ []) (sym ended.lives) in
     record {
@@ -337,30 +339,27 @@ unfolding begin nothing_told
 begin_start s = refl
 
 -- a lawful life whose commands are a script's is told by a report that can be read back
-pub told_again : (names : List (List ℕ)) (rounds : List (List (ℕ × Command))) (base : Counters) (r : LifeReport) → BeginsLog base r.life → r.crash ≡ None → IsLawfulLife rounds r → IsSmall names rounds r → AllByRecursion (RoundFits names) rounds → first_seen (flat_map sessions_of rounds) ≡ range_with_len 0 (length names) →
+pub told_again : (tells : Bool) (banks : ℕ) (names : List (List ℕ)) (rounds : List (List (ℕ × Command))) (base : Counters) (r : LifeReport) → banks ≤ 16 → BeginsLog base r.life → r.crash ≡ None → IsLawfulLife tells banks rounds r → IsSmall names rounds r → AllByRecursion (RoundFits names) rounds → first_seen (flat_map sessions_of rounds) ≡ range_with_len 0 (length names) →
     IsReport (record { names = names; lives = r ∷ [] })
-told_again names rounds base r begins last lawful small fits seen =
+told_again tells banks names rounds base r few_banks begins last lawful small fits seen =
     let h = r.life.events in
-    let b = r.life.base in
     let lines : List Line = flat_map lines_in r.steps in
-    let start : Start = record { from = r.life.from; base = b } in
-    let each : EachOn (LineIs b h) [] lines = each_steps (LineIs b h) [] r.steps (λ p step at q l there. let k : IsLawfulLine b r.life.committed h (span_of h (flat_map lines_in (take p r.steps)) (lines_in step)) (flat_map lines_in (take p r.steps) ++ take q (lines_in step)) l = lawful.lawful.each p step at q l there in record {
-      number = k.number;
-      events = k.events;
-      round = span_of h (flat_map lines_in (take p r.steps)) (lines_in step);
-      reply = subst (λ c. MayReply b c h (span_of h (flat_map lines_in (take p r.steps)) (lines_in step)) l.by (stance h (flat_map lines_in (take p r.steps) ++ take q (lines_in step)) l.by.session) l.command l.reply) begins.committed k.reply;
-    }) in
+    let f : Facts = facts_of tells banks r.life lines in
+    let start : Start = record { from = r.life.from; base = r.life.base } in
+    let each : EachOn (LineIs f) [] lines = each_steps (LineIs f) [] r.steps (λ p step at q l there. record { round = span_of h (flat_map lines_in (take p r.steps)) (lines_in step); lawful = lawful.lawful.each p step at q l there }) in
     let said = rounds_said names 1 rounds r.steps lawful.told fits in
     let lines_few : length lines ≤ 2 ^ 25 = let k = lines_short 1 rounds r.steps lawful.told in let m = small.turns in omega arith in
-    let line_fit = lines_fit names b h lines (omega arith) each said in
+    let line_fit = lines_fit names f lines (omega arith) each said in
     let has = recursion_from_All (λ e. IsTrue (has_line lines e)) h lawful.lawful.no_other in
     let named = all_event_fit names h lines line_fit has in
     let plain = all_weaker (EventFits names) IsPlain (λ e k. named_plain e k.named) h named in
-    let sayable = lines_sayable names b h lines small.base_is lawful.history plain (omega arith) each said in
+    let log = log_fits r.life.base _ h r.life.recs r.life.flushed r.life.end small.base_is lawful.history (log_of tells banks rounds base r begins lawful) in
+    let can : CanTell f = record { base = small.base_is; history = lawful.history; plain = plain; banks = few_banks; flushed = log.flushed_to } in
+    let sayable = lines_sayable names f lines can (omega arith) each said in
     let climb = climbs (length names) (speakers lines) (rounds_seen 1 rounds r.steps lawful.told ∙ seen) in
-    let w = rounds_reach names 0 (length names) [] [] 0 (begin start) rounds r.steps small.names_are small.few (begins_between names start) lawful.told fits sayable (counted_from b h [] lines each) climb (let k = rounds_short names 1 rounds r.steps lawful.told fits in let m = small.turns in omega arith) in
+    let w = rounds_reach names 0 (length names) [] [] 0 (begin start) rounds r.steps small.names_are small.few (begins_between names start) lawful.told fits sayable (counted_from f [] lines each) climb (let k = rounds_short names 1 rounds r.steps lawful.told fits in let m = small.turns in omega arith) in
     let all = none_left names w.between.known w.between.rest w.between.so_far.split w.between.count in
-    ends_whole names rounds base r w.last begins last lawful small (short_log names rounds r lawful small.base_is plain has line_fit lines_few) named
+    ends_whole tells banks names rounds base r w.last begins last lawful small named
     (record {
       names_are = w.between.so_far.told ∙ all;
       begins = w.between.begins;

@@ -12,7 +12,7 @@ use Rattle.tx_model.specs.declared.command.Command.{Command}
 use Rattle.tx_model.specs.declared.report.Line.{Line}
 use Rattle.tx_model.specs.declared.report.Step.{Step}
 use Rattle.tx_model.specs.declared.report.Step.TheVariants as steps
-use Rattle.tx_model.specs.LawfulLife.{AreRounds, lines_in}
+use Rattle.tx_model.specs.Rounds.{AreRounds, lines_in}
 use Rattle.tx_model.specs.Lines.{AreLinesOf, grouped, turn_of}
 use Rattle.tx_events.specs.Places.{first_seen}
 use Rattle.session_lang.specs.declared.script.Item.{Item}

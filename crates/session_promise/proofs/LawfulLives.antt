@@ -8,7 +8,7 @@ use Rattle.tx_events.specs.declared.record.Rec.TheVariants as records
 use Rattle.tx_events.specs.History.{IsLegal}
 use Rattle.tx_model.specs.declared.command.Command.{Command}
 use Rattle.tx_model.specs.declared.report.Line.{Line}
-use Rattle.tx_model.specs.LawfulLife.{AreRounds, lines_in}
+use Rattle.tx_model.specs.Rounds.{AreRounds, lines_in}
 use Rattle.life_law.specs.LawfulLife.{AreLawfulSteps, facts_of}
 use Rattle.life_law.specs.LifeLog.{IsLogOf}
 use Rattle.life_law.specs.Pending.{IsOpenAsTold}

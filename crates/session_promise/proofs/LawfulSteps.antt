@@ -26,7 +26,7 @@ use Rattle.tx_model.specs.declared.report.Line.{Line}
 use Rattle.tx_model.specs.declared.report.Step.{Step}
 use Rattle.tx_model.specs.declared.report.Step.TheVariants as steps
 use Rattle.tx_model.specs.CommandEvents.{HasEvents}
-use Rattle.tx_model.specs.LawfulLife.{AreInTurn, StandFirst, lines_in}
+use Rattle.tx_model.specs.Rounds.{AreInTurn, StandFirst, lines_in}
 use Rattle.tx_model.specs.Lines.{has_line, is_line_of, span_of, stance}
 use Rattle.tx_model.specs.Replies.{RoundSpan}
 use Rattle.tx_model.specs.Stance.{Stance, after, nothing_yet, stance_from, top_level}

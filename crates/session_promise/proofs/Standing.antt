@@ -13,7 +13,7 @@ use Rattle.tx_events.proofs.ListSteps.{eqb-refl}
 use Rattle.tx_events.proofs.Membership.{Has, all_at, any_has, has_any, has_cases, has_contains, has_filter, has_flat_map, has_left, has_place, has_right, place_has}
 use Rattle.tx_events.proofs.OwnEvents.{same_by_refl}
 use Rattle.tx_model.specs.declared.report.Line.{Line}
-use Rattle.tx_model.specs.LawfulLife.{StandFirst}
+use Rattle.tx_model.specs.Rounds.{StandFirst}
 use Rattle.tx_model.specs.Lines.{has_line, is_line_of}
 use Rattle.tx_model.proofs.Counted.{all_are_counted}
 use Rattle.tx_core.specs.declared.entry.Entry.{Entry}

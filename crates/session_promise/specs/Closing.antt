@@ -9,7 +9,7 @@ use Rattle.tx_model.specs.declared.command.Command.{Command}
 use Rattle.tx_model.specs.declared.report.LifeReport.{LifeReport}
 use Rattle.tx_model.specs.declared.report.Step.{Step}
 use Rattle.tx_model.specs.declared.report.Step.TheVariants as steps
-use Rattle.tx_model.specs.LawfulLife.{AreInTurn}
+use Rattle.tx_model.specs.Rounds.{AreInTurn}
 use Rattle.tx_model.specs.Lines.{AreLinesOf}
 use Rattle.life_law.specs.LawfulLife.{AreLawfulSteps, IsLawfulLife, facts_of}
 use Rattle.life_law.specs.LifeLog.{IsLogOf}

@@ -1,12 +1,6 @@
-pub mod Sound
-pub mod Acts
-pub mod Gives
-pub mod Closes
-pub mod Seen
 pub mod Turns
-pub mod Refusals
-pub mod Plans
-pub mod Told
-pub mod Progress
+pub mod Rests
+pub mod Rounds
+pub mod GoesOn
+pub mod Runs
 pub mod Tool
-pub mod Ends

@@ -1,79 +1,79 @@
--- What a run of the tool says.
-use Rattle.std.specs.Prelude.{◌≡◌, ℕ, ◌<◌, ◌≤◌, ◌⊎◌, List, [], ◌∷◌, ◌++◌, Option, None, Some, Ok, take, length, codes, Contains}
-use Rattle.std.specs.Io.KnownBytes.{Consumes, Appends, IsAtEnd}
-use Rattle.tx_model.specs.declared.report.Report.{Report}
-use Rattle.tx_model.specs.declared.report.LifeReport.{LifeReport}
-use Rattle.tx_model.specs.LawfulLife.{BeginsLog, IsLawfulLife}
-use Rattle.script_lines.specs.declared.kind.Kind.{Kind}
+-- Why a run of the tool has no report.
+use Rattle.std.specs.Prelude.{◌≡◌, ℕ, Bool, List, [], ◌∷◌, ◌++◌, ◌⊎◌, Contains, Option, codes, take}
+use Rattle.std.specs.Fmt.{decimal}
+use Rattle.std.specs.Io.KnownBytes.{Appends}
+use Rattle.disk_core.specs.declared.log_disk.LogDisk as logs
+use Rattle.disk_core.specs.declared.page_disk.PageDisk as disks
+use Rattle.disk_core.specs.declared.media.Volumes.{Volumes}
+use Rattle.report_text.specs.Words.{line_text}
 use Rattle.session_lang.specs.declared.script.Script.{Script}
-use Rattle.report_text.specs.ReportText.{report_text}
-use Rattle.session_lang.specs.Rounds.{rounds_of}
-use Rattle.session_lang.specs.Script.{read_script}
-use Rattle.session_run.specs.Refusals.{refusal_of, refusal_text}
+use Rattle.run_law.specs.Tool.{IsAnswer, IsNoScript}
+use Rattle.tx_io.specs.Causes.{Rose}
+use Rattle.script_source.specs.declared.script.NoScript.{NoScript}
+use Rattle.script_source.specs.declared.script.NoScript.TheVariants as no_scripts
+use Rattle.script_source.specs.Sources.{HasScript}
+use Rattle.engine_life.specs.declared.refusal.NoLife.{NoLife}
+use Rattle.engine_life.specs.declared.refusal.NoLife.TheVariants as no_lives
+use Rattle.engine_life.specs.Refusals.{HasDeviceFailed, IsUnopened}
+use Rattle.session_run.specs.declared.tool.Ending.{Ending}
+use Rattle.session_run.specs.declared.tool.Ending.TheVariants as endings
+use Rattle.session_run.specs.Runs.{cluster_of}
 
--- the report of a run of the script over a new log: one life, from the script's counters, round by round
-pub record IsReportOf (s : Script) (r : Report) : Type 0 where
-  pub names : r.names ≡ s.names
-  pub life : LifeReport
-  pub one : r.lives ≡ life ∷ []
-  pub last : life.crash ≡ None
-  pub begins : BeginsLog s.base life.life
-  pub lawful : IsLawfulLife (rounds_of s.items) life
+-- the line that tells at which place the log is damaged
+abbrev pub damage_text : ℕ → List ℕ
+damage_text at = line_text (codes "damaged" ∷ decimal at ∷ [])
 
--- the most bytes that a run reads: one past the limit of a script
-abbrev pub most_read : ℕ
-most_read = 16777217
+module _ {L P : Type 0} (l : logs.Ghosts L) (p : disks.Ghosts P) where
+  -- The source was read to its end and its bytes are a script, but no life was opened for it over the media, with these
+  -- counts of its faults and the volumes that it holds now.
+  abbrev pub IsUnrun : Option (List ℕ) → Option (List ℕ) → ℕ → ℕ → (Volumes L P → Type 0) → NoLife → Type 0
+  IsUnrun left left' before now gives refusal =
+      (s : Script) × HasScript left left' s × IsUnopened l p (cluster_of s) before now gives refusal
 
--- at most so many bytes were read
-pub record ReadsUpTo (most : ℕ) (left left' : Option (List ℕ)) : Type 0 where
-  pub bytes : List ℕ
-  pub read : Consumes left left' bytes
-  pub few : length bytes ≤ most
+  -- what each ending says: of the source, before and after, with its counts of faults, and so of the media
+  abbrev pub Ends : Option (List ℕ) → Option (List ℕ) → ℕ → ℕ → ℕ → ℕ → (Volumes L P → Type 0) → Ending → Type 0
+  Ends left left' faults faults' before now gives (endings.Report text) = IsAnswer p.tells left left' text.items
+  Ends left left' faults faults' before now gives (endings.NoScript text) = IsNoScript left left' text.items
+  Ends left left' faults faults' before now gives endings.ReadFault = Rose faults faults'
+  Ends left left' faults faults' before now gives endings.Memory = Unit {0}
+  Ends left left' faults faults' before now gives endings.Device = HasDeviceFailed l p before now gives
+  Ends left left' faults faults' before now gives (endings.Damaged text) =
+      (at : ℕ) × (text.items ≡ damage_text at) × IsUnrun left left' before now gives (no_lives.Damaged at)
+  Ends left left' faults faults' before now gives endings.Full = IsUnrun left left' before now gives no_lives.Full
+  Ends left left' faults faults' before now gives endings.OldLog = IsUnrun left left' before now gives no_lives.OldLog
 
--- the one list of words that is accepted
-abbrev pub IsRun : List (List ℕ) → Type 0
-IsRun words = words ≡ codes "run" ∷ []
+-- the ending where the source gave no script
+abbrev pub unread_by : NoScript → Ending
+unread_by (no_scripts.Refused text) = endings.NoScript text
+unread_by no_scripts.ReadFault = endings.ReadFault
+unread_by no_scripts.Memory = endings.Memory
 
--- The source was read to its end and its bytes are a script, and the text is that of a report of this script.
-pub record IsAnswer (left left' : Option (List ℕ)) (text : List ℕ) : Type 0 where
-  pub bytes : List ℕ
-  pub read : Consumes left left' bytes
-  pub ended : IsAtEnd left'
-  pub script : Script
-  pub spelled : read_script bytes ≡ Ok script
-  pub report : Report
-  pub lawful : IsReportOf script report
-  pub exact : text ≡ report_text report
-
--- The sink holds such a text more.
-pub record IsWholeRun (left left' held held' : Option (List ℕ)) : Type 0 where
-  pub text : List ℕ
-  pub answer : IsAnswer left left' text
-  pub written : Appends held held' text
-
--- The source was read to its end or past the limit, its bytes are refused, and the text tells where and why.
-pub record IsNoScript (left left' : Option (List ℕ)) (text : List ℕ) : Type 0 where
-  pub bytes : List ℕ
-  pub read : Consumes left left' bytes
-  pub ended : IsAtEnd left' ⊎ (16777216 < length bytes)
-  pub fault : ℕ × Kind
-  pub refused : refusal_of bytes ≡ Some fault
-  pub exact : text ≡ refusal_text fault
-
--- The sink holds such a text more.
-pub record IsRefused (left left' held held' : Option (List ℕ)) : Type 0 where
-  pub text : List ℕ
-  pub refusal : IsNoScript left left' text
-  pub written : Appends held held' text
+-- the ending tells why no life was opened, or that memory was wanting for that
+abbrev pub TellsRefusal : NoLife → Ending → Type 0
+TellsRefusal refusal (endings.Report text) = ⊥
+TellsRefusal refusal (endings.NoScript text) = ⊥
+TellsRefusal refusal endings.ReadFault = ⊥
+TellsRefusal refusal endings.Memory = Unit {0}
+TellsRefusal refusal endings.Device = refusal ≡ no_lives.Device
+TellsRefusal refusal (endings.Damaged text) = (at : ℕ) × (text.items ≡ damage_text at) × (refusal ≡ no_lives.Damaged at)
+TellsRefusal refusal endings.Full = refusal ≡ no_lives.Full
+TellsRefusal refusal endings.OldLog = refusal ≡ no_lives.OldLog
 
 -- the other lines that end a run without a report
 abbrev pub last_lines : List (List ℕ)
 last_lines =
-    (codes "words" ++ 10 ∷ []) ∷ (codes "read-fault" ++ 10 ∷ []) ∷ (codes "memory" ++ 10 ∷ []) ∷ []
+    (codes "words" ++ 10 ∷ []) ∷ (codes "read-fault" ++ 10 ∷ []) ∷ (codes "memory" ++ 10 ∷ [])
+    ∷ (codes "device" ++ 10 ∷ []) ∷ (codes "log-full" ++ 10 ∷ []) ∷ (codes "old-log" ++ 10 ∷ []) ∷ []
 
--- The sink holds a front of a run's report more, or of a last line.
-pub record HoldsFront (left left' held held' : Option (List ℕ)) : Type 0 where
+-- a text that a run ends with
+abbrev pub IsLastText : Bool → Option (List ℕ) → Option (List ℕ) → List ℕ → Type 0
+IsLastText tells left left' text =
+    IsAnswer tells left left' text
+    ⊎ (IsNoScript left left' text ⊎ (((at : ℕ) × (text ≡ damage_text at)) ⊎ Contains last_lines text))
+
+-- The sink holds a front of such a text more.
+pub record HoldsFront (tells : Bool) (left left' held held' : Option (List ℕ)) : Type 0 where
   pub text : List ℕ
-  pub whole : IsAnswer left left' text ⊎ (IsNoScript left left' text ⊎ Contains last_lines text)
+  pub whole : IsLastText tells left left' text
   pub count : ℕ
   pub front : Appends held held' (take count text)

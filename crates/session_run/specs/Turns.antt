@@ -1,58 +1,75 @@
--- The commands of a script, round by round, and which scripts a life can run.
-use Rattle.std.specs.Prelude.{◌≡◌, ℕ, ◌<◌, ◌≤◌, ◌^◌, ◌⊎◌, Bool, true, false, List, [], ◌∷◌, ◌++◌, Option, Some, None, length}
-use Rattle.std.specs.List.{All, filter_map}
+-- What a session does in a round.
+use Rattle.std.specs.Prelude.{◌≡◌, ℕ, ◌+◌, ◌^◌, ◌<◌, Bool, IsTrue, true, List, [], ◌∷◌, ◌++◌, OnOk, Result, get_or, length, map}
+use Rattle.std.specs.List.{flat_map}
+use Rattle.disk_core.specs.declared.log_disk.LogDisk as logs
+use Rattle.disk_core.specs.declared.page_disk.PageDisk as disks
+use Rattle.hall.specs.declared.hall.Hall.{Hall}
 use Rattle.tx_model.specs.declared.command.Command.{Command}
-use Rattle.tx_model.specs.declared.command.Command.TheVariants as commands
-use Rattle.tx_events.specs.Base.{IsBase}
+use Rattle.tx_model.specs.declared.reply.Reply.TheVariants as replies
+use Rattle.tx_model.specs.declared.report.Line.{Line}
+use Rattle.life_law.specs.Replies.{is_told_verdict}
+use Rattle.tx_model.specs.Lines.{turn_of}
+use Rattle.report_text.specs.ReportText.{command_line}
 use Rattle.session_lang.specs.declared.script.Item.{Item}
-use Rattle.session_lang.specs.declared.script.Item.TheVariants as items
-use Rattle.session_lang.specs.declared.script.Script.{Script}
+use Rattle.session_lang.specs.Rounds.{turns_of}
+use Rattle.run_law.specs.Turns.{has_command, turns_in}
+use Rattle.script_rounds.specs.declared.plan.Plan.{Plan}
+use Rattle.script_rounds.specs.Plans.{HasPlaces}
+use Rattle.tx_core.specs.declared.entry.Entry.{Entry}
+use Rattle.tx_core.specs.declared.entry.Start.{Start}
+use Rattle.engine_parts.specs.declared.part.Part.{Part}
+use Rattle.engine_parts.specs.declared.session.Caller.{Caller}
+use Rattle.engine_parts.specs.Calls.{MayRun, Ran, next_command}
+use Rattle.engine_parts.specs.Sessions.{by_at}
+use Rattle.session_run.specs.declared.member.Member.{Member}
 
-abbrev pub turn_in : Item → Option (ℕ × Command)
-turn_in (items.Run session command) = Some (session, command)
-turn_in _ = None
+module _ {L P : Type 0} {l : logs.Ghosts L} {p : disks.Ghosts P} where
+  -- how many commands the session has run
+  abbrev pub commands_of : Caller L P l p → ℕ
+  commands_of caller = caller.session.levels.commands
 
-abbrev pub turns_in : List Item → List (ℕ × Command)
-turns_in script = filter_map turn_in script
+module _ {H L P : Type 0} {l : logs.Ghosts L} {p : disks.Ghosts P} where
+  -- The session's next command ran, and this is its line. A verdict is told to a command that asks for one alone.
+  pub record RanLine (hall : Hall H (Part L P l p) Entry Start) (old new : Caller L P l p) (line : Line) : Type 0 where
+    pub by : line.by ≡ by_at old.number (next_command old)
+    pub has : has_command line.command ≡ true
+    pub verdict : (verdict : Bool) → line.reply ≡ replies.Seen verdict → IsTrue (is_told_verdict line.command)
+    pub ran : Ran hall (next_command old) line.command line.reply old new
 
-abbrev pub is_command : Item → Bool
-is_command (items.Run session command) = true
-is_command _ = false
+  -- the session's next commands ran, one after another, and these are their lines
+  abbrev pub RanLines : Hall H (Part L P l p) Entry Start → Caller L P l p → Caller L P l p → List Line → Type 0
+  RanLines hall old new [] = new ≡ old
+  RanLines hall old new (line ∷ lines) = (next : Caller L P l p) × RanLine hall old next line × RanLines hall next new lines
 
--- the round is the commands before the first directive, and the rest stands behind that
-pub record IsFirstRound (script round rest : List Item) : Type 0 where
-  pub commands : All (λ item. is_command item ≡ true) round
-  pub split : ((script ≡ round) × (rest ≡ [])) ⊎ ((directive : Item) × (is_command directive ≡ false) × (script ≡ round ++ directive ∷ rest))
+  -- The member's next command ran, and it may go on. Its line was printed, if memory sufficed.
+  pub record RunsNext {T E : Type 0} (hall : Hall H (Part L P l p) Entry Start) (banks : ℕ) (names : List (List ℕ))
+      (command : Command) (result : Result T E) (old new : Member L P l p) : Type 0 where
+    pub line : Line
+    pub command_is : line.command ≡ command
+    pub ran : RanLine hall old.caller new.caller line
+    pub may : MayRun hall banks new.caller
+    pub lines : new.lines ≡ old.lines ++ line ∷ []
+    pub printed : OnOk result (new.text ≡ old.text ++ command_line names line)
 
--- a command that the run has
-abbrev pub has_command : Command → Bool
-has_command commands.Begin = true
-has_command commands.Save = true
-has_command commands.Write = true
-has_command commands.Release = true
-has_command commands.Undo = true
-has_command commands.Commit = true
-has_command commands.Abort = true
-has_command (commands.Snap name) = true
-has_command (commands.DropSnap name) = true
-has_command (commands.See name x) = true
-has_command _ = false
+  -- the member has run no command of the round yet, and may run so many
+  pub record Begins (hall : Hall H (Part L P l p) Entry Start) (banks count : ℕ) (m : Member L P l p) : Type 0 where
+    pub may : MayRun hall banks m.caller
+    pub room : commands_of m.caller + count < 2 ^ 48
+    pub lines : m.lines ≡ []
+    pub text : m.text ≡ []
 
--- and a line
-abbrev pub has_item : Item → Bool
-has_item (items.Run session command) = has_command command
-has_item items.Round = true
-has_item _ = false
+  -- The member ran commands of the round, and may go on. If this holds, these were all, and they were printed.
+  pub record RunsRound (hall : Hall H (Part L P l p) Entry Start) (banks : ℕ) (names : List (List ℕ))
+      (round : List Item) (Kept : Type 0) (old new : Member L P l p) : Type 0 where
+    pub ran : RanLines hall old.caller new.caller new.lines
+    pub may : MayRun hall banks new.caller
+    pub number : new.caller.number ≡ old.caller.number
+    pub all : Kept → map turn_of new.lines ≡ turns_of old.caller.number (turns_in round)
+    pub printed : Kept → new.text ≡ flat_map (command_line names) new.lines
 
--- a life with so many sessions can run the item
-abbrev pub MayRun : ℕ → Item → Type 0
-MayRun sessions (items.Run session command) = (has_command command ≡ true) × (session < sessions)
-MayRun sessions items.Round = Unit {0}
-MayRun sessions _ = ⊥
-
--- a script that sessions can run, round by round
-pub record IsRunnable (s : Script) : Type 0 where
-  pub base : IsBase s.base
-  pub items : All (MayRun (length s.names)) s.items
-  pub sessions : length s.names ≤ 64
-  pub few : length s.items ≤ 2 ^ 24
+  -- the member may run its commands of the round, at the places that the plan has for it
+  pub record MayGo (hall : Hall H (Part L P l p) Entry Start) (banks : ℕ) (round : List Item) (plan : Plan)
+      (m : Member L P l p) : Type 0 where
+    pub planned : m.caller.number < length plan.places.items
+    pub places : HasPlaces m.caller.number round round (get_or plan.places.items m.caller.number [])
+    pub begins : Begins hall banks (length (get_or plan.places.items m.caller.number [])) m

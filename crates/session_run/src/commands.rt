@@ -1,41 +1,89 @@
-//! The commands of a session.
-ghost use Rattle.std.specs.Prelude.{◌≡◌, true, IfOk};
-ghost use Rattle.session_run.specs.Acts.{Ready, Runs};
-ghost use Rattle.session_run.specs.Turns.{has_command};
+//! The commands of a session over the lock table.
+ghost use Rattle.std.specs.Prelude.{◌≡◌, Bool, IsTrue, true};
+ghost use Rattle.tx_model.specs.declared.reply.Reply.TheVariants as replies;
+ghost use Rattle.engine_parts.specs.Answers.{reply_of};
+ghost use Rattle.engine_parts.specs.Calls.{MayRun, Ran, next_command};
+ghost use Rattle.run_law.specs.Turns.{has_command};
+ghost use Rattle.life_law.specs.Replies.{is_told_verdict};
+ghost use Rattle.xact_writes.specs.Writes.{reply_to};
 
-use crate::ends::{abort, commit, undo};
-use crate::shared::Shared;
-use crate::snaps::{drop_snap, see, snap};
-use crate::writes::write;
-use session_levels::{Session, begin, release, save};
+use disk_core::{LogDisk, PageDisk};
+use engine_parts::{Caller, EngineLaw};
+use hall::Hall;
 use std::alloc::Global;
-use tx_model::{By, Command, Memory, Reply};
+use std::sync::Wait;
+use tx_model::{Command, Refusal, Reply, SnapData};
+use xact_ends::{abort, commit, undo};
+use xact_engine::{begin, drop_snap, release, save, snap};
+use xact_reads::see;
+use xact_writes::{Wrote, write};
 
-/// Runs one command of a session, and answers its reply. Where memory runs out, the session and what is shared are no
-/// longer of use.
-pub fn run_command(
-    shared: &mut Shared,
+// The reply of a command that says no more than that it is done.
+fn done(answer: Result<(), Refusal>) -> Reply
+    ensures { result ≡ reply_of (λ _. replies.Done) answer }
+{
+    match answer {
+        Ok(()) => Reply::Done,
+        Err(refusal) => Reply::Refused { refusal },
+    }
+}
+
+// That of a write.
+fn wrote(answer: Result<Wrote, Refusal>) -> Reply
+    ensures { result ≡ reply_of reply_to answer }
+{
+    match answer {
+        Ok(Wrote { ids, warn }) => Reply::Wrote { ids, warn },
+        Err(refusal) => Reply::Refused { refusal },
+    }
+}
+
+// That of a snapshot.
+fn snapped(answer: Result<SnapData, Refusal>) -> Reply
+    ensures { result ≡ reply_of replies.Snapped answer }
+{
+    match answer {
+        Ok(lists) => Reply::Snapped { lists },
+        Err(refusal) => Reply::Refused { refusal },
+    }
+}
+
+// That of a look.
+fn seen(answer: Result<bool, Refusal>) -> Reply
+    ensures { result ≡ reply_of replies.Seen answer }
+{
+    match answer {
+        Ok(visible) => Reply::Seen { visible },
+        Err(refusal) => Reply::Refused { refusal },
+    }
+}
+
+/// Runs the session's next command, and answers its reply. `banks` is the number of banks of each store, 1 to 16. The
+/// session has run fewer than 2^48 commands. Want of memory that the command met is its reply too.
+pub fn run_command<R: Wait, L: LogDisk, P: PageDisk>(
+    rt: &R,
+    hall: &Hall<EngineLaw<L, P>>,
+    caller: &mut Caller<L, P>,
+    banks: u32,
     alloc: Global,
-    by: By,
-    session: &mut Session,
     command: &Command,
-) -> Result<Reply, Memory>
+) -> Reply
     requires has { has_command command.now ≡ true }
-    requires ready { Ready shared.old by session.old }
-    ensures { IfOk result (λ reply.
-        Runs shared.old shared.new by session.old session.new command.now reply) }
+    requires may { MayRun hall.now banks caller.old }
+    ensures ran { Ran hall.now (next_command caller.old) command.now result caller.old caller.new }
+    ensures verdict { (verdict : Bool) → result ≡ replies.Seen verdict → IsTrue (is_told_verdict command.now) }
 {
     match command {
-        Command::Begin => Ok(begin(session)),
-        Command::Save => Ok(save(session)),
-        Command::Write => write(shared, alloc, by, session),
-        Command::Release => Ok(release(session)),
-        Command::Undo => Ok(undo(shared, by, session)),
-        Command::Commit => commit(shared, alloc, by, session),
-        Command::Abort => abort(shared, alloc, by, session),
-        Command::Snap { name } => snap(shared, by, session, name),
-        Command::DropSnap { name } => Ok(drop_snap(shared, by, session, name)),
-        Command::See { name, x } => Ok(see(shared, by, session, name, *x)),
+        Command::Begin => done(begin(hall, caller)),
+        Command::Save => done(save(hall, caller)),
+        Command::Write => wrote(write(rt, hall, caller, banks, alloc)),
+        Command::Release => done(release(hall, caller)),
+        Command::Undo => done(undo(rt, hall, caller, banks)),
+        Command::Commit => done(commit(rt, hall, caller, banks, alloc)),
+        Command::Abort => done(abort(rt, hall, caller, banks, alloc)),
+        Command::Snap { name } => snapped(snap(rt, hall, caller, name)),
+        Command::DropSnap { name } => done(drop_snap(rt, hall, caller, name)),
+        Command::See { name, x } => seen(see(rt, hall, caller, banks, name, *x)),
         _ => unreachable!(),
     }
 }

@@ -1,21 +1,15 @@
-//! Runs the sessions of a script over a new log, and the tool's top call. See `docs/GUARANTEES.md` and
-//! `docs/SCRIPT-AND-REPORT.md`.
+//! Runs the sessions of a script on threads over an engine, round by round, and the tool's top call. See
+//! `docs/GUARANTEES.md`, `docs/SCRIPT-AND-REPORT.md` and `docs/ENGINE.md`.
 #![tactic(auto)]
 
 mod commands;
-mod ends;
-mod life;
-mod other;
-mod plain_log;
-mod plan;
+mod laws;
+mod member;
+mod rest;
+mod round;
 mod rounds;
 mod run;
-mod shared;
-mod snaps;
-mod stream;
-mod told;
 mod tool;
-mod writes;
 
 pub use run::run_script;
 pub use tool::{run_tool, say_out_of_memory};

@@ -1,248 +1,184 @@
-//! Runs the rounds of a script: session by session, command by command, each line printed as it comes.
-ghost use Rattle.std.specs.Prelude.{◌≡◌, ℕ, ◌+◌, ◌^◌, ◌<◌, ◌≤◌, List, [], ◌∷◌, ◌++◌, IfNone, IfOk, IfSome, OnOk, Some, true, map, length, slice_get};
-ghost use Rattle.std.specs.List.{All, flat_map};
-ghost use Rattle.tx_model.specs.LawfulLife.{AreInTurn, AreRounds};
-ghost use Rattle.tx_model.specs.Lines.{turn_of};
-ghost use Rattle.session_lang.specs.declared.script.Item.TheVariants as items;
-ghost use Rattle.session_lang.specs.Rounds.{rounds_of, turns_of};
-ghost use Rattle.session_levels.specs.declared.session.Session.{Session};
-ghost use Rattle.session_run.specs.Acts.{IsSoundAt};
-ghost use Rattle.session_run.specs.Plans.{HasPlaces, IsBlank, IsPlanOf, turns_at};
-ghost use Rattle.session_run.specs.Progress.{AddsRound, Continues, GoesOn, IsTold, MayAdd, Ran, Tells, lines_of};
-ghost use Rattle.session_run.specs.Sound.{HasRoom};
-ghost use Rattle.session_levels.specs.Stands.{Stands};
-ghost use Rattle.session_run.specs.Told.{begin_text, rounds_with};
-ghost use Rattle.session_run.specs.Turns.{IsFirstRound, MayRun, has_command, is_command, turns_in};
+//! Runs the rounds of a script over one lock table, and prints them as they are done.
+ghost use Rattle.std.specs.Prelude.{◌≡◌, ◌+◌, ◌^◌, ◌<◌, ◌≤◌, ◌∷◌, ℕ, List, [], IfOk, OnOk, length, true};
+ghost use Rattle.std.specs.List.{All};
+ghost use Rattle.engine_parts.specs.declared.session.Session.{Session};
+ghost use Rattle.engine_host.specs.Hosts.{HasSeenNothing, HoldsAllBut, IsHost, IsNewSession, IsParked};
+ghost use Rattle.session_lang.specs.Rounds.{round_of, rounds_of};
+ghost use Rattle.run_law.specs.Turns.{IsRunnable, MayRun, is_command, turns_in};
+ghost use Rattle.script_rounds.specs.Plans.{IsBlank};
+ghost use Rattle.session_run.specs.declared.rest.Resting.{Resting as Here};
+ghost use Rattle.session_run.specs.Rounds.{MayAdd};
+ghost use Rattle.session_run.specs.GoesOn.{AreHome, GoesOn};
+ghost use Rattle.session_run.specs.Runs.{HasRun, RunsOn};
 
-use crate::commands::run_command;
-use crate::life::OpenLife;
-use crate::plan::Plan;
-use crate::shared::Shared;
-use report_text::{Text, put_command_line, put_round_line};
-use session_lang::{Item, Items};
-use session_levels::Session;
+use crate::laws::{life_begins, life_goes_on};
+use crate::rest::{Resting, new_sessions};
+use crate::round::run_round;
+use disk_core::{LogDisk, PageDisk};
+use engine_host::Host;
+use engine_parts::EngineLaw;
+use hall::Hall;
+use report_text::{Text, put_round_line};
+use script_rounds::{Plan, next_round};
+use session_lang::{Items, Script};
 use std::alloc::Global;
-use tx_model::{By, Command, Memory, NameList, Reply};
+use std::sync::Wait;
+use std::thread::Threads;
+use tx_model::{Memory, NameList};
 
-/// Runs a session's next command, and answers whose it is and its reply.
-fn next_reply(
-    shared: &mut Shared,
+// A round of fewer commands isn't worth a thread.
+const FEW_COMMANDS: usize = 64;
+
+/// How many threads a round takes, of at most so many.
+fn threads_for(plan: &Plan, round: &Items, most: usize) -> usize
+    ensures { 0 < result }
+{
+    if plan.sessions.len() <= 1 || round.len() < FEW_COMMANDS {
+        return 1;
+    }
+    most.max(1)
+}
+
+/// Runs a round that has commands, behind so many rounds, and prints it.
+fn run_numbered<R: Threads + Wait + Sync, L: LogDisk + Send + Sync, P: PageDisk + Send + Sync>(
+    rt: &R,
     alloc: Global,
-    number: u32,
-    session: &mut Session,
-    command: &Command,
-) -> Result<(By, Reply), Memory>
-    requires has { has_command command.now ≡ true }
-    requires sound { IsSoundAt shared.old }
-    requires stands { Stands shared.old.table.base shared.old.table.events
-        number session.old.commands session.old }
-    requires known { number < shared.old.table.sessions }
-    requires room { HasRoom shared.old.log.recs }
-    requires numbers { session.old.commands < 2 ^ 32 }
-    ensures { IfOk result (λ r.
-        Ran shared.old shared.new number session.old session.new command.now
-        (record { by = r.0; command = command.now; reply = r.1 })) }
+    hall: &Hall<EngineLaw<L, P>>,
+    host: &mut Host<L, P>,
+    sessions: &mut [Resting],
+    plan: &mut Plan,
+    rounds: u64,
+    round: &Items,
+    names: &NameList,
+    text: &mut Text,
+    threads: usize,
+) -> Result<(), Memory>
+    requires home { AreHome hall.now host.old sessions.old }
+    requires room { MayAdd (length round.now) sessions.old }
+    requires items { All (MayRun (length sessions.old)) round.now }
+    requires plan { IsBlank plan.old × (length plan.old.places.items ≡ length sessions.old) }
+    requires few { rounds < 2 ^ 32 }
+    ensures home { AreHome hall.now host.new sessions.new }
+    ensures cluster { host.new.cluster ≡ host.old.cluster }
+    ensures count { length sessions.new ≡ length sessions.old }
+    ensures plan { OnOk result (IsBlank plan.new × (length plan.new.places.items ≡ length sessions.new)) }
+    ensures ran { OnOk result (RunsOn hall.now names.now rounds (turns_in round.now ∷ []) host.old host.new
+        sessions.old sessions.new text.old text.new) }
 {
-    session.commands += 1;
-    let by = By {
-        session: number,
-        command: session.commands,
-    };
-    let reply = run_command(shared, alloc, by, session, command)?;
-    Ok((by, reply))
+    life_goes_on(hall);
+    plan.fill(round)?;
+    put_round_line(text, rounds + 1)?;
+    let count = threads_for(plan, round, threads);
+    run_round(
+        rt, alloc, hall, host, sessions, plan, round, names, text, count,
+    )?;
+    plan.clear(alloc);
+    Ok(())
 }
 
-/// The command, where it is of this session.
-fn command_of(number: u32, item: Item) -> Option<Command>
-    ensures some { IfSome result (λ command. item ≡ items.Run number command) }
-    ensures none { IfNone result (turns_of number (turns_in (item ∷ [])) ≡ []) }
+/// Runs a round behind so many rounds, if it has commands, and answers how many have run then.
+fn run_next<R: Threads + Wait + Sync, L: LogDisk + Send + Sync, P: PageDisk + Send + Sync>(
+    rt: &R,
+    alloc: Global,
+    hall: &Hall<EngineLaw<L, P>>,
+    host: &mut Host<L, P>,
+    sessions: &mut [Resting],
+    plan: &mut Plan,
+    rounds: u64,
+    round: &Items,
+    names: &NameList,
+    text: &mut Text,
+    threads: usize,
+) -> Result<u64, Memory>
+    requires home { AreHome hall.now host.old sessions.old }
+    requires room { MayAdd (length round.now) sessions.old }
+    requires items { All (MayRun (length sessions.old)) round.now }
+    requires commands { All (λ item. is_command item ≡ true) round.now }
+    requires plan { IsBlank plan.old × (length plan.old.places.items ≡ length sessions.old) }
+    requires few { rounds < 2 ^ 32 }
+    ensures home { AreHome hall.now host.new sessions.new }
+    ensures cluster { host.new.cluster ≡ host.old.cluster }
+    ensures count { length sessions.new ≡ length sessions.old }
+    ensures plan { OnOk result (IsBlank plan.new × (length plan.new.places.items ≡ length sessions.new)) }
+    ensures rounds { IfOk result (λ n. n ≡ rounds + length (round_of (turns_in round.now))) }
+    ensures ran { OnOk result (RunsOn hall.now names.now rounds (round_of (turns_in round.now)) host.old host.new
+        sessions.old sessions.new text.old text.new) }
 {
-    match item {
-        Item::Run { session, command } if session == number => Some(command),
-        _ => None,
-    }
-}
-
-/// The session's command at this place of the round.
-fn command_at(number: u32, round: &Items, place: usize) -> Result<Option<Command>, Memory>
-    ensures some { IfOk result (λ found. IfSome found (λ command.
-        slice_get round.now place ≡ Some (items.Run number command))) }
-    ensures none { IfOk result (λ found. IfNone found (turns_at number round.now (place ∷ []) ≡ [])) }
-{
-    match round.get(place)? {
-        Some(item) => Ok(command_of(number, item)),
-        None => Ok(None),
-    }
-}
-
-/// The commands up to the end of the round, and what stands behind that.
-fn next_round<'a>(items: &Items<'a>) -> (Items<'a>, Items<'a>)
-    ensures { IsFirstRound items.now result.0 result.1 }
-{
-    let count = items.len();
-    for i in 0..count {
-        if items.session_at(i).is_none() {
-            return (items.front(i), items.behind(i + 1));
-        }
-    }
-    (items.front(count), items.behind(count))
-}
-
-/// Prints the line that begins a round of these sessions, where there are any, and counts it.
-fn begin_round(text: &mut Text, rounds: u64, sessions: &[u32]) -> Result<u64, Memory>
-    requires { rounds < 2 ^ 32 }
-    ensures text { OnOk result (text.new ≡ text.old ++ begin_text (rounds + 1) sessions.now) }
-    ensures count { IfOk result (λ n. n ≡ rounds_with rounds sessions.now) }
-{
-    if sessions.is_empty() {
+    if round.is_empty() {
         return Ok(rounds);
     }
-    put_round_line(text, rounds + 1)?;
+    run_numbered(
+        rt, alloc, hall, host, sessions, plan, rounds, round, names, text, threads,
+    )?;
     Ok(rounds + 1)
 }
 
-impl OpenLife {
-    /// Runs a session's next command, and prints its line.
-    fn run_turn(
-        &mut self,
-        alloc: Global,
-        names: &NameList,
-        number: u32,
-        command: &Command,
-    ) -> Result<(), Memory>
-        requires has { has_command command.now ≡ true }
-        requires goes_on { GoesOn self.old }
-        requires known { number < length self.old.sessions.items }
-        requires room { MayAdd self.old 1 }
-        ensures goes_on { OnOk result (GoesOn self.new) }
-        ensures line { OnOk result (map turn_of self.new.lines
-            ≡ map turn_of self.old.lines ++ (number, command.now) ∷ []) }
-        ensures steps { OnOk result (self.new.steps ≡ self.old.steps) }
-        ensures on { OnOk result (Continues self.old self.new) }
-        ensures tells { OnOk result (Tells names.now self.old self.new) }
-    {
-        let session = &mut self.sessions[number as usize];
-        let (by, reply) = next_reply(&mut self.shared, alloc, number, session, command)?;
-        self.lines.add(by, command, &reply);
-        put_command_line(&mut self.text, names, by, command, &reply)
+/// Runs the rounds of a script, one after another, its sessions being these.
+fn run_each<R: Threads + Wait + Sync, L: LogDisk + Send + Sync, P: PageDisk + Send + Sync>(
+    rt: &R,
+    alloc: Global,
+    hall: &Hall<EngineLaw<L, P>>,
+    host: &mut Host<L, P>,
+    sessions: &mut [Resting],
+    script: Items,
+    names: &NameList,
+    text: &mut Text,
+    threads: usize,
+) -> Result<(), Memory>
+    requires begins { GoesOn hall.now host.old sessions.old [] }
+    requires items { All (MayRun (length sessions.old)) script }
+    requires few { length script ≤ 2 ^ 24 }
+    ensures home { AreHome hall.now host.new sessions.new }
+    ensures cluster { host.new.cluster ≡ host.old.cluster }
+    ensures ran { OnOk result (HasRun hall.now host.new sessions.new names.now (rounds_of script.entry)
+        text.old text.new) }
+{
+    let mut plan = Plan::new(alloc, sessions.len())?;
+    let mut rest = script;
+    let mut rounds = 0;
+    while !rest.is_empty() {
+        let (round, behind) = next_round(&rest);
+        rounds = run_next(
+            rt, alloc, hall, host, sessions, &mut plan, rounds, &round, names, text, threads,
+        )?;
+        rest = behind;
     }
+    Ok(())
+}
 
-    /// Runs a session's commands of a round, in their order: those at these places.
-    fn run_session(
-        &mut self,
-        alloc: Global,
-        names: &NameList,
-        number: u32,
-        places: &[usize],
-        round: &Items,
-    ) -> Result<(), Memory>
-        requires goes_on { GoesOn self.old }
-        requires items { All (MayRun (length self.old.sessions.items)) round.now }
-        requires places { HasPlaces number round.now round.now places.now }
-        requires room { MayAdd self.old (length (turns_of number (turns_in round.now))) }
-        ensures goes_on { OnOk result (GoesOn self.new) }
-        ensures lines { OnOk result (map turn_of self.new.lines
-            ≡ map turn_of self.old.lines ++ turns_of number (turns_in round.now)) }
-        ensures steps { OnOk result (self.new.steps ≡ self.old.steps) }
-        ensures on { OnOk result (Continues self.old self.new) }
-        ensures tells { OnOk result (Tells names.now self.old self.new) }
-    {
-        for place in places {
-            if let Some(command) = command_at(number, round, *place)? {
-                self.run_turn(alloc, names, number, &command)?;
-            }
-        }
-        Ok(())
-    }
-
-    /// Runs the commands of a round, one session after another.
-    fn run_sessions(
-        &mut self,
-        alloc: Global,
-        names: &NameList,
-        plan: &Plan,
-        round: &Items,
-    ) -> Result<(), Memory>
-        requires goes_on { GoesOn self.old }
-        requires items { All (MayRun (length self.old.sessions.items)) round.now }
-        requires plan { IsPlanOf round.now round.now plan.now }
-        requires room { MayAdd self.old
-            (length (flat_map (λ s. turns_of s (turns_in round.now)) plan.now.sessions.items)) }
-        ensures goes_on { OnOk result (GoesOn self.new) }
-        ensures lines { OnOk result (map turn_of self.new.lines
-            ≡ map turn_of self.old.lines
-            ++ flat_map (λ s. turns_of s (turns_in round.now)) plan.now.sessions.items) }
-        ensures steps { OnOk result (self.new.steps ≡ self.old.steps) }
-        ensures on { OnOk result (Continues self.old self.new) }
-        ensures tells { OnOk result (Tells names.now self.old self.new) }
-    {
-        for number in plan.sessions.as_slice() {
-            let places = plan.places[*number as usize].items();
-            self.run_session(alloc, names, *number, places, round)?;
-        }
-        Ok(())
-    }
-
-    /// Runs a round: its sessions one after another, in the order in which they first appear, each with its commands
-    /// in their order.
-    fn run_round(
-        &mut self,
-        alloc: Global,
-        names: &NameList,
-        plan: &mut Plan,
-        round: &Items,
-    ) -> Result<(), Memory>
-        requires goes_on { GoesOn self.old }
-        requires begins { self.old.lines ≡ [] }
-        requires told { IsTold names.now self.old }
-        requires plan { IsBlank plan.old × (length plan.old.places.items ≡ length self.old.sessions.items) }
-        requires items { All (MayRun (length self.old.sessions.items)) round.now }
-        requires room { MayAdd self.old (length round.now) }
-        ensures goes_on { OnOk result (GoesOn self.new) }
-        ensures ended { OnOk result (self.new.lines ≡ []) }
-        ensures step { OnOk result (AddsRound self.old.steps (turns_in round.now) self.new.steps) }
-        ensures plan { OnOk result (IsBlank plan.new
-            × (length plan.new.places.items ≡ length plan.old.places.items)) }
-        ensures room { OnOk result (length (lines_of self.new)
-            ≤ length (lines_of self.old) + length round.now) }
-        ensures on { OnOk result (Continues self.old self.new) }
-        ensures told { OnOk result (IsTold names.now self.new) }
-    {
-        plan.fill(round)?;
-        let rounds = begin_round(&mut self.text, self.rounds, plan.sessions.as_slice())?;
-        self.rounds = rounds;
-        self.run_sessions(alloc, names, plan, round)?;
-        self.steps.end_round(&mut self.lines);
-        plan.clear(alloc);
-        Ok(())
-    }
-
-    /// Runs the rounds of a script, one after another.
-    pub fn run_rounds(
-        &mut self,
-        alloc: Global,
-        names: &NameList,
-        script: Items,
-    ) -> Result<(), Memory>
-        requires goes_on { GoesOn self.old }
-        requires begins { (self.old.steps ≡ []) × (self.old.lines ≡ []) }
-        requires told { IsTold names.now self.old }
-        requires items { All (MayRun (length self.old.sessions.items)) script }
-        requires room { length script ≤ 2 ^ 24 }
-        ensures goes_on { OnOk result (GoesOn self.new) }
-        ensures ended { OnOk result (self.new.lines ≡ []) }
-        ensures rounds { OnOk result (AreRounds 1 (rounds_of script.entry) self.new.steps) }
-        ensures in_turn { OnOk result (AreInTurn self.new.shared.table.events self.new.steps) }
-        ensures on { OnOk result (Continues self.old self.new) }
-        ensures told { OnOk result (IsTold names.now self.new) }
-    {
-        let mut plan = Plan::new(alloc, self.sessions.len())?;
-        let mut rest = script;
-        while !rest.is_empty() {
-            let (round, behind) = next_round(&rest);
-            self.run_round(alloc, names, &mut plan, &round)?;
-            rest = behind;
-        }
-        Ok(())
-    }
+/// Runs the rounds of a script, one after another: the sessions of a round on at most so many threads.
+pub fn run_rounds<R: Threads + Wait + Sync, L: LogDisk + Send + Sync, P: PageDisk + Send + Sync>(
+    rt: &R,
+    alloc: Global,
+    hall: &Hall<EngineLaw<L, P>>,
+    host: &mut Host<L, P>,
+    script: &Script,
+    text: &mut Text,
+    threads: usize,
+) -> Result<(), Memory>
+    requires host { IsHost hall.now host.old }
+    requires all { HoldsAllBut host.old [] }
+    requires unseen { HasSeenNothing host.old }
+    requires parked { (n : ℕ) (s : Session) → n < host.old.cluster.sessions → IsNewSession s → IsParked hall.now host.old n s }
+    requires runnable { IsRunnable script.now }
+    requires count { host.old.cluster.sessions ≡ length script.now.names }
+    ensures host { IsHost hall.now host.new }
+    ensures all { HoldsAllBut host.new [] }
+    ensures ran { OnOk result ((sessions : List Here) × HasRun hall.now host.new sessions script.now.names
+        (rounds_of script.now.items) text.old text.new) }
+{
+    let mut sessions = new_sessions(alloc, host.cluster.sessions)?;
+    life_begins(hall);
+    let all = sessions.as_mut_slice();
+    run_each(
+        rt,
+        alloc,
+        hall,
+        host,
+        all,
+        script.items.items(),
+        &script.names,
+        text,
+        threads,
+    )
 }

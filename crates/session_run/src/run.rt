@@ -1,27 +1,111 @@
-//! Runs a script, and answers the text of its report.
-ghost use Rattle.std.specs.Prelude.{◌≡◌, IfOk};
+//! Runs a script over a media, and answers the text of its report.
+ghost use Rattle.std.specs.Prelude.{◌≡◌, ◌^◌, ◌<◌, ◌≤◌, IfErr, IfOk, IsTrue, OnOk};
 ghost use Rattle.tx_model.specs.declared.report.Report.{Report};
-ghost use Rattle.report_text.specs.ReportText.{report_text};
-ghost use Rattle.session_run.specs.Tool.{IsReportOf};
-ghost use Rattle.session_run.specs.Turns.{IsRunnable};
+ghost use Rattle.report_text.specs.ReportText.{front_text, report_text};
+ghost use Rattle.run_law.specs.Tool.{IsReportOf};
+ghost use Rattle.engine_host.specs.Opening.{IsCluster};
+ghost use Rattle.engine_life.specs.Lives.{IsNewLife};
+ghost use Rattle.engine_life.specs.Refusals.{IsUnopened};
+ghost use Rattle.session_run.specs.Runs.{IsRestOfReport, IsTaken, cluster_of};
 
-use crate::life::OpenLife;
-use report_text::end_report;
+use crate::laws::life_ends;
+use crate::rounds::run_rounds;
+use disk_core::{LogDisk, Media, PageDisk};
+use engine_host::Cluster;
+use engine_life::{ClosedLife, NoLife, OpenLife, close_life, end_report, open_life};
+use report_text::{Text, begin_report};
 use session_lang::Script;
 use std::alloc::Global;
-use tx_model::Memory;
+use std::sync::Wait;
+use std::thread::Threads;
+use tx_model::{Memory, NameList};
 
-/// Runs a script over a new log, from the script's counters: its rounds one after another, the sessions of a round in
-/// turn, in the order in which they first appear there. Answers the text of the run's report, which is printed as the
-/// run goes on.
-pub fn run_script(alloc: Global, script: &Script) -> Result<Vec<u8>, Memory>
-    requires { IsRunnable script.now }
-    ensures { IfOk result (λ text. (r : Report) × IsReportOf script.now r × (text.items ≡ report_text r)) }
+/// The cluster that a script's header tells of.
+fn cluster_of(script: &Script) -> Cluster
+    requires { IsTaken script.now }
+    ensures is { result ≡ cluster_of script.now }
+    ensures cluster { IsCluster result }
 {
-    let sessions = script.names.items().len() as u32;
-    let mut life = OpenLife::open(alloc, &script.base, sessions)?;
-    life.run_rounds(alloc, &script.names, script.items.items())?;
-    let (life, mut text) = life.into_parts(alloc);
-    end_report(&mut text, &script.names, &life, None)?;
-    Ok(text.into_bytes())
+    Cluster {
+        base: script.base.same(),
+        banks: script.banks,
+        sessions: script.names.items().len() as u32,
+    }
+}
+
+// A place in a log is below 2^64.
+fn has_64_bits(_place: u64)
+    ensures { _place < 2 ^ 64 }
+{}
+
+/// Runs a script in a life that begins, and closes the life.
+fn run_life<
+    R: Threads + Wait + Sync,
+    L: LogDisk + Send + Sync + Drop,
+    P: PageDisk + Send + Sync + Drop,
+>(
+    rt: &R,
+    alloc: Global,
+    life: OpenLife<L, P>,
+    script: &Script,
+    text: &mut Text,
+    threads: usize,
+) -> (ClosedLife<L, P>, Result<(), Memory>)
+    requires taken { IsTaken script.now }
+    requires new { IsNewLife (cluster_of script.now) life }
+    ensures report { OnOk result.1 (IsRestOfReport P.tells script.now text.old text.new) }
+{
+    let mut life = life;
+    life_ends(&life.hall);
+    let ran = run_rounds(rt, alloc, &life.hall, &mut life.host, script, text, threads);
+    let closed = close_life(life);
+    let Ok(()) = ran else {
+        return (closed, Err(Memory));
+    };
+    has_64_bits(closed.log.end());
+    let ended = end_report(text, &script.names, closed.events.items(), &closed.log);
+    (closed, ended)
+}
+
+/// The text before the first round.
+fn front_of(alloc: Global, script: &Script) -> Result<Text, Memory>
+    ensures { IfOk result (λ text. text ≡ front_text script.now.base) }
+{
+    let mut text = Text::new(alloc);
+    begin_report(&mut text, &script.base)?;
+    Ok(text)
+}
+
+/// Runs a script in one life over a new media, from the script's counters: its rounds one after another, the sessions of
+/// a round on at most so many threads. Answers the text of the run's report, which is printed as the run goes on. The
+/// media holds its volumes again then, and also after an error.
+pub fn run_script<R: Threads + Wait + Sync, M: Media>(
+    rt: &R,
+    alloc: Global,
+    script: &Script,
+    media: &mut M,
+    threads: usize,
+) -> Result<Vec<u8>, NoLife>
+where
+    M::Log: Sync,
+    M::Pages: Sync,
+    requires taken { IsTaken script.now }
+    requires idle { IsTrue (M.is_idle media.old) }
+    requires new { IsTrue (M.is_new media.old) }
+    ensures report { IfOk result (λ text. (r : Report) × IsReportOf M.Pages.tells script.now r × (text.items ≡ report_text r)) }
+    ensures idle { IsTrue (M.is_idle media.new) }
+    ensures count { M.faults media.old ≤ M.faults media.new }
+    ensures refused { IfErr result (λ refusal. IsUnopened M.Log.LogDisk M.Pages.PageDisk (cluster_of script.now)
+        (M.faults media.old) (M.faults media.new) (M.gives media.new) refusal) }
+{
+    let Ok(mut text) = front_of(alloc, script) else {
+        return Err(NoLife::Memory);
+    };
+    let life = open_life(alloc, media, cluster_of(script))?;
+    let (closed, ended) = run_life(rt, alloc, life, script, &mut text, threads);
+    media.rest(closed.into_volumes());
+    match ended {
+        Ok(()) => Ok(text.into_bytes()),
+        Err(Memory) => Err(NoLife::Memory),
+    }
 }

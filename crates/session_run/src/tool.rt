@@ -1,19 +1,20 @@
 //! The tool's top call, with the main guarantee (`docs/GUARANTEES.md`).
-ghost use Rattle.std.specs.Prelude.{◌≡◌, ℕ, ◌⊎◌, ◌↔◌, List, map, take, string_bytes, IsTrue, IfOk, codes, length, ◌≤◌, ◌≢◌, ◌++◌, ◌∷◌, []};
+ghost use Rattle.std.specs.Prelude.{◌≡◌, ◌≢◌, ◌≤◌, ◌⊎◌, ◌↔◌, ◌++◌, ◌∷◌, ℕ, [], IfOk, IsTrue, codes, length, map, string_bytes, take};
 ghost use Rattle.std.specs.Io.KnownBytes.{Appends};
-ghost use Rattle.tx_model.specs.declared.report.Report.{Report};
 ghost use Rattle.tx_io.specs.Causes.{Rose};
-ghost use Rattle.report_text.specs.ReportText.{report_text};
-ghost use Rattle.session_run.specs.Tool.{IsRun, IsWholeRun, IsRefused, HoldsFront, ReadsUpTo, most_read};
-ghost use Rattle.session_run.specs.Refusals.{refusal_text};
-ghost use Rattle.session_run.specs.Ends.{Answers, Ends, Refuses};
+ghost use Rattle.engine_life.specs.declared.refusal.NoLife.TheVariants as no_lives;
+ghost use Rattle.engine_life.specs.Refusals.{HasDeviceFailed};
+ghost use Rattle.run_law.specs.Tool.{IsRefused, IsRun, IsWholeRun, ReadsUpTo, most_read};
+ghost use Rattle.session_run.specs.Tool.{Ends, HoldsFront, IsUnrun, TellsRefusal, damage_text, unread_by};
 
-use crate::other::first_other;
 use crate::run::run_script;
-use crate::stream::{ReadStop, read_all, write_all};
+use disk_core::Media;
+use engine_life::NoLife;
 use report_text::Text;
-use session_lang::{Kind, ParseRefusal, line_of, parse};
+use script_source::{NoScript, take_script, write_all};
 use std::alloc::Global;
+use std::sync::Wait;
+use std::thread::Threads;
 use tx_io::{Failed, Sink, Source};
 use tx_model::Memory;
 
@@ -26,6 +27,14 @@ enum Ending {
     NoScript(Vec<u8>),
     ReadFault,
     Memory,
+    /// The media or a volume failed before the life began.
+    Device,
+    /// The line that tells at which place the log is damaged.
+    Damaged(Vec<u8>),
+    /// The log has no room for the first checkpoint.
+    Full,
+    /// The log has records.
+    OldLog,
 }
 
 fn is_run_word(word: &String) -> bool
@@ -43,65 +52,72 @@ fn is_run(words: &[String]) -> bool
     }
 }
 
-/// The line that tells at which line of a script a fault is, and its kind.
-#[tactic(auto, unfolding(crate::specs::Refusals::refusal_text, report_text::specs::Words::line_text, report_text::specs::Words::more))]
-fn refusal_text(alloc: Global, line: u64, kind: Kind) -> Result<Vec<u8>, Memory>
-    ensures { IfOk result (λ text. text.items ≡ refusal_text (line, kind)) }
+/// The line that tells at which place the log is damaged.
+#[tactic(auto, unfolding(report_text::specs::Words::line_text, report_text::specs::Words::more))]
+fn damage_text(alloc: Global, at: u64) -> Result<Vec<u8>, Memory>
+    ensures { IfOk result (λ text. text.items ≡ damage_text at) }
 {
     let mut text = Text::new(alloc);
-    text.put(b"script")?;
-    text.number(line)?;
-    text.word(kind.word())?;
+    text.put(b"damaged")?;
+    text.number(at)?;
     text.end_line()?;
     Ok(text.into_bytes())
 }
 
-/// The ending of a script with this fault.
-fn refused(alloc: Global, line: u64, kind: Kind) -> Ending
-    ensures { Refuses (line, kind) result }
+/// The ending where the source gave no script.
+fn unread(refusal: NoScript) -> Ending
+    ensures { result ≡ unread_by refusal }
 {
-    match refusal_text(alloc, line, kind) {
-        Ok(text) => Ending::NoScript(text),
-        Err(Memory) => Ending::Memory,
+    match refusal {
+        NoScript::Refused(text) => Ending::NoScript(text),
+        NoScript::ReadFault => Ending::ReadFault,
+        NoScript::Memory => Ending::Memory,
     }
 }
 
-/// What a script's bytes give: the text of its report, or that they are refused.
-fn answer(alloc: Global, bytes: &[u8]) -> Ending
-    requires { length bytes.now ≤ 16777216 }
-    ensures { Answers bytes.now result }
+/// The ending where no life was opened.
+fn unopened(alloc: Global, refusal: NoLife) -> Ending
+    ensures { TellsRefusal refusal result }
 {
-    let script = match parse(alloc, bytes) {
-        Ok(script) => script,
-        Err(ParseRefusal::Fault { line, kind }) => return refused(alloc, line, kind),
-        Err(ParseRefusal::Memory) => return Ending::Memory,
-    };
-    let items = script.items.items();
-    let place = match first_other(&items) {
-        Ok(place) => place,
-        Err(Memory) => return Ending::Memory,
-    };
-    if place < items.len() {
-        return refused(alloc, line_of(bytes, place), Kind::Command);
-    }
-    match run_script(alloc, &script) {
-        Ok(text) => Ending::Report(text),
-        Err(Memory) => Ending::Memory,
+    match refusal {
+        NoLife::Device => Ending::Device,
+        NoLife::Memory => Ending::Memory,
+        NoLife::Full => Ending::Full,
+        NoLife::OldLog => Ending::OldLog,
+        NoLife::Damaged { at } => match damage_text(alloc, at) {
+            Ok(text) => Ending::Damaged(text),
+            Err(Memory) => Ending::Memory,
+        },
     }
 }
 
-/// Reads the source and makes the report.
-fn work<S: Source>(alloc: Global, source: &mut S) -> Ending
-    ensures ends { Ends (S.left source.old) (S.left source.new)
-        (S.faults source.old) (S.faults source.new) result }
+/// Reads the source, runs its script over the media, and makes the report.
+fn work<R: Threads + Wait + Sync, S: Source, M: Media>(
+    rt: &R,
+    alloc: Global,
+    source: &mut S,
+    media: &mut M,
+    threads: usize,
+) -> Ending
+where
+    M::Log: Sync,
+    M::Pages: Sync,
+    requires idle { IsTrue (M.is_idle media.old) }
+    requires new { IsTrue (M.is_new media.old) }
+    ensures ends { Ends M.Log.LogDisk M.Pages.PageDisk (S.left source.old) (S.left source.new)
+        (S.faults source.old) (S.faults source.new) (M.faults media.old) (M.faults media.new) (M.gives media.new) result }
     ensures later { S.faults source.old ≤ S.faults source.new }
     ensures amount { ReadsUpTo most_read (S.left source.old) (S.left source.new) }
+    ensures idle { IsTrue (M.is_idle media.new) }
+    ensures count { M.faults media.old ≤ M.faults media.new }
 {
-    match read_all(alloc, source) {
-        Ok(bytes) => answer(alloc, bytes.as_slice()),
-        Err(ReadStop::Fault) => Ending::ReadFault,
-        Err(ReadStop::TooLong) => refused(alloc, 0, Kind::Size),
-        Err(ReadStop::Memory) => Ending::Memory,
+    let script = match take_script(alloc, source) {
+        Ok(script) => script,
+        Err(refusal) => return unread(refusal),
+    };
+    match run_script(rt, alloc, &script, media, threads) {
+        Ok(text) => Ending::Report(text),
+        Err(refusal) => unopened(alloc, refusal),
     }
 }
 
@@ -130,18 +146,28 @@ pub fn say_out_of_memory<K: Sink>(sink: &mut K) -> u8
 
 /// Runs the tool over the words of its command line, and answers its status: 0 done, 1 the source's bytes are no
 /// script, or have a line that the run doesn't do yet, and the line `script LINE KIND` is written, 2 the words are
-/// refused, 3 the source failed, 4 the sink failed, 6 out of memory. The only word is `run`. Reads at most 16,777,217
-/// bytes, and none where the words are refused.
-pub fn run_tool<S: Source, K: Sink>(
+/// refused, 3 the source failed, 4 the sink failed, 5 the media or a volume failed before the life began, 6 out of
+/// memory, 7 the log is damaged, and the line `damaged AT` is written, 9 the log has no room for the first checkpoint,
+/// 10 the log has records. The only word is `run`. Reads at most 16,777,217 bytes, and none where the words are refused.
+pub fn run_tool<R: Threads + Wait + Sync, S: Source, K: Sink, M: Media>(
+    rt: &R,
     alloc: Global,
     words: &[String],
     source: &mut S,
     sink: &mut K,
+    media: &mut M,
+    threads: usize,
 ) -> u8
+where
+    M::Log: Sync,
+    M::Pages: Sync,
+    requires idle { IsTrue (M.is_idle media.old) }
+    requires new { IsTrue (M.is_new media.old) }
+
     // The main guarantee: the bytes written report one legal history, each command once and in order, and each
     // reply lawful.
     ensures done { result ≡ 0 → IsRun (map string_bytes words.now)
-        × IsWholeRun (S.left source.old) (S.left source.new) (K.held sink.old) (K.held sink.new) }
+        × IsWholeRun M.Pages.tells (S.left source.old) (S.left source.new) (K.held sink.old) (K.held sink.new) }
 
     // Why it ends otherwise.
     ensures script { result ≡ 1 → IsRun (map string_bytes words.now)
@@ -150,27 +176,45 @@ pub fn run_tool<S: Source, K: Sink>(
     ensures words_only { (IsRun (map string_bytes words.now) → ⊥) → (result ≡ 2) ⊎ (result ≡ 4) }
     ensures read { result ≡ 3 → Rose (S.faults source.old) (S.faults source.new) }
     ensures write { result ≡ 4 → Rose (K.faults sink.old) (K.faults sink.new) }
-    ensures front { result ≡ 4 →
-        HoldsFront (S.left source.old) (S.left source.new) (K.held sink.old) (K.held sink.new) }
-    ensures statuses { (result ≤ 6) × (result ≢ 5) }
+    ensures front { result ≡ 4 → HoldsFront M.Pages.tells
+        (S.left source.old) (S.left source.new) (K.held sink.old) (K.held sink.new) }
+    ensures device { result ≡ 5 → HasDeviceFailed M.Log.LogDisk M.Pages.PageDisk
+        (M.faults media.old) (M.faults media.new) (M.gives media.new) }
+    ensures damaged { result ≡ 7 → (at : ℕ) × Appends (K.held sink.old) (K.held sink.new) (damage_text at)
+        × IsUnrun M.Log.LogDisk M.Pages.PageDisk (S.left source.old) (S.left source.new)
+        (M.faults media.old) (M.faults media.new) (M.gives media.new) (no_lives.Damaged at) }
+    ensures full { result ≡ 9 → IsUnrun M.Log.LogDisk M.Pages.PageDisk (S.left source.old) (S.left source.new)
+        (M.faults media.old) (M.faults media.new) (M.gives media.new) no_lives.Full }
+    ensures old_log { result ≡ 10 → IsUnrun M.Log.LogDisk M.Pages.PageDisk (S.left source.old) (S.left source.new)
+        (M.faults media.old) (M.faults media.new) (M.gives media.new) no_lives.OldLog }
+    ensures statuses { (result ≤ 10) × (result ≢ 8) }
 
-    // What it reads.
+    // What it reads, and how it leaves the media.
     ensures amount { ReadsUpTo most_read (S.left source.old) (S.left source.new) }
     ensures untouched { (IsRun (map string_bytes words.now) → ⊥) → source.new ≡ source.old }
+    ensures unused { (IsRun (map string_bytes words.now) → ⊥) → media.new ≡ media.old }
+    ensures rested { IsTrue (M.is_idle media.new) }
 
     // And the line that it then writes.
     ensures no_words { result ≡ 2 → Appends (K.held sink.old) (K.held sink.new) (codes "words" ++ 10 ∷ []) }
     ensures read_fault { result ≡ 3 →
         Appends (K.held sink.old) (K.held sink.new) (codes "read-fault" ++ 10 ∷ []) }
+    ensures no_device { result ≡ 5 → Appends (K.held sink.old) (K.held sink.new) (codes "device" ++ 10 ∷ []) }
     ensures no_memory { result ≡ 6 → Appends (K.held sink.old) (K.held sink.new) (codes "memory" ++ 10 ∷ []) }
+    ensures no_room { result ≡ 9 → Appends (K.held sink.old) (K.held sink.new) (codes "log-full" ++ 10 ∷ []) }
+    ensures no_new_log { result ≡ 10 → Appends (K.held sink.old) (K.held sink.new) (codes "old-log" ++ 10 ∷ []) }
 {
     if !is_run(words) {
         return finish(sink, b"words\n", 2);
     }
-    match work(alloc, source) {
+    match work(rt, alloc, source, media, threads) {
         Ending::Report(text) => finish(sink, text.as_slice(), 0),
         Ending::NoScript(text) => finish(sink, text.as_slice(), 1),
         Ending::ReadFault => finish(sink, b"read-fault\n", 3),
+        Ending::Device => finish(sink, b"device\n", 5),
         Ending::Memory => finish(sink, b"memory\n", 6),
+        Ending::Damaged(text) => finish(sink, text.as_slice(), 7),
+        Ending::Full => finish(sink, b"log-full\n", 9),
+        Ending::OldLog => finish(sink, b"old-log\n", 10),
     }
 }

@@ -162,7 +162,7 @@ fn other_words_are_refused(rt: HostRuntime) -> Result<(), Fail> {
         String::from_str(alloc, "run")?,
         String::from_str(alloc, "now")?,
     ];
-    assert_eq!(rt; status_of(alloc, &two, &mut source, &mut sink), 2);
+    assert_eq!(rt; status_of(&rt, &two, &mut source, &mut sink), 2);
     assert_eq!(rt; sink.held(), b"words\n".as_slice());
     Ok(())
 }
@@ -241,7 +241,7 @@ fn script_past_the_limit_is_refused(rt: HostRuntime) -> Result<(), Fail> {
     let alloc = rt.alloc();
     let mut sink = MemSink::new(alloc, 100, Vec::new(alloc))?;
     let words = [String::from_str(alloc, "run")?];
-    assert_eq!(rt; status_of(alloc, &words, &mut Endless, &mut sink), 1);
+    assert_eq!(rt; status_of(&rt, &words, &mut Endless, &mut sink), 1);
     assert_eq!(rt; sink.held(), b"script 0 size\n".as_slice());
     Ok(())
 }

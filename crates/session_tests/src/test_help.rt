@@ -1,55 +1,64 @@
 //! What the tests share: runs of the tool on a script in memory, and what they are held against.
+use disk_core::MemMedia;
 use session_run::run_tool;
-use std::alloc::{AllocGlobal, Global};
+use std::alloc::AllocGlobal;
 use std::process::Abort;
+use std::sync::Wait;
 use std::test::Fail;
+use std::thread::Threads;
 use tx_io::{MemSink, MemSource, Sink, Source};
 
-/// The tool without its contract, so that a test proves no more than that it is safe.
-pub fn status_of<S: Source, K: Sink>(
-    alloc: Global,
+/// The tool over a new media in memory, without its contract, so that a test proves no more than that it is safe. The
+/// sessions of a round share at most four threads.
+pub fn status_of<R: AllocGlobal + Threads + Wait + Sync, S: Source, K: Sink>(
+    rt: &R,
     words: &[String],
     source: &mut S,
     sink: &mut K,
 ) -> u8 {
-    run_tool(alloc, words, source, sink)
+    let alloc = rt.alloc();
+    let mut media = MemMedia::new(alloc);
+    run_tool(rt, alloc, words, source, sink, &mut media, 4)
 }
 
 /// Runs the tool with one word on a script, into a sink with this room, where these reads fail. Answers the status and
 /// the bytes held.
 fn run(
-    alloc: Global,
+    rt: &(impl AllocGlobal + Threads + Wait + Sync),
     word: &str,
     script: &str,
     failing: Vec<u64>,
     room: u64,
 ) -> Result<(u8, Vec<u8>), Fail> {
+    let alloc = rt.alloc();
     let mut source = MemSource::new(Vec::from_slice(alloc, script.as_bytes())?, failing);
     let mut sink = MemSink::new(alloc, room, Vec::new(alloc))?;
     let words = [String::from_str(alloc, word)?];
-    let status = status_of(alloc, &words, &mut source, &mut sink);
+    let status = status_of(rt, &words, &mut source, &mut sink);
     Ok((status, Vec::from_slice(alloc, sink.held())?))
 }
 
 /// Such a run ends with this status and holds these bytes.
 pub fn check_run(
-    rt: &(impl Abort + AllocGlobal),
+    rt: &(impl Abort + AllocGlobal + Threads + Wait + Sync),
     word: &str,
     script: &str,
     failing: Vec<u64>,
     room: u64,
     wanted: (u8, &str),
 ) -> Result<(), Fail> {
-    let (status, held) = run(rt.alloc(), word, script, failing, room)?;
+    let (status, held) = run(rt, word, script, failing, room)?;
     assert_eq!(rt; status, wanted.0);
     assert_eq!(rt; held.as_slice(), wanted.1.as_bytes());
     Ok(())
 }
 
 /// The report that a run of the script writes, with status 0.
-fn report_of(rt: &impl AllocGlobal, script: &str) -> Result<String, Fail> {
-    let alloc = rt.alloc();
-    let (status, held) = run(alloc, "run", script, Vec::new(alloc), 100_000)?;
+fn report_of(
+    rt: &(impl AllocGlobal + Threads + Wait + Sync),
+    script: &str,
+) -> Result<String, Fail> {
+    let (status, held) = run(rt, "run", script, Vec::new(rt.alloc()), 100_000)?;
     if status != 0 {
         return Err(Fail::from("the status isn't 0"));
     }
@@ -58,7 +67,7 @@ fn report_of(rt: &impl AllocGlobal, script: &str) -> Result<String, Fail> {
 
 /// The script's report is this text.
 pub fn check_report(
-    rt: &(impl Abort + AllocGlobal),
+    rt: &(impl Abort + AllocGlobal + Threads + Wait + Sync),
     script: &str,
     report: &str,
 ) -> Result<(), Fail> {
@@ -69,7 +78,7 @@ pub fn check_report(
 
 /// The script's report has each of these texts in it.
 pub fn check_parts(
-    rt: &(impl Abort + AllocGlobal),
+    rt: &(impl Abort + AllocGlobal + Threads + Wait + Sync),
     script: &str,
     parts: &[&str],
 ) -> Result<(), Fail> {

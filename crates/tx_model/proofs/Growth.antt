@@ -1,4 +1,4 @@
-use Rattle.std.proofs.Common.{IfSome, ◌-◌, ◌↔◌, ◌≡◌, ℕ, suc, zero, ◌<◌, ◌≤◌, List, [], ◌∷◌, ◌++◌, length, take, drop, refl, ap, sym, ◌∙◌, arith, ⊎_elim, subst, Bool, true, false, cond, IsTrue}
+use Rattle.std.proofs.Common.{IfSome, ◌-◌, ◌↔◌, ◌≡◌, ℕ, ◌<◌, ◌≤◌, List, [], ◌∷◌, ◌++◌, length, take, drop, refl, ap, sym, ◌∙◌, arith, ⊎_elim, subst, Bool, true, false, cond, IsTrue}
 use Rattle.std.proofs.Math.Seq.{drop-append-le, take-append-le}
 use Rattle.std.specs.List.{filter, AllByRecursion}
 use Rattle.xid_order.specs.Nearest.{near_id}
@@ -24,12 +24,8 @@ use Rattle.tx_model.specs.declared.command.Command.TheVariants as commands
 use Rattle.tx_model.specs.declared.reply.Reply.TheVariants as replies
 use Rattle.tx_events.specs.declared.refusal.Refusal.TheVariants as refusals
 
-pub all_later_others : (es : List Event) (lines : List Line) → AllByRecursion (λ l. AreLater l.by es) lines → AllByRecursion (λ l. AreOthers l.by es) lines
-all_later_others es [] h = tt
-all_later_others es (l ∷ lines) h = (later_are_others l.by es h.0, all_later_others es lines h.1)
-
 -- events that are of none of these lines change nothing of how a session stands after them
-pub stance_from_grows : (h es : List Event) (lines : List Line) (s : Stance) → AllByRecursion (λ l. AreOthers l.by es) lines → stance_from s (h ++ es) lines ≡ stance_from s h lines
+stance_from_grows : (h es : List Event) (lines : List Line) (s : Stance) → AllByRecursion (λ l. AreOthers l.by es) lines → stance_from s (h ++ es) lines ≡ stance_from s h lines
 stance_from_grows h es [] s o = refl
 stance_from_grows h es (l ∷ lines) s o =
     stance_from_grows h es lines (after s l.by.command l.command l.reply (given (events_of l.by (h ++ es)))) o.1
@@ -39,11 +35,6 @@ others_filter : (p : Line → Bool) (es : List Event) (lines : List Line) → Al
 others_filter p es [] o = tt
 others_filter p es (l ∷ lines) o =
     elim (p l) as (λ b. AllByRecursion (λ l. AreOthers l.by es) (cond b (l ∷ filter p lines) (filter p lines))) [ true ↦ (o.0, others_filter p es lines o.1) | false ↦ others_filter p es lines o.1 ]
-
-pub others_take : (n : ℕ) (es : List Event) (lines : List Line) → AllByRecursion (λ l. AreOthers l.by es) lines → AllByRecursion (λ l. AreOthers l.by es) (take n lines)
-others_take zero es lines o = tt
-others_take (suc n) es [] o = tt
-others_take (suc n) es (l ∷ lines) o = (o.0, others_take n es lines o.1)
 
 pub stance_grows : (h es : List Event) (lines : List Line) (session : ℕ) → AllByRecursion (λ l. AreOthers l.by es) lines → stance (h ++ es) lines session ≡ stance h lines session
 stance_grows h es lines session o = stance_from_grows h es (filter (is_line_of session) lines) nothing_yet (others_filter _ es lines o)

@@ -17,5 +17,4 @@ pub mod Stance
 pub mod CommandEvents
 pub mod Replies
 pub mod Lines
-pub mod LifeLog
-pub mod LawfulLife
+pub mod Rounds

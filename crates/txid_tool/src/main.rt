@@ -2,10 +2,14 @@
 //! `docs/SCRIPT-AND-REPORT.md`.
 #![tactic(auto)]
 
+use disk_core::MemMedia;
 use session_run::{run_tool, say_out_of_memory};
 use std::process::ExitCode;
 use std::{env, io};
 use tx_io::{StdSink, StdSource};
+
+/// The sessions of a round share at most so many threads.
+const THREADS: usize = 4;
 
 /// The words of the command line behind the program's name.
 fn words(rt: &HostRuntime) -> io::Result<Vec<String>> {
@@ -27,6 +31,15 @@ fn main(rt: HostRuntime) -> ExitCode {
         Err(_) => Vec::new(rt.alloc()),
     };
     let mut source = StdSource::new(rt.stdin());
-    let status = run_tool(rt.alloc(), words.as_slice(), &mut source, &mut sink);
+    let mut media = MemMedia::new(rt.alloc());
+    let status = run_tool(
+        &rt,
+        rt.alloc(),
+        words.as_slice(),
+        &mut source,
+        &mut sink,
+        &mut media,
+        THREADS,
+    );
     ExitCode::from(status)
 }

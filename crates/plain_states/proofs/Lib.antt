@@ -1,5 +1,0 @@
-pub mod Searching
-pub mod Climbing
-pub mod Commits
-pub mod States
-pub mod Seeing

@@ -1,9 +1,0 @@
-pub mod Ids
-pub mod Turns
-pub mod Records
-pub mod Fits
-pub mod Sizes
-pub mod Reaching
-pub mod Whole
-pub mod Readings
-pub mod Scripts

@@ -1,5 +1,0 @@
-mod RoundCounts
-mod RoundSteps
-mod RoundsRun
-mod LifeTold
-mod ToolEnds

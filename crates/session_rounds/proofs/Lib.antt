@@ -1,5 +1,0 @@
-mod TurnLemmas
-mod Among
-mod Letting
-mod Returning
-mod Rounding

@@ -1,7 +1,0 @@
-use Rattle.std.proofs.Common.{◌≡◌, take, true}
-use Rattle.std.specs.List.{All}
-use Rattle.session_run.specs.Turns.{is_command}
-use Rattle.session_run.proofs.rounds.next_round.Given as goal
-
-abbrev pub invariant-loop-i : goal.invariant-loop-i
-invariant-loop-i l = All (λ item. is_command item ≡ true) (take l.i l.items)

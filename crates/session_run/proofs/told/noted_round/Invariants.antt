@@ -1,4 +1,0 @@
-use Rattle.session_run.proofs.told.noted_round.Given as goal
-
-abbrev pub ghost-of : goal.ghost-of
-ghost-of g a = g.noted

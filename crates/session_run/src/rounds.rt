@@ -26,8 +26,8 @@ use std::sync::Wait;
 use std::thread::Threads;
 use tx_model::{Memory, NameList};
 
-// A round of fewer commands isn't worth a thread.
-const FEW_COMMANDS: usize = 64;
+// A round of fewer commands isn't worth its threads: starting them costs as much as some hundred commands.
+const FEW_COMMANDS: usize = 512;
 
 /// How many threads a round takes, of at most so many.
 fn threads_for(plan: &Plan, round: &Items, most: usize) -> usize

@@ -5,11 +5,17 @@
 use disk_core::MemMedia;
 use session_run::{run_tool, say_out_of_memory};
 use std::process::ExitCode;
+use std::thread::{Threads, available_parallelism};
 use std::{env, io};
 use tx_io::{StdSink, StdSource};
 
-/// The sessions of a round share at most so many threads.
-const THREADS: usize = 4;
+/// How many threads the sessions of a round share at most: one for each processor.
+fn threads(rt: &impl Threads) -> usize {
+    match available_parallelism(rt) {
+        Ok(count) => count.get(),
+        Err(_) => 1,
+    }
+}
 
 /// The words of the command line behind the program's name.
 fn words(rt: &HostRuntime) -> io::Result<Vec<String>> {
@@ -39,7 +45,7 @@ fn main(rt: HostRuntime) -> ExitCode {
         &mut source,
         &mut sink,
         &mut media,
-        THREADS,
+        threads(&rt),
     );
     ExitCode::from(status)
 }

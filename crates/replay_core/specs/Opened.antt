@@ -35,7 +35,7 @@ module _ {D : Type 0} {g : logs.Ghosts D} where
 
   -- It is that of this volume, with the records that the volume has, none of a multixact.
   pub record IsFound (disk : D) (found : Found D g) : Type 0 where
-    pub open : IsOpen found.base found.log
+    pub is_open : IsOpen found.base found.log
     pub next : log_next found.log ≡ log_first found.log + length found.recs
     pub comes : ComesTo (log_first found.log) found.recs (Some found.base)
     pub none : HasNone found.recs

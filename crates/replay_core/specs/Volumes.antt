@@ -1,5 +1,5 @@
 -- What a crash leaves of the volumes of a cluster that has no multixacts, and that recovery may begin from it.
-use Rattle.std.specs.Prelude.{◌≡◌, ℕ, ◌×◌, ◌≤◌, List, None, Some, length, slice_get}
+use Rattle.std.specs.Prelude.{◌≡◌, ℕ, List, None, Some, length, slice_get}
 use Rattle.disk_core.specs.declared.log_disk.LogDisk as logs
 use Rattle.disk_core.specs.declared.page_disk.PageDisk as disks
 use Rattle.tx_events.specs.declared.record.Counters.{Counters}

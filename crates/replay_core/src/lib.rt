@@ -5,10 +5,10 @@
 mod banks;
 mod cluster;
 mod found;
-mod recover;
+mod recovery;
 mod refusal;
 mod settle;
 
 pub use cluster::{ClusterVolumes, Recovered};
-pub use recover::recover;
+pub use recovery::recover;
 pub use refusal::RecoverRefusal;

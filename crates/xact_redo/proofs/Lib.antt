@@ -2,6 +2,6 @@ mod PastIds
 mod OneId
 mod Redoing
 mod Restoring
-mod OnDisk
+pub mod OnDisk
 pub mod Fitting
 pub mod Phases

@@ -51,12 +51,14 @@ pub fn recover<L: LogDisk + Drop, P: PageDisk + Drop>(
 {
     let ClusterVolumes {
         log,
-        xact,
-        subtrans,
+        mut xact,
+        mut subtrans,
     } = volumes;
-    let mut xact = xact;
-    let mut subtrans = subtrans;
-    let Found { log, recs, base } = match open_log(alloc, log) {
+    let Found {
+        mut log,
+        recs,
+        base,
+    } = match open_log(alloc, log) {
         Ok(found) => found,
         Err((log, refusal)) => {
             return Err((
@@ -69,9 +71,16 @@ pub fn recover<L: LogDisk + Drop, P: PageDisk + Drop>(
             ));
         }
     };
-    let mut log = log;
     let from = log.next();
-    match replay(alloc, &mut log, &mut xact, &mut subtrans, recs.items(), base) {
+    let outcome = replay(
+        alloc,
+        &mut log,
+        &mut xact,
+        &mut subtrans,
+        recs.items(),
+        base,
+    );
+    match outcome {
         Ok(()) => Ok(Recovered {
             log,
             xact,

@@ -1,0 +1,17 @@
+-- Whether records are of multixacts.
+use Rattle.std.proofs.Common.{Bool, Contains, List, [], ap, arith, false, get_or, inl, length, refl, subst, suc, sym, take, true, ℕ, ⊎_elim, ◌+◌, ◌++◌, ◌<◌, ◌∙◌, ◌∷◌, ◌≡◌}
+use Rattle.std.proofs.lemmas.List.{take_more}
+use Rattle.tx_events.proofs.Membership.{Has, contains_has, has_cases, has_contains}
+use Rattle.tx_events.specs.declared.record.Rec.{Rec}
+use Rattle.recoverable.specs.LifeBase.{is_multi}
+
+abbrev pub NoneAmong : List Rec → Type 0
+NoneAmong recs = (rec : Rec) → Has recs rec → is_multi rec ≡ true → ⊥
+
+pub none_more : (recs : List Rec) (i : ℕ) (x : Rec) → i < length recs → x ≡ get_or recs i x → (is_multi x ≡ true → ⊥) → NoneAmong (take i recs) → NoneAmong (take (i + 1) recs)
+none_more recs i x lt e not none rec h is =
+    let more : take (i + 1) recs ≡ take i recs ++ x ∷ [] = take_more recs i x lt ∙ ap (λ (z : Rec). take i recs ++ z ∷ []) (sym e) in
+    ⊎_elim
+    (λ k. none rec k is)
+    (λ k. ⊎_elim (λ (q : x ≡ rec). not (subst (λ z. is_multi z ≡ true) (sym q) is)) (λ z. absurd z) k)
+    (has_cases (take i recs) (x ∷ []) rec (subst (λ (t : List Rec). Has t rec) more h))

@@ -10,14 +10,22 @@ use Rattle.tx_events.specs.declared.refusal.Lock.{Lock}
 use Rattle.tx_events.specs.declared.refusal.Lock.TheVariants as locks
 use Rattle.recoverable.specs.LifeBase.{committed_in}
 use Rattle.slru_bank.specs.Crash.{CrashLeaves}
+use Rattle.xact_redo.specs.declared.restore.RestoreRefusal.{RestoreRefusal}
+use Rattle.xact_redo.specs.declared.restore.RestoreRefusal.TheVariants as restores
 use Rattle.xact_redo.specs.declared.share.Share.{Share}
 use Rattle.xact_redo.specs.Redo.{IsNamed}
 use Rattle.xact_redo.specs.Restore.{MayRestore, bytes_on}
 use Rattle.xact_redo.proofs.OnDisk.{untouched}
-use Rattle.replay_core.specs.Banks.{AreRestored, AreRestoring, ChangesAt, EmptiesBanks, Emptying, IsCause, IsStoreRefusal, RestoresBanks, Restoring}
+use Rattle.replay_core.specs.Banks.{AreRestored, AreRestoring, ChangesAt, EmptiesBanks, Emptying, IsCause, IsRefusalAt, IsStoreRefusal, RestoresBanks, Restoring}
 use Rattle.replay_core.specs.declared.refusal.RecoverRefusal.{RecoverRefusal}
 use Rattle.replay_core.specs.declared.refusal.RecoverRefusal.TheVariants as refusals
 use Rattle.replay_core.proofs.Rows.{Progress, count_more, each_done, each_so_far, first_was, had}
+
+-- what a refusal of a bank of pg_xact means, with its cause
+pub states_cause : {P : Type 0} (p : disks.Ghosts P) (bank : ℕ) (told : RestoreRefusal) (refusal : RecoverRefusal) (old new : P) → IsRefusalAt bank told refusal → (told ≡ restores.DiskFault → HasRisen (p.faults old) (p.faults new))
+    → IsCause p (λ bank. locks.Xact bank) bank (Err refusal) old new
+states_cause p bank restores.DiskFault refusal old new is fault = inr (is, fault refl)
+states_cause p bank restores.Memory refusal old new is fault = inl is
 
 module _ {P : Type 0} (p : disks.Ghosts P) where
   store_refused : (lock : ℕ → Lock) (n : ℕ) (old new : List P) (before now : P) (e : RecoverRefusal) → slice_get old n ≡ Some before → slice_get new n ≡ Some now → IsCause p lock n (Err e) before now → IsStoreRefusal p lock old new e

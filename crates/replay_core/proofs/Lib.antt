@@ -1,3 +1,9 @@
 mod Rows
 mod BankRows
 mod Multis
+mod Absent
+mod LaterLogs
+mod Joining
+mod Settling
+mod Openings
+mod Recovering

@@ -4,6 +4,12 @@ use Rattle.std.specs.List.{slice_get}
 use Rattle.replay_core.specs.Banks.{ChangesAt}
 use Rattle.replay_core.specs.declared.refusal.RecoverRefusal.{RecoverRefusal}
 
+now_or_before : (m n : ℕ) → m < n + 1 → (m ≡ n) ⊎ (m < n)
+now_or_before m n h = grind arith
+
+lower_here_higher : (m n : ℕ) → (m < n) ⊎ ((m ≡ n) ⊎ (n < m))
+lower_here_higher m n = grind arith
+
 module _ {P : Type 0} where
   pub some_same : (x y : P) → Some x ≡ Some y → x ≡ y
   some_same x y e = ap (λ (z : Option P). elim z [ None ↦ x | Some v ↦ v ]) e
@@ -51,12 +57,6 @@ module _ {P : Type 0} where
   had [] (z ∷ ys) long m y e = absurd (omega arith)
   had (x ∷ xs) (z ∷ ys) long zero y e = (x, refl)
   had (x ∷ xs) (z ∷ ys) long (suc m) y e = had xs ys (omega arith) m y e
-
-  now_or_before : (m n : ℕ) → m < n + 1 → (m ≡ n) ⊎ (m < n)
-  now_or_before m n h = grind arith
-
-  lower_here_higher : (m n : ℕ) → (m < n) ⊎ ((m ≡ n) ⊎ (n < m))
-  lower_here_higher m n = grind arith
 
   module _ (R : ℕ → Result (Unit {0}) RecoverRefusal → P → P → Type 0) (old : List P) where
     -- the first n are changed, and the others stay

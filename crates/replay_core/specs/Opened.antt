@@ -32,6 +32,7 @@ module _ {D : Type 0} {g : logs.Ghosts D} where
     pub flushed : log_flushed log ≡ log_next log
     pub up : log_down log ≡ None
     pub counters : log_counters log ≡ Some base
+    pub keeps : IsTrue g.tells → (first : ℕ) × (all : List Rec) × KeepsAll first all g.images log
 
   -- It is that of this volume, with the records that the volume has, none of a multixact.
   pub record IsFound (disk : D) (found : Found D g) : Type 0 where

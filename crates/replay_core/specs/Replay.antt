@@ -28,5 +28,5 @@ module _ {L P : Type 0} {l : logs.Ghosts L} (p : disks.Ghosts P) where
     pub kept : IsTrue l.tells → OnOk result (SettlesLog l base log log')
     pub restored : IsTrue p.tells → OnOk result (AreRestored p recs base xact xact')
     pub empty : IsTrue p.tells → OnOk result (AreEmpty p subtrans')
-    pub left : IsTrue l.tells → IsTrue p.tells → OnErr result ((AreRestoring p recs base xact xact' × (log' ≡ log)) ⊎ (AreRestored p recs base xact xact' × LeavesLog l base log log'))
+    pub left : IsTrue l.tells → IsTrue p.tells → OnErr result (AreRestoring p recs base xact xact' × ((log' ≡ log) ⊎ (AreRestored p recs base xact xact' × LeavesLog l base log log')))
     pub refused : IfErr result (IsReplayRefusal base log log' xact xact' subtrans subtrans')

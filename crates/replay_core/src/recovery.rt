@@ -54,11 +54,7 @@ pub fn recover<L: LogDisk + Drop, P: PageDisk + Drop>(
         mut xact,
         mut subtrans,
     } = volumes;
-    let Found {
-        mut log,
-        recs,
-        base,
-    } = match open_log(alloc, log) {
+    let found = match open_log(alloc, log) {
         Ok(found) => found,
         Err((log, refusal)) => {
             return Err((
@@ -71,31 +67,59 @@ pub fn recover<L: LogDisk + Drop, P: PageDisk + Drop>(
             ));
         }
     };
+    let Found { log, recs, base } = found;
+    let mut log = log;
     let from = log.next();
-    let outcome = replay(
+    if let Err(refusal) = replay(
         alloc,
         &mut log,
         &mut xact,
         &mut subtrans,
         recs.items(),
         base,
-    );
-    match outcome {
-        Ok(()) => Ok(Recovered {
-            log,
-            xact,
-            subtrans,
-            from,
-            base,
-        }),
-        Err(refusal) => Err((
-            ClusterVolumes {
-                log: log.into_disk(),
-                xact,
-                subtrans,
-            },
-            refusal,
-        )),
+    ) {
+        return Err((handed_back(log, xact, subtrans), refusal));
+    }
+    Ok(begun(log, xact, subtrans, from, base))
+}
+
+// What a life begins from.
+fn begun<L: LogDisk, P>(
+    log: WalLog<L>,
+    xact: Vec<P>,
+    subtrans: Vec<P>,
+    from: u64,
+    base: Counters,
+) -> Recovered<L, P>
+    ensures log { result.log ≡ log }
+    ensures xact { result.xact ≡ xact }
+    ensures subtrans { result.subtrans ≡ subtrans }
+    ensures from { result.from ≡ from }
+    ensures base { result.base ≡ base }
+{
+    Recovered {
+        log,
+        xact,
+        subtrans,
+        from,
+        base,
+    }
+}
+
+// The volumes that weren't recovered.
+fn handed_back<L: LogDisk + Drop, P>(
+    log: WalLog<L>,
+    xact: Vec<P>,
+    subtrans: Vec<P>,
+) -> ClusterVolumes<L, P>
+    ensures log { result.log ≡ log_disk log }
+    ensures xact { result.xact ≡ xact }
+    ensures subtrans { result.subtrans ≡ subtrans }
+{
+    ClusterVolumes {
+        log: log.into_disk(),
+        xact,
+        subtrans,
     }
 }
 

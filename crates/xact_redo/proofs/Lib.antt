@@ -1,6 +1,6 @@
 mod PastIds
 mod OneId
-mod Redoing
+pub mod Redoing
 mod Restoring
 pub mod OnDisk
 pub mod Fitting

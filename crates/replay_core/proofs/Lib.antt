@@ -7,3 +7,4 @@ mod Joining
 mod Settling
 mod Openings
 mod Recovering
+mod Refusing

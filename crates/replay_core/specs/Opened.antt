@@ -40,6 +40,7 @@ module _ {D : Type 0} {g : logs.Ghosts D} where
     pub next : log_next found.log ≡ log_first found.log + length found.recs
     pub comes : ComesTo (log_first found.log) found.recs (Some found.base)
     pub none : HasNone found.recs
+    pub count : g.faults disk ≤ g.faults (log_disk found.log)
     pub opens : IsTrue g.tells → opened (g.reads disk) ≡ Ok (record { history = Some (record { first = log_first found.log; recs = found.recs; counters = found.base }); gate = log_end found.log })
     pub keeps : IsTrue g.tells → KeepsAll (log_first found.log) found.recs g.images found.log
 

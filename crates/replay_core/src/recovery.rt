@@ -76,11 +76,11 @@ pub fn recover<L: LogDisk + Drop, P: PageDisk + Drop>(
         &mut xact,
         &mut subtrans,
         recs.items(),
-        base,
+        &base,
     ) {
         return Err((handed_back(log, xact, subtrans), refusal));
     }
-    Ok(begun(log, xact, subtrans, from, base))
+    Ok(begun(log, xact, subtrans, from, &base))
 }
 
 // What a life begins from.
@@ -89,20 +89,20 @@ fn begun<L: LogDisk, P>(
     xact: Vec<P>,
     subtrans: Vec<P>,
     from: u64,
-    base: Counters,
+    base: &Counters,
 ) -> Recovered<L, P>
     ensures log { result.log ≡ log }
     ensures xact { result.xact ≡ xact }
     ensures subtrans { result.subtrans ≡ subtrans }
     ensures from { result.from ≡ from }
-    ensures base { result.base ≡ base }
+    ensures base { result.base ≡ base.now }
 {
     Recovered {
         log,
         xact,
         subtrans,
         from,
-        base,
+        base: *base,
     }
 }
 
@@ -130,15 +130,15 @@ fn replay<L: LogDisk, P: PageDisk + Drop>(
     xact: &mut Vec<P>,
     subtrans: &mut Vec<P>,
     recs: &[Rec],
-    base: Counters,
+    base: &Counters,
 ) -> Result<(), RecoverRefusal>
     requires few { (length xact.old.items ≤ 16) × (length subtrans.old.items ≤ 16) }
-    requires open { IsOpen base log.old }
-    requires near { AreNear base.oldest (committed_in recs.now) }
-    requires window { IsWindow base.oldest base.next }
-    ensures { Replays P.PageDisk recs.now base log.old log.new xact.old.items xact.new.items subtrans.old.items subtrans.new.items result }
+    requires open { IsOpen base.now log.old }
+    requires near { AreNear base.now.oldest (committed_in recs.now) }
+    requires window { IsWindow base.now.oldest base.now.next }
+    ensures { Replays P.PageDisk recs.now base.now log.old log.new xact.old.items xact.new.items subtrans.old.items subtrans.new.items result }
 {
-    restore_all(alloc, xact, recs, &base)?;
-    empty_all(alloc, subtrans, &base)?;
-    settle(log, base)
+    restore_all(alloc, xact, recs, base)?;
+    empty_all(alloc, subtrans, base)?;
+    settle(log, *base)
 }

@@ -1,5 +1,5 @@
 -- Pages that aren't there: what a log without multixacts asks of them.
-use Rattle.std.proofs.Common.{Contains, List, None, ap, arith, length, refl, slice_index, subst, sym, ℕ, ◌+◌, ◌<◌, ◌∙◌, ◌≡◌, ◌≤◌}
+use Rattle.std.proofs.Common.{Contains, List, None, ap, arith, length, refl, slice_index, subst, sym, ℕ, ◌+◌, ◌∙◌, ◌≡◌, ◌≤◌}
 use Rattle.slru_bank.proofs.ZeroBytes.{zero_byte}
 use Rattle.disk_core.specs.Pages.{Pages, page_bytes}
 use Rattle.store_pages.specs.Layouts.{member_page_of, member_place_of, number_in, word_page_of, word_place_of}

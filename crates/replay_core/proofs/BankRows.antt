@@ -1,5 +1,5 @@
 -- The volumes of a store's banks, all of them or as far as it went.
-use Rattle.std.proofs.Common.{List, Ok, Err, Result, Some, ap, inl, inr, length, refl, subst, sym, ℕ, ⊎_elim, IfErr, IsTrue, OnOk, ◌∙◌, ◌^◌, ◌<◌, ◌≡◌, ◌⊎◌}
+use Rattle.std.proofs.Common.{List, Ok, Err, Result, Some, inl, inr, length, refl, subst, sym, ℕ, ⊎_elim, IsTrue, ◌≡◌}
 use Rattle.std.specs.List.{slice_get}
 use Rattle.disk_core.specs.Faults.{HasRisen}
 use Rattle.disk_core.specs.Pages.{Pages}
@@ -16,7 +16,7 @@ use Rattle.xact_redo.specs.declared.share.Share.{Share}
 use Rattle.xact_redo.specs.Redo.{IsNamed}
 use Rattle.xact_redo.specs.Restore.{MayRestore, bytes_on}
 use Rattle.xact_redo.proofs.OnDisk.{untouched}
-use Rattle.replay_core.specs.Banks.{AreRestored, AreRestoring, ChangesAt, EmptiesBanks, Emptying, IsCause, IsRefusalAt, IsStoreRefusal, RestoresBanks, Restoring}
+use Rattle.replay_core.specs.Banks.{ChangesAt, EmptiesBanks, Emptying, IsCause, IsRefusalAt, IsStoreRefusal, RestoresBanks, Restoring}
 use Rattle.replay_core.specs.declared.refusal.RecoverRefusal.{RecoverRefusal}
 use Rattle.replay_core.specs.declared.refusal.RecoverRefusal.TheVariants as refusals
 use Rattle.replay_core.proofs.Rows.{Progress, count_more, each_done, each_so_far, first_was, had}

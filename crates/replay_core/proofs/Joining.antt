@@ -1,5 +1,5 @@
 -- From what became of each volume to that all of them fit.
-use Rattle.std.proofs.Common.{Bool, Contains, IsTrue, IfOk, IsSome, List, None, Ok, Option, Result, Some, [], ap, append_assoc, arith, cond, false, inl, inr, length, refl, subst, suc, sym, true, zero, ℕ, ⊎_elim, ◌%◌, ◌++◌, ◌+◌, ◌-◌, ◌<◌, ◌==◌, ◌∙◌, ◌∷◌, ◌^◌, ◌≡◌, ◌≤◌, ◌⊎◌}
+use Rattle.std.proofs.Common.{Bool, IfOk, IsSome, List, None, Ok, Option, Result, Some, [], ap, append_assoc, arith, cond, false, inl, inr, length, refl, subst, suc, sym, true, zero, ℕ, ◌%◌, ◌++◌, ◌+◌, ◌-◌, ◌<◌, ◌==◌, ◌∙◌, ◌∷◌, ◌^◌, ◌≡◌, ◌≤◌}
 use Rattle.std.proofs.lemmas.Bool.Decides.{nat_tests}
 use Rattle.std.specs.List.{slice_get}
 use Rattle.disk_core.specs.Pages.{Pages, page_bytes}
@@ -16,7 +16,7 @@ use Rattle.wal_core.specs.Opening.{Opened, opened}
 use Rattle.recoverable.specs.Fit.{IsCommitCode, KeptLog, MayBegin, XactFits, base_at, log_end, recs_below}
 use Rattle.recoverable.specs.FitMultis.{MembersFit, OffsetsFit}
 use Rattle.recoverable.specs.LifeBase.{LifeBase, committed_in}
-use Rattle.recoverable.specs.Volumes.{ImageFits, Left, ListFits, LogFits, NotRecovered, Restored, VolumesFit}
+use Rattle.recoverable.specs.Volumes.{ImageFits, Left, ListFits, Restored, VolumesFit}
 use Rattle.recoverable.specs.XactImages.{code_at}
 use Rattle.recoverable.proofs.Checkpoints.{get_past}
 use Rattle.recoverable.proofs.Stretches.{get_inside}
@@ -25,9 +25,9 @@ use Rattle.std.proofs.Math.Nat.{mod-lt}
 use Rattle.xact_redo.specs.declared.share.Share.{Share}
 use Rattle.xact_redo.specs.Redo.{IsNamed, code_in}
 use Rattle.xact_redo.specs.Restore.{MayRestore, RestoresAll, bytes_on}
-use Rattle.xact_redo.specs.Laws.{IsToRedo, MapFits, ShowBase, end_base, up_to, with_checkpoint}
+use Rattle.xact_redo.specs.Laws.{MapFits, ShowBase, end_base, up_to, with_checkpoint}
 use Rattle.xact_redo.proofs.Fitting.{fits_within, shows_base}
-use Rattle.xact_redo.proofs.Phases.{checkpoint_before, checkpoint_fits, checkpoint_same, cut_base, cut_end, cut_end_base, cut_fits}
+use Rattle.xact_redo.proofs.Phases.{checkpoint_before, checkpoint_fits, checkpoint_same, cut_base, cut_fits}
 use Rattle.replay_core.specs.Banks.{AreRestored, AreRestoring}
 use Rattle.replay_core.specs.Opened.{EachHas, HasNone, OpensStill}
 use Rattle.replay_core.specs.Volumes.{Fit, IsLeft, LeavesFit, Recovers}

@@ -1,12 +1,11 @@
 -- The logs on the way through a recovery: cut at the last record that was found, and then with the checkpoint.
-use Rattle.std.proofs.Common.{Contains, List, Option, None, Some, Ok, Err, Result, Bool, IfOk, IsSome, [], ap, append-nil, append_assoc, arith, drop, inl, inr, length, length-append, nat_lt, refl, subst, suc, sym, take, true, false, zero, ℕ, ⊎_elim, ◌++◌, ◌+◌, ◌-◌, ◌<◌, ◌∙◌, ◌∷◌, ◌^◌, ◌≡◌, ◌≤◌, ◌⊎◌}
+use Rattle.std.proofs.Common.{Contains, List, Option, None, Some, Ok, Err, Result, Bool, [], ap, append-nil, append_assoc, arith, drop, length, length-append, refl, subst, suc, sym, take, true, false, zero, ℕ, ⊎_elim, ◌++◌, ◌+◌, ◌-◌, ◌<◌, ◌∙◌, ◌∷◌, ◌^◌, ◌≡◌, ◌≤◌}
 use Rattle.std.proofs.Math.Seq.{take-add, take-length}
-use Rattle.std.proofs.lemmas.List.{drop-take, length-drop, length-take-le, take-append-drop}
+use Rattle.std.proofs.lemmas.List.{drop-take, length-take-le, take-append-drop}
 use Rattle.std.specs.List.{filter, slice_get}
 use Rattle.disk_core.specs.Volume.{Volume}
-use Rattle.tx_events.proofs.ListSteps.{le_or_over}
 use Rattle.tx_events.proofs.Membership.{Has, contains_has, filter_none_on, has_contains, has_take}
-use Rattle.tx_events.proofs.PlaceLemmas.{slice_get-grows, slice_get-push}
+use Rattle.tx_events.proofs.PlaceLemmas.{slice_get-push}
 use Rattle.tx_events.specs.After.{after_records}
 use Rattle.tx_events.specs.Base.{IsBase}
 use Rattle.tx_events.specs.declared.record.Counters.{Counters}
@@ -14,12 +13,12 @@ use Rattle.tx_events.specs.declared.record.Rec.{Rec}
 use Rattle.tx_events.specs.declared.record.Rec.TheVariants as records
 use Rattle.xid_order.specs.Limits.{stop_limit}
 use Rattle.wal_core.specs.Kept.{HasFlushed, IsStretch, OpensToRecords}
-use Rattle.wal_core.specs.Log.{EndsWithin, history_in}
+use Rattle.wal_core.specs.Log.{history_in}
 use Rattle.wal_core.specs.LogContents.{ComesTo}
 use Rattle.wal_core.specs.Opening.{History, Opened, next_number, no_counters, opened}
 use Rattle.recoverable.specs.Fit.{KeptLog, MayBegin, base_at, log_end, recs_below}
 use Rattle.recoverable.specs.LifeBase.{IsLifeBase, LifeBase, base_after, committed_in, is_multi}
-use Rattle.recoverable.specs.Volumes.{IsWholeAt, KeepsUpTo, ListFits, LogFits, checkpoint_of}
+use Rattle.recoverable.specs.Volumes.{KeepsUpTo, ListFits, LogFits, checkpoint_of}
 use Rattle.recoverable.proofs.LogBases.{base_then, committed_below, oldest_multi_grows}
 use Rattle.recoverable.proofs.Opened.{first_is, first_stands, history_comes, log_opens}
 use Rattle.recoverable.proofs.Stretches.{get_inside}
@@ -74,17 +73,19 @@ found_in log n first gate recs base v list may fits none opens =
     let h : History = record { first = first; recs = recs; counters = base } in
     let same : fits.history ≡ h = some_same fits.history h (ap history_in (sym fits.opens ∙ opens)) in
     let at : n ≡ first = sym fits.first ∙ ap (λ (z : History). z.first) same in
-    let comes = history_comes v h gate opens in
-    (at, record {
-      list = list;
-      may_begin = subst (MayBegin log) at may;
-      some = some_first recs first comes.0;
-      flushed = subst (λ (z : History). log.flushed ≤ next_number z) same fits.flushed;
-      upto = subst (λ (z : History). next_number z ≤ log_end log) same fits.upto;
-      recs_are = subst (λ (z : History). z.recs ≡ drop (first - log.first) (recs_below log (next_number z))) same (subst (λ z. fits.history.recs ≡ drop (z - log.first) (recs_below log (next_number fits.history))) at fits.recs);
-      counters = subst (λ (z : History). z.counters ≡ (base_at log (next_number z)).counters) same fits.counters;
-      none = none;
-    })
+    let comes = history_comes v h gate opens in (
+      at,
+      record {
+        list = list;
+        may_begin = subst (MayBegin log) at may;
+        some = some_first recs first comes.0;
+        flushed = subst (λ (z : History). log.flushed ≤ next_number z) same fits.flushed;
+        upto = subst (λ (z : History). next_number z ≤ log_end log) same fits.upto;
+        recs_are = subst (λ (z : History). z.recs ≡ drop (first - log.first) (recs_below log (next_number z))) same (subst (λ z. fits.history.recs ≡ drop (z - log.first) (recs_below log (next_number fits.history))) at fits.recs);
+        counters = subst (λ (z : History). z.counters ≡ (base_at log (next_number z)).counters) same fits.counters;
+        none = none;
+      },
+    )
 
 -- ---- from the log to later ones
 

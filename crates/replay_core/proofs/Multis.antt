@@ -1,7 +1,7 @@
 -- Whether records are of multixacts.
-use Rattle.std.proofs.Common.{Bool, Contains, List, [], ap, arith, false, get_or, inl, length, refl, subst, suc, sym, take, true, ℕ, ⊎_elim, ◌+◌, ◌++◌, ◌<◌, ◌∙◌, ◌∷◌, ◌≡◌}
+use Rattle.std.proofs.Common.{List, [], ap, get_or, length, refl, subst, sym, take, true, ℕ, ⊎_elim, ◌+◌, ◌++◌, ◌<◌, ◌∙◌, ◌∷◌, ◌≡◌}
 use Rattle.std.proofs.lemmas.List.{take_more}
-use Rattle.tx_events.proofs.Membership.{Has, contains_has, has_cases, has_contains}
+use Rattle.tx_events.proofs.Membership.{Has, has_cases}
 use Rattle.tx_events.specs.declared.multi.Member.{Member}
 use Rattle.tx_events.specs.declared.record.Rec.{Rec}
 use Rattle.tx_events.specs.declared.record.Rec.TheVariants as records

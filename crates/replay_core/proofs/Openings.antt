@@ -1,5 +1,5 @@
 -- A log that was started: why it isn't one to recover from, and what it is else.
-use Rattle.std.proofs.Common.{Bool, IsNone, IsSome, IsTrue, List, None, Ok, Option, Some, arith, refl, subst, sym, true, false, ℕ, ◌∙◌, ◌≡◌, ◌≤◌}
+use Rattle.std.proofs.Common.{Bool, IsNone, IsSome, IsTrue, List, None, Ok, Option, Some, arith, refl, subst, true, false, ℕ, ◌≡◌}
 use Rattle.std.specs.Prelude.{◌↔◌}
 use Rattle.disk_core.specs.Images.{LeavesOnly}
 use Rattle.disk_core.specs.Volume.{Volume}
@@ -7,7 +7,7 @@ use Rattle.disk_core.specs.declared.log_disk.LogDisk as logs
 use Rattle.tx_events.specs.declared.record.Counters.{Counters}
 use Rattle.tx_events.specs.declared.record.Rec.{Rec}
 use Rattle.wal_core.specs.Log.{OpensAsBefore}
-use Rattle.wal_core.specs.LogContents.{ComesTo, history_with}
+use Rattle.wal_core.specs.LogContents.{history_with}
 use Rattle.wal_core.specs.Opening.{opened}
 use Rattle.replay_core.specs.Opened.{HasMulti, HasNone, OpensStill}
 use Rattle.replay_core.specs.Refused.{HasMultis, HasNoMultis, IsNewLog}

@@ -1,17 +1,15 @@
 -- The whole of a recovery, from what its parts answer.
-use Rattle.std.proofs.Common.{Err, IfErr, IsTrue, List, Ok, OnErr, OnOk, Result, Some, ap, inl, inr, length, refl, subst, sym, ℕ, ⊎_elim, ◌+◌, ◌++◌, ◌∙◌, ◌∷◌, [], ◌≡◌, ◌≤◌, ◌⊎◌}
-use Rattle.disk_core.specs.Volume.{Volume}
+use Rattle.std.proofs.Common.{Err, IfErr, IsTrue, List, Ok, OnErr, OnOk, Result, inl, inr, length, refl, subst, sym, ℕ, ⊎_elim, ◌+◌, ◌++◌, ◌∙◌, ◌∷◌, [], ◌≡◌, ◌≤◌}
 use Rattle.disk_core.specs.declared.log_disk.LogDisk as logs
 use Rattle.disk_core.specs.declared.page_disk.PageDisk as disks
 use Rattle.tx_events.specs.declared.record.Counters.{Counters}
 use Rattle.tx_events.specs.declared.record.Rec.{Rec}
 use Rattle.tx_events.specs.declared.record.Rec.TheVariants as records
-use Rattle.tx_events.specs.declared.refusal.Lock.TheVariants as locks
-use Rattle.wal_core.specs.LogViews.{log_disk, log_end, log_first, log_flushed, log_next}
+use Rattle.wal_core.specs.LogViews.{log_disk, log_end, log_first, log_next}
 use Rattle.wal_core.specs.declared.wal_log.WalLog.{WalLog}
 use Rattle.recoverable.specs.Fit.{KeptLog}
-use Rattle.replay_core.specs.Banks.{AreRestored, AreRestoring, EmptiesBanks, IsStoreRefusal, RestoresBanks}
-use Rattle.replay_core.specs.Begun.{AreEmpty, IsSettled}
+use Rattle.replay_core.specs.Banks.{AreRestored, EmptiesBanks, RestoresBanks}
+use Rattle.replay_core.specs.Begun.{IsSettled}
 use Rattle.replay_core.specs.Opened.{EachHas, IsFound, LeavesLog, SettlesLog}
 use Rattle.replay_core.specs.Refused.{IsSettleRefusal}
 use Rattle.replay_core.specs.Replay.{IsReplayRefusal, Replays}

@@ -1,6 +1,5 @@
 -- Why a recovery was refused, from why one of its parts was.
-use Rattle.std.proofs.Common.{IsTrue, List, Some, length, subst, sym, ℕ, ⊎_elim, ◌+◌, ◌∙◌, ◌≡◌, ◌≤◌, ◌⊎◌}
-use Rattle.std.specs.List.{slice_get}
+use Rattle.std.proofs.Common.{List, length, subst, sym, ℕ, ⊎_elim, ◌≡◌}
 use Rattle.disk_core.specs.Faults.{HasRisen}
 use Rattle.disk_core.specs.declared.log_disk.LogDisk as logs
 use Rattle.disk_core.specs.declared.page_disk.PageDisk as disks
@@ -16,7 +15,7 @@ use Rattle.xact_redo.proofs.Redoing.{risen_since}
 use Rattle.replay_core.specs.Banks.{AreRestored, IsStoreRefusal}
 use Rattle.replay_core.specs.Begun.{AreOnDisk}
 use Rattle.replay_core.specs.Opened.{IsFound}
-use Rattle.replay_core.specs.Refused.{HasFailedAt, HasNoRoom, IsRefusal, IsSettleRefusal}
+use Rattle.replay_core.specs.Refused.{HasFailedAt, IsRefusal, IsSettleRefusal}
 use Rattle.replay_core.specs.Replay.{IsReplayRefusal}
 use Rattle.replay_core.specs.declared.cluster.ClusterVolumes.{ClusterVolumes}
 use Rattle.replay_core.specs.declared.found.Found.{Found}

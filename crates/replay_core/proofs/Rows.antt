@@ -1,5 +1,5 @@
 -- A row of volumes, of which one after another is changed in its place.
-use Rattle.std.proofs.Common.{List, None, Ok, Err, Option, Result, Some, [], ap, arith, inl, inr, insert, length, refl, remove, slice_index_or, subst, suc, sym, zero, ℕ, ⊎_elim, ◌+◌, ◌<◌, ◌∙◌, ◌∷◌, ◌≡◌, ◌≢◌, ◌≤◌, ◌⊎◌}
+use Rattle.std.proofs.Common.{List, None, Ok, Option, Result, Some, [], ap, arith, inl, inr, insert, length, refl, remove, slice_index_or, subst, suc, sym, zero, ℕ, ⊎_elim, ◌+◌, ◌<◌, ◌∙◌, ◌∷◌, ◌≡◌, ◌≢◌, ◌≤◌, ◌⊎◌}
 use Rattle.std.specs.List.{slice_get}
 use Rattle.replay_core.specs.Banks.{ChangesAt}
 use Rattle.replay_core.specs.declared.refusal.RecoverRefusal.{RecoverRefusal}

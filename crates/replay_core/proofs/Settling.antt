@@ -1,7 +1,6 @@
 -- The checkpoint behind what was found.
-use Rattle.std.proofs.Common.{IfErr, IsSome, IsTrue, List, None, Option, Some, [], ap, arith, drop, inl, inr, length, max, refl, subst, sym, ℕ, zero, suc, ◌+◌, ◌++◌, ◌<◌, ◌∙◌, ◌∷◌, ◌≡◌, ◌≢◌}
+use Rattle.std.proofs.Common.{List, None, Option, Some, [], arith, length, max, refl, subst, sym, ℕ, ◌∙◌, ◌∷◌, ◌≡◌, ◌≢◌}
 use Rattle.disk_core.specs.Faults.{HasRisen}
-use Rattle.disk_core.specs.Volume.{Volume}
 use Rattle.disk_core.specs.declared.log_disk.LogDisk as logs
 use Rattle.tx_events.specs.After.{after_record}
 use Rattle.tx_events.specs.declared.record.Counters.{Counters}
@@ -9,8 +8,8 @@ use Rattle.tx_events.specs.declared.record.Rec.{Rec}
 use Rattle.tx_events.specs.declared.record.Rec.TheVariants as records
 use Rattle.wal_core.specs.Checkpoint.{IsLastCheckpoint}
 use Rattle.wal_core.specs.Kept.{HasFlushed}
-use Rattle.wal_core.specs.Log.{IsFull, bytes_of}
-use Rattle.wal_core.specs.LogViews.{KeepsAll, log_disk, log_end, log_first, log_flushed, log_pending, log_recs}
+use Rattle.wal_core.specs.Log.{IsFull}
+use Rattle.wal_core.specs.LogViews.{KeepsAll, log_disk, log_end, log_first, log_flushed}
 use Rattle.wal_core.specs.declared.checkpoint.LastCheckpoint.{LastCheckpoint}
 use Rattle.wal_core.specs.declared.refusal.LogRefusal.{LogRefusal}
 use Rattle.wal_core.specs.declared.refusal.LogRefusal.TheVariants as log_refusals
@@ -18,8 +17,6 @@ use Rattle.wal_core.specs.declared.wal_log.WalLog.{WalLog}
 use Rattle.wal_records.specs.Spelling.{rec_bytes}
 use Rattle.replay_core.specs.Opened.{EachHas}
 use Rattle.replay_core.specs.Refused.{IsSettleRefusal, refusal_by}
-use Rattle.replay_core.specs.declared.refusal.RecoverRefusal.{RecoverRefusal}
-use Rattle.replay_core.specs.declared.refusal.RecoverRefusal.TheVariants as refusals
 
 pub same_after : (number : ℕ) (c : Counters) → after_record c (records.Checkpoint number c) ≡ c
 same_after number c =

@@ -1,5 +1,5 @@
 -- What becomes of the volumes of a store's banks, each in its place.
-use Rattle.std.specs.Prelude.{◌≡◌, ◌≢◌, ◌⊎◌, ℕ, ◌^◌, ◌<◌, ◌≤◌, IsTrue, List, length, Some, Result, Err, OnOk, IfErr, slice_get}
+use Rattle.std.specs.Prelude.{◌≡◌, ◌≢◌, ◌⊎◌, ℕ, ◌^◌, ◌<◌, IsTrue, List, length, Some, Result, OnOk, IfErr, slice_get}
 use Rattle.disk_core.specs.Faults.{HasRisen}
 use Rattle.disk_core.specs.declared.page_disk.PageDisk as disks
 use Rattle.disk_core.specs.Pages.{Pages, page_bytes, zero_page}

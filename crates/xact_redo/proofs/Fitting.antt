@@ -1,7 +1,6 @@
 -- At each moment of the recovery the pages fit, and at its end they show the base.
-use Rattle.std.proofs.Common.{◌≡◌, ◌⊎◌, inl, inr, ⊎_elim, ℕ, ◌+◌, ◌-◌, ◌%◌, ◌^◌, ◌<◌, ◌≤◌, ◌++◌, List, Some, Contains, refl, sym, ap, subst, arith, ◌∙◌}
+use Rattle.std.proofs.Common.{◌≡◌, ⊎_elim, ℕ, ◌<◌, ◌≤◌, ◌++◌, List, Some, Contains, sym, ap, subst, arith}
 use Rattle.xid_order.specs.Ids.{low_half}
-use Rattle.store_pages.specs.Layouts.{xact_page_of}
 use Rattle.disk_core.specs.Pages.{Pages}
 use Rattle.tx_events.specs.declared.record.Rec.{Rec}
 use Rattle.tx_events.proofs.Membership.{contains_has, has_cases, has_contains, has_left, has_right}
@@ -9,9 +8,9 @@ use Rattle.recoverable.specs.LifeBase.{LifeBase, committed_in}
 use Rattle.recoverable.specs.Fit.{IsCommitCode, KeptLog, XactFits, base_at, log_end}
 use Rattle.recoverable.specs.XactImages.{code_at}
 use Rattle.xact_redo.specs.declared.share.Share.{Share}
-use Rattle.xact_redo.specs.Redo.{HasPlace, IsNamed, code_in}
-use Rattle.xact_redo.specs.Restore.{IsPast, MayBecome, MayRestore, RestoresAll}
-use Rattle.xact_redo.specs.Laws.{FitsWithin, IsOn, IsToRedo, IsWholeFrom, MapFits, ShowBase, ShowsBase, end_base}
+use Rattle.xact_redo.specs.Redo.{HasPlace, code_in}
+use Rattle.xact_redo.specs.Restore.{IsPast, MayBecome}
+use Rattle.xact_redo.specs.Laws.{FitsWithin, IsOn, IsToRedo, IsWholeFrom, ShowsBase, end_base}
 use Rattle.xact_redo.proofs.PastIds.{is_past, not_past}
 
 -- what fitting asks of the code at one place of the bank

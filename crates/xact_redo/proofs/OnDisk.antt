@@ -1,10 +1,9 @@
 -- From what a bank's map shows to what its volume reads.
-use Rattle.std.proofs.Common.{◌≡◌, ℕ, ◌≤◌, List, Result, Ok, Err, OnOk, IsErr, IsTrue, refl, sym, subst, ◌∙◌}
-use Rattle.disk_core.specs.Faults.{HasRisen}
+use Rattle.std.proofs.Common.{◌≡◌, ℕ, Result, Ok, IsTrue, sym, subst, ◌∙◌}
 use Rattle.disk_core.specs.Pages.{Pages, page_bytes}
 use Rattle.disk_core.specs.declared.page_disk.PageDisk as disks
 use Rattle.store_pages.specs.declared.page_rule.PageRule as rules
-use Rattle.slru_bank.specs.Calls.{faults_of, pages_of, volume_of}
+use Rattle.slru_bank.specs.Calls.{pages_of, volume_of}
 use Rattle.slru_bank.specs.Crash.{CrashLeaves, SameMap, no_call, wider}
 use Rattle.slru_bank.specs.declared.bank.SlruBank.{SlruBank}
 use Rattle.slru_bank.specs.declared.refusal.BankRefusal.{BankRefusal}

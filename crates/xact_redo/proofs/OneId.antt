@@ -1,19 +1,18 @@
 -- One id is set committed.
-use Rattle.std.proofs.Common.{◌≡◌, ◌≢◌, ◌⊎◌, inl, inr, ⊎_elim, ℕ, ◌*◌, ◌/◌, ◌%◌, ◌<◌, ◌≤◌, List, [], ◌∷◌, slice_index, Result, Ok, Err, OnOk, OnErr, IsErr, IsTrue, refl, sym, ap, subst, arith, ◌∙◌}
+use Rattle.std.proofs.Common.{◌≡◌, ◌≢◌, ◌⊎◌, inl, inr, ⊎_elim, ℕ, ◌/◌, ◌%◌, ◌<◌, List, [], ◌∷◌, slice_index, Result, Ok, Err, OnOk, OnErr, IsTrue, refl, sym, ap, subst, arith, ◌∙◌}
 use Rattle.xid_order.specs.Ids.{low_half}
 use Rattle.store_pages.specs.Layouts.{bits_at, state_in, xact_page_of, xact_place_of}
 use Rattle.store_pages.specs.declared.page_rule.PageRule as rules
-use Rattle.disk_core.specs.Faults.{HasRisen}
 use Rattle.disk_core.specs.Pages.{Pages}
 use Rattle.disk_core.specs.declared.page_disk.PageDisk as disks
-use Rattle.slru_bank.specs.Calls.{CallsBank, IsCut, SamePages, faults_of, pages_of, volume_of}
+use Rattle.slru_bank.specs.Calls.{CallsBank, IsCut, SamePages, pages_of, volume_of}
 use Rattle.slru_bank.specs.Crash.{IsMixture, byte_at, wider}
 use Rattle.slru_bank.specs.declared.bank.SlruBank.{SlruBank}
 use Rattle.slru_bank.specs.declared.refusal.BankRefusal.{BankRefusal}
 use Rattle.slru_bank.specs.declared.refusal.BankRefusal.TheVariants.{Cut, DiskFault}
 use Rattle.pg_xact_log.specs.Changes.{SetsStates}
 use Rattle.recoverable.specs.XactImages.{code_at}
-use Rattle.xact_redo.specs.Redo.{HasPlace, IsOne, MayRedo, Redoes, RedoesBank, code_in}
+use Rattle.xact_redo.specs.Redo.{IsOne, MayRedo, Redoes, RedoesBank, code_in}
 
 same_or_not : (a b : ℕ) → (a ≡ b) ⊎ (a ≢ b)
 same_or_not a b = grind arith

@@ -1,18 +1,15 @@
 -- The log's part of a recovery keeps what fits.
-use Rattle.std.proofs.Common.{◌≡◌, ◌⊎◌, inl, inr, ⊎_elim, ℕ, zero, suc, ◌+◌, ◌-◌, ◌<◌, ◌≤◌, ◌++◌, List, [], ◌∷◌, length, take, drop, Contains, refl, sym, ap, subst, arith, length-append, ◌∙◌}
+use Rattle.std.proofs.Common.{◌≡◌, ◌⊎◌, ⊎_elim, ℕ, zero, suc, ◌+◌, ◌-◌, ◌<◌, ◌≤◌, ◌++◌, List, [], ◌∷◌, length, take, drop, Contains, refl, sym, ap, subst, arith, length-append, ◌∙◌}
 use Rattle.std.proofs.Math.Seq.{take-add}
 use Rattle.std.proofs.lemmas.List.{length-take-le}
-use Rattle.disk_core.specs.Pages.{Pages}
 use Rattle.tx_events.specs.declared.record.Rec.{Rec}
 use Rattle.tx_events.proofs.Membership.{contains_has, has_contains, has_left}
 use Rattle.recoverable.specs.LifeBase.{LifeBase, base_after, committed_in}
-use Rattle.recoverable.specs.Fit.{KeptLog, XactFits, base_at, log_end, recs_below}
+use Rattle.recoverable.specs.Fit.{KeptLog, base_at, log_end}
 use Rattle.recoverable.specs.Volumes.{checkpoint_of}
-use Rattle.recoverable.specs.XactImages.{code_at}
 use Rattle.recoverable.proofs.LogBases.{base_then, next_grows, oldest_grows}
 use Rattle.recoverable.proofs.Settled.{checkpoint_settles}
-use Rattle.xact_redo.specs.declared.share.Share.{Share}
-use Rattle.xact_redo.specs.Laws.{CheckpointFits, CutFits, ShowBase, end_base, up_to, with_checkpoint}
+use Rattle.xact_redo.specs.Laws.{CheckpointFits, CutFits, end_base, up_to, with_checkpoint}
 
 -- a later base goes on from an earlier one
 pub later_base : (log : KeptLog) (f k : ℕ) → log.first ≤ f → f ≤ k → (rest : List Rec) × (base_at log k ≡ base_after (base_at log f) rest)
@@ -60,7 +57,7 @@ cut_fits banks bank log k n c from le upto begins fits =
     let oldest : (base_at log log.flushed).counters.oldest ≤ (base_at log k).counters.oldest = subst (λ (b : LifeBase). (base_at log log.flushed).counters.oldest ≤ b.counters.oldest) (sym later.1) (oldest_grows (base_at log log.flushed).counters later.0) in
     let next : (base_at log k).counters.next ≤ (base_at log (log_end log)).counters.next = subst (λ (b : LifeBase). (base_at log k).counters.next ≤ b.counters.next) (sym whole.1) (next_grows (base_at log k).counters whole.0) in
     let more : (x : ℕ) → Contains (base_at log log.flushed).committed x → Contains (base_at log k).committed x = λ x h. subst (λ (b : LifeBase). Contains b.committed x) (sym later.1)
-        (has_contains ((base_at log log.flushed).committed ++ committed_in later.0) x (has_left (base_at log log.flushed).committed (committed_in later.0) x (contains_has (base_at log log.flushed).committed x h))) in
+    (has_contains ((base_at log log.flushed).committed ++ committed_in later.0) x (has_left (base_at log log.flushed).committed (committed_in later.0) x (contains_has (base_at log log.flushed).committed x h))) in
     record {
       committed = λ x among old bank.
           let o : (base_at log k).counters.oldest ≤ x = subst (λ (b : LifeBase). b.counters.oldest ≤ x) flushed old in

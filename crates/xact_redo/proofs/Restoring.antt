@@ -1,17 +1,15 @@
 -- Redo, trimming and writing, one after another.
-use Rattle.std.proofs.Common.{◌≡◌, ◌≢◌, ◌⊎◌, inl, inr, ⊎_elim, ℕ, zero, suc, ◌+◌, ◌*◌, ◌/◌, ◌%◌, ◌^◌, ◌<◌, ◌≤◌, Bool, true, false, List, slice_index, Result, Ok, Err, OnOk, IsErr, IsTrue, refl, sym, ap, subst, arith, ◌∙◌}
-use Rattle.xid_order.specs.Ids.{low_half}
+use Rattle.std.proofs.Common.{◌≡◌, ◌≢◌, ◌⊎◌, inl, inr, ⊎_elim, ℕ, zero, suc, ◌+◌, ◌/◌, ◌%◌, ◌^◌, ◌<◌, ◌≤◌, Bool, true, false, List, slice_index, Result, Ok, Err, OnOk, IsTrue, refl, sym, ap, subst, arith, ◌∙◌}
 use Rattle.xid_order.specs.PageOrder.{Ids, is_cut, page_precedes}
 use Rattle.xid_order.specs.PageWindow.{id_is_kept}
 use Rattle.store_pages.specs.Layouts.{bits_at, state_in, xact_page_of, xact_place_of}
 use Rattle.store_pages.specs.declared.page_rule.PageRule as rules
 use Rattle.disk_core.specs.Faults.{HasRisen}
-use Rattle.disk_core.specs.Pages.{Pages, page_bytes, zero_page}
+use Rattle.disk_core.specs.Pages.{Pages, zero_page}
 use Rattle.disk_core.specs.declared.page_disk.PageDisk as disks
 use Rattle.slru_bank.proofs.ZeroBytes.{zero_byte}
 use Rattle.slru_bank.specs.Calls.{CrashKeeps, CrashMayLack, IsDurable, SamePages, SweepsBank, faults_of, pages_of, volume_of}
 use Rattle.slru_bank.specs.Crash.{IsMixture, IsMixtureOrGone, SameMap, byte_at, runs_then, wider}
-use Rattle.slru_bank.specs.Removal.{MayDrop}
 use Rattle.slru_bank.specs.declared.bank.SlruBank.{SlruBank}
 use Rattle.slru_bank.specs.declared.refusal.BankRefusal.{BankRefusal}
 use Rattle.slru_bank.specs.declared.refusal.BankRefusal.TheVariants.{Cut, DiskFault}
@@ -19,7 +17,7 @@ use Rattle.pg_xact_log.specs.Changes.{TrimsStates}
 use Rattle.tx_events.proofs.ListSteps.{not_both}
 use Rattle.recoverable.specs.XactImages.{code_at}
 use Rattle.xact_redo.specs.Redo.{HasPlace, MayRedo, Redoes, RedoesBank, code_in}
-use Rattle.xact_redo.specs.Restore.{IsPast, IsWindow, MayBecome, MayRestore, Restores, RestoresAll, RestoresBank}
+use Rattle.xact_redo.specs.Restore.{IsPast, MayBecome, MayRestore, Restores, RestoresAll, RestoresBank}
 use Rattle.xact_redo.proofs.OneId.{code_byte}
 use Rattle.xact_redo.proofs.Redoing.{risen_since}
 

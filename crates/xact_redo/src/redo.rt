@@ -14,10 +14,7 @@ use tx_events::Rec;
 use xid_order::FullXid;
 
 // One id becomes committed.
-fn redo_id<P: PageDisk>(
-    bank: &mut SlruBank<P, XactPages>,
-    id: FullXid,
-) -> Result<(), BankRefusal>
+fn redo_id<P: PageDisk>(bank: &mut SlruBank<P, XactPages>, id: FullXid) -> Result<(), BankRefusal>
     requires kept { IsCut (xact_page_of id) bank.old → ⊥ }
     ensures { RedoesBank (IsOne id) bank.old bank.new result }
 {

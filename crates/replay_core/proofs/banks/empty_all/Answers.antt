@@ -1,4 +1,4 @@
-use Rattle.std.proofs.Common.{Err, Ok, arith, length, rules, ◌≡◌, ◌∙◌}
+use Rattle.std.proofs.Common.{arith, rules}
 use Rattle.replay_core.proofs.BankRows.{all_empty, empty_failed}
 use Rattle.replay_core.proofs.banks.empty_all.Goals as goal
 

@@ -1,4 +1,3 @@
-use Rattle.std.proofs.Common.{length, ◌≡◌}
 use Rattle.replay_core.proofs.BankRows.{emptying}
 use Rattle.replay_core.proofs.Rows.{Progress}
 use Rattle.replay_core.proofs.banks.empty_all.Given as goal

@@ -1,4 +1,4 @@
-use Rattle.std.proofs.Common.{Err, Ok, arith, length, rules, subst, ◌≡◌, ◌∙◌}
+use Rattle.std.proofs.Common.{Err, Ok, arith, length, rules, subst, ◌≡◌}
 use Rattle.replay_core.specs.Banks.{ChangesAt, Restoring}
 use Rattle.replay_core.proofs.BankRows.{all_restored, restore_failed, restoring}
 use Rattle.replay_core.proofs.Rows.{progress_more}

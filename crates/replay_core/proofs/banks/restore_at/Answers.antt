@@ -1,4 +1,4 @@
-use Rattle.std.proofs.Common.{Err, Ok, OnOk, ap, subst, ◌∙◌, ◌≡◌}
+use Rattle.std.proofs.Common.{Err, Ok, OnOk, ap, subst, ◌∙◌}
 use Rattle.recoverable.specs.LifeBase.{committed_in}
 use Rattle.xact_redo.specs.Redo.{IsNamed}
 use Rattle.xact_redo.specs.Restore.{HasBytesOnDisk, RestoresAll, bytes_on}

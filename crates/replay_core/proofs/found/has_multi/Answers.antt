@@ -1,6 +1,5 @@
-use Rattle.std.proofs.Common.{List, arith, length, subst, take, ◌≡◌}
+use Rattle.std.proofs.Common.{arith, subst}
 use Rattle.tx_events.proofs.Membership.{contains_has}
-use Rattle.tx_events.specs.declared.record.Rec.{Rec}
 use Rattle.xact_redo.proofs.Redoing.{take_whole}
 use Rattle.replay_core.proofs.Multis.{NoneAmong, multi_is, none_more}
 use Rattle.replay_core.proofs.found.has_multi.Goals as goal

@@ -1,7 +1,7 @@
-use Rattle.std.proofs.Common.{IfSome, List, None, Option, Some, [], inl, inr, subst, sym, ℕ, ◌+◌, ◌++◌, ◌∙◌, ◌∷◌, ◌≡◌}
+use Rattle.std.proofs.Common.{IfSome, List, None, Option, Some, [], inl, inr, subst, sym, ◌+◌, ◌++◌, ◌∙◌, ◌∷◌, ◌≡◌}
 use Rattle.tx_events.specs.declared.record.Rec.{Rec}
 use Rattle.tx_events.specs.declared.record.Rec.TheVariants as records
-use Rattle.wal_core.specs.LogViews.{log_checkpoint, log_counters, log_down, log_end, log_first, log_flushed, log_next, log_pending}
+use Rattle.wal_core.specs.LogViews.{log_checkpoint, log_counters, log_down, log_end, log_first, log_next, log_pending}
 use Rattle.wal_core.specs.declared.checkpoint.LastCheckpoint.{LastCheckpoint}
 use Rattle.replay_core.proofs.Settling.{each_kept, last_is}
 use Rattle.replay_core.proofs.settle.settle.Goals as goal

@@ -1,7 +1,7 @@
-use Rattle.std.proofs.Common.{List, ℕ, ◌+◌, ◌++◌, ◌∷◌, ◌∙◌, ◌≡◌, Ok, [], arith, length, rules, subst, sym, take}
+use Rattle.std.proofs.Common.{List, ℕ, ◌++◌, ◌∷◌, Ok, [], arith, rules, subst, sym, take}
 use Rattle.tx_events.proofs.Membership.{has_left, has_right, has_take}
 use Rattle.xact_redo.specs.Redo.{IsNamed, RedoesBank}
-use Rattle.xact_redo.proofs.Redoing.{both_failed, both_redone, has_item, named_cases, named_in, near_in, none_redone, take_at, take_whole}
+use Rattle.xact_redo.proofs.Redoing.{both_failed, both_redone, has_item, named_cases, named_in, near_in, take_at, take_whole}
 use Rattle.xact_redo.proofs.redo.redo_ids.Goals as goal
 
 pub redo_named-requires-clause-near : goal.redo_named-requires-clause-near
@@ -12,8 +12,8 @@ pub returns-in_err-redo_named : goal.returns-in_err-redo_named
 returns-in_err-redo_named g c =
     let ids : List ℕ = c.args.ids.now in let x : ℕ = c.index-ids-i.result in let done : List ℕ = take c.loop-i.i c.args.ids.now in
     let all = both_failed (IsNamed c.args.share.now c.args.oldest done) (IsNamed c.args.share.now c.args.oldest (x ∷ [])) (IsNamed c.args.share.now c.args.oldest ids) c.args.bank.now c.loop-i.bank c.redo_named.new.bank
-        (named_in c.args.share.now c.args.oldest done ids (λ y h. has_take c.loop-i.i ids y h)) (named_in c.args.share.now c.args.oldest (x ∷ []) ids (has_item ids c.loop-i.i x c.loop-i-test.true c.index-ids-i.is))
-        c.loop-i.invariant.redone _ c.in_err-redo_named.ensures in
+    (named_in c.args.share.now c.args.oldest done ids (λ y h. has_take c.loop-i.i ids y h)) (named_in c.args.share.now c.args.oldest (x ∷ []) ids (has_item ids c.loop-i.i x c.loop-i-test.true c.index-ids-i.is))
+    c.loop-i.invariant.redone _ c.in_err-redo_named.ensures in
     search (rules, all)
 
 pub loop-i-preserved : goal.loop-i-preserved

@@ -1,8 +1,8 @@
-use Rattle.std.proofs.Common.{IsTrue, ◌+◌, ◌<◌, ◌≡◌, ◌≤◌, ◌^◌, ◌∷◌, [], arith, refl, rules, subst, sym, true}
+use Rattle.std.proofs.Common.{◌≡◌, ◌≤◌, ◌∷◌, [], arith, refl, subst, sym, true}
 use Rattle.xid_order.specs.PageOrder.{Ids, is_cut}
 use Rattle.store_pages.specs.Layouts.{xact_page_of}
 use Rattle.xact_redo.specs.Redo.{IsNamed, IsOne}
-use Rattle.xact_redo.proofs.Redoing.{named_one, none_redone, one_named, same_named}
+use Rattle.xact_redo.proofs.Redoing.{named_one, one_named, same_named}
 use Rattle.xact_redo.proofs.Restoring.{page_kept}
 use Rattle.xact_redo.proofs.redo.redo_named.Goals as goal
 

@@ -1,7 +1,7 @@
-use Rattle.std.proofs.Common.{List, ℕ, inl, inr, refl, ◌++◌, ◌∷◌, ◌∙◌, ◌≡◌, [], ap, arith, rules, subst, sym}
+use Rattle.std.proofs.Common.{List, ℕ, ◌++◌, ◌∷◌, ◌∙◌, ◌≡◌, [], ap, rules, subst, sym}
 use Rattle.tx_events.proofs.Membership.{Has, has_left, has_right}
 use Rattle.recoverable.specs.LifeBase.{committed_by}
-use Rattle.xact_redo.specs.Redo.{AreNear, IsNamed, RedoesBank}
+use Rattle.xact_redo.specs.Redo.{IsNamed, RedoesBank}
 use Rattle.xact_redo.proofs.Redoing.{both_redone, failed_wider, named_cases, named_in, near_in}
 use Rattle.xact_redo.proofs.redo.redo_record.Goals as goal
 
@@ -16,7 +16,7 @@ returns-in_err-redo_named g c =
     let top : ℕ = c.in-Commit.top in
     let whole : committed_by c.args.rec.now ≡ c.in-Commit.top ∷ c.in-Commit.subs = ap committed_by c.in-Commit.is in
     let all = failed_wider (IsNamed c.args.share.now c.args.oldest (top ∷ [])) (IsNamed c.args.share.now c.args.oldest (committed_by c.args.rec.now)) c.args.bank.now c.redo_named.new.bank _
-        (named_in c.args.share.now c.args.oldest (top ∷ []) (committed_by c.args.rec.now) (λ y h. subst (λ (t : List ℕ). Has t y) (sym whole) (has_left (top ∷ []) c.in-Commit.subs y h))) c.in_err-redo_named.ensures in
+    (named_in c.args.share.now c.args.oldest (top ∷ []) (committed_by c.args.rec.now) (λ y h. subst (λ (t : List ℕ). Has t y) (sym whole) (has_left (top ∷ []) c.in-Commit.subs y h))) c.in_err-redo_named.ensures in
     search (rules, all)
 
 pub redo_ids-requires-clause-near : goal.redo_ids-requires-clause-near

@@ -1,9 +1,9 @@
-use Rattle.std.proofs.Common.{List, ℕ, ◌+◌, ◌++◌, ◌∷◌, ◌∙◌, ◌≡◌, Ok, [], ap, arith, length, rules, subst, sym, take}
+use Rattle.std.proofs.Common.{List, ℕ, ◌++◌, ◌∙◌, Ok, ap, arith, rules, subst, sym, take}
 use Rattle.tx_events.proofs.Membership.{has_left, has_right}
 use Rattle.tx_events.specs.declared.record.Rec.{Rec}
 use Rattle.recoverable.specs.LifeBase.{committed_by, committed_in}
 use Rattle.xact_redo.specs.Redo.{IsNamed, RedoesBank}
-use Rattle.xact_redo.proofs.Redoing.{both_failed, both_redone, committed_item, committed_push, committed_taken, named_cases, named_in, near_in, none_redone, take_at, take_whole}
+use Rattle.xact_redo.proofs.Redoing.{both_failed, both_redone, committed_item, committed_push, committed_taken, named_cases, named_in, near_in, take_at, take_whole}
 use Rattle.xact_redo.proofs.redo.redo_records.Goals as goal
 
 pub redo_record-requires-clause-near : goal.redo_record-requires-clause-near
@@ -15,8 +15,8 @@ returns-in_err-redo_record g c =
     let recs : List Rec = c.args.recs.now in let x : Rec = c.index-recs-i.result in
     let all_ids : List ℕ = committed_in recs in let own : List ℕ = committed_by x in let done : List ℕ = committed_in (take c.loop-i.i recs) in
     let all = both_failed (IsNamed c.args.share.now c.args.oldest done) (IsNamed c.args.share.now c.args.oldest own) (IsNamed c.args.share.now c.args.oldest all_ids) c.args.bank.now c.loop-i.bank c.redo_record.new.bank
-        (named_in c.args.share.now c.args.oldest done all_ids (λ y h. committed_taken c.loop-i.i recs y h)) (named_in c.args.share.now c.args.oldest own all_ids (committed_item recs c.loop-i.i x c.loop-i-test.true c.index-recs-i.is))
-        c.loop-i.invariant.redone _ c.in_err-redo_record.ensures in
+    (named_in c.args.share.now c.args.oldest done all_ids (λ y h. committed_taken c.loop-i.i recs y h)) (named_in c.args.share.now c.args.oldest own all_ids (committed_item recs c.loop-i.i x c.loop-i-test.true c.index-recs-i.is))
+    c.loop-i.invariant.redone _ c.in_err-redo_record.ensures in
     search (rules, all)
 
 pub loop-i-preserved : goal.loop-i-preserved

@@ -1,4 +1,4 @@
-use Rattle.std.proofs.Common.{List, ℕ, Contains, Ok, ap, arith, subst, sym, ◌+◌, ◌<◌, ◌≡◌, ◌∙◌, ◌^◌, ◌/◌, ◌%◌}
+use Rattle.std.proofs.Common.{ℕ, subst, sym}
 use Rattle.recoverable.specs.LifeBase.{committed_in}
 use Rattle.slru_bank.specs.Calls.{volume_of}
 use Rattle.slru_bank.specs.Crash.{CrashLeaves}

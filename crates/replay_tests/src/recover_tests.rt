@@ -128,12 +128,13 @@ fn stopped_at(alloc: Global, at: Which, passes: u64, how: Crash) -> Result<(bool
 fn count_stops(alloc: Global, at: Which, first: u64, how: Crash) -> Result<u64, Fail> {
     let mut stops = 0;
     for more in 0..30 {
-        let (stopped, same) = stopped_at(alloc, at, first + more, how)?;
+        let passes = first.saturating_add(more);
+        let (stopped, same) = stopped_at(alloc, at, passes, how)?;
         if !same {
             return Err("a later recovery found something else".into());
         }
         if stopped {
-            stops += 1;
+            stops = stops.saturating_add(1);
         }
     }
     Ok(stops)

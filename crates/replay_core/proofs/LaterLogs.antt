@@ -1,0 +1,314 @@
+-- The logs on the way through a recovery: cut at the last record that was found, and then with the checkpoint.
+use Rattle.std.proofs.Common.{Contains, List, Option, None, Some, Ok, Err, Result, Bool, [], ap, append-nil, append_assoc, arith, drop, length, length-append, refl, subst, suc, sym, take, true, false, zero, ℕ, ⊎_elim, ◌++◌, ◌+◌, ◌-◌, ◌<◌, ◌∙◌, ◌∷◌, ◌^◌, ◌≡◌, ◌≤◌}
+use Rattle.std.proofs.Math.Seq.{take-add, take-length}
+use Rattle.std.proofs.lemmas.List.{drop-take, length-take-le, take-append-drop}
+use Rattle.std.specs.List.{filter, slice_get}
+use Rattle.disk_core.specs.Volume.{Volume}
+use Rattle.tx_events.proofs.Membership.{Has, contains_has, filter_none_on, has_contains, has_take}
+use Rattle.tx_events.proofs.PlaceLemmas.{slice_get-push}
+use Rattle.tx_events.specs.After.{after_records}
+use Rattle.tx_events.specs.Base.{IsBase}
+use Rattle.tx_events.specs.declared.record.Counters.{Counters}
+use Rattle.tx_events.specs.declared.record.Rec.{Rec}
+use Rattle.tx_events.specs.declared.record.Rec.TheVariants as records
+use Rattle.xid_order.specs.Limits.{stop_limit}
+use Rattle.wal_core.specs.Kept.{HasFlushed, IsStretch, OpensToRecords}
+use Rattle.wal_core.specs.Log.{history_in}
+use Rattle.wal_core.specs.LogContents.{ComesTo}
+use Rattle.wal_core.specs.Opening.{History, Opened, next_number, no_counters, opened}
+use Rattle.recoverable.specs.Fit.{KeptLog, MayBegin, base_at, log_end, recs_below}
+use Rattle.recoverable.specs.LifeBase.{IsLifeBase, LifeBase, base_after, committed_in, is_multi}
+use Rattle.recoverable.specs.Volumes.{KeepsUpTo, ListFits, LogFits, checkpoint_of}
+use Rattle.recoverable.proofs.LogBases.{base_then, committed_below, oldest_multi_grows}
+use Rattle.recoverable.proofs.Opened.{first_is, first_stands, history_comes, log_opens}
+use Rattle.recoverable.proofs.Stretches.{get_inside}
+use Rattle.xact_redo.specs.Redo.{AreNear}
+use Rattle.xact_redo.specs.Restore.{IsWindow}
+use Rattle.xact_redo.specs.Laws.{IsWholeFrom, end_base, up_to, with_checkpoint}
+use Rattle.xact_redo.proofs.Phases.{checkpoint_before, checkpoint_end, checkpoint_same, cut_base, cut_end, cut_end_base, later_base, take_take}
+use Rattle.replay_core.specs.Opened.{HasNone}
+
+-- ---- a base's window
+
+pub base_window : (c : Counters) → IsBase c → IsWindow c.oldest c.next
+base_window c is =
+    let low : c.oldest ≤ c.next = is.oldest in
+    let high : c.next ≤ stop_limit c.oldest = is.next in
+    let stop : stop_limit c.oldest ≤ c.oldest + 2 ^ 31 - 2999000 = stop_below c.oldest in
+    (low, omega arith)
+  where
+    stop_below : (oldest : ℕ) → stop_limit oldest ≤ oldest + 2 ^ 31 - 2999000
+    stop_below oldest = grind arith
+
+-- the ids of the records that give these counters aren't far from the oldest one
+pub ids_near : (first : ℕ) (recs : List Rec) (base : Counters) → ComesTo first recs (Some base) → AreNear base.oldest (committed_in recs)
+ids_near first recs base comes y among =
+    let counters : base ≡ after_records no_counters recs = comes.1.0 in
+    let below : y < base.next = subst (λ (c : Counters). y < c.next) (sym counters) (committed_below no_counters recs y (contains_has (committed_in recs) y among)) in
+    let window = (base_window base comes.1.1).1 in
+    omega arith
+
+-- ---- what was found
+
+-- the log opens to these records of the list, from one at which it may begin on
+pub record FoundIn (log : KeptLog) (first : ℕ) (recs : List Rec) (base : Counters) : Type 0 where
+  pub list : ListFits log
+  pub may_begin : MayBegin log first
+  pub some : 1 ≤ length recs
+  pub flushed : log.flushed ≤ first + length recs
+  pub upto : first + length recs ≤ log_end log
+  pub recs_are : recs ≡ drop (first - log.first) (recs_below log (first + length recs))
+  pub counters : base ≡ (base_at log (first + length recs)).counters
+  pub none : HasNone recs
+
+some_same : {A : Type 0} (x y : A) → Some x ≡ Some y → x ≡ y
+some_same {A} x y e = ap (λ (z : Option A). elim z [ None ↦ x | Some v ↦ v ]) e
+
+some_first : (recs : List Rec) (n : ℕ) → Rattle.wal_core.specs.Opening.first_number recs ≡ Some n → 1 ≤ length recs
+some_first recs n e = let f = first_is recs n e in let g : length recs ≡ length (records.Checkpoint n f.0 ∷ f.1) = ap length f.2 in omega arith
+
+pub found_in : (log : KeptLog) (n first gate : ℕ) (recs : List Rec) (base : Counters) (v : Volume) → ListFits log → MayBegin log n → LogFits log n v → HasNone recs
+    → opened v ≡ Ok (record { history = Some (record { first = first; recs = recs; counters = base }); gate = gate }) → (n ≡ first) × FoundIn log first recs base
+found_in log n first gate recs base v list may fits none opens =
+    let h : History = record { first = first; recs = recs; counters = base } in
+    let same : fits.history ≡ h = some_same fits.history h (ap history_in (sym fits.opens ∙ opens)) in
+    let at : n ≡ first = sym fits.first ∙ ap (λ (z : History). z.first) same in
+    let comes = history_comes v h gate opens in (
+      at,
+      record {
+        list = list;
+        may_begin = subst (MayBegin log) at may;
+        some = some_first recs first comes.0;
+        flushed = subst (λ (z : History). log.flushed ≤ next_number z) same fits.flushed;
+        upto = subst (λ (z : History). next_number z ≤ log_end log) same fits.upto;
+        recs_are = subst (λ (z : History). z.recs ≡ drop (first - log.first) (recs_below log (next_number z))) same (subst (λ z. fits.history.recs ≡ drop (z - log.first) (recs_below log (next_number fits.history))) at fits.recs);
+        counters = subst (λ (z : History). z.counters ≡ (base_at log (next_number z)).counters) same fits.counters;
+        none = none;
+      },
+    )
+
+-- ---- from the log to later ones
+
+base_first : (log : KeptLog) → log.base ≡ base_at log log.first
+base_first log =
+    let none : log.first - log.first ≡ 0 = omega arith in
+    sym (ap (λ z. base_after log.base (take z log.recs)) none ∙ (λ i. record { counters = log.base.counters; committed = append-nil log.base.committed i; recorded = append-nil log.base.recorded i }))
+
+drop_none : (log : KeptLog) (xs : List Rec) → drop (log.first - log.first) xs ≡ xs
+drop_none log xs = let none : log.first - log.first ≡ 0 = omega arith in ap (λ z. drop z xs) none
+
+-- nothing was lost, and nothing more is known
+pub keeps_itself : (log : KeptLog) → ListFits log → KeepsUpTo log log (log_end log) []
+keeps_itself log list =
+    let from = list.from in
+    let long : log_end log - log.first ≡ length log.recs = omega arith in
+    record {
+      flushed_before = list.upto;
+      upto = omega arith;
+      from = omega arith;
+      within = omega arith;
+      base = base_first log;
+      recs = sym (append-nil (drop (log.first - log.first) (recs_below log (log_end log))) ∙ drop_none log (recs_below log (log_end log)) ∙ ap (λ z. take z log.recs) long ∙ take-length log.recs);
+      flushed = omega arith;
+    }
+
+module _ (log : KeptLog) (first : ℕ) (recs : List Rec) (base : Counters) (f : FoundIn log first recs base) where
+  -- the number past what was found, and the log cut there
+  abbrev end : ℕ
+  end = first + length recs
+
+  abbrev cut : KeptLog
+  cut = up_to log end
+
+  pub low : log.first ≤ first + length recs
+  low = let a = f.may_begin.from in omega arith
+
+  pub cut_end_is : log_end (up_to log (first + length recs)) ≡ first + length recs
+  cut_end_is = cut_end log (first + length recs) low f.upto
+
+  pub cut_base_is : end_base (up_to log (first + length recs)) ≡ base_at log (first + length recs)
+  cut_base_is = cut_end_base log (first + length recs) low f.upto
+
+  pub counters_are : (end_base (up_to log (first + length recs))).counters ≡ base
+  counters_are = ap (λ (b : LifeBase). b.counters) cut_base_is ∙ sym f.counters
+
+  -- the records of the cut log: those before the first one found, and those found
+  pub front : List Rec
+  front = take (first - log.first) (recs_below log (first + length recs))
+
+  pub cut_split : (up_to log (first + length recs)).recs ≡ front ++ recs
+  unfolding front
+  cut_split = sym (take-append-drop (first - log.first) (recs_below log (first + length recs))) ∙ ap (λ (t : List Rec). take (first - log.first) (recs_below log (first + length recs)) ++ t) (sym f.recs_are)
+
+  pub front_place : log.first + length front ≡ first
+  unfolding front
+  front_place =
+      let a = f.may_begin.from in let b = f.upto in
+      let below : length (recs_below log (first + length recs)) ≡ first + length recs - log.first = length-take-le (first + length recs - log.first) log.recs (omega arith) in
+      let c : length (take (first - log.first) (recs_below log (first + length recs))) ≡ first - log.first = length-take-le (first - log.first) (recs_below log (first + length recs)) (omega arith) in
+      omega arith
+
+  pub whole_from : IsWholeFrom (up_to log (first + length recs)) first recs
+  unfolding front
+  whole_from =
+      let life : IsLifeBase (base_at log (first + length recs)) = f.list.bases (first + length recs) f.flushed f.upto in
+      let both : end_base (up_to log (first + length recs)) ≡ base_after (base_at (up_to log (first + length recs)) first) recs
+      = cut_base_is ∙ ap (base_after log.base) cut_split ∙ base_then log.base (take (first - log.first) (recs_below log (first + length recs))) recs in
+      record {
+        flushed = sym cut_end_is;
+        rest = ap (λ (b : LifeBase). b.committed) both;
+        window = subst (λ (b : LifeBase). IsWindow b.counters.oldest b.counters.next) (sym cut_base_is) (base_window (base_at log (first + length recs)).counters life.counters);
+        below = λ x among. subst (λ (b : LifeBase). x < b.counters.next) (sym cut_base_is) (life.committed x (subst (λ (b : LifeBase). Contains b.committed x) cut_base_is among));
+      }
+
+  -- ---- their lists fit
+
+  same_place : (j : ℕ) → first + length recs ≤ j → j ≤ log_end (up_to log (first + length recs)) → j ≡ first + length recs
+  same_place j from to = let e = cut_end_is in omega arith
+
+  take_get : {A : Type 0} (m : ℕ) (xs : List A) (n : ℕ) (x : A) → slice_get (take m xs) n ≡ Some x → slice_get xs n ≡ Some x
+  take_get zero xs n x e = absurd cc
+  take_get (suc m) [] n x e = absurd cc
+  take_get (suc m) (y ∷ ys) zero x e = e
+  take_get (suc m) (y ∷ ys) (suc n) x e = take_get m ys n x e
+
+  pub cut_list_fits : ListFits (up_to log (first + length recs))
+  cut_list_fits = record {
+    from = low;
+    upto = let e = cut_end_is in omega arith;
+    bases = λ j from to. subst IsLifeBase (sym (ap (base_at (up_to log (first + length recs))) (same_place j from to) ∙ cut_base log (first + length recs) (first + length recs) (omega arith))) (f.list.bases (first + length recs) f.flushed f.upto);
+    whole = λ n from counters at.
+        let place : n - log.first < length (recs_below log (first + length recs)) = get_inside (recs_below log (first + length recs)) (n - log.first) (records.Checkpoint n counters) at in
+        let long : length (recs_below log (first + length recs)) ≡ first + length recs - log.first = let b = f.upto in let c = low in length-take-le (first + length recs - log.first) log.recs (omega arith) in
+        ap (λ (b : LifeBase). b.counters) (cut_base log (n + 1) (first + length recs) (omega arith))
+        ∙ f.list.whole n from counters (take_get (first + length recs - log.first) log.recs (n - log.first) (records.Checkpoint n counters) at);
+  }
+
+  checkpoint_list_fits : (flushed : ℕ) → first + length recs ≤ flushed → flushed ≤ first + length recs + 1 → ListFits (with_checkpoint (up_to log (first + length recs)) flushed)
+  checkpoint_list_fits flushed at_least at_most = record {
+    from = let a = low in omega arith;
+    upto = let e = checkpoint_end (up_to log (first + length recs)) flushed in let g = cut_end_is in omega arith;
+    bases = λ j from to. let g = cut_end_is in subst IsLifeBase (sym (checkpoint_same (up_to log (first + length recs)) flushed j (omega arith) ∙ cut_base_is)) (f.list.bases (first + length recs) f.flushed f.upto);
+    whole = λ n from counters at. ⊎_elim
+        (λ (h : (n - log.first < length (recs_below log (first + length recs))) × (slice_get (recs_below log (first + length recs)) (n - log.first) ≡ Some (records.Checkpoint n counters))).
+        ap (λ (b : LifeBase). b.counters) (checkpoint_before (up_to log (first + length recs)) flushed (n + 1) (omega (arith, h.0))) ∙ cut_list_fits.whole n from counters h.1)
+        (λ (h : (n - log.first ≡ length (recs_below log (first + length recs))) × (records.Checkpoint (log_end (up_to log (first + length recs))) (end_base (up_to log (first + length recs))).counters ≡ records.Checkpoint n counters)).
+        ap (λ (b : LifeBase). b.counters) (checkpoint_same (up_to log (first + length recs)) flushed (n + 1) (omega (arith, h.0))) ∙ same_counters h.1)
+        (slice_get-push (recs_below log (first + length recs)) (records.Checkpoint (log_end (up_to log (first + length recs))) (end_base (up_to log (first + length recs))).counters) (records.Checkpoint n counters) (n - log.first) at);
+  }
+    where
+      same_counters : {m n : ℕ} {a b : Counters} → records.Checkpoint m a ≡ records.Checkpoint n b → a ≡ b
+      same_counters e = cc
+
+  pub pending_fits : ListFits (with_checkpoint (up_to log (first + length recs)) (first + length recs))
+  pending_fits = checkpoint_list_fits (first + length recs) (omega arith) (omega arith)
+
+  pub settled_fits : ListFits (with_checkpoint (up_to log (first + length recs)) (first + length recs + 1))
+  settled_fits = checkpoint_list_fits (first + length recs + 1) (omega arith) (omega arith)
+
+  -- ---- they keep the log up to there
+
+  pub cut_keeps : KeepsUpTo log (up_to log (first + length recs)) (first + length recs) []
+  cut_keeps = record {
+    flushed_before = f.flushed;
+    upto = f.upto;
+    from = omega arith;
+    within = low;
+    base = base_first log;
+    recs = sym (append-nil (drop (log.first - log.first) (recs_below log (first + length recs))) ∙ drop_none log (recs_below log (first + length recs)));
+    flushed = f.flushed;
+  }
+
+  pub checkpoint_keeps : (flushed : ℕ) → first + length recs ≤ flushed → KeepsUpTo log (with_checkpoint (up_to log (first + length recs)) flushed) (first + length recs) (checkpoint_of (first + length recs) (base_at log (first + length recs)))
+  checkpoint_keeps flushed at_least = record {
+    flushed_before = f.flushed;
+    upto = f.upto;
+    from = omega arith;
+    within = low;
+    base = base_first log;
+    recs = (λ i. recs_below log (first + length recs) ++ checkpoint_of (cut_end_is i) (cut_base_is i)) ∙ ap (λ (t : List Rec). t ++ checkpoint_of (first + length recs) (base_at log (first + length recs))) (sym (drop_none log (recs_below log (first + length recs))));
+    flushed = let a = f.flushed in omega arith;
+  }
+
+  -- ---- no multixact comes in
+
+  pub recorded_same : (n : ℕ) → first ≤ n → n ≤ first + length recs → (base_at log n).recorded ≡ (base_at log first).recorded
+  recorded_same n from to =
+      let a = f.may_begin.from in
+      let rest : List Rec = take (n - first) (drop (first - log.first) log.recs) in
+      let split : n - log.first ≡ (first - log.first) + (n - first) = omega arith in
+      let later : base_at log n ≡ base_after (base_at log first) rest
+      = ap (λ m. base_after log.base (take m log.recs)) split ∙ ap (base_after log.base) (take-add (first - log.first) (n - first) log.recs) ∙ base_then log.base (take (first - log.first) log.recs) rest in
+      let own : recs ≡ take (first + length recs - first) (drop (first - log.first) log.recs) = f.recs_are ∙ own_drop in
+      let part : rest ≡ take (n - first) recs = sym (take_take (n - first) (first + length recs - first) (drop (first - log.first) log.recs) (omega arith)) ∙ ap (take (n - first)) (sym own) in
+      let nothing : filter is_multi rest ≡ [] = filter_none_on is_multi rest (λ x h. none_is x (has_take (n - first) recs x (subst (λ (t : List Rec). Has t x) part h))) in
+      ap (λ (b : LifeBase). b.recorded) later ∙ ap (λ (t : List Rec). (base_at log first).recorded ++ t) nothing ∙ append-nil (base_at log first).recorded
+    where
+      own_drop : drop (first - log.first) (recs_below log (first + length recs)) ≡ take (first + length recs - first) (drop (first - log.first) log.recs)
+      own_drop =
+          let a = f.may_begin.from in
+          let split : first - log.first + (first + length recs - first) ≡ first + length recs - log.first = omega arith in
+          ap (λ z. drop (first - log.first) (take z log.recs)) (sym split) ∙ drop-take (first - log.first) (first + length recs - first) log.recs
+
+      none_is : (x : Rec) → Has recs x → is_multi x ≡ false
+      none_is x h =
+          let step : (b : Bool) → is_multi x ≡ b → is_multi x ≡ false = elim [ true ↦ λ e. absurd (f.none x (has_contains recs x h) e) | false ↦ λ e. e ] in
+          step (is_multi x) refl
+
+  pub oldest_multi_up : (base_at log log.flushed).counters.oldest_multi ≤ (base_at log (first + length recs)).counters.oldest_multi
+  oldest_multi_up =
+      let later = later_base log log.flushed (first + length recs) f.list.from f.flushed in
+      subst (λ (b : LifeBase). (base_at log log.flushed).counters.oldest_multi ≤ b.counters.oldest_multi) (sym later.1) (oldest_multi_grows (base_at log log.flushed).counters later.0)
+
+-- ---- what an image opens to
+
+pub record BeginsIn (log : KeptLog) (first kept : ℕ) (v : Volume) : Type 0 where
+  pub number : ℕ
+  pub from : first ≤ number
+  pub upto : number ≤ kept
+  pub may_begin : MayBegin log number
+  pub fits : LogFits log number v
+
+pub begins_in : (log : KeptLog) (before small : List Rec) (first kept : ℕ) (v : Volume) → ListFits log → log.recs ≡ before ++ small → log.first + length before ≡ first → first < log.flushed → kept < log.flushed
+    → HasFlushed first small kept log.flushed v → BeginsIn log first kept v
+begins_in log before small first kept v list split place begun under has = of (opened v) refl has.opens
+  where
+    stretch_in : (h : History) → IsStretch first small h.first h.recs → IsStretch log.first log.recs h.first h.recs
+    stretch_in h s =
+        let p = s.place in
+        let long : length (before ++ s.before) ≡ length before + length s.before = length-append before s.before in
+        record {
+          before = before ++ s.before;
+          after = s.after;
+          split = split ∙ ap (λ (t : List Rec). before ++ t) s.split ∙ sym (append_assoc before s.before (h.recs ++ s.after));
+          place = omega arith;
+        }
+
+    with_history : (h : History) (gate : ℕ) → opened v ≡ Ok (record { history = Some h; gate = gate }) → IsStretch first small h.first h.recs → h.first ≤ kept → log.flushed ≤ next_number h → BeginsIn log first kept v
+    with_history h gate opens s upto flushed =
+        let whole = stretch_in h s in
+        let p = s.place in
+        let check = first_is h.recs h.first (history_comes v h gate opens).0 in
+        let stands = first_stands log h whole check.0 check.1 check.2 in
+        let may : MayBegin log h.first = record {
+          from = omega arith;
+          flushed = omega arith;
+          counters = check.0;
+          checkpoint = stands;
+          whole = list.whole h.first (omega arith) check.0 stands;
+        } in
+        record {
+          number = h.first;
+          from = omega arith;
+          upto = upto;
+          may_begin = may;
+          fits = log_opens log h whole gate v opens has.ends flushed may;
+        }
+
+    past : (o : Opened) (h : Option History) → o.history ≡ h → opened v ≡ Ok o → OpensToRecords first small kept log.flushed (Ok (record { history = h; gate = o.gate })) → BeginsIn log first kept v
+    past o None q e r = absurd (omega (arith, r.0))
+    past o (Some h) q e r = with_history h o.gate (e ∙ (λ i. Ok (record { history = q i; gate = o.gate }))) r.0 r.1.0 r.1.1
+
+    of : (r : Result Opened ℕ) → opened v ≡ r → OpensToRecords first small kept log.flushed r → BeginsIn log first kept v
+    of (Err at) e r = absurd r
+    of (Ok o) e r = past o o.history refl e r

@@ -1,0 +1,6 @@
+pub mod Volumes
+pub mod Begun
+pub mod Refused
+pub mod Opened
+pub mod Banks
+pub mod Replay

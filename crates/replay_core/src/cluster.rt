@@ -1,0 +1,25 @@
+//! What is recovered, and what of it stands then.
+use disk_core::LogDisk;
+use tx_events::Counters;
+use wal_core::WalLog;
+
+/// The volumes of a cluster without multixacts: the log's, and one for each bank of pg_xact and of pg_subtrans.
+#[derive(Drop)]
+pub struct ClusterVolumes<L, P> {
+    pub log: L,
+    pub xact: Vec<P>,
+    pub subtrans: Vec<P>,
+}
+
+/// A cluster from which a life may begin.
+#[derive(Drop)]
+pub struct Recovered<L: LogDisk, P> {
+    /// It ends with the checkpoint, and begins with it, where no crash brings back what came before.
+    pub log: WalLog<L>,
+    pub xact: Vec<P>,
+    pub subtrans: Vec<P>,
+    /// The number of the checkpoint. The life's first record has the next one.
+    pub from: u64,
+    /// The counters with which the life begins.
+    pub base: Counters,
+}

@@ -1,0 +1,144 @@
+//! The whole of a recovery.
+ghost use Rattle.std.specs.Prelude.{◌≡◌, ◌≤◌, IfErr, IfOk, IsTrue, length};
+ghost use Rattle.recoverable.specs.Fit.{KeptLog};
+ghost use Rattle.recoverable.specs.LifeBase.{committed_in};
+ghost use Rattle.xact_redo.specs.Redo.{AreNear};
+ghost use Rattle.xact_redo.specs.Restore.{IsWindow};
+ghost use Rattle.wal_core.specs.LogViews.{log_disk};
+ghost use Rattle.replay_core.specs.Begun.{AreEmpty, AreOnDisk, IsSettled};
+ghost use Rattle.replay_core.specs.Opened.{IsOpen};
+ghost use Rattle.replay_core.specs.Refused.{HasNoMultis, IsRefusal};
+ghost use Rattle.replay_core.specs.Replay.{Replays};
+ghost use Rattle.replay_core.specs.Volumes.{Fit, LeavesFit, Recovers};
+
+use crate::banks::{empty_all, restore_all};
+use crate::cluster::{ClusterVolumes, Recovered};
+use crate::found::{Found, open_log};
+use crate::refusal::RecoverRefusal;
+use crate::settle::settle;
+use disk_core::{LogDisk, PageDisk};
+use std::alloc::Global;
+use tx_events::{Counters, Rec};
+use wal_core::WalLog;
+
+/// Recovers a cluster (`StartupXLOG`): the log is opened; the commits among its records are put on the pages of pg_xact,
+/// and what lies past the next id is cleared; pg_subtrans is emptied; then a checkpoint is flushed, alone in its batch, and
+/// the log before it forgotten. After an error the volumes come back, and may be recovered again.
+///
+/// There is one volume of pg_xact and one of pg_subtrans for each bank, 1 to 16.
+pub fn recover<L: LogDisk + Drop, P: PageDisk + Drop>(
+    alloc: Global,
+    volumes: ClusterVolumes<L, P>,
+) -> Result<Recovered<L, P>, (ClusterVolumes<L, P>, RecoverRefusal)>
+    requires some { 1 ≤ length volumes.xact.items }
+    requires few { length volumes.xact.items ≤ 16 }
+    requires as_many { length volumes.subtrans.items ≡ length volumes.xact.items }
+    // From volumes that fit a log the base at a number from the flushed one to its end is answered, and the volumes are
+    // left as a life may begin with them. Any later recovery from there answers the same.
+    ensures recovers { IsTrue L.tells → IsTrue P.tells → IfOk result (λ r. (log : KeptLog) → Fit L.LogDisk P.PageDisk log volumes.log volumes.xact.items
+        → Recovers L.LogDisk P.PageDisk volumes.log volumes.xact.items (log_disk r.log) r.xact.items r.from r.base log) }
+    // After an error they fit, and a later recovery answers what this one might have answered.
+    ensures again { IsTrue L.tells → IsTrue P.tells → IfErr result (λ e. (log : KeptLog) → Fit L.LogDisk P.PageDisk log volumes.log volumes.xact.items
+        → LeavesFit L.LogDisk P.PageDisk volumes.xact.items e.0.log e.0.xact.items log) }
+    ensures log { IfOk result (λ r. IsSettled r.from r.base r.log) }
+    ensures states { IsTrue P.tells → IfOk result (λ r. AreOnDisk P.PageDisk r.xact.items) }
+    ensures parents { IsTrue P.tells → IfOk result (λ r. AreEmpty P.PageDisk r.subtrans.items) }
+    ensures banks { IfOk result (λ r. (length r.xact.items ≡ length volumes.xact.items) × (length r.subtrans.items ≡ length volumes.subtrans.items)) }
+    ensures banks_err { IfErr result (λ e. (length e.0.xact.items ≡ length volumes.xact.items) × (length e.0.subtrans.items ≡ length volumes.subtrans.items)) }
+    // Each refusal has its cause, and where the log is new or has a multixact there is one.
+    ensures only { IsTrue L.tells → IfOk result (λ r. HasNoMultis (L.reads volumes.log)) }
+    ensures refused { IfErr result (λ e. IsRefusal L.LogDisk P.PageDisk volumes e.0 e.1) }
+{
+    let ClusterVolumes {
+        log,
+        mut xact,
+        mut subtrans,
+    } = volumes;
+    let found = match open_log(alloc, log) {
+        Ok(found) => found,
+        Err((log, refusal)) => {
+            return Err((
+                ClusterVolumes {
+                    log,
+                    xact,
+                    subtrans,
+                },
+                refusal,
+            ));
+        }
+    };
+    let Found { log, recs, base } = found;
+    let mut log = log;
+    let from = log.next();
+    if let Err(refusal) = replay(
+        alloc,
+        &mut log,
+        &mut xact,
+        &mut subtrans,
+        recs.items(),
+        &base,
+    ) {
+        return Err((handed_back(log, xact, subtrans), refusal));
+    }
+    Ok(begun(log, xact, subtrans, from, &base))
+}
+
+// What a life begins from.
+fn begun<L: LogDisk, P>(
+    log: WalLog<L>,
+    xact: Vec<P>,
+    subtrans: Vec<P>,
+    from: u64,
+    base: &Counters,
+) -> Recovered<L, P>
+    ensures log { result.log ≡ log }
+    ensures xact { result.xact ≡ xact }
+    ensures subtrans { result.subtrans ≡ subtrans }
+    ensures from { result.from ≡ from }
+    ensures base { result.base ≡ base.now }
+{
+    Recovered {
+        log,
+        xact,
+        subtrans,
+        from,
+        base: *base,
+    }
+}
+
+// The volumes that weren't recovered.
+fn handed_back<L: LogDisk + Drop, P>(
+    log: WalLog<L>,
+    xact: Vec<P>,
+    subtrans: Vec<P>,
+) -> ClusterVolumes<L, P>
+    ensures log { result.log ≡ log_disk log }
+    ensures xact { result.xact ≡ xact }
+    ensures subtrans { result.subtrans ≡ subtrans }
+{
+    ClusterVolumes {
+        log: log.into_disk(),
+        xact,
+        subtrans,
+    }
+}
+
+// The pages, and then the checkpoint.
+fn replay<L: LogDisk, P: PageDisk + Drop>(
+    alloc: Global,
+    log: &mut WalLog<L>,
+    xact: &mut Vec<P>,
+    subtrans: &mut Vec<P>,
+    recs: &[Rec],
+    base: &Counters,
+) -> Result<(), RecoverRefusal>
+    requires few { (length xact.old.items ≤ 16) × (length subtrans.old.items ≤ 16) }
+    requires open { IsOpen base.now log.old }
+    requires near { AreNear base.now.oldest (committed_in recs.now) }
+    requires window { IsWindow base.now.oldest base.now.next }
+    ensures { Replays P.PageDisk recs.now base.now log.old log.new xact.old.items xact.new.items subtrans.old.items subtrans.new.items result }
+{
+    restore_all(alloc, xact, recs, base)?;
+    empty_all(alloc, subtrans, base)?;
+    settle(log, *base)
+}

@@ -1,0 +1,3 @@
+pub mod Redo
+pub mod Restore
+pub mod Laws

@@ -18,7 +18,7 @@ use Rattle.script_gen.specs.Counts.{how_many, life_summary}
 use Rattle.script_gen.specs.Generated.{generated}
 use Rattle.script_gen.specs.Laws.{most_transactions}
 
--- a refusal by a device, or for want of memory
+-- a refusal by a device, for a full log, or for want of memory
 abbrev pub is_failure : Reply → Bool
 is_failure (replies.Refused refusals.Memory) = true
 is_failure (replies.Refused (refusals.DiskFault lock)) = true

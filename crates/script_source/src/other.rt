@@ -21,7 +21,9 @@ fn has_command(command: &Command) -> bool
         | Command::Abort
         | Command::Snap { .. }
         | Command::DropSnap { .. }
-        | Command::See { .. } => true,
+        | Command::See { .. }
+        | Command::Status { .. }
+        | Command::Did { .. } => true,
         _ => false,
     }
 }

@@ -64,9 +64,9 @@ MayTell tells start lists span by s command (replies.Seen verdict) =
     → MayReply start.base start.committed (history lists) span by s command (replies.Seen verdict)
 MayTell tells start lists span by s (commands.Status x) (replies.Known status) =
     IsKnown (IsTrue tells × AreFewIds lists) start.base start.committed (history lists) by x status
-MayTell tells start lists span by s (commands.Did x) (replies.Did yes) =
+MayTell tells start lists span by s (commands.Did x) (replies.Did answer) =
     IsDid (IsTrue tells × AreFewIds lists) start.base start.committed (history lists)
-    (start.logged ++ recs_in (at lists log_lock)) span by x.number yes
+    (start.logged ++ recs_in (at lists log_lock)) span by x.number answer
 MayTell tells start lists span by s command reply =
     MayReply start.base start.committed (history lists) span by s command reply
 

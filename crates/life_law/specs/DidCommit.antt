@@ -29,13 +29,13 @@ pub record WasUncommitted (committed : List ℕ) (h : List Event) (round : Round
 -- What is answered of the id that the stored id means. Where the states on pages are told, yes is answered of an id with
 -- which the life began as committed, or which a commit record names, and no of one whose commit the command needn't have
 -- seen.
-pub record IsDidOf (told : Type 0) (base : Counters) (committed : List ℕ) (h : List Event) (recs : List Rec) (round : RoundSpan) (by : By) (x : ℕ) (yes : Bool) : Type 0 where
+pub record IsDidOf (told : Type 0) (base : Counters) (committed : List ℕ) (h : List Event) (recs : List Rec) (round : RoundSpan) (by : By) (x : ℕ) (answer : Bool) : Type 0 where
   pub id : ℕ
   pub near : IsNearNext base h round by x (Some id)
   pub young : IsNotTooOld base h round by id
-  pub committed : told → yes ≡ true → Contains committed id ⊎ IsRecorded recs id
-  pub uncommitted : told → yes ≡ false → WasUncommitted committed h round by id
+  pub for_yes : told → answer ≡ true → Contains committed id ⊎ IsRecorded recs id
+  pub for_no : told → answer ≡ false → WasUncommitted committed h round by id
 
 abbrev pub IsDid : Type 0 → Counters → List ℕ → List Event → List Rec → RoundSpan → By → ℕ → Bool → Type 0
-IsDid told base committed h recs round by x yes =
-    (x < 3 → yes ≡ special_did x) × (3 ≤ x → IsDidOf told base committed h recs round by x yes)
+IsDid told base committed h recs round by x answer =
+    (x < 3 → answer ≡ special_did x) × (3 ≤ x → IsDidOf told base committed h recs round by x answer)

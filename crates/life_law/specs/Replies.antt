@@ -88,6 +88,6 @@ IsLawfulReply f round by s pending command (replies.Seen visible) =
     × (IsTrue f.tells → MayReply f.base f.committed f.events round by s command (replies.Seen visible))
 IsLawfulReply f round by s pending (commands.Status x) (replies.Known status) =
     IsKnown (IsTrue f.tells) f.base f.committed f.events by x status
-IsLawfulReply f round by s pending (commands.Did x) (replies.Did yes) =
-    IsDid (IsTrue f.tells) f.base f.committed f.events f.recs round by x.number yes
+IsLawfulReply f round by s pending (commands.Did x) (replies.Did answer) =
+    IsDid (IsTrue f.tells) f.base f.committed f.events f.recs round by x.number answer
 IsLawfulReply f round by s pending command reply = MayReply f.base f.committed f.events round by s command reply

@@ -149,13 +149,11 @@ stop_fits oldest = (omega arith, min_one IsXidNumber (down_to_normal (wrap_limit
 
 abbrev pub IsPlain : Event → Type 0
 IsPlain (events.Oldest by oldest) = ⊥
-IsPlain (events.Ask by id) = ⊥
 IsPlain _ = Unit {0}
 
 pub oldest_same : (oldest : ℕ) (h : List Event) → AllByRecursion IsPlain h → oldest_id oldest h ≡ oldest
 oldest_same oldest [] a = refl
 oldest_same oldest (events.Oldest by new ∷ h) a = absurd a.0
-oldest_same oldest (events.Ask by id ∷ h) a = absurd a.0
 oldest_same oldest (e ∷ h) a = oldest_same oldest h a.1
 
 pub oldest_fits : (base : Counters) → IsBase base → FitsId base.oldest

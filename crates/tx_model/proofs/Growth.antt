@@ -1,4 +1,4 @@
-use Rattle.std.proofs.Common.{IfSome, Option, ◌-◌, ◌↔◌, ◌≡◌, ℕ, ◌<◌, ◌≤◌, List, [], ◌∷◌, ◌++◌, length, take, drop, refl, ap, sym, ◌∙◌, arith, ⊎_elim, subst, Bool, true, false, cond, IsTrue}
+use Rattle.std.proofs.Common.{IfSome, Option, ◌-◌, ◌↔◌, ◌≡◌, ℕ, ◌<◌, ◌≤◌, List, [], ◌∷◌, ◌++◌, length, drop, refl, ap, sym, ◌∙◌, arith, ⊎_elim, subst, Bool, true, false, cond, IsTrue}
 use Rattle.std.proofs.Math.Seq.{drop-append-le, take-append-le}
 use Rattle.std.specs.List.{filter, AllByRecursion}
 use Rattle.xid_order.specs.Nearest.{near_id}
@@ -8,7 +8,7 @@ use Rattle.tx_model.specs.declared.report.Line.{Line}
 use Rattle.tx_events.specs.declared.record.Counters.{Counters}
 use Rattle.tx_events.specs.Events.{by_of, events_of, given}
 use Rattle.tx_model.specs.Stance.{Stance, stance_from, after, nothing_yet}
-use Rattle.tx_model.specs.Replies.{IsFuture, IsGivenAt, IsKnown, IsNearNext, IsNotTooOld, IsStatusOf, IsStopped, IsWarned, MayFindOldest, MayReadAt, MayReply, RoundSpan, is_in_progress, seen_id, status_after}
+use Rattle.tx_model.specs.Replies.{IsFuture, IsGivenAt, IsKnown, IsNearNext, IsNotTooOld, IsStatusOf, IsStopped, IsWarned, MayFindOldest, MayReadAt, MayReply, RoundSpan, seen_id, status_after}
 use Rattle.tx_events.specs.Snapshots.{snapshot_data, snapshot_xmax}
 use Rattle.tx_events.specs.Visible.{is_visible}
 use Rattle.xid_order.specs.Limits.{stop_limit, warn_limit}

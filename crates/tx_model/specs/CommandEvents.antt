@@ -54,7 +54,7 @@ was_asked _ = false
 
 -- the question for an id's status, which none of the special ids needs
 abbrev pub ask_event : By → ℕ → Reply → List Event
-ask_event by x reply = cond (nat_le 3 x && was_asked reply) (events.Ask by x ∷ []) []
+ask_event by x reply = cond (was_asked reply && nat_le 3 x) (events.Ask by x ∷ []) []
 
 -- how many ids a refused write may have given: all of them where a volume failed behind the last one, else fewer
 abbrev pub MayHaveGiven : Refusal → ℕ → ℕ → Type 0

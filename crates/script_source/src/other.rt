@@ -22,8 +22,7 @@ fn has_command(command: &Command) -> bool
         | Command::Snap { .. }
         | Command::DropSnap { .. }
         | Command::See { .. }
-        | Command::Status { .. }
-        | Command::Did { .. } => true,
+        | Command::Status { .. } => true,
         _ => false,
     }
 }

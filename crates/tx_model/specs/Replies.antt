@@ -14,7 +14,7 @@ use Rattle.tx_events.specs.declared.record.Counters.{Counters}
 use Rattle.tx_events.specs.Events.{by_of, given_by}
 use Rattle.xid_order.specs.Limits.{stop_limit, warn_limit}
 use Rattle.tx_events.specs.History.{next_given}
-use Rattle.tx_events.specs.Horizon.{oldest_id}
+use Rattle.tx_events.specs.Horizon.{oldest_id, oldest_xmin}
 use Rattle.tx_events.specs.Snapshots.{snapshot_data, snapshot_xmax}
 use Rattle.tx_model.specs.Stance.{Stance, lacking, snap_of}
 use Rattle.tx_events.specs.Visible.{is_visible}
@@ -103,6 +103,17 @@ pub record IsStopped (base : Counters) (h : List Event) (round : RoundSpan) (by 
   pub stop_is : stop ≡ stop_limit (oldest_id base.oldest (take place h))
   pub reached : stop ≤ next
 
+-- This is the oldest xmin at a place of the round that isn't before the one of the session's latest event: at a place
+-- where the command may read, or just before the last event there, since what a session publishes is what it found
+-- before its own event.
+pub record IsHorizon (base : Counters) (h : List Event) (round : RoundSpan) (by : By) (xmin : ℕ) : Type 0 where
+  pub place : ℕ
+  pub read : MayReadAt h round by place
+  pub lag : ℕ
+  pub short : lag ≤ 1
+  pub not_before : round.from ≤ place - lag
+  pub xmin_is : xmin ≡ oldest_xmin base.next (take (place - lag) h)
+
 -- a transaction has at most so many levels: itself and 1,000 savepoints
 abbrev pub most_levels : ℕ
 most_levels = 1001
@@ -125,6 +136,7 @@ MayReply base committed h round by s commands.Commit replies.Done = s.levels ≢
 MayReply base committed h round by s commands.Commit (replies.Refused refusals.NoTransaction) = s.levels ≡ []
 MayReply base committed h round by s commands.Abort replies.Done = s.levels ≢ []
 MayReply base committed h round by s commands.Abort (replies.Refused refusals.NoTransaction) = s.levels ≡ []
+MayReply base committed h round by s commands.Horizon (replies.Horizon xmin) = IsHorizon base h round by xmin
 MayReply base committed h round by s (commands.Snap name) (replies.Snapped lists) =
     (snap_of name s ≡ None) × (length s.snaps < 64) × (p : ℕ) × IsTakenAt h by name p × (lists ≡ snapshot_data base.next (take p h))
 MayReply base committed h round by s (commands.Snap name) (replies.Refused refusals.NameTaken) = snap_of name s ≢ None

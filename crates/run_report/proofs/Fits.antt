@@ -84,7 +84,7 @@ history_reply_fits base committed h round by s commands.Commit (replies.Refused 
 history_reply_fits base committed h round by s commands.Abort replies.Done b l p m e = refl
 history_reply_fits base committed h round by s commands.Abort (replies.Refused refusals.NoTransaction) b l p m e = tt
 history_reply_fits base committed h round by s commands.Horizon (replies.Horizon xmin) b l p m e =
-    (refl, subst FitsId (sym m.xmin_is) (oldest_xmin_fits base (take (m.place - m.lag) h) b (legal_take base h (m.place - m.lag) l)))
+    (refl, subst FitsId (sym m.xmin_is) (oldest_xmin_fits base (take m.place h) b (legal_take base h m.place l)))
 history_reply_fits base committed h round by s (commands.Snap name) (replies.Snapped lists) b l p m e = (refl, subst FitsSnap (sym m.4) (snap_fits base (take m.2 h) b (legal_take base h m.2 l)))
 history_reply_fits base committed h round by s (commands.Snap name) (replies.Refused refusals.NameTaken) b l p m e = tt
 history_reply_fits base committed h round by s (commands.Snap name) (replies.Refused refusals.SnapLimit) b l p m e = tt

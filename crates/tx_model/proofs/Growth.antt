@@ -104,10 +104,7 @@ horizon_grows : (base : Counters) (h es : List Event) (r r' : RoundSpan) (by : B
 horizon_grows base h es r r' by xmin f t w o k = record {
   place = k.place;
   read = read_grows h es r r' by k.place f t w o k.read;
-  lag = k.lag;
-  short = k.short;
-  not_before = omega (arith, k.not_before);
-  xmin_is = k.xmin_is ∙ ap (oldest_xmin base.next) (sym (take-append-le (k.place - k.lag) h es (omega (arith, k.read.not_past))));
+  xmin_is = k.xmin_is ∙ ap (oldest_xmin base.next) (sym (take-append-le k.place h es (omega (arith, k.read.not_past))));
 }
 
 -- what may be answered may be answered when the history has grown by events of other commands and the round's place

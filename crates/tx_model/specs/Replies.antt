@@ -103,16 +103,11 @@ pub record IsStopped (base : Counters) (h : List Event) (round : RoundSpan) (by 
   pub stop_is : stop ≡ stop_limit (oldest_id base.oldest (take place h))
   pub reached : stop ≤ next
 
--- This is the oldest xmin at a place of the round that isn't before the one of the session's latest event: at a place
--- where the command may read, or just before the last event there, since what a session publishes is what it found
--- before its own event.
+-- this was the oldest xmin at a place where the command may read
 pub record IsHorizon (base : Counters) (h : List Event) (round : RoundSpan) (by : By) (xmin : ℕ) : Type 0 where
   pub place : ℕ
   pub read : MayReadAt h round by place
-  pub lag : ℕ
-  pub short : lag ≤ 1
-  pub not_before : round.from ≤ place - lag
-  pub xmin_is : xmin ≡ oldest_xmin base.next (take (place - lag) h)
+  pub xmin_is : xmin ≡ oldest_xmin base.next (take place h)
 
 -- a transaction has at most so many levels: itself and 1,000 savepoints
 abbrev pub most_levels : ℕ

@@ -192,10 +192,7 @@ xmin_answer start v w n s xmin a went is =
     let longer = went_longer n v.seen w.seen went in record {
       place = length h;
       read = reads_last (by_at n s.levels.commands) (history v.seen) h longer a.stands.turn;
-      lag = 0;
-      short = omega arith;
-      not_before = omega (arith, longer);
-      xmin_is = is ∙ ap (oldest_xmin start.base.next) (sym (take_all (length h - 0) h (omega arith)));
+      xmin_is = is ∙ ap (oldest_xmin start.base.next) (sym (take_all (length h) h (omega arith)));
     }
 
 -- what a call did that only read

@@ -33,7 +33,7 @@ use Rattle.life_law.specs.Replies.{IsBank, IsLawfulReply}
 use Rattle.report_words.specs.Fits.{FitsBy, FitsId, FitsLock, FitsReply, FitsSnap}
 use Rattle.report_words.specs.Replies.{kind_of}
 use Rattle.report_lines.specs.Fits.{FitsCommand, FitsEvent}
-use Rattle.run_report.proofs.Ids.{IdsFit, IsPlain, all_ids_fit, next_fits, oldest_fits, oldest_same, snap_fits, stop_fits}
+use Rattle.run_report.proofs.Ids.{IdsFit, IsPlain, all_ids_fit, next_fits, oldest_fits, oldest_same, oldest_xmin_fits, snap_fits, stop_fits}
 
 -- ---- replies
 
@@ -89,6 +89,8 @@ history_reply_fits base committed h round by s commands.Commit replies.Done b l 
 history_reply_fits base committed h round by s commands.Commit (replies.Refused refusals.NoTransaction) b l p m e = tt
 history_reply_fits base committed h round by s commands.Abort replies.Done b l p m e = refl
 history_reply_fits base committed h round by s commands.Abort (replies.Refused refusals.NoTransaction) b l p m e = tt
+history_reply_fits base committed h round by s commands.Horizon (replies.Horizon xmin) b l p m e =
+    (refl, subst FitsId (sym m.xmin_is) (oldest_xmin_fits base (take m.place h) b (legal_take base h m.place l)))
 history_reply_fits base committed h round by s (commands.Snap name) (replies.Snapped lists) b l p m e = (refl, subst FitsSnap (sym m.4) (snap_fits base (take m.2 h) b (legal_take base h m.2 l)))
 history_reply_fits base committed h round by s (commands.Snap name) (replies.Refused refusals.NameTaken) b l p m e = tt
 history_reply_fits base committed h round by s (commands.Snap name) (replies.Refused refusals.SnapLimit) b l p m e = tt

@@ -19,6 +19,7 @@ fn has_command(command: &Command) -> bool
         | Command::Undo
         | Command::Commit
         | Command::Abort
+        | Command::Horizon
         | Command::Snap { .. }
         | Command::DropSnap { .. }
         | Command::See { .. }

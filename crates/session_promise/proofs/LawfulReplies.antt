@@ -52,6 +52,7 @@ lacks commands.Save s stage h t = absurd (false≢true t)
 lacks commands.Release s stage h t = absurd (false≢true t)
 lacks commands.Undo s stage h t = absurd (false≢true t)
 lacks commands.Abort s stage h t = absurd (false≢true t)
+lacks commands.Horizon s stage h t = absurd (false≢true t)
 lacks (commands.DropSnap name) s stage h t = absurd (false≢true t)
 lacks (commands.See name x) s stage h t = absurd (false≢true t)
 lacks (commands.Status x) s stage h t = t

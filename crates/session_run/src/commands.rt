@@ -15,7 +15,7 @@ use std::sync::Wait;
 use tx_model::{Command, Refusal, Reply, SnapData};
 use xact_ends::{abort, commit, undo};
 use xact_engine::{begin, drop_snap, release, save, snap};
-use xact_reads::see;
+use xact_reads::{horizon, see};
 use xact_writes::{Wrote, write};
 
 // The reply of a command that says no more than that it is done.
@@ -81,6 +81,9 @@ pub fn run_command<R: Wait, L: LogDisk, P: PageDisk>(
         Command::Undo => done(undo(rt, hall, caller, banks)),
         Command::Commit => done(commit(rt, hall, caller, banks, alloc)),
         Command::Abort => done(abort(rt, hall, caller, banks, alloc)),
+        Command::Horizon => Reply::Horizon {
+            oldest_xmin: horizon(rt, hall, caller),
+        },
         Command::Snap { name } => snapped(snap(rt, hall, caller, name)),
         Command::DropSnap { name } => done(drop_snap(rt, hall, caller, name)),
         Command::See { name, x } => seen(see(rt, hall, caller, banks, name, *x)),

@@ -8,12 +8,12 @@ use Rattle.tx_model.specs.declared.report.Line.{Line}
 use Rattle.tx_events.specs.declared.record.Counters.{Counters}
 use Rattle.tx_events.specs.Events.{by_of, events_of, given}
 use Rattle.tx_model.specs.Stance.{Stance, stance_from, after, nothing_yet}
-use Rattle.tx_model.specs.Replies.{IsFuture, IsGivenAt, IsKnown, IsNearNext, IsNotTooOld, IsStatusOf, IsStopped, IsWarned, MayFindOldest, MayReadAt, MayReply, RoundSpan, seen_id, status_after}
+use Rattle.tx_model.specs.Replies.{IsFuture, IsGivenAt, IsHorizon, IsKnown, IsNearNext, IsNotTooOld, IsStatusOf, IsStopped, IsWarned, MayFindOldest, MayReadAt, MayReply, RoundSpan, seen_id, status_after}
 use Rattle.tx_events.specs.Snapshots.{snapshot_data, snapshot_xmax}
 use Rattle.tx_events.specs.Visible.{is_visible}
 use Rattle.xid_order.specs.Limits.{stop_limit, warn_limit}
 use Rattle.tx_events.specs.History.{next_given}
-use Rattle.tx_events.specs.Horizon.{oldest_id}
+use Rattle.tx_events.specs.Horizon.{oldest_id, oldest_xmin}
 use Rattle.tx_events.specs.IdLists.{has}
 use Rattle.tx_events.specs.Running.{running}
 use Rattle.tx_model.specs.declared.command.Command.{Command}
@@ -142,6 +142,13 @@ near_next_grows base h es r r' by x found f t w o k = record {
   near = ap (λ t. near_id (next_given base.next t) x) (take-append-le k.place h es (omega (arith, k.read.not_past))) ∙ k.near;
 }
 
+horizon_grows : (base : Counters) (h es : List Event) (r r' : RoundSpan) (by : By) (xmin : ℕ) → r'.from ≤ r.from → r.to ≤ r'.to → r.to ≤ length h → AreLater by es → IsHorizon base h r by xmin → IsHorizon base (h ++ es) r' by xmin
+horizon_grows base h es r r' by xmin f t w o k = record {
+  place = k.place;
+  read = read_grows h es r r' by k.place f t w o k.read;
+  xmin_is = k.xmin_is ∙ ap (oldest_xmin base.next) (sym (take-append-le k.place h es (omega (arith, k.read.not_past))));
+}
+
 -- what may be answered may be answered when the history has grown by events of other commands and the round's place
 -- is wider
 pub may_reply_grows : (base : Counters) (committed : List ℕ) (h es : List Event) (r r' : RoundSpan) (by : By) (s : Stance) (command : Command) (reply : Reply) → r'.from ≤ r.from → r.to ≤ r'.to → r.to ≤ length h → AreLater by es → MayReply base committed h r by s command reply → MayReply base committed (h ++ es) r' by s command reply
@@ -161,6 +168,7 @@ may_reply_grows base committed h es r r' by s commands.Commit replies.Done f t w
 may_reply_grows base committed h es r r' by s commands.Commit (replies.Refused refusals.NoTransaction) f t w o m = m
 may_reply_grows base committed h es r r' by s commands.Abort replies.Done f t w o m = m
 may_reply_grows base committed h es r r' by s commands.Abort (replies.Refused refusals.NoTransaction) f t w o m = m
+may_reply_grows base committed h es r r' by s commands.Horizon (replies.Horizon xmin) f t w o m = horizon_grows base h es r r' by xmin f t w o m
 may_reply_grows base committed h es r r' by s (commands.Snap name) (replies.Snapped lists) f t w o m =
     (m.0, m.1, m.2, slice_get-grows h es _ m.2 m.3, m.4 ∙ ap (snapshot_data base.next) (sym (take-grows h es _ m.2 m.3)))
 may_reply_grows base committed h es r r' by s (commands.Snap name) (replies.Refused refusals.NameTaken) f t w o m = m

@@ -16,7 +16,7 @@ use Rattle.tx_events.specs.declared.record.Counters.{Counters}
 use Rattle.tx_events.specs.Events.{by_of, given_by}
 use Rattle.xid_order.specs.Limits.{stop_limit, warn_limit}
 use Rattle.tx_events.specs.History.{next_given}
-use Rattle.tx_events.specs.Horizon.{oldest_id}
+use Rattle.tx_events.specs.Horizon.{oldest_id, oldest_xmin}
 use Rattle.tx_events.specs.IdLists.{has}
 use Rattle.tx_events.specs.Running.{running}
 use Rattle.tx_events.specs.Snapshots.{snapshot_data, snapshot_xmax}
@@ -157,6 +157,12 @@ pub record IsStopped (base : Counters) (h : List Event) (round : RoundSpan) (by 
   pub stop_is : stop ≡ stop_limit (oldest_id base.oldest (take place h))
   pub reached : stop ≤ next
 
+-- this was the oldest xmin at a place where the command may read
+pub record IsHorizon (base : Counters) (h : List Event) (round : RoundSpan) (by : By) (xmin : ℕ) : Type 0 where
+  pub place : ℕ
+  pub read : MayReadAt h round by place
+  pub xmin_is : xmin ≡ oldest_xmin base.next (take place h)
+
 -- a transaction has at most so many levels: itself and 1,000 savepoints
 abbrev pub most_levels : ℕ
 most_levels = 1001
@@ -179,6 +185,7 @@ MayReply base committed h round by s commands.Commit replies.Done = s.levels ≢
 MayReply base committed h round by s commands.Commit (replies.Refused refusals.NoTransaction) = s.levels ≡ []
 MayReply base committed h round by s commands.Abort replies.Done = s.levels ≢ []
 MayReply base committed h round by s commands.Abort (replies.Refused refusals.NoTransaction) = s.levels ≡ []
+MayReply base committed h round by s commands.Horizon (replies.Horizon xmin) = IsHorizon base h round by xmin
 MayReply base committed h round by s (commands.Snap name) (replies.Snapped lists) =
     (snap_of name s ≡ None) × (length s.snaps < 64) × (p : ℕ) × IsTakenAt h by name p × (lists ≡ snapshot_data base.next (take p h))
 MayReply base committed h round by s (commands.Snap name) (replies.Refused refusals.NameTaken) = snap_of name s ≢ None

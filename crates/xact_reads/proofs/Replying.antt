@@ -23,7 +23,7 @@ use Rattle.tx_events.specs.declared.snapshot.SnapData.{SnapData}
 use Rattle.tx_events.specs.Base.{IsBase}
 use Rattle.tx_events.specs.Events.{same_name}
 use Rattle.tx_events.specs.History.{IsLegal}
-use Rattle.tx_events.specs.Horizon.{oldest_id}
+use Rattle.tx_events.specs.Horizon.{oldest_id, oldest_xmin}
 use Rattle.tx_events.specs.Running.{open_ids}
 use Rattle.tx_events.specs.Snapshots.{snapshot_xmax}
 use Rattle.tx_events.specs.Visible.{is_visible}
@@ -38,7 +38,7 @@ use Rattle.tx_model.specs.declared.command.Command.TheVariants as commands
 use Rattle.tx_model.specs.declared.reply.Reply.{Reply}
 use Rattle.tx_model.specs.declared.reply.Reply.TheVariants as replies
 use Rattle.tx_model.specs.CommandEvents.{HasEvents}
-use Rattle.tx_model.specs.Replies.{MayFindOldest, MayReply, alone}
+use Rattle.tx_model.specs.Replies.{IsHorizon, MayFindOldest, MayReply, alone}
 use Rattle.tx_model.specs.Stance.{after, snap_of}
 use Rattle.tx_model.proofs.Growth.{may_reply_grows}
 use Rattle.tx_core.specs.declared.entry.Entry.{Entry}
@@ -184,6 +184,16 @@ seen_answer tells start v u w n s name x k g oldest shown a first second named n
         exact = exact ∙ ap (λ (t : List Event). is_visible start.committed t g.id) (ap (take k.place) (sym others.split) ∙ take-grows h others.rest _ k.place r.0.taken);
       },
     ))
+
+-- a command reads the oldest xmin at the end of what it has seen
+pub xmin_answer : (start : Start) (v w : Knowledge) (n : ℕ) (s : Session) (xmin : ℕ) → IsAt start w n s → WentOn n [] v.seen w.seen → xmin ≡ oldest_xmin start.base.next (history w.seen) → IsHorizon start.base (history w.seen) (alone (history v.seen) (history w.seen)) (by_at n s.levels.commands) xmin
+xmin_answer start v w n s xmin a went is =
+    let h : List Event = history w.seen in
+    let longer = went_longer n v.seen w.seen went in record {
+      place = length h;
+      read = reads_last (by_at n s.levels.commands) (history v.seen) h longer a.stands.turn;
+      xmin_is = is ∙ ap (oldest_xmin start.base.next) (sym (take_all (length h) h (omega arith)));
+    }
 
 -- what a call did that only read
 module _ {H L P : Type 0} {l : logs.Ghosts L} {p : disks.Ghosts P} (hall : Hall H (Part L P l p) Entry Start) where

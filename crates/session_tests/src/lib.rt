@@ -10,6 +10,8 @@ mod round_tests;
 #[cfg(test)]
 mod run_tests;
 #[cfg(test)]
+mod status_tests;
+#[cfg(test)]
 mod stream_tests;
 #[cfg(test)]
 mod test_help;

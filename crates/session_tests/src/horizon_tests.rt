@@ -86,12 +86,14 @@ a horizon
 a drop s
 a horizon
 ",
-        &["
+        &[
+            "
 a 2 horizon -> ok 3
 a 3 drop s -> ok
 a 4 horizon -> ok 4
 history
-"],
+",
+        ],
     )
 }
 

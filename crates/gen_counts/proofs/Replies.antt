@@ -60,6 +60,9 @@ history_ok f round by s (commands.DropSnap name) (replies.Refused refusals.NoSna
 history_ok f round by s (commands.See name x) (replies.Seen visible) w d n m = tt
 history_ok f round by s (commands.See name x) (replies.Refused (refusals.TooOld oldest)) w d n m = absurd (w.no_old round by m.0 name x.number oldest d.1 d.2 m.2)
 history_ok f round by s (commands.See name x) (replies.Refused refusals.NoSnapshot) w d n m = absurd cc
+history_ok f round by s (commands.Status x) reply w d n m = absurd d
+history_ok f round by s (commands.Did x) reply w d n m = absurd d
+history_ok f round by s commands.Horizon reply w d n m = absurd d
 history_ok f round by s c reply w d n m = absurd m
 
 -- a lawful reply that isn't a failure, to a command that may come as the session stands

@@ -135,7 +135,7 @@ snap_fits base h b legal =
     }
 
 -- what each live snapshot holds back
-XminsFit : List LiveSnap → Type 0
+abbrev XminsFit : List LiveSnap → Type 0
 XminsFit snaps = (s : LiveSnap) → Has snaps s → FitsId s.xmin
 
 live_step : (base : Counters) (h : List Event) (e : Event) → IsBase base → IsLegal base h → XminsFit (live_snaps base.next h) → XminsFit (live_up base.next (e ∷ reverse h))

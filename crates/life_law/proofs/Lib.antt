@@ -1,3 +1,4 @@
 pub mod Closed
 pub mod Lawful
 pub mod Worked
+pub mod DidGrowth

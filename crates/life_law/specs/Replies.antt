@@ -1,5 +1,5 @@
 -- Which replies of a life are lawful: those of its history, and those of its devices and of memory.
-use Rattle.std.specs.Prelude.{◌≡◌, ℕ, ◌<◌, Bool, true, false, ◌||◌, IsTrue, Option, None, is_some}
+use Rattle.std.specs.Prelude.{◌≡◌, ℕ, ◌<◌, nat_le, Bool, true, false, ◌||◌, IsTrue, Option, None, is_some}
 use Rattle.tx_events.specs.declared.event.By.{By}
 use Rattle.tx_events.specs.declared.refusal.Lock.{Lock}
 use Rattle.tx_events.specs.declared.refusal.Lock.TheVariants as locks
@@ -9,8 +9,9 @@ use Rattle.tx_model.specs.declared.command.Command.{Command}
 use Rattle.tx_model.specs.declared.command.Command.TheVariants as commands
 use Rattle.tx_model.specs.declared.reply.Reply.{Reply}
 use Rattle.tx_model.specs.declared.reply.Reply.TheVariants as replies
-use Rattle.tx_model.specs.Replies.{MayReply, RoundSpan}
+use Rattle.tx_model.specs.Replies.{IsKnown, MayReply, RoundSpan}
 use Rattle.tx_model.specs.Stance.{Stance, top_level}
+use Rattle.life_law.specs.DidCommit.{IsDid}
 use Rattle.life_law.specs.Facts.{Facts}
 use Rattle.life_law.specs.Refused.{is_commit_pending}
 
@@ -25,6 +26,9 @@ may_ask commands.Undo pending (locks.Xact bank) = true
 may_ask commands.Abort pending (locks.Xact bank) = true
 may_ask (commands.See name x) pending (locks.Xact bank) = true
 may_ask (commands.See name x) pending (locks.Subtrans bank) = true
+may_ask (commands.Status x) pending (locks.Xact bank) = nat_le 3 x
+may_ask (commands.Did x) pending (locks.Xact bank) = nat_le 3 x.number
+may_ask (commands.Did x) pending (locks.Subtrans bank) = nat_le 3 x.number
 may_ask command pending lock = false
 
 -- the lock is that of a bank of a store, which has so many
@@ -45,6 +49,7 @@ abbrev pub may_lack_memory : Command → Stance → Option Refusal → Bool
 may_lack_memory commands.Write s pending = true
 may_lack_memory commands.Commit s pending = is_unrecorded s pending
 may_lack_memory (commands.Snap name) s pending = true
+may_lack_memory (commands.Status x) s pending = nat_le 3 x
 may_lack_memory command s pending = false
 
 -- whether it must append a record, and so may find the log full
@@ -63,7 +68,7 @@ is_told_verdict (commands.See name x) = true
 is_told_verdict command = false
 
 -- The reply that a command may get in a round, of a session that stands so and of which this end is pending. A verdict
--- is told where the volumes told. A log is down behind a fault of its volume that some command was told, and then
+-- is told where the volumes told, and so is how an id stands that doesn't run. A log is down behind a fault of its volume that some command was told, and then
 -- nothing more is flushed. A refusal for an end that is pending goes by how the session stands, and nothing more is
 -- asked of it here.
 abbrev pub IsLawfulReply : Facts → RoundSpan → By → Stance → Option Refusal → Command → Reply → Type 0
@@ -81,4 +86,8 @@ IsLawfulReply f round by s pending command (replies.Refused refusals.UndoPending
 IsLawfulReply f round by s pending command (replies.Seen visible) =
     IsTrue (is_told_verdict command)
     × (IsTrue f.tells → MayReply f.base f.committed f.events round by s command (replies.Seen visible))
+IsLawfulReply f round by s pending (commands.Status x) (replies.Known status) =
+    IsKnown (IsTrue f.tells) f.base f.committed f.events by x status
+IsLawfulReply f round by s pending (commands.Did x) (replies.Did answer) =
+    IsDid (IsTrue f.tells) f.base f.committed f.events f.recs round by x.number answer
 IsLawfulReply f round by s pending command reply = MayReply f.base f.committed f.events round by s command reply

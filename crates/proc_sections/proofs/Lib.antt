@@ -2,3 +2,4 @@ pub mod Making
 pub mod Naming
 pub mod Closing
 pub mod Cutting
+pub mod Questions

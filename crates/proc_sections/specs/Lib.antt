@@ -1,3 +1,4 @@
 pub mod Givings
 pub mod Endings
 pub mod Undos
+pub mod Askings

@@ -19,9 +19,11 @@ fn has_command(command: &Command) -> bool
         | Command::Undo
         | Command::Commit
         | Command::Abort
+        | Command::Horizon
         | Command::Snap { .. }
         | Command::DropSnap { .. }
-        | Command::See { .. } => true,
+        | Command::See { .. }
+        | Command::Status { .. } => true,
         _ => false,
     }
 }

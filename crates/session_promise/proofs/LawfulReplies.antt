@@ -16,8 +16,10 @@ use Rattle.tx_model.specs.declared.report.Line.{Line}
 use Rattle.tx_model.specs.Lines.{is_line_of}
 use Rattle.tx_model.specs.Replies.{RoundSpan}
 use Rattle.tx_model.specs.Stance.{Stance, top_level}
+use Rattle.tx_model.proofs.Growth.{known_less}
 use Rattle.life_law.specs.Commands.{has_command}
 use Rattle.life_law.specs.Facts.{Facts, has_log_fault, is_log_fault}
+use Rattle.life_law.proofs.DidGrowth.{did_less}
 use Rattle.life_law.specs.Replies.{IsBank, IsLawfulReply, may_ask, may_lack_memory, may_need_log, may_append}
 use Rattle.tx_core.specs.declared.entry.Entry.{Entry}
 use Rattle.tx_core.specs.declared.entry.Kind.TheVariants as kinds
@@ -50,8 +52,11 @@ lacks commands.Save s stage h t = absurd (false≢true t)
 lacks commands.Release s stage h t = absurd (false≢true t)
 lacks commands.Undo s stage h t = absurd (false≢true t)
 lacks commands.Abort s stage h t = absurd (false≢true t)
+lacks commands.Horizon s stage h t = absurd (false≢true t)
 lacks (commands.DropSnap name) s stage h t = absurd (false≢true t)
 lacks (commands.See name x) s stage h t = absurd (false≢true t)
+lacks (commands.Status x) s stage h t = t
+lacks (commands.Did x) s stage h t = absurd (false≢true t)
 lacks command s stage h t = absurd (false≢true h)
 
 logs : (command : Command) (s : Stance) (stage : Stage) → IsTrue (has_command command) → IsTrue (flushes command s stage) → IsTrue (may_need_log command s (pending_in stage))
@@ -81,8 +86,9 @@ asks commands.Undo s stage (locks.Xact bank) h t = refl
 asks commands.Abort s stage (locks.Xact bank) h t = refl
 asks (commands.See name x) s stage (locks.Xact bank) h t = refl
 asks (commands.See name x) s stage (locks.Subtrans bank) h t = refl
-asks (commands.Status x) s stage lock h t = absurd (false≢true h)
-asks (commands.Did x) s stage lock h t = absurd (false≢true h)
+asks (commands.Status x) s stage (locks.Xact bank) h t = t
+asks (commands.Did x) s stage (locks.Xact bank) h t = t
+asks (commands.Did x) s stage (locks.Subtrans bank) h t = t
 asks (commands.Multi members) s stage lock h t = absurd (false≢true h)
 asks (commands.SeeMulti name multi) s stage lock h t = absurd (false≢true h)
 asks (commands.MultiFreeze multi) s stage lock h t = absurd (false≢true h)
@@ -151,4 +157,8 @@ module _ (tells : Bool) (start : Start) (lists : List (List Entry)) (rounds : Li
   lawful_reply span by s stage command (replies.Refused refusals.AbortPending) f a = tt
   lawful_reply span by s stage command (replies.Refused refusals.UndoPending) f a = tt
   lawful_reply span by s stage command (replies.Seen visible) f a = (f.1, λ t. a t few)
+  lawful_reply span by s stage (commands.Status x) (replies.Known status) f a =
+      known_less (IsTrue tells × AreFewIds lists) (IsTrue tells) start.base start.committed (history lists) by x status (λ t. (t, few)) a
+  lawful_reply span by s stage (commands.Did x) (replies.Did answer) f a =
+      did_less (IsTrue tells × AreFewIds lists) (IsTrue tells) start.base start.committed (history lists) (start.logged ++ recs_of lists) span by x.number answer (λ t. (t, few)) a
   lawful_reply span by s stage command reply f a = a

@@ -5,3 +5,4 @@ pub mod Showing
 pub mod Going
 pub mod Replying
 pub mod Looking
+pub mod Standing

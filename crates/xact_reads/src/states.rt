@@ -5,7 +5,7 @@ ghost use Rattle.tx_core.specs.Verdict as verdicts;
 ghost use Rattle.engine_parts.specs.Adding.{Adds, MayFault};
 ghost use Rattle.engine_parts.specs.Sessions.{IsReady, by_at};
 ghost use Rattle.engine_parts.specs.Steps.{WentOn};
-ghost use Rattle.xact_reads.specs.Readings.{IsCommittedIn, IsUnread};
+ghost use Rattle.xact_reads.specs.Readings.{IsCommittedIn, IsStateUnread};
 
 use bank_sections::{read_state, stall};
 use disk_core::{LogDisk, PageDisk};
@@ -46,7 +46,7 @@ pub(crate) fn is_committed<R: Wait, L: LogDisk, P: PageDisk>(
         (view caller.old.pass).seen (view caller.new.pass).seen }
     ensures state { IsTrue P.tells → IfOk result (λ committed.
         IsCommittedIn (start_of hall.now) (view caller.new.pass).seen x committed) }
-    ensures unread { IfErr result (λ refusal. IsUnread (start_of hall.now) (view caller.new.pass).seen
+    ensures unread { IfErr result (λ refusal. IsStateUnread (start_of hall.now) (view caller.new.pass).seen
         (by_at caller.old.number caller.old.session.levels.commands) x refusal) }
     ensures same { (caller.new.session ≡ caller.old.session) × (caller.new.number ≡ caller.old.number) }
 {

@@ -7,3 +7,4 @@ pub mod Replying
 pub mod Looking
 pub mod Standing
 pub mod Storing
+pub mod Telling

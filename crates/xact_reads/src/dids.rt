@@ -237,3 +237,77 @@ fn stores_say<R: Wait, L: LogDisk, P: PageDisk>(
         _ => Ok(false),
     }
 }
+
+/// What the stores tell of the full id nearest to the next one that the stored id `x` means: `TooOld` where it is before
+/// the oldest one, or there is none. One that wasn't given hasn't committed.
+fn did_near<R: Wait, L: LogDisk, P: PageDisk>(
+    rt: &R,
+    hall: &Hall<EngineLaw<L, P>>,
+    caller: &mut Caller<L, P>,
+    banks: u32,
+    x: Xid,
+) -> Result<bool, Refusal>
+    requires own { IsOf hall.now caller.old.pass }
+    requires laid { hall.now.cells ≡ 3 + 4 * (start_of hall.now).banks }
+    requires banks { (banks ≡ (start_of hall.now).banks) × (1 ≤ banks) × (banks ≤ 16) }
+    requires ready { IsReady (start_of hall.now) (view caller.old.pass) caller.old.number caller.old.session }
+    requires normal { 3 ≤ x.number }
+    ensures own { IsOf hall.now caller.new.pass }
+    ensures ready { IsReady (start_of hall.now) (view caller.new.pass) caller.new.number caller.new.session }
+    ensures went { WentOn caller.old.number [] (view caller.old.pass).seen (view caller.new.pass).seen }
+    ensures adds { Adds (by_at caller.old.number caller.old.session.levels.commands) (MayFault result)
+        (view caller.old.pass).seen (view caller.new.pass).seen }
+    ensures allowed { MayAnswer P.tells (start_of hall.now) (view caller.new.pass).seen
+        (alone (history (view caller.old.pass).seen) (history (view caller.new.pass).seen))
+        (by_at caller.old.number caller.old.session.levels.commands) (stance_of caller.old.session)
+        caller.old.session.stage (commands.Did x) (reply_of replies.Did result) }
+    ensures standing { by_standing (reply_of replies.Did result) ≡ None }
+    ensures same { (caller.new.session ≡ caller.old.session) × (caller.new.number ≡ caller.old.number) }
+{
+    let found = read_horizons(rt, hall, caller);
+    let Some(id) = near(found.next, x) else {
+        return Err(Refusal::TooOld {
+            oldest: found.oldest,
+        });
+    };
+    if id < found.oldest {
+        return Err(Refusal::TooOld {
+            oldest: found.oldest,
+        });
+    }
+    if id >= found.next {
+        return Ok(false);
+    }
+    match stores_say(rt, hall, caller, banks, found.oldest_xmin, id) {
+        Ok(did) => Ok(did),
+        Err(refusal) => Err(refusal),
+    }
+}
+
+/// Whether the transaction of the stored id `x` has committed, by the stores alone (`TransactionIdDidCommit` of
+/// `src/backend/access/transam/transam.c`): its record may stand before its commit counts. A special id has its fixed
+/// answer; each other one means the full id nearest to the next one. `banks` is the number of banks of each store, 1 to
+/// 16.
+///
+/// Refused with `TooOld` where the id is before the announced oldest id, or there is none, and with `DiskFault` of a bank
+/// of pg_xact or pg_subtrans. Takes no memory. The session has run fewer than 2^48 commands.
+pub fn did<R: Wait, L: LogDisk, P: PageDisk>(
+    rt: &R,
+    hall: &Hall<EngineLaw<L, P>>,
+    caller: &mut Caller<L, P>,
+    banks: u32,
+    x: Xid,
+) -> Result<bool, Refusal>
+    requires { MayRun hall.now banks caller.old }
+    ensures { Ran hall.now (next_command caller.old) (commands.Did x) (reply_of replies.Did result)
+        caller.old caller.new }
+{
+    count(caller);
+    if x.number < 3 {
+        return Ok(x.number != 0);
+    }
+    match did_near(rt, hall, caller, banks, x) {
+        Ok(did) => Ok(did),
+        Err(refusal) => Err(refusal),
+    }
+}

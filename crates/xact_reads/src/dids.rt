@@ -12,12 +12,12 @@ ghost use Rattle.engine_parts.specs.Answers.{MayAnswer, reply_of};
 ghost use Rattle.engine_parts.specs.Calls.{MayRun, Ran, next_command};
 ghost use Rattle.engine_parts.specs.Sessions.{IsReady, by_at, stance_of};
 ghost use Rattle.engine_parts.specs.Steps.{WentOn};
-ghost use Rattle.bank_sections.specs.Reads.{IsStateRead};
 ghost use Rattle.xact_reads.specs.Readings.{IsStateUnread};
 ghost use Rattle.xact_reads.specs.Stores.{IsBelow, IsDidIn, IsDidUnread};
 
 use crate::climbs::below;
-use bank_sections::{read_parent, read_state, stall};
+use crate::states::state_of;
+use bank_sections::{read_parent, read_state};
 use disk_core::{LogDisk, PageDisk};
 use engine_parts::{Caller, EngineLaw, count};
 use hall::Hall;
@@ -29,53 +29,23 @@ use tx_core::State;
 use tx_events::{Lock, Refusal};
 use xid_order::{FullXid, Xid, near};
 
-/// The state of the id that is asked for. Where its page is cut, the oldest id is read once more, which is past the id by
-/// then. Waits for ever where it isn't, which can't be in a life of few ids.
-fn asked_state<R: Wait, L: LogDisk, P: PageDisk>(
-    rt: &R,
-    hall: &Hall<EngineLaw<L, P>>,
-    caller: &mut Caller<L, P>,
-    banks: u32,
-    x: FullXid,
-) -> Result<Option<State>, Refusal>
-    requires own { IsOf hall.now caller.old.pass }
-    requires laid { hall.now.cells ≡ 3 + 4 * (start_of hall.now).banks }
-    requires banks { (banks ≡ (start_of hall.now).banks) × (1 ≤ banks) × (banks ≤ 16) }
-    requires ready { IsReady (start_of hall.now) (view caller.old.pass) caller.old.number caller.old.session }
-    ensures own { IsOf hall.now caller.new.pass }
-    ensures ready { IsReady (start_of hall.now) (view caller.new.pass) caller.new.number caller.new.session }
-    ensures went { WentOn caller.old.number [] (view caller.old.pass).seen (view caller.new.pass).seen }
-    ensures adds { Adds (by_at caller.old.number caller.old.session.levels.commands) (MayFault result)
-        (view caller.old.pass).seen (view caller.new.pass).seen }
-    ensures state { IsTrue P.tells
-        → IfOk result (λ state. IsStateRead (start_of hall.now) (view caller.new.pass).seen x state) }
-    ensures unread { IfErr result (λ refusal. IsStateUnread (start_of hall.now) (view caller.new.pass).seen
-        (by_at caller.old.number caller.old.session.levels.commands) x refusal) }
-    ensures same { (caller.new.session ≡ caller.old.session) × (caller.new.number ≡ caller.old.number) }
-{
-    let bank = bank_of(xact_page(x.low()), banks);
-    match read_state(rt, hall, caller, bank, x) {
-        Ok(state) => Ok(state),
-        Err(BankRefusal::DiskFault) => Err(Refusal::DiskFault {
-            lock: Lock::Xact(bank),
-        }),
-        Err(BankRefusal::Cut { .. }) => {
-            let oldest = read_oldest(rt, hall, caller);
-            if x < oldest {
-                return Err(Refusal::TooOld { oldest });
-            }
-            stall(rt);
-            unreachable!()
-        }
-    }
-}
-
 /// What the stores say of an ancestor of the id that is asked for.
 enum Step {
     /// They decide.
     Ends { committed: bool },
     /// It is sub-committed, and its own parent has to be asked.
     Further { parent: FullXid },
+}
+
+/// What an ancestor's state says.
+fn step_of(state: Option<State>, parent: FullXid) -> Step
+    ensures { IsBelow (parent + 1) result }
+{
+    match state {
+        Some(State::SubCommitted) => Step::Further { parent },
+        Some(State::Committed) => Step::Ends { committed: true },
+        _ => Step::Ends { committed: false },
+    }
 }
 
 /// What an ancestor's state says, where its page isn't cut. Where it is, the transaction ended long ago, and the id that is
@@ -104,9 +74,7 @@ fn ancestor_state<R: Wait, L: LogDisk, P: PageDisk>(
 {
     let bank = bank_of(xact_page(parent.low()), banks);
     match read_state(rt, hall, caller, bank, parent) {
-        Ok(Some(State::SubCommitted)) => Ok(Step::Further { parent }),
-        Ok(Some(State::Committed)) => Ok(Step::Ends { committed: true }),
-        Ok(_) => Ok(Step::Ends { committed: false }),
+        Ok(state) => Ok(step_of(state, parent)),
         Err(BankRefusal::DiskFault) => Err(Refusal::DiskFault {
             lock: Lock::Xact(bank),
         }),
@@ -224,7 +192,7 @@ fn stores_say<R: Wait, L: LogDisk, P: PageDisk>(
         (by_at caller.old.number caller.old.session.levels.commands) x refusal) }
     ensures same { (caller.new.session ≡ caller.old.session) × (caller.new.number ≡ caller.old.number) }
 {
-    let state = match asked_state(rt, hall, caller, banks, x) {
+    let state = match state_of(rt, hall, caller, banks, x) {
         Ok(state) => state,
         Err(refusal) => return Err(refusal),
     };

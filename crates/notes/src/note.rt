@@ -43,3 +43,5 @@ impl<T> Drop for Note<T> {
 }
 
 unsafe impl<T> Send for Note<T> {}
+
+unsafe impl<T> Sync for Note<T> {}

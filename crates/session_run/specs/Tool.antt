@@ -59,6 +59,12 @@ TellsRefusal refusal (endings.Damaged text) = (at : ℕ) × (text.items ≡ dama
 TellsRefusal refusal endings.Full = refusal ≡ no_lives.Full
 TellsRefusal refusal endings.OldLog = refusal ≡ no_lives.OldLog
 
+-- the source gave no script
+abbrev pub IsUnread : Ending → Type 0
+IsUnread (endings.NoScript text) = Unit {0}
+IsUnread endings.ReadFault = Unit {0}
+IsUnread ending = ⊥
+
 -- the other lines that end a run without a report
 abbrev pub last_lines : List (List ℕ)
 last_lines =

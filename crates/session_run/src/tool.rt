@@ -5,7 +5,7 @@ ghost use Rattle.tx_io.specs.Causes.{Rose};
 ghost use Rattle.engine_life.specs.declared.refusal.NoLife.TheVariants as no_lives;
 ghost use Rattle.engine_life.specs.Refusals.{HasDeviceFailed};
 ghost use Rattle.run_law.specs.Tool.{IsRefused, IsRun, IsWholeRun, ReadsUpTo, most_read};
-ghost use Rattle.session_run.specs.Tool.{Ends, HoldsFront, IsUnrun, TellsRefusal, damage_text, unread_by};
+ghost use Rattle.session_run.specs.Tool.{Ends, HoldsFront, IsUnread, IsUnrun, TellsRefusal, damage_text, unread_by};
 
 use crate::run::run_script;
 use disk_core::Media;
@@ -109,6 +109,7 @@ where
     ensures later { S.faults source.old ≤ S.faults source.new }
     ensures amount { ReadsUpTo most_read (S.left source.old) (S.left source.new) }
     ensures idle { IsTrue (M.is_idle media.new) }
+    ensures unmounted { IsUnread result → media.new ≡ media.old }
     ensures count { M.faults media.old ≤ M.faults media.new }
 {
     let script = match take_script(alloc, source) {
@@ -193,6 +194,7 @@ where
     ensures amount { ReadsUpTo most_read (S.left source.old) (S.left source.new) }
     ensures untouched { (IsRun (map string_bytes words.now) → ⊥) → source.new ≡ source.old }
     ensures unused { (IsRun (map string_bytes words.now) → ⊥) → media.new ≡ media.old }
+    ensures unmounted { (result ≡ 1) ⊎ (result ≡ 3) → media.new ≡ media.old }
     ensures rested { IsTrue (M.is_idle media.new) }
 
     // And the line that it then writes.

@@ -120,7 +120,7 @@ end
 }
 
 #[test]
-fn id_below_the_oldest_is_too_old(rt: HostRuntime) -> Result<(), Fail> {
+fn status_below_the_oldest_is_too_old(rt: HostRuntime) -> Result<(), Fail> {
     check_report(
         &rt,
         ".start 9

@@ -1,0 +1,286 @@
+//! Runs over a bank's volume that passes so many calls, and then fails each.
+use crate::run_help::run_fused;
+use disk_core::Which;
+use std::alloc::{AllocGlobal, Global};
+use std::process::Abort;
+use std::sync::Wait;
+use std::test::Fail;
+use std::thread::Threads;
+
+/// Runs the script over this bank with ever more calls. What the first runs write has the first of these texts,
+/// what the next ones write the next, and so on. The first text is that of runs in which no life is opened.
+fn check_ways(
+    rt: &(impl Abort + AllocGlobal + Threads + Wait + Sync),
+    script: &str,
+    at: Which,
+    most: u64,
+    texts: &[&str],
+) -> Result<(), Fail> {
+    let mut texts = texts.iter();
+    let mut text = *texts.next().ok_or("no text")?;
+    let mut opened = false;
+    for passes in 0..most {
+        let (status, written) = run_fused(rt, script, at, passes, 1)?;
+        if !written.contains(text) {
+            text = *texts.next().ok_or("another text")?;
+            opened = true;
+        }
+        assert!(rt; written.contains(text), "{passes} calls: {written}");
+        assert_eq!(rt; status, if opened { 0 } else { 5 }, "{passes} calls");
+    }
+    assert_eq!(rt; texts.next(), None);
+    Ok(())
+}
+
+/// The record is on disk then.
+#[test]
+fn a_fault_of_pg_xact_leaves_the_commit_pending(rt: HostRuntime) -> Result<(), Fail> {
+    check_ways(
+        &rt,
+        "a begin
+a write
+a commit
+a save
+a commit
+a abort
+.round
+b snap t
+b see t 3
+",
+        Which::Xact(0),
+        8,
+        &[
+            "device\n",
+            "
+a 3 commit -> disk-fault xact 0
+a 4 save -> commit-pending
+a 5 commit -> disk-fault xact 0
+a 6 abort -> commit-pending
+round 2
+b 1 snap t -> ok xmin 3 xmax 3 xip - sub - overflow no
+b 2 see t 3 -> hidden
+history
+id a 2 3
+snap b 1 t
+multis
+log flushed 2 end 80
+0 checkpoint next 3 oldest 3 multi 1 offset 1 oldest-multi 1 oldest-offset 1
+1 commit 3
+end
+",
+            "
+a 3 commit -> ok
+a 4 save -> no-transaction
+a 5 commit -> no-transaction
+a 6 abort -> no-transaction
+round 2
+b 1 snap t -> ok xmin 4 xmax 4 xip - sub - overflow no
+b 2 see t 3 -> visible
+history
+id a 2 3
+commit a 3 3
+snap b 1 t
+multis
+log flushed 2 end 80
+0 checkpoint next 3 oldest 3 multi 1 offset 1 oldest-multi 1 oldest-offset 1
+1 commit 3
+end
+",
+        ],
+    )
+}
+
+/// An abort takes the place of an undo that is pending; an abort that is pending has its record.
+#[test]
+fn a_fault_of_pg_xact_leaves_an_undo_and_an_abort_pending(rt: HostRuntime) -> Result<(), Fail> {
+    check_ways(
+        &rt,
+        "a begin
+a write
+a save
+a write
+a undo
+a write
+a commit
+a undo
+a abort
+a undo
+a commit
+a abort
+",
+        Which::Xact(0),
+        8,
+        &[
+            "device\n",
+            "
+a 5 undo -> disk-fault xact 0
+a 6 write -> undo-pending
+a 7 commit -> undo-pending
+a 8 undo -> disk-fault xact 0
+a 9 abort -> disk-fault xact 0
+a 10 undo -> abort-pending
+a 11 commit -> abort-pending
+a 12 abort -> disk-fault xact 0
+history
+id a 2 3
+sub a 4 3 4
+multis
+log flushed 1 end 62
+0 checkpoint next 3 oldest 3 multi 1 offset 1 oldest-multi 1 oldest-offset 1
+1 abort 3 4
+end
+",
+            "
+a 5 undo -> ok
+a 6 write -> ok -
+a 7 commit -> ok
+a 8 undo -> no-savepoint
+a 9 abort -> no-transaction
+a 10 undo -> no-savepoint
+a 11 commit -> no-transaction
+a 12 abort -> no-transaction
+history
+id a 2 3
+sub a 4 3 4
+undo a 5 4
+commit a 7 3
+multis
+log flushed 2 end 80
+0 checkpoint next 3 oldest 3 multi 1 offset 1 oldest-multi 1 oldest-offset 1
+1 commit 3
+end
+",
+        ],
+    )
+}
+
+/// An id whose parent isn't recorded was given, and stays so; a commit records it first. An abort needs no parent.
+#[test]
+fn a_fault_of_pg_subtrans_leaves_no_end_pending(rt: HostRuntime) -> Result<(), Fail> {
+    check_ways(
+        &rt,
+        "a begin
+a save
+a write
+a write
+a commit
+a save
+a abort
+",
+        Which::Subtrans(0),
+        8,
+        &[
+            "device\n",
+            "
+a 3 write -> disk-fault subtrans 0
+a 4 write -> disk-fault subtrans 0
+a 5 commit -> disk-fault subtrans 0
+a 6 save -> ok
+a 7 abort -> ok
+history
+id a 3 3
+sub a 3 3 4
+abort a 7 3
+multis
+log flushed 1 end 62
+0 checkpoint next 3 oldest 3 multi 1 offset 1 oldest-multi 1 oldest-offset 1
+1 abort 3 4
+end
+",
+            "
+a 3 write -> ok 3 4
+a 4 write -> ok -
+a 5 commit -> ok
+a 6 save -> no-transaction
+a 7 abort -> no-transaction
+history
+id a 3 3
+sub a 3 3 4
+commit a 5 3
+multis
+log flushed 2 end 88
+0 checkpoint next 3 oldest 3 multi 1 offset 1 oldest-multi 1 oldest-offset 1
+1 commit 3 4
+end
+",
+        ],
+    )
+}
+
+/// A commit, looks at one id of each of seventeen other pages, and then one at the id that committed.
+fn commit_and_looks(alloc: Global) -> Result<String, Fail> {
+    let mut script = String::from_str(
+        alloc,
+        ".banks 1\n.start 1048570\na begin\na write\na commit\na snap s\n",
+    )?;
+    for page in 0..17u32 {
+        let look = format!(in alloc; "a see s {}\n", page * 32768 + 3)?;
+        script.push_str(look.as_str())?;
+    }
+    script.push_str("a see s 1048570\n")?;
+    Ok(script)
+}
+
+/// A bank has sixteen buffers, so the state is written to the volume for a page that is looked at, and is read again. It
+/// is found, or the look is refused. With few calls the other looks are refused, and the state is in its buffer.
+#[test]
+fn a_state_that_left_its_buffer_is_read_again_or_refused(rt: HostRuntime) -> Result<(), Fail> {
+    let script = commit_and_looks(rt.alloc())?;
+    check_ways(
+        &rt,
+        script.as_str(),
+        Which::Xact(0),
+        64,
+        &[
+            "device\n",
+            "\na 3 commit -> disk-fault xact 0\na 4 snap s -> ok xmin 1048570 xmax 1048570 ",
+            "\na 22 see s 1048570 -> visible\nhistory\n",
+            "\na 22 see s 1048570 -> disk-fault xact 0\nhistory\n",
+            "\na 22 see s 1048570 -> visible\nhistory\n",
+        ],
+    )
+}
+
+/// Thirty-three transactions of 1,000 savepoints each, all but the last committed; then a write and a commit more.
+fn many_subtransactions(alloc: Global) -> Result<String, Fail> {
+    let mut script = String::from_str(alloc, ".banks 1\n")?;
+    for transaction in 0..33 {
+        if transaction > 0 {
+            script.push_str("a commit\n")?;
+        }
+        script.push_str("a begin\n")?;
+        for _ in 0..1000 {
+            script.push_str("a save\n")?;
+        }
+        script.push_str("a write\n")?;
+    }
+    script.push_str("a write\na commit\n")?;
+    Ok(script)
+}
+
+/// A page of pg_subtrans has the parents of 2,048 ids, so that of 32,768 is the seventeenth, and one that was changed must
+/// be written for it. One call passes at the opening, and one reads the first page. The write keeps the ids that it gave,
+/// and the commit names them.
+#[test]
+fn a_fault_of_pg_subtrans_stops_a_write_halfway(rt: HostRuntime) -> Result<(), Fail> {
+    let script = many_subtransactions(rt.alloc())?;
+    let (status, report) = run_fused(&rt, script.as_str(), Which::Subtrans(0), 2, 1)?;
+    assert_eq!(rt; status, 0);
+    for part in [
+        "
+a 33098 write -> disk-fault subtrans 0
+a 33099 write -> disk-fault subtrans 0
+a 33100 commit -> ok
+history
+",
+        "
+sub a 33098 32765 32766
+sub a 33098 32766 32767
+commit a 33100 32035
+multis
+log flushed 34 end ",
+    ] {
+        assert!(rt; report.contains(part), "{part}");
+    }
+    Ok(())
+}

@@ -1,0 +1,16 @@
+//! Tests of the tool over medias: devices that fail, logs that aren't new, any number of banks, and rounds on threads. What
+//! they expect is worked out by hand from docs/SCRIPT-AND-REPORT.md, docs/LOG.md and docs/PAGES.md.
+#![tactic(auto)]
+
+#[cfg(test)]
+mod bank_fault_tests;
+#[cfg(test)]
+mod bank_tests;
+#[cfg(test)]
+mod device_tests;
+#[cfg(test)]
+mod log_tests;
+#[cfg(test)]
+mod run_help;
+#[cfg(test)]
+mod thread_tests;

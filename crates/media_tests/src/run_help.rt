@@ -1,0 +1,80 @@
+//! Runs of the tool on a script in memory, over a media of the test's.
+ghost use Rattle.std.specs.Prelude.{IsTrue};
+
+use disk_core::{Media, MemMedia, Which};
+use disk_fuse::Fuse;
+use session_run::run_tool;
+use std::alloc::AllocGlobal;
+use std::sync::Wait;
+use std::test::Fail;
+use std::thread::Threads;
+use tx_io::{MemSink, MemSource, Sink, Source};
+
+/// The tool over a media, without its contract, so that a test proves no more than that it is safe. The sessions of a
+/// round share at most so many threads.
+fn status_over<R: AllocGlobal + Threads + Wait + Sync, S: Source, K: Sink, M: Media>(
+    rt: &R,
+    words: &[String],
+    source: &mut S,
+    sink: &mut K,
+    media: &mut M,
+    threads: usize,
+) -> u8
+where
+    M::Log: Sync,
+    M::Pages: Sync,
+    requires idle { IsTrue (M.is_idle media.old) }
+    requires new { IsTrue (M.is_new media.old) }
+{
+    run_tool(rt, rt.alloc(), words, source, sink, media, threads)
+}
+
+/// Runs a script over a media, the sessions of a round on at most so many threads. Answers the status and what was
+/// written.
+pub fn run_over<M: Media>(
+    rt: &(impl AllocGlobal + Threads + Wait + Sync),
+    script: &str,
+    media: &mut M,
+    threads: usize,
+) -> Result<(u8, String), Fail>
+where
+    M::Log: Sync,
+    M::Pages: Sync,
+    requires idle { IsTrue (M.is_idle media.old) }
+    requires new { IsTrue (M.is_new media.old) }
+{
+    let alloc = rt.alloc();
+    let bytes = Vec::from_slice(alloc, script.as_bytes())?;
+    let mut source = MemSource::new(bytes, Vec::new(alloc));
+    let mut sink = MemSink::new(alloc, 4_000_000, Vec::new(alloc))?;
+    let words = [String::from_str(alloc, "run")?];
+    let status = status_over(rt, &words, &mut source, &mut sink, media, threads);
+    let held = Vec::from_slice(alloc, sink.held())?;
+    Ok((
+        status,
+        String::from_utf8(held).ok().ok_or("no text was written")?,
+    ))
+}
+
+/// Runs a script over a new media in memory.
+pub fn run_new(
+    rt: &(impl AllocGlobal + Threads + Wait + Sync),
+    script: &str,
+    threads: usize,
+) -> Result<(u8, String), Fail> {
+    let mut media = MemMedia::new(rt.alloc());
+    run_over(rt, script, &mut media, threads)
+}
+
+/// Runs a script over a media of which this volume passes so many calls.
+pub fn run_fused(
+    rt: &(impl AllocGlobal + Threads + Wait + Sync),
+    script: &str,
+    at: Which,
+    passes: u64,
+    threads: usize,
+) -> Result<(u8, String), Fail> {
+    let alloc = rt.alloc();
+    let mut media = Fuse::new(alloc, MemMedia::new(alloc), at, passes);
+    run_over(rt, script, &mut media, threads)
+}

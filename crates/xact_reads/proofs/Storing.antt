@@ -1,5 +1,5 @@
 -- What the states tell of an id that is asked for by the stores alone.
-use Rattle.std.proofs.Common.{Bool, Contains, true, false, ◌≡◌, ◌==◌, ⊎_elim, ◌⊎◌, inl, inr, ℕ, ◌<◌, ◌≤◌, List, [], ◌++◌, None, Some, Option, length, take, refl, sym, ap, subst, ◌∙◌, arith}
+use Rattle.std.proofs.Common.{Bool, Contains, true, false, ◌≡◌, ◌==◌, ⊎_elim, ◌⊎◌, inl, inr, ℕ, ◌+◌, ◌<◌, ◌≤◌, List, [], ◌++◌, None, Some, Option, length, take, refl, sym, ap, subst, ◌∙◌, arith}
 use Rattle.std.proofs.lemmas.Bool.{eqb-true, false≢true, false_from_ne_true}
 use Rattle.std.proofs.Math.Seq.{take-append_seam}
 use Rattle.std.specs.List.{filter_map, list_any}
@@ -21,6 +21,7 @@ use Rattle.tx_events.proofs.SnapshotBounds.{given_from}
 use Rattle.tx_events.proofs.Visibility.{among_has, has_among, lives, never_given, open_hidden, visible_new}
 use Rattle.proc_table.proofs.Bounds.{full_from}
 use Rattle.life_law.specs.DidCommit.{IsRecorded}
+use Rattle.life_law.proofs.DidGrowth.{recorded_wider}
 use Rattle.tx_core.specs.declared.entry.Entry.{Entry}
 use Rattle.tx_core.specs.declared.entry.Start.{Start}
 use Rattle.tx_core.specs.declared.entry.State.{State}
@@ -35,6 +36,10 @@ use Rattle.tx_core.proofs.Asking.{logged_of, upheld_has}
 use Rattle.tx_core.proofs.Lasting.{history_grows}
 use Rattle.tx_core.proofs.Reading.{last_has, state_from}
 use Rattle.engine_parts.specs.Stand.{IsInUse}
+use Rattle.engine_parts.proofs.Answering.{logged_before}
+use Rattle.xact_reads.specs.declared.dids.Step.{Step}
+use Rattle.xact_reads.specs.declared.dids.Step.TheVariants as steps
+use Rattle.xact_reads.specs.Stores.{DidAsTold, IsBelow}
 use Rattle.xact_reads.proofs.Standing.{ended_decides}
 
 -- a state of an id that has committed, or may yet
@@ -130,3 +135,36 @@ uncommitted_before start lists more shown x j k grows clean used few off =
     let shut = visible_shut start h x normal j.events.legal clean.before seen in
     let exact = ended_decides start more shown (length h) x k clean used.0 used.1 few (subst (λ (t : List Event). x < next_given start.base.next t) (sym front) new) (ap (λ (t : List Event). has (running t) x) front ∙ shut) in
     false≢true (sym off ∙ (exact ∙ (ap (λ (t : List Event). is_visible start.committed t x) front ∙ seen))))
+
+-- ---- what a call may answer by the state of the id
+
+-- that it reads so
+abbrev pub ReadsAs : Start → List (List Entry) → ℕ → Option State → Type 0
+ReadsAs start lists x state = (shown : ℕ → Option State) × CleanStart start shown × (state ≡ state_read shown (marks (at lists (xact_lock_of start x))) x)
+
+module _ (start : Start) (before lists more : List (List Entry)) (x : ℕ) (state : Option State) (j : EngineInvariant start before) (k : EngineInvariant start lists) (first : Grows before lists) (second : Grows lists more) (used : IsInUse start x) (few : AreFewIds lists) (reads : ReadsAs start lists x state) where
+  -- a commit record names it, in the lists that went on
+  recorded_on : (s : State) → IsOfCommit s → state ≡ Some s → Contains start.committed x ⊎ IsRecorded (start.logged ++ recs_in (at more log_lock)) x
+  recorded_on s is e =
+      ⊎_elim inl (λ r. inr (recorded_wider (start.logged ++ recs_in (at lists log_lock)) (start.logged ++ recs_in (at more log_lock)) x (logged_before start lists more second) r))
+      (read_recorded start lists reads.0 x s k reads.1 used is (sym reads.2 ∙ e))
+
+  hidden_before : is_committed state ≡ false → is_visible start.committed (history before) x ≡ false
+  hidden_before off = uncommitted_before start before lists reads.0 x j k first reads.1 used few (ap is_committed (sym reads.2) ∙ off)
+
+  -- yes of one that is committed
+  pub did_yes : state ≡ Some states.Committed → DidAsTold start before more x true
+  did_yes e = record { for_yes = λ _. recorded_on states.Committed tt e; for_no = λ q. absurd (false≢true (sym q)) }
+
+  -- either answer of one that is sub-committed
+  pub did_either : (answer : Bool) → state ≡ Some states.SubCommitted → DidAsTold start before more x answer
+  did_either answer e = record { for_yes = λ _. recorded_on states.SubCommitted tt e; for_no = λ _. hidden_before (ap is_committed e) }
+
+  -- no of any other one
+  pub did_no : is_committed state ≡ false → DidAsTold start before more x false
+  did_no off = record { for_yes = λ q. absurd (false≢true q); for_no = λ _. hidden_before off }
+
+-- an ancestor of a parent that is below its child
+pub below_less : (x y : ℕ) (step : Step) → y < x → IsBelow (y + 1) step → IsBelow x step
+below_less x y (steps.Ends committed) less b = tt
+below_less x y (steps.Further parent) less b = omega arith

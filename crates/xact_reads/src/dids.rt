@@ -30,7 +30,8 @@ use tx_events::{Lock, Refusal};
 use xid_order::{FullXid, Xid, near};
 
 /// What the stores say of an ancestor of the id that is asked for.
-enum Step {
+#[derive(Clone, Copy)]
+pub(crate) enum Step {
     /// They decide.
     Ends { committed: bool },
     /// It is sub-committed, and its own parent has to be asked.

@@ -1,5 +1,5 @@
 -- A write on its way, and what it did when it is done or refused.
-use Rattle.std.proofs.Common.{◌≡◌, ◌≢◌, ◌↔◌, ℕ, ◌+◌, ◌≤◌, ◌<◌, ◌==◌, List, [], ◌∷◌, ◌++◌, Option, None, Bool, false, IsTrue, ◌||◌, inr, ⊎_elim, refl, sym, ap, subst, ◌∙◌, append-nil, append_assoc, arith, length, map, eq-eqb, ne_eqb, zero, suc, is_none}
+use Rattle.std.proofs.Common.{◌≡◌, ◌≢◌, ◌↔◌, ℕ, ◌+◌, ◌≤◌, ◌<◌, ◌==◌, List, [], ◌∷◌, ◌++◌, Option, None, Bool, false, IsTrue, ◌||◌, inl, inr, ⊎_elim, refl, sym, ap, subst, ◌∙◌, append-nil, append_assoc, arith, length, map, eq-eqb, ne_eqb, zero, suc, is_none}
 use Rattle.std.specs.List.{AllByRecursion, filter, list_any}
 use Rattle.notes.proofs.Growing.{begins_length}
 use Rattle.tx_events.specs.declared.event.By.{By}

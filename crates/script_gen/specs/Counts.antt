@@ -1,0 +1,74 @@
+-- What the summary of a run counts, and what it counts in the script.
+use Rattle.std.specs.Prelude.{ℕ, Bool, true, false, List, [], ◌∷◌, ◌++◌, codes, length}
+use Rattle.std.specs.Fmt.{decimal}
+use Rattle.std.specs.List.{filter, flat_map}
+use Rattle.tx_events.specs.declared.event.Event.{Event}
+use Rattle.tx_events.specs.declared.event.Event.TheVariants as events
+use Rattle.tx_model.specs.declared.reply.Reply.{Reply}
+use Rattle.tx_model.specs.declared.reply.Reply.TheVariants as replies
+use Rattle.tx_model.specs.declared.report.LifeReport.{LifeReport}
+use Rattle.tx_model.specs.declared.report.Line.{Line}
+use Rattle.tx_model.specs.Rounds.{lines_in}
+use Rattle.report_text.specs.Words.{line_text}
+use Rattle.script_gen.specs.declared.summary.Summary.{Summary}
+
+-- ---- of a report
+
+abbrev pub gives_id : Event → Bool
+gives_id (events.Id by id) = true
+gives_id (events.Sub by parent id) = true
+gives_id event = false
+
+abbrev pub is_undo : Event → Bool
+is_undo (events.Undo by id) = true
+is_undo event = false
+
+abbrev pub is_commit : Event → Bool
+is_commit (events.Commit by top) = true
+is_commit event = false
+
+abbrev pub is_abort : Event → Bool
+is_abort (events.Abort by top) = true
+is_abort event = false
+
+abbrev pub is_snap : Event → Bool
+is_snap (events.Snap by name) = true
+is_snap event = false
+
+abbrev pub how_many : {X : Type 0} → (X → Bool) → List X → ℕ
+how_many test all = length (filter test all)
+
+-- of a history, and of so many commands of which so many were answered a verdict
+abbrev pub summary_by : List Event → ℕ → ℕ → Summary
+summary_by history commands sees = record {
+  commands = commands;
+  ids = how_many gives_id history;
+  undone = how_many is_undo history;
+  commits = how_many is_commit history;
+  aborts = how_many is_abort history;
+  snaps = how_many is_snap history;
+  sees = sees;
+}
+
+-- `visible` or `hidden`
+abbrev pub is_verdict : Reply → Bool
+is_verdict (replies.Seen visible) = true
+is_verdict reply = false
+
+abbrev pub summary_of_lines : List Event → List Line → Summary
+summary_of_lines history lines = summary_by history (length lines) (how_many (λ l. is_verdict l.reply) lines)
+
+abbrev pub life_summary : LifeReport → Summary
+life_summary r = summary_of_lines r.life.events (flat_map lines_in r.steps)
+
+-- the line that tells it
+abbrev pub first_counts : Summary → List (List ℕ)
+first_counts s = decimal s.commands ∷ codes "ids" ∷ decimal s.ids ∷ codes "undone" ∷ decimal s.undone ∷ []
+
+abbrev pub last_counts : Summary → List (List ℕ)
+last_counts s =
+    codes "commits" ∷ decimal s.commits ∷ codes "aborts" ∷ decimal s.aborts ∷ codes "snaps" ∷ decimal s.snaps
+    ∷ codes "sees" ∷ decimal s.sees ∷ []
+
+unfoldable pub summary_text : Summary → List ℕ
+summary_text s = line_text (codes "commands" ∷ (first_counts s ++ last_counts s))

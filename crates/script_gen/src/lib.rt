@@ -1,0 +1,13 @@
+//! The scripts of `gen SEED SIZE`, and the summary of what a run of one did (docs/SCRIPT-AND-REPORT.md).
+#![tactic(auto)]
+
+mod draws;
+mod generator;
+pub mod laws;
+mod summary;
+#[cfg(test)]
+mod tests;
+mod writer;
+
+pub use generator::generate;
+pub use summary::Summary;

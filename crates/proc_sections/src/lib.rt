@@ -6,6 +6,7 @@
 mod asking;
 mod ending;
 mod giving;
+mod horizons;
 mod looking;
 mod telling;
 mod undoing;
@@ -13,6 +14,7 @@ mod undoing;
 pub use asking::ask_status;
 pub use ending::end_transaction;
 pub use giving::give_id;
+pub use horizons::{Horizons, read_horizons};
 pub use looking::{read_oldest, read_oldest_xmin};
 pub use telling::tell_made;
 pub use undoing::{place_of, undo_savepoint};

@@ -1,0 +1,2 @@
+pub mod Homing
+pub mod Showing

@@ -27,7 +27,7 @@ use Rattle.engine_parts.specs.Sessions.{IsAt, by_at, stance_of}
 use Rattle.life_law.specs.Refused.{by_standing, refused_by}
 use Rattle.engine_parts.proofs.Adding.{adds_nothing, event_plain, plain_leaves, section_added}
 use Rattle.engine_parts.proofs.Going.{own_events}
-use Rattle.engine_parts.proofs.Refusing.{refused_leaves}
+use Rattle.engine_parts.proofs.Refusing.{refused_events, refused_leaves}
 use Rattle.engine_parts.specs.Stages.{pending_in}
 use Rattle.engine_parts.proofs.Leaving.{Added, event_added, grown_left, grows_then, history_same}
 
@@ -87,8 +87,8 @@ acted_nothing {tells = tells} start lists lists' n number s s' stage command rep
     })
 
 -- with none, and refused
-pub acted_refused : {tells : Bool} (start : Start) (lists lists' : List (List Entry)) (n number : ℕ) (s s' : Stance) (stage : Stage) (command : Command) (r : Refusal) → lists' ≡ lists → s' ≡ s → HasEvents (by_at n number) s command (replies.Refused r) []
+pub acted_refused : {tells : Bool} (start : Start) (lists lists' : List (List Entry)) (n number : ℕ) (s s' : Stance) (stage : Stage) (command : Command) (r : Refusal) → lists' ≡ lists → s' ≡ s
     → MayAnswer tells start lists (alone (history lists) (history lists)) (by_at n number) s stage command (replies.Refused r) → by_standing (replies.Refused r) ≡ refused_by command s (pending_in stage) → Acted tells start (by_at n number) s s' stage command (replies.Refused r) lists lists'
-acted_refused {tells = tells} start lists lists' n number s s' stage command r same stays fitting allowed standing =
-    acted_nothing {tells = tells} start lists lists' n number s s' stage command (replies.Refused r) same fitting allowed standing
+acted_refused {tells = tells} start lists lists' n number s s' stage command r same stays allowed standing =
+    acted_nothing {tells = tells} start lists lists' n number s s' stage command (replies.Refused r) same (refused_events (by_at n number) s command r) allowed standing
     (refused_leaves s number command r ∙ sym stays)

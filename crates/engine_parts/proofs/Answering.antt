@@ -1,28 +1,23 @@
 -- What a call promised stays true while lists grow, so it holds of the final lists.
-use Rattle.std.proofs.Common.{ℕ, ◌+◌, ◌<◌, ◌≤◌, ◌≡◌, List, ◌∷◌, ◌++◌, Contains, IsTrue, length, map, append_assoc, length-append, arith, sym, ap, subst, ◌∙◌}
-use Rattle.std.proofs.lemmas.List.{map-append}
+use Rattle.std.proofs.Common.{ℕ, ◌+◌, ◌<◌, ◌≤◌, ◌≡◌, List, ◌∷◌, ◌++◌, length, append_assoc, length-append, arith, sym, ap, subst, ◌∙◌}
 use Rattle.std.specs.List.{AllByRecursion}
 use Rattle.std.proofs.lemmas.List.Elements.{filter_map-append}
 use Rattle.notes.specs.Lists.{Grows, at}
 use Rattle.tx_core.proofs.Growing.{contains_begins}
 use Rattle.tx_events.specs.declared.event.By.{By}
 use Rattle.tx_events.specs.declared.event.Event.{Event}
-use Rattle.tx_events.specs.declared.record.Rec.{Rec}
 use Rattle.tx_events.specs.declared.refusal.Refusal.TheVariants as refusals
 use Rattle.tx_events.specs.Events.{by_of, given, given_by}
 use Rattle.tx_model.specs.declared.command.Command.{Command}
-use Rattle.tx_model.specs.declared.command.Command.TheVariants as commands
 use Rattle.tx_model.specs.declared.reply.Reply.{Reply}
 use Rattle.tx_model.specs.declared.reply.Reply.TheVariants as replies
-use Rattle.tx_model.specs.Replies.{IsKnown, MayReply, RoundSpan}
+use Rattle.tx_model.specs.Replies.{MayReply, RoundSpan}
 use Rattle.tx_model.specs.Stance.{Stance}
-use Rattle.tx_model.proofs.Growth.{known_grows, known_less, may_reply_grows}
-use Rattle.life_law.specs.DidCommit.{IsDid}
-use Rattle.life_law.proofs.DidGrowth.{did_grows}
+use Rattle.tx_model.proofs.Growth.{may_reply_grows}
 use Rattle.tx_core.specs.declared.entry.Entry.{Entry}
 use Rattle.tx_core.specs.declared.entry.Kind.TheVariants as kinds
 use Rattle.tx_core.specs.declared.entry.Start.{Start}
-use Rattle.tx_core.specs.Entries.{AreFewIds, appended, history, records_in, recs_in}
+use Rattle.tx_core.specs.Entries.{history, AreFewIds}
 use Rattle.tx_core.specs.Locks.{log_lock, number_of}
 use Rattle.tx_core.proofs.Lasting.{history_grows}
 use Rattle.engine_parts.specs.Answers.{AnswersStay, IsCommitPending, MetFault, MetLogFault}
@@ -83,17 +78,6 @@ few_before lists more g few =
     let below : length (given (history more)) < 2900000 = few in
     omega arith
 
--- the records stay
-pub logged_before : (start : Start) (lists more : List (List Entry)) → Grows lists more → (rec : Rec) → Contains (start.logged ++ recs_in (at lists log_lock)) rec → Contains (start.logged ++ recs_in (at more log_lock)) rec
-logged_before start lists more g rec c =
-    let b = g.begins log_lock in
-    let split : recs_in (at lists log_lock) ++ recs_in b.0 ≡ recs_in (at more log_lock) = sym (recs_both (at lists log_lock) b.0) ∙ ap recs_in b.1 in
-    contains_begins (start.logged ++ recs_in (at lists log_lock)) (start.logged ++ recs_in (at more log_lock)) rec
-    (recs_in b.0, append_assoc start.logged (recs_in (at lists log_lock)) (recs_in b.0) ∙ ap (λ (t : List Rec). start.logged ++ t) split) c
-  where
-    recs_both : (xs ys : List Entry) → recs_in (xs ++ ys) ≡ recs_in xs ++ recs_in ys
-    recs_both xs ys = ap (map (λ (r : By × Rec). r.1)) (filter_map-append appended xs ys) ∙ map-append (λ (r : By × Rec). r.1) (records_in xs) (records_in ys)
-
 pub answer_grows : AnswersStay
 answer_grows tells start lists more r r' by s stage command (replies.Refused refusals.Memory) from to within g later a = a
 answer_grows tells start lists more r r' by s stage command (replies.Refused refusals.Full) from to within g later a = a
@@ -105,14 +89,4 @@ answer_grows tells start lists more r r' by s stage command (replies.Refused ref
 answer_grows tells start lists more r r' by s stage command (replies.Refused refusals.UndoPending) from to within g later a = a
 answer_grows tells start lists more r r' by s stage command (replies.Seen verdict) from to within g later a =
     λ t few. lawful_grows start lists more r r' by s command (replies.Seen verdict) from to within g later (a t (few_before lists more g few))
-answer_grows tells start lists more r r' by s stage (commands.Status x) (replies.Known status) from to within g later a =
-    let b = history_grows lists more g in
-    subst (λ (h : List Event). IsKnown (IsTrue tells × AreFewIds more) start.base start.committed h by x status) b.1
-    (known_grows (IsTrue tells × AreFewIds more) start.base start.committed (history lists) b.0 by x status
-    (known_less (IsTrue tells × AreFewIds lists) (IsTrue tells × AreFewIds more) start.base start.committed (history lists) by x status (λ t. (t.0, few_before lists more g t.1)) a))
-answer_grows tells start lists more r r' by s stage (commands.Did x) (replies.Did answer) from to within g later a =
-    let b = history_grows lists more g in
-    subst (λ (h : List Event). IsDid (IsTrue tells × AreFewIds more) start.base start.committed h (start.logged ++ recs_in (at more log_lock)) r' by x.number answer) b.1
-    (did_grows (IsTrue tells × AreFewIds lists) (IsTrue tells × AreFewIds more) start.base start.committed (history lists) b.0 (start.logged ++ recs_in (at lists log_lock)) (start.logged ++ recs_in (at more log_lock)) r r' by x.number answer
-    (λ t. (t.0, few_before lists more g t.1)) from to within (later b.0 b.1) (logged_before start lists more g) a)
 answer_grows tells start lists more r r' by s stage command reply from to within g later a = lawful_grows start lists more r r' by s command reply from to within g later a

@@ -30,7 +30,7 @@ use Rattle.engine_parts.proofs.Acting.{acted_refused}
 use Rattle.engine_parts.proofs.Going.{ready_next}
 use Rattle.engine_parts.proofs.Pending.{pending_answer}
 use Rattle.engine_parts.proofs.Beholding.{held_standing}
-use Rattle.engine_parts.proofs.Refusing.{is_pending, pending_stands, refused_events, stands_still}
+use Rattle.engine_parts.proofs.Refusing.{is_pending, pending_stands, stands_still}
 
 module _ {H L P : Type 0} {l : logs.Ghosts L} {p : disks.Ghosts P} (hall : Hall H (Part L P l p) Entry Start) where
   -- a session that went on to its next command may call
@@ -68,7 +68,7 @@ module _ {H L P : Type 0} {l : logs.Ghosts L} {p : disks.Ghosts P} (hall : Hall 
   ran_refused old u command r c m by standing allowed = record {
     own = own_counted old u c m.step.own;
     may = may_counted old u c m;
-    acted = acted_refused (start_of hall) (view old.pass).seen (view u.pass).seen old.number (next_command old) (stance_of old.session) (stance_of u.session) old.session.stage command r (ap (λ p. (view p).seen) c.pass) (ap levels.stance_of c.levels) (refused_events (by_at old.number (next_command old)) (stance_of old.session) command r by) allowed standing;
+    acted = acted_refused (start_of hall) (view old.pass).seen (view u.pass).seen old.number (next_command old) (stance_of old.session) (stance_of u.session) old.session.stage command r (ap (λ p. (view p).seen) c.pass) (ap levels.stance_of c.levels) allowed standing;
     stage = stands_still command r old.session.stage u.session.stage by c.stage;
     held = held_standing (start_of hall) (view u.pass).seen r u.session.stage by;
     still = λ q is. ap (λ p. (view p).seen) c.pass;

@@ -1,17 +1,15 @@
 -- The first refusal of those that hold, and what a refused command leaves.
-use Rattle.std.proofs.Common.{◌≡◌, ℕ, Bool, true, false, ◌&&◌, cond, nat_le, List, [], ◌∷◌, Option, Some, None, IfSome, inl, refl, sym, ap, subst}
+use Rattle.std.proofs.Common.{◌≡◌, ℕ, Bool, true, false, List, [], ◌∷◌, Option, Some, None, IfSome, inl, refl, sym, ap, subst}
 use Rattle.std.proofs.lemmas.Bool.{false≢true}
 use Rattle.std.specs.Bool.{then_some}
 use Rattle.std.specs.Option.{option_or}
 use Rattle.tx_events.specs.declared.event.By.{By}
-use Rattle.tx_events.specs.declared.event.Event.TheVariants as events
 use Rattle.tx_events.specs.declared.refusal.Refusal.{Refusal}
-use Rattle.tx_events.specs.declared.refusal.Refusal.TheVariants as refusals
 use Rattle.tx_model.specs.declared.command.Command.{Command}
 use Rattle.tx_model.specs.declared.command.Command.TheVariants as commands
 use Rattle.tx_model.specs.declared.reply.Reply.{Reply}
 use Rattle.tx_model.specs.declared.reply.Reply.TheVariants as replies
-use Rattle.tx_model.specs.CommandEvents.{HasEvents, is_behind_question}
+use Rattle.tx_model.specs.CommandEvents.{HasEvents}
 use Rattle.tx_model.specs.Stance.{Stance, after, filled}
 use Rattle.engine_parts.specs.declared.session.Stage.{Stage}
 use Rattle.engine_parts.specs.declared.session.Stage.TheVariants as stages
@@ -47,18 +45,10 @@ is_pending stage r is = subst (λ (o : Option Refusal). IfSome o (λ x. is_by_st
 pub pending_stands : (stage : Stage) (r : Refusal) → pending_in stage ≡ Some r → by_standing (replies.Refused r) ≡ Some r
 pending_stands stage r is = ap (λ (b : Bool). then_some b r) (is_pending stage r is)
 
--- a refusal by how the session stands comes before any question
-no_question : (r : Refusal) → is_by_standing r ≡ true → is_behind_question r ≡ false
-no_question (refusals.TooOld oldest) q = absurd (false≢true q)
-no_question (refusals.Future next) q = absurd (false≢true q)
-no_question (refusals.DiskFault lock) q = absurd (false≢true q)
-no_question r q = refl
-
--- so the command has no events
-pub refused_events : (by : By) (s : Stance) (command : Command) (r : Refusal) → is_by_standing r ≡ true → HasEvents by s command (replies.Refused r) []
-refused_events by s commands.Write r q = inl refl
-refused_events by s (commands.Status x) r q = sym (ap (λ (b : Bool). cond (b && nat_le 3 x) (events.Ask by x ∷ []) []) (no_question r q))
-refused_events by s command r q = refl
+-- a refused command may be one without events
+pub refused_events : (by : By) (s : Stance) (command : Command) (r : Refusal) → HasEvents by s command (replies.Refused r) []
+refused_events by s commands.Write r = inl refl
+refused_events by s command r = refl
 
 none_filled : (levels : List (Option ℕ)) → filled levels [] ≡ levels
 none_filled [] = refl

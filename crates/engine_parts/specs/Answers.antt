@@ -10,24 +10,22 @@ use Rattle.tx_events.specs.declared.refusal.Refusal.TheVariants as refusals
 use Rattle.tx_events.specs.Events.{by_of, given, is_of}
 use Rattle.tx_events.specs.Running.{open_ids}
 use Rattle.tx_model.specs.declared.command.Command.{Command}
-use Rattle.tx_model.specs.declared.command.Command.TheVariants as commands
 use Rattle.tx_model.specs.declared.reply.Reply.{Reply}
 use Rattle.tx_model.specs.declared.reply.Reply.TheVariants as replies
 use Rattle.tx_model.specs.CommandEvents.{HasEvents}
-use Rattle.tx_model.specs.Replies.{IsKnown, MayReply, RoundSpan, alone}
+use Rattle.tx_model.specs.Replies.{MayReply, RoundSpan, alone}
 use Rattle.tx_model.specs.Stance.{Stance, after, top_level}
 use Rattle.tx_core.specs.declared.entry.Change.{Change}
 use Rattle.tx_core.specs.declared.entry.Entry.{Entry}
 use Rattle.tx_core.specs.declared.entry.Kind.TheVariants as kinds
 use Rattle.tx_core.specs.declared.entry.Start.{Start}
-use Rattle.tx_core.specs.Entries.{AreFewIds, history, recs_in}
+use Rattle.tx_core.specs.Entries.{history, AreFewIds}
 use Rattle.tx_core.specs.Locks.{log_lock, number_of}
 use Rattle.engine_parts.specs.declared.session.Stage.{Stage}
 use Rattle.engine_parts.specs.declared.session.Stage.TheVariants as stages
 use Rattle.engine_parts.specs.Adding.{Adds, MayLeave}
 use Rattle.engine_parts.specs.Faults.{flush_fault_by}
 use Rattle.engine_parts.specs.Stand.{IsDownAt}
-use Rattle.life_law.specs.DidCommit.{IsDid}
 use Rattle.life_law.specs.Refused.{by_standing, refused_by}
 use Rattle.engine_parts.specs.Stages.{pending_in}
 use Rattle.engine_parts.specs.Standing.{IsHeldDown, appends, asks_volume, flushes, needs_log, takes_memory}
@@ -57,16 +55,11 @@ pub record IsCommitPending (lists : List (List Entry)) (by : By) (s : Stance) : 
   pub top_is : top_level s.levels ≡ Some top
   pub stands : Contains (at lists log_lock) (record { by = other; kind = kinds.Append (records.Commit top subs) })
 
--- A verdict is told where the volumes tell, in a life of few ids, and so is how an id stands that doesn't run.
+-- A verdict is told where the volumes tell, in a life of few ids.
 abbrev pub MayTell : Bool → Start → List (List Entry) → RoundSpan → By → Stance → Command → Reply → Type 0
 MayTell tells start lists span by s command (replies.Seen verdict) =
     IsTrue tells → AreFewIds lists
     → MayReply start.base start.committed (history lists) span by s command (replies.Seen verdict)
-MayTell tells start lists span by s (commands.Status x) (replies.Known status) =
-    IsKnown (IsTrue tells × AreFewIds lists) start.base start.committed (history lists) by x status
-MayTell tells start lists span by s (commands.Did x) (replies.Did answer) =
-    IsDid (IsTrue tells × AreFewIds lists) start.base start.committed (history lists)
-    (start.logged ++ recs_in (at lists log_lock)) span by x.number answer
 MayTell tells start lists span by s command reply =
     MayReply start.base start.committed (history lists) span by s command reply
 

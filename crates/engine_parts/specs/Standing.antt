@@ -1,5 +1,6 @@
 -- What a command asks for by how its session stands, and where it leaves an end.
-use Rattle.std.specs.Prelude.{◌≡◌, ◌⊎◌, ◌≤◌, ℕ, nat_le, Bool, true, false, is_some}
+use Rattle.std.specs.Prelude.{◌≡◌, ◌⊎◌, ◌≤◌, ℕ, Bool, true, false, is_some, is_none}
+use Rattle.std.specs.List.{list_any}
 use Rattle.tx_events.specs.declared.refusal.Lock.{Lock}
 use Rattle.tx_events.specs.declared.refusal.Lock.TheVariants as locks
 use Rattle.tx_events.specs.declared.refusal.Refusal.{Refusal}
@@ -11,7 +12,6 @@ use Rattle.tx_model.specs.declared.reply.Reply.TheVariants as replies
 use Rattle.tx_model.specs.CommandEvents.{innermost}
 use Rattle.tx_model.specs.Stance.{Stance, top_level}
 use Rattle.life_law.specs.Refused.{is_by_standing}
-use Rattle.life_law.specs.Replies.{lacks_id}
 use Rattle.engine_parts.specs.declared.session.Stage.{Stage}
 use Rattle.engine_parts.specs.declared.session.Stage.TheVariants as stages
 
@@ -25,6 +25,10 @@ abbrev pub is_unflushed : Stance → Stage → Bool
 is_unflushed s (stages.Logged number) = true
 is_unflushed s stage = is_unrecorded s stage
 
+-- whether a level lacks an id
+abbrev pub lacks_id : Stance → Bool
+lacks_id s = list_any is_none s.levels
+
 -- whether a command may be refused for want of memory
 abbrev pub takes_memory : Command → Stance → Stage → Bool
 takes_memory commands.Begin s stage = false
@@ -37,7 +41,6 @@ takes_memory commands.Abort s stage = false
 takes_memory commands.Horizon s stage = false
 takes_memory (commands.DropSnap name) s stage = false
 takes_memory (commands.See name x) s stage = false
-takes_memory (commands.Status x) s stage = nat_le 3 x
 takes_memory (commands.Did x) s stage = false
 takes_memory command s stage = true
 
@@ -61,7 +64,6 @@ needs_log command s stage = flushes command s stage
 
 -- Whether a command asks the volume behind this lock: an end does where the transaction has an id, an undo where its
 -- savepoint has one, and a write asks pg_xact where a level lacks one. An id's parent is recorded before its commit is.
--- Of a special id nothing is asked.
 abbrev pub asks_volume : Command → Stance → Stage → Lock → Bool
 asks_volume commands.Write s stage (locks.Xact bank) = lacks_id s
 asks_volume commands.Write s stage (locks.Subtrans bank) = true
@@ -71,9 +73,10 @@ asks_volume commands.Undo s stage (locks.Xact bank) = is_some (innermost s.level
 asks_volume commands.Abort s stage (locks.Xact bank) = is_some (top_level s.levels)
 asks_volume (commands.See name x) s stage (locks.Xact bank) = true
 asks_volume (commands.See name x) s stage (locks.Subtrans bank) = true
-asks_volume (commands.Status x) s stage (locks.Xact bank) = nat_le 3 x
-asks_volume (commands.Did x) s stage (locks.Xact bank) = nat_le 3 x.number
-asks_volume (commands.Did x) s stage (locks.Subtrans bank) = nat_le 3 x.number
+asks_volume (commands.Status x) s stage (locks.Xact bank) = true
+asks_volume (commands.Status x) s stage (locks.Subtrans bank) = true
+asks_volume (commands.Did x) s stage (locks.Xact bank) = true
+asks_volume (commands.Did x) s stage (locks.Subtrans bank) = true
 asks_volume (commands.Multi members) s stage (locks.Offsets bank) = true
 asks_volume (commands.Multi members) s stage (locks.Members bank) = true
 asks_volume (commands.SeeMulti name multi) s stage (locks.Xact bank) = true

@@ -1,7 +1,6 @@
 pub mod Pieces
 pub mod Moves
 pub mod Leaves
-pub mod Releases
 pub mod Posting
 pub mod Merging
 pub mod Laying

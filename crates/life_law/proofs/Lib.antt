@@ -1,4 +1,3 @@
 pub mod Closed
 pub mod Lawful
 pub mod Worked
-pub mod DidGrowth

@@ -11,11 +11,9 @@ has_command commands.Release = true
 has_command commands.Undo = true
 has_command commands.Commit = true
 has_command commands.Abort = true
-has_command commands.Horizon = true
 has_command (commands.Snap name) = true
 has_command (commands.DropSnap name) = true
 has_command (commands.See name x) = true
-has_command (commands.Status x) = true
 has_command _ = false
 
 -- whether a command makes a level, which may be given an id

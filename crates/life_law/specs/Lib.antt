@@ -2,7 +2,6 @@ pub mod Commands
 pub mod Refused
 pub mod Pending
 pub mod Facts
-pub mod DidCommit
 pub mod Replies
 pub mod Lines
 pub mod LifeLog

@@ -2,4 +2,3 @@ pub mod Making
 pub mod Naming
 pub mod Closing
 pub mod Cutting
-pub mod Questions

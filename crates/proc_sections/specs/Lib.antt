@@ -1,5 +1,3 @@
 pub mod Givings
 pub mod Endings
 pub mod Undos
-pub mod Askings
-pub mod Horizons

@@ -1,7 +1,7 @@
 //! The ProcArray is only looked at.
 ghost use Rattle.std.specs.Prelude.{◌≡◌, ℕ, ◌+◌, ◌*◌, []};
 ghost use Rattle.hall.specs.Calls.{view, IsOf, start_of};
-ghost use Rattle.tx_events.specs.Horizon.{oldest_id, oldest_xmin};
+ghost use Rattle.tx_events.specs.Horizon.{oldest_id};
 ghost use Rattle.tx_core.specs.Entries.{history};
 ghost use Rattle.tx_core.specs.Locks.{proc_lock};
 ghost use Rattle.engine_parts.specs.Holds.{Section};
@@ -37,29 +37,4 @@ pub fn read_oldest<R: Wait, L: LogDisk, P: PageDisk>(
     let oldest = table.oldest();
     leave_looked(hall, caller, 1, Part::Proc(table));
     oldest
-}
-
-/// The oldest xmin (`ComputeXidHorizons` of `src/backend/storage/ipc/procarray.c`): no id below it is still asked for by a
-/// live snapshot or one that is taken from now on. One critical section of the ProcArray.
-pub fn read_oldest_xmin<R: Wait, L: LogDisk, P: PageDisk>(
-    rt: &R,
-    hall: &Hall<EngineLaw<L, P>>,
-    caller: &mut Caller<L, P>,
-) -> FullXid
-    requires own { IsOf hall.now caller.old.pass }
-    requires laid { hall.now.cells ≡ 3 + 4 * (start_of hall.now).banks }
-    requires ready { IsReady (start_of hall.now) (view caller.old.pass) caller.old.number caller.old.session }
-    ensures section { Section (start_of hall.now) proc_lock (look_by caller.old.number caller.old.session)
-        (view caller.old.pass) (view caller.new.pass) }
-    ensures own { IsOf hall.now caller.new.pass }
-    ensures ready { IsReady (start_of hall.now) (view caller.new.pass) caller.new.number caller.new.session }
-    ensures went { WentOn caller.old.number [] (view caller.old.pass).seen (view caller.new.pass).seen }
-    ensures xmin { result
-        ≡ oldest_xmin (start_of hall.now).base.next (history (view caller.new.pass).seen) }
-    ensures same { (caller.new.session ≡ caller.old.session) × (caller.new.number ≡ caller.old.number) }
-{
-    let table = enter_proc(rt, hall, caller);
-    let xmin = table.oldest_xmin();
-    leave_looked(hall, caller, 1, Part::Proc(table));
-    xmin
 }

@@ -1,5 +1,5 @@
 -- What a run's lines and events say fits a report.
-use Rattle.std.proofs.Common.{◌≡◌, ℕ, zero, suc, ◌-◌, ◌^◌, ◌<◌, ◌≤◌, List, [], ◌∷◌, true, Option, Some, None, refl, sym, ap, subst, ◌∙◌, ⊎_elim, arith, length, take, eqb-true, ◌==◌, ◌&&◌, nat_le, cond, false}
+use Rattle.std.proofs.Common.{◌≡◌, ℕ, zero, suc, ◌-◌, ◌^◌, ◌<◌, ◌≤◌, List, [], ◌∷◌, true, Option, Some, None, refl, sym, ap, subst, ◌∙◌, ⊎_elim, arith, length, take, eqb-true, ◌==◌}
 use Rattle.std.proofs.lemmas.Bool.{and_parts, false≢true}
 use Rattle.std.proofs.lemmas.Grind.{common_steps}
 use Rattle.std.specs.List.{AllByRecursion}
@@ -23,9 +23,9 @@ use Rattle.tx_events.proofs.GivenIds.{legal_take}
 use Rattle.tx_events.proofs.ListSteps.{all_filter}
 use Rattle.tx_events.proofs.Membership.{Has, all_at, all_from, filter_has, has_any}
 use Rattle.tx_events.proofs.OwnEvents.{same_by_swap}
-use Rattle.tx_model.specs.CommandEvents.{HasEvents, MayHaveGiven, abort_event, ask_event, commit_event, giving, innermost, level_events, undo_event, was_asked}
+use Rattle.tx_model.specs.CommandEvents.{HasEvents, MayHaveGiven, abort_event, commit_event, giving, innermost, level_events, undo_event}
 use Rattle.tx_model.specs.Lines.{has_line}
-use Rattle.tx_model.specs.Replies.{MayFindOldest, MayReply, RoundSpan}
+use Rattle.tx_model.specs.Replies.{MayReply, RoundSpan}
 use Rattle.tx_model.specs.Stance.{Stance, lacking, top_level}
 use Rattle.tx_events.specs.Names.{IsName}
 use Rattle.life_law.specs.Facts.{Facts}
@@ -33,7 +33,7 @@ use Rattle.life_law.specs.Replies.{IsBank, IsLawfulReply}
 use Rattle.report_words.specs.Fits.{FitsBy, FitsId, FitsLock, FitsReply, FitsSnap}
 use Rattle.report_words.specs.Replies.{kind_of}
 use Rattle.report_lines.specs.Fits.{FitsCommand, FitsEvent}
-use Rattle.run_report.proofs.Ids.{IdsFit, IsPlain, all_ids_fit, next_fits, oldest_fits, oldest_same, oldest_xmin_fits, snap_fits, stop_fits}
+use Rattle.run_report.proofs.Ids.{IdsFit, IsPlain, all_ids_fit, next_fits, oldest_fits, oldest_same, snap_fits, stop_fits}
 
 -- ---- replies
 
@@ -64,12 +64,6 @@ all_taken P zero xs a = tt
 all_taken P (suc n) [] a = tt
 all_taken P (suc n) (x ∷ xs) a = (a.0, all_taken P n xs a.1)
 
--- an oldest id that a command may find
-found_fits : (base : Counters) (h : List Event) (round : RoundSpan) (by : By) (oldest : ℕ) → IsBase base → AllByRecursion IsPlain h → MayFindOldest base h round by oldest → FitsId oldest
-found_fits base h round by oldest b p f =
-    let n : ℕ = f.place - f.lag in
-    subst FitsId (sym (f.oldest_is ∙ oldest_same base.oldest (take n h) (all_taken IsPlain n h p))) (oldest_fits base b)
-
 -- a reply of the history
 history_reply_fits : (base : Counters) (committed : List ℕ) (h : List Event) (round : RoundSpan) (by : By) (s : Stance) (c : Command) (r : Reply) → IsBase base → IsLegal base h → AllByRecursion IsPlain h → MayReply base committed h round by s c r → HasEvents by s c r (events_of by h) → FitsReply (kind_of c) r
 history_reply_fits base committed h round by s commands.Begin replies.Done b l p m e = refl
@@ -89,8 +83,6 @@ history_reply_fits base committed h round by s commands.Commit replies.Done b l 
 history_reply_fits base committed h round by s commands.Commit (replies.Refused refusals.NoTransaction) b l p m e = tt
 history_reply_fits base committed h round by s commands.Abort replies.Done b l p m e = refl
 history_reply_fits base committed h round by s commands.Abort (replies.Refused refusals.NoTransaction) b l p m e = tt
-history_reply_fits base committed h round by s commands.Horizon (replies.Horizon xmin) b l p m e =
-    (refl, subst FitsId (sym m.xmin_is) (oldest_xmin_fits base (take m.place h) b (legal_take base h m.place l)))
 history_reply_fits base committed h round by s (commands.Snap name) (replies.Snapped lists) b l p m e = (refl, subst FitsSnap (sym m.4) (snap_fits base (take m.2 h) b (legal_take base h m.2 l)))
 history_reply_fits base committed h round by s (commands.Snap name) (replies.Refused refusals.NameTaken) b l p m e = tt
 history_reply_fits base committed h round by s (commands.Snap name) (replies.Refused refusals.SnapLimit) b l p m e = tt
@@ -98,13 +90,9 @@ history_reply_fits base committed h round by s (commands.DropSnap name) replies.
 history_reply_fits base committed h round by s (commands.DropSnap name) (replies.Refused refusals.NoSnapshot) b l p m e = tt
 history_reply_fits base committed h round by s (commands.See name x) (replies.Seen visible) b l p m e = refl
 history_reply_fits base committed h round by s (commands.See name x) (replies.Refused (refusals.TooOld oldest)) b l p m e =
-    found_fits base h round by oldest b p m.2.found
+    let n : ℕ = m.2.found.place - m.2.found.lag in
+    subst FitsId (sym (m.2.found.oldest_is ∙ oldest_same base.oldest (take n h) (all_taken IsPlain n h p))) (oldest_fits base b)
 history_reply_fits base committed h round by s (commands.See name x) (replies.Refused refusals.NoSnapshot) b l p m e = tt
-history_reply_fits base committed h round by s (commands.Status x) (replies.Known status) b l p m e = refl
-history_reply_fits base committed h round by s (commands.Status x) (replies.Refused (refusals.TooOld oldest)) b l p m e = found_fits base h round by oldest b p m.2
-history_reply_fits base committed h round by s (commands.Status x) (replies.Refused (refusals.Future next)) b l p m e =
-    subst FitsId (sym m.next_is) (next_fits base (take m.place h) b (legal_take base h m.place l))
-history_reply_fits base committed h round by s (commands.Did x) (replies.Refused (refusals.TooOld oldest)) b l p m e = found_fits base h round by oldest b p m.found
 history_reply_fits base committed h round by s c r b l p m e = absurd m
 
 -- what a life tells with which its replies can be told
@@ -134,22 +122,21 @@ reply_fits f round by s o c (replies.Refused refusals.AbortPending) t m e = tt
 reply_fits f round by s o c (replies.Refused refusals.UndoPending) t m e = tt
 reply_fits f round by s o (commands.See name x) (replies.Seen visible) t m e = refl
 reply_fits f round by s o c (replies.Seen visible) t m e = absurd (false≢true m.0)
-reply_fits f round by s o (commands.Status x) (replies.Known status) t m e = refl
-reply_fits f round by s o (commands.Did x) (replies.Did answer) t m e = refl
 reply_fits f round by s o c r t m e = history_reply_fits f.base f.committed f.events round by s c r t.base t.history t.plain m e
 
 -- ---- events
 
--- the names of snapshots, and the ids that are asked for; no event announces
+-- the names of snapshots; no event announces or asks
 abbrev pub NamesFit : Event → Type 0
 NamesFit (events.Snap by name) = IsName name
 NamesFit (events.SnapDrop by name) = IsName name
 NamesFit (events.Oldest by oldest) = ⊥
-NamesFit (events.Ask by id) = FitsId id
+NamesFit (events.Ask by id) = ⊥
 NamesFit _ = Unit {0}
 
 pub named_plain : (e : Event) → NamesFit e → IsPlain e
 named_plain (events.Oldest by oldest) n = n
+named_plain (events.Ask by id) n = n
 named_plain e n = tt
 
 giving_named : (by : By) (p : Option ℕ) (id : ℕ) → NamesFit (giving by p id)
@@ -174,12 +161,6 @@ abort_named : (by : By) (o : Option ℕ) → AllByRecursion NamesFit (abort_even
 abort_named by None = tt
 abort_named by (Some id) = (tt, tt)
 
-ask_named : (by : By) (x : ℕ) (r : Reply) → FitsCommand (commands.Status x) → AllByRecursion NamesFit (ask_event by x r)
-ask_named by x r f = elim (was_asked r && nat_le 3 x) as (λ b. AllByRecursion NamesFit (cond b (events.Ask by x ∷ []) [])) [ true ↦ (asked_fits x f, tt) | false ↦ tt ]
-  where
-    asked_fits : (x : ℕ) → FitsCommand (commands.Status x) → FitsId x
-    asked_fits x f = (let to = f.1 in omega arith, f.0)
-
 -- the events of a command
 pub own_named : (by : By) (s : Stance) (c : Command) (r : Reply) (es : List Event) → FitsCommand c → HasEvents by s c r es → AllByRecursion NamesFit es
 own_named by s commands.Write (replies.Wrote ids warn) es f e = subst (AllByRecursion NamesFit) (sym e.0) (levels_named by None s.levels ids)
@@ -192,7 +173,6 @@ own_named by s commands.Commit replies.Done es f e = subst (AllByRecursion Names
 own_named by s commands.Abort replies.Done es f e = subst (AllByRecursion NamesFit) (sym e) (abort_named by (top_level s.levels))
 own_named by s (commands.Snap name) (replies.Snapped lists) es f e = subst (AllByRecursion NamesFit) (sym e) (f, tt)
 own_named by s (commands.DropSnap name) replies.Done es f e = subst (AllByRecursion NamesFit) (sym e) (f, tt)
-own_named by s (commands.Status x) r es f e = subst (AllByRecursion NamesFit) (sym e) (ask_named by x r f)
 own_named by s c r es f e = subst (AllByRecursion NamesFit) (sym e) tt
 
 -- a line whose number and events fit
@@ -230,7 +210,7 @@ event_fits names (events.Abort by top) f n i = (f, i)
 event_fits names (events.Snap by name) f n i = (f, n)
 event_fits names (events.SnapDrop by name) f n i = (f, n)
 event_fits names (events.Oldest by oldest) f n i = absurd n
-event_fits names (events.Ask by id) f n i = (f, n)
+event_fits names (events.Ask by id) f n i = absurd n
 
 pub events_fit : (names : List (List ℕ)) (h : List Event) → AllByRecursion (EventFits names) h → AllByRecursion IdsFit h → AllByRecursion (FitsEvent names) h
 events_fit names [] a i = tt

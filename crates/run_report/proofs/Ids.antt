@@ -1,7 +1,6 @@
 -- The ids of a history can be told in a report.
-use Rattle.std.proofs.Common.{◌≡◌, ◌⊎◌, ℕ, ◌-◌, ◌%◌, ◌^◌, ◌<◌, ◌≤◌, List, [], ◌∷◌, ◌++◌, Bool, true, false, cond, not, Option, Some, None, refl, sym, ap, subst, inl, inr, ⊎_elim, arith, length, map, min, reverse, nat_lt, ◌==◌, ◌&&◌}
+use Rattle.std.proofs.Common.{◌≡◌, ◌⊎◌, ℕ, ◌-◌, ◌%◌, ◌^◌, ◌<◌, ◌≤◌, List, [], ◌∷◌, ◌++◌, Bool, true, false, cond, not, Option, Some, None, refl, sym, ap, subst, inl, inr, ⊎_elim, arith, length, min, nat_lt, ◌==◌, ◌&&◌}
 use Rattle.std.proofs.lemmas.Bool.Decides.{nat_tests}
-use Rattle.std.proofs.lemmas.List.{reverse-reverse}
 use Rattle.std.specs.List.{AllByRecursion, cons_option, filter, fold, list_any}
 use Rattle.xid_order.specs.Ids.{IsFullId, IsXidNumber, low_half}
 use Rattle.xid_order.specs.Limits.{down_to_normal, stop_limit, wrap_limit}
@@ -12,15 +11,14 @@ use Rattle.tx_events.specs.Base.{IsBase}
 use Rattle.tx_events.specs.Events.{given, given_by}
 use Rattle.tx_events.specs.Families.{is_top, top}
 use Rattle.tx_events.specs.History.{IsLegal, MayCome, next_given, nth_id}
-use Rattle.tx_events.specs.Horizon.{LiveSnap, is_snap_of, live_snaps, live_up, oldest_id, oldest_xmin}
+use Rattle.tx_events.specs.Horizon.{oldest_id}
 use Rattle.tx_events.specs.Running.{is_open, open_ids, running, running_tops}
-use Rattle.tx_events.specs.Snapshots.{is_overflowed, latest, snapshot_data, snapshot_xips, snapshot_xmax, snapshot_xmin}
+use Rattle.tx_events.specs.Snapshots.{is_overflowed, latest, snapshot_data, snapshot_xips, snapshot_xmax}
 use Rattle.tx_events.proofs.GivenGrowth.{given_none, next_after}
 use Rattle.tx_events.proofs.GivenIds.{given_new, given_push_cases, legal_front, legal_last, may_give, open_given}
-use Rattle.tx_events.proofs.HorizonSteps.{live_push}
 use Rattle.tx_events.proofs.IdOrder.{next_full, nth_full}
 use Rattle.tx_events.proofs.ListSteps.{all_filter, all_push, le_or_over}
-use Rattle.tx_events.proofs.Membership.{Has, all_from, by_end, contains_has, has_cases, has_filter}
+use Rattle.tx_events.proofs.Membership.{Has, all_from, by_end, contains_has}
 use Rattle.proc_table.proofs.Bounds.{latest_bounds, next_id_to, stop_to}
 use Rattle.report_words.specs.Fits.{FitsId, FitsSnap}
 
@@ -134,36 +132,6 @@ snap_fits base h b legal =
       subxip = subs (is_overflowed base.next h) (λ x. not (is_top h x) && list_any (λ t. t == top h x) (snapshot_xips base.next h));
     }
 
--- what each live snapshot holds back
-XminsFit : List LiveSnap → Type 0
-XminsFit snaps = (s : LiveSnap) → Has snaps s → FitsId s.xmin
-
-live_step : (base : Counters) (h : List Event) (e : Event) → IsBase base → IsLegal base h → XminsFit (live_snaps base.next h) → XminsFit (live_up base.next (e ∷ reverse h))
-live_step base h (events.Snap by taken) b legal before s k =
-    let first = base.next in
-    let fits : FitsId (snapshot_xmin first (reverse (reverse h))) = subst (λ (t : List Event). FitsId (snapshot_xmin first t)) (sym (reverse-reverse h)) (snap_fits base h b legal).xmin in
-    ⊎_elim (before s)
-    (λ c. ⊎_elim (λ (q : record { session = by.session; name = taken; xmin = snapshot_xmin first (reverse (reverse h)) } ≡ s). subst (λ (z : LiveSnap). FitsId z.xmin) q fits) (λ z. absurd z) c)
-    (has_cases (live_snaps first h) (record { session = by.session; name = taken; xmin = snapshot_xmin first (reverse (reverse h)) } ∷ []) s k)
-live_step base h (events.SnapDrop by dropped) b legal before s k = before s (has_filter (λ s. not (is_snap_of by.session dropped s)) (live_snaps base.next h) s k).0
-live_step base h _ b legal before s k = before s k
-
-live_fit : (base : Counters) (h : List Event) → IsBase base → IsLegal base h → XminsFit (live_snaps base.next h)
-live_fit base h b = by_end (λ g. IsLegal base g → XminsFit (live_snaps base.next g))
-    (λ legal s k. absurd k)
-    (λ g e before legal.
-    let front = legal_front base g e legal in
-    subst XminsFit (sym (live_push base.next g e)) (live_step base g e b front (before front))) h
-
-mapped : (snaps : List LiveSnap) → XminsFit snaps → AllByRecursion FitsId (map (λ (s : LiveSnap). s.xmin) snaps)
-mapped [] k = tt
-mapped (s ∷ snaps) k = (k s (inl refl), mapped snaps (λ t i. k t (inr i)))
-
-pub oldest_xmin_fits : (base : Counters) (h : List Event) → IsBase base → IsLegal base h → FitsId (oldest_xmin base.next h)
-oldest_xmin_fits base h b legal =
-    least_has FitsId (snapshot_xmin base.next h) (map (λ (s : LiveSnap). s.xmin) (live_snaps base.next h)) (snap_fits base h b legal).xmin
-    (mapped (live_snaps base.next h) (live_fit base h b legal))
-
 down_fits : (n : ℕ) → IsXidNumber (down_to_normal n)
 down_fits n = step (nat_lt (low_half n) 3) refl
   where
@@ -181,11 +149,13 @@ stop_fits oldest = (omega arith, min_one IsXidNumber (down_to_normal (wrap_limit
 
 abbrev pub IsPlain : Event → Type 0
 IsPlain (events.Oldest by oldest) = ⊥
+IsPlain (events.Ask by id) = ⊥
 IsPlain _ = Unit {0}
 
 pub oldest_same : (oldest : ℕ) (h : List Event) → AllByRecursion IsPlain h → oldest_id oldest h ≡ oldest
 oldest_same oldest [] a = refl
 oldest_same oldest (events.Oldest by new ∷ h) a = absurd a.0
+oldest_same oldest (events.Ask by id ∷ h) a = absurd a.0
 oldest_same oldest (e ∷ h) a = oldest_same oldest h a.1
 
 pub oldest_fits : (base : Counters) → IsBase base → FitsId base.oldest

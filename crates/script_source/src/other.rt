@@ -19,11 +19,9 @@ fn has_command(command: &Command) -> bool
         | Command::Undo
         | Command::Commit
         | Command::Abort
-        | Command::Horizon
         | Command::Snap { .. }
         | Command::DropSnap { .. }
-        | Command::See { .. }
-        | Command::Status { .. } => true,
+        | Command::See { .. } => true,
         _ => false,
     }
 }

@@ -126,13 +126,3 @@ stood_dropped base h by name opened named unnamed registered s =
     (λ other. live_dropped base.next h by name other registered s.live)
     (all_filter (IsRegistered base (h ++ e ∷ []) by.session) (λ k. not (same_name k.name name)) registered (kept_grows base h (e ∷ []) by.session registered s.snaps))
     s
-
--- a session that asks for the status of an id
-pub stood_asked : (base : Counters) (h : List Event) (by : By) (x : ℕ) (opened named : List ℕ) (unnamed : ℕ) (registered : List RegisteredSnapshot) →
-    Stood base h by.session by.command opened named unnamed registered → Stood base (h ++ events.Ask by x ∷ []) by.session by.command opened named unnamed registered
-stood_asked base h by x opened named unnamed registered s =
-    let e : Event = events.Ask by x in
-    stood_quiet base h by e opened named unnamed registered registered tt refl
-    (λ name. ap (list_any (is_snap_of by.session name)) (live_push base.next h e) ∙ s.live name)
-    (kept_grows base h (e ∷ []) by.session registered s.snaps)
-    s

@@ -1,16 +1,15 @@
 -- A command gives no more ids than there are levels that lack one, and makes one level at most.
-use Rattle.std.proofs.Common.{List, None, Option, Some, [], ap, arith, length, refl, subst, sym, zero, suc, take, ℕ, ⊎_elim, ◌+◌, ◌-◌, ◌∷◌, ◌≡◌, ◌∙◌, ◌≤◌, ◌&&◌, nat_le, cond, is_none, true, false}
+use Rattle.std.proofs.Common.{List, None, Option, Some, [], ap, arith, length, refl, subst, sym, zero, suc, take, ℕ, ⊎_elim, ◌+◌, ◌-◌, ◌∷◌, ◌≡◌, ◌∙◌, ◌≤◌, cond, is_none}
 use Rattle.std.proofs.lemmas.List.Sums.{sum_by-append, sum_by-cons}
 use Rattle.tx_events.specs.declared.event.By.{By}
 use Rattle.tx_events.specs.declared.event.Event.{Event}
-use Rattle.tx_events.specs.declared.event.Event.TheVariants as events
 use Rattle.tx_events.specs.Events.{given}
 use Rattle.life_law.specs.Commands.{makes_level}
 use Rattle.tx_model.specs.declared.command.Command.{Command}
 use Rattle.tx_model.specs.declared.command.Command.TheVariants as commands
 use Rattle.tx_model.specs.declared.reply.Reply.{Reply}
 use Rattle.tx_model.specs.declared.reply.Reply.TheVariants as replies
-use Rattle.tx_model.specs.CommandEvents.{HasEvents, abort_event, ask_event, commit_event, giving, innermost, level_events, undo_event, was_asked}
+use Rattle.tx_model.specs.CommandEvents.{HasEvents, abort_event, commit_event, giving, innermost, level_events, undo_event}
 use Rattle.tx_model.specs.Stance.{Stance, after, filled, lacking, top_level}
 
 -- an id's event gives it
@@ -71,9 +70,6 @@ abort_given : (by : By) (o : Option ℕ) → given (abort_event by o) ≡ []
 abort_given by None = refl
 abort_given by (Some id) = refl
 
-ask_given : (by : By) (x : ℕ) (reply : Reply) → given (ask_event by x reply) ≡ []
-ask_given by x reply = elim (was_asked reply && nat_le 3 x) as (λ b. given (cond b (events.Ask by x ∷ []) []) ≡ []) [ true ↦ refl | false ↦ refl ]
-
 pub bounds_of : (by : By) (number : ℕ) (s : Stance) (command : Command) (reply : Reply) (added : List Event) → HasEvents by s command reply added → Bounds number s command reply added
 bounds_of by number s commands.Begin replies.Done added h = none_given number s commands.Begin replies.Done added h (omega arith)
 bounds_of by number s commands.Save replies.Done added h = none_given number s commands.Save replies.Done added h (let e = sum_by-append (λ (l : Option ℕ). cond (is_none l) 1 0) s.levels (None ∷ []) in omega (arith, e))
@@ -92,5 +88,4 @@ bounds_of by number s commands.Commit replies.Done added h = let g = ap length (
 bounds_of by number s commands.Abort replies.Done added h = let g = ap length (ap given h ∙ abort_given by (top_level s.levels)) in omega (arith, g)
 bounds_of by number s (commands.Snap name) (replies.Snapped lists) added h = let g = ap (λ es. length (given es)) h in omega (arith, g)
 bounds_of by number s (commands.DropSnap name) replies.Done added h = let g = ap (λ es. length (given es)) h in omega (arith, g)
-bounds_of by number s (commands.Status x) reply added h = let g = ap length (ap given h ∙ ask_given by x reply) in omega (arith, g)
 bounds_of by number s command reply added h = none_given number s command reply added h (omega arith)

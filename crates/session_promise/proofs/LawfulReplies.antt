@@ -16,10 +16,8 @@ use Rattle.tx_model.specs.declared.report.Line.{Line}
 use Rattle.tx_model.specs.Lines.{is_line_of}
 use Rattle.tx_model.specs.Replies.{RoundSpan}
 use Rattle.tx_model.specs.Stance.{Stance, top_level}
-use Rattle.tx_model.proofs.Growth.{known_less}
 use Rattle.life_law.specs.Commands.{has_command}
 use Rattle.life_law.specs.Facts.{Facts, has_log_fault, is_log_fault}
-use Rattle.life_law.proofs.DidGrowth.{did_less}
 use Rattle.life_law.specs.Replies.{IsBank, IsLawfulReply, may_ask, may_lack_memory, may_need_log, may_append}
 use Rattle.tx_core.specs.declared.entry.Entry.{Entry}
 use Rattle.tx_core.specs.declared.entry.Kind.TheVariants as kinds
@@ -43,7 +41,7 @@ use Rattle.session_promise.specs.Told.{ToldRound, all_lines, lines_by}
 use Rattle.session_promise.proofs.Telling.{lines_told}
 
 lacks : (command : Command) (s : Stance) (stage : Stage) → IsTrue (has_command command) → IsTrue (takes_memory command s stage) → IsTrue (may_lack_memory command s (pending_in stage))
-lacks commands.Write s stage h t = t
+lacks commands.Write s stage h t = refl
 lacks commands.Commit s stages.Clear h t = t
 lacks commands.Commit s stage h t = absurd (false≢true t)
 lacks (commands.Snap name) s stage h t = refl
@@ -52,11 +50,8 @@ lacks commands.Save s stage h t = absurd (false≢true t)
 lacks commands.Release s stage h t = absurd (false≢true t)
 lacks commands.Undo s stage h t = absurd (false≢true t)
 lacks commands.Abort s stage h t = absurd (false≢true t)
-lacks commands.Horizon s stage h t = absurd (false≢true t)
 lacks (commands.DropSnap name) s stage h t = absurd (false≢true t)
 lacks (commands.See name x) s stage h t = absurd (false≢true t)
-lacks (commands.Status x) s stage h t = t
-lacks (commands.Did x) s stage h t = absurd (false≢true t)
 lacks command s stage h t = absurd (false≢true h)
 
 logs : (command : Command) (s : Stance) (stage : Stage) → IsTrue (has_command command) → IsTrue (flushes command s stage) → IsTrue (may_need_log command s (pending_in stage))
@@ -77,18 +72,17 @@ needs : (command : Command) (s : Stance) (stage : Stage) → IsTrue (has_command
 needs (commands.Multi members) s stage h t = absurd (false≢true h)
 needs command s stage h t = logs command s stage h t
 
-asks : (command : Command) (s : Stance) (stage : Stage) (lock : Lock) → IsTrue (has_command command) → IsTrue (asks_volume command s stage lock) → IsTrue (may_ask command s (pending_in stage) lock)
-asks commands.Write s stage (locks.Xact bank) h t = t
+asks : (command : Command) (s : Stance) (stage : Stage) (lock : Lock) → IsTrue (has_command command) → IsTrue (asks_volume command s stage lock) → IsTrue (may_ask command (pending_in stage) lock)
+asks commands.Write s stage (locks.Xact bank) h t = refl
 asks commands.Write s stage (locks.Subtrans bank) h t = refl
-asks commands.Commit s stage (locks.Xact bank) h t = t
-asks commands.Commit s stages.Clear (locks.Subtrans bank) h t = t
-asks commands.Undo s stage (locks.Xact bank) h t = t
-asks commands.Abort s stage (locks.Xact bank) h t = t
+asks commands.Commit s stage (locks.Xact bank) h t = refl
+asks commands.Commit s stages.Clear (locks.Subtrans bank) h t = refl
+asks commands.Undo s stage (locks.Xact bank) h t = refl
+asks commands.Abort s stage (locks.Xact bank) h t = refl
 asks (commands.See name x) s stage (locks.Xact bank) h t = refl
 asks (commands.See name x) s stage (locks.Subtrans bank) h t = refl
-asks (commands.Status x) s stage (locks.Xact bank) h t = t
-asks (commands.Did x) s stage (locks.Xact bank) h t = t
-asks (commands.Did x) s stage (locks.Subtrans bank) h t = t
+asks (commands.Status x) s stage lock h t = absurd (false≢true h)
+asks (commands.Did x) s stage lock h t = absurd (false≢true h)
 asks (commands.Multi members) s stage lock h t = absurd (false≢true h)
 asks (commands.SeeMulti name multi) s stage lock h t = absurd (false≢true h)
 asks (commands.MultiFreeze multi) s stage lock h t = absurd (false≢true h)
@@ -157,8 +151,4 @@ module _ (tells : Bool) (start : Start) (lists : List (List Entry)) (rounds : Li
   lawful_reply span by s stage command (replies.Refused refusals.AbortPending) f a = tt
   lawful_reply span by s stage command (replies.Refused refusals.UndoPending) f a = tt
   lawful_reply span by s stage command (replies.Seen visible) f a = (f.1, λ t. a t few)
-  lawful_reply span by s stage (commands.Status x) (replies.Known status) f a =
-      known_less (IsTrue tells × AreFewIds lists) (IsTrue tells) start.base start.committed (history lists) by x status (λ t. (t, few)) a
-  lawful_reply span by s stage (commands.Did x) (replies.Did answer) f a =
-      did_less (IsTrue tells × AreFewIds lists) (IsTrue tells) start.base start.committed (history lists) (start.logged ++ recs_of lists) span by x.number answer (λ t. (t, few)) a
   lawful_reply span by s stage command reply f a = a

@@ -1,15 +1,12 @@
 -- What the promises of all sessions make of a life that is over.
 use Rattle.engine_parts.specs.Sessions.{MayCall}
 use Rattle.engine_parts.specs.Holds.{Knowledge}
-use Rattle.std.specs.Prelude.{◌≡◌, ℕ, ◌+◌, ◌^◌, ◌<◌, Bool, List, [], ◌∷◌, ◌++◌, Contains, length}
+use Rattle.std.specs.Prelude.{◌≡◌, ℕ, ◌+◌, ◌^◌, ◌<◌, Bool, List, [], ◌∷◌, ◌++◌, length}
 use Rattle.std.specs.List.{AllByRecursion, count_by}
 use Rattle.notes.specs.Lists.{at}
 use Rattle.tx_events.specs.declared.record.Rec.TheVariants as records
-use Rattle.tx_events.specs.declared.refusal.Refusal.TheVariants as refusals
 use Rattle.tx_model.specs.declared.command.Command.{Command}
-use Rattle.tx_model.specs.declared.reply.Reply.TheVariants as replies
 use Rattle.tx_model.specs.declared.report.LifeReport.{LifeReport}
-use Rattle.tx_model.specs.declared.report.Line.{Line}
 use Rattle.tx_model.specs.declared.report.Step.{Step}
 use Rattle.tx_model.specs.declared.report.Step.TheVariants as steps
 use Rattle.tx_model.specs.Rounds.{AreInTurn}
@@ -49,13 +46,6 @@ pub record IsOver (tells : Bool) (start : Start) (lists : List (List Entry)) (ro
   pub lines : AllByRecursion (λ l. l.by.session < start.sessions) (all_lines rounds)
   pub places : Follow 0 rounds (length (history lists))
   pub each : (n : ℕ) → n < start.sessions → (s : Session) × Promise tells start lists n (told_by n rounds) s × MayCallIn start lists n s
-
--- one command alone is told that the log's volume failed
-abbrev pub OneFault : Type 0
-OneFault =
-    (tells : Bool) (start : Start) (lists : List (List Entry)) (rounds : List ToldRound) (l m : Line)
-    → IsOver tells start lists rounds → Contains (all_lines rounds) l → Contains (all_lines rounds) m
-    → l.reply ≡ replies.Refused refusals.LogFault → m.reply ≡ replies.Refused refusals.LogFault → l.by ≡ m.by
 
 -- fewer than 2,900,000 of the commands make levels
 abbrev pub AreFewLevels : List ToldRound → Type 0

@@ -1,4 +1,4 @@
-ghost use Rattle.session_promise.specs.Closing.{LevelsBoundIds, OneFault, PromisesMakeLife, PromisesMakeLog, PromisesMakeSteps};
+ghost use Rattle.session_promise.specs.Closing.{LevelsBoundIds, PromisesMakeLife, PromisesMakeLog, PromisesMakeSteps};
 ghost use Rattle.session_promise.specs.Promise.{PromiseBegins, PromiseGoesOn, PromiseStays};
 ghost use Rattle.session_promise.specs.Rounds.{PartsMakeRound};
 ghost use Rattle.session_promise.specs.SoFar.{PromiseThroughRound, SoFarBegins, SoFarEnds, SoFarGoesOn};
@@ -46,11 +46,6 @@ pub fn parts_make_round()
 /// A life gives no more ids than its commands made levels.
 pub fn levels_bound_ids()
     ensures { LevelsBoundIds }
-{}
-
-/// One command alone is told that the log's volume failed.
-pub fn one_fault_is_told()
-    ensures { OneFault }
 {}
 
 /// The promises of all sessions make lawful lines, round by round.

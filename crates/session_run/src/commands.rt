@@ -12,10 +12,10 @@ use engine_parts::{Caller, EngineLaw};
 use hall::Hall;
 use std::alloc::Global;
 use std::sync::Wait;
-use tx_model::{Command, Refusal, Reply, SnapData, Status};
+use tx_model::{Command, Refusal, Reply, SnapData};
 use xact_ends::{abort, commit, undo};
 use xact_engine::{begin, drop_snap, release, save, snap};
-use xact_reads::{horizon, see, status};
+use xact_reads::see;
 use xact_writes::{Wrote, write};
 
 // The reply of a command that says no more than that it is done.
@@ -58,16 +58,6 @@ fn seen(answer: Result<bool, Refusal>) -> Reply
     }
 }
 
-// That of a question for an id's status.
-fn known(answer: Result<Status, Refusal>) -> Reply
-    ensures { result ≡ reply_of replies.Known answer }
-{
-    match answer {
-        Ok(status) => Reply::Known { status },
-        Err(refusal) => Reply::Refused { refusal },
-    }
-}
-
 /// Runs the session's next command, and answers its reply. `banks` is the number of banks of each store, 1 to 16. The
 /// session has run fewer than 2^48 commands. Want of memory that the command met is its reply too.
 pub fn run_command<R: Wait, L: LogDisk, P: PageDisk>(
@@ -91,13 +81,9 @@ pub fn run_command<R: Wait, L: LogDisk, P: PageDisk>(
         Command::Undo => done(undo(rt, hall, caller, banks)),
         Command::Commit => done(commit(rt, hall, caller, banks, alloc)),
         Command::Abort => done(abort(rt, hall, caller, banks, alloc)),
-        Command::Horizon => Reply::Horizon {
-            oldest_xmin: horizon(rt, hall, caller),
-        },
         Command::Snap { name } => snapped(snap(rt, hall, caller, name)),
         Command::DropSnap { name } => done(drop_snap(rt, hall, caller, name)),
         Command::See { name, x } => seen(see(rt, hall, caller, banks, name, *x)),
-        Command::Status { x } => known(status(rt, hall, caller, banks, *x)),
         _ => unreachable!(),
     }
 }

@@ -1,4 +1,4 @@
-use Rattle.std.proofs.Common.{IfSome, Option, ◌-◌, ◌↔◌, ◌≡◌, ℕ, ◌<◌, ◌≤◌, List, [], ◌∷◌, ◌++◌, length, drop, refl, ap, sym, ◌∙◌, arith, ⊎_elim, subst, Bool, true, false, cond, IsTrue}
+use Rattle.std.proofs.Common.{IfSome, ◌-◌, ◌↔◌, ◌≡◌, ℕ, ◌<◌, ◌≤◌, List, [], ◌∷◌, ◌++◌, length, take, drop, refl, ap, sym, ◌∙◌, arith, ⊎_elim, subst, Bool, true, false, cond, IsTrue}
 use Rattle.std.proofs.Math.Seq.{drop-append-le, take-append-le}
 use Rattle.std.specs.List.{filter, AllByRecursion}
 use Rattle.xid_order.specs.Nearest.{near_id}
@@ -8,17 +8,14 @@ use Rattle.tx_model.specs.declared.report.Line.{Line}
 use Rattle.tx_events.specs.declared.record.Counters.{Counters}
 use Rattle.tx_events.specs.Events.{by_of, events_of, given}
 use Rattle.tx_model.specs.Stance.{Stance, stance_from, after, nothing_yet}
-use Rattle.tx_model.specs.Replies.{IsFuture, IsGivenAt, IsHorizon, IsKnown, IsNearNext, IsNotTooOld, IsStatusOf, IsStopped, IsWarned, MayFindOldest, MayReadAt, MayReply, RoundSpan, seen_id, status_after}
+use Rattle.tx_model.specs.Replies.{MayFindOldest, MayReadAt, MayReply, IsGivenAt, IsNotTooOld, IsStopped, IsWarned, RoundSpan, seen_id}
 use Rattle.tx_events.specs.Snapshots.{snapshot_data, snapshot_xmax}
 use Rattle.tx_events.specs.Visible.{is_visible}
 use Rattle.xid_order.specs.Limits.{stop_limit, warn_limit}
 use Rattle.tx_events.specs.History.{next_given}
-use Rattle.tx_events.specs.Horizon.{oldest_id, oldest_xmin}
-use Rattle.tx_events.specs.IdLists.{has}
-use Rattle.tx_events.specs.Running.{running}
+use Rattle.tx_events.specs.Horizon.{oldest_id}
 use Rattle.tx_model.specs.declared.command.Command.{Command}
 use Rattle.tx_model.specs.declared.reply.Reply.{Reply}
-use Rattle.tx_model.specs.declared.reply.Status.{Status}
 use Rattle.tx_model.specs.Lines.{is_line_of, stance}
 use Rattle.tx_events.proofs.OwnEvents.{AreOthers, AreLater, later_are_others, events_of_grows, not_other}
 use Rattle.tx_events.proofs.ListSteps.{both_all}
@@ -70,7 +67,7 @@ warned_grows base h es by warn o w = (
 
 -- where a command may read in a round, it may read when the history has grown by events of other commands and the
 -- round's place is wider
-pub read_grows : (h es : List Event) (r r' : RoundSpan) (by : By) (p : ℕ) → r'.from ≤ r.from → r.to ≤ r'.to → r.to ≤ length h → AreLater by es → MayReadAt h r by p → MayReadAt (h ++ es) r' by p
+read_grows : (h es : List Event) (r r' : RoundSpan) (by : By) (p : ℕ) → r'.from ≤ r.from → r.to ≤ r'.to → r.to ≤ length h → AreLater by es → MayReadAt h r by p → MayReadAt (h ++ es) r' by p
 read_grows h es r r' by p f t w o k =
     let within : p ≤ length h = omega (arith, k.not_past) in
     record {
@@ -89,7 +86,7 @@ found_grows base h es r r' by oldest f t w o k = record {
   oldest_is = k.oldest_is ∙ ap (oldest_id base.oldest) (sym (take-append-le (k.place - k.lag) h es (omega (arith, k.read.not_past))));
 }
 
-pub young_grows : (base : Counters) (h es : List Event) (r r' : RoundSpan) (by : By) (id : ℕ) → r'.from ≤ r.from → r.to ≤ r'.to → r.to ≤ length h → AreLater by es → IsNotTooOld base h r by id → IsNotTooOld base (h ++ es) r' by id
+young_grows : (base : Counters) (h es : List Event) (r r' : RoundSpan) (by : By) (id : ℕ) → r'.from ≤ r.from → r.to ≤ r'.to → r.to ≤ length h → AreLater by es → IsNotTooOld base h r by id → IsNotTooOld base (h ++ es) r' by id
 young_grows base h es r r' by id f t w o k = record { oldest = k.oldest; found = found_grows base h es r r' by k.oldest f t w o k.found; young = k.young }
 
 stopped_grows : (base : Counters) (h es : List Event) (r r' : RoundSpan) (by : By) (next stop : ℕ) → r'.from ≤ r.from → r.to ≤ r'.to → r.to ≤ length h → AreLater by es → IsStopped base h r by next stop → IsStopped base (h ++ es) r' by next stop
@@ -102,52 +99,6 @@ stopped_grows base h es r r' by next stop f t w o k =
       stop_is = k.stop_is ∙ ap (λ t. stop_limit (oldest_id base.oldest t)) (sym same);
       reached = k.reached;
     }
-
--- the status of an id at a question's place
-status_grows : (told : Type 0) (base : Counters) (committed : List ℕ) (h es : List Event) (by : By) (x : ℕ) (status : Status) → IsStatusOf told base committed h by x status → IsStatusOf told base committed (h ++ es) by x status
-status_grows told base committed h es by x status k =
-    let same = take-grows h es _ k.place k.asked in
-    record {
-      place = k.place;
-      asked = slice_get-grows h es _ k.place k.asked;
-      young = subst (λ t. oldest_id base.oldest t ≤ x) (sym same) k.young;
-      given = subst (λ t. x < next_given base.next t) (sym same) k.given;
-      runs = k.runs ∙ ap (λ t. has (running t) x) (sym same);
-      exact = λ t. k.exact t ∙ ap (λ t. status_after committed t x) (sym same);
-    }
-
-pub known_grows : (told : Type 0) (base : Counters) (committed : List ℕ) (h es : List Event) (by : By) (x : ℕ) (status : Status) → IsKnown told base committed h by x status → IsKnown told base committed (h ++ es) by x status
-known_grows told base committed h es by x status k = (k.0, λ n. status_grows told base committed h es by x status (k.1 n))
-
--- where less is told of states
-pub known_less : (told less : Type 0) (base : Counters) (committed : List ℕ) (h : List Event) (by : By) (x : ℕ) (status : Status) → (less → told) → IsKnown told base committed h by x status → IsKnown less base committed h by x status
-known_less told less base committed h by x status f k = (
-  k.0,
-  λ n. let i = k.1 n in
-      record { place = i.place; asked = i.asked; young = i.young; given = i.given; runs = i.runs; exact = λ t. i.exact (f t) },
-)
-
-future_grows : (base : Counters) (h es : List Event) (by : By) (x next : ℕ) → IsFuture base h by x next → IsFuture base (h ++ es) by x next
-future_grows base h es by x next k = record {
-  place = k.place;
-  asked = slice_get-grows h es _ k.place k.asked;
-  next_is = k.next_is ∙ ap (next_given base.next) (sym (take-grows h es _ k.place k.asked));
-  past = k.past;
-}
-
-pub near_next_grows : (base : Counters) (h es : List Event) (r r' : RoundSpan) (by : By) (x : ℕ) (found : Option ℕ) → r'.from ≤ r.from → r.to ≤ r'.to → r.to ≤ length h → AreLater by es → IsNearNext base h r by x found → IsNearNext base (h ++ es) r' by x found
-near_next_grows base h es r r' by x found f t w o k = record {
-  place = k.place;
-  read = read_grows h es r r' by k.place f t w o k.read;
-  near = ap (λ t. near_id (next_given base.next t) x) (take-append-le k.place h es (omega (arith, k.read.not_past))) ∙ k.near;
-}
-
-horizon_grows : (base : Counters) (h es : List Event) (r r' : RoundSpan) (by : By) (xmin : ℕ) → r'.from ≤ r.from → r.to ≤ r'.to → r.to ≤ length h → AreLater by es → IsHorizon base h r by xmin → IsHorizon base (h ++ es) r' by xmin
-horizon_grows base h es r r' by xmin f t w o k = record {
-  place = k.place;
-  read = read_grows h es r r' by k.place f t w o k.read;
-  xmin_is = k.xmin_is ∙ ap (oldest_xmin base.next) (sym (take-append-le k.place h es (omega (arith, k.read.not_past))));
-}
 
 -- what may be answered may be answered when the history has grown by events of other commands and the round's place
 -- is wider
@@ -168,7 +119,6 @@ may_reply_grows base committed h es r r' by s commands.Commit replies.Done f t w
 may_reply_grows base committed h es r r' by s commands.Commit (replies.Refused refusals.NoTransaction) f t w o m = m
 may_reply_grows base committed h es r r' by s commands.Abort replies.Done f t w o m = m
 may_reply_grows base committed h es r r' by s commands.Abort (replies.Refused refusals.NoTransaction) f t w o m = m
-may_reply_grows base committed h es r r' by s commands.Horizon (replies.Horizon xmin) f t w o m = horizon_grows base h es r r' by xmin f t w o m
 may_reply_grows base committed h es r r' by s (commands.Snap name) (replies.Snapped lists) f t w o m =
     (m.0, m.1, m.2, slice_get-grows h es _ m.2 m.3, m.4 ∙ ap (snapshot_data base.next) (sym (take-grows h es _ m.2 m.3)))
 may_reply_grows base committed h es r r' by s (commands.Snap name) (replies.Refused refusals.NameTaken) f t w o m = m
@@ -199,14 +149,4 @@ may_reply_grows base committed h es r r' by s (commands.See name x) (replies.Ref
   },
 )
 may_reply_grows base committed h es r r' by s (commands.See name x) (replies.Refused refusals.NoSnapshot) f t w o m = m
-may_reply_grows base committed h es r r' by s (commands.Status x) (replies.Known status) f t w o m = known_grows (Unit {0}) base committed h es by x status m
-may_reply_grows base committed h es r r' by s (commands.Status x) (replies.Refused (refusals.TooOld oldest)) f t w o m = (m.0, m.1, found_grows base h es r r' by oldest f t w o m.2)
-may_reply_grows base committed h es r r' by s (commands.Status x) (replies.Refused (refusals.Future next)) f t w o m = future_grows base h es by x next m
-may_reply_grows base committed h es r r' by s (commands.Did x) (replies.Refused (refusals.TooOld oldest)) f t w o m = record {
-  normal = m.normal;
-  id = m.id;
-  near = near_next_grows base h es r r' by x.number m.id f t w o m.near;
-  older = m.older;
-  found = found_grows base h es r r' by oldest f t w o m.found;
-}
 may_reply_grows base committed h es r r' by s command reply f t w o m = absurd m

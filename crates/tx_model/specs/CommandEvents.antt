@@ -1,5 +1,5 @@
 -- Which events a command has, by its reply.
-use Rattle.std.specs.Prelude.{◌≡◌, ℕ, ◌<◌, ◌≤◌, ◌&&◌, nat_le, Bool, true, false, cond, List, [], ◌∷◌, Option, Some, None, length, ◌⊎◌}
+use Rattle.std.specs.Prelude.{◌≡◌, ℕ, ◌<◌, ◌≤◌, List, [], ◌∷◌, Option, Some, None, length, ◌⊎◌}
 use Rattle.std.specs.List.{fold}
 use Rattle.tx_events.specs.declared.event.By.{By}
 use Rattle.tx_events.specs.declared.event.Event.{Event}
@@ -40,22 +40,6 @@ abbrev pub undo_event : By → Option ℕ → List Event
 undo_event by None = []
 undo_event by (Some id) = events.Undo by id ∷ []
 
--- whether an id's status was asked for before the command was refused so
-abbrev pub is_behind_question : Refusal → Bool
-is_behind_question (refusals.TooOld oldest) = true
-is_behind_question (refusals.Future next) = true
-is_behind_question (refusals.DiskFault lock) = true
-is_behind_question _ = false
-
-abbrev pub was_asked : Reply → Bool
-was_asked (replies.Known status) = true
-was_asked (replies.Refused refusal) = is_behind_question refusal
-was_asked _ = false
-
--- the question for an id's status, which none of the special ids needs
-abbrev pub ask_event : By → ℕ → Reply → List Event
-ask_event by x reply = cond (was_asked reply && nat_le 3 x) (events.Ask by x ∷ []) []
-
 -- how many ids a refused write may have given: all of them where a volume failed behind the last one, else fewer
 abbrev pub MayHaveGiven : Refusal → ℕ → ℕ → Type 0
 MayHaveGiven (refusals.DiskFault lock) wanted ids = ids ≤ wanted
@@ -71,5 +55,4 @@ HasEvents by s commands.Commit replies.Done h = h ≡ commit_event by (top_level
 HasEvents by s commands.Abort replies.Done h = h ≡ abort_event by (top_level s.levels)
 HasEvents by s (commands.Snap name) (replies.Snapped lists) h = h ≡ events.Snap by name ∷ []
 HasEvents by s (commands.DropSnap name) replies.Done h = h ≡ events.SnapDrop by name ∷ []
-HasEvents by s (commands.Status x) reply h = h ≡ ask_event by x reply
 HasEvents by s command reply h = h ≡ []

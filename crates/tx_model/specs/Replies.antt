@@ -1,5 +1,5 @@
 -- Which replies are lawful.
-use Rattle.std.specs.Prelude.{IsTrue, ◌↔◌, ◌≡◌, ◌≢◌, ℕ, ◌-◌, ◌<◌, ◌≤◌, ◌==◌, nat_lt, Bool, true, false, List, [], Option, Some, None, length, take, drop, cond, slice_get, IfSome}
+use Rattle.std.specs.Prelude.{IsTrue, ◌↔◌, ◌≡◌, ◌≢◌, ℕ, ◌-◌, ◌<◌, ◌≤◌, nat_lt, Bool, List, [], Option, Some, None, length, take, drop, cond, slice_get, IfSome}
 use Rattle.std.specs.List.{AllByRecursion}
 use Rattle.xid_order.specs.Nearest.{near_id}
 use Rattle.tx_events.specs.declared.event.By.{By}
@@ -9,16 +9,12 @@ use Rattle.tx_model.specs.declared.command.Command.{Command}
 use Rattle.tx_model.specs.declared.command.Command.TheVariants as commands
 use Rattle.tx_model.specs.declared.reply.Reply.{Reply}
 use Rattle.tx_model.specs.declared.reply.Reply.TheVariants as replies
-use Rattle.tx_model.specs.declared.reply.Status.{Status}
-use Rattle.tx_model.specs.declared.reply.Status.TheVariants as statuses
 use Rattle.tx_events.specs.declared.refusal.Refusal.TheVariants as refusals
 use Rattle.tx_events.specs.declared.record.Counters.{Counters}
 use Rattle.tx_events.specs.Events.{by_of, given_by}
 use Rattle.xid_order.specs.Limits.{stop_limit, warn_limit}
 use Rattle.tx_events.specs.History.{next_given}
-use Rattle.tx_events.specs.Horizon.{oldest_id, oldest_xmin}
-use Rattle.tx_events.specs.IdLists.{has}
-use Rattle.tx_events.specs.Running.{running}
+use Rattle.tx_events.specs.Horizon.{oldest_id}
 use Rattle.tx_events.specs.Snapshots.{snapshot_data, snapshot_xmax}
 use Rattle.tx_model.specs.Stance.{Stance, lacking, snap_of}
 use Rattle.tx_events.specs.Visible.{is_visible}
@@ -85,56 +81,6 @@ pub record IsTooOld (base : Counters) (h : List Event) (round : RoundSpan) (by :
   pub older : IfSome (near_id (snapshot_xmax base.next (take place h)) x) (λ id. id < oldest)
   pub found : MayFindOldest base h round by oldest
 
--- the status of a special id is fixed: 0 never ran, and 1 and 2 count as committed
-abbrev pub special_status : ℕ → Status
-special_status x = cond (x == 0) statuses.Aborted statuses.Committed
-
--- how an id stands after these events
-abbrev pub status_after : List ℕ → List Event → ℕ → Status
-status_after committed h x =
-    cond (has (running h) x) statuses.InProgress
-    (cond (is_visible committed h x) statuses.Committed statuses.Aborted)
-
-abbrev pub is_in_progress : Status → Bool
-is_in_progress statuses.InProgress = true
-is_in_progress _ = false
-
--- The command asked for the status of x at a place where x had been given and wasn't older than the oldest id. Whether
--- it ran there is told, and where the states on pages are told, how it stood there.
-pub record IsStatusOf (told : Type 0) (base : Counters) (committed : List ℕ) (h : List Event) (by : By) (x : ℕ) (status : Status) : Type 0 where
-  pub place : ℕ
-  pub asked : slice_get h place ≡ Some (events.Ask by x)
-  pub young : oldest_id base.oldest (take place h) ≤ x
-  pub given : x < next_given base.next (take place h)
-  pub runs : is_in_progress status ≡ has (running (take place h)) x
-  pub exact : told → status ≡ status_after committed (take place h) x
-
-abbrev pub IsKnown : Type 0 → Counters → List ℕ → List Event → By → ℕ → Status → Type 0
-IsKnown told base committed h by x status =
-    (x < 3 → status ≡ special_status x) × (3 ≤ x → IsStatusOf told base committed h by x status)
-
--- the command asked for the status of an id that hadn't been given there
-pub record IsFuture (base : Counters) (h : List Event) (by : By) (x next : ℕ) : Type 0 where
-  pub place : ℕ
-  pub asked : slice_get h place ≡ Some (events.Ask by x)
-  pub next_is : next ≡ next_given base.next (take place h)
-  pub past : next ≤ x
-
--- The full id that a stored id means to a command that reads the next id: the nearest to it, at a place where the
--- command may read.
-pub record IsNearNext (base : Counters) (h : List Event) (round : RoundSpan) (by : By) (x : ℕ) (found : Option ℕ) : Type 0 where
-  pub place : ℕ
-  pub read : MayReadAt h round by place
-  pub near : near_id (next_given base.next (take place h)) x ≡ found
-
--- that id is older than an oldest id that the command may find, or there is none
-pub record IsOldNear (base : Counters) (h : List Event) (round : RoundSpan) (by : By) (x oldest : ℕ) : Type 0 where
-  pub normal : 3 ≤ x
-  pub id : Option ℕ
-  pub near : IsNearNext base h round by x id
-  pub older : IfSome id (λ id. id < oldest)
-  pub found : MayFindOldest base h round by oldest
-
 -- at place p the command is given this id
 pub record IsGivenAt (h : List Event) (by : By) (p id : ℕ) : Type 0 where
   pub event : Event
@@ -156,12 +102,6 @@ pub record IsStopped (base : Counters) (h : List Event) (round : RoundSpan) (by 
   pub next_is : next ≡ next_given base.next (take place h)
   pub stop_is : stop ≡ stop_limit (oldest_id base.oldest (take place h))
   pub reached : stop ≤ next
-
--- this was the oldest xmin at a place where the command may read
-pub record IsHorizon (base : Counters) (h : List Event) (round : RoundSpan) (by : By) (xmin : ℕ) : Type 0 where
-  pub place : ℕ
-  pub read : MayReadAt h round by place
-  pub xmin_is : xmin ≡ oldest_xmin base.next (take place h)
 
 -- a transaction has at most so many levels: itself and 1,000 savepoints
 abbrev pub most_levels : ℕ
@@ -185,7 +125,6 @@ MayReply base committed h round by s commands.Commit replies.Done = s.levels ≢
 MayReply base committed h round by s commands.Commit (replies.Refused refusals.NoTransaction) = s.levels ≡ []
 MayReply base committed h round by s commands.Abort replies.Done = s.levels ≢ []
 MayReply base committed h round by s commands.Abort (replies.Refused refusals.NoTransaction) = s.levels ≡ []
-MayReply base committed h round by s commands.Horizon (replies.Horizon xmin) = IsHorizon base h round by xmin
 MayReply base committed h round by s (commands.Snap name) (replies.Snapped lists) =
     (snap_of name s ≡ None) × (length s.snaps < 64) × (p : ℕ) × IsTakenAt h by name p × (lists ≡ snapshot_data base.next (take p h))
 MayReply base committed h round by s (commands.Snap name) (replies.Refused refusals.NameTaken) = snap_of name s ≢ None
@@ -197,12 +136,4 @@ MayReply base committed h round by s (commands.See name x) (replies.Seen verdict
 MayReply base committed h round by s (commands.See name x) (replies.Refused (refusals.TooOld oldest)) =
     (number : ℕ) × (snap_of name s ≡ Some number) × IsTooOld base h round by number name x.number oldest
 MayReply base committed h round by s (commands.See name x) (replies.Refused refusals.NoSnapshot) = snap_of name s ≡ None
-MayReply base committed h round by s (commands.Status x) (replies.Known status) =
-    IsKnown (Unit {0}) base committed h by x status
-MayReply base committed h round by s (commands.Status x) (replies.Refused (refusals.TooOld oldest)) =
-    (3 ≤ x) × (x < oldest) × MayFindOldest base h round by oldest
-MayReply base committed h round by s (commands.Status x) (replies.Refused (refusals.Future next)) =
-    IsFuture base h by x next
-MayReply base committed h round by s (commands.Did x) (replies.Refused (refusals.TooOld oldest)) =
-    IsOldNear base h round by x.number oldest
 MayReply base committed h round by s command reply = ⊥

@@ -50,7 +50,7 @@ use Rattle.engine_parts.specs.Standing.{IsLoggedFrom, LeavesStage, asks_volume, 
 use Rattle.engine_parts.specs.Steps.{GoesOn}
 use Rattle.engine_parts.proofs.Acting.{acted_nothing}
 use Rattle.engine_parts.proofs.Adding.{may_wider}
-use Rattle.engine_parts.proofs.Refusing.{first_fails, not_held, refused_leaves}
+use Rattle.engine_parts.proofs.Refusing.{first_fails, not_held, refused_events, refused_leaves}
 use Rattle.bank_sections.specs.Faults.{IsXactFault}
 use Rattle.proc_sections.proofs.Closing.{end_by}
 use Rattle.xact_ends.specs.Aborts.{Aborts}
@@ -184,16 +184,16 @@ pub else_none : (r : Refusal) → is_by_standing r ≡ false → by_standing (re
 else_none r apart = ap (λ (b : Bool). then_some b r) apart
 
 -- the lists went on, and the command was refused by none of how its session stands
-pub acted_stopped : {tells : Bool} (start : Start) (n : ℕ) (s s' : Session) (stage : Stage) (command : Command) (r : Refusal) (lists more : List (List Entry)) → GoesOn n [] lists more → s'.levels ≡ s.levels → is_by_standing r ≡ false → refused_by command (stance_of s) (pending_in stage) ≡ None → HasEvents (by_at n s.levels.commands) (stance_of s) command (replies.Refused r) []
+pub acted_stopped : {tells : Bool} (start : Start) (n : ℕ) (s s' : Session) (stage : Stage) (command : Command) (r : Refusal) (lists more : List (List Entry)) → GoesOn n [] lists more → s'.levels ≡ s.levels → is_by_standing r ≡ false → refused_by command (stance_of s) (pending_in stage) ≡ None
     → Adds (by_at n s.levels.commands) (MayLeave command (stance_of s) stage (open_ids n (history lists)) (replies.Refused r)) lists more
     → MayAnswer tells start more (alone (history lists) (history more)) (by_at n s.levels.commands) (stance_of s) stage command (replies.Refused r) → Acted tells start (by_at n s.levels.commands) (stance_of s) (stance_of s') stage command (replies.Refused r) lists more
-acted_stopped start n s s' stage command r lists more goes same apart free fitting adds allowed =
+acted_stopped start n s s' stage command r lists more goes same apart free adds allowed =
     let by = by_at n s.levels.commands in record {
       grows = goes.grows;
       added = [];
       own = goes.own;
       each = tt;
-      fitting = fitting;
+      fitting = refused_events by (stance_of s) command r;
       adds = adds;
       allowed = allowed;
       standing = ap (λ (b : Bool). then_some b r) apart ∙ sym free;
@@ -298,7 +298,7 @@ module _ {H L P : Type 0} {l : logs.Ghosts L} {p : disks.Ghosts P} (hall : Hall 
         own = own;
         may = may;
         acted = acted_stopped (start_of hall) u.number u.session new.session u.session.stage commands.Commit r (view u.pass).seen (view new.pass).seen c.0 c.1 (stops_else (start_of hall) (view new.pass).seen by u.session.stage new.session.stage r c.2)
-            (not_refused ends.Commit (stance_of u.session) u.session.stage (some_list (stance_of u.session).levels (has_top (stance_of u.session).levels (top_open u.session) (levelled h u.session was.ready.at.stands.nest some))) free) refl adds
+            (not_refused ends.Commit (stance_of u.session) u.session.stage (some_list (stance_of u.session).levels (has_top (stance_of u.session).levels (top_open u.session) (levelled h u.session was.ready.at.stands.nest some))) free) adds
             (stops_answer p.tells (start_of hall) (view new.pass).seen (alone h (history (view new.pass).seen)) by (stance_of u.session) (top_open u.session) u.session.stage new.session.stage r (levelled h u.session was.ready.at.stands.nest some) c.2);
         stage = stops_stage (start_of hall) (view new.pass).seen by u.session.stage new.session.stage r c.2;
         held = stops_held (start_of hall) (view new.pass).seen by u.session.stage new.session.stage r c.2;
@@ -326,7 +326,7 @@ module _ {H L P : Type 0} {l : logs.Ghosts L} {p : disks.Ghosts P} (hall : Hall 
         own = own;
         may = may;
         acted = acted_stopped (start_of hall) u.number u.session new.session u.session.stage commands.Abort r (view u.pass).seen (view new.pass).seen c.0 c.1 (fault_else (view new.pass).seen by r c.3)
-            (not_refused ends.Abort (stance_of u.session) u.session.stage (some_list (stance_of u.session).levels (has_top (stance_of u.session).levels (top_open u.session) (levelled h u.session was.ready.at.stands.nest some))) (abort_free u.session.stage clear)) refl adds
+            (not_refused ends.Abort (stance_of u.session) u.session.stage (some_list (stance_of u.session).levels (has_top (stance_of u.session).levels (top_open u.session) (levelled h u.session was.ready.at.stands.nest some))) (abort_free u.session.stage clear)) adds
             (fault_answer p.tells (start_of hall) (view new.pass).seen (alone h (history (view new.pass).seen)) by (stance_of u.session) u.session.stage r (some_top (stance_of u.session) (top_open u.session) (levelled h u.session was.ready.at.stands.nest some)) c.3);
         stage = fault_stage (view new.pass).seen by u.session.stage new.session.stage r c.2 c.3;
         held = fault_held (start_of hall) (view new.pass).seen by new.session.stage r c.3;

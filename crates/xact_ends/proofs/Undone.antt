@@ -117,7 +117,7 @@ module _ {H L P : Type 0} {l : logs.Ghosts L} {p : disks.Ghosts P} (hall : Hall 
         own = own;
         may = may;
         acted = acted_stopped (start_of hall) u.number u.session new.session u.session.stage commands.Undo r (view u.pass).seen (view new.pass).seen c.0 c.1 (fault_else (view new.pass).seen by r c.3)
-            (not_refused (stance_of u.session) u.session.stage two free) refl adds
+            (not_refused (stance_of u.session) u.session.stage two free) adds
             (fault_answer p.tells (start_of hall) (view new.pass).seen (alone h (history (view new.pass).seen)) by (stance_of u.session) u.session.stage r (subst (λ (o : Option ℕ). IsTrue (is_some o)) (sym inner) refl) c.3);
         stage = fault_stage (view new.pass).seen by u.session.stage new.session.stage r c.2 c.3;
         held = fault_held (start_of hall) (view new.pass).seen by new.session.stage r c.3;

@@ -1,5 +1,5 @@
 -- A session that reads goes on through critical sections without an event.
-use Rattle.std.proofs.Common.{◌≡◌, ◌≢◌, ℕ, List, arith, refl, [], ◌∷◌, ◌++◌, sym, ap, subst, ◌∙◌, append-nil, eq-eqb}
+use Rattle.std.proofs.Common.{◌≡◌, ◌≢◌, ℕ, ◌<◌, List, arith, refl, [], ◌∷◌, ◌++◌, sym, ap, subst, ◌∙◌, append-nil, eq-eqb}
 use Rattle.std.specs.List.{AllByRecursion, filter}
 use Rattle.tx_events.specs.declared.event.By.{By}
 use Rattle.tx_events.specs.declared.event.Event.{Event}
@@ -57,7 +57,7 @@ others_went by lists more went =
     }
 
 -- a session that may call may call again behind such steps
-pub call_read : {added : List Event} (start : Start) (v w : Knowledge) (n n' : ℕ) (s s' : Session) → MayCall start v n s → WentOn n added v.seen w.seen → n' ≡ n → s' ≡ s → IsReady start w n' s' → MayCall start w n' s'
+pub call_read : (start : Start) (v w : Knowledge) (n n' : ℕ) (s s' : Session) → MayCall start v n s → WentOn n [] v.seen w.seen → n' ≡ n → s' ≡ s → IsReady start w n' s' → MayCall start w n' s'
 call_read start v w n n' s s' m went number same r = record {
   ready = r;
   stage = subst (λ (z : ℕ × Session). IsInStage start w.seen z.0 (inner_id z.1) z.1.levels.open_ids.items z.1.stage) (λ j. (sym number j, sym same j))

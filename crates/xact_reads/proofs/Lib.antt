@@ -5,6 +5,3 @@ pub mod Showing
 pub mod Going
 pub mod Replying
 pub mod Looking
-pub mod Standing
-pub mod Storing
-pub mod Telling

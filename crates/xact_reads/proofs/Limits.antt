@@ -42,7 +42,7 @@ step_small base h (events.SnapDrop by name) may small = same_small base h (event
 step_small base h (events.Oldest by oldest) may small = same_small base h (events.Oldest by oldest) refl small
 step_small base h (events.Ask by id) may small = same_small base h (events.Ask by id) refl small
 
-pub next_small : (base : Counters) (h : List Event) → IsBase base → IsLegal base h → next_given base.next h < 2 ^ 63
+next_small : (base : Counters) (h : List Event) → IsBase base → IsLegal base h → next_given base.next h < 2 ^ 63
 next_small base h b = by_end (λ g. IsLegal base g → next_given base.next g < 2 ^ 63)
     (λ legal. let n = b.next in let s = stop_to base.oldest in omega arith)
     (λ g e before legal. step_small base g e (legal_last base g e legal) (before (legal_front base g e legal))) h

@@ -1,9 +1,11 @@
 -- What a session's snapshot shows, by what it shows by itself and by what was read.
-use Rattle.std.proofs.Common.{Bool, ◌≡◌, ℕ, ◌^◌, ◌<◌, ◌≤◌, List, Some, true, false, take, inr, sym, ap, subst, ◌∙◌, arith, Option}
+use Rattle.std.proofs.Common.{Bool, ◌≡◌, ℕ, ◌^◌, ◌<◌, ◌≤◌, List, Some, true, false, take, sym, ap, subst, ◌∙◌, arith, Option}
 use Rattle.std.proofs.lemmas.Option.{same_Some}
 use Rattle.notes.specs.Lists.{Grows}
 use Rattle.tx_events.specs.declared.event.Event.{Event}
+use Rattle.tx_events.specs.declared.refusal.Lock.TheVariants as locks
 use Rattle.tx_events.specs.declared.refusal.Refusal.{Refusal}
+use Rattle.tx_events.specs.declared.refusal.Refusal.TheVariants as refusals
 use Rattle.tx_events.specs.declared.event.By.{By}
 use Rattle.tx_events.specs.IdLists.{Ascending}
 use Rattle.tx_events.specs.Visible.{is_visible}
@@ -112,4 +114,5 @@ state_says start lists x state committed says read used few = let s = read used 
 
 -- a fault of pg_subtrans
 pub parent_unread : (start : Start) (lists : List (List Entry)) (by : By) (x : ℕ) (r : Refusal) → IsSubtransFault lists by r → IsUnread start lists by x r
-parent_unread start lists by x r f = inr f
+parent_unread start lists by x (refusals.DiskFault (locks.Subtrans bank)) f = f
+parent_unread start lists by x r f = absurd f

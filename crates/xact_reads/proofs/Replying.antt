@@ -1,9 +1,9 @@
 -- The replies of a look at a snapshot are lawful.
-use Rattle.std.proofs.Common.{◌≡◌, ℕ, zero, suc, ◌+◌, ◌-◌, ◌<◌, ◌≤◌, ◌==◌, ◌||◌, ◌++◌, List, [], Option, None, Some, IfSome, IsTrue, Bool, true, false, not, nat_eq, nat_lt, cond, is_none, length, length-append, take, take_all, Contains, refl, sym, ap, subst, ◌∙◌, arith, ⊎_elim}
+use Rattle.std.proofs.Common.{◌≡◌, ℕ, zero, suc, ◌+◌, ◌-◌, ◌<◌, ◌≤◌, ◌==◌, ◌||◌, ◌++◌, List, [], Option, None, Some, IfSome, IsTrue, Bool, true, false, not, nat_eq, nat_lt, cond, is_none, length, length-append, take, take_all, Contains, refl, sym, ap, subst, ◌∙◌, arith}
 use Rattle.std.proofs.lemmas.Bool.{false_from_ne_true}
 use Rattle.std.proofs.lemmas.Bool.Decides.{nat_tests}
 use Rattle.std.specs.Bool.{then_some}
-use Rattle.std.specs.List.{AllByRecursion, list_any, find}
+use Rattle.std.specs.List.{list_any, find}
 use Rattle.disk_core.specs.declared.log_disk.LogDisk as logs
 use Rattle.disk_core.specs.declared.page_disk.PageDisk as disks
 use Rattle.hall.specs.declared.hall.Hall.{Hall}
@@ -21,9 +21,9 @@ use Rattle.tx_events.specs.declared.refusal.Refusal.{Refusal}
 use Rattle.tx_events.specs.declared.refusal.Refusal.TheVariants as refusals
 use Rattle.tx_events.specs.declared.snapshot.SnapData.{SnapData}
 use Rattle.tx_events.specs.Base.{IsBase}
-use Rattle.tx_events.specs.Events.{by_of, given, same_name}
+use Rattle.tx_events.specs.Events.{same_name}
 use Rattle.tx_events.specs.History.{IsLegal}
-use Rattle.tx_events.specs.Horizon.{oldest_id, oldest_xmin}
+use Rattle.tx_events.specs.Horizon.{oldest_id}
 use Rattle.tx_events.specs.Running.{open_ids}
 use Rattle.tx_events.specs.Snapshots.{snapshot_xmax}
 use Rattle.tx_events.specs.Visible.{is_visible}
@@ -38,7 +38,7 @@ use Rattle.tx_model.specs.declared.command.Command.TheVariants as commands
 use Rattle.tx_model.specs.declared.reply.Reply.{Reply}
 use Rattle.tx_model.specs.declared.reply.Reply.TheVariants as replies
 use Rattle.tx_model.specs.CommandEvents.{HasEvents}
-use Rattle.tx_model.specs.Replies.{IsHorizon, MayFindOldest, MayReply, alone}
+use Rattle.tx_model.specs.Replies.{MayFindOldest, MayReply, alone}
 use Rattle.tx_model.specs.Stance.{after, snap_of}
 use Rattle.tx_model.proofs.Growth.{may_reply_grows}
 use Rattle.tx_core.specs.declared.entry.Entry.{Entry}
@@ -70,8 +70,7 @@ use Rattle.engine_parts.proofs.Calling.{may_counted, ran_counted}
 use Rattle.engine_parts.proofs.Refusing.{keeps_stage}
 use Rattle.xact_reads.specs.declared.glances.Glance.{Glance}
 use Rattle.xact_reads.specs.Glances.{IsNamed, Shows}
-use Rattle.bank_sections.specs.Faults.{IsSubtransFault}
-use Rattle.xact_reads.specs.Readings.{IsShown, IsStateUnread, IsUnread}
+use Rattle.xact_reads.specs.Readings.{IsShown, IsUnread}
 use Rattle.engine_parts.specs.Stages.{pending_in}
 use Rattle.engine_parts.proofs.Beholding.{held_unneeded, not_standing}
 use Rattle.xact_reads.proofs.Going.{call_read, others_went}
@@ -81,7 +80,7 @@ pub named_at : (start : Start) (v : Knowledge) (n : ℕ) (s : Session) (name : L
 named_at start v n s name k a named = registered_at start.base (history v.seen) n (λ x. same_name x.name name) s.levels.registered.items k a.stands.snaps named
 
 -- a command finds the announced oldest id at the end of what it has seen
-pub finds_oldest : (base : Counters) (by : By) (h h' : List Event) → length h ≤ length h' → IsInTurn by h' → MayFindOldest base h' (alone h h') by (oldest_id base.oldest h')
+finds_oldest : (base : Counters) (by : By) (h h' : List Event) → length h ≤ length h' → IsInTurn by h' → MayFindOldest base h' (alone h h') by (oldest_id base.oldest h')
 finds_oldest base by h h' longer turn = record {
   place = length h';
   read = reads_last by h h' longer turn;
@@ -91,10 +90,10 @@ finds_oldest base by h h' longer turn = record {
 }
 
 -- it is never before the one with which the life began
-pub oldest_from : (start : Start) (lists : List (List Entry)) → EngineInvariant start lists → start.base.oldest ≤ oldest_id start.base.oldest (history lists)
+oldest_from : (start : Start) (lists : List (List Entry)) → EngineInvariant start lists → start.base.oldest ≤ oldest_id start.base.oldest (history lists)
 oldest_from start lists k = oldest_rises start [] lists k (record { begins = λ q. (at lists q, refl) })
 
-pub went_longer : (n : ℕ) (lists more : List (List Entry)) → WentOn n [] lists more → length (history lists) ≤ length (history more)
+went_longer : (n : ℕ) (lists more : List (List Entry)) → WentOn n [] lists more → length (history lists) ≤ length (history more)
 went_longer n lists more went = begins_length (history lists) (history more) (history_grows lists more went.on.grows)
 
 below_special : (x : ℕ) → x < 3 → nat_lt x 3 ≡ true
@@ -155,16 +154,10 @@ module _ (start : Start) (v w : Knowledge) (n : ℕ) (s : Session) (name : List 
   -- nothing was read of it
   pub unread_answer : (tells : Bool) (g : Glance) (r : Refusal) → 3 ≤ x.number → Shows k.snapshot x.number g → IsUnread start w.seen by g.id r
       → MayAnswer tells start w.seen (alone (history v.seen) h) by (stance_of s) s.stage (commands.See name x) (replies.Refused r) × (by_standing (replies.Refused r) ≡ None)
-  unread_answer tells g r normal shows u = ⊎_elim (state_unread r) (parent_unread r) u
-    where
-      state_unread : (r : Refusal) → IsStateUnread start w.seen by g.id r → MayAnswer tells start w.seen (alone (history v.seen) h) by (stance_of s) s.stage (commands.See name x) (replies.Refused r) × (by_standing (replies.Refused r) ≡ None)
-      state_unread (refusals.DiskFault (locks.Xact bank)) u = ((refl, u), refl)
-      state_unread (refusals.TooOld oldest) u = (old_answer tells (Some g.id) oldest normal shows.near u.1 u.0, refl)
-      state_unread r u = absurd u
-
-      parent_unread : (r : Refusal) → IsSubtransFault w.seen by r → MayAnswer tells start w.seen (alone (history v.seen) h) by (stance_of s) s.stage (commands.See name x) (replies.Refused r) × (by_standing (replies.Refused r) ≡ None)
-      parent_unread (refusals.DiskFault (locks.Subtrans bank)) u = ((refl, u), refl)
-      parent_unread r u = absurd u
+  unread_answer tells g (refusals.DiskFault (locks.Xact bank)) normal shows u = ((refl, u), refl)
+  unread_answer tells g (refusals.DiskFault (locks.Subtrans bank)) normal shows u = ((refl, u), refl)
+  unread_answer tells g (refusals.TooOld oldest) normal shows u = (old_answer tells (Some g.id) oldest normal shows.near u.1 u.0, refl)
+  unread_answer tells g r normal shows u = absurd u
 
 -- what is shown of an id that wasn't too old when the oldest one was read
 pub seen_answer : (tells : Bool) (start : Start) (v u w : Knowledge) (n : ℕ) (s : Session) (name : List ℕ) (x : Xid) (k : RegisteredSnapshot) (g : Glance) (oldest : ℕ) (shown : Bool) → IsAt start u n s → WentOn n [] v.seen u.seen → WentOn n [] u.seen w.seen → IsNamed s.levels name k
@@ -192,33 +185,23 @@ seen_answer tells start v u w n s name x k g oldest shown a first second named n
       },
     ))
 
--- a command reads the oldest xmin at the end of what it has seen
-pub xmin_answer : (start : Start) (v w : Knowledge) (n : ℕ) (s : Session) (xmin : ℕ) → IsAt start w n s → WentOn n [] v.seen w.seen → xmin ≡ oldest_xmin start.base.next (history w.seen) → IsHorizon start.base (history w.seen) (alone (history v.seen) (history w.seen)) (by_at n s.levels.commands) xmin
-xmin_answer start v w n s xmin a went is =
-    let h : List Event = history w.seen in
-    let longer = went_longer n v.seen w.seen went in record {
-      place = length h;
-      read = reads_last (by_at n s.levels.commands) (history v.seen) h longer a.stands.turn;
-      xmin_is = is ∙ ap (oldest_xmin start.base.next) (sym (take_all (length h) h (omega arith)));
-    }
-
--- what a call did that only read, and asked for the status of an id if anything
+-- what a call did that only read
 module _ {H L P : Type 0} {l : logs.Ghosts L} {p : disks.Ghosts P} (hall : Hall H (Part L P l p) Entry Start) where
-  pub ran_asked : {banks : ℕ} (added : List Event) (old u new : Caller L P l p) (command : Command) (reply : Reply) → AllByRecursion (λ e. by_of e ≡ by_at u.number u.session.levels.commands) added → IsCounted old u → MayRun hall banks old → IsOf hall new.pass → IsReady (start_of hall) (view new.pass) new.number new.session → WentOn u.number added (view u.pass).seen (view new.pass).seen → new.session ≡ u.session → new.number ≡ u.number
-      → HasEvents (by_at u.number u.session.levels.commands) (stance_of u.session) command reply added
+  pub ran_read : {banks : ℕ} (old u new : Caller L P l p) (command : Command) (reply : Reply) → IsCounted old u → MayRun hall banks old → IsOf hall new.pass → IsReady (start_of hall) (view new.pass) new.number new.session → WentOn u.number [] (view u.pass).seen (view new.pass).seen → new.session ≡ u.session → new.number ≡ u.number
+      → HasEvents (by_at u.number u.session.levels.commands) (stance_of u.session) command reply []
       → Adds (by_at u.number u.session.levels.commands) (MayLeave command (stance_of u.session) u.session.stage (open_ids u.number (history (view u.pass).seen)) reply) (view u.pass).seen (view new.pass).seen
       → MayAnswer (p.tells) (start_of hall) (view new.pass).seen (alone (history (view u.pass).seen) (history (view new.pass).seen)) (by_at u.number u.session.levels.commands) (stance_of u.session) u.session.stage command reply
-      → by_standing reply ≡ refused_by command (stance_of u.session) (pending_in u.session.stage) → after (stance_of u.session) u.session.levels.commands command reply (given added) ≡ stance_of u.session → moves_end command ≡ false → flushes command (stance_of u.session) u.session.stage ≡ false → needs_log command (stance_of u.session) u.session.stage ≡ false → by_standing reply ≡ None
+      → by_standing reply ≡ refused_by command (stance_of u.session) (pending_in u.session.stage) → after (stance_of u.session) u.session.levels.commands command reply [] ≡ stance_of u.session → moves_end command ≡ false → flushes command (stance_of u.session) u.session.stage ≡ false → needs_log command (stance_of u.session) u.session.stage ≡ false → by_standing reply ≡ None
       → Ran hall (next_command old) command reply old new
-  ran_asked added old u new command reply each c m own ready went same number fitting adds allowed standing left still unflushed unneeded free =
+  ran_read old u new command reply c m own ready went same number fitting adds allowed standing left still unflushed unneeded free =
       ran_counted hall old u new command reply c (record {
         own = own;
         may = call_read (start_of hall) (view u.pass) (view new.pass) u.number new.number u.session new.session (may_counted hall old u c m) went number same ready;
         acted = record {
           grows = went.on.grows;
-          added = added;
+          added = [];
           own = went.on.own;
-          each = each;
+          each = tt;
           fitting = fitting;
           adds = adds;
           allowed = allowed;
@@ -230,15 +213,6 @@ module _ {H L P : Type 0} {l : logs.Ghosts L} {p : disks.Ghosts P} (hall : Hall 
         still = λ q is. not_standing (by_standing reply) q free is;
         count = (ap (λ (z : Session). z.levels.commands) same, number);
       })
-
-  -- without an event
-  pub ran_read : {banks : ℕ} (old u new : Caller L P l p) (command : Command) (reply : Reply) → IsCounted old u → MayRun hall banks old → IsOf hall new.pass → IsReady (start_of hall) (view new.pass) new.number new.session → WentOn u.number [] (view u.pass).seen (view new.pass).seen → new.session ≡ u.session → new.number ≡ u.number
-      → HasEvents (by_at u.number u.session.levels.commands) (stance_of u.session) command reply []
-      → Adds (by_at u.number u.session.levels.commands) (MayLeave command (stance_of u.session) u.session.stage (open_ids u.number (history (view u.pass).seen)) reply) (view u.pass).seen (view new.pass).seen
-      → MayAnswer (p.tells) (start_of hall) (view new.pass).seen (alone (history (view u.pass).seen) (history (view new.pass).seen)) (by_at u.number u.session.levels.commands) (stance_of u.session) u.session.stage command reply
-      → by_standing reply ≡ refused_by command (stance_of u.session) (pending_in u.session.stage) → after (stance_of u.session) u.session.levels.commands command reply [] ≡ stance_of u.session → moves_end command ≡ false → flushes command (stance_of u.session) u.session.stage ≡ false → needs_log command (stance_of u.session) u.session.stage ≡ false → by_standing reply ≡ None
-      → Ran hall (next_command old) command reply old new
-  ran_read old u new command reply = ran_asked [] old u new command reply tt
 
 -- where the session has a snapshot of this name, it isn't refused by how it stands
 pub not_refused : (s : Session) (name : List ℕ) (x : Xid) (k : RegisteredSnapshot) → IsNamed s.levels name k → refused_by (commands.See name x) (stance_of s) (pending_in s.stage) ≡ None

@@ -1,3 +1,2 @@
 pub mod Glances
 pub mod Readings
-pub mod Stores

@@ -1,5 +1,5 @@
 -- What was read of an id, and what the session's snapshot shows of it by that.
-use Rattle.std.specs.Prelude.{◌≡◌, ℕ, ◌<◌, ◌≤◌, ◌⊎◌, Bool, List, Option, take}
+use Rattle.std.specs.Prelude.{◌≡◌, ℕ, ◌<◌, ◌≤◌, Bool, List, Option, take}
 use Rattle.tx_events.specs.declared.event.By.{By}
 use Rattle.tx_events.specs.declared.refusal.Lock.TheVariants as locks
 use Rattle.tx_events.specs.declared.refusal.Refusal.{Refusal}
@@ -33,16 +33,12 @@ abbrev pub IsTopOf : Start → List (List Entry) → List (List Entry) → ℕ �
 IsTopOf start lists more xmin x topmost =
     IsInUse start x → AreFewIds more → (parents : List ℕ) × IsClimb start lists more xmin x parents topmost
 
--- a volume of pg_xact failed in this command, or the oldest id is past this one
-abbrev pub IsStateUnread : Start → List (List Entry) → By → ℕ → Refusal → Type 0
-IsStateUnread start lists by x (refusals.DiskFault (locks.Xact bank)) = MetFault lists (xact_lock bank) by
-IsStateUnread start lists by x (refusals.TooOld oldest) =
-    (oldest ≡ oldest_id start.base.oldest (history lists)) × (x < oldest)
-IsStateUnread start lists by x refusal = ⊥
-
--- or a volume of pg_subtrans failed
+-- a volume of pg_subtrans failed in this command, or one of pg_xact, or the oldest id is past this one
 abbrev pub IsUnread : Start → List (List Entry) → By → ℕ → Refusal → Type 0
-IsUnread start lists by x refusal = IsStateUnread start lists by x refusal ⊎ IsSubtransFault lists by refusal
+IsUnread start lists by x (refusals.DiskFault (locks.Xact bank)) = MetFault lists (xact_lock bank) by
+IsUnread start lists by x (refusals.TooOld oldest) =
+    (oldest ≡ oldest_id start.base.oldest (history lists)) × (x < oldest)
+IsUnread start lists by x refusal = IsSubtransFault lists by refusal
 
 -- in a life of few ids this is whether the id is visible at the session's snapshot of this name
 abbrev pub IsShown : Start → List (List Entry) → plain.Session → List ℕ → ℕ → Bool → Type 0

@@ -19,7 +19,7 @@ use tx_events::{Lock, Refusal};
 use xid_order::FullXid;
 
 /// The parent where it is below its child, as each that was set is.
-pub(crate) fn below(x: FullXid, parent: Option<FullXid>) -> Option<FullXid>
+fn below(x: FullXid, parent: Option<FullXid>) -> Option<FullXid>
     ensures below { IfSome result (λ y. y < x) }
     ensures kept { IfSome parent (λ y. y < x) → result ≡ parent }
 {

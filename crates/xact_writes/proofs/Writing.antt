@@ -1,5 +1,5 @@
 -- A write on its way, and what it did when it is done or refused.
-use Rattle.std.proofs.Common.{◌≡◌, ◌≢◌, ◌↔◌, ℕ, ◌+◌, ◌≤◌, ◌<◌, ◌==◌, List, [], ◌∷◌, ◌++◌, Option, None, Bool, false, IsTrue, ◌||◌, inl, inr, ⊎_elim, refl, sym, ap, subst, ◌∙◌, append-nil, append_assoc, arith, length, map, eq-eqb, ne_eqb, zero, suc, is_none}
+use Rattle.std.proofs.Common.{◌≡◌, ◌≢◌, ◌↔◌, ℕ, ◌+◌, ◌≤◌, ◌<◌, ◌==◌, List, [], ◌∷◌, ◌++◌, Option, None, Bool, false, IsTrue, ◌||◌, inr, ⊎_elim, refl, sym, ap, subst, ◌∙◌, append-nil, append_assoc, arith, length, map, eq-eqb, ne_eqb, zero, suc, is_none}
 use Rattle.std.specs.List.{AllByRecursion, filter, list_any}
 use Rattle.notes.proofs.Growing.{begins_length}
 use Rattle.tx_events.specs.declared.event.By.{By}
@@ -247,7 +247,7 @@ module _ (tells : Bool) (start : Start) (n : ℕ) (s s1 : Session) (ids : List �
 -- want of memory before anything was done
 pub acted_at_once : (tells : Bool) (start : Start) (n : ℕ) (s : Session) (lists : List (List Entry)) → s.stage ≡ stages.Clear → 1 ≤ length (levels_of s.levels.level_ids.items s.levels.unnamed) → 1 ≤ s.levels.unnamed → Acted tells start (by_at n s.levels.commands) (stance_of s) (stance_of s) s.stage commands.Write (replies.Refused refusals.Memory) lists lists
 acted_at_once tells start n s lists clear some lacked =
-    acted_refused {tells = tells} start lists lists n s.levels.commands (stance_of s) (stance_of s) s.stage commands.Write refusals.Memory refl refl (inl refl) (lacks_some s.levels.level_ids.items s.levels.unnamed lacked) (sym (not_refused s clear some))
+    acted_refused {tells = tells} start lists lists n s.levels.commands (stance_of s) (stance_of s) s.stage commands.Write refusals.Memory refl refl (lacks_some s.levels.level_ids.items s.levels.unnamed lacked) (sym (not_refused s clear some))
 
 -- a session that goes on to its next command has no event of it
 pub fresh_next : (n m : ℕ) (lists : List (List Entry)) → AllByRecursion (λ e. (by_of e).command ≤ m) (filter (is_of n) (history lists)) → IsFresh lists n (m + 1)

@@ -49,7 +49,7 @@ returns-in_default g c =
     let s = c.args.caller.now.session in record {
       own = c.requires.own;
       may = call_reserved (start_of c.args.hall.now) (view c.args.caller.now.pass) c.args.caller.now.number s (record s.levels { registered = c.reserve.new.self }) refl c.reserve.ensures.items c.requires.may;
-      acted = acted_refused (start_of c.args.hall.now) (view c.args.caller.now.pass).seen _ c.args.caller.now.number s.levels.commands (stance_of s) _ s.stage (commands.Snap c.args.name.now) refusals.Memory refl (ap (λ z. record { levels = levels_of s.levels.level_ids.items s.levels.unnamed; snaps = map told_of z }) c.reserve.ensures.items) refl refl (sym (not_refused s c.args.name.now c.requires.free c.requires.room));
+      acted = acted_refused (start_of c.args.hall.now) (view c.args.caller.now.pass).seen _ c.args.caller.now.number s.levels.commands (stance_of s) _ s.stage (commands.Snap c.args.name.now) refusals.Memory refl (ap (λ z. record { levels = levels_of s.levels.level_ids.items s.levels.unnamed; snaps = map told_of z }) c.reserve.ensures.items) refl (sym (not_refused s c.args.name.now c.requires.free c.requires.room));
       stage = refl;
       held = tt;
       still = λ r is. refl;

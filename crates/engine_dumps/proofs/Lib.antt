@@ -1,2 +1,0 @@
-pub mod Homing
-pub mod Showing

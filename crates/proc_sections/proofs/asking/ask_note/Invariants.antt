@@ -1,6 +1,0 @@
-use Rattle.tx_events.specs.declared.event.Event.TheVariants as events
-use Rattle.tx_core.specs.declared.entry.Kind.TheVariants as kinds
-use Rattle.proc_sections.proofs.asking.ask_note.Given as goal
-
-abbrev pub ghost-by : goal.ghost-by
-ghost-by a = record { by = a._about.now.0; kind = kinds.Event (events.Ask a._about.now.0 a._about.now.1) }

@@ -6,9 +6,13 @@
 #[cfg(test)]
 mod command_tests;
 #[cfg(test)]
+mod horizon_tests;
+#[cfg(test)]
 mod round_tests;
 #[cfg(test)]
 mod run_tests;
+#[cfg(test)]
+mod status_tests;
 #[cfg(test)]
 mod stream_tests;
 #[cfg(test)]

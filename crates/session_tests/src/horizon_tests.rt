@@ -1,0 +1,139 @@
+//! The oldest xmin, and that the number of banks changes no report.
+use crate::test_help::{check_parts, check_report};
+use std::test::Fail;
+
+/// No id from a live snapshot's xmin on is let go, whoever asks.
+#[test]
+fn snapshot_holds_the_horizon_back(rt: HostRuntime) -> Result<(), Fail> {
+    check_report(
+        &rt,
+        "a snap s
+a horizon
+.round
+b begin
+b write
+b commit
+b horizon
+",
+        "txid report 1
+life 1 from 0 next 3 oldest 3 multi 1 offset 1 oldest-multi 1 oldest-offset 1
+round 1
+a 1 snap s -> ok xmin 3 xmax 3 xip - sub - overflow no
+a 2 horizon -> ok 3
+round 2
+b 1 begin -> ok
+b 2 write -> ok 3
+b 3 commit -> ok
+b 4 horizon -> ok 3
+history
+snap a 1 s
+id b 2 3
+commit b 3 3
+multis
+log flushed 2 end 80
+0 checkpoint next 3 oldest 3 multi 1 offset 1 oldest-multi 1 oldest-offset 1
+1 commit 3
+end
+",
+    )
+}
+
+/// A running transaction holds it back too, and a savepoint in it doesn't; later ones that have ended don't let it go.
+#[test]
+fn running_transaction_holds_the_horizon_back(rt: HostRuntime) -> Result<(), Fail> {
+    check_parts(
+        &rt,
+        "a begin
+a write
+a save
+a write
+.round
+b begin
+b write
+b commit
+b horizon
+.round
+a commit
+.round
+b horizon
+",
+        &[
+            "
+b 3 commit -> ok
+b 4 horizon -> ok 3
+round 3
+",
+            "
+b 5 horizon -> ok 6
+history
+",
+        ],
+    )
+}
+
+/// A dropped snapshot lets it go on, to the next snapshot's xmax.
+#[test]
+fn dropped_snapshot_lets_the_horizon_go(rt: HostRuntime) -> Result<(), Fail> {
+    check_parts(
+        &rt,
+        "a snap s
+.round
+b begin
+b write
+b abort
+.round
+a horizon
+a drop s
+a horizon
+",
+        &[
+            "
+a 2 horizon -> ok 3
+a 3 drop s -> ok
+a 4 horizon -> ok 4
+history
+",
+        ],
+    )
+}
+
+const OVER_TWO_PAGES: &str = "a begin
+a save
+a write
+a commit
+b snap s
+b see s 32767
+b see s 32768
+";
+
+const TWO_PAGES_REPORT: &str = "txid report 1
+life 1 from 0 next 32767 oldest 3 multi 1 offset 1 oldest-multi 1 oldest-offset 1
+round 1
+a 1 begin -> ok
+a 2 save -> ok
+a 3 write -> ok 32767 32768
+a 4 commit -> ok
+b 1 snap s -> ok xmin 32769 xmax 32769 xip - sub - overflow no
+b 2 see s 32767 -> visible
+b 3 see s 32768 -> visible
+history
+id a 3 32767
+sub a 3 32767 32768
+commit a 4 32767
+snap b 1 s
+multis
+log flushed 2 end 88
+0 checkpoint next 32767 oldest 3 multi 1 offset 1 oldest-multi 1 oldest-offset 1
+1 commit 32767 32768
+end
+";
+
+/// A commit over two pages, which lie in one bank or in two.
+#[test]
+fn banks_change_no_report(rt: HostRuntime) -> Result<(), Fail> {
+    for banks in [1, 2, 16] {
+        let script = format!(in rt.alloc(); ".start 32767\n.banks {banks}\n{OVER_TWO_PAGES}")?;
+        check_report(&rt, script.as_str(), TWO_PAGES_REPORT)?;
+    }
+    Ok(())
+}

@@ -1,7 +1,7 @@
 -- Numbers of four bytes, byte by byte.
 use Rattle.std.proofs.Common.{List, ap, arith, subst, sym, ℕ, ⊎_elim, ◌*◌, ◌+◌, ◌/◌, ◌%◌, ◌<◌, ◌^◌, ◌∙◌, ◌≡◌, ◌⊎◌}
 use Rattle.std.specs.List.{slice_index}
-use Rattle.xid_order.specs.Ids.{low_half}
+use Rattle.tx_events.specs.Ids.{low_half}
 use Rattle.store_pages.specs.Layouts.{number_in}
 use Rattle.recoverable.specs.Bytes.{byte_of}
 

@@ -4,7 +4,7 @@ use Rattle.std.proofs.lemmas.Bool.{eqb-true}
 use Rattle.std.proofs.lemmas.Bool.Decides.{nat_tests}
 use Rattle.std.specs.List.{filter_map, last_or}
 use Rattle.std.specs.Prelude.{MatchBool, nat_lt, slice_index}
-use Rattle.xid_order.specs.PageOrder.{is_cut, page_precedes}
+use Rattle.tx_events.specs.PageOrder.{is_cut, page_precedes}
 use Rattle.disk_core.specs.Pages.{Pages, page_bytes, zero_page}
 use Rattle.slru_bank.proofs.ZeroBytes.{zero_byte}
 use Rattle.slru_bank.specs.Bank.{PutsPage}

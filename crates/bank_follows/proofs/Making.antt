@@ -2,8 +2,8 @@
 use Rattle.std.proofs.Common.{Bool, List, None, Option, Some, [], ap, arith, cond, false, nat_lt, refl, subst, sym, true, ℕ, ⊎_elim, ◌&&◌, ◌*◌, ◌+◌, ◌++◌, ◌-◌, ◌/◌, ◌%◌, ◌<◌, ◌==◌, ◌^◌, ◌∙◌, ◌∷◌, ◌≡◌, ◌≤◌}
 use Rattle.std.proofs.lemmas.Bool.{le-leb, le-ltb, lt-leb, lt-ltb}
 use Rattle.std.specs.Prelude.{MatchBool}
-use Rattle.xid_order.specs.Order.{ring_before, xid_before}
-use Rattle.xid_order.specs.PageOrder.{Ids, Multis, Offsets, Shape, is_before, page_number, page_precedes}
+use Rattle.tx_events.specs.Order.{ring_before, xid_before}
+use Rattle.tx_events.specs.PageOrder.{Ids, Multis, Offsets, Shape, is_before, page_number, page_precedes}
 use Rattle.store_pages.specs.Pages.{member_page_in_full}
 use Rattle.disk_core.specs.Pages.{zero_page}
 use Rattle.slru_bank.specs.Bank.{PutsPage}

@@ -1,6 +1,6 @@
 -- A page that a life makes is the only one of its stored number.
 use Rattle.std.proofs.Common.{arith, ℕ, ◌%◌, ◌+◌, ◌-◌, ◌/◌, ◌<◌, ◌^◌, ◌≡◌, ◌≤◌}
-use Rattle.xid_order.specs.Ids.{low_half}
+use Rattle.tx_events.specs.Ids.{low_half}
 use Rattle.store_pages.specs.Pages.{member_page_in_full}
 use Rattle.bank_follows.specs.Laws.{OnePage}
 

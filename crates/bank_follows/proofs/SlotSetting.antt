@@ -2,7 +2,7 @@
 use Rattle.std.proofs.Common.{Bool, List, ap, arith, cond, false, refl, subst, sym, true, ℕ, ⊎_elim, ◌+◌, ◌%◌, ◌/◌, ◌-◌, ◌==◌, ◌<◌, ◌^◌, ◌≡◌, ◌≢◌}
 use Rattle.std.proofs.lemmas.Bool.Decides.{nat_tests}
 use Rattle.std.specs.List.{slice_index}
-use Rattle.xid_order.specs.Ids.{low_half}
+use Rattle.tx_events.specs.Ids.{low_half}
 use Rattle.store_pages.specs.Layouts.{member_page_of, member_place_of, mode_place_of}
 use Rattle.tx_events.specs.Modes.{mode_number}
 use Rattle.recoverable.specs.Bytes.{StoredBytes, byte_of, slot_bytes, slot_place_of}

@@ -1,7 +1,7 @@
 -- The bytes of a page of members past its last slot stay 0.
 use Rattle.std.proofs.Common.{Bool, List, ap, arith, false, refl, subst, sym, true, ℕ, ⊎_elim, ◌<◌, ◌∙◌, ◌≡◌, ◌≢◌, ◌≤◌}
 use Rattle.std.specs.List.{slice_index}
-use Rattle.xid_order.specs.PageOrder.{Offsets, page_precedes}
+use Rattle.tx_events.specs.PageOrder.{Offsets, page_precedes}
 use Rattle.disk_core.specs.Moments.{run_then}
 use Rattle.disk_core.specs.Pages.{Pages, zero_page}
 use Rattle.store_pages.specs.Pages.{id_at}

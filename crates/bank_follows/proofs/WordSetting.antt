@@ -3,7 +3,7 @@ use Rattle.std.proofs.Common.{Bool, List, None, Some, [], ap, arith, cond, false
 use Rattle.std.proofs.lemmas.Bool.{eqb-true}
 use Rattle.std.proofs.lemmas.Bool.Decides.{nat_tests}
 use Rattle.std.specs.List.{cons_option, last_or, slice_index}
-use Rattle.xid_order.specs.Ids.{low_half}
+use Rattle.tx_events.specs.Ids.{low_half}
 use Rattle.store_pages.specs.Layouts.{word_page_of, word_place_of}
 use Rattle.slru_bank.specs.ByteRange.{SetsEntry}
 use Rattle.tx_events.proofs.ListSteps.{not_both}

@@ -2,7 +2,7 @@
 -- it whole.
 use Rattle.std.specs.Prelude.{◌≡◌, ◌⊎◌, ℕ, ◌%◌, ◌<◌, Bool, nat_lt, List, [], ◌∷◌, ◌++◌, slice_index, Option, Some, None, MatchBool}
 use Rattle.std.specs.List.{filter_map, last_or}
-use Rattle.xid_order.specs.PageOrder.{is_cut}
+use Rattle.tx_events.specs.PageOrder.{is_cut}
 use Rattle.disk_core.specs.Pages.{Pages, page_bytes, zero_page}
 use Rattle.tx_core.specs.declared.entry.Entry.{Entry}
 use Rattle.tx_core.specs.declared.entry.Kind.TheVariants as kinds

@@ -1,6 +1,6 @@
 -- `zero` of a bank goes by stored pages, in the order of `store_pages`; the list's entries name pages in full.
 use Rattle.std.specs.Prelude.{◌≡◌, ℕ, ◌+◌, ◌^◌, ◌≤◌, Bool, cond, List, [], ◌∷◌, ◌++◌, None, Option, MatchBool}
-use Rattle.xid_order.specs.PageOrder.{page_precedes}
+use Rattle.tx_events.specs.PageOrder.{page_precedes}
 use Rattle.disk_core.specs.Pages.{zero_page}
 use Rattle.slru_bank.specs.Bank.{PutsPage}
 use Rattle.slru_bank.specs.Crash.{SameMap}

@@ -1,9 +1,9 @@
 -- The laws on sets: what a store's call sets is what its entry says.
 use Rattle.std.specs.Prelude.{ℕ, ◌≤◌, List, [], ◌∷◌, length, Option, Some, Contains}
-use Rattle.xid_order.specs.Ids.{low_half}
+use Rattle.tx_events.specs.Ids.{low_half}
 use Rattle.store_pages.specs.Layouts.{member_page_of}
 use Rattle.store_pages.specs.Pages.{member_place}
-use Rattle.pg_xact_log.specs.Changes.{SetsStates, ShareAPage}
+use Rattle.slru_bank.specs.Changes.{SetsStates, ShareAPage}
 use Rattle.multi_members.specs.Changes.{SetsMember}
 use Rattle.tx_events.specs.Modes.{mode_number}
 use Rattle.tx_events.specs.declared.event.By.{By}

@@ -1,8 +1,8 @@
 -- The pieces of the four stores: two bits of a byte in pg_xact, the four bytes of a number in pg_subtrans and the
 -- offsets, the four bytes of an id and a mode byte in the members.
 use Rattle.std.specs.Prelude.{◌≡◌, ℕ, ◌+◌, ◌/◌, ◌%◌, Option, Some, None}
-use Rattle.xid_order.specs.Ids.{id_before}
-use Rattle.xid_order.specs.PageOrder.{Ids}
+use Rattle.tx_events.specs.Ids.{id_before}
+use Rattle.tx_events.specs.PageOrder.{Ids}
 use Rattle.store_pages.specs.Layouts.{bits_at, member_page_of, word_page_of, word_place_of, xact_page_of, xact_place_of}
 use Rattle.tx_core.specs.declared.entry.Start.{Start}
 use Rattle.tx_core.specs.declared.entry.State.{State}

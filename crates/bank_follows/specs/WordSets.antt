@@ -1,6 +1,6 @@
 -- The laws on sets: what a store's call sets is what its entry says.
 use Rattle.std.specs.Prelude.{ℕ, List, [], ◌∷◌, Option}
-use Rattle.xid_order.specs.Ids.{low_half}
+use Rattle.tx_events.specs.Ids.{low_half}
 use Rattle.store_pages.specs.Layouts.{word_page_of}
 use Rattle.store_pages.specs.Pages.{offset_place, subtrans_place}
 use Rattle.slru_bank.specs.ByteRange.{SetsEntry}

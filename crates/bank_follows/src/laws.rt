@@ -23,7 +23,7 @@ pub fn calls_keep()
     ensures members { MembersKeep }
 {}
 
-/// What a store's call does to the map is what its entry says: `set_states` of `pg_xact_log`, `set_parent` of
+/// What a store's call does to the map is what its entry says: `set_states` of `slru_bank`, `set_parent` of
 /// `subtrans_log`, `set_offset` of `multi_offsets`, `write_member` of `multi_members`.
 pub fn sets_as_said()
     ensures states { StatesSet }

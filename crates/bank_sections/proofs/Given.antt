@@ -21,7 +21,7 @@ use Rattle.tx_core.specs.Locks.{proc_lock, subtrans_lock, subtrans_lock_of, subt
 use Rattle.tx_core.specs.PagesBeforeIds.{IsMade, IsTold, NeedsPages, PagesOf, WasMade}
 use Rattle.tx_core.specs.ParentsFollow.{IsGivenBelow}
 use Rattle.tx_core.proofs.Asking.{if_some, upheld_has}
-use Rattle.xid_order.specs.Ids.{IsFullId}
+use Rattle.tx_events.specs.Ids.{IsFullId}
 
 -- an item that is kept
 pub filter_map_has : {A B : Type 0} (f : A → Option B) (xs : List A) (x : A) (y : B) → Has xs x → f x ≡ Some y → Has (filter_map f xs) y

@@ -22,7 +22,7 @@ use Rattle.tx_core.specs.PagesBeforeIds.{WasMade}
 use Rattle.tx_core.specs.ParentsFollow.{IsGivenBelow}
 use Rattle.tx_core.specs.ProgramOrder.{IsInTurn}
 use Rattle.tx_core.proofs.ChangeLaws.{parent_law}
-use Rattle.xid_order.specs.Ids.{IsFullId, low_half}
+use Rattle.tx_events.specs.Ids.{IsFullId, low_half}
 use Rattle.engine_parts.specs.Law.{MayKeep}
 use Rattle.engine_parts.specs.Parts.{IsSubtransOf}
 use Rattle.engine_parts.proofs.SubBanking.{page_reached, sub_set}

@@ -9,13 +9,13 @@ use Rattle.slru_bank.specs.Calls.{SamePages, cutoff_of, faults_of, last_page, pa
 use Rattle.slru_bank.specs.Crash.{SameMap}
 use Rattle.tx_events.specs.declared.event.By.{By}
 use Rattle.tx_events.specs.Base.{IsBase}
-use Rattle.xid_order.specs.Limits.{stop_limit}
+use Rattle.tx_events.specs.Limits.{stop_limit}
 use Rattle.tx_core.specs.declared.entry.Entry.{Entry}
 use Rattle.tx_core.specs.declared.entry.Kind.TheVariants as kinds
 use Rattle.tx_core.specs.declared.entry.Start.{Start}
 use Rattle.tx_core.specs.Locks.{subtrans_page, xact_page, subtrans_lock, xact_lock}
-use Rattle.xid_order.specs.Ids.{low_half}
-use Rattle.xid_order.specs.PageOrder.{Ids, page_precedes}
+use Rattle.tx_events.specs.Ids.{low_half}
+use Rattle.tx_events.specs.PageOrder.{Ids, page_precedes}
 use Rattle.engine_parts.specs.Parts.{IsSubtransOf, IsXactOf}
 use Rattle.engine_parts.specs.Stand.{SubtransStands, XactStands}
 use Rattle.engine_parts.proofs.Banking.{xact_made}

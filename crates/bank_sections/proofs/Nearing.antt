@@ -3,8 +3,8 @@ use Rattle.std.proofs.Common.{◌≡◌, ℕ, zero, suc, ◌+◌, ◌-◌, ◌*�
 use Rattle.std.proofs.lemmas.Bool.Decides.{nat_tests}
 use Rattle.std.specs.Prelude.{nat_lt}
 use Rattle.notes.specs.Lists.{at}
-use Rattle.xid_order.specs.Ids.{IsFullId, low_half, next_id}
-use Rattle.xid_order.specs.Limits.{stop_limit}
+use Rattle.tx_events.specs.Ids.{IsFullId, low_half, next_id}
+use Rattle.tx_events.specs.Limits.{stop_limit}
 use Rattle.tx_events.specs.Base.{IsBase}
 use Rattle.tx_events.specs.Events.{given}
 use Rattle.tx_events.specs.History.{next_given, nth_id}

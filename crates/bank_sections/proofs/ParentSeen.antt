@@ -18,9 +18,9 @@ use Rattle.tx_events.proofs.GivenIds.{legal_front, legal_last, open_below, open_
 use Rattle.tx_events.proofs.IdOrder.{nth_full}
 use Rattle.tx_events.proofs.ListSteps.{eqb-refl}
 use Rattle.tx_events.proofs.Membership.{Has, by_end, contains_has, has_contains, has_cases, has_flat_map, has_filter_map}
-use Rattle.xid_order.specs.Ids.{IsFullId, low_half}
+use Rattle.tx_events.specs.Ids.{IsFullId, low_half}
 use Rattle.store_pages.specs.Layouts.{number_in, word_page_of, word_place_of}
-use Rattle.xid_order.specs.PageOrder.{Ids, is_cut}
+use Rattle.tx_events.specs.PageOrder.{Ids, is_cut}
 use Rattle.tx_core.specs.declared.entry.Entry.{Entry}
 use Rattle.tx_core.specs.declared.entry.Start.{Start}
 use Rattle.tx_core.specs.EngineInvariant.{EngineInvariant}
@@ -32,7 +32,7 @@ use Rattle.tx_core.specs.ParentsFollow.{IsGivenBelow, NeedsSubs}
 use Rattle.tx_core.proofs.Asking.{sub_of, upheld_has}
 use Rattle.tx_core.proofs.PageShowing.{parents_show}
 use Rattle.tx_core.proofs.Reading.{last_has}
-use Rattle.xid_order.specs.declared.order.Xid.{Xid}
+use Rattle.tx_events.specs.declared.order.Xid.{Xid}
 use Rattle.subtrans_log.specs.Parents.{parent_of}
 use Rattle.bank_sections.specs.Reads.{IsParentNear, IsParentOf, IsParentRead}
 use Rattle.bank_sections.proofs.Given.{filter_map_has, given_full}

@@ -17,7 +17,7 @@ use Rattle.tx_core.specs.Locks.{xact_lock, xact_lock_of}
 use Rattle.tx_core.specs.Pages.{pages_after, xact_store}
 use Rattle.tx_core.specs.Verdict.{state_read}
 use Rattle.tx_core.proofs.PageShowing.{pages_show}
-use Rattle.xid_order.specs.PageOrder.{Ids, is_cut}
+use Rattle.tx_events.specs.PageOrder.{Ids, is_cut}
 use Rattle.engine_parts.specs.Parts.{IsXactOf}
 use Rattle.engine_parts.specs.Stand.{number_of_state, xact_pages}
 use Rattle.bank_sections.proofs.Nearing.{xact_near}

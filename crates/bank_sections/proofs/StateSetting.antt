@@ -6,7 +6,7 @@ use Rattle.std.proofs.lemmas.Grind.{flat_map-append}
 use Rattle.disk_core.specs.declared.page_disk.PageDisk as disks
 use Rattle.store_pages.specs.declared.page_rule.PageRule as rules
 use Rattle.store_pages.specs.Layouts.{xact_page_of}
-use Rattle.pg_xact_log.specs.Changes.{SetsStates, ShareAPage}
+use Rattle.slru_bank.specs.Changes.{SetsStates, ShareAPage}
 use Rattle.slru_bank.specs.declared.bank.SlruBank.{SlruBank}
 use Rattle.slru_bank.specs.Calls.{cutoff_of, faults_of, last_page, pages_of}
 use Rattle.notes.specs.Lists.{Knows, at}

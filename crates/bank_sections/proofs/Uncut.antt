@@ -29,9 +29,9 @@ use Rattle.tx_core.proofs.Rising.{given_more}
 use Rattle.tx_core.proofs.Cutting.{cut_says, states_kept}
 use Rattle.tx_core.proofs.HorizonLaws.{positive}
 use Rattle.tx_core.proofs.OpenKept.{open_kept}
-use Rattle.xid_order.specs.Ids.{id_before, low_half}
-use Rattle.xid_order.specs.PageOrder.{Ids, is_cut}
-use Rattle.xid_order.specs.PageWindow.{id_is_kept, parent_is_kept}
+use Rattle.tx_events.specs.Ids.{id_before, low_half}
+use Rattle.tx_events.specs.PageOrder.{Ids, is_cut}
+use Rattle.tx_events.specs.PageWindow.{id_is_kept, parent_is_kept}
 use Rattle.store_pages.specs.Layouts.{word_page_of, xact_page_of}
 use Rattle.engine_parts.specs.declared.session.Session.{Session}
 use Rattle.engine_parts.specs.Holds.{Knowledge, Leaves}

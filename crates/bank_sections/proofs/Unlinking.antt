@@ -1,6 +1,6 @@
 -- A session that went on through critical sections without an event, and the parent that is still to be recorded.
 use Rattle.std.proofs.Common.{Contains, drop, ◌≡◌, ℕ, List, ◌%◌, Option, Some, IfSome, inl, ⊎_elim, sym, ap, subst, ◌∙◌}
-use Rattle.xid_order.specs.Ids.{low_half}
+use Rattle.tx_events.specs.Ids.{low_half}
 use Rattle.tx_events.specs.declared.event.Event.{Event}
 use Rattle.tx_core.specs.declared.entry.Start.{Start}
 use Rattle.tx_core.specs.Entries.{IsLinked}

@@ -2,7 +2,7 @@
 use Rattle.std.proofs.Common.{None, ◌≡◌, ℕ, ◌^◌, ◌<◌, Bool, true, false, IsTrue, Contains, List, [], ◌∷◌, ◌++◌, refl, ap, subst, sym, ◌∙◌, length, arith}
 use Rattle.slru_bank.specs.declared.refusal.BankRefusal.{BankRefusal}
 use Rattle.slru_bank.specs.declared.refusal.BankRefusal.TheVariants as refused
-use Rattle.xid_order.specs.PageOrder.{Ids, is_cut}
+use Rattle.tx_events.specs.PageOrder.{Ids, is_cut}
 use Rattle.notes.specs.Lists.{at}
 use Rattle.notes.proofs.Growing.{at_here}
 use Rattle.tx_events.specs.declared.event.By.{By}

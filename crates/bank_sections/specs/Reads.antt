@@ -9,8 +9,8 @@ use Rattle.tx_core.specs.CleanStart.{CleanStart}
 use Rattle.tx_core.specs.Entries.{IsLinked, marks, AreFewIds}
 use Rattle.tx_core.specs.Locks.{xact_lock_of}
 use Rattle.tx_core.specs.Verdict.{state_read}
-use Rattle.xid_order.specs.declared.order.Xid.{Xid}
-use Rattle.xid_order.specs.Nearest.{IsNearest}
+use Rattle.tx_events.specs.declared.order.Xid.{Xid}
+use Rattle.tx_events.specs.Nearest.{IsNearest}
 use Rattle.engine_parts.specs.Stand.{IsInUse}
 
 -- the state of x that was set last, or else what the pages showed at a clean start

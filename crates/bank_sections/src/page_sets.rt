@@ -2,7 +2,7 @@
 ghost use Rattle.std.specs.Prelude.{◌≡◌, ℕ, ◌+◌, ◌*◌, ◌<◌, ◌≤◌, [], Contains, Err, OnErr, OnOk, Some, length, slice_index};
 ghost use Rattle.std.specs.List.{slice_range};
 ghost use Rattle.hall.specs.Calls.{view, IsOf, start_of};
-ghost use Rattle.pg_xact_log.specs.States.{state_number};
+ghost use Rattle.slru_bank.specs.States.{state_number};
 ghost use Rattle.slru_bank.specs.declared.refusal.BankRefusal.TheVariants.{Cut, DiskFault};
 ghost use Rattle.tx_core.specs.declared.entry.Kind.TheVariants as kinds;
 ghost use Rattle.store_pages.specs.Layouts.{xact_page_of};
@@ -21,21 +21,19 @@ use crate::refused::leave_refused;
 use disk_core::{LogDisk, PageDisk};
 use engine_parts::{Caller, EngineLaw, Part, command_of, enter_xact, fault_note, leave_quiet};
 use hall::{Hall, Note};
-use pg_xact_log::set_states;
-use slru_bank::BankRefusal;
+use slru_bank::{BankRefusal, set_states};
 use std::sync::Wait;
 use tx_core::{Entry, State};
-use tx_events::By;
-use xid_order::FullXid;
+use tx_events::{By, FullXid};
 
 /// The state as the pages name it.
-fn stored(state: State) -> pg_xact_log::State
+fn stored(state: State) -> slru_bank::State
     ensures { state_number result ≡ number_of_state (Some state) }
 {
     match state {
-        State::Committed => pg_xact_log::State::Committed,
-        State::Aborted => pg_xact_log::State::Aborted,
-        State::SubCommitted => pg_xact_log::State::SubCommitted,
+        State::Committed => slru_bank::State::Committed,
+        State::Aborted => slru_bank::State::Aborted,
+        State::SubCommitted => slru_bank::State::SubCommitted,
     }
 }
 

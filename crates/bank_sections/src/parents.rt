@@ -28,8 +28,7 @@ use std::sync::Wait;
 use store_pages::{subtrans_page, subtrans_page_in_full};
 use subtrans_log::{parent as stored_parent, set_parent};
 use tx_core::Entry;
-use tx_events::By;
-use xid_order::{FullXid, Xid, near};
+use tx_events::{By, FullXid, Xid, near};
 
 /// Makes the page of the parent of `id`, which was given or comes next, where the bank's last made page is before it
 /// (`ExtendSUBTRANS` of `subtrans.c`). The page of an id that isn't before the oldest xmin isn't cut, in a life of few

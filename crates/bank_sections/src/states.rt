@@ -1,7 +1,7 @@
 //! Pages of pg_xact are made, and states are read.
 ghost use Rattle.std.specs.Prelude.{◌≡◌, ℕ, ◌+◌, ◌*◌, ◌<◌, ◌≤◌, [], Err, IfOk, IsTrue, OnOk};
 ghost use Rattle.hall.specs.Calls.{view, IsOf, start_of};
-ghost use Rattle.pg_xact_log.specs.States.{state_number};
+ghost use Rattle.slru_bank.specs.States.{state_number};
 ghost use Rattle.slru_bank.specs.declared.refusal.BankRefusal.TheVariants.{Cut, DiskFault};
 ghost use Rattle.tx_core.specs.declared.entry.Kind.TheVariants as kinds;
 ghost use Rattle.store_pages.specs.Layouts.{xact_page_of};
@@ -23,12 +23,11 @@ use engine_parts::{
     Caller, EngineLaw, Part, command_of, enter_xact, fault_note, leave_looked, leave_quiet,
 };
 use hall::Hall;
-use pg_xact_log::state;
-use slru_bank::BankRefusal;
+use slru_bank::{BankRefusal, state};
 use std::sync::Wait;
 use store_pages::{xact_page, xact_page_in_full};
 use tx_core::State;
-use xid_order::FullXid;
+use tx_events::FullXid;
 
 /// Makes the page of the state of `id`, which was given or comes next, where the bank's last made page is before it
 /// (`ExtendCLOG` of `clog.c`). The page of an id that isn't before the announced oldest one isn't cut, in a life of few
@@ -79,14 +78,14 @@ pub fn make_page<R: Wait, L: LogDisk, P: PageDisk>(
 }
 
 /// The state as the entries name it.
-fn named(state: pg_xact_log::State) -> Option<State>
+fn named(state: slru_bank::State) -> Option<State>
     ensures { number_of_state result ≡ state_number state }
 {
     match state {
-        pg_xact_log::State::InProgress => None,
-        pg_xact_log::State::Committed => Some(State::Committed),
-        pg_xact_log::State::Aborted => Some(State::Aborted),
-        pg_xact_log::State::SubCommitted => Some(State::SubCommitted),
+        slru_bank::State::InProgress => None,
+        slru_bank::State::Committed => Some(State::Committed),
+        slru_bank::State::Aborted => Some(State::Aborted),
+        slru_bank::State::SubCommitted => Some(State::SubCommitted),
     }
 }
 

@@ -1,13 +1,13 @@
 // A rule of pages as wide as those of the commit log, and a volume that counts its calls.
 ghost use Rattle.std.specs.Prelude.{◌≡◌, ◌+◌, ◌*◌, ◌%◌, ◌^◌, ◌<◌};
-ghost use Rattle.xid_order.specs.PageOrder.{Ids};
+ghost use Rattle.tx_events.specs.PageOrder.{Ids};
 
 use disk_core::{Failed, PageDisk};
 use slru_bank::SlruBank;
 use std::alloc::Global;
 use std::test::Fail;
 use store_pages::PageRule;
-use xid_order::{Xid, precedes};
+use tx_events::{Xid, precedes};
 
 pub struct IdPages;
 

@@ -4,8 +4,7 @@ use multi_members::{Slot, read_member, trim_members, write_member};
 use std::alloc::Global;
 use std::test::Fail;
 use store_pages::MemberPages;
-use tx_events::Mode;
-use xid_order::Xid;
+use tx_events::{Mode, Xid};
 
 const THREE: Slot = Slot::Is {
     x: Xid { number: 3 },

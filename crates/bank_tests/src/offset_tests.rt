@@ -4,7 +4,7 @@ use multi_offsets::{offset, set_offset, trim_offsets};
 use std::alloc::Global;
 use std::test::Fail;
 use store_pages::OffsetPages;
-use xid_order::{FullMulti, MultiId};
+use tx_events::{FullMulti, MultiId};
 
 // The first sixteen bytes, the offsets of 1 and 2, and that of 1 once 1 and all after it was trimmed.
 fn offsets(alloc: Global) -> Result<([u8; 16], [Option<u32>; 3]), Fail> {

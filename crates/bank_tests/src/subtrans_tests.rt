@@ -4,7 +4,7 @@ use std::alloc::Global;
 use std::test::Fail;
 use store_pages::SubtransPages;
 use subtrans_log::{climb_ends, parent, set_parent};
-use xid_order::Xid;
+use tx_events::Xid;
 
 const CHILD: Xid = Xid { number: 32768 };
 

@@ -1,12 +1,11 @@
 // Rows of the commit log.
 use crate::banks::{front, memory_bank};
 use disk_core::MemPages;
-use pg_xact_log::{PlanStep, State, plan_step, set_states, state, trim_after};
-use slru_bank::{BankRefusal, SlruBank};
+use slru_bank::{BankRefusal, PlanStep, SlruBank, State, plan_step, set_states, state, trim_after};
 use std::alloc::Global;
 use std::test::Fail;
 use store_pages::XactPages;
-use xid_order::{FullXid, Xid};
+use tx_events::{FullXid, Xid};
 
 type XactBank = SlruBank<MemPages, XactPages>;
 

@@ -13,7 +13,7 @@ use Rattle.hall.specs.Calls.{ShownBy}
 use Rattle.hall.specs.Rule.{Holds}
 use Rattle.hall.specs.Told.{asking, either_of, given, giving}
 use Rattle.hall.proofs.Merging.{either_at}
-use Rattle.xid_order.specs.Ids.{IsFullId, id_before, next_id}
+use Rattle.tx_events.specs.Ids.{IsFullId, id_before, next_id}
 use Rattle.tx_events.specs.Base.{IsBase}
 use Rattle.tx_events.specs.Horizon.{oldest_xmin}
 use Rattle.tx_events.proofs.IdOrder.{before_below, next_least, next_of_before}

@@ -24,9 +24,9 @@ use Rattle.tx_core.specs.Verdict.{state_for}
 use Rattle.store_pages.specs.Layouts.{bits_at, state_in, xact_page_of, xact_place_of}
 use Rattle.engine_parts.specs.Stand.{ShowsStates, XactStands, number_of_state, xact_pages, first_xact_page}
 use Rattle.engine_parts.proofs.Cutoffs.{cutoff_more}
-use Rattle.xid_order.specs.Order.{ring_before, xid_before}
+use Rattle.tx_events.specs.Order.{ring_before, xid_before}
 use Rattle.tx_core.specs.FaultsRise.{faults_told}
-use Rattle.xid_order.specs.PageOrder.{Ids, page_number, page_precedes}
+use Rattle.tx_events.specs.PageOrder.{Ids, page_number, page_precedes}
 
 -- before on the ring
 ring_before_by : (a b d : ℕ) → 0 < d → d ≤ 2 ^ 31 → b ≡ a + d → ring_before (a % 2 ^ 32) (b % 2 ^ 32) ≡ true

@@ -14,12 +14,12 @@ use Rattle.tx_core.specs.Laws.{all_set}
 use Rattle.tx_core.specs.Locks.{xact_page, xact_lock}
 use Rattle.tx_core.specs.PagesBeforeIds.{WasMade}
 use Rattle.tx_events.proofs.Membership.{Has, by_end, contains_has, has_cases}
-use Rattle.xid_order.specs.Ids.{IsFullId}
+use Rattle.tx_events.specs.Ids.{IsFullId}
 use Rattle.std.proofs.lemmas.Bool.Decides.{nat_tests}
 use Rattle.tx_core.specs.Entries.{Mark}
 use Rattle.tx_core.specs.Pages.{Pages, set_by, xact_store, zeroed, zeroed_in}
 use Rattle.tx_core.specs.Verdict.{state_for}
-use Rattle.pg_xact_log.specs.Changes.{SetsStates}
+use Rattle.slru_bank.specs.Changes.{SetsStates}
 use Rattle.engine_parts.specs.Stand.{IsInUse, XactStands, number_of_state, xact_pages, first_xact_page}
 use Rattle.engine_parts.proofs.Banking.{last_from_first, pages_push}
 use Rattle.tx_core.specs.FaultsRise.{faults_told}

@@ -13,7 +13,7 @@ use Rattle.slru_bank.proofs.ZeroBytes.{zero_byte}
 use Rattle.tx_events.specs.declared.event.By.{By}
 use Rattle.tx_events.proofs.Membership.{Has, by_end, contains_has, has_cases}
 use Rattle.std.proofs.Common.{Contains}
-use Rattle.xid_order.specs.Ids.{IsFullId}
+use Rattle.tx_events.specs.Ids.{IsFullId}
 use Rattle.tx_events.proofs.ListSteps.{eqb-refl}
 use Rattle.tx_core.specs.declared.entry.Change.TheVariants as changes
 use Rattle.tx_core.specs.declared.entry.Entry.{Entry}
@@ -24,11 +24,11 @@ use Rattle.tx_core.specs.Locks.{subtrans_page, subtrans_lock}
 use Rattle.tx_core.specs.Pages.{Pages, after_entry, parent_for, set_by, subtrans_store, zeroed, zeroed_in}
 use Rattle.store_pages.specs.Layouts.{number_in, word_page_of, word_place_of}
 use Rattle.engine_parts.specs.Stand.{IsInUse, ShowsParents, SubtransStands, number_of_parent, subtrans_pages, first_subtrans_page}
-use Rattle.xid_order.specs.Ids.{low_half}
+use Rattle.tx_events.specs.Ids.{low_half}
 use Rattle.engine_parts.proofs.Cutoffs.{cutoff_more}
-use Rattle.xid_order.specs.Order.{ring_before, xid_before}
+use Rattle.tx_events.specs.Order.{ring_before, xid_before}
 use Rattle.tx_core.specs.FaultsRise.{faults_told}
-use Rattle.xid_order.specs.PageOrder.{Ids, page_number, page_precedes}
+use Rattle.tx_events.specs.PageOrder.{Ids, page_number, page_precedes}
 
 -- before on the ring
 ring_before_by : (a b d : ℕ) → 0 < d → d ≤ 2 ^ 31 → b ≡ a + d → ring_before (a % 2 ^ 32) (b % 2 ^ 32) ≡ true

@@ -5,11 +5,11 @@ use Rattle.tx_events.specs.declared.record.Rec.{Rec}
 use Rattle.tx_events.specs.declared.record.Rec.TheVariants as records
 use Rattle.tx_events.specs.declared.refusal.Refusal.{Refusal}
 use Rattle.tx_events.specs.declared.refusal.Refusal.TheVariants as refusals
-use Rattle.pg_xact_log.specs.declared.plan.PlanStep.{PlanStep}
-use Rattle.pg_xact_log.specs.declared.xact_state.State as stored
-use Rattle.pg_xact_log.specs.declared.xact_state.State.TheVariants as named
-use Rattle.pg_xact_log.specs.Plan.{plan}
-use Rattle.pg_xact_log.specs.Steps.{step_ids}
+use Rattle.slru_bank.specs.declared.plan.PlanStep.{PlanStep}
+use Rattle.slru_bank.specs.declared.xact_state.State as stored
+use Rattle.slru_bank.specs.declared.xact_state.State.TheVariants as named
+use Rattle.slru_bank.specs.Plan.{plan}
+use Rattle.slru_bank.specs.Steps.{step_ids}
 use Rattle.tx_core.specs.declared.entry.Entry.{Entry}
 use Rattle.tx_core.specs.declared.entry.Start.{Start}
 use Rattle.tx_core.specs.declared.entry.State.{State}

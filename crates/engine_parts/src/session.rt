@@ -8,8 +8,7 @@ use crate::law::EngineLaw;
 use disk_core::{LogDisk, PageDisk};
 use hall::Pass;
 use session_levels::Session as Levels;
-use tx_events::{By, Refusal};
-use xid_order::FullXid;
+use tx_events::{By, FullXid, Refusal};
 
 /// How far the end of a session's transaction, or the undo of its savepoint, has come that a fault stopped. A later
 /// command goes on with it.

@@ -1,11 +1,10 @@
 //! Whether the next transaction id may still be given.
 ghost use Rattle.std.specs.Prelude.{◌^◌, ◌<◌};
-ghost use Rattle.xid_order.specs.Limits.{stop_limit, warn_limit};
+ghost use Rattle.tx_events.specs.Limits.{stop_limit, warn_limit};
 ghost use Rattle.tx_events.specs.declared.refusal.Refusal.TheVariants as refusals;
 ghost use Rattle.horizon_limits.specs.Checks.{IsCheck};
 
-use tx_events::Refusal;
-use xid_order::{FullXid, Limits};
+use tx_events::{FullXid, Limits, Refusal};
 
 /// Whether the id `next` is given with a warning, under an oldest id below 2^63. Refused with `Stop` exactly where it
 /// is at or past the stop limit (`GetNewTransactionId`).

@@ -1,11 +1,10 @@
 //! Whether the next multixact may still be given.
 ghost use Rattle.std.specs.Prelude.{◌^◌, ◌<◌};
-ghost use Rattle.xid_order.specs.Limits.{multi_stop_limit, multi_warn_limit};
+ghost use Rattle.tx_events.specs.Limits.{multi_stop_limit, multi_warn_limit};
 ghost use Rattle.tx_events.specs.declared.refusal.Refusal.TheVariants as refusals;
 ghost use Rattle.horizon_limits.specs.Checks.{IsCheck};
 
-use tx_events::Refusal;
-use xid_order::{FullMulti, MultiLimits};
+use tx_events::{FullMulti, MultiLimits, Refusal};
 
 /// Whether the multixact `next` is given with a warning, under an oldest multixact below 2^63. Refused with
 /// `MultiStop` exactly where it is at or past the stop limit (`GetNewMultiXactId`).

@@ -33,7 +33,7 @@ use Rattle.life_law.specs.Pending.{IsOpenAsTold, pending}
 use Rattle.life_law.specs.Worked.{WorkedLives, both_records, by_at, commit_pending, first_lines, life_with, line_of, log_down, log_fault, no_memory, second_lines, worked_base, worked_events, worked_life}
 use Rattle.tx_events.specs.Events.{by_of, given_by}
 use Rattle.tx_events.specs.Horizon.{oldest_id}
-use Rattle.xid_order.specs.Limits.{warn_limit}
+use Rattle.tx_events.specs.Limits.{warn_limit}
 use Rattle.tx_model.specs.declared.reply.Reply.{Reply}
 
 -- ---- place by place

@@ -2,7 +2,7 @@
 use Rattle.std.proofs.Common.{◌≡◌, ◌≢◌, ◌⊎◌, inl, inr, ⊎_elim, ℕ, zero, suc, ◌+◌, ◌/◌, ◌<◌, ◌≤◌, ◌==◌, ◌&&◌, Bool, true, false, List, length, slice_index, slice_set, Result, Ok, Err, OnOk, refl, sym, ◌∙◌, ap, subst, arith}
 use Rattle.std.proofs.lemmas.Bool.{eqb-true}
 use Rattle.std.proofs.lemmas.List.{get_or-set_same, get_or-set_other}
-use Rattle.xid_order.specs.PageOrder.{Offsets}
+use Rattle.tx_events.specs.PageOrder.{Offsets}
 use Rattle.store_pages.specs.Layouts.{number_in}
 use Rattle.store_pages.specs.Pages.{mode_at, id_at}
 use Rattle.slru_bank.specs.Bank.{masked, PutsPage, StaysAPage}

@@ -1,7 +1,7 @@
 -- What a change of members does to the pages.
 use Rattle.std.specs.Prelude.{◌≡◌, ◌≢◌, ℕ, ◌<◌, ◌≤◌, ◌^◌, true, false, List, slice_index}
 use Rattle.disk_core.specs.Pages.{zero_page}
-use Rattle.xid_order.specs.PageOrder.{Offsets, page_precedes}
+use Rattle.tx_events.specs.PageOrder.{Offsets, page_precedes}
 use Rattle.store_pages.specs.Layouts.{number_in}
 use Rattle.store_pages.specs.Pages.{id_at, members_per_page, mode_at}
 use Rattle.slru_bank.specs.Bank.{OthersStay, StaysAPage}

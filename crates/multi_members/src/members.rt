@@ -1,7 +1,7 @@
 // A member is a mode byte in front of its group's ids, and an id of four bytes.
 ghost use Rattle.std.specs.Prelude.{◌≡◌, ℕ, ◌+◌, ◌*◌, ◌/◌, ◌%◌, ◌^◌, IsTrue, slice_index, OnOk, OnErr, IfOk};
-ghost use Rattle.xid_order.specs.Ids.{low_half};
-ghost use Rattle.xid_order.specs.PageOrder.{Offsets, page_precedes};
+ghost use Rattle.tx_events.specs.Ids.{low_half};
+ghost use Rattle.tx_events.specs.PageOrder.{Offsets, page_precedes};
 ghost use Rattle.store_pages.specs.Layouts.{number_in};
 ghost use Rattle.store_pages.specs.Pages.{id_at, member_page, member_place, members_per_page, mode_at};
 ghost use Rattle.slru_bank.specs.Calls.{CallsBank, SamePages, TrimsBank, pages_of};
@@ -14,8 +14,7 @@ use crate::modes::slot_of_numbers;
 use disk_core::PageDisk;
 use slru_bank::{BankRefusal, SlruBank, put_number, read_number};
 use store_pages::{MemberPages, id_position, member_page, mode_position};
-use tx_events::Mode;
-use xid_order::Xid;
+use tx_events::{Mode, Xid};
 
 /// Writes a member into its slot (the second half of `RecordNewMultiXact`). After an `Err` nothing is changed: once its
 /// mode stands, the page is at hand for its id.

@@ -3,8 +3,7 @@ ghost use Rattle.std.specs.Prelude.{◌≡◌};
 ghost use Rattle.multi_members.specs.Slots.{slot_of};
 
 use crate::Slot;
-use tx_events::Mode;
-use xid_order::Xid;
+use tx_events::{Mode, Xid};
 
 pub(crate) fn slot_of_numbers(byte: u8, number: u32) -> Slot
     ensures { result ≡ slot_of byte number }

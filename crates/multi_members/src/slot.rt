@@ -1,6 +1,5 @@
 // A slot as a reader meets it.
-use tx_events::Mode;
-use xid_order::Xid;
+use tx_events::{Mode, Xid};
 
 /// What a slot of a multixact's members holds.
 #[derive(Clone, Copy, Debug, PartialEq, Eq)]

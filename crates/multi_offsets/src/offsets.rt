@@ -1,7 +1,7 @@
 // An offset is stored as its low half, 0 where there is none.
 ghost use Rattle.std.specs.Prelude.{◌≡◌, ℕ, ◌*◌, ◌^◌, IsTrue, OnOk, OnErr, IfOk};
-ghost use Rattle.xid_order.specs.PageOrder.{Multis, page_precedes};
-ghost use Rattle.xid_order.specs.Ids.{low_half};
+ghost use Rattle.tx_events.specs.PageOrder.{Multis, page_precedes};
+ghost use Rattle.tx_events.specs.Ids.{low_half};
 ghost use Rattle.store_pages.specs.Layouts.{number_in};
 ghost use Rattle.store_pages.specs.Pages.{offset_page, offset_place, offsets_per_page};
 ghost use Rattle.slru_bank.specs.ByteRange.{SetsEntry, TrimsEntries};
@@ -11,7 +11,7 @@ ghost use Rattle.multi_offsets.specs.Offsets.{offset_of};
 use disk_core::PageDisk;
 use slru_bank::{BankRefusal, SlruBank, put_number, read_number};
 use store_pages::{OffsetPages, offset_page, offset_place};
-use xid_order::{FullMulti, MultiId};
+use tx_events::{FullMulti, MultiId};
 
 /// Records where a multixact's members begin (the first half of `RecordNewMultiXact`).
 pub fn set_offset<P: PageDisk>(

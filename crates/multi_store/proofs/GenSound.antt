@@ -1,14 +1,14 @@
 -- A history with one more multixact.
 use Rattle.std.proofs.Common.{◌≡◌, ℕ, suc, get_or, ◌+◌, ◌<◌, ◌≤◌, List, [], ◌∷◌, ◌++◌, length, Some, None, sym, ap, ◌∙◌, ⊎_elim, subst, arith}
 use Rattle.std.specs.List.{slice_get}
-use Rattle.xid_order.specs.Ids.{next_multi}
+use Rattle.tx_events.specs.Ids.{next_multi}
 use Rattle.tx_events.specs.declared.event.By.{By}
 use Rattle.tx_events.specs.declared.multi.Member.{Member}
 use Rattle.tx_events.specs.declared.multi.MultiEvent.{MultiEvent}
 use Rattle.tx_events.specs.declared.multi.MultiEvent.TheVariants as events
 use Rattle.tx_events.specs.declared.record.Counters.{Counters}
 use Rattle.tx_events.specs.Base.{IsBase}
-use Rattle.xid_order.specs.Limits.{multi_stop_limit, member_stop}
+use Rattle.tx_events.specs.Limits.{multi_stop_limit, member_stop}
 use Rattle.tx_events.specs.Multis.{made, made_at, next_made, nth_multi, free_offset, first_member, oldest_multi, oldest_offset, IsNextMade}
 use Rattle.tx_events.proofs.ListSteps.{length_push, below_not, above_not}
 use Rattle.tx_events.proofs.PlaceLemmas.{slice_get-grows, last_at}

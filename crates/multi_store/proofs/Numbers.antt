@@ -4,8 +4,8 @@ use Rattle.std.proofs.Common.{◌≡◌, ℕ, zero, suc, ◌+◌, ◌-◌, ◌/�
 use Rattle.std.specs.Ordering.{nat_cmp, is_lt}
 use Rattle.std.specs.Prelude.{nat_lt}
 use Rattle.std.proofs.lemmas.Bool.Decides.{nat_tests}
-use Rattle.xid_order.specs.Ids.{low_half, next_multi, IsFullMulti}
-use Rattle.xid_order.specs.Limits.{up_to_multi, down_to_multi, multi_wrap_limit, multi_stop_limit, member_stop}
+use Rattle.tx_events.specs.Ids.{low_half, next_multi, IsFullMulti}
+use Rattle.tx_events.specs.Limits.{up_to_multi, down_to_multi, multi_wrap_limit, multi_stop_limit, member_stop}
 use Rattle.tx_events.specs.Multis.{nth_multi, first_member}
 
 pub le_cases : (a b : ℕ) → a ≤ b → (a < b) ⊎ (a ≡ b)

@@ -5,7 +5,7 @@ use Rattle.tx_events.specs.declared.event.By.{By}
 use Rattle.tx_events.specs.declared.multi.MultiEvent.{MultiEvent}
 use Rattle.tx_events.specs.declared.record.Counters.{Counters}
 use Rattle.tx_events.specs.Base.{IsBase}
-use Rattle.xid_order.specs.Limits.{multi_stop_limit, member_stop}
+use Rattle.tx_events.specs.Limits.{multi_stop_limit, member_stop}
 use Rattle.tx_events.specs.Multis.{made_at, next_made, free_offset, oldest_multi, oldest_offset, pin_limit, pins, Pin, InBase, BeginsAt, IsRaised}
 use Rattle.tx_events.proofs.Extremes.{fold_min_start}
 use Rattle.multi_store.proofs.Numbers.{stop_rises, member_stop_rises, le_cases}

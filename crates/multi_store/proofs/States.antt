@@ -1,14 +1,14 @@
 -- The state after one more event.
 use Rattle.std.proofs.Common.{◌≡◌, ℕ, suc, ◌+◌, ◌-◌, ◌<◌, ◌≤◌, List, [], ◌∷◌, ◌++◌, length, Contains, refl, sym, ap, ◌∙◌, subst, arith}
 use Rattle.counted_map.specs.declared.CountedMap.{CountedMap}
-use Rattle.xid_order.specs.Ids.{next_multi}
+use Rattle.tx_events.specs.Ids.{next_multi}
 use Rattle.tx_events.specs.declared.event.By.{By}
 use Rattle.tx_events.specs.declared.multi.Member.{Member}
 use Rattle.tx_events.specs.declared.multi.MultiEvent.{MultiEvent}
 use Rattle.tx_events.specs.declared.multi.MultiEvent.TheVariants as events
 use Rattle.tx_events.specs.declared.record.Counters.{Counters}
 use Rattle.tx_events.specs.Base.{IsBase}
-use Rattle.xid_order.specs.Limits.{multi_stop_limit, member_stop}
+use Rattle.tx_events.specs.Limits.{multi_stop_limit, member_stop}
 use Rattle.tx_events.specs.Multis.{AreLegalMultis, AreMembers, BeginsAt, InBase, MultiMayCome, Pin, first_member, multi_counters, pin_limit, pins, without_pin}
 use Rattle.tx_events.proofs.ListSteps.{length_push}
 use Rattle.tx_events.proofs.Membership.{contains_has}

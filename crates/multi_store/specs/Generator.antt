@@ -1,7 +1,7 @@
 -- What callers see of the generator, and what its calls answer.
 use Rattle.std.specs.Prelude.{◌≡◌, ℕ, ◌+◌, ◌<◌, ◌≤◌, ◌↔◌, ◌⊎◌, IsTrue, List, [], ◌∷◌, ◌++◌, length, Option, Some, Result, MatchOption, MatchResult}
-use Rattle.xid_order.specs.Ids.{next_multi}
-use Rattle.xid_order.specs.Nearest.{near_id}
+use Rattle.tx_events.specs.Ids.{next_multi}
+use Rattle.tx_events.specs.Nearest.{near_id}
 use Rattle.tx_events.specs.declared.event.By.{By}
 use Rattle.tx_events.specs.declared.multi.Member.{Member}
 use Rattle.tx_events.specs.declared.multi.MultiEvent.{MultiEvent}
@@ -9,7 +9,7 @@ use Rattle.tx_events.specs.declared.multi.MultiEvent.TheVariants as events
 use Rattle.tx_events.specs.declared.record.Counters.{Counters}
 use Rattle.tx_events.specs.declared.refusal.Refusal.{Refusal}
 use Rattle.tx_events.specs.declared.refusal.Refusal.TheVariants as refusals
-use Rattle.xid_order.specs.Limits.{multi_stop_limit, multi_warn_limit, member_stop}
+use Rattle.tx_events.specs.Limits.{multi_stop_limit, multi_warn_limit, member_stop}
 use Rattle.tx_events.specs.Multis.{next_made, free_offset, first_member, oldest_multi, oldest_offset, pin_limit, made_at, BeginsAt, InBase, multi_counters}
 use Rattle.multi_store.specs.declared.answers.Held.{Held}
 use Rattle.multi_store.specs.declared.answers.MultiGiven.{MultiGiven}

@@ -1,5 +1,5 @@
 // What a call of the generator answers.
-use xid_order::FullMulti;
+use tx_events::FullMulti;
 
 /// A multixact that was given now.
 #[derive(Clone, Copy, Debug, PartialEq, Eq)]

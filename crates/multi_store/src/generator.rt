@@ -12,8 +12,10 @@ use crate::places::{first_member, place_of};
 use horizon_limits::check_multi;
 use std::alloc::Global;
 use std::marker::Model;
-use tx_events::{By, Copied, Counters, MemberList, MultiEvent, Refusal, make_one_room, make_room};
-use xid_order::{FullMulti, MultiId, member_stop, near_multi};
+use tx_events::{
+    By, Copied, Counters, FullMulti, MemberList, MultiEvent, MultiId, Refusal, make_one_room,
+    make_room, member_stop, near_multi,
+};
 
 /// The generator of multixacts, and their history so far. A contract sees the base of the life and the events.
 #[derive(Drop)]

@@ -6,8 +6,7 @@ ghost use Rattle.tx_events.specs.Multis.{Pin, without_pin};
 ghost use Rattle.multi_store.specs.Pins.{IsTally, pin_of, pin_cmp};
 
 use counted_map::CountedMap;
-use tx_events::Memory;
-use xid_order::FullMulti;
+use tx_events::{FullMulti, Memory};
 
 /// A pin: the multixact, and the session that holds it. Ordered by multixact first.
 #[derive(Clone, Copy, PartialEq, Eq, PartialOrd, Ord, Drop)]

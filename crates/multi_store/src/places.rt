@@ -2,7 +2,7 @@
 ghost use Rattle.std.specs.Prelude.{◌≡◌, ◌^◌, ◌<◌, ◌≤◌};
 ghost use Rattle.tx_events.specs.Multis.{nth_multi, first_member};
 
-use xid_order::FullMulti;
+use tx_events::FullMulti;
 
 /// How many numbers have one high half.
 const ROUND: u64 = 1 << 32;

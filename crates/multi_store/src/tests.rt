@@ -4,8 +4,7 @@ mod driver;
 use crate::{Held, MultiGiven, check_members};
 use driver::{Driver, Start, members};
 use std::process::Abort;
-use tx_events::{Mode, Refusal};
-use xid_order::FullMulti;
+use tx_events::{FullMulti, Mode, Refusal};
 
 fn multi<R: Abort>(rt: &R, number: u64) -> FullMulti {
     FullMulti::new(number).expect(rt, "a multixact")

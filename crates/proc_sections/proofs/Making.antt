@@ -10,7 +10,7 @@ use Rattle.tx_events.specs.Events.{given}
 use Rattle.tx_events.specs.History.{next_given}
 use Rattle.tx_events.proofs.IdOrder.{nth_from}
 use Rattle.tx_events.proofs.Membership.{contains_has, has_place}
-use Rattle.xid_order.specs.Ids.{low_half}
+use Rattle.tx_events.specs.Ids.{low_half}
 use Rattle.tx_core.specs.declared.entry.Entry.{Entry}
 use Rattle.tx_core.specs.declared.entry.Kind.TheVariants as kinds
 use Rattle.tx_core.specs.declared.entry.Start.{Start}

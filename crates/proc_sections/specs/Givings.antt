@@ -1,7 +1,7 @@
 -- What giving an id needs, and leaves.
 use Rattle.std.specs.Prelude.{◌≡◌, ◌≢◌, ℕ, ◌+◌, ◌<◌, ◌≤◌, ◌↔◌, ◌⊎◌, Bool, IsTrue, List, [], ◌∷◌, ◌++◌, Option, None, Some, Result, Ok, Err, vec_len, vec_capacity}
 use Rattle.std.specs.List.{AllByRecursion}
-use Rattle.xid_order.specs.Limits.{stop_limit, warn_limit}
+use Rattle.tx_events.specs.Limits.{stop_limit, warn_limit}
 use Rattle.notes.specs.Lists.{at}
 use Rattle.tx_events.specs.declared.event.Event.{Event}
 use Rattle.tx_events.specs.declared.record.Counters.{Counters}

@@ -1,7 +1,7 @@
 //! The status of an id is asked for.
 ghost use Rattle.std.specs.Prelude.{◌≡◌, ℕ, ◌+◌, ◌*◌};
 ghost use Rattle.hall.specs.Calls.{view, IsOf, start_of};
-ghost use Rattle.xid_order.specs.Ids.{IsFullId};
+ghost use Rattle.tx_events.specs.Ids.{IsFullId};
 ghost use Rattle.tx_events.specs.declared.event.Event.TheVariants as events;
 ghost use Rattle.tx_core.specs.declared.entry.Kind.TheVariants as kinds;
 ghost use Rattle.engine_parts.specs.Sessions.{IsReady};
@@ -13,8 +13,7 @@ use hall::{Hall, Note};
 use proc_table::Asked;
 use std::sync::Wait;
 use tx_core::Entry;
-use tx_events::{By, Memory};
-use xid_order::FullXid;
+use tx_events::{By, FullXid, Memory};
 
 /// The entry that the status of an id was asked for.
 fn ask_note(by: By, x: FullXid) -> Note<Entry>

@@ -24,8 +24,7 @@ use engine_parts::{
 use hall::{Hall, Note};
 use proc_table::{Given, ProcTable};
 use std::sync::Wait;
-use tx_events::{By, Refusal};
-use xid_order::FullXid;
+use tx_events::{By, FullXid, Refusal};
 
 /// Asks the table for the next id, below a parent where there is one.
 fn next_id(table: &mut ProcTable, by: By, parent: &Option<FullXid>) -> Result<Given, Refusal>

@@ -12,7 +12,7 @@ use disk_core::{LogDisk, PageDisk};
 use engine_parts::{Caller, EngineLaw, Part, enter_proc, leave_looked};
 use hall::Hall;
 use std::sync::Wait;
-use xid_order::FullXid;
+use tx_events::FullXid;
 
 /// The announced oldest id (`oldestXid` of `TransamVariables` in `src/backend/access/transam/varsup.c`): one critical
 /// section of the ProcArray.

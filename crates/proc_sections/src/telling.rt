@@ -15,8 +15,7 @@ use engine_parts::{Caller, EngineLaw, Part, command_of, enter_proc, leave_quiet}
 use hall::{Hall, Note};
 use std::sync::Wait;
 use tx_core::Entry;
-use tx_events::By;
-use xid_order::FullXid;
+use tx_events::{By, FullXid};
 
 /// The entry that the pages of an id are made.
 fn made_note(by: By, id: FullXid) -> Note<Entry>

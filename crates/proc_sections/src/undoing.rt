@@ -16,8 +16,7 @@ use engine_parts::{Caller, EngineLaw, Stage, Unlinked, enter_proc, leave_proc};
 use hall::{Hall, Note};
 use std::sync::Wait;
 use tx_core::Entry;
-use tx_events::By;
-use xid_order::FullXid;
+use tx_events::{By, FullXid};
 
 /// Where the ids from this one on begin.
 pub fn place_of(ids: &[FullXid], id: FullXid) -> usize

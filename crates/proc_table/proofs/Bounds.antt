@@ -9,12 +9,12 @@ use Rattle.tx_events.proofs.IdOrder.{nth_from}
 use Rattle.tx_events.specs.Base.{IsBase}
 use Rattle.tx_events.specs.Events.{given}
 use Rattle.tx_events.specs.History.{next_given, IsLegal}
-use Rattle.xid_order.specs.Limits.{stop_limit}
+use Rattle.tx_events.specs.Limits.{stop_limit}
 use Rattle.tx_events.specs.Running.{is_open, closed}
 use Rattle.tx_events.specs.Snapshots.{latest}
 use Rattle.tx_events.specs.declared.event.Event.{Event}
 use Rattle.tx_events.specs.declared.record.Counters.{Counters}
-use Rattle.xid_order.specs.Ids.{id_before, next_id, low_half, IsFullId}
+use Rattle.tx_events.specs.Ids.{id_before, next_id, low_half, IsFullId}
 
 pub next_id_to : (n : ℕ) → n + 1 < 2 ^ 63 → next_id n < 2 ^ 63
 next_id_to n l = one (nat_lt (low_half (n + 1)) 3) refl

@@ -27,7 +27,7 @@ use Rattle.tx_events.specs.declared.event.By.{By}
 use Rattle.tx_events.specs.declared.event.Event.{Event}
 use Rattle.tx_events.specs.declared.record.Counters.{Counters}
 use Rattle.tx_events.specs.declared.snapshot.SnapData.{SnapData}
-use Rattle.xid_order.specs.Ids.{next_id}
+use Rattle.tx_events.specs.Ids.{next_id}
 use Rattle.tx_events.specs.declared.event.Event.TheVariants as events
 
 -- an event that leaves all families and closes nothing; what it gives is a top that no snapshot lists

@@ -24,7 +24,7 @@ use Rattle.tx_events.specs.Snapshots.{snapshot_xmax, snapshot_xmin}
 use Rattle.tx_events.specs.declared.event.By.{By}
 use Rattle.tx_events.specs.declared.event.Event.{Event}
 use Rattle.tx_events.specs.declared.record.Counters.{Counters}
-use Rattle.xid_order.specs.Ids.{IsFullId, next_id}
+use Rattle.tx_events.specs.Ids.{IsFullId, next_id}
 use Rattle.tx_events.specs.declared.event.Event.TheVariants as events
 
 pub oldest_xmin_is : (base : Counters) (h : List Event) (n oldest late promised : ℕ) (entries : List Entry) (lives : LiveSnapshots) → IsState base h n oldest late promised entries lives →

@@ -25,12 +25,12 @@ use Rattle.tx_events.proofs.IdOrder.{next_above}
 use Rattle.tx_events.proofs.GivenGrowth.{next_after}
 use Rattle.tx_events.specs.History.{nth_id, MayCome, ComesInTurn}
 use Rattle.tx_events.specs.Horizon.{announced_after, live_up, live_snaps}
-use Rattle.xid_order.specs.Limits.{stop_limit}
+use Rattle.tx_events.specs.Limits.{stop_limit}
 use Rattle.tx_events.specs.Running.{running, open_ids}
 use Rattle.tx_events.specs.declared.event.By.{By}
 use Rattle.tx_events.specs.declared.event.Event.{Event}
 use Rattle.tx_events.specs.declared.record.Counters.{Counters}
-use Rattle.xid_order.specs.Ids.{next_id}
+use Rattle.tx_events.specs.Ids.{next_id}
 use Rattle.tx_events.specs.declared.event.Event.TheVariants as events
 
 pub entry_same : (first : ℕ) (h : List Event) (s t l s' t' l' : ℕ) (subs subs' : List ℕ) (o o' : Bool) → s ≡ s' → t ≡ t' → l ≡ l' → subs ≡ subs' → o ≡ o' → IsEntry first h s' t' l' subs' o' → IsEntry first h s t l subs o

@@ -24,12 +24,12 @@ use Rattle.tx_events.proofs.GivingGrowth.{giving_running, giving_sub, sub_tops, 
 use Rattle.tx_events.specs.Events.{given}
 use Rattle.tx_events.specs.Horizon.{live_snaps}
 use Rattle.tx_events.specs.IdLists.{has}
-use Rattle.xid_order.specs.Limits.{stop_limit}
+use Rattle.tx_events.specs.Limits.{stop_limit}
 use Rattle.tx_events.specs.Running.{is_open, running, open_ids}
 use Rattle.tx_events.specs.declared.event.By.{By}
 use Rattle.tx_events.specs.declared.event.Event.{Event}
 use Rattle.tx_events.specs.declared.record.Counters.{Counters}
-use Rattle.xid_order.specs.Ids.{next_id}
+use Rattle.tx_events.specs.Ids.{next_id}
 use Rattle.tx_events.specs.declared.event.Event.TheVariants as events
 
 added_entry : (first : ℕ) (h : List Event) (by : By) (parent n : ℕ) → IsSound first h → AreBelow n h → is_open h parent ≡ true → parent < n → has (open_ids by.session h) parent ≡ true →

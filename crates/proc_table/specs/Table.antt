@@ -13,7 +13,7 @@ use Rattle.tx_events.specs.Events.{by_of, is_of}
 use Rattle.tx_events.specs.History.{next_given}
 use Rattle.tx_events.specs.Families.{is_top}
 use Rattle.tx_events.specs.Running.{running, open_ids}
-use Rattle.xid_order.specs.Limits.{stop_limit, warn_limit}
+use Rattle.tx_events.specs.Limits.{stop_limit, warn_limit}
 use Rattle.tx_events.specs.Snapshots.{snapshot_data}
 use Rattle.tx_events.specs.Horizon.{oldest_id, oldest_xmin}
 use Rattle.tx_events.specs.IdLists.{has}

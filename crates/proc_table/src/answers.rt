@@ -1,5 +1,5 @@
 //! What the table's calls answer.
-use xid_order::FullXid;
+use tx_events::FullXid;
 
 /// The answer to a call that gives an id.
 #[derive(Clone, Copy, Debug, PartialEq, Eq)]

@@ -2,8 +2,7 @@
 ghost use Rattle.std.specs.Prelude.{◌≡◌, IfOk};
 
 use std::alloc::Global;
-use tx_events::{IdList, Memory, SnapData};
-use xid_order::FullXid;
+use tx_events::{FullXid, IdList, Memory, SnapData};
 
 /// The same contents. Each of the two lists takes memory once.
 pub fn copy_of(alloc: Global, contents: &SnapData) -> Result<SnapData, Memory>

@@ -8,8 +8,7 @@ ghost use Rattle.proc_table.specs.Lists.{entries_below, tops_of, subs_of, some_o
 
 use crate::entry::Entry;
 use std::alloc::Global;
-use tx_events::{IdList, Memory};
-use xid_order::FullXid;
+use tx_events::{FullXid, IdList, Memory};
 
 /// The id that was given last to the transaction of this top.
 pub fn last_given(entries: &[Entry], top: FullXid) -> Option<FullXid>

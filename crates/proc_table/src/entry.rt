@@ -7,8 +7,7 @@ ghost use Rattle.proc_table.specs.Entries.{IsSame, IsAdded, IsTaken, HasRoomFor}
 
 use snap_core::is_listed;
 use std::alloc::Global;
-use tx_events::Memory;
-use xid_order::FullXid;
+use tx_events::{FullXid, Memory};
 
 /// How many running subids an entry lists in a snapshot (`PGPROC_MAX_CACHED_SUBXIDS`).
 const MOST_LISTED: usize = 64;

@@ -10,8 +10,7 @@ ghost use Rattle.proc_table.specs.Lives.{HoldsLive, xmin_under, live_xmin, other
 use crate::xmins::{XminCounts, count_less, count_more, least_counted};
 use std::alloc::Global;
 use std::collections::BTreeMap;
-use tx_events::{Memory, Name};
-use xid_order::FullXid;
+use tx_events::{FullXid, Memory, Name};
 
 /// The xmin of each live snapshot of one session, by the bytes of its name.
 type NamedXmins = BTreeMap<Vec<u8>, FullXid>;

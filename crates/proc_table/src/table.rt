@@ -12,7 +12,7 @@ ghost use Rattle.tx_events.specs.Horizon.{is_live};
 ghost use Rattle.tx_events.specs.Savepoints.{is_inside};
 ghost use Rattle.tx_events.specs.Snapshots.{snapshot_xmax};
 ghost use Rattle.tx_events.specs.XactEnds.{end_event};
-ghost use Rattle.xid_order.specs.Ids.{IsFullId, next_id};
+ghost use Rattle.tx_events.specs.Ids.{IsFullId, next_id};
 ghost use Rattle.proc_table.specs.Table.{Table, InTurn, Gives, Adds, Takes, Raises, Asks, IsOpenTop, data_at, next_of, oldest_of, xmin_of, page_of};
 
 use crate::answers::{Asked, Given};
@@ -28,10 +28,9 @@ use std::alloc::{AllocError, Global};
 use std::marker::Model;
 use store_pages::subtrans_page_in_full;
 use tx_events::{
-    By, Copied, Counters, Event, EventList, Memory, Name, Refusal, SnapData, XactEnd,
+    By, Copied, Counters, Event, EventList, FullXid, Memory, Name, Refusal, SnapData, XactEnd,
     make_one_room, make_room,
 };
-use xid_order::FullXid;
 
 /// The running transactions and the live snapshots of all sessions, and the history so far: what PostgreSQL keeps under
 /// `ProcArrayLock` and `XidGenLock`, here one lock. A contract sees the base of the life, the number of sessions, the

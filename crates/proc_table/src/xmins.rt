@@ -7,8 +7,7 @@ ghost use Rattle.tx_events.specs.Horizon.{LiveSnap};
 ghost use Rattle.proc_table.specs.Lives.{IsTally, one_more, with_xmin};
 
 use counted_map::CountedMap;
-use tx_events::Memory;
-use xid_order::FullXid;
+use tx_events::{FullXid, Memory};
 
 /// How many live snapshots have each xmin.
 pub type XminCounts = CountedMap<FullXid>;

@@ -1,8 +1,8 @@
 -- The engine invariant gives that a bank of pg_xact fits.
 use Rattle.std.proofs.Common.{length-append, ◌≡◌, ℕ, ◌+◌, ◌-◌, ◌/◌, ◌%◌, ◌^◌, ◌<◌, ◌≤◌, ◌⊎◌, inl, inr, ⊎_elim, true, List, ◌∷◌, ◌++◌, length, take, drop, Option, Some, None, Contains, refl, sym, ap, subst, arith, ◌∙◌}
 use Rattle.std.specs.List.{flat_map, slice_get}
-use Rattle.xid_order.specs.Ids.{low_half}
-use Rattle.xid_order.specs.PageOrder.{Ids, is_cut}
+use Rattle.tx_events.specs.Ids.{low_half}
+use Rattle.tx_events.specs.PageOrder.{Ids, is_cut}
 use Rattle.store_pages.specs.Layouts.{state_in, xact_page_of}
 use Rattle.disk_core.specs.Pages.{Pages, page_bytes}
 use Rattle.std.proofs.lemmas.List.{take-append-drop}
@@ -54,7 +54,7 @@ use Rattle.tx_core.specs.SyncsBeforeForgets.{AreStatesSynced, IsNamedBelow, MayF
 use Rattle.recoverable.specs.Images.{MayBeGone}
 use Rattle.recoverable.specs.XactImages.{Follows, ShowsSince, code_after, code_at, code_of, xact_ring}
 use Rattle.recoverable.proofs.LogBases.{base_from, life_recs, oldest_grows, oldest_past}
-use Rattle.xid_order.specs.PageWindow.{id_is_kept}
+use Rattle.tx_events.specs.PageWindow.{id_is_kept}
 use Rattle.recoverable.proofs.Places.{shows_after, shows_committed, shows_from, shows_start}
 use Rattle.recoverable.proofs.Stretches.{flat_map_has, get_in_beginning, get_map, has_longer, has_taken, has_within, map_get, taken_place}
 

@@ -3,7 +3,7 @@ use Rattle.std.proofs.Common.{Contains, List, Some, [], ap, arith, drop, inl, in
 use Rattle.std.proofs.lemmas.List.Sums.{fold_push}
 use Rattle.std.specs.Prelude.{IsTrue}
 use Rattle.std.specs.List.{filter, slice_get}
-use Rattle.xid_order.specs.Ids.{IsFullMulti, next_multi}
+use Rattle.tx_events.specs.Ids.{IsFullMulti, next_multi}
 use Rattle.tx_events.specs.declared.event.By.{By}
 use Rattle.tx_events.specs.declared.multi.Member.{Member}
 use Rattle.tx_events.specs.declared.multi.MultiEvent.{MultiEvent}

@@ -1,10 +1,10 @@
 -- Each image of a bank of members has the members of recorded multixacts, and none in the gaps behind them.
 use Rattle.std.proofs.Common.{Contains, List, None, Option, Some, ap, arith, cond, inl, inr, length, refl, subst, sym, take, true, ℕ, ⊎_elim, ◌+◌, ◌-◌, ◌/◌, ◌%◌, ◌<◌, ◌^◌, ◌∙◌, ◌≡◌, ◌≤◌, ◌⊎◌}
 use Rattle.std.specs.List.{filter_map, flat_map, slice_get, slice_index}
-use Rattle.xid_order.specs.Ids.{low_half}
-use Rattle.xid_order.specs.Limits.{member_stop}
-use Rattle.xid_order.specs.PageOrder.{Offsets, is_cut}
-use Rattle.xid_order.specs.PageWindow.{member_is_kept}
+use Rattle.tx_events.specs.Ids.{low_half}
+use Rattle.tx_events.specs.Limits.{member_stop}
+use Rattle.tx_events.specs.PageOrder.{Offsets, is_cut}
+use Rattle.tx_events.specs.PageWindow.{member_is_kept}
 use Rattle.store_pages.specs.Layouts.{member_page_of, member_place_of, mode_place_of}
 use Rattle.disk_core.specs.Pages.{Pages, page_bytes}
 use Rattle.tx_events.specs.declared.event.By.{By}

@@ -1,10 +1,10 @@
 -- Each image of a bank of offsets has the offsets of recorded multixacts.
 use Rattle.std.proofs.Common.{Contains, List, Option, Some, [], ap, arith, inr, length, length-append, refl, subst, sym, take, true, ℕ, ⊎_elim, ◌++◌, ◌+◌, ◌-◌, ◌/◌, ◌%◌, ◌<◌, ◌^◌, ◌∙◌, ◌≡◌, ◌≤◌, ◌⊎◌}
 use Rattle.std.specs.List.{filter, filter_map, flat_map, slice_get}
-use Rattle.xid_order.specs.Ids.{low_half}
+use Rattle.tx_events.specs.Ids.{low_half}
 use Rattle.store_pages.specs.Layouts.{multi_before, word_page_of}
-use Rattle.xid_order.specs.PageOrder.{Multis, is_cut}
-use Rattle.xid_order.specs.PageWindow.{multi_is_kept}
+use Rattle.tx_events.specs.PageOrder.{Multis, is_cut}
+use Rattle.tx_events.specs.PageWindow.{multi_is_kept}
 use Rattle.disk_core.specs.Pages.{Pages}
 use Rattle.tx_events.specs.declared.event.By.{By}
 use Rattle.tx_events.specs.declared.multi.Member.{Member}
@@ -23,7 +23,7 @@ use Rattle.tx_core.proofs.Cutting.{cut_says}
 use Rattle.tx_core.proofs.Growing.{begins_filter_map}
 use Rattle.tx_core.proofs.Nearness.{multis_are_legal}
 use Rattle.tx_core.proofs.Rising.{made_more}
-use Rattle.xid_order.specs.Limits.{multi_stop_limit}
+use Rattle.tx_events.specs.Limits.{multi_stop_limit}
 use Rattle.tx_core.proofs.Reading.{flushed_appended}
 use Rattle.tx_core.specs.CutsFollow.{IsOffsetGone, IsTruncated}
 use Rattle.tx_core.specs.EngineInvariant.{EngineInvariant}

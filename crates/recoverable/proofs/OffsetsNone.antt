@@ -3,7 +3,7 @@ use Rattle.std.proofs.Common.{Contains, List, Option, Some, ap, arith, drop, len
 use Rattle.std.proofs.lemmas.List.{take-append-drop, take-append-le}
 use Rattle.std.proofs.lemmas.List.Sums.{fold-append}
 use Rattle.std.specs.List.{filter, slice_get}
-use Rattle.xid_order.specs.Limits.{multi_stop_limit}
+use Rattle.tx_events.specs.Limits.{multi_stop_limit}
 use Rattle.disk_core.specs.Pages.{Pages}
 use Rattle.tx_events.specs.declared.event.By.{By}
 use Rattle.tx_events.specs.declared.multi.Member.{Member}

@@ -2,7 +2,7 @@
 use Rattle.std.proofs.Common.{Bool, Contains, None, Some, [], ap, arith, cond, eq-eqb, false, inl, refl, subst, suc, take, true, zero, ℕ, ⊎_elim, ◌/◌, ◌%◌, ◌<◌, ◌==◌, ◌^◌, ◌∙◌, ◌∷◌, ◌≡◌}
 use Rattle.std.proofs.lemmas.Bool.{eqb-true}
 use Rattle.std.specs.List.{cons_option, last_or, slice_get}
-use Rattle.xid_order.specs.PageOrder.{Ids, is_cut}
+use Rattle.tx_events.specs.PageOrder.{Ids, is_cut}
 use Rattle.disk_core.specs.Pages.{page_bytes}
 use Rattle.store_pages.specs.Layouts.{state_in, xact_page_of, xact_place_of}
 use Rattle.tx_events.proofs.ListSteps.{not_both}

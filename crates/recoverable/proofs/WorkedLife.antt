@@ -1,7 +1,7 @@
 -- The worked life fits, and the wrong volumes don't.
 use Rattle.std.proofs.Common.{◌-◌, Contains, List, Ok, Err, Some, [], ap, arith, inl, length, refl, replicate, subst, suc, sym, zero, ℕ, ⊎_elim, ◌++◌, ◌+◌, ◌/◌, ◌%◌, ◌<◌, ◌∙◌, ◌∷◌, ◌≡◌, ◌≤◌, ◌⊎◌}
 use Rattle.std.specs.List.{slice_get, slice_index}
-use Rattle.xid_order.specs.Ids.{low_half, next_multi}
+use Rattle.tx_events.specs.Ids.{low_half, next_multi}
 use Rattle.disk_core.specs.Pages.{page_bytes, zero_page}
 use Rattle.store_pages.specs.Layouts.{bits_at, state_in, xact_page_of, xact_place_of}
 use Rattle.tx_events.proofs.Membership.{contains_has, has_contains}

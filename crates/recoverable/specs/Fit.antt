@@ -1,7 +1,7 @@
 -- Volumes from which recovery gives a clean start, as far as the log and pg_xact go.
 use Rattle.std.specs.Prelude.{◌≡◌, ℕ, ◌+◌, ◌-◌, ◌%◌, ◌<◌, ◌≤◌, ◌⊎◌, List, take, length, Some, Contains}
 use Rattle.std.specs.List.{slice_get}
-use Rattle.xid_order.specs.Ids.{low_half}
+use Rattle.tx_events.specs.Ids.{low_half}
 use Rattle.store_pages.specs.Layouts.{xact_page_of}
 use Rattle.disk_core.specs.Pages.{Pages}
 use Rattle.tx_events.specs.declared.record.Counters.{Counters}

@@ -1,7 +1,7 @@
 -- What recovery needs of the pages of offsets and members.
 use Rattle.std.specs.Prelude.{◌≡◌, ℕ, ◌+◌, ◌%◌, ◌<◌, ◌≤◌, List, length, Some, Contains}
 use Rattle.std.specs.List.{slice_get}
-use Rattle.xid_order.specs.Ids.{IsFullMulti, low_half}
+use Rattle.tx_events.specs.Ids.{IsFullMulti, low_half}
 use Rattle.store_pages.specs.Layouts.{number_in, word_page_of, word_place_of, member_page_of, member_place_of}
 use Rattle.disk_core.specs.Pages.{Pages, page_bytes}
 use Rattle.tx_events.specs.declared.multi.Member.{Member}

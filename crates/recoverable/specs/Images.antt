@@ -1,6 +1,6 @@
 -- What a crash leaves of a bank's pages, by the list of its lock: of one number's place, its bits, or one of its bytes.
 use Rattle.std.specs.Prelude.{◌≡◌, ℕ, ◌%◌, ◌<◌, ◌⊎◌, true, List, take, slice_get, Option, Some, None, Contains}
-use Rattle.xid_order.specs.PageOrder.{Shape, is_cut}
+use Rattle.tx_events.specs.PageOrder.{Shape, is_cut}
 use Rattle.tx_events.specs.declared.event.By.{By}
 use Rattle.tx_core.specs.declared.entry.Entry.{Entry}
 use Rattle.tx_core.specs.declared.entry.Kind.TheVariants as kinds

@@ -2,7 +2,7 @@
 use Rattle.std.specs.Prelude.{◌≡◌, ℕ, ◌+◌, ◌<◌, ◌≤◌, ◌⊎◌, Contains, List, ◌++◌, length, Option, None, IsTrue}
 use Rattle.tx_events.specs.declared.event.By.{By}
 use Rattle.tx_core.specs.declared.entry.Kind.{Kind}
-use Rattle.xid_order.specs.Ids.{IsFullMulti}
+use Rattle.tx_events.specs.Ids.{IsFullMulti}
 use Rattle.disk_core.specs.Pages.{Pages}
 use Rattle.tx_events.specs.Base.{IsBase}
 use Rattle.tx_events.specs.Events.{given}

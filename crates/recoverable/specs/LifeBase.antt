@@ -1,7 +1,7 @@
 -- What a life starts from, and what records make of it.
 use Rattle.std.specs.Prelude.{◌≡◌, ℕ, ◌+◌, ◌<◌, ◌≤◌, List, [], ◌∷◌, ◌++◌, length, Bool, true, false, Contains}
 use Rattle.std.specs.List.{filter, flat_map}
-use Rattle.xid_order.specs.Ids.{next_multi}
+use Rattle.tx_events.specs.Ids.{next_multi}
 use Rattle.tx_events.specs.declared.multi.Member.{Member}
 use Rattle.tx_events.specs.declared.record.Counters.{Counters}
 use Rattle.tx_events.specs.declared.record.Rec.{Rec}

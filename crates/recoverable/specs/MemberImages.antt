@@ -1,8 +1,8 @@
 -- What a crash leaves of a bank of members: of each member the four bytes of its id and its mode byte, each by itself.
 use Rattle.std.specs.Prelude.{◌≡◌, ℕ, ◌+◌, ◌^◌, ◌<◌, ◌≤◌, Contains, List, length, slice_get, Option, Some}
-use Rattle.xid_order.specs.Ids.{low_half}
+use Rattle.tx_events.specs.Ids.{low_half}
 use Rattle.store_pages.specs.Layouts.{member_page_of}
-use Rattle.xid_order.specs.PageOrder.{Offsets}
+use Rattle.tx_events.specs.PageOrder.{Offsets}
 use Rattle.disk_core.specs.Pages.{Pages}
 use Rattle.tx_core.specs.declared.entry.Entry.{Entry}
 use Rattle.tx_core.specs.declared.entry.Start.{Start}

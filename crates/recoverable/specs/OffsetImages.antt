@@ -1,8 +1,8 @@
 -- What a crash leaves of a bank of offsets, byte by byte, since a number of four bytes may be torn.
 use Rattle.std.specs.Prelude.{◌≡◌, ℕ, ◌+◌, ◌^◌, ◌<◌, ◌≤◌, Contains, List, Option, None}
-use Rattle.xid_order.specs.Ids.{IsFullMulti}
+use Rattle.tx_events.specs.Ids.{IsFullMulti}
 use Rattle.store_pages.specs.Layouts.{multi_before, word_page_of}
-use Rattle.xid_order.specs.PageOrder.{Multis}
+use Rattle.tx_events.specs.PageOrder.{Multis}
 use Rattle.disk_core.specs.Pages.{Pages}
 use Rattle.tx_core.specs.declared.entry.Entry.{Entry}
 use Rattle.tx_core.specs.declared.entry.Start.{Start}

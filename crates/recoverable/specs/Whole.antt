@@ -1,7 +1,7 @@
 -- The law on all volumes at once: where the engine invariant holds, the life began right and was short, and each image
 -- of a volume follows its list, over pages that showed the life's base, the volumes fit.
 use Rattle.std.specs.Prelude.{◌≡◌, ℕ, ◌+◌, ◌<◌, List, [], ◌∷◌, length, Option, IsTrue, None}
-use Rattle.xid_order.specs.Ids.{IsFullMulti}
+use Rattle.tx_events.specs.Ids.{IsFullMulti}
 use Rattle.disk_core.specs.Pages.{Pages}
 use Rattle.disk_core.specs.Volume.{Volume}
 use Rattle.wal_core.specs.Kept.{HasFlushed}

@@ -1,6 +1,6 @@
 -- What a crash leaves of a bank of pg_xact, by the list of its lock.
 use Rattle.std.specs.Prelude.{◌≡◌, ℕ, List, take, Option, Some, None}
-use Rattle.xid_order.specs.PageOrder.{Ids}
+use Rattle.tx_events.specs.PageOrder.{Ids}
 use Rattle.store_pages.specs.Layouts.{state_in, xact_page_of, xact_place_of}
 use Rattle.disk_core.specs.Pages.{Pages, page_bytes}
 use Rattle.tx_core.specs.declared.entry.Entry.{Entry}

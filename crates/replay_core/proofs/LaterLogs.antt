@@ -11,7 +11,7 @@ use Rattle.tx_events.specs.Base.{IsBase}
 use Rattle.tx_events.specs.declared.record.Counters.{Counters}
 use Rattle.tx_events.specs.declared.record.Rec.{Rec}
 use Rattle.tx_events.specs.declared.record.Rec.TheVariants as records
-use Rattle.xid_order.specs.Limits.{stop_limit}
+use Rattle.tx_events.specs.Limits.{stop_limit}
 use Rattle.wal_core.specs.Kept.{HasFlushed, IsStretch, OpensToRecords}
 use Rattle.wal_core.specs.Log.{history_in}
 use Rattle.wal_core.specs.LogContents.{ComesTo}

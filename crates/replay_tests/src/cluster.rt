@@ -1,14 +1,12 @@
 // A cluster of two banks, and what it holds.
 use disk_core::{LogDisk, PageDisk, Volumes};
-use pg_xact_log::{State, set_states, state};
 use replay_core::{ClusterVolumes, RecoverRefusal, Recovered, recover};
-use slru_bank::SlruBank;
+use slru_bank::{SlruBank, State, set_states, state};
 use std::alloc::Global;
 use std::test::Fail;
 use store_pages::XactPages;
-use tx_events::{Counters, IdList, Rec};
+use tx_events::{Counters, FullXid, IdList, Rec};
 use wal_core::{Started, WalLog};
-use xid_order::FullXid;
 
 pub fn id(number: u64) -> Result<FullXid, Fail> {
     Ok(FullXid::new(number).ok_or("an id")?)

@@ -6,8 +6,8 @@ use crate::cluster::{
 };
 use disk_core::{Crash, Media, MemMedia, Volumes, Which};
 use disk_fuse::Fuse;
-use pg_xact_log::State;
 use replay_core::RecoverRefusal;
+use slru_bank::State;
 use std::alloc::Global;
 use std::test::Fail;
 

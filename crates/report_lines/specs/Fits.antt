@@ -1,7 +1,7 @@
 -- What a line can say.
 use Rattle.std.specs.Prelude.{◌≡◌, ℕ, ◌+◌, ◌<◌, ◌≤◌, ◌^◌, List}
 use Rattle.std.specs.List.{AllByRecursion}
-use Rattle.xid_order.specs.Ids.{IsFullId, IsFullMulti, IsXidNumber}
+use Rattle.tx_events.specs.Ids.{IsFullId, IsFullMulti, IsXidNumber}
 use Rattle.tx_events.specs.declared.event.Event.{Event}
 use Rattle.tx_events.specs.declared.event.Event.TheVariants as events
 use Rattle.tx_events.specs.declared.multi.MultiEvent.{MultiEvent}

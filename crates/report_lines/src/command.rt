@@ -15,8 +15,8 @@ use report_words::{
     pairs_fit, read_pairs, reply_at, small, word_at,
 };
 use std::alloc::Global;
+use tx_events::{MultiId, Xid};
 use tx_model::{Command, Line, Memory, NameList, PairList, is_name};
-use xid_order::{MultiId, Xid};
 
 #[tactic(auto, unfolding(crate::specs::Commands::plain_command))]
 fn plain_command(word: &[u8]) -> Option<Command>

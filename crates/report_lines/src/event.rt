@@ -10,8 +10,8 @@ ghost use Rattle.report_lines.specs.Texts.{IsLineOf, event_line};
 
 use report_text::{Text, put_event};
 use report_words::{Unread, by_at, fits_by, full_id, id_fits, name_of, number_at, word_at};
+use tx_events::FullXid;
 use tx_model::{By, Event, Memory, NameList, is_name};
-use xid_order::FullXid;
 
 /// An event that names an id first.
 #[tactic(auto, unfolding(crate::specs::Events::id_event))]

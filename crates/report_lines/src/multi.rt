@@ -13,8 +13,8 @@ use report_words::{
     Unread, by_at, fits_by, full_multi, members_fit, multi_fits, number_at, read_members, word_at,
 };
 use std::alloc::Global;
+use tx_events::FullMulti;
 use tx_model::{By, MemberList, Memory, MultiEvent, NameList};
-use xid_order::FullMulti;
 
 #[tactic(auto, unfolding(crate::specs::Events::gen_at))]
 fn gen_at(alloc: Global, by: By, multi: FullMulti, rest: &[u8]) -> Result<MultiEvent, Unread>

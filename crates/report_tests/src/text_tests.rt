@@ -3,8 +3,8 @@ use crate::texts::{answer_text, text_of, two_sessions};
 use std::alloc::{AllocGlobal, Global};
 use std::process::Abort;
 use std::test::Fail;
+use tx_events::{FullMulti, FullXid, Xid};
 use tx_model::*;
-use xid_order::{FullMulti, FullXid, Xid};
 
 fn id(number: u64) -> Result<FullXid, Fail> {
     Ok(FullXid::new(number).ok_or("no id")?)

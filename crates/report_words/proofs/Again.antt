@@ -5,7 +5,7 @@ use Rattle.std.specs.Fmt.{decimal}
 use Rattle.std.proofs.lemmas.List.{take_at}
 use Rattle.std.proofs.lemmas.Fmt.{decimal_by_steps}
 use Rattle.std.proofs.lemmas.Bool.Decides.{nat_tests}
-use Rattle.xid_order.specs.Ids.{IsXidNumber}
+use Rattle.tx_events.specs.Ids.{IsXidNumber}
 use Rattle.tx_events.specs.declared.event.By.{By}
 use Rattle.report_text.specs.Words.{more, line_text, name_at}
 use Rattle.report_text.specs.EventText.{by_words}

@@ -1,7 +1,7 @@
 -- What words can say: the ranges of numbers, and the forms of replies.
 use Rattle.std.specs.Prelude.{◌≡◌, ℕ, ◌<◌, ◌^◌, List, length}
 use Rattle.std.specs.List.{IsDistinct, AllByRecursion}
-use Rattle.xid_order.specs.Ids.{IsXidNumber, IsFullMulti}
+use Rattle.tx_events.specs.Ids.{IsXidNumber, IsFullMulti}
 use Rattle.tx_events.specs.Events.{same_name}
 use Rattle.tx_events.specs.declared.event.By.{By}
 use Rattle.tx_events.specs.declared.multi.Member.{Member}

@@ -4,11 +4,11 @@ ghost use Rattle.std.specs.List.{AllByRecursion};
 ghost use Rattle.report_words.specs.Fits.{FitsId, FitsMulti, FitsBy, FitsCounters, FitsSnap, FitsPair, FitsMember, FitsVerdict, FitsLock, FitsRefusal, FitsReply, FitsCheckpointRefusal, FitsCheckpointReply, FitsDumpRefusal, FitsDumpReply, IsPending};
 
 use crate::reply::Kind;
+use tx_events::{FullMulti, FullXid, Xid};
 use tx_model::{
     By, ByteList, Counters, IdList, Lock, MemberList, NameList, PairList, Refusal, Reply, SnapData,
     VerdictList,
 };
-use xid_order::{FullMulti, FullXid, Xid};
 
 /// A full id is in range, since its type holds no other number.
 pub fn id_fits(id: FullXid)

@@ -7,8 +7,8 @@ use crate::list::{full_multi, named_at, read_list};
 use crate::unread::Unread;
 use crate::word::{full_id, word_at};
 use std::alloc::Global;
+use tx_events::FullXid;
 use tx_model::{Counters, IdList, SnapData};
-use xid_order::FullXid;
 
 /// The counters, each behind its word.
 #[tactic(auto, unfolding(crate::specs::Reading::counters_at))]

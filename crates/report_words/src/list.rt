@@ -5,8 +5,8 @@ ghost use Rattle.report_words.specs.Reading.{Gives, named_at, full_multi, id_of,
 
 use crate::unread::Unread;
 use crate::word::{full_id, number_at, word_at};
+use tx_events::{FullMulti, FullXid};
 use tx_model::{IdList, Memory};
-use xid_order::{FullMulti, FullXid};
 
 /// The number behind a word, whichever it is.
 #[tactic(auto, unfolding(crate::specs::Reading::named_at))]

@@ -8,8 +8,8 @@ use crate::piece::{first_piece, piece_at, small};
 use crate::unread::Unread;
 use crate::word::{full_id, number_of, word_at};
 use std::alloc::Global;
+use tx_events::Xid;
 use tx_model::{Member, MemberList, MemberVerdict, Mode, Pair, PairList, Verdict, VerdictList};
-use xid_order::Xid;
 
 #[tactic(auto, unfolding(crate::specs::Members::mode_of))]
 fn mode_of(word: &[u8]) -> Result<Mode, Unread>

@@ -8,8 +8,8 @@ use crate::list::full_multi;
 use crate::piece::small;
 use crate::unread::Unread;
 use crate::word::{full_id, number_at, word_at};
+use tx_events::{FullMulti, FullXid, Xid};
 use tx_model::{Lock, Refusal};
-use xid_order::{FullMulti, FullXid, Xid};
 
 #[tactic(auto, unfolding(crate::specs::Refusals::own_refusal))]
 fn own_refusal(word: &[u8]) -> Option<Refusal>

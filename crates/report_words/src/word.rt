@@ -5,8 +5,8 @@ ghost use Rattle.report_words.specs.Words.{behind, is_space};
 ghost use Rattle.report_words.specs.Reading.{Gives, word_at, number_of, number_at, full_id, name_of, next};
 
 use crate::unread::Unread;
+use tx_events::FullXid;
 use tx_model::{Name, is_name};
-use xid_order::FullXid;
 
 /// How many bytes stand before the first space, or in all.
 #[tactic(auto, using(std::proofs::lemmas::List::Sums::prefix_len_is))]

@@ -1,7 +1,6 @@
 // Which counters a life may start from, by the limits worked out by hand.
 use std::test::Fail;
-use tx_events::{Counters, is_base};
-use xid_order::{FullMulti, FullXid};
+use tx_events::{Counters, FullMulti, FullXid, is_base};
 
 // Whether a life may start from these: the next and the oldest id, the next multixact and offset, the oldest of both.
 fn may_start(numbers: [u64; 6]) -> Result<bool, Fail> {

@@ -1,6 +1,6 @@
 // Limits of ids, multixacts and members at the wrap, worked out by hand from their formulas.
 use std::test::Fail;
-use xid_order::{FullMulti, FullXid, Limits, MultiLimits, member_stop};
+use tx_events::{FullMulti, FullXid, Limits, MultiLimits, member_stop};
 
 // Where ids end, stop and warn under this oldest one.
 fn id_limits(oldest: u64) -> Result<[u64; 3], Fail> {

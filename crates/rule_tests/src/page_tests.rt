@@ -5,7 +5,7 @@ use store_pages::{
     member_page, member_page_in_full, mode_position, offset_page, offset_place, subtrans_page,
     subtrans_place, xact_page, xact_page_in_full, xact_place,
 };
-use xid_order::{FullXid, MultiId, Xid};
+use tx_events::{FullXid, MultiId, Xid};
 
 // The page and the place of a stored id's state, and those of its parent.
 fn places_of_id(number: u32) -> ([u32; 2], [u32; 2]) {

@@ -3,8 +3,8 @@ use Rattle.std.proofs.Common.{◌≡◌, ◌⊎◌, ℕ, ◌-◌, ◌%◌, ◌^�
 use Rattle.std.proofs.lemmas.Bool.Decides.{nat_tests}
 use Rattle.std.proofs.lemmas.List.{reverse-reverse}
 use Rattle.std.specs.List.{AllByRecursion, cons_option, filter, fold, list_any}
-use Rattle.xid_order.specs.Ids.{IsFullId, IsXidNumber, low_half}
-use Rattle.xid_order.specs.Limits.{down_to_normal, stop_limit, wrap_limit}
+use Rattle.tx_events.specs.Ids.{IsFullId, IsXidNumber, low_half}
+use Rattle.tx_events.specs.Limits.{down_to_normal, stop_limit, wrap_limit}
 use Rattle.tx_events.specs.declared.event.Event.{Event}
 use Rattle.tx_events.specs.declared.event.Event.TheVariants as events
 use Rattle.tx_events.specs.declared.record.Counters.{Counters}

@@ -8,8 +8,8 @@ use Rattle.std.proofs.lemmas.List.Sums.{count_by-le-length}
 use Rattle.std.specs.List.{AllByRecursion, range_with_len, slice_split}
 use Rattle.std.specs.Option.{is_some}
 use Rattle.std.specs.Str.{bytes_eq}
-use Rattle.xid_order.specs.Ids.{IsFullMulti, low_half}
-use Rattle.xid_order.specs.Limits.{member_stop, multi_stop_limit}
+use Rattle.tx_events.specs.Ids.{IsFullMulti, low_half}
+use Rattle.tx_events.specs.Limits.{member_stop, multi_stop_limit}
 use Rattle.tx_events.specs.declared.record.Counters.{Counters}
 use Rattle.tx_events.specs.Base.{IsBase}
 use Rattle.tx_events.specs.Events.{same_name}

@@ -3,8 +3,8 @@ use crate::{Summary, generate};
 use session_lang::{Item, Items, Script};
 use std::alloc::Global;
 use std::test::Fail;
+use tx_events::FullXid;
 use tx_model::{By, Command, Event, Memory, Name};
-use xid_order::FullXid;
 
 /// What a script's commands come to, where none of them is refused.
 fn counted(items: &Items) -> Result<Summary, Memory> {

@@ -12,8 +12,8 @@ use crate::draws::Draws;
 use script_lines::Directive;
 use session_lang::ItemList;
 use std::alloc::Global;
+use tx_events::Xid;
 use tx_model::{Command, Memory, Name};
-use xid_order::Xid;
 
 /// The sessions that take turns.
 const SESSIONS: u32 = 4;

@@ -1,6 +1,6 @@
 -- The words behind a command or a directive: how many, and the names and numbers in them.
 use Rattle.std.specs.Prelude.{ℕ, ◌-◌, ◌^◌, ◌&&◌, ◌||◌, nat_lt, nat_le, List, [], ◌∷◌, Bool, cond, Option, Some, None, Result, Ok, Err}
-use Rattle.xid_order.specs.Ids.{low_half}
+use Rattle.tx_events.specs.Ids.{low_half}
 use Rattle.script_lines.specs.declared.kind.Kind.{Kind}
 use Rattle.script_lines.specs.declared.kind.Kind.TheVariants as kinds
 use Rattle.script_lines.specs.Kinds.{◌>>=◌}

@@ -6,8 +6,8 @@ ghost use Rattle.script_lines.specs.Arguments.{none_of, one_of, two_of, three_of
 
 use crate::kind::Kind;
 use crate::word::{next_word, number_of};
+use tx_events::{FullMulti, FullXid};
 use tx_model::{Name, is_name};
-use xid_order::{FullMulti, FullXid};
 
 /// The greatest full id, multixact id or member offset that a script may name.
 pub const GREATEST: u64 = 1 << 62;

@@ -10,8 +10,8 @@ use crate::kind::{Kind, Stop};
 use crate::member::pairs_in;
 use crate::word::next_word;
 use std::alloc::Global;
+use tx_events::{MultiId, Xid};
 use tx_model::{Command, Name};
-use xid_order::{MultiId, Xid};
 
 /// The command, where no word is behind it.
 fn alone(command: Command, rest: &[u8]) -> Result<Command, Stop>

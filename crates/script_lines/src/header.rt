@@ -5,8 +5,8 @@ ghost use Rattle.script_lines.specs.Header.{is_header_word, given_id, given_mult
 
 use crate::argument::{GREATEST, id_in, multi_in, number_in, one_of};
 use crate::kind::Kind;
+use tx_events::{FullMulti, FullXid};
 use tx_model::Counters;
-use xid_order::{FullMulti, FullXid};
 
 /// The greatest number of banks that a store may have.
 const MOST_BANKS: u64 = 16;

@@ -9,8 +9,8 @@ use crate::argument::stored_in;
 use crate::kind::{Kind, Stop};
 use crate::word::next_word;
 use std::alloc::Global;
+use tx_events::Xid;
 use tx_model::{Mode, Pair, PairList};
-use xid_order::Xid;
 
 /// How many bytes stand before the first colon, or in all.
 #[tactic(auto, using(std::proofs::lemmas::List::Sums::prefix_len_is))]

@@ -9,7 +9,7 @@ use Rattle.tx_events.specs.declared.multi.Mode.TheVariants as modes
 use Rattle.tx_model.specs.declared.command.Command.{Command}
 use Rattle.tx_model.specs.declared.command.Command.TheVariants as commands
 use Rattle.tx_model.specs.declared.command.Pair.{Pair}
-use Rattle.xid_order.specs.Ids.{IsFullId, IsFullMulti, IsXidNumber, low_half}
+use Rattle.tx_events.specs.Ids.{IsFullId, IsFullMulti, IsXidNumber, low_half}
 use Rattle.report_text.specs.CommandText.{command_word, command_words}
 use Rattle.report_text.specs.MemberText.{id_word, mode_word, pair_word, pair_words}
 use Rattle.script_lines.specs.LineWords.{and_then, next, number_from, number_of}

@@ -4,7 +4,7 @@ use Rattle.std.specs.List.{AllByRecursion}
 use Rattle.std.specs.Str.{bytes_eq}
 use Rattle.std.proofs.lemmas.Bool.{and_parts}
 use Rattle.std.proofs.lemmas.Bool.Decides.{nat_tests}
-use Rattle.xid_order.specs.Ids.{IsFullId, IsFullMulti, IsXidNumber, low_half}
+use Rattle.tx_events.specs.Ids.{IsFullId, IsFullMulti, IsXidNumber, low_half}
 use Rattle.tx_events.specs.Names.{is_name}
 use Rattle.tx_events.proofs.ListSteps.{all_push}
 use Rattle.tx_model.specs.declared.command.Command.{Command}

@@ -1,7 +1,7 @@
 -- The items of a script in short, and what stands apart.
 use Rattle.std.specs.Prelude.{ℕ, ◌+◌, ◌*◌, ◌^◌, ◌<◌, ◌≤◌, List, drop, get_or, length, map, take}
 use Rattle.std.specs.List.{All}
-use Rattle.xid_order.specs.Ids.{IsFullMulti, IsXidNumber}
+use Rattle.tx_events.specs.Ids.{IsFullMulti, IsXidNumber}
 use Rattle.tx_model.specs.declared.command.Command.{Command}
 use Rattle.tx_model.specs.declared.command.Command.TheVariants as commands
 use Rattle.tx_model.specs.declared.report.DumpOf.{DumpOf}

@@ -9,7 +9,7 @@ use Rattle.tx_model.specs.declared.report.DumpOf.{DumpOf}
 use Rattle.tx_model.specs.declared.report.DumpOf.TheVariants as dumps
 use Rattle.tx_model.specs.declared.report.How.{How}
 use Rattle.tx_model.specs.declared.report.How.TheVariants as hows
-use Rattle.xid_order.specs.Ids.{IsFullId, IsFullMulti, IsXidNumber}
+use Rattle.tx_events.specs.Ids.{IsFullId, IsFullMulti, IsXidNumber}
 use Rattle.report_text.specs.CommandText.{command_words}
 use Rattle.report_text.specs.ReportText.{dump_words}
 use Rattle.report_text.specs.Words.{line_text, more, name_at}

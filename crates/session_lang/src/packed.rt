@@ -1,6 +1,6 @@
 //! An item of a script in twelve bytes, and what stands apart.
 ghost use Rattle.std.specs.Prelude.{◌≡◌, IfOk};
-ghost use Rattle.xid_order.specs.Ids.{IsFullMulti, IsXidNumber};
+ghost use Rattle.tx_events.specs.Ids.{IsFullMulti, IsXidNumber};
 ghost use Rattle.session_lang.specs.Packed.{IsIdOf, IsPacked, dump_of, id_command, named_command, plain_command};
 ghost use Rattle.session_lang.specs.Packed.{unpacked, whole};
 ghost use Rattle.session_lang.specs.declared.packed.Apart.{Apart};
@@ -8,8 +8,8 @@ ghost use Rattle.session_lang.specs.Rounds.{session_of};
 
 use crate::script::Item;
 use std::alloc::Global;
+use tx_events::{FullMulti, FullXid, MultiId, Xid};
 use tx_model::{Command, DumpOf, How, Memory, Name, Pair, PairList, Sequence};
-use xid_order::{FullMulti, FullXid, MultiId, Xid};
 
 /// A command without arguments.
 #[derive(Clone, Copy)]

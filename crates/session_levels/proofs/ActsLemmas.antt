@@ -18,7 +18,7 @@ use Rattle.tx_model.specs.CommandEvents.{HasEvents, giving, level_events}
 use Rattle.tx_events.specs.Events.{by_of, given_by, is_of, same_name}
 use Rattle.tx_events.specs.History.{next_given}
 use Rattle.tx_events.specs.Horizon.{oldest_id}
-use Rattle.xid_order.specs.Limits.{stop_limit, warn_limit}
+use Rattle.tx_events.specs.Limits.{stop_limit, warn_limit}
 use Rattle.tx_model.specs.Replies.{MayReadAt, MayReply, IsWarned, IsStopped, alone}
 use Rattle.tx_events.specs.Snapshots.{snapshot_data}
 use Rattle.tx_model.specs.Stance.{Stance, after, snap_of, second_of, without_snap, filled}

@@ -2,8 +2,8 @@
 ghost use Rattle.session_levels.specs.Stands.{IsFresh};
 
 use std::alloc::Global;
+use tx_events::FullXid;
 use tx_model::{Name, SnapData};
-use xid_order::FullXid;
 
 /// A registered snapshot of a session: its name, the command that took it, its place in the history, and its data.
 #[derive(Drop)]

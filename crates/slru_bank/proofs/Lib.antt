@@ -1,3 +1,11 @@
+pub mod ManyStates
+pub mod Mask
+pub mod OneState
+pub mod Planning
+pub mod RunLemmas
+pub mod RunShapes
+pub mod TrimBits
+pub mod TrimLemmas
 pub mod BufferLists
 pub mod NumberBytes
 pub mod PageBytes

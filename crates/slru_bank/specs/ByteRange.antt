@@ -4,7 +4,7 @@ use Rattle.std.proofs.lemmas.List.{get_or-drop, get_or-take}
 use Rattle.store_pages.specs.Layouts.{number_in}
 use Rattle.slru_bank.specs.Bank.{placed, OthersStay, StaysAPage}
 use Rattle.disk_core.specs.Pages.{zero_page}
-use Rattle.xid_order.specs.PageOrder.{Shape, page_precedes}
+use Rattle.tx_events.specs.PageOrder.{Shape, page_precedes}
 use Rattle.slru_bank.specs.Removal.{cleared_from, ClearsAfter}
 
 -- ---- zeros from a place on

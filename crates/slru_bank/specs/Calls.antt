@@ -3,7 +3,7 @@ use Rattle.std.proofs.Common.{◌≡◌, ◌≢◌, ℕ, ◌≤◌, Bool, List, 
 use Rattle.disk_core.specs.Faults.{HasRisen}
 use Rattle.disk_core.specs.Pages.{Pages, page_bytes}
 use Rattle.disk_core.specs.declared.page_disk.PageDisk.{Ghosts as DiskGhosts}
-use Rattle.xid_order.specs.PageOrder.{is_cut}
+use Rattle.tx_events.specs.PageOrder.{is_cut}
 use Rattle.slru_bank.specs.declared.bank.SlruBank.{SlruBank}
 use Rattle.store_pages.specs.declared.page_rule.PageRule.{Ghosts as RuleGhosts}
 use Rattle.slru_bank.specs.declared.refusal.BankRefusal.{BankRefusal}

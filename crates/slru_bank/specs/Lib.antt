@@ -1,3 +1,8 @@
+pub mod Changes
+pub mod Plan
+pub mod PlanLaw
+pub mod States
+pub mod Steps
 pub mod Bank
 pub mod ByteRange
 pub mod Calls

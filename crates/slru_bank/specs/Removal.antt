@@ -1,7 +1,7 @@
 -- What a removal of pages does to the map.
 use Rattle.std.specs.Prelude.{◌≡◌, ◌⊎◌, ℕ, zero, suc, ◌+◌, ◌-◌, ◌<◌, ◌^◌, Bool, true, false, if◌then◌else◌, List, [], ◌∷◌, ◌++◌, take, replicate, Option, Some, None}
 use Rattle.disk_core.specs.Pages.{Pages, zero_page}
-use Rattle.xid_order.specs.PageOrder.{Shape, page_precedes, is_cut}
+use Rattle.tx_events.specs.PageOrder.{Shape, page_precedes, is_cut}
 use Rattle.slru_bank.specs.declared.buffer.Buffer.{Buffer}
 use Rattle.slru_bank.specs.declared.removal.Removal.{Removal}
 use Rattle.slru_bank.specs.declared.removal.Removal.TheVariants.{Before, After, All}

@@ -5,7 +5,7 @@ ghost use Rattle.std.proofs.Props.{props};
 ghost use Rattle.disk_core.specs.Faults.{CountsFault, HasRisen};
 ghost use Rattle.disk_core.specs.Images.{Only};
 ghost use Rattle.disk_core.specs.Pages.{Pages, page_bytes, zero_page};
-ghost use Rattle.xid_order.specs.PageOrder.{is_cut, page_precedes};
+ghost use Rattle.tx_events.specs.PageOrder.{is_cut, page_precedes};
 ghost use Rattle.slru_bank.specs.Bank.{buffered, map_of, Distinct, AllAgree, FirstHolds, PutsPage, OthersStay, masked, placed, IsPage, StaysAPage, Distinct-prop, AllAgree-prop};
 ghost use Rattle.slru_bank.specs.Crash.{SameMap, CrashLeaves, IsMixture, IsMixtureOrGone};
 ghost use Rattle.slru_bank.specs.Removal.{removes, later_cutoff, MayDrop, Drops, ClearsAfter, AllAbsent};

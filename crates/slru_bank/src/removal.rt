@@ -2,7 +2,7 @@
 ghost use Rattle.std.specs.Prelude.{◌≡◌, ◌≤◌, ◌<◌, ◌+◌, ◌^◌, ℕ, Bool, List, true, length, get_or, IsTrue, OnOk, None};
 ghost use Rattle.disk_core.specs.Faults.{CountsFault};
 ghost use Rattle.disk_core.specs.Pages.{Pages, zero_page};
-ghost use Rattle.xid_order.specs.PageOrder.{is_cut, page_precedes};
+ghost use Rattle.tx_events.specs.PageOrder.{is_cut, page_precedes};
 ghost use Rattle.slru_bank.specs.Bank.{map_of, Distinct, AllAgree};
 ghost use Rattle.slru_bank.specs.Crash.{SameMap, CrashLeaves};
 ghost use Rattle.slru_bank.specs.Removal.{later_cutoff, removes, MayDrop, MayLack, AllAbsent, AllBlank, BlankUpTo, KeepUpTo};

@@ -7,8 +7,7 @@ ghost use Rattle.snap_core.specs.Sights.{IsSightRight, IsTopSightRight, sight_by
 
 use crate::listed::is_listed;
 use crate::snapshot::{Says, said_of};
-use tx_events::SnapData;
-use xid_order::FullXid;
+use tx_events::{FullXid, SnapData};
 
 /// What a snapshot shows of an id.
 #[derive(Clone, Copy, Debug, PartialEq, Eq)]

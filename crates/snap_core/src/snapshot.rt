@@ -4,8 +4,7 @@ ghost use Rattle.tx_events.specs.IdLists.{Ascending};
 ghost use Rattle.snap_core.specs.Says.{says_of, SaysRight};
 
 use crate::listed::is_listed;
-use tx_events::SnapData;
-use xid_order::FullXid;
+use tx_events::{FullXid, SnapData};
 
 /// How an id stood when the snapshot was taken.
 #[derive(Clone, Copy, Debug, PartialEq, Eq)]

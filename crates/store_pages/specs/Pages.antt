@@ -1,7 +1,7 @@
 -- On which page of its store a number stands, and at which place of it. A page in full counts on over all full numbers;
 -- the stored page, by which volumes, banks and locks go, is that of the number's low half.
 use Rattle.std.specs.Prelude.{ℕ, ◌+◌, ◌*◌, ◌/◌, ◌%◌, ◌^◌}
-use Rattle.xid_order.specs.Ids.{low_half}
+use Rattle.tx_events.specs.Ids.{low_half}
 
 -- how many numbers have their entries on one page
 

@@ -1,12 +1,12 @@
 // The pages of the commit log. After PostgreSQL's `src/backend/access/transam/clog.c`.
 ghost use Rattle.std.specs.Prelude.{◌≡◌, ◌<◌, ◌+◌, ◌*◌, ◌%◌, ◌^◌, ℕ};
-ghost use Rattle.xid_order.specs.Ids.{low_half};
-ghost use Rattle.xid_order.specs.PageOrder.{Ids, page_precedes};
+ghost use Rattle.tx_events.specs.Ids.{low_half};
+ghost use Rattle.tx_events.specs.PageOrder.{Ids, page_precedes};
 ghost use Rattle.store_pages.specs.Pages.{xact_page, xact_place, xacts_per_page};
 
 use crate::page_rule::PageRule;
 use crate::ring::number_on;
-use xid_order::{FullXid, Xid, precedes};
+use tx_events::{FullXid, Xid, precedes};
 
 /// How many ids have their states on one page, two bits each (`CLOG_XACTS_PER_PAGE`).
 pub const XACTS_PER_PAGE: u32 = 32768;

@@ -1,12 +1,12 @@
 // The pages of the members of multixacts. After PostgreSQL's `src/backend/access/transam/multixact.c`.
 ghost use Rattle.std.specs.Prelude.{◌≡◌, ◌<◌, ◌≤◌, ◌+◌, ◌*◌, ◌%◌, ◌^◌, ℕ};
-ghost use Rattle.xid_order.specs.Ids.{low_half};
-ghost use Rattle.xid_order.specs.PageOrder.{Offsets, page_precedes};
+ghost use Rattle.tx_events.specs.Ids.{low_half};
+ghost use Rattle.tx_events.specs.PageOrder.{Offsets, page_precedes};
 ghost use Rattle.store_pages.specs.Pages.{id_at, member_page, member_page_in_full, member_place, members_per_page, mode_at};
 
 use crate::page_rule::PageRule;
 use crate::ring::number_on;
-use xid_order::offset_precedes;
+use tx_events::offset_precedes;
 
 /// How many members one page holds, in 409 groups of 20 bytes (`MULTIXACT_MEMBERS_PER_PAGE`).
 pub const MEMBERS_PER_PAGE: u32 = 1636;

@@ -1,12 +1,12 @@
 // The pages of the offsets of multixacts. After PostgreSQL's `src/backend/access/transam/multixact.c`.
 ghost use Rattle.std.specs.Prelude.{◌≡◌, ◌<◌, ◌+◌, ◌*◌, ◌%◌, ◌^◌, ℕ};
-ghost use Rattle.xid_order.specs.Ids.{low_half};
-ghost use Rattle.xid_order.specs.PageOrder.{Multis, page_precedes};
+ghost use Rattle.tx_events.specs.Ids.{low_half};
+ghost use Rattle.tx_events.specs.PageOrder.{Multis, page_precedes};
 ghost use Rattle.store_pages.specs.Pages.{offset_page, offset_place, offsets_per_page};
 
 use crate::page_rule::PageRule;
 use crate::ring::number_on;
-use xid_order::{FullMulti, MultiId, multi_precedes};
+use tx_events::{FullMulti, MultiId, multi_precedes};
 
 /// How many multixacts have their offsets on one page, four bytes each (`MULTIXACT_OFFSETS_PER_PAGE`).
 pub const OFFSETS_PER_PAGE: u32 = 2048;

@@ -1,6 +1,6 @@
 // What a bank has to know of its store's pages.
 ghost use Rattle.std.specs.Prelude.{◌≡◌, ℕ, Bool};
-ghost use Rattle.xid_order.specs.PageOrder.{Shape, page_precedes};
+ghost use Rattle.tx_events.specs.PageOrder.{Shape, page_precedes};
 
 /// How many pages a segment has, the least that a truncation removes (`SLRU_PAGES_PER_SEGMENT` of `slru.h`).
 pub const PAGES_PER_SEGMENT: u32 = 32;

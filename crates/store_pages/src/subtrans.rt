@@ -1,12 +1,12 @@
 // The pages of the parents of subtransactions. After PostgreSQL's `src/backend/access/transam/subtrans.c`.
 ghost use Rattle.std.specs.Prelude.{◌≡◌, ◌<◌, ◌+◌, ◌*◌, ◌%◌, ◌^◌, ℕ};
-ghost use Rattle.xid_order.specs.Ids.{low_half};
-ghost use Rattle.xid_order.specs.PageOrder.{Ids, page_precedes};
+ghost use Rattle.tx_events.specs.Ids.{low_half};
+ghost use Rattle.tx_events.specs.PageOrder.{Ids, page_precedes};
 ghost use Rattle.store_pages.specs.Pages.{parents_per_page, subtrans_page, subtrans_place};
 
 use crate::page_rule::PageRule;
 use crate::ring::number_on;
-use xid_order::{FullXid, Xid, precedes};
+use tx_events::{FullXid, Xid, precedes};
 
 /// How many ids have their parents on one page, four bytes each (`SUBTRANS_XACTS_PER_PAGE`).
 pub const PARENTS_PER_PAGE: u32 = 2048;

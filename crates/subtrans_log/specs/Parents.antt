@@ -1,7 +1,7 @@
 -- Parents as numbers, and where a climb ends.
 use Rattle.std.specs.Prelude.{ℕ, Bool, true, ◌==◌, if◌then◌else◌, Option, Some, None}
-use Rattle.xid_order.specs.Order.{xid_before}
-use Rattle.xid_order.specs.declared.order.Xid.{Xid}
+use Rattle.tx_events.specs.Order.{xid_before}
+use Rattle.tx_events.specs.declared.order.Xid.{Xid}
 
 -- 0 is no parent
 abbrev pub parent_of : ℕ → Option Xid

@@ -9,7 +9,7 @@ ghost use Rattle.subtrans_log.specs.Parents.{parent_of, ends_climb};
 use disk_core::PageDisk;
 use slru_bank::{BankRefusal, SlruBank, put_number, read_number};
 use store_pages::{SubtransPages, subtrans_page, subtrans_place};
-use xid_order::{Xid, precedes};
+use tx_events::{Xid, precedes};
 
 /// Records an id's parent (`SubTransSetParent`).
 pub fn set_parent<P: PageDisk>(

@@ -6,8 +6,9 @@ ghost use Rattle.proc_table.specs.Table.{InTurn};
 
 use proc_table::{Asked, Given, ProcTable};
 use std::process::Abort;
-use tx_events::{By, Counters, Memory, Name, Refusal, SnapData, XactEnd, is_base};
-use xid_order::{FullMulti, FullXid};
+use tx_events::{
+    By, Counters, FullMulti, FullXid, Memory, Name, Refusal, SnapData, XactEnd, is_base,
+};
 
 /// From here on commands have one number.
 const MOST_COMMANDS: u64 = 1_000_000;

@@ -4,8 +4,7 @@ ghost use Rattle.std.specs.Prelude.{◌<◌};
 use crate::proc_driver::Driver;
 use proc_table::Given;
 use std::process::Abort;
-use tx_events::{IdList, Name, Refusal, XactEnd};
-use xid_order::FullXid;
+use tx_events::{FullXid, IdList, Name, Refusal, XactEnd};
 
 fn name(letter: u8) -> Name {
     Name::of(&[letter])

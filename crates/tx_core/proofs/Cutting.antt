@@ -1,7 +1,7 @@
 -- No page is cut that is still asked for.
 use Rattle.std.proofs.Common.{Contains, List, Some, [], arith, cond, false, refl, subst, sym, take, true, ℕ, ⊎_elim, ◌-◌, ◌∷◌, ◌≡◌, ◌≤◌}
 use Rattle.std.specs.Prelude.{nat_lt}
-use Rattle.xid_order.specs.Ids.{id_before, low_half}
+use Rattle.tx_events.specs.Ids.{id_before, low_half}
 use Rattle.tx_events.specs.declared.event.By.{By}
 use Rattle.tx_events.specs.declared.event.Event.{Event}
 use Rattle.tx_events.specs.declared.event.Event.TheVariants as events

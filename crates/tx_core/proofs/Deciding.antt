@@ -4,7 +4,7 @@ use Rattle.std.proofs.lemmas.Bool.{eqb-true, false_from_ne_true, and_from, and_p
 use Rattle.std.proofs.lemmas.List.{take-take}
 use Rattle.std.specs.List.{list_any, slice_get}
 use Rattle.std.specs.Prelude.{nat_lt}
-use Rattle.xid_order.specs.Ids.{IsFullId}
+use Rattle.tx_events.specs.Ids.{IsFullId}
 use Rattle.tx_events.specs.declared.event.By.{By}
 use Rattle.tx_events.specs.declared.event.Event.{Event}
 use Rattle.tx_events.specs.declared.record.Counters.{Counters}

@@ -1,9 +1,9 @@
 -- No page is cut that is still asked for, as it is stored.
 use Rattle.std.proofs.Common.{Contains, List, [], arith, drop, false, refl, subst, sym, take, take-append-drop, ℕ, ⊎_elim, ◌+◌, ◌%◌, ◌/◌, ◌^◌, ◌<◌, ◌≡◌, ◌≤◌}
-use Rattle.xid_order.specs.Ids.{id_before, low_half}
-use Rattle.xid_order.specs.Limits.{member_stop}
-use Rattle.xid_order.specs.PageOrder.{Ids, Multis, Offsets, is_cut}
-use Rattle.xid_order.specs.PageWindow.{id_is_kept, member_is_kept, multi_is_kept, parent_is_kept}
+use Rattle.tx_events.specs.Ids.{id_before, low_half}
+use Rattle.tx_events.specs.Limits.{member_stop}
+use Rattle.tx_events.specs.PageOrder.{Ids, Multis, Offsets, is_cut}
+use Rattle.tx_events.specs.PageWindow.{id_is_kept, member_is_kept, multi_is_kept, parent_is_kept}
 use Rattle.store_pages.specs.Layouts.{multi_before}
 use Rattle.tx_events.specs.declared.event.By.{By}
 use Rattle.tx_events.specs.declared.event.Event.{Event}

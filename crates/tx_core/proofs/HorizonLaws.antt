@@ -1,6 +1,6 @@
 -- The oldest xmin of the history never falls while the lists grow, and is held back by each live snapshot.
 use Rattle.std.proofs.Common.{arith, subst, sym, ℕ, ◌%◌, ◌<◌, ◌^◌, ◌≤◌}
-use Rattle.xid_order.specs.Ids.{IsFullId}
+use Rattle.tx_events.specs.Ids.{IsFullId}
 use Rattle.tx_events.proofs.Horizons.{live_under, xmin_at}
 use Rattle.tx_events.proofs.Membership.{contains_has}
 use Rattle.tx_events.specs.History.{IsLegal}

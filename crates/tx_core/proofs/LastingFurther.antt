@@ -2,7 +2,7 @@
 use Rattle.tx_events.proofs.ListSteps.{all_weaker}
 use Rattle.std.proofs.Common.{Contains, List, ap, arith, inl, inr, sym, ℕ, ⊎_elim, ◌+◌, ◌∙◌}
 use Rattle.std.specs.List.{flat_map}
-use Rattle.xid_order.specs.Ids.{id_before}
+use Rattle.tx_events.specs.Ids.{id_before}
 use Rattle.tx_events.specs.declared.event.By.{By}
 use Rattle.tx_events.specs.declared.event.Event.{Event}
 use Rattle.tx_events.specs.declared.multi.Member.{Member}

@@ -2,7 +2,7 @@
 use Rattle.std.proofs.Common.{Contains, List, [], ap, arith, drop, length, length-append, refl, subst, suc, sym, take, take-append-drop, ℕ, ⊎_elim, ◌++◌, ◌+◌, ◌<◌, ◌∙◌, ◌∷◌, ◌≡◌, ◌≤◌}
 use Rattle.std.proofs.lemmas.List.Elements.{filter_map-append}
 use Rattle.std.proofs.lemmas.List.Sums.{fold_push}
-use Rattle.xid_order.specs.Ids.{next_multi}
+use Rattle.tx_events.specs.Ids.{next_multi}
 use Rattle.tx_events.specs.declared.event.By.{By}
 use Rattle.tx_events.specs.declared.multi.Member.{Member}
 use Rattle.tx_events.specs.declared.multi.MultiEvent.{MultiEvent}

@@ -1,7 +1,7 @@
 -- No record of the log raises its next id past the ids that were given.
 use Rattle.std.proofs.Common.{Contains, List, None, Option, Some, [], arith, drop, inl, inr, length, map, max, refl, subst, take, take-append-drop, ℕ, ⊎_elim, ◌∷◌, ◌≡◌, ◌≤◌}
 use Rattle.std.specs.List.{cons_option}
-use Rattle.xid_order.specs.Ids.{IsFullId, next_id}
+use Rattle.tx_events.specs.Ids.{IsFullId, next_id}
 use Rattle.tx_events.specs.declared.event.By.{By}
 use Rattle.tx_events.specs.declared.event.Event.{Event}
 use Rattle.tx_events.specs.declared.event.Event.TheVariants as events

@@ -1,12 +1,12 @@
 -- A life of fewer than 2,900,000 ids and multixacts has room.
 use Rattle.std.proofs.Common.{◌≡◌, ℕ, zero, suc, ◌+◌, ◌-◌, ◌%◌, ◌^◌, ◌<◌, ◌≤◌, ◌⊎◌, inl, inr, ⊎_elim, length, arith, List}
-use Rattle.xid_order.specs.Ids.{IsFullId, low_half, next_id, next_multi}
+use Rattle.tx_events.specs.Ids.{IsFullId, low_half, next_id, next_multi}
 use Rattle.tx_events.specs.declared.event.Event.{Event}
 use Rattle.tx_events.specs.declared.record.Counters.{Counters}
 use Rattle.tx_events.specs.Base.{IsBase}
 use Rattle.tx_events.specs.Events.{given}
 use Rattle.tx_events.specs.History.{next_given, nth_id}
-use Rattle.xid_order.specs.Limits.{multi_stop_limit, stop_limit}
+use Rattle.tx_events.specs.Limits.{multi_stop_limit, stop_limit}
 use Rattle.tx_events.specs.declared.multi.MultiEvent.{MultiEvent}
 use Rattle.tx_events.specs.Multis.{made, next_made, nth_multi}
 

@@ -1,8 +1,8 @@
 -- A page is cut only where a truncation that is on disk says so, or an oldest xmin.
 use Rattle.std.specs.Prelude.{◌≡◌, ℕ, ◌%◌, ◌≤◌, true, List, length, take, Some, IfSome, Contains}
-use Rattle.xid_order.specs.Ids.{id_before, low_half}
+use Rattle.tx_events.specs.Ids.{id_before, low_half}
 use Rattle.store_pages.specs.Layouts.{multi_before}
-use Rattle.xid_order.specs.PageOrder.{Multis, Offsets, is_cut}
+use Rattle.tx_events.specs.PageOrder.{Multis, Offsets, is_cut}
 use Rattle.tx_events.specs.declared.record.Rec.TheVariants as records
 use Rattle.tx_events.specs.Horizon.{oldest_xmin}
 use Rattle.tx_core.specs.declared.entry.Entry.{Entry}

@@ -1,7 +1,7 @@
 -- No page is cut that is still asked for, as it is stored.
 use Rattle.std.specs.Prelude.{◌≡◌, ℕ, ◌%◌, ◌^◌, ◌<◌, ◌≤◌, false, List, Some, Contains}
-use Rattle.xid_order.specs.Ids.{id_before, low_half}
-use Rattle.xid_order.specs.PageOrder.{Ids, Multis, Offsets, Shape, is_cut}
+use Rattle.tx_events.specs.Ids.{id_before, low_half}
+use Rattle.tx_events.specs.PageOrder.{Ids, Multis, Offsets, Shape, is_cut}
 use Rattle.store_pages.specs.Layouts.{multi_before}
 use Rattle.tx_events.specs.Base.{IsBase}
 use Rattle.tx_events.specs.History.{next_given}

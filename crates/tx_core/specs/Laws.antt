@@ -23,7 +23,7 @@ use Rattle.tx_core.specs.FaultsRise.{faults_told}
 use Rattle.tx_core.specs.StaysDown.{IsUp, UpOf}
 use Rattle.tx_core.specs.RecordsOnce.{HasNoAbort, HasNoMulti}
 use Rattle.tx_core.specs.AbortRecordsExact.{HasNoAbortRecord}
-use Rattle.xid_order.specs.Ids.{IsFullId}
+use Rattle.tx_events.specs.Ids.{IsFullId}
 use Rattle.disk_core.specs.Faults.{HasRisen}
 use Rattle.tx_core.specs.Entries.{IsAppended, IsLinked, IsMarked, Link, Mark, history, link_of, mark_of, marks, records_of, session_of, flushed_to}
 use Rattle.tx_core.specs.MultiEntries.{SetOffset, SetSlot, multi_history, offset_of, slot_of}

@@ -1,6 +1,6 @@
 -- The counters after each record are a base; what the records name was given or announced; what is flushed was appended.
 use Rattle.std.specs.Prelude.{◌≡◌, ℕ, ◌+◌, ◌<◌, ◌≤◌, ◌⊎◌, List, ◌∷◌, length, take, Contains}
-use Rattle.xid_order.specs.Ids.{IsFullId}
+use Rattle.tx_events.specs.Ids.{IsFullId}
 use Rattle.tx_events.specs.declared.event.By.{By}
 use Rattle.tx_events.specs.declared.event.Event.TheVariants as events
 use Rattle.tx_events.specs.declared.multi.Member.{Member}

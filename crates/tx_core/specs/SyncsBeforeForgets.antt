@@ -1,7 +1,7 @@
 -- The log is forgotten only when the pages that it would restore are on disk.
 use Rattle.std.specs.Prelude.{◌≡◌, ℕ, ◌+◌, ◌-◌, ◌<◌, ◌≤◌, ◌⊎◌, List, ◌∷◌, take, Some, slice_get, Contains}
 use Rattle.std.specs.List.{flat_map}
-use Rattle.xid_order.specs.Ids.{IsFullMulti}
+use Rattle.tx_events.specs.Ids.{IsFullMulti}
 use Rattle.tx_events.specs.declared.multi.Member.{Member}
 use Rattle.tx_events.specs.declared.event.By.{By}
 use Rattle.tx_events.specs.declared.record.Counters.{Counters}

@@ -1,5 +1,6 @@
-use tx_events::{By, Counters, Event, IdList, Member, MultiEvent, Rec, RecList, Sequence};
-use xid_order::{FullMulti, FullXid};
+use tx_events::{
+    By, Counters, Event, FullMulti, FullXid, IdList, Member, MultiEvent, Rec, RecList, Sequence,
+};
 
 /// A state of a transaction as pg_xact holds it (`src/include/access/clog.h`). An id of which none was set is in
 /// progress.

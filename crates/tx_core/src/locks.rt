@@ -1,12 +1,11 @@
 ghost use Rattle.std.specs.Prelude.{◌≡◌, ℕ, ◌%◌, ◌<◌};
-ghost use Rattle.xid_order.specs.Ids.{low_half};
+ghost use Rattle.tx_events.specs.Ids.{low_half};
 ghost use Rattle.tx_events.specs.declared.refusal.Lock.TheVariants as locks;
 ghost use Rattle.store_pages.specs.Pages.{member_page, offset_page, subtrans_page, xact_page};
 ghost use Rattle.tx_core.specs.Locks.{number_of};
 
 use store_pages::{bank_of, member_page, offset_page, subtrans_page, xact_page};
-use tx_events::Lock;
-use xid_order::{FullMulti, FullXid};
+use tx_events::{FullMulti, FullXid, Lock};
 
 /// The number of a lock: the log's, the ProcArray's and the multixacts' first, then bank by bank those of the four
 /// stores.

@@ -3,8 +3,7 @@ use crate::locks::{lock_number, member_lock, offset_lock, parent_lock, state_loc
 use crate::verdict::is_seen;
 use std::alloc::Global;
 use std::test::Fail;
-use tx_events::{IdList, Lock, Memory, Sequence, SnapData};
-use xid_order::{FullMulti, FullXid};
+use tx_events::{FullMulti, FullXid, IdList, Lock, Memory, Sequence, SnapData};
 
 fn ids(alloc: Global, numbers: &[u64]) -> Result<IdList, Memory> {
     let mut list = Sequence::new(alloc);

@@ -5,8 +5,7 @@ ghost use Rattle.tx_core.specs.Verdict.{is_committed, verdict, IsRight};
 
 use crate::entry::State;
 use snap_core::{Sight, sight_of, sight_of_top};
-use tx_events::SnapData;
-use xid_order::FullXid;
+use tx_events::{FullXid, SnapData};
 
 /// Whether a snapshot sees the id `x`, of which `state` was read: the rule is `snap_core`'s (`sight_of`,
 /// `sight_of_top`). `topmost` is the topmost parent that was found for `x`, or an ancestor below the snapshot's xmin; only

@@ -2,7 +2,7 @@
 use Rattle.std.proofs.Common.{◌≡◌, ℕ, List, [], ◌∷◌, ◌++◌, refl, ap, ◌∙◌, Bool, not, ◌&&◌, ◌==◌, max}
 use Rattle.std.proofs.lemmas.List.Elements.{filter_agree}
 use Rattle.std.specs.List.{filter, fold}
-use Rattle.xid_order.specs.Ids.{id_before}
+use Rattle.tx_events.specs.Ids.{id_before}
 use Rattle.tx_events.proofs.Extremes.{fold_max_split}
 use Rattle.tx_events.proofs.ListSteps.{filter_swap, filter_in_turn}
 use Rattle.tx_events.proofs.OpenGrowth.{open_aborted, open_committed, open_undone}

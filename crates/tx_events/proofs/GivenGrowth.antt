@@ -2,7 +2,7 @@
 use Rattle.std.proofs.Common.{◌≡◌, ◌≢◌, ℕ, ◌==◌, List, [], ◌∷◌, ◌++◌, length, refl, ap, ◌∙◌, append-nil, true, false, cond, ne_eqb}
 use Rattle.std.proofs.lemmas.List.Elements.{filter-append, filter_map-append}
 use Rattle.std.specs.List.{filter}
-use Rattle.xid_order.specs.Ids.{next_id}
+use Rattle.tx_events.specs.Ids.{next_id}
 use Rattle.tx_events.proofs.ListSteps.{length_push}
 use Rattle.tx_events.specs.Events.{by_of, given, given_by, given_to, is_of}
 use Rattle.tx_events.specs.History.{next_given, nth_id}

@@ -3,7 +3,7 @@ use Rattle.std.proofs.Common.{Bool, List, None, Option, Some, [], ap, arith, con
 use Rattle.std.proofs.lemmas.Bool.{eqb-true, cases_lt}
 use Rattle.std.specs.List.{cons_option, filter}
 use Rattle.std.proofs.lemmas.List.{take-append-drop}
-use Rattle.xid_order.specs.Ids.{IsFullId}
+use Rattle.tx_events.specs.Ids.{IsFullId}
 use Rattle.tx_events.specs.declared.event.By.{By}
 use Rattle.tx_events.specs.declared.event.Event.{Event}
 use Rattle.tx_events.specs.declared.record.Counters.{Counters}

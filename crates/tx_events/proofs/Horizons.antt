@@ -3,7 +3,7 @@ use Rattle.std.proofs.Common.{List, Some, [], ap, append-nil, append_assoc, arit
 use Rattle.std.proofs.lemmas.List.{reverse-reverse, take-append-drop}
 use Rattle.std.specs.List.{fold}
 use Rattle.std.proofs.lemmas.Bool.{cases_Bool}
-use Rattle.xid_order.specs.Ids.{IsFullId, id_before}
+use Rattle.tx_events.specs.Ids.{IsFullId, id_before}
 use Rattle.tx_events.specs.declared.event.Event.{Event}
 use Rattle.tx_events.specs.declared.record.Counters.{Counters}
 use Rattle.tx_events.proofs.Closing.{open_back}

@@ -2,7 +2,7 @@
 use Rattle.std.proofs.Common.{◌≡◌, ℕ, zero, suc, ◌+◌, ◌-◌, ◌*◌, ◌%◌, ◌^◌, ◌<◌, ◌≤◌, Bool, true, false, cond, refl, arith}
 use Rattle.std.proofs.lemmas.Bool.Decides.{nat_tests}
 use Rattle.std.specs.Prelude.{nat_lt}
-use Rattle.xid_order.specs.Ids.{next_id, id_before, low_half, IsFullId}
+use Rattle.tx_events.specs.Ids.{next_id, id_before, low_half, IsFullId}
 use Rattle.tx_events.specs.History.{nth_id}
 
 pub next_above : (n : ℕ) → n < next_id n

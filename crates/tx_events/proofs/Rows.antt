@@ -7,8 +7,8 @@ use Rattle.tx_events.specs.declared.snapshot.SnapData.{SnapData}
 use Rattle.tx_events.specs.Running.{open_ids}
 use Rattle.tx_events.specs.Visible.{is_visible}
 use Rattle.tx_events.specs.Snapshots.{snapshot_data}
-use Rattle.xid_order.specs.Limits.{stop_limit, warn_limit}
-use Rattle.xid_order.specs.Ids.{next_id}
+use Rattle.tx_events.specs.Limits.{stop_limit, warn_limit}
+use Rattle.tx_events.specs.Ids.{next_id}
 
 abbrev by : ℕ → ℕ → By
 by s n = record { session = s; command = n }

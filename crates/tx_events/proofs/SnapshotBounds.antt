@@ -2,7 +2,7 @@
 use Rattle.std.proofs.Common.{◌≡◌, ℕ, ◌<◌, ◌≤◌, not, List, length, Some, ap, ◌∙◌, ⊎_elim, arith, true, false, eq-eqb, []}
 use Rattle.std.specs.List.{list_any}
 use Rattle.std.proofs.lemmas.Bool.{cases_Bool, cases_lt}
-use Rattle.xid_order.specs.Ids.{id_before, IsFullId}
+use Rattle.tx_events.specs.Ids.{id_before, IsFullId}
 use Rattle.tx_events.specs.declared.event.Event.{Event}
 use Rattle.tx_events.specs.declared.record.Counters.{Counters}
 use Rattle.tx_events.specs.Events.{given, given_by, is_end_of, is_undo_of}

@@ -3,7 +3,7 @@ use Rattle.std.proofs.Common.{Bool, Contains, List, Some, ap, arith, eq-eqb, fal
 use Rattle.std.proofs.Math.Bool.{or-false}
 use Rattle.std.proofs.lemmas.Bool.{eqb-true, false_from_ne_true, and_parts}
 use Rattle.std.specs.List.{list_any, slice_get}
-use Rattle.xid_order.specs.Ids.{IsFullId, id_before, next_id}
+use Rattle.tx_events.specs.Ids.{IsFullId, id_before, next_id}
 use Rattle.tx_events.specs.declared.event.By.{By}
 use Rattle.tx_events.specs.declared.event.Event.{Event}
 use Rattle.tx_events.specs.declared.record.Counters.{Counters}

@@ -1,7 +1,7 @@
 -- The counters that records give, taken in order: each is only raised.
 use Rattle.std.specs.Prelude.{ℕ, ◌+◌, max, List, [], ◌∷◌, length, map}
 use Rattle.std.specs.List.{fold}
-use Rattle.xid_order.specs.Ids.{next_id, next_multi}
+use Rattle.tx_events.specs.Ids.{next_id, next_multi}
 use Rattle.tx_events.specs.declared.record.Counters.{Counters}
 use Rattle.tx_events.specs.declared.multi.Member.{Member}
 use Rattle.tx_events.specs.declared.record.Rec.{Rec}

@@ -1,8 +1,8 @@
 -- Which counters a life may start from.
 use Rattle.std.specs.Prelude.{◌≡◌, ◌≤◌}
-use Rattle.xid_order.specs.Ids.{IsFullId}
+use Rattle.tx_events.specs.Ids.{IsFullId}
 use Rattle.tx_events.specs.declared.record.Counters.{Counters}
-use Rattle.xid_order.specs.Limits.{stop_limit, multi_stop_limit, member_stop}
+use Rattle.tx_events.specs.Limits.{stop_limit, multi_stop_limit, member_stop}
 
 -- each oldest number is at most the next one, which is at most its stop limit; without a multixact there is no member
 pub record IsBase (c : Counters) : Type 0 where

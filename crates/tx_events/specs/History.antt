@@ -1,7 +1,7 @@
 -- Which histories are legal: each event at its place (varsup.c, procarray.c, xact.c).
 use Rattle.std.specs.Prelude.{◌≡◌, ℕ, ◌<◌, ◌≤◌, true, false, List, [], length, Contains, suc, zero}
 use Rattle.std.specs.List.{All, filter}
-use Rattle.xid_order.specs.Ids.{IsFullId, next_id}
+use Rattle.tx_events.specs.Ids.{IsFullId, next_id}
 use Rattle.tx_events.specs.declared.event.Event.{Event}
 use Rattle.tx_events.specs.declared.event.Event.TheVariants as events
 use Rattle.tx_events.specs.declared.record.Counters.{Counters}
@@ -9,7 +9,7 @@ use Rattle.tx_events.specs.Places.{EachPlace}
 use Rattle.tx_events.specs.Events.{by_of, given, is_of}
 use Rattle.tx_events.specs.Families.{is_top}
 use Rattle.tx_events.specs.Running.{open_ids}
-use Rattle.xid_order.specs.Limits.{stop_limit}
+use Rattle.tx_events.specs.Limits.{stop_limit}
 use Rattle.tx_events.specs.Horizon.{oldest_id, oldest_xmin, is_live}
 
 -- the id n places past the first one

@@ -1,3 +1,9 @@
+pub mod Ids
+pub mod Limits
+pub mod Nearest
+pub mod Order
+pub mod PageOrder
+pub mod PageWindow
 pub mod Places
 pub mod Events
 pub mod Names

@@ -1,7 +1,7 @@
 -- Which multixact histories are legal: numbers, offsets, pins and the oldest one (multixact.c).
 use Rattle.std.specs.Prelude.{◌≡◌, ℕ, zero, suc, ◌+◌, ◌<◌, ◌≤◌, ◌==◌, ◌&&◌, min, cond, Bool, true, false, List, [], ◌∷◌, ◌++◌, Option, Some, None, length, map, Contains}
 use Rattle.std.specs.List.{fold, filter_map, count_by}
-use Rattle.xid_order.specs.Ids.{low_half, next_multi}
+use Rattle.tx_events.specs.Ids.{low_half, next_multi}
 use Rattle.tx_events.specs.declared.event.By.{By}
 use Rattle.tx_events.specs.declared.multi.Member.{Member}
 use Rattle.tx_events.specs.declared.multi.Mode.{Mode}
@@ -9,7 +9,7 @@ use Rattle.tx_events.specs.declared.multi.Mode.TheVariants as modes
 use Rattle.tx_events.specs.declared.multi.MultiEvent.{MultiEvent}
 use Rattle.tx_events.specs.declared.multi.MultiEvent.TheVariants as events
 use Rattle.tx_events.specs.declared.record.Counters.{Counters}
-use Rattle.xid_order.specs.Limits.{multi_stop_limit, member_stop}
+use Rattle.tx_events.specs.Limits.{multi_stop_limit, member_stop}
 use Rattle.tx_events.specs.Places.{EachPlace}
 
 -- whose event it is

@@ -1,7 +1,7 @@
 -- What a snapshot holds that is taken after a history (GetSnapshotData).
 use Rattle.std.specs.Prelude.{ℕ, ◌+◌, ◌==◌, ◌&&◌, not, nat_lt, min, max, Bool, List, [], take, length, cond}
 use Rattle.std.specs.List.{filter, list_any, fold, range_with_len}
-use Rattle.xid_order.specs.Ids.{next_id, id_before}
+use Rattle.tx_events.specs.Ids.{next_id, id_before}
 use Rattle.tx_events.specs.declared.event.Event.{Event}
 use Rattle.tx_events.specs.declared.snapshot.SnapData.{SnapData}
 use Rattle.tx_events.specs.Families.{top, is_top}

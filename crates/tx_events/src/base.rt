@@ -1,11 +1,11 @@
 //! Which counters a life may start from. A start asks it of whatever a log holds, so it answers for any counters.
 ghost use Rattle.std.specs.Prelude.{◌≡◌, ◌^◌, ◌<◌, ◌≤◌, ◌↔◌, IsTrue};
-ghost use Rattle.xid_order.specs.Ids.{IsFullId};
-ghost use Rattle.xid_order.specs.Limits.{stop_limit, multi_stop_limit, member_stop};
+ghost use Rattle.tx_events.specs.Ids.{IsFullId};
+ghost use Rattle.tx_events.specs.Limits.{stop_limit, multi_stop_limit, member_stop};
 ghost use Rattle.tx_events.specs.Base.{IsBase};
 
 use crate::record::Counters;
-use xid_order::{FullMulti, FullXid, Limits, MultiLimits, member_stop};
+use crate::{FullMulti, FullXid, Limits, MultiLimits, member_stop};
 
 /// Limits are below 2^63, so a number from there on is past each of them.
 const PAST_LIMITS: u64 = 1 << 63;

@@ -1,7 +1,7 @@
 //! What happens under the ProcArray's lock.
+use crate::FullXid;
 use crate::name::Name;
 use crate::sequence::{Copied, Memory, Sequence};
-use xid_order::FullXid;
 
 /// The command that an event belongs to: the session's number, and the number of the command among the
 /// session's commands in this life, from 1.

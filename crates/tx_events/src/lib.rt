@@ -1,22 +1,39 @@
-//! The types of events, records and what a snapshot holds, and the definitions and laws of histories. See
+//! Transaction ids and multixact ids in full and as the 32 bits that are stored: their order around the ring, their
+//! successors, the full id that 32 bits mean, and their limits; above them the types of events, records and what a
+//! snapshot holds, and the definitions and laws of histories. After PostgreSQL's `src/include/access/transam.h`,
+//! `src/backend/access/transam/transam.c`, `varsup.c` and `multixact.c`. See docs/IDS-AND-LIMITS.md and
 //! docs/HISTORY.md.
 #![tactic(auto)]
 
 mod base;
 mod event;
+mod full_multi;
+mod full_xid;
+pub mod laws;
+mod limits;
+mod members;
 mod multi;
+mod multi_limits;
 mod name;
+mod order;
 mod record;
 mod refusal;
 mod room;
+mod rounding;
 mod sequence;
 mod snapshot;
 mod xact_end;
 
 pub use base::is_base;
 pub use event::{By, Event, EventList};
+pub use full_multi::{FullMulti, MultiId, near_multi};
+pub use full_xid::{FullXid, near};
+pub use limits::Limits;
+pub use members::member_stop;
 pub use multi::{Member, MemberList, Mode, MultiEvent, MultiEventList};
+pub use multi_limits::MultiLimits;
 pub use name::{Name, is_name};
+pub use order::{Xid, multi_precedes, offset_precedes, precedes};
 pub use record::{Counters, Rec, RecList};
 pub use refusal::{Lock, Refusal};
 pub use room::{make_one_room, make_room};

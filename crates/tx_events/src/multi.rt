@@ -5,7 +5,7 @@ ghost use Rattle.tx_events.specs.Modes.{mode_number, mode_of};
 
 use crate::event::By;
 use crate::sequence::{Copied, Memory, Sequence};
-use xid_order::{FullMulti, FullXid};
+use crate::{FullMulti, FullXid};
 
 /// The mode in which a member holds a row (`MultiXactStatus`), numbered 0 to 5 in this order.
 #[derive(Clone, Copy, Debug, PartialEq, Eq)]

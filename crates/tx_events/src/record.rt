@@ -6,7 +6,7 @@ ghost use Rattle.tx_events.specs.Base.{first_base};
 
 use crate::multi::MemberList;
 use crate::sequence::{Copied, IdList, Memory, Sequence};
-use xid_order::{FullMulti, FullXid};
+use crate::{FullMulti, FullXid};
 
 /// The counters that a life starts from and that a checkpoint keeps: what comes next and what is oldest, of ids,
 /// multixacts and member offsets. Offsets are counted in full.

@@ -3,7 +3,7 @@ ghost use Rattle.std.specs.Prelude.{◌≡◌};
 ghost use Rattle.tx_events.specs.declared.refusal.Refusal.TheVariants as refusals;
 
 use crate::sequence::Memory;
-use xid_order::{FullMulti, FullXid, Xid};
+use crate::{FullMulti, FullXid, Xid};
 
 /// A lock, and with it the volume behind it. The number is the bank.
 #[derive(Clone, Copy, Debug, PartialEq, Eq)]

@@ -1,9 +1,9 @@
 //! Sequences that grow by `Result`, and copies that may want memory.
 ghost use Rattle.std.specs.Prelude.{◌≡◌, ℕ, List, [], ◌∷◌, ◌++◌, IfOk, OnOk, OnErr, length};
 
+use crate::{FullMulti, FullXid};
 use std::alloc::{AllocError, AllocFailed, Global};
 use std::marker::Model;
-use xid_order::{FullMulti, FullXid};
 
 /// Want of memory.
 #[derive(Clone, Copy, Debug, PartialEq, Eq)]

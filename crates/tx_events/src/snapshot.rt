@@ -1,6 +1,6 @@
 //! What a snapshot holds.
+use crate::FullXid;
 use crate::sequence::IdList;
-use xid_order::FullXid;
 
 /// What a snapshot holds (`SnapshotData`): no id below `xmin` runs, none at or past `xmax` counts as ended, and
 /// between them those of `xip` (top-level ids) and `subxip` run, ascending. Where `overflowed`, `subxip` is empty

@@ -2,10 +2,10 @@
 ghost use Rattle.std.specs.Prelude.{◌≡◌};
 ghost use Rattle.tx_events.specs.XactEnds.{end_event, end_record};
 
+use crate::FullXid;
 use crate::event::{By, Event};
 use crate::record::Rec;
 use crate::sequence::IdList;
-use xid_order::FullXid;
 
 /// How a transaction ends (`XACT_EVENT_COMMIT` and `XACT_EVENT_ABORT` of `src/include/access/xact.h`).
 #[derive(Clone, Copy, Debug, PartialEq, Eq)]

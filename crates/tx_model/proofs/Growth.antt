@@ -1,7 +1,7 @@
 use Rattle.std.proofs.Common.{IfSome, Option, ◌-◌, ◌↔◌, ◌≡◌, ℕ, ◌<◌, ◌≤◌, List, [], ◌∷◌, ◌++◌, length, drop, refl, ap, sym, ◌∙◌, arith, ⊎_elim, subst, Bool, true, false, cond, IsTrue}
 use Rattle.std.proofs.Math.Seq.{drop-append-le, take-append-le}
 use Rattle.std.specs.List.{filter, AllByRecursion}
-use Rattle.xid_order.specs.Nearest.{near_id}
+use Rattle.tx_events.specs.Nearest.{near_id}
 use Rattle.tx_events.specs.declared.event.By.{By}
 use Rattle.tx_events.specs.declared.event.Event.{Event}
 use Rattle.tx_model.specs.declared.report.Line.{Line}
@@ -11,7 +11,7 @@ use Rattle.tx_model.specs.Stance.{Stance, stance_from, after, nothing_yet}
 use Rattle.tx_model.specs.Replies.{IsFuture, IsGivenAt, IsHorizon, IsKnown, IsNearNext, IsNotTooOld, IsStatusOf, IsStopped, IsWarned, MayFindOldest, MayReadAt, MayReply, RoundSpan, seen_id, status_after}
 use Rattle.tx_events.specs.Snapshots.{snapshot_data, snapshot_xmax}
 use Rattle.tx_events.specs.Visible.{is_visible}
-use Rattle.xid_order.specs.Limits.{stop_limit, warn_limit}
+use Rattle.tx_events.specs.Limits.{stop_limit, warn_limit}
 use Rattle.tx_events.specs.History.{next_given}
 use Rattle.tx_events.specs.Horizon.{oldest_id, oldest_xmin}
 use Rattle.tx_events.specs.IdLists.{has}

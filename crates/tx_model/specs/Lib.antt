@@ -4,7 +4,7 @@ pub use Rattle.tx_events.specs.Families
 pub use Rattle.tx_events.specs.Running
 pub use Rattle.tx_events.specs.Visible
 pub use Rattle.tx_events.specs.Snapshots
-pub use Rattle.xid_order.specs.Limits
+pub use Rattle.tx_events.specs.Limits
 pub use Rattle.tx_events.specs.Horizon
 pub use Rattle.tx_events.specs.Base
 pub use Rattle.tx_events.specs.After

@@ -1,7 +1,7 @@
 -- Which replies are lawful.
 use Rattle.std.specs.Prelude.{IsTrue, ◌↔◌, ◌≡◌, ◌≢◌, ℕ, ◌-◌, ◌<◌, ◌≤◌, ◌==◌, nat_lt, Bool, true, false, List, [], Option, Some, None, length, take, drop, cond, slice_get, IfSome}
 use Rattle.std.specs.List.{AllByRecursion}
-use Rattle.xid_order.specs.Nearest.{near_id}
+use Rattle.tx_events.specs.Nearest.{near_id}
 use Rattle.tx_events.specs.declared.event.By.{By}
 use Rattle.tx_events.specs.declared.event.Event.{Event}
 use Rattle.tx_events.specs.declared.event.Event.TheVariants as events
@@ -14,7 +14,7 @@ use Rattle.tx_model.specs.declared.reply.Status.TheVariants as statuses
 use Rattle.tx_events.specs.declared.refusal.Refusal.TheVariants as refusals
 use Rattle.tx_events.specs.declared.record.Counters.{Counters}
 use Rattle.tx_events.specs.Events.{by_of, given_by}
-use Rattle.xid_order.specs.Limits.{stop_limit, warn_limit}
+use Rattle.tx_events.specs.Limits.{stop_limit, warn_limit}
 use Rattle.tx_events.specs.History.{next_given}
 use Rattle.tx_events.specs.Horizon.{oldest_id, oldest_xmin}
 use Rattle.tx_events.specs.IdLists.{has}

@@ -1,7 +1,6 @@
 //! What a session may be told to do.
 use crate::pairs::PairList;
-use tx_events::{Copied, Memory, Mode, Name};
-use xid_order::{FullMulti, FullXid, MultiId, Xid};
+use tx_events::{Copied, FullMulti, FullXid, Memory, Mode, MultiId, Name, Xid};
 
 /// A member as a script writes it: the stored half of its id.
 #[derive(Clone, Copy, Debug, PartialEq, Eq)]

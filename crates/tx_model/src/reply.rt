@@ -1,6 +1,5 @@
 //! What a command is answered.
-use tx_events::{Copied, IdList, Memory, Mode, Refusal, Sequence, SnapData};
-use xid_order::{FullMulti, FullXid};
+use tx_events::{Copied, FullMulti, FullXid, IdList, Memory, Mode, Refusal, Sequence, SnapData};
 
 /// How a transaction stands.
 #[derive(Clone, Copy, Debug, PartialEq, Eq)]

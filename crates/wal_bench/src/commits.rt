@@ -4,9 +4,8 @@ ghost use Rattle.wal_core.specs.LogViews.{log_next, log_flushed};
 
 use disk_core::LogDisk;
 use std::alloc::Global;
-use tx_events::{Counters, IdList, Rec};
+use tx_events::{Counters, FullMulti, FullXid, IdList, Rec};
 use wal_core::{LogRefusal, WalLog};
-use xid_order::{FullMulti, FullXid};
 
 /// The counters of a new log.
 pub fn first_counters() -> Option<Counters> {

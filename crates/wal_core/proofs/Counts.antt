@@ -2,7 +2,7 @@
 use Rattle.tx_events.proofs.IdOrder.{next_above}
 use Rattle.std.proofs.Common.{◌≡◌, ◌⊎◌, inl, inr, ℕ, ◌+◌, ◌<◌, ◌≤◌, ◌^◌, max, Bool, true, false, cond, ltb, List, [], ◌∷◌, length, drop, get_or, refl, sym, ap, subst, arith}
 use Rattle.std.proofs.lemmas.List.{drop_more}
-use Rattle.xid_order.specs.Ids.{low_half, next_id, next_multi}
+use Rattle.tx_events.specs.Ids.{low_half, next_id, next_multi}
 use Rattle.tx_events.specs.After.{past_ids, ids_of, after_record}
 use Rattle.tx_events.specs.declared.record.Rec.{Rec}
 use Rattle.tx_events.specs.declared.record.Rec.TheVariants as records

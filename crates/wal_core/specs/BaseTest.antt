@@ -1,8 +1,8 @@
 -- The test for a base, as a value.
 use Rattle.std.specs.Prelude.{◌&&◌, ◌||◌, ◌==◌, not, Bool, nat_le}
-use Rattle.xid_order.specs.Ids.{low_half}
+use Rattle.tx_events.specs.Ids.{low_half}
 use Rattle.tx_events.specs.declared.record.Counters.{Counters}
-use Rattle.xid_order.specs.Limits.{stop_limit, multi_stop_limit, member_stop}
+use Rattle.tx_events.specs.Limits.{stop_limit, multi_stop_limit, member_stop}
 
 unfoldable pub is_base_of : Counters → Bool
 is_base_of c =

@@ -1,13 +1,12 @@
 // The counters after a record more (as AdvanceNextFullTransactionIdPastXid and MultiXactAdvanceNextMXact raise them in
 // recovery). Numbers from a hostile log are met before anything is added to them, so that they never overflow.
 ghost use Rattle.std.specs.Prelude.{◌≡◌, ◌⊎◌, ◌+◌, ◌<◌, ◌≤◌, ◌^◌, ◌∷◌, ℕ, length, max, false, IsNone, IfSome};
-ghost use Rattle.xid_order.specs.Ids.{next_id, next_multi};
+ghost use Rattle.tx_events.specs.Ids.{next_id, next_multi};
 ghost use Rattle.tx_events.specs.After.{past_ids, ids_of, after_record};
 ghost use Rattle.tx_events.specs.declared.record.Rec.TheVariants as records;
 ghost use Rattle.wal_core.specs.BaseTest.{is_base_of};
 
-use tx_events::{Counters, Member, Rec};
-use xid_order::{FullMulti, FullXid};
+use tx_events::{Counters, FullMulti, FullXid, Member, Rec};
 
 // The id after one. None where that is past every base.
 fn id_past(id: FullXid) -> Option<FullXid>

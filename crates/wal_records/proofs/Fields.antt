@@ -8,7 +8,7 @@ use Rattle.std.proofs.lemmas.List.{take_at, drop_at, take-append-drop, length-ap
 use Rattle.std.proofs.lemmas.List.Concat.{flat_map-cons}
 use Rattle.byteorder.specs.Endian.{little_from}
 use Rattle.byteorder.specs.Numbers.{little_from-cons, little_from-lt, little_number-reads_back, length-bytes_low_first}
-use Rattle.xid_order.specs.Ids.{low_half}
+use Rattle.tx_events.specs.Ids.{low_half}
 use Rattle.wal_records.specs.Numbers.{le_bytes, le_number}
 use Rattle.wal_records.specs.Spelling.{IsId, IsMulti, AscendsFrom}
 use Rattle.wal_records.specs.Reading.{◌>>=◌, number_at, id_at, multi_at, ids_at}

@@ -1,6 +1,6 @@
 -- Lawful records, as a test.
 use Rattle.std.specs.Prelude.{ℕ, ◌^◌, ◌&&◌, Bool, true, List, [], ◌∷◌, length, nat_le, nat_lt}
-use Rattle.xid_order.specs.Ids.{low_half}
+use Rattle.tx_events.specs.Ids.{low_half}
 use Rattle.tx_events.specs.declared.record.Rec.{Rec}
 use Rattle.tx_events.specs.declared.record.Rec.TheVariants as records
 use Rattle.tx_events.specs.declared.multi.Member.{Member}

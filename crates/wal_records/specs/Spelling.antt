@@ -1,7 +1,7 @@
 -- Which records are lawful, and the one spelling of each.
 use Rattle.std.specs.Prelude.{ℕ, ◌<◌, ◌≤◌, ◌^◌, List, [], ◌∷◌, ◌++◌, length}
 use Rattle.std.specs.List.{flat_map, AllByRecursion}
-use Rattle.xid_order.specs.Ids.{IsFullId, IsFullMulti}
+use Rattle.tx_events.specs.Ids.{IsFullId, IsFullMulti}
 use Rattle.tx_events.specs.Modes.{mode_number}
 use Rattle.tx_events.specs.declared.multi.Member.{Member}
 use Rattle.tx_events.specs.declared.record.Counters.{Counters}

@@ -4,8 +4,7 @@ ghost use Rattle.tx_events.specs.declared.record.Rec.TheVariants as records;
 ghost use Rattle.wal_records.specs.Lawful.{is_id, is_multi, ascend_from, all_ids, is_lawful};
 ghost use Rattle.wal_records.specs.Spelling.{IsLawful};
 
-use tx_events::{Counters, Member, Rec};
-use xid_order::{FullMulti, FullXid};
+use tx_events::{Counters, FullMulti, FullXid, Member, Rec};
 
 fn is_full_id(id: FullXid) -> bool
     ensures { result ≡ is_id id }

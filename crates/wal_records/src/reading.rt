@@ -10,8 +10,7 @@ ghost use Rattle.wal_records.specs.Reading.{Gives, GivesAt, number_at, id_at, mu
 use crate::stop::Stop;
 use byteorder::{ByteOrder, LittleEndian};
 use std::alloc::Global;
-use tx_events::{Counters, IdList, Member, MemberList, Memory, Mode, Rec};
-use xid_order::{FullMulti, FullXid};
+use tx_events::{Counters, FullMulti, FullXid, IdList, Member, MemberList, Memory, Mode, Rec};
 
 // Each reader takes what it reads off the front of `rest`.
 

@@ -4,8 +4,7 @@ ghost use Rattle.std.specs.Prelude.{◌≤◌, ◌<◌, ◌^◌};
 use super::*;
 use std::alloc::Global;
 use std::test::Fail;
-use tx_events::{Counters, IdList, Member, MemberList, Mode, Rec};
-use xid_order::{FullMulti, FullXid};
+use tx_events::{Counters, FullMulti, FullXid, IdList, Member, MemberList, Mode, Rec};
 
 fn id(number: u64) -> Result<FullXid, Fail> {
     Ok(FullXid::new(number).ok_or("an id")?)

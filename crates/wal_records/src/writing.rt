@@ -7,8 +7,7 @@ ghost use Rattle.wal_records.specs.Spelling.{rec_bytes, tree_bytes, multi_bytes,
 
 use byteorder::{ByteOrder, LittleEndian};
 use std::alloc::{AllocError, Global};
-use tx_events::{Counters, Member, Memory, Rec};
-use xid_order::{FullMulti, FullXid};
+use tx_events::{Counters, FullMulti, FullXid, Member, Memory, Rec};
 
 #[tactic(auto, unfolding(crate::specs::Numbers::le_bytes))]
 fn put_u64(out: &mut Vec<u8>, n: u64) -> Result<(), AllocError>

@@ -3,9 +3,8 @@ use crate::test_disk::TestDisk;
 use crate::test_log::{TestLog, changed_log, checkpoint, commit, log_bytes};
 use std::alloc::Global;
 use std::test::Fail;
-use tx_events::{Counters, IdList, Member, MemberList, Mode, Rec};
+use tx_events::{Counters, FullXid, IdList, Member, MemberList, Mode, Rec};
 use wal_core::{LogContents, LogRefusal, read_log};
-use xid_order::FullXid;
 
 fn contents(alloc: Global, bytes: Vec<u8>) -> Result<LogContents, LogRefusal> {
     read_log(alloc, &mut TestDisk::of(alloc, bytes))

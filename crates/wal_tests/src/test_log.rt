@@ -4,9 +4,8 @@ use crate::test_disk::TestDisk;
 use disk_core::Crash;
 use std::alloc::Global;
 use std::test::Fail;
-use tx_events::{Counters, IdList, Rec, RecList};
+use tx_events::{Counters, FullXid, IdList, Rec, RecList};
 use wal_core::{LogRefusal, Started, WalLog};
-use xid_order::FullXid;
 
 // A batch with a checkpoint of the first counters, a batch with a commit of 3, and a closed gate.
 #[rattlefmt::skip]

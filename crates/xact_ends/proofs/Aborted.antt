@@ -9,7 +9,7 @@ use Rattle.tx_core.specs.declared.entry.Entry.{Entry}
 use Rattle.tx_core.specs.declared.entry.Start.{Start}
 use Rattle.tx_core.specs.declared.entry.State.TheVariants as states
 use Rattle.tx_core.proofs.Lasting.{marked_grows}
-use Rattle.pg_xact_log.proofs.RunShapes.{has_range, range_has}
+use Rattle.slru_bank.proofs.RunShapes.{has_range, range_has}
 use Rattle.engine_parts.specs.declared.session.Session.{Session}
 use Rattle.engine_parts.specs.Stages.{may_be_recorded}
 use Rattle.proc_sections.specs.Endings.{MayEnd}

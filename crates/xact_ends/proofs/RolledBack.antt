@@ -9,7 +9,7 @@ use Rattle.tx_core.specs.declared.entry.Entry.{Entry}
 use Rattle.tx_core.specs.declared.entry.Start.{Start}
 use Rattle.tx_core.specs.declared.entry.State.TheVariants as states
 use Rattle.tx_core.specs.AbortRule.{Asks}
-use Rattle.pg_xact_log.proofs.RunShapes.{has_range, range_has}
+use Rattle.slru_bank.proofs.RunShapes.{has_range, range_has}
 use Rattle.engine_parts.specs.declared.session.Session.{Session}
 use Rattle.engine_parts.specs.declared.session.Stage.{Stage}
 use Rattle.engine_parts.specs.declared.session.Stage.TheVariants as stages

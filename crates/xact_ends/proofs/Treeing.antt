@@ -2,14 +2,14 @@
 use Rattle.std.proofs.Common.{◌≡◌, ◌⊎◌, ℕ, ◌+◌, ◌*◌, ◌/◌, ◌%◌, ◌^◌, ◌≤◌, ◌<◌, List, [], ◌∷◌, refl, sym, ap, subst, ◌∙◌, inl, inr, ⊎_elim, length, arith, Contains, Option, Some, None, IfSome, slice_get}
 use Rattle.std.proofs.lemmas.Option.{same_Some, slice_get_within}
 use Rattle.notes.specs.Lists.{Grows, Knows, at}
-use Rattle.xid_order.specs.Ids.{low_half}
+use Rattle.tx_events.specs.Ids.{low_half}
 use Rattle.tx_events.specs.declared.record.Rec.TheVariants as records
-use Rattle.pg_xact_log.specs.declared.plan.PlanStep.{PlanStep}
-use Rattle.pg_xact_log.specs.declared.xact_state.State as stored
-use Rattle.pg_xact_log.specs.declared.xact_state.State.TheVariants as named
-use Rattle.pg_xact_log.specs.Plan.{plan}
-use Rattle.pg_xact_log.specs.Steps.{IsBefore, step_first, step_ids}
-use Rattle.pg_xact_log.proofs.Planning.{IsStep, all_committed, is_step, none_past, plan_long, sub_steps}
+use Rattle.slru_bank.specs.declared.plan.PlanStep.{PlanStep}
+use Rattle.slru_bank.specs.declared.xact_state.State as stored
+use Rattle.slru_bank.specs.declared.xact_state.State.TheVariants as named
+use Rattle.slru_bank.specs.Plan.{plan}
+use Rattle.slru_bank.specs.Steps.{IsBefore, step_first, step_ids}
+use Rattle.slru_bank.proofs.Planning.{IsStep, all_committed, is_step, none_past, plan_long, sub_steps}
 use Rattle.tx_core.specs.declared.entry.Entry.{Entry}
 use Rattle.tx_core.specs.declared.entry.Start.{Start}
 use Rattle.tx_core.specs.declared.entry.State.{State}

@@ -2,7 +2,7 @@
 use Rattle.std.proofs.Common.{◌≡◌, ◌⊎◌, ℕ, ◌≤◌, ◌<◌, ◌%◌, ◌^◌, ◌/◌, List, [], ◌∷◌, refl, sym, ap, subst, ◌∙◌, inl, inr, ⊎_elim, arith, Contains, slice_index}
 use Rattle.std.specs.List.{slice_range}
 use Rattle.notes.specs.Lists.{Knows, at}
-use Rattle.xid_order.specs.Ids.{low_half}
+use Rattle.tx_events.specs.Ids.{low_half}
 use Rattle.tx_events.specs.declared.record.Rec.TheVariants as records
 use Rattle.tx_events.specs.Events.{given_to}
 use Rattle.tx_events.specs.Running.{is_open, open_ids}

@@ -1,9 +1,9 @@
 -- The states of a commit are set step by step.
 use Rattle.std.specs.Prelude.{◌≡◌, ℕ, ◌+◌, ◌≤◌, List, [], ◌∷◌, Contains, Result, Ok, Err, Some, slice_get}
-use Rattle.pg_xact_log.specs.declared.plan.PlanStep.{PlanStep}
-use Rattle.pg_xact_log.specs.declared.xact_state.State as stored
-use Rattle.pg_xact_log.specs.declared.xact_state.State.TheVariants as named
-use Rattle.pg_xact_log.specs.Plan.{plan}
+use Rattle.slru_bank.specs.declared.plan.PlanStep.{PlanStep}
+use Rattle.slru_bank.specs.declared.xact_state.State as stored
+use Rattle.slru_bank.specs.declared.xact_state.State.TheVariants as named
+use Rattle.slru_bank.specs.Plan.{plan}
 use Rattle.tx_events.specs.declared.refusal.Refusal.{Refusal}
 use Rattle.tx_core.specs.declared.entry.Entry.{Entry}
 use Rattle.tx_core.specs.declared.entry.Start.{Start}

@@ -16,15 +16,13 @@ use disk_core::{LogDisk, PageDisk};
 use engine_parts::{Caller, EngineLaw, Stage};
 use hall::Hall;
 use log_sections::append_abort;
-use pg_xact_log::run_end;
 use proc_sections::end_transaction;
-use slru_bank::BankRefusal;
+use slru_bank::{BankRefusal, run_end};
 use std::alloc::Global;
 use std::sync::Wait;
 use store_pages::{bank_of, xact_page};
 use tx_core::State;
-use tx_events::{Lock, Memory, Rec, Refusal, XactEnd};
-use xid_order::FullXid;
+use tx_events::{FullXid, Lock, Memory, Rec, Refusal, XactEnd};
 
 /// Sets the open ids from the `first` one to before the `past` one aborted, which lie on one page.
 fn set_run<R: Wait, L: LogDisk, P: PageDisk>(

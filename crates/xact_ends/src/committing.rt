@@ -16,8 +16,7 @@ use log_sections::{Appended, append_commit, flush_log};
 use proc_sections::end_transaction;
 use std::alloc::Global;
 use std::sync::Wait;
-use tx_events::{IdList, Memory, Rec, Refusal, XactEnd};
-use xid_order::FullXid;
+use tx_events::{FullXid, IdList, Memory, Rec, Refusal, XactEnd};
 
 /// Sets the states from a step on, and ends the transaction.
 pub(crate) fn finish<R: Wait, L: LogDisk, P: PageDisk>(

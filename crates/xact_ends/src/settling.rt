@@ -1,8 +1,8 @@
 //! The states of a commit are set, step by step.
 ghost use Rattle.std.specs.Prelude.{◌≡◌, ℕ, ◌+◌, ◌^◌, ◌<◌, ◌≤◌, ◌∷◌, List, Some, length, slice_get};
 ghost use Rattle.hall.specs.Calls.{view, start_of};
-ghost use Rattle.pg_xact_log.specs.Plan.{plan};
-ghost use Rattle.pg_xact_log.specs.Steps.{step_first};
+ghost use Rattle.slru_bank.specs.Plan.{plan};
+ghost use Rattle.slru_bank.specs.Steps.{step_first};
 ghost use Rattle.engine_parts.specs.declared.session.Stage.TheVariants as stages;
 ghost use Rattle.engine_parts.specs.Adding.{Adds, MayFault};
 ghost use Rattle.engine_parts.specs.Calls.{MayStep};
@@ -14,23 +14,21 @@ use bank_sections::{set_page, stall};
 use disk_core::{LogDisk, PageDisk};
 use engine_parts::{Caller, EngineLaw, Stage};
 use hall::Hall;
-use pg_xact_log::{PlanStep, plan_step};
-use slru_bank::BankRefusal;
+use slru_bank::{BankRefusal, PlanStep, plan_step};
 use std::sync::Wait;
 use store_pages::bank_of;
 use tx_core::State;
-use tx_events::{Lock, Refusal};
-use xid_order::FullXid;
+use tx_events::{FullXid, Lock, Refusal};
 
 /// The state of a step as the entries name it.
-fn entered(state: pg_xact_log::State) -> State
+fn entered(state: slru_bank::State) -> State
     requires { IsStepState state }
     ensures { state_of state ≡ Some result }
 {
     match state {
-        pg_xact_log::State::Committed => State::Committed,
-        pg_xact_log::State::SubCommitted => State::SubCommitted,
-        pg_xact_log::State::InProgress | pg_xact_log::State::Aborted => unreachable!(),
+        slru_bank::State::Committed => State::Committed,
+        slru_bank::State::SubCommitted => State::SubCommitted,
+        slru_bank::State::InProgress | slru_bank::State::Aborted => unreachable!(),
     }
 }
 

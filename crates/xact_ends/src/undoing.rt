@@ -11,14 +11,12 @@ use bank_sections::{set_page, stall};
 use disk_core::{LogDisk, PageDisk};
 use engine_parts::{Caller, EngineLaw, Stage};
 use hall::Hall;
-use pg_xact_log::run_end;
 use proc_sections::{place_of, undo_savepoint};
-use slru_bank::BankRefusal;
+use slru_bank::{BankRefusal, run_end};
 use std::sync::Wait;
 use store_pages::{bank_of, xact_page};
 use tx_core::State;
-use tx_events::{Lock, Refusal};
-use xid_order::FullXid;
+use tx_events::{FullXid, Lock, Refusal};
 
 /// Sets the open ids from the `first` one to before the `past` one aborted, which were given in the savepoint that is
 /// undone and lie on one page.

@@ -16,8 +16,7 @@ use engine_parts::{Caller, EngineLaw, Stage, count};
 use hall::Hall;
 use session_levels::depth;
 use std::sync::Wait;
-use tx_events::Refusal;
-use xid_order::FullXid;
+use tx_events::{FullXid, Refusal};
 
 /// Closes the innermost savepoint, which has no id: the session alone, under no lock.
 fn close_unnamed<L: LogDisk, P: PageDisk>(caller: &mut Caller<L, P>)

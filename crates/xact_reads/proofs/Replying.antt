@@ -10,8 +10,8 @@ use Rattle.hall.specs.declared.hall.Hall.{Hall}
 use Rattle.hall.specs.Calls.{IsOf, start_of, view}
 use Rattle.notes.specs.Lists.{at}
 use Rattle.notes.proofs.Growing.{begins_length}
-use Rattle.xid_order.specs.declared.order.Xid.{Xid}
-use Rattle.xid_order.specs.Nearest.{near_id}
+use Rattle.tx_events.specs.declared.order.Xid.{Xid}
+use Rattle.tx_events.specs.Nearest.{near_id}
 use Rattle.tx_events.specs.declared.event.By.{By}
 use Rattle.tx_events.specs.declared.event.Event.{Event}
 use Rattle.tx_events.specs.declared.event.Event.TheVariants as events

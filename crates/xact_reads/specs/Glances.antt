@@ -1,8 +1,8 @@
 -- What a session's snapshot shows of an id before anything is read of it.
 use Rattle.std.specs.Prelude.{◌≡◌, ℕ, ◌^◌, ◌<◌, ◌≤◌, List, Option, None, Some, true}
 use Rattle.std.specs.List.{find}
-use Rattle.xid_order.specs.Ids.{IsFullId}
-use Rattle.xid_order.specs.Nearest.{near_id}
+use Rattle.tx_events.specs.Ids.{IsFullId}
+use Rattle.tx_events.specs.Nearest.{near_id}
 use Rattle.tx_events.specs.declared.snapshot.SnapData.{SnapData}
 use Rattle.tx_events.specs.Events.{same_name}
 use Rattle.tx_events.specs.IdLists.{Ascending}

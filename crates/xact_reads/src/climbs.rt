@@ -15,8 +15,7 @@ use hall::Hall;
 use slru_bank::BankRefusal;
 use std::sync::Wait;
 use store_pages::{bank_of, subtrans_page};
-use tx_events::{Lock, Refusal};
-use xid_order::FullXid;
+use tx_events::{FullXid, Lock, Refusal};
 
 /// The parent where it is below its child, as each that was set is.
 fn below(x: FullXid, parent: Option<FullXid>) -> Option<FullXid>

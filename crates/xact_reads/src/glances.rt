@@ -3,8 +3,7 @@ ghost use Rattle.std.specs.Prelude.{◌≤◌};
 ghost use Rattle.xact_reads.specs.Glances.{HasLimits, IsGlance};
 
 use snap_core::{Sight, sight_of};
-use tx_events::SnapData;
-use xid_order::{FullXid, Xid, near};
+use tx_events::{FullXid, SnapData, Xid, near};
 
 /// What a snapshot shows of an id before anything is read of it.
 #[derive(Clone, Copy)]

@@ -9,7 +9,7 @@ use engine_parts::{Caller, EngineLaw, count};
 use hall::Hall;
 use proc_sections::read_oldest_xmin;
 use std::sync::Wait;
-use xid_order::FullXid;
+use tx_events::FullXid;
 
 /// The oldest xmin (`GetOldestNonRemovableTransactionId` of `src/backend/storage/ipc/procarray.c`): the least of the next
 /// snapshot's xmax, the running transactions' ids and the xmins of the live snapshots, the session's own among them. No

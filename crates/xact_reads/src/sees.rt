@@ -21,8 +21,7 @@ use hall::Hall;
 use proc_sections::read_oldest;
 use session_levels::registered_as;
 use std::sync::Wait;
-use tx_events::{Name, Refusal};
-use xid_order::Xid;
+use tx_events::{Name, Refusal, Xid};
 
 /// What the session's snapshot of this name shows of the stored id `_x`, for which it was looked there: `TooOld` where
 /// the id is before the oldest one, or there is none.

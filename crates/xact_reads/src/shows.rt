@@ -20,8 +20,7 @@ use hall::Hall;
 use session_levels::{Session as Levels, registered_as};
 use snap_core::{Sight, sight_of_top};
 use std::sync::Wait;
-use tx_events::{Name, Refusal};
-use xid_order::FullXid;
+use tx_events::{FullXid, Name, Refusal};
 
 /// Whether the session's snapshot of this name shows a committed id of this topmost parent.
 fn shows_top(levels: &Levels, name: &Name, topmost: FullXid) -> bool

@@ -16,8 +16,7 @@ use slru_bank::BankRefusal;
 use std::sync::Wait;
 use store_pages::{bank_of, xact_page};
 use tx_core::State;
-use tx_events::{Lock, Refusal};
-use xid_order::FullXid;
+use tx_events::{FullXid, Lock, Refusal};
 
 fn says_committed(state: Option<State>) -> bool
     ensures { result ≡ verdicts.is_committed state }

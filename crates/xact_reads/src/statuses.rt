@@ -1,7 +1,7 @@
 //! How an id stands.
 ghost use Rattle.std.specs.Prelude.{◌≡◌, ℕ, ◌+◌, ◌*◌, ◌<◌, ◌≤◌, [], List, None, cond, length, true};
 ghost use Rattle.hall.specs.Calls.{view, IsOf, start_of};
-ghost use Rattle.xid_order.specs.Ids.{IsFullId};
+ghost use Rattle.tx_events.specs.Ids.{IsFullId};
 ghost use Rattle.tx_events.specs.declared.event.Event.{Event};
 ghost use Rattle.tx_model.specs.declared.command.Command.TheVariants as commands;
 ghost use Rattle.tx_model.specs.declared.reply.Reply.TheVariants as replies;
@@ -24,9 +24,8 @@ use hall::Hall;
 use proc_sections::ask_status;
 use proc_table::Asked;
 use std::sync::Wait;
-use tx_events::{Memory, Refusal};
+use tx_events::{FullXid, Memory, Refusal};
 use tx_model::Status;
-use xid_order::FullXid;
 
 /// The status of a special id, which is fixed.
 fn fixed(x: FullXid) -> Status

@@ -1,6 +1,6 @@
 -- One id is set committed.
 use Rattle.std.proofs.Common.{◌≡◌, ◌≢◌, ◌⊎◌, inl, inr, ⊎_elim, ℕ, ◌/◌, ◌%◌, ◌<◌, List, [], ◌∷◌, slice_index, Result, Ok, Err, OnOk, OnErr, IsTrue, refl, sym, ap, subst, arith, ◌∙◌}
-use Rattle.xid_order.specs.Ids.{low_half}
+use Rattle.tx_events.specs.Ids.{low_half}
 use Rattle.store_pages.specs.Layouts.{bits_at, state_in, xact_page_of, xact_place_of}
 use Rattle.store_pages.specs.declared.page_rule.PageRule as rules
 use Rattle.disk_core.specs.Pages.{Pages}
@@ -10,7 +10,7 @@ use Rattle.slru_bank.specs.Crash.{IsMixture, byte_at, wider}
 use Rattle.slru_bank.specs.declared.bank.SlruBank.{SlruBank}
 use Rattle.slru_bank.specs.declared.refusal.BankRefusal.{BankRefusal}
 use Rattle.slru_bank.specs.declared.refusal.BankRefusal.TheVariants.{Cut, DiskFault}
-use Rattle.pg_xact_log.specs.Changes.{SetsStates}
+use Rattle.slru_bank.specs.Changes.{SetsStates}
 use Rattle.recoverable.specs.XactImages.{code_at}
 use Rattle.xact_redo.specs.Redo.{IsOne, MayRedo, Redoes, RedoesBank, code_in}
 

@@ -1,10 +1,10 @@
 -- Which ids of the window lie past the next one.
 use Rattle.std.proofs.Common.{◌≡◌, ◌≢◌, ◌⊎◌, inl, inr, ⊎_elim, ℕ, ◌+◌, ◌-◌, ◌/◌, ◌%◌, ◌^◌, ◌<◌, ◌≤◌, Bool, true, false, ◌&&◌, refl, arith, ◌∙◌}
 use Rattle.std.proofs.lemmas.Bool.{le-ltb, le-leb, lt-leb}
-use Rattle.xid_order.specs.Ids.{low_half}
-use Rattle.xid_order.specs.Order.{ring_before, xid_before}
+use Rattle.tx_events.specs.Ids.{low_half}
+use Rattle.tx_events.specs.Order.{ring_before, xid_before}
 use Rattle.store_pages.specs.Layouts.{xact_page_of, xact_place_of}
-use Rattle.xid_order.specs.PageOrder.{Ids, page_number, page_precedes}
+use Rattle.tx_events.specs.PageOrder.{Ids, page_number, page_precedes}
 use Rattle.tx_events.proofs.ListSteps.{not_both}
 use Rattle.xact_redo.specs.Restore.{IsPast}
 

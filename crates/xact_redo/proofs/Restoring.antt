@@ -1,7 +1,7 @@
 -- Redo, trimming and writing, one after another.
 use Rattle.std.proofs.Common.{◌≡◌, ◌≢◌, ◌⊎◌, inl, inr, ⊎_elim, ℕ, zero, suc, ◌+◌, ◌/◌, ◌%◌, ◌^◌, ◌<◌, ◌≤◌, Bool, true, false, List, slice_index, Result, Ok, Err, OnOk, IsTrue, refl, sym, ap, subst, arith, ◌∙◌}
-use Rattle.xid_order.specs.PageOrder.{Ids, is_cut, page_precedes}
-use Rattle.xid_order.specs.PageWindow.{id_is_kept}
+use Rattle.tx_events.specs.PageOrder.{Ids, is_cut, page_precedes}
+use Rattle.tx_events.specs.PageWindow.{id_is_kept}
 use Rattle.store_pages.specs.Layouts.{bits_at, state_in, xact_page_of, xact_place_of}
 use Rattle.store_pages.specs.declared.page_rule.PageRule as rules
 use Rattle.disk_core.specs.Faults.{HasRisen}
@@ -13,7 +13,7 @@ use Rattle.slru_bank.specs.Crash.{IsMixture, IsMixtureOrGone, SameMap, byte_at, 
 use Rattle.slru_bank.specs.declared.bank.SlruBank.{SlruBank}
 use Rattle.slru_bank.specs.declared.refusal.BankRefusal.{BankRefusal}
 use Rattle.slru_bank.specs.declared.refusal.BankRefusal.TheVariants.{Cut, DiskFault}
-use Rattle.pg_xact_log.specs.Changes.{TrimsStates}
+use Rattle.slru_bank.specs.Changes.{TrimsStates}
 use Rattle.tx_events.proofs.ListSteps.{not_both}
 use Rattle.recoverable.specs.XactImages.{code_at}
 use Rattle.xact_redo.specs.Redo.{HasPlace, MayRedo, Redoes, RedoesBank, code_in}

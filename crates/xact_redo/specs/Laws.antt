@@ -1,6 +1,6 @@
 -- What the recovery of a bank of pg_xact gives: its images fit at each moment, and the pages show the base when it is done.
 use Rattle.std.specs.Prelude.{◌≡◌, ℕ, ◌+◌, ◌%◌, ◌<◌, ◌≤◌, ◌++◌, ◌^◌, List, Contains, Some}
-use Rattle.xid_order.specs.Ids.{low_half}
+use Rattle.tx_events.specs.Ids.{low_half}
 use Rattle.disk_core.specs.Pages.{Pages}
 use Rattle.store_pages.specs.Layouts.{xact_page_of}
 use Rattle.tx_events.specs.declared.record.Rec.{Rec}

@@ -1,6 +1,6 @@
 -- What the redo of commits does to the pages of pg_xact, and what a crash within it leaves.
 use Rattle.std.specs.Prelude.{◌≡◌, ℕ, ◌+◌, ◌%◌, ◌^◌, ◌<◌, ◌≤◌, ◌⊎◌, List, Contains, IsErr, IsTrue, OnOk, Err, Result}
-use Rattle.xid_order.specs.Ids.{low_half}
+use Rattle.tx_events.specs.Ids.{low_half}
 use Rattle.disk_core.specs.Faults.{HasRisen}
 use Rattle.disk_core.specs.Pages.{Pages}
 use Rattle.disk_core.specs.declared.page_disk.PageDisk as disks

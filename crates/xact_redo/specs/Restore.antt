@@ -5,7 +5,7 @@ use Rattle.disk_core.specs.Pages.{Pages, page_bytes}
 use Rattle.disk_core.specs.declared.page_disk.PageDisk as disks
 use Rattle.store_pages.specs.Layouts.{xact_page_of, xact_place_of}
 use Rattle.store_pages.specs.declared.page_rule.PageRule as rules
-use Rattle.xid_order.specs.PageOrder.{Ids, page_precedes}
+use Rattle.tx_events.specs.PageOrder.{Ids, page_precedes}
 use Rattle.slru_bank.specs.declared.bank.SlruBank.{SlruBank}
 use Rattle.slru_bank.specs.declared.refusal.BankRefusal.{BankRefusal}
 use Rattle.slru_bank.specs.declared.refusal.BankRefusal.TheVariants.{DiskFault}

@@ -7,11 +7,9 @@ ghost use Rattle.xact_redo.specs.Redo.{AreNear, IsNamed, IsOne, RedoesBank};
 
 use crate::share::Share;
 use disk_core::PageDisk;
-use pg_xact_log::{State, set_states};
-use slru_bank::{BankRefusal, SlruBank};
+use slru_bank::{BankRefusal, SlruBank, State, set_states};
 use store_pages::XactPages;
-use tx_events::Rec;
-use xid_order::FullXid;
+use tx_events::{FullXid, Rec};
 
 // One id becomes committed.
 fn redo_id<P: PageDisk>(bank: &mut SlruBank<P, XactPages>, id: FullXid) -> Result<(), BankRefusal>

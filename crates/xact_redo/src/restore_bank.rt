@@ -9,11 +9,9 @@ ghost use Rattle.xact_redo.specs.Restore.{IsWindow, RestoresBank};
 use crate::redo::redo_records;
 use crate::share::Share;
 use disk_core::PageDisk;
-use pg_xact_log::trim_after;
-use slru_bank::{BankRefusal, SlruBank};
+use slru_bank::{BankRefusal, SlruBank, trim_after};
 use store_pages::XactPages;
-use tx_events::Rec;
-use xid_order::FullXid;
+use tx_events::{FullXid, Rec};
 
 /// Redoes the commits, clears what lies past the next id, and puts all pages on the disk.
 pub(crate) fn restore_bank<P: PageDisk>(

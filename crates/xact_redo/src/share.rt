@@ -3,7 +3,7 @@ ghost use Rattle.std.specs.Prelude.{◌≡◌, ◌%◌, ◌≤◌, ◌↔◌, Is
 ghost use Rattle.store_pages.specs.Layouts.{xact_page_of};
 
 use store_pages::xact_page;
-use xid_order::FullXid;
+use tx_events::FullXid;
 
 /// A bank, and how many there are: it has each page whose number divided by theirs leaves its own.
 #[derive(Clone, Copy, Debug, PartialEq, Eq)]

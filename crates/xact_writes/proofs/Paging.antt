@@ -1,6 +1,6 @@
 -- The pages of an id.
 use Rattle.std.proofs.Common.{◌≡◌, ℕ, ◌%◌, List, inr, sym, ap, subst, ◌∙◌, arith, length}
-use Rattle.xid_order.specs.Ids.{low_half}
+use Rattle.tx_events.specs.Ids.{low_half}
 use Rattle.tx_events.specs.Events.{given}
 use Rattle.tx_events.specs.History.{next_given}
 use Rattle.tx_events.proofs.IdOrder.{nth_from}

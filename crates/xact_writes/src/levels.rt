@@ -16,8 +16,7 @@ use proc_sections::give_id;
 use proc_table::Given;
 use session_levels::Session as Levels;
 use std::sync::Wait;
-use tx_events::{Memory, Refusal};
-use xid_order::FullXid;
+use tx_events::{FullXid, Memory, Refusal};
 
 /// Takes the room for one id more.
 fn make_room(levels: &mut Levels) -> Result<(), Memory>

@@ -17,8 +17,7 @@ use proc_sections::tell_made;
 use slru_bank::BankRefusal;
 use std::sync::Wait;
 use store_pages::{bank_of, subtrans_page, xact_page};
-use tx_events::{Lock, Refusal};
-use xid_order::FullXid;
+use tx_events::{FullXid, Lock, Refusal};
 
 /// Makes the pages of an id that came next when the session looked (`ExtendCLOG` of `clog.c` and `ExtendSUBTRANS` of
 /// `subtrans.c`), and tells the ProcArray. A page that is cut isn't wanted any more: others gave the id meanwhile.

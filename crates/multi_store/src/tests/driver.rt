@@ -1,8 +1,9 @@
 // Drives a generator by the commands of a test.
 use crate::{Held, MultiGen, MultiGiven, check_members};
 use std::process::Abort;
-use tx_events::{By, Counters, Member, MemberList, Mode, Refusal, is_base};
-use xid_order::{FullMulti, FullXid, MultiId};
+use tx_events::{
+    By, Counters, FullMulti, FullXid, Member, MemberList, Mode, MultiId, Refusal, is_base,
+};
 
 /// What comes next and what is oldest at the start of a life.
 #[derive(Clone, Copy)]

@@ -8,7 +8,7 @@ use Rattle.tx_core.specs.declared.entry.Entry.{Entry}
 use Rattle.tx_core.specs.Entries.{appended, asks_in, event_of}
 use Rattle.tx_core.specs.Locks.{subtrans_lock}
 use Rattle.tx_core.specs.ParentsFollow.{IsGivenBelow}
-use Rattle.xid_order.specs.PageOrder.{Ids, is_cut}
+use Rattle.tx_events.specs.PageOrder.{Ids, is_cut}
 use Rattle.engine_parts.specs.Sessions.{by_at}
 use Rattle.engine_parts.proofs.Going.{below_later}
 use Rattle.engine_parts.specs.Faults.{fault_by}

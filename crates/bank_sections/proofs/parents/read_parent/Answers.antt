@@ -7,7 +7,7 @@ use Rattle.subtrans_log.specs.Parents.{parent_of}
 use Rattle.tx_events.specs.declared.event.By.{By}
 use Rattle.tx_core.specs.declared.entry.Entry.{Entry}
 use Rattle.tx_core.specs.Locks.{subtrans_lock}
-use Rattle.xid_order.specs.PageOrder.{Ids, is_cut}
+use Rattle.tx_events.specs.PageOrder.{Ids, is_cut}
 use Rattle.engine_parts.specs.Parts.{IsSubtransOf}
 use Rattle.engine_parts.specs.Sessions.{by_at, look_by}
 use Rattle.engine_parts.specs.Faults.{fault_by, look_of}

@@ -16,7 +16,7 @@ use Rattle.bank_sections.proofs.Visiting.{fault_met, is_xact_lock, made_stands, 
 use Rattle.engine_parts.proofs.Sectioning.{same_command, section_of}
 use Rattle.tx_events.specs.declared.event.Event.{Event}
 use Rattle.tx_events.specs.Horizon.{oldest_id}
-use Rattle.xid_order.specs.PageOrder.{Ids, is_cut}
+use Rattle.tx_events.specs.PageOrder.{Ids, is_cut}
 use Rattle.store_pages.specs.Layouts.{xact_page_of}
 use Rattle.engine_parts.proofs.Leaving.{history_same}
 use Rattle.bank_sections.proofs.Refusing.{refused_quiet}

@@ -1,13 +1,13 @@
 use Rattle.std.proofs.Common.{◌≡◌, ℕ, ◌/◌, ◌%◌, List, false, refl, sym, ap, subst, ◌∙◌, Err}
 use Rattle.hall.specs.Calls.{view, start_of}
 use Rattle.notes.specs.Lists.{at}
-use Rattle.pg_xact_log.specs.States.{state_number}
+use Rattle.slru_bank.specs.States.{state_number}
 use Rattle.slru_bank.specs.Calls.{faults_of, pages_of, cutoff_of}
 use Rattle.store_pages.specs.Layouts.{state_in, xact_page_of, xact_place_of}
 use Rattle.tx_events.specs.declared.event.By.{By}
 use Rattle.tx_core.specs.declared.entry.Entry.{Entry}
 use Rattle.tx_core.specs.Locks.{xact_lock}
-use Rattle.xid_order.specs.PageOrder.{Ids, is_cut}
+use Rattle.tx_events.specs.PageOrder.{Ids, is_cut}
 use Rattle.engine_parts.specs.Parts.{IsXactOf}
 use Rattle.engine_parts.specs.Sessions.{by_at, look_by}
 use Rattle.engine_parts.specs.Faults.{fault_by, look_of}

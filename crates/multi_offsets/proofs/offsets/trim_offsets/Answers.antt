@@ -1,6 +1,6 @@
 use Rattle.std.proofs.Common.{◌≡◌, ap, ◌/◌, ◌%◌, ◌∙◌}
-use Rattle.xid_order.specs.Ids.{low_half}
-use Rattle.xid_order.specs.PageOrder.{Multis}
+use Rattle.tx_events.specs.Ids.{low_half}
+use Rattle.tx_events.specs.PageOrder.{Multis}
 use Rattle.store_pages.specs.Pages.{offset_page, offset_place}
 use Rattle.slru_bank.specs.ByteRange.{trims_entries}
 use Rattle.slru_bank.specs.Calls.{pages_of}

@@ -1,5 +1,5 @@
 use Rattle.std.proofs.Common.{subst}
-use Rattle.xid_order.specs.Ids.{IsFullMulti}
+use Rattle.tx_events.specs.Ids.{IsFullMulti}
 use Rattle.multi_store.proofs.Numbers.{place_is}
 use Rattle.multi_store.proofs.places.place_of.Goals as goal
 

@@ -1,7 +1,7 @@
 use Rattle.std.proofs.Common.{◌++◌, ◌∷◌, [], ◌≤◌, ℕ, arith, ap, ◌∙◌, subst, sym, refl, List, Ok, IsTrue, ◌↔◌, inl, inr, ⊎_elim, Option}
 use Rattle.hall.specs.Calls.{view, start_of}
 use Rattle.notes.specs.Lists.{Knows, at}
-use Rattle.xid_order.specs.Limits.{warn_limit}
+use Rattle.tx_events.specs.Limits.{warn_limit}
 use Rattle.tx_events.specs.declared.event.Event.{Event}
 use Rattle.tx_events.specs.declared.record.Counters.{Counters}
 use Rattle.tx_events.specs.History.{IsNextGiven, next_given}

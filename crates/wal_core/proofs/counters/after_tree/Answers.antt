@@ -1,6 +1,6 @@
 use Rattle.tx_events.proofs.IdOrder.{next_above}
 use Rattle.std.proofs.Common.{max, refl, arith}
-use Rattle.xid_order.specs.Ids.{next_id}
+use Rattle.tx_events.specs.Ids.{next_id}
 use Rattle.wal_core.proofs.Counts.{past_above}
 use Rattle.wal_core.proofs.counters.after_tree.Goals as goal
 

@@ -1,13 +1,13 @@
 use Rattle.std.proofs.Common.{rules, ◌≡◌, ◌⊎◌, ℕ, ◌+◌, ◌*◌, ◌%◌, ◌^◌, ◌≤◌, ◌<◌, arith, ap, ◌∙◌, subst, sym, refl, List, [], ⊎_elim, length, Contains, Some, slice_get}
 use Rattle.std.specs.List.{slice_range}
 use Rattle.hall.specs.Calls.{view, start_of}
-use Rattle.pg_xact_log.specs.declared.xact_state.State as stored
-use Rattle.pg_xact_log.specs.declared.xact_state.State.TheVariants as named
-use Rattle.pg_xact_log.specs.Plan.{plan}
+use Rattle.slru_bank.specs.declared.xact_state.State as stored
+use Rattle.slru_bank.specs.declared.xact_state.State.TheVariants as named
+use Rattle.slru_bank.specs.Plan.{plan}
 use Rattle.tx_core.specs.declared.entry.State.{State}
 use Rattle.engine_parts.specs.declared.session.Session.{Session}
 use Rattle.engine_parts.specs.declared.session.Stage.TheVariants as stages
-use Rattle.pg_xact_log.specs.Steps.{step_first, step_ids}
+use Rattle.slru_bank.specs.Steps.{step_first, step_ids}
 use Rattle.engine_parts.specs.Stages.{IsSettling, may_be_aborted}
 use Rattle.bank_sections.specs.Sets.{AsksOnly, MaySet}
 use Rattle.bank_sections.proofs.Unlinking.{call_went}

@@ -1,6 +1,6 @@
 use Rattle.std.proofs.Common.{rules, ◌≡◌, ℕ, ◌+◌, ◌*◌, ◌^◌, ◌≤◌, ◌<◌, arith, ap, ◌∙◌, subst, sym, refl, List, [], ◌∷◌, Contains, length, Some, None, slice_get}
 use Rattle.hall.specs.Calls.{view, start_of}
-use Rattle.pg_xact_log.specs.Plan.{plan}
+use Rattle.slru_bank.specs.Plan.{plan}
 use Rattle.tx_core.specs.declared.entry.Entry.{Entry}
 use Rattle.tx_events.specs.declared.event.By.{By}
 use Rattle.engine_parts.specs.declared.session.Session.{Session}

@@ -2,7 +2,7 @@ use Rattle.std.proofs.Common.{◌≡◌, ℕ, ◌<◌, ◌≤◌, [], ap, ◌∙
 use Rattle.std.specs.List.{slice_range}
 use Rattle.hall.specs.Calls.{view, start_of}
 use Rattle.tx_events.specs.declared.event.By.{By}
-use Rattle.pg_xact_log.proofs.RunShapes.{run_shares}
+use Rattle.slru_bank.proofs.RunShapes.{run_shares}
 use Rattle.bank_sections.specs.Faults.{IsXactFault}
 use Rattle.engine_parts.specs.declared.session.Session.{Session}
 use Rattle.engine_parts.specs.Sessions.{by_at}

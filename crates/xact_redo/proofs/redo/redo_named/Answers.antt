@@ -1,5 +1,5 @@
 use Rattle.std.proofs.Common.{◌≡◌, ◌≤◌, ◌∷◌, [], arith, refl, subst, sym, true}
-use Rattle.xid_order.specs.PageOrder.{Ids, is_cut}
+use Rattle.tx_events.specs.PageOrder.{Ids, is_cut}
 use Rattle.store_pages.specs.Layouts.{xact_page_of}
 use Rattle.xact_redo.specs.Redo.{IsNamed, IsOne}
 use Rattle.xact_redo.proofs.Redoing.{named_one, one_named, same_named}

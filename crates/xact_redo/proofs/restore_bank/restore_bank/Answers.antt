@@ -1,5 +1,5 @@
 use Rattle.std.proofs.Common.{Err, ◌≡◌, ◌∙◌, ap, rules, subst, true}
-use Rattle.xid_order.specs.PageOrder.{Ids, is_cut}
+use Rattle.tx_events.specs.PageOrder.{Ids, is_cut}
 use Rattle.store_pages.specs.Layouts.{xact_page_of}
 use Rattle.recoverable.specs.LifeBase.{committed_in}
 use Rattle.slru_bank.specs.Calls.{cutoff_of}

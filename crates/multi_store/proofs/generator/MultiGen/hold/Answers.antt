@@ -1,5 +1,5 @@
 use Rattle.std.proofs.Common.{◌≡◌, refl, sym, ◌∙◌, subst, ap, arith, rules, ◌<◌, ◌≤◌, ◌==◌, eqb-true}
-use Rattle.xid_order.specs.Ids.{next_multi}
+use Rattle.tx_events.specs.Ids.{next_multi}
 use Rattle.tx_events.proofs.ListSteps.{eqb-refl}
 use Rattle.tx_events.specs.Multis.{pins}
 use Rattle.tx_events.specs.declared.record.Counters.{Counters}

@@ -1,5 +1,5 @@
 use Rattle.std.proofs.Common.{[], ◌∷◌, ◌++◌, refl, ◌∙◌, subst, ap, arith, rules, ◌+◌, ◌<◌, length}
-use Rattle.xid_order.specs.Limits.{member_stop, multi_stop_limit}
+use Rattle.tx_events.specs.Limits.{member_stop, multi_stop_limit}
 use Rattle.tx_events.specs.declared.multi.MultiEvent.TheVariants as events
 use Rattle.tx_events.specs.declared.record.Counters.{Counters}
 use Rattle.multi_store.specs.Generator.{Generator, oldest_offset_of}

@@ -1,5 +1,5 @@
 use Rattle.std.proofs.Common.{◌≡◌, refl, sym, ◌∙◌, subst, ap, arith, [], ◌<◌}
-use Rattle.xid_order.specs.Limits.{stop_limit}
+use Rattle.tx_events.specs.Limits.{stop_limit}
 use Rattle.tx_events.specs.Running.{open_ids}
 use Rattle.proc_table.specs.Table.{InTurn}
 use Rattle.proc_table.proofs.KeptContents.{of_now_id}

@@ -1,6 +1,6 @@
 use Rattle.std.proofs.Common.{◌≡◌, List, ℕ, Bool, false, ap, rules, ◌∙◌}
-use Rattle.xid_order.specs.PageOrder.{page_precedes}
-use Rattle.xid_order.specs.PageWindow.{precedes_itself}
+use Rattle.tx_events.specs.PageOrder.{page_precedes}
+use Rattle.tx_events.specs.PageWindow.{precedes_itself}
 use Rattle.slru_bank.specs.Calls.{pages_of}
 use Rattle.slru_bank.specs.Removal.{cleared_from, MayDrop}
 use Rattle.slru_bank.proofs.RemovalLists.{drop_same, on_err}

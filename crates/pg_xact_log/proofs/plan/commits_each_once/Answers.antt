@@ -1,5 +1,0 @@
-use Rattle.pg_xact_log.specs.PlanLaw.{committed_once}
-use Rattle.pg_xact_log.proofs.plan.commits_each_once.Goals as goal
-
-pub returns : goal.returns
-returns c = committed_once c.args._top c.args._subs.now c.args._i c.requires

@@ -33,24 +33,27 @@ use Rattle.session_promise.proofs.Telling.{lines_told}
 none_counts : {X : Type 0} (p : X → Bool) (xs : List X) → ((x : X) → Has xs x → p x ≡ true → ⊥) → count_by p xs ≡ 0
 none_counts p xs none = sym (length-filter p xs) ∙ ap length (filter_none_on p xs (λ x h. false_from_ne_true (p x) (none x h)))
 
+abbrev one_if : Bool → ℕ
+one_if b = cond b 1 0
+
 -- where all that pass stand at one place
 once_counts : {X : Type 0} (p : X → Bool) (xs : List X) (place : ℕ) → ((i : ℕ) (x : X) → slice_get xs i ≡ Some x → p x ≡ true → i ≡ place) → count_by p xs ≤ 1
 once_counts p [] place only = omega arith
-once_counts {X = X} p (x ∷ xs) place only = step (p x) refl
+once_counts {X = X} p (x ∷ xs) place only = step (p x) refl (once_counts p xs (place - 1))
   where
-    counts : count_by p (x ∷ xs) ≡ cond (p x) 1 0 + count_by p xs
-    counts = sum_by-cons (λ (y : X). cond (p y) 1 0) x xs
+    counts : count_by p (x ∷ xs) ≡ one_if (p x) + count_by p xs
+    counts = sum_by-cons (λ (y : X). one_if (p y)) x xs
 
-    step : (b : Bool) → p x ≡ b → count_by p (x ∷ xs) ≤ 1
-    step true q =
+    step : (b : Bool) → p x ≡ b → (((i : ℕ) (y : X) → slice_get xs i ≡ Some y → p y ≡ true → i ≡ place - 1) → count_by p xs ≤ 1) → count_by p (x ∷ xs) ≤ 1
+    step true q others =
         let first = only 0 x refl q in
         let rest = none_counts p xs (λ y h t. let there = has_place xs y h in let later = only (suc there.0) y there.1 t in omega (arith, first, later)) in
-        let one : cond (p x) 1 0 ≡ 1 = ap (λ b. cond b 1 0) q in
+        let one : one_if (p x) ≡ 1 = ap one_if q in
         let c = counts in
         omega (arith, rest, one, c)
-    step false q =
-        let rest = once_counts p xs (place - 1) (λ i y e t. let later = only (suc i) y e t in omega (arith, later)) in
-        let none : cond (p x) 1 0 ≡ 0 = ap (λ b. cond b 1 0) q in
+    step false q others =
+        let rest = others (λ i y e t. let later = only (suc i) y e t in omega (arith, later)) in
+        let none : one_if (p x) ≡ 0 = ap one_if q in
         let c = counts in
         omega (arith, rest, none, c)
 

@@ -1,9 +1,12 @@
 -- What the stores said of an id's ancestors, step by step.
-use Rattle.std.proofs.Common.{Bool, false, ◌≡◌, ◌⊎◌, ⊎_elim, inl, inr, ℕ, ◌<◌, ◌≤◌, List, [], ◌∷◌, Option, None, Some, refl, subst, append-nil}
+use Rattle.std.proofs.Common.{Bool, false, ◌≡◌, ◌⊎◌, ⊎_elim, inl, inr, ℕ, ◌<◌, ◌≤◌, List, [], ◌∷◌, Option, None, Some, IfSome, refl, sym, subst, ◌∙◌, append-nil}
 use Rattle.notes.specs.Lists.{Grows, at}
 use Rattle.slru_bank.specs.declared.refusal.BankRefusal.{BankRefusal}
 use Rattle.slru_bank.specs.declared.refusal.BankRefusal.TheVariants as refused
 use Rattle.tx_events.specs.declared.event.By.{By}
+use Rattle.tx_events.specs.Base.{IsBase}
+use Rattle.tx_core.specs.EngineInvariant.{EngineInvariant}
+use Rattle.xact_reads.proofs.Climbing.{parent_below}
 use Rattle.tx_core.specs.declared.entry.Entry.{Entry}
 use Rattle.tx_core.specs.declared.entry.Start.{Start}
 use Rattle.tx_core.specs.declared.entry.State.{State}
@@ -11,7 +14,7 @@ use Rattle.tx_core.specs.declared.entry.State.TheVariants as states
 use Rattle.tx_core.specs.Verdict.{is_committed}
 use Rattle.engine_parts.specs.Holds.{Knowledge}
 use Rattle.engine_parts.proofs.Leaving.{grows_then}
-use Rattle.bank_sections.specs.Reads.{IsStateRead}
+use Rattle.bank_sections.specs.Reads.{IsParentOf, IsParentRead, IsStateRead}
 use Rattle.bank_sections.specs.Sections.{BankRefused}
 use Rattle.xact_reads.specs.declared.dids.Step.{Step}
 use Rattle.xact_reads.specs.declared.dids.Step.TheVariants as steps
@@ -27,6 +30,11 @@ just_now lists more Holds g holds = record { moment = more; since = g; till = gr
 -- the cutoff that was told of a page that is cut
 pub cut_told : (start : Start) (lock : ℕ) (by : By) (cut : ℕ → Type 0) (v w : Knowledge) (r : BankRefusal) (cutoff : ℕ) → r ≡ refused.Cut cutoff → BankRefused start lock by cut v w r → cut cutoff
 cut_told start lock by cut v w r cutoff is s = (subst (λ z. BankRefused start lock by cut v w z) is s).1
+
+-- the parent that was read, where it is below its child
+pub parent_found : (start : Start) (lists more : List (List Entry)) (x : ℕ) (found kept o : Option ℕ) → IsBase start.base → EngineInvariant start more → Grows lists more → IsParentRead start more x found → (IfSome found (λ y. y < x) → kept ≡ found) → kept ≡ o → IsParent start lists more x o
+parent_found start lists more x found kept o base k g read same is =
+    just_now lists more (λ l. IsParentRead start l x o) g (λ used few. let parent = read used few in subst (IsParentOf start more x) (sym (same (parent_below start more x found base k parent)) ∙ is) parent)
 
 -- ---- between wider lists
 
@@ -64,8 +72,8 @@ ancestor_says start lists more x state (steps.Further parent) g read s = (s.0, s
 pub parent_says : (start : Start) (lists then more : List (List Entry)) (x parent : ℕ) (step : Step) → Grows lists then → Grows then more → IsParent start lists then x (Some parent) → AncestorSays start then more parent step → ParentSays start lists more x step
 parent_says start lists then more x parent (steps.Ends answer) g h read s = inr (parent, parent_wider start lists lists then more (grows_nowhere lists) h x (Some parent) read, ancestor_wider start lists then more more g (grows_nowhere more) parent answer s)
 parent_says start lists then more x parent (steps.Further found) g h read s =
-    (subst (λ z. IsParent start lists more x (Some z)) (λ j. s.0 (~ j)) (parent_wider start lists lists then more (grows_nowhere lists) h x (Some parent) read),
-    subst (λ z. IsState start lists more z (Some states.SubCommitted)) (λ j. s.0 (~ j)) (state_wider start lists then more more g (grows_nowhere more) parent (Some states.SubCommitted) s.1))
+    (subst (λ z. IsParent start lists more x (Some z)) (sym s.0) (parent_wider start lists lists then more (grows_nowhere lists) h x (Some parent) read),
+    subst (λ z. IsState start lists more z (Some states.SubCommitted)) (sym s.0) (state_wider start lists then more more g (grows_nowhere more) parent (Some states.SubCommitted) s.1))
 
 -- ---- the climb so far: what is said of where it has come is said of where it began
 

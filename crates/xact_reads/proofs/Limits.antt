@@ -10,7 +10,7 @@ use Rattle.tx_events.specs.Horizon.{oldest_id, oldest_xmin}
 use Rattle.tx_events.specs.Snapshots.{latest, snapshot_xmax}
 use Rattle.tx_events.proofs.GivenGrowth.{given_none, next_after}
 use Rattle.tx_events.proofs.GivenIds.{legal_front, legal_last, legal_take}
-use Rattle.tx_events.proofs.Horizons.{new_past, xmin_rises}
+use Rattle.tx_events.proofs.Horizons.{new_past, xmin_at}
 use Rattle.tx_events.proofs.IdOrder.{next_full}
 use Rattle.tx_events.proofs.Membership.{by_end}
 use Rattle.tx_events.proofs.Visibility.{xmin_from}
@@ -49,9 +49,11 @@ next_small base h b = by_end (λ g. IsLegal base g → next_given base.next g < 
 
 -- no horizon is a special id
 pub horizon_from : (base : Counters) (h : List Event) → IsBase base → IsLegal base h → 3 ≤ oldest_xmin base.next h
-horizon_from base h b = by_end (λ g. IsLegal base g → 3 ≤ oldest_xmin base.next g)
-    (λ legal. full_from (snapshot_xmax base.next []) (next_full (latest base.next [])))
-    (λ g e before legal. let first = full_from base.next b.full in let low = before (legal_front base g e legal) in let up = xmin_rises base g e legal b.full (omega arith) in omega arith) h
+horizon_from base h b legal =
+    let first = full_from base.next b.full in
+    let low : 3 ≤ oldest_xmin base.next [] = full_from (snapshot_xmax base.next []) (next_full (latest base.next [])) in
+    let up : oldest_xmin base.next [] ≤ oldest_xmin base.next h = xmin_at base [] h legal b.full (omega arith) in
+    omega arith
 
 pub xmax_to_next : (base : Counters) (h : List Event) → IsBase base → IsLegal base h → snapshot_xmax base.next h ≤ next_given base.next h
 xmax_to_next base h b legal = let n = full_from base.next b.full in new_past base h legal b.full (omega arith)

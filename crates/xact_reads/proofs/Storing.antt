@@ -100,7 +100,7 @@ module _ (start : Start) (g : List Event) (x : ℕ) (normal : 3 ≤ x) (legal : 
       step false e = inr (sym (visible_new start.committed g x normal (λ c. false≢true (sym e ∙ has_among x start.committed (contains_has start.committed x c)))) ∙ seen)
 
   -- so it was given
-  visible_given : x < next_given start.base.next g
+  pub visible_given : x < next_given start.base.next g
   visible_given = ⊎_elim
       (λ (past : next_given start.base.next g ≤ x).
       let from = nth_from start.base.next (length (given g)) in

@@ -163,10 +163,13 @@ fn ancestors_did<R: Wait, L: LogDisk, P: PageDisk>(
 {
     let mut x = asked;
     while x >= xmin {
-        match step_up(rt, hall, caller, banks, asked, x) {
-            Ok(Step::Ends { committed }) => return Ok(committed),
-            Ok(Step::Further { parent }) => x = parent,
+        let step = match step_up(rt, hall, caller, banks, asked, x) {
+            Ok(step) => step,
             Err(refusal) => return Err(refusal),
+        };
+        match step {
+            Step::Ends { committed } => return Ok(committed),
+            Step::Further { parent } => x = parent,
         }
     }
     Ok(false)

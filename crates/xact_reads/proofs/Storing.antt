@@ -138,6 +138,12 @@ uncommitted_before start lists more shown x j k grows clean used few off =
 
 -- ---- what a call may answer by the state of the id
 
+committed_is : (o : Option State) → is_committed o ≡ true → o ≡ Some states.Committed
+committed_is (Some states.Committed) e = refl
+committed_is (Some states.Aborted) e = absurd (false≢true e)
+committed_is (Some states.SubCommitted) e = absurd (false≢true e)
+committed_is None e = absurd (false≢true e)
+
 -- that it reads so
 abbrev pub ReadsAs : Start → List (List Entry) → ℕ → Option State → Type 0
 ReadsAs start lists x state = (shown : ℕ → Option State) × CleanStart start shown × (state ≡ state_read shown (marks (at lists (xact_lock_of start x))) x)
@@ -152,17 +158,16 @@ module _ (start : Start) (before lists more : List (List Entry)) (x : ℕ) (stat
   hidden_before : is_committed state ≡ false → is_visible start.committed (history before) x ≡ false
   hidden_before off = uncommitted_before start before lists reads.0 x j k first reads.1 used few (ap is_committed (sym reads.2) ∙ off)
 
-  -- yes of one that is committed
-  pub did_yes : state ≡ Some states.Committed → DidAsTold start before more x true
-  did_yes e = record { for_yes = λ _. recorded_on states.Committed tt e; for_no = λ q. absurd (false≢true (sym q)) }
-
   -- either answer of one that is sub-committed
   pub did_either : (answer : Bool) → state ≡ Some states.SubCommitted → DidAsTold start before more x answer
   did_either answer e = record { for_yes = λ _. recorded_on states.SubCommitted tt e; for_no = λ _. hidden_before (ap is_committed e) }
 
-  -- no of any other one
-  pub did_no : is_committed state ≡ false → DidAsTold start before more x false
-  did_no off = record { for_yes = λ q. absurd (false≢true q); for_no = λ _. hidden_before off }
+  -- of any other one what its state says
+  pub did_decided : (answer : Bool) → answer ≡ is_committed state → DidAsTold start before more x answer
+  did_decided answer says = record {
+    for_yes = λ q. recorded_on states.Committed tt (committed_is state (sym says ∙ q));
+    for_no = λ q. hidden_before (sym says ∙ q);
+  }
 
 -- an ancestor of a parent that is below its child
 pub below_less : (x y : ℕ) (step : Step) → y < x → IsBelow (y + 1) step → IsBelow x step

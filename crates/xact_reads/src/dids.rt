@@ -209,13 +209,12 @@ fn stores_say<R: Wait, L: LogDisk, P: PageDisk>(
         Ok(state) => state,
         Err(refusal) => return Err(refusal),
     };
-    match state {
-        Some(State::Committed) => Ok(true),
-        Some(State::SubCommitted) => match ancestors_did(rt, hall, caller, banks, xmin, x) {
+    match step_of(state, x) {
+        Step::Ends { committed } => Ok(committed),
+        Step::Further { .. } => match ancestors_did(rt, hall, caller, banks, xmin, x) {
             Ok(committed) => Ok(committed),
             Err(refusal) => Err(refusal),
         },
-        _ => Ok(false),
     }
 }
 
@@ -248,10 +247,13 @@ fn did_near<R: Wait, L: LogDisk, P: PageDisk>(
     ensures same { (caller.new.session ≡ caller.old.session) × (caller.new.number ≡ caller.old.number) }
 {
     let found = read_horizons(rt, hall, caller);
-    let Some(id) = near(found.next, x) else {
-        return Err(Refusal::TooOld {
-            oldest: found.oldest,
-        });
+    let id = match near(found.next, x) {
+        Some(id) => id,
+        None => {
+            return Err(Refusal::TooOld {
+                oldest: found.oldest,
+            });
+        }
     };
     if id < found.oldest {
         return Err(Refusal::TooOld {

@@ -51,14 +51,16 @@ a did 2
 a did 3
 a did 4
 ",
-        &["a 1 did 0 -> no
+        &[
+            "a 1 did 0 -> no
 a 2 did 1 -> yes
 a 3 did 2 -> yes
 a 4 did 3 -> no
 a 5 did 4 -> no
 history
 multis
-"],
+",
+        ],
     )
 }
 
@@ -86,7 +88,8 @@ b write
 b abort
 b did 6
 ",
-        &["a 8 did 3 -> no
+        &[
+            "a 8 did 3 -> no
 a 9 did 4 -> no
 a 10 did 5 -> no
 a 11 commit -> ok
@@ -97,7 +100,8 @@ b 1 begin -> ok
 b 2 write -> ok 6
 b 3 abort -> ok
 b 4 did 6 -> no
-"],
+",
+        ],
     )
 }
 
@@ -116,13 +120,15 @@ a commit
 a did 32767
 a did 32768
 ",
-        &["a 3 write -> ok 32767 32768
+        &[
+            "a 3 write -> ok 32767 32768
 a 4 did 32767 -> no
 a 5 did 32768 -> no
 a 6 commit -> ok
 a 7 did 32767 -> yes
 a 8 did 32768 -> yes
-"],
+",
+        ],
     )
 }
 
@@ -138,12 +144,14 @@ a did 5
 a did 8
 a did 4294967295
 ",
-        &["a 1 did 2 -> yes
+        &[
+            "a 1 did 2 -> yes
 a 2 did 4 -> too-old 5
 a 3 did 5 -> no
 a 4 did 8 -> no
 a 5 did 4294967295 -> too-old 5
-"],
+",
+        ],
     )
 }
 
@@ -169,13 +177,15 @@ a did 3
 a did 4
 a did 4294967289
 ",
-        &["a 8 write -> ok 4294967299
+        &[
+            "a 8 write -> ok 4294967299
 a 9 commit -> ok
 a 10 did 4294967294 -> yes
 a 11 did 4294967295 -> no
 a 12 did 3 -> yes
 a 13 did 4 -> no
 a 14 did 4294967289 -> too-old 4294967290
-"],
+",
+        ],
     )
 }

@@ -1,5 +1,5 @@
 -- What the stores said of an id's ancestors, step by step.
-use Rattle.std.proofs.Common.{Bool, false, ◌≡◌, ◌⊎◌, ⊎_elim, inl, inr, ℕ, ◌<◌, ◌≤◌, List, [], ◌∷◌, Option, None, Some, IfSome, refl, sym, subst, ◌∙◌, append-nil}
+use Rattle.std.proofs.Common.{Bool, false, ◌≡◌, ⊎_elim, inl, inr, ℕ, ◌<◌, ◌≤◌, List, [], ◌∷◌, Option, Some, IfSome, refl, sym, subst, ◌∙◌, append-nil}
 use Rattle.notes.specs.Lists.{Grows, at}
 use Rattle.slru_bank.specs.declared.refusal.BankRefusal.{BankRefusal}
 use Rattle.slru_bank.specs.declared.refusal.BankRefusal.TheVariants as refused
@@ -71,9 +71,10 @@ ancestor_says start lists more x state (steps.Further parent) g read s = (s.0, s
 -- and of the parent that was read before
 pub parent_says : (start : Start) (lists then more : List (List Entry)) (x parent : ℕ) (step : Step) → Grows lists then → Grows then more → IsParent start lists then x (Some parent) → AncestorSays start then more parent step → ParentSays start lists more x step
 parent_says start lists then more x parent (steps.Ends answer) g h read s = inr (parent, parent_wider start lists lists then more (grows_nowhere lists) h x (Some parent) read, ancestor_wider start lists then more more g (grows_nowhere more) parent answer s)
-parent_says start lists then more x parent (steps.Further found) g h read s =
-    (subst (λ z. IsParent start lists more x (Some z)) (sym s.0) (parent_wider start lists lists then more (grows_nowhere lists) h x (Some parent) read),
-    subst (λ z. IsState start lists more z (Some states.SubCommitted)) (sym s.0) (state_wider start lists then more more g (grows_nowhere more) parent (Some states.SubCommitted) s.1))
+parent_says start lists then more x parent (steps.Further found) g h read s = (
+  subst (λ z. IsParent start lists more x (Some z)) (sym s.0) (parent_wider start lists lists then more (grows_nowhere lists) h x (Some parent) read),
+  subst (λ z. IsState start lists more z (Some states.SubCommitted)) (sym s.0) (state_wider start lists then more more g (grows_nowhere more) parent (Some states.SubCommitted) s.1),
+)
 
 -- ---- the climb so far: what is said of where it has come is said of where it began
 

@@ -1,9 +1,8 @@
 -- What is told of an id that is asked for by the stores alone.
-use Rattle.std.proofs.Common.{Bool, Contains, true, false, not, nat_eq, nat_le, ◌≡◌, ℕ, zero, suc, ◌+◌, ◌^◌, ◌<◌, ◌≤◌, List, [], ◌++◌, None, Some, Option, IfSome, IsTrue, length, length-append, take, take_all, inl, inr, refl, sym, ap, subst, ◌∙◌, ⊎_elim, arith, le-leb}
+use Rattle.std.proofs.Common.{Bool, false, not, nat_eq, ◌≡◌, ℕ, zero, suc, ◌<◌, ◌≤◌, List, [], ◌++◌, None, Some, Option, IfSome, IsTrue, length, length-append, take_all, inl, inr, refl, sym, ap, subst, ◌∙◌, ⊎_elim, arith, le-leb}
 use Rattle.std.proofs.lemmas.Bool.{false≢true, false_from_ne_true}
 use Rattle.notes.specs.Lists.{Grows, at}
 use Rattle.tx_events.specs.declared.order.Xid.{Xid}
-use Rattle.tx_events.specs.Ids.{IsFullId}
 use Rattle.tx_events.specs.Nearest.{IsNearest, near_id}
 use Rattle.tx_events.specs.declared.event.By.{By}
 use Rattle.tx_events.specs.declared.event.Event.{Event}
@@ -13,21 +12,19 @@ use Rattle.tx_events.specs.declared.refusal.Refusal.{Refusal}
 use Rattle.tx_events.specs.declared.refusal.Refusal.TheVariants as refusals
 use Rattle.tx_events.specs.Events.{given}
 use Rattle.tx_events.specs.History.{next_given}
-use Rattle.tx_events.specs.Horizon.{oldest_id}
 use Rattle.tx_events.specs.Visible.{is_visible}
 use Rattle.tx_events.proofs.IdOrder.{nth_upto}
 use Rattle.tx_model.specs.declared.command.Command.TheVariants as commands
 use Rattle.tx_model.specs.declared.reply.Reply.TheVariants as replies
 use Rattle.tx_model.specs.Replies.{IsNearNext, MayFindOldest, MayReadAt, MayReply, RoundSpan, alone}
 use Rattle.tx_model.proofs.Growth.{may_reply_grows, near_next_grows}
-use Rattle.life_law.specs.DidCommit.{IsDid, IsDidOf, special_did}
+use Rattle.life_law.specs.DidCommit.{IsDid, special_did}
 use Rattle.life_law.specs.Refused.{by_standing}
 use Rattle.life_law.proofs.DidGrowth.{did_grows}
 use Rattle.tx_core.specs.declared.entry.Entry.{Entry}
 use Rattle.tx_core.specs.declared.entry.Start.{Start}
 use Rattle.tx_core.specs.Entries.{AreFewIds, history, recs_in}
 use Rattle.tx_core.specs.Locks.{log_lock}
-use Rattle.tx_core.proofs.Rising.{given_more}
 use Rattle.session_levels.proofs.ActsLemmas.{reads_last}
 use Rattle.proc_sections.specs.declared.looking.Horizons.{Horizons}
 use Rattle.proc_sections.specs.Horizons.{AreHorizonsOf}
@@ -41,7 +38,7 @@ use Rattle.engine_parts.specs.Steps.{WentOn}
 use Rattle.engine_parts.proofs.Answering.{few_before}
 use Rattle.xact_reads.specs.Ancestors.{StoresSay, StoresTell}
 use Rattle.xact_reads.specs.Readings.{IsStateUnread}
-use Rattle.xact_reads.specs.Stores.{DidAsTold, IsDidIn, IsDidUnread}
+use Rattle.xact_reads.specs.Stores.{DidAsTold, IsDidUnread}
 use Rattle.xact_reads.proofs.Going.{others_went}
 use Rattle.xact_reads.proofs.Replying.{finds_oldest, oldest_from, went_longer}
 use Rattle.xact_reads.proofs.Storing.{visible_given}
@@ -170,14 +167,16 @@ module _ (start : Start) (v u w : Knowledge) (n : ℕ) (s : Session) (x : Xid) (
       state (refusals.DiskFault (locks.Xact bank)) m = ((le-leb 3 x.number normal, m), refl)
       state (refusals.TooOld oldest) m =
           let all = went_longer n v.seen u.seen first in
-          let more = went_longer n u.seen w.seen second in
-          (record {
-            normal = normal;
-            id = Some id;
-            near = near_later (Some id) near;
-            older = m.1;
-            found = subst (MayFindOldest start.base (history w.seen) (alone (history v.seen) (history w.seen)) by) (sym m.0) (finds_oldest start.base by (history v.seen) (history w.seen) (omega arith) b.stands.turn);
-          }, refl)
+          let more = went_longer n u.seen w.seen second in (
+            record {
+              normal = normal;
+              id = Some id;
+              near = near_later (Some id) near;
+              older = m.1;
+              found = subst (MayFindOldest start.base (history w.seen) (alone (history v.seen) (history w.seen)) by) (sym m.0) (finds_oldest start.base by (history v.seen) (history w.seen) (omega arith) b.stands.turn);
+            },
+            refl,
+          )
       state r m = absurd m
 
       parent : (r : Refusal) → IsSubtransFault w.seen by r → MayAnswer tells start w.seen (alone (history v.seen) (history w.seen)) by (stance_of s) s.stage (commands.Did x) (replies.Refused r) × (by_standing (replies.Refused r) ≡ None)

@@ -1,5 +1,5 @@
 -- What the stores said of an id, by its own state, and where that is sub-committed by its parent's, and so on.
-use Rattle.std.specs.Prelude.{◌≡◌, ◌≢◌, ℕ, ◌<◌, ◌≤◌, ◌⊎◌, Bool, true, false, List, [], ◌∷◌, Option, None, Some}
+use Rattle.std.specs.Prelude.{◌≡◌, ◌≢◌, ℕ, ◌<◌, ◌≤◌, ◌⊎◌, Bool, false, List, [], ◌∷◌, Option, None, Some}
 use Rattle.notes.specs.Lists.{Grows}
 use Rattle.store_pages.specs.Layouts.{word_page_of, xact_page_of}
 use Rattle.tx_events.specs.History.{next_given}

@@ -14,7 +14,6 @@ use Rattle.xact_reads.proofs.Ascending.{ancestor_says, cut_told}
 use Rattle.xact_reads.proofs.Going.{look_adds, read_adds, went_both}
 use Rattle.xact_reads.proofs.dids.ancestor_state.Goals as goal
 
-
 pub returns-then-lt-clause-went : goal.returns-then-lt-clause-went
 returns-then-lt-clause-went g c =
     went_both c.args.caller.now.number c.read_state.new.caller.number (view c.args.caller.now.pass).seen (view c.read_state.new.caller.pass).seen (view c.read_oldest-oldest.new.caller.pass).seen c.in-Err-Cut.ensures.same.1 c.in-Err-Cut.ensures.went c.read_oldest-oldest.ensures.went
@@ -84,9 +83,12 @@ returns-else-lt-clause-said g c told =
     let start = start_of c.args.hall.now in
     let bank = c.bank_of-bank.result in
     let d = c.in-Err-Cut.ensures in
-    inr (record {
-      moment = u.seen;
-      since = d.went.on.grows;
-      till = c.read_oldest-oldest.ensures.went.on.grows;
-      holds = (bank, c.in-Err-Cut.field-0-0, cut_told start (xact_lock bank) (by_at old.number old.session.levels.commands) _ (view old.pass) u c.in-Err-Cut.field-0 _ c.in-Err-Cut.field-0-is d.section);
-    }, refl)
+    inr (
+      record {
+        moment = u.seen;
+        since = d.went.on.grows;
+        till = c.read_oldest-oldest.ensures.went.on.grows;
+        holds = (bank, c.in-Err-Cut.field-0-0, cut_told start (xact_lock bank) (by_at old.number old.session.levels.commands) _ (view old.pass) u c.in-Err-Cut.field-0 _ c.in-Err-Cut.field-0-is d.section);
+      },
+      refl,
+    )

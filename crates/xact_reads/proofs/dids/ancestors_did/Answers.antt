@@ -41,7 +41,7 @@ loop-asked-preserved g c =
       (let to = i.4 in omega arith),
       read_adds v.number u.number v.session u.session IsPlain (view v.pass).seen (view u.pass).seen (view w.pass).seen i.3.1 i.3.0 (λ lock kind m. m) i.5 e.adds,
       λ told. comes_on start (view v.pass).seen (view u.pass).seen (view w.pass).seen c.args.xmin c.args.asked x (i.6 told) i.2.on.grows e.went.on.grows (grind (arith, nat_tests, c.loop-asked-test)) c.in-Further.parent
-      (subst (ParentSays start (view u.pass).seen (view w.pass).seen x) c.in-Further.is (e.said told)),
+          (subst (ParentSays start (view u.pass).seen (view w.pass).seen x) c.in-Further.is (e.said told)),
     )
 
 pub returns-in-Ends-clause-said : goal.returns-in-Ends-clause-said

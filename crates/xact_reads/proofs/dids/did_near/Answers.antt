@@ -1,4 +1,4 @@
-use Rattle.std.proofs.Common.{[], false, IfSome, None, Some, arith, inl, subst, sym, length, ◌<◌, ◌≤◌, ◌^◌, ◌∙◌}
+use Rattle.std.proofs.Common.{[], false, IfSome, None, Some, arith, subst, sym, length, ◌<◌, ◌≤◌, ◌^◌, ◌∙◌}
 use Rattle.std.proofs.lemmas.Bool.Decides.{nat_tests}
 use Rattle.hall.specs.Calls.{view, start_of}
 use Rattle.tx_events.specs.declared.event.By.{By}
@@ -9,7 +9,6 @@ use Rattle.tx_events.proofs.IdOrder.{nth_from}
 use Rattle.tx_core.specs.Entries.{history}
 use Rattle.proc_table.proofs.Bounds.{full_from}
 use Rattle.engine_parts.specs.Adding.{IsPlain, MayMeet}
-use Rattle.engine_parts.specs.Sessions.{by_at}
 use Rattle.engine_parts.specs.Steps.{WentOn}
 use Rattle.engine_parts.proofs.Adding.{plain_meets}
 use Rattle.engine_parts.proofs.Sectioning.{same_command}

@@ -1,4 +1,4 @@
-use Rattle.std.proofs.Common.{◌<◌, IfSome, None, Some, inl, inr, refl, subst, ◌∙◌}
+use Rattle.std.proofs.Common.{◌<◌, IfSome, None, Some, inl, inr, refl, subst}
 use Rattle.hall.specs.Calls.{view, start_of}
 use Rattle.tx_events.specs.declared.event.By.{By}
 use Rattle.tx_events.specs.declared.refusal.Lock.TheVariants as locks

@@ -1,4 +1,4 @@
-use Rattle.std.proofs.Common.{ℕ, subst}
+use Rattle.std.proofs.Common.{subst}
 use Rattle.hall.specs.Calls.{view, start_of}
 use Rattle.bank_sections.specs.Reads.{IsStateRead}
 use Rattle.engine_parts.specs.Adding.{IsPlain, MayMeet}

@@ -13,7 +13,6 @@ use Rattle.bank_sections.proofs.Visiting.{is_xact_lock}
 use Rattle.xact_reads.proofs.Going.{look_adds, read_adds, went_both}
 use Rattle.xact_reads.proofs.states.state_of.Goals as goal
 
-
 pub returns-then-lt-clause-went : goal.returns-then-lt-clause-went
 returns-then-lt-clause-went g c =
     went_both c.args.caller.now.number c.read_state.new.caller.number (view c.args.caller.now.pass).seen (view c.read_state.new.caller.pass).seen (view c.read_oldest-oldest.new.caller.pass).seen c.in-Err-Cut.ensures.same.1 c.in-Err-Cut.ensures.went c.read_oldest-oldest.ensures.went

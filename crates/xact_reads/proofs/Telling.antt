@@ -37,8 +37,8 @@ use Rattle.engine_parts.specs.Stand.{IsInUse}
 use Rattle.engine_parts.specs.Steps.{WentOn}
 use Rattle.engine_parts.proofs.Answering.{few_before}
 use Rattle.xact_reads.specs.Ancestors.{StoresSay, StoresTell}
-use Rattle.xact_reads.specs.Readings.{IsStateUnread}
-use Rattle.xact_reads.specs.Stores.{DidAsTold, IsDidUnread}
+use Rattle.xact_reads.specs.Readings.{IsStateUnread, IsUnread}
+use Rattle.xact_reads.specs.Stores.{DidAsTold}
 use Rattle.xact_reads.proofs.Going.{others_went}
 use Rattle.xact_reads.proofs.Replying.{finds_oldest, oldest_from, went_longer}
 use Rattle.xact_reads.proofs.Storing.{visible_given}
@@ -159,7 +159,7 @@ module _ (start : Start) (v u w : Knowledge) (n : ℕ) (s : Session) (x : Xid) (
       (omega arith, omega arith, omega arith)
 
   -- nothing was read of it
-  pub told_nothing : (tells : Bool) (id : ℕ) (r : Refusal) → near_id found.next x.number ≡ Some id → IsDidUnread start w.seen by id r
+  pub told_nothing : (tells : Bool) (id : ℕ) (r : Refusal) → near_id found.next x.number ≡ Some id → IsUnread start w.seen by id r
       → MayAnswer tells start w.seen (alone (history v.seen) (history w.seen)) by (stance_of s) s.stage (commands.Did x) (replies.Refused r) × (by_standing (replies.Refused r) ≡ None)
   told_nothing tells id r near unread = ⊎_elim (state r) (parent r) unread
     where

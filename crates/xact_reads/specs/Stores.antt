@@ -1,7 +1,5 @@
 -- What the stores alone tell of an id that is asked for.
 use Rattle.std.specs.Prelude.{◌≡◌, ℕ, ◌<◌, ◌++◌, ◌⊎◌, Bool, true, false, List, Contains}
-use Rattle.tx_events.specs.declared.event.By.{By}
-use Rattle.tx_events.specs.declared.refusal.Refusal.{Refusal}
 use Rattle.tx_events.specs.Visible.{is_visible}
 use Rattle.life_law.specs.DidCommit.{IsRecorded}
 use Rattle.tx_core.specs.declared.entry.Entry.{Entry}
@@ -10,10 +8,8 @@ use Rattle.tx_core.specs.Entries.{AreFewIds, history, recs_in}
 use Rattle.tx_core.specs.Locks.{log_lock}
 use Rattle.notes.specs.Lists.{at}
 use Rattle.engine_parts.specs.Stand.{IsInUse}
-use Rattle.bank_sections.specs.Faults.{IsSubtransFault}
 use Rattle.xact_reads.specs.declared.dids.Step.{Step}
 use Rattle.xact_reads.specs.declared.dids.Step.TheVariants as steps
-use Rattle.xact_reads.specs.Readings.{IsStateUnread}
 
 -- Where an id in use was said to have committed the life began with it so, or a commit record names it. Else it didn't
 -- count as committed behind what the command had seen when it began.
@@ -23,10 +19,6 @@ pub record DidAsTold (start : Start) (before lists : List (List Entry)) (x : ℕ
 
 abbrev pub IsDidIn : Start → List (List Entry) → List (List Entry) → ℕ → Bool → Type 0
 IsDidIn start before lists x answer = IsInUse start x → AreFewIds lists → DidAsTold start before lists x answer
-
--- a volume of either store failed in this command, or the oldest id is past the one that is asked for
-abbrev pub IsDidUnread : Start → List (List Entry) → By → ℕ → Refusal → Type 0
-IsDidUnread start lists by x refusal = IsStateUnread start lists by x refusal ⊎ IsSubtransFault lists by refusal
 
 -- what the stores say of an ancestor: it is asked further from an id below this one
 abbrev pub IsBelow : ℕ → Step → Type 0

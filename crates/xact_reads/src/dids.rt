@@ -13,8 +13,8 @@ ghost use Rattle.engine_parts.specs.Calls.{MayRun, Ran, next_command};
 ghost use Rattle.engine_parts.specs.Sessions.{IsReady, by_at, stance_of};
 ghost use Rattle.engine_parts.specs.Steps.{WentOn};
 ghost use Rattle.xact_reads.specs.Ancestors.{AncestorSays, AncestorsSay, IsStep, ParentSays, StoresSay, StoresTell};
-ghost use Rattle.xact_reads.specs.Readings.{IsStateUnread};
-ghost use Rattle.xact_reads.specs.Stores.{IsBelow, IsDidIn, IsDidUnread};
+ghost use Rattle.xact_reads.specs.Readings.{IsStateUnread, IsUnread};
+ghost use Rattle.xact_reads.specs.Stores.{IsBelow, IsDidIn};
 
 use crate::climbs::below;
 use crate::states::state_of;
@@ -115,7 +115,7 @@ fn step_up<R: Wait, L: LogDisk, P: PageDisk>(
     ensures further { IfOk result (IsBelow x) }
     ensures said { IsTrue P.tells → IfOk result
         (ParentSays (start_of hall.now) (view caller.old.pass).seen (view caller.new.pass).seen x) }
-    ensures unread { IfErr result (λ refusal. IsDidUnread (start_of hall.now) (view caller.new.pass).seen
+    ensures unread { IfErr result (λ refusal. IsUnread (start_of hall.now) (view caller.new.pass).seen
         (by_at caller.old.number caller.old.session.levels.commands) asked refusal) }
     ensures same { (caller.new.session ≡ caller.old.session) × (caller.new.number ≡ caller.old.number) }
 {
@@ -157,7 +157,7 @@ fn ancestors_did<R: Wait, L: LogDisk, P: PageDisk>(
         (view caller.old.pass).seen (view caller.new.pass).seen }
     ensures said { IsTrue P.tells → IfOk result (λ answer. (above : List ℕ) × AncestorsSay (start_of hall.now)
         (view caller.old.pass).seen (view caller.new.pass).seen xmin asked above answer) }
-    ensures unread { IfErr result (λ refusal. IsDidUnread (start_of hall.now) (view caller.new.pass).seen
+    ensures unread { IfErr result (λ refusal. IsUnread (start_of hall.now) (view caller.new.pass).seen
         (by_at caller.old.number caller.old.session.levels.commands) asked refusal) }
     ensures same { (caller.new.session ≡ caller.old.session) × (caller.new.number ≡ caller.old.number) }
 {
@@ -201,7 +201,7 @@ fn stores_say<R: Wait, L: LogDisk, P: PageDisk>(
         (view caller.old.pass).seen (view caller.new.pass).seen x answer) }
     ensures said { IsTrue P.tells → IfOk result (StoresSay (start_of hall.now)
         (view caller.old.pass).seen (view caller.new.pass).seen xmin x) }
-    ensures unread { IfErr result (λ refusal. IsDidUnread (start_of hall.now) (view caller.new.pass).seen
+    ensures unread { IfErr result (λ refusal. IsUnread (start_of hall.now) (view caller.new.pass).seen
         (by_at caller.old.number caller.old.session.levels.commands) x refusal) }
     ensures same { (caller.new.session ≡ caller.old.session) × (caller.new.number ≡ caller.old.number) }
 {

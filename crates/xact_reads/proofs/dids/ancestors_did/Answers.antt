@@ -8,7 +8,8 @@ use Rattle.engine_parts.proofs.Adding.{adds_nothing, plain_meets}
 use Rattle.engine_parts.proofs.Sectioning.{same_command}
 use Rattle.engine_parts.proofs.Stepping.{went_nowhere}
 use Rattle.xact_reads.specs.Ancestors.{ParentSays}
-use Rattle.xact_reads.specs.Stores.{IsBelow, IsDidUnread}
+use Rattle.xact_reads.specs.Stores.{IsBelow}
+use Rattle.xact_reads.specs.Readings.{IsUnread}
 use Rattle.xact_reads.proofs.Ascending.{comes_before, comes_end, comes_nowhere, comes_on}
 use Rattle.xact_reads.proofs.Going.{read_adds, went_both}
 use Rattle.xact_reads.proofs.dids.ancestors_did.Goals as goal
@@ -89,7 +90,7 @@ returns-in-Err-clause-unread g c =
     let v = c.args.caller.now in
     let u = c.loop-asked.caller in
     let w = view c.step_up.new.caller.pass in
-    subst (λ (b : By). IsDidUnread (start_of c.args.hall.now) w.seen b c.args.asked c.in-Err.refusal) (same_command v.number u.number v.session u.session i.3.1 i.3.0) c.in-Err.ensures.unread
+    subst (λ (b : By). IsUnread (start_of c.args.hall.now) w.seen b c.args.asked c.in-Err.refusal) (same_command v.number u.number v.session u.session i.3.1 i.3.0) c.in-Err.ensures.unread
 
 pub returns-clause-adds : goal.returns-clause-adds
 returns-clause-adds g c = c.loop-asked.invariant.5

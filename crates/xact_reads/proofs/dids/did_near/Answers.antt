@@ -13,7 +13,7 @@ use Rattle.engine_parts.specs.Steps.{WentOn}
 use Rattle.engine_parts.proofs.Adding.{plain_meets}
 use Rattle.engine_parts.proofs.Sectioning.{same_command}
 use Rattle.engine_parts.proofs.Stepping.{went_nowhere}
-use Rattle.xact_reads.specs.Stores.{IsDidUnread}
+use Rattle.xact_reads.specs.Readings.{IsUnread}
 use Rattle.xact_reads.proofs.Going.{at_same, look_adds, read_adds, went_both}
 use Rattle.xact_reads.proofs.Limits.{horizon_from, next_small}
 use Rattle.xact_reads.proofs.Telling.{not_given, tells_read, tells_ungiven, told_answer, told_nothing, told_too_old, used_here}
@@ -228,7 +228,7 @@ returns-in-Err-clause-allowed g c =
     let a = at_same start (view u.pass) v.number u.number v.session u.session e.same.1 e.same.0 e.ready in
     let b = at_same start (view w.pass) v.number w.number v.session w.session (f.same.1 ∙ e.same.1) (f.same.0 ∙ e.same.0) f.ready in
     let second = subst (λ z. WentOn z [] (view u.pass).seen (view w.pass).seen) e.same.1 f.went in
-    let unread = subst (λ (by : By). IsDidUnread start (view w.pass).seen by c.in-Some.id c.in-Err.refusal) (same_command v.number u.number v.session u.session e.same.1 e.same.0) f.unread in
+    let unread = subst (λ (by : By). IsUnread start (view w.pass).seen by c.in-Some.id c.in-Err.refusal) (same_command v.number u.number v.session u.session e.same.1 e.same.0) f.unread in
     (told_nothing start (view v.pass) (view u.pass) (view w.pass) v.number v.session c.args.x found a b e.went second c.requires.normal e.horizons (g.P.PageDisk.tells) c.in-Some.id c.in-Err.refusal (sym c.near.ensures.value ∙ c.in-Some.is) unread).0
 
 pub returns-in-Err-clause-standing : goal.returns-in-Err-clause-standing
@@ -243,5 +243,5 @@ returns-in-Err-clause-standing g c =
     let a = at_same start (view u.pass) v.number u.number v.session u.session e.same.1 e.same.0 e.ready in
     let b = at_same start (view w.pass) v.number w.number v.session w.session (f.same.1 ∙ e.same.1) (f.same.0 ∙ e.same.0) f.ready in
     let second = subst (λ z. WentOn z [] (view u.pass).seen (view w.pass).seen) e.same.1 f.went in
-    let unread = subst (λ (by : By). IsDidUnread start (view w.pass).seen by c.in-Some.id c.in-Err.refusal) (same_command v.number u.number v.session u.session e.same.1 e.same.0) f.unread in
+    let unread = subst (λ (by : By). IsUnread start (view w.pass).seen by c.in-Some.id c.in-Err.refusal) (same_command v.number u.number v.session u.session e.same.1 e.same.0) f.unread in
     (told_nothing start (view v.pass) (view u.pass) (view w.pass) v.number v.session c.args.x found a b e.went second c.requires.normal e.horizons (g.P.PageDisk.tells) c.in-Some.id c.in-Err.refusal (sym c.near.ensures.value ∙ c.in-Some.is) unread).1

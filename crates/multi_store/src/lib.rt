@@ -8,8 +8,6 @@ mod laws;
 mod members;
 mod pins;
 mod places;
-#[cfg(test)]
-mod tests;
 
 pub use answers::{Held, MultiGiven};
 pub use generator::MultiGen;

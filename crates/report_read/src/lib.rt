@@ -6,8 +6,6 @@ mod naming;
 mod read;
 mod steps;
 mod take;
-#[cfg(test)]
-mod tests;
 mod told;
 mod words;
 

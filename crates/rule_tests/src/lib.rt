@@ -1,4 +1,4 @@
-//! Tests of the rules on ids, limits, pages and snapshots: numbers at the ends of their ranges and at the wrap, worked out
+//! Tests of the rules on ids, limits, pages, snapshots and locks: numbers at the ends of their ranges and at the wrap, worked out
 //! by hand. They stand in a crate of their own so that the base crates aren't proved once more with them.
 #![tactic(auto)]
 
@@ -14,3 +14,5 @@ mod limit_tests;
 mod page_tests;
 #[cfg(test)]
 mod sight_tests;
+#[cfg(test)]
+mod verdict_tests;

@@ -7,8 +7,6 @@ mod entry;
 /// contracts are the laws.
 pub mod laws;
 mod locks;
-#[cfg(test)]
-mod tests;
 mod verdict;
 
 pub use entry::{Change, Entry, Kind, LogCall, Start, State};

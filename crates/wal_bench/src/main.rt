@@ -12,10 +12,11 @@ ghost use Rattle.std.specs.Prelude.{◌≤◌};
 use anyhow::{Context, Result};
 use commits::{first_counters, write_commits};
 use disk_core::MemLog;
+use std::alloc::Global;
 use std::env;
 use std::time::Instant;
 use tx_events::Rec;
-use wal_core::{Started, WalLog};
+use wal_core::WalLog;
 
 // How many commits there are where no number is given.
 const COUNT: u32 = 500;
@@ -25,18 +26,13 @@ fn rate(count: u64, time: u128) -> u128 {
     count as u128 * 1_000_000 / time.max(1)
 }
 
-// Writes the commits in batches of a size, starts the log again, and prints what was found.
-fn measure(rt: &HostRuntime, batch: u32, count: u32, shows_rates: bool) -> Result<()>
-    requires { 1 ≤ batch }
-{
-    let disk = MemLog::of(rt.alloc(), Vec::new(rt.alloc()));
-    let Started {
-        mut log,
-        recs: _,
-        first: _,
-    } = WalLog::start(rt.alloc(), disk)
+// A log over memory with its first checkpoint.
+fn first_log(alloc: Global) -> Result<WalLog<MemLog>> {
+    let disk = MemLog::of(alloc, Vec::new(alloc));
+    let mut log = WalLog::start(alloc, disk)
         .ok()
-        .context("a new log opens")?;
+        .context("a new log opens")?
+        .log;
     let checkpoint = Rec::Checkpoint {
         number: 0,
         counters: first_counters().context("the first counters")?,
@@ -45,27 +41,48 @@ fn measure(rt: &HostRuntime, batch: u32, count: u32, shows_rates: bool) -> Resul
         log.append(&checkpoint).ok().context("a first record")?;
     }
     log.flush().ok().context("a first flush")?;
+    Ok(log)
+}
 
+// How long the commits take to be written, in microseconds.
+fn time_writes(rt: &HostRuntime, log: &mut WalLog<MemLog>, count: u32, batch: u32) -> Result<u128>
+    requires { 1 ≤ batch }
+{
     let start = Instant::now(rt)?;
-    write_commits(rt.alloc(), &mut log, count, batch)
+    write_commits(rt.alloc(), log, count, batch)
         .ok()
         .context("memory for the commits")?;
-    let write_time = start.elapsed(rt)?.as_micros();
-    let bytes = log.end();
+    Ok(start.elapsed(rt)?.as_micros())
+}
 
+// How many records a start of the log reads, and how long it takes, in microseconds.
+fn time_start(rt: &HostRuntime, disk: MemLog) -> Result<(usize, u128)> {
     let start = Instant::now(rt)?;
-    let found = WalLog::start(rt.alloc(), log.into_disk())
+    let found = WalLog::start(rt.alloc(), disk)
         .ok()
         .context("the log opens")?;
-    let start_time = start.elapsed(rt)?.as_micros();
-    let records = found.recs.items().len();
+    let time = start.elapsed(rt)?.as_micros();
+    Ok((found.recs.items().len(), time))
+}
 
-    let from = Vec::from_elem(rt.alloc(), 1u8, bytes as usize)?;
-    let mut to = Vec::from_elem(rt.alloc(), 0u8, bytes as usize)?;
+// How long one copy of so many bytes takes, in microseconds.
+fn time_copy(rt: &HostRuntime, bytes: usize) -> Result<u128> {
+    let from = Vec::from_elem(rt.alloc(), 1u8, bytes)?;
+    let mut to = Vec::from_elem(rt.alloc(), 0u8, bytes)?;
     let start = Instant::now(rt)?;
     to.copy_from_slice(&from);
-    let copy_time = start.elapsed(rt)?.as_micros();
+    Ok(start.elapsed(rt)?.as_micros())
+}
 
+// Writes the commits in batches of a size, starts the log again, and prints what was found.
+fn measure(rt: &HostRuntime, batch: u32, count: u32, shows_rates: bool) -> Result<()>
+    requires { 1 ≤ batch }
+{
+    let mut log = first_log(rt.alloc())?;
+    let write_time = time_writes(rt, &mut log, count, batch)?;
+    let bytes = log.end();
+    let (records, start_time) = time_start(rt, log.into_disk())?;
+    let copy_time = time_copy(rt, bytes as usize)?;
     println!(rt; "batches of {batch}: {records} records in {bytes} bytes")?;
     if shows_rates {
         println!(rt;

@@ -1,5 +1,5 @@
 // Drives a generator by the commands of a test.
-use crate::{Held, MultiGen, MultiGiven, check_members};
+use multi_store::{Held, MultiGen, MultiGiven, check_members};
 use std::process::Abort;
 use tx_events::{
     By, Counters, FullMulti, FullXid, Member, MemberList, Mode, MultiId, Refusal, is_base,

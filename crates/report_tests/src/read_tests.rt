@@ -1,4 +1,5 @@
-use crate::{ReadRefusal, read_report};
+// Reports read back, and the first wrong line of a text that is none.
+use report_read::{ReadRefusal, read_report};
 use report_text::print_report;
 use std::alloc::{AllocGlobal, Global};
 use std::process::Abort;

@@ -1,8 +1,6 @@
 // Worked runs of the generator, with numbers and offsets from the rules.
-mod driver;
-
-use crate::{Held, MultiGiven, check_members};
-use driver::{Driver, Start, members};
+use crate::multi_driver::{Driver, Start, members};
+use multi_store::{Held, MultiGiven, check_members};
 use std::process::Abort;
 use tx_events::{FullMulti, Mode, Refusal};
 

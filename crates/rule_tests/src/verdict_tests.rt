@@ -1,8 +1,7 @@
-use crate::entry::State;
-use crate::locks::{lock_number, member_lock, offset_lock, parent_lock, state_lock};
-use crate::verdict::is_seen;
+// What a session is shown under a snapshot, and where each lock stands in the order of the banks.
 use std::alloc::Global;
 use std::test::Fail;
+use tx_core::{State, is_seen, lock_number, member_lock, offset_lock, parent_lock, state_lock};
 use tx_events::{FullMulti, FullXid, IdList, Lock, Memory, Sequence, SnapData};
 
 fn ids(alloc: Global, numbers: &[u64]) -> Result<IdList, Memory> {

@@ -7,5 +7,6 @@ mod Going
 mod RoundCounts
 mod RoundSteps
 mod RoundsRun
+mod LogHeld
 mod LifeTold
 mod ToolEnds

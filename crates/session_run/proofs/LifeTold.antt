@@ -1,5 +1,5 @@
 -- What the report tells of a life that is over.
-use Rattle.std.proofs.Common.{◌≡◌, ℕ, ◌^◌, ◌<◌, Bool, List, [], ◌∷◌, ◌++◌, None, refl, sym, ap, subst, ◌∙◌}
+use Rattle.std.proofs.Common.{◌≡◌, ℕ, ◌^◌, ◌<◌, Bool, IsTrue, List, [], ◌∷◌, ◌++◌, None, refl, sym, ap, subst, ◌∙◌}
 use Rattle.std.specs.List.{flat_map}
 use Rattle.disk_core.specs.declared.log_disk.LogDisk as logs
 use Rattle.disk_core.specs.declared.page_disk.PageDisk as disks
@@ -8,6 +8,7 @@ use Rattle.hall.specs.Calls.{start_of, view}
 use Rattle.notes.specs.Lists.{at}
 use Rattle.tx_events.specs.declared.event.Event.{Event}
 use Rattle.tx_events.specs.declared.record.Rec.TheVariants as records
+use Rattle.tx_model.specs.declared.report.Life.{Life}
 use Rattle.tx_model.specs.declared.report.LifeReport.{LifeReport}
 use Rattle.tx_model.specs.declared.report.Report.{Report}
 use Rattle.life_law.specs.LawfulLife.{IsLawfulLife}
@@ -21,7 +22,7 @@ use Rattle.tx_core.specs.declared.entry.Start.{Start}
 use Rattle.tx_core.specs.Entries.{history}
 use Rattle.tx_core.specs.Locks.{log_lock}
 use Rattle.wal_core.specs.declared.wal_log.WalLog.{WalLog}
-use Rattle.wal_core.specs.LogViews.{log_end}
+use Rattle.wal_core.specs.LogViews.{log_counters, log_disk, log_down, log_end, log_first, log_next}
 use Rattle.engine_parts.specs.declared.part.Part.{Part}
 use Rattle.engine_parts.specs.Parts.{IsLogOf}
 use Rattle.engine_host.specs.declared.host.Host.{Host}
@@ -30,12 +31,16 @@ use Rattle.engine_life.specs.Lives.{life_told}
 use Rattle.session_promise.specs.Closing as closing
 use Rattle.session_promise.proofs.LawfulLives.{promises_make_life}
 use Rattle.session_run.specs.declared.rest.Resting.{Resting}
+use Rattle.session_run.specs.Records.{LogHolds}
 use Rattle.session_run.specs.Runs.{HasRun, IsRestOfReport, IsTaken, cluster_of}
+use Rattle.session_run.proofs.LogHeld.{log_holds}
 use Rattle.session_run.proofs.RoundCounts.{few_levels}
 
 module _ {H L P : Type 0} {l : logs.Ghosts L} {p : disks.Ghosts P} where
   -- what was printed of a life that ran the script is the rest of a report
-  pub rest_told : (hall : Hall H (Part L P l p) Entry Start) (host : Host L P l p) (sessions : List Resting) (s : Script) (faults : List ℕ) (front text printed : List ℕ) (events : List Event) (log : WalLog L l) → IsTaken s → start_of hall ≡ life_of (cluster_of s) faults → (r : HasRun hall host sessions s.names (rounds_of s.items) front text) → closing.IsOver p.tells (start_of hall) (view host.pass).seen r.rounds → events ≡ history (view host.pass).seen → IsLogOf (start_of hall) log (at (view host.pass).seen log_lock) → log_end log < 2 ^ 64 → printed ≡ text ++ (rest_text s.names (life_told s.base events log) None ++ end_text) → IsRestOfReport p.tells s front printed
+  pub rest_told : (hall : Hall H (Part L P l p) Entry Start) (host : Host L P l p) (sessions : List Resting) (s : Script) (faults : List ℕ) (front text printed : List ℕ) (events : List Event) (log : WalLog L l)
+      → IsTaken s → start_of hall ≡ life_of (cluster_of s) faults → (r : HasRun hall host sessions s.names (rounds_of s.items) front text) → closing.IsOver p.tells (start_of hall) (view host.pass).seen r.rounds → events ≡ history (view host.pass).seen → IsLogOf (start_of hall) log (at (view host.pass).seen log_lock) → log_end log < 2 ^ 64 → printed ≡ text ++ (rest_text s.names (life_told s.base events log) None ++ end_text)
+      → (rest : IsRestOfReport p.tells s front printed) × (IsTrue l.tells → l.images (log_disk log) (l.reads (log_disk log)) → LogHolds l rest.life.life (log_disk log))
   rest_told hall host sessions s faults front text printed events log taken begun r over told stands end exact =
       let start = start_of hall in
       let base : start.base ≡ s.base = ap (λ t. t.base) begun in
@@ -54,18 +59,23 @@ module _ {H L P : Type 0} {l : logs.Ghosts L} {p : disks.Ghosts P} where
         flushed = stands.flushed_is;
         steps = refl;
       } in
-      let lawful = promises_make_life p.tells start (view host.pass).seen r.rounds (rounds_of s.items) life begins over (few_levels s.items r.rounds r.told taken.few) r.told report end in
-      record {
+      let lawful : IsLawfulLife p.tells start.banks (rounds_of s.items) life = promises_make_life p.tells start (view host.pass).seen r.rounds (rounds_of s.items) life begins over (few_levels s.items r.rounds r.told taken.few) r.told report end in
+      let rest : IsRestOfReport p.tells s front printed = record {
         life = life;
         last = refl;
         begins = record { from = refl; base_is = refl; committed = refl; recorded = refl };
         lawful = subst (λ n. IsLawfulLife p.tells n (rounds_of s.items) life) (ap (λ t. t.banks) begun) lawful;
         exact = exact ∙ ap (λ t. t ++ (rest_text s.names life.life None ++ end_text)) r.text_is;
-      }
+      } in (
+        rest,
+        log_holds l (log_disk log) life.life start (records.Checkpoint 0 s.base) (at (view host.pass).seen log_lock) (l.faults (log_disk log)) (log_next log) (log_first log)
+            (log_counters log) (log_down log) begins.from (ap (λ t. t.logged) begun) stands refl lawful.log,
+      )
 
--- behind the text that begins a report it is a report
-pub report_whole : (tells : Bool) (s : Script) (text : List ℕ) → IsRestOfReport tells s (front_text s.base) text → (r : Report) × IsReportOf tells s r × (text ≡ report_text r)
-report_whole tells s text r =
+-- behind the text that begins a report it is a report, of the same life
+pub report_whole : (tells : Bool) (s : Script) (text : List ℕ) (F : Life → Type 0) → (r : IsRestOfReport tells s (front_text s.base) text) → F r.life.life
+    → (report : Report) × (is : IsReportOf tells s report) × (text ≡ report_text report) × F is.life.life
+report_whole tells s text F r f =
     let report : Report = record { names = s.names; lives = r.life ∷ [] } in
     let told = flat_map (step_text s.names) r.life.steps in (
       report,
@@ -74,4 +84,5 @@ report_whole tells s text r =
           ∙ ap (λ b. (front_text b ++ told) ++ (rest_text s.names r.life.life None ++ end_text)) (sym r.begins.base_is)
           ∙ ap (λ c. (front_text r.life.life.base ++ told) ++ (rest_text s.names r.life.life c ++ end_text)) (sym r.last)
           ∙ one_life s.names r.life r.begins.from,
+      f,
     )

@@ -11,12 +11,13 @@ use Rattle.tx_core.specs.declared.entry.Entry.{Entry}
 use Rattle.tx_core.specs.declared.entry.Start.{Start}
 use Rattle.engine_parts.specs.declared.part.Part.{Part}
 use Rattle.engine_parts.specs.declared.session.Session.{Session}
+use Rattle.engine_host.specs.declared.cluster.Cluster.{Cluster}
 use Rattle.engine_host.specs.declared.host.Host.{Host}
 use Rattle.engine_host.specs.Hosts.{HoldsAllBut, IsHost, IsNewSession, IsParked}
 use Rattle.session_promise.specs.Told.{ToldRound}
 use Rattle.session_run.specs.declared.rest.Resting.{Resting}
 use Rattle.session_run.specs.Rests.{IsFresh}
-use Rattle.session_run.specs.Rounds.{MayAdd}
+use Rattle.session_run.specs.Rounds.{AreResting, MayAdd}
 use Rattle.session_run.specs.GoesOn.{AreHome, GoesOn, HasRoundMore, sessions_in}
 use Rattle.session_run.specs.Runs.{HasRun}
 use Rattle.session_run.proofs.RoundCounts.{Turns, lines_short, own_short, turns_of_all}
@@ -46,6 +47,16 @@ module _ {H L P : Type 0} {l : logs.Ghosts L} {p : disks.Ghosts P} where
   ran_few hall host sessions names commands front text count r few n d inside =
       let told = (r.goes_on.so_far.each n (get_or sessions n d).session (get_session sessions n d inside)).count in
       omega (arith, told, own_short n r.rounds, lines_short commands r.rounds r.told, few)
+
+  -- behind a round the sessions are home again
+  pub home_again : (hall : Hall H (Part L P l p) Entry Start) (before after : Host L P l p) (old new : List Resting) → AreHome hall before old → IsHost hall after → after.cluster ≡ before.cluster
+      → HoldsAllBut after [] → AreResting hall after new → length new ≡ length old → AreHome hall after new
+  home_again hall before after old new home is cluster all resting count = record {
+    is_host = is;
+    all = all;
+    resting = resting;
+    count = count ∙ home.count ∙ ap (λ (k : Cluster). k.sessions) (sym cluster);
+  }
 
   -- new sessions are home
   pub new_home : (hall : Hall H (Part L P l p) Entry Start) (host : Host L P l p) (sessions : List Resting) → IsHost hall host → HoldsAllBut host [] → ((n : ℕ) (s : Session) → n < host.cluster.sessions → IsNewSession s → IsParked hall host n s) → length sessions ≡ host.cluster.sessions → All IsFresh sessions → AreHome hall host sessions

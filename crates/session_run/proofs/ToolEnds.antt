@@ -1,42 +1,42 @@
 -- What the endings of a run say.
-use Rattle.std.proofs.Common.{◌≡◌, ℕ, ◌⊎◌, ◌<◌, ◌≤◌, List, [], ◌∷◌, ◌++◌, Bool, Contains, Option, Some, Ok, codes, refl, sym, subst, arith, inl, inr, ⊎_elim, take}
-use Rattle.std.specs.Io.KnownBytes.{Appends, Consumes, IsAtEnd}
+use Rattle.std.proofs.Common.{◌≡◌, ◌≢◌, ◌⊎◌, ℕ, ◌≤◌, List, [], ◌∷◌, ◌++◌, Bool, Option, codes, refl, sym, subst, ◌∙◌, arith, inl, inr, ⊎_elim}
+use Rattle.std.specs.Io.KnownBytes.{Appends}
 use Rattle.disk_core.specs.declared.log_disk.LogDisk as logs
 use Rattle.disk_core.specs.declared.page_disk.PageDisk as disks
 use Rattle.disk_core.specs.declared.media.Volumes.{Volumes}
+use Rattle.tx_model.specs.declared.report.Life.{Life}
 use Rattle.tx_model.specs.declared.report.Report.{Report}
 use Rattle.report_text.specs.ReportText.{report_text}
 use Rattle.session_lang.specs.declared.script.Script.{Script}
-use Rattle.run_law.specs.Tool.{IsAnswer, IsReportOf}
+use Rattle.run_law.specs.Tool.{IsAnswer, IsRefused, IsReportOf, IsWholeRun}
 use Rattle.script_source.specs.declared.script.NoScript.{NoScript}
 use Rattle.script_source.specs.declared.script.NoScript.TheVariants as no_scripts
 use Rattle.script_source.specs.Sources.{HasScript, IsNoScriptOf}
 use Rattle.engine_life.specs.declared.refusal.NoLife.{NoLife}
 use Rattle.engine_life.specs.declared.refusal.NoLife.TheVariants as no_lives
-use Rattle.session_run.specs.declared.tool.Ending.{Ending}
-use Rattle.session_run.specs.declared.tool.Ending.TheVariants as endings
-use Rattle.session_run.specs.Tool.{Ends, HoldsFront, IsLastText, IsUnrun, TellsRefusal, last_lines, unread_by}
+use Rattle.engine_life.specs.Refusals.{HasDeviceFailed}
+use Rattle.tx_io.specs.Causes.{Rose}
+use Rattle.session_run.specs.declared.ending.Ending.{Ending}
+use Rattle.session_run.specs.declared.ending.Ending.TheVariants as endings
+use Rattle.session_run.specs.Records.{LeavesRecords}
+use Rattle.session_run.specs.Tool.{Ends, IsUnread, IsUnrun, TellsRefusal, damage_text, status_of, text_of, unread_by}
 
 -- the script ran, and this is its report
-pub answers : (tells : Bool) (left left' : Option (List ℕ)) (s : Script) (text : List ℕ) → HasScript left left' s → (r : Report) × IsReportOf tells s r × (text ≡ report_text r) → IsAnswer tells left left' text
-answers tells left left' s text h r = record {
-  bytes = h.bytes;
-  read = h.read;
-  ended = h.ended;
-  script = s;
-  spelled = h.spelled;
-  report = r.0;
-  lawful = r.1;
-  exact = r.2;
-}
-
--- a front of a last line
-pub holds_line : (tells : Bool) (left left' held held' : Option (List ℕ)) (line : List ℕ) → Contains last_lines line → (n : ℕ) × Appends held held' (take n line) → HoldsFront tells left left' held held'
-holds_line tells left left' held held' line is f = record { text = line; whole = inr (inr (inr is)); count = f.0; front = f.1 }
-
--- what was written, where the sink didn't fail
-pub written : (status is : ℕ) (A B : Type 0) → ((status ≡ is) × A) ⊎ ((status ≡ 4) × B) → (status ≡ 4 → ⊥) → A
-written status is A B k n = ⊎_elim (λ (a : (status ≡ is) × A). a.1) (λ (b : (status ≡ 4) × B). absurd (n b.0)) k
+pub answers : (tells : Bool) (left left' : Option (List ℕ)) (s : Script) (text : List ℕ) (F : Life → Type 0) → HasScript left left' s
+    → (r : Report) × (is : IsReportOf tells s r) × (text ≡ report_text r) × F is.life.life → (a : IsAnswer tells left left' text) × F a.lawful.life.life
+answers tells left left' s text F h r = (
+  record {
+    bytes = h.bytes;
+    read = h.read;
+    ended = h.ended;
+    script = s;
+    spelled = h.spelled;
+    report = r.0;
+    lawful = r.1;
+    exact = r.2;
+  },
+  r.3,
+)
 
 module _ {L P : Type 0} (l : logs.Ghosts L) (p : disks.Ghosts P) where
   pub unread_ends : (left left' : Option (List ℕ)) (faults faults' before now : ℕ) (gives : Volumes L P → Type 0) (refusal : NoScript) → IsNoScriptOf left left' faults faults' refusal → Ends l p left left' faults faults' before now gives (unread_by refusal)
@@ -53,3 +53,122 @@ module _ {L P : Type 0} (l : logs.Ghosts L) (p : disks.Ghosts P) where
   unopened_ends left left' faults faults' before now gives refusal (endings.Damaged text) t u = (t.0, t.1, subst (IsUnrun l p left left' before now gives) t.2 u)
   unopened_ends left left' faults faults' before now gives refusal endings.Full t u = subst (IsUnrun l p left left' before now gives) t u
   unopened_ends left left' faults faults' before now gives refusal endings.OldLog t u = subst (IsUnrun l p left left' before now gives) t u
+
+-- ---- by the status
+
+pub no_words : (e : Ending) → status_of e ≡ 2 → ⊥
+no_words (endings.Report text) s = omega (arith, s)
+no_words e s = omega (arith, s)
+
+pub no_fault : (e : Ending) → status_of e ≡ 4 → ⊥
+no_fault (endings.Report text) s = omega (arith, s)
+no_fault e s = omega (arith, s)
+
+pub known_status : (e : Ending) → (status_of e ≤ 10) × (status_of e ≢ 8)
+known_status (endings.Report text) = (omega arith, λ s. omega (arith, s))
+known_status e = (omega arith, λ s. omega (arith, s))
+
+pub is_unread : (e : Ending) → (status_of e ≡ 1) ⊎ (status_of e ≡ 3) → IsUnread e
+is_unread (endings.NoScript text) s = tt
+is_unread endings.ReadFault s = tt
+is_unread e s = ⊎_elim (λ (one : status_of e ≡ 1). omega (arith, one)) (λ (three : status_of e ≡ 3). omega (arith, three)) s
+
+-- the ending's text was written with its status, or the sink failed
+abbrev pub Told : (List ℕ → Type 0) → Type 0 → ℕ → Ending → Type 0
+Told F B status e = ((status ≡ status_of e) × F (text_of e)) ⊎ ((status ≡ 4) × B)
+
+pub told_as : (F : List ℕ → Type 0) (B : Type 0) (status is : ℕ) (text : List ℕ) (e : Ending) → is ≡ status_of e → text ≡ text_of e
+    → ((status ≡ is) × F text) ⊎ ((status ≡ 4) × B) → Told F B status e
+told_as F B status is text e is_status is_text k = ⊎_elim
+    (λ (a : (status ≡ is) × F text). inl (a.0 ∙ is_status, subst F is_text a.1))
+    (λ (b : (status ≡ 4) × B). inr b) k
+
+module _ (F : List ℕ → Type 0) (B : Type 0) (status : ℕ) (e : Ending) (told : Told F B status e) where
+  written : (n : ℕ) → status ≡ n → n ≢ 4 → (status_of e ≡ n) × F (text_of e)
+  written n s other = ⊎_elim
+      (λ (a : (status ≡ status_of e) × F (text_of e)). (sym a.0 ∙ s, a.1))
+      (λ (b : (status ≡ 4) × B). absurd (other (sym s ∙ b.0))) told
+
+  -- a fault is the sink's
+  fault_by : status ≡ 4 → B
+  fault_by s = ⊎_elim
+      (λ (a : (status ≡ status_of e) × F (text_of e)). absurd (no_fault e (sym a.0 ∙ s)))
+      (λ (b : (status ≡ 4) × B). b.1) told
+
+  known : (status ≤ 10) × (status ≢ 8)
+  known = ⊎_elim
+      (λ (a : (status ≡ status_of e) × F (text_of e)). subst (λ n. (n ≤ 10) × (n ≢ 8)) (sym a.0) (known_status e))
+      (λ (b : (status ≡ 4) × B). subst (λ n. (n ≤ 10) × (n ≢ 8)) (sym b.0) (omega arith, λ q. omega (arith, q))) told
+
+module _ {L P : Type 0} (l : logs.Ghosts L) (p : disks.Ghosts P) (left left' held held' : Option (List ℕ)) (faults faults' before now : ℕ) (gives : Volumes L P → Type 0) where
+  abbrev pub Ended : Ending → Type 0
+  Ended e = Ends l p left left' faults faults' before now gives e
+
+  abbrev pub Wrote : Ending → Type 0
+  Wrote e = Appends held held' (text_of e)
+
+  -- what the ending of each status says
+  pub record Says (B : Type 0) (status : ℕ) (e : Ending) : Type 0 where
+    pub done : status ≡ 0 → (run : IsWholeRun p.tells left left' held held') × LeavesRecords l gives run.answer.lawful.life.life
+    pub script : status ≡ 1 → IsRefused left left' held held'
+    pub words : status ≡ 2 → ⊥
+    pub read : status ≡ 3 → Rose faults faults' × Appends held held' (codes "read-fault" ++ 10 ∷ [])
+    pub write : status ≡ 4 → B
+    pub device : status ≡ 5 → HasDeviceFailed l p before now gives × Appends held held' (codes "device" ++ 10 ∷ [])
+    pub memory : status ≡ 6 → Appends held held' (codes "memory" ++ 10 ∷ [])
+    pub damaged : status ≡ 7 → (at : ℕ) × Appends held held' (damage_text at) × IsUnrun l p left left' before now gives (no_lives.Damaged at)
+    pub full : status ≡ 9 → IsUnrun l p left left' before now gives no_lives.Full × Appends held held' (codes "log-full" ++ 10 ∷ [])
+    pub old_log : status ≡ 10 → IsUnrun l p left left' before now gives no_lives.OldLog × Appends held held' (codes "old-log" ++ 10 ∷ [])
+    pub statuses : (status ≤ 10) × (status ≢ 8)
+    pub unread : (status ≡ 1) ⊎ (status ≡ 3) → IsUnread e
+
+  done : (e : Ending) → Ended e → (status_of e ≡ 0) × Wrote e → (run : IsWholeRun p.tells left left' held held') × LeavesRecords l gives run.answer.lawful.life.life
+  done (endings.Report text) k w = (record { text = text.items; answer = k.0; written = w.1 }, k.1)
+  done e k w = absurd (omega (arith, w.0))
+
+  script : (e : Ending) → Ended e → (status_of e ≡ 1) × Wrote e → IsRefused left left' held held'
+  script (endings.NoScript text) k w = record { text = text.items; refusal = k; written = w.1 }
+  script e k w = absurd (omega (arith, w.0))
+
+  read : (e : Ending) → Ended e → (status_of e ≡ 3) × Wrote e → Rose faults faults' × Appends held held' (codes "read-fault" ++ 10 ∷ [])
+  read endings.ReadFault k w = (k, w.1)
+  read e k w = absurd (omega (arith, w.0))
+
+  device : (e : Ending) → Ended e → (status_of e ≡ 5) × Wrote e → HasDeviceFailed l p before now gives × Appends held held' (codes "device" ++ 10 ∷ [])
+  device endings.Device k w = (k, w.1)
+  device e k w = absurd (omega (arith, w.0))
+
+  memory : (e : Ending) → (status_of e ≡ 6) × Wrote e → Appends held held' (codes "memory" ++ 10 ∷ [])
+  memory endings.Memory w = w.1
+  memory e w = absurd (omega (arith, w.0))
+
+  damaged : (e : Ending) → Ended e → (status_of e ≡ 7) × Wrote e → (at : ℕ) × Appends held held' (damage_text at) × IsUnrun l p left left' before now gives (no_lives.Damaged at)
+  damaged (endings.Damaged text) k w = (k.0, subst (Appends held held') k.1 w.1, k.2)
+  damaged e k w = absurd (omega (arith, w.0))
+
+  full : (e : Ending) → Ended e → (status_of e ≡ 9) × Wrote e → IsUnrun l p left left' before now gives no_lives.Full × Appends held held' (codes "log-full" ++ 10 ∷ [])
+  full endings.Full k w = (k, w.1)
+  full e k w = absurd (omega (arith, w.0))
+
+  old_log : (e : Ending) → Ended e → (status_of e ≡ 10) × Wrote e → IsUnrun l p left left' before now gives no_lives.OldLog × Appends held held' (codes "old-log" ++ 10 ∷ [])
+  old_log endings.OldLog k w = (k, w.1)
+  old_log e k w = absurd (omega (arith, w.0))
+
+  pub says : (B : Type 0) (status : ℕ) (e : Ending) → Ended e → Told (Appends held held') B status e → Says B status e
+  says B status e k told =
+      let at : (n : ℕ) → n ≢ 4 → status ≡ n → (status_of e ≡ n) × Wrote e = λ n other s. written (Appends held held') B status e told n s other in record {
+        done = λ s. done e k (at 0 (λ q. omega (arith, q)) s);
+        script = λ s. script e k (at 1 (λ q. omega (arith, q)) s);
+        words = λ s. no_words e (at 2 (λ q. omega (arith, q)) s).0;
+        read = λ s. read e k (at 3 (λ q. omega (arith, q)) s);
+        write = fault_by (Appends held held') B status e told;
+        device = λ s. device e k (at 5 (λ q. omega (arith, q)) s);
+        memory = λ s. memory e (at 6 (λ q. omega (arith, q)) s);
+        damaged = λ s. damaged e k (at 7 (λ q. omega (arith, q)) s);
+        full = λ s. full e k (at 9 (λ q. omega (arith, q)) s);
+        old_log = λ s. old_log e k (at 10 (λ q. omega (arith, q)) s);
+        statuses = known (Appends held held') B status e told;
+        unread = ⊎_elim
+            (λ (s : status ≡ 1). is_unread e (inl (at 1 (λ q. omega (arith, q)) s).0))
+            (λ (s : status ≡ 3). is_unread e (inr (at 3 (λ q. omega (arith, q)) s).0));
+      }

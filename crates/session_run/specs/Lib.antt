@@ -2,5 +2,6 @@ pub mod Turns
 pub mod Rests
 pub mod Rounds
 pub mod GoesOn
+pub mod Records
 pub mod Runs
 pub mod Tool

@@ -1,5 +1,5 @@
--- Why a run of the tool has no report.
-use Rattle.std.specs.Prelude.{◌≡◌, ℕ, Bool, List, [], ◌∷◌, ◌++◌, ◌⊎◌, Contains, Option, codes, take}
+-- How a run of the tool ends.
+use Rattle.std.specs.Prelude.{◌≡◌, ℕ, List, [], ◌∷◌, ◌++◌, ◌⊎◌, Option, codes, take}
 use Rattle.std.specs.Fmt.{decimal}
 use Rattle.std.specs.Io.KnownBytes.{Appends}
 use Rattle.disk_core.specs.declared.log_disk.LogDisk as logs
@@ -7,7 +7,7 @@ use Rattle.disk_core.specs.declared.page_disk.PageDisk as disks
 use Rattle.disk_core.specs.declared.media.Volumes.{Volumes}
 use Rattle.report_text.specs.Words.{line_text}
 use Rattle.session_lang.specs.declared.script.Script.{Script}
-use Rattle.run_law.specs.Tool.{IsAnswer, IsNoScript}
+use Rattle.run_law.specs.Tool.{IsAnswer, IsNoScript, IsRun}
 use Rattle.tx_io.specs.Causes.{Rose}
 use Rattle.script_source.specs.declared.script.NoScript.{NoScript}
 use Rattle.script_source.specs.declared.script.NoScript.TheVariants as no_scripts
@@ -15,8 +15,9 @@ use Rattle.script_source.specs.Sources.{HasScript}
 use Rattle.engine_life.specs.declared.refusal.NoLife.{NoLife}
 use Rattle.engine_life.specs.declared.refusal.NoLife.TheVariants as no_lives
 use Rattle.engine_life.specs.Refusals.{HasDeviceFailed, IsUnopened}
-use Rattle.session_run.specs.declared.tool.Ending.{Ending}
-use Rattle.session_run.specs.declared.tool.Ending.TheVariants as endings
+use Rattle.session_run.specs.declared.ending.Ending.{Ending}
+use Rattle.session_run.specs.declared.ending.Ending.TheVariants as endings
+use Rattle.session_run.specs.Records.{LeavesRecords}
 use Rattle.session_run.specs.Runs.{cluster_of}
 
 -- the line that tells at which place the log is damaged
@@ -32,7 +33,8 @@ module _ {L P : Type 0} (l : logs.Ghosts L) (p : disks.Ghosts P) where
 
   -- what each ending says: of the source, before and after, with its counts of faults, and so of the media
   abbrev pub Ends : Option (List ℕ) → Option (List ℕ) → ℕ → ℕ → ℕ → ℕ → (Volumes L P → Type 0) → Ending → Type 0
-  Ends left left' faults faults' before now gives (endings.Report text) = IsAnswer p.tells left left' text.items
+  Ends left left' faults faults' before now gives (endings.Report text) =
+      (answer : IsAnswer p.tells left left' text.items) × LeavesRecords l gives answer.lawful.life.life
   Ends left left' faults faults' before now gives (endings.NoScript text) = IsNoScript left left' text.items
   Ends left left' faults faults' before now gives endings.ReadFault = Rose faults faults'
   Ends left left' faults faults' before now gives endings.Memory = Unit {0}
@@ -65,21 +67,39 @@ IsUnread (endings.NoScript text) = Unit {0}
 IsUnread endings.ReadFault = Unit {0}
 IsUnread ending = ⊥
 
--- the other lines that end a run without a report
-abbrev pub last_lines : List (List ℕ)
-last_lines =
-    (codes "words" ++ 10 ∷ []) ∷ (codes "read-fault" ++ 10 ∷ []) ∷ (codes "memory" ++ 10 ∷ [])
-    ∷ (codes "device" ++ 10 ∷ []) ∷ (codes "log-full" ++ 10 ∷ []) ∷ (codes "old-log" ++ 10 ∷ []) ∷ []
+-- the status that the tool answers
+abbrev pub status_of : Ending → ℕ
+status_of (endings.Report text) = 0
+status_of (endings.NoScript text) = 1
+status_of endings.ReadFault = 3
+status_of endings.Device = 5
+status_of endings.Memory = 6
+status_of (endings.Damaged text) = 7
+status_of endings.Full = 9
+status_of endings.OldLog = 10
 
--- a text that a run ends with
-abbrev pub IsLastText : Bool → Option (List ℕ) → Option (List ℕ) → List ℕ → Type 0
-IsLastText tells left left' text =
-    IsAnswer tells left left' text
-    ⊎ (IsNoScript left left' text ⊎ (((at : ℕ) × (text ≡ damage_text at)) ⊎ Contains last_lines text))
+-- the text that it writes
+abbrev pub text_of : Ending → List ℕ
+text_of (endings.Report text) = text.items
+text_of (endings.NoScript text) = text.items
+text_of endings.ReadFault = codes "read-fault" ++ 10 ∷ []
+text_of endings.Device = codes "device" ++ 10 ∷ []
+text_of endings.Memory = codes "memory" ++ 10 ∷ []
+text_of (endings.Damaged text) = text.items
+text_of endings.Full = codes "log-full" ++ 10 ∷ []
+text_of endings.OldLog = codes "old-log" ++ 10 ∷ []
 
--- The sink holds a front of such a text more.
-pub record HoldsFront (tells : Bool) (left left' held held' : Option (List ℕ)) : Type 0 where
-  pub text : List ℕ
-  pub whole : IsLastText tells left left' text
-  pub count : ℕ
-  pub front : Appends held held' (take count text)
+module _ {L P : Type 0} (l : logs.Ghosts L) (p : disks.Ghosts P) where
+  -- the text that a run ends with: the line that refuses its words, or that of its ending
+  abbrev pub IsLastText : List (List ℕ) → Option (List ℕ) → Option (List ℕ) → ℕ → ℕ → ℕ → ℕ → (Volumes L P → Type 0) → List ℕ → Type 0
+  IsLastText words left left' faults faults' before now gives text =
+      ((IsRun words → ⊥) × (text ≡ codes "words" ++ 10 ∷ []))
+      ⊎ (IsRun words × (e : Ending) × Ends l p left left' faults faults' before now gives e × (text ≡ text_of e))
+
+  -- The sink holds a front of such a text more.
+  pub record HoldsFront (words : List (List ℕ)) (left left' : Option (List ℕ)) (faults faults' before now : ℕ)
+      (gives : Volumes L P → Type 0) (held held' : Option (List ℕ)) : Type 0 where
+    pub text : List ℕ
+    pub whole : IsLastText words left left' faults faults' before now gives text
+    pub count : ℕ
+    pub front : Appends held held' (take count text)

@@ -3,6 +3,7 @@
 #![tactic(auto)]
 
 mod commands;
+mod ending;
 mod laws;
 mod member;
 mod rest;

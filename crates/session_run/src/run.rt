@@ -6,6 +6,8 @@ ghost use Rattle.run_law.specs.Tool.{IsReportOf};
 ghost use Rattle.engine_host.specs.Opening.{IsCluster};
 ghost use Rattle.engine_life.specs.Lives.{IsNewLife};
 ghost use Rattle.engine_life.specs.Refusals.{IsUnopened};
+ghost use Rattle.wal_core.specs.LogViews.{log_disk};
+ghost use Rattle.session_run.specs.Records.{LeavesRecords, LogHolds};
 ghost use Rattle.session_run.specs.Runs.{IsRestOfReport, IsTaken, cluster_of};
 
 use crate::laws::life_ends;
@@ -19,6 +21,7 @@ use std::alloc::Global;
 use std::sync::Wait;
 use std::thread::Threads;
 use tx_model::{Memory, NameList};
+use wal_core::WalLog;
 
 /// The cluster that a script's header tells of.
 fn cluster_of(script: &Script) -> Cluster
@@ -38,6 +41,11 @@ fn has_64_bits(_place: u64)
     ensures { _place < 2 ^ 64 }
 {}
 
+// A log's volume as it reads is one of its images.
+fn reads_an_image<L: LogDisk>(_log: &WalLog<L>)
+    ensures { IsTrue L.tells → L.images (log_disk _log.now) (L.reads (log_disk _log.now)) }
+{}
+
 /// Runs a script in a life that begins, and closes the life.
 fn run_life<
     R: Threads + Wait + Sync,
@@ -53,7 +61,8 @@ fn run_life<
 ) -> (ClosedLife<L, P>, Result<(), Memory>)
     requires taken { IsTaken script.now }
     requires new { IsNewLife (cluster_of script.now) life }
-    ensures report { OnOk result.1 (IsRestOfReport P.tells script.now text.old text.new) }
+    ensures report { OnOk result.1 ((rest : IsRestOfReport P.tells script.now text.old text.new)
+        × (IsTrue L.tells → LogHolds L.LogDisk rest.life.life (log_disk result.0.log))) }
 {
     let mut life = life;
     life_ends(&life.hall);
@@ -63,6 +72,7 @@ fn run_life<
         return (closed, Err(Memory));
     };
     has_64_bits(closed.log.end());
+    reads_an_image(&closed.log);
     let ended = end_report(text, &script.names, closed.events.items(), &closed.log);
     (closed, ended)
 }
@@ -92,7 +102,8 @@ where
     requires taken { IsTaken script.now }
     requires idle { IsTrue (M.is_idle media.old) }
     requires new { IsTrue (M.is_new media.old) }
-    ensures report { IfOk result (λ text. (r : Report) × IsReportOf M.Pages.tells script.now r × (text.items ≡ report_text r)) }
+    ensures report { IfOk result (λ text. (r : Report) × (is : IsReportOf M.Pages.tells script.now r)
+        × (text.items ≡ report_text r) × LeavesRecords M.Log.LogDisk (M.gives media.new) is.life.life) }
     ensures idle { IsTrue (M.is_idle media.new) }
     ensures count { M.faults media.old ≤ M.faults media.new }
     ensures refused { IfErr result (λ refusal. IsUnopened M.Log.LogDisk M.Pages.PageDisk (cluster_of script.now)

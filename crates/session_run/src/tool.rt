@@ -1,41 +1,21 @@
 //! The tool's top call, with the main guarantee (`docs/GUARANTEES.md`).
-ghost use Rattle.std.specs.Prelude.{◌≡◌, ◌≢◌, ◌≤◌, ◌⊎◌, ◌↔◌, ◌++◌, ◌∷◌, ℕ, [], IfOk, IsTrue, codes, length, map, string_bytes, take};
+ghost use Rattle.std.specs.Prelude.{◌≡◌, ◌≢◌, ◌≤◌, ◌⊎◌, ◌↔◌, ◌++◌, ◌∷◌, ℕ, [], IsTrue, codes, map, string_bytes, take};
 ghost use Rattle.std.specs.Io.KnownBytes.{Appends};
 ghost use Rattle.tx_io.specs.Causes.{Rose};
 ghost use Rattle.engine_life.specs.declared.refusal.NoLife.TheVariants as no_lives;
 ghost use Rattle.engine_life.specs.Refusals.{HasDeviceFailed};
 ghost use Rattle.run_law.specs.Tool.{IsRefused, IsRun, IsWholeRun, ReadsUpTo, most_read};
-ghost use Rattle.session_run.specs.Tool.{Ends, HoldsFront, IsUnread, IsUnrun, TellsRefusal, damage_text, unread_by};
+ghost use Rattle.session_run.specs.Records.{LeavesRecords};
+ghost use Rattle.session_run.specs.Tool.{Ends, HoldsFront, IsUnread, IsUnrun, damage_text, status_of, text_of};
 
+use crate::ending::{Ending, unopened, unread};
 use crate::run::run_script;
 use disk_core::Media;
-use engine_life::NoLife;
-use report_text::Text;
-use script_source::{NoScript, take_script, write_all};
+use script_source::{take_script, write_all};
 use std::alloc::Global;
 use std::sync::Wait;
 use std::thread::Threads;
 use tx_io::{Failed, Sink, Source};
-use tx_model::Memory;
-
-/// How a run ends.
-#[derive(Drop)]
-enum Ending {
-    /// The report's text.
-    Report(Vec<u8>),
-    /// The line that tells where the bytes are refused, and why.
-    NoScript(Vec<u8>),
-    ReadFault,
-    Memory,
-    /// The media or a volume failed before the life began.
-    Device,
-    /// The line that tells at which place the log is damaged.
-    Damaged(Vec<u8>),
-    /// The log has no room for the first checkpoint.
-    Full,
-    /// The log has records.
-    OldLog,
-}
 
 fn is_run_word(word: &String) -> bool
     ensures { IsTrue result ↔ (string_bytes word.now ≡ codes "run") }
@@ -49,45 +29,6 @@ fn is_run(words: &[String]) -> bool
     match words {
         [word] => is_run_word(word),
         _ => false,
-    }
-}
-
-/// The line that tells at which place the log is damaged.
-#[tactic(auto, unfolding(report_text::specs::Words::line_text, report_text::specs::Words::more))]
-fn damage_text(alloc: Global, at: u64) -> Result<Vec<u8>, Memory>
-    ensures { IfOk result (λ text. text.items ≡ damage_text at) }
-{
-    let mut text = Text::new(alloc);
-    text.put(b"damaged")?;
-    text.number(at)?;
-    text.end_line()?;
-    Ok(text.into_bytes())
-}
-
-/// The ending where the source gave no script.
-fn unread(refusal: NoScript) -> Ending
-    ensures { result ≡ unread_by refusal }
-{
-    match refusal {
-        NoScript::Refused(text) => Ending::NoScript(text),
-        NoScript::ReadFault => Ending::ReadFault,
-        NoScript::Memory => Ending::Memory,
-    }
-}
-
-/// The ending where no life was opened.
-fn unopened(alloc: Global, refusal: NoLife) -> Ending
-    ensures { TellsRefusal refusal result }
-{
-    match refusal {
-        NoLife::Device => Ending::Device,
-        NoLife::Memory => Ending::Memory,
-        NoLife::Full => Ending::Full,
-        NoLife::OldLog => Ending::OldLog,
-        NoLife::Damaged { at } => match damage_text(alloc, at) {
-            Ok(text) => Ending::Damaged(text),
-            Err(Memory) => Ending::Memory,
-        },
     }
 }
 
@@ -134,6 +75,15 @@ fn finish<K: Sink>(sink: &mut K, text: &[u8], status: u8) -> u8
     }
 }
 
+/// Writes the text of an ending, and answers its status, or 4 where the sink fails.
+fn put_ending<K: Sink>(sink: &mut K, ending: Ending) -> u8
+    ensures ends { ((result ≡ status_of ending) × Appends (K.held sink.old) (K.held sink.new) (text_of ending))
+        ⊎ ((result ≡ 4) × Rose (K.faults sink.old) (K.faults sink.new)) }
+    ensures front { (n : ℕ) × Appends (K.held sink.old) (K.held sink.new) (take n (text_of ending)) }
+{
+    finish(sink, ending.text(), ending.status())
+}
+
 /// Says that the words of the command line found no memory, by the line `memory`. Answers status 6, or 4 where the sink
 /// failed.
 pub fn say_out_of_memory<K: Sink>(sink: &mut K) -> u8
@@ -166,9 +116,10 @@ where
     requires new { IsTrue (M.is_new media.old) }
 
     // The main guarantee: the bytes written report one legal history, each command once and in order, and each
-    // reply lawful.
+    // reply lawful. The media holds a log with the records that the report tells.
     ensures done { result ≡ 0 → IsRun (map string_bytes words.now)
-        × IsWholeRun M.Pages.tells (S.left source.old) (S.left source.new) (K.held sink.old) (K.held sink.new) }
+        × (run : IsWholeRun M.Pages.tells (S.left source.old) (S.left source.new) (K.held sink.old) (K.held sink.new))
+        × LeavesRecords M.Log.LogDisk (M.gives media.new) run.answer.lawful.life.life }
 
     // Why it ends otherwise.
     ensures script { result ≡ 1 → IsRun (map string_bytes words.now)
@@ -177,8 +128,9 @@ where
     ensures words_only { (IsRun (map string_bytes words.now) → ⊥) → (result ≡ 2) ⊎ (result ≡ 4) }
     ensures read { result ≡ 3 → Rose (S.faults source.old) (S.faults source.new) }
     ensures write { result ≡ 4 → Rose (K.faults sink.old) (K.faults sink.new) }
-    ensures front { result ≡ 4 → HoldsFront M.Pages.tells
-        (S.left source.old) (S.left source.new) (K.held sink.old) (K.held sink.new) }
+    ensures front { result ≡ 4 → HoldsFront M.Log.LogDisk M.Pages.PageDisk (map string_bytes words.now)
+        (S.left source.old) (S.left source.new) (S.faults source.old) (S.faults source.new)
+        (M.faults media.old) (M.faults media.new) (M.gives media.new) (K.held sink.old) (K.held sink.new) }
     ensures device { result ≡ 5 → HasDeviceFailed M.Log.LogDisk M.Pages.PageDisk
         (M.faults media.old) (M.faults media.new) (M.gives media.new) }
     ensures damaged { result ≡ 7 → (at : ℕ) × Appends (K.held sink.old) (K.held sink.new) (damage_text at)
@@ -209,14 +161,6 @@ where
     if !is_run(words) {
         return finish(sink, b"words\n", 2);
     }
-    match work(rt, alloc, source, media, threads) {
-        Ending::Report(text) => finish(sink, text.as_slice(), 0),
-        Ending::NoScript(text) => finish(sink, text.as_slice(), 1),
-        Ending::ReadFault => finish(sink, b"read-fault\n", 3),
-        Ending::Device => finish(sink, b"device\n", 5),
-        Ending::Memory => finish(sink, b"memory\n", 6),
-        Ending::Damaged(text) => finish(sink, text.as_slice(), 7),
-        Ending::Full => finish(sink, b"log-full\n", 9),
-        Ending::OldLog => finish(sink, b"old-log\n", 10),
-    }
+    let ending = work(rt, alloc, source, media, threads);
+    put_ending(sink, ending)
 }

@@ -1,0 +1,101 @@
+//! How a run of the tool ends, with the text that it writes then.
+ghost use Rattle.std.specs.Prelude.{◌≡◌, IfOk};
+ghost use Rattle.session_run.specs.Tool.{TellsRefusal, damage_text, status_of, text_of, unread_by};
+
+use engine_life::NoLife;
+use report_text::Text;
+use script_source::NoScript;
+use std::alloc::Global;
+use tx_model::Memory;
+
+/// How a run ends.
+#[derive(Drop)]
+pub enum Ending {
+    /// The report's text.
+    Report(Vec<u8>),
+    /// The line that tells where the bytes are refused, and why.
+    NoScript(Vec<u8>),
+    ReadFault,
+    Memory,
+    /// The media or a volume failed before the life began.
+    Device,
+    /// The line that tells at which place the log is damaged.
+    Damaged(Vec<u8>),
+    /// The log has no room for the first checkpoint.
+    Full,
+    /// The log has records.
+    OldLog,
+}
+
+impl Ending {
+    /// The status that the tool answers.
+    pub fn status(&self) -> u8
+        ensures { result ≡ status_of self.now }
+    {
+        match self {
+            Ending::Report(_) => 0,
+            Ending::NoScript(_) => 1,
+            Ending::ReadFault => 3,
+            Ending::Device => 5,
+            Ending::Memory => 6,
+            Ending::Damaged(_) => 7,
+            Ending::Full => 9,
+            Ending::OldLog => 10,
+        }
+    }
+
+    /// The text that it writes.
+    pub fn text(&self) -> &[u8]
+        ensures { result.now ≡ text_of self.now }
+    {
+        match self {
+            Ending::Report(text) => text.as_slice(),
+            Ending::NoScript(text) => text.as_slice(),
+            Ending::ReadFault => b"read-fault\n",
+            Ending::Device => b"device\n",
+            Ending::Memory => b"memory\n",
+            Ending::Damaged(text) => text.as_slice(),
+            Ending::Full => b"log-full\n",
+            Ending::OldLog => b"old-log\n",
+        }
+    }
+}
+
+/// The line that tells at which place the log is damaged.
+#[tactic(auto, unfolding(report_text::specs::Words::line_text, report_text::specs::Words::more))]
+fn damage_text(alloc: Global, at: u64) -> Result<Vec<u8>, Memory>
+    ensures { IfOk result (λ text. text.items ≡ damage_text at) }
+{
+    let mut text = Text::new(alloc);
+    text.put(b"damaged")?;
+    text.number(at)?;
+    text.end_line()?;
+    Ok(text.into_bytes())
+}
+
+/// The ending where the source gave no script.
+pub fn unread(refusal: NoScript) -> Ending
+    ensures { result ≡ unread_by refusal }
+{
+    match refusal {
+        NoScript::Refused(text) => Ending::NoScript(text),
+        NoScript::ReadFault => Ending::ReadFault,
+        NoScript::Memory => Ending::Memory,
+    }
+}
+
+/// The ending where no life was opened.
+pub fn unopened(alloc: Global, refusal: NoLife) -> Ending
+    ensures { TellsRefusal refusal result }
+{
+    match refusal {
+        NoLife::Device => Ending::Device,
+        NoLife::Memory => Ending::Memory,
+        NoLife::Full => Ending::Full,
+        NoLife::OldLog => Ending::OldLog,
+        NoLife::Damaged { at } => match damage_text(alloc, at) {
+            Ok(text) => Ending::Damaged(text),
+            Err(Memory) => Ending::Memory,
+        },
+    }
+}

@@ -152,11 +152,12 @@ end
     )
 }
 
+/// None of the source's bytes are read.
 #[test]
 fn other_words_are_refused(rt: HostRuntime) -> Result<(), Fail> {
     let alloc = rt.alloc();
     check_run(&rt, "runs", "", Vec::new(alloc), 100, (2, "words\n"))?;
-    let mut source = MemSource::new(Vec::new(alloc), Vec::new(alloc));
+    let mut source = MemSource::new(Vec::from_slice(alloc, b"a begin\n")?, Vec::new(alloc));
     let mut sink = MemSink::new(alloc, 100, Vec::new(alloc))?;
     let two = [
         String::from_str(alloc, "run")?,
@@ -164,6 +165,8 @@ fn other_words_are_refused(rt: HostRuntime) -> Result<(), Fail> {
     ];
     assert_eq!(rt; status_of(&rt, &two, &mut source, &mut sink), 2);
     assert_eq!(rt; sink.held(), b"words\n".as_slice());
+    let mut unread = [0; 16];
+    assert_eq!(rt; source.read(&mut unread), Ok(8));
     Ok(())
 }
 

@@ -1,7 +1,8 @@
-use Rattle.std.proofs.Common.{◌∙◌}
+use Rattle.std.proofs.Common.{refl, ◌∙◌}
 use Rattle.hall.specs.Calls.{start_of, view}
 use Rattle.notes.specs.Lists.{at as list_at}
 use Rattle.engine_parts.specs.declared.part.Part.TheVariants as parts
+use Rattle.engine_life.proofs.Counts.{all_told}
 use Rattle.engine_life.proofs.closed.close_life.Goals as goal
 
 pub take_apart-log-requires-clause-stand : goal.take_apart-log-requires-clause-stand
@@ -18,3 +19,9 @@ pub returns-clause-log : goal.returns-clause-log
 returns-clause-log g c =
     let taken = c.take_apart-log in
     (c.close-parts.ensures.stand 0 (parts.Log taken.result.log) taken.ensures.log).1
+
+pub returns-clause-counted : goal.returns-clause-counted
+returns-clause-counted g c =
+    let taken = c.take_apart-log in
+    all_told (start_of c.args.life.hall) (view c.args.life.host.pass).seen c.close-parts.result.locks.items c.close-parts.ensures.stand
+    c.args.life.host.cluster.banks taken.result.log _ c.requires.host.banks c.close-parts.ensures.count taken.ensures.log refl taken.ensures.xact taken.ensures.subtrans

@@ -5,20 +5,16 @@ use Rattle.std.proofs.lemmas.Option.{same_Some, slice_get_within}
 use Rattle.std.specs.List.{cons_option, filter_map, slice_get}
 use Rattle.disk_core.specs.declared.log_disk.LogDisk as logs
 use Rattle.disk_core.specs.declared.page_disk.PageDisk as disks
-use Rattle.disk_core.specs.declared.media.Volumes.{Volumes}
 use Rattle.notes.specs.Lists.{at}
 use Rattle.slru_bank.specs.Calls.{volume_of}
 use Rattle.tx_core.specs.declared.entry.Entry.{Entry}
 use Rattle.tx_core.specs.declared.entry.Start.{Start}
 use Rattle.tx_core.specs.FaultsRise.{faults_told}
-use Rattle.tx_core.specs.Locks.{log_lock, subtrans_lock, xact_lock}
-use Rattle.wal_core.specs.declared.wal_log.WalLog.{WalLog}
-use Rattle.wal_core.specs.LogViews.{log_disk}
+use Rattle.tx_core.specs.Locks.{subtrans_lock, xact_lock}
 use Rattle.engine_parts.specs.Parts.{PartStands}
 use Rattle.engine_parts.specs.declared.part.Part.{Part}
 use Rattle.engine_parts.specs.declared.part.Part.TheVariants as parts
 use Rattle.engine_host.specs.Refused.{subtrans_disk, subtrans_disks, xact_disk, xact_disks}
-use Rattle.engine_life.specs.Lives.{HaveCountedTold}
 
 -- ---- every fourth of a list
 
@@ -118,19 +114,18 @@ module _ {L P : Type 0} {l : logs.Ghosts L} {p : disks.Ghosts P} where
             is)
 
     -- each volume has counted what its list tells
-    pub all_told : (banks : ℕ) (log : WalLog L l) (volumes : Volumes L P) → start.banks ≡ banks → length locks ≡ 3 + 4 * banks → slice_get locks 0 ≡ Some (parts.Log log)
-        → volumes.log ≡ log_disk log → volumes.xact.items ≡ xact_disks locks → volumes.subtrans.items ≡ subtrans_disks locks → HaveCountedTold l p start lists volumes
-    all_told banks log volumes same count found log_is xact_is subtrans_is = record {
-      log = subst (λ (d : L). faults_told start log_lock (at lists log_lock) ≤ l.faults d) (sym log_is) (stand 0 (parts.Log log) found).1.count;
-      xact = λ bank low.
-          let q = there locks (xact_lock bank) (omega (arith, low, same, count)) in
-          let h = xact_here start bank (at lists (xact_lock bank)) q.0 (stand (xact_lock bank) q.0 q.1) in
-          (h.0, ap (λ (vs : List P). slice_get vs bank) xact_is ∙ xact_at bank q.0 h.0 q.1 h.1, h.2);
-      subtrans = λ bank low.
-          let q = there locks (subtrans_lock bank) (place bank low) in
-          let h = subtrans_here start bank (at lists (subtrans_lock bank)) q.0 (stand (subtrans_lock bank) q.0 q.1) in
-          (h.0, ap (λ (vs : List P). slice_get vs bank) subtrans_is ∙ subtrans_at bank q.0 h.0 q.1 h.1, h.2);
-    }
-      where
-        place : (bank : ℕ) → bank < start.banks → subtrans_lock bank < length locks
-        place bank low = omega (arith, low, same, count)
+    pub xact_told : (banks : ℕ) (volumes : List P) → start.banks ≡ banks → length locks ≡ 3 + 4 * banks → volumes ≡ xact_disks locks → (bank : ℕ) → bank < start.banks
+        → (v : P) × (slice_get volumes bank ≡ Some v) × (faults_told start (xact_lock bank) (at lists (xact_lock bank)) ≤ p.faults v)
+    xact_told banks volumes same count is bank low =
+        let place : xact_lock bank < length locks = omega (arith, low, same, count) in
+        let q = there locks (xact_lock bank) place in
+        let h = xact_here start bank (at lists (xact_lock bank)) q.0 (stand (xact_lock bank) q.0 q.1) in
+        (h.0, ap (λ (vs : List P). slice_get vs bank) is ∙ xact_at bank q.0 h.0 q.1 h.1, h.2)
+
+    pub subtrans_told : (banks : ℕ) (volumes : List P) → start.banks ≡ banks → length locks ≡ 3 + 4 * banks → volumes ≡ subtrans_disks locks → (bank : ℕ) → bank < start.banks
+        → (v : P) × (slice_get volumes bank ≡ Some v) × (faults_told start (subtrans_lock bank) (at lists (subtrans_lock bank)) ≤ p.faults v)
+    subtrans_told banks volumes same count is bank low =
+        let place : subtrans_lock bank < length locks = omega (arith, low, same, count) in
+        let q = there locks (subtrans_lock bank) place in
+        let h = subtrans_here start bank (at lists (subtrans_lock bank)) q.0 (stand (subtrans_lock bank) q.0 q.1) in
+        (h.0, ap (λ (vs : List P). slice_get vs bank) is ∙ subtrans_at bank q.0 h.0 q.1 h.1, h.2)

@@ -41,50 +41,41 @@ module _ {L P : Type 0} {l : logs.Ghosts L} {p : disks.Ghosts P} where
   pub counted_more : (n : ℕ) (states parents left right : List P) (old new : List (Part L P l p))
       → left ≡ drop n states → right ≡ drop n parents → length old ≡ 2 + 4 * n
       → HaveCounted n states parents old → CountsBank left right old new → HaveCounted (n + 1) states parents new
-  counted_more n states parents left right old new left_is right_is count have more = record {
-    xact = λ bank v low at. ⊎_elim
-        (λ (here : n ≤ bank).
-        let same : bank ≡ n = omega (arith, here, low) in
-        let first : slice_get left 0 ≡ Some v = ap (λ (xs : List P). slice_get xs 0) left_is ∙ (drop_here n states ∙ (ap (slice_get states) (sym same) ∙ at)) in
-        let now : get_or (map faults_behind new) (2 + 4 * bank) 0 ≡ more.state_faults
-        = ap (λ (counts : List ℕ). get_or counts (2 + 4 * bank) 0) more.grown
-        ∙ get_or_at before more.state_faults (more.parent_faults ∷ 0 ∷ 0 ∷ []) 0 (2 + 4 * bank) (omega (arith, long, count, same)) in
-        let up = more.xact v first in
-        omega (arith, now, up))
-        (λ (below : bank < n).
-        let now : get_or (map faults_behind new) (2 + 4 * bank) 0 ≡ get_or before (2 + 4 * bank) 0
-        = ap (λ (counts : List ℕ). get_or counts (2 + 4 * bank) 0) more.grown
-        ∙ get_or_append_left before (more.state_faults ∷ more.parent_faults ∷ 0 ∷ 0 ∷ []) 0 (2 + 4 * bank) (omega (arith, long, count, below)) in
-        let up = have.xact bank v below at in
-        omega (arith, now, up))
-        (le_or_over n bank);
-    subtrans = λ bank v low at. ⊎_elim
-        (λ (here : n ≤ bank).
-        let same : bank ≡ n = omega (arith, here, low) in
-        let first : slice_get right 0 ≡ Some v = ap (λ (xs : List P). slice_get xs 0) right_is ∙ (drop_here n parents ∙ (ap (slice_get parents) (sym same) ∙ at)) in
-        let place : 3 + 4 * bank ≡ length before + 1 = omega (arith, long, count, same) in
-        let now : get_or (map faults_behind new) (3 + 4 * bank) 0 ≡ more.parent_faults
-        = ap (λ (counts : List ℕ). get_or counts (3 + 4 * bank) 0) more.grown
-        ∙ (ap (λ k. get_or (before ++ added) k 0) place ∙ get_or-append-add before added 1 0) in
-        let up = more.subtrans v first in
-        omega (arith, now, up))
-        (λ (below : bank < n).
-        let now : get_or (map faults_behind new) (3 + 4 * bank) 0 ≡ get_or before (3 + 4 * bank) 0
-        = ap (λ (counts : List ℕ). get_or counts (3 + 4 * bank) 0) more.grown
-        ∙ get_or_append_left before added 0 (3 + 4 * bank) (omega (arith, long, count, below)) in
-        let up = have.subtrans bank v below at in
-        omega (arith, now, up))
-        (le_or_over n bank);
-  }
-    where
-      before : List ℕ
-      before = map faults_behind old
-
-      added : List ℕ
-      added = more.state_faults ∷ more.parent_faults ∷ 0 ∷ 0 ∷ []
-
-      long : length before ≡ length old
-      long = length-map old faults_behind
+  counted_more n states parents left right old new left_is right_is count have more =
+      let before : List ℕ = map faults_behind old in
+      let added : List ℕ = more.state_faults ∷ more.parent_faults ∷ 0 ∷ 0 ∷ [] in
+      let long : length before ≡ length old = length-map old faults_behind in
+      let grown : (k : ℕ) → get_or (map faults_behind new) k 0 ≡ get_or (before ++ added) k 0 = λ k. ap (λ (counts : List ℕ). get_or counts k 0) more.grown in
+      record {
+        xact = λ bank v low at. ⊎_elim
+            (λ (here : n ≤ bank).
+            let same : bank ≡ n = omega (arith, here, low) in
+            let place : length before ≡ 2 + 4 * bank = omega (arith, long, count, same) in
+            let first : slice_get left 0 ≡ Some v = ap (λ (xs : List P). slice_get xs 0) left_is ∙ (drop_here n states ∙ (ap (slice_get states) (sym same) ∙ at)) in
+            let now : get_or (map faults_behind new) (2 + 4 * bank) 0 ≡ more.state_faults
+            = grown (2 + 4 * bank) ∙ get_or_at before more.state_faults (more.parent_faults ∷ 0 ∷ 0 ∷ []) 0 (2 + 4 * bank) place in
+            subst (λ k. p.faults v ≤ k) (sym now) (more.xact v first))
+            (λ (below : bank < n).
+            let place : 2 + 4 * bank < length before = omega (arith, long, count, below) in
+            let now : get_or (map faults_behind new) (2 + 4 * bank) 0 ≡ get_or before (2 + 4 * bank) 0
+            = grown (2 + 4 * bank) ∙ get_or_append_left before added 0 (2 + 4 * bank) place in
+            subst (λ k. p.faults v ≤ k) (sym now) (have.xact bank v below at))
+            (le_or_over n bank);
+        subtrans = λ bank v low at. ⊎_elim
+            (λ (here : n ≤ bank).
+            let same : bank ≡ n = omega (arith, here, low) in
+            let place : 3 + 4 * bank ≡ length before + 1 = omega (arith, long, count, same) in
+            let first : slice_get right 0 ≡ Some v = ap (λ (xs : List P). slice_get xs 0) right_is ∙ (drop_here n parents ∙ (ap (slice_get parents) (sym same) ∙ at)) in
+            let now : get_or (map faults_behind new) (3 + 4 * bank) 0 ≡ more.parent_faults
+            = grown (3 + 4 * bank) ∙ (ap (λ k. get_or (before ++ added) k 0) place ∙ get_or-append-add before added 1 0) in
+            subst (λ k. p.faults v ≤ k) (sym now) (more.subtrans v first))
+            (λ (below : bank < n).
+            let place : 3 + 4 * bank < length before = omega (arith, long, count, below) in
+            let now : get_or (map faults_behind new) (3 + 4 * bank) 0 ≡ get_or before (3 + 4 * bank) 0
+            = grown (3 + 4 * bank) ∙ get_or_append_left before added 0 (3 + 4 * bank) place in
+            subst (λ k. p.faults v ≤ k) (sym now) (have.subtrans bank v below at))
+            (le_or_over n bank);
+      }
 
   -- those of fewer banks too
   pub counted_fewer : (few many : ℕ) (states parents : List P) (locks : List (Part L P l p)) → few ≤ many

@@ -21,5 +21,5 @@ returns-clause-counted g c =
     let parts = c.gather.ensures in
     let v = c.args.volumes in
     all_counted disk g.P.PageDisk c.args.cluster.banks v.log c.begin_log.new.log v.xact.items v.subtrans.items c.add_banks.new.locks.items c.gather.result.start.value.faults
-    (let up = c.in-Ok.ensures.count in let more = c.begin_log.ensures.count in omega (arith, up, more)) c.requires.volumes.0 c.requires.volumes.1 c.add_banks.ensures.counted
+    (let up = c.in-Ok.ensures.count in let more = c.begin_log.ensures.count in omega (arith, up, more)) c.requires.volumes.0 c.requires.volumes.1 c.in_default.ensures.counted
     (ap (λ (s : Start). s.faults) parts.start ∙ parts.faults)

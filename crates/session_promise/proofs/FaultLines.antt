@@ -75,11 +75,11 @@ Apart (x ∷ xs) = (Has xs x → ⊥) × Apart xs
 
 apart_filter : (p : ℕ → Bool) (xs : List ℕ) → Apart xs → Apart (filter p xs)
 apart_filter p [] a = tt
-apart_filter p (x ∷ xs) a = step (p x)
+apart_filter p (x ∷ xs) a = step (p x) (apart_filter p xs a.1)
   where
-    step : (b : Bool) → Apart (cond b (x ∷ filter p xs) (filter p xs))
-    step true = ((λ h. a.0 (has_filter p xs x h).0), apart_filter p xs a.1)
-    step false = apart_filter p xs a.1
+    step : (b : Bool) → Apart (filter p xs) → Apart (cond b (x ∷ filter p xs) (filter p xs))
+    step true rest = ((λ h. a.0 (has_filter p xs x h).0), rest)
+    step false rest = rest
 
 apart_seen : (xs : List ℕ) → Apart (first_seen xs)
 apart_seen [] = tt

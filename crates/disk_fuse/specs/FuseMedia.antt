@@ -109,6 +109,10 @@ abbrev pub fuse_gives : {L P : Type 0} → (Volumes L P → Type 0) → Option (
 fuse_gives inner (Some held) at passes refused volumes = volumes ≡ held
 fuse_gives {L = L} {P = P} inner None at passes refused volumes = (w : Volumes L P) × inner w × IsFused at passes refused w volumes
 
+-- what a first mount gives: such volumes of the media within, with a limit on one
+abbrev pub fuse_begins : {L P : Type 0} → (Volumes L P → Type 0) → Which → Option ℕ → Volumes ℕ ℕ → Volumes (FusedLog L) (FusedPages P) → Type 0
+fuse_begins {L = L} {P = P} inner at passes refused volumes = (w : Volumes L P) × inner w × IsFused at passes refused w volumes
+
 abbrev pub fuse_is_new : {V : Type 0} → Bool → Option V → Bool
 fuse_is_new inner (Some held) = false
 fuse_is_new inner None = inner

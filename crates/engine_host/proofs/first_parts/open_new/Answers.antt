@@ -1,6 +1,5 @@
 use Rattle.std.proofs.Common.{ap, arith, ◌∙◌}
 use Rattle.tx_core.specs.declared.entry.Start.{Start}
-use Rattle.wal_core.specs.LogViews.{log_disk}
 use Rattle.engine_host.proofs.Counting.{all_counted}
 use Rattle.engine_host.proofs.Refusing.{from_bank, from_begin}
 use Rattle.engine_host.proofs.first_parts.open_new.Goals as goal

@@ -1,5 +1,5 @@
 -- How many commands the rounds of a script have, and how many lines are told of them.
-use Rattle.std.proofs.Common.{◌≡◌, ℕ, ◌+◌, ◌<◌, ◌≤◌, ◌==◌, Bool, true, false, cond, List, [], ◌∷◌, ◌++◌, refl, sym, ap, subst, ◌∙◌, arith, length, map, append-nil, append_assoc, length-append}
+use Rattle.std.proofs.Common.{◌≡◌, ℕ, ◌+◌, ◌<◌, ◌≤◌, ◌==◌, Bool, true, false, cond, List, [], ◌∷◌, ◌++◌, refl, sym, ap, ◌∙◌, arith, length, map, append-nil, append_assoc, length-append}
 use Rattle.std.proofs.lemmas.List.{length-map}
 use Rattle.std.proofs.lemmas.Grind.{flat_map-append}
 use Rattle.std.proofs.lemmas.List.Elements.{filter-append}
@@ -8,7 +8,7 @@ use Rattle.std.specs.List.{count_by, filter, flat_map}
 use Rattle.tx_events.specs.Places.{first_seen}
 use Rattle.tx_model.specs.declared.command.Command.{Command}
 use Rattle.tx_model.specs.declared.report.Line.{Line}
-use Rattle.tx_model.specs.Lines.{AreLinesOf, grouped, turn_of}
+use Rattle.tx_model.specs.Lines.{grouped, turn_of}
 use Rattle.life_law.specs.Commands.{makes_level}
 use Rattle.session_lang.specs.declared.script.Item.{Item}
 use Rattle.session_lang.specs.declared.script.Item.TheVariants as items
@@ -17,7 +17,7 @@ use Rattle.run_law.specs.Turns.{turns_in}
 use Rattle.script_rounds.proofs.RoundLemmas.{grouped_short, turns_short}
 use Rattle.session_promise.specs.Closing.{AreRoundsOf}
 use Rattle.session_promise.specs.Promise.{is_made_level}
-use Rattle.session_promise.specs.Told.{ToldRound, all_lines, lines_by, lines_of, told_by}
+use Rattle.session_promise.specs.Told.{ToldRound, all_lines, told_by}
 use Rattle.session_promise.proofs.Telling.{lines_told}
 
 abbrev pub Turns : Type 0

@@ -1,11 +1,10 @@
 -- What rounds leave of a life.
-use Rattle.std.proofs.Common.{◌≡◌, ℕ, zero, suc, ◌+◌, ◌^◌, ◌<◌, ◌≤◌, List, [], ◌∷◌, ◌++◌, Some, refl, sym, ap, subst, ◌∙◌, arith, get_or, length, map, append-nil}
+use Rattle.std.proofs.Common.{◌≡◌, ℕ, zero, suc, ◌+◌, ◌^◌, ◌<◌, List, [], ◌∷◌, ◌++◌, Some, refl, sym, ap, ◌∙◌, arith, get_or, length, append-nil}
 use Rattle.std.proofs.lemmas.List.Elements.{All-get_or}
 use Rattle.std.specs.List.{All, flat_map, slice_get}
 use Rattle.disk_core.specs.declared.log_disk.LogDisk as logs
 use Rattle.disk_core.specs.declared.page_disk.PageDisk as disks
 use Rattle.hall.specs.declared.hall.Hall.{Hall}
-use Rattle.tx_model.specs.declared.command.Command.{Command}
 use Rattle.report_text.specs.ReportText.{command_line, round_line}
 use Rattle.tx_core.specs.declared.entry.Entry.{Entry}
 use Rattle.tx_core.specs.declared.entry.Start.{Start}
@@ -14,7 +13,6 @@ use Rattle.engine_parts.specs.declared.session.Session.{Session}
 use Rattle.engine_host.specs.declared.cluster.Cluster.{Cluster}
 use Rattle.engine_host.specs.declared.host.Host.{Host}
 use Rattle.engine_host.specs.Hosts.{HoldsAllBut, IsHost, IsNewSession, IsParked}
-use Rattle.session_promise.specs.Told.{ToldRound}
 use Rattle.session_run.specs.declared.rest.Resting.{Resting}
 use Rattle.session_run.specs.Rests.{IsFresh}
 use Rattle.session_run.specs.Rounds.{AreResting, MayAdd}

@@ -1,4 +1,4 @@
-use Rattle.std.proofs.Common.{[], ◌++◌, refl, arith, ◌∙◌, sym, ap, subst, length, length-append}
+use Rattle.std.proofs.Common.{[], ◌++◌, refl, arith, ◌∙◌, sym, subst, length, length-append}
 use Rattle.std.specs.List.{All}
 use Rattle.session_lang.specs.Rounds.{round_of}
 use Rattle.run_law.specs.Turns.{MayRun, turns_in}

@@ -2,7 +2,7 @@ use Rattle.std.proofs.Common.{ℕ}
 use Rattle.disk_core.specs.Media.{MayBeFirst}
 use Rattle.tx_model.specs.declared.report.LifeReport.{LifeReport}
 use Rattle.session_run.specs.Leaves.{LeavesVolumes}
-use Rattle.session_run.proofs.ToolEnds.{answers, unopened_ends, unread_ends}
+use Rattle.session_run.proofs.ToolEnds.{answers}
 use Rattle.session_run.proofs.tool.work.Goals as goal
 
 pub returns-in-Ok-run_script-clause-ends : goal.returns-in-Ok-run_script-clause-ends

@@ -26,10 +26,11 @@ use Rattle.engine_parts.specs.Parts.{PartStands}
 use Rattle.engine_parts.specs.declared.part.Part.{Part}
 use Rattle.engine_parts.specs.declared.part.Part.TheVariants as parts
 use Rattle.engine_host.specs.declared.cluster.Cluster.{Cluster}
-use Rattle.engine_host.specs.declared.cluster.NewVolumes.{NewVolumes}
+use Rattle.replay_core.specs.declared.cluster.ClusterVolumes.{ClusterVolumes}
+use Rattle.replay_core.specs.Refused.{HasFailedAt}
 use Rattle.engine_host.specs.declared.refusal.OpenRefusal.{OpenRefusal}
 use Rattle.engine_host.specs.declared.refusal.OpenRefusal.TheVariants as refusals
-use Rattle.engine_host.specs.Refused.{AreInPlace, HasFailedAt, HaveDisks, IsBankRefusal, IsBeginRefusal, IsRefusal, IsStartRefusal, OpensEmpty, refusal_by, subtrans_disk, subtrans_disks, xact_disk, xact_disks}
+use Rattle.engine_host.specs.Refused.{AreInPlace, HaveDisks, IsBankRefusal, IsBeginRefusal, IsRefusal, IsStartRefusal, OpensEmpty, refusal_by, subtrans_disk, subtrans_disks, xact_disk, xact_disks}
 
 -- ---- what was popped, or is put at the end
 
@@ -228,7 +229,7 @@ module _ {L P : Type 0} {l : logs.Ghosts L} {p : disks.Ghosts P} where
       is_there (parts.Subtrans store) k none = absurd (omega (arith, k.2.1))
       is_there parts.Vacant k none = k.2.proc refl
 
-  pub from_bank : (c : Cluster) (old new : NewVolumes L P) (bank : ℕ) (rest : List (Part L P l p)) (xs ys : List P) (r : OpenRefusal)
+  pub from_bank : (c : Cluster) (old new : ClusterVolumes L P) (bank : ℕ) (rest : List (Part L P l p)) (xs ys : List P) (r : OpenRefusal)
       → HaveDisks bank rest → IsBankRefusal p bank (drop bank old.xact.items) xs (drop bank old.subtrans.items) ys r
       → new.xact.items ≡ xact_disks rest ++ xs → new.subtrans.items ≡ subtrans_disks rest ++ ys → IsRefusal l p c old new r
   from_bank c old new bank rest xs ys (refusals.Damaged at) have k x y = absurd k
@@ -247,7 +248,7 @@ module _ {L P : Type 0} {l : logs.Ghosts L} {p : disks.Ghosts P} where
   from_bank c old new bank rest xs ys refusals.Memory have k x y = tt
 
 module _ {L P : Type 0} {l : logs.Ghosts L} (p : disks.Ghosts P) where
-  pub from_begin : (c : Cluster) (old new : NewVolumes L P) (log log' : WalLog L l) (r : OpenRefusal)
+  pub from_begin : (c : Cluster) (old new : ClusterVolumes L P) (log log' : WalLog L l) (r : OpenRefusal)
       → OpensEmpty l old.log (log_end log) → l.faults old.log ≤ l.faults (log_disk log) → new.log ≡ log_disk log'
       → IsBeginRefusal c log log' r → IsRefusal l p c old new r
   from_begin c old new log log' (refusals.Damaged at) opens count back k = absurd k

@@ -1,0 +1,46 @@
+use Rattle.std.proofs.Common.{◌+◌, ◌++◌, ◌∷◌, [], ap, refl, subst, sym, ◌∙◌}
+use Rattle.engine_parts.specs.declared.part.Part.TheVariants as parts
+use Rattle.engine_host.specs.Opening.{AreNew}
+use Rattle.slru_bank.specs.Calls.{volume_of}
+use Rattle.engine_host.specs.Refused.{HaveDisks}
+use Rattle.engine_host.proofs.Refusing.{disks_more, first_is, subtrans_refused, xact_refused}
+use Rattle.engine_host.proofs.Starting.{bank_new, first_shows}
+use Rattle.engine_host.proofs.building.add_bank.Goals as goal
+
+pub open_xact-requires-clause-shows : goal.open_xact-requires-clause-shows
+open_xact-requires-clause-shows g c told =
+    let volumes = c.args.xact.now.items in
+    first_shows g.P.PageDisk c.args.cluster.now g.begins c.args.removes c.args.bank volumes c.remove.result (c.requires.states told) (first_is volumes c.remove.result c.requires.volumes.0 c.remove.ensures.value)
+
+pub open_subtrans-requires-clause-shows : goal.open_subtrans-requires-clause-shows
+open_subtrans-requires-clause-shows g c told =
+    let volumes = c.args.subtrans.now.items in
+    c.requires.parents told 0 c.remove-2.result (first_is volumes c.remove-2.result c.requires.volumes.1 c.remove-2.ensures.value)
+
+pub returns-clause-stand : goal.returns-clause-stand
+returns-clause-stand g c =
+    let cluster = c.args.cluster.now in
+    let one = c.push_reserved.ensures.items in
+    let two = c.push_reserved-2.ensures.items in
+    let three = c.push_reserved-3.ensures.items in
+    let four = c.push_reserved-4.ensures.items in
+    subst (λ l. AreNew cluster g.begins 1 l) (sym (four ∙ ap (λ l. l ++ parts.Vacant ∷ []) (three ∙ ap (λ l. l ++ parts.Vacant ∷ []) (two ∙ ap (λ l. l ++ parts.Subtrans c.in-Ok-open_subtrans.store ∷ []) one))))
+    (bank_new cluster g.begins c.args.bank c.args.locks.now.items (parts.Xact c.in-Ok.store) (parts.Subtrans c.in-Ok-open_subtrans.store) c.requires.stand c.requires.count
+    (λ counts reached. (c.args.bank, refl, c.in-Ok.ensures.new counts reached)) (λ counts reached. (c.args.bank, refl, c.in-Ok-open_subtrans.ensures.new counts reached)))
+
+pub returns-clause-disks : goal.returns-clause-disks
+returns-clause-disks g c =
+    let one = c.push_reserved.ensures.items in
+    let two = c.push_reserved-2.ensures.items in
+    let three = c.push_reserved-3.ensures.items in
+    let four = c.push_reserved-4.ensures.items in
+    subst (λ l. HaveDisks (c.args.bank + 1) l) (sym (four ∙ ap (λ l. l ++ parts.Vacant ∷ []) (three ∙ ap (λ l. l ++ parts.Vacant ∷ []) (two ∙ ap (λ l. l ++ parts.Subtrans c.in-Ok-open_subtrans.store ∷ []) one))))
+    (disks_more c.args.bank c.args.locks.now.items (parts.Xact c.in-Ok.store) (parts.Subtrans c.in-Ok-open_subtrans.store) (volume_of c.in-Ok.store) (volume_of c.in-Ok-open_subtrans.store) c.requires.disks refl refl refl refl)
+
+pub returns-in-Err-clause-refused : goal.returns-in-Err-clause-refused
+returns-in-Err-clause-refused g c =
+    xact_refused g.P.PageDisk c.args.bank c.args.xact.now.items c.put_back.new.volumes.items c.args.subtrans.now.items c.args.subtrans.now.items c.remove.new.self.items c.remove.result c.in-Err.disk c.in-Err.refusal c.requires.volumes.0 c.remove.ensures.value c.put_back.ensures.items c.in-Err.ensures.refused
+
+pub returns-in-Err-open_subtrans-clause-refused : goal.returns-in-Err-open_subtrans-clause-refused
+returns-in-Err-open_subtrans-clause-refused g c =
+    subtrans_refused g.P.PageDisk c.args.bank c.args.xact.now.items c.put_back-in-Err-open_subtrans-2.new.volumes.items c.args.subtrans.now.items c.put_back-in-Err-open_subtrans.new.volumes.items c.remove-2.new.self.items c.remove-2.result c.in-Err-open_subtrans.disk c.in-Err-open_subtrans.refusal c.requires.volumes.1 c.remove-2.ensures.value c.put_back-in-Err-open_subtrans.ensures.items c.in-Err-open_subtrans.ensures.refused

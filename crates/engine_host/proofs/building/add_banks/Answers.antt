@@ -1,0 +1,37 @@
+use Rattle.std.proofs.Common.{◌≡◌, ◌+◌, ◌∙◌, ap, arith, drop, remove, subst, suc, sym}
+use Rattle.engine_host.specs.Opening.{AllShowNothing, AllShowStates}
+use Rattle.engine_host.proofs.Refusing.{drop_next}
+use Rattle.engine_host.proofs.Starting.{rest_empty, rest_show}
+use Rattle.engine_host.proofs.building.add_banks.Goals as goal
+
+pub add_bank-requires-clause-states : goal.add_bank-requires-clause-states
+add_bank-requires-clause-states g c told =
+    let bank = c.loop-bank.bank in
+    let p = g.P.PageDisk in
+    subst (λ xs. AllShowStates p c.args.cluster.now g.begins c.args.removes bank xs) (sym c.loop-bank.invariant.xact)
+    (rest_show p c.args.cluster.now g.begins c.args.removes bank c.args.xact.now.items (c.requires.states told))
+
+pub add_bank-requires-clause-parents : goal.add_bank-requires-clause-parents
+add_bank-requires-clause-parents g c told =
+    let p = g.P.PageDisk in
+    subst (λ xs. AllShowNothing p c.args.removes xs) (sym c.loop-bank.invariant.subtrans)
+    (rest_empty p c.args.removes c.loop-bank.bank c.args.subtrans.now.items (c.requires.parents told))
+
+pub loop-bank-preserved : goal.loop-bank-preserved
+loop-bank-preserved g c =
+    let e = c.in_ok-add_bank.ensures in
+    let i = c.loop-bank.invariant in
+    let n = c.loop-bank.bank in
+    let xs = c.args.xact.now.items in
+    let ys = c.args.subtrans.now.items in
+    let more : suc n ≡ n + 1 = omega arith in
+    record {
+      xact = e.xact ∙ (ap (λ l. remove l 0) i.xact ∙ subst (λ k. remove (drop n xs) 0 ≡ drop k xs) more (drop_next n xs));
+      subtrans = e.subtrans ∙ (ap (λ l. remove l 0) i.subtrans ∙ subst (λ k. remove (drop n ys) 0 ≡ drop k ys) more (drop_next n ys));
+      count = e.count;
+      disks = e.disks;
+      room = e.room ∙ i.room;
+      stand = e.stand;
+      xact_room = e.capacity.0 ∙ i.xact_room;
+      subtrans_room = e.capacity.1 ∙ i.subtrans_room;
+    }

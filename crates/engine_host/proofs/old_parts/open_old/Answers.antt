@@ -1,0 +1,43 @@
+use Rattle.std.proofs.Common.{Bool, IsTrue, false, length, refl, subst, sym, ◌∙◌}
+use Rattle.tx_events.specs.declared.record.Counters.{Counters}
+use Rattle.wal_core.specs.LogViews.{log_disk}
+use Rattle.replay_core.specs.Refused.{IsRefusal}
+use Rattle.replay_core.specs.declared.refusal.RecoverRefusal.{RecoverRefusal}
+use Rattle.engine_host.specs.declared.cluster.Cluster.{Cluster}
+use Rattle.engine_host.specs.Opening.{AllShowStates}
+use Rattle.engine_host.specs.Reopening.{IsBaseAt, behind, cluster_over}
+use Rattle.engine_host.proofs.Reopened.{base_at_number, before_any, both_ok, empty_shown, given_before, states_shown, when_err}
+use Rattle.engine_host.proofs.old_parts.open_old.Goals as goal
+
+pub open_recovered-requires-clause-before : goal.open_recovered-requires-clause-before
+open_recovered-requires-clause-before g c =
+    let l = g.L.LogDisk in let p = g.P.PageDisk in let old = c.args.volumes in let r = c.in-Ok.recovered in let e = c.in-Ok.ensures in
+    before_any p.tells g.kept r.from c.args.sessions (length r.xact.items) r.base (λ told.
+    let fit = c.requires.fits told in
+    given_before l p old.log (log_disk r.log) old.xact.items r.xact.items r.from c.args.sessions r.base g.kept e.banks.0 c.requires.some c.is_full_multi.ensures
+    (g.met.L.LogDisk.reads_image (log_disk r.log) fit.0) (λ d. g.met.P.PageDisk.reads_image d told) (e.recovers fit.0 told g.kept fit.1))
+
+pub open_recovered-requires-clause-states : goal.open_recovered-requires-clause-states
+open_recovered-requires-clause-states g c told =
+    let l = g.L.LogDisk in let p = g.P.PageDisk in let old = c.args.volumes in let r = c.in-Ok.recovered in let e = c.in-Ok.ensures in
+    let fit = c.requires.fits told in
+    subst (λ (t : Bool). AllShowStates p (cluster_over r.base (length r.xact.items) c.args.sessions) (behind t g.kept r.from) false 0 r.xact.items) (sym told)
+    (states_shown l p old.log (log_disk r.log) old.xact.items r.xact.items r.from c.args.sessions r.base g.kept e.banks.0 c.requires.some c.is_full_multi.ensures
+    (g.met.L.LogDisk.reads_image (log_disk r.log) fit.0) (λ d. g.met.P.PageDisk.reads_image d told) (e.recovers fit.0 told g.kept fit.1))
+
+pub open_recovered-requires-clause-parents : goal.open_recovered-requires-clause-parents
+open_recovered-requires-clause-parents g c told = empty_shown g.P.PageDisk c.in-Ok.recovered.subtrans.items (λ d. g.met.P.PageDisk.reads_image d told) (c.in-Ok.ensures.parents told)
+
+pub returns-in-Ok-clause-start : goal.returns-in-Ok-clause-start
+returns-in-Ok-clause-start g c =
+    let l = g.L.LogDisk in let p = g.P.PageDisk in let old = c.args.volumes in let r = c.in-Ok.recovered in let e = c.in-Ok.ensures in
+    both_ok c.open_recovered.result _ _ _ (λ parts cluster start. (r.from, start, λ told.
+    let fit = c.requires.fits told in
+    subst (λ (k : Cluster). IsBaseAt g.kept r.from k.base) (sym cluster)
+    (base_at_number l p old.log (log_disk r.log) old.xact.items r.xact.items r.from c.args.sessions r.base g.kept e.banks.0 c.requires.some c.is_full_multi.ensures
+    (g.met.L.LogDisk.reads_image (log_disk r.log) fit.0) (λ d. g.met.P.PageDisk.reads_image d told) (e.recovers fit.0 told g.kept fit.1))))
+    c.open_recovered.ensures.cluster c.open_recovered.ensures.start
+
+pub returns-in-Ok-clause-refused : goal.returns-in-Ok-clause-refused
+returns-in-Ok-clause-refused g c =
+    when_err c.open_recovered.result _ _ (λ e memory. subst (λ (r : RecoverRefusal). IsRefusal g.L.LogDisk g.P.PageDisk c.args.volumes e.0 r) (sym memory) tt) c.open_recovered.ensures.refused

@@ -1,5 +1,5 @@
 -- What a recovery leaves is what a life begins with.
-use Rattle.std.proofs.Common.{Bool, Err, IfErr, IfOk, IsTrue, List, None, Ok, Option, Result, Some, Contains, [], ap, arith, cond, false, length, refl, subst, suc, sym, true, zero, ℕ, ◌%◌, ◌+◌, ◌/◌, ◌<◌, ◌∙◌, ◌≡◌, ◌≤◌}
+use Rattle.std.proofs.Common.{Bool, Err, IfErr, IfOk, IsTrue, List, None, Ok, Option, Result, Some, Contains, [], ap, arith, false, inr, length, refl, subst, suc, sym, true, zero, ℕ, ◌%◌, ◌+◌, ◌/◌, ◌<◌, ◌∙◌, ◌≡◌, ◌≤◌}
 use Rattle.std.specs.List.{slice_get, slice_index}
 use Rattle.disk_core.specs.declared.log_disk.LogDisk as logs
 use Rattle.disk_core.specs.declared.page_disk.PageDisk as disks
@@ -12,7 +12,7 @@ use Rattle.tx_core.specs.declared.entry.Start.{Start}
 use Rattle.recoverable.specs.Fit.{KeptLog, base_at}
 use Rattle.recoverable.specs.Laws.{life_base}
 use Rattle.recoverable.specs.LifeBase.{LifeBase}
-use Rattle.recoverable.specs.Volumes.{EndsSettled, Left, Restored}
+use Rattle.recoverable.specs.Volumes.{EndsSettled, KeepsUpTo, Left, Restored, checkpoint_of}
 use Rattle.recoverable.specs.Whole.{BeganClean}
 use Rattle.recoverable.proofs.Settled.{recovery_settles}
 use Rattle.bank_follows.specs.Begins.{state_of_code}
@@ -20,11 +20,11 @@ use Rattle.bank_follows.specs.Restored.{GoesOn, pages_of, shown_on}
 use Rattle.bank_follows.proofs.Begins.{bits_small}
 use Rattle.bank_follows.proofs.Restored.{restored_begins}
 use Rattle.replay_core.specs.Begun.{AreEmpty}
-use Rattle.replay_core.specs.Volumes.{Fit, IsLeft, Recovers}
+use Rattle.replay_core.specs.Volumes.{IsLeft, LeavesFit, Recovers}
 use Rattle.engine_parts.specs.Sessions.{AreGivenBefore}
 use Rattle.engine_parts.specs.Stand.{number_of_state}
 use Rattle.engine_host.specs.declared.cluster.Cluster.{Cluster}
-use Rattle.engine_host.specs.Opening.{AllShowNothing, AllShowStates, Beginning, ShowStates, bytes_left, life_from}
+use Rattle.engine_host.specs.Opening.{AllShowNothing, AllShowStates, Beginning, life_from}
 use Rattle.engine_host.specs.Reopening.{IsBaseAt, behind, cluster_over}
 
 -- a code and the state that is read of it
@@ -116,6 +116,17 @@ module _ {L P : Type 0} (l : logs.Ghosts L) (p : disks.Ghosts P) where
     base_at_number =
         let k = r.recovered.keeps in
         record { flushed = k.flushed_before; upto = k.upto; counters_are = ap (λ (z : LifeBase). z.counters) r.recovered.same ∙ r.counters_are }
+
+    -- where no life begins on them, the volumes may be recovered again
+    pub may_recover : LeavesFit l p xact new xact' kept
+    may_recover = record {
+      later = r.recovered.later;
+      recovers = record {
+        upto = from;
+        keeps = inr (subst (λ (b : LifeBase). KeepsUpTo kept r.recovered.later from (checkpoint_of from b)) (sym r.recovered.same) r.recovered.keeps);
+      };
+      fits = r.recovered.fits;
+    }
 
 -- over volumes that don't tell nothing is committed
 pub none_before : (kept : KeptLog) (from sessions banks : ℕ) (counters : Counters) → AreGivenBefore (life_from (cluster_over counters banks sessions) (behind false kept from) [])

@@ -1,7 +1,8 @@
 //! The banks of a life that begins (`BootStrapCLOG` and `StartupCLOG` of `clog.c`, `BootStrapSUBTRANS` and
 //! `StartupSUBTRANS` of `subtrans.c`).
-ghost use Rattle.std.specs.Prelude.{◌≡◌, ◌⊎◌, ◌<◌, IfErr, IfOk, IsTrue};
+ghost use Rattle.std.specs.Prelude.{◌≡◌, ◌⊎◌, ◌<◌, false, IfErr, IfOk, IsTrue};
 ghost use Rattle.disk_core.specs.Faults.{HasRisen};
+ghost use Rattle.slru_bank.specs.Calls.{volume_of};
 ghost use Rattle.tx_events.specs.Base.{IsBase};
 ghost use Rattle.tx_events.specs.declared.refusal.Lock.TheVariants as locks;
 ghost use Rattle.engine_host.specs.declared.refusal.OpenRefusal.TheVariants as refusals;
@@ -29,6 +30,8 @@ pub(crate) fn open_xact<P: PageDisk + Drop>(
     requires inside { bank < cluster.now.banks }
     requires shows { IsTrue P.tells → ShowStates cluster.now begins bank (bytes_left P.PageDisk removes disk) }
     ensures new { IfOk result (λ store. IsNewXact cluster.now begins bank store) }
+    ensures same { removes ≡ false → IfOk result (λ store. volume_of store ≡ disk) }
+    ensures same_err { removes ≡ false → IfErr result (λ e. e.0 ≡ disk) }
     ensures refused { IfErr result (λ e. (e.1 ≡ refusals.Memory)
         ⊎ ((e.1 ≡ refusals.DiskFault (locks.Xact bank)) × HasRisen (P.faults disk) (P.faults e.0))) }
 {
@@ -65,6 +68,8 @@ pub(crate) fn open_subtrans<P: PageDisk + Drop>(
     requires inside { bank < cluster.now.banks }
     requires shows { IsTrue P.tells → ShowNothing (bytes_left P.PageDisk removes disk) }
     ensures new { IfOk result (λ store. IsNewSubtrans cluster.now begins bank store) }
+    ensures same { removes ≡ false → IfOk result (λ store. volume_of store ≡ disk) }
+    ensures same_err { removes ≡ false → IfErr result (λ e. e.0 ≡ disk) }
     ensures refused { IfErr result (λ e. (e.1 ≡ refusals.Memory)
         ⊎ ((e.1 ≡ refusals.DiskFault (locks.Subtrans bank)) × HasRisen (P.faults disk) (P.faults e.0))) }
 {

@@ -1,5 +1,5 @@
 // The parts of an engine whose life begins, over a log that is begun and the volumes of its banks.
-ghost use Rattle.std.specs.Prelude.{◌≡◌, ◌+◌, ◌*◌, ◌≤◌, ◌<◌, ◌++◌, ℕ, [], IfErr, IfOk, IsTrue, OnErr, OnOk, drop, length, remove, vec_capacity};
+ghost use Rattle.std.specs.Prelude.{◌≡◌, ◌+◌, ◌*◌, ◌≤◌, ◌<◌, ◌++◌, ℕ, [], false, IfErr, IfOk, IsTrue, OnErr, OnOk, drop, length, remove, vec_capacity};
 ghost use Rattle.wal_core.specs.LogViews.{log_disk};
 ghost use Rattle.engine_parts.specs.Sessions.{AreGivenBefore};
 ghost use Rattle.engine_host.specs.Opening.{AllShowNothing, AllShowStates, AreNew, AreParts, Beginning, IsBegunLog, IsCluster, life_from, new_life};
@@ -74,6 +74,9 @@ fn add_bank<L: LogDisk, P: PageDisk + Drop>(
     ensures same { OnErr result (locks.new.items ≡ locks.old.items) }
     ensures back { OnErr result ((length xact.new.items ≡ length xact.old.items)
         × (length subtrans.new.items ≡ length subtrans.old.items)) }
+    // Where nothing is removed the volumes stay as they are, of whatever bank.
+    ensures kept { removes ≡ false → (xact_disks locks.new.items ++ xact.new.items ≡ xact_disks locks.old.items ++ xact.old.items)
+        × (subtrans_disks locks.new.items ++ subtrans.new.items ≡ subtrans_disks locks.old.items ++ subtrans.old.items) }
     ensures refused { IfErr result (λ refusal. IsBankRefusal P.PageDisk bank xact.old.items xact.new.items
         subtrans.old.items subtrans.new.items refusal) }
 {
@@ -123,6 +126,8 @@ pub(crate) fn add_banks<L: LogDisk, P: PageDisk + Drop>(
     ensures capacity { (vec_capacity xact.new ≡ vec_capacity xact.old) × (vec_capacity subtrans.new ≡ vec_capacity subtrans.old) }
     ensures back { (length (xact_disks locks.new.items) + length xact.new.items ≡ cluster.now.banks)
         × (length (subtrans_disks locks.new.items) + length subtrans.new.items ≡ cluster.now.banks) }
+    ensures kept { removes ≡ false → (xact_disks locks.new.items ++ xact.new.items ≡ xact_disks locks.old.items ++ xact.old.items)
+        × (subtrans_disks locks.new.items ++ subtrans.new.items ≡ subtrans_disks locks.old.items ++ subtrans.old.items) }
     ensures refused { IfErr result (λ refusal. (bank : ℕ) × HaveDisks bank locks.new.items
         × IsBankRefusal P.PageDisk bank (drop bank xact.old.items) xact.new.items
         (drop bank subtrans.old.items) subtrans.new.items refusal) }

@@ -2,9 +2,10 @@
 ghost use Rattle.std.specs.Prelude.{◌≡◌, ◌≤◌, ℕ, [], false, IfErr, IfOk, IsTrue, length};
 ghost use Rattle.tx_events.specs.Ids.{IsFullMulti};
 ghost use Rattle.recoverable.specs.Fit.{KeptLog};
+ghost use Rattle.wal_core.specs.LogViews.{log_disk};
 ghost use Rattle.replay_core.specs.Begun.{IsSettled};
 ghost use Rattle.replay_core.specs.Refused.{IsRefusal};
-ghost use Rattle.replay_core.specs.Volumes.{Fit};
+ghost use Rattle.replay_core.specs.Volumes.{Fit, LeavesFit};
 ghost use Rattle.replay_core.specs.declared.refusal.RecoverRefusal.TheVariants as refusals;
 ghost use Rattle.engine_parts.specs.Sessions.{AreGivenBefore};
 ghost use Rattle.engine_host.specs.Opening.{AllShowNothing, AllShowStates, AreParts, Beginning, life_from, new_life};
@@ -44,6 +45,7 @@ fn open_recovered<L: LogDisk + Drop, P: PageDisk + Drop>(
     ensures parts { IfOk result (λ parts. AreParts parts) }
     ensures start { IfOk result (λ parts. parts.start.value ≡ new_life parts.cluster begins parts.locks.items) }
     ensures refused { IfErr result (λ e. e.1 ≡ refusals.Memory) }
+    ensures kept { IfErr result (λ e. (e.0.log ≡ log_disk recovered.log) × (e.0.xact.items ≡ recovered.xact.items)) }
 {
     let Recovered {
         log,
@@ -109,6 +111,8 @@ pub fn open_old<L: LogDisk + Drop, P: PageDisk + Drop>(
     ensures start { IfOk result (λ parts. (number : ℕ)
         × (parts.start.value ≡ new_life parts.cluster (behind P.tells kept number) parts.locks.items)
         × (IsTrue P.tells → IsBaseAt kept number parts.cluster.base)) }
+    // After an error the volumes fit what a later recovery may go on from.
+    ensures again { IsTrue P.tells → IfErr result (λ e. LeavesFit L.LogDisk P.PageDisk volumes.xact.items e.0.log e.0.xact.items kept) }
     ensures refused { IfErr result (λ e. IsRefusal L.LogDisk P.PageDisk volumes e.0 e.1) }
 {
     match recover(alloc, volumes) {

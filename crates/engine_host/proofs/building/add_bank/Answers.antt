@@ -1,9 +1,9 @@
-use Rattle.std.proofs.Common.{◌+◌, ◌++◌, ◌∷◌, [], ap, refl, subst, sym, ◌∙◌}
+use Rattle.std.proofs.Common.{◌+◌, ◌++◌, ◌∷◌, [], Some, ap, refl, subst, sym, ◌∙◌}
 use Rattle.engine_parts.specs.declared.part.Part.TheVariants as parts
 use Rattle.engine_host.specs.Opening.{AreNew}
 use Rattle.slru_bank.specs.Calls.{volume_of}
-use Rattle.engine_host.specs.Refused.{HaveDisks}
-use Rattle.engine_host.proofs.Refusing.{disks_more, first_is, subtrans_refused, xact_refused}
+use Rattle.engine_host.specs.Refused.{HaveDisks, subtrans_disk, subtrans_disks, xact_disk, xact_disks}
+use Rattle.engine_host.proofs.Refusing.{disks_more, first_is, front_of, kept_first, kept_second, subtrans_refused, xact_refused}
 use Rattle.engine_host.proofs.Starting.{bank_new, first_shows}
 use Rattle.engine_host.proofs.building.add_bank.Goals as goal
 
@@ -44,3 +44,35 @@ returns-in-Err-clause-refused g c =
 pub returns-in-Err-open_subtrans-clause-refused : goal.returns-in-Err-open_subtrans-clause-refused
 returns-in-Err-open_subtrans-clause-refused g c =
     subtrans_refused g.P.PageDisk c.args.bank c.args.xact.now.items c.put_back-in-Err-open_subtrans-2.new.volumes.items c.args.subtrans.now.items c.put_back-in-Err-open_subtrans.new.volumes.items c.remove-2.new.self.items c.remove-2.result c.in-Err-open_subtrans.disk c.in-Err-open_subtrans.refusal c.requires.volumes.1 c.remove-2.ensures.value c.put_back-in-Err-open_subtrans.ensures.items c.in-Err-open_subtrans.ensures.refused
+
+pub returns-clause-kept : goal.returns-clause-kept
+returns-clause-kept g c none =
+    let one = c.push_reserved.ensures.items in
+    let two = c.push_reserved-2.ensures.items in
+    let three = c.push_reserved-3.ensures.items in
+    let four = c.push_reserved-4.ensures.items in
+    let whole = four ∙ ap (λ l. l ++ parts.Vacant ∷ []) (three ∙ ap (λ l. l ++ parts.Vacant ∷ []) (two ∙ ap (λ l. l ++ parts.Subtrans c.in-Ok-open_subtrans.store ∷ []) one)) in
+    (
+      kept_first xact_disk c.args.locks.now.items c.push_reserved-4.new.self.items (parts.Xact c.in-Ok.store) (parts.Subtrans c.in-Ok-open_subtrans.store) parts.Vacant parts.Vacant c.remove.result c.args.xact.now.items c.remove.new.self.items whole
+          (ap (λ d. Some d) (c.in-Ok.ensures.same none)) refl refl refl (front_of c.args.xact.now.items c.remove.new.self.items c.remove.result c.requires.volumes.0 c.remove.ensures.value c.remove.ensures.items),
+      kept_second subtrans_disk c.args.locks.now.items c.push_reserved-4.new.self.items (parts.Xact c.in-Ok.store) (parts.Subtrans c.in-Ok-open_subtrans.store) parts.Vacant parts.Vacant c.remove-2.result c.args.subtrans.now.items c.remove-2.new.self.items whole
+          refl (ap (λ d. Some d) (c.in-Ok-open_subtrans.ensures.same none)) refl refl (front_of c.args.subtrans.now.items c.remove-2.new.self.items c.remove-2.result c.requires.volumes.1 c.remove-2.ensures.value c.remove-2.ensures.items),
+    )
+
+pub returns-in-Err-clause-kept : goal.returns-in-Err-clause-kept
+returns-in-Err-clause-kept g c none =
+    let old = c.args.xact.now.items in
+    let rest = c.remove.new.self.items in
+    let front = front_of old rest c.remove.result c.requires.volumes.0 c.remove.ensures.value c.remove.ensures.items in
+    (ap (λ l. xact_disks c.args.locks.now.items ++ l) (c.put_back.ensures.items ∙ (ap (λ d. d ∷ rest) (c.in-Err.ensures.same_err none) ∙ sym front)), refl)
+
+pub returns-in-Err-open_subtrans-clause-kept : goal.returns-in-Err-open_subtrans-clause-kept
+returns-in-Err-open_subtrans-clause-kept g c none =
+    let xs = c.remove.new.self.items in
+    let ys = c.remove-2.new.self.items in
+    let x_front = front_of c.args.xact.now.items xs c.remove.result c.requires.volumes.0 c.remove.ensures.value c.remove.ensures.items in
+    let y_front = front_of c.args.subtrans.now.items ys c.remove-2.result c.requires.volumes.1 c.remove-2.ensures.value c.remove-2.ensures.items in
+    (
+      ap (λ l. xact_disks c.args.locks.now.items ++ l) (c.put_back-in-Err-open_subtrans-2.ensures.items ∙ (ap (λ d. d ∷ xs) (c.into_disk.ensures ∙ c.in-Ok.ensures.same none) ∙ sym x_front)),
+      ap (λ l. subtrans_disks c.args.locks.now.items ++ l) (c.put_back-in-Err-open_subtrans.ensures.items ∙ (ap (λ d. d ∷ ys) (c.in-Err-open_subtrans.ensures.same_err none) ∙ sym y_front)),
+    )

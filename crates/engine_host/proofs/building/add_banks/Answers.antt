@@ -34,4 +34,5 @@ loop-bank-preserved g c =
       stand = e.stand;
       xact_room = e.capacity.0 ∙ i.xact_room;
       subtrans_room = e.capacity.1 ∙ i.subtrans_room;
+      kept = λ none. let now = e.kept none in let so_far = i.kept none in (now.0 ∙ so_far.0, now.1 ∙ so_far.1);
     }

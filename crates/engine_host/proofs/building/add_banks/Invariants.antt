@@ -1,6 +1,6 @@
-use Rattle.std.proofs.Common.{◌≡◌, ◌+◌, ◌*◌, drop, length, vec_capacity}
+use Rattle.std.proofs.Common.{◌≡◌, ◌+◌, ◌++◌, ◌*◌, drop, false, length, vec_capacity}
 use Rattle.engine_host.specs.Opening.{AreNew}
-use Rattle.engine_host.specs.Refused.{HaveDisks}
+use Rattle.engine_host.specs.Refused.{HaveDisks, subtrans_disks, xact_disks}
 use Rattle.engine_host.proofs.building.add_banks.Given as goal
 
 abbrev pub invariant-loop-bank : goal.invariant-loop-bank
@@ -13,6 +13,8 @@ invariant-loop-bank g l = record {
   stand : AreNew l.cluster g.begins 1 l.locks.items;
   xact_room : vec_capacity l.xact ≡ vec_capacity l.fn.xact;
   subtrans_room : vec_capacity l.subtrans ≡ vec_capacity l.fn.subtrans;
+  kept : l.removes ≡ false → (xact_disks l.locks.items ++ l.xact.items ≡ xact_disks l.fn.locks.items ++ l.fn.xact.items)
+      × (subtrans_disks l.locks.items ++ l.subtrans.items ≡ subtrans_disks l.fn.locks.items ++ l.fn.subtrans.items);
 }
 
 abbrev pub ghost-add_bank : goal.ghost-add_bank

@@ -2,11 +2,12 @@ use Rattle.std.proofs.Common.{Bool, IsTrue, false, length, refl, subst, sym, ◌
 use Rattle.tx_events.specs.declared.record.Counters.{Counters}
 use Rattle.wal_core.specs.LogViews.{log_disk}
 use Rattle.replay_core.specs.Refused.{IsRefusal}
+use Rattle.replay_core.specs.Volumes.{LeavesFit}
 use Rattle.replay_core.specs.declared.refusal.RecoverRefusal.{RecoverRefusal}
 use Rattle.engine_host.specs.declared.cluster.Cluster.{Cluster}
 use Rattle.engine_host.specs.Opening.{AllShowStates}
 use Rattle.engine_host.specs.Reopening.{IsBaseAt, behind, cluster_over}
-use Rattle.engine_host.proofs.Reopened.{base_at_number, before_any, both_ok, empty_shown, given_before, states_shown, when_err}
+use Rattle.engine_host.proofs.Reopened.{base_at_number, before_any, both_ok, empty_shown, given_before, may_recover, states_shown, when_err}
 use Rattle.engine_host.proofs.old_parts.open_old.Goals as goal
 
 pub open_recovered-requires-clause-before : goal.open_recovered-requires-clause-before
@@ -41,3 +42,14 @@ returns-in-Ok-clause-start g c =
 pub returns-in-Ok-clause-refused : goal.returns-in-Ok-clause-refused
 returns-in-Ok-clause-refused g c =
     when_err c.open_recovered.result _ _ (λ e memory. subst (λ (r : RecoverRefusal). IsRefusal g.L.LogDisk g.P.PageDisk c.args.volumes e.0 r) (sym memory) tt) c.open_recovered.ensures.refused
+
+pub returns-in-Ok-clause-again : goal.returns-in-Ok-clause-again
+returns-in-Ok-clause-again g c told =
+    let l = g.L.LogDisk in let p = g.P.PageDisk in let old = c.args.volumes in let r = c.in-Ok.recovered in let e = c.in-Ok.ensures in
+    let fit = c.requires.fits told in
+    let left = may_recover l p old.log (log_disk r.log) old.xact.items r.xact.items r.from c.args.sessions r.base g.kept e.banks.0 c.requires.some c.is_full_multi.ensures
+    (g.met.L.LogDisk.reads_image (log_disk r.log) fit.0) (λ d. g.met.P.PageDisk.reads_image d told) (e.recovers fit.0 told g.kept fit.1) in
+    when_err c.open_recovered.result _ _ (λ e kept. subst (λ z. LeavesFit l p old.xact.items z e.0.xact.items g.kept) (sym kept.0) (subst (λ xs. LeavesFit l p old.xact.items (log_disk r.log) xs g.kept) (sym kept.1) left)) c.open_recovered.ensures.kept
+
+pub returns-in-Err-clause-again : goal.returns-in-Err-clause-again
+returns-in-Err-clause-again g c told = let fit = c.requires.fits told in c.in-Err.ensures.again fit.0 told g.kept fit.1

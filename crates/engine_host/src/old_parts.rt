@@ -19,10 +19,10 @@ use std::alloc::Global;
 use tx_events::Counters;
 
 // The next multixact of counters is one.
-fn is_full_multi(_base: &Counters)
-    ensures { IsFullMulti _base.now.multi }
+fn is_full_multi(base: &Counters)
+    ensures { IsFullMulti base.now.multi }
 {
-    let _number = _base.multi.number();
+    let _number = base.multi.number();
 }
 
 // The parts over what a recovery left. Only memory may be wanting; the volumes come back then.

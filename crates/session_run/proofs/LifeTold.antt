@@ -45,12 +45,11 @@ module _ {H L P : Type 0} {l : logs.Ghosts L} {p : disks.Ghosts P} where
       let start = start_of hall in
       let base : start.base ≡ s.base = ap (λ t. t.base) begun in
       let life : LifeReport = record { life = life_told s.base events log; steps = closing.steps_of 1 r.rounds; crash = None } in
-      let begins : closing.BeginsNewLog start = record {
+      let begins : closing.BeginsAt 0 start = record {
         from = ap (λ t. t.from) begun;
         logged = ap (λ t. t.logged) begun ∙ ap (λ b. records.Checkpoint 0 b ∷ []) (sym base);
       } in
       let report : closing.IsReportOf start (view host.pass).seen r.rounds life = record {
-        from = refl;
         base = sym base;
         committed = sym (ap (λ t. t.committed) begun);
         events = told;

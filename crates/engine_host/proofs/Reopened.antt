@@ -13,7 +13,7 @@ use Rattle.recoverable.specs.Fit.{KeptLog, base_at}
 use Rattle.recoverable.specs.Laws.{life_base}
 use Rattle.recoverable.specs.LifeBase.{LifeBase}
 use Rattle.recoverable.specs.Volumes.{EndsSettled, KeepsUpTo, Left, Restored, checkpoint_of}
-use Rattle.recoverable.specs.Whole.{BeganClean}
+use Rattle.recoverable.specs.Whole.{BeganClean, BeganRight}
 use Rattle.recoverable.proofs.Settled.{recovery_settles}
 use Rattle.bank_follows.specs.Begins.{state_of_code}
 use Rattle.bank_follows.specs.Restored.{GoesOn, pages_of, shown_on}
@@ -99,6 +99,10 @@ module _ {L P : Type 0} (l : logs.Ghosts L) (p : disks.Ghosts P) where
 
     pub given_before : AreGivenBefore start
     given_before = clean.right.base.committed
+
+    -- whatever the volumes' counts are
+    pub began_right : (counts : List ℕ) → BeganRight (life_from cluster begins counts)
+    began_right counts = record { told = clean.right.told; full = clean.right.full; base = clean.right.base }
 
     pub states_shown : AllShowStates p cluster begins false 0 xact'
     states_shown n disk at = record {

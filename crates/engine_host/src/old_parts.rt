@@ -2,6 +2,7 @@
 ghost use Rattle.std.specs.Prelude.{◌≡◌, ◌≤◌, ℕ, [], false, IfErr, IfOk, IsTrue, length};
 ghost use Rattle.tx_events.specs.Ids.{IsFullMulti};
 ghost use Rattle.recoverable.specs.Fit.{KeptLog};
+ghost use Rattle.recoverable.specs.Whole.{BeganRight};
 ghost use Rattle.wal_core.specs.LogViews.{log_disk};
 ghost use Rattle.replay_core.specs.Begun.{IsSettled};
 ghost use Rattle.replay_core.specs.Refused.{IsRefusal};
@@ -111,6 +112,8 @@ pub fn open_old<L: LogDisk + Drop, P: PageDisk + Drop>(
     ensures start { IfOk result (λ parts. (number : ℕ)
         × (parts.start.value ≡ new_life parts.cluster (behind P.tells kept number) parts.locks.items)
         × (IsTrue P.tells → IsBaseAt kept number parts.cluster.base)) }
+    // That is a base from which a life may start, so the laws on its volumes hold of it (`recoverable`).
+    ensures right { IsTrue P.tells → IfOk result (λ parts. BeganRight parts.start.value) }
     // After an error the volumes fit what a later recovery may go on from.
     ensures again { IsTrue P.tells → IfErr result (λ e. LeavesFit L.LogDisk P.PageDisk volumes.xact.items e.0.log e.0.xact.items kept) }
     ensures refused { IfErr result (λ e. IsRefusal L.LogDisk P.PageDisk volumes e.0 e.1) }

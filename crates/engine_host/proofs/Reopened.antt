@@ -86,7 +86,7 @@ module _ {L P : Type 0} (l : logs.Ghosts L) (p : disks.Ghosts P) where
         (recovery_settles kept r.recovered.later from r.base r.recovered.same r.recovered.keeps r.recovered.flushed)
 
     goes_on : GoesOn start r.recovered.later from
-    goes_on = record { some = omega (arith, some, count); told = refl; full = full; next = refl; list = r.recovered.fits.list; settled = settled }
+    goes_on = let banks : 1 ≤ length xact' = omega (arith, some, count) in record { some = banks; told = refl; full = full; next = refl; list = r.recovered.fits.list; settled = settled }
 
     restored : Restored (length xact') r.recovered.later from counters left
     restored =
@@ -110,7 +110,8 @@ module _ {L P : Type 0} (l : logs.Ghosts L) (p : disks.Ghosts P) where
       clean = clean.xact;
       each = λ x on.
           let bytes : List ℕ = page_bytes (p.pages disk (xact_page_of x)) in
-          let place : xact_page_of x % length xact' ≡ n = omega (arith, on) in
+          let first : 0 + n ≡ n = omega arith in
+          let place : xact_page_of x % length xact' ≡ n = on ∙ first in
           let same : pages_of left.xact (xact_page_of x % length xact') (xact_page_of x) ≡ bytes
           = ap (λ (b : ℕ). page_bytes (pages_read (slice_get xact' b) (xact_page_of x))) place ∙ ap (λ (o : Option P). page_bytes (pages_read o (xact_page_of x))) at in
           sym (ap (λ (t : List ℕ). number_of_state (state_of_code (state_in t (xact_place_of x)))) same ∙ number_of_code (state_in bytes (xact_place_of x)) (state_small bytes (xact_place_of x)));

@@ -40,6 +40,9 @@ raised n c = λ i. record { next = none c.next i; oldest = none c.oldest i; mult
     none : (k : ℕ) → max 0 k ≡ k
     none k = omega arith
 
+none_more : (n : ℕ) → n ≡ n + 0
+none_more n = omega arith
+
 -- one record, which is the checkpoint, and is on disk
 pub log_begins : (c : Cluster) (b : Beginning) (tells : Bool) (faults : ℕ) (images : Volume → Type 0) (recs : List Rec) (next first flushed : ℕ) (counters : Option Counters) (down : Option ℕ) (counts : List ℕ)
     → recs ≡ records.Checkpoint b.number c.base ∷ [] → next ≡ b.number + 1 → flushed ≡ b.number + 1 → counters ≡ Some c.base → down ≡ None → get_or counts log_lock 0 ≤ faults
@@ -47,7 +50,7 @@ pub log_begins : (c : Cluster) (b : Beginning) (tells : Bool) (faults : ℕ) (im
     → LogStands (life_from c b counts) tells faults images recs next first flushed counters down []
 log_begins c b tells faults images recs next first flushed counters down counts recs_are next_is flushed_is counters_are up count keeps = record {
   recs_are = recs_are;
-  next_is = omega (arith, next_is);
+  next_is = next_is ∙ none_more (b.number + 1);
   flushed_is = flushed_is;
   counters_are = counters_are;
   failed = λ n d. let z : None ≡ Some n = sym up ∙ d in absurd cc;

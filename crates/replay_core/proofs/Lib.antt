@@ -8,3 +8,4 @@ mod Settling
 mod Openings
 mod Recovering
 mod Refusing
+mod Crashed

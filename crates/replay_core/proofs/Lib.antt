@@ -9,3 +9,4 @@ mod Openings
 mod Recovering
 mod Refusing
 mod Crashed
+mod Ended

@@ -39,8 +39,8 @@ get_at (x ∷ xs) (suc n) lt = get_at xs n (omega arith)
 
 -- ---- no multixact: pages that aren't there show nothing
 
-nothing : ℕ → Option StoredBytes
-nothing x = None
+abbrev nothing : ℕ → Option StoredBytes
+nothing = λ x. None
 
 module _ (start : Start) (right : BeganRight start) (none : start.recorded ≡ []) where
   -- the same life with nothing committed: offsets and members don't ask
@@ -48,13 +48,11 @@ module _ (start : Start) (right : BeganRight start) (none : start.recorded ≡ [
   bare = record start { committed = [] }
 
   clean_offsets : CleanOffsets start nothing
-  unfolding nothing
   clean_offsets =
       let k = (new_begins bare right.told right.full right.base.counters refl none).offsets in
       record { before = k.before; recorded = k.recorded; other = k.other; clean = k.clean }
 
   clean_members : CleanMembers start nothing
-  unfolding nothing
   clean_members =
       let k = (new_begins bare right.told right.full right.base.counters refl none).members in
       record { before = k.before; in_order = k.in_order; recorded = k.recorded; gap = k.gap; clean = k.clean; behind = k.behind }
@@ -64,8 +62,7 @@ module _ (start : Start) (right : BeganRight start) (none : start.recorded ≡ [
     zeros q small = ap page_bytes (absent q)
 
     offsets_left : OffsetsLeft start bank [] c
-    unfolding nothing
-    offsets_left = record {
+      offsets_left = record {
       shown = nothing;
       clean = clean_offsets;
       follows = (images_follow start bank [] c).1 nothing
@@ -73,8 +70,7 @@ module _ (start : Start) (right : BeganRight start) (none : start.recorded ≡ [
     }
 
     members_left : MembersLeft start bank [] c
-    unfolding nothing
-    members_left = record {
+      members_left = record {
       shown = nothing;
       clean = clean_members;
       follows = (images_follow start bank [] c).2 nothing

@@ -1,5 +1,5 @@
 -- What the definitions say together, of any lawful life.
-use Rattle.std.specs.Prelude.{◌≡◌, ◌≢◌, ℕ, ◌-◌, ◌++◌, Bool, true, false, List, ◌∷◌, Contains, None, Option, Some, cond, slice_get, take}
+use Rattle.std.specs.Prelude.{◌≡◌, ◌≢◌, ℕ, ◌-◌, ◌<◌, ◌++◌, Bool, true, false, List, ◌∷◌, Contains, None, Option, Some, cond, slice_get, take}
 use Rattle.std.specs.List.{filter, flat_map, fold}
 use Rattle.tx_events.specs.declared.event.By.{By}
 use Rattle.tx_events.specs.declared.event.Event.TheVariants as events
@@ -13,6 +13,7 @@ use Rattle.tx_model.specs.declared.reply.Reply.TheVariants as replies
 use Rattle.tx_model.specs.declared.report.LifeReport.{LifeReport}
 use Rattle.tx_model.specs.declared.report.Line.{Line}
 use Rattle.tx_model.specs.declared.report.Step.{Step}
+use Rattle.tx_model.specs.Lives.{GoOn}
 use Rattle.tx_model.specs.Rounds.{lines_in}
 use Rattle.tx_model.specs.Lines.{is_line_of, stance}
 use Rattle.tx_model.specs.Stance.{top_level}
@@ -53,6 +54,15 @@ abbrev pub OkCommitsAreFlushed : Type 0
 OkCommitsAreFlushed =
     (r : LifeReport) (l : Line) (top : ℕ) → IsLawful r → IsOkOf r l commands.Commit top
     → (subs : List ℕ) × IsAmong (r.life.flushed - r.life.from) r.life.recs (records.Commit top subs)
+
+-- And in each later life its transaction is committed, with all subtransactions that its record names.
+abbrev pub OkCommitsStay : Type 0
+OkCommitsStay =
+    (lives : List LifeReport) (n m : ℕ) (a b : LifeReport) (l : Line) (top : ℕ)
+    → ((k : ℕ) (r : LifeReport) → slice_get lives k ≡ Some r → IsLawful r) → GoOn lives
+    → slice_get lives n ≡ Some a → slice_get lives m ≡ Some b → n < m → IsOkOf a l commands.Commit top
+    → (subs : List ℕ) × IsAmong (a.life.flushed - a.life.from) a.life.recs (records.Commit top subs)
+    × ((id : ℕ) → Contains (top ∷ subs) id → Contains b.life.committed id)
 
 abbrev pub is_commit : Command → Bool
 is_commit commands.Commit = true

@@ -13,6 +13,7 @@ pub use Rattle.script_lines.specs.Commands
 pub use Rattle.script_lines.specs.Directives
 pub use Rattle.script_lines.specs.Header
 pub mod Rounds
+pub mod Lives
 pub mod Lines
 pub mod Script
 pub mod Places

@@ -14,6 +14,7 @@ pub mod Snapshots
 pub mod Horizon
 pub mod Base
 pub mod After
+pub mod LifeBase
 pub mod RecordNumber
 pub mod RecordSize
 pub mod History

@@ -18,3 +18,4 @@ pub mod CommandEvents
 pub mod Replies
 pub mod Lines
 pub mod Rounds
+pub mod Lives

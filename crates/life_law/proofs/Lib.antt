@@ -2,3 +2,4 @@ pub mod Closed
 pub mod Lawful
 pub mod Worked
 pub mod DidGrowth
+pub mod Lives

@@ -1,10 +1,15 @@
 //! What the definitions say together. The functions do nothing; their contracts are the laws.
-ghost use Rattle.life_law.specs.Laws.{AbortedIdsAreUnrecorded, OkAbortsAreUnrecorded, OkCommitsAreFlushed, UncommittedRecordsAreInDoubt, UndoneIdsAreUnrecorded};
+ghost use Rattle.life_law.specs.Laws.{AbortedIdsAreUnrecorded, OkAbortsAreUnrecorded, OkCommitsAreFlushed, OkCommitsStay, UncommittedRecordsAreInDoubt, UndoneIdsAreUnrecorded};
 ghost use Rattle.life_law.specs.Worked.{WorkedLives};
 
 /// A commit that was answered `ok` has its record below the flushed number.
 pub fn ok_commits_are_flushed()
     ensures { OkCommitsAreFlushed }
+{}
+
+/// And in each later life of its run what the record names is committed.
+pub fn ok_commits_stay()
+    ensures { OkCommitsStay }
 {}
 
 /// A commit record without a commit event is of a transaction that is still open, whose session's last commit wasn't

@@ -16,7 +16,8 @@ use Rattle.xact_redo.specs.declared.share.Share.{Share}
 use Rattle.xact_redo.specs.Redo.{IsNamed}
 use Rattle.xact_redo.specs.Restore.{MayRestore, bytes_on}
 use Rattle.xact_redo.proofs.OnDisk.{untouched}
-use Rattle.replay_core.specs.Banks.{ChangesAt, EmptiesBanks, Emptying, IsCause, IsRefusalAt, IsStoreRefusal, RestoresBanks, Restoring}
+use Rattle.replay_core.specs.Banks.{ChangesAt, EmptiesBanks, Emptying, IsCause, IsRefusalAt, IsStoreRefusal, RestoresBanks, Restoring, lock_of}
+use Rattle.replay_core.specs.declared.banks.Store.{Store}
 use Rattle.replay_core.specs.declared.refusal.RecoverRefusal.{RecoverRefusal}
 use Rattle.replay_core.specs.declared.refusal.RecoverRefusal.TheVariants as refusals
 use Rattle.replay_core.proofs.Rows.{Progress, count_more, each_done, each_so_far, first_was, had}
@@ -64,18 +65,18 @@ module _ {P : Type 0} (p : disks.Ghosts P) where
       refused = store_refused (λ bank. locks.Xact bank) n old new step.before step.now e (first_was restoring old n mid new done (Err e) step) step.is step.changed.cause;
     }
 
-  module _ (old : List P) where
+  module _ (store : Store) (old : List P) where
     abbrev pub emptying : ℕ → Result (Unit {0}) RecoverRefusal → P → P → Type 0
-    emptying n result before now = Emptying p n result before now
+    emptying n result before now = Emptying p store n result before now
 
-    pub empty_failed : (n : ℕ) (mid new : List P) (e : RecoverRefusal) → Progress emptying old n mid → ChangesAt (emptying n (Err e)) n mid new → EmptiesBanks p old new (Err e)
+    pub empty_failed : (n : ℕ) (mid new : List P) (e : RecoverRefusal) → Progress emptying old n mid → ChangesAt (emptying n (Err e)) n mid new → EmptiesBanks p store old new (Err e)
     empty_failed n mid new e done step = record {
       count = count_more emptying old n mid new done (Err e) step;
       empty = λ told. tt;
-      refused = store_refused (λ bank. locks.Subtrans bank) n old new step.before step.now e (first_was emptying old n mid new done (Err e) step) step.is step.changed.cause;
+      refused = store_refused (lock_of store) n old new step.before step.now e (first_was emptying old n mid new done (Err e) step) step.is step.changed.cause;
     }
 
-    pub all_empty : (n : ℕ) (new : List P) → Progress emptying old n new → n ≡ length old → EmptiesBanks p old new (Ok (tt {0}))
+    pub all_empty : (n : ℕ) (new : List P) → Progress emptying old n new → n ≡ length old → EmptiesBanks p store old new (Ok (tt {0}))
     all_empty n new done all = record {
       count = done.count;
       empty = λ told bank now is. let was = had old new done.count bank now is in (each_done emptying old n new done all bank was.0 now was.1 is).empty told;

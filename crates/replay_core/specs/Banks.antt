@@ -16,6 +16,8 @@ use Rattle.xact_redo.specs.Redo.{IsNamed}
 use Rattle.xact_redo.specs.Restore.{HasBytesOnDisk, MayRestore, RestoresAll, bytes_on}
 use Rattle.replay_core.specs.Begun.{AreEmpty}
 use Rattle.replay_core.specs.Refused.{HasFailedAt}
+use Rattle.replay_core.specs.declared.banks.Store.{Store}
+use Rattle.replay_core.specs.declared.banks.Store.TheVariants as stores
 use Rattle.replay_core.specs.declared.refusal.RecoverRefusal.{RecoverRefusal}
 use Rattle.replay_core.specs.declared.refusal.RecoverRefusal.TheVariants as refusals
 
@@ -28,6 +30,10 @@ pub record ChangesAt {P : Type 0} (R : P → P → Type 0) (place : ℕ) (old ne
   pub is : slice_get new place ≡ Some now
   pub changed : R before now
   pub others : (n : ℕ) → n ≢ place → slice_get new n ≡ slice_get old n
+
+abbrev pub lock_of : Store → ℕ → Lock
+lock_of stores.Xact bank = locks.Xact bank
+lock_of stores.Subtrans bank = locks.Subtrans bank
 
 -- what a refusal of a bank of pg_xact means
 abbrev pub IsRefusalAt : ℕ → RestoreRefusal → RecoverRefusal → Type 0
@@ -46,10 +52,10 @@ module _ {P : Type 0} (p : disks.Ghosts P) where
     pub durable : IsTrue p.tells → OnOk result (HasBytesOnDisk p new)
     pub cause : IsCause (λ bank. locks.Xact bank) share.bank result old new
 
-  -- a bank's volume is emptied
-  pub record Emptying (bank : ℕ) (result : Result (Unit {0}) RecoverRefusal) (old new : P) : Type 0 where
+  -- the volume of a store's bank is emptied
+  pub record Emptying (store : Store) (bank : ℕ) (result : Result (Unit {0}) RecoverRefusal) (old new : P) : Type 0 where
     pub empty : IsTrue p.tells → OnOk result ((c : Pages) → p.images new c → (q : ℕ) → q < 2 ^ 32 → page_bytes (c q) ≡ zero_page)
-    pub cause : IsCause (λ bank. locks.Subtrans bank) bank result old new
+    pub cause : IsCause (lock_of store) bank result old new
 
   -- Of each volume of pg_xact: at each moment a crash left what was there, or what is to be.
   abbrev pub AreRestoring : List Rec → Counters → List P → List P → Type 0
@@ -73,7 +79,7 @@ module _ {P : Type 0} (p : disks.Ghosts P) where
     pub restored : IsTrue p.tells → OnOk result (AreRestored recs base old new)
     pub refused : IfErr result (IsStoreRefusal (λ bank. locks.Xact bank) old new)
 
-  pub record EmptiesBanks (old new : List P) (result : Result (Unit {0}) RecoverRefusal) : Type 0 where
+  pub record EmptiesBanks (store : Store) (old new : List P) (result : Result (Unit {0}) RecoverRefusal) : Type 0 where
     pub count : length new ≡ length old
     pub empty : IsTrue p.tells → OnOk result (AreEmpty p new)
-    pub refused : IfErr result (IsStoreRefusal (λ bank. locks.Subtrans bank) old new)
+    pub refused : IfErr result (IsStoreRefusal (lock_of store) old new)

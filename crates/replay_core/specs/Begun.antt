@@ -1,5 +1,5 @@
 -- The log and the pages as a life begins with them.
-use Rattle.std.specs.Prelude.{◌≡◌, ℕ, ◌+◌, ◌^◌, ◌<◌, IsTrue, List, [], ◌∷◌, None, Some, slice_get}
+use Rattle.std.specs.Prelude.{◌≡◌, ℕ, ◌≤◌, ◌+◌, ◌^◌, ◌<◌, IsTrue, List, [], ◌∷◌, None, Some, slice_get}
 use Rattle.disk_core.specs.Pages.{Pages, page_bytes, zero_page}
 use Rattle.disk_core.specs.declared.log_disk.LogDisk as logs
 use Rattle.disk_core.specs.declared.page_disk.PageDisk as disks
@@ -10,6 +10,8 @@ use Rattle.tx_events.specs.declared.record.Rec.TheVariants as records
 use Rattle.wal_core.specs.declared.wal_log.WalLog.{WalLog}
 use Rattle.wal_core.specs.LogViews.{KeepsAll, log_counters, log_down, log_first, log_flushed, log_next, log_recs}
 use Rattle.xact_redo.specs.Restore.{HasBytesOnDisk}
+use Rattle.replay_core.specs.Refused.{HasNoMultis, IsNewLog}
+use Rattle.replay_core.specs.declared.cluster.Recovered.{Recovered}
 
 -- A log that was started and settled: since its start it has a checkpoint of these counters alone, which is on disk, and
 -- before which it was forgotten.
@@ -32,3 +34,16 @@ module _ {P : Type 0} (p : disks.Ghosts P) where
   abbrev pub AreEmpty : List P → Type 0
   AreEmpty volumes = (bank : ℕ) (disk : P) → slice_get volumes bank ≡ Some disk → (c : Pages) → p.images disk c
       → (q : ℕ) → q < 2 ^ 32 → page_bytes (c q) ≡ zero_page
+
+module _ {L P : Type 0} (l : logs.Ghosts L) where
+  -- The volume of the log had no record: the life begins with these counters, and with record 0, over empty pages.
+  pub record IsNewCluster (p : disks.Ghosts P) (fresh : Counters) (log : L) (r : Recovered L P l) : Type 0 where
+    pub from : r.from ≡ 0
+    pub base : r.base ≡ fresh
+    pub opens : IsTrue l.tells → IsNewLog (l.reads log)
+    pub empty : IsTrue p.tells → AreEmpty p r.xact.items
+
+  -- It had records, none of a multixact, and the checkpoint comes behind them.
+  pub record IsOldCluster (log : L) (r : Recovered L P l) : Type 0 where
+    pub from : 1 ≤ r.from
+    pub opens : IsTrue l.tells → HasNoMultis (l.reads log)

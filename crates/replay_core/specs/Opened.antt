@@ -25,13 +25,13 @@ abbrev pub HasNone : List Rec → Type 0
 HasNone recs = (rec : Rec) → Contains recs rec → is_multi rec ≡ true → ⊥
 
 module _ {D : Type 0} {g : logs.Ghosts D} where
-  -- a log that was just started, with these counters
+  -- a log that was just started, with these counters, or a new one, which has none
   pub record IsOpen (base : Counters) (log : WalLog D g) : Type 0 where
     pub is_base : IsBase base
     pub recs : log_recs log ≡ []
     pub flushed : log_flushed log ≡ log_next log
     pub up : log_down log ≡ None
-    pub counters : log_counters log ≡ Some base
+    pub counters : (log_counters log ≡ Some base) ⊎ ((log_counters log ≡ None) × (log_next log ≡ 0))
     pub keeps : IsTrue g.tells → (first : ℕ) × (all : List Rec) × KeepsAll first all g.images log
 
   -- It is that of this volume, with the records that the volume has, none of a multixact.
@@ -43,6 +43,15 @@ module _ {D : Type 0} {g : logs.Ghosts D} where
     pub count : g.faults disk ≤ g.faults (log_disk found.log)
     pub opens : IsTrue g.tells → opened (g.reads disk) ≡ Ok (record { history = Some (record { first = log_first found.log; recs = found.recs; counters = found.base }); gate = log_end found.log })
     pub keeps : IsTrue g.tells → KeepsAll (log_first found.log) found.recs g.images found.log
+
+  -- It is that of a volume without a record, and the counters are those of a new cluster.
+  pub record IsFoundNew (disk : D) (fresh : Counters) (found : Found D g) : Type 0 where
+    pub is_open : IsOpen found.base found.log
+    pub base : found.base ≡ fresh
+    pub next : log_next found.log ≡ 0
+    pub count : g.faults disk ≤ g.faults (log_disk found.log)
+    pub opens : IsTrue g.tells → opened (g.reads disk) ≡ Ok (record { history = None; gate = log_end found.log })
+    pub keeps : IsTrue g.tells → KeepsAll 0 [] g.images found.log
 
   -- with the checkpoint behind its records, which isn't flushed yet
   pub record HasCheckpoint (number : ℕ) (base : Counters) (old log : WalLog D g) : Type 0 where

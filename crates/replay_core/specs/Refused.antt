@@ -1,5 +1,5 @@
 -- Why a cluster wasn't recovered, by its volumes before and after.
-use Rattle.std.specs.Prelude.{◌≡◌, ℕ, true, IsTrue, List, Contains, Option, None, Some, Ok, Err, length, slice_get}
+use Rattle.std.specs.Prelude.{◌≡◌, ◌⊎◌, ℕ, true, IsTrue, List, Contains, Option, None, Some, Ok, Err, length, slice_get}
 use Rattle.disk_core.specs.Faults.{HasRisen}
 use Rattle.disk_core.specs.Volume.{Volume}
 use Rattle.disk_core.specs.declared.log_disk.LogDisk as logs
@@ -65,11 +65,16 @@ refusal_by (log_refusals.LogDown at) = refusals.LogFault
 refusal_by log_refusals.Full = refusals.Full
 refusal_by log_refusals.Memory = refusals.Memory
 
+-- the first checkpoint of a new cluster has none behind the gate of a volume without a record
+pub record HasNoRoomNew (fresh : Counters) (v : Volume) : Type 0 where
+  pub gate : ℕ
+  pub opens : opened v ≡ Ok (record { history = None; gate = gate })
+  pub full : IsFull gate 0 (length (rec_bytes (records.Checkpoint 0 fresh)))
+
 module _ {D : Type 0} (g : logs.Ghosts D) where
   -- why the log of this volume isn't one to recover from; the volume came back so
   abbrev pub IsOpenRefusal : D → D → RecoverRefusal → Type 0
   IsOpenRefusal old new (refusals.Damaged at) = IsTrue g.tells → opened (g.reads old) ≡ Err at
-  IsOpenRefusal old new refusals.NoRecord = IsTrue g.tells → IsNewLog (g.reads old)
   IsOpenRefusal old new refusals.HasMultis = IsTrue g.tells → HasMultis (g.reads old)
   IsOpenRefusal old new refusals.LogFault = HasRisen (g.faults old) (g.faults new)
   IsOpenRefusal old new refusals.Memory = Unit {0}
@@ -84,13 +89,12 @@ module _ {D : Type 0} {g : logs.Ghosts D} where
   IsSettleRefusal number base old new refusal = ⊥
 
 module _ {L P : Type 0} (l : logs.Ghosts L) (p : disks.Ghosts P) where
-  abbrev pub IsRefusal : ClusterVolumes L P → ClusterVolumes L P → RecoverRefusal → Type 0
-  IsRefusal old new (refusals.Damaged at) = IsTrue l.tells → opened (l.reads old.log) ≡ Err at
-  IsRefusal old new refusals.NoRecord = IsTrue l.tells → IsNewLog (l.reads old.log)
-  IsRefusal old new refusals.HasMultis = IsTrue l.tells → HasMultis (l.reads old.log)
-  IsRefusal old new refusals.LogFault = HasRisen (l.faults old.log) (l.faults new.log)
-  IsRefusal old new (refusals.DiskFault (locks.Xact bank)) = HasFailedAt p.faults bank old.xact.items new.xact.items
-  IsRefusal old new (refusals.DiskFault (locks.Subtrans bank)) = HasFailedAt p.faults bank old.subtrans.items new.subtrans.items
-  IsRefusal old new (refusals.DiskFault lock) = ⊥
-  IsRefusal old new refusals.Full = IsTrue l.tells → HasNoRoom (l.reads old.log)
-  IsRefusal old new refusals.Memory = Unit {0}
+  abbrev pub IsRefusal : Counters → ClusterVolumes L P → ClusterVolumes L P → RecoverRefusal → Type 0
+  IsRefusal fresh old new (refusals.Damaged at) = IsTrue l.tells → opened (l.reads old.log) ≡ Err at
+  IsRefusal fresh old new refusals.HasMultis = IsTrue l.tells → HasMultis (l.reads old.log)
+  IsRefusal fresh old new refusals.LogFault = HasRisen (l.faults old.log) (l.faults new.log)
+  IsRefusal fresh old new (refusals.DiskFault (locks.Xact bank)) = HasFailedAt p.faults bank old.xact.items new.xact.items
+  IsRefusal fresh old new (refusals.DiskFault (locks.Subtrans bank)) = HasFailedAt p.faults bank old.subtrans.items new.subtrans.items
+  IsRefusal fresh old new (refusals.DiskFault lock) = ⊥
+  IsRefusal fresh old new refusals.Full = IsTrue l.tells → HasNoRoom (l.reads old.log) ⊎ HasNoRoomNew fresh (l.reads old.log)
+  IsRefusal fresh old new refusals.Memory = Unit {0}

@@ -4,10 +4,10 @@ use Rattle.disk_core.specs.declared.log_disk.LogDisk as logs
 use Rattle.disk_core.specs.declared.page_disk.PageDisk as disks
 use Rattle.tx_events.specs.declared.record.Counters.{Counters}
 use Rattle.tx_events.specs.declared.record.Rec.{Rec}
-use Rattle.tx_events.specs.declared.refusal.Lock.TheVariants as locks
+use Rattle.replay_core.specs.declared.banks.Store.TheVariants as stores
 use Rattle.wal_core.specs.declared.wal_log.WalLog.{WalLog}
 use Rattle.wal_core.specs.LogViews.{log_next}
-use Rattle.replay_core.specs.Banks.{AreRestored, AreRestoring, IsStoreRefusal}
+use Rattle.replay_core.specs.Banks.{AreRestored, AreRestoring, IsStoreRefusal, lock_of}
 use Rattle.replay_core.specs.Begun.{AreEmpty, IsSettled}
 use Rattle.replay_core.specs.Opened.{LeavesLog, SettlesLog}
 use Rattle.replay_core.specs.Refused.{IsSettleRefusal}
@@ -17,8 +17,8 @@ module _ {L P : Type 0} {l : logs.Ghosts L} (p : disks.Ghosts P) where
   -- why it wasn't done: a volume of pg_xact, one of pg_subtrans, or the log
   abbrev pub IsReplayRefusal : Counters → WalLog L l → WalLog L l → List P → List P → List P → List P → RecoverRefusal → Type 0
   IsReplayRefusal base log log' xact xact' subtrans subtrans' refusal =
-      IsStoreRefusal p (λ bank. locks.Xact bank) xact xact' refusal
-      ⊎ (IsStoreRefusal p (λ bank. locks.Subtrans bank) subtrans subtrans' refusal ⊎ IsSettleRefusal (log_next log) base log log' refusal)
+      IsStoreRefusal p (lock_of stores.Xact) xact xact' refusal
+      ⊎ (IsStoreRefusal p (lock_of stores.Subtrans) subtrans subtrans' refusal ⊎ IsSettleRefusal (log_next log) base log log' refusal)
 
   -- The pages are restored, and then the log is settled. Before all pages are restored the log is as it was.
   pub record Replays (recs : List Rec) (base : Counters) (log log' : WalLog L l) (xact xact' subtrans subtrans' : List P) (result : Result (Unit {0}) RecoverRefusal) : Type 0 where
@@ -29,4 +29,13 @@ module _ {L P : Type 0} {l : logs.Ghosts L} (p : disks.Ghosts P) where
     pub restored : IsTrue p.tells → OnOk result (AreRestored p recs base xact xact')
     pub empty : IsTrue p.tells → OnOk result (AreEmpty p subtrans')
     pub left : IsTrue l.tells → IsTrue p.tells → OnErr result (AreRestoring p recs base xact xact' × ((log' ≡ log) ⊎ (AreRestored p recs base xact xact' × LeavesLog l base log log')))
+    pub refused : IfErr result (IsReplayRefusal base log log' xact xact' subtrans subtrans')
+
+  -- All pages are removed, and then the log is settled.
+  pub record BeginsNew (base : Counters) (log log' : WalLog L l) (xact xact' subtrans subtrans' : List P) (result : Result (Unit {0}) RecoverRefusal) : Type 0 where
+    pub xact_count : length xact' ≡ length xact
+    pub subtrans_count : length subtrans' ≡ length subtrans
+    pub settled : OnOk result (IsSettled (log_next log) base log')
+    pub states : IsTrue p.tells → OnOk result (AreEmpty p xact')
+    pub parents : IsTrue p.tells → OnOk result (AreEmpty p subtrans')
     pub refused : IfErr result (IsReplayRefusal base log log' xact xact' subtrans subtrans')

@@ -3,7 +3,7 @@ ghost use Rattle.std.specs.Prelude.{◌≡◌, ◌<◌, ◌≤◌, ◌^◌, inse
 ghost use Rattle.recoverable.specs.LifeBase.{committed_in};
 ghost use Rattle.xact_redo.specs.Redo.{AreNear};
 ghost use Rattle.xact_redo.specs.Restore.{IsWindow};
-ghost use Rattle.replay_core.specs.Banks.{ChangesAt, EmptiesBanks, Emptying, IsRefusalAt, RestoresBanks, Restoring};
+ghost use Rattle.replay_core.specs.Banks.{ChangesAt, EmptiesBanks, Emptying, IsRefusalAt, RestoresBanks, Restoring, lock_of};
 
 use crate::refusal::RecoverRefusal;
 use disk_core::PageDisk;
@@ -78,61 +78,81 @@ pub(crate) fn restore_all<P: PageDisk + Drop>(
     Ok(())
 }
 
-// Removes all pages of a volume of pg_subtrans, and syncs.
+/// A store whose banks may be emptied.
+#[derive(Clone, Copy, Debug, PartialEq, Eq)]
+pub(crate) enum Store {
+    Xact,
+    Subtrans,
+}
+
+// The lock of a bank.
+fn lock_of(store: Store, bank: u32) -> Lock
+    ensures { result ≡ lock_of store bank }
+{
+    match store {
+        Store::Xact => Lock::Xact(bank),
+        Store::Subtrans => Lock::Subtrans(bank),
+    }
+}
+
+// Removes all pages of a volume, and syncs. By which rule its pages lie makes no difference to that.
 fn empty<P: PageDisk + Drop>(
     alloc: Global,
     disk: P,
     base: &Counters,
+    store: Store,
     bank: u32,
 ) -> (P, Result<(), RecoverRefusal>)
-    ensures { Emptying P.PageDisk bank result.1 disk result.0 }
+    ensures { Emptying P.PageDisk store bank result.1 disk result.0 }
 {
     let page = subtrans_page(base.next.low());
-    let mut store = match SlruBank::<P, SubtransPages>::new(alloc, disk, page, page) {
-        Ok(store) => store,
+    let mut pages = match SlruBank::<P, SubtransPages>::new(alloc, disk, page, page) {
+        Ok(pages) => pages,
         Err((disk, _)) => return (disk, Err(RecoverRefusal::Memory)),
     };
     let fault = RecoverRefusal::DiskFault {
-        lock: Lock::Subtrans(bank),
+        lock: lock_of(store, bank),
     };
-    if store.clear_all().is_err() {
-        return (store.into_disk(), Err(fault));
+    if pages.clear_all().is_err() {
+        return (pages.into_disk(), Err(fault));
     }
-    match store.flush_all() {
-        Ok(()) => (store.into_disk(), Ok(())),
-        Err(_) => (store.into_disk(), Err(fault)),
+    match pages.flush_all() {
+        Ok(()) => (pages.into_disk(), Ok(())),
+        Err(_) => (pages.into_disk(), Err(fault)),
     }
 }
 
-// One volume of pg_subtrans is emptied.
+// One volume of a store is emptied.
 fn empty_at<P: PageDisk + Drop>(
     alloc: Global,
     volumes: &mut Vec<P>,
     base: &Counters,
+    store: Store,
     bank: u32,
 ) -> Result<(), RecoverRefusal>
     requires inside { bank < length volumes.old.items }
-    ensures { ChangesAt (Emptying P.PageDisk bank result) bank volumes.old.items volumes.new.items }
+    ensures { ChangesAt (Emptying P.PageDisk store bank result) bank volumes.old.items volumes.new.items }
 {
     let at = bank as usize;
     let disk = volumes.remove(at);
-    let (disk, outcome) = empty(alloc, disk, base, bank);
+    let (disk, outcome) = empty(alloc, disk, base, store, bank);
     put_back(volumes, at, disk);
     outcome
 }
 
-/// All volumes of pg_subtrans are emptied (`StartupSUBTRANS`), one after another.
+/// All volumes of a store are emptied (`StartupSUBTRANS`, and of a new cluster `BootStrapCLOG`), one after another.
 pub(crate) fn empty_all<P: PageDisk + Drop>(
     alloc: Global,
     volumes: &mut Vec<P>,
     base: &Counters,
+    store: Store,
 ) -> Result<(), RecoverRefusal>
     requires few { length volumes.old.items ≤ 16 }
-    ensures { EmptiesBanks P.PageDisk volumes.old.items volumes.new.items result }
+    ensures { EmptiesBanks P.PageDisk store volumes.old.items volumes.new.items result }
 {
     let banks = volumes.len() as u32;
     for bank in 0..banks {
-        empty_at(alloc, volumes, base, bank)?;
+        empty_at(alloc, volumes, base, store, bank)?;
     }
     Ok(())
 }

@@ -4,5 +4,5 @@ use Rattle.replay_core.proofs.banks.empty_all.Given as goal
 
 abbrev pub invariant-loop-bank : goal.invariant-loop-bank
 invariant-loop-bank g l = record {
-  progress : Progress (emptying g.P.PageDisk l.fn.volumes.items) l.fn.volumes.items l.bank l.volumes.items;
+  progress : Progress (emptying g.P.PageDisk l.store l.fn.volumes.items) l.fn.volumes.items l.bank l.volumes.items;
 }

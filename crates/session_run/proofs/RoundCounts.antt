@@ -1,5 +1,5 @@
 -- How many commands the rounds of a script have, and how many lines are told of them.
-use Rattle.std.proofs.Common.{◌≡◌, ℕ, ◌+◌, ◌<◌, ◌≤◌, ◌==◌, Bool, true, false, cond, List, [], ◌∷◌, ◌++◌, refl, sym, ap, subst, ◌∙◌, arith, length, map, append-nil, append_assoc, length-append}
+use Rattle.std.proofs.Common.{◌≡◌, ℕ, ◌+◌, ◌^◌, ◌<◌, ◌≤◌, ◌==◌, Bool, true, false, cond, List, [], ◌∷◌, ◌++◌, refl, sym, ap, subst, ◌∙◌, arith, length, map, append-nil, append_assoc, length-append}
 use Rattle.std.proofs.lemmas.List.{length-map}
 use Rattle.std.proofs.lemmas.Grind.{flat_map-append}
 use Rattle.std.proofs.lemmas.List.Elements.{filter-append}
@@ -136,6 +136,10 @@ lines_short (turns ∷ commands) (r ∷ rounds) a =
     omega (arith, one, told, few, rest, sum, both)
 lines_short [] (r ∷ rounds) a = absurd a
 lines_short (turns ∷ commands) [] a = absurd a
+
+-- and no more than a script may have
+pub few_lines : (script : List Item) (rounds : List ToldRound) → AreRoundsOf (rounds_of script) rounds → length script ≤ 2 ^ 24 → length (all_lines rounds) ≤ 2 ^ 24
+few_lines script rounds a few = omega (arith, lines_short (rounds_of script) rounds a, ap length (all_turns script), turns_short script, few)
 
 -- a session has told no more lines than all
 pub own_short : (n : ℕ) (rounds : List ToldRound) → length (told_by n rounds) ≤ length (all_lines rounds)

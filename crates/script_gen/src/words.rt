@@ -12,7 +12,7 @@ const GREATEST_SEED: u32 = 2147483646;
 const MOST_TRANSACTIONS: u32 = 100000;
 
 /// Which script is asked for.
-#[derive(Clone, Copy, Debug, PartialEq, Eq)]
+#[derive(Clone, Copy)]
 pub struct Asked {
     /// 1 to 2147483646.
     pub seed: u32,

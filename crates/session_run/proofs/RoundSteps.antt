@@ -100,7 +100,7 @@ module _ {K : Type 0} (keep : keepers.Ghosts K) where
       ∙ ap (λ m. keep.with_lines names (keep.with_round (with_rounds keep names (n + 1) mid rounds) m) r.lines) (omega arith)
 
 -- as their text
-pub rounds_text : (keep : keepers.Ghosts (List ℕ)) (names : List (List ℕ))
+rounds_text : (keep : keepers.Ghosts (List ℕ)) (names : List (List ℕ))
     → ((text : List ℕ) (n : ℕ) → keep.with_round text n ≡ text ++ round_line n)
     → ((text : List ℕ) (lines : List Line) → keep.with_lines names text lines ≡ text ++ flat_map (command_line names) lines)
     → (n : ℕ) (text : List ℕ) (rounds : List ToldRound)
@@ -116,8 +116,15 @@ rounds_text keep names round lines n text (r ∷ rounds) =
     ∙ ap (λ t. t ++ rest) one ∙ append_assoc text step rest
     ∙ ap (λ t. text ++ t) (sym (flat_map-append (step_text names) (steps.Round n r.lines ∷ []) (steps_of (n + 1) rounds)))
 
+pub kept_text : (keep : keepers.Ghosts (List ℕ)) (names : List (List ℕ)) (front text : List ℕ) (rounds : List ToldRound)
+    → text ≡ with_rounds keep names 1 front rounds
+    → ((text : List ℕ) (n : ℕ) → keep.with_round text n ≡ text ++ round_line n)
+    → ((text : List ℕ) (lines : List Line) → keep.with_lines names text lines ≡ text ++ flat_map (command_line names) lines)
+    → text ≡ front ++ flat_map (step_text names) (steps_of 1 rounds)
+kept_text keep names front text rounds e round lines = e ∙ rounds_text keep names round lines 1 front rounds
+
 -- as the lines themselves
-pub rounds_lines : (keep : keepers.Ghosts (List Line)) (names : List (List ℕ))
+rounds_lines : (keep : keepers.Ghosts (List Line)) (names : List (List ℕ))
     → ((kept : List Line) (n : ℕ) → keep.with_round kept n ≡ kept)
     → ((kept lines : List Line) → keep.with_lines names kept lines ≡ kept ++ lines)
     → (n : ℕ) (kept : List Line) (rounds : List ToldRound) → with_rounds keep names n kept rounds ≡ kept ++ all_lines rounds
@@ -126,3 +133,10 @@ rounds_lines keep names round lines n kept (r ∷ rounds) =
     rounds_lines keep names round lines (n + 1) (keep.with_lines names (keep.with_round kept n) r.lines) rounds
     ∙ ap (λ t. t ++ all_lines rounds) (lines (keep.with_round kept n) r.lines ∙ ap (λ t. t ++ r.lines) (round kept n))
     ∙ append_assoc kept r.lines (all_lines rounds)
+
+pub kept_lines : (keep : keepers.Ghosts (List Line)) (names : List (List ℕ)) (first kept : List Line) (rounds : List ToldRound)
+    → kept ≡ with_rounds keep names 1 first rounds → first ≡ []
+    → ((kept : List Line) (n : ℕ) → keep.with_round kept n ≡ kept)
+    → ((kept lines : List Line) → keep.with_lines names kept lines ≡ kept ++ lines)
+    → kept ≡ all_lines rounds
+kept_lines keep names first kept rounds e none round lines = e ∙ rounds_lines keep names round lines 1 first rounds ∙ ap (λ t. t ++ all_lines rounds) none

@@ -6,7 +6,7 @@ ghost use Rattle.session_run.specs.Tool.{IsAccepted, IsTask};
 use script_gen::{Asked, asked};
 
 /// What is asked for.
-#[derive(Clone, Copy, Debug, PartialEq, Eq)]
+#[derive(Clone, Copy)]
 pub enum Task {
     /// A run of the source's script, with its report.
     Run,

@@ -1,4 +1,4 @@
-use Rattle.std.proofs.Common.{IsTrue, ap, arith, length, refl, ◌++◌, ◌<◌, ◌≡◌, ◌^◌, ◌∙◌}
+use Rattle.std.proofs.Common.{IsTrue, ap, arith, length, refl, ◌<◌, ◌≡◌, ◌^◌, ◌∙◌}
 use Rattle.std.proofs.lemmas.Result.{IfOk-weaker}
 use Rattle.tx_model.specs.declared.report.Life.{Life}
 use Rattle.wal_core.specs.LogViews.{log_disk}
@@ -7,7 +7,7 @@ use Rattle.script_gen.specs.Counts.{summary_by, summary_text}
 use Rattle.script_rounds.specs.Counted.{verdicts_in}
 use Rattle.session_run.specs.Records.{LogHolds}
 use Rattle.session_run.proofs.LifeTold.{counts_told, verdicts_few}
-use Rattle.session_run.proofs.RoundSteps.{rounds_lines}
+use Rattle.session_run.proofs.RoundSteps.{kept_lines}
 use Rattle.session_run.proofs.run.count_life.Goals as goal
 
 pub returns : goal.returns
@@ -18,8 +18,7 @@ returns g c =
     let tally = c.run_life-closed.new.kept in
     let lived = rw c.in-Ok.is at c.run_life-closed.ensures.lived in
     let rounds = lived.0 in
-    let kept : tally ≡ all_lines rounds =
-    lived.2 ∙ rounds_lines _ s.names (λ kept n. refl) (λ kept lines. refl) 1 c.none-tally.result rounds ∙ ap (λ t. t ++ all_lines rounds) c.none-tally.ensures in
+    let kept : tally ≡ all_lines rounds = kept_lines _ s.names c.none-tally.result tally rounds lived.2 c.none-tally.ensures (λ kept n. refl) (λ kept lines. refl) in
     let size = ap length kept in
     let few = lived.1.few in
     let long : length tally < 2 ^ 64 = omega (arith, size, few) in

@@ -6,7 +6,7 @@ use Rattle.engine_life.specs.Lives.{life_told}
 use Rattle.wal_core.specs.LogViews.{log_disk}
 use Rattle.session_run.specs.Records.{LogHolds}
 use Rattle.session_run.proofs.LifeTold.{rest_told}
-use Rattle.session_run.proofs.RoundSteps.{rounds_text}
+use Rattle.session_run.proofs.RoundSteps.{kept_text}
 use Rattle.session_run.proofs.run.report_life.Goals as goal
 
 pub returns : goal.returns
@@ -18,7 +18,7 @@ returns g c =
       report = on_ok_weaker c.end_report-ended.result
           (λ exact. rest_told g.P.PageDisk.tells s _ lived.0 c.args.text.now c.run_life-closed.new.kept c.end_report-ended.new.out
           (λ (life : Life). IsTrue log.tells → LogHolds log life (log_disk c.run_life-closed.result.0.log)) lived.1
-          (lived.2 ∙ rounds_text _ s.names (λ text n. refl) (λ text lines. refl) 1 c.args.text.now lived.0)
+          (kept_text _ s.names c.args.text.now c.run_life-closed.new.kept lived.0 lived.2 (λ text n. refl) (λ text lines. refl))
           (exact s.base ∙ ap (λ h. c.run_life-closed.new.kept ++ (rest_text s.names (life_told s.base h c.run_life-closed.result.0.log) None ++ end_text)) c.items.ensures) lived.3)
           c.end_report-ended.ensures.ok;
     }

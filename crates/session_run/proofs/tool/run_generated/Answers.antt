@@ -10,7 +10,3 @@ count_script-requires-clause-taken g c κs within =
 pub returns-in-Ok-count_script-clause-ends : goal.returns-in-Ok-count_script-clause-ends
 returns-in-Ok-count_script-clause-ends g c = λ left faults.
     summed g.M.Log.LogDisk g.M.Pages.PageDisk c.args.seed c.args.size c.in-Ok.script c.in-Ok-count_script.text.items (g.M.Media.gives c.count_script.new.media) c.in-Ok.ensures c.in-Ok-count_script.ensures.counts
-
-pub returns-in-Err-clause-ends : goal.returns-in-Err-clause-ends
-returns-in-Err-clause-ends g c = λ left faults.
-    unopened_ends g.M.Log.LogDisk g.M.Pages.PageDisk _ left left faults faults _ _ _ _ c.unopened.result c.unopened.ensures (c.in-Ok.script, (c.in-Ok.ensures, refl), c.in-Err.ensures.refused)

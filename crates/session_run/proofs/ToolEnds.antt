@@ -175,7 +175,7 @@ module _ {L P : Type 0} (l : logs.Ghosts L) (p : disks.Ghosts P) (words : List (
     pub counted : status ≡ 0 → (IsRun words → ⊥) → HoldsSummary
     pub script : status ≡ 1 → IsRun words × IsRefused left left' held held'
     pub refused : status ≡ 2 → ⊥
-    pub read : status ≡ 3 → Rose faults faults' × Appends held held' (codes "read-fault" ++ 10 ∷ [])
+    pub read : status ≡ 3 → IsRun words × Rose faults faults' × Appends held held' (codes "read-fault" ++ 10 ∷ [])
     pub write : status ≡ 4 → B
     pub device : status ≡ 5 → HasDeviceFailed l p before now gives × Appends held held' (codes "device" ++ 10 ∷ [])
     pub memory : status ≡ 6 → Appends held held' (codes "memory" ++ 10 ∷ [])
@@ -199,8 +199,8 @@ module _ {L P : Type 0} (l : logs.Ghosts L) (p : disks.Ghosts P) (words : List (
   script (endings.NoScript text) k w = (run_asked words task is k.0, record { text = text.items; refusal = k.1; written = w.1 })
   script e k w = absurd (omega (arith, w.0))
 
-  read : (e : Ending) → Ended e → (status_of e ≡ 3) × Wrote e → Rose faults faults' × Appends held held' (codes "read-fault" ++ 10 ∷ [])
-  read endings.ReadFault k w = (k.1, w.1)
+  read : (e : Ending) → Ended e → (status_of e ≡ 3) × Wrote e → IsRun words × Rose faults faults' × Appends held held' (codes "read-fault" ++ 10 ∷ [])
+  read endings.ReadFault k w = (run_asked words task is k.0, k.1, w.1)
   read e k w = absurd (omega (arith, w.0))
 
   device : (e : Ending) → Ended e → (status_of e ≡ 5) × Wrote e → HasDeviceFailed l p before now gives × Appends held held' (codes "device" ++ 10 ∷ [])

@@ -186,7 +186,7 @@ where
         × IsRefused (S.left source.old) (S.left source.new) (K.held sink.old) (K.held sink.new) }
     ensures words { result ≡ 2 → IsAccepted (map string_bytes words.now) → ⊥ }
     ensures words_only { (IsAccepted (map string_bytes words.now) → ⊥) → (result ≡ 2) ⊎ (result ≡ 4) }
-    ensures read { result ≡ 3 → Rose (S.faults source.old) (S.faults source.new) }
+    ensures read { result ≡ 3 → IsRun (map string_bytes words.now) × Rose (S.faults source.old) (S.faults source.new) }
     ensures write { result ≡ 4 → Rose (K.faults sink.old) (K.faults sink.new) }
     ensures front { result ≡ 4 → HoldsFront M.Log.LogDisk M.Pages.PageDisk (map string_bytes words.now)
         (S.left source.old) (S.left source.new) (S.faults source.old) (S.faults source.new)

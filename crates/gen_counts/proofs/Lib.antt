@@ -2,9 +2,7 @@ pub mod Replies
 pub mod Goes
 pub mod Running
 pub mod Walk
-pub mod Sums
 pub mod Once
-pub mod Turns
 pub mod IdSteps
 pub mod FewIds
 pub mod Wide

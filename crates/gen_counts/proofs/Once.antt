@@ -14,7 +14,7 @@ use Rattle.tx_model.specs.Replies.{RoundSpan}
 use Rattle.tx_model.specs.Rounds.{lines_in}
 use Rattle.life_law.specs.Facts.{Facts}
 use Rattle.life_law.specs.Lines.{IsLawfulLine, IsLawfulRound}
-use Rattle.gen_counts.proofs.Sums.{count_cons, count_push, is_nil, is_one, parts_count}
+use Rattle.run_law.proofs.PartSums.{count_cons, count_push, is_nil, is_one, parts_count}
 use Rattle.gen_counts.proofs.Walk.{by_line}
 
 abbrev is_of : By → Line → Bool

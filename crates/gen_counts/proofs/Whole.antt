@@ -37,8 +37,8 @@ use Rattle.gen_counts.proofs.EventKinds.{aborts_are, commits_are, ids_are, own_q
 use Rattle.gen_counts.proofs.Once.{events_counted}
 use Rattle.gen_counts.proofs.Replies.{IsWide}
 use Rattle.gen_counts.proofs.Running.{run_from, transactions_run}
-use Rattle.gen_counts.proofs.Sums.{count_all, count_map, one, sum_same}
-use Rattle.gen_counts.proofs.Turns.{Turns, all_turns, lines_count, session_turns, turns_of_all}
+use Rattle.run_law.proofs.PartSums.{count_all, count_map, one, sum_same}
+use Rattle.run_law.proofs.AllTurns.{Turns, all_turns, lines_count, session_turns, turns_of_all}
 use Rattle.gen_counts.proofs.Walk.{IsFine, IsGood, all_walk, by_line, commands_of}
 use Rattle.gen_counts.proofs.Wide.{IsQuiet, wide}
 

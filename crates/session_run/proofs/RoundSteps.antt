@@ -20,7 +20,7 @@ use Rattle.script_rounds.proofs.RoundLemmas.{first_round, turns_short}
 use Rattle.session_promise.specs.Closing.{AreRoundsOf, steps_of}
 use Rattle.session_promise.specs.Told.{ToldRound, all_lines}
 use Rattle.session_run.specs.Runs.{with_rounds}
-use Rattle.session_run.proofs.RoundCounts.{Turns}
+use Rattle.run_law.proofs.AllTurns.{Turns}
 
 pub not_empty : {X : Type 0} (xs : List X) (b : Bool) → ((b ≡ true) ↔ (xs ≡ [])) → b ≡ false → 0 < length xs
 not_empty [] b k e = absurd (false≢true (sym e ∙ k.1 refl))

@@ -18,7 +18,8 @@ use Rattle.session_promise.specs.Told.{ToldRound}
 use Rattle.session_run.specs.Rounds.{AreParked, MayAdd}
 use Rattle.session_run.specs.GoesOn.{AreHome, GoesOn, HasRoundMore}
 use Rattle.session_run.specs.Runs.{HasRun, with_rounds}
-use Rattle.session_run.proofs.RoundCounts.{Turns, lines_short, own_short, turns_of_all}
+use Rattle.run_law.proofs.AllTurns.{Turns, turns_of_all}
+use Rattle.session_run.proofs.RoundCounts.{lines_short, own_short}
 use Rattle.session_run.proofs.RoundSteps.{as_many, rounds_push, told_push}
 
 get_session : (xs : List Session) (n : ℕ) (d : Session) → n < length xs → slice_get xs n ≡ Some (get_or xs n d)

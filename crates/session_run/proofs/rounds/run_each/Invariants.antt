@@ -4,7 +4,7 @@ use Rattle.session_lang.specs.Rounds.{rounds_of}
 use Rattle.run_law.specs.Turns.{MayRun}
 use Rattle.script_rounds.specs.Plans.{IsBlank}
 use Rattle.session_run.specs.Runs.{HasRun}
-use Rattle.session_run.proofs.RoundCounts.{Turns}
+use Rattle.run_law.proofs.AllTurns.{Turns}
 use Rattle.session_run.proofs.rounds.run_each.Given as goal
 
 abbrev pub invariant-loop-rest : goal.invariant-loop-rest

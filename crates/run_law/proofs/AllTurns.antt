@@ -19,7 +19,7 @@ use Rattle.session_lang.specs.declared.script.Item.TheVariants as items
 use Rattle.session_lang.specs.Rounds.{round_of, rounds_from, rounds_of, turns_of}
 use Rattle.session_lang.proofs.SeenLemmas.{is_in}
 use Rattle.run_law.specs.Turns.{turns_in}
-use Rattle.gen_counts.proofs.Sums.{count_cons, count_join, is_nil, is_one, parts_count, seen_once}
+use Rattle.run_law.proofs.PartSums.{count_cons, count_join, is_nil, is_one, parts_count, seen_once}
 
 abbrev pub Turns : Type 0
 Turns = List (ℕ × Command)

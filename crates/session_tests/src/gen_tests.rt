@@ -55,7 +55,7 @@ fn each_run_says_the_same(rt: HostRuntime) -> Result<(), Fail> {
 }
 
 #[test]
-fn other_words_are_refused(rt: HostRuntime) -> Result<(), Fail> {
+fn gen_takes_two_words(rt: HostRuntime) -> Result<(), Fail> {
     let refused = (2, "words\n");
     check_words(&rt, &["gen"], refused)?;
     check_words(&rt, &["gen", "1"], refused)?;

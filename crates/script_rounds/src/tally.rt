@@ -1,7 +1,6 @@
 //! How many lines a run has.
-ghost use Rattle.std.specs.Prelude.{◌≡◌, ◌<◌, ◌^◌, Bool, [], length};
-ghost use Rattle.script_gen.specs.Counts.{is_verdict};
-ghost use Rattle.script_rounds.specs.Counted.{verdicts_in};
+ghost use Rattle.std.specs.Prelude.{◌≡◌, ◌<◌, ◌^◌, length};
+ghost use Rattle.script_rounds.specs.Counted.{verdict_count, verdicts_in};
 
 use crate::keeper::LineKeeper;
 use crate::told::ToldLines;
@@ -30,10 +29,14 @@ impl Model for Tally {
     ghost invariant = { λ t. (t.commands ≡ capped (length t.lines)) × (t.verdicts ≡ capped (verdicts_in t.lines)) };
 }
 
-fn is_verdict(reply: &Reply) -> bool
-    ensures { result ≡ is_verdict reply.now }
+/// 1 for a verdict, `visible` or `hidden`, and else 0.
+fn verdict_count(reply: &Reply) -> u64
+    ensures { result ≡ verdict_count reply.now }
 {
-    matches!(reply, Reply::Seen { .. })
+    match reply {
+        Reply::Seen { .. } => 1,
+        _ => 0,
+    }
 }
 
 impl Tally {
@@ -91,9 +94,7 @@ impl LineKeeper for Tally {
     ) -> Result<(), Memory> {
         self.lines.add(by, command, reply);
         self.commands = self.commands.saturating_add(1);
-        if is_verdict(reply) {
-            self.verdicts = self.verdicts.saturating_add(1);
-        }
+        self.verdicts = self.verdicts.saturating_add(verdict_count(reply));
         Ok(())
     }
 

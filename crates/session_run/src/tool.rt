@@ -22,6 +22,7 @@ use std::alloc::Global;
 use std::sync::Wait;
 use std::thread::Threads;
 use tx_io::{Failed, Sink, Source};
+use tx_model::Memory;
 
 /// Reads the source, runs its script over the media, and makes the report.
 fn run_source<R: Threads + Wait + Sync, S: Source, M: Media>(
@@ -75,8 +76,9 @@ where
     ensures count { M.faults media.old ≤ M.faults media.new }
 {
     generated_scripts_run();
-    let Ok(script) = generate(alloc, seed, size) else {
-        return Ending::Memory;
+    let script = match generate(alloc, seed, size) {
+        Ok(script) => script,
+        Err(Memory) => return Ending::Memory,
     };
     match count_script(rt, alloc, &script, media, threads) {
         Ok(text) => Ending::Summary(text),
@@ -218,9 +220,11 @@ where
     ensures no_room { result ≡ 9 → Appends (K.held sink.old) (K.held sink.new) (codes "log-full" ++ 10 ∷ []) }
     ensures no_new_log { result ≡ 10 → Appends (K.held sink.old) (K.held sink.new) (codes "old-log" ++ 10 ∷ []) }
 {
-    let Some(task) = task_of(words) else {
-        return finish(sink, b"words\n", 2);
-    };
-    let ending = work(rt, alloc, task, source, media, threads);
-    put_ending(sink, ending)
+    match task_of(words) {
+        Some(task) => {
+            let ending = work(rt, alloc, task, source, media, threads);
+            put_ending(sink, ending)
+        }
+        None => finish(sink, b"words\n", 2),
+    }
 }

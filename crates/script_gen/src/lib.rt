@@ -12,4 +12,4 @@ mod writer;
 
 pub use generator::generate;
 pub use summary::Summary;
-pub use words::{Asked, asked};
+pub use words::{Asked, gen_words};

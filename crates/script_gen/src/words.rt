@@ -58,7 +58,7 @@ fn asked_by(name: &String, seed: &String, size: &String) -> Option<Asked>
 
 /// Which script the words ask for, if they are `gen SEED SIZE`: SEED 1 to 10 decimal digits, from 1 to 2147483646, and
 /// SIZE as many, from 1 to 100,000.
-pub fn asked(words: &[String]) -> Option<Asked>
+pub fn gen_words(words: &[String]) -> Option<Asked>
     ensures is { IfSome result (λ asked. IsGen (map string_bytes words.now) asked.seed asked.size) }
     ensures only { IfNone result ((seed size : ℕ) → IsGen (map string_bytes words.now) seed size → ⊥) }
 {

@@ -3,7 +3,7 @@ ghost use Rattle.std.specs.Prelude.{◌≡◌, ◌↔◌, IfNone, IfSome, IsTrue
 ghost use Rattle.run_law.specs.Tool.{IsRun};
 ghost use Rattle.session_run.specs.Tool.{IsAccepted, IsTask};
 
-use script_gen::{Asked, asked};
+use script_gen::{Asked, gen_words};
 
 /// What is asked for.
 #[derive(Clone, Copy)]
@@ -37,7 +37,7 @@ pub fn task_of(words: &[String]) -> Option<Task>
     if is_run(words) {
         return Some(Task::Run);
     }
-    match asked(words) {
+    match gen_words(words) {
         Some(Asked { seed, size }) => Some(Task::Gen { seed, size }),
         None => None,
     }

@@ -1,5 +1,5 @@
 -- What the words of `gen` ask for.
-use Rattle.std.proofs.Common.{◌≡◌, ◌≢◌, ℕ, ◌≤◌, nat_le, ◌&&◌, Bool, true, false, cond, List, [], ◌∷◌, Option, None, Some, IfNone, IfSome, Ok, Err, ap, arith, codes, get_or, length, refl, subst, sym, ◌∙◌}
+use Rattle.std.proofs.Common.{◌≡◌, ◌≢◌, ℕ, ◌≤◌, nat_le, ◌&&◌, Bool, true, false, cond, List, [], ◌∷◌, Option, None, Some, IfNone, IfSome, Ok, Err, ap, arith, codes, get_or, length, map, refl, subst, sym, ◌∙◌}
 use Rattle.std.proofs.lemmas.Bool.{and_parts}
 use Rattle.std.proofs.lemmas.Bool.Decides.{nat_tests}
 use Rattle.std.proofs.lemmas.Option.{same_Some}
@@ -48,3 +48,12 @@ module _ (words : List (List ℕ)) (name seed size : List ℕ) (are : words ≡ 
 -- other words have another number
 pub not_three : (words : List (List ℕ)) → length words ≢ 3 → (n k : ℕ) → IsGen words n k → ⊥
 not_three words other n k gen = other (ap length gen.words_are)
+
+-- the bytes of three words
+pub three_words : {X : Type 0} (f : X → List ℕ) (xs : List X) (a b c : X) → length xs ≡ 3 → a ≡ get_or xs 0 a → b ≡ get_or xs 1 b → c ≡ get_or xs 2 c → map f xs ≡ f a ∷ f b ∷ f c ∷ []
+three_words f (x ∷ y ∷ z ∷ []) a b c n p q r =
+    ap (λ t. f t ∷ f y ∷ f z ∷ []) (sym p) ∙ ap (λ t. f a ∷ f t ∷ f z ∷ []) (sym q) ∙ ap (λ t. f a ∷ f b ∷ f t ∷ []) (sym r)
+three_words f [] a b c n p q r = absurd (omega (arith, n))
+three_words f (x ∷ []) a b c n p q r = absurd (omega (arith, n))
+three_words f (x ∷ y ∷ []) a b c n p q r = absurd (omega (arith, n))
+three_words f (x ∷ y ∷ z ∷ w ∷ xs) a b c n p q r = absurd (omega (arith, n))

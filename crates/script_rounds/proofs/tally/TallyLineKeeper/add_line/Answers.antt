@@ -10,6 +10,6 @@ invariant_of-self c =
     let line : Line = record { by = c.args.by; command = c.args.command.now; reply = c.args.reply.now } in
     let i = c.self.invariant in
     let both = counted_push was.lines line was.commands was.verdicts i.0 i.1 in (
-      c.saturating_add.ensures ∙ both.0 ∙ ap (λ t. capped (length t)) (sym c.add.ensures),
-      c.saturating_add-2.ensures ∙ ap (λ n. min (was.verdicts + n) (2 ^ 64 - 1)) c.verdict_count.ensures ∙ both.1 ∙ ap (λ t. capped (verdicts_in t)) (sym c.add.ensures),
+      c.saturating_add-self-inside.ensures ∙ both.0 ∙ ap (λ t. capped (length t)) (sym c.add.ensures),
+      c.saturating_add-self-inside-2.ensures ∙ ap (λ n. min (was.verdicts + n) (2 ^ 64 - 1)) c.verdict_count.ensures ∙ both.1 ∙ ap (λ t. capped (verdicts_in t)) (sym c.add.ensures),
     )

@@ -19,7 +19,7 @@ use Rattle.life_law.specs.Facts.{Facts}
 use Rattle.life_law.specs.Lines.{IsLawfulLine, IsLawfulRound}
 use Rattle.session_lang.proofs.SeenLemmas.{is_in}
 use Rattle.script_gen.specs.Counts.{gives_id}
-use Rattle.gen_counts.proofs.IdSteps.{bounds_of}
+use Rattle.life_law.proofs.IdSteps.{bounds_of}
 use Rattle.run_law.proofs.PartSums.{count_cons, parts_sum, seen_once, sum_less}
 use Rattle.gen_counts.proofs.Walk.{by_line, own_push}
 

@@ -25,7 +25,7 @@ use Rattle.engine_parts.specs.Stages.{pending_in}
 use Rattle.engine_parts.proofs.Answering.{answer_grows}
 use Rattle.session_promise.specs.Told.{Told, between, lines_of}
 use Rattle.session_promise.specs.Promise.{IsInRound, IsToldWell, recs_of}
-use Rattle.session_promise.proofs.PendingGrowth.{AreSettled, IsNotDown, pending_grows}
+use Rattle.life_law.proofs.PendingGrowth.{AreSettled, IsNotDown, pending_grows}
 use Rattle.session_promise.proofs.Widening.{AreWider, wider_at}
 
 -- what holds of the lines of all

@@ -1,4 +1,3 @@
-pub mod PendingGrowth
 pub mod Widening
 pub mod Growing
 pub mod Settling
@@ -6,7 +5,6 @@ pub mod Staying
 pub mod PendingFollows
 pub mod RecordPlaces
 pub mod Known
-pub mod IdSteps
 pub mod GoingOn
 pub mod Beginning
 pub mod Parting

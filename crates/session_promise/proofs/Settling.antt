@@ -29,7 +29,7 @@ use Rattle.engine_parts.specs.Stand.{IsDownAt}
 use Rattle.session_promise.specs.Told.{Told, lines_of}
 use Rattle.session_promise.specs.Promise.{IsToldWell, recs_of}
 use Rattle.session_promise.proofs.Growing.{IsUpTo, all_lines_of, all_places}
-use Rattle.session_promise.proofs.PendingGrowth.{AreSettled, IsNotDown, is_log_down}
+use Rattle.life_law.proofs.PendingGrowth.{AreSettled, IsNotDown, is_log_down}
 
 pub down_is : (start : Start) (es : List Entry) (flushed : ℕ) → IsDownAt start es flushed → is_down es ≡ true
 down_is start es flushed d =

@@ -62,6 +62,14 @@ module _ {H L P : Type 0} {l : logs.Ghosts L} {p : disks.Ghosts P} where
       → HasRun hall before old names asked front text
       → HasRun hall after new names (asked ++ added) front printed
 
+  -- so behind a directive
+  abbrev pub ShowsOn : Hall H (Part L P l p) Entry Start → List (List ℕ) → List Asked → Host L P l p → Host L P l p
+      → List Resting → List ℕ → List ℕ → Type 0
+  ShowsOn hall names added before after sessions text printed =
+      (asked : List Asked) (front : List ℕ)
+      → HasRun hall before sessions names asked front text
+      → HasRun hall after sessions names (asked ++ added) front printed
+
 -- Behind this text stands the report of a lawful life of the script, from its steps on.
 pub record IsRestOfReport (tells : Bool) (s : Script) (front text : List ℕ) : Type 0 where
   pub life : LifeReport

@@ -59,14 +59,14 @@ MayDump banks base recs h (dumps.Xact page) size (replies.Bytes bytes) =
 MayDump banks base recs h (dumps.Xact page) size (replies.Cut cutoff) =
     IsXactCutoff base recs cutoff × (is_xact_cut cutoff page ≡ true)
 MayDump banks base recs h (dumps.Xact page) size (replies.Refused (refusals.DiskFault (locks.Xact bank))) =
-    bank ≡ page % banks
+    (bank < banks) × (bank ≡ page % banks)
 MayDump banks base recs h (dumps.Subtrans page) size (replies.Bytes bytes) =
     AreBytes bytes × (length bytes ≡ size)
     × (cutoff : ℕ) × IsSubtransCutoff base h cutoff × (is_subtrans_cut cutoff page ≡ false)
 MayDump banks base recs h (dumps.Subtrans page) size (replies.Cut cutoff) =
     IsSubtransCutoff base h cutoff × (is_subtrans_cut cutoff page ≡ true)
 MayDump banks base recs h (dumps.Subtrans page) size (replies.Refused (refusals.DiskFault (locks.Subtrans bank))) =
-    bank ≡ page % banks
+    (bank < banks) × (bank ≡ page % banks)
 MayDump banks base recs h what size reply = ⊥
 
 -- the events of the rounds with these lines, which stand first

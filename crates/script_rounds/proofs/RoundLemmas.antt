@@ -10,11 +10,10 @@ use Rattle.std.proofs.lemmas.List.Filters.{length-filter_both}
 use Rattle.std.specs.List.{AllByRecursion, filter, flat_map}
 use Rattle.tx_model.specs.declared.command.Command.{Command}
 use Rattle.tx_model.specs.Asked as asked
-use Rattle.tx_model.specs.Asked.{Asked, round_in, rounds_in}
 use Rattle.tx_events.specs.Places.{first_seen}
 use Rattle.session_lang.specs.declared.script.Item.{Item}
 use Rattle.session_lang.specs.declared.script.Item.TheVariants as items
-use Rattle.session_lang.specs.Rounds.{asked_at, asked_from, asked_in, asked_of, asked_round, round_of, rounds_from, rounds_of, sessions_in, turns_of}
+use Rattle.session_lang.specs.Rounds.{asked_at, asked_from, asked_in, asked_of, asked_round, sessions_in, turns_of}
 use Rattle.run_law.specs.Turns.{is_command, turn_in, turns_in}
 
 -- the commands of the sessions other than x
@@ -135,25 +134,6 @@ only_commands turns (items.Round ∷ round) a = absurd (false≢true a.0)
 only_commands turns (items.Checkpoint ∷ round) a = absurd (false≢true a.0)
 only_commands turns (items.Crash how ∷ round) a = absurd (false≢true a.0)
 only_commands turns (items.Dump what at size ∷ round) a = absurd (false≢true a.0)
-
--- the rounds among what a script asks for are the script's
-one_asked : (turns : List (ℕ × Command)) → rounds_in (asked_round turns) ≡ round_of turns
-one_asked [] = refl
-one_asked (t ∷ turns) = refl
-
-next_asked : (turns : List (ℕ × Command)) (more : List Asked) (rounds : List (List (ℕ × Command))) → rounds_in more ≡ rounds → rounds_in (asked_round turns ++ more) ≡ round_of turns ++ rounds
-next_asked turns more rounds e = filter_map-append round_in (asked_round turns) more ∙ (ap (λ rs. rs ++ rounds_in more) (one_asked turns) ∙ ap (λ rs. round_of turns ++ rs) e)
-
-rounds_from_asked : (turns : List (ℕ × Command)) (script : List Item) → rounds_in (asked_from turns script) ≡ rounds_from turns script
-rounds_from_asked turns [] = one_asked turns
-rounds_from_asked turns (items.Run s c ∷ script) = rounds_from_asked (turns ++ (s, c) ∷ []) script
-rounds_from_asked turns (items.Round ∷ script) = next_asked turns (asked_of script) (rounds_of script) (rounds_from_asked [] script)
-rounds_from_asked turns (items.Checkpoint ∷ script) = next_asked turns (asked_of script) (rounds_of script) (rounds_from_asked [] script)
-rounds_from_asked turns (items.Crash how ∷ script) = next_asked turns (asked_of script) (rounds_of script) (rounds_from_asked [] script)
-rounds_from_asked turns (items.Dump what at size ∷ script) = next_asked turns (asked.dump what at size ∷ asked_of script) (rounds_of script) (rounds_from_asked [] script)
-
-pub rounds_asked : (script : List Item) → rounds_in (asked_of script) ≡ rounds_of script
-rounds_asked script = rounds_from_asked [] script
 
 -- what a script asks for: its first round, the directive behind that, and what the rest asks for
 pub first_asked : (script round rest : List Item) → AllByRecursion (λ item. is_command item ≡ true) round → ((script ≡ round) × (rest ≡ [])) ⊎ ((d : Item) × (is_command d ≡ false) × (script ≡ round ++ d ∷ rest)) → asked_of script ≡ asked_round (turns_in round) ++ (asked_at script (length round) ++ asked_of rest)

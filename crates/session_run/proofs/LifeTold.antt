@@ -16,7 +16,7 @@ use Rattle.report_text.specs.ReportText.{end_text, front_text, report_text, rest
 use Rattle.report_text.proofs.OneLife.{one_life}
 use Rattle.session_lang.specs.declared.script.Script.{Script}
 use Rattle.session_lang.specs.Rounds.{asked_of, rounds_of}
-use Rattle.script_rounds.proofs.RoundLemmas.{rounds_asked}
+use Rattle.session_lang.proofs.Asking.{rounds_asked}
 use Rattle.run_law.specs.Tool.{IsReportOf}
 use Rattle.tx_core.specs.declared.entry.Entry.{Entry}
 use Rattle.tx_core.specs.declared.entry.Start.{Start}

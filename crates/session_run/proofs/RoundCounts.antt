@@ -19,7 +19,8 @@ use Rattle.session_lang.specs.declared.script.Item.{Item}
 use Rattle.session_lang.specs.declared.script.Item.TheVariants as items
 use Rattle.session_lang.specs.Rounds.{asked_of, round_of, rounds_from, rounds_of, turns_of}
 use Rattle.run_law.specs.Turns.{turns_in}
-use Rattle.script_rounds.proofs.RoundLemmas.{grouped_short, rounds_asked, turns_short}
+use Rattle.session_lang.proofs.Asking.{rounds_asked}
+use Rattle.script_rounds.proofs.RoundLemmas.{grouped_short, turns_short}
 use Rattle.session_promise.specs.Promise.{is_made_level}
 use Rattle.session_promise.specs.Told.{ToldRound, all_lines, lines_by, lines_of, steps_of, told_by}
 use Rattle.session_promise.proofs.Telling.{lines_told}

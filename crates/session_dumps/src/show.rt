@@ -29,16 +29,14 @@ fn are_bytes(bytes: &[u8])
 }
 
 /// The answer of these bytes.
-fn bytes_reply(alloc: Global, bytes: &[u8]) -> Result<Reply, Memory>
-    ensures reply { IfOk result (λ reply. reply ≡ replies.Bytes bytes.now) }
-    ensures bytes { AreBytes bytes.now }
+fn bytes_reply(bytes: Vec<u8>) -> Reply
+    ensures reply { result ≡ replies.Bytes bytes.items }
+    ensures bytes { AreBytes bytes.items }
 {
-    are_bytes(bytes);
-    let mut list = Vec::new(alloc);
-    list.extend_from_slice(bytes)?;
-    Ok(Reply::Bytes {
-        bytes: ByteList::of(list),
-    })
+    are_bytes(bytes.as_slice());
+    Reply::Bytes {
+        bytes: ByteList::of(bytes),
+    }
 }
 
 /// The answer where a bank refused, which lies behind this lock.
@@ -63,13 +61,15 @@ fn show_log<R: Wait, L: LogDisk, P: PageDisk>(
     size: usize,
 ) -> Result<Reply, Memory>
     requires home { IsHome hall.now host.old }
-    requires size { size ≤ 64 }
     ensures stays { StaysHome hall.now host.old host.new }
     ensures reply { IfOk result (IsAnswered hall.now host.old dumps.Log size) }
 {
-    let mut bytes = [0u8; 64];
-    match dump_log(rt, hall, host, at, &mut bytes[..size]) {
-        Ok(count) => bytes_reply(alloc, &bytes[..count]),
+    let mut bytes = Vec::from_elem(alloc, 0u8, size)?;
+    match dump_log(rt, hall, host, at, bytes.as_mut_slice()) {
+        Ok(count) => {
+            bytes.truncate(count);
+            Ok(bytes_reply(bytes))
+        }
         Err(_) => Ok(Reply::Refused {
             refusal: Refusal::LogFault,
         }),
@@ -87,14 +87,14 @@ fn show_xact<R: Wait, L: LogDisk, P: PageDisk>(
     size: usize,
 ) -> Result<Reply, Memory>
     requires home { IsHome hall.now host.old }
-    requires size { (at + size ≤ 8192) × (size ≤ 64) }
+    requires size { at + size ≤ 8192 }
     ensures stays { StaysHome hall.now host.old host.new }
     ensures reply { IfOk result (IsAnswered hall.now host.old (dumps.Xact page) size) }
 {
     let bank = bank_of(page, host.cluster.banks);
-    let mut bytes = [0u8; 64];
-    match dump_xact(rt, hall, host, page, at, &mut bytes[..size]) {
-        Ok(()) => bytes_reply(alloc, &bytes[..size]),
+    let mut bytes = Vec::from_elem(alloc, 0u8, size)?;
+    match dump_xact(rt, hall, host, page, at, bytes.as_mut_slice()) {
+        Ok(()) => Ok(bytes_reply(bytes)),
         Err(refusal) => Ok(refused(Lock::Xact(bank), refusal)),
     }
 }
@@ -110,14 +110,14 @@ fn show_subtrans<R: Wait, L: LogDisk, P: PageDisk>(
     size: usize,
 ) -> Result<Reply, Memory>
     requires home { IsHome hall.now host.old }
-    requires size { (at + size ≤ 8192) × (size ≤ 64) }
+    requires size { at + size ≤ 8192 }
     ensures stays { StaysHome hall.now host.old host.new }
     ensures reply { IfOk result (IsAnswered hall.now host.old (dumps.Subtrans page) size) }
 {
     let bank = bank_of(page, host.cluster.banks);
-    let mut bytes = [0u8; 64];
-    match dump_subtrans(rt, hall, host, page, at, &mut bytes[..size]) {
-        Ok(()) => bytes_reply(alloc, &bytes[..size]),
+    let mut bytes = Vec::from_elem(alloc, 0u8, size)?;
+    match dump_subtrans(rt, hall, host, page, at, bytes.as_mut_slice()) {
+        Ok(()) => Ok(bytes_reply(bytes)),
         Err(refusal) => Ok(refused(Lock::Subtrans(bank), refusal)),
     }
 }

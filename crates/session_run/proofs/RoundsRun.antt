@@ -105,7 +105,7 @@ module _ {H L P : Type 0} {l : logs.Ghosts L} {p : disks.Ghosts P} where
   -- the sessions stay home while a dump is shown
   pub home_shown : (hall : Hall H (Part L P l p) Entry Start) (before after : Host L P l p) (sessions : List Resting) → AreHome hall before sessions → StaysHome hall before after → AreHome hall after sessions
   home_shown hall before after sessions home stays = record {
-    is_host = stays.home.host;
+    is_host = stays.home.is_host;
     all = stays.home.all;
     resting = λ n d inside. let q = home.resting n d inside in record { parked = stays.parked n (get_or sessions n d).session q.parked; text = q.text };
     count = home.count ∙ ap (λ (k : Cluster). k.sessions) (sym stays.cluster);

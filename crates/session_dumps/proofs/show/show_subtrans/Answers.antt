@@ -7,4 +7,4 @@ use Rattle.session_dumps.specs.Dumps.{IsAnswered}
 use Rattle.session_dumps.proofs.show.show_subtrans.Goals as goal
 
 pub bank_of-bank-requires : goal.bank_of-bank-requires
-bank_of-bank-requires g c = c.requires.home.host.cluster.banks.0
+bank_of-bank-requires g c = c.requires.home.is_host.cluster.banks.0

@@ -9,7 +9,7 @@ use Rattle.session_run.proofs.RoundsRun.{asked_may, home_shown, ran_dump, ran_sa
 use Rattle.session_run.proofs.rounds.show_next.Goals as goal
 
 pub show-reply-requires-clause-home : goal.show-reply-requires-clause-home
-show-reply-requires-clause-home g c = record { host = c.requires.home.is_host; all = c.requires.home.all }
+show-reply-requires-clause-home g c = record { is_host = c.requires.home.is_host; all = c.requires.home.all }
 
 pub show-reply-requires-clause-may : goal.show-reply-requires-clause-may
 show-reply-requires-clause-may g c =

@@ -1,8 +1,9 @@
-use Rattle.std.proofs.Common.{◌≡◌, ℕ, ◌%◌, List, refl, sym, ap, subst, ◌∙◌, arith, length}
+use Rattle.std.proofs.Common.{◌≡◌, ℕ, ◌%◌, List, drop, refl, sym, ap, subst, ◌∙◌, arith, length, take}
 use Rattle.hall.specs.Calls.{start_of, view}
 use Rattle.hall.specs.declared.view.Stage.TheVariants.{Inside}
 use Rattle.notes.specs.Lists.{at}
-use Rattle.slru_bank.specs.Calls.{cutoff_of}
+use Rattle.slru_bank.specs.Bank.{IsPage}
+use Rattle.slru_bank.specs.Calls.{cutoff_of, pages_of}
 use Rattle.tx_core.specs.declared.entry.Entry.{Entry}
 use Rattle.tx_core.specs.Locks.{xact_lock}
 use Rattle.engine_parts.specs.declared.part.Part.TheVariants as parts
@@ -50,10 +51,11 @@ returns-clause-bytes g c told =
     let bank = c.bank_of-bank.result in
     let here : bank ≡ c.args.page % start.banks = c.bank_of-bank.ensures.value ∙ ap (λ n. c.args.page % n) (sym c.requires.home.host.banks) in
     let count = length c.args.into.now in
+    let page : List ℕ = pages_of store c.args.page in
     ok_by _ c.read-found.result (λ x is.
     subst (λ (lists : List (List Entry)). ShowsXact start lists c.args.page c.args.from count c.read-found.new.into) i.seen
     (shows_xact start seen store bank c.args.page c.args.from count c.read-found.new.into i.kept c.take_xact-store.ensures.stands here (read_uncut c.args.page store now c.read-found.result x r.bank is) told
-    (record { whole = of_ok _ c.read-found.result x is (r.page told); piece = of_ok _ c.read-found.result x is (r.bytes told) })))
+    (record { whole = of_ok (IsPage page) c.read-found.result x is (r.page told); piece = of_ok (c.read-found.new.into ≡ take count (drop c.args.from page)) c.read-found.result x is (r.bytes told) })))
 
 pub returns-clause-uncut : goal.returns-clause-uncut
 returns-clause-uncut g c =

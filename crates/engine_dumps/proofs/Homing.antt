@@ -105,7 +105,6 @@ module _ {H L P : Type 0} {l : logs.Ghosts L} {p : disks.Ghosts P} where
         };
         cluster = refl;
         seen = seen;
-        kept = subst (EngineInvariant (start_of hall)) (sym (ap (λ (z : Knowledge). z.seen) is)) i.kept;
         parked = λ n s q. record {
           held = kept n q.held;
           below = q.below;

@@ -31,10 +31,9 @@ module _ {H L P : Type 0} {l : logs.Ghosts L} {p : disks.Ghosts P} where
     pub start : new.start ≡ old.start
     pub kept : EngineInvariant (start_of hall) (view new.pass).seen
 
-  -- No list has an entry more, the invariant holds of them, and each session that might be let in may be let in.
+  -- No list has an entry more, and each session that might be let in may be let in.
   pub record StaysHome (hall : Hall H (Part L P l p) Entry Start) (old new : Host L P l p) : Type 0 where
     pub home : IsHome hall new
     pub cluster : new.cluster ≡ old.cluster
     pub seen : (view new.pass).seen ≡ (view old.pass).seen
-    pub kept : EngineInvariant (start_of hall) (view new.pass).seen
     pub parked : (n : ℕ) (s : Session) → IsParked hall old n s → IsParked hall new n s

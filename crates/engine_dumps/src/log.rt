@@ -2,6 +2,7 @@
 ghost use Rattle.std.specs.Prelude.{◌≡◌, ◌≤◌, Err, IfOk, IsTrue, OnErr, length};
 ghost use Rattle.hall.specs.Calls.{start_of, view};
 ghost use Rattle.notes.specs.Lists.{at};
+ghost use Rattle.tx_core.specs.EngineInvariant.{EngineInvariant};
 ghost use Rattle.tx_core.specs.Locks.{log_lock};
 ghost use Rattle.wal_core.specs.declared.refusal.LogRefusal.TheVariants.{LogFault};
 ghost use Rattle.engine_dumps.specs.Homes.{IsHome, StaysHome};
@@ -26,6 +27,7 @@ pub fn dump_log<R: Wait, L: LogDisk, P: PageDisk>(
 ) -> Result<usize, LogRefusal>
     requires home { IsHome hall.now host.old }
     ensures stays { StaysHome hall.now host.old host.new }
+    ensures kept { EngineInvariant (start_of hall.now) (view host.old.pass).seen }
     ensures count { IfOk result (λ n. n ≤ length into.old) }
     ensures bytes { IsTrue L.tells → IfOk result (λ n. ShowsLog (start_of hall.now)
         (at (view host.old.pass).seen log_lock) from into.old n into.new) }

@@ -2,6 +2,7 @@
 ghost use Rattle.std.specs.Prelude.{◌≡◌, ℕ, ◌+◌, ◌%◌, ◌≤◌, Err, IsTrue, OnErr, OnOk, length};
 ghost use Rattle.hall.specs.Calls.{start_of, view};
 ghost use Rattle.slru_bank.specs.declared.refusal.BankRefusal.TheVariants.{Cut, DiskFault};
+ghost use Rattle.tx_core.specs.EngineInvariant.{EngineInvariant};
 ghost use Rattle.tx_core.specs.Locks.{subtrans_lock, xact_lock};
 ghost use Rattle.bank_sections.specs.Sections.{IsSubtransCut, IsXactCut};
 ghost use Rattle.engine_dumps.specs.Homes.{IsHome, StaysHome};
@@ -29,6 +30,7 @@ pub fn dump_xact<R: Wait, L: LogDisk, P: PageDisk>(
     requires home { IsHome hall.now host.old }
     requires range { from + length into.old ≤ 8192 }
     ensures stays { StaysHome hall.now host.old host.new }
+    ensures kept { EngineInvariant (start_of hall.now) (view host.old.pass).seen }
     ensures bytes { IsTrue P.tells → OnOk result (ShowsXact (start_of hall.now) (view host.old.pass).seen page from
         (length into.old) into.new) }
     ensures uncut { OnOk result (IsXactUncut (start_of hall.now) (view host.old.pass).seen
@@ -58,6 +60,7 @@ pub fn dump_subtrans<R: Wait, L: LogDisk, P: PageDisk>(
     requires home { IsHome hall.now host.old }
     requires range { from + length into.old ≤ 8192 }
     ensures stays { StaysHome hall.now host.old host.new }
+    ensures kept { EngineInvariant (start_of hall.now) (view host.old.pass).seen }
     ensures bytes { IsTrue P.tells → OnOk result (ShowsSubtrans (start_of hall.now) (view host.old.pass).seen page from
         (length into.old) into.new) }
     ensures uncut { OnOk result (IsSubtransUncut (start_of hall.now) (view host.old.pass).seen

@@ -7,6 +7,7 @@ use Rattle.wal_core.specs.LogViews.{log_disk}
 use Rattle.wal_core.specs.declared.refusal.LogRefusal.TheVariants.{LogFault}
 use Rattle.disk_core.specs.Volume.{IsRead}
 use Rattle.tx_core.specs.declared.entry.Entry.{Entry}
+use Rattle.tx_core.specs.EngineInvariant.{EngineInvariant}
 use Rattle.tx_core.specs.Locks.{log_lock}
 use Rattle.engine_parts.specs.Parts.{IsLogOf}
 use Rattle.engine_dumps.specs.Shown.{HasFailed, ShowsLog}
@@ -31,6 +32,9 @@ put_back-requires-clause-stands g c =
 
 pub returns-clause-stays : goal.returns-clause-stays
 returns-clause-stays g c = came_home c.args.hall.now log_lock c.args.host.now c.take_log-log.new.host _ c.requires.home c.take_log-log.ensures.inside c.put_back.ensures.own.0 c.put_back.ensures.view refl refl
+
+pub returns-clause-kept : goal.returns-clause-kept
+returns-clause-kept g c = let i = c.take_log-log.ensures.inside in subst (EngineInvariant (start_of c.args.hall.now)) i.seen i.kept
 
 pub returns-clause-bytes : goal.returns-clause-bytes
 returns-clause-bytes g c told =

@@ -5,6 +5,7 @@ use Rattle.notes.specs.Lists.{at}
 use Rattle.slru_bank.specs.Bank.{IsPage}
 use Rattle.slru_bank.specs.Calls.{cutoff_of, pages_of}
 use Rattle.tx_core.specs.declared.entry.Entry.{Entry}
+use Rattle.tx_core.specs.EngineInvariant.{EngineInvariant}
 use Rattle.tx_core.specs.Locks.{subtrans_lock}
 use Rattle.engine_parts.specs.declared.part.Part.TheVariants as parts
 use Rattle.engine_parts.specs.Parts.{IsSubtransOf}
@@ -39,6 +40,9 @@ put_back-requires-clause-stands g c =
 
 pub returns-clause-stays : goal.returns-clause-stays
 returns-clause-stays g c = came_home c.args.hall.now (subtrans_lock c.bank_of-bank.result) c.args.host.now c.take_subtrans-store.new.host _ c.requires.home c.take_subtrans-store.ensures.inside c.put_back.ensures.own.0 c.put_back.ensures.view refl refl
+
+pub returns-clause-kept : goal.returns-clause-kept
+returns-clause-kept g c = let i = c.take_subtrans-store.ensures.inside in subst (EngineInvariant (start_of c.args.hall.now)) i.seen i.kept
 
 pub returns-clause-bytes : goal.returns-clause-bytes
 returns-clause-bytes g c told =

@@ -52,13 +52,13 @@ sees_same start v lists all m =
 
 module _ {H L P : Type 0} {l : logs.Ghosts L} {p : disks.Ghosts P} where
   has_each : (hall : Hall H (Part L P l p) Entry Start) (host : Host L P l p) → IsHome hall host → (n : ℕ) → n < (start_of hall).sessions → Holds (view host.pass) n
-  has_each hall host home n below = ⊎_elim (λ held. held) (λ k. absurd (contains_has [] n k)) (home.all n (omega (arith, below, home.host.sessions)))
+  has_each hall host home n below = ⊎_elim (λ held. held) (λ k. absurd (contains_has [] n k)) (home.all n (omega (arith, below, home.is_host.sessions)))
 
   -- so is what it knows inside a lock
   pub went_in : (hall : Hall H (Part L P l p) Entry Start) (lock : ℕ) (old new : Host L P l p) (part : Part L P l p) (v : Knowledge) → IsHome hall old → IsOf hall new.pass → new.pass.cell ≡ lock → new.cluster ≡ old.cluster → new.start ≡ old.start → Looked (view old.pass) v
       → Entered session_of writer_of PartStands EngineInvariant (start_of hall) lock v part (view new.pass) → IsInside hall lock old new
   went_in hall lock old new part v home own cell cluster start looked entered =
-      let into : Enters (start_of hall) lock (view old.pass) (view new.pass) = enters PartStands (start_of hall) lock (view old.pass) v (view new.pass) part home.host.own.named looked entered in
+      let into : Enters (start_of hall) lock (view old.pass) (view new.pass) = enters PartStands (start_of hall) lock (view old.pass) v (view new.pass) part home.is_host.own.named looked entered in
       let holds : v.holds ≡ (view old.pass).holds = ap (λ (z : Knowledge). z.holds) looked.1 in
       let all : (n : ℕ) → n < (start_of hall).sessions → Holds v n = λ n below. ap (λ (bs : List Bool). slice_index_or bs n false) holds ∙ has_each hall old home n below in
       let same : entered.lists ≡ v.seen = sees_same (start_of hall) v entered.lists all entered.moment in
@@ -77,7 +77,7 @@ module _ {H L P : Type 0} {l : logs.Ghosts L} {p : disks.Ghosts P} where
   -- a host that left the lock again, and nothing else changed
   pub came_home : (hall : Hall H (Part L P l p) Entry Start) (lock : ℕ) (old within new : Host L P l p) → IsHome hall old → IsInside hall lock old within → IsOf hall new.pass → view new.pass ≡ released (view within.pass) → new.cluster ≡ within.cluster → new.start ≡ within.start → StaysHome hall old new
   came_home hall lock old within new home i own is cluster start =
-      let h = home.host in
+      let h = home.is_host in
       let name : (view new.pass).name ≡ (view old.pass).name = ap (λ (z : Knowledge). z.name) is ∙ i.name in
       let holds : (view new.pass).holds ≡ (view old.pass).holds = ap (λ (z : Knowledge). z.holds) is ∙ i.holds in
       let seen : (view new.pass).seen ≡ (view old.pass).seen = ap (λ (z : Knowledge). z.seen) is ∙ i.seen in
@@ -88,7 +88,7 @@ module _ {H L P : Type 0} {l : logs.Ghosts L} {p : disks.Ghosts P} where
       let there_is : there ≡ new = λ j. record new { cluster = sym cluster' j; start = sym start' j } in
       subst (λ (z : Host L P l p). StaysHome hall old z) there_is (record {
         home = record {
-          host = record {
+          is_host = record {
             own = own;
             free = ap (λ (z : Knowledge). z.stage) is;
             cluster = h.cluster;

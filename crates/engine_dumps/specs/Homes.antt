@@ -16,7 +16,7 @@ use Rattle.engine_host.specs.Hosts.{HoldsAllBut, IsHost, IsParked}
 module _ {H L P : Type 0} {l : logs.Ghosts L} {p : disks.Ghosts P} where
   -- the host of the table has all names, so no session is in
   pub record IsHome (hall : Hall H (Part L P l p) Entry Start) (host : Host L P l p) : Type 0 where
-    pub host : IsHost hall host
+    pub is_host : IsHost hall host
     pub all : HoldsAllBut host []
 
   -- it is what it was, and is inside this lock

@@ -44,17 +44,17 @@ pub record IsPieceOf (page : List ℕ) (at count : ℕ) (bytes : List ℕ) : Typ
 
 -- The bytes stand on the stored page of pg_xact. There each id in use has the state that the list set last, or else the
 -- one that the pages showed at a clean start.
-pub record ShowsXact (start : Start) (lists : List (List Entry)) (page at count : ℕ) (bytes : List ℕ) : Type 0 where
+pub record ShowsXact (start : Start) (lists : List (List Entry)) (page from count : ℕ) (bytes : List ℕ) : Type 0 where
   pub on : List ℕ
-  pub piece : IsPieceOf on at count bytes
+  pub piece : IsPieceOf on from count bytes
   pub states : AreFewIds lists → (shown : ℕ → Option State) × CleanStart start shown
       × ((x : ℕ) → IsInUse start x → xact_page_of x ≡ page
       → state_in on (xact_place_of x) ≡ number_of_state (state_read shown (marks (at lists (xact_lock_of start x))) x))
 
 -- The bytes stand on the stored page of pg_subtrans. There each id in use has the parent that was set last, or none.
-pub record ShowsSubtrans (start : Start) (lists : List (List Entry)) (page at count : ℕ) (bytes : List ℕ) : Type 0 where
+pub record ShowsSubtrans (start : Start) (lists : List (List Entry)) (page from count : ℕ) (bytes : List ℕ) : Type 0 where
   pub on : List ℕ
-  pub piece : IsPieceOf on at count bytes
+  pub piece : IsPieceOf on from count bytes
   pub parents : AreFewIds lists → (x : ℕ) → IsInUse start x → word_page_of x ≡ page
       → number_in on (word_place_of x)
       ≡ number_of_parent (parent_read (flat_map links_in (at lists (subtrans_lock_of start x))) x)

@@ -1,4 +1,4 @@
 mod Starting
 mod Hosting
-mod Parking
+pub mod Parking
 mod Refusing

@@ -14,4 +14,4 @@ returns-clause-inside g c =
 pub returns-clause-stands : goal.returns-clause-stands
 returns-clause-stands g c =
     let v = c.enter.ensures.view in
-    stood PartStands (start_of c.args.hall.now) c.args.lock (view c.args.host.now.pass) v.0 (view c.enter.new.pass) c.enter.result c.requires.home.host.own.named v.1 v.2
+    stood PartStands (start_of c.args.hall.now) c.args.lock (view c.args.host.now.pass) v.0 (view c.enter.new.pass) c.enter.result c.requires.home.is_host.own.named v.1 v.2

@@ -7,7 +7,7 @@ use Rattle.engine_parts.proofs.Placing.{is_xact}
 use Rattle.engine_dumps.proofs.home.take_xact.Goals as goal
 
 pub take_part-part-requires-clause-lock : goal.take_part-part-requires-clause-lock
-take_part-part-requires-clause-lock g c = omega (arith, c.requires.home.host.laid, c.requires.bank.0)
+take_part-part-requires-clause-lock g c = omega (arith, c.requires.home.is_host.laid, c.requires.bank.0)
 
 pub returns-clause-stands : goal.returns-clause-stands
 returns-clause-stands g c =

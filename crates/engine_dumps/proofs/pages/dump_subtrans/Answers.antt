@@ -17,11 +17,11 @@ use Rattle.engine_dumps.proofs.Showing.{of_ok, ok_by, read_same, read_uncut, sho
 use Rattle.engine_dumps.proofs.pages.dump_subtrans.Goals as goal
 
 pub bank_of-bank-requires : goal.bank_of-bank-requires
-bank_of-bank-requires g c = c.requires.home.host.cluster.banks.0
+bank_of-bank-requires g c = c.requires.home.is_host.cluster.banks.0
 
 pub take_subtrans-store-requires-clause-bank : goal.take_subtrans-store-requires-clause-bank
 take_subtrans-store-requires-clause-bank g c =
-    let h = c.requires.home.host in
+    let h = c.requires.home.is_host in
     (omega (arith, h.banks, c.bank_of-bank.ensures.within), omega (arith, h.banks, h.cluster.banks.1))
 
 pub put_back-requires-clause-inside : goal.put_back-requires-clause-inside
@@ -53,7 +53,7 @@ returns-clause-bytes g c told =
     let now = c.read-found.new.self in
     let r = c.read-found.ensures in
     let bank = c.bank_of-bank.result in
-    let here : bank ≡ c.args.page % start.banks = c.bank_of-bank.ensures.value ∙ ap (λ n. c.args.page % n) (sym c.requires.home.host.banks) in
+    let here : bank ≡ c.args.page % start.banks = c.bank_of-bank.ensures.value ∙ ap (λ n. c.args.page % n) (sym c.requires.home.is_host.banks) in
     let count = length c.args.into.now in
     let page : List ℕ = pages_of store c.args.page in
     ok_by _ c.read-found.result (λ x is.
@@ -66,7 +66,7 @@ returns-clause-uncut g c =
     let start = start_of c.args.hall.now in
     let i = c.take_subtrans-store.ensures.inside in
     let store = c.take_subtrans-store.result in
-    let here : c.bank_of-bank.result ≡ c.args.page % start.banks = c.bank_of-bank.ensures.value ∙ ap (λ n. c.args.page % n) (sym c.requires.home.host.banks) in
+    let here : c.bank_of-bank.result ≡ c.args.page % start.banks = c.bank_of-bank.ensures.value ∙ ap (λ n. c.args.page % n) (sym c.requires.home.is_host.banks) in
     ok_by _ c.read-found.result (λ x is.
     subst (λ (z : List (List Entry) × ℕ). IsSubtransUncut start z.0 z.1 c.args.page) (λ j. (i.seen j, here j))
     (cutoff_of store, c.take_subtrans-store.ensures.stands.cutoff_is, read_uncut c.args.page store c.read-found.new.self c.read-found.result x c.read-found.ensures.bank is))
@@ -76,7 +76,7 @@ returns-clause-cut g c cutoff is =
     let start = start_of c.args.hall.now in
     let i = c.take_subtrans-store.ensures.inside in
     let cut = c.read-found.ensures.bank.calls.only_cut cutoff is in
-    let here : c.bank_of-bank.result ≡ c.args.page % start.banks = c.bank_of-bank.ensures.value ∙ ap (λ n. c.args.page % n) (sym c.requires.home.host.banks) in
+    let here : c.bank_of-bank.result ≡ c.args.page % start.banks = c.bank_of-bank.ensures.value ∙ ap (λ n. c.args.page % n) (sym c.requires.home.is_host.banks) in
     subst (λ (z : List (List Entry) × ℕ × ℕ). IsSubtransCut start z.0 z.1 c.args.page z.2) (λ j. (i.seen j, here j, sym cut.0 j))
     (c.take_subtrans-store.ensures.stands.cutoff_is, cut.1)
 
@@ -89,7 +89,7 @@ returns-clause-fault g c is =
     let now = c.read-found.new.self in
     let r = c.read-found.ensures in
     let bank = c.bank_of-bank.result in
-    let here : bank ≡ c.args.page % start.banks = c.bank_of-bank.ensures.value ∙ ap (λ n. c.args.page % n) (sym c.requires.home.host.banks) in
+    let here : bank ≡ c.args.page % start.banks = c.bank_of-bank.ensures.value ∙ ap (λ n. c.args.page % n) (sym c.requires.home.is_host.banks) in
     let stood = c.take_subtrans-store.ensures.stands in
     let failed : HasFailed g.L.LogDisk g.P.PageDisk start seen (subtrans_lock bank) = record {
       before = parts.Subtrans store;

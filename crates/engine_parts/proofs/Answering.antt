@@ -84,7 +84,7 @@ few_before lists more g few =
     omega arith
 
 -- the records stay
-logged_before : (start : Start) (lists more : List (List Entry)) → Grows lists more → (rec : Rec) → Contains (start.logged ++ recs_in (at lists log_lock)) rec → Contains (start.logged ++ recs_in (at more log_lock)) rec
+pub logged_before : (start : Start) (lists more : List (List Entry)) → Grows lists more → (rec : Rec) → Contains (start.logged ++ recs_in (at lists log_lock)) rec → Contains (start.logged ++ recs_in (at more log_lock)) rec
 logged_before start lists more g rec c =
     let b = g.begins log_lock in
     let split : recs_in (at lists log_lock) ++ recs_in b.0 ≡ recs_in (at more log_lock) = sym (recs_both (at lists log_lock) b.0) ∙ ap recs_in b.1 in

@@ -1,6 +1,5 @@
 -- What a command asks for by how its session stands, and where it leaves an end.
-use Rattle.std.specs.Prelude.{◌≡◌, ◌⊎◌, ◌≤◌, ℕ, nat_le, Bool, true, false, is_some, is_none}
-use Rattle.std.specs.List.{list_any}
+use Rattle.std.specs.Prelude.{◌≡◌, ◌⊎◌, ◌≤◌, ℕ, nat_le, Bool, true, false, is_some}
 use Rattle.tx_events.specs.declared.refusal.Lock.{Lock}
 use Rattle.tx_events.specs.declared.refusal.Lock.TheVariants as locks
 use Rattle.tx_events.specs.declared.refusal.Refusal.{Refusal}
@@ -12,6 +11,7 @@ use Rattle.tx_model.specs.declared.reply.Reply.TheVariants as replies
 use Rattle.tx_model.specs.CommandEvents.{innermost}
 use Rattle.tx_model.specs.Stance.{Stance, top_level}
 use Rattle.life_law.specs.Refused.{is_by_standing}
+use Rattle.life_law.specs.Replies.{lacks_id}
 use Rattle.engine_parts.specs.declared.session.Stage.{Stage}
 use Rattle.engine_parts.specs.declared.session.Stage.TheVariants as stages
 
@@ -24,10 +24,6 @@ is_unrecorded s stage = false
 abbrev pub is_unflushed : Stance → Stage → Bool
 is_unflushed s (stages.Logged number) = true
 is_unflushed s stage = is_unrecorded s stage
-
--- whether a level lacks an id
-abbrev pub lacks_id : Stance → Bool
-lacks_id s = list_any is_none s.levels
 
 -- whether a command may be refused for want of memory
 abbrev pub takes_memory : Command → Stance → Stage → Bool
@@ -73,8 +69,8 @@ asks_volume commands.Commit s stage (locks.Xact bank) = is_some (top_level s.lev
 asks_volume commands.Commit s stages.Clear (locks.Subtrans bank) = is_some (top_level s.levels)
 asks_volume commands.Undo s stage (locks.Xact bank) = is_some (innermost s.levels)
 asks_volume commands.Abort s stage (locks.Xact bank) = is_some (top_level s.levels)
-asks_volume (commands.See name x) s stage (locks.Xact bank) = true
-asks_volume (commands.See name x) s stage (locks.Subtrans bank) = true
+asks_volume (commands.See name x) s stage (locks.Xact bank) = nat_le 3 x.number
+asks_volume (commands.See name x) s stage (locks.Subtrans bank) = nat_le 3 x.number
 asks_volume (commands.Status x) s stage (locks.Xact bank) = nat_le 3 x
 asks_volume (commands.Did x) s stage (locks.Xact bank) = nat_le 3 x.number
 asks_volume (commands.Did x) s stage (locks.Subtrans bank) = nat_le 3 x.number

@@ -13,7 +13,7 @@ use Rattle.tx_model.specs.Replies.{RoundSpan}
 use Rattle.tx_model.proofs.Growth.{near_next_grows, read_grows, young_grows}
 use Rattle.life_law.specs.DidCommit.{IsDid, IsDidOf, IsRecorded, WasUncommitted}
 
-recorded_wider : (recs more : List Rec) (id : ℕ) → ((rec : Rec) → Contains recs rec → Contains more rec) → IsRecorded recs id → IsRecorded more id
+pub recorded_wider : (recs more : List Rec) (id : ℕ) → ((rec : Rec) → Contains recs rec → Contains more rec) → IsRecorded recs id → IsRecorded more id
 recorded_wider recs more id f r = record { top = r.top; subs = r.subs; stands = f (records.Commit r.top r.subs) r.stands; among = r.among }
 
 module _ (committed : List ℕ) (h es : List Event) (r r' : RoundSpan) (by : By) (from : r'.from ≤ r.from) (to : r.to ≤ r'.to) (within : r.to ≤ length h) (later : AreLater by es) where

@@ -1,5 +1,5 @@
 -- The worked life is lawful, and the wrong ones aren't.
-use Rattle.std.proofs.Common.{◌∙◌, ◌==◌, ◌≡◌, ◌⊎◌, ◌↔◌, ℕ, zero, suc, ◌<◌, ◌≤◌, List, [], ◌∷◌, ◌++◌, true, false, IsTrue, Contains, None, Some, refl, sym, ap, subst, inl, inr, ⊎_elim, arith, take, append-nil, append_assoc, slice_get, drop}
+use Rattle.std.proofs.Common.{◌∙◌, ◌==◌, ◌≡◌, ◌⊎◌, ◌↔◌, ℕ, zero, suc, ◌<◌, ◌≤◌, List, [], ◌∷◌, ◌++◌, true, false, IsTrue, Contains, None, Some, refl, sym, ap, subst, inl, inr, ⊎_elim, arith, take, append-nil, append_assoc, length, slice_get, drop}
 use Rattle.std.proofs.lemmas.Bool.{false≢true}
 use Rattle.std.proofs.lemmas.List.Elements.{All-from_recursion}
 use Rattle.std.specs.List.{flat_map}
@@ -21,6 +21,7 @@ use Rattle.tx_model.specs.declared.command.Command.TheVariants as commands
 use Rattle.tx_model.specs.declared.reply.Reply.TheVariants as replies
 use Rattle.tx_model.specs.declared.report.Line.{Line}
 use Rattle.tx_model.specs.declared.report.Step.TheVariants as steps
+use Rattle.tx_model.specs.CommandEvents.{level_events}
 use Rattle.tx_model.specs.Rounds.{StandFirst, lines_in}
 use Rattle.tx_model.specs.Lines.{has_line, span_of}
 use Rattle.tx_model.specs.Replies.{IsWarned}
@@ -30,7 +31,7 @@ use Rattle.life_law.specs.Laws.{IsLawful, lines_of}
 use Rattle.life_law.specs.LifeLog.{IsAmong, IsLogOf, IsRecordOf, ends_top, IsTransaction}
 use Rattle.life_law.specs.Lines.{IsLawfulLine, IsLawfulRound}
 use Rattle.life_law.specs.Pending.{IsOpenAsTold, pending}
-use Rattle.life_law.specs.Worked.{WorkedLives, both_records, by_at, commit_pending, first_lines, life_with, line_of, log_down, log_fault, no_memory, second_lines, worked_base, worked_events, worked_life}
+use Rattle.life_law.specs.Worked.{WorkedLives, bank_fault, both_records, by_at, commit_pending, first_lines, giving_lines, idless_lines, its_name, life_with, line_of, log_down, log_fault, no_memory, second_lines, short_life, special_lines, worked_base, worked_events, worked_life}
 use Rattle.tx_events.specs.Events.{by_of, given_by}
 use Rattle.tx_events.specs.Horizon.{oldest_id}
 use Rattle.tx_events.specs.Limits.{warn_limit}
@@ -246,8 +247,12 @@ it_is_lawful = record {
     multis = refl;
     log = its_log;
     opened = its_open;
+    log_fails_once = once;
   };
 }
+  where
+    once : 1 ≤ 1
+    once = omega arith
 
 -- ---- the wrong ones
 
@@ -271,6 +276,19 @@ is_other : (rec : Rec) → (records.Checkpoint 0 worked_base ≡ rec) ⊎ ((reco
 is_other rec h same = ⊎_elim (λ (e : records.Checkpoint 0 worked_base ≡ rec). let k = e ∙ same in cc)
     (λ t. ⊎_elim (λ (e : records.Commit 3 [] ≡ rec). differ 3 4 (omega arith) (ap commit_top (e ∙ same))) (λ none. none) t) h
 
+not_twice : 2 ≤ 1 → ⊥
+not_twice l = absurd (omega (arith, l))
+
+-- a line of the one round
+short_line : (h : List Event) (lines : List Line) (w : IsLawful (short_life h lines)) (place : ℕ) (l : Line) → slice_get lines place ≡ Some l →
+    IsLawfulLine (facts_of w.tells w.banks (short_life h lines).life (lines_of (short_life h lines))) (span_of h [] lines) (take place lines) l
+short_line h lines w place l at = w.life.lawful.each 0 (steps.Round 1 lines) refl place l at
+
+-- savepoints that were given no ids have no event
+none_given : (by by' : By) (ids : List ℕ) → length ids ≡ 0 → events.Sub by' 3 4 ∷ [] ≡ level_events by None (Some 3 ∷ None ∷ None ∷ []) ids → ⊥
+none_given by by' [] none e = cc
+none_given by by' (id ∷ ids) none e = cc
+
 pub worked_lives : WorkedLives
 worked_lives = record {
   lawful = it_is_lawful;
@@ -281,4 +299,11 @@ worked_lives = record {
   misnumbered = λ w. differ 1 2 (omega arith) (second_line log_fault commit_pending (log_down 1) both_records w 2 (line_of 0 5 commands.Commit (log_down 1)) refl).reply.1;
   resumed = λ w. no_refusal refusals.CommitPending (second_line log_fault replies.Done (log_down 2) both_records w 1 (line_of 0 4 commands.Save replies.Done) refl).standing;
   untold = λ w. false≢true (second_line no_memory replies.Done (log_down 2) (records.Commit 4 [] ∷ []) w 2 (line_of 0 5 commands.Commit (log_down 2)) refl).reply.2;
+  refailed = λ w. not_twice w.life.log_fails_once;
+  idless = λ w. false≢true (short_line [] idless_lines w 1 (line_of 0 2 commands.Abort bank_fault) refl).reply.0;
+  special = λ w. false≢true (short_line (events.Snap (by_at 0 1) its_name ∷ []) special_lines w 1 (line_of 0 2 (commands.See its_name (record { number = 1 })) bank_fault) refl).reply.0;
+  giving = λ w. ⊎_elim
+      (λ (e : events.Sub (by_at 0 6) 3 4 ∷ [] ≡ []). cc)
+      (λ g. none_given (by_at 0 6) (by_at 0 6) g.0 g.2 g.1)
+      (short_line (events.Id (by_at 0 2) 3 ∷ events.Sub (by_at 0 6) 3 4 ∷ []) giving_lines w 5 (line_of 0 6 commands.Write (replies.Refused refusals.AbortPending)) refl).events;
 }

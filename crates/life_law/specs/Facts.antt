@@ -1,6 +1,6 @@
 -- What the lines of a life are judged by.
 use Rattle.std.specs.Prelude.{ℕ, Bool, true, false, List}
-use Rattle.std.specs.List.{list_any}
+use Rattle.std.specs.List.{count_by, list_any}
 use Rattle.tx_events.specs.declared.event.Event.{Event}
 use Rattle.tx_events.specs.declared.record.Counters.{Counters}
 use Rattle.tx_events.specs.declared.record.Rec.{Rec}
@@ -27,3 +27,7 @@ is_log_fault _ = false
 
 abbrev pub has_log_fault : List Line → Bool
 has_log_fault lines = list_any (λ l. is_log_fault l.reply) lines
+
+-- how many commands were answered so
+abbrev pub log_faults : List Line → ℕ
+log_faults lines = count_by (λ l. is_log_fault l.reply) lines

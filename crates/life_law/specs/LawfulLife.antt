@@ -1,5 +1,5 @@
 -- Which lives are lawful.
-use Rattle.std.specs.Prelude.{◌≡◌, ℕ, Bool, IsTrue, List, []}
+use Rattle.std.specs.Prelude.{◌≡◌, ℕ, ◌≤◌, Bool, IsTrue, List, []}
 use Rattle.std.specs.List.{All, flat_map}
 use Rattle.tx_events.specs.declared.record.Rec.TheVariants as records
 use Rattle.tx_events.specs.History.{IsLegal}
@@ -11,7 +11,7 @@ use Rattle.tx_model.specs.declared.report.Line.{Line}
 use Rattle.tx_model.specs.declared.report.Step.{Step}
 use Rattle.tx_model.specs.Rounds.{AreInTurn, AreRounds, lines_in}
 use Rattle.tx_model.specs.Lines.{has_line}
-use Rattle.life_law.specs.Facts.{Facts, has_log_fault}
+use Rattle.life_law.specs.Facts.{Facts, has_log_fault, log_faults}
 use Rattle.life_law.specs.LifeLog.{IsLogOf}
 use Rattle.life_law.specs.Lines.{IsLawfulRound}
 use Rattle.life_law.specs.Pending.{IsOpenAsTold}
@@ -35,7 +35,8 @@ pub record AreLawfulSteps (f : Facts) (steps : List Step) : Type 0 where
   pub no_other : All (λ e. IsTrue (has_line (flat_map lines_in steps) e)) f.events
 
 -- One legal history, round by round; the lines are the rounds' commands, each lawful; no multixact; the log of these
--- ends, and of a transaction that is still open no more than its session's lines tell. Each store has so many banks, and verdicts are told where the volumes tell.
+-- ends, and of a transaction that is still open no more than its session's lines tell. The log's volume fails once at
+-- most, since the log stays down. Each store has so many banks, and verdicts are told where the volumes tell.
 pub record IsLawfulLife (tells : Bool) (banks : ℕ) (rounds : List (List (ℕ × Command))) (r : LifeReport) : Type 0 where
   pub history : IsLegal r.life.base r.life.events
   pub told : AreRounds 1 rounds r.steps
@@ -44,3 +45,4 @@ pub record IsLawfulLife (tells : Bool) (banks : ℕ) (rounds : List (List (ℕ �
   pub multis : r.life.multis ≡ []
   pub log : IsLogOf r.life.from (records.Checkpoint r.life.from r.life.base) r.life.events r.life.recs r.life.flushed r.life.end
   pub opened : (session : ℕ) → IsOpenAsTold r.life.recs r.life.events (flat_map lines_in r.steps) session
+  pub log_fails_once : log_faults (flat_map lines_in r.steps) ≤ 1

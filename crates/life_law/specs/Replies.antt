@@ -1,5 +1,6 @@
 -- Which replies of a life are lawful: those of its history, and those of its devices and of memory.
-use Rattle.std.specs.Prelude.{◌≡◌, ℕ, ◌<◌, nat_le, Bool, true, false, ◌||◌, IsTrue, Option, None, is_some}
+use Rattle.std.specs.Prelude.{◌≡◌, ℕ, ◌<◌, nat_le, Bool, true, false, ◌||◌, IsTrue, Option, None, is_none, is_some}
+use Rattle.std.specs.List.{list_any}
 use Rattle.tx_events.specs.declared.event.By.{By}
 use Rattle.tx_events.specs.declared.refusal.Lock.{Lock}
 use Rattle.tx_events.specs.declared.refusal.Lock.TheVariants as locks
@@ -9,27 +10,34 @@ use Rattle.tx_model.specs.declared.command.Command.{Command}
 use Rattle.tx_model.specs.declared.command.Command.TheVariants as commands
 use Rattle.tx_model.specs.declared.reply.Reply.{Reply}
 use Rattle.tx_model.specs.declared.reply.Reply.TheVariants as replies
+use Rattle.tx_model.specs.CommandEvents.{innermost}
 use Rattle.tx_model.specs.Replies.{IsKnown, MayReply, RoundSpan}
 use Rattle.tx_model.specs.Stance.{Stance, top_level}
 use Rattle.life_law.specs.DidCommit.{IsDid}
 use Rattle.life_law.specs.Facts.{Facts}
 use Rattle.life_law.specs.Refused.{is_commit_pending}
 
--- Whether a command asks the volume behind this lock, where this end is pending. An id's parent is recorded before its
--- commit is.
-abbrev pub may_ask : Command → Option Refusal → Lock → Bool
-may_ask commands.Write pending (locks.Xact bank) = true
-may_ask commands.Write pending (locks.Subtrans bank) = true
-may_ask commands.Commit pending (locks.Xact bank) = true
-may_ask commands.Commit None (locks.Subtrans bank) = true
-may_ask commands.Undo pending (locks.Xact bank) = true
-may_ask commands.Abort pending (locks.Xact bank) = true
-may_ask (commands.See name x) pending (locks.Xact bank) = true
-may_ask (commands.See name x) pending (locks.Subtrans bank) = true
-may_ask (commands.Status x) pending (locks.Xact bank) = nat_le 3 x
-may_ask (commands.Did x) pending (locks.Xact bank) = nat_le 3 x.number
-may_ask (commands.Did x) pending (locks.Subtrans bank) = nat_le 3 x.number
-may_ask command pending lock = false
+-- whether a level lacks an id
+abbrev pub lacks_id : Stance → Bool
+lacks_id s = list_any is_none s.levels
+
+-- Whether a command asks the volume behind this lock, of a session that stands so and of which this end is pending: an
+-- end does where the transaction has an id, an undo where its savepoint has one, and a write asks pg_xact where a level
+-- lacks one. An id's parent is recorded before its commit is, by a write that needs no more ids too. Of a special id
+-- nothing is asked.
+abbrev pub may_ask : Command → Stance → Option Refusal → Lock → Bool
+may_ask commands.Write s pending (locks.Xact bank) = lacks_id s
+may_ask commands.Write s pending (locks.Subtrans bank) = true
+may_ask commands.Commit s pending (locks.Xact bank) = is_some (top_level s.levels)
+may_ask commands.Commit s None (locks.Subtrans bank) = is_some (top_level s.levels)
+may_ask commands.Undo s pending (locks.Xact bank) = is_some (innermost s.levels)
+may_ask commands.Abort s pending (locks.Xact bank) = is_some (top_level s.levels)
+may_ask (commands.See name x) s pending (locks.Xact bank) = nat_le 3 x.number
+may_ask (commands.See name x) s pending (locks.Subtrans bank) = nat_le 3 x.number
+may_ask (commands.Status x) s pending (locks.Xact bank) = nat_le 3 x
+may_ask (commands.Did x) s pending (locks.Xact bank) = nat_le 3 x.number
+may_ask (commands.Did x) s pending (locks.Subtrans bank) = nat_le 3 x.number
+may_ask command s pending lock = false
 
 -- the lock is that of a bank of a store, which has so many
 abbrev pub IsBank : ℕ → Lock → Type 0
@@ -46,7 +54,7 @@ is_unrecorded s pending = false
 
 -- whether it takes memory that isn't there from the start
 abbrev pub may_lack_memory : Command → Stance → Option Refusal → Bool
-may_lack_memory commands.Write s pending = true
+may_lack_memory commands.Write s pending = lacks_id s
 may_lack_memory commands.Commit s pending = is_unrecorded s pending
 may_lack_memory (commands.Snap name) s pending = true
 may_lack_memory (commands.Status x) s pending = nat_le 3 x
@@ -74,7 +82,7 @@ is_told_verdict command = false
 abbrev pub IsLawfulReply : Facts → RoundSpan → By → Stance → Option Refusal → Command → Reply → Type 0
 IsLawfulReply f round by s pending command (replies.Refused refusals.Memory) = IsTrue (may_lack_memory command s pending)
 IsLawfulReply f round by s pending command (replies.Refused (refusals.DiskFault lock)) =
-    IsTrue (may_ask command pending lock) × IsBank f.banks lock
+    IsTrue (may_ask command s pending lock) × IsBank f.banks lock
 IsLawfulReply f round by s pending command (replies.Refused refusals.LogFault) =
     IsTrue (may_need_log command s pending)
 IsLawfulReply f round by s pending command (replies.Refused refusals.Full) = IsTrue (may_append command s pending)

@@ -1,5 +1,5 @@
 -- A worked life, and some that are wrong. Sessions 0 and 1 write, and session 1 commits. At the commit of session 0 the
--- log's volume fails; then that commit is pending, and the log is down.
+-- log's volume fails; then that commit is pending, and the log is down. Other wrong ones have one round of session 0.
 use Rattle.std.specs.Prelude.{ℕ, false, List, [], ◌∷◌, None}
 use Rattle.tx_events.specs.declared.event.By.{By}
 use Rattle.tx_events.specs.declared.event.Event.{Event}
@@ -7,7 +7,9 @@ use Rattle.tx_events.specs.declared.event.Event.TheVariants as events
 use Rattle.tx_events.specs.declared.record.Counters.{Counters}
 use Rattle.tx_events.specs.declared.record.Rec.{Rec}
 use Rattle.tx_events.specs.declared.record.Rec.TheVariants as records
+use Rattle.tx_events.specs.declared.refusal.Lock.TheVariants as locks
 use Rattle.tx_events.specs.declared.refusal.Refusal.TheVariants as refusals
+use Rattle.tx_events.specs.Snapshots.{snapshot_data}
 use Rattle.tx_model.specs.declared.command.Command.{Command}
 use Rattle.tx_model.specs.declared.command.Command.TheVariants as commands
 use Rattle.tx_model.specs.declared.reply.Reply.{Reply}
@@ -104,6 +106,63 @@ resumed_life = life_with log_fault replies.Done (log_down 2) both_records
 abbrev pub untold_life : LifeReport
 untold_life = life_with no_memory replies.Done (log_down 2) (records.Commit 4 [] ∷ [])
 
+-- the log's volume fails once more
+abbrev pub refailed_life : LifeReport
+refailed_life = life_with log_fault commit_pending log_fault both_records
+
+-- ---- lives of one round of session 0, whose log has the checkpoint alone
+
+abbrev pub short_life : List Event → List Line → LifeReport
+short_life events lines = record {
+  life = record {
+    from = 0;
+    base = worked_base;
+    committed = [];
+    recorded = [];
+    events = events;
+    multis = [];
+    recs = records.Checkpoint 0 worked_base ∷ [];
+    flushed = 1;
+    end = 62;
+  };
+  steps = steps.Round 1 lines ∷ [];
+  crash = None;
+}
+
+abbrev pub bank_fault : Reply
+bank_fault = replies.Refused (refusals.DiskFault (locks.Xact 0))
+
+-- the abort of a transaction without an id met a fault of pg_xact
+abbrev pub idless_lines : List Line
+idless_lines = line_of 0 1 commands.Begin replies.Done ∷ line_of 0 2 commands.Abort bank_fault ∷ []
+
+abbrev pub idless_life : LifeReport
+idless_life = short_life [] idless_lines
+
+-- the name `s`
+abbrev pub its_name : List ℕ
+its_name = 115 ∷ []
+
+-- so did a look at the special id 1
+abbrev pub special_lines : List Line
+special_lines =
+    line_of 0 1 (commands.Snap its_name) (replies.Snapped (snapshot_data 3 []))
+    ∷ line_of 0 2 (commands.See its_name (record { number = 1 })) bank_fault ∷ []
+
+abbrev pub special_life : LifeReport
+special_life = short_life (events.Snap (by_at 0 1) its_name ∷ []) special_lines
+
+-- a write that was refused for a pending abort gave an id to one of two savepoints
+abbrev pub giving_lines : List Line
+giving_lines =
+    line_of 0 1 commands.Begin replies.Done ∷ line_of 0 2 commands.Write (replies.Wrote (3 ∷ []) false)
+    ∷ line_of 0 3 commands.Save replies.Done ∷ line_of 0 4 commands.Save replies.Done
+    ∷ line_of 0 5 commands.Abort bank_fault
+    ∷ line_of 0 6 commands.Write (replies.Refused refusals.AbortPending) ∷ []
+
+abbrev pub giving_life : LifeReport
+giving_life = short_life (events.Id (by_at 0 2) 3 ∷ events.Sub (by_at 0 6) 3 4 ∷ []) giving_lines
+
 -- the life is lawful, and the others aren't
 pub record WorkedLives : Type 0 where
   pub lawful : IsLawful worked_life
@@ -114,3 +173,7 @@ pub record WorkedLives : Type 0 where
   pub misnumbered : IsLawful misnumbered_life → ⊥
   pub resumed : IsLawful resumed_life → ⊥
   pub untold : IsLawful untold_life → ⊥
+  pub refailed : IsLawful refailed_life → ⊥
+  pub idless : IsLawful idless_life → ⊥
+  pub special : IsLawful special_life → ⊥
+  pub giving : IsLawful giving_life → ⊥

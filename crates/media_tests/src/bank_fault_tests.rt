@@ -152,6 +152,44 @@ end
     )
 }
 
+/// Of two ids on two pages the lower one's state can't be set, and the other one is sub-committed by then: whether it has
+/// committed is asked of its parent, whose page can't be read either.
+#[test]
+fn a_sub_committed_id_is_asked_of_its_parent(rt: HostRuntime) -> Result<(), Fail> {
+    check_ways(
+        &rt,
+        ".banks 2
+.start 32767
+a begin
+a save
+a write
+a did 32768
+a commit
+a did 32768
+a did 32767
+",
+        Which::Xact(0),
+        8,
+        &[
+            "device\n",
+            "
+a 3 write -> ok 32767 32768
+a 4 did 32768 -> no
+a 5 commit -> disk-fault xact 0
+a 6 did 32768 -> disk-fault xact 0
+a 7 did 32767 -> disk-fault xact 0
+",
+            "
+a 3 write -> ok 32767 32768
+a 4 did 32768 -> no
+a 5 commit -> ok
+a 6 did 32768 -> yes
+a 7 did 32767 -> yes
+",
+        ],
+    )
+}
+
 /// An id whose parent isn't recorded was given, and stays so; a commit records it first. An abort needs no parent.
 #[test]
 fn a_fault_of_pg_subtrans_leaves_no_end_pending(rt: HostRuntime) -> Result<(), Fail> {

@@ -1,5 +1,5 @@
 -- The innermost savepoint is closed.
-use Rattle.std.proofs.Common.{◌≡◌, ◌⊎◌, ℕ, zero, suc, ◌+◌, ◌*◌, ◌-◌, ◌≤◌, ◌<◌, nat_le, not, cond, Bool, true, false, List, [], ◌∷◌, ◌++◌, Option, None, Some, IfSome, refl, sym, ap, subst, ◌∙◌, inl, inr, ⊎_elim, take, drop, length, arith, Contains}
+use Rattle.std.proofs.Common.{◌≡◌, ℕ, zero, suc, ◌+◌, ◌-◌, ◌≤◌, ◌<◌, nat_le, not, cond, Bool, true, false, List, [], ◌∷◌, ◌++◌, Option, None, Some, IfSome, refl, sym, ap, subst, ◌∙◌, inl, inr, ⊎_elim, take, drop, length, arith, Contains}
 use Rattle.std.proofs.lemmas.Bool.Decides.{nat_tests}
 use Rattle.std.proofs.lemmas.Option.{same_Some}
 use Rattle.std.specs.List.{filter}
@@ -8,8 +8,7 @@ use Rattle.tx_events.specs.declared.event.By.{By}
 use Rattle.tx_events.specs.declared.event.Event.{Event}
 use Rattle.tx_events.specs.declared.event.Event.TheVariants as events
 use Rattle.tx_events.specs.declared.record.Rec.TheVariants as records
-use Rattle.tx_events.specs.Families.{enclosing, is_top}
-use Rattle.tx_events.specs.History.{MayCome}
+use Rattle.tx_events.specs.Families.{enclosing}
 use Rattle.tx_events.specs.Running.{open_ids}
 use Rattle.tx_events.specs.Savepoints.{is_inside}
 use Rattle.tx_events.proofs.IdListSteps.{all_has, contains_true}
@@ -22,7 +21,7 @@ use Rattle.tx_core.specs.declared.entry.Start.{Start}
 use Rattle.tx_core.specs.declared.entry.State.TheVariants as states
 use Rattle.tx_core.specs.AbortRule.{Asks}
 use Rattle.tx_core.specs.CommitRecordsExact.{HasNoRecord}
-use Rattle.tx_core.specs.Entries.{IsAppended, IsLinked, IsMarked, appended, event_of, history}
+use Rattle.tx_core.specs.Entries.{IsAppended, IsMarked, appended, event_of, history}
 use Rattle.tx_core.specs.Locks.{proc_lock}
 use Rattle.tx_core.specs.PagesBeforeIds.{IsMade}
 use Rattle.tx_core.specs.ParentsFollow.{IsGivenBelow}
@@ -31,11 +30,9 @@ use Rattle.tx_core.proofs.EventLaws.{undo_event_law}
 use Rattle.tx_core.proofs.Stepping.{appended_cases}
 use Rattle.session_levels.specs.Stands.{IsSavepointIn, Nest, Stands, last_of, levels_of}
 use Rattle.session_levels.proofs.CutLemmas.{last_apart}
-use Rattle.session_levels.proofs.HeadLemmas.{heads}
 use Rattle.session_levels.proofs.LevelLemmas.{innermost_named, innermost_nameless, last_push}
 use Rattle.session_levels.proofs.StandsLemmas.{Stood, last_savepoint, stands, stood, stood_undone}
 use Rattle.engine_parts.specs.declared.session.Session.{Session}
-use Rattle.engine_parts.specs.declared.session.Stage.{Stage}
 use Rattle.engine_parts.specs.declared.session.Stage.TheVariants as stages
 use Rattle.engine_parts.specs.declared.session.Unlinked.{Unlinked}
 use Rattle.engine_parts.specs.Holds.{Knowledge, Leaves}

@@ -2,3 +2,4 @@ pub mod Givings
 pub mod Endings
 pub mod Undos
 pub mod Askings
+pub mod Horizons

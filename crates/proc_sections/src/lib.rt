@@ -13,6 +13,6 @@ mod undoing;
 pub use asking::ask_status;
 pub use ending::end_transaction;
 pub use giving::give_id;
-pub use looking::{read_oldest, read_oldest_xmin};
+pub use looking::{Horizons, read_horizons, read_oldest};
 pub use telling::tell_made;
 pub use undoing::{place_of, undo_savepoint};

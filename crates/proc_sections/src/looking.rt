@@ -1,12 +1,13 @@
 //! The ProcArray is only looked at.
 ghost use Rattle.std.specs.Prelude.{◌≡◌, ℕ, ◌+◌, ◌*◌, []};
 ghost use Rattle.hall.specs.Calls.{view, IsOf, start_of};
-ghost use Rattle.tx_events.specs.Horizon.{oldest_id, oldest_xmin};
+ghost use Rattle.tx_events.specs.Horizon.{oldest_id};
 ghost use Rattle.tx_core.specs.Entries.{history};
 ghost use Rattle.tx_core.specs.Locks.{proc_lock};
 ghost use Rattle.engine_parts.specs.Holds.{Section};
 ghost use Rattle.engine_parts.specs.Sessions.{IsReady, look_by};
 ghost use Rattle.engine_parts.specs.Steps.{WentOn};
+ghost use Rattle.proc_sections.specs.Horizons.{AreHorizonsOf};
 
 use disk_core::{LogDisk, PageDisk};
 use engine_parts::{Caller, EngineLaw, Part, enter_proc, leave_looked};
@@ -39,13 +40,25 @@ pub fn read_oldest<R: Wait, L: LogDisk, P: PageDisk>(
     oldest
 }
 
-/// The oldest xmin (`ComputeXidHorizons` of `src/backend/storage/ipc/procarray.c`): no id below it is still asked for by a
-/// live snapshot or one that is taken from now on. One critical section of the ProcArray.
-pub fn read_oldest_xmin<R: Wait, L: LogDisk, P: PageDisk>(
+/// What a command reads of the ProcArray at once.
+#[derive(Clone, Copy, Debug, PartialEq, Eq)]
+pub struct Horizons {
+    /// The id that is given next.
+    pub next: FullXid,
+    /// The announced oldest id.
+    pub oldest: FullXid,
+    /// The oldest xmin.
+    pub oldest_xmin: FullXid,
+}
+
+/// The next id, the announced oldest one and the oldest xmin (`nextXid` and `oldestXid` of `TransamVariables` in
+/// `src/backend/access/transam/varsup.c`, `TransactionXmin` of `src/backend/utils/time/snapmgr.c`): one critical section
+/// of the ProcArray.
+pub fn read_horizons<R: Wait, L: LogDisk, P: PageDisk>(
     rt: &R,
     hall: &Hall<EngineLaw<L, P>>,
     caller: &mut Caller<L, P>,
-) -> FullXid
+) -> Horizons
     requires own { IsOf hall.now caller.old.pass }
     requires laid { hall.now.cells ≡ 3 + 4 * (start_of hall.now).banks }
     requires ready { IsReady (start_of hall.now) (view caller.old.pass) caller.old.number caller.old.session }
@@ -54,12 +67,15 @@ pub fn read_oldest_xmin<R: Wait, L: LogDisk, P: PageDisk>(
     ensures own { IsOf hall.now caller.new.pass }
     ensures ready { IsReady (start_of hall.now) (view caller.new.pass) caller.new.number caller.new.session }
     ensures went { WentOn caller.old.number [] (view caller.old.pass).seen (view caller.new.pass).seen }
-    ensures xmin { result
-        ≡ oldest_xmin (start_of hall.now).base.next (history (view caller.new.pass).seen) }
+    ensures horizons { AreHorizonsOf (start_of hall.now).base (history (view caller.new.pass).seen) result }
     ensures same { (caller.new.session ≡ caller.old.session) × (caller.new.number ≡ caller.old.number) }
 {
     let table = enter_proc(rt, hall, caller);
-    let xmin = table.oldest_xmin();
+    let found = Horizons {
+        next: table.next(),
+        oldest: table.oldest(),
+        oldest_xmin: table.oldest_xmin(),
+    };
     leave_looked(hall, caller, 1, Part::Proc(table));
-    xmin
+    found
 }

@@ -23,7 +23,8 @@ fn has_command(command: &Command) -> bool
         | Command::Snap { .. }
         | Command::DropSnap { .. }
         | Command::See { .. }
-        | Command::Status { .. } => true,
+        | Command::Status { .. }
+        | Command::Did { .. } => true,
         _ => false,
     }
 }

@@ -1,5 +1,5 @@
 -- The promises of all sessions make a lawful life.
-use Rattle.std.proofs.Common.{List, [], ap, refl, subst, sym, ℕ, ◌+◌, ◌≡◌, ◌∙◌, ◌∷◌}
+use Rattle.std.proofs.Common.{List, [], ap, refl, subst, sym, ℕ, ◌+◌, ◌≡◌, ◌≤◌, ◌∙◌, ◌∷◌}
 use Rattle.std.specs.List.{flat_map}
 use Rattle.tx_events.specs.declared.event.Event.{Event}
 use Rattle.tx_events.specs.declared.record.Counters.{Counters}
@@ -9,6 +9,7 @@ use Rattle.tx_events.specs.History.{IsLegal}
 use Rattle.tx_model.specs.declared.command.Command.{Command}
 use Rattle.tx_model.specs.declared.report.Line.{Line}
 use Rattle.tx_model.specs.Rounds.{AreRounds, lines_in}
+use Rattle.life_law.specs.Facts.{log_faults}
 use Rattle.life_law.specs.LawfulLife.{AreLawfulSteps, facts_of}
 use Rattle.life_law.specs.LifeLog.{IsLogOf}
 use Rattle.life_law.specs.Pending.{IsOpenAsTold}
@@ -16,6 +17,7 @@ use Rattle.session_promise.specs.Closing.{AreRoundsOf, PromisesMakeLife, steps_o
 use Rattle.session_promise.specs.Told.{ToldRound, all_lines}
 use Rattle.session_promise.proofs.LawfulLog.{promises_make_log}
 use Rattle.session_promise.proofs.LawfulSteps.{promises_make_steps, step_lines}
+use Rattle.session_promise.proofs.OneFault.{faults_once}
 use Rattle.session_promise.proofs.Opened.{opened_told}
 
 rounds_told : (n : ℕ) (commands : List (List (ℕ × Command))) (rounds : List ToldRound) → AreRoundsOf commands rounds → AreRounds n commands (steps_of n rounds)
@@ -37,4 +39,5 @@ promises_make_life tells start lists rounds commands r begins over few asked is 
       log = subst (λ (x : (ℕ × Counters) × ((List Event × List Rec) × ℕ)). IsLogOf x.0.0 (records.Checkpoint x.0.0 x.0.1) x.1.0.0 x.1.0.1 x.1.1 r.life.end)
           (λ j. ((sym is.from j, sym is.base j), ((sym is.events j, sym is.recs j), sym is.flushed j))) log;
       opened = λ n. subst (λ (x : (List Rec × List Event) × List Line). IsOpenAsTold x.0.0 x.0.1 x.1 n) (λ j. ((sym is.recs j, sym is.events j), sym lines j)) (opened_told tells start lists rounds begins over n);
+      log_fails_once = subst (λ (ls : List Line). log_faults ls ≤ 1) (sym lines) (faults_once tells start lists rounds over);
     }

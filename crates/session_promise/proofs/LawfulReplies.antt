@@ -43,7 +43,7 @@ use Rattle.session_promise.specs.Told.{ToldRound, all_lines, lines_by}
 use Rattle.session_promise.proofs.Telling.{lines_told}
 
 lacks : (command : Command) (s : Stance) (stage : Stage) → IsTrue (has_command command) → IsTrue (takes_memory command s stage) → IsTrue (may_lack_memory command s (pending_in stage))
-lacks commands.Write s stage h t = refl
+lacks commands.Write s stage h t = t
 lacks commands.Commit s stages.Clear h t = t
 lacks commands.Commit s stage h t = absurd (false≢true t)
 lacks (commands.Snap name) s stage h t = refl
@@ -77,15 +77,15 @@ needs : (command : Command) (s : Stance) (stage : Stage) → IsTrue (has_command
 needs (commands.Multi members) s stage h t = absurd (false≢true h)
 needs command s stage h t = logs command s stage h t
 
-asks : (command : Command) (s : Stance) (stage : Stage) (lock : Lock) → IsTrue (has_command command) → IsTrue (asks_volume command s stage lock) → IsTrue (may_ask command (pending_in stage) lock)
-asks commands.Write s stage (locks.Xact bank) h t = refl
+asks : (command : Command) (s : Stance) (stage : Stage) (lock : Lock) → IsTrue (has_command command) → IsTrue (asks_volume command s stage lock) → IsTrue (may_ask command s (pending_in stage) lock)
+asks commands.Write s stage (locks.Xact bank) h t = t
 asks commands.Write s stage (locks.Subtrans bank) h t = refl
-asks commands.Commit s stage (locks.Xact bank) h t = refl
-asks commands.Commit s stages.Clear (locks.Subtrans bank) h t = refl
-asks commands.Undo s stage (locks.Xact bank) h t = refl
-asks commands.Abort s stage (locks.Xact bank) h t = refl
-asks (commands.See name x) s stage (locks.Xact bank) h t = refl
-asks (commands.See name x) s stage (locks.Subtrans bank) h t = refl
+asks commands.Commit s stage (locks.Xact bank) h t = t
+asks commands.Commit s stages.Clear (locks.Subtrans bank) h t = t
+asks commands.Undo s stage (locks.Xact bank) h t = t
+asks commands.Abort s stage (locks.Xact bank) h t = t
+asks (commands.See name x) s stage (locks.Xact bank) h t = t
+asks (commands.See name x) s stage (locks.Subtrans bank) h t = t
 asks (commands.Status x) s stage (locks.Xact bank) h t = t
 asks (commands.Did x) s stage (locks.Xact bank) h t = t
 asks (commands.Did x) s stage (locks.Subtrans bank) h t = t

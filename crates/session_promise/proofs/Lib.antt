@@ -14,6 +14,7 @@ pub mod Telling
 pub mod Summing
 pub mod FewIds
 pub mod Standing
+pub mod OneFault
 pub mod LawfulReplies
 pub mod LawfulSteps
 pub mod LawfulLog

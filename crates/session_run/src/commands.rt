@@ -15,7 +15,7 @@ use std::sync::Wait;
 use tx_model::{Command, Refusal, Reply, SnapData, Status};
 use xact_ends::{abort, commit, undo};
 use xact_engine::{begin, drop_snap, release, save, snap};
-use xact_reads::{horizon, see, status};
+use xact_reads::{did, horizon, see, status};
 use xact_writes::{Wrote, write};
 
 // The reply of a command that says no more than that it is done.
@@ -68,6 +68,16 @@ fn known(answer: Result<Status, Refusal>) -> Reply
     }
 }
 
+// That of a question whether an id has committed.
+fn told(answer: Result<bool, Refusal>) -> Reply
+    ensures { result ≡ reply_of replies.Did answer }
+{
+    match answer {
+        Ok(yes) => Reply::Did { yes },
+        Err(refusal) => Reply::Refused { refusal },
+    }
+}
+
 /// Runs the session's next command, and answers its reply. `banks` is the number of banks of each store, 1 to 16. The
 /// session has run fewer than 2^48 commands. Want of memory that the command met is its reply too.
 pub fn run_command<R: Wait, L: LogDisk, P: PageDisk>(
@@ -98,6 +108,7 @@ pub fn run_command<R: Wait, L: LogDisk, P: PageDisk>(
         Command::DropSnap { name } => done(drop_snap(rt, hall, caller, name)),
         Command::See { name, x } => seen(see(rt, hall, caller, banks, name, *x)),
         Command::Status { x } => known(status(rt, hall, caller, banks, *x)),
+        Command::Did { x } => told(did(rt, hall, caller, banks, *x)),
         _ => unreachable!(),
     }
 }

@@ -6,6 +6,8 @@
 #[cfg(test)]
 mod command_tests;
 #[cfg(test)]
+mod did_tests;
+#[cfg(test)]
 mod horizon_tests;
 #[cfg(test)]
 mod round_tests;

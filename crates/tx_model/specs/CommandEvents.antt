@@ -56,8 +56,13 @@ was_asked _ = false
 abbrev pub ask_event : By → ℕ → Reply → List Event
 ask_event by x reply = cond (was_asked reply && nat_le 3 x) (events.Ask by x ∷ []) []
 
--- how many ids a refused write may have given: all of them where a volume failed behind the last one, else fewer
+-- How many ids a refused write may have given: none where it's refused by how its session stands, all of them where a
+-- volume failed behind the last one, else fewer.
 abbrev pub MayHaveGiven : Refusal → ℕ → ℕ → Type 0
+MayHaveGiven refusals.NoTransaction wanted ids = ids ≡ 0
+MayHaveGiven refusals.CommitPending wanted ids = ids ≡ 0
+MayHaveGiven refusals.AbortPending wanted ids = ids ≡ 0
+MayHaveGiven refusals.UndoPending wanted ids = ids ≡ 0
 MayHaveGiven (refusals.DiskFault lock) wanted ids = ids ≤ wanted
 MayHaveGiven refusal wanted ids = ids < wanted
 

@@ -6,3 +6,6 @@ pub mod Going
 pub mod Replying
 pub mod Looking
 pub mod Standing
+pub mod Storing
+pub mod Telling
+pub mod Ascending

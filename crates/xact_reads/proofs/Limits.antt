@@ -6,11 +6,11 @@ use Rattle.tx_events.specs.declared.record.Counters.{Counters}
 use Rattle.tx_events.specs.Base.{IsBase}
 use Rattle.tx_events.specs.Events.{given}
 use Rattle.tx_events.specs.History.{IsLegal, IsNextGiven, MayCome, next_given, nth_id}
-use Rattle.tx_events.specs.Horizon.{oldest_id}
+use Rattle.tx_events.specs.Horizon.{oldest_id, oldest_xmin}
 use Rattle.tx_events.specs.Snapshots.{latest, snapshot_xmax}
 use Rattle.tx_events.proofs.GivenGrowth.{given_none, next_after}
 use Rattle.tx_events.proofs.GivenIds.{legal_front, legal_last, legal_take}
-use Rattle.tx_events.proofs.Horizons.{new_past}
+use Rattle.tx_events.proofs.Horizons.{new_past, xmin_at}
 use Rattle.tx_events.proofs.IdOrder.{next_full}
 use Rattle.tx_events.proofs.Membership.{by_end}
 use Rattle.tx_events.proofs.Visibility.{xmin_from}
@@ -42,10 +42,18 @@ step_small base h (events.SnapDrop by name) may small = same_small base h (event
 step_small base h (events.Oldest by oldest) may small = same_small base h (events.Oldest by oldest) refl small
 step_small base h (events.Ask by id) may small = same_small base h (events.Ask by id) refl small
 
-next_small : (base : Counters) (h : List Event) → IsBase base → IsLegal base h → next_given base.next h < 2 ^ 63
+pub next_small : (base : Counters) (h : List Event) → IsBase base → IsLegal base h → next_given base.next h < 2 ^ 63
 next_small base h b = by_end (λ g. IsLegal base g → next_given base.next g < 2 ^ 63)
     (λ legal. let n = b.next in let s = stop_to base.oldest in omega arith)
     (λ g e before legal. step_small base g e (legal_last base g e legal) (before (legal_front base g e legal))) h
+
+-- no horizon is a special id
+pub horizon_from : (base : Counters) (h : List Event) → IsBase base → IsLegal base h → 3 ≤ oldest_xmin base.next h
+horizon_from base h b legal =
+    let first = full_from base.next b.full in
+    let low : 3 ≤ oldest_xmin base.next [] = full_from (snapshot_xmax base.next []) (next_full (latest base.next [])) in
+    let up : oldest_xmin base.next [] ≤ oldest_xmin base.next h = xmin_at base [] h legal b.full (omega arith) in
+    omega arith
 
 pub xmax_to_next : (base : Counters) (h : List Event) → IsBase base → IsLegal base h → snapshot_xmax base.next h ≤ next_given base.next h
 xmax_to_next base h b legal = let n = full_from base.next b.full in new_past base h legal b.full (omega arith)

@@ -1,5 +1,5 @@
 -- The replies of a look at a snapshot are lawful.
-use Rattle.std.proofs.Common.{◌≡◌, ℕ, zero, suc, ◌+◌, ◌-◌, ◌<◌, ◌≤◌, ◌==◌, ◌||◌, ◌++◌, List, [], Option, None, Some, IfSome, IsTrue, Bool, true, false, not, nat_eq, nat_lt, cond, is_none, length, length-append, take, take_all, Contains, refl, sym, ap, subst, ◌∙◌, arith, ⊎_elim}
+use Rattle.std.proofs.Common.{◌≡◌, ℕ, zero, suc, ◌+◌, ◌-◌, ◌<◌, ◌≤◌, ◌==◌, ◌||◌, ◌++◌, List, [], Option, None, Some, IfSome, IsTrue, Bool, true, false, not, nat_eq, nat_lt, cond, is_none, length, length-append, take, take_all, Contains, refl, sym, ap, subst, ◌∙◌, arith, le-leb, ⊎_elim}
 use Rattle.std.proofs.lemmas.Bool.{false_from_ne_true}
 use Rattle.std.proofs.lemmas.Bool.Decides.{nat_tests}
 use Rattle.std.specs.Bool.{then_some}
@@ -158,12 +158,12 @@ module _ (start : Start) (v w : Knowledge) (n : ℕ) (s : Session) (name : List 
   unread_answer tells g r normal shows u = ⊎_elim (state_unread r) (parent_unread r) u
     where
       state_unread : (r : Refusal) → IsStateUnread start w.seen by g.id r → MayAnswer tells start w.seen (alone (history v.seen) h) by (stance_of s) s.stage (commands.See name x) (replies.Refused r) × (by_standing (replies.Refused r) ≡ None)
-      state_unread (refusals.DiskFault (locks.Xact bank)) u = ((refl, u), refl)
+      state_unread (refusals.DiskFault (locks.Xact bank)) u = ((le-leb 3 x.number normal, u), refl)
       state_unread (refusals.TooOld oldest) u = (old_answer tells (Some g.id) oldest normal shows.near u.1 u.0, refl)
       state_unread r u = absurd u
 
       parent_unread : (r : Refusal) → IsSubtransFault w.seen by r → MayAnswer tells start w.seen (alone (history v.seen) h) by (stance_of s) s.stage (commands.See name x) (replies.Refused r) × (by_standing (replies.Refused r) ≡ None)
-      parent_unread (refusals.DiskFault (locks.Subtrans bank)) u = ((refl, u), refl)
+      parent_unread (refusals.DiskFault (locks.Subtrans bank)) u = ((le-leb 3 x.number normal, u), refl)
       parent_unread r u = absurd u
 
 -- what is shown of an id that wasn't too old when the oldest one was read

@@ -1,2 +1,4 @@
+pub mod Ancestors
 pub mod Glances
 pub mod Readings
+pub mod Stores

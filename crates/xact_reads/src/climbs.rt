@@ -18,7 +18,7 @@ use store_pages::{bank_of, subtrans_page};
 use tx_events::{FullXid, Lock, Refusal};
 
 /// The parent where it is below its child, as each that was set is.
-fn below(x: FullXid, parent: Option<FullXid>) -> Option<FullXid>
+pub(crate) fn below(x: FullXid, parent: Option<FullXid>) -> Option<FullXid>
     ensures below { IfSome result (λ y. y < x) }
     ensures kept { IfSome parent (λ y. y < x) → result ≡ parent }
 {

@@ -7,7 +7,7 @@ ghost use Rattle.engine_parts.specs.Calls.{MayRun, Ran, next_command};
 use disk_core::{LogDisk, PageDisk};
 use engine_parts::{Caller, EngineLaw, count};
 use hall::Hall;
-use proc_sections::read_oldest_xmin;
+use proc_sections::read_horizons;
 use std::sync::Wait;
 use tx_events::FullXid;
 
@@ -25,5 +25,5 @@ pub fn horizon<R: Wait, L: LogDisk, P: PageDisk>(
     ensures { Ran hall.now (next_command caller.old) commands.Horizon (replies.Horizon result) caller.old caller.new }
 {
     count(caller);
-    read_oldest_xmin(rt, hall, caller)
+    read_horizons(rt, hall, caller).oldest_xmin
 }

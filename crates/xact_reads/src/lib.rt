@@ -1,8 +1,9 @@
 //! The calls of an engine over its lock table that only read: whether a session's snapshot sees an id, how an id stands,
-//! and the oldest xmin. See `docs/ENGINE.md`.
+//! whether it has committed by the stores alone, and the oldest xmin. See `docs/ENGINE.md`.
 #![tactic(auto)]
 
 mod climbs;
+mod dids;
 mod glances;
 mod horizons;
 mod sees;
@@ -10,6 +11,7 @@ mod shows;
 mod states;
 mod statuses;
 
+pub use dids::did;
 pub use horizons::horizon;
 pub use sees::see;
 pub use statuses::status;

@@ -12,25 +12,25 @@ use Rattle.xact_reads.proofs.Going.{at_same, look_adds}
 use Rattle.xact_reads.proofs.Replying.{ran_read, xmin_answer}
 use Rattle.xact_reads.proofs.horizons.horizon.Goals as goal
 
-pub read_oldest_xmin-requires-clause-own : goal.read_oldest_xmin-requires-clause-own
-read_oldest_xmin-requires-clause-own g c = own_counted c.args.hall.now c.args.caller.now c.count.new.caller c.count.ensures c.requires.step.own
+pub read_horizons-requires-clause-own : goal.read_horizons-requires-clause-own
+read_horizons-requires-clause-own g c = own_counted c.args.hall.now c.args.caller.now c.count.new.caller c.count.ensures c.requires.step.own
 
-pub read_oldest_xmin-requires-clause-laid : goal.read_oldest_xmin-requires-clause-laid
-read_oldest_xmin-requires-clause-laid g c = c.requires.step.laid
+pub read_horizons-requires-clause-laid : goal.read_horizons-requires-clause-laid
+read_horizons-requires-clause-laid g c = c.requires.step.laid
 
-pub read_oldest_xmin-requires-clause-ready : goal.read_oldest_xmin-requires-clause-ready
-read_oldest_xmin-requires-clause-ready g c = (may_counted c.args.hall.now c.args.caller.now c.count.new.caller c.count.ensures c.requires).ready
+pub read_horizons-requires-clause-ready : goal.read_horizons-requires-clause-ready
+read_horizons-requires-clause-ready g c = (may_counted c.args.hall.now c.args.caller.now c.count.new.caller c.count.ensures c.requires).ready
 
 pub returns : goal.returns
 returns g c =
     let old = c.args.caller.now in
     let u = c.count.new.caller in
-    let w = c.read_oldest_xmin.new.caller in
-    let e = c.read_oldest_xmin.ensures in
+    let w = c.read_horizons.new.caller in
+    let e = c.read_horizons.ensures in
     let start = start_of c.args.hall.now in
     let may = may_counted c.args.hall.now old u c.count.ensures c.requires in
-    ran_read c.args.hall.now old u w commands.Horizon (replies.Horizon c.read_oldest_xmin.result) c.count.ensures c.requires e.own e.ready e.went e.same.0 e.same.1 refl
-    (adds_wider (by_at u.number u.session.levels.commands) IsPlain _ (view u.pass).seen (view w.pass).seen (plain_leaves commands.Horizon (stance_of u.session) u.session.stage (open_ids u.number (history (view u.pass).seen)) (replies.Horizon c.read_oldest_xmin.result))
+    ran_read c.args.hall.now old u w commands.Horizon (replies.Horizon c.read_horizons.result.oldest_xmin) c.count.ensures c.requires e.own e.ready e.went e.same.0 e.same.1 refl
+    (adds_wider (by_at u.number u.session.levels.commands) IsPlain _ (view u.pass).seen (view w.pass).seen (plain_leaves commands.Horizon (stance_of u.session) u.session.stage (open_ids u.number (history (view u.pass).seen)) (replies.Horizon c.read_horizons.result.oldest_xmin))
     (look_adds start (view u.pass) (view w.pass) u.number u.session IsPlain may.ready.at tt e.section))
-    (xmin_answer start (view u.pass) (view w.pass) u.number u.session c.read_oldest_xmin.result (at_same start (view w.pass) u.number w.number u.session w.session e.same.1 e.same.0 e.ready) e.went e.xmin)
+    (xmin_answer start (view u.pass) (view w.pass) u.number u.session c.read_horizons.result.oldest_xmin (at_same start (view w.pass) u.number w.number u.session w.session e.same.1 e.same.0 e.ready) e.went e.horizons.xmin)
     refl refl refl refl refl refl

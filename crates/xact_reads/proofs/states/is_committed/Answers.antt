@@ -1,56 +1,6 @@
-use Rattle.std.proofs.Common.{◌<◌, arith, refl, subst}
-use Rattle.std.proofs.lemmas.Bool.Decides.{nat_tests}
 use Rattle.hall.specs.Calls.{view, start_of}
-use Rattle.tx_events.specs.declared.refusal.Lock.TheVariants as locks
-use Rattle.tx_events.specs.declared.refusal.Refusal.TheVariants as refusals
-use Rattle.tx_core.specs.declared.entry.Kind.TheVariants as kinds
-use Rattle.tx_core.specs.Locks.{xact_lock}
-use Rattle.engine_parts.specs.Adding.{MayMeet}
-use Rattle.engine_parts.specs.Sessions.{by_at}
-use Rattle.engine_parts.proofs.Adding.{plain_meets}
-use Rattle.bank_sections.proofs.Faulting.{cut_adds, done_adds, fault_adds}
-use Rattle.bank_sections.proofs.Visiting.{is_xact_lock}
-use Rattle.xact_reads.proofs.Going.{look_adds, read_adds, went_both}
 use Rattle.xact_reads.proofs.Looking.{state_says}
 use Rattle.xact_reads.proofs.states.is_committed.Goals as goal
 
 pub returns-in-Ok-clause-state : goal.returns-in-Ok-clause-state
-returns-in-Ok-clause-state g c told = state_says (start_of c.args.hall.now) (view c.read_state.new.caller.pass).seen c.args.x c.in-Ok.state c.says_committed.result c.says_committed.ensures (c.in-Ok.ensures.state told)
-
-pub returns-then-lt-clause-went : goal.returns-then-lt-clause-went
-returns-then-lt-clause-went g c =
-    went_both c.args.caller.now.number c.read_state.new.caller.number (view c.args.caller.now.pass).seen (view c.read_state.new.caller.pass).seen (view c.read_oldest-oldest.new.caller.pass).seen c.in-Err-Cut.ensures.same.1 c.in-Err-Cut.ensures.went c.read_oldest-oldest.ensures.went
-
-pub returns-then-lt-clause-unread : goal.returns-then-lt-clause-unread
-returns-then-lt-clause-unread g c = (c.read_oldest-oldest.ensures.oldest, grind (arith, nat_tests, c.if-lt.true, c.lt.ensures))
-
-pub returns-in-Ok-clause-adds : goal.returns-in-Ok-clause-adds
-returns-in-Ok-clause-adds g c =
-    let old = c.args.caller.now in
-    let bank = c.bank_of-bank.result in
-    let start = start_of c.args.hall.now in
-    let inside : bank < start.banks = subst (λ z. bank < z) c.requires.banks.0 c.bank_of-bank.ensures.within in
-    done_adds start (view old.pass) (view c.read_state.new.caller.pass) (xact_lock bank) (by_at old.number old.session.levels.commands) old.session c.requires.ready.at (is_xact_lock start bank inside) kinds.Look tt c.in-Ok.ensures.section
-
-pub returns-in-Err-DiskFault-clause-adds : goal.returns-in-Err-DiskFault-clause-adds
-returns-in-Err-DiskFault-clause-adds g c =
-    let old = c.args.caller.now in
-    let bank = c.bank_of-bank.result in
-    let start = start_of c.args.hall.now in
-    let inside : bank < start.banks = subst (λ z. bank < z) c.requires.banks.0 c.bank_of-bank.ensures.within in
-    fault_adds start (view old.pass) (view c.read_state.new.caller.pass) (xact_lock bank) (by_at old.number old.session.levels.commands) old.session c.requires.ready.at (is_xact_lock start bank inside) _ c.in-Err-DiskFault.field-0 (locks.Xact bank) refl c.in-Err-DiskFault.field-0-is c.in-Err-DiskFault.ensures.section
-
-pub returns-then-lt-clause-adds : goal.returns-then-lt-clause-adds
-returns-then-lt-clause-adds g c =
-    let old = c.args.caller.now in
-    let u = c.read_state.new.caller in
-    let w = view c.read_oldest-oldest.new.caller.pass in
-    let d = c.in-Err-Cut.ensures in
-    let bank = c.bank_of-bank.result in
-    let start = start_of c.args.hall.now in
-    let by = by_at old.number old.session.levels.commands in
-    let inside : bank < start.banks = subst (λ z. bank < z) c.requires.banks.0 c.bank_of-bank.ensures.within in
-    let told = MayMeet (refusals.TooOld c.read_oldest-oldest.result) in
-    let first = cut_adds start (view old.pass) (view u.pass) (xact_lock bank) by old.session c.requires.ready.at (is_xact_lock start bank inside) _ c.in-Err-Cut.field-0 _ c.in-Err-Cut.field-0-is d.section in
-    read_adds old.number u.number old.session u.session told (view old.pass).seen (view u.pass).seen w.seen d.same.1 d.same.0 (plain_meets (refusals.TooOld c.read_oldest-oldest.result)) first
-    (look_adds start (view u.pass) w u.number u.session told d.ready.at tt c.read_oldest-oldest.ensures.section)
+returns-in-Ok-clause-state g c told = state_says (start_of c.args.hall.now) (view c.state_of.new.caller.pass).seen c.args.x c.in-Ok.state c.says_committed.result c.says_committed.ensures (c.in-Ok.ensures.state told)

@@ -1,0 +1,13 @@
+-- What is read of the ProcArray at once.
+use Rattle.std.specs.Prelude.{◌≡◌, List}
+use Rattle.tx_events.specs.declared.event.Event.{Event}
+use Rattle.tx_events.specs.declared.record.Counters.{Counters}
+use Rattle.tx_events.specs.History.{next_given}
+use Rattle.tx_events.specs.Horizon.{oldest_id, oldest_xmin}
+use Rattle.proc_sections.specs.declared.looking.Horizons.{Horizons}
+
+-- the next id, the oldest one and the oldest xmin behind this history
+pub record AreHorizonsOf (base : Counters) (h : List Event) (found : Horizons) : Type 0 where
+  pub next : found.next ≡ next_given base.next h
+  pub oldest : found.oldest ≡ oldest_id base.oldest h
+  pub xmin : found.oldest_xmin ≡ oldest_xmin base.next h

@@ -1,0 +1,94 @@
+use Rattle.std.proofs.Common.{◌<◌, arith, inr, refl, subst}
+use Rattle.std.proofs.lemmas.Bool.Decides.{nat_tests}
+use Rattle.hall.specs.Calls.{view, start_of}
+use Rattle.tx_events.specs.declared.refusal.Lock.TheVariants as locks
+use Rattle.tx_events.specs.declared.refusal.Refusal.TheVariants as refusals
+use Rattle.tx_core.specs.declared.entry.Kind.TheVariants as kinds
+use Rattle.tx_core.specs.Locks.{xact_lock}
+use Rattle.engine_parts.specs.Adding.{IsPlain, MayMeet}
+use Rattle.engine_parts.specs.Sessions.{by_at}
+use Rattle.engine_parts.proofs.Adding.{plain_meets}
+use Rattle.bank_sections.proofs.Faulting.{cut_adds, done_adds, fault_adds}
+use Rattle.bank_sections.proofs.Visiting.{is_xact_lock}
+use Rattle.xact_reads.proofs.Ascending.{ancestor_says, cut_told}
+use Rattle.xact_reads.proofs.Going.{look_adds, read_adds, went_both}
+use Rattle.xact_reads.proofs.dids.ancestor_state.Goals as goal
+
+pub returns-then-lt-clause-went : goal.returns-then-lt-clause-went
+returns-then-lt-clause-went g c =
+    went_both c.args.caller.now.number c.read_state.new.caller.number (view c.args.caller.now.pass).seen (view c.read_state.new.caller.pass).seen (view c.read_oldest-oldest.new.caller.pass).seen c.in-Err-Cut.ensures.same.1 c.in-Err-Cut.ensures.went c.read_oldest-oldest.ensures.went
+
+pub returns-then-lt-clause-unread : goal.returns-then-lt-clause-unread
+returns-then-lt-clause-unread g c = (c.read_oldest-oldest.ensures.oldest, grind (arith, nat_tests, c.if-lt.true, c.lt.ensures))
+
+pub returns-in-Ok-clause-adds : goal.returns-in-Ok-clause-adds
+returns-in-Ok-clause-adds g c =
+    let old = c.args.caller.now in
+    let bank = c.bank_of-bank.result in
+    let start = start_of c.args.hall.now in
+    let inside : bank < start.banks = subst (λ z. bank < z) c.requires.banks.0 c.bank_of-bank.ensures.within in
+    done_adds start (view old.pass) (view c.read_state.new.caller.pass) (xact_lock bank) (by_at old.number old.session.levels.commands) old.session c.requires.ready.at (is_xact_lock start bank inside) kinds.Look tt c.in-Ok.ensures.section
+
+pub returns-in-Err-DiskFault-clause-adds : goal.returns-in-Err-DiskFault-clause-adds
+returns-in-Err-DiskFault-clause-adds g c =
+    let old = c.args.caller.now in
+    let bank = c.bank_of-bank.result in
+    let start = start_of c.args.hall.now in
+    let inside : bank < start.banks = subst (λ z. bank < z) c.requires.banks.0 c.bank_of-bank.ensures.within in
+    fault_adds start (view old.pass) (view c.read_state.new.caller.pass) (xact_lock bank) (by_at old.number old.session.levels.commands) old.session c.requires.ready.at (is_xact_lock start bank inside) _ c.in-Err-DiskFault.field-0 (locks.Xact bank) refl c.in-Err-DiskFault.field-0-is c.in-Err-DiskFault.ensures.section
+
+pub returns-then-lt-clause-adds : goal.returns-then-lt-clause-adds
+returns-then-lt-clause-adds g c =
+    let old = c.args.caller.now in
+    let u = c.read_state.new.caller in
+    let w = view c.read_oldest-oldest.new.caller.pass in
+    let d = c.in-Err-Cut.ensures in
+    let bank = c.bank_of-bank.result in
+    let start = start_of c.args.hall.now in
+    let by = by_at old.number old.session.levels.commands in
+    let inside : bank < start.banks = subst (λ z. bank < z) c.requires.banks.0 c.bank_of-bank.ensures.within in
+    let told = MayMeet (refusals.TooOld c.read_oldest-oldest.result) in
+    let first = cut_adds start (view old.pass) (view u.pass) (xact_lock bank) by old.session c.requires.ready.at (is_xact_lock start bank inside) _ c.in-Err-Cut.field-0 _ c.in-Err-Cut.field-0-is d.section in
+    read_adds old.number u.number old.session u.session told (view old.pass).seen (view u.pass).seen w.seen d.same.1 d.same.0 (plain_meets (refusals.TooOld c.read_oldest-oldest.result)) first
+    (look_adds start (view u.pass) w u.number u.session told d.ready.at tt c.read_oldest-oldest.ensures.section)
+
+pub returns-else-lt-clause-went : goal.returns-else-lt-clause-went
+returns-else-lt-clause-went g c =
+    went_both c.args.caller.now.number c.read_state.new.caller.number (view c.args.caller.now.pass).seen (view c.read_state.new.caller.pass).seen (view c.read_oldest-oldest.new.caller.pass).seen c.in-Err-Cut.ensures.same.1 c.in-Err-Cut.ensures.went c.read_oldest-oldest.ensures.went
+
+pub returns-else-lt-clause-adds : goal.returns-else-lt-clause-adds
+returns-else-lt-clause-adds g c =
+    let old = c.args.caller.now in
+    let u = c.read_state.new.caller in
+    let w = view c.read_oldest-oldest.new.caller.pass in
+    let d = c.in-Err-Cut.ensures in
+    let bank = c.bank_of-bank.result in
+    let start = start_of c.args.hall.now in
+    let by = by_at old.number old.session.levels.commands in
+    let inside : bank < start.banks = subst (λ z. bank < z) c.requires.banks.0 c.bank_of-bank.ensures.within in
+    let first = cut_adds start (view old.pass) (view u.pass) (xact_lock bank) by old.session c.requires.ready.at (is_xact_lock start bank inside) _ c.in-Err-Cut.field-0 _ c.in-Err-Cut.field-0-is d.section in
+    read_adds old.number u.number old.session u.session IsPlain (view old.pass).seen (view u.pass).seen w.seen d.same.1 d.same.0 (λ lock kind m. m) first
+    (look_adds start (view u.pass) w u.number u.session IsPlain d.ready.at tt c.read_oldest-oldest.ensures.section)
+
+pub returns-in-Ok-clause-said : goal.returns-in-Ok-clause-said
+returns-in-Ok-clause-said g c told =
+    let w = view c.read_state.new.caller.pass in
+    ancestor_says (start_of c.args.hall.now) (view c.args.caller.now.pass).seen w.seen c.args.parent c.in-Ok.state c.step_of.result c.in-Ok.ensures.went.on.grows (c.in-Ok.ensures.state told) c.step_of.ensures.said
+
+pub returns-else-lt-clause-said : goal.returns-else-lt-clause-said
+returns-else-lt-clause-said g c told =
+    let old = c.args.caller.now in
+    let u = view c.read_state.new.caller.pass in
+    let w = view c.read_oldest-oldest.new.caller.pass in
+    let start = start_of c.args.hall.now in
+    let bank = c.bank_of-bank.result in
+    let d = c.in-Err-Cut.ensures in
+    inr (
+      record {
+        moment = u.seen;
+        since = d.went.on.grows;
+        till = c.read_oldest-oldest.ensures.went.on.grows;
+        holds = (bank, c.in-Err-Cut.field-0-0, cut_told start (xact_lock bank) (by_at old.number old.session.levels.commands) _ (view old.pass) u c.in-Err-Cut.field-0 _ c.in-Err-Cut.field-0-is d.section);
+      },
+      refl,
+    )

@@ -6,5 +6,5 @@ mod told;
 mod turns;
 
 pub use plan::Plan;
-pub use told::{ToldLines, ToldSteps};
+pub use told::ToldLines;
 pub use turns::{command_at, next_round};

@@ -103,6 +103,7 @@ no_turns : (round : List Item) → AllByRecursion (runnable.MayRun 0) round → 
 no_turns [] a = refl
 no_turns (items.Run session command ∷ round) a = let low = a.0.1 in absurd (omega (arith, low))
 no_turns (items.Round ∷ round) a = no_turns round a.1
+no_turns (items.Dump what at size ∷ round) a = no_turns round a.1
 no_turns (item ∷ round) a = absurd a.0
 
 -- ---- sessions

@@ -15,7 +15,8 @@ use Rattle.life_law.specs.LawfulLife.{IsLawfulLife}
 use Rattle.report_text.specs.ReportText.{end_text, front_text, report_text, rest_text, step_text}
 use Rattle.report_text.proofs.OneLife.{one_life}
 use Rattle.session_lang.specs.declared.script.Script.{Script}
-use Rattle.session_lang.specs.Rounds.{rounds_of}
+use Rattle.session_lang.specs.Rounds.{asked_of, rounds_of}
+use Rattle.session_lang.proofs.Asking.{rounds_asked}
 use Rattle.run_law.specs.Tool.{IsReportOf}
 use Rattle.tx_core.specs.declared.entry.Entry.{Entry}
 use Rattle.tx_core.specs.declared.entry.Start.{Start}
@@ -34,17 +35,17 @@ use Rattle.session_run.specs.declared.rest.Resting.{Resting}
 use Rattle.session_run.specs.Records.{LogHolds}
 use Rattle.session_run.specs.Runs.{HasRun, IsRestOfReport, IsTaken, cluster_of}
 use Rattle.session_run.proofs.LogHeld.{log_holds}
-use Rattle.session_run.proofs.RoundCounts.{few_levels}
+use Rattle.session_run.proofs.RoundCounts.{AreRoundsOf, few_levels, rounds_told}
 
 module _ {H L P : Type 0} {l : logs.Ghosts L} {p : disks.Ghosts P} where
   -- what was printed of a life that ran the script is the rest of a report
   pub rest_told : (hall : Hall H (Part L P l p) Entry Start) (host : Host L P l p) (sessions : List Resting) (s : Script) (faults : List ℕ) (front text printed : List ℕ) (events : List Event) (log : WalLog L l)
-      → IsTaken s → start_of hall ≡ life_of (cluster_of s) faults → (r : HasRun hall host sessions s.names (rounds_of s.items) front text) → closing.IsOver p.tells (start_of hall) (view host.pass).seen r.rounds → events ≡ history (view host.pass).seen → IsLogOf (start_of hall) log (at (view host.pass).seen log_lock) → log_end log < 2 ^ 64 → printed ≡ text ++ (rest_text s.names (life_told s.base events log) None ++ end_text)
+      → IsTaken s → start_of hall ≡ life_of (cluster_of s) faults → (r : HasRun hall host sessions s.names (asked_of s.items) front text) → closing.IsOver p.tells (start_of hall) (view host.pass).seen r.rounds → events ≡ history (view host.pass).seen → IsLogOf (start_of hall) log (at (view host.pass).seen log_lock) → log_end log < 2 ^ 64 → printed ≡ text ++ (rest_text s.names (life_told s.base events log) None ++ end_text)
       → (rest : IsRestOfReport p.tells s front printed) × (IsTrue l.tells → l.images (log_disk log) (l.reads (log_disk log)) → LogHolds l rest.life.life (log_disk log))
   rest_told hall host sessions s faults front text printed events log taken begun r over told stands end exact =
       let start = start_of hall in
       let base : start.base ≡ s.base = ap (λ t. t.base) begun in
-      let life : LifeReport = record { life = life_told s.base events log; steps = closing.steps_of 1 r.rounds; crash = None } in
+      let life : LifeReport = record { life = life_told s.base events log; steps = r.steps; crash = None } in
       let begins : closing.BeginsNewLog start = record {
         from = ap (λ t. t.from) begun;
         logged = ap (λ t. t.logged) begun ∙ ap (λ b. records.Checkpoint 0 b ∷ []) (sym base);
@@ -57,14 +58,15 @@ module _ {H L P : Type 0} {l : logs.Ghosts L} {p : disks.Ghosts P} where
         multis = refl;
         recs = stands.recs_are;
         flushed = stands.flushed_is;
-        steps = refl;
+        steps = r.rounds_are;
       } in
-      let lawful : IsLawfulLife p.tells start.banks (rounds_of s.items) life = promises_make_life p.tells start (view host.pass).seen r.rounds (rounds_of s.items) life begins over (few_levels s.items r.rounds r.told taken.few) r.told report end in
+      let commands : AreRoundsOf (rounds_of s.items) r.rounds = subst (λ cs. AreRoundsOf cs r.rounds) (rounds_asked s.items) (rounds_told 1 (asked_of s.items) r.steps r.rounds r.told r.rounds_are) in
+      let lawful : IsLawfulLife p.tells start.banks (asked_of s.items) life = promises_make_life p.tells start (view host.pass).seen r.rounds (asked_of s.items) life begins over (few_levels s.items r.rounds commands taken.few) r.told r.dumps report end in
       let rest : IsRestOfReport p.tells s front printed = record {
         life = life;
         last = refl;
         begins = record { from = refl; base_is = refl; committed = refl; recorded = refl };
-        lawful = subst (λ n. IsLawfulLife p.tells n (rounds_of s.items) life) (ap (λ t. t.banks) begun) lawful;
+        lawful = subst (λ n. IsLawfulLife p.tells n (asked_of s.items) life) (ap (λ t. t.banks) begun) lawful;
         exact = exact ∙ ap (λ t. t ++ (rest_text s.names life.life None ++ end_text)) r.text_is;
       } in (
         rest,

@@ -2,26 +2,49 @@
 use Rattle.std.proofs.Common.{◌≡◌, ℕ, ◌+◌, ◌<◌, ◌≤◌, ◌==◌, Bool, true, false, cond, List, [], ◌∷◌, ◌++◌, refl, sym, ap, subst, ◌∙◌, arith, length, map, append-nil, append_assoc, length-append}
 use Rattle.std.proofs.lemmas.List.{length-map}
 use Rattle.std.proofs.lemmas.Grind.{flat_map-append}
-use Rattle.std.proofs.lemmas.List.Elements.{filter-append}
+use Rattle.std.proofs.lemmas.List.Elements.{filter-append, filter_map-append}
 use Rattle.std.proofs.lemmas.List.Sums.{count_by-le-length, length-filter}
 use Rattle.std.specs.List.{count_by, filter, flat_map}
 use Rattle.tx_events.specs.Places.{first_seen}
 use Rattle.tx_model.specs.declared.command.Command.{Command}
 use Rattle.tx_model.specs.declared.report.Line.{Line}
+use Rattle.tx_model.specs.declared.report.Step.{Step}
+use Rattle.tx_model.specs.declared.report.Step.TheVariants as steps
+use Rattle.tx_model.specs.Asked as asked
+use Rattle.tx_model.specs.Asked.{Asked, round_in, rounds_in}
+use Rattle.tx_model.specs.Rounds.{AreSteps, is_round}
 use Rattle.tx_model.specs.Lines.{AreLinesOf, grouped, turn_of}
 use Rattle.life_law.specs.Commands.{makes_level}
 use Rattle.session_lang.specs.declared.script.Item.{Item}
 use Rattle.session_lang.specs.declared.script.Item.TheVariants as items
-use Rattle.session_lang.specs.Rounds.{round_of, rounds_from, rounds_of, turns_of}
+use Rattle.session_lang.specs.Rounds.{asked_of, round_of, rounds_from, rounds_of, turns_of}
 use Rattle.run_law.specs.Turns.{turns_in}
+use Rattle.session_lang.proofs.Asking.{rounds_asked}
 use Rattle.script_rounds.proofs.RoundLemmas.{grouped_short, turns_short}
-use Rattle.session_promise.specs.Closing.{AreRoundsOf}
 use Rattle.session_promise.specs.Promise.{is_made_level}
-use Rattle.session_promise.specs.Told.{ToldRound, all_lines, lines_by, lines_of, told_by}
+use Rattle.session_promise.specs.Told.{ToldRound, all_lines, lines_by, lines_of, steps_of, told_by}
 use Rattle.session_promise.proofs.Telling.{lines_told}
 
 abbrev pub Turns : Type 0
 Turns = List (ℕ × Command)
+
+-- each round's lines are its commands
+abbrev pub AreRoundsOf : List Turns → List ToldRound → Type 0
+AreRoundsOf [] [] = Unit {0}
+AreRoundsOf (turns ∷ commands) (r ∷ rounds) = AreLinesOf turns r.lines × AreRoundsOf commands rounds
+AreRoundsOf commands rounds = ⊥
+
+-- so are the rounds among the steps
+pub rounds_told : (n : ℕ) (all : List Asked) (ss : List Step) (rounds : List ToldRound) → AreSteps n all ss → filter is_round ss ≡ steps_of n rounds → AreRoundsOf (rounds_in all) rounds
+rounds_told n [] [] [] a e = tt
+rounds_told n [] [] (r ∷ rounds) a e = absurd cc
+rounds_told n (asked.round turns ∷ more) (steps.Round number lines ∷ ss) [] a e = absurd cc
+rounds_told n (asked.round turns ∷ more) (steps.Round number lines ∷ ss) (r ∷ rounds) a e =
+    let same : lines ≡ r.lines = cc in
+    let rest : filter is_round ss ≡ steps_of (n + 1) rounds = cc in
+    (subst (AreLinesOf turns) same a.1, rounds_told (n + 1) more ss rounds a.2 rest)
+rounds_told n (asked.dump what at size ∷ more) (steps.Dump of from count reply ∷ ss) rounds a e = rounds_told n more ss rounds a.3 e
+rounds_told n all ss rounds a e = absurd a
 
 -- the commands of all rounds
 abbrev pub turns_of_all : List Turns → Turns
@@ -147,10 +170,12 @@ own_short n rounds =
     omega (arith, a, b, c, d)
 
 -- the rounds that were run, and those of the rest, are those of a short script
-pub rounds_short : (script rest : List Item) (done : List Turns) → rounds_of script ≡ done ++ rounds_of rest → length (turns_of_all done) + length (turns_in rest) ≤ length script
+pub rounds_short : (script rest : List Item) (done : List Asked) → asked_of script ≡ done ++ asked_of rest → length (turns_of_all (rounds_in done)) + length (turns_in rest) ≤ length script
 rounds_short script rest done e =
-    let a = ap length (sym (all_turns script) ∙ ap turns_of_all e ∙ flat_map-append (λ (ts : Turns). ts) done (rounds_of rest)) in
-    let b = length-append (turns_of_all done) (turns_of_all (rounds_of rest)) in
+    let split : rounds_of script ≡ rounds_in done ++ rounds_of rest =
+    sym (rounds_asked script) ∙ (ap rounds_in e ∙ (filter_map-append round_in done (asked_of rest) ∙ ap (λ rs. rounds_in done ++ rs) (rounds_asked rest))) in
+    let a = ap length (sym (all_turns script) ∙ ap turns_of_all split ∙ flat_map-append (λ (ts : Turns). ts) (rounds_in done) (rounds_of rest)) in
+    let b = length-append (turns_of_all (rounds_in done)) (turns_of_all (rounds_of rest)) in
     let c = ap length (all_turns rest) in
     let d = turns_short script in
     omega (arith, a, b, c, d)

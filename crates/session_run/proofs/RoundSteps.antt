@@ -1,24 +1,28 @@
 -- A round more, in the script and in the report.
-use Rattle.std.proofs.Common.{◌≡◌, ◌↔◌, ◌⊎◌, ℕ, Bool, ◌+◌, ◌<◌, ◌≤◌, List, [], ◌∷◌, ◌++◌, refl, sym, ap, subst, ◌∙◌, arith, ⊎_elim, false, true, length, append-nil, append_assoc, length-append, add-zero}
+use Rattle.std.proofs.Common.{◌≡◌, ◌↔◌, ◌⊎◌, ℕ, Bool, ◌+◌, ◌<◌, ◌≤◌, List, [], ◌∷◌, ◌++◌, refl, sym, ap, subst, ◌∙◌, arith, ⊎_elim, false, true, get_or, length, append-nil, append_assoc, length-append, add-zero}
 use Rattle.std.proofs.lemmas.Grind.{flat_map-append}
 use Rattle.std.proofs.lemmas.List.Elements.{All-from_recursion, recursion_from_All}
 use Rattle.std.proofs.lemmas.Bool.{false≢true}
 use Rattle.std.specs.List.{All, AllByRecursion, flat_map}
-use Rattle.tx_model.specs.declared.command.Command.{Command}
+use Rattle.tx_model.specs.declared.reply.Reply.{Reply}
+use Rattle.tx_model.specs.declared.report.DumpOf.{DumpOf}
+use Rattle.tx_model.specs.declared.report.Line.{Line}
 use Rattle.tx_model.specs.declared.report.Step.{Step}
 use Rattle.tx_model.specs.declared.report.Step.TheVariants as steps
+use Rattle.tx_model.specs.Asked as asked
+use Rattle.tx_model.specs.Asked.{Asked, rounds_in}
+use Rattle.tx_model.specs.Rounds.{AreSteps}
 use Rattle.tx_model.specs.Lines.{AreLinesOf}
 use Rattle.report_text.specs.ReportText.{command_line, round_line, step_text}
 use Rattle.report_text.proofs.OneLife.{one_round}
 use Rattle.session_lang.specs.declared.script.Item.{Item}
 use Rattle.session_lang.specs.declared.script.Item.TheVariants as items
-use Rattle.session_lang.specs.Rounds.{round_of, rounds_of}
+use Rattle.session_lang.specs.Rounds.{asked_at, asked_in, asked_of, asked_round}
 use Rattle.run_law.specs.Turns.{IsFirstRound, is_command, turns_in}
 use Rattle.script_rounds.proofs.ListLemmas.{all_front}
-use Rattle.script_rounds.proofs.RoundLemmas.{first_round, turns_short}
-use Rattle.session_promise.specs.Closing.{AreRoundsOf, steps_of}
-use Rattle.session_promise.specs.Told.{ToldRound}
-use Rattle.session_run.proofs.RoundCounts.{Turns}
+use Rattle.script_rounds.proofs.RoundLemmas.{first_asked, turns_short}
+use Rattle.session_promise.specs.Told.{ToldRound, steps_of}
+use Rattle.session_run.proofs.RoundCounts.{AreRoundsOf, Turns}
 
 pub not_empty : {X : Type 0} (xs : List X) (b : Bool) → ((b ≡ true) ↔ (xs ≡ [])) → b ≡ false → 0 < length xs
 not_empty [] b k e = absurd (false≢true (sym e ∙ k.1 refl))
@@ -26,11 +30,14 @@ not_empty (x ∷ xs) b k e = omega arith
 
 -- ---- in the script
 
-pub rounds_on : (script rest round behind : List Item) (done : List Turns) → rounds_of script ≡ done ++ rounds_of rest → IsFirstRound rest round behind → rounds_of script ≡ (done ++ round_of (turns_in round)) ++ rounds_of behind
-rounds_on script rest round behind done e f =
+pub asked_on : (script rest round behind : List Item) (done : List Asked) → asked_of script ≡ done ++ asked_of rest → IsFirstRound rest round behind → asked_of script ≡ ((done ++ asked_round (turns_in round)) ++ asked_at rest (length round)) ++ asked_of behind
+asked_on script rest round behind done e f =
+    let first = asked_round (turns_in round) in
+    let then = asked_at rest (length round) in
     e
-    ∙ ap (λ t. done ++ t) (first_round rest round behind (recursion_from_All (λ item. is_command item ≡ true) round f.commands) f.split)
-    ∙ sym (append_assoc done (round_of (turns_in round)) (rounds_of behind))
+    ∙ ap (λ t. done ++ t) (first_asked rest round behind (recursion_from_All (λ item. is_command item ≡ true) round f.commands) f.split)
+    ∙ sym (append_assoc done first (then ++ asked_of behind))
+    ∙ sym (append_assoc (done ++ first) then (asked_of behind))
 
 pub all_parts : (P : Item → Type 0) (script round rest : List Item) → IsFirstRound script round rest → All P script → All P round × All P rest
 all_parts P script round rest f a = ⊎_elim
@@ -53,7 +60,7 @@ rest_shorter script round rest f some = ⊎_elim
     f.split
 
 -- a round that has commands
-pub some_round : (round : List Item) → AllByRecursion (λ item. is_command item ≡ true) round → 0 < length round → round_of (turns_in round) ≡ turns_in round ∷ []
+pub some_round : (round : List Item) → AllByRecursion (λ item. is_command item ≡ true) round → 0 < length round → asked_round (turns_in round) ≡ asked.round (turns_in round) ∷ []
 some_round [] a l = absurd (omega arith)
 some_round (items.Run s c ∷ round) a l = refl
 some_round (items.Round ∷ round) a l = absurd (false≢true a.0)
@@ -61,17 +68,25 @@ some_round (items.Checkpoint ∷ round) a l = absurd (false≢true a.0)
 some_round (items.Crash how ∷ round) a l = absurd (false≢true a.0)
 some_round (items.Dump what at size ∷ round) a l = absurd (false≢true a.0)
 
-pub no_round : (round : List Item) → length round ≡ 0 → round_of (turns_in round) ≡ []
+pub no_round : (round : List Item) → length round ≡ 0 → asked_round (turns_in round) ≡ []
 no_round [] e = refl
 no_round (x ∷ round) e = absurd (omega (arith, e))
 
-few_rounds : (turns : Turns) → length (round_of turns) ≤ length turns
+few_rounds : (turns : Turns) → length (rounds_in (asked_round turns)) ≤ length turns
 few_rounds [] = omega arith
 few_rounds (t ∷ turns) = omega arith
 
 -- a round is no longer than its commands
-pub round_short : (round : List Item) → length (round_of (turns_in round)) ≤ length round
+pub round_short : (round : List Item) → length (rounds_in (asked_round (turns_in round))) ≤ length round
 round_short round = omega (arith, few_rounds (turns_in round), turns_short round)
+
+-- a directive is no round
+pub no_rounds : (script : List Item) (place : ℕ) → rounds_in (asked_at script place) ≡ []
+no_rounds script place = by (get_or script place items.Round)
+  where
+    by : (item : Item) → rounds_in (asked_in item) ≡ []
+    by (items.Dump what at size) = refl
+    by item = refl
 
 -- ---- in the report
 
@@ -81,30 +96,40 @@ as_many (turns ∷ commands) (r ∷ rounds) a = let e = as_many commands rounds 
 as_many [] (r ∷ rounds) a = absurd a
 as_many (turns ∷ commands) [] a = absurd a
 
-pub told_push : (commands : List Turns) (rounds : List ToldRound) (turns : Turns) (r : ToldRound) → AreRoundsOf commands rounds → AreLinesOf turns r.lines → AreRoundsOf (commands ++ turns ∷ []) (rounds ++ r ∷ [])
-told_push [] [] turns r a l = (l, tt)
-told_push (ts ∷ commands) (s ∷ rounds) turns r a l = (a.0, told_push commands rounds turns r a.1 l)
-told_push [] (s ∷ rounds) turns r a l = absurd a
-told_push (ts ∷ commands) [] turns r a l = absurd a
+-- one more round, and one more dump
+pub round_push : (n number : ℕ) (all : List Asked) (ss : List Step) (turns : Turns) (lines : List Line) → AreSteps n all ss → number ≡ n + length (rounds_in all) → AreLinesOf turns lines → AreSteps n (all ++ asked.round turns ∷ []) (ss ++ steps.Round number lines ∷ [])
+round_push n number [] [] turns lines a e l = (omega (arith, e), l, tt)
+round_push n number (asked.round ts ∷ all) (steps.Round m ls ∷ ss) turns lines a e l = (a.0, a.1, round_push (n + 1) number all ss turns lines a.2 (omega (arith, e)) l)
+round_push n number (asked.dump what at size ∷ all) (steps.Dump of from count reply ∷ ss) turns lines a e l = (a.0, a.1, a.2, round_push n number all ss turns lines a.3 e l)
+round_push n number all ss turns lines a e l = absurd a
 
-steps_push : (n : ℕ) (rounds : List ToldRound) (r : ToldRound) → steps_of n (rounds ++ r ∷ []) ≡ steps_of n rounds ++ steps.Round (n + length rounds) r.lines ∷ []
+pub dump_push : (n : ℕ) (all : List Asked) (ss : List Step) (what : DumpOf) (at size : ℕ) (reply : Reply) → AreSteps n all ss → AreSteps n (all ++ asked.dump what at size ∷ []) (ss ++ steps.Dump what at size reply ∷ [])
+dump_push n [] [] what at size reply a = (refl, refl, refl, tt)
+dump_push n (asked.round ts ∷ all) (steps.Round m ls ∷ ss) what at size reply a = (a.0, a.1, dump_push (n + 1) all ss what at size reply a.2)
+dump_push n (asked.dump w from k ∷ all) (steps.Dump of place count r ∷ ss) what at size reply a = (a.0, a.1, a.2, dump_push n all ss what at size reply a.3)
+dump_push n all ss what at size reply a = absurd a
+
+pub steps_push : (n : ℕ) (rounds : List ToldRound) (r : ToldRound) → steps_of n (rounds ++ r ∷ []) ≡ steps_of n rounds ++ steps.Round (n + length rounds) r.lines ∷ []
 steps_push n [] r = ap (λ m. steps.Round m r.lines ∷ []) (sym (add-zero n))
 steps_push n (s ∷ rounds) r =
     ap (λ (ss : List Step). steps.Round n s.lines ∷ ss)
     (steps_push (n + 1) rounds r ∙ ap (λ m. steps_of (n + 1) rounds ++ steps.Round m r.lines ∷ []) (omega arith))
 
 -- the text of the rounds, with one more
-pub text_push : (names : List (List ℕ)) (number : ℕ) (rounds : List ToldRound) (r : ToldRound) (front text printed : List ℕ) → 1 + length rounds ≡ number → text ≡ front ++ flat_map (step_text names) (steps_of 1 rounds) → printed ≡ (text ++ round_line number) ++ flat_map (command_line names) r.lines → printed ≡ front ++ flat_map (step_text names) (steps_of 1 (rounds ++ r ∷ []))
-text_push names number rounds r front text printed count is more =
-    let before = flat_map (step_text names) (steps_of 1 rounds) in
-    let lines = flat_map (command_line names) r.lines in
-    let step = flat_map (step_text names) (steps.Round number r.lines ∷ []) in
+step_push : (names : List (List ℕ)) (ss : List Step) (step : Step) (front text : List ℕ) → text ≡ front ++ flat_map (step_text names) ss → text ++ flat_map (step_text names) (step ∷ []) ≡ front ++ flat_map (step_text names) (ss ++ step ∷ [])
+step_push names ss step front text is =
+    ap (λ t. t ++ flat_map (step_text names) (step ∷ [])) is
+    ∙ append_assoc front (flat_map (step_text names) ss) (flat_map (step_text names) (step ∷ []))
+    ∙ ap (λ t. front ++ t) (sym (flat_map-append (step_text names) ss (step ∷ [])))
+
+pub text_push : (names : List (List ℕ)) (number : ℕ) (ss : List Step) (lines : List Line) (front text printed : List ℕ) → text ≡ front ++ flat_map (step_text names) ss → printed ≡ (text ++ round_line number) ++ flat_map (command_line names) lines → printed ≡ front ++ flat_map (step_text names) (ss ++ steps.Round number lines ∷ [])
+text_push names number ss lines front text printed is more =
     more
-    ∙ append_assoc text (round_line number) lines
-    ∙ ap (λ t. text ++ t) (sym (one_round names number r.lines))
-    ∙ ap (λ t. t ++ step) is
-    ∙ append_assoc front before step
-    ∙ ap (λ t. front ++ t)
-    (sym (flat_map-append (step_text names) (steps_of 1 rounds) (steps.Round number r.lines ∷ []))
-    ∙ ap (λ n. flat_map (step_text names) (steps_of 1 rounds ++ steps.Round n r.lines ∷ [])) (sym count)
-    ∙ ap (flat_map (step_text names)) (sym (steps_push 1 rounds r)))
+    ∙ append_assoc text (round_line number) (flat_map (command_line names) lines)
+    ∙ ap (λ t. text ++ t) (sym (one_round names number lines))
+    ∙ step_push names ss (steps.Round number lines) front text is
+
+-- and with one dump more
+pub dump_text_push : (names : List (List ℕ)) (ss : List Step) (step : Step) (front text printed : List ℕ) → text ≡ front ++ flat_map (step_text names) ss → printed ≡ text ++ step_text names step → printed ≡ front ++ flat_map (step_text names) (ss ++ step ∷ [])
+dump_text_push names ss step front text printed is more =
+    more ∙ ap (λ t. text ++ t) (sym (append-nil (step_text names step))) ∙ step_push names ss step front text is

@@ -1,15 +1,17 @@
-//! Runs the rounds of a script over one lock table, and prints them as they are done.
+//! Runs the rounds of a script over one lock table, and the dumps between them, and prints them as they are done.
 ghost use Rattle.std.specs.Prelude.{◌≡◌, ◌+◌, ◌^◌, ◌<◌, ◌≤◌, ◌∷◌, ℕ, List, [], IfOk, OnOk, length, true};
 ghost use Rattle.std.specs.List.{All};
 ghost use Rattle.engine_parts.specs.declared.session.Session.{Session};
 ghost use Rattle.engine_host.specs.Hosts.{HasSeenNothing, HoldsAllBut, IsHost, IsNewSession, IsParked};
-ghost use Rattle.session_lang.specs.Rounds.{round_of, rounds_of};
+ghost use Rattle.tx_model.specs.Asked as asked;
+ghost use Rattle.tx_model.specs.Asked.{rounds_in};
+ghost use Rattle.session_lang.specs.Rounds.{asked_at, asked_of, asked_round};
 ghost use Rattle.run_law.specs.Turns.{IsRunnable, MayRun, is_command, turns_in};
 ghost use Rattle.script_rounds.specs.Plans.{IsBlank};
 ghost use Rattle.session_run.specs.declared.rest.Resting.{Resting as Here};
 ghost use Rattle.session_run.specs.Rounds.{MayAdd};
 ghost use Rattle.session_run.specs.GoesOn.{AreHome, GoesOn};
-ghost use Rattle.session_run.specs.Runs.{HasRun, RunsOn};
+ghost use Rattle.session_run.specs.Runs.{HasRun, RunsOn, ShowsOn};
 
 use crate::laws::{life_begins, life_goes_on};
 use crate::rest::{Resting, new_sessions};
@@ -18,13 +20,14 @@ use disk_core::{LogDisk, PageDisk};
 use engine_host::Host;
 use engine_parts::EngineLaw;
 use hall::Hall;
-use report_text::{Text, put_round_line};
+use report_text::{Text, put_round_line, put_step};
 use script_rounds::{Plan, next_round};
+use session_dumps::show;
 use session_lang::{Items, Script};
 use std::alloc::Global;
 use std::sync::Wait;
 use std::thread::Threads;
-use tx_model::{Memory, NameList};
+use tx_model::{Memory, NameList, Step};
 
 // A round of fewer commands isn't worth its threads: starting them costs as much as some hundred commands.
 const FEW_COMMANDS: usize = 512;
@@ -62,7 +65,7 @@ fn run_numbered<R: Threads + Wait + Sync, L: LogDisk + Send + Sync, P: PageDisk 
     ensures cluster { host.new.cluster ≡ host.old.cluster }
     ensures count { length sessions.new ≡ length sessions.old }
     ensures plan { OnOk result (IsBlank plan.new × (length plan.new.places.items ≡ length sessions.new)) }
-    ensures ran { OnOk result (RunsOn hall.now names.now rounds (turns_in round.now ∷ []) host.old host.new
+    ensures ran { OnOk result (RunsOn hall.now names.now rounds (asked.round (turns_in round.now) ∷ []) host.old host.new
         sessions.old sessions.new text.old text.new) }
 {
     life_goes_on(hall);
@@ -100,8 +103,8 @@ fn run_next<R: Threads + Wait + Sync, L: LogDisk + Send + Sync, P: PageDisk + Se
     ensures cluster { host.new.cluster ≡ host.old.cluster }
     ensures count { length sessions.new ≡ length sessions.old }
     ensures plan { OnOk result (IsBlank plan.new × (length plan.new.places.items ≡ length sessions.new)) }
-    ensures rounds { IfOk result (λ n. n ≡ rounds + length (round_of (turns_in round.now))) }
-    ensures ran { OnOk result (RunsOn hall.now names.now rounds (round_of (turns_in round.now)) host.old host.new
+    ensures rounds { IfOk result (λ n. n ≡ rounds + length (rounds_in (asked_round (turns_in round.now)))) }
+    ensures ran { OnOk result (RunsOn hall.now names.now rounds (asked_round (turns_in round.now)) host.old host.new
         sessions.old sessions.new text.old text.new) }
 {
     if round.is_empty() {
@@ -113,7 +116,39 @@ fn run_next<R: Threads + Wait + Sync, L: LogDisk + Send + Sync, P: PageDisk + Se
     Ok(rounds + 1)
 }
 
-/// Runs the rounds of a script, one after another, its sessions being these.
+/// Answers the dump that the item at this place asks for, if it does, and prints it.
+fn show_next<R: Wait, L: LogDisk, P: PageDisk>(
+    rt: &R,
+    alloc: Global,
+    hall: &Hall<EngineLaw<L, P>>,
+    host: &mut Host<L, P>,
+    sessions: &[Resting],
+    script: &Items,
+    place: usize,
+    names: &NameList,
+    text: &mut Text,
+) -> Result<(), Memory>
+    requires home { AreHome hall.now host.old sessions.now }
+    requires items { All (MayRun (length sessions.now)) script.now }
+    ensures home { AreHome hall.now host.new sessions.now }
+    ensures cluster { host.new.cluster ≡ host.old.cluster }
+    ensures ran { OnOk result (ShowsOn hall.now names.now (asked_at script.now place) host.old host.new sessions.now
+        text.old text.new) }
+{
+    let Some(dump) = script.dump_at(place) else {
+        return Ok(());
+    };
+    let reply = show(rt, alloc, hall, host, dump)?;
+    let step = Step::Dump {
+        what: dump.what,
+        at: dump.at,
+        length: dump.length,
+        reply,
+    };
+    put_step(text, names, &step)
+}
+
+/// Runs the rounds of a script, one after another, and the dumps between them, its sessions being these.
 fn run_each<R: Threads + Wait + Sync, L: LogDisk + Send + Sync, P: PageDisk + Send + Sync>(
     rt: &R,
     alloc: Global,
@@ -130,7 +165,7 @@ fn run_each<R: Threads + Wait + Sync, L: LogDisk + Send + Sync, P: PageDisk + Se
     requires few { length script ≤ 2 ^ 24 }
     ensures home { AreHome hall.now host.new sessions.new }
     ensures cluster { host.new.cluster ≡ host.old.cluster }
-    ensures ran { OnOk result (HasRun hall.now host.new sessions.new names.now (rounds_of script.entry)
+    ensures ran { OnOk result (HasRun hall.now host.new sessions.new names.now (asked_of script.entry)
         text.old text.new) }
 {
     let mut plan = Plan::new(alloc, sessions.len())?;
@@ -141,12 +176,15 @@ fn run_each<R: Threads + Wait + Sync, L: LogDisk + Send + Sync, P: PageDisk + Se
         rounds = run_next(
             rt, alloc, hall, host, sessions, &mut plan, rounds, &round, names, text, threads,
         )?;
+        let place = round.len();
+        show_next(rt, alloc, hall, host, sessions, &rest, place, names, text)?;
         rest = behind;
     }
     Ok(())
 }
 
-/// Runs the rounds of a script, one after another: the sessions of a round on at most so many threads.
+/// Runs the rounds of a script, one after another, and the dumps between them: the sessions of a round on at most so many
+/// threads.
 pub fn run_rounds<R: Threads + Wait + Sync, L: LogDisk + Send + Sync, P: PageDisk + Send + Sync>(
     rt: &R,
     alloc: Global,
@@ -165,7 +203,7 @@ pub fn run_rounds<R: Threads + Wait + Sync, L: LogDisk + Send + Sync, P: PageDis
     ensures host { IsHost hall.now host.new }
     ensures all { HoldsAllBut host.new [] }
     ensures ran { OnOk result ((sessions : List Here) × HasRun hall.now host.new sessions script.now.names
-        (rounds_of script.now.items) text.old text.new) }
+        (asked_of script.now.items) text.old text.new) }
 {
     let mut sessions = new_sessions(alloc, host.cluster.sessions)?;
     life_begins(hall);

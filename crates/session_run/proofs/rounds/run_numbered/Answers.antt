@@ -17,7 +17,7 @@ returns-in_err-run_round-clause-home g c =
     home_again c.args.hall.now c.args.host.now c.run_round.new.host c.args.sessions.now c.run_round.new.sessions c.requires.home e.host e.cluster e.all e.resting e.count
 
 pub returns-clause-ran : goal.returns-clause-ran
-returns-clause-ran g c = λ commands front count r.
+returns-clause-ran g c = λ all front count r.
     let e = c.in_ok-run_round.ensures in
     let h = c.args.hall.now in
     let before = c.args.host.now in
@@ -25,5 +25,5 @@ returns-clause-ran g c = λ commands front count r.
     let old = c.args.sessions.now in
     let new = c.run_round.new.sessions in
     let home = home_again h before after old new c.requires.home e.host e.cluster e.all e.resting e.count in
-    ran_more h before after old new c.args.names.now c.args.rounds (turns_in c.args.round.now) commands front c.args.text.now c.put_round_line.new.out c.run_round.new.text count c.in_ok-put_round_line.ensures.ok r
+    ran_more h before after old new c.args.names.now c.args.rounds (turns_in c.args.round.now) all front c.args.text.now c.put_round_line.new.out c.run_round.new.text count c.in_ok-put_round_line.ensures.ok e.went.grows r
     (c.life_goes_on.ensures before after old new r.rounds c.args.names.now c.args.round.now c.put_round_line.new.out c.run_round.new.text r.goes_on home e.count c.requires.items e.went)

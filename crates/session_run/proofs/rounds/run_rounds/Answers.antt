@@ -1,7 +1,7 @@
 use Rattle.std.proofs.Common.{sym, ap, subst, length, ◌≡◌, ◌∙◌}
 use Rattle.std.proofs.lemmas.Result.{on_ok_weaker}
 use Rattle.std.specs.List.{All}
-use Rattle.session_lang.specs.Rounds.{rounds_of}
+use Rattle.session_lang.specs.Rounds.{asked_of}
 use Rattle.session_run.specs.Rests.{IsFresh}
 use Rattle.session_run.specs.Runs.{HasRun}
 use Rattle.session_run.proofs.RoundsRun.{new_each, new_home}
@@ -20,5 +20,5 @@ run_each-requires-clause-begins g c κs within =
 pub returns-clause-ran : goal.returns-clause-ran
 returns-clause-ran g c =
     on_ok_weaker c.run_each.result
-    (λ r. (c.run_each.new.sessions, subst (λ items. HasRun c.args.hall.now c.run_each.new.host c.run_each.new.sessions c.args.script.now.names (rounds_of items) c.args.text.now c.run_each.new.text) c.items.ensures r))
+    (λ r. (c.run_each.new.sessions, subst (λ items. HasRun c.args.hall.now c.run_each.new.host c.run_each.new.sessions c.args.script.now.names (asked_of items) c.args.text.now c.run_each.new.text) c.items.ensures r))
     c.run_each.ensures.ran

@@ -1,0 +1,3 @@
+pub mod Homing
+pub mod Logging
+pub mod Showing

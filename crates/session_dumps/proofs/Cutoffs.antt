@@ -1,0 +1,60 @@
+-- The cutoffs of banks are those of the life.
+use Rattle.std.proofs.Common.{◌≡◌, ℕ, ◌/◌, ◌%◌, ◌^◌, List, [], ◌∷◌, Contains, inl, inr, map, ⊎_elim, refl, sym, ap, subst, ◌∙◌, arith, take}
+use Rattle.notes.specs.Lists.{at}
+use Rattle.tx_events.specs.declared.event.By.{By}
+use Rattle.tx_events.specs.declared.record.Rec.{Rec}
+use Rattle.tx_events.specs.declared.record.Rec.TheVariants as records
+use Rattle.tx_events.specs.Base.{IsBase}
+use Rattle.tx_events.specs.Horizon.{oldest_xmin}
+use Rattle.tx_events.specs.Ids.{id_before}
+use Rattle.tx_events.proofs.Membership.{Has, has_contains, place_has}
+use Rattle.store_pages.specs.Layouts.{subtrans_cutoff, xact_cutoff}
+use Rattle.store_pages.specs.Pages.{subtrans_page, xact_page}
+use Rattle.life_law.specs.Dumps.{IsSubtransCutoff, IsXactCutoff}
+use Rattle.tx_core.specs.declared.entry.Entry.{Entry}
+use Rattle.tx_core.specs.declared.entry.Start.{Start}
+use Rattle.tx_core.specs.CutsFollow.{IsTruncated}
+use Rattle.tx_core.specs.EngineInvariant.{EngineInvariant}
+use Rattle.tx_core.specs.Entries.{history, records_of}
+use Rattle.tx_core.specs.Locks.{subtrans_lock, xact_lock}
+use Rattle.tx_core.proofs.Cutting.{cut_says}
+use Rattle.engine_parts.specs.Stand.{IsCutoff, first_subtrans_page, first_xact_page}
+use Rattle.engine_host.proofs.Hosting.{xmin_first}
+use Rattle.session_promise.specs.Promise.{recs_of}
+
+-- a page in full, as it is stored
+xact_stored : (oldest cutoff : ℕ) → cutoff ≡ xact_page oldest % 2 ^ 17 → cutoff ≡ xact_cutoff oldest
+xact_stored oldest cutoff e = omega (arith, e)
+
+subtrans_stored : (xmin cutoff : ℕ) → cutoff ≡ subtrans_page (id_before xmin) % 2 ^ 21 → cutoff ≡ subtrans_cutoff xmin
+subtrans_stored xmin cutoff e = omega (arith, e)
+
+has_mapped : (xs : List (By × Rec)) (by : By) (rec : Rec) → Has xs (by, rec) → Has (map (λ (z : By × Rec). z.1) xs) rec
+has_mapped [] by rec k = absurd k
+has_mapped (x ∷ xs) by rec k = ⊎_elim (λ (e : x ≡ (by, rec)). inl (ap (λ (z : By × Rec). z.1) e)) (λ t. inr (has_mapped xs by rec t)) k
+
+-- the record of a truncation that is on disk
+truncated_among : (start : Start) (lists : List (List Entry)) (oldest multi offset : ℕ) → IsTruncated start lists oldest multi offset → Contains (recs_of lists) (records.Truncate oldest multi offset)
+truncated_among start lists oldest multi offset t =
+    let f = t.flushed in
+    has_contains (recs_of lists) (records.Truncate oldest multi offset) (has_mapped (records_of lists) f.2 (records.Truncate oldest multi offset) (place_has (records_of lists) f.0 (f.2, records.Truncate oldest multi offset) f.4))
+
+pub xact_told : (start : Start) (lists : List (List Entry)) (bank cutoff : ℕ) → EngineInvariant start lists → IsCutoff (first_xact_page start) (2 ^ 17) (at lists (xact_lock bank)) cutoff → IsXactCutoff start.base (recs_of lists) cutoff
+xact_told start lists bank cutoff k c =
+    ⊎_elim
+    (λ (first : c.0 ≡ first_xact_page start). (start.base.oldest, inl refl, xact_stored start.base.oldest cutoff (c.1 ∙ ap (λ n. n % 2 ^ 17) first)))
+    (λ z.
+    let t = (cut_says start lists (xact_lock bank) c.0 z.0 k z.1 z.2).xact bank refl in
+    (t.0, inr (t.1, t.2, truncated_among start lists t.0 t.1 t.2 t.3), xact_stored t.0 cutoff (c.1 ∙ ap (λ n. n % 2 ^ 17) t.4)))
+    c.3
+
+pub subtrans_told : (start : Start) (lists : List (List Entry)) (bank cutoff : ℕ) → IsBase start.base → EngineInvariant start lists → IsCutoff (first_subtrans_page start) (2 ^ 21) (at lists (subtrans_lock bank)) cutoff → IsSubtransCutoff start.base (history lists) cutoff
+subtrans_told start lists bank cutoff base k c =
+    ⊎_elim
+    (λ (first : c.0 ≡ first_subtrans_page start).
+    let xmin : oldest_xmin start.base.next [] ≡ start.base.next = xmin_first start.base.next base.full in
+    (0, omega arith, subtrans_stored (oldest_xmin start.base.next []) cutoff (c.1 ∙ (ap (λ n. n % 2 ^ 21) first ∙ ap (λ n. subtrans_page (id_before n) % 2 ^ 21) (sym xmin)))))
+    (λ z.
+    let t = (cut_says start lists (subtrans_lock bank) c.0 z.0 k z.1 z.2).subtrans bank refl in
+    (t.0, t.1, subtrans_stored (oldest_xmin start.base.next (take t.0 (history lists))) cutoff (c.1 ∙ ap (λ n. n % 2 ^ 21) t.2)))
+    c.3

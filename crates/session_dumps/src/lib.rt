@@ -1,0 +1,6 @@
+//! Dumps between two rounds, as the report answers them. See `docs/ENGINE.md` and `docs/SCRIPT-AND-REPORT.md`.
+#![tactic(auto)]
+
+mod show;
+
+pub use show::show;

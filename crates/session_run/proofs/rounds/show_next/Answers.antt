@@ -1,0 +1,35 @@
+use Rattle.std.proofs.Common.{◌++◌, ap, length, subst, sym}
+use Rattle.std.proofs.lemmas.List.Elements.{recursion_from_All}
+use Rattle.std.proofs.lemmas.Result.{on_ok_weaker}
+use Rattle.session_lang.specs.declared.script.Item.TheVariants as items
+use Rattle.session_lang.specs.Rounds.{asked_in}
+use Rattle.run_law.specs.Turns.{MayRun}
+use Rattle.session_run.specs.Runs.{HasRun}
+use Rattle.session_run.proofs.RoundsRun.{asked_may, home_shown, ran_dump, ran_same}
+use Rattle.session_run.proofs.rounds.show_next.Goals as goal
+
+pub show-reply-requires-clause-home : goal.show-reply-requires-clause-home
+show-reply-requires-clause-home g c = record { is_host = c.requires.home.is_host; all = c.requires.home.all }
+
+pub show-reply-requires-clause-may : goal.show-reply-requires-clause-may
+show-reply-requires-clause-may g c =
+    let all = c.args.script.now in
+    let n = length c.args.sessions.now in
+    subst (MayRun n) c.in-Some.ensures.some (asked_may (MayRun n) all c.args.place items.Round tt (recursion_from_All (MayRun n) all c.requires.items))
+
+pub returns-then-None-clause-ran : goal.returns-then-None-clause-ran
+returns-then-None-clause-ran g c = λ all front r.
+    ran_same c.args.hall.now c.args.host.now c.args.sessions.now c.args.names.now all _ front c.args.text.now c.in_default.ensures.none r
+
+pub returns-clause-home : goal.returns-clause-home
+returns-clause-home g c = home_shown c.args.hall.now c.args.host.now c.show-reply.new.host c.args.sessions.now c.requires.home c.show-reply.ensures.stays
+
+pub returns-clause-ran : goal.returns-clause-ran
+returns-clause-ran g c =
+    on_ok_weaker c.put_step.result (λ put. λ all front r.
+    let home = home_shown c.args.hall.now c.args.host.now c.show-reply.new.host c.args.sessions.now c.requires.home c.show-reply.ensures.stays in
+    let d = c.in-Some.dump in
+    let ran = ran_dump c.args.hall.now c.args.host.now c.show-reply.new.host c.args.sessions.now c.args.names.now d.what d.at d.length c.in_ok-reply.reply all front c.args.text.now c.put_step.new.out
+    c.show-reply.ensures.stays home c.in_ok-reply.ensures.reply put r in
+    subst (λ added. HasRun c.args.hall.now c.show-reply.new.host c.args.sessions.now c.args.names.now (all ++ added) front c.put_step.new.out) (sym (ap asked_in c.in-Some.ensures.some)) ran)
+    c.put_step.ensures.ok

@@ -2,3 +2,4 @@ mod Starting
 pub mod Hosting
 pub mod Parking
 mod Refusing
+mod Counting

@@ -16,6 +16,7 @@ pub mod FewIds
 pub mod Standing
 pub mod OneFault
 pub mod Between
+pub mod FaultLines
 pub mod LawfulReplies
 pub mod LawfulSteps
 pub mod LawfulLog

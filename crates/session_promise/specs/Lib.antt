@@ -4,3 +4,4 @@ pub mod Rounds
 pub mod Dumps
 pub mod Closing
 pub mod SoFar
+pub mod Causes

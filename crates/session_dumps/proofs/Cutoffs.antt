@@ -1,16 +1,20 @@
 -- The cutoffs of banks are those of the life.
-use Rattle.std.proofs.Common.{◌≡◌, ℕ, ◌/◌, ◌%◌, ◌^◌, List, [], ◌∷◌, Contains, inl, inr, map, ⊎_elim, refl, sym, ap, subst, ◌∙◌, arith, take}
+use Rattle.std.proofs.Common.{◌≡◌, ℕ, ◌/◌, ◌%◌, ◌^◌, ◌<◌, List, [], ◌∷◌, Contains, inl, inr, map, ⊎_elim, refl, sym, ap, subst, ◌∙◌, arith, take}
 use Rattle.notes.specs.Lists.{at}
 use Rattle.tx_events.specs.declared.event.By.{By}
 use Rattle.tx_events.specs.declared.record.Rec.{Rec}
 use Rattle.tx_events.specs.declared.record.Rec.TheVariants as records
+use Rattle.tx_events.specs.declared.refusal.Lock.TheVariants as locks
 use Rattle.tx_events.specs.Base.{IsBase}
 use Rattle.tx_events.specs.Horizon.{oldest_xmin}
 use Rattle.tx_events.specs.Ids.{id_before}
 use Rattle.tx_events.proofs.Membership.{Has, has_contains, place_has}
 use Rattle.store_pages.specs.Layouts.{subtrans_cutoff, xact_cutoff}
 use Rattle.store_pages.specs.Pages.{subtrans_page, xact_page}
-use Rattle.life_law.specs.Dumps.{IsSubtransCutoff, IsXactCutoff}
+use Rattle.tx_model.specs.declared.report.DumpOf.TheVariants as dumps
+use Rattle.life_law.specs.Dumps.{IsSubtransCutoff, IsXactCutoff, MayDump}
+use Rattle.slru_bank.specs.declared.refusal.BankRefusal.{BankRefusal}
+use Rattle.slru_bank.specs.declared.refusal.BankRefusal.TheVariants as refused
 use Rattle.tx_core.specs.declared.entry.Entry.{Entry}
 use Rattle.tx_core.specs.declared.entry.Start.{Start}
 use Rattle.tx_core.specs.CutsFollow.{IsTruncated}
@@ -20,7 +24,9 @@ use Rattle.tx_core.specs.Locks.{subtrans_lock, xact_lock}
 use Rattle.tx_core.proofs.Cutting.{cut_says}
 use Rattle.engine_parts.specs.Stand.{IsCutoff, first_subtrans_page, first_xact_page}
 use Rattle.engine_host.proofs.Hosting.{xmin_first}
+use Rattle.bank_sections.specs.Sections.{IsSubtransCut, IsXactCut}
 use Rattle.session_promise.specs.Promise.{recs_of}
+use Rattle.session_dumps.specs.Dumps.{refusal_by}
 
 -- a page in full, as it is stored
 xact_stored : (oldest cutoff : ℕ) → cutoff ≡ xact_page oldest % 2 ^ 17 → cutoff ≡ xact_cutoff oldest
@@ -58,3 +64,15 @@ subtrans_told start lists bank cutoff base k c =
     let t = (cut_says start lists (subtrans_lock bank) c.0 z.0 k z.1 z.2).subtrans bank refl in
     (t.0, t.1, subtrans_stored (oldest_xmin start.base.next (take t.0 (history lists))) cutoff (c.1 ∙ ap (λ n. n % 2 ^ 21) t.2)))
     c.3
+
+-- ---- where a bank refused
+
+pub xact_refused : (start : Start) (lists : List (List Entry)) (page size bank : ℕ) (refusal : BankRefusal) → EngineInvariant start lists → bank ≡ page % start.banks → bank < start.banks
+    → ((cutoff : ℕ) → refusal ≡ refused.Cut cutoff → IsXactCut start lists (page % start.banks) page cutoff) → MayDump start.banks start.base (recs_of lists) (history lists) (dumps.Xact page) size (refusal_by (locks.Xact bank) refusal)
+xact_refused start lists page size bank (refused.Cut cutoff) k here low cut = let z = cut cutoff refl in (xact_told start lists (page % start.banks) cutoff k z.0, z.1)
+xact_refused start lists page size bank refused.DiskFault k here low cut = (low, here)
+
+pub subtrans_refused : (start : Start) (lists : List (List Entry)) (page size bank : ℕ) (refusal : BankRefusal) → IsBase start.base → EngineInvariant start lists → bank ≡ page % start.banks → bank < start.banks
+    → ((cutoff : ℕ) → refusal ≡ refused.Cut cutoff → IsSubtransCut start lists (page % start.banks) page cutoff) → MayDump start.banks start.base (recs_of lists) (history lists) (dumps.Subtrans page) size (refusal_by (locks.Subtrans bank) refusal)
+subtrans_refused start lists page size bank (refused.Cut cutoff) base k here low cut = let z = cut cutoff refl in (subtrans_told start lists (page % start.banks) cutoff base k z.0, z.1)
+subtrans_refused start lists page size bank refused.DiskFault base k here low cut = (low, here)

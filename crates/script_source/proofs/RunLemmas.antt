@@ -38,7 +38,7 @@ may_run n (items.Run s c ∷ script) f i r = (
 may_run n (items.Round ∷ script) f i r = (tt, may_run n script f i.1 r.1)
 may_run n (items.Checkpoint ∷ script) f i r = absurd (false≢true r.0)
 may_run n (items.Crash how ∷ script) f i r = absurd (false≢true r.0)
-may_run n (items.Dump what at size ∷ script) f i r = ((r.0, i.0), may_run n script f i.1 r.1)
+may_run n (items.Dump what at size ∷ script) f i r = ((r.0, i.0.0, i.0.1, i.0.2), may_run n script f i.1 r.1)
 
 -- a script all of whose items the run has can be run
 pub script_runs : (s : Script) → IsSound s → AllByRecursion IsItem s.items → length s.items ≤ prefix_len has_item s.items → IsRunnable s

@@ -5,9 +5,11 @@ use Rattle.std.proofs.lemmas.List.{map-append}
 use Rattle.std.proofs.lemmas.List.Elements.{Contains-append_right}
 use Rattle.std.specs.List.{count_by, flat_map}
 use Rattle.notes.specs.Lists.{Begins, Grows, at}
+use Rattle.tx_events.specs.declared.event.By.{By}
 use Rattle.tx_events.specs.declared.event.Event.{Event}
 use Rattle.tx_events.specs.declared.record.Counters.{Counters}
 use Rattle.tx_events.specs.declared.record.Rec.{Rec}
+use Rattle.tx_events.specs.declared.record.Rec.TheVariants as records
 use Rattle.tx_events.specs.declared.refusal.Lock.TheVariants as locks
 use Rattle.tx_events.specs.declared.refusal.Refusal.TheVariants as refusals
 use Rattle.tx_events.proofs.PlaceLemmas.{each_place_push}
@@ -45,7 +47,11 @@ follow_end from a b (r ∷ rounds) f g = follow_end r.span.to a b rounds f.2 g.2
 -- ---- more records
 
 cutoff_more : (base : Counters) (recs more : List Rec) (cutoff : ℕ) → ((r : Rec) → Contains recs r → Contains more r) → IsXactCutoff base recs cutoff → IsXactCutoff base more cutoff
-cutoff_more base recs more cutoff up c = (c.0, ⊎_elim inl (λ t. inr (t.0, t.1, up _ t.2)) c.1, c.2)
+cutoff_more base recs more cutoff up c = (
+  c.0,
+  ⊎_elim (λ (e : c.0 ≡ base.oldest). inl e) (λ (t : (multi offset : ℕ) × Contains recs (records.Truncate c.0 multi offset)). inr (t.0, t.1, up (records.Truncate c.0 t.0 t.1) t.2)) c.1,
+  c.2,
+)
 
 dump_more : (banks : ℕ) (base : Counters) (recs more : List Rec) (h : List Event) → ((r : Rec) → Contains recs r → Contains more r) → (what : DumpOf) (size : ℕ) (reply : Reply) → MayDump banks base recs h what size reply → MayDump banks base more h what size reply
 dump_more banks base recs more h up dumps.Log size (replies.Bytes bytes) m = m
@@ -64,7 +70,7 @@ recs_more lists more g r c =
     contains_begins (recs_of lists) (recs_of more) r (begins_map b) c
   where
     begins_map : Begins (records_in (at lists log_lock)) (records_in (at more log_lock)) → Begins (recs_of lists) (recs_of more)
-    begins_map b = (map (λ z. z.1) b.0, sym (map-append (λ z. z.1) (records_in (at lists log_lock)) b.0) ∙ ap (map (λ z. z.1)) b.1)
+    begins_map b = (map (λ (z : By × Rec). z.1) b.0, sym (map-append (λ (z : By × Rec). z.1) (records_in (at lists log_lock)) b.0) ∙ ap (map (λ (z : By × Rec). z.1)) b.1)
 
 -- ---- the dumps
 

@@ -9,7 +9,7 @@ use Rattle.tx_events.specs.Base.{IsBase}
 use Rattle.tx_events.specs.Horizon.{oldest_xmin}
 use Rattle.tx_events.specs.Ids.{id_before}
 use Rattle.tx_events.proofs.Membership.{Has, has_contains, place_has}
-use Rattle.store_pages.specs.Layouts.{subtrans_cutoff, xact_cutoff}
+use Rattle.store_pages.specs.Layouts.{word_page_of, xact_page_of}
 use Rattle.store_pages.specs.Pages.{subtrans_page, xact_page}
 use Rattle.tx_model.specs.declared.report.DumpOf.TheVariants as dumps
 use Rattle.life_law.specs.Dumps.{IsSubtransCutoff, IsXactCutoff, MayDump}
@@ -29,11 +29,11 @@ use Rattle.session_promise.specs.Promise.{recs_of}
 use Rattle.session_dumps.specs.Dumps.{refusal_by}
 
 -- a page in full, as it is stored
-xact_stored : (oldest cutoff : ℕ) → cutoff ≡ xact_page oldest % 2 ^ 17 → cutoff ≡ xact_cutoff oldest
+xact_stored : (oldest cutoff : ℕ) → cutoff ≡ xact_page oldest % 2 ^ 17 → cutoff ≡ xact_page_of oldest
 xact_stored oldest cutoff e = omega (arith, e)
 
-subtrans_stored : (xmin cutoff : ℕ) → cutoff ≡ subtrans_page (id_before xmin) % 2 ^ 21 → cutoff ≡ subtrans_cutoff xmin
-subtrans_stored xmin cutoff e = omega (arith, e)
+subtrans_stored : (id cutoff : ℕ) → cutoff ≡ subtrans_page id % 2 ^ 21 → cutoff ≡ word_page_of id
+subtrans_stored id cutoff e = omega (arith, e)
 
 has_mapped : (xs : List (By × Rec)) (by : By) (rec : Rec) → Has xs (by, rec) → Has (map (λ (z : By × Rec). z.1) xs) rec
 has_mapped [] by rec k = absurd k
@@ -59,10 +59,10 @@ subtrans_told start lists bank cutoff base k c =
     ⊎_elim
     (λ (first : c.0 ≡ first_subtrans_page start).
     let xmin : oldest_xmin start.base.next [] ≡ start.base.next = xmin_first start.base.next base.full in
-    (0, omega arith, subtrans_stored (oldest_xmin start.base.next []) cutoff (c.1 ∙ (ap (λ n. n % 2 ^ 21) first ∙ ap (λ n. subtrans_page (id_before n) % 2 ^ 21) (sym xmin)))))
+    (0, omega arith, subtrans_stored (id_before (oldest_xmin start.base.next [])) cutoff (c.1 ∙ (ap (λ n. n % 2 ^ 21) first ∙ ap (λ n. subtrans_page (id_before n) % 2 ^ 21) (sym xmin)))))
     (λ z.
     let t = (cut_says start lists (subtrans_lock bank) c.0 z.0 k z.1 z.2).subtrans bank refl in
-    (t.0, t.1, subtrans_stored (oldest_xmin start.base.next (take t.0 (history lists))) cutoff (c.1 ∙ ap (λ n. n % 2 ^ 21) t.2)))
+    (t.0, t.1, subtrans_stored (id_before (oldest_xmin start.base.next (take t.0 (history lists)))) cutoff (c.1 ∙ ap (λ n. n % 2 ^ 21) t.2)))
     c.3
 
 -- ---- where a bank refused

@@ -41,13 +41,16 @@ module _ {D : Type 0} {g : logs.Ghosts D} where
     count = (let c = s.count in let m = same.count in omega arith);
     kept = λ told.
         let k = s.kept told in
-        let keeps = k.2 in
-        (k.0, k.1, record {
-          earlier = keeps.earlier;
-          whole = keeps.whole ∙ ap (λ z. keeps.earlier ++ z) (sym same.recs);
-          count = keeps.count ∙ sym same.next;
-          each = λ c image. subst (λ (z : ℕ × ℕ). HasFlushed k.0 (k.1 ++ recs_in es) z.0 z.1 c) (λ i. (sym same.first i, sym same.flushed i)) (keeps.each c (same.images told c image));
-        });
+        let keeps = k.2 in (
+          k.0,
+          k.1,
+          record {
+            earlier = keeps.earlier;
+            whole = keeps.whole ∙ ap (λ z. keeps.earlier ++ z) (sym same.recs);
+            count = keeps.count ∙ sym same.next;
+            each = λ c image. subst (λ (z : ℕ × ℕ). HasFlushed k.0 (k.1 ++ recs_in es) z.0 z.1 c) (λ i. (sym same.first i, sym same.flushed i)) (keeps.each c (same.images told c image));
+          },
+        );
   }
 
   -- what was read is of the volume as it reads, which is what a crash may leave

@@ -1,5 +1,5 @@
 -- The dumps of a life, between its rounds.
-use Rattle.std.proofs.Common.{Contains, List, [], ap, append_assoc, inl, inr, length, map, refl, subst, sym, take, ℕ, ⊎_elim, ◌++◌, ◌∙◌, ◌∷◌, ◌≡◌}
+use Rattle.std.proofs.Common.{Bool, Contains, List, [], ap, append_assoc, inl, inr, length, map, refl, subst, sym, take, ℕ, ⊎_elim, ◌++◌, ◌∙◌, ◌∷◌, ◌≡◌}
 use Rattle.std.proofs.Math.Seq.{take-append_seam}
 use Rattle.std.proofs.lemmas.List.{map-append}
 use Rattle.std.proofs.lemmas.List.Elements.{Contains-append_right}

@@ -45,6 +45,13 @@ fn noted_line(_lines: &ToldLines, _by: By, _command: &Command, _reply: &Reply) -
     Note::of()
 }
 
+fn noted_lines(_lines: &ToldLines, _more: &ToldLines) -> Note<LineList>
+    ghost noted: { List Line }
+    ensures { result.value ≡ noted }
+{
+    Note::of()
+}
+
 fn noted_round(_steps: &ToldSteps, _lines: &ToldLines) -> Note<StepList>
     ghost noted: { List Step }
     ensures { result.value ≡ noted }
@@ -64,6 +71,14 @@ impl ToldLines {
         ensures { self.new ≡ self.old ++ (record { by = by; command = command.now; reply = reply.now }) ∷ [] }
     {
         let note = noted_line(self, by, command, reply);
+        self.note = note;
+    }
+
+    /// Adds these lines.
+    pub fn add_all(&mut self, more: &ToldLines)
+        ensures { self.new ≡ self.old ++ more.now }
+    {
+        let note = noted_lines(self, more);
         self.note = note;
     }
 }

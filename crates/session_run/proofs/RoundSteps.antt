@@ -1,11 +1,11 @@
--- A round more, in the script and in the report.
+-- A round more, in the script and in what is kept.
 use Rattle.std.proofs.Common.{◌≡◌, ◌↔◌, ◌⊎◌, ℕ, Bool, ◌+◌, ◌<◌, ◌≤◌, List, [], ◌∷◌, ◌++◌, refl, sym, ap, subst, ◌∙◌, arith, ⊎_elim, false, true, length, append-nil, append_assoc, length-append, add-zero}
 use Rattle.std.proofs.lemmas.Grind.{flat_map-append}
 use Rattle.std.proofs.lemmas.List.Elements.{All-from_recursion, recursion_from_All}
 use Rattle.std.proofs.lemmas.Bool.{false≢true}
 use Rattle.std.specs.List.{All, AllByRecursion, flat_map}
 use Rattle.tx_model.specs.declared.command.Command.{Command}
-use Rattle.tx_model.specs.declared.report.Step.{Step}
+use Rattle.tx_model.specs.declared.report.Line.{Line}
 use Rattle.tx_model.specs.declared.report.Step.TheVariants as steps
 use Rattle.tx_model.specs.Lines.{AreLinesOf}
 use Rattle.report_text.specs.ReportText.{command_line, round_line, step_text}
@@ -14,11 +14,13 @@ use Rattle.session_lang.specs.declared.script.Item.{Item}
 use Rattle.session_lang.specs.declared.script.Item.TheVariants as items
 use Rattle.session_lang.specs.Rounds.{round_of, rounds_of}
 use Rattle.run_law.specs.Turns.{IsFirstRound, is_command, turns_in}
+use Rattle.script_rounds.specs.declared.keeper.LineKeeper as keepers
 use Rattle.script_rounds.proofs.ListLemmas.{all_front}
 use Rattle.script_rounds.proofs.RoundLemmas.{first_round, turns_short}
 use Rattle.session_promise.specs.Closing.{AreRoundsOf, steps_of}
-use Rattle.session_promise.specs.Told.{ToldRound}
-use Rattle.session_run.proofs.RoundCounts.{Turns}
+use Rattle.session_promise.specs.Told.{ToldRound, all_lines}
+use Rattle.session_run.specs.Runs.{with_rounds}
+use Rattle.run_law.proofs.AllTurns.{Turns}
 
 pub not_empty : {X : Type 0} (xs : List X) (b : Bool) → ((b ≡ true) ↔ (xs ≡ [])) → b ≡ false → 0 < length xs
 not_empty [] b k e = absurd (false≢true (sym e ∙ k.1 refl))
@@ -73,7 +75,7 @@ few_rounds (t ∷ turns) = omega arith
 pub round_short : (round : List Item) → length (round_of (turns_in round)) ≤ length round
 round_short round = omega (arith, few_rounds (turns_in round), turns_short round)
 
--- ---- in the report
+-- ---- in what is kept
 
 pub as_many : (commands : List Turns) (rounds : List ToldRound) → AreRoundsOf commands rounds → length rounds ≡ length commands
 as_many [] [] a = refl
@@ -87,24 +89,54 @@ told_push (ts ∷ commands) (s ∷ rounds) turns r a l = (a.0, told_push command
 told_push [] (s ∷ rounds) turns r a l = absurd a
 told_push (ts ∷ commands) [] turns r a l = absurd a
 
-steps_push : (n : ℕ) (rounds : List ToldRound) (r : ToldRound) → steps_of n (rounds ++ r ∷ []) ≡ steps_of n rounds ++ steps.Round (n + length rounds) r.lines ∷ []
-steps_push n [] r = ap (λ m. steps.Round m r.lines ∷ []) (sym (add-zero n))
-steps_push n (s ∷ rounds) r =
-    ap (λ (ss : List Step). steps.Round n s.lines ∷ ss)
-    (steps_push (n + 1) rounds r ∙ ap (λ m. steps_of (n + 1) rounds ++ steps.Round m r.lines ∷ []) (omega arith))
+module _ {K : Type 0} (keep : keepers.Ghosts K) where
+  -- what is kept of the rounds, with one more
+  pub rounds_push : (names : List (List ℕ)) (n : ℕ) (kept : K) (rounds : List ToldRound) (r : ToldRound)
+      → with_rounds keep names n kept (rounds ++ r ∷ []) ≡ keep.with_lines names (keep.with_round (with_rounds keep names n kept rounds) (n + length rounds)) r.lines
+  rounds_push names n kept [] r = ap (λ m. keep.with_lines names (keep.with_round kept m) r.lines) (sym (add-zero n))
+  rounds_push names n kept (s ∷ rounds) r =
+      let mid = keep.with_lines names (keep.with_round kept n) s.lines in
+      rounds_push names (n + 1) mid rounds r
+      ∙ ap (λ m. keep.with_lines names (keep.with_round (with_rounds keep names (n + 1) mid rounds) m) r.lines) (omega arith)
 
--- the text of the rounds, with one more
-pub text_push : (names : List (List ℕ)) (number : ℕ) (rounds : List ToldRound) (r : ToldRound) (front text printed : List ℕ) → 1 + length rounds ≡ number → text ≡ front ++ flat_map (step_text names) (steps_of 1 rounds) → printed ≡ (text ++ round_line number) ++ flat_map (command_line names) r.lines → printed ≡ front ++ flat_map (step_text names) (steps_of 1 (rounds ++ r ∷ []))
-text_push names number rounds r front text printed count is more =
-    let before = flat_map (step_text names) (steps_of 1 rounds) in
-    let lines = flat_map (command_line names) r.lines in
-    let step = flat_map (step_text names) (steps.Round number r.lines ∷ []) in
-    more
-    ∙ append_assoc text (round_line number) lines
-    ∙ ap (λ t. text ++ t) (sym (one_round names number r.lines))
-    ∙ ap (λ t. t ++ step) is
-    ∙ append_assoc front before step
-    ∙ ap (λ t. front ++ t)
-    (sym (flat_map-append (step_text names) (steps_of 1 rounds) (steps.Round number r.lines ∷ []))
-    ∙ ap (λ n. flat_map (step_text names) (steps_of 1 rounds ++ steps.Round n r.lines ∷ [])) (sym count)
-    ∙ ap (flat_map (step_text names)) (sym (steps_push 1 rounds r)))
+-- as their text
+rounds_text : (keep : keepers.Ghosts (List ℕ)) (names : List (List ℕ))
+    → ((text : List ℕ) (n : ℕ) → keep.with_round text n ≡ text ++ round_line n)
+    → ((text : List ℕ) (lines : List Line) → keep.with_lines names text lines ≡ text ++ flat_map (command_line names) lines)
+    → (n : ℕ) (text : List ℕ) (rounds : List ToldRound)
+    → with_rounds keep names n text rounds ≡ text ++ flat_map (step_text names) (steps_of n rounds)
+rounds_text keep names round lines n text [] = sym (append-nil text)
+rounds_text keep names round lines n text (r ∷ rounds) =
+    let step = flat_map (step_text names) (steps.Round n r.lines ∷ []) in
+    let rest = flat_map (step_text names) (steps_of (n + 1) rounds) in
+    let one : keep.with_lines names (keep.with_round text n) r.lines ≡ text ++ step =
+    lines (keep.with_round text n) r.lines ∙ ap (λ t. t ++ flat_map (command_line names) r.lines) (round text n)
+    ∙ append_assoc text (round_line n) (flat_map (command_line names) r.lines) ∙ ap (λ t. text ++ t) (sym (one_round names n r.lines)) in
+    rounds_text keep names round lines (n + 1) (keep.with_lines names (keep.with_round text n) r.lines) rounds
+    ∙ ap (λ t. t ++ rest) one ∙ append_assoc text step rest
+    ∙ ap (λ t. text ++ t) (sym (flat_map-append (step_text names) (steps.Round n r.lines ∷ []) (steps_of (n + 1) rounds)))
+
+pub kept_text : (keep : keepers.Ghosts (List ℕ)) (names : List (List ℕ)) (front text : List ℕ) (rounds : List ToldRound)
+    → text ≡ with_rounds keep names 1 front rounds
+    → ((text : List ℕ) (n : ℕ) → keep.with_round text n ≡ text ++ round_line n)
+    → ((text : List ℕ) (lines : List Line) → keep.with_lines names text lines ≡ text ++ flat_map (command_line names) lines)
+    → text ≡ front ++ flat_map (step_text names) (steps_of 1 rounds)
+kept_text keep names front text rounds e round lines = e ∙ rounds_text keep names round lines 1 front rounds
+
+-- as the lines themselves
+rounds_lines : (keep : keepers.Ghosts (List Line)) (names : List (List ℕ))
+    → ((kept : List Line) (n : ℕ) → keep.with_round kept n ≡ kept)
+    → ((kept lines : List Line) → keep.with_lines names kept lines ≡ kept ++ lines)
+    → (n : ℕ) (kept : List Line) (rounds : List ToldRound) → with_rounds keep names n kept rounds ≡ kept ++ all_lines rounds
+rounds_lines keep names round lines n kept [] = sym (append-nil kept)
+rounds_lines keep names round lines n kept (r ∷ rounds) =
+    rounds_lines keep names round lines (n + 1) (keep.with_lines names (keep.with_round kept n) r.lines) rounds
+    ∙ ap (λ t. t ++ all_lines rounds) (lines (keep.with_round kept n) r.lines ∙ ap (λ t. t ++ r.lines) (round kept n))
+    ∙ append_assoc kept r.lines (all_lines rounds)
+
+pub kept_lines : (keep : keepers.Ghosts (List Line)) (names : List (List ℕ)) (first kept : List Line) (rounds : List ToldRound)
+    → kept ≡ with_rounds keep names 1 first rounds → first ≡ []
+    → ((kept : List Line) (n : ℕ) → keep.with_round kept n ≡ kept)
+    → ((kept lines : List Line) → keep.with_lines names kept lines ≡ kept ++ lines)
+    → kept ≡ all_lines rounds
+kept_lines keep names first kept rounds e none round lines = e ∙ rounds_lines keep names round lines 1 first rounds ∙ ap (λ t. t ++ all_lines rounds) none

@@ -28,6 +28,13 @@ fn noted_line(_lines: &ToldLines, _by: By, _command: &Command, _reply: &Reply) -
     Note::of()
 }
 
+fn noted_lines(_lines: &ToldLines, _more: &ToldLines) -> Note<LineList>
+    ghost noted: { List Line }
+    ensures { result.value ≡ noted }
+{
+    Note::of()
+}
+
 impl ToldLines {
     pub fn none() -> ToldLines
         ensures { result ≡ [] }
@@ -40,6 +47,14 @@ impl ToldLines {
         ensures { self.new ≡ self.old ++ (record { by = by; command = command.now; reply = reply.now }) ∷ [] }
     {
         let note = noted_line(self, by, command, reply);
+        self.note = note;
+    }
+
+    /// Adds these lines.
+    pub fn add_all(&mut self, more: &ToldLines)
+        ensures { self.new ≡ self.old ++ more.now }
+    {
+        let note = noted_lines(self, more);
         self.note = note;
     }
 }

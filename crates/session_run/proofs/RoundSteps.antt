@@ -1,4 +1,4 @@
--- A round more, in the script and in the report.
+-- A round more, in the script and in what is kept.
 use Rattle.std.proofs.Common.{◌≡◌, ◌↔◌, ◌⊎◌, ℕ, Bool, ◌+◌, ◌<◌, ◌≤◌, List, [], ◌∷◌, ◌++◌, refl, sym, ap, subst, ◌∙◌, arith, ⊎_elim, false, true, get_or, length, append-nil, append_assoc, length-append, add-zero}
 use Rattle.std.proofs.lemmas.Grind.{flat_map-append}
 use Rattle.std.proofs.lemmas.List.Elements.{All-from_recursion, recursion_from_All}
@@ -11,7 +11,7 @@ use Rattle.tx_model.specs.declared.report.Step.{Step}
 use Rattle.tx_model.specs.declared.report.Step.TheVariants as steps
 use Rattle.tx_model.specs.Asked as asked
 use Rattle.tx_model.specs.Asked.{Asked, rounds_in}
-use Rattle.tx_model.specs.Rounds.{AreSteps}
+use Rattle.tx_model.specs.Rounds.{AreSteps, lines_in}
 use Rattle.tx_model.specs.Lines.{AreLinesOf}
 use Rattle.report_text.specs.ReportText.{command_line, round_line, step_text}
 use Rattle.report_text.proofs.OneLife.{one_round}
@@ -19,10 +19,13 @@ use Rattle.session_lang.specs.declared.script.Item.{Item}
 use Rattle.session_lang.specs.declared.script.Item.TheVariants as items
 use Rattle.session_lang.specs.Rounds.{asked_at, asked_in, asked_of, asked_round}
 use Rattle.run_law.specs.Turns.{IsFirstRound, is_command, turns_in}
+use Rattle.script_rounds.specs.declared.keeper.LineKeeper as keepers
 use Rattle.script_rounds.proofs.ListLemmas.{all_front}
 use Rattle.script_rounds.proofs.RoundLemmas.{first_asked, turns_short}
 use Rattle.session_promise.specs.Told.{ToldRound, steps_of}
-use Rattle.session_run.proofs.RoundCounts.{AreRoundsOf, Turns}
+use Rattle.session_run.specs.Runs.{with_steps}
+use Rattle.run_law.proofs.AllTurns.{Turns}
+use Rattle.session_run.proofs.RoundCounts.{AreRoundsOf}
 
 pub not_empty : {X : Type 0} (xs : List X) (b : Bool) → ((b ≡ true) ↔ (xs ≡ [])) → b ≡ false → 0 < length xs
 not_empty [] b k e = absurd (false≢true (sym e ∙ k.1 refl))
@@ -88,7 +91,7 @@ no_rounds script place = by (get_or script place items.Round)
     by (items.Dump what at size) = refl
     by item = refl
 
--- ---- in the report
+-- ---- in what is kept
 
 pub as_many : (commands : List Turns) (rounds : List ToldRound) → AreRoundsOf commands rounds → length rounds ≡ length commands
 as_many [] [] a = refl
@@ -115,21 +118,67 @@ steps_push n (s ∷ rounds) r =
     ap (λ (ss : List Step). steps.Round n s.lines ∷ ss)
     (steps_push (n + 1) rounds r ∙ ap (λ m. steps_of (n + 1) rounds ++ steps.Round m r.lines ∷ []) (omega arith))
 
--- the text of the rounds, with one more
-step_push : (names : List (List ℕ)) (ss : List Step) (step : Step) (front text : List ℕ) → text ≡ front ++ flat_map (step_text names) ss → text ++ flat_map (step_text names) (step ∷ []) ≡ front ++ flat_map (step_text names) (ss ++ step ∷ [])
-step_push names ss step front text is =
-    ap (λ t. t ++ flat_map (step_text names) (step ∷ [])) is
-    ∙ append_assoc front (flat_map (step_text names) ss) (flat_map (step_text names) (step ∷ []))
-    ∙ ap (λ t. front ++ t) (sym (flat_map-append (step_text names) ss (step ∷ [])))
+module _ {K : Type 0} (keep : keepers.Ghosts K) where
+  -- what is kept of the steps, with one more
+  pub kept_push : (names : List (List ℕ)) (kept : K) (ss : List Step) (step : Step) → with_steps keep names kept (ss ++ step ∷ []) ≡ with_steps keep names (with_steps keep names kept ss) (step ∷ [])
+  kept_push names kept [] step = refl
+  kept_push names kept (steps.Round number lines ∷ ss) step = kept_push names (keep.with_lines names (keep.with_round kept number) lines) ss step
+  kept_push names kept (steps.Checkpoint reply ∷ ss) step = kept_push names (keep.with_dump names kept (steps.Checkpoint reply)) ss step
+  kept_push names kept (steps.Dump what at size reply ∷ ss) step = kept_push names (keep.with_dump names kept (steps.Dump what at size reply)) ss step
 
-pub text_push : (names : List (List ℕ)) (number : ℕ) (ss : List Step) (lines : List Line) (front text printed : List ℕ) → text ≡ front ++ flat_map (step_text names) ss → printed ≡ (text ++ round_line number) ++ flat_map (command_line names) lines → printed ≡ front ++ flat_map (step_text names) (ss ++ steps.Round number lines ∷ [])
-text_push names number ss lines front text printed is more =
-    more
-    ∙ append_assoc text (round_line number) (flat_map (command_line names) lines)
-    ∙ ap (λ t. text ++ t) (sym (one_round names number lines))
-    ∙ step_push names ss (steps.Round number lines) front text is
+-- as their text
+text_behind : (names : List (List ℕ)) (text mid all : List ℕ) (step : Step) (ss : List Step) → mid ≡ text ++ flat_map (step_text names) (step ∷ []) → all ≡ mid ++ flat_map (step_text names) ss → all ≡ text ++ flat_map (step_text names) (step ∷ ss)
+text_behind names text mid all step ss one rest =
+    rest
+    ∙ ap (λ t. t ++ flat_map (step_text names) ss) one
+    ∙ append_assoc text (flat_map (step_text names) (step ∷ [])) (flat_map (step_text names) ss)
+    ∙ ap (λ t. text ++ t) (sym (flat_map-append (step_text names) (step ∷ []) ss))
 
--- and with one dump more
-pub dump_text_push : (names : List (List ℕ)) (ss : List Step) (step : Step) (front text printed : List ℕ) → text ≡ front ++ flat_map (step_text names) ss → printed ≡ text ++ step_text names step → printed ≡ front ++ flat_map (step_text names) (ss ++ step ∷ [])
-dump_text_push names ss step front text printed is more =
-    more ∙ ap (λ t. text ++ t) (sym (append-nil (step_text names step))) ∙ step_push names ss step front text is
+module _ (keep : keepers.Ghosts (List ℕ)) (names : List (List ℕ)) (round : (text : List ℕ) (n : ℕ) → keep.with_round text n ≡ text ++ round_line n)
+    (lines : (text : List ℕ) (ls : List Line) → keep.with_lines names text ls ≡ text ++ flat_map (command_line names) ls) (dump : (text : List ℕ) (step : Step) → keep.with_dump names text step ≡ text ++ step_text names step) where
+  dump_behind : (text : List ℕ) (step : Step) → keep.with_dump names text step ≡ text ++ flat_map (step_text names) (step ∷ [])
+  dump_behind text step = dump text step ∙ ap (λ t. text ++ t) (sym (append-nil (step_text names step)))
+
+  steps_text : (text : List ℕ) (ss : List Step) → with_steps keep names text ss ≡ text ++ flat_map (step_text names) ss
+  steps_text text [] = sym (append-nil text)
+  steps_text text (steps.Round number ls ∷ ss) =
+      let mid = keep.with_lines names (keep.with_round text number) ls in
+      text_behind names text mid (with_steps keep names mid ss) (steps.Round number ls) ss
+      (lines (keep.with_round text number) ls ∙ ap (λ t. t ++ flat_map (command_line names) ls) (round text number)
+      ∙ append_assoc text (round_line number) (flat_map (command_line names) ls) ∙ ap (λ t. text ++ t) (sym (one_round names number ls)))
+      (steps_text mid ss)
+  steps_text text (steps.Checkpoint reply ∷ ss) =
+      let mid = keep.with_dump names text (steps.Checkpoint reply) in
+      text_behind names text mid (with_steps keep names mid ss) (steps.Checkpoint reply) ss (dump_behind text (steps.Checkpoint reply)) (steps_text mid ss)
+  steps_text text (steps.Dump what at size reply ∷ ss) =
+      let mid = keep.with_dump names text (steps.Dump what at size reply) in
+      text_behind names text mid (with_steps keep names mid ss) (steps.Dump what at size reply) ss (dump_behind text (steps.Dump what at size reply)) (steps_text mid ss)
+
+pub kept_text : (keep : keepers.Ghosts (List ℕ)) (names : List (List ℕ)) (front text : List ℕ) (ss : List Step)
+    → text ≡ with_steps keep names front ss
+    → ((text : List ℕ) (n : ℕ) → keep.with_round text n ≡ text ++ round_line n)
+    → ((text : List ℕ) (ls : List Line) → keep.with_lines names text ls ≡ text ++ flat_map (command_line names) ls)
+    → ((text : List ℕ) (step : Step) → keep.with_dump names text step ≡ text ++ step_text names step)
+    → text ≡ front ++ flat_map (step_text names) ss
+kept_text keep names front text ss e round lines dump = e ∙ steps_text keep names round lines dump front ss
+
+-- as the lines themselves
+module _ (keep : keepers.Ghosts (List Line)) (names : List (List ℕ)) (round : (kept : List Line) (n : ℕ) → keep.with_round kept n ≡ kept)
+    (lines : (kept ls : List Line) → keep.with_lines names kept ls ≡ kept ++ ls) (dump : (kept : List Line) (step : Step) → keep.with_dump names kept step ≡ kept) where
+  steps_lines : (kept : List Line) (ss : List Step) → with_steps keep names kept ss ≡ kept ++ flat_map lines_in ss
+  steps_lines kept [] = sym (append-nil kept)
+  steps_lines kept (steps.Round number ls ∷ ss) =
+      steps_lines (keep.with_lines names (keep.with_round kept number) ls) ss
+      ∙ ap (λ t. t ++ flat_map lines_in ss) (lines (keep.with_round kept number) ls ∙ ap (λ t. t ++ ls) (round kept number))
+      ∙ append_assoc kept ls (flat_map lines_in ss)
+  steps_lines kept (steps.Checkpoint reply ∷ ss) = steps_lines (keep.with_dump names kept (steps.Checkpoint reply)) ss ∙ ap (λ t. t ++ flat_map lines_in ss) (dump kept (steps.Checkpoint reply))
+  steps_lines kept (steps.Dump what at size reply ∷ ss) =
+      steps_lines (keep.with_dump names kept (steps.Dump what at size reply)) ss ∙ ap (λ t. t ++ flat_map lines_in ss) (dump kept (steps.Dump what at size reply))
+
+pub kept_lines : (keep : keepers.Ghosts (List Line)) (names : List (List ℕ)) (first kept : List Line) (ss : List Step)
+    → kept ≡ with_steps keep names first ss → first ≡ []
+    → ((kept : List Line) (n : ℕ) → keep.with_round kept n ≡ kept)
+    → ((kept ls : List Line) → keep.with_lines names kept ls ≡ kept ++ ls)
+    → ((kept : List Line) (step : Step) → keep.with_dump names kept step ≡ kept)
+    → kept ≡ flat_map lines_in ss
+kept_lines keep names first kept ss e none round lines dump = e ∙ steps_lines keep names round lines dump first ss ∙ ap (λ t. t ++ flat_map lines_in ss) none

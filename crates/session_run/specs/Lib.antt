@@ -1,5 +1,4 @@
 pub mod Turns
-pub mod Rests
 pub mod Rounds
 pub mod GoesOn
 pub mod Records

@@ -15,7 +15,7 @@ loop-rest-init g c = record {
   done = [];
   split = refl;
   number = refl;
-  ran = ran_none c.args.hall.now c.args.host.now c.args.sessions.now c.args.names.now c.args.text.now c.requires.begins;
+  ran = ran_none g.K.LineKeeper c.args.hall.now c.args.host.now c.args.sessions.now c.args.names.now c.args.kept.now c.requires.begins;
   cluster = refl;
   items = c.requires.items;
   room = omega (arith, c.requires.few);
@@ -29,7 +29,7 @@ run_next-requires-clause-room g c κs within =
     let round = c.next_round-round.result.0 in
     let a = rounds_short c.args.script c.loop-rest.rest i.done i.split in
     let b = parts_length c.loop-rest.rest round c.next_round-round.result.1 c.next_round-round.ensures in
-    ran_few c.args.hall.now c.loop-rest.host c.loop-rest.sessions c.args.names.now i.done c.args.text.now c.loop-rest.text (length round) i.ran (omega (arith, a, b, i.room, c.requires.few))
+    ran_few g.K.LineKeeper c.args.hall.now c.loop-rest.host c.loop-rest.sessions c.args.names.now i.done c.args.kept.now c.loop-rest.kept (length round) i.ran (omega (arith, a, b, i.room, c.requires.few))
 
 pub run_next-requires-clause-items : goal.run_next-requires-clause-items
 run_next-requires-clause-items g c κs within =
@@ -63,8 +63,8 @@ loop-rest-preserved g c =
       done = (i.done ++ first) ++ then;
       split = asked_on c.args.script rest round behind i.done i.split f;
       number = omega (arith, sum, i.number, e.rounds);
-      ran = subst (λ k. HasRun c.args.hall.now c.show_next.new.host c.run_next-rounds.new.sessions c.args.names.now ((i.done ++ first) ++ asked_at rest k) c.args.text.now c.show_next.new.text) c.len-place.ensures
-          (shown.ran (i.done ++ first) c.args.text.now (e.ran i.done c.args.text.now i.number i.ran));
+      ran = subst (λ k. HasRun g.K.LineKeeper c.args.hall.now c.show_next.new.host c.run_next-rounds.new.sessions c.args.names.now ((i.done ++ first) ++ asked_at rest k) c.args.kept.now c.show_next.new.kept) c.len-place.ensures
+          (shown.ran (i.done ++ first) c.args.kept.now (e.ran i.done c.args.kept.now i.number i.ran));
       cluster = shown.cluster ∙ (e.cluster ∙ i.cluster);
       items = subst (λ n. All (MayRun n) behind) (sym e.count) (all_parts (MayRun (length c.loop-rest.sessions)) rest round behind f i.items).1;
       room = omega (arith, e.rounds, short, parts, i.room);

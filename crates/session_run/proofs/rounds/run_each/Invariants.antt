@@ -12,7 +12,7 @@ invariant-loop-rest g l = record {
   done : List Asked;
   split : asked_of l.fn.script ≡ done ++ asked_of l.rest;
   number : length (rounds_in done) ≡ l.rounds;
-  ran : HasRun l.hall l.host l.sessions l.names done l.fn.text l.text;
+  ran : HasRun g.K.LineKeeper l.hall l.host l.sessions l.names done l.fn.kept l.kept;
   cluster : l.host.cluster ≡ l.fn.host.cluster;
   items : All (MayRun (length l.sessions)) l.rest;
   room : l.rounds + length l.rest ≤ 2 ^ 24;

@@ -17,7 +17,7 @@ returns-clause-ran g c =
     let some = not_empty c.args.round.now c.is_empty.result c.is_empty.ensures c.if-is_empty.false in
     let one = some_round c.args.round.now (recursion_from_All (λ item. is_command item ≡ true) c.args.round.now c.requires.commands) some in
     λ all front count r.
-    subst (λ added. HasRun c.args.hall.now c.run_numbered.new.host c.run_numbered.new.sessions c.args.names.now (all ++ added) front c.run_numbered.new.text) (sym one)
+    subst (λ added. HasRun g.K.LineKeeper c.args.hall.now c.run_numbered.new.host c.run_numbered.new.sessions c.args.names.now (all ++ added) front c.run_numbered.new.kept) (sym one)
     (c.in_ok-run_numbered.ensures.ran all front count r)
 
 pub returns-then-is_empty-clause-rounds : goal.returns-then-is_empty-clause-rounds
@@ -29,5 +29,5 @@ pub returns-then-is_empty-clause-ran : goal.returns-then-is_empty-clause-ran
 returns-then-is_empty-clause-ran g c =
     let none = ap length (c.is_empty.ensures.0 c.if-is_empty.true) in
     λ all front count r.
-    subst (λ added. HasRun c.args.hall.now c.args.host.now c.args.sessions.now c.args.names.now (all ++ added) front c.args.text.now) (sym (no_round c.args.round.now none))
-    (subst (λ done. HasRun c.args.hall.now c.args.host.now c.args.sessions.now c.args.names.now done front c.args.text.now) (sym (append-nil all)) r)
+    subst (λ added. HasRun g.K.LineKeeper c.args.hall.now c.args.host.now c.args.sessions.now c.args.names.now (all ++ added) front c.args.kept.now) (sym (no_round c.args.round.now none))
+    (subst (λ done. HasRun g.K.LineKeeper c.args.hall.now c.args.host.now c.args.sessions.now c.args.names.now done front c.args.kept.now) (sym (append-nil all)) r)

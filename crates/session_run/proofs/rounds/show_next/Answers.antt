@@ -19,17 +19,17 @@ show-reply-requires-clause-may g c =
 
 pub returns-then-None-clause-ran : goal.returns-then-None-clause-ran
 returns-then-None-clause-ran g c = λ all front r.
-    ran_same c.args.hall.now c.args.host.now c.args.sessions.now c.args.names.now all _ front c.args.text.now c.in_default.ensures.none r
+    ran_same g.K.LineKeeper c.args.hall.now c.args.host.now c.args.sessions.now c.args.names.now all _ front c.args.kept.now c.in_default.ensures.none r
 
 pub returns-clause-home : goal.returns-clause-home
 returns-clause-home g c = home_shown c.args.hall.now c.args.host.now c.show-reply.new.host c.args.sessions.now c.requires.home c.show-reply.ensures.stays
 
 pub returns-clause-ran : goal.returns-clause-ran
 returns-clause-ran g c =
-    on_ok_weaker c.put_step.result (λ put. λ all front r.
+    on_ok_weaker c.add_dump.result (λ put. λ all front r.
     let home = home_shown c.args.hall.now c.args.host.now c.show-reply.new.host c.args.sessions.now c.requires.home c.show-reply.ensures.stays in
     let d = c.in-Some.dump in
-    let ran = ran_dump c.args.hall.now c.args.host.now c.show-reply.new.host c.args.sessions.now c.args.names.now d.what d.at d.length c.in_ok-reply.reply all front c.args.text.now c.put_step.new.out
+    let ran = ran_dump g.K.LineKeeper c.args.hall.now c.args.host.now c.show-reply.new.host c.args.sessions.now c.args.names.now d.what d.at d.length c.in_ok-reply.reply all front c.args.kept.now c.add_dump.new.self
     c.show-reply.ensures.stays home c.in_ok-reply.ensures.reply put r in
-    subst (λ added. HasRun c.args.hall.now c.show-reply.new.host c.args.sessions.now c.args.names.now (all ++ added) front c.put_step.new.out) (sym (ap asked_in c.in-Some.ensures.some)) ran)
-    c.put_step.ensures.ok
+    subst (λ added. HasRun g.K.LineKeeper c.args.hall.now c.show-reply.new.host c.args.sessions.now c.args.names.now (all ++ added) front c.add_dump.new.self) (sym (ap asked_in c.in-Some.ensures.some)) ran)
+    c.add_dump.ensures

@@ -1,10 +1,10 @@
-use Rattle.std.proofs.Common.{subst, ◌∙◌, ◌<◌}
+use Rattle.std.proofs.Common.{subst, sym, ◌∙◌, ◌<◌}
 use Rattle.std.proofs.lemmas.Result.{on_ok_weaker}
 use Rattle.hall.specs.Calls.{start_of, view}
 use Rattle.engine_life.specs.Lives.{volumes_left}
 use Rattle.session_run.specs.Runs.{cluster_of}
 use Rattle.session_run.proofs.CausesTold.{causes_told}
-use Rattle.session_run.proofs.LifeTold.{rest_told}
+use Rattle.session_run.proofs.LifeTold.{life_lived, lines_run}
 use Rattle.session_run.proofs.run.run_life.Goals as goal
 
 pub run_rounds-ran-requires-clause-parked : goal.run_rounds-ran-requires-clause-parked
@@ -14,16 +14,25 @@ run_rounds-ran-requires-clause-parked g c κs within = λ n s inside new.
 
 pub returns : goal.returns
 returns g c =
-    let ran = c.in-Ok.ensures.ran in
+    let s = c.args.script.now in
+    let life = c.args.life in
+    let new = c.requires.new.1 in
     let left = c.close_life-closed.result in
     let closed = c.close_life-closed.ensures in
     let host = c.run_rounds-ran.new.host in
-    let over = c.life_ends.ensures host ran.0 ran.1.rounds ran.1.goes_on closed.kept in
     record {
-      report = on_ok_weaker c.end_report-ended.result
-          (λ exact mounted begun.
-          let rest = rest_told c.args.life.hall host ran.0 c.args.script.now begun.faults c.args.text.now c.run_rounds-ran.new.text c.end_report-ended.new.out c.items.result.now left.log c.requires.taken begun.begun.start_is ran.1 over (c.items.ensures ∙ closed.events) closed.log (subst (λ n. n < 18446744073709551616) c.end.ensures c.has_64_bits.ensures) (exact c.args.script.now.base) in
-          let causes = causes_told g.P.PageDisk.tells (cluster_of c.args.script.now) (start_of c.args.life.hall) (view host.pass).seen ran.1.rounds c.args.life mounted (volumes_left left) over begun begun.begun.start_is closed.counted (record { offsets = closed.offsets ∙ begun.offsets; members = closed.members ∙ begun.members }) rest.0.life.steps rest.2 in
-          (rest.0, (λ tells. rest.1 tells (c.reads_an_image.ensures tells)), causes))
-          c.end_report-ended.ensures.ok;
+      lived = on_ok_weaker c.run_rounds-ran.result
+          (λ ran.
+          let over = c.life_ends.ensures host ran.0 ran.1.rounds ran.1.goes_on closed.kept in
+          let lived = life_lived g.K.LineKeeper life.hall host ran.0 s new.faults c.args.kept.now c.run_rounds-ran.new.kept left.events left.log c.requires.taken new.begun.start_is ran.1 over closed.events closed.log (subst (λ n. n < 18446744073709551616) c.end.ensures c.has_64_bits.ensures) in (
+            ran.1.steps,
+            lived.0,
+            ran.1.kept_is,
+            record {
+              log = λ tells. lived.1 tells (c.reads_an_image.ensures tells);
+              causes = λ mounted begun. causes_told g.P.PageDisk.tells (cluster_of s) (start_of life.hall) (view host.pass).seen ran.1.rounds life mounted (volumes_left left) over begun begun.begun.start_is closed.counted
+                  (record { offsets = closed.offsets ∙ begun.offsets; members = closed.members ∙ begun.members }) ran.1.steps (lines_run ran.1.steps ran.1.rounds ran.1.rounds_are);
+            },
+          ))
+          c.run_rounds-ran.ensures.ran;
     }

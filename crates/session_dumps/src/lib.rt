@@ -1,6 +1,6 @@
 //! Dumps between two rounds, as the report answers them. See `docs/ENGINE.md` and `docs/SCRIPT-AND-REPORT.md`.
 #![tactic(auto)]
 
-mod show;
+mod showing;
 
-pub use show::show;
+pub use showing::show;

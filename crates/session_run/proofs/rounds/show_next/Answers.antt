@@ -17,8 +17,8 @@ show-reply-requires-clause-may g c =
     let n = length c.args.sessions.now in
     subst (MayRun n) c.in-Some.ensures.some (asked_may (MayRun n) all c.args.place items.Round tt (recursion_from_All (MayRun n) all c.requires.items))
 
-pub returns-then-None-clause-ran : goal.returns-then-None-clause-ran
-returns-then-None-clause-ran g c = λ all front r.
+pub returns-in_default-clause-ran : goal.returns-in_default-clause-ran
+returns-in_default-clause-ran g c = λ all front r.
     ran_same g.K.LineKeeper c.args.hall.now c.args.host.now c.args.sessions.now c.args.names.now all _ front c.args.kept.now c.in_default.ensures.none r
 
 pub returns-clause-home : goal.returns-clause-home

@@ -7,7 +7,7 @@ use Rattle.tx_model.specs.declared.reply.Reply.{Reply}
 use Rattle.tx_events.specs.Base.{IsBase}
 use Rattle.session_dumps.specs.Dumps.{IsAnswered}
 use Rattle.session_dumps.proofs.Cutoffs.{subtrans_refused, subtrans_told}
-use Rattle.session_dumps.proofs.show.show_subtrans.Goals as goal
+use Rattle.session_dumps.proofs.showing.show_subtrans.Goals as goal
 
 pub bank_of-bank-requires : goal.bank_of-bank-requires
 bank_of-bank-requires g c = c.requires.home.is_host.cluster.banks.0

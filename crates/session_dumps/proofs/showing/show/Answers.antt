@@ -2,7 +2,7 @@ use Rattle.std.proofs.Common.{◌≡◌, arith, subst, sym}
 use Rattle.std.specs.Prelude.{IfOk}
 use Rattle.tx_model.specs.declared.report.DumpOf.{DumpOf}
 use Rattle.session_dumps.specs.Dumps.{IsAnswered, MayShow}
-use Rattle.session_dumps.proofs.show.show.Goals as goal
+use Rattle.session_dumps.proofs.showing.show.Goals as goal
 
 pub overflow_cast-show_xact : goal.overflow_cast-show_xact
 overflow_cast-show_xact g c =

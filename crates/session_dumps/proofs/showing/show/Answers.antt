@@ -4,8 +4,8 @@ use Rattle.tx_model.specs.declared.report.DumpOf.{DumpOf}
 use Rattle.session_dumps.specs.Dumps.{IsAnswered, MayShow}
 use Rattle.session_dumps.proofs.showing.show.Goals as goal
 
-pub overflow_cast-show_xact : goal.overflow_cast-show_xact
-overflow_cast-show_xact g c =
+pub overflow_cast-dump : goal.overflow_cast-dump
+overflow_cast-dump g c =
     let m = subst (λ (w : DumpOf). MayShow w c.args.dump.at c.args.dump.length) c.in-Xact.is c.requires.may in
     omega arith
 
@@ -14,8 +14,8 @@ show_xact-requires-clause-size g c =
     let m = subst (λ (w : DumpOf). MayShow w c.args.dump.at c.args.dump.length) c.in-Xact.is c.requires.may in
     omega arith
 
-pub overflow_cast-show_subtrans : goal.overflow_cast-show_subtrans
-overflow_cast-show_subtrans g c =
+pub overflow_cast-dump-in-Subtrans : goal.overflow_cast-dump-in-Subtrans
+overflow_cast-dump-in-Subtrans g c =
     let m = subst (λ (w : DumpOf). MayShow w c.args.dump.at c.args.dump.length) c.in-Subtrans.is c.requires.may in
     omega arith
 

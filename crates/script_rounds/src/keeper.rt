@@ -1,7 +1,6 @@
 //! What is kept of the lines of a run.
 ghost use Rattle.std.specs.Prelude.{◌≡◌, ℕ, List, [], ◌∷◌, ◌++◌, OnOk};
 ghost use Rattle.tx_model.specs.declared.report.Line.{Line};
-ghost use Rattle.tx_model.specs.declared.report.Step.{Step};
 
 use report_text::{Text, put_command_line, put_round_line, put_step};
 use std::alloc::Global;

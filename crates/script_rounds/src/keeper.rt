@@ -1,6 +1,7 @@
 //! What is kept of the lines of a run.
 ghost use Rattle.std.specs.Prelude.{◌≡◌, ℕ, List, [], ◌∷◌, ◌++◌, OnOk};
 ghost use Rattle.tx_model.specs.declared.report.Line.{Line};
+ghost use Rattle.tx_model.specs.declared.report.Step.{Step as Dumped};
 
 use report_text::{Text, put_command_line, put_round_line, put_step};
 use std::alloc::Global;
@@ -19,7 +20,7 @@ pub trait LineKeeper {
     ghost with_round: { Self → ℕ → Self };
 
     /// What is kept where this dump was told, a step between two rounds.
-    ghost with_dump: { List (List ℕ) → Self → Step → Self };
+    ghost with_dump: { List (List ℕ) → Self → Dumped → Self };
 
     /// What two keep together, the one behind the other.
     ghost joined: { Self → Self → Self };

@@ -1,7 +1,7 @@
 use Rattle.std.proofs.Common.{IsTrue, ap, arith, length, refl, ◌<◌, ◌≡◌, ◌^◌, ◌∙◌}
 use Rattle.std.proofs.lemmas.Result.{IfOk-weaker}
 use Rattle.std.specs.List.{flat_map}
-use Rattle.tx_model.specs.declared.report.Life.{Life}
+use Rattle.tx_model.specs.declared.report.LifeReport.{LifeReport}
 use Rattle.tx_model.specs.Rounds.{lines_in}
 use Rattle.wal_core.specs.LogViews.{log_disk}
 use Rattle.script_gen.specs.Counts.{summary_by, summary_text}

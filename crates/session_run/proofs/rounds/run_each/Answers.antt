@@ -37,7 +37,7 @@ run_next-requires-clause-items g c κs within =
     (all_parts (MayRun (length c.loop-rest.sessions)) c.loop-rest.rest c.next_round-round.result.0 c.next_round-round.result.1 c.next_round-round.ensures i.items).0
 
 pub show_next-requires-clause-items : goal.show_next-requires-clause-items
-show_next-requires-clause-items g c κs within = subst (λ n. All (MayRun n) c.loop-rest.rest) (sym c.in_ok-rounds.ensures.count) c.loop-rest.invariant.items
+show_next-requires-clause-items g c = subst (λ n. All (MayRun n) c.loop-rest.rest) (sym c.in_ok-rounds.ensures.count) c.loop-rest.invariant.items
 
 pub loop-rest-smaller : goal.loop-rest-smaller
 loop-rest-smaller g c =
@@ -63,7 +63,7 @@ loop-rest-preserved g c =
       done = (i.done ++ first) ++ then;
       split = asked_on c.args.script rest round behind i.done i.split f;
       number = omega (arith, sum, i.number, e.rounds);
-      ran = subst (λ k. HasRun g.K.LineKeeper c.args.hall.now c.show_next.new.host c.run_next-rounds.new.sessions c.args.names.now ((i.done ++ first) ++ asked_at rest k) c.args.kept.now c.show_next.new.kept) c.len-place.ensures
+      ran = subst (λ k. HasRun g.K.LineKeeper c.args.hall.now c.show_next.new.host c.run_next.new.sessions c.args.names.now ((i.done ++ first) ++ asked_at rest k) c.args.kept.now c.show_next.new.kept) c.len-place.ensures
           (shown.ran (i.done ++ first) c.args.kept.now (e.ran i.done c.args.kept.now i.number i.ran));
       cluster = shown.cluster ∙ (e.cluster ∙ i.cluster);
       items = subst (λ n. All (MayRun n) behind) (sym e.count) (all_parts (MayRun (length c.loop-rest.sessions)) rest round behind f i.items).1;

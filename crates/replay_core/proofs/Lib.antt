@@ -8,3 +8,5 @@ mod Settling
 mod Openings
 mod Recovering
 mod Refusing
+mod Crashed
+mod Ended

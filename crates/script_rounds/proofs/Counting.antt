@@ -3,7 +3,7 @@ use Rattle.std.proofs.Common.{◌≡◌, ℕ, ◌+◌, ◌-◌, ◌^◌, ◌<◌
 use Rattle.std.proofs.lemmas.List.Elements.{filter-append}
 use Rattle.std.specs.List.{filter}
 use Rattle.tx_model.specs.declared.report.Line.{Line}
-use Rattle.script_gen.specs.Counts.{is_verdict}
+use Rattle.run_law.specs.Counting.{is_verdict}
 use Rattle.script_rounds.specs.Counted.{capped, verdict_count, verdicts_in}
 
 pub capped_few : (n count : ℕ) → count ≡ capped n → n < 2 ^ 64 → count ≡ n

@@ -2,7 +2,7 @@
 use Rattle.std.specs.Prelude.{ℕ, ◌-◌, ◌^◌, List, cond, min}
 use Rattle.tx_model.specs.declared.reply.Reply.{Reply}
 use Rattle.tx_model.specs.declared.report.Line.{Line}
-use Rattle.script_gen.specs.Counts.{how_many, is_verdict}
+use Rattle.run_law.specs.Counting.{how_many, is_verdict}
 
 -- 1 for a verdict
 abbrev pub verdict_count : Reply → ℕ

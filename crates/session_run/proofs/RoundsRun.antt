@@ -26,7 +26,7 @@ use Rattle.engine_host.specs.declared.cluster.Cluster.{Cluster}
 use Rattle.engine_host.specs.declared.host.Host.{Host}
 use Rattle.engine_host.specs.Hosts.{HoldsAllBut, IsHost, IsNewSession, IsParked}
 use Rattle.engine_dumps.specs.Homes.{StaysHome}
-use Rattle.session_dumps.specs.Dumps.{IsAnswered}
+use Rattle.engine_dumps.specs.Dumps.{IsAnswered}
 use Rattle.session_promise.specs.Dumps.{AreDumpsTold, IsStepTold}
 use Rattle.session_promise.specs.SoFar.{IsSoFar}
 use Rattle.session_promise.specs.Told.{ToldRound, steps_of}

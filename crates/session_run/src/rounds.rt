@@ -19,7 +19,7 @@ use engine_host::Host;
 use engine_parts::{EngineLaw, Session};
 use hall::Hall;
 use script_rounds::{LineKeeper, Plan, next_round};
-use session_dumps::show;
+use engine_dumps::show;
 use session_lang::{Items, Script};
 use std::alloc::Global;
 use std::sync::Wait;

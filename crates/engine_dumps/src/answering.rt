@@ -4,10 +4,11 @@ ghost use Rattle.tx_model.specs.declared.reply.Reply.TheVariants as replies;
 ghost use Rattle.tx_model.specs.declared.report.DumpOf.TheVariants as dumps;
 ghost use Rattle.life_law.specs.Dumps.{AreBytes};
 ghost use Rattle.engine_dumps.specs.Homes.{IsHome, StaysHome};
-ghost use Rattle.session_dumps.specs.Dumps.{IsAnswered, MayShow, refusal_by};
+ghost use Rattle.engine_dumps.specs.Dumps.{IsAnswered, MayShow, refusal_by};
 
 use disk_core::{LogDisk, PageDisk};
-use engine_dumps::{dump_log, dump_subtrans, dump_xact};
+use crate::log::dump_log;
+use crate::pages::{dump_subtrans, dump_xact};
 use engine_host::Host;
 use engine_parts::EngineLaw;
 use hall::Hall;

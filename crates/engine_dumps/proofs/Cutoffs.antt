@@ -26,7 +26,7 @@ use Rattle.engine_parts.specs.Stand.{IsCutoff, first_subtrans_page, first_xact_p
 use Rattle.engine_host.proofs.Hosting.{xmin_first}
 use Rattle.bank_sections.specs.Sections.{IsSubtransCut, IsXactCut}
 use Rattle.session_promise.specs.Promise.{recs_of}
-use Rattle.session_dumps.specs.Dumps.{refusal_by}
+use Rattle.engine_dumps.specs.Dumps.{refusal_by}
 
 -- a page in full, as it is stored
 xact_stored : (oldest cutoff : ℕ) → cutoff ≡ xact_page oldest % 2 ^ 17 → cutoff ≡ xact_page_of oldest

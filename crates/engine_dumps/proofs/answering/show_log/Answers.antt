@@ -2,8 +2,8 @@ use Rattle.std.proofs.Common.{◌≡◌, ◌≤◌, ap, arith, length, refl, sym
 use Rattle.std.proofs.lemmas.List.{length-take}
 use Rattle.tx_model.specs.declared.report.DumpOf.TheVariants as dumps
 use Rattle.tx_model.specs.declared.reply.Reply.{Reply}
-use Rattle.session_dumps.specs.Dumps.{IsAnswered}
-use Rattle.session_dumps.proofs.showing.show_log.Goals as goal
+use Rattle.engine_dumps.specs.Dumps.{IsAnswered}
+use Rattle.engine_dumps.proofs.answering.show_log.Goals as goal
 
 pub returns-in_err-bytes-clause-stays : goal.returns-in_err-bytes-clause-stays
 returns-in_err-bytes-clause-stays g c = record { home = c.requires.home; cluster = refl; seen = refl; parked = λ n s q. q }

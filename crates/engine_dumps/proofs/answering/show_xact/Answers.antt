@@ -4,9 +4,9 @@ use Rattle.hall.specs.Calls.{start_of, view}
 use Rattle.tx_events.specs.declared.refusal.Lock.TheVariants as locks
 use Rattle.tx_model.specs.declared.report.DumpOf.TheVariants as dumps
 use Rattle.tx_model.specs.declared.reply.Reply.{Reply}
-use Rattle.session_dumps.specs.Dumps.{IsAnswered}
-use Rattle.session_dumps.proofs.Cutoffs.{xact_refused, xact_told}
-use Rattle.session_dumps.proofs.showing.show_xact.Goals as goal
+use Rattle.engine_dumps.specs.Dumps.{IsAnswered}
+use Rattle.engine_dumps.proofs.Cutoffs.{xact_refused, xact_told}
+use Rattle.engine_dumps.proofs.answering.show_xact.Goals as goal
 
 pub bank_of-bank-requires : goal.bank_of-bank-requires
 bank_of-bank-requires g c = c.requires.home.is_host.cluster.banks.0

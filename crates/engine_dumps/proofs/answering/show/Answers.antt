@@ -1,8 +1,8 @@
 use Rattle.std.proofs.Common.{◌≡◌, arith, subst, sym}
 use Rattle.std.specs.Prelude.{IfOk}
 use Rattle.tx_model.specs.declared.report.DumpOf.{DumpOf}
-use Rattle.session_dumps.specs.Dumps.{IsAnswered, MayShow}
-use Rattle.session_dumps.proofs.showing.show.Goals as goal
+use Rattle.engine_dumps.specs.Dumps.{IsAnswered, MayShow}
+use Rattle.engine_dumps.proofs.answering.show.Goals as goal
 
 pub overflow_cast-dump : goal.overflow_cast-dump
 overflow_cast-dump g c =

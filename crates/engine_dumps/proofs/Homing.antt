@@ -1,13 +1,12 @@
 -- A host that has all names learns nothing new at a lock.
-use Rattle.std.proofs.Common.{◌≡◌, ℕ, zero, suc, ◌+◌, ◌<◌, ◌==◌, ◌⊎◌, ⊎_elim, List, [], ◌∷◌, ◌++◌, Contains, Bool, false, true, length, slice_index_or, append-nil, inl, inr, refl, sym, ap, subst, ◌∙◌, arith}
+use Rattle.std.proofs.Common.{◌≡◌, ℕ, suc, ◌<◌, ◌==◌, ⊎_elim, List, [], ◌∷◌, ◌++◌, Contains, Bool, false, length, slice_index_or, append-nil, inl, inr, refl, sym, ap, subst, ◌∙◌, arith}
 use Rattle.disk_core.specs.declared.log_disk.LogDisk as logs
 use Rattle.disk_core.specs.declared.page_disk.PageDisk as disks
 use Rattle.hall.specs.declared.hall.Hall.{Hall}
-use Rattle.hall.specs.declared.view.Stage.TheVariants.{Free}
 use Rattle.hall.specs.Calls.{Entered, IsOf, Looked, start_of, view}
 use Rattle.hall.specs.Rule.{Holds}
 use Rattle.hall.specs.Told.{Moment, released}
-use Rattle.notes.specs.Lists.{Begins, at, own}
+use Rattle.notes.specs.Lists.{at, own}
 use Rattle.tx_events.proofs.ListSteps.{eqb-refl}
 use Rattle.tx_events.proofs.Membership.{contains_has, has_contains, has_right, none_passes}
 use Rattle.tx_core.specs.declared.entry.Entry.{Entry}

@@ -11,7 +11,7 @@ use Rattle.wal_core.specs.LogViews.{log_counters, log_disk, log_down, log_first,
 use Rattle.wal_core.specs.declared.wal_log.WalLog.{WalLog}
 use Rattle.tx_core.specs.declared.entry.Entry.{Entry}
 use Rattle.tx_core.specs.declared.entry.Start.{Start}
-use Rattle.tx_core.specs.Entries.{flushed_to, recs_in}
+use Rattle.tx_core.specs.Entries.{recs_in}
 use Rattle.tx_core.specs.Locks.{log_lock}
 use Rattle.engine_parts.specs.declared.part.Part.TheVariants as parts
 use Rattle.engine_parts.specs.Parts.{IsLogOf}

@@ -1,5 +1,5 @@
 -- What was read of a bank shows what its list says.
-use Rattle.std.proofs.Common.{◌≡◌, ℕ, ◌%◌, List, Option, None, Result, Ok, Err, OnOk, false, IsTrue, length, refl, sym, ap, subst, ◌∙◌}
+use Rattle.std.proofs.Common.{◌≡◌, ℕ, ◌%◌, List, None, Result, Ok, Err, OnOk, false, IsTrue, length, refl, sym, ap, subst, ◌∙◌}
 use Rattle.std.proofs.Math.Seq.{take-length}
 use Rattle.std.specs.List.{flat_map}
 use Rattle.disk_core.specs.declared.page_disk.PageDisk as disks
@@ -12,7 +12,6 @@ use Rattle.tx_events.specs.PageOrder.{Ids, is_cut}
 use Rattle.notes.specs.Lists.{at}
 use Rattle.tx_core.specs.declared.entry.Entry.{Entry}
 use Rattle.tx_core.specs.declared.entry.Start.{Start}
-use Rattle.tx_core.specs.declared.entry.State.{State}
 use Rattle.tx_core.specs.EngineInvariant.{EngineInvariant}
 use Rattle.tx_core.specs.Entries.{links_in, marks}
 use Rattle.tx_core.specs.Locks.{subtrans_lock, subtrans_lock_of, xact_lock, xact_lock_of}

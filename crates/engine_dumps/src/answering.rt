@@ -6,9 +6,9 @@ ghost use Rattle.life_law.specs.Dumps.{AreBytes};
 ghost use Rattle.engine_dumps.specs.Homes.{IsHome, StaysHome};
 ghost use Rattle.engine_dumps.specs.Dumps.{IsAnswered, MayShow, refusal_by};
 
-use disk_core::{LogDisk, PageDisk};
 use crate::log::dump_log;
 use crate::pages::{dump_subtrans, dump_xact};
+use disk_core::{LogDisk, PageDisk};
 use engine_host::Host;
 use engine_parts::EngineLaw;
 use hall::Hall;

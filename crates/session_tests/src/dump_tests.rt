@@ -46,14 +46,16 @@ fn the_end_of_the_log(rt: HostRuntime) -> Result<(), Fail> {
 a begin
 .dump log 0 6
 ",
-        &["1
+        &[
+            "1
 dump log 61 4 -> 00 00
 dump log 1099511627776 64 -> -
 round 1
 a 1 begin -> ok
 dump log 0 6 -> 01 39 00 00 00 04
 history
-"],
+",
+        ],
     )
 }
 
@@ -73,10 +75,12 @@ a write
 a commit
 .dump xact 0 0 4
 ",
-        &["a 9 commit -> ok
+        &[
+            "a 9 commit -> ok
 dump xact 0 0 4 -> 40 06 00 00
 history
-"],
+",
+        ],
     )
 }
 
@@ -84,7 +88,8 @@ history
 #[test]
 fn a_commit_over_two_pages(rt: HostRuntime) -> Result<(), Fail> {
     for header in ["", ".banks 1\n", ".banks 2\n", ".banks 16\n"] {
-        let script = format!(in rt.alloc(); "{header}.start 32767
+        let script = format!(in rt.alloc();
+            "{header}.start 32767
 a begin
 a save
 a write
@@ -92,11 +97,13 @@ a commit
 .dump xact 0 8191 1
 .dump xact 1 0 1
 .dump subtrans 16 0 4
-")?;
+"
+        )?;
         check_parts(
             &rt,
             script.as_str(),
-            &["a 4 commit -> ok
+            &[
+                "a 4 commit -> ok
 dump xact 0 8191 1 -> 40
 dump xact 1 0 1 -> 01
 dump subtrans 16 0 4 -> ff 7f 00 00
@@ -104,7 +111,8 @@ history
 id a 3 32767
 sub a 3 32767 32768
 commit a 4 32767
-"],
+",
+            ],
         )?;
     }
     Ok(())
@@ -122,13 +130,15 @@ a write
 .dump xact 5 8190 2
 a abort
 ",
-        &["a 2 write -> ok 3
+        &[
+            "a 2 write -> ok 3
 dump xact 0 0 1 -> 00
 dump subtrans 0 12 4 -> 00 00 00 00
 dump xact 5 8190 2 -> 00 00
 round 2
 a 3 abort -> ok
-"],
+",
+        ],
     )
 }
 
@@ -142,9 +152,11 @@ fn a_page_that_is_cut(rt: HostRuntime) -> Result<(), Fail> {
 .dump xact 31 8191 1
 .dump xact 32 0 1
 ",
-        &["dump xact 31 8191 1 -> cut 32
+        &[
+            "dump xact 31 8191 1 -> cut 32
 dump xact 32 0 1 -> 00
-"],
+",
+        ],
     )
 }
 

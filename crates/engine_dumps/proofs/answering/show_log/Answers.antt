@@ -1,4 +1,4 @@
-use Rattle.std.proofs.Common.{◌≡◌, ◌≤◌, ap, arith, length, refl, sym, subst}
+use Rattle.std.proofs.Common.{ap, arith, length, refl, sym, subst}
 use Rattle.std.proofs.lemmas.List.{length-take}
 use Rattle.tx_model.specs.declared.report.DumpOf.TheVariants as dumps
 use Rattle.tx_model.specs.declared.reply.Reply.{Reply}

@@ -1,7 +1,6 @@
-use Rattle.std.proofs.Common.{◌≡◌, ℕ, ◌+◌, ◌%◌, ◌<◌, List, Err, ap, arith, drop, length, length-append, length-drop, refl, sym, subst, ◌∙◌}
+use Rattle.std.proofs.Common.{◌≡◌, ◌%◌, ◌<◌, Err, ap, arith, length, length-append, length-drop, refl, sym, subst, ◌∙◌}
 use Rattle.std.proofs.lemmas.List.{length-take}
 use Rattle.hall.specs.Calls.{start_of, view}
-use Rattle.tx_events.specs.declared.refusal.Lock.TheVariants as locks
 use Rattle.tx_model.specs.declared.report.DumpOf.TheVariants as dumps
 use Rattle.tx_model.specs.declared.reply.Reply.{Reply}
 use Rattle.engine_dumps.specs.Dumps.{IsAnswered}

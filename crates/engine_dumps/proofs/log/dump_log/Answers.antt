@@ -1,10 +1,9 @@
-use Rattle.std.proofs.Common.{◌≡◌, ℕ, List, Err, refl, sym, ap, subst, ◌∙◌}
+use Rattle.std.proofs.Common.{◌≡◌, ℕ, List, refl, sym, ap, subst, ◌∙◌}
 use Rattle.std.proofs.lemmas.Result.{IfOk-weaker, on_err_weaker}
 use Rattle.hall.specs.Calls.{start_of, view}
 use Rattle.hall.specs.declared.view.Stage.TheVariants.{Inside}
 use Rattle.notes.specs.Lists.{at}
 use Rattle.wal_core.specs.LogViews.{log_disk}
-use Rattle.wal_core.specs.declared.refusal.LogRefusal.TheVariants.{LogFault}
 use Rattle.disk_core.specs.Volume.{IsRead}
 use Rattle.tx_core.specs.declared.entry.Entry.{Entry}
 use Rattle.tx_core.specs.EngineInvariant.{EngineInvariant}

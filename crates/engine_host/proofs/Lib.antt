@@ -1,4 +1,5 @@
 mod Starting
-mod Hosting
-mod Parking
+pub mod Hosting
+pub mod Parking
 mod Refusing
+mod Counting

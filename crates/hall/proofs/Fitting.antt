@@ -13,11 +13,12 @@ use Rattle.hall.specs.declared.view.Held.{Held}
 use Rattle.hall.specs.declared.names.Names.{Names}
 use Rattle.notes.specs.declared.note.Note.{Note}
 use Rattle.hall.specs.Rule.{Kept}
-use Rattle.hall.specs.Told.{entered, missed, left, published, learned, Got, Learnt, went}
+use Rattle.hall.specs.Told.{entered, missed, left, released, published, learned, Got, Learnt, went, freed}
 use Rattle.hall.specs.Fits.{Fits, carried_at}
 use Rattle.hall.specs.Calls.{Entered, Loaded}
 use Rattle.hall.proofs.Moves.{stage_same, free_not_in}
 use Rattle.hall.proofs.Leaves.{leaves}
+use Rattle.hall.proofs.Releases.{releases}
 
 module _ {V E : Type 0} where
   abbrev pub shown : ℕ × Held V E → ℕ × Bool
@@ -113,6 +114,16 @@ module _ {S V E : Type 0} (cells words cell : ℕ) (names : Names) (m : Me (Held
     held = f.held;
   }
 
+  pub fits_released : (slots ws : ℕ) (m' : Me (Held V E) (View S E)) → slots ≡ cells → ws ≡ words → m'.0 ≡ released m.0 → m'.1 ≡ [] → Fits slots ws cell names m'
+  fits_released slots ws m' same same' is out = subst (λ (z : (ℕ × ℕ) × View S E × List (ℕ × Held V E)). Fits z.0.0 z.0.1 cell names (z.1, z.2)) (λ i. ((sym same i, sym same' i), sym is i, sym out i)) record {
+    named = f.named;
+    wide = f.wide;
+    inside = λ c e. absurd (free_not_in c e);
+    carried = refl;
+    own = f.own;
+    held = f.held;
+  }
+
   module _ (start : S) (passes places : ℕ) (session : E → ℕ) (writer : S → ℕ → Writer) (stands : S → ℕ → V → List E → Type 0) (number : S → ℕ → List E → ℕ) (kept : S → List (List E) → Type 0) where
     pub leave_allowed : (slots me i : ℕ) (m' : Me (Held V E) (View S E)) (h : Held V E) (y : V) (e : Note E) → slots ≡ cells → length m.0.seen ≡ places → slots ≤ places → i ≡ line_of cell → m.0.stage ≡ Inside cell → m' ≡ (m.0, (cell, h) ∷ rest m.1)
         → h.note ≡ Some e → h.value ≡ Some y → session e.value ≡ m.0.name → stands start cell y (at m.0.seen cell ++ e.value ∷ [])
@@ -123,6 +134,18 @@ module _ {S V E : Type 0} (cells words cell : ℕ) (names : Names) (m : Me (Held
         let is' : m' ≡ (m.0, (cell, h) ∷ []) = is ∙ ap (λ (z : List (ℕ × Held V E)). (m.0, (cell, h) ∷ z)) (slot_alone stays) in
         subst (λ (z : Me (Held V E) (View S E)). Allows (Kept start passes places session writer stands number kept) slots me z i (λ _. 0) (λ _. went (step slots i 0 0 none) z 0)) (sym is')
         (leaves start passes places session writer stands number kept slots me i cell (m.0, (cell, h) ∷ []) h y e at_i stays refl noted (omega arith) f.named by filled stood lawful)
+
+    pub release_allowed : (slots me i : ℕ) (m' : Me (Held V E) (View S E)) (h : Held V E) (y : V) → i ≡ line_of cell → m.0.stage ≡ Inside cell → m' ≡ (m.0, (cell, h) ∷ rest m.1) → h.value ≡ Some y → stands start cell y (at m.0.seen cell)
+        → Allows (Kept start passes places session writer stands number kept) slots me m' i (λ _. 0) (λ _. freed (step slots i 0 0 none) m' 0)
+    release_allowed slots me i m' h y at_i stays is filled stood =
+        let is' : m' ≡ (m.0, (cell, h) ∷ []) = is ∙ ap (λ (z : List (ℕ × Held V E)). (m.0, (cell, h) ∷ z)) (slot_alone stays) in
+        subst (λ (z : Me (Held V E) (View S E)). Allows (Kept start passes places session writer stands number kept) slots me z i (λ _. 0) (λ _. freed (step slots i 0 0 none) z 0)) (sym is')
+        (releases start passes places session writer stands number kept slots me i cell (m.0, (cell, h) ∷ []) h y at_i stays refl filled stood)
+
+  pub release_tells : (m' m'' : Me (Held V E) (View S E)) (st : Step (Held V E)) (n : ℕ) (h : Held V E) → m.0.stage ≡ Inside cell → m' ≡ (m.0, (cell, h) ∷ rest m.1) → freed st m' n m'' → (m''.0 ≡ released m.0) × (m''.1 ≡ [])
+  release_tells m' m'' st n h stays is w =
+      let is' : m' ≡ (m.0, (cell, h) ∷ []) = is ∙ ap (λ (z : List (ℕ × Held V E)). (m.0, (cell, h) ∷ z)) (slot_alone stays) in
+      (subst (λ (z : Me (Held V E) (View S E)). freed st z n m'') is' w) cell h refl
 
   pub leave_tells : (m' m'' : Me (Held V E) (View S E)) (st : Step (Held V E)) (n : ℕ) (h : Held V E) (e : Note E) → m.0.stage ≡ Inside cell → m' ≡ (m.0, (cell, h) ∷ rest m.1) → h.note ≡ Some e → went st m' n m'' → (m''.0 ≡ left cell e.value m.0) × (m''.1 ≡ [])
   leave_tells m' m'' st n h e stays is noted w =

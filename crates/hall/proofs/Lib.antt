@@ -1,6 +1,7 @@
 pub mod Pieces
 pub mod Moves
 pub mod Leaves
+pub mod Releases
 pub mod Posting
 pub mod Merging
 pub mod Laying

@@ -48,6 +48,10 @@ module _ {S E : Type 0} where
   abbrev pub left : ℕ → E → View S E → View S E
   left c e v = record v { seen = added c e v; stage = Free }
 
+  -- the lock was released, and no history has an entry more
+  abbrev pub released : View S E → View S E
+  released v = record v { stage = Free }
+
   -- a word was published, with one entry more at its place
   abbrev pub published : ℕ → E → View S E → View S E
   published q e v = record v { seen = added q e v }
@@ -112,6 +116,10 @@ module _ {S V E : Type 0} where
   -- the entry of the slot's note was added
   abbrev pub went : Step (Held V E) → Sat S V E → ℕ → Sat S V E → Type 0
   went st m r m' = (c : ℕ) (h : Held V E) (e : Note E) → m.0.stage ≡ Inside c → m.1 ≡ (c, h) ∷ [] → h.note ≡ Some e → (m'.0 ≡ left c e.value m.0) × (m'.1 ≡ [])
+
+  -- the lock was released without an entry
+  abbrev pub freed : Step (Held V E) → Sat S V E → ℕ → Sat S V E → Type 0
+  freed st m r m' = (c : ℕ) (h : Held V E) → m.1 ≡ (c, h) ∷ [] → (m'.0 ≡ released m.0) × (m'.1 ≡ [])
 
   -- the name was asked for
   abbrev pub asks : Step (Held V E) → Sat S V E → ℕ → Sat S V E → Type 0

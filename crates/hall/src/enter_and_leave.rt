@@ -3,14 +3,14 @@ ghost use Rattle.std.specs.Prelude.{◌≡◌, ℕ, ◌+◌, ◌*◌, ◌<◌, �
 ghost use Rattle.hall.specs.declared.view.View.{View};
 ghost use Rattle.hall.specs.declared.view.Stage.TheVariants.{Free, Inside};
 ghost use Rattle.notes.specs.Lists.{at};
-ghost use Rattle.hall.specs.Told.{missed, left};
+ghost use Rattle.hall.specs.Told.{missed, left, released};
 ghost use Rattle.hall.specs.Calls.{view, IsOf, IsSame, Looked, Entered, start_of};
 
 use crate::hall::Hall;
 use crate::law::Law;
 use crate::layout::line_at;
 use crate::pass::Pass;
-use crate::step_kinds::{Leave, Look};
+use crate::step_kinds::{Leave, Look, Release};
 use crossbeam_utils::Backoff;
 use notes::Note;
 use std::sync::Wait;
@@ -107,5 +107,21 @@ impl<L: Law> Hall<L> {
         let gone = pass.seat.slot_mut(shared, pass.cell).put(value, entry);
         let None = gone else { unreachable!() };
         shared.store::<Leave>(&mut pass.seat, word, 0);
+    }
+
+    /// Releases the lock that the pass is inside, and adds nothing to its history: returns the value, which stands for
+    /// the history as the pass found it, and lets the next pass in.
+    pub fn put_back(&self, pass: &mut Pass<L>, value: L::Value)
+        requires own { IsOf self.now pass.old }
+        requires inside { (view pass.old).stage ≡ Inside pass.old.cell }
+        requires stands { L.stands (start_of self.now) pass.old.cell value (at (view pass.old).seen pass.old.cell) }
+        ensures own { IsOf self.now pass.new × IsSame pass.old pass.new }
+        ensures view { view pass.new ≡ released (view pass.old) }
+    {
+        let shared = &self.table.shared;
+        let word = line_at(pass.cell);
+        let gone = pass.seat.slot_mut(shared, pass.cell).restore(value);
+        let None = gone else { unreachable!() };
+        shared.store::<Release>(&mut pass.seat, word, 0);
     }
 }

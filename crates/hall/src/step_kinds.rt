@@ -1,5 +1,5 @@
 //! What each step tells its pass.
-ghost use Rattle.hall.specs.Told.{looked, went, asks, reads, checks, publishes, settles, giving, given, joined, spent};
+ghost use Rattle.hall.specs.Told.{looked, went, freed, asks, reads, checks, publishes, settles, giving, given, joined, spent};
 
 use crate::law::Law;
 use crate::view::{Held, View};
@@ -18,6 +18,12 @@ pub(crate) struct Leave;
 
 impl<S, V, E> Play<Held<V, E>, View<S, E>> for Leave {
     ghost then = { went };
+}
+
+pub(crate) struct Release;
+
+impl<S, V, E> Play<Held<V, E>, View<S, E>> for Release {
+    ghost then = { freed };
 }
 
 pub(crate) struct Read<L> {

@@ -72,6 +72,14 @@ impl<V, E> Held<V, E> {
         self.value.take()
     }
 
+    // Puts a value back without an entry, in place. Returns what was there.
+    pub(crate) fn restore(&mut self, value: V) -> Option<V>
+        ensures value { result ≡ self.old.value }
+        ensures left { self.new ≡ record self.old { value = Some value } }
+    {
+        self.value.replace(value)
+    }
+
     // Puts a value back with the entry, in place. Returns what was there.
     pub(crate) fn put(&mut self, value: V, note: Note<E>) -> Option<V>
         ensures value { result ≡ self.old.value }

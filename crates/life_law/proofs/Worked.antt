@@ -22,9 +22,12 @@ use Rattle.tx_model.specs.declared.reply.Reply.TheVariants as replies
 use Rattle.tx_model.specs.declared.report.Line.{Line}
 use Rattle.tx_model.specs.declared.report.Step.TheVariants as steps
 use Rattle.tx_model.specs.CommandEvents.{level_events}
+use Rattle.tx_model.specs.Asked as asked
+use Rattle.tx_model.specs.Asked.{Asked}
 use Rattle.tx_model.specs.Rounds.{StandFirst, lines_in}
 use Rattle.tx_model.specs.Lines.{has_line, span_of}
 use Rattle.tx_model.specs.Replies.{IsWarned}
+use Rattle.life_law.specs.Dumps.{IsLawfulBetween}
 use Rattle.life_law.specs.Facts.{Facts}
 use Rattle.life_law.specs.LawfulLife.{facts_of}
 use Rattle.life_law.specs.Laws.{IsLawful, lines_of}
@@ -226,16 +229,16 @@ second_round = places (λ earlier. IsLawfulLine its_facts (span_of worked_events
   ),
 )
 
-abbrev its_rounds : List (List (ℕ × Command))
-its_rounds =
-    ((0, commands.Begin) ∷ (1, commands.Begin) ∷ (0, commands.Write) ∷ (1, commands.Write) ∷ (1, commands.Commit) ∷ [])
-    ∷ ((0, commands.Commit) ∷ (0, commands.Save) ∷ (0, commands.Commit) ∷ []) ∷ []
+abbrev its_steps : List Asked
+its_steps =
+    asked.round ((0, commands.Begin) ∷ (1, commands.Begin) ∷ (0, commands.Write) ∷ (1, commands.Write) ∷ (1, commands.Commit) ∷ [])
+    ∷ asked.round ((0, commands.Commit) ∷ (0, commands.Save) ∷ (0, commands.Commit) ∷ []) ∷ []
 
 it_is_lawful : IsLawful worked_life
 it_is_lawful = record {
   tells = true;
   banks = 4;
-  rounds = its_rounds;
+  asked = its_steps;
   life = record {
     history = it_is_legal;
     told = (refl, refl, (refl, refl, tt));
@@ -244,6 +247,7 @@ it_is_lawful = record {
       each = places (λ before step. IsLawfulRound its_facts (flat_map lines_in before) (lines_in step)) worked_life.steps (first_round, (second_round, tt));
       no_other = All-from_recursion (λ e. IsTrue (has_line its_lines e)) worked_events (refl, (refl, (refl, tt)));
     };
+    dumps = places (λ before step. IsLawfulBetween its_facts (flat_map lines_in before) step) worked_life.steps (tt, (tt, tt));
     multis = refl;
     log = its_log;
     opened = its_open;

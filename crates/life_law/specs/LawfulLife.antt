@@ -4,13 +4,14 @@ use Rattle.std.specs.List.{All, flat_map}
 use Rattle.tx_events.specs.declared.record.Rec.TheVariants as records
 use Rattle.tx_events.specs.History.{IsLegal}
 use Rattle.tx_events.specs.Places.{EachPlace}
-use Rattle.tx_model.specs.declared.command.Command.{Command}
 use Rattle.tx_model.specs.declared.report.Life.{Life}
 use Rattle.tx_model.specs.declared.report.LifeReport.{LifeReport}
 use Rattle.tx_model.specs.declared.report.Line.{Line}
 use Rattle.tx_model.specs.declared.report.Step.{Step}
-use Rattle.tx_model.specs.Rounds.{AreInTurn, AreRounds, lines_in}
+use Rattle.tx_model.specs.Asked.{Asked}
+use Rattle.tx_model.specs.Rounds.{AreInTurn, AreSteps, lines_in}
 use Rattle.tx_model.specs.Lines.{has_line}
+use Rattle.life_law.specs.Dumps.{AreLawfulDumps}
 use Rattle.life_law.specs.Facts.{Facts, has_log_fault, log_faults}
 use Rattle.life_law.specs.LifeLog.{IsLogOf}
 use Rattle.life_law.specs.Lines.{IsLawfulRound}
@@ -34,14 +35,15 @@ pub record AreLawfulSteps (f : Facts) (steps : List Step) : Type 0 where
   pub each : EachPlace steps (λ before step. IsLawfulRound f (flat_map lines_in before) (lines_in step))
   pub no_other : All (λ e. IsTrue (has_line (flat_map lines_in steps) e)) f.events
 
--- One legal history, round by round; the lines are the rounds' commands, each lawful; no multixact; the log of these
--- ends, and of a transaction that is still open no more than its session's lines tell. The log's volume fails once at
+-- One legal history, round by round; the steps are what was asked, each line lawful, and each dump between two rounds; no
+-- multixact; the log of these ends, and of a transaction that is still open no more than its session's lines tell. The log's volume fails once at
 -- most, since the log stays down. Each store has so many banks, and verdicts are told where the volumes tell.
-pub record IsLawfulLife (tells : Bool) (banks : ℕ) (rounds : List (List (ℕ × Command))) (r : LifeReport) : Type 0 where
+pub record IsLawfulLife (tells : Bool) (banks : ℕ) (asked : List Asked) (r : LifeReport) : Type 0 where
   pub history : IsLegal r.life.base r.life.events
-  pub told : AreRounds 1 rounds r.steps
+  pub told : AreSteps 1 asked r.steps
   pub in_turn : AreInTurn r.life.events r.steps
   pub lawful : AreLawfulSteps (facts_of tells banks r.life (flat_map lines_in r.steps)) r.steps
+  pub dumps : AreLawfulDumps (facts_of tells banks r.life (flat_map lines_in r.steps)) r.steps
   pub multis : r.life.multis ≡ []
   pub log : IsLogOf r.life.from (records.Checkpoint r.life.from r.life.base) r.life.events r.life.recs r.life.flushed r.life.end
   pub opened : (session : ℕ) → IsOpenAsTold r.life.recs r.life.events (flat_map lines_in r.steps) session

@@ -13,6 +13,7 @@ use Rattle.tx_model.specs.declared.reply.Reply.TheVariants as replies
 use Rattle.tx_model.specs.declared.report.LifeReport.{LifeReport}
 use Rattle.tx_model.specs.declared.report.Line.{Line}
 use Rattle.tx_model.specs.declared.report.Step.{Step}
+use Rattle.tx_model.specs.Asked.{Asked}
 use Rattle.tx_model.specs.Rounds.{lines_in}
 use Rattle.tx_model.specs.Lines.{is_line_of, stance}
 use Rattle.tx_model.specs.Stance.{top_level}
@@ -20,12 +21,12 @@ use Rattle.life_law.specs.LawfulLife.{IsLawfulLife}
 use Rattle.life_law.specs.LifeLog.{IsAmong}
 use Rattle.life_law.specs.Pending.{pending}
 
--- the life is lawful for some rounds of commands
+-- the life is lawful for what it was asked
 pub record IsLawful (r : LifeReport) : Type 0 where
   pub tells : Bool
   pub banks : ℕ
-  pub rounds : List (List (ℕ × Command))
-  pub life : IsLawfulLife tells banks rounds r
+  pub asked : List Asked
+  pub life : IsLawfulLife tells banks asked r
 
 -- all lines of the life
 abbrev pub lines_of : LifeReport → List Line

@@ -5,6 +5,7 @@ pub mod Facts
 pub mod DidCommit
 pub mod Replies
 pub mod Lines
+pub mod Dumps
 pub mod LifeLog
 pub mod LawfulLife
 pub mod Laws

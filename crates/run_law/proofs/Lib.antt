@@ -2,3 +2,5 @@ pub mod Steps
 pub mod Sizes
 pub mod Commands
 pub mod Known
+pub mod PartSums
+pub mod AllTurns

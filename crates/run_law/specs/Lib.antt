@@ -1,3 +1,4 @@
 pub mod Turns
 pub mod Refusals
 pub mod Tool
+pub mod Counting

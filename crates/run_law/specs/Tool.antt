@@ -8,19 +8,19 @@ use Rattle.life_law.specs.LawfulLife.{IsLawfulLife}
 use Rattle.script_lines.specs.declared.kind.Kind.{Kind}
 use Rattle.session_lang.specs.declared.script.Script.{Script}
 use Rattle.report_text.specs.ReportText.{report_text}
-use Rattle.session_lang.specs.Rounds.{rounds_of}
+use Rattle.session_lang.specs.Rounds.{asked_of}
 use Rattle.session_lang.specs.Script.{read_script}
 use Rattle.run_law.specs.Refusals.{refusal_of, refusal_text}
 
--- The report of a run of the script over a new log: one life, from the script's counters, round by round. Verdicts are
--- told where the page volumes tell what they hold.
+-- The report of a run of the script over a new log: one life, from the script's counters, round by round, with the dumps
+-- between the rounds. Verdicts are told where the page volumes tell what they hold.
 pub record IsReportOf (tells : Bool) (s : Script) (r : Report) : Type 0 where
   pub names : r.names ≡ s.names
   pub life : LifeReport
   pub one : r.lives ≡ life ∷ []
   pub last : life.crash ≡ None
   pub begins : BeginsLog s.base life.life
-  pub lawful : IsLawfulLife tells s.banks (rounds_of s.items) life
+  pub lawful : IsLawfulLife tells s.banks (asked_of s.items) life
 
 -- the most bytes that a run reads: one past the limit of a script
 abbrev pub most_read : ℕ

@@ -2,11 +2,14 @@
 use Rattle.std.specs.Prelude.{◌≡◌, ℕ, ◌<◌, ◌≤◌, ◌^◌, ◌⊎◌, Bool, true, false, List, [], ◌∷◌, ◌++◌, Option, Some, None, length}
 use Rattle.std.specs.List.{All, filter_map}
 use Rattle.tx_model.specs.declared.command.Command.{Command}
+use Rattle.tx_model.specs.declared.report.DumpOf.{DumpOf}
+use Rattle.tx_model.specs.declared.report.DumpOf.TheVariants as dumps
 use Rattle.tx_events.specs.Base.{IsBase}
 pub use Rattle.life_law.specs.Commands.{has_command}
 use Rattle.session_lang.specs.declared.script.Item.{Item}
 use Rattle.session_lang.specs.declared.script.Item.TheVariants as items
 use Rattle.session_lang.specs.declared.script.Script.{Script}
+use Rattle.session_lang.specs.Plain.{IsDump}
 
 abbrev pub turn_in : Item → Option (ℕ × Command)
 turn_in (items.Run session command) = Some (session, command)
@@ -24,16 +27,25 @@ pub record IsFirstRound (script round rest : List Item) : Type 0 where
   pub commands : All (λ item. is_command item ≡ true) round
   pub split : ((script ≡ round) × (rest ≡ [])) ⊎ ((directive : Item) × (is_command directive ≡ false) × (script ≡ round ++ directive ∷ rest))
 
+-- what the run shows bytes of
+abbrev pub has_dump : DumpOf → Bool
+has_dump dumps.Log = true
+has_dump (dumps.Xact page) = true
+has_dump (dumps.Subtrans page) = true
+has_dump _ = false
+
 -- an item that the run has
 abbrev pub has_item : Item → Bool
 has_item (items.Run session command) = has_command command
 has_item items.Round = true
+has_item (items.Dump what at size) = has_dump what
 has_item _ = false
 
 -- a life with so many sessions can run the item
 abbrev pub MayRun : ℕ → Item → Type 0
 MayRun sessions (items.Run session command) = (has_command command ≡ true) × (session < sessions)
 MayRun sessions items.Round = Unit {0}
+MayRun sessions (items.Dump what at size) = (has_dump what ≡ true) × IsDump what at size × (1 ≤ size) × (size ≤ 64)
 MayRun sessions _ = ⊥
 
 -- a script that sessions can run, round by round

@@ -9,6 +9,8 @@ use Rattle.std.specs.Option.{unwrap_or}
 use Rattle.std.specs.Str.{bytes_eq}
 use Rattle.tx_events.specs.declared.event.Event.{Event}
 use Rattle.tx_events.specs.declared.record.Rec.{Rec}
+use Rattle.tx_model.specs.declared.reply.Reply.{Reply}
+use Rattle.tx_model.specs.declared.report.DumpOf.{DumpOf}
 use Rattle.tx_model.specs.declared.report.Line.{Line}
 use Rattle.tx_model.specs.declared.report.Step.{Step}
 use Rattle.tx_model.specs.declared.report.Step.TheVariants as steps
@@ -20,11 +22,11 @@ use Rattle.tx_model.specs.Lines.{is_line_of}
 use Rattle.tx_model.proofs.LineGrowth.{lines_counted}
 use Rattle.tx_events.specs.Names.{IsName}
 use Rattle.report_text.specs.Words.{name_at}
-use Rattle.report_words.specs.Fits.{AreNames, FitsReply}
+use Rattle.report_words.specs.Fits.{AreNames, FitsDumpReply, FitsReply}
 use Rattle.report_words.specs.Reading.{name_place}
 use Rattle.report_words.specs.Replies.{kind_of}
 use Rattle.report_words.proofs.Places.{place_again}
-use Rattle.report_lines.specs.Fits.{FitsCommand, FitsEvent, FitsLine, FitsRecord}
+use Rattle.report_lines.specs.Fits.{FitsCommand, FitsDump, FitsEvent, FitsLine, FitsRecord}
 use Rattle.report_read.specs.Item.{Item}
 use Rattle.report_read.specs.Item as items
 use Rattle.report_read.specs.Grammar.{Follows, IsNamed, after, begins_step, is_round, may_speak, note, noted, steps_told}
@@ -307,7 +309,31 @@ a_round names k k' done told n t l ls a few b small y e m c =
       start = w.same.start;
     }
 
--- ---- behind the rounds
+-- a dump more
+pub a_dump : (names : List (List ℕ)) (k : ℕ) (done : List Line) (told : List Step) (n : ℕ) (t : Told) (what : DumpOf) (at size : ℕ) (reply : Reply) → AreNames names → Between names k done told n t → FitsDump what at size → FitsDumpReply reply →
+    Rounded names k done (told ++ steps.Dump what at size reply ∷ []) n t
+a_dump names k done told n t what at size reply a b fits answer =
+    let step : Step = steps.Dump what at size reply in
+    let mid : Told = after t (items.step step) in
+    let are : AreNames b.known = front_names b.known b.rest (subst AreNames b.so_far.split a) in
+    let first : Follows t (items.step step) mid = record { stands = b.begins; rule = (refl, subst AreNames (sym b.so_far.told) are, (fits, answer)); told = refl } in
+    record {
+      last = mid;
+      reach = follows_on t mid mid (items.step step) first (stays mid);
+      between = record {
+        known = b.known;
+        rest = b.rest;
+        count = b.count;
+        so_far = record { split = b.so_far.split; told = b.so_far.told; lengths = b.so_far.lengths; counts = b.so_far.counts };
+        begins = refl;
+        steps = ap (λ ss. ss ++ step ∷ []) b.steps;
+        round = b.round;
+      };
+      lives = refl;
+      start = refl;
+    }
+
+-- ---- behind the steps
 
 pub events_reach : (t : Told) (es : List Event) → t.stage ≡ stages.History → AreNames t.names → length t.names ≤ 64 → AllByRecursion (FitsEvent t.names) es → Reaches t (record t { events = t.events ++ es })
 events_reach t [] st a few f = subst (λ l. Reaches t (record t { events = l })) (sym (append-nil t.events)) (stays t)

@@ -9,23 +9,27 @@ use Rattle.tx_events.specs.Places.{first_seen}
 use Rattle.tx_events.proofs.ListSteps.{all_push, both_all, eqb-refl}
 use Rattle.tx_model.specs.declared.command.Command.{Command}
 use Rattle.tx_model.specs.declared.command.Command.TheVariants as commands
+use Rattle.tx_model.specs.declared.report.DumpOf.{DumpOf}
+use Rattle.tx_model.specs.declared.report.DumpOf.TheVariants as dumps
 use Rattle.tx_model.specs.declared.report.Report.{Report}
+use Rattle.tx_model.specs.Asked as asked
 use Rattle.session_lang.specs.declared.script.Item.{Item}
 use Rattle.session_lang.specs.declared.script.Item.TheVariants as items
 use Rattle.session_lang.specs.declared.script.Script.{Script}
-use Rattle.session_lang.specs.Plain.{IsInRange, IsItem}
-use Rattle.session_lang.specs.Rounds.{round_of, rounds_from, rounds_of, sessions_in}
+use Rattle.session_lang.specs.Plain.{IsDump, IsInRange, IsItem}
+use Rattle.session_lang.specs.Rounds.{asked_from, asked_of, asked_round, round_of, rounds_from, sessions_in}
 use Rattle.session_lang.specs.Script.{read_script}
+use Rattle.session_lang.proofs.Asking.{rounds_asked}
 use Rattle.session_lang.proofs.SeenLemmas.{is_in, old_number}
 use Rattle.report_words.specs.Fits.{FitsCounters}
-use Rattle.report_lines.specs.Fits.{FitsCommand}
+use Rattle.report_lines.specs.Fits.{FitsCommand, FitsDump}
 use Rattle.report_text.specs.ReportText.{report_text}
 use Rattle.report_read.specs.Reports.{IsReport}
 use Rattle.report_read.proofs.Reading.{one_report}
 use Rattle.run_law.specs.Tool.{IsAnswer, IsReportOf}
 use Rattle.run_report.proofs.Readings.{script_read}
 use Rattle.run_report.proofs.Turns.{sessions_of}
-use Rattle.run_report.proofs.Sizes.{RoundFits, TurnFits}
+use Rattle.run_report.proofs.Sizes.{AskedFits, TurnFits, sessions_asked}
 use Rattle.run_report.proofs.Whole.{told_again}
 
 command_fits : (c : Command) → IsInRange c → FitsCommand c
@@ -40,8 +44,16 @@ command_fits (commands.Freeze x) i = i
 command_fits (commands.MultiFreeze m) i = i
 command_fits c i = tt
 
+dump_fits : (what : DumpOf) (at size : ℕ) → IsDump what at size → 1 ≤ size → size ≤ 64 → FitsDump what at size
+dump_fits dumps.Log at size i low high = (i, low, high)
+dump_fits (dumps.Xact page) at size i low high = (i.0, low, high, i.1)
+dump_fits (dumps.Subtrans page) at size i low high = (i.0, low, high, i.1)
+dump_fits (dumps.Offsets page) at size i low high = (i.0, low, high, i.1)
+dump_fits (dumps.Members page) at size i low high = (i.0, low, high, i.1)
+
 abbrev ItemFits : List (List ℕ) → Item → Type 0
 ItemFits names (items.Run s c) = TurnFits names (s, c)
+ItemFits names (items.Dump what at size) = FitsDump what at size
 ItemFits names _ = Unit {0}
 
 items_fit : (names : List (List ℕ)) (script : List Item) → ((k : ℕ) → is_in k (sessions_in script) ≡ true → k < length names) → AllByRecursion IsItem script → AllByRecursion (ItemFits names) script
@@ -53,16 +65,17 @@ items_fit names (items.Run s c ∷ script) f r = (
 items_fit names (items.Round ∷ script) f r = (tt, items_fit names script f r.1)
 items_fit names (items.Checkpoint ∷ script) f r = (tt, items_fit names script f r.1)
 items_fit names (items.Crash how ∷ script) f r = (tt, items_fit names script f r.1)
-items_fit names (items.Dump what at size ∷ script) f r = (tt, items_fit names script f r.1)
+items_fit names (items.Dump what at size ∷ script) f r = (dump_fits what at size r.0.0 r.0.1 r.0.2, items_fit names script f r.1)
 
-round_fits : (names : List (List ℕ)) (turns : List (ℕ × Command)) → AllByRecursion (TurnFits names) turns → AllByRecursion (RoundFits names) (round_of turns)
+round_fits : (names : List (List ℕ)) (turns : List (ℕ × Command)) → AllByRecursion (TurnFits names) turns → AllByRecursion (AskedFits names) (asked_round turns)
 round_fits names [] a = tt
 round_fits names (t ∷ turns) a = (record { some = λ n. cc; each = a }, tt)
 
-rounds_fit : (names : List (List ℕ)) (turns : List (ℕ × Command)) (script : List Item) → AllByRecursion (TurnFits names) turns → AllByRecursion (ItemFits names) script → AllByRecursion (RoundFits names) (rounds_from turns script)
-rounds_fit names turns [] a f = round_fits names turns a
-rounds_fit names turns (items.Run s c ∷ script) a f = rounds_fit names (turns ++ (s, c) ∷ []) script (all_push (TurnFits names) turns (s, c) a f.0) f.1
-rounds_fit names turns (x ∷ script) a f = both_all (RoundFits names) (round_of turns) (rounds_from [] script) (round_fits names turns a) (rounds_fit names [] script tt f.1)
+asked_fit : (names : List (List ℕ)) (turns : List (ℕ × Command)) (script : List Item) → AllByRecursion (TurnFits names) turns → AllByRecursion (ItemFits names) script → AllByRecursion (AskedFits names) (asked_from turns script)
+asked_fit names turns [] a f = round_fits names turns a
+asked_fit names turns (items.Run s c ∷ script) a f = asked_fit names (turns ++ (s, c) ∷ []) script (all_push (TurnFits names) turns (s, c) a f.0) f.1
+asked_fit names turns (items.Dump what at size ∷ script) a f = both_all (AskedFits names) (asked_round turns) (asked.dump what at size ∷ asked_from [] script) (round_fits names turns a) (f.0, asked_fit names [] script tt f.1)
+asked_fit names turns (x ∷ script) a f = both_all (AskedFits names) (asked_round turns) (asked_from [] script) (round_fits names turns a) (asked_fit names [] script tt f.1)
 
 one_round : (turns : List (ℕ × Command)) → flat_map sessions_of (round_of turns) ≡ sessions_of turns
 one_round [] = refl
@@ -85,6 +98,9 @@ rounds_sessions turns (items.Checkpoint ∷ script) = next_round turns script (r
 rounds_sessions turns (items.Crash how ∷ script) = next_round turns script (rounds_sessions [] script)
 rounds_sessions turns (items.Dump what at size ∷ script) = next_round turns script (rounds_sessions [] script)
 
+asked_sessions : (script : List Item) → sessions_asked (asked_of script) ≡ sessions_in script
+asked_sessions script = ap (flat_map sessions_of) (rounds_asked script) ∙ rounds_sessions [] script
+
 sessions_short : (script : List Item) → length (sessions_in script) ≤ length script
 sessions_short [] = omega arith
 sessions_short (items.Run s c ∷ script) = let i = sessions_short script in omega arith
@@ -99,16 +115,16 @@ script_told_again tells bytes s r e ran =
     let base = ran.begins.base_is in
     subst (λ names. IsReport (record { names = names; lives = r.lives })) (sym ran.names)
     (subst (λ lives. IsReport (record { names = s.names; lives = lives })) (sym ran.one)
-    (told_again tells s.banks s.names (rounds_of s.items) s.base ran.life read.banks ran.begins ran.last ran.lawful
+    (told_again tells s.banks s.names (asked_of s.items) s.base ran.life read.banks ran.begins ran.last ran.lawful
     (record {
       names_are = read.names;
       few = read.sessions;
       base_is = subst IsBase (sym base) read.base;
       counters = subst FitsCounters (sym base) read.counters;
-      turns = let all = ap length (rounds_sessions [] s.items) in let few = sessions_short s.items in let m = read.few in omega arith;
+      turns = let all = ap length (asked_sessions s.items) in let few = sessions_short s.items in let m = read.few in omega arith;
     })
-    (rounds_fit s.names [] s.items tt (items_fit s.names s.items (λ k e. old_number k (length s.names) (sessions_in s.items) read.numbered e) read.items))
-    (ap first_seen (rounds_sessions [] s.items) ∙ read.numbered)))
+    (asked_fit s.names [] s.items tt (items_fit s.names s.items (λ k e. old_number k (length s.names) (sessions_in s.items) read.numbered e) read.items))
+    (ap first_seen (asked_sessions s.items) ∙ read.numbered)))
 
 -- The text that a run answers is that of its report, and of no other.
 pub answer_of_one : (tells : Bool) (left left' : Option (List ℕ)) (text : List ℕ) (a : IsAnswer tells left left' text)

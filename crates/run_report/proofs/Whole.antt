@@ -9,7 +9,14 @@ use Rattle.tx_events.specs.declared.multi.MultiEvent.{MultiEvent}
 use Rattle.tx_events.specs.declared.record.Counters.{Counters}
 use Rattle.tx_events.specs.declared.record.Rec.{Rec}
 use Rattle.tx_events.specs.declared.record.Rec.TheVariants as records
+use Rattle.tx_events.specs.declared.event.Event.{Event}
+use Rattle.tx_events.specs.declared.refusal.Lock.TheVariants as locks
+use Rattle.tx_events.specs.declared.refusal.Refusal.TheVariants as refusals
 use Rattle.tx_model.specs.declared.command.Command.{Command}
+use Rattle.tx_model.specs.declared.reply.Reply.{Reply}
+use Rattle.tx_model.specs.declared.reply.Reply.TheVariants as replies
+use Rattle.tx_model.specs.declared.report.DumpOf.{DumpOf}
+use Rattle.tx_model.specs.declared.report.DumpOf.TheVariants as dumps
 use Rattle.tx_model.specs.declared.report.How.{How}
 use Rattle.tx_model.specs.declared.report.LifeReport.{LifeReport}
 use Rattle.tx_model.specs.declared.report.Line.{Line}
@@ -19,20 +26,23 @@ use Rattle.tx_events.specs.Base.{IsBase}
 use Rattle.tx_events.specs.Events.{events_of}
 use Rattle.tx_events.specs.Places.{EachPlace, first_seen}
 use Rattle.tx_events.proofs.ListSteps.{all_weaker, both_all, all_filter}
-use Rattle.tx_events.proofs.Membership.{filter_agree_on}
-use Rattle.tx_model.specs.Rounds.{AreRounds, BeginsLog, lines_in}
+use Rattle.tx_events.proofs.Membership.{all_from, filter_agree_on, has_place}
+use Rattle.tx_model.specs.Asked as asked
+use Rattle.tx_model.specs.Asked.{Asked, rounds_in}
+use Rattle.tx_model.specs.Rounds.{AreSteps, BeginsLog, lines_in}
 use Rattle.tx_model.specs.Lines.{grouped, has_line, is_line_of, span_of, stance, turn_of}
 use Rattle.tx_model.specs.Replies.{RoundSpan}
+use Rattle.life_law.specs.Dumps.{AreLawfulDumps, IsLawfulBetween, MayDump, events_behind}
 use Rattle.life_law.specs.Facts.{Facts}
 use Rattle.life_law.specs.LawfulLife.{IsLawfulLife, facts_of}
 use Rattle.life_law.specs.LifeLog.{IsLogOf}
 use Rattle.life_law.specs.Lines.{IsLawfulLine}
 use Rattle.life_law.specs.Pending.{pending}
 use Rattle.session_lang.proofs.SeenLemmas.{is_in, is_in_seen, seen-append}
-use Rattle.report_words.specs.Fits.{AreNames, FitsCounters}
+use Rattle.report_words.specs.Fits.{AreNames, FitsCounters, FitsDumpReply}
 use Rattle.report_lines.specs.declared.life.LogHead.{LogHead}
 use Rattle.report_lines.specs.declared.life.Start.{Start}
-use Rattle.report_lines.specs.Fits.{FitsCommand, FitsStart}
+use Rattle.report_lines.specs.Fits.{FitsCommand, FitsDump, FitsStart}
 use Rattle.report_read.specs.Item as items
 use Rattle.report_read.specs.Grammar.{Follows, after, begins_step, life_told, no_counts, steps_told}
 use Rattle.report_read.specs.Reports.{IsReport, nothing_told}
@@ -40,8 +50,8 @@ use Rattle.report_read.specs.declared.told.Told.{Told}
 use Rattle.run_report.proofs.Fits.{CanTell, EventFits, LineFits, all_event_fit, events_fit, named_plain, own_named, reply_fits}
 use Rattle.run_report.proofs.Ids.{IsPlain, all_ids_fit}
 use Rattle.run_report.proofs.Records.{log_fits, rest_fits}
-use Rattle.run_report.proofs.Sizes.{RoundFits, TurnFits, lines_short, rounds_short}
-use Rattle.run_report.proofs.Reaching.{AreCounted, AreNumbered, Between, Reaches, Rounded, Sayable, SoFar, a_round, all_numbered, counted_apart, events_reach, follows_on, reach_on, records_reach, speakers, stays}
+use Rattle.run_report.proofs.Sizes.{AskedFits, TurnFits, lines_short, rounds_short, sessions_asked}
+use Rattle.run_report.proofs.Reaching.{AreCounted, AreNumbered, Between, Reaches, Rounded, Sayable, SoFar, a_dump, a_round, all_numbered, counted_apart, events_reach, follows_on, reach_on, records_reach, speakers, stays}
 use Rattle.run_report.proofs.Turns.{Climbs, Cut, MaySpeak, climbs, climbs_apart, grouped_seen, grouped_speak, sessions_of}
 
 -- ---- lines, each with those before it
@@ -101,16 +111,14 @@ lines_said : (names : List (List ℕ)) (lines : List Line) → AllByRecursion (T
 lines_said names [] a = tt
 lines_said names (l ∷ lines) a = (record { session = a.0.session; command = a.0.command }, lines_said names lines a.1)
 
-rounds_said : (names : List (List ℕ)) (n : ℕ) (rounds : List (List (ℕ × Command))) (ss : List Step) → AreRounds n rounds ss → AllByRecursion (RoundFits names) rounds → AllByRecursion (SaidSo names) (flat_map lines_in ss)
+rounds_said : (names : List (List ℕ)) (n : ℕ) (all : List Asked) (ss : List Step) → AreSteps n all ss → AllByRecursion (AskedFits names) all → AllByRecursion (SaidSo names) (flat_map lines_in ss)
 rounds_said names n [] [] r a = tt
-rounds_said names n (turns ∷ rounds) (steps.Round number lines ∷ ss) r a =
+rounds_said names n (asked.dump what at size ∷ all) (steps.Dump of from count reply ∷ ss) r a = rounds_said names n all ss r.3 a.1
+rounds_said names n (asked.round turns ∷ all) (steps.Round number lines ∷ ss) r a =
     both_all (SaidSo names) lines (flat_map lines_in ss)
     (lines_said names lines (subst (AllByRecursion (TurnFits names)) (sym r.1) (all_blocks (TurnFits names) (λ s t. t.0 == s) turns (first_seen (map (λ t. t.0) turns)) a.0.each)))
-    (rounds_said names (n + 1) rounds ss r.2 a.1)
-rounds_said names n [] (s ∷ ss) r a = absurd r
-rounds_said names n (turns ∷ rounds) [] r a = absurd r
-rounds_said names n (turns ∷ rounds) (steps.Checkpoint reply ∷ ss) r a = absurd r
-rounds_said names n (turns ∷ rounds) (steps.Dump what at size reply ∷ ss) r a = absurd r
+    (rounds_said names (n + 1) all ss r.2 a.1)
+rounds_said names n all ss r a = absurd r
 
 speakers_are : (lines : List Line) → speakers lines ≡ sessions_of (map turn_of lines)
 speakers_are [] = refl
@@ -128,15 +136,13 @@ seen_join xs xs' ys ys' e f =
     ∙ sym (seen-append xs' ys')
 
 -- grouped by session, round by round, the sessions first appear as in the script
-rounds_seen : (n : ℕ) (rounds : List (List (ℕ × Command))) (ss : List Step) → AreRounds n rounds ss → first_seen (speakers (flat_map lines_in ss)) ≡ first_seen (flat_map sessions_of rounds)
+rounds_seen : (n : ℕ) (all : List Asked) (ss : List Step) → AreSteps n all ss → first_seen (speakers (flat_map lines_in ss)) ≡ first_seen (sessions_asked all)
 rounds_seen n [] [] r = refl
-rounds_seen n (turns ∷ rounds) (steps.Round number lines ∷ ss) r =
+rounds_seen n (asked.dump what at size ∷ all) (steps.Dump of from count reply ∷ ss) r = rounds_seen n all ss r.3
+rounds_seen n (asked.round turns ∷ all) (steps.Round number lines ∷ ss) r =
     ap first_seen (map-append (λ (l : Line). l.by.session) lines (flat_map lines_in ss))
-    ∙ seen_join (speakers lines) (sessions_of turns) (speakers (flat_map lines_in ss)) (flat_map sessions_of rounds) (ap first_seen (speakers_are lines ∙ ap sessions_of r.1) ∙ grouped_seen turns) (rounds_seen (n + 1) rounds ss r.2)
-rounds_seen n [] (s ∷ ss) r = absurd r
-rounds_seen n (turns ∷ rounds) [] r = absurd r
-rounds_seen n (turns ∷ rounds) (steps.Checkpoint reply ∷ ss) r = absurd r
-rounds_seen n (turns ∷ rounds) (steps.Dump what at size reply ∷ ss) r = absurd r
+    ∙ seen_join (speakers lines) (sessions_of turns) (speakers (flat_map lines_in ss)) (sessions_asked all) (ap first_seen (speakers_are lines ∙ ap sessions_of r.1) ∙ grouped_seen turns) (rounds_seen (n + 1) all ss r.2)
+rounds_seen n all ss r = absurd r
 
 no_line : (turns : List (ℕ × Command)) → turns ≢ [] → [] ≡ grouped turns → ⊥
 no_line [] n e = n refl
@@ -145,11 +151,16 @@ no_line (t ∷ turns) n e = nil_cons (ap (λ g. first_seen (sessions_of g)) e �
     nil_cons : {x : ℕ} {xs : List ℕ} → [] ≡ x ∷ xs → ⊥
     nil_cons e = cc
 
--- ---- all rounds
+-- ---- all steps
 
-rounds_reach : (names : List (List ℕ)) (k k' : ℕ) (done : List Line) (told : List Step) (n : ℕ) (t : Told) (rounds : List (List (ℕ × Command))) (ss : List Step) → AreNames names → length names ≤ 64 → Between names k done told n t → AreRounds (n + 1) rounds ss → AllByRecursion (RoundFits names) rounds → AllByRecursion (Sayable names) (flat_map lines_in ss) → AreCounted done (flat_map lines_in ss) → Climbs k (speakers (flat_map lines_in ss)) k' → n + length ss < 2 ^ 64 →
-    Rounded names k' (done ++ flat_map lines_in ss) (told ++ ss) (n + length ss) t
-rounds_reach names k k' done told n t [] [] a few b r f y e c small = record {
+-- the reply of each dump can be told
+abbrev DumpFits : Step → Type 0
+DumpFits (steps.Dump what at size reply) = FitsDumpReply reply
+DumpFits step = Unit {0}
+
+rounds_reach : (names : List (List ℕ)) (k k' : ℕ) (done : List Line) (told : List Step) (n : ℕ) (t : Told) (all : List Asked) (ss : List Step) → AreNames names → length names ≤ 64 → Between names k done told n t → AreSteps (n + 1) all ss → AllByRecursion (AskedFits names) all → AllByRecursion DumpFits ss → AllByRecursion (Sayable names) (flat_map lines_in ss) → AreCounted done (flat_map lines_in ss) → Climbs k (speakers (flat_map lines_in ss)) k' → n + length (rounds_in all) < 2 ^ 64 →
+    Rounded names k' (done ++ flat_map lines_in ss) (told ++ ss) (n + length (rounds_in all)) t
+rounds_reach names k k' done told n t [] [] a few b r f d y e c small = record {
   last = t;
   reach = stays t;
   between = record {
@@ -164,8 +175,19 @@ rounds_reach names k k' done told n t [] [] a few b r f y e c small = record {
   lives = refl;
   start = refl;
 }
-rounds_reach names k k' done told n t (turns ∷ rounds) (steps.Round number [] ∷ ss) a few b r f y e c small = absurd (no_line turns f.0.some r.1)
-rounds_reach names k k' done told n t (turns ∷ rounds) (steps.Round number (l ∷ ls) ∷ ss) a few b r f y e c small =
+rounds_reach names k k' done told n t (asked.dump what at size ∷ all) (steps.Dump of from much reply ∷ ss) a few b r f d y e c small =
+    let fits : FitsDump of from much = subst (λ (z : DumpOf × ℕ × ℕ). FitsDump z.0 z.1 z.2) (λ j. (sym r.0 j, sym r.1 j, sym r.2 j)) f.0 in
+    let first = a_dump names k done told n t of from much reply a b fits d.0 in
+    let rest = rounds_reach names k k' done (told ++ steps.Dump of from much reply ∷ []) n first.last all ss a few first.between r.3 f.1 d.1 y e c small in
+    record {
+      last = rest.last;
+      reach = reach_on t first.last rest.last first.reach rest.reach;
+      between = subst (λ s. Between names k' (done ++ flat_map lines_in ss) s (n + length (rounds_in all)) rest.last) (append_assoc told (steps.Dump of from much reply ∷ []) ss) rest.between;
+      lives = rest.lives ∙ first.lives;
+      start = rest.start ∙ first.start;
+    }
+rounds_reach names k k' done told n t (asked.round turns ∷ all) (steps.Round number [] ∷ ss) a few b r f d y e c small = absurd (no_line turns f.0.some r.1)
+rounds_reach names k k' done told n t (asked.round turns ∷ all) (steps.Round number (l ∷ ls) ∷ ss) a few b r f d y e c small =
     let lines : List Line = l ∷ ls in
     let more : List Line = flat_map lines_in ss in
     let cut : Cut k (speakers lines) (speakers more) k' = climbs_apart k k' (speakers lines) (speakers more) (subst (λ xs. Climbs k xs k') (map-append (λ (l : Line). l.by.session) lines more) c) in
@@ -173,14 +195,14 @@ rounds_reach names k k' done told n t (turns ∷ rounds) (steps.Round number (l 
     let says = all_apart (Sayable names) lines more y in
     let speak : MaySpeak None [] (speakers lines) = subst (MaySpeak None []) (sym (speakers_are lines ∙ ap sessions_of r.1)) (grouped_speak turns) in
     let first = a_round names k cut.middle done told n t l ls a few b (omega arith) says.0 counted.0 speak cut.front in
-    let rest = rounds_reach names cut.middle k' (done ++ lines) (told ++ steps.Round (n + 1) lines ∷ []) (n + 1) first.last rounds ss a few first.between r.2 f.1 says.1 counted.1 cut.behind (omega arith) in
+    let rest = rounds_reach names cut.middle k' (done ++ lines) (told ++ steps.Round (n + 1) lines ∷ []) (n + 1) first.last all ss a few first.between r.2 f.1 d.1 says.1 counted.1 cut.behind (omega arith) in
     let same : (told ++ steps.Round (n + 1) lines ∷ []) ++ ss ≡ told ++ steps.Round number lines ∷ ss = append_assoc told (steps.Round (n + 1) lines ∷ []) ss ∙ ap (λ i. told ++ steps.Round i lines ∷ ss) (sym r.0) in
-    let count : n + 1 + length ss ≡ n + length (steps.Round number lines ∷ ss) = omega arith in
+    let count : n + 1 + length (rounds_in all) ≡ n + length (turns ∷ rounds_in all) = omega arith in
     record {
       last = rest.last;
       reach = reach_on t first.last rest.last first.reach rest.reach;
-      between = subst (λ d. Between names k' d (told ++ steps.Round number lines ∷ ss) (n + length (steps.Round number lines ∷ ss)) rest.last) (append_assoc done lines more)
-          (subst (λ s. Between names k' ((done ++ lines) ++ more) s (n + length (steps.Round number lines ∷ ss)) rest.last) same
+      between = subst (λ d. Between names k' d (told ++ steps.Round number lines ∷ ss) (n + length (turns ∷ rounds_in all)) rest.last) (append_assoc done lines more)
+          (subst (λ s. Between names k' ((done ++ lines) ++ more) s (n + length (turns ∷ rounds_in all)) rest.last) same
           (subst (λ i. Between names k' ((done ++ lines) ++ more) ((told ++ steps.Round (n + 1) lines ∷ []) ++ ss) i rest.last) count rest.between));
       lives = rest.lives ∙ first.lives;
       start = rest.start ∙ first.start;
@@ -189,20 +211,37 @@ rounds_reach names k k' done told n t (turns ∷ rounds) (steps.Round number (l 
     all_apart : {X : Type 0} (P : X → Type 0) (xs ys : List X) → AllByRecursion P (xs ++ ys) → AllByRecursion P xs × AllByRecursion P ys
     all_apart P [] ys q = (tt, q)
     all_apart P (x ∷ xs) ys q = let r = all_apart P xs ys q.1 in ((q.0, r.0), r.1)
-rounds_reach names k k' done told n t [] (s ∷ ss) a few b r f y e c small = absurd r
-rounds_reach names k k' done told n t (turns ∷ rounds) [] a few b r f y e c small = absurd r
-rounds_reach names k k' done told n t (turns ∷ rounds) (steps.Checkpoint reply ∷ ss) a few b r f y e c small = absurd r
-rounds_reach names k k' done told n t (turns ∷ rounds) (steps.Dump what at size reply ∷ ss) a few b r f y e c small = absurd r
+rounds_reach names k k' done told n t all ss a few b r f d y e c small = absurd r
+
+-- a lawful dump's reply can be told
+dump_reply_fits : (banks : ℕ) (base : Counters) (recs : List Rec) (h : List Event) (what : DumpOf) (size : ℕ) (reply : Reply) → banks ≤ 16 → MayDump banks base recs h what size reply → FitsDumpReply reply
+dump_reply_fits banks base recs h dumps.Log size (replies.Bytes bytes) few m = m.0
+dump_reply_fits banks base recs h dumps.Log size (replies.Refused refusals.LogFault) few m = tt
+dump_reply_fits banks base recs h (dumps.Xact page) size (replies.Bytes bytes) few m = m.0
+dump_reply_fits banks base recs h (dumps.Xact page) size (replies.Cut cutoff) few m = let c = m.0.2 in omega (arith, c)
+dump_reply_fits banks base recs h (dumps.Xact page) size (replies.Refused (refusals.DiskFault (locks.Xact bank))) few m = let b = m.0 in omega (arith, b, few)
+dump_reply_fits banks base recs h (dumps.Subtrans page) size (replies.Bytes bytes) few m = m.0
+dump_reply_fits banks base recs h (dumps.Subtrans page) size (replies.Cut cutoff) few m = let c = m.0.2 in omega (arith, c)
+dump_reply_fits banks base recs h (dumps.Subtrans page) size (replies.Refused (refusals.DiskFault (locks.Subtrans bank))) few m = let b = m.0 in omega (arith, b, few)
+dump_reply_fits banks base recs h what size reply few m = absurd m
+
+step_dump_fits : (f : Facts) (before : List Line) (step : Step) → f.banks ≤ 16 → IsLawfulBetween f before step → DumpFits step
+step_dump_fits f before (steps.Round number lines) few m = tt
+step_dump_fits f before (steps.Checkpoint reply) few m = tt
+step_dump_fits f before (steps.Dump what at size reply) few m = dump_reply_fits f.banks f.base f.recs (events_behind f.events before) what size reply few m
+
+dumps_fit : (f : Facts) (ss : List Step) → f.banks ≤ 16 → AreLawfulDumps f ss → AllByRecursion DumpFits ss
+dumps_fit f ss few d = all_from DumpFits ss (λ step k. let p = has_place ss step k in step_dump_fits f (flat_map lines_in (take p.0 ss)) step few (d p.0 step p.1))
 
 -- ---- the whole report
 
 -- the names are names, the numbers of the base can be told, and the commands are few
-pub record IsSmall (names : List (List ℕ)) (rounds : List (List (ℕ × Command))) (r : LifeReport) : Type 0 where
+pub record IsSmall (names : List (List ℕ)) (all : List Asked) (r : LifeReport) : Type 0 where
   pub names_are : AreNames names
   pub few : length names ≤ 64
   pub base_is : IsBase r.life.base
   pub counters : FitsCounters r.life.base
-  pub turns : length (flat_map sessions_of rounds) ≤ 2 ^ 25
+  pub turns : length (sessions_asked all) ≤ 2 ^ 25
 
 -- each line can be told
 lines_sayable : (names : List (List ℕ)) (f : Facts) (lines : List Line) → CanTell f → length lines < 2 ^ 28 → EachOn (LineIs f) [] lines → AllByRecursion (SaidSo names) lines → AllByRecursion (Sayable names) lines
@@ -266,11 +305,11 @@ record Ended (names : List (List ℕ)) (r : LifeReport) (t : Told) : Type 0 wher
   start : t.start ≡ record { from = r.life.from; base = r.life.base }
   steps_are : steps_told t.stage t ≡ r.steps
 
-log_of : (tells : Bool) (banks : ℕ) (rounds : List (List (ℕ × Command))) (base : Counters) (r : LifeReport) → BeginsLog base r.life → IsLawfulLife tells banks rounds r → IsLogOf 0 (records.Checkpoint r.life.from r.life.base) r.life.events r.life.recs r.life.flushed r.life.end
-log_of tells banks rounds base r begins lawful = subst (λ from. IsLogOf from (records.Checkpoint r.life.from r.life.base) r.life.events r.life.recs r.life.flushed r.life.end) begins.from lawful.log
+log_of : (tells : Bool) (banks : ℕ) (all : List Asked) (base : Counters) (r : LifeReport) → BeginsLog base r.life → IsLawfulLife tells banks all r → IsLogOf 0 (records.Checkpoint r.life.from r.life.base) r.life.events r.life.recs r.life.flushed r.life.end
+log_of tells banks all base r begins lawful = subst (λ from. IsLogOf from (records.Checkpoint r.life.from r.life.base) r.life.events r.life.recs r.life.flushed r.life.end) begins.from lawful.log
 
-ends_whole : (tells : Bool) (banks : ℕ) (names : List (List ℕ)) (rounds : List (List (ℕ × Command))) (base : Counters) (r : LifeReport) (t : Told) → BeginsLog base r.life → r.crash ≡ None → IsLawfulLife tells banks rounds r → IsSmall names rounds r → AllByRecursion (EventFits names) r.life.events → Ended names r t → Reaches nothing_told t → IsReport (record { names = names; lives = r ∷ [] })
-ends_whole tells banks names rounds base r t begins last lawful small named ended before =
+ends_whole : (tells : Bool) (banks : ℕ) (names : List (List ℕ)) (all : List Asked) (base : Counters) (r : LifeReport) (t : Told) → BeginsLog base r.life → r.crash ≡ None → IsLawfulLife tells banks all r → IsSmall names all r → AllByRecursion (EventFits names) r.life.events → Ended names r t → Reaches nothing_told t → IsReport (record { names = names; lives = r ∷ [] })
+ends_whole tells banks names all base r t begins last lawful small named ended before =
     let h = r.life.events in
     let t4 : Told = after t items.history in
     let t5 : Told = record t4 { events = h } in
@@ -283,7 +322,7 @@ ends_whole tells banks names rounds base r t begins last lawful small named ende
     let few : length t4.names ≤ 64 = subst (λ ns. length ns ≤ 64) (sym ended.names_are) small.few in
     let legal = lawful.history in
     let fits = events_fit t4.names h (subst (λ ns. AllByRecursion (EventFits ns) h) (sym ended.names_are) named) (all_ids_fit r.life.base h small.base_is legal) in
-    let log = log_of tells banks rounds base r begins lawful in
+    let log = log_of tells banks all base r begins lawful in
     let short = log_fits r.life.base _ h r.life.recs r.life.flushed r.life.end small.base_is legal log in
     let numbered : AreNumbered 0 r.life.recs = subst (AreNumbered 0) (sym log.split) ((begins.from, small.counters), all_numbered 1 log.rest (rest_fits r.life.base _ h r.life.recs r.life.flushed r.life.end small.base_is legal log)) in
     let from : 0 ≡ t7.start.from + length t7.recs = let z : t.start.from ≡ r.life.from = ap (λ (s : Start). s.from) ended.start in let y = begins.from in omega arith in
@@ -339,29 +378,29 @@ unfolding begin nothing_told
 begin_start s = refl
 
 -- a lawful life whose commands are a script's is told by a report that can be read back
-pub told_again : (tells : Bool) (banks : ℕ) (names : List (List ℕ)) (rounds : List (List (ℕ × Command))) (base : Counters) (r : LifeReport) → banks ≤ 16 → BeginsLog base r.life → r.crash ≡ None → IsLawfulLife tells banks rounds r → IsSmall names rounds r → AllByRecursion (RoundFits names) rounds → first_seen (flat_map sessions_of rounds) ≡ range_with_len 0 (length names) →
+pub told_again : (tells : Bool) (banks : ℕ) (names : List (List ℕ)) (all : List Asked) (base : Counters) (r : LifeReport) → banks ≤ 16 → BeginsLog base r.life → r.crash ≡ None → IsLawfulLife tells banks all r → IsSmall names all r → AllByRecursion (AskedFits names) all → first_seen (sessions_asked all) ≡ range_with_len 0 (length names) →
     IsReport (record { names = names; lives = r ∷ [] })
-told_again tells banks names rounds base r few_banks begins last lawful small fits seen =
+told_again tells banks names all base r few_banks begins last lawful small fits seen =
     let h = r.life.events in
     let lines : List Line = flat_map lines_in r.steps in
     let f : Facts = facts_of tells banks r.life lines in
     let start : Start = record { from = r.life.from; base = r.life.base } in
     let each : EachOn (LineIs f) [] lines = each_steps (LineIs f) [] r.steps (λ p step at q l there. record { round = span_of h (flat_map lines_in (take p r.steps)) (lines_in step); lawful = lawful.lawful.each p step at q l there }) in
-    let said = rounds_said names 1 rounds r.steps lawful.told fits in
-    let lines_few : length lines ≤ 2 ^ 25 = let k = lines_short 1 rounds r.steps lawful.told in let m = small.turns in omega arith in
+    let said = rounds_said names 1 all r.steps lawful.told fits in
+    let lines_few : length lines ≤ 2 ^ 25 = let k = lines_short 1 all r.steps lawful.told in let m = small.turns in omega arith in
     let line_fit = lines_fit names f lines (omega arith) each said in
     let has = recursion_from_All (λ e. IsTrue (has_line lines e)) h lawful.lawful.no_other in
     let named = all_event_fit names h lines line_fit has in
     let plain = all_weaker (EventFits names) IsPlain (λ e k. named_plain e k.named) h named in
-    let log = log_fits r.life.base _ h r.life.recs r.life.flushed r.life.end small.base_is lawful.history (log_of tells banks rounds base r begins lawful) in
+    let log = log_fits r.life.base _ h r.life.recs r.life.flushed r.life.end small.base_is lawful.history (log_of tells banks all base r begins lawful) in
     let can : CanTell f = record { base = small.base_is; history = lawful.history; plain = plain; banks = few_banks; flushed = log.flushed_to } in
     let sayable = lines_sayable names f lines can (omega arith) each said in
-    let climb = climbs (length names) (speakers lines) (rounds_seen 1 rounds r.steps lawful.told ∙ seen) in
-    let w = rounds_reach names 0 (length names) [] [] 0 (begin start) rounds r.steps small.names_are small.few (begins_between names start) lawful.told fits sayable (counted_from f [] lines each) climb (let k = rounds_short names 1 rounds r.steps lawful.told fits in let m = small.turns in omega arith) in
-    let all = none_left names w.between.known w.between.rest w.between.so_far.split w.between.count in
-    ends_whole tells banks names rounds base r w.last begins last lawful small named
+    let climb = climbs (length names) (speakers lines) (rounds_seen 1 all r.steps lawful.told ∙ seen) in
+    let w = rounds_reach names 0 (length names) [] [] 0 (begin start) all r.steps small.names_are small.few (begins_between names start) lawful.told fits (dumps_fit f r.steps few_banks lawful.dumps) sayable (counted_from f [] lines each) climb (let k = rounds_short names all fits in let m = small.turns in omega arith) in
+    let known = none_left names w.between.known w.between.rest w.between.so_far.split w.between.count in
+    ends_whole tells banks names all base r w.last begins last lawful small named
     (record {
-      names_are = w.between.so_far.told ∙ all;
+      names_are = w.between.so_far.told ∙ known;
       begins = w.between.begins;
       lives = w.lives ∙ begin_lives start;
       start = w.start ∙ begin_start start;

@@ -6,3 +6,4 @@ pub mod RoundSizes
 pub mod Steps
 pub mod Levels
 pub mod Whole
+pub mod GenWords

@@ -1,15 +1,14 @@
 -- What the summary of a run counts, and what it counts in the script.
 use Rattle.std.specs.Prelude.{ℕ, Bool, true, false, List, [], ◌∷◌, ◌++◌, codes, length}
 use Rattle.std.specs.Fmt.{decimal}
-use Rattle.std.specs.List.{filter, flat_map}
+use Rattle.std.specs.List.{flat_map}
 use Rattle.tx_events.specs.declared.event.Event.{Event}
 use Rattle.tx_events.specs.declared.event.Event.TheVariants as events
-use Rattle.tx_model.specs.declared.reply.Reply.{Reply}
-use Rattle.tx_model.specs.declared.reply.Reply.TheVariants as replies
 use Rattle.tx_model.specs.declared.report.LifeReport.{LifeReport}
 use Rattle.tx_model.specs.declared.report.Line.{Line}
 use Rattle.tx_model.specs.Rounds.{lines_in}
 use Rattle.report_text.specs.Words.{line_text}
+pub use Rattle.run_law.specs.Counting.{how_many, is_verdict}
 use Rattle.script_gen.specs.declared.summary.Summary.{Summary}
 
 -- ---- of a report
@@ -35,9 +34,6 @@ abbrev pub is_snap : Event → Bool
 is_snap (events.Snap by name) = true
 is_snap event = false
 
-abbrev pub how_many : {X : Type 0} → (X → Bool) → List X → ℕ
-how_many test all = length (filter test all)
-
 -- of a history, and of so many commands of which so many were answered a verdict
 abbrev pub summary_by : List Event → ℕ → ℕ → Summary
 summary_by history commands sees = record {
@@ -49,11 +45,6 @@ summary_by history commands sees = record {
   snaps = how_many is_snap history;
   sees = sees;
 }
-
--- `visible` or `hidden`
-abbrev pub is_verdict : Reply → Bool
-is_verdict (replies.Seen visible) = true
-is_verdict reply = false
 
 abbrev pub summary_of_lines : List Event → List Line → Summary
 summary_of_lines history lines = summary_by history (length lines) (how_many (λ l. is_verdict l.reply) lines)

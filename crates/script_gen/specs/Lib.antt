@@ -4,3 +4,5 @@ pub mod Generated
 pub mod Writing
 pub mod Counts
 pub mod Laws
+pub mod Words
+pub mod Summaries

@@ -7,7 +7,9 @@ pub mod laws;
 mod summary;
 #[cfg(test)]
 mod tests;
+mod words;
 mod writer;
 
 pub use generator::generate;
 pub use summary::Summary;
+pub use words::{Asked, gen_words};

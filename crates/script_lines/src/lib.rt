@@ -10,6 +10,7 @@ mod kind;
 mod member;
 mod word;
 
+pub use argument::number_in;
 pub use command::command_at;
 pub use directive::{Directive, directive_at};
 pub use header::{Header, is_header_word};

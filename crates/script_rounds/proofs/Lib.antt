@@ -2,3 +2,4 @@ pub mod ListLemmas
 pub mod ItemLemmas
 pub mod RoundLemmas
 pub mod PlanLemmas
+pub mod Counting

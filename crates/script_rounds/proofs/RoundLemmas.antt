@@ -1,6 +1,6 @@
 -- The commands of a round, session by session, and the rounds of a script.
 use Rattle.tx_events.proofs.ListSteps.{eqb-refl}
-use Rattle.std.proofs.Common.{◌≡◌, ◌≢◌, ℕ, ◌+◌, ◌<◌, ◌≤◌, ◌⊎◌, ◌==◌, List, [], ◌∷◌, ◌++◌, refl, sym, ap, subst, ◌∙◌, arith, ⊎_elim, Bool, true, false, not, cond, length, map, take, drop, get_or, append-nil, append_assoc, length-append, eqb-true, add-zero}
+use Rattle.std.proofs.Common.{◌≡◌, ◌≢◌, ℕ, ◌+◌, ◌<◌, ◌≤◌, ◌⊎◌, ◌==◌, List, [], ◌∷◌, ◌++◌, refl, sym, ap, ◌∙◌, arith, ⊎_elim, Bool, true, false, not, cond, length, map, take, drop, get_or, append-nil, append_assoc, length-append, eqb-true}
 use Rattle.std.proofs.lemmas.Bool.{false≢true}
 use Rattle.std.proofs.lemmas.Bool.Decides.{nat_tests}
 use Rattle.std.proofs.lemmas.Grind.{flat_map-append}
@@ -9,16 +9,11 @@ use Rattle.std.proofs.lemmas.List.Elements.{filter-append, filter_map-append}
 use Rattle.std.proofs.lemmas.List.Filters.{length-filter_both}
 use Rattle.std.specs.List.{AllByRecursion, filter, flat_map}
 use Rattle.tx_model.specs.declared.command.Command.{Command}
-use Rattle.tx_model.specs.declared.report.Line.{Line}
-use Rattle.tx_model.specs.declared.report.Step.{Step}
-use Rattle.tx_model.specs.declared.report.Step.TheVariants as steps
-use Rattle.tx_model.specs.Rounds.{AreRounds, lines_in}
-use Rattle.tx_model.specs.Lines.{AreLinesOf, grouped, turn_of}
+use Rattle.tx_model.specs.Asked as asked
 use Rattle.tx_events.specs.Places.{first_seen}
 use Rattle.session_lang.specs.declared.script.Item.{Item}
 use Rattle.session_lang.specs.declared.script.Item.TheVariants as items
-use Rattle.session_lang.specs.Rounds.{round_of, rounds_from, rounds_of, sessions_in, turns_of}
-use Rattle.script_rounds.specs.Told.{round_step}
+use Rattle.session_lang.specs.Rounds.{asked_at, asked_from, asked_in, asked_of, asked_round, sessions_in, turns_of}
 use Rattle.run_law.specs.Turns.{is_command, turn_in, turns_in}
 
 -- the commands of the sessions other than x
@@ -109,78 +104,46 @@ others_turn n s c d = let e : (s == n) ≡ false = grind (arith, nat_tests) in r
 pub own_turn : (n : ℕ) (c : Command) → turns_of n (turns_in (items.Run n c ∷ [])) ≡ (n, c) ∷ []
 own_turn n c = rw (eqb-refl n) refl
 
--- a round's commands, and what stands behind the directive that ends it
-commands_then : (turns : List (ℕ × Command)) (round rest : List Item) (d : Item) → AllByRecursion (λ item. is_command item ≡ true) round → is_command d ≡ false → rounds_from turns (round ++ d ∷ rest) ≡ round_of (turns ++ turns_in round) ++ rounds_of rest
-commands_then turns [] rest items.Round a e = ap (λ ts. round_of ts ++ rounds_of rest) (sym (append-nil turns))
-commands_then turns [] rest items.Checkpoint a e = ap (λ ts. round_of ts ++ rounds_of rest) (sym (append-nil turns))
-commands_then turns [] rest (items.Crash how) a e = ap (λ ts. round_of ts ++ rounds_of rest) (sym (append-nil turns))
-commands_then turns [] rest (items.Dump what at size) a e = ap (λ ts. round_of ts ++ rounds_of rest) (sym (append-nil turns))
-commands_then turns [] rest (items.Run s c) a e = absurd (false≢true (sym e))
-commands_then turns (items.Run s c ∷ round) rest d a e =
-    commands_then (turns ++ (s, c) ∷ []) round rest d a.1 e ∙ ap (λ ts. round_of ts ++ rounds_of rest) (append_assoc turns ((s, c) ∷ []) (turns_in round))
-commands_then turns (items.Round ∷ round) rest d a e = absurd (false≢true a.0)
-commands_then turns (items.Checkpoint ∷ round) rest d a e = absurd (false≢true a.0)
-commands_then turns (items.Crash how ∷ round) rest d a e = absurd (false≢true a.0)
-commands_then turns (items.Dump what at size ∷ round) rest d a e = absurd (false≢true a.0)
+-- a place behind a list, and at its end
+get_behind : {X : Type 0} → (xs ys : List X) (x d : X) → get_or (xs ++ x ∷ ys) (length xs) d ≡ x
+get_behind [] ys x d = refl
+get_behind (y ∷ xs) ys x d = get_behind xs ys x d
 
-only_commands : (turns : List (ℕ × Command)) (round : List Item) → AllByRecursion (λ item. is_command item ≡ true) round → rounds_from turns round ≡ round_of (turns ++ turns_in round)
-only_commands turns [] a = ap round_of (sym (append-nil turns))
-only_commands turns (items.Run s c ∷ round) a = only_commands (turns ++ (s, c) ∷ []) round a.1 ∙ ap round_of (append_assoc turns ((s, c) ∷ []) (turns_in round))
+get_past : {X : Type 0} → (xs : List X) (d : X) → get_or xs (length xs) d ≡ d
+get_past [] d = refl
+get_past (y ∷ xs) d = get_past xs d
+
+-- what is asked up to the directive that ends a round, by it, and behind it
+asked_then : (turns : List (ℕ × Command)) (round rest : List Item) (d : Item) → AllByRecursion (λ item. is_command item ≡ true) round → is_command d ≡ false → asked_from turns (round ++ d ∷ rest) ≡ asked_round (turns ++ turns_in round) ++ (asked_in d ++ asked_of rest)
+asked_then turns [] rest items.Round a e = ap (λ ts. asked_round ts ++ asked_of rest) (sym (append-nil turns))
+asked_then turns [] rest items.Checkpoint a e = ap (λ ts. asked_round ts ++ asked_of rest) (sym (append-nil turns))
+asked_then turns [] rest (items.Crash how) a e = ap (λ ts. asked_round ts ++ asked_of rest) (sym (append-nil turns))
+asked_then turns [] rest (items.Dump what at size) a e = ap (λ ts. asked_round ts ++ asked.dump what at size ∷ asked_of rest) (sym (append-nil turns))
+asked_then turns [] rest (items.Run s c) a e = absurd (false≢true (sym e))
+asked_then turns (items.Run s c ∷ round) rest d a e =
+    asked_then (turns ++ (s, c) ∷ []) round rest d a.1 e ∙ ap (λ ts. asked_round ts ++ (asked_in d ++ asked_of rest)) (append_assoc turns ((s, c) ∷ []) (turns_in round))
+asked_then turns (items.Round ∷ round) rest d a e = absurd (false≢true a.0)
+asked_then turns (items.Checkpoint ∷ round) rest d a e = absurd (false≢true a.0)
+asked_then turns (items.Crash how ∷ round) rest d a e = absurd (false≢true a.0)
+asked_then turns (items.Dump what at size ∷ round) rest d a e = absurd (false≢true a.0)
+
+only_commands : (turns : List (ℕ × Command)) (round : List Item) → AllByRecursion (λ item. is_command item ≡ true) round → asked_from turns round ≡ asked_round (turns ++ turns_in round)
+only_commands turns [] a = ap asked_round (sym (append-nil turns))
+only_commands turns (items.Run s c ∷ round) a = only_commands (turns ++ (s, c) ∷ []) round a.1 ∙ ap asked_round (append_assoc turns ((s, c) ∷ []) (turns_in round))
 only_commands turns (items.Round ∷ round) a = absurd (false≢true a.0)
 only_commands turns (items.Checkpoint ∷ round) a = absurd (false≢true a.0)
 only_commands turns (items.Crash how ∷ round) a = absurd (false≢true a.0)
 only_commands turns (items.Dump what at size ∷ round) a = absurd (false≢true a.0)
 
--- the rounds of a script: its first one, and those of the rest
-pub first_round : (script round rest : List Item) → AllByRecursion (λ item. is_command item ≡ true) round → ((script ≡ round) × (rest ≡ [])) ⊎ ((d : Item) × (is_command d ≡ false) × (script ≡ round ++ d ∷ rest)) → rounds_of script ≡ round_of (turns_in round) ++ rounds_of rest
-first_round script round rest a k = ⊎_elim
-    (λ (b : (script ≡ round) × (rest ≡ [])). ap rounds_of b.0 ∙ only_commands [] round a ∙ sym (append-nil (round_of (turns_in round))) ∙ ap (λ t. round_of (turns_in round) ++ rounds_of t) (sym b.1))
-    (λ (b : (d : Item) × (is_command d ≡ false) × (script ≡ round ++ d ∷ rest)). ap rounds_of b.2 ∙ commands_then [] round rest b.0 a b.1)
+-- what a script asks for: its first round, the directive behind that, and what the rest asks for
+pub first_asked : (script round rest : List Item) → AllByRecursion (λ item. is_command item ≡ true) round → ((script ≡ round) × (rest ≡ [])) ⊎ ((d : Item) × (is_command d ≡ false) × (script ≡ round ++ d ∷ rest)) → asked_of script ≡ asked_round (turns_in round) ++ (asked_at script (length round) ++ asked_of rest)
+first_asked script round rest a k = ⊎_elim
+    (λ (b : (script ≡ round) × (rest ≡ [])).
+    let none : asked_at script (length round) ≡ [] = ap (λ all. asked_at all (length round)) b.0 ∙ ap asked_in (get_past round items.Round) in
+    ap asked_of b.0 ∙ only_commands [] round a ∙ sym (append-nil (asked_round (turns_in round)))
+    ∙ ap (λ t. asked_round (turns_in round) ++ (t ++ asked_of [])) (sym none)
+    ∙ ap (λ t. asked_round (turns_in round) ++ (asked_at script (length round) ++ asked_of t)) (sym b.1))
+    (λ (b : (d : Item) × (is_command d ≡ false) × (script ≡ round ++ d ∷ rest)).
+    let one : asked_at script (length round) ≡ asked_in b.0 = ap (λ all. asked_at all (length round)) b.2 ∙ ap asked_in (get_behind round rest b.0 items.Round) in
+    ap asked_of b.2 ∙ asked_then [] round rest b.0 a b.1 ∙ ap (λ t. asked_round (turns_in round) ++ (t ++ asked_of rest)) (sym one))
     k
-
-pub no_lines : (lines : List Line) → map turn_of lines ≡ [] → lines ≡ []
-no_lines [] e = refl
-no_lines (l ∷ lines) e = absurd cc
-
-pub some_lines : (t : ℕ × Command) (turns : List (ℕ × Command)) (lines : List Line) → map turn_of lines ≡ grouped (t ∷ turns) → lines ≢ []
-some_lines t turns lines e n =
-    let same : map turn_of [] ≡ grouped (t ∷ turns) = ap (map turn_of) (sym n) ∙ e in
-    cons≢nil (sym (same ∙ first_group))
-  where
-    rest : List (ℕ × Command)
-    rest = turns_of t.0 turns
-
-    first_group : grouped (t ∷ turns) ≡ (t ∷ rest) ++ flat_map (λ s. turns_of s (t ∷ turns)) (filter (λ y. not (y == t.0)) (first_seen (map (λ (p : ℕ × Command). p.0) turns)))
-    first_group = ap (λ b. cond b (t ∷ rest) rest ++ flat_map (λ s. turns_of s (t ∷ turns)) (filter (λ y. not (y == t.0)) (first_seen (map (λ (p : ℕ × Command). p.0) turns)))) (eqb-refl t.0)
-
-    cons≢nil : {X : Type 0} {x : X} {xs : List X} → x ∷ xs ≡ [] → ⊥
-    cons≢nil e = cc
-
-last_round : (n : ℕ) (turns : List (ℕ × Command)) (lines : List Line) → AreLinesOf turns lines → AreRounds n (round_of turns) (round_step n lines)
-last_round n [] lines e = subst (λ ls. AreRounds n [] (round_step n ls)) (sym (no_lines lines e)) tt
-last_round n (t ∷ turns) [] e = absurd (some_lines t turns [] e refl)
-last_round n (t ∷ turns) (l ∷ lines) e = (refl, e, tt)
-
--- a round more, numbered on
-pub rounds_push : (n : ℕ) (done : List (List (ℕ × Command))) (ss : List Step) (turns : List (ℕ × Command)) (lines : List Line) → AreRounds n done ss → AreLinesOf turns lines → AreRounds n (done ++ round_of turns) (ss ++ round_step (n + length ss) lines)
-rounds_push n [] [] turns lines a e = subst (λ m. AreRounds n (round_of turns) (round_step m lines)) (sym (add-zero n)) (last_round n turns lines e)
-rounds_push n (ts ∷ done) (steps.Round number ls ∷ ss) turns lines a e = (
-  a.0,
-  a.1,
-  subst (λ m. AreRounds (n + 1) (done ++ round_of turns) (ss ++ round_step m lines)) (omega arith) (rounds_push (n + 1) done ss turns lines a.2 e),
-)
-rounds_push n [] (s ∷ ss) turns lines a e = absurd a
-rounds_push n (ts ∷ done) [] turns lines a e = absurd a
-rounds_push n (ts ∷ done) (steps.Checkpoint reply ∷ ss) turns lines a e = absurd a
-rounds_push n (ts ∷ done) (steps.Dump what at size reply ∷ ss) turns lines a e = absurd a
-
--- a round that ends moves its lines
-pub lines_ended : (ss : List Step) (n : ℕ) (lines : List Line) → flat_map lines_in (ss ++ round_step n lines) ++ [] ≡ flat_map lines_in ss ++ lines
-lines_ended ss n lines =
-    append-nil (flat_map lines_in (ss ++ round_step n lines))
-    ∙ flat_map-append lines_in ss (round_step n lines)
-    ∙ ap (λ ls. flat_map lines_in ss ++ ls) (of_step lines)
-  where
-    of_step : (ls : List Line) → flat_map lines_in (round_step n ls) ≡ ls
-    of_step [] = refl
-    of_step (l ∷ ls) = append-nil (l ∷ ls)

@@ -1,10 +1,14 @@
-//! The rounds of a script: which commands of a round are whose, and what was told of them.
+//! The rounds of a script: which commands of a round are whose, what was told of them, and what is kept of that.
 #![tactic(auto)]
 
+mod keeper;
 mod plan;
+mod tally;
 mod told;
 mod turns;
 
+pub use keeper::LineKeeper;
 pub use plan::Plan;
-pub use told::{ToldLines, ToldSteps};
+pub use tally::Tally;
+pub use told::ToldLines;
 pub use turns::{command_at, next_round};

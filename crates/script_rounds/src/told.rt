@@ -1,12 +1,10 @@
-//! What a life has told so far, for contracts alone: its text is written as it goes on.
-ghost use Rattle.std.specs.Prelude.{◌≡◌, ℕ, ◌+◌, List, [], ◌∷◌, ◌++◌, length};
+//! What a session has told in a round, for contracts alone: its text is written as it goes on.
+ghost use Rattle.std.specs.Prelude.{◌≡◌, List, [], ◌∷◌, ◌++◌};
 ghost use Rattle.tx_model.specs.declared.report.Line.{Line};
-ghost use Rattle.tx_model.specs.declared.report.Step.{Step};
-ghost use Rattle.script_rounds.specs.Told.{round_step};
 
 use notes::Note;
 use std::marker::Model;
-use tx_model::{By, Command, LineList, Reply, StepList};
+use tx_model::{By, Command, LineList, Reply};
 
 /// The lines of the round that runs.
 #[derive(Drop)]
@@ -23,21 +21,6 @@ impl Model for ToldLines {
     ghost view = { λ t. t.note.value };
 }
 
-/// The rounds that are done.
-#[derive(Drop)]
-pub struct ToldSteps {
-    note: Note<StepList>,
-}
-
-impl Model for ToldSteps {
-    ghost use Rattle.std.specs.Prelude.{List};
-    ghost use Rattle.tx_model.specs.declared.report.Step.{Step};
-
-    ghost Value = { List Step };
-
-    ghost view = { λ t. t.note.value };
-}
-
 fn noted_line(_lines: &ToldLines, _by: By, _command: &Command, _reply: &Reply) -> Note<LineList>
     ghost noted: { List Line }
     ensures { result.value ≡ noted }
@@ -45,8 +28,8 @@ fn noted_line(_lines: &ToldLines, _by: By, _command: &Command, _reply: &Reply) -
     Note::of()
 }
 
-fn noted_round(_steps: &ToldSteps, _lines: &ToldLines) -> Note<StepList>
-    ghost noted: { List Step }
+fn noted_lines(_lines: &ToldLines, _more: &ToldLines) -> Note<LineList>
+    ghost noted: { List Line }
     ensures { result.value ≡ noted }
 {
     Note::of()
@@ -66,22 +49,12 @@ impl ToldLines {
         let note = noted_line(self, by, command, reply);
         self.note = note;
     }
-}
 
-impl ToldSteps {
-    pub fn none() -> ToldSteps
-        ensures { result ≡ [] }
+    /// Adds these lines.
+    pub fn add_all(&mut self, more: &ToldLines)
+        ensures { self.new ≡ self.old ++ more.now }
     {
-        ToldSteps { note: Note::of() }
-    }
-
-    /// Ends the round that runs: its lines become a step, where it has any. Rounds count from 1.
-    pub fn end_round(&mut self, lines: &mut ToldLines)
-        ensures step { self.new ≡ self.old ++ round_step (length self.old + 1) lines.old }
-        ensures lines { lines.new ≡ [] }
-    {
-        let note = noted_round(self, lines);
+        let note = noted_lines(self, more);
         self.note = note;
-        *lines = ToldLines::none();
     }
 }

@@ -3,10 +3,10 @@ ghost use Rattle.std.specs.Prelude.{◌≡◌, ◌≤◌, IfOk, get_or, length};
 ghost use Rattle.std.specs.List.{prefix_len};
 ghost use Rattle.life_law.specs.Commands.{has_command};
 ghost use Rattle.session_lang.specs.declared.script.Item.TheVariants as variants;
-ghost use Rattle.run_law.specs.Turns.{has_item};
+ghost use Rattle.run_law.specs.Turns.{has_dump, has_item};
 
 use session_lang::{Item, Items};
-use tx_model::{Command, Memory};
+use tx_model::{Command, DumpOf, Memory};
 
 fn has_command(command: &Command) -> bool
     ensures { result ≡ has_command command.now }
@@ -29,12 +29,22 @@ fn has_command(command: &Command) -> bool
     }
 }
 
+fn has_dump(what: &DumpOf) -> bool
+    ensures { result ≡ has_dump what.now }
+{
+    match what {
+        DumpOf::Log | DumpOf::Xact { .. } | DumpOf::Subtrans { .. } => true,
+        _ => false,
+    }
+}
+
 fn has_item(item: &Item) -> bool
     ensures { result ≡ has_item item.now }
 {
     match item {
         Item::Run { command, .. } => has_command(command),
         Item::Round => true,
+        Item::Dump { what, .. } => has_dump(what),
         _ => false,
     }
 }

@@ -15,3 +15,4 @@ pub mod PlainItems
 pub mod PlainHeader
 pub mod PlainScript
 pub mod PlainText
+pub mod Asking

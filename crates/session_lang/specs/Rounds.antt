@@ -1,7 +1,9 @@
 -- The commands of a script, round by round.
-use Rattle.std.specs.Prelude.{ℕ, ◌≤◌, List, [], ◌∷◌, ◌++◌, Option, Some, None, ◌==◌, length}
+use Rattle.std.specs.Prelude.{ℕ, ◌≤◌, List, [], ◌∷◌, ◌++◌, Option, Some, None, ◌==◌, get_or, length}
 use Rattle.std.specs.List.{filter, filter_map}
 use Rattle.tx_model.specs.declared.command.Command.{Command}
+use Rattle.tx_model.specs.Asked as asked
+use Rattle.tx_model.specs.Asked.{Asked}
 use Rattle.session_lang.specs.declared.script.Item.{Item}
 use Rattle.session_lang.specs.declared.script.Item.TheVariants as items
 
@@ -26,6 +28,29 @@ rounds_from turns (_ ∷ script) = round_of turns ++ rounds_from [] script
 
 abbrev pub rounds_of : List Item → List (List (ℕ × Command))
 rounds_of script = rounds_from [] script
+
+-- a round is asked for where it has commands
+abbrev pub asked_round : List (ℕ × Command) → List Asked
+asked_round [] = []
+asked_round (t ∷ turns) = asked.round (t ∷ turns) ∷ []
+
+-- what a directive asks for between two rounds
+abbrev pub asked_in : Item → List Asked
+asked_in (items.Dump what at size) = asked.dump what at size ∷ []
+asked_in _ = []
+
+-- what is asked for at a place: nothing behind the last item
+abbrev pub asked_at : List Item → ℕ → List Asked
+asked_at script place = asked_in (get_or script place items.Round)
+
+-- what a life of the script is asked for, in order
+abbrev pub asked_from : List (ℕ × Command) → List Item → List Asked
+asked_from turns [] = asked_round turns
+asked_from turns (items.Run session command ∷ script) = asked_from (turns ++ (session, command) ∷ []) script
+asked_from turns (directive ∷ script) = asked_round turns ++ (asked_in directive ++ asked_from [] script)
+
+abbrev pub asked_of : List Item → List Asked
+asked_of script = asked_from [] script
 
 -- the commands since the last directive
 abbrev pub open_from : List (ℕ × Command) → List Item → List (ℕ × Command)

@@ -1,12 +1,13 @@
 //! An item of a script in twelve bytes, and what stands apart.
-ghost use Rattle.std.specs.Prelude.{◌≡◌, IfOk};
+ghost use Rattle.std.specs.Prelude.{◌≡◌, [], IfNone, IfOk, IfSome};
 ghost use Rattle.tx_events.specs.Ids.{IsFullMulti, IsXidNumber};
 ghost use Rattle.session_lang.specs.Packed.{IsIdOf, IsPacked, dump_of, id_command, named_command, plain_command};
 ghost use Rattle.session_lang.specs.Packed.{unpacked, whole};
 ghost use Rattle.session_lang.specs.declared.packed.Apart.{Apart};
-ghost use Rattle.session_lang.specs.Rounds.{session_of};
+ghost use Rattle.session_lang.specs.Rounds.{asked_in, session_of};
+ghost use Rattle.session_lang.specs.declared.script.Item.TheVariants as items;
 
-use crate::script::Item;
+use crate::script::{Dump, Item};
 use std::alloc::Global;
 use tx_events::{FullMulti, FullXid, MultiId, Xid};
 use tx_model::{Command, DumpOf, How, Memory, Name, Pair, PairList, Sequence};
@@ -259,6 +260,23 @@ pub fn packed_session(packed: &PackedItem) -> Option<u32>
         | PackedItem::Multi { session, .. } => Some(u32::from(*session)),
         _ => None,
     }
+}
+
+/// The dump that an item in short asks for, if it does.
+pub fn packed_dump(apart: &Apart, packed: &PackedItem) -> Option<Dump>
+    requires { IsPacked apart.now packed.now }
+    ensures some { IfSome result (λ d. unpacked apart.now packed.now ≡ items.Dump d.what d.at d.length) }
+    ensures none { IfNone result (asked_in (unpacked apart.now packed.now) ≡ []) }
+{
+    let PackedItem::Dump { kind, page, at } = *packed else {
+        return None;
+    };
+    let span = apart.spans[at as usize];
+    Some(Dump {
+        what: dump_of(kind, page),
+        at: span.at.whole(),
+        length: span.length,
+    })
 }
 
 /// The item that is meant.

@@ -24,6 +24,14 @@ impl Copied for Item {
     }
 }
 
+/// The bytes that a dump shows: `length` of them from place `at` on.
+#[derive(Clone, Copy, Debug, PartialEq, Eq)]
+pub struct Dump {
+    pub what: DumpOf,
+    pub at: u64,
+    pub length: u32,
+}
+
 /// A script: the counters and the number of banks that its header gives, the sessions' names in the order in which
 /// they appear, and its lines.
 #[derive(Drop)]

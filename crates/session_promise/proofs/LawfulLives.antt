@@ -1,40 +1,36 @@
 -- The promises of all sessions make a lawful life.
-use Rattle.std.proofs.Common.{List, [], ap, refl, subst, sym, ℕ, ◌+◌, ◌≡◌, ◌≤◌, ◌∙◌, ◌∷◌}
+use Rattle.std.proofs.Common.{List, ap, subst, sym, ℕ, ◌≡◌, ◌≤◌, ◌∙◌}
 use Rattle.std.specs.List.{flat_map}
 use Rattle.tx_events.specs.declared.event.Event.{Event}
 use Rattle.tx_events.specs.declared.record.Counters.{Counters}
 use Rattle.tx_events.specs.declared.record.Rec.{Rec}
 use Rattle.tx_events.specs.declared.record.Rec.TheVariants as records
 use Rattle.tx_events.specs.History.{IsLegal}
-use Rattle.tx_model.specs.declared.command.Command.{Command}
 use Rattle.tx_model.specs.declared.report.Line.{Line}
-use Rattle.tx_model.specs.Rounds.{AreRounds, lines_in}
+use Rattle.tx_model.specs.Rounds.{lines_in}
 use Rattle.life_law.specs.Facts.{log_faults}
 use Rattle.life_law.specs.LawfulLife.{AreLawfulSteps, facts_of}
 use Rattle.life_law.specs.LifeLog.{IsLogOf}
 use Rattle.life_law.specs.Pending.{IsOpenAsTold}
-use Rattle.session_promise.specs.Closing.{AreRoundsOf, PromisesMakeLife, steps_of}
-use Rattle.session_promise.specs.Told.{ToldRound, all_lines}
+use Rattle.session_promise.specs.Closing.{PromisesMakeLife}
+use Rattle.session_promise.specs.Told.{all_lines}
+use Rattle.session_promise.proofs.Between.{lines_of_rounds, step_lines}
+use Rattle.session_promise.proofs.LawfulDumps.{dumps_lawful}
 use Rattle.session_promise.proofs.LawfulLog.{promises_make_log}
-use Rattle.session_promise.proofs.LawfulSteps.{promises_make_steps, step_lines}
+use Rattle.session_promise.proofs.LawfulSteps.{promises_make_steps}
 use Rattle.session_promise.proofs.OneFault.{faults_once}
 use Rattle.session_promise.proofs.Opened.{opened_told}
 
-rounds_told : (n : ℕ) (commands : List (List (ℕ × Command))) (rounds : List ToldRound) → AreRoundsOf commands rounds → AreRounds n commands (steps_of n rounds)
-rounds_told n [] [] a = tt
-rounds_told n [] (r ∷ rounds) a = absurd a
-rounds_told n (turns ∷ commands) [] a = absurd a
-rounds_told n (turns ∷ commands) (r ∷ rounds) a = (refl, a.0, rounds_told (n + 1) commands rounds a.1)
-
 pub promises_make_life : PromisesMakeLife
-promises_make_life tells start lists rounds commands r begins over few asked is gate =
+promises_make_life tells start lists rounds asked r begins over few told dumps is gate =
     let made = promises_make_steps tells start lists rounds r begins over few is in
-    let lines : flat_map lines_in r.steps ≡ all_lines rounds = ap (flat_map lines_in) is.steps ∙ step_lines 1 rounds in
+    let lines : flat_map lines_in r.steps ≡ all_lines rounds = sym (lines_of_rounds r.steps) ∙ (ap (flat_map lines_in) is.steps ∙ step_lines 1 rounds) in
     let log = promises_make_log tells start lists rounds r.life.end begins over gate in record {
       history = subst (λ (x : Counters × List Event). IsLegal x.0 x.1) (λ j. (sym is.base j, sym is.events j)) over.kept.events.legal;
-      told = subst (AreRounds 1 commands) (sym is.steps) (rounds_told 1 commands rounds asked);
+      told = told;
       in_turn = made.1;
       lawful = subst (λ (ls : List Line). AreLawfulSteps (facts_of tells start.banks r.life ls) r.steps) (sym lines) made.0;
+      dumps = dumps_lawful tells start lists rounds over r is dumps;
       multis = is.multis;
       log = subst (λ (x : (ℕ × Counters) × ((List Event × List Rec) × ℕ)). IsLogOf x.0.0 (records.Checkpoint x.0.0 x.0.1) x.1.0.0 x.1.0.1 x.1.1 r.life.end)
           (λ j. ((sym is.from j, sym is.base j), ((sym is.events j, sym is.recs j), sym is.flushed j))) log;

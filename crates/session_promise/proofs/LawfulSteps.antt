@@ -1,6 +1,6 @@
 -- The promises of all sessions make lawful lines, round by round.
 use Rattle.std.proofs.Common.{Bool, IsTrue, List, None, Option, Some, [], ap, append-nil, append_assoc, cond, drop, length, refl, subst, sym, take, true, zero, suc, ℕ, ◌+◌, ◌++◌, ◌<◌, ◌≡◌, ◌∙◌, ◌∷◌}
-use Rattle.std.specs.List.{count_by, filter, flat_map, slice_get}
+use Rattle.std.specs.List.{All, count_by, filter, flat_map, slice_get}
 use Rattle.std.proofs.Math.Seq.{take-append_seam}
 use Rattle.std.proofs.lemmas.Grind.{flat_map-append}
 use Rattle.std.proofs.lemmas.List.{map-append, take-append-drop}
@@ -17,7 +17,7 @@ use Rattle.tx_events.specs.Events.{events_of, given}
 use Rattle.tx_events.specs.Places.{EachPlace}
 use Rattle.tx_events.proofs.ListSteps.{eqb-refl, filter_all, filter_passes}
 use Rattle.tx_events.proofs.Membership.{all_at, all_from, place_has}
-use Rattle.tx_events.proofs.PlaceLemmas.{last_at, slice_get-grows}
+use Rattle.tx_events.proofs.PlaceLemmas.{each_place_none, last_at, slice_get-grows}
 use Rattle.tx_model.specs.declared.command.Command.{Command}
 use Rattle.tx_model.specs.declared.command.Command.TheVariants as commands
 use Rattle.tx_model.specs.declared.reply.Reply.{Reply}
@@ -26,7 +26,7 @@ use Rattle.tx_model.specs.declared.report.Line.{Line}
 use Rattle.tx_model.specs.declared.report.Step.{Step}
 use Rattle.tx_model.specs.declared.report.Step.TheVariants as steps
 use Rattle.tx_model.specs.CommandEvents.{HasEvents}
-use Rattle.tx_model.specs.Rounds.{AreInTurn, StandFirst, lines_in}
+use Rattle.tx_model.specs.Rounds.{AreInTurn, StandFirst, is_round, lines_in}
 use Rattle.tx_model.specs.Lines.{has_line, is_line_of, span_of, stance}
 use Rattle.tx_model.specs.Replies.{RoundSpan}
 use Rattle.tx_model.specs.Stance.{Stance, after, nothing_yet, stance_from, top_level}
@@ -40,9 +40,10 @@ use Rattle.tx_core.specs.declared.entry.Entry.{Entry}
 use Rattle.tx_core.specs.declared.entry.Start.{Start}
 use Rattle.tx_core.specs.Entries.{AreFewIds, history}
 use Rattle.engine_parts.specs.Stages.{pending_in}
-use Rattle.session_promise.specs.Closing.{BeginsNewLog, IsOver, PromisesMakeSteps, steps_of}
+use Rattle.session_promise.specs.Closing.{BeginsNewLog, IsOver, PromisesMakeSteps}
 use Rattle.session_promise.specs.Promise.{IsToldWell, recs_of}
-use Rattle.session_promise.specs.Told.{Follow, Told, ToldRound, all_lines, lines_by, lines_of, told_by, told_in, told_of}
+use Rattle.session_promise.specs.Told.{Follow, Told, ToldRound, all_lines, lines_by, lines_of, steps_of, told_by, told_in, told_of}
+use Rattle.session_promise.proofs.Between.{each_between, in_turn_between, lines_of_rounds, step_lines}
 use Rattle.session_promise.proofs.FewIds.{levels_bound_ids}
 use Rattle.session_promise.proofs.LawfulReplies.{facts, lawful_reply}
 use Rattle.session_promise.proofs.Standing.{all_told, follow_split, front_counts, lines_have, stands_first}
@@ -75,10 +76,6 @@ step_at : (n i : ℕ) (rounds : List ToldRound) (step : Step) → slice_get (ste
 step_at n i [] step e = absurd cc
 step_at n zero (r ∷ rounds) step e = let same : steps.Round n r.lines ≡ step = cc in record { round = r; at = refl; lines = ap lines_in (sym same) }
 step_at n (suc i) (r ∷ rounds) step e = let s = step_at (n + 1) i rounds step e in record { round = s.round; at = s.at; lines = s.lines }
-
-pub step_lines : (n : ℕ) (rounds : List ToldRound) → flat_map lines_in (steps_of n rounds) ≡ all_lines rounds
-step_lines n [] = refl
-step_lines n (r ∷ rounds) = ap (λ ls. r.lines ++ ls) (step_lines (n + 1) rounds)
 
 take_lines : (n i : ℕ) (rounds : List ToldRound) → flat_map lines_in (take i (steps_of n rounds)) ≡ all_lines (take i rounds)
 take_lines n zero rounds = refl
@@ -226,11 +223,20 @@ module _ (tells : Bool) (start : Start) (lists : List (List Entry)) (rounds : Li
       let s = follow_split 0 (length h) (take n rounds) (drop n rounds) (subst (λ rs. Follow 0 rs (length h)) cut over.places) in
       subst (StandFirst h) (sym (take_lines 1 n rounds)) (stands_first tells start lists rounds over (take n rounds) (drop n rounds) s.0 cut s.1 s.2)
 
+-- what is lawful of the rounds is so of all steps
+lawful_between : (f : Facts) (ss : List Step) → AreLawfulSteps f (filter is_round ss) → AreLawfulSteps f ss
+lawful_between f ss a = record {
+  each = each_between (IsLawfulRound f) ss (λ before. each_place_none (λ earlier. IsLawfulLine f (span_of f.events before []) (before ++ earlier))) a.each;
+  no_other = subst (λ ls. All (λ e. IsTrue (has_line ls e)) f.events) (lines_of_rounds ss) a.no_other;
+}
+
 pub promises_make_steps : PromisesMakeSteps
 promises_make_steps tells start lists rounds r begins over few is =
     let ids = levels_bound_ids tells start lists rounds over few in
     let same : facts tells start lists rounds over ids ≡ facts_of tells start.banks r.life (all_lines rounds)
     = λ j. record { tells = tells; banks = start.banks; base = sym is.base j; committed = sym is.committed j; events = sym is.events j; recs = sym is.recs j; flushed = sym is.flushed j; log_failed = has_log_fault (all_lines rounds) } in (
-      subst (λ (x : Facts × List Step). AreLawfulSteps x.0 x.1) (λ j. (same j, sym is.steps j)) (lawful tells start lists rounds begins over ids),
-      subst (λ (x : List Event × List Step). AreInTurn x.0 x.1) (λ j. (sym is.events j, sym is.steps j)) (in_turn tells start lists rounds begins over ids),
+      lawful_between (facts_of tells start.banks r.life (all_lines rounds)) r.steps
+          (subst (λ (x : Facts × List Step). AreLawfulSteps x.0 x.1) (λ j. (same j, sym is.steps j)) (lawful tells start lists rounds begins over ids)),
+      in_turn_between r.life.events r.steps
+          (subst (λ (x : List Event × List Step). AreInTurn x.0 x.1) (λ j. (sym is.events j, sym is.steps j)) (in_turn tells start lists rounds begins over ids)),
     )

@@ -15,9 +15,12 @@ pub mod Summing
 pub mod FewIds
 pub mod Standing
 pub mod OneFault
+pub mod Between
+pub mod FaultLines
 pub mod LawfulReplies
 pub mod LawfulSteps
 pub mod LawfulLog
 pub mod Opened
+pub mod LawfulDumps
 pub mod LawfulLives
 pub mod Rounding

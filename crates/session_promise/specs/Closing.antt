@@ -1,16 +1,13 @@
 -- What the promises of all sessions make of a life that is over.
 use Rattle.engine_parts.specs.Sessions.{MayCall}
 use Rattle.engine_parts.specs.Holds.{Knowledge}
-use Rattle.std.specs.Prelude.{◌≡◌, ℕ, ◌+◌, ◌^◌, ◌<◌, Bool, List, [], ◌∷◌, ◌++◌, length}
-use Rattle.std.specs.List.{AllByRecursion, count_by}
+use Rattle.std.specs.Prelude.{◌≡◌, ℕ, ◌^◌, ◌<◌, Bool, List, [], ◌∷◌, ◌++◌, length}
+use Rattle.std.specs.List.{AllByRecursion, count_by, filter}
 use Rattle.notes.specs.Lists.{at}
 use Rattle.tx_events.specs.declared.record.Rec.TheVariants as records
-use Rattle.tx_model.specs.declared.command.Command.{Command}
 use Rattle.tx_model.specs.declared.report.LifeReport.{LifeReport}
-use Rattle.tx_model.specs.declared.report.Step.{Step}
-use Rattle.tx_model.specs.declared.report.Step.TheVariants as steps
-use Rattle.tx_model.specs.Rounds.{AreInTurn}
-use Rattle.tx_model.specs.Lines.{AreLinesOf}
+use Rattle.tx_model.specs.Asked.{Asked}
+use Rattle.tx_model.specs.Rounds.{AreInTurn, AreSteps, is_round}
 use Rattle.life_law.specs.LawfulLife.{AreLawfulSteps, IsLawfulLife, facts_of}
 use Rattle.life_law.specs.LifeLog.{IsLogOf}
 use Rattle.tx_core.specs.declared.entry.Entry.{Entry}
@@ -20,18 +17,8 @@ use Rattle.tx_core.specs.Entries.{AreFewIds, flushed_to, history}
 use Rattle.tx_core.specs.Locks.{log_lock}
 use Rattle.engine_parts.specs.declared.session.Session.{Session}
 use Rattle.session_promise.specs.Promise.{Promise, is_made_level, recs_of}
-use Rattle.session_promise.specs.Told.{Follow, ToldRound, all_lines, told_by}
-
--- the rounds as steps of a report, numbered on from n
-abbrev pub steps_of : ℕ → List ToldRound → List Step
-steps_of n [] = []
-steps_of n (r ∷ rounds) = steps.Round n r.lines ∷ steps_of (n + 1) rounds
-
--- each round's lines are its commands
-abbrev pub AreRoundsOf : List (List (ℕ × Command)) → List ToldRound → Type 0
-AreRoundsOf [] [] = Unit {0}
-AreRoundsOf (turns ∷ commands) (r ∷ rounds) = AreLinesOf turns r.lines × AreRoundsOf commands rounds
-AreRoundsOf commands rounds = ⊥
+use Rattle.session_promise.specs.Dumps.{AreDumpsTold}
+use Rattle.session_promise.specs.Told.{Follow, ToldRound, all_lines, steps_of, told_by}
 
 -- the session may call in these lists, whatever pass it gets
 pub record MayCallIn (start : Start) (lists : List (List Entry)) (n : ℕ) (s : Session) : Type 0 where
@@ -72,7 +59,7 @@ pub record IsReportOf (start : Start) (lists : List (List Entry)) (rounds : List
   pub multis : r.life.multis ≡ []
   pub recs : r.life.recs ≡ start.logged ++ recs_of lists
   pub flushed : r.life.flushed ≡ flushed_to start (at lists log_lock)
-  pub steps : r.steps ≡ steps_of 1 rounds
+  pub steps : filter is_round r.steps ≡ steps_of 1 rounds
 
 -- the lines are lawful, and the rounds stand one after another
 abbrev pub PromisesMakeSteps : Type 0
@@ -93,7 +80,8 @@ PromisesMakeLog =
 abbrev pub PromisesMakeLife : Type 0
 PromisesMakeLife =
     (tells : Bool) (start : Start) (lists : List (List Entry)) (rounds : List ToldRound)
-    (commands : List (List (ℕ × Command))) (r : LifeReport)
+    (asked : List Asked) (r : LifeReport)
     → BeginsNewLog start → IsOver tells start lists rounds → AreFewLevels rounds
-    → AreRoundsOf commands rounds → IsReportOf start lists rounds r → r.life.end < 2 ^ 64
-    → IsLawfulLife tells start.banks commands r
+    → AreSteps 1 asked r.steps → AreDumpsTold start lists rounds r.steps
+    → IsReportOf start lists rounds r → r.life.end < 2 ^ 64
+    → IsLawfulLife tells start.banks asked r

@@ -1,7 +1,9 @@
 -- The lines that sessions told, with the places of their rounds.
-use Rattle.std.specs.Prelude.{◌≡◌, ℕ, ◌≤◌, List, [], ◌∷◌, map}
+use Rattle.std.specs.Prelude.{◌≡◌, ℕ, ◌+◌, ◌≤◌, List, [], ◌∷◌, map}
 use Rattle.std.specs.List.{filter, flat_map}
 use Rattle.tx_model.specs.declared.report.Line.{Line}
+use Rattle.tx_model.specs.declared.report.Step.{Step}
+use Rattle.tx_model.specs.declared.report.Step.TheVariants as steps
 use Rattle.tx_model.specs.Lines.{is_line_of}
 use Rattle.tx_model.specs.Replies.{RoundSpan}
 
@@ -44,3 +46,8 @@ all_lines rounds = flat_map (λ r. r.lines) rounds
 abbrev pub Follow : ℕ → List ToldRound → ℕ → Type 0
 Follow from [] to = from ≡ to
 Follow from (r ∷ rounds) to = (r.span.from ≡ from) × (from ≤ r.span.to) × Follow r.span.to rounds to
+
+-- the rounds as steps of a report, numbered on from n
+abbrev pub steps_of : ℕ → List ToldRound → List Step
+steps_of n [] = []
+steps_of n (r ∷ rounds) = steps.Round n r.lines ∷ steps_of (n + 1) rounds

@@ -1,8 +1,6 @@
 -- What a round did makes the promises of all sessions go on.
 use Rattle.std.proofs.Common.{Bool, Contains, IsTrue, List, Some, [], ap, arith, eqb-true, false, get_or, length, map, refl, subst, suc, sym, true, zero, ℕ, ⊎_elim, ◌++◌, ◌<◌, ◌==◌, ◌≡◌, ◌≤◌, ◌∙◌, ◌∷◌}
 use Rattle.std.specs.List.{AllByRecursion, flat_map, slice_get}
-use Rattle.std.proofs.lemmas.Grind.{flat_map-append}
-use Rattle.std.proofs.lemmas.List.{length-map}
 use Rattle.std.proofs.lemmas.List.Elements.{recursion_from_All}
 use Rattle.std.proofs.lemmas.Option.{get_or_from_slice_get, same_Some, slice_get-get_or, slice_get_past, slice_get_within}
 use Rattle.disk_core.specs.declared.log_disk.LogDisk as logs
@@ -10,7 +8,6 @@ use Rattle.disk_core.specs.declared.page_disk.PageDisk as disks
 use Rattle.hall.specs.declared.hall.Hall.{Hall}
 use Rattle.hall.specs.Calls.{start_of, view}
 use Rattle.hall.specs.Told.{asking, given}
-use Rattle.report_text.specs.ReportText.{command_line}
 use Rattle.run_law.specs.Turns as runnable
 use Rattle.run_law.specs.Turns.{turns_in}
 use Rattle.session_lang.specs.declared.script.Item.{Item}
@@ -43,28 +40,11 @@ use Rattle.session_promise.specs.SoFar as so_far
 use Rattle.session_promise.specs.SoFar.{AnsweredLines, round_of}
 use Rattle.session_promise.proofs.Parting.{parts_make_round}
 use Rattle.session_promise.proofs.Rounding.{so_far_begins, so_far_ends, so_far_goes_on}
-use Rattle.session_run.specs.declared.rest.Resting.{Resting}
 use Rattle.session_run.specs.Rounds.{TookPart, WentRound, is_among}
 use Rattle.session_run.specs.Turns.{RanLine, RanLines}
-use Rattle.session_run.specs.GoesOn.{AreHome, LifeBegins, LifeEnds, LifeGoesOn, sessions_in}
+use Rattle.session_run.specs.GoesOn.{AreHome, LifeBegins, LifeEnds, LifeGoesOn}
 
 -- ---- lists
-
--- what stands at a place of a mapped list
-record FromMap {A B : Type 0} (f : A → B) (xs : List A) (n : ℕ) (y : B) : Type 0 where
-  from : A
-  at : slice_get xs n ≡ Some from
-  is : f from ≡ y
-
-from_map : {A B : Type 0} (f : A → B) (xs : List A) (n : ℕ) (y : B) → slice_get (map f xs) n ≡ Some y → FromMap f xs n y
-from_map f [] n y e = absurd cc
-from_map f (x ∷ xs) zero y e = record { from = x; at = refl; is = same_Some (f x) y e }
-from_map f (x ∷ xs) (suc n) y e = let r = from_map f xs n y e in record { from = r.from; at = r.at; is = r.is }
-
-to_map : {A B : Type 0} (f : A → B) (xs : List A) (n : ℕ) (x : A) → slice_get xs n ≡ Some x → slice_get (map f xs) n ≡ Some (f x)
-to_map f [] n x e = absurd cc
-to_map f (y ∷ xs) zero x e = ap (λ z. Some (f z)) (same_Some y x e)
-to_map f (y ∷ xs) (suc n) x e = to_map f xs n x e
 
 all_mapped : {A B : Type 0} (P : B → Type 0) (f : A → B) (xs : List A) → ((i : ℕ) (x : A) → slice_get xs i ≡ Some x → P (f x)) → AllByRecursion P (map f xs)
 all_mapped P f [] g = tt
@@ -84,11 +64,9 @@ parts_sessions : (told : List (ℕ × List Line)) → sessions_of (map part_of t
 parts_sessions [] = refl
 parts_sessions (t ∷ told) = ap (λ ns. t.0 ∷ ns) (parts_sessions told)
 
-parts_text : (names : List (List ℕ)) (told : List (ℕ × List Line)) → flat_map (λ t. flat_map (command_line names) t.1) told ≡ flat_map (command_line names) (lines_of_parts (map part_of told))
-parts_text names [] = refl
-parts_text names (t ∷ told) =
-    ap (λ bs. flat_map (command_line names) t.1 ++ bs) (parts_text names told)
-    ∙ sym (flat_map-append (command_line names) t.1 (lines_of_parts (map part_of told)))
+parts_lines : (told : List (ℕ × List Line)) → flat_map (λ t. t.1) told ≡ lines_of_parts (map part_of told)
+parts_lines [] = refl
+parts_lines (t ∷ told) = ap (λ ls. t.1 ++ ls) (parts_lines told)
 
 -- none of these numbers
 not_among : (numbers : List ℕ) (n : ℕ) → (Contains numbers n → ⊥) → is_among numbers n ≡ false
@@ -103,6 +81,7 @@ no_turns : (round : List Item) → AllByRecursion (runnable.MayRun 0) round → 
 no_turns [] a = refl
 no_turns (items.Run session command ∷ round) a = let low = a.0.1 in absurd (omega (arith, low))
 no_turns (items.Round ∷ round) a = no_turns round a.1
+no_turns (items.Dump what at size ∷ round) a = no_turns round a.1
 no_turns (item ∷ round) a = absurd a.0
 
 -- ---- sessions
@@ -135,7 +114,7 @@ module _ {H L P : Type 0} {l : logs.Ghosts L} {p : disks.Ghosts P} (hall : Hall 
       let a = answered n old next line number might r.1 in
       (view next.pass, next.session, r.1.by ∙ (λ j. by_at (number j) (next_command old)), a, answered_lines n lines next new (r.1.ran.count.1 ∙ number) a.may r.2)
 
-  took_part : (before after : Host L P l p) (n : ℕ) (old new : Resting) (lines : List Line) → TookPart hall before after n old new lines → so_far.TookPart (p.tells) start (view before.pass).seen (view after.pass).seen n old.session new.session lines
+  took_part : (before after : Host L P l p) (n : ℕ) (old new : Session) (lines : List Line) → TookPart hall before after n old new lines → so_far.TookPart (p.tells) start (view before.pass).seen (view after.pass).seen n old new lines
   took_part before after n old new lines t = record {
     first = view t.first.pass;
     last = view t.last.pass;
@@ -145,24 +124,22 @@ module _ {H L P : Type 0} {l : logs.Ghosts L} {p : disks.Ghosts P} (hall : Hall 
     known = t.known;
   }
 
-  -- the session that rests at a place
-  resting_at : (host : Host L P l p) (sessions : List Resting) (n : ℕ) (s : Session) → AreHome hall host sessions → slice_get (sessions_in sessions) n ≡ Some s → MayCall start (given (asking n (view host.pass))) n s
-  resting_at host sessions n s home e =
-      let r = from_map (λ (x : Resting). x.session) sessions n s e in
-      let low = slice_get_within sessions n r.from r.at in
-      subst (λ (x : Session). MayCall start (given (asking n (view host.pass))) n x) (ap (λ (x : Resting). x.session) (get_or_from_slice_get sessions n r.from r.from r.at) ∙ r.is) (home.resting n r.from low).parked.may
+  -- the session that stands at a place
+  parked_at : (host : Host L P l p) (sessions : List Session) (n : ℕ) (s : Session) → AreHome hall host sessions → slice_get sessions n ≡ Some s → MayCall start (given (asking n (view host.pass))) n s
+  parked_at host sessions n s home e =
+      subst (λ (x : Session). MayCall start (given (asking n (view host.pass))) n x) (get_or_from_slice_get sessions n s s e) (home.parked n s (slice_get_within sessions n s e)).may
 
-  sessions_count : (host : Host L P l p) (sessions : List Resting) → AreHome hall host sessions → length (sessions_in sessions) ≡ start.sessions
-  sessions_count host sessions home = length-map sessions (λ (x : Resting). x.session) ∙ (home.count ∙ sym home.is_host.sessions)
+  sessions_count : (host : Host L P l p) (sessions : List Session) → AreHome hall host sessions → length sessions ≡ start.sessions
+  sessions_count host sessions home = home.count ∙ sym home.is_host.sessions
 
   -- ---- a round
 
-  module _ (before after : Host L P l p) (old new : List Resting) (names : List (List ℕ)) (round : List Item) (text printed : List ℕ)
-      (home : AreHome hall before old) (then : AreHome hall after new) (same_count : length new ≡ length old) (may : AllByRecursion (runnable.MayRun (length old)) round) (w : WentRound hall names (turns_in round) before after old new text printed) where
+  module _ (before after : Host L P l p) (old new : List Session) (round : List Item) (lines : List Line)
+      (home : AreHome hall before old) (then : AreHome hall after new) (same_count : length new ≡ length old) (may : AllByRecursion (runnable.MayRun (length old)) round) (w : WentRound hall (turns_in round) before after old new lines) where
     abbrev parts : List RoundPart
     parts = map part_of w.told
 
-    took_at : (i : ℕ) (d : Resting) (t : ℕ × List Line) → slice_get w.told i ≡ Some t → TookPart hall before after t.0 (get_or old t.0 d) (get_or new t.0 d) t.1
+    took_at : (i : ℕ) (d : Session) (t : ℕ × List Line) → slice_get w.told i ≡ Some t → TookPart hall before after t.0 (get_or old t.0 d) (get_or new t.0 d) t.1
     took_at i d t e =
         subst (λ (x : ℕ × List Line). TookPart hall before after x.0 (get_or old x.0 d) (get_or new x.0 d) x.1) (get_or_from_slice_get w.told i t t e) (w.part i d t (slice_get_within w.told i t e))
 
@@ -173,11 +150,11 @@ module _ {H L P : Type 0} {l : logs.Ghosts L} {p : disks.Ghosts P} (hall : Hall 
         none_told [] e = tt
         none_told (t ∷ told) e = absurd cc
 
-        by_old : (rs : List Resting) → old ≡ rs → AllByRecursion (λ q. q.session < start.sessions) parts
+        by_old : (rs : List Session) → old ≡ rs → AllByRecursion (λ q. q.session < start.sessions) parts
         by_old [] q = none_told w.told (w.order ∙ ap (λ (ts : List (ℕ × Command)). first_seen (map (λ t. t.0) ts)) (no_turns round (subst (λ z. AllByRecursion (runnable.MayRun z) round) (ap length q) may)))
         by_old (d ∷ rs) q = all_mapped (λ (q : RoundPart). q.session < start.sessions) part_of w.told (λ i t e. (took_at i d t e).might.ready.at.known)
 
-    went : so_far.WentRound (p.tells) start (view before.pass).seen (view after.pass).seen (sessions_in old) (sessions_in new) (turns_in round) parts
+    went : so_far.WentRound (p.tells) start (view before.pass).seen (view after.pass).seen old new (turns_in round) parts
     went = record {
       parts_of = record {
         order = parts_sessions w.told ∙ w.order;
@@ -188,37 +165,33 @@ module _ {H L P : Type 0} {l : logs.Ghosts L} {p : disks.Ghosts P} (hall : Hall 
       same = same;
       idle = λ n low none. w.idle n (let k = home.count in let m = home.is_host.sessions in omega (arith, low, k, m)) (apart n none);
       grows = w.grows;
-      count = length-map new (λ (x : Resting). x.session) ∙ (same_count ∙ sym (length-map old (λ (x : Resting). x.session)));
+      count = same_count;
       kept = λ n low.
-          let s = there (sessions_in new) n (let k = sessions_count after new then in omega (arith, low, k)) in
-          (resting_at after new n s.0 then s.1).ready.at.kept;
+          let s = there new n (let k = sessions_count after new then in omega (arith, low, k)) in
+          (parked_at after new n s.0 then s.1).ready.at.kept;
     }
       where
         apart : (n : ℕ) → (Contains (sessions_of parts) n → ⊥) → is_among (map (λ t. t.0) w.told) n ≡ false
         apart n none = not_among (map (λ t. t.0) w.told) n (λ c. none (subst (λ (ns : List ℕ). Contains ns n) (sym (parts_sessions w.told)) c))
 
-        took : (q : RoundPart) (s s' : Session) → Contains parts q → slice_get (sessions_in old) q.session ≡ Some s → slice_get (sessions_in new) q.session ≡ Some s' → so_far.TookPart (p.tells) start (view before.pass).seen (view after.pass).seen q.session s s' q.lines
+        took : (q : RoundPart) (s s' : Session) → Contains parts q → slice_get old q.session ≡ Some s → slice_get new q.session ≡ Some s' → so_far.TookPart (p.tells) start (view before.pass).seen (view after.pass).seen q.session s s' q.lines
         took q s s' c at_old at_new =
             let m = has_map part_of w.told q (contains_has parts q c) in
             let i = has_place w.told m.0 m.1 in
-            let a = from_map (λ (x : Resting). x.session) old q.session s at_old in
-            let b = from_map (λ (x : Resting). x.session) new q.session s' at_new in
-            let t = took_part before after m.0.0 (get_or old m.0.0 a.from) (get_or new m.0.0 a.from) m.0.1 (took_at i.0 a.from m.0 i.1) in
-            let was : (get_or old q.session a.from).session ≡ s = ap (λ (x : Resting). x.session) (get_or_from_slice_get old q.session a.from a.from a.at) ∙ a.is in
-            let is : (get_or new q.session a.from).session ≡ s' = ap (λ (x : Resting). x.session) (get_or_from_slice_get new q.session b.from a.from b.at) ∙ b.is in
+            let t = took_part before after m.0.0 (get_or old m.0.0 s) (get_or new m.0.0 s) m.0.1 (took_at i.0 s m.0 i.1) in
+            let was : get_or old q.session s ≡ s = get_or_from_slice_get old q.session s s at_old in
+            let is : get_or new q.session s ≡ s' = get_or_from_slice_get new q.session s' s at_new in
             subst (λ (x : Session × Session). so_far.TookPart (p.tells) start (view before.pass).seen (view after.pass).seen q.session x.0 x.1 q.lines) (λ j. (was j, is j))
-            (subst (λ (x : RoundPart). so_far.TookPart (p.tells) start (view before.pass).seen (view after.pass).seen x.session (get_or old x.session a.from).session (get_or new x.session a.from).session x.lines) m.2 t)
+            (subst (λ (x : RoundPart). so_far.TookPart (p.tells) start (view before.pass).seen (view after.pass).seen x.session (get_or old x.session s) (get_or new x.session s) x.lines) m.2 t)
 
-        same : (n : ℕ) → (Contains (sessions_of parts) n → ⊥) → slice_get (sessions_in new) n ≡ slice_get (sessions_in old) n
+        same : (n : ℕ) → (Contains (sessions_of parts) n → ⊥) → slice_get new n ≡ slice_get old n
         same n none = ⊎_elim
-            (λ (past : length old ≤ n).
-            let a = length-map new (λ (x : Resting). x.session) in let b = length-map old (λ (x : Resting). x.session) in
-            slice_get_past (sessions_in new) n (omega (arith, past, same_count, a)) ∙ sym (slice_get_past (sessions_in old) n (omega (arith, past, b))))
+            (λ (past : length old ≤ n). slice_get_past new n (omega (arith, past, same_count)) ∙ sym (slice_get_past old n past))
             (λ (low : n < length old).
             let x = there old n low in
             let now : slice_get new n ≡ Some (get_or new n x.0) = slice_get-get_or new n x.0 (omega (arith, low, same_count)) in
             let is : get_or new n x.0 ≡ x.0 = w.same n x.0 (apart n none) ∙ get_or_from_slice_get old n x.0 x.0 x.1 in
-            to_map (λ (r : Resting). r.session) new n (get_or new n x.0) now ∙ (ap (λ (r : Resting). Some r.session) is ∙ sym (to_map (λ (r : Resting). r.session) old n x.0 x.1)))
+            now ∙ (ap (λ (s : Session). Some s) is ∙ sym x.1))
             (le_or_over (length old) n)
 
 -- ---- the laws
@@ -227,26 +200,25 @@ module _ {H L P : Type 0} {l : logs.Ghosts L} {p : disks.Ghosts P} where
   pub life_begins : (hall : Hall H (Part L P l p) Entry Start) → LifeBegins hall
   life_begins hall host sessions home unseen new = record {
     home = home;
-    so_far = so_far_begins (p.tells) (start_of hall) (view host.pass).seen (sessions_in sessions) unseen (sessions_count hall host sessions home) (λ n s e.
-        let r = from_map (λ (x : Resting). x.session) sessions n s e in
-        let is : (get_or sessions n r.from).session ≡ s = ap (λ (x : Resting). x.session) (get_or_from_slice_get sessions n r.from r.from r.at) ∙ r.is in
-        let k = new n r.from (slice_get_within sessions n r.from r.at) in
+    so_far = so_far_begins (p.tells) (start_of hall) (view host.pass).seen sessions unseen (sessions_count hall host sessions home) (λ n s e.
+        let is : get_or sessions n s ≡ s = get_or_from_slice_get sessions n s s e in
+        let k = new n s (slice_get_within sessions n s e) in
         subst (λ (x : Session). IsFresh x.levels × (x.stage ≡ stages.Clear)) is (k.0, k.1));
   }
 
   pub life_goes_on : (hall : Hall H (Part L P l p) Entry Start) → LifeGoesOn hall
-  life_goes_on hall before after old new rounds names round text printed on then count may w =
+  life_goes_on hall before after old new rounds round lines on then count may w =
       let all = recursion_from_All (runnable.MayRun (length old)) round may in
-      let done = went hall before after old new names round text printed on.home then count all w in
+      let done = went hall before after old new round lines on.home then count all w in
       let ps : List RoundPart = map part_of w.told in
       record {
         round = round_of (view before.pass).seen (view after.pass).seen ps;
         told = (parts_make_round (turns_in round) ps done.parts_of).told;
-        then = record { home = then; so_far = so_far_goes_on (p.tells) (start_of hall) (view before.pass).seen (view after.pass).seen (sessions_in old) (sessions_in new) (turns_in round) ps rounds on.so_far done };
-        text_is = w.text_is ∙ ap (λ bs. text ++ bs) (parts_text names w.told);
+        then = record { home = then; so_far = so_far_goes_on (p.tells) (start_of hall) (view before.pass).seen (view after.pass).seen old new (turns_in round) ps rounds on.so_far done };
+        lines_are = w.lines_are ∙ parts_lines w.told;
       }
 
   pub life_ends : (hall : Hall H (Part L P l p) Entry Start) → LifeEnds hall
   life_ends hall host sessions rounds on kept =
-      so_far_ends (p.tells) (start_of hall) (view host.pass).seen (sessions_in sessions) rounds on.so_far kept
-      (λ n s e. record { pass = given (asking n (view host.pass)); seen = refl; may = resting_at hall host sessions n s on.home e })
+      so_far_ends (p.tells) (start_of hall) (view host.pass).seen sessions rounds on.so_far kept
+      (λ n s e. record { pass = given (asking n (view host.pass)); seen = refl; may = parked_at hall host sessions n s on.home e })

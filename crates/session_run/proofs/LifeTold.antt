@@ -1,22 +1,33 @@
 -- What the report tells of a life that is over.
-use Rattle.std.proofs.Common.{◌≡◌, ℕ, ◌^◌, ◌<◌, Bool, IsTrue, List, [], ◌∷◌, ◌++◌, None, refl, sym, ap, subst, ◌∙◌}
-use Rattle.std.specs.List.{flat_map}
+use Rattle.std.proofs.Common.{◌≡◌, ℕ, ◌^◌, ◌<◌, ◌≤◌, Bool, IsTrue, List, [], ◌∷◌, ◌++◌, None, refl, sym, ap, subst, ◌∙◌, length}
+use Rattle.std.specs.List.{filter, flat_map}
 use Rattle.disk_core.specs.declared.log_disk.LogDisk as logs
 use Rattle.disk_core.specs.declared.page_disk.PageDisk as disks
+use Rattle.disk_core.specs.declared.media.Volumes.{Volumes}
+use Rattle.disk_core.specs.Images.{Only}
 use Rattle.hall.specs.declared.hall.Hall.{Hall}
 use Rattle.hall.specs.Calls.{start_of, view}
 use Rattle.notes.specs.Lists.{at}
 use Rattle.tx_events.specs.declared.event.Event.{Event}
 use Rattle.tx_events.specs.declared.record.Rec.TheVariants as records
+use Rattle.tx_events.proofs.ListSteps.{filter_length}
 use Rattle.tx_model.specs.declared.report.Life.{Life}
 use Rattle.tx_model.specs.declared.report.LifeReport.{LifeReport}
+use Rattle.tx_model.specs.declared.report.Line.{Line}
 use Rattle.tx_model.specs.declared.report.Report.{Report}
+use Rattle.tx_model.specs.declared.report.Step.{Step}
+use Rattle.tx_model.specs.Rounds.{is_round, lines_in}
 use Rattle.life_law.specs.LawfulLife.{IsLawfulLife}
 use Rattle.report_text.specs.ReportText.{end_text, front_text, report_text, rest_text, step_text}
 use Rattle.report_text.proofs.OneLife.{one_life}
 use Rattle.session_lang.specs.declared.script.Script.{Script}
-use Rattle.session_lang.specs.Rounds.{rounds_of}
+use Rattle.session_lang.specs.Rounds.{asked_of, rounds_of}
+use Rattle.session_lang.proofs.Asking.{rounds_asked}
 use Rattle.run_law.specs.Tool.{IsReportOf}
+use Rattle.script_gen.specs.Counts.{is_verdict, summary_by, summary_text}
+use Rattle.script_gen.specs.Summaries.{IsSummaryOf}
+use Rattle.script_rounds.specs.declared.keeper.LineKeeper as keepers
+use Rattle.script_rounds.specs.Counted.{verdicts_in}
 use Rattle.tx_core.specs.declared.entry.Entry.{Entry}
 use Rattle.tx_core.specs.declared.entry.Start.{Start}
 use Rattle.tx_core.specs.Entries.{history}
@@ -25,26 +36,36 @@ use Rattle.wal_core.specs.declared.wal_log.WalLog.{WalLog}
 use Rattle.wal_core.specs.LogViews.{log_counters, log_disk, log_down, log_end, log_first, log_next}
 use Rattle.engine_parts.specs.declared.part.Part.{Part}
 use Rattle.engine_parts.specs.Parts.{IsLogOf}
+use Rattle.engine_parts.specs.declared.session.Session.{Session}
+use Rattle.engine_host.specs.declared.cluster.Cluster.{Cluster}
 use Rattle.engine_host.specs.declared.host.Host.{Host}
 use Rattle.engine_host.specs.Opening.{life_of}
-use Rattle.engine_life.specs.Lives.{life_told}
+use Rattle.engine_life.specs.declared.closed.ClosedLife.{ClosedLife}
+use Rattle.engine_life.specs.declared.life.OpenLife.{OpenLife}
+use Rattle.engine_life.specs.Lives.{IsNewLife, life_told, volumes_left}
 use Rattle.session_promise.specs.Closing as closing
+use Rattle.session_promise.specs.Told.{ToldRound, all_lines, steps_of}
 use Rattle.session_promise.proofs.LawfulLives.{promises_make_life}
-use Rattle.session_run.specs.declared.rest.Resting.{Resting}
+use Rattle.session_promise.proofs.Between.{lines_of_rounds, step_lines}
+use Rattle.session_run.specs.Leaves.{HasLeft, LeavesVolumes}
 use Rattle.session_run.specs.Records.{LogHolds}
-use Rattle.session_run.specs.Runs.{HasRun, IsRestOfReport, IsTaken, cluster_of}
+use Rattle.session_run.specs.Runs.{HasLived, HasRun, IsRestOfReport, IsTaken, cluster_of, report_of}
 use Rattle.session_run.proofs.LogHeld.{log_holds}
-use Rattle.session_run.proofs.RoundCounts.{few_levels}
+use Rattle.session_run.proofs.RoundCounts.{AreRoundsOf, few_levels, few_lines, rounds_told}
 
-module _ {H L P : Type 0} {l : logs.Ghosts L} {p : disks.Ghosts P} where
-  -- what was printed of a life that ran the script is the rest of a report
-  pub rest_told : (hall : Hall H (Part L P l p) Entry Start) (host : Host L P l p) (sessions : List Resting) (s : Script) (faults : List ℕ) (front text printed : List ℕ) (events : List Event) (log : WalLog L l)
-      → IsTaken s → start_of hall ≡ life_of (cluster_of s) faults → (r : HasRun hall host sessions s.names (rounds_of s.items) front text) → closing.IsOver p.tells (start_of hall) (view host.pass).seen r.rounds → events ≡ history (view host.pass).seen → IsLogOf (start_of hall) log (at (view host.pass).seen log_lock) → log_end log < 2 ^ 64 → printed ≡ text ++ (rest_text s.names (life_told s.base events log) None ++ end_text)
-      → (rest : IsRestOfReport p.tells s front printed) × (IsTrue l.tells → l.images (log_disk log) (l.reads (log_disk log)) → LogHolds l rest.life.life (log_disk log))
-  rest_told hall host sessions s faults front text printed events log taken begun r over told stands end exact =
+-- the lines of the steps are those of the rounds
+pub lines_run : (ss : List Step) (rounds : List ToldRound) → filter is_round ss ≡ steps_of 1 rounds → flat_map lines_in ss ≡ all_lines rounds
+lines_run ss rounds e = sym (lines_of_rounds ss) ∙ (ap (flat_map lines_in) e ∙ step_lines 1 rounds)
+
+module _ {H K L P : Type 0} {l : logs.Ghosts L} {p : disks.Ghosts P} (keep : keepers.Ghosts K) where
+  -- a life that ran the script is lawful, and what it left on the log's volume are its records
+  pub life_lived : (hall : Hall H (Part L P l p) Entry Start) (host : Host L P l p) (sessions : List Session) (s : Script) (faults : List ℕ) (first kept : K) (events : List Event) (log : WalLog L l)
+      → IsTaken s → start_of hall ≡ life_of (cluster_of s) faults → (r : HasRun keep hall host sessions s.names (asked_of s.items) first kept) → closing.IsOver p.tells (start_of hall) (view host.pass).seen r.rounds → events ≡ history (view host.pass).seen → IsLogOf (start_of hall) log (at (view host.pass).seen log_lock) → log_end log < 2 ^ 64
+      → HasLived p.tells s (life_told s.base events log) r.steps × (IsTrue l.tells → l.images (log_disk log) (l.reads (log_disk log)) → LogHolds l (life_told s.base events log) (log_disk log))
+  life_lived hall host sessions s faults first kept events log taken begun r over told stands end =
       let start = start_of hall in
       let base : start.base ≡ s.base = ap (λ t. t.base) begun in
-      let life : LifeReport = record { life = life_told s.base events log; steps = closing.steps_of 1 r.rounds; crash = None } in
+      let life : LifeReport = report_of (life_told s.base events log) r.steps in
       let begins : closing.BeginsNewLog start = record {
         from = ap (λ t. t.from) begun;
         logged = ap (λ t. t.logged) begun ∙ ap (λ b. records.Checkpoint 0 b ∷ []) (sym base);
@@ -57,24 +78,58 @@ module _ {H L P : Type 0} {l : logs.Ghosts L} {p : disks.Ghosts P} where
         multis = refl;
         recs = stands.recs_are;
         flushed = stands.flushed_is;
-        steps = refl;
+        steps = r.rounds_are;
       } in
-      let lawful : IsLawfulLife p.tells start.banks (rounds_of s.items) life = promises_make_life p.tells start (view host.pass).seen r.rounds (rounds_of s.items) life begins over (few_levels s.items r.rounds r.told taken.few) r.told report end in
-      let rest : IsRestOfReport p.tells s front printed = record {
-        life = life;
-        last = refl;
-        begins = record { from = refl; base_is = refl; committed = refl; recorded = refl };
-        lawful = subst (λ n. IsLawfulLife p.tells n (rounds_of s.items) life) (ap (λ t. t.banks) begun) lawful;
-        exact = exact ∙ ap (λ t. t ++ (rest_text s.names life.life None ++ end_text)) r.text_is;
-      } in (
-        rest,
+      let commands : AreRoundsOf (rounds_of s.items) r.rounds = subst (λ cs. AreRoundsOf cs r.rounds) (rounds_asked s.items) (rounds_told 1 (asked_of s.items) r.steps r.rounds r.told r.rounds_are) in
+      let few : length (all_lines r.rounds) ≤ 2 ^ 24 = few_lines s.items r.rounds commands taken.runnable.few in
+      let lawful : IsLawfulLife p.tells start.banks (asked_of s.items) life = promises_make_life p.tells start (view host.pass).seen r.rounds (asked_of s.items) life begins over (few_levels s.items r.rounds commands taken.few) r.told r.dumps report end in (
+        record {
+          begins = record { from = refl; base_is = refl; committed = refl; recorded = refl };
+          lawful = subst (λ n. IsLawfulLife p.tells n (asked_of s.items) life) (ap (λ t. t.banks) begun) lawful;
+          few = subst (λ (ls : List Line). length ls ≤ 2 ^ 24) (sym (lines_run r.steps r.rounds r.rounds_are)) few;
+        },
         log_holds l (log_disk log) life.life start (records.Checkpoint 0 s.base) (at (view host.pass).seen log_lock) (l.faults (log_disk log)) (log_next log) (log_first log)
             (log_counters log) (log_down log) begins.from (ap (λ t. t.logged) begun) stands refl lawful.log,
       )
 
+-- what was printed of it is the rest of a report
+pub rest_told : (tells : Bool) (s : Script) (life : Life) (ss : List Step) (front text printed : List ℕ) (F : LifeReport → Type 0) → HasLived tells s life ss
+    → text ≡ front ++ flat_map (step_text s.names) ss → printed ≡ text ++ (rest_text s.names life None ++ end_text) → F (report_of life ss)
+    → (rest : IsRestOfReport tells s front printed) × F rest.life
+rest_told tells s life ss front text printed F lived told exact f = (
+  record {
+    life = report_of life ss;
+    last = refl;
+    begins = lived.begins;
+    lawful = lived.lawful;
+    exact = exact ∙ ap (λ t. t ++ (rest_text s.names life None ++ end_text)) told;
+  },
+  f,
+)
+
+-- and what was counted of it are the counts of a report
+pub counts_told : (tells : Bool) (s : Script) (life : Life) (ss : List Step) (text : List ℕ) (F : LifeReport → Type 0) (commands verdicts : ℕ) → HasLived tells s life ss
+    → commands ≡ length (flat_map lines_in ss) → verdicts ≡ verdicts_in (flat_map lines_in ss) → text ≡ summary_text (summary_by life.events commands verdicts) → F (report_of life ss)
+    → (counts : IsSummaryOf tells s text) × F counts.lawful.life
+counts_told tells s life ss text F commands verdicts lived many told exact f =
+    let report : Report = record { names = s.names; lives = report_of life ss ∷ [] } in (
+      record {
+        report = report;
+        lawful = record { names = refl; life = report_of life ss; one = refl; last = refl; begins = lived.begins; lawful = lived.lawful };
+        exact =
+            exact ∙ ap (λ n. summary_text (summary_by life.events n verdicts)) many
+            ∙ ap (λ n. summary_text (summary_by life.events (length (flat_map lines_in ss)) n)) told;
+      },
+      f,
+    )
+
+-- no more of them have a verdict
+pub verdicts_few : (lines : List Line) → verdicts_in lines ≤ length lines
+verdicts_few lines = filter_length (λ (l : Line). is_verdict l.reply) lines
+
 -- behind the text that begins a report it is a report, of the same life
-pub report_whole : (tells : Bool) (s : Script) (text : List ℕ) (F : Life → Type 0) → (r : IsRestOfReport tells s (front_text s.base) text) → F r.life.life
-    → (report : Report) × (is : IsReportOf tells s report) × (text ≡ report_text report) × F is.life.life
+pub report_whole : (tells : Bool) (s : Script) (text : List ℕ) (F : LifeReport → Type 0) → (r : IsRestOfReport tells s (front_text s.base) text) → F r.life
+    → (report : Report) × (is : IsReportOf tells s report) × (text ≡ report_text report) × F is.life
 report_whole tells s text F r f =
     let report : Report = record { names = s.names; lives = r.life ∷ [] } in
     let told = flat_map (step_text s.names) r.life.steps in (
@@ -86,3 +141,14 @@ report_whole tells s text F r f =
           ∙ one_life s.names r.life r.begins.from,
       f,
     )
+
+-- a new life of a cluster is one of the same cluster
+pub of_cluster : {L P : Type 0} {l : logs.Ghosts L} {p : disks.Ghosts P} (c d : Cluster) (first : ℕ → Volumes L P → Type 0) (life : OpenLife L P l p) → c ≡ d
+    → (volumes : Volumes L P) × first c.banks volumes × IsNewLife c volumes life → (volumes : Volumes L P) × first d.banks volumes × IsNewLife d volumes life
+of_cluster {L} {P} c d first life same k = subst (λ (e : Cluster). (volumes : Volumes L P) × first e.banks volumes × IsNewLife e volumes life) same k
+
+-- and the media has what it leaves
+pub volumes_back : {L P : Type 0} (l : logs.Ghosts L) (p : disks.Ghosts P) (c : Cluster) (opened : OpenLife L P l p) (closed : ClosedLife L P l) (life : LifeReport) (first gives : Volumes L P → Type 0) (mounted : Volumes L P)
+    → IsNewLife c mounted opened → first mounted → Only (volumes_left closed) gives → HasLeft l p c opened closed life → LeavesVolumes l p first gives life
+volumes_back l p c opened closed life first gives mounted new began only left =
+    record { mounted = mounted; volumes = volumes_left closed; began = began; only = only; log = left.log; causes = left.causes mounted new }

@@ -26,8 +26,7 @@ use Rattle.engine_parts.specs.Law.{writer_of}
 use Rattle.engine_host.specs.declared.host.Host.{Host}
 use Rattle.engine_host.specs.Hosts.{HoldsAllBut, IsHost, IsParked, OthersStayParked, without}
 use Rattle.session_run.specs.declared.member.Member.{Member}
-use Rattle.session_run.specs.declared.rest.Resting.{Resting}
-use Rattle.session_run.specs.Rounds.{AreApart, AreBack, IsBack, IsResting, MayReturn, is_among, numbers_of}
+use Rattle.session_run.specs.Rounds.{AreApart, AreBack, IsBack, MayReturn, is_among, numbers_of}
 use Rattle.session_run.proofs.Among.{among_append, among_both, apart_last, not_next, or_false_left, without_last}
 
 nat_cases : (F : ℕ → Type 0) → F 0 → ((j : ℕ) → F (suc j)) → (j : ℕ) → F j
@@ -47,9 +46,9 @@ grows_same a = record { begins = λ q. begins_same (at a q) }
 pub knows_then : (n : ℕ) (a b c : List (List Entry)) → Knows session_of n a b → Knows session_of n b c → Knows session_of n a c
 knows_then n a b c f g = record { grows = grows_then a b c f.grows g.grows; own = λ place. g.own place ∙ f.own place }
 
-module _ {L P : Type 0} {l : logs.Ghosts L} {p : disks.Ghosts P} where
+module _ {K L P : Type 0} {l : logs.Ghosts L} {p : disks.Ghosts P} where
   -- the member is none of those that are left, and was taken back
-  abbrev IsGone : ℕ → Host L P l p → List Resting → List (Member L P l p) → Resting → Member L P l p → Type 0
+  abbrev IsGone : ℕ → Host L P l p → List Session → List (Member K L P l p) → Session → Member K L P l p → Type 0
   IsGone count host sessions left d m =
       (is_among (numbers_of left) m.caller.number ≡ false) × (m.caller.number < count)
       × IsBack host (get_or sessions m.caller.number d) m
@@ -59,32 +58,33 @@ module _ {H L P : Type 0} {l : logs.Ghosts L} {p : disks.Ghosts P} where
   named_own : {hall : Hall H (Part L P l p) Entry Start} {banks : ℕ} (c : Caller L P l p) → MayRun hall banks c → Holds (view c.pass) c.number
   named_own c may = subst (Holds (view c.pass)) may.step.may.ready.at.name may.step.own.named
 
+module _ {H K L P : Type 0} {l : logs.Ghosts L} {p : disks.Ghosts P} where
   -- these are left, and those behind them were taken back
-  pub record AreComing (hall : Hall H (Part L P l p) Entry Start) (first : Host L P l p) (start : List Resting)
-      (all : List (Member L P l p)) (host : Host L P l p) (sessions : List Resting) (left : List (Member L P l p))
+  pub record AreComing (hall : Hall H (Part L P l p) Entry Start) (first : Host L P l p) (start : List Session)
+      (all : List (Member K L P l p)) (host : Host L P l p) (sessions : List Session) (left : List (Member K L P l p))
       : Type 0 where
-    pub gone : List (Member L P l p)
+    pub gone : List (Member K L P l p)
     pub split : left ++ gone ≡ all
     pub host_is : IsHost hall host
     pub cluster : host.cluster ≡ first.cluster
     pub names : HoldsAllBut host (numbers_of left)
     pub may : All (MayReturn hall first.cluster.banks (length start)) left
     pub apart : AreApart (numbers_of left)
-    pub others : (n : ℕ) (d : Resting) → n < length start → is_among (numbers_of left) n ≡ false
-        → IsResting hall host n (get_or sessions n d)
+    pub others : (n : ℕ) (d : Session) → n < length start → is_among (numbers_of left) n ≡ false
+        → IsParked hall host n (get_or sessions n d)
     pub count : length sessions ≡ length start
-    pub back : (i : ℕ) (d : Resting) (m : Member L P l p) → i < length gone
+    pub back : (i : ℕ) (d : Session) (m : Member K L P l p) → i < length gone
         → IsGone (length start) host sessions left d (get_or gone i m)
-    pub same : (n : ℕ) (d : Resting) → is_among (numbers_of all) n ≡ false → get_or sessions n d ≡ get_or start n d
+    pub same : (n : ℕ) (d : Session) → is_among (numbers_of all) n ≡ false → get_or sessions n d ≡ get_or start n d
     pub idle : (n : ℕ) → n < length start → is_among (numbers_of all) n ≡ false
         → Knows session_of n (view first.pass).seen (view host.pass).seen
     pub grows : Grows (view first.pass).seen (view host.pass).seen
 
-  pub all_coming : (hall : Hall H (Part L P l p) Entry Start) (host : Host L P l p) (start : List Resting)
-      (all : List (Member L P l p)) → IsHost hall host → HoldsAllBut host (numbers_of all)
+  pub all_coming : (hall : Hall H (Part L P l p) Entry Start) (host : Host L P l p) (start : List Session)
+      (all : List (Member K L P l p)) → IsHost hall host → HoldsAllBut host (numbers_of all)
       → All (MayReturn hall host.cluster.banks (length start)) all → AreApart (numbers_of all)
-      → ((n : ℕ) (d : Resting) → n < length start → is_among (numbers_of all) n ≡ false
-      → IsResting hall host n (get_or start n d)) → AreComing hall host start all host start all
+      → ((n : ℕ) (d : Session) → n < length start → is_among (numbers_of all) n ≡ false
+      → IsParked hall host n (get_or start n d)) → AreComing hall host start all host start all
   all_coming hall host start all is names may apart others = record {
     gone = [];
     split = append-nil all;
@@ -102,21 +102,21 @@ module _ {H L P : Type 0} {l : logs.Ghosts L} {p : disks.Ghosts P} where
   }
 
   -- the last of them is taken back
-  pub one_back : (hall : Hall H (Part L P l p) Entry Start) (first : Host L P l p) (start : List Resting)
-      (all : List (Member L P l p)) (host host' : Host L P l p) (sessions sessions' : List Resting)
-      (left front : List (Member L P l p)) (m : Member L P l p) (session : Session) (new : Resting)
+  pub one_back : (hall : Hall H (Part L P l p) Entry Start) (first : Host L P l p) (start : List Session)
+      (all : List (Member K L P l p)) (host host' : Host L P l p) (sessions sessions' : List Session)
+      (left front : List (Member K L P l p)) (m : Member K L P l p) (session : Session)
       → left ≡ front ++ m ∷ [] → AreComing hall first start all host sessions left
       → IsHost hall host' → host'.cluster ≡ host.cluster
       → Joined session_of writer_of EngineInvariant (start_of hall) (view host.pass) (view m.caller.pass) (view host'.pass)
       → ((away : List ℕ) → HoldsAllBut host away → HoldsAllBut host' (without m.caller.number away))
       → IsParked hall host' m.caller.number session → session ≡ m.caller.session
       → OthersStayParked hall m.caller.number host host'
-      → sessions' ≡ set sessions m.caller.number new → new.session ≡ session → new.text ≡ []
+      → sessions' ≡ set sessions m.caller.number session
       → AreComing hall first start all host' sessions' front
-  one_back hall first start all host host' sessions sessions' left front m session new last i is cluster joined names parked session_is stay put new_session new_text =
+  one_back hall first start all host host' sessions sessions' left front m session last i is cluster joined names parked session_is stay put =
       let n = m.caller.number in
       let before : numbers_of left ≡ numbers_of front ++ n ∷ [] =
-      ap numbers_of last ∙ map-append (λ (x : Member L P l p). x.caller.number) front (m ∷ []) in
+      ap numbers_of last ∙ map-append (λ (x : Member K L P l p). x.caller.number) front (m ∷ []) in
       let apart = apart_last (numbers_of front) n (subst AreApart before i.apart) in
       let mine : MayReturn hall first.cluster.banks (length start) m =
       last_of (MayReturn hall first.cluster.banks (length start)) front m (subst (All (MayReturn hall first.cluster.banks (length start))) last i.may) in
@@ -128,14 +128,14 @@ module _ {H L P : Type 0} {l : logs.Ghosts L} {p : disks.Ghosts P} where
       let outside : (k : ℕ) → is_among (numbers_of left) k ≡ false → (is_among (numbers_of front) k ≡ false) × (k ≢ n) = λ k e.
       not_next (numbers_of front) n k (ap (λ t. is_among t k) (sym before) ∙ e) in
       let all_is : numbers_of all ≡ numbers_of left ++ numbers_of i.gone =
-      ap numbers_of (sym i.split) ∙ map-append (λ (x : Member L P l p). x.caller.number) left i.gone in
+      ap numbers_of (sym i.split) ∙ map-append (λ (x : Member K L P l p). x.caller.number) left i.gone in
       let left_out : (k : ℕ) → is_among (numbers_of all) k ≡ false → is_among (numbers_of left) k ≡ false = λ k e.
       or_false_left (is_among (numbers_of left) k) (is_among (numbers_of i.gone) k)
       (sym (among_append (numbers_of left) (numbers_of i.gone) k) ∙ ap (λ t. is_among t k) (sym all_is) ∙ e) in
-      let other : (k : ℕ) (d : Resting) → k ≢ n → get_or sessions' k d ≡ get_or sessions k d = λ k d q.
-      ap (λ t. get_or t k d) put ∙ get_or-set_other sessions n k new d q in
-      let own : (d : Resting) → get_or sessions' n d ≡ new = λ d.
-      ap (λ t. get_or t n d) put ∙ get_or-set_same sessions n new d low in
+      let other : (k : ℕ) (d : Session) → k ≢ n → get_or sessions' k d ≡ get_or sessions k d = λ k d q.
+      ap (λ t. get_or t k d) put ∙ get_or-set_other sessions n k session d q in
+      let own : (d : Session) → get_or sessions' n d ≡ session = λ d.
+      ap (λ t. get_or t n d) put ∙ get_or-set_same sessions n session d low in
       record {
         gone = m ∷ i.gone;
         split = sym (append_assoc front (m ∷ []) i.gone) ∙ ap (λ t. t ++ i.gone) (sym last) ∙ i.split;
@@ -149,21 +149,19 @@ module _ {H L P : Type 0} {l : logs.Ghosts L} {p : disks.Ghosts P} where
         apart = apart.0;
         others = λ k d inside e. dite (ℕ_discrete k n)
             (λ (q : k ≡ n).
-            subst (λ j. IsResting hall host' j (get_or sessions' j d)) (sym q)
-            (subst (IsResting hall host' n) (sym (own d))
-            (record { parked = subst (IsParked hall host' n) (sym new_session) parked; text = new_text })))
+            subst (λ j. IsParked hall host' j (get_or sessions' j d)) (sym q)
+            (subst (IsParked hall host' n) (sym (own d)) parked))
             (λ q.
             let still = i.others k d inside (ap (λ t. is_among t k) before ∙ among_both (numbers_of front) n k e q) in
-            subst (IsResting hall host' k) (sym (other k d q))
-            (record { parked = stay k (get_or sessions k d).session q still.parked; text = still.text }));
-        count = ap length put ∙ length-set sessions n new ∙ i.count;
-        back = nat_cases (λ j. (d : Resting) (x : Member L P l p) → j < length (m ∷ i.gone)
+            subst (IsParked hall host' k) (sym (other k d q)) (stay k (get_or sessions k d) q still));
+        count = ap length put ∙ length-set sessions n session ∙ i.count;
+        back = nat_cases (λ j. (d : Session) (x : Member K L P l p) → j < length (m ∷ i.gone)
             → IsGone (length start) host' sessions' front d (get_or (m ∷ i.gone) j x))
             (λ d x inside. (
               apart.1,
               mine.known,
               record {
-                session = ap (λ (r : Resting). r.session) (own d) ∙ new_session ∙ session_is;
+                session = own d ∙ session_is;
                 known = subst (Knows session_of n (view m.caller.pass).seen) (sym seen) (record {
                   grows = joined.other.grows;
                   own = λ place. (joined.other.own_seen n (named_own m.caller mine.may)).entries place;
@@ -177,24 +175,24 @@ module _ {H L P : Type 0} {l : logs.Ghosts L} {p : disks.Ghosts P} where
               o.0,
               g.1,
               record {
-                session = ap (λ (r : Resting). r.session) (other k d o.1) ∙ g.2.session;
-                known = knows_then k (view (get_or i.gone j x).caller.pass).seen (view host.pass).seen (view host'.pass).seen g.2.known (learnt k (i.others k d g.1 g.0).parked.held);
+                session = other k d o.1 ∙ g.2.session;
+                known = knows_then k (view (get_or i.gone j x).caller.pass).seen (view host.pass).seen (view host'.pass).seen g.2.known (learnt k (i.others k d g.1 g.0).held);
               },
             ));
         same = λ k d e. other k d (outside k (left_out k e)).1 ∙ i.same k d e;
         idle = λ k inside e.
             knows_then k (view first.pass).seen (view host.pass).seen (view host'.pass).seen (i.idle k inside e)
-            (learnt k (i.others k new inside (left_out k e)).parked.held);
+            (learnt k (i.others k session inside (left_out k e)).held);
         grows = grows_then (view first.pass).seen (view host.pass).seen (view host'.pass).seen i.grows (subst (Grows (view host.pass).seen) (sym seen) joined.moment.grows);
       }
 
   -- all are back
-  pub all_back : (hall : Hall H (Part L P l p) Entry Start) (first : Host L P l p) (start : List Resting)
-      (all : List (Member L P l p)) (host : Host L P l p) (sessions : List Resting)
-      → AreComing hall first start all host sessions [] → AreBack hall first host all start sessions
+  pub all_back : (hall : Hall H (Part L P l p) Entry Start) (first : Host L P l p) (start : List Session)
+      (all : List (Member K L P l p)) (host : Host L P l p) (sessions : List Session)
+      → AreComing hall first start all host sessions [] → AreBack first host all start sessions
   all_back hall first start all host sessions i = record {
     count = i.count;
-    back = subst (λ (xs : List (Member L P l p)). (j : ℕ) (d : Resting) (m : Member L P l p) → j < length xs
+    back = subst (λ (xs : List (Member K L P l p)). (j : ℕ) (d : Session) (m : Member K L P l p) → j < length xs
         → IsBack host (get_or sessions (get_or xs j m).caller.number d) (get_or xs j m)) i.split (λ j d m inside. (i.back j d m inside).2);
     same = i.same;
     idle = i.idle;

@@ -1,14 +1,19 @@
 -- What the endings of a run say.
-use Rattle.std.proofs.Common.{◌≡◌, ◌≢◌, ◌⊎◌, ℕ, ◌≤◌, List, [], ◌∷◌, ◌++◌, Bool, Option, codes, refl, sym, subst, ◌∙◌, arith, inl, inr, ⊎_elim}
+use Rattle.std.proofs.Common.{◌≡◌, ◌≢◌, ◌⊎◌, ℕ, ◌≤◌, List, [], ◌∷◌, ◌++◌, Bool, Option, ap, codes, length, refl, sym, subst, ◌∙◌, arith, inl, inr, ⊎_elim}
 use Rattle.std.specs.Io.KnownBytes.{Appends}
 use Rattle.disk_core.specs.declared.log_disk.LogDisk as logs
 use Rattle.disk_core.specs.declared.page_disk.PageDisk as disks
 use Rattle.disk_core.specs.declared.media.Volumes.{Volumes}
-use Rattle.tx_model.specs.declared.report.Life.{Life}
+use Rattle.tx_model.specs.declared.report.LifeReport.{LifeReport}
 use Rattle.tx_model.specs.declared.report.Report.{Report}
 use Rattle.report_text.specs.ReportText.{report_text}
 use Rattle.session_lang.specs.declared.script.Script.{Script}
-use Rattle.run_law.specs.Tool.{IsAnswer, IsRefused, IsReportOf, IsWholeRun}
+use Rattle.run_law.specs.Tool.{IsAnswer, IsRefused, IsReportOf, IsRun, IsWholeRun}
+use Rattle.script_gen.specs.Generated.{generated}
+use Rattle.script_gen.specs.Laws.{MayRunWhole}
+use Rattle.script_gen.specs.Summaries.{IsSummaryOf}
+use Rattle.script_gen.specs.Words.{IsGen}
+use Rattle.script_gen.proofs.GenWords.{gen_few}
 use Rattle.script_source.specs.declared.script.NoScript.{NoScript}
 use Rattle.script_source.specs.declared.script.NoScript.TheVariants as no_scripts
 use Rattle.script_source.specs.Sources.{HasScript, IsNoScriptOf}
@@ -18,12 +23,47 @@ use Rattle.engine_life.specs.Refusals.{HasDeviceFailed}
 use Rattle.tx_io.specs.Causes.{Rose}
 use Rattle.session_run.specs.declared.ending.Ending.{Ending}
 use Rattle.session_run.specs.declared.ending.Ending.TheVariants as endings
-use Rattle.session_run.specs.Records.{LeavesRecords}
-use Rattle.session_run.specs.Tool.{Ends, IsUnread, IsUnrun, TellsRefusal, damage_text, status_of, text_of, unread_by}
+use Rattle.session_run.specs.declared.task.Task.{Task}
+use Rattle.session_run.specs.declared.task.Task.TheVariants as tasks
+use Rattle.session_run.specs.Leaves.{LeavesVolumes}
+use Rattle.session_run.specs.Runs.{IsTaken}
+use Rattle.session_run.specs.Tool.{Ends, IsAccepted, IsSized, IsTask, IsUnread, IsUnrun, IsUnrunBy, IsWholeSummary, TellsRefusal, damage_text, status_of, text_of, unread_by}
+
+-- ---- what is asked for
+
+-- neither word is accepted
+pub none_asked : (words : List (List ℕ)) → (IsRun words → ⊥) → ((seed size : ℕ) → IsGen words seed size → ⊥) → IsAccepted words → ⊥
+none_asked words run gen (tasks.Run, is) = run is
+none_asked words run gen (tasks.Gen seed size, is) = gen seed size is
+
+-- a generated script is no longer than one that is read
+pub is_sized : (words : List (List ℕ)) (task : Task) → IsTask words task → IsSized task
+is_sized words tasks.Run is = tt
+is_sized words (tasks.Gen seed size) is = gen_few words seed size is
+
+-- and it is one that a new cluster can run
+pub is_taken : (seed size : ℕ) → MayRunWhole seed size → IsTaken (generated seed size)
+is_taken seed size may = record {
+  runnable = may.runnable;
+  banks = let four = may.banks in (omega (arith, four), omega (arith, four));
+  few = may.few;
+}
+
+-- the words of `gen` aren't those of `run`
+run_not_gen : (words : List (List ℕ)) (seed size : ℕ) → IsRun words → IsGen words seed size → ⊥
+run_not_gen words seed size run gen = let two = ap length (sym run ∙ gen.words_are) in omega (arith, two)
+
+pub run_asked : (words : List (List ℕ)) (task : Task) → IsTask words task → task ≡ tasks.Run → IsRun words
+run_asked words task is run = subst (IsTask words) run is
+
+gen_by : (words : List (List ℕ)) (task : Task) (seed size : ℕ) → IsTask words task → task ≡ tasks.Gen seed size → IsGen words seed size
+gen_by words task seed size is gen = subst (IsTask words) gen is
+
+-- ---- how it ends
 
 -- the script ran, and this is its report
-pub answers : (tells : Bool) (left left' : Option (List ℕ)) (s : Script) (text : List ℕ) (F : Life → Type 0) → HasScript left left' s
-    → (r : Report) × (is : IsReportOf tells s r) × (text ≡ report_text r) × F is.life.life → (a : IsAnswer tells left left' text) × F a.lawful.life.life
+pub answers : (tells : Bool) (left left' : Option (List ℕ)) (s : Script) (text : List ℕ) (F : ℕ → LifeReport → Type 0) → HasScript left left' s
+    → (r : Report) × (is : IsReportOf tells s r) × (text ≡ report_text r) × F s.banks is.life → (a : IsAnswer tells left left' text) × F a.script.banks a.lawful.life
 answers tells left left' s text F h r = (
   record {
     bytes = h.bytes;
@@ -39,25 +79,41 @@ answers tells left left' s text F h r = (
 )
 
 module _ {L P : Type 0} (l : logs.Ghosts L) (p : disks.Ghosts P) where
-  pub unread_ends : (left left' : Option (List ℕ)) (faults faults' before now : ℕ) (gives : Volumes L P → Type 0) (refusal : NoScript) → IsNoScriptOf left left' faults faults' refusal → Ends l p left left' faults faults' before now gives (unread_by refusal)
-  unread_ends left left' faults faults' before now gives (no_scripts.Refused text) k = k
-  unread_ends left left' faults faults' before now gives no_scripts.ReadFault k = k
-  unread_ends left left' faults faults' before now gives no_scripts.Memory k = tt
+  -- so the generated script
+  pub summed : (seed size : ℕ) (s : Script) (text : List ℕ) (first : ℕ → Volumes L P → Type 0) (gives : Volumes L P → Type 0) → s ≡ generated seed size
+      → ((counts : IsSummaryOf p.tells s text) × LeavesVolumes l p (first s.banks) gives counts.lawful.life)
+      → (n k : ℕ) × (tasks.Gen seed size ≡ tasks.Gen n k) × (counts : IsSummaryOf p.tells (generated n k) text) × LeavesVolumes l p (first (generated n k).banks) gives counts.lawful.life
+  summed seed size s text first gives same r =
+      let t = subst (λ (z : Script). (counts : IsSummaryOf p.tells z text) × LeavesVolumes l p (first z.banks) gives counts.lawful.life) same r in
+      (seed, size, refl, t.0, t.1)
 
-  pub unopened_ends : (left left' : Option (List ℕ)) (faults faults' before now : ℕ) (gives : Volumes L P → Type 0) (refusal : NoLife) (e : Ending) → TellsRefusal refusal e → IsUnrun l p left left' before now gives refusal → Ends l p left left' faults faults' before now gives e
-  unopened_ends left left' faults faults' before now gives refusal (endings.Report text) t u = absurd t
-  unopened_ends left left' faults faults' before now gives refusal (endings.NoScript text) t u = absurd t
-  unopened_ends left left' faults faults' before now gives refusal endings.ReadFault t u = absurd t
-  unopened_ends left left' faults faults' before now gives refusal endings.Memory t u = tt
-  unopened_ends left left' faults faults' before now gives refusal endings.Device t u = (subst (IsUnrun l p left left' before now gives) t u).2
-  unopened_ends left left' faults faults' before now gives refusal (endings.Damaged text) t u = (t.0, t.1, subst (IsUnrun l p left left' before now gives) t.2 u)
-  unopened_ends left left' faults faults' before now gives refusal endings.Full t u = subst (IsUnrun l p left left' before now gives) t u
-  unopened_ends left left' faults faults' before now gives refusal endings.OldLog t u = subst (IsUnrun l p left left' before now gives) t u
+  pub unread_ends : (left left' : Option (List ℕ)) (faults faults' : ℕ) (first : ℕ → Volumes L P → Type 0) (before now : ℕ) (gives : Volumes L P → Type 0) (refusal : NoScript) → IsNoScriptOf left left' faults faults' refusal → Ends l p tasks.Run left left' faults faults' first before now gives (unread_by refusal)
+  unread_ends left left' faults faults' first before now gives (no_scripts.Refused text) k = (refl, k)
+  unread_ends left left' faults faults' first before now gives no_scripts.ReadFault k = (refl, k)
+  unread_ends left left' faults faults' first before now gives no_scripts.Memory k = tt
+
+  pub unopened_ends : (task : Task) (left left' : Option (List ℕ)) (faults faults' : ℕ) (first : ℕ → Volumes L P → Type 0) (before now : ℕ) (gives : Volumes L P → Type 0) (refusal : NoLife) (e : Ending) → TellsRefusal refusal e → IsUnrun l p task left left' first before now gives refusal → Ends l p task left left' faults faults' first before now gives e
+  unopened_ends task left left' faults faults' first before now gives refusal (endings.Report text) t u = absurd t
+  unopened_ends task left left' faults faults' first before now gives refusal (endings.Summary text) t u = absurd t
+  unopened_ends task left left' faults faults' first before now gives refusal (endings.NoScript text) t u = absurd t
+  unopened_ends task left left' faults faults' first before now gives refusal endings.ReadFault t u = absurd t
+  unopened_ends task left left' faults faults' first before now gives refusal endings.Memory t u = tt
+  unopened_ends task left left' faults faults' first before now gives refusal endings.Device t u = (subst (IsUnrun l p task left left' first before now gives) t u).2
+  unopened_ends task left left' faults faults' first before now gives refusal (endings.Damaged text) t u = (t.0, t.1, subst (IsUnrun l p task left left' first before now gives) t.2 u)
+  unopened_ends task left left' faults faults' first before now gives refusal endings.Full t u = subst (IsUnrun l p task left left' first before now gives) t u
+  unopened_ends task left left' faults faults' first before now gives refusal endings.OldLog t u = subst (IsUnrun l p task left left' first before now gives) t u
+
+  -- a generated script is not refused
+  pub generated_is_read : (seed size : ℕ) (left left' : Option (List ℕ)) (faults faults' : ℕ) (first : ℕ → Volumes L P → Type 0) (before now : ℕ) (gives : Volumes L P → Type 0) (e : Ending) → Ends l p (tasks.Gen seed size) left left' faults faults' first before now gives e → IsUnread e → ⊥
+  generated_is_read seed size left left' faults faults' first before now gives (endings.NoScript text) k u = absurd (let e : tasks.Gen seed size ≡ tasks.Run = k.0 in cc)
+  generated_is_read seed size left left' faults faults' first before now gives endings.ReadFault k u = absurd (let e : tasks.Gen seed size ≡ tasks.Run = k.0 in cc)
+  generated_is_read seed size left left' faults faults' first before now gives e k u = u
 
 -- ---- by the status
 
 pub no_words : (e : Ending) → status_of e ≡ 2 → ⊥
 no_words (endings.Report text) s = omega (arith, s)
+no_words (endings.Summary text) s = omega (arith, s)
 no_words e s = omega (arith, s)
 
 pub no_fault : (e : Ending) → status_of e ≡ 4 → ⊥
@@ -100,41 +156,58 @@ module _ (F : List ℕ → Type 0) (B : Type 0) (status : ℕ) (e : Ending) (tol
       (λ (a : (status ≡ status_of e) × F (text_of e)). subst (λ n. (n ≤ 10) × (n ≢ 8)) (sym a.0) (known_status e))
       (λ (b : (status ≡ 4) × B). subst (λ n. (n ≤ 10) × (n ≢ 8)) (sym b.0) (omega arith, λ q. omega (arith, q))) told
 
-module _ {L P : Type 0} (l : logs.Ghosts L) (p : disks.Ghosts P) (left left' held held' : Option (List ℕ)) (faults faults' before now : ℕ) (gives : Volumes L P → Type 0) where
+module _ {L P : Type 0} (l : logs.Ghosts L) (p : disks.Ghosts P) (words : List (List ℕ)) (task : Task) (is : IsTask words task) (left left' held held' : Option (List ℕ)) (faults faults' : ℕ) (first : ℕ → Volumes L P → Type 0) (before now : ℕ) (gives : Volumes L P → Type 0) where
   abbrev pub Ended : Ending → Type 0
-  Ended e = Ends l p left left' faults faults' before now gives e
+  Ended e = Ends l p task left left' faults faults' first before now gives e
 
   abbrev pub Wrote : Ending → Type 0
   Wrote e = Appends held held' (text_of e)
 
+  abbrev HoldsReport : Type 0
+  HoldsReport =
+      (run : IsWholeRun p.tells left left' held held')
+      × LeavesVolumes l p (first run.answer.script.banks) gives run.answer.lawful.life
+
+  abbrev HoldsSummary : Type 0
+  HoldsSummary =
+      (seed size : ℕ) × IsGen words seed size × (sum : IsWholeSummary p.tells seed size held held')
+      × LeavesVolumes l p (first (generated seed size).banks) gives sum.counts.lawful.life
+
   -- what the ending of each status says
   pub record Says (B : Type 0) (status : ℕ) (e : Ending) : Type 0 where
-    pub done : status ≡ 0 → (run : IsWholeRun p.tells left left' held held') × LeavesRecords l gives run.answer.lawful.life.life
-    pub script : status ≡ 1 → IsRefused left left' held held'
-    pub words : status ≡ 2 → ⊥
-    pub read : status ≡ 3 → Rose faults faults' × Appends held held' (codes "read-fault" ++ 10 ∷ [])
+    pub done : status ≡ 0 → IsRun words → HoldsReport
+    pub counted : status ≡ 0 → (IsRun words → ⊥) → HoldsSummary
+    pub script : status ≡ 1 → IsRun words × IsRefused left left' held held'
+    pub refused : status ≡ 2 → ⊥
+    pub read : status ≡ 3 → IsRun words × Rose faults faults' × Appends held held' (codes "read-fault" ++ 10 ∷ [])
     pub write : status ≡ 4 → B
-    pub device : status ≡ 5 → HasDeviceFailed l p before now gives × Appends held held' (codes "device" ++ 10 ∷ [])
+    pub device : status ≡ 5 → HasDeviceFailed l p first before now gives × Appends held held' (codes "device" ++ 10 ∷ [])
     pub memory : status ≡ 6 → Appends held held' (codes "memory" ++ 10 ∷ [])
-    pub damaged : status ≡ 7 → (at : ℕ) × Appends held held' (damage_text at) × IsUnrun l p left left' before now gives (no_lives.Damaged at)
-    pub full : status ≡ 9 → IsUnrun l p left left' before now gives no_lives.Full × Appends held held' (codes "log-full" ++ 10 ∷ [])
-    pub old_log : status ≡ 10 → IsUnrun l p left left' before now gives no_lives.OldLog × Appends held held' (codes "old-log" ++ 10 ∷ [])
+    pub damaged : status ≡ 7 → (at : ℕ) × Appends held held' (damage_text at) × IsUnrunBy l p words left left' first before now gives (no_lives.Damaged at)
+    pub full : status ≡ 9 → IsUnrunBy l p words left left' first before now gives no_lives.Full × Appends held held' (codes "log-full" ++ 10 ∷ [])
+    pub old_log : status ≡ 10 → IsUnrunBy l p words left left' first before now gives no_lives.OldLog × Appends held held' (codes "old-log" ++ 10 ∷ [])
     pub statuses : (status ≤ 10) × (status ≢ 8)
     pub unread : (status ≡ 1) ⊎ (status ≡ 3) → IsUnread e
 
-  done : (e : Ending) → Ended e → (status_of e ≡ 0) × Wrote e → (run : IsWholeRun p.tells left left' held held') × LeavesRecords l gives run.answer.lawful.life.life
-  done (endings.Report text) k w = (record { text = text.items; answer = k.0; written = w.1 }, k.1)
-  done e k w = absurd (omega (arith, w.0))
+  done : (e : Ending) → Ended e → (status_of e ≡ 0) × Wrote e → IsRun words → HoldsReport
+  done (endings.Report text) k w run = (record { text = text.items; answer = k.1; written = w.1 }, k.2)
+  done (endings.Summary text) k w run = absurd (run_not_gen words k.0 k.1 run (gen_by words task k.0 k.1 is k.2))
+  done e k w run = absurd (omega (arith, w.0))
 
-  script : (e : Ending) → Ended e → (status_of e ≡ 1) × Wrote e → IsRefused left left' held held'
-  script (endings.NoScript text) k w = record { text = text.items; refusal = k; written = w.1 }
+  counted : (e : Ending) → Ended e → (status_of e ≡ 0) × Wrote e → (IsRun words → ⊥) → HoldsSummary
+  counted (endings.Report text) k w other = absurd (other (run_asked words task is k.0))
+  counted (endings.Summary text) k w other = (k.0, k.1, gen_by words task k.0 k.1 is k.2, record { text = text.items; counts = k.3; written = w.1 }, k.4)
+  counted e k w other = absurd (omega (arith, w.0))
+
+  script : (e : Ending) → Ended e → (status_of e ≡ 1) × Wrote e → IsRun words × IsRefused left left' held held'
+  script (endings.NoScript text) k w = (run_asked words task is k.0, record { text = text.items; refusal = k.1; written = w.1 })
   script e k w = absurd (omega (arith, w.0))
 
-  read : (e : Ending) → Ended e → (status_of e ≡ 3) × Wrote e → Rose faults faults' × Appends held held' (codes "read-fault" ++ 10 ∷ [])
-  read endings.ReadFault k w = (k, w.1)
+  read : (e : Ending) → Ended e → (status_of e ≡ 3) × Wrote e → IsRun words × Rose faults faults' × Appends held held' (codes "read-fault" ++ 10 ∷ [])
+  read endings.ReadFault k w = (run_asked words task is k.0, k.1, w.1)
   read e k w = absurd (omega (arith, w.0))
 
-  device : (e : Ending) → Ended e → (status_of e ≡ 5) × Wrote e → HasDeviceFailed l p before now gives × Appends held held' (codes "device" ++ 10 ∷ [])
+  device : (e : Ending) → Ended e → (status_of e ≡ 5) × Wrote e → HasDeviceFailed l p first before now gives × Appends held held' (codes "device" ++ 10 ∷ [])
   device endings.Device k w = (k, w.1)
   device e k w = absurd (omega (arith, w.0))
 
@@ -142,24 +215,25 @@ module _ {L P : Type 0} (l : logs.Ghosts L) (p : disks.Ghosts P) (left left' hel
   memory endings.Memory w = w.1
   memory e w = absurd (omega (arith, w.0))
 
-  damaged : (e : Ending) → Ended e → (status_of e ≡ 7) × Wrote e → (at : ℕ) × Appends held held' (damage_text at) × IsUnrun l p left left' before now gives (no_lives.Damaged at)
-  damaged (endings.Damaged text) k w = (k.0, subst (Appends held held') k.1 w.1, k.2)
+  damaged : (e : Ending) → Ended e → (status_of e ≡ 7) × Wrote e → (at : ℕ) × Appends held held' (damage_text at) × IsUnrunBy l p words left left' first before now gives (no_lives.Damaged at)
+  damaged (endings.Damaged text) k w = (k.0, subst (Appends held held') k.1 w.1, (task, is, k.2))
   damaged e k w = absurd (omega (arith, w.0))
 
-  full : (e : Ending) → Ended e → (status_of e ≡ 9) × Wrote e → IsUnrun l p left left' before now gives no_lives.Full × Appends held held' (codes "log-full" ++ 10 ∷ [])
-  full endings.Full k w = (k, w.1)
+  full : (e : Ending) → Ended e → (status_of e ≡ 9) × Wrote e → IsUnrunBy l p words left left' first before now gives no_lives.Full × Appends held held' (codes "log-full" ++ 10 ∷ [])
+  full endings.Full k w = ((task, is, k), w.1)
   full e k w = absurd (omega (arith, w.0))
 
-  old_log : (e : Ending) → Ended e → (status_of e ≡ 10) × Wrote e → IsUnrun l p left left' before now gives no_lives.OldLog × Appends held held' (codes "old-log" ++ 10 ∷ [])
-  old_log endings.OldLog k w = (k, w.1)
+  old_log : (e : Ending) → Ended e → (status_of e ≡ 10) × Wrote e → IsUnrunBy l p words left left' first before now gives no_lives.OldLog × Appends held held' (codes "old-log" ++ 10 ∷ [])
+  old_log endings.OldLog k w = ((task, is, k), w.1)
   old_log e k w = absurd (omega (arith, w.0))
 
   pub says : (B : Type 0) (status : ℕ) (e : Ending) → Ended e → Told (Appends held held') B status e → Says B status e
   says B status e k told =
       let at : (n : ℕ) → n ≢ 4 → status ≡ n → (status_of e ≡ n) × Wrote e = λ n other s. written (Appends held held') B status e told n s other in record {
-        done = λ s. done e k (at 0 (λ q. omega (arith, q)) s);
+        done = λ s run. done e k (at 0 (λ q. omega (arith, q)) s) run;
+        counted = λ s other. counted e k (at 0 (λ q. omega (arith, q)) s) other;
         script = λ s. script e k (at 1 (λ q. omega (arith, q)) s);
-        words = λ s. no_words e (at 2 (λ q. omega (arith, q)) s).0;
+        refused = λ s. no_words e (at 2 (λ q. omega (arith, q)) s).0;
         read = λ s. read e k (at 3 (λ q. omega (arith, q)) s);
         write = fault_by (Appends held held') B status e told;
         device = λ s. device e k (at 5 (λ q. omega (arith, q)) s);

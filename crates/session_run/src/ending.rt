@@ -13,6 +13,8 @@ use tx_model::Memory;
 pub enum Ending {
     /// The report's text.
     Report(Vec<u8>),
+    /// The line that tells what a generated script did.
+    Summary(Vec<u8>),
     /// The line that tells where the bytes are refused, and why.
     NoScript(Vec<u8>),
     ReadFault,
@@ -33,7 +35,7 @@ impl Ending {
         ensures { result ≡ status_of self.now }
     {
         match self {
-            Ending::Report(_) => 0,
+            Ending::Report(_) | Ending::Summary(_) => 0,
             Ending::NoScript(_) => 1,
             Ending::ReadFault => 3,
             Ending::Device => 5,
@@ -50,6 +52,7 @@ impl Ending {
     {
         match self {
             Ending::Report(text) => text.as_slice(),
+            Ending::Summary(text) => text.as_slice(),
             Ending::NoScript(text) => text.as_slice(),
             Ending::ReadFault => b"read-fault\n",
             Ending::Device => b"device\n",

@@ -6,11 +6,12 @@ mod commands;
 mod ending;
 mod laws;
 mod member;
-mod rest;
 mod round;
 mod rounds;
 mod run;
+mod sessions;
+mod task;
 mod tool;
 
-pub use run::run_script;
+pub use run::{count_script, run_script};
 pub use tool::{run_tool, say_out_of_memory};

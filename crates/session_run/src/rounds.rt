@@ -1,30 +1,30 @@
-//! Runs the rounds of a script over one lock table, and prints them as they are done.
+//! Runs the rounds of a script over one lock table, and the dumps between them, and keeps them as they are done.
 ghost use Rattle.std.specs.Prelude.{◌≡◌, ◌+◌, ◌^◌, ◌<◌, ◌≤◌, ◌∷◌, ℕ, List, [], IfOk, OnOk, length, true};
 ghost use Rattle.std.specs.List.{All};
-ghost use Rattle.engine_parts.specs.declared.session.Session.{Session};
 ghost use Rattle.engine_host.specs.Hosts.{HasSeenNothing, HoldsAllBut, IsHost, IsNewSession, IsParked};
-ghost use Rattle.session_lang.specs.Rounds.{round_of, rounds_of};
+ghost use Rattle.tx_model.specs.Asked as asked;
+ghost use Rattle.tx_model.specs.Asked.{rounds_in};
+ghost use Rattle.session_lang.specs.Rounds.{asked_at, asked_of, asked_round};
 ghost use Rattle.run_law.specs.Turns.{IsRunnable, MayRun, is_command, turns_in};
 ghost use Rattle.script_rounds.specs.Plans.{IsBlank};
-ghost use Rattle.session_run.specs.declared.rest.Resting.{Resting as Here};
 ghost use Rattle.session_run.specs.Rounds.{MayAdd};
 ghost use Rattle.session_run.specs.GoesOn.{AreHome, GoesOn};
-ghost use Rattle.session_run.specs.Runs.{HasRun, RunsOn};
+ghost use Rattle.session_run.specs.Runs.{HasRun, RunsOn, ShowsOn};
 
 use crate::laws::{life_begins, life_goes_on};
-use crate::rest::{Resting, new_sessions};
 use crate::round::run_round;
+use crate::sessions::new_sessions;
 use disk_core::{LogDisk, PageDisk};
+use engine_dumps::show;
 use engine_host::Host;
-use engine_parts::EngineLaw;
+use engine_parts::{EngineLaw, Session};
 use hall::Hall;
-use report_text::{Text, put_round_line};
-use script_rounds::{Plan, next_round};
+use script_rounds::{LineKeeper, Plan, next_round};
 use session_lang::{Items, Script};
 use std::alloc::Global;
 use std::sync::Wait;
 use std::thread::Threads;
-use tx_model::{Memory, NameList};
+use tx_model::{Memory, NameList, Step};
 
 // A round of fewer commands isn't worth its threads: starting them costs as much as some hundred commands.
 const FEW_COMMANDS: usize = 512;
@@ -39,18 +39,23 @@ fn threads_for(plan: &Plan, round: &Items, most: usize) -> usize
     most.max(1)
 }
 
-/// Runs a round that has commands, behind so many rounds, and prints it.
-fn run_numbered<R: Threads + Wait + Sync, L: LogDisk + Send + Sync, P: PageDisk + Send + Sync>(
+/// Runs a round that has commands, behind so many rounds, and keeps it.
+fn run_numbered<
+    R: Threads + Wait + Sync,
+    K: LineKeeper + Send + Drop,
+    L: LogDisk + Send + Sync,
+    P: PageDisk + Send + Sync,
+>(
     rt: &R,
     alloc: Global,
     hall: &Hall<EngineLaw<L, P>>,
     host: &mut Host<L, P>,
-    sessions: &mut [Resting],
+    sessions: &mut [Session],
     plan: &mut Plan,
     rounds: u64,
     round: &Items,
     names: &NameList,
-    text: &mut Text,
+    kept: &mut K,
     threads: usize,
 ) -> Result<(), Memory>
     requires home { AreHome hall.now host.old sessions.old }
@@ -62,32 +67,37 @@ fn run_numbered<R: Threads + Wait + Sync, L: LogDisk + Send + Sync, P: PageDisk 
     ensures cluster { host.new.cluster ≡ host.old.cluster }
     ensures count { length sessions.new ≡ length sessions.old }
     ensures plan { OnOk result (IsBlank plan.new × (length plan.new.places.items ≡ length sessions.new)) }
-    ensures ran { OnOk result (RunsOn hall.now names.now rounds (turns_in round.now ∷ []) host.old host.new
-        sessions.old sessions.new text.old text.new) }
+    ensures ran { OnOk result (RunsOn K.LineKeeper hall.now names.now rounds (asked.round (turns_in round.now) ∷ []) host.old
+        host.new sessions.old sessions.new kept.old kept.new) }
 {
     life_goes_on(hall);
     plan.fill(round)?;
-    put_round_line(text, rounds + 1)?;
+    kept.add_round(rounds + 1)?;
     let count = threads_for(plan, round, threads);
     run_round(
-        rt, alloc, hall, host, sessions, plan, round, names, text, count,
+        rt, alloc, hall, host, sessions, plan, round, names, kept, count,
     )?;
     plan.clear(alloc);
     Ok(())
 }
 
 /// Runs a round behind so many rounds, if it has commands, and answers how many have run then.
-fn run_next<R: Threads + Wait + Sync, L: LogDisk + Send + Sync, P: PageDisk + Send + Sync>(
+fn run_next<
+    R: Threads + Wait + Sync,
+    K: LineKeeper + Send + Drop,
+    L: LogDisk + Send + Sync,
+    P: PageDisk + Send + Sync,
+>(
     rt: &R,
     alloc: Global,
     hall: &Hall<EngineLaw<L, P>>,
     host: &mut Host<L, P>,
-    sessions: &mut [Resting],
+    sessions: &mut [Session],
     plan: &mut Plan,
     rounds: u64,
     round: &Items,
     names: &NameList,
-    text: &mut Text,
+    kept: &mut K,
     threads: usize,
 ) -> Result<u64, Memory>
     requires home { AreHome hall.now host.old sessions.old }
@@ -100,29 +110,66 @@ fn run_next<R: Threads + Wait + Sync, L: LogDisk + Send + Sync, P: PageDisk + Se
     ensures cluster { host.new.cluster ≡ host.old.cluster }
     ensures count { length sessions.new ≡ length sessions.old }
     ensures plan { OnOk result (IsBlank plan.new × (length plan.new.places.items ≡ length sessions.new)) }
-    ensures rounds { IfOk result (λ n. n ≡ rounds + length (round_of (turns_in round.now))) }
-    ensures ran { OnOk result (RunsOn hall.now names.now rounds (round_of (turns_in round.now)) host.old host.new
-        sessions.old sessions.new text.old text.new) }
+    ensures rounds { IfOk result (λ n. n ≡ rounds + length (rounds_in (asked_round (turns_in round.now)))) }
+    ensures ran { OnOk result (RunsOn K.LineKeeper hall.now names.now rounds (asked_round (turns_in round.now)) host.old
+        host.new sessions.old sessions.new kept.old kept.new) }
 {
     if round.is_empty() {
         return Ok(rounds);
     }
     run_numbered(
-        rt, alloc, hall, host, sessions, plan, rounds, round, names, text, threads,
+        rt, alloc, hall, host, sessions, plan, rounds, round, names, kept, threads,
     )?;
     Ok(rounds + 1)
 }
 
-/// Runs the rounds of a script, one after another, its sessions being these.
-fn run_each<R: Threads + Wait + Sync, L: LogDisk + Send + Sync, P: PageDisk + Send + Sync>(
+/// Answers the dump that the item at this place asks for, if it does, and keeps it.
+fn show_next<R: Wait, K: LineKeeper, L: LogDisk, P: PageDisk>(
     rt: &R,
     alloc: Global,
     hall: &Hall<EngineLaw<L, P>>,
     host: &mut Host<L, P>,
-    sessions: &mut [Resting],
+    sessions: &[Session],
+    script: &Items,
+    place: usize,
+    names: &NameList,
+    kept: &mut K,
+) -> Result<(), Memory>
+    requires home { AreHome hall.now host.old sessions.now }
+    requires items { All (MayRun (length sessions.now)) script.now }
+    ensures home { AreHome hall.now host.new sessions.now }
+    ensures cluster { host.new.cluster ≡ host.old.cluster }
+    ensures ran { OnOk result (ShowsOn K.LineKeeper hall.now names.now (asked_at script.now place) host.old host.new
+        sessions.now kept.old kept.new) }
+{
+    let Some(dump) = script.dump_at(place) else {
+        return Ok(());
+    };
+    let reply = show(rt, alloc, hall, host, dump)?;
+    let step = Step::Dump {
+        what: dump.what,
+        at: dump.at,
+        length: dump.length,
+        reply,
+    };
+    kept.add_dump(names, &step)
+}
+
+/// Runs the rounds of a script, one after another, and the dumps between them, its sessions being these.
+fn run_each<
+    R: Threads + Wait + Sync,
+    K: LineKeeper + Send + Drop,
+    L: LogDisk + Send + Sync,
+    P: PageDisk + Send + Sync,
+>(
+    rt: &R,
+    alloc: Global,
+    hall: &Hall<EngineLaw<L, P>>,
+    host: &mut Host<L, P>,
+    sessions: &mut [Session],
     script: Items,
     names: &NameList,
-    text: &mut Text,
+    kept: &mut K,
     threads: usize,
 ) -> Result<(), Memory>
     requires begins { GoesOn hall.now host.old sessions.old [] }
@@ -130,8 +177,8 @@ fn run_each<R: Threads + Wait + Sync, L: LogDisk + Send + Sync, P: PageDisk + Se
     requires few { length script ≤ 2 ^ 24 }
     ensures home { AreHome hall.now host.new sessions.new }
     ensures cluster { host.new.cluster ≡ host.old.cluster }
-    ensures ran { OnOk result (HasRun hall.now host.new sessions.new names.now (rounds_of script.entry)
-        text.old text.new) }
+    ensures ran { OnOk result (HasRun K.LineKeeper hall.now host.new sessions.new names.now (asked_of script.entry)
+        kept.old kept.new) }
 {
     let mut plan = Plan::new(alloc, sessions.len())?;
     let mut rest = script;
@@ -139,21 +186,29 @@ fn run_each<R: Threads + Wait + Sync, L: LogDisk + Send + Sync, P: PageDisk + Se
     while !rest.is_empty() {
         let (round, behind) = next_round(&rest);
         rounds = run_next(
-            rt, alloc, hall, host, sessions, &mut plan, rounds, &round, names, text, threads,
+            rt, alloc, hall, host, sessions, &mut plan, rounds, &round, names, kept, threads,
         )?;
+        let place = round.len();
+        show_next(rt, alloc, hall, host, sessions, &rest, place, names, kept)?;
         rest = behind;
     }
     Ok(())
 }
 
-/// Runs the rounds of a script, one after another: the sessions of a round on at most so many threads.
-pub fn run_rounds<R: Threads + Wait + Sync, L: LogDisk + Send + Sync, P: PageDisk + Send + Sync>(
+/// Runs the rounds of a script, one after another, and the dumps between them: the sessions of a round on at most so
+/// many threads.
+pub fn run_rounds<
+    R: Threads + Wait + Sync,
+    K: LineKeeper + Send + Drop,
+    L: LogDisk + Send + Sync,
+    P: PageDisk + Send + Sync,
+>(
     rt: &R,
     alloc: Global,
     hall: &Hall<EngineLaw<L, P>>,
     host: &mut Host<L, P>,
     script: &Script,
-    text: &mut Text,
+    kept: &mut K,
     threads: usize,
 ) -> Result<(), Memory>
     requires host { IsHost hall.now host.old }
@@ -164,8 +219,8 @@ pub fn run_rounds<R: Threads + Wait + Sync, L: LogDisk + Send + Sync, P: PageDis
     requires count { host.old.cluster.sessions ≡ length script.now.names }
     ensures host { IsHost hall.now host.new }
     ensures all { HoldsAllBut host.new [] }
-    ensures ran { OnOk result ((sessions : List Here) × HasRun hall.now host.new sessions script.now.names
-        (rounds_of script.now.items) text.old text.new) }
+    ensures ran { OnOk result ((sessions : List Session) × HasRun K.LineKeeper hall.now host.new sessions script.now.names
+        (asked_of script.now.items) kept.old kept.new) }
 {
     let mut sessions = new_sessions(alloc, host.cluster.sessions)?;
     life_begins(hall);
@@ -178,7 +233,7 @@ pub fn run_rounds<R: Threads + Wait + Sync, L: LogDisk + Send + Sync, P: PageDis
         all,
         script.items.items(),
         &script.names,
-        text,
+        kept,
         threads,
     )
 }

@@ -1,39 +1,33 @@
 //! The tool's top call, with the main guarantee (`docs/GUARANTEES.md`).
-ghost use Rattle.std.specs.Prelude.{◌≡◌, ◌≢◌, ◌≤◌, ◌⊎◌, ◌↔◌, ◌++◌, ◌∷◌, ℕ, [], IsTrue, codes, map, string_bytes, take};
+ghost use Rattle.std.specs.Prelude.{◌≡◌, ◌≢◌, ◌≤◌, ◌⊎◌, ◌++◌, ◌∷◌, ℕ, List, Option, [], IsTrue, codes, map, string_bytes, take};
 ghost use Rattle.std.specs.Io.KnownBytes.{Appends};
+ghost use Rattle.disk_core.specs.Media.{HasBanks};
 ghost use Rattle.tx_io.specs.Causes.{Rose};
 ghost use Rattle.engine_life.specs.declared.refusal.NoLife.TheVariants as no_lives;
 ghost use Rattle.engine_life.specs.Refusals.{HasDeviceFailed};
 ghost use Rattle.run_law.specs.Tool.{IsRefused, IsRun, IsWholeRun, ReadsUpTo, most_read};
-ghost use Rattle.session_run.specs.Records.{LeavesRecords};
-ghost use Rattle.session_run.specs.Tool.{Ends, HoldsFront, IsUnread, IsUnrun, damage_text, status_of, text_of};
+ghost use Rattle.script_gen.specs.Generated.{generated};
+ghost use Rattle.script_gen.specs.Laws.{most_transactions};
+ghost use Rattle.script_gen.specs.Words.{IsGen};
+ghost use Rattle.session_run.specs.declared.task.Task.TheVariants as tasks;
+ghost use Rattle.session_run.specs.Leaves.{LeavesVolumes};
+ghost use Rattle.session_run.specs.Tool.{Ends, HoldsFront, IsAccepted, IsSized, IsUnread, IsUnrunBy, IsWholeSummary, damage_text, status_of, text_of};
 
 use crate::ending::{Ending, unopened, unread};
-use crate::run::run_script;
+use crate::run::{count_script, run_script};
+use crate::task::{Task, task_of};
 use disk_core::Media;
+use script_gen::generate;
+use script_gen::laws::generated_scripts_run;
 use script_source::{take_script, write_all};
 use std::alloc::Global;
 use std::sync::Wait;
 use std::thread::Threads;
 use tx_io::{Failed, Sink, Source};
-
-fn is_run_word(word: &String) -> bool
-    ensures { IsTrue result ↔ (string_bytes word.now ≡ codes "run") }
-{
-    word.as_str() == "run"
-}
-
-fn is_run(words: &[String]) -> bool
-    ensures { IsTrue result ↔ IsRun (map string_bytes words.now) }
-{
-    match words {
-        [word] => is_run_word(word),
-        _ => false,
-    }
-}
+use tx_model::Memory;
 
 /// Reads the source, runs its script over the media, and makes the report.
-fn work<R: Threads + Wait + Sync, S: Source, M: Media>(
+fn run_source<R: Threads + Wait + Sync, S: Source, M: Media>(
     rt: &R,
     alloc: Global,
     source: &mut S,
@@ -45,8 +39,9 @@ where
     M::Pages: Sync,
     requires idle { IsTrue (M.is_idle media.old) }
     requires new { IsTrue (M.is_new media.old) }
-    ensures ends { Ends M.Log.LogDisk M.Pages.PageDisk (S.left source.old) (S.left source.new)
-        (S.faults source.old) (S.faults source.new) (M.faults media.old) (M.faults media.new) (M.gives media.new) result }
+    ensures ends { Ends M.Log.LogDisk M.Pages.PageDisk tasks.Run (S.left source.old) (S.left source.new)
+        (S.faults source.old) (S.faults source.new) HasBanks (M.faults media.old) (M.faults media.new) (M.gives media.new)
+        result }
     ensures later { S.faults source.old ≤ S.faults source.new }
     ensures amount { ReadsUpTo most_read (S.left source.old) (S.left source.new) }
     ensures idle { IsTrue (M.is_idle media.new) }
@@ -60,6 +55,68 @@ where
     match run_script(rt, alloc, &script, media, threads) {
         Ok(text) => Ending::Report(text),
         Err(refusal) => unopened(alloc, refusal),
+    }
+}
+
+/// Runs the script of a seed and a size over the media, and makes its summary. Reads no source.
+fn run_generated<R: Threads + Wait + Sync, M: Media>(
+    rt: &R,
+    alloc: Global,
+    seed: u32,
+    size: u32,
+    media: &mut M,
+    threads: usize,
+) -> Ending
+where
+    M::Log: Sync,
+    M::Pages: Sync,
+    requires few { size ≤ most_transactions }
+    requires idle { IsTrue (M.is_idle media.old) }
+    requires new { IsTrue (M.is_new media.old) }
+    ensures ends { (left : Option (List ℕ)) (faults : ℕ) → Ends M.Log.LogDisk M.Pages.PageDisk (tasks.Gen seed size)
+        left left faults faults HasBanks (M.faults media.old) (M.faults media.new) (M.gives media.new) result }
+    ensures idle { IsTrue (M.is_idle media.new) }
+    ensures count { M.faults media.old ≤ M.faults media.new }
+{
+    generated_scripts_run();
+    let script = match generate(alloc, seed, size) {
+        Ok(script) => script,
+        Err(Memory) => return Ending::Memory,
+    };
+    match count_script(rt, alloc, &script, media, threads) {
+        Ok(text) => Ending::Summary(text),
+        Err(refusal) => unopened(alloc, refusal),
+    }
+}
+
+/// Does what is asked for.
+fn work<R: Threads + Wait + Sync, S: Source, M: Media>(
+    rt: &R,
+    alloc: Global,
+    task: Task,
+    source: &mut S,
+    media: &mut M,
+    threads: usize,
+) -> Ending
+where
+    M::Log: Sync,
+    M::Pages: Sync,
+    requires sized { IsSized task }
+    requires idle { IsTrue (M.is_idle media.old) }
+    requires new { IsTrue (M.is_new media.old) }
+    ensures ends { Ends M.Log.LogDisk M.Pages.PageDisk task (S.left source.old) (S.left source.new)
+        (S.faults source.old) (S.faults source.new) HasBanks (M.faults media.old) (M.faults media.new) (M.gives media.new)
+        result }
+    ensures later { S.faults source.old ≤ S.faults source.new }
+    ensures amount { ReadsUpTo most_read (S.left source.old) (S.left source.new) }
+    ensures untouched { (task ≡ tasks.Run → ⊥) → source.new ≡ source.old }
+    ensures idle { IsTrue (M.is_idle media.new) }
+    ensures unmounted { IsUnread result → media.new ≡ media.old }
+    ensures count { M.faults media.old ≤ M.faults media.new }
+{
+    match task {
+        Task::Run => run_source(rt, alloc, source, media, threads),
+        Task::Gen { seed, size } => run_generated(rt, alloc, seed, size, media, threads),
     }
 }
 
@@ -99,7 +156,10 @@ pub fn say_out_of_memory<K: Sink>(sink: &mut K) -> u8
 /// script, or have a line that the run doesn't do yet, and the line `script LINE KIND` is written, 2 the words are
 /// refused, 3 the source failed, 4 the sink failed, 5 the media or a volume failed before the life began, 6 out of
 /// memory, 7 the log is damaged, and the line `damaged AT` is written, 9 the log has no room for the first checkpoint,
-/// 10 the log has records. The only word is `run`. Reads at most 16,777,217 bytes, and none where the words are refused.
+/// 10 the log has records.
+///
+/// The words are `run`, or `gen SEED SIZE`, SEED being 1 to 10 decimal digits, from 1 to 2147483646, and SIZE as many,
+/// from 1 to 100,000. `run` reads at most 16,777,217 bytes of the source; for other words none is read.
 pub fn run_tool<R: Threads + Wait + Sync, S: Source, K: Sink, M: Media>(
     rt: &R,
     alloc: Global,
@@ -115,37 +175,48 @@ where
     requires idle { IsTrue (M.is_idle media.old) }
     requires new { IsTrue (M.is_new media.old) }
 
-    // The main guarantee: the bytes written report one legal history, each command once and in order, and each
-    // reply lawful. The media holds a log with the records that the report tells.
+    // The main guarantee, for `run`: the bytes written report one legal history, each command once and in order, and
+    // each reply lawful. The media holds a log with the records that the report tells, and no fault is told of a volume
+    // that hasn't counted it.
     ensures done { result ≡ 0 → IsRun (map string_bytes words.now)
-        × (run : IsWholeRun M.Pages.tells (S.left source.old) (S.left source.new) (K.held sink.old) (K.held sink.new))
-        × LeavesRecords M.Log.LogDisk (M.gives media.new) run.answer.lawful.life.life }
+        → (run : IsWholeRun M.Pages.tells (S.left source.old) (S.left source.new) (K.held sink.old) (K.held sink.new))
+        × LeavesVolumes M.Log.LogDisk M.Pages.PageDisk (HasBanks run.answer.script.banks) (M.gives media.new)
+        run.answer.lawful.life }
+
+    // And for `gen`: the line written has the counts of such a report of the generated script.
+    ensures counted { result ≡ 0 → (IsRun (map string_bytes words.now) → ⊥) → (seed size : ℕ)
+        × IsGen (map string_bytes words.now) seed size
+        × (sum : IsWholeSummary M.Pages.tells seed size (K.held sink.old) (K.held sink.new))
+        × LeavesVolumes M.Log.LogDisk M.Pages.PageDisk (HasBanks (generated seed size).banks) (M.gives media.new)
+        sum.counts.lawful.life }
 
     // Why it ends otherwise.
     ensures script { result ≡ 1 → IsRun (map string_bytes words.now)
         × IsRefused (S.left source.old) (S.left source.new) (K.held sink.old) (K.held sink.new) }
-    ensures words { result ≡ 2 → IsRun (map string_bytes words.now) → ⊥ }
-    ensures words_only { (IsRun (map string_bytes words.now) → ⊥) → (result ≡ 2) ⊎ (result ≡ 4) }
-    ensures read { result ≡ 3 → Rose (S.faults source.old) (S.faults source.new) }
+    ensures words { result ≡ 2 → IsAccepted (map string_bytes words.now) → ⊥ }
+    ensures words_only { (IsAccepted (map string_bytes words.now) → ⊥) → (result ≡ 2) ⊎ (result ≡ 4) }
+    ensures read { result ≡ 3 → IsRun (map string_bytes words.now) × Rose (S.faults source.old) (S.faults source.new) }
     ensures write { result ≡ 4 → Rose (K.faults sink.old) (K.faults sink.new) }
     ensures front { result ≡ 4 → HoldsFront M.Log.LogDisk M.Pages.PageDisk (map string_bytes words.now)
-        (S.left source.old) (S.left source.new) (S.faults source.old) (S.faults source.new)
+        (S.left source.old) (S.left source.new) (S.faults source.old) (S.faults source.new) HasBanks
         (M.faults media.old) (M.faults media.new) (M.gives media.new) (K.held sink.old) (K.held sink.new) }
-    ensures device { result ≡ 5 → HasDeviceFailed M.Log.LogDisk M.Pages.PageDisk
+    ensures device { result ≡ 5 → HasDeviceFailed M.Log.LogDisk M.Pages.PageDisk HasBanks
         (M.faults media.old) (M.faults media.new) (M.gives media.new) }
     ensures damaged { result ≡ 7 → (at : ℕ) × Appends (K.held sink.old) (K.held sink.new) (damage_text at)
-        × IsUnrun M.Log.LogDisk M.Pages.PageDisk (S.left source.old) (S.left source.new)
-        (M.faults media.old) (M.faults media.new) (M.gives media.new) (no_lives.Damaged at) }
-    ensures full { result ≡ 9 → IsUnrun M.Log.LogDisk M.Pages.PageDisk (S.left source.old) (S.left source.new)
-        (M.faults media.old) (M.faults media.new) (M.gives media.new) no_lives.Full }
-    ensures old_log { result ≡ 10 → IsUnrun M.Log.LogDisk M.Pages.PageDisk (S.left source.old) (S.left source.new)
-        (M.faults media.old) (M.faults media.new) (M.gives media.new) no_lives.OldLog }
+        × IsUnrunBy M.Log.LogDisk M.Pages.PageDisk (map string_bytes words.now) (S.left source.old) (S.left source.new)
+        HasBanks (M.faults media.old) (M.faults media.new) (M.gives media.new) (no_lives.Damaged at) }
+    ensures full { result ≡ 9 → IsUnrunBy M.Log.LogDisk M.Pages.PageDisk (map string_bytes words.now)
+        (S.left source.old) (S.left source.new) HasBanks (M.faults media.old) (M.faults media.new) (M.gives media.new)
+        no_lives.Full }
+    ensures old_log { result ≡ 10 → IsUnrunBy M.Log.LogDisk M.Pages.PageDisk (map string_bytes words.now)
+        (S.left source.old) (S.left source.new) HasBanks (M.faults media.old) (M.faults media.new) (M.gives media.new)
+        no_lives.OldLog }
     ensures statuses { (result ≤ 10) × (result ≢ 8) }
 
     // What it reads, and how it leaves the media.
     ensures amount { ReadsUpTo most_read (S.left source.old) (S.left source.new) }
     ensures untouched { (IsRun (map string_bytes words.now) → ⊥) → source.new ≡ source.old }
-    ensures unused { (IsRun (map string_bytes words.now) → ⊥) → media.new ≡ media.old }
+    ensures unused { (IsAccepted (map string_bytes words.now) → ⊥) → media.new ≡ media.old }
     ensures unmounted { (result ≡ 1) ⊎ (result ≡ 3) → media.new ≡ media.old }
     ensures rested { IsTrue (M.is_idle media.new) }
 
@@ -158,9 +229,11 @@ where
     ensures no_room { result ≡ 9 → Appends (K.held sink.old) (K.held sink.new) (codes "log-full" ++ 10 ∷ []) }
     ensures no_new_log { result ≡ 10 → Appends (K.held sink.old) (K.held sink.new) (codes "old-log" ++ 10 ∷ []) }
 {
-    if !is_run(words) {
-        return finish(sink, b"words\n", 2);
+    match task_of(words) {
+        Some(task) => {
+            let ending = work(rt, alloc, task, source, media, threads);
+            put_ending(sink, ending)
+        }
+        None => finish(sink, b"words\n", 2),
     }
-    let ending = work(rt, alloc, source, media, threads);
-    put_ending(sink, ending)
 }

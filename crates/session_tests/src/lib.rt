@@ -8,6 +8,10 @@ mod command_tests;
 #[cfg(test)]
 mod did_tests;
 #[cfg(test)]
+mod dump_tests;
+#[cfg(test)]
+mod gen_tests;
+#[cfg(test)]
 mod horizon_tests;
 #[cfg(test)]
 mod round_tests;

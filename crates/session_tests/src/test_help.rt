@@ -21,11 +21,11 @@ pub fn status_of<R: AllocGlobal + Threads + Wait + Sync, S: Source, K: Sink>(
     run_tool(rt, alloc, words, source, sink, &mut media, 4)
 }
 
-/// Runs the tool with one word on a script, into a sink with this room, where these reads fail. Answers the status and
-/// the bytes held.
+/// Runs the tool with these words on a script, into a sink with this room, where these reads fail. Answers the status
+/// and the bytes held.
 fn run(
     rt: &(impl AllocGlobal + Threads + Wait + Sync),
-    word: &str,
+    words: &[&str],
     script: &str,
     failing: Vec<u64>,
     room: u64,
@@ -33,9 +33,20 @@ fn run(
     let alloc = rt.alloc();
     let mut source = MemSource::new(Vec::from_slice(alloc, script.as_bytes())?, failing);
     let mut sink = MemSink::new(alloc, room, Vec::new(alloc))?;
-    let words = [String::from_str(alloc, word)?];
-    let status = status_of(rt, &words, &mut source, &mut sink);
+    let mut all = Vec::new(alloc);
+    for word in words {
+        all.push(String::from_str(alloc, *word)?)?;
+    }
+    let status = status_of(rt, all.as_slice(), &mut source, &mut sink);
     Ok((status, Vec::from_slice(alloc, sink.held())?))
+}
+
+/// Runs the tool with these words over a source that can't be read. Answers the status and the bytes held.
+pub fn run_unread(
+    rt: &(impl AllocGlobal + Threads + Wait + Sync),
+    words: &[&str],
+) -> Result<(u8, Vec<u8>), Fail> {
+    run(rt, words, "a begin\n", vec![in rt.alloc(); 1]?, 200)
 }
 
 /// Such a run ends with this status and holds these bytes.
@@ -47,7 +58,7 @@ pub fn check_run(
     room: u64,
     wanted: (u8, &str),
 ) -> Result<(), Fail> {
-    let (status, held) = run(rt, word, script, failing, room)?;
+    let (status, held) = run(rt, &[word], script, failing, room)?;
     assert_eq!(rt; status, wanted.0);
     assert_eq!(rt; held.as_slice(), wanted.1.as_bytes());
     Ok(())
@@ -58,7 +69,7 @@ fn report_of(
     rt: &(impl AllocGlobal + Threads + Wait + Sync),
     script: &str,
 ) -> Result<String, Fail> {
-    let (status, held) = run(rt, "run", script, Vec::new(rt.alloc()), 100_000)?;
+    let (status, held) = run(rt, &["run"], script, Vec::new(rt.alloc()), 100_000)?;
     if status != 0 {
         return Err(Fail::from("the status isn't 0"));
     }

@@ -17,4 +17,5 @@ pub mod Stance
 pub mod CommandEvents
 pub mod Replies
 pub mod Lines
+pub mod Asked
 pub mod Rounds

@@ -1,24 +1,32 @@
--- The rounds of a life, and the life that begins a log.
-use Rattle.std.specs.Prelude.{◌≡◌, ℕ, ◌+◌, false, IsTrue, List, [], ◌∷◌, ◌++◌, take}
+-- The steps of a life, and the life that begins a log.
+use Rattle.std.specs.Prelude.{◌≡◌, ℕ, ◌+◌, Bool, false, true, IsTrue, List, [], ◌∷◌, ◌++◌, take}
 use Rattle.std.specs.List.{All, flat_map}
 use Rattle.tx_events.specs.declared.event.Event.{Event}
 use Rattle.tx_events.specs.declared.record.Counters.{Counters}
-use Rattle.tx_model.specs.declared.command.Command.{Command}
 use Rattle.tx_model.specs.declared.report.Line.{Line}
 use Rattle.tx_model.specs.declared.report.Step.{Step}
 use Rattle.tx_model.specs.declared.report.Step.TheVariants as steps
 use Rattle.tx_model.specs.declared.report.Life.{Life}
+use Rattle.tx_model.specs.Asked as asked
+use Rattle.tx_model.specs.Asked.{Asked}
 use Rattle.tx_model.specs.Lines.{AreLinesOf, has_line}
 
 abbrev pub lines_in : Step → List Line
 lines_in (steps.Round number lines) = lines
 lines_in _ = []
 
--- the steps are these rounds, numbered on from n
-abbrev pub AreRounds : ℕ → List (List (ℕ × Command)) → List Step → Type 0
-AreRounds n [] [] = Unit {0}
-AreRounds n (turns ∷ rounds) (steps.Round number lines ∷ rest) = (number ≡ n) × AreLinesOf turns lines × AreRounds (n + 1) rounds rest
-AreRounds n rounds rest = ⊥
+abbrev pub is_round : Step → Bool
+is_round (steps.Round number lines) = true
+is_round _ = false
+
+-- the steps are what was asked, the rounds numbered on from n
+abbrev pub AreSteps : ℕ → List Asked → List Step → Type 0
+AreSteps n [] [] = Unit {0}
+AreSteps n (asked.round turns ∷ more) (steps.Round number lines ∷ rest) =
+    (number ≡ n) × AreLinesOf turns lines × AreSteps (n + 1) more rest
+AreSteps n (asked.dump what at size ∷ more) (steps.Dump of from count reply ∷ rest) =
+    (of ≡ what) × (from ≡ at) × (count ≡ size) × AreSteps n more rest
+AreSteps n more rest = ⊥
 
 -- the events of these lines stand before all others
 pub record StandFirst (h : List Event) (lines : List Line) : Type 0 where

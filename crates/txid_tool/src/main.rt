@@ -1,5 +1,5 @@
-//! `txid_tool run`: reads a script from standard input and writes its report to standard output. See
-//! `docs/SCRIPT-AND-REPORT.md`.
+//! `txid_tool run`: reads a script from standard input and writes its report to standard output. `txid_tool gen SEED
+//! SIZE`: runs a generated script and writes its counts. See `docs/SCRIPT-AND-REPORT.md`.
 #![tactic(auto)]
 
 use disk_core::MemMedia;

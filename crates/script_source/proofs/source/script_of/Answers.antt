@@ -11,7 +11,7 @@ returns-clause-script c =
     let place = c.in-Ok-first_other.ensures.value ∙ ap (prefix_len has_item) c.items-items.ensures in
     let size = ap length c.items-items.ensures in
     let all = c.if-place-count.false in
-    (c.in-Ok.ensures.reads, script_runs c.in-Ok.script c.in-Ok.ensures.sound (omega (arith, place, size, all, c.len-count.ensures)))
+    (c.in-Ok.ensures.reads, script_runs c.in-Ok.script c.in-Ok.ensures.sound c.in-Ok.ensures.ranges (omega (arith, place, size, all, c.len-count.ensures)))
 
 pub returns-in-Err-Fault-clause-refused : goal.returns-in-Err-Fault-clause-refused
 returns-in-Err-Fault-clause-refused c =

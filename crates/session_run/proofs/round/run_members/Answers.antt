@@ -9,5 +9,5 @@ returns g c =
     let xs = c.args.members.now.items in
     let ys = c.run_beside.new.members in
     let same = c.as_mut_slice-all.ensures.value in
-    let ran : AllRan h c.args.banks c.args.names.now c.args.round.now xs ys = subst (λ zs. AllRan h c.args.banks c.args.names.now c.args.round.now zs ys) same c.run_beside.ensures in
-    subst (AllRan h c.args.banks c.args.names.now c.args.round.now xs) (sym (written_back c.args.members.now.len xs ys ran.count (search rules))) ran
+    let ran : AllRan g.K.LineKeeper h c.args.banks c.args.names.now c.args.round.now xs ys = subst (λ zs. AllRan g.K.LineKeeper h c.args.banks c.args.names.now c.args.round.now zs ys) same c.run_beside.ensures in
+    subst (AllRan g.K.LineKeeper h c.args.banks c.args.names.now c.args.round.now xs) (sym (written_back c.args.members.now.len xs ys ran.count (search rules))) ran

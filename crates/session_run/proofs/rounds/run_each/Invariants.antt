@@ -1,18 +1,18 @@
 use Rattle.std.proofs.Common.{◌≡◌, ℕ, ◌+◌, ◌≤◌, ◌^◌, List, ◌++◌, length}
 use Rattle.std.specs.List.{All}
-use Rattle.session_lang.specs.Rounds.{rounds_of}
+use Rattle.session_lang.specs.Rounds.{asked_of}
 use Rattle.run_law.specs.Turns.{MayRun}
 use Rattle.script_rounds.specs.Plans.{IsBlank}
 use Rattle.session_run.specs.Runs.{HasRun}
-use Rattle.session_run.proofs.RoundCounts.{Turns}
+use Rattle.tx_model.specs.Asked.{Asked, rounds_in}
 use Rattle.session_run.proofs.rounds.run_each.Given as goal
 
 abbrev pub invariant-loop-rest : goal.invariant-loop-rest
 invariant-loop-rest g l = record {
-  done : List Turns;
-  split : rounds_of l.fn.script ≡ done ++ rounds_of l.rest;
-  number : length done ≡ l.rounds;
-  ran : HasRun l.hall l.host l.sessions l.names done l.fn.text l.text;
+  done : List Asked;
+  split : asked_of l.fn.script ≡ done ++ asked_of l.rest;
+  number : length (rounds_in done) ≡ l.rounds;
+  ran : HasRun g.K.LineKeeper l.hall l.host l.sessions l.names done l.fn.kept l.kept;
   cluster : l.host.cluster ≡ l.fn.host.cluster;
   items : All (MayRun (length l.sessions)) l.rest;
   room : l.rounds + length l.rest ≤ 2 ^ 24;

@@ -1,8 +1,8 @@
 use Rattle.std.proofs.Common.{sym, ap, subst, length, ◌≡◌, ◌∙◌}
 use Rattle.std.proofs.lemmas.Result.{on_ok_weaker}
 use Rattle.std.specs.List.{All}
-use Rattle.session_lang.specs.Rounds.{rounds_of}
-use Rattle.session_run.specs.Rests.{IsFresh}
+use Rattle.session_lang.specs.Rounds.{asked_of}
+use Rattle.engine_host.specs.Hosts.{IsNewSession}
 use Rattle.session_run.specs.Runs.{HasRun}
 use Rattle.session_run.proofs.RoundsRun.{new_each, new_home}
 use Rattle.session_run.proofs.rounds.run_rounds.Goals as goal
@@ -11,7 +11,7 @@ pub run_each-requires-clause-begins : goal.run_each-requires-clause-begins
 run_each-requires-clause-begins g c κs within =
     let all = c.as_mut_slice-all.result.now in
     let is = c.as_mut_slice-all.ensures.value in
-    let fresh : All IsFresh all = subst (All IsFresh) (sym is) c.in_ok-sessions.ensures.each in
+    let fresh : All IsNewSession all = subst (All IsNewSession) (sym is) c.in_ok-sessions.ensures.each in
     let count : length all ≡ c.args.host.now.cluster.sessions = ap length is ∙ c.in_ok-sessions.ensures.count in
     c.life_begins.ensures c.args.host.now all
     (new_home c.args.hall.now c.args.host.now all c.requires.host c.requires.all c.requires.parked count fresh)
@@ -20,5 +20,5 @@ run_each-requires-clause-begins g c κs within =
 pub returns-clause-ran : goal.returns-clause-ran
 returns-clause-ran g c =
     on_ok_weaker c.run_each.result
-    (λ r. (c.run_each.new.sessions, subst (λ items. HasRun c.args.hall.now c.run_each.new.host c.run_each.new.sessions c.args.script.now.names (rounds_of items) c.args.text.now c.run_each.new.text) c.items.ensures r))
+    (λ r. (c.run_each.new.sessions, subst (λ items. HasRun g.K.LineKeeper c.args.hall.now c.run_each.new.host c.run_each.new.sessions c.args.script.now.names (asked_of items) c.args.kept.now c.run_each.new.kept) c.items.ensures r))
     c.run_each.ensures.ran

@@ -1,0 +1,4 @@
+pub mod Cutoffs
+pub mod Homing
+pub mod Logging
+pub mod Showing

@@ -1,0 +1,44 @@
+use Rattle.std.proofs.Common.{◌≡◌, ◌%◌, ◌<◌, Err, ap, arith, length, length-append, length-drop, refl, sym, subst, ◌∙◌}
+use Rattle.std.proofs.lemmas.List.{length-take}
+use Rattle.hall.specs.Calls.{start_of, view}
+use Rattle.tx_model.specs.declared.report.DumpOf.TheVariants as dumps
+use Rattle.tx_model.specs.declared.reply.Reply.{Reply}
+use Rattle.engine_dumps.specs.Dumps.{IsAnswered}
+use Rattle.engine_dumps.proofs.Cutoffs.{xact_refused, xact_told}
+use Rattle.engine_dumps.proofs.answering.show_xact.Goals as goal
+
+pub bank_of-bank-requires : goal.bank_of-bank-requires
+bank_of-bank-requires g c = c.requires.home.is_host.cluster.banks.0
+
+pub dump_xact-requires-clause-range : goal.dump_xact-requires-clause-range
+dump_xact-requires-clause-range g c = omega (arith, ap length c.as_mut_slice.ensures.value, c.in_ok-bytes.ensures.len, c.requires.size)
+
+pub returns-in_err-bytes-clause-stays : goal.returns-in_err-bytes-clause-stays
+returns-in_err-bytes-clause-stays g c = record { home = c.requires.home; cluster = refl; seen = refl; parked = λ n s q. q }
+
+pub returns-in-Ok-clause-reply : goal.returns-in-Ok-clause-reply
+returns-in-Ok-clause-reply g c =
+    let hall = c.args.hall.now in
+    let host = c.args.host.now in
+    let start = start_of hall in
+    let seen = (view host.pass).seen in
+    let told = c.bytes_reply.ensures in
+    let uncut = c.in-Ok.ensures.uncut in
+    let sized = c.in_ok-bytes.ensures.len in
+    let all = ap length c.as_mut_slice.ensures.value in
+    let len = c.as_mut_slice.ensures.len in
+    let kept = c.dump_xact.auto.into in
+    subst (λ (r : Reply). IsAnswered hall host (dumps.Xact c.args.page) c.args.size r) (sym told.reply)
+    (told.bytes, simp (length-take, length-append, length-drop) (omega arith), uncut.0, xact_told start seen (c.args.page % start.banks) uncut.0 c.dump_xact.ensures.kept uncut.1, uncut.2)
+
+pub returns-in-Err-clause-reply : goal.returns-in-Err-clause-reply
+returns-in-Err-clause-reply g c =
+    let hall = c.args.hall.now in
+    let host = c.args.host.now in
+    let start = start_of hall in
+    let seen = (view host.pass).seen in
+    let h = c.requires.home.is_host in
+    let here : c.bank_of-bank.result ≡ c.args.page % start.banks = c.bank_of-bank.ensures.value ∙ ap (λ n. c.args.page % n) (sym h.banks) in
+    let low : c.bank_of-bank.result < start.banks = omega (arith, h.banks, c.bank_of-bank.ensures.within) in
+    subst (λ (r : Reply). IsAnswered hall host (dumps.Xact c.args.page) c.args.size r) (sym c.refused.ensures)
+    (xact_refused start seen c.args.page c.args.size c.bank_of-bank.result c.in-Err.refusal c.dump_xact.ensures.kept here low (λ cutoff e. c.in-Err.ensures.cut cutoff (ap Err e)))

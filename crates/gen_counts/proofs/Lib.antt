@@ -1,0 +1,10 @@
+pub mod Replies
+pub mod Goes
+pub mod Running
+pub mod Walk
+pub mod Once
+pub mod IdSteps
+pub mod FewIds
+pub mod Wide
+pub mod EventKinds
+pub mod Whole

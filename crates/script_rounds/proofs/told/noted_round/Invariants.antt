@@ -1,4 +1,0 @@
-use Rattle.script_rounds.proofs.told.noted_round.Given as goal
-
-abbrev pub ghost-of : goal.ghost-of
-ghost-of g a = g.noted

@@ -1,0 +1,112 @@
+//! What is kept of the lines of a run.
+ghost use Rattle.std.specs.Prelude.{◌≡◌, ℕ, List, [], ◌∷◌, ◌++◌, OnOk};
+ghost use Rattle.tx_model.specs.declared.report.Line.{Line};
+ghost use Rattle.tx_model.specs.declared.report.Step.{Step as Dumped};
+
+use report_text::{Text, put_command_line, put_round_line, put_step};
+use std::alloc::Global;
+use tx_model::{By, Command, Memory, NameList, Reply, Step};
+
+/// What is kept of the lines of a run while it goes on, as their text or how many there are. In a round each session
+/// has a keeper of its own, which then joins that of the run. After want of memory it isn't said what is kept.
+pub trait LineKeeper {
+    /// Nothing was kept yet.
+    ghost nothing: { Self };
+
+    /// What is kept with these lines more, of sessions of these names.
+    ghost with_lines: { List (List ℕ) → Self → List Line → Self };
+
+    /// What is kept where the round of this number has begun.
+    ghost with_round: { Self → ℕ → Self };
+
+    /// What is kept where this dump was told, a step between two rounds.
+    ghost with_dump: { List (List ℕ) → Self → Dumped → Self };
+
+    /// What two keep together, the one behind the other.
+    ghost joined: { Self → Self → Self };
+
+    /// A keeper of nothing. Takes no memory.
+    fn none(alloc: Global) -> Self
+        ensures { result ≡ nothing };
+
+    /// Begins the round of this number.
+    fn add_round(&mut self, number: u64) -> Result<(), Memory>
+        ensures { OnOk result (self.new ≡ with_round self.old number) };
+
+    /// Keeps the line of a command with its reply.
+    fn add_line(
+        &mut self,
+        names: &NameList,
+        by: By,
+        command: &Command,
+        reply: &Reply,
+    ) -> Result<(), Memory>
+        ensures { OnOk result (self.new ≡ with_lines names.now self.old (record { by = by; command = command.now; reply = reply.now } ∷ [])) };
+
+    /// Keeps a dump, which is a step between two rounds.
+    fn add_dump(&mut self, names: &NameList, dump: &Step) -> Result<(), Memory>
+        ensures { OnOk result (self.new ≡ with_dump names.now self.old dump.now) };
+
+    /// Keeps what the other keeps, too.
+    fn join(&mut self, other: &Self) -> Result<(), Memory>
+        ensures { OnOk result (self.new ≡ joined self.old other.now) };
+
+    /// With no lines more it keeps the same.
+    ghost no_lines: { (names : List (List ℕ)) (kept : Self) → with_lines names kept [] ≡ kept };
+
+    /// With lines more, and then others, it keeps them all.
+    ghost then_lines: { (names : List (List ℕ)) (kept : Self) (lines more : List Line) → with_lines names (with_lines names kept lines) more ≡ with_lines names kept (lines ++ more) };
+
+    /// What was kept apart is kept as if it had been kept here.
+    ghost join_lines: { (names : List (List ℕ)) (kept : Self) (lines : List Line) → joined kept (with_lines names nothing lines) ≡ with_lines names kept lines };
+}
+
+impl LineKeeper for Text {
+    ghost use Rattle.std.specs.Prelude.{[], ◌++◌};
+    ghost use Rattle.std.specs.List.{flat_map};
+    ghost use Rattle.std.proofs.Common.{◌∙◌, ap, append-nil, append_assoc, refl, sym};
+    ghost use Rattle.std.proofs.lemmas.Grind.{flat_map-append};
+    ghost use Rattle.report_text.specs.ReportText.{command_line, round_line, step_text};
+
+    ghost nothing = { [] };
+
+    ghost with_lines = { λ names kept lines. kept ++ flat_map (command_line names) lines };
+
+    ghost with_round = { λ kept number. kept ++ round_line number };
+
+    ghost with_dump = { λ names kept dump. kept ++ step_text names dump };
+
+    ghost joined = { λ kept more. kept ++ more };
+
+    ghost no_lines = { λ names kept. append-nil kept };
+
+    ghost then_lines = { λ names kept lines more. append_assoc kept (flat_map (command_line names) lines) (flat_map (command_line names) more) ∙ ap (λ text. kept ++ text) (sym (flat_map-append (command_line names) lines more)) };
+
+    ghost join_lines = { λ names kept lines. refl };
+
+    fn none(alloc: Global) -> Text {
+        Text::new(alloc)
+    }
+
+    fn add_round(&mut self, number: u64) -> Result<(), Memory> {
+        put_round_line(self, number)
+    }
+
+    fn add_line(
+        &mut self,
+        names: &NameList,
+        by: By,
+        command: &Command,
+        reply: &Reply,
+    ) -> Result<(), Memory> {
+        put_command_line(self, names, by, command, reply)
+    }
+
+    fn add_dump(&mut self, names: &NameList, dump: &Step) -> Result<(), Memory> {
+        put_step(self, names, dump)
+    }
+
+    fn join(&mut self, other: &Text) -> Result<(), Memory> {
+        self.put(other.bytes())
+    }
+}

@@ -52,6 +52,11 @@ fn reads_an_image<L: LogDisk>(_log: &WalLog<L>)
     ensures { IsTrue L.tells → L.images (log_disk _log.now) (L.reads (log_disk _log.now)) }
 {}
 
+// So a page volume.
+fn pages_read_an_image<P: PageDisk>()
+    ensures { IsTrue P.tells → (v : P) → P.images v (P.pages v) }
+{}
+
 /// Runs a script in a life that begins, closes the life, and keeps its lines.
 fn run_life<
     R: Threads + Wait + Sync,
@@ -79,6 +84,7 @@ fn run_life<
     let closed = close_life(life);
     has_64_bits(closed.log.end());
     reads_an_image(&closed.log);
+    pages_read_an_image::<P>();
     (closed, ran)
 }
 

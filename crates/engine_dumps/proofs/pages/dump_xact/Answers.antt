@@ -36,7 +36,7 @@ put_back-requires-clause-stands g c =
     let r = c.read-found.ensures in
     let bank = c.bank_of-bank.result in
     subst (λ (z : ℕ). (b : ℕ) × (z ≡ xact_lock b) × IsXactOf start b now (at seen z)) (sym c.take_xact-store.ensures.inside.cell)
-    (bank, refl, xact_same start bank store now (at seen (xact_lock bank)) (read_same c.args.page store now c.read-found.result r.bank r.same) c.take_xact-store.ensures.stands)
+    (bank, refl, xact_same start bank store now (at seen (xact_lock bank)) (read_same c.args.page store now c.read-found.result r.bank r.same) r.bank.calls.crash c.take_xact-store.ensures.stands)
 
 pub returns-clause-stays : goal.returns-clause-stays
 returns-clause-stays g c = came_home c.args.hall.now (xact_lock c.bank_of-bank.result) c.args.host.now c.take_xact-store.new.host _ c.requires.home c.take_xact-store.ensures.inside c.put_back.ensures.own.0 c.put_back.ensures.view refl refl
@@ -95,7 +95,7 @@ returns-clause-fault g c is =
       before = parts.Xact store;
       now = parts.Xact now;
       stood = (bank, refl, stood);
-      stands = (bank, refl, xact_same start bank store now (at seen (xact_lock bank)) (read_same c.args.page store now c.read-found.result r.bank r.same) stood);
+      stands = (bank, refl, xact_same start bank store now (at seen (xact_lock bank)) (read_same c.args.page store now c.read-found.result r.bank r.same) r.bank.calls.crash stood);
       risen = r.bank.calls.fault is;
     } in
     subst (λ (z : List (List Entry) × ℕ). HasFailed g.L.LogDisk g.P.PageDisk start z.0 (xact_lock z.1)) (λ j. (i.seen j, here j)) failed

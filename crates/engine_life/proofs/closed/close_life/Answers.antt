@@ -2,7 +2,9 @@ use Rattle.std.proofs.Common.{◌∙◌}
 use Rattle.hall.specs.Calls.{start_of, view}
 use Rattle.notes.specs.Lists.{at as list_at}
 use Rattle.engine_parts.specs.declared.part.Part.TheVariants as parts
-use Rattle.engine_life.proofs.Counts.{subtrans_told, xact_told}
+use Rattle.engine_life.proofs.Counts.{subtrans_told, xact_behind, xact_told}
+use Rattle.engine_life.proofs.Followed.{follows_here}
+use Rattle.engine_life.specs.Lives.{FollowsList}
 use Rattle.engine_life.proofs.closed.close_life.Goals as goal
 
 pub take_apart-log-requires-clause-stand : goal.take_apart-log-requires-clause-stand
@@ -33,3 +35,13 @@ returns-clause-counted g c =
       xact = xact_told start seen locks closed.stand banks taken.result.xact.items c.requires.host.banks closed.count taken.ensures.xact;
       subtrans = subtrans_told start seen locks closed.stand banks taken.result.subtrans.items c.requires.host.banks closed.count taken.ensures.subtrans;
     }
+
+pub returns-clause-states : goal.returns-clause-states
+returns-clause-states g c told few =
+    let p = g.P.PageDisk in
+    let taken = c.take_apart-log in
+    let start = start_of c.args.life.hall in
+    let seen = (view c.args.life.host.pass).seen in
+    let closed = c.close-parts.ensures in
+    xact_behind start seen c.close-parts.result.locks.items closed.stand (FollowsList p start seen) (follows_here start seen told (λ d x now. g.met.P.PageDisk.only_now d x told now) closed.kept few)
+    c.args.life.host.cluster.banks taken.result.xact.items c.requires.host.banks closed.count taken.ensures.xact

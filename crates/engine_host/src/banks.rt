@@ -16,7 +16,7 @@ use std::alloc::Global;
 use store_pages::{SubtransPages, XactPages, subtrans_page, xact_page};
 use tx_events::Lock;
 
-// Removes all pages, and syncs: so no crash brings one back.
+// Removes all pages, and syncs, so that no crash brings one back.
 fn empty<P: PageDisk>(store: &mut SlruBank<P, XactPages>) -> Result<(), BankRefusal>
     ensures zeros { IsTrue P.tells → OnOk result ((q : ℕ) → q < 2 ^ 32 → pages_of store.new q ≡ zero_page) }
     ensures durable { IsTrue P.tells → OnOk result (IsDurable store.new) }

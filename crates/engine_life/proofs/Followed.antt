@@ -1,5 +1,5 @@
 -- Each image of a bank's volume follows the bank's list: by the bank's course, step by step.
-use Rattle.std.proofs.Common.{ℕ, zero, suc, ◌≡◌, ◌+◌, ◌<◌, ◌^◌, ◌++◌, ◌∷◌, [], ◌∙◌, List, None, Option, Some, Contains, IsTrue, ap, arith, length, refl, subst, sym, ⊎_elim}
+use Rattle.std.proofs.Common.{ℕ, zero, suc, ◌≡◌, ◌++◌, ◌∷◌, [], ◌∙◌, List, None, Option, Some, IsTrue, arith, length, refl, subst, sym, ⊎_elim}
 use Rattle.std.specs.List.{slice_index}
 use Rattle.disk_core.specs.Pages.{Pages}
 use Rattle.disk_core.specs.declared.log_disk.LogDisk as logs

@@ -1,18 +1,16 @@
 -- The volumes of pg_xact say committed only of what the log has on disk.
-use Rattle.std.proofs.Common.{IsTrue, List, Some, [], ap, arith, inl, length, refl, subst, sym, take, ℕ, ⊎_elim, ◌++◌, ◌+◌, ◌-◌, ◌<◌, ◌∙◌, ◌∷◌, ◌≡◌, ◌⊎◌}
+use Rattle.std.proofs.Common.{List, Some, [], ap, arith, inl, length, refl, subst, sym, take, ℕ, ⊎_elim, ◌++◌, ◌+◌, ◌-◌, ◌<◌, ◌∙◌, ◌∷◌, ◌≡◌, ◌⊎◌}
 use Rattle.std.proofs.lemmas.List.{length-map}
 use Rattle.std.specs.List.{slice_get}
 use Rattle.disk_core.specs.declared.log_disk.LogDisk as logs
 use Rattle.disk_core.specs.declared.page_disk.PageDisk as disks
 use Rattle.disk_core.specs.Pages.{Pages}
 use Rattle.notes.specs.Lists.{at}
-use Rattle.store_pages.specs.Layouts.{xact_page_of}
 use Rattle.tx_events.specs.declared.event.By.{By}
 use Rattle.tx_events.specs.declared.event.Event.{Event}
 use Rattle.tx_events.specs.declared.record.Counters.{Counters}
 use Rattle.tx_events.specs.declared.record.Rec.{Rec}
 use Rattle.tx_events.specs.declared.record.Rec.TheVariants as records
-use Rattle.tx_events.specs.Ids.{low_half}
 use Rattle.tx_events.proofs.Membership.{Has, contains_has, has_cases, has_contains, has_flat_map}
 use Rattle.tx_model.specs.declared.report.Life.{Life}
 use Rattle.life_law.specs.LifeLog.{IsAmong}

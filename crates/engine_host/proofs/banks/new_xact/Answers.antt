@@ -1,4 +1,4 @@
-use Rattle.std.proofs.Common.{◌/◌, ap, refl, ◌∙◌}
+use Rattle.std.proofs.Common.{◌/◌, ap, ◌∙◌}
 use Rattle.slru_bank.specs.Calls.{cutoff_of, faults_of, last_page, pages_of}
 use Rattle.engine_host.specs.Opening.{life_of}
 use Rattle.engine_parts.specs.Course.{HasCourse}

@@ -105,7 +105,7 @@ module _ (start : Start) (lists : List (List Entry)) (life : Life) (kept : Engin
             let y = fits.no_other.place x on code in
             let both : Has start.committed y.0 ⊎ Has (committed_in (take (flushed_to start (at lists log_lock) - 0) log.recs)) y.0
             = has_cases start.committed (committed_in (take (flushed_to start (at lists log_lock) - 0) log.recs)) y.0 (contains_has (base_at log log.flushed).committed y.0 y.1) in
-            let k : IsNamed y.0 = ⊎_elim (λ old. absurd (subst (λ (t : List ℕ). Has t y.0) none old)) (named y.0) both in
+            let k : IsNamed y.0 = ⊎_elim (λ (old : Has start.committed y.0). absurd (subst (λ (t : List ℕ). Has t y.0) none old)) (named y.0) both in
             (k.0, k.1, k.2, y.0, has_contains (k.0 ∷ k.1) y.0 k.3, y.2);
       }
 

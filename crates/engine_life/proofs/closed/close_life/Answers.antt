@@ -43,5 +43,5 @@ returns-clause-states g c told few =
     let start = start_of c.args.life.hall in
     let seen = (view c.args.life.host.pass).seen in
     let closed = c.close-parts.ensures in
-    xact_behind start seen c.close-parts.result.locks.items closed.stand (FollowsList p start seen) (follows_here start seen told (λ d x now. g.met.P.PageDisk.only_now d x told now) closed.kept few)
+    xact_behind start seen c.close-parts.result.locks.items closed.stand (FollowsList p start seen) (follows_here p start seen told (λ d x now. g.met.P.PageDisk.only_now d x told now) closed.kept few)
     c.args.life.host.cluster.banks taken.result.xact.items c.requires.host.banks closed.count taken.ensures.xact

@@ -1,12 +1,9 @@
 -- The volumes of pg_xact say committed only of what the log has on disk.
-use Rattle.std.proofs.Common.{List, Some, [], ap, arith, inl, length, refl, subst, sym, take, ℕ, ⊎_elim, ◌++◌, ◌+◌, ◌-◌, ◌<◌, ◌∙◌, ◌∷◌, ◌≡◌, ◌⊎◌}
-use Rattle.std.proofs.lemmas.List.{length-map}
-use Rattle.std.specs.List.{slice_get}
+use Rattle.std.proofs.Common.{List, [], ap, arith, inl, refl, subst, sym, take, ℕ, ⊎_elim, ◌++◌, ◌+◌, ◌-◌, ◌<◌, ◌∙◌, ◌∷◌, ◌≡◌, ◌⊎◌}
 use Rattle.disk_core.specs.declared.log_disk.LogDisk as logs
 use Rattle.disk_core.specs.declared.page_disk.PageDisk as disks
 use Rattle.disk_core.specs.Pages.{Pages}
 use Rattle.notes.specs.Lists.{at}
-use Rattle.tx_events.specs.declared.event.By.{By}
 use Rattle.tx_events.specs.declared.event.Event.{Event}
 use Rattle.tx_events.specs.declared.record.Counters.{Counters}
 use Rattle.tx_events.specs.declared.record.Rec.{Rec}
@@ -17,16 +14,15 @@ use Rattle.life_law.specs.LifeLog.{IsAmong}
 use Rattle.tx_core.specs.declared.entry.Entry.{Entry}
 use Rattle.tx_core.specs.declared.entry.Start.{Start}
 use Rattle.tx_core.specs.EngineInvariant.{EngineInvariant}
-use Rattle.tx_core.specs.Entries.{AreFewIds, flushed_to, recs_in, records_of}
+use Rattle.tx_core.specs.Entries.{AreFewIds, flushed_to, recs_in}
 use Rattle.tx_core.specs.Locks.{log_lock, xact_lock}
-use Rattle.tx_core.proofs.LogLaws.{flushes_rise}
 use Rattle.recoverable.specs.Fit.{KeptLog, base_at}
-use Rattle.recoverable.specs.Laws.{LogFollows, life_base}
-use Rattle.recoverable.specs.LifeBase.{LifeBase, base_after, committed_by, committed_in}
-use Rattle.recoverable.specs.Volumes.{IsWholeAt}
-use Rattle.recoverable.specs.Whole.{StatesLeft}
+use Rattle.recoverable.specs.LifeBase.{committed_by, committed_in}
+use Rattle.recoverable.specs.LogSteps.{log_behind}
+use Rattle.recoverable.specs.Whole.{StatesLeft, new_log}
 use Rattle.recoverable.proofs.FitsXact.{fits_xact}
-use Rattle.recoverable.proofs.Settled.{checkpoint_settles}
+use Rattle.recoverable.proofs.LogEnds.{log_ends}
+use Rattle.recoverable.proofs.NewBegins.{new_log_of}
 use Rattle.wal_core.specs.declared.wal_log.WalLog.{WalLog}
 use Rattle.engine_parts.specs.Parts.{IsLogOf}
 use Rattle.engine_host.specs.declared.cluster.Cluster.{Cluster}
@@ -34,49 +30,9 @@ use Rattle.engine_host.specs.Opening.{life_of}
 use Rattle.engine_life.specs.Lives.{HaveFollowed, life_told}
 use Rattle.session_run.specs.Records.{BankHolds, HoldsStates}
 
--- the log of a life that began over a new one
+-- the log of a life that began over a new one, at its end
 abbrev log_of : Start → List (List Entry) → KeptLog
-log_of start lists = record {
-  base = life_base start;
-  first = 0;
-  recs = records.Checkpoint 0 start.base ∷ recs_in (at lists log_lock);
-  flushed = flushed_to start (at lists log_lock);
-}
-
-take_one : (x : Rec) (rest : List Rec) → take 1 (x ∷ rest) ≡ x ∷ []
-take_one x [] = refl
-take_one x (y ∷ rest) = refl
-
--- its first record, a checkpoint, leaves the counters of the base
-first_whole : (start : Start) (lists : List (List Entry)) (n : ℕ) → n < 1 → IsWholeAt (log_of start lists) n
-first_whole start lists n low counters stands =
-    let rest : List Rec = recs_in (at lists log_lock) in
-    let front : n - 0 ≡ 0 = omega arith in
-    let next : n + 1 - 0 ≡ 1 = omega arith in
-    let here : Some (records.Checkpoint 0 start.base) ≡ Some (records.Checkpoint n counters) = ap (λ j. slice_get (records.Checkpoint 0 start.base ∷ rest) j) (sym front) ∙ stands in
-    ap (λ j. (base_after (life_base start) (take j (records.Checkpoint 0 start.base ∷ rest))).counters) next
-    ∙ (ap (λ (recs : List Rec). (base_after (life_base start) recs).counters) (take_one (records.Checkpoint 0 start.base) rest)
-    ∙ (ap (λ (b : LifeBase). b.counters) (checkpoint_settles (life_base start) 0) ∙ counters_of here))
-  where
-    counters_of : {m n : ℕ} {a b : Counters} → Some (records.Checkpoint m a) ≡ Some (records.Checkpoint n b) → a ≡ b
-    counters_of e = cc
-
--- its records are those of the list behind the first one
-log_follows : (start : Start) (lists : List (List Entry)) → EngineInvariant start lists → start.from ≡ 1 → LogFollows start lists (log_of start lists)
-log_follows start lists kept from =
-    let last = flushes_rise start lists kept in
-    let size : length (recs_in (at lists log_lock)) ≡ length (records_of lists) = length-map (records_of lists) (λ (r : By × Rec). r.1) in
-    record {
-      before = records.Checkpoint 0 start.base ∷ [];
-      recs = refl;
-      from = from;
-      base = checkpoint_settles (life_base start) 0;
-      some = omega (arith, from);
-      whole = λ n low high. first_whole start lists n (omega (arith, high, from));
-      begun = last.from;
-      upto = (let within = last.within in omega (arith, within, size, from));
-      flushed = last.greatest;
-    }
+log_of start lists = log_behind start lists (new_log start 0)
 
 module _ (start : Start) (lists : List (List Entry)) (life : Life) (kept : EngineInvariant start lists) (few : AreFewIds lists) (from : start.from ≡ 1) (none : start.committed ≡ []) (first : life.from ≡ 0)
     (recs : life.recs ≡ records.Checkpoint 0 start.base ∷ recs_in (at lists log_lock)) (flushed : life.flushed ≡ flushed_to start (at lists log_lock)) where
@@ -99,7 +55,7 @@ module _ (start : Start) (lists : List (List Entry)) (life : Life) (kept : Engin
   pub holds_states : (bank : ℕ) (c : Pages) → bank < start.banks → StatesLeft start bank (at lists (xact_lock bank)) c → HoldsStates life start.banks bank c
   holds_states bank c inside left =
       let log : KeptLog = log_of start lists in
-      let fits = fits_xact start lists left.shown log bank 0 c kept left.clean (log_follows start lists kept from) (inl (omega (arith, from))) few inside left.follows in
+      let fits = fits_xact start lists left.shown log bank 0 c kept left.clean (log_ends start lists (new_log start 0) kept (new_log_of start 0 from)) (inl (omega (arith, from))) few inside left.follows in
       record {
         each = λ x on code.
             let y = fits.no_other.place x on code in

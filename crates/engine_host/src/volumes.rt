@@ -10,8 +10,8 @@ use wal_core::WalLog;
 
 /// The parts of an engine, taken apart: its log, its ProcArray, and the volumes of its banks, in their order.
 pub struct TakenApart<L: LogDisk, P: PageDisk> {
-    pub log: WalLog<L>,
-    pub table: ProcTable,
+    pub log: Box<WalLog<L>>,
+    pub table: Box<ProcTable>,
     pub xact: Vec<P>,
     pub subtrans: Vec<P>,
 }

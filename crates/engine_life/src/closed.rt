@@ -57,9 +57,9 @@ pub fn close_life<L: LogDisk + Drop, P: PageDisk + Drop>(life: OpenLife<L, P>) -
         xact,
         subtrans,
     } = take_apart(locks, xact, subtrans);
-    let (_, events) = table.into_parts();
+    let (_, events) = Box::into_inner(table).into_parts();
     ClosedLife {
-        log,
+        log: Box::into_inner(log),
         events,
         xact,
         subtrans,

@@ -35,10 +35,10 @@ pub(crate) fn take_log<R: Wait, L: LogDisk, P: PageDisk>(
     rt: &R,
     hall: &Hall<EngineLaw<L, P>>,
     host: &mut Host<L, P>,
-) -> WalLog<L>
+) -> Box<WalLog<L>>
     requires home { IsHome hall.now host.old }
     ensures inside { IsInside hall.now log_lock host.old host.new }
-    ensures stands { IsLogOf (start_of hall.now) result (at (view host.new.pass).seen log_lock) }
+    ensures stands { IsLogOf (start_of hall.now) result.value (at (view host.new.pass).seen log_lock) }
 {
     let part = take_part(rt, hall, host, 0);
     let Part::Log(log) = part else { unreachable!() };

@@ -18,10 +18,10 @@ use wal_core::{Started, WalLog};
 pub(crate) fn start_log<L: LogDisk + Drop>(
     alloc: Global,
     disk: L,
-) -> Result<Box<WalLog<L>>, (L, OpenRefusal)>
-    ensures new { IfOk result (λ log. IsNewLog log.value) }
-    ensures opens { IfOk result (λ log. OpensEmpty L.LogDisk disk (log_end log.value)) }
-    ensures count { IfOk result (λ log. L.faults disk ≤ L.faults (log_disk log.value)) }
+) -> Result<WalLog<L>, (L, OpenRefusal)>
+    ensures new { IfOk result (λ log. IsNewLog log) }
+    ensures opens { IfOk result (λ log. OpensEmpty L.LogDisk disk (log_end log)) }
+    ensures count { IfOk result (λ log. L.faults disk ≤ L.faults (log_disk log)) }
     ensures refused { IfErr result (λ e. IsStartRefusal L.LogDisk disk e.0 e.1) }
 {
     match WalLog::start(alloc, disk) {
@@ -34,10 +34,7 @@ pub(crate) fn start_log<L: LogDisk + Drop>(
             if !log.is_new() {
                 return Err((log.into_disk(), OpenRefusal::NotNew));
             }
-            match Box::new(alloc, log) {
-                Ok(log) => Ok(log),
-                Err(lacking) => Err((lacking.value.into_disk(), OpenRefusal::Memory)),
-            }
+            Ok(log)
         }
         Err((disk, refusal)) => Err((disk, refusal_of(refusal))),
     }

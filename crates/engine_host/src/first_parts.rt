@@ -218,7 +218,7 @@ pub fn open_new<L: LogDisk + Drop, P: PageDisk + Drop>(
         mut xact,
         mut subtrans,
     } = volumes;
-    let mut log = match start_log(alloc, log) {
+    let log = match start_log(alloc, log) {
         Ok(log) => log,
         Err((log, refusal)) => {
             return Err((
@@ -228,6 +228,19 @@ pub fn open_new<L: LogDisk + Drop, P: PageDisk + Drop>(
                     subtrans,
                 },
                 refusal,
+            ));
+        }
+    };
+    let mut log = match Box::new(alloc, log) {
+        Ok(log) => log,
+        Err(lacking) => {
+            return Err((
+                NewVolumes {
+                    log: lacking.value.into_disk(),
+                    xact,
+                    subtrans,
+                },
+                OpenRefusal::Memory,
             ));
         }
     };
@@ -247,7 +260,8 @@ pub fn open_new<L: LogDisk + Drop, P: PageDisk + Drop>(
     if let Err(refusal) = add_banks(alloc, &mut locks, &mut xact, &mut subtrans, &cluster) {
         return Err((taken_apart(log, locks, xact, subtrans), refusal));
     }
-    if let Err(refusal) = begin_log(&mut *log, &cluster) {
+    let fresh = &mut *log;
+    if let Err(refusal) = begin_log(fresh, &cluster) {
         return Err((taken_apart(log, locks, xact, subtrans), refusal));
     }
     Ok(gather(cluster, log, locks))

@@ -57,9 +57,11 @@ pub fn close_life<L: LogDisk + Drop, P: PageDisk + Drop>(life: OpenLife<L, P>) -
         xact,
         subtrans,
     } = take_apart(locks, xact, subtrans);
-    let (_, events) = Box::into_inner(table).into_parts();
+    let log = Box::into_inner(log);
+    let table = Box::into_inner(table);
+    let (_, events) = table.into_parts();
     ClosedLife {
-        log: Box::into_inner(log),
+        log,
         events,
         xact,
         subtrans,

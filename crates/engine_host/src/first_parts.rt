@@ -86,7 +86,7 @@ fn add_bank<L: LogDisk, P: PageDisk + Drop>(
         Ok(store) => store,
         Err((disk, refusal)) => {
             put_back(subtrans, disk);
-            put_back(xact, states.into_disk());
+            put_back(xact, Box::into_inner(states).into_disk());
             return Err(refusal);
         }
     };

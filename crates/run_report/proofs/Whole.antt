@@ -47,8 +47,8 @@ use Rattle.report_read.specs.Item as items
 use Rattle.report_read.specs.Grammar.{Follows, after, begins_step, life_told, no_counts, steps_told}
 use Rattle.report_read.specs.Reports.{IsReport, nothing_told}
 use Rattle.report_read.specs.declared.told.Told.{Told}
-use Rattle.run_report.proofs.Fits.{CanTell, EventFits, LineFits, all_event_fit, events_fit, named_plain, own_named, reply_fits}
-use Rattle.run_report.proofs.Ids.{IsPlain, all_ids_fit}
+use Rattle.run_report.proofs.Fits.{CanTell, EventFits, LineFits, all_event_fit, announces_fit, events_fit, own_named, reply_fits}
+use Rattle.run_report.proofs.Ids.{AnnouncesFit, all_ids_fit}
 use Rattle.run_report.proofs.Records.{log_fits, rest_fits}
 use Rattle.run_report.proofs.Sizes.{AskedFits, TurnFits, lines_short, rounds_short, sessions_asked}
 use Rattle.run_report.proofs.Reaching.{AreCounted, AreNumbered, Between, Reaches, Rounded, Sayable, SoFar, a_dump, a_round, all_numbered, counted_apart, events_reach, follows_on, reach_on, records_reach, speakers, stays}
@@ -391,9 +391,9 @@ told_again tells banks names all base r few_banks begins last lawful small fits 
     let line_fit = lines_fit names f lines (omega arith) each said in
     let has = recursion_from_All (λ e. IsTrue (has_line lines e)) h lawful.lawful.no_other in
     let named = all_event_fit names h lines line_fit has in
-    let plain = all_weaker (EventFits names) IsPlain (λ e k. named_plain e k.named) h named in
+    let announced = all_weaker (EventFits names) AnnouncesFit (λ e k. announces_fit e k.named) h named in
     let log = log_fits r.life.base _ h r.life.recs r.life.flushed r.life.end small.base_is lawful.history (log_of tells banks all base r begins lawful) in
-    let can : CanTell f = record { base = small.base_is; history = lawful.history; plain = plain; banks = few_banks; flushed = log.flushed_to } in
+    let can : CanTell f = record { base = small.base_is; history = lawful.history; announced = announced; banks = few_banks; flushed = log.flushed_to } in
     let sayable = lines_sayable names f lines can (omega arith) each said in
     let climb = climbs (length names) (speakers lines) (rounds_seen 1 all r.steps lawful.told ∙ seen) in
     let w = rounds_reach names 0 (length names) [] [] 0 (begin start) all r.steps small.names_are small.few (begins_between names start) lawful.told fits (dumps_fit f r.steps few_banks lawful.dumps) sayable (counted_from f [] lines each) climb (let k = rounds_short names all fits in let m = small.turns in omega arith) in

@@ -305,8 +305,8 @@ record Ended (names : List (List ℕ)) (r : LifeReport) (t : Told) : Type 0 wher
   start : t.start ≡ record { from = r.life.from; base = r.life.base }
   steps_are : steps_told t.stage t ≡ r.steps
 
-log_of : (tells : Bool) (banks : ℕ) (all : List Asked) (base : Counters) (r : LifeReport) → BeginsLog base r.life → IsLawfulLife tells banks all r → IsLogOf 0 (records.Checkpoint r.life.from r.life.base) r.life.events r.life.recs r.life.flushed r.life.end
-log_of tells banks all base r begins lawful = subst (λ from. IsLogOf from (records.Checkpoint r.life.from r.life.base) r.life.events r.life.recs r.life.flushed r.life.end) begins.from lawful.log
+log_of : (tells : Bool) (banks : ℕ) (all : List Asked) (base : Counters) (r : LifeReport) → BeginsLog base r.life → IsLawfulLife tells banks all r → IsLogOf 0 r.life.base r.life.events r.life.recs r.life.flushed r.life.end
+log_of tells banks all base r begins lawful = subst (λ from. IsLogOf from r.life.base r.life.events r.life.recs r.life.flushed r.life.end) begins.from lawful.log
 
 ends_whole : (tells : Bool) (banks : ℕ) (names : List (List ℕ)) (all : List Asked) (base : Counters) (r : LifeReport) (t : Told) → BeginsLog base r.life → r.crash ≡ None → IsLawfulLife tells banks all r → IsSmall names all r → AllByRecursion (EventFits names) r.life.events → Ended names r t → Reaches nothing_told t → IsReport (record { names = names; lives = r ∷ [] })
 ends_whole tells banks names all base r t begins last lawful small named ended before =
@@ -323,8 +323,9 @@ ends_whole tells banks names all base r t begins last lawful small named ended b
     let legal = lawful.history in
     let fits = events_fit t4.names h (subst (λ ns. AllByRecursion (EventFits ns) h) (sym ended.names_are) named) (all_ids_fit r.life.base h small.base_is legal) in
     let log = log_of tells banks all base r begins lawful in
-    let short = log_fits r.life.base _ h r.life.recs r.life.flushed r.life.end small.base_is legal log in
-    let numbered : AreNumbered 0 r.life.recs = subst (AreNumbered 0) (sym log.split) ((begins.from, small.counters), all_numbered 1 log.rest (rest_fits r.life.base _ h r.life.recs r.life.flushed r.life.end small.base_is legal log)) in
+    let announced = all_weaker (EventFits names) AnnouncesFit (λ e k. announces_fit e k.named) h named in
+    let short = log_fits r.life.base h r.life.recs r.life.flushed r.life.end log in
+    let numbered : AreNumbered 0 r.life.recs = subst (AreNumbered 0) (sym log.split) ((refl, small.counters), all_numbered 1 log.rest (rest_fits r.life.base h r.life.recs r.life.flushed r.life.end small.base_is small.counters legal announced log)) in
     let from : 0 ≡ t7.start.from + length t7.recs = let z : t.start.from ≡ r.life.from = ap (λ (s : Start). s.from) ended.start in let y = begins.from in omega arith in
     let history : Follows t items.history t4 = record { stands = ended.begins; rule = refl; told = refl } in
     let multis : Follows t5 items.multis t6 = record { stands = refl; rule = refl; told = refl } in
@@ -392,7 +393,7 @@ told_again tells banks names all base r few_banks begins last lawful small fits 
     let has = recursion_from_All (λ e. IsTrue (has_line lines e)) h lawful.lawful.no_other in
     let named = all_event_fit names h lines line_fit has in
     let announced = all_weaker (EventFits names) AnnouncesFit (λ e k. announces_fit e k.named) h named in
-    let log = log_fits r.life.base _ h r.life.recs r.life.flushed r.life.end small.base_is lawful.history (log_of tells banks all base r begins lawful) in
+    let log = log_fits r.life.base h r.life.recs r.life.flushed r.life.end (log_of tells banks all base r begins lawful) in
     let can : CanTell f = record { base = small.base_is; history = lawful.history; announced = announced; banks = few_banks; flushed = log.flushed_to } in
     let sayable = lines_sayable names f lines can (omega arith) each said in
     let climb = climbs (length names) (speakers lines) (rounds_seen 1 all r.steps lawful.told ∙ seen) in

@@ -1,5 +1,5 @@
 -- What a command adds to the lists of the locks.
-use Rattle.std.specs.Prelude.{◌≡◌, ℕ, false, IsTrue, List, ◌∷◌, ◌++◌, Result, Ok, Err}
+use Rattle.std.specs.Prelude.{◌≡◌, ◌⊎◌, ℕ, false, IsTrue, List, ◌∷◌, ◌++◌, Result, Ok, Err}
 use Rattle.std.specs.List.{AllByRecursion}
 use Rattle.notes.specs.Lists.{at, own}
 use Rattle.tx_events.specs.declared.event.By.{By}
@@ -76,10 +76,19 @@ pub record IsAbortOf (opened : List ℕ) (rec : Rec) : Type 0 where
   pub is : rec ≡ records.Abort top subs
   pub ids : opened ≡ top ∷ subs
 
--- The record that a command may append: a commit that of all that is open, where it stands not yet, and an abort that
--- of all that is open, where none was begun.
+-- it is a truncation's, which says what was announced as the oldest id
+abbrev pub IsTruncation : Rec → Type 0
+IsTruncation (records.Truncate oldest multi offset) = Unit {0}
+IsTruncation rec = ⊥
+
+-- it is the commit record of these open ids, or the truncation before it
+abbrev pub IsOfCommit : List ℕ → Rec → Type 0
+IsOfCommit opened rec = IsCommitOf opened rec ⊎ IsTruncation rec
+
+-- The record that a command may append: a commit that of all that is open, where it stands not yet, and a truncation
+-- before it; and an abort that of all that is open, where none was begun.
 abbrev pub IsRecordBy : Command → Stance → Stage → List ℕ → Rec → Type 0
-IsRecordBy commands.Commit s stage opened rec = IsTrue (is_unrecorded s stage) × IsCommitOf opened rec
+IsRecordBy commands.Commit s stage opened rec = IsTrue (is_unrecorded s stage) × IsOfCommit opened rec
 IsRecordBy commands.Abort s stage opened rec = (may_be_aborted stage ≡ false) × IsAbortOf opened rec
 IsRecordBy command s stage opened rec = ⊥
 

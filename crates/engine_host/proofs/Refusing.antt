@@ -215,7 +215,7 @@ module _ {L P : Type 0} {l : logs.Ghosts L} {p : disks.Ghosts P} where
       is_there (parts.Proc table) k none = absurd (omega (arith, k.2.0))
       is_there (parts.Xact store) k none = absurd (omega (arith, k.2.1))
       is_there (parts.Subtrans store) k none = absurd (omega (arith, k.2.1))
-      is_there parts.Vacant k none = k.2.0.log refl
+      is_there parts.Vacant k none = k.2.log refl
 
   pub table_there : (rest : List (Part L P l p)) (part : Part L P l p) → AreInPlace rest → slice_get rest 1 ≡ Some part
       → ((x : Table) → part ≡ parts.Proc x → ⊥) → ⊥
@@ -226,7 +226,7 @@ module _ {L P : Type 0} {l : logs.Ghosts L} {p : disks.Ghosts P} where
       is_there (parts.Proc table) k none = none table refl
       is_there (parts.Xact store) k none = absurd (omega (arith, k.2.1))
       is_there (parts.Subtrans store) k none = absurd (omega (arith, k.2.1))
-      is_there parts.Vacant k none = k.2.0.proc refl
+      is_there parts.Vacant k none = k.2.proc refl
 
   pub from_bank : (c : Cluster) (old new : NewVolumes L P) (bank : ℕ) (rest : List (Part L P l p)) (xs ys : List P) (r : OpenRefusal)
       → HaveDisks bank rest → IsBankRefusal p bank (drop bank old.xact.items) xs (drop bank old.subtrans.items) ys r

@@ -125,15 +125,13 @@ subtrans_begins c bank faults last cutoff tells bytes counts inside count last_i
 -- ---- the parts
 
 vacant_new : (L P : Type 0) (l : logs.Ghosts L) (p : disks.Ghosts P) (c : Cluster) (bank k : ℕ) → k < 2 → IsNewPart {L = L} {P = P} {l = l} {p = p} c (5 + 4 * bank + k) parts.Vacant
-vacant_new L P l p c bank k few counts reached = (
-  record {
-    log = λ e. absurd (omega (arith, e));
-    proc = λ e. absurd (omega (arith, e));
-    xact = λ b e. absurd (omega (arith, e, few));
-    subtrans = λ b e. absurd (omega (arith, e, few));
-  },
-  λ e. refl,
-)
+vacant_new L P l p c bank k few counts reached = record {
+  log = λ e. absurd (omega (arith, e));
+  proc = λ e. absurd (omega (arith, e));
+  xact = λ b e. absurd (omega (arith, e, few));
+  subtrans = λ b e. absurd (omega (arith, e, few));
+  multi = λ e. refl;
+}
 
 module _ {L P : Type 0} {l : logs.Ghosts L} {p : disks.Ghosts P} where
   some_same : (x y : Part L P l p) → Some x ≡ Some y → x ≡ y

@@ -69,7 +69,7 @@ module _ {L P : Type 0} {l : logs.Ghosts L} {p : disks.Ghosts P} where
   xact_here start bank es (parts.Xact store) k =
       (volume_of store, refl, subst (λ n. faults_told start n es ≤ p.faults (volume_of store)) (sym k.1) k.2.count)
   xact_here start bank es (parts.Subtrans store) k = absurd (let e = k.1 in omega (arith, e))
-  xact_here start bank es parts.Vacant k = absurd (k.0.xact bank refl)
+  xact_here start bank es parts.Vacant k = absurd (k.xact bank refl)
 
   subtrans_here : (start : Start) (bank : ℕ) (es : List Entry) (part : Part L P l p) → PartStands start (subtrans_lock bank) part es → HasCounted subtrans_disk start (subtrans_lock bank) es part
   subtrans_here start bank es (parts.Log log) k = absurd (let e = k.0 in omega (arith, e))
@@ -77,7 +77,7 @@ module _ {L P : Type 0} {l : logs.Ghosts L} {p : disks.Ghosts P} where
   subtrans_here start bank es (parts.Xact store) k = absurd (let e = k.1 in omega (arith, e))
   subtrans_here start bank es (parts.Subtrans store) k =
       (volume_of store, refl, subst (λ n. faults_told start n es ≤ p.faults (volume_of store)) (sym k.1) k.2.count)
-  subtrans_here start bank es parts.Vacant k = absurd (k.0.subtrans bank refl)
+  subtrans_here start bank es parts.Vacant k = absurd (k.subtrans bank refl)
 
   no_xact : (start : Start) (lock : ℕ) (es : List Entry) (part : Part L P l p) → ((bank : ℕ) → lock ≢ xact_lock bank) → PartStands start lock part es → xact_disk part ≡ None
   no_xact start lock es (parts.Xact store) other k = absurd (other k.0 k.1)
@@ -93,7 +93,7 @@ module _ {L P : Type 0} {l : logs.Ghosts L} {p : disks.Ghosts P} where
   no_multis start es (parts.Proc table) k = absurd (let e = k.0 in omega (arith, e))
   no_multis start es (parts.Xact store) k = absurd (let e = k.1 in omega (arith, e))
   no_multis start es (parts.Subtrans store) k = absurd (let e = k.1 in omega (arith, e))
-  no_multis start es parts.Vacant k = k.1 refl
+  no_multis start es parts.Vacant k = k.multi refl
 
   module _ (start : Start) (lists : List (List Entry)) (locks : List (Part L P l p)) (stand : (lock : ℕ) (part : Part L P l p) → slice_get locks lock ≡ Some part → PartStands start lock part (at lists lock)) where
     xact_at : (bank : ℕ) (part : Part L P l p) (v : P) → slice_get locks (xact_lock bank) ≡ Some part → xact_disk part ≡ Some v → slice_get (xact_disks locks) bank ≡ Some v

@@ -16,7 +16,7 @@ module _ {L P : Type 0} {l : logs.Ghosts L} {p : disks.Ghosts P} where
   is_xact start bank (parts.Proc table) es s other = let e : 3 + 4 * bank ≡ 1 = s.0 in omega arith
   is_xact start bank (parts.Xact store) es s other = other store refl
   is_xact start bank (parts.Subtrans store) es s other = let e : 3 + 4 * bank ≡ 4 + 4 * s.0 = s.1 in omega arith
-  is_xact start bank parts.Vacant es s other = s.0.xact bank refl
+  is_xact start bank parts.Vacant es s other = s.xact bank refl
 
   -- a bank of pg_subtrans
   pub is_subtrans : (start : Start) (bank : ℕ) (part : Part L P l p) (es : List Entry) → PartStands start (subtrans_lock bank) part es → ((x : _) → part ≡ parts.Subtrans x → ⊥) → ⊥
@@ -24,4 +24,4 @@ module _ {L P : Type 0} {l : logs.Ghosts L} {p : disks.Ghosts P} where
   is_subtrans start bank (parts.Proc table) es s other = let e : 4 + 4 * bank ≡ 1 = s.0 in omega arith
   is_subtrans start bank (parts.Xact store) es s other = let e : 4 + 4 * bank ≡ 3 + 4 * s.0 = s.1 in omega arith
   is_subtrans start bank (parts.Subtrans store) es s other = other store refl
-  is_subtrans start bank parts.Vacant es s other = s.0.subtrans bank refl
+  is_subtrans start bank parts.Vacant es s other = s.subtrans bank refl

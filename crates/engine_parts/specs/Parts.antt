@@ -32,19 +32,20 @@ module _ {P O : Type 0} {g : disks.Ghosts P} {r : rules.Ghosts O} where
   IsSubtransOf start bank store es =
       SubtransStands start bank g.tells (faults_of store) (last_page store) (cutoff_of store) (pages_of store) es
 
--- the lock of a part that isn't built: none of the others' locks
-pub record IsVacant (lock : ℕ) : Type 0 where
+-- the lock of a part that isn't built: none of the others' locks; that of the multixacts has a list without entries
+pub record IsVacant (lock : ℕ) (es : List Entry) : Type 0 where
   pub log : lock ≢ log_lock
   pub proc : lock ≢ proc_lock
   pub xact : (bank : ℕ) → lock ≢ xact_lock bank
   pub subtrans : (bank : ℕ) → lock ≢ subtrans_lock bank
+  pub multi : lock ≡ multi_lock → es ≡ []
 
 module _ {L P : Type 0} {l : logs.Ghosts L} {p : disks.Ghosts P} where
-  -- Each kind of part lies behind its locks alone. The multixacts' lock has no part yet, and so its list no entries.
+  -- each kind of part lies behind its locks alone
   abbrev pub PartStands : Start → ℕ → Part L P l p → List Entry → Type 0
   PartStands start lock (parts.Log log) es = (lock ≡ log_lock) × IsLogOf start log es
   PartStands start lock (parts.Proc table) es = (lock ≡ proc_lock) × ProcStands start table es
   PartStands start lock (parts.Xact store) es = (bank : ℕ) × (lock ≡ xact_lock bank) × IsXactOf start bank store es
   PartStands start lock (parts.Subtrans store) es =
       (bank : ℕ) × (lock ≡ subtrans_lock bank) × IsSubtransOf start bank store es
-  PartStands start lock parts.Vacant es = IsVacant lock × (lock ≡ multi_lock → es ≡ [])
+  PartStands start lock parts.Vacant es = IsVacant lock es

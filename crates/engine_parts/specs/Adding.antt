@@ -85,11 +85,15 @@ IsTruncation rec = ⊥
 abbrev pub IsOfCommit : List ℕ → Rec → Type 0
 IsOfCommit opened rec = IsCommitOf opened rec ⊎ IsTruncation rec
 
--- The record that a command may append: a commit that of all that is open, where it stands not yet, and a truncation
--- before it; and an abort that of all that is open, where none was begun.
+-- and so of an abort
+abbrev pub IsOfAbort : List ℕ → Rec → Type 0
+IsOfAbort opened rec = IsAbortOf opened rec ⊎ IsTruncation rec
+
+-- The record that a command may append: a commit that of all that is open, where it stands not yet, and an abort that
+-- of all that is open, where none was begun; either with a truncation before it.
 abbrev pub IsRecordBy : Command → Stance → Stage → List ℕ → Rec → Type 0
 IsRecordBy commands.Commit s stage opened rec = IsTrue (is_unrecorded s stage) × IsOfCommit opened rec
-IsRecordBy commands.Abort s stage opened rec = (may_be_aborted stage ≡ false) × IsAbortOf opened rec
+IsRecordBy commands.Abort s stage opened rec = (may_be_aborted stage ≡ false) × IsOfAbort opened rec
 IsRecordBy command s stage opened rec = ⊥
 
 -- what a command may add that was answered so, of a session that stood so, with these ids open

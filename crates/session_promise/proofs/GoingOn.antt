@@ -38,7 +38,7 @@ use Rattle.tx_core.specs.Locks.{log_lock}
 use Rattle.tx_core.proofs.Lasting.{history_grows}
 use Rattle.engine_parts.specs.declared.session.Session.{Session}
 use Rattle.engine_parts.specs.declared.session.Stage.{Stage}
-use Rattle.engine_parts.specs.Adding.{AddsTo, IsCommitOf, IsRecordBy, IsTruncation, MayLeave}
+use Rattle.engine_parts.specs.Adding.{AddsTo, IsAbortOf, IsCommitOf, IsRecordBy, IsTruncation, MayLeave}
 use Rattle.engine_parts.specs.Answers.{MayAnswer}
 use Rattle.engine_parts.specs.Holds.{Knowledge}
 use Rattle.engine_parts.specs.Sessions.{by_at, stance_of}
@@ -69,7 +69,7 @@ truncation_of rec t = absurd t
 
 end_of : (command : Command) (s : Stance) (stage : Stage) (opened : List ℕ) (rec : Rec) → IsRecordBy command s stage opened rec → IsOfEnd rec
 end_of commands.Commit s stage opened rec r = ⊎_elim (λ (c : IsCommitOf opened rec). subst IsOfEnd (sym c.is) tt) (truncation_of rec) r.1
-end_of commands.Abort s stage opened rec r = subst IsOfEnd (sym r.1.is) tt
+end_of commands.Abort s stage opened rec r = ⊎_elim (λ (c : IsAbortOf opened rec). subst IsOfEnd (sym c.is) tt) (truncation_of rec) r.1
 end_of command s stage opened rec r = absurd r
 
 -- the session's next command, and its line

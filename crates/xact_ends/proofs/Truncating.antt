@@ -14,13 +14,13 @@ use Rattle.tx_core.specs.declared.entry.Start.{Start}
 use Rattle.tx_core.specs.Entries.{history}
 use Rattle.proc_sections.specs.Horizons.{truncation_behind}
 use Rattle.engine_parts.specs.declared.session.Session.{Session}
-use Rattle.engine_parts.specs.Adding.{IsCommitOf, IsOfCommit, IsTruncation, MayAdd}
+use Rattle.engine_parts.specs.Adding.{IsAbortOf, IsCommitOf, IsOfAbort, IsOfCommit, IsTruncation, MayAdd}
 use Rattle.engine_parts.specs.Steps.{WentOn}
 use Rattle.engine_parts.proofs.Adding.{may_wider}
 use Rattle.engine_parts.proofs.Stepping.{went_then}
 use Rattle.log_sections.specs.declared.appending.Appended.{Appended}
 use Rattle.log_sections.specs.declared.appending.Appended.TheVariants as came
-use Rattle.log_sections.specs.LogSections.{Appends, IsTruncationOf}
+use Rattle.log_sections.specs.LogSections.{Appends, IsTruncationOf, TakesAbort}
 
 -- the oldest id is the one with which the life began, or one that it announced
 abbrev IsFound : ℕ → List Event → Type 0
@@ -69,3 +69,13 @@ truncation_wider opened = may_wider IsTruncation (IsOfCommit opened) ⊥ ⊥ (λ
 -- where the log couldn't take the record, the session stands as before
 pub unlogged_same : (start : Start) (lists : List (List Entry)) (rec : Rec) (s s' : Session) (appended : Appended) → appended ≡ came.NoBase → Appends start lists rec s s' (Ok appended) → s' ≡ s
 unlogged_same start lists rec s s' appended is a = (subst (λ (z : Appended). Appends start lists rec s s' (Ok z)) is a).0
+
+-- so of an abort
+pub abort_wider : (opened : List ℕ) (rec : Rec) → IsAbortOf opened rec → (lock : ℕ) (kind : Kind) → MayAdd (λ z. z ≡ rec) ⊥ (λ r. ⊥) lock kind → MayAdd (IsOfAbort opened) ⊥ (λ r. ⊥) lock kind
+abort_wider opened rec of = may_wider (λ z. z ≡ rec) (IsOfAbort opened) ⊥ ⊥ (λ r. ⊥) (λ r. ⊥) (λ z is. inl (subst (IsAbortOf opened) (sym is) of)) (λ m. m) (λ r m. m)
+
+pub truncation_wider_abort : (opened : List ℕ) (lock : ℕ) (kind : Kind) → MayAdd IsTruncation ⊥ (λ r. ⊥) lock kind → MayAdd (IsOfAbort opened) ⊥ (λ r. ⊥) lock kind
+truncation_wider_abort opened = may_wider IsTruncation (IsOfAbort opened) ⊥ ⊥ (λ r. ⊥) (λ r. ⊥) (λ z t. inr t) (λ m. m) (λ r m. m)
+
+pub unaborted_record_same : (start : Start) (lists : List (List Entry)) (rec : Rec) (s s' : Session) (appended : Appended) → appended ≡ came.NoBase → TakesAbort start lists rec s s' (Ok appended) → s' ≡ s
+unaborted_record_same start lists rec s s' appended is a = (subst (λ (z : Appended). TakesAbort start lists rec s s' (Ok z)) is a).0

@@ -93,8 +93,8 @@ fn record_of(alloc: Global, opened: &[FullXid]) -> Result<Rec, Memory>
     Ok(Rec::Commit { top, subs })
 }
 
-/// Appends the record, and goes on. Behind a truncation the log can take it: its ids are below the stop limit of an
-/// oldest id that was announced before.
+/// Appends the record, and goes on. It waits for ever where the log can't take the record even behind a truncation's; no
+/// clause says that this can't come.
 fn log_and_finish<R: Wait, L: LogDisk, P: PageDisk>(
     rt: &R,
     hall: &Hall<EngineLaw<L, P>>,

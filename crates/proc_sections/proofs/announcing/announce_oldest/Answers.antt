@@ -15,7 +15,7 @@ use Rattle.engine_parts.proofs.Leaving.{history_same}
 use Rattle.engine_parts.proofs.Sectioning.{same_command, section_of}
 use Rattle.engine_parts.proofs.Stepping.{went_event, went_quiet}
 use Rattle.engine_parts.proofs.Tabling.{proc_adds, proc_looks}
-use Rattle.proc_sections.proofs.Announcing.{may_announce, not_announced, oldest_entry, raised_here, ready_announced}
+use Rattle.proc_sections.proofs.Announced.{may_announce, not_announced, oldest_entry, raised_here, ready_announced}
 use Rattle.proc_sections.proofs.announcing.announce_oldest.Goals as goal
 
 pub leave_proc-requires-clause-may : goal.leave_proc-requires-clause-may

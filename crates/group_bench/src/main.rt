@@ -14,6 +14,19 @@ use turns::{Threading, all_take_turns};
 // How many turns each member takes where no number is given.
 const TURNS: u32 = 500;
 
+// Takes the turns in so many threads, and prints what they came to.
+fn measure(rt: &HostRuntime, threading: Threading, turns: u32, shows_rate: bool) -> Result<()> {
+    let start = Instant::now(rt)?;
+    let outcome = all_take_turns(rt, rt.alloc(), threading, turns)?;
+    let time = start.elapsed(rt)?;
+    println!(rt; "{outcome}")?;
+    if shows_rate {
+        let rate = outcome.counts.publications as u128 * 1_000_000 / (time.as_micros() + 1);
+        println!(rt; "{rate} turns a second")?;
+    }
+    Ok(())
+}
+
 fn main(rt: HostRuntime) -> Result<()> {
     let wanted = env::args(&rt)?.nth(1);
     let turns = match &wanted {
@@ -21,14 +34,7 @@ fn main(rt: HostRuntime) -> Result<()> {
         None => TURNS,
     };
     for threading in [Threading::One, Threading::Two, Threading::Four] {
-        let start = Instant::now(&rt)?;
-        let outcome = all_take_turns(&rt, rt.alloc(), threading, turns)?;
-        let time = start.elapsed(&rt)?;
-        println!(rt; "{outcome}")?;
-        if wanted.is_some() {
-            let rate = outcome.counts.publications as u128 * 1_000_000 / (time.as_micros() + 1);
-            println!(rt; "{rate} turns a second")?;
-        }
+        measure(&rt, threading, turns, wanted.is_some())?;
     }
     Ok(())
 }

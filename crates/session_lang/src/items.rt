@@ -92,20 +92,6 @@ impl ItemList {
         }
     }
 
-    /// How many bytes the items take, by count.
-    #[cfg(test)]
-    pub fn bytes_kept(&self) -> usize {
-        let Apart {
-            names,
-            members,
-            spans,
-        } = &self.apart;
-        (self.packed.len().saturating_mul(size_of::<PackedItem>()))
-            .saturating_add(names.len())
-            .saturating_add(members.len().saturating_mul(size_of::<tx_model::Pair>()))
-            .saturating_add(spans.len().saturating_mul(size_of::<Span>()))
-    }
-
     /// Adds a command without arguments.
     fn push_plain(&mut self, session: u8, command: PlainCommand) -> Result<(), Memory>
         ensures { OnOk result (self.new ≡ self.old ++ items.Run session (plain_command command) ∷ []) }

@@ -1,5 +1,5 @@
 // Scripts with their faults, from the rows of the format.
-use crate::{Item, Kind, ParseRefusal, line_of, parse};
+use session_lang::{Item, Kind, ParseRefusal, line_of, parse};
 use std::alloc::Global;
 use std::test::Fail;
 use tx_model::{Command, DumpOf, How, Mode, Name};
@@ -193,9 +193,21 @@ fn each_multixact_and_dump_has_its_own_part(rt: HostRuntime) -> Result<(), Fail>
     Ok(())
 }
 
-/// The bytes kept of a script.
-fn kept(alloc: Global, bytes: &[u8]) -> Result<usize, ParseRefusal> {
-    Ok(parse(alloc, bytes)?.items.bytes_kept())
+/// The bytes kept of an item: twelve, its name's, eight for each member, twelve for a dump's span.
+fn kept(item: &Item) -> usize {
+    let apart = match item {
+        Item::Run { command, .. } => match command {
+            Command::Snap { name }
+            | Command::DropSnap { name }
+            | Command::See { name, .. }
+            | Command::SeeMulti { name, .. } => name.items().len(),
+            Command::Multi { members } => members.items().len().saturating_mul(8),
+            _ => 0,
+        },
+        Item::Dump { .. } => 12,
+        _ => 0,
+    };
+    apart.saturating_add(12)
 }
 
 #[test]
@@ -227,8 +239,12 @@ fn shortest_line_of_each_kind_takes_at_most_twice_its_text(rt: HostRuntime) -> R
         b".dump xact 0 0 1",
     ];
     for line in lines {
-        let kept = kept(rt.alloc(), line)?;
-        assert!(rt; kept <= line.len() * 2, "{line:?} {kept}");
+        let script = parse(rt.alloc(), line)?;
+        assert_eq!(rt; script.items.items().len(), 1);
+        let Some(item) = script.items.items().get(0)? else {
+            return Err("no item".into());
+        };
+        assert!(rt; kept(&item) <= line.len() * 2, "{line:?} {}", kept(&item));
     }
     Ok(())
 }

@@ -5,6 +5,8 @@
 #[cfg(test)]
 mod read_tests;
 #[cfg(test)]
+mod runs;
+#[cfg(test)]
 mod text_tests;
 #[cfg(test)]
 mod texts;

@@ -1,7 +1,8 @@
 // Bytes that were worked out by hand from the format.
 ghost use Rattle.std.specs.Prelude.{◌≤◌, ◌<◌, ◌^◌};
 
-use std::alloc::Global;
+use std::alloc::{AllocGlobal, Global};
+use std::process::Abort;
 use std::test::Fail;
 use tx_events::{Counters, FullMulti, FullXid, IdList, Member, MemberList, Mode, Rec};
 use wal_records::{ReadRec, is_lawful, read_rec, rec_length, write_rec};
@@ -44,74 +45,123 @@ const TRUNCATE: [u8; 25] = [
     5, 3, 0, 0, 0, 1, 0, 0, 0, 2, 0, 0, 0, 0, 0, 0, 0, 9, 0, 0, 0, 0, 0, 0, 0,
 ];
 
-// Adds the record, whose bytes these are, behind others; it is read again whatever follows it, and no less than all
-// of its bytes is a record.
-fn has_bytes(rec: &Rec, bytes: &[u8], alloc: Global) -> Result<bool, Fail> {
-    if !is_lawful(rec) || rec_length(rec) != bytes.len() as u64 {
-        return Ok(false);
+#[rattlefmt::skip]
+const COMMIT: [u8; 13] = [1, 3, 0, 0, 0, 0, 0, 0, 0, 0, 0, 0, 0];
+
+// Two other bytes, and behind them those of a lawful record.
+fn spelled(alloc: Global, rec: &Rec) -> Result<Vec<u8>, Fail> {
+    if !is_lawful(rec) {
+        return Err("an unlawful record".into());
     }
-    let mut written = [8, 9].to_vec(alloc)?;
-    write_rec(rec, &mut written)?;
-    if written.len() < 2 || &written[2..] != bytes {
-        return Ok(false);
+    let mut bytes = [8, 9].to_vec(alloc)?;
+    write_rec(rec, &mut bytes)?;
+    Ok(bytes)
+}
+
+fn length_of(rec: &Rec) -> Result<u64, Fail> {
+    if !is_lawful(rec) {
+        return Err("an unlawful record".into());
     }
-    written.push(77)?;
-    let Some(ReadRec { rec: again, length }) = read_rec(alloc, &written[2..])? else {
+    Ok(rec_length(rec))
+}
+
+// Whether the record that is read from these bytes is spelled so, and has this length.
+fn is_read_as(alloc: Global, bytes: &[u8], wanted: &[u8]) -> Result<bool, Fail> {
+    let Some(ReadRec { rec, length }) = read_rec(alloc, bytes)? else {
         return Ok(false);
     };
-    let mut spelled = Vec::new(alloc);
-    write_rec(&again, &mut spelled)?;
-    if length != bytes.len() as u64 || spelled.as_slice() != bytes {
-        return Ok(false);
-    }
+    let again = spelled(alloc, &rec)?;
+    Ok(length == wanted.len() as u64 && again.get(2..) == Some(wanted))
+}
+
+fn is_read(alloc: Global, bytes: &[u8]) -> Result<bool, Fail> {
+    Ok(read_rec(alloc, bytes)?.is_some())
+}
+
+// No less than all of these bytes is a record.
+fn no_part_is_read(alloc: Global, bytes: &[u8]) -> Result<bool, Fail> {
     for count in 0..bytes.len() {
-        if read_rec(alloc, &bytes[..count])?.is_some() {
+        if is_read(alloc, &bytes[..count])? {
             return Ok(false);
         }
     }
     Ok(true)
 }
 
-#[test]
-fn each_record_has_its_bytes_and_is_read_again(rt: HostRuntime) -> Result<(), Fail> {
+// The bytes, and one more behind them.
+fn and_more(alloc: Global, bytes: &[u8]) -> Result<Vec<u8>, Fail> {
+    let mut more = bytes.to_vec(alloc)?;
+    more.push(77)?;
+    Ok(more)
+}
+
+// Adds the record, whose bytes these are, behind others; it is read again whatever follows it, and no less than all
+// of its bytes is a record.
+fn check(rt: &(impl Abort + AllocGlobal), rec: &Rec, bytes: &[u8]) -> Result<(), Fail> {
     let alloc = rt.alloc();
-    let checkpoint = Rec::Checkpoint {
+    assert_eq!(rt; length_of(rec)?, bytes.len() as u64);
+    assert_eq!(rt; spelled(alloc, rec)?.get(2..), Some(bytes));
+    assert!(rt; is_read_as(alloc, &and_more(alloc, bytes)?, bytes)?);
+    assert!(rt; no_part_is_read(alloc, bytes)?);
+    Ok(())
+}
+
+fn checkpoint() -> Rec {
+    Rec::Checkpoint {
         number: 0,
         counters: Counters::of_new_log(),
-    };
-    assert!(rt; has_bytes(&checkpoint, &CHECKPOINT, alloc)?);
-    let commit = Rec::Commit {
-        top: id(3)?,
+    }
+}
+
+fn commit(alloc: Global) -> Result<Rec, Fail> {
+    let top = id(3)?;
+    Ok(Rec::Commit {
+        top,
         subs: IdList::new(alloc),
-    };
-    assert!(rt; has_bytes(&commit, &[1, 3, 0, 0, 0, 0, 0, 0, 0, 0, 0, 0, 0], alloc)?);
-    let abort = Rec::Abort {
-        top: id(260)?,
-        subs: ids(alloc, &[261, (1 << 32) + 3])?,
-    };
-    assert!(rt; has_bytes(&abort, &ABORT, alloc)?);
+    })
+}
+
+fn abort(alloc: Global) -> Result<Rec, Fail> {
+    let top = id(260)?;
+    let subs = ids(alloc, &[261, (1 << 32) + 3])?;
+    Ok(Rec::Abort { top, subs })
+}
+
+fn two_members(alloc: Global) -> Result<MemberList, Fail> {
     let mut members = MemberList::new(alloc);
-    members.push(Member {
-        id: id(3)?,
-        mode: Mode::KeySh,
-    })?;
-    members.push(Member {
-        id: id(4)?,
-        mode: Mode::Upd,
-    })?;
-    let multi_of_two = Rec::Multi {
-        multi: multi(7)?,
+    for (number, mode) in [(3, Mode::KeySh), (4, Mode::Upd)] {
+        let id = id(number)?;
+        members.push(Member { id, mode })?;
+    }
+    Ok(members)
+}
+
+fn multi_of_two(alloc: Global) -> Result<Rec, Fail> {
+    let multi = multi(7)?;
+    let members = two_members(alloc)?;
+    Ok(Rec::Multi {
+        multi,
         offset: 0xffff_ffff,
         members,
-    };
-    assert!(rt; has_bytes(&multi_of_two, &MULTI, alloc)?);
-    let truncate = Rec::Truncate {
+    })
+}
+
+fn truncate() -> Result<Rec, Fail> {
+    Ok(Rec::Truncate {
         oldest: id((1 << 32) + 3)?,
         multi: multi(2)?,
         offset: 9,
-    };
-    assert!(rt; has_bytes(&truncate, &TRUNCATE, alloc)?);
-    Ok(())
+    })
+}
+
+#[test]
+fn each_record_has_its_bytes_and_is_read_again(rt: HostRuntime) -> Result<(), Fail> {
+    let alloc = rt.alloc();
+    check(&rt, &checkpoint(), &CHECKPOINT)?;
+    check(&rt, &commit(alloc)?, &COMMIT)?;
+    check(&rt, &abort(alloc)?, &ABORT)?;
+    check(&rt, &multi_of_two(alloc)?, &MULTI)?;
+    check(&rt, &truncate()?, &TRUNCATE)
 }
 
 // Whether a record is read from these bytes with one of them changed.
@@ -121,7 +171,7 @@ fn is_read_with(bytes: &[u8], at: usize, byte: u8, alloc: Global) -> Result<bool
         Some(place) => *place = byte,
         None => return Err("no such place".into()),
     }
-    Ok(read_rec(alloc, &changed)?.is_some())
+    is_read(alloc, &changed)
 }
 
 #[test]

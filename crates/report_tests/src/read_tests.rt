@@ -1,9 +1,10 @@
 // Reports read back, and the first wrong line of a text that is none.
+use crate::texts::text_of;
 use report_read::{ReadRefusal, read_report};
-use report_text::print_report;
 use std::alloc::{AllocGlobal, Global};
 use std::process::Abort;
 use std::test::Fail;
+use tx_model::Report;
 
 /// The first wrong line, or 0 where the text is a report's.
 fn wrong_line(alloc: Global, text: &str) -> Result<u64, Fail> {
@@ -12,6 +13,19 @@ fn wrong_line(alloc: Global, text: &str) -> Result<u64, Fail> {
         Err(ReadRefusal::Line { line }) => Ok(line),
         Err(ReadRefusal::Memory) => Err("memory")?,
     }
+}
+
+fn report_of(alloc: Global, text: &str) -> Result<Report, Fail> {
+    match read_report(alloc, text.as_bytes()) {
+        Ok(report) => Ok(report),
+        Err(_) => Err("no report".into()),
+    }
+}
+
+/// The text of the report that is read.
+fn printed_again(alloc: Global, text: &str) -> Result<String, Fail> {
+    let report = report_of(alloc, text)?;
+    text_of(alloc, &report)
 }
 
 #[test]
@@ -43,12 +57,7 @@ fn a_report_with_a_crash_is_read_back(rt: HostRuntime) -> Result<(), Fail> {
         log flushed 4 end 265\n\
         3 checkpoint next 4 oldest 3 multi 1 offset 1 oldest-multi 1 oldest-offset 1\n\
         end\n";
-    let alloc = rt.alloc();
-    let report = read_report(alloc, text.as_bytes()).ok().ok_or("no report")?;
-    let again = String::from_utf8(print_report(alloc, &report)?)
-        .ok()
-        .ok_or("no text")?;
-    assert_eq!(rt; again.as_str(), text);
+    assert_eq!(rt; printed_again(rt.alloc(), text)?.as_str(), text);
     Ok(())
 }
 

@@ -2,3 +2,4 @@ mod Starting
 mod Hosting
 mod Parking
 mod Refusing
+mod Counting

@@ -1,3 +1,4 @@
 pub mod Opening
 pub mod Hosts
 pub mod Refused
+pub mod Counted

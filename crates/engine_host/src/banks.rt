@@ -1,6 +1,7 @@
 //! The banks of a new cluster (`BootStrapCLOG` of `clog.c`, `BootStrapSUBTRANS` of `subtrans.c`).
-ghost use Rattle.std.specs.Prelude.{◌≡◌, ◌⊎◌, ◌<◌, IfErr, IfOk};
+ghost use Rattle.std.specs.Prelude.{◌≡◌, ◌⊎◌, ◌<◌, ◌≤◌, IfErr, IfOk};
 ghost use Rattle.disk_core.specs.Faults.{HasRisen};
+ghost use Rattle.slru_bank.specs.Calls.{faults_of};
 ghost use Rattle.tx_events.specs.Base.{IsBase};
 ghost use Rattle.tx_events.specs.declared.refusal.Lock.TheVariants as locks;
 ghost use Rattle.engine_host.specs.declared.refusal.OpenRefusal.TheVariants as refusals;
@@ -24,6 +25,7 @@ pub(crate) fn new_xact<P: PageDisk + Drop>(
     requires base { IsBase cluster.now.base }
     requires inside { bank < cluster.now.banks }
     ensures new { IfOk result (λ store. IsNewXact cluster.now bank store) }
+    ensures count { IfOk result (λ store. P.faults disk ≤ faults_of store) }
     ensures refused { IfErr result (λ e. (e.1 ≡ refusals.Memory)
         ⊎ ((e.1 ≡ refusals.DiskFault (locks.Xact bank)) × HasRisen (P.faults disk) (P.faults e.0))) }
 {
@@ -54,6 +56,7 @@ pub(crate) fn new_subtrans<P: PageDisk + Drop>(
     requires base { IsBase cluster.now.base }
     requires inside { bank < cluster.now.banks }
     ensures new { IfOk result (λ store. IsNewSubtrans cluster.now bank store) }
+    ensures count { IfOk result (λ store. P.faults disk ≤ faults_of store) }
     ensures refused { IfErr result (λ e. (e.1 ≡ refusals.Memory)
         ⊎ ((e.1 ≡ refusals.DiskFault (locks.Subtrans bank)) × HasRisen (P.faults disk) (P.faults e.0))) }
 {

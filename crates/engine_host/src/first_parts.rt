@@ -1,7 +1,8 @@
 //! The parts of a new engine.
-ghost use Rattle.std.specs.Prelude.{◌≡◌, ◌+◌, ◌*◌, ◌≤◌, ◌<◌, ◌++◌, ℕ, IfErr, IfOk, OnErr, OnOk, drop, length, remove, vec_capacity};
+ghost use Rattle.std.specs.Prelude.{◌≡◌, ◌+◌, ◌*◌, ◌≤◌, ◌<◌, ◌++◌, ◌∷◌, ℕ, IfErr, IfOk, OnErr, OnOk, drop, length, map, remove, vec_capacity};
 ghost use Rattle.wal_core.specs.LogViews.{log_disk};
-ghost use Rattle.engine_host.specs.Opening.{AreNew, AreParts, IsBegunLog, IsCluster, new_life};
+ghost use Rattle.engine_host.specs.Counted.{AreCounted, CountsBank, HaveCounted};
+ghost use Rattle.engine_host.specs.Opening.{AreNew, AreParts, IsBegunLog, IsCluster, faults_behind, new_life};
 ghost use Rattle.engine_host.specs.declared.refusal.OpenRefusal.TheVariants as refusals;
 ghost use Rattle.engine_host.specs.Refused.{HaveDisks, IsBankRefusal, IsRefusal, subtrans_disks, xact_disks};
 
@@ -63,6 +64,7 @@ fn add_bank<L: LogDisk, P: PageDisk + Drop>(
     ensures disks { OnOk result (HaveDisks (bank + 1) locks.new.items) }
     ensures room { OnOk result (vec_capacity locks.new ≡ vec_capacity locks.old) }
     ensures stand { OnOk result (AreNew cluster.now 1 locks.new.items) }
+    ensures counted { OnOk result (CountsBank xact.old.items subtrans.old.items locks.old.items locks.new.items) }
     ensures capacity { (vec_capacity xact.new ≡ vec_capacity xact.old) × (vec_capacity subtrans.new ≡ vec_capacity subtrans.old) }
     ensures same { OnErr result (locks.new.items ≡ locks.old.items) }
     ensures back { OnErr result ((length xact.new.items ≡ length xact.old.items)
@@ -109,6 +111,7 @@ fn add_banks<L: LogDisk, P: PageDisk + Drop>(
     ensures count { OnOk result (length locks.new.items ≡ 2 + 4 * cluster.now.banks) }
     ensures room { OnOk result (vec_capacity locks.new ≡ vec_capacity locks.old) }
     ensures stand { OnOk result (AreNew cluster.now 1 locks.new.items) }
+    ensures counted { OnOk result (HaveCounted cluster.now.banks xact.old.items subtrans.old.items locks.new.items) }
     ensures capacity { (vec_capacity xact.new ≡ vec_capacity xact.old) × (vec_capacity subtrans.new ≡ vec_capacity subtrans.old) }
     ensures back { (length (xact_disks locks.new.items) + length xact.new.items ≡ cluster.now.banks)
         × (length (subtrans_disks locks.new.items) + length subtrans.new.items ≡ cluster.now.banks) }
@@ -170,6 +173,7 @@ fn gather<L: LogDisk, P: PageDisk>(
     ensures cluster { result.cluster ≡ cluster }
     ensures parts { AreParts result }
     ensures start { result.start.value ≡ new_life cluster result.locks.items }
+    ensures faults { map faults_behind result.locks.items ≡ L.faults (log_disk log) ∷ map faults_behind locks.items }
 {
     let mut locks = locks;
     let inserted = locks.insert(0, Part::Log(log));
@@ -189,8 +193,9 @@ fn gather<L: LogDisk, P: PageDisk>(
 /// log's first record, which is on disk then, is a checkpoint of the base. There is a volume for each bank of both
 /// stores.
 ///
-/// The parts stand for lists without entries, in a life that begins with these volumes' counts of faults. After an
-/// error the volumes come back, in the order of their banks; pages may be removed then, and the checkpoint written.
+/// The parts stand for lists without entries, in a life that begins with the volumes' counts of faults, which aren't
+/// below what they were. After an error the volumes come back, in the order of their banks; pages may be removed then,
+/// and the checkpoint written.
 pub fn open_new<L: LogDisk + Drop, P: PageDisk + Drop>(
     alloc: Global,
     volumes: NewVolumes<L, P>,
@@ -201,6 +206,8 @@ pub fn open_new<L: LogDisk + Drop, P: PageDisk + Drop>(
     ensures cluster { IfOk result (λ parts. parts.cluster ≡ cluster) }
     ensures parts { IfOk result (λ parts. AreParts parts) }
     ensures start { IfOk result (λ parts. parts.start.value ≡ new_life cluster parts.locks.items) }
+    ensures counted { IfOk result (λ parts. AreCounted L.LogDisk P.PageDisk volumes.log volumes.xact.items
+        volumes.subtrans.items parts.start.value.faults) }
     ensures refused { IfErr result (λ e. IsRefusal L.LogDisk P.PageDisk cluster volumes e.0 e.1) }
 {
     let NewVolumes {

@@ -4,10 +4,10 @@ use Rattle.disk_core.specs.declared.log_disk.LogDisk as logs
 use Rattle.disk_core.specs.declared.page_disk.PageDisk as disks
 use Rattle.disk_core.specs.declared.media.Volumes.{Volumes}
 use Rattle.disk_core.specs.Images.{Only}
-use Rattle.disk_core.specs.Media.{HasBanks}
 use Rattle.engine_host.specs.declared.cluster.Cluster.{Cluster}
 use Rattle.engine_life.specs.declared.refusal.NoLife.{NoLife}
 use Rattle.engine_life.specs.declared.refusal.NoLife.TheVariants as no_lives
+use Rattle.engine_life.specs.Lives.{LeaveMultis}
 use Rattle.engine_life.specs.Refusals.{IsNoLife, IsUnopened}
 
 -- one text behind the other
@@ -18,19 +18,19 @@ behind_text out history multis log a b c one two three =
     ∙ (ap (λ (t : List ℕ). t ++ log) (two ∙ (ap (λ (t : List ℕ). t ++ multis) one ∙ append_assoc out history multis))
     ∙ (append_assoc out (history ++ multis) log ∙ ap (λ (t : List ℕ). out ++ t) (sym (append-nil ((history ++ multis) ++ log)))))
 
-pub of_ok : {X E : Type 0} (r : Result X E) (P Q : X → Type 0) → ((x : X) → P x → Q x) → IfOk r P → IfOk r Q
-of_ok (Ok x) P Q f k = f x k
-of_ok (Err e) P Q f k = tt
-
 pub of_err : {X E : Type 0} (r : Result X E) (P Q : E → Type 0) → ((e : E) → P e → Q e) → IfErr r P → IfErr r Q
 of_err (Ok x) P Q f k = tt
 of_err (Err e) P Q f k = f e k
 
+pub of_oks : {X E : Type 0} (r : Result X E) (P Q R : X → Type 0) → ((x : X) → P x → Q x → R x) → IfOk r P → IfOk r Q → IfOk r R
+of_oks (Ok x) P Q R f k m = f x k m
+of_oks (Err e) P Q R f k m = tt
+
 module _ {L P : Type 0} (l : logs.Ghosts L) (p : disks.Ghosts P) where
-  pub unopened : (c : Cluster) (before now : ℕ) (gives : Volumes L P → Type 0) (old new : Volumes L P) (r : NoLife)
-      → HasBanks c.banks old → Only new gives → IsNoLife l p c old new r → IsUnopened l p c before now gives r
-  unopened c before now gives old new (no_lives.Damaged at) banks only k = (old, new, banks, only, k)
-  unopened c before now gives old new no_lives.OldLog banks only k = (old, new, banks, only, k)
-  unopened c before now gives old new no_lives.Device banks only k = inr (old, new, only, k)
-  unopened c before now gives old new no_lives.Full banks only k = (old, new, banks, only, k)
-  unopened c before now gives old new no_lives.Memory banks only k = tt
+  pub unopened : (c : Cluster) (first : ℕ → Volumes L P → Type 0) (before now : ℕ) (gives : Volumes L P → Type 0) (old new : Volumes L P) (r : NoLife)
+      → first c.banks old → Only new gives → LeaveMultis old new → IsNoLife l p c old new r → IsUnopened l p c first before now gives r
+  unopened c first before now gives old new (no_lives.Damaged at) given only leave k = (old, new, given, only, leave, k)
+  unopened c first before now gives old new no_lives.OldLog given only leave k = (old, new, given, only, leave, k)
+  unopened c first before now gives old new no_lives.Device given only leave k = inr (c.banks, old, new, given, only, leave, k)
+  unopened c first before now gives old new no_lives.Full given only leave k = (old, new, given, only, leave, k)
+  unopened c first before now gives old new no_lives.Memory given only leave k = tt

@@ -1,19 +1,32 @@
 -- How a life begins, and what it leaves.
-use Rattle.std.specs.Prelude.{◌≡◌, ℕ, ◌<◌, List, []}
+use Rattle.std.specs.Prelude.{◌≡◌, ℕ, ◌<◌, ◌≤◌, List, [], Some, slice_get}
 use Rattle.disk_core.specs.declared.log_disk.LogDisk as logs
 use Rattle.disk_core.specs.declared.page_disk.PageDisk as disks
+use Rattle.disk_core.specs.declared.media.Volumes.{Volumes}
+use Rattle.disk_core.specs.Media.{HasBanks}
 use Rattle.hall.specs.Calls.{start_of}
+use Rattle.notes.specs.Lists.{at}
 use Rattle.tx_events.specs.declared.event.Event.{Event}
 use Rattle.tx_events.specs.declared.record.Counters.{Counters}
 use Rattle.tx_model.specs.declared.report.Life.{Life}
+use Rattle.tx_core.specs.declared.entry.Entry.{Entry}
 use Rattle.tx_core.specs.declared.entry.Start.{Start}
+use Rattle.tx_core.specs.FaultsRise.{faults_told}
+use Rattle.tx_core.specs.Locks.{log_lock, subtrans_lock, xact_lock}
 use Rattle.wal_core.specs.declared.wal_log.WalLog.{WalLog}
-use Rattle.wal_core.specs.LogViews.{log_end, log_flushed, log_recs}
+use Rattle.wal_core.specs.LogViews.{log_disk, log_end, log_flushed, log_recs}
 use Rattle.engine_parts.specs.declared.session.Session.{Session}
 use Rattle.engine_host.specs.declared.cluster.Cluster.{Cluster}
+use Rattle.engine_host.specs.Counted.{AreCounted}
 use Rattle.engine_host.specs.Hosts.{HasSeenNothing, HoldsAllBut, IsHost, IsNewSession, IsParked}
 use Rattle.engine_host.specs.Opening.{life_of}
+use Rattle.engine_life.specs.declared.closed.ClosedLife.{ClosedLife}
 use Rattle.engine_life.specs.declared.life.OpenLife.{OpenLife}
+
+-- the volumes of the multixacts' stores are as they were
+pub record LeaveMultis {L P : Type 0} (old new : Volumes L P) : Type 0 where
+  pub offsets : new.offsets ≡ old.offsets
+  pub members : new.members ≡ old.members
 
 module _ {L P : Type 0} {l : logs.Ghosts L} {p : disks.Ghosts P} where
   -- Nothing was done yet in a life that starts so, and each of its sessions may be let in.
@@ -25,9 +38,34 @@ module _ {L P : Type 0} {l : logs.Ghosts L} {p : disks.Ghosts P} where
     pub names : HoldsAllBut life.host []
     pub parked : (n : ℕ) (s : Session) → n < c.sessions → IsNewSession s → IsParked life.hall life.host n s
 
-  -- it begins over a new log, with some counts of faults of its volumes
-  abbrev pub IsNewLife : Cluster → OpenLife L P l p → Type 0
-  IsNewLife c life = (faults : List ℕ) × IsBegun c (life_of c faults) life
+  -- It begins over a new log, at counts of faults that aren't below those of these volumes, and has set those of the
+  -- multixacts' stores aside.
+  pub record IsNewLife (c : Cluster) (volumes : Volumes L P) (life : OpenLife L P l p) : Type 0 where
+    pub banks : HasBanks c.banks volumes
+    pub faults : List ℕ
+    pub counted : AreCounted l p volumes.log volumes.xact.items volumes.subtrans.items faults
+    pub begun : IsBegun c (life_of c faults) life
+    pub offsets : life.aside.offsets ≡ volumes.offsets
+    pub members : life.aside.members ≡ volumes.members
+
+-- the volumes of a life that is over, each in its place
+abbrev pub volumes_left : {L P : Type 0} → {l : logs.Ghosts L} → ClosedLife L P l → Volumes L P
+volumes_left life = record {
+  log = log_disk life.log;
+  xact = life.xact;
+  subtrans = life.subtrans;
+  offsets = life.offsets;
+  members = life.members;
+}
+
+module _ {L P : Type 0} (l : logs.Ghosts L) (p : disks.Ghosts P) where
+  -- Each volume that the life used has counted at least the faults that its lock's list tells.
+  pub record HaveCountedTold (start : Start) (lists : List (List Entry)) (volumes : Volumes L P) : Type 0 where
+    pub log : faults_told start log_lock (at lists log_lock) ≤ l.faults volumes.log
+    pub xact : (bank : ℕ) → bank < start.banks → (v : P) × (slice_get volumes.xact.items bank ≡ Some v)
+        × (faults_told start (xact_lock bank) (at lists (xact_lock bank)) ≤ p.faults v)
+    pub subtrans : (bank : ℕ) → bank < start.banks → (v : P) × (slice_get volumes.subtrans.items bank ≡ Some v)
+        × (faults_told start (subtrans_lock bank) (at lists (subtrans_lock bank)) ≤ p.faults v)
 
 -- the life over a new log that had this history and left this log
 abbrev pub life_told : {D : Type 0} → {g : logs.Ghosts D} → Counters → List Event → WalLog D g → Life

@@ -5,7 +5,6 @@ use Rattle.disk_core.specs.declared.page_disk.PageDisk as disks
 use Rattle.disk_core.specs.declared.media.Volumes.{Volumes}
 use Rattle.disk_core.specs.Faults.{HasRisen}
 use Rattle.disk_core.specs.Images.{Only}
-use Rattle.disk_core.specs.Media.{HasBanks}
 use Rattle.wal_core.specs.Log.{history_on}
 use Rattle.wal_core.specs.Opening.{opened}
 use Rattle.engine_host.specs.declared.cluster.Cluster.{Cluster}
@@ -14,6 +13,7 @@ use Rattle.engine_host.specs.declared.refusal.OpenRefusal.TheVariants as refusal
 use Rattle.engine_host.specs.Refused.{HasFailedAt, HasNoRoom, OpensEmpty}
 use Rattle.engine_life.specs.declared.refusal.NoLife.{NoLife}
 use Rattle.engine_life.specs.declared.refusal.NoLife.TheVariants as no_lives
+use Rattle.engine_life.specs.Lives.{LeaveMultis}
 
 abbrev pub refusal_by : OpenRefusal → NoLife
 refusal_by (refusals.Damaged at) = no_lives.Damaged at
@@ -39,18 +39,20 @@ module _ {L P : Type 0} (l : logs.Ghosts L) (p : disks.Ghosts P) where
   IsNoLife c old new no_lives.Full = (gate : ℕ) × OpensEmpty l old.log gate × HasNoRoom c gate
   IsNoLife c old new no_lives.Memory = Unit {0}
 
-  -- the media's count rose, or that of a volume since the mounting, until the media took the volumes back
-  abbrev pub HasDeviceFailed : ℕ → ℕ → (Volumes L P → Type 0) → Type 0
-  HasDeviceFailed before now gives =
-      HasRisen before now ⊎ ((old new : Volumes L P) × Only new gives × HasVolumeFailed old new)
+  -- The media's count rose, or that of a volume since the mounting, until the media took the volumes back. What a first
+  -- mount of so many banks may give is known.
+  abbrev pub HasDeviceFailed : (ℕ → Volumes L P → Type 0) → ℕ → ℕ → (Volumes L P → Type 0) → Type 0
+  HasDeviceFailed first before now gives =
+      HasRisen before now
+      ⊎ ((banks : ℕ) × (old new : Volumes L P) × first banks old × Only new gives × LeaveMultis old new × HasVolumeFailed old new)
 
   -- the volumes were mounted so, were given back so, and no life was opened over them
-  abbrev pub HasRestedVolumes : Cluster → (Volumes L P → Type 0) → NoLife → Type 0
-  HasRestedVolumes c gives refusal =
-      (old new : Volumes L P) × HasBanks c.banks old × Only new gives × IsNoLife c old new refusal
+  abbrev pub HasRestedVolumes : Cluster → (ℕ → Volumes L P → Type 0) → (Volumes L P → Type 0) → NoLife → Type 0
+  HasRestedVolumes c first gives refusal =
+      (old new : Volumes L P) × first c.banks old × Only new gives × LeaveMultis old new × IsNoLife c old new refusal
 
   -- why no life was opened over a media with these counts of faults, which holds these volumes now
-  abbrev pub IsUnopened : Cluster → ℕ → ℕ → (Volumes L P → Type 0) → NoLife → Type 0
-  IsUnopened c before now gives no_lives.Device = HasDeviceFailed before now gives
-  IsUnopened c before now gives no_lives.Memory = Unit {0}
-  IsUnopened c before now gives refusal = HasRestedVolumes c gives refusal
+  abbrev pub IsUnopened : Cluster → (ℕ → Volumes L P → Type 0) → ℕ → ℕ → (Volumes L P → Type 0) → NoLife → Type 0
+  IsUnopened c first before now gives no_lives.Device = HasDeviceFailed first before now gives
+  IsUnopened c first before now gives no_lives.Memory = Unit {0}
+  IsUnopened c first before now gives refusal = HasRestedVolumes c first gives refusal

@@ -7,6 +7,7 @@ ghost use Rattle.tx_core.specs.Entries.{history};
 ghost use Rattle.tx_core.specs.Locks.{log_lock};
 ghost use Rattle.engine_parts.specs.Parts.{IsLogOf};
 ghost use Rattle.engine_host.specs.Hosts.{HoldsAllBut, IsHost};
+ghost use Rattle.engine_life.specs.Lives.{HaveCountedTold, volumes_left};
 
 use crate::life::{Aside, OpenLife};
 use disk_core::{LogDisk, PageDisk, Volumes};
@@ -25,13 +26,17 @@ pub struct ClosedLife<L: LogDisk, P> {
 }
 
 /// Closes a life whose sessions are all dismissed. Its history and its log are those of the lists that the host has seen,
-/// which are all that was done, and of which the engine invariant holds. Takes no memory.
+/// which are all that was done, and of which the engine invariant holds. Each volume has counted at least the faults that
+/// its list tells. Takes no memory.
 pub fn close_life<L: LogDisk + Drop, P: PageDisk + Drop>(life: OpenLife<L, P>) -> ClosedLife<L, P>
     requires host { IsHost life.hall life.host }
     requires all { HoldsAllBut life.host [] }
     ensures events { result.events ≡ history (view life.host.pass).seen }
     ensures log { IsLogOf (start_of life.hall) result.log (at (view life.host.pass).seen log_lock) }
     ensures kept { EngineInvariant (start_of life.hall) (view life.host.pass).seen }
+    ensures counted { HaveCountedTold L.LogDisk P.PageDisk (start_of life.hall) (view life.host.pass).seen (volumes_left result) }
+    ensures offsets { (volumes_left result).offsets ≡ life.aside.offsets }
+    ensures members { (volumes_left result).members ≡ life.aside.members }
 {
     let OpenLife { hall, host, aside } = life;
     let parts = close(hall, host);
@@ -65,11 +70,11 @@ pub fn close_life<L: LogDisk + Drop, P: PageDisk + Drop>(life: OpenLife<L, P>) -
 
 impl<L: LogDisk + Drop, P: PageDisk + Drop> ClosedLife<L, P> {
     ghost use Rattle.std.specs.Prelude.{◌≡◌};
-    ghost use Rattle.wal_core.specs.LogViews.{log_disk};
+    ghost use Rattle.engine_life.specs.Lives.{volumes_left};
 
-    /// The volumes, which the media takes back.
+    /// The volumes, each in its place, which the media takes back.
     pub fn into_volumes(self) -> Volumes<L, P>
-        ensures log { result.log ≡ log_disk self.log }
+        ensures { result ≡ volumes_left self }
     {
         let ClosedLife {
             log,

@@ -1,8 +1,9 @@
 //! How a life is opened over the volumes of a media.
 ghost use Rattle.std.specs.Prelude.{◌≡◌, ◌≤◌, ◌*◌, ℕ, [], false, IfErr, IfOk, IsTrue, OnErr, OnOk, length, vec_capacity};
 ghost use Rattle.disk_core.specs.Media.{HasBanks};
+ghost use Rattle.disk_core.specs.declared.media.Volumes.{Volumes as Mounted};
 ghost use Rattle.engine_host.specs.Opening.{AreParts, IsCluster};
-ghost use Rattle.engine_life.specs.Lives.{IsBegun, IsNewLife};
+ghost use Rattle.engine_life.specs.Lives.{IsBegun, IsNewLife, LeaveMultis};
 ghost use Rattle.engine_life.specs.declared.refusal.NoLife.TheVariants as no_lives;
 ghost use Rattle.engine_life.specs.Refusals.{IsNoLife, IsUnopened};
 
@@ -23,6 +24,8 @@ fn together<L: LogDisk + Drop, P: PageDisk + Drop>(
     ensures log { result.log ≡ volumes.log }
     ensures xact { result.xact ≡ volumes.xact }
     ensures subtrans { result.subtrans ≡ volumes.subtrans }
+    ensures offsets { result.offsets ≡ aside.offsets }
+    ensures members { result.members ≡ aside.members }
 {
     let Aside {
         offsets,
@@ -49,6 +52,8 @@ fn volumes_of<L: LogDisk + Drop, P: PageDisk + Drop>(
     aside: Aside<P>,
 ) -> Volumes<L, P>
     requires { AreParts parts }
+    ensures offsets { result.offsets ≡ aside.offsets }
+    ensures members { result.members ≡ aside.members }
 {
     let Parts {
         cluster: _,
@@ -84,7 +89,9 @@ fn begin_life<L: LogDisk + Drop, P: PageDisk + Drop>(
 ) -> Result<OpenLife<L, P>, (Volumes<L, P>, NoLife)>
     requires parts { AreParts parts }
     ensures life { IfOk result (λ life. IsBegun parts.cluster parts.start.value life) }
+    ensures aside { IfOk result (λ life. (life.aside.offsets ≡ aside.offsets) × (life.aside.members ≡ aside.members)) }
     ensures refused { IfErr result (λ e. e.1 ≡ no_lives.Memory) }
+    ensures back { IfErr result (λ e. (e.0.offsets ≡ aside.offsets) × (e.0.members ≡ aside.members)) }
 {
     match make_table(alloc, parts) {
         Ok((hall, host)) => Ok(OpenLife { hall, host, aside }),
@@ -108,7 +115,8 @@ fn open_over<L: LogDisk + Drop, P: PageDisk + Drop>(
 ) -> Result<OpenLife<L, P>, (Volumes<L, P>, NoLife)>
     requires cluster { IsCluster cluster }
     requires banks { HasBanks cluster.banks volumes }
-    ensures life { IfOk result (λ life. IsNewLife cluster life) }
+    ensures life { IfOk result (λ life. IsNewLife cluster volumes life) }
+    ensures back { IfErr result (λ e. LeaveMultis volumes e.0) }
     ensures refused { IfErr result (λ e. IsNoLife L.LogDisk P.PageDisk cluster volumes e.0 e.1) }
 {
     let Ok(xact_room) = new_room(alloc) else {
@@ -151,11 +159,12 @@ pub fn open_life<M: Media>(
     requires cluster { IsCluster cluster }
     requires idle { IsTrue (M.is_idle media.old) }
     requires new { IsTrue (M.is_new media.old) }
-    ensures life { IfOk result (λ life. IsNewLife cluster life) }
+    ensures life { IfOk result (λ life. (volumes : Mounted M.Log M.Pages) × HasBanks cluster.banks volumes
+        × IsNewLife cluster volumes life) }
     ensures mounted { OnOk result (M.is_idle media.new ≡ false) }
     ensures idle { OnErr result (IsTrue (M.is_idle media.new)) }
     ensures count { M.faults media.old ≤ M.faults media.new }
-    ensures refused { IfErr result (λ refusal. IsUnopened M.Log.LogDisk M.Pages.PageDisk cluster
+    ensures refused { IfErr result (λ refusal. IsUnopened M.Log.LogDisk M.Pages.PageDisk cluster HasBanks
         (M.faults media.old) (M.faults media.new) (M.gives media.new) refusal) }
 {
     let volumes = match media.mount(cluster.banks) {

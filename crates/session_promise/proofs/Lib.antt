@@ -15,6 +15,7 @@ pub mod Summing
 pub mod FewIds
 pub mod Standing
 pub mod OneFault
+pub mod FaultLines
 pub mod LawfulReplies
 pub mod LawfulSteps
 pub mod LawfulLog

@@ -30,14 +30,14 @@ use Rattle.session_promise.proofs.Telling.{lines_told}
 
 -- ---- lists
 
-none_counts : {X : Type 0} (p : X → Bool) (xs : List X) → ((x : X) → Has xs x → p x ≡ true → ⊥) → count_by p xs ≡ 0
+pub none_counts : {X : Type 0} (p : X → Bool) (xs : List X) → ((x : X) → Has xs x → p x ≡ true → ⊥) → count_by p xs ≡ 0
 none_counts p xs none = sym (length-filter p xs) ∙ ap length (filter_none_on p xs (λ x h. false_from_ne_true (p x) (none x h)))
 
-abbrev one_if : Bool → ℕ
+abbrev pub one_if : Bool → ℕ
 one_if b = cond b 1 0
 
 -- where all that pass stand at one place
-once_counts : {X : Type 0} (p : X → Bool) (xs : List X) (place : ℕ) → ((i : ℕ) (x : X) → slice_get xs i ≡ Some x → p x ≡ true → i ≡ place) → count_by p xs ≤ 1
+pub once_counts : {X : Type 0} (p : X → Bool) (xs : List X) (place : ℕ) → ((i : ℕ) (x : X) → slice_get xs i ≡ Some x → p x ≡ true → i ≡ place) → count_by p xs ≤ 1
 once_counts p [] place only = omega arith
 once_counts {X = X} p (x ∷ xs) place only = step (p x) refl (once_counts p xs (place - 1))
   where
@@ -115,20 +115,20 @@ fault_is (replies.Refused refusals.LogFault) t = refl
 fault_is reply t = absurd (false≢true t)
 
 -- the line was told by its session, behind these of its lines
-record IsTold (tells : Bool) (start : Start) (lists : List (List Entry)) (l : Line) : Type 0 where
-  before : List Line
-  told : Told
-  line : told.line ≡ l
-  well : IsToldWell tells start lists l.by.session before told
+pub record IsTold (tells : Bool) (start : Start) (lists : List (List Entry)) (l : Line) : Type 0 where
+  pub before : List Line
+  pub told : Told
+  pub line : told.line ≡ l
+  pub well : IsToldWell tells start lists l.by.session before told
 
 module _ (tells : Bool) (start : Start) (lists : List (List Entry)) (rounds : List ToldRound) (over : IsOver tells start lists rounds) where
   abbrev all : List Line
   all = all_lines rounds
 
-  known : (l : Line) → Has all l → l.by.session < start.sessions
+  pub known : (l : Line) → Has all l → l.by.session < start.sessions
   known l h = all_at (λ (l : Line). l.by.session < start.sessions) all l over.lines h
 
-  told_line : (l : Line) → Has all l → IsTold tells start lists l
+  pub told_line : (l : Line) → Has all l → IsTold tells start lists l
   told_line l h =
       let n : ℕ = l.by.session in
       let mine : Has (lines_by n all) l = filter_has (is_line_of n) all l h (eqb-refl n) in
@@ -137,7 +137,7 @@ module _ (tells : Bool) (start : Start) (lists : List (List Entry)) (rounds : Li
       record { before = lines_of (take p.0 (told_by n rounds)); told = t.0; line = t.2; well = (over.each n (known l h)).1.each p.0 t.0 p.1 }
 
   -- the session's lines are numbered from 1
-  numbered : (n place : ℕ) (l : Line) → n < start.sessions → slice_get (lines_by n all) place ≡ Some l → l.by.command ≡ place + 1
+  pub numbered : (n place : ℕ) (l : Line) → n < start.sessions → slice_get (lines_by n all) place ≡ Some l → l.by.command ≡ place + 1
   numbered n place l low e =
       let t = told_at (told_by n rounds) place l (subst (λ ls. slice_get ls place ≡ Some l) (sym (lines_told n rounds)) e) in
       let well = (over.each n low).1.each place t.was t.at in

@@ -32,7 +32,7 @@ and_both : (a b : Bool) → (a && b) ≡ true → (a ≡ true) × (b ≡ true)
 and_both true b e = (refl, e)
 and_both false b e = absurd (false≢true e)
 
-same_is : (a b : By) → same_by a b ≡ true → a ≡ b
+pub same_is : (a b : By) → same_by a b ≡ true → a ≡ b
 same_is a b e = let k = and_both (a.session == b.session) (a.command == b.command) e in λ j. record { session = eqb-true a.session b.session k.0 j; command = eqb-true a.command b.command k.1 j }
 
 at_drop : {X : Type 0} (m : ℕ) (xs : List X) (p : ℕ) (x : X) → slice_get (drop m xs) p ≡ Some x → slice_get xs (m + p) ≡ Some x

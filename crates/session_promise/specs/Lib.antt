@@ -3,3 +3,4 @@ pub mod Promise
 pub mod Rounds
 pub mod Closing
 pub mod SoFar
+pub mod Causes

@@ -1,3 +1,4 @@
+ghost use Rattle.session_promise.specs.Causes.{FaultsAreTold};
 ghost use Rattle.session_promise.specs.Closing.{LevelsBoundIds, PromisesMakeLife, PromisesMakeLog, PromisesMakeSteps};
 ghost use Rattle.session_promise.specs.Promise.{PromiseBegins, PromiseGoesOn, PromiseStays};
 ghost use Rattle.session_promise.specs.Rounds.{PartsMakeRound};
@@ -61,4 +62,9 @@ pub fn promises_make_log()
 /// And a lawful life.
 pub fn promises_make_life()
     ensures { PromisesMakeLife }
+{}
+
+/// And no session was told of more faults of a volume than its count rose by.
+pub fn faults_are_told()
+    ensures { FaultsAreTold }
 {}

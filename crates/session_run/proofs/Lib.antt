@@ -8,5 +8,6 @@ mod RoundCounts
 mod RoundSteps
 mod RoundsRun
 mod LogHeld
+mod CausesTold
 mod LifeTold
 mod ToolEnds

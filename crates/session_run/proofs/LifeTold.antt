@@ -3,12 +3,13 @@ use Rattle.std.proofs.Common.{◌≡◌, ℕ, ◌^◌, ◌<◌, Bool, IsTrue, Li
 use Rattle.std.specs.List.{flat_map}
 use Rattle.disk_core.specs.declared.log_disk.LogDisk as logs
 use Rattle.disk_core.specs.declared.page_disk.PageDisk as disks
+use Rattle.disk_core.specs.declared.media.Volumes.{Volumes}
+use Rattle.disk_core.specs.Images.{Only}
 use Rattle.hall.specs.declared.hall.Hall.{Hall}
 use Rattle.hall.specs.Calls.{start_of, view}
 use Rattle.notes.specs.Lists.{at}
 use Rattle.tx_events.specs.declared.event.Event.{Event}
 use Rattle.tx_events.specs.declared.record.Rec.TheVariants as records
-use Rattle.tx_model.specs.declared.report.Life.{Life}
 use Rattle.tx_model.specs.declared.report.LifeReport.{LifeReport}
 use Rattle.tx_model.specs.declared.report.Report.{Report}
 use Rattle.life_law.specs.LawfulLife.{IsLawfulLife}
@@ -27,10 +28,14 @@ use Rattle.engine_parts.specs.declared.part.Part.{Part}
 use Rattle.engine_parts.specs.Parts.{IsLogOf}
 use Rattle.engine_host.specs.declared.host.Host.{Host}
 use Rattle.engine_host.specs.Opening.{life_of}
-use Rattle.engine_life.specs.Lives.{life_told}
+use Rattle.engine_host.specs.declared.cluster.Cluster.{Cluster}
+use Rattle.engine_life.specs.declared.life.OpenLife.{OpenLife}
+use Rattle.engine_life.specs.Lives.{IsNewLife, life_told}
 use Rattle.session_promise.specs.Closing as closing
 use Rattle.session_promise.proofs.LawfulLives.{promises_make_life}
 use Rattle.session_run.specs.declared.rest.Resting.{Resting}
+use Rattle.session_run.specs.Causes.{HaveCauses}
+use Rattle.session_run.specs.Leaves.{LeavesVolumes}
 use Rattle.session_run.specs.Records.{LogHolds}
 use Rattle.session_run.specs.Runs.{HasRun, IsRestOfReport, IsTaken, cluster_of}
 use Rattle.session_run.proofs.LogHeld.{log_holds}
@@ -40,7 +45,7 @@ module _ {H L P : Type 0} {l : logs.Ghosts L} {p : disks.Ghosts P} where
   -- what was printed of a life that ran the script is the rest of a report
   pub rest_told : (hall : Hall H (Part L P l p) Entry Start) (host : Host L P l p) (sessions : List Resting) (s : Script) (faults : List ℕ) (front text printed : List ℕ) (events : List Event) (log : WalLog L l)
       → IsTaken s → start_of hall ≡ life_of (cluster_of s) faults → (r : HasRun hall host sessions s.names (rounds_of s.items) front text) → closing.IsOver p.tells (start_of hall) (view host.pass).seen r.rounds → events ≡ history (view host.pass).seen → IsLogOf (start_of hall) log (at (view host.pass).seen log_lock) → log_end log < 2 ^ 64 → printed ≡ text ++ (rest_text s.names (life_told s.base events log) None ++ end_text)
-      → (rest : IsRestOfReport p.tells s front printed) × (IsTrue l.tells → l.images (log_disk log) (l.reads (log_disk log)) → LogHolds l rest.life.life (log_disk log))
+      → (rest : IsRestOfReport p.tells s front printed) × (IsTrue l.tells → l.images (log_disk log) (l.reads (log_disk log)) → LogHolds l rest.life.life (log_disk log)) × (rest.life.steps ≡ closing.steps_of 1 r.rounds)
   rest_told hall host sessions s faults front text printed events log taken begun r over told stands end exact =
       let start = start_of hall in
       let base : start.base ≡ s.base = ap (λ t. t.base) begun in
@@ -70,11 +75,12 @@ module _ {H L P : Type 0} {l : logs.Ghosts L} {p : disks.Ghosts P} where
         rest,
         log_holds l (log_disk log) life.life start (records.Checkpoint 0 s.base) (at (view host.pass).seen log_lock) (l.faults (log_disk log)) (log_next log) (log_first log)
             (log_counters log) (log_down log) begins.from (ap (λ t. t.logged) begun) stands refl lawful.log,
+        refl,
       )
 
 -- behind the text that begins a report it is a report, of the same life
-pub report_whole : (tells : Bool) (s : Script) (text : List ℕ) (F : Life → Type 0) → (r : IsRestOfReport tells s (front_text s.base) text) → F r.life.life
-    → (report : Report) × (is : IsReportOf tells s report) × (text ≡ report_text report) × F is.life.life
+report_whole : (tells : Bool) (s : Script) (text : List ℕ) (F : LifeReport → Type 0) → (r : IsRestOfReport tells s (front_text s.base) text) → F r.life
+    → (report : Report) × (is : IsReportOf tells s report) × (text ≡ report_text report) × F is.life
 report_whole tells s text F r f =
     let report : Report = record { names = s.names; lives = r.life ∷ [] } in
     let told = flat_map (step_text s.names) r.life.steps in (
@@ -86,3 +92,18 @@ report_whole tells s text F r f =
           ∙ one_life s.names r.life r.begins.from,
       f,
     )
+
+module _ {L P : Type 0} (l : logs.Ghosts L) (p : disks.Ghosts P) where
+  -- and the media has what it leaves
+  pub report_left : (s : Script) (front text : List ℕ) (first gives : Volumes L P → Type 0) (mounted volumes : Volumes L P) → front ≡ front_text s.base → first mounted → Only volumes gives
+      → (rest : IsRestOfReport p.tells s front text) × (IsTrue l.tells → LogHolds l rest.life.life volumes.log) × HaveCauses l p rest.life.steps mounted volumes
+      → (report : Report) × (is : IsReportOf p.tells s report) × (text ≡ report_text report) × LeavesVolumes l p first gives is.life
+  report_left s front text first gives mounted volumes begins began only k =
+      let rest = subst (λ (t : List ℕ). (rest : IsRestOfReport p.tells s t text) × (IsTrue l.tells → LogHolds l rest.life.life volumes.log) × HaveCauses l p rest.life.steps mounted volumes) begins k in
+      report_whole p.tells s text (LeavesVolumes l p first gives) rest.0
+      (record { mounted = mounted; volumes = volumes; began = began; only = only; log = rest.1; causes = rest.2 })
+
+-- a new life of a cluster is one of the same cluster
+pub of_cluster : {L P : Type 0} {l : logs.Ghosts L} {p : disks.Ghosts P} (c d : Cluster) (first : ℕ → Volumes L P → Type 0) (life : OpenLife L P l p) → c ≡ d
+    → (volumes : Volumes L P) × first c.banks volumes × IsNewLife c volumes life → (volumes : Volumes L P) × first d.banks volumes × IsNewLife d volumes life
+of_cluster {L} {P} c d first life same k = subst (λ (e : Cluster). (volumes : Volumes L P) × first e.banks volumes × IsNewLife e volumes life) same k

@@ -4,7 +4,7 @@ use Rattle.std.specs.Io.KnownBytes.{Appends}
 use Rattle.disk_core.specs.declared.log_disk.LogDisk as logs
 use Rattle.disk_core.specs.declared.page_disk.PageDisk as disks
 use Rattle.disk_core.specs.declared.media.Volumes.{Volumes}
-use Rattle.tx_model.specs.declared.report.Life.{Life}
+use Rattle.tx_model.specs.declared.report.LifeReport.{LifeReport}
 use Rattle.tx_model.specs.declared.report.Report.{Report}
 use Rattle.report_text.specs.ReportText.{report_text}
 use Rattle.session_lang.specs.declared.script.Script.{Script}
@@ -18,12 +18,12 @@ use Rattle.engine_life.specs.Refusals.{HasDeviceFailed}
 use Rattle.tx_io.specs.Causes.{Rose}
 use Rattle.session_run.specs.declared.ending.Ending.{Ending}
 use Rattle.session_run.specs.declared.ending.Ending.TheVariants as endings
-use Rattle.session_run.specs.Records.{LeavesRecords}
+use Rattle.session_run.specs.Leaves.{LeavesVolumes}
 use Rattle.session_run.specs.Tool.{Ends, IsUnread, IsUnrun, TellsRefusal, damage_text, status_of, text_of, unread_by}
 
 -- the script ran, and this is its report
-pub answers : (tells : Bool) (left left' : Option (List ℕ)) (s : Script) (text : List ℕ) (F : Life → Type 0) → HasScript left left' s
-    → (r : Report) × (is : IsReportOf tells s r) × (text ≡ report_text r) × F is.life.life → (a : IsAnswer tells left left' text) × F a.lawful.life.life
+pub answers : (tells : Bool) (left left' : Option (List ℕ)) (s : Script) (text : List ℕ) (F : ℕ → LifeReport → Type 0) → HasScript left left' s
+    → (r : Report) × (is : IsReportOf tells s r) × (text ≡ report_text r) × F s.banks is.life → (a : IsAnswer tells left left' text) × F a.script.banks a.lawful.life
 answers tells left left' s text F h r = (
   record {
     bytes = h.bytes;
@@ -39,20 +39,20 @@ answers tells left left' s text F h r = (
 )
 
 module _ {L P : Type 0} (l : logs.Ghosts L) (p : disks.Ghosts P) where
-  pub unread_ends : (left left' : Option (List ℕ)) (faults faults' before now : ℕ) (gives : Volumes L P → Type 0) (refusal : NoScript) → IsNoScriptOf left left' faults faults' refusal → Ends l p left left' faults faults' before now gives (unread_by refusal)
-  unread_ends left left' faults faults' before now gives (no_scripts.Refused text) k = k
-  unread_ends left left' faults faults' before now gives no_scripts.ReadFault k = k
-  unread_ends left left' faults faults' before now gives no_scripts.Memory k = tt
+  pub unread_ends : (left left' : Option (List ℕ)) (faults faults' : ℕ) (first : ℕ → Volumes L P → Type 0) (before now : ℕ) (gives : Volumes L P → Type 0) (refusal : NoScript) → IsNoScriptOf left left' faults faults' refusal → Ends l p left left' faults faults' first before now gives (unread_by refusal)
+  unread_ends left left' faults faults' first before now gives (no_scripts.Refused text) k = k
+  unread_ends left left' faults faults' first before now gives no_scripts.ReadFault k = k
+  unread_ends left left' faults faults' first before now gives no_scripts.Memory k = tt
 
-  pub unopened_ends : (left left' : Option (List ℕ)) (faults faults' before now : ℕ) (gives : Volumes L P → Type 0) (refusal : NoLife) (e : Ending) → TellsRefusal refusal e → IsUnrun l p left left' before now gives refusal → Ends l p left left' faults faults' before now gives e
-  unopened_ends left left' faults faults' before now gives refusal (endings.Report text) t u = absurd t
-  unopened_ends left left' faults faults' before now gives refusal (endings.NoScript text) t u = absurd t
-  unopened_ends left left' faults faults' before now gives refusal endings.ReadFault t u = absurd t
-  unopened_ends left left' faults faults' before now gives refusal endings.Memory t u = tt
-  unopened_ends left left' faults faults' before now gives refusal endings.Device t u = (subst (IsUnrun l p left left' before now gives) t u).2
-  unopened_ends left left' faults faults' before now gives refusal (endings.Damaged text) t u = (t.0, t.1, subst (IsUnrun l p left left' before now gives) t.2 u)
-  unopened_ends left left' faults faults' before now gives refusal endings.Full t u = subst (IsUnrun l p left left' before now gives) t u
-  unopened_ends left left' faults faults' before now gives refusal endings.OldLog t u = subst (IsUnrun l p left left' before now gives) t u
+  pub unopened_ends : (left left' : Option (List ℕ)) (faults faults' : ℕ) (first : ℕ → Volumes L P → Type 0) (before now : ℕ) (gives : Volumes L P → Type 0) (refusal : NoLife) (e : Ending) → TellsRefusal refusal e → IsUnrun l p left left' first before now gives refusal → Ends l p left left' faults faults' first before now gives e
+  unopened_ends left left' faults faults' first before now gives refusal (endings.Report text) t u = absurd t
+  unopened_ends left left' faults faults' first before now gives refusal (endings.NoScript text) t u = absurd t
+  unopened_ends left left' faults faults' first before now gives refusal endings.ReadFault t u = absurd t
+  unopened_ends left left' faults faults' first before now gives refusal endings.Memory t u = tt
+  unopened_ends left left' faults faults' first before now gives refusal endings.Device t u = (subst (IsUnrun l p left left' first before now gives) t u).2
+  unopened_ends left left' faults faults' first before now gives refusal (endings.Damaged text) t u = (t.0, t.1, subst (IsUnrun l p left left' first before now gives) t.2 u)
+  unopened_ends left left' faults faults' first before now gives refusal endings.Full t u = subst (IsUnrun l p left left' first before now gives) t u
+  unopened_ends left left' faults faults' first before now gives refusal endings.OldLog t u = subst (IsUnrun l p left left' first before now gives) t u
 
 -- ---- by the status
 
@@ -100,29 +100,29 @@ module _ (F : List ℕ → Type 0) (B : Type 0) (status : ℕ) (e : Ending) (tol
       (λ (a : (status ≡ status_of e) × F (text_of e)). subst (λ n. (n ≤ 10) × (n ≢ 8)) (sym a.0) (known_status e))
       (λ (b : (status ≡ 4) × B). subst (λ n. (n ≤ 10) × (n ≢ 8)) (sym b.0) (omega arith, λ q. omega (arith, q))) told
 
-module _ {L P : Type 0} (l : logs.Ghosts L) (p : disks.Ghosts P) (left left' held held' : Option (List ℕ)) (faults faults' before now : ℕ) (gives : Volumes L P → Type 0) where
+module _ {L P : Type 0} (l : logs.Ghosts L) (p : disks.Ghosts P) (left left' held held' : Option (List ℕ)) (faults faults' : ℕ) (first : ℕ → Volumes L P → Type 0) (before now : ℕ) (gives : Volumes L P → Type 0) where
   abbrev pub Ended : Ending → Type 0
-  Ended e = Ends l p left left' faults faults' before now gives e
+  Ended e = Ends l p left left' faults faults' first before now gives e
 
   abbrev pub Wrote : Ending → Type 0
   Wrote e = Appends held held' (text_of e)
 
   -- what the ending of each status says
   pub record Says (B : Type 0) (status : ℕ) (e : Ending) : Type 0 where
-    pub done : status ≡ 0 → (run : IsWholeRun p.tells left left' held held') × LeavesRecords l gives run.answer.lawful.life.life
+    pub done : status ≡ 0 → (run : IsWholeRun p.tells left left' held held') × LeavesVolumes l p (first run.answer.script.banks) gives run.answer.lawful.life
     pub script : status ≡ 1 → IsRefused left left' held held'
     pub words : status ≡ 2 → ⊥
     pub read : status ≡ 3 → Rose faults faults' × Appends held held' (codes "read-fault" ++ 10 ∷ [])
     pub write : status ≡ 4 → B
-    pub device : status ≡ 5 → HasDeviceFailed l p before now gives × Appends held held' (codes "device" ++ 10 ∷ [])
+    pub device : status ≡ 5 → HasDeviceFailed l p first before now gives × Appends held held' (codes "device" ++ 10 ∷ [])
     pub memory : status ≡ 6 → Appends held held' (codes "memory" ++ 10 ∷ [])
-    pub damaged : status ≡ 7 → (at : ℕ) × Appends held held' (damage_text at) × IsUnrun l p left left' before now gives (no_lives.Damaged at)
-    pub full : status ≡ 9 → IsUnrun l p left left' before now gives no_lives.Full × Appends held held' (codes "log-full" ++ 10 ∷ [])
-    pub old_log : status ≡ 10 → IsUnrun l p left left' before now gives no_lives.OldLog × Appends held held' (codes "old-log" ++ 10 ∷ [])
+    pub damaged : status ≡ 7 → (at : ℕ) × Appends held held' (damage_text at) × IsUnrun l p left left' first before now gives (no_lives.Damaged at)
+    pub full : status ≡ 9 → IsUnrun l p left left' first before now gives no_lives.Full × Appends held held' (codes "log-full" ++ 10 ∷ [])
+    pub old_log : status ≡ 10 → IsUnrun l p left left' first before now gives no_lives.OldLog × Appends held held' (codes "old-log" ++ 10 ∷ [])
     pub statuses : (status ≤ 10) × (status ≢ 8)
     pub unread : (status ≡ 1) ⊎ (status ≡ 3) → IsUnread e
 
-  done : (e : Ending) → Ended e → (status_of e ≡ 0) × Wrote e → (run : IsWholeRun p.tells left left' held held') × LeavesRecords l gives run.answer.lawful.life.life
+  done : (e : Ending) → Ended e → (status_of e ≡ 0) × Wrote e → (run : IsWholeRun p.tells left left' held held') × LeavesVolumes l p (first run.answer.script.banks) gives run.answer.lawful.life
   done (endings.Report text) k w = (record { text = text.items; answer = k.0; written = w.1 }, k.1)
   done e k w = absurd (omega (arith, w.0))
 
@@ -134,7 +134,7 @@ module _ {L P : Type 0} (l : logs.Ghosts L) (p : disks.Ghosts P) (left left' hel
   read endings.ReadFault k w = (k, w.1)
   read e k w = absurd (omega (arith, w.0))
 
-  device : (e : Ending) → Ended e → (status_of e ≡ 5) × Wrote e → HasDeviceFailed l p before now gives × Appends held held' (codes "device" ++ 10 ∷ [])
+  device : (e : Ending) → Ended e → (status_of e ≡ 5) × Wrote e → HasDeviceFailed l p first before now gives × Appends held held' (codes "device" ++ 10 ∷ [])
   device endings.Device k w = (k, w.1)
   device e k w = absurd (omega (arith, w.0))
 
@@ -142,15 +142,15 @@ module _ {L P : Type 0} (l : logs.Ghosts L) (p : disks.Ghosts P) (left left' hel
   memory endings.Memory w = w.1
   memory e w = absurd (omega (arith, w.0))
 
-  damaged : (e : Ending) → Ended e → (status_of e ≡ 7) × Wrote e → (at : ℕ) × Appends held held' (damage_text at) × IsUnrun l p left left' before now gives (no_lives.Damaged at)
+  damaged : (e : Ending) → Ended e → (status_of e ≡ 7) × Wrote e → (at : ℕ) × Appends held held' (damage_text at) × IsUnrun l p left left' first before now gives (no_lives.Damaged at)
   damaged (endings.Damaged text) k w = (k.0, subst (Appends held held') k.1 w.1, k.2)
   damaged e k w = absurd (omega (arith, w.0))
 
-  full : (e : Ending) → Ended e → (status_of e ≡ 9) × Wrote e → IsUnrun l p left left' before now gives no_lives.Full × Appends held held' (codes "log-full" ++ 10 ∷ [])
+  full : (e : Ending) → Ended e → (status_of e ≡ 9) × Wrote e → IsUnrun l p left left' first before now gives no_lives.Full × Appends held held' (codes "log-full" ++ 10 ∷ [])
   full endings.Full k w = (k, w.1)
   full e k w = absurd (omega (arith, w.0))
 
-  old_log : (e : Ending) → Ended e → (status_of e ≡ 10) × Wrote e → IsUnrun l p left left' before now gives no_lives.OldLog × Appends held held' (codes "old-log" ++ 10 ∷ [])
+  old_log : (e : Ending) → Ended e → (status_of e ≡ 10) × Wrote e → IsUnrun l p left left' first before now gives no_lives.OldLog × Appends held held' (codes "old-log" ++ 10 ∷ [])
   old_log endings.OldLog k w = (k, w.1)
   old_log e k w = absurd (omega (arith, w.0))
 

@@ -1,8 +1,6 @@
 -- What a life leaves on the log's volume.
-use Rattle.std.specs.Prelude.{◌≡◌, ◌≤◌, IsTrue, List, ◌++◌, Some}
+use Rattle.std.specs.Prelude.{◌≡◌, ◌≤◌, List, ◌++◌, Some}
 use Rattle.disk_core.specs.declared.log_disk.LogDisk as logs
-use Rattle.disk_core.specs.declared.media.Volumes.{Volumes}
-use Rattle.disk_core.specs.Images.{Only}
 use Rattle.disk_core.specs.Volume.{Volume}
 use Rattle.tx_events.specs.declared.record.Rec.{Rec}
 use Rattle.tx_model.specs.declared.report.Life.{Life}
@@ -23,10 +21,3 @@ module _ {L : Type 0} (l : logs.Ghosts L) where
   pub record LogHolds (life : Life) (log : L) : Type 0 where
     pub reads : HoldsRecords life (l.reads log)
     pub crashed : (c : Volume) → l.images log c → HoldsRecords life c
-
-module _ {L P : Type 0} (l : logs.Ghosts L) where
-  -- The media holds volumes of which the log's is such a one, if it tells what it holds.
-  pub record LeavesRecords (gives : Volumes L P → Type 0) (life : Life) : Type 0 where
-    pub volumes : Volumes L P
-    pub only : Only volumes gives
-    pub log : IsTrue l.tells → LogHolds l life volumes.log

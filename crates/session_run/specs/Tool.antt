@@ -17,7 +17,7 @@ use Rattle.engine_life.specs.declared.refusal.NoLife.TheVariants as no_lives
 use Rattle.engine_life.specs.Refusals.{HasDeviceFailed, IsUnopened}
 use Rattle.session_run.specs.declared.ending.Ending.{Ending}
 use Rattle.session_run.specs.declared.ending.Ending.TheVariants as endings
-use Rattle.session_run.specs.Records.{LeavesRecords}
+use Rattle.session_run.specs.Leaves.{LeavesVolumes}
 use Rattle.session_run.specs.Runs.{cluster_of}
 
 -- the line that tells at which place the log is damaged
@@ -25,24 +25,26 @@ abbrev pub damage_text : ℕ → List ℕ
 damage_text at = line_text (codes "damaged" ∷ decimal at ∷ [])
 
 module _ {L P : Type 0} (l : logs.Ghosts L) (p : disks.Ghosts P) where
-  -- The source was read to its end and its bytes are a script, but no life was opened for it over the media, with these
-  -- counts of its faults and the volumes that it holds now.
-  abbrev pub IsUnrun : Option (List ℕ) → Option (List ℕ) → ℕ → ℕ → (Volumes L P → Type 0) → NoLife → Type 0
-  IsUnrun left left' before now gives refusal =
-      (s : Script) × HasScript left left' s × IsUnopened l p (cluster_of s) before now gives refusal
+  -- The source was read to its end and its bytes are a script, but no life was opened for it over the media, which gives
+  -- such volumes first, with these counts of its faults and the volumes that it holds now.
+  abbrev pub IsUnrun : Option (List ℕ) → Option (List ℕ) → (ℕ → Volumes L P → Type 0) → ℕ → ℕ → (Volumes L P → Type 0) → NoLife → Type 0
+  IsUnrun left left' first before now gives refusal =
+      (s : Script) × HasScript left left' s × IsUnopened l p (cluster_of s) first before now gives refusal
 
-  -- what each ending says: of the source, before and after, with its counts of faults, and so of the media
-  abbrev pub Ends : Option (List ℕ) → Option (List ℕ) → ℕ → ℕ → ℕ → ℕ → (Volumes L P → Type 0) → Ending → Type 0
-  Ends left left' faults faults' before now gives (endings.Report text) =
-      (answer : IsAnswer p.tells left left' text.items) × LeavesRecords l gives answer.lawful.life.life
-  Ends left left' faults faults' before now gives (endings.NoScript text) = IsNoScript left left' text.items
-  Ends left left' faults faults' before now gives endings.ReadFault = Rose faults faults'
-  Ends left left' faults faults' before now gives endings.Memory = Unit {0}
-  Ends left left' faults faults' before now gives endings.Device = HasDeviceFailed l p before now gives
-  Ends left left' faults faults' before now gives (endings.Damaged text) =
-      (at : ℕ) × (text.items ≡ damage_text at) × IsUnrun left left' before now gives (no_lives.Damaged at)
-  Ends left left' faults faults' before now gives endings.Full = IsUnrun left left' before now gives no_lives.Full
-  Ends left left' faults faults' before now gives endings.OldLog = IsUnrun left left' before now gives no_lives.OldLog
+  -- what each ending says: of the source, before and after, with its counts of faults, and so of the media, with the
+  -- volumes that it gives first
+  abbrev pub Ends : Option (List ℕ) → Option (List ℕ) → ℕ → ℕ → (ℕ → Volumes L P → Type 0) → ℕ → ℕ → (Volumes L P → Type 0) → Ending → Type 0
+  Ends left left' faults faults' first before now gives (endings.Report text) =
+      (answer : IsAnswer p.tells left left' text.items)
+      × LeavesVolumes l p (first answer.script.banks) gives answer.lawful.life
+  Ends left left' faults faults' first before now gives (endings.NoScript text) = IsNoScript left left' text.items
+  Ends left left' faults faults' first before now gives endings.ReadFault = Rose faults faults'
+  Ends left left' faults faults' first before now gives endings.Memory = Unit {0}
+  Ends left left' faults faults' first before now gives endings.Device = HasDeviceFailed l p first before now gives
+  Ends left left' faults faults' first before now gives (endings.Damaged text) =
+      (at : ℕ) × (text.items ≡ damage_text at) × IsUnrun left left' first before now gives (no_lives.Damaged at)
+  Ends left left' faults faults' first before now gives endings.Full = IsUnrun left left' first before now gives no_lives.Full
+  Ends left left' faults faults' first before now gives endings.OldLog = IsUnrun left left' first before now gives no_lives.OldLog
 
 -- the ending where the source gave no script
 abbrev pub unread_by : NoScript → Ending
@@ -91,15 +93,16 @@ text_of endings.OldLog = codes "old-log" ++ 10 ∷ []
 
 module _ {L P : Type 0} (l : logs.Ghosts L) (p : disks.Ghosts P) where
   -- the text that a run ends with: the line that refuses its words, or that of its ending
-  abbrev pub IsLastText : List (List ℕ) → Option (List ℕ) → Option (List ℕ) → ℕ → ℕ → ℕ → ℕ → (Volumes L P → Type 0) → List ℕ → Type 0
-  IsLastText words left left' faults faults' before now gives text =
+  abbrev pub IsLastText : List (List ℕ) → Option (List ℕ) → Option (List ℕ) → ℕ → ℕ → (ℕ → Volumes L P → Type 0) → ℕ → ℕ → (Volumes L P → Type 0)
+      → List ℕ → Type 0
+  IsLastText words left left' faults faults' first before now gives text =
       ((IsRun words → ⊥) × (text ≡ codes "words" ++ 10 ∷ []))
-      ⊎ (IsRun words × (e : Ending) × Ends l p left left' faults faults' before now gives e × (text ≡ text_of e))
+      ⊎ (IsRun words × (e : Ending) × Ends l p left left' faults faults' first before now gives e × (text ≡ text_of e))
 
   -- The sink holds a front of such a text more.
-  pub record HoldsFront (words : List (List ℕ)) (left left' : Option (List ℕ)) (faults faults' before now : ℕ)
-      (gives : Volumes L P → Type 0) (held held' : Option (List ℕ)) : Type 0 where
+  pub record HoldsFront (words : List (List ℕ)) (left left' : Option (List ℕ)) (faults faults' : ℕ)
+      (first : ℕ → Volumes L P → Type 0) (before now : ℕ) (gives : Volumes L P → Type 0) (held held' : Option (List ℕ)) : Type 0 where
     pub text : List ℕ
-    pub whole : IsLastText words left left' faults faults' before now gives text
+    pub whole : IsLastText words left left' faults faults' first before now gives text
     pub count : ℕ
     pub front : Appends held held' (take count text)

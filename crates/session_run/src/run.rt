@@ -1,13 +1,17 @@
 //! Runs a script over a media, and answers the text of its report.
 ghost use Rattle.std.specs.Prelude.{◌≡◌, ◌^◌, ◌<◌, ◌≤◌, IfErr, IfOk, IsTrue, OnOk};
+ghost use Rattle.disk_core.specs.Media.{HasBanks};
+ghost use Rattle.disk_core.specs.declared.media.Volumes.{Volumes};
 ghost use Rattle.tx_model.specs.declared.report.Report.{Report};
 ghost use Rattle.report_text.specs.ReportText.{front_text, report_text};
 ghost use Rattle.run_law.specs.Tool.{IsReportOf};
 ghost use Rattle.engine_host.specs.Opening.{IsCluster};
-ghost use Rattle.engine_life.specs.Lives.{IsNewLife};
+ghost use Rattle.engine_life.specs.Lives.{IsNewLife, volumes_left};
 ghost use Rattle.engine_life.specs.Refusals.{IsUnopened};
 ghost use Rattle.wal_core.specs.LogViews.{log_disk};
-ghost use Rattle.session_run.specs.Records.{LeavesRecords, LogHolds};
+ghost use Rattle.session_run.specs.Causes.{HaveCauses};
+ghost use Rattle.session_run.specs.Leaves.{LeavesVolumes};
+ghost use Rattle.session_run.specs.Records.{LogHolds};
 ghost use Rattle.session_run.specs.Runs.{IsRestOfReport, IsTaken, cluster_of};
 
 use crate::laws::life_ends;
@@ -60,9 +64,11 @@ fn run_life<
     threads: usize,
 ) -> (ClosedLife<L, P>, Result<(), Memory>)
     requires taken { IsTaken script.now }
-    requires new { IsNewLife (cluster_of script.now) life }
-    ensures report { OnOk result.1 ((rest : IsRestOfReport P.tells script.now text.old text.new)
-        × (IsTrue L.tells → LogHolds L.LogDisk rest.life.life (log_disk result.0.log))) }
+    requires new { (mounted : Volumes L P) × IsNewLife (cluster_of script.now) mounted life }
+    ensures report { OnOk result.1 ((mounted : Volumes L P) → IsNewLife (cluster_of script.now) mounted life
+        → (rest : IsRestOfReport P.tells script.now text.old text.new)
+        × (IsTrue L.tells → LogHolds L.LogDisk rest.life.life (log_disk result.0.log))
+        × HaveCauses L.LogDisk P.PageDisk rest.life.steps mounted (volumes_left result.0)) }
 {
     let mut life = life;
     life_ends(&life.hall);
@@ -103,11 +109,12 @@ where
     requires idle { IsTrue (M.is_idle media.old) }
     requires new { IsTrue (M.is_new media.old) }
     ensures report { IfOk result (λ text. (r : Report) × (is : IsReportOf M.Pages.tells script.now r)
-        × (text.items ≡ report_text r) × LeavesRecords M.Log.LogDisk (M.gives media.new) is.life.life) }
+        × (text.items ≡ report_text r)
+        × LeavesVolumes M.Log.LogDisk M.Pages.PageDisk (HasBanks script.now.banks) (M.gives media.new) is.life) }
     ensures idle { IsTrue (M.is_idle media.new) }
     ensures count { M.faults media.old ≤ M.faults media.new }
     ensures refused { IfErr result (λ refusal. IsUnopened M.Log.LogDisk M.Pages.PageDisk (cluster_of script.now)
-        (M.faults media.old) (M.faults media.new) (M.gives media.new) refusal) }
+        HasBanks (M.faults media.old) (M.faults media.new) (M.gives media.new) refusal) }
 {
     let Ok(mut text) = front_of(alloc, script) else {
         return Err(NoLife::Memory);

@@ -1,11 +1,12 @@
 //! The tool's top call, with the main guarantee (`docs/GUARANTEES.md`).
 ghost use Rattle.std.specs.Prelude.{◌≡◌, ◌≢◌, ◌≤◌, ◌⊎◌, ◌↔◌, ◌++◌, ◌∷◌, ℕ, [], IsTrue, codes, map, string_bytes, take};
 ghost use Rattle.std.specs.Io.KnownBytes.{Appends};
+ghost use Rattle.disk_core.specs.Media.{HasBanks};
 ghost use Rattle.tx_io.specs.Causes.{Rose};
 ghost use Rattle.engine_life.specs.declared.refusal.NoLife.TheVariants as no_lives;
 ghost use Rattle.engine_life.specs.Refusals.{HasDeviceFailed};
 ghost use Rattle.run_law.specs.Tool.{IsRefused, IsRun, IsWholeRun, ReadsUpTo, most_read};
-ghost use Rattle.session_run.specs.Records.{LeavesRecords};
+ghost use Rattle.session_run.specs.Leaves.{LeavesVolumes};
 ghost use Rattle.session_run.specs.Tool.{Ends, HoldsFront, IsUnread, IsUnrun, damage_text, status_of, text_of};
 
 use crate::ending::{Ending, unopened, unread};
@@ -46,7 +47,8 @@ where
     requires idle { IsTrue (M.is_idle media.old) }
     requires new { IsTrue (M.is_new media.old) }
     ensures ends { Ends M.Log.LogDisk M.Pages.PageDisk (S.left source.old) (S.left source.new)
-        (S.faults source.old) (S.faults source.new) (M.faults media.old) (M.faults media.new) (M.gives media.new) result }
+        (S.faults source.old) (S.faults source.new) HasBanks (M.faults media.old) (M.faults media.new) (M.gives media.new)
+        result }
     ensures later { S.faults source.old ≤ S.faults source.new }
     ensures amount { ReadsUpTo most_read (S.left source.old) (S.left source.new) }
     ensures idle { IsTrue (M.is_idle media.new) }
@@ -116,10 +118,12 @@ where
     requires new { IsTrue (M.is_new media.old) }
 
     // The main guarantee: the bytes written report one legal history, each command once and in order, and each
-    // reply lawful. The media holds a log with the records that the report tells.
+    // reply lawful. The media holds a log with the records that the report tells, and no fault is told of a volume that
+    // hasn't counted it.
     ensures done { result ≡ 0 → IsRun (map string_bytes words.now)
         × (run : IsWholeRun M.Pages.tells (S.left source.old) (S.left source.new) (K.held sink.old) (K.held sink.new))
-        × LeavesRecords M.Log.LogDisk (M.gives media.new) run.answer.lawful.life.life }
+        × LeavesVolumes M.Log.LogDisk M.Pages.PageDisk (HasBanks run.answer.script.banks) (M.gives media.new)
+        run.answer.lawful.life }
 
     // Why it ends otherwise.
     ensures script { result ≡ 1 → IsRun (map string_bytes words.now)
@@ -129,17 +133,17 @@ where
     ensures read { result ≡ 3 → Rose (S.faults source.old) (S.faults source.new) }
     ensures write { result ≡ 4 → Rose (K.faults sink.old) (K.faults sink.new) }
     ensures front { result ≡ 4 → HoldsFront M.Log.LogDisk M.Pages.PageDisk (map string_bytes words.now)
-        (S.left source.old) (S.left source.new) (S.faults source.old) (S.faults source.new)
+        (S.left source.old) (S.left source.new) (S.faults source.old) (S.faults source.new) HasBanks
         (M.faults media.old) (M.faults media.new) (M.gives media.new) (K.held sink.old) (K.held sink.new) }
-    ensures device { result ≡ 5 → HasDeviceFailed M.Log.LogDisk M.Pages.PageDisk
+    ensures device { result ≡ 5 → HasDeviceFailed M.Log.LogDisk M.Pages.PageDisk HasBanks
         (M.faults media.old) (M.faults media.new) (M.gives media.new) }
     ensures damaged { result ≡ 7 → (at : ℕ) × Appends (K.held sink.old) (K.held sink.new) (damage_text at)
         × IsUnrun M.Log.LogDisk M.Pages.PageDisk (S.left source.old) (S.left source.new)
-        (M.faults media.old) (M.faults media.new) (M.gives media.new) (no_lives.Damaged at) }
+        HasBanks (M.faults media.old) (M.faults media.new) (M.gives media.new) (no_lives.Damaged at) }
     ensures full { result ≡ 9 → IsUnrun M.Log.LogDisk M.Pages.PageDisk (S.left source.old) (S.left source.new)
-        (M.faults media.old) (M.faults media.new) (M.gives media.new) no_lives.Full }
+        HasBanks (M.faults media.old) (M.faults media.new) (M.gives media.new) no_lives.Full }
     ensures old_log { result ≡ 10 → IsUnrun M.Log.LogDisk M.Pages.PageDisk (S.left source.old) (S.left source.new)
-        (M.faults media.old) (M.faults media.new) (M.gives media.new) no_lives.OldLog }
+        HasBanks (M.faults media.old) (M.faults media.new) (M.gives media.new) no_lives.OldLog }
     ensures statuses { (result ≤ 10) × (result ≢ 8) }
 
     // What it reads, and how it leaves the media.

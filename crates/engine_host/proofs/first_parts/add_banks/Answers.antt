@@ -1,6 +1,23 @@
-use Rattle.std.proofs.Common.{◌≡◌, ◌+◌, ◌∙◌, ap, arith, drop, remove, subst, suc}
+use Rattle.std.proofs.Common.{◌≡◌, ◌+◌, ◌∙◌, ap, arith, drop, refl, remove, subst, suc}
+use Rattle.engine_host.proofs.Counting.{counted_fewer, counted_more}
 use Rattle.engine_host.proofs.Refusing.{drop_next}
 use Rattle.engine_host.proofs.first_parts.add_banks.Goals as goal
+
+pub loop-bank-init : goal.loop-bank-init
+loop-bank-init g c = record {
+  xact = refl;
+  subtrans = refl;
+  count = c.requires.count;
+  disks = c.requires.disks;
+  room = refl;
+  stand = c.requires.stand;
+  counted = record {
+    xact = λ bank v low at. absurd (omega (arith, low));
+    subtrans = λ bank v low at. absurd (omega (arith, low));
+  };
+  xact_room = refl;
+  subtrans_room = refl;
+}
 
 pub loop-bank-preserved : goal.loop-bank-preserved
 loop-bank-preserved g c =
@@ -17,6 +34,11 @@ loop-bank-preserved g c =
       disks = e.disks;
       room = e.room ∙ i.room;
       stand = e.stand;
+      counted = counted_more n xs ys c.loop-bank.xact.items c.loop-bank.subtrans.items c.loop-bank.locks.items c.add_bank.new.locks.items i.xact i.subtrans i.count i.counted e.counted;
       xact_room = e.capacity.0 ∙ i.xact_room;
       subtrans_room = e.capacity.1 ∙ i.subtrans_room;
     }
+
+pub returns-clause-counted : goal.returns-clause-counted
+returns-clause-counted g c =
+    counted_fewer c.args.cluster.now.banks c.loop-bank.bank c.args.xact.now.items c.args.subtrans.now.items c.loop-bank.locks.items c.loop-bank-test.false c.loop-bank.invariant.counted

@@ -1,10 +1,10 @@
-use Rattle.std.proofs.Common.{[], ap, arith, length, refl, subst, sym, ◌∙◌}
+use Rattle.std.proofs.Common.{[], ap, arith, length, map, refl, subst, sym, ◌∙◌}
 use Rattle.tx_events.proofs.Membership.{contains_has}
 use Rattle.tx_core.specs.declared.entry.Start.{Start}
 use Rattle.engine_parts.specs.declared.part.Part.TheVariants as parts
 use Rattle.engine_parts.specs.Parts.{PartStands}
 use Rattle.engine_parts.specs.Sessions.{AreGivenBefore}
-use Rattle.engine_host.specs.Opening.{AreNew}
+use Rattle.engine_host.specs.Opening.{AreNew, faults_behind}
 use Rattle.engine_host.proofs.Starting.{all_stand, cons_new, inserted_first}
 use Rattle.engine_host.proofs.first_parts.gather.Goals as goal
 
@@ -23,3 +23,7 @@ returns-clause-parts g c =
       count = ap length put ∙ omega (arith, c.requires.count);
       stand = λ lock part at. subst (λ (s : Start). PartStands s lock part []) (sym life) (all_stand cluster c.insert-inserted.new.self.items all lock part at);
     }
+
+pub returns-clause-faults : goal.returns-clause-faults
+returns-clause-faults g c =
+    ap (map faults_behind) (inserted_first c.args.locks.items c.insert-inserted.new.self.items (parts.Log c.args.log) c.insert-inserted.result c.insert-inserted.ensures.items (c.insert-inserted.ensures.succeeds (omega (arith, c.requires.count, c.requires.room))))

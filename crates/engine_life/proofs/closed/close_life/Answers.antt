@@ -2,6 +2,7 @@ use Rattle.std.proofs.Common.{◌∙◌}
 use Rattle.hall.specs.Calls.{start_of, view}
 use Rattle.notes.specs.Lists.{at as list_at}
 use Rattle.engine_parts.specs.declared.part.Part.TheVariants as parts
+use Rattle.engine_life.proofs.Counts.{subtrans_told, xact_told}
 use Rattle.engine_life.proofs.closed.close_life.Goals as goal
 
 pub take_apart-log-requires-clause-stand : goal.take_apart-log-requires-clause-stand
@@ -18,3 +19,17 @@ pub returns-clause-log : goal.returns-clause-log
 returns-clause-log g c =
     let taken = c.take_apart-log in
     (c.close-parts.ensures.stand 0 (parts.Log taken.result.log) taken.ensures.log).1
+
+pub returns-clause-counted : goal.returns-clause-counted
+returns-clause-counted g c =
+    let taken = c.take_apart-log in
+    let start = start_of c.args.life.hall in
+    let seen = (view c.args.life.host.pass).seen in
+    let locks = c.close-parts.result.locks.items in
+    let closed = c.close-parts.ensures in
+    let banks = c.args.life.host.cluster.banks in
+    record {
+      log = (closed.stand 0 (parts.Log taken.result.log) taken.ensures.log).1.count;
+      xact = xact_told start seen locks closed.stand banks taken.result.xact.items c.requires.host.banks closed.count taken.ensures.xact;
+      subtrans = subtrans_told start seen locks closed.stand banks taken.result.subtrans.items c.requires.host.banks closed.count taken.ensures.subtrans;
+    }

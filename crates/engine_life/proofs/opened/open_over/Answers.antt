@@ -1,21 +1,31 @@
 use Rattle.std.proofs.Common.{map, subst, sym}
 use Rattle.tx_core.specs.declared.entry.Start.{Start}
 use Rattle.engine_host.specs.declared.cluster.Cluster.{Cluster}
+use Rattle.engine_host.specs.Counted.{AreCounted}
 use Rattle.engine_host.specs.Opening.{faults_behind}
 use Rattle.engine_life.specs.declared.refusal.NoLife.{NoLife}
 use Rattle.engine_life.specs.Lives.{IsBegun}
 use Rattle.engine_life.specs.Refusals.{IsNoLife}
-use Rattle.engine_life.proofs.Living.{of_err, of_ok}
+use Rattle.engine_life.proofs.Living.{of_err, of_oks}
 use Rattle.engine_life.proofs.opened.open_over.Goals as goal
 
 pub returns-in-Ok-open_new-clause-life : goal.returns-in-Ok-open_new-clause-life
 returns-in-Ok-open_new-clause-life g c =
     let parts = c.in-Ok-open_new.parts in
     let k = c.in-Ok-open_new.ensures in
-    of_ok c.begin_life.result _ _ (λ life begun. (
-      map faults_behind parts.locks.items,
-      subst (λ (s : Start). IsBegun c.args.cluster s life) k.start (subst (λ (d : Cluster). IsBegun d parts.start.value life) k.cluster begun),
-    )) c.begin_life.ensures.life
+    let v = c.args.volumes in
+    of_oks c.begin_life.result _ _ _ (λ life begun aside. record {
+      banks = c.requires.banks;
+      faults = map faults_behind parts.locks.items;
+      counted = subst (λ (s : Start). AreCounted g.L.LogDisk g.P.PageDisk v.log v.xact.items v.subtrans.items s.faults) k.start k.counted;
+      begun = subst (λ (s : Start). IsBegun c.args.cluster s life) k.start (subst (λ (d : Cluster). IsBegun d parts.start.value life) k.cluster begun);
+      offsets = aside.0;
+      members = aside.1;
+    }) c.begin_life.ensures.life c.begin_life.ensures.aside
+
+pub returns-in-Ok-open_new-clause-back : goal.returns-in-Ok-open_new-clause-back
+returns-in-Ok-open_new-clause-back g c =
+    of_err c.begin_life.result _ _ (λ e back. record { offsets = back.0; members = back.1 }) c.begin_life.ensures.back
 
 pub returns-in-Ok-open_new-clause-refused : goal.returns-in-Ok-open_new-clause-refused
 returns-in-Ok-open_new-clause-refused g c =

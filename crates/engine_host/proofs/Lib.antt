@@ -3,3 +3,4 @@ mod Hosting
 mod Parking
 mod Refusing
 mod Counting
+mod Reopened

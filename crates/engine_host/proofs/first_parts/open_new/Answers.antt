@@ -1,9 +1,22 @@
-use Rattle.std.proofs.Common.{ap, arith, ◌∙◌}
+use Rattle.std.proofs.Common.{[], ap, arith, refl, ◌+◌, ◌∙◌}
 use Rattle.tx_core.specs.declared.entry.Start.{Start}
+use Rattle.tx_events.proofs.Membership.{contains_has}
 use Rattle.wal_core.specs.LogViews.{log_disk}
+use Rattle.engine_host.specs.Opening.{nothing_before}
 use Rattle.engine_host.proofs.Counting.{all_counted}
 use Rattle.engine_host.proofs.Refusing.{from_bank, from_begin}
+use Rattle.engine_host.proofs.Starting.{zeros_show}
 use Rattle.engine_host.proofs.first_parts.open_new.Goals as goal
+
+-- all pages are removed
+pub add_banks-requires-clause-states : goal.add_banks-requires-clause-states
+add_banks-requires-clause-states g c told bank disk at = zeros_show c.args.cluster nothing_before (0 + bank) c.requires.cluster.base refl
+
+pub add_banks-requires-clause-parents : goal.add_banks-requires-clause-parents
+add_banks-requires-clause-parents g c told bank disk at q small = refl
+
+pub gather-requires-clause-before : goal.gather-requires-clause-before
+gather-requires-clause-before g c x k = absurd (contains_has [] x k)
 
 pub returns-in-Err-add_banks-clause-refused : goal.returns-in-Err-add_banks-clause-refused
 returns-in-Err-add_banks-clause-refused g c =

@@ -1,7 +1,22 @@
-use Rattle.std.proofs.Common.{◌≡◌, ◌+◌, ◌∙◌, ap, arith, drop, refl, remove, subst, suc}
+use Rattle.std.proofs.Common.{◌≡◌, ◌+◌, ◌∙◌, ap, arith, drop, refl, remove, subst, suc, sym}
+use Rattle.engine_host.specs.Opening.{AllShowNothing, AllShowStates}
 use Rattle.engine_host.proofs.Counting.{counted_fewer, counted_more}
 use Rattle.engine_host.proofs.Refusing.{drop_next}
-use Rattle.engine_host.proofs.first_parts.add_banks.Goals as goal
+use Rattle.engine_host.proofs.Starting.{rest_empty, rest_show}
+use Rattle.engine_host.proofs.building.add_banks.Goals as goal
+
+pub add_bank-requires-clause-states : goal.add_bank-requires-clause-states
+add_bank-requires-clause-states g c told =
+    let bank = c.loop-bank.bank in
+    let p = g.P.PageDisk in
+    subst (λ xs. AllShowStates p c.args.cluster.now g.begins c.args.removes bank xs) (sym c.loop-bank.invariant.xact)
+    (rest_show p c.args.cluster.now g.begins c.args.removes bank c.args.xact.now.items (c.requires.states told))
+
+pub add_bank-requires-clause-parents : goal.add_bank-requires-clause-parents
+add_bank-requires-clause-parents g c told =
+    let p = g.P.PageDisk in
+    subst (λ xs. AllShowNothing p c.args.removes xs) (sym c.loop-bank.invariant.subtrans)
+    (rest_empty p c.args.removes c.loop-bank.bank c.args.subtrans.now.items (c.requires.parents told))
 
 pub loop-bank-init : goal.loop-bank-init
 loop-bank-init g c = record {
@@ -17,6 +32,7 @@ loop-bank-init g c = record {
   };
   xact_room = refl;
   subtrans_room = refl;
+  kept = λ none. (refl, refl);
 }
 
 pub loop-bank-preserved : goal.loop-bank-preserved
@@ -37,6 +53,7 @@ loop-bank-preserved g c =
       counted = counted_more n xs ys c.loop-bank.xact.items c.loop-bank.subtrans.items c.loop-bank.locks.items c.add_bank.new.locks.items i.xact i.subtrans i.count i.counted e.counted;
       xact_room = e.capacity.0 ∙ i.xact_room;
       subtrans_room = e.capacity.1 ∙ i.subtrans_room;
+      kept = λ none. let now = e.kept none in let so_far = i.kept none in (now.0 ∙ so_far.0, now.1 ∙ so_far.1);
     }
 
 pub returns-clause-counted : goal.returns-clause-counted

@@ -1,0 +1,18 @@
+use Rattle.engine_host.proofs.Starting.{settled_begins}
+use Rattle.engine_host.specs.Reopening.{cluster_over}
+use Rattle.std.proofs.Common.{ap, length, refl, ◌++◌, ◌∙◌}
+use Rattle.engine_host.proofs.Refusing.{none_long}
+use Rattle.engine_host.proofs.old_parts.open_recovered.Goals as goal
+
+pub gather-requires-clause-log : goal.gather-requires-clause-log
+gather-requires-clause-log g c =
+    let r = c.args.recovered in
+    settled_begins (cluster_over r.base (length r.xact.items) c.args.sessions) g.begins r.from r.log c.requires.log c.requires.number
+
+-- memory was wanting for a bank: the volumes of those that have one, and those that are left
+pub returns-in-Err-add_banks-clause-kept : goal.returns-in-Err-add_banks-clause-kept
+returns-in-Err-add_banks-clause-kept g c =
+    let r = c.args.recovered in
+    let t = c.taken_apart.ensures in
+    let none = none_long _ c.in-Ok.ensures.disks.xact in
+    (t.log, t.xact ∙ ((c.add_banks.ensures.kept refl).0 ∙ ap (λ l. l ++ r.xact.items) none))

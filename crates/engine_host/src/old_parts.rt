@@ -9,6 +9,7 @@ ghost use Rattle.replay_core.specs.Refused.{IsRefusal};
 ghost use Rattle.replay_core.specs.Volumes.{Fit, LeavesFit};
 ghost use Rattle.replay_core.specs.declared.refusal.RecoverRefusal.TheVariants as refusals;
 ghost use Rattle.engine_parts.specs.Sessions.{AreGivenBefore};
+ghost use Rattle.engine_host.specs.Counted.{AreCounted};
 ghost use Rattle.engine_host.specs.Opening.{AllShowNothing, AllShowStates, AreParts, Beginning, life_from, new_life};
 ghost use Rattle.engine_host.specs.Reopening.{IsBaseAt, behind, cluster_over};
 
@@ -45,6 +46,8 @@ fn open_recovered<L: LogDisk + Drop, P: PageDisk + Drop>(
     ensures cluster { IfOk result (λ parts. parts.cluster ≡ cluster_over recovered.base (length recovered.xact.items) sessions) }
     ensures parts { IfOk result (λ parts. AreParts parts) }
     ensures start { IfOk result (λ parts. parts.start.value ≡ new_life parts.cluster begins parts.locks.items) }
+    ensures counted { IfOk result (λ parts. AreCounted L.LogDisk P.PageDisk (log_disk recovered.log) recovered.xact.items
+        recovered.subtrans.items parts.start.value.faults) }
     ensures refused { IfErr result (λ e. e.1 ≡ refusals.Memory) }
     ensures kept { IfErr result (λ e. (e.0.log ≡ log_disk recovered.log) × (e.0.xact.items ≡ recovered.xact.items)) }
 {
@@ -112,6 +115,8 @@ pub fn open_old<L: LogDisk + Drop, P: PageDisk + Drop>(
     ensures start { IfOk result (λ parts. (number : ℕ)
         × (parts.start.value ≡ new_life parts.cluster (behind P.tells kept number) parts.locks.items)
         × (IsTrue P.tells → IsBaseAt kept number parts.cluster.base)) }
+    ensures counted { IfOk result (λ parts. AreCounted L.LogDisk P.PageDisk volumes.log volumes.xact.items
+        volumes.subtrans.items parts.start.value.faults) }
     // That is a base from which a life may start, so the laws on its volumes hold of it (`recoverable`).
     ensures right { IsTrue P.tells → IfOk result (λ parts. BeganRight parts.start.value) }
     // After an error the volumes fit what a later recovery may go on from.

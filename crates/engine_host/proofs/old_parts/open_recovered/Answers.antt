@@ -1,7 +1,10 @@
-use Rattle.engine_host.proofs.Starting.{settled_begins}
+use Rattle.std.proofs.Common.{ap, arith, length, refl, ◌++◌, ◌∙◌}
+use Rattle.tx_core.specs.declared.entry.Start.{Start}
+use Rattle.wal_core.specs.LogViews.{log_disk}
 use Rattle.engine_host.specs.Reopening.{cluster_over}
-use Rattle.std.proofs.Common.{ap, length, refl, ◌++◌, ◌∙◌}
+use Rattle.engine_host.proofs.Counting.{all_counted}
 use Rattle.engine_host.proofs.Refusing.{none_long}
+use Rattle.engine_host.proofs.Starting.{settled_begins}
 use Rattle.engine_host.proofs.old_parts.open_recovered.Goals as goal
 
 pub gather-requires-clause-log : goal.gather-requires-clause-log
@@ -16,3 +19,10 @@ returns-in-Err-add_banks-clause-kept g c =
     let t = c.taken_apart.ensures in
     let none = none_long _ c.in-Ok.ensures.disks.xact in
     (t.log, t.xact ∙ ((c.add_banks.ensures.kept refl).0 ∙ ap (λ l. l ++ r.xact.items) none))
+
+pub returns-clause-counted : goal.returns-clause-counted
+returns-clause-counted g c =
+    let r = c.args.recovered in
+    let parts = c.gather.ensures in
+    all_counted g.L.LogDisk g.P.PageDisk (length r.xact.items) (log_disk r.log) r.log r.xact.items r.subtrans.items c.add_banks.new.locks.items c.gather.result.start.value.faults
+    (omega arith) refl c.requires.as_many c.in_default.ensures.counted (ap (λ (s : Start). s.faults) parts.start ∙ parts.faults)

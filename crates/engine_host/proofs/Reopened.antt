@@ -155,7 +155,3 @@ both_ok (Err e) A B C f a b = tt
 pub when_err : {X E : Type 0} (r : Result X E) (A B : E → Type 0) → ((e : E) → A e → B e) → IfErr r A → IfErr r B
 when_err (Ok x) A B f a = tt
 when_err (Err e) A B f a = f e a
-
-pub when_ok : {X E : Type 0} (r : Result X E) (A B : X → Type 0) → ((x : X) → A x → B x) → IfOk r A → IfOk r B
-when_ok (Ok x) A B f a = f x a
-when_ok (Err e) A B f a = tt

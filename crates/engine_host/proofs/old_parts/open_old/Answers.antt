@@ -1,4 +1,5 @@
 use Rattle.std.proofs.Common.{Bool, false, length, map, subst, sym}
+use Rattle.std.proofs.lemmas.Result.{IfOk-weaker}
 use Rattle.tx_events.specs.declared.record.Counters.{Counters}
 use Rattle.recoverable.specs.Whole.{BeganRight}
 use Rattle.wal_core.specs.LogViews.{log_disk}
@@ -9,7 +10,7 @@ use Rattle.engine_host.specs.declared.cluster.Cluster.{Cluster}
 use Rattle.engine_host.specs.Opening.{AllShowStates, faults_behind, new_life}
 use Rattle.engine_host.specs.Reopening.{IsBaseAt, behind, cluster_over}
 use Rattle.engine_host.proofs.Counting.{counted_before}
-use Rattle.engine_host.proofs.Reopened.{base_at_number, before_any, began_right, both_ok, empty_shown, given_before, may_recover, states_shown, when_err, when_ok}
+use Rattle.engine_host.proofs.Reopened.{base_at_number, before_any, began_right, both_ok, empty_shown, given_before, may_recover, states_shown, when_err}
 use Rattle.engine_host.proofs.old_parts.open_old.Goals as goal
 
 pub open_recovered-requires-clause-before : goal.open_recovered-requires-clause-before
@@ -71,6 +72,6 @@ returns-in-Err-clause-again g c told = let fit = c.requires.fits told in c.in-Er
 pub returns-in-Ok-clause-counted : goal.returns-in-Ok-clause-counted
 returns-in-Ok-clause-counted g c =
     let old = c.args.volumes in let r = c.in-Ok.recovered in let e = c.in-Ok.ensures in
-    when_ok c.open_recovered.result _ _ (λ parts now.
+    IfOk-weaker c.open_recovered.result _ _ (λ parts now.
     counted_before g.L.LogDisk g.P.PageDisk old.log (log_disk r.log) old.xact.items r.xact.items old.subtrans.items r.subtrans.items parts.start.value.faults e.banks.0 e.banks.1 e.counted.0 e.counted.1 e.counted.2 now)
     c.open_recovered.ensures.counted

@@ -7,10 +7,12 @@ use Rattle.engine_host.proofs.Refusing.{none_long}
 use Rattle.engine_host.proofs.Starting.{settled_begins}
 use Rattle.engine_host.proofs.old_parts.open_recovered.Goals as goal
 
+-- With a ghost value the clauses of `requires` have no names: they stand in their order behind what is asked of lifetimes.
+
 pub gather-requires-clause-log : goal.gather-requires-clause-log
 gather-requires-clause-log g c =
     let r = c.args.recovered in
-    settled_begins (cluster_over r.base (length r.xact.items) c.args.sessions) g.begins r.from r.log c.requires.log c.requires.number
+    settled_begins (cluster_over r.base (length r.xact.items) c.args.sessions) g.begins r.from r.log c.requires.1.1.1.1.1.0 c.requires.1.1.1.1.1.1.0
 
 -- memory was wanting for a bank: the volumes of those that have one, and those that are left
 pub returns-in-Err-add_banks-clause-kept : goal.returns-in-Err-add_banks-clause-kept
@@ -25,4 +27,4 @@ returns-clause-counted g c =
     let r = c.args.recovered in
     let parts = c.gather.ensures in
     all_counted g.L.LogDisk g.P.PageDisk (length r.xact.items) (log_disk r.log) r.log r.xact.items r.subtrans.items c.add_banks.new.locks.items c.gather.result.start.value.faults
-    (omega arith) refl c.requires.as_many c.in_default.ensures.counted (ap (λ (s : Start). s.faults) parts.start ∙ parts.faults)
+    (omega arith) refl c.requires.1.1.1.0 c.in_default.ensures.counted (ap (λ (s : Start). s.faults) parts.start ∙ parts.faults)

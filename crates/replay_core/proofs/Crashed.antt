@@ -6,7 +6,6 @@ use Rattle.disk_core.specs.declared.page_disk.PageDisk as disks
 use Rattle.disk_core.specs.Media.{EachCrashed, LogCrashed, PagesCrashed}
 use Rattle.disk_core.specs.Pages.{Pages}
 use Rattle.disk_core.specs.Volume.{Volume}
-use Rattle.recoverable.specs.Fit.{KeptLog}
 use Rattle.recoverable.specs.Volumes.{ImageFits, Left}
 use Rattle.replay_core.specs.Volumes.{CrashKeepsFit, IsLeft}
 use Rattle.replay_core.proofs.Rows.{some_same}

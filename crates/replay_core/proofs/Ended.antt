@@ -12,7 +12,7 @@ use Rattle.tx_events.specs.declared.record.Rec.{Rec}
 use Rattle.tx_core.specs.declared.entry.Entry.{Entry}
 use Rattle.tx_core.specs.declared.entry.Start.{Start}
 use Rattle.tx_core.specs.EngineInvariant.{EngineInvariant}
-use Rattle.tx_core.specs.Locks.{members_lock, offsets_lock, xact_lock}
+use Rattle.tx_core.specs.Locks.{xact_lock}
 use Rattle.recoverable.specs.Bytes.{StoredBytes}
 use Rattle.recoverable.specs.Fit.{KeptLog}
 use Rattle.recoverable.specs.MemberImages.{CleanMembers}

@@ -1,4 +1,4 @@
-mod Rows
+pub mod Rows
 mod BankRows
 mod Multis
 mod Absent

@@ -61,8 +61,7 @@ pub returns-clause-counted : goal.returns-clause-counted
 returns-clause-counted g c =
     let l = g.L.LogDisk in let p = g.P.PageDisk in let v = c.args.volumes in let r = c.in_default.ensures in let b = c.begun.ensures in
     let up = c.in-Ok.ensures.found.count in
-    let more = r.log_counted in
-    (
+    let more = r.log_counted in (
       subst (λ z. l.faults v.log ≤ l.faults (log_disk z)) (sym b.log) (omega (arith, up, more)),
       subst (λ z. NoCountFell p v.xact.items z.items) (sym b.xact) r.xact_counted,
       subst (λ z. NoCountFell p v.subtrans.items z.items) (sym b.subtrans) r.subtrans_counted,

@@ -1,31 +1,38 @@
-use Rattle.std.proofs.Common.{◌≡◌, ◌+◌, ◌∙◌, ap, arith, drop, refl, remove, subst, suc, sym}
+use Rattle.std.proofs.Common.{◌≡◌, ◌+◌, ◌∙◌, ap, IsTrue, arith, drop, refl, remove, rules, subst, suc, sym}
 use Rattle.engine_host.specs.Opening.{AllShowNothing, AllShowStates}
 use Rattle.engine_host.proofs.Counting.{counted_fewer, counted_more}
 use Rattle.engine_host.proofs.Refusing.{drop_next}
 use Rattle.engine_host.proofs.Starting.{rest_empty, rest_show}
 use Rattle.engine_host.proofs.building.add_banks.Goals as goal
 
-pub add_bank-requires-clause-states : goal.add_bank-requires-clause-states
-add_bank-requires-clause-states g c told =
+-- With a ghost value the clauses of `requires` have no names: they stand in their order behind what is asked of lifetimes.
+
+pub add_bank-requires : goal.add_bank-requires
+add_bank-requires g c =
     let bank = c.loop-bank.bank in
     let p = g.P.PageDisk in
-    subst (λ xs. AllShowStates p c.args.cluster.now g.begins c.args.removes bank xs) (sym c.loop-bank.invariant.xact)
-    (rest_show p c.args.cluster.now g.begins c.args.removes bank c.args.xact.now.items (c.requires.states told))
-
-pub add_bank-requires-clause-parents : goal.add_bank-requires-clause-parents
-add_bank-requires-clause-parents g c told =
-    let p = g.P.PageDisk in
-    subst (λ xs. AllShowNothing p c.args.removes xs) (sym c.loop-bank.invariant.subtrans)
-    (rest_empty p c.args.removes c.loop-bank.bank c.args.subtrans.now.items (c.requires.parents told))
+    let i = c.loop-bank.invariant in
+    let cluster = c.requires.1.1.0 in
+    let inside = c.loop-bank-test.true in
+    let count = i.count in
+    let disks = i.disks in
+    let stand = i.stand in
+    let room = c.requires.1.1.1.1.1.1.0 in
+    let volumes = c.requires.1.1.1.0 in
+    let states = λ (told : IsTrue p.tells). subst (λ xs. AllShowStates p c.args.cluster.now g.begins c.args.removes bank xs) (sym i.xact)
+        (rest_show p c.args.cluster.now g.begins c.args.removes bank c.args.xact.now.items (c.requires.1.1.1.1.1.1.1.1.0 told)) in
+    let parents = λ (told : IsTrue p.tells). subst (λ xs. AllShowNothing p c.args.removes xs) (sym i.subtrans)
+        (rest_empty p c.args.removes bank c.args.subtrans.now.items (c.requires.1.1.1.1.1.1.1.1.1 told)) in
+    search (rules, cluster, inside, count, disks, stand, room, volumes, i, states, parents)
 
 pub loop-bank-init : goal.loop-bank-init
 loop-bank-init g c = record {
   xact = refl;
   subtrans = refl;
-  count = c.requires.count;
-  disks = c.requires.disks;
+  count = c.requires.1.1.1.1.0;
+  disks = c.requires.1.1.1.1.1.0;
   room = refl;
-  stand = c.requires.stand;
+  stand = c.requires.1.1.1.1.1.1.1.0;
   counted = record {
     xact = λ bank v low at. absurd (omega (arith, low));
     subtrans = λ bank v low at. absurd (omega (arith, low));

@@ -13,18 +13,18 @@ pub returns-clause-parts : goal.returns-clause-parts
 returns-clause-parts g c =
     let cluster = c.args.cluster in
     let life = c.life_note-start.ensures in
-    let put = inserted_first c.args.locks.items c.insert-inserted.new.self.items (parts.Log c.args.log) c.insert-inserted.result c.insert-inserted.ensures.items (c.insert-inserted.ensures.succeeds (omega (arith, c.requires.1.1.1.1.0, c.requires.1.1.1.1.1.0))) in
-    let all = subst (λ l. AreNew cluster g.begins 0 l) (sym put) (cons_new cluster g.begins (parts.Log c.args.log) c.args.locks.items (λ counts reached. (refl, c.requires.1.1.1.0 counts reached)) c.requires.1.1.1.1.1.1) in
+    let put = inserted_first c.args.locks.items c.insert-inserted.new.self.items (parts.Log c.args.log) c.insert-inserted.result c.insert-inserted.ensures.items (c.insert-inserted.ensures.succeeds (omega (arith, c.requires.1.1.1.1.1.0, c.requires.1.1.1.1.1.1.0))) in
+    let all = subst (λ l. AreNew cluster g.begins 0 l) (sym put) (cons_new cluster g.begins (parts.Log c.args.log) c.args.locks.items (λ counts reached. (refl, c.requires.1.1.1.1.0 counts reached)) c.requires.1.1.1.1.1.1.1) in
     record {
-      cluster = c.requires.1.0;
+      cluster = c.requires.1.1.0;
       banks = ap (λ (s : Start). s.banks) life;
       sessions = ap (λ (s : Start). s.sessions) life;
       base = ap (λ (s : Start). s.base) life;
-      before = subst AreGivenBefore (sym life) c.requires.1.1.0;
-      count = ap length put ∙ omega (arith, c.requires.1.1.1.1.0);
+      before = subst AreGivenBefore (sym life) c.requires.1.1.1.0;
+      count = ap length put ∙ omega (arith, c.requires.1.1.1.1.1.0);
       stand = λ lock part at. subst (λ (s : Start). PartStands s lock part []) (sym life) (all_stand cluster g.begins c.insert-inserted.new.self.items all lock part at);
     }
 
 pub returns-clause-faults : goal.returns-clause-faults
 returns-clause-faults g c =
-    ap (map faults_behind) (inserted_first c.args.locks.items c.insert-inserted.new.self.items (parts.Log c.args.log) c.insert-inserted.result c.insert-inserted.ensures.items (c.insert-inserted.ensures.succeeds (omega (arith, c.requires.1.1.1.1.0, c.requires.1.1.1.1.1.0))))
+    ap (map faults_behind) (inserted_first c.args.locks.items c.insert-inserted.new.self.items (parts.Log c.args.log) c.insert-inserted.result c.insert-inserted.ensures.items (c.insert-inserted.ensures.succeeds (omega (arith, c.requires.1.1.1.1.1.0, c.requires.1.1.1.1.1.1.0))))

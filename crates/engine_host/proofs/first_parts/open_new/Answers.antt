@@ -1,4 +1,5 @@
-use Rattle.std.proofs.Common.{[], ap, arith, refl, ◌+◌, ◌∙◌}
+use Rattle.std.proofs.Common.{[], Contains, IsTrue, Some, ap, arith, refl, rules, ℕ, ◌+◌, ◌∙◌, ◌≡◌}
+use Rattle.std.specs.List.{slice_get}
 use Rattle.tx_core.specs.declared.entry.Start.{Start}
 use Rattle.tx_events.proofs.Membership.{contains_has}
 use Rattle.wal_core.specs.LogViews.{log_disk}
@@ -9,14 +10,18 @@ use Rattle.engine_host.proofs.Starting.{zeros_show}
 use Rattle.engine_host.proofs.first_parts.open_new.Goals as goal
 
 -- all pages are removed
-pub add_banks-requires-clause-states : goal.add_banks-requires-clause-states
-add_banks-requires-clause-states g c told bank disk at = zeros_show c.args.cluster nothing_before (0 + bank) c.requires.cluster.base refl
+pub add_banks-requires : goal.add_banks-requires
+add_banks-requires g c =
+    let cluster = c.requires.cluster in
+    let volumes = c.requires.volumes in
+    let states = λ (told : IsTrue g.P.PageDisk.tells) (bank : ℕ) (disk : g.row.P.Denot) (at : slice_get c.args.volumes.xact.items bank ≡ Some disk). zeros_show c.args.cluster nothing_before (0 + bank) c.requires.cluster.base refl in
+    search (rules, cluster, volumes, states)
 
-pub add_banks-requires-clause-parents : goal.add_banks-requires-clause-parents
-add_banks-requires-clause-parents g c told bank disk at q small = refl
-
-pub gather-requires-clause-before : goal.gather-requires-clause-before
-gather-requires-clause-before g c x k = absurd (contains_has [] x k)
+pub gather-requires : goal.gather-requires
+gather-requires g c =
+    let cluster = c.requires.cluster in
+    let before = λ (x : ℕ) (k : Contains [] x). contains_has [] x k in
+    search (rules, cluster, before)
 
 pub returns-in-Err-add_banks-clause-refused : goal.returns-in-Err-add_banks-clause-refused
 returns-in-Err-add_banks-clause-refused g c =

@@ -102,6 +102,12 @@ pub front_of : {X : Type 0} (xs rest : List X) (x : X) → 0 < length xs → x �
 front_of [] rest x l e r = absurd (omega arith)
 front_of (y ∷ xs) rest x l e r = λ i. sym e i ∷ sym r i
 
+-- some are left where not all were taken
+pub some_left : {X : Type 0} (n : ℕ) (xs ys : List X) → ys ≡ drop n xs → n < length xs → 0 < length ys
+some_left n [] ys e l = absurd (omega (arith, l))
+some_left zero (x ∷ xs) ys e l = let k : length ys ≡ suc (length xs) = ap length e in omega (arith, k)
+some_left (suc n) (x ∷ xs) ys e l = some_left n xs ys e (omega (arith, l))
+
 pub none_long : {X : Type 0} (xs : List X) → length xs ≡ 0 → xs ≡ []
 none_long [] e = refl
 none_long (x ∷ xs) e = absurd (omega (arith, e))

@@ -1,7 +1,7 @@
-use Rattle.std.proofs.Common.{◌≡◌, ◌+◌, ◌∙◌, ap, IsTrue, arith, drop, refl, remove, rules, subst, suc, sym}
+use Rattle.std.proofs.Common.{◌≡◌, ◌+◌, ◌*◌, ◌≤◌, ◌∙◌, IsTrue, ap, arith, drop, refl, remove, rules, subst, suc, sym}
 use Rattle.engine_host.specs.Opening.{AllShowNothing, AllShowStates}
 use Rattle.engine_host.proofs.Counting.{counted_fewer, counted_more}
-use Rattle.engine_host.proofs.Refusing.{drop_next}
+use Rattle.engine_host.proofs.Refusing.{drop_next, some_left}
 use Rattle.engine_host.proofs.Starting.{rest_empty, rest_show}
 use Rattle.engine_host.proofs.building.add_banks.Goals as goal
 
@@ -17,13 +17,15 @@ add_bank-requires g c =
     let count = i.count in
     let disks = i.disks in
     let stand = i.stand in
-    let room = c.requires.1.1.1.1.1.1.0 in
-    let volumes = c.requires.1.1.1.0 in
+    let room = subst (λ n. 3 + 4 * c.args.cluster.now.banks ≤ n) (sym i.room) c.requires.1.1.1.1.1.1.0 in
+    let asked = c.requires.1.1.1.0 in
+    let left = some_left bank c.args.xact.now.items c.loop-bank.xact.items i.xact (omega (arith, inside, asked.0)) in
+    let right = some_left bank c.args.subtrans.now.items c.loop-bank.subtrans.items i.subtrans (omega (arith, inside, asked.1)) in
     let states = λ (told : IsTrue p.tells). subst (λ xs. AllShowStates p c.args.cluster.now g.begins c.args.removes bank xs) (sym i.xact)
         (rest_show p c.args.cluster.now g.begins c.args.removes bank c.args.xact.now.items (c.requires.1.1.1.1.1.1.1.1.0 told)) in
     let parents = λ (told : IsTrue p.tells). subst (λ xs. AllShowNothing p c.args.removes xs) (sym i.subtrans)
         (rest_empty p c.args.removes bank c.args.subtrans.now.items (c.requires.1.1.1.1.1.1.1.1.1 told)) in
-    search (rules, cluster, inside, count, disks, stand, room, volumes, i, states, parents)
+    search (rules, cluster, inside, count, disks, stand, room, left, right, states, parents)
 
 pub loop-bank-init : goal.loop-bank-init
 loop-bank-init g c = record {

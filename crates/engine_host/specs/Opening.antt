@@ -1,5 +1,5 @@
 -- What a new engine starts from, and what its parts stand for.
-use Rattle.std.specs.Prelude.{◌≡◌, ℕ, ◌+◌, ◌*◌, ◌%◌, ◌≤◌, ◌<◌, ◌^◌, Bool, false, true, cond, IsTrue, List, [], ◌∷◌, Option, None, Some, slice_get, get_or, length, map}
+use Rattle.std.specs.Prelude.{◌≡◌, ℕ, ◌+◌, ◌*◌, ◌%◌, ◌≤◌, ◌<◌, ◌^◌, Bool, false, cond, IsTrue, List, [], ◌∷◌, Option, None, Some, slice_get, get_or, length, map}
 use Rattle.disk_core.specs.declared.log_disk.LogDisk as logs
 use Rattle.disk_core.specs.declared.page_disk.PageDisk as disks
 use Rattle.disk_core.specs.Pages.{page_bytes, zero_page}

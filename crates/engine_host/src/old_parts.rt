@@ -76,14 +76,7 @@ fn open_recovered<L: LogDisk + Drop, P: PageDisk + Drop>(
             ));
         }
     };
-    if let Err(_) = add_banks(
-        alloc,
-        &mut locks,
-        &mut xact,
-        &mut subtrans,
-        &cluster,
-        false,
-    ) {
+    if let Err(_) = add_banks(alloc, &mut locks, &mut xact, &mut subtrans, &cluster, false) {
         return Err((
             taken_apart(log, locks, xact, subtrans),
             RecoverRefusal::Memory,

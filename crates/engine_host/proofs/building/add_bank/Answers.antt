@@ -77,8 +77,7 @@ returns-clause-kept g c none =
     let two = c.push_reserved-2.ensures.items in
     let three = c.push_reserved-3.ensures.items in
     let four = c.push_reserved-4.ensures.items in
-    let whole = four ∙ ap (λ l. l ++ parts.Vacant ∷ []) (three ∙ ap (λ l. l ++ parts.Vacant ∷ []) (two ∙ ap (λ l. l ++ parts.Subtrans c.in-Ok-open_subtrans.store ∷ []) one)) in
-    (
+    let whole = four ∙ ap (λ l. l ++ parts.Vacant ∷ []) (three ∙ ap (λ l. l ++ parts.Vacant ∷ []) (two ∙ ap (λ l. l ++ parts.Subtrans c.in-Ok-open_subtrans.store ∷ []) one)) in (
       kept_first xact_disk c.args.locks.now.items c.push_reserved-4.new.self.items (parts.Xact c.in-Ok.store) (parts.Subtrans c.in-Ok-open_subtrans.store) parts.Vacant parts.Vacant c.remove.result c.args.xact.now.items c.remove.new.self.items whole
           (ap (λ d. Some d) (c.in-Ok.ensures.same none)) refl refl refl (front_of c.args.xact.now.items c.remove.new.self.items c.remove.result c.requires.1.1.1.1.0.0 c.remove.ensures.value c.remove.ensures.items),
       kept_second subtrans_disk c.args.locks.now.items c.push_reserved-4.new.self.items (parts.Xact c.in-Ok.store) (parts.Subtrans c.in-Ok-open_subtrans.store) parts.Vacant parts.Vacant c.remove-2.result c.args.subtrans.now.items c.remove-2.new.self.items whole
@@ -97,8 +96,7 @@ returns-in-Err-open_subtrans-clause-kept g c none =
     let xs = c.remove.new.self.items in
     let ys = c.remove-2.new.self.items in
     let x_front = front_of c.args.xact.now.items xs c.remove.result c.requires.1.1.1.1.0.0 c.remove.ensures.value c.remove.ensures.items in
-    let y_front = front_of c.args.subtrans.now.items ys c.remove-2.result c.requires.1.1.1.1.0.1 c.remove-2.ensures.value c.remove-2.ensures.items in
-    (
+    let y_front = front_of c.args.subtrans.now.items ys c.remove-2.result c.requires.1.1.1.1.0.1 c.remove-2.ensures.value c.remove-2.ensures.items in (
       ap (λ l. xact_disks c.args.locks.now.items ++ l) (c.put_back-in-Err-open_subtrans-2.ensures.items ∙ (ap (λ d. d ∷ xs) (c.into_disk.ensures ∙ c.in-Ok.ensures.same none) ∙ sym x_front)),
       ap (λ l. subtrans_disks c.args.locks.now.items ++ l) (c.put_back-in-Err-open_subtrans.ensures.items ∙ (ap (λ d. d ∷ ys) (c.in-Err-open_subtrans.ensures.same_err none) ∙ sym y_front)),
     )

@@ -22,9 +22,9 @@ add_bank-requires g c =
     let left = some_left bank c.args.xact.now.items c.loop-bank.xact.items i.xact (omega (arith, inside, asked.0)) in
     let right = some_left bank c.args.subtrans.now.items c.loop-bank.subtrans.items i.subtrans (omega (arith, inside, asked.1)) in
     let states = λ (told : IsTrue p.tells). subst (λ xs. AllShowStates p c.args.cluster.now g.begins c.args.removes bank xs) (sym i.xact)
-        (rest_show p c.args.cluster.now g.begins c.args.removes bank c.args.xact.now.items (c.requires.1.1.1.1.1.1.1.1.0 told)) in
+    (rest_show p c.args.cluster.now g.begins c.args.removes bank c.args.xact.now.items (c.requires.1.1.1.1.1.1.1.1.0 told)) in
     let parents = λ (told : IsTrue p.tells). subst (λ xs. AllShowNothing p c.args.removes xs) (sym i.subtrans)
-        (rest_empty p c.args.removes bank c.args.subtrans.now.items (c.requires.1.1.1.1.1.1.1.1.1 told)) in
+    (rest_empty p c.args.removes bank c.args.subtrans.now.items (c.requires.1.1.1.1.1.1.1.1.1 told)) in
     search (rules, cluster, inside, count, disks, stand, room, left, right, states, parents)
 
 pub loop-bank-init : goal.loop-bank-init

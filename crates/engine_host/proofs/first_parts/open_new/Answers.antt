@@ -1,7 +1,6 @@
 use Rattle.std.proofs.Common.{[], IsTrue, ap, arith, refl, rules, true, ◌+◌, ◌∙◌}
 use Rattle.tx_core.specs.declared.entry.Start.{Start}
 use Rattle.tx_events.proofs.Membership.{contains_has}
-use Rattle.wal_core.specs.LogViews.{log_disk}
 use Rattle.engine_parts.specs.Sessions.{AreGivenBefore}
 use Rattle.engine_host.specs.Opening.{AllShowNothing, AllShowStates, life_from, nothing_before}
 use Rattle.engine_host.proofs.Counting.{all_counted}

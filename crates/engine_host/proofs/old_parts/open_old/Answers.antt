@@ -1,6 +1,5 @@
 use Rattle.std.proofs.Common.{Bool, IsTrue, false, length, map, rules, subst, sym}
 use Rattle.std.proofs.lemmas.Result.{IfOk-weaker}
-use Rattle.tx_events.specs.declared.record.Counters.{Counters}
 use Rattle.recoverable.specs.Whole.{BeganRight}
 use Rattle.wal_core.specs.LogViews.{log_disk}
 use Rattle.replay_core.specs.Refused.{IsRefusal}
@@ -25,25 +24,29 @@ open_recovered-requires g c =
     let banks = e.banks in
     let log = e.log in
     let before = before_any p.tells g.kept r.from c.args.sessions (length r.xact.items) r.base (λ told.
-        let fit = c.requires.1.1.1.1.1.1 told in
-        given_before l p old.log (log_disk r.log) old.xact.items r.xact.items r.from c.args.sessions r.base g.kept e.banks.0 some c.is_full_multi.ensures
-        (g.met.L.LogDisk.reads_image (log_disk r.log) fit.0) (λ d. g.met.P.PageDisk.reads_image d told) (e.recovers fit.0 told g.kept fit.1)) in
+    let fit = c.requires.1.1.1.1.1.1 told in
+    given_before l p old.log (log_disk r.log) old.xact.items r.xact.items r.from c.args.sessions r.base g.kept e.banks.0 some c.is_full_multi.ensures
+    (g.met.L.LogDisk.reads_image (log_disk r.log) fit.0) (λ d. g.met.P.PageDisk.reads_image d told) (e.recovers fit.0 told g.kept fit.1)) in
     let states = λ (told : IsTrue p.tells).
-        let fit = c.requires.1.1.1.1.1.1 told in
-        subst (λ (t : Bool). AllShowStates p (cluster_over r.base (length r.xact.items) c.args.sessions) (behind t g.kept r.from) false 0 r.xact.items) (sym told)
-        (states_shown l p old.log (log_disk r.log) old.xact.items r.xact.items r.from c.args.sessions r.base g.kept e.banks.0 some c.is_full_multi.ensures
-        (g.met.L.LogDisk.reads_image (log_disk r.log) fit.0) (λ d. g.met.P.PageDisk.reads_image d told) (e.recovers fit.0 told g.kept fit.1)) in
+    let fit = c.requires.1.1.1.1.1.1 told in
+    subst (λ (t : Bool). AllShowStates p (cluster_over r.base (length r.xact.items) c.args.sessions) (behind t g.kept r.from) false 0 r.xact.items) (sym told)
+    (states_shown l p old.log (log_disk r.log) old.xact.items r.xact.items r.from c.args.sessions r.base g.kept e.banks.0 some c.is_full_multi.ensures
+    (g.met.L.LogDisk.reads_image (log_disk r.log) fit.0) (λ d. g.met.P.PageDisk.reads_image d told) (e.recovers fit.0 told g.kept fit.1)) in
     let parents = λ (told : IsTrue p.tells). empty_shown p r.subtrans.items (λ d. g.met.P.PageDisk.reads_image d told) (e.parents told) in
     search (rules, some, few, as_many, sessions, banks, log, before, states, parents)
 
 pub returns-in-Ok-clause-start : goal.returns-in-Ok-clause-start
 returns-in-Ok-clause-start g c =
     let l = g.L.LogDisk in let p = g.P.PageDisk in let old = c.args.volumes in let r = c.in-Ok.recovered in let e = c.in-Ok.ensures in
-    both_ok c.open_recovered.result _ _ _ (λ parts cluster start. (r.from, start, λ told.
-    let fit = c.requires.1.1.1.1.1.1 told in
-    subst (λ (k : Cluster). IsBaseAt g.kept r.from k.base) (sym cluster)
-    (base_at_number l p old.log (log_disk r.log) old.xact.items r.xact.items r.from c.args.sessions r.base g.kept e.banks.0 c.requires.1.1.0 c.is_full_multi.ensures
-    (g.met.L.LogDisk.reads_image (log_disk r.log) fit.0) (λ d. g.met.P.PageDisk.reads_image d told) (e.recovers fit.0 told g.kept fit.1))))
+    both_ok c.open_recovered.result _ _ _ (λ parts cluster start. (
+      r.from,
+      start,
+      λ told.
+          let fit = c.requires.1.1.1.1.1.1 told in
+          subst (λ (k : Cluster). IsBaseAt g.kept r.from k.base) (sym cluster)
+          (base_at_number l p old.log (log_disk r.log) old.xact.items r.xact.items r.from c.args.sessions r.base g.kept e.banks.0 c.requires.1.1.0 c.is_full_multi.ensures
+          (g.met.L.LogDisk.reads_image (log_disk r.log) fit.0) (λ d. g.met.P.PageDisk.reads_image d told) (e.recovers fit.0 told g.kept fit.1)),
+    ))
     c.open_recovered.ensures.cluster c.open_recovered.ensures.start
 
 pub returns-in-Ok-clause-right : goal.returns-in-Ok-clause-right

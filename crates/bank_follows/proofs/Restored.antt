@@ -85,7 +85,7 @@ module _ (start : Start) (log : KeptLog) (from : ℕ) (left : Left) (some : 1 �
   xact_clean : CleanStart start (shown_on start.banks left).xact
   xact_clean = record {
     base = is_base.counters;
-    before = is_base.committed;
+    before = λ x c. (is_base.committed x c).1;
     committed = λ x old among.
         let oldest = oldest_is in
         let shows = (r.xact (xact_page_of x % start.banks) (inside (xact_page_of x))).committed x (subst (λ (t : List ℕ). Contains t x) (sym committed_is) among) (omega arith) refl in

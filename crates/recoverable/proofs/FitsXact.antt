@@ -131,7 +131,7 @@ logged_at start lists j by rec g =
     subst (λ (e : Entry). Has (at lists log_lock) e) same r.1
 
 -- an id of an appended commit record was given
-named_given : (start : Start) (lists : List (List Entry)) (j : ℕ) (by : By) (top : ℕ) (subs : List ℕ) (x : ℕ) → EngineInvariant start lists → slice_get (records_of lists) j ≡ Some (by, records.Commit top subs) → Contains (top ∷ subs) x → Has (given (history lists)) x
+pub named_given : (start : Start) (lists : List (List Entry)) (j : ℕ) (by : By) (top : ℕ) (subs : List ℕ) (x : ℕ) → EngineInvariant start lists → slice_get (records_of lists) j ≡ Some (by, records.Commit top subs) → Contains (top ∷ subs) x → Has (given (history lists)) x
 named_given start lists j by top subs x k g c =
     let a : IsAppended lists by.session (records.Commit top subs) = (by, refl, has_contains (at lists log_lock) (record { by = by; kind = kinds.Append (records.Commit top subs) }) (logged_at start lists j by (records.Commit top subs) g)) in
     given_to_given by.session (history lists) x (exact_given (history lists) by.session top subs x (k.records.exact by.session top subs a) c)

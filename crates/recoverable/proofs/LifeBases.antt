@@ -1,9 +1,9 @@
 -- Each base that a life's log may give is one from which a life may start.
-use Rattle.std.proofs.Common.{Contains, List, Some, [], ap, arith, drop, inl, inr, length, max, refl, subst, sym, take, take-append-drop, ℕ, ⊎_elim, ◌++◌, ◌+◌, ◌-◌, ◌<◌, ◌∙◌, ◌≡◌, ◌≤◌, ◌⊎◌}
+use Rattle.std.proofs.Common.{Contains, List, Some, [], ap, arith, drop, inl, inr, length, max, refl, subst, sym, take, take-append-drop, ℕ, ⊎_elim, ◌++◌, ◌+◌, ◌-◌, ◌<◌, ◌∙◌, ◌∷◌, ◌≡◌, ◌≤◌, ◌⊎◌}
 use Rattle.std.proofs.lemmas.List.Sums.{fold_push}
 use Rattle.std.specs.Prelude.{IsTrue}
 use Rattle.std.specs.List.{filter, slice_get}
-use Rattle.tx_events.specs.Ids.{IsFullMulti, next_multi}
+use Rattle.tx_events.specs.Ids.{IsFullId, IsFullMulti, next_multi}
 use Rattle.tx_events.specs.declared.event.By.{By}
 use Rattle.tx_events.specs.declared.multi.Member.{Member}
 use Rattle.tx_events.specs.declared.multi.MultiEvent.{MultiEvent}
@@ -11,8 +11,9 @@ use Rattle.tx_events.specs.declared.multi.MultiEvent.TheVariants as multis
 use Rattle.tx_events.specs.declared.record.Counters.{Counters}
 use Rattle.tx_events.specs.declared.record.Rec.{Rec}
 use Rattle.tx_events.specs.declared.record.Rec.TheVariants as records
-use Rattle.tx_events.proofs.Membership.{Has, contains_has, has_cases, has_contains, has_place}
+use Rattle.tx_events.proofs.Membership.{Has, contains_has, has_cases, has_contains, has_flat_map, has_place}
 use Rattle.tx_events.proofs.PlaceLemmas.{by_place, each_place_start}
+use Rattle.tx_events.proofs.SnapshotBounds.{given_from}
 use Rattle.tx_events.specs.After.{after_record, after_records}
 use Rattle.tx_events.specs.Base.{IsBase}
 use Rattle.tx_events.specs.Multis.{AreLegalMultis, InBase, MultiMayCome, first_member, next_made}
@@ -22,13 +23,14 @@ use Rattle.tx_core.specs.declared.entry.Start.{Start}
 use Rattle.tx_core.proofs.Nearness.{multis_are_legal, raises_told}
 use Rattle.tx_core.proofs.Rising.{made_more, multi_above}
 use Rattle.tx_core.specs.EngineInvariant.{EngineInvariant}
-use Rattle.tx_core.specs.Entries.{records_of}
+use Rattle.tx_core.specs.Entries.{history, records_of}
 use Rattle.tx_core.specs.MultiEntries.{multi_history}
 use Rattle.tx_core.specs.RecordsFollow.{CheckpointOf, CountersOf, IsMultiAnnounced, IsMultiAt, IsOldestAnnounced}
 use Rattle.recoverable.specs.Laws.{ListFitsLaw, life_base}
-use Rattle.recoverable.specs.LifeBase.{AreInOrder, IsLifeBase, base_after, committed_in, is_multi}
+use Rattle.recoverable.specs.LifeBase.{AreInOrder, IsLifeBase, base_after, committed_by, committed_in, is_multi}
 use Rattle.recoverable.proofs.Announced.{announced_given, announced_old}
 use Rattle.recoverable.proofs.Checkpoints.{append_at, whole_in}
+use Rattle.recoverable.proofs.FitsXact.{named_given}
 use Rattle.recoverable.proofs.LogBases.{base_from, committed_below, life_recs, multi_below, next_grows, oldest_multi_grows, offset_grows, multi_grows, recorded_split}
 use Rattle.recoverable.proofs.MultiChain.{Chained, chained, free_upto, next_later, next_upto}
 use Rattle.tx_core.proofs.MultiOrder.{Ordered, ordered}
@@ -49,9 +51,14 @@ record Came (start : Start) (lists : List (List Entry)) (before : List Rec) (rec
       → ((c.multi ≡ (after_records start.base before).multi) × (c.offset ≡ (after_records start.base before).offset)) ⊎ IsMultiAt start lists c.multi c.offset
   oldest : (number : ℕ) (c : Counters) → rec ≡ records.Checkpoint number c → IsMultiAnnounced start lists c.oldest_multi c.oldest_offset
   cut : (oldest multi offset : ℕ) → rec ≡ records.Truncate oldest multi offset → IsMultiAnnounced start lists multi offset
+  named : (top : ℕ) (subs : List ℕ) → rec ≡ records.Commit top subs → (x : ℕ) → Contains (top ∷ subs) x → 3 ≤ x
 
-came : (start : Start) (lists : List (List Entry)) → EngineInvariant start lists → EachPlace (life_recs lists) (Came start lists)
-came start lists k p rec here =
+-- a full id is none of the special ones
+full_from : (n : ℕ) → IsFullId n → 3 ≤ n
+full_from n full = omega arith
+
+came : (start : Start) (lists : List (List Entry)) → EngineInvariant start lists → IsBase start.base → EachPlace (life_recs lists) (Came start lists)
+came start lists k is_base p rec here =
     let g = map_get (λ (r : By × Rec). r.1) (records_of lists) p rec here in
     let stands : slice_get (records_of lists) p ≡ Some (g.0.0, rec) = g.1 ∙ ap (λ (z : Rec). Some (g.0.0, z)) g.2 in
     let added = append_at start lists p g.0.0 rec k stands in
@@ -62,6 +69,11 @@ came start lists k p rec here =
           subst (λ (t : List Rec). ((c.multi ≡ (after_records start.base t).multi) × (c.offset ≡ (after_records start.base t).offset)) ⊎ IsMultiAt start lists c.multi c.offset) added.1 of.multi;
       oldest = λ number c q. let of : CheckpointOf start lists added.0 number c = subst (CountersOf start lists added.0) q added.2.1 in of.oldest_multi;
       cut = λ oldest m x q. let of : IsOldestAnnounced start lists oldest × IsMultiAnnounced start lists m x = subst (CountersOf start lists added.0) q added.2.1 in of.1;
+      named = λ top subs q x c.
+          let given_x = named_given start lists p g.0.0 top subs x k (stands ∙ ap (λ (z : Rec). Some (g.0.0, z)) q) c in
+          let from = given_from start.base (history lists) k.events.legal x given_x in
+          let least = full_from start.base.next is_base.full in
+          omega arith;
     }
 
 -- how a multixact lies to what is announced, and to what was given: no offset of an earlier one is past its own
@@ -247,13 +259,26 @@ module _ (start : Start) (lists : List (List Entry)) (k : EngineInvariant start 
           let b = (below m x ms c).1 in omega arith;
     }
 
+    normal : (x : ℕ) → Has (committed_in recs) x → 3 ≤ x
+    normal x new =
+        let r = has_flat_map committed_by recs x new in
+        let p = has_place recs r.0 r.1 in
+        let step : (rec : Rec) → r.0 ≡ rec → Has (committed_by rec) x → 3 ≤ x = elim [
+          | records.Commit top subs ↦ λ q h. (each p.0 r.0 p.1).named top subs q x (has_contains (top ∷ subs) x h)
+          | records.Abort top subs ↦ λ q h. absurd h
+          | records.Multi multi offset members ↦ λ q h. absurd h
+          | records.Checkpoint number n ↦ λ q h. absurd h
+          | records.Truncate oldest multi offset ↦ λ q h. absurd h
+        ] in
+        step r.0 refl r.2
+
     life_base_after : IsLifeBase (base_after (life_base start) recs)
     life_base_after = record {
       counters = by_place (Came start lists) (λ xs. IsBase (after xs)) is.counters
           (λ xs rec before came. subst IsBase (sym (fold_push after_record start.base xs rec)) came.base) recs each;
       committed = λ x c. ⊎_elim
-          (λ old. let w = is.committed x (has_contains start.committed x old) in let up = next_grows start.base recs in omega arith)
-          (λ new. committed_below start.base recs x new)
+          (λ old. let w = is.committed x (has_contains start.committed x old) in let w0 = w.0 in let w1 = w.1 in let up = next_grows start.base recs in (omega arith, omega arith))
+          (λ new. (normal x new, committed_below start.base recs x new))
           (has_cases start.committed (committed_in recs) x (contains_has _ x c));
       multis = below;
       in_order = in_order;
@@ -268,7 +293,7 @@ list_fits start lists log k told full is f =
       bases = λ n le upto.
           let j : ℕ = n - start.from in
           let each : EachPlace (take j (life_recs lists)) (Came start lists) = each_place_start (Came start lists) (take j (life_recs lists)) (drop j (life_recs lists))
-          (subst (λ (t : List Rec). EachPlace t (Came start lists)) (sym (take-append-drop j (life_recs lists))) (came start lists k)) in
+          (subst (λ (t : List Rec). EachPlace t (Came start lists)) (sym (take-append-drop j (life_recs lists))) (came start lists k is.counters)) in
           subst IsLifeBase (sym (base_from start lists log n f (omega arith))) (life_base_after start lists k told full is (take j (life_recs lists)) each);
       whole = λ n first. whole_in start lists log n k f first;
     }

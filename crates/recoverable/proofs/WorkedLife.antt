@@ -66,7 +66,7 @@ in_order = record {
 }
 
 -- from a base whose committed ids are below the next one
-life_base : (committed : List ℕ) → ((x : ℕ) → Contains committed x → x < 5) → IsLifeBase (record { counters = counters_at_3; committed = committed; recorded = records.Multi 1 1 members ∷ [] })
+life_base : (committed : List ℕ) → ((x : ℕ) → Contains committed x → (3 ≤ x) × (x < 5)) → IsLifeBase (record { counters = counters_at_3; committed = committed; recorded = records.Multi 1 1 members ∷ [] })
 life_base committed below = record {
   counters = is_base;
   committed = below;
@@ -74,11 +74,11 @@ life_base committed below = record {
   in_order = in_order;
 }
 
-below_one : (x : ℕ) → Contains (3 ∷ []) x → x < 5
-below_one x c = ⊎_elim (λ (e : 3 ≡ x). omega arith) (λ none. absurd none) (contains_has (3 ∷ []) x c)
+below_one : (x : ℕ) → Contains (3 ∷ []) x → (3 ≤ x) × (x < 5)
+below_one x c = ⊎_elim (λ (e : 3 ≡ x). (omega arith, omega arith)) (λ none. absurd none) (contains_has (3 ∷ []) x c)
 
-below_two : (x : ℕ) → Contains (3 ∷ 4 ∷ []) x → x < 5
-below_two x c = ⊎_elim (λ (e : 3 ≡ x). omega arith) (λ rest. ⊎_elim (λ (e : 4 ≡ x). omega arith) (λ none. absurd none) rest) (contains_has (3 ∷ 4 ∷ []) x c)
+below_two : (x : ℕ) → Contains (3 ∷ 4 ∷ []) x → (3 ≤ x) × (x < 5)
+below_two x c = ⊎_elim (λ (e : 3 ≡ x). (omega arith, omega arith)) (λ rest. ⊎_elim (λ (e : 4 ≡ x). (omega arith, omega arith)) (λ none. absurd none) rest) (contains_has (3 ∷ 4 ∷ []) x c)
 
 list : ListFits log
 list = record {

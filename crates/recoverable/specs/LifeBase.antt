@@ -45,11 +45,11 @@ pub record AreInOrder (c : Counters) (recorded : List Rec) : Type 0 where
       → y ≡ first_member (x + length ms)
   pub last : (m x : ℕ) (ms : List Member) → Contains recorded (records.Multi m x ms) → c.oldest_multi ≤ m → next_multi m ≡ c.multi → x + length ms ≡ c.offset
 
--- what a life may start from: its counters are a base, no id or multixact that it names is past them, and the recorded
--- multixacts lie in order
+-- what a life may start from: its counters are a base, no id or multixact that it names is past them, no id is a special
+-- one, and the recorded multixacts lie in order
 pub record IsLifeBase (base : LifeBase) : Type 0 where
   pub counters : IsBase base.counters
-  pub committed : (x : ℕ) → Contains base.committed x → x < base.counters.next
+  pub committed : (x : ℕ) → Contains base.committed x → (3 ≤ x) × (x < base.counters.next)
   pub multis : (multi offset : ℕ) (members : List Member) → Contains base.recorded (records.Multi multi offset members)
       → (multi < base.counters.multi) × (offset + length members ≤ base.counters.offset)
   pub in_order : AreInOrder base.counters base.recorded

@@ -1,5 +1,5 @@
 -- The volumes of a store's banks, all of them or as far as it went.
-use Rattle.std.proofs.Common.{List, Ok, Err, Result, Some, inl, inr, length, refl, subst, sym, ℕ, ⊎_elim, IsTrue, ◌≡◌}
+use Rattle.std.proofs.Common.{List, Ok, Err, Result, Some, ap, arith, inl, inr, length, refl, subst, sym, ℕ, ⊎_elim, IsTrue, ◌≡◌, ◌≤◌}
 use Rattle.std.specs.List.{slice_get}
 use Rattle.disk_core.specs.Faults.{HasRisen}
 use Rattle.disk_core.specs.Pages.{Pages}
@@ -28,6 +28,9 @@ states_cause p bank restores.DiskFault refusal old new is fault = inr (is, fault
 states_cause p bank restores.Memory refusal old new is fault = inl is
 
 module _ {P : Type 0} (p : disks.Ghosts P) where
+  same_count : (before now : P) → now ≡ before → p.faults before ≤ p.faults now
+  same_count before now same = let e = ap p.faults same in omega (arith, e)
+
   store_refused : (lock : ℕ → Lock) (n : ℕ) (old new : List P) (before now : P) (e : RecoverRefusal) → slice_get old n ≡ Some before → slice_get new n ≡ Some now → IsCause p lock n (Err e) before now → IsStoreRefusal p lock old new e
   store_refused lock n old new before now e was is cause = ⊎_elim
       (λ (m : e ≡ refusals.Memory). inl m)
@@ -47,6 +50,7 @@ module _ {P : Type 0} (p : disks.Ghosts P) where
       moments = λ told bank before now was is. (each_done restoring old n new done all bank before now was is).moments told;
       restored = λ told bank before now was is. let r = each_done restoring old n new done all bank before now was is in (r.shows told, r.durable told);
       refused = tt;
+      counted = λ bank before now was is. (each_done restoring old n new done all bank before now was is).count;
     }
 
     pub restore_failed : (n : ℕ) (mid new : List P) (e : RecoverRefusal) → ((d : P) (c : Pages) → IsTrue p.tells → p.left_at d (p.moment d) c → p.images d c) → Progress restoring old n mid
@@ -62,6 +66,10 @@ module _ {P : Type 0} (p : disks.Ghosts P) where
           (each_so_far restoring old n mid new done (Err e) step bank before now was is);
       restored = λ told. tt;
       refused = store_refused (λ bank. locks.Xact bank) n old new step.before step.now e (first_was restoring old n mid new done (Err e) step) step.is step.changed.cause;
+      counted = λ bank before now was is. ⊎_elim
+          (λ r. r.count)
+          (λ h. ⊎_elim (λ (k : (bank ≡ n) × Restoring p (share_of n) recs base (Err e) before now). k.1.count) (λ (same : now ≡ before). same_count before now same) h)
+          (each_so_far restoring old n mid new done (Err e) step bank before now was is);
     }
 
   module _ (old : List P) where
@@ -73,6 +81,10 @@ module _ {P : Type 0} (p : disks.Ghosts P) where
       count = count_more emptying old n mid new done (Err e) step;
       empty = λ told. tt;
       refused = store_refused (λ bank. locks.Subtrans bank) n old new step.before step.now e (first_was emptying old n mid new done (Err e) step) step.is step.changed.cause;
+      counted = λ bank before now was is. ⊎_elim
+          (λ r. r.count)
+          (λ h. ⊎_elim (λ (k : (bank ≡ n) × Emptying p n (Err e) before now). k.1.count) (λ (same : now ≡ before). same_count before now same) h)
+          (each_so_far emptying old n mid new done (Err e) step bank before now was is);
     }
 
     pub all_empty : (n : ℕ) (new : List P) → Progress emptying old n new → n ≡ length old → EmptiesBanks p old new (Ok (tt {0}))
@@ -80,4 +92,5 @@ module _ {P : Type 0} (p : disks.Ghosts P) where
       count = done.count;
       empty = λ told bank now is. let was = had old new done.count bank now is in (each_done emptying old n new done all bank was.0 now was.1 is).empty told;
       refused = tt;
+      counted = λ bank before now was is. (each_done emptying old n new done all bank before now was is).count;
     }

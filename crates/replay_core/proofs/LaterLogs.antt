@@ -158,7 +158,7 @@ module _ (log : KeptLog) (first : ℕ) (recs : List Rec) (base : Counters) (f : 
         flushed = sym cut_end_is;
         rest = ap (λ (b : LifeBase). b.committed) both;
         window = subst (λ (b : LifeBase). IsWindow b.counters.oldest b.counters.next) (sym cut_base_is) (base_window (base_at log (first + length recs)).counters life.counters);
-        below = λ x among. subst (λ (b : LifeBase). x < b.counters.next) (sym cut_base_is) (life.committed x (subst (λ (b : LifeBase). Contains b.committed x) cut_base_is among));
+        below = λ x among. subst (λ (b : LifeBase). x < b.counters.next) (sym cut_base_is) (life.committed x (subst (λ (b : LifeBase). Contains b.committed x) cut_base_is among)).1;
       }
 
   -- ---- their lists fit

@@ -1,4 +1,4 @@
-mod Rows
+pub mod Rows
 mod BankRows
 mod Multis
 mod Absent
@@ -8,3 +8,5 @@ mod Settling
 mod Openings
 mod Recovering
 mod Refusing
+mod Crashed
+mod Ended

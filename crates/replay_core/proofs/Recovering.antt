@@ -1,5 +1,5 @@
 -- The whole of a recovery, from what its parts answer.
-use Rattle.std.proofs.Common.{Err, IfErr, IsTrue, List, Ok, OnErr, OnOk, Result, inl, inr, length, refl, subst, sym, ℕ, ⊎_elim, ◌+◌, ◌++◌, ◌∙◌, ◌∷◌, [], ◌≡◌, ◌≤◌}
+use Rattle.std.proofs.Common.{Err, IfErr, IsTrue, List, Ok, OnErr, OnOk, Result, ap, arith, inl, inr, length, refl, subst, sym, ℕ, ⊎_elim, ◌+◌, ◌++◌, ◌∙◌, ◌∷◌, [], ◌≡◌, ◌≤◌}
 use Rattle.disk_core.specs.declared.log_disk.LogDisk as logs
 use Rattle.disk_core.specs.declared.page_disk.PageDisk as disks
 use Rattle.tx_events.specs.declared.record.Counters.{Counters}
@@ -8,7 +8,7 @@ use Rattle.tx_events.specs.declared.record.Rec.TheVariants as records
 use Rattle.wal_core.specs.LogViews.{log_disk, log_end, log_first, log_next}
 use Rattle.wal_core.specs.declared.wal_log.WalLog.{WalLog}
 use Rattle.recoverable.specs.Fit.{KeptLog}
-use Rattle.replay_core.specs.Banks.{AreRestored, EmptiesBanks, RestoresBanks}
+use Rattle.replay_core.specs.Banks.{AreRestored, EmptiesBanks, NoCountFell, RestoresBanks}
 use Rattle.replay_core.specs.Begun.{IsSettled}
 use Rattle.replay_core.specs.Opened.{EachHas, IsFound, LeavesLog, SettlesLog}
 use Rattle.replay_core.specs.Refused.{IsSettleRefusal}
@@ -17,9 +17,16 @@ use Rattle.replay_core.specs.Volumes.{Fit, LeavesFit, Recovers}
 use Rattle.replay_core.specs.declared.found.Found.{Found}
 use Rattle.replay_core.specs.declared.refusal.RecoverRefusal.{RecoverRefusal}
 use Rattle.replay_core.proofs.Joining.{is_found, is_recovered, located, not_recovered_cut, not_recovered_pending, not_recovered_settled}
+use Rattle.replay_core.proofs.Rows.{some_same}
 use Rattle.replay_core.proofs.Settling.{each_kept}
 
 module _ {L P : Type 0} {l : logs.Ghosts L} (p : disks.Ghosts P) (recs : List Rec) (base : Counters) (log : WalLog L l) (xact xact' subtrans : List P) where
+  same_volumes : (volumes : List P) → NoCountFell p volumes volumes
+  same_volumes volumes bank before now was is = let e = ap p.faults (some_same before now (sym was ∙ is)) in omega (arith, e)
+
+  same_log : l.faults (log_disk log) ≤ l.faults (log_disk log)
+  same_log = omega arith
+
   pub restoring_failed : (e : RecoverRefusal) → RestoresBanks p recs base xact xact' (Err e) → Replays p recs base log log xact xact' subtrans subtrans (Err e)
   restoring_failed e r = record {
     xact_count = r.count;
@@ -30,6 +37,9 @@ module _ {L P : Type 0} {l : logs.Ghosts L} (p : disks.Ghosts P) (recs : List Re
     empty = λ told. tt;
     left = λ told told'. (r.moments told', inl refl);
     refused = inl r.refused;
+    log_counted = same_log;
+    xact_counted = r.counted;
+    subtrans_counted = same_volumes subtrans;
   }
 
   pub emptying_failed : (subtrans' : List P) (e : RecoverRefusal) → RestoresBanks p recs base xact xact' (Ok (tt {0})) → EmptiesBanks p subtrans subtrans' (Err e) → Replays p recs base log log xact xact' subtrans subtrans' (Err e)
@@ -42,6 +52,9 @@ module _ {L P : Type 0} {l : logs.Ghosts L} (p : disks.Ghosts P) (recs : List Re
     empty = λ told. tt;
     left = λ told told'. (r.moments told', inl refl);
     refused = inr (inl s.refused);
+    log_counted = same_log;
+    xact_counted = r.counted;
+    subtrans_counted = s.counted;
   }
 
   on : {X : Type 0} (result : Result (Unit {0}) RecoverRefusal) → X → OnOk result X
@@ -58,8 +71,9 @@ module _ {L P : Type 0} {l : logs.Ghosts L} (p : disks.Ghosts P) (recs : List Re
 
   pub all_replayed : (log' : WalLog L l) (subtrans' : List P) (result : Result (Unit {0}) RecoverRefusal) → RestoresBanks p recs base xact xact' (Ok (tt {0})) → EmptiesBanks p subtrans subtrans' (Ok (tt {0}))
       → OnOk result (IsSettled (log_next log) base log') → (IsTrue l.tells → OnOk result (SettlesLog l base log log')) → (IsTrue l.tells → OnErr result (LeavesLog l base log log'))
-      → IfErr result (λ refusal. IsSettleRefusal (log_next log) base log log' refusal) → Replays p recs base log log' xact xact' subtrans subtrans' result
-  all_replayed log' subtrans' result r s settled kept left refused = record {
+      → IfErr result (λ refusal. IsSettleRefusal (log_next log) base log log' refusal) → l.faults (log_disk log) ≤ l.faults (log_disk log')
+      → Replays p recs base log log' xact xact' subtrans subtrans' result
+  all_replayed log' subtrans' result r s settled kept left refused count = record {
     xact_count = r.count;
     subtrans_count = s.count;
     settled = settled;
@@ -68,6 +82,9 @@ module _ {L P : Type 0} {l : logs.Ghosts L} (p : disks.Ghosts P) (recs : List Re
     empty = λ told. on result (s.empty told);
     left = λ told told'. err result (λ x. (r.moments told', inr (r.restored told', x))) (left told);
     refused = because log' subtrans' result refused;
+    log_counted = count;
+    xact_counted = r.counted;
+    subtrans_counted = s.counted;
   }
 
 module _ {L P : Type 0} (l : logs.Ghosts L) (p : disks.Ghosts P) (v : L) (xact xact' subtrans subtrans' : List P) (found : Found L l) (is : IsFound {g = l} v found) (log' : WalLog L l)

@@ -1,5 +1,5 @@
 -- What becomes of the volumes of a store's banks, each in its place.
-use Rattle.std.specs.Prelude.{◌≡◌, ◌≢◌, ◌⊎◌, ℕ, ◌^◌, ◌<◌, IsTrue, List, length, Some, Result, OnOk, IfErr, slice_get}
+use Rattle.std.specs.Prelude.{◌≡◌, ◌≢◌, ◌⊎◌, ℕ, ◌^◌, ◌<◌, ◌≤◌, IsTrue, List, length, Some, Result, OnOk, IfErr, slice_get}
 use Rattle.disk_core.specs.Faults.{HasRisen}
 use Rattle.disk_core.specs.declared.page_disk.PageDisk as disks
 use Rattle.disk_core.specs.Pages.{Pages, page_bytes, zero_page}
@@ -45,11 +45,17 @@ module _ {P : Type 0} (p : disks.Ghosts P) where
     pub shows : IsTrue p.tells → OnOk result (RestoresAll (IsNamed share base.oldest (committed_in recs)) base.next (bytes_on p old) (bytes_on p new))
     pub durable : IsTrue p.tells → OnOk result (HasBytesOnDisk p new)
     pub cause : IsCause (λ bank. locks.Xact bank) share.bank result old new
+    pub count : p.faults old ≤ p.faults new
 
   -- a bank's volume is emptied
   pub record Emptying (bank : ℕ) (result : Result (Unit {0}) RecoverRefusal) (old new : P) : Type 0 where
     pub empty : IsTrue p.tells → OnOk result ((c : Pages) → p.images new c → (q : ℕ) → q < 2 ^ 32 → page_bytes (c q) ≡ zero_page)
     pub cause : IsCause (λ bank. locks.Subtrans bank) bank result old new
+    pub count : p.faults old ≤ p.faults new
+
+  -- of no volume the count of faults fell
+  abbrev pub NoCountFell : List P → List P → Type 0
+  NoCountFell old new = (bank : ℕ) (before now : P) → slice_get old bank ≡ Some before → slice_get new bank ≡ Some now → p.faults before ≤ p.faults now
 
   -- Of each volume of pg_xact: at each moment a crash left what was there, or what is to be.
   abbrev pub AreRestoring : List Rec → Counters → List P → List P → Type 0
@@ -72,8 +78,10 @@ module _ {P : Type 0} (p : disks.Ghosts P) where
     pub moments : IsTrue p.tells → AreRestoring recs base old new
     pub restored : IsTrue p.tells → OnOk result (AreRestored recs base old new)
     pub refused : IfErr result (IsStoreRefusal (λ bank. locks.Xact bank) old new)
+    pub counted : NoCountFell old new
 
   pub record EmptiesBanks (old new : List P) (result : Result (Unit {0}) RecoverRefusal) : Type 0 where
     pub count : length new ≡ length old
     pub empty : IsTrue p.tells → OnOk result (AreEmpty p new)
     pub refused : IfErr result (IsStoreRefusal (λ bank. locks.Subtrans bank) old new)
+    pub counted : NoCountFell old new

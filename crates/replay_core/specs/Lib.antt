@@ -1,4 +1,5 @@
 pub mod Volumes
+pub mod Ends
 pub mod Begun
 pub mod Refused
 pub mod Opened

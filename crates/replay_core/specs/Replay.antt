@@ -1,13 +1,13 @@
 -- What stands behind the pages' part of a recovery and the checkpoint.
-use Rattle.std.specs.Prelude.{◌≡◌, ◌⊎◌, IsTrue, List, length, Result, OnOk, OnErr, IfErr}
+use Rattle.std.specs.Prelude.{◌≡◌, ◌≤◌, ◌⊎◌, IsTrue, List, length, Result, OnOk, OnErr, IfErr}
 use Rattle.disk_core.specs.declared.log_disk.LogDisk as logs
 use Rattle.disk_core.specs.declared.page_disk.PageDisk as disks
 use Rattle.tx_events.specs.declared.record.Counters.{Counters}
 use Rattle.tx_events.specs.declared.record.Rec.{Rec}
 use Rattle.tx_events.specs.declared.refusal.Lock.TheVariants as locks
 use Rattle.wal_core.specs.declared.wal_log.WalLog.{WalLog}
-use Rattle.wal_core.specs.LogViews.{log_next}
-use Rattle.replay_core.specs.Banks.{AreRestored, AreRestoring, IsStoreRefusal}
+use Rattle.wal_core.specs.LogViews.{log_disk, log_next}
+use Rattle.replay_core.specs.Banks.{AreRestored, AreRestoring, IsStoreRefusal, NoCountFell}
 use Rattle.replay_core.specs.Begun.{AreEmpty, IsSettled}
 use Rattle.replay_core.specs.Opened.{LeavesLog, SettlesLog}
 use Rattle.replay_core.specs.Refused.{IsSettleRefusal}
@@ -30,3 +30,6 @@ module _ {L P : Type 0} {l : logs.Ghosts L} (p : disks.Ghosts P) where
     pub empty : IsTrue p.tells → OnOk result (AreEmpty p subtrans')
     pub left : IsTrue l.tells → IsTrue p.tells → OnErr result (AreRestoring p recs base xact xact' × ((log' ≡ log) ⊎ (AreRestored p recs base xact xact' × LeavesLog l base log log')))
     pub refused : IfErr result (IsReplayRefusal base log log' xact xact' subtrans subtrans')
+    pub log_counted : l.faults (log_disk log) ≤ l.faults (log_disk log')
+    pub xact_counted : NoCountFell p xact xact'
+    pub subtrans_counted : NoCountFell p subtrans subtrans'

@@ -2,6 +2,7 @@
 use Rattle.std.specs.Prelude.{◌≡◌, ℕ, List, None, Some, length, slice_get}
 use Rattle.disk_core.specs.declared.log_disk.LogDisk as logs
 use Rattle.disk_core.specs.declared.page_disk.PageDisk as disks
+use Rattle.disk_core.specs.Media.{EachCrashed, LogCrashed, PagesCrashed}
 use Rattle.tx_events.specs.declared.record.Counters.{Counters}
 use Rattle.recoverable.specs.Fit.{KeptLog}
 use Rattle.recoverable.specs.LifeBase.{LifeBase}
@@ -30,3 +31,8 @@ module _ {L P : Type 0} (l : logs.Ghosts L) (p : disks.Ghosts P) where
   -- Where it answers an error, they fit what a later recovery may go on from.
   abbrev pub LeavesFit : List P → L → List P → KeptLog → Type 0
   LeavesFit xact new xact' log = NotRecovered (length xact) log (IsLeft new xact')
+
+  -- What fits a log fits it behind a crash, too, which leaves each volume as one of its images.
+  abbrev pub CrashKeepsFit : Type 0
+  CrashKeepsFit = (kept : KeptLog) (old new : L) (xact xact' : List P) → LogCrashed l.reads l.images l.faults old new
+      → EachCrashed (PagesCrashed p.pages p.images p.faults) xact xact' → Fit kept old xact → Fit kept new xact'

@@ -5,6 +5,7 @@
 mod banks;
 mod cluster;
 mod found;
+pub mod laws;
 mod recovery;
 mod refusal;
 mod settle;

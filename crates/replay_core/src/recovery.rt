@@ -5,6 +5,7 @@ ghost use Rattle.recoverable.specs.LifeBase.{committed_in};
 ghost use Rattle.xact_redo.specs.Redo.{AreNear};
 ghost use Rattle.xact_redo.specs.Restore.{IsWindow};
 ghost use Rattle.wal_core.specs.LogViews.{log_disk};
+ghost use Rattle.replay_core.specs.Banks.{NoCountFell};
 ghost use Rattle.replay_core.specs.Begun.{AreEmpty, AreOnDisk, IsSettled};
 ghost use Rattle.replay_core.specs.Opened.{IsOpen};
 ghost use Rattle.replay_core.specs.Refused.{HasNoMultis, IsRefusal};
@@ -45,6 +46,8 @@ pub fn recover<L: LogDisk + Drop, P: PageDisk + Drop>(
     ensures parents { IsTrue P.tells → IfOk result (λ r. AreEmpty P.PageDisk r.subtrans.items) }
     ensures banks { IfOk result (λ r. (length r.xact.items ≡ length volumes.xact.items) × (length r.subtrans.items ≡ length volumes.subtrans.items)) }
     ensures banks_err { IfErr result (λ e. (length e.0.xact.items ≡ length volumes.xact.items) × (length e.0.subtrans.items ≡ length volumes.subtrans.items)) }
+    ensures counted { IfOk result (λ r. (L.faults volumes.log ≤ L.faults (log_disk r.log)) × NoCountFell P.PageDisk volumes.xact.items r.xact.items
+        × NoCountFell P.PageDisk volumes.subtrans.items r.subtrans.items) }
     // Each refusal has its cause, and where the log is new or has a multixact there is one.
     ensures only { IsTrue L.tells → IfOk result (λ r. HasNoMultis (L.reads volumes.log)) }
     ensures refused { IfErr result (λ e. IsRefusal L.LogDisk P.PageDisk volumes e.0 e.1) }

@@ -18,6 +18,7 @@ returns-in-Ok g c =
       shows = λ told. subst (λ r. OnOk r (RestoresAll (IsNamed c.args.share.now base.oldest (committed_in recs)) base.next (bytes_on p disk) (bytes_on p now))) c.in-Ok.is (e.shows told);
       durable = λ told. subst (λ r. OnOk r (HasBytesOnDisk p now)) c.in-Ok.is (e.durable told);
       cause = tt;
+      count = e.count;
     })
 
 pub returns-in-Err : goal.returns-in-Err
@@ -31,4 +32,5 @@ returns-in-Err g c =
       shows = λ told. tt;
       durable = λ told. tt;
       cause = states_cause p c.args.share.now.bank c.in-Err.refusal c.refusal_at.result disk now c.refusal_at.ensures (λ q. e.fault (c.in-Err.is ∙ ap Err q));
+      count = e.count;
     })

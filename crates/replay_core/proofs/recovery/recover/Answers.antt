@@ -1,9 +1,10 @@
-use Rattle.std.proofs.Common.{Err, List, Ok, Some, ap, subst, sym, ◌∙◌, ◌≡◌}
+use Rattle.std.proofs.Common.{Err, List, Ok, Some, ap, arith, subst, sym, ◌∙◌, ◌≡◌, ◌≤◌}
 use Rattle.std.specs.List.{slice_get}
 use Rattle.tx_events.specs.declared.record.Rec.{Rec}
 use Rattle.recoverable.specs.LifeBase.{committed_in}
 use Rattle.wal_core.specs.LogViews.{log_disk, log_first, log_next}
 use Rattle.xact_redo.specs.Redo.{AreNear}
+use Rattle.replay_core.specs.Banks.{NoCountFell}
 use Rattle.replay_core.specs.Replay.{Replays}
 use Rattle.replay_core.specs.Volumes.{LeavesFit, Recovers}
 use Rattle.replay_core.proofs.Joining.{ends_within, still_fits}
@@ -55,3 +56,13 @@ returns-clause-states g c told bank disk at =
 
 pub returns-clause-parents : goal.returns-clause-parents
 returns-clause-parents g c told bank disk at = c.in_default.ensures.empty told bank disk (subst (λ z. slice_get z.items bank ≡ Some disk) c.begun.ensures.subtrans at)
+
+pub returns-clause-counted : goal.returns-clause-counted
+returns-clause-counted g c =
+    let l = g.L.LogDisk in let p = g.P.PageDisk in let v = c.args.volumes in let r = c.in_default.ensures in let b = c.begun.ensures in
+    let up = c.in-Ok.ensures.found.count in
+    let more = r.log_counted in (
+      subst (λ z. l.faults v.log ≤ l.faults (log_disk z)) (sym b.log) (omega (arith, up, more)),
+      subst (λ z. NoCountFell p v.xact.items z.items) (sym b.xact) r.xact_counted,
+      subst (λ z. NoCountFell p v.subtrans.items z.items) (sym b.subtrans) r.subtrans_counted,
+    )

@@ -15,4 +15,4 @@ returns-in_err-empty_all g c =
 pub returns : goal.returns
 returns g c =
     all_replayed g.P.PageDisk c.args.recs.now c.args.base.now c.args.log.now c.args.xact.now.items c.restore_all.new.volumes.items c.args.subtrans.now.items c.settle.new.log c.empty_all.new.volumes.items c.settle.result
-    c.in_ok-restore_all.ensures c.in_ok-empty_all.ensures c.settle.ensures.settled c.settle.ensures.kept c.settle.ensures.left c.settle.ensures.refused
+    c.in_ok-restore_all.ensures c.in_ok-empty_all.ensures c.settle.ensures.settled c.settle.ensures.kept c.settle.ensures.left c.settle.ensures.refused c.settle.ensures.count

@@ -168,6 +168,35 @@ fn two_take_turns<R: Threads + Wait + Sync>(
     Ok((a?, b?))
 }
 
+// Four members take turns, each in a thread of its own. What they did together.
+fn four_take_turns<R: Threads + Wait + Sync>(
+    rt: &R,
+    alloc: Global,
+    list: &GroupList,
+    a: Member,
+    b: Member,
+    c: Member,
+    d: Member,
+    turns: u32,
+) -> Result<Counts, Memory>
+    requires first { IsIdle list.now a × IsIdle list.now b }
+    requires second { IsIdle list.now c × IsIdle list.now d }
+    requires size { members_of list.now ≡ MEMBERS }
+{
+    let (two, others) = join(
+        rt,
+        || -> Result<(Played, Played), Memory>
+            requires { IsIdle list.now a × IsIdle list.now b × (members_of list.now ≡ MEMBERS) }
+        { two_take_turns(rt, alloc, list, a, b, turns) },
+        || -> Result<(Played, Played), Memory>
+            requires { IsIdle list.now c × IsIdle list.now d × (members_of list.now ≡ MEMBERS) }
+        { two_take_turns(rt, alloc, list, c, d, turns) },
+    );
+    let (a, b) = two?;
+    let (c, d) = others?;
+    Ok(a.counts.and(b.counts).and(c.counts).and(d.counts))
+}
+
 // Whether the list is empty: the member joins as the leader of a batch of its own.
 fn finds_no_one<R: Wait>(
     rt: &R,
@@ -214,20 +243,7 @@ pub fn all_take_turns<R: Threads + Wait + Sync>(
             let (a, b) = two_take_turns(rt, alloc, &list, a, b, turns)?;
             (2, a.counts.and(b.counts))
         }
-        Threading::Four => {
-            let (two, others) = join(
-                rt,
-                || -> Result<(Played, Played), Memory>
-                    requires { IsIdle list a × IsIdle list b × (members_of list ≡ MEMBERS) }
-                { two_take_turns(rt, alloc, &list, a, b, turns) },
-                || -> Result<(Played, Played), Memory>
-                    requires { IsIdle list c × IsIdle list d × (members_of list ≡ MEMBERS) }
-                { two_take_turns(rt, alloc, &list, c, d, turns) },
-            );
-            let (a, b) = two?;
-            let (c, d) = others?;
-            (4, a.counts.and(b.counts).and(c.counts).and(d.counts))
-        }
+        Threading::Four => (4, four_take_turns(rt, alloc, &list, a, b, c, d, turns)?),
     };
     let empty = finds_no_one(rt, alloc, &list, &mut first)?;
     Ok(Outcome {

@@ -30,18 +30,39 @@ see_multi_in ws = do
   m ← stored_in 1 two.1
   Ok (commands.SeeMulti name (record { number = m }))
 
+abbrev pub snap_in : List (List ℕ) → Result Command Kind
+snap_in ws = only_name ws >>= λ name. Ok (commands.Snap name)
+
+abbrev pub drop_in : List (List ℕ) → Result Command Kind
+drop_in ws = only_name ws >>= λ name. Ok (commands.DropSnap name)
+
+abbrev pub status_in : List (List ℕ) → Result Command Kind
+status_in ws = one_of ws >>= asked_id_in >>= λ x. Ok (commands.Status x)
+
+abbrev pub did_in : List (List ℕ) → Result Command Kind
+did_in ws = one_of ws >>= stored_in 0 >>= λ x. Ok (commands.Did (record { number = x }))
+
+abbrev pub members_in : List (List ℕ) → Result Command Kind
+members_in ws = pairs_in ws >>= λ members. Ok (commands.Multi members)
+
+abbrev pub freeze_in : List (List ℕ) → Result Command Kind
+freeze_in ws = one_of ws >>= id_in >>= λ x. Ok (commands.Freeze x)
+
+abbrev pub multi_freeze_in : List (List ℕ) → Result Command Kind
+multi_freeze_in ws = one_of ws >>= multi_in >>= λ m. Ok (commands.MultiFreeze m)
+
 -- a command whose words are names and numbers, by its own word
 unfoldable pub long_command : List ℕ → List (List ℕ) → Result Command Kind
 long_command w ws =
-    cond (bytes_eq w (codes "snap")) (only_name ws >>= λ name. Ok (commands.Snap name))
-    (cond (bytes_eq w (codes "drop")) (only_name ws >>= λ name. Ok (commands.DropSnap name))
+    cond (bytes_eq w (codes "snap")) (snap_in ws)
+    (cond (bytes_eq w (codes "drop")) (drop_in ws)
     (cond (bytes_eq w (codes "see")) (see_in ws)
-    (cond (bytes_eq w (codes "status")) (one_of ws >>= asked_id_in >>= λ x. Ok (commands.Status x))
-    (cond (bytes_eq w (codes "did")) (one_of ws >>= stored_in 0 >>= λ x. Ok (commands.Did (record { number = x })))
-    (cond (bytes_eq w (codes "multi")) (pairs_in ws >>= λ members. Ok (commands.Multi members))
+    (cond (bytes_eq w (codes "status")) (status_in ws)
+    (cond (bytes_eq w (codes "did")) (did_in ws)
+    (cond (bytes_eq w (codes "multi")) (members_in ws)
     (cond (bytes_eq w (codes "seemulti")) (see_multi_in ws)
-    (cond (bytes_eq w (codes "freeze")) (one_of ws >>= id_in >>= λ x. Ok (commands.Freeze x))
-    (cond (bytes_eq w (codes "multifreeze")) (one_of ws >>= multi_in >>= λ m. Ok (commands.MultiFreeze m))
+    (cond (bytes_eq w (codes "freeze")) (freeze_in ws)
+    (cond (bytes_eq w (codes "multifreeze")) (multi_freeze_in ws)
     (Err kinds.Command)))))))))
 
 -- any command, by its own word

@@ -3,7 +3,8 @@ ghost use Rattle.std.specs.Prelude.{◌≡◌};
 ghost use Rattle.tx_model.specs.declared.command.Command.{Command};
 ghost use Rattle.script_lines.specs.LineWords.{words_in};
 ghost use Rattle.script_lines.specs.Kinds.{Gives, seen};
-ghost use Rattle.script_lines.specs.Commands.{alone, only_name, see_in, see_multi_in, long_command, command_in, command_at};
+ghost use Rattle.script_lines.specs.Commands.{alone, only_name, see_in, see_multi_in, snap_in, drop_in, status_in, did_in, members_in, freeze_in, multi_freeze_in};
+ghost use Rattle.script_lines.specs.Commands.{long_command, command_in, command_at};
 
 use crate::argument::{asked_id_in, id_in, multi_in, name_in, none_of, one_of, stored_in, two_of};
 use crate::kind::{Kind, Stop};
@@ -52,44 +53,93 @@ fn see_multi_in(rest: &[u8]) -> Result<Command, Kind>
     Ok(Command::SeeMulti { name, multi })
 }
 
+fn snap_in(rest: &[u8]) -> Result<Command, Kind>
+    ensures { result ≡ snap_in (words_in rest.now) }
+{
+    let name = only_name(rest)?;
+    Ok(Command::Snap { name })
+}
+
+fn drop_in(rest: &[u8]) -> Result<Command, Kind>
+    ensures { result ≡ drop_in (words_in rest.now) }
+{
+    let name = only_name(rest)?;
+    Ok(Command::DropSnap { name })
+}
+
+fn status_in(rest: &[u8]) -> Result<Command, Kind>
+    ensures { result ≡ status_in (words_in rest.now) }
+{
+    let x = asked_id_in(one_of(rest)?)?;
+    Ok(Command::Status { x })
+}
+
+fn did_in(rest: &[u8]) -> Result<Command, Kind>
+    ensures { result ≡ did_in (words_in rest.now) }
+{
+    let number = stored_in(0, one_of(rest)?)?;
+    Ok(Command::Did { x: Xid { number } })
+}
+
+fn members_in(alloc: Global, rest: &[u8]) -> Result<Command, Stop>
+    ensures { Gives (λ c. c) result (members_in (words_in rest.now)) }
+{
+    let members = pairs_in(alloc, rest)?;
+    Ok(Command::Multi { members })
+}
+
+fn freeze_in(rest: &[u8]) -> Result<Command, Kind>
+    ensures { result ≡ freeze_in (words_in rest.now) }
+{
+    let oldest = id_in(one_of(rest)?)?;
+    Ok(Command::Freeze { oldest })
+}
+
+fn multi_freeze_in(rest: &[u8]) -> Result<Command, Kind>
+    ensures { result ≡ multi_freeze_in (words_in rest.now) }
+{
+    let multi = multi_in(one_of(rest)?)?;
+    Ok(Command::MultiFreeze { multi })
+}
+
+/// The same, where want of memory may be told too.
+fn told(command: Result<Command, Kind>) -> Result<Command, Stop>
+    ensures { Gives (λ c. c) result command }
+{
+    Ok(command?)
+}
+
 /// A command whose words are names and numbers.
 #[tactic(auto, unfolding(crate::specs::Commands::long_command))]
 fn long_command(alloc: Global, word: &[u8], rest: &[u8]) -> Result<Command, Stop>
     ensures { Gives (λ c. c) result (long_command word.now (words_in rest.now)) }
 {
     if word == b"snap".as_slice() {
-        let name = only_name(rest)?;
-        return Ok(Command::Snap { name });
+        return told(snap_in(rest));
     }
     if word == b"drop".as_slice() {
-        let name = only_name(rest)?;
-        return Ok(Command::DropSnap { name });
+        return told(drop_in(rest));
     }
     if word == b"see".as_slice() {
-        return Ok(see_in(rest)?);
+        return told(see_in(rest));
     }
     if word == b"status".as_slice() {
-        let x = asked_id_in(one_of(rest)?)?;
-        return Ok(Command::Status { x });
+        return told(status_in(rest));
     }
     if word == b"did".as_slice() {
-        let number = stored_in(0, one_of(rest)?)?;
-        return Ok(Command::Did { x: Xid { number } });
+        return told(did_in(rest));
     }
     if word == b"multi".as_slice() {
-        let members = pairs_in(alloc, rest)?;
-        return Ok(Command::Multi { members });
+        return members_in(alloc, rest);
     }
     if word == b"seemulti".as_slice() {
-        return Ok(see_multi_in(rest)?);
+        return told(see_multi_in(rest));
     }
     if word == b"freeze".as_slice() {
-        let oldest = id_in(one_of(rest)?)?;
-        return Ok(Command::Freeze { oldest });
+        return told(freeze_in(rest));
     }
     if word == b"multifreeze".as_slice() {
-        let multi = multi_in(one_of(rest)?)?;
-        return Ok(Command::MultiFreeze { multi });
+        return told(multi_freeze_in(rest));
     }
     Err(Stop::Fault(Kind::Command))
 }

@@ -49,6 +49,55 @@ fn too_old<R: Abort>(rt: &R, number: u64) -> Result<Held, Refusal> {
     })
 }
 
+/// The next multixact, with members of these modes, is this one, without a warning.
+fn expect_given<R: Abort + AllocGlobal>(
+    rt: &R,
+    driver: &mut Driver,
+    modes: &[Mode],
+    number: u64,
+    offset: u64,
+) {
+    assert!(rt;
+        driver.next(rt, modes) == gives(rt, number, offset),
+        "at {number}"
+    );
+}
+
+/// A multixact of one member is answered so.
+fn expect_next<R: Abort + AllocGlobal>(
+    rt: &R,
+    driver: &mut Driver,
+    answer: Result<MultiGiven, Refusal>,
+) {
+    assert!(rt; driver.next(rt, &[Mode::Sh]) == answer);
+}
+
+/// The session's pin of this number is answered so.
+fn expect_hold<R: Abort>(
+    rt: &R,
+    driver: &mut Driver,
+    session: u32,
+    number: u32,
+    answer: Result<Held, Refusal>,
+) {
+    assert!(rt; driver.hold(rt, session, number) == answer, "at {number}");
+}
+
+/// The announcement of this oldest one is answered so.
+fn expect_raise<R: Abort>(
+    rt: &R,
+    driver: &mut Driver,
+    multi: u64,
+    offset: u64,
+    answer: Result<(), Refusal>,
+) {
+    assert!(rt; driver.raise(rt, multi, offset) == answer, "at {multi}");
+}
+
+fn expect_events<R: Abort>(rt: &R, driver: &Driver, count: usize) {
+    assert_eq!(rt; driver.multis.events().len(), count);
+}
+
 #[test]
 fn members_stop_at_the_limit_of_their_offsets(rt: HostRuntime) {
     let mut driver = Driver::new(
@@ -60,15 +109,16 @@ fn members_stop_at_the_limit_of_their_offsets(rt: HostRuntime) {
             oldest_offset: 1,
         },
     );
-    assert!(rt; driver.next(&rt, &[Mode::Sh]) == gives(&rt, 2, 1_073_689_470));
-    assert!(rt;
-        driver.next(&rt, &[Mode::Sh])
-            == Err(Refusal::MemberStop {
-                next: 1_073_689_471,
-                stop: 1_073_689_472
-            })
+    expect_given(&rt, &mut driver, &[Mode::Sh], 2, 1_073_689_470);
+    expect_next(
+        &rt,
+        &mut driver,
+        Err(Refusal::MemberStop {
+            next: 1_073_689_471,
+            stop: 1_073_689_472,
+        }),
     );
-    assert_eq!(rt; driver.multis.events().len(), 1);
+    expect_events(&rt, &driver, 1);
 }
 
 #[test]
@@ -83,8 +133,12 @@ fn multixacts_stop_at_their_limit(rt: HostRuntime) {
         },
     );
     let stop = multi(&rt, 2_144_483_648);
-    assert!(rt; driver.next(&rt, &[Mode::Sh]) == Err(Refusal::MultiStop { next: stop, stop }));
-    assert_eq!(rt; driver.multis.events().len(), 0);
+    expect_next(
+        &rt,
+        &mut driver,
+        Err(Refusal::MultiStop { next: stop, stop }),
+    );
+    expect_events(&rt, &driver, 0);
 }
 
 #[test]
@@ -98,13 +152,13 @@ fn multixacts_warn_before_they_stop(rt: HostRuntime) {
             oldest_offset: 1,
         },
     );
-    assert!(rt; driver.next(&rt, &[Mode::Sh]) == gives(&rt, 2_107_483_647, 1));
+    expect_given(&rt, &mut driver, &[Mode::Sh], 2_107_483_647, 1);
     let warned = MultiGiven {
         multi: multi(&rt, 2_107_483_648),
         offset: 2,
         warn: true,
     };
-    assert!(rt; driver.next(&rt, &[Mode::Sh]) == Ok(warned));
+    expect_next(&rt, &mut driver, Ok(warned));
 }
 
 #[test]
@@ -118,8 +172,14 @@ fn no_members_begin_where_the_stored_offset_would_be_zero(rt: HostRuntime) {
             oldest_offset: 4_294_967_296,
         },
     );
-    assert!(rt; driver.next(&rt, &[Mode::KeySh, Mode::Upd]) == gives(&rt, 1, 4_294_967_297));
-    assert!(rt; driver.next(&rt, &[Mode::KeySh]) == gives(&rt, 2, 4_294_967_299));
+    expect_given(
+        &rt,
+        &mut driver,
+        &[Mode::KeySh, Mode::Upd],
+        1,
+        4_294_967_297,
+    );
+    expect_given(&rt, &mut driver, &[Mode::KeySh], 2, 4_294_967_299);
 }
 
 #[test]
@@ -133,11 +193,21 @@ fn multixacts_wrap_around(rt: HostRuntime) {
             oldest_offset: 5,
         },
     );
-    assert!(rt; driver.next(&rt, &[Mode::Sh]) == gives(&rt, 4_294_967_295, 7));
-    assert!(rt; driver.next(&rt, &[Mode::Sh]) == gives(&rt, 4_294_967_297, 8));
-    assert!(rt; driver.hold(&rt, 1, 1) == pins(&rt, 4_294_967_297, true, 9, Some(8), 7));
-    assert!(rt;
-        driver.hold(&rt, 1, 4_294_967_295) == pins(&rt, 4_294_967_295, false, 9, Some(7), 7)
+    expect_given(&rt, &mut driver, &[Mode::Sh], 4_294_967_295, 7);
+    expect_given(&rt, &mut driver, &[Mode::Sh], 4_294_967_297, 8);
+    expect_hold(
+        &rt,
+        &mut driver,
+        1,
+        1,
+        pins(&rt, 4_294_967_297, true, 9, Some(8), 7),
+    );
+    expect_hold(
+        &rt,
+        &mut driver,
+        1,
+        4_294_967_295,
+        pins(&rt, 4_294_967_295, false, 9, Some(7), 7),
     );
 }
 
@@ -152,27 +222,27 @@ fn pins_of_two_sessions_hold_back_the_oldest(rt: HostRuntime) {
             oldest_offset: 1,
         },
     );
-    assert!(rt; driver.next(&rt, &[Mode::Sh, Mode::Sh]) == gives(&rt, 1, 1));
-    assert!(rt; driver.next(&rt, &[Mode::Sh]) == gives(&rt, 2, 3));
-    assert!(rt; driver.next(&rt, &[Mode::Sh]) == gives(&rt, 3, 4));
-    assert!(rt; driver.hold(&rt, 1, 2) == pins(&rt, 2, false, 5, Some(3), 1));
-    assert!(rt; driver.hold(&rt, 2, 2) == pins(&rt, 2, false, 5, Some(3), 1));
-    assert!(rt; driver.raise(&rt, 3, 4) == held_back(&rt, 2));
-    assert!(rt; driver.raise(&rt, 2, 3) == Ok(()));
-    assert!(rt; driver.raise(&rt, 1, 1) == Err(Refusal::Backward { now: 2 }));
+    expect_given(&rt, &mut driver, &[Mode::Sh, Mode::Sh], 1, 1);
+    expect_given(&rt, &mut driver, &[Mode::Sh], 2, 3);
+    expect_given(&rt, &mut driver, &[Mode::Sh], 3, 4);
+    expect_hold(&rt, &mut driver, 1, 2, pins(&rt, 2, false, 5, Some(3), 1));
+    expect_hold(&rt, &mut driver, 2, 2, pins(&rt, 2, false, 5, Some(3), 1));
+    expect_raise(&rt, &mut driver, 3, 4, held_back(&rt, 2));
+    expect_raise(&rt, &mut driver, 2, 3, Ok(()));
+    expect_raise(&rt, &mut driver, 1, 1, Err(Refusal::Backward { now: 2 }));
     driver.unhold(&rt, 1, 2);
     assert!(rt; !driver.multis.holds(1, multi(&rt, 2)));
     assert!(rt; driver.multis.holds(2, multi(&rt, 2)));
-    assert!(rt; driver.raise(&rt, 4, 5) == held_back(&rt, 2));
+    expect_raise(&rt, &mut driver, 4, 5, held_back(&rt, 2));
     driver.unhold(&rt, 2, 2);
-    assert!(rt; driver.raise(&rt, 5, 9) == held_back(&rt, 4));
-    assert!(rt; driver.raise(&rt, 4, 5) == Ok(()));
+    expect_raise(&rt, &mut driver, 5, 9, held_back(&rt, 4));
+    expect_raise(&rt, &mut driver, 4, 5, Ok(()));
     let now = driver.multis.counters();
     assert_eq!(rt; now.multi.number(), 4);
     assert_eq!(rt; now.offset, 5);
     assert_eq!(rt; now.oldest_multi.number(), 4);
     assert_eq!(rt; now.oldest_offset, 5);
-    assert_eq!(rt; driver.multis.events().len(), 9);
+    expect_events(&rt, &driver, 9);
 }
 
 #[test]
@@ -189,9 +259,9 @@ fn a_session_may_pin_one_twice(rt: HostRuntime) {
     assert!(rt; driver.hold(&rt, 1, 5).is_ok());
     assert!(rt; driver.hold(&rt, 1, 5).is_ok());
     driver.unhold(&rt, 1, 5);
-    assert!(rt; driver.raise(&rt, 6, 60) == held_back(&rt, 5));
+    expect_raise(&rt, &mut driver, 6, 60, held_back(&rt, 5));
     driver.unhold(&rt, 1, 5);
-    assert!(rt; driver.raise(&rt, 6, 60) == Ok(()));
+    expect_raise(&rt, &mut driver, 6, 60, Ok(()));
 }
 
 #[test]
@@ -205,18 +275,33 @@ fn a_pin_tells_where_members_are(rt: HostRuntime) {
             oldest_offset: 50,
         },
     );
-    assert!(rt; driver.hold(&rt, 1, 4) == too_old(&rt, 5));
-    assert!(rt; driver.hold(&rt, 1, 4_294_967_295) == too_old(&rt, 5));
-    assert!(rt;
-        driver.hold(&rt, 1, 10)
-            == Err(Refusal::MultiFuture {
-                next: multi(&rt, 10)
-            })
+    expect_hold(&rt, &mut driver, 1, 4, too_old(&rt, 5));
+    expect_hold(&rt, &mut driver, 1, 4_294_967_295, too_old(&rt, 5));
+    expect_hold(
+        &rt,
+        &mut driver,
+        1,
+        10,
+        Err(Refusal::MultiFuture {
+            next: multi(&rt, 10),
+        }),
     );
-    assert!(rt; driver.hold(&rt, 1, 9) == pins(&rt, 9, true, 100, None, 100));
-    assert!(rt; driver.next(&rt, &[Mode::Sh, Mode::Sh, Mode::ForUpd]) == gives(&rt, 10, 100));
-    assert!(rt; driver.hold(&rt, 1, 9) == pins(&rt, 9, false, 103, None, 100));
-    assert!(rt; driver.hold(&rt, 1, 10) == pins(&rt, 10, true, 103, Some(100), 100));
+    expect_hold(&rt, &mut driver, 1, 9, pins(&rt, 9, true, 100, None, 100));
+    expect_given(
+        &rt,
+        &mut driver,
+        &[Mode::Sh, Mode::Sh, Mode::ForUpd],
+        10,
+        100,
+    );
+    expect_hold(&rt, &mut driver, 1, 9, pins(&rt, 9, false, 103, None, 100));
+    expect_hold(
+        &rt,
+        &mut driver,
+        1,
+        10,
+        pins(&rt, 10, true, 103, Some(100), 100),
+    );
 }
 
 #[test]

@@ -1,6 +1,7 @@
 //! A report read back, exactly: `read_report` is the inverse of `print_report`.
 #![tactic(auto)]
 
+mod growing;
 mod law;
 mod naming;
 mod read;

@@ -5,6 +5,7 @@ ghost use Rattle.report_words.specs.Words.{behind};
 ghost use Rattle.report_read.specs.Grammar.{begins_step, is_round, steps_told};
 ghost use Rattle.report_read.specs.Taking.{AreFew, IsNoStep, IsRefused, IsTaken, note_some, pending_name, said_name};
 
+use crate::growing::Growing;
 use crate::naming::{may_speak, note, note_turn};
 use crate::told::{Stage, Told};
 use crate::words::{pending_name, said_name};
@@ -12,14 +13,13 @@ use report_lines::{is_history, is_round, read_line, read_step};
 use report_text::Text;
 use report_words::Unread;
 use std::alloc::Global;
-use std::mem;
-use tx_model::{EventList, LineList, Memory, NameList, Sequence, Step};
+use tx_model::{Memory, NameList, Sequence, Step};
 
 /// The round that has spoken becomes a step.
 fn close_round(alloc: Global, told: &mut Told) -> Result<(), Memory>
     ensures { OnOk result (told.new ≡ record told.old { steps = steps_told told.old.stage told.old; lines = [] }) }
 {
-    let lines = mem::replace(&mut told.lines, LineList::new(alloc));
+    let lines = told.lines.finish(alloc);
     match told.stage {
         Stage::Spoken => told.steps.push(Step::Round {
             number: told.round,
@@ -145,7 +145,7 @@ fn take_unsaid(alloc: Global, out: &mut Text, told: &mut Told, line: &[u8]) -> R
     }
     if is_history(&line[1..]) {
         close_round(alloc, told)?;
-        told.events = EventList::new(alloc);
+        told.events = Growing::new(alloc);
         told.stage = Stage::History;
         return Ok(());
     }

@@ -5,6 +5,7 @@ ghost use Rattle.report_read.specs.Grammar.{begins_step, is_opening, is_round, l
 ghost use Rattle.report_read.specs.Taking.{AreFew, IsRefused, IsTaken};
 ghost use Rattle.report_read.specs.declared.told.Stage.TheVariants as stages;
 
+use crate::growing::Growing;
 use crate::naming::note;
 use crate::steps::take_step;
 use crate::told::{Stage, Told};
@@ -16,10 +17,7 @@ use report_lines::{
 use report_text::Text;
 use report_words::Unread;
 use std::alloc::Global;
-use std::mem;
-use tx_model::{
-    EventList, How, IdList, Life, LifeReport, Memory, MultiEventList, RecList, StepList,
-};
+use tx_model::{How, IdList, Life, LifeReport, Memory, RecList};
 
 fn take_life(alloc: Global, out: &mut Text, told: &mut Told, line: &[u8]) -> Result<(), Unread>
     requires stage { told.old.stage ≡ stages.Between }
@@ -31,7 +29,7 @@ fn take_life(alloc: Global, out: &mut Text, told: &mut Told, line: &[u8]) -> Res
     let start = read_start(out, number, line)?;
     told.stage = Stage::Steps;
     told.start = start;
-    told.steps = StepList::new(alloc);
+    told.steps = Growing::new(alloc);
     told.round = 0;
     told.counts = [0; 64];
     Ok(())
@@ -46,7 +44,7 @@ fn take_event(alloc: Global, out: &mut Text, told: &mut Told, line: &[u8]) -> Re
 {
     if is_multis(&line[1..]) {
         told.stage = Stage::Multis;
-        told.multis = MultiEventList::new(alloc);
+        told.multis = Growing::new(alloc);
         return Ok(());
     }
     let name = second_word(&line[..line.len() - 1])?;
@@ -67,7 +65,7 @@ fn take_multi(alloc: Global, out: &mut Text, told: &mut Told, line: &[u8]) -> Re
         Ok(head) => {
             told.stage = Stage::Log;
             told.log = head;
-            told.recs = RecList::new(alloc);
+            told.recs = Growing::new(alloc);
             return Ok(());
         }
         Err(Unread::Memory) => return Err(Unread::Memory),
@@ -95,13 +93,13 @@ fn end_life(alloc: Global, told: &mut Told, crash: Option<How>) -> Result<(), Me
         base: told.start.base,
         committed: IdList::new(alloc),
         recorded: RecList::new(alloc),
-        events: mem::replace(&mut told.events, EventList::new(alloc)),
-        multis: mem::replace(&mut told.multis, MultiEventList::new(alloc)),
-        recs: mem::replace(&mut told.recs, RecList::new(alloc)),
+        events: told.events.finish(alloc),
+        multis: told.multis.finish(alloc),
+        recs: told.recs.finish(alloc),
         flushed: told.log.flushed,
         end: told.log.end,
     };
-    let steps = mem::replace(&mut told.steps, StepList::new(alloc));
+    let steps = told.steps.finish(alloc);
     told.lives.push(LifeReport { life, steps, crash })
 }
 

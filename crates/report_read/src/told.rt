@@ -4,11 +4,10 @@ ghost use Rattle.report_read.specs.Grammar.{after};
 ghost use Rattle.report_read.specs.Item as items;
 ghost use Rattle.report_read.specs.Reports.{nothing_told};
 
+use crate::growing::Growing;
 use report_lines::{LogHead, Start};
 use std::alloc::Global;
-use tx_model::{
-    Counters, EventList, LifeList, LineList, MultiEventList, NameList, RecList, Sequence, StepList,
-};
+use tx_model::{Counters, Event, LifeList, Line, MultiEvent, NameList, Rec, Sequence, Step};
 
 /// What may follow.
 #[derive(Clone, Copy, PartialEq, Eq)]
@@ -42,21 +41,21 @@ pub struct Told {
     pub lives: LifeList,
     pub start: Start,
     /// The steps that are complete.
-    pub steps: StepList,
+    pub steps: Growing<Step>,
     /// The number of the present round, 0 before the first.
     pub round: u64,
     /// The lines of the present round.
-    pub lines: LineList,
+    pub lines: Growing<Line>,
     /// How many commands each session had in this life.
     pub counts: [u64; 64],
     /// The session of the last command of the round.
     pub speaker: Option<u32>,
     /// The sessions that had commands in the round, by their first.
     pub spoken: Sequence<u32>,
-    pub events: EventList,
-    pub multis: MultiEventList,
+    pub events: Growing<Event>,
+    pub multis: Growing<MultiEvent>,
     pub log: LogHead,
-    pub recs: RecList,
+    pub recs: Growing<Rec>,
 }
 
 impl Told {
@@ -73,16 +72,16 @@ impl Told {
                 from: 0,
                 base: Counters::of_new_log(),
             },
-            steps: StepList::new(alloc),
+            steps: Growing::new(alloc),
             round: 0,
-            lines: LineList::new(alloc),
+            lines: Growing::new(alloc),
             counts: [0; 64],
             speaker: None,
             spoken: Sequence::new(alloc),
-            events: EventList::new(alloc),
-            multis: MultiEventList::new(alloc),
+            events: Growing::new(alloc),
+            multis: Growing::new(alloc),
             log: LogHead { flushed: 0, end: 0 },
-            recs: RecList::new(alloc),
+            recs: Growing::new(alloc),
         }
     }
 }

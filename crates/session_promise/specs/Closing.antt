@@ -1,7 +1,7 @@
 -- What the promises of all sessions make of a life that is over.
 use Rattle.engine_parts.specs.Sessions.{MayCall}
 use Rattle.engine_parts.specs.Holds.{Knowledge}
-use Rattle.std.specs.Prelude.{◌≡◌, ℕ, ◌^◌, ◌<◌, Bool, List, [], ◌∷◌, ◌++◌, length}
+use Rattle.std.specs.Prelude.{◌≡◌, ◌+◌, ℕ, ◌^◌, ◌<◌, Bool, List, [], ◌∷◌, ◌++◌, length}
 use Rattle.std.specs.List.{AllByRecursion, count_by, filter}
 use Rattle.notes.specs.Lists.{at}
 use Rattle.tx_events.specs.declared.record.Rec.TheVariants as records

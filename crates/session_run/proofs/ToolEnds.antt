@@ -83,7 +83,9 @@ module _ {L P : Type 0} (l : logs.Ghosts L) (p : disks.Ghosts P) where
   pub summed : (seed size : ℕ) (s : Script) (text : List ℕ) (first : ℕ → Volumes L P → Type 0) (gives : Volumes L P → Type 0) → s ≡ generated seed size
       → ((counts : IsSummaryOf p.tells s text) × LeavesVolumes l p (first s.banks) gives counts.lawful.life)
       → (n k : ℕ) × (tasks.Gen seed size ≡ tasks.Gen n k) × (counts : IsSummaryOf p.tells (generated n k) text) × LeavesVolumes l p (first (generated n k).banks) gives counts.lawful.life
-  summed seed size s text first gives same r = (seed, size, refl, subst (λ (z : Script). (counts : IsSummaryOf p.tells z text) × LeavesVolumes l p (first z.banks) gives counts.lawful.life) same r)
+  summed seed size s text first gives same r =
+      let t = subst (λ (z : Script). (counts : IsSummaryOf p.tells z text) × LeavesVolumes l p (first z.banks) gives counts.lawful.life) same r in
+      (seed, size, refl, t.0, t.1)
 
   pub unread_ends : (left left' : Option (List ℕ)) (faults faults' : ℕ) (first : ℕ → Volumes L P → Type 0) (before now : ℕ) (gives : Volumes L P → Type 0) (refusal : NoScript) → IsNoScriptOf left left' faults faults' refusal → Ends l p tasks.Run left left' faults faults' first before now gives (unread_by refusal)
   unread_ends left left' faults faults' first before now gives (no_scripts.Refused text) k = (refl, k)
@@ -193,9 +195,9 @@ module _ {L P : Type 0} (l : logs.Ghosts L) (p : disks.Ghosts P) (words : List (
   done e k w run = absurd (omega (arith, w.0))
 
   counted : (e : Ending) → Ended e → (status_of e ≡ 0) × Wrote e → (IsRun words → ⊥) → HoldsSummary
-  counted (endings.Report text) k w no = absurd (no (run_asked words task is k.0))
-  counted (endings.Summary text) k w no = (k.0, k.1, gen_by words task k.0 k.1 is k.2, record { text = text.items; counts = k.3; written = w.1 }, k.4)
-  counted e k w no = absurd (omega (arith, w.0))
+  counted (endings.Report text) k w other = absurd (other (run_asked words task is k.0))
+  counted (endings.Summary text) k w other = (k.0, k.1, gen_by words task k.0 k.1 is k.2, record { text = text.items; counts = k.3; written = w.1 }, k.4)
+  counted e k w other = absurd (omega (arith, w.0))
 
   script : (e : Ending) → Ended e → (status_of e ≡ 1) × Wrote e → IsRun words × IsRefused left left' held held'
   script (endings.NoScript text) k w = (run_asked words task is k.0, record { text = text.items; refusal = k.1; written = w.1 })
@@ -214,7 +216,7 @@ module _ {L P : Type 0} (l : logs.Ghosts L) (p : disks.Ghosts P) (words : List (
   memory e w = absurd (omega (arith, w.0))
 
   damaged : (e : Ending) → Ended e → (status_of e ≡ 7) × Wrote e → (at : ℕ) × Appends held held' (damage_text at) × IsUnrunBy l p words left left' first before now gives (no_lives.Damaged at)
-  damaged (endings.Damaged text) k w = (k.0, subst (Appends held held') k.1 w.1, task, is, k.2)
+  damaged (endings.Damaged text) k w = (k.0, subst (Appends held held') k.1 w.1, (task, is, k.2))
   damaged e k w = absurd (omega (arith, w.0))
 
   full : (e : Ending) → Ended e → (status_of e ≡ 9) × Wrote e → IsUnrunBy l p words left left' first before now gives no_lives.Full × Appends held held' (codes "log-full" ++ 10 ∷ [])
@@ -229,7 +231,7 @@ module _ {L P : Type 0} (l : logs.Ghosts L) (p : disks.Ghosts P) (words : List (
   says B status e k told =
       let at : (n : ℕ) → n ≢ 4 → status ≡ n → (status_of e ≡ n) × Wrote e = λ n other s. written (Appends held held') B status e told n s other in record {
         done = λ s run. done e k (at 0 (λ q. omega (arith, q)) s) run;
-        counted = λ s no. counted e k (at 0 (λ q. omega (arith, q)) s) no;
+        counted = λ s other. counted e k (at 0 (λ q. omega (arith, q)) s) other;
         script = λ s. script e k (at 1 (λ q. omega (arith, q)) s);
         refused = λ s. no_words e (at 2 (λ q. omega (arith, q)) s).0;
         read = λ s. read e k (at 3 (λ q. omega (arith, q)) s);

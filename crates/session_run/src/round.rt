@@ -1,5 +1,5 @@
 //! A round: its sessions are let in at the lock table, run on threads, and are taken back.
-ghost use Rattle.std.specs.Prelude.{◌≡◌, ℕ, List, ◌<◌, ◌≤◌, [], All, OnOk, false, get_or, length, vec_capacity};
+ghost use Rattle.std.specs.Prelude.{◌≡◌, ℕ, List, ◌<◌, ◌≤◌, [], ◌++◌, All, OnOk, false, get_or, length, vec_capacity};
 ghost use Rattle.hall.specs.Calls.{start_of, view};
 ghost use Rattle.tx_model.specs.declared.report.Line.{Line};
 ghost use Rattle.engine_host.specs.Hosts.{HoldsAllBut, IsHost, IsParked};
@@ -21,6 +21,15 @@ use std::sync::Wait;
 use std::thread::Threads;
 use std::{mem, thread};
 use tx_model::{Memory, NameList};
+
+// The laws of a keeper, where threads run too.
+fn keeper_laws<K: LineKeeper>(_names: &NameList)
+    ensures none { (kept : K) → K.with_lines _names.now kept [] ≡ kept }
+    ensures then { (kept : K) (lines more : List Line)
+        → K.with_lines _names.now (K.with_lines _names.now kept lines) more ≡ K.with_lines _names.now kept (lines ++ more) }
+    ensures join { (kept : K) (lines : List Line)
+        → K.joined kept (K.with_lines _names.now K.nothing lines) ≡ K.with_lines _names.now kept lines }
+{}
 
 /// Lets the sessions of a round in.
 fn let_in<K: LineKeeper, L: LogDisk, P: PageDisk>(
@@ -200,6 +209,7 @@ pub fn run_round<
         × WentRound hall.now (turns_in round.now) host.old host.new sessions.old sessions.new lines
         × (kept.new ≡ K.with_lines names.now kept.old lines)) }
 {
+    keeper_laws::<K>(names);
     let mut members = Vec::with_capacity(alloc, plan.sessions.len())?;
     let banks = host.cluster.banks;
     let_in(

@@ -49,10 +49,9 @@ take_back-requires-clause-others g c =
 pub returns-clause-went : goal.returns-clause-went
 returns-clause-went g c =
     let keep = g.K.LineKeeper in
-    let kind = g.met.K.LineKeeper in
     let h = c.args.hall.now in
     let names = c.args.names.now in
-    let laws : Keeps keep names = record { none = kind.no_lines names; then = kind.then_lines names; join = kind.join_lines names } in
+    let laws : Keeps keep names = record { none = c.keeper_laws.ensures.none; then = c.keeper_laws.ensures.then; join = c.keeper_laws.ensures.join } in
     let ran = c.run_members.new.members.items in
     let sent : AreSent keep h c.args.host.now c.args.sessions.now c.args.plan.now.sessions.items c.let_in.new.members.items = subst (λ ns. AreSent keep h c.args.host.now c.args.sessions.now ns c.let_in.new.members.items) c.as_slice.ensures.value c.let_in.ensures.sent in
     let stay : StayBehind h c.let_in.new.host c.args.plan.now.sessions.items c.args.sessions.now c.let_in.new.sessions = subst (λ ns. StayBehind h c.let_in.new.host ns c.args.sessions.now c.let_in.new.sessions) c.as_slice.ensures.value c.let_in.ensures.stay in

@@ -1,10 +1,10 @@
-use Rattle.std.proofs.Common.{IsTrue, ap, arith, length, refl, ◌<◌, ◌≡◌, ◌^◌, ◌∙◌}
+use Rattle.std.proofs.Common.{ap, arith, length, refl, ◌<◌, ◌≡◌, ◌^◌, ◌∙◌}
 use Rattle.std.proofs.lemmas.Result.{IfOk-weaker}
 use Rattle.std.specs.List.{flat_map}
 use Rattle.tx_model.specs.declared.report.LifeReport.{LifeReport}
 use Rattle.tx_model.specs.Rounds.{lines_in}
-use Rattle.wal_core.specs.LogViews.{log_disk}
 use Rattle.script_gen.specs.Counts.{summary_by, summary_text}
+use Rattle.script_rounds.specs.contracts.tally.TallyLineKeeper.TheImpl as tally_keeper
 use Rattle.script_rounds.specs.Counted.{verdicts_in}
 use Rattle.session_run.specs.Leaves.{HasLeft}
 use Rattle.session_run.specs.Runs.{cluster_of}
@@ -19,7 +19,7 @@ returns g c =
     let tally = c.run_life-closed.new.kept in
     let lived = rw c.in-Ok.is at c.run_life-closed.ensures.lived in
     let told = lived.0 in
-    let kept : tally ≡ flat_map lines_in told = kept_lines _ s.names c.none-tally.result tally told lived.2 c.none-tally.ensures (λ kept n. refl) (λ kept lines. refl) (λ kept dump. refl) in
+    let kept : tally ≡ flat_map lines_in told = kept_lines tally_keeper.ghosts s.names c.none-tally.result tally told lived.2 c.none-tally.ensures (λ kept n. refl) (λ kept lines. refl) (λ kept dump. refl) in
     let size = ap length kept in
     let few = lived.1.few in
     let long : length tally < 2 ^ 64 = omega (arith, size, few) in

@@ -3,6 +3,7 @@ use Rattle.std.proofs.lemmas.Result.{on_ok_weaker}
 use Rattle.tx_model.specs.declared.report.LifeReport.{LifeReport}
 use Rattle.report_text.specs.ReportText.{end_text, rest_text}
 use Rattle.engine_life.specs.Lives.{life_told}
+use Rattle.script_rounds.specs.contracts.keeper.TextLineKeeper.TheImpl as text_keeper
 use Rattle.session_run.specs.Leaves.{HasLeft}
 use Rattle.session_run.specs.Runs.{cluster_of}
 use Rattle.session_run.proofs.LifeTold.{rest_told}
@@ -18,7 +19,7 @@ returns g c =
       report = on_ok_weaker c.end_report-ended.result
           (λ exact. rest_told g.P.PageDisk.tells s _ lived.0 c.args.text.now c.run_life-closed.new.kept c.end_report-ended.new.out
           (λ (life : LifeReport). HasLeft g.L.LogDisk g.P.PageDisk (cluster_of s) c.args.life left life) lived.1
-          (kept_text _ s.names c.args.text.now c.run_life-closed.new.kept lived.0 lived.2 (λ text n. refl) (λ text lines. refl) (λ text dump. refl))
+          (kept_text text_keeper.ghosts s.names c.args.text.now c.run_life-closed.new.kept lived.0 lived.2 (λ text n. refl) (λ text lines. refl) (λ text dump. refl))
           (exact s.base [] [] ∙ ap (λ h. c.run_life-closed.new.kept ++ (rest_text s.names (life_told 0 s.base [] [] h left.log) None ++ end_text)) c.items.ensures) lived.3)
           c.end_report-ended.ensures.ok;
     }

@@ -13,8 +13,8 @@ pub returns-in-Ok-count_script-clause-ends : goal.returns-in-Ok-count_script-cla
 returns-in-Ok-count_script-clause-ends g c = λ left faults.
     summed g.M.Log.LogDisk g.M.Pages.PageDisk c.args.seed c.args.size c.in-Ok.script c.in-Ok-count_script.text.items HasBanks (g.M.Media.gives c.count_script.new.media) c.in-Ok.ensures c.in-Ok-count_script.ensures.counts
 
-pub returns-in-Err-count_script-clause-ends : goal.returns-in-Err-count_script-clause-ends
-returns-in-Err-count_script-clause-ends g c = λ left faults.
+pub returns-clause-ends : goal.returns-clause-ends
+returns-clause-ends g c = λ left faults.
     let m = g.M.Media in
     unopened_ends g.M.Log.LogDisk g.M.Pages.PageDisk (tasks.Gen c.args.seed c.args.size) left left faults faults HasBanks (m.faults c.args.media.now) (m.faults c.count_script.new.media) (m.gives c.count_script.new.media) c.in-Err-count_script.refusal c.unopened.result c.unopened.ensures
     (c.in-Ok.script, (c.in-Ok.ensures, refl), c.in-Err-count_script.ensures.refused)

@@ -3,3 +3,4 @@ pub mod Hosting
 pub mod Parking
 mod Refusing
 mod Counting
+mod Reopened

@@ -1,11 +1,12 @@
-//! The banks of a new cluster (`BootStrapCLOG` of `clog.c`, `BootStrapSUBTRANS` of `subtrans.c`).
-ghost use Rattle.std.specs.Prelude.{◌≡◌, ◌⊎◌, ◌<◌, ◌≤◌, IfErr, IfOk};
+//! The banks of a life that begins (`BootStrapCLOG` and `StartupCLOG` of `clog.c`, `BootStrapSUBTRANS` and
+//! `StartupSUBTRANS` of `subtrans.c`).
+ghost use Rattle.std.specs.Prelude.{◌≡◌, ◌⊎◌, ◌<◌, ◌≤◌, false, IfErr, IfOk, IsTrue};
 ghost use Rattle.disk_core.specs.Faults.{HasRisen};
-ghost use Rattle.slru_bank.specs.Calls.{faults_of};
+ghost use Rattle.slru_bank.specs.Calls.{faults_of, volume_of};
 ghost use Rattle.tx_events.specs.Base.{IsBase};
 ghost use Rattle.tx_events.specs.declared.refusal.Lock.TheVariants as locks;
 ghost use Rattle.engine_host.specs.declared.refusal.OpenRefusal.TheVariants as refusals;
-ghost use Rattle.engine_host.specs.Opening.{IsNewSubtrans, IsNewXact};
+ghost use Rattle.engine_host.specs.Opening.{Beginning, IsNewSubtrans, IsNewXact, ShowNothing, ShowStates, bytes_left};
 
 use crate::cluster::Cluster;
 use crate::refusal::OpenRefusal;
@@ -15,17 +16,23 @@ use std::alloc::Global;
 use store_pages::{SubtransPages, XactPages, subtrans_page, xact_page};
 use tx_events::Lock;
 
-// A bank of pg_xact. The pages that its volume has are removed; that of the next id counts as made.
-pub(crate) fn new_xact<P: PageDisk + Drop>(
+// A bank of pg_xact. In a new cluster the pages that its volume has are removed first. The page of the next id counts as
+// made.
+pub(crate) fn open_xact<P: PageDisk + Drop>(
     alloc: Global,
     disk: P,
     cluster: &Cluster,
     bank: u32,
+    removes: bool,
 ) -> Result<SlruBank<P, XactPages>, (P, OpenRefusal)>
+    ghost begins: { Beginning }
     requires base { IsBase cluster.now.base }
     requires inside { bank < cluster.now.banks }
-    ensures new { IfOk result (λ store. IsNewXact cluster.now bank store) }
+    requires shows { IsTrue P.tells → ShowStates cluster.now begins bank (bytes_left P.PageDisk removes disk) }
+    ensures new { IfOk result (λ store. IsNewXact cluster.now begins bank store) }
     ensures count { IfOk result (λ store. P.faults disk ≤ faults_of store) }
+    ensures same { removes ≡ false → IfOk result (λ store. volume_of store ≡ disk) }
+    ensures same_err { removes ≡ false → IfErr result (λ e. e.0 ≡ disk) }
     ensures refused { IfErr result (λ e. (e.1 ≡ refusals.Memory)
         ⊎ ((e.1 ≡ refusals.DiskFault (locks.Xact bank)) × HasRisen (P.faults disk) (P.faults e.0))) }
 {
@@ -35,6 +42,9 @@ pub(crate) fn new_xact<P: PageDisk + Drop>(
         Ok(store) => store,
         Err((disk, _)) => return Err((disk, OpenRefusal::Memory)),
     };
+    if !removes {
+        return Ok(store);
+    }
     match store.clear_all() {
         Ok(()) => Ok(store),
         Err(_) => Err((
@@ -47,16 +57,21 @@ pub(crate) fn new_xact<P: PageDisk + Drop>(
 }
 
 // So a bank of pg_subtrans.
-pub(crate) fn new_subtrans<P: PageDisk + Drop>(
+pub(crate) fn open_subtrans<P: PageDisk + Drop>(
     alloc: Global,
     disk: P,
     cluster: &Cluster,
     bank: u32,
+    removes: bool,
 ) -> Result<SlruBank<P, SubtransPages>, (P, OpenRefusal)>
+    ghost begins: { Beginning }
     requires base { IsBase cluster.now.base }
     requires inside { bank < cluster.now.banks }
-    ensures new { IfOk result (λ store. IsNewSubtrans cluster.now bank store) }
+    requires shows { IsTrue P.tells → ShowNothing (bytes_left P.PageDisk removes disk) }
+    ensures new { IfOk result (λ store. IsNewSubtrans cluster.now begins bank store) }
     ensures count { IfOk result (λ store. P.faults disk ≤ faults_of store) }
+    ensures same { removes ≡ false → IfOk result (λ store. volume_of store ≡ disk) }
+    ensures same_err { removes ≡ false → IfErr result (λ e. e.0 ≡ disk) }
     ensures refused { IfErr result (λ e. (e.1 ≡ refusals.Memory)
         ⊎ ((e.1 ≡ refusals.DiskFault (locks.Subtrans bank)) × HasRisen (P.faults disk) (P.faults e.0))) }
 {
@@ -66,6 +81,9 @@ pub(crate) fn new_subtrans<P: PageDisk + Drop>(
         Ok(store) => store,
         Err((disk, _)) => return Err((disk, OpenRefusal::Memory)),
     };
+    if !removes {
+        return Ok(store);
+    }
     match store.clear_all() {
         Ok(()) => Ok(store),
         Err(_) => Err((

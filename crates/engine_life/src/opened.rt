@@ -10,7 +10,8 @@ ghost use Rattle.engine_life.specs.Refusals.{IsNoLife, IsUnopened};
 use crate::life::{Aside, OpenLife};
 use crate::refusal::{NoLife, refusal_of};
 use disk_core::{LogDisk, Media, MountRefusal, PageDisk, Volumes};
-use engine_host::{Cluster, NewVolumes, Parts, TakenApart, make_table, open_new, take_apart};
+use engine_host::{Cluster, Parts, TakenApart, make_table, open_new, take_apart};
+use replay_core::ClusterVolumes;
 use std::alloc::{AllocError, Global};
 
 // The most locks that an engine has: those of 16 banks.
@@ -18,7 +19,7 @@ const MOST_LOCKS: usize = 67;
 
 // An engine's volumes, with those aside.
 fn together<L: LogDisk + Drop, P: PageDisk + Drop>(
-    volumes: NewVolumes<L, P>,
+    volumes: ClusterVolumes<L, P>,
     aside: Aside<P>,
 ) -> Volumes<L, P>
     ensures log { result.log ≡ volumes.log }
@@ -32,7 +33,7 @@ fn together<L: LogDisk + Drop, P: PageDisk + Drop>(
         members,
         ..
     } = aside;
-    let NewVolumes {
+    let ClusterVolumes {
         log,
         xact,
         subtrans,
@@ -138,7 +139,7 @@ fn open_over<L: LogDisk + Drop, P: PageDisk + Drop>(
         xact: xact_room,
         subtrans: subtrans_room,
     };
-    let volumes = NewVolumes {
+    let volumes = ClusterVolumes {
         log,
         xact,
         subtrans,

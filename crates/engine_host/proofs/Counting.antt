@@ -7,8 +7,6 @@ use Rattle.disk_core.specs.declared.log_disk.LogDisk as logs
 use Rattle.disk_core.specs.declared.page_disk.PageDisk as disks
 use Rattle.tx_core.specs.Locks.{subtrans_lock, xact_lock}
 use Rattle.tx_events.proofs.ListSteps.{le_or_over}
-use Rattle.replay_core.specs.Banks.{NoCountFell}
-use Rattle.replay_core.proofs.Rows.{had}
 use Rattle.wal_core.specs.declared.wal_log.WalLog.{WalLog}
 use Rattle.wal_core.specs.LogViews.{log_disk}
 use Rattle.engine_parts.specs.declared.part.Part.{Part}
@@ -107,19 +105,4 @@ module _ {L P : Type 0} (l : logs.Ghosts L) (p : disks.Ghosts P) where
         let now : get_or faults (subtrans_lock bank) 0 ≡ get_or (map faults_behind rest) (3 + 4 * bank) 0
         = ap (λ k. get_or faults k 0) place ∙ ap (λ (counts : List ℕ). get_or counts (suc (3 + 4 * bank)) 0) is in
         subst (λ k. p.faults v ≤ k) (sym now) (have.subtrans bank v low at);
-  }
-
-  -- nor below those that they had before, where no count fell since
-  pub counted_before : (disk disk' : L) (states states' parents parents' : List P) (faults : List ℕ) → length states' ≡ length states → length parents' ≡ length parents
-      → l.faults disk ≤ l.faults disk' → NoCountFell p states states' → NoCountFell p parents parents' → AreCounted l p disk' states' parents' faults → AreCounted l p disk states parents faults
-  counted_before disk disk' states states' parents parents' faults some others up states_up parents_up have = record {
-    log = let more = have.log in omega (arith, up, more);
-    xact = λ bank v at.
-        let now = had states' states (sym some) bank v at in
-        let more = states_up bank v now.0 at now.1 in
-        let have_it = have.xact bank now.0 now.1 in omega (arith, more, have_it);
-    subtrans = λ bank v at.
-        let now = had parents' parents (sym others) bank v at in
-        let more = parents_up bank v now.0 at now.1 in
-        let have_it = have.subtrans bank now.0 now.1 in omega (arith, more, have_it);
   }

@@ -1,6 +1,5 @@
-mod Starting
+pub mod Starting
 pub mod Hosting
 pub mod Parking
-mod Refusing
-mod Counting
-mod Reopened
+pub mod Refusing
+pub mod Counting

@@ -26,8 +26,8 @@ use Rattle.engine_parts.specs.Parts.{PartStands}
 use Rattle.engine_parts.specs.declared.part.Part.{Part}
 use Rattle.engine_parts.specs.declared.part.Part.TheVariants as parts
 use Rattle.engine_host.specs.declared.cluster.Cluster.{Cluster}
-use Rattle.replay_core.specs.declared.cluster.ClusterVolumes.{ClusterVolumes}
-use Rattle.replay_core.specs.Refused.{HasFailedAt}
+use Rattle.recoverable.specs.declared.cluster.ClusterVolumes.{ClusterVolumes}
+use Rattle.recoverable.specs.Clusters.{HasFailedAt}
 use Rattle.engine_host.specs.declared.refusal.OpenRefusal.{OpenRefusal}
 use Rattle.engine_host.specs.declared.refusal.OpenRefusal.TheVariants as refusals
 use Rattle.engine_host.specs.Refused.{AreInPlace, HaveDisks, IsBankRefusal, IsBeginRefusal, IsRefusal, IsStartRefusal, OpensEmpty, refusal_by, subtrans_disk, subtrans_disks, xact_disk, xact_disks}

@@ -15,9 +15,6 @@ use Rattle.tx_events.specs.declared.record.Counters.{Counters}
 use Rattle.tx_events.specs.declared.record.Rec.{Rec}
 use Rattle.tx_events.specs.declared.record.Rec.TheVariants as records
 use Rattle.wal_core.specs.Kept.{KeepsRecords}
-use Rattle.wal_core.specs.LogViews.{log_counters, log_disk, log_down, log_first, log_flushed, log_next, log_recs}
-use Rattle.wal_core.specs.declared.wal_log.WalLog.{WalLog}
-use Rattle.replay_core.specs.Begun.{IsSettled}
 use Rattle.wal_core.specs.Opening.{no_counters}
 use Rattle.tx_events.specs.Ids.{id_before, low_half}
 use Rattle.tx_core.specs.CleanStart.{CleanStart}
@@ -29,7 +26,7 @@ use Rattle.engine_parts.specs.declared.part.Part.TheVariants as parts
 use Rattle.engine_parts.specs.Parts.{PartStands}
 use Rattle.engine_parts.specs.Stand.{LogStands, SubtransStands, XactStands}
 use Rattle.engine_host.specs.declared.cluster.Cluster.{Cluster}
-use Rattle.engine_host.specs.Opening.{AllShowNothing, AllShowStates, AreNew, Beginning, IsBegunLog, IsNewPart, ShowNothing, ShowStates, bytes_left, faults_behind, life_from, new_life}
+use Rattle.engine_host.specs.Opening.{AllShowNothing, AllShowStates, AreNew, Beginning, IsNewPart, ShowNothing, ShowStates, bytes_left, faults_behind, life_from, new_life}
 
 -- ---- the log
 
@@ -58,13 +55,6 @@ log_begins c b tells faults images recs next first flushed counters down counts 
   count = count;
   kept = λ told. let k = keeps told in (k.0, k.1, subst (λ (t : List Rec). KeepsRecords k.0 t recs next first flushed images) (sym (append-nil k.1)) k.2);
 }
-
--- so a log that was recovered
-pub settled_begins : {D : Type 0} {g : logs.Ghosts D} (c : Cluster) (b : Beginning) (from : ℕ) (log : WalLog D g) → IsSettled from c.base log → b.number ≡ from → IsBegunLog c b log
-settled_begins {g = g} c b from log s is counts reached =
-    let next : from + 1 ≡ b.number + 1 = omega (arith, is) in
-    log_begins c b g.tells (g.faults (log_disk log)) (g.images (log_disk log)) (log_recs log) (log_next log) (log_first log) (log_flushed log) (log_counters log) (log_down log) counts
-    (s.recs ∙ ap (λ (n : ℕ). records.Checkpoint n c.base ∷ []) (sym is)) (s.next ∙ next) (s.flushed ∙ next) s.counters_are s.up reached s.keeps
 
 -- ---- the banks
 

@@ -2,4 +2,3 @@ pub mod Opening
 pub mod Hosts
 pub mod Refused
 pub mod Counted
-pub mod Reopening

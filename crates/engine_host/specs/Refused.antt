@@ -16,8 +16,8 @@ use Rattle.wal_core.specs.Opening.{opened}
 use Rattle.wal_records.specs.Spelling.{rec_bytes}
 use Rattle.tx_core.specs.declared.entry.Entry.{Entry}
 use Rattle.tx_core.specs.declared.entry.Start.{Start}
-use Rattle.replay_core.specs.declared.cluster.ClusterVolumes.{ClusterVolumes}
-use Rattle.replay_core.specs.Refused.{HasFailedAt}
+use Rattle.recoverable.specs.declared.cluster.ClusterVolumes.{ClusterVolumes}
+use Rattle.recoverable.specs.Clusters.{HasFailedAt}
 use Rattle.engine_parts.specs.Parts.{PartStands}
 use Rattle.engine_parts.specs.declared.part.Part.{Part}
 use Rattle.engine_parts.specs.declared.part.Part.TheVariants as parts

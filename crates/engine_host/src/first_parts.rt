@@ -9,7 +9,7 @@ use crate::cluster::{Cluster, Parts};
 use crate::first_log::{begin_log, start_log};
 use crate::refusal::OpenRefusal;
 use disk_core::{LogDisk, PageDisk};
-use replay_core::ClusterVolumes;
+use recoverable::ClusterVolumes;
 use std::alloc::Global;
 
 /// Makes the parts of a new cluster over volumes of which the log's has no record (`BootStrapXLOG` of `xlog.c`,

@@ -8,13 +8,12 @@ mod cluster;
 mod first_log;
 mod first_parts;
 mod host;
-mod old_parts;
 mod refusal;
 mod volumes;
 
+pub use building::{add_banks, first_locks, gather, taken_apart};
 pub use cluster::{Cluster, Parts};
 pub use first_parts::open_new;
 pub use host::{Host, admit, close, dismiss, make_table, new_session};
-pub use old_parts::open_old;
 pub use refusal::OpenRefusal;
 pub use volumes::{TakenApart, take_apart};

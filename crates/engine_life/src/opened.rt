@@ -11,7 +11,7 @@ use crate::life::{Aside, OpenLife};
 use crate::refusal::{NoLife, refusal_of};
 use disk_core::{LogDisk, Media, MountRefusal, PageDisk, Volumes};
 use engine_host::{Cluster, Parts, TakenApart, make_table, open_new, take_apart};
-use replay_core::ClusterVolumes;
+use recoverable::ClusterVolumes;
 use std::alloc::{AllocError, Global};
 
 // The most locks that an engine has: those of 16 banks.

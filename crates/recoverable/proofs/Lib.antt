@@ -21,3 +21,4 @@ pub mod LogSteps
 pub mod WorkedBank
 pub mod NewBegins
 pub mod Settled
+pub mod Crashed

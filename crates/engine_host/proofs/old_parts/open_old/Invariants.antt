@@ -1,5 +1,0 @@
-use Rattle.engine_host.specs.Reopening.{behind}
-use Rattle.engine_host.proofs.old_parts.open_old.Given as goal
-
-abbrev pub ghost-open_recovered : goal.ghost-open_recovered
-ghost-open_recovered g a = behind g.P.PageDisk.tells g.kept a.recovered.from

@@ -1,3 +1,4 @@
 mod Living
 pub mod Counts
 mod Reopened
+mod GoingOn

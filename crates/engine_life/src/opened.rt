@@ -18,7 +18,7 @@ use std::alloc::{AllocError, Global};
 const MOST_LOCKS: usize = 67;
 
 // An engine's volumes, with those aside.
-fn together<L: LogDisk + Drop, P: PageDisk + Drop>(
+pub(crate) fn together<L: LogDisk + Drop, P: PageDisk + Drop>(
     volumes: ClusterVolumes<L, P>,
     aside: Aside<P>,
 ) -> Volumes<L, P>
@@ -83,7 +83,7 @@ fn volumes_of<L: LogDisk + Drop, P: PageDisk + Drop>(
 }
 
 // Makes the lock table over new parts.
-fn begin_life<L: LogDisk + Drop, P: PageDisk + Drop>(
+pub(crate) fn begin_life<L: LogDisk + Drop, P: PageDisk + Drop>(
     alloc: Global,
     parts: Parts<L, P>,
     aside: Aside<P>,
@@ -101,7 +101,7 @@ fn begin_life<L: LogDisk + Drop, P: PageDisk + Drop>(
 }
 
 // Room for the volumes of the banks.
-fn new_room<P>(alloc: Global) -> Result<Vec<P>, AllocError>
+pub(crate) fn new_room<P>(alloc: Global) -> Result<Vec<P>, AllocError>
     ensures empty { IfOk result (λ room. room.items ≡ []) }
     ensures room { IfOk result (λ room. 67 ≤ vec_capacity room) }
 {

@@ -9,6 +9,7 @@ use Rattle.recoverable.specs.declared.cluster.ClusterVolumes.{ClusterVolumes}
 use Rattle.replay_core.specs.Refused.{IsRefusal}
 use Rattle.replay_core.specs.Volumes.{LeavesFit}
 use Rattle.replay_core.specs.declared.refusal.RecoverRefusal.{RecoverRefusal}
+use Rattle.replay_core.specs.declared.refusal.RecoverRefusal.TheVariants as refusals
 use Rattle.engine_life.specs.declared.refusal.NotReopened.TheVariants as not_reopened
 use Rattle.engine_life.specs.NextLives.{StayFit, WhenRefused, cluster_volumes}
 
@@ -26,6 +27,15 @@ module _ {L P : Type 0} (l : logs.Ghosts L) (p : disks.Ghosts P) where
       → LeavesFit l p old v.log v.xact.items kept → LeavesFit l p old all.log all.xact.items kept
   fit_together kept old v all log xact subtrans fit =
       subst (λ (z : ClusterVolumes L P). LeavesFit l p old z.log z.xact.items kept) (together_same v all log xact subtrans) fit
+
+  pub when_fits : (kept : KeptLog) (old new : Volumes L P) (refusal : RecoverRefusal) → LeavesFit l p old.xact.items new.log new.xact.items kept → WhenRefused l p kept old new refusal
+  when_fits kept old new (refusals.Damaged at) fit = fit
+  when_fits kept old new refusals.NoRecord fit = fit
+  when_fits kept old new refusals.HasMultis fit = fit
+  when_fits kept old new refusals.LogFault fit = fit
+  when_fits kept old new (refusals.DiskFault lock) fit = fit
+  when_fits kept old new refusals.Full fit = fit
+  when_fits kept old new refusals.Memory fit = tt
 
   -- so of a media that took them back
   pub rested_fit : (kept : KeptLog) (old new : Volumes L P) (gave gives : Volumes L P → Type 0) (refusal : RecoverRefusal) → gave old → Only new gives

@@ -1,5 +1,5 @@
 -- How a life goes on from an earlier one, over a media, and why none does.
-use Rattle.std.specs.Prelude.{◌≡◌, ◌⊎◌, ℕ, IsTrue, List, length}
+use Rattle.std.specs.Prelude.{◌≡◌, ℕ, IsTrue, List, length}
 use Rattle.disk_core.specs.declared.log_disk.LogDisk as logs
 use Rattle.disk_core.specs.declared.page_disk.PageDisk as disks
 use Rattle.disk_core.specs.declared.media.Volumes.{Volumes}
@@ -31,9 +31,10 @@ module _ {L P : Type 0} (l : logs.Ghosts L) (p : disks.Ghosts P) where
   abbrev pub MayGoOn : KeptLog → Volumes L P → Type 0
   MayGoOn kept volumes = IsTrue p.tells → IsTrue l.tells × Fit l p kept volumes.log volumes.xact.items
 
-  -- they fit what a later recovery may go on from, or memory was wanting
+  -- but where memory was wanting they fit what a later recovery may go on from
   abbrev pub WhenRefused : KeptLog → Volumes L P → Volumes L P → RecoverRefusal → Type 0
-  WhenRefused kept old new refusal = (refusal ≡ refusals.Memory) ⊎ LeavesFit l p old.xact.items new.log new.xact.items kept
+  WhenRefused kept old new refusals.Memory = Unit {0}
+  WhenRefused kept old new refusal = LeavesFit l p old.xact.items new.log new.xact.items kept
 
   -- So of a media, which gave these volumes and gives those. Where nothing was mounted it gives what it gave.
   abbrev pub StayFit : KeptLog → (Volumes L P → Type 0) → (Volumes L P → Type 0) → NotReopened → Type 0

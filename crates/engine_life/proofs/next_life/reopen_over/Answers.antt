@@ -1,4 +1,4 @@
-use Rattle.std.proofs.Common.{inl, inr, map, rules, subst, sym}
+use Rattle.std.proofs.Common.{map, rules, subst, sym}
 use Rattle.recoverable.specs.Whole.{BeganRight}
 use Rattle.replay_core.specs.Refused.{IsRefusal}
 use Rattle.replay_core.specs.declared.refusal.RecoverRefusal.{RecoverRefusal}
@@ -6,8 +6,8 @@ use Rattle.tx_core.specs.declared.entry.Start.{Start}
 use Rattle.engine_host.specs.Counted.{AreCounted}
 use Rattle.engine_host.specs.Opening.{faults_behind}
 use Rattle.engine_life.specs.Lives.{IsBegun}
-use Rattle.engine_life.specs.NextLives.{cluster_volumes}
-use Rattle.engine_life.proofs.GoingOn.{fit_together, refused_together}
+use Rattle.engine_life.specs.NextLives.{WhenRefused, cluster_volumes}
+use Rattle.engine_life.proofs.GoingOn.{fit_together, refused_together, when_fits}
 use Rattle.engine_life.proofs.Living.{of_err, of_oks}
 use Rattle.engine_life.proofs.next_life.reopen_over.Goals as goal
 
@@ -47,7 +47,8 @@ returns-in-Ok-open_old-clause-back g c =
     of_err c.begin_next.result _ _ (λ e back. record { offsets = back.0; members = back.1 }) c.begin_next.ensures.back
 
 pub returns-in-Ok-open_old-clause-again : goal.returns-in-Ok-open_old-clause-again
-returns-in-Ok-open_old-clause-again g c told = of_err c.begin_next.result _ _ (λ e memory. inl memory) c.begin_next.ensures.refused
+returns-in-Ok-open_old-clause-again g c told =
+    of_err c.begin_next.result _ _ (λ e memory. subst (λ (r : RecoverRefusal). WhenRefused g.L.LogDisk g.P.PageDisk g.kept c.args.volumes e.0 r) (sym memory) tt) c.begin_next.ensures.refused
 
 pub returns-in-Ok-open_old-clause-refused : goal.returns-in-Ok-open_old-clause-refused
 returns-in-Ok-open_old-clause-refused g c =
@@ -58,7 +59,8 @@ returns-in-Ok-open_old-clause-refused g c =
 pub returns-in-Err-clause-again : goal.returns-in-Err-clause-again
 returns-in-Err-clause-again g c told =
     let t = c.together.ensures in
-    inr (fit_together g.L.LogDisk g.P.PageDisk g.kept c.args.volumes.xact.items c.in-Err.volumes c.together.result t.log t.xact t.subtrans (c.in-Err.ensures.again told))
+    when_fits g.L.LogDisk g.P.PageDisk g.kept c.args.volumes c.together.result c.in-Err.refusal
+    (fit_together g.L.LogDisk g.P.PageDisk g.kept c.args.volumes.xact.items c.in-Err.volumes c.together.result t.log t.xact t.subtrans (c.in-Err.ensures.again told))
 
 pub returns-in-Err-clause-refused : goal.returns-in-Err-clause-refused
 returns-in-Err-clause-refused g c =

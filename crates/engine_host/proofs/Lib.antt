@@ -1,5 +1,5 @@
 pub mod Starting
 pub mod Hosting
 pub mod Parking
-pub mod Refusing
-pub mod Counting
+mod Refusing
+mod Counting

@@ -1,4 +1,4 @@
-//! The parts of an engine whose life begins, over a log that is begun and the volumes of its banks.
+// The parts of an engine whose life begins, over a log that is begun and the volumes of its banks.
 ghost use Rattle.std.specs.Prelude.{◌≡◌, ◌+◌, ◌*◌, ◌≤◌, ◌<◌, ◌++◌, ◌∷◌, ℕ, [], false, IfErr, IfOk, IsTrue, OnErr, OnOk, drop, length, map, remove, vec_capacity};
 ghost use Rattle.wal_core.specs.LogViews.{log_disk};
 ghost use Rattle.engine_parts.specs.Sessions.{AreGivenBefore};
@@ -20,8 +20,8 @@ use std::alloc::Global;
 use tx_core::Start;
 use wal_core::WalLog;
 
-/// The parts behind the locks from 1 on that have no bank.
-pub fn first_locks<L: LogDisk, P: PageDisk>(
+// The parts behind the locks from 1 on that have no bank.
+pub(crate) fn first_locks<L: LogDisk, P: PageDisk>(
     alloc: Global,
     cluster: &Cluster,
 ) -> Result<Vec<Part<L, P>>, OpenRefusal>
@@ -104,9 +104,9 @@ fn add_bank<L: LogDisk, P: PageDisk + Drop>(
     Ok(())
 }
 
-/// Adds those of all banks. In a new cluster their pages are removed. After an error the volumes of the banks that weren't
-/// added are left.
-pub fn add_banks<L: LogDisk, P: PageDisk + Drop>(
+// Adds those of all banks. In a new cluster their pages are removed. After an error the volumes of the banks that weren't
+// added are left.
+pub(crate) fn add_banks<L: LogDisk, P: PageDisk + Drop>(
     alloc: Global,
     locks: &mut Vec<Part<L, P>>,
     xact: &mut Vec<P>,
@@ -142,8 +142,8 @@ pub fn add_banks<L: LogDisk, P: PageDisk + Drop>(
     Ok(())
 }
 
-/// The volumes of an engine that wasn't opened.
-pub fn taken_apart<L: LogDisk + Drop, P: PageDisk + Drop>(
+// The volumes of an engine that wasn't opened.
+pub(crate) fn taken_apart<L: LogDisk + Drop, P: PageDisk + Drop>(
     log: WalLog<L>,
     locks: Vec<Part<L, P>>,
     xact: Vec<P>,
@@ -177,8 +177,8 @@ fn life_note<L: LogDisk, P: PageDisk>(built: &Built<L, P>) -> Note<Start>
     Note::by(built)
 }
 
-/// The parts of an engine whose log is begun.
-pub fn gather<L: LogDisk, P: PageDisk>(
+// The parts of an engine whose log is begun.
+pub(crate) fn gather<L: LogDisk, P: PageDisk>(
     cluster: Cluster,
     log: WalLog<L>,
     locks: Vec<Part<L, P>>,

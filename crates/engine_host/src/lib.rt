@@ -3,6 +3,7 @@
 #![tactic(auto)]
 
 mod banks;
+mod begun_parts;
 mod building;
 mod cluster;
 mod first_log;
@@ -11,7 +12,7 @@ mod host;
 mod refusal;
 mod volumes;
 
-pub use building::{add_banks, first_locks, gather, taken_apart};
+pub use begun_parts::open_begun;
 pub use cluster::{Cluster, Parts};
 pub use first_parts::open_new;
 pub use host::{Host, admit, close, dismiss, make_table, new_session};

@@ -15,7 +15,7 @@ ghost use Rattle.engine_host.specs.Opening.{AllShowNothing, AllShowStates, ArePa
 ghost use Rattle.engine_life.specs.Reopening.{IsBaseAt, behind, cluster_over};
 
 use disk_core::{LogDisk, PageDisk};
-use engine_host::{Cluster, Parts, add_banks, first_locks, gather, taken_apart};
+use engine_host::{Cluster, Parts, open_begun};
 use recoverable::ClusterVolumes;
 use replay_core::{RecoverRefusal, Recovered, recover};
 use std::alloc::Global;
@@ -54,8 +54,8 @@ fn open_recovered<L: LogDisk + Drop, P: PageDisk + Drop>(
 {
     let Recovered {
         log,
-        mut xact,
-        mut subtrans,
+        xact,
+        subtrans,
         from: _,
         base,
     } = recovered;
@@ -64,26 +64,10 @@ fn open_recovered<L: LogDisk + Drop, P: PageDisk + Drop>(
         banks: xact.len() as u32,
         sessions,
     };
-    let mut locks = match first_locks(alloc, &cluster) {
-        Ok(locks) => locks,
-        Err(_) => {
-            return Err((
-                ClusterVolumes {
-                    log: log.into_disk(),
-                    xact,
-                    subtrans,
-                },
-                RecoverRefusal::Memory,
-            ));
-        }
-    };
-    if let Err(_) = add_banks(alloc, &mut locks, &mut xact, &mut subtrans, &cluster, false) {
-        return Err((
-            taken_apart(log, locks, xact, subtrans),
-            RecoverRefusal::Memory,
-        ));
+    match open_begun(alloc, log, xact, subtrans, cluster) {
+        Ok(parts) => Ok(parts),
+        Err(volumes) => Err((volumes, RecoverRefusal::Memory)),
     }
-    Ok(gather(cluster, log, locks))
 }
 
 /// Recovers a cluster and makes its parts (`StartupXLOG` of `xlog.c`, `StartupCLOG` of `clog.c`, `StartupSUBTRANS` of

@@ -1,10 +1,4 @@
 use Rattle.engine_life.proofs.old_parts.open_recovered.Given as goal
 
-abbrev pub ghost-first_locks : goal.ghost-first_locks
-ghost-first_locks g a = g.begins
-
-abbrev pub ghost-add_banks : goal.ghost-add_banks
-ghost-add_banks g a = g.begins
-
-abbrev pub ghost-gather : goal.ghost-gather
-ghost-gather g a = g.begins
+abbrev pub ghost-open_begun : goal.ghost-open_begun
+ghost-open_begun g a = g.begins

@@ -14,7 +14,7 @@ use Rattle.wal_core.specs.declared.wal_log.WalLog.{WalLog}
 use Rattle.tx_core.specs.declared.entry.Start.{Start}
 use Rattle.recoverable.specs.Fit.{KeptLog, base_at}
 use Rattle.recoverable.specs.Laws.{life_base}
-use Rattle.recoverable.specs.LifeBase.{LifeBase}
+use Rattle.log_bases.specs.LifeBase.{LifeBase}
 use Rattle.recoverable.specs.Volumes.{EndsSettled, KeepsUpTo, Left, Restored, checkpoint_of}
 use Rattle.recoverable.specs.Whole.{BeganClean, BeganRight}
 use Rattle.recoverable.proofs.Settled.{recovery_settles}

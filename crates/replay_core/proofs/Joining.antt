@@ -15,7 +15,7 @@ use Rattle.wal_core.specs.Log.{EndsWithin}
 use Rattle.wal_core.specs.Opening.{Opened, opened}
 use Rattle.recoverable.specs.Fit.{IsCommitCode, KeptLog, MayBegin, XactFits, base_at, log_end, recs_below}
 use Rattle.recoverable.specs.FitMultis.{MembersFit, OffsetsFit}
-use Rattle.recoverable.specs.LifeBase.{LifeBase, committed_in}
+use Rattle.log_bases.specs.LifeBase.{LifeBase, committed_in}
 use Rattle.recoverable.specs.Volumes.{ImageFits, Left, ListFits, Restored, VolumesFit}
 use Rattle.recoverable.specs.XactImages.{code_at}
 use Rattle.recoverable.proofs.Checkpoints.{get_past}

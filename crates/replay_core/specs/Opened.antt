@@ -12,7 +12,7 @@ use Rattle.wal_core.specs.Log.{OpensAsBefore}
 use Rattle.wal_core.specs.LogContents.{ComesTo}
 use Rattle.wal_core.specs.LogViews.{KeepsAll, log_counters, log_disk, log_down, log_end, log_first, log_flushed, log_next, log_pending, log_recs}
 use Rattle.wal_core.specs.Opening.{opened}
-use Rattle.recoverable.specs.LifeBase.{is_multi}
+use Rattle.log_bases.specs.LifeBase.{is_multi}
 use Rattle.replay_core.specs.declared.found.Found.{Found}
 
 -- one of the records is of a multixact, or none is

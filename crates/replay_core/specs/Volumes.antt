@@ -5,7 +5,7 @@ use Rattle.disk_core.specs.declared.page_disk.PageDisk as disks
 use Rattle.tx_events.specs.declared.record.Counters.{Counters}
 use Rattle.recoverable.specs.Clusters.{IsLeft}
 use Rattle.recoverable.specs.Fit.{KeptLog}
-use Rattle.recoverable.specs.LifeBase.{LifeBase}
+use Rattle.log_bases.specs.LifeBase.{LifeBase}
 use Rattle.recoverable.specs.Volumes.{NotRecovered, Recovered}
 
 module _ {L P : Type 0} (l : logs.Ghosts L) (p : disks.Ghosts P) where

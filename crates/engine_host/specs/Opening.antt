@@ -7,7 +7,7 @@ use Rattle.tx_events.specs.Base.{IsBase}
 use Rattle.tx_events.specs.declared.record.Rec.{Rec}
 use Rattle.tx_events.specs.declared.record.Rec.TheVariants as records
 use Rattle.wal_core.specs.declared.wal_log.WalLog.{WalLog}
-use Rattle.wal_core.specs.LogViews.{KeepsAll, log_counters, log_disk, log_down, log_flushed, log_next, log_recs}
+use Rattle.wal_core.specs.LogViews.{KeepsAll, log_counters, log_disk, log_down, log_first, log_flushed, log_next, log_recs}
 use Rattle.slru_bank.specs.Calls.{faults_of}
 use Rattle.slru_bank.specs.declared.bank.SlruBank.{SlruBank}
 use Rattle.store_pages.specs.Layouts.{state_in, xact_page_of, xact_place_of}
@@ -63,6 +63,7 @@ life_of c faults = life_from c nothing_before faults
 pub record IsNewLog {D : Type 0} {g : logs.Ghosts D} (log : WalLog D g) : Type 0 where
   pub recs : log_recs log ≡ []
   pub next : log_next log ≡ 0
+  pub first : log_first log ≡ 0
   pub flushed : log_flushed log ≡ 0
   pub down : log_down log ≡ None
   pub counters : log_counters log ≡ None
@@ -72,6 +73,7 @@ pub record IsNewLog {D : Type 0} {g : logs.Ghosts D} (log : WalLog D g) : Type 0
 pub record HasFirst {D : Type 0} {g : logs.Ghosts D} (c : Cluster) (log : WalLog D g) : Type 0 where
   pub recs : log_recs log ≡ records.Checkpoint 0 c.base ∷ []
   pub next : log_next log ≡ 1
+  pub first : log_first log ≡ 0
   pub down : log_down log ≡ None
   pub counters : log_counters log ≡ Some c.base
   pub keeps : IsTrue g.tells → KeepsAll 0 (records.Checkpoint 0 c.base ∷ []) g.images log

@@ -79,4 +79,4 @@ module _ {D : Type 0} (g : logs.Ghosts D) where
 
   abbrev pub SettlesLog : Counters → WalLog D g → WalLog D g → Type 0
   SettlesLog base old new = (first : ℕ) (all : List Rec) → KeepsAll first all g.images old
-      → EachHas first (all ++ records.Checkpoint (log_next old) base ∷ []) (log_next old) (log_next old + 1) (g.images (log_disk new))
+      → KeepsAll first (all ++ records.Checkpoint (log_next old) base ∷ []) g.images new

@@ -2,3 +2,4 @@ mod Living
 pub mod Counts
 mod Reopened
 mod GoingOn
+mod LogEnds

@@ -15,7 +15,9 @@ use Rattle.tx_core.specs.declared.entry.Start.{Start}
 use Rattle.tx_core.specs.FaultsRise.{faults_told}
 use Rattle.tx_core.specs.Locks.{log_lock, subtrans_lock, xact_lock}
 use Rattle.wal_core.specs.declared.wal_log.WalLog.{WalLog}
-use Rattle.wal_core.specs.LogViews.{log_disk, log_end, log_flushed, log_recs}
+use Rattle.wal_core.specs.LogViews.{log_disk, log_end, log_first, log_flushed, log_next, log_recs}
+use Rattle.recoverable.specs.Fit.{KeptLog}
+use Rattle.bank_follows.specs.Holding.{LogHolds}
 use Rattle.engine_parts.specs.declared.session.Session.{Session}
 use Rattle.engine_host.specs.declared.cluster.Cluster.{Cluster}
 use Rattle.engine_host.specs.Counted.{AreCounted}
@@ -67,6 +69,11 @@ module _ {L P : Type 0} (l : logs.Ghosts L) (p : disks.Ghosts P) where
         × (faults_told start (xact_lock bank) (at lists (xact_lock bank)) ≤ p.faults v)
     pub subtrans : (bank : ℕ) → bank < start.banks → (v : P) × (slice_get volumes.subtrans.items bank ≡ Some v)
         × (faults_told start (subtrans_lock bank) (at lists (subtrans_lock bank)) ≤ p.faults v)
+
+-- The log's value holds what the law on a cluster's volumes asks of it, for some list of records.
+abbrev pub HoldsLog : {D : Type 0} → {g : logs.Ghosts D} → Start → List (List Entry) → WalLog D g → Type 0
+HoldsLog {g = g} start lists log =
+    (kept : KeptLog) × LogHolds start (at lists log_lock) kept (log_recs log) (log_next log) (log_first log) (g.images (log_disk log))
 
 -- the life that began from this base with the checkpoint of this number, had this history and left this log
 abbrev pub life_told : {D : Type 0} → {g : logs.Ghosts D} → ℕ → Counters → List ℕ → List Rec → List Event → WalLog D g → Life

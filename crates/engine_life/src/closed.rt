@@ -1,5 +1,5 @@
 //! What a life leaves.
-ghost use Rattle.std.specs.Prelude.{◌≡◌, []};
+ghost use Rattle.std.specs.Prelude.{◌≡◌, [], IsTrue};
 ghost use Rattle.hall.specs.Calls.{start_of, view};
 ghost use Rattle.notes.specs.Lists.{at};
 ghost use Rattle.tx_core.specs.EngineInvariant.{EngineInvariant};
@@ -7,7 +7,7 @@ ghost use Rattle.tx_core.specs.Entries.{history};
 ghost use Rattle.tx_core.specs.Locks.{log_lock};
 ghost use Rattle.engine_parts.specs.Parts.{IsLogOf};
 ghost use Rattle.engine_host.specs.Hosts.{HoldsAllBut, IsHost};
-ghost use Rattle.engine_life.specs.Lives.{HaveCountedTold, volumes_left};
+ghost use Rattle.engine_life.specs.Lives.{HaveCountedTold, HoldsLog, volumes_left};
 
 use crate::life::{Aside, OpenLife};
 use disk_core::{LogDisk, PageDisk, Volumes};
@@ -33,6 +33,8 @@ pub fn close_life<L: LogDisk + Drop, P: PageDisk + Drop>(life: OpenLife<L, P>) -
     requires all { HoldsAllBut life.host [] }
     ensures events { result.events ≡ history (view life.host.pass).seen }
     ensures log { IsLogOf (start_of life.hall) result.log (at (view life.host.pass).seen log_lock) }
+    // Where the volumes told what the life began with, the log is one that recovery may go by (`recoverable`).
+    ensures log_holds { IsTrue L.tells → IsTrue (start_of life.hall).told → HoldsLog (start_of life.hall) (view life.host.pass).seen result.log }
     ensures kept { EngineInvariant (start_of life.hall) (view life.host.pass).seen }
     ensures counted { HaveCountedTold L.LogDisk P.PageDisk (start_of life.hall) (view life.host.pass).seen (volumes_left result) }
     ensures offsets { (volumes_left result).offsets ≡ life.aside.offsets }

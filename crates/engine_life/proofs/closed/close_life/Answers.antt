@@ -2,7 +2,9 @@ use Rattle.std.proofs.Common.{◌∙◌}
 use Rattle.hall.specs.Calls.{start_of, view}
 use Rattle.notes.specs.Lists.{at as list_at}
 use Rattle.engine_parts.specs.declared.part.Part.TheVariants as parts
+use Rattle.wal_core.specs.LogViews.{log_counters, log_disk, log_down, log_first, log_flushed, log_next, log_recs}
 use Rattle.engine_life.proofs.Counts.{subtrans_told, xact_told}
+use Rattle.engine_life.proofs.LogEnds.{log_held}
 use Rattle.engine_life.proofs.closed.close_life.Goals as goal
 
 pub take_apart-log-requires-clause-stand : goal.take_apart-log-requires-clause-stand
@@ -19,6 +21,14 @@ pub returns-clause-log : goal.returns-clause-log
 returns-clause-log g c =
     let taken = c.take_apart-log in
     (c.close-parts.ensures.stand 0 (parts.Log taken.result.log) taken.ensures.log).1
+
+pub returns-clause-log_holds : goal.returns-clause-log_holds
+returns-clause-log_holds g c tells told =
+    let taken = c.take_apart-log in
+    let d = g.L.LogDisk in
+    let log = taken.result.log in
+    log_held (start_of c.args.life.hall) (view c.args.life.host.pass).seen d.tells (d.faults (log_disk log)) (d.images (log_disk log)) (log_recs log) (log_next log) (log_first log) (log_flushed log) (log_counters log) (log_down log)
+    c.close-parts.ensures.kept (c.close-parts.ensures.stand 0 (parts.Log log) taken.ensures.log).1 tells told
 
 pub returns-clause-counted : goal.returns-clause-counted
 returns-clause-counted g c =

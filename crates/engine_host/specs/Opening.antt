@@ -1,5 +1,5 @@
 -- What a new engine starts from, and what its parts stand for.
-use Rattle.std.specs.Prelude.{◌≡◌, ℕ, ◌+◌, ◌*◌, ◌%◌, ◌≤◌, ◌<◌, ◌^◌, Bool, false, cond, IsTrue, List, [], ◌∷◌, Option, None, Some, slice_get, get_or, length, map}
+use Rattle.std.specs.Prelude.{◌≡◌, ℕ, ◌+◌, ◌*◌, ◌%◌, ◌≤◌, ◌<◌, ◌^◌, Bool, true, cond, IsTrue, List, [], ◌∷◌, Option, None, Some, slice_get, get_or, length, map}
 use Rattle.disk_core.specs.declared.log_disk.LogDisk as logs
 use Rattle.disk_core.specs.declared.page_disk.PageDisk as disks
 use Rattle.disk_core.specs.Pages.{page_bytes, zero_page}
@@ -52,9 +52,9 @@ life_from c b faults = record {
   faults = faults;
 }
 
--- over a new log, which has one record: nothing is committed, and no multixact was recorded
+-- over a new log, which has one record: nothing is committed, and no multixact was recorded, whatever the volumes tell
 abbrev pub nothing_before : Beginning
-nothing_before = record { number = 0; committed = []; recorded = []; told = false }
+nothing_before = record { number = 0; committed = []; recorded = []; told = true }
 
 abbrev pub life_of : Cluster → List ℕ → Start
 life_of c faults = life_from c nothing_before faults

@@ -8,7 +8,6 @@ use Rattle.hall.specs.Calls.{start_of}
 use Rattle.notes.specs.Lists.{at}
 use Rattle.tx_events.specs.declared.event.Event.{Event}
 use Rattle.tx_events.specs.declared.record.Counters.{Counters}
-use Rattle.tx_events.specs.declared.record.Rec.{Rec}
 use Rattle.tx_model.specs.declared.report.Life.{Life}
 use Rattle.tx_core.specs.declared.entry.Entry.{Entry}
 use Rattle.tx_core.specs.declared.entry.Start.{Start}
@@ -68,13 +67,13 @@ module _ {L P : Type 0} (l : logs.Ghosts L) (p : disks.Ghosts P) where
     pub subtrans : (bank : ℕ) → bank < start.banks → (v : P) × (slice_get volumes.subtrans.items bank ≡ Some v)
         × (faults_told start (subtrans_lock bank) (at lists (subtrans_lock bank)) ≤ p.faults v)
 
--- the life that began from this base with the checkpoint of this number, had this history and left this log
-abbrev pub life_told : {D : Type 0} → {g : logs.Ghosts D} → ℕ → Counters → List ℕ → List Rec → List Event → WalLog D g → Life
-life_told from base committed recorded events log = record {
-  from = from;
+-- the life over a new log that had this history and left this log
+abbrev pub life_told : {D : Type 0} → {g : logs.Ghosts D} → Counters → List Event → WalLog D g → Life
+life_told base events log = record {
+  from = 0;
   base = base;
-  committed = committed;
-  recorded = recorded;
+  committed = [];
+  recorded = [];
   events = events;
   multis = [];
   recs = log_recs log;

@@ -30,14 +30,14 @@ pub promises_make_life : PromisesMakeLife
 promises_make_life tells start lists rounds commands r begins over few asked is gate =
     let made = promises_make_steps tells start lists rounds r begins over few is in
     let lines : flat_map lines_in r.steps ≡ all_lines rounds = ap (flat_map lines_in) is.steps ∙ step_lines 1 rounds in
-    let log = promises_make_log tells start lists rounds r.life.from r.life.end begins over gate in record {
+    let log = promises_make_log tells start lists rounds r.life.end begins over gate in record {
       history = subst (λ (x : Counters × List Event). IsLegal x.0 x.1) (λ j. (sym is.base j, sym is.events j)) over.kept.events.legal;
       told = subst (AreRounds 1 commands) (sym is.steps) (rounds_told 1 commands rounds asked);
       in_turn = made.1;
       lawful = subst (λ (ls : List Line). AreLawfulSteps (facts_of tells start.banks r.life ls) r.steps) (sym lines) made.0;
       multis = is.multis;
-      log = subst (λ (x : Counters × ((List Event × List Rec) × ℕ)). IsLogOf r.life.from (records.Checkpoint r.life.from x.0) x.1.0.0 x.1.0.1 x.1.1 r.life.end)
-          (λ j. (sym is.base j, ((sym is.events j, sym is.recs j), sym is.flushed j))) log;
-      opened = λ n. subst (λ (x : (List Rec × List Event) × List Line). IsOpenAsTold x.0.0 x.0.1 x.1 n) (λ j. ((sym is.recs j, sym is.events j), sym lines j)) (opened_told tells start lists rounds r.life.from begins over n);
+      log = subst (λ (x : (ℕ × Counters) × ((List Event × List Rec) × ℕ)). IsLogOf x.0.0 (records.Checkpoint x.0.0 x.0.1) x.1.0.0 x.1.0.1 x.1.1 r.life.end)
+          (λ j. ((sym is.from j, sym is.base j), ((sym is.events j, sym is.recs j), sym is.flushed j))) log;
+      opened = λ n. subst (λ (x : (List Rec × List Event) × List Line). IsOpenAsTold x.0.0 x.0.1 x.1 n) (λ j. ((sym is.recs j, sym is.events j), sym lines j)) (opened_told tells start lists rounds begins over n);
       log_fails_once = subst (λ (ls : List Line). log_faults ls ≤ 1) (sym lines) (faults_once tells start lists rounds over);
     }

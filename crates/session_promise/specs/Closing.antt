@@ -57,14 +57,15 @@ LevelsBoundIds =
     (tells : Bool) (start : Start) (lists : List (List Entry)) (rounds : List ToldRound)
     → IsOver tells start lists rounds → AreFewLevels rounds → AreFewIds lists
 
--- the life began with the checkpoint of this number, which a new log has as its first record
-pub record BeginsAt (number : ℕ) (start : Start) : Type 0 where
-  pub from : start.from ≡ number + 1
-  pub logged : start.logged ≡ records.Checkpoint number start.base ∷ []
+-- the life began over a new log, which has its checkpoint
+pub record BeginsNewLog (start : Start) : Type 0 where
+  pub from : start.from ≡ 1
+  pub logged : start.logged ≡ records.Checkpoint 0 start.base ∷ []
 
 -- the report of the life tells these lists and rounds
 pub record IsReportOf (start : Start) (lists : List (List Entry)) (rounds : List ToldRound) (r : LifeReport)
     : Type 0 where
+  pub from : r.life.from ≡ 0
   pub base : r.life.base ≡ start.base
   pub committed : r.life.committed ≡ start.committed
   pub events : r.life.events ≡ history lists
@@ -77,15 +78,15 @@ pub record IsReportOf (start : Start) (lists : List (List Entry)) (rounds : List
 abbrev pub PromisesMakeSteps : Type 0
 PromisesMakeSteps =
     (tells : Bool) (start : Start) (lists : List (List Entry)) (rounds : List ToldRound) (r : LifeReport)
-    → BeginsAt r.life.from start → IsOver tells start lists rounds → AreFewLevels rounds → IsReportOf start lists rounds r
+    → BeginsNewLog start → IsOver tells start lists rounds → AreFewLevels rounds → IsReportOf start lists rounds r
     → AreLawfulSteps (facts_of tells start.banks r.life (all_lines rounds)) r.steps × AreInTurn r.life.events r.steps
 
 -- the log is that of the ends
 abbrev pub PromisesMakeLog : Type 0
 PromisesMakeLog =
-    (tells : Bool) (start : Start) (lists : List (List Entry)) (rounds : List ToldRound) (number end : ℕ)
-    → BeginsAt number start → IsOver tells start lists rounds → end < 2 ^ 64
-    → IsLogOf number (records.Checkpoint number start.base) (history lists) (start.logged ++ recs_of lists)
+    (tells : Bool) (start : Start) (lists : List (List Entry)) (rounds : List ToldRound) (end : ℕ)
+    → BeginsNewLog start → IsOver tells start lists rounds → end < 2 ^ 64
+    → IsLogOf 0 (records.Checkpoint 0 start.base) (history lists) (start.logged ++ recs_of lists)
     (flushed_to start (at lists log_lock)) end
 
 -- so the life is lawful
@@ -93,6 +94,6 @@ abbrev pub PromisesMakeLife : Type 0
 PromisesMakeLife =
     (tells : Bool) (start : Start) (lists : List (List Entry)) (rounds : List ToldRound)
     (commands : List (List (ℕ × Command))) (r : LifeReport)
-    → BeginsAt r.life.from start → IsOver tells start lists rounds → AreFewLevels rounds
+    → BeginsNewLog start → IsOver tells start lists rounds → AreFewLevels rounds
     → AreRoundsOf commands rounds → IsReportOf start lists rounds r → r.life.end < 2 ^ 64
     → IsLawfulLife tells start.banks commands r

@@ -44,17 +44,18 @@ use Rattle.session_run.proofs.RoundCounts.{few_levels}
 module _ {H L P : Type 0} {l : logs.Ghosts L} {p : disks.Ghosts P} where
   -- what was printed of a life that ran the script is the rest of a report
   pub rest_told : (hall : Hall H (Part L P l p) Entry Start) (host : Host L P l p) (sessions : List Resting) (s : Script) (faults : List ℕ) (front text printed : List ℕ) (events : List Event) (log : WalLog L l)
-      → IsTaken s → start_of hall ≡ life_of (cluster_of s) faults → (r : HasRun hall host sessions s.names (rounds_of s.items) front text) → closing.IsOver p.tells (start_of hall) (view host.pass).seen r.rounds → events ≡ history (view host.pass).seen → IsLogOf (start_of hall) log (at (view host.pass).seen log_lock) → log_end log < 2 ^ 64 → printed ≡ text ++ (rest_text s.names (life_told 0 s.base [] [] events log) None ++ end_text)
+      → IsTaken s → start_of hall ≡ life_of (cluster_of s) faults → (r : HasRun hall host sessions s.names (rounds_of s.items) front text) → closing.IsOver p.tells (start_of hall) (view host.pass).seen r.rounds → events ≡ history (view host.pass).seen → IsLogOf (start_of hall) log (at (view host.pass).seen log_lock) → log_end log < 2 ^ 64 → printed ≡ text ++ (rest_text s.names (life_told s.base events log) None ++ end_text)
       → (rest : IsRestOfReport p.tells s front printed) × (IsTrue l.tells → l.images (log_disk log) (l.reads (log_disk log)) → LogHolds l rest.life.life (log_disk log)) × (rest.life.steps ≡ closing.steps_of 1 r.rounds)
   rest_told hall host sessions s faults front text printed events log taken begun r over told stands end exact =
       let start = start_of hall in
       let base : start.base ≡ s.base = ap (λ t. t.base) begun in
-      let life : LifeReport = record { life = life_told 0 s.base [] [] events log; steps = closing.steps_of 1 r.rounds; crash = None } in
-      let begins : closing.BeginsAt 0 start = record {
+      let life : LifeReport = record { life = life_told s.base events log; steps = closing.steps_of 1 r.rounds; crash = None } in
+      let begins : closing.BeginsNewLog start = record {
         from = ap (λ t. t.from) begun;
         logged = ap (λ t. t.logged) begun ∙ ap (λ b. records.Checkpoint 0 b ∷ []) (sym base);
       } in
       let report : closing.IsReportOf start (view host.pass).seen r.rounds life = record {
+        from = refl;
         base = sym base;
         committed = sym (ap (λ t. t.committed) begun);
         events = told;

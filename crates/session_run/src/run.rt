@@ -79,7 +79,7 @@ fn run_life<
     };
     has_64_bits(closed.log.end());
     reads_an_image(&closed.log);
-    let ended = end_report(text, 0, &script.names, closed.events.items(), &closed.log);
+    let ended = end_report(text, &script.names, closed.events.items(), &closed.log);
     (closed, ended)
 }
 

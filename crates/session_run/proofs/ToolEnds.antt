@@ -71,6 +71,7 @@ answers tells left left' s text F h r = (
     ended = h.ended;
     script = s;
     spelled = h.spelled;
+    runnable = h.runnable;
     report = r.0;
     lawful = r.1;
     exact = r.2;

@@ -14,7 +14,7 @@ use Rattle.tx_model.specs.declared.report.Step.{Step}
 use Rattle.tx_model.specs.Lines.{is_line_of, span_of, stance}
 use Rattle.tx_model.specs.Replies.{RoundSpan}
 use Rattle.tx_model.specs.Rounds.{lines_in}
-use Rattle.tx_model.specs.Stance.{after, nothing_yet, stance_from}
+use Rattle.tx_model.specs.Stance.{nothing_yet, stance_from}
 use Rattle.tx_model.proofs.LineGrowth.{stance_push}
 use Rattle.life_law.specs.Facts.{Facts}
 use Rattle.life_law.specs.Lines.{IsLawfulLine, IsLawfulRound}

@@ -1,5 +1,5 @@
 -- What a dump between two rounds is answered.
-use Rattle.std.specs.Prelude.{◌≡◌, ℕ, ◌≤◌, true, IsTrue, List, Some}
+use Rattle.std.specs.Prelude.{◌≡◌, ℕ, IsTrue, List, Some}
 use Rattle.disk_core.specs.declared.log_disk.LogDisk as logs
 use Rattle.disk_core.specs.declared.page_disk.PageDisk as disks
 use Rattle.hall.specs.declared.hall.Hall.{Hall}
@@ -12,8 +12,6 @@ use Rattle.tx_model.specs.declared.reply.Reply.TheVariants as replies
 use Rattle.tx_model.specs.declared.report.DumpOf.{DumpOf}
 use Rattle.tx_model.specs.declared.report.DumpOf.TheVariants as dumps
 use Rattle.life_law.specs.Dumps.{MayDump}
-use Rattle.run_law.specs.Turns.{has_dump}
-use Rattle.session_lang.specs.Plain.{IsDump}
 use Rattle.slru_bank.specs.declared.refusal.BankRefusal.{BankRefusal}
 use Rattle.slru_bank.specs.declared.refusal.BankRefusal.TheVariants as refused
 use Rattle.tx_core.specs.declared.entry.Entry.{Entry}
@@ -25,10 +23,6 @@ use Rattle.engine_host.specs.declared.host.Host.{Host}
 use Rattle.session_promise.specs.Causes.{failed_volume}
 use Rattle.session_promise.specs.Promise.{recs_of}
 use Rattle.engine_dumps.specs.Shown.{AreLogBytes, HasFailed, ShowsSubtrans, ShowsXact}
-
--- the run has the dump, and its numbers are in their ranges
-abbrev pub MayShow : DumpOf → ℕ → ℕ → Type 0
-MayShow what at size = (has_dump what ≡ true) × IsDump what at size × (1 ≤ size) × (size ≤ 64)
 
 -- the answer where a bank refused
 abbrev pub refusal_by : Lock → BankRefusal → Reply

@@ -6,10 +6,10 @@ use Rattle.disk_core.specs.declared.page_disk.PageDisk as disks
 use Rattle.disk_core.specs.Faults.{HasRisen}
 use Rattle.disk_core.specs.Volume.{IsRead, Volume}
 use Rattle.notes.specs.Lists.{at}
+use Rattle.life_law.specs.Dumps.{is_subtrans_cut, is_xact_cut}
 use Rattle.store_pages.specs.Layouts.{number_in, state_in, word_page_of, word_place_of, xact_page_of, xact_place_of}
 use Rattle.slru_bank.specs.Bank.{IsPage}
 use Rattle.wal_core.specs.Kept.{HasFlushed}
-use Rattle.tx_events.specs.PageOrder.{Ids, is_cut}
 use Rattle.tx_events.specs.declared.record.Rec.{Rec}
 use Rattle.tx_core.specs.declared.entry.Entry.{Entry}
 use Rattle.tx_core.specs.declared.entry.Start.{Start}
@@ -73,12 +73,12 @@ pub record ShowsSubtrans (start : Start) (lists : List (List Entry)) (page from 
 abbrev pub IsXactUncut : Start → List (List Entry) → ℕ → ℕ → Type 0
 IsXactUncut start lists bank page =
     (cutoff : ℕ) × IsCutoff (first_xact_page start) (2 ^ 17) (at lists (xact_lock bank)) cutoff
-    × (is_cut Ids 32768 cutoff page ≡ false)
+    × (is_xact_cut cutoff page ≡ false)
 
 abbrev pub IsSubtransUncut : Start → List (List Entry) → ℕ → ℕ → Type 0
 IsSubtransUncut start lists bank page =
     (cutoff : ℕ) × IsCutoff (first_subtrans_page start) (2 ^ 21) (at lists (subtrans_lock bank)) cutoff
-    × (is_cut Ids 2048 cutoff page ≡ false)
+    × (is_subtrans_cut cutoff page ≡ false)
 
 -- ---- faults
 

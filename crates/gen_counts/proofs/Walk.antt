@@ -24,7 +24,7 @@ use Rattle.life_law.specs.Replies.{IsLawfulReply}
 use Rattle.life_law.proofs.PendingSteps.{pending_push}
 use Rattle.script_gen.proofs.Ranges.{IsDrawn}
 use Rattle.script_gen.specs.Counts.{is_verdict}
-use Rattle.gen_counts.specs.Counts.{is_failure, is_see}
+use Rattle.gen_counts.specs.Counts.{is_failure, is_told_verdict}
 use Rattle.gen_counts.proofs.Goes.{AreOf, At, IsTold, Outside, Place, goes}
 use Rattle.gen_counts.proofs.Replies.{IsWide}
 use Rattle.gen_counts.proofs.Running.{run_from, run_push, stepped}
@@ -54,7 +54,7 @@ own_push k lines l b e = filter-append (is_line_of k) lines (l ∷ []) ∙ ap (�
 -- ---- each line of a session does what it says
 
 abbrev pub IsGood : Facts → Line → Type 0
-IsGood f l = AreOf l.command (events_of l.by f.events) × (is_verdict l.reply ≡ is_see l.command)
+IsGood f l = AreOf l.command (events_of l.by f.events) × (is_verdict l.reply ≡ is_told_verdict l.command)
 
 -- one of the script's commands, that didn't fail
 abbrev pub IsFine : Line → Type 0

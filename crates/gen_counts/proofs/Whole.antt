@@ -179,16 +179,16 @@ kind_count f ss script p q kinds each has goods told =
 
 -- ---- the verdicts, and the commands
 
-goods_told : (f : Facts) (lines : List Line) → AllByRecursion (IsGood f) lines → AllByRecursion (λ l. one (all.is_verdict l.reply) ≡ one (said.is_see l.command)) lines
+goods_told : (f : Facts) (lines : List Line) → AllByRecursion (IsGood f) lines → AllByRecursion (λ l. one (all.is_verdict l.reply) ≡ one (said.is_told_verdict l.command)) lines
 goods_told f [] a = tt
 goods_told f (l ∷ lines) a = (ap one a.0.1, goods_told f lines a.1)
 
 verdicts_count : (f : Facts) (ss : List Step) (script : List Item) → AllByRecursion (IsGood f) (flat_map lines_in ss) → AreSteps 1 (asked_of script) ss
-    → count_by (λ (l : Line). all.is_verdict l.reply) (flat_map lines_in ss) ≡ count_by said.is_see (seconds (turns_in script))
+    → count_by (λ (l : Line). all.is_verdict l.reply) (flat_map lines_in ss) ≡ count_by said.is_told_verdict (seconds (turns_in script))
 verdicts_count f ss script goods told =
     let lines = flat_map lines_in ss in
-    sum_same (λ (l : Line). one (all.is_verdict l.reply)) (λ l. one (said.is_see l.command)) lines (goods_told f lines goods)
-    ∙ sym (count_map (λ (t : ℕ × Command). said.is_see t.1) turn_of lines) ∙ script_count (λ (t : ℕ × Command). said.is_see t.1) script ss told ∙ sym (count_map said.is_see (λ (t : ℕ × Command). t.1) (turns_in script))
+    sum_same (λ (l : Line). one (all.is_verdict l.reply)) (λ l. one (said.is_told_verdict l.command)) lines (goods_told f lines goods)
+    ∙ sym (count_map (λ (t : ℕ × Command). said.is_told_verdict t.1) turn_of lines) ∙ script_count (λ (t : ℕ × Command). said.is_told_verdict t.1) script ss told ∙ sym (count_map said.is_told_verdict (λ (t : ℕ × Command). t.1) (turns_in script))
 
 commands_count : (ss : List Step) (script : List Item) → AreSteps 1 (asked_of script) ss → length (flat_map lines_in ss) ≡ length (seconds (turns_in script))
 commands_count ss script told =

@@ -10,6 +10,8 @@ use Rattle.tx_model.specs.declared.reply.Reply.TheVariants as replies
 use Rattle.tx_model.specs.declared.report.LifeReport.{LifeReport}
 use Rattle.tx_model.specs.Rounds.{BeginsLog, lines_in}
 use Rattle.life_law.specs.LawfulLife.{IsLawfulLife}
+pub use Rattle.life_law.specs.Laws.{is_commit}
+pub use Rattle.life_law.specs.Replies.{is_told_verdict}
 use Rattle.session_lang.specs.declared.script.Item.{Item}
 use Rattle.session_lang.specs.Rounds.{asked_of}
 use Rattle.run_law.specs.Turns.{turns_in}
@@ -38,10 +40,6 @@ abbrev pub is_undo : Command → Bool
 is_undo commands.Undo = true
 is_undo command = false
 
-abbrev pub is_commit : Command → Bool
-is_commit commands.Commit = true
-is_commit command = false
-
 abbrev pub is_abort : Command → Bool
 is_abort commands.Abort = true
 is_abort command = false
@@ -49,10 +47,6 @@ is_abort command = false
 abbrev pub is_snap : Command → Bool
 is_snap (commands.Snap name) = true
 is_snap command = false
-
-abbrev pub is_see : Command → Bool
-is_see (commands.See name x) = true
-is_see command = false
 
 -- each write gives one id, each savepoint that is rolled back has one, and so has each transaction that ends
 abbrev pub summary_of_commands : List Command → Summary
@@ -63,7 +57,7 @@ summary_of_commands all = record {
   commits = count_by is_commit all;
   aborts = count_by is_abort all;
   snaps = count_by is_snap all;
-  sees = count_by is_see all;
+  sees = count_by is_told_verdict all;
 }
 
 abbrev pub commands_in : List Item → List Command

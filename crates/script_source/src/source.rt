@@ -1,5 +1,5 @@
 //! Takes a script from a source.
-ghost use Rattle.std.specs.Prelude.{◌≡◌, ◌<◌, ◌≤◌, IfErr, IfOk, Ok, length};
+ghost use Rattle.std.specs.Prelude.{◌≡◌, ◌≤◌, IfErr, IfOk, Ok, length};
 ghost use Rattle.session_lang.specs.Script.{read_script};
 ghost use Rattle.run_law.specs.Refusals.{refusal_text};
 ghost use Rattle.run_law.specs.Tool.{ReadsUpTo, most_read};

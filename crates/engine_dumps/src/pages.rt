@@ -17,8 +17,8 @@ use slru_bank::BankRefusal;
 use std::sync::Wait;
 use store_pages::bank_of;
 
-/// Reads bytes of a stored page of pg_xact from a place on, zeros where the volume lacks the page. `Cut` exactly where the
-/// bank's cutoff cuts the page, and `DiskFault` only where the volume's count of faults rose.
+/// Reads bytes of a stored page of pg_xact from a place on, zeros where the volume lacks the page. `Cut` tells a cutoff of
+/// the bank's list that cuts the page, and `DiskFault` comes only where the volume's count of faults rose.
 pub fn dump_xact<R: Wait, L: LogDisk, P: PageDisk>(
     rt: &R,
     hall: &Hall<EngineLaw<L, P>>,

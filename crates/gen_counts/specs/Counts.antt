@@ -1,5 +1,5 @@
--- What a run of a generated script must have done: what its commands say, where none was refused by a device or for want of
--- memory.
+-- What a run of a generated script must have done: what its commands say, where none was refused by a device, for a full
+-- log or for want of memory.
 use Rattle.std.specs.Prelude.{◌≡◌, ℕ, ◌≤◌, Bool, true, false, List, length, map}
 use Rattle.std.specs.List.{AllByRecursion, flat_map}
 use Rattle.tx_events.specs.declared.refusal.Refusal.TheVariants as refusals
@@ -69,8 +69,8 @@ summary_of_commands all = record {
 abbrev pub commands_in : List Item → List Command
 commands_in script = map (λ t. t.1) (turns_in script)
 
--- In a lawful life of a generated script over a new log, of which no command was refused by a device or for want of memory,
--- the history and the replies come to what the script's commands say.
+-- In a lawful life of a generated script over a new log, of which no command was refused by a device, for a full log or
+-- for want of memory, the history and the replies come to what the script's commands say.
 abbrev pub CountsAreTheScripts : Type 0
 CountsAreTheScripts =
     (tells : Bool) (banks seed size : ℕ) (r : LifeReport) → size ≤ most_transactions

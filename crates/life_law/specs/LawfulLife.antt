@@ -36,8 +36,9 @@ pub record AreLawfulSteps (f : Facts) (steps : List Step) : Type 0 where
   pub no_other : All (λ e. IsTrue (has_line (flat_map lines_in steps) e)) f.events
 
 -- One legal history, round by round; the steps are what was asked, each line lawful, and each dump between two rounds; no
--- multixact; the log of these ends, and of a transaction that is still open no more than its session's lines tell. The log's volume fails once at
--- most, since the log stays down. Each store has so many banks, and verdicts are told where the volumes tell.
+-- multixact; the log of these ends, and of a transaction that is still open no more than its session's lines tell. The
+-- log's volume fails a command once at most, since the log stays down. Each store has so many banks, and verdicts are told
+-- where the volumes tell.
 pub record IsLawfulLife (tells : Bool) (banks : ℕ) (asked : List Asked) (r : LifeReport) : Type 0 where
   pub history : IsLegal r.life.base r.life.events
   pub told : AreSteps 1 asked r.steps

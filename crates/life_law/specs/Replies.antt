@@ -76,8 +76,8 @@ is_told_verdict (commands.See name x) = true
 is_told_verdict command = false
 
 -- The reply that a command may get in a round, of a session that stands so and of which this end is pending. A verdict
--- is told where the volumes told, and so is how an id stands that doesn't run. A log is down behind a fault of its volume that some command was told, and then
--- nothing more is flushed. A refusal for an end that is pending goes by how the session stands, and nothing more is
+-- is told where the volumes told, and so is how an id stands that doesn't run. A log is down behind a fault of its volume
+-- that some command was told, and then nothing more is flushed. A refusal for an end that is pending goes by how the session stands, and nothing more is
 -- asked of it here.
 abbrev pub IsLawfulReply : Facts → RoundSpan → By → Stance → Option Refusal → Command → Reply → Type 0
 IsLawfulReply f round by s pending command (replies.Refused refusals.Memory) = IsTrue (may_lack_memory command s pending)

@@ -1,4 +1,4 @@
-//! What a session has told in a round, for contracts alone: its text is written as it goes on.
+//! What a session has told in a round, for contracts alone: what is kept of it as it goes on is a `LineKeeper`'s.
 ghost use Rattle.std.specs.Prelude.{◌≡◌, List, [], ◌∷◌, ◌++◌};
 ghost use Rattle.tx_model.specs.declared.report.Line.{Line};
 

@@ -24,8 +24,8 @@ pub record HasRisenAt {P : Type 0} (faults : P → ℕ) (times place : ℕ) (old
   pub risen : HasRisenBy times (faults before) (faults now)
 
 module _ {L P : Type 0} (l : logs.Ghosts L) (p : disks.Ghosts P) where
-  -- Since the mounting each volume's count rose by no less than any one session was told that this volume failed. The
-  -- volumes of which none was told are as they were.
+  -- Since the mounting each volume's count rose by no less than any one session's commands were told that this volume
+  -- failed. Those of the multixacts' stores are as they were.
   pub record HaveCauses (steps : List Step) (old new : Volumes L P) : Type 0 where
     pub log : (session : ℕ) → HasRisenBy (told_faults steps session log_lock) (l.faults old.log) (l.faults new.log)
     pub xact : (session bank : ℕ) → bank < length old.xact.items

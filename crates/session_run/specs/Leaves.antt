@@ -14,8 +14,8 @@ use Rattle.session_run.specs.Causes.{HaveCauses}
 use Rattle.session_run.specs.Records.{LogHolds}
 
 module _ {L P : Type 0} (l : logs.Ghosts L) (p : disks.Ghosts P) where
-  -- Volumes were mounted as they may come first, and the media holds them again. The log's has the records, if it tells
-  -- what it holds, and each fault that a reply tells of has its cause.
+  -- Such volumes were mounted as may come first, and the media gives back no others than these. The log's has the records,
+  -- if it tells what it holds, and none counted fewer faults than any one session's commands were told of.
   pub record LeavesVolumes (first gives : Volumes L P → Type 0) (life : LifeReport) : Type 0 where
     pub mounted : Volumes L P
     pub volumes : Volumes L P

@@ -176,8 +176,8 @@ where
     requires new { IsTrue (M.is_new media.old) }
 
     // The main guarantee, for `run`: the bytes written report one legal history, each command once and in order, and
-    // each reply lawful. The media holds a log with the records that the report tells, and no fault is told of a volume
-    // that hasn't counted it.
+    // each reply lawful. The media holds a log with the records that the report tells, and no session's commands are told
+    // of more faults of a volume than it has counted.
     ensures done { result ≡ 0 → IsRun (map string_bytes words.now)
         → (run : IsWholeRun M.Pages.tells (S.left source.old) (S.left source.new) (K.held sink.old) (K.held sink.new))
         × LeavesVolumes M.Log.LogDisk M.Pages.PageDisk (HasBanks run.answer.script.banks) (M.gives media.new)

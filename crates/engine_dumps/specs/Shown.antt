@@ -26,14 +26,24 @@ use Rattle.engine_host.specs.Opening.{faults_behind}
 
 -- ---- the log
 
--- So many bytes were read at a place of a volume that opens to the life's records, at least to the flushed number.
-pub record ShowsLog (start : Start) (es : List Entry) (at : ℕ) (old : List ℕ) (count : ℕ) (new : List ℕ) : Type 0 where
-  pub volume : Volume
+-- The volume opens to the life's records, at least to the flushed number.
+pub record OpensToList (start : Start) (es : List Entry) (volume : Volume) : Type 0 where
   pub number : ℕ
   pub past : List Rec
   pub first : ℕ
   pub opens : HasFlushed number (past ++ recs_in es) first (flushed_to start es) volume
+
+-- So many bytes were read at a place of such a volume.
+pub record ShowsLog (start : Start) (es : List Entry) (at : ℕ) (old : List ℕ) (count : ℕ) (new : List ℕ) : Type 0 where
+  pub volume : Volume
+  pub holds : OpensToList start es volume
   pub read : IsRead volume.bytes at old count new
+
+-- The bytes are those of such a volume from a place on, so many or as many as there are.
+pub record AreLogBytes (start : Start) (es : List Entry) (from size : ℕ) (bytes : List ℕ) : Type 0 where
+  pub volume : Volume
+  pub holds : OpensToList start es volume
+  pub piece : bytes ≡ take size (drop from volume.bytes)
 
 -- ---- pages
 

@@ -23,6 +23,13 @@ refusal_by (refusals.DiskFault lock) = no_lives.Device
 refusal_by refusals.Full = no_lives.Full
 refusal_by refusals.Memory = no_lives.Memory
 
+-- it comes only of volumes that were mounted
+abbrev pub IsOfVolumes : NoLife → Type 0
+IsOfVolumes (no_lives.Damaged at) = Unit {0}
+IsOfVolumes no_lives.OldLog = Unit {0}
+IsOfVolumes no_lives.Full = Unit {0}
+IsOfVolumes refusal = ⊥
+
 module _ {L P : Type 0} (l : logs.Ghosts L) (p : disks.Ghosts P) where
   -- the log's volume failed, or that of a bank
   abbrev pub HasVolumeFailed : Volumes L P → Volumes L P → Type 0

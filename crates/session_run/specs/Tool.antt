@@ -111,6 +111,15 @@ IsUnread (endings.NoScript text) = Unit {0}
 IsUnread endings.ReadFault = Unit {0}
 IsUnread ending = ⊥
 
+-- the ending comes only of volumes that were mounted
+abbrev pub HasMounted : Ending → Type 0
+HasMounted (endings.Report text) = Unit {0}
+HasMounted (endings.Summary text) = Unit {0}
+HasMounted (endings.Damaged text) = Unit {0}
+HasMounted endings.Full = Unit {0}
+HasMounted endings.OldLog = Unit {0}
+HasMounted ending = ⊥
+
 -- the status that the tool answers
 abbrev pub status_of : Ending → ℕ
 status_of (endings.Report text) = 0

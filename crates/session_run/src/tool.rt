@@ -1,5 +1,5 @@
 //! The tool's top call, with the main guarantee (`docs/GUARANTEES.md`).
-ghost use Rattle.std.specs.Prelude.{◌≡◌, ◌≢◌, ◌≤◌, ◌⊎◌, ◌++◌, ◌∷◌, ℕ, List, Option, [], IsTrue, codes, map, string_bytes, take};
+ghost use Rattle.std.specs.Prelude.{◌≡◌, ◌≢◌, ◌≤◌, ◌⊎◌, ◌++◌, ◌∷◌, ℕ, List, Option, [], IsTrue, codes, false, map, string_bytes, take};
 ghost use Rattle.std.specs.Io.KnownBytes.{Appends};
 ghost use Rattle.disk_core.specs.Media.{HasBanks};
 ghost use Rattle.tx_io.specs.Causes.{Rose};
@@ -11,7 +11,7 @@ ghost use Rattle.script_gen.specs.Laws.{most_transactions};
 ghost use Rattle.script_gen.specs.Words.{IsGen};
 ghost use Rattle.session_run.specs.declared.task.Task.TheVariants as tasks;
 ghost use Rattle.session_run.specs.Leaves.{LeavesVolumes};
-ghost use Rattle.session_run.specs.Tool.{Ends, HoldsFront, IsAccepted, IsSized, IsUnread, IsUnrunBy, IsWholeSummary, damage_text, status_of, text_of};
+ghost use Rattle.session_run.specs.Tool.{Ends, HasMounted, HoldsFront, IsAccepted, IsSized, IsUnread, IsUnrunBy, IsWholeSummary, damage_text, status_of, text_of};
 
 use crate::ending::{Ending, unopened, unread};
 use crate::run::{count_script, run_script};
@@ -47,6 +47,7 @@ where
     ensures idle { IsTrue (M.is_idle media.new) }
     ensures unmounted { IsUnread result → media.new ≡ media.old }
     ensures count { M.faults media.old ≤ M.faults media.new }
+    ensures used { HasMounted result → M.is_new media.new ≡ false }
 {
     let script = match take_script(alloc, source) {
         Ok(script) => script,
@@ -77,6 +78,7 @@ where
         left left faults faults HasBanks (M.faults media.old) (M.faults media.new) (M.gives media.new) result }
     ensures idle { IsTrue (M.is_idle media.new) }
     ensures count { M.faults media.old ≤ M.faults media.new }
+    ensures used { HasMounted result → M.is_new media.new ≡ false }
 {
     generated_scripts_run();
     let script = match generate(alloc, seed, size) {
@@ -113,6 +115,7 @@ where
     ensures idle { IsTrue (M.is_idle media.new) }
     ensures unmounted { IsUnread result → media.new ≡ media.old }
     ensures count { M.faults media.old ≤ M.faults media.new }
+    ensures used { HasMounted result → M.is_new media.new ≡ false }
 {
     match task {
         Task::Run => run_source(rt, alloc, source, media, threads),
@@ -219,6 +222,7 @@ where
     ensures unused { (IsAccepted (map string_bytes words.now) → ⊥) → media.new ≡ media.old }
     ensures unmounted { (result ≡ 1) ⊎ (result ≡ 3) → media.new ≡ media.old }
     ensures rested { IsTrue (M.is_idle media.new) }
+    ensures used { (result ≡ 0) ⊎ ((result ≡ 7) ⊎ ((result ≡ 9) ⊎ (result ≡ 10))) → M.is_new media.new ≡ false }
 
     // And the line that it then writes.
     ensures no_words { result ≡ 2 → Appends (K.held sink.old) (K.held sink.new) (codes "words" ++ 10 ∷ []) }

@@ -19,7 +19,7 @@ use Rattle.script_source.specs.declared.script.NoScript.TheVariants as no_script
 use Rattle.script_source.specs.Sources.{HasScript, IsNoScriptOf}
 use Rattle.engine_life.specs.declared.refusal.NoLife.{NoLife}
 use Rattle.engine_life.specs.declared.refusal.NoLife.TheVariants as no_lives
-use Rattle.engine_life.specs.Refusals.{HasDeviceFailed, IsOfVolumes}
+use Rattle.engine_life.specs.Refusals.{IsOfVolumes}
 use Rattle.tx_io.specs.Causes.{Rose}
 use Rattle.session_run.specs.declared.ending.Ending.{Ending}
 use Rattle.session_run.specs.declared.ending.Ending.TheVariants as endings
@@ -98,7 +98,7 @@ module _ {L P : Type 0} (l : logs.Ghosts L) (p : disks.Ghosts P) where
   unopened_ends task left left' faults faults' first before now gives refusal (endings.NoScript text) t u = absurd t
   unopened_ends task left left' faults faults' first before now gives refusal endings.ReadFault t u = absurd t
   unopened_ends task left left' faults faults' first before now gives refusal endings.Memory t u = tt
-  unopened_ends task left left' faults faults' first before now gives refusal endings.Device t u = (subst (IsUnrun l p task left left' first before now gives) t u).2
+  unopened_ends task left left' faults faults' first before now gives refusal endings.Device t u = subst (IsUnrun l p task left left' first before now gives) t u
   unopened_ends task left left' faults faults' first before now gives refusal (endings.Damaged text) t u = (t.0, t.1, subst (IsUnrun l p task left left' first before now gives) t.2 u)
   unopened_ends task left left' faults faults' first before now gives refusal endings.Full t u = subst (IsUnrun l p task left left' first before now gives) t u
   unopened_ends task left left' faults faults' first before now gives refusal endings.OldLog t u = subst (IsUnrun l p task left left' first before now gives) t u
@@ -225,7 +225,7 @@ module _ {L P : Type 0} (l : logs.Ghosts L) (p : disks.Ghosts P) (words : List (
     pub refused : status ≡ 2 → ⊥
     pub read : status ≡ 3 → IsRun words × Rose faults faults' × Appends held held' (codes "read-fault" ++ 10 ∷ [])
     pub write : status ≡ 4 → B
-    pub device : status ≡ 5 → HasDeviceFailed l p first before now gives × Appends held held' (codes "device" ++ 10 ∷ [])
+    pub device : status ≡ 5 → IsUnrunBy l p words left left' first before now gives no_lives.Device × Appends held held' (codes "device" ++ 10 ∷ [])
     pub memory : status ≡ 6 → Appends held held' (codes "memory" ++ 10 ∷ [])
     pub damaged : status ≡ 7 → (at : ℕ) × Appends held held' (damage_text at) × IsUnrunBy l p words left left' first before now gives (no_lives.Damaged at)
     pub full : status ≡ 9 → IsUnrunBy l p words left left' first before now gives no_lives.Full × Appends held held' (codes "log-full" ++ 10 ∷ [])
@@ -252,8 +252,8 @@ module _ {L P : Type 0} (l : logs.Ghosts L) (p : disks.Ghosts P) (words : List (
   read endings.ReadFault k w = (run_asked words task is k.0, k.1, w.1)
   read e k w = absurd (omega (arith, w.0))
 
-  device : (e : Ending) → Ended e → (status_of e ≡ 5) × Wrote e → HasDeviceFailed l p first before now gives × Appends held held' (codes "device" ++ 10 ∷ [])
-  device endings.Device k w = (k, w.1)
+  device : (e : Ending) → Ended e → (status_of e ≡ 5) × Wrote e → IsUnrunBy l p words left left' first before now gives no_lives.Device × Appends held held' (codes "device" ++ 10 ∷ [])
+  device endings.Device k w = ((task, is, k), w.1)
   device e k w = absurd (omega (arith, w.0))
 
   memory : (e : Ending) → (status_of e ≡ 6) × Wrote e → Appends held held' (codes "memory" ++ 10 ∷ [])

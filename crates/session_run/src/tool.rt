@@ -4,7 +4,6 @@ ghost use Rattle.std.specs.Io.KnownBytes.{Appends};
 ghost use Rattle.disk_core.specs.Media.{HasBanks};
 ghost use Rattle.tx_io.specs.Causes.{Rose};
 ghost use Rattle.engine_life.specs.declared.refusal.NoLife.TheVariants as no_lives;
-ghost use Rattle.engine_life.specs.Refusals.{HasDeviceFailed};
 ghost use Rattle.run_law.specs.Tool.{IsRefused, IsRun, IsWholeRun, ReadsUpTo, most_read};
 ghost use Rattle.script_gen.specs.Generated.{generated};
 ghost use Rattle.script_gen.specs.Laws.{most_transactions};
@@ -203,8 +202,9 @@ where
     ensures front { result ≡ 4 → HoldsFront M.Log.LogDisk M.Pages.PageDisk (map string_bytes words.now)
         (S.left source.old) (S.left source.new) (S.faults source.old) (S.faults source.new) HasBanks
         (M.faults media.old) (M.faults media.new) (M.gives media.new) (K.held sink.old) (K.held sink.new) }
-    ensures device { result ≡ 5 → HasDeviceFailed M.Log.LogDisk M.Pages.PageDisk HasBanks
-        (M.faults media.old) (M.faults media.new) (M.gives media.new) }
+    ensures device { result ≡ 5 → IsUnrunBy M.Log.LogDisk M.Pages.PageDisk (map string_bytes words.now)
+        (S.left source.old) (S.left source.new) HasBanks (M.faults media.old) (M.faults media.new) (M.gives media.new)
+        no_lives.Device }
     ensures damaged { result ≡ 7 → (at : ℕ) × Appends (K.held sink.old) (K.held sink.new) (damage_text at)
         × IsUnrunBy M.Log.LogDisk M.Pages.PageDisk (map string_bytes words.now) (S.left source.old) (S.left source.new)
         HasBanks (M.faults media.old) (M.faults media.new) (M.gives media.new) (no_lives.Damaged at) }

@@ -6,7 +6,7 @@ use Rattle.tx_core.specs.Locks.{log_lock}
 use Rattle.tx_model.specs.declared.report.DumpOf.TheVariants as dumps
 use Rattle.tx_model.specs.declared.reply.Reply.{Reply}
 use Rattle.engine_dumps.specs.Dumps.{IsAnswered, ShowsBytes}
-use Rattle.engine_dumps.proofs.Answering.{bytes_counted, log_counted}
+use Rattle.engine_dumps.proofs.FaultsTold.{bytes_counted, log_counted}
 use Rattle.engine_dumps.proofs.Logging.{log_bytes}
 use Rattle.engine_dumps.proofs.answering.show_log.Goals as goal
 

@@ -8,7 +8,7 @@ use Rattle.tx_events.specs.Base.{IsBase}
 use Rattle.tx_core.specs.Locks.{subtrans_lock}
 use Rattle.engine_dumps.specs.Dumps.{IsAnswered, IsFaultCounted, ShowsBytes}
 use Rattle.engine_dumps.specs.Shown.{HasFailed, ShowsSubtrans}
-use Rattle.engine_dumps.proofs.Answering.{bank_counted, bank_shows, bytes_counted}
+use Rattle.engine_dumps.proofs.FaultsTold.{bank_counted, bank_shows, bytes_counted}
 use Rattle.engine_dumps.proofs.Cutoffs.{subtrans_refused, subtrans_told}
 use Rattle.engine_dumps.proofs.answering.show_subtrans.Goals as goal
 

@@ -7,7 +7,7 @@ use Rattle.tx_model.specs.declared.reply.Reply.{Reply}
 use Rattle.tx_core.specs.Locks.{xact_lock}
 use Rattle.engine_dumps.specs.Dumps.{IsAnswered, IsFaultCounted, ShowsBytes}
 use Rattle.engine_dumps.specs.Shown.{HasFailed, ShowsXact}
-use Rattle.engine_dumps.proofs.Answering.{bank_counted, bank_shows, bytes_counted}
+use Rattle.engine_dumps.proofs.FaultsTold.{bank_counted, bank_shows, bytes_counted}
 use Rattle.engine_dumps.proofs.Cutoffs.{xact_refused, xact_told}
 use Rattle.engine_dumps.proofs.answering.show_xact.Goals as goal
 

@@ -5,7 +5,7 @@ ghost use Rattle.disk_core.specs.declared.media.Volumes.{Volumes as Mounted};
 ghost use Rattle.engine_host.specs.Opening.{AreParts, IsCluster};
 ghost use Rattle.engine_life.specs.Lives.{IsBegun, IsNewLife, LeaveMultis};
 ghost use Rattle.engine_life.specs.declared.refusal.NoLife.TheVariants as no_lives;
-ghost use Rattle.engine_life.specs.Refusals.{IsNoLife, IsUnopened};
+ghost use Rattle.engine_life.specs.Refusals.{IsNoLife, IsOfVolumes, IsUnopened};
 
 use crate::life::{Aside, OpenLife};
 use crate::refusal::{NoLife, refusal_of};
@@ -164,6 +164,7 @@ pub fn open_life<M: Media>(
     ensures mounted { OnOk result (M.is_idle media.new ≡ false) }
     ensures idle { OnErr result (IsTrue (M.is_idle media.new)) }
     ensures count { M.faults media.old ≤ M.faults media.new }
+    ensures used { IfErr result (λ refusal. IsOfVolumes refusal → M.is_new media.new ≡ false) }
     ensures refused { IfErr result (λ refusal. IsUnopened M.Log.LogDisk M.Pages.PageDisk cluster HasBanks
         (M.faults media.old) (M.faults media.new) (M.gives media.new) refusal) }
 {

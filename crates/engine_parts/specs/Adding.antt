@@ -1,5 +1,5 @@
 -- What a command adds to the lists of the locks.
-use Rattle.std.specs.Prelude.{◌≡◌, ℕ, false, IsTrue, List, ◌∷◌, ◌++◌, Result, Ok, Err}
+use Rattle.std.specs.Prelude.{◌≡◌, ℕ, false, IsTrue, List, ◌∷◌, ◌++◌, None, Result, Ok, Err}
 use Rattle.std.specs.List.{AllByRecursion}
 use Rattle.notes.specs.Lists.{at, own}
 use Rattle.tx_events.specs.declared.event.By.{By}
@@ -34,14 +34,16 @@ pub record Adds (by : By) (May : ℕ → Kind → Type 0) (lists more : List (Li
   pub each : (lock : ℕ) → AddsTo by (May lock) (at lists lock) (at more lock)
 
 -- What a step of a command may add that appends such records, flushes if at all, and tells such refusals. A fault is
--- one that it tells: of the log's volume in a flush, or of the volume behind this very lock. Nothing is forgotten.
+-- one that it tells: of the log's volume in a flush, or of the volume behind this very lock. Nothing is forgotten, and no
+-- page is cut.
 abbrev pub MayAdd : (Rec → Type 0) → Type 0 → (Refusal → Type 0) → ℕ → Kind → Type 0
 MayAdd Appends Flushes Tells lock (kinds.Append rec) = Appends rec
 MayAdd Appends Flushes Tells lock (kinds.Flush to) = Flushes
 MayAdd Appends Flushes Tells lock (kinds.Forget number) = ⊥
 MayAdd Appends Flushes Tells lock (kinds.LogFault asked count) = (asked ≡ calls.Flush) × Tells refusals.LogFault
 MayAdd Appends Flushes Tells lock (kinds.Fault callers changes cut count) =
-    (named : Lock) × (number_of named ≡ lock) × Tells (refusals.DiskFault named)
+    (named : Lock) × (number_of named ≡ lock) × Tells (refusals.DiskFault named) × (cut ≡ None)
+MayAdd Appends Flushes Tells lock (kinds.Cut page) = ⊥
 MayAdd Appends Flushes Tells lock _ = Unit {0}
 
 -- the refusal that a step was answered

@@ -28,6 +28,8 @@ use Rattle.tx_model.specs.Stance.{Stance, after, lacking}
 use Rattle.tx_model.proofs.LineGrowth.{stance_push}
 use Rattle.life_law.specs.Pending.{pending, pending_after}
 use Rattle.life_law.specs.Refused.{refused_by}
+use Rattle.life_law.proofs.IdSteps.{bounds_of}
+use Rattle.life_law.proofs.PendingSteps.{pending_push}
 use Rattle.tx_core.specs.declared.entry.Entry.{Entry}
 use Rattle.tx_core.specs.declared.entry.Kind.TheVariants as kinds
 use Rattle.tx_core.specs.declared.entry.Start.{Start}
@@ -46,10 +48,9 @@ use Rattle.engine_parts.proofs.Answering.{answer_grows}
 use Rattle.session_promise.specs.Told.{Told, between, lines_of, told_in}
 use Rattle.session_promise.specs.Promise.{Answered, IsEnd, IsInRound, IsToldWell, Promise, PromiseGoesOn, SaysLogFault, is_made_level, recs_of}
 use Rattle.session_promise.proofs.Growing.{all_lines_of, each_grows, IsUpTo, pending_same, stance_same}
-use Rattle.session_promise.proofs.IdSteps.{bounds_of}
 use Rattle.session_promise.proofs.Known.{known_of}
 use Rattle.session_promise.proofs.PendingFollows.{IsKnownOf, by_reply}
-use Rattle.session_promise.proofs.PendingGrowth.{AreSettled, pending_push}
+use Rattle.session_promise.proofs.PendingGrowth.{AreSettled}
 use Rattle.session_promise.proofs.Settling.{settled_of, up_to, within_all}
 use Rattle.session_promise.proofs.Widening.{AreWider, wider_both, wider_lines, wider_same, wider_to}
 

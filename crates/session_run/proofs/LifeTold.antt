@@ -1,5 +1,6 @@
 -- What the report tells of a life that is over.
 use Rattle.std.proofs.Common.{◌≡◌, ℕ, ◌^◌, ◌<◌, ◌≤◌, Bool, IsTrue, List, [], ◌∷◌, ◌++◌, None, refl, sym, ap, subst, ◌∙◌, length}
+use Rattle.std.proofs.lemmas.List.Sums.{count_by-le-length}
 use Rattle.std.specs.List.{filter, flat_map}
 use Rattle.disk_core.specs.declared.log_disk.LogDisk as logs
 use Rattle.disk_core.specs.declared.page_disk.PageDisk as disks
@@ -10,7 +11,6 @@ use Rattle.hall.specs.Calls.{start_of, view}
 use Rattle.notes.specs.Lists.{at}
 use Rattle.tx_events.specs.declared.event.Event.{Event}
 use Rattle.tx_events.specs.declared.record.Rec.TheVariants as records
-use Rattle.tx_events.proofs.ListSteps.{filter_length}
 use Rattle.tx_model.specs.declared.report.Life.{Life}
 use Rattle.tx_model.specs.declared.report.LifeReport.{LifeReport}
 use Rattle.tx_model.specs.declared.report.Line.{Line}
@@ -125,7 +125,7 @@ counts_told tells s life ss text F commands verdicts lived many told exact f =
 
 -- no more of them have a verdict
 pub verdicts_few : (lines : List Line) → verdicts_in lines ≤ length lines
-verdicts_few lines = filter_length (λ (l : Line). is_verdict l.reply) lines
+verdicts_few lines = count_by-le-length (λ (l : Line). is_verdict l.reply) lines
 
 -- behind the text that begins a report it is a report, of the same life
 pub report_whole : (tells : Bool) (s : Script) (text : List ℕ) (F : LifeReport → Type 0) → (r : IsRestOfReport tells s (front_text s.base) text) → F r.life

@@ -1,5 +1,5 @@
 //! Runs a script over a media, and answers the text of its report, or the counts of what it did.
-ghost use Rattle.std.specs.Prelude.{◌≡◌, ◌^◌, ◌<◌, ◌≤◌, IfErr, IfOk, IsTrue, List, OnOk};
+ghost use Rattle.std.specs.Prelude.{◌≡◌, ◌^◌, ◌<◌, ◌≤◌, false, IfErr, IfOk, IsTrue, List, OnOk};
 ghost use Rattle.disk_core.specs.Media.{HasBanks};
 ghost use Rattle.disk_core.specs.declared.media.Volumes.{Volumes};
 ghost use Rattle.tx_model.specs.declared.report.Report.{Report};
@@ -8,7 +8,7 @@ ghost use Rattle.report_text.specs.ReportText.{front_text, report_text};
 ghost use Rattle.run_law.specs.Tool.{IsReportOf};
 ghost use Rattle.engine_host.specs.Opening.{IsCluster};
 ghost use Rattle.engine_life.specs.Lives.{IsNewLife, life_told};
-ghost use Rattle.engine_life.specs.Refusals.{IsUnopened};
+ghost use Rattle.engine_life.specs.Refusals.{IsOfVolumes, IsUnopened};
 ghost use Rattle.wal_core.specs.LogViews.{log_disk};
 ghost use Rattle.script_gen.specs.Summaries.{IsSummaryOf};
 ghost use Rattle.session_run.specs.Leaves.{HasLeft, LeavesVolumes};
@@ -164,6 +164,8 @@ where
         × LeavesVolumes M.Log.LogDisk M.Pages.PageDisk (HasBanks script.now.banks) (M.gives media.new) is.life) }
     ensures idle { IsTrue (M.is_idle media.new) }
     ensures count { M.faults media.old ≤ M.faults media.new }
+    ensures used { OnOk result (M.is_new media.new ≡ false) }
+    ensures used_so { IfErr result (λ refusal. IsOfVolumes refusal → M.is_new media.new ≡ false) }
     ensures refused { IfErr result (λ refusal. IsUnopened M.Log.LogDisk M.Pages.PageDisk (cluster_of script.now)
         HasBanks (M.faults media.old) (M.faults media.new) (M.gives media.new) refusal) }
 {
@@ -198,6 +200,8 @@ where
         counts.lawful.life) }
     ensures idle { IsTrue (M.is_idle media.new) }
     ensures count { M.faults media.old ≤ M.faults media.new }
+    ensures used { OnOk result (M.is_new media.new ≡ false) }
+    ensures used_so { IfErr result (λ refusal. IsOfVolumes refusal → M.is_new media.new ≡ false) }
     ensures refused { IfErr result (λ refusal. IsUnopened M.Log.LogDisk M.Pages.PageDisk (cluster_of script.now)
         HasBanks (M.faults media.old) (M.faults media.new) (M.gives media.new) refusal) }
 {

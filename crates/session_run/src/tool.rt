@@ -1,17 +1,16 @@
 //! The tool's top call, with the main guarantee (`docs/GUARANTEES.md`).
-ghost use Rattle.std.specs.Prelude.{◌≡◌, ◌≢◌, ◌≤◌, ◌⊎◌, ◌++◌, ◌∷◌, ℕ, List, Option, [], IsTrue, codes, map, string_bytes, take};
+ghost use Rattle.std.specs.Prelude.{◌≡◌, ◌≢◌, ◌≤◌, ◌⊎◌, ◌++◌, ◌∷◌, ℕ, List, Option, [], IsTrue, codes, false, map, string_bytes, take};
 ghost use Rattle.std.specs.Io.KnownBytes.{Appends};
 ghost use Rattle.disk_core.specs.Media.{HasBanks};
 ghost use Rattle.tx_io.specs.Causes.{Rose};
 ghost use Rattle.engine_life.specs.declared.refusal.NoLife.TheVariants as no_lives;
-ghost use Rattle.engine_life.specs.Refusals.{HasDeviceFailed};
 ghost use Rattle.run_law.specs.Tool.{IsRefused, IsRun, IsWholeRun, ReadsUpTo, most_read};
 ghost use Rattle.script_gen.specs.Generated.{generated};
 ghost use Rattle.script_gen.specs.Laws.{most_transactions};
 ghost use Rattle.script_gen.specs.Words.{IsGen};
 ghost use Rattle.session_run.specs.declared.task.Task.TheVariants as tasks;
 ghost use Rattle.session_run.specs.Leaves.{LeavesVolumes};
-ghost use Rattle.session_run.specs.Tool.{Ends, HoldsFront, IsAccepted, IsSized, IsUnread, IsUnrunBy, IsWholeSummary, damage_text, status_of, text_of};
+ghost use Rattle.session_run.specs.Tool.{Ends, HasMounted, HoldsFront, IsAccepted, IsSized, IsUnread, IsUnrunBy, IsWholeSummary, damage_text, status_of, text_of};
 
 use crate::ending::{Ending, unopened, unread};
 use crate::run::{count_script, run_script};
@@ -47,6 +46,7 @@ where
     ensures idle { IsTrue (M.is_idle media.new) }
     ensures unmounted { IsUnread result → media.new ≡ media.old }
     ensures count { M.faults media.old ≤ M.faults media.new }
+    ensures used { HasMounted result → M.is_new media.new ≡ false }
 {
     let script = match take_script(alloc, source) {
         Ok(script) => script,
@@ -77,6 +77,7 @@ where
         left left faults faults HasBanks (M.faults media.old) (M.faults media.new) (M.gives media.new) result }
     ensures idle { IsTrue (M.is_idle media.new) }
     ensures count { M.faults media.old ≤ M.faults media.new }
+    ensures used { HasMounted result → M.is_new media.new ≡ false }
 {
     generated_scripts_run();
     let script = match generate(alloc, seed, size) {
@@ -113,6 +114,7 @@ where
     ensures idle { IsTrue (M.is_idle media.new) }
     ensures unmounted { IsUnread result → media.new ≡ media.old }
     ensures count { M.faults media.old ≤ M.faults media.new }
+    ensures used { HasMounted result → M.is_new media.new ≡ false }
 {
     match task {
         Task::Run => run_source(rt, alloc, source, media, threads),
@@ -200,8 +202,9 @@ where
     ensures front { result ≡ 4 → HoldsFront M.Log.LogDisk M.Pages.PageDisk (map string_bytes words.now)
         (S.left source.old) (S.left source.new) (S.faults source.old) (S.faults source.new) HasBanks
         (M.faults media.old) (M.faults media.new) (M.gives media.new) (K.held sink.old) (K.held sink.new) }
-    ensures device { result ≡ 5 → HasDeviceFailed M.Log.LogDisk M.Pages.PageDisk HasBanks
-        (M.faults media.old) (M.faults media.new) (M.gives media.new) }
+    ensures device { result ≡ 5 → IsUnrunBy M.Log.LogDisk M.Pages.PageDisk (map string_bytes words.now)
+        (S.left source.old) (S.left source.new) HasBanks (M.faults media.old) (M.faults media.new) (M.gives media.new)
+        no_lives.Device }
     ensures damaged { result ≡ 7 → (at : ℕ) × Appends (K.held sink.old) (K.held sink.new) (damage_text at)
         × IsUnrunBy M.Log.LogDisk M.Pages.PageDisk (map string_bytes words.now) (S.left source.old) (S.left source.new)
         HasBanks (M.faults media.old) (M.faults media.new) (M.gives media.new) (no_lives.Damaged at) }
@@ -219,6 +222,7 @@ where
     ensures unused { (IsAccepted (map string_bytes words.now) → ⊥) → media.new ≡ media.old }
     ensures unmounted { (result ≡ 1) ⊎ (result ≡ 3) → media.new ≡ media.old }
     ensures rested { IsTrue (M.is_idle media.new) }
+    ensures used { (result ≡ 0) ⊎ ((result ≡ 7) ⊎ ((result ≡ 9) ⊎ (result ≡ 10))) → M.is_new media.new ≡ false }
 
     // And the line that it then writes.
     ensures no_words { result ≡ 2 → Appends (K.held sink.old) (K.held sink.new) (codes "words" ++ 10 ∷ []) }

@@ -2,7 +2,7 @@ use Rattle.std.proofs.Common.{refl, subst, sym}
 use Rattle.disk_core.specs.Media.{HasBanks}
 use Rattle.session_run.specs.declared.task.Task.TheVariants as tasks
 use Rattle.session_run.specs.Runs.{IsTaken}
-use Rattle.session_run.proofs.ToolEnds.{is_taken, summed, unopened_ends}
+use Rattle.session_run.proofs.ToolEnds.{is_taken, refused_mounted, summed, unopened_ends}
 use Rattle.session_run.proofs.tool.run_generated.Goals as goal
 
 pub count_script-requires-clause-taken : goal.count_script-requires-clause-taken
@@ -18,3 +18,7 @@ returns-clause-ends g c = λ left faults.
     let m = g.M.Media in
     unopened_ends g.M.Log.LogDisk g.M.Pages.PageDisk (tasks.Gen c.args.seed c.args.size) left left faults faults HasBanks (m.faults c.args.media.now) (m.faults c.count_script.new.media) (m.gives c.count_script.new.media) c.in-Err-count_script.refusal c.unopened.result c.unopened.ensures
     (c.in-Ok.script, (c.in-Ok.ensures, refl), c.in-Err-count_script.ensures.refused)
+
+pub returns-clause-used : goal.returns-clause-used
+returns-clause-used g c = λ mounted.
+    c.in-Err-count_script.ensures.used_so (refused_mounted c.in-Err-count_script.refusal c.unopened.result c.unopened.ensures mounted)

@@ -73,6 +73,6 @@ module _ {L P : Type 0} {l : logs.Ghosts L} {p : disks.Ghosts P} where
   pub stands_refused : (start : Start) (lock : ℕ) (part : Part L P l p) (by : By) (refusal : BankRefusal) (es : List Entry) → IsPageLock start lock → PartStands start lock part es → PartStands start lock part (es ++ entry_of_refusal by (faults_in part) refusal ∷ [])
   stands_refused start lock (parts.Log log) by refusal es pages s = let q : lock ≡ 0 = s.0 in let f = pages.from in absurd (omega arith)
   stands_refused start lock (parts.Proc table) by refusal es pages s = let q : lock ≡ 1 = s.0 in let f = pages.from in absurd (omega arith)
-  stands_refused start lock (parts.Xact store) by refusal es pages s = (s.0, s.1, xact_refused start s.0 store by refusal es s.2)
-  stands_refused start lock (parts.Subtrans store) by refusal es pages s = (s.0, s.1, subtrans_refused start s.0 store by refusal es s.2)
+  stands_refused start lock (parts.Xact store) by refusal es pages s = (s.0, s.1, xact_refused start s.0 store.value by refusal es s.2)
+  stands_refused start lock (parts.Subtrans store) by refusal es pages s = (s.0, s.1, subtrans_refused start s.0 store.value by refusal es s.2)
   stands_refused start lock parts.Vacant by refusal es pages s = s

@@ -1,6 +1,7 @@
 -- A log of which only bytes were read.
-use Rattle.std.proofs.Common.{◌≡◌, ℕ, ◌-◌, ◌≤◌, List, ◌++◌, IsTrue, drop, length, length-drop, min, refl, sym, take, ap, subst, ◌∙◌, arith}
+use Rattle.std.proofs.Common.{Box, Global, ◌≡◌, ℕ, ◌-◌, ◌≤◌, List, ◌++◌, IsTrue, drop, length, length-drop, min, refl, sym, take, ap, subst, ◌∙◌, arith}
 use Rattle.std.proofs.lemmas.List.{length-take-le, take_at, take_min}
+use Rattle.std.specs.Box.{with_value}
 use Rattle.disk_core.specs.declared.log_disk.LogDisk as logs
 use Rattle.disk_core.specs.declared.page_disk.PageDisk as disks
 use Rattle.disk_core.specs.Faults.{HasRisen}
@@ -69,13 +70,14 @@ module _ {D : Type 0} {g : logs.Ghosts D} where
       }
 
   -- its volume failed
-  pub log_failed : {P : Type 0} (p : disks.Ghosts P) (start : Start) (lists : List (List Entry)) (old new : WalLog D g) → IsSameLog old new → IsLogOf start old (at lists log_lock) → HasRisen (g.faults (log_disk old)) (g.faults (log_disk new)) → HasFailed g p start lists log_lock
-  log_failed p start lists old new same s risen = record {
-    before = parts.Log old;
-    now = parts.Log new;
+  pub log_failed : {P : Type 0} (p : disks.Ghosts P) (start : Start) (lists : List (List Entry)) (held : Box (WalLog D g) Global) (old new : WalLog D g) → old ≡ held.value → IsSameLog old new → IsLogOf start held.value (at lists log_lock)
+      → HasRisen (g.faults (log_disk old)) (g.faults (log_disk new)) → HasFailed g p start lists log_lock
+  log_failed p start lists held old new is same s risen = record {
+    before = parts.Log held;
+    now = parts.Log (with_value held new);
     stood = (refl, s);
-    stands = (refl, log_same start old new (at lists log_lock) same s);
-    risen = risen;
+    stands = (refl, log_same start held.value new (at lists log_lock) (subst (λ (log : WalLog D g). IsSameLog log new) is same) s);
+    risen = subst (λ (log : WalLog D g). HasRisen (g.faults (log_disk log)) (g.faults (log_disk new))) is risen;
   }
 
 -- what stands in front of what was read into

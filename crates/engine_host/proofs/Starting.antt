@@ -1,5 +1,5 @@
 -- What new parts stand for.
-use Rattle.std.proofs.Common.{ℕ, zero, suc, ◌/◌, option_map, length-append, Result, Ok, Err, is_ok, IsOk, if◌then◌else◌, insert, ◌+◌, ◌*◌, ◌%◌, ◌^◌, ◌<◌, ◌≤◌, ◌≡◌, ◌⊎◌, ⊎_elim, Bool, false, true, IsTrue, List, [], ◌∷◌, ◌++◌, Option, None, Some, length, map, max, get_or, inl, refl, sym, ap, subst, ◌∙◌, arith}
+use Rattle.std.proofs.Common.{Box, Global, ℕ, zero, suc, ◌/◌, option_map, length-append, Result, Ok, Err, is_ok, IsOk, if◌then◌else◌, insert, ◌+◌, ◌*◌, ◌%◌, ◌^◌, ◌<◌, ◌≤◌, ◌≡◌, ◌⊎◌, ⊎_elim, Bool, false, true, IsTrue, List, [], ◌∷◌, ◌++◌, Option, None, Some, length, map, max, get_or, inl, refl, sym, ap, subst, ◌∙◌, arith}
 use Rattle.std.proofs.lemmas.Option.{slice_get-map, get_or_from_slice_get}
 use Rattle.std.specs.List.{slice_get}
 use Rattle.disk_core.specs.declared.log_disk.LogDisk as logs
@@ -14,6 +14,7 @@ use Rattle.tx_events.specs.Base.{IsBase}
 use Rattle.tx_events.specs.declared.record.Counters.{Counters}
 use Rattle.tx_events.specs.declared.record.Rec.{Rec}
 use Rattle.tx_events.specs.declared.record.Rec.TheVariants as records
+use Rattle.proc_table.specs.Table.{Table, page_of}
 use Rattle.wal_core.specs.Kept.{KeepsRecords}
 use Rattle.wal_core.specs.Opening.{no_counters}
 use Rattle.tx_events.specs.Ids.{id_before, low_half}
@@ -132,6 +133,28 @@ vacant_new L P l p c bank k few counts reached = record {
   subtrans = λ b e. absurd (omega (arith, e, few));
 }
 
+second_new : (L P : Type 0) (l : logs.Ghosts L) (p : disks.Ghosts P) (c : Cluster) → IsNewPart {L = L} {P = P} {l = l} {p = p} c 2 parts.Vacant
+second_new L P l p c counts reached = record {
+  log = λ e. absurd (omega (arith, e));
+  proc = λ e. absurd (omega (arith, e));
+  xact = λ b e. absurd (omega (arith, e));
+  subtrans = λ b e. absurd (omega (arith, e));
+}
+
+-- the table of a new life
+table_new : (L P : Type 0) (l : logs.Ghosts L) (p : disks.Ghosts P) (c : Cluster) (table : Box Table Global)
+    → table.value ≡ record { base = c.base; sessions = c.sessions; initialised_up_to = page_of c.base.next; events = [] }
+    → IsNewPart {L = L} {P = P} {l = l} {p = p} c 1 (parts.Proc table)
+table_new L P l p c table is counts reached = (
+  refl,
+  record {
+    base = ap (λ (t : Table). t.base) is;
+    sessions = ap (λ (t : Table). t.sessions) is;
+    events = ap (λ (t : Table). t.events) is;
+    frontier = ap (λ (t : Table). t.initialised_up_to) is;
+  },
+)
+
 module _ {L P : Type 0} {l : logs.Ghosts L} {p : disks.Ghosts P} where
   some_same : (x y : Part L P l p) → Some x ≡ Some y → x ≡ y
   some_same x y e = ap (λ (z : Option (Part L P l p)). elim z [ None ↦ x | Some v ↦ v ]) e
@@ -145,6 +168,16 @@ module _ {L P : Type 0} {l : logs.Ghosts L} {p : disks.Ghosts P} where
       let next : (m : ℕ) → first + suc m ≡ first + 1 + m = λ m. omega arith in
       subst (λ k. IsNewPart c k part) (sym (next n))
       (push_new c (first + 1) lock xs y (λ m q e. subst (λ k. IsNewPart c k q) (next m) (are (suc m) q e)) (omega (arith, is)) new n part at)
+
+  -- the parts that have no bank: the table, and behind it one that isn't built
+  pub first_two : (c : Cluster) (xs ys zs : List (Part L P l p)) (table : Box Table Global) → xs ≡ [] → ys ≡ xs ++ parts.Proc table ∷ [] → zs ≡ ys ++ parts.Vacant ∷ []
+      → table.value ≡ record { base = c.base; sessions = c.sessions; initialised_up_to = page_of c.base.next; events = [] } → AreNew c 1 zs
+  first_two c xs ys zs table none one two is =
+      let part : Part L P l p = parts.Proc table in
+      let alone : List (Part L P l p) = part ∷ [] in
+      let all : zs ≡ alone ++ parts.Vacant ∷ [] = two ∙ ap (λ (ps : List (Part L P l p)). ps ++ parts.Vacant ∷ []) (one ∙ ap (λ (ps : List (Part L P l p)). ps ++ part ∷ []) none) in
+      subst (λ (ps : List (Part L P l p)). AreNew c 1 ps) (sym all)
+      (push_new c 1 2 alone parts.Vacant (push_new c 1 1 [] part (λ n q at. absurd cc) (omega arith) (table_new L P l p c table is)) (omega arith) (second_new L P l p c))
 
   -- with those of a bank more
   pub bank_new : (c : Cluster) (bank : ℕ) (xs : List (Part L P l p)) (a b : Part L P l p) → AreNew c 1 xs → length xs ≡ 2 + 4 * bank → IsNewPart c (xact_lock bank) a → IsNewPart c (subtrans_lock bank) b

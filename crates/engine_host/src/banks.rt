@@ -21,11 +21,11 @@ pub(crate) fn new_xact<P: PageDisk + Drop>(
     disk: P,
     cluster: &Cluster,
     bank: u32,
-) -> Result<SlruBank<P, XactPages>, (P, OpenRefusal)>
+) -> Result<Box<SlruBank<P, XactPages>>, (P, OpenRefusal)>
     requires base { IsBase cluster.now.base }
     requires inside { bank < cluster.now.banks }
-    ensures new { IfOk result (λ store. IsNewXact cluster.now bank store) }
-    ensures count { IfOk result (λ store. P.faults disk ≤ faults_of store) }
+    ensures new { IfOk result (λ store. IsNewXact cluster.now bank store.value) }
+    ensures count { IfOk result (λ store. P.faults disk ≤ faults_of store.value) }
     ensures refused { IfErr result (λ e. (e.1 ≡ refusals.Memory)
         ⊎ ((e.1 ≡ refusals.DiskFault (locks.Xact bank)) × HasRisen (P.faults disk) (P.faults e.0))) }
 {
@@ -36,7 +36,10 @@ pub(crate) fn new_xact<P: PageDisk + Drop>(
         Err((disk, _)) => return Err((disk, OpenRefusal::Memory)),
     };
     match store.clear_all() {
-        Ok(()) => Ok(store),
+        Ok(()) => match Box::new(alloc, store) {
+            Ok(store) => Ok(store),
+            Err(lacking) => Err((lacking.value.into_disk(), OpenRefusal::Memory)),
+        },
         Err(_) => Err((
             store.into_disk(),
             OpenRefusal::DiskFault {
@@ -52,11 +55,11 @@ pub(crate) fn new_subtrans<P: PageDisk + Drop>(
     disk: P,
     cluster: &Cluster,
     bank: u32,
-) -> Result<SlruBank<P, SubtransPages>, (P, OpenRefusal)>
+) -> Result<Box<SlruBank<P, SubtransPages>>, (P, OpenRefusal)>
     requires base { IsBase cluster.now.base }
     requires inside { bank < cluster.now.banks }
-    ensures new { IfOk result (λ store. IsNewSubtrans cluster.now bank store) }
-    ensures count { IfOk result (λ store. P.faults disk ≤ faults_of store) }
+    ensures new { IfOk result (λ store. IsNewSubtrans cluster.now bank store.value) }
+    ensures count { IfOk result (λ store. P.faults disk ≤ faults_of store.value) }
     ensures refused { IfErr result (λ e. (e.1 ≡ refusals.Memory)
         ⊎ ((e.1 ≡ refusals.DiskFault (locks.Subtrans bank)) × HasRisen (P.faults disk) (P.faults e.0))) }
 {
@@ -67,7 +70,10 @@ pub(crate) fn new_subtrans<P: PageDisk + Drop>(
         Err((disk, _)) => return Err((disk, OpenRefusal::Memory)),
     };
     match store.clear_all() {
-        Ok(()) => Ok(store),
+        Ok(()) => match Box::new(alloc, store) {
+            Ok(store) => Ok(store),
+            Err(lacking) => Err((lacking.value.into_disk(), OpenRefusal::Memory)),
+        },
         Err(_) => Err((
             store.into_disk(),
             OpenRefusal::DiskFault {

@@ -66,7 +66,7 @@ module _ {L P : Type 0} {l : logs.Ghosts L} {p : disks.Ghosts P} where
   xact_here start bank es (parts.Log log) k = absurd (let e = k.0 in omega (arith, e))
   xact_here start bank es (parts.Proc table) k = absurd (let e = k.0 in omega (arith, e))
   xact_here start bank es (parts.Xact store) k =
-      (volume_of store, refl, subst (λ n. faults_told start n es ≤ p.faults (volume_of store)) (sym k.1) k.2.count)
+      (volume_of store.value, refl, subst (λ n. faults_told start n es ≤ p.faults (volume_of store.value)) (sym k.1) k.2.count)
   xact_here start bank es (parts.Subtrans store) k = absurd (let e = k.1 in omega (arith, e))
   xact_here start bank es parts.Vacant k = absurd (k.xact bank refl)
 
@@ -75,7 +75,7 @@ module _ {L P : Type 0} {l : logs.Ghosts L} {p : disks.Ghosts P} where
   subtrans_here start bank es (parts.Proc table) k = absurd (let e = k.0 in omega (arith, e))
   subtrans_here start bank es (parts.Xact store) k = absurd (let e = k.1 in omega (arith, e))
   subtrans_here start bank es (parts.Subtrans store) k =
-      (volume_of store, refl, subst (λ n. faults_told start n es ≤ p.faults (volume_of store)) (sym k.1) k.2.count)
+      (volume_of store.value, refl, subst (λ n. faults_told start n es ≤ p.faults (volume_of store.value)) (sym k.1) k.2.count)
   subtrans_here start bank es parts.Vacant k = absurd (k.subtrans bank refl)
 
   no_xact : (start : Start) (lock : ℕ) (es : List Entry) (part : Part L P l p) → ((bank : ℕ) → lock ≢ xact_lock bank) → PartStands start lock part es → xact_disk part ≡ None

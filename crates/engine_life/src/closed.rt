@@ -57,6 +57,8 @@ pub fn close_life<L: LogDisk + Drop, P: PageDisk + Drop>(life: OpenLife<L, P>) -
         xact,
         subtrans,
     } = take_apart(locks, xact, subtrans);
+    let log = Box::into_inner(log);
+    let table = Box::into_inner(table);
     let (_, events) = table.into_parts();
     ClosedLife {
         log,

@@ -73,7 +73,7 @@ fn volumes_of<L: LogDisk + Drop, P: PageDisk + Drop>(
         subtrans,
     } = take_apart(locks, xact, subtrans);
     Volumes {
-        log: log.into_disk(),
+        log: Box::into_inner(log).into_disk(),
         xact,
         subtrans,
         offsets,

@@ -42,9 +42,9 @@ pub record IsVacant (lock : ℕ) : Type 0 where
 module _ {L P : Type 0} {l : logs.Ghosts L} {p : disks.Ghosts P} where
   -- each kind of part lies behind its locks alone
   abbrev pub PartStands : Start → ℕ → Part L P l p → List Entry → Type 0
-  PartStands start lock (parts.Log log) es = (lock ≡ log_lock) × IsLogOf start log es
-  PartStands start lock (parts.Proc table) es = (lock ≡ proc_lock) × ProcStands start table es
-  PartStands start lock (parts.Xact store) es = (bank : ℕ) × (lock ≡ xact_lock bank) × IsXactOf start bank store es
+  PartStands start lock (parts.Log log) es = (lock ≡ log_lock) × IsLogOf start log.value es
+  PartStands start lock (parts.Proc table) es = (lock ≡ proc_lock) × ProcStands start table.value es
+  PartStands start lock (parts.Xact store) es = (bank : ℕ) × (lock ≡ xact_lock bank) × IsXactOf start bank store.value es
   PartStands start lock (parts.Subtrans store) es =
-      (bank : ℕ) × (lock ≡ subtrans_lock bank) × IsSubtransOf start bank store es
+      (bank : ℕ) × (lock ≡ subtrans_lock bank) × IsSubtransOf start bank store.value es
   PartStands start lock parts.Vacant es = IsVacant lock

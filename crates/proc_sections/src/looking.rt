@@ -34,9 +34,10 @@ pub fn read_oldest<R: Wait, L: LogDisk, P: PageDisk>(
         ≡ oldest_id (start_of hall.now).base.oldest (history (view caller.new.pass).seen) }
     ensures same { (caller.new.session ≡ caller.old.session) × (caller.new.number ≡ caller.old.number) }
 {
-    let table = enter_proc(rt, hall, caller);
+    let held = enter_proc(rt, hall, caller);
+    let table = &*held;
     let oldest = table.oldest();
-    leave_looked(hall, caller, 1, Part::Proc(table));
+    leave_looked(hall, caller, 1, Part::Proc(held));
     oldest
 }
 
@@ -70,12 +71,13 @@ pub fn read_horizons<R: Wait, L: LogDisk, P: PageDisk>(
     ensures horizons { AreHorizonsOf (start_of hall.now).base (history (view caller.new.pass).seen) result }
     ensures same { (caller.new.session ≡ caller.old.session) × (caller.new.number ≡ caller.old.number) }
 {
-    let table = enter_proc(rt, hall, caller);
+    let held = enter_proc(rt, hall, caller);
+    let table = &*held;
     let found = Horizons {
         next: table.next(),
         oldest: table.oldest(),
         oldest_xmin: table.oldest_xmin(),
     };
-    leave_looked(hall, caller, 1, Part::Proc(table));
+    leave_looked(hall, caller, 1, Part::Proc(held));
     found
 }

@@ -75,11 +75,7 @@ pub(crate) fn flush_and_finish<R: Wait, L: LogDisk, P: PageDisk>(
 pub(crate) fn id_list(alloc: Global, ids: &[FullXid]) -> Result<IdList, Memory>
     ensures { IfOk result (λ list. list ≡ ids.now) }
 {
-    let mut list = IdList::new(alloc);
-    for id in ids {
-        list.push(*id)?;
-    }
-    Ok(list)
+    Ok(IdList::of(Vec::from_slice(alloc, ids)?))
 }
 
 /// The commit record of these open ids.

@@ -75,4 +75,10 @@ module _ {L P : Type 0} {l : logs.Ghosts L} {p : disks.Ghosts P} where
   stands_refused start lock (parts.Proc table) by refusal es pages s = let q : lock ≡ 1 = s.0 in let f = pages.from in absurd (omega arith)
   stands_refused start lock (parts.Xact store) by refusal es pages s = (s.0, s.1, xact_refused start s.0 store.value by refusal es s.2)
   stands_refused start lock (parts.Subtrans store) by refusal es pages s = (s.0, s.1, subtrans_refused start s.0 store.value by refusal es s.2)
-  stands_refused start lock parts.Vacant by refusal es pages s = s
+  stands_refused start lock parts.Vacant by refusal es pages s = record {
+    log = s.log;
+    proc = s.proc;
+    xact = s.xact;
+    subtrans = s.subtrans;
+    multi = λ q. let f = pages.from in absurd (omega (arith, q, f));
+  }

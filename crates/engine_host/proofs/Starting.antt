@@ -131,6 +131,7 @@ vacant_new L P l p c bank k few counts reached = record {
   proc = λ e. absurd (omega (arith, e));
   xact = λ b e. absurd (omega (arith, e, few));
   subtrans = λ b e. absurd (omega (arith, e, few));
+  multi = λ e. refl;
 }
 
 second_new : (L P : Type 0) (l : logs.Ghosts L) (p : disks.Ghosts P) (c : Cluster) → IsNewPart {L = L} {P = P} {l = l} {p = p} c 2 parts.Vacant

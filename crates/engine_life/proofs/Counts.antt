@@ -10,7 +10,8 @@ use Rattle.slru_bank.specs.Calls.{volume_of}
 use Rattle.tx_core.specs.declared.entry.Entry.{Entry}
 use Rattle.tx_core.specs.declared.entry.Start.{Start}
 use Rattle.tx_core.specs.FaultsRise.{faults_told}
-use Rattle.tx_core.specs.Locks.{subtrans_lock, xact_lock}
+use Rattle.tx_core.specs.Locks.{multi_lock, subtrans_lock, xact_lock}
+use Rattle.tx_core.specs.MultiEntries.{multi_history, multis_in}
 use Rattle.engine_parts.specs.Parts.{PartStands}
 use Rattle.engine_parts.specs.declared.part.Part.{Part}
 use Rattle.engine_parts.specs.declared.part.Part.TheVariants as parts
@@ -86,6 +87,14 @@ module _ {L P : Type 0} {l : logs.Ghosts L} {p : disks.Ghosts P} where
   no_subtrans start lock es (parts.Subtrans store) other k = absurd (other k.0 k.1)
   no_subtrans start lock es part other k = refl
 
+  -- nothing lies behind the multixacts' lock, so its list has no entries
+  no_multis : (start : Start) (es : List Entry) (part : Part L P l p) → PartStands start multi_lock part es → es ≡ []
+  no_multis start es (parts.Log log) k = absurd (let e = k.0 in omega (arith, e))
+  no_multis start es (parts.Proc table) k = absurd (let e = k.0 in omega (arith, e))
+  no_multis start es (parts.Xact store) k = absurd (let e = k.1 in omega (arith, e))
+  no_multis start es (parts.Subtrans store) k = absurd (let e = k.1 in omega (arith, e))
+  no_multis start es parts.Vacant k = k.multi refl
+
   module _ (start : Start) (lists : List (List Entry)) (locks : List (Part L P l p)) (stand : (lock : ℕ) (part : Part L P l p) → slice_get locks lock ≡ Some part → PartStands start lock part (at lists lock)) where
     xact_at : (bank : ℕ) (part : Part L P l p) (v : P) → slice_get locks (xact_lock bank) ≡ Some part → xact_disk part ≡ Some v → slice_get (xact_disks locks) bank ≡ Some v
     xact_at bank part v found is = fourth xact_disk locks
@@ -129,3 +138,8 @@ module _ {L P : Type 0} {l : logs.Ghosts L} {p : disks.Ghosts P} where
         let q = there locks (subtrans_lock bank) place in
         let h = subtrans_here start bank (at lists (subtrans_lock bank)) q.0 (stand (subtrans_lock bank) q.0 q.1) in
         (h.0, ap (λ (vs : List P). slice_get vs bank) is ∙ subtrans_at bank q.0 h.0 q.1 h.1, h.2)
+
+    pub multis_untold : (banks : ℕ) → length locks ≡ 3 + 4 * banks → multi_history lists ≡ []
+    multis_untold banks count =
+        let q = there locks multi_lock (omega (arith, count)) in
+        ap multis_in (no_multis start (at lists multi_lock) q.0 (stand multi_lock q.0 q.1))

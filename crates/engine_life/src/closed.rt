@@ -5,6 +5,7 @@ ghost use Rattle.notes.specs.Lists.{at};
 ghost use Rattle.tx_core.specs.EngineInvariant.{EngineInvariant};
 ghost use Rattle.tx_core.specs.Entries.{history};
 ghost use Rattle.tx_core.specs.Locks.{log_lock};
+ghost use Rattle.tx_core.specs.MultiEntries.{multi_history};
 ghost use Rattle.engine_parts.specs.Parts.{IsLogOf};
 ghost use Rattle.engine_host.specs.Hosts.{HoldsAllBut, IsHost};
 ghost use Rattle.engine_life.specs.Lives.{HaveCountedTold, volumes_left};
@@ -26,13 +27,14 @@ pub struct ClosedLife<L: LogDisk, P> {
 }
 
 /// Closes a life whose sessions are all dismissed. Its history and its log are those of the lists that the host has seen,
-/// which are all that was done, and of which the engine invariant holds. Each volume has counted at least the faults that
-/// its list tells. Takes no memory.
+/// which are all that was done, and of which the engine invariant holds; no multixact is in them. Each volume has counted
+/// at least the faults that its list tells. Takes no memory.
 pub fn close_life<L: LogDisk + Drop, P: PageDisk + Drop>(life: OpenLife<L, P>) -> ClosedLife<L, P>
     requires host { IsHost life.hall life.host }
     requires all { HoldsAllBut life.host [] }
     ensures events { result.events ≡ history (view life.host.pass).seen }
     ensures log { IsLogOf (start_of life.hall) result.log (at (view life.host.pass).seen log_lock) }
+    ensures multis { multi_history (view life.host.pass).seen ≡ [] }
     ensures kept { EngineInvariant (start_of life.hall) (view life.host.pass).seen }
     ensures counted { HaveCountedTold L.LogDisk P.PageDisk (start_of life.hall) (view life.host.pass).seen (volumes_left result) }
     ensures offsets { (volumes_left result).offsets ≡ life.aside.offsets }

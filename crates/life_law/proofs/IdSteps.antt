@@ -93,4 +93,5 @@ bounds_of by number s commands.Abort replies.Done added h = let g = ap length (a
 bounds_of by number s (commands.Snap name) (replies.Snapped lists) added h = let g = ap (λ es. length (given es)) h in omega (arith, g)
 bounds_of by number s (commands.DropSnap name) replies.Done added h = let g = ap (λ es. length (given es)) h in omega (arith, g)
 bounds_of by number s (commands.Status x) reply added h = let g = ap length (ap given h ∙ ask_given by x reply) in omega (arith, g)
+bounds_of by number s (commands.Freeze oldest) replies.Done added h = let g = ap (λ es. length (given es)) h in omega (arith, g)
 bounds_of by number s command reply added h = none_given number s command reply added h (omega arith)

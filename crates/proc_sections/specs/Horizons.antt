@@ -2,6 +2,8 @@
 use Rattle.std.specs.Prelude.{◌≡◌, List}
 use Rattle.tx_events.specs.declared.event.Event.{Event}
 use Rattle.tx_events.specs.declared.record.Counters.{Counters}
+use Rattle.tx_events.specs.declared.record.Rec.{Rec}
+use Rattle.tx_events.specs.declared.record.Rec.TheVariants as records
 use Rattle.tx_events.specs.History.{next_given}
 use Rattle.tx_events.specs.Horizon.{oldest_id, oldest_xmin}
 use Rattle.proc_sections.specs.declared.looking.Horizons.{Horizons}
@@ -11,3 +13,7 @@ pub record AreHorizonsOf (base : Counters) (h : List Event) (found : Horizons) :
   pub next : found.next ≡ next_given base.next h
   pub oldest : found.oldest ≡ oldest_id base.oldest h
   pub xmin : found.oldest_xmin ≡ oldest_xmin base.next h
+
+-- the record of a truncation to what is announced behind this history
+abbrev pub truncation_behind : Counters → List Event → Rec
+truncation_behind base h = records.Truncate (oldest_id base.oldest h) base.oldest_multi base.oldest_offset

@@ -77,6 +77,7 @@ fn run_life<
     life_ends(&life.hall);
     let ran = run_rounds(rt, alloc, &life.hall, &mut life.host, script, kept, threads);
     let closed = close_life(life);
+    has_64_bits(closed.log.next());
     has_64_bits(closed.log.end());
     reads_an_image(&closed.log);
     (closed, ran)

@@ -5,7 +5,7 @@ use Rattle.proc_table.specs.Table.{Table}
 use Rattle.tx_core.specs.Locks.{log_lock}
 use Rattle.engine_parts.specs.declared.part.Part.TheVariants as parts
 use Rattle.engine_parts.specs.Parts.{IsLogOf}
-use Rattle.engine_life.proofs.Counts.{subtrans_told, xact_told}
+use Rattle.engine_life.proofs.Counts.{multis_untold, subtrans_told, xact_told}
 use Rattle.engine_life.proofs.closed.close_life.Goals as goal
 
 pub take_apart-log-requires-clause-stand : goal.take_apart-log-requires-clause-stand
@@ -39,3 +39,8 @@ returns-clause-counted g c =
       xact = xact_told start seen locks closed.stand banks taken.result.xact.items c.requires.host.banks closed.count taken.ensures.xact;
       subtrans = subtrans_told start seen locks closed.stand banks taken.result.subtrans.items c.requires.host.banks closed.count taken.ensures.subtrans;
     }
+
+pub returns-clause-multis : goal.returns-clause-multis
+returns-clause-multis g c =
+    let closed = c.close-parts.ensures in
+    multis_untold (start_of c.args.life.hall) (view c.args.life.host.pass).seen c.close-parts.result.locks.items closed.stand c.args.life.host.cluster.banks closed.count

@@ -24,7 +24,7 @@ returns g c =
       lived = on_ok_weaker c.run_rounds-ran.result
           (λ ran.
           let over = c.life_ends.ensures host ran.0 ran.1.rounds ran.1.goes_on closed.kept in
-          let lived = life_lived g.K.LineKeeper life.hall host ran.0 s new.faults c.args.kept.now c.run_rounds-ran.new.kept left.events left.log c.requires.taken new.begun.start_is ran.1 over closed.events closed.log (subst (λ n. n < 18446744073709551616) c.end.ensures c.has_64_bits.ensures) in (
+          let lived = life_lived g.K.LineKeeper life.hall host ran.0 s new.faults c.args.kept.now c.run_rounds-ran.new.kept left.events left.log c.requires.taken new.begun.start_is ran.1 over closed.events closed.log closed.multis (subst (λ n. n < 18446744073709551616) c.next.ensures c.has_64_bits.ensures) (subst (λ n. n < 18446744073709551616) c.end.ensures c.has_64_bits-2.ensures) in (
             ran.1.steps,
             lived.0,
             ran.1.kept_is,

@@ -179,10 +179,11 @@ impl MemLog {
     ghost use Rattle.std.specs.Prelude.{◌≡◌};
     ghost use Rattle.disk_core.specs.MemLogViews.{written, synced};
 
-    /// A volume with these bytes, all of them synced.
+    /// A volume with these bytes, all of them synced, which has counted no fault.
     pub fn of(alloc: Global, bytes: Vec<u8>) -> MemLog
         ensures written { written result ≡ record { start = 0; bytes = bytes.items } }
         ensures synced { synced result ≡ record { start = 0; bytes = bytes.items } }
+        ensures faults { result.faults ≡ 0 }
     {
         let past = Note::by(&bytes);
         MemLog {

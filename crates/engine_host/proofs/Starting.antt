@@ -7,6 +7,9 @@ use Rattle.disk_core.specs.declared.page_disk.PageDisk as disks
 use Rattle.disk_core.specs.Pages.{zero_page}
 use Rattle.disk_core.specs.Volume.{Volume}
 use Rattle.slru_bank.proofs.ZeroBytes.{zero_byte}
+use Rattle.slru_bank.specs.Calls.{IsDurable, cutoff_of, last_page, pages_of}
+use Rattle.slru_bank.specs.declared.bank.SlruBank.{SlruBank}
+use Rattle.store_pages.specs.declared.page_rule.PageRule as rules
 use Rattle.store_pages.specs.Layouts.{bits_at, number_in, state_in, word_page_of, word_place_of, xact_page_of, xact_place_of}
 use Rattle.tx_events.proofs.Membership.{contains_has}
 use Rattle.tx_events.specs.After.{after_record}
@@ -19,10 +22,12 @@ use Rattle.wal_core.specs.Kept.{KeepsRecords}
 use Rattle.wal_core.specs.Opening.{no_counters}
 use Rattle.tx_events.specs.Ids.{id_before, low_half}
 use Rattle.tx_core.specs.CleanStart.{CleanStart}
+use Rattle.tx_core.specs.declared.entry.Entry.{Entry}
 use Rattle.tx_core.specs.declared.entry.State.TheVariants as states
 use Rattle.tx_core.specs.Locks.{log_lock, subtrans_lock, subtrans_page, xact_lock, xact_page}
 use Rattle.engine_parts.specs.declared.part.Part.{Part}
 use Rattle.engine_parts.specs.declared.part.Part.TheVariants as parts
+use Rattle.engine_parts.specs.Course.{HasCourse, IsOpened}
 use Rattle.engine_parts.specs.Parts.{PartStands}
 use Rattle.engine_parts.specs.Stand.{LogStands, SubtransStands, XactStands}
 use Rattle.engine_host.specs.declared.cluster.Cluster.{Cluster}
@@ -79,11 +84,11 @@ clean c counts base = record {
     unshown : (None ≡ Some states.Committed) ⊎ (None ≡ Some states.SubCommitted) → ⊥
     unshown shown = ⊎_elim (λ (e : None ≡ Some states.Committed). absurd cc) (λ (e : None ≡ Some states.SubCommitted). absurd cc) shown
 
-pub xact_begins : (c : Cluster) (bank faults last cutoff : ℕ) (tells : Bool) (bytes : ℕ → List ℕ) (counts : List ℕ) → IsBase c.base → bank < c.banks
+pub xact_begins : (c : Cluster) (bank faults last cutoff : ℕ) (tells : Bool) (bytes : ℕ → List ℕ) (led : List Entry → Type 0) (counts : List ℕ) → IsBase c.base → bank < c.banks
     → get_or counts (xact_lock bank) 0 ≤ faults → last ≡ xact_page (low_half c.base.next) → cutoff ≡ xact_page (low_half c.base.oldest)
-    → (IsTrue tells → (q : ℕ) → q < 2 ^ 32 → bytes q ≡ zero_page)
-    → XactStands (life_of c counts) bank tells faults last cutoff bytes []
-xact_begins c bank faults last cutoff tells bytes counts base inside count last_is cutoff_is zeros = record {
+    → (IsTrue tells → (q : ℕ) → q < 2 ^ 32 → bytes q ≡ zero_page) → (IsTrue tells → led [])
+    → XactStands (life_of c counts) bank tells faults last cutoff bytes led []
+xact_begins c bank faults last cutoff tells bytes led counts base inside count last_is cutoff_is zeros begun = record {
   inside = inside;
   count = count;
   last_is = λ near. last_is ∙ low_page c.base.next;
@@ -95,7 +100,30 @@ xact_begins c bank faults last cutoff tells bytes counts base inside count last_
       each = λ x used here kept. ap (λ page. state_in page (xact_place_of x)) (zeros told (xact_page_of x) (small x)) ∙ zero_state (xact_place_of x);
     },
   );
+  course = begun;
 }
+  where
+    low_page : (n : ℕ) → xact_page (low_half n) ≡ xact_page n % 2 ^ 17
+    low_page n = omega arith
+
+    small : (n : ℕ) → xact_page_of n < 2 ^ 32
+    small n = omega arith
+
+-- its course begins with pages of zeros, which a crash leaves too
+pub course_begins : {P O : Type 0} {g : disks.Ghosts P} {r : rules.Ghosts O} (c : Cluster) (bank : ℕ) (store : SlruBank P O g r) (counts : List ℕ) → IsBase c.base
+    → last_page store ≡ xact_page (low_half c.base.next) → cutoff_of store ≡ xact_page (low_half c.base.oldest)
+    → ((q : ℕ) → q < 2 ^ 32 → pages_of store q ≡ zero_page) → IsDurable store
+    → HasCourse (life_of c counts) bank store []
+course_begins {P} {O} {g} {r} c bank store counts base last cutoff zeros durable =
+    let opened : IsOpened (life_of c counts) bank store = record {
+      before = λ x. None;
+      clean = clean c counts base;
+      shown = λ x near on. ap (λ page. state_in page (xact_place_of x)) (zeros (xact_page_of x) (small x)) ∙ zero_state (xact_place_of x);
+      durable = durable;
+      last = last ∙ low_page c.base.next;
+      cutoff = cutoff ∙ low_page c.base.oldest;
+    } in
+    (0, (refl, opened))
   where
     low_page : (n : ℕ) → xact_page (low_half n) ≡ xact_page n % 2 ^ 17
     low_page n = omega arith

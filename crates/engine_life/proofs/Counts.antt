@@ -122,14 +122,20 @@ module _ {L P : Type 0} {l : logs.Ghosts L} {p : disks.Ghosts P} where
             (subst (λ n. slice_get (first ∷ rest) n ≡ Some part) (sym (last bank) ∙ on 3 bank) (subst (λ (qs : List (Part L P l p)). slice_get qs (subtrans_lock bank) ≡ Some part) same found))
             is)
 
+    -- each volume of pg_xact is as the part behind its lock has it
+    pub xact_behind : (F : ℕ → P → Type 0) → ((bank : ℕ) (part : Part L P l p) → PartStands start (xact_lock bank) part (at lists (xact_lock bank)) → (v : P) × (xact_disk part ≡ Some v) × F bank v)
+        → (banks : ℕ) (volumes : List P) → start.banks ≡ banks → length locks ≡ 3 + 4 * banks → volumes ≡ xact_disks locks → (bank : ℕ) → bank < start.banks → (v : P) × (slice_get volumes bank ≡ Some v) × F bank v
+    xact_behind F each banks volumes same count is bank low =
+        let place : xact_lock bank < length locks = omega (arith, low, same, count) in
+        let q = there locks (xact_lock bank) place in
+        let h = each bank q.0 (stand (xact_lock bank) q.0 q.1) in
+        (h.0, ap (λ (vs : List P). slice_get vs bank) is ∙ xact_at bank q.0 h.0 q.1 h.1, h.2)
+
     -- each volume has counted what its list tells
     pub xact_told : (banks : ℕ) (volumes : List P) → start.banks ≡ banks → length locks ≡ 3 + 4 * banks → volumes ≡ xact_disks locks → (bank : ℕ) → bank < start.banks
         → (v : P) × (slice_get volumes bank ≡ Some v) × (faults_told start (xact_lock bank) (at lists (xact_lock bank)) ≤ p.faults v)
-    xact_told banks volumes same count is bank low =
-        let place : xact_lock bank < length locks = omega (arith, low, same, count) in
-        let q = there locks (xact_lock bank) place in
-        let h = xact_here start bank (at lists (xact_lock bank)) q.0 (stand (xact_lock bank) q.0 q.1) in
-        (h.0, ap (λ (vs : List P). slice_get vs bank) is ∙ xact_at bank q.0 h.0 q.1 h.1, h.2)
+    xact_told = xact_behind (λ bank v. faults_told start (xact_lock bank) (at lists (xact_lock bank)) ≤ p.faults v)
+        (λ bank part. xact_here start bank (at lists (xact_lock bank)) part)
 
     pub subtrans_told : (banks : ℕ) (volumes : List P) → start.banks ≡ banks → length locks ≡ 3 + 4 * banks → volumes ≡ subtrans_disks locks → (bank : ℕ) → bank < start.banks
         → (v : P) × (slice_get volumes bank ≡ Some v) × (faults_told start (subtrans_lock bank) (at lists (subtrans_lock bank)) ≤ p.faults v)

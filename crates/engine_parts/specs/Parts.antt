@@ -12,6 +12,7 @@ use Rattle.tx_core.specs.declared.entry.Start.{Start}
 use Rattle.tx_core.specs.Locks.{log_lock, multi_lock, proc_lock, subtrans_lock, xact_lock}
 use Rattle.engine_parts.specs.declared.part.Part.{Part}
 use Rattle.engine_parts.specs.declared.part.Part.TheVariants as parts
+use Rattle.engine_parts.specs.Course.{HasCourse}
 use Rattle.engine_parts.specs.Stand.{LogStands, ProcStands, SubtransStands, XactStands}
 
 module _ {D : Type 0} {g : logs.Ghosts D} where
@@ -25,7 +26,8 @@ module _ {P O : Type 0} {g : disks.Ghosts P} {r : rules.Ghosts O} where
   -- a bank of pg_xact stands for the list of its lock
   abbrev pub IsXactOf : Start → ℕ → SlruBank P O g r → List Entry → Type 0
   IsXactOf start bank store es =
-      XactStands start bank g.tells (faults_of store) (last_page store) (cutoff_of store) (pages_of store) es
+      XactStands start bank g.tells (faults_of store) (last_page store) (cutoff_of store) (pages_of store)
+      (HasCourse start bank store) es
 
   -- and one of pg_subtrans
   abbrev pub IsSubtransOf : Start → ℕ → SlruBank P O g r → List Entry → Type 0

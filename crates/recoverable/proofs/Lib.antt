@@ -18,6 +18,7 @@ pub mod LogBegins
 pub mod WorkedLife
 pub mod WorkedRestored
 pub mod LogSteps
+pub mod LogEnds
 pub mod WorkedBank
 pub mod NewBegins
 pub mod Settled

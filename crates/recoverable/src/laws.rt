@@ -2,7 +2,7 @@ ghost use Rattle.recoverable.specs.Laws.{ListFitsLaw, MayBeginLaw, XactFitsLaw, 
 ghost use Rattle.recoverable.specs.Stored.{OffsetBytesShow, MemberBytesShow};
 ghost use Rattle.recoverable.specs.Volumes.{RecoverySettles, RefusalKeeps};
 ghost use Rattle.recoverable.specs.Whole.{ImageFitsLaw, LogBegins, NewBegins, NewLogBegins, VolumesFitLaw};
-ghost use Rattle.recoverable.specs.LogSteps.{LogGoesOn};
+ghost use Rattle.recoverable.specs.LogSteps.{LogEnds, LogGoesOn};
 ghost use Rattle.recoverable.specs.WorkedLife.{AreRefused, IsRestored, IsWorked};
 ghost use Rattle.recoverable.specs.WorkedBank.{WorkedBank};
 
@@ -87,6 +87,11 @@ pub fn recoveries_settle()
 /// One entry more of the log's list, and its log goes on: by a record, by what is on disk, or as it was.
 pub fn log_goes_on()
     ensures { LogGoesOn }
+{}
+
+/// And at a life's end it has the records that the list appended, on disk up to the last flush.
+pub fn log_ends()
+    ensures { LogEnds }
 {}
 
 /// A worked life: what a crash left of a small log and its pages fits, and wrong volumes don't; a recovery may leave

@@ -17,7 +17,7 @@ use Rattle.tx_model.specs.declared.report.LifeReport.{LifeReport}
 use Rattle.tx_model.specs.declared.report.Line.{Line}
 use Rattle.tx_model.specs.declared.report.Report.{Report}
 use Rattle.tx_model.specs.declared.report.Step.{Step}
-use Rattle.tx_model.specs.Rounds.{is_round, lines_in}
+use Rattle.tx_model.specs.Rounds.{AreSteps, is_round, lines_in}
 use Rattle.life_law.specs.LawfulLife.{IsLawfulLife}
 use Rattle.report_text.specs.ReportText.{end_text, front_text, report_text, rest_text, step_text}
 use Rattle.report_text.proofs.OneLife.{one_life}
@@ -31,7 +31,7 @@ use Rattle.script_rounds.specs.declared.keeper.LineKeeper as keepers
 use Rattle.script_rounds.specs.Counted.{verdicts_in}
 use Rattle.tx_core.specs.declared.entry.Entry.{Entry}
 use Rattle.tx_core.specs.declared.entry.Start.{Start}
-use Rattle.tx_core.specs.Entries.{history, recs_in}
+use Rattle.tx_core.specs.Entries.{AreFewIds, history, recs_in}
 use Rattle.tx_core.specs.Locks.{log_lock}
 use Rattle.tx_core.specs.MultiEntries.{multi_history}
 use Rattle.wal_core.specs.declared.wal_log.WalLog.{WalLog}
@@ -47,10 +47,11 @@ use Rattle.engine_life.specs.declared.life.OpenLife.{OpenLife}
 use Rattle.engine_life.specs.Lives.{IsNewLife, life_told, volumes_left}
 use Rattle.session_promise.specs.Closing as closing
 use Rattle.session_promise.specs.Told.{ToldRound, all_lines, steps_of}
+use Rattle.session_promise.proofs.FewIds.{levels_bound_ids}
 use Rattle.session_promise.proofs.LawfulLives.{promises_make_life}
 use Rattle.session_promise.proofs.Between.{lines_of_rounds, step_lines}
 use Rattle.session_run.specs.Leaves.{HasLeft, LeavesVolumes}
-use Rattle.session_run.specs.Records.{LogHolds}
+use Rattle.session_run.specs.Records.{BankHolds, LogHolds}
 use Rattle.session_run.specs.Runs.{HasLived, HasRun, IsRestOfReport, IsTaken, cluster_of, report_of}
 use Rattle.session_run.proofs.LogHeld.{log_holds}
 use Rattle.session_run.proofs.RoundCounts.{AreRoundsOf, few_levels, few_lines, rounds_told}
@@ -58,6 +59,15 @@ use Rattle.session_run.proofs.RoundCounts.{AreRoundsOf, few_levels, few_lines, r
 -- the lines of the steps are those of the rounds
 pub lines_run : (ss : List Step) (rounds : List ToldRound) → filter is_round ss ≡ steps_of 1 rounds → flat_map lines_in ss ≡ all_lines rounds
 lines_run ss rounds e = sym (lines_of_rounds ss) ∙ (ap (flat_map lines_in) e ∙ step_lines 1 rounds)
+
+-- the rounds are those that were asked for
+asked_rounds : (s : Script) (ss : List Step) (rounds : List ToldRound) → AreSteps 1 (asked_of s.items) ss → filter is_round ss ≡ steps_of 1 rounds → AreRoundsOf (rounds_of s.items) rounds
+asked_rounds s ss rounds told same = subst (λ cs. AreRoundsOf cs rounds) (rounds_asked s.items) (rounds_told 1 (asked_of s.items) ss rounds told same)
+
+-- so the life gave few ids
+pub ids_few : (tells : Bool) (start : Start) (lists : List (List Entry)) (s : Script) (ss : List Step) (rounds : List ToldRound) → IsTaken s → AreSteps 1 (asked_of s.items) ss → filter is_round ss ≡ steps_of 1 rounds
+    → closing.IsOver tells start lists rounds → AreFewIds lists
+ids_few tells start lists s ss rounds taken told same over = levels_bound_ids tells start lists rounds over (few_levels s.items rounds (asked_rounds s ss rounds told same) taken.few)
 
 module _ {H K L P : Type 0} {l : logs.Ghosts L} {p : disks.Ghosts P} (keep : keepers.Ghosts K) where
   -- a life that ran the script is lawful, and what it left on the log's volume are its records
@@ -85,7 +95,7 @@ module _ {H K L P : Type 0} {l : logs.Ghosts L} {p : disks.Ghosts P} (keep : kee
       let es = at (view host.pass).seen log_lock in
       let size : length (log_recs log) ≡ length (records.Checkpoint 0 s.base ∷ recs_in es) = ap (λ (t : List Rec). length t) (stands.recs_are ∙ ap (λ (t : List Rec). t ++ recs_in es) (ap (λ t. t.logged) begun)) in
       let numbers : length (log_recs log) < 2 ^ 64 = (let a = stands.next_is in let f = begins.from in omega (arith, a, f, size, next)) in
-      let commands : AreRoundsOf (rounds_of s.items) r.rounds = subst (λ cs. AreRoundsOf cs r.rounds) (rounds_asked s.items) (rounds_told 1 (asked_of s.items) r.steps r.rounds r.told r.rounds_are) in
+      let commands : AreRoundsOf (rounds_of s.items) r.rounds = asked_rounds s r.steps r.rounds r.told r.rounds_are in
       let few : length (all_lines r.rounds) ≤ 2 ^ 24 = few_lines s.items r.rounds commands taken.runnable.few in
       let lawful : IsLawfulLife p.tells start.banks (asked_of s.items) life = promises_make_life p.tells start (view host.pass).seen r.rounds (asked_of s.items) life begins over (few_levels s.items r.rounds commands taken.few) r.told r.dumps report numbers end in (
         record {
@@ -156,4 +166,13 @@ of_cluster {L} {P} c d first life same k = subst (λ (e : Cluster). (volumes : V
 pub volumes_back : {L P : Type 0} (l : logs.Ghosts L) (p : disks.Ghosts P) (c : Cluster) (opened : OpenLife L P l p) (closed : ClosedLife L P l) (life : LifeReport) (first gives : Volumes L P → Type 0) (mounted : Volumes L P)
     → IsNewLife c mounted opened → first mounted → Only (volumes_left closed) gives → HasLeft l p c opened closed life → LeavesVolumes l p first gives life
 volumes_back l p c opened closed life first gives mounted new began only left =
-    record { mounted = mounted; volumes = volumes_left closed; began = began; only = only; log = left.log; causes = left.causes mounted new }
+    let banks : length mounted.xact.items ≡ c.banks = new.banks.xact in
+    record {
+      mounted = mounted;
+      volumes = volumes_left closed;
+      began = began;
+      only = only;
+      log = left.log;
+      states = λ told bank low. subst (λ n. BankHolds p life.life n bank (volumes_left closed).xact.items) (sym banks) (left.states told bank (omega (arith, low, banks)));
+      causes = left.causes mounted new;
+    }

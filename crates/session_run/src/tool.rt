@@ -1,7 +1,7 @@
 //! The tool's top call, with the main guarantee (`docs/GUARANTEES.md`).
 ghost use Rattle.std.specs.Prelude.{◌≡◌, ◌≢◌, ◌≤◌, ◌⊎◌, ◌++◌, ◌∷◌, ℕ, List, Option, [], IsTrue, codes, false, map, string_bytes, take};
 ghost use Rattle.std.specs.Io.KnownBytes.{Appends};
-ghost use Rattle.disk_core.specs.Media.{HasBanks};
+ghost use Rattle.disk_core.specs.Media.{MayBeFirst};
 ghost use Rattle.tx_io.specs.Causes.{Rose};
 ghost use Rattle.engine_life.specs.declared.refusal.NoLife.TheVariants as no_lives;
 ghost use Rattle.run_law.specs.Tool.{IsRefused, IsRun, IsWholeRun, ReadsUpTo, most_read};
@@ -39,8 +39,8 @@ where
     requires idle { IsTrue (M.is_idle media.old) }
     requires new { IsTrue (M.is_new media.old) }
     ensures ends { Ends M.Log.LogDisk M.Pages.PageDisk tasks.Run (S.left source.old) (S.left source.new)
-        (S.faults source.old) (S.faults source.new) HasBanks (M.faults media.old) (M.faults media.new) (M.gives media.new)
-        result }
+        (S.faults source.old) (S.faults source.new) (MayBeFirst (M.begins media.old))
+        (M.faults media.old) (M.faults media.new) (M.gives media.new) result }
     ensures later { S.faults source.old ≤ S.faults source.new }
     ensures amount { ReadsUpTo most_read (S.left source.old) (S.left source.new) }
     ensures idle { IsTrue (M.is_idle media.new) }
@@ -74,7 +74,8 @@ where
     requires idle { IsTrue (M.is_idle media.old) }
     requires new { IsTrue (M.is_new media.old) }
     ensures ends { (left : Option (List ℕ)) (faults : ℕ) → Ends M.Log.LogDisk M.Pages.PageDisk (tasks.Gen seed size)
-        left left faults faults HasBanks (M.faults media.old) (M.faults media.new) (M.gives media.new) result }
+        left left faults faults (MayBeFirst (M.begins media.old))
+        (M.faults media.old) (M.faults media.new) (M.gives media.new) result }
     ensures idle { IsTrue (M.is_idle media.new) }
     ensures count { M.faults media.old ≤ M.faults media.new }
     ensures used { HasMounted result → M.is_new media.new ≡ false }
@@ -106,8 +107,8 @@ where
     requires idle { IsTrue (M.is_idle media.old) }
     requires new { IsTrue (M.is_new media.old) }
     ensures ends { Ends M.Log.LogDisk M.Pages.PageDisk task (S.left source.old) (S.left source.new)
-        (S.faults source.old) (S.faults source.new) HasBanks (M.faults media.old) (M.faults media.new) (M.gives media.new)
-        result }
+        (S.faults source.old) (S.faults source.new) (MayBeFirst (M.begins media.old))
+        (M.faults media.old) (M.faults media.new) (M.gives media.new) result }
     ensures later { S.faults source.old ≤ S.faults source.new }
     ensures amount { ReadsUpTo most_read (S.left source.old) (S.left source.new) }
     ensures untouched { (task ≡ tasks.Run → ⊥) → source.new ≡ source.old }
@@ -182,15 +183,15 @@ where
     // of more faults of a volume than it has counted.
     ensures done { result ≡ 0 → IsRun (map string_bytes words.now)
         → (run : IsWholeRun M.Pages.tells (S.left source.old) (S.left source.new) (K.held sink.old) (K.held sink.new))
-        × LeavesVolumes M.Log.LogDisk M.Pages.PageDisk (HasBanks run.answer.script.banks) (M.gives media.new)
-        run.answer.lawful.life }
+        × LeavesVolumes M.Log.LogDisk M.Pages.PageDisk (MayBeFirst (M.begins media.old) run.answer.script.banks)
+        (M.gives media.new) run.answer.lawful.life }
 
     // And for `gen`: the line written has the counts of such a report of the generated script.
     ensures counted { result ≡ 0 → (IsRun (map string_bytes words.now) → ⊥) → (seed size : ℕ)
         × IsGen (map string_bytes words.now) seed size
         × (sum : IsWholeSummary M.Pages.tells seed size (K.held sink.old) (K.held sink.new))
-        × LeavesVolumes M.Log.LogDisk M.Pages.PageDisk (HasBanks (generated seed size).banks) (M.gives media.new)
-        sum.counts.lawful.life }
+        × LeavesVolumes M.Log.LogDisk M.Pages.PageDisk (MayBeFirst (M.begins media.old) (generated seed size).banks)
+        (M.gives media.new) sum.counts.lawful.life }
 
     // Why it ends otherwise.
     ensures script { result ≡ 1 → IsRun (map string_bytes words.now)
@@ -200,20 +201,22 @@ where
     ensures read { result ≡ 3 → IsRun (map string_bytes words.now) × Rose (S.faults source.old) (S.faults source.new) }
     ensures write { result ≡ 4 → Rose (K.faults sink.old) (K.faults sink.new) }
     ensures front { result ≡ 4 → HoldsFront M.Log.LogDisk M.Pages.PageDisk (map string_bytes words.now)
-        (S.left source.old) (S.left source.new) (S.faults source.old) (S.faults source.new) HasBanks
-        (M.faults media.old) (M.faults media.new) (M.gives media.new) (K.held sink.old) (K.held sink.new) }
+        (S.left source.old) (S.left source.new) (S.faults source.old) (S.faults source.new)
+        (MayBeFirst (M.begins media.old)) (M.faults media.old) (M.faults media.new) (M.gives media.new)
+        (K.held sink.old) (K.held sink.new) }
     ensures device { result ≡ 5 → IsUnrunBy M.Log.LogDisk M.Pages.PageDisk (map string_bytes words.now)
-        (S.left source.old) (S.left source.new) HasBanks (M.faults media.old) (M.faults media.new) (M.gives media.new)
-        no_lives.Device }
+        (S.left source.old) (S.left source.new) (MayBeFirst (M.begins media.old))
+        (M.faults media.old) (M.faults media.new) (M.gives media.new) no_lives.Device }
     ensures damaged { result ≡ 7 → (at : ℕ) × Appends (K.held sink.old) (K.held sink.new) (damage_text at)
         × IsUnrunBy M.Log.LogDisk M.Pages.PageDisk (map string_bytes words.now) (S.left source.old) (S.left source.new)
-        HasBanks (M.faults media.old) (M.faults media.new) (M.gives media.new) (no_lives.Damaged at) }
+        (MayBeFirst (M.begins media.old)) (M.faults media.old) (M.faults media.new) (M.gives media.new)
+        (no_lives.Damaged at) }
     ensures full { result ≡ 9 → IsUnrunBy M.Log.LogDisk M.Pages.PageDisk (map string_bytes words.now)
-        (S.left source.old) (S.left source.new) HasBanks (M.faults media.old) (M.faults media.new) (M.gives media.new)
-        no_lives.Full }
+        (S.left source.old) (S.left source.new) (MayBeFirst (M.begins media.old))
+        (M.faults media.old) (M.faults media.new) (M.gives media.new) no_lives.Full }
     ensures old_log { result ≡ 10 → IsUnrunBy M.Log.LogDisk M.Pages.PageDisk (map string_bytes words.now)
-        (S.left source.old) (S.left source.new) HasBanks (M.faults media.old) (M.faults media.new) (M.gives media.new)
-        no_lives.OldLog }
+        (S.left source.old) (S.left source.new) (MayBeFirst (M.begins media.old))
+        (M.faults media.old) (M.faults media.new) (M.gives media.new) no_lives.OldLog }
     ensures statuses { (result ≤ 10) × (result ≢ 8) }
 
     // What it reads, and how it leaves the media.

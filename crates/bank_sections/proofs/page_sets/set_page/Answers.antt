@@ -60,11 +60,12 @@ leave_quiet-requires-clause-stands g c =
     let r = c.in-Ok.ensures in
     let part = slice_range c.deref.result.now c.args.first c.args.past in
     let m = settable start (view c.args.caller.now.pass) u c.args.caller.now.number t.number (xact_lock c.args.bank) c.args.bank c.args.first c.args.past c.args.caller.now.session t.session part c.args.state
-    c.requires.ready.at.name e.entered e.at e.same.0 e.same.1 (ap (λ (xs : List ℕ). slice_range xs c.args.first c.args.past) c.deref.ensures.value) c.requires.may in (
+    c.requires.ready.at.name e.entered e.at e.same.0 e.same.1 (ap (λ (xs : List ℕ). slice_range xs c.args.first c.args.past) c.deref.ensures.value) c.requires.may in
+    let some : 0 < length part = subst (λ (xs : List ℕ). 0 < length xs) (sym m.is) (range_some c.args.caller.now.session.levels.open_ids.items c.args.first c.args.past c.requires.some c.requires.among) in (
       c.args.bank,
       refl,
-      stands_set start u.seen c.args.caller.now.number c.args.bank c.deref_mut-store.result.now c.set_states.new.bank c.command_of-by.result part c.args.state _ c.set_note-entry.result.value c.requires.ready.at.base e.entered.kept c.set_note-entry.ensures m.opened m.may
-          c.stored.ensures r.bank.last r.bank.calls.cutoff r.bank.calls.count r.ok (subst (λ l. IsXactOf (start_of c.args.hall.now) c.args.bank l (at (view c.enter_xact-held.new.caller.pass).seen (xact_lock c.args.bank))) (sym c.deref_mut-store.ensures.value) c.enter_xact-held.ensures.stands),
+      stands_set start u.seen c.args.caller.now.number c.args.bank c.deref_mut-store.result.now c.set_states.new.bank c.command_of-by.result part c.args.state _ c.set_note-entry.result.value c.requires.ready.at.base e.entered.kept c.set_note-entry.ensures (omega (arith, some)) m.opened m.may
+          c.stored.ensures r.bank.last r.bank.calls.cutoff r.bank.calls.count r.ok r.bank.calls.crash (subst (λ l. IsXactOf (start_of c.args.hall.now) c.args.bank l (at (view c.enter_xact-held.new.caller.pass).seen (xact_lock c.args.bank))) (sym c.deref_mut-store.ensures.value) c.enter_xact-held.ensures.stands),
     )
 
 pub leave_refused-requires-clause-lock : goal.leave_refused-requires-clause-lock
@@ -79,7 +80,7 @@ leave_refused-requires-clause-stands g c =
       c.args.bank,
       refl,
       xact_same (start_of c.args.hall.now) c.args.bank c.deref_mut-store.result.now c.set_states.new.bank (at (view c.enter_xact-held.new.caller.pass).seen (xact_lock c.args.bank))
-          (record { last = r.bank.last; cutoff = r.bank.calls.cutoff; count = r.bank.calls.count; pages = r.err }) (subst (λ l. IsXactOf (start_of c.args.hall.now) c.args.bank l (at (view c.enter_xact-held.new.caller.pass).seen (xact_lock c.args.bank))) (sym c.deref_mut-store.ensures.value) c.enter_xact-held.ensures.stands),
+          (record { last = r.bank.last; cutoff = r.bank.calls.cutoff; count = r.bank.calls.count; pages = r.err }) r.bank.calls.crash (subst (λ l. IsXactOf (start_of c.args.hall.now) c.args.bank l (at (view c.enter_xact-held.new.caller.pass).seen (xact_lock c.args.bank))) (sym c.deref_mut-store.ensures.value) c.enter_xact-held.ensures.stands),
     )
 
 pub returns-in-Ok-clause-goes : goal.returns-in-Ok-clause-goes

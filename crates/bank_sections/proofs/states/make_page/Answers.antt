@@ -49,7 +49,7 @@ leave_quiet-requires-clause-stands g c =
       refl,
       xact_stands_made (start_of c.args.hall.now) c.args.bank c.deref_mut-store.result.now c.zero.new.self (at (view c.enter_xact-held.new.caller.pass).seen (xact_lock c.args.bank)) c.command_of-by.result c.args.id c.xact_page_in_full.result c.xact_page.result c.zeroed_note-entry.result.value
           c.requires.ready.at.base c.requires.wanted.0 c.zeroed_note-entry.ensures c.xact_page_in_full.ensures.page (c.xact_page.ensures.page ∙ ap (λ z. z / 32768) c.low.ensures)
-          (record { last = r.last; cutoff = r.calls.cutoff; count = r.calls.count; pages = r.ok }) (subst (λ l. IsXactOf (start_of c.args.hall.now) c.args.bank l (at (view c.enter_xact-held.new.caller.pass).seen (xact_lock c.args.bank))) (sym c.deref_mut-store.ensures.value) c.enter_xact-held.ensures.stands),
+          (record { last = r.last; cutoff = r.calls.cutoff; count = r.calls.count; pages = r.ok }) r.calls.crash (subst (λ l. IsXactOf (start_of c.args.hall.now) c.args.bank l (at (view c.enter_xact-held.new.caller.pass).seen (xact_lock c.args.bank))) (sym c.deref_mut-store.ensures.value) c.enter_xact-held.ensures.stands),
     )
 
 pub leave_refused-requires-clause-lock : goal.leave_refused-requires-clause-lock
@@ -64,7 +64,7 @@ leave_refused-requires-clause-stands g c =
       c.args.bank,
       refl,
       xact_same (start_of c.args.hall.now) c.args.bank c.deref_mut-store.result.now c.zero.new.self (at (view c.enter_xact-held.new.caller.pass).seen (xact_lock c.args.bank))
-          (record { last = r.last; cutoff = r.calls.cutoff; count = r.calls.count; pages = r.err }) (subst (λ l. IsXactOf (start_of c.args.hall.now) c.args.bank l (at (view c.enter_xact-held.new.caller.pass).seen (xact_lock c.args.bank))) (sym c.deref_mut-store.ensures.value) c.enter_xact-held.ensures.stands),
+          (record { last = r.last; cutoff = r.calls.cutoff; count = r.calls.count; pages = r.err }) r.calls.crash (subst (λ l. IsXactOf (start_of c.args.hall.now) c.args.bank l (at (view c.enter_xact-held.new.caller.pass).seen (xact_lock c.args.bank))) (sym c.deref_mut-store.ensures.value) c.enter_xact-held.ensures.stands),
     )
 
 pub returns-in-Ok-clause-went : goal.returns-in-Ok-clause-went

@@ -28,7 +28,7 @@ leave_looked-requires-clause-stands g c =
       c.args.bank,
       refl,
       xact_looked start c.args.bank c.state.new.bank (by_at c.enter_xact-held.new.caller.number c.enter_xact-held.new.caller.session.levels.commands) es
-          (xact_same start c.args.bank c.deref_mut-store.result.now c.state.new.bank es (record { last = r.bank.last; cutoff = r.bank.calls.cutoff; count = r.bank.calls.count; pages = r.same }) (subst (λ l. IsXactOf (start_of c.args.hall.now) c.args.bank l (at (view c.enter_xact-held.new.caller.pass).seen (xact_lock c.args.bank))) (sym c.deref_mut-store.ensures.value) c.enter_xact-held.ensures.stands)),
+          (xact_same start c.args.bank c.deref_mut-store.result.now c.state.new.bank es (record { last = r.bank.last; cutoff = r.bank.calls.cutoff; count = r.bank.calls.count; pages = r.same }) r.bank.calls.crash (subst (λ l. IsXactOf (start_of c.args.hall.now) c.args.bank l (at (view c.enter_xact-held.new.caller.pass).seen (xact_lock c.args.bank))) (sym c.deref_mut-store.ensures.value) c.enter_xact-held.ensures.stands)),
     )
 
 pub leave_refused-requires-clause-lock : goal.leave_refused-requires-clause-lock
@@ -43,7 +43,7 @@ leave_refused-requires-clause-stands g c =
       c.args.bank,
       refl,
       xact_same (start_of c.args.hall.now) c.args.bank c.deref_mut-store.result.now c.state.new.bank (at (view c.enter_xact-held.new.caller.pass).seen (xact_lock c.args.bank))
-          (record { last = r.bank.last; cutoff = r.bank.calls.cutoff; count = r.bank.calls.count; pages = r.same }) (subst (λ l. IsXactOf (start_of c.args.hall.now) c.args.bank l (at (view c.enter_xact-held.new.caller.pass).seen (xact_lock c.args.bank))) (sym c.deref_mut-store.ensures.value) c.enter_xact-held.ensures.stands),
+          (record { last = r.bank.last; cutoff = r.bank.calls.cutoff; count = r.bank.calls.count; pages = r.same }) r.bank.calls.crash (subst (λ l. IsXactOf (start_of c.args.hall.now) c.args.bank l (at (view c.enter_xact-held.new.caller.pass).seen (xact_lock c.args.bank))) (sym c.deref_mut-store.ensures.value) c.enter_xact-held.ensures.stands),
     )
 
 pub returns-in-Ok-clause-went : goal.returns-in-Ok-clause-went
@@ -58,7 +58,7 @@ returns-in-Ok-clause-state g c told =
     let es = at (view c.enter_xact-held.new.caller.pass).seen (xact_lock c.args.bank) in
     let pages = is_xact_lock start c.args.bank c.requires.bank.0 in
     let looked = xact_looked start c.args.bank c.state.new.bank (by_at c.enter_xact-held.new.caller.number c.enter_xact-held.new.caller.session.levels.commands) es
-    (xact_same start c.args.bank c.deref_mut-store.result.now c.state.new.bank es (record { last = r.bank.last; cutoff = r.bank.calls.cutoff; count = r.bank.calls.count; pages = r.same }) (subst (λ l. IsXactOf (start_of c.args.hall.now) c.args.bank l (at (view c.enter_xact-held.new.caller.pass).seen (xact_lock c.args.bank))) (sym c.deref_mut-store.ensures.value) c.enter_xact-held.ensures.stands)) in
+    (xact_same start c.args.bank c.deref_mut-store.result.now c.state.new.bank es (record { last = r.bank.last; cutoff = r.bank.calls.cutoff; count = r.bank.calls.count; pages = r.same }) r.bank.calls.crash (subst (λ l. IsXactOf (start_of c.args.hall.now) c.args.bank l (at (view c.enter_xact-held.new.caller.pass).seen (xact_lock c.args.bank))) (sym c.deref_mut-store.ensures.value) c.enter_xact-held.ensures.stands)) in
     let left = list_left start (view c.args.caller.now.pass) (view c.enter_xact-held.new.caller.pass) (view c.leave_looked.new.caller.pass) c.args.caller.now.number (xact_lock c.args.bank) c.args.caller.now.session (look_by c.enter_xact-held.new.caller.number c.enter_xact-held.new.caller.session) c.requires.ready.at pages c.enter_xact-held.ensures.entered c.leave_looked.ensures.left in
     state_seen start (view c.leave_looked.new.caller.pass).seen c.args.bank c.state.new.bank c.args.x c.named.result c.leave_looked.ensures.ready.at.kept
     (subst (λ (t : List Entry). IsXactOf start c.args.bank c.state.new.bank t) (sym left) looked) c.requires.here

@@ -38,7 +38,7 @@ put_back-requires-clause-stands g c =
     let r = c.read-found.ensures in
     let bank = c.bank_of-bank.result in
     subst (λ (z : ℕ). (b : ℕ) × (z ≡ xact_lock b) × IsXactOf start b now (at seen z)) (sym c.take_xact-held.ensures.inside.cell)
-    (bank, refl, xact_same start bank store now (at seen (xact_lock bank)) (read_same c.args.page store now c.read-found.result r.bank r.same) (subst (λ l. IsXactOf (start_of c.args.hall.now) c.bank_of-bank.result l (at (view c.take_xact-held.new.host.pass).seen (xact_lock c.bank_of-bank.result))) (sym c.deref_mut-store.ensures.value) c.take_xact-held.ensures.stands))
+    (bank, refl, xact_same start bank store now (at seen (xact_lock bank)) (read_same c.args.page store now c.read-found.result r.bank r.same) r.bank.calls.crash (subst (λ l. IsXactOf (start_of c.args.hall.now) c.bank_of-bank.result l (at (view c.take_xact-held.new.host.pass).seen (xact_lock c.bank_of-bank.result))) (sym c.deref_mut-store.ensures.value) c.take_xact-held.ensures.stands))
 
 pub returns-clause-stays : goal.returns-clause-stays
 returns-clause-stays g c = came_home c.args.hall.now (xact_lock c.bank_of-bank.result) c.args.host.now c.take_xact-held.new.host _ c.requires.home c.take_xact-held.ensures.inside c.put_back.ensures.own.0 c.put_back.ensures.view refl refl
@@ -98,7 +98,7 @@ returns-clause-fault g c is =
       before = parts.Xact held;
       now = parts.Xact (with_value held now);
       stood = (bank, refl, c.take_xact-held.ensures.stands);
-      stands = (bank, refl, xact_same start bank store now (at seen (xact_lock bank)) (read_same c.args.page store now c.read-found.result r.bank r.same) stood);
+      stands = (bank, refl, xact_same start bank store now (at seen (xact_lock bank)) (read_same c.args.page store now c.read-found.result r.bank r.same) r.bank.calls.crash stood);
       risen = subst (λ l. HasRisen (faults_of l) (faults_of now)) c.deref_mut-store.ensures.value (r.bank.calls.fault is);
     } in
     subst (λ (z : List (List Entry) × ℕ). HasFailed g.L.LogDisk g.P.PageDisk start z.0 (xact_lock z.1)) (λ j. (i.seen j, here j)) failed

@@ -5,7 +5,9 @@ use Rattle.proc_table.specs.Table.{Table}
 use Rattle.tx_core.specs.Locks.{log_lock}
 use Rattle.engine_parts.specs.declared.part.Part.TheVariants as parts
 use Rattle.engine_parts.specs.Parts.{IsLogOf}
-use Rattle.engine_life.proofs.Counts.{multis_untold, subtrans_told, xact_told}
+use Rattle.engine_life.proofs.Counts.{multis_untold, subtrans_told, xact_behind, xact_told}
+use Rattle.engine_life.proofs.Followed.{follows_here}
+use Rattle.engine_life.specs.Lives.{FollowsList}
 use Rattle.engine_life.proofs.closed.close_life.Goals as goal
 
 pub take_apart-log-requires-clause-stand : goal.take_apart-log-requires-clause-stand
@@ -44,3 +46,13 @@ pub returns-clause-multis : goal.returns-clause-multis
 returns-clause-multis g c =
     let closed = c.close-parts.ensures in
     multis_untold (start_of c.args.life.hall) (view c.args.life.host.pass).seen c.close-parts.result.locks.items closed.stand c.args.life.host.cluster.banks closed.count
+
+pub returns-clause-states : goal.returns-clause-states
+returns-clause-states g c told few =
+    let p = g.P.PageDisk in
+    let taken = c.take_apart-log in
+    let start = start_of c.args.life.hall in
+    let seen = (view c.args.life.host.pass).seen in
+    let closed = c.close-parts.ensures in
+    xact_behind start seen c.close-parts.result.locks.items closed.stand (FollowsList p start seen) (follows_here p start seen told (λ d x now. g.met.P.PageDisk.only_now d x told now) closed.kept few)
+    c.args.life.host.cluster.banks taken.result.xact.items c.requires.host.banks closed.count taken.ensures.xact

@@ -1,5 +1,5 @@
 use Rattle.std.proofs.Common.{refl, subst, ℕ}
-use Rattle.disk_core.specs.Media.{HasBanks}
+use Rattle.disk_core.specs.Media.{MayBeFirst}
 use Rattle.tx_model.specs.declared.report.LifeReport.{LifeReport}
 use Rattle.session_run.specs.Leaves.{LeavesVolumes}
 use Rattle.session_run.specs.Tool.{HasMounted}
@@ -10,7 +10,7 @@ pub returns-in-Ok-run_script-clause-ends : goal.returns-in-Ok-run_script-clause-
 returns-in-Ok-run_script-clause-ends g c =
     let source = g.S.Source in
     let a = answers g.M.Pages.PageDisk.tells (source.left c.args.source.now) (source.left c.take_script.new.source) c.in-Ok.script c.in-Ok-run_script.text.items
-    (λ (banks : ℕ) (life : LifeReport). LeavesVolumes g.M.Log.LogDisk g.M.Pages.PageDisk (HasBanks banks) (g.M.Media.gives c.run_script.new.media) life) c.in-Ok.ensures.script c.in-Ok-run_script.ensures.report in
+    (λ (banks : ℕ) (life : LifeReport). LeavesVolumes g.M.Log.LogDisk g.M.Pages.PageDisk (MayBeFirst (g.M.Media.begins c.args.media.now) banks) (g.M.Media.gives c.run_script.new.media) life) c.in-Ok.ensures.script c.in-Ok-run_script.ensures.report in
     (refl, a.0, a.1)
 
 pub returns-in-Err-clause-used : goal.returns-in-Err-clause-used

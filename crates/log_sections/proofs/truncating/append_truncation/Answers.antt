@@ -14,6 +14,7 @@ use Rattle.wal_core.specs.Log.{counters_or_none}
 use Rattle.wal_core.specs.Opening.{number_fits}
 use Rattle.wal_core.specs.LogViews.{log_counters, log_disk, log_down, log_first, log_flushed, log_next, log_recs}
 use Rattle.engine_parts.specs.declared.session.Session.{Session}
+use Rattle.engine_parts.specs.Parts.{IsLogOf}
 use Rattle.engine_parts.specs.Faults.{look_of}
 use Rattle.engine_parts.specs.Sessions.{by_at, inner_id, look_by}
 use Rattle.engine_parts.proofs.Leaving.{call_left}

@@ -5,11 +5,11 @@
 
 BEGIN {
     # what each command, behind its session's name, and each directive looks like; `later` are those that aren't run yet
-    split("begin,save,write,release,undo,commit,abort,snap NAME,drop NAME,see NAME ID,status ID,did ID,horizon", runs, ",")
-    split("trim,multi ID:MODE ..,seemulti NAME MULTIXACT,freeze ID,multifreeze MULTIXACT", later, ",")
+    split("begin,save,write,release,undo,commit,abort,snap NAME,drop NAME,see NAME ID,status ID,did ID,horizon,freeze ID", runs, ",")
+    split("trim,multi ID:MODE ..,seemulti NAME MULTIXACT,multifreeze MULTIXACT", later, ",")
     split(".start ID,.oldest ID,.multi MULTIXACT,.offset OFFSET,.oldest-multi MULTIXACT,.oldest-offset OFFSET,.banks COUNT", heads, ",")
     split(".round,.checkpoint,.crash HOW,.dump STORE PAGE AT LENGTH", steps, ",")
-    commands = "begin, save, write, release, undo, commit, abort, snap, drop, see, status, did and horizon"
+    commands = "begin, save, write, release, undo, commit, abort, snap, drop, see, status, did, horizon and freeze"
     learn(runs, form); learn(later, form)
     learn(heads, head); learn(steps, step)
     form_of_log = ".dump log AT LENGTH"

@@ -27,7 +27,7 @@ module _ (start : Start) (v w : Knowledge) (lock : ℕ) (by : By) (t : Session) 
   pub fault_adds : (cut : ℕ → Type 0) (refusal : BankRefusal) (named : Lock) → number_of named ≡ lock → refusal ≡ refused.DiskFault → BankRefused start lock by cut v w refusal → Adds by (MayMeet (refusals.DiskFault named)) v.seen w.seen
   fault_adds cut refusal named place is s =
       let met = subst (λ z. BankRefused start lock by cut v w z) is s in
-      section_adds start v w lock (fault_by by met.0) met.1 (below_locks start v by.session lock t a pages) by t (MayMeet (refusals.DiskFault named)) a refl (named, place, refl)
+      section_adds start v w lock (fault_by by met.0) met.1 (below_locks start v by.session lock t a pages) by t (MayMeet (refusals.DiskFault named)) a refl (named, place, refl, refl)
 
   -- only a look
   pub cut_adds : (cut : ℕ → Type 0) (refusal : BankRefusal) (cutoff : ℕ) → refusal ≡ refused.Cut cutoff → BankRefused start lock by cut v w refusal → Adds by IsPlain v.seen w.seen

@@ -1,11 +1,11 @@
 -- A bank stands for its list after a page was made.
-use Rattle.std.proofs.Common.{◌≡◌, ℕ, ◌+◌, ◌/◌, ◌%◌, ◌^◌, ◌≤◌, List, [], ◌∷◌, ◌++◌, IsTrue, MatchBool, cond, refl, sym, subst, arith}
+use Rattle.std.proofs.Common.{◌≡◌, ℕ, suc, inl, inr, ◌+◌, ◌/◌, ◌%◌, ◌^◌, ◌≤◌, List, [], ◌∷◌, ◌++◌, IsTrue, MatchBool, cond, refl, sym, subst, arith}
 use Rattle.disk_core.specs.Pages.{zero_page}
 use Rattle.disk_core.specs.declared.page_disk.PageDisk as disks
 use Rattle.store_pages.specs.declared.page_rule.PageRule as rules
 use Rattle.slru_bank.specs.declared.bank.SlruBank.{SlruBank}
 use Rattle.slru_bank.specs.Bank.{PutsPage}
-use Rattle.slru_bank.specs.Calls.{SamePages, cutoff_of, faults_of, last_page, pages_of}
+use Rattle.slru_bank.specs.Calls.{CrashKeeps, SamePages, cutoff_of, faults_of, last_page, pages_of}
 use Rattle.slru_bank.specs.Crash.{SameMap}
 use Rattle.tx_events.specs.declared.event.By.{By}
 use Rattle.tx_events.specs.Base.{IsBase}
@@ -16,6 +16,7 @@ use Rattle.tx_core.specs.declared.entry.Start.{Start}
 use Rattle.tx_core.specs.Locks.{subtrans_page, xact_page, subtrans_lock, xact_lock}
 use Rattle.tx_events.specs.Ids.{low_half}
 use Rattle.tx_events.specs.PageOrder.{Ids, page_precedes}
+use Rattle.engine_parts.specs.Course.{HasCourse, PageMade}
 use Rattle.engine_parts.specs.Parts.{IsSubtransOf, IsXactOf}
 use Rattle.engine_parts.specs.Stand.{SubtransStands, XactStands}
 use Rattle.engine_parts.proofs.Banking.{xact_made}
@@ -56,16 +57,21 @@ module _ {P O : Type 0} {g : disks.Ghosts P} {r : rules.Ghosts O} where
     pub count : faults_of old ≤ faults_of new
     pub pages : IsTrue g.tells → MatchBool (page_precedes Ids per_page (last_page old) page) (PutsPage page zero_page (pages_of old) (pages_of new)) (SamePages old new)
 
-  pub xact_stands_made : (start : Start) (bank : ℕ) (old new : SlruBank P O g r) (es : List Entry) (by : By) (id page stored : ℕ) (e : Entry) → IsBase start.base → start.base.next ≤ id → e ≡ made_entry by page → page ≡ xact_page id → stored ≡ low_half id / 32768 → Makes stored 32768 old new → IsXactOf start bank old es
+  pub xact_stands_made : (start : Start) (bank : ℕ) (old new : SlruBank P O g r) (es : List Entry) (by : By) (id page stored : ℕ) (e : Entry) → IsBase start.base → start.base.next ≤ id → e ≡ made_entry by page → page ≡ xact_page id → stored ≡ low_half id / 32768 → Makes stored 32768 old new → CrashKeeps old new → IsXactOf start bank old es
       → IsXactOf start bank new (es ++ e ∷ [])
-  xact_stands_made start bank old new es by id page stored e base from is page_is stored_is m s =
+  xact_stands_made start bank old new es by id page stored e base from is page_is stored_is m crash s =
       let at : stored ≡ page % 2 ^ 17 = xact_stored id page stored page_is stored_is in
+      let last : last_page new ≡ cond (page_precedes Ids 32768 (last_page old) (page % 2 ^ 17)) (page % 2 ^ 17) (last_page old) = subst (λ z. last_page new ≡ cond (page_precedes Ids 32768 (last_page old) z) z (last_page old)) at m.last in
+      let pages : IsTrue g.tells → MatchBool (page_precedes Ids 32768 (last_page old) (page % 2 ^ 17)) (PutsPage (page % 2 ^ 17) zero_page (pages_of old) (pages_of new)) (SameMap (pages_of old) (pages_of new)) = λ told.
+      subst (λ z. MatchBool (page_precedes Ids 32768 (last_page old) z) (PutsPage z zero_page (pages_of old) (pages_of new)) (SameMap (pages_of old) (pages_of new))) at (m.pages told) in
       subst (λ (f : Entry). IsXactOf start bank new (es ++ f ∷ [])) (sym is)
-      (subst (λ z. XactStands start bank g.tells (faults_of new) (last_page new) z (pages_of new) (es ++ made_entry by page ∷ [])) (sym m.cutoff)
-      (xact_made start bank (faults_of old) (last_page old) (cutoff_of old) g.tells (pages_of old) es by page s (base_near start base) (omega arith)
-      (faults_of new) (last_page new) (pages_of new) (subst (λ z. last_page new ≡ cond (page_precedes Ids 32768 (last_page old) z) z (last_page old)) at m.last)
-      (λ told. subst (λ z. MatchBool (page_precedes Ids 32768 (last_page old) z) (PutsPage z zero_page (pages_of old) (pages_of new)) (SameMap (pages_of old) (pages_of new))) at (m.pages told))
-      (made_told start (xact_lock bank) by page (faults_of new) es (let c = s.count in let f = m.count in omega arith))))
+      (subst (λ z. XactStands start bank g.tells (faults_of new) (last_page new) z (pages_of new) (HasCourse start bank new) (es ++ made_entry by page ∷ [])) (sym m.cutoff)
+      (xact_made start bank (faults_of old) (last_page old) (cutoff_of old) g.tells (pages_of old) (HasCourse start bank old) es by page s (base_near start base) (omega arith)
+      (faults_of new) (last_page new) (pages_of new) (HasCourse start bank new) last pages
+      (made_told start (xact_lock bank) by page (faults_of new) es (let c = s.count in let f = m.count in omega arith))
+      (λ told k.
+      let made : PageMade old new es (es ++ made_entry by page ∷ []) = record { by = by; page = page; entries = refl; pages = pages told; last = last; cutoff = m.cutoff; crash = crash } in
+      (suc k.0, (old, es, k.1, inr (inr (inl made)))))))
 
   pub subtrans_stands_made : (start : Start) (bank : ℕ) (old new : SlruBank P O g r) (es : List Entry) (by : By) (id page stored : ℕ) (e : Entry) → IsBase start.base → start.base.next ≤ id → e ≡ made_entry by page → page ≡ subtrans_page id → stored ≡ low_half id / 2048 → Makes stored 2048 old new → IsSubtransOf start bank old es
       → IsSubtransOf start bank new (es ++ e ∷ [])

@@ -1,5 +1,5 @@
 -- What is left in the list of a bank that refused a call.
-use Rattle.std.proofs.Common.{None, ◌≡◌, ℕ, ◌≤◌, ◌<◌, List, [], ◌∷◌, ◌++◌, refl, length, arith}
+use Rattle.std.proofs.Common.{None, ◌≡◌, ℕ, suc, ◌≤◌, ◌<◌, List, [], ◌∷◌, ◌++◌, inl, inr, refl, length, arith}
 use Rattle.disk_core.specs.declared.log_disk.LogDisk as logs
 use Rattle.disk_core.specs.declared.page_disk.PageDisk as disks
 use Rattle.store_pages.specs.declared.page_rule.PageRule as rules
@@ -17,6 +17,7 @@ use Rattle.tx_core.specs.Pages.{zeroed_in}
 use Rattle.engine_parts.specs.declared.part.Part.{Part}
 use Rattle.engine_parts.specs.declared.part.Part.TheVariants as parts
 use Rattle.engine_parts.specs.Answers.{MetFault}
+use Rattle.engine_parts.specs.Course.{HasCourse, Noted}
 use Rattle.engine_parts.specs.Holds.{Knowledge, Leaves}
 use Rattle.engine_parts.specs.Parts.{IsSubtransOf, IsXactOf, PartStands}
 use Rattle.engine_parts.proofs.Banking.{xact_read}
@@ -26,7 +27,7 @@ use Rattle.tx_core.specs.FaultsRise.{count_in, faults_at, faults_told}
 use Rattle.tx_core.proofs.LastNumbers.{number_same, number_push}
 use Rattle.bank_sections.specs.Refusals.{faults_in, entry_of_refusal}
 
--- it has no event and no record, asks for no state and changes nothing
+-- it has no event and no record, asks for no state, changes nothing and is no sync
 pub record IsQuiet (e : Entry) : Type 0 where
   pub event : event_of e ≡ None
   pub appended : appended e ≡ None
@@ -34,10 +35,27 @@ pub record IsQuiet (e : Entry) : Type 0 where
   pub marks : marks_in e ≡ []
   pub links : links_in e ≡ []
   pub zeroed : zeroed_in e.kind ≡ None
+  pub other : e.kind ≡ kinds.Sync → ⊥
 
 pub refused_quiet : (by : By) (count : ℕ) (refusal : BankRefusal) → IsQuiet (entry_of_refusal by count refusal)
-refused_quiet by count refused.DiskFault = record { event = refl; appended = refl; asks = refl; marks = refl; links = refl; zeroed = refl }
-refused_quiet by count (refused.Cut cutoff) = record { event = refl; appended = refl; asks = refl; marks = refl; links = refl; zeroed = refl }
+refused_quiet by count refused.DiskFault = record {
+  event = refl;
+  appended = refl;
+  asks = refl;
+  marks = refl;
+  links = refl;
+  zeroed = refl;
+  other = λ sync. let apart : kinds.Fault (by ∷ []) [] None count ≡ kinds.Sync = sync in absurd cc;
+}
+refused_quiet by count (refused.Cut cutoff) = record {
+  event = refl;
+  appended = refl;
+  asks = refl;
+  marks = refl;
+  links = refl;
+  zeroed = refl;
+  other = λ sync. let apart : kinds.Look ≡ kinds.Sync = sync in absurd cc;
+}
 
 pub met_refusal : (start : Start) (v w : Knowledge) (lock : ℕ) (by : By) (count : ℕ) (refusal : BankRefusal) → lock < length v.seen → Leaves start lock (entry_of_refusal by count refusal) v w → refusal ≡ refused.DiskFault → MetFault w.seen lock by
 met_refusal start v w lock by count refused.DiskFault inside l is = met_fault start v w lock by count inside l
@@ -53,8 +71,12 @@ module _ {P O : Type 0} {g : disks.Ghosts P} {r : rules.Ghosts O} where
   pub xact_refused : (start : Start) (bank : ℕ) (store : SlruBank P O g r) (by : By) (refusal : BankRefusal) (es : List Entry) → IsXactOf start bank store es → IsXactOf start bank store (es ++ entry_of_refusal by (faults_of store) refusal ∷ [])
   xact_refused start bank store by refusal es s =
       let q = refused_quiet by (faults_of store) refusal in
-      xact_read start bank (faults_of store) (faults_of store) (last_page store) (last_page store) (cutoff_of store) (cutoff_of store) g.tells (pages_of store) (pages_of store) es (entry_of_refusal by (faults_of store) refusal) s refl refl q.marks q.zeroed
+      xact_read start bank (faults_of store) (faults_of store) (last_page store) (last_page store) (cutoff_of store) (cutoff_of store) g.tells (pages_of store) (pages_of store) (HasCourse start bank store) (HasCourse start bank store) es (entry_of_refusal by (faults_of store) refusal) s refl refl q.marks q.zeroed
       (refused_told start (xact_lock bank) by (faults_of store) refusal es s.count) (λ told page. refl)
+      (λ told k.
+      let e : Entry = entry_of_refusal by (faults_of store) refusal in
+      let note : Noted store store es (es ++ e ∷ []) = record { entry = e; entries = refl; same = refl; sets = q.marks; makes = q.zeroed; other = q.other } in
+      (suc k.0, (store, es, k.1, inr (inl note))))
 
   pub subtrans_refused : (start : Start) (bank : ℕ) (store : SlruBank P O g r) (by : By) (refusal : BankRefusal) (es : List Entry) → IsSubtransOf start bank store es → IsSubtransOf start bank store (es ++ entry_of_refusal by (faults_of store) refusal ∷ [])
   subtrans_refused start bank store by refusal es s =
@@ -73,6 +95,12 @@ module _ {L P : Type 0} {l : logs.Ghosts L} {p : disks.Ghosts P} where
   pub stands_refused : (start : Start) (lock : ℕ) (part : Part L P l p) (by : By) (refusal : BankRefusal) (es : List Entry) → IsPageLock start lock → PartStands start lock part es → PartStands start lock part (es ++ entry_of_refusal by (faults_in part) refusal ∷ [])
   stands_refused start lock (parts.Log log) by refusal es pages s = let q : lock ≡ 0 = s.0 in let f = pages.from in absurd (omega arith)
   stands_refused start lock (parts.Proc table) by refusal es pages s = let q : lock ≡ 1 = s.0 in let f = pages.from in absurd (omega arith)
-  stands_refused start lock (parts.Xact store) by refusal es pages s = (s.0, s.1, xact_refused start s.0 store by refusal es s.2)
-  stands_refused start lock (parts.Subtrans store) by refusal es pages s = (s.0, s.1, subtrans_refused start s.0 store by refusal es s.2)
-  stands_refused start lock parts.Vacant by refusal es pages s = s
+  stands_refused start lock (parts.Xact store) by refusal es pages s = (s.0, s.1, xact_refused start s.0 store.value by refusal es s.2)
+  stands_refused start lock (parts.Subtrans store) by refusal es pages s = (s.0, s.1, subtrans_refused start s.0 store.value by refusal es s.2)
+  stands_refused start lock parts.Vacant by refusal es pages s = record {
+    log = s.log;
+    proc = s.proc;
+    xact = s.xact;
+    subtrans = s.subtrans;
+    multi = λ q. let f = pages.from in absurd (omega (arith, q, f));
+  }

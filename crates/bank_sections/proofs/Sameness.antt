@@ -1,12 +1,13 @@
 -- A bank of which a call changed nothing stands for the same list.
-use Rattle.std.proofs.Common.{◌≡◌, ℕ, ◌≤◌, List, IsTrue, ap, arith, ◌∙◌, subst, sym}
+use Rattle.std.proofs.Common.{◌≡◌, ℕ, suc, ◌≤◌, List, IsTrue, ap, arith, ◌∙◌, inl, refl, subst, sym}
 use Rattle.disk_core.specs.declared.page_disk.PageDisk as disks
 use Rattle.store_pages.specs.declared.page_rule.PageRule as rules
 use Rattle.slru_bank.specs.declared.bank.SlruBank.{SlruBank}
-use Rattle.slru_bank.specs.Calls.{SamePages, cutoff_of, faults_of, last_page, pages_of}
+use Rattle.slru_bank.specs.Calls.{CrashKeeps, SamePages, cutoff_of, faults_of, last_page, pages_of}
 use Rattle.store_pages.specs.Layouts.{number_in, state_in, word_page_of, word_place_of, xact_page_of, xact_place_of}
 use Rattle.tx_core.specs.declared.entry.Entry.{Entry}
 use Rattle.tx_core.specs.declared.entry.Start.{Start}
+use Rattle.engine_parts.specs.Course.{HasCourse, Looked}
 use Rattle.engine_parts.specs.Parts.{IsSubtransOf, IsXactOf}
 use Rattle.engine_parts.specs.Stand.{SubtransStands, XactStands}
 
@@ -18,9 +19,9 @@ module _ {P O : Type 0} {g : disks.Ghosts P} {r : rules.Ghosts O} where
     pub count : faults_of old ≤ faults_of new
     pub pages : IsTrue g.tells → SamePages old new
 
-  pub xact_same : (start : Start) (bank : ℕ) (old new : SlruBank P O g r) (es : List Entry) → IsSame old new → IsXactOf start bank old es → IsXactOf start bank new es
-  xact_same start bank old new es same s =
-      subst (λ (z : ℕ × ℕ). XactStands start bank g.tells (faults_of new) z.0 z.1 (pages_of new) es) (λ j. (sym same.last j, sym same.cutoff j)) (record {
+  pub xact_same : (start : Start) (bank : ℕ) (old new : SlruBank P O g r) (es : List Entry) → IsSame old new → CrashKeeps old new → IsXactOf start bank old es → IsXactOf start bank new es
+  xact_same start bank old new es same crash s =
+      subst (λ (z : ℕ × ℕ). XactStands start bank g.tells (faults_of new) z.0 z.1 (pages_of new) (HasCourse start bank new) es) (λ j. (sym same.last j, sym same.cutoff j)) (record {
         inside = s.inside;
         count = (let c = s.count in let f = same.count in omega arith);
         last_is = s.last_is;
@@ -28,6 +29,10 @@ module _ {P O : Type 0} {g : disks.Ghosts P} {r : rules.Ghosts O} where
         shown = λ told near.
             let old_shown = s.shown told near in
             (old_shown.0, old_shown.1, record { each = λ x used here uncut. ap (λ (t : List ℕ). state_in t (xact_place_of x)) (same.pages told (xact_page_of x)) ∙ old_shown.2.each x used here uncut });
+        course = λ told.
+            let k = s.course told in
+            let look : Looked old new es es = record { entries = refl; last = same.last; cutoff = same.cutoff; pages = same.pages told; crash = crash } in
+            (suc k.0, (old, es, k.1, inl look));
       })
 
   pub subtrans_same : (start : Start) (bank : ℕ) (old new : SlruBank P O g r) (es : List Entry) → IsSame old new → IsSubtransOf start bank old es → IsSubtransOf start bank new es

@@ -8,7 +8,7 @@ use Rattle.store_pages.specs.declared.page_rule.PageRule as rules
 use Rattle.store_pages.specs.Layouts.{xact_page_of}
 use Rattle.slru_bank.specs.Changes.{SetsStates, ShareAPage}
 use Rattle.slru_bank.specs.declared.bank.SlruBank.{SlruBank}
-use Rattle.slru_bank.specs.Calls.{cutoff_of, faults_of, last_page, pages_of}
+use Rattle.slru_bank.specs.Calls.{CrashKeeps, cutoff_of, faults_of, last_page, pages_of}
 use Rattle.notes.specs.Lists.{Knows, at}
 use Rattle.notes.proofs.Growing.{begins_same}
 use Rattle.tx_events.specs.declared.event.By.{By}
@@ -32,6 +32,7 @@ use Rattle.tx_core.specs.ProgramOrder.{IsInTurn}
 use Rattle.tx_core.proofs.ChangeLaws.{aborted_law, committed_law, sub_committed_law}
 use Rattle.tx_core.proofs.Lasting.{logged_lasting, tree_lasting}
 use Rattle.tx_core.proofs.Stepping.{asks_cases, own_appended, own_asks}
+use Rattle.engine_parts.specs.Course.{HasCourse, Marked}
 use Rattle.engine_parts.specs.Holds.{Enters, Knowledge, Leaves}
 use Rattle.engine_parts.specs.Law.{MayKeep}
 use Rattle.engine_parts.specs.Parts.{IsXactOf}
@@ -141,12 +142,15 @@ share_stored ids page each j within = same (slice_index ids j) (slice_index ids 
     same a b q = omega arith
 
 module _ {P O : Type 0} {g : disks.Ghosts P} {r : rules.Ghosts O} where
-  pub stands_set : (start : Start) (lists : List (List Entry)) (n bank : ℕ) (old new : SlruBank P O g r) (by : By) (ids : List ℕ) (state : State) (number : ℕ) (e : Entry) → IsBase start.base → EngineInvariant start lists → e ≡ set_entry by state ids → ((id : ℕ) → Contains ids id → Contains (open_ids n (history lists)) id) → MaySet start lists n bank ids state
-      → number ≡ number_of_state (Some state) → last_page new ≡ last_page old → cutoff_of new ≡ cutoff_of old → faults_of old ≤ faults_of new → (IsTrue g.tells → SetsStates ids (length ids) number (pages_of old) (pages_of new))
+  pub stands_set : (start : Start) (lists : List (List Entry)) (n bank : ℕ) (old new : SlruBank P O g r) (by : By) (ids : List ℕ) (state : State) (number : ℕ) (e : Entry) → IsBase start.base → EngineInvariant start lists → e ≡ set_entry by state ids → 1 ≤ length ids → ((id : ℕ) → Contains ids id → Contains (open_ids n (history lists)) id) → MaySet start lists n bank ids state
+      → number ≡ number_of_state (Some state) → last_page new ≡ last_page old → cutoff_of new ≡ cutoff_of old → faults_of old ≤ faults_of new → (IsTrue g.tells → SetsStates ids (length ids) number (pages_of old) (pages_of new)) → CrashKeeps old new
       → IsXactOf start bank old (at lists (xact_lock bank)) → IsXactOf start bank new (at lists (xact_lock bank) ++ e ∷ [])
-  stands_set start lists n bank old new by ids state number e base k is opened m number_is last cutoff count sets s =
-      subst (λ (f : Entry). IsXactOf start bank new (at lists (xact_lock bank) ++ f ∷ [])) (sym is)
-      (xact_set start bank (faults_of old) (faults_of new) (last_page old) (last_page new) (cutoff_of old) (cutoff_of new) g.tells (pages_of old) (pages_of new) (at lists (xact_lock bank)) by state ids s last cutoff (base_near start base)
+  stands_set start lists n bank old new by ids state number e base k is some opened m number_is last cutoff count sets crash s =
+      let es : List Entry = at lists (xact_lock bank) in
+      let share : ShareAPage ids = share_stored ids m.page m.share in
+      let set : IsTrue g.tells → SetsStates ids (length ids) (number_of_state (Some state)) (pages_of old) (pages_of new) = λ told. subst (λ z. SetsStates ids (length ids) z (pages_of old) (pages_of new)) number_is (sets told) in
+      subst (λ (f : Entry). IsXactOf start bank new (es ++ f ∷ [])) (sym is)
+      (xact_set start bank (faults_of old) (faults_of new) (last_page old) (last_page new) (cutoff_of old) (cutoff_of new) g.tells (pages_of old) (pages_of new) (HasCourse start bank old) (HasCourse start bank new) es by state ids s last cutoff (base_near start base)
       (λ j within.
       let c = index_in ids j within in
       let o = opened (slice_index ids j) c in
@@ -154,9 +158,24 @@ module _ {P O : Type 0} {g : disks.Ghosts P} {r : rules.Ghosts O} where
       let from = f.1 in
       let oldest = base.oldest in
       (open_made start lists n bank (slice_index ids j) k o (m.here (slice_index ids j) c), f.0, omega arith))
-      (share_stored ids m.page m.share)
-      (let a = number_same count_in (faults_at start (xact_lock bank)) (at lists (xact_lock bank)) (set_entry by state ids) refl in let c = s.count in omega arith)
-      (λ told. subst (λ z. SetsStates ids (length ids) z (pages_of old) (pages_of new)) number_is (sets told)))
+      share
+      (let a = number_same count_in (faults_at start (xact_lock bank)) es (set_entry by state ids) refl in let c = s.count in omega arith)
+      set
+      (λ told went.
+      let marked : Marked start old new es (es ++ set_entry by state ids ∷ []) = record {
+        by = by;
+        state = state;
+        ids = ids;
+        entries = refl;
+        some = some;
+        share = share;
+        made = λ id c. open_made start lists n bank id k (opened id c) (m.here id c);
+        pages = set told;
+        last = last;
+        cutoff = cutoff;
+        crash = crash;
+      } in
+      (suc went.0, (old, es, went.1, inr (inr (inr marked))))))
 
 -- an id of a part of the open ids is open
 range_open : (n first past : ℕ) (lists : List (List Entry)) (opened part : List ℕ) → part ≡ slice_range opened first past → open_ids n (history lists) ≡ opened → (id : ℕ) → Contains part id → Contains (open_ids n (history lists)) id

@@ -14,8 +14,8 @@ use Rattle.engine_parts.specs.Faults.{fault_by, look_of}
 module _ {L P : Type 0} {l : logs.Ghosts L} {p : disks.Ghosts P} where
   -- the faults that the volume behind a bank has counted
   abbrev pub faults_in : Part L P l p → ℕ
-  faults_in (parts.Xact store) = faults_of store
-  faults_in (parts.Subtrans store) = faults_of store
+  faults_in (parts.Xact store) = faults_of store.value
+  faults_in (parts.Subtrans store) = faults_of store.value
   faults_in _ = 0
 
 -- the fault of the volume, or only a look where the page is cut

@@ -85,19 +85,20 @@ pub fn set_page<R: Wait, L: LogDisk, P: PageDisk>(
         → (cutoff : ℕ) → result ≡ Err (Cut cutoff) → ⊥ }
     ensures same { (caller.new.session ≡ caller.old.session) × (caller.new.number ≡ caller.old.number) }
 {
-    let mut store = enter_xact(rt, hall, caller, bank);
+    let mut held = enter_xact(rt, hall, caller, bank);
+    let store = &mut *held;
     let lock = 3 + 4 * bank;
     let by = command_of(caller);
     let ids = &caller.session.levels.open_ids[first..past];
-    match set_states(&mut store, ids, stored(state)) {
+    match set_states(&mut *store, ids, stored(state)) {
         Ok(()) => {
             let entry = set_note(by, ids, state);
-            leave_quiet(hall, caller, lock, Part::Xact(store), entry);
+            leave_quiet(hall, caller, lock, Part::Xact(held), entry);
             Ok(())
         }
         Err(refusal) => {
-            let fault = fault_note(by, &store);
-            leave_refused(hall, caller, lock, Part::Xact(store), refusal, fault);
+            let fault = fault_note(by, &*store);
+            leave_refused(hall, caller, lock, Part::Xact(held), refusal, fault);
             Err(refusal)
         }
     }

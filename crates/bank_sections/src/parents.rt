@@ -62,18 +62,19 @@ pub fn make_parents<R: Wait, L: LogDisk, P: PageDisk>(
         → (cutoff : ℕ) → result ≡ Err (Cut cutoff) → ⊥ }
     ensures same { (caller.new.session ≡ caller.old.session) × (caller.new.number ≡ caller.old.number) }
 {
-    let mut store = enter_subtrans(rt, hall, caller, bank);
+    let mut held = enter_subtrans(rt, hall, caller, bank);
+    let store = &mut *held;
     let lock = 4 + 4 * bank;
     let by = command_of(caller);
     match store.zero(subtrans_page(id.low())) {
         Ok(()) => {
             let entry = zeroed_note(by, subtrans_page_in_full(id));
-            leave_quiet(hall, caller, lock, Part::Subtrans(store), entry);
+            leave_quiet(hall, caller, lock, Part::Subtrans(held), entry);
             Ok(())
         }
         Err(refusal) => {
-            let fault = fault_note(by, &store);
-            leave_refused(hall, caller, lock, Part::Subtrans(store), refusal, fault);
+            let fault = fault_note(by, &*store);
+            leave_refused(hall, caller, lock, Part::Subtrans(held), refusal, fault);
             Err(refusal)
         }
     }
@@ -116,18 +117,19 @@ pub fn link_parent<R: Wait, L: LogDisk, P: PageDisk>(
         → AreFewIds (view caller.new.pass).seen → (cutoff : ℕ) → result ≡ Err (Cut cutoff) → ⊥ }
     ensures same { (caller.new.session ≡ caller.old.session) × (caller.new.number ≡ caller.old.number) }
 {
-    let mut store = enter_subtrans(rt, hall, caller, bank);
+    let mut held = enter_subtrans(rt, hall, caller, bank);
+    let store = &mut *held;
     let lock = 4 + 4 * bank;
     let by = command_of(caller);
-    match set_parent(&mut store, id.low(), parent.low()) {
+    match set_parent(&mut *store, id.low(), parent.low()) {
         Ok(()) => {
             let entry = linked_note(by, id, parent);
-            leave_quiet(hall, caller, lock, Part::Subtrans(store), entry);
+            leave_quiet(hall, caller, lock, Part::Subtrans(held), entry);
             Ok(())
         }
         Err(refusal) => {
-            let fault = fault_note(by, &store);
-            leave_refused(hall, caller, lock, Part::Subtrans(store), refusal, fault);
+            let fault = fault_note(by, &*store);
+            leave_refused(hall, caller, lock, Part::Subtrans(held), refusal, fault);
             Err(refusal)
         }
     }
@@ -177,17 +179,18 @@ pub fn read_parent<R: Wait, L: LogDisk, P: PageDisk>(
         (by_at caller.old.number caller.old.session.levels.commands) }
     ensures same { (caller.new.session ≡ caller.old.session) × (caller.new.number ≡ caller.old.number) }
 {
-    let mut store = enter_subtrans(rt, hall, caller, bank);
+    let mut held = enter_subtrans(rt, hall, caller, bank);
+    let store = &mut *held;
     let lock = 4 + 4 * bank;
     let by = command_of(caller);
-    match stored_parent(&mut store, x.low()) {
+    match stored_parent(&mut *store, x.low()) {
         Ok(found) => {
-            leave_looked(hall, caller, lock, Part::Subtrans(store));
+            leave_looked(hall, caller, lock, Part::Subtrans(held));
             Ok(parent_near(x, found))
         }
         Err(refusal) => {
-            let fault = fault_note(by, &store);
-            leave_refused(hall, caller, lock, Part::Subtrans(store), refusal, fault);
+            let fault = fault_note(by, &*store);
+            leave_refused(hall, caller, lock, Part::Subtrans(held), refusal, fault);
             Err(refusal)
         }
     }

@@ -60,18 +60,19 @@ pub fn make_page<R: Wait, L: LogDisk, P: PageDisk>(
         → (cutoff : ℕ) → result ≡ Err (Cut cutoff) → ⊥ }
     ensures same { (caller.new.session ≡ caller.old.session) × (caller.new.number ≡ caller.old.number) }
 {
-    let mut store = enter_xact(rt, hall, caller, bank);
+    let mut held = enter_xact(rt, hall, caller, bank);
+    let store = &mut *held;
     let lock = 3 + 4 * bank;
     let by = command_of(caller);
     match store.zero(xact_page(id.low())) {
         Ok(()) => {
             let entry = zeroed_note(by, xact_page_in_full(id));
-            leave_quiet(hall, caller, lock, Part::Xact(store), entry);
+            leave_quiet(hall, caller, lock, Part::Xact(held), entry);
             Ok(())
         }
         Err(refusal) => {
-            let fault = fault_note(by, &store);
-            leave_refused(hall, caller, lock, Part::Xact(store), refusal, fault);
+            let fault = fault_note(by, &*store);
+            leave_refused(hall, caller, lock, Part::Xact(held), refusal, fault);
             Err(refusal)
         }
     }
@@ -115,17 +116,18 @@ pub fn read_state<R: Wait, L: LogDisk, P: PageDisk>(
         (by_at caller.old.number caller.old.session.levels.commands) }
     ensures same { (caller.new.session ≡ caller.old.session) × (caller.new.number ≡ caller.old.number) }
 {
-    let mut store = enter_xact(rt, hall, caller, bank);
+    let mut held = enter_xact(rt, hall, caller, bank);
+    let store = &mut *held;
     let lock = 3 + 4 * bank;
     let by = command_of(caller);
-    match state(&mut store, x.low()) {
+    match state(&mut *store, x.low()) {
         Ok(found) => {
-            leave_looked(hall, caller, lock, Part::Xact(store));
+            leave_looked(hall, caller, lock, Part::Xact(held));
             Ok(named(found))
         }
         Err(refusal) => {
-            let fault = fault_note(by, &store);
-            leave_refused(hall, caller, lock, Part::Xact(store), refusal, fault);
+            let fault = fault_note(by, &*store);
+            leave_refused(hall, caller, lock, Part::Xact(held), refusal, fault);
             Err(refusal)
         }
     }

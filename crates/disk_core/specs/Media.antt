@@ -17,6 +17,10 @@ pub record HasBanks {L P : Type 0} (n : ℕ) (volumes : Volumes L P) : Type 0 wh
   pub offsets : length volumes.offsets.items ≡ n
   pub members : length volumes.members.items ≡ n
 
+-- volumes that a first mount of so many banks may give
+abbrev pub MayBeFirst : {L P : Type 0} → (ℕ → Volumes L P → Type 0) → ℕ → Volumes L P → Type 0
+MayBeFirst begins banks volumes = HasBanks banks volumes × begins banks volumes
+
 -- as many volumes of each kind
 pub record HaveSameBanks {L P : Type 0} (old new : Volumes L P) : Type 0 where
   pub xact : length new.xact.items ≡ length old.xact.items

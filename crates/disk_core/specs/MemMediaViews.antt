@@ -22,15 +22,17 @@ first_log m = m.log.items
 abbrev pub is_idle : MemMedia → Bool
 is_idle m = not m.is_mounted
 
-abbrev pub IsEmptyBank : MemPages → Type 0
-IsEmptyBank p = ((q : ℕ) → pages_now p q ≡ None) × ((q : ℕ) → pages_synced p q ≡ None)
+-- a page volume without pages, which has counted no fault
+abbrev pub IsNewBank : MemPages → Type 0
+IsNewBank p = ((q : ℕ) → pages_now p q ≡ None) × ((q : ℕ) → pages_synced p q ≡ None) × (p.faults ≡ 0)
 
--- the volumes of a first mount: this log, all of it synced, and no pages
+-- the volumes of a first mount: this log, all of it synced, and no pages; none has counted a fault
 pub record IsFirst (log : List ℕ) (banks : ℕ) (volumes : Volumes MemLog MemPages) : Type 0 where
   pub has : HasBanks banks volumes
   pub log_written : written volumes.log ≡ record { start = 0; bytes = log }
   pub log_synced : synced volumes.log ≡ record { start = 0; bytes = log }
-  pub xact : All IsEmptyBank volumes.xact.items
-  pub subtrans : All IsEmptyBank volumes.subtrans.items
-  pub offsets : All IsEmptyBank volumes.offsets.items
-  pub members : All IsEmptyBank volumes.members.items
+  pub log_faults : volumes.log.faults ≡ 0
+  pub xact : All IsNewBank volumes.xact.items
+  pub subtrans : All IsNewBank volumes.subtrans.items
+  pub offsets : All IsNewBank volumes.offsets.items
+  pub members : All IsNewBank volumes.members.items

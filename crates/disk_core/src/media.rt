@@ -56,6 +56,9 @@ pub trait Media {
     /// Nothing was ever given back to it.
     ghost is_new: { Self → Bool };
 
+    /// The volumes that the first mount of so many banks may give, while it is new.
+    ghost begins: { Self → ℕ → Volumes Self.Log Self.Pages → Type 0 };
+
     /// The volumes that the next mount may give, if it isn't new.
     ghost gives: { Self → Volumes Self.Log Self.Pages → Type 0 };
 
@@ -72,6 +75,7 @@ pub trait Media {
         requires few { banks ≤ 16 }
         ensures again { is_new self.old ≡ false → IfOk result (gives self.old) }
         ensures first { IsTrue (is_new self.old) → IfOk result (HasBanks banks) }
+        ensures begins { IsTrue (is_new self.old) → IfOk result (begins self.old banks) }
         ensures mounted { OnOk result (is_idle self.new ≡ false) }
         ensures idle { OnErr result (IsTrue (is_idle self.new)) }
         ensures kept { OnErr result (is_new self.old ≡ false → (is_new self.new ≡ false) × NoMore (gives self.old) (gives self.new)) }

@@ -1,7 +1,7 @@
 //! The banks of a media in memory.
 ghost use Rattle.std.specs.Prelude.{◌≡◌, length, IfOk, OnOk, All};
 ghost use Rattle.disk_core.specs.Media.{EachCrashed};
-ghost use Rattle.disk_core.specs.MemMediaViews.{IsEmptyBank};
+ghost use Rattle.disk_core.specs.MemMediaViews.{IsNewBank};
 ghost use Rattle.disk_core.specs.MemPagesViews.{pages_crashed, PagesFell};
 
 use crate::{Crash, Failed, MemPages};
@@ -9,7 +9,7 @@ use std::alloc::{AllocError, Global};
 
 pub(crate) fn new_banks(alloc: Global, n: u32) -> Result<Vec<MemPages>, AllocError>
     ensures count { IfOk result (λ banks. length banks.items ≡ n) }
-    ensures empty { IfOk result (λ banks. All IsEmptyBank banks.items) }
+    ensures new { IfOk result (λ banks. All IsNewBank banks.items) }
 {
     let mut banks = Vec::new(alloc);
     for _ in 0..n {

@@ -82,6 +82,17 @@ fn overwrite(bytes: &mut Vec<u8>, at: usize, from: &[u8]) -> Result<(), AllocErr
     Ok(())
 }
 
+// Puts bytes before those that stand here. Where none stand, they are copied once.
+fn put_before(bytes: &[u8], tail: &mut Vec<u8>) -> Result<(), AllocError>
+    ensures ok { OnOk result (tail.new.items ≡ bytes.now ++ tail.old.items) }
+    ensures length { OnOk result (length tail.new.items ≡ length bytes.now + length tail.old.items) }
+    ensures err { OnErr result (tail.new.items ≡ tail.old.items) }
+{
+    tail.extend_from_slice(bytes)?;
+    tail.rotate_right(bytes.len());
+    Ok(())
+}
+
 // Keeps what was synced before a write at a place.
 fn set_aside(bytes: &[u8], low: &mut usize, tail: &mut Vec<u8>, at: usize) -> Result<(), AllocError>
     requires { low.old + length tail.old.items ≤ length bytes.now }
@@ -90,10 +101,7 @@ fn set_aside(bytes: &[u8], low: &mut usize, tail: &mut Vec<u8>, at: usize) -> Re
     ensures synced { take low.new bytes.now ++ tail.new.items ≡ take low.old bytes.now ++ tail.old.items }
 {
     if at < *low {
-        let mut next = Vec::new(*tail.allocator());
-        next.extend_from_slice(&bytes[at..*low])?;
-        next.extend_from_slice(tail)?;
-        *tail = next;
+        put_before(&bytes[at..*low], tail)?;
         *low = at;
     }
     Ok(())
@@ -171,10 +179,11 @@ impl MemLog {
     ghost use Rattle.std.specs.Prelude.{◌≡◌};
     ghost use Rattle.disk_core.specs.MemLogViews.{written, synced};
 
-    /// A volume with these bytes, all of them synced.
+    /// A volume with these bytes, all of them synced, which has counted no fault.
     pub fn of(alloc: Global, bytes: Vec<u8>) -> MemLog
         ensures written { written result ≡ record { start = 0; bytes = bytes.items } }
         ensures synced { synced result ≡ record { start = 0; bytes = bytes.items } }
+        ensures faults { result.faults ≡ 0 }
     {
         let past = Note::by(&bytes);
         MemLog {

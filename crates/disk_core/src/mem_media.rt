@@ -94,7 +94,7 @@ impl Media for MemMedia {
 
     ghost use Rattle.std.specs.Prelude.{◌≡◌, ◌≤◌, IsTrue, IfOk, OnOk, OnErr, false};
     ghost use Rattle.disk_core.specs.Images.{NoMore, Only};
-    ghost use Rattle.disk_core.specs.Media.{HaveSameBanks, CountsMount, AllCrashed};
+    ghost use Rattle.disk_core.specs.Media.{HasBanks, HaveSameBanks, CountsMount, AllCrashed};
     ghost use Rattle.disk_core.specs.declared.media.Volumes.{Volumes};
     ghost use Rattle.disk_core.specs.MemLogViews.{log_crashed, LogFell};
     ghost use Rattle.disk_core.specs.MemPagesViews.{pages_crashed, PagesFell};
@@ -103,6 +103,8 @@ impl Media for MemMedia {
     ghost is_idle = { λ m. is_idle m };
 
     ghost is_new = { λ m. is_new m };
+
+    ghost begins = { λ m banks. IsFirst (first_log m) banks };
 
     ghost gives = { λ m. gives m };
 
@@ -115,7 +117,8 @@ impl Media for MemMedia {
         requires some { 1 ≤ banks }
         requires few { banks ≤ 16 }
         ensures again { is_new self.old ≡ false → IfOk result (gives self.old) }
-        ensures first { IsTrue (is_new self.old) → IfOk result (IsFirst (first_log self.old) banks) }
+        ensures first { IsTrue (is_new self.old) → IfOk result (HasBanks banks) }
+        ensures begins { IsTrue (is_new self.old) → IfOk result (IsFirst (first_log self.old) banks) }
         ensures mounted { OnOk result (is_idle self.new ≡ false) }
         ensures idle { OnErr result (IsTrue (is_idle self.new)) }
         ensures kept { OnErr result (is_new self.old ≡ false → (is_new self.new ≡ false) × NoMore (gives self.old) (gives self.new)) }

@@ -212,10 +212,11 @@ impl MemPages {
     ghost use Rattle.disk_core.specs.MemPages.{page_outcome_of};
     ghost use Rattle.disk_core.specs.MemPagesViews.{pages_now, pages_synced, pages_crashed, PagesFell};
 
-    /// A volume without pages.
+    /// A volume without pages, which has counted no fault.
     pub fn new(alloc: Global) -> MemPages
         ensures now { (q : ℕ) → pages_now result q ≡ None }
         ensures synced { (q : ℕ) → pages_synced result q ≡ None }
+        ensures faults { result.faults ≡ 0 }
     {
         let past = Note::by(&alloc);
         MemPages {

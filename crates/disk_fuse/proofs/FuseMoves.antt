@@ -10,7 +10,7 @@ use Rattle.disk_core.specs.declared.media.Volumes.{Volumes}
 use Rattle.disk_core.specs.declared.media.Which.{Which}
 use Rattle.disk_fuse.specs.declared.fused_log.FusedLog.{FusedLog}
 use Rattle.disk_fuse.specs.declared.fused_pages.FusedPages.{FusedPages}
-use Rattle.disk_fuse.specs.FuseMedia.{fused_banks, inner_banks, refusals, xact_bank, subtrans_bank, offsets_bank, members_bank, IsFused, AreWithin, IsUnfused, FuseFell, fuse_gives, fuse_is_new}
+use Rattle.disk_fuse.specs.FuseMedia.{fused_banks, inner_banks, refusals, xact_bank, subtrans_bank, offsets_bank, members_bank, IsFused, AreWithin, IsUnfused, FuseFell, fuse_begins, fuse_gives, fuse_is_new}
 
 pub on_ok_map : {T E : Type 0} (r : Result T E) {A B : Type 0} → (A → B) → OnOk r A → OnOk r B
 on_ok_map (Ok x) f a = f a
@@ -121,6 +121,10 @@ module _ {L P : Type 0} (G : Volumes L P → Type 0) (held : Option (Volumes (Fu
       → IsTrue (fuse_is_new was_new held) → HasBanks n fused
   gives_first n v fused inner is new =
       fused_has_banks at passes refused v fused is n (inner (subst (λ (h : Option (Volumes (FusedLog L) (FusedPages P))). IsTrue (fuse_is_new was_new h)) none new))
+
+  pub begins_first : (B : Volumes L P → Type 0) (v : Volumes L P) (fused : Volumes (FusedLog L) (FusedPages P)) → (IsTrue was_new → B v) → IsFused at passes refused v fused
+      → IsTrue (fuse_is_new was_new held) → fuse_begins B at passes refused fused
+  begins_first B v fused inner is new = (v, inner (subst (λ (h : Option (Volumes (FusedLog L) (FusedPages P))). IsTrue (fuse_is_new was_new h)) none new), is)
 
   pub still_gives : (G_2 : Volumes L P → Type 0) (held_2 : Option (Volumes (FusedLog L) (FusedPages P))) (now_new : Bool) → held_2 ≡ None → (was_new ≡ false → (now_new ≡ false) × NoMore G G_2)
       → fuse_is_new was_new held ≡ false → (fuse_is_new now_new held_2 ≡ false) × NoMore (fuse_gives G held at passes refused) (fuse_gives G_2 held_2 at passes refused)

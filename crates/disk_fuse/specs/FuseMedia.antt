@@ -65,6 +65,14 @@ abbrev pub refusals : {P : Type 0} → List (FusedPages P) → List ℕ
 refusals [] = []
 refusals (f ∷ fs) = f.refused ∷ refusals fs
 
+-- no volume has refused a call yet
+pub record HaveRefusedNone (refused : Volumes ℕ ℕ) : Type 0 where
+  pub log : refused.log ≡ 0
+  pub xact : refused.xact.items ≡ []
+  pub subtrans : refused.subtrans.items ≡ []
+  pub offsets : refused.offsets.items ≡ []
+  pub members : refused.members.items ≡ []
+
 -- the volumes with a limit on one, and with the counts of what each refused in the lives before
 pub record IsFused {L P : Type 0} (at : Which) (passes : Option ℕ) (refused : Volumes ℕ ℕ) (volumes : Volumes L P) (fused : Volumes (FusedLog L) (FusedPages P)) : Type 0 where
   pub log : fused.log ≡ record { inner = volumes.log; left = limit_of (is_log at) passes; refused = refused.log }
@@ -108,6 +116,10 @@ pub record HasRoomFor {L P U T : Type 0} (volumes : Volumes L P) (room : Volumes
 abbrev pub fuse_gives : {L P : Type 0} → (Volumes L P → Type 0) → Option (Volumes (FusedLog L) (FusedPages P)) → Which → Option ℕ → Volumes ℕ ℕ → Volumes (FusedLog L) (FusedPages P) → Type 0
 fuse_gives inner (Some held) at passes refused volumes = volumes ≡ held
 fuse_gives {L = L} {P = P} inner None at passes refused volumes = (w : Volumes L P) × inner w × IsFused at passes refused w volumes
+
+-- what a first mount gives: such volumes of the media within, with a limit on one, and with those counts
+abbrev pub fuse_begins : {L P : Type 0} → (Volumes L P → Type 0) → Which → Option ℕ → Volumes ℕ ℕ → Volumes (FusedLog L) (FusedPages P) → Type 0
+fuse_begins {L = L} {P = P} inner at passes refused volumes = (w : Volumes L P) × inner w × IsFused at passes refused w volumes
 
 abbrev pub fuse_is_new : {V : Type 0} → Bool → Option V → Bool
 fuse_is_new inner (Some held) = false

@@ -24,6 +24,7 @@ pub struct Fuse<M: Media> {
 
 impl<M: Media> Fuse<M> {
     ghost use Rattle.std.specs.Prelude.{◌≡◌, Some, None, IsTrue};
+    ghost use Rattle.disk_fuse.specs.FuseMedia.{HaveRefusedNone};
 
     /// A media whose volume `at` passes so many calls.
     pub fn new(alloc: Global, inner: M, at: Which, passes: u64) -> Fuse<M>
@@ -31,6 +32,7 @@ impl<M: Media> Fuse<M> {
         ensures inner { result.inner ≡ inner }
         ensures at { result.at ≡ at }
         ensures passes { result.passes ≡ Some passes }
+        ensures refused { HaveRefusedNone result.refused }
         ensures idle { result.is_mounted ≡ false }
         ensures held { result.held ≡ None }
     {
@@ -66,11 +68,13 @@ impl<M: Media> Media for Fuse<M> {
     ghost use Rattle.disk_core.specs.declared.media.Volumes.{Volumes};
     ghost use Rattle.disk_fuse.specs.declared.fused_log.FusedLog.{FusedLog};
     ghost use Rattle.disk_fuse.specs.declared.fused_pages.FusedPages.{FusedPages};
-    ghost use Rattle.disk_fuse.specs.FuseMedia.{fuse_gives, fuse_is_new, FuseFell};
+    ghost use Rattle.disk_fuse.specs.FuseMedia.{fuse_begins, fuse_gives, fuse_is_new, FuseFell};
 
     ghost is_idle = { λ f. not f.is_mounted };
 
     ghost is_new = { λ f. fuse_is_new (M.is_new f.inner) f.held };
+
+    ghost begins = { λ f banks. fuse_begins (M.begins f.inner banks) f.at f.passes f.refused };
 
     ghost gives = { λ f. fuse_gives (M.gives f.inner) f.held f.at f.passes f.refused };
 
@@ -87,6 +91,7 @@ impl<M: Media> Media for Fuse<M> {
         requires few { banks ≤ 16 }
         ensures again { fuse_is_new (M.is_new self.old.inner) self.old.held ≡ false → IfOk result (fuse_gives (M.gives self.old.inner) self.old.held self.old.at self.old.passes self.old.refused) }
         ensures first { IsTrue (fuse_is_new (M.is_new self.old.inner) self.old.held) → IfOk result (HasBanks banks) }
+        ensures begins { IsTrue (fuse_is_new (M.is_new self.old.inner) self.old.held) → IfOk result (fuse_begins (M.begins self.old.inner banks) self.old.at self.old.passes self.old.refused) }
         ensures mounted { OnOk result (not self.new.is_mounted ≡ false) }
         ensures idle { OnErr result (IsTrue (not self.new.is_mounted)) }
         ensures kept { OnErr result (fuse_is_new (M.is_new self.old.inner) self.old.held ≡ false → (fuse_is_new (M.is_new self.new.inner) self.new.held ≡ false)

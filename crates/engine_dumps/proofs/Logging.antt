@@ -1,5 +1,7 @@
 -- A log of which only bytes were read.
-use Rattle.std.proofs.Common.{◌≡◌, ℕ, ◌≤◌, List, ◌++◌, IsTrue, refl, sym, ap, subst, ◌∙◌, arith}
+use Rattle.std.proofs.Common.{Box, Global, ◌≡◌, ℕ, ◌-◌, ◌≤◌, List, ◌++◌, IsTrue, drop, length, length-drop, min, refl, sym, take, ap, subst, ◌∙◌, arith}
+use Rattle.std.proofs.lemmas.List.{length-take-le, take_at, take_min}
+use Rattle.std.specs.Box.{with_value}
 use Rattle.disk_core.specs.declared.log_disk.LogDisk as logs
 use Rattle.disk_core.specs.declared.page_disk.PageDisk as disks
 use Rattle.disk_core.specs.Faults.{HasRisen}
@@ -15,7 +17,7 @@ use Rattle.tx_core.specs.Entries.{recs_in}
 use Rattle.tx_core.specs.Locks.{log_lock}
 use Rattle.engine_parts.specs.declared.part.Part.TheVariants as parts
 use Rattle.engine_parts.specs.Parts.{IsLogOf}
-use Rattle.engine_dumps.specs.Shown.{HasFailed, ShowsLog}
+use Rattle.engine_dumps.specs.Shown.{AreLogBytes, HasFailed, ShowsLog}
 
 module _ {D : Type 0} {g : logs.Ghosts D} where
   -- all but the count of its volume stays, and a crash leaves nothing else
@@ -58,19 +60,42 @@ module _ {D : Type 0} {g : logs.Ghosts D} where
   shows_log start log es from count old new s told image read =
       let k = s.kept told in record {
         volume = g.reads (log_disk log);
-        number = k.0;
-        past = k.1;
-        first = log_first log;
-        opens = subst (λ z. HasFlushed k.0 (k.1 ++ recs_in es) (log_first log) z (g.reads (log_disk log))) s.flushed_is (k.2.each (g.reads (log_disk log)) image);
+        holds = record {
+          number = k.0;
+          past = k.1;
+          first = log_first log;
+          opens = subst (λ z. HasFlushed k.0 (k.1 ++ recs_in es) (log_first log) z (g.reads (log_disk log))) s.flushed_is (k.2.each (g.reads (log_disk log)) image);
+        };
         read = read;
       }
 
   -- its volume failed
-  pub log_failed : {P : Type 0} (p : disks.Ghosts P) (start : Start) (lists : List (List Entry)) (old new : WalLog D g) → IsSameLog old new → IsLogOf start old (at lists log_lock) → HasRisen (g.faults (log_disk old)) (g.faults (log_disk new)) → HasFailed g p start lists log_lock
-  log_failed p start lists old new same s risen = record {
-    before = parts.Log old;
-    now = parts.Log new;
+  pub log_failed : {P : Type 0} (p : disks.Ghosts P) (start : Start) (lists : List (List Entry)) (held : Box (WalLog D g) Global) (old new : WalLog D g) → old ≡ held.value → IsSameLog old new → IsLogOf start held.value (at lists log_lock)
+      → HasRisen (g.faults (log_disk old)) (g.faults (log_disk new)) → HasFailed g p start lists log_lock
+  log_failed p start lists held old new is same s risen = record {
+    before = parts.Log held;
+    now = parts.Log (with_value held new);
     stood = (refl, s);
-    stands = (refl, log_same start old new (at lists log_lock) same s);
-    risen = risen;
+    stands = (refl, log_same start held.value new (at lists log_lock) (subst (λ (log : WalLog D g). IsSameLog log new) is same) s);
+    risen = subst (λ (log : WalLog D g). HasRisen (g.faults (log_disk log)) (g.faults (log_disk new))) is risen;
   }
+
+-- what stands in front of what was read into
+read_piece : (bytes : List ℕ) (from size n : ℕ) (old new : List ℕ) → IsRead bytes from old n new → length old ≡ size → take n new ≡ take size (drop from bytes)
+read_piece bytes from size n old new r sized =
+    let left : List ℕ = drop from bytes in
+    let rest : length left ≡ length bytes - from = length-drop from bytes in
+    let count : n ≡ min size (length left) = r.count ∙ (λ i. min (sized i) (sym rest i)) in
+    let low : n ≤ length left = omega (arith, count) in
+    ap (λ (t : List ℕ). take n t) r.bytes_read
+    ∙ take_at (take n left) (drop n old) n (length-take-le n left low)
+    ∙ ap (λ (m : ℕ). take m left) count
+    ∙ take_min size left
+
+-- so the bytes that are kept of it
+pub log_bytes : (start : Start) (es : List Entry) (from size n : ℕ) (old new bytes : List ℕ) → length old ≡ size → bytes ≡ take n new → ShowsLog start es from old n new → AreLogBytes start es from size bytes
+log_bytes start es from size n old new bytes sized is s = record {
+  volume = s.volume;
+  holds = s.holds;
+  piece = is ∙ read_piece s.volume.bytes from size n old new s.read sized;
+}

@@ -1,29 +1,28 @@
 -- What a dump between two rounds is answered.
-use Rattle.std.specs.Prelude.{◌≡◌, ℕ, ◌≤◌, true}
+use Rattle.std.specs.Prelude.{◌≡◌, ℕ, IsTrue, List, Some}
 use Rattle.disk_core.specs.declared.log_disk.LogDisk as logs
 use Rattle.disk_core.specs.declared.page_disk.PageDisk as disks
 use Rattle.hall.specs.declared.hall.Hall.{Hall}
 use Rattle.hall.specs.Calls.{start_of, view}
+use Rattle.notes.specs.Lists.{at as list_at}
 use Rattle.tx_events.specs.declared.refusal.Lock.{Lock}
 use Rattle.tx_events.specs.declared.refusal.Refusal.TheVariants as refusals
 use Rattle.tx_model.specs.declared.reply.Reply.{Reply}
 use Rattle.tx_model.specs.declared.reply.Reply.TheVariants as replies
 use Rattle.tx_model.specs.declared.report.DumpOf.{DumpOf}
+use Rattle.tx_model.specs.declared.report.DumpOf.TheVariants as dumps
 use Rattle.life_law.specs.Dumps.{MayDump}
-use Rattle.run_law.specs.Turns.{has_dump}
-use Rattle.session_lang.specs.Plain.{IsDump}
 use Rattle.slru_bank.specs.declared.refusal.BankRefusal.{BankRefusal}
 use Rattle.slru_bank.specs.declared.refusal.BankRefusal.TheVariants as refused
 use Rattle.tx_core.specs.declared.entry.Entry.{Entry}
 use Rattle.tx_core.specs.declared.entry.Start.{Start}
 use Rattle.tx_core.specs.Entries.{history}
+use Rattle.tx_core.specs.Locks.{log_lock, number_of}
 use Rattle.engine_parts.specs.declared.part.Part.{Part}
 use Rattle.engine_host.specs.declared.host.Host.{Host}
+use Rattle.session_promise.specs.Causes.{failed_volume}
 use Rattle.session_promise.specs.Promise.{recs_of}
-
--- the run has the dump, and its numbers are in their ranges
-abbrev pub MayShow : DumpOf → ℕ → ℕ → Type 0
-MayShow what at size = (has_dump what ≡ true) × IsDump what at size × (1 ≤ size) × (size ≤ 64)
+use Rattle.engine_dumps.specs.Shown.{AreLogBytes, HasFailed, ShowsSubtrans, ShowsXact}
 
 -- the answer where a bank refused
 abbrev pub refusal_by : Lock → BankRefusal → Reply
@@ -36,3 +35,20 @@ abbrev pub IsAnswered : {H L P : Type 0} → {l : logs.Ghosts L} → {p : disks.
 IsAnswered hall host what size reply =
     MayDump (start_of hall).banks (start_of hall).base (recs_of (view host.pass).seen) (history (view host.pass).seen)
     what size reply
+
+module _ {L P : Type 0} (l : logs.Ghosts L) (p : disks.Ghosts P) (start : Start) (lists : List (List Entry)) where
+  -- The volume that failed by the answer did fail.
+  abbrev pub IsFaultCounted : Reply → Type 0
+  IsFaultCounted reply = (lock : Lock) → failed_volume reply ≡ Some lock → HasFailed l p start lists (number_of lock)
+
+  -- these bytes are what was to be shown, from a place on, where the volumes tell what they hold
+  abbrev pub AreShown : DumpOf → ℕ → ℕ → List ℕ → Type 0
+  AreShown dumps.Log from size bytes = IsTrue l.tells → AreLogBytes start (list_at lists log_lock) from size bytes
+  AreShown (dumps.Xact page) from size bytes = IsTrue p.tells → ShowsXact start lists page from size bytes
+  AreShown (dumps.Subtrans page) from size bytes = IsTrue p.tells → ShowsSubtrans start lists page from size bytes
+  AreShown what from size bytes = Unit {0}
+
+  -- so the bytes of the answer, where it has some
+  abbrev pub ShowsBytes : DumpOf → ℕ → ℕ → Reply → Type 0
+  ShowsBytes what from size (replies.Bytes bytes) = AreShown what from size bytes
+  ShowsBytes what from size reply = Unit {0}

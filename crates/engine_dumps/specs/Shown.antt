@@ -6,10 +6,10 @@ use Rattle.disk_core.specs.declared.page_disk.PageDisk as disks
 use Rattle.disk_core.specs.Faults.{HasRisen}
 use Rattle.disk_core.specs.Volume.{IsRead, Volume}
 use Rattle.notes.specs.Lists.{at}
+use Rattle.life_law.specs.Dumps.{is_subtrans_cut, is_xact_cut}
 use Rattle.store_pages.specs.Layouts.{number_in, state_in, word_page_of, word_place_of, xact_page_of, xact_place_of}
 use Rattle.slru_bank.specs.Bank.{IsPage}
 use Rattle.wal_core.specs.Kept.{HasFlushed}
-use Rattle.tx_events.specs.PageOrder.{Ids, is_cut}
 use Rattle.tx_events.specs.declared.record.Rec.{Rec}
 use Rattle.tx_core.specs.declared.entry.Entry.{Entry}
 use Rattle.tx_core.specs.declared.entry.Start.{Start}
@@ -26,14 +26,24 @@ use Rattle.engine_host.specs.Opening.{faults_behind}
 
 -- ---- the log
 
--- So many bytes were read at a place of a volume that opens to the life's records, at least to the flushed number.
-pub record ShowsLog (start : Start) (es : List Entry) (at : ℕ) (old : List ℕ) (count : ℕ) (new : List ℕ) : Type 0 where
-  pub volume : Volume
+-- The volume opens to the life's records, at least to the flushed number.
+pub record OpensToList (start : Start) (es : List Entry) (volume : Volume) : Type 0 where
   pub number : ℕ
   pub past : List Rec
   pub first : ℕ
   pub opens : HasFlushed number (past ++ recs_in es) first (flushed_to start es) volume
+
+-- So many bytes were read at a place of such a volume.
+pub record ShowsLog (start : Start) (es : List Entry) (at : ℕ) (old : List ℕ) (count : ℕ) (new : List ℕ) : Type 0 where
+  pub volume : Volume
+  pub holds : OpensToList start es volume
   pub read : IsRead volume.bytes at old count new
+
+-- The bytes are those of such a volume from a place on, so many or as many as there are.
+pub record AreLogBytes (start : Start) (es : List Entry) (from size : ℕ) (bytes : List ℕ) : Type 0 where
+  pub volume : Volume
+  pub holds : OpensToList start es volume
+  pub piece : bytes ≡ take size (drop from volume.bytes)
 
 -- ---- pages
 
@@ -63,12 +73,12 @@ pub record ShowsSubtrans (start : Start) (lists : List (List Entry)) (page from 
 abbrev pub IsXactUncut : Start → List (List Entry) → ℕ → ℕ → Type 0
 IsXactUncut start lists bank page =
     (cutoff : ℕ) × IsCutoff (first_xact_page start) (2 ^ 17) (at lists (xact_lock bank)) cutoff
-    × (is_cut Ids 32768 cutoff page ≡ false)
+    × (is_xact_cut cutoff page ≡ false)
 
 abbrev pub IsSubtransUncut : Start → List (List Entry) → ℕ → ℕ → Type 0
 IsSubtransUncut start lists bank page =
     (cutoff : ℕ) × IsCutoff (first_subtrans_page start) (2 ^ 21) (at lists (subtrans_lock bank)) cutoff
-    × (is_cut Ids 2048 cutoff page ≡ false)
+    × (is_subtrans_cut cutoff page ≡ false)
 
 -- ---- faults
 

@@ -1,10 +1,12 @@
 //! Dumps between two rounds.
 ghost use Rattle.std.specs.Prelude.{◌≡◌, ◌+◌, ◌≤◌, IfOk};
+ghost use Rattle.hall.specs.Calls.{start_of, view};
 ghost use Rattle.tx_model.specs.declared.reply.Reply.TheVariants as replies;
 ghost use Rattle.tx_model.specs.declared.report.DumpOf.TheVariants as dumps;
 ghost use Rattle.life_law.specs.Dumps.{AreBytes};
+ghost use Rattle.run_law.specs.Turns.{MayShow};
 ghost use Rattle.engine_dumps.specs.Homes.{IsHome, StaysHome};
-ghost use Rattle.engine_dumps.specs.Dumps.{IsAnswered, MayShow, refusal_by};
+ghost use Rattle.engine_dumps.specs.Dumps.{IsAnswered, IsFaultCounted, ShowsBytes, refusal_by};
 
 use crate::log::dump_log;
 use crate::pages::{dump_subtrans, dump_xact};
@@ -64,6 +66,9 @@ fn show_log<R: Wait, L: LogDisk, P: PageDisk>(
     requires home { IsHome hall.now host.old }
     ensures stays { StaysHome hall.now host.old host.new }
     ensures reply { IfOk result (IsAnswered hall.now host.old dumps.Log size) }
+    ensures bytes { IfOk result (ShowsBytes L.LogDisk P.PageDisk (start_of hall.now) (view host.old.pass).seen
+        dumps.Log at size) }
+    ensures fault { IfOk result (IsFaultCounted L.LogDisk P.PageDisk (start_of hall.now) (view host.old.pass).seen) }
 {
     let mut bytes = Vec::from_elem(alloc, 0u8, size)?;
     match dump_log(rt, hall, host, at, bytes.as_mut_slice()) {
@@ -91,6 +96,9 @@ fn show_xact<R: Wait, L: LogDisk, P: PageDisk>(
     requires size { at + size ≤ 8192 }
     ensures stays { StaysHome hall.now host.old host.new }
     ensures reply { IfOk result (IsAnswered hall.now host.old (dumps.Xact page) size) }
+    ensures bytes { IfOk result (ShowsBytes L.LogDisk P.PageDisk (start_of hall.now) (view host.old.pass).seen
+        (dumps.Xact page) at size) }
+    ensures fault { IfOk result (IsFaultCounted L.LogDisk P.PageDisk (start_of hall.now) (view host.old.pass).seen) }
 {
     let bank = bank_of(page, host.cluster.banks);
     let mut bytes = Vec::from_elem(alloc, 0u8, size)?;
@@ -114,6 +122,9 @@ fn show_subtrans<R: Wait, L: LogDisk, P: PageDisk>(
     requires size { at + size ≤ 8192 }
     ensures stays { StaysHome hall.now host.old host.new }
     ensures reply { IfOk result (IsAnswered hall.now host.old (dumps.Subtrans page) size) }
+    ensures bytes { IfOk result (ShowsBytes L.LogDisk P.PageDisk (start_of hall.now) (view host.old.pass).seen
+        (dumps.Subtrans page) at size) }
+    ensures fault { IfOk result (IsFaultCounted L.LogDisk P.PageDisk (start_of hall.now) (view host.old.pass).seen) }
 {
     let bank = bank_of(page, host.cluster.banks);
     let mut bytes = Vec::from_elem(alloc, 0u8, size)?;
@@ -123,7 +134,8 @@ fn show_subtrans<R: Wait, L: LogDisk, P: PageDisk>(
     }
 }
 
-/// Answers a dump that the run has, while no session is in. Takes memory for the bytes.
+/// Answers a dump that the run has, while no session is in: with the bytes that stand there, where the volumes tell
+/// what they hold, or that a page is cut, or that a volume failed whose count of faults rose. Takes memory for the bytes.
 pub fn show<R: Wait, L: LogDisk, P: PageDisk>(
     rt: &R,
     alloc: Global,
@@ -135,6 +147,9 @@ pub fn show<R: Wait, L: LogDisk, P: PageDisk>(
     requires may { MayShow dump.what dump.at dump.length }
     ensures stays { StaysHome hall.now host.old host.new }
     ensures reply { IfOk result (IsAnswered hall.now host.old dump.what dump.length) }
+    ensures bytes { IfOk result (ShowsBytes L.LogDisk P.PageDisk (start_of hall.now) (view host.old.pass).seen
+        dump.what dump.at dump.length) }
+    ensures fault { IfOk result (IsFaultCounted L.LogDisk P.PageDisk (start_of hall.now) (view host.old.pass).seen) }
 {
     let size = dump.length as usize;
     match dump.what {

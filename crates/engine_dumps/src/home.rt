@@ -35,10 +35,10 @@ pub(crate) fn take_log<R: Wait, L: LogDisk, P: PageDisk>(
     rt: &R,
     hall: &Hall<EngineLaw<L, P>>,
     host: &mut Host<L, P>,
-) -> WalLog<L>
+) -> Box<WalLog<L>>
     requires home { IsHome hall.now host.old }
     ensures inside { IsInside hall.now log_lock host.old host.new }
-    ensures stands { IsLogOf (start_of hall.now) result (at (view host.new.pass).seen log_lock) }
+    ensures stands { IsLogOf (start_of hall.now) result.value (at (view host.new.pass).seen log_lock) }
 {
     let part = take_part(rt, hall, host, 0);
     let Part::Log(log) = part else { unreachable!() };
@@ -51,11 +51,11 @@ pub(crate) fn take_xact<R: Wait, L: LogDisk, P: PageDisk>(
     hall: &Hall<EngineLaw<L, P>>,
     host: &mut Host<L, P>,
     bank: u32,
-) -> SlruBank<P, XactPages>
+) -> Box<SlruBank<P, XactPages>>
     requires home { IsHome hall.now host.old }
     requires bank { (bank < (start_of hall.now).banks) × ((start_of hall.now).banks ≤ 16) }
     ensures inside { IsInside hall.now (xact_lock bank) host.old host.new }
-    ensures stands { IsXactOf (start_of hall.now) bank result (at (view host.new.pass).seen (xact_lock bank)) }
+    ensures stands { IsXactOf (start_of hall.now) bank result.value (at (view host.new.pass).seen (xact_lock bank)) }
 {
     let part = take_part(rt, hall, host, 3 + 4 * bank);
     let Part::Xact(store) = part else {
@@ -70,11 +70,11 @@ pub(crate) fn take_subtrans<R: Wait, L: LogDisk, P: PageDisk>(
     hall: &Hall<EngineLaw<L, P>>,
     host: &mut Host<L, P>,
     bank: u32,
-) -> SlruBank<P, SubtransPages>
+) -> Box<SlruBank<P, SubtransPages>>
     requires home { IsHome hall.now host.old }
     requires bank { (bank < (start_of hall.now).banks) × ((start_of hall.now).banks ≤ 16) }
     ensures inside { IsInside hall.now (subtrans_lock bank) host.old host.new }
-    ensures stands { IsSubtransOf (start_of hall.now) bank result
+    ensures stands { IsSubtransOf (start_of hall.now) bank result.value
         (at (view host.new.pass).seen (subtrans_lock bank)) }
 {
     let part = take_part(rt, hall, host, 4 + 4 * bank);

@@ -34,8 +34,9 @@ pub fn dump_log<R: Wait, L: LogDisk, P: PageDisk>(
     ensures fault { OnErr result ((result ≡ Err LogFault) × HasFailed L.LogDisk P.PageDisk (start_of hall.now)
         (view host.old.pass).seen log_lock) }
 {
-    let mut log = take_log(rt, hall, host);
+    let mut held = take_log(rt, hall, host);
+    let log = &mut *held;
     let found = log.dump(from, into);
-    hall.put_back(&mut host.pass, Part::Log(log));
+    hall.put_back(&mut host.pass, Part::Log(held));
     found
 }

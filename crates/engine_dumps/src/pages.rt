@@ -42,9 +42,10 @@ pub fn dump_xact<R: Wait, L: LogDisk, P: PageDisk>(
     ensures err { OnErr result (into.new ≡ into.old) }
 {
     let bank = bank_of(page, host.cluster.banks);
-    let mut store = take_xact(rt, hall, host, bank);
+    let mut held = take_xact(rt, hall, host, bank);
+    let store = &mut *held;
     let found = store.read(page, from, into);
-    hall.put_back(&mut host.pass, Part::Xact(store));
+    hall.put_back(&mut host.pass, Part::Xact(held));
     found
 }
 
@@ -72,8 +73,9 @@ pub fn dump_subtrans<R: Wait, L: LogDisk, P: PageDisk>(
     ensures err { OnErr result (into.new ≡ into.old) }
 {
     let bank = bank_of(page, host.cluster.banks);
-    let mut store = take_subtrans(rt, hall, host, bank);
+    let mut held = take_subtrans(rt, hall, host, bank);
+    let store = &mut *held;
     let found = store.read(page, from, into);
-    hall.put_back(&mut host.pass, Part::Subtrans(store));
+    hall.put_back(&mut host.pass, Part::Subtrans(held));
     found
 }

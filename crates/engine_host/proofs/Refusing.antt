@@ -1,5 +1,5 @@
 -- Why no engine was opened, and what its volumes are then.
-use Rattle.std.proofs.Common.{ℕ, zero, suc, ◌≡◌, ◌≢◌, ◌⊎◌, ◌+◌, ◌<◌, ◌≤◌, ◌++◌, ◌∷◌, [], ◌∙◌, ⊎_elim, Bool, IsNone, IsSome, IsTrue, List, None, Ok, Err, Option, Some, ap, append-nil, append_assoc, arith, drop, false, length, length-append, refl, remove, subst, sym, true}
+use Rattle.std.proofs.Common.{Box, Global, ℕ, zero, suc, ◌≡◌, ◌≢◌, ◌⊎◌, ◌+◌, ◌<◌, ◌≤◌, ◌++◌, ◌∷◌, [], ◌∙◌, ⊎_elim, Bool, IsNone, IsSome, IsTrue, List, None, Ok, Err, Option, Some, ap, append-nil, append_assoc, arith, drop, false, length, length-append, refl, remove, subst, sym, true}
 use Rattle.std.proofs.lemmas.List.Elements.{filter_map-append}
 use Rattle.std.specs.List.{cons_option, filter_map, slice_get, slice_index_or}
 use Rattle.disk_core.specs.Faults.{HasRisen}
@@ -207,10 +207,10 @@ module _ {L P : Type 0} {l : logs.Ghosts L} {p : disks.Ghosts P} where
 
   -- the parts that lie behind the first two locks
   pub log_there : (rest : List (Part L P l p)) (part : Part L P l p) → AreInPlace rest → slice_get rest 0 ≡ Some part
-      → ((x : WalLog L l) → part ≡ parts.Log x → ⊥) → ⊥
+      → ((x : Box (WalLog L l) Global) → part ≡ parts.Log x → ⊥) → ⊥
   log_there rest part place at other = is_there part (place 0 part at) other
     where
-      is_there : (q : Part L P l p) → ((start : Start) × (es : List Entry) × PartStands start 0 q es) → ((x : WalLog L l) → q ≡ parts.Log x → ⊥) → ⊥
+      is_there : (q : Part L P l p) → ((start : Start) × (es : List Entry) × PartStands start 0 q es) → ((x : Box (WalLog L l) Global) → q ≡ parts.Log x → ⊥) → ⊥
       is_there (parts.Log log) k none = none log refl
       is_there (parts.Proc table) k none = absurd (omega (arith, k.2.0))
       is_there (parts.Xact store) k none = absurd (omega (arith, k.2.1))
@@ -218,10 +218,10 @@ module _ {L P : Type 0} {l : logs.Ghosts L} {p : disks.Ghosts P} where
       is_there parts.Vacant k none = k.2.log refl
 
   pub table_there : (rest : List (Part L P l p)) (part : Part L P l p) → AreInPlace rest → slice_get rest 1 ≡ Some part
-      → ((x : Table) → part ≡ parts.Proc x → ⊥) → ⊥
+      → ((x : Box Table Global) → part ≡ parts.Proc x → ⊥) → ⊥
   table_there rest part place at other = is_there part (place 1 part at) other
     where
-      is_there : (q : Part L P l p) → ((start : Start) × (es : List Entry) × PartStands start 1 q es) → ((x : Table) → q ≡ parts.Proc x → ⊥) → ⊥
+      is_there : (q : Part L P l p) → ((start : Start) × (es : List Entry) × PartStands start 1 q es) → ((x : Box Table Global) → q ≡ parts.Proc x → ⊥) → ⊥
       is_there (parts.Log log) k none = absurd (omega (arith, k.2.0))
       is_there (parts.Proc table) k none = none table refl
       is_there (parts.Xact store) k none = absurd (omega (arith, k.2.1))

@@ -1,5 +1,5 @@
 -- What new parts stand for.
-use Rattle.std.proofs.Common.{ℕ, zero, suc, ◌/◌, option_map, length-append, Result, Ok, Err, is_ok, IsOk, if◌then◌else◌, insert, ◌+◌, ◌*◌, ◌%◌, ◌^◌, ◌<◌, ◌≤◌, ◌≡◌, ◌⊎◌, ⊎_elim, Bool, false, true, IsTrue, List, [], ◌∷◌, ◌++◌, Option, None, Some, length, map, max, get_or, inl, refl, sym, ap, subst, ◌∙◌, arith}
+use Rattle.std.proofs.Common.{Box, Global, ℕ, zero, suc, ◌/◌, option_map, length-append, Result, Ok, Err, is_ok, IsOk, if◌then◌else◌, insert, ◌+◌, ◌*◌, ◌%◌, ◌^◌, ◌<◌, ◌≤◌, ◌≡◌, ◌⊎◌, ⊎_elim, Bool, false, true, IsTrue, List, [], ◌∷◌, ◌++◌, Option, None, Some, length, map, max, get_or, inl, refl, sym, ap, subst, ◌∙◌, arith}
 use Rattle.std.proofs.lemmas.Option.{slice_get-map, get_or_from_slice_get}
 use Rattle.std.specs.List.{slice_get}
 use Rattle.disk_core.specs.declared.log_disk.LogDisk as logs
@@ -7,6 +7,9 @@ use Rattle.disk_core.specs.declared.page_disk.PageDisk as disks
 use Rattle.disk_core.specs.Pages.{zero_page}
 use Rattle.disk_core.specs.Volume.{Volume}
 use Rattle.slru_bank.proofs.ZeroBytes.{zero_byte}
+use Rattle.slru_bank.specs.Calls.{IsDurable, cutoff_of, last_page, pages_of}
+use Rattle.slru_bank.specs.declared.bank.SlruBank.{SlruBank}
+use Rattle.store_pages.specs.declared.page_rule.PageRule as rules
 use Rattle.store_pages.specs.Layouts.{bits_at, number_in, state_in, word_page_of, word_place_of, xact_page_of, xact_place_of}
 use Rattle.tx_events.proofs.Membership.{contains_has}
 use Rattle.tx_events.specs.After.{after_record}
@@ -14,14 +17,17 @@ use Rattle.tx_events.specs.Base.{IsBase}
 use Rattle.tx_events.specs.declared.record.Counters.{Counters}
 use Rattle.tx_events.specs.declared.record.Rec.{Rec}
 use Rattle.tx_events.specs.declared.record.Rec.TheVariants as records
+use Rattle.proc_table.specs.Table.{Table, page_of}
 use Rattle.wal_core.specs.Kept.{KeepsRecords}
 use Rattle.wal_core.specs.Opening.{no_counters}
 use Rattle.tx_events.specs.Ids.{id_before, low_half}
 use Rattle.tx_core.specs.CleanStart.{CleanStart}
+use Rattle.tx_core.specs.declared.entry.Entry.{Entry}
 use Rattle.tx_core.specs.declared.entry.State.TheVariants as states
 use Rattle.tx_core.specs.Locks.{log_lock, subtrans_lock, subtrans_page, xact_lock, xact_page}
 use Rattle.engine_parts.specs.declared.part.Part.{Part}
 use Rattle.engine_parts.specs.declared.part.Part.TheVariants as parts
+use Rattle.engine_parts.specs.Course.{HasCourse, IsOpened}
 use Rattle.engine_parts.specs.Parts.{PartStands}
 use Rattle.engine_parts.specs.Stand.{LogStands, SubtransStands, XactStands}
 use Rattle.engine_host.specs.declared.cluster.Cluster.{Cluster}
@@ -78,11 +84,11 @@ clean c counts base = record {
     unshown : (None ≡ Some states.Committed) ⊎ (None ≡ Some states.SubCommitted) → ⊥
     unshown shown = ⊎_elim (λ (e : None ≡ Some states.Committed). absurd cc) (λ (e : None ≡ Some states.SubCommitted). absurd cc) shown
 
-pub xact_begins : (c : Cluster) (bank faults last cutoff : ℕ) (tells : Bool) (bytes : ℕ → List ℕ) (counts : List ℕ) → IsBase c.base → bank < c.banks
+pub xact_begins : (c : Cluster) (bank faults last cutoff : ℕ) (tells : Bool) (bytes : ℕ → List ℕ) (led : List Entry → Type 0) (counts : List ℕ) → IsBase c.base → bank < c.banks
     → get_or counts (xact_lock bank) 0 ≤ faults → last ≡ xact_page (low_half c.base.next) → cutoff ≡ xact_page (low_half c.base.oldest)
-    → (IsTrue tells → (q : ℕ) → q < 2 ^ 32 → bytes q ≡ zero_page)
-    → XactStands (life_of c counts) bank tells faults last cutoff bytes []
-xact_begins c bank faults last cutoff tells bytes counts base inside count last_is cutoff_is zeros = record {
+    → (IsTrue tells → (q : ℕ) → q < 2 ^ 32 → bytes q ≡ zero_page) → (IsTrue tells → led [])
+    → XactStands (life_of c counts) bank tells faults last cutoff bytes led []
+xact_begins c bank faults last cutoff tells bytes led counts base inside count last_is cutoff_is zeros begun = record {
   inside = inside;
   count = count;
   last_is = λ near. last_is ∙ low_page c.base.next;
@@ -94,7 +100,30 @@ xact_begins c bank faults last cutoff tells bytes counts base inside count last_
       each = λ x used here kept. ap (λ page. state_in page (xact_place_of x)) (zeros told (xact_page_of x) (small x)) ∙ zero_state (xact_place_of x);
     },
   );
+  course = begun;
 }
+  where
+    low_page : (n : ℕ) → xact_page (low_half n) ≡ xact_page n % 2 ^ 17
+    low_page n = omega arith
+
+    small : (n : ℕ) → xact_page_of n < 2 ^ 32
+    small n = omega arith
+
+-- its course begins with pages of zeros, which a crash leaves too
+pub course_begins : {P O : Type 0} {g : disks.Ghosts P} {r : rules.Ghosts O} (c : Cluster) (bank : ℕ) (store : SlruBank P O g r) (counts : List ℕ) → IsBase c.base
+    → last_page store ≡ xact_page (low_half c.base.next) → cutoff_of store ≡ xact_page (low_half c.base.oldest)
+    → ((q : ℕ) → q < 2 ^ 32 → pages_of store q ≡ zero_page) → IsDurable store
+    → HasCourse (life_of c counts) bank store []
+course_begins {P} {O} {g} {r} c bank store counts base last cutoff zeros durable =
+    let opened : IsOpened (life_of c counts) bank store = record {
+      before = λ x. None;
+      clean = clean c counts base;
+      shown = λ x near on. ap (λ page. state_in page (xact_place_of x)) (zeros (xact_page_of x) (small x)) ∙ zero_state (xact_place_of x);
+      durable = durable;
+      last = last ∙ low_page c.base.next;
+      cutoff = cutoff ∙ low_page c.base.oldest;
+    } in
+    (0, (refl, opened))
   where
     low_page : (n : ℕ) → xact_page (low_half n) ≡ xact_page n % 2 ^ 17
     low_page n = omega arith
@@ -130,7 +159,31 @@ vacant_new L P l p c bank k few counts reached = record {
   proc = λ e. absurd (omega (arith, e));
   xact = λ b e. absurd (omega (arith, e, few));
   subtrans = λ b e. absurd (omega (arith, e, few));
+  multi = λ e. refl;
 }
+
+second_new : (L P : Type 0) (l : logs.Ghosts L) (p : disks.Ghosts P) (c : Cluster) → IsNewPart {L = L} {P = P} {l = l} {p = p} c 2 parts.Vacant
+second_new L P l p c counts reached = record {
+  log = λ e. absurd (omega (arith, e));
+  proc = λ e. absurd (omega (arith, e));
+  xact = λ b e. absurd (omega (arith, e));
+  subtrans = λ b e. absurd (omega (arith, e));
+  multi = λ e. refl;
+}
+
+-- the table of a new life
+table_new : (L P : Type 0) (l : logs.Ghosts L) (p : disks.Ghosts P) (c : Cluster) (table : Box Table Global)
+    → table.value ≡ record { base = c.base; sessions = c.sessions; initialised_up_to = page_of c.base.next; events = [] }
+    → IsNewPart {L = L} {P = P} {l = l} {p = p} c 1 (parts.Proc table)
+table_new L P l p c table is counts reached = (
+  refl,
+  record {
+    base = ap (λ (t : Table). t.base) is;
+    sessions = ap (λ (t : Table). t.sessions) is;
+    events = ap (λ (t : Table). t.events) is;
+    frontier = ap (λ (t : Table). t.initialised_up_to) is;
+  },
+)
 
 module _ {L P : Type 0} {l : logs.Ghosts L} {p : disks.Ghosts P} where
   some_same : (x y : Part L P l p) → Some x ≡ Some y → x ≡ y
@@ -145,6 +198,16 @@ module _ {L P : Type 0} {l : logs.Ghosts L} {p : disks.Ghosts P} where
       let next : (m : ℕ) → first + suc m ≡ first + 1 + m = λ m. omega arith in
       subst (λ k. IsNewPart c k part) (sym (next n))
       (push_new c (first + 1) lock xs y (λ m q e. subst (λ k. IsNewPart c k q) (next m) (are (suc m) q e)) (omega (arith, is)) new n part at)
+
+  -- the parts that have no bank: the table, and behind it one that isn't built
+  pub first_two : (c : Cluster) (xs ys zs : List (Part L P l p)) (table : Box Table Global) → xs ≡ [] → ys ≡ xs ++ parts.Proc table ∷ [] → zs ≡ ys ++ parts.Vacant ∷ []
+      → table.value ≡ record { base = c.base; sessions = c.sessions; initialised_up_to = page_of c.base.next; events = [] } → AreNew c 1 zs
+  first_two c xs ys zs table none one two is =
+      let part : Part L P l p = parts.Proc table in
+      let alone : List (Part L P l p) = part ∷ [] in
+      let all : zs ≡ alone ++ parts.Vacant ∷ [] = two ∙ ap (λ (ps : List (Part L P l p)). ps ++ parts.Vacant ∷ []) (one ∙ ap (λ (ps : List (Part L P l p)). ps ++ part ∷ []) none) in
+      subst (λ (ps : List (Part L P l p)). AreNew c 1 ps) (sym all)
+      (push_new c 1 2 alone parts.Vacant (push_new c 1 1 [] part (λ n q at. absurd cc) (omega arith) (table_new L P l p c table is)) (omega arith) (second_new L P l p c))
 
   -- with those of a bank more
   pub bank_new : (c : Cluster) (bank : ℕ) (xs : List (Part L P l p)) (a b : Part L P l p) → AreNew c 1 xs → length xs ≡ 2 + 4 * bank → IsNewPart c (xact_lock bank) a → IsNewPart c (subtrans_lock bank) b

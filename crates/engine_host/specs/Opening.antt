@@ -76,9 +76,9 @@ module _ {P O : Type 0} {g : disks.Ghosts P} {r : rules.Ghosts O} where
 module _ {L P : Type 0} {l : logs.Ghosts L} {p : disks.Ghosts P} where
   -- how often the volume of a part has failed
   abbrev pub faults_behind : Part L P l p → ℕ
-  faults_behind (parts.Log log) = l.faults (log_disk log)
-  faults_behind (parts.Xact store) = faults_of store
-  faults_behind (parts.Subtrans store) = faults_of store
+  faults_behind (parts.Log log) = l.faults (log_disk log.value)
+  faults_behind (parts.Xact store) = faults_of store.value
+  faults_behind (parts.Subtrans store) = faults_of store.value
   faults_behind part = 0
 
   -- the part stands for a list without entries, whatever counts the life begins with that its volume has reached

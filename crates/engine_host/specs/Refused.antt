@@ -79,11 +79,11 @@ module _ {P : Type 0} (p : disks.Ghosts P) where
 module _ {L P : Type 0} {l : logs.Ghosts L} {p : disks.Ghosts P} where
   -- the volumes of the banks of pg_xact among these parts, in their order, and those of pg_subtrans
   abbrev pub xact_disk : Part L P l p → Option P
-  xact_disk (parts.Xact store) = Some (volume_of store)
+  xact_disk (parts.Xact store) = Some (volume_of store.value)
   xact_disk part = None
 
   abbrev pub subtrans_disk : Part L P l p → Option P
-  subtrans_disk (parts.Subtrans store) = Some (volume_of store)
+  subtrans_disk (parts.Subtrans store) = Some (volume_of store.value)
   subtrans_disk part = None
 
   abbrev pub xact_disks : List (Part L P l p) → List P

@@ -1,7 +1,8 @@
 //! The banks of a new cluster (`BootStrapCLOG` of `clog.c`, `BootStrapSUBTRANS` of `subtrans.c`).
-ghost use Rattle.std.specs.Prelude.{◌≡◌, ◌⊎◌, ◌<◌, ◌≤◌, IfErr, IfOk};
+ghost use Rattle.std.specs.Prelude.{◌≡◌, ◌⊎◌, ◌^◌, ◌<◌, ◌≤◌, ℕ, IfErr, IfOk, IsTrue, OnErr, OnOk};
 ghost use Rattle.disk_core.specs.Faults.{HasRisen};
-ghost use Rattle.slru_bank.specs.Calls.{faults_of};
+ghost use Rattle.disk_core.specs.Pages.{zero_page};
+ghost use Rattle.slru_bank.specs.Calls.{IsDurable, cutoff_of, faults_of, last_page, pages_of};
 ghost use Rattle.tx_events.specs.Base.{IsBase};
 ghost use Rattle.tx_events.specs.declared.refusal.Lock.TheVariants as locks;
 ghost use Rattle.engine_host.specs.declared.refusal.OpenRefusal.TheVariants as refusals;
@@ -10,10 +11,24 @@ ghost use Rattle.engine_host.specs.Opening.{IsNewSubtrans, IsNewXact};
 use crate::cluster::Cluster;
 use crate::refusal::OpenRefusal;
 use disk_core::PageDisk;
-use slru_bank::SlruBank;
+use slru_bank::{BankRefusal, SlruBank};
 use std::alloc::Global;
 use store_pages::{SubtransPages, XactPages, subtrans_page, xact_page};
 use tx_events::Lock;
+
+// Removes all pages, and syncs, so that no crash brings one back.
+fn empty<P: PageDisk>(store: &mut SlruBank<P, XactPages>) -> Result<(), BankRefusal>
+    ensures zeros { IsTrue P.tells → OnOk result ((q : ℕ) → q < 2 ^ 32 → pages_of store.new q ≡ zero_page) }
+    ensures durable { IsTrue P.tells → OnOk result (IsDurable store.new) }
+    ensures last { last_page store.new ≡ last_page store.old }
+    ensures cutoff { cutoff_of store.new ≡ cutoff_of store.old }
+    ensures count { faults_of store.old ≤ faults_of store.new }
+    ensures fault { OnErr result (HasRisen (faults_of store.old) (faults_of store.new)) }
+{
+    store.clear_all()?;
+    store.flush_all()?;
+    Ok(())
+}
 
 // A bank of pg_xact. The pages that its volume has are removed; that of the next id counts as made.
 pub(crate) fn new_xact<P: PageDisk + Drop>(
@@ -21,11 +36,11 @@ pub(crate) fn new_xact<P: PageDisk + Drop>(
     disk: P,
     cluster: &Cluster,
     bank: u32,
-) -> Result<SlruBank<P, XactPages>, (P, OpenRefusal)>
+) -> Result<Box<SlruBank<P, XactPages>>, (P, OpenRefusal)>
     requires base { IsBase cluster.now.base }
     requires inside { bank < cluster.now.banks }
-    ensures new { IfOk result (λ store. IsNewXact cluster.now bank store) }
-    ensures count { IfOk result (λ store. P.faults disk ≤ faults_of store) }
+    ensures new { IfOk result (λ store. IsNewXact cluster.now bank store.value) }
+    ensures count { IfOk result (λ store. P.faults disk ≤ faults_of store.value) }
     ensures refused { IfErr result (λ e. (e.1 ≡ refusals.Memory)
         ⊎ ((e.1 ≡ refusals.DiskFault (locks.Xact bank)) × HasRisen (P.faults disk) (P.faults e.0))) }
 {
@@ -35,8 +50,11 @@ pub(crate) fn new_xact<P: PageDisk + Drop>(
         Ok(store) => store,
         Err((disk, _)) => return Err((disk, OpenRefusal::Memory)),
     };
-    match store.clear_all() {
-        Ok(()) => Ok(store),
+    match empty(&mut store) {
+        Ok(()) => match Box::new(alloc, store) {
+            Ok(store) => Ok(store),
+            Err(lacking) => Err((lacking.value.into_disk(), OpenRefusal::Memory)),
+        },
         Err(_) => Err((
             store.into_disk(),
             OpenRefusal::DiskFault {
@@ -52,11 +70,11 @@ pub(crate) fn new_subtrans<P: PageDisk + Drop>(
     disk: P,
     cluster: &Cluster,
     bank: u32,
-) -> Result<SlruBank<P, SubtransPages>, (P, OpenRefusal)>
+) -> Result<Box<SlruBank<P, SubtransPages>>, (P, OpenRefusal)>
     requires base { IsBase cluster.now.base }
     requires inside { bank < cluster.now.banks }
-    ensures new { IfOk result (λ store. IsNewSubtrans cluster.now bank store) }
-    ensures count { IfOk result (λ store. P.faults disk ≤ faults_of store) }
+    ensures new { IfOk result (λ store. IsNewSubtrans cluster.now bank store.value) }
+    ensures count { IfOk result (λ store. P.faults disk ≤ faults_of store.value) }
     ensures refused { IfErr result (λ e. (e.1 ≡ refusals.Memory)
         ⊎ ((e.1 ≡ refusals.DiskFault (locks.Subtrans bank)) × HasRisen (P.faults disk) (P.faults e.0))) }
 {
@@ -67,7 +85,10 @@ pub(crate) fn new_subtrans<P: PageDisk + Drop>(
         Err((disk, _)) => return Err((disk, OpenRefusal::Memory)),
     };
     match store.clear_all() {
-        Ok(()) => Ok(store),
+        Ok(()) => match Box::new(alloc, store) {
+            Ok(store) => Ok(store),
+            Err(lacking) => Err((lacking.value.into_disk(), OpenRefusal::Memory)),
+        },
         Err(_) => Err((
             store.into_disk(),
             OpenRefusal::DiskFault {

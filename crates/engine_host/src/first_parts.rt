@@ -34,6 +34,9 @@ fn first_locks<L: LogDisk, P: PageDisk>(
     let Ok(table) = ProcTable::new(alloc, cluster.base, cluster.sessions) else {
         return Err(OpenRefusal::Memory);
     };
+    let Ok(table) = Box::new(alloc, table) else {
+        return Err(OpenRefusal::Memory);
+    };
     let Ok(mut locks) = Vec::with_capacity(alloc, 3 + 4 * cluster.banks as usize) else {
         return Err(OpenRefusal::Memory);
     };
@@ -83,7 +86,7 @@ fn add_bank<L: LogDisk, P: PageDisk + Drop>(
         Ok(store) => store,
         Err((disk, refusal)) => {
             put_back(subtrans, disk);
-            put_back(xact, states.into_disk());
+            put_back(xact, Box::into_inner(states).into_disk());
             return Err(refusal);
         }
     };
@@ -127,20 +130,20 @@ fn add_banks<L: LogDisk, P: PageDisk + Drop>(
 
 // The volumes of an engine that wasn't opened.
 fn taken_apart<L: LogDisk + Drop, P: PageDisk + Drop>(
-    log: WalLog<L>,
+    log: Box<WalLog<L>>,
     locks: Vec<Part<L, P>>,
     xact: Vec<P>,
     subtrans: Vec<P>,
 ) -> NewVolumes<L, P>
     requires xact_room { length (xact_disks locks.items) + length xact.items ≤ vec_capacity xact }
     requires subtrans_room { length (subtrans_disks locks.items) + length subtrans.items ≤ vec_capacity subtrans }
-    ensures log { result.log ≡ log_disk log }
+    ensures log { result.log ≡ log_disk log.value }
     ensures xact { result.xact.items ≡ xact_disks locks.items ++ xact.items }
     ensures subtrans { result.subtrans.items ≡ subtrans_disks locks.items ++ subtrans.items }
 {
     let (xact, subtrans) = bank_volumes(locks, xact, subtrans);
     NewVolumes {
-        log: log.into_disk(),
+        log: Box::into_inner(log).into_disk(),
         xact,
         subtrans,
     }
@@ -162,18 +165,18 @@ fn life_note<L: LogDisk, P: PageDisk>(built: &Built<L, P>) -> Note<Start>
 // The parts of an engine whose log is begun.
 fn gather<L: LogDisk, P: PageDisk>(
     cluster: Cluster,
-    log: WalLog<L>,
+    log: Box<WalLog<L>>,
     locks: Vec<Part<L, P>>,
 ) -> Parts<L, P>
     requires cluster { IsCluster cluster }
-    requires log { IsBegunLog cluster log }
+    requires log { IsBegunLog cluster log.value }
     requires count { length locks.items ≡ 2 + 4 * cluster.banks }
     requires room { 3 + 4 * cluster.banks ≤ vec_capacity locks }
     requires stand { AreNew cluster 1 locks.items }
     ensures cluster { result.cluster ≡ cluster }
     ensures parts { AreParts result }
     ensures start { result.start.value ≡ new_life cluster result.locks.items }
-    ensures faults { map faults_behind result.locks.items ≡ L.faults (log_disk log) ∷ map faults_behind locks.items }
+    ensures faults { map faults_behind result.locks.items ≡ L.faults (log_disk log.value) ∷ map faults_behind locks.items }
 {
     let mut locks = locks;
     let inserted = locks.insert(0, Part::Log(log));
@@ -215,7 +218,7 @@ pub fn open_new<L: LogDisk + Drop, P: PageDisk + Drop>(
         mut xact,
         mut subtrans,
     } = volumes;
-    let mut log = match start_log(alloc, log) {
+    let log = match start_log(alloc, log) {
         Ok(log) => log,
         Err((log, refusal)) => {
             return Err((
@@ -228,12 +231,25 @@ pub fn open_new<L: LogDisk + Drop, P: PageDisk + Drop>(
             ));
         }
     };
+    let mut log = match Box::new(alloc, log) {
+        Ok(log) => log,
+        Err(lacking) => {
+            return Err((
+                NewVolumes {
+                    log: lacking.value.into_disk(),
+                    xact,
+                    subtrans,
+                },
+                OpenRefusal::Memory,
+            ));
+        }
+    };
     let mut locks = match first_locks(alloc, &cluster) {
         Ok(locks) => locks,
         Err(refusal) => {
             return Err((
                 NewVolumes {
-                    log: log.into_disk(),
+                    log: Box::into_inner(log).into_disk(),
                     xact,
                     subtrans,
                 },
@@ -244,7 +260,8 @@ pub fn open_new<L: LogDisk + Drop, P: PageDisk + Drop>(
     if let Err(refusal) = add_banks(alloc, &mut locks, &mut xact, &mut subtrans, &cluster) {
         return Err((taken_apart(log, locks, xact, subtrans), refusal));
     }
-    if let Err(refusal) = begin_log(&mut log, &cluster) {
+    let fresh = &mut *log;
+    if let Err(refusal) = begin_log(fresh, &cluster) {
         return Err((taken_apart(log, locks, xact, subtrans), refusal));
     }
     Ok(gather(cluster, log, locks))

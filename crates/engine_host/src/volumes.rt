@@ -10,8 +10,8 @@ use wal_core::WalLog;
 
 /// The parts of an engine, taken apart: its log, its ProcArray, and the volumes of its banks, in their order.
 pub struct TakenApart<L: LogDisk, P: PageDisk> {
-    pub log: WalLog<L>,
-    pub table: ProcTable,
+    pub log: Box<WalLog<L>>,
+    pub table: Box<ProcTable>,
     pub xact: Vec<P>,
     pub subtrans: Vec<P>,
 }
@@ -43,8 +43,8 @@ pub(crate) fn bank_volumes<L: LogDisk + Drop, P: PageDisk + Drop>(
     let mut locks = locks;
     while let Some(part) = locks.pop() {
         match part {
-            Part::Xact(store) => put_back(&mut xact, store.into_disk()),
-            Part::Subtrans(store) => put_back(&mut subtrans, store.into_disk()),
+            Part::Xact(store) => put_back(&mut xact, Box::into_inner(store).into_disk()),
+            Part::Subtrans(store) => { put_back(&mut subtrans, Box::into_inner(store).into_disk()) }
             Part::Log(_log) => {}
             Part::Proc(_table) => {}
             Part::Vacant => {}

@@ -1,6 +1,6 @@
 -- The volumes of an engine that is taken apart stand in the order of their banks, and each has counted what its list
 -- tells.
-use Rattle.std.proofs.Common.{ℕ, zero, suc, ◌≡◌, ◌≢◌, ◌+◌, ◌*◌, ◌<◌, ◌≤◌, ◌++◌, ◌∷◌, [], ◌∙◌, List, None, Option, Some, ap, arith, length, refl, subst, sym}
+use Rattle.std.proofs.Common.{ℕ, zero, suc, ◌≡◌, ◌≢◌, ◌+◌, ◌*◌, ◌<◌, ◌≤◌, ◌∷◌, [], ◌∙◌, List, None, Option, Some, ap, arith, length, refl, subst, sym}
 use Rattle.std.proofs.lemmas.Option.{same_Some, slice_get_within}
 use Rattle.std.specs.List.{cons_option, filter_map, slice_get}
 use Rattle.disk_core.specs.declared.log_disk.LogDisk as logs
@@ -10,7 +10,8 @@ use Rattle.slru_bank.specs.Calls.{volume_of}
 use Rattle.tx_core.specs.declared.entry.Entry.{Entry}
 use Rattle.tx_core.specs.declared.entry.Start.{Start}
 use Rattle.tx_core.specs.FaultsRise.{faults_told}
-use Rattle.tx_core.specs.Locks.{subtrans_lock, xact_lock}
+use Rattle.tx_core.specs.Locks.{multi_lock, subtrans_lock, xact_lock}
+use Rattle.tx_core.specs.MultiEntries.{multi_history, multis_in}
 use Rattle.engine_parts.specs.Parts.{PartStands}
 use Rattle.engine_parts.specs.declared.part.Part.{Part}
 use Rattle.engine_parts.specs.declared.part.Part.TheVariants as parts
@@ -66,7 +67,7 @@ module _ {L P : Type 0} {l : logs.Ghosts L} {p : disks.Ghosts P} where
   xact_here start bank es (parts.Log log) k = absurd (let e = k.0 in omega (arith, e))
   xact_here start bank es (parts.Proc table) k = absurd (let e = k.0 in omega (arith, e))
   xact_here start bank es (parts.Xact store) k =
-      (volume_of store, refl, subst (λ n. faults_told start n es ≤ p.faults (volume_of store)) (sym k.1) k.2.count)
+      (volume_of store.value, refl, subst (λ n. faults_told start n es ≤ p.faults (volume_of store.value)) (sym k.1) k.2.count)
   xact_here start bank es (parts.Subtrans store) k = absurd (let e = k.1 in omega (arith, e))
   xact_here start bank es parts.Vacant k = absurd (k.xact bank refl)
 
@@ -75,7 +76,7 @@ module _ {L P : Type 0} {l : logs.Ghosts L} {p : disks.Ghosts P} where
   subtrans_here start bank es (parts.Proc table) k = absurd (let e = k.0 in omega (arith, e))
   subtrans_here start bank es (parts.Xact store) k = absurd (let e = k.1 in omega (arith, e))
   subtrans_here start bank es (parts.Subtrans store) k =
-      (volume_of store, refl, subst (λ n. faults_told start n es ≤ p.faults (volume_of store)) (sym k.1) k.2.count)
+      (volume_of store.value, refl, subst (λ n. faults_told start n es ≤ p.faults (volume_of store.value)) (sym k.1) k.2.count)
   subtrans_here start bank es parts.Vacant k = absurd (k.subtrans bank refl)
 
   no_xact : (start : Start) (lock : ℕ) (es : List Entry) (part : Part L P l p) → ((bank : ℕ) → lock ≢ xact_lock bank) → PartStands start lock part es → xact_disk part ≡ None
@@ -85,6 +86,14 @@ module _ {L P : Type 0} {l : logs.Ghosts L} {p : disks.Ghosts P} where
   no_subtrans : (start : Start) (lock : ℕ) (es : List Entry) (part : Part L P l p) → ((bank : ℕ) → lock ≢ subtrans_lock bank) → PartStands start lock part es → subtrans_disk part ≡ None
   no_subtrans start lock es (parts.Subtrans store) other k = absurd (other k.0 k.1)
   no_subtrans start lock es part other k = refl
+
+  -- nothing lies behind the multixacts' lock, so its list has no entries
+  no_multis : (start : Start) (es : List Entry) (part : Part L P l p) → PartStands start multi_lock part es → es ≡ []
+  no_multis start es (parts.Log log) k = absurd (let e = k.0 in omega (arith, e))
+  no_multis start es (parts.Proc table) k = absurd (let e = k.0 in omega (arith, e))
+  no_multis start es (parts.Xact store) k = absurd (let e = k.1 in omega (arith, e))
+  no_multis start es (parts.Subtrans store) k = absurd (let e = k.1 in omega (arith, e))
+  no_multis start es parts.Vacant k = k.multi refl
 
   module _ (start : Start) (lists : List (List Entry)) (locks : List (Part L P l p)) (stand : (lock : ℕ) (part : Part L P l p) → slice_get locks lock ≡ Some part → PartStands start lock part (at lists lock)) where
     xact_at : (bank : ℕ) (part : Part L P l p) (v : P) → slice_get locks (xact_lock bank) ≡ Some part → xact_disk part ≡ Some v → slice_get (xact_disks locks) bank ≡ Some v
@@ -113,14 +122,20 @@ module _ {L P : Type 0} {l : logs.Ghosts L} {p : disks.Ghosts P} where
             (subst (λ n. slice_get (first ∷ rest) n ≡ Some part) (sym (last bank) ∙ on 3 bank) (subst (λ (qs : List (Part L P l p)). slice_get qs (subtrans_lock bank) ≡ Some part) same found))
             is)
 
+    -- each volume of pg_xact is as the part behind its lock has it
+    pub xact_behind : (F : ℕ → P → Type 0) → ((bank : ℕ) (part : Part L P l p) → PartStands start (xact_lock bank) part (at lists (xact_lock bank)) → (v : P) × (xact_disk part ≡ Some v) × F bank v)
+        → (banks : ℕ) (volumes : List P) → start.banks ≡ banks → length locks ≡ 3 + 4 * banks → volumes ≡ xact_disks locks → (bank : ℕ) → bank < start.banks → (v : P) × (slice_get volumes bank ≡ Some v) × F bank v
+    xact_behind F each banks volumes same count is bank low =
+        let place : xact_lock bank < length locks = omega (arith, low, same, count) in
+        let q = there locks (xact_lock bank) place in
+        let h = each bank q.0 (stand (xact_lock bank) q.0 q.1) in
+        (h.0, ap (λ (vs : List P). slice_get vs bank) is ∙ xact_at bank q.0 h.0 q.1 h.1, h.2)
+
     -- each volume has counted what its list tells
     pub xact_told : (banks : ℕ) (volumes : List P) → start.banks ≡ banks → length locks ≡ 3 + 4 * banks → volumes ≡ xact_disks locks → (bank : ℕ) → bank < start.banks
         → (v : P) × (slice_get volumes bank ≡ Some v) × (faults_told start (xact_lock bank) (at lists (xact_lock bank)) ≤ p.faults v)
-    xact_told banks volumes same count is bank low =
-        let place : xact_lock bank < length locks = omega (arith, low, same, count) in
-        let q = there locks (xact_lock bank) place in
-        let h = xact_here start bank (at lists (xact_lock bank)) q.0 (stand (xact_lock bank) q.0 q.1) in
-        (h.0, ap (λ (vs : List P). slice_get vs bank) is ∙ xact_at bank q.0 h.0 q.1 h.1, h.2)
+    xact_told = xact_behind (λ bank v. faults_told start (xact_lock bank) (at lists (xact_lock bank)) ≤ p.faults v)
+        (λ bank part. xact_here start bank (at lists (xact_lock bank)) part)
 
     pub subtrans_told : (banks : ℕ) (volumes : List P) → start.banks ≡ banks → length locks ≡ 3 + 4 * banks → volumes ≡ subtrans_disks locks → (bank : ℕ) → bank < start.banks
         → (v : P) × (slice_get volumes bank ≡ Some v) × (faults_told start (subtrans_lock bank) (at lists (subtrans_lock bank)) ≤ p.faults v)
@@ -129,3 +144,8 @@ module _ {L P : Type 0} {l : logs.Ghosts L} {p : disks.Ghosts P} where
         let q = there locks (subtrans_lock bank) place in
         let h = subtrans_here start bank (at lists (subtrans_lock bank)) q.0 (stand (subtrans_lock bank) q.0 q.1) in
         (h.0, ap (λ (vs : List P). slice_get vs bank) is ∙ subtrans_at bank q.0 h.0 q.1 h.1, h.2)
+
+    pub multis_untold : (banks : ℕ) → length locks ≡ 3 + 4 * banks → multi_history lists ≡ []
+    multis_untold banks count =
+        let q = there locks multi_lock (omega (arith, count)) in
+        ap multis_in (no_multis start (at lists multi_lock) q.0 (stand multi_lock q.0 q.1))

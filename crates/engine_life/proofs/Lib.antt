@@ -1,2 +1,3 @@
 mod Living
 pub mod Counts
+mod Followed

@@ -31,6 +31,6 @@ module _ {L P : Type 0} (l : logs.Ghosts L) (p : disks.Ghosts P) where
       → first c.banks old → Only new gives → LeaveMultis old new → IsNoLife l p c old new r → IsUnopened l p c first before now gives r
   unopened c first before now gives old new (no_lives.Damaged at) given only leave k = (old, new, given, only, leave, k)
   unopened c first before now gives old new no_lives.OldLog given only leave k = (old, new, given, only, leave, k)
-  unopened c first before now gives old new no_lives.Device given only leave k = inr (c.banks, old, new, given, only, leave, k)
+  unopened c first before now gives old new no_lives.Device given only leave k = inr (old, new, given, only, leave, k)
   unopened c first before now gives old new no_lives.Full given only leave k = (old, new, given, only, leave, k)
   unopened c first before now gives old new no_lives.Memory given only leave k = tt

@@ -4,6 +4,7 @@ use Rattle.disk_core.specs.declared.log_disk.LogDisk as logs
 use Rattle.disk_core.specs.declared.page_disk.PageDisk as disks
 use Rattle.disk_core.specs.declared.media.Volumes.{Volumes}
 use Rattle.disk_core.specs.Media.{HasBanks}
+use Rattle.disk_core.specs.Pages.{Pages}
 use Rattle.hall.specs.Calls.{start_of}
 use Rattle.notes.specs.Lists.{at}
 use Rattle.tx_events.specs.declared.event.Event.{Event}
@@ -13,6 +14,7 @@ use Rattle.tx_core.specs.declared.entry.Entry.{Entry}
 use Rattle.tx_core.specs.declared.entry.Start.{Start}
 use Rattle.tx_core.specs.FaultsRise.{faults_told}
 use Rattle.tx_core.specs.Locks.{log_lock, subtrans_lock, xact_lock}
+use Rattle.recoverable.specs.Whole.{StatesLeft}
 use Rattle.wal_core.specs.declared.wal_log.WalLog.{WalLog}
 use Rattle.wal_core.specs.LogViews.{log_disk, log_end, log_flushed, log_recs}
 use Rattle.engine_parts.specs.declared.session.Session.{Session}
@@ -66,6 +68,16 @@ module _ {L P : Type 0} (l : logs.Ghosts L) (p : disks.Ghosts P) where
         × (faults_told start (xact_lock bank) (at lists (xact_lock bank)) ≤ p.faults v)
     pub subtrans : (bank : ℕ) → bank < start.banks → (v : P) × (slice_get volumes.subtrans.items bank ≡ Some v)
         × (faults_told start (subtrans_lock bank) (at lists (subtrans_lock bank)) ≤ p.faults v)
+
+module _ {P : Type 0} (p : disks.Ghosts P) where
+  -- what a crash would leave of a volume of pg_xact follows its bank's list
+  abbrev pub FollowsList : Start → List (List Entry) → ℕ → P → Type 0
+  FollowsList start lists bank v = (c : Pages) → p.images v c → StatesLeft start bank (at lists (xact_lock bank)) c
+
+  -- so that of each bank
+  abbrev pub HaveFollowed : Start → List (List Entry) → List P → Type 0
+  HaveFollowed start lists states = (bank : ℕ) → bank < start.banks
+      → (v : P) × (slice_get states bank ≡ Some v) × FollowsList start lists bank v
 
 -- the life over a new log that had this history and left this log
 abbrev pub life_told : {D : Type 0} → {g : logs.Ghosts D} → Counters → List Event → WalLog D g → Life

@@ -23,6 +23,13 @@ refusal_by (refusals.DiskFault lock) = no_lives.Device
 refusal_by refusals.Full = no_lives.Full
 refusal_by refusals.Memory = no_lives.Memory
 
+-- it comes only of volumes that were mounted
+abbrev pub IsOfVolumes : NoLife → Type 0
+IsOfVolumes (no_lives.Damaged at) = Unit {0}
+IsOfVolumes no_lives.OldLog = Unit {0}
+IsOfVolumes no_lives.Full = Unit {0}
+IsOfVolumes refusal = ⊥
+
 module _ {L P : Type 0} (l : logs.Ghosts L) (p : disks.Ghosts P) where
   -- the log's volume failed, or that of a bank
   abbrev pub HasVolumeFailed : Volumes L P → Volumes L P → Type 0
@@ -39,20 +46,14 @@ module _ {L P : Type 0} (l : logs.Ghosts L) (p : disks.Ghosts P) where
   IsNoLife c old new no_lives.Full = (gate : ℕ) × OpensEmpty l old.log gate × HasNoRoom c gate
   IsNoLife c old new no_lives.Memory = Unit {0}
 
-  -- The media's count rose, or that of a volume since the mounting, until the media took the volumes back. What a first
-  -- mount of so many banks may give is known.
-  abbrev pub HasDeviceFailed : (ℕ → Volumes L P → Type 0) → ℕ → ℕ → (Volumes L P → Type 0) → Type 0
-  HasDeviceFailed first before now gives =
-      HasRisen before now
-      ⊎ ((banks : ℕ) × (old new : Volumes L P) × first banks old × Only new gives × LeaveMultis old new × HasVolumeFailed old new)
-
   -- the volumes were mounted so, were given back so, and no life was opened over them
   abbrev pub HasRestedVolumes : Cluster → (ℕ → Volumes L P → Type 0) → (Volumes L P → Type 0) → NoLife → Type 0
   HasRestedVolumes c first gives refusal =
       (old new : Volumes L P) × first c.banks old × Only new gives × LeaveMultis old new × IsNoLife c old new refusal
 
-  -- why no life was opened over a media with these counts of faults, which holds these volumes now
+  -- Why no life was opened over a media with these counts of faults, which holds these volumes now. Where a device failed,
+  -- the media's count rose, or that of a volume since the mounting, until the media took the volumes back.
   abbrev pub IsUnopened : Cluster → (ℕ → Volumes L P → Type 0) → ℕ → ℕ → (Volumes L P → Type 0) → NoLife → Type 0
-  IsUnopened c first before now gives no_lives.Device = HasDeviceFailed first before now gives
+  IsUnopened c first before now gives no_lives.Device = HasRisen before now ⊎ HasRestedVolumes c first gives no_lives.Device
   IsUnopened c first before now gives no_lives.Memory = Unit {0}
   IsUnopened c first before now gives refusal = HasRestedVolumes c first gives refusal

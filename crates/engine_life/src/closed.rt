@@ -1,13 +1,14 @@
 //! What a life leaves.
-ghost use Rattle.std.specs.Prelude.{◌≡◌, []};
+ghost use Rattle.std.specs.Prelude.{◌≡◌, [], IsTrue};
 ghost use Rattle.hall.specs.Calls.{start_of, view};
 ghost use Rattle.notes.specs.Lists.{at};
 ghost use Rattle.tx_core.specs.EngineInvariant.{EngineInvariant};
-ghost use Rattle.tx_core.specs.Entries.{history};
+ghost use Rattle.tx_core.specs.Entries.{AreFewIds, history};
 ghost use Rattle.tx_core.specs.Locks.{log_lock};
+ghost use Rattle.tx_core.specs.MultiEntries.{multi_history};
 ghost use Rattle.engine_parts.specs.Parts.{IsLogOf};
 ghost use Rattle.engine_host.specs.Hosts.{HoldsAllBut, IsHost};
-ghost use Rattle.engine_life.specs.Lives.{HaveCountedTold, volumes_left};
+ghost use Rattle.engine_life.specs.Lives.{HaveCountedTold, HaveFollowed, volumes_left};
 
 use crate::life::{Aside, OpenLife};
 use disk_core::{LogDisk, PageDisk, Volumes};
@@ -26,15 +27,20 @@ pub struct ClosedLife<L: LogDisk, P> {
 }
 
 /// Closes a life whose sessions are all dismissed. Its history and its log are those of the lists that the host has seen,
-/// which are all that was done, and of which the engine invariant holds. Each volume has counted at least the faults that
-/// its list tells. Takes no memory.
+/// which are all that was done, and of which the engine invariant holds; no multixact is in them. Each volume has counted
+/// at least the faults that its list tells, and a crash would leave of each of pg_xact what its list allows. Takes no
+/// memory.
 pub fn close_life<L: LogDisk + Drop, P: PageDisk + Drop>(life: OpenLife<L, P>) -> ClosedLife<L, P>
     requires host { IsHost life.hall life.host }
     requires all { HoldsAllBut life.host [] }
     ensures events { result.events ≡ history (view life.host.pass).seen }
     ensures log { IsLogOf (start_of life.hall) result.log (at (view life.host.pass).seen log_lock) }
+    ensures multis { multi_history (view life.host.pass).seen ≡ [] }
     ensures kept { EngineInvariant (start_of life.hall) (view life.host.pass).seen }
     ensures counted { HaveCountedTold L.LogDisk P.PageDisk (start_of life.hall) (view life.host.pass).seen (volumes_left result) }
+    // In a life of fewer than 2,900,000 ids.
+    ensures states { IsTrue P.tells → AreFewIds (view life.host.pass).seen → HaveFollowed P.PageDisk
+        (start_of life.hall) (view life.host.pass).seen (volumes_left result).xact.items }
     ensures offsets { (volumes_left result).offsets ≡ life.aside.offsets }
     ensures members { (volumes_left result).members ≡ life.aside.members }
 {
@@ -57,6 +63,8 @@ pub fn close_life<L: LogDisk + Drop, P: PageDisk + Drop>(life: OpenLife<L, P>) -
         xact,
         subtrans,
     } = take_apart(locks, xact, subtrans);
+    let log = Box::into_inner(log);
+    let table = Box::into_inner(table);
     let (_, events) = table.into_parts();
     ClosedLife {
         log,

@@ -1,11 +1,11 @@
 //! How a life is opened over the volumes of a media.
 ghost use Rattle.std.specs.Prelude.{◌≡◌, ◌≤◌, ◌*◌, ℕ, [], false, IfErr, IfOk, IsTrue, OnErr, OnOk, length, vec_capacity};
-ghost use Rattle.disk_core.specs.Media.{HasBanks};
+ghost use Rattle.disk_core.specs.Media.{HasBanks, MayBeFirst};
 ghost use Rattle.disk_core.specs.declared.media.Volumes.{Volumes as Mounted};
 ghost use Rattle.engine_host.specs.Opening.{AreParts, IsCluster};
 ghost use Rattle.engine_life.specs.Lives.{IsBegun, IsNewLife, LeaveMultis};
 ghost use Rattle.engine_life.specs.declared.refusal.NoLife.TheVariants as no_lives;
-ghost use Rattle.engine_life.specs.Refusals.{IsNoLife, IsUnopened};
+ghost use Rattle.engine_life.specs.Refusals.{IsNoLife, IsOfVolumes, IsUnopened};
 
 use crate::life::{Aside, OpenLife};
 use crate::refusal::{NoLife, refusal_of};
@@ -73,7 +73,7 @@ fn volumes_of<L: LogDisk + Drop, P: PageDisk + Drop>(
         subtrans,
     } = take_apart(locks, xact, subtrans);
     Volumes {
-        log: log.into_disk(),
+        log: Box::into_inner(log).into_disk(),
         xact,
         subtrans,
         offsets,
@@ -159,13 +159,14 @@ pub fn open_life<M: Media>(
     requires cluster { IsCluster cluster }
     requires idle { IsTrue (M.is_idle media.old) }
     requires new { IsTrue (M.is_new media.old) }
-    ensures life { IfOk result (λ life. (volumes : Mounted M.Log M.Pages) × HasBanks cluster.banks volumes
-        × IsNewLife cluster volumes life) }
+    ensures life { IfOk result (λ life. (volumes : Mounted M.Log M.Pages)
+        × MayBeFirst (M.begins media.old) cluster.banks volumes × IsNewLife cluster volumes life) }
     ensures mounted { OnOk result (M.is_idle media.new ≡ false) }
     ensures idle { OnErr result (IsTrue (M.is_idle media.new)) }
     ensures count { M.faults media.old ≤ M.faults media.new }
-    ensures refused { IfErr result (λ refusal. IsUnopened M.Log.LogDisk M.Pages.PageDisk cluster HasBanks
-        (M.faults media.old) (M.faults media.new) (M.gives media.new) refusal) }
+    ensures used { IfErr result (λ refusal. IsOfVolumes refusal → M.is_new media.new ≡ false) }
+    ensures refused { IfErr result (λ refusal. IsUnopened M.Log.LogDisk M.Pages.PageDisk cluster
+        (MayBeFirst (M.begins media.old)) (M.faults media.old) (M.faults media.new) (M.gives media.new) refusal) }
 {
     let volumes = match media.mount(cluster.banks) {
         Ok(volumes) => volumes,

@@ -61,7 +61,8 @@ may_wider A A' F F' T T' a f t lock (kinds.Append rec) m = a rec m
 may_wider A A' F F' T T' a f t lock (kinds.Flush to) m = f m
 may_wider A A' F F' T T' a f t lock (kinds.Forget number) m = absurd m
 may_wider A A' F F' T T' a f t lock (kinds.LogFault asked count) m = (m.0, t _ m.1)
-may_wider A A' F F' T T' a f t lock (kinds.Fault callers changes cut count) m = (m.0, m.1, t _ m.2)
+may_wider A A' F F' T T' a f t lock (kinds.Fault callers changes cut count) m = (m.0, m.1, t _ m.2, m.3)
+may_wider A A' F F' T T' a f t lock (kinds.Cut page) m = absurd m
 may_wider A A' F F' T T' a f t lock _ m = tt
 
 -- a plain entry is always among them

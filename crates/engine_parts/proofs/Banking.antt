@@ -101,9 +101,10 @@ last_from_first start a = by_end (λ es. xact_page start.base.next ≤ (xact_pag
         one false e = h
 
 -- an entry that makes no page and sets no state
-pub xact_quiet : (start : Start) (bank faults faults' last cutoff : ℕ) (tells : Bool) (bytes bytes' : ℕ → List ℕ) (es : List Entry) (e : Entry) → XactStands start bank tells faults last cutoff bytes es → marks_in e ≡ [] → zeroed_in e.kind ≡ None → faults_told start (xact_lock bank) (es ++ e ∷ []) ≤ faults' → (IsTrue tells → (q k : ℕ) → k < 32768 → state_in (bytes' q) k ≡ state_in (bytes q) k)
-    → XactStands start bank tells faults' last cutoff bytes' (es ++ e ∷ [])
-xact_quiet start bank faults faults' last cutoff tells bytes bytes' es e s sets zeros count same =
+pub xact_quiet : (start : Start) (bank faults faults' last cutoff : ℕ) (tells : Bool) (bytes bytes' : ℕ → List ℕ) (led led' : List Entry → Type 0) (es : List Entry) (e : Entry) → XactStands start bank tells faults last cutoff bytes led es → marks_in e ≡ [] → zeroed_in e.kind ≡ None → faults_told start (xact_lock bank) (es ++ e ∷ []) ≤ faults' → (IsTrue tells → (q k : ℕ) → k < 32768 → state_in (bytes' q) k ≡ state_in (bytes q) k)
+    → (IsTrue tells → led es → led' (es ++ e ∷ []))
+    → XactStands start bank tells faults' last cutoff bytes' led' (es ++ e ∷ [])
+xact_quiet start bank faults faults' last cutoff tells bytes bytes' led led' es e s sets zeros count same leads =
     let still : (before : ℕ → Option State) → xact_pages start before (es ++ e ∷ []) ≡ xact_pages start before es = λ before. pages_push start before es e ∙ (λ j. zeroed xact_store (zeros j) (set_by xact_store (sets j) (xact_pages start before es))) in
     let l : (quiet_pages start (es ++ e ∷ [])).last ≡ (quiet_pages start es).last = ap (λ (p : Pages State). p.last) (still (λ x. None)) in record {
       inside = s.inside;
@@ -113,19 +114,15 @@ xact_quiet start bank faults faults' last cutoff tells bytes bytes' es e s sets 
       shown = λ told made.
           let old = s.shown told (omega arith) in
           (old.0, old.1, record { each = λ x used here uncut. same told (xact_page_of x) (xact_place_of x) (omega arith) ∙ (old.2.each x used here uncut ∙ sym (ap (λ (p : Pages State). number_of_state (p.shows x)) (still old.0))) });
+      course = λ told. leads told (s.course told);
     }
 
 -- a call that read alone
-pub xact_read : (start : Start) (bank faults faults' last last' cutoff cutoff' : ℕ) (tells : Bool) (bytes bytes' : ℕ → List ℕ) (es : List Entry) (e : Entry) → XactStands start bank tells faults last cutoff bytes es → last' ≡ last → cutoff' ≡ cutoff → marks_in e ≡ [] → zeroed_in e.kind ≡ None → faults_told start (xact_lock bank) (es ++ e ∷ []) ≤ faults' → (IsTrue tells → (q : ℕ) → bytes' q ≡ bytes q)
-    → XactStands start bank tells faults' last' cutoff' bytes' (es ++ e ∷ [])
-xact_read start bank faults faults' last last' cutoff cutoff' tells bytes bytes' es e s l c sets zeros count same =
-    subst (λ (z : ℕ × ℕ). XactStands start bank tells faults' z.0 z.1 bytes' (es ++ e ∷ [])) (λ j. (sym l j, sym c j)) (xact_quiet start bank faults faults' last cutoff tells bytes bytes' es e s sets zeros count (λ told q k within. ap (λ (b : List ℕ). state_in b k) (same told q)))
-
--- a call that set no state
-pub xact_unset : (start : Start) (bank faults faults' last last' cutoff cutoff' : ℕ) (tells : Bool) (bytes bytes' : ℕ → List ℕ) (es : List Entry) (e : Entry) → XactStands start bank tells faults last cutoff bytes es → last' ≡ last → cutoff' ≡ cutoff → marks_in e ≡ [] → zeroed_in e.kind ≡ None → faults_told start (xact_lock bank) (es ++ e ∷ []) ≤ faults' → (IsTrue tells → (q k : ℕ) → k < 32768 → state_in (bytes' q) k ≡ state_in (bytes q) k)
-    → XactStands start bank tells faults' last' cutoff' bytes' (es ++ e ∷ [])
-xact_unset start bank faults faults' last last' cutoff cutoff' tells bytes bytes' es e s l c sets zeros count same =
-    subst (λ (z : ℕ × ℕ). XactStands start bank tells faults' z.0 z.1 bytes' (es ++ e ∷ [])) (λ j. (sym l j, sym c j)) (xact_quiet start bank faults faults' last cutoff tells bytes bytes' es e s sets zeros count same)
+pub xact_read : (start : Start) (bank faults faults' last last' cutoff cutoff' : ℕ) (tells : Bool) (bytes bytes' : ℕ → List ℕ) (led led' : List Entry → Type 0) (es : List Entry) (e : Entry) → XactStands start bank tells faults last cutoff bytes led es → last' ≡ last → cutoff' ≡ cutoff → marks_in e ≡ [] → zeroed_in e.kind ≡ None → faults_told start (xact_lock bank) (es ++ e ∷ []) ≤ faults' → (IsTrue tells → (q : ℕ) → bytes' q ≡ bytes q)
+    → (IsTrue tells → led es → led' (es ++ e ∷ []))
+    → XactStands start bank tells faults' last' cutoff' bytes' led' (es ++ e ∷ [])
+xact_read start bank faults faults' last last' cutoff cutoff' tells bytes bytes' led led' es e s l c sets zeros count same leads =
+    subst (λ (z : ℕ × ℕ). XactStands start bank tells faults' z.0 z.1 bytes' led' (es ++ e ∷ [])) (λ j. (sym l j, sym c j)) (xact_quiet start bank faults faults' last cutoff tells bytes bytes' led led' es e s sets zeros count (λ told q k within. ap (λ (b : List ℕ). state_in b k) (same told q)) leads)
 
 -- ---- a page is made
 
@@ -140,7 +137,7 @@ zero_state n = ap (λ b. bits_at b (n % 4)) (zero_byte (n / 4)) ∙ zero_bits (n
 pages_apart : (next oldest p x : ℕ) → next ≤ oldest + 2 ^ 31 → xact_page next ≤ p → p * 32768 < next + 2 ^ 29 → oldest ≤ x → x < next + 2 ^ 30 → xact_page_of x ≡ p % 2 ^ 17 → xact_page x ≡ p
 pages_apart next oldest p x near from to old used same = omega arith
 
-module _ (start : Start) (bank faults last cutoff : ℕ) (tells : Bool) (bytes : ℕ → List ℕ) (es : List Entry) (by : By) (page : ℕ) (s : XactStands start bank tells faults last cutoff bytes es) (window : start.base.next ≤ start.base.oldest + 2 ^ 31) (from : xact_page start.base.next ≤ page) where
+module _ (start : Start) (bank faults last cutoff : ℕ) (tells : Bool) (bytes : ℕ → List ℕ) (led : List Entry → Type 0) (es : List Entry) (by : By) (page : ℕ) (s : XactStands start bank tells faults last cutoff bytes led es) (window : start.base.next ≤ start.base.oldest + 2 ^ 31) (from : xact_page start.base.next ≤ page) where
   abbrev made_entry : Entry
   made_entry = record { by = by; kind = kinds.Zero page }
 
@@ -167,7 +164,7 @@ module _ (start : Start) (bank faults last cutoff : ℕ) (tells : Bool) (bytes :
       let at : last ≡ old_last % 2 ^ 17 = s.last_is made in
       ap (λ z. page_precedes Ids 32768 z (page % 2 ^ 17)) at ∙ (page_order old_last page (omega arith) (omega arith) ∙ is)
 
-  module _ (faults' last' : ℕ) (bytes' : ℕ → List ℕ) (ends : last' ≡ cond (page_precedes Ids 32768 last (page % 2 ^ 17)) (page % 2 ^ 17) last) (puts : IsTrue tells → MatchBool (page_precedes Ids 32768 last (page % 2 ^ 17)) (PutsPage (page % 2 ^ 17) zero_page bytes bytes') (SameMap bytes bytes')) where
+  module _ (faults' last' : ℕ) (bytes' : ℕ → List ℕ) (led' : List Entry → Type 0) (ends : last' ≡ cond (page_precedes Ids 32768 last (page % 2 ^ 17)) (page % 2 ^ 17) last) (puts : IsTrue tells → MatchBool (page_precedes Ids 32768 last (page % 2 ^ 17)) (PutsPage (page % 2 ^ 17) zero_page bytes bytes') (SameMap bytes bytes')) where
     lasts : (b : Bool) → nat_lt old_last page ≡ b → (quiet_pages start (es ++ made_entry ∷ [])).last * 32768 < start.base.next + 2 ^ 29 → last' ≡ (quiet_pages start (es ++ made_entry ∷ [])).last % 2 ^ 17
     lasts true is made =
         let l : (quiet_pages start (es ++ made_entry ∷ [])).last ≡ page = ap (λ (p : Pages State). p.last) (after_made (λ x. None) true is) in
@@ -210,5 +207,12 @@ module _ (start : Start) (bank faults last cutoff : ℕ) (tells : Bool) (bytes :
         )
 
     -- a page is made, or it was made before
-    pub xact_made : faults_told start (xact_lock bank) (es ++ made_entry ∷ []) ≤ faults' → XactStands start bank tells faults' last' cutoff bytes' (es ++ made_entry ∷ [])
-    xact_made count = record { inside = s.inside; count = count; last_is = lasts (nat_lt old_last page) refl; cutoff_is = cutoff_more (first_xact_page start) (2 ^ 17) es made_entry cutoff s.cutoff_is; shown = shows (nat_lt old_last page) refl }
+    pub xact_made : faults_told start (xact_lock bank) (es ++ made_entry ∷ []) ≤ faults' → (IsTrue tells → led es → led' (es ++ made_entry ∷ [])) → XactStands start bank tells faults' last' cutoff bytes' led' (es ++ made_entry ∷ [])
+    xact_made count leads = record {
+      inside = s.inside;
+      count = count;
+      last_is = lasts (nat_lt old_last page) refl;
+      cutoff_is = cutoff_more (first_xact_page start) (2 ^ 17) es made_entry cutoff s.cutoff_is;
+      shown = shows (nat_lt old_last page) refl;
+      course = λ told. leads told (s.course told);
+    }

@@ -20,3 +20,4 @@ pub mod Newness
 pub mod Placing
 pub mod Sectioning
 pub mod Unrecorded
+pub mod Unmoved

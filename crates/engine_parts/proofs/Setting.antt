@@ -100,16 +100,17 @@ made_upto start a es page m = ⊎_elim (λ (q : page ≡ xact_page start.base.ne
 pub in_use : (start : Start) (es : List Entry) (id : ℕ) → (xact_pages start (λ x. None) es).last * 32768 < start.base.next + 2 ^ 29 → WasMade es (xact_page start.base.next) (xact_page id) → IsFullId id → start.base.oldest ≤ id → IsInUse start id
 in_use start es id few made full old = let up = made_upto start (λ x. None) es (xact_page id) made in (full, old, omega arith)
 
-pub xact_set : (start : Start) (bank faults faults' last last' cutoff cutoff' : ℕ) (tells : Bool) (bytes bytes' : ℕ → List ℕ) (es : List Entry) (by : By) (state : State) (ids : List ℕ) → XactStands start bank tells faults last cutoff bytes es → last' ≡ last → cutoff' ≡ cutoff
+pub xact_set : (start : Start) (bank faults faults' last last' cutoff cutoff' : ℕ) (tells : Bool) (bytes bytes' : ℕ → List ℕ) (led led' : List Entry → Type 0) (es : List Entry) (by : By) (state : State) (ids : List ℕ) → XactStands start bank tells faults last cutoff bytes led es → last' ≡ last → cutoff' ≡ cutoff
     → start.base.next ≤ start.base.oldest + 2 ^ 31 → ((j : ℕ) → j < length ids → WasMade es (xact_page start.base.next) (xact_page (slice_index ids j)) × IsFullId (slice_index ids j) × (start.base.oldest ≤ slice_index ids j)) → ((j : ℕ) → j < length ids → xact_page_of (slice_index ids j) ≡ xact_page_of (slice_index ids 0))
     → faults_told start (xact_lock bank) (es ++ record { by = by; kind = kinds.Set (all_set by state ids) } ∷ []) ≤ faults'
     → (IsTrue tells → SetsStates ids (length ids) (number_of_state (Some state)) bytes bytes')
-    → XactStands start bank tells faults' last' cutoff' bytes' (es ++ record { by = by; kind = kinds.Set (all_set by state ids) } ∷ [])
-xact_set start bank faults faults' last last' cutoff cutoff' tells bytes bytes' es by state ids s l c window used one_page count sets =
+    → (IsTrue tells → led es → led' (es ++ record { by = by; kind = kinds.Set (all_set by state ids) } ∷ []))
+    → XactStands start bank tells faults' last' cutoff' bytes' led' (es ++ record { by = by; kind = kinds.Set (all_set by state ids) } ∷ [])
+xact_set start bank faults faults' last last' cutoff cutoff' tells bytes bytes' led led' es by state ids s l c window used one_page count sets leads =
     let e : Entry = record { by = by; kind = kinds.Set (all_set by state ids) } in
     let after : (before : ℕ → Option State) → xact_pages start before (es ++ e ∷ []) ≡ set_by xact_store (marks_in e) (xact_pages start before es) = λ before. pages_push start before es e in
     let same : (xact_pages start (λ x. None) (es ++ e ∷ [])).last ≡ (xact_pages start (λ x. None) es).last = ap (λ (p : Pages State). p.last) (after (λ x. None)) in
-    subst (λ (z : ℕ × ℕ). XactStands start bank tells faults' z.0 z.1 bytes' (es ++ e ∷ [])) (λ j. (sym l j, sym c j)) (record {
+    subst (λ (z : ℕ × ℕ). XactStands start bank tells faults' z.0 z.1 bytes' led' (es ++ e ∷ [])) (λ j. (sym l j, sym c j)) (record {
       inside = s.inside;
       count = count;
       last_is = λ made. s.last_is (omega arith) ∙ sym (ap (λ z. z % 2 ^ 17) same);
@@ -134,6 +135,7 @@ xact_set start bank faults faults' last last' cutoff cutoff' tells bytes bytes' 
                   (set_or_not by state ids x o);
             },
           );
+      course = λ told. leads told (s.course told);
     })
   where
     stays : (xact_pages start (λ x. None) es).last * 32768 < start.base.next + 2 ^ 29 → (x : ℕ) (o : Option State) → IsInUse start x → SetsStates ids (length ids) (number_of_state (Some state)) bytes bytes' → IsNotSet by state ids x o → state_in (bytes' (xact_page_of x)) (xact_place_of x) ≡ state_in (bytes (xact_page_of x)) (xact_place_of x)

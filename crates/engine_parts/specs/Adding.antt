@@ -1,5 +1,5 @@
 -- What a command adds to the lists of the locks.
-use Rattle.std.specs.Prelude.{◌≡◌, ℕ, false, IsTrue, List, ◌∷◌, ◌++◌, Result, Ok, Err}
+use Rattle.std.specs.Prelude.{◌≡◌, ◌⊎◌, ℕ, false, IsTrue, List, ◌∷◌, ◌++◌, None, Result, Ok, Err}
 use Rattle.std.specs.List.{AllByRecursion}
 use Rattle.notes.specs.Lists.{at, own}
 use Rattle.tx_events.specs.declared.event.By.{By}
@@ -34,14 +34,16 @@ pub record Adds (by : By) (May : ℕ → Kind → Type 0) (lists more : List (Li
   pub each : (lock : ℕ) → AddsTo by (May lock) (at lists lock) (at more lock)
 
 -- What a step of a command may add that appends such records, flushes if at all, and tells such refusals. A fault is
--- one that it tells: of the log's volume in a flush, or of the volume behind this very lock. Nothing is forgotten.
+-- one that it tells: of the log's volume in a flush, or of the volume behind this very lock. Nothing is forgotten, and no
+-- page is cut.
 abbrev pub MayAdd : (Rec → Type 0) → Type 0 → (Refusal → Type 0) → ℕ → Kind → Type 0
 MayAdd Appends Flushes Tells lock (kinds.Append rec) = Appends rec
 MayAdd Appends Flushes Tells lock (kinds.Flush to) = Flushes
 MayAdd Appends Flushes Tells lock (kinds.Forget number) = ⊥
 MayAdd Appends Flushes Tells lock (kinds.LogFault asked count) = (asked ≡ calls.Flush) × Tells refusals.LogFault
 MayAdd Appends Flushes Tells lock (kinds.Fault callers changes cut count) =
-    (named : Lock) × (number_of named ≡ lock) × Tells (refusals.DiskFault named)
+    (named : Lock) × (number_of named ≡ lock) × Tells (refusals.DiskFault named) × (cut ≡ None)
+MayAdd Appends Flushes Tells lock (kinds.Cut page) = ⊥
 MayAdd Appends Flushes Tells lock _ = Unit {0}
 
 -- the refusal that a step was answered
@@ -76,11 +78,24 @@ pub record IsAbortOf (opened : List ℕ) (rec : Rec) : Type 0 where
   pub is : rec ≡ records.Abort top subs
   pub ids : opened ≡ top ∷ subs
 
+-- it is a truncation's, which says what was announced as the oldest id
+abbrev pub IsTruncation : Rec → Type 0
+IsTruncation (records.Truncate oldest multi offset) = Unit {0}
+IsTruncation rec = ⊥
+
+-- it is the commit record of these open ids, or the truncation before it
+abbrev pub IsOfCommit : List ℕ → Rec → Type 0
+IsOfCommit opened rec = IsCommitOf opened rec ⊎ IsTruncation rec
+
+-- and so of an abort
+abbrev pub IsOfAbort : List ℕ → Rec → Type 0
+IsOfAbort opened rec = IsAbortOf opened rec ⊎ IsTruncation rec
+
 -- The record that a command may append: a commit that of all that is open, where it stands not yet, and an abort that
--- of all that is open, where none was begun.
+-- of all that is open, where none was begun; either with a truncation before it.
 abbrev pub IsRecordBy : Command → Stance → Stage → List ℕ → Rec → Type 0
-IsRecordBy commands.Commit s stage opened rec = IsTrue (is_unrecorded s stage) × IsCommitOf opened rec
-IsRecordBy commands.Abort s stage opened rec = (may_be_aborted stage ≡ false) × IsAbortOf opened rec
+IsRecordBy commands.Commit s stage opened rec = IsTrue (is_unrecorded s stage) × IsOfCommit opened rec
+IsRecordBy commands.Abort s stage opened rec = (may_be_aborted stage ≡ false) × IsOfAbort opened rec
 IsRecordBy command s stage opened rec = ⊥
 
 -- what a command may add that was answered so, of a session that stood so, with these ids open

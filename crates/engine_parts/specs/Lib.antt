@@ -1,4 +1,5 @@
 pub mod Stand
+pub mod Course
 pub mod Parts
 pub mod Law
 pub mod Holds

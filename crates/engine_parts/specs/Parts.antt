@@ -1,5 +1,5 @@
 -- What a part behind a lock stands for.
-use Rattle.std.specs.Prelude.{◌≡◌, ◌≢◌, ℕ, List}
+use Rattle.std.specs.Prelude.{◌≡◌, ◌≢◌, ℕ, List, []}
 use Rattle.disk_core.specs.declared.log_disk.LogDisk as logs
 use Rattle.disk_core.specs.declared.page_disk.PageDisk as disks
 use Rattle.store_pages.specs.declared.page_rule.PageRule as rules
@@ -9,9 +9,10 @@ use Rattle.wal_core.specs.declared.wal_log.WalLog.{WalLog}
 use Rattle.wal_core.specs.LogViews.{log_counters, log_disk, log_down, log_first, log_flushed, log_next, log_recs}
 use Rattle.tx_core.specs.declared.entry.Entry.{Entry}
 use Rattle.tx_core.specs.declared.entry.Start.{Start}
-use Rattle.tx_core.specs.Locks.{log_lock, proc_lock, subtrans_lock, xact_lock}
+use Rattle.tx_core.specs.Locks.{log_lock, multi_lock, proc_lock, subtrans_lock, xact_lock}
 use Rattle.engine_parts.specs.declared.part.Part.{Part}
 use Rattle.engine_parts.specs.declared.part.Part.TheVariants as parts
+use Rattle.engine_parts.specs.Course.{HasCourse}
 use Rattle.engine_parts.specs.Stand.{LogStands, ProcStands, SubtransStands, XactStands}
 
 module _ {D : Type 0} {g : logs.Ghosts D} where
@@ -25,26 +26,28 @@ module _ {P O : Type 0} {g : disks.Ghosts P} {r : rules.Ghosts O} where
   -- a bank of pg_xact stands for the list of its lock
   abbrev pub IsXactOf : Start → ℕ → SlruBank P O g r → List Entry → Type 0
   IsXactOf start bank store es =
-      XactStands start bank g.tells (faults_of store) (last_page store) (cutoff_of store) (pages_of store) es
+      XactStands start bank g.tells (faults_of store) (last_page store) (cutoff_of store) (pages_of store)
+      (HasCourse start bank store) es
 
   -- and one of pg_subtrans
   abbrev pub IsSubtransOf : Start → ℕ → SlruBank P O g r → List Entry → Type 0
   IsSubtransOf start bank store es =
       SubtransStands start bank g.tells (faults_of store) (last_page store) (cutoff_of store) (pages_of store) es
 
--- the lock of a part that isn't built: none of the others' locks
-pub record IsVacant (lock : ℕ) : Type 0 where
+-- the lock of a part that isn't built: none of the others' locks; that of the multixacts has a list without entries
+pub record IsVacant (lock : ℕ) (es : List Entry) : Type 0 where
   pub log : lock ≢ log_lock
   pub proc : lock ≢ proc_lock
   pub xact : (bank : ℕ) → lock ≢ xact_lock bank
   pub subtrans : (bank : ℕ) → lock ≢ subtrans_lock bank
+  pub multi : lock ≡ multi_lock → es ≡ []
 
 module _ {L P : Type 0} {l : logs.Ghosts L} {p : disks.Ghosts P} where
   -- each kind of part lies behind its locks alone
   abbrev pub PartStands : Start → ℕ → Part L P l p → List Entry → Type 0
-  PartStands start lock (parts.Log log) es = (lock ≡ log_lock) × IsLogOf start log es
-  PartStands start lock (parts.Proc table) es = (lock ≡ proc_lock) × ProcStands start table es
-  PartStands start lock (parts.Xact store) es = (bank : ℕ) × (lock ≡ xact_lock bank) × IsXactOf start bank store es
+  PartStands start lock (parts.Log log) es = (lock ≡ log_lock) × IsLogOf start log.value es
+  PartStands start lock (parts.Proc table) es = (lock ≡ proc_lock) × ProcStands start table.value es
+  PartStands start lock (parts.Xact store) es = (bank : ℕ) × (lock ≡ xact_lock bank) × IsXactOf start bank store.value es
   PartStands start lock (parts.Subtrans store) es =
-      (bank : ℕ) × (lock ≡ subtrans_lock bank) × IsSubtransOf start bank store es
-  PartStands start lock parts.Vacant es = IsVacant lock
+      (bank : ℕ) × (lock ≡ subtrans_lock bank) × IsSubtransOf start bank store.value es
+  PartStands start lock parts.Vacant es = IsVacant lock es

@@ -118,9 +118,9 @@ pub record ShowsStates (start : Start) (bank cutoff : ℕ) (bytes : ℕ → List
       → state_in (bytes (xact_page_of x)) (xact_place_of x) ≡ number_of_state (shows x)
 
 -- The bank's last made page is the list's, and it shows the states that the list set, over some pages that a clean
--- start shows.
+-- start shows. Its course led to the list.
 pub record XactStands (start : Start) (bank : ℕ) (tells : Bool) (faults last cutoff : ℕ) (bytes : ℕ → List ℕ)
-    (es : List Entry) : Type 0 where
+    (led : List Entry → Type 0) (es : List Entry) : Type 0 where
   pub inside : bank < start.banks
   pub count : faults_told start (xact_lock bank) es ≤ faults
   pub last_is : AreXactPagesNear start es → last ≡ last_xact_page start es % 2 ^ 17
@@ -128,6 +128,7 @@ pub record XactStands (start : Start) (bank : ℕ) (tells : Bool) (faults last c
   pub shown : IsTrue tells → AreXactPagesNear start es
       → (before : ℕ → Option State) × CleanStart start before
       × ShowsStates start bank cutoff bytes (xact_pages start before es).shows
+  pub course : IsTrue tells → led es
 
 -- a parent as it is stored: 0 where none was set
 abbrev pub number_of_parent : Option ℕ → ℕ

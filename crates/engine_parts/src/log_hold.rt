@@ -26,7 +26,7 @@ pub fn enter_log<R: Wait, L: LogDisk, P: PageDisk>(
     rt: &R,
     hall: &Hall<EngineLaw<L, P>>,
     caller: &mut Caller<L, P>,
-) -> WalLog<L>
+) -> Box<WalLog<L>>
     requires own { IsOf hall.now caller.old.pass }
     requires laid { hall.now.cells ≡ 3 + 4 * (start_of hall.now).banks }
     requires ready { IsReady (start_of hall.now) (view caller.old.pass) caller.old.number caller.old.session }
@@ -35,7 +35,7 @@ pub fn enter_log<R: Wait, L: LogDisk, P: PageDisk>(
     ensures entered { Enters (start_of hall.now) log_lock (view caller.old.pass) (view caller.new.pass) }
     ensures at { IsAt (start_of hall.now) (view caller.new.pass) caller.new.number caller.new.session }
     ensures same { (caller.new.session ≡ caller.old.session) × (caller.new.number ≡ caller.old.number) }
-    ensures stands { IsLogOf (start_of hall.now) result (at (view caller.new.pass).seen log_lock) }
+    ensures stands { IsLogOf (start_of hall.now) result.value (at (view caller.new.pass).seen log_lock) }
 {
     let part = enter(rt, hall, &mut caller.pass, 0);
     let Part::Log(log) = part else { unreachable!() };
@@ -46,7 +46,7 @@ pub fn enter_log<R: Wait, L: LogDisk, P: PageDisk>(
 pub fn leave_log<L: LogDisk, P: PageDisk>(
     hall: &Hall<EngineLaw<L, P>>,
     caller: &mut Caller<L, P>,
-    log: WalLog<L>,
+    log: Box<WalLog<L>>,
     entry: Note<Entry>,
 )
     requires own { IsOf hall.now caller.old.pass }
@@ -56,7 +56,7 @@ pub fn leave_log<L: LogDisk, P: PageDisk>(
     requires kept { EngineInvariant (start_of hall.now) (view caller.old.pass).seen }
     requires session { session_of entry.value ≡ (view caller.old.pass).name }
     requires may { MayKeep (start_of hall.now) (view caller.old.pass).seen log_lock entry.value }
-    requires stands { IsLogOf (start_of hall.now) log (at (view caller.old.pass).seen log_lock ++ entry.value ∷ []) }
+    requires stands { IsLogOf (start_of hall.now) log.value (at (view caller.old.pass).seen log_lock ++ entry.value ∷ []) }
     ensures own { IsOf hall.now caller.new.pass }
     ensures left { Leaves (start_of hall.now) log_lock entry.value (view caller.old.pass) (view caller.new.pass) }
     ensures same { (caller.new.session ≡ caller.old.session) × (caller.new.number ≡ caller.old.number) }

@@ -5,16 +5,17 @@ use slru_bank::SlruBank;
 use store_pages::{SubtransPages, XactPages};
 use wal_core::WalLog;
 
-/// What lies behind a lock of an engine's lock table (the locks by their numbers: `docs/ENGINE.md`).
+/// What lies behind a lock of an engine's lock table (the locks by their numbers: `docs/ENGINE.md`). It is moved at each
+/// critical section, so it lies behind a box.
 pub enum Part<L: LogDisk, P: PageDisk> {
     /// The write-ahead log (WALInsertLock and WALWriteLock of `xlog.c`).
-    Log(WalLog<L>),
+    Log(Box<WalLog<L>>),
     /// The ProcArray with the next id (ProcArrayLock of `procarray.c`, XidGenLock of `varsup.c`).
-    Proc(ProcTable),
+    Proc(Box<ProcTable>),
     /// A bank of pg_xact (XactSLRULock of `clog.c`).
-    Xact(SlruBank<P, XactPages>),
+    Xact(Box<SlruBank<P, XactPages>>),
     /// A bank of pg_subtrans (SubtransSLRULock of `subtrans.c`).
-    Subtrans(SlruBank<P, SubtransPages>),
+    Subtrans(Box<SlruBank<P, SubtransPages>>),
     /// Nothing yet: behind the locks of the multixacts and of their two stores (MultiXactGenLock and the two locks of
     /// the SLRUs of `multixact.c`).
     Vacant,

@@ -26,7 +26,7 @@ pub fn enter_proc<R: Wait, L: LogDisk, P: PageDisk>(
     rt: &R,
     hall: &Hall<EngineLaw<L, P>>,
     caller: &mut Caller<L, P>,
-) -> ProcTable
+) -> Box<ProcTable>
     requires own { IsOf hall.now caller.old.pass }
     requires laid { hall.now.cells ≡ 3 + 4 * (start_of hall.now).banks }
     requires ready { IsReady (start_of hall.now) (view caller.old.pass) caller.old.number caller.old.session }
@@ -35,7 +35,7 @@ pub fn enter_proc<R: Wait, L: LogDisk, P: PageDisk>(
     ensures entered { Enters (start_of hall.now) proc_lock (view caller.old.pass) (view caller.new.pass) }
     ensures at { IsAt (start_of hall.now) (view caller.new.pass) caller.new.number caller.new.session }
     ensures same { (caller.new.session ≡ caller.old.session) × (caller.new.number ≡ caller.old.number) }
-    ensures stands { ProcStands (start_of hall.now) result (at (view caller.new.pass).seen proc_lock) }
+    ensures stands { ProcStands (start_of hall.now) result.value (at (view caller.new.pass).seen proc_lock) }
 {
     let part = enter(rt, hall, &mut caller.pass, 1);
     let Part::Proc(table) = part else {
@@ -48,7 +48,7 @@ pub fn enter_proc<R: Wait, L: LogDisk, P: PageDisk>(
 pub fn leave_proc<L: LogDisk, P: PageDisk>(
     hall: &Hall<EngineLaw<L, P>>,
     caller: &mut Caller<L, P>,
-    table: ProcTable,
+    table: Box<ProcTable>,
     entry: Note<Entry>,
 )
     requires own { IsOf hall.now caller.old.pass }
@@ -58,7 +58,7 @@ pub fn leave_proc<L: LogDisk, P: PageDisk>(
     requires kept { EngineInvariant (start_of hall.now) (view caller.old.pass).seen }
     requires session { session_of entry.value ≡ (view caller.old.pass).name }
     requires may { MayKeep (start_of hall.now) (view caller.old.pass).seen proc_lock entry.value }
-    requires stands { ProcStands (start_of hall.now) table
+    requires stands { ProcStands (start_of hall.now) table.value
         (at (view caller.old.pass).seen proc_lock ++ entry.value ∷ []) }
     ensures own { IsOf hall.now caller.new.pass }
     ensures left { Leaves (start_of hall.now) proc_lock entry.value (view caller.old.pass) (view caller.new.pass) }

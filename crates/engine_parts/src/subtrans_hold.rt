@@ -28,7 +28,7 @@ pub fn enter_subtrans<R: Wait, L: LogDisk, P: PageDisk>(
     hall: &Hall<EngineLaw<L, P>>,
     caller: &mut Caller<L, P>,
     bank: u32,
-) -> SlruBank<P, SubtransPages>
+) -> Box<SlruBank<P, SubtransPages>>
     requires own { IsOf hall.now caller.old.pass }
     requires laid { hall.now.cells ≡ 3 + 4 * (start_of hall.now).banks }
     requires bank { (bank < (start_of hall.now).banks) × ((start_of hall.now).banks ≤ 16) }
@@ -38,7 +38,7 @@ pub fn enter_subtrans<R: Wait, L: LogDisk, P: PageDisk>(
     ensures entered { Enters (start_of hall.now) (subtrans_lock bank) (view caller.old.pass) (view caller.new.pass) }
     ensures at { IsAt (start_of hall.now) (view caller.new.pass) caller.new.number caller.new.session }
     ensures same { (caller.new.session ≡ caller.old.session) × (caller.new.number ≡ caller.old.number) }
-    ensures stands { IsSubtransOf (start_of hall.now) bank result
+    ensures stands { IsSubtransOf (start_of hall.now) bank result.value
         (at (view caller.new.pass).seen (subtrans_lock bank)) }
 {
     let part = enter(rt, hall, &mut caller.pass, 4 + 4 * bank);
@@ -53,7 +53,7 @@ pub fn leave_subtrans<L: LogDisk, P: PageDisk>(
     hall: &Hall<EngineLaw<L, P>>,
     caller: &mut Caller<L, P>,
     _bank: u32,
-    store: SlruBank<P, SubtransPages>,
+    store: Box<SlruBank<P, SubtransPages>>,
     entry: Note<Entry>,
 )
     requires own { IsOf hall.now caller.old.pass }
@@ -64,7 +64,7 @@ pub fn leave_subtrans<L: LogDisk, P: PageDisk>(
     requires kept { EngineInvariant (start_of hall.now) (view caller.old.pass).seen }
     requires session { session_of entry.value ≡ (view caller.old.pass).name }
     requires may { MayKeep (start_of hall.now) (view caller.old.pass).seen (subtrans_lock _bank) entry.value }
-    requires stands { IsSubtransOf (start_of hall.now) _bank store
+    requires stands { IsSubtransOf (start_of hall.now) _bank store.value
         (at (view caller.old.pass).seen (subtrans_lock _bank) ++ entry.value ∷ []) }
     ensures own { IsOf hall.now caller.new.pass }
     ensures left { Leaves (start_of hall.now) (subtrans_lock _bank) entry.value (view caller.old.pass)

@@ -28,7 +28,7 @@ pub fn enter_xact<R: Wait, L: LogDisk, P: PageDisk>(
     hall: &Hall<EngineLaw<L, P>>,
     caller: &mut Caller<L, P>,
     bank: u32,
-) -> SlruBank<P, XactPages>
+) -> Box<SlruBank<P, XactPages>>
     requires own { IsOf hall.now caller.old.pass }
     requires laid { hall.now.cells ≡ 3 + 4 * (start_of hall.now).banks }
     requires bank { (bank < (start_of hall.now).banks) × ((start_of hall.now).banks ≤ 16) }
@@ -38,7 +38,7 @@ pub fn enter_xact<R: Wait, L: LogDisk, P: PageDisk>(
     ensures entered { Enters (start_of hall.now) (xact_lock bank) (view caller.old.pass) (view caller.new.pass) }
     ensures at { IsAt (start_of hall.now) (view caller.new.pass) caller.new.number caller.new.session }
     ensures same { (caller.new.session ≡ caller.old.session) × (caller.new.number ≡ caller.old.number) }
-    ensures stands { IsXactOf (start_of hall.now) bank result (at (view caller.new.pass).seen (xact_lock bank)) }
+    ensures stands { IsXactOf (start_of hall.now) bank result.value (at (view caller.new.pass).seen (xact_lock bank)) }
 {
     let part = enter(rt, hall, &mut caller.pass, 3 + 4 * bank);
     let Part::Xact(store) = part else {
@@ -52,7 +52,7 @@ pub fn leave_xact<L: LogDisk, P: PageDisk>(
     hall: &Hall<EngineLaw<L, P>>,
     caller: &mut Caller<L, P>,
     _bank: u32,
-    store: SlruBank<P, XactPages>,
+    store: Box<SlruBank<P, XactPages>>,
     entry: Note<Entry>,
 )
     requires own { IsOf hall.now caller.old.pass }
@@ -63,7 +63,7 @@ pub fn leave_xact<L: LogDisk, P: PageDisk>(
     requires kept { EngineInvariant (start_of hall.now) (view caller.old.pass).seen }
     requires session { session_of entry.value ≡ (view caller.old.pass).name }
     requires may { MayKeep (start_of hall.now) (view caller.old.pass).seen (xact_lock _bank) entry.value }
-    requires stands { IsXactOf (start_of hall.now) _bank store
+    requires stands { IsXactOf (start_of hall.now) _bank store.value
         (at (view caller.old.pass).seen (xact_lock _bank) ++ entry.value ∷ []) }
     ensures own { IsOf hall.now caller.new.pass }
     ensures left { Leaves (start_of hall.now) (xact_lock _bank) entry.value (view caller.old.pass)

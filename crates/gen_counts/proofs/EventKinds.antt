@@ -102,4 +102,5 @@ own_quiet by s commands.Abort replies.Done es d e = subst (AllByRecursion IsQuie
 own_quiet by s (commands.Snap name) (replies.Snapped lists) es d e = subst (AllByRecursion IsQuiet) (sym e) (tt, tt)
 own_quiet by s (commands.DropSnap name) replies.Done es d e = subst (AllByRecursion IsQuiet) (sym e) (tt, tt)
 own_quiet by s (commands.Status x) r es d e = absurd d
+own_quiet by s (commands.Freeze oldest) r es d e = absurd d
 own_quiet by s c r es d e = subst (AllByRecursion IsQuiet) (sym e) tt

@@ -17,9 +17,9 @@ use Rattle.tx_model.proofs.LineGrowth.{stance_push}
 use Rattle.life_law.specs.Commands.{makes_level}
 use Rattle.life_law.specs.Facts.{Facts}
 use Rattle.life_law.specs.Lines.{IsLawfulLine, IsLawfulRound}
+use Rattle.life_law.proofs.IdSteps.{bounds_of}
 use Rattle.session_lang.proofs.SeenLemmas.{is_in}
 use Rattle.script_gen.specs.Counts.{gives_id}
-use Rattle.gen_counts.proofs.IdSteps.{bounds_of}
 use Rattle.run_law.proofs.PartSums.{count_cons, parts_sum, seen_once, sum_less}
 use Rattle.gen_counts.proofs.Walk.{by_line, own_push}
 

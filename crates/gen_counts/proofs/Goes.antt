@@ -18,7 +18,7 @@ use Rattle.life_law.specs.Refused.{by_standing, no_snapshot, refused_by}
 use Rattle.life_law.specs.Replies.{IsLawfulReply}
 use Rattle.script_gen.specs.Generated.{snapshot}
 use Rattle.script_gen.proofs.Ranges.{IsDrawn}
-use Rattle.gen_counts.specs.Counts.{is_failure, is_see}
+use Rattle.gen_counts.specs.Counts.{is_failure, is_told_verdict}
 use Rattle.script_gen.specs.Counts.{is_verdict}
 use Rattle.gen_counts.proofs.Replies.{IsWide, ok_reply}
 
@@ -79,7 +79,7 @@ next place command = None
 -- what the command does there
 pub record Goes (f : Facts) (q : Place) (s : Stance) (by : By) (c : Command) (reply : Reply) (es : List Event) : Type 0 where
   pub does : AreOf c es
-  pub verdict : is_verdict reply ≡ is_see c
+  pub verdict : is_verdict reply ≡ is_told_verdict c
   pub then : At q (after s by.command c reply (given es))
   pub settled : pending_after f.recs s None c reply ≡ None
 

@@ -3,7 +3,6 @@ pub mod Goes
 pub mod Running
 pub mod Walk
 pub mod Once
-pub mod IdSteps
 pub mod FewIds
 pub mod Wide
 pub mod EventKinds

@@ -63,6 +63,7 @@ history_ok f round by s (commands.See name x) (replies.Refused refusals.NoSnapsh
 history_ok f round by s (commands.Status x) reply w d n m = absurd d
 history_ok f round by s (commands.Did x) reply w d n m = absurd d
 history_ok f round by s commands.Horizon reply w d n m = absurd d
+history_ok f round by s (commands.Freeze oldest) reply w d n m = absurd d
 history_ok f round by s c reply w d n m = absurd m
 
 -- a lawful reply that isn't a failure, to a command that may come as the session stands

@@ -1,15 +1,12 @@
 -- A session's lines, one after another: each does what it says.
-use Rattle.std.proofs.Common.{◌≡◌, ℕ, Bool, true, false, cond, List, [], ◌∷◌, ◌++◌, Option, None, Some, refl, sym, ap, subst, ◌∙◌, map, append-nil, append_assoc, eqb-true}
+use Rattle.std.proofs.Common.{◌≡◌, ℕ, Bool, true, false, cond, List, [], ◌∷◌, ◌++◌, None, Some, refl, sym, ap, subst, ◌∙◌, map, append-nil, append_assoc, eqb-true}
 use Rattle.std.proofs.lemmas.List.{map-append}
 use Rattle.std.proofs.lemmas.List.Elements.{filter-append}
 use Rattle.std.proofs.lemmas.Grind.{flat_map-append}
 use Rattle.std.specs.List.{AllByRecursion, filter, flat_map}
 use Rattle.tx_events.proofs.ListSteps.{both_all, eqb-refl}
 use Rattle.tx_events.proofs.PlaceLemmas.{by_place}
-use Rattle.tx_events.specs.declared.event.Event.{Event}
-use Rattle.tx_events.specs.declared.record.Rec.{Rec}
-use Rattle.tx_events.specs.declared.refusal.Refusal.{Refusal}
-use Rattle.tx_events.specs.Events.{events_of, given}
+use Rattle.tx_events.specs.Events.{events_of}
 use Rattle.tx_events.specs.Places.{EachPlace}
 use Rattle.tx_model.specs.declared.command.Command.{Command}
 use Rattle.tx_model.specs.declared.report.Line.{Line}
@@ -17,16 +14,17 @@ use Rattle.tx_model.specs.declared.report.Step.{Step}
 use Rattle.tx_model.specs.Lines.{is_line_of, span_of, stance}
 use Rattle.tx_model.specs.Replies.{RoundSpan}
 use Rattle.tx_model.specs.Rounds.{lines_in}
-use Rattle.tx_model.specs.Stance.{Stance, after, nothing_yet, stance_from}
+use Rattle.tx_model.specs.Stance.{nothing_yet, stance_from}
 use Rattle.tx_model.proofs.LineGrowth.{stance_push}
 use Rattle.life_law.specs.Facts.{Facts}
 use Rattle.life_law.specs.Lines.{IsLawfulLine, IsLawfulRound}
 use Rattle.life_law.specs.Pending.{pending, pending_after, pending_from}
 use Rattle.life_law.specs.Refused.{refused_by}
 use Rattle.life_law.specs.Replies.{IsLawfulReply}
+use Rattle.life_law.proofs.PendingSteps.{pending_push}
 use Rattle.script_gen.proofs.Ranges.{IsDrawn}
 use Rattle.script_gen.specs.Counts.{is_verdict}
-use Rattle.gen_counts.specs.Counts.{is_failure, is_see}
+use Rattle.gen_counts.specs.Counts.{is_failure, is_told_verdict}
 use Rattle.gen_counts.proofs.Goes.{AreOf, At, IsTold, Outside, Place, goes}
 use Rattle.gen_counts.proofs.Replies.{IsWide}
 use Rattle.gen_counts.proofs.Running.{run_from, run_push, stepped}
@@ -53,19 +51,10 @@ by_line f Q none more steps each =
 pub own_push : (k : ℕ) (lines : List Line) (l : Line) (b : Bool) → is_line_of k l ≡ b → filter (is_line_of k) (lines ++ l ∷ []) ≡ filter (is_line_of k) lines ++ cond b (l ∷ []) []
 own_push k lines l b e = filter-append (is_line_of k) lines (l ∷ []) ∙ ap (λ b. filter (is_line_of k) lines ++ cond b (l ∷ []) []) e
 
-pending_from_push : (recs : List Rec) (h : List Event) (lines : List Line) (l : Line) (s : Stance) (old : Option Refusal) → pending_from recs h s old (lines ++ l ∷ []) ≡ pending_after recs (stance_from s h lines) (pending_from recs h s old lines) l.command l.reply
-pending_from_push recs h [] l s old = refl
-pending_from_push recs h (k ∷ lines) l s old = pending_from_push recs h lines l (after s k.by.command k.command k.reply (given (events_of k.by h))) (pending_after recs s old k.command k.reply)
-
-pending_push : (recs : List Rec) (h : List Event) (lines : List Line) (l : Line) → pending recs h (lines ++ l ∷ []) l.by.session ≡ pending_after recs (stance h lines l.by.session) (pending recs h lines l.by.session) l.command l.reply
-pending_push recs h lines l =
-    ap (pending_from recs h nothing_yet None) (own_push l.by.session lines l true (eqb-refl l.by.session))
-    ∙ pending_from_push recs h (filter (is_line_of l.by.session) lines) l nothing_yet None
-
 -- ---- each line of a session does what it says
 
 abbrev pub IsGood : Facts → Line → Type 0
-IsGood f l = AreOf l.command (events_of l.by f.events) × (is_verdict l.reply ≡ is_see l.command)
+IsGood f l = AreOf l.command (events_of l.by f.events) × (is_verdict l.reply ≡ is_told_verdict l.command)
 
 -- one of the script's commands, that didn't fail
 abbrev pub IsFine : Line → Type 0

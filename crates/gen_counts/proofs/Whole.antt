@@ -2,7 +2,6 @@
 use Rattle.std.proofs.Common.{◌≡◌, ℕ, ◌+◌, ◌<◌, ◌≤◌, ◌==◌, zero, suc, Bool, true, false, cond, IsTrue, List, [], ◌∷◌, ◌++◌, Some, refl, sym, ap, subst, ◌∙◌, arith, length, map}
 use Rattle.std.proofs.lemmas.List.{map-append}
 use Rattle.std.proofs.lemmas.List.Elements.{filter-append, filter_map-append, recursion_from_All}
-use Rattle.std.proofs.lemmas.List.Sums.{length-filter}
 use Rattle.std.specs.List.{AllByRecursion, count_by, filter, flat_map}
 use Rattle.tx_events.specs.declared.event.Event.{Event}
 use Rattle.tx_events.specs.Events.{by_of, events_of, given, same_by}
@@ -171,28 +170,25 @@ goods_count h p q kinds f e (l ∷ lines) a =
 kind_count : (f : Facts) (ss : List Step) (script : List Item) (p : Event → Bool) (q : Command → Bool) → ((c : Command) (es : List Event) → AreOf c es → count_by p es ≡ cond (q c) 1 0)
     → EachPlace ss (λ before step. IsLawfulRound f (flat_map lines_in before) (lines_in step)) → AllByRecursion (λ e. has_line (flat_map lines_in ss) e ≡ true) f.events
     → AllByRecursion (IsGood f) (flat_map lines_in ss) → AreSteps 1 (asked_of script) ss
-    → length (filter p f.events) ≡ length (filter q (seconds (turns_in script)))
+    → count_by p f.events ≡ count_by q (seconds (turns_in script))
 kind_count f ss script p q kinds each has goods told =
     let lines = flat_map lines_in ss in
-    length-filter p f.events ∙ sym (events_counted f ss p each f.events has)
+    sym (events_counted f ss p each f.events has)
     ∙ sum_same (λ l. count_by p (events_of l.by f.events)) (λ l. cond (q l.command) 1 0) lines (goods_count f.events p q kinds f refl lines goods)
     ∙ sym (count_map (λ (t : ℕ × Command). q t.1) turn_of lines) ∙ script_count (λ (t : ℕ × Command). q t.1) script ss told ∙ sym (count_map q (λ (t : ℕ × Command). t.1) (turns_in script))
-    ∙ sym (length-filter q (seconds (turns_in script)))
 
 -- ---- the verdicts, and the commands
 
-goods_told : (f : Facts) (lines : List Line) → AllByRecursion (IsGood f) lines → AllByRecursion (λ l. one (all.is_verdict l.reply) ≡ one (said.is_see l.command)) lines
+goods_told : (f : Facts) (lines : List Line) → AllByRecursion (IsGood f) lines → AllByRecursion (λ l. one (all.is_verdict l.reply) ≡ one (said.is_told_verdict l.command)) lines
 goods_told f [] a = tt
 goods_told f (l ∷ lines) a = (ap one a.0.1, goods_told f lines a.1)
 
 verdicts_count : (f : Facts) (ss : List Step) (script : List Item) → AllByRecursion (IsGood f) (flat_map lines_in ss) → AreSteps 1 (asked_of script) ss
-    → length (filter (λ (l : Line). all.is_verdict l.reply) (flat_map lines_in ss)) ≡ length (filter said.is_see (seconds (turns_in script)))
+    → count_by (λ (l : Line). all.is_verdict l.reply) (flat_map lines_in ss) ≡ count_by said.is_told_verdict (seconds (turns_in script))
 verdicts_count f ss script goods told =
     let lines = flat_map lines_in ss in
-    length-filter (λ (l : Line). all.is_verdict l.reply) lines
-    ∙ sum_same (λ (l : Line). one (all.is_verdict l.reply)) (λ l. one (said.is_see l.command)) lines (goods_told f lines goods)
-    ∙ sym (count_map (λ (t : ℕ × Command). said.is_see t.1) turn_of lines) ∙ script_count (λ (t : ℕ × Command). said.is_see t.1) script ss told ∙ sym (count_map said.is_see (λ (t : ℕ × Command). t.1) (turns_in script))
-    ∙ sym (length-filter said.is_see (seconds (turns_in script)))
+    sum_same (λ (l : Line). one (all.is_verdict l.reply)) (λ l. one (said.is_told_verdict l.command)) lines (goods_told f lines goods)
+    ∙ sym (count_map (λ (t : ℕ × Command). said.is_told_verdict t.1) turn_of lines) ∙ script_count (λ (t : ℕ × Command). said.is_told_verdict t.1) script ss told ∙ sym (count_map said.is_told_verdict (λ (t : ℕ × Command). t.1) (turns_in script))
 
 commands_count : (ss : List Step) (script : List Item) → AreSteps 1 (asked_of script) ss → length (flat_map lines_in ss) ≡ length (seconds (turns_in script))
 commands_count ss script told =

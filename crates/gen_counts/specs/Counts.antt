@@ -1,7 +1,7 @@
 -- What a run of a generated script must have done: what its commands say, where none was refused by a device, for a full
 -- log or for want of memory.
 use Rattle.std.specs.Prelude.{◌≡◌, ℕ, ◌≤◌, Bool, true, false, List, length, map}
-use Rattle.std.specs.List.{AllByRecursion, flat_map}
+use Rattle.std.specs.List.{AllByRecursion, count_by, flat_map}
 use Rattle.tx_events.specs.declared.refusal.Refusal.TheVariants as refusals
 use Rattle.tx_model.specs.declared.command.Command.{Command}
 use Rattle.tx_model.specs.declared.command.Command.TheVariants as commands
@@ -10,11 +10,13 @@ use Rattle.tx_model.specs.declared.reply.Reply.TheVariants as replies
 use Rattle.tx_model.specs.declared.report.LifeReport.{LifeReport}
 use Rattle.tx_model.specs.Rounds.{BeginsLog, lines_in}
 use Rattle.life_law.specs.LawfulLife.{IsLawfulLife}
+pub use Rattle.life_law.specs.Laws.{is_commit}
+pub use Rattle.life_law.specs.Replies.{is_told_verdict}
 use Rattle.session_lang.specs.declared.script.Item.{Item}
 use Rattle.session_lang.specs.Rounds.{asked_of}
 use Rattle.run_law.specs.Turns.{turns_in}
 use Rattle.script_gen.specs.declared.summary.Summary.{Summary}
-use Rattle.script_gen.specs.Counts.{how_many, life_summary, summary_text}
+use Rattle.script_gen.specs.Counts.{life_summary, summary_text}
 use Rattle.script_gen.specs.Generated.{generated}
 use Rattle.script_gen.specs.Laws.{most_transactions}
 use Rattle.script_gen.specs.Summaries.{IsSummaryOf}
@@ -38,10 +40,6 @@ abbrev pub is_undo : Command → Bool
 is_undo commands.Undo = true
 is_undo command = false
 
-abbrev pub is_commit : Command → Bool
-is_commit commands.Commit = true
-is_commit command = false
-
 abbrev pub is_abort : Command → Bool
 is_abort commands.Abort = true
 is_abort command = false
@@ -50,20 +48,16 @@ abbrev pub is_snap : Command → Bool
 is_snap (commands.Snap name) = true
 is_snap command = false
 
-abbrev pub is_see : Command → Bool
-is_see (commands.See name x) = true
-is_see command = false
-
 -- each write gives one id, each savepoint that is rolled back has one, and so has each transaction that ends
 abbrev pub summary_of_commands : List Command → Summary
 summary_of_commands all = record {
   commands = length all;
-  ids = how_many is_write all;
-  undone = how_many is_undo all;
-  commits = how_many is_commit all;
-  aborts = how_many is_abort all;
-  snaps = how_many is_snap all;
-  sees = how_many is_see all;
+  ids = count_by is_write all;
+  undone = count_by is_undo all;
+  commits = count_by is_commit all;
+  aborts = count_by is_abort all;
+  snaps = count_by is_snap all;
+  sees = count_by is_told_verdict all;
 }
 
 abbrev pub commands_in : List Item → List Command

@@ -108,17 +108,18 @@ IsFiled e = Unit {0}
 abbrev IsTopAt : ℕ → ℕ → Type 0
 IsTopAt i id = ((i ≡ 0) × (id ≡ 4)) ⊎ ((i ≡ 1) × (id ≡ 3))
 
-its_log : IsLogOf 0 (records.Checkpoint 0 worked_base) worked_events (recs_with both_records) 2 80
+its_log : IsLogOf 0 worked_base worked_events (recs_with both_records) 2 80
 its_log = record {
   rest = both_records;
   split = refl;
   begun = omega arith;
   within = omega arith;
-  each = λ rec k. ⊎_elim (λ (e : records.Commit 4 [] ≡ rec). subst (IsRecordOf worked_events) e ended)
-      (λ t. ⊎_elim (λ (e : records.Commit 3 [] ≡ rec). subst (IsRecordOf worked_events) e opened) (λ none. absurd none) t)
+  each = λ rec k. ⊎_elim (λ (e : records.Commit 4 [] ≡ rec). subst (IsRecordOf worked_base worked_events) e ended)
+      (λ t. ⊎_elim (λ (e : records.Commit 3 [] ≡ rec). subst (IsRecordOf worked_base worked_events) e opened) (λ none. absurd none) t)
       (contains_has both_records rec k);
   once = λ i j id a b e f s t. apart i j id (top_at i a id e s) (top_at j b id f t);
   committed = filed;
+  count = omega arith;
   gate = omega arith;
 }
   where

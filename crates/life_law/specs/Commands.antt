@@ -17,6 +17,7 @@ has_command (commands.DropSnap name) = true
 has_command (commands.See name x) = true
 has_command (commands.Status x) = true
 has_command (commands.Did x) = true
+has_command (commands.Freeze oldest) = true
 has_command _ = false
 
 -- whether a command makes a level, which may be given an id

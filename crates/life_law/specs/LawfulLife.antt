@@ -1,7 +1,6 @@
 -- Which lives are lawful.
 use Rattle.std.specs.Prelude.{◌≡◌, ℕ, ◌≤◌, Bool, IsTrue, List, []}
 use Rattle.std.specs.List.{All, flat_map}
-use Rattle.tx_events.specs.declared.record.Rec.TheVariants as records
 use Rattle.tx_events.specs.History.{IsLegal}
 use Rattle.tx_events.specs.Places.{EachPlace}
 use Rattle.tx_model.specs.declared.report.Life.{Life}
@@ -36,9 +35,9 @@ pub record AreLawfulSteps (f : Facts) (steps : List Step) : Type 0 where
   pub no_other : All (λ e. IsTrue (has_line (flat_map lines_in steps) e)) f.events
 
 -- One legal history, round by round; the steps are what was asked, each line lawful, and each dump between two rounds; no
--- multixact; the log of these ends, and of a transaction that is still open no more than its session's lines tell. The
--- log's volume fails a command once at most, since the log stays down. Each store has so many banks, and verdicts are told
--- where the volumes tell.
+-- multixact; the log of these ends, with truncations to announced ids, and of a transaction that is still open no more
+-- than its session's lines tell. The log's volume fails a command once at most, since the log stays down. Each store has
+-- so many banks, and verdicts are told where the volumes tell.
 pub record IsLawfulLife (tells : Bool) (banks : ℕ) (asked : List Asked) (r : LifeReport) : Type 0 where
   pub history : IsLegal r.life.base r.life.events
   pub told : AreSteps 1 asked r.steps
@@ -46,6 +45,6 @@ pub record IsLawfulLife (tells : Bool) (banks : ℕ) (asked : List Asked) (r : L
   pub lawful : AreLawfulSteps (facts_of tells banks r.life (flat_map lines_in r.steps)) r.steps
   pub dumps : AreLawfulDumps (facts_of tells banks r.life (flat_map lines_in r.steps)) r.steps
   pub multis : r.life.multis ≡ []
-  pub log : IsLogOf r.life.from (records.Checkpoint r.life.from r.life.base) r.life.events r.life.recs r.life.flushed r.life.end
+  pub log : IsLogOf r.life.from r.life.base r.life.events r.life.recs r.life.flushed r.life.end
   pub opened : (session : ℕ) → IsOpenAsTold r.life.recs r.life.events (flat_map lines_in r.steps) session
   pub log_fails_once : log_faults (flat_map lines_in r.steps) ≤ 1

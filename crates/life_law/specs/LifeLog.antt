@@ -4,6 +4,7 @@ use Rattle.std.specs.Prelude.{◌≡◌, ℕ, ◌+◌, ◌-◌, ◌^◌, ◌<◌
 use Rattle.tx_events.specs.declared.event.By.{By}
 use Rattle.tx_events.specs.declared.event.Event.{Event}
 use Rattle.tx_events.specs.declared.event.Event.TheVariants as events
+use Rattle.tx_events.specs.declared.record.Counters.{Counters}
 use Rattle.tx_events.specs.declared.record.Rec.{Rec}
 use Rattle.tx_events.specs.declared.record.Rec.TheVariants as records
 use Rattle.tx_events.specs.declared.xact_end.XactEnd.{XactEnd}
@@ -21,11 +22,18 @@ pub record IsTransaction (h : List Event) (how : XactEnd) (top : ℕ) (subs : Li
       ⊎ ((p : ℕ) × (by : By) × (by.session ≡ session) × (slice_get h p ≡ Some (end_event how by top))
       × (open_ids session (take p h) ≡ top ∷ subs))
 
--- a commit or an abort names a transaction whole
-abbrev pub IsRecordOf : List Event → Rec → Type 0
-IsRecordOf h (records.Commit top subs) = IsTransaction h ends.Commit top subs
-IsRecordOf h (records.Abort top subs) = IsTransaction h ends.Abort top subs
-IsRecordOf h _ = ⊥
+-- an oldest id that the life announced, or with which it began
+abbrev pub IsAnnounced : Counters → List Event → ℕ → Type 0
+IsAnnounced base h oldest = (oldest ≡ base.oldest) ⊎ ((by : By) × Contains h (events.Oldest by oldest))
+
+-- A commit or an abort names a transaction whole. A truncation names an oldest id that was announced, and the oldest
+-- multixact and offset with which the life began.
+abbrev pub IsRecordOf : Counters → List Event → Rec → Type 0
+IsRecordOf base h (records.Commit top subs) = IsTransaction h ends.Commit top subs
+IsRecordOf base h (records.Abort top subs) = IsTransaction h ends.Abort top subs
+IsRecordOf base h (records.Truncate oldest multi offset) =
+    IsAnnounced base h oldest × (multi ≡ base.oldest_multi) × (offset ≡ base.oldest_offset)
+IsRecordOf base h _ = ⊥
 
 -- the top that the record ends
 abbrev pub ends_top : Rec → ℕ → Type 0
@@ -37,15 +45,17 @@ ends_top _ id = ⊥
 abbrev pub IsAmong : ℕ → List Rec → Rec → Type 0
 IsAmong n recs rec = Contains (take n recs) rec
 
--- The life's records: first the one with which it begins, then at most one of each transaction, each of them whole. A
--- transaction that committed has its record, and that is flushed. The next gate's position has 64 bits.
-pub record IsLogOf (from : ℕ) (first : Rec) (h : List Event) (recs : List Rec) (flushed end : ℕ) : Type 0 where
+-- The life's records: first the checkpoint of its base, then at most one of each transaction, each of them whole, and
+-- truncations. A transaction that committed has its record, and that is flushed. The next record's number and the next
+-- gate's position have 64 bits.
+pub record IsLogOf (from : ℕ) (base : Counters) (h : List Event) (recs : List Rec) (flushed end : ℕ) : Type 0 where
   pub rest : List Rec
-  pub split : recs ≡ first ∷ rest
+  pub split : recs ≡ records.Checkpoint from base ∷ rest
   pub begun : from < flushed
   pub within : flushed ≤ from + length recs
-  pub each : (rec : Rec) → Contains rest rec → IsRecordOf h rec
+  pub each : (rec : Rec) → Contains rest rec → IsRecordOf base h rec
   pub once : (i j id : ℕ) (a b : Rec) → slice_get rest i ≡ Some a → slice_get rest j ≡ Some b → ends_top a id → ends_top b id → i ≡ j
   pub committed : (p top : ℕ) (by : By) → slice_get h p ≡ Some (events.Commit by top)
       → IsAmong (flushed - from) recs (records.Commit top (drop 1 (open_ids by.session (take p h))))
+  pub count : from + length recs < 2 ^ 64
   pub gate : end < 2 ^ 64

@@ -58,6 +58,7 @@ may_lack_memory commands.Write s pending = lacks_id s
 may_lack_memory commands.Commit s pending = is_unrecorded s pending
 may_lack_memory (commands.Snap name) s pending = true
 may_lack_memory (commands.Status x) s pending = nat_le 3 x
+may_lack_memory (commands.Freeze oldest) s pending = true
 may_lack_memory command s pending = false
 
 -- whether it must append a record, and so may find the log full

@@ -1,8 +1,9 @@
 -- What the critical sections of the log need, and leave.
-use Rattle.std.specs.Prelude.{◌≡◌, ◌⊎◌, ℕ, ◌<◌, ◌≤◌, List, ◌∷◌, Result, Ok, Err}
+use Rattle.std.specs.Prelude.{◌≡◌, ◌⊎◌, ℕ, ◌<◌, ◌≤◌, List, Result, Ok, Err}
 use Rattle.notes.specs.Lists.{at}
 use Rattle.tx_events.specs.declared.event.By.{By}
 use Rattle.tx_events.specs.declared.record.Rec.{Rec}
+use Rattle.tx_events.specs.declared.record.Rec.TheVariants as records
 use Rattle.tx_events.specs.declared.refusal.Refusal.{Refusal}
 use Rattle.tx_events.specs.declared.refusal.Refusal.TheVariants as refusals
 use Rattle.tx_core.specs.declared.entry.Entry.{Entry}
@@ -11,6 +12,7 @@ use Rattle.tx_core.specs.declared.entry.Start.{Start}
 use Rattle.tx_core.specs.Entries.{Stands}
 use Rattle.tx_core.specs.Laws.{StaysBase}
 use Rattle.tx_core.specs.Locks.{log_lock}
+use Rattle.tx_core.specs.RecordsFollow.{IsMultiAnnounced, IsOldestAnnounced}
 use Rattle.wal_core.specs.declared.refusal.LogRefusal.{LogRefusal}
 use Rattle.wal_core.specs.declared.refusal.LogRefusal.TheVariants as refused
 use Rattle.wal_records.specs.Spelling.{IsLawful}
@@ -54,6 +56,21 @@ abbrev pub TakesAbort : Start → List (List Entry) → Rec → Session → Sess
 TakesAbort start lists rec s s' (Ok (came.At number)) = s' ≡ record s { stage = stages.Aborting }
 TakesAbort start lists rec s s' (Ok came.NoBase) = (s' ≡ s) × (IsLawful rec → StaysBase start lists rec → ⊥)
 TakesAbort start lists rec s s' (Err r) = (s' ≡ s) × IsAppendRefused start lists r
+
+-- the record is a truncation's, of an oldest id and an oldest multixact that were announced
+pub record IsTruncationOf (start : Start) (lists : List (List Entry)) (rec : Rec) : Type 0 where
+  pub oldest : ℕ
+  pub multi : ℕ
+  pub offset : ℕ
+  pub is : rec ≡ records.Truncate oldest multi offset
+  pub id : IsOldestAnnounced start lists oldest
+  pub first : IsMultiAnnounced start lists multi offset
+
+-- A truncation's record stands. Or after it, if it is lawful, the log's counters would be no base, or the log refused it.
+abbrev pub TakesTruncation : Start → List (List Entry) → Rec → Result Appended Refusal → Type 0
+TakesTruncation start lists rec (Ok (came.At number)) = Unit {0}
+TakesTruncation start lists rec (Ok came.NoBase) = IsLawful rec → StaysBase start lists rec → ⊥
+TakesTruncation start lists rec (Err r) = IsAppendRefused start lists r
 
 -- the critical section: its entry is the record that was appended, or a look
 abbrev pub AppendSection : Start → By → Rec → Knowledge → Knowledge → Result Appended Refusal → Type 0

@@ -39,7 +39,7 @@ pub enum Appended {
 fn leave_appended<L: LogDisk, P: PageDisk>(
     hall: &Hall<EngineLaw<L, P>>,
     caller: &mut Caller<L, P>,
-    log: WalLog<L>,
+    log: Box<WalLog<L>>,
     rec: &Rec,
     number: u64,
 )
@@ -55,7 +55,7 @@ fn leave_appended<L: LogDisk, P: PageDisk>(
     requires unasked { AreUnasked (view caller.old.pass).seen caller.old.number
         caller.old.session.levels.open_ids.items }
     requires base { StaysBase (start_of hall.now) (view caller.old.pass).seen rec.now }
-    requires stands { IsLogOf (start_of hall.now) log
+    requires stands { IsLogOf (start_of hall.now) log.value
         (at (view caller.old.pass).seen log_lock ++ record {
           by = by_at caller.old.number caller.old.session.levels.commands;
           kind = kinds.Append rec.now;
@@ -102,18 +102,19 @@ pub fn append_commit<R: Wait, L: LogDisk, P: PageDisk>(
         caller.new.session result }
     ensures number { caller.new.number ≡ caller.old.number }
 {
-    let mut log = enter_log(rt, hall, caller);
+    let mut held = enter_log(rt, hall, caller);
+    let log = &mut *held;
     if !log.may_append(rec) {
-        leave_looked(hall, caller, 0, Part::Log(log));
+        leave_looked(hall, caller, 0, Part::Log(held));
         return Ok(Appended::NoBase);
     }
     match log.append(rec) {
         Ok(number) => {
-            leave_appended(hall, caller, log, rec, number);
+            leave_appended(hall, caller, held, rec, number);
             Ok(Appended::At { number })
         }
         Err(refusal) => {
-            leave_looked(hall, caller, 0, Part::Log(log));
+            leave_looked(hall, caller, 0, Part::Log(held));
             Err(refusal_of(refusal))
         }
     }

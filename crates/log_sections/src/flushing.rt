@@ -39,7 +39,7 @@ fn flush_note(by: By, to: u64) -> Note<Entry>
 fn leave_flushed<L: LogDisk, P: PageDisk>(
     hall: &Hall<EngineLaw<L, P>>,
     caller: &mut Caller<L, P>,
-    log: WalLog<L>,
+    log: Box<WalLog<L>>,
     to: u64,
 )
     requires own { IsOf hall.now caller.old.pass }
@@ -50,7 +50,7 @@ fn leave_flushed<L: LogDisk, P: PageDisk>(
     requires rises { flushed_to (start_of hall.now) (at (view caller.old.pass).seen log_lock) ≤ to }
     requires up { IsUp (at (view caller.old.pass).seen log_lock) }
     requires within { to ≤ (start_of hall.now).from + length (records_of (view caller.old.pass).seen) }
-    requires stands { IsLogOf (start_of hall.now) log
+    requires stands { IsLogOf (start_of hall.now) log.value
         (at (view caller.old.pass).seen log_lock ++ record {
           by = by_at caller.old.number caller.old.session.levels.commands;
           kind = kinds.Flush to;
@@ -71,7 +71,7 @@ fn leave_flushed<L: LogDisk, P: PageDisk>(
 fn leave_failed<L: LogDisk, P: PageDisk>(
     hall: &Hall<EngineLaw<L, P>>,
     caller: &mut Caller<L, P>,
-    log: WalLog<L>,
+    log: Box<WalLog<L>>,
 )
     requires own { IsOf hall.now caller.old.pass }
     requires laid { hall.now.cells ≡ 3 + 4 * (start_of hall.now).banks }
@@ -81,19 +81,19 @@ fn leave_failed<L: LogDisk, P: PageDisk>(
     requires up { IsUp (at (view caller.old.pass).seen log_lock) }
     requires risen { HasRisen
         (faults_told (start_of hall.now) log_lock (at (view caller.old.pass).seen log_lock))
-        (L.faults (log_disk log)) }
-    requires stands { IsLogOf (start_of hall.now) log
+        (L.faults (log_disk log.value)) }
+    requires stands { IsLogOf (start_of hall.now) log.value
         (at (view caller.old.pass).seen log_lock
-        ++ flush_fault_by (by_at caller.old.number caller.old.session.levels.commands) (L.faults (log_disk log)) ∷ []) }
+        ++ flush_fault_by (by_at caller.old.number caller.old.session.levels.commands) (L.faults (log_disk log.value)) ∷ []) }
     ensures own { IsOf hall.now caller.new.pass }
     ensures ready { IsReady (start_of hall.now) (view caller.new.pass) caller.new.number caller.new.session }
     ensures left { Leaves (start_of hall.now) log_lock
-        (flush_fault_by (by_at caller.old.number caller.old.session.levels.commands) (L.faults (log_disk log)))
+        (flush_fault_by (by_at caller.old.number caller.old.session.levels.commands) (L.faults (log_disk log.value)))
         (view caller.old.pass) (view caller.new.pass) }
     ensures same { (caller.new.session ≡ caller.old.session) × (caller.new.number ≡ caller.old.number) }
 {
     let by = command_of(caller);
-    let entry = flush_fault_note(by, &log);
+    let entry = flush_fault_note(by, &*log);
     leave_quiet(hall, caller, 0, Part::Log(log), entry);
 }
 
@@ -125,23 +125,24 @@ pub fn flush_log<R: Wait, L: LogDisk, P: PageDisk>(
         (by_at caller.old.number caller.old.session.levels.commands) number) }
     ensures same { (caller.new.session ≡ caller.old.session) × (caller.new.number ≡ caller.old.number) }
 {
-    let mut log = enter_log(rt, hall, caller);
+    let mut held = enter_log(rt, hall, caller);
+    let log = &mut *held;
     if log.flushed() > number {
-        leave_looked(hall, caller, 0, Part::Log(log));
+        leave_looked(hall, caller, 0, Part::Log(held));
         return Ok(());
     }
     let next = log.next();
     match log.flush() {
         Ok(()) => {
-            leave_flushed(hall, caller, log, next);
+            leave_flushed(hall, caller, held, next);
             Ok(())
         }
         Err(refusal) => {
             if let LogRefusal::LogFault = refusal {
-                leave_failed(hall, caller, log);
+                leave_failed(hall, caller, held);
                 return Err(Refusal::LogFault);
             }
-            leave_looked(hall, caller, 0, Part::Log(log));
+            leave_looked(hall, caller, 0, Part::Log(held));
             Err(refusal_of(refusal))
         }
     }

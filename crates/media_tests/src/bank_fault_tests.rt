@@ -320,3 +320,46 @@ log flushed 34 end ",
     }
     Ok(())
 }
+
+/// A dump of a page that can't be read tells the fault. A commit without subtransactions asks no page of parents.
+#[test]
+fn a_dump_over_a_bank_that_fails(rt: HostRuntime) -> Result<(), Fail> {
+    check_ways(
+        &rt,
+        "a begin
+.dump subtrans 0 0 4
+a write
+a commit
+",
+        Which::Subtrans(0),
+        4,
+        &[
+            "device\n",
+            "
+dump subtrans 0 0 4 -> disk-fault subtrans 0
+round 2
+a 2 write -> ok 3
+a 3 commit -> ok
+history
+",
+            "
+dump subtrans 0 0 4 -> 00 00 00 00
+round 2
+a 2 write -> ok 3
+a 3 commit -> ok
+history
+",
+        ],
+    )?;
+    check_ways(
+        &rt,
+        ".dump xact 4 0 1\n",
+        Which::Xact(0),
+        8,
+        &[
+            "device\n",
+            "\ndump xact 4 0 1 -> disk-fault xact 0\nhistory\n",
+            "\ndump xact 4 0 1 -> 00\nhistory\n",
+        ],
+    )
+}

@@ -1,6 +1,6 @@
 //! Runs over devices that fail: one volume passes so many calls, and then fails each. Opening a life makes eight calls on
 //! the log's volume, and each flush four.
-use crate::run_help::run_fused;
+use crate::run_help::{generate_fused, run_fused};
 use disk_core::Which;
 use std::alloc::AllocGlobal;
 use std::process::Abort;
@@ -207,4 +207,61 @@ log flushed 1 end 62
 end
 ",
     )
+}
+
+/// A dump that met a fault doesn't put the log down: the commit behind it is told of a fault, and not that the log is down.
+#[test]
+fn a_dump_over_a_log_that_fails(rt: HostRuntime) -> Result<(), Fail> {
+    for (passes, first) in [(8, "log-fault"), (9, "01")] {
+        let report = format!(in rt.alloc();
+            "txid report 1
+life 1 from 0 next 3 oldest 3 multi 1 offset 1 oldest-multi 1 oldest-offset 1
+round 1
+a 1 begin -> ok
+a 2 write -> ok 3
+dump log 0 1 -> {first}
+round 2
+a 3 commit -> log-fault
+dump log 0 1 -> log-fault
+history
+id a 2 3
+multis
+log flushed 1 end 62
+0 checkpoint next 3 oldest 3 multi 1 offset 1 oldest-multi 1 oldest-offset 1
+1 commit 3
+end
+"
+        )?;
+        check_fused(
+            &rt,
+            "a begin
+a write
+.dump log 0 1
+a commit
+.dump log 0 1
+",
+            Which::Log,
+            passes,
+            report.as_str(),
+        )?;
+    }
+    Ok(())
+}
+
+/// The line of a generated script counts what was done: no commit whose flush failed.
+#[test]
+fn a_generated_script_over_a_log_that_fails(rt: HostRuntime) -> Result<(), Fail> {
+    for passes in 0..14 {
+        let (status, held) = generate_fused(&rt, Which::Log, passes)?;
+        let line = if passes < 8 {
+            "device\n"
+        } else if passes < 12 {
+            "commands 15 ids 4 undone 2 commits 0 aborts 0 snaps 1 sees 1\n"
+        } else {
+            "commands 15 ids 4 undone 2 commits 1 aborts 0 snaps 1 sees 1\n"
+        };
+        assert_eq!(rt; held.as_str(), line, "{passes} calls");
+        assert_eq!(rt; status, if passes < 8 { 5 } else { 0 }, "{passes} calls");
+    }
+    Ok(())
 }

@@ -4,7 +4,7 @@ ghost use Rattle.std.specs.Prelude.{IsTrue};
 use disk_core::{Media, MemMedia, Which};
 use disk_fuse::Fuse;
 use session_run::run_tool;
-use std::alloc::AllocGlobal;
+use std::alloc::{AllocGlobal, Global};
 use std::sync::Wait;
 use std::test::Fail;
 use std::thread::Threads;
@@ -29,10 +29,20 @@ where
     run_tool(rt, rt.alloc(), words, source, sink, media, threads)
 }
 
-/// Runs a script over a media, the sessions of a round on at most so many threads. Answers the status and what was
-/// written.
-pub fn run_over<M: Media>(
+/// The words of a command line.
+fn words_of(alloc: Global, words: &[&str]) -> Result<Vec<String>, Fail> {
+    let mut all = Vec::new(alloc);
+    for word in words {
+        all.push(String::from_str(alloc, *word)?)?;
+    }
+    Ok(all)
+}
+
+/// Runs the tool with these words on a script over a media, the sessions of a round on at most so many threads. Answers
+/// the status and what was written.
+fn run_words<M: Media>(
     rt: &(impl AllocGlobal + Threads + Wait + Sync),
+    words: &[&str],
     script: &str,
     media: &mut M,
     threads: usize,
@@ -47,13 +57,29 @@ where
     let bytes = Vec::from_slice(alloc, script.as_bytes())?;
     let mut source = MemSource::new(bytes, Vec::new(alloc));
     let mut sink = MemSink::new(alloc, 4_000_000, Vec::new(alloc))?;
-    let words = [String::from_str(alloc, "run")?];
-    let status = status_over(rt, &words, &mut source, &mut sink, media, threads);
+    let words = words_of(alloc, words)?;
+    let status = status_over(rt, words.as_slice(), &mut source, &mut sink, media, threads);
     let held = Vec::from_slice(alloc, sink.held())?;
     Ok((
         status,
         String::from_utf8(held).ok().ok_or("no text was written")?,
     ))
+}
+
+/// Runs a script over a media.
+pub fn run_over<M: Media>(
+    rt: &(impl AllocGlobal + Threads + Wait + Sync),
+    script: &str,
+    media: &mut M,
+    threads: usize,
+) -> Result<(u8, String), Fail>
+where
+    M::Log: Sync,
+    M::Pages: Sync,
+    requires idle { IsTrue (M.is_idle media.old) }
+    requires new { IsTrue (M.is_new media.old) }
+{
+    run_words(rt, &["run"], script, media, threads)
 }
 
 /// Runs a script over a new media in memory.
@@ -77,4 +103,15 @@ pub fn run_fused(
     let alloc = rt.alloc();
     let mut media = Fuse::new(alloc, MemMedia::new(alloc), at, passes);
     run_over(rt, script, &mut media, threads)
+}
+
+/// Runs the generated script of seed 1 and size 1 over a media of which this volume passes so many calls.
+pub fn generate_fused(
+    rt: &(impl AllocGlobal + Threads + Wait + Sync),
+    at: Which,
+    passes: u64,
+) -> Result<(u8, String), Fail> {
+    let alloc = rt.alloc();
+    let mut media = Fuse::new(alloc, MemMedia::new(alloc), at, passes);
+    run_words(rt, &["gen", "1", "1"], "", &mut media, 4)
 }

@@ -3,3 +3,4 @@ pub mod Naming
 pub mod Closing
 pub mod Cutting
 pub mod Questions
+pub mod Announced

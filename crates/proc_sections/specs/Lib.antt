@@ -3,3 +3,4 @@ pub mod Endings
 pub mod Undos
 pub mod Askings
 pub mod Horizons
+pub mod Announcements

@@ -44,15 +44,16 @@ pub fn ask_status<R: Wait, L: LogDisk, P: PageDisk>(
     ensures same { (caller.new.session ≡ caller.old.session) × (caller.new.number ≡ caller.old.number) }
 {
     let by = command_of(caller);
-    let mut table = enter_proc(rt, hall, caller);
+    let mut held = enter_proc(rt, hall, caller);
+    let table = &mut *held;
     match table.ask(by, x) {
         Ok(asked) => {
             let entry = ask_note(by, x);
-            leave_proc(hall, caller, table, entry);
+            leave_proc(hall, caller, held, entry);
             Ok(asked)
         }
         Err(Memory) => {
-            leave_looked(hall, caller, 1, Part::Proc(table));
+            leave_looked(hall, caller, 1, Part::Proc(held));
             Err(Memory)
         }
     }

@@ -47,10 +47,11 @@ pub fn end_transaction<R: Wait, L: LogDisk, P: PageDisk>(
         command: caller.session.levels.commands,
     };
     let top = caller.session.levels.open_ids[0];
-    let mut table = enter_proc(rt, hall, caller);
+    let mut held = enter_proc(rt, hall, caller);
+    let table = &mut *held;
     table.end(by, top, how);
     let entry = Note::by(&(by, top, how));
-    leave_proc(hall, caller, table, entry);
+    leave_proc(hall, caller, held, entry);
     caller.session.levels.level_ids.clear();
     caller.session.levels.unnamed = 0;
     caller.session.levels.open_ids.clear();

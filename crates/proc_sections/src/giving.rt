@@ -66,7 +66,7 @@ fn unlinked_id(id: FullXid, parent: &Option<FullXid>) -> Option<Unlinked>
 fn name_level<L: LogDisk, P: PageDisk>(
     hall: &Hall<EngineLaw<L, P>>,
     caller: &mut Caller<L, P>,
-    table: ProcTable,
+    table: Box<ProcTable>,
     by: By,
     parent: &Option<FullXid>,
     id: FullXid,
@@ -81,7 +81,7 @@ fn name_level<L: LogDisk, P: PageDisk>(
     requires may { MayCome (start_of hall.now).base (history (view caller.old.pass).seen) (giving by parent.now id) }
     requires made { IsMade (start_of hall.now) (view caller.old.pass).seen id
         × IsTold (start_of hall.now) (at (view caller.old.pass).seen proc_lock) id }
-    requires table { ProcStands (start_of hall.now) table
+    requires table { ProcStands (start_of hall.now) table.value
         (at (view caller.old.pass).seen proc_lock ++ record {
           by = by;
           kind = kinds.Event
@@ -139,18 +139,19 @@ pub fn give_id<R: Wait, L: LogDisk, P: PageDisk>(
         command: caller.session.levels.commands,
     };
     let parent = innermost_id(&caller.session);
-    let mut table = enter_proc(rt, hall, caller);
-    let given = match next_id(&mut table, by, &parent) {
+    let mut held = enter_proc(rt, hall, caller);
+    let table = &mut *held;
+    let given = match next_id(table, by, &parent) {
         Ok(given) => given,
         Err(refusal) => {
-            leave_looked(hall, caller, 1, Part::Proc(table));
+            leave_looked(hall, caller, 1, Part::Proc(held));
             return Err(refusal);
         }
     };
     if let Given::Id { id, .. } = &given {
-        name_level(hall, caller, table, by, &parent, *id);
+        name_level(hall, caller, held, by, &parent, *id);
         return Ok(given);
     }
-    leave_looked(hall, caller, 1, Part::Proc(table));
+    leave_looked(hall, caller, 1, Part::Proc(held));
     Ok(given)
 }

@@ -47,8 +47,9 @@ pub fn tell_made<R: Wait, L: LogDisk, P: PageDisk>(
     ensures same { (caller.new.session ≡ caller.old.session) × (caller.new.number ≡ caller.old.number) }
 {
     let by = command_of(caller);
-    let mut table = enter_proc(rt, hall, caller);
+    let mut held = enter_proc(rt, hall, caller);
+    let table = &mut *held;
     table.made(id);
     let entry = made_note(by, id);
-    leave_quiet(hall, caller, 1, Part::Proc(table), entry);
+    leave_quiet(hall, caller, 1, Part::Proc(held), entry);
 }

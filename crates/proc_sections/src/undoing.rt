@@ -83,10 +83,11 @@ pub fn undo_savepoint<R: Wait, L: LogDisk, P: PageDisk>(
         command: caller.session.levels.commands,
     };
     let from = place_of(&caller.session.levels.open_ids, id);
-    let mut table = enter_proc(rt, hall, caller);
+    let mut held = enter_proc(rt, hall, caller);
+    let table = &mut *held;
     table.undo(by, id, &caller.session.levels.open_ids[from..]);
     let entry = undo_note(by, id);
-    leave_proc(hall, caller, table, entry);
+    leave_proc(hall, caller, held, entry);
     let _id = caller.session.levels.level_ids.pop();
     caller.session.levels.open_ids.truncate(from);
     caller.session.stage = Stage::Clear;

@@ -366,6 +366,13 @@ impl ProcTable {
         self.latest_completed.advance()
     }
 
+    /// The base of the life.
+    pub fn base(&self) -> Counters
+        ensures { result ≡ self.now.base }
+    {
+        self.base.same()
+    }
+
     /// The history so far, which is legal.
     pub fn events(&self) -> &[Event]
         ensures value { result.now ≡ self.now.events }

@@ -18,6 +18,8 @@ pub mod LogBegins
 pub mod WorkedLife
 pub mod WorkedRestored
 pub mod LogSteps
+pub mod LogEnds
 pub mod WorkedBank
 pub mod NewBegins
 pub mod Settled
+pub mod Crashed

@@ -25,7 +25,7 @@ recs_more es e o is =
 
 module _ {A : Type 0} where
   -- what stands at a place of a list stands there in a longer one
-  get_front : (xs ys : List A) (j : ℕ) → j < length xs → slice_get (xs ++ ys) j ≡ slice_get xs j
+  pub get_front : (xs ys : List A) (j : ℕ) → j < length xs → slice_get (xs ++ ys) j ≡ slice_get xs j
   get_front [] ys j lt = absurd (omega arith)
   get_front (x ∷ xs) ys zero lt = refl
   get_front (x ∷ xs) ys (suc j) lt = get_front xs ys j (omega arith)

@@ -8,7 +8,7 @@ use Rattle.recoverable.specs.LifeBase.{AreInOrder, LifeBase, base_after}
 use Rattle.tx_events.specs.declared.record.Counters.{Counters}
 use Rattle.tx_events.specs.declared.record.Rec.TheVariants as records
 use Rattle.tx_core.specs.declared.entry.Kind.TheVariants as kinds
-use Rattle.recoverable.specs.Laws.{life_base}
+use Rattle.recoverable.specs.Laws.{LogOf, life_base}
 use Rattle.recoverable.specs.Volumes.{IsWholeAt}
 use Rattle.recoverable.specs.Whole.{NewBegins, NewLogBegins, new_log}
 use Rattle.recoverable.proofs.Settled.{checkpoint_settles}
@@ -78,18 +78,19 @@ new_whole start number n low high counters stands =
     counters_of : {m n : ℕ} {a b : Counters} → Some (records.Checkpoint m a) ≡ Some (records.Checkpoint n b) → a ≡ b
     counters_of e = cc
 
+-- it is the log of the life that begins behind it
+pub new_log_of : (start : Start) (number : ℕ) → start.from ≡ number + 1 → LogOf start [] (new_log start number)
+new_log_of start number next = record {
+  before = (new_log start number).recs;
+  recs = refl;
+  from = next;
+  base = checkpoint_settles (life_base start) number;
+  some = omega arith;
+  whole = λ n low high. new_whole start number n low (omega arith);
+  begun = omega arith;
+  upto = omega arith;
+  flushed = λ to stands. absurd (contains_has [] (record { by = stands.0; kind = kinds.Flush to }) stands.1);
+}
+
 pub new_log_begins : NewLogBegins
-new_log_begins start number v next has = (
-  record {
-    before = (new_log start number).recs;
-    recs = refl;
-    from = next;
-    base = checkpoint_settles (life_base start) number;
-    some = omega arith;
-    whole = λ n low high. new_whole start number n low (omega arith);
-    begun = omega arith;
-    upto = omega arith;
-    flushed = λ to stands. absurd (contains_has [] (record { by = stands.0; kind = kinds.Flush to }) stands.1);
-  },
-  record { kept = number; opens = has; forgotten = inl (omega arith) },
-)
+new_log_begins start number v next has = (new_log_of start number next, record { kept = number; opens = has; forgotten = inl (omega arith) })

@@ -1,8 +1,9 @@
 ghost use Rattle.recoverable.specs.Laws.{ListFitsLaw, MayBeginLaw, XactFitsLaw, OffsetsShownLaw, OffsetsFitLaw, MembersFitLaw, NoStrayOffset};
 ghost use Rattle.recoverable.specs.Stored.{OffsetBytesShow, MemberBytesShow};
 ghost use Rattle.recoverable.specs.Volumes.{RecoverySettles, RefusalKeeps};
+ghost use Rattle.recoverable.specs.Clusters.{CrashKeepsFit};
 ghost use Rattle.recoverable.specs.Whole.{ImageFitsLaw, LogBegins, NewBegins, NewLogBegins, VolumesFitLaw};
-ghost use Rattle.recoverable.specs.LogSteps.{LogGoesOn};
+ghost use Rattle.recoverable.specs.LogSteps.{LogEnds, LogGoesOn};
 ghost use Rattle.recoverable.specs.WorkedLife.{AreRefused, IsRestored, IsWorked};
 ghost use Rattle.recoverable.specs.WorkedBank.{WorkedBank};
 
@@ -65,6 +66,12 @@ pub fn volumes_fit<L: LogDisk, P: PageDisk>()
     ensures { VolumesFitLaw L.images P.images }
 {}
 
+/// Volumes of a cluster without multixacts that fit a log before a crash fit it behind the crash: so a recovery may begin
+/// from them.
+pub fn crash_keeps_fit<L: LogDisk, P: PageDisk>()
+    ensures { CrashKeepsFit L.LogDisk P.PageDisk }
+{}
+
 /// Over new volumes a life begins clean, and so does its log (`BootStrapXLOG` in
 /// `src/backend/access/transam/xlog.c`).
 pub fn new_begins()
@@ -87,6 +94,11 @@ pub fn recoveries_settle()
 /// One entry more of the log's list, and its log goes on: by a record, by what is on disk, or as it was.
 pub fn log_goes_on()
     ensures { LogGoesOn }
+{}
+
+/// And at a life's end it has the records that the list appended, on disk up to the last flush.
+pub fn log_ends()
+    ensures { LogEnds }
 {}
 
 /// A worked life: what a crash left of a small log and its pages fits, and wrong volumes don't; a recovery may leave

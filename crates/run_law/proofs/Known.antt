@@ -28,7 +28,7 @@ use Rattle.session_lang.specs.declared.script.Item.TheVariants as items
 use Rattle.session_lang.specs.declared.script.Script.{Script}
 use Rattle.session_lang.specs.Lines.{lines_of}
 use Rattle.session_lang.specs.Script.{at_line, body_line, command_line, end_header, header_line, header_words, is_dot, is_full, is_header_line, is_passed, item_of, names_with, no_front, place_of, read_line, read_lines, read_script, script_of, with_directive, with_turn, words_line}
-use Rattle.run_law.specs.Turns.{turn_in, turns_in}
+use Rattle.run_law.specs.Turns.{levels_in, turn_in, turns_in}
 use Rattle.run_law.proofs.Commands.{HasRoom, command_room}
 use Rattle.run_law.proofs.Sizes.{lines_size, size_of, words_size}
 use Rattle.run_law.proofs.Steps.{behind, either_holds, no_fault, not_false, of_ok, then_holds, went}
@@ -67,9 +67,6 @@ or_four None b = (omega arith, omega arith)
 or_four (Some n) b = b
 
 -- ---- the commands that make a level
-
-abbrev pub levels_in : List Item → ℕ
-levels_in script = count_by (λ (t : ℕ × Command). makes_level t.1) (turns_in script)
 
 levels_push : (before : List Item) (k : ℕ) (c : Command) → levels_in (before ++ items.Run k c ∷ []) ≡ levels_in before + cond (makes_level c) 1 0
 levels_push before k c =

@@ -11,6 +11,7 @@ use Rattle.report_text.specs.ReportText.{report_text}
 use Rattle.session_lang.specs.Rounds.{asked_of}
 use Rattle.session_lang.specs.Script.{read_script}
 use Rattle.run_law.specs.Refusals.{refusal_of, refusal_text}
+use Rattle.run_law.specs.Turns.{IsRunnable}
 
 -- The report of a run of the script over a new log: one life, from the script's counters, round by round, with the dumps
 -- between the rounds. Verdicts are told where the page volumes tell what they hold.
@@ -36,13 +37,15 @@ pub record ReadsUpTo (most : ℕ) (left left' : Option (List ℕ)) : Type 0 wher
 abbrev pub IsRun : List (List ℕ) → Type 0
 IsRun words = words ≡ codes "run" ∷ []
 
--- The source was read to its end and its bytes are a script, and the text is that of a report of this script.
+-- The source was read to its end and its bytes are a script that sessions can run, and the text is that of a report of
+-- this script.
 pub record IsAnswer (tells : Bool) (left left' : Option (List ℕ)) (text : List ℕ) : Type 0 where
   pub bytes : List ℕ
   pub read : Consumes left left' bytes
   pub ended : IsAtEnd left'
   pub script : Script
   pub spelled : read_script bytes ≡ Ok script
+  pub runnable : IsRunnable script
   pub report : Report
   pub lawful : IsReportOf tells script report
   pub exact : text ≡ report_text report

@@ -1,10 +1,11 @@
 -- The commands of a script, round by round, and which scripts a life can run.
 use Rattle.std.specs.Prelude.{◌≡◌, ℕ, ◌<◌, ◌≤◌, ◌^◌, ◌⊎◌, Bool, true, false, List, [], ◌∷◌, ◌++◌, Option, Some, None, length}
-use Rattle.std.specs.List.{All, filter_map}
+use Rattle.std.specs.List.{All, count_by, filter_map}
 use Rattle.tx_model.specs.declared.command.Command.{Command}
 use Rattle.tx_model.specs.declared.report.DumpOf.{DumpOf}
 use Rattle.tx_model.specs.declared.report.DumpOf.TheVariants as dumps
 use Rattle.tx_events.specs.Base.{IsBase}
+use Rattle.life_law.specs.Commands.{makes_level}
 pub use Rattle.life_law.specs.Commands.{has_command}
 use Rattle.session_lang.specs.declared.script.Item.{Item}
 use Rattle.session_lang.specs.declared.script.Item.TheVariants as items
@@ -17,6 +18,14 @@ turn_in _ = None
 
 abbrev pub turns_in : List Item → List (ℕ × Command)
 turns_in script = filter_map turn_in script
+
+-- how many of its commands make a level
+abbrev pub levels_in : List Item → ℕ
+levels_in script = count_by (λ (t : ℕ × Command). makes_level t.1) (turns_in script)
+
+-- few enough for a life
+abbrev pub HasFewLevels : List Item → Type 0
+HasFewLevels script = levels_in script < 2900000
 
 abbrev pub is_command : Item → Bool
 is_command (items.Run session command) = true
@@ -34,6 +43,10 @@ has_dump (dumps.Xact page) = true
 has_dump (dumps.Subtrans page) = true
 has_dump _ = false
 
+-- a dump that it shows, with numbers in their ranges
+abbrev pub MayShow : DumpOf → ℕ → ℕ → Type 0
+MayShow what at size = (has_dump what ≡ true) × IsDump what at size × (1 ≤ size) × (size ≤ 64)
+
 -- an item that the run has
 abbrev pub has_item : Item → Bool
 has_item (items.Run session command) = has_command command
@@ -45,7 +58,7 @@ has_item _ = false
 abbrev pub MayRun : ℕ → Item → Type 0
 MayRun sessions (items.Run session command) = (has_command command ≡ true) × (session < sessions)
 MayRun sessions items.Round = Unit {0}
-MayRun sessions (items.Dump what at size) = (has_dump what ≡ true) × IsDump what at size × (1 ≤ size) × (size ≤ 64)
+MayRun sessions (items.Dump what at size) = MayShow what at size
 MayRun sessions _ = ⊥
 
 -- a script that sessions can run, round by round

@@ -1,5 +1,5 @@
 -- What a run's lines and events say fits a report.
-use Rattle.std.proofs.Common.{◌≡◌, ℕ, zero, suc, ◌-◌, ◌^◌, ◌<◌, ◌≤◌, List, [], ◌∷◌, true, Option, Some, None, refl, sym, ap, subst, ◌∙◌, ⊎_elim, arith, length, take, eqb-true, ◌==◌, ◌&&◌, nat_le, cond, false}
+use Rattle.std.proofs.Common.{◌≡◌, ℕ, zero, suc, ◌-◌, ◌^◌, ◌<◌, ◌≤◌, List, [], ◌∷◌, true, Option, Some, None, refl, sym, ap, subst, inr, ◌∙◌, ⊎_elim, arith, length, take, eqb-true, ◌==◌, ◌&&◌, nat_le, cond, false}
 use Rattle.std.proofs.lemmas.Bool.{and_parts, false≢true}
 use Rattle.std.proofs.lemmas.Grind.{common_steps}
 use Rattle.std.specs.List.{AllByRecursion}
@@ -19,6 +19,7 @@ use Rattle.tx_model.specs.declared.report.Line.{Line}
 use Rattle.tx_events.specs.Base.{IsBase}
 use Rattle.tx_events.specs.Events.{by_of, events_of, given, same_by}
 use Rattle.tx_events.specs.History.{IsLegal}
+use Rattle.tx_events.specs.Horizon.{oldest_id}
 use Rattle.tx_events.proofs.GivenIds.{legal_take}
 use Rattle.tx_events.proofs.ListSteps.{all_filter}
 use Rattle.tx_events.proofs.Membership.{Has, all_at, all_from, filter_has, has_any}
@@ -33,7 +34,7 @@ use Rattle.life_law.specs.Replies.{IsBank, IsLawfulReply}
 use Rattle.report_words.specs.Fits.{FitsBy, FitsId, FitsLock, FitsReply, FitsSnap}
 use Rattle.report_words.specs.Replies.{kind_of}
 use Rattle.report_lines.specs.Fits.{FitsCommand, FitsEvent}
-use Rattle.run_report.proofs.Ids.{IdsFit, IsPlain, all_ids_fit, next_fits, oldest_fits, oldest_same, oldest_xmin_fits, snap_fits, stop_fits}
+use Rattle.run_report.proofs.Ids.{AnnouncesFit, IdsFit, all_ids_fit, announced_fits, next_fits, oldest_fits, oldest_xmin_fits, snap_fits, stop_fits}
 
 -- ---- replies
 
@@ -64,14 +65,16 @@ all_taken P zero xs a = tt
 all_taken P (suc n) [] a = tt
 all_taken P (suc n) (x ∷ xs) a = (a.0, all_taken P n xs a.1)
 
+-- the oldest id that is announced at a place
+oldest_after : (base : Counters) (n : ℕ) (h : List Event) → IsBase base → AllByRecursion AnnouncesFit h → FitsId (oldest_id base.oldest (take n h))
+oldest_after base n h b p = announced_fits base.oldest (take n h) (oldest_fits base b) (all_taken AnnouncesFit n h p)
+
 -- an oldest id that a command may find
-found_fits : (base : Counters) (h : List Event) (round : RoundSpan) (by : By) (oldest : ℕ) → IsBase base → AllByRecursion IsPlain h → MayFindOldest base h round by oldest → FitsId oldest
-found_fits base h round by oldest b p f =
-    let n : ℕ = f.place - f.lag in
-    subst FitsId (sym (f.oldest_is ∙ oldest_same base.oldest (take n h) (all_taken IsPlain n h p))) (oldest_fits base b)
+found_fits : (base : Counters) (h : List Event) (round : RoundSpan) (by : By) (oldest : ℕ) → IsBase base → AllByRecursion AnnouncesFit h → MayFindOldest base h round by oldest → FitsId oldest
+found_fits base h round by oldest b p f = subst FitsId (sym f.oldest_is) (oldest_after base (f.place - f.lag) h b p)
 
 -- a reply of the history
-history_reply_fits : (base : Counters) (committed : List ℕ) (h : List Event) (round : RoundSpan) (by : By) (s : Stance) (c : Command) (r : Reply) → IsBase base → IsLegal base h → AllByRecursion IsPlain h → MayReply base committed h round by s c r → HasEvents by s c r (events_of by h) → FitsReply (kind_of c) r
+history_reply_fits : (base : Counters) (committed : List ℕ) (h : List Event) (round : RoundSpan) (by : By) (s : Stance) (c : Command) (r : Reply) → IsBase base → IsLegal base h → AllByRecursion AnnouncesFit h → MayReply base committed h round by s c r → HasEvents by s c r (events_of by h) → FitsReply (kind_of c) r
 history_reply_fits base committed h round by s commands.Begin replies.Done b l p m e = refl
 history_reply_fits base committed h round by s commands.Begin (replies.Refused refusals.AlreadyOpen) b l p m e = tt
 history_reply_fits base committed h round by s commands.Save replies.Done b l p m e = refl
@@ -105,13 +108,18 @@ history_reply_fits base committed h round by s (commands.Status x) (replies.Refu
 history_reply_fits base committed h round by s (commands.Status x) (replies.Refused (refusals.Future next)) b l p m e =
     subst FitsId (sym m.next_is) (next_fits base (take m.place h) b (legal_take base h m.place l))
 history_reply_fits base committed h round by s (commands.Did x) (replies.Refused (refusals.TooOld oldest)) b l p m e = found_fits base h round by oldest b p m.found
+history_reply_fits base committed h round by s (commands.Freeze oldest) replies.Done b l p m e = refl
+history_reply_fits base committed h round by s (commands.Freeze oldest) (replies.Refused (refusals.Backward now)) b l p m e =
+    subst (λ n. n < 2 ^ 64) (sym m.now_is) (oldest_after base m.place h b p).0
+history_reply_fits base committed h round by s (commands.Freeze oldest) (replies.Refused (refusals.TooNew limit)) b l p m e =
+    subst FitsId (sym m.limit_is) (oldest_xmin_fits base (take m.place h) b (legal_take base h m.place l))
 history_reply_fits base committed h round by s c r b l p m e = absurd m
 
 -- what a life tells with which its replies can be told
 pub record CanTell (f : Facts) : Type 0 where
   pub base : IsBase f.base
   pub history : IsLegal f.base f.events
-  pub plain : AllByRecursion IsPlain f.events
+  pub announced : AllByRecursion AnnouncesFit f.events
   pub banks : f.banks ≤ 16
   pub flushed : f.flushed < 2 ^ 64
 
@@ -136,21 +144,21 @@ reply_fits f round by s o (commands.See name x) (replies.Seen visible) t m e = r
 reply_fits f round by s o c (replies.Seen visible) t m e = absurd (false≢true m.0)
 reply_fits f round by s o (commands.Status x) (replies.Known status) t m e = refl
 reply_fits f round by s o (commands.Did x) (replies.Did answer) t m e = refl
-reply_fits f round by s o c r t m e = history_reply_fits f.base f.committed f.events round by s c r t.base t.history t.plain m e
+reply_fits f round by s o c r t m e = history_reply_fits f.base f.committed f.events round by s c r t.base t.history t.announced m e
 
 -- ---- events
 
--- the names of snapshots, and the ids that are asked for; no event announces
+-- the names of snapshots, and the ids that are asked for or announced
 abbrev pub NamesFit : Event → Type 0
 NamesFit (events.Snap by name) = IsName name
 NamesFit (events.SnapDrop by name) = IsName name
-NamesFit (events.Oldest by oldest) = ⊥
+NamesFit (events.Oldest by oldest) = FitsId oldest
 NamesFit (events.Ask by id) = FitsId id
 NamesFit _ = Unit {0}
 
-pub named_plain : (e : Event) → NamesFit e → IsPlain e
-named_plain (events.Oldest by oldest) n = n
-named_plain e n = tt
+pub announces_fit : (e : Event) → NamesFit e → AnnouncesFit e
+announces_fit (events.Oldest by oldest) n = n
+announces_fit e n = tt
 
 giving_named : (by : By) (p : Option ℕ) (id : ℕ) → NamesFit (giving by p id)
 giving_named by None id = tt
@@ -193,6 +201,7 @@ own_named by s commands.Abort replies.Done es f e = subst (AllByRecursion NamesF
 own_named by s (commands.Snap name) (replies.Snapped lists) es f e = subst (AllByRecursion NamesFit) (sym e) (f, tt)
 own_named by s (commands.DropSnap name) replies.Done es f e = subst (AllByRecursion NamesFit) (sym e) (f, tt)
 own_named by s (commands.Status x) r es f e = subst (AllByRecursion NamesFit) (sym e) (ask_named by x r f)
+own_named by s (commands.Freeze oldest) replies.Done es f e = subst (AllByRecursion NamesFit) (sym e) ((let to = f.1 in omega arith, inr f.0), tt)
 own_named by s c r es f e = subst (AllByRecursion NamesFit) (sym e) tt
 
 -- a line whose number and events fit
@@ -229,7 +238,7 @@ event_fits names (events.Commit by top) f n i = (f, i)
 event_fits names (events.Abort by top) f n i = (f, i)
 event_fits names (events.Snap by name) f n i = (f, n)
 event_fits names (events.SnapDrop by name) f n i = (f, n)
-event_fits names (events.Oldest by oldest) f n i = absurd n
+event_fits names (events.Oldest by oldest) f n i = (f, n)
 event_fits names (events.Ask by id) f n i = (f, n)
 
 pub events_fit : (names : List (List ℕ)) (h : List Event) → AllByRecursion (EventFits names) h → AllByRecursion IdsFit h → AllByRecursion (FitsEvent names) h

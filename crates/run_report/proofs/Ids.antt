@@ -177,16 +177,17 @@ down_fits n = step (nat_lt (low_half n) 3) refl
 pub stop_fits : (oldest : ℕ) → FitsId (stop_limit oldest)
 stop_fits oldest = (omega arith, min_one IsXidNumber (down_to_normal (wrap_limit oldest - 3000000)) (2 ^ 63 - 1) (down_fits (wrap_limit oldest - 3000000)) (inr (omega arith)))
 
--- ---- a history that announces no oldest id
+-- ---- the oldest id
 
-abbrev pub IsPlain : Event → Type 0
-IsPlain (events.Oldest by oldest) = ⊥
-IsPlain _ = Unit {0}
+-- an announced one can be told
+abbrev pub AnnouncesFit : Event → Type 0
+AnnouncesFit (events.Oldest by oldest) = FitsId oldest
+AnnouncesFit _ = Unit {0}
 
-pub oldest_same : (oldest : ℕ) (h : List Event) → AllByRecursion IsPlain h → oldest_id oldest h ≡ oldest
-oldest_same oldest [] a = refl
-oldest_same oldest (events.Oldest by new ∷ h) a = absurd a.0
-oldest_same oldest (e ∷ h) a = oldest_same oldest h a.1
+pub announced_fits : (oldest : ℕ) (h : List Event) → FitsId oldest → AllByRecursion AnnouncesFit h → FitsId (oldest_id oldest h)
+announced_fits oldest [] f a = f
+announced_fits oldest (events.Oldest by new ∷ h) f a = announced_fits new h a.0 a.1
+announced_fits oldest (e ∷ h) f a = announced_fits oldest h f a.1
 
 pub oldest_fits : (base : Counters) → IsBase base → FitsId base.oldest
 oldest_fits base b = let s = stop_to base.oldest in let n = b.next in let o = b.oldest in full_fits base.oldest b.full_oldest (omega arith)

@@ -4,7 +4,6 @@ use Rattle.std.proofs.Common.{◌≡◌, ◌≢◌, ◌⊎◌, ℕ, suc, ◌+◌
 use Rattle.std.proofs.lemmas.Bool.{false≢true}
 use Rattle.std.proofs.lemmas.List.{map-append}
 use Rattle.std.proofs.lemmas.List.FromFn.{length-range_with_len}
-use Rattle.std.proofs.lemmas.List.Sums.{sum_by-cons}
 use Rattle.std.specs.List.{AllByRecursion, count_by, filter, flat_map, range_with_len}
 use Rattle.tx_model.specs.declared.command.Command.{Command}
 use Rattle.tx_model.specs.Lines.{grouped}
@@ -13,6 +12,7 @@ use Rattle.tx_events.specs.Places.{first_seen}
 use Rattle.tx_events.proofs.ListSteps.{eqb-refl, list_any-push, range_push}
 use Rattle.session_lang.specs.Rounds.{turns_of}
 use Rattle.session_lang.proofs.SeenLemmas.{is_in, is_in_seen, next_number, old_number, push_next, push_old}
+use Rattle.run_law.proofs.PartSums.{count_cons}
 use Rattle.report_read.specs.Grammar.{after_turn, is_speaker, may_speak}
 
 -- ---- numbers in the order in which they first appear
@@ -110,9 +110,6 @@ fewer_apart q (z ∷ xs) a = elim (q z) as (λ c. AreApart (cond c (z ∷ filter
 pub seen_apart : (xs : List ℕ) → AreApart (first_seen xs)
 seen_apart [] = tt
 seen_apart (x ∷ xs) = (not_in_others x (first_seen xs), fewer_apart (λ y. not (y == x)) (first_seen xs) (seen_apart xs))
-
-pub count_cons : {X : Type 0} (p : X → Bool) (x : X) (xs : List X) → count_by p (x ∷ xs) ≡ cond (p x) 1 0 + count_by p xs
-count_cons p x xs = sum_by-cons (λ x. cond (p x) 1 0) x xs
 
 count_none : (x : ℕ) (ss : List ℕ) → is_in x ss ≡ false → count_by (λ s. x == s) ss ≡ 0
 count_none x [] i = refl

@@ -47,8 +47,8 @@ use Rattle.report_read.specs.Item as items
 use Rattle.report_read.specs.Grammar.{Follows, after, begins_step, life_told, no_counts, steps_told}
 use Rattle.report_read.specs.Reports.{IsReport, nothing_told}
 use Rattle.report_read.specs.declared.told.Told.{Told}
-use Rattle.run_report.proofs.Fits.{CanTell, EventFits, LineFits, all_event_fit, events_fit, named_plain, own_named, reply_fits}
-use Rattle.run_report.proofs.Ids.{IsPlain, all_ids_fit}
+use Rattle.run_report.proofs.Fits.{CanTell, EventFits, LineFits, all_event_fit, announces_fit, events_fit, own_named, reply_fits}
+use Rattle.run_report.proofs.Ids.{AnnouncesFit, all_ids_fit}
 use Rattle.run_report.proofs.Records.{log_fits, rest_fits}
 use Rattle.run_report.proofs.Sizes.{AskedFits, TurnFits, lines_short, rounds_short, sessions_asked}
 use Rattle.run_report.proofs.Reaching.{AreCounted, AreNumbered, Between, Reaches, Rounded, Sayable, SoFar, a_dump, a_round, all_numbered, counted_apart, events_reach, follows_on, reach_on, records_reach, speakers, stays}
@@ -305,8 +305,8 @@ record Ended (names : List (List ℕ)) (r : LifeReport) (t : Told) : Type 0 wher
   start : t.start ≡ record { from = r.life.from; base = r.life.base }
   steps_are : steps_told t.stage t ≡ r.steps
 
-log_of : (tells : Bool) (banks : ℕ) (all : List Asked) (base : Counters) (r : LifeReport) → BeginsLog base r.life → IsLawfulLife tells banks all r → IsLogOf 0 (records.Checkpoint r.life.from r.life.base) r.life.events r.life.recs r.life.flushed r.life.end
-log_of tells banks all base r begins lawful = subst (λ from. IsLogOf from (records.Checkpoint r.life.from r.life.base) r.life.events r.life.recs r.life.flushed r.life.end) begins.from lawful.log
+log_of : (tells : Bool) (banks : ℕ) (all : List Asked) (base : Counters) (r : LifeReport) → BeginsLog base r.life → IsLawfulLife tells banks all r → IsLogOf 0 r.life.base r.life.events r.life.recs r.life.flushed r.life.end
+log_of tells banks all base r begins lawful = subst (λ from. IsLogOf from r.life.base r.life.events r.life.recs r.life.flushed r.life.end) begins.from lawful.log
 
 ends_whole : (tells : Bool) (banks : ℕ) (names : List (List ℕ)) (all : List Asked) (base : Counters) (r : LifeReport) (t : Told) → BeginsLog base r.life → r.crash ≡ None → IsLawfulLife tells banks all r → IsSmall names all r → AllByRecursion (EventFits names) r.life.events → Ended names r t → Reaches nothing_told t → IsReport (record { names = names; lives = r ∷ [] })
 ends_whole tells banks names all base r t begins last lawful small named ended before =
@@ -323,8 +323,9 @@ ends_whole tells banks names all base r t begins last lawful small named ended b
     let legal = lawful.history in
     let fits = events_fit t4.names h (subst (λ ns. AllByRecursion (EventFits ns) h) (sym ended.names_are) named) (all_ids_fit r.life.base h small.base_is legal) in
     let log = log_of tells banks all base r begins lawful in
-    let short = log_fits r.life.base _ h r.life.recs r.life.flushed r.life.end small.base_is legal log in
-    let numbered : AreNumbered 0 r.life.recs = subst (AreNumbered 0) (sym log.split) ((begins.from, small.counters), all_numbered 1 log.rest (rest_fits r.life.base _ h r.life.recs r.life.flushed r.life.end small.base_is legal log)) in
+    let announced = all_weaker (EventFits names) AnnouncesFit (λ e k. announces_fit e k.named) h named in
+    let short = log_fits r.life.base h r.life.recs r.life.flushed r.life.end log in
+    let numbered : AreNumbered 0 r.life.recs = subst (AreNumbered 0) (sym log.split) ((refl, small.counters), all_numbered 1 log.rest (rest_fits r.life.base h r.life.recs r.life.flushed r.life.end small.base_is small.counters legal announced log)) in
     let from : 0 ≡ t7.start.from + length t7.recs = let z : t.start.from ≡ r.life.from = ap (λ (s : Start). s.from) ended.start in let y = begins.from in omega arith in
     let history : Follows t items.history t4 = record { stands = ended.begins; rule = refl; told = refl } in
     let multis : Follows t5 items.multis t6 = record { stands = refl; rule = refl; told = refl } in
@@ -391,9 +392,9 @@ told_again tells banks names all base r few_banks begins last lawful small fits 
     let line_fit = lines_fit names f lines (omega arith) each said in
     let has = recursion_from_All (λ e. IsTrue (has_line lines e)) h lawful.lawful.no_other in
     let named = all_event_fit names h lines line_fit has in
-    let plain = all_weaker (EventFits names) IsPlain (λ e k. named_plain e k.named) h named in
-    let log = log_fits r.life.base _ h r.life.recs r.life.flushed r.life.end small.base_is lawful.history (log_of tells banks all base r begins lawful) in
-    let can : CanTell f = record { base = small.base_is; history = lawful.history; plain = plain; banks = few_banks; flushed = log.flushed_to } in
+    let announced = all_weaker (EventFits names) AnnouncesFit (λ e k. announces_fit e k.named) h named in
+    let log = log_fits r.life.base h r.life.recs r.life.flushed r.life.end (log_of tells banks all base r begins lawful) in
+    let can : CanTell f = record { base = small.base_is; history = lawful.history; announced = announced; banks = few_banks; flushed = log.flushed_to } in
     let sayable = lines_sayable names f lines can (omega arith) each said in
     let climb = climbs (length names) (speakers lines) (rounds_seen 1 all r.steps lawful.told ∙ seen) in
     let w = rounds_reach names 0 (length names) [] [] 0 (begin start) all r.steps small.names_are small.few (begins_between names start) lawful.told fits (dumps_fit f r.steps few_banks lawful.dumps) sayable (counted_from f [] lines each) climb (let k = rounds_short names all fits in let m = small.turns in omega arith) in

@@ -1,14 +1,14 @@
 -- What the summary of a run counts, and what it counts in the script.
 use Rattle.std.specs.Prelude.{ℕ, Bool, true, false, List, [], ◌∷◌, ◌++◌, codes, length}
 use Rattle.std.specs.Fmt.{decimal}
-use Rattle.std.specs.List.{flat_map}
+use Rattle.std.specs.List.{count_by, flat_map}
 use Rattle.tx_events.specs.declared.event.Event.{Event}
 use Rattle.tx_events.specs.declared.event.Event.TheVariants as events
 use Rattle.tx_model.specs.declared.report.LifeReport.{LifeReport}
 use Rattle.tx_model.specs.declared.report.Line.{Line}
 use Rattle.tx_model.specs.Rounds.{lines_in}
 use Rattle.report_text.specs.Words.{line_text}
-pub use Rattle.run_law.specs.Counting.{how_many, is_verdict}
+pub use Rattle.run_law.specs.Counting.{is_verdict}
 use Rattle.script_gen.specs.declared.summary.Summary.{Summary}
 
 -- ---- of a report
@@ -38,16 +38,16 @@ is_snap event = false
 abbrev pub summary_by : List Event → ℕ → ℕ → Summary
 summary_by history commands sees = record {
   commands = commands;
-  ids = how_many gives_id history;
-  undone = how_many is_undo history;
-  commits = how_many is_commit history;
-  aborts = how_many is_abort history;
-  snaps = how_many is_snap history;
+  ids = count_by gives_id history;
+  undone = count_by is_undo history;
+  commits = count_by is_commit history;
+  aborts = count_by is_abort history;
+  snaps = count_by is_snap history;
   sees = sees;
 }
 
 abbrev pub summary_of_lines : List Event → List Line → Summary
-summary_of_lines history lines = summary_by history (length lines) (how_many (λ l. is_verdict l.reply) lines)
+summary_of_lines history lines = summary_by history (length lines) (count_by (λ l. is_verdict l.reply) lines)
 
 abbrev pub life_summary : LifeReport → Summary
 life_summary r = summary_of_lines r.life.events (flat_map lines_in r.steps)

@@ -1,13 +1,11 @@
 -- What holds of every generated script.
 use Rattle.std.specs.Prelude.{◌≡◌, ℕ, ◌<◌, ◌≤◌, ◌*◌, ◌%◌, ◌^◌, List, Ok, length, map}
-use Rattle.std.specs.List.{AllByRecursion, count_by, flat_map}
-use Rattle.tx_model.specs.declared.command.Command.{Command}
-use Rattle.life_law.specs.Commands.{makes_level}
+use Rattle.std.specs.List.{AllByRecursion, flat_map}
 use Rattle.report_text.specs.Words.{line_text}
 use Rattle.session_lang.specs.Plain.{IsItem, item_words}
 use Rattle.session_lang.specs.Reading.{IsSound}
 use Rattle.session_lang.specs.Script.{read_script}
-use Rattle.run_law.specs.Turns.{IsRunnable, turns_in}
+use Rattle.run_law.specs.Turns.{HasFewLevels, IsRunnable}
 use Rattle.script_gen.specs.Draws.{state_behind}
 use Rattle.script_gen.specs.Generated.{generated}
 
@@ -29,7 +27,7 @@ GeneratedScriptsAreSound =
 pub record MayRunWhole (seed size : ℕ) : Type 0 where
   pub runnable : IsRunnable (generated seed size)
   pub banks : (generated seed size).banks ≡ 4
-  pub few : count_by (λ (t : ℕ × Command). makes_level t.1) (turns_in (generated seed size).items) < 2900000
+  pub few : HasFewLevels (generated seed size).items
 
 abbrev pub GeneratedScriptsRun : Type 0
 GeneratedScriptsRun = (seed size : ℕ) → size ≤ most_transactions → MayRunWhole seed size

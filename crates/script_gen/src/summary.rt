@@ -1,8 +1,9 @@
 //! What the run of a generated script did.
-ghost use Rattle.std.specs.Prelude.{◌≡◌, [], ◌∷◌, ◌++◌, IfOk, OnOk, codes};
+ghost use Rattle.std.specs.Prelude.{◌≡◌, [], ◌∷◌, ◌++◌, IfOk, OnOk, codes, length};
 ghost use Rattle.std.specs.Fmt.{decimal};
+ghost use Rattle.std.specs.List.{filter};
 ghost use Rattle.report_text.specs.Words.{more};
-ghost use Rattle.script_gen.specs.Counts.{first_counts, gives_id, how_many, is_abort, is_commit, is_snap, is_undo, last_counts, summary_by, summary_text};
+ghost use Rattle.script_gen.specs.Counts.{first_counts, gives_id, is_abort, is_commit, is_snap, is_undo, last_counts, summary_by, summary_text};
 
 use report_text::Text;
 use std::alloc::Global;
@@ -34,7 +35,7 @@ fn gives_id(event: &Event) -> bool
 }
 
 fn ids_in(history: &[Event]) -> usize
-    ensures { result ≡ how_many gives_id history.now }
+    ensures { result ≡ length (filter gives_id history.now) }
 {
     history.iter().filter(|event| gives_id(event)).count()
 }
@@ -46,7 +47,7 @@ fn is_undo(event: &Event) -> bool
 }
 
 fn undone_in(history: &[Event]) -> usize
-    ensures { result ≡ how_many is_undo history.now }
+    ensures { result ≡ length (filter is_undo history.now) }
 {
     history.iter().filter(|event| is_undo(event)).count()
 }
@@ -58,7 +59,7 @@ fn is_commit(event: &Event) -> bool
 }
 
 fn commits_in(history: &[Event]) -> usize
-    ensures { result ≡ how_many is_commit history.now }
+    ensures { result ≡ length (filter is_commit history.now) }
 {
     history.iter().filter(|event| is_commit(event)).count()
 }
@@ -70,7 +71,7 @@ fn is_abort(event: &Event) -> bool
 }
 
 fn aborts_in(history: &[Event]) -> usize
-    ensures { result ≡ how_many is_abort history.now }
+    ensures { result ≡ length (filter is_abort history.now) }
 {
     history.iter().filter(|event| is_abort(event)).count()
 }
@@ -82,7 +83,7 @@ fn is_snap(event: &Event) -> bool
 }
 
 fn snaps_in(history: &[Event]) -> usize
-    ensures { result ≡ how_many is_snap history.now }
+    ensures { result ≡ length (filter is_snap history.now) }
 {
     history.iter().filter(|event| is_snap(event)).count()
 }

@@ -24,7 +24,8 @@ fn has_command(command: &Command) -> bool
         | Command::DropSnap { .. }
         | Command::See { .. }
         | Command::Status { .. }
-        | Command::Did { .. } => true,
+        | Command::Did { .. }
+        | Command::Freeze { .. } => true,
         _ => false,
     }
 }

@@ -1,12 +1,9 @@
 //! Takes a script from a source.
-ghost use Rattle.std.specs.Prelude.{◌≡◌, ◌<◌, ◌≤◌, ℕ, IfErr, IfOk, Ok, length};
-ghost use Rattle.std.specs.List.{count_by};
-ghost use Rattle.tx_model.specs.declared.command.Command.{Command};
-ghost use Rattle.life_law.specs.Commands.{makes_level};
+ghost use Rattle.std.specs.Prelude.{◌≡◌, ◌≤◌, IfErr, IfOk, Ok, length};
 ghost use Rattle.session_lang.specs.Script.{read_script};
 ghost use Rattle.run_law.specs.Refusals.{refusal_text};
 ghost use Rattle.run_law.specs.Tool.{ReadsUpTo, most_read};
-ghost use Rattle.run_law.specs.Turns.{IsRunnable, turns_in};
+ghost use Rattle.run_law.specs.Turns.{HasFewLevels, IsRunnable};
 ghost use Rattle.script_source.specs.Sources.{HasScript, IsNoScriptOf, Refuses, TellsFault};
 
 use crate::other::first_other;
@@ -46,7 +43,7 @@ fn script_of(alloc: Global, bytes: &[u8]) -> Result<Script, NoScript>
     requires { length bytes.now ≤ 16777216 }
     ensures script { IfOk result (λ s. (read_script bytes.now ≡ Ok s) × IsRunnable s) }
     ensures banks { IfOk result (λ s. (1 ≤ s.banks) × (s.banks ≤ 16)) }
-    ensures few { IfOk result (λ s. count_by (λ (t : ℕ × Command). makes_level t.1) (turns_in s.items) < 2900000) }
+    ensures few { IfOk result (λ s. HasFewLevels s.items) }
     ensures refused { IfErr result (Refuses bytes.now) }
 {
     let script = match parse(alloc, bytes) {
@@ -71,7 +68,7 @@ fn script_of(alloc: Global, bytes: &[u8]) -> Result<Script, NoScript>
 pub fn take_script<S: Source>(alloc: Global, source: &mut S) -> Result<Script, NoScript>
     ensures script { IfOk result (HasScript (S.left source.old) (S.left source.new)) }
     ensures banks { IfOk result (λ s. (1 ≤ s.banks) × (s.banks ≤ 16)) }
-    ensures few { IfOk result (λ s. count_by (λ (t : ℕ × Command). makes_level t.1) (turns_in s.items) < 2900000) }
+    ensures few { IfOk result (λ s. HasFewLevels s.items) }
     ensures refused { IfErr result (IsNoScriptOf (S.left source.old) (S.left source.new)
         (S.faults source.old) (S.faults source.new)) }
     ensures later { S.faults source.old ≤ S.faults source.new }

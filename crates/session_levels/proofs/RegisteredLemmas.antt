@@ -136,3 +136,13 @@ stood_asked base h by x opened named unnamed registered s =
     (λ name. ap (list_any (is_snap_of by.session name)) (live_push base.next h e) ∙ s.live name)
     (kept_grows base h (e ∷ []) by.session registered s.snaps)
     s
+
+-- a session that announces the oldest id
+pub stood_announced : (base : Counters) (h : List Event) (by : By) (oldest : ℕ) (opened named : List ℕ) (unnamed : ℕ) (registered : List RegisteredSnapshot) →
+    Stood base h by.session by.command opened named unnamed registered → Stood base (h ++ events.Oldest by oldest ∷ []) by.session by.command opened named unnamed registered
+stood_announced base h by oldest opened named unnamed registered s =
+    let e : Event = events.Oldest by oldest in
+    stood_quiet base h by e opened named unnamed registered registered tt refl
+    (λ name. ap (list_any (is_snap_of by.session name)) (live_push base.next h e) ∙ s.live name)
+    (kept_grows base h (e ∷ []) by.session registered s.snaps)
+    s

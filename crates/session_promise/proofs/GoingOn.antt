@@ -11,6 +11,7 @@ use Rattle.notes.proofs.Growing.{begins_same}
 use Rattle.tx_events.specs.declared.event.By.{By}
 use Rattle.tx_events.specs.declared.event.Event.{Event}
 use Rattle.tx_events.specs.declared.record.Rec.{Rec}
+use Rattle.tx_events.specs.declared.record.Rec.TheVariants as records
 use Rattle.tx_events.specs.Running.{open_ids}
 use Rattle.tx_events.specs.Events.{by_of, events_of, given, given_by, given_to, is_of, same_by}
 use Rattle.tx_events.proofs.ListSteps.{all_weaker, below_not, filter_all, filter_in_turn, filter_none, le_or_over, list_any-push}
@@ -28,6 +29,8 @@ use Rattle.tx_model.specs.Stance.{Stance, after, lacking}
 use Rattle.tx_model.proofs.LineGrowth.{stance_push}
 use Rattle.life_law.specs.Pending.{pending, pending_after}
 use Rattle.life_law.specs.Refused.{refused_by}
+use Rattle.life_law.proofs.IdSteps.{bounds_of}
+use Rattle.life_law.proofs.PendingSteps.{pending_push}
 use Rattle.tx_core.specs.declared.entry.Entry.{Entry}
 use Rattle.tx_core.specs.declared.entry.Kind.TheVariants as kinds
 use Rattle.tx_core.specs.declared.entry.Start.{Start}
@@ -37,19 +40,18 @@ use Rattle.tx_core.specs.Locks.{log_lock}
 use Rattle.tx_core.proofs.Lasting.{history_grows}
 use Rattle.engine_parts.specs.declared.session.Session.{Session}
 use Rattle.engine_parts.specs.declared.session.Stage.{Stage}
-use Rattle.engine_parts.specs.Adding.{AddsTo, IsRecordBy, MayLeave}
+use Rattle.engine_parts.specs.Adding.{AddsTo, IsAbortOf, IsCommitOf, IsRecordBy, IsTruncation, MayLeave}
 use Rattle.engine_parts.specs.Answers.{MayAnswer}
 use Rattle.engine_parts.specs.Holds.{Knowledge}
 use Rattle.engine_parts.specs.Sessions.{by_at, stance_of}
 use Rattle.engine_parts.specs.Stages.{pending_in}
 use Rattle.engine_parts.proofs.Answering.{answer_grows}
 use Rattle.session_promise.specs.Told.{Told, between, lines_of, told_in}
-use Rattle.session_promise.specs.Promise.{Answered, IsEnd, IsInRound, IsToldWell, Promise, PromiseGoesOn, SaysLogFault, is_made_level, recs_of}
+use Rattle.session_promise.specs.Promise.{Answered, IsOfEnd, IsInRound, IsToldWell, Promise, PromiseGoesOn, SaysLogFault, is_made_level, recs_of}
 use Rattle.session_promise.proofs.Growing.{all_lines_of, each_grows, IsUpTo, pending_same, stance_same}
-use Rattle.session_promise.proofs.IdSteps.{bounds_of}
 use Rattle.session_promise.proofs.Known.{known_of}
 use Rattle.session_promise.proofs.PendingFollows.{IsKnownOf, by_reply}
-use Rattle.session_promise.proofs.PendingGrowth.{AreSettled, pending_push}
+use Rattle.session_promise.proofs.PendingGrowth.{AreSettled}
 use Rattle.session_promise.proofs.Settling.{settled_of, up_to, within_all}
 use Rattle.session_promise.proofs.Widening.{AreWider, wider_both, wider_lines, wider_same, wider_to}
 
@@ -62,9 +64,13 @@ all_back P [] ys a = a
 all_back P (x ∷ xs) ys a = all_back P xs ys a.1
 
 -- the record that a command may append is of an end
-end_of : (command : Command) (s : Stance) (stage : Stage) (opened : List ℕ) (rec : Rec) → IsRecordBy command s stage opened rec → IsEnd rec
-end_of commands.Commit s stage opened rec r = subst IsEnd (sym r.1.is) tt
-end_of commands.Abort s stage opened rec r = subst IsEnd (sym r.1.is) tt
+truncation_of : (rec : Rec) → IsTruncation rec → IsOfEnd rec
+truncation_of (records.Truncate oldest multi offset) t = tt
+truncation_of rec t = absurd t
+
+end_of : (command : Command) (s : Stance) (stage : Stage) (opened : List ℕ) (rec : Rec) → IsRecordBy command s stage opened rec → IsOfEnd rec
+end_of commands.Commit s stage opened rec r = ⊎_elim (λ (c : IsCommitOf opened rec). subst IsOfEnd (sym c.is) tt) (truncation_of rec) r.1
+end_of commands.Abort s stage opened rec r = ⊎_elim (λ (c : IsAbortOf opened rec). subst IsOfEnd (sym c.is) tt) (truncation_of rec) r.1
 end_of command s stage opened rec r = absurd r
 
 -- the session's next command, and its line

@@ -7,6 +7,8 @@ use Rattle.notes.specs.Lists.{at}
 use Rattle.tx_events.specs.declared.event.By.{By}
 use Rattle.tx_events.specs.declared.event.Event.{Event}
 use Rattle.tx_events.specs.declared.event.Event.TheVariants as events
+use Rattle.tx_events.specs.declared.multi.MultiEvent.{MultiEvent}
+use Rattle.tx_events.specs.declared.multi.MultiEvent.TheVariants as multis
 use Rattle.tx_events.specs.declared.record.Counters.{Counters}
 use Rattle.tx_events.specs.declared.record.Rec.{Rec}
 use Rattle.tx_events.specs.declared.record.Rec.TheVariants as records
@@ -24,14 +26,17 @@ use Rattle.tx_core.specs.declared.entry.Start.{Start}
 use Rattle.tx_core.specs.CommitRecordsExact.{IsExactIn}
 use Rattle.tx_core.specs.Entries.{IsAppended, appended, flushed_to, history, records_in, records_of, recs_in}
 use Rattle.tx_core.specs.Locks.{log_lock}
+use Rattle.tx_core.specs.MultiEntries.{multi_history}
+use Rattle.tx_core.specs.RecordsFollow.{IsMultiAnnounced, IsOldestAnnounced, NeedsCounters}
 use Rattle.tx_core.specs.RecordsOnce.{OnceIn}
+use Rattle.tx_core.proofs.Asking.{upheld_has}
 use Rattle.tx_core.proofs.Flushed.{commits_are_flushed}
 use Rattle.tx_core.proofs.Opening.{sessions_known}
 use Rattle.tx_core.proofs.LogLaws.{flushes_rise}
 use Rattle.tx_core.proofs.Reading.{appended_at, appended_by, appended_is}
 use Rattle.tx_core.proofs.Taking.{get_in_take}
 use Rattle.session_promise.specs.Closing.{BeginsNewLog, IsOver, PromisesMakeLog}
-use Rattle.session_promise.specs.Promise.{IsEnd, recs_of}
+use Rattle.session_promise.specs.Promise.{IsOfEnd, recs_of}
 use Rattle.session_promise.specs.Told.{ToldRound}
 use Rattle.session_promise.proofs.RecordPlaces.{has_rec}
 
@@ -104,7 +109,7 @@ named base h p t session by subs legal own at_p exact =
 
 -- ---- the log
 
-module _ (tells : Bool) (start : Start) (lists : List (List Entry)) (rounds : List ToldRound) (begins : BeginsNewLog start) (over : IsOver tells start lists rounds) where
+module _ (tells : Bool) (start : Start) (lists : List (List Entry)) (rounds : List ToldRound) (begins : BeginsNewLog start) (over : IsOver tells start lists rounds) (quiet : multi_history lists ≡ []) where
   abbrev h : List Event
   h = history lists
 
@@ -114,12 +119,25 @@ module _ (tells : Bool) (start : Start) (lists : List (List Entry)) (rounds : Li
   abbrev flushed : ℕ
   flushed = flushed_to start es
 
-  whole : (session : ℕ) (rec : Rec) → IsEnd rec → IsAppended lists session rec → IsRecordOf h rec
+  -- no multixact was announced as the oldest one, so a truncation names that of the base
+  multi_is : (multi offset : ℕ) → IsMultiAnnounced start lists multi offset → (multi ≡ start.base.oldest_multi) × (offset ≡ start.base.oldest_offset)
+  multi_is multi offset a = ⊎_elim
+      (λ same. same)
+      (λ (r : (by : By) × Contains (multi_history lists) (multis.Raise by multi offset)). absurd (contains_has [] (multis.Raise r.0 multi offset) (subst (λ (t : List MultiEvent). Contains t (multis.Raise r.0 multi offset)) quiet r.1)))
+      a
+
+  whole : (session : ℕ) (rec : Rec) → IsOfEnd rec → IsAppended lists session rec → IsRecordOf start.base h rec
   whole session (records.Commit t subs) is a = let x = over.kept.records.exact session t subs a in record { session = session; root = x.root; ids = x.ids }
   whole session (records.Abort t subs) is a = let x = over.kept.ends.exact session t subs a in record { session = session; root = x.root; ids = x.ids }
+  whole session (records.Truncate oldest multi offset) is a =
+      let e : Entry = record { by = a.0; kind = kinds.Append (records.Truncate oldest multi offset) } in
+      let of : IsOldestAnnounced start lists oldest × IsMultiAnnounced start lists multi offset
+      = (upheld_has (NeedsCounters start) lists log_lock e over.kept.log.counters (contains_has es e a.2)).1.1 in
+      let same = multi_is multi offset of.1 in
+      (of.0, same.0, same.1)
   whole session rec is a = absurd is
 
-  each_whole : (rec : Rec) → Contains (recs_of lists) rec → IsRecordOf h rec
+  each_whole : (rec : Rec) → Contains (recs_of lists) rec → IsRecordOf start.base h rec
   each_whole rec c =
       let r = has_rec lists rec (contains_has (recs_of lists) rec c) in
       let by : By = r.1.0 in
@@ -176,8 +194,8 @@ module _ (tells : Bool) (start : Start) (lists : List (List Entry)) (rounds : Li
       let among : Has (take (flushed - 0) (first_rec ∷ recs_of lists)) rec = place_has (take (flushed - 0) (first_rec ∷ recs_of lists)) (suc f.0) rec (get_in_take (flushed - 0) (suc f.0) (first_rec ∷ recs_of lists) rec low there) in
       subst (λ (x : List Rec × List ℕ). Contains (take (flushed - 0) x.0) (records.Commit t x.1)) (λ j. (sym recs_are j, sym subs j)) (has_contains (take (flushed - 0) (first_rec ∷ recs_of lists)) rec among)
 
-  pub log_of : (end : ℕ) → end < 2 ^ 64 → IsLogOf 0 first_rec h (start.logged ++ recs_of lists) flushed end
-  log_of end gate =
+  pub log_of : (end : ℕ) → length (start.logged ++ recs_of lists) < 2 ^ 64 → end < 2 ^ 64 → IsLogOf 0 start.base h (start.logged ++ recs_of lists) flushed end
+  log_of end count gate =
       let last = flushes_rise start lists over.kept in
       let one = begins.from in
       record {
@@ -188,8 +206,9 @@ module _ (tells : Bool) (start : Start) (lists : List (List Entry)) (rounds : Li
         each = each_whole;
         once = once;
         committed = committed;
+        count = let few = count in omega (arith, few);
         gate = gate;
       }
 
 pub promises_make_log : PromisesMakeLog
-promises_make_log tells start lists rounds end begins over gate = log_of tells start lists rounds begins over end gate
+promises_make_log tells start lists rounds end begins over quiet count gate = log_of tells start lists rounds begins over quiet end count gate

@@ -57,6 +57,7 @@ lacks (commands.DropSnap name) s stage h t = absurd (false≢true t)
 lacks (commands.See name x) s stage h t = absurd (false≢true t)
 lacks (commands.Status x) s stage h t = t
 lacks (commands.Did x) s stage h t = absurd (false≢true t)
+lacks (commands.Freeze oldest) s stage h t = refl
 lacks command s stage h t = absurd (false≢true h)
 
 logs : (command : Command) (s : Stance) (stage : Stage) → IsTrue (has_command command) → IsTrue (flushes command s stage) → IsTrue (may_need_log command s (pending_in stage))

@@ -6,7 +6,6 @@ pub mod Staying
 pub mod PendingFollows
 pub mod RecordPlaces
 pub mod Known
-pub mod IdSteps
 pub mod GoingOn
 pub mod Beginning
 pub mod Parting

@@ -1,9 +1,8 @@
 -- What is pending by some lines, as the history and the records grow.
-use Rattle.std.proofs.Common.{◌≡◌, ◌⊎◌, Bool, true, false, List, [], ◌∷◌, ◌++◌, None, Option, ap, refl, sym, ◌∙◌, ⊎_elim, cond, ℕ}
+use Rattle.std.proofs.Common.{◌≡◌, ◌⊎◌, Bool, true, false, List, [], ◌∷◌, ◌++◌, None, Option, ap, refl, sym, ◌∙◌, ⊎_elim, ℕ}
 use Rattle.std.specs.List.{AllByRecursion, filter}
 use Rattle.std.proofs.lemmas.Bool.{false≢true}
-use Rattle.std.proofs.lemmas.List.Elements.{filter-append}
-use Rattle.tx_events.proofs.ListSteps.{all_filter, eqb-refl}
+use Rattle.tx_events.proofs.ListSteps.{all_filter}
 use Rattle.tx_events.proofs.OwnEvents.{AreOthers, events_of_grows}
 use Rattle.tx_events.specs.declared.event.Event.{Event}
 use Rattle.tx_events.specs.declared.record.Rec.{Rec}
@@ -16,8 +15,8 @@ use Rattle.tx_model.specs.declared.command.Command.TheVariants as commands
 use Rattle.tx_model.specs.declared.reply.Reply.{Reply}
 use Rattle.tx_model.specs.declared.reply.Reply.TheVariants as replies
 use Rattle.tx_model.specs.declared.report.Line.{Line}
-use Rattle.tx_model.specs.Lines.{is_line_of, stance}
-use Rattle.tx_model.specs.Stance.{Stance, after, nothing_yet, stance_from}
+use Rattle.tx_model.specs.Lines.{is_line_of}
+use Rattle.tx_model.specs.Stance.{Stance, after, nothing_yet}
 use Rattle.life_law.specs.Pending.{pending, pending_after, pending_from}
 
 -- whether the reply says that the log is down
@@ -63,13 +62,3 @@ pending_grows recs more h es lines n o settled =
     (λ (same : more ≡ recs). ap (λ t. pending_from t h nothing_yet None (filter (is_line_of n) lines)) same)
     (λ none. from_same recs more h (filter (is_line_of n) lines) nothing_yet None (all_filter IsNotDown (is_line_of n) lines none))
     settled
-
-from_push : (recs : List Rec) (h : List Event) (lines : List Line) (l : Line) (s : Stance) (old : Option Refusal) → pending_from recs h s old (lines ++ l ∷ []) ≡ pending_after recs (stance_from s h lines) (pending_from recs h s old lines) l.command l.reply
-from_push recs h [] l s old = refl
-from_push recs h (k ∷ lines) l s old = from_push recs h lines l (after s k.by.command k.command k.reply (given (events_of k.by h))) (pending_after recs s old k.command k.reply)
-
--- what is pending behind a session's next line
-pub pending_push : (recs : List Rec) (h : List Event) (lines : List Line) (l : Line) → pending recs h (lines ++ l ∷ []) l.by.session ≡ pending_after recs (stance h lines l.by.session) (pending recs h lines l.by.session) l.command l.reply
-pending_push recs h lines l =
-    ap (pending_from recs h nothing_yet None) (filter-append (is_line_of l.by.session) lines (l ∷ []) ∙ ap (λ b. filter (is_line_of l.by.session) lines ++ cond b (l ∷ []) []) (eqb-refl l.by.session))
-    ∙ from_push recs h (filter (is_line_of l.by.session) lines) l nothing_yet None

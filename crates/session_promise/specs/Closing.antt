@@ -15,6 +15,7 @@ use Rattle.tx_core.specs.declared.entry.Start.{Start}
 use Rattle.tx_core.specs.EngineInvariant.{EngineInvariant}
 use Rattle.tx_core.specs.Entries.{AreFewIds, flushed_to, history}
 use Rattle.tx_core.specs.Locks.{log_lock}
+use Rattle.tx_core.specs.MultiEntries.{multi_history}
 use Rattle.engine_parts.specs.declared.session.Session.{Session}
 use Rattle.session_promise.specs.Promise.{Promise, is_made_level, recs_of}
 use Rattle.session_promise.specs.Dumps.{AreDumpsTold}
@@ -56,7 +57,7 @@ pub record IsReportOf (start : Start) (lists : List (List Entry)) (rounds : List
   pub base : r.life.base ≡ start.base
   pub committed : r.life.committed ≡ start.committed
   pub events : r.life.events ≡ history lists
-  pub multis : r.life.multis ≡ []
+  pub multis : (multi_history lists ≡ []) × (r.life.multis ≡ [])
   pub recs : r.life.recs ≡ start.logged ++ recs_of lists
   pub flushed : r.life.flushed ≡ flushed_to start (at lists log_lock)
   pub steps : filter is_round r.steps ≡ steps_of 1 rounds
@@ -68,13 +69,13 @@ PromisesMakeSteps =
     → BeginsNewLog start → IsOver tells start lists rounds → AreFewLevels rounds → IsReportOf start lists rounds r
     → AreLawfulSteps (facts_of tells start.banks r.life (all_lines rounds)) r.steps × AreInTurn r.life.events r.steps
 
--- the log is that of the ends
+-- The log is that of the ends, where no multixact was touched.
 abbrev pub PromisesMakeLog : Type 0
 PromisesMakeLog =
     (tells : Bool) (start : Start) (lists : List (List Entry)) (rounds : List ToldRound) (end : ℕ)
-    → BeginsNewLog start → IsOver tells start lists rounds → end < 2 ^ 64
-    → IsLogOf 0 (records.Checkpoint 0 start.base) (history lists) (start.logged ++ recs_of lists)
-    (flushed_to start (at lists log_lock)) end
+    → BeginsNewLog start → IsOver tells start lists rounds → multi_history lists ≡ []
+    → length (start.logged ++ recs_of lists) < 2 ^ 64 → end < 2 ^ 64
+    → IsLogOf 0 start.base (history lists) (start.logged ++ recs_of lists) (flushed_to start (at lists log_lock)) end
 
 -- so the life is lawful
 abbrev pub PromisesMakeLife : Type 0
@@ -83,5 +84,5 @@ PromisesMakeLife =
     (asked : List Asked) (r : LifeReport)
     → BeginsNewLog start → IsOver tells start lists rounds → AreFewLevels rounds
     → AreSteps 1 asked r.steps → AreDumpsTold start lists rounds r.steps
-    → IsReportOf start lists rounds r → r.life.end < 2 ^ 64
+    → IsReportOf start lists rounds r → length r.life.recs < 2 ^ 64 → r.life.end < 2 ^ 64
     → IsLawfulLife tells start.banks asked r

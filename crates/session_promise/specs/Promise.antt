@@ -87,17 +87,18 @@ TellsFaults lists n lines =
     (by : By) (asked : LogCall) (count : ℕ) → by.session ≡ n
     → Contains (at lists log_lock) (record { by = by; kind = kinds.LogFault asked count }) → SaysLogFault lines by
 
--- a commit or an abort
-abbrev pub IsEnd : Rec → Type 0
-IsEnd (records.Commit top subs) = Unit {0}
-IsEnd (records.Abort top subs) = Unit {0}
-IsEnd rec = ⊥
+-- of a commit or an abort, or the truncation before one
+abbrev pub IsOfEnd : Rec → Type 0
+IsOfEnd (records.Commit top subs) = Unit {0}
+IsOfEnd (records.Abort top subs) = Unit {0}
+IsOfEnd (records.Truncate oldest multi offset) = Unit {0}
+IsOfEnd rec = ⊥
 
 -- the session's records are of ends
 abbrev pub AppendsEnds : List (List Entry) → ℕ → Type 0
 AppendsEnds lists n =
     (by : By) (rec : Rec) → by.session ≡ n
-    → Contains (at lists log_lock) (record { by = by; kind = kinds.Append rec }) → IsEnd rec
+    → Contains (at lists log_lock) (record { by = by; kind = kinds.Append rec }) → IsOfEnd rec
 
 -- These are the lines of the session n so far, each told well in these lists. Each of its events is of one of them, and
 -- it stands as they leave it. It was given no more ids than it made levels, and each level that lacks one may be given

@@ -8,6 +8,7 @@ mod RoundCounts
 mod RoundSteps
 mod RoundsRun
 mod LogHeld
+mod StatesHeld
 mod CausesTold
 mod LifeTold
 mod ToolEnds

@@ -31,7 +31,7 @@ all_kept all recs number next kept flushed images long k c image =
     subst (λ (x : ℕ × List Rec). HasFlushed x.0 x.1 kept flushed c)
     (λ j. (none.0 j, (k.whole ∙ ap (λ (t : List Rec). t ++ recs) none.1) j)) (k.each c image)
 
-module _ (life : Life) (own : Rec) (whole : IsLogOf 0 own life.events life.recs life.flushed life.end) (from : life.from ≡ 0) where
+module _ (life : Life) (whole : IsLogOf 0 life.base life.events life.recs life.flushed life.end) (from : life.from ≡ 0) where
   -- no record behind the first one is a checkpoint
   first_alone : (before after : List Rec) (n : ℕ) (c : Counters) → life.recs ≡ before ++ records.Checkpoint n c ∷ after → before ≡ []
   first_alone [] after n c e = refl
@@ -70,12 +70,12 @@ module _ (life : Life) (own : Rec) (whole : IsLogOf 0 own life.events life.recs 
 pub log_holds : {L : Type 0} (l : logs.Ghosts L) (log : L) (life : Life) (start : Start) (first : Rec) (es : List Entry) (faults next kept : ℕ)
     (counters : Option Counters) (down : Option ℕ) → start.from ≡ 1 → start.logged ≡ first ∷ []
     → LogStands start l.tells faults (l.images log) life.recs next kept life.flushed counters down es
-    → life.from ≡ 0 → IsLogOf 0 first life.events life.recs life.flushed life.end
+    → life.from ≡ 0 → IsLogOf 0 life.base life.events life.recs life.flushed life.end
     → IsTrue l.tells → l.images log (l.reads log) → LogHolds l life log
 log_holds l log life start first es faults next kept counters down from logged stands new whole tells now =
     let k = stands.kept tells in
     let size : length life.recs ≡ length (first ∷ recs_in es) = ap (λ (t : List Rec). length t) (stands.recs_are ∙ ap (λ (t : List Rec). t ++ recs_in es) logged) in
     let long : next ≡ length life.recs = (let a = stands.next_is in omega (arith, a, from, size)) in
     let each : (c : Volume) → l.images log c → HoldsRecords life c = λ c image.
-    opens_to_life life first whole new kept c (all_kept (k.1 ++ recs_in es) life.recs k.0 next kept life.flushed (l.images log) long k.2 c image) in
+    opens_to_life life whole new kept c (all_kept (k.1 ++ recs_in es) life.recs k.0 next kept life.flushed (l.images log) long k.2 c image) in
     record { reads = each (l.reads log) now; crashed = each }

@@ -19,7 +19,7 @@ use Rattle.script_source.specs.declared.script.NoScript.TheVariants as no_script
 use Rattle.script_source.specs.Sources.{HasScript, IsNoScriptOf}
 use Rattle.engine_life.specs.declared.refusal.NoLife.{NoLife}
 use Rattle.engine_life.specs.declared.refusal.NoLife.TheVariants as no_lives
-use Rattle.engine_life.specs.Refusals.{HasDeviceFailed}
+use Rattle.engine_life.specs.Refusals.{IsOfVolumes}
 use Rattle.tx_io.specs.Causes.{Rose}
 use Rattle.session_run.specs.declared.ending.Ending.{Ending}
 use Rattle.session_run.specs.declared.ending.Ending.TheVariants as endings
@@ -27,7 +27,7 @@ use Rattle.session_run.specs.declared.task.Task.{Task}
 use Rattle.session_run.specs.declared.task.Task.TheVariants as tasks
 use Rattle.session_run.specs.Leaves.{LeavesVolumes}
 use Rattle.session_run.specs.Runs.{IsTaken}
-use Rattle.session_run.specs.Tool.{Ends, IsAccepted, IsSized, IsTask, IsUnread, IsUnrun, IsUnrunBy, IsWholeSummary, TellsRefusal, damage_text, status_of, text_of, unread_by}
+use Rattle.session_run.specs.Tool.{Ends, HasMounted, IsAccepted, IsSized, IsTask, IsUnread, IsUnrun, IsUnrunBy, IsWholeSummary, TellsRefusal, damage_text, status_of, text_of, unread_by}
 
 -- ---- what is asked for
 
@@ -71,6 +71,7 @@ answers tells left left' s text F h r = (
     ended = h.ended;
     script = s;
     spelled = h.spelled;
+    runnable = h.runnable;
     report = r.0;
     lawful = r.1;
     exact = r.2;
@@ -98,7 +99,7 @@ module _ {L P : Type 0} (l : logs.Ghosts L) (p : disks.Ghosts P) where
   unopened_ends task left left' faults faults' first before now gives refusal (endings.NoScript text) t u = absurd t
   unopened_ends task left left' faults faults' first before now gives refusal endings.ReadFault t u = absurd t
   unopened_ends task left left' faults faults' first before now gives refusal endings.Memory t u = tt
-  unopened_ends task left left' faults faults' first before now gives refusal endings.Device t u = (subst (IsUnrun l p task left left' first before now gives) t u).2
+  unopened_ends task left left' faults faults' first before now gives refusal endings.Device t u = subst (IsUnrun l p task left left' first before now gives) t u
   unopened_ends task left left' faults faults' first before now gives refusal (endings.Damaged text) t u = (t.0, t.1, subst (IsUnrun l p task left left' first before now gives) t.2 u)
   unopened_ends task left left' faults faults' first before now gives refusal endings.Full t u = subst (IsUnrun l p task left left' first before now gives) t u
   unopened_ends task left left' faults faults' first before now gives refusal endings.OldLog t u = subst (IsUnrun l p task left left' first before now gives) t u
@@ -108,6 +109,50 @@ module _ {L P : Type 0} (l : logs.Ghosts L) (p : disks.Ghosts P) where
   generated_is_read seed size left left' faults faults' first before now gives (endings.NoScript text) k u = absurd (let e : tasks.Gen seed size ≡ tasks.Run = k.0 in cc)
   generated_is_read seed size left left' faults faults' first before now gives endings.ReadFault k u = absurd (let e : tasks.Gen seed size ≡ tasks.Run = k.0 in cc)
   generated_is_read seed size left left' faults faults' first before now gives e k u = u
+
+-- ---- of which volumes were mounted
+
+pub unread_unmounted : (refusal : NoScript) → HasMounted (unread_by refusal) → ⊥
+unread_unmounted (no_scripts.Refused text) m = m
+unread_unmounted no_scripts.ReadFault m = m
+unread_unmounted no_scripts.Memory m = m
+
+-- the ending of a refusal comes of volumes only where that does
+pub refused_mounted : (refusal : NoLife) (e : Ending) → TellsRefusal refusal e → HasMounted e → IsOfVolumes refusal
+refused_mounted refusal (endings.Report text) t m = absurd t
+refused_mounted refusal (endings.Summary text) t m = absurd t
+refused_mounted refusal (endings.NoScript text) t m = absurd m
+refused_mounted refusal endings.ReadFault t m = absurd m
+refused_mounted refusal endings.Memory t m = absurd m
+refused_mounted refusal endings.Device t m = absurd m
+refused_mounted refusal (endings.Damaged text) t m = subst IsOfVolumes (sym t.2) tt
+refused_mounted refusal endings.Full t m = subst IsOfVolumes (sym t) tt
+refused_mounted refusal endings.OldLog t m = subst IsOfVolumes (sym t) tt
+
+-- the statuses of such endings
+abbrev pub Mounted : ℕ → Type 0
+Mounted status = (status ≡ 0) ⊎ ((status ≡ 7) ⊎ ((status ≡ 9) ⊎ (status ≡ 10)))
+
+module _ (A : Type 0) (status : ℕ) (done : status ≡ 0 → A) (seven : status ≡ 7 → A) (nine : status ≡ 9 → A) (ten : status ≡ 10 → A) where
+  by_mounted : Mounted status → A
+  by_mounted m = ⊎_elim done (λ (k : (status ≡ 7) ⊎ ((status ≡ 9) ⊎ (status ≡ 10))). ⊎_elim seven (λ (q : (status ≡ 9) ⊎ (status ≡ 10)). ⊎_elim nine ten q) k) m
+
+pub has_mounted : (e : Ending) → Mounted (status_of e) → HasMounted e
+has_mounted (endings.Report text) m = tt
+has_mounted (endings.Summary text) m = tt
+has_mounted (endings.Damaged text) m = tt
+has_mounted endings.Full m = tt
+has_mounted endings.OldLog m = tt
+has_mounted e m = by_mounted _ (status_of e) (λ s. omega (arith, s)) (λ s. omega (arith, s)) (λ s. omega (arith, s)) (λ s. omega (arith, s)) m
+
+unlike : (n status : ℕ) → status ≡ n → n ≢ 0 → n ≢ 7 → n ≢ 9 → n ≢ 10 → Mounted status → ⊥
+unlike n status is done seven nine ten m = by_mounted ⊥ status (λ s. done (sym is ∙ s)) (λ s. seven (sym is ∙ s)) (λ s. nine (sym is ∙ s)) (λ s. ten (sym is ∙ s)) m
+
+-- words that are refused mount nothing
+pub words_unmounted : (A B : Type 0) (status : ℕ) → ((status ≡ 2) × A) ⊎ ((status ≡ 4) × B) → Mounted status → ⊥
+words_unmounted A B status ends m = ⊎_elim
+    (λ (a : (status ≡ 2) × A). unlike 2 status a.0 (λ q. omega (arith, q)) (λ q. omega (arith, q)) (λ q. omega (arith, q)) (λ q. omega (arith, q)) m)
+    (λ (b : (status ≡ 4) × B). unlike 4 status b.0 (λ q. omega (arith, q)) (λ q. omega (arith, q)) (λ q. omega (arith, q)) (λ q. omega (arith, q)) m) ends
 
 -- ---- by the status
 
@@ -181,13 +226,14 @@ module _ {L P : Type 0} (l : logs.Ghosts L) (p : disks.Ghosts P) (words : List (
     pub refused : status ≡ 2 → ⊥
     pub read : status ≡ 3 → IsRun words × Rose faults faults' × Appends held held' (codes "read-fault" ++ 10 ∷ [])
     pub write : status ≡ 4 → B
-    pub device : status ≡ 5 → HasDeviceFailed l p first before now gives × Appends held held' (codes "device" ++ 10 ∷ [])
+    pub device : status ≡ 5 → IsUnrunBy l p words left left' first before now gives no_lives.Device × Appends held held' (codes "device" ++ 10 ∷ [])
     pub memory : status ≡ 6 → Appends held held' (codes "memory" ++ 10 ∷ [])
     pub damaged : status ≡ 7 → (at : ℕ) × Appends held held' (damage_text at) × IsUnrunBy l p words left left' first before now gives (no_lives.Damaged at)
     pub full : status ≡ 9 → IsUnrunBy l p words left left' first before now gives no_lives.Full × Appends held held' (codes "log-full" ++ 10 ∷ [])
     pub old_log : status ≡ 10 → IsUnrunBy l p words left left' first before now gives no_lives.OldLog × Appends held held' (codes "old-log" ++ 10 ∷ [])
     pub statuses : (status ≤ 10) × (status ≢ 8)
     pub unread : (status ≡ 1) ⊎ (status ≡ 3) → IsUnread e
+    pub mounted : Mounted status → HasMounted e
 
   done : (e : Ending) → Ended e → (status_of e ≡ 0) × Wrote e → IsRun words → HoldsReport
   done (endings.Report text) k w run = (record { text = text.items; answer = k.1; written = w.1 }, k.2)
@@ -207,8 +253,8 @@ module _ {L P : Type 0} (l : logs.Ghosts L) (p : disks.Ghosts P) (words : List (
   read endings.ReadFault k w = (run_asked words task is k.0, k.1, w.1)
   read e k w = absurd (omega (arith, w.0))
 
-  device : (e : Ending) → Ended e → (status_of e ≡ 5) × Wrote e → HasDeviceFailed l p first before now gives × Appends held held' (codes "device" ++ 10 ∷ [])
-  device endings.Device k w = (k, w.1)
+  device : (e : Ending) → Ended e → (status_of e ≡ 5) × Wrote e → IsUnrunBy l p words left left' first before now gives no_lives.Device × Appends held held' (codes "device" ++ 10 ∷ [])
+  device endings.Device k w = ((task, is, k), w.1)
   device e k w = absurd (omega (arith, w.0))
 
   memory : (e : Ending) → (status_of e ≡ 6) × Wrote e → Appends held held' (codes "memory" ++ 10 ∷ [])
@@ -245,4 +291,9 @@ module _ {L P : Type 0} (l : logs.Ghosts L) (p : disks.Ghosts P) (words : List (
         unread = ⊎_elim
             (λ (s : status ≡ 1). is_unread e (inl (at 1 (λ q. omega (arith, q)) s).0))
             (λ (s : status ≡ 3). is_unread e (inr (at 3 (λ q. omega (arith, q)) s).0));
+        mounted = by_mounted (HasMounted e) status
+            (λ s. has_mounted e (inl (at 0 (λ q. omega (arith, q)) s).0))
+            (λ s. has_mounted e (inr (inl (at 7 (λ q. omega (arith, q)) s).0)))
+            (λ s. has_mounted e (inr (inr (inl (at 9 (λ q. omega (arith, q)) s).0))))
+            (λ s. has_mounted e (inr (inr (inr (at 10 (λ q. omega (arith, q)) s).0))));
       }

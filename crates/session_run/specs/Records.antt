@@ -1,9 +1,17 @@
--- What a life leaves on the log's volume.
-use Rattle.std.specs.Prelude.{◌≡◌, ◌≤◌, List, ◌++◌, Some}
+-- What a life leaves on the volumes of the log and of pg_xact.
+use Rattle.std.specs.Prelude.{◌≡◌, ◌≤◌, ℕ, ◌-◌, ◌%◌, List, ◌∷◌, ◌++◌, Contains, Some, slice_get}
 use Rattle.disk_core.specs.declared.log_disk.LogDisk as logs
+use Rattle.disk_core.specs.declared.page_disk.PageDisk as disks
+use Rattle.disk_core.specs.Pages.{Pages}
 use Rattle.disk_core.specs.Volume.{Volume}
+use Rattle.store_pages.specs.Layouts.{xact_page_of}
+use Rattle.tx_events.specs.Ids.{low_half}
 use Rattle.tx_events.specs.declared.record.Rec.{Rec}
+use Rattle.tx_events.specs.declared.record.Rec.TheVariants as records
 use Rattle.tx_model.specs.declared.report.Life.{Life}
+use Rattle.life_law.specs.LifeLog.{IsAmong}
+use Rattle.recoverable.specs.Fit.{IsCommitCode}
+use Rattle.recoverable.specs.XactImages.{code_at}
 use Rattle.wal_core.specs.Log.{history_on}
 use Rattle.wal_core.specs.Opening.{History, next_number}
 
@@ -21,3 +29,18 @@ module _ {L : Type 0} (l : logs.Ghosts L) where
   pub record LogHolds (life : Life) (log : L) : Type 0 where
     pub reads : HoldsRecords life (l.reads log)
     pub crashed : (c : Volume) → l.images log c → HoldsRecords life c
+
+-- Each place of a bank of pg_xact that says committed or sub-committed is that of an id which a flushed commit record of
+-- the life names.
+pub record HoldsStates (life : Life) (banks bank : ℕ) (c : Pages) : Type 0 where
+  pub each : (x : ℕ) → xact_page_of x % banks ≡ bank → IsCommitCode (code_at c x)
+      → (top : ℕ) × (subs : List ℕ) × IsAmong (life.flushed - life.from) life.recs (records.Commit top subs)
+      × (y : ℕ) × Contains (top ∷ subs) y × (low_half y ≡ low_half x)
+
+module _ {P : Type 0} (p : disks.Ghosts P) where
+  -- so the bank's volume among these, as it reads and as any crash would leave it
+  pub record BankHolds (life : Life) (banks bank : ℕ) (volumes : List P) : Type 0 where
+    pub volume : P
+    pub is : slice_get volumes bank ≡ Some volume
+    pub reads : HoldsStates life banks bank (p.pages volume)
+    pub crashed : (c : Pages) → p.images volume c → HoldsStates life banks bank c

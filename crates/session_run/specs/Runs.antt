@@ -1,11 +1,10 @@
 -- The run of a script: what was run and kept of its rounds and dumps, and what is known of a life that is over.
-use Rattle.std.specs.Prelude.{◌≡◌, ℕ, ◌^◌, ◌<◌, ◌≤◌, Bool, List, [], ◌∷◌, ◌++◌, None, length}
-use Rattle.std.specs.List.{count_by, filter, flat_map}
+use Rattle.std.specs.Prelude.{◌≡◌, ℕ, ◌^◌, ◌≤◌, Bool, List, [], ◌∷◌, ◌++◌, None, length}
+use Rattle.std.specs.List.{filter, flat_map}
 use Rattle.disk_core.specs.declared.log_disk.LogDisk as logs
 use Rattle.disk_core.specs.declared.page_disk.PageDisk as disks
 use Rattle.hall.specs.declared.hall.Hall.{Hall}
 use Rattle.hall.specs.Calls.{start_of, view}
-use Rattle.tx_model.specs.declared.command.Command.{Command}
 use Rattle.tx_model.specs.declared.report.Life.{Life}
 use Rattle.tx_model.specs.declared.report.LifeReport.{LifeReport}
 use Rattle.tx_model.specs.declared.report.Step.{Step}
@@ -16,7 +15,7 @@ use Rattle.life_law.specs.LawfulLife.{IsLawfulLife}
 use Rattle.report_text.specs.ReportText.{end_text, rest_text, step_text}
 use Rattle.session_lang.specs.declared.script.Script.{Script}
 use Rattle.session_lang.specs.Rounds.{asked_of}
-use Rattle.run_law.specs.Turns.{IsRunnable, turns_in}
+use Rattle.run_law.specs.Turns.{HasFewLevels, IsRunnable}
 use Rattle.script_rounds.specs.declared.keeper.LineKeeper as keepers
 use Rattle.tx_core.specs.declared.entry.Entry.{Entry}
 use Rattle.tx_core.specs.declared.entry.Start.{Start}
@@ -25,19 +24,14 @@ use Rattle.engine_parts.specs.declared.session.Session.{Session}
 use Rattle.engine_host.specs.declared.cluster.Cluster.{Cluster}
 use Rattle.engine_host.specs.declared.host.Host.{Host}
 use Rattle.session_promise.specs.Dumps.{AreDumpsTold}
-use Rattle.life_law.specs.Commands.{makes_level}
 use Rattle.session_promise.specs.Told.{ToldRound, steps_of}
 use Rattle.session_run.specs.GoesOn.{GoesOn}
-
--- the commands make few levels
-abbrev pub HasFewLevels : List (ℕ × Command) → Type 0
-HasFewLevels turns = count_by (λ (t : ℕ × Command). makes_level t.1) turns < 2900000
 
 -- a script that a new cluster can run
 pub record IsTaken (s : Script) : Type 0 where
   pub runnable : IsRunnable s
   pub banks : (1 ≤ s.banks) × (s.banks ≤ 16)
-  pub few : HasFewLevels (turns_in s.items)
+  pub few : HasFewLevels s.items
 
 -- the cluster that its header tells of
 abbrev pub cluster_of : Script → Cluster

@@ -18,7 +18,7 @@ use Rattle.script_source.specs.declared.script.NoScript.TheVariants as no_script
 use Rattle.script_source.specs.Sources.{HasScript}
 use Rattle.engine_life.specs.declared.refusal.NoLife.{NoLife}
 use Rattle.engine_life.specs.declared.refusal.NoLife.TheVariants as no_lives
-use Rattle.engine_life.specs.Refusals.{HasDeviceFailed, IsUnopened}
+use Rattle.engine_life.specs.Refusals.{IsUnopened}
 use Rattle.session_run.specs.declared.ending.Ending.{Ending}
 use Rattle.session_run.specs.declared.ending.Ending.TheVariants as endings
 use Rattle.session_run.specs.declared.task.Task.{Task}
@@ -75,7 +75,7 @@ module _ {L P : Type 0} (l : logs.Ghosts L) (p : disks.Ghosts P) where
       (task ≡ tasks.Run) × IsNoScript left left' text.items
   Ends task left left' faults faults' first before now gives endings.ReadFault = (task ≡ tasks.Run) × Rose faults faults'
   Ends task left left' faults faults' first before now gives endings.Memory = Unit {0}
-  Ends task left left' faults faults' first before now gives endings.Device = HasDeviceFailed l p first before now gives
+  Ends task left left' faults faults' first before now gives endings.Device = IsUnrun task left left' first before now gives no_lives.Device
   Ends task left left' faults faults' first before now gives (endings.Damaged text) =
       (at : ℕ) × (text.items ≡ damage_text at) × IsUnrun task left left' first before now gives (no_lives.Damaged at)
   Ends task left left' faults faults' first before now gives endings.Full = IsUnrun task left left' first before now gives no_lives.Full
@@ -110,6 +110,15 @@ abbrev pub IsUnread : Ending → Type 0
 IsUnread (endings.NoScript text) = Unit {0}
 IsUnread endings.ReadFault = Unit {0}
 IsUnread ending = ⊥
+
+-- the ending comes only of volumes that were mounted
+abbrev pub HasMounted : Ending → Type 0
+HasMounted (endings.Report text) = Unit {0}
+HasMounted (endings.Summary text) = Unit {0}
+HasMounted (endings.Damaged text) = Unit {0}
+HasMounted endings.Full = Unit {0}
+HasMounted endings.OldLog = Unit {0}
+HasMounted ending = ⊥
 
 -- the status that the tool answers
 abbrev pub status_of : Ending → ℕ

@@ -15,6 +15,7 @@ use std::sync::Wait;
 use tx_model::{Command, Refusal, Reply, SnapData, Status};
 use xact_ends::{abort, commit, undo};
 use xact_engine::{begin, drop_snap, release, save, snap};
+use xact_freezes::freeze;
 use xact_reads::{did, horizon, see, status};
 use xact_writes::{Wrote, write};
 
@@ -109,6 +110,7 @@ pub fn run_command<R: Wait, L: LogDisk, P: PageDisk>(
         Command::See { name, x } => seen(see(rt, hall, caller, banks, name, *x)),
         Command::Status { x } => known(status(rt, hall, caller, banks, *x)),
         Command::Did { x } => told(did(rt, hall, caller, banks, *x)),
+        Command::Freeze { oldest } => done(freeze(rt, hall, caller, *oldest)),
         _ => unreachable!(),
     }
 }

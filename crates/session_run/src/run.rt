@@ -1,6 +1,6 @@
 //! Runs a script over a media, and answers the text of its report, or the counts of what it did.
-ghost use Rattle.std.specs.Prelude.{◌≡◌, ◌^◌, ◌<◌, ◌≤◌, IfErr, IfOk, IsTrue, List, OnOk};
-ghost use Rattle.disk_core.specs.Media.{HasBanks};
+ghost use Rattle.std.specs.Prelude.{◌≡◌, ◌^◌, ◌<◌, ◌≤◌, false, IfErr, IfOk, IsTrue, List, OnOk};
+ghost use Rattle.disk_core.specs.Media.{MayBeFirst};
 ghost use Rattle.disk_core.specs.declared.media.Volumes.{Volumes};
 ghost use Rattle.tx_model.specs.declared.report.Report.{Report};
 ghost use Rattle.tx_model.specs.declared.report.Step.{Step};
@@ -8,7 +8,7 @@ ghost use Rattle.report_text.specs.ReportText.{front_text, report_text};
 ghost use Rattle.run_law.specs.Tool.{IsReportOf};
 ghost use Rattle.engine_host.specs.Opening.{IsCluster};
 ghost use Rattle.engine_life.specs.Lives.{IsNewLife, life_told};
-ghost use Rattle.engine_life.specs.Refusals.{IsUnopened};
+ghost use Rattle.engine_life.specs.Refusals.{IsOfVolumes, IsUnopened};
 ghost use Rattle.wal_core.specs.LogViews.{log_disk};
 ghost use Rattle.script_gen.specs.Summaries.{IsSummaryOf};
 ghost use Rattle.session_run.specs.Leaves.{HasLeft, LeavesVolumes};
@@ -52,6 +52,11 @@ fn reads_an_image<L: LogDisk>(_log: &WalLog<L>)
     ensures { IsTrue L.tells → L.images (log_disk _log.now) (L.reads (log_disk _log.now)) }
 {}
 
+// So a page volume.
+fn pages_read_an_image<P: PageDisk>()
+    ensures { IsTrue P.tells → (v : P) → P.images v (P.pages v) }
+{}
+
 /// Runs a script in a life that begins, closes the life, and keeps its lines.
 fn run_life<
     R: Threads + Wait + Sync,
@@ -77,8 +82,10 @@ fn run_life<
     life_ends(&life.hall);
     let ran = run_rounds(rt, alloc, &life.hall, &mut life.host, script, kept, threads);
     let closed = close_life(life);
+    has_64_bits(closed.log.next());
     has_64_bits(closed.log.end());
     reads_an_image(&closed.log);
+    pages_read_an_image::<P>();
     (closed, ran)
 }
 
@@ -161,11 +168,14 @@ where
     requires new { IsTrue (M.is_new media.old) }
     ensures report { IfOk result (λ text. (r : Report) × (is : IsReportOf M.Pages.tells script.now r)
         × (text.items ≡ report_text r)
-        × LeavesVolumes M.Log.LogDisk M.Pages.PageDisk (HasBanks script.now.banks) (M.gives media.new) is.life) }
+        × LeavesVolumes M.Log.LogDisk M.Pages.PageDisk (MayBeFirst (M.begins media.old) script.now.banks)
+        (M.gives media.new) is.life) }
     ensures idle { IsTrue (M.is_idle media.new) }
     ensures count { M.faults media.old ≤ M.faults media.new }
+    ensures used { OnOk result (M.is_new media.new ≡ false) }
+    ensures used_so { IfErr result (λ refusal. IsOfVolumes refusal → M.is_new media.new ≡ false) }
     ensures refused { IfErr result (λ refusal. IsUnopened M.Log.LogDisk M.Pages.PageDisk (cluster_of script.now)
-        HasBanks (M.faults media.old) (M.faults media.new) (M.gives media.new) refusal) }
+        (MayBeFirst (M.begins media.old)) (M.faults media.old) (M.faults media.new) (M.gives media.new) refusal) }
 {
     let Ok(mut text) = front_of(alloc, script) else {
         return Err(NoLife::Memory);
@@ -194,12 +204,14 @@ where
     requires idle { IsTrue (M.is_idle media.old) }
     requires new { IsTrue (M.is_new media.old) }
     ensures counts { IfOk result (λ text. (counts : IsSummaryOf M.Pages.tells script.now text.items)
-        × LeavesVolumes M.Log.LogDisk M.Pages.PageDisk (HasBanks script.now.banks) (M.gives media.new)
-        counts.lawful.life) }
+        × LeavesVolumes M.Log.LogDisk M.Pages.PageDisk (MayBeFirst (M.begins media.old) script.now.banks)
+        (M.gives media.new) counts.lawful.life) }
     ensures idle { IsTrue (M.is_idle media.new) }
     ensures count { M.faults media.old ≤ M.faults media.new }
+    ensures used { OnOk result (M.is_new media.new ≡ false) }
+    ensures used_so { IfErr result (λ refusal. IsOfVolumes refusal → M.is_new media.new ≡ false) }
     ensures refused { IfErr result (λ refusal. IsUnopened M.Log.LogDisk M.Pages.PageDisk (cluster_of script.now)
-        HasBanks (M.faults media.old) (M.faults media.new) (M.gives media.new) refusal) }
+        (MayBeFirst (M.begins media.old)) (M.faults media.old) (M.faults media.new) (M.gives media.new) refusal) }
 {
     let life = open_life(alloc, media, cluster_of(script))?;
     let (closed, counted) = count_life(rt, alloc, life, script, threads);

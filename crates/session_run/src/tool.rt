@@ -1,17 +1,16 @@
 //! The tool's top call, with the main guarantee (`docs/GUARANTEES.md`).
-ghost use Rattle.std.specs.Prelude.{◌≡◌, ◌≢◌, ◌≤◌, ◌⊎◌, ◌++◌, ◌∷◌, ℕ, List, Option, [], IsTrue, codes, map, string_bytes, take};
+ghost use Rattle.std.specs.Prelude.{◌≡◌, ◌≢◌, ◌≤◌, ◌⊎◌, ◌++◌, ◌∷◌, ℕ, List, Option, [], IsTrue, codes, false, map, string_bytes, take};
 ghost use Rattle.std.specs.Io.KnownBytes.{Appends};
-ghost use Rattle.disk_core.specs.Media.{HasBanks};
+ghost use Rattle.disk_core.specs.Media.{MayBeFirst};
 ghost use Rattle.tx_io.specs.Causes.{Rose};
 ghost use Rattle.engine_life.specs.declared.refusal.NoLife.TheVariants as no_lives;
-ghost use Rattle.engine_life.specs.Refusals.{HasDeviceFailed};
 ghost use Rattle.run_law.specs.Tool.{IsRefused, IsRun, IsWholeRun, ReadsUpTo, most_read};
 ghost use Rattle.script_gen.specs.Generated.{generated};
 ghost use Rattle.script_gen.specs.Laws.{most_transactions};
 ghost use Rattle.script_gen.specs.Words.{IsGen};
 ghost use Rattle.session_run.specs.declared.task.Task.TheVariants as tasks;
 ghost use Rattle.session_run.specs.Leaves.{LeavesVolumes};
-ghost use Rattle.session_run.specs.Tool.{Ends, HoldsFront, IsAccepted, IsSized, IsUnread, IsUnrunBy, IsWholeSummary, damage_text, status_of, text_of};
+ghost use Rattle.session_run.specs.Tool.{Ends, HasMounted, HoldsFront, IsAccepted, IsSized, IsUnread, IsUnrunBy, IsWholeSummary, damage_text, status_of, text_of};
 
 use crate::ending::{Ending, unopened, unread};
 use crate::run::{count_script, run_script};
@@ -40,13 +39,14 @@ where
     requires idle { IsTrue (M.is_idle media.old) }
     requires new { IsTrue (M.is_new media.old) }
     ensures ends { Ends M.Log.LogDisk M.Pages.PageDisk tasks.Run (S.left source.old) (S.left source.new)
-        (S.faults source.old) (S.faults source.new) HasBanks (M.faults media.old) (M.faults media.new) (M.gives media.new)
-        result }
+        (S.faults source.old) (S.faults source.new) (MayBeFirst (M.begins media.old))
+        (M.faults media.old) (M.faults media.new) (M.gives media.new) result }
     ensures later { S.faults source.old ≤ S.faults source.new }
     ensures amount { ReadsUpTo most_read (S.left source.old) (S.left source.new) }
     ensures idle { IsTrue (M.is_idle media.new) }
     ensures unmounted { IsUnread result → media.new ≡ media.old }
     ensures count { M.faults media.old ≤ M.faults media.new }
+    ensures used { HasMounted result → M.is_new media.new ≡ false }
 {
     let script = match take_script(alloc, source) {
         Ok(script) => script,
@@ -74,9 +74,11 @@ where
     requires idle { IsTrue (M.is_idle media.old) }
     requires new { IsTrue (M.is_new media.old) }
     ensures ends { (left : Option (List ℕ)) (faults : ℕ) → Ends M.Log.LogDisk M.Pages.PageDisk (tasks.Gen seed size)
-        left left faults faults HasBanks (M.faults media.old) (M.faults media.new) (M.gives media.new) result }
+        left left faults faults (MayBeFirst (M.begins media.old))
+        (M.faults media.old) (M.faults media.new) (M.gives media.new) result }
     ensures idle { IsTrue (M.is_idle media.new) }
     ensures count { M.faults media.old ≤ M.faults media.new }
+    ensures used { HasMounted result → M.is_new media.new ≡ false }
 {
     generated_scripts_run();
     let script = match generate(alloc, seed, size) {
@@ -105,14 +107,15 @@ where
     requires idle { IsTrue (M.is_idle media.old) }
     requires new { IsTrue (M.is_new media.old) }
     ensures ends { Ends M.Log.LogDisk M.Pages.PageDisk task (S.left source.old) (S.left source.new)
-        (S.faults source.old) (S.faults source.new) HasBanks (M.faults media.old) (M.faults media.new) (M.gives media.new)
-        result }
+        (S.faults source.old) (S.faults source.new) (MayBeFirst (M.begins media.old))
+        (M.faults media.old) (M.faults media.new) (M.gives media.new) result }
     ensures later { S.faults source.old ≤ S.faults source.new }
     ensures amount { ReadsUpTo most_read (S.left source.old) (S.left source.new) }
     ensures untouched { (task ≡ tasks.Run → ⊥) → source.new ≡ source.old }
     ensures idle { IsTrue (M.is_idle media.new) }
     ensures unmounted { IsUnread result → media.new ≡ media.old }
     ensures count { M.faults media.old ≤ M.faults media.new }
+    ensures used { HasMounted result → M.is_new media.new ≡ false }
 {
     match task {
         Task::Run => run_source(rt, alloc, source, media, threads),
@@ -180,15 +183,15 @@ where
     // of more faults of a volume than it has counted.
     ensures done { result ≡ 0 → IsRun (map string_bytes words.now)
         → (run : IsWholeRun M.Pages.tells (S.left source.old) (S.left source.new) (K.held sink.old) (K.held sink.new))
-        × LeavesVolumes M.Log.LogDisk M.Pages.PageDisk (HasBanks run.answer.script.banks) (M.gives media.new)
-        run.answer.lawful.life }
+        × LeavesVolumes M.Log.LogDisk M.Pages.PageDisk (MayBeFirst (M.begins media.old) run.answer.script.banks)
+        (M.gives media.new) run.answer.lawful.life }
 
     // And for `gen`: the line written has the counts of such a report of the generated script.
     ensures counted { result ≡ 0 → (IsRun (map string_bytes words.now) → ⊥) → (seed size : ℕ)
         × IsGen (map string_bytes words.now) seed size
         × (sum : IsWholeSummary M.Pages.tells seed size (K.held sink.old) (K.held sink.new))
-        × LeavesVolumes M.Log.LogDisk M.Pages.PageDisk (HasBanks (generated seed size).banks) (M.gives media.new)
-        sum.counts.lawful.life }
+        × LeavesVolumes M.Log.LogDisk M.Pages.PageDisk (MayBeFirst (M.begins media.old) (generated seed size).banks)
+        (M.gives media.new) sum.counts.lawful.life }
 
     // Why it ends otherwise.
     ensures script { result ≡ 1 → IsRun (map string_bytes words.now)
@@ -198,19 +201,22 @@ where
     ensures read { result ≡ 3 → IsRun (map string_bytes words.now) × Rose (S.faults source.old) (S.faults source.new) }
     ensures write { result ≡ 4 → Rose (K.faults sink.old) (K.faults sink.new) }
     ensures front { result ≡ 4 → HoldsFront M.Log.LogDisk M.Pages.PageDisk (map string_bytes words.now)
-        (S.left source.old) (S.left source.new) (S.faults source.old) (S.faults source.new) HasBanks
-        (M.faults media.old) (M.faults media.new) (M.gives media.new) (K.held sink.old) (K.held sink.new) }
-    ensures device { result ≡ 5 → HasDeviceFailed M.Log.LogDisk M.Pages.PageDisk HasBanks
-        (M.faults media.old) (M.faults media.new) (M.gives media.new) }
+        (S.left source.old) (S.left source.new) (S.faults source.old) (S.faults source.new)
+        (MayBeFirst (M.begins media.old)) (M.faults media.old) (M.faults media.new) (M.gives media.new)
+        (K.held sink.old) (K.held sink.new) }
+    ensures device { result ≡ 5 → IsUnrunBy M.Log.LogDisk M.Pages.PageDisk (map string_bytes words.now)
+        (S.left source.old) (S.left source.new) (MayBeFirst (M.begins media.old))
+        (M.faults media.old) (M.faults media.new) (M.gives media.new) no_lives.Device }
     ensures damaged { result ≡ 7 → (at : ℕ) × Appends (K.held sink.old) (K.held sink.new) (damage_text at)
         × IsUnrunBy M.Log.LogDisk M.Pages.PageDisk (map string_bytes words.now) (S.left source.old) (S.left source.new)
-        HasBanks (M.faults media.old) (M.faults media.new) (M.gives media.new) (no_lives.Damaged at) }
+        (MayBeFirst (M.begins media.old)) (M.faults media.old) (M.faults media.new) (M.gives media.new)
+        (no_lives.Damaged at) }
     ensures full { result ≡ 9 → IsUnrunBy M.Log.LogDisk M.Pages.PageDisk (map string_bytes words.now)
-        (S.left source.old) (S.left source.new) HasBanks (M.faults media.old) (M.faults media.new) (M.gives media.new)
-        no_lives.Full }
+        (S.left source.old) (S.left source.new) (MayBeFirst (M.begins media.old))
+        (M.faults media.old) (M.faults media.new) (M.gives media.new) no_lives.Full }
     ensures old_log { result ≡ 10 → IsUnrunBy M.Log.LogDisk M.Pages.PageDisk (map string_bytes words.now)
-        (S.left source.old) (S.left source.new) HasBanks (M.faults media.old) (M.faults media.new) (M.gives media.new)
-        no_lives.OldLog }
+        (S.left source.old) (S.left source.new) (MayBeFirst (M.begins media.old))
+        (M.faults media.old) (M.faults media.new) (M.gives media.new) no_lives.OldLog }
     ensures statuses { (result ≤ 10) × (result ≢ 8) }
 
     // What it reads, and how it leaves the media.
@@ -219,6 +225,7 @@ where
     ensures unused { (IsAccepted (map string_bytes words.now) → ⊥) → media.new ≡ media.old }
     ensures unmounted { (result ≡ 1) ⊎ (result ≡ 3) → media.new ≡ media.old }
     ensures rested { IsTrue (M.is_idle media.new) }
+    ensures used { (result ≡ 0) ⊎ ((result ≡ 7) ⊎ ((result ≡ 9) ⊎ (result ≡ 10))) → M.is_new media.new ≡ false }
 
     // And the line that it then writes.
     ensures no_words { result ≡ 2 → Appends (K.held sink.old) (K.held sink.new) (codes "words" ++ 10 ∷ []) }

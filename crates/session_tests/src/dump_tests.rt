@@ -160,6 +160,25 @@ dump xact 32 0 1 -> 00
     )
 }
 
+/// So is one of pg_subtrans whose segment lies wholly before that of the page of the id before the next one.
+#[test]
+fn a_page_of_parents_that_is_cut(rt: HostRuntime) -> Result<(), Fail> {
+    check_parts(
+        &rt,
+        ".start 1048576
+.dump subtrans 479 0 4
+.dump subtrans 480 0 4
+.dump subtrans 511 8188 4
+",
+        &[
+            "dump subtrans 479 0 4 -> cut 511
+dump subtrans 480 0 4 -> 00 00 00 00
+dump subtrans 511 8188 4 -> 00 00 00 00
+",
+        ],
+    )
+}
+
 /// Pages of multixacts aren't shown yet.
 #[test]
 fn a_dump_that_the_run_lacks(rt: HostRuntime) -> Result<(), Fail> {

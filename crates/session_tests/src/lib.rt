@@ -10,6 +10,8 @@ mod did_tests;
 #[cfg(test)]
 mod dump_tests;
 #[cfg(test)]
+mod freeze_tests;
+#[cfg(test)]
 mod gen_tests;
 #[cfg(test)]
 mod horizon_tests;

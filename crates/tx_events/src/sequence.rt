@@ -51,6 +51,15 @@ impl<T> Sequence<T> {
         }
     }
 
+    // No items yet, with room for so many.
+    fn with_room(alloc: Global, count: usize) -> Result<Self, Memory>
+        ensures { IfOk result (λ s. s ≡ []) }
+    {
+        Ok(Sequence {
+            items: Vec::with_capacity(alloc, count)?,
+        })
+    }
+
     /// The items of a `Vec`. Takes no memory.
     pub fn of(items: Vec<T>) -> Self
         ensures { result ≡ items.items }
@@ -79,7 +88,7 @@ impl<T: Drop> Sequence<T> {
 
 impl<T: Copied> Copied for Sequence<T> {
     fn copy(&self) -> Result<Self, Memory> {
-        let mut all = Sequence::new(*self.items.allocator());
+        let mut all = Sequence::with_room(*self.items.allocator(), self.items.len())?;
         for item in self.items() {
             all.push(item.copy()?)?;
         }

@@ -8,7 +8,7 @@ use Rattle.tx_model.specs.declared.report.Line.{Line}
 use Rattle.tx_events.specs.declared.record.Counters.{Counters}
 use Rattle.tx_events.specs.Events.{by_of, events_of, given}
 use Rattle.tx_model.specs.Stance.{Stance, stance_from, after, nothing_yet}
-use Rattle.tx_model.specs.Replies.{IsFuture, IsGivenAt, IsHorizon, IsKnown, IsNearNext, IsNotTooOld, IsStatusOf, IsStopped, IsWarned, MayFindOldest, MayReadAt, MayReply, RoundSpan, seen_id, status_after}
+use Rattle.tx_model.specs.Replies.{IsBackward, IsFuture, IsGivenAt, IsHorizon, IsKnown, IsNearNext, IsNotTooOld, IsStatusOf, IsStopped, IsTooNew, IsWarned, MayFindOldest, MayReadAt, MayReply, RoundSpan, seen_id, status_after}
 use Rattle.tx_events.specs.Snapshots.{snapshot_data, snapshot_xmax}
 use Rattle.tx_events.specs.Visible.{is_visible}
 use Rattle.tx_events.specs.Limits.{stop_limit, warn_limit}
@@ -149,6 +149,22 @@ horizon_grows base h es r r' by xmin f t w o k = record {
   xmin_is = k.xmin_is ∙ ap (oldest_xmin base.next) (sym (take-append-le k.place h es (omega (arith, k.read.not_past))));
 }
 
+backward_grows : (base : Counters) (h es : List Event) (r r' : RoundSpan) (by : By) (oldest now : ℕ) → r'.from ≤ r.from → r.to ≤ r'.to → r.to ≤ length h → AreLater by es → IsBackward base h r by oldest now → IsBackward base (h ++ es) r' by oldest now
+backward_grows base h es r r' by oldest now f t w o k = record {
+  place = k.place;
+  read = read_grows h es r r' by k.place f t w o k.read;
+  now_is = k.now_is ∙ ap (oldest_id base.oldest) (sym (take-append-le k.place h es (omega (arith, k.read.not_past))));
+  older = k.older;
+}
+
+too_new_grows : (base : Counters) (h es : List Event) (r r' : RoundSpan) (by : By) (oldest limit : ℕ) → r'.from ≤ r.from → r.to ≤ r'.to → r.to ≤ length h → AreLater by es → IsTooNew base h r by oldest limit → IsTooNew base (h ++ es) r' by oldest limit
+too_new_grows base h es r r' by oldest limit f t w o k = record {
+  place = k.place;
+  read = read_grows h es r r' by k.place f t w o k.read;
+  limit_is = k.limit_is ∙ ap (oldest_xmin base.next) (sym (take-append-le k.place h es (omega (arith, k.read.not_past))));
+  past = k.past;
+}
+
 -- what may be answered may be answered when the history has grown by events of other commands and the round's place
 -- is wider
 pub may_reply_grows : (base : Counters) (committed : List ℕ) (h es : List Event) (r r' : RoundSpan) (by : By) (s : Stance) (command : Command) (reply : Reply) → r'.from ≤ r.from → r.to ≤ r'.to → r.to ≤ length h → AreLater by es → MayReply base committed h r by s command reply → MayReply base committed (h ++ es) r' by s command reply
@@ -209,4 +225,7 @@ may_reply_grows base committed h es r r' by s (commands.Did x) (replies.Refused 
   older = m.older;
   found = found_grows base h es r r' by oldest f t w o m.found;
 }
+may_reply_grows base committed h es r r' by s (commands.Freeze oldest) replies.Done f t w o m = m
+may_reply_grows base committed h es r r' by s (commands.Freeze oldest) (replies.Refused (refusals.Backward now)) f t w o m = backward_grows base h es r r' by oldest now f t w o m
+may_reply_grows base committed h es r r' by s (commands.Freeze oldest) (replies.Refused (refusals.TooNew limit)) f t w o m = too_new_grows base h es r r' by oldest limit f t w o m
 may_reply_grows base committed h es r r' by s command reply f t w o m = absurd m

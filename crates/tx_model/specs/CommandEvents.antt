@@ -77,4 +77,5 @@ HasEvents by s commands.Abort replies.Done h = h ≡ abort_event by (top_level s
 HasEvents by s (commands.Snap name) (replies.Snapped lists) h = h ≡ events.Snap by name ∷ []
 HasEvents by s (commands.DropSnap name) replies.Done h = h ≡ events.SnapDrop by name ∷ []
 HasEvents by s (commands.Status x) reply h = h ≡ ask_event by x reply
+HasEvents by s (commands.Freeze oldest) replies.Done h = h ≡ events.Oldest by oldest ∷ []
 HasEvents by s command reply h = h ≡ []

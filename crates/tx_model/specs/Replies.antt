@@ -163,6 +163,20 @@ pub record IsHorizon (base : Counters) (h : List Event) (round : RoundSpan) (by 
   pub read : MayReadAt h round by place
   pub xmin_is : xmin ≡ oldest_xmin base.next (take place h)
 
+-- the id that was to be the oldest one was before the announced one at a place where the command may read
+pub record IsBackward (base : Counters) (h : List Event) (round : RoundSpan) (by : By) (oldest now : ℕ) : Type 0 where
+  pub place : ℕ
+  pub read : MayReadAt h round by place
+  pub now_is : now ≡ oldest_id base.oldest (take place h)
+  pub older : oldest < now
+
+-- it was past the oldest xmin at such a place
+pub record IsTooNew (base : Counters) (h : List Event) (round : RoundSpan) (by : By) (oldest limit : ℕ) : Type 0 where
+  pub place : ℕ
+  pub read : MayReadAt h round by place
+  pub limit_is : limit ≡ oldest_xmin base.next (take place h)
+  pub past : limit < oldest
+
 -- a transaction has at most so many levels: itself and 1,000 savepoints
 abbrev pub most_levels : ℕ
 most_levels = 1001
@@ -205,4 +219,9 @@ MayReply base committed h round by s (commands.Status x) (replies.Refused (refus
     IsFuture base h by x next
 MayReply base committed h round by s (commands.Did x) (replies.Refused (refusals.TooOld oldest)) =
     IsOldNear base h round by x.number oldest
+MayReply base committed h round by s (commands.Freeze oldest) replies.Done = Unit {0}
+MayReply base committed h round by s (commands.Freeze oldest) (replies.Refused (refusals.Backward now)) =
+    IsBackward base h round by oldest now
+MayReply base committed h round by s (commands.Freeze oldest) (replies.Refused (refusals.TooNew limit)) =
+    IsTooNew base h round by oldest limit
 MayReply base committed h round by s command reply = ⊥

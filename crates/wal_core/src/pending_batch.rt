@@ -26,11 +26,15 @@ fn stage(behind: &mut Vec<u8>, rec: &Rec) -> Result<(), Memory>
     ensures ok { OnOk result (behind.new.items ≡ behind.old.items ++ (rec_bytes rec.now ++ 0 ∷ [])) }
     ensures err { OnErr result (behind.new.items ≡ behind.old.items) }
 {
-    let mut bytes = Vec::new(*behind.allocator());
-    write_rec(rec, &mut bytes)?;
-    bytes.push(0)?;
-    behind.extend_from_slice(&bytes)?;
-    Ok(())
+    let length = behind.len();
+    write_rec(rec, behind)?;
+    match behind.push(0) {
+        Ok(()) => Ok(()),
+        Err(_) => {
+            behind.truncate(length);
+            Err(Memory)
+        }
+    }
 }
 
 #[tactic(auto, unfolding(wal_records::specs::Numbers::le_bytes))]

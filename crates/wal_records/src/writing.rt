@@ -141,7 +141,7 @@ pub fn write_rec(rec: &Rec, into: &mut Vec<u8>) -> Result<(), Memory>
     ensures ok { OnOk result (into.new.items ≡ into.old.items ++ rec_bytes rec.now) }
     ensures err { OnErr result (into.new.items ≡ into.old.items) }
 {
-    let mut bytes = Vec::new(*into.allocator());
+    let mut bytes = Vec::with_capacity(*into.allocator(), rec_length(rec) as usize)?;
     put_rec(&mut bytes, rec)?;
     into.extend_from_slice(&bytes)?;
     Ok(())

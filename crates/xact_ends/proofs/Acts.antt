@@ -39,7 +39,7 @@ use Rattle.engine_parts.specs.declared.session.Caller.{Caller}
 use Rattle.engine_parts.specs.declared.session.Session.{Session}
 use Rattle.engine_parts.specs.declared.session.Stage.{Stage}
 use Rattle.engine_parts.specs.declared.session.Stage.TheVariants as stages
-use Rattle.engine_parts.specs.Adding.{Adds, IsCommitOf, IsRecordBy, IsToldBy, MayAdd, MayLeave}
+use Rattle.engine_parts.specs.Adding.{Adds, IsOfCommit, IsRecordBy, IsToldBy, MayAdd, MayLeave}
 use Rattle.engine_parts.specs.Answers.{Acted, MayAnswer, reply_of}
 use Rattle.engine_parts.specs.Calls.{Ran, IsHeldBehind}
 use Rattle.engine_parts.specs.Holds.{Knowledge}
@@ -257,12 +257,12 @@ module _ (start : Start) (v : Knowledge) (n : ℕ) (s : Session) (a : IsAt start
   opened_now = open_ids n (history v.seen)
 
   -- a commit of which no end was begun
-  pub commit_leaves : 1 ≤ length s.levels.open_ids.items → s.stage ≡ stages.Clear → (lock : ℕ) (kind : Kind) → MayAdd (IsCommitOf s.levels.open_ids.items) (Unit {0}) (IsToldBy r) lock kind
+  pub commit_leaves : 1 ≤ length s.levels.open_ids.items → s.stage ≡ stages.Clear → (lock : ℕ) (kind : Kind) → MayAdd (IsOfCommit s.levels.open_ids.items) (Unit {0}) (IsToldBy r) lock kind
       → MayLeave commands.Commit (stance_of s) s.stage opened_now (reply_of (λ x. replies.Done) r) lock kind
   commit_leaves some clear =
       let level = levelled (history v.seen) s a.stands.nest some in
-      may_wider (IsCommitOf s.levels.open_ids.items) (IsRecordBy commands.Commit (stance_of s) s.stage opened_now) (Unit {0}) (IsTrue (flushes commands.Commit (stance_of s) s.stage)) (IsToldBy r) (λ q. reply_of (λ x. replies.Done) r ≡ replies.Refused q)
-      (λ rec of. (unrecorded (stance_of s) (top_open s) s.stage level clear, subst (λ (l : List ℕ). IsCommitOf l rec) (sym a.stands.opened) of))
+      may_wider (IsOfCommit s.levels.open_ids.items) (IsRecordBy commands.Commit (stance_of s) s.stage opened_now) (Unit {0}) (IsTrue (flushes commands.Commit (stance_of s) s.stage)) (IsToldBy r) (λ q. reply_of (λ x. replies.Done) r ≡ replies.Refused q)
+      (λ rec of. (unrecorded (stance_of s) (top_open s) s.stage level clear, subst (λ (l : List ℕ). IsOfCommit l rec) (sym a.stands.opened) of))
       (λ u. unflushed (stance_of s) (top_open s) s.stage level (subst (λ (z : Stage). IsUnflushed z) (sym clear) tt)) (told_reply r)
 
   -- one whose record stands

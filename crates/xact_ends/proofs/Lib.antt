@@ -7,3 +7,4 @@ pub mod Treeing
 pub mod Unrecorded
 pub mod RolledBack
 pub mod Undone
+pub mod Truncating

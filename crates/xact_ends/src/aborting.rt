@@ -3,7 +3,7 @@ ghost use Rattle.std.specs.Prelude.{◌≡◌, ◌+◌, ◌*◌, ◌<◌, ◌≤
 ghost use Rattle.hall.specs.Calls.{view, IsOf, start_of};
 ghost use Rattle.tx_model.specs.declared.command.Command.TheVariants as commands;
 ghost use Rattle.engine_parts.specs.declared.session.Stage.TheVariants as stages;
-ghost use Rattle.engine_parts.specs.Adding.{Adds, IsAbortOf, IsRecordBy, IsToldBy, MayAdd, MayFault};
+ghost use Rattle.engine_parts.specs.Adding.{Adds, IsAbortOf, IsOfAbort, IsRecordBy, IsToldBy, MayAdd, MayFault};
 ghost use Rattle.engine_parts.specs.Calls.{MayStep};
 ghost use Rattle.engine_parts.specs.Sessions.{MayCall, by_at, stance_of};
 ghost use Rattle.engine_parts.specs.Stages.{may_be_aborted, may_be_recorded};
@@ -11,11 +11,11 @@ ghost use Rattle.engine_parts.specs.Steps.{GoesOn};
 ghost use Rattle.xact_ends.specs.Aborts.{Aborts, IsOnePage, SetsAborted};
 
 use crate::committing::id_list;
+use crate::logging::log_abort_record;
 use bank_sections::{set_page, stall};
 use disk_core::{LogDisk, PageDisk};
 use engine_parts::{Caller, EngineLaw, Stage};
 use hall::Hall;
-use log_sections::append_abort;
 use proc_sections::end_transaction;
 use slru_bank::{BankRefusal, run_end};
 use std::alloc::Global;
@@ -114,7 +114,7 @@ fn log_abort<R: Wait, L: LogDisk, P: PageDisk>(
     ensures own { IsOf hall.now caller.new.pass }
     ensures may { MayCall (start_of hall.now) (view caller.new.pass) caller.new.number caller.new.session }
     ensures adds { Adds (by_at caller.old.number caller.old.session.levels.commands)
-        (MayAdd (IsAbortOf caller.old.session.levels.open_ids.items) ⊥ (λ _. ⊥))
+        (MayAdd (IsOfAbort caller.old.session.levels.open_ids.items) ⊥ (λ _. ⊥))
         (view caller.old.pass).seen (view caller.new.pass).seen }
     ensures goes { GoesOn caller.old.number [] (view caller.old.pass).seen (view caller.new.pass).seen }
     ensures session { caller.new.session ≡ record caller.old.session { stage = stages.Aborting } }
@@ -122,7 +122,7 @@ fn log_abort<R: Wait, L: LogDisk, P: PageDisk>(
 {
     match record_of(alloc, &caller.session.levels.open_ids) {
         Ok(rec) => {
-            let _appended = append_abort(rt, hall, caller, &rec);
+            let _appended = log_abort_record(rt, hall, caller, &rec);
             caller.session.stage = Stage::Aborting;
             return;
         }

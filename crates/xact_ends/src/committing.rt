@@ -2,17 +2,18 @@
 ghost use Rattle.std.specs.Prelude.{◌≡◌, ◌≤◌, None, IfOk, length};
 ghost use Rattle.hall.specs.Calls.{view, start_of};
 ghost use Rattle.engine_parts.specs.declared.session.Stage.TheVariants as stages;
-ghost use Rattle.engine_parts.specs.Adding.{Adds, IsCommitOf, IsToldBy, MayAdd, MayFault};
+ghost use Rattle.engine_parts.specs.Adding.{Adds, IsCommitOf, IsOfCommit, IsToldBy, MayAdd, MayFault};
 ghost use Rattle.engine_parts.specs.Calls.{MayStep};
 ghost use Rattle.engine_parts.specs.Sessions.{by_at};
 ghost use Rattle.xact_ends.specs.Ends.{Commits};
 
+use crate::logging::log_commit;
 use crate::settling::set_tree;
 use bank_sections::{record_parent, stall};
 use disk_core::{LogDisk, PageDisk};
 use engine_parts::{Caller, EngineLaw, Stage};
 use hall::Hall;
-use log_sections::{Appended, append_commit, flush_log};
+use log_sections::{Appended, flush_log};
 use proc_sections::end_transaction;
 use std::alloc::Global;
 use std::sync::Wait;
@@ -75,11 +76,7 @@ pub(crate) fn flush_and_finish<R: Wait, L: LogDisk, P: PageDisk>(
 pub(crate) fn id_list(alloc: Global, ids: &[FullXid]) -> Result<IdList, Memory>
     ensures { IfOk result (λ list. list ≡ ids.now) }
 {
-    let mut list = IdList::new(alloc);
-    for id in ids {
-        list.push(*id)?;
-    }
-    Ok(list)
+    Ok(IdList::of(Vec::from_slice(alloc, ids)?))
 }
 
 /// The commit record of these open ids.
@@ -92,7 +89,8 @@ fn record_of(alloc: Global, opened: &[FullXid]) -> Result<Rec, Memory>
     Ok(Rec::Commit { top, subs })
 }
 
-/// Appends the record, and goes on.
+/// Appends the record, and goes on. It waits for ever where the log can't take the record even behind a truncation's; no
+/// clause says that this can't come.
 fn log_and_finish<R: Wait, L: LogDisk, P: PageDisk>(
     rt: &R,
     hall: &Hall<EngineLaw<L, P>>,
@@ -106,7 +104,7 @@ fn log_and_finish<R: Wait, L: LogDisk, P: PageDisk>(
     requires some { 1 ≤ length caller.old.session.levels.open_ids.items }
     ensures step { MayStep hall.now banks caller.new }
     ensures adds { Adds (by_at caller.old.number caller.old.session.levels.commands)
-        (MayAdd (IsCommitOf caller.old.session.levels.open_ids.items) (Unit {0}) (IsToldBy result))
+        (MayAdd (IsOfCommit caller.old.session.levels.open_ids.items) (Unit {0}) (IsToldBy result))
         (view caller.old.pass).seen (view caller.new.pass).seen }
     ensures commits { Commits (start_of hall.now) caller.old.number caller.old.session caller.new.session
         (view caller.old.pass).seen (view caller.new.pass).seen result }
@@ -116,7 +114,7 @@ fn log_and_finish<R: Wait, L: LogDisk, P: PageDisk>(
         Ok(rec) => rec,
         Err(Memory) => return Err(Refusal::Memory),
     };
-    match append_commit(rt, hall, caller, &rec) {
+    match log_commit(rt, hall, caller, &rec) {
         Ok(appended) => {
             if let Appended::At { number } = appended {
                 return flush_and_finish(rt, hall, caller, banks, number);
@@ -141,7 +139,7 @@ pub(crate) fn start_commit<R: Wait, L: LogDisk, P: PageDisk>(
     requires some { 1 ≤ length caller.old.session.levels.open_ids.items }
     ensures step { MayStep hall.now banks caller.new }
     ensures adds { Adds (by_at caller.old.number caller.old.session.levels.commands)
-        (MayAdd (IsCommitOf caller.old.session.levels.open_ids.items) (Unit {0}) (IsToldBy result))
+        (MayAdd (IsOfCommit caller.old.session.levels.open_ids.items) (Unit {0}) (IsToldBy result))
         (view caller.old.pass).seen (view caller.new.pass).seen }
     ensures commits { Commits (start_of hall.now) caller.old.number caller.old.session caller.new.session
         (view caller.old.pass).seen (view caller.new.pass).seen result }

@@ -6,6 +6,7 @@ mod aborts;
 mod commits;
 mod committing;
 mod idless;
+mod logging;
 mod settling;
 mod undoing;
 mod undos;

@@ -62,7 +62,7 @@ fn take_of(
 fn register<L: LogDisk, P: PageDisk>(
     hall: &Hall<EngineLaw<L, P>>,
     caller: &mut Caller<L, P>,
-    table: ProcTable,
+    table: Box<ProcTable>,
     by: By,
     taken: RegisteredSnapshot,
 )
@@ -74,7 +74,7 @@ fn register<L: LogDisk, P: PageDisk>(
     requires by { by ≡ by_at caller.old.number caller.old.session.levels.commands }
     requires free { is_live (start_of hall.now).base.next by.session taken.name
         (history (view caller.old.pass).seen) ≡ false }
-    requires table { ProcStands (start_of hall.now) table
+    requires table { ProcStands (start_of hall.now) table.value
         (at (view caller.old.pass).seen proc_lock ++ record {
           by = by;
           kind = kinds.Event
@@ -124,14 +124,14 @@ fn take<R: Wait, L: LogDisk, P: PageDisk>(
         session: caller.number,
         command: caller.session.levels.commands,
     };
-    let mut table = enter_proc(rt, hall, caller);
-    match take_of(&mut table, by, name) {
+    let mut held = enter_proc(rt, hall, caller);
+    match take_of(&mut *held, by, name) {
         Ok((lists, taken)) => {
-            register(hall, caller, table, by, taken);
+            register(hall, caller, held, by, taken);
             Ok(lists)
         }
         Err(Memory) => {
-            leave_looked(hall, caller, 1, Part::Proc(table));
+            leave_looked(hall, caller, 1, Part::Proc(held));
             Err(Refusal::Memory)
         }
     }
@@ -166,7 +166,7 @@ pub fn snap<R: Wait, L: LogDisk, P: PageDisk>(
 fn unregister<L: LogDisk, P: PageDisk>(
     hall: &Hall<EngineLaw<L, P>>,
     caller: &mut Caller<L, P>,
-    table: ProcTable,
+    table: Box<ProcTable>,
     by: By,
     name: &Name,
 )
@@ -178,7 +178,7 @@ fn unregister<L: LogDisk, P: PageDisk>(
     requires by { by ≡ by_at caller.old.number caller.old.session.levels.commands }
     requires live { is_live (start_of hall.now).base.next by.session name.now
         (history (view caller.old.pass).seen) ≡ true }
-    requires table { ProcStands (start_of hall.now) table
+    requires table { ProcStands (start_of hall.now) table.value
         (at (view caller.old.pass).seen proc_lock ++ record {
           by = by;
           kind = kinds.Event
@@ -219,9 +219,9 @@ fn drop_registered<R: Wait, L: LogDisk, P: PageDisk>(
         session: caller.number,
         command: caller.session.levels.commands,
     };
-    let mut table = enter_proc(rt, hall, caller);
-    table.drop_snapshot(by, name);
-    unregister(hall, caller, table, by, name);
+    let mut held = enter_proc(rt, hall, caller);
+    held.drop_snapshot(by, name);
+    unregister(hall, caller, held, by, name);
 }
 
 /// Drops the session's snapshot of this name (`UnregisterSnapshot` of `src/backend/utils/time/snapmgr.c`): one critical

@@ -3,13 +3,8 @@ use Rattle.std.proofs.Common.{◌≡◌, ℕ, zero, suc, ◌+◌, ◌-◌, ◌<�
 use Rattle.std.proofs.lemmas.Bool.{false_from_ne_true}
 use Rattle.std.proofs.lemmas.Bool.Decides.{nat_tests}
 use Rattle.std.specs.Bool.{then_some}
-use Rattle.std.specs.List.{AllByRecursion, list_any, find}
-use Rattle.disk_core.specs.declared.log_disk.LogDisk as logs
-use Rattle.disk_core.specs.declared.page_disk.PageDisk as disks
-use Rattle.hall.specs.declared.hall.Hall.{Hall}
-use Rattle.hall.specs.Calls.{IsOf, start_of, view}
+use Rattle.std.specs.List.{list_any, find}
 use Rattle.notes.specs.Lists.{at}
-use Rattle.notes.proofs.Growing.{begins_length}
 use Rattle.tx_events.specs.declared.order.Xid.{Xid}
 use Rattle.tx_events.specs.Nearest.{near_id}
 use Rattle.tx_events.specs.declared.event.By.{By}
@@ -21,10 +16,9 @@ use Rattle.tx_events.specs.declared.refusal.Refusal.{Refusal}
 use Rattle.tx_events.specs.declared.refusal.Refusal.TheVariants as refusals
 use Rattle.tx_events.specs.declared.snapshot.SnapData.{SnapData}
 use Rattle.tx_events.specs.Base.{IsBase}
-use Rattle.tx_events.specs.Events.{by_of, given, same_name}
+use Rattle.tx_events.specs.Events.{same_name}
 use Rattle.tx_events.specs.History.{IsLegal}
 use Rattle.tx_events.specs.Horizon.{oldest_id, oldest_xmin}
-use Rattle.tx_events.specs.Running.{open_ids}
 use Rattle.tx_events.specs.Snapshots.{snapshot_xmax}
 use Rattle.tx_events.specs.Visible.{is_visible}
 use Rattle.tx_events.proofs.GivenIds.{legal_take}
@@ -33,19 +27,15 @@ use Rattle.tx_events.proofs.Names.{same_name_equal}
 use Rattle.tx_events.proofs.PlaceLemmas.{take-grows}
 use Rattle.tx_events.proofs.SnapshotBounds.{given_from}
 use Rattle.tx_events.proofs.Visibility.{among_has, lives, never_given}
-use Rattle.tx_model.specs.declared.command.Command.{Command}
 use Rattle.tx_model.specs.declared.command.Command.TheVariants as commands
-use Rattle.tx_model.specs.declared.reply.Reply.{Reply}
 use Rattle.tx_model.specs.declared.reply.Reply.TheVariants as replies
-use Rattle.tx_model.specs.CommandEvents.{HasEvents}
 use Rattle.tx_model.specs.Replies.{IsHorizon, MayFindOldest, MayReply, alone}
-use Rattle.tx_model.specs.Stance.{after, snap_of}
+use Rattle.tx_model.specs.Stance.{snap_of}
 use Rattle.tx_model.proofs.Growth.{may_reply_grows}
 use Rattle.tx_core.specs.declared.entry.Entry.{Entry}
 use Rattle.tx_core.specs.declared.entry.Start.{Start}
 use Rattle.tx_core.specs.EngineInvariant.{EngineInvariant}
 use Rattle.tx_core.specs.Entries.{history}
-use Rattle.tx_core.proofs.Lasting.{history_grows}
 use Rattle.tx_core.proofs.Posting.{oldest_rises}
 use Rattle.proc_table.proofs.Bounds.{full_from}
 use Rattle.session_levels.specs.declared.session.RegisteredSnapshot.{RegisteredSnapshot}
@@ -54,27 +44,20 @@ use Rattle.session_levels.specs.Acts.{IsInTurn}
 use Rattle.session_levels.specs.Stands.{IsRegistered}
 use Rattle.session_levels.specs.Stands as levels
 use Rattle.session_levels.proofs.ActsLemmas.{reads_last, registered_at, snap_found, snap_missing}
-use Rattle.engine_parts.specs.declared.part.Part.{Part}
-use Rattle.engine_parts.specs.declared.session.Caller.{Caller}
 use Rattle.engine_parts.specs.declared.session.Session.{Session}
 use Rattle.engine_parts.specs.declared.session.Stage.{Stage}
-use Rattle.engine_parts.specs.Adding.{Adds, MayLeave}
 use Rattle.engine_parts.specs.Answers.{MayAnswer}
-use Rattle.engine_parts.specs.Calls.{IsCounted, MayRun, Ran, next_command}
 use Rattle.engine_parts.specs.Holds.{Knowledge}
-use Rattle.engine_parts.specs.Sessions.{IsAt, IsReady, by_at, stance_of}
+use Rattle.engine_parts.specs.Sessions.{IsAt, by_at, stance_of}
 use Rattle.life_law.specs.Refused.{by_standing, refused_by}
-use Rattle.engine_parts.specs.Standing.{moves_end, flushes, needs_log}
 use Rattle.engine_parts.specs.Steps.{WentOn}
-use Rattle.engine_parts.proofs.Calling.{may_counted, ran_counted}
-use Rattle.engine_parts.proofs.Refusing.{keeps_stage}
 use Rattle.xact_reads.specs.declared.glances.Glance.{Glance}
 use Rattle.xact_reads.specs.Glances.{IsNamed, Shows}
 use Rattle.bank_sections.specs.Faults.{IsSubtransFault}
 use Rattle.xact_reads.specs.Readings.{IsShown, IsStateUnread, IsUnread}
 use Rattle.engine_parts.specs.Stages.{pending_in}
-use Rattle.engine_parts.proofs.Beholding.{held_unneeded, not_standing}
-use Rattle.xact_reads.proofs.Going.{call_read, others_went}
+use Rattle.engine_parts.proofs.Unmoved.{went_longer}
+use Rattle.xact_reads.proofs.Going.{others_went}
 
 -- a session's snapshot of this name is registered in what it has seen
 pub named_at : (start : Start) (v : Knowledge) (n : ℕ) (s : Session) (name : List ℕ) (k : RegisteredSnapshot) → IsAt start v n s → IsNamed s.levels name k → IsRegistered start.base (history v.seen) n k × (same_name k.name name ≡ true)
@@ -93,9 +76,6 @@ finds_oldest base by h h' longer turn = record {
 -- it is never before the one with which the life began
 pub oldest_from : (start : Start) (lists : List (List Entry)) → EngineInvariant start lists → start.base.oldest ≤ oldest_id start.base.oldest (history lists)
 oldest_from start lists k = oldest_rises start [] lists k (record { begins = λ q. (at lists q, refl) })
-
-pub went_longer : (n : ℕ) (lists more : List (List Entry)) → WentOn n [] lists more → length (history lists) ≤ length (history more)
-went_longer n lists more went = begins_length (history lists) (history more) (history_grows lists more went.on.grows)
 
 below_special : (x : ℕ) → x < 3 → nat_lt x 3 ≡ true
 below_special x l = grind (arith, nat_tests)
@@ -201,44 +181,6 @@ xmin_answer start v w n s xmin a went is =
       read = reads_last (by_at n s.levels.commands) (history v.seen) h longer a.stands.turn;
       xmin_is = is ∙ ap (oldest_xmin start.base.next) (sym (take_all (length h) h (omega arith)));
     }
-
--- what a call did that only read, and asked for the status of an id if anything
-module _ {H L P : Type 0} {l : logs.Ghosts L} {p : disks.Ghosts P} (hall : Hall H (Part L P l p) Entry Start) where
-  pub ran_asked : {banks : ℕ} (added : List Event) (old u new : Caller L P l p) (command : Command) (reply : Reply) → AllByRecursion (λ e. by_of e ≡ by_at u.number u.session.levels.commands) added → IsCounted old u → MayRun hall banks old → IsOf hall new.pass → IsReady (start_of hall) (view new.pass) new.number new.session → WentOn u.number added (view u.pass).seen (view new.pass).seen → new.session ≡ u.session → new.number ≡ u.number
-      → HasEvents (by_at u.number u.session.levels.commands) (stance_of u.session) command reply added
-      → Adds (by_at u.number u.session.levels.commands) (MayLeave command (stance_of u.session) u.session.stage (open_ids u.number (history (view u.pass).seen)) reply) (view u.pass).seen (view new.pass).seen
-      → MayAnswer (p.tells) (start_of hall) (view new.pass).seen (alone (history (view u.pass).seen) (history (view new.pass).seen)) (by_at u.number u.session.levels.commands) (stance_of u.session) u.session.stage command reply
-      → by_standing reply ≡ refused_by command (stance_of u.session) (pending_in u.session.stage) → after (stance_of u.session) u.session.levels.commands command reply (given added) ≡ stance_of u.session → moves_end command ≡ false → flushes command (stance_of u.session) u.session.stage ≡ false → needs_log command (stance_of u.session) u.session.stage ≡ false → by_standing reply ≡ None
-      → Ran hall (next_command old) command reply old new
-  ran_asked added old u new command reply each c m own ready went same number fitting adds allowed standing left still unflushed unneeded free =
-      ran_counted hall old u new command reply c (record {
-        own = own;
-        may = call_read (start_of hall) (view u.pass) (view new.pass) u.number new.number u.session new.session (may_counted hall old u c m) went number same ready;
-        acted = record {
-          grows = went.on.grows;
-          added = added;
-          own = went.on.own;
-          each = each;
-          fitting = fitting;
-          adds = adds;
-          allowed = allowed;
-          standing = standing;
-          left = left ∙ sym (ap stance_of same);
-        };
-        stage = keeps_stage command reply u.session.stage new.session.stage still (ap (λ (z : Session). z.stage) same);
-        held = held_unneeded p.tells (start_of hall) (view new.pass).seen (alone (history (view u.pass).seen) (history (view new.pass).seen)) (by_at u.number u.session.levels.commands) (stance_of u.session) u.session.stage new.session.stage command reply unflushed unneeded allowed;
-        still = λ q is. not_standing (by_standing reply) q free is;
-        count = (ap (λ (z : Session). z.levels.commands) same, number);
-      })
-
-  -- without an event
-  pub ran_read : {banks : ℕ} (old u new : Caller L P l p) (command : Command) (reply : Reply) → IsCounted old u → MayRun hall banks old → IsOf hall new.pass → IsReady (start_of hall) (view new.pass) new.number new.session → WentOn u.number [] (view u.pass).seen (view new.pass).seen → new.session ≡ u.session → new.number ≡ u.number
-      → HasEvents (by_at u.number u.session.levels.commands) (stance_of u.session) command reply []
-      → Adds (by_at u.number u.session.levels.commands) (MayLeave command (stance_of u.session) u.session.stage (open_ids u.number (history (view u.pass).seen)) reply) (view u.pass).seen (view new.pass).seen
-      → MayAnswer (p.tells) (start_of hall) (view new.pass).seen (alone (history (view u.pass).seen) (history (view new.pass).seen)) (by_at u.number u.session.levels.commands) (stance_of u.session) u.session.stage command reply
-      → by_standing reply ≡ refused_by command (stance_of u.session) (pending_in u.session.stage) → after (stance_of u.session) u.session.levels.commands command reply [] ≡ stance_of u.session → moves_end command ≡ false → flushes command (stance_of u.session) u.session.stage ≡ false → needs_log command (stance_of u.session) u.session.stage ≡ false → by_standing reply ≡ None
-      → Ran hall (next_command old) command reply old new
-  ran_read old u new command reply = ran_asked [] old u new command reply tt
 
 -- where the session has a snapshot of this name, it isn't refused by how it stands
 pub not_refused : (s : Session) (name : List ℕ) (x : Xid) (k : RegisteredSnapshot) → IsNamed s.levels name k → refused_by (commands.See name x) (stance_of s) (pending_in s.stage) ≡ None

@@ -59,10 +59,11 @@ use Rattle.engine_parts.specs.Holds.{Knowledge}
 use Rattle.engine_parts.specs.Sessions.{IsAt, by_at, stance_of}
 use Rattle.engine_parts.specs.Stand.{IsInUse}
 use Rattle.engine_parts.specs.Steps.{WentOn}
+use Rattle.engine_parts.proofs.Unmoved.{went_longer}
 use Rattle.proc_sections.specs.Askings.{IsAnswered, question}
 use Rattle.xact_reads.specs.Readings.{IsCommittedIn, IsStateUnread}
 use Rattle.xact_reads.proofs.Going.{others_went}
-use Rattle.xact_reads.proofs.Replying.{finds_oldest, oldest_from, went_longer}
+use Rattle.xact_reads.proofs.Replying.{finds_oldest, oldest_from}
 
 -- ---- the state of an id that was given at a place and doesn't run there
 

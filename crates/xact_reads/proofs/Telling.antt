@@ -36,11 +36,12 @@ use Rattle.engine_parts.specs.Sessions.{IsAt, by_at, stance_of}
 use Rattle.engine_parts.specs.Stand.{IsInUse}
 use Rattle.engine_parts.specs.Steps.{WentOn}
 use Rattle.engine_parts.proofs.Answering.{few_before}
+use Rattle.engine_parts.proofs.Unmoved.{went_longer}
 use Rattle.xact_reads.specs.Ancestors.{StoresSay, StoresTell}
 use Rattle.xact_reads.specs.Readings.{IsStateUnread, IsUnread}
 use Rattle.xact_reads.specs.Stores.{DidAsTold}
 use Rattle.xact_reads.proofs.Going.{others_went}
-use Rattle.xact_reads.proofs.Replying.{finds_oldest, oldest_from, went_longer}
+use Rattle.xact_reads.proofs.Replying.{finds_oldest, oldest_from}
 use Rattle.xact_reads.proofs.Storing.{visible_given}
 
 -- a special id has its fixed answer

@@ -1,4 +1,4 @@
-use Rattle.std.proofs.Common.{◌/◌, refl, ap, ◌∙◌, Err, IsTrue, List, ◌≤◌, arith, subst}
+use Rattle.std.proofs.Common.{◌/◌, refl, ap, ◌∙◌, Err, IsTrue, List, ◌≤◌, arith, subst, sym}
 use Rattle.hall.specs.Calls.{view, start_of}
 use Rattle.notes.specs.Lists.{at}
 use Rattle.slru_bank.specs.Calls.{faults_of, cutoff_of}
@@ -24,6 +24,7 @@ use Rattle.bank_sections.proofs.Uncut.{cut_refused, id_later, near_before, subtr
 use Rattle.bank_sections.proofs.Nearing.{ids_near}
 use Rattle.tx_core.specs.FaultsRise.{faults_told}
 use Rattle.tx_core.proofs.FaultCounts.{risen_past}
+use Rattle.engine_parts.specs.Parts.{IsSubtransOf}
 use Rattle.bank_sections.proofs.parents.make_parents.Goals as goal
 
 pub leave_quiet-requires-clause-by : goal.leave_quiet-requires-clause-by
@@ -35,9 +36,9 @@ leave_quiet-requires-clause-quiet g c = (ap event_of c.zeroed_note-entry.ensures
 pub leave_quiet-requires-clause-may : goal.leave_quiet-requires-clause-may
 leave_quiet-requires-clause-may g c =
     let start = start_of c.args.hall.now in
-    let e = c.enter_subtrans-store.ensures in
-    let u = view c.enter_subtrans-store.new.caller.pass in
-    may_make start u.seen (subtrans_lock c.args.bank) (subtrans_page c.args.id) (by_at c.enter_subtrans-store.new.caller.number c.enter_subtrans-store.new.caller.session.levels.commands) c.zeroed_note-entry.result.value (is_subtrans_lock start c.args.bank c.requires.bank.0)
+    let e = c.enter_subtrans-held.ensures in
+    let u = view c.enter_subtrans-held.new.caller.pass in
+    may_make start u.seen (subtrans_lock c.args.bank) (subtrans_page c.args.id) (by_at c.enter_subtrans-held.new.caller.number c.enter_subtrans-held.new.caller.session.levels.commands) c.zeroed_note-entry.result.value (is_subtrans_lock start c.args.bank c.requires.bank.0)
     (wanted_grows start (view c.args.caller.now.pass).seen u.seen (subtrans_lock c.args.bank) (subtrans_page c.args.id) e.entered.learns.knows.grows (subtrans_wanted start (view c.args.caller.now.pass).seen c.args.bank c.args.id c.requires.wanted))
     (c.zeroed_note-entry.ensures ∙ (λ j. made_entry (c.command_of-by.ensures j) (c.subtrans_page_in_full.ensures.page j))) (e.at.turns (subtrans_lock c.args.bank))
 
@@ -46,9 +47,9 @@ leave_quiet-requires-clause-stands g c =
     let r = c.in-Ok.ensures in (
       c.args.bank,
       refl,
-      subtrans_stands_made (start_of c.args.hall.now) c.args.bank c.enter_subtrans-store.result c.zero.new.self (at (view c.enter_subtrans-store.new.caller.pass).seen (subtrans_lock c.args.bank)) c.command_of-by.result c.args.id c.subtrans_page_in_full.result c.subtrans_page.result c.zeroed_note-entry.result.value
+      subtrans_stands_made (start_of c.args.hall.now) c.args.bank c.deref_mut-store.result.now c.zero.new.self (at (view c.enter_subtrans-held.new.caller.pass).seen (subtrans_lock c.args.bank)) c.command_of-by.result c.args.id c.subtrans_page_in_full.result c.subtrans_page.result c.zeroed_note-entry.result.value
           c.requires.ready.at.base c.requires.wanted.0 c.zeroed_note-entry.ensures c.subtrans_page_in_full.ensures.page (c.subtrans_page.ensures.page ∙ ap (λ z. z / 2048) c.low.ensures)
-          (record { last = r.last; cutoff = r.calls.cutoff; count = r.calls.count; pages = r.ok }) c.enter_subtrans-store.ensures.stands,
+          (record { last = r.last; cutoff = r.calls.cutoff; count = r.calls.count; pages = r.ok }) (subst (λ l. IsSubtransOf (start_of c.args.hall.now) c.args.bank l (at (view c.enter_subtrans-held.new.caller.pass).seen (subtrans_lock c.args.bank))) (sym c.deref_mut-store.ensures.value) c.enter_subtrans-held.ensures.stands),
     )
 
 pub leave_refused-requires-clause-lock : goal.leave_refused-requires-clause-lock
@@ -62,39 +63,39 @@ leave_refused-requires-clause-stands g c =
     let r = c.in-Err.ensures in (
       c.args.bank,
       refl,
-      subtrans_same (start_of c.args.hall.now) c.args.bank c.enter_subtrans-store.result c.zero.new.self (at (view c.enter_subtrans-store.new.caller.pass).seen (subtrans_lock c.args.bank))
-          (record { last = r.last; cutoff = r.calls.cutoff; count = r.calls.count; pages = r.err }) c.enter_subtrans-store.ensures.stands,
+      subtrans_same (start_of c.args.hall.now) c.args.bank c.deref_mut-store.result.now c.zero.new.self (at (view c.enter_subtrans-held.new.caller.pass).seen (subtrans_lock c.args.bank))
+          (record { last = r.last; cutoff = r.calls.cutoff; count = r.calls.count; pages = r.err }) (subst (λ l. IsSubtransOf (start_of c.args.hall.now) c.args.bank l (at (view c.enter_subtrans-held.new.caller.pass).seen (subtrans_lock c.args.bank))) (sym c.deref_mut-store.ensures.value) c.enter_subtrans-held.ensures.stands),
     )
 
 pub returns-in-Ok-clause-went : goal.returns-in-Ok-clause-went
 returns-in-Ok-clause-went g c =
-    visited (start_of c.args.hall.now) (view c.args.caller.now.pass) (view c.enter_subtrans-store.new.caller.pass) (view c.leave_quiet.new.caller.pass) c.args.caller.now.number (subtrans_lock c.args.bank) c.args.caller.now.session c.zeroed_note-entry.result.value
-    c.requires.ready.at (is_subtrans_lock (start_of c.args.hall.now) c.args.bank c.requires.bank.0) c.enter_subtrans-store.ensures.entered (ap event_of c.zeroed_note-entry.ensures) (ap asks_in c.zeroed_note-entry.ensures) c.leave_quiet.ensures.left
+    visited (start_of c.args.hall.now) (view c.args.caller.now.pass) (view c.enter_subtrans-held.new.caller.pass) (view c.leave_quiet.new.caller.pass) c.args.caller.now.number (subtrans_lock c.args.bank) c.args.caller.now.session c.zeroed_note-entry.result.value
+    c.requires.ready.at (is_subtrans_lock (start_of c.args.hall.now) c.args.bank c.requires.bank.0) c.enter_subtrans-held.ensures.entered (ap event_of c.zeroed_note-entry.ensures) (ap asks_in c.zeroed_note-entry.ensures) c.leave_quiet.ensures.left
 
 pub returns-in-Ok-clause-made : goal.returns-in-Ok-clause-made
 returns-in-Ok-clause-made g c =
-    made_stands (start_of c.args.hall.now) (view c.args.caller.now.pass) (view c.enter_subtrans-store.new.caller.pass) (view c.leave_quiet.new.caller.pass) c.args.caller.now.number (subtrans_lock c.args.bank) (subtrans_page c.args.id) c.args.caller.now.session c.command_of-by.result c.zeroed_note-entry.result.value
-    c.requires.ready.at (is_subtrans_lock (start_of c.args.hall.now) c.args.bank c.requires.bank.0) c.enter_subtrans-store.ensures.entered (c.zeroed_note-entry.ensures ∙ ap (made_entry c.command_of-by.result) c.subtrans_page_in_full.ensures.page) c.leave_quiet.ensures.left
+    made_stands (start_of c.args.hall.now) (view c.args.caller.now.pass) (view c.enter_subtrans-held.new.caller.pass) (view c.leave_quiet.new.caller.pass) c.args.caller.now.number (subtrans_lock c.args.bank) (subtrans_page c.args.id) c.args.caller.now.session c.command_of-by.result c.zeroed_note-entry.result.value
+    c.requires.ready.at (is_subtrans_lock (start_of c.args.hall.now) c.args.bank c.requires.bank.0) c.enter_subtrans-held.ensures.entered (c.zeroed_note-entry.ensures ∙ ap (made_entry c.command_of-by.result) c.subtrans_page_in_full.ensures.page) c.leave_quiet.ensures.left
 
 pub returns-in-Err-clause-went : goal.returns-in-Err-clause-went
 returns-in-Err-clause-went g c =
-    visited_refused (start_of c.args.hall.now) (view c.args.caller.now.pass) (view c.enter_subtrans-store.new.caller.pass) (view c.leave_refused.new.caller.pass) c.args.caller.now.number (subtrans_lock c.args.bank) c.args.caller.now.session _ _ c.in-Err.refusal
-    c.requires.ready.at (is_subtrans_lock (start_of c.args.hall.now) c.args.bank c.requires.bank.0) c.enter_subtrans-store.ensures.entered c.leave_refused.ensures.left
+    visited_refused (start_of c.args.hall.now) (view c.args.caller.now.pass) (view c.enter_subtrans-held.new.caller.pass) (view c.leave_refused.new.caller.pass) c.args.caller.now.number (subtrans_lock c.args.bank) c.args.caller.now.session _ _ c.in-Err.refusal
+    c.requires.ready.at (is_subtrans_lock (start_of c.args.hall.now) c.args.bank c.requires.bank.0) c.enter_subtrans-held.ensures.entered c.leave_refused.ensures.left
 
 pub returns-in-Err-clause-fault : goal.returns-in-Err-clause-fault
 returns-in-Err-clause-fault g c is =
-    let e = c.enter_subtrans-store.ensures in
-    fault_met (start_of c.args.hall.now) (view c.args.caller.now.pass) (view c.enter_subtrans-store.new.caller.pass) (view c.leave_refused.new.caller.pass) c.args.caller.now.number c.enter_subtrans-store.new.caller.number (subtrans_lock c.args.bank) c.args.caller.now.session c.enter_subtrans-store.new.caller.session _ c.in-Err.refusal
+    let e = c.enter_subtrans-held.ensures in
+    fault_met (start_of c.args.hall.now) (view c.args.caller.now.pass) (view c.enter_subtrans-held.new.caller.pass) (view c.leave_refused.new.caller.pass) c.args.caller.now.number c.enter_subtrans-held.new.caller.number (subtrans_lock c.args.bank) c.args.caller.now.session c.enter_subtrans-held.new.caller.session _ c.in-Err.refusal
     c.requires.ready.at (is_subtrans_lock (start_of c.args.hall.now) c.args.bank c.requires.bank.0) e.entered e.same.1 e.same.0 c.leave_refused.ensures.left cc
 
 pub returns-in-Ok-clause-section : goal.returns-in-Ok-clause-section
 returns-in-Ok-clause-section g c =
     let start = start_of c.args.hall.now in
-    let e = c.enter_subtrans-store.ensures in
+    let e = c.enter_subtrans-held.ensures in
     let v = view c.args.caller.now.pass in
-    let u = view c.enter_subtrans-store.new.caller.pass in
+    let u = view c.enter_subtrans-held.new.caller.pass in
     let w = view c.leave_quiet.new.caller.pass in
-    let t = c.enter_subtrans-store.new.caller in
+    let t = c.enter_subtrans-held.new.caller in
     let s = c.args.caller.now.session in
     let n = c.args.caller.now.number in
     let mine = c.command_of-by.ensures ∙ same_command n t.number s t.session e.same.1 e.same.0 in
@@ -104,24 +105,24 @@ returns-in-Ok-clause-section g c =
 pub returns-in-Err-clause-section : goal.returns-in-Err-clause-section
 returns-in-Err-clause-section g c =
     let start = start_of c.args.hall.now in
-    let e = c.enter_subtrans-store.ensures in
+    let e = c.enter_subtrans-held.ensures in
     let v = view c.args.caller.now.pass in
-    let u = view c.enter_subtrans-store.new.caller.pass in
+    let u = view c.enter_subtrans-held.new.caller.pass in
     let w = view c.leave_refused.new.caller.pass in
-    let t = c.enter_subtrans-store.new.caller in
+    let t = c.enter_subtrans-held.new.caller in
     let s = c.args.caller.now.session in
     let n = c.args.caller.now.number in
-    subtrans_refused_at start v u w n t.number c.args.bank s t.session _ (word_page_of c.args.id) c.subtrans_page.result (cutoff_of c.enter_subtrans-store.result) c.in-Err.refusal c.requires.ready.at c.requires.bank.0 e.same.1 e.same.0
-    (c.subtrans_page.ensures.page ∙ ap (λ z. z / 2048) c.low.ensures) e.entered c.leave_refused.ensures.left e.stands.cutoff_is (λ cutoff is. c.in-Err.ensures.calls.only_cut cutoff (ap Err is))
+    subtrans_refused_at start v u w n t.number c.args.bank s t.session _ (word_page_of c.args.id) c.subtrans_page.result (cutoff_of c.deref_mut-store.result.now) c.in-Err.refusal c.requires.ready.at c.requires.bank.0 e.same.1 e.same.0
+    (c.subtrans_page.ensures.page ∙ ap (λ z. z / 2048) c.low.ensures) e.entered c.leave_refused.ensures.left (subst (λ l. IsSubtransOf (start_of c.args.hall.now) c.args.bank l (at (view c.enter_subtrans-held.new.caller.pass).seen (subtrans_lock c.args.bank))) (sym c.deref_mut-store.ensures.value) c.enter_subtrans-held.ensures.stands).cutoff_is (λ cutoff is. c.in-Err.ensures.calls.only_cut cutoff (ap Err is))
 
 pub returns-in-Err-clause-uncut : goal.returns-in-Err-clause-uncut
 returns-in-Err-clause-uncut g c few kept cutoff is =
     let start = start_of c.args.hall.now in
-    let e = c.enter_subtrans-store.ensures in
+    let e = c.enter_subtrans-held.ensures in
     let v = view c.args.caller.now.pass in
-    let u = view c.enter_subtrans-store.new.caller.pass in
+    let u = view c.enter_subtrans-held.new.caller.pass in
     let w = view c.leave_refused.new.caller.pass in
-    let t = c.enter_subtrans-store.new.caller in
+    let t = c.enter_subtrans-held.new.caller in
     let s = c.args.caller.now.session in
     let n = c.args.caller.now.number in
     let long = e.entered.learns.long in
@@ -130,8 +131,8 @@ returns-in-Err-clause-uncut g c few kept cutoff is =
     let before = near_before start u w (subtrans_lock c.args.bank) _ quiet (omega arith) c.leave_refused.ensures.left (ids_near start w.seen c.requires.ready.at.base few) in
     let held = subst (λ (h : List Event). oldest_xmin (start_of c.args.hall.now).base.next h ≤ c.args.id) (history_same start u w (subtrans_lock c.args.bank) _ quiet (omega arith) c.leave_refused.ensures.left) kept in
     let wanted = id_later start v.seen u.seen c.args.id e.entered.learns.knows.grows c.requires.wanted in
-    cut_refused _ (subtrans_uncut start u.seen c.args.bank c.args.id (cutoff_of c.enter_subtrans-store.result) c.requires.ready.at.base e.entered.kept e.stands.cutoff_is wanted.0 wanted.1 held before)
-    (subst (λ z. IsTrue (is_cut Ids 2048 (cutoff_of c.enter_subtrans-store.result) z)) (c.subtrans_page.ensures.page ∙ ap (λ z. z / 2048) c.low.ensures) (c.in-Err.ensures.calls.only_cut cutoff is).1)
+    cut_refused _ (subtrans_uncut start u.seen c.args.bank c.args.id (cutoff_of c.deref_mut-store.result.now) c.requires.ready.at.base e.entered.kept (subst (λ l. IsSubtransOf (start_of c.args.hall.now) c.args.bank l (at (view c.enter_subtrans-held.new.caller.pass).seen (subtrans_lock c.args.bank))) (sym c.deref_mut-store.ensures.value) c.enter_subtrans-held.ensures.stands).cutoff_is wanted.0 wanted.1 held before)
+    (subst (λ z. IsTrue (is_cut Ids 2048 (cutoff_of c.deref_mut-store.result.now) z)) (c.subtrans_page.ensures.page ∙ ap (λ z. z / 2048) c.low.ensures) (c.in-Err.ensures.calls.only_cut cutoff is).1)
 
 pub leave_refused-requires-clause-risen : goal.leave_refused-requires-clause-risen
-leave_refused-requires-clause-risen g c is = let e = c.enter_subtrans-store.ensures in risen_past (faults_told (start_of c.args.hall.now) (subtrans_lock c.args.bank) (at (view c.enter_subtrans-store.new.caller.pass).seen (subtrans_lock c.args.bank))) (faults_of c.enter_subtrans-store.result) _ e.stands.count (c.in-Err.ensures.calls.fault (ap Err is))
+leave_refused-requires-clause-risen g c is = let e = c.enter_subtrans-held.ensures in risen_past (faults_told (start_of c.args.hall.now) (subtrans_lock c.args.bank) (at (view c.enter_subtrans-held.new.caller.pass).seen (subtrans_lock c.args.bank))) (faults_of c.deref_mut-store.result.now) _ (subst (λ l. IsSubtransOf (start_of c.args.hall.now) c.args.bank l (at (view c.enter_subtrans-held.new.caller.pass).seen (subtrans_lock c.args.bank))) (sym c.deref_mut-store.ensures.value) c.enter_subtrans-held.ensures.stands).count (c.in-Err.ensures.calls.fault (ap Err is))

@@ -24,11 +24,11 @@ pub leave_looked-requires-clause-stands : goal.leave_looked-requires-clause-stan
 leave_looked-requires-clause-stands g c =
     let start = start_of c.args.hall.now in
     let r = c.state.ensures in
-    let es = at (view c.enter_xact-store.new.caller.pass).seen (xact_lock c.args.bank) in (
+    let es = at (view c.enter_xact-held.new.caller.pass).seen (xact_lock c.args.bank) in (
       c.args.bank,
       refl,
-      xact_looked start c.args.bank c.state.new.bank (by_at c.enter_xact-store.new.caller.number c.enter_xact-store.new.caller.session.levels.commands) es
-          (xact_same start c.args.bank c.enter_xact-store.result c.state.new.bank es (record { last = r.bank.last; cutoff = r.bank.calls.cutoff; count = r.bank.calls.count; pages = r.same }) c.enter_xact-store.ensures.stands),
+      xact_looked start c.args.bank c.state.new.bank (by_at c.enter_xact-held.new.caller.number c.enter_xact-held.new.caller.session.levels.commands) es
+          (xact_same start c.args.bank c.deref_mut-store.result.now c.state.new.bank es (record { last = r.bank.last; cutoff = r.bank.calls.cutoff; count = r.bank.calls.count; pages = r.same }) r.bank.calls.crash (subst (λ l. IsXactOf (start_of c.args.hall.now) c.args.bank l (at (view c.enter_xact-held.new.caller.pass).seen (xact_lock c.args.bank))) (sym c.deref_mut-store.ensures.value) c.enter_xact-held.ensures.stands)),
     )
 
 pub leave_refused-requires-clause-lock : goal.leave_refused-requires-clause-lock
@@ -42,48 +42,48 @@ leave_refused-requires-clause-stands g c =
     let r = c.state.ensures in (
       c.args.bank,
       refl,
-      xact_same (start_of c.args.hall.now) c.args.bank c.enter_xact-store.result c.state.new.bank (at (view c.enter_xact-store.new.caller.pass).seen (xact_lock c.args.bank))
-          (record { last = r.bank.last; cutoff = r.bank.calls.cutoff; count = r.bank.calls.count; pages = r.same }) c.enter_xact-store.ensures.stands,
+      xact_same (start_of c.args.hall.now) c.args.bank c.deref_mut-store.result.now c.state.new.bank (at (view c.enter_xact-held.new.caller.pass).seen (xact_lock c.args.bank))
+          (record { last = r.bank.last; cutoff = r.bank.calls.cutoff; count = r.bank.calls.count; pages = r.same }) r.bank.calls.crash (subst (λ l. IsXactOf (start_of c.args.hall.now) c.args.bank l (at (view c.enter_xact-held.new.caller.pass).seen (xact_lock c.args.bank))) (sym c.deref_mut-store.ensures.value) c.enter_xact-held.ensures.stands),
     )
 
 pub returns-in-Ok-clause-went : goal.returns-in-Ok-clause-went
 returns-in-Ok-clause-went g c =
-    visited (start_of c.args.hall.now) (view c.args.caller.now.pass) (view c.enter_xact-store.new.caller.pass) (view c.leave_looked.new.caller.pass) c.args.caller.now.number (xact_lock c.args.bank) c.args.caller.now.session _
-    c.requires.ready.at (is_xact_lock (start_of c.args.hall.now) c.args.bank c.requires.bank.0) c.enter_xact-store.ensures.entered refl refl c.leave_looked.ensures.left
+    visited (start_of c.args.hall.now) (view c.args.caller.now.pass) (view c.enter_xact-held.new.caller.pass) (view c.leave_looked.new.caller.pass) c.args.caller.now.number (xact_lock c.args.bank) c.args.caller.now.session _
+    c.requires.ready.at (is_xact_lock (start_of c.args.hall.now) c.args.bank c.requires.bank.0) c.enter_xact-held.ensures.entered refl refl c.leave_looked.ensures.left
 
 pub returns-in-Ok-clause-state : goal.returns-in-Ok-clause-state
 returns-in-Ok-clause-state g c told =
     let start = start_of c.args.hall.now in
     let r = c.in-Ok.ensures in
-    let es = at (view c.enter_xact-store.new.caller.pass).seen (xact_lock c.args.bank) in
+    let es = at (view c.enter_xact-held.new.caller.pass).seen (xact_lock c.args.bank) in
     let pages = is_xact_lock start c.args.bank c.requires.bank.0 in
-    let looked = xact_looked start c.args.bank c.state.new.bank (by_at c.enter_xact-store.new.caller.number c.enter_xact-store.new.caller.session.levels.commands) es
-    (xact_same start c.args.bank c.enter_xact-store.result c.state.new.bank es (record { last = r.bank.last; cutoff = r.bank.calls.cutoff; count = r.bank.calls.count; pages = r.same }) c.enter_xact-store.ensures.stands) in
-    let left = list_left start (view c.args.caller.now.pass) (view c.enter_xact-store.new.caller.pass) (view c.leave_looked.new.caller.pass) c.args.caller.now.number (xact_lock c.args.bank) c.args.caller.now.session (look_by c.enter_xact-store.new.caller.number c.enter_xact-store.new.caller.session) c.requires.ready.at pages c.enter_xact-store.ensures.entered c.leave_looked.ensures.left in
+    let looked = xact_looked start c.args.bank c.state.new.bank (by_at c.enter_xact-held.new.caller.number c.enter_xact-held.new.caller.session.levels.commands) es
+    (xact_same start c.args.bank c.deref_mut-store.result.now c.state.new.bank es (record { last = r.bank.last; cutoff = r.bank.calls.cutoff; count = r.bank.calls.count; pages = r.same }) r.bank.calls.crash (subst (λ l. IsXactOf (start_of c.args.hall.now) c.args.bank l (at (view c.enter_xact-held.new.caller.pass).seen (xact_lock c.args.bank))) (sym c.deref_mut-store.ensures.value) c.enter_xact-held.ensures.stands)) in
+    let left = list_left start (view c.args.caller.now.pass) (view c.enter_xact-held.new.caller.pass) (view c.leave_looked.new.caller.pass) c.args.caller.now.number (xact_lock c.args.bank) c.args.caller.now.session (look_by c.enter_xact-held.new.caller.number c.enter_xact-held.new.caller.session) c.requires.ready.at pages c.enter_xact-held.ensures.entered c.leave_looked.ensures.left in
     state_seen start (view c.leave_looked.new.caller.pass).seen c.args.bank c.state.new.bank c.args.x c.named.result c.leave_looked.ensures.ready.at.kept
     (subst (λ (t : List Entry). IsXactOf start c.args.bank c.state.new.bank t) (sym left) looked) c.requires.here
     (subst (λ (z : ℕ × ℕ). is_cut Ids 32768 z.0 (z.1 / 32768) ≡ false) (λ j. (sym r.bank.calls.cutoff j, c.low.ensures j)) (not_true _ (λ t. (let f = r.bank.calls.cut t in cc)))) told
-    (c.named.ensures ∙ (subst (λ (z : ℕ). state_number c.in-Ok.found ≡ state_in (pages_of c.enter_xact-store.result (z / 32768)) (z % 32768)) c.low.ensures (r.is told) ∙ sym (ap (λ (t : List ℕ). state_in t (xact_place_of c.args.x)) (r.same told (xact_page_of c.args.x)))))
+    (c.named.ensures ∙ (subst (λ (z : ℕ). state_number c.in-Ok.found ≡ state_in (pages_of c.deref_mut-store.result.now (z / 32768)) (z % 32768)) c.low.ensures (r.is told) ∙ sym (ap (λ (t : List ℕ). state_in t (xact_place_of c.args.x)) (r.same told (xact_page_of c.args.x)))))
 
 pub returns-in-Err-clause-went : goal.returns-in-Err-clause-went
 returns-in-Err-clause-went g c =
-    visited_refused (start_of c.args.hall.now) (view c.args.caller.now.pass) (view c.enter_xact-store.new.caller.pass) (view c.leave_refused.new.caller.pass) c.args.caller.now.number (xact_lock c.args.bank) c.args.caller.now.session _ _ c.in-Err.refusal
-    c.requires.ready.at (is_xact_lock (start_of c.args.hall.now) c.args.bank c.requires.bank.0) c.enter_xact-store.ensures.entered c.leave_refused.ensures.left
+    visited_refused (start_of c.args.hall.now) (view c.args.caller.now.pass) (view c.enter_xact-held.new.caller.pass) (view c.leave_refused.new.caller.pass) c.args.caller.now.number (xact_lock c.args.bank) c.args.caller.now.session _ _ c.in-Err.refusal
+    c.requires.ready.at (is_xact_lock (start_of c.args.hall.now) c.args.bank c.requires.bank.0) c.enter_xact-held.ensures.entered c.leave_refused.ensures.left
 
 pub returns-in-Err-clause-fault : goal.returns-in-Err-clause-fault
 returns-in-Err-clause-fault g c is =
-    let e = c.enter_xact-store.ensures in
-    fault_met (start_of c.args.hall.now) (view c.args.caller.now.pass) (view c.enter_xact-store.new.caller.pass) (view c.leave_refused.new.caller.pass) c.args.caller.now.number c.enter_xact-store.new.caller.number (xact_lock c.args.bank) c.args.caller.now.session c.enter_xact-store.new.caller.session _ c.in-Err.refusal
+    let e = c.enter_xact-held.ensures in
+    fault_met (start_of c.args.hall.now) (view c.args.caller.now.pass) (view c.enter_xact-held.new.caller.pass) (view c.leave_refused.new.caller.pass) c.args.caller.now.number c.enter_xact-held.new.caller.number (xact_lock c.args.bank) c.args.caller.now.session c.enter_xact-held.new.caller.session _ c.in-Err.refusal
     c.requires.ready.at (is_xact_lock (start_of c.args.hall.now) c.args.bank c.requires.bank.0) e.entered e.same.1 e.same.0 c.leave_refused.ensures.left cc
 
 pub returns-in-Ok-clause-section : goal.returns-in-Ok-clause-section
 returns-in-Ok-clause-section g c =
     let start = start_of c.args.hall.now in
-    let e = c.enter_xact-store.ensures in
+    let e = c.enter_xact-held.ensures in
     let v = view c.args.caller.now.pass in
-    let u = view c.enter_xact-store.new.caller.pass in
+    let u = view c.enter_xact-held.new.caller.pass in
     let w = view c.leave_looked.new.caller.pass in
-    let t = c.enter_xact-store.new.caller in
+    let t = c.enter_xact-held.new.caller in
     let s = c.args.caller.now.session in
     let n = c.args.caller.now.number in
     section_of start v u w (xact_lock c.args.bank) (look_by t.number t.session) (look_by n s) e.entered (ap look_of (same_command n t.number s t.session e.same.1 e.same.0)) c.leave_looked.ensures.left
@@ -91,15 +91,15 @@ returns-in-Ok-clause-section g c =
 pub returns-in-Err-clause-section : goal.returns-in-Err-clause-section
 returns-in-Err-clause-section g c =
     let start = start_of c.args.hall.now in
-    let e = c.enter_xact-store.ensures in
+    let e = c.enter_xact-held.ensures in
     let v = view c.args.caller.now.pass in
-    let u = view c.enter_xact-store.new.caller.pass in
+    let u = view c.enter_xact-held.new.caller.pass in
     let w = view c.leave_refused.new.caller.pass in
-    let t = c.enter_xact-store.new.caller in
+    let t = c.enter_xact-held.new.caller in
     let s = c.args.caller.now.session in
     let n = c.args.caller.now.number in
-    xact_refused_at start v u w n t.number c.args.bank s t.session _ (xact_page_of c.args.x) _ (cutoff_of c.enter_xact-store.result) c.in-Err.refusal c.requires.ready.at c.requires.bank.0 e.same.1 e.same.0
-    (ap (λ (z : ℕ). z / 32768) c.low.ensures) e.entered c.leave_refused.ensures.left e.stands.cutoff_is (λ cutoff is. c.in-Err.ensures.bank.calls.only_cut cutoff (ap Err is))
+    xact_refused_at start v u w n t.number c.args.bank s t.session _ (xact_page_of c.args.x) _ (cutoff_of c.deref_mut-store.result.now) c.in-Err.refusal c.requires.ready.at c.requires.bank.0 e.same.1 e.same.0
+    (ap (λ (z : ℕ). z / 32768) c.low.ensures) e.entered c.leave_refused.ensures.left (subst (λ l. IsXactOf (start_of c.args.hall.now) c.args.bank l (at (view c.enter_xact-held.new.caller.pass).seen (xact_lock c.args.bank))) (sym c.deref_mut-store.ensures.value) c.enter_xact-held.ensures.stands).cutoff_is (λ cutoff is. c.in-Err.ensures.bank.calls.only_cut cutoff (ap Err is))
 
 pub leave_refused-requires-clause-risen : goal.leave_refused-requires-clause-risen
-leave_refused-requires-clause-risen g c is = let e = c.enter_xact-store.ensures in risen_past (faults_told (start_of c.args.hall.now) (xact_lock c.args.bank) (at (view c.enter_xact-store.new.caller.pass).seen (xact_lock c.args.bank))) (faults_of c.enter_xact-store.result) _ e.stands.count (c.in-Err.ensures.bank.calls.fault (ap Err is))
+leave_refused-requires-clause-risen g c is = let e = c.enter_xact-held.ensures in risen_past (faults_told (start_of c.args.hall.now) (xact_lock c.args.bank) (at (view c.enter_xact-held.new.caller.pass).seen (xact_lock c.args.bank))) (faults_of c.deref_mut-store.result.now) _ (subst (λ l. IsXactOf (start_of c.args.hall.now) c.args.bank l (at (view c.enter_xact-held.new.caller.pass).seen (xact_lock c.args.bank))) (sym c.deref_mut-store.ensures.value) c.enter_xact-held.ensures.stands).count (c.in-Err.ensures.bank.calls.fault (ap Err is))

@@ -1,6 +1,6 @@
 use Rattle.std.proofs.Common.{arith, subst}
 use Rattle.tx_model.specs.declared.report.DumpOf.{DumpOf}
-use Rattle.engine_dumps.specs.Dumps.{MayShow}
+use Rattle.run_law.specs.Turns.{MayShow}
 use Rattle.engine_dumps.proofs.answering.show.Goals as goal
 
 pub overflow_cast-dump : goal.overflow_cast-dump

@@ -1,9 +1,13 @@
-use Rattle.std.proofs.Common.{◌≡◌, ◌%◌, ◌<◌, Err, ap, arith, length, length-append, length-drop, refl, sym, subst, ◌∙◌}
-use Rattle.std.proofs.lemmas.List.{length-take}
+use Rattle.std.proofs.Common.{◌≡◌, ◌%◌, ◌<◌, Err, ap, arith, length, length-append, length-drop, refl, sym, subst, ◌∙◌, ℕ}
+use Rattle.std.proofs.lemmas.List.{length-take, with_items_is}
 use Rattle.hall.specs.Calls.{start_of, view}
+use Rattle.tx_events.specs.declared.refusal.Lock.TheVariants as locks
 use Rattle.tx_model.specs.declared.report.DumpOf.TheVariants as dumps
 use Rattle.tx_model.specs.declared.reply.Reply.{Reply}
-use Rattle.engine_dumps.specs.Dumps.{IsAnswered}
+use Rattle.tx_core.specs.Locks.{xact_lock}
+use Rattle.engine_dumps.specs.Dumps.{IsAnswered, IsFaultCounted, ShowsBytes}
+use Rattle.engine_dumps.specs.Shown.{HasFailed, ShowsXact}
+use Rattle.engine_dumps.proofs.FaultsTold.{bank_counted, bank_shows, bytes_counted}
 use Rattle.engine_dumps.proofs.Cutoffs.{xact_refused, xact_told}
 use Rattle.engine_dumps.proofs.answering.show_xact.Goals as goal
 
@@ -42,3 +46,36 @@ returns-in-Err-clause-reply g c =
     let low : c.bank_of-bank.result < start.banks = omega (arith, h.banks, c.bank_of-bank.ensures.within) in
     subst (λ (r : Reply). IsAnswered hall host (dumps.Xact c.args.page) c.args.size r) (sym c.refused.ensures)
     (xact_refused start seen c.args.page c.args.size c.bank_of-bank.result c.in-Err.refusal c.dump_xact.ensures.kept here low (λ cutoff e. c.in-Err.ensures.cut cutoff (ap Err e)))
+
+pub returns-in-Ok-clause-bytes : goal.returns-in-Ok-clause-bytes
+returns-in-Ok-clause-bytes g c =
+    let start = start_of c.args.hall.now in
+    let seen = (view c.args.host.now.pass).seen in
+    let now = c.dump_xact.new.into in
+    let size : length c.as_mut_slice.result.now ≡ c.args.size = c.as_mut_slice.ensures.len ∙ c.in_ok-bytes.ensures.len in
+    let long : length now ≡ c.in_ok-bytes.bytes.len = c.dump_xact.auto.into ∙ c.as_mut_slice.ensures.len in
+    subst (ShowsBytes g.L.LogDisk g.P.PageDisk start seen (dumps.Xact c.args.page) c.args.at c.args.size) (sym c.bytes_reply.ensures.reply)
+    (λ tells. subst (ShowsXact start seen c.args.page c.args.at c.args.size) (sym (with_items_is c.in_ok-bytes.bytes now long))
+    (subst (λ (n : ℕ). ShowsXact start seen c.args.page c.args.at n now) size (c.in-Ok.ensures.bytes tells)))
+
+pub returns-in-Ok-clause-fault : goal.returns-in-Ok-clause-fault
+returns-in-Ok-clause-fault g c =
+    let start = start_of c.args.hall.now in
+    let seen = (view c.args.host.now.pass).seen in
+    bytes_counted g.L.LogDisk g.P.PageDisk start seen c.bytes_reply.result _ c.bytes_reply.ensures.reply
+
+pub returns-in-Err-clause-bytes : goal.returns-in-Err-clause-bytes
+returns-in-Err-clause-bytes g c =
+    let start = start_of c.args.hall.now in
+    let seen = (view c.args.host.now.pass).seen in
+    subst (ShowsBytes g.L.LogDisk g.P.PageDisk start seen (dumps.Xact c.args.page) c.args.at c.args.size) (sym c.refused.ensures)
+    (bank_shows g.L.LogDisk g.P.PageDisk start seen (dumps.Xact c.args.page) c.args.at c.args.size (locks.Xact c.bank_of-bank.result) c.in-Err.refusal)
+
+pub returns-in-Err-clause-fault : goal.returns-in-Err-clause-fault
+returns-in-Err-clause-fault g c =
+    let start = start_of c.args.hall.now in
+    let seen = (view c.args.host.now.pass).seen in
+    let here : c.bank_of-bank.result ≡ c.args.page % start.banks = c.bank_of-bank.ensures.value ∙ ap (λ n. c.args.page % n) (sym c.requires.home.is_host.banks) in
+    subst (IsFaultCounted g.L.LogDisk g.P.PageDisk start seen) (sym c.refused.ensures)
+    (bank_counted g.L.LogDisk g.P.PageDisk start seen (locks.Xact c.bank_of-bank.result) c.in-Err.refusal
+    (λ e. subst (λ (n : ℕ). HasFailed g.L.LogDisk g.P.PageDisk start seen (xact_lock n)) (sym here) (c.in-Err.ensures.fault (ap Err e))))

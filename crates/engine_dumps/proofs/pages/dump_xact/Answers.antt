@@ -1,9 +1,11 @@
 use Rattle.std.proofs.Common.{◌≡◌, ℕ, ◌%◌, List, drop, refl, sym, ap, subst, ◌∙◌, arith, length, take}
+use Rattle.std.specs.Box.{with_value}
+use Rattle.disk_core.specs.Faults.{HasRisen}
 use Rattle.hall.specs.Calls.{start_of, view}
 use Rattle.hall.specs.declared.view.Stage.TheVariants.{Inside}
 use Rattle.notes.specs.Lists.{at}
 use Rattle.slru_bank.specs.Bank.{IsPage}
-use Rattle.slru_bank.specs.Calls.{cutoff_of, pages_of}
+use Rattle.slru_bank.specs.Calls.{cutoff_of, faults_of, pages_of}
 use Rattle.tx_core.specs.declared.entry.Entry.{Entry}
 use Rattle.tx_core.specs.EngineInvariant.{EngineInvariant}
 use Rattle.tx_core.specs.Locks.{xact_lock}
@@ -19,37 +21,37 @@ use Rattle.engine_dumps.proofs.pages.dump_xact.Goals as goal
 pub bank_of-bank-requires : goal.bank_of-bank-requires
 bank_of-bank-requires g c = c.requires.home.is_host.cluster.banks.0
 
-pub take_xact-store-requires-clause-bank : goal.take_xact-store-requires-clause-bank
-take_xact-store-requires-clause-bank g c =
+pub take_xact-held-requires-clause-bank : goal.take_xact-held-requires-clause-bank
+take_xact-held-requires-clause-bank g c =
     let h = c.requires.home.is_host in
     (omega (arith, h.banks, c.bank_of-bank.ensures.within), omega (arith, h.banks, h.cluster.banks.1))
 
 pub put_back-requires-clause-inside : goal.put_back-requires-clause-inside
-put_back-requires-clause-inside g c = let i = c.take_xact-store.ensures.inside in i.inside ∙ ap Inside (sym i.cell)
+put_back-requires-clause-inside g c = let i = c.take_xact-held.ensures.inside in i.inside ∙ ap Inside (sym i.cell)
 
 pub put_back-requires-clause-stands : goal.put_back-requires-clause-stands
 put_back-requires-clause-stands g c =
     let start = start_of c.args.hall.now in
-    let seen = (view c.take_xact-store.new.host.pass).seen in
-    let store = c.take_xact-store.result in
+    let seen = (view c.take_xact-held.new.host.pass).seen in
+    let store = c.deref_mut-store.result.now in
     let now = c.read-found.new.self in
     let r = c.read-found.ensures in
     let bank = c.bank_of-bank.result in
-    subst (λ (z : ℕ). (b : ℕ) × (z ≡ xact_lock b) × IsXactOf start b now (at seen z)) (sym c.take_xact-store.ensures.inside.cell)
-    (bank, refl, xact_same start bank store now (at seen (xact_lock bank)) (read_same c.args.page store now c.read-found.result r.bank r.same) c.take_xact-store.ensures.stands)
+    subst (λ (z : ℕ). (b : ℕ) × (z ≡ xact_lock b) × IsXactOf start b now (at seen z)) (sym c.take_xact-held.ensures.inside.cell)
+    (bank, refl, xact_same start bank store now (at seen (xact_lock bank)) (read_same c.args.page store now c.read-found.result r.bank r.same) r.bank.calls.crash (subst (λ l. IsXactOf (start_of c.args.hall.now) c.bank_of-bank.result l (at (view c.take_xact-held.new.host.pass).seen (xact_lock c.bank_of-bank.result))) (sym c.deref_mut-store.ensures.value) c.take_xact-held.ensures.stands))
 
 pub returns-clause-stays : goal.returns-clause-stays
-returns-clause-stays g c = came_home c.args.hall.now (xact_lock c.bank_of-bank.result) c.args.host.now c.take_xact-store.new.host _ c.requires.home c.take_xact-store.ensures.inside c.put_back.ensures.own.0 c.put_back.ensures.view refl refl
+returns-clause-stays g c = came_home c.args.hall.now (xact_lock c.bank_of-bank.result) c.args.host.now c.take_xact-held.new.host _ c.requires.home c.take_xact-held.ensures.inside c.put_back.ensures.own.0 c.put_back.ensures.view refl refl
 
 pub returns-clause-kept : goal.returns-clause-kept
-returns-clause-kept g c = let i = c.take_xact-store.ensures.inside in subst (EngineInvariant (start_of c.args.hall.now)) i.seen i.kept
+returns-clause-kept g c = let i = c.take_xact-held.ensures.inside in subst (EngineInvariant (start_of c.args.hall.now)) i.seen i.kept
 
 pub returns-clause-bytes : goal.returns-clause-bytes
 returns-clause-bytes g c told =
     let start = start_of c.args.hall.now in
-    let i = c.take_xact-store.ensures.inside in
-    let seen = (view c.take_xact-store.new.host.pass).seen in
-    let store = c.take_xact-store.result in
+    let i = c.take_xact-held.ensures.inside in
+    let seen = (view c.take_xact-held.new.host.pass).seen in
+    let store = c.deref_mut-store.result.now in
     let now = c.read-found.new.self in
     let r = c.read-found.ensures in
     let bank = c.bank_of-bank.result in
@@ -58,44 +60,45 @@ returns-clause-bytes g c told =
     let page : List ℕ = pages_of store c.args.page in
     ok_by _ c.read-found.result (λ x is.
     subst (λ (lists : List (List Entry)). ShowsXact start lists c.args.page c.args.from count c.read-found.new.into) i.seen
-    (shows_xact start seen store bank c.args.page c.args.from count c.read-found.new.into i.kept c.take_xact-store.ensures.stands here (read_uncut c.args.page store now c.read-found.result x r.bank is) told
+    (shows_xact start seen store bank c.args.page c.args.from count c.read-found.new.into i.kept (subst (λ l. IsXactOf (start_of c.args.hall.now) c.bank_of-bank.result l (at (view c.take_xact-held.new.host.pass).seen (xact_lock c.bank_of-bank.result))) (sym c.deref_mut-store.ensures.value) c.take_xact-held.ensures.stands) here (read_uncut c.args.page store now c.read-found.result x r.bank is) told
     (record { whole = of_ok (IsPage page) c.read-found.result x is (r.page told); piece = of_ok (c.read-found.new.into ≡ take count (drop c.args.from page)) c.read-found.result x is (r.bytes told) })))
 
 pub returns-clause-uncut : goal.returns-clause-uncut
 returns-clause-uncut g c =
     let start = start_of c.args.hall.now in
-    let i = c.take_xact-store.ensures.inside in
-    let store = c.take_xact-store.result in
+    let i = c.take_xact-held.ensures.inside in
+    let store = c.deref_mut-store.result.now in
     let here : c.bank_of-bank.result ≡ c.args.page % start.banks = c.bank_of-bank.ensures.value ∙ ap (λ n. c.args.page % n) (sym c.requires.home.is_host.banks) in
     ok_by _ c.read-found.result (λ x is.
     subst (λ (z : List (List Entry) × ℕ). IsXactUncut start z.0 z.1 c.args.page) (λ j. (i.seen j, here j))
-    (cutoff_of store, c.take_xact-store.ensures.stands.cutoff_is, read_uncut c.args.page store c.read-found.new.self c.read-found.result x c.read-found.ensures.bank is))
+    (cutoff_of store, (subst (λ l. IsXactOf (start_of c.args.hall.now) c.bank_of-bank.result l (at (view c.take_xact-held.new.host.pass).seen (xact_lock c.bank_of-bank.result))) (sym c.deref_mut-store.ensures.value) c.take_xact-held.ensures.stands).cutoff_is, read_uncut c.args.page store c.read-found.new.self c.read-found.result x c.read-found.ensures.bank is))
 
 pub returns-clause-cut : goal.returns-clause-cut
 returns-clause-cut g c cutoff is =
     let start = start_of c.args.hall.now in
-    let i = c.take_xact-store.ensures.inside in
+    let i = c.take_xact-held.ensures.inside in
     let cut = c.read-found.ensures.bank.calls.only_cut cutoff is in
     let here : c.bank_of-bank.result ≡ c.args.page % start.banks = c.bank_of-bank.ensures.value ∙ ap (λ n. c.args.page % n) (sym c.requires.home.is_host.banks) in
     subst (λ (z : List (List Entry) × ℕ × ℕ). IsXactCut start z.0 z.1 c.args.page z.2) (λ j. (i.seen j, here j, sym cut.0 j))
-    (c.take_xact-store.ensures.stands.cutoff_is, cut.1)
+    ((subst (λ l. IsXactOf (start_of c.args.hall.now) c.bank_of-bank.result l (at (view c.take_xact-held.new.host.pass).seen (xact_lock c.bank_of-bank.result))) (sym c.deref_mut-store.ensures.value) c.take_xact-held.ensures.stands).cutoff_is, cut.1)
 
 pub returns-clause-fault : goal.returns-clause-fault
 returns-clause-fault g c is =
     let start = start_of c.args.hall.now in
-    let i = c.take_xact-store.ensures.inside in
-    let seen = (view c.take_xact-store.new.host.pass).seen in
-    let store = c.take_xact-store.result in
+    let i = c.take_xact-held.ensures.inside in
+    let seen = (view c.take_xact-held.new.host.pass).seen in
+    let store = c.deref_mut-store.result.now in
     let now = c.read-found.new.self in
     let r = c.read-found.ensures in
     let bank = c.bank_of-bank.result in
     let here : bank ≡ c.args.page % start.banks = c.bank_of-bank.ensures.value ∙ ap (λ n. c.args.page % n) (sym c.requires.home.is_host.banks) in
-    let stood = c.take_xact-store.ensures.stands in
+    let held = c.take_xact-held.result in
+    let stood = (subst (λ l. IsXactOf (start_of c.args.hall.now) c.bank_of-bank.result l (at (view c.take_xact-held.new.host.pass).seen (xact_lock c.bank_of-bank.result))) (sym c.deref_mut-store.ensures.value) c.take_xact-held.ensures.stands) in
     let failed : HasFailed g.L.LogDisk g.P.PageDisk start seen (xact_lock bank) = record {
-      before = parts.Xact store;
-      now = parts.Xact now;
-      stood = (bank, refl, stood);
-      stands = (bank, refl, xact_same start bank store now (at seen (xact_lock bank)) (read_same c.args.page store now c.read-found.result r.bank r.same) stood);
-      risen = r.bank.calls.fault is;
+      before = parts.Xact held;
+      now = parts.Xact (with_value held now);
+      stood = (bank, refl, c.take_xact-held.ensures.stands);
+      stands = (bank, refl, xact_same start bank store now (at seen (xact_lock bank)) (read_same c.args.page store now c.read-found.result r.bank r.same) r.bank.calls.crash stood);
+      risen = subst (λ l. HasRisen (faults_of l) (faults_of now)) c.deref_mut-store.ensures.value (r.bank.calls.fault is);
     } in
     subst (λ (z : List (List Entry) × ℕ). HasFailed g.L.LogDisk g.P.PageDisk start z.0 (xact_lock z.1)) (λ j. (i.seen j, here j)) failed

@@ -1,13 +1,18 @@
-use Rattle.std.proofs.Common.{◌/◌, ap, refl, ◌∙◌}
+use Rattle.std.proofs.Common.{◌/◌, ap, ◌∙◌, subst, sym}
 use Rattle.slru_bank.specs.Calls.{cutoff_of, faults_of, last_page, pages_of}
-use Rattle.engine_host.proofs.Starting.{xact_begins}
+use Rattle.engine_host.specs.Opening.{IsNewXact, life_of}
+use Rattle.engine_parts.specs.Course.{HasCourse}
+use Rattle.engine_host.proofs.Starting.{course_begins, xact_begins}
 use Rattle.engine_host.proofs.banks.new_xact.Goals as goal
 
-pub returns-in-Ok-clear_all-clause-new : goal.returns-in-Ok-clear_all-clause-new
-returns-in-Ok-clear_all-clause-new g c counts reached =
-    let store = c.clear_all.new.self in
-    let cleared = c.in-Ok-clear_all.ensures in
-    xact_begins c.args.cluster.now c.args.bank (faults_of store) (last_page store) (cutoff_of store) g.P.PageDisk.tells (pages_of store) counts c.requires.base c.requires.inside reached
-    (cleared.bank.sweeps.last ∙ (c.in-Ok.ensures.last ∙ (c.xact_page-last.ensures.page ∙ ap (λ n. n / 32768) c.low.ensures)))
-    (cleared.cutoff ∙ (c.in-Ok.ensures.cutoff ∙ (c.xact_page-cutoff.ensures.page ∙ ap (λ n. n / 32768) c.low-2.ensures)))
-    (λ told q small. (cleared.bank.drops told).zeros q small refl)
+-- the bank behind the box is the one whose pages are removed
+pub returns-in-Ok-new-clause-new : goal.returns-in-Ok-new-clause-new
+returns-in-Ok-new-clause-new g c =
+    let cluster = c.args.cluster.now in
+    let store = c.empty.new.store in
+    let emptied = c.in-Ok-empty.ensures in
+    let last = emptied.last ∙ (c.in-Ok.ensures.last ∙ (c.xact_page-last.ensures.page ∙ ap (λ n. n / 32768) c.low.ensures)) in
+    let cutoff = emptied.cutoff ∙ (c.in-Ok.ensures.cutoff ∙ (c.xact_page-cutoff.ensures.page ∙ ap (λ n. n / 32768) c.low-2.ensures)) in
+    subst (λ s. IsNewXact cluster c.args.bank s) (sym c.in-Ok-new.ensures.ok) (λ counts reached.
+    xact_begins cluster c.args.bank (faults_of store) (last_page store) (cutoff_of store) g.P.PageDisk.tells (pages_of store) (HasCourse (life_of cluster counts) c.args.bank store) counts c.requires.base c.requires.inside reached last cutoff
+    (λ told q small. emptied.zeros told q small) (λ told. course_begins cluster c.args.bank store counts c.requires.base last cutoff (emptied.zeros told) (emptied.durable told)))

@@ -26,7 +26,7 @@ returns-clause-disks g c =
     let three = c.push_reserved-3.ensures.items in
     let four = c.push_reserved-4.ensures.items in
     subst (λ l. HaveDisks (c.args.bank + 1) l) (sym (four ∙ ap (λ l. l ++ parts.Vacant ∷ []) (three ∙ ap (λ l. l ++ parts.Vacant ∷ []) (two ∙ ap (λ l. l ++ parts.Subtrans c.in-Ok-new_subtrans.store ∷ []) one))))
-    (disks_more c.args.bank c.args.locks.now.items (parts.Xact c.in-Ok.store) (parts.Subtrans c.in-Ok-new_subtrans.store) (volume_of c.in-Ok.store) (volume_of c.in-Ok-new_subtrans.store) c.requires.disks refl refl refl refl)
+    (disks_more c.args.bank c.args.locks.now.items (parts.Xact c.in-Ok.store) (parts.Subtrans c.in-Ok-new_subtrans.store) (volume_of c.in-Ok.store.value) (volume_of c.in-Ok-new_subtrans.store.value) c.requires.disks refl refl refl refl)
 
 pub returns-clause-counted : goal.returns-clause-counted
 returns-clause-counted g c =
@@ -37,12 +37,12 @@ returns-clause-counted g c =
     let three = c.push_reserved-3.ensures.items in
     let four = c.push_reserved-4.ensures.items in
     record {
-      state_faults = faults_of states;
-      parent_faults = faults_of parents;
+      state_faults = faults_of states.value;
+      parent_faults = faults_of parents.value;
       grown = bank_counts c.args.locks.now.items c.push_reserved-4.new.self.items (parts.Xact states) (parts.Subtrans parents)
           (four ∙ ap (λ l. l ++ parts.Vacant ∷ []) (three ∙ ap (λ l. l ++ parts.Vacant ∷ []) (two ∙ ap (λ l. l ++ parts.Subtrans parents ∷ []) one)));
-      xact = λ v at. first_counted g.P.PageDisk c.args.xact.now.items c.remove.result v (faults_of states) c.requires.volumes.0 c.remove.ensures.value at c.in-Ok.ensures.count;
-      subtrans = λ v at. first_counted g.P.PageDisk c.args.subtrans.now.items c.remove-2.result v (faults_of parents) c.requires.volumes.1 c.remove-2.ensures.value at c.in-Ok-new_subtrans.ensures.count;
+      xact = λ v at. first_counted g.P.PageDisk c.args.xact.now.items c.remove.result v (faults_of states.value) c.requires.volumes.0 c.remove.ensures.value at c.in-Ok.ensures.count;
+      subtrans = λ v at. first_counted g.P.PageDisk c.args.subtrans.now.items c.remove-2.result v (faults_of parents.value) c.requires.volumes.1 c.remove-2.ensures.value at c.in-Ok-new_subtrans.ensures.count;
     }
 
 pub returns-in-Err-clause-refused : goal.returns-in-Err-clause-refused

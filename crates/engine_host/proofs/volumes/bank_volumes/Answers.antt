@@ -8,7 +8,7 @@ pub put_back-requires : goal.put_back-requires
 put_back-requires g c =
     let e = c.in-Some.ensures.items in
     let i = c.loop-part.invariant in
-    record { room = omega (arith, i.xact_room, moved_length xact_disk c.loop-part.locks.items c.pop.new.self.items c.in-Some.part (volume_of c.in-Xact.store) e (ap xact_disk c.in-Xact.is)) }
+    record { room = omega (arith, i.xact_room, moved_length xact_disk c.loop-part.locks.items c.pop.new.self.items c.in-Some.part (volume_of c.in-Xact.store.value) e (ap xact_disk c.in-Xact.is)) }
 
 pub loop-part-preserved-in-Xact : goal.loop-part-preserved-in-Xact
 loop-part-preserved-in-Xact g c =
@@ -17,8 +17,8 @@ loop-part-preserved-in-Xact g c =
     let old = c.loop-part.locks.items in
     let new = c.pop.new.self.items in
     let part = c.in-Some.part in
-    let disk = volume_of c.in-Xact.store in
-    let put = c.put_back.ensures.items ∙ ap (λ d. d ∷ c.loop-part.xact.items) c.into_disk.ensures in
+    let disk = volume_of c.in-Xact.store.value in
+    let put = c.put_back.ensures.items ∙ ap (λ d. d ∷ c.loop-part.xact.items) (c.into_disk.ensures ∙ ap volume_of c.into_inner.ensures) in
     record {
       xact = moved xact_disk old new part disk c.loop-part.xact.items c.put_back.new.volumes.items _ e (ap xact_disk c.in-Xact.is) put i.xact;
       subtrans = passed subtrans_disk old new part c.loop-part.subtrans.items _ e (ap subtrans_disk c.in-Xact.is) i.subtrans;
@@ -30,7 +30,7 @@ pub put_back-requires-in-Subtrans : goal.put_back-requires-in-Subtrans
 put_back-requires-in-Subtrans g c =
     let e = c.in-Some.ensures.items in
     let i = c.loop-part.invariant in
-    record { room = omega (arith, i.subtrans_room, moved_length subtrans_disk c.loop-part.locks.items c.pop.new.self.items c.in-Some.part (volume_of c.in-Subtrans.store) e (ap subtrans_disk c.in-Subtrans.is)) }
+    record { room = omega (arith, i.subtrans_room, moved_length subtrans_disk c.loop-part.locks.items c.pop.new.self.items c.in-Some.part (volume_of c.in-Subtrans.store.value) e (ap subtrans_disk c.in-Subtrans.is)) }
 
 pub loop-part-preserved-in-Subtrans : goal.loop-part-preserved-in-Subtrans
 loop-part-preserved-in-Subtrans g c =
@@ -39,8 +39,8 @@ loop-part-preserved-in-Subtrans g c =
     let old = c.loop-part.locks.items in
     let new = c.pop.new.self.items in
     let part = c.in-Some.part in
-    let disk = volume_of c.in-Subtrans.store in
-    let put = c.put_back-in-Subtrans.ensures.items ∙ ap (λ d. d ∷ c.loop-part.subtrans.items) c.into_disk-in-Subtrans.ensures in
+    let disk = volume_of c.in-Subtrans.store.value in
+    let put = c.put_back-in-Subtrans.ensures.items ∙ ap (λ d. d ∷ c.loop-part.subtrans.items) (c.into_disk-in-Subtrans.ensures ∙ ap volume_of c.into_inner-in-Subtrans.ensures) in
     record {
       xact = passed xact_disk old new part c.loop-part.xact.items _ e (ap xact_disk c.in-Subtrans.is) i.xact;
       subtrans = moved subtrans_disk old new part disk c.loop-part.subtrans.items c.put_back-in-Subtrans.new.volumes.items _ e (ap subtrans_disk c.in-Subtrans.is) put i.subtrans;

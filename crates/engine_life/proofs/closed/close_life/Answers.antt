@@ -1,8 +1,13 @@
-use Rattle.std.proofs.Common.{◌∙◌}
+use Rattle.std.proofs.Common.{ap, subst, sym, ◌∙◌}
 use Rattle.hall.specs.Calls.{start_of, view}
 use Rattle.notes.specs.Lists.{at as list_at}
+use Rattle.proc_table.specs.Table.{Table}
+use Rattle.tx_core.specs.Locks.{log_lock}
 use Rattle.engine_parts.specs.declared.part.Part.TheVariants as parts
-use Rattle.engine_life.proofs.Counts.{subtrans_told, xact_told}
+use Rattle.engine_parts.specs.Parts.{IsLogOf}
+use Rattle.engine_life.proofs.Counts.{multis_untold, subtrans_told, xact_behind, xact_told}
+use Rattle.engine_life.proofs.Followed.{follows_here}
+use Rattle.engine_life.specs.Lives.{FollowsList}
 use Rattle.engine_life.proofs.closed.close_life.Goals as goal
 
 pub take_apart-log-requires-clause-stand : goal.take_apart-log-requires-clause-stand
@@ -13,12 +18,14 @@ pub returns-clause-events : goal.returns-clause-events
 returns-clause-events g c =
     let taken = c.take_apart-log in
     let stands = c.close-parts.ensures.stand 1 (parts.Proc taken.result.table) taken.ensures.table in
-    c.into_parts-events.ensures.events ∙ stands.1.events
+    c.into_parts-events.ensures.events ∙ (ap (λ (t : Table). t.events) c.into_inner-table.ensures ∙ stands.1.events)
 
+-- the log that was behind the box stands for its list
 pub returns-clause-log : goal.returns-clause-log
 returns-clause-log g c =
     let taken = c.take_apart-log in
-    (c.close-parts.ensures.stand 0 (parts.Log taken.result.log) taken.ensures.log).1
+    let es = list_at (view c.args.life.host.pass).seen log_lock in
+    subst (λ l. IsLogOf (start_of c.args.life.hall) l es) (sym c.into_inner-log.ensures) (c.close-parts.ensures.stand 0 (parts.Log taken.result.log) taken.ensures.log).1
 
 pub returns-clause-counted : goal.returns-clause-counted
 returns-clause-counted g c =
@@ -28,8 +35,24 @@ returns-clause-counted g c =
     let locks = c.close-parts.result.locks.items in
     let closed = c.close-parts.ensures in
     let banks = c.args.life.host.cluster.banks in
+    let log = subst (λ l. IsLogOf start l (list_at seen log_lock)) (sym c.into_inner-log.ensures) (closed.stand 0 (parts.Log taken.result.log) taken.ensures.log).1 in
     record {
-      log = (closed.stand 0 (parts.Log taken.result.log) taken.ensures.log).1.count;
+      log = log.count;
       xact = xact_told start seen locks closed.stand banks taken.result.xact.items c.requires.host.banks closed.count taken.ensures.xact;
       subtrans = subtrans_told start seen locks closed.stand banks taken.result.subtrans.items c.requires.host.banks closed.count taken.ensures.subtrans;
     }
+
+pub returns-clause-multis : goal.returns-clause-multis
+returns-clause-multis g c =
+    let closed = c.close-parts.ensures in
+    multis_untold (start_of c.args.life.hall) (view c.args.life.host.pass).seen c.close-parts.result.locks.items closed.stand c.args.life.host.cluster.banks closed.count
+
+pub returns-clause-states : goal.returns-clause-states
+returns-clause-states g c told few =
+    let p = g.P.PageDisk in
+    let taken = c.take_apart-log in
+    let start = start_of c.args.life.hall in
+    let seen = (view c.args.life.host.pass).seen in
+    let closed = c.close-parts.ensures in
+    xact_behind start seen c.close-parts.result.locks.items closed.stand (FollowsList p start seen) (follows_here p start seen told (λ d x now. g.met.P.PageDisk.only_now d x told now) closed.kept few)
+    c.args.life.host.cluster.banks taken.result.xact.items c.requires.host.banks closed.count taken.ensures.xact

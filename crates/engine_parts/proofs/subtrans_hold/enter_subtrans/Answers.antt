@@ -19,7 +19,7 @@ returns-clause-stands g c =
     let s = subst (λ z. PartStands start (subtrans_lock c.args.bank) z es) c.in-Subtrans.is c.enter-part.ensures.stands in
     let e = s.1 in
     let same : s.0 ≡ c.args.bank = omega arith in
-    subst (λ z. IsSubtransOf start z c.in-Subtrans.store es) same s.2
+    subst (λ z. IsSubtransOf start z c.in-Subtrans.store.value es) same s.2
 
 pub unreachable-requires : goal.unreachable-requires
 unreachable-requires g c =

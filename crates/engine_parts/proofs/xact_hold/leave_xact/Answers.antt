@@ -7,5 +7,5 @@ use Rattle.engine_parts.proofs.xact_hold.leave_xact.Goals as goal
 
 pub leave-requires-clause-stands : goal.leave-requires-clause-stands
 leave-requires-clause-stands g c =
-    subst (λ (z : ℕ). (bank : ℕ) × (z ≡ xact_lock bank) × IsXactOf (start_of c.args.hall.now) bank c.args.store (at (view c.args.caller.now.pass).seen z ++ c.args.entry.value ∷ []))
+    subst (λ (z : ℕ). (bank : ℕ) × (z ≡ xact_lock bank) × IsXactOf (start_of c.args.hall.now) bank c.args.store.value (at (view c.args.caller.now.pass).seen z ++ c.args.entry.value ∷ []))
     (sym c.requires.cell) (c.args._bank, refl, c.requires.stands)

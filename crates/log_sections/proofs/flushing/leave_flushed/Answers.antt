@@ -24,7 +24,7 @@ leave_quiet-requires-clause-may g c =
 
 pub leave_quiet-requires-clause-stands : goal.leave_quiet-requires-clause-stands
 leave_quiet-requires-clause-stands g c =
-    (refl, subst (λ (e : Entry). IsLogOf (start_of c.args.hall.now) c.args.log (at (view c.args.caller.now.pass).seen log_lock ++ e ∷ [])) (sym (c.flush_note-entry.ensures ∙ ap (λ (b : By). flush_entry b c.args.to) c.command_of-by.ensures)) c.requires.stands)
+    (refl, subst (λ (e : Entry). IsLogOf (start_of c.args.hall.now) c.args.log.value (at (view c.args.caller.now.pass).seen log_lock ++ e ∷ [])) (sym (c.flush_note-entry.ensures ∙ ap (λ (b : By). flush_entry b c.args.to) c.command_of-by.ensures)) c.requires.stands)
 
 pub returns-clause-left : goal.returns-clause-left
 returns-clause-left g c = subst (λ (e : Entry). Leaves (start_of c.args.hall.now) log_lock e (view c.args.caller.now.pass) (view c.leave_quiet.new.caller.pass)) (c.flush_note-entry.ensures ∙ ap (λ (b : By). flush_entry b c.args.to) c.command_of-by.ensures) c.leave_quiet.ensures.left

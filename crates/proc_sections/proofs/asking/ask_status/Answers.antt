@@ -21,31 +21,31 @@ use Rattle.proc_sections.proofs.asking.ask_status.Goals as goal
 pub leave_proc-requires-clause-may : goal.leave_proc-requires-clause-may
 leave_proc-requires-clause-may g c =
     let start = start_of c.args.hall.now in
-    let e = c.enter_proc-table.ensures in
+    let e = c.enter_proc-held.ensures in
     let old = c.args.caller.now in
-    let u = c.enter_proc-table.new.caller in
+    let u = c.enter_proc-held.new.caller in
     let by = by_at old.number old.session.levels.commands in
     may_ask start (view u.pass).seen by c.args.x c.ask_note-entry.result.value (c.ask_note-entry.ensures ∙ ap (λ (b : By). ask_entry b c.args.x) c.command_of-by.ensures) c.requires.full
     (subst (λ (b : By). IsInTurn start (at (view u.pass).seen proc_lock) b) (λ j. by_at (e.same.1 j) (e.same.0 j).levels.commands) (e.at.turns proc_lock))
 
 pub leave_proc-requires-clause-stands : goal.leave_proc-requires-clause-stands
 leave_proc-requires-clause-stands g c =
-    let es = at (view c.enter_proc-table.new.caller.pass).seen proc_lock in
+    let es = at (view c.enter_proc-held.new.caller.pass).seen proc_lock in
     let by = c.command_of-by.result in
     subst (λ (d : Entry). ProcStands (start_of c.args.hall.now) c.ask.new.self (es ++ d ∷ [])) (sym c.ask_note-entry.ensures)
-    (proc_adds (start_of c.args.hall.now) c.enter_proc-table.result c.ask.new.self es by (events.Ask by c.args.x) c.enter_proc-table.ensures.stands c.in-Ok.ensures.1)
+    (proc_adds (start_of c.args.hall.now) c.deref_mut-table.result.now c.ask.new.self es by (events.Ask by c.args.x) (subst (λ l. ProcStands (start_of c.args.hall.now) l (at (view c.enter_proc-held.new.caller.pass).seen proc_lock)) (sym c.deref_mut-table.ensures.value) c.enter_proc-held.ensures.stands) c.in-Ok.ensures.1)
 
 pub returns-in-Ok-clause-section : goal.returns-in-Ok-clause-section
 returns-in-Ok-clause-section g c =
     let old = c.args.caller.now in
-    section_of (start_of c.args.hall.now) (view old.pass) (view c.enter_proc-table.new.caller.pass) (view c.leave_proc.new.caller.pass) proc_lock c.ask_note-entry.result.value (ask_entry (by_at old.number old.session.levels.commands) c.args.x) c.enter_proc-table.ensures.entered
+    section_of (start_of c.args.hall.now) (view old.pass) (view c.enter_proc-held.new.caller.pass) (view c.leave_proc.new.caller.pass) proc_lock c.ask_note-entry.result.value (ask_entry (by_at old.number old.session.levels.commands) c.args.x) c.enter_proc-held.ensures.entered
     (c.ask_note-entry.ensures ∙ ap (λ (b : By). ask_entry b c.args.x) c.command_of-by.ensures) c.leave_proc.ensures.left
 
 pub returns-in-Ok-clause-ready : goal.returns-in-Ok-clause-ready
 returns-in-Ok-clause-ready g c =
     let old = c.args.caller.now in
-    let e = c.enter_proc-table.ensures in
-    let u = c.enter_proc-table.new.caller in
+    let e = c.enter_proc-held.ensures in
+    let u = c.enter_proc-held.new.caller in
     let w = c.leave_proc.new.caller in
     let r = c.leave_proc.ensures in
     ready_asked (start_of c.args.hall.now) (view u.pass) (view w.pass) u.number w.number u.session w.session c.args.x c.ask_note-entry.result.value e.at
@@ -55,8 +55,8 @@ pub returns-in-Ok-clause-asks : goal.returns-in-Ok-clause-asks
 returns-in-Ok-clause-asks g c =
     let start = start_of c.args.hall.now in
     let old = c.args.caller.now in
-    let e = c.enter_proc-table.ensures in
-    let u = view c.enter_proc-table.new.caller.pass in
+    let e = c.enter_proc-held.ensures in
+    let u = view c.enter_proc-held.new.caller.pass in
     let w = view c.leave_proc.new.caller.pass in
     let by = by_at old.number old.session.levels.commands in
     let d = c.ask_note-entry.result.value in
@@ -64,25 +64,25 @@ returns-in-Ok-clause-asks g c =
     let wide = c.requires.ready.at.wide in
     let long = e.entered.learns.long in (
       went_event start (view old.pass) u w by old.session d (events.Ask by c.args.x) c.requires.ready.at e.entered.kept e.entered.learns (ap event_of is) refl (ap asks_in is) c.leave_proc.ensures.left,
-      answered_by start u w by c.args.x c.enter_proc-table.result c.in-Ok.asked d e.stands c.in-Ok.ensures.0 is (history_event start u w d (events.Ask by c.args.x) (ap event_of is) (omega arith) c.leave_proc.ensures.left),
+      answered_by start u w by c.args.x c.deref_mut-table.result.now c.in-Ok.asked d (subst (λ l. ProcStands (start_of c.args.hall.now) l (at (view c.enter_proc-held.new.caller.pass).seen proc_lock)) (sym c.deref_mut-table.ensures.value) c.enter_proc-held.ensures.stands) c.in-Ok.ensures.0 is (history_event start u w d (events.Ask by c.args.x) (ap event_of is) (omega arith) c.leave_proc.ensures.left),
     )
 
 pub leave_looked-requires-clause-stands : goal.leave_looked-requires-clause-stands
 leave_looked-requires-clause-stands g c =
-    let u = c.enter_proc-table.new.caller in
+    let u = c.enter_proc-held.new.caller in
     let es = at (view u.pass).seen proc_lock in
-    (refl, proc_looks (start_of c.args.hall.now) c.ask.new.self es (by_at u.number u.session.levels.commands) (subst (λ (t : Table). ProcStands (start_of c.args.hall.now) t es) (sym c.in-Err.ensures) c.enter_proc-table.ensures.stands))
+    (refl, proc_looks (start_of c.args.hall.now) c.ask.new.self es (by_at u.number u.session.levels.commands) (subst (λ (t : Table). ProcStands (start_of c.args.hall.now) t es) (sym c.in-Err.ensures) (subst (λ l. ProcStands (start_of c.args.hall.now) l (at (view c.enter_proc-held.new.caller.pass).seen proc_lock)) (sym c.deref_mut-table.ensures.value) c.enter_proc-held.ensures.stands)))
 
 pub returns-in-Err-clause-section : goal.returns-in-Err-clause-section
 returns-in-Err-clause-section g c =
-    let e = c.enter_proc-table.ensures in
-    let t = c.enter_proc-table.new.caller in
+    let e = c.enter_proc-held.ensures in
+    let t = c.enter_proc-held.new.caller in
     let s = c.args.caller.now.session in
     let n = c.args.caller.now.number in
     section_of (start_of c.args.hall.now) (view c.args.caller.now.pass) (view t.pass) (view c.leave_looked.new.caller.pass) proc_lock (look_by t.number t.session) (look_by n s) e.entered (ap look_of (same_command n t.number s t.session e.same.1 e.same.0)) c.leave_looked.ensures.left
 
 pub returns-in-Err-clause-asks : goal.returns-in-Err-clause-asks
 returns-in-Err-clause-asks g c =
-    let e = c.enter_proc-table.ensures in
+    let e = c.enter_proc-held.ensures in
     let wide = c.requires.ready.at.wide in
-    went_quiet (start_of c.args.hall.now) (view c.args.caller.now.pass) (view c.enter_proc-table.new.caller.pass) (view c.leave_looked.new.caller.pass) c.args.caller.now.number proc_lock c.args.caller.now.session _ c.requires.ready.at e.entered.kept e.entered.learns (omega arith) refl refl c.leave_looked.ensures.left
+    went_quiet (start_of c.args.hall.now) (view c.args.caller.now.pass) (view c.enter_proc-held.new.caller.pass) (view c.leave_looked.new.caller.pass) c.args.caller.now.number proc_lock c.args.caller.now.session _ c.requires.ready.at e.entered.kept e.entered.learns (omega arith) refl refl c.leave_looked.ensures.left

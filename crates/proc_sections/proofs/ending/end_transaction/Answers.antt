@@ -22,12 +22,12 @@ use Rattle.proc_sections.proofs.ending.end_transaction.Goals as goal
 
 pub leave_proc-requires-clause-may : goal.leave_proc-requires-clause-may
 leave_proc-requires-clause-may g c =
-    let e = c.enter_proc-table.ensures in
+    let e = c.enter_proc-held.ensures in
     let start = start_of c.args.hall.now in
     let s = c.args.caller.now.session in
     let n = c.args.caller.now.number in
     let v = view c.args.caller.now.pass in
-    let u = c.enter_proc-table.new.caller in
+    let u = c.enter_proc-held.new.caller in
     let t = u.session in
     let top = c.index-top.result.now in
     let split = split_first s.levels.open_ids.items top c.requires.some c.index-top.ensures in
@@ -43,28 +43,28 @@ leave_proc-requires-clause-may g c =
 pub leave_proc-requires-clause-stands : goal.leave_proc-requires-clause-stands
 leave_proc-requires-clause-stands g c =
     let by = by_at c.args.caller.now.number c.args.caller.now.session.levels.commands in
-    let es = at (view c.enter_proc-table.new.caller.pass).seen proc_lock in
+    let es = at (view c.enter_proc-held.new.caller.pass).seen proc_lock in
     subst (λ (d : Entry). ProcStands (start_of c.args.hall.now) c.end.new.self (es ++ d ∷ [])) (sym c.by-entry.ensures)
-    (proc_adds (start_of c.args.hall.now) c.enter_proc-table.result c.end.new.self es by (end_event c.args.how by c.index-top.result.now) c.enter_proc-table.ensures.stands c.end.ensures)
+    (proc_adds (start_of c.args.hall.now) c.deref_mut-table.result.now c.end.new.self es by (end_event c.args.how by c.index-top.result.now) (subst (λ l. ProcStands (start_of c.args.hall.now) l (at (view c.enter_proc-held.new.caller.pass).seen proc_lock)) (sym c.deref_mut-table.ensures.value) c.enter_proc-held.ensures.stands) c.end.ensures)
 
 pub returns-clause-may : goal.returns-clause-may
 returns-clause-may g c =
-    let e = c.enter_proc-table.ensures in
+    let e = c.enter_proc-held.ensures in
     let start = start_of c.args.hall.now in
     let s = c.args.caller.now.session in
-    let t = c.enter_proc-table.new.caller.session in
+    let t = c.enter_proc-held.new.caller.session in
     let top = c.index-top.result.now in
     let split = split_first s.levels.open_ids.items top c.requires.some c.index-top.ensures in
     let l = c.leave_proc.ensures.same in
     call_ended start (view c.leave_proc.new.caller.pass) c.leave_proc.new.caller.number _
-    (ready_ended start (view c.enter_proc-table.new.caller.pass) (view c.leave_proc.new.caller.pass) c.enter_proc-table.new.caller.number c.leave_proc.new.caller.number t _ c.args.how top (drop 1 s.levels.open_ids.items) c.by-entry.result.value e.at
+    (ready_ended start (view c.enter_proc-held.new.caller.pass) (view c.leave_proc.new.caller.pass) c.enter_proc-held.new.caller.number c.leave_proc.new.caller.number t _ c.args.how top (drop 1 s.levels.open_ids.items) c.by-entry.result.value e.at
     (c.by-entry.ensures ∙ (λ j. end_entry c.args.how (by_at (sym e.same.1 j) (sym e.same.0 j).levels.commands) top)) (ap (λ (z : Session). z.levels.open_ids.items) e.same.0 ∙ split)
     (ap (λ (z : Session). z.levels.commands) l.0) c.clear.ensures.items refl c.clear-2.ensures.items (ap (λ (z : Session). z.levels.registered) l.0) refl l.1 c.leave_proc.ensures.left)
     c.clear-2.ensures.items refl
 
 pub returns-clause-ended : goal.returns-clause-ended
 returns-clause-ended g c =
-    let e = c.enter_proc-table.ensures in
+    let e = c.enter_proc-held.ensures in
     let s = c.args.caller.now.session in
     let by = by_at c.args.caller.now.number s.levels.commands in
     let top = c.index-top.result.now in
@@ -73,8 +73,8 @@ returns-clause-ended g c =
     record {
       went = λ t subs is.
           subst (λ z. WentOn c.args.caller.now.number (end_event c.args.how by z ∷ []) (view c.args.caller.now.pass).seen (view c.leave_proc.new.caller.pass).seen) (heads top t (drop 1 s.levels.open_ids.items) subs (sym split ∙ is))
-          (went_event (start_of c.args.hall.now) (view c.args.caller.now.pass) (view c.enter_proc-table.new.caller.pass) (view c.leave_proc.new.caller.pass) by s (end_entry c.args.how by top) (end_event c.args.how by top) c.requires.may.ready.at e.entered.kept e.entered.learns refl (end_by c.args.how by top) refl
-          (subst (λ (d : Entry). Leaves (start_of c.args.hall.now) proc_lock d (view c.enter_proc-table.new.caller.pass) (view c.leave_proc.new.caller.pass)) c.by-entry.ensures c.leave_proc.ensures.left));
+          (went_event (start_of c.args.hall.now) (view c.args.caller.now.pass) (view c.enter_proc-held.new.caller.pass) (view c.leave_proc.new.caller.pass) by s (end_entry c.args.how by top) (end_event c.args.how by top) c.requires.may.ready.at e.entered.kept e.entered.learns refl (end_by c.args.how by top) refl
+          (subst (λ (d : Entry). Leaves (start_of c.args.hall.now) proc_lock d (view c.enter_proc-held.new.caller.pass) (view c.leave_proc.new.caller.pass)) c.by-entry.ensures c.leave_proc.ensures.left));
       named = c.clear.ensures.items;
       unnamed = refl;
       opened = c.clear-2.ensures.items;
@@ -94,4 +94,4 @@ returns-clause-section g c t subs is =
     let top = c.index-top.result.now in
     let split = split_first s.levels.open_ids.items top c.requires.some c.index-top.ensures in
     subst (λ (z : ℕ). Section start proc_lock (end_entry c.args.how by z) v w) (heads top t (drop 1 s.levels.open_ids.items) subs (sym split ∙ is))
-    (section_of start v (view c.enter_proc-table.new.caller.pass) w proc_lock c.by-entry.result.value (end_entry c.args.how by top) c.enter_proc-table.ensures.entered c.by-entry.ensures c.leave_proc.ensures.left)
+    (section_of start v (view c.enter_proc-held.new.caller.pass) w proc_lock c.by-entry.result.value (end_entry c.args.how by top) c.enter_proc-held.ensures.entered c.by-entry.ensures c.leave_proc.ensures.left)

@@ -28,31 +28,31 @@ use Rattle.proc_sections.proofs.undoing.undo_savepoint.Goals as goal
 
 pub undo-requires-clause-id_open : goal.undo-requires-clause-id_open
 undo-requires-clause-id_open g c =
-    let e = c.enter_proc-table.ensures in
+    let e = c.enter_proc-held.ensures in
     let s = c.args.caller.now.session in
     let n = c.args.caller.now.number in
-    let u = view c.enter_proc-table.new.caller.pass in
+    let u = view c.enter_proc-held.new.caller.pass in
     let a = subst (λ (z : ℕ × Session). IsAt (start_of c.args.hall.now) u z.0 z.1) (λ j. (e.same.1 j, e.same.0 j)) e.at in
     let sp = savepoint_of (history u.seen) s.levels.open_ids.items s.levels.level_ids.items s.levels.unnamed c.args.id c.requires.savepoint c.requires.innermost a.stands.nest in
-    subst (λ (z : List Event). Contains (open_ids n z) c.args.id) (sym e.stands.events) (subst (λ (l : List ℕ). Contains l c.args.id) (sym a.stands.opened) sp.0)
+    subst (λ (z : List Event). Contains (open_ids n z) c.args.id) (sym (subst (λ l. ProcStands (start_of c.args.hall.now) l (at (view c.enter_proc-held.new.caller.pass).seen proc_lock)) (sym c.deref_mut-table.ensures.value) c.enter_proc-held.ensures.stands).events) (subst (λ (l : List ℕ). Contains l c.args.id) (sym a.stands.opened) sp.0)
 
 pub undo-requires-clause-id_sub : goal.undo-requires-clause-id_sub
 undo-requires-clause-id_sub g c =
-    let e = c.enter_proc-table.ensures in
+    let e = c.enter_proc-held.ensures in
     let s = c.args.caller.now.session in
-    let u = view c.enter_proc-table.new.caller.pass in
+    let u = view c.enter_proc-held.new.caller.pass in
     let a = subst (λ (z : ℕ × Session). IsAt (start_of c.args.hall.now) u z.0 z.1) (λ j. (e.same.1 j, e.same.0 j)) e.at in
     let sp = savepoint_of (history u.seen) s.levels.open_ids.items s.levels.level_ids.items s.levels.unnamed c.args.id c.requires.savepoint c.requires.innermost a.stands.nest in
-    subst (λ (z : List Event). is_top z c.args.id ≡ false) (sym e.stands.events) sp.1
+    subst (λ (z : List Event). is_top z c.args.id ≡ false) (sym (subst (λ l. ProcStands (start_of c.args.hall.now) l (at (view c.enter_proc-held.new.caller.pass).seen proc_lock)) (sym c.deref_mut-table.ensures.value) c.enter_proc-held.ensures.stands).events) sp.1
 
 pub undo-requires-clause-ids : goal.undo-requires-clause-ids
 undo-requires-clause-ids g c =
-    let e = c.enter_proc-table.ensures in
+    let e = c.enter_proc-held.ensures in
     let s = c.args.caller.now.session in
     let n = c.args.caller.now.number in
     let id = c.args.id in
     let from = c.place_of-from.result in
-    let u = view c.enter_proc-table.new.caller.pass in
+    let u = view c.enter_proc-held.new.caller.pass in
     let h = history u.seen in
     let a = subst (λ (z : ℕ × Session). IsAt (start_of c.args.hall.now) u z.0 z.1) (λ j. (e.same.1 j, e.same.0 j)) e.at in
     let sp = savepoint_of h s.levels.open_ids.items s.levels.level_ids.items s.levels.unnamed id c.requires.savepoint c.requires.innermost a.stands.nest in
@@ -62,15 +62,15 @@ undo-requires-clause-ids g c =
     ∙ (cut
     ∙ (sym (inside_from h s.levels.open_ids.items id sp)
     ∙ (ap (filter (is_inside h id)) (sym a.stands.opened)
-    ∙ ap (λ (z : List Event). filter (is_inside z id) (open_ids n z)) (sym e.stands.events)))))
+    ∙ ap (λ (z : List Event). filter (is_inside z id) (open_ids n z)) (sym (subst (λ l. ProcStands (start_of c.args.hall.now) l (at (view c.enter_proc-held.new.caller.pass).seen proc_lock)) (sym c.deref_mut-table.ensures.value) c.enter_proc-held.ensures.stands).events)))))
 
 pub leave_proc-requires-clause-may : goal.leave_proc-requires-clause-may
 leave_proc-requires-clause-may g c =
-    let e = c.enter_proc-table.ensures in
+    let e = c.enter_proc-held.ensures in
     let start = start_of c.args.hall.now in
     let s = c.args.caller.now.session in
     let n = c.args.caller.now.number in
-    let u = view c.enter_proc-table.new.caller.pass in
+    let u = view c.enter_proc-held.new.caller.pass in
     let a = subst (λ (z : ℕ × Session). IsAt start u z.0 z.1) (λ j. (e.same.1 j, e.same.0 j)) e.at in
     let sp = savepoint_of (history u.seen) s.levels.open_ids.items s.levels.level_ids.items s.levels.unnamed c.args.id c.requires.savepoint c.requires.innermost a.stands.nest in
     may_add_undo start u.seen (by_at n s.levels.commands) s.levels.open_ids.items c.args.id c.undo_note-entry.result.value c.undo_note-entry.ensures a.stands.opened sp (a.clear (ap may_be_recorded c.requires.pending)) (open_unaborted u.seen n s.levels.open_ids.items a.stands.opened (a.unaborted (ap may_be_aborted c.requires.pending)))
@@ -79,13 +79,13 @@ leave_proc-requires-clause-may g c =
 pub leave_proc-requires-clause-stands : goal.leave_proc-requires-clause-stands
 leave_proc-requires-clause-stands g c =
     let by = by_at c.args.caller.now.number c.args.caller.now.session.levels.commands in
-    let es = at (view c.enter_proc-table.new.caller.pass).seen proc_lock in
+    let es = at (view c.enter_proc-held.new.caller.pass).seen proc_lock in
     subst (λ (d : Entry). ProcStands (start_of c.args.hall.now) c.undo.new.self (es ++ d ∷ [])) (sym c.undo_note-entry.ensures)
-    (proc_adds (start_of c.args.hall.now) c.enter_proc-table.result c.undo.new.self es by (events.Undo by c.args.id) c.enter_proc-table.ensures.stands c.undo.ensures)
+    (proc_adds (start_of c.args.hall.now) c.deref_mut-table.result.now c.undo.new.self es by (events.Undo by c.args.id) (subst (λ l. ProcStands (start_of c.args.hall.now) l (at (view c.enter_proc-held.new.caller.pass).seen proc_lock)) (sym c.deref_mut-table.ensures.value) c.enter_proc-held.ensures.stands) c.undo.ensures)
 
 pub returns-clause-may : goal.returns-clause-may
 returns-clause-may g c =
-    let e = c.enter_proc-table.ensures in
+    let e = c.enter_proc-held.ensures in
     let start = start_of c.args.hall.now in
     let s = c.args.caller.now.session in
     let n = c.args.caller.now.number in
@@ -93,7 +93,7 @@ returns-clause-may g c =
     let from = c.place_of-from.result in
     let by = by_at n s.levels.commands in
     let v = view c.args.caller.now.pass in
-    let u = view c.enter_proc-table.new.caller.pass in
+    let u = view c.enter_proc-held.new.caller.pass in
     let w = view c.leave_proc.new.caller.pass in
     let l = c.leave_proc.ensures.same in
     let a = subst (λ (z : ℕ × Session). IsAt start u z.0 z.1) (λ j. (e.same.1 j, e.same.0 j)) e.at in
@@ -109,7 +109,7 @@ returns-clause-may g c =
 
 pub returns-clause-undone : goal.returns-clause-undone
 returns-clause-undone g c =
-    let e = c.enter_proc-table.ensures in
+    let e = c.enter_proc-held.ensures in
     let start = start_of c.args.hall.now in
     let s = c.args.caller.now.session in
     let n = c.args.caller.now.number in
@@ -117,7 +117,7 @@ returns-clause-undone g c =
     let from = c.place_of-from.result in
     let by = by_at n s.levels.commands in
     let v = view c.args.caller.now.pass in
-    let u = view c.enter_proc-table.new.caller.pass in
+    let u = view c.enter_proc-held.new.caller.pass in
     let w = view c.leave_proc.new.caller.pass in
     let cut : take from s.levels.open_ids.items ≡ filter (λ x. not (nat_le id x)) s.levels.open_ids.items = subst (λ (l : List ℕ). take from l ≡ filter (λ x. not (nat_le id x)) l) c.deref.ensures.value c.place_of-from.ensures.before in
     let long : (vec_len c.leave_proc.new.caller.session.levels.level_ids - 1) + 1 ≡ length c.leave_proc.new.caller.session.levels.level_ids.items =

@@ -1,5 +1,5 @@
 use Rattle.std.proofs.Common.{subst, sym}
-use Rattle.disk_core.specs.Media.{HasBanks}
+use Rattle.disk_core.specs.Media.{MayBeFirst}
 use Rattle.session_run.specs.declared.task.Task.{Task}
 use Rattle.session_run.specs.Tool.{Ends}
 use Rattle.session_run.proofs.ToolEnds.{generated_is_read}
@@ -12,7 +12,7 @@ returns-in-Run-clause-ends g c =
     let old = c.args.source.now in
     let new = c.run_source.new.source in
     let media = c.run_source.new.media in
-    subst (λ (task : Task). Ends g.M.Log.LogDisk g.M.Pages.PageDisk task (s.left old) (s.left new) (s.faults old) (s.faults new) HasBanks (m.faults c.args.media.now) (m.faults media) (m.gives media) c.run_source.result)
+    subst (λ (task : Task). Ends g.M.Log.LogDisk g.M.Pages.PageDisk task (s.left old) (s.left new) (s.faults old) (s.faults new) (MayBeFirst (m.begins c.args.media.now)) (m.faults c.args.media.now) (m.faults media) (m.gives media) c.run_source.result)
     (sym c.in-Run.is) c.run_source.ensures.ends
 
 pub returns-in-Gen-clause-ends : goal.returns-in-Gen-clause-ends
@@ -21,7 +21,7 @@ returns-in-Gen-clause-ends g c =
     let m = g.M.Media in
     let source = c.args.source.now in
     let media = c.run_generated.new.media in
-    subst (λ (task : Task). Ends g.M.Log.LogDisk g.M.Pages.PageDisk task (s.left source) (s.left source) (s.faults source) (s.faults source) HasBanks (m.faults c.args.media.now) (m.faults media) (m.gives media) c.run_generated.result)
+    subst (λ (task : Task). Ends g.M.Log.LogDisk g.M.Pages.PageDisk task (s.left source) (s.left source) (s.faults source) (s.faults source) (MayBeFirst (m.begins c.args.media.now)) (m.faults c.args.media.now) (m.faults media) (m.gives media) c.run_generated.result)
     (sym c.in-Gen.is) (c.run_generated.ensures.ends (s.left source) (s.faults source))
 
 pub returns-in-Gen-clause-unmounted : goal.returns-in-Gen-clause-unmounted
@@ -30,5 +30,5 @@ returns-in-Gen-clause-unmounted g c = λ unread.
     let m = g.M.Media in
     let source = c.args.source.now in
     let media = c.run_generated.new.media in
-    absurd (generated_is_read g.M.Log.LogDisk g.M.Pages.PageDisk c.in-Gen.seed c.in-Gen.size (s.left source) (s.left source) (s.faults source) (s.faults source) HasBanks (m.faults c.args.media.now) (m.faults media) (m.gives media) c.run_generated.result
+    absurd (generated_is_read g.M.Log.LogDisk g.M.Pages.PageDisk c.in-Gen.seed c.in-Gen.size (s.left source) (s.left source) (s.faults source) (s.faults source) (MayBeFirst (m.begins c.args.media.now)) (m.faults c.args.media.now) (m.faults media) (m.gives media) c.run_generated.result
     (c.run_generated.ensures.ends (s.left source) (s.faults source)) unread)

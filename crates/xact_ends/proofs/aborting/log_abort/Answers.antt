@@ -1,8 +1,7 @@
-use Rattle.std.proofs.Common.{◌≡◌, ℕ, List, subst, sym}
+use Rattle.std.proofs.Common.{ℕ, List, subst, sym}
 use Rattle.log_sections.specs.LogSections.{IsAbortOf}
-use Rattle.engine_parts.specs.Adding.{IsAbortOf, MayAdd}
-use Rattle.engine_parts.proofs.Adding.{adds_nothing, adds_wider, may_wider}
-use Rattle.xact_ends.proofs.Added.{append_adds}
+use Rattle.engine_parts.specs.Adding.{IsAbortOf}
+use Rattle.engine_parts.proofs.Adding.{adds_nothing}
 use Rattle.engine_parts.specs.Sessions.{by_at}
 use Rattle.hall.specs.Calls.{start_of, view}
 use Rattle.std.proofs.lemmas.Bool.{false≢true}
@@ -10,35 +9,24 @@ use Rattle.engine_parts.specs.declared.session.Stage.TheVariants as stages
 use Rattle.xact_ends.proofs.Staging.{call_staged, taken_stage}
 use Rattle.xact_ends.proofs.aborting.log_abort.Goals as goal
 
-pub append_abort-appended-requires-clause-record : goal.append_abort-appended-requires-clause-record
-append_abort-appended-requires-clause-record g c = subst (λ (l : List ℕ). IsAbortOf l c.in-Ok.rec) c.deref.ensures.value c.in-Ok.ensures
-
-pub returns-in-Ok-clause-adds : goal.returns-in-Ok-clause-adds
-returns-in-Ok-clause-adds g c =
-    let old = c.args.caller.now in
-    let by = by_at old.number old.session.levels.commands in
-    let rec = c.in-Ok.rec in
-    let opened = old.session.levels.open_ids.items in
-    let of : IsAbortOf opened rec = subst (λ (l : List ℕ). IsAbortOf l rec) c.deref.ensures.value c.in-Ok.ensures in
-    adds_wider by (MayAdd (λ r. r ≡ rec) ⊥ (λ r. ⊥)) (MayAdd (IsAbortOf opened) ⊥ (λ r. ⊥)) (view old.pass).seen (view c.append_abort-appended.new.caller.pass).seen
-    (may_wider (λ r. r ≡ rec) (IsAbortOf opened) ⊥ ⊥ (λ r. ⊥) (λ r. ⊥) (λ r is. subst (IsAbortOf opened) (sym is) of) (λ m. m) (λ r m. m))
-    (append_adds (start_of c.args.hall.now) (view old.pass) (view c.append_abort-appended.new.caller.pass) by old.session rec c.append_abort-appended.result c.requires.may.ready.at c.append_abort-appended.ensures.section)
+pub log_abort_record-appended-requires-clause-record : goal.log_abort_record-appended-requires-clause-record
+log_abort_record-appended-requires-clause-record g c = subst (λ (l : List ℕ). IsAbortOf l c.in-Ok.rec) c.deref.ensures.value c.in-Ok.ensures
 
 pub returns-in-Err-clause-adds : goal.returns-in-Err-clause-adds
 returns-in-Err-clause-adds g c = let old = c.args.caller.now in adds_nothing (by_at old.number old.session.levels.commands) _ (view old.pass).seen
 
 pub returns-in-Ok-clause-may : goal.returns-in-Ok-clause-may
 returns-in-Ok-clause-may g c =
-    let t = c.append_abort-appended.new.caller in
-    let e = c.append_abort-appended.ensures in
+    let t = c.log_abort_record-appended.new.caller in
+    let e = c.log_abort_record-appended.ensures in
     let start = start_of c.args.hall.now in
-    let k = taken_stage start (view t.pass).seen c.in-Ok.rec c.args.caller.now.session t.session c.append_abort-appended.result c.requires.unrecorded e.takes in
+    let k = taken_stage start (view t.pass).seen c.in-Ok.rec c.args.caller.now.session t.session c.log_abort_record-appended.result c.requires.unrecorded e.takes in
     call_staged start (view t.pass) t.number t.session stages.Aborting (λ q. k.0) (λ q. absurd (false≢true (sym q))) e.may.ready tt
 
 pub returns-in-Ok-clause-session : goal.returns-in-Ok-clause-session
 returns-in-Ok-clause-session g c =
-    let t = c.append_abort-appended.new.caller in
-    (taken_stage (start_of c.args.hall.now) (view t.pass).seen c.in-Ok.rec c.args.caller.now.session t.session c.append_abort-appended.result c.requires.unrecorded c.append_abort-appended.ensures.takes).1
+    let t = c.log_abort_record-appended.new.caller in
+    (taken_stage (start_of c.args.hall.now) (view t.pass).seen c.in-Ok.rec c.args.caller.now.session t.session c.log_abort_record-appended.result c.requires.unrecorded c.log_abort_record-appended.ensures.takes).1
 
 pub returns-in-Err-clause-may : goal.returns-in-Err-clause-may
 returns-in-Err-clause-may g c =

@@ -6,7 +6,7 @@ use Rattle.engine_parts.specs.declared.session.Stage.TheVariants as stages
 use Rattle.engine_parts.specs.Sessions.{by_at}
 use Rattle.xact_ends.specs.Stops.{Stops}
 use Rattle.xact_ends.proofs.Finishing.{commits_then, link_stops}
-use Rattle.engine_parts.specs.Adding.{IsCommitOf, IsPlain, IsToldBy, MayAdd, MayMeet}
+use Rattle.engine_parts.specs.Adding.{IsOfCommit, IsPlain, IsToldBy, MayAdd, MayMeet}
 use Rattle.engine_parts.proofs.Adding.{adds_wider, may_wider, plain_wider}
 use Rattle.xact_ends.proofs.Added.{both_add, fault_wider}
 use Rattle.xact_ends.proofs.committing.start_commit.Goals as goal
@@ -62,11 +62,11 @@ returns-in-Ok-clause-adds g c =
     let recorded = c.in-Ok.ensures.recorded in
     let opened = s.levels.open_ids.items in
     let same : t.session.levels.open_ids.items ≡ opened = ap (λ (z : Session). z.levels.open_ids.items) recorded in
-    both_add (by_at old.number s.levels.commands) (by_at t.number t.session.levels.commands) IsPlain (MayAdd (IsCommitOf t.session.levels.open_ids.items) (Unit {0}) (IsToldBy r)) (MayAdd (IsCommitOf opened) (Unit {0}) (IsToldBy r)) (view old.pass).seen (view t.pass).seen (view x.pass).seen (λ j. by_at (c.record_parent.ensures.number j) (recorded j).levels.commands)
-    (plain_wider (IsCommitOf opened) (Unit {0}) (IsToldBy r)) (may_wider (IsCommitOf t.session.levels.open_ids.items) (IsCommitOf opened) (Unit {0}) (Unit {0}) (IsToldBy r) (IsToldBy r) (λ z of. subst (λ (l : List ℕ). IsCommitOf l z) same of) (λ m. m) (λ q m. m)) c.in-Ok.ensures.adds c.log_and_finish.ensures.adds
+    both_add (by_at old.number s.levels.commands) (by_at t.number t.session.levels.commands) IsPlain (MayAdd (IsOfCommit t.session.levels.open_ids.items) (Unit {0}) (IsToldBy r)) (MayAdd (IsOfCommit opened) (Unit {0}) (IsToldBy r)) (view old.pass).seen (view t.pass).seen (view x.pass).seen (λ j. by_at (c.record_parent.ensures.number j) (recorded j).levels.commands)
+    (plain_wider (IsOfCommit opened) (Unit {0}) (IsToldBy r)) (may_wider (IsOfCommit t.session.levels.open_ids.items) (IsOfCommit opened) (Unit {0}) (Unit {0}) (IsToldBy r) (IsToldBy r) (λ z of. subst (λ (l : List ℕ). IsOfCommit l z) same of) (λ m. m) (λ q m. m)) c.in-Ok.ensures.adds c.log_and_finish.ensures.adds
 
 pub returns-in-Err-clause-adds : goal.returns-in-Err-clause-adds
 returns-in-Err-clause-adds g c =
     let old = c.args.caller.now in
     let r = c.in-Err.refusal in
-    adds_wider (by_at old.number old.session.levels.commands) (MayMeet r) _ (view old.pass).seen (view c.record_parent.new.caller.pass).seen (fault_wider (IsCommitOf old.session.levels.open_ids.items) (Unit {0}) {T = Unit {0}} (Err r)) c.in-Err.ensures.adds
+    adds_wider (by_at old.number old.session.levels.commands) (MayMeet r) _ (view old.pass).seen (view c.record_parent.new.caller.pass).seen (fault_wider (IsOfCommit old.session.levels.open_ids.items) (Unit {0}) {T = Unit {0}} (Err r)) c.in-Err.ensures.adds

@@ -27,22 +27,22 @@ use Rattle.xact_engine.proofs.snapshots.take.Goals as goal
 
 pub take_of-requires-clause-free : goal.take_of-requires-clause-free
 take_of-requires-clause-free g c =
-    let e = c.enter_proc-table.ensures in
-    let free = free_here (start_of c.args.hall.now) (view c.enter_proc-table.new.caller.pass) c.args.caller.now.number c.enter_proc-table.new.caller.number c.enter_proc-table.new.caller.session c.args.caller.now.session.levels.registered.items c.args.name.now e.at e.same.1 (ap (λ z. z.levels.registered.items) e.same.0 ∙ c.in-Ok.ensures.items) c.requires.free in
-    subst (λ (z : Counters × List Event). is_live z.0.next c.args.caller.now.number c.args.name.now z.1 ≡ false) (λ j. (sym e.stands.base j, sym e.stands.events j)) free
+    let e = c.enter_proc-held.ensures in
+    let free = free_here (start_of c.args.hall.now) (view c.enter_proc-held.new.caller.pass) c.args.caller.now.number c.enter_proc-held.new.caller.number c.enter_proc-held.new.caller.session c.args.caller.now.session.levels.registered.items c.args.name.now e.at e.same.1 (ap (λ z. z.levels.registered.items) e.same.0 ∙ c.in-Ok.ensures.items) c.requires.free in
+    subst (λ (z : Counters × List Event). is_live z.0.next c.args.caller.now.number c.args.name.now z.1 ≡ false) (λ j. (sym (subst (λ l. ProcStands (start_of c.args.hall.now) l (at (view c.enter_proc-held.new.caller.pass).seen proc_lock)) (sym c.deref_mut.ensures.value) c.enter_proc-held.ensures.stands).base j, sym (subst (λ l. ProcStands (start_of c.args.hall.now) l (at (view c.enter_proc-held.new.caller.pass).seen proc_lock)) (sym c.deref_mut.ensures.value) c.enter_proc-held.ensures.stands).events j)) free
 
 pub register-requires-clause-free : goal.register-requires-clause-free
 register-requires-clause-free g c =
-    let e = c.enter_proc-table.ensures in
-    let free = free_here (start_of c.args.hall.now) (view c.enter_proc-table.new.caller.pass) c.args.caller.now.number c.enter_proc-table.new.caller.number c.enter_proc-table.new.caller.session c.args.caller.now.session.levels.registered.items c.args.name.now e.at e.same.1 (ap (λ z. z.levels.registered.items) e.same.0 ∙ c.in-Ok.ensures.items) c.requires.free in
-    subst (λ (z : List ℕ). is_live (start_of c.args.hall.now).base.next c.args.caller.now.number z (history (view c.enter_proc-table.new.caller.pass).seen) ≡ false) (sym c.in-Ok-take_of.ensures.name_is) free
+    let e = c.enter_proc-held.ensures in
+    let free = free_here (start_of c.args.hall.now) (view c.enter_proc-held.new.caller.pass) c.args.caller.now.number c.enter_proc-held.new.caller.number c.enter_proc-held.new.caller.session c.args.caller.now.session.levels.registered.items c.args.name.now e.at e.same.1 (ap (λ z. z.levels.registered.items) e.same.0 ∙ c.in-Ok.ensures.items) c.requires.free in
+    subst (λ (z : List ℕ). is_live (start_of c.args.hall.now).base.next c.args.caller.now.number z (history (view c.enter_proc-held.new.caller.pass).seen) ≡ false) (sym c.in-Ok-take_of.ensures.name_is) free
 
 pub register-requires-clause-table : goal.register-requires-clause-table
 register-requires-clause-table g c =
     let by = by_at c.args.caller.now.number c.args.caller.now.session.levels.commands in
-    let es = at (view c.enter_proc-table.new.caller.pass).seen proc_lock in
+    let es = at (view c.enter_proc-held.new.caller.pass).seen proc_lock in
     subst (λ (z : List ℕ). ProcStands (start_of c.args.hall.now) c.take_of.new.table (es ++ record { by = by; kind = kinds.Event (events.Snap by z) } ∷ [])) (sym c.in-Ok-take_of.ensures.name_is)
-    (proc_adds (start_of c.args.hall.now) c.enter_proc-table.result c.take_of.new.table es by (events.Snap by c.args.name.now) c.enter_proc-table.ensures.stands c.in-Ok-take_of.ensures.adds)
+    (proc_adds (start_of c.args.hall.now) c.deref_mut.result.now c.take_of.new.table es by (events.Snap by c.args.name.now) (subst (λ l. ProcStands (start_of c.args.hall.now) l (at (view c.enter_proc-held.new.caller.pass).seen proc_lock)) (sym c.deref_mut.ensures.value) c.enter_proc-held.ensures.stands) c.in-Ok-take_of.ensures.adds)
 
 pub returns-in_default : goal.returns-in_default
 returns-in_default g c =
@@ -58,19 +58,19 @@ returns-in_default g c =
 
 pub returns-in-Ok-take_of : goal.returns-in-Ok-take_of
 returns-in-Ok-take_of g c =
-    let e = c.enter_proc-table.ensures in
+    let e = c.enter_proc-held.ensures in
     let t = c.in-Ok-take_of.ensures in
     let s = c.args.caller.now.session in
     let by = by_at c.args.caller.now.number s.levels.commands in
-    let stance : stance_of c.enter_proc-table.new.caller.session ≡ stance_of s = ap stance_of e.same.0 ∙ ap (λ z. record { levels = levels_of s.levels.level_ids.items s.levels.unnamed; snaps = map told_of z }) c.in-Ok.ensures.items in
+    let stance : stance_of c.enter_proc-held.new.caller.session ≡ stance_of s = ap stance_of e.same.0 ∙ ap (λ z. record { levels = levels_of s.levels.level_ids.items s.levels.unnamed; snaps = map told_of z }) c.in-Ok.ensures.items in
     let r = c.register.ensures in
     let wide = c.requires.may.ready.at.wide in record {
       own = r.own;
-      may = call_left (start_of c.args.hall.now) (view c.args.caller.now.pass) (view c.enter_proc-table.new.caller.pass) (view c.register.new.caller.pass) c.args.caller.now.number c.register.new.caller.number proc_lock c.args.caller.now.session c.register.new.caller.session _
+      may = call_left (start_of c.args.hall.now) (view c.args.caller.now.pass) (view c.enter_proc-held.new.caller.pass) (view c.register.new.caller.pass) c.args.caller.now.number c.register.new.caller.number proc_lock c.args.caller.now.session c.register.new.caller.session _
           c.requires.may e.entered.learns (omega arith) r.left refl (ap (λ (z : Stance). innermost z.levels) r.stance ∙ ap (λ z. inner_id z) e.same.0) (r.opened ∙ ap (λ z. z.levels.open_ids.items) e.same.0) (r.stage ∙ ap (λ z. z.stage) e.same.0) (r.count.1 ∙ e.same.1) r.ready;
-      acted = acted_snapped (start_of c.args.hall.now) (view c.args.caller.now.pass) (view c.enter_proc-table.new.caller.pass) (view c.register.new.caller.pass) c.args.caller.now.number s (stance_of c.register.new.caller.session) c.args.name.now c.in-Ok-take_of.lists (snap_entry by c.in-Ok-take_of.taken.name)
+      acted = acted_snapped (start_of c.args.hall.now) (view c.args.caller.now.pass) (view c.enter_proc-held.new.caller.pass) (view c.register.new.caller.pass) c.args.caller.now.number s (stance_of c.register.new.caller.session) c.args.name.now c.in-Ok-take_of.lists (snap_entry by c.in-Ok-take_of.taken.name)
           c.requires.may.ready.at e.entered.kept e.entered.learns (ap (snap_entry by) t.name_is) c.register.ensures.left c.requires.free c.requires.room
-          (t.lists_are ∙ (λ j. snapshot_data (e.stands.base j).next (e.stands.events j)))
+          (t.lists_are ∙ (λ j. snapshot_data ((subst (λ l. ProcStands (start_of c.args.hall.now) l (at (view c.enter_proc-held.new.caller.pass).seen proc_lock)) (sym c.deref_mut.ensures.value) c.enter_proc-held.ensures.stands).base j).next ((subst (λ l. ProcStands (start_of c.args.hall.now) l (at (view c.enter_proc-held.new.caller.pass).seen proc_lock)) (sym c.deref_mut.ensures.value) c.enter_proc-held.ensures.stands).events j)))
           (c.register.ensures.stance ∙ (λ j. record (stance j) { snaps = (stance j).snaps ++ (t.name_is j, t.command j) ∷ [] }));
       stage = r.stage ∙ ap (λ z. z.stage) e.same.0;
       held = tt;
@@ -80,15 +80,15 @@ returns-in-Ok-take_of g c =
 
 pub returns-in-Err : goal.returns-in-Err
 returns-in-Err g c =
-    let e = c.enter_proc-table.ensures in
+    let e = c.enter_proc-held.ensures in
     let s = c.args.caller.now.session in
     let stance : stance_of c.leave_looked.new.caller.session ≡ stance_of s = ap stance_of c.leave_looked.ensures.same.0 ∙ (ap stance_of e.same.0 ∙ ap (λ z. record { levels = levels_of s.levels.level_ids.items s.levels.unnamed; snaps = map told_of z }) c.in-Ok.ensures.items) in
     let wide = c.requires.may.ready.at.wide in
     let r = c.leave_looked.ensures in record {
       own = r.own;
-      may = call_left (start_of c.args.hall.now) (view c.args.caller.now.pass) (view c.enter_proc-table.new.caller.pass) (view c.leave_looked.new.caller.pass) c.args.caller.now.number c.leave_looked.new.caller.number proc_lock c.args.caller.now.session c.leave_looked.new.caller.session _
+      may = call_left (start_of c.args.hall.now) (view c.args.caller.now.pass) (view c.enter_proc-held.new.caller.pass) (view c.leave_looked.new.caller.pass) c.args.caller.now.number c.leave_looked.new.caller.number proc_lock c.args.caller.now.session c.leave_looked.new.caller.session _
           c.requires.may e.entered.learns (omega arith) r.left refl (ap (λ z. inner_id z) r.same.0 ∙ ap (λ z. inner_id z) e.same.0) (ap (λ z. z.levels.open_ids.items) r.same.0 ∙ ap (λ z. z.levels.open_ids.items) e.same.0) (ap (λ z. z.stage) r.same.0 ∙ ap (λ z. z.stage) e.same.0) (r.same.1 ∙ e.same.1) r.ready;
-      acted = acted_looked (start_of c.args.hall.now) (view c.args.caller.now.pass) (view c.enter_proc-table.new.caller.pass) (view c.leave_looked.new.caller.pass) c.args.caller.now.number proc_lock s (stance_of c.leave_looked.new.caller.session) s.stage (commands.Snap c.args.name.now) (replies.Refused refusals.Memory) _
+      acted = acted_looked (start_of c.args.hall.now) (view c.args.caller.now.pass) (view c.enter_proc-held.new.caller.pass) (view c.leave_looked.new.caller.pass) c.args.caller.now.number proc_lock s (stance_of c.leave_looked.new.caller.session) s.stage (commands.Snap c.args.name.now) (replies.Refused refusals.Memory) _
           c.requires.may.ready.at e.entered.kept e.entered.learns (omega arith) refl (λ j. by_at (e.same.1 j) (e.same.0 j).levels.commands) tt c.leave_looked.ensures.left refl refl (sym (not_refused s c.args.name.now c.requires.free c.requires.room)) (sym stance);
       stage = ap (λ z. z.stage) r.same.0 ∙ ap (λ z. z.stage) e.same.0;
       held = tt;
@@ -98,8 +98,8 @@ returns-in-Err g c =
 
 pub leave_looked-requires-clause-stands : goal.leave_looked-requires-clause-stands
 leave_looked-requires-clause-stands g c =
-    let e = c.enter_proc-table.ensures in
-    let n = c.enter_proc-table.new.caller.number in
-    let s = c.enter_proc-table.new.caller.session in
-    let es = at (view c.enter_proc-table.new.caller.pass).seen proc_lock in
-    (refl, proc_looks (start_of c.args.hall.now) c.take_of.new.table es (by_at n s.levels.commands) (subst (λ (t : Table). ProcStands (start_of c.args.hall.now) t es) (sym c.in-Err.ensures) e.stands))
+    let e = c.enter_proc-held.ensures in
+    let n = c.enter_proc-held.new.caller.number in
+    let s = c.enter_proc-held.new.caller.session in
+    let es = at (view c.enter_proc-held.new.caller.pass).seen proc_lock in
+    (refl, proc_looks (start_of c.args.hall.now) c.take_of.new.table es (by_at n s.levels.commands) (subst (λ (t : Table). ProcStands (start_of c.args.hall.now) t es) (sym c.in-Err.ensures) (subst (λ l. ProcStands (start_of c.args.hall.now) l (at (view c.enter_proc-held.new.caller.pass).seen proc_lock)) (sym c.deref_mut.ensures.value) c.enter_proc-held.ensures.stands)))

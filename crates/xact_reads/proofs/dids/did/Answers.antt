@@ -10,8 +10,8 @@ use Rattle.engine_parts.specs.Sessions.{by_at, stance_of}
 use Rattle.engine_parts.proofs.Adding.{adds_nothing, adds_wider, met_leaves, plain_leaves}
 use Rattle.engine_parts.proofs.Calling.{may_counted, own_counted}
 use Rattle.engine_parts.proofs.Stepping.{went_nowhere}
+use Rattle.engine_parts.proofs.Unmoved.{ran_read}
 use Rattle.xact_reads.specs.Ancestors.{StoresTell}
-use Rattle.xact_reads.proofs.Replying.{ran_read}
 use Rattle.xact_reads.proofs.Telling.{special_told}
 use Rattle.xact_reads.proofs.dids.did.Goals as goal
 

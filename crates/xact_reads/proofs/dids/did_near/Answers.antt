@@ -13,8 +13,9 @@ use Rattle.engine_parts.specs.Steps.{WentOn}
 use Rattle.engine_parts.proofs.Adding.{plain_meets}
 use Rattle.engine_parts.proofs.Sectioning.{same_command}
 use Rattle.engine_parts.proofs.Stepping.{went_nowhere}
+use Rattle.engine_parts.proofs.Unmoved.{at_same, look_adds}
 use Rattle.xact_reads.specs.Readings.{IsUnread}
-use Rattle.xact_reads.proofs.Going.{at_same, look_adds, read_adds, went_both}
+use Rattle.xact_reads.proofs.Going.{read_adds, went_both}
 use Rattle.xact_reads.proofs.Limits.{horizon_from, next_small}
 use Rattle.xact_reads.proofs.Telling.{not_given, tells_read, tells_ungiven, told_answer, told_nothing, told_too_old, used_here}
 use Rattle.xact_reads.proofs.dids.did_near.Goals as goal

@@ -8,8 +8,8 @@ use Rattle.engine_parts.specs.Adding.{IsPlain}
 use Rattle.engine_parts.specs.Sessions.{by_at, stance_of}
 use Rattle.engine_parts.proofs.Adding.{adds_wider, plain_leaves}
 use Rattle.engine_parts.proofs.Calling.{may_counted, own_counted}
-use Rattle.xact_reads.proofs.Going.{at_same, look_adds}
-use Rattle.xact_reads.proofs.Replying.{ran_read, xmin_answer}
+use Rattle.engine_parts.proofs.Unmoved.{at_same, look_adds, ran_read}
+use Rattle.xact_reads.proofs.Replying.{xmin_answer}
 use Rattle.xact_reads.proofs.horizons.horizon.Goals as goal
 
 pub read_horizons-requires-clause-own : goal.read_horizons-requires-clause-own

@@ -10,8 +10,9 @@ use Rattle.engine_parts.specs.Sessions.{by_at, stance_of}
 use Rattle.engine_parts.proofs.Adding.{adds_nothing, adds_wider, met_leaves, plain_leaves}
 use Rattle.engine_parts.proofs.Calling.{may_counted, own_counted, ran_refused}
 use Rattle.engine_parts.proofs.Stepping.{went_nowhere}
+use Rattle.engine_parts.proofs.Unmoved.{ran_read}
 use Rattle.xact_reads.proofs.Limits.{registered_limits}
-use Rattle.xact_reads.proofs.Replying.{named_at, not_refused, ran_read, refused_before, special_answer}
+use Rattle.xact_reads.proofs.Replying.{named_at, not_refused, refused_before, special_answer}
 use Rattle.xact_reads.proofs.sees.see.Goals as goal
 
 pub returns-in-None : goal.returns-in-None

@@ -8,9 +8,10 @@ use Rattle.engine_parts.specs.Adding.{IsPlain, MayMeet}
 use Rattle.engine_parts.specs.Steps.{WentOn}
 use Rattle.engine_parts.proofs.Adding.{plain_meets}
 use Rattle.engine_parts.proofs.Sectioning.{same_command}
+use Rattle.engine_parts.proofs.Unmoved.{at_same, look_adds}
 use Rattle.xact_reads.specs.Glances.{IsGlance, Shows}
 use Rattle.xact_reads.specs.Readings.{IsShown, IsUnread}
-use Rattle.xact_reads.proofs.Going.{at_same, look_adds, read_adds, went_both}
+use Rattle.xact_reads.proofs.Going.{read_adds, went_both}
 use Rattle.xact_reads.proofs.Replying.{old_answer, seen_answer, unread_answer}
 use Rattle.xact_reads.proofs.sees.see_found.Goals as goal
 

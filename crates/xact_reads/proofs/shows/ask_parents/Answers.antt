@@ -6,9 +6,10 @@ use Rattle.engine_parts.specs.Adding.{IsPlain, MayMeet}
 use Rattle.engine_parts.specs.Sessions.{by_at}
 use Rattle.engine_parts.proofs.Adding.{plain_meets}
 use Rattle.engine_parts.proofs.Sectioning.{same_command}
+use Rattle.engine_parts.proofs.Unmoved.{at_same}
 use Rattle.xact_reads.specs.Glances.{IsNamed}
 use Rattle.bank_sections.specs.Faults.{IsSubtransFault}
-use Rattle.xact_reads.proofs.Going.{at_same, read_adds, went_both}
+use Rattle.xact_reads.proofs.Going.{read_adds, went_both}
 use Rattle.xact_reads.proofs.Looking.{climb_limits, parent_unread, shows_none, shows_parents}
 use Rattle.xact_reads.proofs.shows.ask_parents.Goals as goal
 

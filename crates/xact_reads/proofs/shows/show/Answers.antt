@@ -1,6 +1,6 @@
 use Rattle.hall.specs.Calls.{view, start_of}
-use Rattle.xact_reads.proofs.Going.{at_same}
 use Rattle.xact_reads.proofs.Looking.{hides, shows_state}
+use Rattle.engine_parts.proofs.Unmoved.{at_same}
 use Rattle.xact_reads.proofs.shows.show.Goals as goal
 
 pub returns-in-Hidden-clause-shown : goal.returns-in-Hidden-clause-shown

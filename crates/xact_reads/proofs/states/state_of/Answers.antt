@@ -8,9 +8,10 @@ use Rattle.tx_core.specs.Locks.{xact_lock}
 use Rattle.engine_parts.specs.Adding.{MayMeet}
 use Rattle.engine_parts.specs.Sessions.{by_at}
 use Rattle.engine_parts.proofs.Adding.{plain_meets}
+use Rattle.engine_parts.proofs.Unmoved.{look_adds}
 use Rattle.bank_sections.proofs.Faulting.{cut_adds, done_adds, fault_adds}
 use Rattle.bank_sections.proofs.Visiting.{is_xact_lock}
-use Rattle.xact_reads.proofs.Going.{look_adds, read_adds, went_both}
+use Rattle.xact_reads.proofs.Going.{read_adds, went_both}
 use Rattle.xact_reads.proofs.states.state_of.Goals as goal
 
 pub returns-then-lt-clause-went : goal.returns-then-lt-clause-went

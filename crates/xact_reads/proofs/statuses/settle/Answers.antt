@@ -4,7 +4,7 @@ use Rattle.hall.specs.Calls.{view, start_of}
 use Rattle.tx_model.specs.declared.reply.Status.TheVariants as statuses
 use Rattle.tx_model.specs.Replies.{is_in_progress}
 use Rattle.engine_parts.proofs.Stepping.{went_nowhere}
-use Rattle.xact_reads.proofs.Going.{at_same}
+use Rattle.engine_parts.proofs.Unmoved.{at_same}
 use Rattle.xact_reads.proofs.Standing.{ended_off, runs_here, stood, told_future, told_old, told_status, told_unread}
 use Rattle.xact_reads.proofs.statuses.settle.Goals as goal
 

@@ -16,9 +16,9 @@ use Rattle.engine_parts.proofs.Adding.{adds_nothing, adds_wider, met_leaves, pla
 use Rattle.engine_parts.proofs.Calling.{may_counted, own_counted}
 use Rattle.engine_parts.proofs.Sectioning.{shared_adds}
 use Rattle.engine_parts.proofs.Stepping.{went_nowhere, went_then}
+use Rattle.engine_parts.proofs.Unmoved.{look_adds, ran_read, ran_unmoved}
 use Rattle.proc_sections.specs.Askings.{question}
-use Rattle.xact_reads.proofs.Going.{look_adds, read_adds}
-use Rattle.xact_reads.proofs.Replying.{ran_asked, ran_read}
+use Rattle.xact_reads.proofs.Going.{read_adds}
 use Rattle.xact_reads.proofs.Standing.{asked_event, unasked, went_further}
 use Rattle.xact_reads.proofs.statuses.status.Goals as goal
 
@@ -64,7 +64,7 @@ returns-in-Ok-settle g c =
     let may = may_counted c.args.hall.now old u c.count.ensures c.requires in
     let normal : 3 ≤ x = subst (λ z. 3 ≤ z) c.number.ensures.value c.if-number-lt3.false in
     let event = question u.number u.session x in
-    ran_asked c.args.hall.now (event ∷ []) old u w (commands.Status x) reply (refl, tt) c.count.ensures c.requires f.own f.ready
+    ran_unmoved c.args.hall.now (event ∷ []) old u w (commands.Status x) reply (refl, tt) c.count.ensures c.requires f.own f.ready
     (went_then u.number (event ∷ []) [] (view u.pass).seen (view t.pass).seen (view w.pass).seen a.asks.0 (subst (λ z. WentOn z [] (view t.pass).seen (view w.pass).seen) a.same.1 f.went)) (f.same.0 ∙ a.same.0) (f.same.1 ∙ a.same.1)
     (asked_event by x reply normal f.behind)
     (adds_wider by IsPlain _ (view u.pass).seen (view w.pass).seen (plain_leaves (commands.Status x) (stance_of u.session) u.session.stage (open_ids u.number (history (view u.pass).seen)) reply)
@@ -90,7 +90,7 @@ returns-in-Err-settle g c =
     let may = may_counted c.args.hall.now old u c.count.ensures c.requires in
     let normal : 3 ≤ x = subst (λ z. 3 ≤ z) c.number.ensures.value c.if-number-lt3.false in
     let event = question u.number u.session x in
-    ran_asked c.args.hall.now (event ∷ []) old u w (commands.Status x) reply (refl, tt) c.count.ensures c.requires f.own f.ready
+    ran_unmoved c.args.hall.now (event ∷ []) old u w (commands.Status x) reply (refl, tt) c.count.ensures c.requires f.own f.ready
     (went_then u.number (event ∷ []) [] (view u.pass).seen (view t.pass).seen (view w.pass).seen a.asks.0 (subst (λ z. WentOn z [] (view t.pass).seen (view w.pass).seen) a.same.1 f.went)) (f.same.0 ∙ a.same.0) (f.same.1 ∙ a.same.1)
     (asked_event by x reply normal f.behind)
     (adds_wider by (MayMeet refusal) _ (view u.pass).seen (view w.pass).seen (met_leaves (commands.Status x) (stance_of u.session) u.session.stage (open_ids u.number (history (view u.pass).seen)) refusal)

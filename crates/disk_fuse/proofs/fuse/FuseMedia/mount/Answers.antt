@@ -1,5 +1,5 @@
 use Rattle.std.proofs.Common.{◌≡◌, ◌∙◌, sym, false}
-use Rattle.disk_fuse.proofs.FuseMoves.{on_err, gives_again, gives_first, still_gives, rested}
+use Rattle.disk_fuse.proofs.FuseMoves.{begins_first, on_err, gives_again, gives_first, still_gives, rested}
 use Rattle.disk_fuse.proofs.fuse.FuseMedia.mount.Goals as goal
 
 pub returns-in_err-volumes-in-None-clause-kept : goal.returns-in_err-volumes-in-None-clause-kept
@@ -19,6 +19,12 @@ returns-in-Ok-clause-first g c =
     let d = c.args.self.now in
     gives_first (g.M.Media.gives d.inner) d.held d.at d.passes d.refused (g.M.Media.is_new d.inner) (sym c.take.ensures.value ∙ c.in-None.is)
     c.args.banks c.in_ok-volumes-in-None.volumes c.in-Ok.fused c.in_ok-volumes-in-None.ensures.first c.in-Ok.ensures.fused
+
+pub returns-in-Ok-clause-begins : goal.returns-in-Ok-clause-begins
+returns-in-Ok-clause-begins g c =
+    let d = c.args.self.now in
+    begins_first (g.M.Media.gives d.inner) d.held d.at d.passes d.refused (g.M.Media.is_new d.inner) (sym c.take.ensures.value ∙ c.in-None.is)
+    (g.M.Media.begins d.inner c.args.banks) c.in_ok-volumes-in-None.volumes c.in-Ok.fused c.in_ok-volumes-in-None.ensures.begins c.in-Ok.ensures.fused
 
 pub returns-in-Err-clause-kept : goal.returns-in-Err-clause-kept
 returns-in-Err-clause-kept g c =

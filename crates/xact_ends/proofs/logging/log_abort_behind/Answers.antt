@@ -1,0 +1,60 @@
+use Rattle.std.proofs.Common.{◌≡◌, ◌∙◌, ap, sym, subst}
+use Rattle.hall.specs.Calls.{view, start_of}
+use Rattle.engine_parts.specs.declared.session.Session.{Session}
+use Rattle.engine_parts.specs.Adding.{IsAbortOf, IsOfAbort, IsTruncation, MayAdd}
+use Rattle.engine_parts.specs.Sessions.{by_at}
+use Rattle.engine_parts.specs.Stages.{may_be_aborted, may_be_recorded}
+use Rattle.engine_parts.proofs.Adding.{adds_wider}
+use Rattle.engine_parts.proofs.Sectioning.{same_command}
+use Rattle.log_sections.specs.LogSections.{TakesAbort}
+use Rattle.xact_ends.proofs.Added.{append_adds, both_add}
+use Rattle.xact_ends.proofs.Truncating.{abort_wider, truncation_wider_abort, went_on}
+use Rattle.xact_ends.proofs.logging.log_abort_behind.Goals as goal
+
+pub append_abort-requires-clause-unrecorded : goal.append_abort-requires-clause-unrecorded
+append_abort-requires-clause-unrecorded g c = ap (λ (z : Session). may_be_recorded z.stage) c.in-Ok.ensures.same.0 ∙ c.requires.unrecorded
+
+pub append_abort-requires-clause-unaborted : goal.append_abort-requires-clause-unaborted
+append_abort-requires-clause-unaborted g c = ap (λ (z : Session). may_be_aborted z.stage) c.in-Ok.ensures.same.0 ∙ c.requires.unaborted
+
+pub append_abort-requires-clause-record : goal.append_abort-requires-clause-record
+append_abort-requires-clause-record g c = subst (λ (z : Session). IsAbortOf z.levels.open_ids.items c.args.rec.now) (sym c.in-Ok.ensures.same.0) c.requires.record
+
+pub returns-in-Ok-clause-went : goal.returns-in-Ok-clause-went
+returns-in-Ok-clause-went g c =
+    let old = c.args.caller.now in
+    let t = c.log_truncation.new.caller in
+    let w = c.append_abort.new.caller in
+    let e = c.in-Ok.ensures in
+    went_on old.number t.number (view old.pass).seen (view t.pass).seen (view w.pass).seen e.same.1 e.went c.append_abort.ensures.went
+
+pub returns-in-Ok-clause-adds : goal.returns-in-Ok-clause-adds
+returns-in-Ok-clause-adds g c =
+    let old = c.args.caller.now in
+    let t = c.log_truncation.new.caller in
+    let w = c.append_abort.new.caller in
+    let e = c.in-Ok.ensures in
+    let rec = c.args.rec.now in
+    let opened = old.session.levels.open_ids.items in
+    let by = by_at old.number old.session.levels.commands in
+    let by' = by_at t.number t.session.levels.commands in
+    both_add by by' (MayAdd IsTruncation ⊥ (λ r. ⊥)) (MayAdd (λ z. z ≡ rec) ⊥ (λ r. ⊥)) (MayAdd (IsOfAbort opened) ⊥ (λ r. ⊥)) (view old.pass).seen (view t.pass).seen (view w.pass).seen (same_command old.number t.number old.session t.session e.same.1 e.same.0)
+    (truncation_wider_abort opened) (abort_wider opened rec c.requires.record) e.adds
+    (append_adds (start_of c.args.hall.now) (view t.pass) (view w.pass) by' t.session rec c.append_abort.result e.may.ready.at c.append_abort.ensures.section)
+
+pub returns-in-Ok-clause-takes : goal.returns-in-Ok-clause-takes
+returns-in-Ok-clause-takes g c =
+    let w = c.append_abort.new.caller in
+    subst (λ (z : Session). TakesAbort (start_of c.args.hall.now) (view w.pass).seen c.args.rec.now z w.session c.append_abort.result) c.in-Ok.ensures.same.0 c.append_abort.ensures.takes
+
+pub returns-in-Ok-clause-number : goal.returns-in-Ok-clause-number
+returns-in-Ok-clause-number g c = c.append_abort.ensures.number ∙ c.in-Ok.ensures.same.1
+
+pub returns-in-Err-clause-adds : goal.returns-in-Err-clause-adds
+returns-in-Err-clause-adds g c =
+    let old = c.args.caller.now in
+    let opened = old.session.levels.open_ids.items in
+    adds_wider (by_at old.number old.session.levels.commands) (MayAdd IsTruncation ⊥ (λ r. ⊥)) (MayAdd (IsOfAbort opened) ⊥ (λ r. ⊥)) (view old.pass).seen (view c.log_truncation.new.caller.pass).seen (truncation_wider_abort opened) c.in-Err.ensures.adds
+
+pub returns-in-Err-clause-takes : goal.returns-in-Err-clause-takes
+returns-in-Err-clause-takes g c = (c.in-Err.ensures.same.0, c.in-Err.ensures.refused)

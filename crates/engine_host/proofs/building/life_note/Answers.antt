@@ -1,5 +1,5 @@
 use contract.BorrowLft.{⊑_meet, ⊑_static}
-use Rattle.engine_host.proofs.first_parts.life_note.Goals as goal
+use Rattle.engine_host.proofs.building.life_note.Goals as goal
 
 -- the note's lifetimes are those of what it shows
 pub by-requires : goal.by-requires

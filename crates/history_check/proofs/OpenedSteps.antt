@@ -116,9 +116,11 @@ top_by_parent base h s x o legal k e =
     (λ (a : HasNone h x). ap is_none (e ∙ a.is) ∙ sym (is_top_of_none h x a))
     (parents base h legal x given)
 
-pub none_is : {X : Type 0} (p : Option X) → is_none p ≡ not (is_some p)
-none_is None = refl
-none_is (Some x) = refl
+pub none_told : {X : Type 0} (p : Option X) (b : Bool) → is_some p ≡ not b → is_none p ≡ b
+none_told None true e = refl
+none_told None false e = absurd cc
+none_told (Some x) true e = absurd cc
+none_told (Some x) false e = refl
 
 pub found_top : (base : Counters) (h : List Event) (s : ℕ) (opened : List OpenId) (x : ℕ) (o : OpenId) → IsLegal base h → AreOpened h s opened → find (λ (o : OpenId). o.id == x) opened ≡ Some o → IsTrue (is_none o.parent) ↔ (Contains (open_ids s h) x × (is_top h x ≡ true))
 found_top base h s opened x o legal a e =

@@ -14,6 +14,7 @@ use Rattle.tx_events.proofs.Membership.{Has}
 use Rattle.tx_events.proofs.Visibility.{never_given}
 use Rattle.history_check.specs.declared.given.GivenId.{GivenId}
 use Rattle.history_check.specs.GivenIds.{AreKept, IsKept, IsMissing, IsPlaceOf, given_ids, is_committed, was_before}
+use Rattle.history_check.specs.Replays.{is_known}
 
 at_place : (P : GivenId → Type 0) (items : List GivenId) (k : ℕ) (d : GivenId) → AllByRecursion P items → k < length items → P (get_or items k d)
 at_place P [] k d a l = absurd (omega arith)
@@ -37,3 +38,7 @@ unseen_where_missing items place x base h m legal a =
 pub same_among : (xs : List ℕ) (x : ℕ) → has xs x ≡ list_any (λ y. y == x) xs
 same_among [] x = refl
 same_among (y ∷ xs) x = ap (λ b. b || has xs x) (equal_swap x y) ∙ ap (λ b. (y == x) || b) (same_among xs x)
+
+pub visible_is : (committed : List ℕ) (h : List Event) (x : ℕ) (known since : Bool) → known ≡ is_known committed x → since ≡ is_committed h x → (known || since) ≡ is_visible committed h x
+visible_is committed h x known since k s =
+    ap (λ b. b || since) (k ∙ ap (λ b. (x == 1) || (x == 2) || b) (same_among committed x)) ∙ ap (λ b. ((x == 1) || (x == 2) || list_any (λ y. y == x) committed) || b) s

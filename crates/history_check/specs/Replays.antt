@@ -1,11 +1,12 @@
 -- What a replay of a history holds, and the first event that may not come.
-use Rattle.std.specs.Prelude.{◌≡◌, ℕ, ◌+◌, ◌<◌, ◌≤◌, ◌↔◌, List, [], ◌∷◌, ◌++◌, length, take, slice_index}
+use Rattle.std.specs.Prelude.{◌≡◌, ℕ, ◌+◌, ◌<◌, ◌≤◌, ◌↔◌, ◌==◌, ◌||◌, Bool, List, [], ◌∷◌, ◌++◌, length, take, slice_index}
 use Rattle.std.specs.Global.{Vec}
 use Rattle.tx_events.specs.declared.event.By.{By}
 use Rattle.tx_events.specs.declared.event.Event.{Event}
 use Rattle.tx_events.specs.declared.record.Counters.{Counters}
 use Rattle.tx_events.specs.Events.{by_of}
 use Rattle.tx_events.specs.History.{IsLegal, MayCome}
+use Rattle.tx_events.specs.IdLists.{has}
 use Rattle.proc_table.specs.Table.{InTurn, Table}
 use Rattle.history_check.specs.declared.given.GivenId.{GivenId}
 use Rattle.history_check.specs.declared.opened.OpenId.{OpenId}
@@ -24,6 +25,10 @@ IsLawfulNext r e = MayCome r.base r.events e × InTurn (by_of e) r.events
 
 abbrev pub with_event : Replayed → Event → Replayed
 with_event r e = record r { events = r.events ++ e ∷ [] }
+
+-- the id counts as committed from the start on
+abbrev pub is_known : List ℕ → ℕ → Bool
+is_known committed x = (x == 1) || (x == 2) || has committed x
 
 -- the history is legal up to this event, and not with it
 pub record IsFirstIllegal (base : Counters) (h : List Event) (p : ℕ) : Type 0 where

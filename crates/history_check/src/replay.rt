@@ -1,5 +1,5 @@
 //! The replay of a history, event by event.
-ghost use Rattle.std.specs.Prelude.{◌≡◌, ◌<◌, ◌≤◌, IfOk, OnErr, OnOk, length, take, true, false, List, [], ◌∷◌, ◌++◌};
+ghost use Rattle.std.specs.Prelude.{◌≡◌, ◌<◌, ◌≤◌, IfOk, OnErr, OnOk, length, take, true, false, List, [], ◌∷◌, ◌++◌, ◌||◌};
 ghost use Rattle.tx_events.specs.declared.event.Event.{Event};
 ghost use Rattle.tx_events.specs.Base.{IsBase};
 ghost use Rattle.tx_events.specs.Events.{by_of};
@@ -9,7 +9,7 @@ ghost use Rattle.tx_events.specs.Visible.{is_visible};
 ghost use Rattle.proc_table.specs.Table.{InTurn};
 ghost use Rattle.history_check.specs.GivenIds.{AreKept};
 ghost use Rattle.history_check.specs.Opened.{AreAllOpened, AreClosed};
-ghost use Rattle.history_check.specs.Replays.{GoesOn, IsLawfulNext, Stays, with_event};
+ghost use Rattle.history_check.specs.Replays.{GoesOn, IsLawfulNext, Stays, is_known, with_event};
 
 use crate::given::{GivenId, note_given, was_committed};
 use crate::may::may_come;
@@ -128,6 +128,24 @@ fn none_opened(alloc: Global, sessions: u32) -> Result<Vec<Vec<OpenId>>, Memory>
     Ok(opened)
 }
 
+/// Whether the id is 1 or 2, or one of these, which ascend.
+#[tactic(auto, using(crate::proofs::Seeing::same_among))]
+fn is_known(committed: &[FullXid], x: FullXid) -> bool
+    requires { Ascending committed.now }
+    ensures { result ≡ is_known committed.now x }
+{
+    if x.number() == 1 || x.number() == 2 {
+        return true;
+    }
+    is_listed(committed, x)
+}
+
+fn either(one: bool, other: bool) -> bool
+    ensures { result ≡ (one || other) }
+{
+    one || other
+}
+
 impl HistoryReplay {
     /// A life of this base at its start, for at most 64 sessions.
     pub fn new(alloc: Global, base: Counters, sessions: u32) -> Result<HistoryReplay, Memory>
@@ -178,7 +196,9 @@ impl HistoryReplay {
         ensures { result ≡ is_visible committed.now (take place self.now.events) x }
     {
         let _legal = self.table.events();
-        x.number() == 1 || x.number() == 2 || is_listed(committed, x) || was_committed(self.given.as_slice(), place, x)
+        let known = is_known(committed, x);
+        let since = was_committed(self.given.as_slice(), place, x);
+        either(known, since)
     }
 
     /// The history so far, which is legal.

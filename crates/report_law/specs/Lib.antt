@@ -9,3 +9,4 @@ pub mod Dumps
 pub mod Events
 pub mod Records
 pub mod ReportLines
+pub mod Worked

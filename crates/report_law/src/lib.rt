@@ -2,3 +2,5 @@
 //! that a run promises stand in `life_law`; these here are those of every report that can be read, with many lives,
 //! multixacts, checkpoints and truncations. See docs/SCRIPT-AND-REPORT.md.
 #![tactic(auto)]
+
+pub mod laws;

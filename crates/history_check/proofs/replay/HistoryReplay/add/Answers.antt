@@ -1,4 +1,7 @@
-use Rattle.std.proofs.Common.{◌≡◌, ◌≤◌, ◌↔◌, IsTrue, ap, sym, subst, refl, ◌∙◌, length, set}
+use Rattle.std.proofs.Common.{◌≡◌, ◌<◌, ◌≤◌, ◌↔◌, IsTrue, ap, sym, subst, refl, ◌∙◌, length, set, arith}
+use Rattle.std.specs.Global.{Vec}
+use Rattle.std.proofs.lemmas.List.{length-set}
+use Rattle.history_check.specs.declared.opened.OpenId.{OpenId}
 use Rattle.std.specs.List.{slice_index}
 use Rattle.std.proofs.lemmas.Bool.{false≢true}
 use Rattle.tx_events.specs.declared.event.By.{By}
@@ -7,7 +10,7 @@ use Rattle.proc_table.specs.Table.{InTurn}
 use Rattle.history_check.specs.GivenIds.{AreKept, given_after}
 use Rattle.history_check.specs.Opened.{opened_after, opened_ids}
 use Rattle.history_check.specs.Replays.{IsLawfulNext, IsReplay, Replayed}
-use Rattle.history_check.proofs.AddLemmas.{replay_roomier, replay_stays, turn_of, view_after, within_table}
+use Rattle.history_check.proofs.AddLemmas.{replay_roomier, replay_stays, same_default, turn_of, view_after, within_table}
 use Rattle.history_check.proofs.GivenSteps.{kept_ascend}
 use Rattle.history_check.proofs.ReplaySteps.{replay_after}
 use Rattle.history_check.proofs.TurnLemmas.{written_back}
@@ -48,10 +51,10 @@ invariant_of-self-2 c =
     c.events.ensures.legal roomier (c.may_come.ensures.0 c.if-not-may_come.false) within c.by_of-by.ensures
     (subst (λ l. slice_index l c.by_of-by.result.session ≤ c.by_of-by.result.command) c.as_slice.ensures.value (c.is_in_turn.ensures.0 c.if-not-is_in_turn.false))
     c.in_ok-go_on.ensures.ok c.in_ok-closed.ensures.closed
-    (written_back c.self.inside.last.len c.note.new.last c.self.inside.last.items ? ? ∙ c.note.ensures)
+    (written_back c.self.inside.last.len c.note.new.last c.self.inside.last.items (ap length c.note.ensures ∙ length-set c.deref_mut.result.now c.by_of-by.result.session c.by_of-by.result.command ∙ ap length c.deref_mut.ensures.value) (omega arith) ∙ c.note.ensures ∙ ap (λ l. set l c.by_of-by.result.session c.by_of-by.result.command) c.deref_mut.ensures.value)
     refl c.index_mut-2.result.now c.index_mut-2.ensures.value
     (c.note_opened.ensures ∙ ap (λ l. opened_after l c.args.event.now c.index_mut-2.result.now.items) c.as_slice-6.ensures.value)
-    (ap opened_ids c.as_slice-5.ensures.value ∙ ?)
+    (ap opened_ids c.as_slice-5.ensures.value ∙ ap (λ (v : Vec OpenId). opened_ids v.items) (c.index-3.ensures ∙ same_default (set c.self.inside.opened.items c.by_of-by.result.session c.make_one_room-2.new.items) c.by_of-by.result.session c.index-3.result.now c.index_mut-2.result.now (subst (λ n. c.by_of-by.result.session < n) (sym roomier.opened.size) (subst (λ (b : By). b.session < c.self.inside.table.sessions) (sym c.by_of-by.ensures) within)) ∙ sym c.index_mut-2.ensures.value))
     (c.note_given.ensures ∙ ap (λ n. given_after (opened_ids c.as_slice-5.result.now) n c.args.event.now c.make_one_room.new.items.items) (ap length c.events.ensures.value))
 
 pub returns-clause-added : goal.returns-clause-added

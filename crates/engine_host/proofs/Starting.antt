@@ -168,6 +168,7 @@ second_new L P l p c counts reached = record {
   proc = λ e. absurd (omega (arith, e));
   xact = λ b e. absurd (omega (arith, e));
   subtrans = λ b e. absurd (omega (arith, e));
+  multi = λ e. refl;
 }
 
 -- the table of a new life

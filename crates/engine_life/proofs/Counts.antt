@@ -93,7 +93,7 @@ module _ {L P : Type 0} {l : logs.Ghosts L} {p : disks.Ghosts P} where
   no_multis start es (parts.Proc table) k = absurd (let e = k.0 in omega (arith, e))
   no_multis start es (parts.Xact store) k = absurd (let e = k.1 in omega (arith, e))
   no_multis start es (parts.Subtrans store) k = absurd (let e = k.1 in omega (arith, e))
-  no_multis start es parts.Vacant k = k.multi refl
+  no_multis start es parts.Vacant k = k.unused
 
   module _ (start : Start) (lists : List (List Entry)) (locks : List (Part L P l p)) (stand : (lock : ℕ) (part : Part L P l p) → slice_get locks lock ≡ Some part → PartStands start lock part (at lists lock)) where
     xact_at : (bank : ℕ) (part : Part L P l p) (v : P) → slice_get locks (xact_lock bank) ≡ Some part → xact_disk part ≡ Some v → slice_get (xact_disks locks) bank ≡ Some v

@@ -3,3 +3,4 @@ pub mod Counts
 mod Followed
 mod Reopened
 mod GoingOn
+mod LogEnds

@@ -16,7 +16,9 @@ use Rattle.tx_core.specs.FaultsRise.{faults_told}
 use Rattle.tx_core.specs.Locks.{log_lock, subtrans_lock, xact_lock}
 use Rattle.recoverable.specs.Whole.{StatesLeft}
 use Rattle.wal_core.specs.declared.wal_log.WalLog.{WalLog}
-use Rattle.wal_core.specs.LogViews.{log_disk, log_end, log_flushed, log_recs}
+use Rattle.wal_core.specs.LogViews.{log_disk, log_end, log_first, log_flushed, log_next, log_recs}
+use Rattle.recoverable.specs.Fit.{KeptLog}
+use Rattle.bank_follows.specs.Holding.{LogHolds}
 use Rattle.engine_parts.specs.declared.session.Session.{Session}
 use Rattle.engine_host.specs.declared.cluster.Cluster.{Cluster}
 use Rattle.engine_host.specs.Counted.{AreCounted}
@@ -78,6 +80,11 @@ module _ {P : Type 0} (p : disks.Ghosts P) where
   abbrev pub HaveFollowed : Start → List (List Entry) → List P → Type 0
   HaveFollowed start lists states = (bank : ℕ) → bank < start.banks
       → (v : P) × (slice_get states bank ≡ Some v) × FollowsList start lists bank v
+
+-- The log's value holds what the law on a cluster's volumes asks of it, for some list of records.
+abbrev pub HoldsLog : {D : Type 0} → {g : logs.Ghosts D} → Start → List (List Entry) → WalLog D g → Type 0
+HoldsLog {g = g} start lists log =
+    (kept : KeptLog) × LogHolds start (at lists log_lock) kept (log_recs log) (log_next log) (log_first log) (g.images (log_disk log))
 
 -- the life over a new log that had this history and left this log
 abbrev pub life_told : {D : Type 0} → {g : logs.Ghosts D} → Counters → List Event → WalLog D g → Life

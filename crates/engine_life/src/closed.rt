@@ -8,7 +8,7 @@ ghost use Rattle.tx_core.specs.Locks.{log_lock};
 ghost use Rattle.tx_core.specs.MultiEntries.{multi_history};
 ghost use Rattle.engine_parts.specs.Parts.{IsLogOf};
 ghost use Rattle.engine_host.specs.Hosts.{HoldsAllBut, IsHost};
-ghost use Rattle.engine_life.specs.Lives.{HaveCountedTold, HaveFollowed, volumes_left};
+ghost use Rattle.engine_life.specs.Lives.{HaveCountedTold, HaveFollowed, HoldsLog, volumes_left};
 
 use crate::life::{Aside, OpenLife};
 use disk_core::{LogDisk, PageDisk, Volumes};
@@ -36,6 +36,8 @@ pub fn close_life<L: LogDisk + Drop, P: PageDisk + Drop>(life: OpenLife<L, P>) -
     ensures events { result.events ≡ history (view life.host.pass).seen }
     ensures log { IsLogOf (start_of life.hall) result.log (at (view life.host.pass).seen log_lock) }
     ensures multis { multi_history (view life.host.pass).seen ≡ [] }
+    // Where the volumes told what the life began with, the log is one that recovery may go by (`recoverable`).
+    ensures log_holds { IsTrue L.tells → IsTrue (start_of life.hall).told → HoldsLog (start_of life.hall) (view life.host.pass).seen result.log }
     ensures kept { EngineInvariant (start_of life.hall) (view life.host.pass).seen }
     ensures counted { HaveCountedTold L.LogDisk P.PageDisk (start_of life.hall) (view life.host.pass).seen (volumes_left result) }
     // In a life of fewer than 2,900,000 ids.

@@ -8,6 +8,9 @@ use Rattle.engine_parts.specs.Parts.{IsLogOf}
 use Rattle.engine_life.proofs.Counts.{multis_untold, subtrans_told, xact_behind, xact_told}
 use Rattle.engine_life.proofs.Followed.{follows_here}
 use Rattle.engine_life.specs.Lives.{FollowsList}
+use Rattle.wal_core.specs.LogViews.{log_counters, log_disk, log_down, log_first, log_flushed, log_next, log_recs}
+use Rattle.engine_life.proofs.Counts.{subtrans_told, xact_told}
+use Rattle.engine_life.proofs.LogEnds.{log_held}
 use Rattle.engine_life.proofs.closed.close_life.Goals as goal
 
 pub take_apart-log-requires-clause-stand : goal.take_apart-log-requires-clause-stand
@@ -26,6 +29,14 @@ returns-clause-log g c =
     let taken = c.take_apart-log in
     let es = list_at (view c.args.life.host.pass).seen log_lock in
     subst (λ l. IsLogOf (start_of c.args.life.hall) l es) (sym c.into_inner-log.ensures) (c.close-parts.ensures.stand 0 (parts.Log taken.result.log) taken.ensures.log).1
+
+pub returns-clause-log_holds : goal.returns-clause-log_holds
+returns-clause-log_holds g c tells told =
+    let taken = c.take_apart-log in
+    let d = g.L.LogDisk in
+    let log = taken.result.log in
+    log_held (start_of c.args.life.hall) (view c.args.life.host.pass).seen d.tells (d.faults (log_disk log)) (d.images (log_disk log)) (log_recs log) (log_next log) (log_first log) (log_flushed log) (log_counters log) (log_down log)
+    c.close-parts.ensures.kept (c.close-parts.ensures.stand 0 (parts.Log log) taken.ensures.log).1 tells told
 
 pub returns-clause-counted : goal.returns-clause-counted
 returns-clause-counted g c =

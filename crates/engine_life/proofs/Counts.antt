@@ -56,6 +56,28 @@ module _ {X Y : Type 0} (f : X → Option Y) where
       (λ k z at_z. some (suc k) z (subst (λ m. slice_get (four d) m ≡ Some z) (sym (on k 3)) at_z))
       n x y (subst (λ m. slice_get (four d) m ≡ Some x) (on n 3) found) is
 
+  -- and it gives one for each four items behind the first three
+  fourth_count : (xs : List X) → ((k i : ℕ) (x : X) → i < 3 → slice_get xs (i + 4 * k) ≡ Some x → f x ≡ None)
+      → ((k : ℕ) (x : X) → slice_get xs (3 + 4 * k) ≡ Some x → (y : Y) × (f x ≡ Some y))
+      → (n : ℕ) → length xs ≡ 3 + 4 * n → length (filter_map f xs) ≡ n
+  fourth_count [] none some n count = absurd (omega (arith, count))
+  fourth_count (a ∷ []) none some n count = absurd (omega (arith, count))
+  fourth_count (a ∷ b ∷ []) none some n count = absurd (omega (arith, count))
+  fourth_count (a ∷ b ∷ c ∷ []) none some zero count =
+      ap length (passed_by a (b ∷ c ∷ []) (none 0 0 a (omega arith) refl) ∙ (passed_by b (c ∷ []) (none 0 1 b (omega arith) refl) ∙ passed_by c [] (none 0 2 c (omega arith) refl)))
+  fourth_count (a ∷ b ∷ c ∷ []) none some (suc n) count = absurd (omega (arith, count))
+  fourth_count (a ∷ b ∷ c ∷ d ∷ xs) none some zero count = absurd (omega (arith, count))
+  fourth_count (a ∷ b ∷ c ∷ d ∷ xs) none some (suc n) count =
+      let all : List X = a ∷ b ∷ c ∷ d ∷ xs in
+      let on : (k i : ℕ) → i + 4 * suc k ≡ suc (suc (suc (suc (i + 4 * k)))) = λ k i. omega arith in
+      let first = some 0 d refl in
+      let rest : length xs ≡ 3 + 4 * n = omega (arith, count) in
+      ap length (one_of_four a b c d xs first.0 (none 0 0 a (omega arith) refl) (none 0 1 b (omega arith) refl) (none 0 2 c (omega arith) refl) first.1)
+      ∙ ap suc (fourth_count xs
+      (λ k i z low at_z. none (suc k) i z low (subst (λ m. slice_get all m ≡ Some z) (sym (on k i)) at_z))
+      (λ k z at_z. some (suc k) z (subst (λ m. slice_get all m ≡ Some z) (sym (on k 3)) at_z))
+      n rest)
+
 -- ---- the parts behind the locks of banks
 
 module _ {L P : Type 0} {l : logs.Ghosts L} {p : disks.Ghosts P} where
@@ -95,6 +117,14 @@ module _ {L P : Type 0} {l : logs.Ghosts L} {p : disks.Ghosts P} where
   no_multis start es (parts.Subtrans store) k = absurd (let e = k.1 in omega (arith, e))
   no_multis start es parts.Vacant k = k.unused
 
+  -- nor behind those of the multixacts' banks
+  no_multi_bank : (start : Start) (bank k : ℕ) (es : List Entry) (part : Part L P l p) → k < 2 → PartStands start (5 + 4 * bank + k) part es → es ≡ []
+  no_multi_bank start bank k es (parts.Log log) few is = absurd (let e = is.0 in omega (arith, e))
+  no_multi_bank start bank k es (parts.Proc table) few is = absurd (let e = is.0 in omega (arith, e))
+  no_multi_bank start bank k es (parts.Xact store) few is = absurd (let e = is.1 in omega (arith, e, few))
+  no_multi_bank start bank k es (parts.Subtrans store) few is = absurd (let e = is.1 in omega (arith, e, few))
+  no_multi_bank start bank k es parts.Vacant few is = is.unused
+
   module _ (start : Start) (lists : List (List Entry)) (locks : List (Part L P l p)) (stand : (lock : ℕ) (part : Part L P l p) → slice_get locks lock ≡ Some part → PartStands start lock part (at lists lock)) where
     xact_at : (bank : ℕ) (part : Part L P l p) (v : P) → slice_get locks (xact_lock bank) ≡ Some part → xact_disk part ≡ Some v → slice_get (xact_disks locks) bank ≡ Some v
     xact_at bank part v found is = fourth xact_disk locks
@@ -121,6 +151,19 @@ module _ {L P : Type 0} {l : logs.Ghosts L} {p : disks.Ghosts P} where
             bank part v
             (subst (λ n. slice_get (first ∷ rest) n ≡ Some part) (sym (last bank) ∙ on 3 bank) (subst (λ (qs : List (Part L P l p)). slice_get qs (subtrans_lock bank) ≡ Some part) same found))
             is)
+
+    -- there is a volume of pg_xact for each bank
+    pub xact_count : (banks : ℕ) → length locks ≡ 3 + 4 * banks → length (xact_disks locks) ≡ banks
+    xact_count banks count = fourth_count xact_disk locks
+        (λ k i q low at_q. no_xact start (i + 4 * k) (at lists (i + 4 * k)) q (λ b e. omega (arith, low, e)) (stand (i + 4 * k) q at_q))
+        (λ k q at_q. let h = xact_here start k (at lists (xact_lock k)) q (stand (xact_lock k) q at_q) in (h.0, h.1))
+        banks count
+
+    -- nothing was done to the banks of the multixacts' stores
+    pub multi_banks_untold : (banks : ℕ) → start.banks ≡ banks → length locks ≡ 3 + 4 * banks → (bank k : ℕ) → k < 2 → bank < start.banks → at lists (5 + 4 * bank + k) ≡ []
+    multi_banks_untold banks same count bank k few low =
+        let q = there locks (5 + 4 * bank + k) (omega (arith, same, count, few, low)) in
+        no_multi_bank start bank k (at lists (5 + 4 * bank + k)) q.0 few (stand (5 + 4 * bank + k) q.0 q.1)
 
     -- each volume of pg_xact is as the part behind its lock has it
     pub xact_behind : (F : ℕ → P → Type 0) → ((bank : ℕ) (part : Part L P l p) → PartStands start (xact_lock bank) part (at lists (xact_lock bank)) → (v : P) × (xact_disk part ≡ Some v) × F bank v)

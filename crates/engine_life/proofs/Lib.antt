@@ -4,3 +4,4 @@ mod Followed
 mod Reopened
 mod GoingOn
 mod LogEnds
+mod Fitting

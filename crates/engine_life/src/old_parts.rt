@@ -1,6 +1,5 @@
 //! The parts of an engine over a cluster in which a life ran before.
 ghost use Rattle.std.specs.Prelude.{◌≡◌, ◌≤◌, ℕ, [], false, IfErr, IfOk, IsTrue, length};
-ghost use Rattle.tx_events.specs.Ids.{IsFullMulti};
 ghost use Rattle.recoverable.specs.Fit.{KeptLog};
 ghost use Rattle.recoverable.specs.Whole.{BeganRight};
 ghost use Rattle.wal_core.specs.LogViews.{log_disk};
@@ -14,19 +13,12 @@ ghost use Rattle.engine_host.specs.Counted.{AreCounted};
 ghost use Rattle.engine_host.specs.Opening.{AllOnDisk, AllShowNothing, AllShowStates, AreParts, Beginning, life_from, new_life};
 ghost use Rattle.engine_life.specs.Reopening.{IsBaseAt, KeepsStart, behind, cluster_over};
 
+use crate::opened::is_full_multi;
 use disk_core::{LogDisk, PageDisk};
 use engine_host::{Cluster, Parts, open_begun};
 use recoverable::ClusterVolumes;
 use replay_core::{RecoverRefusal, Recovered, recover};
 use std::alloc::Global;
-use tx_events::Counters;
-
-// The next multixact of counters is one.
-fn is_full_multi(base: &Counters)
-    ensures { IsFullMulti base.now.multi }
-{
-    let _number = base.multi.number();
-}
 
 // The parts over what a recovery left. Only memory may be wanting; the volumes come back then.
 fn open_recovered<L: LogDisk + Drop, P: PageDisk + Drop>(

@@ -43,7 +43,7 @@ module _ {D : Type 0} {g : logs.Ghosts D} where
     count = (let c = s.count in let m = same.count in omega arith);
     kept = λ told.
         let k = s.kept told in
-        let keeps = k.2.0 in (
+        let keeps = k.2 in (
           k.0,
           k.1,
           record {
@@ -52,7 +52,7 @@ module _ {D : Type 0} {g : logs.Ghosts D} where
             count = keeps.count ∙ sym same.next;
             each = λ c image. subst (λ (z : ℕ × ℕ). HasFlushed k.0 (k.1 ++ recs_in es) z.0 z.1 c) (λ i. (sym same.first i, sym same.flushed i)) (keeps.each c (same.images told c image));
           },
-          k.2.1,
+          k.3,
         );
     first_is = subst (λ z. z < start.from) (sym same.first) s.first_is;
   }
@@ -66,7 +66,7 @@ module _ {D : Type 0} {g : logs.Ghosts D} where
           number = k.0;
           past = k.1;
           first = log_first log;
-          opens = subst (λ z. HasFlushed k.0 (k.1 ++ recs_in es) (log_first log) z (g.reads (log_disk log))) s.flushed_is (k.2.0.each (g.reads (log_disk log)) image);
+          opens = subst (λ z. HasFlushed k.0 (k.1 ++ recs_in es) (log_first log) z (g.reads (log_disk log))) s.flushed_is (k.2.each (g.reads (log_disk log)) image);
         };
         read = read;
       }

@@ -87,7 +87,7 @@ log_begins c b tells faults images recs next first flushed counters down counts 
   count = count;
   kept = λ told.
       let k = keeps told in
-      (k.0, k.1, subst (λ (t : List Rec). KeepsRecords k.0 t recs next first flushed images) (sym (append-nil k.1)) k.2.0, λ t. gives_any c b counts k.0 k.1 (k.2.1 t));
+      (k.0, k.1, subst (λ (t : List Rec). KeepsRecords k.0 t recs next first flushed images) (sym (append-nil k.1)) k.2, λ t. gives_any c b counts k.0 k.1 (k.3 t));
   first_is = let here : first < b.number + 1 = omega (arith, low) in here;
 }
 

@@ -53,11 +53,11 @@ pub log_held : (start : Start) (lists : List (List Entry)) (tells : Bool) (fault
     → (kept : KeptLog) × LogHolds start (at lists log_lock) kept recs next first images
 log_held start lists tells faults images recs next first flushed counters down k s tells_it told =
     let held = s.kept tells_it in
-    let g = held.2.1 told in (
+    let g = held.3 told in (
       log_behind start lists (before start held.0 held.1 g),
       record {
         is_of = log_ends start lists (before start held.0 held.1 g) k (begins start held.0 held.1 g);
-        keeps = subst (λ z. KeepsRecords held.0 (held.1 ++ recs_in (at lists log_lock)) recs next first z images) s.flushed_is held.2.0;
+        keeps = subst (λ z. KeepsRecords held.0 (held.1 ++ recs_in (at lists log_lock)) recs next first z images) s.flushed_is held.2;
         beginning = inl s.first_is;
       },
     )

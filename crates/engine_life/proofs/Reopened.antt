@@ -40,7 +40,7 @@ use Rattle.engine_life.specs.Reopening.{IsBaseAt, KeepsStart, behind, cluster_ov
 -- the records that are kept, and that they give the life's begin where the volumes told it
 kept_told : (told : Bool) (K G : ℕ → List Rec → Type 0) → (IsTrue told → (number : ℕ) × (past : List Rec) × K number past × G number past) → (number : ℕ) × (past : List Rec) × K number past
     → (number : ℕ) × (past : List Rec) × K number past × (IsTrue told → G number past)
-kept_told true K G given any = let k = given refl in (k.0, k.1, k.2.0, λ t. k.2.1)
+kept_told true K G given any = let k = given refl in (k.0, k.1, k.2, λ t. k.3)
 kept_told false K G given any = (any.0, any.1, any.2, λ t. let z : false ≡ true = t in absurd cc)
 
 -- the log that a recovery left is begun

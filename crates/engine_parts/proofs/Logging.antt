@@ -74,7 +74,7 @@ module _ (start : Start) (tells : Bool) (faults faults' : ℕ) (images images' :
         count = let a : faults_told start log_lock (es ++ e ∷ []) ≡ faults_told start log_lock es = number_same count_in (faults_at start log_lock) es e refl in let b = s.count in omega arith;
         kept = λ told.
             let old = s.kept told in
-            (old.0, old.1, subst (λ (l : List Rec). KeepsRecords old.0 l recs' next' first' flushed' images') (append_assoc old.1 (recs_in es) (rec ∷ []) ∙ ap (λ (l : List Rec). old.1 ++ l) (sym more)) (k told old.0 (old.1 ++ recs_in es) old.2.0), old.2.1);
+            (old.0, old.1, subst (λ (l : List Rec). KeepsRecords old.0 l recs' next' first' flushed' images') (append_assoc old.1 (recs_in es) (rec ∷ []) ∙ ap (λ (l : List Rec). old.1 ++ l) (sym more)) (k told old.0 (old.1 ++ recs_in es) old.2), old.3);
         first_is = let before = s.first_is in omega (arith, before, low);
       }
 
@@ -95,7 +95,7 @@ module _ (start : Start) (tells : Bool) (faults faults' : ℕ) (images images' :
         count = u;
         kept = λ told.
             let old = s.kept told in
-            (old.0, old.1, subst (λ (l : List Rec). KeepsRecords old.0 (old.1 ++ l) recs' next' first' flushed' images') (sym same) (k told old.0 (old.1 ++ recs_in es) old.2.0), old.2.1);
+            (old.0, old.1, subst (λ (l : List Rec). KeepsRecords old.0 (old.1 ++ l) recs' next' first' flushed' images') (sym same) (k told old.0 (old.1 ++ recs_in es) old.2), old.3);
         first_is = let before = s.first_is in omega (arith, before, low);
       }
 

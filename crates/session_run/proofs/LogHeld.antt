@@ -77,5 +77,5 @@ log_holds l log life start first es faults next kept counters down from logged s
     let size : length life.recs ≡ length (first ∷ recs_in es) = ap (λ (t : List Rec). length t) (stands.recs_are ∙ ap (λ (t : List Rec). t ++ recs_in es) logged) in
     let long : next ≡ length life.recs = (let a = stands.next_is in omega (arith, a, from, size)) in
     let each : (c : Volume) → l.images log c → HoldsRecords life c = λ c image.
-    opens_to_life life whole new kept c (all_kept (k.1 ++ recs_in es) life.recs k.0 next kept life.flushed (l.images log) long k.2.0 c image) in
+    opens_to_life life whole new kept c (all_kept (k.1 ++ recs_in es) life.recs k.0 next kept life.flushed (l.images log) long k.2 c image) in
     record { reads = each (l.reads log) now; crashed = each }

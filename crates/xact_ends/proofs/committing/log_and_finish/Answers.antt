@@ -7,6 +7,7 @@ use Rattle.engine_parts.specs.Sessions.{by_at}
 use Rattle.log_sections.specs.declared.appending.Appended.{Appended}
 use Rattle.log_sections.specs.declared.appending.Appended.TheVariants as came
 use Rattle.log_sections.specs.LogSections.{Appends, IsCommitOf}
+use Rattle.xact_ends.specs.Logged.{IsNumbered}
 use Rattle.xact_ends.specs.Stops.{Stops}
 use Rattle.xact_ends.proofs.Finishing.{append_stops, commits_then, stops_appended}
 use Rattle.engine_parts.specs.Adding.{IsOfCommit, IsToldBy, MayAdd}
@@ -20,11 +21,11 @@ log_commit-requires-clause-record g c = subst (λ (l : List ℕ). IsCommitOf l c
 pub flush_and_finish-requires-clause-step : goal.flush_and_finish-requires-clause-step
 flush_and_finish-requires-clause-step g c = let e = c.log_commit.ensures in record { own = e.own; laid = c.requires.step.laid; each = c.requires.step.each; may = e.may }
 
-pub returns-in-Err-log_commit-clause-step : goal.returns-in-Err-log_commit-clause-step
-returns-in-Err-log_commit-clause-step g c = let e = c.log_commit.ensures in record { own = e.own; laid = c.requires.step.laid; each = c.requires.step.each; may = e.may }
+pub returns-clause-step : goal.returns-clause-step
+returns-clause-step g c = let e = c.log_commit.ensures in record { own = e.own; laid = c.requires.step.laid; each = c.requires.step.each; may = e.may }
 
-pub returns-in-Err-log_commit-clause-commits : goal.returns-in-Err-log_commit-clause-commits
-returns-in-Err-log_commit-clause-commits g c =
+pub returns-clause-commits : goal.returns-clause-commits
+returns-clause-commits g c =
     let start = start_of c.args.hall.now in
     let s = c.args.caller.now.session in
     let t = c.log_commit.new.caller in
@@ -54,8 +55,8 @@ returns-in-At-clause-commits g c =
 pub returns-in-Err-clause-adds : goal.returns-in-Err-clause-adds
 returns-in-Err-clause-adds g c = let old = c.args.caller.now in adds_nothing (by_at old.number old.session.levels.commands) _ (view old.pass).seen
 
-pub returns-in-Err-log_commit-clause-adds : goal.returns-in-Err-log_commit-clause-adds
-returns-in-Err-log_commit-clause-adds g c =
+pub returns-clause-adds : goal.returns-clause-adds
+returns-clause-adds g c =
     let old = c.args.caller.now in
     let t = c.log_commit.new.caller in
     let by = by_at old.number old.session.levels.commands in
@@ -81,3 +82,6 @@ returns-in-At-clause-adds g c =
     (may_wider (IsOfCommit opened) (IsOfCommit opened) ⊥ (Unit {0}) (λ q. ⊥) (IsToldBy r) (λ z m. m) (λ m. absurd m) (λ q m. absurd m))
     (may_wider (λ z. ⊥) (IsOfCommit opened) (Unit {0}) (Unit {0}) (IsToldBy r) (IsToldBy r) (λ z m. absurd m) (λ m. m) (λ q m. m))
     c.log_commit.ensures.adds c.flush_and_finish.ensures.adds
+
+pub unreachable-requires : goal.unreachable-requires
+unreachable-requires g c = subst (λ (a : Appended). IsNumbered (Ok a)) c.in-NoBase.is c.in-Ok-log_commit.ensures.numbered

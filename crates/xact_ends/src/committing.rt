@@ -7,7 +7,7 @@ ghost use Rattle.engine_parts.specs.Calls.{MayStep};
 ghost use Rattle.engine_parts.specs.Sessions.{by_at};
 ghost use Rattle.xact_ends.specs.Ends.{Commits};
 
-use crate::logging::log_commit;
+use crate::logging::log_commit_record;
 use crate::settling::set_tree;
 use bank_sections::record_parent;
 use disk_core::{LogDisk, PageDisk};
@@ -113,7 +113,7 @@ fn log_and_finish<R: Wait, L: LogDisk, P: PageDisk>(
         Ok(rec) => rec,
         Err(Memory) => return Err(Refusal::Memory),
     };
-    match log_commit(rt, hall, caller, &rec) {
+    match log_commit_record(rt, hall, caller, &rec) {
         Ok(appended) => match appended {
             Appended::At { number } => flush_and_finish(rt, hall, caller, banks, number),
             Appended::NoBase => unreachable!(),

@@ -49,7 +49,7 @@ fn log_truncation<R: Wait, L: LogDisk, P: PageDisk>(
 }
 
 /// Appends the record of a truncation, and then the commit record.
-fn log_behind<R: Wait, L: LogDisk, P: PageDisk>(
+fn log_commit_behind<R: Wait, L: LogDisk, P: PageDisk>(
     rt: &R,
     hall: &Hall<EngineLaw<L, P>>,
     caller: &mut Caller<L, P>,
@@ -83,7 +83,7 @@ fn log_behind<R: Wait, L: LogDisk, P: PageDisk>(
 /// the log then refuses the commit record.
 ///
 /// Refused with `LogDown`, or where the log isn't down with `Full` or `Memory`; then the commit record wasn't appended.
-pub(crate) fn log_commit<R: Wait, L: LogDisk, P: PageDisk>(
+pub(crate) fn log_commit_record<R: Wait, L: LogDisk, P: PageDisk>(
     rt: &R,
     hall: &Hall<EngineLaw<L, P>>,
     caller: &mut Caller<L, P>,
@@ -109,7 +109,7 @@ pub(crate) fn log_commit<R: Wait, L: LogDisk, P: PageDisk>(
     match append_commit(rt, hall, caller, rec) {
         Ok(appended) => match appended {
             Appended::At { number } => Ok(Appended::At { number }),
-            Appended::NoBase => log_behind(rt, hall, caller, rec),
+            Appended::NoBase => log_commit_behind(rt, hall, caller, rec),
         },
         Err(refusal) => Err(refusal),
     }

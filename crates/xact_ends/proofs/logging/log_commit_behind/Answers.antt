@@ -9,7 +9,7 @@ use Rattle.log_sections.specs.LogSections.{Appends}
 use Rattle.xact_ends.proofs.Added.{append_adds, both_add}
 use Rattle.xact_ends.proofs.Landing.{commit_lands, commit_some}
 use Rattle.xact_ends.proofs.Truncating.{commit_wider, truncation_wider, went_on}
-use Rattle.xact_ends.proofs.logging.log_behind.Goals as goal
+use Rattle.xact_ends.proofs.logging.log_commit_behind.Goals as goal
 
 pub append_commit-requires-clause-clear : goal.append_commit-requires-clause-clear
 append_commit-requires-clause-clear g c = ap (λ (z : Session). z.stage) c.in-Ok.ensures.same.0 ∙ c.requires.clear

@@ -7,8 +7,9 @@ use Rattle.engine_parts.proofs.Adding.{adds_wider}
 use Rattle.engine_parts.proofs.Sectioning.{same_command}
 use Rattle.log_sections.specs.LogSections.{Appends}
 use Rattle.xact_ends.proofs.Added.{append_adds, both_add}
+use Rattle.xact_ends.proofs.Landing.{commit_lands, commit_some}
 use Rattle.xact_ends.proofs.Truncating.{commit_wider, truncation_wider, went_on}
-use Rattle.xact_ends.proofs.logging.log_behind.Goals as goal
+use Rattle.xact_ends.proofs.logging.log_commit_behind.Goals as goal
 
 pub append_commit-requires-clause-clear : goal.append_commit-requires-clause-clear
 append_commit-requires-clause-clear g c = ap (λ (z : Session). z.stage) c.in-Ok.ensures.same.0 ∙ c.requires.clear
@@ -57,3 +58,14 @@ returns-in-Err-clause-adds g c =
 
 pub returns-in-Err-clause-appends : goal.returns-in-Err-clause-appends
 returns-in-Err-clause-appends g c = (c.in-Err.ensures.same.0, c.in-Err.ensures.refused)
+
+pub log_truncation-requires-clause-some : goal.log_truncation-requires-clause-some
+log_truncation-requires-clause-some g c = commit_some c.args.caller.now.session.levels.open_ids.items c.args.rec.now c.requires.record
+
+pub returns-in-Ok-clause-numbered : goal.returns-in-Ok-clause-numbered
+returns-in-Ok-clause-numbered g c =
+    let old = c.args.caller.now in
+    let t = c.log_truncation.new.caller in
+    let w = c.append_commit.new.caller in
+    let a = c.append_commit.ensures in
+    commit_lands (start_of c.args.hall.now) (view old.pass) (view t.pass).seen (view w.pass).seen old.number old.session t.session w.session c.args.rec.now c.append_commit.result c.requires.may.ready.at c.requires.record a.may.ready.at.kept c.in-Ok.ensures.told a.went.on.grows a.appends

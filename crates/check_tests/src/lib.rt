@@ -1,0 +1,7 @@
+//! Worked histories for the replay, with numbers from the rules (docs/HISTORY.md).
+#![tactic(auto)]
+
+#[cfg(test)]
+mod driver;
+#[cfg(test)]
+mod replay_tests;

@@ -1,0 +1,12 @@
+pub mod Searching
+pub mod Commits
+pub mod Marks
+pub mod GivenSteps
+pub mod Parents
+pub mod OpenedSteps
+pub mod OpenedChanges
+pub mod TurnLemmas
+pub mod OldestBounds
+pub mod Seeing
+pub mod AddLemmas
+pub mod ReplaySteps

@@ -1,0 +1,110 @@
+-- What an event changes of the open ids of its session, and of no other.
+use Rattle.std.proofs.Common.{◌≡◌, ◌≢◌, ℕ, ◌<◌, List, [], ◌∷◌, ◌++◌, Option, Some, None, map, refl, ap, sym, subst, ◌∙◌, inl, inr, ⊎_elim, Bool, true, false, cond, not, ◌==◌, ◌&&◌, length, get_or, set, Contains, eqb-true, eq-eqb}
+use Rattle.std.specs.Global.{Vec}
+use Rattle.std.specs.List.{AllByRecursion, HoldsAt, filter}
+use Rattle.std.proofs.lemmas.List.{get_or-set_other, get_or-set_same, length-set, map_push}
+use Rattle.std.proofs.lemmas.Bool.{cases_Bool, false≢true}
+use Rattle.tx_events.specs.declared.event.By.{By}
+use Rattle.tx_events.specs.declared.event.Event.{Event}
+use Rattle.tx_events.specs.declared.event.Event.TheVariants as events
+use Rattle.tx_events.specs.declared.record.Counters.{Counters}
+use Rattle.tx_events.specs.Events.{by_of, given}
+use Rattle.tx_events.specs.Families.{is_top, top}
+use Rattle.tx_events.specs.History.{IsLegal, MayCome}
+use Rattle.tx_events.specs.IdLists.{has}
+use Rattle.tx_events.specs.Running.{open_ids}
+use Rattle.tx_events.specs.Savepoints.{is_inside}
+use Rattle.tx_events.proofs.Closing.{one_top}
+use Rattle.tx_events.proofs.ClosingGrowth.{IsClosing, closing_abort, closing_commit, closing_open_ids, closing_undo}
+use Rattle.tx_events.proofs.GivenIds.{open_given}
+use Rattle.tx_events.proofs.GivingGrowth.{IsGiving, giving_open_ids}
+use Rattle.tx_events.proofs.IdListSteps.{has-filter, has_true}
+use Rattle.tx_events.proofs.ListSteps.{all_filter, all_push, eqb-refl}
+use Rattle.tx_events.proofs.Membership.{Has, contains_has}
+use Rattle.tx_events.proofs.OpenIds.{open_ids_other}
+use Rattle.tx_events.proofs.QuietGrowth.{IsQuiet, quiet_open_ids}
+use Rattle.proc_table.proofs.EntryLists.{map_filter}
+use Rattle.history_check.specs.declared.opened.OpenId.{OpenId}
+use Rattle.history_check.specs.Opened.{AreAllOpened, AreClosed, AreOpened, opened_after, opened_ids, parent_of}
+use Rattle.history_check.proofs.GivenSteps.{giving_below, giving_next}
+use Rattle.history_check.proofs.Parents.{parent_push, sub_parent, top_parent}
+
+abbrev pub HasIts : List Event → OpenId → Type 0
+HasIts h o = o.parent ≡ parent_of h o.id
+
+-- the parents of what is open stay
+still_its : (base : Counters) (h : List Event) (e : Event) (xs : List OpenId) → IsLegal base h → MayCome base h e → ((x : ℕ) → Has (opened_ids xs) x → Has (given h) x) → AllByRecursion (HasIts h) xs → AllByRecursion (HasIts (h ++ e ∷ [])) xs
+still_its base h e [] legal may g a = tt
+still_its base h e (o ∷ xs) legal may g a = (a.0 ∙ sym (parent_push base h e o.id legal may (g o.id (inl refl))), still_its base h e xs legal may (λ x k. g x (inr k)) a.1)
+
+its_after : (base : Counters) (h : List Event) (e : Event) (s : ℕ) (xs : List OpenId) → IsLegal base h → MayCome base h e → AreOpened h s xs → AllByRecursion (HasIts (h ++ e ∷ [])) xs
+its_after base h e s xs legal may a = still_its base h e xs legal may (λ x k. open_given s h x (subst (λ t. Has t x) a.ids k)) a.parents
+
+-- nothing of the session's changed
+same_ids : (base : Counters) (h : List Event) (e : Event) (s : ℕ) (xs : List OpenId) → IsLegal base h → MayCome base h e → open_ids s (h ++ e ∷ []) ≡ open_ids s h → AreOpened h s xs → AreOpened (h ++ e ∷ []) s xs
+same_ids base h e s xs legal may same a = record { ids = a.ids ∙ sym same; parents = its_after base h e s xs legal may a }
+
+pub others_opened : (base : Counters) (h : List Event) (e : Event) (s : ℕ) (xs : List OpenId) → IsLegal base h → MayCome base h e → (by_of e).session ≢ s → AreOpened h s xs → AreOpened (h ++ e ∷ []) s xs
+others_opened base h e s xs legal may other a = same_ids base h e s xs legal may (open_ids_other base h e s legal may other) a
+
+-- one id more
+one_opened : (base : Counters) (h : List Event) (e : Event) (n : ℕ) (parent : Option ℕ) (xs : List OpenId) → IsLegal base h → MayCome base h e → IsGiving h e n → parent ≡ parent_of (h ++ e ∷ []) n → AreOpened h (by_of e).session xs → AreOpened (h ++ e ∷ []) (by_of e).session (xs ++ record { id = n; parent = parent } ∷ [])
+one_opened base h e n parent xs legal may gives is a = record {
+  ids = map_push (λ (o : OpenId). o.id) xs (record { id = n; parent = parent }) ∙ ap (λ t. t ++ n ∷ []) a.ids
+      ∙ ap (λ b. open_ids (by_of e).session h ++ cond b (n ∷ []) []) (sym (eqb-refl (by_of e).session)) ∙ sym (giving_open_ids (by_of e).session h e n gives);
+  parents = all_push (HasIts (h ++ e ∷ [])) xs (record { id = n; parent = parent }) (its_after base h e (by_of e).session xs legal may a) is;
+}
+
+-- the ids of a filtered list, where the tests agree on them
+left : (p q : ℕ → Bool) (xs : List ℕ) → ((x : ℕ) → Has xs x → p x ≡ q x) → filter p xs ≡ filter q xs
+left p q [] f = refl
+left p q (x ∷ xs) f = ap (λ b. cond b (x ∷ filter p xs) (filter p xs)) (f x (inl refl)) ∙ ap (λ t. cond (q x) (x ∷ t) t) (left p q xs (λ y k. f y (inr k)))
+
+undo_opened : (base : Counters) (h : List Event) (by : By) (id : ℕ) (closed : List ℕ) (xs : List OpenId) → IsLegal base h → MayCome base h (events.Undo by id) → closed ≡ filter (is_inside h id) (open_ids by.session h) → AreOpened h by.session xs → AreOpened (h ++ events.Undo by id ∷ []) by.session (filter (λ (o : OpenId). not (has closed o.id)) xs)
+undo_opened base h by id closed xs legal may is a = record {
+  ids = map_filter (λ (o : OpenId). o.id) (λ x. not (has closed x)) xs ∙ ap (filter (λ x. not (has closed x))) a.ids
+      ∙ left (λ x. not (has closed x)) (λ x. not (is_inside h id x)) (open_ids by.session h) (λ x k. ap not (ap (λ t. has t x) is ∙ has-filter (is_inside h id) (open_ids by.session h) x ∙ ap (λ b. b && is_inside h id x) (has_true (open_ids by.session h) x k)))
+      ∙ sym (closing_open_ids by.session h (events.Undo by id) (λ x. not (is_inside h id x)) (closing_undo h by id));
+  parents = all_filter (HasIts (h ++ events.Undo by id ∷ [])) (λ (o : OpenId). not (has closed o.id)) xs (its_after base h (events.Undo by id) by.session xs legal may a);
+}
+
+none_left : (p : ℕ → Bool) (xs : List ℕ) → ((x : ℕ) → Has xs x → p x ≡ false) → filter p xs ≡ []
+none_left p [] f = refl
+none_left p (x ∷ xs) f = ap (λ b. cond b (x ∷ filter p xs) (filter p xs)) (f x (inl refl)) ∙ none_left p xs (λ y k. f y (inr k))
+
+-- an end closes all, since they have one top
+end_opened : (base : Counters) (h : List Event) (e : Event) (s t : ℕ) → IsLegal base h → Contains (open_ids s h) t × (is_top h t ≡ true) → IsClosing h e (λ x. not (t == top h x)) → AreOpened (h ++ e ∷ []) s []
+end_opened base h e s t legal may closes = record {
+  ids = sym (closing_open_ids s h e (λ x. not (t == top h x)) closes ∙ none_left (λ x. not (t == top h x)) (open_ids s h) (λ x k. ap not (eq-eqb t (top h x) (sym (eqb-true (top h t) t may.1) ∙ one_top base h legal s t x (contains_has (open_ids s h) t may.0) k))));
+  parents = tt;
+}
+
+pub its_opened : (base : Counters) (h : List Event) (e : Event) (closed : List ℕ) (xs : List OpenId) → IsLegal base h → MayCome base h e → AreClosed e h closed → AreOpened h (by_of e).session xs → AreOpened (h ++ e ∷ []) (by_of e).session (opened_after closed e xs)
+its_opened base h (events.Id by id) closed xs legal may c a = one_opened base h (events.Id by id) id None xs legal may (giving_next base h by id legal may) (top_parent base h by id legal may) a
+its_opened base h (events.Sub by parent id) closed xs legal may c a = one_opened base h (events.Sub by parent id) id (Some parent) xs legal may (giving_below base h by parent id legal may) (sub_parent base h by parent id legal may) a
+its_opened base h (events.Undo by id) closed xs legal may c a = undo_opened base h by id closed xs legal may c a
+its_opened base h (events.Commit by t) closed xs legal may c a = end_opened base h (events.Commit by t) by.session t legal may (closing_commit h by t)
+its_opened base h (events.Abort by t) closed xs legal may c a = end_opened base h (events.Abort by t) by.session t legal may (closing_abort h by t)
+its_opened base h (events.Snap by name) closed xs legal may c a = same_ids base h (events.Snap by name) by.session xs legal may (quiet_open_ids by.session h (events.Snap by name) tt) a
+its_opened base h (events.SnapDrop by name) closed xs legal may c a = same_ids base h (events.SnapDrop by name) by.session xs legal may (quiet_open_ids by.session h (events.SnapDrop by name) tt) a
+its_opened base h (events.Oldest by oldest) closed xs legal may c a = same_ids base h (events.Oldest by oldest) by.session xs legal may (quiet_open_ids by.session h (events.Oldest by oldest) tt) a
+its_opened base h (events.Ask by id) closed xs legal may c a = same_ids base h (events.Ask by id) by.session xs legal may (quiet_open_ids by.session h (events.Ask by id) tt) a
+
+-- ---- all sessions
+
+pub all_opened : (base : Counters) (h : List Event) (e : Event) (n : ℕ) (closed : List ℕ) (lists : List (Vec OpenId)) (v : Vec OpenId) → IsLegal base h → MayCome base h e → (by_of e).session < n → AreClosed e h closed → AreAllOpened h n lists → ((d : Vec OpenId) → v.items ≡ opened_after closed e (get_or lists (by_of e).session d).items) → AreAllOpened (h ++ e ∷ []) n (set lists (by_of e).session v)
+all_opened base h e n closed lists v legal may l c a is = record {
+  size = length-set lists (by_of e).session v ∙ a.size;
+  each = λ s m d. ⊎_elim
+      (λ (own : ((by_of e).session == s) ≡ true).
+      let same : (by_of e).session ≡ s = eqb-true (by_of e).session s own in
+      let now : get_or (set lists (by_of e).session v) s d ≡ v = ap (λ t. get_or (set lists (by_of e).session v) t d) (sym same) ∙ get_or-set_same lists (by_of e).session v d (subst (λ k. (by_of e).session < k) (sym a.size) l) in
+      subst (λ t. AreOpened (h ++ e ∷ []) t (get_or (set lists (by_of e).session v) s d).items) same
+      (subst (λ (w : Vec OpenId). AreOpened (h ++ e ∷ []) (by_of e).session w.items) (sym now)
+      (subst (AreOpened (h ++ e ∷ []) (by_of e).session) (sym (is d)) (its_opened base h e closed (get_or lists (by_of e).session d).items legal may c (a.each (by_of e).session l d)))))
+      (λ (other : ((by_of e).session == s) ≡ false).
+      let apart : (by_of e).session ≢ s = λ q. false≢true (sym other ∙ ap (λ y. y == s) q ∙ eqb-refl s) in
+      let now : get_or (set lists (by_of e).session v) s d ≡ get_or lists s d = get_or-set_other lists (by_of e).session s v d (λ q. apart (sym q)) in
+      subst (λ (w : Vec OpenId). AreOpened (h ++ e ∷ []) s w.items) (sym now) (others_opened base h e s (get_or lists s d).items legal may apart (a.each s m d)))
+      (cases_Bool ((by_of e).session == s));
+}

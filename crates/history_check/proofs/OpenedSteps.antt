@@ -1,0 +1,218 @@
+-- What is kept of the open ids goes along with the history.
+use Rattle.std.proofs.Common.{◌≡◌, ◌≢◌, ℕ, ◌+◌, ◌<◌, ◌≤◌, suc, zero, List, [], ◌∷◌, ◌++◌, Option, Some, None, map, refl, ap, sym, subst, ◌∙◌, inl, inr, ⊎_elim, Bool, true, false, cond, not, ◌==◌, ◌||◌, ◌&&◌, append-nil, take, length, get_or, arith, Contains, eqb-true, eq-eqb, is_none, is_some, IsTrue, ◌↔◌, Result, Ok, Err}
+use Rattle.std.specs.Global.{Vec}
+use Rattle.std.specs.Prelude.{IfOk}
+use Rattle.tx_events.specs.declared.sequence.Memory.{Memory}
+use Rattle.std.specs.List.{AllByRecursion, filter, find, slice_get}
+use Rattle.std.proofs.lemmas.Bool.{cases_Bool, false≢true, false_from_ne_true}
+use Rattle.std.proofs.lemmas.List.{map_push, take_more}
+use Rattle.std.proofs.lemmas.List.Elements.{filter-append}
+use Rattle.tx_events.specs.declared.event.By.{By}
+use Rattle.tx_events.specs.declared.event.Event.{Event}
+use Rattle.tx_events.specs.declared.event.Event.TheVariants as events
+use Rattle.tx_events.specs.declared.record.Counters.{Counters}
+use Rattle.tx_events.specs.Events.{by_of, given, given_to}
+use Rattle.tx_events.specs.Families.{is_top, top}
+use Rattle.tx_events.specs.History.{IsLegal, MayCome, next_given}
+use Rattle.tx_events.specs.IdLists.{has, Ascending}
+use Rattle.tx_events.specs.Running.{is_open, open_ids}
+use Rattle.tx_events.specs.Savepoints.{is_inside}
+use Rattle.tx_events.proofs.Closing.{one_top}
+use Rattle.tx_events.proofs.ClosingGrowth.{closing_abort, closing_commit, closing_open_ids, closing_undo, IsClosing}
+use Rattle.tx_events.proofs.GivenIds.{legal_front, legal_last, open_given}
+use Rattle.tx_events.proofs.GivenGrowth.{given_to_new, given_to_none}
+use Rattle.tx_events.proofs.NameBounds.{AreBelow, given_to_below}
+use Rattle.tx_events.proofs.GivingGrowth.{giving_open_ids, IsGiving}
+use Rattle.tx_events.proofs.IdListSteps.{ascending_filtered, ascending_push, has-filter, has_true}
+use Rattle.tx_events.proofs.ListSteps.{all_filter, all_push, eqb-refl, filter_agree_where}
+use Rattle.tx_events.proofs.Membership.{Has, all_at, by_end, contains_has, has_contains}
+use Rattle.tx_events.proofs.OpenIds.{open_ids_other}
+use Rattle.tx_events.proofs.QuietGrowth.{IsQuiet, quiet_open_ids}
+use Rattle.tx_events.proofs.Soundness.{legal_sound}
+use Rattle.history_check.specs.declared.opened.OpenId.{OpenId}
+use Rattle.history_check.specs.Opened.{AreClosed, AreOpened, is_closed_below, is_inside_by, opened_after, opened_ids, parent_of}
+use Rattle.history_check.proofs.GivenSteps.{giving_below, giving_next}
+use Rattle.history_check.proofs.Parents.{HasNone, HasParent, inside_above, inside_none, is_no_top, is_top_of_none, parent_below, parent_open, parent_push, parents, sub_parent, top_parent}
+
+-- ---- the list of a session ascends
+
+push_where : (xs : List ℕ) (n : ℕ) (b : Bool) → Ascending xs → AllByRecursion (λ x. x < n) xs → Ascending (xs ++ cond b (n ∷ []) [])
+push_where xs n true a l = ascending_push xs n a l
+push_where xs n false a l = subst Ascending (sym (append-nil xs)) a
+
+more_given : (base : Counters) (h : List Event) (e : Event) (s n : ℕ) → IsLegal base h → given (e ∷ []) ≡ n ∷ [] → n ≡ next_given base.next h → Ascending (given_to s h) → Ascending (given_to s (h ++ e ∷ []))
+more_given base h e s n legal gives is a =
+    subst Ascending (sym (given_to_new s h e n gives)) (push_where (given_to s h) n ((by_of e).session == s) a (given_to_below n s h (subst (λ m. AreBelow m h) (sym is) (legal_sound base h legal).below)))
+
+none_given : (h : List Event) (e : Event) (s : ℕ) → given (e ∷ []) ≡ [] → Ascending (given_to s h) → Ascending (given_to s (h ++ e ∷ []))
+none_given h e s gives a = subst Ascending (sym (given_to_none s h e gives)) a
+
+given_step : (base : Counters) (h : List Event) (e : Event) (s : ℕ) → IsLegal base h → MayCome base h e → Ascending (given_to s h) → Ascending (given_to s (h ++ e ∷ []))
+given_step base h (events.Id by id) s legal may a = more_given base h (events.Id by id) s id legal refl may.0.next a
+given_step base h (events.Sub by parent id) s legal may a = more_given base h (events.Sub by parent id) s id legal refl may.0.next a
+given_step base h (events.Undo by id) s legal may a = none_given h (events.Undo by id) s refl a
+given_step base h (events.Commit by t) s legal may a = none_given h (events.Commit by t) s refl a
+given_step base h (events.Abort by t) s legal may a = none_given h (events.Abort by t) s refl a
+given_step base h (events.Snap by name) s legal may a = none_given h (events.Snap by name) s refl a
+given_step base h (events.SnapDrop by name) s legal may a = none_given h (events.SnapDrop by name) s refl a
+given_step base h (events.Oldest by oldest) s legal may a = none_given h (events.Oldest by oldest) s refl a
+given_step base h (events.Ask by id) s legal may a = none_given h (events.Ask by id) s refl a
+
+given_to_ascends : (base : Counters) (s : ℕ) (h : List Event) → IsLegal base h → Ascending (given_to s h)
+given_to_ascends base s = by_end (λ h. IsLegal base h → Ascending (given_to s h))
+    (λ legal. tt)
+    (λ h e before legal. given_step base h e s (legal_front base h e legal) (legal_last base h e legal) (before (legal_front base h e legal)))
+
+open_ascend : (base : Counters) (h : List Event) (s : ℕ) → IsLegal base h → Ascending (open_ids s h)
+open_ascend base h s legal = ascending_filtered (is_open h) (given_to s h) (given_to_ascends base s h legal)
+
+pub opened_ascend : (base : Counters) (h : List Event) (s : ℕ) (opened : List OpenId) → IsLegal base h → AreOpened h s opened → Ascending (opened_ids opened)
+opened_ascend base h s opened legal a = subst Ascending (sym a.ids) (open_ascend base h s legal)
+
+-- ---- an id is found among the open ones
+
+abbrev pub IsFound : List Event → List OpenId → ℕ → OpenId → Type 0
+IsFound h opened x o = Has (opened_ids opened) x × (o.id ≡ x) × (o.parent ≡ parent_of h o.id)
+
+found_in : (h : List Event) (opened : List OpenId) (x : ℕ) (o : OpenId) → AllByRecursion (λ (o : OpenId). o.parent ≡ parent_of h o.id) opened → find (λ (o : OpenId). o.id == x) opened ≡ Some o → IsFound h opened x o
+found_in h [] x o a e = absurd cc
+found_in h (p ∷ opened) x o a e = split (p.id == x) refl (λ f. found_in h opened x o a.1 f)
+  where
+    split : (b : Bool) → (p.id == x) ≡ b → (find (λ (o : OpenId). o.id == x) opened ≡ Some o → IsFound h opened x o) → IsFound h (p ∷ opened) x o
+    split true q more =
+        let f : Some p ≡ Some o = ap (λ b. cond b (Some p) (find (λ (o : OpenId). o.id == x) opened)) (sym q) ∙ e in
+        let g : p ≡ o = cc in
+        (inl (eqb-true p.id x q), ap (λ (o : OpenId). o.id) (sym g) ∙ eqb-true p.id x q, subst (λ (o : OpenId). o.parent ≡ parent_of h o.id) g a.0)
+    split false q more =
+        let r = more (ap (λ b. cond b (Some p) (find (λ (o : OpenId). o.id == x) opened)) (sym q) ∙ e) in
+        (inr r.0, r.1, r.2)
+
+missed : (opened : List OpenId) (x : ℕ) → find (λ (o : OpenId). o.id == x) opened ≡ None → Has (opened_ids opened) x → ⊥
+missed [] x e k = k
+missed (p ∷ opened) x e k = split (p.id == x) refl (λ f j. missed opened x f j)
+  where
+    split : (b : Bool) → (p.id == x) ≡ b → (find (λ (o : OpenId). o.id == x) opened ≡ None → Has (opened_ids opened) x → ⊥) → ⊥
+    split true q more = let f : Some p ≡ None = ap (λ b. cond b (Some p) (find (λ (o : OpenId). o.id == x) opened)) (sym q) ∙ e in absurd cc
+    split false q more = ⊎_elim (λ (same : p.id ≡ x). false≢true (sym q ∙ eq-eqb p.id x same)) (λ j. more (ap (λ b. cond b (Some p) (find (λ (o : OpenId). o.id == x) opened)) (sym q) ∙ e) j) k
+
+pub record IsOpenId (h : List Event) (s x : ℕ) (o : OpenId) : Type 0 where
+  pub opened : Has (open_ids s h) x
+  pub parent : o.parent ≡ parent_of h x
+
+pub found_open : (h : List Event) (s : ℕ) (opened : List OpenId) (x : ℕ) (o : OpenId) → AreOpened h s opened → find (λ (o : OpenId). o.id == x) opened ≡ Some o → IsOpenId h s x o
+found_open h s opened x o a e =
+    let f = found_in h opened x o a.parents e in
+    record { opened = subst (λ t. Has t x) a.ids f.0; parent = f.2 ∙ ap (parent_of h) f.1 }
+
+pub not_open : (h : List Event) (s : ℕ) (opened : List OpenId) (x : ℕ) → AreOpened h s opened → find (λ (o : OpenId). o.id == x) opened ≡ None → Contains (open_ids s h) x → ⊥
+not_open h s opened x a e k = missed opened x e (subst (λ t. Has t x) (sym a.ids) (contains_has (open_ids s h) x k))
+
+-- an open id is a top where it has no parent
+top_by_parent : (base : Counters) (h : List Event) (s x : ℕ) (o : Option ℕ) → IsLegal base h → Has (open_ids s h) x → o ≡ parent_of h x → is_none o ≡ is_top h x
+top_by_parent base h s x o legal k e =
+    let given = open_given s h x k in
+    ⊎_elim
+    (λ (a : HasParent h x). ap is_none (e ∙ a.is) ∙ sym (is_no_top base h x a legal given))
+    (λ (a : HasNone h x). ap is_none (e ∙ a.is) ∙ sym (is_top_of_none h x a))
+    (parents base h legal x given)
+
+pub none_told : {X : Type 0} (p : Option X) (b : Bool) → is_some p ≡ not b → is_none p ≡ b
+none_told None true e = refl
+none_told None false e = absurd cc
+none_told (Some x) true e = absurd cc
+none_told (Some x) false e = refl
+
+pub found_top : (base : Counters) (h : List Event) (s : ℕ) (opened : List OpenId) (x : ℕ) (o : OpenId) → IsLegal base h → AreOpened h s opened → find (λ (o : OpenId). o.id == x) opened ≡ Some o → IsTrue (is_none o.parent) ↔ (Contains (open_ids s h) x × (is_top h x ≡ true))
+found_top base h s opened x o legal a e =
+    let f = found_open h s opened x o a e in
+    let same = top_by_parent base h s x o.parent legal f.opened f.parent in
+    (λ t. (has_contains (open_ids s h) x f.opened, sym same ∙ t), λ c. same ∙ c.1)
+
+pub found_sub : (base : Counters) (h : List Event) (s : ℕ) (opened : List OpenId) (x : ℕ) (o : OpenId) → IsLegal base h → AreOpened h s opened → find (λ (o : OpenId). o.id == x) opened ≡ Some o → IsTrue (is_some o.parent) ↔ (Contains (open_ids s h) x × (is_top h x ≡ false))
+found_sub base h s opened x o legal a e =
+    let f = found_open h s opened x o a e in
+    let same = top_by_parent base h s x o.parent legal f.opened f.parent in (
+      λ t. (has_contains (open_ids s h) x f.opened, sym same ∙ (both o.parent).0 t),
+      λ c. (both o.parent).1 (same ∙ c.1),
+    )
+  where
+    both : (p : Option ℕ) → (is_some p ≡ true → is_none p ≡ false) × (is_none p ≡ false → is_some p ≡ true)
+    both None = (λ e. absurd cc, λ e. absurd cc)
+    both (Some n) = (λ e. refl, λ e. refl)
+
+pub found_iff : (h : List Event) (s : ℕ) (opened : List OpenId) (x : ℕ) (r : Option OpenId) → AreOpened h s opened → r ≡ find (λ (o : OpenId). o.id == x) opened → IsTrue (is_some r) ↔ Contains (open_ids s h) x
+found_iff h s opened x None a e = (λ t. absurd cc, λ c. absurd (not_open h s opened x a (sym e) c))
+found_iff h s opened x (Some o) a e = (λ t. has_contains (open_ids s h) x (found_open h s opened x o a (sym e)).opened, λ c. refl)
+
+-- ---- what an undo closes
+
+earlier : (xs : List OpenId) (i : ℕ) (d : OpenId) (p : ℕ) → Ascending (opened_ids xs) → i < length xs → p < (get_or xs i d).id → Has (opened_ids xs) p → Has (opened_ids (take i xs)) p
+earlier [] i d p a l low k = absurd k
+earlier (o ∷ xs) zero d p a l low k = ⊎_elim (λ (e : o.id ≡ p). absurd (omega arith)) (λ j. absurd (let f : o.id < p = all_at (λ y. o.id < y) (opened_ids xs) p a.0 j in omega arith)) k
+earlier (o ∷ xs) (suc i) d p a l low k = ⊎_elim (λ (e : o.id ≡ p). inl e) (λ j. inr (earlier xs i d p a.1 (omega arith) low j)) k
+
+parent_at : (h : List Event) (xs : List OpenId) (i : ℕ) (d : OpenId) → AllByRecursion (λ (o : OpenId). o.parent ≡ parent_of h o.id) xs → i < length xs → (get_or xs i d).parent ≡ parent_of h (get_or xs i d).id
+parent_at h [] i d a l = absurd (omega arith)
+parent_at h (o ∷ xs) zero d a l = a.0
+parent_at h (o ∷ xs) (suc i) d a l = parent_at h xs i d a.1 (omega arith)
+
+stands : (xs : List OpenId) (i : ℕ) (d : OpenId) → i < length xs → Has (opened_ids xs) (get_or xs i d).id
+stands [] i d l = absurd (omega arith)
+stands (o ∷ xs) zero d l = inl refl
+stands (o ∷ xs) (suc i) d l = inr (stands xs i d (omega arith))
+
+-- an open id is inside of a savepoint by its parent, which stands before it
+by_parent : (base : Counters) (h : List Event) (s id : ℕ) (opened : List OpenId) (i : ℕ) (d : OpenId) → IsLegal base h → AreOpened h s opened → i < length opened → is_inside_by id (filter (is_inside h id) (opened_ids (take i opened))) (get_or opened i d).id (get_or opened i d).parent ≡ is_inside h id (get_or opened i d).id
+by_parent base h s id opened i d legal a l =
+    let x = (get_or opened i d).id in
+    let mine : Has (open_ids s h) (get_or opened i d).id = subst (λ t. Has t (get_or opened i d).id) a.ids (stands opened i d l) in
+    let given = open_given s h (get_or opened i d).id mine in
+    let told = parent_at h opened i d a.parents l in
+    ⊎_elim
+    (λ (p : HasParent h (get_or opened i d).id).
+    let up : Has (open_ids s h) p.parent = parent_open base h s (get_or opened i d).id p legal mine in
+    let low : p.parent < (get_or opened i d).id = parent_below base h (get_or opened i d).id p legal given in
+    let before : Has (opened_ids (take i opened)) p.parent = earlier opened i d p.parent (opened_ascend base h s opened legal a) l low (subst (λ t. Has t p.parent) (sym a.ids) up) in
+    let counted : has (filter (is_inside h id) (opened_ids (take i opened))) p.parent ≡ is_inside h id p.parent =
+    has-filter (is_inside h id) (opened_ids (take i opened)) p.parent ∙ ap (λ b. b && is_inside h id p.parent) (has_true (opened_ids (take i opened)) p.parent before) in
+    ap (is_inside_by id (filter (is_inside h id) (opened_ids (take i opened))) (get_or opened i d).id) (told ∙ p.is)
+    ∙ ap (λ b. (id == (get_or opened i d).id) || b) counted
+    ∙ sym (inside_above h id (get_or opened i d).id p))
+    (λ (n : HasNone h (get_or opened i d).id).
+    ap (is_inside_by id (filter (is_inside h id) (opened_ids (take i opened))) (get_or opened i d).id) (told ∙ n.is)
+    ∙ sym (inside_none h id (get_or opened i d).id n))
+    (parents base h legal (get_or opened i d).id given)
+
+pub ids_more : (xs : List OpenId) (i : ℕ) (o : OpenId) → i < length xs → o ≡ get_or xs i o → opened_ids (take (i + 1) xs) ≡ opened_ids (take i xs) ++ o.id ∷ []
+ids_more xs i o l e = ap opened_ids (take_more xs i o l ∙ ap (λ y. take i xs ++ y ∷ []) (sym e)) ∙ map_push (λ (o : OpenId). o.id) (take i xs) o
+
+pub inside_more : (base : Counters) (h : List Event) (s id : ℕ) (opened : List OpenId) (i : ℕ) (o : OpenId) (found found' : List ℕ) (b : Bool) → IsLegal base h → AreOpened h s opened → i < length opened → o ≡ get_or opened i o → found ≡ filter (is_inside h id) (opened_ids (take i opened)) → found' ≡ found ++ cond b (o.id ∷ []) [] → b ≡ is_closed_below id found o → found' ≡ filter (is_inside h id) (opened_ids (take (i + 1) opened))
+inside_more base h s id opened i o found found' b legal a l is f g t =
+    let inside : b ≡ is_inside h id o.id =
+    t ∙ ap (λ xs. is_inside_by id xs o.id o.parent) f
+    ∙ ap (λ (y : OpenId). is_inside_by id (filter (is_inside h id) (opened_ids (take i opened))) y.id y.parent) is
+    ∙ by_parent base h s id opened i o legal a l ∙ ap (λ (y : OpenId). is_inside h id y.id) (sym is) in
+    g ∙ ap (λ t. t ++ cond b (o.id ∷ []) []) f ∙ ap (λ c. filter (is_inside h id) (opened_ids (take i opened)) ++ cond c (o.id ∷ []) []) inside
+    ∙ sym (ap (filter (is_inside h id)) (ids_more opened i o l is) ∙ filter-append (is_inside h id) (opened_ids (take i opened)) (o.id ∷ []))
+
+pub closed_ascend : (base : Counters) (h : List Event) (s : ℕ) (q : ℕ → Bool) → IsLegal base h → Ascending (filter q (open_ids s h))
+closed_ascend base h s q legal = ascending_filtered q (open_ids s h) (open_ascend base h s legal)
+
+pub part_ascends : (base : Counters) (h : List Event) (s : ℕ) (q : ℕ → Bool) (opened : List OpenId) (i : ℕ) → IsLegal base h → AreOpened h s opened → Ascending (filter q (opened_ids (take i opened)))
+part_ascends base h s q opened i legal a = ascending_filtered q (opened_ids (take i opened)) (front opened i (opened_ascend base h s opened legal a))
+  where
+    all_front : (n : ℕ) (xs : List OpenId) (i : ℕ) → AllByRecursion (λ y. n < y) (opened_ids xs) → AllByRecursion (λ y. n < y) (opened_ids (take i xs))
+    all_front n [] zero a = tt
+    all_front n [] (suc i) a = tt
+    all_front n (o ∷ xs) zero a = tt
+    all_front n (o ∷ xs) (suc i) a = (a.0, all_front n xs i a.1)
+
+    front : (xs : List OpenId) (i : ℕ) → Ascending (opened_ids xs) → Ascending (opened_ids (take i xs))
+    front [] zero a = tt
+    front [] (suc i) a = tt
+    front (o ∷ xs) zero a = tt
+    front (o ∷ xs) (suc i) a = (all_front o.id xs i a.0, front xs i a.1)
+
+pub closed_are_ascending : (base : Counters) (h : List Event) (s : ℕ) (q : ℕ → Bool) (r : Result (Vec ℕ) Memory) → IsLegal base h → IfOk r (λ ids. ids.items ≡ filter q (open_ids s h)) → IfOk r (λ ids. Ascending ids.items)
+closed_are_ascending base h s q (Ok ids) legal f = subst Ascending (sym f) (closed_ascend base h s q legal)
+closed_are_ascending base h s q (Err e) legal f = tt

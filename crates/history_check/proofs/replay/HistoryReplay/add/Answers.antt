@@ -1,0 +1,67 @@
+use Rattle.std.proofs.Common.{◌≡◌, ◌<◌, ◌≤◌, ◌↔◌, IsTrue, ap, sym, subst, refl, ◌∙◌, length, set, arith}
+use Rattle.std.specs.Global.{Vec}
+use Rattle.std.proofs.lemmas.List.{length-set}
+use Rattle.history_check.specs.declared.opened.OpenId.{OpenId}
+use Rattle.std.specs.List.{slice_index}
+use Rattle.std.proofs.lemmas.Bool.{false≢true}
+use Rattle.tx_events.specs.declared.event.By.{By}
+use Rattle.tx_events.specs.Events.{by_of}
+use Rattle.proc_table.specs.Table.{InTurn}
+use Rattle.history_check.specs.GivenIds.{AreKept, given_after}
+use Rattle.history_check.specs.Opened.{opened_after, opened_ids}
+use Rattle.history_check.specs.Replays.{IsLawfulNext, IsReplay, Replayed}
+use Rattle.history_check.proofs.AddLemmas.{replay_roomier, replay_stays, same_default, turn_of, view_after, within_table}
+use Rattle.history_check.proofs.GivenSteps.{kept_ascend}
+use Rattle.history_check.proofs.ReplaySteps.{replay_after}
+use Rattle.history_check.proofs.TurnLemmas.{written_back}
+use Rattle.history_check.proofs.replay.HistoryReplay.add.Goals as goal
+
+pub returns-then-not-is_in_turn-clause-refused : goal.returns-then-not-is_in_turn-clause-refused
+returns-then-not-is_in_turn-clause-refused c = λ f. (
+  λ n.
+      let its = subst (λ (r : Replayed). IsLawfulNext r c.args.event.now) (sym c.self.view_is) n in
+      false≢true (sym c.if-not-is_in_turn.true ∙ (turn_of c.self.inside.table c.args.self.now c.args.event.now c.by_of-by.result c.self.inside.last.items c.as_slice.result.now c.is_in_turn.result c.self.view_is c.self.invariant.turns c.as_slice.ensures.value c.requires c.by_of-by.ensures c.is_in_turn.ensures).1 its.1),
+  refl,
+)
+
+pub invariant_of-self-in_err-make_one_room-2 : goal.invariant_of-self-in_err-make_one_room-2
+invariant_of-self-in_err-make_one_room-2 c =
+    replay_roomier c.self.inside.table c.self.inside.last.items c.self.inside.opened.items c.self.inside.given.items c.make_one_room.new.items.items c.args.event.now c.by_of-by.result c.make_one_room-2.new.items c.index_mut.result.now c.self.invariant
+    (within_table c.self.inside.table c.args.self.now c.args.event.now c.self.view_is c.requires) c.by_of-by.ensures c.index_mut.ensures.value c.make_one_room-2.ensures.items c.make_one_room.ensures.items
+
+pub go_on-requires-clause-turn : goal.go_on-requires-clause-turn
+go_on-requires-clause-turn c =
+    (turn_of c.self.inside.table c.args.self.now c.args.event.now c.by_of-by.result c.self.inside.last.items c.as_slice.result.now c.is_in_turn.result c.self.view_is c.self.invariant.turns c.as_slice.ensures.value c.requires c.by_of-by.ensures c.is_in_turn.ensures).0 c.if-not-is_in_turn.false
+
+pub invariant_of-self-in_err-go_on : goal.invariant_of-self-in_err-go_on
+invariant_of-self-in_err-go_on c =
+    replay_stays c.self.inside.table c.go_on.new.table c.self.inside.last.items (set c.self.inside.opened.items c.by_of-by.result.session c.make_one_room-2.new.items) c.make_one_room.new.items.items c.in_err-go_on.ensures.err
+    (replay_roomier c.self.inside.table c.self.inside.last.items c.self.inside.opened.items c.self.inside.given.items c.make_one_room.new.items.items c.args.event.now c.by_of-by.result c.make_one_room-2.new.items c.index_mut.result.now c.self.invariant
+    (within_table c.self.inside.table c.args.self.now c.args.event.now c.self.view_is c.requires) c.by_of-by.ensures c.index_mut.ensures.value c.make_one_room-2.ensures.items c.make_one_room.ensures.items)
+
+pub note_given-requires-clause-order : goal.note_given-requires-clause-order
+note_given-requires-clause-order c =
+    kept_ascend c.self.inside.table.base c.self.inside.table.events c.make_one_room.new.items.items c.events.ensures.legal (subst (AreKept c.self.inside.table.events) (sym c.make_one_room.ensures.items) c.self.invariant.given)
+
+pub invariant_of-self-2 : goal.invariant_of-self-2
+invariant_of-self-2 c =
+    let within = within_table c.self.inside.table c.args.self.now c.args.event.now c.self.view_is c.requires in
+    let roomier = replay_roomier c.self.inside.table c.self.inside.last.items c.self.inside.opened.items c.self.inside.given.items c.make_one_room.new.items.items c.args.event.now c.by_of-by.result c.make_one_room-2.new.items c.index_mut.result.now c.self.invariant within c.by_of-by.ensures c.index_mut.ensures.value c.make_one_room-2.ensures.items c.make_one_room.ensures.items in
+    replay_after c.self.inside.table c.go_on.new.table c.args.event.now c.self.inside.last.items _ (set c.self.inside.opened.items c.by_of-by.result.session c.make_one_room-2.new.items) _ c.make_one_room.new.items.items c.note_given.new.items.items c.in_ok-closed.closed.items c.note_opened.new.opened c.by_of-by.result (opened_ids c.as_slice-5.result.now)
+    c.events.ensures.legal roomier (c.may_come.ensures.0 c.if-not-may_come.false) within c.by_of-by.ensures
+    (subst (λ l. slice_index l c.by_of-by.result.session ≤ c.by_of-by.result.command) c.as_slice.ensures.value (c.is_in_turn.ensures.0 c.if-not-is_in_turn.false))
+    c.in_ok-go_on.ensures.ok c.in_ok-closed.ensures.closed
+    (written_back c.self.inside.last.len c.note.new.last c.self.inside.last.items (ap length c.note.ensures ∙ length-set c.deref_mut.result.now c.by_of-by.result.session c.by_of-by.result.command ∙ ap length c.deref_mut.ensures.value) (omega arith) ∙ c.note.ensures ∙ ap (λ l. set l c.by_of-by.result.session c.by_of-by.result.command) c.deref_mut.ensures.value)
+    refl c.index_mut-2.result.now c.index_mut-2.ensures.value
+    (c.note_opened.ensures ∙ ap (λ l. opened_after l c.args.event.now c.index_mut-2.result.now.items) c.as_slice-6.ensures.value)
+    (ap opened_ids c.as_slice-5.ensures.value ∙ ap (λ (v : Vec OpenId). opened_ids v.items) (c.index-3.ensures ∙ same_default (set c.self.inside.opened.items c.by_of-by.result.session c.make_one_room-2.new.items) c.by_of-by.result.session c.index-3.result.now c.index_mut-2.result.now (subst (λ n. c.by_of-by.result.session < n) (sym roomier.opened.size) (subst (λ (b : By). b.session < c.self.inside.table.sessions) (sym c.by_of-by.ensures) within)) ∙ sym c.index_mut-2.ensures.value))
+    (c.note_given.ensures ∙ ap (λ n. given_after (opened_ids c.as_slice-5.result.now) n c.args.event.now c.make_one_room.new.items.items) (ap length c.events.ensures.value))
+
+pub returns-clause-added : goal.returns-clause-added
+returns-clause-added c = λ f. (
+  subst (λ (r : Replayed). IsLawfulNext r c.args.event.now) c.self.view_is (
+    c.may_come.ensures.0 c.if-not-may_come.false,
+    (turn_of c.self.inside.table c.args.self.now c.args.event.now c.by_of-by.result c.self.inside.last.items c.as_slice.result.now c.is_in_turn.result c.self.view_is c.self.invariant.turns c.as_slice.ensures.value c.requires c.by_of-by.ensures c.is_in_turn.ensures).0 c.if-not-is_in_turn.false,
+  ),
+  view_after c.self.inside.table c.go_on.new.table c.args.self.now c.args.event.now c.self.view_is c.in_ok-go_on.ensures.ok,
+)

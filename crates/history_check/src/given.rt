@@ -1,0 +1,90 @@
+//! What is kept of the ids that were given: where each was committed.
+ghost use Rattle.std.specs.Prelude.{◌≡◌, ◌≤◌, ◌<◌, List, [], ◌∷◌, ◌++◌, IfSome, IfNone, length, map, take};
+ghost use Rattle.std.specs.Vec.{vec_len, vec_capacity};
+ghost use Rattle.tx_events.specs.declared.event.Event.{Event};
+ghost use Rattle.tx_events.specs.declared.record.Counters.{Counters};
+ghost use Rattle.tx_events.specs.History.{IsLegal};
+ghost use Rattle.tx_events.specs.IdLists.{Ascending};
+ghost use Rattle.history_check.specs.GivenIds.{AreKept, IsMissing, IsPlaceOf, given_after, given_ids, is_committed, was_before, with_place};
+ghost use Rattle.history_check.specs.Opened.{opened_ids};
+
+use crate::opened::OpenId;
+use tx_events::{Event, FullXid};
+
+/// What is kept of an id that was given.
+#[derive(Clone, Copy, Debug, PartialEq, Eq)]
+pub struct GivenId {
+    pub id: FullXid,
+    /// The place of the event by which it committed, if it did.
+    pub committed: Option<u64>,
+}
+
+/// Where the id is kept. None where it isn't.
+fn place_of(items: &[GivenId], x: FullXid) -> Option<usize>
+    requires { Ascending (given_ids items.now) }
+    ensures some { IfSome result (IsPlaceOf items.now x) }
+    ensures none { IfNone result (IsMissing items.now x) }
+{
+    items.binary_search_by_key(&x, |g| g.id).ok()
+}
+
+fn was_before(committed: Option<u64>, place: u64) -> bool
+    ensures { result ≡ was_before committed place }
+{
+    match committed {
+        Some(at) => at < place,
+        None => false,
+    }
+}
+
+/// Whether the id had committed at the place of the history that these ids are of, and no savepoint round it was rolled
+/// back. Takes a binary search.
+pub fn was_committed(items: &[GivenId], place: u64, x: FullXid) -> bool
+    requires { Ascending (given_ids items.now) }
+    ensures { (base : Counters) (h : List Event) → IsLegal base h → AreKept h items.now → place ≤ length h → result ≡ is_committed (take place h) x }
+{
+    match place_of(items, x) {
+        Some(at) => was_before(items[at].committed, place),
+        None => false,
+    }
+}
+
+/// The id was committed at this place.
+fn mark(items: &mut [GivenId], place: u64, x: FullXid)
+    requires { Ascending (given_ids items.old) }
+    ensures { items.new ≡ map (with_place (x ∷ []) place) items.old }
+{
+    if let Some(at) = place_of(items, x) {
+        items[at].committed = Some(place);
+    }
+}
+
+/// These ids were committed at this place.
+fn mark_all(items: &mut [GivenId], place: u64, opened: &[OpenId])
+    requires { Ascending (given_ids items.old) }
+    ensures { items.new ≡ map (with_place (opened_ids opened.now) place) items.old }
+{
+    for o in opened {
+        mark(items, place, o.id);
+    }
+}
+
+/// Keeps what the event at this place says of ids, whose session has these open. For one more there is room.
+pub fn note_given(items: &mut Vec<GivenId>, opened: &[OpenId], place: u64, event: &Event)
+    requires order { Ascending (given_ids items.old.items) }
+    requires room { vec_len items.old < vec_capacity items.old }
+    ensures { items.new.items ≡ given_after (opened_ids opened.now) place event.now items.old.items }
+{
+    match event {
+        Event::Id { id, .. } => items.push_reserved(GivenId {
+            id: *id,
+            committed: None,
+        }),
+        Event::Sub { id, .. } => items.push_reserved(GivenId {
+            id: *id,
+            committed: None,
+        }),
+        Event::Commit { .. } => mark_all(items, place, opened),
+        _ => (),
+    }
+}

@@ -9,6 +9,7 @@ use Rattle.hall.specs.Calls.{start_of}
 use Rattle.notes.specs.Lists.{at}
 use Rattle.tx_events.specs.declared.event.Event.{Event}
 use Rattle.tx_events.specs.declared.record.Counters.{Counters}
+use Rattle.tx_events.specs.declared.record.Rec.{Rec}
 use Rattle.tx_model.specs.declared.report.Life.{Life}
 use Rattle.tx_core.specs.declared.entry.Entry.{Entry}
 use Rattle.tx_core.specs.declared.entry.Start.{Start}
@@ -97,13 +98,13 @@ module _ {L P : Type 0} (l : logs.Ghosts L) (p : disks.Ghosts P) where
     pub fit : Fit l p kept volumes.log volumes.xact.items
     pub unrecorded : (n : ℕ) → (base_at kept n).recorded ≡ []
 
--- the life over a new log that had this history and left this log
-abbrev pub life_told : {D : Type 0} → {g : logs.Ghosts D} → Counters → List Event → WalLog D g → Life
-life_told base events log = record {
-  from = 0;
+-- the life that began from this base with the checkpoint of this number, had this history and left this log
+abbrev pub life_told : {D : Type 0} → {g : logs.Ghosts D} → ℕ → Counters → List ℕ → List Rec → List Event → WalLog D g → Life
+life_told from base committed recorded events log = record {
+  from = from;
   base = base;
-  committed = [];
-  recorded = [];
+  committed = committed;
+  recorded = recorded;
   events = events;
   multis = [];
   recs = log_recs log;

@@ -91,5 +91,3 @@ committed_now base h by t x legal may k =
     spread true true false = refl
     spread true false false = refl
     spread false b c = refl
-
-

@@ -82,8 +82,10 @@ kept_commit base h by t g true e legal may k i =
     or_true : (a : Bool) → (a || true) ≡ true
     or_true true = refl
     or_true false = refl
+
     not_yet : (n p : ℕ) → p ≤ n → nat_lt n p ≡ false
     not_yet n p l = grind (arith, nat_tests)
+
     just_now : (n : ℕ) → nat_lt n (suc n) ≡ true
     just_now n = grind (arith, nat_tests)
 kept_commit base h by t g false e legal may k i =

@@ -43,6 +43,7 @@ mark_more (s ∷ xs) ids p x =
     twice : (c : Bool) → placed c p (record s { committed = Some p }) ≡ record s { committed = Some p }
     twice true = refl
     twice false = refl
+
     one : (b : Bool) → with_place (x ∷ []) p (placed b p s) ≡ placed (b || (has (x ∷ []) s.id)) p s
     one true = twice (has (x ∷ []) s.id)
     one false = refl

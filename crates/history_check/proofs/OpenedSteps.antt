@@ -131,8 +131,7 @@ found_top base h s opened x o legal a e =
 pub found_sub : (base : Counters) (h : List Event) (s : ℕ) (opened : List OpenId) (x : ℕ) (o : OpenId) → IsLegal base h → AreOpened h s opened → find (λ (o : OpenId). o.id == x) opened ≡ Some o → IsTrue (is_some o.parent) ↔ (Contains (open_ids s h) x × (is_top h x ≡ false))
 found_sub base h s opened x o legal a e =
     let f = found_open h s opened x o a e in
-    let same = top_by_parent base h s x o.parent legal f.opened f.parent in
-    (
+    let same = top_by_parent base h s x o.parent legal f.opened f.parent in (
       λ t. (has_contains (open_ids s h) x f.opened, sym same ∙ (both o.parent).0 t),
       λ c. (both o.parent).1 (same ∙ c.1),
     )
@@ -175,7 +174,7 @@ by_parent base h s id opened i d legal a l =
     let low : p.parent < (get_or opened i d).id = parent_below base h (get_or opened i d).id p legal given in
     let before : Has (opened_ids (take i opened)) p.parent = earlier opened i d p.parent (opened_ascend base h s opened legal a) l low (subst (λ t. Has t p.parent) (sym a.ids) up) in
     let counted : has (filter (is_inside h id) (opened_ids (take i opened))) p.parent ≡ is_inside h id p.parent =
-        has-filter (is_inside h id) (opened_ids (take i opened)) p.parent ∙ ap (λ b. b && is_inside h id p.parent) (has_true (opened_ids (take i opened)) p.parent before) in
+    has-filter (is_inside h id) (opened_ids (take i opened)) p.parent ∙ ap (λ b. b && is_inside h id p.parent) (has_true (opened_ids (take i opened)) p.parent before) in
     ap (is_inside_by id (filter (is_inside h id) (opened_ids (take i opened))) (get_or opened i d).id) (told ∙ p.is)
     ∙ ap (λ b. (id == (get_or opened i d).id) || b) counted
     ∙ sym (inside_above h id (get_or opened i d).id p))
@@ -190,9 +189,9 @@ ids_more xs i o l e = ap opened_ids (take_more xs i o l ∙ ap (λ y. take i xs 
 pub inside_more : (base : Counters) (h : List Event) (s id : ℕ) (opened : List OpenId) (i : ℕ) (o : OpenId) (found found' : List ℕ) (b : Bool) → IsLegal base h → AreOpened h s opened → i < length opened → o ≡ get_or opened i o → found ≡ filter (is_inside h id) (opened_ids (take i opened)) → found' ≡ found ++ cond b (o.id ∷ []) [] → b ≡ is_closed_below id found o → found' ≡ filter (is_inside h id) (opened_ids (take (i + 1) opened))
 inside_more base h s id opened i o found found' b legal a l is f g t =
     let inside : b ≡ is_inside h id o.id =
-        t ∙ ap (λ xs. is_inside_by id xs o.id o.parent) f
-        ∙ ap (λ (y : OpenId). is_inside_by id (filter (is_inside h id) (opened_ids (take i opened))) y.id y.parent) is
-        ∙ by_parent base h s id opened i o legal a l ∙ ap (λ (y : OpenId). is_inside h id y.id) (sym is) in
+    t ∙ ap (λ xs. is_inside_by id xs o.id o.parent) f
+    ∙ ap (λ (y : OpenId). is_inside_by id (filter (is_inside h id) (opened_ids (take i opened))) y.id y.parent) is
+    ∙ by_parent base h s id opened i o legal a l ∙ ap (λ (y : OpenId). is_inside h id y.id) (sym is) in
     g ∙ ap (λ t. t ++ cond b (o.id ∷ []) []) f ∙ ap (λ c. filter (is_inside h id) (opened_ids (take i opened)) ++ cond c (o.id ∷ []) []) inside
     ∙ sym (ap (filter (is_inside h id)) (ids_more opened i o l is) ∙ filter-append (is_inside h id) (opened_ids (take i opened)) (o.id ∷ []))
 
@@ -207,6 +206,7 @@ part_ascends base h s q opened i legal a = ascending_filtered q (opened_ids (tak
     all_front n [] (suc i) a = tt
     all_front n (o ∷ xs) zero a = tt
     all_front n (o ∷ xs) (suc i) a = (a.0, all_front n xs i a.1)
+
     front : (xs : List OpenId) (i : ℕ) → Ascending (opened_ids xs) → Ascending (opened_ids (take i xs))
     front [] zero a = tt
     front [] (suc i) a = tt

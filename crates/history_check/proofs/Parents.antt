@@ -47,13 +47,13 @@ parents base = by_end (λ h. IsLegal base h → (x : ℕ) → Has (given h) x �
     let still : (p : ℕ) → Has (given h) p → lineage (h ++ e ∷ []) p ≡ lineage h p = λ p j. lineage_push h e p (λ g. fresh base h e p front may g j) in
     ⊎_elim
     (λ (o : IsOld h e x). ⊎_elim
-        (λ (a : HasParent h x). inl (some_parent (h ++ e ∷ []) x a.parent (given_stays h e a.parent a.given) (o.line ∙ a.line ∙ ap (λ (t : List ℕ). x ∷ t) (sym (still a.parent a.given)))))
-        (λ (a : HasNone h x). inr (no_parent (h ++ e ∷ []) x (o.line ∙ a.line)))
-        (before front x o.given))
+    (λ (a : HasParent h x). inl (some_parent (h ++ e ∷ []) x a.parent (given_stays h e a.parent a.given) (o.line ∙ a.line ∙ ap (λ (t : List ℕ). x ∷ t) (sym (still a.parent a.given)))))
+    (λ (a : HasNone h x). inr (no_parent (h ++ e ∷ []) x (o.line ∙ a.line)))
+    (before front x o.given))
     (λ n. ⊎_elim
-        (λ (a : IsNewTop h e x). inr (no_parent (h ++ e ∷ []) x a.line))
-        (λ (a : IsNewSub h e x). inl (some_parent (h ++ e ∷ []) x a.parent (given_stays h e a.parent a.given) (a.line ∙ ap (λ (t : List ℕ). x ∷ t) (sym (still a.parent a.given)))))
-        n)
+    (λ (a : IsNewTop h e x). inr (no_parent (h ++ e ∷ []) x a.line))
+    (λ (a : IsNewSub h e x). inl (some_parent (h ++ e ∷ []) x a.parent (given_stays h e a.parent a.given) (a.line ∙ ap (λ (t : List ℕ). x ∷ t) (sym (still a.parent a.given)))))
+    n)
     (given_cases base h e x front may k))
 
 -- an event leaves the parents of the ids that were given
@@ -65,9 +65,9 @@ top_parent base h by x legal may =
     ⊎_elim
     (λ (o : IsOld h (events.Id by x) x). absurd (fresh base h (events.Id by x) x legal may refl o.given))
     (λ n. ⊎_elim
-        (λ (a : IsNewTop h (events.Id by x) x). sym (ap (λ (t : List ℕ). slice_get t 1) a.line))
-        (λ (a : IsNewSub h (events.Id by x) x). let z = a.is in absurd cc)
-        n)
+    (λ (a : IsNewTop h (events.Id by x) x). sym (ap (λ (t : List ℕ). slice_get t 1) a.line))
+    (λ (a : IsNewSub h (events.Id by x) x). let z = a.is in absurd cc)
+    n)
     (given_cases base h (events.Id by x) x legal may (given_new h (events.Id by x) x refl))
 
 pub sub_parent : (base : Counters) (h : List Event) (by : By) (parent x : ℕ) → IsLegal base h → MayCome base h (events.Sub by parent x) → Some parent ≡ parent_of (h ++ events.Sub by parent x ∷ []) x
@@ -75,12 +75,12 @@ sub_parent base h by parent x legal may =
     ⊎_elim
     (λ (o : IsOld h (events.Sub by parent x) x). absurd (fresh base h (events.Sub by parent x) x legal may refl o.given))
     (λ n. ⊎_elim
-        (λ (a : IsNewTop h (events.Sub by parent x) x). let z = a.is in absurd cc)
-        (λ (a : IsNewSub h (events.Sub by parent x) x).
-        let z = a.is in
-        let same : a.parent ≡ parent = cc in
-        sym (ap (λ (t : List ℕ). slice_get t 1) a.line ∙ second h x a.parent ∙ ap Some same))
-        n)
+    (λ (a : IsNewTop h (events.Sub by parent x) x). let z = a.is in absurd cc)
+    (λ (a : IsNewSub h (events.Sub by parent x) x).
+    let z = a.is in
+    let same : a.parent ≡ parent = cc in
+    sym (ap (λ (t : List ℕ). slice_get t 1) a.line ∙ second h x a.parent ∙ ap Some same))
+    n)
     (given_cases base h (events.Sub by parent x) x legal may (given_new h (events.Sub by parent x) x refl))
 
 -- ---- inside of a savepoint

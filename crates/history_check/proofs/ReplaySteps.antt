@@ -48,7 +48,7 @@ replay_after old new e last last' lists lists' items items' closed v by open_lis
     let lists_there : lists' ≡ set lists (by_of e).session v = subst (λ (b : By). lists' ≡ set lists b.session v) own lists_are in
     let its : AreOpened old.events (by_of e).session w.items = subst (λ (u : Vec OpenId). AreOpened old.events (by_of e).session u.items) (sym w_there) (r.opened.each (by_of e).session within w) in
     let all : (d : Vec OpenId) → v.items ≡ opened_after closed e (get_or lists (by_of e).session d).items =
-        λ d. v_is ∙ ap (λ (u : Vec OpenId). opened_after closed e u.items) (w_there ∙ same_default lists (by_of e).session w d in_lists) in
+    λ d. v_is ∙ ap (λ (u : Vec OpenId). opened_after closed e u.items) (w_there ∙ same_default lists (by_of e).session w d in_lists) in
     record {
       turns = turns_after old.sessions new.sessions old.events new.events e last last' by r.turns within own turn goes.sessions goes.events turns_are;
       opened = subst (λ h. AreAllOpened h new.sessions lists') (sym goes.events) (subst (λ n. AreAllOpened (old.events ++ e ∷ []) n lists') (sym goes.sessions)

@@ -54,26 +54,27 @@ last_one P [] e a = a.0
 last_one P (x ∷ xs) e a = last_one P xs e a.1
 
 pub turns_push : (sessions : ℕ) (h : List Event) (e : Event) (last : List ℕ) → AreTurns sessions h last → (by_of e).session < sessions → slice_index last (by_of e).session ≤ (by_of e).command → AreTurns sessions (h ++ e ∷ []) (set last (by_of e).session (by_of e).command)
-turns_push sessions h e last turns within turn = record { size = length-set last (by_of e).session (by_of e).command ∙ turns.size; each = λ s c l. let size = turns.size in ⊎_elim
-    (λ (own : ((by_of e).session == s) ≡ true).
-    let same : (by_of e).session ≡ s = eqb-true (by_of e).session s own in
-    let now : slice_index (set last (by_of e).session (by_of e).command) s ≡ (by_of e).command = ap (slice_index (set last (by_of e).session (by_of e).command)) (sym same) ∙ get_or-set_same last (by_of e).session (by_of e).command 0 (omega arith) in
-    (
-      λ t.
-      let before : InTurn (record { session = s; command = c }) h = (turns.each s c l).0 (let k : slice_index last (by_of e).session ≡ slice_index last s = ap (slice_index last) same in omega arith) in
-      subst (λ xs. All (λ (f : Event). (by_of f).command ≤ c) xs) (sym (own_turn s h e own)) (All-push (λ (f : Event). (by_of f).command ≤ c) (filter (is_of s) h) e before (omega arith)),
-      λ t.
-      let at_end : (by_of e).command ≤ c = last_one (λ (f : Event). (by_of f).command ≤ c) (filter (is_of s) h) e (recursion_from_All (λ (f : Event). (by_of f).command ≤ c) (filter (is_of s) h ++ e ∷ []) (subst (λ xs. All (λ (f : Event). (by_of f).command ≤ c) xs) (own_turn s h e own) t)) in
-      omega arith,
-    ))
-    (λ (other : ((by_of e).session == s) ≡ false).
-    let now : slice_index (set last (by_of e).session (by_of e).command) s ≡ slice_index last s = get_or-set_other last (by_of e).session s (by_of e).command 0 (λ q. false≢true (sym other ∙ ap (λ y. y == s) (sym q) ∙ eqb-refl s)) in
-    let kept = other_turn s c h e false other refl in
-    (
-      λ t. subst (λ xs. All (λ (f : Event). (by_of f).command ≤ c) xs) (sym kept) ((turns.each s c l).0 (omega arith)),
-      λ t. let k : slice_index last s ≤ c = (turns.each s c l).1 (subst (λ xs. All (λ (f : Event). (by_of f).command ≤ c) xs) kept t) in omega arith,
-    ))
-    (cases_Bool ((by_of e).session == s)) }
+turns_push sessions h e last turns within turn = record {
+  size = length-set last (by_of e).session (by_of e).command ∙ turns.size;
+  each = λ s c l. let size = turns.size in ⊎_elim
+      (λ (own : ((by_of e).session == s) ≡ true).
+      let same : (by_of e).session ≡ s = eqb-true (by_of e).session s own in
+      let now : slice_index (set last (by_of e).session (by_of e).command) s ≡ (by_of e).command = ap (slice_index (set last (by_of e).session (by_of e).command)) (sym same) ∙ get_or-set_same last (by_of e).session (by_of e).command 0 (omega arith) in (
+        λ t.
+            let before : InTurn (record { session = s; command = c }) h = (turns.each s c l).0 (let k : slice_index last (by_of e).session ≡ slice_index last s = ap (slice_index last) same in omega arith) in
+            subst (λ xs. All (λ (f : Event). (by_of f).command ≤ c) xs) (sym (own_turn s h e own)) (All-push (λ (f : Event). (by_of f).command ≤ c) (filter (is_of s) h) e before (omega arith)),
+        λ t.
+            let at_end : (by_of e).command ≤ c = last_one (λ (f : Event). (by_of f).command ≤ c) (filter (is_of s) h) e (recursion_from_All (λ (f : Event). (by_of f).command ≤ c) (filter (is_of s) h ++ e ∷ []) (subst (λ xs. All (λ (f : Event). (by_of f).command ≤ c) xs) (own_turn s h e own) t)) in
+            omega arith,
+      ))
+      (λ (other : ((by_of e).session == s) ≡ false).
+      let now : slice_index (set last (by_of e).session (by_of e).command) s ≡ slice_index last s = get_or-set_other last (by_of e).session s (by_of e).command 0 (λ q. false≢true (sym other ∙ ap (λ y. y == s) (sym q) ∙ eqb-refl s)) in
+      let kept = other_turn s c h e false other refl in (
+        λ t. subst (λ xs. All (λ (f : Event). (by_of f).command ≤ c) xs) (sym kept) ((turns.each s c l).0 (omega arith)),
+        λ t. let k : slice_index last s ≤ c = (turns.each s c l).1 (subst (λ xs. All (λ (f : Event). (by_of f).command ≤ c) xs) kept t) in omega arith,
+      ))
+      (cases_Bool ((by_of e).session == s));
+}
 
 pub in_turn_iff : (sessions : ℕ) (h : List Event) (last : List ℕ) (b : Bool) (by c : By) → AreTurns sessions h last → by.session < sessions → c ≡ by → IsTrue b ↔ (slice_index last c.session ≤ c.command) → IsTrue b ↔ InTurn by h
 in_turn_iff sessions h last b by c turns l e i =

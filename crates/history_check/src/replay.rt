@@ -182,7 +182,12 @@ impl HistoryReplay {
         make_one_room(&mut self.given)?;
         make_one_room(&mut self.opened[session])?;
         go_on(&mut self.table, event, closed.as_slice())?;
-        note_given(&mut self.given, self.opened[session].as_slice(), place, event);
+        note_given(
+            &mut self.given,
+            self.opened[session].as_slice(),
+            place,
+            event,
+        );
         note_opened(&mut self.opened[session], closed.as_slice(), event);
         note(&mut self.last, by);
         Ok(true)

@@ -19,8 +19,8 @@ use Rattle.history_check.proofs.replay.HistoryReplay.add.Goals as goal
 pub returns-then-not-is_in_turn-clause-refused : goal.returns-then-not-is_in_turn-clause-refused
 returns-then-not-is_in_turn-clause-refused c = λ f. (
   λ n.
-  let its = subst (λ (r : Replayed). IsLawfulNext r c.args.event.now) (sym c.self.view_is) n in
-  false≢true (sym c.if-not-is_in_turn.true ∙ (turn_of c.self.inside.table c.args.self.now c.args.event.now c.by_of-by.result c.self.inside.last.items c.as_slice.result.now c.is_in_turn.result c.self.view_is c.self.invariant.turns c.as_slice.ensures.value c.requires c.by_of-by.ensures c.is_in_turn.ensures).1 its.1),
+      let its = subst (λ (r : Replayed). IsLawfulNext r c.args.event.now) (sym c.self.view_is) n in
+      false≢true (sym c.if-not-is_in_turn.true ∙ (turn_of c.self.inside.table c.args.self.now c.args.event.now c.by_of-by.result c.self.inside.last.items c.as_slice.result.now c.is_in_turn.result c.self.view_is c.self.invariant.turns c.as_slice.ensures.value c.requires c.by_of-by.ensures c.is_in_turn.ensures).1 its.1),
   refl,
 )
 

@@ -1,9 +1,13 @@
 //! The replay of a history, event by event.
-ghost use Rattle.std.specs.Prelude.{◌≡◌, ◌<◌, ◌≤◌, IfOk, OnErr, OnOk, length, take, true, false, List, [], ◌∷◌, ◌++◌, ◌||◌};
+ghost use Rattle.std.specs.Prelude.{◌≡◌, ◌<◌, ◌≤◌, Contains, IfNone, IfOk, IfSome, OnErr, OnOk, length, take, true, false, List, [], ◌∷◌, ◌++◌, ◌||◌};
 ghost use Rattle.tx_events.specs.declared.event.Event.{Event};
 ghost use Rattle.tx_events.specs.Base.{IsBase};
 ghost use Rattle.tx_events.specs.Events.{by_of};
-ghost use Rattle.tx_events.specs.History.{IsLegal, MayCome};
+ghost use Rattle.tx_events.specs.Families.{is_top};
+ghost use Rattle.tx_events.specs.History.{IsLegal, MayCome, next_given};
+ghost use Rattle.tx_events.specs.Horizon.{oldest_id, oldest_xmin};
+ghost use Rattle.tx_events.specs.Running.{open_ids};
+ghost use Rattle.tx_events.specs.Snapshots.{snapshot_data};
 ghost use Rattle.tx_events.specs.IdLists.{Ascending};
 ghost use Rattle.tx_events.specs.Visible.{is_visible};
 ghost use Rattle.proc_table.specs.Table.{InTurn};
@@ -19,11 +23,11 @@ use proc_table::{Given, ProcTable};
 use snap_core::is_listed;
 use std::alloc::Global;
 use std::marker::Model;
-use tx_events::{By, Counters, Event, FullXid, Memory, XactEnd, make_one_room};
+use tx_events::{By, Counters, Event, FullXid, Memory, SnapData, XactEnd, make_one_room};
 
 /// A history that is legal, and what its events say of ids. A contract sees the life's base, the number of sessions and
-/// the events. An event takes the logarithm of the history's length, an undo besides as many steps as its session has ids
-/// open.
+/// the events. An event takes the logarithm of the history's length, and the end of a transaction besides as many steps as
+/// it has ids open; an undo takes the number of its session's open ids times that of those that it closes.
 #[derive(Drop)]
 pub struct HistoryReplay {
     table: ProcTable,
@@ -204,6 +208,43 @@ impl HistoryReplay {
         let known = is_known(committed, x);
         let since = was_committed(self.given.as_slice(), place, x);
         either(known, since)
+    }
+
+    /// What a snapshot holds that is taken now.
+    pub fn snapshot_data(&mut self) -> Result<SnapData, Memory>
+        ensures data { IfOk result (λ s. s ≡ snapshot_data self.old.base.next self.old.events) }
+        ensures same { self.new ≡ self.old }
+    {
+        self.table.snapshot_data()
+    }
+
+    /// The id that is given next.
+    pub fn next(&self) -> FullXid
+        ensures { result ≡ next_given self.now.base.next self.now.events }
+    {
+        self.table.next()
+    }
+
+    /// The announced oldest id.
+    pub fn oldest(&self) -> FullXid
+        ensures { result ≡ oldest_id self.now.base.oldest self.now.events }
+    {
+        self.table.oldest()
+    }
+
+    /// The oldest xmin.
+    pub fn oldest_xmin(&self) -> FullXid
+        ensures { result ≡ oldest_xmin self.now.base.next self.now.events }
+    {
+        self.table.oldest_xmin()
+    }
+
+    /// The top-level id of the session's transaction. None where the session has no id open.
+    pub fn open_top(&self, session: u32) -> Option<FullXid>
+        ensures some { IfSome result (λ t. Contains (open_ids session self.now.events) t × (is_top self.now.events t ≡ true)) }
+        ensures none { IfNone result (open_ids session self.now.events ≡ []) }
+    {
+        self.table.open_top(session)
     }
 
     /// The history so far, which is legal.

@@ -1,5 +1,5 @@
 // Drives a replay by the events of a test.
-ghost use Rattle.std.specs.Prelude.{◌≡◌, ◌<◌};
+ghost use Rattle.std.specs.Prelude.{◌≡◌, ◌<◌, length};
 ghost use Rattle.tx_events.specs.Events.{by_of};
 
 use history_check::HistoryReplay;
@@ -87,7 +87,9 @@ impl Driver {
     }
 
     /// The place behind the last event.
-    pub fn end(&self) -> u64 {
+    pub fn end(&self) -> u64
+        ensures { result ≡ length self.now.replay.events }
+    {
         self.replay.events().len() as u64
     }
 

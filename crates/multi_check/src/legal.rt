@@ -17,7 +17,12 @@ pub fn add_multi(multis: &mut MultiGen, event: &MultiEvent) -> Result<bool, Memo
 {
     let _legal = multis.events();
     match event {
-        MultiEvent::Gen { by, multi, offset, members } => {
+        MultiEvent::Gen {
+            by,
+            multi,
+            offset,
+            members,
+        } => {
             if !may_give(multis, *multi, *offset, members) {
                 return Ok(false);
             }

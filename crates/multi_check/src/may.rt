@@ -60,7 +60,8 @@ pub fn means_itself(next: FullMulti, multi: FullMulti)
     requires to { next < 2 ^ 63 }
     requires low { next ≤ multi + 2 ^ 31 }
     requires below { multi < next }
-    ensures { near_id next (low_half multi) ≡ Some multi }
+    ensures itself { near_id next (low_half multi) ≡ Some multi }
+    ensures normal { 1 ≤ low_half multi }
 {
     let _near = near_multi(next, multi.low());
 }

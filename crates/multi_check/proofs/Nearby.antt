@@ -1,6 +1,5 @@
 -- The multixact that a stored half means, and how far the next one is from the oldest.
-use Rattle.std.proofs.Common.{◌≡◌, ℕ, ◌+◌, ◌-◌, ◌^◌, ◌%◌, ◌<◌, ◌≤◌, Bool, true, false, cond, min, nat_lt, Option, Some, None, IfSome, IfNone, refl, sym, ap, arith}
-use Rattle.std.proofs.lemmas.Bool.{cases_Bool}
+use Rattle.std.proofs.Common.{◌≡◌, ℕ, ◌+◌, ◌-◌, ◌^◌, ◌%◌, ◌<◌, ◌≤◌, Bool, true, false, cond, nat_lt, Option, Some, None, IfSome, IfNone, refl, ap, arith}
 use Rattle.tx_events.specs.Ids.{low_half}
 use Rattle.tx_events.specs.Limits.{down_to_multi, multi_stop_limit, multi_wrap_limit, up_to_multi}
 use Rattle.tx_events.specs.Nearest.{IsNearest}

@@ -1,5 +1,5 @@
 -- The first event of a history of multixacts that may not come.
-use Rattle.std.specs.Prelude.{◌≡◌, ℕ, ◌+◌, ◌<◌, List, length, take}
+use Rattle.std.specs.Prelude.{ℕ, ◌+◌, ◌<◌, List, length, take}
 use Rattle.tx_events.specs.declared.multi.MultiEvent.{MultiEvent}
 use Rattle.tx_events.specs.declared.record.Counters.{Counters}
 use Rattle.tx_events.specs.Multis.{AreLegalMultis, InBase}

@@ -1,10 +1,8 @@
 -- The worked reports are as told.
-use Rattle.std.proofs.Common.{◌≡◌, ℕ, zero, suc, ◌+◌, ◌<◌, ◌≤◌, List, [], ◌∷◌, ◌++◌, None, Some, refl, sym, ap, ◌∙◌, arith, length, take, drop}
+use Rattle.std.proofs.Common.{◌≡◌, ℕ, zero, suc, ◌<◌, List, [], ◌∷◌, ◌++◌, None, Some, refl, ap, arith, length, take, drop}
 use Rattle.std.specs.List.{AllByRecursion, slice_get}
 use Rattle.tx_events.specs.Base.{IsBase, first_base}
-use Rattle.tx_events.specs.declared.record.Rec.{Rec}
 use Rattle.tx_events.specs.declared.record.Rec.TheVariants as records
-use Rattle.tx_events.specs.declared.refusal.Refusal.{Refusal}
 use Rattle.tx_events.specs.declared.refusal.Refusal.TheVariants as refusals
 use Rattle.tx_model.specs.declared.report.Report.{Report}
 use Rattle.report_law.specs.ReportLines.{IsLawfulAt, IsLawfulReport, IsUnlawful, ReportLine, report_lines}

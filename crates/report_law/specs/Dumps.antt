@@ -1,25 +1,21 @@
 -- The rules of a dump's line.
-use Rattle.std.specs.Prelude.{◌≡◌, ℕ, ◌+◌, ◌*◌, ◌/◌, ◌%◌, ◌^◌, ◌<◌, ◌≤◌, ◌⊎◌, ◌||◌, Bool, true, false, cond, List, [], ◌∷◌, Option, Some, None, IfSome, length, take, slice_get, unwrap_or, Contains}
-use Rattle.std.specs.List.{count_by, flat_map, list_any}
+use Rattle.std.specs.Prelude.{◌≡◌, ℕ, ◌+◌, ◌/◌, ◌%◌, ◌^◌, ◌<◌, ◌≤◌, ◌⊎◌, Bool, true, false, cond, List, [], Some, IfSome, length, slice_get, unwrap_or, Contains}
+use Rattle.std.specs.List.{count_by, list_any}
 use Rattle.tx_events.specs.Ids.{low_half}
 use Rattle.tx_events.specs.Modes.{mode_number}
 use Rattle.tx_events.specs.PageOrder.{Ids, Multis, Offsets, is_cut}
 use Rattle.tx_events.specs.declared.event.By.{By}
 use Rattle.tx_events.specs.declared.event.Event.{Event}
-use Rattle.tx_events.specs.declared.event.Event.TheVariants as events
 use Rattle.tx_events.specs.declared.multi.Member.{Member}
-use Rattle.tx_events.specs.declared.multi.MultiEvent.{MultiEvent}
 use Rattle.tx_events.specs.declared.multi.MultiEvent.TheVariants as multis
 use Rattle.tx_events.specs.declared.record.Counters.{Counters}
 use Rattle.tx_events.specs.declared.record.Rec.{Rec}
 use Rattle.tx_events.specs.declared.record.Rec.TheVariants as records
 use Rattle.tx_events.specs.declared.refusal.Lock.{Lock}
 use Rattle.tx_events.specs.declared.refusal.Lock.TheVariants as locks
-use Rattle.tx_events.specs.declared.refusal.Refusal.{Refusal}
 use Rattle.tx_events.specs.declared.refusal.Refusal.TheVariants as refusals
 use Rattle.tx_events.specs.Events.{given}
 use Rattle.tx_events.specs.Families.{lineage}
-use Rattle.tx_events.specs.Horizon.{oldest_xmin}
 use Rattle.tx_events.specs.IdLists.{has}
 use Rattle.tx_events.specs.Running.{running}
 use Rattle.tx_events.specs.Visible.{is_visible}
@@ -30,9 +26,7 @@ use Rattle.tx_model.specs.declared.report.DumpOf.TheVariants as dumps
 use Rattle.tx_model.specs.declared.report.Line.{Line}
 use Rattle.tx_model.specs.declared.report.Step.{Step}
 use Rattle.tx_model.specs.declared.report.Step.TheVariants as steps
-use Rattle.tx_model.specs.Lines.{has_line}
-use Rattle.tx_model.specs.Rounds.{lines_in}
-use Rattle.store_pages.specs.Layouts.{member_cutoff, offset_cutoff, subtrans_cutoff, xact_cutoff}
+use Rattle.store_pages.specs.Layouts.{member_cutoff, offset_cutoff, xact_cutoff}
 use Rattle.store_pages.specs.Pages.{id_at, member_page, member_place, members_per_page, mode_at, offset_page, offset_place, offsets_per_page, parents_per_page, subtrans_page, subtrans_place, xact_page, xact_place, xacts_per_page}
 use Rattle.life_law.specs.Dumps.{IsOldest, IsSubtransCutoff, events_behind}
 use Rattle.report_law.specs.Places.{has_multi_line}

@@ -1,6 +1,6 @@
 -- The rules of the lines of both histories.
-use Rattle.std.specs.Prelude.{◌≡◌, ℕ, ◌<◌, ◌≤◌, List, [], ◌∷◌, ◌++◌, Some, length, map, take, drop, slice_get, Contains}
-use Rattle.std.specs.List.{AllByRecursion, filter, flat_map}
+use Rattle.std.specs.Prelude.{◌≡◌, ℕ, ◌<◌, ◌≤◌, List, ◌++◌, Some, length, map, take, drop, slice_get, Contains}
+use Rattle.std.specs.List.{AllByRecursion, flat_map}
 use Rattle.tx_events.specs.declared.event.By.{By}
 use Rattle.tx_events.specs.declared.event.Event.{Event}
 use Rattle.tx_events.specs.declared.event.Event.TheVariants as events
@@ -15,7 +15,7 @@ use Rattle.tx_model.specs.declared.report.Step.{Step}
 use Rattle.tx_model.specs.Lines.{span_of}
 use Rattle.tx_model.specs.Rounds.{lines_in}
 use Rattle.report_law.specs.MultiLines.{of_records}
-use Rattle.report_law.specs.Places.{IsNotLate, is_by, multis_of}
+use Rattle.report_law.specs.Places.{IsNotLate, multis_of}
 use Rattle.report_law.specs.Steps.{HasFirst, HasFirstMultis, Judged}
 
 -- where a command stands: in a round of the life, behind these lines

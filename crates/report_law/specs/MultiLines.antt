@@ -1,5 +1,5 @@
 -- The events and the replies of the commands on multixacts.
-use Rattle.std.specs.Prelude.{◌≡◌, ◌≢◌, ℕ, ◌+◌, ◌-◌, ◌<◌, ◌≤◌, ◌↔◌, ◌⊎◌, IsTrue, Bool, true, false, List, [], ◌∷◌, Option, Some, None, IfSome, length, take, map, slice_get, unwrap_or, Contains}
+use Rattle.std.specs.Prelude.{◌≡◌, ◌≢◌, ℕ, ◌+◌, ◌-◌, ◌<◌, ◌≤◌, ◌⊎◌, IsTrue, Bool, true, false, List, [], ◌∷◌, Option, Some, None, IfSome, take, slice_get, unwrap_or, Contains}
 use Rattle.std.specs.List.{AllByRecursion, AllZip}
 use Rattle.tx_events.specs.Ids.{low_half}
 use Rattle.tx_events.specs.Nearest.{near_id}
@@ -7,7 +7,6 @@ use Rattle.tx_events.specs.declared.event.By.{By}
 use Rattle.tx_events.specs.declared.event.Event.{Event}
 use Rattle.tx_events.specs.declared.event.Event.TheVariants as events
 use Rattle.tx_events.specs.declared.multi.Member.{Member}
-use Rattle.tx_events.specs.declared.multi.Mode.{Mode}
 use Rattle.tx_events.specs.declared.multi.MultiEvent.{MultiEvent}
 use Rattle.tx_events.specs.declared.multi.MultiEvent.TheVariants as multis
 use Rattle.tx_events.specs.declared.record.Counters.{Counters}
@@ -26,7 +25,7 @@ use Rattle.tx_model.specs.declared.reply.Reply.{Reply}
 use Rattle.tx_model.specs.declared.reply.Reply.TheVariants as replies
 use Rattle.tx_model.specs.declared.reply.Verdict.{Verdict}
 use Rattle.tx_model.specs.declared.reply.Verdict.TheVariants as verdicts
-use Rattle.tx_model.specs.Replies.{RoundSpan, IsTakenAt, seen_id, taken_by}
+use Rattle.tx_model.specs.Replies.{RoundSpan, IsTakenAt, taken_by}
 use Rattle.report_law.specs.Begun.{Recorded}
 use Rattle.report_law.specs.Places.{MayReadIn, MayReadMultis}
 

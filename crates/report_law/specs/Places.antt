@@ -1,6 +1,6 @@
 -- Where the commands of a life stand in its history, and how far the history is legal.
-use Rattle.std.specs.Prelude.{◌≡◌, ℕ, ◌+◌, ◌<◌, ◌≤◌, Bool, true, false, List, [], ◌∷◌, ◌++◌, Option, Some, None, length, take, drop, slice_get}
-use Rattle.std.specs.List.{AllByRecursion, filter, flat_map, list_any, count_by}
+use Rattle.std.specs.Prelude.{◌≡◌, ℕ, ◌+◌, ◌<◌, ◌≤◌, Bool, true, false, List, [], ◌∷◌, ◌++◌, Option, Some, None, take, drop}
+use Rattle.std.specs.List.{AllByRecursion, filter, list_any, count_by}
 use Rattle.tx_events.specs.declared.event.By.{By}
 use Rattle.tx_events.specs.declared.event.Event.{Event}
 use Rattle.tx_events.specs.declared.multi.MultiEvent.{MultiEvent}
@@ -10,7 +10,7 @@ use Rattle.tx_events.specs.History.{IsLegal}
 use Rattle.tx_events.specs.Multis.{AreLegalMultis, BaseOffset, multi_by}
 use Rattle.tx_model.specs.declared.report.Line.{Line}
 use Rattle.tx_model.specs.declared.report.Step.{Step}
-use Rattle.tx_model.specs.Lines.{has_line, is_line_of}
+use Rattle.tx_model.specs.Lines.{has_line}
 use Rattle.tx_model.specs.Replies.{RoundSpan}
 use Rattle.tx_model.specs.Rounds.{lines_in}
 

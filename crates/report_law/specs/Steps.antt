@@ -1,16 +1,13 @@
 -- The rules of a report's reply lines: those of commands, of checkpoints and of dumps.
-use Rattle.std.specs.Prelude.{◌≡◌, ◌≢◌, ℕ, ◌+◌, ◌-◌, ◌<◌, ◌≤◌, ◌↔◌, ◌⊎◌, ◌==◌, ◌&&◌, ◌||◌, not, IsTrue, Bool, true, false, List, [], ◌∷◌, ◌++◌, Option, Some, None, IfSome, length, take, drop, slice_get, Contains, nat_le, nat_lt, is_none}
+use Rattle.std.specs.Prelude.{◌≡◌, ℕ, ◌+◌, ◌-◌, ◌<◌, ◌≤◌, ◌↔◌, ◌⊎◌, ◌==◌, ◌&&◌, ◌||◌, IsTrue, Bool, true, false, List, [], ◌∷◌, ◌++◌, Option, Some, None, IfSome, length, take, drop, Contains, nat_lt}
 use Rattle.std.specs.Bool.{then_some}
-use Rattle.std.specs.List.{AllByRecursion, count_by, filter, flat_map, list_any}
+use Rattle.std.specs.List.{AllByRecursion, count_by, flat_map, list_any}
 use Rattle.tx_events.specs.Nearest.{near_id}
-use Rattle.tx_events.specs.PageOrder.{Ids, Multis, Offsets, is_cut}
 use Rattle.tx_events.specs.declared.event.By.{By}
 use Rattle.tx_events.specs.declared.event.Event.{Event}
-use Rattle.tx_events.specs.declared.event.Event.TheVariants as events
 use Rattle.tx_events.specs.declared.multi.Member.{Member}
 use Rattle.tx_events.specs.declared.multi.Mode.{Mode}
 use Rattle.tx_events.specs.declared.multi.Mode.TheVariants as modes
-use Rattle.tx_events.specs.declared.multi.MultiEvent.{MultiEvent}
 use Rattle.tx_events.specs.declared.record.Counters.{Counters}
 use Rattle.tx_events.specs.declared.record.Rec.{Rec}
 use Rattle.tx_events.specs.declared.record.Rec.TheVariants as records
@@ -20,7 +17,6 @@ use Rattle.tx_events.specs.Events.{by_of, events_of, same_by}
 use Rattle.tx_events.specs.History.{next_given}
 use Rattle.tx_events.specs.Horizon.{oldest_id, oldest_xmin}
 use Rattle.tx_events.specs.Limits.{stop_limit}
-use Rattle.tx_events.specs.Multis.{multi_counters}
 use Rattle.tx_events.specs.Snapshots.{snapshot_xmax}
 use Rattle.tx_events.specs.Visible.{is_visible}
 use Rattle.tx_model.specs.declared.command.Command.{Command}
@@ -28,28 +24,21 @@ use Rattle.tx_model.specs.declared.command.Command.TheVariants as commands
 use Rattle.tx_model.specs.declared.command.Pair.{Pair}
 use Rattle.tx_model.specs.declared.reply.Reply.{Reply}
 use Rattle.tx_model.specs.declared.reply.Reply.TheVariants as replies
-use Rattle.tx_model.specs.declared.report.DumpOf.{DumpOf}
-use Rattle.tx_model.specs.declared.report.DumpOf.TheVariants as dumps
 use Rattle.tx_model.specs.declared.report.Life.{Life}
-use Rattle.tx_model.specs.declared.report.LifeReport.{LifeReport}
 use Rattle.tx_model.specs.declared.report.Line.{Line}
 use Rattle.tx_model.specs.declared.report.Step.{Step}
-use Rattle.tx_model.specs.declared.report.Step.TheVariants as steps
 use Rattle.tx_model.specs.CommandEvents.{HasEvents}
-use Rattle.tx_model.specs.Lines.{has_line, is_line_of, span_of, stance}
-use Rattle.tx_model.specs.Replies.{IsFuture, IsKnown, IsTakenAt, MayReply, RoundSpan, seen_id, taken_by}
+use Rattle.tx_model.specs.Lines.{span_of, stance}
+use Rattle.tx_model.specs.Replies.{IsKnown, IsTakenAt, MayReply, RoundSpan, seen_id, taken_by}
 use Rattle.tx_model.specs.Rounds.{lines_in}
 use Rattle.tx_model.specs.Stance.{Stance, lacking, snap_of, top_level}
-use Rattle.store_pages.specs.Layouts.{member_cutoff, offset_cutoff, subtrans_cutoff, xact_cutoff}
-use Rattle.store_pages.specs.Pages.{members_per_page, offsets_per_page, parents_per_page, xacts_per_page}
 use Rattle.life_law.specs.DidCommit.{IsRecorded, special_did}
 use Rattle.life_law.specs.Pending.{pending}
 use Rattle.life_law.specs.Refused.{by_standing, first_of, refused_by}
-use Rattle.report_law.specs.Answers.{AreLogFaults, HasNoRoom, can_append, can_ask, can_flush, can_lack_memory, is_page_lock, longest_record}
+use Rattle.report_law.specs.Answers.{AreLogFaults, HasNoRoom, can_append, can_ask, can_flush, can_lack_memory, longest_record}
 use Rattle.report_law.specs.Begun.{Begun}
 use Rattle.report_law.specs.MultiLines.{AreVerdicts, HasMultiEvents, IsHeldBack, IsMemberStop, IsMultiBackward, IsMultiFuture, IsMultiStop, IsMultiTooOld, IsMultiWarned, IsNotGiven, IsNotYet, IsOldMember, MayCarry, of_records}
-use Rattle.report_law.specs.Places.{AreMultisJudged, IsJudged, MayReadIn, is_by, multi_span, multis_of}
-use Rattle.report_law.specs.Standing.{none, sure, unfinished, Unfinished}
+use Rattle.report_law.specs.Places.{AreMultisJudged, IsJudged, MayReadIn, multi_span, multis_of}
 
 -- A life as it is judged: what it begins from, its report and all its lines.
 pub record Judged : Type 0 where

@@ -36,19 +36,43 @@ fn event_of<R: Abort>(rt: &R, by: By, act: Act) -> Event
     ensures { by_of result ≡ by }
 {
     match act {
-        Act::Id(number) => Event::Id { by, id: id(rt, number) },
+        Act::Id(number) => Event::Id {
+            by,
+            id: id(rt, number),
+        },
         Act::Sub(parent, number) => Event::Sub {
             by,
             parent: id(rt, parent),
             id: id(rt, number),
         },
-        Act::Undo(number) => Event::Undo { by, id: id(rt, number) },
-        Act::Commit(number) => Event::Commit { by, top: id(rt, number) },
-        Act::Abort(number) => Event::Abort { by, top: id(rt, number) },
-        Act::Snap(letter) => Event::Snap { by, name: Name::of(&[letter]) },
-        Act::Drop(letter) => Event::SnapDrop { by, name: Name::of(&[letter]) },
-        Act::Oldest(number) => Event::Oldest { by, oldest: id(rt, number) },
-        Act::Ask(number) => Event::Ask { by, id: id(rt, number) },
+        Act::Undo(number) => Event::Undo {
+            by,
+            id: id(rt, number),
+        },
+        Act::Commit(number) => Event::Commit {
+            by,
+            top: id(rt, number),
+        },
+        Act::Abort(number) => Event::Abort {
+            by,
+            top: id(rt, number),
+        },
+        Act::Snap(letter) => Event::Snap {
+            by,
+            name: Name::of(&[letter]),
+        },
+        Act::Drop(letter) => Event::SnapDrop {
+            by,
+            name: Name::of(&[letter]),
+        },
+        Act::Oldest(number) => Event::Oldest {
+            by,
+            oldest: id(rt, number),
+        },
+        Act::Ask(number) => Event::Ask {
+            by,
+            id: id(rt, number),
+        },
     }
 }
 
@@ -96,6 +120,7 @@ impl Driver {
     /// Whether the id was visible at this place, where the life began with 1000 as committed.
     pub fn sees<R: Abort>(&self, rt: &R, place: u64, number: u64) -> bool {
         assert!(rt; place <= self.end());
-        self.replay.was_visible(&[id(rt, 1000)], place, id(rt, number))
+        self.replay
+            .was_visible(&[id(rt, 1000)], place, id(rt, number))
     }
 }

@@ -1,5 +1,5 @@
 -- What a dump between two rounds is answered.
-use Rattle.std.specs.Prelude.{◌≡◌, ℕ, IsTrue, List, Some}
+use Rattle.std.specs.Prelude.{◌≡◌, ℕ, ◌%◌, Bool, IsTrue, List, Some}
 use Rattle.disk_core.specs.declared.log_disk.LogDisk as logs
 use Rattle.disk_core.specs.declared.page_disk.PageDisk as disks
 use Rattle.hall.specs.declared.hall.Hall.{Hall}
@@ -11,6 +11,7 @@ use Rattle.tx_model.specs.declared.reply.Reply.{Reply}
 use Rattle.tx_model.specs.declared.reply.Reply.TheVariants as replies
 use Rattle.tx_model.specs.declared.report.DumpOf.{DumpOf}
 use Rattle.tx_model.specs.declared.report.DumpOf.TheVariants as dumps
+use Rattle.store_pages.specs.Layouts.{xact_cutoff}
 use Rattle.life_law.specs.Dumps.{MayDump}
 use Rattle.slru_bank.specs.declared.refusal.BankRefusal.{BankRefusal}
 use Rattle.slru_bank.specs.declared.refusal.BankRefusal.TheVariants as refused
@@ -22,6 +23,7 @@ use Rattle.engine_parts.specs.declared.part.Part.{Part}
 use Rattle.engine_host.specs.declared.host.Host.{Host}
 use Rattle.session_promise.specs.Causes.{failed_volume}
 use Rattle.session_promise.specs.Promise.{recs_of}
+use Rattle.bank_sections.specs.Sections.{IsSubtransCut, IsXactCut}
 use Rattle.engine_dumps.specs.Shown.{AreLogBytes, HasFailed, ShowsSubtrans, ShowsXact}
 
 -- the answer where a bank refused
@@ -52,3 +54,13 @@ module _ {L P : Type 0} (l : logs.Ghosts L) (p : disks.Ghosts P) (start : Start)
   abbrev pub ShowsBytes : DumpOf → ℕ → ℕ → Reply → Type 0
   ShowsBytes what from size (replies.Bytes bytes) = AreShown what from size bytes
   ShowsBytes what from size reply = Unit {0}
+
+-- The cutoff by which a page is told as cut is one of the bank's list. That of pg_xact is the one with which the life began,
+-- where the volumes tell what they hold.
+abbrev pub IsCutTold : Bool → Start → List (List Entry) → DumpOf → Reply → Type 0
+IsCutTold tells start lists (dumps.Xact page) (replies.Cut cutoff) =
+    IsXactCut start lists (page % start.banks) page cutoff
+    × (IsTrue tells → cutoff ≡ xact_cutoff start.base.oldest)
+IsCutTold tells start lists (dumps.Subtrans page) (replies.Cut cutoff) =
+    IsSubtransCut start lists (page % start.banks) page cutoff
+IsCutTold tells start lists what reply = Unit {0}

@@ -6,7 +6,7 @@ ghost use Rattle.tx_model.specs.declared.report.DumpOf.TheVariants as dumps;
 ghost use Rattle.life_law.specs.Dumps.{AreBytes};
 ghost use Rattle.run_law.specs.Turns.{MayShow};
 ghost use Rattle.engine_dumps.specs.Homes.{IsHome, StaysHome};
-ghost use Rattle.engine_dumps.specs.Dumps.{IsAnswered, IsFaultCounted, ShowsBytes, refusal_by};
+ghost use Rattle.engine_dumps.specs.Dumps.{IsAnswered, IsCutTold, IsFaultCounted, ShowsBytes, refusal_by};
 
 use crate::log::dump_log;
 use crate::pages::{dump_subtrans, dump_xact};
@@ -68,6 +68,7 @@ fn show_log<R: Wait, L: LogDisk, P: PageDisk>(
     ensures reply { IfOk result (IsAnswered hall.now host.old dumps.Log size) }
     ensures bytes { IfOk result (ShowsBytes L.LogDisk P.PageDisk (start_of hall.now) (view host.old.pass).seen
         dumps.Log at size) }
+    ensures cut { IfOk result (IsCutTold P.tells (start_of hall.now) (view host.old.pass).seen dumps.Log) }
     ensures fault { IfOk result (IsFaultCounted L.LogDisk P.PageDisk (start_of hall.now) (view host.old.pass).seen) }
 {
     let mut bytes = Vec::from_elem(alloc, 0u8, size)?;
@@ -98,6 +99,7 @@ fn show_xact<R: Wait, L: LogDisk, P: PageDisk>(
     ensures reply { IfOk result (IsAnswered hall.now host.old (dumps.Xact page) size) }
     ensures bytes { IfOk result (ShowsBytes L.LogDisk P.PageDisk (start_of hall.now) (view host.old.pass).seen
         (dumps.Xact page) at size) }
+    ensures cut { IfOk result (IsCutTold P.tells (start_of hall.now) (view host.old.pass).seen (dumps.Xact page)) }
     ensures fault { IfOk result (IsFaultCounted L.LogDisk P.PageDisk (start_of hall.now) (view host.old.pass).seen) }
 {
     let bank = bank_of(page, host.cluster.banks);
@@ -124,6 +126,7 @@ fn show_subtrans<R: Wait, L: LogDisk, P: PageDisk>(
     ensures reply { IfOk result (IsAnswered hall.now host.old (dumps.Subtrans page) size) }
     ensures bytes { IfOk result (ShowsBytes L.LogDisk P.PageDisk (start_of hall.now) (view host.old.pass).seen
         (dumps.Subtrans page) at size) }
+    ensures cut { IfOk result (IsCutTold P.tells (start_of hall.now) (view host.old.pass).seen (dumps.Subtrans page)) }
     ensures fault { IfOk result (IsFaultCounted L.LogDisk P.PageDisk (start_of hall.now) (view host.old.pass).seen) }
 {
     let bank = bank_of(page, host.cluster.banks);
@@ -135,7 +138,8 @@ fn show_subtrans<R: Wait, L: LogDisk, P: PageDisk>(
 }
 
 /// Answers a dump that the run has, while no session is in: with the bytes that stand there, where the volumes tell
-/// what they hold, or that a page is cut, or that a volume failed whose count of faults rose. Takes memory for the bytes.
+/// what they hold, or that a page is cut, by its bank's cutoff, or that a volume failed whose count of faults rose. Takes
+/// memory for the bytes.
 pub fn show<R: Wait, L: LogDisk, P: PageDisk>(
     rt: &R,
     alloc: Global,
@@ -149,6 +153,7 @@ pub fn show<R: Wait, L: LogDisk, P: PageDisk>(
     ensures reply { IfOk result (IsAnswered hall.now host.old dump.what dump.length) }
     ensures bytes { IfOk result (ShowsBytes L.LogDisk P.PageDisk (start_of hall.now) (view host.old.pass).seen
         dump.what dump.at dump.length) }
+    ensures cut { IfOk result (IsCutTold P.tells (start_of hall.now) (view host.old.pass).seen dump.what) }
     ensures fault { IfOk result (IsFaultCounted L.LogDisk P.PageDisk (start_of hall.now) (view host.old.pass).seen) }
 {
     let size = dump.length as usize;

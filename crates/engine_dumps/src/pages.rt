@@ -2,6 +2,7 @@
 ghost use Rattle.std.specs.Prelude.{◌≡◌, ℕ, ◌+◌, ◌%◌, ◌≤◌, Err, IsTrue, OnErr, OnOk, length};
 ghost use Rattle.hall.specs.Calls.{start_of, view};
 ghost use Rattle.slru_bank.specs.declared.refusal.BankRefusal.TheVariants.{Cut, DiskFault};
+ghost use Rattle.store_pages.specs.Layouts.{xact_cutoff};
 ghost use Rattle.tx_core.specs.EngineInvariant.{EngineInvariant};
 ghost use Rattle.tx_core.specs.Locks.{subtrans_lock, xact_lock};
 ghost use Rattle.bank_sections.specs.Sections.{IsSubtransCut, IsXactCut};
@@ -18,7 +19,8 @@ use std::sync::Wait;
 use store_pages::bank_of;
 
 /// Reads bytes of a stored page of pg_xact from a place on, zeros where the volume lacks the page. `Cut` tells a cutoff of
-/// the bank's list that cuts the page, and `DiskFault` comes only where the volume's count of faults rose.
+/// the bank's list that cuts the page, where the volumes tell what they hold the one with which the life began; and
+/// `DiskFault` comes only where the volume's count of faults rose.
 pub fn dump_xact<R: Wait, L: LogDisk, P: PageDisk>(
     rt: &R,
     hall: &Hall<EngineLaw<L, P>>,
@@ -37,6 +39,8 @@ pub fn dump_xact<R: Wait, L: LogDisk, P: PageDisk>(
         (page % (start_of hall.now).banks) page) }
     ensures cut { (cutoff : ℕ) → result ≡ Err (Cut cutoff) → IsXactCut (start_of hall.now) (view host.old.pass).seen
         (page % (start_of hall.now).banks) page cutoff }
+    ensures first { IsTrue P.tells → (cutoff : ℕ) → result ≡ Err (Cut cutoff)
+        → cutoff ≡ xact_cutoff (start_of hall.now).base.oldest }
     ensures fault { result ≡ Err DiskFault → HasFailed L.LogDisk P.PageDisk (start_of hall.now)
         (view host.old.pass).seen (xact_lock (page % (start_of hall.now).banks)) }
     ensures err { OnErr result (into.new ≡ into.old) }

@@ -1,6 +1,6 @@
--- The volumes of an engine that is taken apart stand in the order of their banks, and each has counted what its list
--- tells.
-use Rattle.std.proofs.Common.{ℕ, zero, suc, ◌≡◌, ◌≢◌, ◌+◌, ◌*◌, ◌<◌, ◌≤◌, ◌++◌, ◌∷◌, [], ◌∙◌, List, None, Option, Some, ap, arith, length, refl, subst, sym}
+-- The volumes of an engine that is taken apart are as many as its banks and stand in their order, and each has counted
+-- what its list tells.
+use Rattle.std.proofs.Common.{ℕ, zero, suc, ◌≡◌, ◌≢◌, ◌+◌, ◌*◌, ◌<◌, ◌≤◌, ◌∷◌, [], ◌∙◌, List, None, Option, Some, ap, arith, length, refl, subst, sym}
 use Rattle.std.proofs.lemmas.Option.{same_Some, slice_get_within}
 use Rattle.std.specs.List.{cons_option, filter_map, slice_get}
 use Rattle.disk_core.specs.declared.log_disk.LogDisk as logs
@@ -56,6 +56,32 @@ module _ {X Y : Type 0} (f : X → Option Y) where
       (λ k z at_z. some (suc k) z (subst (λ m. slice_get (four d) m ≡ Some z) (sym (on k 3)) at_z))
       n x y (subst (λ m. slice_get (four d) m ≡ Some x) (on n 3) found) is
 
+  -- so the list that is left has a fourth of the items
+  fourths : (xs : List X) → ((k i : ℕ) (x : X) → i < 3 → slice_get xs (i + 4 * k) ≡ Some x → f x ≡ None)
+      → ((k : ℕ) (x : X) → slice_get xs (3 + 4 * k) ≡ Some x → (y : Y) × (f x ≡ Some y))
+      → (n r : ℕ) → r < 4 → length xs ≡ r + 4 * n → length (filter_map f xs) ≡ n
+  fourths [] none some n r low count = omega (arith, low, count)
+  fourths (a ∷ []) none some n r low count =
+      let nothing : 0 ≡ n = omega (arith, low, count) in
+      ap length (passed_by a [] (none 0 0 a (omega arith) refl)) ∙ nothing
+  fourths (a ∷ b ∷ []) none some n r low count =
+      let nothing : 0 ≡ n = omega (arith, low, count) in
+      ap length (passed_by a (b ∷ []) (none 0 0 a (omega arith) refl) ∙ passed_by b [] (none 0 1 b (omega arith) refl)) ∙ nothing
+  fourths (a ∷ b ∷ c ∷ []) none some n r low count =
+      let nothing : 0 ≡ n = omega (arith, low, count) in
+      ap length (passed_by a (b ∷ c ∷ []) (none 0 0 a (omega arith) refl) ∙ (passed_by b (c ∷ []) (none 0 1 b (omega arith) refl) ∙ passed_by c [] (none 0 2 c (omega arith) refl))) ∙ nothing
+  fourths (a ∷ b ∷ c ∷ d ∷ xs) none some zero r low count = absurd (omega (arith, low, count))
+  fourths (a ∷ b ∷ c ∷ d ∷ xs) none some (suc n) r low count =
+      let all : List X = a ∷ b ∷ c ∷ d ∷ xs in
+      let on : (k i : ℕ) → i + 4 * suc k ≡ suc (suc (suc (suc (i + 4 * k)))) = λ k i. omega arith in
+      let first = some 0 d refl in
+      let less : length xs ≡ r + 4 * n = omega (arith, count) in
+      ap length (one_of_four a b c d xs first.0 (none 0 0 a (omega arith) refl) (none 0 1 b (omega arith) refl) (none 0 2 c (omega arith) refl) first.1)
+      ∙ ap suc (fourths xs
+      (λ k i z below at_z. none (suc k) i z below (subst (λ m. slice_get all m ≡ Some z) (sym (on k i)) at_z))
+      (λ k z at_z. some (suc k) z (subst (λ m. slice_get all m ≡ Some z) (sym (on k 3)) at_z))
+      n r low less)
+
 -- ---- the parts behind the locks of banks
 
 module _ {L P : Type 0} {l : logs.Ghosts L} {p : disks.Ghosts P} where
@@ -96,31 +122,60 @@ module _ {L P : Type 0} {l : logs.Ghosts L} {p : disks.Ghosts P} where
   no_multis start es parts.Vacant k = k.multi refl
 
   module _ (start : Start) (lists : List (List Entry)) (locks : List (Part L P l p)) (stand : (lock : ℕ) (part : Part L P l p) → slice_get locks lock ≡ Some part → PartStands start lock part (at lists lock)) where
+    no_xacts : (k i : ℕ) (q : Part L P l p) → i < 3 → slice_get locks (i + 4 * k) ≡ Some q → xact_disk q ≡ None
+    no_xacts k i q low at_q = no_xact start (i + 4 * k) (at lists (i + 4 * k)) q (λ b e. omega (arith, low, e)) (stand (i + 4 * k) q at_q)
+
+    xacts : (k : ℕ) (q : Part L P l p) → slice_get locks (3 + 4 * k) ≡ Some q → (v : P) × (xact_disk q ≡ Some v)
+    xacts k q at_q = let h = xact_here start k (at lists (xact_lock k)) q (stand (xact_lock k) q at_q) in (h.0, h.1)
+
     xact_at : (bank : ℕ) (part : Part L P l p) (v : P) → slice_get locks (xact_lock bank) ≡ Some part → xact_disk part ≡ Some v → slice_get (xact_disks locks) bank ≡ Some v
-    xact_at bank part v found is = fourth xact_disk locks
-        (λ k i q low at_q. no_xact start (i + 4 * k) (at lists (i + 4 * k)) q (λ b e. omega (arith, low, e)) (stand (i + 4 * k) q at_q))
-        (λ k q at_q. let h = xact_here start k (at lists (xact_lock k)) q (stand (xact_lock k) q at_q) in (h.0, h.1))
-        bank part v found is
+    xact_at bank part v found is = fourth xact_disk locks no_xacts xacts bank part v found is
+
+    -- there are as many as banks
+    pub xact_many : (banks : ℕ) (volumes : List P) → start.banks ≡ banks → length locks ≡ 3 + 4 * banks → volumes ≡ xact_disks locks → length volumes ≡ start.banks
+    xact_many banks volumes same count is = ap length is ∙ (fourths xact_disk locks no_xacts xacts banks 3 (omega arith) count ∙ sym same)
+
+    -- the locks of pg_subtrans are a fourth of those behind the first
+    module _ (first : Part L P l p) (rest : List (Part L P l p)) (same : locks ≡ first ∷ rest) where
+      behind : (n : ℕ) (q : Part L P l p) → slice_get rest n ≡ Some q → slice_get locks (suc n) ≡ Some q
+      behind n q at_q = subst (λ (qs : List (Part L P l p)). slice_get qs (suc n) ≡ Some q) (sym same) at_q
+
+      no_subtranses : (k i : ℕ) (q : Part L P l p) → i < 3 → slice_get rest (i + 4 * k) ≡ Some q → subtrans_disk q ≡ None
+      no_subtranses k i q low at_q =
+          no_subtrans start (suc (i + 4 * k)) (at lists (suc (i + 4 * k))) q (λ b e. omega (arith, low, e)) (stand (suc (i + 4 * k)) q (behind (i + 4 * k) q at_q))
+
+      subtranses : (k : ℕ) (q : Part L P l p) → slice_get rest (3 + 4 * k) ≡ Some q → (v : P) × (subtrans_disk q ≡ Some v)
+      subtranses k q at_q =
+          let last : suc (3 + 4 * k) ≡ subtrans_lock k = omega arith in
+          let h = subtrans_here start k (at lists (subtrans_lock k)) q (stand (subtrans_lock k) q (subst (λ n. slice_get locks n ≡ Some q) last (behind (3 + 4 * k) q at_q))) in
+          (h.0, h.1)
+
+      none_first : subtrans_disks locks ≡ filter_map subtrans_disk rest
+      none_first =
+          ap (λ (qs : List (Part L P l p)). subtrans_disks qs) same
+          ∙ passed_by subtrans_disk first rest (no_subtrans start 0 (at lists 0) first (λ b e. omega (arith, e)) (stand 0 first (ap (λ (qs : List (Part L P l p)). slice_get qs 0) same)))
 
     subtrans_at : (bank : ℕ) (part : Part L P l p) (v : P) → slice_get locks (subtrans_lock bank) ≡ Some part → subtrans_disk part ≡ Some v → slice_get (subtrans_disks locks) bank ≡ Some v
-    subtrans_at bank part v found is = behind locks refl
+    subtrans_at bank part v found is = within locks refl
       where
-        behind : (all : List (Part L P l p)) → locks ≡ all → slice_get (subtrans_disks locks) bank ≡ Some v
-        behind [] same = absurd (let w = slice_get_within locks (subtrans_lock bank) part found in let e = ap length same in omega (arith, w, e))
-        behind (first ∷ rest) same =
-            let on : (i k : ℕ) → 1 + i + 4 * k ≡ suc (i + 4 * k) = λ i k. omega arith in
-            let shift : (i k : ℕ) (q : Part L P l p) → slice_get rest (i + 4 * k) ≡ Some q → slice_get locks (1 + i + 4 * k) ≡ Some q
-            = λ i k q e. subst (λ (qs : List (Part L P l p)). slice_get qs (1 + i + 4 * k) ≡ Some q) (sym same) (subst (λ n. slice_get (first ∷ rest) n ≡ Some q) (sym (on i k)) e) in
-            let last : (k : ℕ) → 1 + 3 + 4 * k ≡ subtrans_lock k = λ k. omega arith in
-            let none : subtrans_disk first ≡ None = no_subtrans start 0 (at lists 0) first (λ b e. omega (arith, e)) (stand 0 first (ap (λ (qs : List (Part L P l p)). slice_get qs 0) same)) in
-            ap (λ (qs : List (Part L P l p)). slice_get (subtrans_disks qs) bank) same
-            ∙ (ap (λ (vs : List P). slice_get vs bank) (passed_by subtrans_disk first rest none)
-            ∙ fourth subtrans_disk rest
-            (λ k i q low at_q. no_subtrans start (1 + i + 4 * k) (at lists (1 + i + 4 * k)) q (λ b e. omega (arith, low, e)) (stand (1 + i + 4 * k) q (shift i k q at_q)))
-            (λ k q at_q. let h = subtrans_here start k (at lists (subtrans_lock k)) q (stand (subtrans_lock k) q (subst (λ n. slice_get locks n ≡ Some q) (last k) (shift 3 k q at_q))) in (h.0, h.1))
-            bank part v
-            (subst (λ n. slice_get (first ∷ rest) n ≡ Some part) (sym (last bank) ∙ on 3 bank) (subst (λ (qs : List (Part L P l p)). slice_get qs (subtrans_lock bank) ≡ Some part) same found))
-            is)
+        within : (all : List (Part L P l p)) → locks ≡ all → slice_get (subtrans_disks locks) bank ≡ Some v
+        within [] same = absurd (let w = slice_get_within locks (subtrans_lock bank) part found in let e = ap length same in omega (arith, w, e))
+        within (first ∷ rest) same =
+            let last : subtrans_lock bank ≡ suc (3 + 4 * bank) = omega arith in
+            ap (λ (vs : List P). slice_get vs bank) (none_first first rest same)
+            ∙ fourth subtrans_disk rest (no_subtranses first rest same) (subtranses first rest same) bank part v
+            (subst (λ n. slice_get (first ∷ rest) n ≡ Some part) last (subst (λ (qs : List (Part L P l p)). slice_get qs (subtrans_lock bank) ≡ Some part) same found))
+            is
+
+    pub subtrans_many : (banks : ℕ) (volumes : List P) → start.banks ≡ banks → length locks ≡ 3 + 4 * banks → volumes ≡ subtrans_disks locks → length volumes ≡ start.banks
+    subtrans_many banks volumes is_banks count is = ap length is ∙ (within locks refl ∙ sym is_banks)
+      where
+        within : (all : List (Part L P l p)) → locks ≡ all → length (subtrans_disks locks) ≡ banks
+        within [] same = absurd (let e = ap length same in omega (arith, count, e))
+        within (first ∷ rest) same =
+            let e : length locks ≡ suc (length rest) = ap length same in
+            ap length (none_first first rest same)
+            ∙ fourths subtrans_disk rest (no_subtranses first rest same) (subtranses first rest same) banks 2 (omega arith) (omega (arith, count, e))
 
     -- each volume of pg_xact is as the part behind its lock has it
     pub xact_behind : (F : ℕ → P → Type 0) → ((bank : ℕ) (part : Part L P l p) → PartStands start (xact_lock bank) part (at lists (xact_lock bank)) → (v : P) × (xact_disk part ≡ Some v) × F bank v)

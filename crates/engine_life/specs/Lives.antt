@@ -1,5 +1,5 @@
 -- How a life begins, and what it leaves.
-use Rattle.std.specs.Prelude.{◌≡◌, ℕ, ◌<◌, ◌≤◌, List, [], Some, slice_get}
+use Rattle.std.specs.Prelude.{◌≡◌, ℕ, ◌<◌, ◌≤◌, List, [], Some, length, slice_get}
 use Rattle.disk_core.specs.declared.log_disk.LogDisk as logs
 use Rattle.disk_core.specs.declared.page_disk.PageDisk as disks
 use Rattle.disk_core.specs.declared.media.Volumes.{Volumes}
@@ -59,6 +59,11 @@ volumes_left life = record {
   offsets = life.offsets;
   members = life.members;
 }
+
+-- so many volumes of the stores that the life used
+pub record HaveVolumes {L P : Type 0} (banks : ℕ) (volumes : Volumes L P) : Type 0 where
+  pub xact : length volumes.xact.items ≡ banks
+  pub subtrans : length volumes.subtrans.items ≡ banks
 
 module _ {L P : Type 0} (l : logs.Ghosts L) (p : disks.Ghosts P) where
   -- Each volume that the life used has counted at least the faults that its lock's list tells.

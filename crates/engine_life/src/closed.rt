@@ -8,7 +8,7 @@ ghost use Rattle.tx_core.specs.Locks.{log_lock};
 ghost use Rattle.tx_core.specs.MultiEntries.{multi_history};
 ghost use Rattle.engine_parts.specs.Parts.{IsLogOf};
 ghost use Rattle.engine_host.specs.Hosts.{HoldsAllBut, IsHost};
-ghost use Rattle.engine_life.specs.Lives.{HaveCountedTold, HaveFollowed, volumes_left};
+ghost use Rattle.engine_life.specs.Lives.{HaveCountedTold, HaveFollowed, HaveVolumes, volumes_left};
 
 use crate::life::{Aside, OpenLife};
 use disk_core::{LogDisk, PageDisk, Volumes};
@@ -27,9 +27,9 @@ pub struct ClosedLife<L: LogDisk, P> {
 }
 
 /// Closes a life whose sessions are all dismissed. Its history and its log are those of the lists that the host has seen,
-/// which are all that was done, and of which the engine invariant holds; no multixact is in them. Each volume has counted
-/// at least the faults that its list tells, and a crash would leave of each of pg_xact what its list allows. Takes no
-/// memory.
+/// which are all that was done, and of which the engine invariant holds; no multixact is in them. Each bank has its two
+/// volumes. Each of these has counted at least the faults that its list tells, and a crash would leave of each of pg_xact
+/// what its list allows. Takes no memory.
 pub fn close_life<L: LogDisk + Drop, P: PageDisk + Drop>(life: OpenLife<L, P>) -> ClosedLife<L, P>
     requires host { IsHost life.hall life.host }
     requires all { HoldsAllBut life.host [] }
@@ -37,6 +37,7 @@ pub fn close_life<L: LogDisk + Drop, P: PageDisk + Drop>(life: OpenLife<L, P>) -
     ensures log { IsLogOf (start_of life.hall) result.log (at (view life.host.pass).seen log_lock) }
     ensures multis { multi_history (view life.host.pass).seen ≡ [] }
     ensures kept { EngineInvariant (start_of life.hall) (view life.host.pass).seen }
+    ensures banks { HaveVolumes (start_of life.hall).banks (volumes_left result) }
     ensures counted { HaveCountedTold L.LogDisk P.PageDisk (start_of life.hall) (view life.host.pass).seen (volumes_left result) }
     // In a life of fewer than 2,900,000 ids.
     ensures states { IsTrue P.tells → AreFewIds (view life.host.pass).seen → HaveFollowed P.PageDisk

@@ -26,7 +26,7 @@ use wal_core::WalLog;
 fn leave_truncated<L: LogDisk, P: PageDisk>(
     hall: &Hall<EngineLaw<L, P>>,
     caller: &mut Caller<L, P>,
-    log: WalLog<L>,
+    log: Box<WalLog<L>>,
     rec: &Rec,
 )
     requires own { IsOf hall.now caller.old.pass }
@@ -37,7 +37,7 @@ fn leave_truncated<L: LogDisk, P: PageDisk>(
     requires record { IsTruncationOf (start_of hall.now) (view caller.old.pass).seen rec.now }
     requires up { IsUp (at (view caller.old.pass).seen log_lock) }
     requires base { StaysBase (start_of hall.now) (view caller.old.pass).seen rec.now }
-    requires stands { IsLogOf (start_of hall.now) log
+    requires stands { IsLogOf (start_of hall.now) log.value
         (at (view caller.old.pass).seen log_lock ++ record {
           by = by_at caller.old.number caller.old.session.levels.commands;
           kind = kinds.Append rec.now;
@@ -78,18 +78,19 @@ pub fn append_truncation<R: Wait, L: LogDisk, P: PageDisk>(
     ensures takes { TakesTruncation (start_of hall.now) (view caller.new.pass).seen rec.now result }
     ensures same { (caller.new.session ≡ caller.old.session) × (caller.new.number ≡ caller.old.number) }
 {
-    let mut log = enter_log(rt, hall, caller);
+    let mut held = enter_log(rt, hall, caller);
+    let log = &mut *held;
     if !log.may_append(rec) {
-        leave_looked(hall, caller, 0, Part::Log(log));
+        leave_looked(hall, caller, 0, Part::Log(held));
         return Ok(Appended::NoBase);
     }
     match log.append(rec) {
         Ok(number) => {
-            leave_truncated(hall, caller, log, rec);
+            leave_truncated(hall, caller, held, rec);
             Ok(Appended::At { number })
         }
         Err(refusal) => {
-            leave_looked(hall, caller, 0, Part::Log(log));
+            leave_looked(hall, caller, 0, Part::Log(held));
             Err(refusal_of(refusal))
         }
     }

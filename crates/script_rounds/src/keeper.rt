@@ -29,6 +29,10 @@ pub trait LineKeeper {
     fn none(alloc: Global) -> Self
         ensures { result ≡ nothing };
 
+    /// Keeps nothing any more. Its room stays.
+    fn forget(&mut self)
+        ensures { self.new ≡ nothing };
+
     /// Begins the round of this number.
     fn add_round(&mut self, number: u64) -> Result<(), Memory>
         ensures { OnOk result (self.new ≡ with_round self.old number) };
@@ -86,6 +90,10 @@ impl LineKeeper for Text {
 
     fn none(alloc: Global) -> Text {
         Text::new(alloc)
+    }
+
+    fn forget(&mut self) {
+        self.clear();
     }
 
     fn add_round(&mut self, number: u64) -> Result<(), Memory> {

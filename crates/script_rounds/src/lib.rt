@@ -2,6 +2,7 @@
 #![tactic(auto)]
 
 mod keeper;
+mod places;
 mod plan;
 mod tally;
 mod told;

@@ -4,9 +4,10 @@ ghost use Rattle.std.specs.List.{All};
 ghost use Rattle.script_rounds.specs.Plans.{IsBlank, IsListed, IsPlanOf};
 ghost use Rattle.run_law.specs.Turns.{MayRun};
 
+use crate::places::Places;
 use session_lang::Items;
 use std::alloc::Global;
-use tx_model::{Memory, Sequence};
+use tx_model::Memory;
 
 /// Whose the commands of a round are, so that no session has to look through those of the others.
 #[derive(Drop)]
@@ -14,17 +15,17 @@ pub struct Plan {
     /// The sessions that have commands, in the order in which they first appear.
     pub sessions: Vec<u32>,
     /// The places of each session's commands, by the session's number.
-    pub places: Vec<Sequence<usize>>,
+    pub places: Vec<Places>,
 }
 
 /// No places, for so many sessions.
-fn no_places(alloc: Global, sessions: usize) -> Result<Vec<Sequence<usize>>, Memory>
+fn no_places(alloc: Global, sessions: usize) -> Result<Vec<Places>, Memory>
     ensures count { IfOk result (λ all. length all.items ≡ sessions) }
     ensures none { IfOk result (λ all. All (λ (places : List ℕ). places ≡ []) all.items) }
 {
     let mut all = Vec::with_capacity(alloc, sessions)?;
     for _ in 0..sessions {
-        all.push(Sequence::new(alloc))?;
+        all.push(Places::new(alloc))?;
     }
     Ok(all)
 }
@@ -72,14 +73,14 @@ impl Plan {
         Ok(())
     }
 
-    /// Forgets the round. Takes time for the sessions that have commands in it alone.
-    pub fn clear(&mut self, alloc: Global)
+    /// Forgets the round. Takes time for the sessions that have commands in it alone, and keeps the room of their places.
+    pub fn clear(&mut self)
         requires { IsListed self.old }
         ensures blank { IsBlank self.new }
         ensures count { length self.new.places.items ≡ length self.old.places.items }
     {
         while let Some(session) = self.sessions.pop() {
-            self.places[session as usize] = Sequence::new(alloc);
+            self.places[session as usize].clear();
         }
     }
 }

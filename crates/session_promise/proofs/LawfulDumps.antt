@@ -1,5 +1,5 @@
 -- The dumps of a life, between its rounds.
-use Rattle.std.proofs.Common.{Bool, Contains, List, [], ap, append_assoc, inl, inr, length, map, refl, subst, sym, take, ℕ, ⊎_elim, ◌++◌, ◌∙◌, ◌∷◌, ◌≡◌}
+use Rattle.std.proofs.Common.{Bool, Contains, List, [], ap, append_assoc, inl, inr, length, map, subst, sym, take, ℕ, ⊎_elim, ◌++◌, ◌∙◌, ◌∷◌, ◌≡◌}
 use Rattle.std.proofs.Math.Seq.{take-append_seam}
 use Rattle.std.proofs.lemmas.List.{map-append}
 use Rattle.std.proofs.lemmas.List.Elements.{Contains-append_right}
@@ -27,7 +27,7 @@ use Rattle.life_law.specs.Dumps.{AreLawfulDumps, IsLawfulBetween, IsXactCutoff, 
 use Rattle.life_law.specs.LawfulLife.{facts_of}
 use Rattle.tx_core.specs.declared.entry.Entry.{Entry}
 use Rattle.tx_core.specs.declared.entry.Start.{Start}
-use Rattle.tx_core.specs.Entries.{appended, history, recs_in, records_in}
+use Rattle.tx_core.specs.Entries.{appended, history, records_in}
 use Rattle.tx_core.specs.Locks.{log_lock}
 use Rattle.tx_core.proofs.Growing.{begins_filter_map, contains_begins}
 use Rattle.tx_core.proofs.Lasting.{history_grows}

@@ -172,6 +172,7 @@ volumes_back l p c opened closed life first gives mounted new began only left =
       volumes = volumes_left closed;
       began = began;
       only = only;
+      same = left.same mounted new;
       log = left.log;
       states = λ told bank low. subst (λ n. BankHolds p life.life n bank (volumes_left closed).xact.items) (sym banks) (left.states told bank (omega (arith, low, banks)));
       causes = left.causes mounted new;

@@ -4,7 +4,7 @@ use Rattle.std.proofs.lemmas.List.{length-map}
 use Rattle.std.proofs.lemmas.Grind.{flat_map-append}
 use Rattle.std.proofs.lemmas.List.Elements.{filter-append, filter_map-append}
 use Rattle.std.proofs.lemmas.List.Sums.{count_by-le-length, length-filter}
-use Rattle.std.specs.List.{count_by, filter, flat_map}
+use Rattle.std.specs.List.{count_by, filter}
 use Rattle.tx_model.specs.declared.command.Command.{Command}
 use Rattle.tx_model.specs.declared.report.Line.{Line}
 use Rattle.tx_model.specs.declared.report.Step.{Step}
@@ -22,7 +22,7 @@ use Rattle.run_law.proofs.AllTurns.{Turns, all_turns, grouped_count, turns_of_al
 use Rattle.run_law.proofs.PartSums.{count_join}
 use Rattle.script_rounds.proofs.RoundLemmas.{grouped_short, turns_short}
 use Rattle.session_promise.specs.Promise.{is_made_level}
-use Rattle.session_promise.specs.Told.{ToldRound, all_lines, lines_by, lines_of, steps_of, told_by}
+use Rattle.session_promise.specs.Told.{ToldRound, all_lines, steps_of, told_by}
 use Rattle.session_promise.proofs.Telling.{lines_told}
 
 -- each round's lines are its commands

@@ -1,5 +1,5 @@
 -- What rounds leave of a life.
-use Rattle.std.proofs.Common.{◌≡◌, ℕ, zero, suc, ◌+◌, ◌^◌, ◌<◌, ◌≤◌, List, [], ◌∷◌, ◌++◌, Some, refl, sym, ap, subst, ◌∙◌, arith, get_or, length, append-nil}
+use Rattle.std.proofs.Common.{◌≡◌, ℕ, zero, suc, ◌+◌, ◌^◌, ◌<◌, List, [], ◌∷◌, ◌++◌, Some, refl, sym, ap, subst, ◌∙◌, arith, get_or, length, append-nil}
 use Rattle.std.proofs.lemmas.List.Elements.{All-get_or, filter-append}
 use Rattle.std.specs.List.{All, AllByRecursion, filter, slice_get}
 use Rattle.disk_core.specs.declared.log_disk.LogDisk as logs
@@ -29,7 +29,7 @@ use Rattle.engine_dumps.specs.Homes.{StaysHome}
 use Rattle.engine_dumps.specs.Dumps.{IsAnswered}
 use Rattle.session_promise.specs.Dumps.{AreDumpsTold, IsStepTold}
 use Rattle.session_promise.specs.SoFar.{IsSoFar}
-use Rattle.session_promise.specs.Told.{ToldRound, steps_of}
+use Rattle.session_promise.specs.Told.{steps_of}
 use Rattle.session_promise.proofs.LawfulDumps.{dumps_stay}
 use Rattle.session_run.specs.Rounds.{AreParked, MayAdd}
 use Rattle.session_run.specs.GoesOn.{AreHome, GoesOn, HasRoundMore}

@@ -4,6 +4,7 @@ use Rattle.disk_core.specs.declared.log_disk.LogDisk as logs
 use Rattle.disk_core.specs.declared.page_disk.PageDisk as disks
 use Rattle.disk_core.specs.declared.media.Volumes.{Volumes}
 use Rattle.disk_core.specs.Images.{Only}
+use Rattle.disk_core.specs.Media.{HaveSameBanks}
 use Rattle.tx_model.specs.declared.report.LifeReport.{LifeReport}
 use Rattle.wal_core.specs.LogViews.{log_disk}
 use Rattle.engine_host.specs.declared.cluster.Cluster.{Cluster}
@@ -14,14 +15,15 @@ use Rattle.session_run.specs.Causes.{HaveCauses}
 use Rattle.session_run.specs.Records.{BankHolds, LogHolds}
 
 module _ {L P : Type 0} (l : logs.Ghosts L) (p : disks.Ghosts P) where
-  -- Such volumes were mounted as may come first, and the media gives back no others than these. The log's has the records,
-  -- if it tells what it holds; those of pg_xact say committed only of what is on disk there, if they tell; and none counted
-  -- fewer faults than any one session's commands were told of.
+  -- Such volumes were mounted as may come first, and the media gives back no others than these, which are as many of each
+  -- kind. The log's has the records, if it tells what it holds; those of pg_xact say committed only of what is on disk
+  -- there, if they tell; and none counted fewer faults than any one session's commands were told of.
   pub record LeavesVolumes (first gives : Volumes L P → Type 0) (life : LifeReport) : Type 0 where
     pub mounted : Volumes L P
     pub volumes : Volumes L P
     pub began : first mounted
     pub only : Only volumes gives
+    pub same : HaveSameBanks mounted volumes
     pub log : IsTrue l.tells → LogHolds l life.life volumes.log
     pub states : IsTrue p.tells → (bank : ℕ) → bank < length mounted.xact.items
         → BankHolds p life.life (length mounted.xact.items) bank volumes.xact.items
@@ -33,4 +35,5 @@ module _ {L P : Type 0} (l : logs.Ghosts L) (p : disks.Ghosts P) where
     pub log : IsTrue l.tells → LogHolds l life.life (log_disk closed.log)
     pub states : IsTrue p.tells → (bank : ℕ) → bank < c.banks
         → BankHolds p life.life c.banks bank (volumes_left closed).xact.items
+    pub same : (mounted : Volumes L P) → IsNewLife c mounted opened → HaveSameBanks mounted (volumes_left closed)
     pub causes : (mounted : Volumes L P) → IsNewLife c mounted opened → HaveCauses l p life.steps mounted (volumes_left closed)

@@ -31,6 +31,20 @@ fn keeper_laws<K: LineKeeper>(_names: &NameList)
         → K.joined kept (K.with_lines _names.now K.nothing lines) ≡ K.with_lines _names.now kept lines }
 {}
 
+/// A keeper of nothing, in the room of one that is not used any more, if there is one.
+fn fresh<K: LineKeeper>(alloc: Global, spare: &mut Vec<K>) -> K
+    ensures { result ≡ K.nothing }
+{
+    match spare.pop() {
+        Some(used) => {
+            let mut kept = used;
+            kept.forget();
+            kept
+        }
+        None => K::none(alloc),
+    }
+}
+
 /// Lets the sessions of a round in.
 fn let_in<K: LineKeeper, L: LogDisk, P: PageDisk>(
     hall: &Hall<EngineLaw<L, P>>,
@@ -39,6 +53,7 @@ fn let_in<K: LineKeeper, L: LogDisk, P: PageDisk>(
     numbers: &[u32],
     sessions: &mut [Session],
     members: &mut Vec<Member<K, L, P>>,
+    spare: &mut Vec<K>,
 )
     requires host { IsHost hall.now host.old }
     requires names { HoldsAllBut host.old [] }
@@ -58,7 +73,7 @@ fn let_in<K: LineKeeper, L: LogDisk, P: PageDisk>(
         let session = mem::replace(&mut sessions[*number as usize], new_session(alloc));
         members.push_reserved(Member {
             caller: admit(hall, host, *number, session),
-            kept: K::none(alloc),
+            kept: fresh(alloc, spare),
             lines: ToldLines::none(),
             lost: false,
         });
@@ -138,12 +153,13 @@ fn join_members<K: LineKeeper, L: LogDisk, P: PageDisk>(
     Ok(())
 }
 
-/// Takes the sessions of a round back.
+/// Takes the sessions of a round back, and their keepers for the next round.
 fn take_back<K: LineKeeper + Drop, L: LogDisk, P: PageDisk>(
     hall: &Hall<EngineLaw<L, P>>,
     host: &mut Host<L, P>,
     members: &mut Vec<Member<K, L, P>>,
     sessions: &mut [Session],
+    spare: &mut Vec<K>,
 )
     requires host { IsHost hall.now host.old }
     requires names { HoldsAllBut host.old (numbers_of members.old.items) }
@@ -161,13 +177,15 @@ fn take_back<K: LineKeeper + Drop, L: LogDisk, P: PageDisk>(
     while let Some(member) = members.pop() {
         let Member {
             caller,
-            kept: _,
+            kept,
             lines: _,
             lost: _,
         } = member;
         let number = caller.number;
         let session = dismiss(hall, host, caller);
         sessions[number as usize] = session;
+        // Without memory for its place it goes.
+        let _ = spare.push(kept);
     }
 }
 
@@ -190,6 +208,7 @@ pub fn run_round<
     round: &Items,
     names: &NameList,
     kept: &mut K,
+    spare: &mut Vec<K>,
     threads: usize,
 ) -> Result<(), Memory>
     requires threads { 0 < threads }
@@ -219,6 +238,7 @@ pub fn run_round<
         plan.sessions.as_slice(),
         sessions,
         &mut members,
+        spare,
     );
     run_members(
         rt,
@@ -232,7 +252,7 @@ pub fn run_round<
         threads,
     );
     let joined = join_members(members.as_slice(), kept);
-    take_back(hall, host, &mut members, sessions);
+    take_back(hall, host, &mut members, sessions, spare);
     members.destroy_empty();
     joined
 }

@@ -56,6 +56,7 @@ fn run_numbered<
     round: &Items,
     names: &NameList,
     kept: &mut K,
+    spare: &mut Vec<K>,
     threads: usize,
 ) -> Result<(), Memory>
     requires home { AreHome hall.now host.old sessions.old }
@@ -75,9 +76,9 @@ fn run_numbered<
     kept.add_round(rounds + 1)?;
     let count = threads_for(plan, round, threads);
     run_round(
-        rt, alloc, hall, host, sessions, plan, round, names, kept, count,
+        rt, alloc, hall, host, sessions, plan, round, names, kept, spare, count,
     )?;
-    plan.clear(alloc);
+    plan.clear();
     Ok(())
 }
 
@@ -98,6 +99,7 @@ fn run_next<
     round: &Items,
     names: &NameList,
     kept: &mut K,
+    spare: &mut Vec<K>,
     threads: usize,
 ) -> Result<u64, Memory>
     requires home { AreHome hall.now host.old sessions.old }
@@ -118,7 +120,7 @@ fn run_next<
         return Ok(rounds);
     }
     run_numbered(
-        rt, alloc, hall, host, sessions, plan, rounds, round, names, kept, threads,
+        rt, alloc, hall, host, sessions, plan, rounds, round, names, kept, spare, threads,
     )?;
     Ok(rounds + 1)
 }
@@ -181,12 +183,14 @@ fn run_each<
         kept.old kept.new) }
 {
     let mut plan = Plan::new(alloc, sessions.len())?;
+    let mut spare = Vec::new(alloc);
     let mut rest = script;
     let mut rounds = 0;
     while !rest.is_empty() {
         let (round, behind) = next_round(&rest);
         rounds = run_next(
-            rt, alloc, hall, host, sessions, &mut plan, rounds, &round, names, kept, threads,
+            rt, alloc, hall, host, sessions, &mut plan, rounds, &round, names, kept, &mut spare,
+            threads,
         )?;
         let place = round.len();
         show_next(rt, alloc, hall, host, sessions, &rest, place, names, kept)?;

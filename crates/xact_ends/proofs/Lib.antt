@@ -8,3 +8,5 @@ pub mod Unrecorded
 pub mod RolledBack
 pub mod Undone
 pub mod Truncating
+pub mod Fitting
+pub mod Landing

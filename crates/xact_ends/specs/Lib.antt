@@ -3,3 +3,4 @@ pub mod Trees
 pub mod Ends
 pub mod Aborts
 pub mod Undos
+pub mod Logged

@@ -7,9 +7,9 @@ ghost use Rattle.engine_parts.specs.Calls.{MayStep};
 ghost use Rattle.engine_parts.specs.Sessions.{by_at};
 ghost use Rattle.xact_ends.specs.Ends.{Commits};
 
-use crate::logging::log_commit;
+use crate::logging::log_commit_record;
 use crate::settling::set_tree;
-use bank_sections::{record_parent, stall};
+use bank_sections::record_parent;
 use disk_core::{LogDisk, PageDisk};
 use engine_parts::{Caller, EngineLaw, Stage};
 use hall::Hall;
@@ -89,8 +89,7 @@ fn record_of(alloc: Global, opened: &[FullXid]) -> Result<Rec, Memory>
     Ok(Rec::Commit { top, subs })
 }
 
-/// Appends the record, and goes on. It waits for ever where the log can't take the record even behind a truncation's; no
-/// clause says that this can't come.
+/// Appends the record, and goes on.
 fn log_and_finish<R: Wait, L: LogDisk, P: PageDisk>(
     rt: &R,
     hall: &Hall<EngineLaw<L, P>>,
@@ -114,15 +113,12 @@ fn log_and_finish<R: Wait, L: LogDisk, P: PageDisk>(
         Ok(rec) => rec,
         Err(Memory) => return Err(Refusal::Memory),
     };
-    match log_commit(rt, hall, caller, &rec) {
-        Ok(appended) => {
-            if let Appended::At { number } = appended {
-                return flush_and_finish(rt, hall, caller, banks, number);
-            }
-            stall(rt);
-            unreachable!()
-        }
-        Err(refusal) => return Err(refusal),
+    match log_commit_record(rt, hall, caller, &rec) {
+        Ok(appended) => match appended {
+            Appended::At { number } => flush_and_finish(rt, hall, caller, banks, number),
+            Appended::NoBase => unreachable!(),
+        },
+        Err(refusal) => Err(refusal),
     }
 }
 

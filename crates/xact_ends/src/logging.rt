@@ -1,5 +1,5 @@
 //! The record of a commit or an abort comes to the log, behind a truncation's where the log can't take it yet.
-ghost use Rattle.std.specs.Prelude.{◌≡◌, ◌+◌, ◌*◌, [], false, IfErr, None};
+ghost use Rattle.std.specs.Prelude.{◌≡◌, ◌+◌, ◌*◌, ◌≤◌, [], false, IfErr, None, OnOk, length};
 ghost use Rattle.hall.specs.Calls.{view, IsOf, start_of};
 ghost use Rattle.engine_parts.specs.declared.session.Stage.TheVariants as stages;
 ghost use Rattle.engine_parts.specs.Adding.{Adds, IsOfAbort, IsOfCommit, IsTruncation, MayAdd};
@@ -7,6 +7,7 @@ ghost use Rattle.engine_parts.specs.Sessions.{MayCall, by_at};
 ghost use Rattle.engine_parts.specs.Stages.{may_be_aborted, may_be_recorded};
 ghost use Rattle.engine_parts.specs.Steps.{WentOn};
 ghost use Rattle.log_sections.specs.LogSections.{Appends, IsAbortOf, IsAppendRefused, IsCommitOf, TakesAbort};
+ghost use Rattle.xact_ends.specs.Logged.{IsNumbered, IsOldestTold};
 
 use disk_core::{LogDisk, PageDisk};
 use engine_parts::{Caller, EngineLaw};
@@ -16,7 +17,8 @@ use proc_sections::read_truncation;
 use std::sync::Wait;
 use tx_events::{Rec, Refusal};
 
-/// Appends the record of a truncation to the announced oldest id, which the log's records may not tell yet.
+/// Appends the record of a truncation to the announced oldest id, which the log's records may not tell yet. The session
+/// has an id open, and the log can take the record: the open id is from the announced one on, and below its stop limit.
 fn log_truncation<R: Wait, L: LogDisk, P: PageDisk>(
     rt: &R,
     hall: &Hall<EngineLaw<L, P>>,
@@ -25,23 +27,29 @@ fn log_truncation<R: Wait, L: LogDisk, P: PageDisk>(
     requires own { IsOf hall.now caller.old.pass }
     requires laid { hall.now.cells ≡ 3 + 4 * (start_of hall.now).banks }
     requires may { MayCall (start_of hall.now) (view caller.old.pass) caller.old.number caller.old.session }
+    requires some { 1 ≤ length caller.old.session.levels.open_ids.items }
     ensures own { IsOf hall.now caller.new.pass }
     ensures may { MayCall (start_of hall.now) (view caller.new.pass) caller.new.number caller.new.session }
     ensures went { WentOn caller.old.number [] (view caller.old.pass).seen (view caller.new.pass).seen }
     ensures adds { Adds (by_at caller.old.number caller.old.session.levels.commands) (MayAdd IsTruncation ⊥ (λ _. ⊥))
         (view caller.old.pass).seen (view caller.new.pass).seen }
+    ensures told { OnOk result (IsOldestTold (start_of hall.now) (view caller.old.pass).seen
+        (view caller.new.pass).seen) }
     ensures refused { IfErr result (IsAppendRefused (start_of hall.now) (view caller.new.pass).seen) }
     ensures same { (caller.new.session ≡ caller.old.session) × (caller.new.number ≡ caller.old.number) }
 {
     let rec = read_truncation(rt, hall, caller);
     match append_truncation(rt, hall, caller, &rec) {
-        Ok(_appended) => Ok(()),
+        Ok(appended) => match appended {
+            Appended::At { .. } => Ok(()),
+            Appended::NoBase => unreachable!(),
+        },
         Err(refusal) => Err(refusal),
     }
 }
 
 /// Appends the record of a truncation, and then the commit record.
-fn log_behind<R: Wait, L: LogDisk, P: PageDisk>(
+fn log_commit_behind<R: Wait, L: LogDisk, P: PageDisk>(
     rt: &R,
     hall: &Hall<EngineLaw<L, P>>,
     caller: &mut Caller<L, P>,
@@ -61,6 +69,7 @@ fn log_behind<R: Wait, L: LogDisk, P: PageDisk>(
         (view caller.old.pass).seen (view caller.new.pass).seen }
     ensures appends { Appends (start_of hall.now) (view caller.new.pass).seen rec.now caller.old.session
         caller.new.session result }
+    ensures numbered { IsNumbered result }
     ensures number { caller.new.number ≡ caller.old.number }
 {
     match log_truncation(rt, hall, caller) {
@@ -73,9 +82,8 @@ fn log_behind<R: Wait, L: LogDisk, P: PageDisk>(
 /// oldest id that the log's records tell is too far behind, a truncation's record comes first. That one stays also where
 /// the log then refuses the commit record.
 ///
-/// Refused with `LogDown`, or where the log isn't down with `Full` or `Memory`. The commit record wasn't appended then,
-/// nor where the log can't take it even behind the truncation.
-pub(crate) fn log_commit<R: Wait, L: LogDisk, P: PageDisk>(
+/// Refused with `LogDown`, or where the log isn't down with `Full` or `Memory`; then the commit record wasn't appended.
+pub(crate) fn log_commit_record<R: Wait, L: LogDisk, P: PageDisk>(
     rt: &R,
     hall: &Hall<EngineLaw<L, P>>,
     caller: &mut Caller<L, P>,
@@ -95,12 +103,13 @@ pub(crate) fn log_commit<R: Wait, L: LogDisk, P: PageDisk>(
         (view caller.old.pass).seen (view caller.new.pass).seen }
     ensures appends { Appends (start_of hall.now) (view caller.new.pass).seen rec.now caller.old.session
         caller.new.session result }
+    ensures numbered { IsNumbered result }
     ensures number { caller.new.number ≡ caller.old.number }
 {
     match append_commit(rt, hall, caller, rec) {
         Ok(appended) => match appended {
             Appended::At { number } => Ok(Appended::At { number }),
-            Appended::NoBase => log_behind(rt, hall, caller, rec),
+            Appended::NoBase => log_commit_behind(rt, hall, caller, rec),
         },
         Err(refusal) => Err(refusal),
     }
@@ -127,6 +136,7 @@ fn log_abort_behind<R: Wait, L: LogDisk, P: PageDisk>(
         (view caller.old.pass).seen (view caller.new.pass).seen }
     ensures takes { TakesAbort (start_of hall.now) (view caller.new.pass).seen rec.now caller.old.session
         caller.new.session result }
+    ensures numbered { IsNumbered result }
     ensures number { caller.new.number ≡ caller.old.number }
 {
     match log_truncation(rt, hall, caller) {
@@ -139,8 +149,7 @@ fn log_abort_behind<R: Wait, L: LogDisk, P: PageDisk>(
 /// oldest id that the log's records tell is too far behind, a truncation's record comes first. That one stays also where
 /// the log then refuses the abort record.
 ///
-/// Refused with `LogDown`, or where the log isn't down with `Full` or `Memory`. The abort record wasn't appended then,
-/// nor where the log can't take it even behind the truncation.
+/// Refused with `LogDown`, or where the log isn't down with `Full` or `Memory`; then the abort record wasn't appended.
 pub(crate) fn log_abort_record<R: Wait, L: LogDisk, P: PageDisk>(
     rt: &R,
     hall: &Hall<EngineLaw<L, P>>,
@@ -161,6 +170,7 @@ pub(crate) fn log_abort_record<R: Wait, L: LogDisk, P: PageDisk>(
         (view caller.old.pass).seen (view caller.new.pass).seen }
     ensures takes { TakesAbort (start_of hall.now) (view caller.new.pass).seen rec.now caller.old.session
         caller.new.session result }
+    ensures numbered { IsNumbered result }
     ensures number { caller.new.number ≡ caller.old.number }
 {
     match append_abort(rt, hall, caller, rec) {

@@ -5,10 +5,10 @@ use Rattle.tx_events.specs.declared.refusal.Lock.TheVariants as locks
 use Rattle.tx_model.specs.declared.report.DumpOf.TheVariants as dumps
 use Rattle.tx_model.specs.declared.reply.Reply.{Reply}
 use Rattle.tx_core.specs.Locks.{xact_lock}
-use Rattle.engine_dumps.specs.Dumps.{IsAnswered, IsFaultCounted, ShowsBytes}
+use Rattle.engine_dumps.specs.Dumps.{IsAnswered, IsCutTold, IsFaultCounted, ShowsBytes}
 use Rattle.engine_dumps.specs.Shown.{HasFailed, ShowsXact}
-use Rattle.engine_dumps.proofs.Answering.{bank_counted, bank_shows, bytes_counted}
-use Rattle.engine_dumps.proofs.Cutoffs.{xact_refused, xact_told}
+use Rattle.engine_dumps.proofs.FaultsTold.{bank_counted, bank_shows, bytes_counted}
+use Rattle.engine_dumps.proofs.Cutoffs.{xact_cut_told, xact_refused, xact_told}
 use Rattle.engine_dumps.proofs.answering.show_xact.Goals as goal
 
 pub bank_of-bank-requires : goal.bank_of-bank-requires
@@ -62,8 +62,7 @@ pub returns-in-Ok-clause-fault : goal.returns-in-Ok-clause-fault
 returns-in-Ok-clause-fault g c =
     let start = start_of c.args.hall.now in
     let seen = (view c.args.host.now.pass).seen in
-    subst (IsFaultCounted g.L.LogDisk g.P.PageDisk start seen) (sym c.bytes_reply.ensures.reply)
-    (bytes_counted g.L.LogDisk g.P.PageDisk start seen _)
+    bytes_counted g.L.LogDisk g.P.PageDisk start seen c.bytes_reply.result _ c.bytes_reply.ensures.reply
 
 pub returns-in-Err-clause-bytes : goal.returns-in-Err-clause-bytes
 returns-in-Err-clause-bytes g c =
@@ -80,3 +79,16 @@ returns-in-Err-clause-fault g c =
     subst (IsFaultCounted g.L.LogDisk g.P.PageDisk start seen) (sym c.refused.ensures)
     (bank_counted g.L.LogDisk g.P.PageDisk start seen (locks.Xact c.bank_of-bank.result) c.in-Err.refusal
     (λ e. subst (λ (n : ℕ). HasFailed g.L.LogDisk g.P.PageDisk start seen (xact_lock n)) (sym here) (c.in-Err.ensures.fault (ap Err e))))
+
+pub returns-in-Ok-clause-cut : goal.returns-in-Ok-clause-cut
+returns-in-Ok-clause-cut g c =
+    let start = start_of c.args.hall.now in
+    let seen = (view c.args.host.now.pass).seen in
+    subst (IsCutTold g.P.PageDisk.tells start seen (dumps.Xact c.args.page)) (sym c.bytes_reply.ensures.reply) tt
+
+pub returns-in-Err-clause-cut : goal.returns-in-Err-clause-cut
+returns-in-Err-clause-cut g c =
+    let start = start_of c.args.hall.now in
+    let seen = (view c.args.host.now.pass).seen in
+    subst (IsCutTold g.P.PageDisk.tells start seen (dumps.Xact c.args.page)) (sym c.refused.ensures)
+    (xact_cut_told g.P.PageDisk.tells start seen c.args.page (locks.Xact c.bank_of-bank.result) c.in-Err.refusal (λ cutoff e. c.in-Err.ensures.cut cutoff (ap Err e)) (λ told cutoff e. c.in-Err.ensures.first told cutoff (ap Err e)))

@@ -14,6 +14,7 @@ use Rattle.engine_parts.specs.Parts.{IsXactOf}
 use Rattle.bank_sections.specs.Sections.{IsXactCut}
 use Rattle.bank_sections.proofs.Sameness.{xact_same}
 use Rattle.engine_dumps.specs.Shown.{HasFailed, IsXactUncut, ShowsXact}
+use Rattle.engine_dumps.proofs.Cutoffs.{first_told}
 use Rattle.engine_dumps.proofs.Homing.{came_home}
 use Rattle.engine_dumps.proofs.Showing.{of_ok, ok_by, read_same, read_uncut, shows_xact}
 use Rattle.engine_dumps.proofs.pages.dump_xact.Goals as goal
@@ -81,6 +82,15 @@ returns-clause-cut g c cutoff is =
     let here : c.bank_of-bank.result ≡ c.args.page % start.banks = c.bank_of-bank.ensures.value ∙ ap (λ n. c.args.page % n) (sym c.requires.home.is_host.banks) in
     subst (λ (z : List (List Entry) × ℕ × ℕ). IsXactCut start z.0 z.1 c.args.page z.2) (λ j. (i.seen j, here j, sym cut.0 j))
     ((subst (λ l. IsXactOf (start_of c.args.hall.now) c.bank_of-bank.result l (at (view c.take_xact-held.new.host.pass).seen (xact_lock c.bank_of-bank.result))) (sym c.deref_mut-store.ensures.value) c.take_xact-held.ensures.stands).cutoff_is, cut.1)
+
+pub returns-clause-first : goal.returns-clause-first
+returns-clause-first g c told cutoff is =
+    let start = start_of c.args.hall.now in
+    let store = c.deref_mut-store.result.now in
+    let bank = c.bank_of-bank.result in
+    let es : List Entry = at (view c.take_xact-held.new.host.pass).seen (xact_lock bank) in
+    let stood = subst (λ l. IsXactOf start bank l es) (sym c.deref_mut-store.ensures.value) c.take_xact-held.ensures.stands in
+    first_told start bank cutoff store es (c.read-found.ensures.bank.calls.only_cut cutoff is).0 (stood.course told)
 
 pub returns-clause-fault : goal.returns-clause-fault
 returns-clause-fault g c is =

@@ -5,7 +5,7 @@ use Rattle.proc_table.specs.Table.{Table}
 use Rattle.tx_core.specs.Locks.{log_lock}
 use Rattle.engine_parts.specs.declared.part.Part.TheVariants as parts
 use Rattle.engine_parts.specs.Parts.{IsLogOf}
-use Rattle.engine_life.proofs.Counts.{multis_untold, subtrans_told, xact_behind, xact_told}
+use Rattle.engine_life.proofs.Counts.{multis_untold, subtrans_many, subtrans_told, xact_behind, xact_many, xact_told}
 use Rattle.engine_life.proofs.Followed.{follows_here}
 use Rattle.engine_life.specs.Lives.{FollowsList}
 use Rattle.engine_life.proofs.closed.close_life.Goals as goal
@@ -40,6 +40,19 @@ returns-clause-counted g c =
       log = log.count;
       xact = xact_told start seen locks closed.stand banks taken.result.xact.items c.requires.host.banks closed.count taken.ensures.xact;
       subtrans = subtrans_told start seen locks closed.stand banks taken.result.subtrans.items c.requires.host.banks closed.count taken.ensures.subtrans;
+    }
+
+pub returns-clause-banks : goal.returns-clause-banks
+returns-clause-banks g c =
+    let taken = c.take_apart-log in
+    let start = start_of c.args.life.hall in
+    let seen = (view c.args.life.host.pass).seen in
+    let locks = c.close-parts.result.locks.items in
+    let closed = c.close-parts.ensures in
+    let banks = c.args.life.host.cluster.banks in
+    record {
+      xact = xact_many start seen locks closed.stand banks taken.result.xact.items c.requires.host.banks closed.count taken.ensures.xact;
+      subtrans = subtrans_many start seen locks closed.stand banks taken.result.subtrans.items c.requires.host.banks closed.count taken.ensures.subtrans;
     }
 
 pub returns-clause-multis : goal.returns-clause-multis

@@ -18,7 +18,7 @@ leave_log-requires-clause-may g c =
 
 pub leave_log-requires-clause-stands : goal.leave_log-requires-clause-stands
 leave_log-requires-clause-stands g c =
-    subst (λ (e : Entry). IsLogOf (start_of c.args.hall.now) c.args.log (at (view c.args.caller.now.pass).seen log_lock ++ e ∷ [])) (sym (c.by-entry.ensures ∙ ap (λ (b : By). append_entry b c.args.rec.now) c.command_of-by.ensures)) c.requires.stands
+    subst (λ (e : Entry). IsLogOf (start_of c.args.hall.now) c.args.log.value (at (view c.args.caller.now.pass).seen log_lock ++ e ∷ [])) (sym (c.by-entry.ensures ∙ ap (λ (b : By). append_entry b c.args.rec.now) c.command_of-by.ensures)) c.requires.stands
 
 pub leave_log-requires-clause-session : goal.leave_log-requires-clause-session
 leave_log-requires-clause-session g c = ap (λ (e : Entry). e.by.session) (c.by-entry.ensures ∙ ap (λ (b : By). append_entry b c.args.rec.now) c.command_of-by.ensures) ∙ sym c.requires.at.name

@@ -1,6 +1,7 @@
-use Rattle.std.proofs.Common.{subst, sym, ◌∙◌, ◌<◌}
+use Rattle.std.proofs.Common.{ap, length, subst, sym, ◌∙◌, ◌<◌}
 use Rattle.std.proofs.lemmas.Result.{on_ok_weaker}
 use Rattle.hall.specs.Calls.{start_of, view}
+use Rattle.tx_core.specs.declared.entry.Start.{Start}
 use Rattle.engine_life.specs.Lives.{volumes_left}
 use Rattle.session_run.specs.Runs.{cluster_of}
 use Rattle.session_run.proofs.CausesTold.{causes_told}
@@ -33,6 +34,12 @@ returns g c =
             record {
               log = λ tells. lived.1 tells (c.reads_an_image.ensures tells);
               states = λ told. bank_holds g.P.PageDisk (start_of life.hall) (view host.pass).seen s.base left.events left.log (cluster_of s) new.faults (volumes_left left).xact.items new.begun.start_is closed.kept few closed.log (closed.states told few) (c.pages_read_an_image.ensures told);
+              same = λ mounted begun. record {
+                xact = closed.banks.xact ∙ (ap (λ (t : Start). t.banks) new.begun.start_is ∙ sym begun.banks.xact);
+                subtrans = closed.banks.subtrans ∙ (ap (λ (t : Start). t.banks) new.begun.start_is ∙ sym begun.banks.subtrans);
+                offsets = ap (λ vs. length vs.items) (closed.offsets ∙ begun.offsets);
+                members = ap (λ vs. length vs.items) (closed.members ∙ begun.members);
+              };
               causes = λ mounted begun. causes_told g.P.PageDisk.tells (cluster_of s) (start_of life.hall) (view host.pass).seen ran.1.rounds life mounted (volumes_left left) over begun begun.begun.start_is closed.counted
                   (record { offsets = closed.offsets ∙ begun.offsets; members = closed.members ∙ begun.members }) ran.1.steps (lines_run ran.1.steps ran.1.rounds ran.1.rounds_are);
             },

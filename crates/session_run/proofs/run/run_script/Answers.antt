@@ -2,7 +2,6 @@ use Rattle.std.proofs.Common.{List, subst, ℕ, ◌∙◌}
 use Rattle.disk_core.specs.Images.{Only}
 use Rattle.disk_core.specs.Media.{MayBeFirst}
 use Rattle.tx_model.specs.declared.report.LifeReport.{LifeReport}
-use Rattle.engine_life.specs.Lives.{volumes_left}
 use Rattle.session_run.specs.Leaves.{HasLeft}
 use Rattle.session_run.specs.Runs.{IsRestOfReport, cluster_of}
 use Rattle.session_run.proofs.LifeTold.{of_cluster, report_whole, volumes_back}

@@ -3,7 +3,7 @@ use Rattle.disk_core.specs.Media.{MayBeFirst}
 use Rattle.tx_model.specs.declared.report.LifeReport.{LifeReport}
 use Rattle.session_run.specs.Leaves.{LeavesVolumes}
 use Rattle.session_run.specs.Tool.{HasMounted}
-use Rattle.session_run.proofs.ToolEnds.{answers, refused_mounted, unopened_ends, unread_ends, unread_unmounted}
+use Rattle.session_run.proofs.ToolEnds.{answers, refused_mounted, unread_unmounted}
 use Rattle.session_run.proofs.tool.run_source.Goals as goal
 
 pub returns-in-Ok-run_script-clause-ends : goal.returns-in-Ok-run_script-clause-ends

@@ -8,6 +8,7 @@ use Rattle.engine_parts.proofs.Adding.{adds_wider}
 use Rattle.engine_parts.proofs.Sectioning.{same_command}
 use Rattle.log_sections.specs.LogSections.{TakesAbort}
 use Rattle.xact_ends.proofs.Added.{append_adds, both_add}
+use Rattle.xact_ends.proofs.Landing.{abort_lands, abort_some}
 use Rattle.xact_ends.proofs.Truncating.{abort_wider, truncation_wider_abort, went_on}
 use Rattle.xact_ends.proofs.logging.log_abort_behind.Goals as goal
 
@@ -58,3 +59,14 @@ returns-in-Err-clause-adds g c =
 
 pub returns-in-Err-clause-takes : goal.returns-in-Err-clause-takes
 returns-in-Err-clause-takes g c = (c.in-Err.ensures.same.0, c.in-Err.ensures.refused)
+
+pub log_truncation-requires-clause-some : goal.log_truncation-requires-clause-some
+log_truncation-requires-clause-some g c = abort_some c.args.caller.now.session.levels.open_ids.items c.args.rec.now c.requires.record
+
+pub returns-in-Ok-clause-numbered : goal.returns-in-Ok-clause-numbered
+returns-in-Ok-clause-numbered g c =
+    let old = c.args.caller.now in
+    let t = c.log_truncation.new.caller in
+    let w = c.append_abort.new.caller in
+    let a = c.append_abort.ensures in
+    abort_lands (start_of c.args.hall.now) (view old.pass) (view t.pass).seen (view w.pass).seen old.number old.session t.session w.session c.args.rec.now c.append_abort.result c.requires.may.ready.at c.requires.record a.may.ready.at.kept c.in-Ok.ensures.told a.went.on.grows a.takes

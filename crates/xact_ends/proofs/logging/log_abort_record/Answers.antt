@@ -85,3 +85,6 @@ returns-in-Err-clause-adds g c =
     let opened = old.session.levels.open_ids.items in
     adds_wider by (MayAdd (λ z. z ≡ rec) ⊥ (λ r. ⊥)) (MayAdd (IsOfAbort opened) ⊥ (λ r. ⊥)) (view old.pass).seen (view t.pass).seen (abort_wider opened rec c.requires.record)
     (append_adds (start_of c.args.hall.now) (view old.pass) (view t.pass) by old.session rec c.append_abort.result c.requires.may.ready.at c.append_abort.ensures.section)
+
+pub returns-in-NoBase-clause-numbered : goal.returns-in-NoBase-clause-numbered
+returns-in-NoBase-clause-numbered g c = c.log_abort_behind.ensures.numbered

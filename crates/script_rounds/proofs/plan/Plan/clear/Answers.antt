@@ -16,8 +16,8 @@ loop-session-preserved c =
     let p = c.loop-session.self in
     let s = c.in-Some.session in
     let i = c.loop-session.invariant in (
-      listed_less p _ c.pop.new.self.items s c.in-Some.ensures.items refl (ap (set p.places.items s) c.new.ensures) i.0,
-      length-set p.places.items s c.new.result ∙ i.1,
+      listed_less p _ c.pop.new.self.items s c.in-Some.ensures.items refl (ap (set p.places.items s) c.clear.ensures) i.0,
+      length-set p.places.items s c.clear.new.self ∙ i.1,
     )
 
 pub returns-clause-blank : goal.returns-clause-blank

@@ -1,0 +1,51 @@
+//! The places of a session's commands in a round.
+ghost use Rattle.std.specs.Prelude.{◌≡◌, [], ◌∷◌, ◌++◌, OnOk};
+
+use std::alloc::Global;
+use std::marker::Model;
+use tx_model::Memory;
+
+/// Places in their order. A contract sees the list of them.
+#[derive(Drop)]
+pub struct Places {
+    at: Vec<usize>,
+}
+
+impl Model for Places {
+    ghost use Rattle.std.specs.Prelude.{ℕ, List};
+
+    ghost Value = { List ℕ };
+
+    ghost view = { λ p. p.at.items };
+}
+
+impl Places {
+    /// No places. Takes no memory.
+    pub fn new(alloc: Global) -> Places
+        ensures { result ≡ [] }
+    {
+        Places {
+            at: Vec::new(alloc),
+        }
+    }
+
+    pub fn items(&self) -> &[usize]
+        ensures { result.now ≡ self.now }
+    {
+        self.at.as_slice()
+    }
+
+    pub fn push(&mut self, place: usize) -> Result<(), Memory>
+        ensures { OnOk result (self.new ≡ self.old ++ place ∷ []) }
+    {
+        self.at.push(place)?;
+        Ok(())
+    }
+
+    /// Takes all off. Their room stays.
+    pub fn clear(&mut self)
+        ensures { self.new ≡ [] }
+    {
+        self.at.clear();
+    }
+}

@@ -68,5 +68,5 @@ MayCheckpoint j before (replies.Refused (refusals.LogDown at)) =
 MayCheckpoint j before (replies.Refused refusals.LogFault) = IsNonePending j (flat_map lines_in before)
 MayCheckpoint j before (replies.Refused (refusals.DiskFault lock)) = IsNonePending j (flat_map lines_in before) × IsTrue (is_page_lock lock)
 MayCheckpoint j before (replies.Refused refusals.Full) = IsNonePending j (flat_map lines_in before) × HasNoRoom j.life 57
-MayCheckpoint j before (replies.Refused refusals.Memory) = IsNonePending j (flat_map lines_in before)
+MayCheckpoint j before (replies.Refused refusals.Memory) = Unit {0}
 MayCheckpoint j before reply = ⊥

@@ -209,6 +209,11 @@ abbrev pub by_members : Reply → Option Refusal
 by_members (replies.Refused refusal) = then_some (is_by_members refusal) refusal
 by_members reply = None
 
+-- Want of memory may come before any other refusal.
+abbrev pub unless_memory : Reply → Option Refusal → Option Refusal
+unless_memory (replies.Refused refusals.Memory) refusal = None
+unless_memory reply refusal = refusal
+
 -- What the log has of a command that was answered `ok`: a commit's record and as many truncations as trims so far, below
 -- the flushed number; a multixact's record.
 abbrev pub IsLogged : Judged → List Line → Stance → Command → Reply → Type 0
@@ -250,8 +255,8 @@ pub record IsLawfulCommand (j : Judged) (rounds lines earlier : List Line) (l : 
   pub events : (n : ℕ) × HasFirst j (rounds ++ earlier) l n
   pub multis : (n : ℕ) × HasFirstMultis j (span_of j.life.events rounds lines) l n
   pub standing : by_standing l.reply
-      ≡ refused_by l.command (stance j.life.events (rounds ++ earlier) l.by.session) (pending j.life.recs j.life.events (rounds ++ earlier) l.by.session)
-  pub members : by_members l.reply ≡ refused_by_members l.command
+      ≡ unless_memory l.reply (refused_by l.command (stance j.life.events (rounds ++ earlier) l.by.session) (pending j.life.recs j.life.events (rounds ++ earlier) l.by.session))
+  pub members : by_members l.reply ≡ unless_memory l.reply (refused_by_members l.command)
   pub reply : by_standing l.reply ≡ None → by_members l.reply ≡ None
       → IsLawfulReply (IsJudged j.begun.counters j.life.events rounds lines × AreMultisJudged j.begun.counters (of_records j.begun.counters j.begun.recorded) j.life.multis rounds lines)
       j (rounds ++ earlier) (span_of j.life.events rounds lines) (multi_span j.life.multis rounds lines) l.by (stance j.life.events (rounds ++ earlier) l.by.session) l.command l.reply

@@ -14,7 +14,7 @@ use Rattle.tx_events.specs.declared.refusal.Refusal.{Refusal}
 use Rattle.tx_events.specs.declared.refusal.Refusal.TheVariants as refusals
 use Rattle.tx_events.specs.History.{next_given}
 use Rattle.tx_events.specs.Limits.{member_stop, multi_stop_limit, multi_warn_limit}
-use Rattle.tx_events.specs.Multis.{BaseOffset, InBase, first_member, free_offset, next_made, oldest_multi, oldest_offset, pin_limit}
+use Rattle.tx_events.specs.Multis.{BaseOffset, first_member, free_offset, next_made, oldest_multi, oldest_offset, pin_limit}
 use Rattle.tx_events.specs.Snapshots.{snapshot_xmax}
 use Rattle.tx_events.specs.Visible.{is_visible}
 use Rattle.tx_model.specs.declared.command.Command.{Command}
@@ -29,21 +29,21 @@ use Rattle.tx_model.specs.Replies.{RoundSpan, IsTakenAt, taken_by}
 use Rattle.report_law.specs.Begun.{Recorded}
 use Rattle.report_law.specs.Places.{MayReadIn, MayReadMultis}
 
--- where a multixact of the base begins: as its record tells, where it has one
+-- where a multixact of the base begins, as its record tells; one without a record has no offset
 abbrev pub of_records : Counters → List Recorded → BaseOffset
-of_records base recorded before multi offset =
-    ((members : List Member) × Contains recorded (multi, offset, members))
-    ⊎ (((at : ℕ) (members : List Member) → Contains recorded (multi, at, members) → ⊥) × InBase base before multi offset)
+of_records base recorded before multi offset = (members : List Member) × Contains recorded (multi, offset, members)
 
 -- ---- events
 
 -- the member is what the script wrote: the same stored half and mode, and the id that this means near the next one at
--- some place of the round
+-- some place of the round, which was given there
 pub record IsMemberOf (base : Counters) (h : List Event) (round : RoundSpan) (by : By) (pair : Pair) (member : Member) : Type 0 where
   pub mode : member.mode ≡ pair.mode
   pub place : ℕ
   pub read : (round.from ≤ place) × (place ≤ round.to)
   pub near : near_id (next_given base.next (take place h)) pair.x.number ≡ Some member.id
+  pub normal : 3 ≤ pair.x.number
+  pub given : member.id < next_given base.next (take place h)
 
 -- one multixact of these members is given
 pub record AreGiven (base : Counters) (h : List Event) (round : RoundSpan) (by : By) (pairs : List Pair) (es : List MultiEvent) : Type 0 where
@@ -195,9 +195,9 @@ pub record IsMultiWarned (base : Counters) (all : List MultiEvent) (by : By) (mu
   pub given : slice_get all place ≡ Some (multis.Gen by multi offset members)
   pub late : multi_warn_limit (oldest_multi base.oldest_multi (take place all)) ≤ multi
 
--- the stored half is of a special id, or means one that wasn't given
+-- the stored half is of a special id, or means one that wasn't given. Where it means none it is too old
 abbrev pub IsUngiven : ℕ → ℕ → Type 0
-IsUngiven next x = (x < 3) ⊎ IfSome (near_id next x) (λ id. next ≤ id)
+IsUngiven next x = (x < 3) ⊎ ((id : ℕ) × (near_id next x ≡ Some id) × (next ≤ id))
 
 -- a member was refused, at a place where those before it weren't
 pub record IsNotGiven (base : Counters) (h : List Event) (round : RoundSpan) (by : By) (pairs : List Pair) (x : ℕ) : Type 0 where

@@ -21,7 +21,7 @@ use Rattle.life_law.specs.Pending.{pending}
 use Rattle.report_law.specs.Answers.{AreLogFaults, HasNoRoom, is_page_lock}
 use Rattle.report_law.specs.Places.{has_multi_line}
 use Rattle.report_law.specs.Standing.{none, sure, unfinished}
-use Rattle.report_law.specs.Steps.{Judged, flushed_recs, lines_of}
+use Rattle.report_law.specs.Steps.{Judged, lines_of}
 
 -- the counters that a base and two histories give
 abbrev pub counters_after : Counters → List Event → List MultiEvent → Counters
@@ -50,7 +50,7 @@ pub record IsNonePending (j : Judged) (before : List Line) : Type 0 where
   pub multis : (session : ℕ) → unfinished j.life.multis before session ≢ sure
 
 -- What a checkpoint may be answered behind these steps. It names the least session that is in the midst of a commit, else
--- the least that may be of a multixact; an `ok` one has its record below the flushed number.
+-- the least that may be of a multixact; an `ok` one has its record.
 abbrev pub MayCheckpoint : Judged → List Step → Reply → Type 0
 MayCheckpoint j before (replies.Pending session refusals.CommitPending) =
     IsCommitPending j (flat_map lines_in before) session
@@ -61,8 +61,8 @@ MayCheckpoint j before (replies.Pending session refusals.MultiPending) =
     × ((s : ℕ) → IsCommitPending j (flat_map lines_in before) s → ⊥)
 MayCheckpoint j before replies.Done =
     IsNonePending j (flat_map lines_in before)
-    × ((number : ℕ) × Contains (drop 1 (flushed_recs j.life)) (records.Checkpoint number (counters_behind j (flat_map lines_in before))))
-    × (count_by is_ok_checkpoint before < count_by is_checkpoint (drop 1 (flushed_recs j.life)))
+    × ((number : ℕ) × Contains (drop 1 j.life.recs) (records.Checkpoint number (counters_behind j (flat_map lines_in before))))
+    × (count_by is_ok_checkpoint before < count_by is_checkpoint (drop 1 j.life.recs))
 MayCheckpoint j before (replies.Refused (refusals.LogDown at)) =
     IsNonePending j (flat_map lines_in before) × (at ≡ j.life.flushed) × AreLogFaults (lines_of j) j.steps
 MayCheckpoint j before (replies.Refused refusals.LogFault) = IsNonePending j (flat_map lines_in before)

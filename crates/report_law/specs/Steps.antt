@@ -75,7 +75,7 @@ pub record IsHorizonAt (base : Counters) (h : List Event) (round : RoundSpan) (b
   pub place : ℕ
   pub from_start : round.from ≤ place
   pub in_round : place ≤ round.to
-  pub behind : AllByRecursion (λ e. (by_of e).session ≡ by.session → by.command < (by_of e).command) (drop (place + 1) h)
+  pub behind : AllByRecursion (λ e. (by_of e).session ≡ by.session → by.command < (by_of e).command) (drop (place + 1) (take round.to h))
   pub xmin_is : xmin ≡ oldest_xmin base.next (take place h)
 
 -- the snapshot of the session's command `number` shows the id that the stored half means to it

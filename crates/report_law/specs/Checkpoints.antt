@@ -1,5 +1,5 @@
 -- The rules of a checkpoint's line.
-use Rattle.std.specs.Prelude.{◌≡◌, ◌≢◌, ℕ, ◌<◌, Bool, true, false, IsTrue, List, Some, take, drop, Contains}
+use Rattle.std.specs.Prelude.{◌≡◌, ◌≢◌, ℕ, ◌<◌, Bool, true, false, IsTrue, List, [], Some, take, drop, Contains}
 use Rattle.std.specs.List.{count_by, flat_map}
 use Rattle.tx_events.specs.declared.event.Event.{Event}
 use Rattle.tx_events.specs.declared.multi.MultiEvent.{MultiEvent}
@@ -21,7 +21,7 @@ use Rattle.life_law.specs.Pending.{pending}
 use Rattle.report_law.specs.Answers.{AreLogFaults, HasNoRoom, is_page_lock}
 use Rattle.report_law.specs.Places.{has_multi_line}
 use Rattle.report_law.specs.Standing.{none, sure, unfinished}
-use Rattle.report_law.specs.Steps.{Judged, lines_of}
+use Rattle.report_law.specs.Steps.{AreJudged, Judged, lines_of}
 
 -- the counters that a base and two histories give
 abbrev pub counters_after : Counters → List Event → List MultiEvent → Counters
@@ -61,7 +61,8 @@ MayCheckpoint j before (replies.Pending session refusals.MultiPending) =
     × ((s : ℕ) → IsCommitPending j (flat_map lines_in before) s → ⊥)
 MayCheckpoint j before replies.Done =
     IsNonePending j (flat_map lines_in before)
-    × ((number : ℕ) × Contains (drop 1 j.life.recs) (records.Checkpoint number (counters_behind j (flat_map lines_in before))))
+    × (AreJudged j (flat_map lines_in before) []
+    → (number : ℕ) × Contains (drop 1 j.life.recs) (records.Checkpoint number (counters_behind j (flat_map lines_in before))))
     × (count_by is_ok_checkpoint before < count_by is_checkpoint (drop 1 j.life.recs))
 MayCheckpoint j before (replies.Refused (refusals.LogDown at)) =
     IsNonePending j (flat_map lines_in before) × (at ≡ j.life.flushed) × AreLogFaults (lines_of j) j.steps

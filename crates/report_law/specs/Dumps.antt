@@ -30,7 +30,7 @@ use Rattle.store_pages.specs.Layouts.{member_cutoff, offset_cutoff, word_place_o
 use Rattle.store_pages.specs.Pages.{id_at, member_page, member_place, members_per_page, mode_at, offset_page, offsets_per_page, parents_per_page, subtrans_page, xact_page, xact_place, xacts_per_page}
 use Rattle.life_law.specs.Dumps.{IsOldest, IsSubtransCutoff, events_behind}
 use Rattle.report_law.specs.Places.{has_multi_line}
-use Rattle.report_law.specs.Steps.{Judged, gave_multi, lines_of}
+use Rattle.report_law.specs.Steps.{AreJudged, Judged, gave_multi, lines_of}
 
 -- ---- cut pages
 
@@ -124,7 +124,9 @@ abbrev pub MayDump : Judged → List Line → DumpOf → ℕ → ℕ → Reply �
 MayDump j before dumps.Log at size (replies.Bytes bytes) = length bytes ≤ size
 MayDump j before dumps.Log at size (replies.Refused refusals.LogFault) = Unit {0}
 MayDump j before what at size (replies.Bytes bytes) =
-    (length bytes ≡ size) × (list_any is_faulty_step j.steps ≡ false → Shows j before what at bytes)
+    (length bytes ≡ size) × (list_any is_faulty_step j.steps ≡ false → AreJudged j before [] → Shows j before what at bytes)
+MayDump j before (dumps.Subtrans page) at size (replies.Cut cutoff) =
+    AreJudged j before [] → IsCutBy j.begun.counters j.life.recs (events_behind j.life.events before) (dumps.Subtrans page) cutoff
 MayDump j before what at size (replies.Cut cutoff) =
     IsCutBy j.begun.counters j.life.recs (events_behind j.life.events before) what cutoff
 MayDump j before what at size (replies.Refused (refusals.DiskFault lock)) = is_lock_of what lock ≡ true

@@ -6,6 +6,7 @@ use Rattle.tx_events.specs.Nearest.{near_id}
 use Rattle.tx_events.specs.declared.event.By.{By}
 use Rattle.tx_events.specs.declared.event.Event.{Event}
 use Rattle.tx_events.specs.declared.multi.MultiEvent.{MultiEvent}
+use Rattle.tx_events.specs.declared.multi.MultiEvent.TheVariants as multi_events
 use Rattle.tx_events.specs.declared.multi.Member.{Member}
 use Rattle.tx_events.specs.declared.multi.Mode.{Mode}
 use Rattle.tx_events.specs.declared.multi.Mode.TheVariants as modes
@@ -51,6 +52,20 @@ pub record Judged : Type 0 where
 
 abbrev pub lines_of : Judged → List Line
 lines_of j = flat_map lines_in j.steps
+
+-- what goes by the histories is judged where both are lawful up to the end of these rounds
+abbrev pub AreJudged : Judged → List Line → List Line → Type 0
+AreJudged j before lines =
+    IsJudged j.begun.counters j.life.events before lines
+    × AreMultisJudged j.begun.counters (of_records j.begun.counters j.begun.recorded) j.life.multis before lines
+
+-- a multixact's record that is no event's, and so unlawful by itself
+pub record IsStrayMulti (j : Judged) : Type 0 where
+  pub multi : ℕ
+  pub offset : ℕ
+  pub members : List Member
+  pub stands : Contains j.life.recs (records.Multi multi offset members)
+  pub ungiven : (by : By) → Contains j.life.multis (multi_events.Gen by multi offset members) → ⊥
 
 -- ---- by the history, at some place where the command may read
 
@@ -238,13 +253,13 @@ unless_memory (replies.Refused refusals.Memory) refusal = None
 unless_memory reply refusal = refusal
 
 -- What the log has of a command that was answered `ok`: a commit's record and as many truncations as trims so far, below
--- the flushed number; a multixact's record.
+-- the flushed number; a multixact's record, where none is a stray one.
 abbrev pub IsLogged : Judged → List Line → Stance → Command → Reply → Type 0
 IsLogged j before s commands.Commit replies.Done =
     IfSome (top_level s.levels) (λ top. (subs : List ℕ) × Contains (flushed_recs j.life) (records.Commit top subs))
 IsLogged j before s commands.Trim replies.Done = count_by is_ok_trim before < count_by is_truncation (flushed_recs j.life)
 IsLogged j before s (commands.Multi pairs) (replies.Multi multi offset warn) =
-    (members : List Member) × Contains j.life.recs (records.Multi multi offset members)
+    ((at : ℕ) × (members : List Member) × Contains j.life.recs (records.Multi multi at members)) ⊎ IsStrayMulti j
 IsLogged j before s command reply = Unit {0}
 
 -- a reply that neither a session's standing nor its argument alone brings; what goes by the histories is judged where
@@ -281,6 +296,5 @@ pub record IsLawfulCommand (j : Judged) (rounds lines earlier : List Line) (l : 
       ≡ unless_memory l.reply (refused_by l.command (stance j.life.events (rounds ++ earlier) l.by.session) (pending j.life.recs j.life.events (rounds ++ earlier) l.by.session))
   pub members : by_members l.reply ≡ unless_memory l.reply (refused_by_members l.command)
   pub reply : by_standing l.reply ≡ None → by_members l.reply ≡ None
-      → IsLawfulReply (IsJudged j.begun.counters j.life.events rounds lines × AreMultisJudged j.begun.counters (of_records j.begun.counters j.begun.recorded) j.life.multis rounds lines)
-      j (rounds ++ earlier) (span_of j.life.events rounds lines) (multi_span j.life.multis rounds lines) l.by (stance j.life.events (rounds ++ earlier) l.by.session) l.command l.reply
+      → IsLawfulReply (AreJudged j rounds lines) j (rounds ++ earlier) (span_of j.life.events rounds lines) (multi_span j.life.multis rounds lines) l.by (stance j.life.events (rounds ++ earlier) l.by.session) l.command l.reply
   pub logged : IsLogged j (rounds ++ earlier) (stance j.life.events (rounds ++ earlier) l.by.session) l.command l.reply

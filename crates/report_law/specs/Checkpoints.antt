@@ -1,5 +1,5 @@
 -- The rules of a checkpoint's line.
-use Rattle.std.specs.Prelude.{◌≡◌, ◌≢◌, ℕ, ◌<◌, Bool, true, false, IsTrue, List, Some, take, drop, Contains}
+use Rattle.std.specs.Prelude.{◌≡◌, ◌≢◌, ℕ, ◌+◌, ◌<◌, ◌==◌, ◌&&◌, Bool, true, false, cond, IsTrue, List, [], ◌∷◌, ◌++◌, Some, take, drop}
 use Rattle.std.specs.List.{count_by, flat_map}
 use Rattle.tx_events.specs.declared.event.Event.{Event}
 use Rattle.tx_events.specs.declared.multi.MultiEvent.{MultiEvent}
@@ -21,7 +21,7 @@ use Rattle.life_law.specs.Pending.{pending}
 use Rattle.report_law.specs.Answers.{AreLogFaults, HasNoRoom, is_page_lock}
 use Rattle.report_law.specs.Places.{has_multi_line}
 use Rattle.report_law.specs.Standing.{none, sure, unfinished}
-use Rattle.report_law.specs.Steps.{Judged, flushed_recs, lines_of}
+use Rattle.report_law.specs.Steps.{AreJudged, Judged, lines_of}
 
 -- the counters that a base and two histories give
 abbrev pub counters_after : Counters → List Event → List MultiEvent → Counters
@@ -33,13 +33,24 @@ counters_behind j before =
     counters_after j.begun.counters (take (count_by (has_line before) j.life.events) j.life.events)
     (take (count_by (has_multi_line before) j.life.multis) j.life.multis)
 
-abbrev pub is_checkpoint : Rec → Bool
-is_checkpoint (records.Checkpoint number counters) = true
-is_checkpoint rec = false
+abbrev pub same_counters : Counters → Counters → Bool
+same_counters a b =
+    (a.next == b.next) && (a.oldest == b.oldest) && (a.multi == b.multi) && (a.offset == b.offset)
+    && (a.oldest_multi == b.oldest_multi) && (a.oldest_offset == b.oldest_offset)
+
+abbrev pub is_checkpoint_of : Counters → Rec → Bool
+is_checkpoint_of c (records.Checkpoint number counters) = same_counters counters c
+is_checkpoint_of c rec = false
 
 abbrev pub is_ok_checkpoint : Step → Bool
 is_ok_checkpoint (steps.Checkpoint replies.Done) = true
 is_ok_checkpoint step = false
+
+-- how many checkpoints with these counters were answered `ok`, behind these lines
+abbrev pub ok_checkpoints : Judged → Counters → List Line → List Step → ℕ
+ok_checkpoints j c before [] = 0
+ok_checkpoints j c before (s ∷ rest) =
+    cond (is_ok_checkpoint s && same_counters (counters_behind j before) c) 1 0 + ok_checkpoints j c (before ++ lines_in s) rest
 
 abbrev pub IsCommitPending : Judged → List Line → ℕ → Type 0
 IsCommitPending j before session = pending j.life.recs j.life.events before session ≡ Some refusals.CommitPending
@@ -50,7 +61,7 @@ pub record IsNonePending (j : Judged) (before : List Line) : Type 0 where
   pub multis : (session : ℕ) → unfinished j.life.multis before session ≢ sure
 
 -- What a checkpoint may be answered behind these steps. It names the least session that is in the midst of a commit, else
--- the least that may be of a multixact; an `ok` one has its record below the flushed number.
+-- the least that may be of a multixact; an `ok` one has a record of its own.
 abbrev pub MayCheckpoint : Judged → List Step → Reply → Type 0
 MayCheckpoint j before (replies.Pending session refusals.CommitPending) =
     IsCommitPending j (flat_map lines_in before) session
@@ -61,12 +72,13 @@ MayCheckpoint j before (replies.Pending session refusals.MultiPending) =
     × ((s : ℕ) → IsCommitPending j (flat_map lines_in before) s → ⊥)
 MayCheckpoint j before replies.Done =
     IsNonePending j (flat_map lines_in before)
-    × ((number : ℕ) × Contains (drop 1 (flushed_recs j.life)) (records.Checkpoint number (counters_behind j (flat_map lines_in before))))
-    × (count_by is_ok_checkpoint before < count_by is_checkpoint (drop 1 (flushed_recs j.life)))
+    × (AreJudged j (flat_map lines_in before) []
+    → ok_checkpoints j (counters_behind j (flat_map lines_in before)) [] before
+    < count_by (is_checkpoint_of (counters_behind j (flat_map lines_in before))) (drop 1 j.life.recs))
 MayCheckpoint j before (replies.Refused (refusals.LogDown at)) =
     IsNonePending j (flat_map lines_in before) × (at ≡ j.life.flushed) × AreLogFaults (lines_of j) j.steps
 MayCheckpoint j before (replies.Refused refusals.LogFault) = IsNonePending j (flat_map lines_in before)
 MayCheckpoint j before (replies.Refused (refusals.DiskFault lock)) = IsNonePending j (flat_map lines_in before) × IsTrue (is_page_lock lock)
 MayCheckpoint j before (replies.Refused refusals.Full) = IsNonePending j (flat_map lines_in before) × HasNoRoom j.life 57
-MayCheckpoint j before (replies.Refused refusals.Memory) = IsNonePending j (flat_map lines_in before)
+MayCheckpoint j before (replies.Refused refusals.Memory) = Unit {0}
 MayCheckpoint j before reply = ⊥

@@ -26,11 +26,11 @@ use Rattle.tx_model.specs.declared.report.DumpOf.TheVariants as dumps
 use Rattle.tx_model.specs.declared.report.Line.{Line}
 use Rattle.tx_model.specs.declared.report.Step.{Step}
 use Rattle.tx_model.specs.declared.report.Step.TheVariants as steps
-use Rattle.store_pages.specs.Layouts.{member_cutoff, offset_cutoff, xact_cutoff}
-use Rattle.store_pages.specs.Pages.{id_at, member_page, member_place, members_per_page, mode_at, offset_page, offset_place, offsets_per_page, parents_per_page, subtrans_page, subtrans_place, xact_page, xact_place, xacts_per_page}
+use Rattle.store_pages.specs.Layouts.{member_cutoff, offset_cutoff, word_place_of, xact_cutoff}
+use Rattle.store_pages.specs.Pages.{id_at, member_page, member_place, members_per_page, mode_at, offset_page, offsets_per_page, parents_per_page, subtrans_page, xact_page, xact_place, xacts_per_page}
 use Rattle.life_law.specs.Dumps.{IsOldest, IsSubtransCutoff, events_behind}
 use Rattle.report_law.specs.Places.{has_multi_line}
-use Rattle.report_law.specs.Steps.{Judged, gave_multi, lines_of}
+use Rattle.report_law.specs.Steps.{AreJudged, Judged, gave_multi, lines_of}
 
 -- ---- cut pages
 
@@ -81,13 +81,13 @@ abbrev pub ShowsIds : List Event → DumpOf → ℕ → List ℕ → Type 0
 ShowsIds h (dumps.Xact page) at bytes =
     (x : ℕ) → Contains (given h) x → xact_page (low_half x) ≡ page → HasBits at bytes (low_half x) (state_number h x)
 ShowsIds h (dumps.Subtrans page) at bytes =
-    (x : ℕ) → Contains (given h) x → subtrans_page (low_half x) ≡ page → HasWord at bytes (subtrans_place (low_half x)) (low_half (parent_or_none h x))
+    (x : ℕ) → Contains (given h) x → subtrans_page (low_half x) ≡ page → HasWord at bytes (word_place_of x) (low_half (parent_or_none h x))
 ShowsIds h what at bytes = Unit {0}
 
 -- what they show of a multixact of this life
 abbrev pub ShowsMulti : ℕ → ℕ → List Member → DumpOf → ℕ → List ℕ → Type 0
 ShowsMulti multi offset members (dumps.Offsets page) at bytes =
-    offset_page (low_half multi) ≡ page → HasWord at bytes (offset_place (low_half multi)) (low_half offset)
+    offset_page (low_half multi) ≡ page → HasWord at bytes (word_place_of multi) (low_half offset)
 ShowsMulti multi offset members (dumps.Members page) at bytes =
     (i : ℕ) (m : Member) → slice_get members i ≡ Some m → member_page (low_half (offset + i)) ≡ page
     → HasByte at bytes (mode_at (member_place (low_half (offset + i)))) (mode_number m.mode) × HasWord at bytes (id_at (member_place (low_half (offset + i)))) (low_half m.id)
@@ -124,7 +124,9 @@ abbrev pub MayDump : Judged → List Line → DumpOf → ℕ → ℕ → Reply �
 MayDump j before dumps.Log at size (replies.Bytes bytes) = length bytes ≤ size
 MayDump j before dumps.Log at size (replies.Refused refusals.LogFault) = Unit {0}
 MayDump j before what at size (replies.Bytes bytes) =
-    (length bytes ≡ size) × (list_any is_faulty_step j.steps ≡ false → Shows j before what at bytes)
+    (length bytes ≡ size) × (list_any is_faulty_step j.steps ≡ false → AreJudged j before [] → Shows j before what at bytes)
+MayDump j before (dumps.Subtrans page) at size (replies.Cut cutoff) =
+    AreJudged j before [] → IsCutBy j.begun.counters j.life.recs (events_behind j.life.events before) (dumps.Subtrans page) cutoff
 MayDump j before what at size (replies.Cut cutoff) =
     IsCutBy j.begun.counters j.life.recs (events_behind j.life.events before) what cutoff
 MayDump j before what at size (replies.Refused (refusals.DiskFault lock)) = is_lock_of what lock ≡ true

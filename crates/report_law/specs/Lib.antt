@@ -1,5 +1,6 @@
 pub mod Begun
 pub mod Places
+pub mod Kinds
 pub mod Standing
 pub mod Answers
 pub mod MultiLines

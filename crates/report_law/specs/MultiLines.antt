@@ -14,7 +14,7 @@ use Rattle.tx_events.specs.declared.refusal.Refusal.{Refusal}
 use Rattle.tx_events.specs.declared.refusal.Refusal.TheVariants as refusals
 use Rattle.tx_events.specs.History.{next_given}
 use Rattle.tx_events.specs.Limits.{member_stop, multi_stop_limit, multi_warn_limit}
-use Rattle.tx_events.specs.Multis.{BaseOffset, InBase, first_member, free_offset, next_made, oldest_multi, oldest_offset, pin_limit}
+use Rattle.tx_events.specs.Multis.{BaseOffset, first_member, free_offset, next_made, oldest_multi, oldest_offset, pin_limit}
 use Rattle.tx_events.specs.Snapshots.{snapshot_xmax}
 use Rattle.tx_events.specs.Visible.{is_visible}
 use Rattle.tx_model.specs.declared.command.Command.{Command}
@@ -25,25 +25,26 @@ use Rattle.tx_model.specs.declared.reply.Reply.{Reply}
 use Rattle.tx_model.specs.declared.reply.Reply.TheVariants as replies
 use Rattle.tx_model.specs.declared.reply.Verdict.{Verdict}
 use Rattle.tx_model.specs.declared.reply.Verdict.TheVariants as verdicts
-use Rattle.tx_model.specs.Replies.{RoundSpan, IsTakenAt, taken_by}
+use Rattle.tx_model.specs.Replies.{RoundSpan, taken_by}
 use Rattle.report_law.specs.Begun.{Recorded}
+use Rattle.report_law.specs.Kinds.{IsPinAt, IsSnapAt}
 use Rattle.report_law.specs.Places.{MayReadIn, MayReadMultis}
 
--- where a multixact of the base begins: as its record tells, where it has one
+-- where a multixact of the base begins, as its record tells; one without a record has no offset
 abbrev pub of_records : Counters → List Recorded → BaseOffset
-of_records base recorded before multi offset =
-    ((members : List Member) × Contains recorded (multi, offset, members))
-    ⊎ (((at : ℕ) (members : List Member) → Contains recorded (multi, at, members) → ⊥) × InBase base before multi offset)
+of_records base recorded before multi offset = (members : List Member) × Contains recorded (multi, offset, members)
 
 -- ---- events
 
 -- the member is what the script wrote: the same stored half and mode, and the id that this means near the next one at
--- some place of the round
+-- some place of the round, which was given there
 pub record IsMemberOf (base : Counters) (h : List Event) (round : RoundSpan) (by : By) (pair : Pair) (member : Member) : Type 0 where
   pub mode : member.mode ≡ pair.mode
   pub place : ℕ
   pub read : (round.from ≤ place) × (place ≤ round.to)
   pub near : near_id (next_given base.next (take place h)) pair.x.number ≡ Some member.id
+  pub normal : 3 ≤ pair.x.number
+  pub given : member.id < next_given base.next (take place h)
 
 -- one multixact of these members is given
 pub record AreGiven (base : Counters) (h : List Event) (round : RoundSpan) (by : By) (pairs : List Pair) (es : List MultiEvent) : Type 0 where
@@ -53,14 +54,19 @@ pub record AreGiven (base : Counters) (h : List Event) (round : RoundSpan) (by :
   pub events_are : es ≡ multis.Gen by multi offset members ∷ []
   pub told : AllZip (IsMemberOf base h round by) pairs members
 
-abbrev pub ArePinned : By → List MultiEvent → Type 0
-ArePinned by es = (multi : ℕ) × (es ≡ multis.Hold by multi ∷ multis.Unhold by multi ∷ [])
+abbrev pub ArePinned : By → ℕ → List MultiEvent → Type 0
+ArePinned by multi es = es ≡ multis.Hold by multi ∷ multis.Unhold by multi ∷ []
 
--- pinned while its offset is read, but for the next one, which isn't there to be pinned
-abbrev pub AreRaised : Counters → List MultiEvent → By → ℕ → List MultiEvent → Type 0
-AreRaised base all by multi es =
+-- the multixact that the stored half means where the command pins it
+abbrev pub ArePinnedNear : Counters → List MultiEvent → By → ℕ → List MultiEvent → Type 0
+ArePinnedNear base all by m es =
+    (place multi : ℕ) × IsPinAt all by place × (near_id (next_made base.multi (take place all)) m ≡ Some multi) × ArePinned by multi es
+
+-- pinned while its offset is read, or raised to alone
+abbrev pub AreRaised : By → ℕ → List MultiEvent → Type 0
+AreRaised by multi es =
     ((offset : ℕ) × (es ≡ multis.Hold by multi ∷ multis.Raise by multi offset ∷ multis.Unhold by multi ∷ []))
-    ⊎ ((offset place : ℕ) × (es ≡ multis.Raise by multi offset ∷ []) × (slice_get all place ≡ Some (multis.Raise by multi offset)) × (multi ≡ next_made base.multi (take place all)))
+    ⊎ ((offset : ℕ) × (es ≡ multis.Raise by multi offset ∷ []))
 
 abbrev pub may_have_given : Refusal → Bool
 may_have_given (refusals.LogDown at) = true
@@ -75,15 +81,15 @@ HasMultiEvents base h round all by (commands.Multi pairs) (replies.Multi multi o
     ((members : List Member) × (es ≡ multis.Gen by multi offset members ∷ [])) × AreGiven base h round by pairs es
 HasMultiEvents base h round all by (commands.Multi pairs) (replies.Refused refusal) es =
     (es ≡ []) ⊎ (IsTrue (may_have_given refusal) × AreGiven base h round by pairs es)
-HasMultiEvents base h round all by (commands.SeeMulti name multi) (replies.Verdicts verdicts) es = ArePinned by es
-HasMultiEvents base h round all by (commands.SeeMulti name multi) (replies.Refused (refusals.NotYet next)) es = ArePinned by es
-HasMultiEvents base h round all by (commands.SeeMulti name multi) (replies.Refused (refusals.DiskFault lock)) es = ArePinned by es
-HasMultiEvents base h round all by (commands.SeeMulti name multi) (replies.Refused refusals.Memory) es = (es ≡ []) ⊎ ArePinned by es
-HasMultiEvents base h round all by (commands.MultiFreeze multi) replies.Done es = AreRaised base all by multi es
-HasMultiEvents base h round all by (commands.MultiFreeze multi) (replies.Refused (refusals.NotYet next)) es = ArePinned by es
-HasMultiEvents base h round all by (commands.MultiFreeze multi) (replies.Refused (refusals.DiskFault lock)) es = ArePinned by es
-HasMultiEvents base h round all by (commands.MultiFreeze multi) (replies.Refused (refusals.Held limit)) es = (es ≡ []) ⊎ ArePinned by es
-HasMultiEvents base h round all by (commands.MultiFreeze multi) (replies.Refused refusals.Memory) es = (es ≡ []) ⊎ ArePinned by es
+HasMultiEvents base h round all by (commands.SeeMulti name m) (replies.Verdicts verdicts) es = ArePinnedNear base all by m.number es
+HasMultiEvents base h round all by (commands.SeeMulti name m) (replies.Refused (refusals.NotYet next)) es = ArePinnedNear base all by m.number es
+HasMultiEvents base h round all by (commands.SeeMulti name m) (replies.Refused (refusals.DiskFault lock)) es = ArePinnedNear base all by m.number es
+HasMultiEvents base h round all by (commands.SeeMulti name m) (replies.Refused refusals.Memory) es = (es ≡ []) ⊎ ArePinnedNear base all by m.number es
+HasMultiEvents base h round all by (commands.MultiFreeze multi) replies.Done es = AreRaised by multi es
+HasMultiEvents base h round all by (commands.MultiFreeze multi) (replies.Refused (refusals.NotYet next)) es = ArePinned by multi es
+HasMultiEvents base h round all by (commands.MultiFreeze multi) (replies.Refused (refusals.DiskFault lock)) es = ArePinned by multi es
+HasMultiEvents base h round all by (commands.MultiFreeze multi) (replies.Refused (refusals.Held limit)) es = (es ≡ []) ⊎ ArePinned by multi es
+HasMultiEvents base h round all by (commands.MultiFreeze multi) (replies.Refused refusals.Memory) es = (es ≡ []) ⊎ ArePinned by multi es
 HasMultiEvents base h round all by command reply es = es ≡ []
 
 -- ---- replies
@@ -103,10 +109,11 @@ abbrev pub HasMembers : List Recorded → List MultiEvent → ℕ → ℕ → Li
 HasMembers recorded h pinned multi members =
     ((place : ℕ) × (place < pinned) × IsGenOf h multi members place) ⊎ ((offset : ℕ) × Contains recorded (multi, offset, members))
 
--- the command pins this multixact, which the stored half means there
-pub record IsPinnedAt (base : Counters) (h : List MultiEvent) (by : By) (m multi place : ℕ) : Type 0 where
-  pub stands : slice_get h place ≡ Some (multis.Hold by multi)
-  pub near : near_id (next_made base.multi (take place h)) m ≡ Some multi
+-- Only the next multixact is raised to without a pin, since it isn't there to be pinned.
+abbrev pub IsPinnedOrNext : Counters → List MultiEvent → By → ℕ → Type 0
+IsPinnedOrNext base h by multi =
+    ((place : ℕ) × IsPinAt h by place)
+    ⊎ ((place raised offset : ℕ) × (slice_get h place ≡ Some (multis.Raise by raised offset)) × (multi ≡ next_made base.multi (take place h)))
 
 abbrev pub IsMemberVerdict : Counters → List ℕ → List Event → RoundSpan → ℕ → Option ℕ → Verdict → Type 0
 IsMemberVerdict base committed h round taken None verdicts.TooOld = Unit {0}
@@ -122,12 +129,12 @@ pub record IsTold (base : Counters) (committed : List ℕ) (h : List Event) (rou
   pub verdict : IsMemberVerdict base committed h round taken (near_id (snapshot_xmax base.next (take taken h)) (low_half member.id)) v.verdict
 
 -- the verdicts on the members of the multixact that the command pins, by the snapshot that command `number` took
-pub record AreVerdicts (base : Counters) (committed : List ℕ) (recorded : List Recorded) (h : List Event) (all : List MultiEvent) (round : RoundSpan) (by : By) (number : ℕ) (name : List ℕ) (m : ℕ) (told : List MemberVerdict) : Type 0 where
+pub record AreVerdicts (base : Counters) (committed : List ℕ) (recorded : List Recorded) (h : List Event) (all : List MultiEvent) (round : RoundSpan) (by : By) (number : ℕ) (told : List MemberVerdict) : Type 0 where
   pub taken : ℕ
-  pub snapshot : IsTakenAt h (taken_by by number) name taken
+  pub snapshot : IsSnapAt h (taken_by by number) taken
   pub multi : ℕ
   pub pinned : ℕ
-  pub pin : IsPinnedAt base all by m multi pinned
+  pub pin : slice_get all pinned ≡ Some (multis.Hold by multi)
   pub members : List Member
   pub has : HasMembers recorded all pinned multi members
   pub each : AllZip (IsTold base committed h round taken) members told
@@ -195,9 +202,9 @@ pub record IsMultiWarned (base : Counters) (all : List MultiEvent) (by : By) (mu
   pub given : slice_get all place ≡ Some (multis.Gen by multi offset members)
   pub late : multi_warn_limit (oldest_multi base.oldest_multi (take place all)) ≤ multi
 
--- the stored half is of a special id, or means one that wasn't given
+-- the stored half is of a special id, or means one that wasn't given. Where it means none it is too old
 abbrev pub IsUngiven : ℕ → ℕ → Type 0
-IsUngiven next x = (x < 3) ⊎ IfSome (near_id next x) (λ id. next ≤ id)
+IsUngiven next x = (x < 3) ⊎ ((id : ℕ) × (near_id next x ≡ Some id) × (next ≤ id))
 
 -- a member was refused, at a place where those before it weren't
 pub record IsNotGiven (base : Counters) (h : List Event) (round : RoundSpan) (by : By) (pairs : List Pair) (x : ℕ) : Type 0 where

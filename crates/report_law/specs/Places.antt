@@ -52,13 +52,14 @@ IsNotLate steps before by = AllByRecursion (λ b. IsStepFrom (step_of by steps) 
 pub record MayReadMultis (h : List MultiEvent) (round : RoundSpan) (by : By) (p : ℕ) : Type 0 where
   pub not_before : round.from ≤ p
   pub not_past : p ≤ round.to
-  pub behind : AllByRecursion (λ e. (multi_by e).session ≡ by.session → by.command < (multi_by e).command) (drop p h)
+  pub behind : AllByRecursion (λ e. (multi_by e).session ≡ by.session → by.command < (multi_by e).command) (drop p (take round.to h))
 
--- and so at a place of the history. Nothing but the round bounds it from above
+-- and so at a place of the history. Nothing but the round bounds it from above, and what stands behind the round isn't
+-- asked
 pub record MayReadIn (h : List Event) (round : RoundSpan) (by : By) (p : ℕ) : Type 0 where
   pub not_before : round.from ≤ p
   pub not_past : p ≤ round.to
-  pub behind : AllByRecursion (λ e. (by_of e).session ≡ by.session → by.command < (by_of e).command) (drop p h)
+  pub behind : AllByRecursion (λ e. (by_of e).session ≡ by.session → by.command < (by_of e).command) (drop p (take round.to h))
 
 -- The history is legal up to the end of the round, and its events there are those of the lines up to there, round by
 -- round. What rests on events from the first one on that isn't lawful isn't judged, since that event's own line is.

@@ -1,5 +1,5 @@
 -- The rules of a life's log lines.
-use Rattle.std.specs.Prelude.{◌≡◌, ◌≢◌, ℕ, zero, suc, ◌+◌, ◌<◌, ◌≤◌, ◌⊎◌, ◌==◌, Bool, true, false, List, ◌∷◌, Option, Some, None, IfSome, length, take, slice_get, Contains}
+use Rattle.std.specs.Prelude.{◌≡◌, ◌≢◌, ℕ, zero, suc, ◌+◌, ◌<◌, ◌≤◌, ◌⊎◌, ◌==◌, Bool, true, false, List, ◌∷◌, Option, Some, None, IfNone, IfSome, length, take, slice_get, Contains}
 use Rattle.std.specs.List.{AllByRecursion, filter, flat_map, fold}
 use Rattle.tx_events.specs.declared.event.By.{By}
 use Rattle.tx_events.specs.declared.event.Event.{Event}
@@ -20,6 +20,7 @@ use Rattle.tx_model.specs.declared.command.Command.{Command}
 use Rattle.tx_model.specs.declared.command.Command.TheVariants as commands
 use Rattle.tx_model.specs.declared.reply.Reply.{Reply}
 use Rattle.tx_model.specs.declared.reply.Reply.TheVariants as replies
+use Rattle.tx_model.specs.declared.report.How.{How}
 use Rattle.tx_model.specs.declared.report.Life.{Life}
 use Rattle.tx_model.specs.declared.report.Line.{Line}
 use Rattle.tx_model.specs.declared.report.Step.TheVariants as steps
@@ -29,9 +30,10 @@ use Rattle.life_law.specs.LifeLog.{IsAnnounced, ends_top}
 use Rattle.report_law.specs.Checkpoints.{counters_behind}
 use Rattle.report_law.specs.Steps.{Judged, lines_of}
 
--- the flushed number is past the life's first record, and not past its last
-abbrev pub IsLawfulLog : Life → Type 0
-IsLawfulLog life = (life.from < life.flushed) × (life.flushed ≤ life.from + length life.recs)
+-- The flushed number is past the life's first record, and in the last life not past its last. Where a life follows, that
+-- one's first line says so.
+abbrev pub IsLawfulLog : Option How → Life → Type 0
+IsLawfulLog crash life = (life.from < life.flushed) × IfNone crash (life.flushed ≤ life.from + length life.recs)
 
 -- the reply to the last of these commands of a session
 abbrev pub last_answer : (Command → Bool) → List Line → ℕ → Option Reply

@@ -1,11 +1,12 @@
 -- The lines of a report, in the order of its text, each with what it is judged by; and which line is unlawful.
-use Rattle.std.specs.Prelude.{◌≡◌, ℕ, ◌+◌, List, [], ◌∷◌, ◌++◌, length}
+use Rattle.std.specs.Prelude.{◌≡◌, ℕ, ◌+◌, List, [], ◌∷◌, ◌++◌, Option, length}
 use Rattle.std.specs.List.{AllByRecursion, flat_map}
 use Rattle.tx_events.specs.declared.event.Event.{Event}
 use Rattle.tx_events.specs.declared.multi.MultiEvent.{MultiEvent}
 use Rattle.tx_events.specs.declared.record.Rec.{Rec}
 use Rattle.tx_model.specs.declared.reply.Reply.{Reply}
 use Rattle.tx_model.specs.declared.report.DumpOf.{DumpOf}
+use Rattle.tx_model.specs.declared.report.How.{How}
 use Rattle.tx_model.specs.declared.report.Life.{Life}
 use Rattle.tx_model.specs.declared.report.LifeReport.{LifeReport}
 use Rattle.tx_model.specs.declared.report.Line.{Line}
@@ -29,7 +30,7 @@ pub data ReportLine : Type 0 where
   dump : Judged → List Step → DumpOf → ℕ → ℕ → Reply → ReportLine
   event : Judged → ℕ → Event → ReportLine
   multi : Judged → ℕ → MultiEvent → ReportLine
-  log : Judged → ReportLine
+  log : Option How → Judged → ReportLine
   logged : Judged → ℕ → Rec → ReportLine
 
 -- the line's rule
@@ -41,7 +42,7 @@ IsLawfulAt (checkpoint j before reply) = MayCheckpoint j before reply
 IsLawfulAt (dump j before what at size reply) = MayDump j (flat_map lines_in before) what at size reply
 IsLawfulAt (event j place e) = IsLawfulEvent j place e
 IsLawfulAt (multi j place e) = IsLawfulMulti j place e
-IsLawfulAt (log j) = IsLawfulLog j.life
+IsLawfulAt (log crash j) = IsLawfulLog crash j.life
 IsLawfulAt (logged j place rec) = IsLawfulRecord j place rec
 
 -- ---- in order
@@ -74,7 +75,7 @@ life_lines before r =
     start before r.life ∷ steps_lines (judged before r) [] r.steps
     ++ (plain ∷ placed (event (judged before r)) 0 r.life.events)
     ++ (plain ∷ placed (multi (judged before r)) 0 r.life.multis)
-    ++ (log (judged before r) ∷ placed (logged (judged before r)) 0 r.life.recs)
+    ++ (log r.crash (judged before r) ∷ placed (logged (judged before r)) 0 r.life.recs)
     ++ (plain ∷ [])
 
 abbrev pub lives_lines : List LifeReport → List LifeReport → List ReportLine

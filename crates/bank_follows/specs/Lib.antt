@@ -12,3 +12,4 @@ pub mod Near
 pub mod Restored
 pub mod Standing
 pub mod Holding
+pub mod Ends

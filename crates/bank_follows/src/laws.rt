@@ -10,6 +10,7 @@ ghost use Rattle.bank_follows.specs.Near.{NearOnMade, ShortMakesNear};
 ghost use Rattle.bank_follows.specs.Restored.{LifeBegins, RestoredBegins};
 ghost use Rattle.bank_follows.specs.Standing.{BanksStand};
 ghost use Rattle.bank_follows.specs.Holding.{EngineFits};
+ghost use Rattle.bank_follows.specs.Ends.{ClusterFits};
 
 use disk_core::{LogDisk, PageDisk};
 
@@ -111,4 +112,10 @@ pub fn life_begins()
 /// Where the values of all locks hold what they are to, the volumes of an engine fit, over any disks.
 pub fn engine_fits<L: LogDisk, P: PageDisk>()
     ensures { EngineFits L.images P.images P.moment P.left_at }
+{}
+
+/// Where the values of a cluster's log and of its banks of pg_xact hold what they are to, in a short life that began right
+/// and did nothing to a multixact, its volumes fit the life's log.
+pub fn cluster_fits<L: LogDisk, P: PageDisk>()
+    ensures { ClusterFits L.LogDisk P.PageDisk }
 {}

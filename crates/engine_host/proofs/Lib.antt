@@ -1,4 +1,4 @@
-mod Starting
+pub mod Starting
 pub mod Hosting
 pub mod Parking
 mod Refusing

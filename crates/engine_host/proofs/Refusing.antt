@@ -26,10 +26,11 @@ use Rattle.engine_parts.specs.Parts.{PartStands}
 use Rattle.engine_parts.specs.declared.part.Part.{Part}
 use Rattle.engine_parts.specs.declared.part.Part.TheVariants as parts
 use Rattle.engine_host.specs.declared.cluster.Cluster.{Cluster}
-use Rattle.engine_host.specs.declared.cluster.NewVolumes.{NewVolumes}
+use Rattle.recoverable.specs.declared.cluster.ClusterVolumes.{ClusterVolumes}
+use Rattle.recoverable.specs.Clusters.{HasFailedAt}
 use Rattle.engine_host.specs.declared.refusal.OpenRefusal.{OpenRefusal}
 use Rattle.engine_host.specs.declared.refusal.OpenRefusal.TheVariants as refusals
-use Rattle.engine_host.specs.Refused.{AreInPlace, HasFailedAt, HaveDisks, IsBankRefusal, IsBeginRefusal, IsRefusal, IsStartRefusal, OpensEmpty, refusal_by, subtrans_disk, subtrans_disks, xact_disk, xact_disks}
+use Rattle.engine_host.specs.Refused.{AreInPlace, HaveDisks, IsBankRefusal, IsBeginRefusal, IsRefusal, IsStartRefusal, OpensEmpty, refusal_by, subtrans_disk, subtrans_disks, xact_disk, xact_disks}
 
 -- ---- what was popped, or is put at the end
 
@@ -63,6 +64,25 @@ module _ {X Y : Type 0} (f : X → Option Y) where
       → length (filter_map f old) ≡ length (filter_map f new)
   passed_length old new x e is = ap length (with_none old new x e is)
 
+  -- four more, of which the first has one, or the second: it was the first of those that were left
+  pub kept_first : (xs whole : List X) (a b v w : X) (y : Y) (old rest : List Y) → whole ≡ (((xs ++ a ∷ []) ++ b ∷ []) ++ v ∷ []) ++ w ∷ [] → f a ≡ Some y → f b ≡ None → f v ≡ None → f w ≡ None → old ≡ y ∷ rest
+      → filter_map f whole ++ rest ≡ filter_map f xs ++ old
+  kept_first xs whole a b v w y old rest is fa fb fv fw front =
+      let ys : List X = xs ++ a ∷ [] in
+      let zs : List X = ys ++ b ∷ [] in
+      let vs : List X = zs ++ v ∷ [] in
+      let all : filter_map f whole ≡ filter_map f xs ++ y ∷ [] = with_none whole vs w is fw ∙ (with_none vs zs v refl fv ∙ (with_none zs ys b refl fb ∙ with_one ys xs a y refl fa)) in
+      ap (λ (l : List Y). l ++ rest) all ∙ (append_assoc (filter_map f xs) (y ∷ []) rest ∙ ap (λ (l : List Y). filter_map f xs ++ l) (sym front))
+
+  pub kept_second : (xs whole : List X) (a b v w : X) (y : Y) (old rest : List Y) → whole ≡ (((xs ++ a ∷ []) ++ b ∷ []) ++ v ∷ []) ++ w ∷ [] → f a ≡ None → f b ≡ Some y → f v ≡ None → f w ≡ None → old ≡ y ∷ rest
+      → filter_map f whole ++ rest ≡ filter_map f xs ++ old
+  kept_second xs whole a b v w y old rest is fa fb fv fw front =
+      let ys : List X = xs ++ a ∷ [] in
+      let zs : List X = ys ++ b ∷ [] in
+      let vs : List X = zs ++ v ∷ [] in
+      let all : filter_map f whole ≡ filter_map f xs ++ y ∷ [] = with_none whole vs w is fw ∙ (with_none vs zs v refl fv ∙ (with_one zs ys b y refl fb ∙ ap (λ (l : List Y). l ++ y ∷ []) (with_none ys xs a refl fa))) in
+      ap (λ (l : List Y). l ++ rest) all ∙ (append_assoc (filter_map f xs) (y ∷ []) rest ∙ ap (λ (l : List Y). filter_map f xs ++ l) (sym front))
+
   few_step : (x : X) (xs : List X) (o : Option Y) → f x ≡ o → length (filter_map f xs) ≤ length xs
       → length (cons_option o (filter_map f xs)) ≤ suc (length xs)
   few_step x xs None is l = omega arith
@@ -77,6 +97,20 @@ module _ {X Y : Type 0} (f : X → Option Y) where
 pub first_is : {X : Type 0} (xs : List X) (x : X) → 0 < length xs → x ≡ slice_index_or xs 0 x → slice_get xs 0 ≡ Some x
 first_is [] x l e = absurd (omega arith)
 first_is {X} (y ∷ xs) x l e = ap (λ (z : X). Some z) (sym e)
+
+pub front_of : {X : Type 0} (xs rest : List X) (x : X) → 0 < length xs → x ≡ slice_index_or xs 0 x → rest ≡ remove xs 0 → xs ≡ x ∷ rest
+front_of [] rest x l e r = absurd (omega arith)
+front_of (y ∷ xs) rest x l e r = λ i. sym e i ∷ sym r i
+
+-- some are left where not all were taken
+pub some_left : {X : Type 0} (n : ℕ) (xs ys : List X) → ys ≡ drop n xs → n < length xs → 0 < length ys
+some_left n [] ys e l = absurd (omega (arith, l))
+some_left zero (x ∷ xs) ys e l = let k : length ys ≡ suc (length xs) = ap length e in omega (arith, k)
+some_left (suc n) (x ∷ xs) ys e l = some_left n xs ys e (omega (arith, l))
+
+pub none_long : {X : Type 0} (xs : List X) → length xs ≡ 0 → xs ≡ []
+none_long [] e = refl
+none_long (x ∷ xs) e = absurd (omega (arith, e))
 
 pub second_is : {X : Type 0} (xs ys : List X) (x : X) → 2 ≤ length xs → ys ≡ remove xs 0 → x ≡ slice_index_or ys 0 x → slice_get xs 1 ≡ Some x
 second_is [] ys x l e is = absurd (omega arith)
@@ -228,7 +262,7 @@ module _ {L P : Type 0} {l : logs.Ghosts L} {p : disks.Ghosts P} where
       is_there (parts.Subtrans store) k none = absurd (omega (arith, k.2.1))
       is_there parts.Vacant k none = k.2.proc refl
 
-  pub from_bank : (c : Cluster) (old new : NewVolumes L P) (bank : ℕ) (rest : List (Part L P l p)) (xs ys : List P) (r : OpenRefusal)
+  pub from_bank : (c : Cluster) (old new : ClusterVolumes L P) (bank : ℕ) (rest : List (Part L P l p)) (xs ys : List P) (r : OpenRefusal)
       → HaveDisks bank rest → IsBankRefusal p bank (drop bank old.xact.items) xs (drop bank old.subtrans.items) ys r
       → new.xact.items ≡ xact_disks rest ++ xs → new.subtrans.items ≡ subtrans_disks rest ++ ys → IsRefusal l p c old new r
   from_bank c old new bank rest xs ys (refusals.Damaged at) have k x y = absurd k
@@ -247,7 +281,7 @@ module _ {L P : Type 0} {l : logs.Ghosts L} {p : disks.Ghosts P} where
   from_bank c old new bank rest xs ys refusals.Memory have k x y = tt
 
 module _ {L P : Type 0} {l : logs.Ghosts L} (p : disks.Ghosts P) where
-  pub from_begin : (c : Cluster) (old new : NewVolumes L P) (log log' : WalLog L l) (r : OpenRefusal)
+  pub from_begin : (c : Cluster) (old new : ClusterVolumes L P) (log log' : WalLog L l) (r : OpenRefusal)
       → OpensEmpty l old.log (log_end log) → l.faults old.log ≤ l.faults (log_disk log) → new.log ≡ log_disk log'
       → IsBeginRefusal c log log' r → IsRefusal l p c old new r
   from_begin c old new log log' (refusals.Damaged at) opens count back k = absurd k

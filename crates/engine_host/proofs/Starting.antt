@@ -1,13 +1,13 @@
 -- What new parts stand for.
-use Rattle.std.proofs.Common.{Box, Global, ℕ, zero, suc, ◌/◌, option_map, length-append, Result, Ok, Err, is_ok, IsOk, if◌then◌else◌, insert, ◌+◌, ◌*◌, ◌%◌, ◌^◌, ◌<◌, ◌≤◌, ◌≡◌, ◌⊎◌, ⊎_elim, Bool, false, true, IsTrue, List, [], ◌∷◌, ◌++◌, Option, None, Some, length, map, max, get_or, inl, refl, sym, ap, subst, ◌∙◌, arith}
+use Rattle.std.proofs.Common.{Box, Global, ℕ, zero, suc, ◌/◌, option_map, length-append, Result, Ok, Err, is_ok, IsOk, if◌then◌else◌, insert, ◌+◌, ◌*◌, ◌%◌, ◌^◌, ◌<◌, ◌≤◌, ◌≡◌, ◌⊎◌, ⊎_elim, Bool, false, true, cond, IsTrue, List, [], ◌∷◌, ◌++◌, Option, None, Some, Contains, append-nil, drop, length, map, max, get_or, inl, refl, sym, ap, subst, ◌∙◌, arith}
 use Rattle.std.proofs.lemmas.Option.{slice_get-map, get_or_from_slice_get}
 use Rattle.std.specs.List.{slice_get}
 use Rattle.disk_core.specs.declared.log_disk.LogDisk as logs
 use Rattle.disk_core.specs.declared.page_disk.PageDisk as disks
-use Rattle.disk_core.specs.Pages.{zero_page}
+use Rattle.disk_core.specs.Pages.{page_bytes, zero_page}
 use Rattle.disk_core.specs.Volume.{Volume}
 use Rattle.slru_bank.proofs.ZeroBytes.{zero_byte}
-use Rattle.slru_bank.specs.Calls.{IsDurable, cutoff_of, last_page, pages_of}
+use Rattle.slru_bank.specs.Calls.{IsDurable, cutoff_of, last_page, pages_of, volume_of}
 use Rattle.slru_bank.specs.declared.bank.SlruBank.{SlruBank}
 use Rattle.store_pages.specs.declared.page_rule.PageRule as rules
 use Rattle.store_pages.specs.Layouts.{bits_at, number_in, state_in, word_page_of, word_place_of, xact_page_of, xact_place_of}
@@ -23,6 +23,7 @@ use Rattle.wal_core.specs.Opening.{no_counters}
 use Rattle.tx_events.specs.Ids.{id_before, low_half}
 use Rattle.tx_core.specs.CleanStart.{CleanStart}
 use Rattle.tx_core.specs.declared.entry.Entry.{Entry}
+use Rattle.tx_core.specs.declared.entry.State.{State}
 use Rattle.tx_core.specs.declared.entry.State.TheVariants as states
 use Rattle.tx_core.specs.Locks.{log_lock, subtrans_lock, subtrans_page, xact_lock, xact_page}
 use Rattle.engine_parts.specs.declared.part.Part.{Part}
@@ -31,7 +32,7 @@ use Rattle.engine_parts.specs.Course.{HasCourse, IsOpened}
 use Rattle.engine_parts.specs.Parts.{PartStands}
 use Rattle.engine_parts.specs.Stand.{LogStands, SubtransStands, XactStands}
 use Rattle.engine_host.specs.declared.cluster.Cluster.{Cluster}
-use Rattle.engine_host.specs.Opening.{AreNew, IsNewPart, faults_behind, life_of, new_life}
+use Rattle.engine_host.specs.Opening.{AllOnDisk, AllShowNothing, AllShowStates, AreNew, Beginning, IsNewPart, IsOnDisk, ShowNothing, ShowStates, bytes_left, faults_behind, life_from, new_life}
 
 -- ---- the log
 
@@ -42,20 +43,23 @@ raised n c = λ i. record { next = none c.next i; oldest = none c.oldest i; mult
     none : (k : ℕ) → max 0 k ≡ k
     none k = omega arith
 
--- one record, which is the first checkpoint, and is on disk
-pub log_begins : (c : Cluster) (tells : Bool) (faults : ℕ) (images : Volume → Type 0) (recs : List Rec) (next first flushed : ℕ) (counters : Option Counters) (down : Option ℕ) (counts : List ℕ)
-    → recs ≡ records.Checkpoint 0 c.base ∷ [] → next ≡ 1 → flushed ≡ 1 → counters ≡ Some c.base → down ≡ None → get_or counts log_lock 0 ≤ faults
-    → (IsTrue tells → KeepsRecords 0 (records.Checkpoint 0 c.base ∷ []) recs next first flushed images)
-    → LogStands (life_of c counts) tells faults images recs next first flushed counters down []
-log_begins c tells faults images recs next first flushed counters down counts recs_are next_is flushed_is counters_are up count keeps = record {
+none_more : (n : ℕ) → n ≡ n + 0
+none_more n = omega arith
+
+-- one record, which is the checkpoint, and is on disk
+pub log_begins : (c : Cluster) (b : Beginning) (tells : Bool) (faults : ℕ) (images : Volume → Type 0) (recs : List Rec) (next first flushed : ℕ) (counters : Option Counters) (down : Option ℕ) (counts : List ℕ)
+    → recs ≡ records.Checkpoint b.number c.base ∷ [] → next ≡ b.number + 1 → flushed ≡ b.number + 1 → counters ≡ Some c.base → down ≡ None → get_or counts log_lock 0 ≤ faults
+    → (IsTrue tells → (number : ℕ) × (all : List Rec) × KeepsRecords number all recs next first flushed images)
+    → LogStands (life_from c b counts) tells faults images recs next first flushed counters down []
+log_begins c b tells faults images recs next first flushed counters down counts recs_are next_is flushed_is counters_are up count keeps = record {
   recs_are = recs_are;
-  next_is = next_is;
+  next_is = next_is ∙ none_more (b.number + 1);
   flushed_is = flushed_is;
   counters_are = counters_are;
   failed = λ n d. let z : None ≡ Some n = sym up ∙ d in absurd cc;
   up = λ d. refl;
   count = count;
-  kept = λ told. (0, records.Checkpoint 0 c.base ∷ [], keeps told);
+  kept = λ told. let k = keeps told in (k.0, k.1, subst (λ (t : List Rec). KeepsRecords k.0 t recs next first flushed images) (sym (append-nil k.1)) k.2);
 }
 
 -- ---- the banks
@@ -70,34 +74,52 @@ zero_state n = ap (λ b. bits_at b (n % 4)) (zero_byte (n / 4)) ∙ zero_bits (n
 zero_number : (n : ℕ) → number_in zero_page n ≡ 0
 zero_number n = rw (zero_byte n, zero_byte (n + 1), zero_byte (n + 2), zero_byte (n + 3)) refl
 
--- pages that show nothing are those of a clean start at which nothing is committed
-clean : (c : Cluster) (counts : List ℕ) → IsBase c.base → CleanStart (life_of c counts) (λ x. None)
-clean c counts base = record {
-  base = base;
-  before = λ x k. absurd (contains_has [] x k);
-  committed = λ x from k. absurd (contains_has [] x k);
-  only = λ x from to shown. absurd (unshown shown);
-  place = λ x near shown. absurd (unshown shown);
-  clean = λ x from to. refl;
+-- a clean start goes by the base and what is committed alone
+clean_any : (c : Cluster) (b : Beginning) (counts : List ℕ) (shown : ℕ → Option State) → CleanStart (life_from c b []) shown → CleanStart (life_from c b counts) shown
+clean_any c b counts shown k = record {
+  base = k.base;
+  before = k.before;
+  committed = k.committed;
+  only = k.only;
+  place = λ x near is. k.place x (record { from = near.from; to = near.to }) is;
+  clean = k.clean;
+}
+
+-- pages that show nothing are those of one at which nothing is committed
+pub zeros_show : (c : Cluster) (b : Beginning) (bank : ℕ) → IsBase c.base → b.committed ≡ [] → ShowStates c b bank (λ q. zero_page)
+zeros_show c b bank base none = record {
+  shown = λ x. None;
+  clean = record {
+    base = base;
+    before = λ x k. absurd (no_id x k);
+    committed = λ x from k. absurd (no_id x k);
+    only = λ x from to shown. absurd (unshown shown);
+    place = λ x near shown. absurd (unshown shown);
+    clean = λ x from to. refl;
+  };
+  each = λ x on. zero_state (xact_place_of x);
 }
   where
+    no_id : (x : ℕ) → Contains b.committed x → ⊥
+    no_id x k = contains_has [] x (subst (λ (t : List ℕ). Contains t x) none k)
+
     unshown : (None ≡ Some states.Committed) ⊎ (None ≡ Some states.SubCommitted) → ⊥
     unshown shown = ⊎_elim (λ (e : None ≡ Some states.Committed). absurd cc) (λ (e : None ≡ Some states.SubCommitted). absurd cc) shown
 
-pub xact_begins : (c : Cluster) (bank faults last cutoff : ℕ) (tells : Bool) (bytes : ℕ → List ℕ) (led : List Entry → Type 0) (counts : List ℕ) → IsBase c.base → bank < c.banks
+pub xact_begins : (c : Cluster) (b : Beginning) (bank faults last cutoff : ℕ) (tells : Bool) (bytes left : ℕ → List ℕ) (led : List Entry → Type 0) (counts : List ℕ) → bank < c.banks
     → get_or counts (xact_lock bank) 0 ≤ faults → last ≡ xact_page (low_half c.base.next) → cutoff ≡ xact_page (low_half c.base.oldest)
-    → (IsTrue tells → (q : ℕ) → q < 2 ^ 32 → bytes q ≡ zero_page) → (IsTrue tells → led [])
-    → XactStands (life_of c counts) bank tells faults last cutoff bytes led []
-xact_begins c bank faults last cutoff tells bytes led counts base inside count last_is cutoff_is zeros begun = record {
+    → (IsTrue tells → ShowStates c b bank left) → (IsTrue tells → (q : ℕ) → q < 2 ^ 32 → bytes q ≡ left q) → (IsTrue tells → led [])
+    → XactStands (life_from c b counts) bank tells faults last cutoff bytes led []
+xact_begins c b bank faults last cutoff tells bytes left led counts inside count last_is cutoff_is shows same begun = record {
   inside = inside;
   count = count;
   last_is = λ near. last_is ∙ low_page c.base.next;
   cutoff_is = (xact_page c.base.oldest, cutoff_is ∙ low_page c.base.oldest, omega arith, inl refl);
-  shown = λ told near. (
-    λ x. None,
-    clean c counts base,
+  shown = λ told near. let s = shows told in (
+    s.shown,
+    clean_any c b counts s.shown s.clean,
     record {
-      each = λ x used here kept. ap (λ page. state_in page (xact_place_of x)) (zeros told (xact_page_of x) (small x)) ∙ zero_state (xact_place_of x);
+      each = λ x used here kept. ap (λ page. state_in page (xact_place_of x)) (same told (xact_page_of x) (small x)) ∙ s.each x here;
     },
   );
   course = begun;
@@ -109,16 +131,16 @@ xact_begins c bank faults last cutoff tells bytes led counts base inside count l
     small : (n : ℕ) → xact_page_of n < 2 ^ 32
     small n = omega arith
 
--- its course begins with pages of zeros, which a crash leaves too
-pub course_begins : {P O : Type 0} {g : disks.Ghosts P} {r : rules.Ghosts O} (c : Cluster) (bank : ℕ) (store : SlruBank P O g r) (counts : List ℕ) → IsBase c.base
+-- its course begins with pages that show this, as a crash leaves them too
+pub course_begins : {P O : Type 0} {g : disks.Ghosts P} {r : rules.Ghosts O} (c : Cluster) (b : Beginning) (bank : ℕ) (store : SlruBank P O g r) (left : ℕ → List ℕ) (counts : List ℕ)
     → last_page store ≡ xact_page (low_half c.base.next) → cutoff_of store ≡ xact_page (low_half c.base.oldest)
-    → ((q : ℕ) → q < 2 ^ 32 → pages_of store q ≡ zero_page) → IsDurable store
-    → HasCourse (life_of c counts) bank store []
-course_begins {P} {O} {g} {r} c bank store counts base last cutoff zeros durable =
-    let opened : IsOpened (life_of c counts) bank store = record {
-      before = λ x. None;
-      clean = clean c counts base;
-      shown = λ x near on. ap (λ page. state_in page (xact_place_of x)) (zeros (xact_page_of x) (small x)) ∙ zero_state (xact_place_of x);
+    → ShowStates c b bank left → ((q : ℕ) → q < 2 ^ 32 → pages_of store q ≡ left q) → IsDurable store
+    → HasCourse (life_from c b counts) bank store []
+course_begins {P} {O} {g} {r} c b bank store left counts last cutoff shows same durable =
+    let opened : IsOpened (life_from c b counts) bank store = record {
+      before = shows.shown;
+      clean = clean_any c b counts shows.shown shows.clean;
+      shown = λ x near on. ap (λ page. state_in page (xact_place_of x)) (same (xact_page_of x) (small x)) ∙ shows.each x (same_bank (xact_page_of x % c.banks) bank on);
       durable = durable;
       last = last ∙ low_page c.base.next;
       cutoff = cutoff ∙ low_page c.base.oldest;
@@ -131,11 +153,14 @@ course_begins {P} {O} {g} {r} c bank store counts base last cutoff zeros durable
     small : (n : ℕ) → xact_page_of n < 2 ^ 32
     small n = omega arith
 
-pub subtrans_begins : (c : Cluster) (bank faults last cutoff : ℕ) (tells : Bool) (bytes : ℕ → List ℕ) (counts : List ℕ) → bank < c.banks
+    same_bank : (n m : ℕ) → xact_lock n ≡ xact_lock m → n ≡ m
+    same_bank n m e = omega (arith, e)
+
+pub subtrans_begins : (c : Cluster) (b : Beginning) (bank faults last cutoff : ℕ) (tells : Bool) (bytes : ℕ → List ℕ) (counts : List ℕ) → bank < c.banks
     → get_or counts (subtrans_lock bank) 0 ≤ faults → last ≡ subtrans_page (low_half c.base.next) → cutoff ≡ subtrans_page (low_half (id_before c.base.next))
-    → (IsTrue tells → (q : ℕ) → q < 2 ^ 32 → bytes q ≡ zero_page)
-    → SubtransStands (life_of c counts) bank tells faults last cutoff bytes []
-subtrans_begins c bank faults last cutoff tells bytes counts inside count last_is cutoff_is zeros = record {
+    → (IsTrue tells → ShowNothing bytes)
+    → SubtransStands (life_from c b counts) bank tells faults last cutoff bytes []
+subtrans_begins c b bank faults last cutoff tells bytes counts inside count last_is cutoff_is zeros = record {
   inside = inside;
   count = count;
   last_is = λ near. last_is ∙ low_page c.base.next;
@@ -151,30 +176,67 @@ subtrans_begins c bank faults last cutoff tells bytes counts inside count last_i
     small : (n : ℕ) → word_page_of n < 2 ^ 32
     small n = omega arith
 
+-- ---- the pages that are left
+
+module _ {P : Type 0} (p : disks.Ghosts P) (disk : P) where
+  -- the bank's pages, of which all may have been removed
+  pub bytes_are : (removed : Bool) (old new : ℕ → List ℕ) → ((q : ℕ) → old q ≡ page_bytes (p.pages disk q)) → ((q : ℕ) → q < 2 ^ 32 → new q ≡ cond removed zero_page (old q))
+      → (q : ℕ) → q < 2 ^ 32 → new q ≡ bytes_left p removed disk q
+  bytes_are removed old new was now q small = now q small ∙ ap (λ (bytes : List ℕ). cond removed zero_page bytes) (was q)
+
+  -- a bank over a volume that is on disk
+  pub opened_durable : {O : Type 0} {r : rules.Ghosts O} (store : SlruBank P O p r) → volume_of store ≡ disk → ((q : ℕ) → pages_of store q ≡ page_bytes (p.pages disk q)) → IsOnDisk p disk → IsDurable store
+  opened_durable store over same on c left q = on c (subst (λ (d : P). p.images d c) over left) q ∙ sym (same q)
+
+-- ---- the volumes that are left
+
+drop_at : {X : Type 0} (n m : ℕ) (xs : List X) (x : X) → slice_get (drop n xs) m ≡ Some x → slice_get xs (n + m) ≡ Some x
+drop_at zero m xs x e = let same : m ≡ 0 + m = omega arith in subst (λ k. slice_get xs k ≡ Some x) same e
+drop_at (suc n) m [] x e = absurd cc
+drop_at (suc n) m (y ∷ xs) x e = let same : suc (n + m) ≡ suc n + m = omega arith in subst (λ k. slice_get (y ∷ xs) k ≡ Some x) same (drop_at n m xs x e)
+
+module _ {P : Type 0} (p : disks.Ghosts P) (c : Cluster) (b : Beginning) (removed : Bool) where
+  pub rest_show : (n : ℕ) (xs : List P) → AllShowStates p c b removed 0 xs → AllShowStates p c b removed n (drop n xs)
+  rest_show n xs all m disk at =
+      let same : 0 + (n + m) ≡ n + m = omega arith in
+      subst (λ k. ShowStates c b k (bytes_left p removed disk)) same (all (n + m) disk (drop_at n m xs disk at))
+
+  pub first_shows : (bank : ℕ) (xs : List P) (disk : P) → AllShowStates p c b removed bank xs → slice_get xs 0 ≡ Some disk → ShowStates c b bank (bytes_left p removed disk)
+  first_shows bank xs disk all at =
+      let same : bank + 0 ≡ bank = omega arith in
+      subst (λ k. ShowStates c b k (bytes_left p removed disk)) same (all 0 disk at)
+
+pub rest_empty : {P : Type 0} (p : disks.Ghosts P) (removed : Bool) (n : ℕ) (xs : List P) → AllShowNothing p removed xs → AllShowNothing p removed (drop n xs)
+rest_empty p removed n xs all m disk at = all (n + m) disk (drop_at n m xs disk at)
+
+pub rest_on_disk : {P : Type 0} (p : disks.Ghosts P) (n : ℕ) (xs : List P) → AllOnDisk p xs → AllOnDisk p (drop n xs)
+rest_on_disk p n xs all m disk at = all (n + m) disk (drop_at n m xs disk at)
+
 -- ---- the parts
 
-vacant_new : (L P : Type 0) (l : logs.Ghosts L) (p : disks.Ghosts P) (c : Cluster) (bank k : ℕ) → k < 2 → IsNewPart {L = L} {P = P} {l = l} {p = p} c (5 + 4 * bank + k) parts.Vacant
-vacant_new L P l p c bank k few counts reached = record {
+vacant_new : (L P : Type 0) (l : logs.Ghosts L) (p : disks.Ghosts P) (c : Cluster) (b : Beginning) (bank k : ℕ) → k < 2 → IsNewPart {L = L} {P = P} {l = l} {p = p} c b (5 + 4 * bank + k) parts.Vacant
+vacant_new L P l p c b bank k few counts reached = record {
   log = λ e. absurd (omega (arith, e));
   proc = λ e. absurd (omega (arith, e));
-  xact = λ b e. absurd (omega (arith, e, few));
-  subtrans = λ b e. absurd (omega (arith, e, few));
+  xact = λ n e. absurd (omega (arith, e, few));
+  subtrans = λ n e. absurd (omega (arith, e, few));
   multi = λ e. refl;
 }
 
-second_new : (L P : Type 0) (l : logs.Ghosts L) (p : disks.Ghosts P) (c : Cluster) → IsNewPart {L = L} {P = P} {l = l} {p = p} c 2 parts.Vacant
-second_new L P l p c counts reached = record {
+second_new : (L P : Type 0) (l : logs.Ghosts L) (p : disks.Ghosts P) (c : Cluster) (b : Beginning) → IsNewPart {L = L} {P = P} {l = l} {p = p} c b 2 parts.Vacant
+second_new L P l p c b counts reached = record {
   log = λ e. absurd (omega (arith, e));
   proc = λ e. absurd (omega (arith, e));
-  xact = λ b e. absurd (omega (arith, e));
-  subtrans = λ b e. absurd (omega (arith, e));
+  xact = λ n e. absurd (omega (arith, e));
+  subtrans = λ n e. absurd (omega (arith, e));
+  multi = λ e. refl;
 }
 
 -- the table of a new life
-table_new : (L P : Type 0) (l : logs.Ghosts L) (p : disks.Ghosts P) (c : Cluster) (table : Box Table Global)
+table_new : (L P : Type 0) (l : logs.Ghosts L) (p : disks.Ghosts P) (c : Cluster) (b : Beginning) (table : Box Table Global)
     → table.value ≡ record { base = c.base; sessions = c.sessions; initialised_up_to = page_of c.base.next; events = [] }
-    → IsNewPart {L = L} {P = P} {l = l} {p = p} c 1 (parts.Proc table)
-table_new L P l p c table is counts reached = (
+    → IsNewPart {L = L} {P = P} {l = l} {p = p} c b 1 (parts.Proc table)
+table_new L P l p c b table is counts reached = (
   refl,
   record {
     base = ap (λ (t : Table). t.base) is;
@@ -189,41 +251,41 @@ module _ {L P : Type 0} {l : logs.Ghosts L} {p : disks.Ghosts P} where
   some_same x y e = ap (λ (z : Option (Part L P l p)). elim z [ None ↦ x | Some v ↦ v ]) e
 
   -- with a part more behind the next lock
-  pub push_new : (c : Cluster) (first lock : ℕ) (xs : List (Part L P l p)) (y : Part L P l p) → AreNew c first xs → first + length xs ≡ lock → IsNewPart c lock y → AreNew c first (xs ++ y ∷ [])
-  push_new c first lock [] y are is new zero part at = subst (λ (z : Part L P l p). IsNewPart c (first + 0) z) (some_same y part at) (subst (λ n. IsNewPart c n y) (sym is) new)
-  push_new c first lock [] y are is new (suc n) part at = absurd cc
-  push_new c first lock (x ∷ xs) y are is new zero part at = are 0 part at
-  push_new c first lock (x ∷ xs) y are is new (suc n) part at =
+  pub push_new : (c : Cluster) (b : Beginning) (first lock : ℕ) (xs : List (Part L P l p)) (y : Part L P l p) → AreNew c b first xs → first + length xs ≡ lock → IsNewPart c b lock y → AreNew c b first (xs ++ y ∷ [])
+  push_new c b first lock [] y are is new zero part at = subst (λ (z : Part L P l p). IsNewPart c b (first + 0) z) (some_same y part at) (subst (λ n. IsNewPart c b n y) (sym is) new)
+  push_new c b first lock [] y are is new (suc n) part at = absurd cc
+  push_new c b first lock (x ∷ xs) y are is new zero part at = are 0 part at
+  push_new c b first lock (x ∷ xs) y are is new (suc n) part at =
       let next : (m : ℕ) → first + suc m ≡ first + 1 + m = λ m. omega arith in
-      subst (λ k. IsNewPart c k part) (sym (next n))
-      (push_new c (first + 1) lock xs y (λ m q e. subst (λ k. IsNewPart c k q) (next m) (are (suc m) q e)) (omega (arith, is)) new n part at)
+      subst (λ k. IsNewPart c b k part) (sym (next n))
+      (push_new c b (first + 1) lock xs y (λ m q e. subst (λ k. IsNewPart c b k q) (next m) (are (suc m) q e)) (omega (arith, is)) new n part at)
 
   -- the parts that have no bank: the table, and behind it one that isn't built
-  pub first_two : (c : Cluster) (xs ys zs : List (Part L P l p)) (table : Box Table Global) → xs ≡ [] → ys ≡ xs ++ parts.Proc table ∷ [] → zs ≡ ys ++ parts.Vacant ∷ []
-      → table.value ≡ record { base = c.base; sessions = c.sessions; initialised_up_to = page_of c.base.next; events = [] } → AreNew c 1 zs
-  first_two c xs ys zs table none one two is =
+  pub first_two : (c : Cluster) (b : Beginning) (xs ys zs : List (Part L P l p)) (table : Box Table Global) → xs ≡ [] → ys ≡ xs ++ parts.Proc table ∷ [] → zs ≡ ys ++ parts.Vacant ∷ []
+      → table.value ≡ record { base = c.base; sessions = c.sessions; initialised_up_to = page_of c.base.next; events = [] } → AreNew c b 1 zs
+  first_two c b xs ys zs table none one two is =
       let part : Part L P l p = parts.Proc table in
       let alone : List (Part L P l p) = part ∷ [] in
       let all : zs ≡ alone ++ parts.Vacant ∷ [] = two ∙ ap (λ (ps : List (Part L P l p)). ps ++ parts.Vacant ∷ []) (one ∙ ap (λ (ps : List (Part L P l p)). ps ++ part ∷ []) none) in
-      subst (λ (ps : List (Part L P l p)). AreNew c 1 ps) (sym all)
-      (push_new c 1 2 alone parts.Vacant (push_new c 1 1 [] part (λ n q at. absurd cc) (omega arith) (table_new L P l p c table is)) (omega arith) (second_new L P l p c))
+      subst (λ (ps : List (Part L P l p)). AreNew c b 1 ps) (sym all)
+      (push_new c b 1 2 alone parts.Vacant (push_new c b 1 1 [] part (λ n q at. absurd cc) (omega arith) (table_new L P l p c b table is)) (omega arith) (second_new L P l p c b))
 
   -- with those of a bank more
-  pub bank_new : (c : Cluster) (bank : ℕ) (xs : List (Part L P l p)) (a b : Part L P l p) → AreNew c 1 xs → length xs ≡ 2 + 4 * bank → IsNewPart c (xact_lock bank) a → IsNewPart c (subtrans_lock bank) b
-      → AreNew c 1 ((((xs ++ a ∷ []) ++ b ∷ []) ++ parts.Vacant ∷ []) ++ parts.Vacant ∷ [])
-  bank_new c bank xs a b are count states parents =
+  pub bank_new : (c : Cluster) (b : Beginning) (bank : ℕ) (xs : List (Part L P l p)) (x y : Part L P l p) → AreNew c b 1 xs → length xs ≡ 2 + 4 * bank → IsNewPart c b (xact_lock bank) x → IsNewPart c b (subtrans_lock bank) y
+      → AreNew c b 1 ((((xs ++ x ∷ []) ++ y ∷ []) ++ parts.Vacant ∷ []) ++ parts.Vacant ∷ [])
+  bank_new c b bank xs x y are count states parents =
       let v : Part L P l p = parts.Vacant in
-      let ys : List (Part L P l p) = xs ++ a ∷ [] in
-      let zs : List (Part L P l p) = ys ++ b ∷ [] in
+      let ys : List (Part L P l p) = xs ++ x ∷ [] in
+      let zs : List (Part L P l p) = ys ++ y ∷ [] in
       let vs : List (Part L P l p) = zs ++ v ∷ [] in
-      let one : length ys ≡ length xs + 1 = length-append xs (a ∷ []) in
-      let two : length zs ≡ length ys + 1 = length-append ys (b ∷ []) in
+      let one : length ys ≡ length xs + 1 = length-append xs (x ∷ []) in
+      let two : length zs ≡ length ys + 1 = length-append ys (y ∷ []) in
       let three : length vs ≡ length zs + 1 = length-append zs (v ∷ []) in
-      push_new c 1 (5 + 4 * bank + 1) vs v
-      (push_new c 1 (5 + 4 * bank + 0) zs v
-      (push_new c 1 (subtrans_lock bank) ys b (push_new c 1 (xact_lock bank) xs a are (omega (arith, count)) states) (omega (arith, count, one)) parents)
-      (omega (arith, count, one, two)) (vacant_new L P l p c bank 0 (omega arith)))
-      (omega (arith, count, one, two, three)) (vacant_new L P l p c bank 1 (omega arith))
+      push_new c b 1 (5 + 4 * bank + 1) vs v
+      (push_new c b 1 (5 + 4 * bank + 0) zs v
+      (push_new c b 1 (subtrans_lock bank) ys y (push_new c b 1 (xact_lock bank) xs x are (omega (arith, count)) states) (omega (arith, count, one)) parents)
+      (omega (arith, count, one, two)) (vacant_new L P l p c b bank 0 (omega arith)))
+      (omega (arith, count, one, two, three)) (vacant_new L P l p c b bank 1 (omega arith))
 
   -- what was put in first stands first
   pub inserted_first : {R F : Type 0} (xs ys : List (Part L P l p)) (x : Part L P l p) (result : Result R F) → ys ≡ (if is_ok result then insert xs 0 x else xs) → IsOk result → ys ≡ x ∷ xs
@@ -231,16 +293,16 @@ module _ {L P : Type 0} {l : logs.Ghosts L} {p : disks.Ghosts P} where
   inserted_first xs ys x (Err f) e done = let z : false ≡ true = done in absurd cc
 
   -- and with one before them
-  pub cons_new : (c : Cluster) (x : Part L P l p) (xs : List (Part L P l p)) → IsNewPart c 0 x → AreNew c 1 xs → AreNew c 0 (x ∷ xs)
-  cons_new c x xs new are zero part at = subst (λ (z : Part L P l p). IsNewPart c 0 z) (some_same x part at) new
-  cons_new c x xs new are (suc n) part at =
+  pub cons_new : (c : Cluster) (b : Beginning) (x : Part L P l p) (xs : List (Part L P l p)) → IsNewPart c b 0 x → AreNew c b 1 xs → AreNew c b 0 (x ∷ xs)
+  cons_new c b x xs new are zero part at = subst (λ (z : Part L P l p). IsNewPart c b 0 z) (some_same x part at) new
+  cons_new c b x xs new are (suc n) part at =
       let same : 1 + n ≡ 0 + suc n = omega arith in
-      subst (λ k. IsNewPart c k part) same (are n part at)
+      subst (λ k. IsNewPart c b k part) same (are n part at)
 
   -- each stands for its list in the life that begins with their counts
-  pub all_stand : (c : Cluster) (xs : List (Part L P l p)) → AreNew c 0 xs → (lock : ℕ) (part : Part L P l p) → slice_get xs lock ≡ Some part → PartStands (new_life c xs) lock part []
-  all_stand c xs are lock part at =
+  pub all_stand : (c : Cluster) (b : Beginning) (xs : List (Part L P l p)) → AreNew c b 0 xs → (lock : ℕ) (part : Part L P l p) → slice_get xs lock ≡ Some part → PartStands (new_life c b xs) lock part []
+  all_stand c b xs are lock part at =
       let counted : get_or (map faults_behind xs) lock 0 ≡ faults_behind part =
       get_or_from_slice_get (map faults_behind xs) lock (faults_behind part) 0 (slice_get-map faults_behind xs lock ∙ ap (option_map faults_behind) at) in
       let same : 0 + lock ≡ lock = omega arith in
-      subst (λ k. IsNewPart c k part) same (are lock part at) (map faults_behind xs) (omega (arith, counted))
+      subst (λ k. IsNewPart c b k part) same (are lock part at) (map faults_behind xs) (omega (arith, counted))

@@ -1,20 +1,26 @@
 -- What a new engine starts from, and what its parts stand for.
-use Rattle.std.specs.Prelude.{◌≡◌, ℕ, ◌+◌, ◌*◌, ◌≤◌, false, IsTrue, List, [], ◌∷◌, None, Some, slice_get, get_or, length, map}
+use Rattle.std.specs.Prelude.{◌≡◌, ℕ, ◌+◌, ◌*◌, ◌%◌, ◌≤◌, ◌<◌, ◌^◌, Bool, false, cond, IsTrue, List, [], ◌∷◌, Option, None, Some, slice_get, get_or, length, map}
 use Rattle.disk_core.specs.declared.log_disk.LogDisk as logs
 use Rattle.disk_core.specs.declared.page_disk.PageDisk as disks
+use Rattle.disk_core.specs.Pages.{Pages, page_bytes, zero_page}
 use Rattle.tx_events.specs.Base.{IsBase}
+use Rattle.tx_events.specs.declared.record.Rec.{Rec}
 use Rattle.tx_events.specs.declared.record.Rec.TheVariants as records
 use Rattle.wal_core.specs.declared.wal_log.WalLog.{WalLog}
 use Rattle.wal_core.specs.LogViews.{KeepsAll, log_counters, log_disk, log_down, log_flushed, log_next, log_recs}
 use Rattle.slru_bank.specs.Calls.{faults_of}
 use Rattle.slru_bank.specs.declared.bank.SlruBank.{SlruBank}
+use Rattle.store_pages.specs.Layouts.{state_in, xact_page_of, xact_place_of}
 use Rattle.store_pages.specs.declared.page_rule.PageRule as rules
+use Rattle.tx_core.specs.CleanStart.{CleanStart}
 use Rattle.tx_core.specs.declared.entry.Start.{Start}
+use Rattle.tx_core.specs.declared.entry.State.{State}
 use Rattle.tx_core.specs.Locks.{log_lock, subtrans_lock, xact_lock}
 use Rattle.engine_parts.specs.declared.part.Part.{Part}
 use Rattle.engine_parts.specs.declared.part.Part.TheVariants as parts
 use Rattle.engine_parts.specs.Parts.{IsLogOf, IsSubtransOf, IsXactOf, PartStands}
 use Rattle.engine_parts.specs.Sessions.{AreGivenBefore}
+use Rattle.engine_parts.specs.Stand.{number_of_state}
 use Rattle.engine_host.specs.declared.cluster.Cluster.{Cluster}
 use Rattle.engine_host.specs.declared.cluster.Parts.{Parts}
 
@@ -24,20 +30,34 @@ pub record IsCluster (c : Cluster) : Type 0 where
   pub banks : (1 ≤ c.banks) × (c.banks ≤ 16)
   pub sessions : c.sessions ≤ 64
 
--- A life over a new log, which has one record, a checkpoint of the base. Nothing is committed, and no multixact was
--- recorded. These are the volumes' counts of faults.
-abbrev pub life_of : Cluster → List ℕ → Start
-life_of c faults = record {
+-- What a life begins with beside its cluster: the number of the checkpoint that the log has last, the ids that are
+-- committed and the multixacts that were recorded before it, and whether the volumes told that.
+pub record Beginning : Type 0 where
+  pub number : ℕ
+  pub committed : List ℕ
+  pub recorded : List Rec
+  pub told : Bool
+
+-- A life that begins so. These are the volumes' counts of faults.
+abbrev pub life_from : Cluster → Beginning → List ℕ → Start
+life_from c b faults = record {
   banks = c.banks;
   sessions = c.sessions;
-  from = 1;
+  from = b.number + 1;
   base = c.base;
-  committed = [];
-  recorded = [];
-  logged = records.Checkpoint 0 c.base ∷ [];
-  told = false;
+  committed = b.committed;
+  recorded = b.recorded;
+  logged = records.Checkpoint b.number c.base ∷ [];
+  told = b.told;
   faults = faults;
 }
+
+-- over a new log, which has one record: nothing is committed, and no multixact was recorded
+abbrev pub nothing_before : Beginning
+nothing_before = record { number = 0; committed = []; recorded = []; told = false }
+
+abbrev pub life_of : Cluster → List ℕ → Start
+life_of c faults = life_from c nothing_before faults
 
 -- a log without a record
 pub record IsNewLog {D : Type 0} {g : logs.Ghosts D} (log : WalLog D g) : Type 0 where
@@ -56,22 +76,55 @@ pub record HasFirst {D : Type 0} {g : logs.Ghosts D} (c : Cluster) (log : WalLog
   pub counters : log_counters log ≡ Some c.base
   pub keeps : IsTrue g.tells → KeepsAll 0 (records.Checkpoint 0 c.base ∷ []) g.images log
 
--- a log that stands for a list without entries, with the first checkpoint on disk
-abbrev pub IsBegunLog : {D : Type 0} → {g : logs.Ghosts D} → Cluster → WalLog D g → Type 0
-IsBegunLog {g = g} c log =
-    (faults : List ℕ) → get_or faults log_lock 0 ≤ g.faults (log_disk log) → IsLogOf (life_of c faults) log []
+-- a log that stands for a list without entries, with the checkpoint on disk
+abbrev pub IsBegunLog : {D : Type 0} → {g : logs.Ghosts D} → Cluster → Beginning → WalLog D g → Type 0
+IsBegunLog {g = g} c b log =
+    (faults : List ℕ) → get_or faults log_lock 0 ≤ g.faults (log_disk log) → IsLogOf (life_from c b faults) log []
+
+-- The bytes of a bank's pages show states of a clean start: of each id of the bank its own.
+pub record ShowStates (c : Cluster) (b : Beginning) (bank : ℕ) (bytes : ℕ → List ℕ) : Type 0 where
+  pub shown : ℕ → Option State
+  pub clean : CleanStart (life_from c b []) shown
+  pub each : (x : ℕ) → xact_page_of x % c.banks ≡ bank
+      → state_in (bytes (xact_page_of x)) (xact_place_of x) ≡ number_of_state (shown x)
+
+-- no page has anything
+abbrev pub ShowNothing : (ℕ → List ℕ) → Type 0
+ShowNothing bytes = (q : ℕ) → q < 2 ^ 32 → bytes q ≡ zero_page
+
+module _ {P : Type 0} (p : disks.Ghosts P) where
+  -- the bytes of a volume's pages, which may be removed first
+  abbrev pub bytes_left : Bool → P → ℕ → List ℕ
+  bytes_left removed disk q = cond removed zero_page (page_bytes (p.pages disk q))
+
+  -- so each of these volumes, the first of which is that of this bank
+  abbrev pub AllShowStates : Cluster → Beginning → Bool → ℕ → List P → Type 0
+  AllShowStates c b removed first volumes =
+      (n : ℕ) (disk : P) → slice_get volumes n ≡ Some disk → ShowStates c b (first + n) (bytes_left removed disk)
+
+  abbrev pub AllShowNothing : Bool → List P → Type 0
+  AllShowNothing removed volumes =
+      (n : ℕ) (disk : P) → slice_get volumes n ≡ Some disk → ShowNothing (bytes_left removed disk)
+
+  -- each image that a crash may leave has the bytes of the pages
+  abbrev pub IsOnDisk : P → Type 0
+  IsOnDisk disk = (c : Pages) → p.images disk c → (q : ℕ) → page_bytes (c q) ≡ page_bytes (p.pages disk q)
+
+  -- so of each of these volumes
+  abbrev pub AllOnDisk : List P → Type 0
+  AllOnDisk volumes = (n : ℕ) (disk : P) → slice_get volumes n ≡ Some disk → IsOnDisk disk
 
 module _ {P O : Type 0} {g : disks.Ghosts P} {r : rules.Ghosts O} where
   -- banks that stand for lists without entries
-  abbrev pub IsNewXact : Cluster → ℕ → SlruBank P O g r → Type 0
-  IsNewXact c bank store =
+  abbrev pub IsNewXact : Cluster → Beginning → ℕ → SlruBank P O g r → Type 0
+  IsNewXact c b bank store =
       (faults : List ℕ) → get_or faults (xact_lock bank) 0 ≤ faults_of store
-      → IsXactOf (life_of c faults) bank store []
+      → IsXactOf (life_from c b faults) bank store []
 
-  abbrev pub IsNewSubtrans : Cluster → ℕ → SlruBank P O g r → Type 0
-  IsNewSubtrans c bank store =
+  abbrev pub IsNewSubtrans : Cluster → Beginning → ℕ → SlruBank P O g r → Type 0
+  IsNewSubtrans c b bank store =
       (faults : List ℕ) → get_or faults (subtrans_lock bank) 0 ≤ faults_of store
-      → IsSubtransOf (life_of c faults) bank store []
+      → IsSubtransOf (life_from c b faults) bank store []
 
 module _ {L P : Type 0} {l : logs.Ghosts L} {p : disks.Ghosts P} where
   -- how often the volume of a part has failed
@@ -82,14 +135,14 @@ module _ {L P : Type 0} {l : logs.Ghosts L} {p : disks.Ghosts P} where
   faults_behind part = 0
 
   -- the part stands for a list without entries, whatever counts the life begins with that its volume has reached
-  abbrev pub IsNewPart : Cluster → ℕ → Part L P l p → Type 0
-  IsNewPart c lock part =
-      (faults : List ℕ) → get_or faults lock 0 ≤ faults_behind part → PartStands (life_of c faults) lock part []
+  abbrev pub IsNewPart : Cluster → Beginning → ℕ → Part L P l p → Type 0
+  IsNewPart c b lock part =
+      (faults : List ℕ) → get_or faults lock 0 ≤ faults_behind part → PartStands (life_from c b faults) lock part []
 
   -- so each of these, the first of which lies behind this lock
-  abbrev pub AreNew : Cluster → ℕ → List (Part L P l p) → Type 0
-  AreNew c first locks =
-      (n : ℕ) (part : Part L P l p) → slice_get locks n ≡ Some part → IsNewPart c (first + n) part
+  abbrev pub AreNew : Cluster → Beginning → ℕ → List (Part L P l p) → Type 0
+  AreNew c b first locks =
+      (n : ℕ) (part : Part L P l p) → slice_get locks n ≡ Some part → IsNewPart c b (first + n) part
 
   -- a part behind each lock, which stands for the list without entries
   pub record AreParts (parts : Parts L P l p) : Type 0 where
@@ -103,5 +156,5 @@ module _ {L P : Type 0} {l : logs.Ghosts L} {p : disks.Ghosts P} where
         → PartStands parts.start.value lock part []
 
   -- what a new engine starts from
-  abbrev pub new_life : Cluster → List (Part L P l p) → Start
-  new_life cluster locks = life_of cluster (map faults_behind locks)
+  abbrev pub new_life : Cluster → Beginning → List (Part L P l p) → Start
+  new_life cluster begins locks = life_from cluster begins (map faults_behind locks)

@@ -16,11 +16,12 @@ use Rattle.wal_core.specs.Opening.{opened}
 use Rattle.wal_records.specs.Spelling.{rec_bytes}
 use Rattle.tx_core.specs.declared.entry.Entry.{Entry}
 use Rattle.tx_core.specs.declared.entry.Start.{Start}
+use Rattle.recoverable.specs.declared.cluster.ClusterVolumes.{ClusterVolumes}
+use Rattle.recoverable.specs.Clusters.{HasFailedAt}
 use Rattle.engine_parts.specs.Parts.{PartStands}
 use Rattle.engine_parts.specs.declared.part.Part.{Part}
 use Rattle.engine_parts.specs.declared.part.Part.TheVariants as parts
 use Rattle.engine_host.specs.declared.cluster.Cluster.{Cluster}
-use Rattle.engine_host.specs.declared.cluster.NewVolumes.{NewVolumes}
 use Rattle.engine_host.specs.declared.refusal.OpenRefusal.{OpenRefusal}
 use Rattle.engine_host.specs.declared.refusal.OpenRefusal.TheVariants as refusals
 
@@ -56,14 +57,6 @@ module _ {D : Type 0} {g : logs.Ghosts D} where
   IsBeginRefusal c old new refusals.Full = HasNoRoom c (log_end old)
   IsBeginRefusal c old new refusals.Memory = Unit {0}
   IsBeginRefusal c old new refusal = ⊥
-
--- the volume of this place failed: that one was there before, and this one is now
-pub record HasFailedAt {P : Type 0} (faults : P → ℕ) (place : ℕ) (old new : List P) : Type 0 where
-  pub before : P
-  pub now : P
-  pub was : slice_get old place ≡ Some before
-  pub is : slice_get new place ≡ Some now
-  pub risen : HasRisen (faults before) (faults now)
 
 module _ {P : Type 0} (p : disks.Ghosts P) where
   -- Why this bank wasn't opened over the first of these volumes of pg_xact and of pg_subtrans, of which the first ones
@@ -105,7 +98,7 @@ module _ {L P : Type 0} {l : logs.Ghosts L} {p : disks.Ghosts P} where
 module _ {L P : Type 0} (l : logs.Ghosts L) (p : disks.Ghosts P) where
   -- Why no new engine was opened over these volumes, which came back so: the log isn't new, or has no room, a volume
   -- failed, or memory was wanting.
-  abbrev pub IsRefusal : Cluster → NewVolumes L P → NewVolumes L P → OpenRefusal → Type 0
+  abbrev pub IsRefusal : Cluster → ClusterVolumes L P → ClusterVolumes L P → OpenRefusal → Type 0
   IsRefusal c old new (refusals.Damaged at) = IsTrue l.tells → opened (l.reads old.log) ≡ Err at
   IsRefusal c old new refusals.NotNew = IsTrue l.tells → IsSome (history_on (l.reads old.log))
   IsRefusal c old new refusals.LogFault = HasRisen (l.faults old.log) (l.faults new.log)

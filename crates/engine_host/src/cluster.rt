@@ -16,14 +16,6 @@ pub struct Cluster {
     pub sessions: u32,
 }
 
-/// The volumes of a new cluster: the log's, and one for each bank of pg_xact and of pg_subtrans.
-#[derive(Drop)]
-pub struct NewVolumes<L, P> {
-    pub log: L,
-    pub xact: Vec<P>,
-    pub subtrans: Vec<P>,
-}
-
 /// The parts of an engine.
 pub struct Parts<L: LogDisk, P: PageDisk> {
     pub cluster: Cluster,

@@ -1,8 +1,10 @@
-//! The first lock table of an engine: its parts made over empty volumes, the table over them, and the passes of its
-//! sessions. See `docs/ENGINE.md`.
+//! The lock table of an engine: its parts made over the volumes of a new cluster or of one that was recovered, the table
+//! over them, and the passes of its sessions. See `docs/ENGINE.md`.
 #![tactic(auto)]
 
 mod banks;
+mod begun_parts;
+mod building;
 mod cluster;
 mod first_log;
 mod first_parts;
@@ -10,7 +12,8 @@ mod host;
 mod refusal;
 mod volumes;
 
-pub use cluster::{Cluster, NewVolumes, Parts};
+pub use begun_parts::open_begun;
+pub use cluster::{Cluster, Parts};
 pub use first_parts::open_new;
 pub use host::{Host, admit, close, dismiss, make_table, new_session};
 pub use refusal::OpenRefusal;

@@ -1,3 +1,5 @@
 mod Living
 pub mod Counts
 mod Followed
+mod Reopened
+mod GoingOn

@@ -1,2 +1,4 @@
 pub mod Refusals
 pub mod Lives
+pub mod Reopening
+pub mod NextLives

@@ -10,7 +10,8 @@ use Rattle.wal_core.specs.Opening.{opened}
 use Rattle.engine_host.specs.declared.cluster.Cluster.{Cluster}
 use Rattle.engine_host.specs.declared.refusal.OpenRefusal.{OpenRefusal}
 use Rattle.engine_host.specs.declared.refusal.OpenRefusal.TheVariants as refusals
-use Rattle.engine_host.specs.Refused.{HasFailedAt, HasNoRoom, OpensEmpty}
+use Rattle.recoverable.specs.Clusters.{HasFailedAt}
+use Rattle.engine_host.specs.Refused.{HasNoRoom, OpensEmpty}
 use Rattle.engine_life.specs.declared.refusal.NoLife.{NoLife}
 use Rattle.engine_life.specs.declared.refusal.NoLife.TheVariants as no_lives
 use Rattle.engine_life.specs.Lives.{LeaveMultis}

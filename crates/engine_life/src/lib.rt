@@ -5,11 +5,15 @@
 mod closed;
 mod ending;
 mod life;
+mod next_life;
+mod old_parts;
 mod opened;
 mod refusal;
 
 pub use closed::{ClosedLife, close_life};
 pub use ending::end_report;
 pub use life::{Aside, OpenLife};
+pub use next_life::reopen_life;
+pub use old_parts::open_old;
 pub use opened::open_life;
-pub use refusal::NoLife;
+pub use refusal::{NoLife, NotReopened};

@@ -10,15 +10,16 @@ ghost use Rattle.engine_life.specs.Refusals.{IsNoLife, IsOfVolumes, IsUnopened};
 use crate::life::{Aside, OpenLife};
 use crate::refusal::{NoLife, refusal_of};
 use disk_core::{LogDisk, Media, MountRefusal, PageDisk, Volumes};
-use engine_host::{Cluster, NewVolumes, Parts, TakenApart, make_table, open_new, take_apart};
+use engine_host::{Cluster, Parts, TakenApart, make_table, open_new, take_apart};
+use recoverable::ClusterVolumes;
 use std::alloc::{AllocError, Global};
 
 // The most locks that an engine has: those of 16 banks.
 const MOST_LOCKS: usize = 67;
 
 // An engine's volumes, with those aside.
-fn together<L: LogDisk + Drop, P: PageDisk + Drop>(
-    volumes: NewVolumes<L, P>,
+pub(crate) fn together<L: LogDisk + Drop, P: PageDisk + Drop>(
+    volumes: ClusterVolumes<L, P>,
     aside: Aside<P>,
 ) -> Volumes<L, P>
     ensures log { result.log ≡ volumes.log }
@@ -32,7 +33,7 @@ fn together<L: LogDisk + Drop, P: PageDisk + Drop>(
         members,
         ..
     } = aside;
-    let NewVolumes {
+    let ClusterVolumes {
         log,
         xact,
         subtrans,
@@ -82,7 +83,7 @@ fn volumes_of<L: LogDisk + Drop, P: PageDisk + Drop>(
 }
 
 // Makes the lock table over new parts.
-fn begin_life<L: LogDisk + Drop, P: PageDisk + Drop>(
+pub(crate) fn begin_life<L: LogDisk + Drop, P: PageDisk + Drop>(
     alloc: Global,
     parts: Parts<L, P>,
     aside: Aside<P>,
@@ -100,7 +101,7 @@ fn begin_life<L: LogDisk + Drop, P: PageDisk + Drop>(
 }
 
 // Room for the volumes of the banks.
-fn new_room<P>(alloc: Global) -> Result<Vec<P>, AllocError>
+pub(crate) fn new_room<P>(alloc: Global) -> Result<Vec<P>, AllocError>
     ensures empty { IfOk result (λ room. room.items ≡ []) }
     ensures room { IfOk result (λ room. 67 ≤ vec_capacity room) }
 {
@@ -138,7 +139,7 @@ fn open_over<L: LogDisk + Drop, P: PageDisk + Drop>(
         xact: xact_room,
         subtrans: subtrans_room,
     };
-    let volumes = NewVolumes {
+    let volumes = ClusterVolumes {
         log,
         xact,
         subtrans,

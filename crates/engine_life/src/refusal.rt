@@ -3,6 +3,7 @@ ghost use Rattle.std.specs.Prelude.{◌≡◌};
 ghost use Rattle.engine_life.specs.Refusals.{refusal_by};
 
 use engine_host::OpenRefusal;
+use replay_core::RecoverRefusal;
 
 /// Why no life was opened over a media.
 #[derive(Clone, Copy, Debug, PartialEq, Eq)]
@@ -17,6 +18,17 @@ pub enum NoLife {
     Full,
     /// Out of memory.
     Memory,
+}
+
+/// Why no life goes on over a media on which one ran before.
+#[derive(Clone, Copy, Debug, PartialEq, Eq)]
+pub enum NotReopened {
+    /// Nothing was mounted: the media failed.
+    Device,
+    /// Nothing was mounted: out of memory.
+    Memory,
+    /// The volumes were mounted, and not recovered, or memory was wanting for the life.
+    Unrecovered { refusal: RecoverRefusal },
 }
 
 // What a refusal of the engine means here.

@@ -22,3 +22,4 @@ pub mod LogEnds
 pub mod WorkedBank
 pub mod NewBegins
 pub mod Settled
+pub mod Crashed

@@ -6,6 +6,7 @@ pub mod XactImages
 pub mod Fit
 pub mod FitMultis
 pub mod Volumes
+pub mod Clusters
 pub mod OffsetImages
 pub mod MemberImages
 pub mod Laws

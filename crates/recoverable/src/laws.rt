@@ -1,6 +1,7 @@
 ghost use Rattle.recoverable.specs.Laws.{ListFitsLaw, MayBeginLaw, XactFitsLaw, OffsetsShownLaw, OffsetsFitLaw, MembersFitLaw, NoStrayOffset};
 ghost use Rattle.recoverable.specs.Stored.{OffsetBytesShow, MemberBytesShow};
 ghost use Rattle.recoverable.specs.Volumes.{RecoverySettles, RefusalKeeps};
+ghost use Rattle.recoverable.specs.Clusters.{CrashKeepsFit};
 ghost use Rattle.recoverable.specs.Whole.{ImageFitsLaw, LogBegins, NewBegins, NewLogBegins, VolumesFitLaw};
 ghost use Rattle.recoverable.specs.LogSteps.{LogEnds, LogGoesOn};
 ghost use Rattle.recoverable.specs.WorkedLife.{AreRefused, IsRestored, IsWorked};
@@ -63,6 +64,12 @@ pub fn image_fits()
 /// So the volumes fit, over any disks.
 pub fn volumes_fit<L: LogDisk, P: PageDisk>()
     ensures { VolumesFitLaw L.images P.images }
+{}
+
+/// Volumes of a cluster without multixacts that fit a log before a crash fit it behind the crash: so a recovery may begin
+/// from them.
+pub fn crash_keeps_fit<L: LogDisk, P: PageDisk>()
+    ensures { CrashKeepsFit L.LogDisk P.PageDisk }
 {}
 
 /// Over new volumes a life begins clean, and so does its log (`BootStrapXLOG` in

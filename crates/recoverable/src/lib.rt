@@ -2,5 +2,8 @@
 //! bank's list.
 #![tactic(auto)]
 
+mod cluster;
 /// The laws. The functions do nothing; their contracts are the laws.
 pub mod laws;
+
+pub use cluster::ClusterVolumes;

@@ -10,12 +10,12 @@ use Rattle.tx_events.specs.declared.refusal.Lock.{Lock}
 use Rattle.tx_events.specs.declared.refusal.Lock.TheVariants as locks
 use Rattle.recoverable.specs.LifeBase.{committed_in}
 use Rattle.slru_bank.specs.Crash.{CrashLeaves}
-use Rattle.xact_redo.specs.declared.restore.RestoreRefusal.{RestoreRefusal}
-use Rattle.xact_redo.specs.declared.restore.RestoreRefusal.TheVariants as restores
-use Rattle.xact_redo.specs.declared.share.Share.{Share}
-use Rattle.xact_redo.specs.Redo.{IsNamed}
-use Rattle.xact_redo.specs.Restore.{MayRestore, bytes_on}
-use Rattle.xact_redo.proofs.OnDisk.{untouched}
+use Rattle.replay_core.specs.declared.restore.RestoreRefusal.{RestoreRefusal}
+use Rattle.replay_core.specs.declared.restore.RestoreRefusal.TheVariants as restores
+use Rattle.replay_core.specs.declared.share.Share.{Share}
+use Rattle.replay_core.specs.Redo.{IsNamed}
+use Rattle.replay_core.specs.Restore.{MayRestore, bytes_on}
+use Rattle.replay_core.proofs.OnDisk.{untouched}
 use Rattle.replay_core.specs.Banks.{ChangesAt, EmptiesBanks, Emptying, IsCause, IsRefusalAt, IsStoreRefusal, RestoresBanks, Restoring}
 use Rattle.replay_core.specs.declared.refusal.RecoverRefusal.{RecoverRefusal}
 use Rattle.replay_core.specs.declared.refusal.RecoverRefusal.TheVariants as refusals

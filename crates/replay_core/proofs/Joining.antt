@@ -22,15 +22,16 @@ use Rattle.recoverable.proofs.Checkpoints.{get_past}
 use Rattle.recoverable.proofs.Stretches.{get_inside}
 use Rattle.std.proofs.lemmas.List.{length-take-le}
 use Rattle.std.proofs.Math.Nat.{mod-lt}
-use Rattle.xact_redo.specs.declared.share.Share.{Share}
-use Rattle.xact_redo.specs.Redo.{IsNamed, code_in}
-use Rattle.xact_redo.specs.Restore.{MayRestore, RestoresAll, bytes_on}
-use Rattle.xact_redo.specs.Laws.{MapFits, ShowBase, end_base, up_to, with_checkpoint}
-use Rattle.xact_redo.proofs.Fitting.{fits_within, shows_base}
-use Rattle.xact_redo.proofs.Phases.{checkpoint_before, checkpoint_fits, checkpoint_same, cut_base, cut_fits}
+use Rattle.replay_core.specs.declared.share.Share.{Share}
+use Rattle.replay_core.specs.Redo.{IsNamed, code_in}
+use Rattle.replay_core.specs.Restore.{MayRestore, RestoresAll, bytes_on}
+use Rattle.replay_core.specs.Laws.{MapFits, ShowBase, end_base, up_to, with_checkpoint}
+use Rattle.replay_core.proofs.Fitting.{fits_within, shows_base}
+use Rattle.replay_core.proofs.Phases.{checkpoint_before, checkpoint_fits, checkpoint_same, cut_base, cut_fits}
 use Rattle.replay_core.specs.Banks.{AreRestored, AreRestoring}
 use Rattle.replay_core.specs.Opened.{EachHas, HasNone, OpensStill}
-use Rattle.replay_core.specs.Volumes.{Fit, IsLeft, LeavesFit, Recovers}
+use Rattle.recoverable.specs.Clusters.{Fit, IsLeft}
+use Rattle.replay_core.specs.Volumes.{LeavesFit, Recovers}
 use Rattle.replay_core.proofs.Absent.{AreAbsent, members_absent, no_member, no_offset, no_slot_byte, offsets_absent}
 use Rattle.replay_core.proofs.LaterLogs.{BeginsIn, FoundIn, begins_in, checkpoint_keeps, counters_are, cut_base_is, cut_end_is, cut_keeps, cut_list_fits, cut_split, found_in, front, front_place, keeps_itself, low, oldest_multi_up, pending_fits, recorded_same, settled_fits, whole_from}
 use Rattle.replay_core.proofs.Rows.{had, some_same}

@@ -22,10 +22,10 @@ use Rattle.recoverable.specs.Volumes.{KeepsUpTo, ListFits, LogFits, checkpoint_o
 use Rattle.recoverable.proofs.LogBases.{base_then, committed_below, oldest_multi_grows}
 use Rattle.recoverable.proofs.Opened.{first_is, first_stands, history_comes, log_opens}
 use Rattle.recoverable.proofs.Stretches.{get_inside}
-use Rattle.xact_redo.specs.Redo.{AreNear}
-use Rattle.xact_redo.specs.Restore.{IsWindow}
-use Rattle.xact_redo.specs.Laws.{IsWholeFrom, end_base, up_to, with_checkpoint}
-use Rattle.xact_redo.proofs.Phases.{checkpoint_before, checkpoint_end, checkpoint_same, cut_base, cut_end, cut_end_base, later_base, take_take}
+use Rattle.replay_core.specs.Redo.{AreNear}
+use Rattle.replay_core.specs.Restore.{IsWindow}
+use Rattle.replay_core.specs.Laws.{IsWholeFrom, end_base, up_to, with_checkpoint}
+use Rattle.replay_core.proofs.Phases.{checkpoint_before, checkpoint_end, checkpoint_same, cut_base, cut_end, cut_end_base, later_base, take_take}
 use Rattle.replay_core.specs.Opened.{HasNone}
 
 -- ---- a base's window

@@ -1,3 +1,10 @@
+mod PastIds
+mod OneId
+mod Redoing
+mod Restoring
+mod OnDisk
+mod Fitting
+mod Phases
 pub mod Rows
 mod BankRows
 mod Multis
@@ -8,5 +15,3 @@ mod Settling
 mod Openings
 mod Recovering
 mod Refusing
-mod Crashed
-mod Ended

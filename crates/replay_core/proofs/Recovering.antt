@@ -13,7 +13,8 @@ use Rattle.replay_core.specs.Begun.{IsSettled}
 use Rattle.replay_core.specs.Opened.{EachHas, IsFound, LeavesLog, SettlesLog}
 use Rattle.replay_core.specs.Refused.{IsSettleRefusal}
 use Rattle.replay_core.specs.Replay.{IsReplayRefusal, Replays}
-use Rattle.replay_core.specs.Volumes.{Fit, LeavesFit, Recovers}
+use Rattle.recoverable.specs.Clusters.{Fit}
+use Rattle.replay_core.specs.Volumes.{LeavesFit, Recovers}
 use Rattle.replay_core.specs.declared.found.Found.{Found}
 use Rattle.replay_core.specs.declared.refusal.RecoverRefusal.{RecoverRefusal}
 use Rattle.replay_core.proofs.Joining.{is_found, is_recovered, located, not_recovered_cut, not_recovered_pending, not_recovered_settled}

@@ -11,13 +11,14 @@ use Rattle.wal_core.specs.Log.{IsFull}
 use Rattle.wal_core.specs.LogViews.{log_disk, log_end, log_first, log_next}
 use Rattle.wal_core.specs.declared.wal_log.WalLog.{WalLog}
 use Rattle.wal_records.specs.Spelling.{rec_bytes}
-use Rattle.xact_redo.proofs.Redoing.{risen_since}
+use Rattle.replay_core.proofs.Redoing.{risen_since}
 use Rattle.replay_core.specs.Banks.{AreRestored, IsStoreRefusal}
 use Rattle.replay_core.specs.Begun.{AreOnDisk}
 use Rattle.replay_core.specs.Opened.{IsFound}
-use Rattle.replay_core.specs.Refused.{HasFailedAt, IsRefusal, IsSettleRefusal}
+use Rattle.recoverable.specs.Clusters.{HasFailedAt}
+use Rattle.replay_core.specs.Refused.{IsRefusal, IsSettleRefusal}
 use Rattle.replay_core.specs.Replay.{IsReplayRefusal}
-use Rattle.replay_core.specs.declared.cluster.ClusterVolumes.{ClusterVolumes}
+use Rattle.recoverable.specs.declared.cluster.ClusterVolumes.{ClusterVolumes}
 use Rattle.replay_core.specs.declared.found.Found.{Found}
 use Rattle.replay_core.specs.declared.refusal.RecoverRefusal.{RecoverRefusal}
 use Rattle.replay_core.specs.declared.refusal.RecoverRefusal.TheVariants as refusals

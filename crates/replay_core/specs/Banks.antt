@@ -9,13 +9,13 @@ use Rattle.tx_events.specs.declared.refusal.Lock.{Lock}
 use Rattle.tx_events.specs.declared.refusal.Lock.TheVariants as locks
 use Rattle.recoverable.specs.LifeBase.{committed_in}
 use Rattle.slru_bank.specs.Crash.{CrashLeaves}
-use Rattle.xact_redo.specs.declared.share.Share.{Share}
-use Rattle.xact_redo.specs.declared.restore.RestoreRefusal.{RestoreRefusal}
-use Rattle.xact_redo.specs.declared.restore.RestoreRefusal.TheVariants as restores
-use Rattle.xact_redo.specs.Redo.{IsNamed}
-use Rattle.xact_redo.specs.Restore.{HasBytesOnDisk, MayRestore, RestoresAll, bytes_on}
+use Rattle.replay_core.specs.declared.share.Share.{Share}
+use Rattle.replay_core.specs.declared.restore.RestoreRefusal.{RestoreRefusal}
+use Rattle.replay_core.specs.declared.restore.RestoreRefusal.TheVariants as restores
+use Rattle.replay_core.specs.Redo.{IsNamed}
+use Rattle.replay_core.specs.Restore.{HasBytesOnDisk, MayRestore, RestoresAll, bytes_on}
 use Rattle.replay_core.specs.Begun.{AreEmpty}
-use Rattle.replay_core.specs.Refused.{HasFailedAt}
+use Rattle.recoverable.specs.Clusters.{HasFailedAt}
 use Rattle.replay_core.specs.declared.refusal.RecoverRefusal.{RecoverRefusal}
 use Rattle.replay_core.specs.declared.refusal.RecoverRefusal.TheVariants as refusals
 

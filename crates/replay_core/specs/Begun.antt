@@ -9,7 +9,7 @@ use Rattle.tx_events.specs.declared.record.Rec.{Rec}
 use Rattle.tx_events.specs.declared.record.Rec.TheVariants as records
 use Rattle.wal_core.specs.declared.wal_log.WalLog.{WalLog}
 use Rattle.wal_core.specs.LogViews.{KeepsAll, log_counters, log_down, log_first, log_flushed, log_next, log_recs}
-use Rattle.xact_redo.specs.Restore.{HasBytesOnDisk}
+use Rattle.replay_core.specs.Restore.{HasBytesOnDisk}
 
 -- A log that was started and settled: since its start it has a checkpoint of these counters alone, which is on disk, and
 -- before which it was forgotten.

@@ -1,5 +1,7 @@
+pub mod Redo
+pub mod Restore
+pub mod Laws
 pub mod Volumes
-pub mod Ends
 pub mod Begun
 pub mod Refused
 pub mod Opened

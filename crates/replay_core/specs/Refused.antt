@@ -1,5 +1,5 @@
 -- Why a cluster wasn't recovered, by its volumes before and after.
-use Rattle.std.specs.Prelude.{◌≡◌, ℕ, true, IsTrue, List, Contains, Option, None, Some, Ok, Err, length, slice_get}
+use Rattle.std.specs.Prelude.{◌≡◌, ℕ, true, IsTrue, Contains, Option, None, Some, Ok, Err, length}
 use Rattle.disk_core.specs.Faults.{HasRisen}
 use Rattle.disk_core.specs.Volume.{Volume}
 use Rattle.disk_core.specs.declared.log_disk.LogDisk as logs
@@ -16,7 +16,8 @@ use Rattle.wal_core.specs.declared.refusal.LogRefusal.TheVariants as log_refusal
 use Rattle.wal_core.specs.declared.wal_log.WalLog.{WalLog}
 use Rattle.wal_records.specs.Spelling.{rec_bytes}
 use Rattle.recoverable.specs.LifeBase.{is_multi}
-use Rattle.replay_core.specs.declared.cluster.ClusterVolumes.{ClusterVolumes}
+use Rattle.recoverable.specs.Clusters.{HasFailedAt}
+use Rattle.recoverable.specs.declared.cluster.ClusterVolumes.{ClusterVolumes}
 use Rattle.replay_core.specs.declared.refusal.RecoverRefusal.{RecoverRefusal}
 use Rattle.replay_core.specs.declared.refusal.RecoverRefusal.TheVariants as refusals
 
@@ -48,14 +49,6 @@ pub record HasNoRoom (v : Volume) : Type 0 where
   pub gate : ℕ
   pub opens : opened v ≡ Ok (record { history = Some history; gate = gate })
   pub full : IsFull gate 0 (length (rec_bytes (records.Checkpoint (next_number history) history.counters)))
-
--- the volume of this place failed: that one was there before, and this one is now
-pub record HasFailedAt {P : Type 0} (faults : P → ℕ) (place : ℕ) (old new : List P) : Type 0 where
-  pub before : P
-  pub now : P
-  pub was : slice_get old place ≡ Some before
-  pub is : slice_get new place ≡ Some now
-  pub risen : HasRisen (faults before) (faults now)
 
 -- what a refusal of a log that isn't down means
 abbrev pub refusal_by : LogRefusal → RecoverRefusal

@@ -1,38 +1,21 @@
--- What a crash leaves of the volumes of a cluster that has no multixacts, and that recovery may begin from it.
-use Rattle.std.specs.Prelude.{◌≡◌, ℕ, List, None, Some, length, slice_get}
+-- What a recovery answers of volumes that fit a log, and how it leaves them.
+use Rattle.std.specs.Prelude.{◌≡◌, ℕ, List, length}
 use Rattle.disk_core.specs.declared.log_disk.LogDisk as logs
 use Rattle.disk_core.specs.declared.page_disk.PageDisk as disks
-use Rattle.disk_core.specs.Media.{EachCrashed, LogCrashed, PagesCrashed}
 use Rattle.tx_events.specs.declared.record.Counters.{Counters}
+use Rattle.recoverable.specs.Clusters.{IsLeft}
 use Rattle.recoverable.specs.Fit.{KeptLog}
 use Rattle.recoverable.specs.LifeBase.{LifeBase}
-use Rattle.recoverable.specs.Volumes.{Left, NotRecovered, Recovered, VolumesFit}
+use Rattle.recoverable.specs.Volumes.{NotRecovered, Recovered}
 
 module _ {L P : Type 0} (l : logs.Ghosts L) (p : disks.Ghosts P) where
-  -- A crash leaves the log's volume and those of the banks of pg_xact so. There is no volume of offsets or members: their
-  -- pages are absent.
-  pub record IsLeft (log : L) (xact : List P) (left : Left) : Type 0 where
-    pub log_image : l.images log left.log
-    pub states : (bank : ℕ) (disk : P) → slice_get xact bank ≡ Some disk → p.images disk (left.xact bank)
-    pub no_offsets : (bank q : ℕ) → left.offsets bank q ≡ None
-    pub no_members : (bank q : ℕ) → left.members bank q ≡ None
-
-  -- whatever a crash leaves of them fits this log
-  abbrev pub Fit : KeptLog → L → List P → Type 0
-  Fit log disk xact = VolumesFit (length xact) log (IsLeft disk xact)
-
   -- From volumes that fit a log recovery answers the base at this record, of which these are the counters, and leaves the
   -- volumes settled on it, as a life may begin with them.
   pub record Recovers (old : L) (xact : List P) (new : L) (xact' : List P) (from : ℕ) (counters : Counters) (log : KeptLog) : Type 0 where
     pub base : LifeBase
     pub counters_are : base.counters ≡ counters
-    pub recovered : Recovered (length xact) log (IsLeft new xact') from base
+    pub recovered : Recovered (length xact) log (IsLeft l p new xact') from base
 
   -- Where it answers an error, they fit what a later recovery may go on from.
   abbrev pub LeavesFit : List P → L → List P → KeptLog → Type 0
-  LeavesFit xact new xact' log = NotRecovered (length xact) log (IsLeft new xact')
-
-  -- What fits a log fits it behind a crash, too, which leaves each volume as one of its images.
-  abbrev pub CrashKeepsFit : Type 0
-  CrashKeepsFit = (kept : KeptLog) (old new : L) (xact xact' : List P) → LogCrashed l.reads l.images l.faults old new
-      → EachCrashed (PagesCrashed p.pages p.images p.faults) xact xact' → Fit kept old xact → Fit kept new xact'
+  LeavesFit xact new xact' log = NotRecovered (length xact) log (IsLeft l p new xact')

@@ -1,17 +1,18 @@
 // The volumes of the banks, one after another, each in its place.
 ghost use Rattle.std.specs.Prelude.{◌≡◌, ◌<◌, ◌≤◌, ◌^◌, insert, length, vec_capacity};
 ghost use Rattle.recoverable.specs.LifeBase.{committed_in};
-ghost use Rattle.xact_redo.specs.Redo.{AreNear};
-ghost use Rattle.xact_redo.specs.Restore.{IsWindow};
+ghost use Rattle.replay_core.specs.Redo.{AreNear};
+ghost use Rattle.replay_core.specs.Restore.{IsWindow};
 ghost use Rattle.replay_core.specs.Banks.{ChangesAt, EmptiesBanks, Emptying, IsRefusalAt, RestoresBanks, Restoring};
 
 use crate::refusal::RecoverRefusal;
+use crate::restore::{RestoreRefusal, restore_states};
+use crate::share::Share;
 use disk_core::PageDisk;
 use slru_bank::SlruBank;
 use std::alloc::Global;
 use store_pages::{SubtransPages, subtrans_page};
 use tx_events::{Counters, Lock, Rec};
-use xact_redo::{RestoreRefusal, Share, restore_states};
 
 // Puts a volume back in its place.
 fn put_back<P: PageDisk + Drop>(volumes: &mut Vec<P>, at: usize, disk: P)

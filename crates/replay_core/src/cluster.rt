@@ -1,15 +1,7 @@
-//! What is recovered, and what of it stands then.
+//! What is recovered.
 use disk_core::LogDisk;
 use tx_events::Counters;
 use wal_core::WalLog;
-
-/// The volumes of a cluster without multixacts: the log's, and one for each bank of pg_xact and of pg_subtrans.
-#[derive(Drop)]
-pub struct ClusterVolumes<L, P> {
-    pub log: L,
-    pub xact: Vec<P>,
-    pub subtrans: Vec<P>,
-}
 
 /// A cluster from which a life may begin.
 #[derive(Drop)]

@@ -1,16 +1,21 @@
-//! What the definitions say together. The functions do nothing; their contracts are the laws.
-ghost use Rattle.replay_core.specs.Ends.{ClusterFits};
-ghost use Rattle.replay_core.specs.Volumes.{CrashKeepsFit};
+ghost use Rattle.replay_core.specs.Laws.{CheckpointFits, CutFits, FitsWithin, ShowsBase};
 
-use disk_core::{LogDisk, PageDisk};
-
-/// Where the values of a cluster's log and of its banks of pg_xact hold what they are to, in a short life that began right,
-/// its volumes fit the life's log.
-pub fn cluster_fits<L: LogDisk, P: PageDisk>()
-    ensures { ClusterFits L.LogDisk P.PageDisk }
+/// What fits a log fits it where it is known which of its last records were on disk.
+pub fn cut_fits()
+    ensures { CutFits }
 {}
 
-/// Volumes that fit a log before a crash fit it behind the crash: so a recovery may begin from them.
-pub fn crash_keeps_fit<L: LogDisk, P: PageDisk>()
-    ensures { CrashKeepsFit L.LogDisk P.PageDisk }
+/// At each moment of a recovery an image of a bank fits the log.
+pub fn fits_within()
+    ensures { FitsWithin }
+{}
+
+/// When it is done the pages show the base that the log gives.
+pub fn shows_base()
+    ensures { ShowsBase }
+{}
+
+/// What shows the base fits the log with a checkpoint of it, on disk or not, wherever the log begins.
+pub fn checkpoint_fits()
+    ensures { CheckpointFits }
 {}

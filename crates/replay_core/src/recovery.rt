@@ -2,22 +2,24 @@
 ghost use Rattle.std.specs.Prelude.{◌≡◌, ◌≤◌, IfErr, IfOk, IsTrue, length};
 ghost use Rattle.recoverable.specs.Fit.{KeptLog};
 ghost use Rattle.recoverable.specs.LifeBase.{committed_in};
-ghost use Rattle.xact_redo.specs.Redo.{AreNear};
-ghost use Rattle.xact_redo.specs.Restore.{IsWindow};
+ghost use Rattle.replay_core.specs.Redo.{AreNear};
+ghost use Rattle.replay_core.specs.Restore.{IsWindow};
 ghost use Rattle.wal_core.specs.LogViews.{log_disk};
 ghost use Rattle.replay_core.specs.Banks.{NoCountFell};
 ghost use Rattle.replay_core.specs.Begun.{AreEmpty, AreOnDisk, IsSettled};
 ghost use Rattle.replay_core.specs.Opened.{IsOpen};
 ghost use Rattle.replay_core.specs.Refused.{HasNoMultis, IsRefusal};
 ghost use Rattle.replay_core.specs.Replay.{Replays};
-ghost use Rattle.replay_core.specs.Volumes.{Fit, LeavesFit, Recovers};
+ghost use Rattle.recoverable.specs.Clusters.{Fit};
+ghost use Rattle.replay_core.specs.Volumes.{LeavesFit, Recovers};
 
 use crate::banks::{empty_all, restore_all};
-use crate::cluster::{ClusterVolumes, Recovered};
+use crate::cluster::Recovered;
 use crate::found::{Found, open_log};
 use crate::refusal::RecoverRefusal;
 use crate::settle::settle;
 use disk_core::{LogDisk, PageDisk};
+use recoverable::ClusterVolumes;
 use std::alloc::Global;
 use tx_events::{Counters, Rec};
 use wal_core::WalLog;

@@ -1,6 +1,7 @@
 // A cluster of two banks, and what it holds.
 use disk_core::{LogDisk, PageDisk, Volumes};
-use replay_core::{ClusterVolumes, RecoverRefusal, Recovered, recover};
+use recoverable::ClusterVolumes;
+use replay_core::{RecoverRefusal, Recovered, recover};
 use slru_bank::{SlruBank, State, set_states, state};
 use std::alloc::Global;
 use std::test::Fail;

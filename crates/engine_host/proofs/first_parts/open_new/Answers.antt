@@ -1,16 +1,46 @@
-use Rattle.std.proofs.Common.{◌≤◌, ap, arith, subst, sym, ◌∙◌}
-use Rattle.tx_core.specs.declared.entry.Start.{Start}
+use Rattle.std.proofs.Common.{[], IsTrue, ap, arith, false, refl, rules, subst, sym, true, ◌+◌, ◌∙◌, ◌≡◌, ◌≤◌}
 use Rattle.wal_core.specs.LogViews.{log_disk, log_end}
-use Rattle.engine_host.specs.Opening.{IsNewLog}
+use Rattle.tx_core.specs.declared.entry.Start.{Start}
+use Rattle.tx_events.proofs.Membership.{contains_has}
+use Rattle.engine_parts.specs.Sessions.{AreGivenBefore}
+use Rattle.engine_host.specs.Opening.{AllOnDisk, AllShowNothing, AllShowStates, IsNewLog, life_from, nothing_before}
 use Rattle.engine_host.specs.Refused.{OpensEmpty}
 use Rattle.engine_host.proofs.Counting.{all_counted}
 use Rattle.engine_host.proofs.Refusing.{from_bank, from_begin}
+use Rattle.engine_host.proofs.Starting.{zeros_show}
 use Rattle.engine_host.proofs.first_parts.open_new.Goals as goal
 
 -- the log behind the box is the one that was started
 pub begin_log-requires-clause-new : goal.begin_log-requires-clause-new
 begin_log-requires-clause-new g c =
     subst (λ l. IsNewLog l) (sym (c.deref_mut-fresh.ensures.value ∙ c.in-Ok-new.ensures.ok)) c.in-Ok.ensures.new
+
+-- all pages are removed
+pub add_banks-requires : goal.add_banks-requires
+add_banks-requires g c =
+    let p = g.P.PageDisk in let v = c.args.volumes in let l = c.in-Ok-first_locks.ensures in
+    let cluster = c.requires.cluster in
+    let volumes = c.requires.volumes in
+    let count = l.count in
+    let disks = l.disks in
+    let room = l.room in
+    let stand = l.stand in
+    let states : IsTrue p.tells → AllShowStates p c.args.cluster nothing_before true 0 v.xact.items = λ told bank disk at. zeros_show c.args.cluster nothing_before (0 + bank) c.requires.cluster.base refl in
+    let parents : IsTrue p.tells → AllShowNothing p true v.subtrans.items = λ told bank disk at q small. refl in
+    let durable : IsTrue p.tells → true ≡ false → AllOnDisk p v.xact.items = λ told none. absurd cc in
+    search (rules, cluster, volumes, count, disks, room, stand, states, parents, durable)
+
+pub gather-requires : goal.gather-requires
+gather-requires g c =
+    let l = c.in-Ok-first_locks.ensures in let added = c.in_default.ensures in
+    let cluster = c.requires.cluster in
+    let before : AreGivenBefore (life_from c.args.cluster nothing_before []) = λ x k. absurd (contains_has [] x k) in
+    let log = c.in_default-begin_log.ensures.begun in
+    let count = added.count in
+    let room = l.room in
+    let same_room = added.room in
+    let stand = added.stand in
+    search (rules, cluster, before, log, count, room, same_room, stand)
 
 pub returns-in-Err-add_banks-clause-refused : goal.returns-in-Err-add_banks-clause-refused
 returns-in-Err-add_banks-clause-refused g c =

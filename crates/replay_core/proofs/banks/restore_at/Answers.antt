@@ -1,7 +1,7 @@
 use Rattle.std.proofs.Common.{Err, Ok, OnOk, ap, subst, ◌∙◌}
 use Rattle.recoverable.specs.LifeBase.{committed_in}
-use Rattle.xact_redo.specs.Redo.{IsNamed}
-use Rattle.xact_redo.specs.Restore.{HasBytesOnDisk, RestoresAll, bytes_on}
+use Rattle.replay_core.specs.Redo.{IsNamed}
+use Rattle.replay_core.specs.Restore.{HasBytesOnDisk, RestoresAll, bytes_on}
 use Rattle.replay_core.specs.Banks.{Restoring}
 use Rattle.replay_core.proofs.BankRows.{states_cause}
 use Rattle.replay_core.proofs.Rows.{changed_at}

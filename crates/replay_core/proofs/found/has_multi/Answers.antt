@@ -1,6 +1,6 @@
 use Rattle.std.proofs.Common.{arith, subst}
 use Rattle.tx_events.proofs.Membership.{contains_has}
-use Rattle.xact_redo.proofs.Redoing.{take_whole}
+use Rattle.replay_core.proofs.Redoing.{take_whole}
 use Rattle.replay_core.proofs.Multis.{NoneAmong, multi_is, none_more}
 use Rattle.replay_core.proofs.found.has_multi.Goals as goal
 

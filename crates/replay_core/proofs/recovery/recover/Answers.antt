@@ -3,7 +3,7 @@ use Rattle.std.specs.List.{slice_get}
 use Rattle.tx_events.specs.declared.record.Rec.{Rec}
 use Rattle.recoverable.specs.LifeBase.{committed_in}
 use Rattle.wal_core.specs.LogViews.{log_disk, log_first, log_next}
-use Rattle.xact_redo.specs.Redo.{AreNear}
+use Rattle.replay_core.specs.Redo.{AreNear}
 use Rattle.replay_core.specs.Banks.{NoCountFell}
 use Rattle.replay_core.specs.Replay.{Replays}
 use Rattle.replay_core.specs.Volumes.{LeavesFit, Recovers}

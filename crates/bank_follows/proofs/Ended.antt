@@ -1,0 +1,111 @@
+-- The volumes of a cluster in which a life ran.
+use Rattle.std.proofs.Common.{List, None, Option, Some, [], ap, arith, length, map, option_map, refl, subst, suc, sym, zero, ℕ, ◌<◌, ◌∙◌, ◌∷◌, ◌≡◌, ◌^◌}
+use Rattle.std.proofs.lemmas.List.{length-map}
+use Rattle.std.proofs.lemmas.Option.{slice_get-map}
+use Rattle.std.specs.List.{slice_get, slice_index}
+use Rattle.disk_core.specs.declared.log_disk.LogDisk as logs
+use Rattle.disk_core.specs.declared.page_disk.PageDisk as disks
+use Rattle.disk_core.specs.Pages.{Pages, page_bytes, zero_page}
+use Rattle.slru_bank.proofs.ZeroBytes.{zero_byte}
+use Rattle.notes.specs.Lists.{at}
+use Rattle.tx_events.specs.declared.record.Rec.{Rec}
+use Rattle.tx_core.specs.declared.entry.Entry.{Entry}
+use Rattle.tx_core.specs.declared.entry.Start.{Start}
+use Rattle.tx_core.specs.EngineInvariant.{EngineInvariant}
+use Rattle.tx_core.specs.Locks.{xact_lock}
+use Rattle.recoverable.specs.Bytes.{StoredBytes}
+use Rattle.recoverable.specs.Fit.{KeptLog}
+use Rattle.recoverable.specs.MemberImages.{CleanMembers}
+use Rattle.recoverable.specs.OffsetImages.{CleanOffsets}
+use Rattle.recoverable.specs.Volumes.{ImageFits, Left}
+use Rattle.recoverable.specs.Whole.{BeganRight, IsShort, LeftFollows, MembersLeft, OffsetsLeft, StatesLeft}
+use Rattle.recoverable.proofs.LifeBases.{list_fits}
+use Rattle.recoverable.proofs.NewBegins.{new_begins}
+use Rattle.recoverable.proofs.Whole.{image_fits}
+use Rattle.bank_follows.specs.Holding.{SeenBank}
+use Rattle.bank_follows.specs.Near.{MakesNear}
+use Rattle.bank_follows.specs.Stores.{IsMemberAt, IsOffsetAt, member_cells, offset_cells}
+use Rattle.bank_follows.proofs.Begins.{first_shown, zeros_show_nothing}
+use Rattle.bank_follows.proofs.Near.{short_makes_near}
+use Rattle.bank_follows.proofs.Standing.{banks_stand}
+use Rattle.bank_follows.proofs.Stores.{images_follow}
+use Rattle.bank_follows.specs.Ends.{ClusterFits, ClusterHolds}
+use Rattle.recoverable.specs.Clusters.{IsLeft}
+
+get_at : {X : Type 0} (xs : List X) (n : ℕ) → n < length xs → (x : X) × (slice_get xs n ≡ Some x)
+get_at [] n lt = absurd (omega arith)
+get_at (x ∷ xs) zero lt = (x, refl)
+get_at (x ∷ xs) (suc n) lt = get_at xs n (omega arith)
+
+-- ---- no multixact: pages that aren't there show nothing
+
+abbrev nothing : ℕ → Option StoredBytes
+nothing = λ x. None
+
+module _ (start : Start) (right : BeganRight start) (none : start.recorded ≡ []) where
+  -- the same life with nothing committed: offsets and members don't ask
+  abbrev bare : Start
+  bare = record start { committed = [] }
+
+  clean_offsets : CleanOffsets start nothing
+  clean_offsets =
+      let k = (new_begins bare right.told right.full right.base.counters refl none).offsets in
+      record { before = k.before; recorded = k.recorded; other = k.other; clean = k.clean }
+
+  clean_members : CleanMembers start nothing
+  clean_members =
+      let k = (new_begins bare right.told right.full right.base.counters refl none).members in
+      record { before = k.before; in_order = k.in_order; recorded = k.recorded; gap = k.gap; clean = k.clean; behind = k.behind }
+
+  module _ (bank : ℕ) (c : Pages) (absent : (q : ℕ) → c q ≡ None) where
+    zeros : (q : ℕ) → q < 2 ^ 32 → page_bytes (c q) ≡ zero_page
+    zeros q small = ap page_bytes (absent q)
+
+    offsets_left : OffsetsLeft start bank [] c
+    offsets_left = record {
+      shown = nothing;
+      clean = clean_offsets;
+      follows = (images_follow start bank [] c).1 nothing
+          (first_shown (offset_cells start nothing) (IsOffsetAt start bank) (λ q. page_bytes (c q)) c (zeros_show_nothing start bank (λ q. page_bytes (c q)) zeros).offsets (λ q. refl));
+    }
+
+    members_left : MembersLeft start bank [] c
+    members_left = record {
+      shown = nothing;
+      clean = clean_members;
+      follows = (images_follow start bank [] c).2 nothing
+          (first_shown (member_cells start nothing) (IsMemberAt start bank) (λ q. page_bytes (c q)) c (zeros_show_nothing start bank (λ q. page_bytes (c q)) zeros).members (λ q. refl));
+      tails = λ q i small past. ap (λ (b : List ℕ). slice_index b i) (ap page_bytes (absent q)) ∙ zero_byte i;
+    }
+
+-- ---- all volumes
+
+module _ {L P : Type 0} (l : logs.Ghosts L) (p : disks.Ghosts P) where
+  module _ (start : Start) (lists : List (List Entry)) (kept : KeptLog) (recs : List Rec) (next first : ℕ) (log : L) (xact : List (SeenBank P)) (k : EngineInvariant start lists) (right : BeganRight start) (short : IsShort lists)
+      (holds : ClusterHolds l p start lists kept recs next first log xact) (left : Left) (is : IsLeft l p log (map (λ (b : SeenBank P). b.disk) xact) left) where
+    states_left : (bank : ℕ) → bank < start.banks → StatesLeft start bank (at lists (xact_lock bank)) (left.xact bank)
+    states_left bank inside =
+        let count = holds.banks in
+        let b = get_at xact bank (omega arith) in
+        let h = holds.states bank b.0 b.1 in
+        let near : MakesNear start lists bank = short_makes_near start lists bank k short in
+        let disk : slice_get (map (λ (z : SeenBank P). z.disk) xact) bank ≡ Some b.0.disk = slice_get-map (λ (z : SeenBank P). z.disk) xact bank ∙ ap (option_map (λ (z : SeenBank P). z.disk)) b.1 in
+        (banks_stand p.images p.moment p.left_at start bank).states_left h.shown (at lists (xact_lock bank)) b.0.pages b.0.cutoff b.0.last b.0.disk (left.xact bank) h.clean (h.stands (near.xact h.shown)) (is.states bank b.0.disk disk)
+
+    follows : LeftFollows start lists kept left
+    follows = record {
+      log_image = record { kept = first; opens = holds.log_holds.keeps.each left.log is.log_image; forgotten = holds.log_holds.beginning };
+      states = states_left;
+      offsets_are = λ bank inside. subst (λ (es : List Entry). OffsetsLeft start bank es (left.offsets bank)) (sym (holds.offsets bank inside)) (offsets_left start right holds.recorded bank (left.offsets bank) (is.no_offsets bank));
+      members_are = λ bank inside. subst (λ (es : List Entry). MembersLeft start bank es (left.members bank)) (sym (holds.members bank inside)) (members_left start right holds.recorded bank (left.members bank) (is.no_members bank));
+    }
+
+    fits : ImageFits start.banks kept left
+    fits = image_fits start lists kept left k right short holds.log_holds.is_of follows
+
+  pub cluster_fits : ClusterFits l p
+  cluster_fits start lists kept recs next first log xact k right short holds = record {
+    list = list_fits start lists kept k right.told right.full right.base holds.log_holds.is_of;
+    each = λ left is. subst (λ (n : ℕ). ImageFits n kept left) (sym (length-map xact (λ (b : SeenBank P). b.disk) ∙ holds.banks))
+        (fits start lists kept recs next first log xact k right short holds left is);
+  }

@@ -1,0 +1,85 @@
+use Rattle.std.proofs.Common.{Bool, IsTrue, false, length, map, rules, subst, sym}
+use Rattle.std.proofs.lemmas.Result.{IfOk-weaker}
+use Rattle.recoverable.specs.Whole.{BeganRight}
+use Rattle.wal_core.specs.LogViews.{log_disk}
+use Rattle.replay_core.specs.Refused.{IsRefusal}
+use Rattle.replay_core.specs.Volumes.{LeavesFit}
+use Rattle.replay_core.specs.declared.refusal.RecoverRefusal.{RecoverRefusal}
+use Rattle.engine_host.specs.declared.cluster.Cluster.{Cluster}
+use Rattle.engine_host.specs.Opening.{AllShowStates, faults_behind, new_life}
+use Rattle.engine_life.specs.Reopening.{IsBaseAt, behind, cluster_over}
+use Rattle.engine_life.proofs.Living.{of_err, of_oks}
+use Rattle.engine_life.proofs.Reopened.{base_at_number, before_any, began_right, counted_before, empty_shown, given_before, may_recover, states_shown}
+use Rattle.engine_life.proofs.old_parts.open_old.Goals as goal
+
+-- With a ghost value the clauses of `requires` have no names: they stand in their order behind what is asked of lifetimes.
+
+pub open_recovered-requires : goal.open_recovered-requires
+open_recovered-requires g c =
+    let l = g.L.LogDisk in let p = g.P.PageDisk in let old = c.args.volumes in let r = c.in-Ok.recovered in let e = c.in-Ok.ensures in
+    let some = c.requires.1.1.0 in
+    let few = c.requires.1.1.1.0 in
+    let as_many = c.requires.1.1.1.1.0 in
+    let sessions = c.requires.1.1.1.1.1.0 in
+    let banks = e.banks in
+    let log = e.log in
+    let before = before_any p.tells g.kept r.from c.args.sessions (length r.xact.items) r.base (λ told.
+    let fit = c.requires.1.1.1.1.1.1 told in
+    given_before l p old.log (log_disk r.log) old.xact.items r.xact.items r.from c.args.sessions r.base g.kept e.banks.0 some c.is_full_multi.ensures
+    (g.met.L.LogDisk.reads_image (log_disk r.log) fit.0) (λ d. g.met.P.PageDisk.reads_image d told) (e.recovers fit.0 told g.kept fit.1)) in
+    let states = λ (told : IsTrue p.tells).
+    let fit = c.requires.1.1.1.1.1.1 told in
+    subst (λ (t : Bool). AllShowStates p (cluster_over r.base (length r.xact.items) c.args.sessions) (behind t g.kept r.from) false 0 r.xact.items) (sym told)
+    (states_shown l p old.log (log_disk r.log) old.xact.items r.xact.items r.from c.args.sessions r.base g.kept e.banks.0 some c.is_full_multi.ensures
+    (g.met.L.LogDisk.reads_image (log_disk r.log) fit.0) (λ d. g.met.P.PageDisk.reads_image d told) (e.recovers fit.0 told g.kept fit.1)) in
+    let parents = λ (told : IsTrue p.tells). empty_shown p r.subtrans.items (λ d. g.met.P.PageDisk.reads_image d told) (e.parents told) in
+    let durable = e.states in
+    search (rules, some, few, as_many, sessions, banks, log, before, states, parents, durable)
+
+pub returns-in-Ok-clause-start : goal.returns-in-Ok-clause-start
+returns-in-Ok-clause-start g c =
+    let l = g.L.LogDisk in let p = g.P.PageDisk in let old = c.args.volumes in let r = c.in-Ok.recovered in let e = c.in-Ok.ensures in
+    of_oks c.open_recovered.result _ _ _ (λ parts cluster start. (
+      r.from,
+      start,
+      λ told.
+          let fit = c.requires.1.1.1.1.1.1 told in
+          subst (λ (k : Cluster). IsBaseAt g.kept r.from k.base) (sym cluster)
+          (base_at_number l p old.log (log_disk r.log) old.xact.items r.xact.items r.from c.args.sessions r.base g.kept e.banks.0 c.requires.1.1.0 c.is_full_multi.ensures
+          (g.met.L.LogDisk.reads_image (log_disk r.log) fit.0) (λ d. g.met.P.PageDisk.reads_image d told) (e.recovers fit.0 told g.kept fit.1)),
+    ))
+    c.open_recovered.ensures.cluster c.open_recovered.ensures.start
+
+pub returns-in-Ok-clause-right : goal.returns-in-Ok-clause-right
+returns-in-Ok-clause-right g c told =
+    let l = g.L.LogDisk in let p = g.P.PageDisk in let old = c.args.volumes in let r = c.in-Ok.recovered in let e = c.in-Ok.ensures in
+    let fit = c.requires.1.1.1.1.1.1 told in
+    of_oks c.open_recovered.result _ _ _ (λ parts cluster start.
+    let right = began_right l p old.log (log_disk r.log) old.xact.items r.xact.items r.from c.args.sessions r.base g.kept e.banks.0 c.requires.1.1.0 c.is_full_multi.ensures
+    (g.met.L.LogDisk.reads_image (log_disk r.log) fit.0) (λ d. g.met.P.PageDisk.reads_image d told) (e.recovers fit.0 told g.kept fit.1) (map faults_behind parts.locks.items) in
+    subst BeganRight (sym start)
+    (subst (λ (k : Cluster). BeganRight (new_life k (behind p.tells g.kept r.from) parts.locks.items)) (sym cluster)
+    (subst (λ (t : Bool). BeganRight (new_life (cluster_over r.base (length r.xact.items) c.args.sessions) (behind t g.kept r.from) parts.locks.items)) (sym told) right)))
+    c.open_recovered.ensures.cluster c.open_recovered.ensures.start
+
+pub returns-in-Ok-clause-refused : goal.returns-in-Ok-clause-refused
+returns-in-Ok-clause-refused g c =
+    of_err c.open_recovered.result _ _ (λ e memory. subst (λ (r : RecoverRefusal). IsRefusal g.L.LogDisk g.P.PageDisk c.args.volumes e.0 r) (sym memory) tt) c.open_recovered.ensures.refused
+
+pub returns-in-Ok-clause-again : goal.returns-in-Ok-clause-again
+returns-in-Ok-clause-again g c told =
+    let l = g.L.LogDisk in let p = g.P.PageDisk in let old = c.args.volumes in let r = c.in-Ok.recovered in let e = c.in-Ok.ensures in
+    let fit = c.requires.1.1.1.1.1.1 told in
+    let left = may_recover l p old.log (log_disk r.log) old.xact.items r.xact.items r.from c.args.sessions r.base g.kept e.banks.0 c.requires.1.1.0 c.is_full_multi.ensures
+    (g.met.L.LogDisk.reads_image (log_disk r.log) fit.0) (λ d. g.met.P.PageDisk.reads_image d told) (e.recovers fit.0 told g.kept fit.1) in
+    of_err c.open_recovered.result _ _ (λ e kept. subst (λ z. LeavesFit l p old.xact.items z e.0.xact.items g.kept) (sym kept.0) (subst (λ xs. LeavesFit l p old.xact.items (log_disk r.log) xs g.kept) (sym kept.1) left)) c.open_recovered.ensures.kept
+
+pub returns-in-Err-clause-again : goal.returns-in-Err-clause-again
+returns-in-Err-clause-again g c told = let fit = c.requires.1.1.1.1.1.1 told in c.in-Err.ensures.again fit.0 told g.kept fit.1
+
+pub returns-in-Ok-clause-counted : goal.returns-in-Ok-clause-counted
+returns-in-Ok-clause-counted g c =
+    let old = c.args.volumes in let r = c.in-Ok.recovered in let e = c.in-Ok.ensures in
+    IfOk-weaker c.open_recovered.result _ _ (λ parts now.
+    counted_before g.L.LogDisk g.P.PageDisk old.log (log_disk r.log) old.xact.items r.xact.items old.subtrans.items r.subtrans.items parts.start.value.faults e.banks.0 e.banks.1 e.counted.0 e.counted.1 e.counted.2 now)
+    c.open_recovered.ensures.counted

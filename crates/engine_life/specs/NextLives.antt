@@ -1,0 +1,67 @@
+-- How a life goes on from an earlier one, over a media, and why none does.
+use Rattle.std.specs.Prelude.{◌≡◌, ℕ, IsTrue, List, length}
+use Rattle.disk_core.specs.declared.log_disk.LogDisk as logs
+use Rattle.disk_core.specs.declared.page_disk.PageDisk as disks
+use Rattle.disk_core.specs.declared.media.Volumes.{Volumes}
+use Rattle.disk_core.specs.Faults.{HasRisen}
+use Rattle.disk_core.specs.Images.{Only}
+use Rattle.recoverable.specs.Clusters.{Fit}
+use Rattle.recoverable.specs.Fit.{KeptLog}
+use Rattle.recoverable.specs.Whole.{BeganRight}
+use Rattle.recoverable.specs.declared.cluster.ClusterVolumes.{ClusterVolumes}
+use Rattle.replay_core.specs.Refused.{IsRefusal}
+use Rattle.replay_core.specs.Volumes.{LeavesFit}
+use Rattle.replay_core.specs.declared.refusal.RecoverRefusal.{RecoverRefusal}
+use Rattle.replay_core.specs.declared.refusal.RecoverRefusal.TheVariants as refusals
+use Rattle.engine_host.specs.declared.cluster.Cluster.{Cluster}
+use Rattle.engine_host.specs.Counted.{AreCounted}
+use Rattle.engine_host.specs.Opening.{life_from}
+use Rattle.engine_life.specs.declared.life.OpenLife.{OpenLife}
+use Rattle.engine_life.specs.declared.refusal.NotReopened.{NotReopened}
+use Rattle.engine_life.specs.declared.refusal.NotReopened.TheVariants as not_reopened
+use Rattle.engine_life.specs.Lives.{IsBegun, LeaveMultis}
+use Rattle.engine_life.specs.Reopening.{IsBaseAt, behind}
+
+-- the volumes of the engine among those of a media
+abbrev pub cluster_volumes : {L P : Type 0} → Volumes L P → ClusterVolumes L P
+cluster_volumes volumes = record { log = volumes.log; xact = volumes.xact; subtrans = volumes.subtrans }
+
+module _ {L P : Type 0} (l : logs.Ghosts L) (p : disks.Ghosts P) where
+  -- volumes that tell what they hold fit this log
+  abbrev pub MayGoOn : KeptLog → Volumes L P → Type 0
+  MayGoOn kept volumes = IsTrue p.tells → IsTrue l.tells × Fit l p kept volumes.log volumes.xact.items
+
+  -- but where memory was wanting they fit what a later recovery may go on from
+  abbrev pub WhenRefused : KeptLog → Volumes L P → Volumes L P → RecoverRefusal → Type 0
+  WhenRefused kept old new refusals.Memory = Unit {0}
+  WhenRefused kept old new refusal = LeavesFit l p old.xact.items new.log new.xact.items kept
+
+  -- So of a media, which gave these volumes and gives those. Where nothing was mounted it gives what it gave.
+  abbrev pub StayFit : KeptLog → (Volumes L P → Type 0) → (Volumes L P → Type 0) → NotReopened → Type 0
+  StayFit kept gave gives (not_reopened.Unrecovered refusal) =
+      (new : Volumes L P) → gives new → (old : Volumes L P) × gave old × WhenRefused kept old new refusal
+  StayFit kept gave gives refusal = (new : Volumes L P) → gives new → gave new
+
+  -- Why no life goes on over a media with these counts of faults, which gave these volumes and gives those.
+  abbrev pub IsNotReopened : ℕ → ℕ → (Volumes L P → Type 0) → (Volumes L P → Type 0) → NotReopened → Type 0
+  IsNotReopened before now gave gives not_reopened.Device = HasRisen before now
+  IsNotReopened before now gave gives not_reopened.Memory = Unit {0}
+  IsNotReopened before now gave gives (not_reopened.Unrecovered refusal) =
+      (old new : Volumes L P) × gave old × Only new gives × LeaveMultis old new
+      × IsRefusal l p (cluster_volumes old) (cluster_volumes new) refusal
+
+module _ {L P : Type 0} {l : logs.Ghosts L} {p : disks.Ghosts P} where
+  -- The life goes on from this log, which these volumes fit: from the base at a number from the flushed one to its end. It
+  -- begins at counts of faults that aren't below those of the volumes, and has set those of the multixacts' stores aside.
+  pub record GoesOnLife (kept : KeptLog) (sessions : ℕ) (volumes : Volumes L P) (life : OpenLife L P l p) : Type 0 where
+    pub number : ℕ
+    pub cluster : Cluster
+    pub banks : cluster.banks ≡ length volumes.xact.items
+    pub sessions_are : cluster.sessions ≡ sessions
+    pub base : IsTrue p.tells → IsBaseAt kept number cluster.base
+    pub faults : List ℕ
+    pub counted : AreCounted l p volumes.log volumes.xact.items volumes.subtrans.items faults
+    pub begun : IsBegun cluster (life_from cluster (behind p.tells kept number) faults) life
+    pub right : IsTrue p.tells → BeganRight (life_from cluster (behind p.tells kept number) faults)
+    pub offsets : life.aside.offsets ≡ volumes.offsets
+    pub members : life.aside.members ≡ volumes.members

@@ -1,0 +1,25 @@
+-- A life that goes on from a log.
+use Rattle.std.specs.Prelude.{◌≡◌, ℕ, ◌≤◌, Bool, [], cond}
+use Rattle.tx_events.specs.declared.record.Counters.{Counters}
+use Rattle.recoverable.specs.Fit.{KeptLog, base_at, log_end}
+use Rattle.engine_host.specs.declared.cluster.Cluster.{Cluster}
+use Rattle.engine_host.specs.Opening.{Beginning}
+
+-- What a life begins with whose checkpoint has this number, behind the records below it. Where the volumes tell nothing,
+-- nothing is known of it.
+abbrev pub behind : Bool → KeptLog → ℕ → Beginning
+behind tells kept number = record {
+  number = number;
+  committed = cond tells (base_at kept number).committed [];
+  recorded = cond tells (base_at kept number).recorded [];
+  told = tells;
+}
+
+abbrev pub cluster_over : Counters → ℕ → ℕ → Cluster
+cluster_over base banks sessions = record { base = base; banks = banks; sessions = sessions }
+
+-- what a life begins from: the base at this number, from the flushed one to the log's end, has these counters
+pub record IsBaseAt (kept : KeptLog) (number : ℕ) (counters : Counters) : Type 0 where
+  pub flushed : kept.flushed ≤ number
+  pub upto : number ≤ log_end kept
+  pub counters_are : (base_at kept number).counters ≡ counters

@@ -1,0 +1,112 @@
+//! The parts of an engine over a cluster in which a life ran before.
+ghost use Rattle.std.specs.Prelude.{◌≡◌, ◌≤◌, ℕ, [], false, IfErr, IfOk, IsTrue, length};
+ghost use Rattle.tx_events.specs.Ids.{IsFullMulti};
+ghost use Rattle.recoverable.specs.Fit.{KeptLog};
+ghost use Rattle.recoverable.specs.Whole.{BeganRight};
+ghost use Rattle.wal_core.specs.LogViews.{log_disk};
+ghost use Rattle.replay_core.specs.Begun.{IsSettled};
+ghost use Rattle.replay_core.specs.Refused.{IsRefusal};
+ghost use Rattle.recoverable.specs.Clusters.{Fit};
+ghost use Rattle.replay_core.specs.Volumes.{LeavesFit};
+ghost use Rattle.replay_core.specs.declared.refusal.RecoverRefusal.TheVariants as refusals;
+ghost use Rattle.engine_parts.specs.Sessions.{AreGivenBefore};
+ghost use Rattle.engine_host.specs.Counted.{AreCounted};
+ghost use Rattle.engine_host.specs.Opening.{AllOnDisk, AllShowNothing, AllShowStates, AreParts, Beginning, life_from, new_life};
+ghost use Rattle.engine_life.specs.Reopening.{IsBaseAt, behind, cluster_over};
+
+use disk_core::{LogDisk, PageDisk};
+use engine_host::{Cluster, Parts, open_begun};
+use recoverable::ClusterVolumes;
+use replay_core::{RecoverRefusal, Recovered, recover};
+use std::alloc::Global;
+use tx_events::Counters;
+
+// The next multixact of counters is one.
+fn is_full_multi(base: &Counters)
+    ensures { IsFullMulti base.now.multi }
+{
+    let _number = base.multi.number();
+}
+
+// The parts over what a recovery left. Only memory may be wanting; the volumes come back then.
+fn open_recovered<L: LogDisk + Drop, P: PageDisk + Drop>(
+    alloc: Global,
+    recovered: Recovered<L, P>,
+    sessions: u32,
+) -> Result<Parts<L, P>, (ClusterVolumes<L, P>, RecoverRefusal)>
+    ghost begins: { Beginning }
+    requires some { 1 ≤ length recovered.xact.items }
+    requires few { length recovered.xact.items ≤ 16 }
+    requires as_many { length recovered.subtrans.items ≡ length recovered.xact.items }
+    requires sessions { sessions ≤ 64 }
+    requires log { IsSettled recovered.from recovered.base recovered.log }
+    requires number { begins.number ≡ recovered.from }
+    requires before { AreGivenBefore (life_from (cluster_over recovered.base (length recovered.xact.items) sessions) begins []) }
+    requires states { IsTrue P.tells → AllShowStates P.PageDisk (cluster_over recovered.base (length recovered.xact.items) sessions) begins false 0 recovered.xact.items }
+    requires parents { IsTrue P.tells → AllShowNothing P.PageDisk false recovered.subtrans.items }
+    requires durable { IsTrue P.tells → AllOnDisk P.PageDisk recovered.xact.items }
+    ensures cluster { IfOk result (λ parts. parts.cluster ≡ cluster_over recovered.base (length recovered.xact.items) sessions) }
+    ensures parts { IfOk result (λ parts. AreParts parts) }
+    ensures start { IfOk result (λ parts. parts.start.value ≡ new_life parts.cluster begins parts.locks.items) }
+    ensures counted { IfOk result (λ parts. AreCounted L.LogDisk P.PageDisk (log_disk recovered.log) recovered.xact.items
+        recovered.subtrans.items parts.start.value.faults) }
+    ensures refused { IfErr result (λ e. e.1 ≡ refusals.Memory) }
+    ensures kept { IfErr result (λ e. (e.0.log ≡ log_disk recovered.log) × (e.0.xact.items ≡ recovered.xact.items)) }
+{
+    let Recovered {
+        log,
+        xact,
+        subtrans,
+        from: _,
+        base,
+    } = recovered;
+    let cluster = Cluster {
+        base,
+        banks: xact.len() as u32,
+        sessions,
+    };
+    match open_begun(alloc, log, xact, subtrans, cluster) {
+        Ok(parts) => Ok(parts),
+        Err(volumes) => Err((volumes, RecoverRefusal::Memory)),
+    }
+}
+
+/// Recovers a cluster and makes its parts (`StartupXLOG` of `xlog.c`, `StartupCLOG` of `clog.c`, `StartupSUBTRANS` of
+/// `subtrans.c`). There is one volume of pg_xact and one of pg_subtrans for each bank, 1 to 16, and there may be so many
+/// sessions, at most 64.
+///
+/// The volumes fit a log, which contracts alone see. The parts stand for lists without entries, in a life that goes on
+/// from the base at a number of that log, from the flushed one to its end: so what was committed below that number is
+/// committed. Of volumes that don't tell what they hold, nothing is known to be committed.
+pub fn open_old<L: LogDisk + Drop, P: PageDisk + Drop>(
+    alloc: Global,
+    volumes: ClusterVolumes<L, P>,
+    sessions: u32,
+) -> Result<Parts<L, P>, (ClusterVolumes<L, P>, RecoverRefusal)>
+    ghost kept: { KeptLog }
+    requires some { 1 ≤ length volumes.xact.items }
+    requires few { length volumes.xact.items ≤ 16 }
+    requires as_many { length volumes.subtrans.items ≡ length volumes.xact.items }
+    requires sessions { sessions ≤ 64 }
+    requires fits { IsTrue P.tells → IsTrue L.tells × Fit L.LogDisk P.PageDisk kept volumes.log volumes.xact.items }
+    ensures cluster { IfOk result (λ parts. (parts.cluster.banks ≡ length volumes.xact.items) × (parts.cluster.sessions ≡ sessions)) }
+    ensures parts { IfOk result (λ parts. AreParts parts) }
+    ensures start { IfOk result (λ parts. (number : ℕ)
+        × (parts.start.value ≡ new_life parts.cluster (behind P.tells kept number) parts.locks.items)
+        × (IsTrue P.tells → IsBaseAt kept number parts.cluster.base)) }
+    ensures counted { IfOk result (λ parts. AreCounted L.LogDisk P.PageDisk volumes.log volumes.xact.items
+        volumes.subtrans.items parts.start.value.faults) }
+    // That is a base from which a life may start, so the laws on its volumes hold of it (`recoverable`).
+    ensures right { IsTrue P.tells → IfOk result (λ parts. BeganRight parts.start.value) }
+    // After an error the volumes fit what a later recovery may go on from.
+    ensures again { IsTrue P.tells → IfErr result (λ e. LeavesFit L.LogDisk P.PageDisk volumes.xact.items e.0.log e.0.xact.items kept) }
+    ensures refused { IfErr result (λ e. IsRefusal L.LogDisk P.PageDisk volumes e.0 e.1) }
+{
+    match recover(alloc, volumes) {
+        Ok(recovered) => {
+            is_full_multi(&recovered.base);
+            open_recovered(alloc, recovered, sessions)
+        }
+        Err(refused) => Err(refused),
+    }
+}

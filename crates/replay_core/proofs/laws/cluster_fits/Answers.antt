@@ -1,5 +1,0 @@
-use Rattle.replay_core.proofs.Ended.{cluster_fits}
-use Rattle.replay_core.proofs.laws.cluster_fits.Goals as goal
-
-pub returns : goal.returns
-returns g c = cluster_fits g.L.LogDisk g.P.PageDisk

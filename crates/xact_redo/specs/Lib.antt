@@ -1,3 +1,0 @@
-pub mod Redo
-pub mod Restore
-pub mod Laws

@@ -1,5 +1,5 @@
 -- How a life begins, and what it leaves.
-use Rattle.std.specs.Prelude.{◌≡◌, ℕ, ◌<◌, ◌≤◌, List, [], Some, slice_get}
+use Rattle.std.specs.Prelude.{◌≡◌, ℕ, ◌-◌, ◌<◌, ◌≤◌, List, [], Some, length, slice_get}
 use Rattle.disk_core.specs.declared.log_disk.LogDisk as logs
 use Rattle.disk_core.specs.declared.page_disk.PageDisk as disks
 use Rattle.disk_core.specs.declared.media.Volumes.{Volumes}
@@ -9,6 +9,7 @@ use Rattle.hall.specs.Calls.{start_of}
 use Rattle.notes.specs.Lists.{at}
 use Rattle.tx_events.specs.declared.event.Event.{Event}
 use Rattle.tx_events.specs.declared.record.Counters.{Counters}
+use Rattle.tx_events.specs.declared.record.Rec.{Rec}
 use Rattle.tx_model.specs.declared.report.Life.{Life}
 use Rattle.tx_core.specs.declared.entry.Entry.{Entry}
 use Rattle.tx_core.specs.declared.entry.Start.{Start}
@@ -16,7 +17,7 @@ use Rattle.tx_core.specs.FaultsRise.{faults_told}
 use Rattle.tx_core.specs.Locks.{log_lock, subtrans_lock, xact_lock}
 use Rattle.recoverable.specs.Whole.{StatesLeft}
 use Rattle.wal_core.specs.declared.wal_log.WalLog.{WalLog}
-use Rattle.wal_core.specs.LogViews.{log_disk, log_end, log_flushed, log_recs}
+use Rattle.wal_core.specs.LogViews.{log_disk, log_end, log_flushed, log_next, log_recs}
 use Rattle.engine_parts.specs.declared.session.Session.{Session}
 use Rattle.engine_host.specs.declared.cluster.Cluster.{Cluster}
 use Rattle.engine_host.specs.Counted.{AreCounted}
@@ -60,6 +61,10 @@ volumes_left life = record {
   members = life.members;
 }
 
+-- the number of the first record that it appended
+abbrev pub number_of : {L P : Type 0} → {l : logs.Ghosts L} → ClosedLife L P l → ℕ
+number_of life = log_next life.log - length (log_recs life.log)
+
 module _ {L P : Type 0} (l : logs.Ghosts L) (p : disks.Ghosts P) where
   -- Each volume that the life used has counted at least the faults that its lock's list tells.
   pub record HaveCountedTold (start : Start) (lists : List (List Entry)) (volumes : Volumes L P) : Type 0 where
@@ -79,13 +84,13 @@ module _ {P : Type 0} (p : disks.Ghosts P) where
   HaveFollowed start lists states = (bank : ℕ) → bank < start.banks
       → (v : P) × (slice_get states bank ≡ Some v) × FollowsList start lists bank v
 
--- the life over a new log that had this history and left this log
-abbrev pub life_told : {D : Type 0} → {g : logs.Ghosts D} → Counters → List Event → WalLog D g → Life
-life_told base events log = record {
-  from = 0;
+-- the life that began from this base with the checkpoint of this number, had this history and left this log
+abbrev pub life_told : {D : Type 0} → {g : logs.Ghosts D} → ℕ → Counters → List ℕ → List Rec → List Event → WalLog D g → Life
+life_told from base committed recorded events log = record {
+  from = from;
   base = base;
-  committed = [];
-  recorded = [];
+  committed = committed;
+  recorded = recorded;
   events = events;
   multis = [];
   recs = log_recs log;

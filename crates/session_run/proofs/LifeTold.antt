@@ -51,10 +51,10 @@ use Rattle.session_promise.proofs.FewIds.{levels_bound_ids}
 use Rattle.session_promise.proofs.LawfulLives.{promises_make_life}
 use Rattle.session_promise.proofs.Between.{lines_of_rounds, step_lines}
 use Rattle.session_run.specs.Leaves.{HasLeft, LeavesVolumes}
-use Rattle.session_run.specs.Records.{BankHolds, LogHolds}
+use Rattle.life_run.specs.Records.{BankHolds, LogHolds}
 use Rattle.session_run.specs.Runs.{HasLived, HasRun, IsRestOfReport, IsTaken, cluster_of, report_of}
-use Rattle.session_run.proofs.LogHeld.{log_holds}
-use Rattle.session_run.proofs.RoundCounts.{AreRoundsOf, few_levels, few_lines, rounds_told}
+use Rattle.life_run.proofs.LogHeld.{log_holds}
+use Rattle.life_run.proofs.RoundCounts.{AreRoundsOf, few_levels, few_lines, rounds_told}
 
 -- the lines of the steps are those of the rounds
 pub lines_run : (ss : List Step) (rounds : List ToldRound) → filter is_round ss ≡ steps_of 1 rounds → flat_map lines_in ss ≡ all_lines rounds

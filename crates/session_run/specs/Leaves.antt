@@ -10,8 +10,8 @@ use Rattle.engine_host.specs.declared.cluster.Cluster.{Cluster}
 use Rattle.engine_life.specs.declared.closed.ClosedLife.{ClosedLife}
 use Rattle.engine_life.specs.declared.life.OpenLife.{OpenLife}
 use Rattle.engine_life.specs.Lives.{IsNewLife, volumes_left}
-use Rattle.session_run.specs.Causes.{HaveCauses}
-use Rattle.session_run.specs.Records.{BankHolds, LogHolds}
+use Rattle.life_run.specs.Causes.{HaveCauses}
+use Rattle.life_run.specs.Records.{BankHolds, LogHolds}
 
 module _ {L P : Type 0} (l : logs.Ghosts L) (p : disks.Ghosts P) where
   -- Such volumes were mounted as may come first, and the media gives back no others than these. The log's has the records,

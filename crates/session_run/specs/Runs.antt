@@ -25,7 +25,7 @@ use Rattle.engine_host.specs.declared.cluster.Cluster.{Cluster}
 use Rattle.engine_host.specs.declared.host.Host.{Host}
 use Rattle.session_promise.specs.Dumps.{AreDumpsTold}
 use Rattle.session_promise.specs.Told.{ToldRound, steps_of}
-use Rattle.session_run.specs.GoesOn.{GoesOn}
+use Rattle.life_run.specs.GoesOn.{GoesOn}
 
 -- a script that a new cluster can run
 pub record IsTaken (s : Script) : Type 0 where

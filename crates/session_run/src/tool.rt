@@ -12,7 +12,7 @@ ghost use Rattle.session_run.specs.declared.task.Task.TheVariants as tasks;
 ghost use Rattle.session_run.specs.Leaves.{LeavesVolumes};
 ghost use Rattle.session_run.specs.Tool.{Ends, HasMounted, HoldsFront, IsAccepted, IsSized, IsUnread, IsUnrunBy, IsWholeSummary, damage_text, status_of, text_of};
 
-use crate::ending::{Ending, unopened, unread};
+use crate::ending::{Ending, stopped, unopened, unread};
 use crate::run::{count_script, run_script};
 use crate::task::{Task, task_of};
 use disk_core::Media;
@@ -26,10 +26,11 @@ use tx_io::{Failed, Sink, Source};
 use tx_model::Memory;
 
 /// Reads the source, runs its script over the media, and makes the report.
-fn run_source<R: Threads + Wait + Sync, S: Source, M: Media>(
+fn run_source<R: Threads + Wait + Sync, S: Source, K: Sink, M: Media>(
     rt: &R,
     alloc: Global,
     source: &mut S,
+    sink: &mut K,
     media: &mut M,
     threads: usize,
 ) -> Ending
@@ -52,9 +53,9 @@ where
         Ok(script) => script,
         Err(refusal) => return unread(refusal),
     };
-    match run_script(rt, alloc, &script, media, threads) {
-        Ok(text) => Ending::Report(text),
-        Err(refusal) => unopened(alloc, refusal),
+    match run_script(rt, alloc, &script, sink, media, threads) {
+        Ok(()) => Ending::Report,
+        Err(stop) => stopped(alloc, stop),
     }
 }
 
@@ -92,11 +93,12 @@ where
 }
 
 /// Does what is asked for.
-fn work<R: Threads + Wait + Sync, S: Source, M: Media>(
+fn work<R: Threads + Wait + Sync, S: Source, K: Sink, M: Media>(
     rt: &R,
     alloc: Global,
     task: Task,
     source: &mut S,
+    sink: &mut K,
     media: &mut M,
     threads: usize,
 ) -> Ending
@@ -118,7 +120,7 @@ where
     ensures used { HasMounted result → M.is_new media.new ≡ false }
 {
     match task {
-        Task::Run => run_source(rt, alloc, source, media, threads),
+        Task::Run => run_source(rt, alloc, source, sink, media, threads),
         Task::Gen { seed, size } => run_generated(rt, alloc, seed, size, media, threads),
     }
 }
@@ -238,7 +240,7 @@ where
 {
     match task_of(words) {
         Some(task) => {
-            let ending = work(rt, alloc, task, source, media, threads);
+            let ending = work(rt, alloc, task, source, sink, media, threads);
             put_ending(sink, ending)
         }
         None => finish(sink, b"words\n", 2),

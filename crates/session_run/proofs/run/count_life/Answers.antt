@@ -9,7 +9,7 @@ use Rattle.script_rounds.specs.Counted.{verdicts_in}
 use Rattle.session_run.specs.Leaves.{HasLeft}
 use Rattle.session_run.specs.Runs.{cluster_of}
 use Rattle.session_run.proofs.LifeTold.{counts_told, verdicts_few}
-use Rattle.session_run.proofs.RoundSteps.{kept_lines}
+use Rattle.life_run.proofs.RoundSteps.{kept_lines}
 use Rattle.session_run.proofs.run.count_life.Goals as goal
 
 pub returns : goal.returns

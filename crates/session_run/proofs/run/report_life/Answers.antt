@@ -7,7 +7,7 @@ use Rattle.script_rounds.specs.contracts.keeper.TextLineKeeper.TheImpl as text_k
 use Rattle.session_run.specs.Leaves.{HasLeft}
 use Rattle.session_run.specs.Runs.{cluster_of}
 use Rattle.session_run.proofs.LifeTold.{rest_told}
-use Rattle.session_run.proofs.RoundSteps.{kept_text}
+use Rattle.life_run.proofs.RoundSteps.{kept_text}
 use Rattle.session_run.proofs.run.report_life.Goals as goal
 
 pub returns : goal.returns

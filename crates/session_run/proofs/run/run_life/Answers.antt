@@ -3,9 +3,9 @@ use Rattle.std.proofs.lemmas.Result.{on_ok_weaker}
 use Rattle.hall.specs.Calls.{start_of, view}
 use Rattle.engine_life.specs.Lives.{volumes_left}
 use Rattle.session_run.specs.Runs.{cluster_of}
-use Rattle.session_run.proofs.CausesTold.{causes_told}
+use Rattle.life_run.proofs.CausesTold.{causes_told}
 use Rattle.session_run.proofs.LifeTold.{ids_few, life_lived, lines_run}
-use Rattle.session_run.proofs.StatesHeld.{bank_holds}
+use Rattle.life_run.proofs.StatesHeld.{bank_holds}
 use Rattle.session_run.proofs.run.run_life.Goals as goal
 
 pub run_rounds-ran-requires-clause-parked : goal.run_rounds-ran-requires-clause-parked

@@ -1,0 +1,7 @@
+pub mod Turns
+pub mod Rounds
+pub mod GoesOn
+pub mod Records
+pub mod Causes
+pub mod Parts
+pub mod Leaves

@@ -52,8 +52,9 @@ pub fn next_part<'a>(items: &Items<'a>) -> (Items<'a>, Option<How>, Items<'a>)
 {
     let count = items.len();
     for i in 0..count {
-        if let Some(how) = items.crash_at(i) {
-            return (items.front(i), Some(how), items.behind(i + 1));
+        let crash = items.crash_at(i);
+        if crash.is_some() {
+            return (items.front(i), crash, items.behind(i + 1));
         }
     }
     (items.front(count), None, items.behind(count))

@@ -50,7 +50,7 @@ parts_behind before (items.Dump what at size ∷ its) how rest a = parts_behind 
 
 module _ (script its : List Item) (crash : Option How) (rest : List Item) (f : IsFirstPart script its crash rest) where
   none_in : no_crash its
-  none_in = recursion_from_All (λ item. crash_in item ≡ None) its f.items
+  none_in = recursion_from_All (λ item. crash_in item ≡ None) its f.none
 
   -- the last part of a script
   pub last_part : crash ≡ None → parts_of script ≡ part its None ∷ []

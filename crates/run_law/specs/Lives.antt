@@ -28,7 +28,7 @@ parts_of script = parts_from [] script
 
 -- the part is the items before the first crash, and the rest stands behind that
 pub record IsFirstPart (script part : List Item) (crash : Option How) (rest : List Item) : Type 0 where
-  pub items : All (λ item. crash_in item ≡ None) part
+  pub none : All (λ item. crash_in item ≡ None) part
   pub split : ((crash ≡ None) × (script ≡ part) × (rest ≡ []))
       ⊎ ((how : How) × (crash ≡ Some how) × (script ≡ part ++ items.Crash how ∷ rest))
 
@@ -57,4 +57,4 @@ pub record AreLivesBefore (tells : Bool) (s : Script) (lives : List LifeReport) 
   pub rest : List LifePart
   pub split : parts_of s.items ≡ done ++ rest
   pub more : rest ≡ [] → ⊥
-  pub lives : AreRunLives tells s done lives
+  pub are : AreRunLives tells s done lives

@@ -53,4 +53,4 @@ pub part_at : (script : List Item) (i : ℕ) (x : Item) (crash : Option How) →
 part_at script i x None l e is n a = absurd (false≢true n)
 part_at script i x (Some how) l e is n a =
     let parts = sym (take-append-drop (i + 1) script) ∙ ap (λ t. t ++ drop (i + 1) script) (take_more script i x l ∙ ap (λ y. take i script ++ y ∷ []) (sym e)) ∙ append_assoc (take i script) (x ∷ []) (drop (i + 1) script) in
-    record { items = a; split = inr (how, refl, parts ∙ ap (λ (y : Item). take i script ++ y ∷ drop (i + 1) script) (crash_of x how (sym is))) }
+    record { none = a; split = inr (how, refl, parts ∙ ap (λ (y : Item). take i script ++ y ∷ drop (i + 1) script) (crash_of x how (sym is))) }

@@ -1,8 +1,5 @@
-pub mod Turns
-pub mod Rounds
-pub mod GoesOn
-pub mod Records
-pub mod Causes
+pub mod Lives
 pub mod Leaves
 pub mod Runs
+pub mod Stops
 pub mod Tool

@@ -35,6 +35,6 @@ returns c =
     let whole = c.front-2.ensures ∙ take_all c.len-count.result all (omega (arith, c.len-count.ensures)) in
     let none = c.behind-2.ensures ∙ drop_all c.len-count.result all (omega (arith, c.len-count.ensures)) in
     record {
-      items = subst (All (λ item. crash_in item ≡ None)) (ap (λ n. take n all) (omega arith) ∙ take-length all ∙ sym whole) c.loop-i.invariant;
+      none = subst (All (λ item. crash_in item ≡ None)) (ap (λ n. take n all) (omega arith) ∙ take-length all ∙ sym whole) c.loop-i.invariant;
       split = inl (refl, sym whole, none);
     }

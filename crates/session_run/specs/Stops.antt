@@ -1,0 +1,59 @@
+-- Why a run stopped before its end.
+use Rattle.std.specs.Prelude.{◌≡◌, ◌⊎◌, ℕ, Bool, List, [], ◌∷◌, ◌++◌}
+use Rattle.disk_core.specs.declared.log_disk.LogDisk as logs
+use Rattle.disk_core.specs.declared.page_disk.PageDisk as disks
+use Rattle.disk_core.specs.declared.media.Crash.{Crash}
+use Rattle.disk_core.specs.declared.media.Volumes.{Volumes}
+use Rattle.disk_core.specs.Faults.{HasRisen}
+use Rattle.tx_model.specs.declared.report.LifeReport.{LifeReport}
+use Rattle.tx_model.specs.declared.report.Report.{Report}
+use Rattle.report_text.specs.ReportText.{report_text}
+use Rattle.session_lang.specs.declared.script.Script.{Script}
+use Rattle.run_law.specs.Lives.{AreLivesBefore}
+use Rattle.run_law.specs.Tool.{IsReportOf}
+use Rattle.replay_core.specs.declared.refusal.RecoverRefusal.{RecoverRefusal}
+use Rattle.replay_core.specs.declared.refusal.RecoverRefusal.TheVariants as refusals
+use Rattle.engine_life.specs.declared.refusal.NoLife.{NoLife}
+use Rattle.engine_life.specs.declared.refusal.NoLife.TheVariants as no_lives
+use Rattle.engine_life.specs.declared.refusal.NotReopened.{NotReopened}
+use Rattle.engine_life.specs.declared.refusal.NotReopened.TheVariants as not_reopened
+use Rattle.engine_life.specs.NextLives.{IsNotReopened}
+use Rattle.engine_life.specs.Refusals.{IsUnopened}
+use Rattle.session_run.specs.Lives.{ComesTo}
+use Rattle.session_run.specs.Runs.{cluster_of, text_so_far}
+
+-- what a refusal to recover means here
+abbrev pub unrecovered_by : RecoverRefusal → NoLife
+unrecovered_by (refusals.Damaged at) = no_lives.Damaged at
+unrecovered_by refusals.NoRecord = no_lives.OldLog
+unrecovered_by refusals.HasMultis = no_lives.OldLog
+unrecovered_by refusals.LogFault = no_lives.Device
+unrecovered_by (refusals.DiskFault lock) = no_lives.Device
+unrecovered_by refusals.Full = no_lives.Full
+unrecovered_by refusals.Memory = no_lives.Memory
+
+-- and one to go on
+abbrev pub no_life_by : NotReopened → NoLife
+no_life_by not_reopened.Device = no_lives.Device
+no_life_by not_reopened.Memory = no_lives.Memory
+no_life_by (not_reopened.Unrecovered refusal) = unrecovered_by refusal
+
+module _ {L P : Type 0} (l : logs.Ghosts L) (p : disks.Ghosts P) (first : ℕ → Volumes L P → Type 0) (falls : Crash → Volumes L P → Volumes L P → Type 0) (before now : ℕ) (gives : Volumes L P → Type 0) where
+  -- Behind a crash no life goes on: the media failed, or the volumes to which the lives came weren't recovered.
+  abbrev pub StopsBehind : Script → List LifeReport → NoLife → Type 0
+  StopsBehind s lives refusal =
+      ((refusal ≡ no_lives.Device) × HasRisen before now)
+      ⊎ ((mounted : Volumes L P) × first s.banks mounted
+      × (e : NotReopened) × (refusal ≡ no_life_by e) × IsNotReopened l p before now (ComesTo l p falls lives mounted) gives e)
+
+  -- why a run of the script stopped behind these lives
+  abbrev pub Stops : Script → List LifeReport → NoLife → Type 0
+  Stops s lives no_lives.Memory = Unit {0}
+  Stops s [] refusal = IsUnopened l p (cluster_of s) first before now gives refusal
+  Stops s (r ∷ lives) refusal = StopsBehind s (r ∷ lives) refusal
+
+-- A run of the script writes this text, in whole lines: its report, or that as far as the lives before it stopped.
+abbrev pub IsTextOfRun : Bool → Script → List ℕ → Type 0
+IsTextOfRun tells s text =
+    ((r : Report) × IsReportOf tells s r × (text ≡ report_text r))
+    ⊎ ((lives : List LifeReport) × AreLivesBefore tells s lives × (text ≡ text_so_far s.names lives))

@@ -1,5 +1,5 @@
 -- What is known of a life that is over.
-use Rattle.std.proofs.Common.{◌≡◌, ℕ, ◌+◌, ◌^◌, ◌<◌, ◌≤◌, Bool, IsTrue, List, [], ◌∷◌, ◌++◌, Option, None, refl, sym, ap, subst, ◌∙◌, length, arith}
+use Rattle.std.proofs.Common.{◌≡◌, ℕ, ◌+◌, ◌-◌, ◌^◌, ◌<◌, ◌≤◌, Bool, IsTrue, List, [], ◌∷◌, ◌++◌, Option, None, refl, sym, ap, subst, ◌∙◌, length, arith}
 use Rattle.std.specs.List.{filter, flat_map}
 use Rattle.disk_core.specs.declared.log_disk.LogDisk as logs
 use Rattle.disk_core.specs.declared.page_disk.PageDisk as disks
@@ -33,6 +33,7 @@ use Rattle.engine_host.specs.declared.cluster.Cluster.{Cluster}
 use Rattle.engine_host.specs.declared.host.Host.{Host}
 use Rattle.engine_host.specs.Opening.{Beginning, life_from, nothing_before}
 use Rattle.engine_life.specs.declared.closed.ClosedLife.{ClosedLife}
+use Rattle.engine_life.specs.Lives.{number_of}
 use Rattle.session_promise.specs.Closing as closing
 use Rattle.session_promise.specs.Told.{ToldRound, all_lines, steps_of}
 use Rattle.session_promise.proofs.FewIds.{levels_bound_ids}
@@ -56,6 +57,14 @@ asked_rounds its ss rounds told same = subst (λ cs. AreRoundsOf cs rounds) (rou
 pub ids_few : (tells : Bool) (start : Start) (lists : List (List Entry)) (n : ℕ) (its : List Item) (ss : List Step) (rounds : List ToldRound) → IsTakenPart n its → AreSteps 1 (asked_of its) ss → filter is_round ss ≡ steps_of 1 rounds
     → closing.IsOver tells start lists rounds → AreFewIds lists
 ids_few tells start lists n its ss rounds taken told same over = levels_bound_ids tells start lists rounds over (few_levels its rounds (asked_rounds its ss rounds told same) taken.levels)
+
+-- the number of its first record
+pub number_told : {L P : Type 0} {l : logs.Ghosts L} (start : Start) (c : Cluster) (b : Beginning) (faults : List ℕ) (closed : ClosedLife L P l) (es : List Entry) → start ≡ life_from c b faults → IsLogOf start closed.log es → number_of closed ≡ b.number
+number_told start c b faults closed es begun stands =
+    let size : length (log_recs closed.log) ≡ length (records.Checkpoint b.number c.base ∷ recs_in es) = ap (λ (t : List Rec). length t) (stands.recs_are ∙ ap (λ (t : List Rec). t ++ recs_in es) (ap (λ (s : Start). s.logged) begun)) in
+    let from = ap (λ (s : Start). s.from) begun in
+    let next = stands.next_is in
+    omega (arith, size, from, next)
 
 module _ {H K L P : Type 0} {l : logs.Ghosts L} {p : disks.Ghosts P} (keep : keepers.Ghosts K) where
   -- a life that ran its part is lawful, and over a new log it left its records on the log's volume

@@ -23,5 +23,5 @@ OkCommitsStay =
 abbrev pub BasesAreOfOneLog : Type 0
 BasesAreOfOneLog =
     (first : LifeReport) (lives : List LifeReport) (n : ℕ) (b : LifeReport)
-    → GoOn (first ∷ lives) → slice_get (first ∷ lives) n ≡ Some b
+    → ((k : ℕ) (r : LifeReport) → slice_get (first ∷ lives) k ≡ Some r → IsLawful r) → GoOn (first ∷ lives) → slice_get (first ∷ lives) n ≡ Some b
     → base_of b.life ≡ base_after (base_of first.life) (take (b.life.from - first.life.from) (run_recs (first ∷ lives)))

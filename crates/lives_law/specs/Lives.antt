@@ -26,6 +26,12 @@ GoOn [] = Unit {0}
 GoOn (a ∷ []) = Unit {0}
 GoOn (a ∷ (b ∷ lives)) = GoesOnFrom a.life b.life × GoOn (b ∷ lives)
 
+-- such a life may stand behind these
+abbrev pub GoesBehind : List LifeReport → Life → Type 0
+GoesBehind [] life = Unit {0}
+GoesBehind (r ∷ []) life = GoesOnFrom r.life life
+GoesBehind (r ∷ (q ∷ lives)) life = GoesBehind (q ∷ lives) life
+
 -- the records of the run's one log: of each life those below the number from which the next one goes on
 abbrev pub run_recs : List LifeReport → List Rec
 run_recs [] = []

@@ -5,3 +5,4 @@ pub mod Known
 pub mod PartSums
 pub mod AllTurns
 pub mod Lives
+pub mod RunLives

@@ -1,12 +1,13 @@
 -- The lives of a script, and those of a run of it.
-use Rattle.std.specs.Prelude.{◌≡◌, ℕ, ◌⊎◌, Bool, IsTrue, List, [], ◌∷◌, ◌++◌, Option, None, Some}
-use Rattle.std.specs.List.{All}
+use Rattle.std.specs.Prelude.{◌≡◌, ◌≢◌, ℕ, ◌⊎◌, Bool, IsTrue, List, [], ◌∷◌, ◌++◌, Option, None, Some}
+use Rattle.std.specs.List.{All, flat_map}
 use Rattle.tx_events.specs.declared.record.Counters.{Counters}
 use Rattle.tx_model.specs.declared.report.How.{How}
 use Rattle.tx_model.specs.declared.report.LifeReport.{LifeReport}
 use Rattle.tx_model.specs.Rounds.{BeginsLog}
 use Rattle.life_law.specs.LawfulLife.{IsLawfulLife}
 use Rattle.lives_law.specs.Lives.{GoOn}
+use Rattle.report_text.specs.ReportText.{end_text, front_text, life_line, lives_text, rest_text, step_text, title_text}
 use Rattle.session_lang.specs.declared.script.Item.{Item}
 use Rattle.session_lang.specs.declared.script.Item.TheVariants as items
 use Rattle.session_lang.specs.declared.script.Script.{Script}
@@ -58,3 +59,24 @@ pub record AreLivesBefore (tells : Bool) (s : Script) (lives : List LifeReport) 
   pub split : parts_of s.items ≡ done ++ rest
   pub more : rest ≡ [] → ⊥
   pub are : AreRunLives tells s done lives
+
+-- ---- their text
+
+-- the report as far as these lives, whole lines; before the first one nothing is written
+abbrev pub text_so_far : List (List ℕ) → List LifeReport → List ℕ
+text_so_far names [] = []
+text_so_far names (r ∷ lives) = title_text ++ lives_text names 1 (r ∷ lives)
+
+-- what stands before the steps of the life of this number, the first one of which begins the report
+pub record IsFrontOf (number from : ℕ) (base : Counters) (text : List ℕ) : Type 0 where
+  pub first : number ≡ 1 → text ≡ front_text base
+  pub later : number ≢ 1 → text ≡ life_line number from base
+
+-- behind the last life stands the last line
+abbrev pub last_text : Option How → List ℕ
+last_text None = end_text
+last_text (Some how) = []
+
+-- what stands from the steps of a life on
+abbrev pub life_rest : List (List ℕ) → LifeReport → List ℕ
+life_rest names r = flat_map (step_text names) r.steps ++ (rest_text names r.life r.crash ++ last_text r.crash)

@@ -2,4 +2,5 @@ pub mod Lives
 pub mod Leaves
 pub mod Runs
 pub mod Stops
+pub mod Going
 pub mod Tool

@@ -1,8 +1,6 @@
 -- The run of a script over a new media.
-use Rattle.std.specs.Prelude.{◌≡◌, ℕ, ◌≤◌, List, [], ◌∷◌, ◌++◌, length}
+use Rattle.std.specs.Prelude.{ℕ, ◌≤◌, length}
 use Rattle.std.specs.List.{All}
-use Rattle.tx_model.specs.declared.report.LifeReport.{LifeReport}
-use Rattle.report_text.specs.ReportText.{lives_text, title_text}
 use Rattle.session_lang.specs.declared.script.Script.{Script}
 use Rattle.run_law.specs.Turns.{HasFewLevels, IsRunnable, MayRun}
 use Rattle.engine_host.specs.declared.cluster.Cluster.{Cluster}
@@ -21,8 +19,3 @@ pub record IsTakenAlone (s : Script) : Type 0 where
 -- the cluster that its header tells of
 abbrev pub cluster_of : Script → Cluster
 cluster_of s = record { base = s.base; banks = s.banks; sessions = length s.names }
-
--- the report as far as these lives, whole lines; before the first one nothing is written
-abbrev pub text_so_far : List (List ℕ) → List LifeReport → List ℕ
-text_so_far names [] = []
-text_so_far names (r ∷ lives) = title_text ++ lives_text names 1 (r ∷ lives)

@@ -9,7 +9,7 @@ use Rattle.disk_core.specs.declared.media.Volumes.{Volumes}
 use Rattle.tx_model.specs.declared.report.LifeReport.{LifeReport}
 use Rattle.report_text.specs.Words.{line_text}
 use Rattle.session_lang.specs.declared.script.Script.{Script}
-use Rattle.run_law.specs.Lives.{AreLivesBefore}
+use Rattle.run_law.specs.Lives.{AreLivesBefore, text_so_far}
 use Rattle.run_law.specs.Tool.{IsAnswer, IsNoScript, IsRun}
 use Rattle.script_gen.specs.Generated.{generated}
 use Rattle.script_gen.specs.Laws.{most_transactions}
@@ -23,10 +23,11 @@ use Rattle.engine_life.specs.declared.refusal.NoLife.{NoLife}
 use Rattle.engine_life.specs.declared.refusal.NoLife.TheVariants as no_lives
 use Rattle.session_run.specs.declared.ending.Ending.{Ending}
 use Rattle.session_run.specs.declared.ending.Ending.TheVariants as endings
+use Rattle.session_run.specs.declared.stop.Stopped.{Stopped}
+use Rattle.session_run.specs.declared.stop.Stopped.TheVariants as stops
 use Rattle.session_run.specs.declared.task.Task.{Task}
 use Rattle.session_run.specs.declared.task.Task.TheVariants as tasks
 use Rattle.session_run.specs.Leaves.{LeavesVolumes}
-use Rattle.session_run.specs.Runs.{text_so_far}
 use Rattle.session_run.specs.Stops.{IsTextOfRun, Stops}
 
 -- ---- what is asked for
@@ -105,6 +106,19 @@ module _ {L P : Type 0} (l : logs.Ghosts L) (p : disks.Ghosts P) where
       (task : Task) × IsTask words task × (written : List ℕ)
       × IsUnrun task left left' first falls before now gives written refusal × Appends held held' (written ++ line)
 
+  -- so where memory was wanting, also before there was a script
+  abbrev pub IsMemoryLast : List (List ℕ) → Option (List ℕ) → Option (List ℕ) → (ℕ → Volumes L P → Type 0) → (Crash → Volumes L P → Volumes L P → Type 0)
+      → ℕ → ℕ → (Volumes L P → Type 0) → Option (List ℕ) → Option (List ℕ) → Type 0
+  IsMemoryLast words left left' first falls before now gives held held' =
+      Appends held held' (codes "memory" ++ 10 ∷ [])
+      ⊎ IsUnrunBy words left left' first falls before now gives held held' no_lives.Memory (codes "memory" ++ 10 ∷ [])
+
+-- an ending behind which nothing was written
+abbrev pub WritesLast : Ending → Type 0
+WritesLast endings.Report = ⊥
+WritesLast endings.WriteFault = ⊥
+WritesLast ending = Unit {0}
+
 -- the sink holds what was written, or failed, and holds a front of it
 abbrev pub HasWritten : Option (List ℕ) → Option (List ℕ) → ℕ → ℕ → List ℕ → Ending → Type 0
 HasWritten held held' faults faults' written endings.WriteFault = Rose faults faults' × (n : ℕ) × Appends held held' (take n written)
@@ -128,6 +142,11 @@ TellsRefusal refusal endings.Device = refusal ≡ no_lives.Device
 TellsRefusal refusal (endings.Damaged text) = (at : ℕ) × (text.items ≡ damage_text at) × (refusal ≡ no_lives.Damaged at)
 TellsRefusal refusal endings.Full = refusal ≡ no_lives.Full
 TellsRefusal refusal endings.OldLog = refusal ≡ no_lives.OldLog
+
+-- so why a run stopped
+abbrev pub TellsStop : Stopped → Ending → Type 0
+TellsStop stops.Sink ending = ending ≡ endings.WriteFault
+TellsStop (stops.NoLife refusal) ending = TellsRefusal refusal ending
 
 -- the source gave no script
 abbrev pub IsUnread : Ending → Type 0

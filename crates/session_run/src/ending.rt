@@ -1,6 +1,6 @@
 //! How a run of the tool ends, with the text that it writes then.
 ghost use Rattle.std.specs.Prelude.{◌≡◌, IfOk};
-ghost use Rattle.session_run.specs.Tool.{TellsRefusal, damage_text, status_of, text_of, unread_by};
+ghost use Rattle.session_run.specs.Tool.{TellsRefusal, TellsStop, damage_text, status_of, text_of, unread_by};
 
 use crate::stop::Stopped;
 use engine_life::NoLife;
@@ -92,7 +92,9 @@ pub fn unread(refusal: NoScript) -> Ending
 }
 
 /// The ending where a run stopped.
-pub fn stopped(alloc: Global, stop: Stopped) -> Ending {
+pub fn stopped(alloc: Global, stop: Stopped) -> Ending
+    ensures { TellsStop stop result }
+{
     match stop {
         Stopped::Sink => Ending::WriteFault,
         Stopped::NoLife(refusal) => unopened(alloc, refusal),

@@ -6,6 +6,7 @@ mod ending;
 mod run;
 mod stop;
 mod task;
+mod text;
 mod tool;
 
 pub use tool::{run_tool, say_out_of_memory};

@@ -1,24 +1,49 @@
-//! Runs a script over a media, life by life, and writes the text of its report, or answers the counts of what it did.
-ghost use Rattle.std.specs.Prelude.{◌≡◌};
+//! Runs a script over a media, life by life, and writes the text of its report; or tells the counts of what it did.
+ghost use Rattle.std.specs.Prelude.{◌≡◌, ◌+◌, ◌≤◌, ℕ, List, IfErr, IfOk, IsTrue, OnErr, OnOk, false, length};
+ghost use Rattle.std.specs.Io.KnownBytes.{Appends};
+ghost use Rattle.disk_core.specs.Media.{HasBanks, MayBeFirst};
+ghost use Rattle.disk_core.specs.declared.media.Volumes.{Volumes as Mounted};
+ghost use Rattle.tx_model.specs.declared.report.LifeReport.{LifeReport};
+ghost use Rattle.tx_model.specs.declared.report.Report.{Report};
+ghost use Rattle.report_text.specs.ReportText.{report_text};
+ghost use Rattle.recoverable.specs.Fit.{KeptLog};
+ghost use Rattle.run_law.specs.Lives.{LifePart};
+ghost use Rattle.run_law.specs.Tool.{IsReportOf};
+ghost use Rattle.script_gen.specs.Summaries.{IsSummaryOf};
+ghost use Rattle.engine_host.specs.declared.cluster.Cluster.{Cluster as Clustered};
+ghost use Rattle.engine_host.specs.Opening.{Beginning, IsCluster};
+ghost use Rattle.engine_life.specs.NextLives.{MayGoOn};
+ghost use Rattle.engine_life.specs.Refusals.{IsOfVolumes, IsUnopened};
+ghost use Rattle.life_run.specs.Leaves.{IsOpened, MayRunIn};
+ghost use Rattle.life_run.specs.Parts.{IsTakenPart};
+ghost use Rattle.session_run.specs.Going.{EndsIdle, GoesOn, IsCrashed, IsRunning, IsToldLife, PartWent, part_of};
+ghost use Rattle.session_run.specs.Lives.{crash_of};
+ghost use Rattle.session_run.specs.Leaves.{LeavesVolumes};
+ghost use Rattle.session_run.specs.Runs.{IsTaken, IsTakenAlone, cluster_of};
+ghost use Rattle.session_run.specs.Stops.{IsStopped, MountsFirst};
 
-use crate::stop::{Stopped, not_reopened};
+use crate::stop::{Stopped, no_life_of};
+use crate::text::{LifeText, front_of, put_end, put_life};
 use disk_core::{Crash, LogDisk, Media, PageDisk, Volumes};
 use engine_host::Cluster;
-use engine_life::{ClosedLife, NoLife, OpenLife, end_life, open_life, reopen_life};
+use engine_life::{ClosedLife, NoLife, OpenLife, open_life, reopen_life};
 use life_run::run_life;
-use report_text::{Text, begin_report, put_life_line};
+use report_text::Text;
 use script_gen::Summary;
 use script_rounds::{LineKeeper, Tally, next_part};
-use script_source::write_all;
 use session_lang::{Items, Script};
 use std::alloc::Global;
 use std::sync::Wait;
 use std::thread::Threads;
-use tx_io::Sink;
-use tx_model::{Counters, How, Memory, NameList};
+use tx_io::{Failed, Sink};
+use tx_model::{How, Memory, NameList};
 
 /// The cluster that a script's header tells of.
-fn cluster_of(script: &Script) -> Cluster {
+fn cluster_of(script: &Script) -> Cluster
+    requires { IsTaken script.now }
+    ensures is { result ≡ cluster_of script.now }
+    ensures cluster { IsCluster result }
+{
     Cluster {
         base: script.base.same(),
         banks: script.banks,
@@ -27,50 +52,14 @@ fn cluster_of(script: &Script) -> Cluster {
 }
 
 /// The crash of a media that a script asks for.
-fn crash_of(how: How) -> Crash {
+fn crash_of(how: How) -> Crash
+    ensures { result ≡ crash_of how }
+{
     match how {
         How::Lost => Crash::Lost,
         How::Kept => Crash::Kept,
         How::Torn => Crash::Torn,
     }
-}
-
-/// The text of a life: what stands before its steps, and the rest.
-#[derive(Drop)]
-struct LifeText {
-    front: Text,
-    rest: Text,
-}
-
-/// What stands before the steps of a life, the first one of which begins the report.
-fn front_of(
-    alloc: Global,
-    number: u64,
-    from: u64,
-    base: &Counters,
-) -> Result<Text, Memory> {
-    let mut text = Text::new(alloc);
-    if number == 1 {
-        begin_report(&mut text, base)?;
-    } else {
-        put_life_line(&mut text, number, from, base)?;
-    }
-    Ok(text)
-}
-
-/// Ends the text of a closed life, with the crash that ends it; behind the last life, the report.
-fn end_text<L: LogDisk + Drop, P: PageDisk + Drop>(
-    text: &mut Text,
-    names: &NameList,
-    closed: &ClosedLife<L, P>,
-    crash: Option<How>,
-) -> Result<(), Memory> {
-    let from = closed.number();
-    end_life(text, from, names, closed.events.items(), &closed.log, crash)?;
-    if crash.is_none() {
-        text.short_line(b"end")?;
-    }
-    Ok(())
 }
 
 /// Runs a part of a script in a life that is open, the life of this number, closes it, and makes its text.
@@ -87,32 +76,26 @@ fn tell_life<
     number: u64,
     crash: Option<How>,
     threads: usize,
-) -> (ClosedLife<L, P>, Result<LifeText, Memory>) {
+) -> (ClosedLife<L, P>, Result<LifeText, Memory>)
+    requires taken { IsTakenPart (length names.now) part }
+    requires may { MayRunIn (length names.now) life }
+    ensures told { (c : Clustered) (b : Beginning) (faults : List ℕ) (mounted : Mounted L P)
+        → IsOpened c b faults mounted life
+        → IfOk result.1 (IsToldLife L.LogDisk P.PageDisk names.now part number crash c b mounted result.0) }
+{
     let base = life.host.cluster.base.same();
     let mut rest = Text::new(alloc);
     let (closed, ran) = run_life(rt, alloc, life, names, part, &mut rest, threads);
     let Ok(()) = ran else {
         return (closed, Err(Memory));
     };
-    let Ok(()) = end_text(&mut rest, names, &closed, crash) else {
+    let Ok(()) = put_end(&mut rest, names, &closed, crash) else {
         return (closed, Err(Memory));
     };
-    let front = front_of(alloc, number, closed.number(), &base);
-    match front {
+    match front_of(alloc, number, closed.number(), &base) {
         Ok(front) => (closed, Ok(LifeText { front, rest })),
         Err(Memory) => (closed, Err(Memory)),
     }
-}
-
-/// Writes the text of a life.
-fn put_life<K: Sink>(sink: &mut K, text: &LifeText) -> Result<(), Stopped> {
-    if write_all(sink, text.front.bytes()).is_err() {
-        return Err(Stopped::Sink);
-    }
-    if write_all(sink, text.rest.bytes()).is_err() {
-        return Err(Stopped::Sink);
-    }
-    Ok(())
 }
 
 /// Crashes the volumes of a closed life, and opens the next one over what that left.
@@ -123,13 +106,25 @@ fn go_on<M: Media>(
     how: How,
     banks: u32,
     sessions: u32,
-) -> Result<OpenLife<M::Log, M::Pages>, Stopped> {
+) -> Result<OpenLife<M::Log, M::Pages>, NoLife>
+    ghost kept: { KeptLog }
+    requires banks { HasBanks banks volumes }
+    requires sessions { sessions ≤ 64 }
+    requires fit { MayGoOn M.Log.LogDisk M.Pages.PageDisk kept volumes }
+    ensures next { IfOk result (GoesOn M.Log.LogDisk M.Pages.PageDisk M.falls how kept banks sessions volumes) }
+    ensures mounted { OnOk result (M.is_idle media.new ≡ false) }
+    ensures idle { OnErr result (IsTrue (M.is_idle media.new)) }
+    ensures count { M.faults media.old ≤ M.faults media.new }
+    ensures used { OnErr result (M.is_new media.new ≡ false) }
+    ensures refused { IfErr result (IsCrashed M.Log.LogDisk M.Pages.PageDisk M.falls how
+        (M.faults media.old) (M.faults media.new) volumes (M.gives media.new)) }
+{
     if media.crash(volumes, crash_of(how)).is_err() {
-        return Err(Stopped::NoLife(NoLife::Device));
+        return Err(NoLife::Device);
     }
     match reopen_life(alloc, media, banks, sessions) {
         Ok(life) => Ok(life),
-        Err(refusal) => Err(not_reopened(refusal)),
+        Err(refusal) => Err(no_life_of(refusal)),
     }
 }
 
@@ -158,6 +153,19 @@ fn run_part<R: Threads + Wait + Sync, K: Sink, M: Media>(
 where
     M::Log: Sync,
     M::Pages: Sync,
+    requires taken { IsTaken script.now }
+    requires part { IsTakenPart (length script.now.names) part }
+    requires running { (begun : Mounted M.Log M.Pages) × (done : List LifePart) × (lives : List LifeReport)
+        × IsRunning script.now begun M.falls done lives life × (number ≡ length lives + 1) }
+    requires tells { IsTrue M.Pages.tells → IsTrue M.Log.tells }
+    ensures went { (begun : Mounted M.Log M.Pages) (done : List LifePart) (lives : List LifeReport)
+        → IsRunning script.now begun M.falls done lives life → number ≡ length lives + 1
+        → PartWent M.Log.LogDisk M.Pages.PageDisk script.now begun M.falls done lives (part_of part crash)
+        (K.held sink.old) (K.held sink.new) (K.faults sink.old) (K.faults sink.new)
+        (M.faults media.old) (M.faults media.new) (M.gives media.new) result }
+    ensures idle { EndsIdle result → IsTrue (M.is_idle media.new) }
+    ensures used { EndsIdle result → M.is_new media.new ≡ false }
+    ensures count { M.faults media.old ≤ M.faults media.new }
 {
     let names = &script.names;
     let (closed, told) = tell_life(rt, alloc, life, names, part, number, crash, threads);
@@ -169,17 +177,19 @@ where
             return Err(Stopped::NoLife(NoLife::Memory));
         }
     };
-    if let Err(stopped) = put_life(sink, &text) {
+    if let Err(Failed) = put_life(sink, &text) {
         media.rest(volumes);
-        return Err(stopped);
+        return Err(Stopped::Sink);
     }
     let Some(how) = crash else {
         media.rest(volumes);
         return Ok(PartEnd::Last);
     };
     let sessions = names.items().len() as u32;
-    let life = go_on(alloc, media, volumes, how, script.banks, sessions)?;
-    Ok(PartEnd::Next(life))
+    match go_on(alloc, media, volumes, how, script.banks, sessions) {
+        Ok(life) => Ok(PartEnd::Next(life)),
+        Err(refusal) => Err(Stopped::NoLife(refusal)),
+    }
 }
 
 /// Runs a script over a new media, life by life, from the script's counters, and writes the text of its report: that of a
@@ -195,6 +205,21 @@ pub fn run_script<R: Threads + Wait + Sync, K: Sink, M: Media>(
 where
     M::Log: Sync,
     M::Pages: Sync,
+    requires taken { IsTaken script.now }
+    requires idle { IsTrue (M.is_idle media.old) }
+    requires new { IsTrue (M.is_new media.old) }
+    requires tells { IsTrue M.Pages.tells → IsTrue M.Log.tells }
+    ensures report { OnOk result ((r : Report) × (is : IsReportOf M.Pages.tells script.now r)
+        × Appends (K.held sink.old) (K.held sink.new) (report_text r)
+        × LeavesVolumes M.Log.LogDisk M.Pages.PageDisk (MayBeFirst (M.begins media.old) script.now.banks) M.falls
+        (M.gives media.new) r.lives) }
+    ensures idle { IsTrue (M.is_idle media.new) }
+    ensures count { M.faults media.old ≤ M.faults media.new }
+    ensures used { OnOk result (M.is_new media.new ≡ false) }
+    ensures used_so { IfErr result (λ stop. MountsFirst stop → M.is_new media.new ≡ false) }
+    ensures stopped { IfErr result (IsStopped M.Log.LogDisk M.Pages.PageDisk (MayBeFirst (M.begins media.old)) M.falls
+        (M.faults media.old) (M.faults media.new) (M.gives media.new) script.now (K.held sink.old) (K.held sink.new)
+        (K.faults sink.old) (K.faults sink.new)) }
 {
     let mut life = match open_life(alloc, media, cluster_of(script)) {
         Ok(life) => life,
@@ -227,18 +252,24 @@ pub fn count_script<R: Threads + Wait + Sync, M: Media>(
 where
     M::Log: Sync,
     M::Pages: Sync,
+    requires taken { IsTakenAlone script.now }
+    requires idle { IsTrue (M.is_idle media.old) }
+    requires new { IsTrue (M.is_new media.old) }
+    ensures counts { IfOk result (λ text. (counts : IsSummaryOf M.Pages.tells script.now text.items)
+        × LeavesVolumes M.Log.LogDisk M.Pages.PageDisk (MayBeFirst (M.begins media.old) script.now.banks) M.falls
+        (M.gives media.new) counts.report.lives) }
+    ensures idle { IsTrue (M.is_idle media.new) }
+    ensures count { M.faults media.old ≤ M.faults media.new }
+    ensures used { OnOk result (M.is_new media.new ≡ false) }
+    ensures used_so { IfErr result (λ refusal. IsOfVolumes refusal → M.is_new media.new ≡ false) }
+    ensures refused { IfErr result (λ refusal. IsUnopened M.Log.LogDisk M.Pages.PageDisk (cluster_of script.now)
+        (MayBeFirst (M.begins media.old)) (M.faults media.old) (M.faults media.new) (M.gives media.new) refusal) }
 {
     let life = open_life(alloc, media, cluster_of(script))?;
     let mut tally = Tally::none(alloc);
-    let (closed, ran) = run_life(
-        rt,
-        alloc,
-        life,
-        &script.names,
-        script.items.items(),
-        &mut tally,
-        threads,
-    );
+    let names = &script.names;
+    let items = script.items.items();
+    let (closed, ran) = run_life(rt, alloc, life, names, items, &mut tally, threads);
     let summary = Summary::of(closed.events.items(), tally.commands(), tally.verdicts());
     media.rest(closed.into_volumes());
     match ran {

@@ -1,4 +1,7 @@
 //! Why a run stopped before its end.
+ghost use Rattle.std.specs.Prelude.{◌≡◌};
+ghost use Rattle.session_run.specs.Stops.{no_life_by, unrecovered_by};
+
 use engine_life::{NoLife, NotReopened};
 use replay_core::RecoverRefusal;
 
@@ -10,21 +13,26 @@ pub enum Stopped {
     NoLife(NoLife),
 }
 
-/// What a refusal to go on means here.
-pub fn no_life_of(refusal: NotReopened) -> NoLife {
+// What a refusal to recover means here. Without a record, or with one of a multixact, the log is no one to go on from.
+fn unrecovered(refusal: RecoverRefusal) -> NoLife
+    ensures { result ≡ unrecovered_by refusal }
+{
     match refusal {
-        NotReopened::Device => NoLife::Device,
-        NotReopened::Memory => NoLife::Memory,
-        NotReopened::Unrecovered { refusal } => match refusal {
-            RecoverRefusal::LogFault | RecoverRefusal::DiskFault { .. } => NoLife::Device,
-            RecoverRefusal::Damaged { at } => NoLife::Damaged { at },
-            RecoverRefusal::Full => NoLife::Full,
-            RecoverRefusal::Memory => NoLife::Memory,
-            _ => NoLife::OldLog,
-        },
+        RecoverRefusal::Damaged { at } => NoLife::Damaged { at },
+        RecoverRefusal::NoRecord | RecoverRefusal::HasMultis => NoLife::OldLog,
+        RecoverRefusal::LogFault | RecoverRefusal::DiskFault { .. } => NoLife::Device,
+        RecoverRefusal::Full => NoLife::Full,
+        RecoverRefusal::Memory => NoLife::Memory,
     }
 }
 
-pub fn not_reopened(refusal: NotReopened) -> Stopped {
-    Stopped::NoLife(no_life_of(refusal))
+/// What a refusal to go on means here.
+pub fn no_life_of(refusal: NotReopened) -> NoLife
+    ensures { result ≡ no_life_by refusal }
+{
+    match refusal {
+        NotReopened::Device => NoLife::Device,
+        NotReopened::Memory => NoLife::Memory,
+        NotReopened::Unrecovered { refusal } => unrecovered(refusal),
+    }
 }

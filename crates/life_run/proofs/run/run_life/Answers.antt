@@ -5,7 +5,7 @@ use Rattle.hall.specs.Calls.{start_of, view}
 use Rattle.run_law.specs.Turns.{MayRun}
 use Rattle.engine_life.specs.Lives.{volumes_left}
 use Rattle.life_run.proofs.CausesTold.{causes_told}
-use Rattle.life_run.proofs.LifeLived.{ids_few, life_lived, lines_run}
+use Rattle.life_run.proofs.LifeLived.{ids_few, life_lived, lines_run, number_told}
 use Rattle.life_run.proofs.StatesHeld.{bank_holds}
 use Rattle.life_run.proofs.run.run_life.Goals as goal
 
@@ -36,6 +36,7 @@ returns g c =
             steps = ran.1.steps;
             lived = lived.0;
             kept_is = ran.1.kept_is;
+            number = number_told (start_of life.hall) k b faults left _ opened.begun.start_is closed.log;
             left = record {
               log = λ none tells. lived.1 none tells (c.reads_an_image.ensures tells);
               states = λ none told. bank_holds g.P.PageDisk (start_of life.hall) (view host.pass).seen k b faults left (volumes_left left).xact.items opened.begun.start_is none closed.kept few closed.log (closed.states told few) (c.pages_read_an_image.ensures told);

@@ -17,7 +17,7 @@ use Rattle.engine_life.specs.declared.life.OpenLife.{OpenLife}
 use Rattle.engine_life.specs.Lives.{IsBegun, life_told, number_of, volumes_left}
 use Rattle.life_run.specs.Causes.{HaveCauses}
 use Rattle.life_run.specs.Parts.{HasLived, with_steps}
-use Rattle.life_run.specs.Records.{BankHolds, FitLife, LogHolds}
+use Rattle.life_run.specs.Records.{BankHolds, LogHolds}
 
 module _ {L P : Type 0} {l : logs.Ghosts L} {p : disks.Ghosts P} where
   -- The life began so over these volumes, at counts of faults that aren't below theirs, and has set those of the
@@ -43,11 +43,10 @@ abbrev pub life_of : {L P : Type 0} → {l : logs.Ghosts L} → Cluster → Begi
 life_of c b closed = life_told b.number c.base b.committed b.recorded closed.events closed.log
 
 module _ {L P : Type 0} (l : logs.Ghosts L) (p : disks.Ghosts P) where
-  -- What a closed life leaves on its volumes, where it began so over those that were mounted: they fit its log, each has
-  -- counted its faults. Over a new log the log's volume has the life's records, and those of pg_xact say committed only of
+  -- What a closed life leaves on its volumes, where it began so over those that were mounted: each has counted its faults.
+  -- Over a new log the log's volume has the life's records, and those of pg_xact say committed only of
   -- what is on disk there.
   pub record HasLeft (c : Cluster) (b : Beginning) (mounted : Volumes L P) (steps : List Step) (closed : ClosedLife L P l) : Type 0 where
-    pub fit : IsTrue l.tells → IsTrue p.tells → FitLife l p (life_of c b closed) (log_disk closed.log) (volumes_left closed).xact.items
     pub log : b ≡ nothing_before → IsTrue l.tells → LogHolds l (life_of c b closed) (log_disk closed.log)
     pub states : b ≡ nothing_before → IsTrue p.tells → (bank : ℕ) → bank < c.banks
         → BankHolds p (life_of c b closed) c.banks bank (volumes_left closed).xact.items

@@ -144,7 +144,7 @@ all_may_stand n its all = All-from_recursion (MayStand n) its (all_stand n its (
 
 -- ---- a report of one life
 
-parts_some : (before its : List Item) → parts_from before its ≡ [] → ⊥
+pub parts_some : (before its : List Item) → parts_from before its ≡ [] → ⊥
 parts_some before [] e = cc
 parts_some before (items.Crash how ∷ its) e = cc
 parts_some before (items.Run s c ∷ its) e = parts_some (before ++ items.Run s c ∷ []) its e

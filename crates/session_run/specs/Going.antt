@@ -12,9 +12,11 @@ use Rattle.tx_model.specs.declared.report.How.{How}
 use Rattle.tx_model.specs.declared.report.Life.{Life}
 use Rattle.tx_model.specs.declared.report.LifeReport.{LifeReport}
 use Rattle.tx_model.specs.declared.report.Step.{Step}
+use Rattle.life_law.specs.LawfulLife.{IsLawfulLife}
 use Rattle.lives_law.specs.Lives.{GoesBehind, base_of}
 use Rattle.session_lang.specs.declared.script.Item.{Item}
 use Rattle.session_lang.specs.declared.script.Script.{Script}
+use Rattle.session_lang.specs.Rounds.{asked_of}
 use Rattle.run_law.specs.Lives.{AreRunLives, IsFrontOf, LifePart, last_text, life_rest, text_so_far}
 use Rattle.recoverable.specs.Fit.{KeptLog}
 use Rattle.engine_host.specs.declared.cluster.Cluster.{Cluster}
@@ -90,6 +92,8 @@ module _ {L P : Type 0} (l : logs.Ghosts L) (p : disks.Ghosts P) where
   -- A part of the script was run behind these, which asks for so much, and its text written.
   pub record IsPartTold (s : Script) (begun : Volumes L P) (falls : Crash → Volumes L P → Volumes L P → Type 0) (done : List LifePart) (lives : List LifeReport) (part : LifePart) (held held' : Option (List ℕ)) (r : LifeReport) (left : Volumes L P) : Type 0 where
     pub are : AreRunLives p.tells s (done ++ part ∷ []) (lives ++ r ∷ [])
+    pub lawful : IsLawfulLife p.tells s.banks (asked_of part.items) r
+    pub crash_is : r.crash ≡ part.crash
     pub written : List ℕ
     pub wrote : Appends held held' written
     pub exact : text_so_far s.names lives ++ written ≡ text_so_far s.names (lives ++ r ∷ []) ++ last_text part.crash

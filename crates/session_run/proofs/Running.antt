@@ -1,0 +1,187 @@
+-- A run goes on from life to life.
+use Rattle.std.proofs.Common.{Bool, IsTrue, List, None, Option, Some, IfSome, [], ap, append_assoc, arith, length, refl, subst, sym, true, ℕ, ◌++◌, ◌+◌, ◌-◌, ◌<◌, ◌∙◌, ◌∷◌, ◌≡◌, ◌≤◌, take}
+use Rattle.std.proofs.KnownBytes.{Appends-trans}
+use Rattle.std.specs.Io.KnownBytes.{Appends}
+use Rattle.disk_core.specs.declared.log_disk.LogDisk as logs
+use Rattle.disk_core.specs.declared.page_disk.PageDisk as disks
+use Rattle.disk_core.specs.declared.media.Crash.{Crash}
+use Rattle.disk_core.specs.declared.media.Volumes.{Volumes}
+use Rattle.disk_core.specs.Images.{Only}
+use Rattle.disk_core.specs.Media.{HasBanks}
+use Rattle.tx_events.specs.declared.record.Counters.{Counters}
+use Rattle.tx_events.specs.declared.record.Rec.{Rec}
+use Rattle.tx_model.specs.declared.report.How.{How}
+use Rattle.tx_model.specs.declared.report.Life.{Life}
+use Rattle.tx_model.specs.declared.report.LifeReport.{LifeReport}
+use Rattle.tx_model.specs.declared.report.Report.{Report}
+use Rattle.tx_model.specs.Rounds.{BeginsLog}
+use Rattle.life_law.specs.LawfulLife.{IsLawfulLife}
+use Rattle.log_bases.specs.LifeBase.{LifeBase, base_after}
+use Rattle.lives_law.specs.Lives.{GoesBehind, GoesOnFrom, base_of}
+use Rattle.lives_law.proofs.GoingOn.{behind_push, goes_on_at}
+use Rattle.report_text.specs.ReportText.{end_text, report_text}
+use Rattle.session_lang.specs.declared.script.Item.{Item}
+use Rattle.session_lang.specs.declared.script.Script.{Script}
+use Rattle.session_lang.specs.Rounds.{asked_of}
+use Rattle.run_law.specs.Lives.{AreRunLives, LifePart, last_text, life_rest, parts_of, text_so_far}
+use Rattle.run_law.specs.Tool.{IsReportOf}
+use Rattle.run_law.proofs.RunLives.{run_lives_push, so_far_push, whole_text}
+use Rattle.recoverable.specs.Fit.{KeptLog, base_at}
+use Rattle.engine_host.specs.declared.cluster.Cluster.{Cluster}
+use Rattle.engine_host.specs.Opening.{Beginning, nothing_before}
+use Rattle.engine_life.specs.declared.closed.ClosedLife.{ClosedLife}
+use Rattle.engine_life.specs.declared.life.OpenLife.{OpenLife}
+use Rattle.engine_life.specs.Lives.{IsNewLife, volumes_left}
+use Rattle.engine_life.specs.Reopening.{IsBaseAt, behind}
+use Rattle.life_run.specs.Causes.{HaveCauses}
+use Rattle.life_run.specs.Leaves.{IsOpened, life_of}
+use Rattle.life_run.specs.Parts.{report_of}
+use Rattle.life_run.specs.Records.{BankHolds, FitLife}
+use Rattle.session_run.specs.declared.text.LifeText.{LifeText}
+use Rattle.session_run.specs.Going.{GoesOn, IsPartTold, IsRunning, IsToldLife, part_of}
+use Rattle.session_run.specs.Leaves.{LeavesVolumes}
+use Rattle.session_run.specs.Lives.{ComesTo, HasFallen}
+use Rattle.session_run.specs.Runs.{cluster_of}
+
+none_of : {X : Type 0} (xs : List X) → length xs ≡ 0 → xs ≡ []
+none_of [] e = refl
+none_of (x ∷ xs) e = absurd (omega (arith, e))
+
+push_some : {X : Type 0} (xs : List X) (x : X) → xs ++ x ∷ [] ≡ [] → ⊥
+push_some [] x e = cc
+push_some (y ∷ xs) x e = cc
+
+module _ {L P : Type 0} {l : logs.Ghosts L} {p : disks.Ghosts P} (s : Script) (falls : Crash → Volumes L P → Volumes L P → Type 0) where
+  -- a life over a new log is the first one
+  pub first_running : (volumes : Volumes L P) (life : OpenLife L P l p) → IsNewLife (cluster_of s) volumes life → IsRunning s volumes falls [] [] life
+  first_running volumes life new = record {
+    are = record { of = tt; begin = tt; go_on = λ told. tt };
+    cluster = cluster_of s;
+    begins = nothing_before;
+    faults = new.faults;
+    mounted = volumes;
+    banks = refl;
+    sessions = refl;
+    opened = record { banks = new.banks; counted = new.counted; begun = new.begun; offsets = new.offsets; members = new.members };
+    comes = refl;
+    new = λ none. (refl, refl);
+    behind = λ told next from base. tt;
+  }
+
+  -- ---- a part
+
+  module _ (begun : Volumes L P) (done : List LifePart) (lives : List LifeReport) (life : OpenLife L P l p) (run : IsRunning s begun falls done lives life)
+      (its : List Item) (number : ℕ) (crash : Option How) (closed : ClosedLife L P l) (text : LifeText) (count : number ≡ length lives + 1)
+      (told : IsToldLife l p s.names its number crash run.cluster run.begins run.mounted closed text) where
+    abbrev pub told_of : LifeReport
+    told_of = report_of (life_of run.cluster run.begins closed) told.steps crash
+
+    lawful : IsLawfulLife p.tells s.banks (asked_of its) told_of
+    lawful = subst (λ n. IsLawfulLife p.tells n (asked_of its) told_of) run.banks (told.lived.lawful crash)
+
+    first : lives ≡ [] → BeginsLog s.base told_of.life
+    first none =
+        let new = run.new none in
+        record {
+          from = ap (λ (b : Beginning). b.number) new.1;
+          base_is = ap (λ (c : Cluster). c.base) new.0;
+          committed = ap (λ (b : Beginning). b.committed) new.1;
+          recorded = ap (λ (b : Beginning). b.recorded) new.1;
+        }
+
+    pub part_told : (held held' : Option (List ℕ)) → Appends held held' (text.front ++ text.rest)
+        → (IsTrue l.tells → IsTrue p.tells → FitLife l p told_of.life (volumes_left closed).log (volumes_left closed).xact.items)
+        → IsPartTold l p s begun falls done lives (part_of its crash) held held' told_of (volumes_left closed)
+    part_told held held' wrote fit = record {
+      are = run_lives_push p.tells s done lives (part_of its crash) told_of run.are lawful refl first (λ tells. run.behind tells told_of.life refl refl);
+      lawful = lawful;
+      crash_is = refl;
+      written = text.front ++ text.rest;
+      wrote = wrote;
+      exact =
+          ap (λ (t : List ℕ). text_so_far s.names lives ++ (text.front ++ t)) told.rest
+          ∙ so_far_push s.names lives told_of number text.front count told.front (λ one. ap (λ (b : Beginning). b.number) (run.new (none_of lives (omega (arith, one, count)))).1);
+      last = record {
+        mounted = run.mounted;
+        comes = run.comes;
+        causes = told.left.causes;
+        fit = fit;
+        log = λ none tells. told.left.log (run.new none).1 tells;
+        states = λ none tells bank low.
+            let banks = run.opened.banks.xact in
+            subst (λ n. BankHolds p told_of.life n bank (volumes_left closed).xact.items) (sym banks) (told.left.states (run.new none).1 tells bank (omega (arith, low, banks)));
+      };
+    }
+
+  -- ---- a crash, and the next life
+
+  comes_push : (lives : List LifeReport) (r : LifeReport) (begun mounted left next : Volumes L P) → ComesTo l p falls lives begun mounted → HaveCauses l p r.steps mounted left → IfSome r.crash (λ how. HasFallen l p falls how left next) → ComesTo l p falls (lives ++ r ∷ []) begun next
+  comes_push [] r begun mounted left next comes causes fell = (left, next, subst (λ (v : Volumes L P). HaveCauses l p r.steps v left) comes causes, fell, refl)
+  comes_push (q ∷ lives) r begun mounted left next comes causes fell = (comes.0, comes.1, comes.2, comes.3, comes_push lives r comes.1 mounted left next comes.4 causes fell)
+
+  module _ (begun : Volumes L P) (done : List LifePart) (lives : List LifeReport) (part : LifePart) (held held' : Option (List ℕ)) (r : LifeReport) (left : Volumes L P) (told : IsPartTold l p s begun falls done lives part held held' r left)
+      (how : How) (crash : part.crash ≡ Some how) (life : OpenLife L P l p) (kept : KeptLog) (goes : GoesOn l p falls how kept s.banks (length s.names) left life) where
+    banks : goes.goes.cluster.banks ≡ s.banks
+    banks = goes.goes.banks ∙ goes.banks_are.xact
+
+    -- where the volumes tell the life goes on from the one before
+    from_last : (fit : FitLife l p r.life left.log left.xact.items) → kept ≡ fit.kept → p.tells ≡ true → (next : Life) → next.from ≡ goes.goes.number
+        → base_of next ≡ record { counters = goes.goes.cluster.base; committed = (behind p.tells kept goes.goes.number).committed; recorded = (behind p.tells kept goes.goes.number).recorded }
+        → IsBaseAt kept goes.goes.number goes.goes.cluster.base → GoesOnFrom r.life next
+    from_last fit same tells next from base at =
+        let k = fit.kept in
+        let number = goes.goes.number in
+        let ends = fit.ends in
+        let lasting = told.lawful.log.begun in
+        let at_k = subst (λ (q : KeptLog). IsBaseAt q number goes.goes.cluster.base) same at in
+        let recs = ap (λ (t : List Rec). length t) ends.recs in
+        let flushed = at_k.flushed in
+        let on_disk = ends.flushed in
+        let upto = at_k.upto in
+        let whole : base_of next ≡ base_at k number =
+        base ∙ (λ i. record { counters = goes.goes.cluster.base; committed = (behind (tells i) (same i) number).committed; recorded = (behind (tells i) (same i) number).recorded })
+        ∙ (λ i. record { counters = sym at_k.counters_are i; committed = (base_at k number).committed; recorded = (base_at k number).recorded }) in
+        goes_on_at r.life next k.base k.first ends.earlier ends.number ends.base (omega (arith, lasting)) (omega (arith, flushed, on_disk, from)) (omega (arith, upto, recs, from))
+        (whole ∙ ap (λ (t : List Rec). base_after k.base (take (number - k.first) t)) ends.recs ∙ ap (λ n. base_after k.base (take (n - k.first) (ends.earlier ++ r.life.recs))) (sym from))
+
+    pub running_on : (IsTrue p.tells → (p.tells ≡ true) × (fit : FitLife l p r.life left.log left.xact.items) × (kept ≡ fit.kept)) → IsRunning s begun falls (done ++ part ∷ []) (lives ++ r ∷ []) life
+    running_on fit = record {
+      are = told.are;
+      cluster = goes.goes.cluster;
+      begins = behind p.tells kept goes.goes.number;
+      faults = goes.goes.faults;
+      mounted = goes.mounted;
+      banks = banks;
+      sessions = goes.goes.sessions_are;
+      opened = record {
+        banks = subst (λ n. HasBanks n goes.mounted) (sym banks) goes.banks_are;
+        counted = goes.goes.counted;
+        begun = goes.goes.begun;
+        offsets = goes.goes.offsets;
+        members = goes.goes.members;
+      };
+      comes = comes_push lives r begun told.last.mounted left goes.mounted told.last.comes told.last.causes (subst (λ (c : Option How). IfSome c (λ h. HasFallen l p falls h left goes.mounted)) (sym crash ∙ sym told.crash_is) goes.fallen);
+      new = λ none. absurd (push_some lives r none);
+      behind = λ tells next from base.
+          let f = fit tells in
+          behind_push lives r next (from_last f.1 f.2 f.0 next from base (goes.goes.base tells));
+    }
+
+  -- ---- the last part
+
+  so_whole : (lives : List LifeReport) (r : LifeReport) → text_so_far s.names (lives ++ r ∷ []) ++ end_text ≡ report_text (record { names = s.names; lives = lives ++ r ∷ [] })
+  so_whole [] r = whole_text s.names r []
+  so_whole (q ∷ lives) r = whole_text s.names q (lives ++ r ∷ [])
+
+  pub run_told : (begun : Volumes L P) (done : List LifePart) (lives : List LifeReport) (part : LifePart) (first held held' : Option (List ℕ)) (r : LifeReport) (left : Volumes L P) (may gives : Volumes L P → Type 0) → IsPartTold l p s begun falls done lives part held held' r left
+      → part.crash ≡ None → parts_of s.items ≡ done ++ part ∷ [] → Appends first held (text_so_far s.names lives) → may begun → Only left gives
+      → (report : Report) × IsReportOf p.tells s report × Appends first held' (report_text report) × LeavesVolumes l p may falls gives report.lives
+  run_told begun done lives part first held held' r left may gives told last all so_far began only =
+      let report : Report = record { names = s.names; lives = lives ++ r ∷ [] } in (
+        report,
+        record { names = refl; lives = subst (λ (ps : List LifePart). AreRunLives p.tells s ps (lives ++ r ∷ [])) (sym all) told.are },
+        subst (Appends first held')
+            (told.exact ∙ ap (λ (c : Option How). text_so_far s.names (lives ++ r ∷ []) ++ last_text c) last ∙ so_whole lives r)
+            (Appends-trans first held held' (text_so_far s.names lives) told.written so_far told.wrote),
+        record { before = lives; last = r; lives_are = refl; begun = begun; left = left; began = began; only = only; has_left = told.last },
+      )

@@ -80,4 +80,4 @@ so_far_push names (q ∷ lives) r number front count is first =
 
 -- and behind all lives it is the report's
 pub whole_text : (names : List (List ℕ)) (r : LifeReport) (lives : List LifeReport) → text_so_far names (r ∷ lives) ++ end_text ≡ report_text (record { names = names; lives = r ∷ lives })
-whole_text names r lives = append_assoc title_text (lives_text names 1 (r ∷ lives)) end_text
+whole_text names r lives = refl

@@ -1,6 +1,8 @@
 -- A run goes on from life to life.
-use Rattle.std.proofs.Common.{Bool, IsTrue, List, None, Option, Some, IfSome, [], ap, append_assoc, arith, length, refl, subst, sym, true, ℕ, ◌++◌, ◌+◌, ◌-◌, ◌<◌, ◌∙◌, ◌∷◌, ◌≡◌, ◌≤◌, take}
+use Rattle.std.proofs.Common.{Bool, false, IsTrue, List, None, Option, Some, IfSome, [], ap, append_assoc, arith, length, refl, subst, sym, true, ℕ, ◌++◌, ◌+◌, ◌-◌, ◌<◌, ◌∙◌, ◌∷◌, ◌≡◌, ◌≤◌, take}
 use Rattle.std.proofs.KnownBytes.{Appends-trans}
+use Rattle.std.proofs.lemmas.Bool.{false≢true}
+use Rattle.tx_events.specs.Base.{first_base}
 use Rattle.std.specs.Io.KnownBytes.{Appends}
 use Rattle.disk_core.specs.declared.log_disk.LogDisk as logs
 use Rattle.disk_core.specs.declared.page_disk.PageDisk as disks
@@ -50,6 +52,18 @@ none_of (x ∷ xs) e = absurd (omega (arith, e))
 push_some : {X : Type 0} (xs : List X) (x : X) → xs ++ x ∷ [] ≡ [] → ⊥
 push_some [] x e = cc
 push_some (y ∷ xs) x e = cc
+
+-- the log that the volumes fit, where they tell
+pub kept_of : (tells : Bool) → (IsTrue tells → KeptLog) → KeptLog
+kept_of true f = f refl
+kept_of false f = record { base = record { counters = first_base; committed = []; recorded = [] }; first = 0; recs = []; flushed = 0 }
+
+pub kept_is : (tells : Bool) (f : IsTrue tells → KeptLog) (told : IsTrue tells) → kept_of tells f ≡ f told
+kept_is true f told = ap f (same_true refl told)
+  where
+    same_true : (x y : true ≡ true) → x ≡ y
+    same_true x y = cc
+kept_is false f told = absurd (false≢true told)
 
 module _ {L P : Type 0} {l : logs.Ghosts L} {p : disks.Ghosts P} (s : Script) (falls : Crash → Volumes L P → Volumes L P → Type 0) where
   -- a life over a new log is the first one
@@ -144,7 +158,7 @@ module _ {L P : Type 0} {l : logs.Ghosts L} {p : disks.Ghosts P} (s : Script) (f
         goes_on_at r.life next k.base k.first ends.earlier ends.number ends.base (omega (arith, lasting)) (omega (arith, flushed, on_disk, from)) (omega (arith, upto, recs, from))
         (whole ∙ ap (λ (t : List Rec). base_after k.base (take (number - k.first) t)) ends.recs ∙ ap (λ n. base_after k.base (take (n - k.first) (ends.earlier ++ r.life.recs))) (sym from))
 
-    pub running_on : (IsTrue p.tells → (p.tells ≡ true) × (fit : FitLife l p r.life left.log left.xact.items) × (kept ≡ fit.kept)) → IsRunning s begun falls (done ++ part ∷ []) (lives ++ r ∷ []) life
+    pub running_on : (IsTrue p.tells → (fit : FitLife l p r.life left.log left.xact.items) × (kept ≡ fit.kept)) → IsRunning s begun falls (done ++ part ∷ []) (lives ++ r ∷ []) life
     running_on fit = record {
       are = told.are;
       cluster = goes.goes.cluster;
@@ -164,7 +178,7 @@ module _ {L P : Type 0} {l : logs.Ghosts L} {p : disks.Ghosts P} (s : Script) (f
       new = λ none. absurd (push_some lives r none);
       behind = λ tells next from base.
           let f = fit tells in
-          behind_push lives r next (from_last f.1 f.2 f.0 next from base (goes.goes.base tells));
+          behind_push lives r next (from_last f.0 f.1 tells next from base (goes.goes.base tells));
     }
 
   -- ---- the last part

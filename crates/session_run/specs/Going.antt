@@ -38,7 +38,7 @@ use Rattle.session_run.specs.declared.text.LifeText.{LifeText}
 use Rattle.session_run.specs.Leaves.{HasLeftLast}
 use Rattle.session_run.specs.Lives.{ComesTo, HasFallen}
 use Rattle.session_run.specs.Runs.{cluster_of}
-use Rattle.session_run.specs.Stops.{no_life_by}
+use Rattle.session_run.specs.Stops.{IsUndamaged, no_life_by}
 
 module _ {L P : Type 0} (l : logs.Ghosts L) (p : disks.Ghosts P) where
   -- A life that began so ran its part of the script, and this is its text.
@@ -60,7 +60,7 @@ module _ {L P : Type 0} (l : logs.Ghosts L) (p : disks.Ghosts P) where
   abbrev pub IsCrashed : (Crash → Volumes L P → Volumes L P → Type 0) → How → ℕ → ℕ → Volumes L P → (Volumes L P → Type 0) → NoLife → Type 0
   IsCrashed falls how before now left gives refusal =
       ((refusal ≡ no_lives.Device) × HasRisen before now)
-      ⊎ ((e : NotReopened) × (refusal ≡ no_life_by e) × IsNotReopened l p before now (HasFallen l p falls how left) gives e)
+      ⊎ ((e : NotReopened) × (refusal ≡ no_life_by e) × IsNotReopened l p before now (HasFallen l p falls how left) gives e × IsUndamaged l p refusal)
 
 module _ {L P : Type 0} {l : logs.Ghosts L} {p : disks.Ghosts P} where
   -- The script was run as far as these parts, and their lives were these. The next life is open, over the volumes to which

@@ -1,5 +1,5 @@
 -- Why a run stopped before its end.
-use Rattle.std.specs.Prelude.{◌≡◌, ◌⊎◌, ℕ, Bool, List, [], ◌∷◌, Option, take}
+use Rattle.std.specs.Prelude.{◌≡◌, ◌⊎◌, ℕ, Bool, IsTrue, List, [], ◌∷◌, Option, take}
 use Rattle.std.specs.Io.KnownBytes.{Appends}
 use Rattle.disk_core.specs.declared.log_disk.LogDisk as logs
 use Rattle.disk_core.specs.declared.page_disk.PageDisk as disks
@@ -42,13 +42,19 @@ no_life_by not_reopened.Device = no_lives.Device
 no_life_by not_reopened.Memory = no_lives.Memory
 no_life_by (not_reopened.Unrecovered refusal) = unrecovered_by refusal
 
+-- the log isn't damaged if all volumes tell what they hold
+abbrev pub IsUndamaged : {L P : Type 0} → logs.Ghosts L → disks.Ghosts P → NoLife → Type 0
+IsUndamaged l p refusal = (at : ℕ) → refusal ≡ no_lives.Damaged at → IsTrue l.tells → IsTrue p.tells → ⊥
+
 module _ {L P : Type 0} (l : logs.Ghosts L) (p : disks.Ghosts P) (first : ℕ → Volumes L P → Type 0) (falls : Crash → Volumes L P → Volumes L P → Type 0) (before now : ℕ) (gives : Volumes L P → Type 0) where
-  -- Behind a crash no life goes on: the media failed, or the volumes to which the lives came weren't recovered.
+  -- Behind a crash no life goes on: the media failed, or the volumes to which the lives came weren't recovered. Their log
+  -- isn't damaged if all tell what they hold.
   abbrev pub StopsBehind : Script → List LifeReport → NoLife → Type 0
   StopsBehind s lives refusal =
       ((refusal ≡ no_lives.Device) × HasRisen before now)
       ⊎ ((mounted : Volumes L P) × first s.banks mounted
-      × (e : NotReopened) × (refusal ≡ no_life_by e) × IsNotReopened l p before now (ComesTo l p falls lives mounted) gives e)
+      × (e : NotReopened) × (refusal ≡ no_life_by e) × IsNotReopened l p before now (ComesTo l p falls lives mounted) gives e
+      × IsUndamaged l p refusal)
 
   -- why a run of the script stopped behind these lives
   abbrev pub Stops : Script → List LifeReport → NoLife → Type 0

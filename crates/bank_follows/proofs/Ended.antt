@@ -1,7 +1,5 @@
 -- The volumes of a cluster in which a life ran.
-use Rattle.std.proofs.Common.{List, None, Option, Some, [], ap, arith, length, map, option_map, refl, subst, suc, sym, zero, ℕ, ◌<◌, ◌∙◌, ◌∷◌, ◌≡◌, ◌^◌}
-use Rattle.std.proofs.lemmas.List.{length-map}
-use Rattle.std.proofs.lemmas.Option.{slice_get-map}
+use Rattle.std.proofs.Common.{List, None, Option, Some, [], ap, arith, length, refl, subst, suc, sym, zero, ℕ, ◌<◌, ◌∙◌, ◌∷◌, ◌≡◌, ◌^◌}
 use Rattle.std.specs.List.{slice_get, slice_index}
 use Rattle.disk_core.specs.declared.log_disk.LogDisk as logs
 use Rattle.disk_core.specs.declared.page_disk.PageDisk as disks
@@ -22,12 +20,8 @@ use Rattle.recoverable.specs.Whole.{BeganRight, IsShort, LeftFollows, MembersLef
 use Rattle.recoverable.proofs.LifeBases.{list_fits}
 use Rattle.recoverable.proofs.NewBegins.{new_begins}
 use Rattle.recoverable.proofs.Whole.{image_fits}
-use Rattle.bank_follows.specs.Holding.{SeenBank}
-use Rattle.bank_follows.specs.Near.{MakesNear}
 use Rattle.bank_follows.specs.Stores.{IsMemberAt, IsOffsetAt, member_cells, offset_cells}
 use Rattle.bank_follows.proofs.Begins.{first_shown, zeros_show_nothing}
-use Rattle.bank_follows.proofs.Near.{short_makes_near}
-use Rattle.bank_follows.proofs.Standing.{banks_stand}
 use Rattle.bank_follows.proofs.Stores.{images_follow}
 use Rattle.bank_follows.specs.Ends.{ClusterFits, ClusterHolds}
 use Rattle.recoverable.specs.Clusters.{IsLeft}
@@ -81,16 +75,13 @@ module _ (start : Start) (right : BeganRight start) (none : start.recorded ≡ [
 -- ---- all volumes
 
 module _ {L P : Type 0} (l : logs.Ghosts L) (p : disks.Ghosts P) where
-  module _ (start : Start) (lists : List (List Entry)) (kept : KeptLog) (recs : List Rec) (next first : ℕ) (log : L) (xact : List (SeenBank P)) (k : EngineInvariant start lists) (right : BeganRight start) (short : IsShort lists)
-      (holds : ClusterHolds l p start lists kept recs next first log xact) (left : Left) (is : IsLeft l p log (map (λ (b : SeenBank P). b.disk) xact) left) where
+  module _ (start : Start) (lists : List (List Entry)) (kept : KeptLog) (recs : List Rec) (next first : ℕ) (log : L) (xact : List P) (k : EngineInvariant start lists) (right : BeganRight start) (short : IsShort lists)
+      (holds : ClusterHolds l p start lists kept recs next first log xact) (left : Left) (is : IsLeft l p log xact left) where
     states_left : (bank : ℕ) → bank < start.banks → StatesLeft start bank (at lists (xact_lock bank)) (left.xact bank)
     states_left bank inside =
         let count = holds.banks in
-        let b = get_at xact bank (omega arith) in
-        let h = holds.states bank b.0 b.1 in
-        let near : MakesNear start lists bank = short_makes_near start lists bank k short in
-        let disk : slice_get (map (λ (z : SeenBank P). z.disk) xact) bank ≡ Some b.0.disk = slice_get-map (λ (z : SeenBank P). z.disk) xact bank ∙ ap (option_map (λ (z : SeenBank P). z.disk)) b.1 in
-        (banks_stand p.images p.moment p.left_at start bank).states_left h.shown (at lists (xact_lock bank)) b.0.pages b.0.cutoff b.0.last b.0.disk (left.xact bank) h.clean (h.stands (near.xact h.shown)) (is.states bank b.0.disk disk)
+        let disk = get_at xact bank (omega (arith, count, inside)) in
+        holds.states bank disk.0 disk.1 (left.xact bank) (is.states bank disk.0 disk.1)
 
     follows : LeftFollows start lists kept left
     follows = record {
@@ -106,6 +97,5 @@ module _ {L P : Type 0} (l : logs.Ghosts L) (p : disks.Ghosts P) where
   pub cluster_fits : ClusterFits l p
   cluster_fits start lists kept recs next first log xact k right short holds = record {
     list = list_fits start lists kept k right.told right.full right.base holds.log_holds.is_of;
-    each = λ left is. subst (λ (n : ℕ). ImageFits n kept left) (sym (length-map xact (λ (b : SeenBank P). b.disk) ∙ holds.banks))
-        (fits start lists kept recs next first log xact k right short holds left is);
+    each = λ left is. subst (λ (n : ℕ). ImageFits n kept left) (sym holds.banks) (fits start lists kept recs next first log xact k right short holds left is);
   }

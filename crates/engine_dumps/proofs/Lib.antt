@@ -1,4 +1,4 @@
-pub mod Answering
+pub mod FaultsTold
 pub mod Cutoffs
 pub mod Homing
 pub mod Logging

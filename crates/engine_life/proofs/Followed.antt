@@ -159,7 +159,7 @@ module _ {L P : Type 0} {l : logs.Ghosts L} (p : disks.Ghosts P) (start : Start)
   follows_here bank (parts.Proc table) k = absurd (let e = k.0 in omega (arith, e))
   follows_here bank (parts.Xact store) k =
       let same : k.0 ≡ bank = let e = k.1 in omega (arith, e) in
-      let course = subst (λ b. HasCourse start b store (at lists (xact_lock bank))) same (k.2.course told) in
-      (volume_of store, refl, states_follow p start bank told only_now lists store kept few course)
+      let course = subst (λ b. HasCourse start b store.value (at lists (xact_lock bank))) same (k.2.course told) in
+      (volume_of store.value, refl, states_follow p start bank told only_now lists store.value kept few course)
   follows_here bank (parts.Subtrans store) k = absurd (let e = k.1 in omega (arith, e))
   follows_here bank parts.Vacant k = absurd (k.xact bank refl)

@@ -43,15 +43,16 @@ pub fn announce_oldest<R: Wait, L: LogDisk, P: PageDisk>(
     ensures same { (caller.new.session ≡ caller.old.session) × (caller.new.number ≡ caller.old.number) }
 {
     let by = command_of(caller);
-    let mut table = enter_proc(rt, hall, caller);
+    let mut held = enter_proc(rt, hall, caller);
+    let table = &mut *held;
     match table.raise_oldest(by, oldest) {
         Ok(()) => {
             let entry = oldest_note(by, oldest);
-            leave_proc(hall, caller, table, entry);
+            leave_proc(hall, caller, held, entry);
             Ok(())
         }
         Err(refusal) => {
-            leave_looked(hall, caller, 1, Part::Proc(table));
+            leave_looked(hall, caller, 1, Part::Proc(held));
             Err(refusal)
         }
     }

@@ -102,13 +102,14 @@ pub fn read_truncation<R: Wait, L: LogDisk, P: PageDisk>(
         ≡ truncation_behind (start_of hall.now).base (history (view caller.new.pass).seen) }
     ensures same { (caller.new.session ≡ caller.old.session) × (caller.new.number ≡ caller.old.number) }
 {
-    let table = enter_proc(rt, hall, caller);
+    let held = enter_proc(rt, hall, caller);
+    let table = &*held;
     let base = table.base();
     let rec = Rec::Truncate {
         oldest: table.oldest(),
         multi: base.oldest_multi,
         offset: base.oldest_offset,
     };
-    leave_looked(hall, caller, 1, Part::Proc(table));
+    leave_looked(hall, caller, 1, Part::Proc(held));
     rec
 }

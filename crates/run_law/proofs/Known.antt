@@ -1,5 +1,5 @@
 -- What is known of each script that is read: its number of banks, and that few of its commands make a level.
-use Rattle.std.proofs.Common.{◌≡◌, ℕ, ◌+◌, ◌*◌, ◌^◌, ◌≤◌, ◌&&◌, ◌||◌, nat_lt, nat_le, not, List, [], ◌∷◌, ◌++◌, Bool, true, false, cond, Option, Some, None, IfSome, Result, Ok, Err, IfOk, refl, ap, subst, ◌∙◌, codes, arith, length, unwrap_or}
+use Rattle.std.proofs.Common.{◌≡◌, ℕ, ◌+◌, ◌*◌, ◌^◌, ◌<◌, ◌≤◌, ◌&&◌, ◌||◌, nat_lt, nat_le, not, List, [], ◌∷◌, ◌++◌, Bool, true, false, cond, Option, Some, None, IfSome, Result, Ok, Err, IfOk, refl, ap, subst, ◌∙◌, codes, arith, length, unwrap_or}
 use Rattle.std.proofs.lemmas.Bool.{false≢true}
 use Rattle.std.proofs.lemmas.Bool.Decides.{nat_tests}
 use Rattle.std.proofs.lemmas.List.{append-nil}
@@ -28,7 +28,7 @@ use Rattle.session_lang.specs.declared.script.Item.TheVariants as items
 use Rattle.session_lang.specs.declared.script.Script.{Script}
 use Rattle.session_lang.specs.Lines.{lines_of}
 use Rattle.session_lang.specs.Script.{at_line, body_line, command_line, end_header, header_line, header_words, is_dot, is_full, is_header_line, is_passed, item_of, names_with, no_front, place_of, read_line, read_lines, read_script, script_of, with_directive, with_turn, words_line}
-use Rattle.run_law.specs.Turns.{HasFewLevels, levels_in, turn_in, turns_in}
+use Rattle.run_law.specs.Turns.{levels_in, turn_in, turns_in}
 use Rattle.run_law.proofs.Commands.{HasRoom, command_room}
 use Rattle.run_law.proofs.Sizes.{lines_size, size_of, words_size}
 use Rattle.run_law.proofs.Steps.{behind, either_holds, no_fault, not_false, of_ok, then_holds, went}
@@ -189,7 +189,7 @@ begins = record { levels = omega arith; banks = tt }
 
 pub record IsKnown (s : Script) : Type 0 where
   pub banks : AreBanks s.banks
-  pub few : HasFewLevels s.items
+  pub few : levels_in s.items < 2900000
 
 front_known : (f : Front) → Reads 16777217 f → IsKnown (script_of f)
 front_known f r = record { banks = or_four f.header.banks r.banks; few = let a = r.levels in omega arith }

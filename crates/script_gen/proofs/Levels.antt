@@ -8,7 +8,7 @@ use Rattle.tx_model.specs.declared.command.Command.TheVariants as commands
 use Rattle.session_lang.specs.declared.script.Item.{Item}
 use Rattle.session_lang.specs.declared.script.Item.TheVariants as items
 use Rattle.life_law.specs.Commands.{has_command, makes_level}
-use Rattle.run_law.specs.Turns.{HasFewLevels, MayRun, levels_in, turn_in, turns_in}
+use Rattle.run_law.specs.Turns.{MayRun, levels_in, turn_in, turns_in}
 use Rattle.script_gen.specs.Choices.{Choices, choices, drawn_from}
 use Rattle.script_gen.specs.Generated.{end_command, is_round_first, items_from, look_commands, run_by, savepoint_commands, session_names, session_of, transaction, transaction_items}
 use Rattle.script_gen.proofs.Bounds.{all_few, few_savepoints, most_savepoints}
@@ -85,7 +85,7 @@ few_more i s =
     let f = few_savepoints i s in
     omega arith
 
-pub few_levels : (seed size : ℕ) → size ≤ 100000 → HasFewLevels (items_from 0 (drawn_from 0 size seed))
+pub few_levels : (seed size : ℕ) → size ≤ 100000 → levels_in (items_from 0 (drawn_from 0 size seed)) < 2900000
 unfolding most_levels
 few_levels seed size l = let n = all_few levels_in most_levels levels_join refl few_more 0 size seed in omega arith
 

@@ -5,8 +5,8 @@ use Rattle.notes.specs.Lists.{at as list_at}
 use Rattle.tx_core.specs.Locks.{log_lock}
 use Rattle.tx_model.specs.declared.report.DumpOf.TheVariants as dumps
 use Rattle.tx_model.specs.declared.reply.Reply.{Reply}
-use Rattle.engine_dumps.specs.Dumps.{IsAnswered, IsFaultCounted, ShowsBytes}
-use Rattle.engine_dumps.proofs.Answering.{bytes_counted, log_counted}
+use Rattle.engine_dumps.specs.Dumps.{IsAnswered, ShowsBytes}
+use Rattle.engine_dumps.proofs.FaultsTold.{bytes_counted, log_counted}
 use Rattle.engine_dumps.proofs.Logging.{log_bytes}
 use Rattle.engine_dumps.proofs.answering.show_log.Goals as goal
 
@@ -37,8 +37,7 @@ pub returns-in-Ok-clause-fault : goal.returns-in-Ok-clause-fault
 returns-in-Ok-clause-fault g c =
     let start = start_of c.args.hall.now in
     let seen = (view c.args.host.now.pass).seen in
-    subst (IsFaultCounted g.L.LogDisk g.P.PageDisk start seen) (sym c.bytes_reply.ensures.reply)
-    (bytes_counted g.L.LogDisk g.P.PageDisk start seen c.truncate.new.self.items)
+    bytes_counted g.L.LogDisk g.P.PageDisk start seen c.bytes_reply.result c.truncate.new.self.items c.bytes_reply.ensures.reply
 
 pub returns-in-Err-clause-fault : goal.returns-in-Err-clause-fault
 returns-in-Err-clause-fault g c =

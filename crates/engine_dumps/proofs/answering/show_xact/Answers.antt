@@ -7,7 +7,7 @@ use Rattle.tx_model.specs.declared.reply.Reply.{Reply}
 use Rattle.tx_core.specs.Locks.{xact_lock}
 use Rattle.engine_dumps.specs.Dumps.{IsAnswered, IsFaultCounted, ShowsBytes}
 use Rattle.engine_dumps.specs.Shown.{HasFailed, ShowsXact}
-use Rattle.engine_dumps.proofs.Answering.{bank_counted, bank_shows, bytes_counted}
+use Rattle.engine_dumps.proofs.FaultsTold.{bank_counted, bank_shows, bytes_counted}
 use Rattle.engine_dumps.proofs.Cutoffs.{xact_refused, xact_told}
 use Rattle.engine_dumps.proofs.answering.show_xact.Goals as goal
 
@@ -62,8 +62,7 @@ pub returns-in-Ok-clause-fault : goal.returns-in-Ok-clause-fault
 returns-in-Ok-clause-fault g c =
     let start = start_of c.args.hall.now in
     let seen = (view c.args.host.now.pass).seen in
-    subst (IsFaultCounted g.L.LogDisk g.P.PageDisk start seen) (sym c.bytes_reply.ensures.reply)
-    (bytes_counted g.L.LogDisk g.P.PageDisk start seen _)
+    bytes_counted g.L.LogDisk g.P.PageDisk start seen c.bytes_reply.result _ c.bytes_reply.ensures.reply
 
 pub returns-in-Err-clause-bytes : goal.returns-in-Err-clause-bytes
 returns-in-Err-clause-bytes g c =

@@ -1,3 +1,4 @@
+use Rattle.engine_parts.specs.Parts.{IsLogOf}
 use Rattle.std.proofs.Common.{Err, IsTrue, ◌≡◌, arith, ap, ◌∙◌, subst, sym, refl, ◌++◌, ◌∷◌, [], Some}
 use Rattle.std.proofs.lemmas.Bool.{false≢true}
 use Rattle.hall.specs.Calls.{view, start_of}

@@ -21,31 +21,31 @@ use Rattle.proc_sections.proofs.announcing.announce_oldest.Goals as goal
 pub leave_proc-requires-clause-may : goal.leave_proc-requires-clause-may
 leave_proc-requires-clause-may g c =
     let start = start_of c.args.hall.now in
-    let e = c.enter_proc-table.ensures in
+    let e = c.enter_proc-held.ensures in
     let old = c.args.caller.now in
-    let u = c.enter_proc-table.new.caller in
+    let u = c.enter_proc-held.new.caller in
     let by = by_at old.number old.session.levels.commands in
     may_announce start (view u.pass).seen by c.args.oldest c.oldest_note-entry.result.value (c.oldest_note-entry.ensures ∙ ap (λ (b : By). oldest_entry b c.args.oldest) c.command_of-by.ensures)
-    (raised_here start (view u.pass) c.enter_proc-table.result c.args.oldest e.stands c.in-Ok.ensures.0 c.in-Ok.ensures.1)
+    (raised_here start (view u.pass) c.deref_mut-table.result.now c.args.oldest (subst (λ l. ProcStands (start_of c.args.hall.now) l (at (view c.enter_proc-held.new.caller.pass).seen proc_lock)) (sym c.deref_mut-table.ensures.value) c.enter_proc-held.ensures.stands) c.in-Ok.ensures.0 c.in-Ok.ensures.1)
     (subst (λ (b : By). IsInTurn start (at (view u.pass).seen proc_lock) b) (λ j. by_at (e.same.1 j) (e.same.0 j).levels.commands) (e.at.turns proc_lock))
 
 pub leave_proc-requires-clause-stands : goal.leave_proc-requires-clause-stands
 leave_proc-requires-clause-stands g c =
-    let es = at (view c.enter_proc-table.new.caller.pass).seen proc_lock in
+    let es = at (view c.enter_proc-held.new.caller.pass).seen proc_lock in
     let by = c.command_of-by.result in
     subst (λ (d : Entry). ProcStands (start_of c.args.hall.now) c.raise_oldest.new.self (es ++ d ∷ [])) (sym c.oldest_note-entry.ensures)
-    (proc_adds (start_of c.args.hall.now) c.enter_proc-table.result c.raise_oldest.new.self es by (events.Oldest by c.args.oldest) c.enter_proc-table.ensures.stands c.in-Ok.ensures.2)
+    (proc_adds (start_of c.args.hall.now) c.deref_mut-table.result.now c.raise_oldest.new.self es by (events.Oldest by c.args.oldest) (subst (λ l. ProcStands (start_of c.args.hall.now) l (at (view c.enter_proc-held.new.caller.pass).seen proc_lock)) (sym c.deref_mut-table.ensures.value) c.enter_proc-held.ensures.stands) c.in-Ok.ensures.2)
 
 pub returns-in-Ok-clause-section : goal.returns-in-Ok-clause-section
 returns-in-Ok-clause-section g c =
     let old = c.args.caller.now in
-    section_of (start_of c.args.hall.now) (view old.pass) (view c.enter_proc-table.new.caller.pass) (view c.leave_proc.new.caller.pass) proc_lock c.oldest_note-entry.result.value (oldest_entry (by_at old.number old.session.levels.commands) c.args.oldest) c.enter_proc-table.ensures.entered
+    section_of (start_of c.args.hall.now) (view old.pass) (view c.enter_proc-held.new.caller.pass) (view c.leave_proc.new.caller.pass) proc_lock c.oldest_note-entry.result.value (oldest_entry (by_at old.number old.session.levels.commands) c.args.oldest) c.enter_proc-held.ensures.entered
     (c.oldest_note-entry.ensures ∙ ap (λ (b : By). oldest_entry b c.args.oldest) c.command_of-by.ensures) c.leave_proc.ensures.left
 
 pub returns-in-Ok-clause-ready : goal.returns-in-Ok-clause-ready
 returns-in-Ok-clause-ready g c =
-    let e = c.enter_proc-table.ensures in
-    let u = c.enter_proc-table.new.caller in
+    let e = c.enter_proc-held.ensures in
+    let u = c.enter_proc-held.new.caller in
     let w = c.leave_proc.new.caller in
     let r = c.leave_proc.ensures in
     ready_announced (start_of c.args.hall.now) (view u.pass) (view w.pass) u.number w.number u.session w.session c.args.oldest c.oldest_note-entry.result.value e.at
@@ -54,22 +54,22 @@ returns-in-Ok-clause-ready g c =
 pub returns-in-Ok-clause-announces : goal.returns-in-Ok-clause-announces
 returns-in-Ok-clause-announces g c =
     let old = c.args.caller.now in
-    let e = c.enter_proc-table.ensures in
+    let e = c.enter_proc-held.ensures in
     let by = by_at old.number old.session.levels.commands in
     let d = c.oldest_note-entry.result.value in
     let is : d ≡ oldest_entry by c.args.oldest = c.oldest_note-entry.ensures ∙ ap (λ (b : By). oldest_entry b c.args.oldest) c.command_of-by.ensures in
-    went_event (start_of c.args.hall.now) (view old.pass) (view c.enter_proc-table.new.caller.pass) (view c.leave_proc.new.caller.pass) by old.session d (events.Oldest by c.args.oldest) c.requires.ready.at e.entered.kept e.entered.learns (ap event_of is) refl (ap asks_in is) c.leave_proc.ensures.left
+    went_event (start_of c.args.hall.now) (view old.pass) (view c.enter_proc-held.new.caller.pass) (view c.leave_proc.new.caller.pass) by old.session d (events.Oldest by c.args.oldest) c.requires.ready.at e.entered.kept e.entered.learns (ap event_of is) refl (ap asks_in is) c.leave_proc.ensures.left
 
 pub leave_looked-requires-clause-stands : goal.leave_looked-requires-clause-stands
 leave_looked-requires-clause-stands g c =
-    let u = c.enter_proc-table.new.caller in
+    let u = c.enter_proc-held.new.caller in
     let es = at (view u.pass).seen proc_lock in
-    (refl, proc_looks (start_of c.args.hall.now) c.raise_oldest.new.self es (by_at u.number u.session.levels.commands) (subst (λ (t : Table). ProcStands (start_of c.args.hall.now) t es) (sym c.in-Err.ensures.0) c.enter_proc-table.ensures.stands))
+    (refl, proc_looks (start_of c.args.hall.now) c.raise_oldest.new.self es (by_at u.number u.session.levels.commands) (subst (λ (t : Table). ProcStands (start_of c.args.hall.now) t es) (sym c.in-Err.ensures.0) (subst (λ l. ProcStands (start_of c.args.hall.now) l (at (view c.enter_proc-held.new.caller.pass).seen proc_lock)) (sym c.deref_mut-table.ensures.value) c.enter_proc-held.ensures.stands)))
 
 pub returns-in-Err-clause-section : goal.returns-in-Err-clause-section
 returns-in-Err-clause-section g c =
-    let e = c.enter_proc-table.ensures in
-    let t = c.enter_proc-table.new.caller in
+    let e = c.enter_proc-held.ensures in
+    let t = c.enter_proc-held.new.caller in
     let s = c.args.caller.now.session in
     let n = c.args.caller.now.number in
     section_of (start_of c.args.hall.now) (view c.args.caller.now.pass) (view t.pass) (view c.leave_looked.new.caller.pass) proc_lock (look_by t.number t.session) (look_by n s) e.entered (ap look_of (same_command n t.number s t.session e.same.1 e.same.0)) c.leave_looked.ensures.left
@@ -77,11 +77,11 @@ returns-in-Err-clause-section g c =
 pub returns-in-Err-clause-announces : goal.returns-in-Err-clause-announces
 returns-in-Err-clause-announces g c =
     let start = start_of c.args.hall.now in
-    let e = c.enter_proc-table.ensures in
-    let u = view c.enter_proc-table.new.caller.pass in
+    let e = c.enter_proc-held.ensures in
+    let u = view c.enter_proc-held.new.caller.pass in
     let w = view c.leave_looked.new.caller.pass in
     let wide = c.requires.ready.at.wide in
     let long = e.entered.learns.long in (
       went_quiet start (view c.args.caller.now.pass) u w c.args.caller.now.number proc_lock c.args.caller.now.session _ c.requires.ready.at e.entered.kept e.entered.learns (omega arith) refl refl c.leave_looked.ensures.left,
-      not_announced start u w c.enter_proc-table.result c.args.oldest c.in-Err.refusal e.stands (history_same start u w proc_lock _ refl (omega arith) c.leave_looked.ensures.left) c.in-Err.ensures.1,
+      not_announced start u w c.deref_mut-table.result.now c.args.oldest c.in-Err.refusal (subst (λ l. ProcStands (start_of c.args.hall.now) l (at (view c.enter_proc-held.new.caller.pass).seen proc_lock)) (sym c.deref_mut-table.ensures.value) c.enter_proc-held.ensures.stands) (history_same start u w proc_lock _ refl (omega arith) c.leave_looked.ensures.left) c.in-Err.ensures.1,
     )

@@ -1,4 +1,5 @@
-use Rattle.std.proofs.Common.{◌≡◌, refl, sym, ap, ◌∙◌, arith}
+use Rattle.engine_parts.specs.Stand.{ProcStands}
+use Rattle.std.proofs.Common.{◌≡◌, refl, sym, ap, subst, ◌∙◌, arith}
 use Rattle.hall.specs.Calls.{view, start_of}
 use Rattle.notes.specs.Lists.{at}
 use Rattle.tx_events.specs.declared.record.Rec.TheVariants as records
@@ -15,29 +16,29 @@ use Rattle.proc_sections.proofs.looking.read_truncation.Goals as goal
 
 pub leave_looked-requires-clause-stands : goal.leave_looked-requires-clause-stands
 leave_looked-requires-clause-stands g c =
-    let u = c.enter_proc-table.new.caller in
-    (refl, proc_looks (start_of c.args.hall.now) c.enter_proc-table.result (at (view u.pass).seen proc_lock) (by_at u.number u.session.levels.commands) c.enter_proc-table.ensures.stands)
+    let u = c.enter_proc-held.new.caller in
+    (refl, proc_looks (start_of c.args.hall.now) c.enter_proc-held.result.value (at (view u.pass).seen proc_lock) (by_at u.number u.session.levels.commands) c.enter_proc-held.ensures.stands)
 
 pub returns-clause-section : goal.returns-clause-section
 returns-clause-section g c =
-    let e = c.enter_proc-table.ensures in
-    let t = c.enter_proc-table.new.caller in
+    let e = c.enter_proc-held.ensures in
+    let t = c.enter_proc-held.new.caller in
     let s = c.args.caller.now.session in
     let n = c.args.caller.now.number in
     section_of (start_of c.args.hall.now) (view c.args.caller.now.pass) (view t.pass) (view c.leave_looked.new.caller.pass) proc_lock (look_by t.number t.session) (look_by n s) e.entered (ap look_of (same_command n t.number s t.session e.same.1 e.same.0)) c.leave_looked.ensures.left
 
 pub returns-clause-went : goal.returns-clause-went
 returns-clause-went g c =
-    let e = c.enter_proc-table.ensures in
+    let e = c.enter_proc-held.ensures in
     let wide = c.requires.ready.at.wide in
-    went_quiet (start_of c.args.hall.now) (view c.args.caller.now.pass) (view c.enter_proc-table.new.caller.pass) (view c.leave_looked.new.caller.pass) c.args.caller.now.number proc_lock c.args.caller.now.session _ c.requires.ready.at e.entered.kept e.entered.learns (omega arith) refl refl c.leave_looked.ensures.left
+    went_quiet (start_of c.args.hall.now) (view c.args.caller.now.pass) (view c.enter_proc-held.new.caller.pass) (view c.leave_looked.new.caller.pass) c.args.caller.now.number proc_lock c.args.caller.now.session _ c.requires.ready.at e.entered.kept e.entered.learns (omega arith) refl refl c.leave_looked.ensures.left
 
 pub returns-clause-record : goal.returns-clause-record
 returns-clause-record g c =
-    let e = c.enter_proc-table.ensures in
+    let e = c.enter_proc-held.ensures in
     let wide = c.requires.ready.at.wide in
     let long = e.entered.learns.long in
-    let still = history_same (start_of c.args.hall.now) (view c.enter_proc-table.new.caller.pass) (view c.leave_looked.new.caller.pass) proc_lock _ refl (omega arith) c.leave_looked.ensures.left in
-    let base : c.base-base.result ≡ (start_of c.args.hall.now).base = c.base-base.ensures ∙ e.stands.base in
-    let oldest : c.oldest.result ≡ oldest_id (start_of c.args.hall.now).base.oldest (history (view c.leave_looked.new.caller.pass).seen) = c.oldest.ensures ∙ (λ j. oldest_id (e.stands.base j).oldest ((e.stands.events ∙ sym still) j)) in
+    let still = history_same (start_of c.args.hall.now) (view c.enter_proc-held.new.caller.pass) (view c.leave_looked.new.caller.pass) proc_lock _ refl (omega arith) c.leave_looked.ensures.left in
+    let base : c.base-base.result ≡ (start_of c.args.hall.now).base = c.base-base.ensures ∙ (subst (λ l. ProcStands (start_of c.args.hall.now) l (at (view c.enter_proc-held.new.caller.pass).seen proc_lock)) (sym c.deref-table.ensures) c.enter_proc-held.ensures.stands).base in
+    let oldest : c.oldest.result ≡ oldest_id (start_of c.args.hall.now).base.oldest (history (view c.leave_looked.new.caller.pass).seen) = c.oldest.ensures ∙ (λ j. oldest_id ((subst (λ l. ProcStands (start_of c.args.hall.now) l (at (view c.enter_proc-held.new.caller.pass).seen proc_lock)) (sym c.deref-table.ensures) c.enter_proc-held.ensures.stands).base j).oldest (((subst (λ l. ProcStands (start_of c.args.hall.now) l (at (view c.enter_proc-held.new.caller.pass).seen proc_lock)) (sym c.deref-table.ensures) c.enter_proc-held.ensures.stands).events ∙ sym still) j)) in
     λ j. records.Truncate (oldest j) (base j).oldest_multi (base j).oldest_offset

@@ -1,10 +1,11 @@
 -- What an answer tells besides its bytes.
-use Rattle.std.proofs.Common.{◌≡◌, ℕ, List, None, Some, refl, subst}
+use Rattle.std.proofs.Common.{◌≡◌, ℕ, List, None, Some, refl, subst, sym}
 use Rattle.disk_core.specs.declared.log_disk.LogDisk as logs
 use Rattle.disk_core.specs.declared.page_disk.PageDisk as disks
 use Rattle.tx_events.specs.declared.refusal.Lock.{Lock}
 use Rattle.tx_events.specs.declared.refusal.Lock.TheVariants as locks
 use Rattle.tx_events.specs.declared.refusal.Refusal.TheVariants as refusals
+use Rattle.tx_model.specs.declared.reply.Reply.{Reply}
 use Rattle.tx_model.specs.declared.reply.Reply.TheVariants as replies
 use Rattle.tx_model.specs.declared.report.DumpOf.{DumpOf}
 use Rattle.slru_bank.specs.declared.refusal.BankRefusal.{BankRefusal}
@@ -23,8 +24,8 @@ no_lock other is = cc
 
 module _ {L P : Type 0} (l : logs.Ghosts L) (p : disks.Ghosts P) (start : Start) (lists : List (List Entry)) where
   -- bytes tell of no fault
-  pub bytes_counted : (bytes : List ℕ) → IsFaultCounted l p start lists (replies.Bytes bytes)
-  bytes_counted bytes = λ other is. absurd (no_lock other is)
+  pub bytes_counted : (reply : Reply) (bytes : List ℕ) → reply ≡ replies.Bytes bytes → IsFaultCounted l p start lists reply
+  bytes_counted reply bytes told = subst (IsFaultCounted l p start lists) (sym told) (λ other is. absurd (no_lock other is))
 
   -- the log's fault, where its volume failed
   pub log_counted : HasFailed l p start lists log_lock → IsFaultCounted l p start lists (replies.Refused refusals.LogFault)

@@ -133,7 +133,8 @@ module _ (tells : Bool) (start : Start) (lists : List (List Entry)) (rounds : Li
       let e : Entry = record { by = a.0; kind = kinds.Append (records.Truncate oldest multi offset) } in
       let of : IsOldestAnnounced start lists oldest × IsMultiAnnounced start lists multi offset
       = (upheld_has (NeedsCounters start) lists log_lock e over.kept.log.counters (contains_has es e a.2)).1.1 in
-      (of.0, multi_is multi offset of.1)
+      let same = multi_is multi offset of.1 in
+      (of.0, same.0, same.1)
   whole session rec is a = absurd is
 
   each_whole : (rec : Rec) → Contains (recs_of lists) rec → IsRecordOf start.base h rec

@@ -1,5 +1,5 @@
 -- The log at the end of a life is that of its ends.
-use Rattle.std.proofs.Common.{Bool, Contains, List, None, Option, Some, [], ap, arith, drop, eqb-true, inl, length, map, refl, subst, sym, take, zero, suc, ℕ, ⊎_elim, ◌++◌, ◌-◌, ◌<◌, ◌≡◌, ◌≤◌, ◌∙◌, ◌∷◌, ◌^◌}
+use Rattle.std.proofs.Common.{Bool, Contains, List, None, Option, Some, [], ap, arith, drop, eqb-true, inl, length, map, refl, subst, sym, take, zero, suc, ℕ, ⊎_elim, ◌++◌, ◌-◌, ◌<◌, ◌+◌, ◌≡◌, ◌≤◌, ◌∙◌, ◌∷◌, ◌^◌}
 use Rattle.std.specs.List.{cons_option, slice_get}
 use Rattle.std.proofs.lemmas.List.{length-map}
 use Rattle.std.proofs.lemmas.Option.{same_Some}

@@ -33,11 +33,11 @@ returns-in-Ok-open_old-clause-life g c =
       cluster = parts.cluster;
       banks = k.cluster.0;
       sessions_are = k.cluster.1;
-      base = k.start.1.1;
+      base = k.start.2;
       faults = map faults_behind parts.locks.items;
-      counted = subst (λ (s : Start). AreCounted g.L.LogDisk g.P.PageDisk v.log v.xact.items v.subtrans.items s.faults) k.start.1.0 k.counted;
-      begun = subst (λ (s : Start). IsBegun parts.cluster s life) k.start.1.0 begun;
-      right = λ told. subst BeganRight k.start.1.0 (k.right told);
+      counted = subst (λ (s : Start). AreCounted g.L.LogDisk g.P.PageDisk v.log v.xact.items v.subtrans.items s.faults) k.start.1 k.counted;
+      begun = subst (λ (s : Start). IsBegun parts.cluster s life) k.start.1 begun;
+      right = λ told. subst BeganRight k.start.1 (k.right told);
       offsets = aside.0;
       members = aside.1;
     }) c.begin_next.ensures.life c.begin_next.ensures.aside

@@ -1,4 +1,4 @@
-use Rattle.std.proofs.Common.{Bool, IsTrue, false, length, map, rules, subst, sym}
+use Rattle.std.proofs.Common.{Bool, IsTrue, arith, false, length, map, refl, rules, subst, sym, ◌∙◌, ◌≤◌}
 use Rattle.std.proofs.lemmas.Result.{IfOk-weaker}
 use Rattle.recoverable.specs.Whole.{BeganRight}
 use Rattle.wal_core.specs.LogViews.{log_disk}
@@ -15,13 +15,15 @@ use Rattle.engine_life.proofs.old_parts.open_old.Goals as goal
 -- With a ghost value the clauses of `requires` have no names: they stand in their order behind what is asked of lifetimes.
 
 pub open_recovered-requires : goal.open_recovered-requires
-open_recovered-requires g c =
+open_recovered-requires g c κs inside =
     let l = g.L.LogDisk in let p = g.P.PageDisk in let old = c.args.volumes in let r = c.in-Ok.recovered in let e = c.in-Ok.ensures in
     let some = c.requires.1.1.0 in
     let few = c.requires.1.1.1.0 in
     let as_many = c.requires.1.1.1.1.0 in
     let sessions = c.requires.1.1.1.1.1.0 in
-    let banks = e.banks in
+    let here : 1 ≤ length r.xact.items = (let same = e.banks.0 in omega (arith, some, same)) in
+    let within : length r.xact.items ≤ 16 = (let same = e.banks.0 in omega (arith, few, same)) in
+    let same = e.banks.1 ∙ (as_many ∙ sym e.banks.0) in
     let log = e.log in
     let before = before_any p.tells g.kept r.from c.args.sessions (length r.xact.items) r.base (λ told.
     let fit = c.requires.1.1.1.1.1.1 told in
@@ -34,7 +36,7 @@ open_recovered-requires g c =
     (g.met.L.LogDisk.reads_image (log_disk r.log) fit.0) (λ d. g.met.P.PageDisk.reads_image d told) (e.recovers fit.0 told g.kept fit.1)) in
     let parents = λ (told : IsTrue p.tells). empty_shown p r.subtrans.items (λ d. g.met.P.PageDisk.reads_image d told) (e.parents told) in
     let durable = e.states in
-    search (rules, some, few, as_many, sessions, banks, log, before, states, parents, durable)
+    (search (rules, inside), (search (rules, inside), (here, (within, (same, (sessions, (log, (refl, (before, (states, (parents, durable)))))))))))
 
 pub returns-in-Ok-clause-start : goal.returns-in-Ok-clause-start
 returns-in-Ok-clause-start g c =

@@ -1,6 +1,6 @@
 -- The volumes of an engine that is taken apart stand in the order of their banks, and each has counted what its list
 -- tells.
-use Rattle.std.proofs.Common.{ℕ, zero, suc, ◌≡◌, ◌≢◌, ◌+◌, ◌*◌, ◌<◌, ◌≤◌, ◌++◌, ◌∷◌, [], ◌∙◌, List, None, Option, Some, ap, arith, length, refl, subst, sym}
+use Rattle.std.proofs.Common.{ℕ, zero, suc, ◌≡◌, ◌≢◌, ◌+◌, ◌*◌, ◌<◌, ◌≤◌, ◌∷◌, [], ◌∙◌, List, None, Option, Some, ap, arith, length, refl, subst, sym}
 use Rattle.std.proofs.lemmas.Option.{same_Some, slice_get_within}
 use Rattle.std.specs.List.{cons_option, filter_map, slice_get}
 use Rattle.disk_core.specs.declared.log_disk.LogDisk as logs

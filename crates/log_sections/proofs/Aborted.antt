@@ -1,13 +1,11 @@
 -- The abort record of what a session has open.
-use Rattle.std.proofs.Common.{Contains, ⊎_elim, ◌⊎◌, ◌≡◌, ℕ, ◌<◌, List, [], ◌∷◌, take, false, true, refl, sym, ap, subst, ◌∙◌, inl, length, eqb-true, Some, None}
+use Rattle.std.proofs.Common.{Contains, ⊎_elim, ◌≡◌, ℕ, ◌<◌, List, false, refl, sym, ap, subst, ◌∙◌, length}
 use Rattle.std.proofs.lemmas.Bool.{false≢true}
 use Rattle.notes.specs.Lists.{at}
 use Rattle.tx_events.specs.declared.event.Event.{Event}
 use Rattle.tx_events.specs.declared.record.Rec.{Rec}
 use Rattle.tx_events.specs.declared.record.Rec.TheVariants as records
-use Rattle.tx_events.specs.Events.{given_to}
-use Rattle.tx_events.specs.Running.{is_open, open_ids}
-use Rattle.tx_events.proofs.Membership.{contains_has, has_contains, has_filter}
+use Rattle.tx_events.specs.Running.{open_ids}
 use Rattle.tx_core.specs.declared.entry.Entry.{Entry}
 use Rattle.tx_core.specs.declared.entry.Kind.TheVariants as kinds
 use Rattle.tx_core.specs.declared.entry.Start.{Start}
@@ -24,7 +22,6 @@ use Rattle.engine_parts.specs.Holds.{Knowledge, Leaves}
 use Rattle.engine_parts.specs.Law.{MayKeep}
 use Rattle.engine_parts.specs.Sessions.{IsAt, IsReady, MayCall, by_at, inner_id}
 use Rattle.engine_parts.specs.Stages.{IsInStage, may_be_aborted, may_be_recorded}
-use Rattle.engine_parts.proofs.Unrecorded.{open_unrecorded}
 use Rattle.engine_parts.proofs.Leaving.{at_left, filed_left, history_same}
 use Rattle.session_levels.proofs.HeadLemmas.{first_top}
 use Rattle.log_sections.specs.LogSections.{IsAbortOf}

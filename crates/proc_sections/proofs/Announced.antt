@@ -65,6 +65,7 @@ not_announced start u w old oldest r s still n =
     (λ (z : (oldest < oldest_of old) × (r ≡ refusals.Backward (oldest_of old))). subst (IsNotAnnounced start.base (history w.seen) oldest) (sym z.1) (now, z.0))
     (λ rest. ⊎_elim
     (λ (z : (oldest_of old ≤ oldest) × (xmin_of old < oldest) × (r ≡ refusals.TooNew (xmin_of old))). subst (IsNotAnnounced start.base (history w.seen) oldest) (sym z.2) (limit, z.1))
-    (λ (z : (oldest_of old ≤ oldest) × (oldest ≤ xmin_of old) × (r ≡ refusals.Memory)). subst (IsNotAnnounced start.base (history w.seen) oldest) (sym z.2) tt)
+    (λ (z : (oldest_of old ≤ oldest) × (oldest ≤ xmin_of old) × (r ≡ refusals.Memory)). subst (IsNotAnnounced start.base (history w.seen) oldest) (sym z.2)
+    (subst (λ k. k ≤ oldest) now z.0, subst (λ k. oldest ≤ k) limit z.1))
     rest)
     n

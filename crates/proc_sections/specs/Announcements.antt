@@ -1,5 +1,5 @@
 -- What the announcement of the oldest id leaves.
-use Rattle.std.specs.Prelude.{◌≡◌, ℕ, ◌<◌, List, [], ◌∷◌, Result, Ok, Err}
+use Rattle.std.specs.Prelude.{◌≡◌, ℕ, ◌<◌, ◌≤◌, List, [], ◌∷◌, Result, Ok, Err}
 use Rattle.tx_events.specs.declared.event.Event.{Event}
 use Rattle.tx_events.specs.declared.event.Event.TheVariants as events
 use Rattle.tx_events.specs.declared.record.Counters.{Counters}
@@ -20,12 +20,13 @@ use Rattle.engine_parts.specs.Steps.{WentOn}
 abbrev pub announcement : ℕ → Session → ℕ → Event
 announcement n s oldest = events.Oldest (by_at n s.levels.commands) oldest
 
--- why this id wasn't announced behind this history: it is before the announced one, past the oldest xmin, or memory was
--- wanting
+-- why this id wasn't announced behind this history: it is before the announced one, past the oldest xmin, or else memory
+-- was wanting
 abbrev pub IsNotAnnounced : Counters → List Event → ℕ → Refusal → Type 0
 IsNotAnnounced base h oldest (refusals.Backward now) = (now ≡ oldest_id base.oldest h) × (oldest < now)
 IsNotAnnounced base h oldest (refusals.TooNew limit) = (limit ≡ oldest_xmin base.next h) × (limit < oldest)
-IsNotAnnounced base h oldest refusals.Memory = Unit {0}
+IsNotAnnounced base h oldest refusals.Memory =
+    (oldest_id base.oldest h ≤ oldest) × (oldest ≤ oldest_xmin base.next h)
 IsNotAnnounced base h oldest r = ⊥
 
 -- The announcement is the session's only new event. After a refusal nothing was announced.

@@ -1,5 +1,6 @@
 -- What is read of the ProcArray at once.
 use Rattle.std.specs.Prelude.{◌≡◌, List}
+use Rattle.tx_events.specs.Ids.{IsFullMulti, IsXidNumber}
 use Rattle.tx_events.specs.declared.event.Event.{Event}
 use Rattle.tx_events.specs.declared.record.Counters.{Counters}
 use Rattle.tx_events.specs.declared.record.Rec.{Rec}
@@ -17,3 +18,8 @@ pub record AreHorizonsOf (base : Counters) (h : List Event) (found : Horizons) :
 -- the record of a truncation to what is announced behind this history
 abbrev pub truncation_behind : Counters → List Event → Rec
 truncation_behind base h = records.Truncate (oldest_id base.oldest h) base.oldest_multi base.oldest_offset
+
+-- the numbers that it names have the forms of an id and of a multixact
+abbrev pub HasForms : Rec → Type 0
+HasForms (records.Truncate oldest multi offset) = IsXidNumber oldest × IsFullMulti multi
+HasForms rec = Unit {0}

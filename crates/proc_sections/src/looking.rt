@@ -7,7 +7,7 @@ ghost use Rattle.tx_core.specs.Locks.{proc_lock};
 ghost use Rattle.engine_parts.specs.Holds.{Section};
 ghost use Rattle.engine_parts.specs.Sessions.{IsReady, look_by};
 ghost use Rattle.engine_parts.specs.Steps.{WentOn};
-ghost use Rattle.proc_sections.specs.Horizons.{AreHorizonsOf, truncation_behind};
+ghost use Rattle.proc_sections.specs.Horizons.{AreHorizonsOf, HasForms, truncation_behind};
 
 use disk_core::{LogDisk, PageDisk};
 use engine_parts::{Caller, EngineLaw, Part, enter_proc, leave_looked};
@@ -100,14 +100,19 @@ pub fn read_truncation<R: Wait, L: LogDisk, P: PageDisk>(
     ensures went { WentOn caller.old.number [] (view caller.old.pass).seen (view caller.new.pass).seen }
     ensures record { result
         ≡ truncation_behind (start_of hall.now).base (history (view caller.new.pass).seen) }
+    ensures forms { HasForms result }
     ensures same { (caller.new.session ≡ caller.old.session) × (caller.new.number ≡ caller.old.number) }
 {
     let held = enter_proc(rt, hall, caller);
     let table = &*held;
     let base = table.base();
+    let oldest = table.oldest();
+    let multi = base.oldest_multi;
+    let _oldest = oldest.number();
+    let _multi = multi.number();
     let rec = Rec::Truncate {
-        oldest: table.oldest(),
-        multi: base.oldest_multi,
+        oldest,
+        multi,
         offset: base.oldest_offset,
     };
     leave_looked(hall, caller, 1, Part::Proc(held));

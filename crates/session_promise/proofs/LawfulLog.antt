@@ -206,7 +206,7 @@ module _ (tells : Bool) (start : Start) (lists : List (List Entry)) (rounds : Li
         each = each_whole;
         once = once;
         committed = committed;
-        count = count;
+        count = let few = count in omega (arith, few);
         gate = gate;
       }
 

@@ -1,5 +1,5 @@
 use Rattle.engine_parts.specs.Parts.{IsLogOf}
-use Rattle.std.proofs.Common.{Err, IsTrue, ◌≡◌, ℕ, arith, ap, ◌∙◌, subst, sym, refl, ◌++◌, ◌∷◌, [], Some}
+use Rattle.std.proofs.Common.{Err, IsTrue, ◌≡◌, arith, ap, ◌∙◌, subst, sym, refl, ◌++◌, ◌∷◌, [], Some}
 use Rattle.std.proofs.lemmas.Bool.{false≢true}
 use Rattle.hall.specs.Calls.{view, start_of}
 use Rattle.notes.specs.Lists.{at}

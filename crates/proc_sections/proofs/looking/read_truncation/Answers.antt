@@ -2,6 +2,7 @@ use Rattle.engine_parts.specs.Stand.{ProcStands}
 use Rattle.std.proofs.Common.{◌≡◌, refl, sym, ap, subst, ◌∙◌, arith}
 use Rattle.hall.specs.Calls.{view, start_of}
 use Rattle.notes.specs.Lists.{at}
+use Rattle.tx_events.specs.Ids.{IsFullMulti, IsXidNumber}
 use Rattle.tx_events.specs.declared.record.Rec.TheVariants as records
 use Rattle.tx_events.specs.Horizon.{oldest_id}
 use Rattle.tx_core.specs.Entries.{history}
@@ -40,5 +41,11 @@ returns-clause-record g c =
     let long = e.entered.learns.long in
     let still = history_same (start_of c.args.hall.now) (view c.enter_proc-held.new.caller.pass) (view c.leave_looked.new.caller.pass) proc_lock _ refl (omega arith) c.leave_looked.ensures.left in
     let base : c.base-base.result ≡ (start_of c.args.hall.now).base = c.base-base.ensures ∙ (subst (λ l. ProcStands (start_of c.args.hall.now) l (at (view c.enter_proc-held.new.caller.pass).seen proc_lock)) (sym c.deref-table.ensures) c.enter_proc-held.ensures.stands).base in
-    let oldest : c.oldest.result ≡ oldest_id (start_of c.args.hall.now).base.oldest (history (view c.leave_looked.new.caller.pass).seen) = c.oldest.ensures ∙ (λ j. oldest_id ((subst (λ l. ProcStands (start_of c.args.hall.now) l (at (view c.enter_proc-held.new.caller.pass).seen proc_lock)) (sym c.deref-table.ensures) c.enter_proc-held.ensures.stands).base j).oldest (((subst (λ l. ProcStands (start_of c.args.hall.now) l (at (view c.enter_proc-held.new.caller.pass).seen proc_lock)) (sym c.deref-table.ensures) c.enter_proc-held.ensures.stands).events ∙ sym still) j)) in
+    let oldest : c.oldest-oldest.result ≡ oldest_id (start_of c.args.hall.now).base.oldest (history (view c.leave_looked.new.caller.pass).seen) = c.oldest-oldest.ensures ∙ (λ j. oldest_id ((subst (λ l. ProcStands (start_of c.args.hall.now) l (at (view c.enter_proc-held.new.caller.pass).seen proc_lock)) (sym c.deref-table.ensures) c.enter_proc-held.ensures.stands).base j).oldest (((subst (λ l. ProcStands (start_of c.args.hall.now) l (at (view c.enter_proc-held.new.caller.pass).seen proc_lock)) (sym c.deref-table.ensures) c.enter_proc-held.ensures.stands).events ∙ sym still) j)) in
     λ j. records.Truncate (oldest j) (base j).oldest_multi (base j).oldest_offset
+
+pub returns-clause-forms : goal.returns-clause-forms
+returns-clause-forms g c = (
+  subst IsXidNumber c.number-oldest.ensures.value c.number-oldest.ensures.form,
+  subst IsFullMulti c.number-multi.ensures.value c.number-multi.ensures.form,
+)

@@ -29,8 +29,8 @@ returns-in-Ok-clause-went g c =
     let e = c.read_truncation-rec.ensures in
     went_on old.number t.number (view old.pass).seen (view t.pass).seen (view w.pass).seen e.same.1 e.went c.append_truncation.ensures.went
 
-pub returns-in-Err-clause-went : goal.returns-in-Err-clause-went
-returns-in-Err-clause-went g c =
+pub returns-clause-went : goal.returns-clause-went
+returns-clause-went g c =
     let old = c.args.caller.now in
     let t = c.read_truncation-rec.new.caller in
     let w = c.append_truncation.new.caller in
@@ -53,8 +53,8 @@ returns-in-Ok-clause-adds g c =
     (look_adds start (view old.pass) (view t.pass) old.number old.session IsPlain c.requires.may.ready.at tt e.section)
     (append_adds start (view t.pass) (view w.pass) by' t.session rec c.append_truncation.result e.ready.at c.append_truncation.ensures.section)
 
-pub returns-in-Err-clause-adds : goal.returns-in-Err-clause-adds
-returns-in-Err-clause-adds g c =
+pub returns-clause-adds : goal.returns-clause-adds
+returns-clause-adds g c =
     let start = start_of c.args.hall.now in
     let old = c.args.caller.now in
     let t = c.read_truncation-rec.new.caller in

@@ -23,8 +23,8 @@ announce_oldest-requires-clause-laid g c = c.requires.step.laid
 pub announce_oldest-requires-clause-ready : goal.announce_oldest-requires-clause-ready
 announce_oldest-requires-clause-ready g c = (may_counted c.args.hall.now c.args.caller.now c.count.new.caller c.count.ensures c.requires).ready
 
-pub returns-in-Ok : goal.returns-in-Ok
-returns-in-Ok g c =
+pub returns-in-Ok-clause-ran : goal.returns-in-Ok-clause-ran
+returns-in-Ok-clause-ran g c =
     let old = c.args.caller.now in
     let u = c.count.new.caller in
     let w = c.announce_oldest.new.caller in
@@ -36,8 +36,8 @@ returns-in-Ok g c =
     (shared_adds start (view u.pass) (view w.pass) proc_lock _ (by_at u.number u.session.levels.commands) u.session (MayLeave (commands.Freeze oldest) (stance_of u.session) u.session.stage (open_ids u.number (history (view u.pass).seen)) replies.Done) (omega arith) may.ready.at e.section refl tt)
     tt refl refl refl refl refl refl
 
-pub returns-in-Err : goal.returns-in-Err
-returns-in-Err g c =
+pub returns-in-Err-clause-ran : goal.returns-in-Err-clause-ran
+returns-in-Err-clause-ran g c =
     let old = c.args.caller.now in
     let u = c.count.new.caller in
     let w = c.announce_oldest.new.caller in
@@ -50,3 +50,6 @@ returns-in-Err g c =
     ran_read c.args.hall.now old u w (commands.Freeze oldest) reply c.count.ensures c.requires e.own e.ready e.announces.0 e.same.0 e.same.1 refl
     (look_adds start (view u.pass) (view w.pass) u.number u.session (MayLeave (commands.Freeze oldest) (stance_of u.session) u.session.stage (open_ids u.number (history (view u.pass).seen)) reply) may.ready.at tt e.section)
     answer.0 answer.1 refl refl refl refl answer.1
+
+pub returns-in-Err-clause-refused : goal.returns-in-Err-clause-refused
+returns-in-Err-clause-refused g c = c.in-Err.ensures.announces.1

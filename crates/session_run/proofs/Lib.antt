@@ -1,2 +1,3 @@
 mod ToolEnds
 mod Running
+mod Counted

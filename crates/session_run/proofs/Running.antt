@@ -4,6 +4,7 @@ use Rattle.std.proofs.KnownBytes.{Appends-trans}
 use Rattle.std.proofs.lemmas.Bool.{false≢true}
 use Rattle.tx_events.specs.Base.{first_base}
 use Rattle.std.specs.Io.KnownBytes.{Appends}
+use Rattle.std.specs.List.{flat_map}
 use Rattle.disk_core.specs.declared.log_disk.LogDisk as logs
 use Rattle.disk_core.specs.declared.page_disk.PageDisk as disks
 use Rattle.disk_core.specs.declared.media.Crash.{Crash}
@@ -21,11 +22,12 @@ use Rattle.life_law.specs.LawfulLife.{IsLawfulLife}
 use Rattle.log_bases.specs.LifeBase.{LifeBase, base_after}
 use Rattle.lives_law.specs.Lives.{GoesBehind, GoesOnFrom, base_of}
 use Rattle.lives_law.proofs.GoingOn.{behind_push, goes_on_at}
-use Rattle.report_text.specs.ReportText.{end_text, report_text}
+use Rattle.report_text.specs.ReportText.{end_text, report_text, rest_text, step_text}
+use Rattle.script_rounds.specs.declared.keeper.LineKeeper as keepers
 use Rattle.session_lang.specs.declared.script.Item.{Item}
 use Rattle.session_lang.specs.declared.script.Script.{Script}
 use Rattle.session_lang.specs.Rounds.{asked_of}
-use Rattle.run_law.specs.Lives.{AreRunLives, LifePart, last_text, life_rest, parts_of, text_so_far}
+use Rattle.run_law.specs.Lives.{AreRunLives, IsFrontOf, LifePart, last_text, parts_of, text_so_far}
 use Rattle.run_law.specs.Tool.{IsReportOf}
 use Rattle.run_law.proofs.RunLives.{run_lives_push, so_far_push, whole_text}
 use Rattle.recoverable.specs.Fit.{KeptLog, base_at}
@@ -33,10 +35,10 @@ use Rattle.engine_host.specs.declared.cluster.Cluster.{Cluster}
 use Rattle.engine_host.specs.Opening.{Beginning, nothing_before}
 use Rattle.engine_life.specs.declared.closed.ClosedLife.{ClosedLife}
 use Rattle.engine_life.specs.declared.life.OpenLife.{OpenLife}
-use Rattle.engine_life.specs.Lives.{IsNewLife, volumes_left}
+use Rattle.engine_life.specs.Lives.{IsNewLife, number_of, volumes_left}
 use Rattle.engine_life.specs.Reopening.{IsBaseAt, behind}
 use Rattle.life_run.specs.Causes.{HaveCauses}
-use Rattle.life_run.specs.Leaves.{IsOpened, life_of}
+use Rattle.life_run.specs.Leaves.{HasRunLife, life_of}
 use Rattle.life_run.specs.Parts.{report_of}
 use Rattle.life_run.specs.Records.{BankHolds, FitLife}
 use Rattle.session_run.specs.declared.text.LifeText.{LifeText}
@@ -52,6 +54,18 @@ none_of (x ∷ xs) e = absurd (omega (arith, e))
 push_some : {X : Type 0} (xs : List X) (x : X) → xs ++ x ∷ [] ≡ [] → ⊥
 push_some [] x e = cc
 push_some (y ∷ xs) x e = cc
+
+-- what was kept of a life's lines is its text
+pub told_life : {L P : Type 0} (l : logs.Ghosts L) (p : disks.Ghosts P) (keep : keepers.Ghosts (List ℕ)) (c : Cluster) (b : Beginning) (faults : List ℕ) (mounted : Volumes L P) (names : List (List ℕ)) (its : List Item) (number : ℕ) (crash : Option How) (closed : ClosedLife L P l) (kept : List ℕ) (base : Counters) (text : LifeText)
+    → (ran : HasRunLife keep c b faults mounted names its [] kept closed) → kept ≡ flat_map (step_text names) ran.steps → base ≡ c.base → IsFrontOf number (number_of closed) base text.front
+    → text.rest ≡ kept ++ (rest_text names (life_of c b closed) crash ++ last_text crash) → IsToldLife l p names its number crash c b mounted closed text
+told_life l p keep c b faults mounted names its number crash closed kept base text ran told same front rest = record {
+  steps = ran.steps;
+  lived = ran.lived;
+  left = ran.left;
+  front = subst (λ (x : ℕ × Counters). IsFrontOf number x.0 x.1 text.front) (λ j. (ran.number j, same j)) front;
+  rest = rest ∙ ap (λ (t : List ℕ). t ++ (rest_text names (life_of c b closed) crash ++ last_text crash)) told;
+}
 
 -- the log that the volumes fit, where they tell
 pub kept_of : (tells : Bool) → (IsTrue tells → KeptLog) → KeptLog

@@ -50,13 +50,16 @@ module _ {P : Type 0} (p : disks.Ghosts P) where
 
 -- ---- what a later life goes on from
 
--- The log that volumes fit at a life's end has the life's records last, and what stands before them gives its base.
+-- The log that volumes fit at a life's end has the records last that stand behind the life's checkpoint, and what stands
+-- before them gives its base. All that the life's report tells as flushed is.
 pub record EndsWithLife (life : Life) (kept : KeptLog) : Type 0 where
-  pub earlier : List Rec
-  pub recs : kept.recs ≡ earlier ++ life.recs
-  pub number : kept.first + length earlier ≡ life.from
-  pub base : base_after kept.base earlier ≡ base_of life
-  pub flushed : kept.flushed ≡ life.flushed
+  pub past : List Rec
+  pub own : List Rec
+  pub recs : kept.recs ≡ past ++ own
+  pub number : kept.first + length past ≡ life.from + 1
+  pub base : base_after kept.base past ≡ base_of life
+  pub checkpoint : life.recs ≡ records.Checkpoint life.from life.base ∷ own
+  pub flushed : life.flushed ≤ kept.flushed
 
 module _ {L P : Type 0} (l : logs.Ghosts L) (p : disks.Ghosts P) where
   -- The volumes fit such a log: whatever a crash leaves of them, recovery answers the base at a number of it, from the

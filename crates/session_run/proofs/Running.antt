@@ -169,8 +169,8 @@ module _ {L P : Type 0} {l : logs.Ghosts L} {p : disks.Ghosts P} (s : Script) (f
         let whole : base_of next ≡ base_at k number =
         base ∙ (λ i. record { counters = goes.goes.cluster.base; committed = (behind (tells i) (same i) number).committed; recorded = (behind (tells i) (same i) number).recorded })
         ∙ (λ i. record { counters = sym at_k.counters_are i; committed = (base_at k number).committed; recorded = (base_at k number).recorded }) in
-        goes_on_at r.life next k.base k.first ends.earlier ends.number ends.base (omega (arith, lasting)) (omega (arith, flushed, on_disk, from)) (omega (arith, upto, recs, from))
-        (whole ∙ ap (λ (t : List Rec). base_after k.base (take (number - k.first) t)) ends.recs ∙ ap (λ n. base_after k.base (take (n - k.first) (ends.earlier ++ r.life.recs))) (sym from))
+        goes_on_at r.life next k.base k.first ends.past ends.own ends.checkpoint ends.number ends.base lasting (omega (arith, flushed, on_disk, from)) (omega (arith, upto, recs, from))
+        (whole ∙ ap (λ (t : List Rec). base_after k.base (take (number - k.first) t)) ends.recs ∙ ap (λ n. base_after k.base (take (n - k.first) (ends.past ++ ends.own))) (sym from))
 
     pub running_on : (IsTrue p.tells → (fit : FitLife l p r.life left.log left.xact.items) × (kept ≡ fit.kept)) → IsRunning s begun falls (done ++ part ∷ []) (lives ++ r ∷ []) life
     running_on fit = record {

@@ -156,9 +156,15 @@ module _ {L P : Type 0} (l : logs.Ghosts L) (p : disks.Ghosts P) where
 
 -- ---- what is written, and then the last text
 
+rose_up : (a b c : ℕ) → Rose a b → b ≤ c → Rose a c
+rose_up a b c r le = grind arith
+
+rose_down : (a b c : ℕ) → a ≤ b → Rose b c → Rose a c
+rose_down a b c le r = grind arith
+
 module _ (held mid new : Option (List ℕ)) (faults between now : ℕ) (later : faults ≤ between) (then : between ≤ now) where
   rose_more : Rose faults between → Rose faults now
-  rose_more r = omega (arith, r, then)
+  rose_more r = rose_up faults between now r then
 
   pub written_on : (written : List ℕ) (e : Ending) → HasWritten held mid faults between written e → Appends mid new (text_of e) → HasWritten held new faults now (written ++ text_of e) e
   written_on written endings.WriteFault w f = (rose_more w.0, w.1, subst (Appends held new) (append-nil (take w.1 written) ∙ ap (take w.1) (sym (append-nil written))) (Appends-trans held mid new (take w.1 written) [] w.2 f))
@@ -171,6 +177,13 @@ module _ (held mid new : Option (List ℕ)) (faults between now : ℕ) (later : 
   written_on written (endings.Damaged text) w f = Appends-trans held mid new written text.items w f
   written_on written endings.Full w f = Appends-trans held mid new written (text_of endings.Full) w f
   written_on written endings.OldLog w f = Appends-trans held mid new written (text_of endings.OldLog) w f
+
+  -- so with its status, or the sink failed
+  pub told_on : (written : List ℕ) (status : ℕ) (e : Ending) → HasWritten held mid faults between written e → ((status ≡ status_of e) × Appends mid new (text_of e)) ⊎ ((status ≡ 4) × Rose between now)
+      → ((status ≡ status_of e) × HasWritten held new faults now (written ++ text_of e) e) ⊎ ((status ≡ 4) × Rose faults now)
+  told_on written status e w k = ⊎_elim
+      (λ (a : (status ≡ status_of e) × Appends mid new (text_of e)). inl (a.0, written_on written e w a.1))
+      (λ (b : (status ≡ 4) × Rose between now). inr (b.0, rose_down faults between now later b.1)) k
 
   front_behind : (written text : List ℕ) (k : ℕ) → Appends held mid written → Appends mid new (take k text) → (n : ℕ) × Appends held new (take n (written ++ text))
   front_behind written text k w f = (length written + k, subst (Appends held new) (sym (take-append-add written text k)) (Appends-trans held mid new written (take k text) w f))

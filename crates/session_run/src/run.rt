@@ -166,6 +166,7 @@ where
     ensures idle { EndsIdle result → IsTrue (M.is_idle media.new) }
     ensures used { EndsIdle result → M.is_new media.new ≡ false }
     ensures count { M.faults media.old ≤ M.faults media.new }
+    ensures sink { K.faults sink.old ≤ K.faults sink.new }
 {
     let names = &script.names;
     let (closed, told) = tell_life(rt, alloc, life, names, part, number, crash, threads);
@@ -220,6 +221,7 @@ where
     ensures stopped { IfErr result (IsStopped M.Log.LogDisk M.Pages.PageDisk (MayBeFirst (M.begins media.old)) M.falls
         (M.faults media.old) (M.faults media.new) (M.gives media.new) script.now (K.held sink.old) (K.held sink.new)
         (K.faults sink.old) (K.faults sink.new)) }
+    ensures sink { K.faults sink.old ≤ K.faults sink.new }
 {
     let mut life = match open_life(alloc, media, cluster_of(script)) {
         Ok(life) => life,

@@ -44,6 +44,7 @@ where
         (S.faults source.old) (S.faults source.new) (MayBeFirst (M.begins media.old)) M.falls
         (M.faults media.old) (M.faults media.new) (M.gives media.new) written result
         × HasWritten (K.held sink.old) (K.held sink.new) (K.faults sink.old) (K.faults sink.new) written result }
+    ensures sink { K.faults sink.old ≤ K.faults sink.new }
     ensures later { S.faults source.old ≤ S.faults source.new }
     ensures amount { ReadsUpTo most_read (S.left source.old) (S.left source.new) }
     ensures idle { IsTrue (M.is_idle media.new) }
@@ -117,6 +118,7 @@ where
         (S.faults source.old) (S.faults source.new) (MayBeFirst (M.begins media.old)) M.falls
         (M.faults media.old) (M.faults media.new) (M.gives media.new) written result
         × HasWritten (K.held sink.old) (K.held sink.new) (K.faults sink.old) (K.faults sink.new) written result }
+    ensures sink { K.faults sink.old ≤ K.faults sink.new }
     ensures later { S.faults source.old ≤ S.faults source.new }
     ensures amount { ReadsUpTo most_read (S.left source.old) (S.left source.new) }
     ensures untouched { (task ≡ tasks.Run → ⊥) → source.new ≡ source.old }
@@ -136,6 +138,7 @@ fn finish<K: Sink>(sink: &mut K, text: &[u8], status: u8) -> u8
     ensures ends { ((result ≡ status) × Appends (K.held sink.old) (K.held sink.new) text.now)
         ⊎ ((result ≡ 4) × Rose (K.faults sink.old) (K.faults sink.new)) }
     ensures front { (n : ℕ) × Appends (K.held sink.old) (K.held sink.new) (take n text.now) }
+    ensures later { K.faults sink.old ≤ K.faults sink.new }
 {
     match write_all(sink, text) {
         Ok(()) => status,
@@ -148,6 +151,7 @@ fn put_ending<K: Sink>(sink: &mut K, ending: Ending) -> u8
     ensures ends { ((result ≡ status_of ending) × Appends (K.held sink.old) (K.held sink.new) (text_of ending))
         ⊎ ((result ≡ 4) × Rose (K.faults sink.old) (K.faults sink.new)) }
     ensures front { (n : ℕ) × Appends (K.held sink.old) (K.held sink.new) (take n (text_of ending)) }
+    ensures later { K.faults sink.old ≤ K.faults sink.new }
 {
     finish(sink, ending.text(), ending.status())
 }

@@ -52,11 +52,11 @@ module _ {L P : Type 0} (l : logs.Ghosts L) (p : disks.Ghosts P) where
         → BankHolds p (life_of c b closed) c.banks bank (volumes_left closed).xact.items
     pub causes : HaveCauses l p steps mounted (volumes_left closed)
 
-module _ {K L P : Type 0} {l : logs.Ghosts L} {p : disks.Ghosts P} (k : keepers.Ghosts K) where
+module _ {K L P : Type 0} (l : logs.Ghosts L) (p : disks.Ghosts P) (k : keepers.Ghosts K) where
   -- The life that began so ran these items, was lawful, and was kept behind what was kept first.
-  pub record HasRunLife (c : Cluster) (b : Beginning) (faults : List ℕ) (mounted : Volumes L P) (names : List (List ℕ)) (items : List Item) (first kept : K) (closed : ClosedLife L P l) : Type 0 where
+  pub record HasRunLife (c : Cluster) (b : Beginning) (mounted : Volumes L P) (names : List (List ℕ)) (its : List Item) (first kept : K) (closed : ClosedLife L P l) : Type 0 where
     pub steps : List Step
-    pub lived : HasLived p.tells c.banks items (life_of c b closed) steps
+    pub lived : HasLived p.tells c.banks its (life_of c b closed) steps
     pub kept_is : kept ≡ with_steps k names first steps
     pub number : number_of closed ≡ b.number
     pub left : HasLeft l p c b mounted steps closed

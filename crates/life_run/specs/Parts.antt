@@ -27,10 +27,10 @@ use Rattle.session_promise.specs.Told.{ToldRound, steps_of}
 use Rattle.life_run.specs.GoesOn.{GoesOn}
 
 -- items that a life of so many sessions can run
-pub record IsTakenPart (sessions : ℕ) (items : List Item) : Type 0 where
-  pub items : All (MayRun sessions) items
-  pub few : length items ≤ 2 ^ 24
-  pub levels : HasFewLevels items
+pub record IsTakenPart (sessions : ℕ) (its : List Item) : Type 0 where
+  pub items : All (MayRun sessions) its
+  pub few : length its ≤ 2 ^ 24
+  pub levels : HasFewLevels its
 
 module _ {K : Type 0} (k : keepers.Ghosts K) where
   -- what is kept with these steps more
@@ -76,6 +76,6 @@ report_of life told crash = record { life = life; steps = told; crash = crash }
 
 -- A life that was asked for these items, with these steps, is lawful, however it ended, and has no more lines than a script
 -- may have.
-pub record HasLived (tells : Bool) (banks : ℕ) (items : List Item) (life : Life) (told : List Step) : Type 0 where
-  pub lawful : (crash : Option How) → IsLawfulLife tells banks (asked_of items) (report_of life told crash)
+pub record HasLived (tells : Bool) (banks : ℕ) (its : List Item) (life : Life) (told : List Step) : Type 0 where
+  pub lawful : (crash : Option How) → IsLawfulLife tells banks (asked_of its) (report_of life told crash)
   pub few : length (flat_map lines_in told) ≤ 2 ^ 24

@@ -221,7 +221,7 @@ pub fn run_rounds<
     ensures host { IsHost hall.now host.new }
     ensures all { HoldsAllBut host.new [] }
     ensures ran { OnOk result ((sessions : List Session) × HasRun K.LineKeeper hall.now host.new sessions names.now
-        (asked_of part) kept.old kept.new) }
+        (asked_of part.entry) kept.old kept.new) }
 {
     let mut sessions = new_sessions(alloc, host.cluster.sessions)?;
     life_begins(hall);

@@ -54,7 +54,7 @@ pub fn run_life<
     requires may { MayRunIn (length names.now) life }
     ensures ran { (c : Cluster) (b : Beginning) (faults : List ℕ) (mounted : Volumes L P)
         → IsOpened c b faults mounted life
-        → OnOk result.1 (HasRunLife K.LineKeeper c b faults mounted names.now part kept.old kept.new result.0) }
+        → OnOk result.1 (HasRunLife L.LogDisk P.PageDisk K.LineKeeper c b mounted names.now part.entry kept.old kept.new result.0) }
 {
     let mut life = life;
     life_ends(&life.hall);

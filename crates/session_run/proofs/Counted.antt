@@ -1,5 +1,5 @@
 -- A script without a crash: its one life, and the counts of it.
-use Rattle.std.proofs.Common.{Bool, IsTrue, List, None, [], ap, arith, length, refl, subst, sym, ℕ, ◌∙◌, ◌∷◌, ◌<◌, ◌≡◌, ◌≤◌}
+use Rattle.std.proofs.Common.{Bool, List, None, [], ap, arith, length, refl, subst, sym, ℕ, ◌∙◌, ◌∷◌, ◌<◌, ◌≡◌, ◌≤◌}
 use Rattle.std.proofs.lemmas.List.Elements.{recursion_from_All}
 use Rattle.std.proofs.lemmas.List.Sums.{count_by-le-length}
 use Rattle.std.specs.List.{flat_map}
@@ -28,7 +28,7 @@ use Rattle.engine_life.specs.declared.life.OpenLife.{OpenLife}
 use Rattle.engine_life.specs.Lives.{IsNewLife, volumes_left}
 use Rattle.life_run.specs.Leaves.{HasLeft, IsOpened, life_of}
 use Rattle.life_run.specs.Parts.{HasLived, report_of}
-use Rattle.life_run.specs.Records.{BankHolds, FitLife}
+use Rattle.life_run.specs.Records.{BankHolds}
 use Rattle.session_run.specs.Leaves.{LeavesVolumes}
 use Rattle.session_run.specs.Runs.{IsTakenAlone}
 
@@ -70,9 +70,8 @@ counts_told tells s life ss text commands verdicts taken lived begins many told 
 -- and the media has what the life left
 pub left_alone : {L P : Type 0} (l : logs.Ghosts L) (p : disks.Ghosts P) (c : Cluster) (faults : List ℕ) (mounted : Volumes L P) (opened : OpenLife L P l p) (closed : ClosedLife L P l) (steps : List Step) (first : Volumes L P → Type 0) (falls : Crash → Volumes L P → Volumes L P → Type 0) (gives : Volumes L P → Type 0)
     → IsOpened c nothing_before faults mounted opened → first mounted → Only (volumes_left closed) gives → HasLeft l p c nothing_before mounted steps closed
-    → (IsTrue l.tells → IsTrue p.tells → FitLife l p (life_of c nothing_before closed) (volumes_left closed).log (volumes_left closed).xact.items)
     → LeavesVolumes l p first falls gives (report_of (life_of c nothing_before closed) steps None ∷ [])
-left_alone l p c faults mounted opened closed steps first falls gives is began only left fit =
+left_alone l p c faults mounted opened closed steps first falls gives is began only left =
     let banks : length mounted.xact.items ≡ c.banks = is.banks.xact in
     record {
       before = [];
@@ -86,7 +85,6 @@ left_alone l p c faults mounted opened closed steps first falls gives is began o
         mounted = mounted;
         comes = refl;
         causes = left.causes;
-        fit = fit;
         log = λ none. left.log refl;
         states = λ none told bank low. subst (λ n. BankHolds p (life_of c nothing_before closed) n bank (volumes_left closed).xact.items) (sym banks) (left.states refl told bank (omega (arith, low, banks)));
       };

@@ -1,8 +1,6 @@
 -- A run goes on from life to life.
-use Rattle.std.proofs.Common.{Bool, false, IsTrue, List, None, Option, Some, IfSome, [], ap, append_assoc, arith, length, refl, subst, sym, true, ℕ, ◌++◌, ◌+◌, ◌-◌, ◌<◌, ◌∙◌, ◌∷◌, ◌≡◌, ◌≤◌, take}
+use Rattle.std.proofs.Common.{List, None, Option, Some, IfSome, [], ap, arith, length, refl, subst, sym, ℕ, ◌++◌, ◌+◌, ◌-◌, ◌∙◌, ◌∷◌, ◌≡◌}
 use Rattle.std.proofs.KnownBytes.{Appends-trans}
-use Rattle.std.proofs.lemmas.Bool.{false≢true}
-use Rattle.tx_events.specs.Base.{first_base}
 use Rattle.std.specs.Io.KnownBytes.{Appends}
 use Rattle.std.specs.List.{flat_map}
 use Rattle.disk_core.specs.declared.log_disk.LogDisk as logs
@@ -10,18 +8,13 @@ use Rattle.disk_core.specs.declared.page_disk.PageDisk as disks
 use Rattle.disk_core.specs.declared.media.Crash.{Crash}
 use Rattle.disk_core.specs.declared.media.Volumes.{Volumes}
 use Rattle.disk_core.specs.Images.{Only}
-use Rattle.disk_core.specs.Media.{HasBanks}
 use Rattle.tx_events.specs.declared.record.Counters.{Counters}
-use Rattle.tx_events.specs.declared.record.Rec.{Rec}
 use Rattle.tx_model.specs.declared.report.How.{How}
 use Rattle.tx_model.specs.declared.report.Life.{Life}
 use Rattle.tx_model.specs.declared.report.LifeReport.{LifeReport}
 use Rattle.tx_model.specs.declared.report.Report.{Report}
 use Rattle.tx_model.specs.Rounds.{BeginsLog}
 use Rattle.life_law.specs.LawfulLife.{IsLawfulLife}
-use Rattle.log_bases.specs.LifeBase.{LifeBase, base_after}
-use Rattle.lives_law.specs.Lives.{GoesBehind, GoesOnFrom, base_of}
-use Rattle.lives_law.proofs.GoingOn.{behind_push, goes_on_at}
 use Rattle.report_text.specs.ReportText.{end_text, report_text, rest_text, step_text}
 use Rattle.script_rounds.specs.declared.keeper.LineKeeper as keepers
 use Rattle.session_lang.specs.declared.script.Item.{Item}
@@ -30,19 +23,18 @@ use Rattle.session_lang.specs.Rounds.{asked_of}
 use Rattle.run_law.specs.Lives.{AreRunLives, IsFrontOf, LifePart, last_text, parts_of, text_so_far}
 use Rattle.run_law.specs.Tool.{IsReportOf}
 use Rattle.run_law.proofs.RunLives.{run_lives_push, so_far_push, whole_text}
-use Rattle.recoverable.specs.Fit.{KeptLog, base_at}
 use Rattle.engine_host.specs.declared.cluster.Cluster.{Cluster}
 use Rattle.engine_host.specs.Opening.{Beginning, nothing_before}
 use Rattle.engine_life.specs.declared.closed.ClosedLife.{ClosedLife}
 use Rattle.engine_life.specs.declared.life.OpenLife.{OpenLife}
 use Rattle.engine_life.specs.Lives.{IsNewLife, number_of, volumes_left}
-use Rattle.engine_life.specs.Reopening.{IsBaseAt, behind}
+use Rattle.engine_life.specs.Reopening.{behind}
 use Rattle.life_run.specs.Causes.{HaveCauses}
 use Rattle.life_run.specs.Leaves.{HasRunLife, life_of}
 use Rattle.life_run.specs.Parts.{report_of}
-use Rattle.life_run.specs.Records.{BankHolds, FitLife}
+use Rattle.life_run.specs.Records.{BankHolds}
 use Rattle.session_run.specs.declared.text.LifeText.{LifeText}
-use Rattle.session_run.specs.Going.{GoesOn, IsPartTold, IsRunning, IsToldLife, part_of}
+use Rattle.session_run.specs.Going.{IsPartTold, IsRunning, IsToldLife, part_of}
 use Rattle.session_run.specs.Leaves.{LeavesVolumes}
 use Rattle.session_run.specs.Lives.{ComesTo, HasFallen}
 use Rattle.session_run.specs.Runs.{cluster_of}
@@ -66,18 +58,6 @@ told_life l p keep c b faults mounted names its number crash closed kept base te
   front = subst (λ (x : ℕ × Counters). IsFrontOf number x.0 x.1 text.front) (λ j. (ran.number j, same j)) front;
   rest = rest ∙ ap (λ (t : List ℕ). t ++ (rest_text names (life_of c b closed) crash ++ last_text crash)) told;
 }
-
--- the log that the volumes fit, where they tell
-pub kept_of : (tells : Bool) → (IsTrue tells → KeptLog) → KeptLog
-kept_of true f = f refl
-kept_of false f = record { base = record { counters = first_base; committed = []; recorded = [] }; first = 0; recs = []; flushed = 0 }
-
-pub kept_is : (tells : Bool) (f : IsTrue tells → KeptLog) (told : IsTrue tells) → kept_of tells f ≡ f told
-kept_is true f told = ap f (same_true refl told)
-  where
-    same_true : (x y : true ≡ true) → x ≡ y
-    same_true x y = cc
-kept_is false f told = absurd (false≢true told)
 
 module _ {L P : Type 0} {l : logs.Ghosts L} {p : disks.Ghosts P} (s : Script) (falls : Crash → Volumes L P → Volumes L P → Type 0) where
   -- a life over a new log is the first one
@@ -118,9 +98,8 @@ module _ {L P : Type 0} {l : logs.Ghosts L} {p : disks.Ghosts P} (s : Script) (f
         }
 
     pub part_told : (held held' : Option (List ℕ)) → Appends held held' (text.front ++ text.rest)
-        → (IsTrue l.tells → IsTrue p.tells → FitLife l p told_of.life (volumes_left closed).log (volumes_left closed).xact.items)
         → IsPartTold l p s begun falls done lives (part_of its crash) held held' told_of (volumes_left closed)
-    part_told held held' wrote fit = record {
+    part_told held held' wrote = record {
       are = run_lives_push p.tells s done lives (part_of its crash) told_of run.are lawful refl first (λ tells. run.behind tells told_of.life refl refl);
       lawful = lawful;
       crash_is = refl;
@@ -133,7 +112,6 @@ module _ {L P : Type 0} {l : logs.Ghosts L} {p : disks.Ghosts P} (s : Script) (f
         mounted = run.mounted;
         comes = run.comes;
         causes = told.left.causes;
-        fit = fit;
         log = λ none tells. told.left.log (run.new none).1 tells;
         states = λ none tells bank low.
             let banks = run.opened.banks.xact in
@@ -143,57 +121,9 @@ module _ {L P : Type 0} {l : logs.Ghosts L} {p : disks.Ghosts P} (s : Script) (f
 
   -- ---- a crash, and the next life
 
-  comes_push : (lives : List LifeReport) (r : LifeReport) (begun mounted left next : Volumes L P) → ComesTo l p falls lives begun mounted → HaveCauses l p r.steps mounted left → IfSome r.crash (λ how. HasFallen l p falls how left next) → ComesTo l p falls (lives ++ r ∷ []) begun next
+  pub comes_push : (lives : List LifeReport) (r : LifeReport) (begun mounted left next : Volumes L P) → ComesTo l p falls lives begun mounted → HaveCauses l p r.steps mounted left → IfSome r.crash (λ how. HasFallen l p falls how left next) → ComesTo l p falls (lives ++ r ∷ []) begun next
   comes_push [] r begun mounted left next comes causes fell = (left, next, subst (λ (v : Volumes L P). HaveCauses l p r.steps v left) comes causes, fell, refl)
   comes_push (q ∷ lives) r begun mounted left next comes causes fell = (comes.0, comes.1, comes.2, comes.3, comes_push lives r comes.1 mounted left next comes.4 causes fell)
-
-  module _ (begun : Volumes L P) (done : List LifePart) (lives : List LifeReport) (part : LifePart) (held held' : Option (List ℕ)) (r : LifeReport) (left : Volumes L P) (told : IsPartTold l p s begun falls done lives part held held' r left)
-      (how : How) (crash : part.crash ≡ Some how) (life : OpenLife L P l p) (kept : KeptLog) (goes : GoesOn l p falls how kept s.banks (length s.names) left life) where
-    banks : goes.goes.cluster.banks ≡ s.banks
-    banks = goes.goes.banks ∙ goes.banks_are.xact
-
-    -- where the volumes tell the life goes on from the one before
-    from_last : (fit : FitLife l p r.life left.log left.xact.items) → kept ≡ fit.kept → p.tells ≡ true → (next : Life) → next.from ≡ goes.goes.number
-        → base_of next ≡ record { counters = goes.goes.cluster.base; committed = (behind p.tells kept goes.goes.number).committed; recorded = (behind p.tells kept goes.goes.number).recorded }
-        → IsBaseAt kept goes.goes.number goes.goes.cluster.base → GoesOnFrom r.life next
-    from_last fit same tells next from base at =
-        let k = fit.kept in
-        let number = goes.goes.number in
-        let ends = fit.ends in
-        let lasting = told.lawful.log.begun in
-        let at_k = subst (λ (q : KeptLog). IsBaseAt q number goes.goes.cluster.base) same at in
-        let recs = ap (λ (t : List Rec). length t) ends.recs in
-        let flushed = at_k.flushed in
-        let on_disk = ends.flushed in
-        let upto = at_k.upto in
-        let whole : base_of next ≡ base_at k number =
-        base ∙ (λ i. record { counters = goes.goes.cluster.base; committed = (behind (tells i) (same i) number).committed; recorded = (behind (tells i) (same i) number).recorded })
-        ∙ (λ i. record { counters = sym at_k.counters_are i; committed = (base_at k number).committed; recorded = (base_at k number).recorded }) in
-        goes_on_at r.life next k.base k.first ends.past ends.own ends.checkpoint ends.number ends.base lasting (omega (arith, flushed, on_disk, from)) (omega (arith, upto, recs, from))
-        (whole ∙ ap (λ (t : List Rec). base_after k.base (take (number - k.first) t)) ends.recs ∙ ap (λ n. base_after k.base (take (n - k.first) (ends.past ++ ends.own))) (sym from))
-
-    pub running_on : (IsTrue p.tells → (fit : FitLife l p r.life left.log left.xact.items) × (kept ≡ fit.kept)) → IsRunning s begun falls (done ++ part ∷ []) (lives ++ r ∷ []) life
-    running_on fit = record {
-      are = told.are;
-      cluster = goes.goes.cluster;
-      begins = behind p.tells kept goes.goes.number;
-      faults = goes.goes.faults;
-      mounted = goes.mounted;
-      banks = banks;
-      sessions = goes.goes.sessions_are;
-      opened = record {
-        banks = subst (λ n. HasBanks n goes.mounted) (sym banks) goes.banks_are;
-        counted = goes.goes.counted;
-        begun = goes.goes.begun;
-        offsets = goes.goes.offsets;
-        members = goes.goes.members;
-      };
-      comes = comes_push lives r begun told.last.mounted left goes.mounted told.last.comes told.last.causes (subst (λ (c : Option How). IfSome c (λ h. HasFallen l p falls h left goes.mounted)) (sym crash ∙ sym told.crash_is) goes.fallen);
-      new = λ none. absurd (push_some lives r none);
-      behind = λ tells next from base.
-          let f = fit tells in
-          behind_push lives r next (from_last f.0 f.1 tells next from base (goes.goes.base tells));
-    }
 
   -- ---- the last part
 

@@ -7,12 +7,12 @@ use Rattle.disk_core.specs.declared.media.Volumes.{Volumes}
 use Rattle.disk_core.specs.Images.{Only}
 use Rattle.tx_model.specs.declared.report.LifeReport.{LifeReport}
 use Rattle.life_run.specs.Causes.{HaveCauses}
-use Rattle.life_run.specs.Records.{BankHolds, FitLife, LogHolds}
+use Rattle.life_run.specs.Records.{BankHolds, LogHolds}
 use Rattle.session_run.specs.Lives.{ComesTo}
 
 module _ {L P : Type 0} (l : logs.Ghosts L) (p : disks.Ghosts P) where
   -- The lives before the last one came from those volumes to the ones that this one mounted and left so. None counted fewer
-  -- faults in a life than any one session's commands were told of. If all tell what they hold, they fit the last life's log.
+  -- faults in a life than any one session's commands were told of.
   --
   -- Of a run of one life: the log's volume has the records, if it tells what it holds, and those of pg_xact say committed
   -- only of what is on disk there, if they tell.
@@ -20,7 +20,6 @@ module _ {L P : Type 0} (l : logs.Ghosts L) (p : disks.Ghosts P) where
     pub mounted : Volumes L P
     pub comes : ComesTo l p falls before begun mounted
     pub causes : HaveCauses l p last.steps mounted left
-    pub fit : IsTrue l.tells → IsTrue p.tells → FitLife l p last.life left.log left.xact.items
     pub log : before ≡ [] → IsTrue l.tells → LogHolds l last.life left.log
     pub states : before ≡ [] → IsTrue p.tells → (bank : ℕ) → bank < length mounted.xact.items
         → BankHolds p last.life (length mounted.xact.items) bank left.xact.items

@@ -81,7 +81,7 @@ fn tell_life<
     requires may { MayRunIn (length names.now) life }
     ensures told { (c : Clustered) (b : Beginning) (faults : List ℕ) (mounted : Mounted L P)
         → IsOpened c b faults mounted life
-        → IfOk result.1 (IsToldLife L.LogDisk P.PageDisk names.now part number crash c b mounted result.0) }
+        → IfOk result.1 (IsToldLife L.LogDisk P.PageDisk names.now part.entry number crash c b mounted result.0) }
 {
     let base = life.host.cluster.base.same();
     let mut rest = Text::new(alloc);
@@ -160,7 +160,7 @@ where
     requires tells { IsTrue M.Pages.tells → IsTrue M.Log.tells }
     ensures went { (begun : Mounted M.Log M.Pages) (done : List LifePart) (lives : List LifeReport)
         → IsRunning script.now begun M.falls done lives life → number ≡ length lives + 1
-        → PartWent M.Log.LogDisk M.Pages.PageDisk script.now begun M.falls done lives (part_of part crash)
+        → PartWent M.Log.LogDisk M.Pages.PageDisk script.now begun M.falls done lives (part_of part.entry crash)
         (K.held sink.old) (K.held sink.new) (K.faults sink.old) (K.faults sink.new)
         (M.faults media.old) (M.faults media.new) (M.gives media.new) result }
     ensures idle { EndsIdle result → IsTrue (M.is_idle media.new) }

@@ -28,7 +28,6 @@ use Rattle.engine_host.specs.Opening.{Beginning, nothing_before}
 use Rattle.engine_life.specs.declared.closed.ClosedLife.{ClosedLife}
 use Rattle.engine_life.specs.declared.life.OpenLife.{OpenLife}
 use Rattle.engine_life.specs.Lives.{IsNewLife, number_of, volumes_left}
-use Rattle.engine_life.specs.Reopening.{behind}
 use Rattle.life_run.specs.Causes.{HaveCauses}
 use Rattle.life_run.specs.Leaves.{HasRunLife, life_of}
 use Rattle.life_run.specs.Parts.{report_of}
@@ -48,10 +47,10 @@ push_some [] x e = cc
 push_some (y ∷ xs) x e = cc
 
 -- what was kept of a life's lines is its text
-pub told_life : {L P : Type 0} (l : logs.Ghosts L) (p : disks.Ghosts P) (keep : keepers.Ghosts (List ℕ)) (c : Cluster) (b : Beginning) (faults : List ℕ) (mounted : Volumes L P) (names : List (List ℕ)) (its : List Item) (number : ℕ) (crash : Option How) (closed : ClosedLife L P l) (kept : List ℕ) (base : Counters) (text : LifeText)
-    → (ran : HasRunLife keep c b faults mounted names its [] kept closed) → kept ≡ flat_map (step_text names) ran.steps → base ≡ c.base → IsFrontOf number (number_of closed) base text.front
+pub told_life : {L P : Type 0} (l : logs.Ghosts L) (p : disks.Ghosts P) (keep : keepers.Ghosts (List ℕ)) (c : Cluster) (b : Beginning) (mounted : Volumes L P) (names : List (List ℕ)) (its : List Item) (number : ℕ) (crash : Option How) (closed : ClosedLife L P l) (kept : List ℕ) (base : Counters) (text : LifeText)
+    → (ran : HasRunLife l p keep c b mounted names its [] kept closed) → kept ≡ flat_map (step_text names) ran.steps → base ≡ c.base → IsFrontOf number (number_of closed) base text.front
     → text.rest ≡ kept ++ (rest_text names (life_of c b closed) crash ++ last_text crash) → IsToldLife l p names its number crash c b mounted closed text
-told_life l p keep c b faults mounted names its number crash closed kept base text ran told same front rest = record {
+told_life l p keep c b mounted names its number crash closed kept base text ran told same front rest = record {
   steps = ran.steps;
   lived = ran.lived;
   left = ran.left;

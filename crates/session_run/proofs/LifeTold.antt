@@ -51,7 +51,7 @@ use Rattle.session_promise.proofs.FewIds.{levels_bound_ids}
 use Rattle.session_promise.proofs.LawfulLives.{promises_make_life}
 use Rattle.session_promise.proofs.Between.{lines_of_rounds, step_lines}
 use Rattle.session_run.specs.Leaves.{HasLeft, LeavesVolumes}
-use Rattle.session_run.specs.Records.{BankHolds, LogHolds}
+use Rattle.session_run.specs.Records.{LogHolds}
 use Rattle.session_run.specs.Runs.{HasLived, HasRun, IsRestOfReport, IsTaken, cluster_of, report_of}
 use Rattle.session_run.proofs.LogHeld.{log_holds}
 use Rattle.session_run.proofs.RoundCounts.{AreRoundsOf, few_levels, few_lines, rounds_told}
@@ -165,15 +165,13 @@ of_cluster {L} {P} c d first life same k = subst (λ (e : Cluster). (volumes : V
 -- and the media has what it leaves
 pub volumes_back : {L P : Type 0} (l : logs.Ghosts L) (p : disks.Ghosts P) (c : Cluster) (opened : OpenLife L P l p) (closed : ClosedLife L P l) (life : LifeReport) (first gives : Volumes L P → Type 0) (mounted : Volumes L P)
     → IsNewLife c mounted opened → first mounted → Only (volumes_left closed) gives → HasLeft l p c opened closed life → LeavesVolumes l p first gives life
-volumes_back l p c opened closed life first gives mounted new began only left =
-    let banks : length mounted.xact.items ≡ c.banks = new.banks.xact in
-    record {
-      mounted = mounted;
-      volumes = volumes_left closed;
-      began = began;
-      only = only;
-      same = left.same mounted new;
-      log = left.log;
-      states = λ told bank low. subst (λ n. BankHolds p life.life n bank (volumes_left closed).xact.items) (sym banks) (left.states told bank (omega (arith, low, banks)));
-      causes = left.causes mounted new;
-    }
+volumes_back l p c opened closed life first gives mounted new began only left = record {
+  mounted = mounted;
+  volumes = volumes_left closed;
+  began = began;
+  only = only;
+  same = left.same mounted new;
+  log = left.log;
+  states = left.states;
+  causes = left.causes mounted new;
+}

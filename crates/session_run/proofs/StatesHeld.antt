@@ -1,5 +1,6 @@
 -- The volumes of pg_xact say committed only of what the log has on disk.
-use Rattle.std.proofs.Common.{List, [], ap, arith, inl, refl, subst, sym, take, ℕ, ⊎_elim, ◌++◌, ◌-◌, ◌<◌, ◌∙◌, ◌∷◌, ◌≡◌, ◌⊎◌}
+use Rattle.std.proofs.Common.{List, [], ap, arith, inl, length, refl, subst, sym, take, ℕ, ⊎_elim, ◌++◌, ◌-◌, ◌<◌, ◌∙◌, ◌∷◌, ◌≡◌, ◌⊎◌}
+use Rattle.std.proofs.lemmas.Option.{same_Some, slice_get_within}
 use Rattle.disk_core.specs.declared.log_disk.LogDisk as logs
 use Rattle.disk_core.specs.declared.page_disk.PageDisk as disks
 use Rattle.disk_core.specs.Pages.{Pages}
@@ -28,7 +29,7 @@ use Rattle.engine_parts.specs.Parts.{IsLogOf}
 use Rattle.engine_host.specs.declared.cluster.Cluster.{Cluster}
 use Rattle.engine_host.specs.Opening.{life_of}
 use Rattle.engine_life.specs.Lives.{HaveFollowed, life_told}
-use Rattle.session_run.specs.Records.{BankHolds, HoldsStates}
+use Rattle.session_run.specs.Records.{HaveStates, HoldsStates}
 
 -- the log of a life that began over a new one, at its end
 abbrev log_of : Start → List (List Entry) → KeptLog
@@ -68,14 +69,14 @@ module _ (start : Start) (lists : List (List Entry)) (life : Life) (kept : Engin
 module _ {L P : Type 0} {l : logs.Ghosts L} (p : disks.Ghosts P) where
   -- so each volume of pg_xact behind a life over a new log
   pub bank_holds : (start : Start) (lists : List (List Entry)) (base : Counters) (events : List Event) (log : WalLog L l) (c : Cluster) (faults : List ℕ) (volumes : List P)
-      → start ≡ life_of c faults → EngineInvariant start lists → AreFewIds lists → IsLogOf start log (at lists log_lock) → HaveFollowed p start lists volumes → ((v : P) → p.images v (p.pages v))
-      → (bank : ℕ) → bank < c.banks → BankHolds p (life_told base events log) c.banks bank volumes
-  bank_holds start lists base events log c faults volumes begun kept few stands followed reads bank low =
+      → start ≡ life_of c faults → EngineInvariant start lists → AreFewIds lists → IsLogOf start log (at lists log_lock) → length volumes ≡ start.banks → HaveFollowed p start lists volumes → ((v : P) → p.images v (p.pages v))
+      → HaveStates p (life_told base events log) volumes
+  bank_holds start lists base events log c faults volumes begun kept few stands banks followed reads bank v found =
       let life : Life = life_told base events log in
-      let banks : start.banks ≡ c.banks = ap (λ (t : Start). t.banks) begun in
-      let inside : bank < start.banks = omega (arith, low, banks) in
+      let inside : bank < start.banks = (let w = slice_get_within volumes bank v found in omega (arith, w, banks)) in
       let logged : start.logged ≡ records.Checkpoint 0 start.base ∷ [] = ap (λ (t : Start). t.logged) begun ∙ ap (λ (b : Counters). records.Checkpoint 0 b ∷ []) (sym (ap (λ (t : Start). t.base) begun)) in
-      let v = followed bank inside in
-      let each : (d : Pages) → p.images v.0 d → HoldsStates life c.banks bank d = λ d left. subst (λ n. HoldsStates life n bank d) banks
-      (holds_states start lists life kept few (ap (λ (t : Start). t.from) begun) (ap (λ (t : Start). t.committed) begun) refl (stands.recs_are ∙ ap (λ (t : List Rec). t ++ recs_in (at lists log_lock)) logged) stands.flushed_is bank d inside (v.2 d left)) in
-      record { volume = v.0; is = v.1; reads = each (p.pages v.0) (reads v.0); crashed = each }
+      let k = followed bank inside in
+      let is : v ≡ k.0 = same_Some v k.0 (sym found ∙ k.1) in
+      let each : (d : Pages) → p.images v d → HoldsStates life (length volumes) bank d = λ d left. subst (λ n. HoldsStates life n bank d) (sym banks)
+      (holds_states start lists life kept few (ap (λ (t : Start). t.from) begun) (ap (λ (t : Start). t.committed) begun) refl (stands.recs_are ∙ ap (λ (t : List Rec). t ++ recs_in (at lists log_lock)) logged) stands.flushed_is bank d inside (k.2 d (subst (λ z. p.images z d) is left))) in
+      record { reads = each (p.pages v) (reads v); crashed = each }

@@ -1,5 +1,5 @@
 -- What a run leaves on its media.
-use Rattle.std.specs.Prelude.{ℕ, ◌<◌, IsTrue, length}
+use Rattle.std.specs.Prelude.{IsTrue}
 use Rattle.disk_core.specs.declared.log_disk.LogDisk as logs
 use Rattle.disk_core.specs.declared.page_disk.PageDisk as disks
 use Rattle.disk_core.specs.declared.media.Volumes.{Volumes}
@@ -12,7 +12,7 @@ use Rattle.engine_life.specs.declared.closed.ClosedLife.{ClosedLife}
 use Rattle.engine_life.specs.declared.life.OpenLife.{OpenLife}
 use Rattle.engine_life.specs.Lives.{IsNewLife, volumes_left}
 use Rattle.session_run.specs.Causes.{HaveCauses}
-use Rattle.session_run.specs.Records.{BankHolds, LogHolds}
+use Rattle.session_run.specs.Records.{HaveStates, LogHolds}
 
 module _ {L P : Type 0} (l : logs.Ghosts L) (p : disks.Ghosts P) where
   -- Such volumes were mounted as may come first, and the media gives back no others than these, which are as many of each
@@ -25,15 +25,13 @@ module _ {L P : Type 0} (l : logs.Ghosts L) (p : disks.Ghosts P) where
     pub only : Only volumes gives
     pub same : HaveSameBanks mounted volumes
     pub log : IsTrue l.tells → LogHolds l life.life volumes.log
-    pub states : IsTrue p.tells → (bank : ℕ) → bank < length mounted.xact.items
-        → BankHolds p life.life (length mounted.xact.items) bank volumes.xact.items
+    pub states : IsTrue p.tells → HaveStates p life.life volumes.xact.items
     pub causes : HaveCauses l p life.steps mounted volumes
 
 module _ {L P : Type 0} (l : logs.Ghosts L) (p : disks.Ghosts P) where
   -- So a closed life leaves its volumes, with whichever the life began that was opened.
   pub record HasLeft (c : Cluster) (opened : OpenLife L P l p) (closed : ClosedLife L P l) (life : LifeReport) : Type 0 where
     pub log : IsTrue l.tells → LogHolds l life.life (log_disk closed.log)
-    pub states : IsTrue p.tells → (bank : ℕ) → bank < c.banks
-        → BankHolds p life.life c.banks bank (volumes_left closed).xact.items
+    pub states : IsTrue p.tells → HaveStates p life.life (volumes_left closed).xact.items
     pub same : (mounted : Volumes L P) → IsNewLife c mounted opened → HaveSameBanks mounted (volumes_left closed)
     pub causes : (mounted : Volumes L P) → IsNewLife c mounted opened → HaveCauses l p life.steps mounted (volumes_left closed)

@@ -1,5 +1,5 @@
 -- What a life leaves on the volumes of the log and of pg_xact.
-use Rattle.std.specs.Prelude.{◌≡◌, ◌≤◌, ℕ, ◌-◌, ◌%◌, List, ◌∷◌, ◌++◌, Contains, Some, slice_get}
+use Rattle.std.specs.Prelude.{◌≡◌, ◌≤◌, ℕ, ◌-◌, ◌%◌, List, ◌∷◌, ◌++◌, Contains, Some, length, slice_get}
 use Rattle.disk_core.specs.declared.log_disk.LogDisk as logs
 use Rattle.disk_core.specs.declared.page_disk.PageDisk as disks
 use Rattle.disk_core.specs.Pages.{Pages}
@@ -38,9 +38,12 @@ pub record HoldsStates (life : Life) (banks bank : ℕ) (c : Pages) : Type 0 whe
       × (y : ℕ) × Contains (top ∷ subs) y × (low_half y ≡ low_half x)
 
 module _ {P : Type 0} (p : disks.Ghosts P) where
-  -- so the bank's volume among these, as it reads and as any crash would leave it
-  pub record BankHolds (life : Life) (banks bank : ℕ) (volumes : List P) : Type 0 where
-    pub volume : P
-    pub is : slice_get volumes bank ≡ Some volume
+  -- so a bank's volume, as it reads and as any crash would leave it
+  pub record BankHolds (life : Life) (banks bank : ℕ) (volume : P) : Type 0 where
     pub reads : HoldsStates life banks bank (p.pages volume)
     pub crashed : (c : Pages) → p.images volume c → HoldsStates life banks bank c
+
+  -- so each of these, which are those of all banks
+  abbrev pub HaveStates : Life → List P → Type 0
+  HaveStates life volumes = (bank : ℕ) (volume : P) → slice_get volumes bank ≡ Some volume
+      → BankHolds life (length volumes) bank volume

@@ -33,7 +33,7 @@ returns g c =
             ran.1.kept_is,
             record {
               log = λ tells. lived.1 tells (c.reads_an_image.ensures tells);
-              states = λ told. bank_holds g.P.PageDisk (start_of life.hall) (view host.pass).seen s.base left.events left.log (cluster_of s) new.faults (volumes_left left).xact.items new.begun.start_is closed.kept few closed.log (closed.states told few) (c.pages_read_an_image.ensures told);
+              states = λ told. bank_holds g.P.PageDisk (start_of life.hall) (view host.pass).seen s.base left.events left.log (cluster_of s) new.faults (volumes_left left).xact.items new.begun.start_is closed.kept few closed.log closed.banks.xact (closed.states told few) (c.pages_read_an_image.ensures told);
               same = λ mounted begun. record {
                 xact = closed.banks.xact ∙ (ap (λ (t : Start). t.banks) new.begun.start_is ∙ sym begun.banks.xact);
                 subtrans = closed.banks.subtrans ∙ (ap (λ (t : Start). t.banks) new.begun.start_is ∙ sym begun.banks.subtrans);

@@ -68,6 +68,9 @@ pub trait Media {
     /// How often the media has failed.
     ghost faults: { Self → ℕ };
 
+    /// Where its page volumes tell what they hold, its log does too.
+    ghost tells_alike: { IsTrue Self.Pages.tells → IsTrue Self.Log.tells };
+
     /// Gives the volumes back that it has, whatever `banks` says. A new media gives so many banks.
     fn mount(&mut self, banks: u32) -> Result<Volumes<Self::Log, Self::Pages>, MountRefusal>
         requires idle { IsTrue (is_idle self.old) }

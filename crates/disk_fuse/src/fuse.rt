@@ -82,6 +82,8 @@ impl<M: Media> Media for Fuse<M> {
 
     ghost faults = { λ f. M.faults f.inner + f.faults };
 
+    ghost tells_alike = { M.tells_alike };
+
     fn mount(
         &mut self,
         banks: u32,

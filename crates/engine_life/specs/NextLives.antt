@@ -5,6 +5,7 @@ use Rattle.disk_core.specs.declared.page_disk.PageDisk as disks
 use Rattle.disk_core.specs.declared.media.Volumes.{Volumes}
 use Rattle.disk_core.specs.Faults.{HasRisen}
 use Rattle.disk_core.specs.Images.{Only}
+use Rattle.disk_core.specs.Media.{AllCrashed, LogCrashed, PagesCrashed}
 use Rattle.recoverable.specs.Clusters.{Fit}
 use Rattle.recoverable.specs.Fit.{KeptLog}
 use Rattle.recoverable.specs.Whole.{BeganRight}
@@ -30,6 +31,12 @@ module _ {L P : Type 0} (l : logs.Ghosts L) (p : disks.Ghosts P) where
   -- volumes that tell what they hold fit this log
   abbrev pub MayGoOn : KeptLog → Volumes L P → Type 0
   MayGoOn kept volumes = IsTrue p.tells → IsTrue l.tells × Fit l p kept volumes.log volumes.xact.items
+
+  -- and those that a crash leaves of them
+  abbrev pub CrashGoesOn : Type 0
+  CrashGoesOn = (kept : KeptLog) (old new : Volumes L P)
+      → (IsTrue l.tells → IsTrue p.tells → AllCrashed (LogCrashed l.reads l.images l.faults) (PagesCrashed p.pages p.images p.faults) old new)
+      → MayGoOn kept old → MayGoOn kept new
 
   -- but where memory was wanting they fit what a later recovery may go on from
   abbrev pub WhenRefused : KeptLog → Volumes L P → Volumes L P → RecoverRefusal → Type 0

@@ -6,9 +6,10 @@ ghost use Rattle.tx_core.specs.EngineInvariant.{EngineInvariant};
 ghost use Rattle.tx_core.specs.Entries.{AreFewIds, history};
 ghost use Rattle.tx_core.specs.Locks.{log_lock};
 ghost use Rattle.tx_core.specs.MultiEntries.{multi_history};
+ghost use Rattle.recoverable.specs.Whole.{BeganRight};
 ghost use Rattle.engine_parts.specs.Parts.{IsLogOf};
 ghost use Rattle.engine_host.specs.Hosts.{HoldsAllBut, IsHost};
-ghost use Rattle.engine_life.specs.Lives.{HaveCountedTold, HaveFollowed, HaveVolumes, volumes_left};
+ghost use Rattle.engine_life.specs.Lives.{EndFit, HaveCountedTold, HaveFollowed, HaveVolumes, volumes_left};
 
 use crate::life::{Aside, OpenLife};
 use disk_core::{LogDisk, PageDisk, Volumes};
@@ -42,6 +43,10 @@ pub fn close_life<L: LogDisk + Drop, P: PageDisk + Drop>(life: OpenLife<L, P>) -
     // In a life of fewer than 2,900,000 ids.
     ensures states { IsTrue P.tells → AreFewIds (view life.host.pass).seen → HaveFollowed P.PageDisk
         (start_of life.hall) (view life.host.pass).seen (volumes_left result).xact.items }
+    // So a recovery may begin from what it leaves, where it began with a base from which a life may start, and no multixact.
+    ensures fit { IsTrue L.tells → IsTrue P.tells → BeganRight (start_of life.hall) → (start_of life.hall).recorded ≡ []
+        → AreFewIds (view life.host.pass).seen → EndFit L.LogDisk P.PageDisk (start_of life.hall)
+        (view life.host.pass).seen (volumes_left result) }
     ensures offsets { (volumes_left result).offsets ≡ life.aside.offsets }
     ensures members { (volumes_left result).members ≡ life.aside.members }
 {

@@ -4,6 +4,7 @@
 
 mod closed;
 mod ending;
+pub mod laws;
 mod life;
 mod next_life;
 mod old_parts;

@@ -1,5 +1,5 @@
 -- What the report tells of a life that is over.
-use Rattle.std.proofs.Common.{◌≡◌, ℕ, ◌^◌, ◌<◌, ◌≤◌, Bool, IsTrue, List, [], ◌∷◌, ◌++◌, None, refl, sym, ap, subst, ◌∙◌, length, arith}
+use Rattle.std.proofs.Common.{◌≡◌, ◌+◌, ℕ, ◌^◌, ◌<◌, ◌≤◌, Bool, IsTrue, List, [], ◌∷◌, ◌++◌, None, refl, sym, ap, subst, ◌∙◌, length, arith}
 use Rattle.std.proofs.lemmas.List.Sums.{count_by-le-length}
 use Rattle.std.specs.List.{filter, flat_map}
 use Rattle.disk_core.specs.declared.log_disk.LogDisk as logs
@@ -73,17 +73,16 @@ module _ {H K L P : Type 0} {l : logs.Ghosts L} {p : disks.Ghosts P} (keep : kee
   -- a life that ran the script is lawful, and what it left on the log's volume are its records
   pub life_lived : (hall : Hall H (Part L P l p) Entry Start) (host : Host L P l p) (sessions : List Session) (s : Script) (faults : List ℕ) (first kept : K) (events : List Event) (log : WalLog L l)
       → IsTaken s → start_of hall ≡ life_of (cluster_of s) faults → (r : HasRun keep hall host sessions s.names (asked_of s.items) first kept) → closing.IsOver p.tells (start_of hall) (view host.pass).seen r.rounds → events ≡ history (view host.pass).seen → IsLogOf (start_of hall) log (at (view host.pass).seen log_lock) → multi_history (view host.pass).seen ≡ [] → log_next log < 2 ^ 64 → log_end log < 2 ^ 64
-      → HasLived p.tells s (life_told s.base events log) r.steps × (IsTrue l.tells → l.images (log_disk log) (l.reads (log_disk log)) → LogHolds l (life_told s.base events log) (log_disk log))
+      → HasLived p.tells s (life_told 0 s.base [] [] events log) r.steps × (IsTrue l.tells → l.images (log_disk log) (l.reads (log_disk log)) → LogHolds l (life_told 0 s.base [] [] events log) (log_disk log))
   life_lived hall host sessions s faults first kept events log taken begun r over told stands quiet next end =
       let start = start_of hall in
       let base : start.base ≡ s.base = ap (λ t. t.base) begun in
-      let life : LifeReport = report_of (life_told s.base events log) r.steps in
-      let begins : closing.BeginsNewLog start = record {
+      let life : LifeReport = report_of (life_told 0 s.base [] [] events log) r.steps in
+      let begins : closing.BeginsAt 0 start = record {
         from = ap (λ t. t.from) begun;
         logged = ap (λ t. t.logged) begun ∙ ap (λ b. records.Checkpoint 0 b ∷ []) (sym base);
       } in
       let report : closing.IsReportOf start (view host.pass).seen r.rounds life = record {
-        from = refl;
         base = sym base;
         committed = sym (ap (λ t. t.committed) begun);
         events = told;
@@ -94,7 +93,7 @@ module _ {H K L P : Type 0} {l : logs.Ghosts L} {p : disks.Ghosts P} (keep : kee
       } in
       let es = at (view host.pass).seen log_lock in
       let size : length (log_recs log) ≡ length (records.Checkpoint 0 s.base ∷ recs_in es) = ap (λ (t : List Rec). length t) (stands.recs_are ∙ ap (λ (t : List Rec). t ++ recs_in es) (ap (λ t. t.logged) begun)) in
-      let numbers : length (log_recs log) < 2 ^ 64 = (let a = stands.next_is in let f = begins.from in omega (arith, a, f, size, next)) in
+      let numbers : 0 + length (log_recs log) < 2 ^ 64 = (let a = stands.next_is in let f = begins.from in omega (arith, a, f, size, next)) in
       let commands : AreRoundsOf (rounds_of s.items) r.rounds = asked_rounds s r.steps r.rounds r.told r.rounds_are in
       let few : length (all_lines r.rounds) ≤ 2 ^ 24 = few_lines s.items r.rounds commands taken.runnable.few in
       let lawful : IsLawfulLife p.tells start.banks (asked_of s.items) life = promises_make_life p.tells start (view host.pass).seen r.rounds (asked_of s.items) life begins over (few_levels s.items r.rounds commands taken.few) r.told r.dumps report numbers end in (

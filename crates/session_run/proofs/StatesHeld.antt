@@ -69,9 +69,9 @@ module _ {L P : Type 0} {l : logs.Ghosts L} (p : disks.Ghosts P) where
   -- so each volume of pg_xact behind a life over a new log
   pub bank_holds : (start : Start) (lists : List (List Entry)) (base : Counters) (events : List Event) (log : WalLog L l) (c : Cluster) (faults : List ℕ) (volumes : List P)
       → start ≡ life_of c faults → EngineInvariant start lists → AreFewIds lists → IsLogOf start log (at lists log_lock) → HaveFollowed p start lists volumes → ((v : P) → p.images v (p.pages v))
-      → (bank : ℕ) → bank < c.banks → BankHolds p (life_told base events log) c.banks bank volumes
+      → (bank : ℕ) → bank < c.banks → BankHolds p (life_told 0 base [] [] events log) c.banks bank volumes
   bank_holds start lists base events log c faults volumes begun kept few stands followed reads bank low =
-      let life : Life = life_told base events log in
+      let life : Life = life_told 0 base [] [] events log in
       let banks : start.banks ≡ c.banks = ap (λ (t : Start). t.banks) begun in
       let inside : bank < start.banks = omega (arith, low, banks) in
       let logged : start.logged ≡ records.Checkpoint 0 start.base ∷ [] = ap (λ (t : Start). t.logged) begun ∙ ap (λ (b : Counters). records.Checkpoint 0 b ∷ []) (sym (ap (λ (t : Start). t.base) begun)) in

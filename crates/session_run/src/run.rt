@@ -1,5 +1,5 @@
 //! Runs a script over a media, and answers the text of its report, or the counts of what it did.
-ghost use Rattle.std.specs.Prelude.{◌≡◌, ◌^◌, ◌<◌, ◌≤◌, false, IfErr, IfOk, IsTrue, List, OnOk};
+ghost use Rattle.std.specs.Prelude.{◌≡◌, [], ◌^◌, ◌<◌, ◌≤◌, false, IfErr, IfOk, IsTrue, List, OnOk};
 ghost use Rattle.disk_core.specs.Media.{MayBeFirst};
 ghost use Rattle.disk_core.specs.declared.media.Volumes.{Volumes};
 ghost use Rattle.tx_model.specs.declared.report.Report.{Report};
@@ -73,7 +73,7 @@ fn run_life<
 ) -> (ClosedLife<L, P>, Result<(), Memory>)
     requires taken { IsTaken script.now }
     requires new { (mounted : Volumes L P) × IsNewLife (cluster_of script.now) mounted life }
-    ensures lived { let told = life_told script.now.base result.0.events result.0.log in
+    ensures lived { let told = life_told 0 script.now.base [] [] result.0.events result.0.log in
         OnOk result.1 ((steps : List Step) × HasLived P.tells script.now told steps
         × (kept.new ≡ with_steps K.LineKeeper script.now.names kept.old steps)
         × HasLeft L.LogDisk P.PageDisk (cluster_of script.now) life result.0 (report_of told steps)) }
@@ -111,7 +111,7 @@ fn report_life<
     let Ok(()) = ran else {
         return (closed, Err(Memory));
     };
-    let ended = end_report(text, &script.names, closed.events.items(), &closed.log);
+    let ended = end_report(text, 0, &script.names, closed.events.items(), &closed.log);
     (closed, ended)
 }
 

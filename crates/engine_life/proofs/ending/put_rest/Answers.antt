@@ -7,5 +7,5 @@ use Rattle.engine_life.proofs.ending.put_rest.Goals as goal
 pub returns : goal.returns
 unfolding crash_text
 returns g c = record {
-  ok = λ base. behind_text c.args.out.now (history_text c.args.names.now c.args.events.now) (multis_text c.args.names.now []) (log_text (life_told base c.args.events.now c.args.log.now)) c.put_history.new.out c.put_no_multis.new.out c.put_log.new.out c.in_ok-put_history.ensures.ok c.in_ok-put_no_multis.ensures.ok (c.in_ok-put_log.ensures.ok base);
+  ok = λ base committed recorded. behind_text c.args.out.now (history_text c.args.names.now c.args.events.now) (multis_text c.args.names.now []) (log_text (life_told c.args.from base committed recorded c.args.events.now c.args.log.now)) c.put_history.new.out c.put_no_multis.new.out c.put_log.new.out c.in_ok-put_history.ensures.ok c.in_ok-put_no_multis.ensures.ok (c.in_ok-put_log.ensures.ok base committed recorded);
 }

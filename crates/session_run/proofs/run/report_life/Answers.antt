@@ -1,4 +1,4 @@
-use Rattle.std.proofs.Common.{None, ap, refl, ◌++◌, ◌∙◌}
+use Rattle.std.proofs.Common.{[], None, ap, refl, ◌++◌, ◌∙◌}
 use Rattle.std.proofs.lemmas.Result.{on_ok_weaker}
 use Rattle.tx_model.specs.declared.report.LifeReport.{LifeReport}
 use Rattle.report_text.specs.ReportText.{end_text, rest_text}
@@ -20,6 +20,6 @@ returns g c =
           (λ exact. rest_told g.P.PageDisk.tells s _ lived.0 c.args.text.now c.run_life-closed.new.kept c.end_report-ended.new.out
           (λ (life : LifeReport). HasLeft g.L.LogDisk g.P.PageDisk (cluster_of s) c.args.life left life) lived.1
           (kept_text text_keeper.ghosts s.names c.args.text.now c.run_life-closed.new.kept lived.0 lived.2 (λ text n. refl) (λ text lines. refl) (λ text dump. refl))
-          (exact s.base ∙ ap (λ h. c.run_life-closed.new.kept ++ (rest_text s.names (life_told s.base h left.log) None ++ end_text)) c.items.ensures) lived.3)
+          (exact s.base [] [] ∙ ap (λ h. c.run_life-closed.new.kept ++ (rest_text s.names (life_told 0 s.base [] [] h left.log) None ++ end_text)) c.items.ensures) lived.3)
           c.end_report-ended.ensures.ok;
     }

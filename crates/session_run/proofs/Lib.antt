@@ -1,14 +1,3 @@
-mod TurnLemmas
-mod Among
-mod Letting
-mod Returning
-mod Rounding
-mod Going
-mod RoundCounts
-mod RoundSteps
-mod RoundsRun
-mod LogHeld
-mod StatesHeld
-mod CausesTold
-mod LifeTold
 mod ToolEnds
+mod Running
+mod Counted

@@ -1,8 +1,6 @@
-pub mod Turns
-pub mod Rounds
-pub mod GoesOn
-pub mod Records
-pub mod Causes
+pub mod Lives
 pub mod Leaves
 pub mod Runs
+pub mod Stops
+pub mod Going
 pub mod Tool

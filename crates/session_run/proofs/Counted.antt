@@ -26,9 +26,9 @@ use Rattle.engine_host.specs.Opening.{nothing_before}
 use Rattle.engine_life.specs.declared.closed.ClosedLife.{ClosedLife}
 use Rattle.engine_life.specs.declared.life.OpenLife.{OpenLife}
 use Rattle.engine_life.specs.Lives.{IsNewLife, volumes_left}
-use Rattle.life_run.specs.Leaves.{HasLeft, IsOpened, life_of}
-use Rattle.life_run.specs.Parts.{HasLived, report_of}
-use Rattle.life_run.specs.Records.{BankHolds}
+use Rattle.session_run.specs.OneLife.{HasLeft, IsOpened, life_of}
+use Rattle.session_run.specs.Parts.{HasLived, report_of}
+use Rattle.session_run.specs.Records.{BankHolds}
 use Rattle.session_run.specs.Leaves.{LeavesVolumes}
 use Rattle.session_run.specs.Runs.{IsTakenAlone}
 

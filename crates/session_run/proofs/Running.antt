@@ -28,10 +28,10 @@ use Rattle.engine_host.specs.Opening.{Beginning, nothing_before}
 use Rattle.engine_life.specs.declared.closed.ClosedLife.{ClosedLife}
 use Rattle.engine_life.specs.declared.life.OpenLife.{OpenLife}
 use Rattle.engine_life.specs.Lives.{IsNewLife, number_of, volumes_left}
-use Rattle.life_run.specs.Causes.{HaveCauses}
-use Rattle.life_run.specs.Leaves.{HasRunLife, life_of}
-use Rattle.life_run.specs.Parts.{report_of}
-use Rattle.life_run.specs.Records.{BankHolds}
+use Rattle.session_run.specs.Causes.{HaveCauses}
+use Rattle.session_run.specs.OneLife.{HasRunLife, life_of}
+use Rattle.session_run.specs.Parts.{report_of}
+use Rattle.session_run.specs.Records.{BankHolds}
 use Rattle.session_run.specs.declared.text.LifeText.{LifeText}
 use Rattle.session_run.specs.Going.{IsPartTold, IsRunning, IsToldLife, part_of}
 use Rattle.session_run.specs.Leaves.{LeavesVolumes}

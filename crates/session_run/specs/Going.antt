@@ -27,8 +27,8 @@ use Rattle.engine_life.specs.declared.refusal.NoLife.{NoLife}
 use Rattle.engine_life.specs.declared.refusal.NoLife.TheVariants as no_lives
 use Rattle.engine_life.specs.declared.refusal.NotReopened.{NotReopened}
 use Rattle.engine_life.specs.NextLives.{GoesOnLife, IsNotReopened}
-use Rattle.life_run.specs.Leaves.{HasLeft, IsOpened, life_of}
-use Rattle.life_run.specs.Parts.{HasLived, report_of}
+use Rattle.session_run.specs.OneLife.{HasLeft, IsOpened, life_of}
+use Rattle.session_run.specs.Parts.{HasLived, report_of}
 use Rattle.tx_io.specs.Causes.{Rose}
 use Rattle.session_run.specs.declared.run.PartEnd.{PartEnd}
 use Rattle.session_run.specs.declared.run.PartEnd.TheVariants as ends
@@ -50,7 +50,7 @@ module _ {L P : Type 0} (l : logs.Ghosts L) (p : disks.Ghosts P) where
     pub rest : text.rest ≡ life_rest names (report_of (life_of c b closed) steps crash)
 
   -- The crash fell, and a life goes on from a log that the volumes fitted before it.
-  pub record GoesOn (falls : Crash → Volumes L P → Volumes L P → Type 0) (how : How) (kept : KeptLog) (banks sessions : ℕ) (left : Volumes L P) (life : OpenLife L P l p) : Type 0 where
+  pub record HasGoneOn (falls : Crash → Volumes L P → Volumes L P → Type 0) (how : How) (kept : KeptLog) (banks sessions : ℕ) (left : Volumes L P) (life : OpenLife L P l p) : Type 0 where
     pub mounted : Volumes L P
     pub fallen : HasFallen l p falls how left mounted
     pub banks_are : HasBanks banks mounted

@@ -7,9 +7,9 @@ use Rattle.disk_core.specs.declared.media.Volumes.{Volumes}
 use Rattle.disk_core.specs.Images.{Only}
 use Rattle.disk_core.specs.Media.{HaveSameBanks}
 use Rattle.tx_model.specs.declared.report.LifeReport.{LifeReport}
-use Rattle.life_run.specs.Causes.{HaveCauses}
-use Rattle.life_run.specs.Fits.{FitLife}
-use Rattle.life_run.specs.Records.{BankHolds, LogHolds}
+use Rattle.session_run.specs.Causes.{HaveCauses}
+use Rattle.session_run.specs.Fits.{FitLife}
+use Rattle.session_run.specs.Records.{BankHolds, LogHolds}
 use Rattle.session_run.specs.Lives.{ComesTo}
 
 module _ {L P : Type 0} (l : logs.Ghosts L) (p : disks.Ghosts P) where

@@ -1,3 +1,11 @@
+pub mod Turns
+pub mod Rounds
+pub mod GoesOn
+pub mod Records
+pub mod Causes
+pub mod Parts
+pub mod Fits
+pub mod OneLife
 pub mod Lives
 pub mod Leaves
 pub mod Runs

@@ -9,7 +9,7 @@ use Rattle.disk_core.specs.Media.{AllCrashed, HaveSameBanks, LogCrashed, PagesCr
 use Rattle.tx_model.specs.declared.report.How.{How}
 use Rattle.tx_model.specs.declared.report.How.TheVariants as hows
 use Rattle.tx_model.specs.declared.report.LifeReport.{LifeReport}
-use Rattle.life_run.specs.Causes.{HaveCauses}
+use Rattle.session_run.specs.Causes.{HaveCauses}
 
 -- the crash of a media that a script asks for
 abbrev pub crash_of : How → Crash

@@ -14,9 +14,9 @@ ghost use Rattle.engine_host.specs.declared.cluster.Cluster.{Cluster as Clustere
 ghost use Rattle.engine_host.specs.Opening.{Beginning, IsCluster};
 ghost use Rattle.engine_life.specs.NextLives.{MayGoOn};
 ghost use Rattle.engine_life.specs.Refusals.{IsOfVolumes, IsUnopened};
-ghost use Rattle.life_run.specs.Leaves.{IsOpened, MayRunIn};
-ghost use Rattle.life_run.specs.Parts.{IsTakenPart};
-ghost use Rattle.session_run.specs.Going.{EndsIdle, GoesOn, IsCrashed, IsRunning, IsToldLife, PartWent, part_of};
+ghost use Rattle.session_run.specs.OneLife.{IsOpened, MayRunIn};
+ghost use Rattle.session_run.specs.Parts.{IsTakenPart};
+ghost use Rattle.session_run.specs.Going.{EndsIdle, HasGoneOn, IsCrashed, IsRunning, IsToldLife, PartWent, part_of};
 ghost use Rattle.session_run.specs.Lives.{crash_of};
 ghost use Rattle.session_run.specs.Leaves.{LeavesVolumes};
 ghost use Rattle.session_run.specs.Runs.{IsTaken, IsTakenAlone, cluster_of};
@@ -27,7 +27,7 @@ use crate::text::{LifeText, front_of, put_end, put_life};
 use disk_core::{Crash, LogDisk, Media, PageDisk, Volumes};
 use engine_host::Cluster;
 use engine_life::{ClosedLife, NoLife, OpenLife, open_life, reopen_life};
-use life_run::run_life;
+use crate::life::run_life;
 use report_text::Text;
 use script_gen::Summary;
 use script_rounds::{LineKeeper, Tally, next_part};
@@ -111,7 +111,7 @@ fn go_on<M: Media>(
     requires banks { HasBanks banks volumes }
     requires sessions { sessions ≤ 64 }
     requires fit { MayGoOn M.Log.LogDisk M.Pages.PageDisk kept volumes }
-    ensures next { IfOk result (GoesOn M.Log.LogDisk M.Pages.PageDisk M.falls how kept banks sessions volumes) }
+    ensures next { IfOk result (HasGoneOn M.Log.LogDisk M.Pages.PageDisk M.falls how kept banks sessions volumes) }
     ensures mounted { OnOk result (M.is_idle media.new ≡ false) }
     ensures idle { OnErr result (IsTrue (M.is_idle media.new)) }
     ensures count { M.faults media.old ≤ M.faults media.new }

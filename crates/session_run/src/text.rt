@@ -6,7 +6,7 @@ ghost use Rattle.engine_host.specs.Opening.{Beginning};
 ghost use Rattle.report_text.specs.ReportText.{rest_text};
 ghost use Rattle.tx_io.specs.Causes.{HasCause};
 ghost use Rattle.engine_life.specs.Lives.{number_of};
-ghost use Rattle.life_run.specs.Leaves.{life_of};
+ghost use Rattle.session_run.specs.OneLife.{life_of};
 ghost use Rattle.run_law.specs.Lives.{IsFrontOf, last_text};
 
 use disk_core::{LogDisk, PageDisk};

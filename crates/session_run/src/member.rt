@@ -1,0 +1,95 @@
+//! A session in a round: it runs its commands, and keeps their lines as they are done.
+ghost use Rattle.std.specs.Prelude.{◌≡◌, ◌+◌, ◌^◌, ◌<◌, IsOk, false, true, length};
+ghost use Rattle.std.specs.List.{All};
+ghost use Rattle.hall.specs.Calls.{start_of};
+ghost use Rattle.engine_parts.specs.Calls.{MayRun};
+ghost use Rattle.script_rounds.specs.Plans.{HasPlaces};
+ghost use Rattle.run_law.specs.Turns as runnable;
+ghost use Rattle.run_law.specs.Turns.{has_command};
+ghost use Rattle.session_run.specs.Turns.{Begins, MayGo, RunsNext, RunsRound, commands_of};
+
+use crate::commands::run_command;
+use disk_core::{LogDisk, PageDisk};
+use engine_parts::{Caller, EngineLaw, command_of};
+use hall::Hall;
+use script_rounds::{LineKeeper, Plan, ToldLines, command_at};
+use session_lang::Items;
+use std::alloc::Global;
+use std::sync::Wait;
+use tx_model::{Command, Memory, NameList};
+
+/// A session in a round.
+pub struct Member<K, L: LogDisk, P: PageDisk> {
+    pub caller: Caller<L, P>,
+    /// What is kept of its lines.
+    pub kept: K,
+    /// Its lines, for contracts alone.
+    pub lines: ToldLines,
+    /// Whether memory was wanting for a line. It stopped there.
+    pub lost: bool,
+}
+
+/// Runs the session's next command and keeps its line. The command ran also where memory was wanting for the line.
+fn run_turn<R: Wait, K: LineKeeper, L: LogDisk, P: PageDisk>(
+    rt: &R,
+    hall: &Hall<EngineLaw<L, P>>,
+    member: &mut Member<K, L, P>,
+    banks: u32,
+    alloc: Global,
+    names: &NameList,
+    command: &Command,
+) -> Result<(), Memory>
+    requires has { has_command command.now ≡ true }
+    requires may { MayRun hall.now banks member.old.caller }
+    requires few { commands_of member.old.caller + 1 < 2 ^ 48 }
+    ensures { RunsNext K.LineKeeper hall.now banks names.now command.now result member.old member.new }
+{
+    let reply = run_command(rt, hall, &mut member.caller, banks, alloc, command);
+    let by = command_of(&member.caller);
+    member.lines.add(by, command, &reply);
+    member.kept.add_line(names, by, command, &reply)
+}
+
+/// Runs the session's commands of a round, in their order: those at these places. Where memory is wanting it stops.
+fn run_places<R: Wait, K: LineKeeper, L: LogDisk, P: PageDisk>(
+    rt: &R,
+    hall: &Hall<EngineLaw<L, P>>,
+    member: &mut Member<K, L, P>,
+    banks: u32,
+    alloc: Global,
+    names: &NameList,
+    places: &[usize],
+    round: &Items,
+) -> Result<(), Memory>
+    requires begins { Begins K.LineKeeper hall.now banks (length places.now) member.old }
+    requires items { All (runnable.MayRun (start_of hall.now).sessions) round.now }
+    requires places { HasPlaces member.old.caller.number round.now round.now places.now }
+    ensures { RunsRound K.LineKeeper hall.now banks names.now round.now (IsOk result) member.old member.new }
+{
+    for place in places {
+        if let Some(command) = command_at(member.caller.number, round, *place)? {
+            run_turn(rt, hall, member, banks, alloc, names, &command)?;
+        }
+    }
+    Ok(())
+}
+
+/// Runs the session's commands of a round, at the places that the plan has for it.
+pub fn run_member<R: Wait, K: LineKeeper, L: LogDisk, P: PageDisk>(
+    rt: &R,
+    hall: &Hall<EngineLaw<L, P>>,
+    member: &mut Member<K, L, P>,
+    banks: u32,
+    alloc: Global,
+    names: &NameList,
+    plan: &Plan,
+    round: &Items,
+)
+    requires items { All (runnable.MayRun (start_of hall.now).sessions) round.now }
+    requires may { MayGo K.LineKeeper hall.now banks round.now plan.now member.old }
+    ensures { RunsRound K.LineKeeper hall.now banks names.now round.now (member.new.lost ≡ false) member.old member.new }
+{
+    let places = plan.places[member.caller.number as usize].items();
+    let ran = run_places(rt, hall, member, banks, alloc, names, places, round);
+    member.lost = ran.is_err();
+}

@@ -1,0 +1,234 @@
+//! Runs the rounds of a script over one lock table, and the dumps between them, and keeps them as they are done.
+ghost use Rattle.std.specs.Prelude.{◌≡◌, ◌+◌, ◌^◌, ◌<◌, ◌≤◌, ◌∷◌, ℕ, List, [], IfOk, OnOk, length, true};
+ghost use Rattle.std.specs.List.{All};
+ghost use Rattle.engine_host.specs.Hosts.{HasSeenNothing, HoldsAllBut, IsHost, IsNewSession, IsParked};
+ghost use Rattle.tx_model.specs.Asked as asked;
+ghost use Rattle.tx_model.specs.Asked.{rounds_in};
+ghost use Rattle.session_lang.specs.Rounds.{asked_at, asked_of, asked_round};
+ghost use Rattle.run_law.specs.Turns.{MayRun, is_command, turns_in};
+ghost use Rattle.script_rounds.specs.Plans.{IsBlank};
+ghost use Rattle.session_run.specs.Rounds.{MayAdd};
+ghost use Rattle.session_run.specs.GoesOn.{AreHome, GoesOn};
+ghost use Rattle.session_run.specs.Parts.{HasRun, RunsOn, ShowsOn};
+
+use crate::laws::{life_begins, life_goes_on};
+use crate::round::run_round;
+use crate::sessions::new_sessions;
+use disk_core::{LogDisk, PageDisk};
+use engine_dumps::show;
+use engine_host::Host;
+use engine_parts::{EngineLaw, Session};
+use hall::Hall;
+use script_rounds::{LineKeeper, Plan, next_round};
+use session_lang::Items;
+use std::alloc::Global;
+use std::sync::Wait;
+use std::thread::Threads;
+use tx_model::{Memory, NameList, Step};
+
+// A round of fewer commands isn't worth its threads: starting them costs as much as some hundred commands.
+const FEW_COMMANDS: usize = 512;
+
+/// How many threads a round takes, of at most so many.
+fn threads_for(plan: &Plan, round: &Items, most: usize) -> usize
+    ensures { 0 < result }
+{
+    if plan.sessions.len() <= 1 || round.len() < FEW_COMMANDS {
+        return 1;
+    }
+    most.max(1)
+}
+
+/// Runs a round that has commands, behind so many rounds, and keeps it.
+fn run_numbered<
+    R: Threads + Wait + Sync,
+    K: LineKeeper + Send + Drop,
+    L: LogDisk + Send + Sync,
+    P: PageDisk + Send + Sync,
+>(
+    rt: &R,
+    alloc: Global,
+    hall: &Hall<EngineLaw<L, P>>,
+    host: &mut Host<L, P>,
+    sessions: &mut [Session],
+    plan: &mut Plan,
+    rounds: u64,
+    round: &Items,
+    names: &NameList,
+    kept: &mut K,
+    spare: &mut Vec<K>,
+    threads: usize,
+) -> Result<(), Memory>
+    requires home { AreHome hall.now host.old sessions.old }
+    requires room { MayAdd (length round.now) sessions.old }
+    requires items { All (MayRun (length sessions.old)) round.now }
+    requires plan { IsBlank plan.old × (length plan.old.places.items ≡ length sessions.old) }
+    requires few { rounds < 2 ^ 32 }
+    ensures home { AreHome hall.now host.new sessions.new }
+    ensures cluster { host.new.cluster ≡ host.old.cluster }
+    ensures count { length sessions.new ≡ length sessions.old }
+    ensures plan { OnOk result (IsBlank plan.new × (length plan.new.places.items ≡ length sessions.new)) }
+    ensures ran { OnOk result (RunsOn K.LineKeeper hall.now names.now rounds (asked.round (turns_in round.now) ∷ []) host.old
+        host.new sessions.old sessions.new kept.old kept.new) }
+{
+    life_goes_on(hall);
+    plan.fill(round)?;
+    kept.add_round(rounds + 1)?;
+    let count = threads_for(plan, round, threads);
+    run_round(
+        rt, alloc, hall, host, sessions, plan, round, names, kept, spare, count,
+    )?;
+    plan.clear();
+    Ok(())
+}
+
+/// Runs a round behind so many rounds, if it has commands, and answers how many have run then.
+fn run_next<
+    R: Threads + Wait + Sync,
+    K: LineKeeper + Send + Drop,
+    L: LogDisk + Send + Sync,
+    P: PageDisk + Send + Sync,
+>(
+    rt: &R,
+    alloc: Global,
+    hall: &Hall<EngineLaw<L, P>>,
+    host: &mut Host<L, P>,
+    sessions: &mut [Session],
+    plan: &mut Plan,
+    rounds: u64,
+    round: &Items,
+    names: &NameList,
+    kept: &mut K,
+    spare: &mut Vec<K>,
+    threads: usize,
+) -> Result<u64, Memory>
+    requires home { AreHome hall.now host.old sessions.old }
+    requires room { MayAdd (length round.now) sessions.old }
+    requires items { All (MayRun (length sessions.old)) round.now }
+    requires commands { All (λ item. is_command item ≡ true) round.now }
+    requires plan { IsBlank plan.old × (length plan.old.places.items ≡ length sessions.old) }
+    requires few { rounds < 2 ^ 32 }
+    ensures home { AreHome hall.now host.new sessions.new }
+    ensures cluster { host.new.cluster ≡ host.old.cluster }
+    ensures count { length sessions.new ≡ length sessions.old }
+    ensures plan { OnOk result (IsBlank plan.new × (length plan.new.places.items ≡ length sessions.new)) }
+    ensures rounds { IfOk result (λ n. n ≡ rounds + length (rounds_in (asked_round (turns_in round.now)))) }
+    ensures ran { OnOk result (RunsOn K.LineKeeper hall.now names.now rounds (asked_round (turns_in round.now)) host.old
+        host.new sessions.old sessions.new kept.old kept.new) }
+{
+    if round.is_empty() {
+        return Ok(rounds);
+    }
+    run_numbered(
+        rt, alloc, hall, host, sessions, plan, rounds, round, names, kept, spare, threads,
+    )?;
+    Ok(rounds + 1)
+}
+
+/// Answers the dump that the item at this place asks for, if it does, and keeps it.
+fn show_next<R: Wait, K: LineKeeper, L: LogDisk, P: PageDisk>(
+    rt: &R,
+    alloc: Global,
+    hall: &Hall<EngineLaw<L, P>>,
+    host: &mut Host<L, P>,
+    sessions: &[Session],
+    script: &Items,
+    place: usize,
+    names: &NameList,
+    kept: &mut K,
+) -> Result<(), Memory>
+    requires home { AreHome hall.now host.old sessions.now }
+    requires items { All (MayRun (length sessions.now)) script.now }
+    ensures home { AreHome hall.now host.new sessions.now }
+    ensures cluster { host.new.cluster ≡ host.old.cluster }
+    ensures ran { OnOk result (ShowsOn K.LineKeeper hall.now names.now (asked_at script.now place) host.old host.new
+        sessions.now kept.old kept.new) }
+{
+    let Some(dump) = script.dump_at(place) else {
+        return Ok(());
+    };
+    let reply = show(rt, alloc, hall, host, dump)?;
+    let step = Step::Dump {
+        what: dump.what,
+        at: dump.at,
+        length: dump.length,
+        reply,
+    };
+    kept.add_dump(names, &step)
+}
+
+/// Runs the rounds of a script, one after another, and the dumps between them, its sessions being these.
+fn run_each<
+    R: Threads + Wait + Sync,
+    K: LineKeeper + Send + Drop,
+    L: LogDisk + Send + Sync,
+    P: PageDisk + Send + Sync,
+>(
+    rt: &R,
+    alloc: Global,
+    hall: &Hall<EngineLaw<L, P>>,
+    host: &mut Host<L, P>,
+    sessions: &mut [Session],
+    script: Items,
+    names: &NameList,
+    kept: &mut K,
+    threads: usize,
+) -> Result<(), Memory>
+    requires begins { GoesOn hall.now host.old sessions.old [] }
+    requires items { All (MayRun (length sessions.old)) script }
+    requires few { length script ≤ 2 ^ 24 }
+    ensures home { AreHome hall.now host.new sessions.new }
+    ensures cluster { host.new.cluster ≡ host.old.cluster }
+    ensures ran { OnOk result (HasRun K.LineKeeper hall.now host.new sessions.new names.now (asked_of script.entry)
+        kept.old kept.new) }
+{
+    let mut plan = Plan::new(alloc, sessions.len())?;
+    let mut spare = Vec::new(alloc);
+    let mut rest = script;
+    let mut rounds = 0;
+    while !rest.is_empty() {
+        let (round, behind) = next_round(&rest);
+        rounds = run_next(
+            rt, alloc, hall, host, sessions, &mut plan, rounds, &round, names, kept, &mut spare,
+            threads,
+        )?;
+        let place = round.len();
+        show_next(rt, alloc, hall, host, sessions, &rest, place, names, kept)?;
+        rest = behind;
+    }
+    Ok(())
+}
+
+/// Runs the rounds of a life, one after another, and the dumps between them: the sessions of a round on at most so many
+/// threads.
+pub fn run_rounds<
+    R: Threads + Wait + Sync,
+    K: LineKeeper + Send + Drop,
+    L: LogDisk + Send + Sync,
+    P: PageDisk + Send + Sync,
+>(
+    rt: &R,
+    alloc: Global,
+    hall: &Hall<EngineLaw<L, P>>,
+    host: &mut Host<L, P>,
+    names: &NameList,
+    part: Items,
+    kept: &mut K,
+    threads: usize,
+) -> Result<(), Memory>
+    requires host { IsHost hall.now host.old }
+    requires all { HoldsAllBut host.old [] }
+    requires unseen { HasSeenNothing host.old }
+    requires parked { (n : ℕ) (s : Session) → n < host.old.cluster.sessions → IsNewSession s → IsParked hall.now host.old n s }
+    requires items { All (MayRun host.old.cluster.sessions) part }
+    requires few { length part ≤ 2 ^ 24 }
+    ensures host { IsHost hall.now host.new }
+    ensures all { HoldsAllBut host.new [] }
+    ensures ran { OnOk result ((sessions : List Session) × HasRun K.LineKeeper hall.now host.new sessions names.now
+        (asked_of part.entry) kept.old kept.new) }
+{
+    let mut sessions = new_sessions(alloc, host.cluster.sessions)?;
+    life_begins(hall);
+    let all = sessions.as_mut_slice();
+    run_each(rt, alloc, hall, host, all, part, names, kept, threads)
+}

@@ -1,5 +1,5 @@
 -- What a later life goes on from.
-use Rattle.std.specs.Prelude.{◌≡◌, ◌≤◌, ℕ, ◌+◌, List, [], ◌∷◌, ◌++◌, length}
+use Rattle.std.specs.Prelude.{◌≡◌, ◌≤◌, ℕ, ◌+◌, List, [], ◌∷◌, ◌++◌, IsTrue, length}
 use Rattle.disk_core.specs.declared.log_disk.LogDisk as logs
 use Rattle.disk_core.specs.declared.page_disk.PageDisk as disks
 use Rattle.tx_events.specs.declared.record.Rec.{Rec}
@@ -24,8 +24,15 @@ pub record EndsWithLife (life : Life) (kept : KeptLog) : Type 0 where
 module _ {L P : Type 0} (l : logs.Ghosts L) (p : disks.Ghosts P) where
   -- The volumes fit such a log: whatever a crash leaves of them, recovery answers the base at a number of it, from the
   -- flushed one to its end. None of these bases has a multixact.
-  pub record FitLife (life : Life) (log : L) (states : List P) : Type 0 where
-    pub kept : KeptLog
+  pub record FitsLife (life : Life) (log : L) (states : List P) (kept : KeptLog) : Type 0 where
     pub ends : EndsWithLife life kept
     pub fit : Fit l p kept log states
     pub unrecorded : (n : ℕ) → (base_at kept n).recorded ≡ []
+
+  -- there is such a log
+  abbrev pub FitLife : Life → L → List P → Type 0
+  FitLife life log states = (kept : KeptLog) × FitsLife life log states kept
+
+  -- where both tell what they hold
+  abbrev pub FitWhereTold : Life → L → List P → KeptLog → Type 0
+  FitWhereTold life log states kept = IsTrue p.tells → IsTrue l.tells → FitsLife life log states kept

@@ -24,7 +24,7 @@ module _ {L P : Type 0} (l : logs.Ghosts L) (p : disks.Ghosts P) where
     pub comes : ComesTo l p falls before begun mounted
     pub same : HaveSameBanks mounted left
     pub causes : HaveCauses l p last.steps mounted left
-    pub fit : IsTrue l.tells → IsTrue p.tells → FitLife l p last.life left.log left.xact.items
+    pub fit : IsTrue p.tells → IsTrue l.tells → FitLife l p last.life left.log left.xact.items
     pub log : before ≡ [] → IsTrue l.tells → LogHolds l last.life left.log
     pub states : before ≡ [] → IsTrue p.tells → (bank : ℕ) → bank < length mounted.xact.items
         → BankHolds p last.life (length mounted.xact.items) bank left.xact.items

@@ -1,5 +1,5 @@
 -- How a life is opened that runs a part of a script, and what it leaves.
-use Rattle.std.specs.Prelude.{◌≡◌, ℕ, ◌<◌, IsTrue, List, []}
+use Rattle.std.specs.Prelude.{◌≡◌, ℕ, ◌-◌, ◌<◌, IsTrue, List, []}
 use Rattle.disk_core.specs.declared.log_disk.LogDisk as logs
 use Rattle.disk_core.specs.declared.page_disk.PageDisk as disks
 use Rattle.disk_core.specs.declared.media.Volumes.{Volumes}
@@ -9,6 +9,7 @@ use Rattle.tx_model.specs.declared.report.Step.{Step}
 use Rattle.session_lang.specs.declared.script.Item.{Item}
 use Rattle.script_rounds.specs.declared.keeper.LineKeeper as keepers
 use Rattle.wal_core.specs.LogViews.{log_disk}
+use Rattle.tx_core.specs.declared.entry.Start.{Start}
 use Rattle.recoverable.specs.Whole.{BeganRight}
 use Rattle.engine_host.specs.declared.cluster.Cluster.{Cluster}
 use Rattle.engine_host.specs.Counted.{AreCounted}
@@ -42,6 +43,10 @@ module _ {L P : Type 0} {l : logs.Ghosts L} {p : disks.Ghosts P} where
     pub sessions_are : cluster.sessions ≡ sessions
     pub opened : IsOpened cluster begins faults mounted life
 
+-- the life that started so and left this
+abbrev pub life_over : {L P : Type 0} → {l : logs.Ghosts L} → Start → ClosedLife L P l → Life
+life_over start closed = life_told (start.from - 1) start.base start.committed start.recorded closed.events closed.log
+
 -- the life that began so and left this
 abbrev pub life_of : {L P : Type 0} → {l : logs.Ghosts L} → Cluster → Beginning → ClosedLife L P l → Life
 life_of c b closed = life_told b.number c.base b.committed b.recorded closed.events closed.log
@@ -55,7 +60,7 @@ module _ {L P : Type 0} (l : logs.Ghosts L) (p : disks.Ghosts P) where
     pub states : b ≡ nothing_before → IsTrue p.tells → (bank : ℕ) → bank < c.banks
         → BankHolds p (life_of c b closed) c.banks bank (volumes_left closed).xact.items
     pub same : HaveSameBanks mounted (volumes_left closed)
-    pub fit : IsTrue l.tells → IsTrue p.tells
+    pub fit : IsTrue p.tells → IsTrue l.tells
         → FitLife l p (life_of c b closed) (log_disk closed.log) (volumes_left closed).xact.items
     pub causes : HaveCauses l p steps mounted (volumes_left closed)
 

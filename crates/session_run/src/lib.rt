@@ -3,6 +3,7 @@
 #![tactic(auto)]
 
 mod commands;
+mod ended;
 mod ending;
 mod laws;
 mod life;

@@ -6,13 +6,12 @@ ghost use Rattle.disk_core.specs.declared.media.Volumes.{Volumes as Mounted};
 ghost use Rattle.tx_model.specs.declared.report.LifeReport.{LifeReport};
 ghost use Rattle.tx_model.specs.declared.report.Report.{Report};
 ghost use Rattle.report_text.specs.ReportText.{report_text};
-ghost use Rattle.recoverable.specs.Fit.{KeptLog};
+ghost use Rattle.recoverable.specs.Clusters.{Fit};
 ghost use Rattle.run_law.specs.Lives.{LifePart};
 ghost use Rattle.run_law.specs.Tool.{IsReportOf};
 ghost use Rattle.script_gen.specs.Summaries.{IsSummaryOf};
 ghost use Rattle.engine_host.specs.declared.cluster.Cluster.{Cluster as Clustered};
 ghost use Rattle.engine_host.specs.Opening.{Beginning, IsCluster};
-ghost use Rattle.engine_life.specs.NextLives.{MayGoOn};
 ghost use Rattle.engine_life.specs.Refusals.{IsOfVolumes, IsUnopened};
 ghost use Rattle.session_run.specs.OneLife.{IsOpened, MayRunIn};
 ghost use Rattle.session_run.specs.Parts.{IsTakenPart};
@@ -22,11 +21,13 @@ ghost use Rattle.session_run.specs.Leaves.{LeavesVolumes};
 ghost use Rattle.session_run.specs.Runs.{IsTaken, IsTakenAlone, cluster_of};
 ghost use Rattle.session_run.specs.Stops.{IsStopped, MountsFirst};
 
+use crate::ended::{Ended, FittedLog, log_left};
 use crate::stop::{Stopped, no_life_of};
 use crate::text::{LifeText, front_of, put_end, put_life};
 use disk_core::{Crash, LogDisk, Media, PageDisk, Volumes};
 use engine_host::Cluster;
 use engine_life::{ClosedLife, NoLife, OpenLife, open_life, reopen_life};
+use notes::Note;
 use crate::life::run_life;
 use report_text::Text;
 use script_gen::Summary;
@@ -98,20 +99,21 @@ fn tell_life<
     }
 }
 
-/// Crashes the volumes of a closed life, and opens the next one over what that left.
+/// Crashes the volumes of a closed life, which fit this log, and opens the next one over what that left.
 fn go_on<M: Media>(
     alloc: Global,
     media: &mut M,
     volumes: Volumes<M::Log, M::Pages>,
+    log: &Note<FittedLog>,
     how: How,
     banks: u32,
     sessions: u32,
 ) -> Result<OpenLife<M::Log, M::Pages>, NoLife>
-    ghost kept: { KeptLog }
     requires banks { HasBanks banks volumes }
     requires sessions { sessions ≤ 64 }
-    requires fit { MayGoOn M.Log.LogDisk M.Pages.PageDisk kept volumes }
-    ensures next { IfOk result (HasGoneOn M.Log.LogDisk M.Pages.PageDisk M.falls how kept banks sessions volumes) }
+    requires fit { IsTrue M.Pages.tells → IsTrue M.Log.tells → Fit M.Log.LogDisk M.Pages.PageDisk log.now.value.kept
+        volumes.log volumes.xact.items }
+    ensures next { IfOk result (HasGoneOn M.Log.LogDisk M.Pages.PageDisk M.falls how log.now.value.kept banks sessions volumes) }
     ensures mounted { OnOk result (M.is_idle media.new ≡ false) }
     ensures idle { OnErr result (IsTrue (M.is_idle media.new)) }
     ensures count { M.faults media.old ≤ M.faults media.new }
@@ -168,25 +170,29 @@ where
     ensures sink { K.faults sink.old ≤ K.faults sink.new }
 {
     let names = &script.names;
+    let start = Note::by(&life);
     let (closed, told) = tell_life(rt, alloc, life, names, part, number, crash, threads);
-    let volumes = closed.into_volumes();
     let text = match told {
         Ok(text) => text,
         Err(Memory) => {
-            media.rest(volumes);
+            media.rest(closed.into_volumes());
             return Err(Stopped::NoLife(NoLife::Memory));
         }
     };
     if let Err(Failed) = put_life(sink, &text) {
-        media.rest(volumes);
+        media.rest(closed.into_volumes());
         return Err(Stopped::Sink);
     }
     let Some(how) = crash else {
-        media.rest(volumes);
+        media.rest(closed.into_volumes());
         return Ok(PartEnd::Last);
     };
+    let ended = Ended { start, closed };
+    let log = log_left(&ended);
+    let Ended { start: _, closed } = ended;
+    let volumes = closed.into_volumes();
     let sessions = names.items().len() as u32;
-    match go_on(alloc, media, volumes, how, script.banks, sessions) {
+    match go_on(alloc, media, volumes, &log, how, script.banks, sessions) {
         Ok(life) => Ok(PartEnd::Next(life)),
         Err(refusal) => Err(Stopped::NoLife(refusal)),
     }

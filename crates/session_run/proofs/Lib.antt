@@ -11,6 +11,10 @@ mod LogHeld
 mod StatesHeld
 mod CausesTold
 mod LifeLived
+mod Endings
 mod ToolEnds
+mod Opening
 mod Running
+mod GoingOn
+mod LivesRun
 mod Counted

@@ -29,7 +29,7 @@ use Rattle.engine_life.specs.declared.closed.ClosedLife.{ClosedLife}
 use Rattle.engine_life.specs.declared.life.OpenLife.{OpenLife}
 use Rattle.engine_life.specs.Lives.{IsNewLife, number_of, volumes_left}
 use Rattle.session_run.specs.Causes.{HaveCauses}
-use Rattle.session_run.specs.OneLife.{HasRunLife, life_of}
+use Rattle.session_run.specs.OneLife.{HasRunLife, MayRunIn, life_of}
 use Rattle.session_run.specs.Parts.{report_of}
 use Rattle.session_run.specs.Records.{BankHolds}
 use Rattle.session_run.specs.declared.text.LifeText.{LifeText}
@@ -37,12 +37,13 @@ use Rattle.session_run.specs.Going.{IsPartTold, IsRunning, IsToldLife, part_of}
 use Rattle.session_run.specs.Leaves.{LeavesVolumes}
 use Rattle.session_run.specs.Lives.{ComesTo, HasFallen}
 use Rattle.session_run.specs.Runs.{cluster_of}
+use Rattle.session_run.proofs.Opening.{new_is_opened}
 
 none_of : {X : Type 0} (xs : List X) → length xs ≡ 0 → xs ≡ []
 none_of [] e = refl
 none_of (x ∷ xs) e = absurd (omega (arith, e))
 
-push_some : {X : Type 0} (xs : List X) (x : X) → xs ++ x ∷ [] ≡ [] → ⊥
+pub push_some : {X : Type 0} (xs : List X) (x : X) → xs ++ x ∷ [] ≡ [] → ⊥
 push_some [] x e = cc
 push_some (y ∷ xs) x e = cc
 
@@ -69,10 +70,21 @@ module _ {L P : Type 0} {l : logs.Ghosts L} {p : disks.Ghosts P} (s : Script) (f
     mounted = volumes;
     banks = refl;
     sessions = refl;
-    opened = record { banks = new.banks; counted = new.counted; begun = new.begun; offsets = new.offsets; members = new.members };
+    opened = new_is_opened (cluster_of s) volumes life new;
     comes = refl;
     new = λ none. (refl, refl);
     behind = λ told next from base. tt;
+  }
+
+  -- a life that is open may run a part
+  pub may_run : (begun : Volumes L P) (done : List LifePart) (lives : List LifeReport) (life : OpenLife L P l p) → IsRunning s begun falls done lives life → MayRunIn (length s.names) life
+  may_run begun done lives life run = record {
+    cluster = run.cluster;
+    begins = run.begins;
+    faults = run.faults;
+    mounted = run.mounted;
+    sessions_are = run.sessions;
+    opened = run.opened;
   }
 
   -- ---- a part
@@ -96,21 +108,29 @@ module _ {L P : Type 0} {l : logs.Ghosts L} {p : disks.Ghosts P} (s : Script) (f
           recorded = ap (λ (b : Beginning). b.recorded) new.1;
         }
 
+    pub part_are : AreRunLives p.tells s (done ++ part_of its crash ∷ []) (lives ++ told_of ∷ [])
+    part_are = run_lives_push p.tells s done lives (part_of its crash) told_of run.are lawful refl first (λ tells. run.behind tells told_of.life refl refl)
+
+    pub part_text : text_so_far s.names lives ++ (text.front ++ text.rest) ≡ text_so_far s.names (lives ++ told_of ∷ []) ++ last_text crash
+    part_text =
+        ap (λ (t : List ℕ). text_so_far s.names lives ++ (text.front ++ t)) told.rest
+        ∙ so_far_push s.names lives told_of number text.front count told.front (λ one. ap (λ (b : Beginning). b.number) (run.new (none_of lives (omega (arith, one, count)))).1)
+
     pub part_told : (held held' : Option (List ℕ)) → Appends held held' (text.front ++ text.rest)
         → IsPartTold l p s begun falls done lives (part_of its crash) held held' told_of (volumes_left closed)
     part_told held held' wrote = record {
-      are = run_lives_push p.tells s done lives (part_of its crash) told_of run.are lawful refl first (λ tells. run.behind tells told_of.life refl refl);
+      are = part_are;
       lawful = lawful;
       crash_is = refl;
       written = text.front ++ text.rest;
       wrote = wrote;
-      exact =
-          ap (λ (t : List ℕ). text_so_far s.names lives ++ (text.front ++ t)) told.rest
-          ∙ so_far_push s.names lives told_of number text.front count told.front (λ one. ap (λ (b : Beginning). b.number) (run.new (none_of lives (omega (arith, one, count)))).1);
+      exact = part_text;
       last = record {
         mounted = run.mounted;
         comes = run.comes;
+        same = told.left.same;
         causes = told.left.causes;
+        fit = told.left.fit;
         log = λ none tells. told.left.log (run.new none).1 tells;
         states = λ none tells bank low.
             let banks = run.opened.banks.xact in
@@ -126,7 +146,7 @@ module _ {L P : Type 0} {l : logs.Ghosts L} {p : disks.Ghosts P} (s : Script) (f
 
   -- ---- the last part
 
-  so_whole : (lives : List LifeReport) (r : LifeReport) → text_so_far s.names (lives ++ r ∷ []) ++ end_text ≡ report_text (record { names = s.names; lives = lives ++ r ∷ [] })
+  pub so_whole : (lives : List LifeReport) (r : LifeReport) → text_so_far s.names (lives ++ r ∷ []) ++ end_text ≡ report_text (record { names = s.names; lives = lives ++ r ∷ [] })
   so_whole [] r = whole_text s.names r []
   so_whole (q ∷ lives) r = whole_text s.names q (lives ++ r ∷ [])
 

@@ -1,6 +1,6 @@
 -- What the endings of a run say.
-use Rattle.std.proofs.Common.{◌≡◌, ◌≢◌, ◌⊎◌, ℕ, ◌+◌, ◌≤◌, List, [], ◌∷◌, ◌++◌, Bool, Option, ap, append-nil, codes, length, refl, suc, sym, subst, take, zero, ◌∙◌, arith, inl, inr, ⊎_elim}
-use Rattle.std.proofs.KnownBytes.{Appends-nil, Appends-trans}
+use Rattle.std.proofs.Common.{◌≡◌, ◌≢◌, ◌⊎◌, ℕ, ◌+◌, ◌≤◌, List, [], ◌∷◌, ◌++◌, Option, ap, append-nil, codes, length, refl, suc, sym, subst, take, zero, ◌∙◌, arith, inl, inr, ⊎_elim}
+use Rattle.std.proofs.KnownBytes.{Appends-trans}
 use Rattle.std.proofs.Math.Seq.{take-append-add}
 use Rattle.std.specs.Io.KnownBytes.{Appends}
 use Rattle.disk_core.specs.declared.log_disk.LogDisk as logs
@@ -8,151 +8,24 @@ use Rattle.disk_core.specs.declared.page_disk.PageDisk as disks
 use Rattle.disk_core.specs.declared.media.Crash.{Crash}
 use Rattle.disk_core.specs.declared.media.Volumes.{Volumes}
 use Rattle.tx_model.specs.declared.report.Report.{Report}
-use Rattle.report_text.specs.ReportText.{report_text}
-use Rattle.session_lang.specs.declared.script.Script.{Script}
-use Rattle.run_law.specs.Lives.{AreLivesBefore, parts_of}
-use Rattle.run_law.proofs.Lives.{parts_some}
-use Rattle.run_law.specs.Tool.{IsRefused, IsReportOf, IsRun, IsWholeRun}
+use Rattle.run_law.specs.Tool.{IsRefused, IsRun, IsWholeRun}
 use Rattle.script_gen.specs.Generated.{generated}
-use Rattle.script_gen.specs.Laws.{MayRunWhole}
-use Rattle.script_gen.specs.Summaries.{IsSummaryOf}
 use Rattle.script_gen.specs.Words.{IsGen}
-use Rattle.script_gen.proofs.GenWords.{gen_few}
 use Rattle.script_source.specs.declared.script.NoScript.{NoScript}
 use Rattle.script_source.specs.declared.script.NoScript.TheVariants as no_scripts
-use Rattle.script_source.specs.Sources.{HasScript, IsNoScriptOf}
 use Rattle.engine_life.specs.declared.refusal.NoLife.{NoLife}
 use Rattle.engine_life.specs.declared.refusal.NoLife.TheVariants as no_lives
-use Rattle.engine_life.specs.Refusals.{IsOfVolumes, IsUnopened}
+use Rattle.engine_life.specs.Refusals.{IsOfVolumes}
 use Rattle.tx_io.specs.Causes.{Rose}
 use Rattle.session_run.specs.declared.ending.Ending.{Ending}
 use Rattle.session_run.specs.declared.ending.Ending.TheVariants as endings
 use Rattle.session_run.specs.declared.task.Task.{Task}
-use Rattle.session_run.specs.declared.task.Task.TheVariants as tasks
 use Rattle.session_run.specs.Leaves.{LeavesVolumes}
-use Rattle.session_run.specs.Runs.{IsTakenAlone, cluster_of}
-use Rattle.session_run.specs.Stops.{Stops}
-use Rattle.session_run.specs.Tool.{Ends, HasMounted, HasWritten, IsAccepted, IsMemoryLast, IsScriptOf, IsSized, IsTask, IsUnread, IsUnrun, IsUnrunBy, IsWholeSummary, TellsRefusal, damage_text, status_of, text_of, unread_by}
-
--- ---- what is asked for
-
--- neither word is accepted
-pub none_asked : (words : List (List ℕ)) → (IsRun words → ⊥) → ((seed size : ℕ) → IsGen words seed size → ⊥) → IsAccepted words → ⊥
-none_asked words run gen (tasks.Run, is) = run is
-none_asked words run gen (tasks.Gen seed size, is) = gen seed size is
-
--- a generated script is no longer than one that is read
-pub is_sized : (words : List (List ℕ)) (task : Task) → IsTask words task → IsSized task
-is_sized words tasks.Run is = tt
-is_sized words (tasks.Gen seed size) is = gen_few words seed size is
-
--- and it is one that a new cluster can run
-pub is_taken : (seed size : ℕ) → MayRunWhole seed size → IsTakenAlone (generated seed size)
-is_taken seed size may = record {
-  taken = record {
-    runnable = may.runnable;
-    banks = let four = may.banks in (omega (arith, four), omega (arith, four));
-    few = may.few;
-  };
-  items = may.items;
-}
-
--- the words of `gen` aren't those of `run`
-run_not_gen : (words : List (List ℕ)) (seed size : ℕ) → IsRun words → IsGen words seed size → ⊥
-run_not_gen words seed size run gen = let two = ap length (sym run ∙ gen.words_are) in omega (arith, two)
-
-pub run_asked : (words : List (List ℕ)) (task : Task) → IsTask words task → task ≡ tasks.Run → IsRun words
-run_asked words task is run = subst (IsTask words) run is
-
-gen_by : (words : List (List ℕ)) (task : Task) (seed size : ℕ) → IsTask words task → task ≡ tasks.Gen seed size → IsGen words seed size
-gen_by words task seed size is gen = subst (IsTask words) gen is
-
--- ---- how it ends
-
-module _ {L P : Type 0} (l : logs.Ghosts L) (p : disks.Ghosts P) where
-  -- the script ran, and this is its report
-  pub answers : (left left' held held' : Option (List ℕ)) (faults faults' now now' : ℕ) (s : Script) (first : ℕ → Volumes L P → Type 0) (falls : Crash → Volumes L P → Volumes L P → Type 0) (before after : ℕ) (gives : Volumes L P → Type 0) → HasScript left left' s
-      → (r : Report) × IsReportOf p.tells s r × Appends held held' (report_text r) × LeavesVolumes l p (first s.banks) falls gives r.lives
-      → (written : List ℕ) × Ends l p tasks.Run left left' faults faults' first falls before after gives written endings.Report × HasWritten held held' now now' written endings.Report
-  answers left left' held held' faults faults' now now' s first falls before after gives h r = (
-    report_text r.0,
-    (
-      refl,
-      record {
-        bytes = h.bytes;
-        read = h.read;
-        ended = h.ended;
-        script = s;
-        spelled = h.spelled;
-        runnable = h.runnable;
-        report = r.0;
-        lawful = r.1;
-        exact = refl;
-      },
-      r.3,
-    ),
-    r.2,
-  )
-
-  -- so the generated script
-  pub summed : (seed size : ℕ) (s : Script) (text : List ℕ) (first : ℕ → Volumes L P → Type 0) (falls : Crash → Volumes L P → Volumes L P → Type 0) (gives : Volumes L P → Type 0) → s ≡ generated seed size
-      → ((counts : IsSummaryOf p.tells s text) × LeavesVolumes l p (first s.banks) falls gives counts.report.lives)
-      → (n k : ℕ) × (tasks.Gen seed size ≡ tasks.Gen n k) × (counts : IsSummaryOf p.tells (generated n k) text) × LeavesVolumes l p (first (generated n k).banks) falls gives counts.report.lives
-  summed seed size s text first falls gives same r =
-      let t = subst (λ (z : Script). (counts : IsSummaryOf p.tells z text) × LeavesVolumes l p (first z.banks) falls gives counts.report.lives) same r in
-      (seed, size, refl, t.0, t.1)
-
-  pub unread_ends : (left left' held : Option (List ℕ)) (faults faults' now : ℕ) (first : ℕ → Volumes L P → Type 0) (falls : Crash → Volumes L P → Volumes L P → Type 0) (before after : ℕ) (gives : Volumes L P → Type 0) (refusal : NoScript) → IsNoScriptOf left left' faults faults' refusal
-      → (written : List ℕ) × Ends l p tasks.Run left left' faults faults' first falls before after gives written (unread_by refusal) × HasWritten held held now now written (unread_by refusal)
-  unread_ends left left' held faults faults' now first falls before after gives (no_scripts.Refused text) k = ([], (refl, refl, k), Appends-nil held)
-  unread_ends left left' held faults faults' now first falls before after gives no_scripts.ReadFault k = ([], (refl, refl, k), Appends-nil held)
-  unread_ends left left' held faults faults' now first falls before after gives no_scripts.Memory k = ([], inl refl, Appends-nil held)
-
-  -- a run that stopped
-  module _ (task : Task) (left left' : Option (List ℕ)) (faults faults' : ℕ) (first : ℕ → Volumes L P → Type 0) (falls : Crash → Volumes L P → Volumes L P → Type 0) (before now : ℕ) (gives : Volumes L P → Type 0) (written : List ℕ) where
-    abbrev Unrun : NoLife → Type 0
-    Unrun refusal = IsUnrun l p task left left' first falls before now gives written refusal
-
-    pub unopened_ends : (refusal : NoLife) (e : Ending) → TellsRefusal refusal e → ((refusal ≡ no_lives.Memory → ⊥) → Unrun refusal) → ((written ≡ []) ⊎ Unrun no_lives.Memory) → Ends l p task left left' faults faults' first falls before now gives written e
-    unopened_ends refusal endings.Report t u m = absurd t
-    unopened_ends refusal (endings.Summary text) t u m = absurd t
-    unopened_ends refusal (endings.NoScript text) t u m = absurd t
-    unopened_ends refusal endings.ReadFault t u m = absurd t
-    unopened_ends refusal endings.WriteFault t u m = absurd t
-    unopened_ends refusal endings.Memory t u m = m
-    unopened_ends refusal endings.Device t u m = subst Unrun t (u (λ e. absurd (let q : no_lives.Device ≡ no_lives.Memory = sym t ∙ e in cc)))
-    unopened_ends refusal (endings.Damaged text) t u m = (t.0, t.1, subst Unrun t.2 (u (λ e. absurd (let q : no_lives.Damaged t.0 ≡ no_lives.Memory = sym t.2 ∙ e in cc))))
-    unopened_ends refusal endings.Full t u m = subst Unrun t (u (λ e. absurd (let q : no_lives.Full ≡ no_lives.Memory = sym t ∙ e in cc)))
-    unopened_ends refusal endings.OldLog t u m = subst Unrun t (u (λ e. absurd (let q : no_lives.OldLog ≡ no_lives.Memory = sym t ∙ e in cc)))
-
-  -- before the first life
-  pub none_before : (tells : Bool) (s : Script) → AreLivesBefore tells s []
-  none_before tells s = record {
-    done = [];
-    rest = parts_of s.items;
-    split = refl;
-    more = parts_some [] s.items;
-    are = record { of = tt; begin = tt; go_on = λ told. tt };
-  }
-
-  stops_first : (first : ℕ → Volumes L P → Type 0) (falls : Crash → Volumes L P → Volumes L P → Type 0) (before now : ℕ) (gives : Volumes L P → Type 0) (s : Script) (refusal : NoLife) → IsUnopened l p (cluster_of s) first before now gives refusal → Stops l p first falls before now gives s [] refusal
-  stops_first first falls before now gives s no_lives.Memory u = tt
-  stops_first first falls before now gives s (no_lives.Damaged at) u = u
-  stops_first first falls before now gives s no_lives.OldLog u = u
-  stops_first first falls before now gives s no_lives.Device u = u
-  stops_first first falls before now gives s no_lives.Full u = u
-
-  pub alone_ends : (task : Task) (left left' : Option (List ℕ)) (faults faults' : ℕ) (first : ℕ → Volumes L P → Type 0) (falls : Crash → Volumes L P → Volumes L P → Type 0) (before now : ℕ) (gives : Volumes L P → Type 0) (s : Script) → IsScriptOf task left left' s
-      → (refusal : NoLife) (e : Ending) → TellsRefusal refusal e → IsUnopened l p (cluster_of s) first before now gives refusal → Ends l p task left left' faults faults' first falls before now gives [] e
-  alone_ends task left left' faults faults' first falls before now gives s of refusal e t u =
-      unopened_ends task left left' faults faults' first falls before now gives [] refusal e t
-      (λ other. record { script = s; of = of; lives = []; are = none_before p.tells s; exact = refl; stops = stops_first first falls before now gives s refusal u }) (inl refl)
-
-  -- a generated script is not refused
-  pub generated_is_read : (seed size : ℕ) (left left' : Option (List ℕ)) (faults faults' : ℕ) (first : ℕ → Volumes L P → Type 0) (falls : Crash → Volumes L P → Volumes L P → Type 0) (before now : ℕ) (gives : Volumes L P → Type 0) (written : List ℕ) (e : Ending) → Ends l p (tasks.Gen seed size) left left' faults faults' first falls before now gives written e → IsUnread e → ⊥
-  generated_is_read seed size left left' faults faults' first falls before now gives written (endings.NoScript text) k u = absurd (let e : tasks.Gen seed size ≡ tasks.Run = k.1 in cc)
-  generated_is_read seed size left left' faults faults' first falls before now gives written endings.ReadFault k u = absurd (let e : tasks.Gen seed size ≡ tasks.Run = k.1 in cc)
-  generated_is_read seed size left left' faults faults' first falls before now gives written e k u = u
+use Rattle.session_run.specs.Tool.{Ends, HasMounted, HasWritten, IsMemoryLast, IsTask, IsUnread, IsUnrun, IsUnrunBy, IsWholeSummary, TellsRefusal, TellsStop, damage_text, status_of, text_of, unread_by}
+use Rattle.session_run.specs.declared.stop.Stopped.{Stopped}
+use Rattle.session_run.specs.declared.stop.Stopped.TheVariants as stops
+use Rattle.session_run.specs.Stops.{MountsFirst}
+use Rattle.session_run.proofs.Endings.{gen_by, run_asked, run_not_gen}
 
 -- ---- what is written, and then the last text
 
@@ -223,6 +96,11 @@ refused_mounted refusal endings.Device t m = absurd m
 refused_mounted refusal (endings.Damaged text) t m = subst IsOfVolumes (sym t.2) tt
 refused_mounted refusal endings.Full t m = subst IsOfVolumes (sym t) tt
 refused_mounted refusal endings.OldLog t m = subst IsOfVolumes (sym t) tt
+
+-- so where a run stopped
+pub stopped_mounted : (stop : Stopped) (e : Ending) → TellsStop stop e → HasMounted e → MountsFirst stop
+stopped_mounted stops.Sink e t m = tt
+stopped_mounted (stops.NoLife refusal) e t m = refused_mounted refusal e t m
 
 -- the statuses of such endings
 abbrev pub Mounted : ℕ → Type 0

@@ -49,8 +49,10 @@ module _ {L P : Type 0} (l : logs.Ghosts L) (p : disks.Ghosts P) where
     pub front : IsFrontOf number b.number c.base text.front
     pub rest : text.rest ≡ life_rest names (report_of (life_of c b closed) steps crash)
 
-  -- The crash fell, and a life goes on from a log that the volumes fitted before it.
+  -- The crash fell, and a life goes on from a log that the volumes fitted before it. The log tells what it holds if the pages
+  -- do.
   pub record HasGoneOn (falls : Crash → Volumes L P → Volumes L P → Type 0) (how : How) (kept : KeptLog) (banks sessions : ℕ) (left : Volumes L P) (life : OpenLife L P l p) : Type 0 where
+    pub tells : IsTrue p.tells → IsTrue l.tells
     pub mounted : Volumes L P
     pub fallen : HasFallen l p falls how left mounted
     pub banks_are : HasBanks banks mounted

@@ -7,6 +7,7 @@ ghost use Rattle.tx_model.specs.declared.report.LifeReport.{LifeReport};
 ghost use Rattle.tx_model.specs.declared.report.Report.{Report};
 ghost use Rattle.report_text.specs.ReportText.{report_text};
 ghost use Rattle.recoverable.specs.Clusters.{Fit};
+ghost use Rattle.recoverable.specs.Fit.{KeptLog};
 ghost use Rattle.run_law.specs.Lives.{LifePart};
 ghost use Rattle.run_law.specs.Tool.{IsReportOf};
 ghost use Rattle.script_gen.specs.Summaries.{IsSummaryOf};
@@ -26,6 +27,7 @@ use crate::stop::{Stopped, no_life_of};
 use crate::text::{LifeText, front_of, put_end, put_life};
 use disk_core::{Crash, LogDisk, Media, PageDisk, Volumes};
 use engine_host::Cluster;
+use engine_life::laws::crash_goes_on;
 use engine_life::{ClosedLife, NoLife, OpenLife, open_life, reopen_life};
 use notes::Note;
 use crate::life::run_life;
@@ -99,21 +101,23 @@ fn tell_life<
     }
 }
 
-/// Crashes the volumes of a closed life, which fit this log, and opens the next one over what that left.
+/// Crashes the volumes of a closed life, which fit this log, and opens the next one over what that left. A caller picks the
+/// log from its note.
 fn go_on<M: Media>(
     alloc: Global,
     media: &mut M,
     volumes: Volumes<M::Log, M::Pages>,
-    log: &Note<FittedLog>,
+    _log: &Note<FittedLog>,
     how: How,
     banks: u32,
     sessions: u32,
 ) -> Result<OpenLife<M::Log, M::Pages>, NoLife>
+    ghost kept: { KeptLog }
     requires banks { HasBanks banks volumes }
     requires sessions { sessions ≤ 64 }
-    requires fit { IsTrue M.Pages.tells → IsTrue M.Log.tells → Fit M.Log.LogDisk M.Pages.PageDisk log.now.value.kept
+    requires fit { IsTrue M.Pages.tells → IsTrue M.Log.tells → Fit M.Log.LogDisk M.Pages.PageDisk kept
         volumes.log volumes.xact.items }
-    ensures next { IfOk result (HasGoneOn M.Log.LogDisk M.Pages.PageDisk M.falls how log.now.value.kept banks sessions volumes) }
+    ensures next { IfOk result (HasGoneOn M.Log.LogDisk M.Pages.PageDisk M.falls how kept banks sessions volumes) }
     ensures mounted { OnOk result (M.is_idle media.new ≡ false) }
     ensures idle { OnErr result (IsTrue (M.is_idle media.new)) }
     ensures count { M.faults media.old ≤ M.faults media.new }
@@ -121,8 +125,9 @@ fn go_on<M: Media>(
     ensures refused { IfErr result (IsCrashed M.Log.LogDisk M.Pages.PageDisk M.falls how
         (M.faults media.old) (M.faults media.new) volumes (M.gives media.new)) }
 {
-    if media.crash(volumes, crash_of(how)).is_err() {
-        return Err(NoLife::Device);
+    match media.crash(volumes, crash_of(how)) {
+        Ok(()) => crash_goes_on::<M::Log, M::Pages>(),
+        Err(_) => return Err(NoLife::Device),
     }
     match reopen_life(alloc, media, banks, sessions) {
         Ok(life) => Ok(life),
@@ -179,13 +184,19 @@ where
             return Err(Stopped::NoLife(NoLife::Memory));
         }
     };
-    if let Err(Failed) = put_life(sink, &text) {
-        media.rest(closed.into_volumes());
-        return Err(Stopped::Sink);
+    match put_life(sink, &text) {
+        Ok(()) => {}
+        Err(Failed) => {
+            media.rest(closed.into_volumes());
+            return Err(Stopped::Sink);
+        }
     }
-    let Some(how) = crash else {
-        media.rest(closed.into_volumes());
-        return Ok(PartEnd::Last);
+    let how = match crash {
+        Some(how) => how,
+        None => {
+            media.rest(closed.into_volumes());
+            return Ok(PartEnd::Last);
+        }
     };
     let ended = Ended { start, closed };
     let log = log_left(&ended);

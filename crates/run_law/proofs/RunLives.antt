@@ -2,6 +2,7 @@
 use Rattle.std.proofs.Common.{◌≡◌, ◌≢◌, ℕ, ◌+◌, Bool, IsTrue, List, [], ◌∷◌, ◌++◌, ap, append-nil, append_assoc, arith, length, refl, sym, ◌∙◌}
 use Rattle.std.specs.List.{flat_map}
 use Rattle.tx_events.specs.declared.record.Counters.{Counters}
+use Rattle.tx_events.proofs.ListSteps.{all_push}
 use Rattle.tx_model.specs.declared.report.LifeReport.{LifeReport}
 use Rattle.tx_model.specs.declared.report.Report.{Report}
 use Rattle.tx_model.specs.Rounds.{BeginsLog}
@@ -11,7 +12,7 @@ use Rattle.lives_law.proofs.GoingOn.{go_on_push}
 use Rattle.report_text.specs.ReportText.{end_text, life_line, life_text, lives_text, report_text, rest_text, step_text, title_text}
 use Rattle.session_lang.specs.declared.script.Script.{Script}
 use Rattle.session_lang.specs.Rounds.{asked_of}
-use Rattle.run_law.specs.Lives.{AreLivesOf, AreRunLives, BeginRun, IsFrontOf, LifePart, last_text, life_rest, text_so_far}
+use Rattle.run_law.specs.Lives.{AreLivesOf, AreRunLives, BeginRun, BeginWithBases, BeginsWithBase, IsFrontOf, LifePart, last_text, life_rest, text_so_far}
 
 -- ---- the lives
 
@@ -25,11 +26,16 @@ begin_push : (base : Counters) (lives : List LifeReport) (r : LifeReport) → Be
 begin_push base [] r begin first = first refl
 begin_push base (s ∷ lives) r begin first = begin
 
+bases_push : (lives : List LifeReport) (r : LifeReport) → BeginWithBases lives → (lives ≢ [] → BeginsWithBase r) → BeginWithBases (lives ++ r ∷ [])
+bases_push [] r bases later = tt
+bases_push (s ∷ lives) r bases later = all_push BeginsWithBase lives r bases (later (λ e. cc))
+
 pub run_lives_push : (tells : Bool) (s : Script) (done : List LifePart) (lives : List LifeReport) (p : LifePart) (r : LifeReport) → AreRunLives tells s done lives → IsLawfulLife tells s.banks (asked_of p.items) r → r.crash ≡ p.crash
-    → (lives ≡ [] → BeginsLog s.base r.life) → (IsTrue tells → GoesBehind lives r.life) → AreRunLives tells s (done ++ p ∷ []) (lives ++ r ∷ [])
-run_lives_push tells s done lives p r are lawful crash first behind = record {
+    → (lives ≡ [] → BeginsLog s.base r.life) → (lives ≢ [] → BeginsWithBase r) → (IsTrue tells → GoesBehind lives r.life) → AreRunLives tells s (done ++ p ∷ []) (lives ++ r ∷ [])
+run_lives_push tells s done lives p r are lawful crash first later behind = record {
   of = of_push tells s.banks done lives p r are.of lawful crash;
   begin = begin_push s.base lives r are.begin first;
+  bases = bases_push lives r are.bases later;
   go_on = λ told. go_on_push lives r (are.go_on told) (behind told);
 }
 

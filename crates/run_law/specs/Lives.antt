@@ -1,6 +1,8 @@
 -- The lives of a script, and those of a run of it.
 use Rattle.std.specs.Prelude.{◌≡◌, ◌≢◌, ℕ, ◌⊎◌, Bool, IsTrue, List, [], ◌∷◌, ◌++◌, Option, None, Some}
-use Rattle.std.specs.List.{All, flat_map}
+use Rattle.std.specs.List.{All, AllByRecursion, flat_map}
+use Rattle.tx_events.specs.Base.{IsBase}
+use Rattle.tx_events.specs.Ids.{IsFullMulti}
 use Rattle.tx_events.specs.declared.record.Counters.{Counters}
 use Rattle.tx_model.specs.declared.report.How.{How}
 use Rattle.tx_model.specs.declared.report.LifeReport.{LifeReport}
@@ -45,11 +47,24 @@ abbrev pub BeginRun : Counters → List LifeReport → Type 0
 BeginRun base [] = Unit {0}
 BeginRun base (first ∷ lives) = BeginsLog base first.life
 
+-- the life begins with a base, whose multixacts' numbers are those of multixacts
+pub record BeginsWithBase (r : LifeReport) : Type 0 where
+  pub is_base : IsBase r.life.base
+  pub multi : IsFullMulti r.life.base.multi
+  pub oldest_multi : IsFullMulti r.life.base.oldest_multi
+
+-- so each life from the second on
+abbrev pub BeginWithBases : List LifeReport → Type 0
+BeginWithBases [] = Unit {0}
+BeginWithBases (first ∷ lives) = AllByRecursion BeginsWithBase lives
+
 -- Lives of a run of the script over a new log, for these parts of it: the first from the script's counters, each later one
--- from where the log of the one before it can be read behind the crash, if the volumes tell what they hold.
+-- from a base, which is that of where the log of the one before it can be read behind the crash, if the volumes tell what
+-- they hold.
 pub record AreRunLives (tells : Bool) (s : Script) (parts : List LifePart) (lives : List LifeReport) : Type 0 where
   pub of : AreLivesOf tells s.banks parts lives
   pub begin : BeginRun s.base lives
+  pub bases : BeginWithBases lives
   pub go_on : IsTrue tells → GoOn lives
 
 -- The lives before a run stopped: those of the first parts of the script, each ended by its crash.

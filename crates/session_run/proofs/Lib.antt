@@ -10,6 +10,7 @@ mod RoundsRun
 mod LogHeld
 mod StatesHeld
 mod CausesTold
+mod LifeFits
 mod LifeLived
 mod Endings
 mod ToolEnds

@@ -27,14 +27,19 @@ use Rattle.engine_life.specs.declared.closed.ClosedLife.{ClosedLife}
 use Rattle.engine_life.specs.declared.life.OpenLife.{OpenLife}
 use Rattle.engine_life.specs.Lives.{IsNewLife, volumes_left}
 use Rattle.session_run.specs.OneLife.{HasLeft, IsOpened, life_of}
-use Rattle.session_run.specs.Parts.{HasLived, report_of}
+use Rattle.session_run.specs.Parts.{HasLived, IsTakenPart, report_of}
 use Rattle.session_run.specs.Records.{BankHolds}
 use Rattle.session_run.specs.Leaves.{LeavesVolumes}
 use Rattle.session_run.specs.Runs.{IsTakenAlone}
 
--- a new life is opened so
-pub new_opened : {L P : Type 0} {l : logs.Ghosts L} {p : disks.Ghosts P} (c : Cluster) (volumes : Volumes L P) (life : OpenLife L P l p) (new : IsNewLife c volumes life) → IsOpened c nothing_before new.faults volumes life
-new_opened c volumes life new = record { banks = new.banks; counted = new.counted; begun = new.begun; offsets = new.offsets; members = new.members }
+-- its items are one part
+pub part_alone : (s : Script) → IsTakenAlone s → IsTakenPart (length s.names) s.items
+part_alone s alone = record { items = alone.items; few = alone.taken.runnable.few; levels = alone.taken.few }
+
+-- a new life of a cluster is one of the same cluster
+pub of_cluster : {L P : Type 0} {l : logs.Ghosts L} {p : disks.Ghosts P} (c d : Cluster) (first : ℕ → Volumes L P → Type 0) (life : OpenLife L P l p) → c ≡ d
+    → (volumes : Volumes L P) × first c.banks volumes × IsNewLife c volumes life → (volumes : Volumes L P) × first d.banks volumes × IsNewLife d volumes life
+of_cluster {L} {P} c d first life same k = subst (λ (e : Cluster). (volumes : Volumes L P) × first e.banks volumes × IsNewLife e volumes life) same k
 
 -- no more lines have a verdict
 pub verdicts_few : (lines : List Line) → verdicts_in lines ≤ length lines
@@ -55,6 +60,7 @@ counts_told tells s life ss text commands verdicts taken lived begins many told 
           lives = record {
             of = subst (λ (ps : List LifePart). AreLivesOf tells s.banks ps (r ∷ [])) (sym one) (lived.lawful None, refl, tt);
             begin = begins;
+            bases = tt;
             go_on = λ tells. tt;
           };
         };
@@ -74,18 +80,24 @@ pub left_alone : {L P : Type 0} (l : logs.Ghosts L) (p : disks.Ghosts P) (c : Cl
 left_alone l p c faults mounted opened closed steps first falls gives is began only left =
     let banks : length mounted.xact.items ≡ c.banks = is.banks.xact in
     record {
-      before = [];
-      last = report_of (life_of c nothing_before closed) steps None;
-      lives_are = refl;
-      begun = mounted;
       left = volumes_left closed;
-      began = began;
-      only = only;
-      has_left = record {
-        mounted = mounted;
-        comes = refl;
-        causes = left.causes;
-        log = λ none. left.log refl;
-        states = λ none told bank low. subst (λ n. BankHolds p (life_of c nothing_before closed) n bank (volumes_left closed).xact.items) (sym banks) (left.states refl told bank (omega (arith, low, banks)));
+      have_left = record {
+        before = [];
+        last = report_of (life_of c nothing_before closed) steps None;
+        lives_are = refl;
+        begun = mounted;
+        began = began;
+        has_left = record {
+          mounted = mounted;
+          comes = refl;
+          ended = record {
+            same = left.same;
+            causes = left.causes;
+            log = left.log;
+            states = λ told bank low. subst (λ n. BankHolds p (life_of c nothing_before closed) n bank (volumes_left closed).xact.items) (sym banks) (left.states told bank (omega (arith, low, banks)));
+            fit = left.fit;
+          };
+        };
       };
+      only = only;
     }

@@ -32,7 +32,7 @@ use Rattle.run_law.specs.Lives.{text_so_far}
 use Rattle.session_run.specs.declared.stop.Stopped.{Stopped}
 use Rattle.session_run.specs.declared.stop.Stopped.TheVariants as stops
 use Rattle.session_run.specs.Stops.{IsStopped}
-use Rattle.session_run.proofs.LivesRun.{none_before, stops_first}
+use Rattle.session_run.proofs.LivesRun.{none_before, then_memory}
 
 -- ---- what is asked for
 
@@ -140,7 +140,7 @@ module _ {L P : Type 0} (l : logs.Ghosts L) (p : disks.Ghosts P) where
         written,
         unopened_ends tasks.Run left left' faults faults' first falls before now gives written refusal e t
             (λ other. record { script = s; of = h; lives = k.0; are = k.1; exact = refl; stops = k.3 })
-            (inr (record { script = s; of = h; lives = k.0; are = k.1; exact = refl; stops = tt })),
+            (inr (record { script = s; of = h; lives = k.0; are = k.1; exact = refl; stops = then_memory l p s first falls before now gives k.0 refusal k.3 })),
         written_by held held' sink sink' written refusal e t k.2,
       )
 
@@ -148,7 +148,7 @@ module _ {L P : Type 0} (l : logs.Ghosts L) (p : disks.Ghosts P) where
       → (refusal : NoLife) (e : Ending) → TellsRefusal refusal e → IsUnopened l p (cluster_of s) first before now gives refusal → Ends l p task left left' faults faults' first falls before now gives [] e
   alone_ends task left left' faults faults' first falls before now gives s of refusal e t u =
       unopened_ends task left left' faults faults' first falls before now gives [] refusal e t
-      (λ other. record { script = s; of = of; lives = []; are = none_before p.tells s; exact = refl; stops = stops_first l p s first falls before now gives refusal u }) (inl refl)
+      (λ other. record { script = s; of = of; lives = []; are = none_before p.tells s; exact = refl; stops = u }) (inl refl)
 
   -- a generated script is not refused
   pub generated_is_read : (seed size : ℕ) (left left' : Option (List ℕ)) (faults faults' : ℕ) (first : ℕ → Volumes L P → Type 0) (falls : Crash → Volumes L P → Volumes L P → Type 0) (before now : ℕ) (gives : Volumes L P → Type 0) (written : List ℕ) (e : Ending) → Ends l p (tasks.Gen seed size) left left' faults faults' first falls before now gives written e → IsUnread e → ⊥

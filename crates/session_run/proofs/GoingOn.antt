@@ -35,13 +35,14 @@ use Rattle.engine_life.specs.declared.refusal.NoLife.{NoLife}
 use Rattle.engine_life.specs.declared.refusal.NoLife.TheVariants as no_lives
 use Rattle.engine_life.specs.declared.refusal.NotReopened.{NotReopened}
 use Rattle.engine_life.specs.declared.refusal.NotReopened.TheVariants as not_reopened
-use Rattle.engine_life.specs.NextLives.{IsNotReopened}
+use Rattle.engine_life.specs.NextLives.{CrashGoesOn, IsNotReopened, MayGoOn}
 use Rattle.engine_life.specs.Reopening.{behind}
 use Rattle.session_run.specs.Fits.{EndsWithLife, FitsLife}
 use Rattle.session_run.specs.Going.{HasGoneOn, IsCrashed, IsPartTold, IsRunning}
 use Rattle.session_run.specs.Lives.{HasFallen}
 use Rattle.session_run.specs.OneLife.{life_of, life_over}
 use Rattle.session_run.specs.Stops.{IsUndamaged, no_life_by}
+use Rattle.session_run.proofs.Opening.{next_is_opened}
 use Rattle.session_run.proofs.Running.{comes_push, push_some}
 
 -- ---- the log that a life leaves
@@ -99,6 +100,13 @@ module _ {L P : Type 0} (l : logs.Ghosts L) (p : disks.Ghosts P) where
     members = same.members ∙ has.members;
   }
 
+  -- volumes that a crash left fit a log that the ones before did
+  pub may_go_on : (kept : KeptLog) (n : ℕ) (old : Volumes L P) (gives : Volumes L P → Type 0) → HasBanks n old → ((v : Volumes L P) → gives v → HaveSameBanks old v)
+      → (IsTrue l.tells → IsTrue p.tells → (v : Volumes L P) → gives v → AllCrashed (LogCrashed l.reads l.images l.faults) (PagesCrashed p.pages p.images p.faults) old v)
+      → (IsTrue p.tells → IsTrue l.tells) → (IsTrue p.tells → IsTrue l.tells → Fit l p kept old.log old.xact.items) → CrashGoesOn l p → (v : Volumes L P) → gives v → HasBanks n v × MayGoOn l p kept v
+  may_go_on kept n old gives has same crashed tells fit carries v given =
+      (same_banks n old v has (same v given), carries kept old v (λ lt pt. crashed lt pt v given) (λ pt. (tells pt, fit pt (tells pt))))
+
   abbrev Crashed : Volumes L P → Volumes L P → Type 0
   Crashed old new = AllCrashed (LogCrashed l.reads l.images l.faults) (PagesCrashed p.pages p.images p.faults) old new
 
@@ -150,10 +158,6 @@ module _ {L P : Type 0} (l : logs.Ghosts L) (p : disks.Ghosts P) where
 
 -- ---- the next life is open
 
-none_if : (told : Bool) (xs : List Rec) → (IsTrue told → xs ≡ []) → cond told xs [] ≡ []
-none_if true xs none = none refl
-none_if false xs none = refl
-
 abbrev with_counters : LifeBase → Counters → LifeBase
 with_counters base counters = record { counters = counters; committed = base.committed; recorded = base.recorded }
 
@@ -172,10 +176,10 @@ from_last kept before next n ends begun low upto from is =
     (is ∙ ap (λ (t : List Rec). base_after kept.base (take (n - kept.first) t)) ends.recs ∙ ap (λ m. base_after kept.base (take (m - kept.first) (ends.past ++ ends.own))) (sym from))
 
 module _ {L P : Type 0} {l : logs.Ghosts L} {p : disks.Ghosts P} (s : Script) (falls : Crash → Volumes L P → Volumes L P → Type 0) where
-  pub running_on : (begun : Volumes L P) (done : List LifePart) (lives : List LifeReport) (part : LifePart) (held held' : Option (List ℕ)) (r : LifeReport) (left : Volumes L P) → IsPartTold l p s begun falls done lives part held held' r left
+  pub running_on : (begun : Volumes L P) (done : List LifePart) (lives : List LifeReport) (part : LifePart) (r : LifeReport) (left : Volumes L P) → IsPartTold l p s begun falls done lives part r left
       → (how : How) → part.crash ≡ Some how → (life : OpenLife L P l p) (kept : KeptLog) → HasGoneOn l p falls how kept s.banks (length s.names) left life
       → (IsTrue p.tells → FitsLife l p r.life left.log left.xact.items kept) → IsRunning s begun falls (done ++ part ∷ []) (lives ++ r ∷ []) life
-  running_on begun done lives part held held' r left told how crash life kept gone fit =
+  running_on begun done lives part r left told how crash life kept gone fit =
       let goes = gone.goes in
       let number = goes.number in
       let banks : goes.cluster.banks ≡ s.banks = goes.banks ∙ gone.banks_are.xact in
@@ -187,16 +191,8 @@ module _ {L P : Type 0} {l : logs.Ghosts L} {p : disks.Ghosts P} (s : Script) (f
         mounted = gone.mounted;
         banks = banks;
         sessions = goes.sessions_are;
-        opened = record {
-          banks = subst (λ n. HasBanks n gone.mounted) (sym banks) gone.banks_are;
-          counted = goes.counted;
-          begun = goes.begun;
-          offsets = goes.offsets;
-          members = goes.members;
-          right = goes.right;
-          unrecorded = none_if p.tells (base_at kept number).recorded (λ tells. (fit tells).unrecorded number);
-        };
-        comes = comes_push s falls lives r begun told.last.mounted left gone.mounted told.last.comes told.last.causes
+        opened = next_is_opened kept s.banks (length s.names) gone.mounted life gone.banks_are goes (λ tells. (fit tells).unrecorded);
+        comes = comes_push s falls lives r begun told.last.mounted left gone.mounted told.last.comes told.last.ended
             (subst (λ (c : Option How). IfSome c (λ h. HasFallen l p falls h left gone.mounted)) (sym crash ∙ sym told.crash_is) gone.fallen);
         new = λ none. absurd (push_some lives r none);
         behind = λ tells next from base.

@@ -31,7 +31,7 @@ use Rattle.engine_life.specs.Refusals.{IsUnopened}
 use Rattle.session_run.specs.declared.stop.Stopped.{Stopped}
 use Rattle.session_run.specs.declared.stop.Stopped.TheVariants as stops
 use Rattle.session_run.specs.Going.{IsCrashed, IsPartTold, IsRunning, PartWent, part_of}
-use Rattle.session_run.specs.Leaves.{LeavesVolumes}
+use Rattle.session_run.specs.Leaves.{HasLeftLast, HaveLeft, LeavesVolumes}
 use Rattle.session_run.specs.Lives.{ComesTo, HasFallen}
 use Rattle.session_run.specs.Parts.{IsTakenPart}
 use Rattle.session_run.specs.Runs.{IsTaken, cluster_of}
@@ -49,31 +49,51 @@ none_before tells s = record {
   rest = parts_of s.items;
   split = refl;
   more = parts_some [] s.items;
-  are = record { of = tt; begin = tt; go_on = λ told. tt };
+  are = record { of = tt; begin = tt; bases = tt; go_on = λ told. tt };
 }
 
+module _ {L P : Type 0} (l : logs.Ghosts L) (p : disks.Ghosts P) (falls : Crash → Volumes L P → Volumes L P → Type 0) where
+  -- what the last of the lives left that come to a mount
+  last_left : (q : LifeReport) (lives : List LifeReport) (begun mounted : Volumes L P) → ComesTo l p falls (q ∷ lives) begun mounted
+      → (before : List LifeReport) × (last : LifeReport) × (q ∷ lives ≡ before ++ last ∷ []) × (left : Volumes L P) × HasLeftLast l p begun falls before last left
+  last_left q [] begun mounted c = ([], q, refl, c.0, record { mounted = begun; comes = refl; ended = c.2 })
+  last_left q (r ∷ lives) begun mounted c =
+      let k = last_left r lives c.1 mounted c.4 in
+      (q ∷ k.0, k.1, ap (λ (t : List LifeReport). q ∷ t) k.2, k.3, record { mounted = k.4.mounted; comes = (c.0, c.1, c.2, c.3, k.4.comes); ended = k.4.ended })
+
 module _ {L P : Type 0} (l : logs.Ghosts L) (p : disks.Ghosts P) (s : Script) (first : ℕ → Volumes L P → Type 0) (falls : Crash → Volumes L P → Volumes L P → Type 0) (before now : ℕ) (gives : Volumes L P → Type 0) where
-  pub stops_first : (refusal : NoLife) → IsUnopened l p (cluster_of s) first before now gives refusal → Stops l p first falls before now gives s [] refusal
-  stops_first no_lives.Memory u = tt
-  stops_first (no_lives.Damaged at) u = u
-  stops_first no_lives.OldLog u = u
-  stops_first no_lives.Device u = u
-  stops_first no_lives.Full u = u
+  abbrev Stopped_by : List LifeReport → NoLife → Type 0
+  Stopped_by lives refusal = Stops l p first falls before now gives s lives refusal
 
-  stops_some : (q : LifeReport) (lives : List LifeReport) (refusal : NoLife) → StopsBehind l p first falls before now gives s (q ∷ lives) refusal → Stops l p first falls before now gives s (q ∷ lives) refusal
-  stops_some q lives no_lives.Memory u = tt
-  stops_some q lives (no_lives.Damaged at) u = u
-  stops_some q lives no_lives.OldLog u = u
-  stops_some q lives no_lives.Device u = u
-  stops_some q lives no_lives.Full u = u
+  stops_behind : (lives : List LifeReport) (r : LifeReport) (refusal : NoLife) → StopsBehind l p first falls before now gives s (lives ++ r ∷ []) refusal → Stopped_by (lives ++ r ∷ []) refusal
+  stops_behind [] r refusal u = u
+  stops_behind (q ∷ lives) r refusal u = u
 
-  stops_behind : (lives : List LifeReport) (r : LifeReport) (refusal : NoLife) → StopsBehind l p first falls before now gives s (lives ++ r ∷ []) refusal → Stops l p first falls before now gives s (lives ++ r ∷ []) refusal
-  stops_behind [] r refusal u = stops_some r [] refusal u
-  stops_behind (q ∷ lives) r refusal u = stops_some q (lives ++ r ∷ []) refusal u
+  -- memory was wanting for the text of a life
+  memory_stops : (lives : List LifeReport) (begun mounted : Volumes L P) → first s.banks begun → ComesTo l p falls lives begun mounted → Stopped_by lives no_lives.Memory
+  memory_stops [] begun mounted began comes = tt
+  memory_stops (q ∷ lives) begun mounted began comes =
+      let k = last_left l p falls q lives begun mounted comes in
+      (k.3, record { before = k.0; last = k.1; lives_are = k.2; begun = begun; began = began; has_left = k.4 }, inl refl)
+
+  -- or for the line that tells of another stop
+  pub then_memory : (lives : List LifeReport) (refusal : NoLife) → Stopped_by lives refusal → Stopped_by lives no_lives.Memory
+  then_memory [] refusal u = tt
+  then_memory (q ∷ lives) refusal u = (u.0, u.1, inl refl)
 
   -- the first life wasn't opened
   pub unopened_stops : (held : Option (List ℕ)) (faults faults' : ℕ) (refusal : NoLife) → IsUnopened l p (cluster_of s) first before now gives refusal → IsStopped l p first falls before now gives s held held faults faults' (stops.NoLife refusal)
-  unopened_stops held faults faults' refusal u = ([], none_before p.tells s, Appends-nil held, stops_first refusal u)
+  unopened_stops held faults faults' refusal u = ([], none_before p.tells s, Appends-nil held, u)
+
+-- the text of a part that stands behind those of the lives before
+text_ends : (tells : Bool) (s : Script) (done : List LifePart) (lives : List LifeReport) (items its : List Item) (crash : Option How) (rest : List Item) (r : LifeReport) → parts_of s.items ≡ done ++ parts_of items → IsFirstPart items its crash rest
+    → AreRunLives tells s (done ++ part_of its crash ∷ []) (lives ++ r ∷ []) → IsTextOfRun tells s (lives ++ r ∷ []) (text_so_far s.names (lives ++ r ∷ []) ++ last_text crash)
+text_ends tells s done lives items its None rest r parts f are =
+    let all : parts_of s.items ≡ done ++ part_of its None ∷ [] = parts ∙ ap (λ (ps : List LifePart). done ++ ps) (last_part items its None rest f refl) in
+    inl (record { names = refl; lives = subst (λ (ps : List LifePart). AreRunLives tells s ps (lives ++ r ∷ [])) (sym all) are }, so_whole s.names lives r)
+text_ends tells s done lives items its (Some how) rest r parts f are =
+    let split : parts_of s.items ≡ (done ++ part_of its (Some how) ∷ []) ++ parts_of rest = parts ∙ (ap (λ (ps : List LifePart). done ++ ps) (next_parts items its (Some how) rest f how refl) ∙ sym (append_assoc done (part_of its (Some how) ∷ []) (parts_of rest))) in
+    inr (record { done = done ++ part_of its (Some how) ∷ []; rest = parts_of rest; split = split; more = parts_some [] rest; are = are }, append-nil (text_so_far s.names (lives ++ r ∷ [])))
 
 module _ {L P : Type 0} {l : logs.Ghosts L} {p : disks.Ghosts P} (s : Script) (first : ℕ → Volumes L P → Type 0) (falls : Crash → Volumes L P → Volumes L P → Type 0) where
   -- How far a run has come: the next life is open, and these items are left to it and to those behind it. What was written
@@ -140,18 +160,21 @@ module _ {L P : Type 0} {l : logs.Ghosts L} {p : disks.Ghosts P} (s : Script) (f
     so_far : (how : How) (r : LifeReport) → crash ≡ Some how → text_so_far s.names (h.lives ++ r ∷ []) ++ last_text crash ≡ text_so_far s.names (h.lives ++ r ∷ [])
     so_far how r some = ap (λ (c : Option How). text_so_far s.names (h.lives ++ r ∷ []) ++ last_text c) some ∙ append-nil (text_so_far s.names (h.lives ++ r ∷ []))
 
-    module _ (held' : Option (List ℕ)) (r : LifeReport) (left : Volumes L P) (told : IsPartTold l p s h.begun falls h.done h.lives (part_of its crash) mid held' r left) where
-      wrote : (how : How) → crash ≡ Some how → Appends held held' (text_so_far s.names (h.lives ++ r ∷ []))
-      wrote how some = subst (Appends held held') (told.exact ∙ so_far how r some) (Appends-trans held mid held' (text_so_far s.names h.lives) told.written h.wrote told.wrote)
+    module _ (held' : Option (List ℕ)) (r : LifeReport) (left : Volumes L P) (told : IsPartTold l p s h.begun falls h.done h.lives (part_of its crash) r left) where
+      abbrev have_left : HaveLeft l p (first s.banks) falls (h.lives ++ r ∷ []) left
+      have_left = record { before = h.lives; last = r; lives_are = refl; begun = h.begun; began = h.began; has_left = told.last }
+
+      wrote : (how : How) → crash ≡ Some how → Appends mid held' told.text → Appends held held' (text_so_far s.names (h.lives ++ r ∷ []))
+      wrote how some more = subst (Appends held held') (told.exact ∙ so_far how r some) (Appends-trans held mid held' (text_so_far s.names h.lives) told.text h.wrote more)
 
       -- it was the last part
-      pub run_ends : (gives : Volumes L P → Type 0) → crash ≡ None → Only left gives
+      pub run_ends : (gives : Volumes L P → Type 0) → crash ≡ None → Appends mid held' told.text → Only left gives
           → (report : Report) × IsReportOf p.tells s report × Appends held held' (report_text report) × LeavesVolumes l p (first s.banks) falls gives report.lives
-      run_ends gives none only = run_told s falls h.begun h.done h.lives (part_of its crash) held mid held' r left (first s.banks) gives told none (whole none) h.wrote h.began only
+      run_ends gives none more only = run_told s falls h.begun h.done h.lives (part_of its crash) held mid held' r left (first s.banks) gives told more none (whole none) h.wrote h.began only
 
       -- it crashed, and the next life is open
-      pub come_on : (how : How) (next : OpenLife L P l p) → crash ≡ Some how → IsRunning s h.begun falls (h.done ++ part_of its crash ∷ []) (h.lives ++ r ∷ []) next → HasCome held held' rest (number + 1) next
-      come_on how next some running =
+      pub come_on : (how : How) (next : OpenLife L P l p) → crash ≡ Some how → Appends mid held' told.text → IsRunning s h.begun falls (h.done ++ part_of its crash ∷ []) (h.lives ++ r ∷ []) next → HasCome held held' rest (number + 1) next
+      come_on how next some more running =
           let count = h.count in
           let short = h.short in
           let fewer = rest_shorter items its crash rest f how some in
@@ -164,7 +187,7 @@ module _ {L P : Type 0} {l : logs.Ghosts L} {p : disks.Ghosts P} (s : Script) (f
             running = running;
             count = omega (arith, count, size);
             parts = split how some;
-            wrote = wrote how some;
+            wrote = wrote how some more;
             stand = (part_runs (length s.names) items its crash rest f h.stand).1;
             short = omega (arith, short, fewer);
             levels = (parts_levels items its crash rest f h.levels).1;
@@ -172,24 +195,14 @@ module _ {L P : Type 0} {l : logs.Ghosts L} {p : disks.Ghosts P} (s : Script) (f
 
       -- it crashed, and no life goes on
       crash_stops : (gives : Volumes L P → Type 0) (faults count now : ℕ) (how : How) (refusal : NoLife) → faults ≤ count → crash ≡ Some how → IsCrashed l p falls how count now left gives refusal → StopsBehind l p first falls faults now gives s (h.lives ++ r ∷ []) refusal
-      crash_stops gives faults count now how refusal later some none = ⊎_elim
+      crash_stops gives faults count now how refusal later some none = (left, have_left, inr (⊎_elim
           (λ (a : (refusal ≡ no_lives.Device) × HasRisen count now). inl (a.0, risen_from faults count now later a.1))
           (λ (b : (e : NotReopened) × (refusal ≡ no_life_by e) × IsNotReopened l p count now (HasFallen l p falls how left) gives e × IsUndamaged l p refusal).
-              inr (h.begun, h.began, b.0, b.1, since l p (HasFallen l p falls how left) (ComesTo l p falls (h.lives ++ r ∷ []) h.begun) gives faults count now later (λ v fell. comes_push s falls h.lives r h.begun told.last.mounted left v told.last.comes told.last.causes
+              inr (b.0, b.1, since l p (HasFallen l p falls how left) (ComesTo l p falls (h.lives ++ r ∷ []) h.begun) gives faults count now later (λ v fell. comes_push s falls h.lives r h.begun told.last.mounted left v told.last.comes told.last.ended
                   (subst (λ (c : Option How). IfSome c (λ k. HasFallen l p falls k left v)) (sym some ∙ sym told.crash_is) fell)) b.0 b.2, b.3))
-          none
+          none))
 
-  -- ---- a run that stopped
-
-  -- the text of which a front was written where the sink failed
-  text_ends : (done : List LifePart) (lives : List LifeReport) (items its : List Item) (crash : Option How) (rest : List Item) (r : LifeReport) → parts_of s.items ≡ done ++ parts_of items → IsFirstPart items its crash rest
-      → AreRunLives p.tells s (done ++ part_of its crash ∷ []) (lives ++ r ∷ []) → IsTextOfRun p.tells s (text_so_far s.names (lives ++ r ∷ []) ++ last_text crash)
-  text_ends done lives items its None rest r parts f are =
-      let all : parts_of s.items ≡ done ++ part_of its None ∷ [] = parts ∙ ap (λ (ps : List LifePart). done ++ ps) (last_part items its None rest f refl) in
-      inl (record { names = s.names; lives = lives ++ r ∷ [] }, record { names = refl; lives = subst (λ (ps : List LifePart). AreRunLives p.tells s ps (lives ++ r ∷ [])) (sym all) are }, so_whole s falls lives r)
-  text_ends done lives items its (Some how) rest r parts f are =
-      let split : parts_of s.items ≡ (done ++ part_of its (Some how) ∷ []) ++ parts_of rest = parts ∙ (ap (λ (ps : List LifePart). done ++ ps) (next_parts items its (Some how) rest f how refl) ∙ sym (append_assoc done (part_of its (Some how) ∷ []) (parts_of rest))) in
-      inr (lives ++ r ∷ [], record { done = done ++ part_of its (Some how) ∷ []; rest = parts_of rest; split = split; more = parts_some [] rest; are = are }, append-nil (text_so_far s.names (lives ++ r ∷ [])))
+  -- ---- a part stopped
 
   module _ (held mid held' : Option (List ℕ)) (items : List Item) (number : ℕ) (life : OpenLife L P l p) (h : HasCome held mid items number life)
       (its : List Item) (crash : Option How) (rest : List Item) (f : IsFirstPart items its crash rest)
@@ -200,28 +213,33 @@ module _ {L P : Type 0} {l : logs.Ghosts L} {p : disks.Ghosts P} (s : Script) (f
     abbrev fell : NoLife → Type 0
     fell refusal =
         (how : How) × (crash ≡ Some how) × (r : LifeReport) × (left : Volumes L P)
-        × IsPartTold l p s h.begun falls h.done h.lives (part_of its crash) mid held' r left × IsCrashed l p falls how between now left gives refusal
+        × (told : IsPartTold l p s h.begun falls h.done h.lives (part_of its crash) r left) × Appends mid held' told.text
+        × IsCrashed l p falls how between now left gives refusal
 
-    -- a part stopped
     pub part_stops : (stop : Stopped) → went stop → IsStopped l p first falls before now gives s held held' faults faults' stop
     part_stops stops.Sink w =
-        let front = text_so_far s.names h.lives in (
+        let front = text_so_far s.names h.lives in
+        let told = w.3 in (
           rose_from faults mids faults' sink w.0,
-          front ++ w.3,
-          subst (IsTextOfRun p.tells s) (sym w.4) (text_ends h.done h.lives items its crash rest w.1 h.parts f w.2),
-          length front + w.5,
-          subst (Appends held held') (sym (take-append-add front w.3 w.5)) (Appends-trans held mid held' front (take w.5 w.3) h.wrote w.6),
+          front ++ told.text,
+          record {
+            lives = h.lives ++ w.1 ∷ [];
+            text_is = subst (IsTextOfRun p.tells s (h.lives ++ w.1 ∷ [])) (sym told.exact) (text_ends p.tells s h.done h.lives items its crash rest w.1 h.parts f told.are);
+            leaves = record { left = w.2; have_left = have_left held mid items number life h its crash rest f held' w.1 w.2 told; only = w.6 };
+          },
+          length front + w.4,
+          subst (Appends held held') (sym (take-append-add front told.text w.4)) (Appends-trans held mid held' front (take w.4 told.text) h.wrote w.5),
         )
     part_stops (stops.NoLife refusal) w = ⊎_elim
         (λ (a : (refusal ≡ no_lives.Memory) × Appends mid held' []). (
           h.lives,
           record { done = h.done; rest = parts_of items; split = h.parts; more = parts_some [] items; are = h.running.are },
           subst (Appends held held') (append-nil (text_so_far s.names h.lives)) (Appends-trans held mid held' (text_so_far s.names h.lives) [] h.wrote a.1),
-          subst (Stops l p first falls before now gives s h.lives) (sym a.0) tt,
+          subst (Stops l p first falls before now gives s h.lives) (sym a.0) (memory_stops l p s first falls before now gives h.lives h.begun h.running.mounted h.began h.running.comes),
         ))
         (λ (b : fell refusal). (
           h.lives ++ b.2 ∷ [],
           lives_before held mid items number life h its crash rest f b.0 b.2 b.1 b.4.are,
-          wrote held mid items number life h its crash rest f held' b.2 b.3 b.4 b.0 b.1,
-          stops_behind l p s first falls before now gives h.lives b.2 refusal (crash_stops held mid items number life h its crash rest f held' b.2 b.3 b.4 gives before between now b.0 refusal later b.1 b.5),
+          wrote held mid items number life h its crash rest f held' b.2 b.3 b.4 b.0 b.1 b.5,
+          stops_behind l p s first falls before now gives h.lives b.2 refusal (crash_stops held mid items number life h its crash rest f held' b.2 b.3 b.4 gives before between now b.0 refusal later b.1 b.6),
         )) w

@@ -64,7 +64,7 @@ module _ (held mid new : Option (List ℕ)) (faults between now : ℕ) (later : 
   pub front_on : (written : List ℕ) (e : Ending) → HasWritten held mid faults between written e → ((k : ℕ) × Appends mid new (take k (text_of e))) → (n : ℕ) × Appends held new (take n (written ++ text_of e))
   front_on written endings.WriteFault w f = (w.1, subst (Appends held new) (ap (λ t. take w.1 written ++ t) (take_none f.0) ∙ append-nil (take w.1 written) ∙ ap (take w.1) (sym (append-nil written))) (Appends-trans held mid new (take w.1 written) (take f.0 []) w.2 f.1))
     where
-      take_none : (k : ℕ) → take k {A = ℕ} [] ≡ []
+      take_none : (k : ℕ) → ◌≡◌ {A = List ℕ} (take k []) []
       take_none zero = refl
       take_none (suc k) = refl
   front_on written endings.Report w f = front_behind written [] f.0 w f.1
@@ -248,7 +248,7 @@ module _ {L P : Type 0} (l : logs.Ghosts L) (p : disks.Ghosts P) (words : List (
   memory e k w = absurd (omega (arith, w.0))
 
   damaged : (e : Ending) → Ended e → (status_of e ≡ 7) × Wrote e → (at : ℕ) × Unrun (no_lives.Damaged at) (damage_text at)
-  damaged (endings.Damaged text) k w = (k.0, task, is, written, k.2, subst (λ (t : List ℕ). Appends held held' (written ++ t)) k.1 w.1)
+  damaged (endings.Damaged text) k w = (k.0, (task, is, written, k.2, subst (λ (t : List ℕ). Appends held held' (written ++ t)) k.1 w.1))
   damaged e k w = absurd (omega (arith, w.0))
 
   full : (e : Ending) → Ended e → (status_of e ≡ 9) × Wrote e → Unrun no_lives.Full (codes "log-full" ++ 10 ∷ [])

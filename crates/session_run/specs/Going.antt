@@ -8,6 +8,7 @@ use Rattle.disk_core.specs.declared.media.Volumes.{Volumes}
 use Rattle.disk_core.specs.Faults.{HasRisen}
 use Rattle.disk_core.specs.Images.{Only}
 use Rattle.disk_core.specs.Media.{HasBanks}
+use Rattle.tx_events.specs.Ids.{IsFullMulti}
 use Rattle.tx_model.specs.declared.report.How.{How}
 use Rattle.tx_model.specs.declared.report.Life.{Life}
 use Rattle.tx_model.specs.declared.report.LifeReport.{LifeReport}
@@ -48,6 +49,7 @@ module _ {L P : Type 0} (l : logs.Ghosts L) (p : disks.Ghosts P) where
     pub left : HasLeft l p c b mounted steps closed
     pub front : IsFrontOf number b.number c.base text.front
     pub rest : text.rest ≡ life_rest names (report_of (life_of c b closed) steps crash)
+    pub multis : IsFullMulti c.base.multi × IsFullMulti c.base.oldest_multi
 
   -- The crash fell, and a life goes on from a log that the volumes fitted before it. The log tells what it holds if the pages
   -- do.
@@ -91,32 +93,32 @@ EndsIdle (Ok (ends.Next life)) = ⊥
 EndsIdle result = Unit {0}
 
 module _ {L P : Type 0} (l : logs.Ghosts L) (p : disks.Ghosts P) where
-  -- A part of the script was run behind these, which asks for so much, and its text written.
-  pub record IsPartTold (s : Script) (begun : Volumes L P) (falls : Crash → Volumes L P → Volumes L P → Type 0) (done : List LifePart) (lives : List LifeReport) (part : LifePart) (held held' : Option (List ℕ)) (r : LifeReport) (left : Volumes L P) : Type 0 where
+  -- A part of the script was run behind these, with this text, and left these volumes.
+  pub record IsPartTold (s : Script) (begun : Volumes L P) (falls : Crash → Volumes L P → Volumes L P → Type 0) (done : List LifePart) (lives : List LifeReport) (part : LifePart) (r : LifeReport) (left : Volumes L P) : Type 0 where
     pub are : AreRunLives p.tells s (done ++ part ∷ []) (lives ++ r ∷ [])
     pub lawful : IsLawfulLife p.tells s.banks (asked_of part.items) r
     pub crash_is : r.crash ≡ part.crash
-    pub written : List ℕ
-    pub wrote : Appends held held' written
-    pub exact : text_so_far s.names lives ++ written ≡ text_so_far s.names (lives ++ r ∷ []) ++ last_text part.crash
+    pub text : List ℕ
+    pub exact : text_so_far s.names lives ++ text ≡ text_so_far s.names (lives ++ r ∷ []) ++ last_text part.crash
     pub last : HasLeftLast l p begun falls lives r left
 
   -- How it ended: it was the last one, it crashed and the next life is open, or the run stopped. Where the sink failed it
-  -- holds a front of the part's text; where memory was wanting for that text nothing of it was written.
+  -- holds a front of the part's text, and the media has what the life left; where memory was wanting for that text nothing of
+  -- it was written.
   abbrev pub PartWent : Script → Volumes L P → (Crash → Volumes L P → Volumes L P → Type 0) → List LifePart → List LifeReport → LifePart → Option (List ℕ) → Option (List ℕ) → ℕ → ℕ
       → ℕ → ℕ → (Volumes L P → Type 0) → Result (PartEnd L P l p) Stopped → Type 0
   PartWent s begun falls done lives part held held' faults faults' before now gives (Ok ends.Last) =
       (part.crash ≡ None) × (r : LifeReport) × (left : Volumes L P)
-      × IsPartTold s begun falls done lives part held held' r left × Only left gives
+      × (told : IsPartTold s begun falls done lives part r left) × Appends held held' told.text × Only left gives
   PartWent s begun falls done lives part held held' faults faults' before now gives (Ok (ends.Next life)) =
       (how : How) × (part.crash ≡ Some how) × (r : LifeReport) × (left : Volumes L P)
-      × IsPartTold s begun falls done lives part held held' r left
+      × (told : IsPartTold s begun falls done lives part r left) × Appends held held' told.text
       × IsRunning s begun falls (done ++ part ∷ []) (lives ++ r ∷ []) life
   PartWent s begun falls done lives part held held' faults faults' before now gives (Err stops.Sink) =
-      Rose faults faults' × (r : LifeReport) × AreRunLives p.tells s (done ++ part ∷ []) (lives ++ r ∷ [])
-      × (written : List ℕ) × (text_so_far s.names lives ++ written ≡ text_so_far s.names (lives ++ r ∷ []) ++ last_text part.crash)
-      × (n : ℕ) × Appends held held' (take n written)
+      Rose faults faults' × (r : LifeReport) × (left : Volumes L P)
+      × (told : IsPartTold s begun falls done lives part r left) × (n : ℕ) × Appends held held' (take n told.text) × Only left gives
   PartWent s begun falls done lives part held held' faults faults' before now gives (Err (stops.NoLife refusal)) =
       ((refusal ≡ no_lives.Memory) × Appends held held' [])
       ⊎ ((how : How) × (part.crash ≡ Some how) × (r : LifeReport) × (left : Volumes L P)
-      × IsPartTold s begun falls done lives part held held' r left × IsCrashed l p falls how before now left gives refusal)
+      × (told : IsPartTold s begun falls done lives part r left) × Appends held held' told.text
+      × IsCrashed l p falls how before now left gives refusal)

@@ -23,6 +23,7 @@ use Rattle.engine_life.specs.Refusals.{IsOfVolumes, IsUnopened}
 use Rattle.tx_io.specs.Causes.{Rose}
 use Rattle.session_run.specs.declared.stop.Stopped.{Stopped}
 use Rattle.session_run.specs.declared.stop.Stopped.TheVariants as stops
+use Rattle.session_run.specs.Leaves.{HaveLeft, LeavesVolumes}
 use Rattle.session_run.specs.Lives.{ComesTo}
 use Rattle.session_run.specs.Runs.{cluster_of}
 
@@ -47,26 +48,33 @@ abbrev pub IsUndamaged : {L P : Type 0} → logs.Ghosts L → disks.Ghosts P →
 IsUndamaged l p refusal = (at : ℕ) → refusal ≡ no_lives.Damaged at → IsTrue l.tells → IsTrue p.tells → ⊥
 
 module _ {L P : Type 0} (l : logs.Ghosts L) (p : disks.Ghosts P) (first : ℕ → Volumes L P → Type 0) (falls : Crash → Volumes L P → Volumes L P → Type 0) (before now : ℕ) (gives : Volumes L P → Type 0) where
-  -- Behind a crash no life goes on: the media failed, or the volumes to which the lives came weren't recovered. Their log
-  -- isn't damaged if all tell what they hold.
+  -- Behind these lives, which left those volumes, memory was wanting, the media failed, or the volumes to which they came
+  -- weren't recovered: their log isn't damaged if all tell what they hold.
   abbrev pub StopsBehind : Script → List LifeReport → NoLife → Type 0
   StopsBehind s lives refusal =
-      ((refusal ≡ no_lives.Device) × HasRisen before now)
-      ⊎ ((mounted : Volumes L P) × first s.banks mounted
-      × (e : NotReopened) × (refusal ≡ no_life_by e) × IsNotReopened l p before now (ComesTo l p falls lives mounted) gives e
-      × IsUndamaged l p refusal)
+      (left : Volumes L P) × (by : HaveLeft l p (first s.banks) falls lives left)
+      × ((refusal ≡ no_lives.Memory)
+      ⊎ (((refusal ≡ no_lives.Device) × HasRisen before now)
+      ⊎ ((e : NotReopened) × (refusal ≡ no_life_by e)
+      × IsNotReopened l p before now (ComesTo l p falls lives by.begun) gives e × IsUndamaged l p refusal)))
 
   -- why a run of the script stopped behind these lives
   abbrev pub Stops : Script → List LifeReport → NoLife → Type 0
-  Stops s lives no_lives.Memory = Unit {0}
   Stops s [] refusal = IsUnopened l p (cluster_of s) first before now gives refusal
   Stops s (r ∷ lives) refusal = StopsBehind s (r ∷ lives) refusal
 
--- A run of the script writes this text, in whole lines: its report, or that as far as the lives before it stopped.
-abbrev pub IsTextOfRun : Bool → Script → List ℕ → Type 0
-IsTextOfRun tells s text =
-    ((r : Report) × IsReportOf tells s r × (text ≡ report_text r))
-    ⊎ ((lives : List LifeReport) × AreLivesBefore tells s lives × (text ≡ text_so_far s.names lives))
+-- The text of these lives of a run of the script, in whole lines: its report, or that as far as they come.
+abbrev pub IsTextOfRun : Bool → Script → List LifeReport → List ℕ → Type 0
+IsTextOfRun tells s lives text =
+    (let r : Report = record { names = s.names; lives = lives } in IsReportOf tells s r × (text ≡ report_text r))
+    ⊎ (AreLivesBefore tells s lives × (text ≡ text_so_far s.names lives))
+
+module _ {L P : Type 0} (l : logs.Ghosts L) (p : disks.Ghosts P) where
+  -- A run of the script stopped where this text was to be written whole. Its last life left what the media has.
+  pub record IsUnwritten (first : ℕ → Volumes L P → Type 0) (falls : Crash → Volumes L P → Volumes L P → Type 0) (gives : Volumes L P → Type 0) (s : Script) (text : List ℕ) : Type 0 where
+    pub lives : List LifeReport
+    pub text_is : IsTextOfRun p.tells s lives text
+    pub leaves : LeavesVolumes l p (first s.banks) falls gives lives
 
 -- a stop that comes only of volumes that were mounted, at the first opening too
 abbrev pub MountsFirst : Stopped → Type 0
@@ -78,7 +86,7 @@ module _ {L P : Type 0} (l : logs.Ghosts L) (p : disks.Ghosts P) (first : ℕ �
   -- counts of its faults, and else that of the lives before.
   abbrev pub IsStopped : Script → Option (List ℕ) → Option (List ℕ) → ℕ → ℕ → Stopped → Type 0
   IsStopped s held held' faults faults' stops.Sink =
-      Rose faults faults' × (text : List ℕ) × IsTextOfRun p.tells s text × (n : ℕ) × Appends held held' (take n text)
+      Rose faults faults' × (text : List ℕ) × IsUnwritten l p first falls gives s text × (n : ℕ) × Appends held held' (take n text)
   IsStopped s held held' faults faults' (stops.NoLife refusal) =
       (lives : List LifeReport) × AreLivesBefore p.tells s lives × Appends held held' (text_so_far s.names lives)
       × Stops l p first falls before now gives s lives refusal

@@ -28,7 +28,7 @@ use Rattle.session_run.specs.declared.stop.Stopped.TheVariants as stops
 use Rattle.session_run.specs.declared.task.Task.{Task}
 use Rattle.session_run.specs.declared.task.Task.TheVariants as tasks
 use Rattle.session_run.specs.Leaves.{LeavesVolumes}
-use Rattle.session_run.specs.Stops.{IsTextOfRun, Stops}
+use Rattle.session_run.specs.Stops.{IsUnwritten, Stops}
 
 -- ---- what is asked for
 
@@ -86,7 +86,7 @@ module _ {L P : Type 0} (l : logs.Ghosts L) (p : disks.Ghosts P) where
   Ends task left left' faults faults' first falls before now gives written endings.ReadFault =
       (written ≡ []) × (task ≡ tasks.Run) × Rose faults faults'
   Ends task left left' faults faults' first falls before now gives written endings.WriteFault =
-      (task ≡ tasks.Run) × (s : Script) × HasScript left left' s × IsTextOfRun p.tells s written
+      (task ≡ tasks.Run) × (s : Script) × HasScript left left' s × IsUnwritten l p first falls gives s written
   Ends task left left' faults faults' first falls before now gives written endings.Memory =
       (written ≡ []) ⊎ IsUnrun task left left' first falls before now gives written no_lives.Memory
   Ends task left left' faults faults' first falls before now gives written endings.Device =
@@ -113,7 +113,7 @@ module _ {L P : Type 0} (l : logs.Ghosts L) (p : disks.Ghosts P) where
       Appends held held' (codes "memory" ++ 10 ∷ [])
       ⊎ IsUnrunBy words left left' first falls before now gives held held' no_lives.Memory (codes "memory" ++ 10 ∷ [])
 
--- an ending behind which nothing was written
+-- an ending that is neither a report nor the sink's
 abbrev pub WritesLast : Ending → Type 0
 WritesLast endings.Report = ⊥
 WritesLast endings.WriteFault = ⊥

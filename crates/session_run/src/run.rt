@@ -24,7 +24,7 @@ ghost use Rattle.session_run.specs.Stops.{IsStopped, MountsFirst};
 
 use crate::ended::{Ended, FittedLog, log_left};
 use crate::stop::{Stopped, no_life_of};
-use crate::text::{LifeText, front_of, put_end, put_life};
+use crate::text::{LifeText, front_of, have_full_multis, put_end, put_life};
 use disk_core::{Crash, LogDisk, Media, PageDisk, Volumes};
 use engine_host::Cluster;
 use engine_life::laws::crash_goes_on;
@@ -87,6 +87,7 @@ fn tell_life<
         → IfOk result.1 (IsToldLife L.LogDisk P.PageDisk names.now part.entry number crash c b mounted result.0) }
 {
     let base = life.host.cluster.base.same();
+    have_full_multis(&base);
     let mut rest = Text::new(alloc);
     let (closed, ran) = run_life(rt, alloc, life, names, part, &mut rest, threads);
     let Ok(()) = ran else {
@@ -175,7 +176,7 @@ where
     ensures sink { K.faults sink.old ≤ K.faults sink.new }
 {
     let names = &script.names;
-    let start = Note::by(&life);
+    let start = Note::by(&life.host.start);
     let (closed, told) = tell_life(rt, alloc, life, names, part, number, crash, threads);
     let text = match told {
         Ok(text) => text,

@@ -4,6 +4,7 @@ ghost use Rattle.std.specs.Io.KnownBytes.{Appends};
 ghost use Rattle.engine_host.specs.declared.cluster.Cluster.{Cluster};
 ghost use Rattle.engine_host.specs.Opening.{Beginning};
 ghost use Rattle.report_text.specs.ReportText.{rest_text};
+ghost use Rattle.tx_events.specs.Ids.{IsFullMulti};
 ghost use Rattle.tx_io.specs.Causes.{HasCause};
 ghost use Rattle.engine_life.specs.Lives.{number_of};
 ghost use Rattle.session_run.specs.OneLife.{life_of};
@@ -22,6 +23,14 @@ use tx_model::{Counters, How, Memory, NameList};
 pub struct LifeText {
     pub front: Text,
     pub rest: Text,
+}
+
+/// The next multixact of counters and the oldest one are numbers of multixacts.
+pub fn have_full_multis(base: &Counters)
+    ensures { IsFullMulti base.now.multi × IsFullMulti base.now.oldest_multi }
+{
+    let _next = base.multi.number();
+    let _oldest = base.oldest_multi.number();
 }
 
 /// What stands before the steps of the life of this number, the first one of which begins the report.

@@ -112,8 +112,6 @@ impl Media for MemMedia {
 
     ghost faults = { λ m. m.faults };
 
-    ghost tells_alike = { λ told. told };
-
     fn mount(&mut self, banks: u32) -> Result<Volumes<MemLog, MemPages>, MountRefusal>
         requires idle { IsTrue (is_idle self.old) }
         requires some { 1 ≤ banks }

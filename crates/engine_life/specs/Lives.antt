@@ -1,5 +1,5 @@
 -- How a life begins, and what it leaves.
-use Rattle.std.specs.Prelude.{◌≡◌, ℕ, ◌<◌, ◌≤◌, List, [], Some, length, slice_get}
+use Rattle.std.specs.Prelude.{◌≡◌, ℕ, ◌-◌, ◌<◌, ◌≤◌, List, [], Some, length, slice_get}
 use Rattle.disk_core.specs.declared.log_disk.LogDisk as logs
 use Rattle.disk_core.specs.declared.page_disk.PageDisk as disks
 use Rattle.disk_core.specs.declared.media.Volumes.{Volumes}
@@ -17,7 +17,7 @@ use Rattle.tx_core.specs.FaultsRise.{faults_told}
 use Rattle.tx_core.specs.Locks.{log_lock, subtrans_lock, xact_lock}
 use Rattle.recoverable.specs.Whole.{BeganRight, StatesLeft}
 use Rattle.wal_core.specs.declared.wal_log.WalLog.{WalLog}
-use Rattle.wal_core.specs.LogViews.{log_disk, log_end, log_flushed, log_recs}
+use Rattle.wal_core.specs.LogViews.{log_disk, log_end, log_flushed, log_next, log_recs}
 use Rattle.recoverable.specs.Clusters.{Fit}
 use Rattle.recoverable.specs.Fit.{KeptLog, base_at}
 use Rattle.recoverable.specs.Laws.{LogFollows}
@@ -69,6 +69,10 @@ volumes_left life = record {
 pub record HaveVolumes {L P : Type 0} (banks : ℕ) (volumes : Volumes L P) : Type 0 where
   pub xact : length volumes.xact.items ≡ banks
   pub subtrans : length volumes.subtrans.items ≡ banks
+
+-- the number of the first record that it appended
+abbrev pub number_of : {L P : Type 0} → {l : logs.Ghosts L} → ClosedLife L P l → ℕ
+number_of life = log_next life.log - length (log_recs life.log)
 
 module _ {L P : Type 0} (l : logs.Ghosts L) (p : disks.Ghosts P) where
   -- Each volume that the life used has counted at least the faults that its lock's list tells.

@@ -84,7 +84,14 @@ pub fn close_life<L: LogDisk + Drop, P: PageDisk + Drop>(life: OpenLife<L, P>) -
 
 impl<L: LogDisk + Drop, P: PageDisk + Drop> ClosedLife<L, P> {
     ghost use Rattle.std.specs.Prelude.{◌≡◌};
-    ghost use Rattle.engine_life.specs.Lives.{volumes_left};
+    ghost use Rattle.engine_life.specs.Lives.{number_of, volumes_left};
+
+    /// The number of the checkpoint with which the life began: that of the first record which it appended.
+    pub fn number(&self) -> u64
+        ensures { result ≡ number_of self.now }
+    {
+        self.log.next().saturating_sub(self.log.recs().len() as u64)
+    }
 
     /// The volumes, each in its place, which the media takes back.
     pub fn into_volumes(self) -> Volumes<L, P>

@@ -1,16 +1,16 @@
 //! The text of what a life leaves.
-ghost use Rattle.std.specs.Prelude.{◌≡◌, ◌++◌, ℕ, List, [], None, OnOk};
+ghost use Rattle.std.specs.Prelude.{◌≡◌, ◌++◌, ℕ, List, [], OnOk};
 ghost use Rattle.std.specs.List.{flat_map};
 ghost use Rattle.tx_events.specs.declared.record.Counters.{Counters};
 ghost use Rattle.tx_events.specs.declared.record.Rec.{Rec};
 ghost use Rattle.report_text.specs.RecordText.{records_text};
-ghost use Rattle.report_text.specs.ReportText.{end_text, history_text, log_text, multis_text, rest_text};
+ghost use Rattle.report_text.specs.ReportText.{history_text, log_text, multis_text, rest_text};
 ghost use Rattle.engine_life.specs.Lives.{life_told};
 
 use disk_core::LogDisk;
-use report_text::{Text, put_event, put_log_line, put_record_line};
+use report_text::{Text, put_crash, put_event, put_log_line, put_record_line};
 use tx_events::{Event, Rec};
-use tx_model::{Memory, NameList};
+use tx_model::{How, Memory, NameList};
 use wal_core::WalLog;
 
 #[tactic(auto, unfolding(report_text::specs::ReportText::history_text))]
@@ -57,35 +57,21 @@ fn put_no_multis(out: &mut Text, _names: &NameList) -> Result<(), Memory>
     out.short_line(b"multis")
 }
 
-// What stands behind the steps of the life.
-fn put_rest<L: LogDisk>(
+/// Ends the text of a life that began with the checkpoint of this number, 0 over a new log, had this history and left this
+/// log: what stands behind its steps, with the crash that ends the life, if one does.
+pub fn end_life<L: LogDisk>(
     out: &mut Text,
     from: u64,
     names: &NameList,
     events: &[Event],
     log: &WalLog<L>,
+    crash: Option<How>,
 ) -> Result<(), Memory>
     ensures ok { OnOk result ((base : Counters) (committed : List ℕ) (recorded : List Rec)
-        → out.new ≡ out.old ++ rest_text names.now (life_told from base committed recorded events.now log.now) None) }
+        → out.new ≡ out.old ++ rest_text names.now (life_told from base committed recorded events.now log.now) crash) }
 {
     put_history(out, names, events)?;
     put_no_multis(out, names)?;
     put_log(out, from, log, events)?;
-    Ok(())
-}
-
-/// Ends the report of a life that began with the checkpoint of this number, 0 over a new log, had this history and left this
-/// log: what stands behind its steps, and the last line.
-pub fn end_report<L: LogDisk>(
-    out: &mut Text,
-    from: u64,
-    names: &NameList,
-    events: &[Event],
-    log: &WalLog<L>,
-) -> Result<(), Memory>
-    ensures ok { OnOk result ((base : Counters) (committed : List ℕ) (recorded : List Rec)
-        → out.new ≡ out.old ++ (rest_text names.now (life_told from base committed recorded events.now log.now) None ++ end_text)) }
-{
-    put_rest(out, from, names, events, log)?;
-    out.short_line(b"end")
+    put_crash(out, crash)
 }

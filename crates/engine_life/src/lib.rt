@@ -12,7 +12,7 @@ mod opened;
 mod refusal;
 
 pub use closed::{ClosedLife, close_life};
-pub use ending::end_report;
+pub use ending::end_life;
 pub use life::{Aside, OpenLife};
 pub use next_life::reopen_life;
 pub use old_parts::open_old;

@@ -11,6 +11,7 @@ use Rattle.tx_model.specs.declared.command.Command.{Command}
 use Rattle.tx_model.specs.declared.command.Command.TheVariants as commands
 use Rattle.tx_model.specs.declared.report.DumpOf.{DumpOf}
 use Rattle.tx_model.specs.declared.report.DumpOf.TheVariants as dumps
+use Rattle.tx_model.specs.declared.report.LifeReport.{LifeReport}
 use Rattle.tx_model.specs.declared.report.Report.{Report}
 use Rattle.tx_model.specs.Asked as asked
 use Rattle.session_lang.specs.declared.script.Item.{Item}
@@ -27,6 +28,7 @@ use Rattle.report_text.specs.ReportText.{report_text}
 use Rattle.report_read.specs.Reports.{IsReport}
 use Rattle.report_read.proofs.Reading.{one_report}
 use Rattle.run_law.specs.Tool.{IsAnswer, IsReportOf}
+use Rattle.run_law.proofs.Lives.{one_life_told}
 use Rattle.run_report.proofs.Readings.{script_read}
 use Rattle.run_report.proofs.Turns.{sessions_of}
 use Rattle.run_report.proofs.Sizes.{AskedFits, TurnFits, sessions_asked}
@@ -109,13 +111,14 @@ sessions_short (items.Checkpoint ∷ script) = let i = sessions_short script in 
 sessions_short (items.Crash how ∷ script) = let i = sessions_short script in omega arith
 sessions_short (items.Dump what at size ∷ script) = let i = sessions_short script in omega arith
 
-pub script_told_again : (tells : Bool) (bytes : List ℕ) (s : Script) (r : Report) → read_script bytes ≡ Ok s → IsReportOf tells s r → IsReport r
-script_told_again tells bytes s r e ran =
+pub script_told_again : (tells : Bool) (bytes : List ℕ) (s : Script) (r : Report) (life : LifeReport) → read_script bytes ≡ Ok s → IsReportOf tells s r → r.lives ≡ life ∷ [] → IsReport r
+script_told_again tells bytes s r life e ran one =
     let read = script_read bytes s e in
-    let base = ran.begins.base_is in
+    let told = one_life_told tells s r life ran one in
+    let base = told.0.base_is in
     subst (λ names. IsReport (record { names = names; lives = r.lives })) (sym ran.names)
-    (subst (λ lives. IsReport (record { names = s.names; lives = lives })) (sym ran.one)
-    (told_again tells s.banks s.names (asked_of s.items) s.base ran.life read.banks ran.begins ran.last ran.lawful
+    (subst (λ lives. IsReport (record { names = s.names; lives = lives })) (sym one)
+    (told_again tells s.banks s.names (asked_of s.items) s.base life read.banks told.0 told.2 told.1
     (record {
       names_are = read.names;
       few = read.sessions;
@@ -127,9 +130,9 @@ script_told_again tells bytes s r e ran =
     (ap first_seen (asked_sessions s.items) ∙ read.numbered)))
 
 -- The text that a run answers is that of its report, and of no other.
-pub answer_of_one : (tells : Bool) (left left' : Option (List ℕ)) (text : List ℕ) (a : IsAnswer tells left left' text)
+pub answer_of_one : (tells : Bool) (left left' : Option (List ℕ)) (text : List ℕ) (a : IsAnswer tells left left' text) (life : LifeReport) → a.report.lives ≡ life ∷ []
     → (text ≡ report_text a.report) × ((r : Report) → IsReport r → text ≡ report_text r → r ≡ a.report)
-answer_of_one tells left left' text a = (
+answer_of_one tells left left' text a life one = (
   a.exact,
-  λ r is e. one_report r a.report is (script_told_again tells a.bytes a.script a.report a.spelled a.lawful) (sym e ∙ a.exact),
+  λ r is e. one_report r a.report is (script_told_again tells a.bytes a.script a.report life a.spelled a.lawful one) (sym e ∙ a.exact),
 )

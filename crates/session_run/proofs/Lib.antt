@@ -5,10 +5,14 @@ mod Returning
 mod Rounding
 mod Going
 mod RoundCounts
-mod RoundSteps
+pub mod RoundSteps
 mod RoundsRun
 mod LogHeld
 mod StatesHeld
 mod CausesTold
-mod LifeTold
+mod LifeLived
+mod LifeFits
+mod Opening
 mod ToolEnds
+mod Running
+mod Counted

@@ -4,7 +4,6 @@ use Rattle.disk_core.specs.declared.log_disk.LogDisk as logs
 use Rattle.disk_core.specs.declared.page_disk.PageDisk as disks
 use Rattle.disk_core.specs.Pages.{Pages}
 use Rattle.notes.specs.Lists.{at}
-use Rattle.tx_events.specs.declared.event.Event.{Event}
 use Rattle.tx_events.specs.declared.record.Counters.{Counters}
 use Rattle.tx_events.specs.declared.record.Rec.{Rec}
 use Rattle.tx_events.specs.declared.record.Rec.TheVariants as records
@@ -17,17 +16,18 @@ use Rattle.tx_core.specs.EngineInvariant.{EngineInvariant}
 use Rattle.tx_core.specs.Entries.{AreFewIds, flushed_to, recs_in}
 use Rattle.tx_core.specs.Locks.{log_lock, xact_lock}
 use Rattle.recoverable.specs.Fit.{KeptLog, base_at}
-use Rattle.recoverable.specs.LifeBase.{committed_by, committed_in}
+use Rattle.log_bases.specs.LifeBase.{committed_by, committed_in}
 use Rattle.recoverable.specs.LogSteps.{log_behind}
 use Rattle.recoverable.specs.Whole.{StatesLeft, new_log}
 use Rattle.recoverable.proofs.FitsXact.{fits_xact}
 use Rattle.recoverable.proofs.LogEnds.{log_ends}
 use Rattle.recoverable.proofs.NewBegins.{new_log_of}
-use Rattle.wal_core.specs.declared.wal_log.WalLog.{WalLog}
 use Rattle.engine_parts.specs.Parts.{IsLogOf}
 use Rattle.engine_host.specs.declared.cluster.Cluster.{Cluster}
-use Rattle.engine_host.specs.Opening.{life_of}
-use Rattle.engine_life.specs.Lives.{HaveFollowed, life_told}
+use Rattle.engine_host.specs.Opening.{Beginning, life_from, nothing_before}
+use Rattle.engine_life.specs.declared.closed.ClosedLife.{ClosedLife}
+use Rattle.engine_life.specs.Lives.{HaveFollowed}
+use Rattle.session_run.specs.OneLife.{life_of}
 use Rattle.session_run.specs.Records.{BankHolds, HoldsStates}
 
 -- the log of a life that began over a new one, at its end
@@ -67,15 +67,18 @@ module _ (start : Start) (lists : List (List Entry)) (life : Life) (kept : Engin
 
 module _ {L P : Type 0} {l : logs.Ghosts L} (p : disks.Ghosts P) where
   -- so each volume of pg_xact behind a life over a new log
-  pub bank_holds : (start : Start) (lists : List (List Entry)) (base : Counters) (events : List Event) (log : WalLog L l) (c : Cluster) (faults : List ℕ) (volumes : List P)
-      → start ≡ life_of c faults → EngineInvariant start lists → AreFewIds lists → IsLogOf start log (at lists log_lock) → HaveFollowed p start lists volumes → ((v : P) → p.images v (p.pages v))
-      → (bank : ℕ) → bank < c.banks → BankHolds p (life_told 0 base [] [] events log) c.banks bank volumes
-  bank_holds start lists base events log c faults volumes begun kept few stands followed reads bank low =
-      let life : Life = life_told 0 base [] [] events log in
+  pub bank_holds : (start : Start) (lists : List (List Entry)) (c : Cluster) (b : Beginning) (faults : List ℕ) (closed : ClosedLife L P l) (volumes : List P)
+      → start ≡ life_from c b faults → b ≡ nothing_before → EngineInvariant start lists → AreFewIds lists → IsLogOf start closed.log (at lists log_lock) → HaveFollowed p start lists volumes → ((v : P) → p.images v (p.pages v))
+      → (bank : ℕ) → bank < c.banks → BankHolds p (life_of c b closed) c.banks bank volumes
+  bank_holds start lists c b faults closed volumes begun none kept few stands followed reads bank low =
+      let life : Life = life_of c b closed in
       let banks : start.banks ≡ c.banks = ap (λ (t : Start). t.banks) begun in
       let inside : bank < start.banks = omega (arith, low, banks) in
-      let logged : start.logged ≡ records.Checkpoint 0 start.base ∷ [] = ap (λ (t : Start). t.logged) begun ∙ ap (λ (b : Counters). records.Checkpoint 0 b ∷ []) (sym (ap (λ (t : Start). t.base) begun)) in
+      let from : start.from ≡ 1 = ap (λ (t : Start). t.from) begun ∙ ap (λ (x : Beginning). x.number + 1) none in
+      let committed : start.committed ≡ [] = ap (λ (t : Start). t.committed) begun ∙ ap (λ (x : Beginning). x.committed) none in
+      let logged : start.logged ≡ records.Checkpoint 0 start.base ∷ []
+      = ap (λ (t : Start). t.logged) begun ∙ ap (λ (x : Beginning). records.Checkpoint x.number c.base ∷ []) none ∙ ap (λ (k : Counters). records.Checkpoint 0 k ∷ []) (sym (ap (λ (t : Start). t.base) begun)) in
       let v = followed bank inside in
       let each : (d : Pages) → p.images v.0 d → HoldsStates life c.banks bank d = λ d left. subst (λ n. HoldsStates life n bank d) banks
-      (holds_states start lists life kept few (ap (λ (t : Start). t.from) begun) (ap (λ (t : Start). t.committed) begun) refl (stands.recs_are ∙ ap (λ (t : List Rec). t ++ recs_in (at lists log_lock)) logged) stands.flushed_is bank d inside (v.2 d left)) in
+      (holds_states start lists life kept few from committed (ap (λ (x : Beginning). x.number) none) (stands.recs_are ∙ ap (λ (t : List Rec). t ++ recs_in (at lists log_lock)) logged) stands.flushed_is bank d inside (v.2 d left)) in
       record { volume = v.0; is = v.1; reads = each (p.pages v.0) (reads v.0); crashed = each }

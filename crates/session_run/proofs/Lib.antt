@@ -11,6 +11,8 @@ mod LogHeld
 mod StatesHeld
 mod CausesTold
 mod LifeLived
+mod LifeFits
+mod Opening
 mod ToolEnds
 mod Running
 mod Counted

@@ -1,10 +1,13 @@
-use Rattle.std.proofs.Common.{ap, subst, sym, ◌∙◌, ◌<◌}
+use Rattle.std.proofs.Common.{ap, length, subst, sym, ◌∙◌, ◌<◌}
 use Rattle.std.proofs.lemmas.Result.{on_ok_weaker}
 use Rattle.std.specs.List.{All}
 use Rattle.hall.specs.Calls.{start_of, view}
 use Rattle.run_law.specs.Turns.{MayRun}
+use Rattle.tx_core.specs.declared.entry.Start.{Start}
+use Rattle.recoverable.specs.Whole.{BeganRight}
 use Rattle.engine_life.specs.Lives.{volumes_left}
 use Rattle.session_run.proofs.CausesTold.{causes_told}
+use Rattle.session_run.proofs.LifeFits.{life_fits}
 use Rattle.session_run.proofs.LifeLived.{ids_few, life_lived, lines_run, number_told}
 use Rattle.session_run.proofs.StatesHeld.{bank_holds}
 use Rattle.session_run.proofs.life.run_life.Goals as goal
@@ -40,6 +43,16 @@ returns g c =
             left = record {
               log = λ none tells. lived.1 none tells (c.reads_an_image.ensures tells);
               states = λ none told. bank_holds g.P.PageDisk (start_of life.hall) (view host.pass).seen k b faults left (volumes_left left).xact.items opened.begun.start_is none closed.kept few closed.log (closed.states told few) (c.pages_read_an_image.ensures told);
+              same = record {
+                xact = closed.banks.xact ∙ (ap (λ (t : Start). t.banks) opened.begun.start_is ∙ sym opened.banks.xact);
+                subtrans = closed.banks.subtrans ∙ (ap (λ (t : Start). t.banks) opened.begun.start_is ∙ sym opened.banks.subtrans);
+                offsets = ap (λ vs. length vs.items) (closed.offsets ∙ opened.offsets);
+                members = ap (λ vs. length vs.items) (closed.members ∙ opened.members);
+              };
+              fit = λ told tells.
+                  let right = subst BeganRight (sym opened.begun.start_is) (opened.right told) in
+                  let none = ap (λ (t : Start). t.recorded) opened.begun.start_is ∙ opened.unrecorded in
+                  life_fits g.L.LogDisk g.P.PageDisk (start_of life.hall) (view host.pass).seen k b faults left (volumes_left left) opened.begun.start_is closed.log (closed.fit tells told right none few);
               causes = causes_told g.P.PageDisk.tells k (start_of life.hall) (view host.pass).seen ran.1.rounds life mounted (volumes_left left) over b faults opened opened.begun.start_is closed.counted
                   (record { offsets = closed.offsets ∙ opened.offsets; members = closed.members ∙ opened.members }) ran.1.steps (lines_run ran.1.steps ran.1.rounds ran.1.rounds_are);
             };

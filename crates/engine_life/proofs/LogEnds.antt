@@ -1,5 +1,5 @@
 -- The log of a life that is over, as recovery asks of it.
-use Rattle.std.proofs.Common.{Bool, IsTrue, List, Option, Some, [], ap, append-nil, arith, inl, refl, subst, sym, take, ℕ, ◌++◌, ◌+◌, ◌-◌, ◌<◌, ◌∙◌, ◌∷◌, ◌≡◌}
+use Rattle.std.proofs.Common.{Bool, IsTrue, List, Option, Some, [], ap, append-nil, arith, inl, refl, subst, sym, take, ℕ, ◌++◌, ◌+◌, ◌-◌, ◌∙◌, ◌≡◌}
 use Rattle.std.specs.List.{slice_get}
 use Rattle.disk_core.specs.Volume.{Volume}
 use Rattle.notes.specs.Lists.{at}

@@ -25,7 +25,7 @@ ghost use Rattle.session_run.specs.Stops.{IsStopped, MountsFirst};
 use crate::ended::{Ended, FittedLog, log_left};
 use crate::life::run_life;
 use crate::stop::{Stopped, no_life_of};
-use crate::text::{LifeText, front_of, have_full_multis, put_end, put_life};
+use crate::text::{LifeText, front_of, put_end, put_life};
 use disk_core::{Crash, LogDisk, Media, PageDisk, Volumes};
 use engine_host::Cluster;
 use engine_life::laws::crash_goes_on;
@@ -87,7 +87,6 @@ fn tell_life<
         → IfOk result.1 (IsToldLife L.LogDisk P.PageDisk names.now part.entry number crash c b mounted result.0) }
 {
     let base = life.host.cluster.base.same();
-    have_full_multis(&base);
     let mut rest = Text::new(alloc);
     let (closed, ran) = run_life(rt, alloc, life, names, part, &mut rest, threads);
     let Ok(()) = ran else {

@@ -19,6 +19,6 @@ returns-in-Ok-front_of g c = record {
       told_life l p text_keeper.ghosts k b mounted names c.args.part c.args.number c.args.crash closed kept c.same-base.result (record { front = front; rest = c.put_end.new.text }) ran
       (kept_text text_keeper.ghosts names [] kept ran.steps ran.kept_is (λ text n. refl) (λ text lines. refl) (λ text dump. refl))
       (c.same-base.ensures ∙ ap (λ x. x.base) opened.begun.cluster)
-      (subst (λ (n : ℕ). IsFrontOf c.args.number n c.same-base.result front) c.number.ensures c.in-Ok-front_of.ensures)
-      (c.in-Ok-put_end.ensures k b ran.number) c.have_full_multis.ensures;
+      (subst (λ (n : ℕ). IsFrontOf c.args.number n c.same-base.result front) c.number.ensures c.in-Ok-front_of.ensures.front)
+      (c.in-Ok-put_end.ensures k b ran.number) c.in-Ok-front_of.ensures.multis;
 }

@@ -59,7 +59,14 @@ pub fn run_life<
     let mut life = life;
     life_ends(&life.hall);
     let ran = run_rounds(
-        rt, alloc, &life.hall, &mut life.host, names, part, kept, threads,
+        rt,
+        alloc,
+        &life.hall,
+        &mut life.host,
+        names,
+        part,
+        kept,
+        threads,
     );
     let closed = close_life(life);
     has_64_bits(closed.log.next());

@@ -1,5 +1,5 @@
 -- A run, life by life: a life for each part of its script.
-use Rattle.std.proofs.Common.{Bool, Err, IfSome, List, None, Option, Some, [], ap, append-nil, append_assoc, arith, inl, inr, length, length-append, refl, subst, sym, take, ⊎_elim, ℕ, ◌++◌, ◌+◌, ◌∙◌, ◌∷◌, ◌≡◌, ◌≤◌, ◌^◌, ◌⊎◌}
+use Rattle.std.proofs.Common.{Bool, Err, IfSome, List, None, Option, Some, [], ap, append-nil, append_assoc, arith, inl, inr, length, length-append, refl, subst, sym, take, ⊎_elim, ℕ, ◌++◌, ◌+◌, ◌∙◌, ◌∷◌, ◌≡◌, ◌≤◌, ◌^◌}
 use Rattle.std.proofs.KnownBytes.{Appends-nil, Appends-trans}
 use Rattle.std.proofs.Math.Seq.{take-append-add}
 use Rattle.std.specs.Io.KnownBytes.{Appends}
@@ -195,12 +195,21 @@ module _ {L P : Type 0} {l : logs.Ghosts L} {p : disks.Ghosts P} (s : Script) (f
 
       -- it crashed, and no life goes on
       crash_stops : (gives : Volumes L P → Type 0) (faults count now : ℕ) (how : How) (refusal : NoLife) → faults ≤ count → crash ≡ Some how → IsCrashed l p falls how count now left gives refusal → StopsBehind l p first falls faults now gives s (h.lives ++ r ∷ []) refusal
-      crash_stops gives faults count now how refusal later some none = (left, have_left, inr (⊎_elim
-          (λ (a : (refusal ≡ no_lives.Device) × HasRisen count now). inl (a.0, risen_from faults count now later a.1))
-          (λ (b : (e : NotReopened) × (refusal ≡ no_life_by e) × IsNotReopened l p count now (HasFallen l p falls how left) gives e × IsUndamaged l p refusal).
-              inr (b.0, b.1, since l p (HasFallen l p falls how left) (ComesTo l p falls (h.lives ++ r ∷ []) h.begun) gives faults count now later (λ v fell. comes_push s falls h.lives r h.begun told.last.mounted left v told.last.comes told.last.ended
-                  (subst (λ (c : Option How). IfSome c (λ k. HasFallen l p falls k left v)) (sym some ∙ sym told.crash_is) fell)) b.0 b.2, b.3))
-          none))
+      crash_stops gives faults count now how refusal later some none = (
+        left,
+        have_left,
+        inr (⊎_elim
+            (λ (a : (refusal ≡ no_lives.Device) × HasRisen count now). inl (a.0, risen_from faults count now later a.1))
+            (λ (b : (e : NotReopened) × (refusal ≡ no_life_by e) × IsNotReopened l p count now (HasFallen l p falls how left) gives e × IsUndamaged l p refusal).
+            inr (
+              b.0,
+              b.1,
+              since l p (HasFallen l p falls how left) (ComesTo l p falls (h.lives ++ r ∷ []) h.begun) gives faults count now later (λ v fell. comes_push s falls h.lives r h.begun told.last.mounted left v told.last.comes told.last.ended
+                  (subst (λ (c : Option How). IfSome c (λ k. HasFallen l p falls k left v)) (sym some ∙ sym told.crash_is) fell)) b.0 b.2,
+              b.3,
+            ))
+            none),
+      )
 
   -- ---- a part stopped
 

@@ -7,7 +7,6 @@ use Rattle.disk_core.specs.declared.log_disk.LogDisk as logs
 use Rattle.disk_core.specs.declared.page_disk.PageDisk as disks
 use Rattle.disk_core.specs.declared.media.Crash.{Crash}
 use Rattle.disk_core.specs.declared.media.Volumes.{Volumes}
-use Rattle.tx_model.specs.declared.report.Report.{Report}
 use Rattle.run_law.specs.Tool.{IsRefused, IsRun, IsWholeRun}
 use Rattle.script_gen.specs.Generated.{generated}
 use Rattle.script_gen.specs.Words.{IsGen}

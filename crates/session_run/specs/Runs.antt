@@ -1,5 +1,5 @@
 -- The run of a script over a new media.
-use Rattle.std.specs.Prelude.{ℕ, ◌≤◌, length}
+use Rattle.std.specs.Prelude.{◌≤◌, length}
 use Rattle.std.specs.List.{All}
 use Rattle.session_lang.specs.declared.script.Script.{Script}
 use Rattle.run_law.specs.Turns.{HasFewLevels, IsRunnable, MayRun}

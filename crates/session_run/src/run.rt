@@ -23,6 +23,7 @@ ghost use Rattle.session_run.specs.Runs.{IsTaken, IsTakenAlone, cluster_of};
 ghost use Rattle.session_run.specs.Stops.{IsStopped, MountsFirst};
 
 use crate::ended::{Ended, FittedLog, log_left};
+use crate::life::run_life;
 use crate::stop::{Stopped, no_life_of};
 use crate::text::{LifeText, front_of, have_full_multis, put_end, put_life};
 use disk_core::{Crash, LogDisk, Media, PageDisk, Volumes};
@@ -30,7 +31,6 @@ use engine_host::Cluster;
 use engine_life::laws::crash_goes_on;
 use engine_life::{ClosedLife, NoLife, OpenLife, open_life, reopen_life};
 use notes::Note;
-use crate::life::run_life;
 use report_text::Text;
 use script_gen::Summary;
 use script_rounds::{LineKeeper, Tally, next_part};

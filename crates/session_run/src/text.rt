@@ -34,12 +34,7 @@ pub fn have_full_multis(base: &Counters)
 }
 
 /// What stands before the steps of the life of this number, the first one of which begins the report.
-pub fn front_of(
-    alloc: Global,
-    number: u64,
-    from: u64,
-    base: &Counters,
-) -> Result<Text, Memory>
+pub fn front_of(alloc: Global, number: u64, from: u64, base: &Counters) -> Result<Text, Memory>
     ensures { IfOk result (λ text. IsFrontOf number from base.now text) }
 {
     let mut text = Text::new(alloc);

@@ -245,8 +245,7 @@ where
 
     // And the line that it then writes, where no life ran.
     ensures no_words { result ≡ 2 → Appends (K.held sink.old) (K.held sink.new) (codes "words" ++ 10 ∷ []) }
-    ensures read_fault { result ≡ 3 →
-        Appends (K.held sink.old) (K.held sink.new) (codes "read-fault" ++ 10 ∷ []) }
+    ensures read_fault { result ≡ 3 → Appends (K.held sink.old) (K.held sink.new) (codes "read-fault" ++ 10 ∷ []) }
 {
     match task_of(words) {
         Some(task) => {

@@ -61,6 +61,8 @@ returns-in-Ok-text-clause-counts g c =
     let verdicts : c.verdicts.result ≡ verdicts_in (flat_map lines_in ran.steps) = c.verdicts.ensures (omega (arith, fewer, long)) ∙ ap verdicts_in kept in
     let exact = c.in-Ok-text.ensures ∙ ap summary_text c.of-summary.ensures ∙ ap (λ h. summary_text (summary_by h c.commands.result c.verdicts.result)) c.items.ensures in
     let counts = counts_told p.tells s told ran.steps c.in-Ok-text.text.items c.commands.result c.verdicts.result c.requires.taken lived (record { from = refl; base_is = refl; committed = refl; recorded = refl }) commands verdicts exact in
-    let only = subst (λ volumes. Only volumes gives) c.into_volumes.ensures c.rest.ensures.same in
-    (counts.0, subst (λ (lives : List LifeReport). LeavesVolumes l p (MayBeFirst (m.begins c.args.media.now) s.banks) m.falls gives lives) (sym counts.1)
-        (left_alone l p (cluster_of s) first.2.faults first.0 life closed ran.steps (MayBeFirst (m.begins c.args.media.now) s.banks) m.falls gives opened first.1 only ran.left))
+    let only = subst (λ volumes. Only volumes gives) c.into_volumes.ensures c.rest.ensures.same in (
+      counts.0,
+      subst (λ (lives : List LifeReport). LeavesVolumes l p (MayBeFirst (m.begins c.args.media.now) s.banks) m.falls gives lives) (sym counts.1)
+          (left_alone l p (cluster_of s) first.2.faults first.0 life closed ran.steps (MayBeFirst (m.begins c.args.media.now) s.banks) m.falls gives opened first.1 only ran.left),
+    )

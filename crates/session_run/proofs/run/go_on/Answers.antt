@@ -1,6 +1,5 @@
-use Rattle.std.proofs.Common.{refl, rules, subst, sym}
+use Rattle.std.proofs.Common.{rules, subst, sym}
 use Rattle.session_run.specs.Going.{IsCrashed}
-use Rattle.session_run.specs.Lives.{HasFallen, crash_of}
 use Rattle.session_run.proofs.GoingOn.{may_go_on, none_goes_on, same_banks}
 use Rattle.session_run.proofs.run.go_on.Goals as goal
 
@@ -51,5 +50,5 @@ returns-in-Err-reopen_life-clause-refused g c =
     let now = m.faults c.reopen_life.new.media in
     subst (IsCrashed l p m.falls how before now old (m.gives c.reopen_life.new.media)) (sym c.no_life_of.ensures)
     (none_goes_on l p m.falls how old (m.gives c.crash.new.self) (m.gives c.reopen_life.new.media) before (m.faults c.crash.new.self) now fell.cause.0
-        (λ v given. record { fell = subst (λ k. m.falls k old v) c.crash_of.ensures (fell.fell v given); banks = fell.banks v given; crashed = λ lt pt. fell.left lt pt v given })
-        g.kept c.requires.1.1.1.1.1.1.1 c.in-Err-reopen_life.refusal c.in-Err-reopen_life.ensures.refused)
+    (λ v given. record { fell = subst (λ k. m.falls k old v) c.crash_of.ensures (fell.fell v given); banks = fell.banks v given; crashed = λ lt pt. fell.left lt pt v given })
+    g.kept c.requires.1.1.1.1.1.1.1 c.in-Err-reopen_life.refusal c.in-Err-reopen_life.ensures.refused)

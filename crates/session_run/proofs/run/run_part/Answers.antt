@@ -94,7 +94,7 @@ returns-in-Ok-go_on-clause-went g c = λ begun done lives run count.
     let r = told_of s m.falls begun done lives c.args.life run c.args.part c.args.number c.args.crash closed text count told in
     let same = life_over_is run.cluster run.begins run.faults c.by-start.result.value closed (c.by-start.ensures ∙ (run.opened.begun.host.start ∙ run.opened.begun.start_is)) in
     let gone = subst (λ n. HasGoneOn l p m.falls how kept s.banks n (volumes_left closed) next) (ap length c.items.ensures)
-        (subst (λ volumes. HasGoneOn l p m.falls how kept s.banks (length c.items.result.now) volumes next) c.into_volumes-volumes.ensures c.in-Ok-go_on.ensures.next) in (
+    (subst (λ volumes. HasGoneOn l p m.falls how kept s.banks (length c.items.result.now) volumes next) c.into_volumes-volumes.ensures c.in-Ok-go_on.ensures.next) in (
       how,
       c.in-Some.is,
       r,

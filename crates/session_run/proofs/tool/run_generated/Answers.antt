@@ -1,4 +1,4 @@
-use Rattle.std.proofs.Common.{[], inl, refl, subst, sym}
+use Rattle.std.proofs.Common.{refl, subst, sym}
 use Rattle.disk_core.specs.Media.{MayBeFirst}
 use Rattle.session_run.specs.declared.task.Task.TheVariants as tasks
 use Rattle.session_run.specs.Runs.{IsTakenAlone}

@@ -58,8 +58,9 @@ module _ {L P : Type 0} (l : logs.Ghosts L) (p : disks.Ghosts P) where
       × IsRefusal l p (cluster_volumes old) (cluster_volumes new) refusal
 
 module _ {L P : Type 0} {l : logs.Ghosts L} {p : disks.Ghosts P} where
-  -- The life goes on from this log, which these volumes fit: from the base at a number from the flushed one to its end. It
-  -- begins at counts of faults that aren't below those of the volumes, and has set those of the multixacts' stores aside.
+  -- The life goes on over these volumes. Where they tell what they hold, and so fit this log, it goes on from the base at a
+  -- number of the log, from the flushed one to its end; where they don't, nothing is known of what was before. It begins at
+  -- counts of faults that aren't below those of the volumes, and has set those of the multixacts' stores aside.
   pub record GoesOnLife (kept : KeptLog) (sessions : ℕ) (volumes : Volumes L P) (life : OpenLife L P l p) : Type 0 where
     pub number : ℕ
     pub cluster : Cluster

@@ -10,6 +10,7 @@ mod next_life;
 mod old_parts;
 mod opened;
 mod refusal;
+mod sessions;
 
 pub use closed::{ClosedLife, close_life};
 pub use ending::end_life;
@@ -18,3 +19,4 @@ pub use next_life::reopen_life;
 pub use old_parts::open_old;
 pub use opened::open_life;
 pub use refusal::{NoLife, NotReopened};
+pub use sessions::new_sessions;

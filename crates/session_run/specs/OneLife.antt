@@ -24,7 +24,8 @@ use Rattle.session_run.specs.Records.{BankHolds, LogHolds}
 
 module _ {L P : Type 0} {l : logs.Ghosts L} {p : disks.Ghosts P} where
   -- The life began so over these volumes, at counts of faults that aren't below theirs, and has set those of the
-  -- multixacts' stores aside. No multixact was recorded before it, and its base is one from which a life may start.
+  -- multixacts' stores aside. It knows of no multixact from before it. Where the volumes tell what they hold, its base is
+  -- one from which a life may start.
   pub record IsOpened (c : Cluster) (b : Beginning) (faults : List ℕ) (volumes : Volumes L P) (life : OpenLife L P l p) : Type 0 where
     pub banks : HasBanks c.banks volumes
     pub counted : AreCounted l p volumes.log volumes.xact.items volumes.subtrans.items faults

@@ -11,7 +11,6 @@ mod member;
 mod round;
 mod rounds;
 mod run;
-mod sessions;
 mod stop;
 mod task;
 mod text;

@@ -13,10 +13,10 @@ ghost use Rattle.session_run.specs.Parts.{HasRun, RunsOn, ShowsOn};
 
 use crate::laws::{life_begins, life_goes_on};
 use crate::round::run_round;
-use crate::sessions::new_sessions;
 use disk_core::{LogDisk, PageDisk};
 use engine_dumps::show;
 use engine_host::Host;
+use engine_life::new_sessions;
 use engine_parts::{EngineLaw, Session};
 use hall::Hall;
 use script_rounds::{LineKeeper, Plan, next_round};

@@ -7,7 +7,7 @@ use engine_parts::Session;
 use std::alloc::Global;
 use tx_model::Memory;
 
-/// So many sessions that have run no command yet.
+/// So many sessions that have run no command yet. Only memory may be wanting.
 pub fn new_sessions(alloc: Global, count: u32) -> Result<Vec<Session>, Memory>
     ensures count { IfOk result (λ all. length all.items ≡ count) }
     ensures each { IfOk result (λ all. All IsNewSession all.items) }

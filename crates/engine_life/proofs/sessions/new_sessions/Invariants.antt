@@ -1,7 +1,7 @@
 use Rattle.std.proofs.Common.{◌≡◌, ◌≤◌, length, vec_capacity}
 use Rattle.std.specs.List.{All}
 use Rattle.engine_host.specs.Hosts.{IsNewSession}
-use Rattle.session_run.proofs.sessions.new_sessions.Given as goal
+use Rattle.engine_life.proofs.sessions.new_sessions.Given as goal
 
 abbrev pub invariant-loop : goal.invariant-loop
 invariant-loop l = record {

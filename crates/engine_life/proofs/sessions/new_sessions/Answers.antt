@@ -2,7 +2,7 @@ use Rattle.std.proofs.Common.{[], ap, length, length-append, subst, sym, ◌+◌
 use Rattle.std.proofs.lemmas.List.Elements.{All-push}
 use Rattle.std.specs.List.{All}
 use Rattle.engine_host.specs.Hosts.{IsNewSession}
-use Rattle.session_run.proofs.sessions.new_sessions.Goals as goal
+use Rattle.engine_life.proofs.sessions.new_sessions.Goals as goal
 
 pub loop-preserved : goal.loop-preserved
 loop-preserved c =

@@ -11,7 +11,7 @@ use Rattle.tx_events.specs.declared.record.Rec.{Rec}
 use Rattle.tx_core.specs.declared.entry.Entry.{Entry}
 use Rattle.tx_core.specs.declared.entry.Start.{Start}
 use Rattle.tx_core.specs.EngineInvariant.{EngineInvariant}
-use Rattle.tx_core.specs.Entries.{AreFewIds}
+use Rattle.tx_core.specs.Entries.{AreFewIds, flushed_to}
 use Rattle.tx_core.specs.Locks.{log_lock}
 use Rattle.tx_core.specs.MultiEntries.{multi_history}
 use Rattle.recoverable.specs.Fit.{KeptLog}
@@ -27,11 +27,12 @@ short_of lists few quiet = record { ids = few; multis = subst (λ (h : List Mult
 
 module _ {L P : Type 0} (l : logs.Ghosts L) (p : disks.Ghosts P) where
   pub end_fit : (start : Start) (lists : List (List Entry)) (volumes : Volumes L P) (kept : KeptLog) (recs : List Rec) (next first : ℕ) → EngineInvariant start lists → BeganRight start → start.recorded ≡ [] → AreFewIds lists → multi_history lists ≡ []
-      → LogHolds start (at lists log_lock) kept recs next first (l.images volumes.log) → length volumes.xact.items ≡ start.banks → HaveFollowed p start lists volumes.xact.items
+      → LogHolds start (at lists log_lock) kept recs next first (l.images volumes.log) → kept.flushed ≡ flushed_to start (at lists log_lock) → length volumes.xact.items ≡ start.banks → HaveFollowed p start lists volumes.xact.items
       → ((bank k : ℕ) → k < 2 → bank < start.banks → at lists (5 + 4 * bank + k) ≡ []) → EndFit l p start lists volumes
-  end_fit start lists volumes kept recs next first k right none few quiet held count states banks = record {
+  end_fit start lists volumes kept recs next first k right none few quiet held flushed count states banks = record {
     kept = kept;
     follows = held.is_of;
+    flushed = flushed;
     fit = cluster_fits l p start lists kept recs next first volumes.log volumes.xact.items k right (short_of lists few quiet) (record {
       log_holds = held;
       banks = count;

@@ -1,5 +1,5 @@
 -- What a life leaves, and why none was opened.
-use Rattle.std.proofs.Common.{ℕ, ◌≡◌, ◌++◌, ◌∙◌, [], Err, IfErr, IfOk, List, Ok, Result, ap, append_assoc, inr, sym}
+use Rattle.std.proofs.Common.{ℕ, ◌≡◌, ◌++◌, ◌∙◌, Err, IfErr, IfOk, List, Ok, Result, ap, append_assoc, inr}
 use Rattle.disk_core.specs.declared.log_disk.LogDisk as logs
 use Rattle.disk_core.specs.declared.page_disk.PageDisk as disks
 use Rattle.disk_core.specs.declared.media.Volumes.{Volumes}

@@ -13,6 +13,7 @@ use Rattle.tx_events.specs.declared.record.Rec.{Rec}
 use Rattle.tx_model.specs.declared.report.Life.{Life}
 use Rattle.tx_core.specs.declared.entry.Entry.{Entry}
 use Rattle.tx_core.specs.declared.entry.Start.{Start}
+use Rattle.tx_core.specs.Entries.{flushed_to}
 use Rattle.tx_core.specs.FaultsRise.{faults_told}
 use Rattle.tx_core.specs.Locks.{log_lock, subtrans_lock, xact_lock}
 use Rattle.recoverable.specs.Whole.{BeganRight, StatesLeft}
@@ -95,10 +96,12 @@ module _ {P : Type 0} (p : disks.Ghosts P) where
 
 module _ {L P : Type 0} (l : logs.Ghosts L) (p : disks.Ghosts P) where
   -- The volumes that a life left fit a log, of which the records before the life gave its begin, and the others are its
-  -- own: so a recovery may begin from whatever a crash leaves of them. No base that it may answer has a multixact.
+  -- own, and just those are on disk that the life's list flushed: so a recovery may begin from whatever a crash leaves of
+  -- them. No base that it may answer has a multixact.
   pub record EndFit (start : Start) (lists : List (List Entry)) (volumes : Volumes L P) : Type 0 where
     pub kept : KeptLog
     pub follows : LogFollows start lists kept
+    pub flushed : kept.flushed ≡ flushed_to start (at lists log_lock)
     pub fit : Fit l p kept volumes.log volumes.xact.items
     pub unrecorded : (n : ℕ) → (base_at kept n).recorded ≡ []
 

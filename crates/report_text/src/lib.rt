@@ -4,6 +4,8 @@
 mod command;
 mod event;
 mod member;
+mod numbers;
+mod printed;
 mod record;
 mod refusal;
 mod reply;

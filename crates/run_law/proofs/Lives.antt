@@ -63,14 +63,14 @@ module _ (script its : List Item) (crash : Option How) (rest : List Item) (f : I
   next_parts how is = ⊎_elim
       (λ (a : (crash ≡ None) × (script ≡ its) × (rest ≡ [])). absurd (some_none how (sym is ∙ a.0)))
       (λ (b : (how : How) × (crash ≡ Some how) × (script ≡ its ++ items.Crash how ∷ rest)).
-          ap parts_of b.2 ∙ parts_behind [] its b.0 rest none_in ∙ ap (λ (c : Option How). part its c ∷ parts_of rest) (sym b.1 ∙ is)) f.split
+      ap parts_of b.2 ∙ parts_behind [] its b.0 rest none_in ∙ ap (λ (c : Option How). part its c ∷ parts_of rest) (sym b.1 ∙ is)) f.split
 
   -- what stands in front of it and behind it is of the script
   pub parts_split : (P : Item → Type 0) → AllByRecursion P script → AllByRecursion P its × AllByRecursion P rest
   parts_split P all = ⊎_elim
       (λ (a : (crash ≡ None) × (script ≡ its) × (rest ≡ [])). (subst (AllByRecursion P) a.1 all, subst (AllByRecursion P) (sym a.2) tt))
       (λ (b : (how : How) × (crash ≡ Some how) × (script ≡ its ++ items.Crash how ∷ rest)).
-          let both = front_and_rest its (items.Crash b.0 ∷ rest) (subst (AllByRecursion P) b.2 all) in (both.0, both.1.1)) f.split
+      let both = front_and_rest its (items.Crash b.0 ∷ rest) (subst (AllByRecursion P) b.2 all) in (both.0, both.1.1)) f.split
     where
       front_and_rest : (xs ys : List Item) → AllByRecursion P (xs ++ ys) → AllByRecursion P xs × AllByRecursion P ys
       front_and_rest [] ys a = (tt, a)
@@ -80,14 +80,14 @@ module _ (script its : List Item) (crash : Option How) (rest : List Item) (f : I
   parts_shorter = ⊎_elim
       (λ (a : (crash ≡ None) × (script ≡ its) × (rest ≡ [])). let m = ap length a.1 in let n = ap length a.2 in (omega (arith, m), omega (arith, n)))
       (λ (b : (how : How) × (crash ≡ Some how) × (script ≡ its ++ items.Crash how ∷ rest)).
-          let m = ap length b.2 in let n = length-append its (items.Crash b.0 ∷ rest) in (omega (arith, m, n), omega (arith, m, n))) f.split
+      let m = ap length b.2 in let n = length-append its (items.Crash b.0 ∷ rest) in (omega (arith, m, n), omega (arith, m, n))) f.split
 
   -- behind a crash there is less
   pub rest_shorter : (how : How) → crash ≡ Some how → length rest < length script
   rest_shorter how is = ⊎_elim
       (λ (a : (crash ≡ None) × (script ≡ its) × (rest ≡ [])). absurd (some_none how (sym is ∙ a.0)))
       (λ (b : (how : How) × (crash ≡ Some how) × (script ≡ its ++ items.Crash how ∷ rest)).
-          let m = ap length b.2 in let n = length-append its (items.Crash b.0 ∷ rest) in omega (arith, m, n)) f.split
+      let m = ap length b.2 in let n = length-append its (items.Crash b.0 ∷ rest) in omega (arith, m, n)) f.split
 
   levels_sum : (xs ys : List Item) → levels_in (xs ++ ys) ≡ levels_in xs + levels_in ys
   levels_sum xs ys = ap (count_by (λ (t : ℕ × Command). makes_level t.1)) (filter_map-append turn_in xs ys) ∙ count_join (λ (t : ℕ × Command). makes_level t.1) (turns_in xs) (turns_in ys)
@@ -96,7 +96,7 @@ module _ (script its : List Item) (crash : Option How) (rest : List Item) (f : I
   parts_levels few = ⊎_elim
       (λ (a : (crash ≡ None) × (script ≡ its) × (rest ≡ [])). let m = ap levels_in a.1 in let n = ap levels_in a.2 in (omega (arith, m, few), omega (arith, n)))
       (λ (b : (how : How) × (crash ≡ Some how) × (script ≡ its ++ items.Crash how ∷ rest)).
-          let m = ap levels_in b.2 in let n = levels_sum its (items.Crash b.0 ∷ rest) in (omega (arith, m, n, few), omega (arith, m, n, few))) f.split
+      let m = ap levels_in b.2 in let n = levels_sum its (items.Crash b.0 ∷ rest) in (omega (arith, m, n, few), omega (arith, m, n, few))) f.split
 
 may_run : (n : ℕ) (x : Item) → MayStand n x → crash_in x ≡ None → MayRun n x
 may_run n (items.Crash how) m e = absurd (some_none how e)

@@ -1,36 +1,22 @@
 -- The volumes that a life left fit a log that ends with the life.
-use Rattle.std.proofs.Common.{List, ap, arith, subst, sym, ℕ, ⊎_elim, ◌++◌, ◌<◌, ◌∙◌, ◌≡◌, ◌≤◌}
+use Rattle.std.proofs.Common.{List, ap, sym, ℕ, ◌++◌, ◌∙◌, ◌≡◌}
 use Rattle.disk_core.specs.declared.log_disk.LogDisk as logs
 use Rattle.disk_core.specs.declared.page_disk.PageDisk as disks
 use Rattle.disk_core.specs.declared.media.Volumes.{Volumes}
 use Rattle.notes.specs.Lists.{at}
-use Rattle.tx_events.proofs.ListSteps.{le_or_over}
 use Rattle.tx_events.specs.declared.record.Rec.{Rec}
 use Rattle.tx_core.specs.declared.entry.Entry.{Entry}
 use Rattle.tx_core.specs.declared.entry.Start.{Start}
-use Rattle.tx_core.specs.Entries.{flushed_to, recs_in}
+use Rattle.tx_core.specs.Entries.{recs_in}
 use Rattle.tx_core.specs.Locks.{log_lock}
-use Rattle.recoverable.specs.Fit.{KeptLog}
-use Rattle.recoverable.specs.Laws.{LogOf, life_base}
+use Rattle.recoverable.specs.Laws.{life_base}
 use Rattle.engine_parts.specs.Parts.{IsLogOf}
-use Rattle.engine_parts.proofs.Logging.{flush_stands}
 use Rattle.engine_host.specs.declared.cluster.Cluster.{Cluster}
 use Rattle.engine_host.specs.Opening.{Beginning, life_from}
 use Rattle.engine_life.specs.declared.closed.ClosedLife.{ClosedLife}
 use Rattle.engine_life.specs.Lives.{EndFit}
 use Rattle.session_run.specs.OneLife.{life_of}
 use Rattle.session_run.specs.Fits.{FitLife}
-
--- what a list flushed is on disk in a log that follows it
-flushed_low : (start : Start) (es : List Entry) (log : KeptLog) → LogOf start es log → flushed_to start es ≤ log.flushed
-flushed_low start es log k = ⊎_elim
-    (λ (low : flushed_to start es ≤ log.flushed). low)
-    (λ (past : log.flushed < flushed_to start es).
-    let f = flush_stands start es log.flushed k.begun past in
-    let high = f.1 in
-    let low = k.flushed f.0 (f.2, f.3) in
-    absurd (omega (arith, high, low)))
-    (le_or_over (flushed_to start es) log.flushed)
 
 -- A log that follows the life's list ends with the life: what stands before the list's records gave the life's begin.
 pub life_fits : {L P : Type 0} (l : logs.Ghosts L) (p : disks.Ghosts P) (start : Start) (lists : List (List Entry)) (c : Cluster) (b : Beginning) (faults : List ℕ) (closed : ClosedLife L P l) (volumes : Volumes L P)
@@ -47,7 +33,7 @@ life_fits l p start lists c b faults closed volumes begun stands end =
           number = sym follows.from ∙ ap (λ (s : Start). s.from) begun;
           base = follows.base ∙ ap life_base begun;
           checkpoint = stands.recs_are ∙ ap (λ (t : List Rec). t ++ recs_in es) (ap (λ (s : Start). s.logged) begun);
-          flushed = subst (λ n. n ≤ end.kept.flushed) (sym stands.flushed_is) (flushed_low start es end.kept follows);
+          flushed = stands.flushed_is ∙ sym end.flushed;
         };
         fit = end.fit;
         unrecorded = end.unrecorded;

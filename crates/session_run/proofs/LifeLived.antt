@@ -10,12 +10,10 @@ use Rattle.tx_events.specs.declared.record.Rec.{Rec}
 use Rattle.tx_events.specs.declared.record.Rec.TheVariants as records
 use Rattle.tx_model.specs.declared.report.How.{How}
 use Rattle.tx_model.specs.declared.report.Life.{Life}
-use Rattle.tx_model.specs.declared.report.LifeReport.{LifeReport}
 use Rattle.tx_model.specs.declared.report.Line.{Line}
 use Rattle.tx_model.specs.declared.report.Step.{Step}
 use Rattle.tx_model.specs.Rounds.{AreSteps, is_round, lines_in}
 use Rattle.life_law.specs.LawfulLife.{IsLawfulLife}
-use Rattle.life_law.specs.LifeLog.{IsLogOf as IsLifeLog}
 use Rattle.session_lang.specs.declared.script.Item.{Item}
 use Rattle.session_lang.specs.Rounds.{asked_of, rounds_of}
 use Rattle.session_lang.proofs.Asking.{rounds_asked}
@@ -31,7 +29,7 @@ use Rattle.engine_parts.specs.Parts.{IsLogOf}
 use Rattle.engine_parts.specs.declared.session.Session.{Session}
 use Rattle.engine_host.specs.declared.cluster.Cluster.{Cluster}
 use Rattle.engine_host.specs.declared.host.Host.{Host}
-use Rattle.engine_host.specs.Opening.{Beginning, life_from, nothing_before}
+use Rattle.engine_host.specs.Opening.{Beginning, life_from}
 use Rattle.engine_life.specs.declared.closed.ClosedLife.{ClosedLife}
 use Rattle.engine_life.specs.Lives.{number_of}
 use Rattle.session_promise.specs.Closing as closing
@@ -67,10 +65,10 @@ number_told start c b faults closed es begun stands =
     omega (arith, size, from, next)
 
 module _ {H K L P : Type 0} {l : logs.Ghosts L} {p : disks.Ghosts P} (keep : keepers.Ghosts K) where
-  -- a life that ran its part is lawful, and over a new log it left its records on the log's volume
+  -- a life that ran its part is lawful, and left its records on the log's volume
   pub life_lived : (hall : Hall H (Part L P l p) Entry Start) (host : Host L P l p) (sessions : List Session) (names : List (List ℕ)) (n : ℕ) (its : List Item) (c : Cluster) (b : Beginning) (faults : List ℕ) (first kept : K) (closed : ClosedLife L P l)
       → IsTakenPart n its → start_of hall ≡ life_from c b faults → (r : HasRun keep hall host sessions names (asked_of its) first kept) → closing.IsOver p.tells (start_of hall) (view host.pass).seen r.rounds → closed.events ≡ history (view host.pass).seen → IsLogOf (start_of hall) closed.log (at (view host.pass).seen log_lock) → multi_history (view host.pass).seen ≡ [] → log_next closed.log < 2 ^ 64 → log_end closed.log < 2 ^ 64
-      → HasLived p.tells c.banks its (life_of c b closed) r.steps × (b ≡ nothing_before → IsTrue l.tells → l.images (log_disk closed.log) (l.reads (log_disk closed.log)) → LogHolds l (life_of c b closed) (log_disk closed.log))
+      → HasLived p.tells c.banks its (life_of c b closed) r.steps × (IsTrue l.tells → l.images (log_disk closed.log) (l.reads (log_disk closed.log)) → LogHolds l (life_of c b closed) (log_disk closed.log))
   life_lived hall host sessions names n its c b faults first kept closed taken begun r over told stands quiet next end =
       let start = start_of hall in
       let log = closed.log in
@@ -100,7 +98,6 @@ module _ {H K L P : Type 0} {l : logs.Ghosts L} {p : disks.Ghosts P} (keep : kee
           lawful = λ crash. subst (λ k. IsLawfulLife p.tells k (asked_of its) (report_of life r.steps crash)) (ap (λ t. t.banks) begun) (lawful crash);
           few = subst (λ (ls : List Line). length ls ≤ 2 ^ 24) (sym (lines_run r.steps r.rounds r.rounds_are)) few;
         },
-        λ none. log_holds l (log_disk log) life start (records.Checkpoint b.number c.base) es (l.faults (log_disk log)) (log_next log) (log_first log)
-            (log_counters log) (log_down log) (begins.from ∙ ap (λ (x : Beginning). x.number + 1) none) (ap (λ t. t.logged) begun) stands (ap (λ (x : Beginning). x.number) none)
-            (subst (λ k. IsLifeLog k life.base life.events life.recs life.flushed life.end) (ap (λ (x : Beginning). x.number) none) (lawful None).log),
+        log_holds l (log_disk log) life start (records.Checkpoint b.number c.base) es (l.faults (log_disk log)) (log_next log) (log_first log)
+            (log_counters log) (log_down log) begins.from (ap (λ t. t.logged) begun) stands (lawful None).log.begun,
       )

@@ -1,5 +1,5 @@
 -- What a later life goes on from.
-use Rattle.std.specs.Prelude.{◌≡◌, ◌≤◌, ℕ, ◌+◌, List, [], ◌∷◌, ◌++◌, IsTrue, length}
+use Rattle.std.specs.Prelude.{◌≡◌, ℕ, ◌+◌, List, [], ◌∷◌, ◌++◌, IsTrue, length}
 use Rattle.disk_core.specs.declared.log_disk.LogDisk as logs
 use Rattle.disk_core.specs.declared.page_disk.PageDisk as disks
 use Rattle.tx_events.specs.declared.record.Rec.{Rec}
@@ -19,7 +19,7 @@ pub record EndsWithLife (life : Life) (kept : KeptLog) : Type 0 where
   pub number : kept.first + length past ≡ life.from + 1
   pub base : base_after kept.base past ≡ base_of life
   pub checkpoint : life.recs ≡ records.Checkpoint life.from life.base ∷ own
-  pub flushed : life.flushed ≤ kept.flushed
+  pub flushed : life.flushed ≡ kept.flushed
 
 module _ {L P : Type 0} (l : logs.Ghosts L) (p : disks.Ghosts P) where
   -- The volumes fit such a log: whatever a crash leaves of them, recovery answers the base at a number of it, from the

@@ -13,7 +13,7 @@ use Rattle.tx_core.specs.declared.entry.Start.{Start}
 use Rattle.recoverable.specs.Whole.{BeganRight}
 use Rattle.engine_host.specs.declared.cluster.Cluster.{Cluster}
 use Rattle.engine_host.specs.Counted.{AreCounted}
-use Rattle.engine_host.specs.Opening.{Beginning, life_from, nothing_before}
+use Rattle.engine_host.specs.Opening.{Beginning, life_from}
 use Rattle.engine_life.specs.declared.closed.ClosedLife.{ClosedLife}
 use Rattle.engine_life.specs.declared.life.OpenLife.{OpenLife}
 use Rattle.engine_life.specs.Lives.{IsBegun, life_told, number_of, volumes_left}
@@ -53,11 +53,11 @@ life_of c b closed = life_told b.number c.base b.committed b.recorded closed.eve
 
 module _ {L P : Type 0} (l : logs.Ghosts L) (p : disks.Ghosts P) where
   -- What a closed life leaves on its volumes, where it began so over those that were mounted: as many of each kind, each of
-  -- which has counted its faults, and they fit a log that ends with the life. Over a new log the log's volume has the
-  -- life's records, and those of pg_xact say committed only of what is on disk there.
+  -- which has counted its faults. If they tell what they hold, the log's volume has the life's records, those of pg_xact say
+  -- committed only of what is on disk, and they fit a log that ends with the life.
   pub record HasLeft (c : Cluster) (b : Beginning) (mounted : Volumes L P) (steps : List Step) (closed : ClosedLife L P l) : Type 0 where
-    pub log : b ≡ nothing_before → IsTrue l.tells → LogHolds l (life_of c b closed) (log_disk closed.log)
-    pub states : b ≡ nothing_before → IsTrue p.tells → (bank : ℕ) → bank < c.banks
+    pub log : IsTrue l.tells → LogHolds l (life_of c b closed) (log_disk closed.log)
+    pub states : IsTrue p.tells → (bank : ℕ) → bank < c.banks
         → BankHolds p (life_of c b closed) c.banks bank (volumes_left closed).xact.items
     pub same : HaveSameBanks mounted (volumes_left closed)
     pub fit : IsTrue p.tells → IsTrue l.tells

@@ -25,7 +25,7 @@ use Rattle.engine_parts.proofs.May.{met_fault}
 use Rattle.engine_parts.proofs.SubBanking.{sub_read}
 use Rattle.tx_core.specs.FaultsRise.{count_in, faults_at, faults_told}
 use Rattle.tx_core.proofs.LastNumbers.{number_same, number_push}
-use Rattle.bank_sections.specs.Refusals.{faults_in, entry_of_refusal}
+use Rattle.bank_sections.specs.Refusals.{IsBuilt, faults_in, entry_of_refusal}
 
 -- it has no event and no record, asks for no state, changes nothing and is no sync
 pub record IsQuiet (e : Entry) : Type 0 where
@@ -92,15 +92,9 @@ module _ {P O : Type 0} {g : disks.Ghosts P} {r : rules.Ghosts O} where
   subtrans_looked start bank store by es s = subtrans_refused start bank store by (refused.Cut 0) es s
 
 module _ {L P : Type 0} {l : logs.Ghosts L} {p : disks.Ghosts P} where
-  pub stands_refused : (start : Start) (lock : ℕ) (part : Part L P l p) (by : By) (refusal : BankRefusal) (es : List Entry) → IsPageLock start lock → PartStands start lock part es → PartStands start lock part (es ++ entry_of_refusal by (faults_in part) refusal ∷ [])
-  stands_refused start lock (parts.Log log) by refusal es pages s = let q : lock ≡ 0 = s.0 in let f = pages.from in absurd (omega arith)
-  stands_refused start lock (parts.Proc table) by refusal es pages s = let q : lock ≡ 1 = s.0 in let f = pages.from in absurd (omega arith)
-  stands_refused start lock (parts.Xact store) by refusal es pages s = (s.0, s.1, xact_refused start s.0 store.value by refusal es s.2)
-  stands_refused start lock (parts.Subtrans store) by refusal es pages s = (s.0, s.1, subtrans_refused start s.0 store.value by refusal es s.2)
-  stands_refused start lock parts.Vacant by refusal es pages s = record {
-    log = s.log;
-    proc = s.proc;
-    xact = s.xact;
-    subtrans = s.subtrans;
-    multi = λ q. let f = pages.from in absurd (omega (arith, q, f));
-  }
+  pub stands_refused : (start : Start) (lock : ℕ) (part : Part L P l p) (by : By) (refusal : BankRefusal) (es : List Entry) → IsPageLock start lock → IsBuilt part → PartStands start lock part es → PartStands start lock part (es ++ entry_of_refusal by (faults_in part) refusal ∷ [])
+  stands_refused start lock (parts.Log log) by refusal es pages built s = let q : lock ≡ 0 = s.0 in let f = pages.from in absurd (omega arith)
+  stands_refused start lock (parts.Proc table) by refusal es pages built s = let q : lock ≡ 1 = s.0 in let f = pages.from in absurd (omega arith)
+  stands_refused start lock (parts.Xact store) by refusal es pages built s = (s.0, s.1, xact_refused start s.0 store.value by refusal es s.2)
+  stands_refused start lock (parts.Subtrans store) by refusal es pages built s = (s.0, s.1, subtrans_refused start s.0 store.value by refusal es s.2)
+  stands_refused start lock parts.Vacant by refusal es pages built s = absurd built

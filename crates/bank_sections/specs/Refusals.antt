@@ -18,6 +18,11 @@ module _ {L P : Type 0} {l : logs.Ghosts L} {p : disks.Ghosts P} where
   faults_in (parts.Subtrans store) = faults_of store.value
   faults_in _ = 0
 
+  -- it is built
+  abbrev pub IsBuilt : Part L P l p → Type 0
+  IsBuilt parts.Vacant = ⊥
+  IsBuilt _ = Unit {0}
+
 -- the fault of the volume, or only a look where the page is cut
 abbrev pub entry_of_refusal : By → ℕ → BankRefusal → Entry
 entry_of_refusal by count refused.DiskFault = fault_by by count

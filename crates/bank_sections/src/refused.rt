@@ -11,7 +11,7 @@ ghost use Rattle.engine_parts.specs.Faults.{fault_by};
 ghost use Rattle.engine_parts.specs.Holds.{Leaves};
 ghost use Rattle.engine_parts.specs.Parts.{PartStands};
 ghost use Rattle.engine_parts.specs.Sessions.{IsAt, IsReady, by_at};
-ghost use Rattle.bank_sections.specs.Refusals.{faults_in, entry_of_refusal};
+ghost use Rattle.bank_sections.specs.Refusals.{IsBuilt, faults_in, entry_of_refusal};
 
 use disk_core::{LogDisk, PageDisk};
 use engine_parts::{Caller, EngineLaw, Part, leave_looked, leave_quiet};
@@ -32,6 +32,7 @@ pub(crate) fn leave_refused<L: LogDisk, P: PageDisk>(
     requires own { IsOf hall.now caller.old.pass }
     requires laid { hall.now.cells ≡ 3 + 4 * (start_of hall.now).banks }
     requires lock { IsPageLock (start_of hall.now) lock }
+    requires built { IsBuilt part }
     requires inside { (view caller.old.pass).stage ≡ Inside lock }
     requires cell { caller.old.pass.cell ≡ lock }
     requires at { IsAt (start_of hall.now) (view caller.old.pass) caller.old.number caller.old.session }

@@ -137,6 +137,7 @@ impl<M: Media> Media for Fuse<M> {
             → fuse_gives (M.gives self.new.inner) self.new.held self.new.at self.new.passes self.new.refused next → FuseFell (M.falls how) volumes next) }
         ensures banks { OnOk result ((next : Volumes (FusedLog M.Log) (FusedPages M.Pages))
             → fuse_gives (M.gives self.new.inner) self.new.held self.new.at self.new.passes self.new.refused next → HaveSameBanks volumes next) }
+        ensures tells { OnOk result (IsTrue M.Pages.tells → IsTrue M.Log.tells) }
         ensures cause { CountsFault result (M.faults self.old.inner + self.old.faults) (M.faults self.new.inner + self.new.faults) }
     {
         self.is_mounted = false;

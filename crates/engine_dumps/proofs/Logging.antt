@@ -1,5 +1,5 @@
 -- A log of which only bytes were read.
-use Rattle.std.proofs.Common.{Box, Global, ◌≡◌, ℕ, ◌-◌, ◌≤◌, List, ◌++◌, IsTrue, drop, length, length-drop, min, refl, sym, take, ap, subst, ◌∙◌, arith}
+use Rattle.std.proofs.Common.{Box, Global, ◌≡◌, ℕ, ◌-◌, ◌<◌, ◌≤◌, List, ◌++◌, IsTrue, drop, length, length-drop, min, refl, sym, take, ap, subst, ◌∙◌, arith}
 use Rattle.std.proofs.lemmas.List.{length-take-le, take_at, take_min}
 use Rattle.std.specs.Box.{with_value}
 use Rattle.disk_core.specs.declared.log_disk.LogDisk as logs
@@ -52,7 +52,9 @@ module _ {D : Type 0} {g : logs.Ghosts D} where
             count = keeps.count ∙ sym same.next;
             each = λ c image. subst (λ (z : ℕ × ℕ). HasFlushed k.0 (k.1 ++ recs_in es) z.0 z.1 c) (λ i. (sym same.first i, sym same.flushed i)) (keeps.each c (same.images told c image));
           },
+          k.3,
         );
+    first_is = subst (λ z. z < start.from) (sym same.first) s.first_is;
   }
 
   -- what was read is of the volume as it reads, which is what a crash may leave

@@ -1,5 +1,5 @@
 -- What new parts stand for.
-use Rattle.std.proofs.Common.{Box, Global, ℕ, zero, suc, ◌/◌, option_map, length-append, Result, Ok, Err, is_ok, IsOk, if◌then◌else◌, insert, ◌+◌, ◌*◌, ◌%◌, ◌^◌, ◌<◌, ◌≤◌, ◌≡◌, ◌⊎◌, ⊎_elim, Bool, false, true, cond, IsTrue, List, [], ◌∷◌, ◌++◌, Option, None, Some, Contains, append-nil, drop, length, map, max, get_or, inl, refl, sym, ap, subst, ◌∙◌, arith}
+use Rattle.std.proofs.Common.{Box, Global, ℕ, zero, suc, ◌/◌, option_map, length-append, Result, Ok, Err, is_ok, IsOk, if◌then◌else◌, insert, ◌+◌, ◌*◌, ◌%◌, ◌^◌, ◌<◌, ◌≤◌, ◌≡◌, ◌⊎◌, ⊎_elim, Bool, false, true, cond, IsTrue, List, [], ◌∷◌, ◌++◌, Option, None, Some, Contains, append-nil, drop, length, map, max, get_or, inl, refl, take, sym, ap, subst, ◌∙◌, arith}
 use Rattle.std.proofs.lemmas.Option.{slice_get-map, get_or_from_slice_get}
 use Rattle.std.specs.List.{slice_get}
 use Rattle.disk_core.specs.declared.log_disk.LogDisk as logs
@@ -18,6 +18,7 @@ use Rattle.tx_events.specs.declared.record.Counters.{Counters}
 use Rattle.tx_events.specs.declared.record.Rec.{Rec}
 use Rattle.tx_events.specs.declared.record.Rec.TheVariants as records
 use Rattle.proc_table.specs.Table.{Table, page_of}
+use Rattle.log_bases.specs.LifeBase.{LifeBase, base_after}
 use Rattle.wal_core.specs.Kept.{KeepsRecords}
 use Rattle.wal_core.specs.Opening.{no_counters}
 use Rattle.tx_events.specs.Ids.{id_before, low_half}
@@ -30,9 +31,9 @@ use Rattle.engine_parts.specs.declared.part.Part.{Part}
 use Rattle.engine_parts.specs.declared.part.Part.TheVariants as parts
 use Rattle.engine_parts.specs.Course.{HasCourse, IsOpened}
 use Rattle.engine_parts.specs.Parts.{PartStands}
-use Rattle.engine_parts.specs.Stand.{LogStands, SubtransStands, XactStands}
+use Rattle.engine_parts.specs.Stand.{GivesStart, LogStands, SubtransStands, XactStands}
 use Rattle.engine_host.specs.declared.cluster.Cluster.{Cluster}
-use Rattle.engine_host.specs.Opening.{AllOnDisk, AllShowNothing, AllShowStates, AreNew, Beginning, IsNewPart, IsOnDisk, ShowNothing, ShowStates, bytes_left, faults_behind, life_from, new_life}
+use Rattle.engine_host.specs.Opening.{AllOnDisk, AllShowNothing, AllShowStates, AreNew, Beginning, IsNewPart, IsOnDisk, ShowNothing, ShowStates, bytes_left, faults_behind, life_from, life_of, new_life}
 
 -- ---- the log
 
@@ -46,12 +47,37 @@ raised n c = λ i. record { next = none c.next i; oldest = none c.oldest i; mult
 none_more : (n : ℕ) → n ≡ n + 0
 none_more n = omega arith
 
+-- what was given doesn't go by the counts of faults
+gives_any : (c : Cluster) (b : Beginning) (counts : List ℕ) (number : ℕ) (past : List Rec) → GivesStart (life_from c b []) number past → GivesStart (life_from c b counts) number past
+gives_any c b counts number past g = record { base = g.base; gives = g.gives; place = g.place; some = g.some; whole = g.whole }
+
+-- the first checkpoint gives the begin of a new cluster's life
+pub first_gives : (c : Cluster) → GivesStart (life_of c []) 0 (records.Checkpoint 0 c.base ∷ [])
+first_gives c = record {
+  base = none;
+  gives = λ i. record { counters = raised 0 c.base i; committed = []; recorded = [] };
+  place = refl;
+  some = omega arith;
+  whole = whole;
+}
+  where
+    none : LifeBase
+    none = record { counters = no_counters; committed = []; recorded = [] }
+
+    same : {m n : ℕ} {x y : Counters} → Some (records.Checkpoint m x) ≡ Some (records.Checkpoint n y) → x ≡ y
+    same e = cc
+
+    whole : (n : ℕ) (counters : Counters) → slice_get (records.Checkpoint 0 c.base ∷ []) n ≡ Some (records.Checkpoint (0 + n) counters)
+        → (base_after none (take (n + 1) (records.Checkpoint 0 c.base ∷ []))).counters ≡ counters
+    whole zero counters at = raised 0 c.base ∙ same at
+    whole (suc n) counters at = absurd cc
+
 -- one record, which is the checkpoint, and is on disk
 pub log_begins : (c : Cluster) (b : Beginning) (tells : Bool) (faults : ℕ) (images : Volume → Type 0) (recs : List Rec) (next first flushed : ℕ) (counters : Option Counters) (down : Option ℕ) (counts : List ℕ)
-    → recs ≡ records.Checkpoint b.number c.base ∷ [] → next ≡ b.number + 1 → flushed ≡ b.number + 1 → counters ≡ Some c.base → down ≡ None → get_or counts log_lock 0 ≤ faults
-    → (IsTrue tells → (number : ℕ) × (all : List Rec) × KeepsRecords number all recs next first flushed images)
+    → recs ≡ records.Checkpoint b.number c.base ∷ [] → next ≡ b.number + 1 → flushed ≡ b.number + 1 → counters ≡ Some c.base → down ≡ None → first ≡ b.number → get_or counts log_lock 0 ≤ faults
+    → (IsTrue tells → (number : ℕ) × (all : List Rec) × KeepsRecords number all recs next first flushed images × (IsTrue b.told → GivesStart (life_from c b []) number all))
     → LogStands (life_from c b counts) tells faults images recs next first flushed counters down []
-log_begins c b tells faults images recs next first flushed counters down counts recs_are next_is flushed_is counters_are up count keeps = record {
+log_begins c b tells faults images recs next first flushed counters down counts recs_are next_is flushed_is counters_are up low count keeps = record {
   recs_are = recs_are;
   next_is = next_is ∙ none_more (b.number + 1);
   flushed_is = flushed_is;
@@ -59,7 +85,10 @@ log_begins c b tells faults images recs next first flushed counters down counts 
   failed = λ n d. let z : None ≡ Some n = sym up ∙ d in absurd cc;
   up = λ d. refl;
   count = count;
-  kept = λ told. let k = keeps told in (k.0, k.1, subst (λ (t : List Rec). KeepsRecords k.0 t recs next first flushed images) (sym (append-nil k.1)) k.2);
+  kept = λ told.
+      let k = keeps told in
+      (k.0, k.1, subst (λ (t : List Rec). KeepsRecords k.0 t recs next first flushed images) (sym (append-nil k.1)) k.2, λ t. gives_any c b counts k.0 k.1 (k.3 t));
+  first_is = let here : first < b.number + 1 = omega (arith, low) in here;
 }
 
 -- ---- the banks
@@ -220,7 +249,7 @@ vacant_new L P l p c b bank k few counts reached = record {
   proc = λ e. absurd (omega (arith, e));
   xact = λ n e. absurd (omega (arith, e, few));
   subtrans = λ n e. absurd (omega (arith, e, few));
-  multi = λ e. refl;
+  unused = refl;
 }
 
 second_new : (L P : Type 0) (l : logs.Ghosts L) (p : disks.Ghosts P) (c : Cluster) (b : Beginning) → IsNewPart {L = L} {P = P} {l = l} {p = p} c b 2 parts.Vacant
@@ -229,7 +258,7 @@ second_new L P l p c b counts reached = record {
   proc = λ e. absurd (omega (arith, e));
   xact = λ n e. absurd (omega (arith, e));
   subtrans = λ n e. absurd (omega (arith, e));
-  multi = λ e. refl;
+  unused = refl;
 }
 
 -- the table of a new life

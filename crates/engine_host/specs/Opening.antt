@@ -1,5 +1,5 @@
 -- What a new engine starts from, and what its parts stand for.
-use Rattle.std.specs.Prelude.{◌≡◌, ℕ, ◌+◌, ◌*◌, ◌%◌, ◌≤◌, ◌<◌, ◌^◌, Bool, false, cond, IsTrue, List, [], ◌∷◌, Option, None, Some, slice_get, get_or, length, map}
+use Rattle.std.specs.Prelude.{◌≡◌, ℕ, ◌+◌, ◌*◌, ◌%◌, ◌≤◌, ◌<◌, ◌^◌, Bool, true, cond, IsTrue, List, [], ◌∷◌, Option, None, Some, slice_get, get_or, length, map}
 use Rattle.disk_core.specs.declared.log_disk.LogDisk as logs
 use Rattle.disk_core.specs.declared.page_disk.PageDisk as disks
 use Rattle.disk_core.specs.Pages.{Pages, page_bytes, zero_page}
@@ -7,7 +7,7 @@ use Rattle.tx_events.specs.Base.{IsBase}
 use Rattle.tx_events.specs.declared.record.Rec.{Rec}
 use Rattle.tx_events.specs.declared.record.Rec.TheVariants as records
 use Rattle.wal_core.specs.declared.wal_log.WalLog.{WalLog}
-use Rattle.wal_core.specs.LogViews.{KeepsAll, log_counters, log_disk, log_down, log_flushed, log_next, log_recs}
+use Rattle.wal_core.specs.LogViews.{KeepsAll, log_counters, log_disk, log_down, log_first, log_flushed, log_next, log_recs}
 use Rattle.slru_bank.specs.Calls.{faults_of}
 use Rattle.slru_bank.specs.declared.bank.SlruBank.{SlruBank}
 use Rattle.store_pages.specs.Layouts.{state_in, xact_page_of, xact_place_of}
@@ -52,9 +52,9 @@ life_from c b faults = record {
   faults = faults;
 }
 
--- over a new log, which has one record: nothing is committed, and no multixact was recorded
+-- over a new log, which has one record: nothing is committed, and no multixact was recorded, whatever the volumes tell
 abbrev pub nothing_before : Beginning
-nothing_before = record { number = 0; committed = []; recorded = []; told = false }
+nothing_before = record { number = 0; committed = []; recorded = []; told = true }
 
 abbrev pub life_of : Cluster → List ℕ → Start
 life_of c faults = life_from c nothing_before faults
@@ -63,6 +63,7 @@ life_of c faults = life_from c nothing_before faults
 pub record IsNewLog {D : Type 0} {g : logs.Ghosts D} (log : WalLog D g) : Type 0 where
   pub recs : log_recs log ≡ []
   pub next : log_next log ≡ 0
+  pub first : log_first log ≡ 0
   pub flushed : log_flushed log ≡ 0
   pub down : log_down log ≡ None
   pub counters : log_counters log ≡ None
@@ -72,6 +73,7 @@ pub record IsNewLog {D : Type 0} {g : logs.Ghosts D} (log : WalLog D g) : Type 0
 pub record HasFirst {D : Type 0} {g : logs.Ghosts D} (c : Cluster) (log : WalLog D g) : Type 0 where
   pub recs : log_recs log ≡ records.Checkpoint 0 c.base ∷ []
   pub next : log_next log ≡ 1
+  pub first : log_first log ≡ 0
   pub down : log_down log ≡ None
   pub counters : log_counters log ≡ Some c.base
   pub keeps : IsTrue g.tells → KeepsAll 0 (records.Checkpoint 0 c.base ∷ []) g.images log

@@ -119,7 +119,15 @@ module _ {L P : Type 0} {l : logs.Ghosts L} {p : disks.Ghosts P} where
   no_multis start es (parts.Proc table) k = absurd (let e = k.0 in omega (arith, e))
   no_multis start es (parts.Xact store) k = absurd (let e = k.1 in omega (arith, e))
   no_multis start es (parts.Subtrans store) k = absurd (let e = k.1 in omega (arith, e))
-  no_multis start es parts.Vacant k = k.multi refl
+  no_multis start es parts.Vacant k = k.unused
+
+  -- nor behind those of the multixacts' banks
+  no_multi_bank : (start : Start) (bank k : ℕ) (es : List Entry) (part : Part L P l p) → k < 2 → PartStands start (5 + 4 * bank + k) part es → es ≡ []
+  no_multi_bank start bank k es (parts.Log log) few is = absurd (let e = is.0 in omega (arith, e))
+  no_multi_bank start bank k es (parts.Proc table) few is = absurd (let e = is.0 in omega (arith, e))
+  no_multi_bank start bank k es (parts.Xact store) few is = absurd (let e = is.1 in omega (arith, e, few))
+  no_multi_bank start bank k es (parts.Subtrans store) few is = absurd (let e = is.1 in omega (arith, e, few))
+  no_multi_bank start bank k es parts.Vacant few is = is.unused
 
   module _ (start : Start) (lists : List (List Entry)) (locks : List (Part L P l p)) (stand : (lock : ℕ) (part : Part L P l p) → slice_get locks lock ≡ Some part → PartStands start lock part (at lists lock)) where
     no_xacts : (k i : ℕ) (q : Part L P l p) → i < 3 → slice_get locks (i + 4 * k) ≡ Some q → xact_disk q ≡ None
@@ -176,6 +184,12 @@ module _ {L P : Type 0} {l : logs.Ghosts L} {p : disks.Ghosts P} where
             let e : length locks ≡ suc (length rest) = ap length same in
             ap length (none_first first rest same)
             ∙ fourths subtrans_disk rest (no_subtranses first rest same) (subtranses first rest same) banks 2 (omega arith) (omega (arith, count, e))
+
+    -- nothing was done to the banks of the multixacts' stores
+    pub multi_banks_untold : (banks : ℕ) → start.banks ≡ banks → length locks ≡ 3 + 4 * banks → (bank k : ℕ) → k < 2 → bank < start.banks → at lists (5 + 4 * bank + k) ≡ []
+    multi_banks_untold banks same count bank k few low =
+        let q = there locks (5 + 4 * bank + k) (omega (arith, same, count, few, low)) in
+        no_multi_bank start bank k (at lists (5 + 4 * bank + k)) q.0 few (stand (5 + 4 * bank + k) q.0 q.1)
 
     -- each volume of pg_xact is as the part behind its lock has it
     pub xact_behind : (F : ℕ → P → Type 0) → ((bank : ℕ) (part : Part L P l p) → PartStands start (xact_lock bank) part (at lists (xact_lock bank)) → (v : P) × (xact_disk part ≡ Some v) × F bank v)

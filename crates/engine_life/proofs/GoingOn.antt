@@ -11,7 +11,8 @@ use Rattle.replay_core.specs.Volumes.{LeavesFit}
 use Rattle.replay_core.specs.declared.refusal.RecoverRefusal.{RecoverRefusal}
 use Rattle.replay_core.specs.declared.refusal.RecoverRefusal.TheVariants as refusals
 use Rattle.engine_life.specs.declared.refusal.NotReopened.TheVariants as not_reopened
-use Rattle.engine_life.specs.NextLives.{StayFit, WhenRefused, cluster_volumes}
+use Rattle.recoverable.proofs.Crashed.{crash_keeps_fit}
+use Rattle.engine_life.specs.NextLives.{CrashGoesOn, StayFit, WhenRefused, cluster_volumes}
 
 module _ {L P : Type 0} (l : logs.Ghosts L) (p : disks.Ghosts P) where
   -- an engine's volumes, put together with others, are there as they were
@@ -27,6 +28,13 @@ module _ {L P : Type 0} (l : logs.Ghosts L) (p : disks.Ghosts P) where
       → LeavesFit l p old v.log v.xact.items kept → LeavesFit l p old all.log all.xact.items kept
   fit_together kept old v all log xact subtrans fit =
       subst (λ (z : ClusterVolumes L P). LeavesFit l p old z.log z.xact.items kept) (together_same v all log xact subtrans) fit
+
+  -- behind a crash the next life may go on from what it left
+  pub crash_goes_on : CrashGoesOn l p
+  crash_goes_on kept old new crashed may told =
+      let was = may told in
+      let c = crashed was.0 told in
+      (was.0, crash_keeps_fit l p kept old.log new.log old.xact.items new.xact.items c.log c.xact was.1)
 
   pub when_fits : (kept : KeptLog) (old new : Volumes L P) (refusal : RecoverRefusal) → LeavesFit l p old.xact.items new.log new.xact.items kept → WhenRefused l p kept old new refusal
   when_fits kept old new (refusals.Damaged at) fit = fit

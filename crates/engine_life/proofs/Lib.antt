@@ -3,3 +3,5 @@ pub mod Counts
 mod Followed
 mod Reopened
 mod GoingOn
+mod LogEnds
+mod Fitting

@@ -1,5 +1,6 @@
 -- What a recovery leaves is what a life begins with.
-use Rattle.std.proofs.Common.{Bool, IsTrue, List, None, Option, Some, [], ap, arith, false, inr, length, refl, subst, suc, sym, true, zero, ℕ, ◌%◌, ◌+◌, ◌/◌, ◌<◌, ◌∙◌, ◌∷◌, ◌≡◌, ◌≤◌}
+use Rattle.std.proofs.Common.{Bool, IsTrue, List, None, Option, Some, [], ap, arith, false, inr, length, refl, subst, suc, sym, take, true, zero, ℕ, ◌%◌, ◌+◌, ◌-◌, ◌/◌, ◌<◌, ◌∙◌, ◌∷◌, ◌≡◌, ◌≤◌}
+use Rattle.std.proofs.Math.Seq.{take-length}
 use Rattle.std.specs.List.{slice_get, slice_index}
 use Rattle.disk_core.specs.declared.log_disk.LogDisk as logs
 use Rattle.disk_core.specs.declared.page_disk.PageDisk as disks
@@ -8,13 +9,14 @@ use Rattle.store_pages.specs.Layouts.{state_in, xact_page_of, xact_place_of}
 use Rattle.tx_events.proofs.Membership.{contains_has}
 use Rattle.tx_events.specs.Ids.{IsFullMulti}
 use Rattle.tx_events.specs.declared.record.Counters.{Counters}
+use Rattle.tx_events.specs.declared.record.Rec.{Rec}
 use Rattle.tx_events.specs.declared.record.Rec.TheVariants as records
-use Rattle.wal_core.specs.LogViews.{log_counters, log_disk, log_down, log_first, log_flushed, log_next, log_recs}
+use Rattle.wal_core.specs.LogViews.{KeepsAll, log_counters, log_disk, log_down, log_first, log_flushed, log_next, log_recs}
 use Rattle.wal_core.specs.declared.wal_log.WalLog.{WalLog}
 use Rattle.tx_core.specs.declared.entry.Start.{Start}
-use Rattle.recoverable.specs.Fit.{KeptLog, base_at}
+use Rattle.recoverable.specs.Fit.{KeptLog, base_at, log_end, recs_below}
 use Rattle.recoverable.specs.Laws.{life_base}
-use Rattle.recoverable.specs.LifeBase.{LifeBase}
+use Rattle.log_bases.specs.LifeBase.{LifeBase, base_after}
 use Rattle.recoverable.specs.Volumes.{EndsSettled, KeepsUpTo, Left, Restored, checkpoint_of}
 use Rattle.recoverable.specs.Whole.{BeganClean, BeganRight}
 use Rattle.recoverable.proofs.Settled.{recovery_settles}
@@ -28,19 +30,26 @@ use Rattle.recoverable.specs.Clusters.{IsLeft}
 use Rattle.replay_core.specs.Volumes.{LeavesFit, Recovers}
 use Rattle.replay_core.proofs.Rows.{had}
 use Rattle.engine_parts.specs.Sessions.{AreGivenBefore}
-use Rattle.engine_parts.specs.Stand.{number_of_state}
+use Rattle.engine_parts.specs.Stand.{GivesStart, number_of_state}
 use Rattle.engine_host.specs.declared.cluster.Cluster.{Cluster}
 use Rattle.engine_host.specs.Counted.{AreCounted}
 use Rattle.engine_host.specs.Opening.{AllShowNothing, AllShowStates, Beginning, IsBegunLog, life_from}
 use Rattle.engine_host.proofs.Starting.{log_begins}
-use Rattle.engine_life.specs.Reopening.{IsBaseAt, behind, cluster_over}
+use Rattle.engine_life.specs.Reopening.{IsBaseAt, KeepsStart, behind, cluster_over}
+
+-- the records that are kept, and that they give the life's begin where the volumes told it
+kept_told : (told : Bool) (K G : ℕ → List Rec → Type 0) → (IsTrue told → (number : ℕ) × (past : List Rec) × K number past × G number past) → (number : ℕ) × (past : List Rec) × K number past
+    → (number : ℕ) × (past : List Rec) × K number past × (IsTrue told → G number past)
+kept_told true K G given any = let k = given refl in (k.0, k.1, k.2, λ t. k.3)
+kept_told false K G given any = (any.0, any.1, any.2, λ t. let z : false ≡ true = t in absurd cc)
 
 -- the log that a recovery left is begun
-pub settled_begins : {D : Type 0} {g : logs.Ghosts D} (c : Cluster) (b : Beginning) (from : ℕ) (log : WalLog D g) → IsSettled from c.base log → b.number ≡ from → IsBegunLog c b log
-settled_begins {g = g} c b from log s is counts reached =
+pub settled_begins : {D : Type 0} {g : logs.Ghosts D} (c : Cluster) (b : Beginning) (from : ℕ) (log : WalLog D g) → IsSettled from c.base log → b.number ≡ from → (IsTrue g.tells → IsTrue b.told → KeepsStart c b log) → IsBegunLog c b log
+settled_begins {g = g} c b from log s is given counts reached =
     let next : from + 1 ≡ b.number + 1 = omega (arith, is) in
     log_begins c b g.tells (g.faults (log_disk log)) (g.images (log_disk log)) (log_recs log) (log_next log) (log_first log) (log_flushed log) (log_counters log) (log_down log) counts
-    (s.recs ∙ ap (λ (n : ℕ). records.Checkpoint n c.base ∷ []) (sym is)) (s.next ∙ next) (s.flushed ∙ next) s.counters_are s.up reached s.keeps
+    (s.recs ∙ ap (λ (n : ℕ). records.Checkpoint n c.base ∷ []) (sym is)) (s.next ∙ next) (s.flushed ∙ next) s.counters_are s.up (s.first ∙ sym is) reached
+    (λ told. kept_told b.told (λ number past. KeepsAll number past g.images log) (λ number past. GivesStart (life_from c b []) number past) (given told) (s.keeps told))
 
 -- a code and the state that is read of it
 number_of_code : (code : ℕ) → code < 4 → number_of_state (state_of_code code) ≡ code
@@ -131,6 +140,30 @@ module _ {L P : Type 0} (l : logs.Ghosts L) (p : disks.Ghosts P) where
           = ap (λ (b : ℕ). page_bytes (pages_read (slice_get xact' b) (xact_page_of x))) place ∙ ap (λ (o : Option P). page_bytes (pages_read o (xact_page_of x))) at in
           sym (ap (λ (t : List ℕ). number_of_state (state_of_code (state_in t (xact_place_of x)))) same ∙ number_of_code (state_in bytes (xact_place_of x)) (state_small bytes (xact_place_of x)));
     }
+
+    -- the list that a later recovery goes by gives what the life begins with
+    pub start_given : GivesStart start r.recovered.later.first r.recovered.later.recs
+    start_given =
+        let later : KeptLog = r.recovered.later in
+        let list = r.recovered.fits.list in
+        let end = settled.end in
+        let within = r.recovered.keeps.within in
+        let count : log_end later - later.first ≡ length later.recs = omega arith in
+        let all : recs_below later (log_end later) ≡ later.recs = ap (λ j. take j later.recs) count ∙ take-length later.recs in
+        record {
+          base = later.base;
+          gives = sym (ap (base_after later.base) all) ∙ settled.kept (log_end later) list.upto (omega arith);
+          place = sym end;
+          some = omega (arith, end, within);
+          whole = λ n counters at.
+              let place : later.first + n - later.first ≡ n = omega arith in
+              let below : n + 1 ≡ later.first + n + 1 - later.first = omega arith in
+              ap (λ k. (base_after later.base (take k later.recs)).counters) below
+              ∙ list.whole (later.first + n) (omega arith) counters (ap (slice_get later.recs) place ∙ at);
+        }
+
+    pub start_kept : (log : WalLog L l) → KeepsAll r.recovered.later.first r.recovered.later.recs l.images log → KeepsStart cluster begins log
+    start_kept log keeps = (r.recovered.later.first, r.recovered.later.recs, keeps, start_given)
 
     pub base_at_number : IsBaseAt kept from counters
     base_at_number =

@@ -1,5 +1,5 @@
 -- How a life begins, and what it leaves.
-use Rattle.std.specs.Prelude.{◌≡◌, ℕ, ◌<◌, ◌≤◌, List, [], Some, length, slice_get}
+use Rattle.std.specs.Prelude.{◌≡◌, ℕ, ◌-◌, ◌<◌, ◌≤◌, List, [], Some, length, slice_get}
 use Rattle.disk_core.specs.declared.log_disk.LogDisk as logs
 use Rattle.disk_core.specs.declared.page_disk.PageDisk as disks
 use Rattle.disk_core.specs.declared.media.Volumes.{Volumes}
@@ -9,14 +9,19 @@ use Rattle.hall.specs.Calls.{start_of}
 use Rattle.notes.specs.Lists.{at}
 use Rattle.tx_events.specs.declared.event.Event.{Event}
 use Rattle.tx_events.specs.declared.record.Counters.{Counters}
+use Rattle.tx_events.specs.declared.record.Rec.{Rec}
 use Rattle.tx_model.specs.declared.report.Life.{Life}
 use Rattle.tx_core.specs.declared.entry.Entry.{Entry}
 use Rattle.tx_core.specs.declared.entry.Start.{Start}
+use Rattle.tx_core.specs.Entries.{flushed_to}
 use Rattle.tx_core.specs.FaultsRise.{faults_told}
 use Rattle.tx_core.specs.Locks.{log_lock, subtrans_lock, xact_lock}
-use Rattle.recoverable.specs.Whole.{StatesLeft}
+use Rattle.recoverable.specs.Whole.{BeganRight, StatesLeft}
 use Rattle.wal_core.specs.declared.wal_log.WalLog.{WalLog}
-use Rattle.wal_core.specs.LogViews.{log_disk, log_end, log_flushed, log_recs}
+use Rattle.wal_core.specs.LogViews.{log_disk, log_end, log_flushed, log_next, log_recs}
+use Rattle.recoverable.specs.Clusters.{Fit}
+use Rattle.recoverable.specs.Fit.{KeptLog, base_at}
+use Rattle.recoverable.specs.Laws.{LogFollows}
 use Rattle.engine_parts.specs.declared.session.Session.{Session}
 use Rattle.engine_host.specs.declared.cluster.Cluster.{Cluster}
 use Rattle.engine_host.specs.Counted.{AreCounted}
@@ -40,13 +45,14 @@ module _ {L P : Type 0} {l : logs.Ghosts L} {p : disks.Ghosts P} where
     pub names : HoldsAllBut life.host []
     pub parked : (n : ℕ) (s : Session) → n < c.sessions → IsNewSession s → IsParked life.hall life.host n s
 
-  -- It begins over a new log, at counts of faults that aren't below those of these volumes, and has set those of the
-  -- multixacts' stores aside.
+  -- It begins over a new log, with a base from which a life may start, at counts of faults that aren't below those of
+  -- these volumes, and has set those of the multixacts' stores aside.
   pub record IsNewLife (c : Cluster) (volumes : Volumes L P) (life : OpenLife L P l p) : Type 0 where
     pub banks : HasBanks c.banks volumes
     pub faults : List ℕ
     pub counted : AreCounted l p volumes.log volumes.xact.items volumes.subtrans.items faults
     pub begun : IsBegun c (life_of c faults) life
+    pub right : BeganRight (life_of c faults)
     pub offsets : life.aside.offsets ≡ volumes.offsets
     pub members : life.aside.members ≡ volumes.members
 
@@ -64,6 +70,10 @@ volumes_left life = record {
 pub record HaveVolumes {L P : Type 0} (banks : ℕ) (volumes : Volumes L P) : Type 0 where
   pub xact : length volumes.xact.items ≡ banks
   pub subtrans : length volumes.subtrans.items ≡ banks
+
+-- the number of the first record that it appended
+abbrev pub number_of : {L P : Type 0} → {l : logs.Ghosts L} → ClosedLife L P l → ℕ
+number_of life = log_next life.log - length (log_recs life.log)
 
 module _ {L P : Type 0} (l : logs.Ghosts L) (p : disks.Ghosts P) where
   -- Each volume that the life used has counted at least the faults that its lock's list tells.
@@ -84,13 +94,24 @@ module _ {P : Type 0} (p : disks.Ghosts P) where
   HaveFollowed start lists states = (bank : ℕ) → bank < start.banks
       → (v : P) × (slice_get states bank ≡ Some v) × FollowsList start lists bank v
 
--- the life over a new log that had this history and left this log
-abbrev pub life_told : {D : Type 0} → {g : logs.Ghosts D} → Counters → List Event → WalLog D g → Life
-life_told base events log = record {
-  from = 0;
+module _ {L P : Type 0} (l : logs.Ghosts L) (p : disks.Ghosts P) where
+  -- The volumes that a life left fit a log, of which the records before the life gave its begin, and the others are its
+  -- own, and just those are on disk that the life's list flushed: so a recovery may begin from whatever a crash leaves of
+  -- them. No base that it may answer has a multixact.
+  pub record EndFit (start : Start) (lists : List (List Entry)) (volumes : Volumes L P) : Type 0 where
+    pub kept : KeptLog
+    pub follows : LogFollows start lists kept
+    pub flushed : kept.flushed ≡ flushed_to start (at lists log_lock)
+    pub fit : Fit l p kept volumes.log volumes.xact.items
+    pub unrecorded : (n : ℕ) → (base_at kept n).recorded ≡ []
+
+-- the life that began from this base with the checkpoint of this number, had this history and left this log
+abbrev pub life_told : {D : Type 0} → {g : logs.Ghosts D} → ℕ → Counters → List ℕ → List Rec → List Event → WalLog D g → Life
+life_told from base committed recorded events log = record {
+  from = from;
   base = base;
-  committed = [];
-  recorded = [];
+  committed = committed;
+  recorded = recorded;
   events = events;
   multis = [];
   recs = log_recs log;

@@ -5,6 +5,7 @@ use Rattle.disk_core.specs.declared.page_disk.PageDisk as disks
 use Rattle.disk_core.specs.declared.media.Volumes.{Volumes}
 use Rattle.disk_core.specs.Faults.{HasRisen}
 use Rattle.disk_core.specs.Images.{Only}
+use Rattle.disk_core.specs.Media.{AllCrashed, LogCrashed, PagesCrashed}
 use Rattle.recoverable.specs.Clusters.{Fit}
 use Rattle.recoverable.specs.Fit.{KeptLog}
 use Rattle.recoverable.specs.Whole.{BeganRight}
@@ -31,6 +32,12 @@ module _ {L P : Type 0} (l : logs.Ghosts L) (p : disks.Ghosts P) where
   abbrev pub MayGoOn : KeptLog → Volumes L P → Type 0
   MayGoOn kept volumes = IsTrue p.tells → IsTrue l.tells × Fit l p kept volumes.log volumes.xact.items
 
+  -- and those that a crash leaves of them
+  abbrev pub CrashGoesOn : Type 0
+  CrashGoesOn = (kept : KeptLog) (old new : Volumes L P)
+      → (IsTrue l.tells → IsTrue p.tells → AllCrashed (LogCrashed l.reads l.images l.faults) (PagesCrashed p.pages p.images p.faults) old new)
+      → MayGoOn kept old → MayGoOn kept new
+
   -- but where memory was wanting they fit what a later recovery may go on from
   abbrev pub WhenRefused : KeptLog → Volumes L P → Volumes L P → RecoverRefusal → Type 0
   WhenRefused kept old new refusals.Memory = Unit {0}
@@ -51,8 +58,9 @@ module _ {L P : Type 0} (l : logs.Ghosts L) (p : disks.Ghosts P) where
       × IsRefusal l p (cluster_volumes old) (cluster_volumes new) refusal
 
 module _ {L P : Type 0} {l : logs.Ghosts L} {p : disks.Ghosts P} where
-  -- The life goes on from this log, which these volumes fit: from the base at a number from the flushed one to its end. It
-  -- begins at counts of faults that aren't below those of the volumes, and has set those of the multixacts' stores aside.
+  -- The life goes on over these volumes. Where they tell what they hold, and so fit this log, it goes on from the base at a
+  -- number of the log, from the flushed one to its end; where they don't, nothing is known of what was before. It begins at
+  -- counts of faults that aren't below those of the volumes, and has set those of the multixacts' stores aside.
   pub record GoesOnLife (kept : KeptLog) (sessions : ℕ) (volumes : Volumes L P) (life : OpenLife L P l p) : Type 0 where
     pub number : ℕ
     pub cluster : Cluster

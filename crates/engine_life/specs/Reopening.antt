@@ -1,9 +1,14 @@
 -- A life that goes on from a log.
-use Rattle.std.specs.Prelude.{◌≡◌, ℕ, ◌≤◌, Bool, [], cond}
+use Rattle.std.specs.Prelude.{◌≡◌, ℕ, ◌≤◌, Bool, List, [], cond}
+use Rattle.disk_core.specs.declared.log_disk.LogDisk as logs
 use Rattle.tx_events.specs.declared.record.Counters.{Counters}
+use Rattle.tx_events.specs.declared.record.Rec.{Rec}
+use Rattle.wal_core.specs.LogViews.{KeepsAll}
+use Rattle.wal_core.specs.declared.wal_log.WalLog.{WalLog}
+use Rattle.engine_parts.specs.Stand.{GivesStart}
 use Rattle.recoverable.specs.Fit.{KeptLog, base_at, log_end}
 use Rattle.engine_host.specs.declared.cluster.Cluster.{Cluster}
-use Rattle.engine_host.specs.Opening.{Beginning}
+use Rattle.engine_host.specs.Opening.{Beginning, life_from}
 
 -- What a life begins with whose checkpoint has this number, behind the records below it. Where the volumes tell nothing,
 -- nothing is known of it.
@@ -17,6 +22,10 @@ behind tells kept number = record {
 
 abbrev pub cluster_over : Counters → ℕ → ℕ → Cluster
 cluster_over base banks sessions = record { base = base; banks = banks; sessions = sessions }
+
+-- the log keeps records that give what the life begins with
+abbrev pub KeepsStart : {D : Type 0} → {g : logs.Ghosts D} → Cluster → Beginning → WalLog D g → Type 0
+KeepsStart {g = g} c b log = (number : ℕ) × (past : List Rec) × KeepsAll number past g.images log × GivesStart (life_from c b []) number past
 
 -- what a life begins from: the base at this number, from the flushed one to the log's end, has these counters
 pub record IsBaseAt (kept : KeptLog) (number : ℕ) (counters : Counters) : Type 0 where

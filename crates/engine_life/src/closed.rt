@@ -6,9 +6,10 @@ ghost use Rattle.tx_core.specs.EngineInvariant.{EngineInvariant};
 ghost use Rattle.tx_core.specs.Entries.{AreFewIds, history};
 ghost use Rattle.tx_core.specs.Locks.{log_lock};
 ghost use Rattle.tx_core.specs.MultiEntries.{multi_history};
+ghost use Rattle.recoverable.specs.Whole.{BeganRight};
 ghost use Rattle.engine_parts.specs.Parts.{IsLogOf};
 ghost use Rattle.engine_host.specs.Hosts.{HoldsAllBut, IsHost};
-ghost use Rattle.engine_life.specs.Lives.{HaveCountedTold, HaveFollowed, HaveVolumes, volumes_left};
+ghost use Rattle.engine_life.specs.Lives.{EndFit, HaveCountedTold, HaveFollowed, HaveVolumes, volumes_left};
 
 use crate::life::{Aside, OpenLife};
 use disk_core::{LogDisk, PageDisk, Volumes};
@@ -42,6 +43,10 @@ pub fn close_life<L: LogDisk + Drop, P: PageDisk + Drop>(life: OpenLife<L, P>) -
     // In a life of fewer than 2,900,000 ids.
     ensures states { IsTrue P.tells → AreFewIds (view life.host.pass).seen → HaveFollowed P.PageDisk
         (start_of life.hall) (view life.host.pass).seen (volumes_left result).xact.items }
+    // So a recovery may begin from what it leaves, where it began with a base from which a life may start, and no multixact.
+    ensures fit { IsTrue L.tells → IsTrue P.tells → BeganRight (start_of life.hall) → (start_of life.hall).recorded ≡ []
+        → AreFewIds (view life.host.pass).seen → EndFit L.LogDisk P.PageDisk (start_of life.hall)
+        (view life.host.pass).seen (volumes_left result) }
     ensures offsets { (volumes_left result).offsets ≡ life.aside.offsets }
     ensures members { (volumes_left result).members ≡ life.aside.members }
 {
@@ -79,7 +84,14 @@ pub fn close_life<L: LogDisk + Drop, P: PageDisk + Drop>(life: OpenLife<L, P>) -
 
 impl<L: LogDisk + Drop, P: PageDisk + Drop> ClosedLife<L, P> {
     ghost use Rattle.std.specs.Prelude.{◌≡◌};
-    ghost use Rattle.engine_life.specs.Lives.{volumes_left};
+    ghost use Rattle.engine_life.specs.Lives.{number_of, volumes_left};
+
+    /// The number of the checkpoint with which the life began: that of the first record which it appended.
+    pub fn number(&self) -> u64
+        ensures { result ≡ number_of self.now }
+    {
+        self.log.next().saturating_sub(self.log.recs().len() as u64)
+    }
 
     /// The volumes, each in its place, which the media takes back.
     pub fn into_volumes(self) -> Volumes<L, P>

@@ -1,15 +1,16 @@
 //! The text of what a life leaves.
-ghost use Rattle.std.specs.Prelude.{◌≡◌, ◌++◌, [], None, OnOk};
+ghost use Rattle.std.specs.Prelude.{◌≡◌, ◌++◌, ℕ, List, [], OnOk};
 ghost use Rattle.std.specs.List.{flat_map};
 ghost use Rattle.tx_events.specs.declared.record.Counters.{Counters};
+ghost use Rattle.tx_events.specs.declared.record.Rec.{Rec};
 ghost use Rattle.report_text.specs.RecordText.{records_text};
-ghost use Rattle.report_text.specs.ReportText.{end_text, history_text, log_text, multis_text, rest_text};
+ghost use Rattle.report_text.specs.ReportText.{history_text, log_text, multis_text, rest_text};
 ghost use Rattle.engine_life.specs.Lives.{life_told};
 
 use disk_core::LogDisk;
-use report_text::{Text, put_event, put_log_line, put_record_line};
+use report_text::{Text, put_crash, put_event, put_log_line, put_record_line};
 use tx_events::{Event, Rec};
-use tx_model::{Memory, NameList};
+use tx_model::{How, Memory, NameList};
 use wal_core::WalLog;
 
 #[tactic(auto, unfolding(report_text::specs::ReportText::history_text))]
@@ -23,11 +24,11 @@ fn put_history(out: &mut Text, names: &NameList, events: &[Event]) -> Result<(),
     Ok(())
 }
 
-// Records, numbered from 0 on.
-fn put_records(out: &mut Text, recs: &[Rec]) -> Result<(), Memory>
-    ensures ok { OnOk result (out.new ≡ out.old ++ records_text 0 recs.now) }
+// Records, numbered from this one on.
+fn put_records(out: &mut Text, from: u64, recs: &[Rec]) -> Result<(), Memory>
+    ensures ok { OnOk result (out.new ≡ out.old ++ records_text from recs.now) }
 {
-    let mut number = 0u128;
+    let mut number = from as u128;
     for rec in recs {
         put_record_line(out, number, rec)?;
         number += 1;
@@ -36,11 +37,17 @@ fn put_records(out: &mut Text, recs: &[Rec]) -> Result<(), Memory>
 }
 
 #[tactic(auto, unfolding(report_text::specs::ReportText::log_text))]
-fn put_log<L: LogDisk>(out: &mut Text, log: &WalLog<L>, _events: &[Event]) -> Result<(), Memory>
-    ensures ok { OnOk result ((base : Counters) → out.new ≡ out.old ++ log_text (life_told base _events.now log.now)) }
+fn put_log<L: LogDisk>(
+    out: &mut Text,
+    from: u64,
+    log: &WalLog<L>,
+    _events: &[Event],
+) -> Result<(), Memory>
+    ensures ok { OnOk result ((base : Counters) (committed : List ℕ) (recorded : List Rec)
+        → out.new ≡ out.old ++ log_text (life_told from base committed recorded _events.now log.now)) }
 {
     put_log_line(out, log.flushed(), log.end())?;
-    put_records(out, log.recs())
+    put_records(out, from, log.recs())
 }
 
 #[tactic(auto, unfolding(report_text::specs::ReportText::multis_text))]
@@ -50,31 +57,21 @@ fn put_no_multis(out: &mut Text, _names: &NameList) -> Result<(), Memory>
     out.short_line(b"multis")
 }
 
-// What stands behind the steps of the life.
-fn put_rest<L: LogDisk>(
+/// Ends the text of a life that began with the checkpoint of this number, 0 over a new log, had this history and left this
+/// log: what stands behind its steps, with the crash that ends the life, if one does.
+pub fn end_life<L: LogDisk>(
     out: &mut Text,
+    from: u64,
     names: &NameList,
     events: &[Event],
     log: &WalLog<L>,
+    crash: Option<How>,
 ) -> Result<(), Memory>
-    ensures ok { OnOk result ((base : Counters) → out.new ≡ out.old ++ rest_text names.now (life_told base events.now log.now) None) }
+    ensures ok { OnOk result ((base : Counters) (committed : List ℕ) (recorded : List Rec)
+        → out.new ≡ out.old ++ rest_text names.now (life_told from base committed recorded events.now log.now) crash) }
 {
     put_history(out, names, events)?;
     put_no_multis(out, names)?;
-    put_log(out, log, events)?;
-    Ok(())
-}
-
-/// Ends the report of a life over a new log, which had this history and left this log: what stands behind its steps, and
-/// the last line.
-pub fn end_report<L: LogDisk>(
-    out: &mut Text,
-    names: &NameList,
-    events: &[Event],
-    log: &WalLog<L>,
-) -> Result<(), Memory>
-    ensures ok { OnOk result ((base : Counters) → out.new ≡ out.old ++ (rest_text names.now (life_told base events.now log.now) None ++ end_text)) }
-{
-    put_rest(out, names, events, log)?;
-    out.short_line(b"end")
+    put_log(out, from, log, events)?;
+    put_crash(out, crash)
 }

@@ -108,6 +108,7 @@ pub fn reopen_life<M: Media>(
     ensures mounted { OnOk result (M.is_idle media.new ≡ false) }
     ensures idle { OnErr result (IsTrue (M.is_idle media.new)) }
     ensures count { M.faults media.old ≤ M.faults media.new }
+    ensures used { OnErr result (M.is_new media.new ≡ false) }
     ensures again { IsTrue M.Pages.tells → IfErr result (λ e. StayFit M.Log.LogDisk M.Pages.PageDisk kept (M.gives media.old)
         (M.gives media.new) e) }
     ensures refused { IfErr result (λ e. IsNotReopened M.Log.LogDisk M.Pages.PageDisk (M.faults media.old)

@@ -1,6 +1,5 @@
 //! The parts of an engine over a cluster in which a life ran before.
 ghost use Rattle.std.specs.Prelude.{◌≡◌, ◌≤◌, ℕ, [], false, IfErr, IfOk, IsTrue, length};
-ghost use Rattle.tx_events.specs.Ids.{IsFullMulti};
 ghost use Rattle.recoverable.specs.Fit.{KeptLog};
 ghost use Rattle.recoverable.specs.Whole.{BeganRight};
 ghost use Rattle.wal_core.specs.LogViews.{log_disk};
@@ -12,21 +11,14 @@ ghost use Rattle.replay_core.specs.declared.refusal.RecoverRefusal.TheVariants a
 ghost use Rattle.engine_parts.specs.Sessions.{AreGivenBefore};
 ghost use Rattle.engine_host.specs.Counted.{AreCounted};
 ghost use Rattle.engine_host.specs.Opening.{AllOnDisk, AllShowNothing, AllShowStates, AreParts, Beginning, life_from, new_life};
-ghost use Rattle.engine_life.specs.Reopening.{IsBaseAt, behind, cluster_over};
+ghost use Rattle.engine_life.specs.Reopening.{IsBaseAt, KeepsStart, behind, cluster_over};
 
+use crate::opened::is_full_multi;
 use disk_core::{LogDisk, PageDisk};
 use engine_host::{Cluster, Parts, open_begun};
 use recoverable::ClusterVolumes;
 use replay_core::{RecoverRefusal, Recovered, recover};
 use std::alloc::Global;
-use tx_events::Counters;
-
-// The next multixact of counters is one.
-fn is_full_multi(base: &Counters)
-    ensures { IsFullMulti base.now.multi }
-{
-    let _number = base.multi.number();
-}
 
 // The parts over what a recovery left. Only memory may be wanting; the volumes come back then.
 fn open_recovered<L: LogDisk + Drop, P: PageDisk + Drop>(
@@ -45,6 +37,7 @@ fn open_recovered<L: LogDisk + Drop, P: PageDisk + Drop>(
     requires states { IsTrue P.tells → AllShowStates P.PageDisk (cluster_over recovered.base (length recovered.xact.items) sessions) begins false 0 recovered.xact.items }
     requires parents { IsTrue P.tells → AllShowNothing P.PageDisk false recovered.subtrans.items }
     requires durable { IsTrue P.tells → AllOnDisk P.PageDisk recovered.xact.items }
+    requires past { IsTrue L.tells → IsTrue begins.told → KeepsStart (cluster_over recovered.base (length recovered.xact.items) sessions) begins recovered.log }
     ensures cluster { IfOk result (λ parts. parts.cluster ≡ cluster_over recovered.base (length recovered.xact.items) sessions) }
     ensures parts { IfOk result (λ parts. AreParts parts) }
     ensures start { IfOk result (λ parts. parts.start.value ≡ new_life parts.cluster begins parts.locks.items) }

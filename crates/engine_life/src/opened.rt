@@ -2,6 +2,7 @@
 ghost use Rattle.std.specs.Prelude.{◌≡◌, ◌≤◌, ◌*◌, ℕ, [], false, IfErr, IfOk, IsTrue, OnErr, OnOk, length, vec_capacity};
 ghost use Rattle.disk_core.specs.Media.{HasBanks, MayBeFirst};
 ghost use Rattle.disk_core.specs.declared.media.Volumes.{Volumes as Mounted};
+ghost use Rattle.tx_events.specs.Ids.{IsFullMulti};
 ghost use Rattle.engine_host.specs.Opening.{AreParts, IsCluster};
 ghost use Rattle.engine_life.specs.Lives.{IsBegun, IsNewLife, LeaveMultis};
 ghost use Rattle.engine_life.specs.declared.refusal.NoLife.TheVariants as no_lives;
@@ -13,6 +14,7 @@ use disk_core::{LogDisk, Media, MountRefusal, PageDisk, Volumes};
 use engine_host::{Cluster, Parts, TakenApart, make_table, open_new, take_apart};
 use recoverable::ClusterVolumes;
 use std::alloc::{AllocError, Global};
+use tx_events::Counters;
 
 // The most locks that an engine has: those of 16 banks.
 const MOST_LOCKS: usize = 67;
@@ -108,6 +110,13 @@ pub(crate) fn new_room<P>(alloc: Global) -> Result<Vec<P>, AllocError>
     Vec::with_capacity(alloc, MOST_LOCKS)
 }
 
+// The next multixact of counters is one.
+pub(crate) fn is_full_multi(base: &Counters)
+    ensures { IsFullMulti base.now.multi }
+{
+    let _number = base.multi.number();
+}
+
 // Opens a life over mounted volumes. After an error these come back.
 fn open_over<L: LogDisk + Drop, P: PageDisk + Drop>(
     alloc: Global,
@@ -120,6 +129,7 @@ fn open_over<L: LogDisk + Drop, P: PageDisk + Drop>(
     ensures back { IfErr result (λ e. LeaveMultis volumes e.0) }
     ensures refused { IfErr result (λ e. IsNoLife L.LogDisk P.PageDisk cluster volumes e.0 e.1) }
 {
+    is_full_multi(&cluster.base);
     let Ok(xact_room) = new_room(alloc) else {
         return Err((volumes, NoLife::Memory));
     };

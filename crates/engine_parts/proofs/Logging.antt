@@ -59,10 +59,10 @@ up_more es e none up = list_any-append (λ (d : Entry). is_put_down d.kind) es (
 
 module _ (start : Start) (tells : Bool) (faults faults' : ℕ) (images images' : Volume → Type 0) (recs recs' : List Rec) (next next' first first' flushed flushed' : ℕ) (counters counters' : Option Counters) (down down' : Option ℕ) (es : List Entry) (by : By) (s : LogStands start tells faults images recs next first flushed counters down es) where
   -- an append
-  pub appends : (rec : Rec) → recs' ≡ recs ++ rec ∷ [] → next' ≡ next + 1 → flushed' ≡ flushed → counters' ≡ Some (after_record (counters_after start es) rec) → down' ≡ down → faults' ≡ faults
+  pub appends : (rec : Rec) → recs' ≡ recs ++ rec ∷ [] → next' ≡ next + 1 → flushed' ≡ flushed → counters' ≡ Some (after_record (counters_after start es) rec) → down' ≡ down → faults' ≡ faults → first' ≡ first
       → (IsTrue tells → (number : ℕ) (all : List Rec) → KeepsRecords number all recs next first flushed images → KeepsRecords number (all ++ rec ∷ []) recs' next' first' flushed' images')
       → LogStands start tells faults' images' recs' next' first' flushed' counters' down' (es ++ record { by = by; kind = kinds.Append rec } ∷ [])
-  appends rec r n f c d u k =
+  appends rec r n f c d u low k =
       let e : Entry = record { by = by; kind = kinds.Append rec } in
       let more : recs_in (es ++ e ∷ []) ≡ recs_in es ++ rec ∷ [] = recs_push es e rec refl in record {
         recs_are = r ∙ (ap (λ (l : List Rec). l ++ rec ∷ []) s.recs_are ∙ (append_assoc start.logged (recs_in es) (rec ∷ []) ∙ ap (λ (l : List Rec). start.logged ++ l) (sym more)));
@@ -74,15 +74,16 @@ module _ (start : Start) (tells : Bool) (faults faults' : ℕ) (images images' :
         count = let a : faults_told start log_lock (es ++ e ∷ []) ≡ faults_told start log_lock es = number_same count_in (faults_at start log_lock) es e refl in let b = s.count in omega arith;
         kept = λ told.
             let old = s.kept told in
-            (old.0, old.1, subst (λ (l : List Rec). KeepsRecords old.0 l recs' next' first' flushed' images') (append_assoc old.1 (recs_in es) (rec ∷ []) ∙ ap (λ (l : List Rec). old.1 ++ l) (sym more)) (k told old.0 (old.1 ++ recs_in es) old.2));
+            (old.0, old.1, subst (λ (l : List Rec). KeepsRecords old.0 l recs' next' first' flushed' images') (append_assoc old.1 (recs_in es) (rec ∷ []) ∙ ap (λ (l : List Rec). old.1 ++ l) (sym more)) (k told old.0 (old.1 ++ recs_in es) old.2), old.3);
+        first_is = let before = s.first_is in omega (arith, before, low);
       }
 
   -- a call that appended nothing: what it says of flushes and faults comes with the entry
   pub goes_on : (kind : Kind) → appended (record { by = by; kind = kind }) ≡ None → recs' ≡ recs → next' ≡ next → counters' ≡ counters → flushed' ≡ flushed_to start (es ++ record { by = by; kind = kind } ∷ [])
-      → faults_told start log_lock (es ++ record { by = by; kind = kind } ∷ []) ≤ faults' → ((m : ℕ) → down' ≡ Some m → IsDownAt start (es ++ record { by = by; kind = kind } ∷ []) m × (m ≤ flushed')) → (down' ≡ None → IsUp (es ++ record { by = by; kind = kind } ∷ []))
+      → faults_told start log_lock (es ++ record { by = by; kind = kind } ∷ []) ≤ faults' → ((m : ℕ) → down' ≡ Some m → IsDownAt start (es ++ record { by = by; kind = kind } ∷ []) m × (m ≤ flushed')) → (down' ≡ None → IsUp (es ++ record { by = by; kind = kind } ∷ [])) → first' ≡ first
       → (IsTrue tells → (number : ℕ) (all : List Rec) → KeepsRecords number all recs next first flushed images → KeepsRecords number all recs' next' first' flushed' images')
       → LogStands start tells faults' images' recs' next' first' flushed' counters' down' (es ++ record { by = by; kind = kind } ∷ [])
-  goes_on kind none r n c f u d up k =
+  goes_on kind none r n c f u d up low k =
       let e : Entry = record { by = by; kind = kind } in
       let same : recs_in (es ++ e ∷ []) ≡ recs_in es = recs_same es e none in record {
         recs_are = r ∙ (s.recs_are ∙ ap (λ (l : List Rec). start.logged ++ l) (sym same));
@@ -94,7 +95,8 @@ module _ (start : Start) (tells : Bool) (faults faults' : ℕ) (images images' :
         count = u;
         kept = λ told.
             let old = s.kept told in
-            (old.0, old.1, subst (λ (l : List Rec). KeepsRecords old.0 (old.1 ++ l) recs' next' first' flushed' images') (sym same) (k told old.0 (old.1 ++ recs_in es) old.2));
+            (old.0, old.1, subst (λ (l : List Rec). KeepsRecords old.0 (old.1 ++ l) recs' next' first' flushed' images') (sym same) (k told old.0 (old.1 ++ recs_in es) old.2), old.3);
+        first_is = let before = s.first_is in omega (arith, before, low);
       }
 
 -- a log of which nothing changed stands for the list with the look too
@@ -104,7 +106,7 @@ log_looks {g = g} start log es by s =
     goes_on start g.tells (g.faults (log_disk log)) (g.faults (log_disk log)) (g.images (log_disk log)) (g.images (log_disk log)) (log_recs log) (log_recs log) (log_next log) (log_next log) (log_first log) (log_first log) (log_flushed log) (log_flushed log) (log_counters log) (log_counters log) (log_down log) (log_down log) es by s kinds.Look refl refl refl refl
     (s.flushed_is ∙ sym (number_same flushed_in start.from es e refl))
     (let same : faults_told start log_lock (es ++ e ∷ []) ≡ faults_told start log_lock es = number_same count_in (faults_at start log_lock) es e refl in let before = s.count in omega arith)
-    (λ m is. let before = s.failed m is in (failed_more start es e m before.0, before.1)) (λ none. up_more es e refl (s.up none)) (λ told number all k. k)
+    (λ m is. let before = s.failed m is in (failed_more start es e m before.0, before.1)) (λ none. up_more es e refl (s.up none)) refl (λ told number all k. k)
 
 -- the flushed number is that of a flush, where it is past the start's
 pub flush_stands : (start : Start) (es : List Entry) (number : ℕ) → start.from ≤ number → number < flushed_to start es → (to : ℕ) × (number < to) × (by : By) × Contains es (record { by = by; kind = kinds.Flush to })

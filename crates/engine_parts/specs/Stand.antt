@@ -1,11 +1,13 @@
 -- What a value behind a lock says, where the lock's list is this one. A record for each kind of value, over plain
 -- numbers, lists and maps.
-use Rattle.std.specs.Prelude.{◌≡◌, ℕ, ◌+◌, ◌*◌, ◌^◌, ◌%◌, ◌<◌, ◌≤◌, ◌⊎◌, Bool, false, IsTrue, List, ◌∷◌, ◌++◌, length, Option, Some, None, Contains, max, true}
+use Rattle.std.specs.Prelude.{◌≡◌, ℕ, ◌+◌, ◌*◌, ◌^◌, ◌%◌, ◌<◌, ◌≤◌, ◌⊎◌, Bool, false, IsTrue, List, ◌∷◌, ◌++◌, length, Option, Some, None, Contains, max, slice_get, take, true}
 use Rattle.std.specs.List.{filter_map, fold}
 use Rattle.disk_core.specs.Volume.{Volume}
 use Rattle.tx_events.specs.declared.event.By.{By}
 use Rattle.tx_events.specs.declared.record.Counters.{Counters}
 use Rattle.tx_events.specs.declared.record.Rec.{Rec}
+use Rattle.tx_events.specs.declared.record.Rec.TheVariants as records
+use Rattle.log_bases.specs.LifeBase.{LifeBase, base_after}
 use Rattle.proc_table.specs.Table.{Table}
 use Rattle.wal_core.specs.Kept.{KeepsRecords}
 use Rattle.tx_events.specs.Ids.{IsFullId, id_before}
@@ -39,9 +41,19 @@ pub record IsDownAt (start : Start) (es : List Entry) (flushed : ℕ) : Type 0 w
   pub split : es ≡ before ++ record { by = by; kind = kinds.LogFault asked count } ∷ rest
   pub flushed_is : flushed ≡ flushed_to start before
 
+-- These records, the first of which has this number, are those of a log up to a life's begin: over some base they give what
+-- the life begins with, and each checkpoint among them has the counters that they give behind it.
+pub record GivesStart (start : Start) (number : ℕ) (past : List Rec) : Type 0 where
+  pub base : LifeBase
+  pub gives : base_after base past ≡ record { counters = start.base; committed = start.committed; recorded = start.recorded }
+  pub place : start.from ≡ number + length past
+  pub some : 1 ≤ length past
+  pub whole : (n : ℕ) (counters : Counters) → slice_get past n ≡ Some (records.Checkpoint (number + n) counters)
+      → (base_after base (take (n + 1) past)).counters ≡ counters
+
 -- The log has the records from before and those that were appended. Its flushed number is that of the last flush. It
 -- is down exactly where its list says so, from what was flushed then on. Each image of its volume opens to the records
--- that are flushed.
+-- that are flushed, behind those that gave the life's begin, where the volumes told it. In the life nothing was forgotten.
 pub record LogStands (start : Start) (tells : Bool) (faults : ℕ) (images : Volume → Type 0) (recs : List Rec)
     (next first flushed : ℕ) (counters : Option Counters) (down : Option ℕ) (es : List Entry) : Type 0 where
   pub recs_are : recs ≡ start.logged ++ recs_in es
@@ -53,6 +65,8 @@ pub record LogStands (start : Start) (tells : Bool) (faults : ℕ) (images : Vol
   pub count : faults_told start log_lock es ≤ faults
   pub kept : IsTrue tells → (number : ℕ) × (past : List Rec)
       × KeepsRecords number (past ++ recs_in es) recs next first flushed images
+      × (IsTrue start.told → GivesStart start number past)
+  pub first_is : first < start.from
 
 -- ---- the ProcArray
 

@@ -39,6 +39,7 @@ use Rattle.gen_counts.proofs.EventKinds.{aborts_are, commits_are, ids_are, own_q
 use Rattle.gen_counts.proofs.Once.{events_counted}
 use Rattle.gen_counts.proofs.Replies.{IsWide}
 use Rattle.gen_counts.proofs.Running.{run_from, transactions_run}
+use Rattle.run_law.proofs.Lives.{one_life_told}
 use Rattle.run_law.proofs.PartSums.{count_all, count_map, one, sum_same}
 use Rattle.run_law.proofs.AllTurns.{Turns, all_turns, script_count, session_turns, turns_of_all}
 use Rattle.gen_counts.proofs.Walk.{IsFine, IsGood, all_walk, by_line, commands_of}
@@ -267,5 +268,6 @@ counts tells banks seed size r few begins lawful fine =
 
 pub summaries : said.SummariesAreTheScripts
 summaries tells seed size text few sum fine =
-    let is = sum.lawful in
-    sum.exact ∙ ap all.summary_text (counts tells (generated seed size).banks seed size is.life few is.begins is.lawful fine)
+    let s = generated seed size in
+    let is = one_life_told tells s sum.report sum.life sum.lawful sum.one in
+    sum.exact ∙ ap all.summary_text (counts tells s.banks seed size sum.life few is.0 is.1 fine)

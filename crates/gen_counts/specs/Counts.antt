@@ -78,5 +78,5 @@ abbrev pub SummariesAreTheScripts : Type 0
 SummariesAreTheScripts =
     (tells : Bool) (seed size : ℕ) (text : List ℕ) → size ≤ most_transactions
     → (sum : IsSummaryOf tells (generated seed size) text)
-    → AllByRecursion (λ l. is_failure l.reply ≡ false) (flat_map lines_in sum.lawful.life.steps)
+    → AllByRecursion (λ l. is_failure l.reply ≡ false) (flat_map lines_in sum.life.steps)
     → text ≡ summary_text (summary_of_commands (commands_in (generated seed size).items))

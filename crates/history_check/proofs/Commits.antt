@@ -2,11 +2,10 @@
 use Rattle.tx_events.proofs.IdListSteps.{true_has, has_true}
 use Rattle.tx_events.proofs.ListSteps.{same_tests}
 use Rattle.tx_events.proofs.OpenGrowth.{undone_kept}
-use Rattle.std.proofs.Common.{◌≡◌, ℕ, List, [], ◌∷◌, ◌++◌, refl, ap, sym, subst, ◌∙◌, ⊎_elim, Bool, true, false, not, ◌&&◌, ◌||◌, ◌==◌, eq-eqb, append-nil, append_assoc, take, drop}
+use Rattle.std.proofs.Common.{◌≡◌, ℕ, List, [], ◌∷◌, ◌++◌, refl, ap, sym, subst, ◌∙◌, ⊎_elim, Bool, true, false, not, ◌&&◌, ◌||◌, ◌==◌, eq-eqb}
 use Rattle.std.proofs.Math.Bool.{or-false}
-use Rattle.std.proofs.lemmas.Bool.{eqb-true, cases_Bool, false_from_ne_true, and_parts, not-true}
+use Rattle.std.proofs.lemmas.Bool.{eqb-true, cases_Bool, and_parts, not-true}
 use Rattle.std.proofs.lemmas.List.Folds.{list_any-append}
-use Rattle.std.proofs.lemmas.List.{take-append-drop}
 use Rattle.std.specs.List.{list_any}
 use Rattle.tx_events.specs.declared.event.By.{By}
 use Rattle.tx_events.specs.declared.event.Event.{Event}
@@ -16,10 +15,10 @@ use Rattle.tx_events.specs.Families.{lineage, top}
 use Rattle.tx_events.specs.History.{IsLegal, MayCome}
 use Rattle.tx_events.specs.IdLists.{has}
 use Rattle.tx_events.specs.Running.{is_ended, is_open, is_undone, open_ids}
-use Rattle.tx_events.proofs.Closing.{commit_ends, is_open_by, later, one_top, open_is, closed_not_undone}
-use Rattle.tx_events.proofs.GivenIds.{family_session, fresh, given_to_some, legal_front, legal_last, one_session}
+use Rattle.tx_events.proofs.Closing.{commit_ends, is_open_by, one_top, open_is, closed_not_undone}
+use Rattle.tx_events.proofs.GivenIds.{family_session, fresh, given_to_some, one_session}
 use Rattle.tx_events.proofs.Lineages.{lineage_push, enclosing_in, top_in, top_line}
-use Rattle.tx_events.proofs.Membership.{Has, by_end, contains_has, filter_has, has_filter, place_has}
+use Rattle.tx_events.proofs.Membership.{Has, contains_has, filter_has, has_filter, place_has}
 use Rattle.tx_events.proofs.Trees.{family}
 use Rattle.tx_events.proofs.Visibility.{commit_found}
 use Rattle.history_check.specs.GivenIds.{is_committed}

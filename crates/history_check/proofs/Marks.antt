@@ -1,5 +1,5 @@
 -- What a commit changes of what is kept, one id after another.
-use Rattle.std.proofs.Common.{◌≡◌, ℕ, suc, zero, ◌<◌, List, [], ◌∷◌, ◌++◌, length, get_or, set, map, refl, ap, sym, ◌∙◌, arith, Bool, true, false, ◌||◌, ◌==◌, cond, Some, None, Option, eq-eqb, ne_eqb}
+use Rattle.std.proofs.Common.{◌≡◌, ℕ, suc, zero, ◌<◌, List, [], ◌∷◌, ◌++◌, get_or, set, map, refl, ap, sym, ◌∙◌, arith, Bool, true, false, ◌||◌, ◌==◌, cond, Some, eq-eqb, ne_eqb}
 use Rattle.std.proofs.lemmas.List.Folds.{list_any-append}
 use Rattle.tx_events.specs.IdLists.{has, Ascending}
 use Rattle.history_check.specs.declared.given.GivenId.{GivenId}

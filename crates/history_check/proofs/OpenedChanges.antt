@@ -1,7 +1,7 @@
 -- What an event changes of the open ids of its session, and of no other.
-use Rattle.std.proofs.Common.{◌≡◌, ◌≢◌, ℕ, ◌<◌, List, [], ◌∷◌, ◌++◌, Option, Some, None, map, refl, ap, sym, subst, ◌∙◌, inl, inr, ⊎_elim, Bool, true, false, cond, not, ◌==◌, ◌&&◌, length, get_or, set, Contains, eqb-true, eq-eqb}
+use Rattle.std.proofs.Common.{◌≡◌, ◌≢◌, ℕ, ◌<◌, List, [], ◌∷◌, ◌++◌, Option, Some, None, refl, ap, sym, subst, ◌∙◌, inl, inr, ⊎_elim, Bool, true, false, cond, not, ◌==◌, ◌&&◌, get_or, set, Contains, eqb-true, eq-eqb}
 use Rattle.std.specs.Global.{Vec}
-use Rattle.std.specs.List.{AllByRecursion, HoldsAt, filter}
+use Rattle.std.specs.List.{AllByRecursion, filter}
 use Rattle.std.proofs.lemmas.List.{get_or-set_other, get_or-set_same, length-set, map_push}
 use Rattle.std.proofs.lemmas.Bool.{cases_Bool, false≢true}
 use Rattle.tx_events.specs.declared.event.By.{By}
@@ -22,7 +22,7 @@ use Rattle.tx_events.proofs.IdListSteps.{has-filter, has_true}
 use Rattle.tx_events.proofs.ListSteps.{all_filter, all_push, eqb-refl}
 use Rattle.tx_events.proofs.Membership.{Has, contains_has}
 use Rattle.tx_events.proofs.OpenIds.{open_ids_other}
-use Rattle.tx_events.proofs.QuietGrowth.{IsQuiet, quiet_open_ids}
+use Rattle.tx_events.proofs.QuietGrowth.{quiet_open_ids}
 use Rattle.proc_table.proofs.EntryLists.{map_filter}
 use Rattle.history_check.specs.declared.opened.OpenId.{OpenId}
 use Rattle.history_check.specs.Opened.{AreAllOpened, AreClosed, AreOpened, opened_after, opened_ids, parent_of}

@@ -1,18 +1,17 @@
 -- The parents of ids.
-use Rattle.std.proofs.Common.{◌≡◌, ◌≢◌, ℕ, ◌<◌, ◌≤◌, ◌⊎◌, List, [], ◌∷◌, ◌++◌, Option, Some, None, refl, sym, ap, subst, ◌∙◌, inl, inr, ⊎_elim, arith, Bool, true, false, not, ◌==◌, ◌||◌, ◌&&◌, reverse, eqb-true, eq-eqb, ne_eqb, suc, length, Contains}
+use Rattle.std.proofs.Common.{◌≡◌, ◌≢◌, ℕ, ◌<◌, ◌≤◌, ◌⊎◌, List, [], ◌∷◌, ◌++◌, Some, None, refl, sym, ap, subst, ◌∙◌, inl, inr, ⊎_elim, arith, Bool, true, false, ◌==◌, ◌||◌, reverse, ne_eqb, suc, length}
 use Rattle.std.specs.List.{slice_get, list_any}
-use Rattle.std.proofs.lemmas.Bool.{false_from_ne_true, false≢true}
 use Rattle.tx_events.specs.declared.event.By.{By}
 use Rattle.tx_events.specs.declared.event.Event.{Event}
 use Rattle.tx_events.specs.declared.event.Event.TheVariants as events
 use Rattle.tx_events.specs.declared.record.Counters.{Counters}
 use Rattle.tx_events.specs.Events.{given, given_to, is_end_of, is_undo_of}
-use Rattle.tx_events.specs.Families.{lineage, top, enclosing, is_top}
+use Rattle.tx_events.specs.Families.{lineage, top, is_top}
 use Rattle.tx_events.specs.History.{IsLegal, MayCome}
-use Rattle.tx_events.specs.Running.{is_ended, is_open, is_undone, open_ids}
+use Rattle.tx_events.specs.Running.{is_open, is_undone, open_ids}
 use Rattle.tx_events.specs.Savepoints.{is_inside}
 use Rattle.tx_events.proofs.Closing.{is_open_by, open_is}
-use Rattle.tx_events.proofs.GivenIds.{family_session, fresh, given_new, given_stays, given_to_given, legal_front, legal_last}
+use Rattle.tx_events.proofs.GivenIds.{family_session, fresh, given_new, given_stays, legal_front, legal_last}
 use Rattle.tx_events.proofs.Lineages.{enclosing_line, enclosing_of_sub, line_head, line_up_self, lineage_push, top_in, top_line, top_of_sub}
 use Rattle.tx_events.proofs.ListSteps.{eqb-refl}
 use Rattle.tx_events.proofs.Membership.{Has, by_end, filter_has, has_filter}

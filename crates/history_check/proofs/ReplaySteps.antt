@@ -1,14 +1,12 @@
 -- What is kept beside the table goes along with its events.
-use Rattle.std.proofs.Common.{◌≡◌, ℕ, ◌+◌, ◌<◌, ◌≤◌, suc, zero, List, [], ◌∷◌, ◌++◌, length, get_or, set, take, refl, ap, sym, subst, ◌∙◌, arith}
+use Rattle.std.proofs.Common.{◌≡◌, ℕ, ◌<◌, ◌≤◌, suc, zero, List, [], ◌∷◌, ◌++◌, length, get_or, set, refl, ap, sym, subst, ◌∙◌, arith}
 use Rattle.std.specs.Global.{Vec}
-use Rattle.std.specs.List.{AllByRecursion, HoldsAt, slice_index}
+use Rattle.std.specs.List.{AllByRecursion, slice_index}
 use Rattle.tx_events.specs.declared.event.By.{By}
 use Rattle.tx_events.specs.declared.event.Event.{Event}
-use Rattle.tx_events.specs.declared.record.Counters.{Counters}
 use Rattle.tx_events.specs.Events.{by_of}
 use Rattle.tx_events.specs.History.{IsLegal, MayCome}
-use Rattle.tx_events.specs.Running.{open_ids}
-use Rattle.proc_table.specs.Table.{InTurn, Table}
+use Rattle.proc_table.specs.Table.{Table}
 use Rattle.history_check.specs.declared.given.GivenId.{GivenId}
 use Rattle.history_check.specs.declared.opened.OpenId.{OpenId}
 use Rattle.history_check.specs.GivenIds.{AreKept, given_after}

@@ -1,9 +1,8 @@
 -- What is kept tells what was visible at a place.
-use Rattle.std.proofs.Common.{◌≡◌, ℕ, suc, zero, ◌<◌, ◌≤◌, ◌||◌, ◌==◌, List, [], ◌∷◌, Bool, length, get_or, take, map, refl, ap, sym, subst, ◌∙◌, inl, inr, ⊎_elim, arith, false, true}
+use Rattle.std.proofs.Common.{◌≡◌, ℕ, suc, zero, ◌<◌, ◌≤◌, ◌||◌, ◌==◌, List, [], ◌∷◌, Bool, length, get_or, take, refl, ap, sym, subst, ◌∙◌, ⊎_elim, arith, false}
 use Rattle.std.specs.List.{AllByRecursion, list_any}
 use Rattle.tx_events.specs.declared.event.Event.{Event}
 use Rattle.tx_events.specs.declared.record.Counters.{Counters}
-use Rattle.tx_events.specs.Events.{given}
 use Rattle.tx_events.specs.History.{IsLegal}
 use Rattle.tx_events.specs.IdLists.{has}
 use Rattle.tx_events.specs.Visible.{is_visible}

@@ -1,6 +1,6 @@
 -- Legal histories, event by event.
-use Rattle.std.proofs.Common.{◌≡◌, ℕ, ◌+◌, ◌<◌, ◌≤◌, ◌↔◌, suc, zero, List, [], ◌∷◌, ◌++◌, refl, ap, sym, subst, ◌∙◌, Bool, true, false, ◌==◌, length, take, drop, get_or, set, arith, ⊎_elim, inl, inr, eqb-true, IsTrue}
-use Rattle.std.specs.List.{All, AllByRecursion, filter, slice_index, slice_get}
+use Rattle.std.proofs.Common.{◌≡◌, ℕ, ◌+◌, ◌<◌, ◌≤◌, ◌↔◌, suc, zero, List, [], ◌∷◌, ◌++◌, refl, ap, sym, subst, ◌∙◌, Bool, true, false, ◌==◌, length, take, drop, get_or, set, arith, ⊎_elim, eqb-true, IsTrue}
+use Rattle.std.specs.List.{All, AllByRecursion, filter, slice_index}
 use Rattle.std.proofs.lemmas.List.{take_more, get_or-set_same, get_or-set_other, append-nil, length-set, take_at}
 use Rattle.std.proofs.lemmas.Bool.{false≢true, cases_Bool}
 use Rattle.tx_events.proofs.ListSteps.{eqb-refl}
@@ -9,9 +9,8 @@ use Rattle.tx_events.specs.declared.event.By.{By}
 use Rattle.tx_events.specs.declared.event.Event.{Event}
 use Rattle.tx_events.specs.declared.record.Counters.{Counters}
 use Rattle.tx_events.specs.Events.{by_of, is_of}
-use Rattle.tx_events.specs.Places.{EachPlace}
 use Rattle.tx_events.specs.History.{IsLegal, MayCome, ComesInTurn}
-use Rattle.tx_events.proofs.PlaceLemmas.{each_place_push, each_place_none, each_place_last}
+use Rattle.tx_events.proofs.PlaceLemmas.{each_place_none, each_place_last}
 use Rattle.proc_table.specs.Table.{InTurn}
 use Rattle.history_check.specs.Replays.{IsFirstIllegal, AreTurns}
 

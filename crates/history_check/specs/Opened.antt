@@ -1,5 +1,5 @@
 -- The ids that a session has open, each with its parent.
-use Rattle.std.specs.Prelude.{◌≡◌, ℕ, ◌<◌, ◌==◌, ◌||◌, not, cond, Bool, false, List, [], ◌∷◌, ◌++◌, Option, Some, None, length, map}
+use Rattle.std.specs.Prelude.{◌≡◌, ℕ, ◌<◌, ◌==◌, ◌||◌, not, Bool, false, List, [], ◌∷◌, ◌++◌, Option, Some, None, length, map}
 use Rattle.std.specs.List.{AllByRecursion, HoldsAt, filter, slice_get}
 use Rattle.std.specs.Global.{Vec}
 use Rattle.tx_events.specs.declared.event.Event.{Event}

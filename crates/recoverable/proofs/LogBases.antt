@@ -1,8 +1,5 @@
 -- The base that the records of a life's log give.
-use Rattle.std.proofs.Common.{Contains, inl, inr, ◌⊎◌, ◌≡◌, ℕ, ◌+◌, ◌-◌, ◌<◌, ◌≤◌, ⊎_elim, List, [], ◌∷◌, ◌++◌, length, take, max, sym, ap, subst, arith, append_assoc, ◌∙◌}
-use Rattle.std.proofs.lemmas.Grind.{flat_map-append}
-use Rattle.std.proofs.lemmas.List.Sums.{fold-append}
-use Rattle.std.proofs.lemmas.List.Elements.{filter-append}
+use Rattle.std.proofs.Common.{Contains, inl, inr, ◌⊎◌, ◌≡◌, ℕ, ◌+◌, ◌-◌, ◌<◌, ◌≤◌, ⊎_elim, List, [], ◌∷◌, ◌++◌, length, take, max, sym, ap, subst, arith, ◌∙◌}
 use Rattle.std.specs.List.{filter}
 use Rattle.tx_events.specs.Ids.{next_id, next_multi}
 use Rattle.tx_events.specs.declared.multi.Member.{Member}
@@ -18,19 +15,11 @@ use Rattle.tx_core.specs.Locks.{log_lock}
 use Rattle.tx_core.proofs.Rising.{multi_above}
 use Rattle.wal_core.proofs.Counts.{past_above}
 use Rattle.notes.specs.Lists.{at}
-use Rattle.recoverable.specs.LifeBase.{LifeBase, base_after, committed_by, committed_in, is_multi}
+use Rattle.log_bases.specs.LifeBase.{LifeBase, base_after, committed_by, committed_in, is_multi}
+use Rattle.log_bases.proofs.Bases.{base_then}
 use Rattle.recoverable.specs.Fit.{KeptLog, base_at}
 use Rattle.recoverable.specs.Laws.{LogFollows, life_base}
 use Rattle.recoverable.proofs.Stretches.{take_past}
-
-pub base_then : (base : LifeBase) (xs ys : List Rec) → base_after base (xs ++ ys) ≡ base_after (base_after base xs) ys
-base_then base xs ys =
-    let counters : after_records base.counters (xs ++ ys) ≡ after_records (after_records base.counters xs) ys = fold-append after_record base.counters xs ys in
-    let committed : base.committed ++ committed_in (xs ++ ys) ≡ (base.committed ++ committed_in xs) ++ committed_in ys
-    = ap (λ (t : List ℕ). base.committed ++ t) (flat_map-append committed_by xs ys) ∙ sym (append_assoc base.committed (committed_in xs) (committed_in ys)) in
-    let recorded : base.recorded ++ filter is_multi (xs ++ ys) ≡ (base.recorded ++ filter is_multi xs) ++ filter is_multi ys
-    = ap (λ (t : List Rec). base.recorded ++ t) (filter-append is_multi xs ys) ∙ sym (append_assoc base.recorded (filter is_multi xs) (filter is_multi ys)) in
-    λ i. record { counters = counters i; committed = committed i; recorded = recorded i }
 
 -- the records of the life
 abbrev pub life_recs : List (List Entry) → List Rec

@@ -5,9 +5,9 @@ use Rattle.std.proofs.lemmas.List.{drop-take, length-drop, length-take-le, take-
 use Rattle.tx_events.proofs.ListSteps.{le_or_over}
 use Rattle.tx_events.specs.declared.record.Rec.{Rec}
 use Rattle.recoverable.specs.Fit.{KeptLog, base_at, log_end, recs_below}
-use Rattle.recoverable.specs.LifeBase.{LifeBase, base_after}
+use Rattle.log_bases.specs.LifeBase.{LifeBase, base_after}
 use Rattle.recoverable.specs.Volumes.{KeepsUpTo, RecoverySettles, RefusalKeeps, checkpoint_of}
-use Rattle.recoverable.proofs.LogBases.{base_then}
+use Rattle.log_bases.proofs.Bases.{base_then}
 
 max_same : (n : ℕ) → max n n ≡ n
 max_same n = grind arith

@@ -1,4 +1,3 @@
-pub mod LifeBase
 pub mod Bytes
 pub mod Images
 pub mod Stored

@@ -12,7 +12,7 @@ use Rattle.tx_events.specs.declared.multi.Member.{Member}
 use Rattle.tx_events.specs.declared.record.Rec.TheVariants as records
 use Rattle.recoverable.specs.Bytes.{StoredBytes, byte_held, slot_byte, slot_bytes, wanted_byte}
 use Rattle.recoverable.specs.Images.{PageRing, Reading, Since}
-use Rattle.recoverable.specs.LifeBase.{AreInOrder}
+use Rattle.log_bases.specs.LifeBase.{AreInOrder}
 use Rattle.recoverable.specs.Stored.{IsClearBehind, stored_members}
 
 abbrev pub member_ring : Start → PageRing

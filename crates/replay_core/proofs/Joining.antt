@@ -12,10 +12,12 @@ use Rattle.tx_events.specs.declared.record.Rec.{Rec}
 use Rattle.tx_events.specs.declared.record.Rec.TheVariants as records
 use Rattle.wal_core.specs.Kept.{HasFlushed}
 use Rattle.wal_core.specs.Log.{EndsWithin}
+use Rattle.wal_core.specs.LogViews.{KeepsAll, log_disk, log_first, log_flushed, log_next, log_recs}
+use Rattle.wal_core.specs.declared.wal_log.WalLog.{WalLog}
 use Rattle.wal_core.specs.Opening.{Opened, opened}
 use Rattle.recoverable.specs.Fit.{IsCommitCode, KeptLog, MayBegin, XactFits, base_at, log_end, recs_below}
 use Rattle.recoverable.specs.FitMultis.{MembersFit, OffsetsFit}
-use Rattle.recoverable.specs.LifeBase.{LifeBase, committed_in}
+use Rattle.log_bases.specs.LifeBase.{LifeBase, committed_in}
 use Rattle.recoverable.specs.Volumes.{ImageFits, Left, ListFits, Restored, VolumesFit}
 use Rattle.recoverable.specs.XactImages.{code_at}
 use Rattle.recoverable.proofs.Checkpoints.{get_past}
@@ -31,7 +33,8 @@ use Rattle.replay_core.proofs.Phases.{checkpoint_before, checkpoint_fits, checkp
 use Rattle.replay_core.specs.Banks.{AreRestored, AreRestoring}
 use Rattle.replay_core.specs.Opened.{EachHas, HasNone, OpensStill}
 use Rattle.recoverable.specs.Clusters.{Fit, IsLeft}
-use Rattle.replay_core.specs.Volumes.{LeavesFit, Recovers}
+use Rattle.replay_core.specs.Volumes.{LeavesFit, RecoversLog}
+use Rattle.replay_core.proofs.Prefixed.{keeps_before}
 use Rattle.replay_core.proofs.Absent.{AreAbsent, members_absent, no_member, no_offset, no_slot_byte, offsets_absent}
 use Rattle.replay_core.proofs.LaterLogs.{BeginsIn, FoundIn, begins_in, checkpoint_keeps, counters_are, cut_base_is, cut_end_is, cut_keeps, cut_list_fits, cut_split, found_in, front, front_place, keeps_itself, low, oldest_multi_up, pending_fits, recorded_same, settled_fits, whole_from}
 use Rattle.replay_core.proofs.Rows.{had, some_same}
@@ -341,17 +344,28 @@ module _ {L P : Type 0} (l : logs.Ghosts L) (p : disks.Ghosts P) where
         mod_inside : (q : ℕ) → q % length xact < length xact'
         mod_inside q = subst (λ n. q % length xact < n) (sym count) (mod-lt q {m = length xact} some)
 
-    pub is_recovered : (old new : L) → AreRestored p recs base xact xact' → 1 ≤ length xact → EachHas first (recs ++ records.Checkpoint (first + length recs) base ∷ []) (first + length recs) (first + length recs + 1) (l.images new)
-        → Recovers l p old xact new xact' (first + length recs) base log
-    is_recovered old new restored some has = record {
-      base = base_at log (first + length recs);
-      counters_are = sym f.counters;
-      recovered = record {
-        same = refl;
-        later = with_checkpoint (up_to log (first + length recs)) (first + length recs + 1);
-        keeps = checkpoint_keeps log first recs base f (first + length recs + 1) (omega arith);
-        flushed = omega arith;
-        fits = settled_volumes new restored has;
-        restored = restored_left new restored some;
-      };
-    }
+    -- the list that a later recovery goes by: what was before, what was found, and the checkpoint
+    listed : front log first recs base f ++ (recs ++ records.Checkpoint (first + length recs) base ∷ []) ≡ (with_checkpoint (up_to log (first + length recs)) (first + length recs + 1)).recs
+    listed =
+        let check : Rec = records.Checkpoint (log_end (up_to log (first + length recs))) (end_base (up_to log (first + length recs))).counters in
+        ap (λ (t : List Rec). front log first recs base f ++ t) (λ i. recs ++ records.Checkpoint (sym (cut_end_is log first recs base f) i) (sym (counters_are log first recs base f) i) ∷ [])
+        ∙ (sym (append_assoc (front log first recs base f) recs (check ∷ [])) ∙ ap (λ (t : List Rec). t ++ check ∷ []) (sym (cut_split log first recs base f)))
+
+    pub is_recovered : (old : L) (log' : WalLog L l) → AreRestored p recs base xact xact' → 1 ≤ length xact → EachHas first (recs ++ records.Checkpoint (first + length recs) base ∷ []) (first + length recs) (first + length recs + 1) (l.images (log_disk log'))
+        → first < log_flushed log' → KeepsAll first (recs ++ records.Checkpoint (first + length recs) base ∷ []) l.images log' → RecoversLog l p old xact log' xact' (first + length recs) base log
+    is_recovered old log' restored some has past keeps = (
+      record {
+        base = base_at log (first + length recs);
+        counters_are = sym f.counters;
+        recovered = record {
+          same = refl;
+          later = with_checkpoint (up_to log (first + length recs)) (first + length recs + 1);
+          keeps = checkpoint_keeps log first recs base f (first + length recs + 1) (omega arith);
+          flushed = omega arith;
+          fits = settled_volumes (log_disk log') restored has;
+          restored = restored_left (log_disk log') restored some;
+        };
+      },
+      subst (λ (t : List Rec). KeepsAll log.first t l.images log') listed
+          (keeps_before (front log first recs base f) (recs ++ records.Checkpoint (first + length recs) base ∷ []) log.first first (front_place log first recs base f) (log_first log') (log_flushed log') past (log_recs log') (log_next log') (l.images (log_disk log')) keeps),
+    )

@@ -17,9 +17,10 @@ use Rattle.wal_core.specs.Log.{history_in}
 use Rattle.wal_core.specs.LogContents.{ComesTo}
 use Rattle.wal_core.specs.Opening.{History, Opened, next_number, no_counters, opened}
 use Rattle.recoverable.specs.Fit.{KeptLog, MayBegin, base_at, log_end, recs_below}
-use Rattle.recoverable.specs.LifeBase.{IsLifeBase, LifeBase, base_after, committed_in, is_multi}
+use Rattle.log_bases.specs.LifeBase.{IsLifeBase, LifeBase, base_after, committed_in, is_multi}
 use Rattle.recoverable.specs.Volumes.{KeepsUpTo, ListFits, LogFits, checkpoint_of}
-use Rattle.recoverable.proofs.LogBases.{base_then, committed_below, oldest_multi_grows}
+use Rattle.recoverable.proofs.LogBases.{committed_below, oldest_multi_grows}
+use Rattle.log_bases.proofs.Bases.{base_then}
 use Rattle.recoverable.proofs.Opened.{first_is, first_stands, history_comes, log_opens}
 use Rattle.recoverable.proofs.Stretches.{get_inside}
 use Rattle.replay_core.specs.Redo.{AreNear}

@@ -12,6 +12,7 @@ mod Absent
 mod LaterLogs
 mod Joining
 mod Settling
+mod Prefixed
 mod Openings
 mod Recovering
 mod Refusing

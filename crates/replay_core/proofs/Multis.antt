@@ -5,7 +5,7 @@ use Rattle.tx_events.proofs.Membership.{Has, has_cases}
 use Rattle.tx_events.specs.declared.multi.Member.{Member}
 use Rattle.tx_events.specs.declared.record.Rec.{Rec}
 use Rattle.tx_events.specs.declared.record.Rec.TheVariants as records
-use Rattle.recoverable.specs.LifeBase.{is_multi}
+use Rattle.log_bases.specs.LifeBase.{is_multi}
 
 abbrev pub NoneAmong : List Rec → Type 0
 NoneAmong recs = (rec : Rec) → Has recs rec → is_multi rec ≡ true → ⊥

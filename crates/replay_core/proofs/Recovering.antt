@@ -1,11 +1,11 @@
 -- The whole of a recovery, from what its parts answer.
-use Rattle.std.proofs.Common.{Err, IfErr, IsTrue, List, Ok, OnErr, OnOk, Result, ap, arith, inl, inr, length, refl, subst, sym, ℕ, ⊎_elim, ◌+◌, ◌++◌, ◌∙◌, ◌∷◌, [], ◌≡◌, ◌≤◌}
+use Rattle.std.proofs.Common.{Err, IfErr, IsTrue, List, Ok, OnErr, OnOk, Result, ap, arith, inl, inr, length, refl, subst, sym, ℕ, ⊎_elim, ◌+◌, ◌++◌, ◌<◌, ◌∙◌, ◌∷◌, [], ◌≡◌, ◌≤◌}
 use Rattle.disk_core.specs.declared.log_disk.LogDisk as logs
 use Rattle.disk_core.specs.declared.page_disk.PageDisk as disks
 use Rattle.tx_events.specs.declared.record.Counters.{Counters}
 use Rattle.tx_events.specs.declared.record.Rec.{Rec}
 use Rattle.tx_events.specs.declared.record.Rec.TheVariants as records
-use Rattle.wal_core.specs.LogViews.{log_disk, log_end, log_first, log_next}
+use Rattle.wal_core.specs.LogViews.{KeepsAll, log_disk, log_end, log_first, log_flushed, log_next}
 use Rattle.wal_core.specs.declared.wal_log.WalLog.{WalLog}
 use Rattle.recoverable.specs.Fit.{KeptLog}
 use Rattle.replay_core.specs.Banks.{AreRestored, EmptiesBanks, NoCountFell, RestoresBanks}
@@ -14,7 +14,7 @@ use Rattle.replay_core.specs.Opened.{EachHas, IsFound, LeavesLog, SettlesLog}
 use Rattle.replay_core.specs.Refused.{IsSettleRefusal}
 use Rattle.replay_core.specs.Replay.{IsReplayRefusal, Replays}
 use Rattle.recoverable.specs.Clusters.{Fit}
-use Rattle.replay_core.specs.Volumes.{LeavesFit, Recovers}
+use Rattle.replay_core.specs.Volumes.{LeavesFit, RecoversLog}
 use Rattle.replay_core.specs.declared.found.Found.{Found}
 use Rattle.replay_core.specs.declared.refusal.RecoverRefusal.{RecoverRefusal}
 use Rattle.replay_core.proofs.Joining.{is_found, is_recovered, located, not_recovered_cut, not_recovered_pending, not_recovered_settled}
@@ -90,15 +90,21 @@ module _ {L P : Type 0} {l : logs.Ghosts L} (p : disks.Ghosts P) (recs : List Re
 
 module _ {L P : Type 0} (l : logs.Ghosts L) (p : disks.Ghosts P) (v : L) (xact xact' subtrans subtrans' : List P) (found : Found L l) (is : IsFound {g = l} v found) (log' : WalLog L l)
     (told : IsTrue l.tells) (told' : IsTrue p.tells) (reads : l.images v (l.reads v)) (each : (d : P) → p.images d (p.pages d)) (some : 1 ≤ length xact) (log : KeptLog) (fit : Fit l p log v xact) where
-  pub replay_recovers : Replays p found.recs found.base found.log log' xact xact' subtrans subtrans' (Ok (tt {0})) → Recovers l p v xact (log_disk log') xact' (log_next found.log) found.base log
+  pub replay_recovers : Replays p found.recs found.base found.log log' xact xact' subtrans subtrans' (Ok (tt {0})) → RecoversLog l p v xact log' xact' (log_next found.log) found.base log
   replay_recovers r =
       let first : ℕ = log_first found.log in
       let gate : ℕ = log_end found.log in
+      let settled : IsSettled (log_next found.log) found.base log' = r.settled in
+      let kept : KeepsAll (log_first found.log) (found.recs ++ records.Checkpoint (log_next found.log) found.base ∷ []) l.images log' = r.kept told first found.recs (is.keeps told) in
       let has : EachHas (log_first found.log) (found.recs ++ records.Checkpoint (log_first found.log + length found.recs) found.base ∷ []) (log_first found.log + length found.recs) (log_first found.log + length found.recs + 1) (l.images (log_disk log'))
-      = subst (λ n. EachHas (log_first found.log) (found.recs ++ records.Checkpoint n found.base ∷ []) n (n + 1) (l.images (log_disk log'))) is.next (r.kept told first found.recs (is.keeps told)) in
-      subst (λ n. Recovers l p v xact (log_disk log') xact' n found.base log) (sym is.next)
+      = subst (λ n. EachHas (log_first found.log) (found.recs ++ records.Checkpoint n found.base ∷ []) n (n + 1) (l.images (log_disk log'))) is.next
+      (each_kept first (found.recs ++ records.Checkpoint (log_next found.log) found.base ∷ []) log' (log_next found.log) (log_next found.log + 1) settled.first settled.flushed kept) in
+      let here : KeepsAll (log_first found.log) (found.recs ++ records.Checkpoint (log_first found.log + length found.recs) found.base ∷ []) l.images log'
+      = subst (λ n. KeepsAll (log_first found.log) (found.recs ++ records.Checkpoint n found.base ∷ []) l.images log') is.next kept in
+      let past : log_first found.log < log_flushed log' = let a = settled.flushed in let b = is.next in omega (arith, a, b) in
+      subst (λ n. RecoversLog l p v xact log' xact' n found.base log) (sym is.next)
       (is_recovered l p xact xact' log first found.recs found.base (is_found l p v xact log fit reads each first gate found.recs found.base is.none (is.opens told) some)
-      (located l p v xact log fit reads each first gate found.recs found.base is.none (is.opens told)) each r.xact_count v (log_disk log') (r.restored told') some has)
+      (located l p v xact log fit reads each first gate found.recs found.base is.none (is.opens told)) each r.xact_count v log' (r.restored told') some has past here)
 
   pub replay_leaves : (e : RecoverRefusal) → Replays p found.recs found.base found.log log' xact xact' subtrans subtrans' (Err e) → LeavesFit l p xact (log_disk log') xact' log
   replay_leaves e r =

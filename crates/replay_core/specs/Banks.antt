@@ -7,7 +7,7 @@ use Rattle.tx_events.specs.declared.record.Counters.{Counters}
 use Rattle.tx_events.specs.declared.record.Rec.{Rec}
 use Rattle.tx_events.specs.declared.refusal.Lock.{Lock}
 use Rattle.tx_events.specs.declared.refusal.Lock.TheVariants as locks
-use Rattle.recoverable.specs.LifeBase.{committed_in}
+use Rattle.log_bases.specs.LifeBase.{committed_in}
 use Rattle.slru_bank.specs.Crash.{CrashLeaves}
 use Rattle.replay_core.specs.declared.share.Share.{Share}
 use Rattle.replay_core.specs.declared.restore.RestoreRefusal.{RestoreRefusal}

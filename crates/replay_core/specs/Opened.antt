@@ -12,7 +12,7 @@ use Rattle.wal_core.specs.Log.{OpensAsBefore}
 use Rattle.wal_core.specs.LogContents.{ComesTo}
 use Rattle.wal_core.specs.LogViews.{KeepsAll, log_counters, log_disk, log_down, log_end, log_first, log_flushed, log_next, log_pending, log_recs}
 use Rattle.wal_core.specs.Opening.{opened}
-use Rattle.recoverable.specs.LifeBase.{is_multi}
+use Rattle.log_bases.specs.LifeBase.{is_multi}
 use Rattle.replay_core.specs.declared.found.Found.{Found}
 
 -- one of the records is of a multixact, or none is
@@ -79,4 +79,4 @@ module _ {D : Type 0} (g : logs.Ghosts D) where
 
   abbrev pub SettlesLog : Counters → WalLog D g → WalLog D g → Type 0
   SettlesLog base old new = (first : ℕ) (all : List Rec) → KeepsAll first all g.images old
-      → EachHas first (all ++ records.Checkpoint (log_next old) base ∷ []) (log_next old) (log_next old + 1) (g.images (log_disk new))
+      → KeepsAll first (all ++ records.Checkpoint (log_next old) base ∷ []) g.images new

@@ -15,7 +15,7 @@ use Rattle.wal_core.specs.declared.refusal.LogRefusal.{LogRefusal}
 use Rattle.wal_core.specs.declared.refusal.LogRefusal.TheVariants as log_refusals
 use Rattle.wal_core.specs.declared.wal_log.WalLog.{WalLog}
 use Rattle.wal_records.specs.Spelling.{rec_bytes}
-use Rattle.recoverable.specs.LifeBase.{is_multi}
+use Rattle.log_bases.specs.LifeBase.{is_multi}
 use Rattle.recoverable.specs.Clusters.{HasFailedAt}
 use Rattle.recoverable.specs.declared.cluster.ClusterVolumes.{ClusterVolumes}
 use Rattle.replay_core.specs.declared.refusal.RecoverRefusal.{RecoverRefusal}

@@ -3,9 +3,11 @@ use Rattle.std.specs.Prelude.{◌≡◌, ℕ, List, length}
 use Rattle.disk_core.specs.declared.log_disk.LogDisk as logs
 use Rattle.disk_core.specs.declared.page_disk.PageDisk as disks
 use Rattle.tx_events.specs.declared.record.Counters.{Counters}
+use Rattle.wal_core.specs.LogViews.{KeepsAll, log_disk}
+use Rattle.wal_core.specs.declared.wal_log.WalLog.{WalLog}
 use Rattle.recoverable.specs.Clusters.{IsLeft}
 use Rattle.recoverable.specs.Fit.{KeptLog}
-use Rattle.recoverable.specs.LifeBase.{LifeBase}
+use Rattle.log_bases.specs.LifeBase.{LifeBase}
 use Rattle.recoverable.specs.Volumes.{NotRecovered, Recovered}
 
 module _ {L P : Type 0} (l : logs.Ghosts L) (p : disks.Ghosts P) where
@@ -15,6 +17,12 @@ module _ {L P : Type 0} (l : logs.Ghosts L) (p : disks.Ghosts P) where
     pub base : LifeBase
     pub counters_are : base.counters ≡ counters
     pub recovered : Recovered (length xact) log (IsLeft l p new xact') from base
+
+  -- And the log that it answers keeps the list that a later recovery goes by.
+  abbrev pub RecoversLog : L → List P → WalLog L l → List P → ℕ → Counters → KeptLog → Type 0
+  RecoversLog old xact log xact' from counters kept =
+      (is : Recovers old xact (log_disk log) xact' from counters kept)
+      × KeepsAll is.recovered.later.first is.recovered.later.recs l.images log
 
   -- Where it answers an error, they fit what a later recovery may go on from.
   abbrev pub LeavesFit : List P → L → List P → KeptLog → Type 0

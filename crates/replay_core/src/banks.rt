@@ -1,6 +1,6 @@
 // The volumes of the banks, one after another, each in its place.
 ghost use Rattle.std.specs.Prelude.{◌≡◌, ◌<◌, ◌≤◌, ◌^◌, insert, length, vec_capacity};
-ghost use Rattle.recoverable.specs.LifeBase.{committed_in};
+ghost use Rattle.log_bases.specs.LifeBase.{committed_in};
 ghost use Rattle.replay_core.specs.Redo.{AreNear};
 ghost use Rattle.replay_core.specs.Restore.{IsWindow};
 ghost use Rattle.replay_core.specs.Banks.{ChangesAt, EmptiesBanks, Emptying, IsRefusalAt, RestoresBanks, Restoring};

@@ -1,7 +1,7 @@
 //! The whole of a recovery.
 ghost use Rattle.std.specs.Prelude.{◌≡◌, ◌≤◌, IfErr, IfOk, IsTrue, length};
 ghost use Rattle.recoverable.specs.Fit.{KeptLog};
-ghost use Rattle.recoverable.specs.LifeBase.{committed_in};
+ghost use Rattle.log_bases.specs.LifeBase.{committed_in};
 ghost use Rattle.replay_core.specs.Redo.{AreNear};
 ghost use Rattle.replay_core.specs.Restore.{IsWindow};
 ghost use Rattle.wal_core.specs.LogViews.{log_disk};
@@ -11,7 +11,7 @@ ghost use Rattle.replay_core.specs.Opened.{IsOpen};
 ghost use Rattle.replay_core.specs.Refused.{HasNoMultis, IsRefusal};
 ghost use Rattle.replay_core.specs.Replay.{Replays};
 ghost use Rattle.recoverable.specs.Clusters.{Fit};
-ghost use Rattle.replay_core.specs.Volumes.{LeavesFit, Recovers};
+ghost use Rattle.replay_core.specs.Volumes.{LeavesFit, RecoversLog};
 
 use crate::banks::{empty_all, restore_all};
 use crate::cluster::Recovered;
@@ -37,9 +37,10 @@ pub fn recover<L: LogDisk + Drop, P: PageDisk + Drop>(
     requires few { length volumes.xact.items ≤ 16 }
     requires as_many { length volumes.subtrans.items ≡ length volumes.xact.items }
     // From volumes that fit a log the base at a number from the flushed one to its end is answered, and the volumes are
-    // left as a life may begin with them. Any later recovery from there answers the same.
+    // left as a life may begin with them. Any later recovery from there answers the same, and the log keeps the list that
+    // it goes by.
     ensures recovers { IsTrue L.tells → IsTrue P.tells → IfOk result (λ r. (log : KeptLog) → Fit L.LogDisk P.PageDisk log volumes.log volumes.xact.items
-        → Recovers L.LogDisk P.PageDisk volumes.log volumes.xact.items (log_disk r.log) r.xact.items r.from r.base log) }
+        → RecoversLog L.LogDisk P.PageDisk volumes.log volumes.xact.items r.log r.xact.items r.from r.base log) }
     // After an error they fit, and a later recovery answers what this one might have answered.
     ensures again { IsTrue L.tells → IsTrue P.tells → IfErr result (λ e. (log : KeptLog) → Fit L.LogDisk P.PageDisk log volumes.log volumes.xact.items
         → LeavesFit L.LogDisk P.PageDisk volumes.xact.items e.0.log e.0.xact.items log) }

@@ -8,3 +8,4 @@ pub mod Noting
 pub mod Standing
 pub mod StepsStanding
 pub mod Reading
+pub mod Untold

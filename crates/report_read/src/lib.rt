@@ -10,5 +10,5 @@ mod take;
 mod told;
 mod words;
 
-pub use law::no_text_of_two;
+pub use law::{no_text_of_two, text_is_of_what_is_read};
 pub use read::{ReadRefusal, read_report};

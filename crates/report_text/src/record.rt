@@ -6,7 +6,7 @@ ghost use Rattle.report_text.specs.MemberText.{member_words};
 ghost use Rattle.report_text.specs.RecordText.{counters_words, first_counters, last_counters, record_words, records_text};
 
 use crate::member::put_members;
-use crate::text::{Text, put_numbers};
+use crate::text::Text;
 use tx_model::{Counters, IdList, MemberList, Memory, Rec};
 
 #[tactic(auto, using(crate::proofs::MoreWords::then_more))]
@@ -53,7 +53,7 @@ fn put_ended(out: &mut Text, word: &[u8], top: u64, subs: &IdList) -> Result<(),
     ensures ok { OnOk result (out.new ≡ out.old ++ more (word.now ∷ decimal top ∷ numbers subs.now)) }
 {
     out.named(word, top)?;
-    put_numbers(out, subs)
+    out.numbers(subs)
 }
 
 #[tactic(auto, using(crate::proofs::MoreWords::then_more))]

@@ -7,7 +7,7 @@ ghost use Rattle.report_text.specs.ReplyText.{reply_words, warned, status_word, 
 
 use crate::member::put_verdicts;
 use crate::refusal::{put_refusal, refusal_word};
-use crate::text::{Text, name_of, put_list, put_numbers_or_dash, put_yes_or_no};
+use crate::text::{Text, name_of, put_numbers_or_dash, put_yes_or_no};
 use tx_model::{ByteList, IdList, Memory, NameList, Reply, SnapData, Status, VerdictList};
 
 #[tactic(auto, using(crate::proofs::MoreWords::no_more))]
@@ -26,14 +26,30 @@ fn put_wrote(out: &mut Text, ids: &IdList, warn: bool) -> Result<(), Memory>
     put_warned(out, warn)
 }
 
+#[tactic(auto, using(crate::proofs::MoreWords::then_more))]
+fn put_xip(out: &mut Text, ids: &IdList) -> Result<(), Memory>
+    ensures ok { OnOk result (out.new ≡ out.old ++ more (codes "xip" ∷ numbers_or_dash ids.now)) }
+{
+    out.word(b"xip")?;
+    out.tops(ids)
+}
+
+#[tactic(auto, using(crate::proofs::MoreWords::then_more))]
+fn put_subxip(out: &mut Text, ids: &IdList) -> Result<(), Memory>
+    ensures ok { OnOk result (out.new ≡ out.old ++ more (codes "sub" ∷ numbers_or_dash ids.now)) }
+{
+    out.word(b"sub")?;
+    out.subs(ids)
+}
+
 #[tactic(auto, using(crate::proofs::MoreWords::then_more), unfolding(crate::specs::ReplyText::snapshot_words))]
 fn put_snapshot(out: &mut Text, lists: &SnapData) -> Result<(), Memory>
     ensures ok { OnOk result (out.new ≡ out.old ++ more (snapshot_words lists.now)) }
 {
     out.named(b"xmin", lists.xmin.number())?;
     out.named(b"xmax", lists.xmax.number())?;
-    put_list(out, b"xip", &lists.xip)?;
-    put_list(out, b"sub", &lists.subxip)?;
+    put_xip(out, &lists.xip)?;
+    put_subxip(out, &lists.subxip)?;
     out.word(b"overflow")?;
     put_yes_or_no(out, lists.overflowed)
 }

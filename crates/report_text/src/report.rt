@@ -68,8 +68,9 @@ fn put_crash_line(out: &mut Text, how: &[u8]) -> Result<(), Memory>
     out.end_line()
 }
 
+/// The line of the crash that ended a life, if one did.
 #[tactic(auto, unfolding(crate::specs::ReportText::crash_text))]
-fn put_crash(out: &mut Text, crash: Option<How>) -> Result<(), Memory>
+pub fn put_crash(out: &mut Text, crash: Option<How>) -> Result<(), Memory>
     ensures ok { OnOk result (out.new ≡ out.old ++ crash_text crash) }
 {
     match crash {

@@ -3,6 +3,8 @@ ghost use Rattle.std.specs.Prelude.{◌≡◌, ℕ, List, [], ◌∷◌, ◌++�
 ghost use Rattle.std.specs.Fmt.{decimal};
 ghost use Rattle.report_text.specs.Words.{more, line_text, numbers, numbers_or_dash, yes_or_no, name_at};
 
+use crate::numbers::{push_number, push_numbers};
+use crate::printed::Printed;
 use itoa::Buffer;
 use std::alloc::Global;
 use std::marker::Model;
@@ -12,6 +14,9 @@ use tx_model::{IdList, Memory, NameList};
 #[derive(Drop)]
 pub struct Text {
     bytes: Vec<u8>,
+    // The top-level ids and the subtransactions' ids of the snapshot that was printed last.
+    tops: Printed,
+    subs: Printed,
 }
 
 impl Model for Text {
@@ -28,6 +33,8 @@ impl Text {
     {
         Text {
             bytes: Vec::new(alloc),
+            tops: Printed::new(alloc),
+            subs: Printed::new(alloc),
         }
     }
 
@@ -57,13 +64,37 @@ impl Text {
     }
 
     /// A number behind a space.
-    #[tactic(auto, unfolding(crate::specs::Words::more))]
     pub fn number(&mut self, n: u64) -> Result<(), Memory>
         ensures ok { OnOk result (self.new ≡ self.old ++ more (decimal n ∷ [])) }
     {
-        let mut buffer = Buffer::new();
-        self.put(b" ")?;
-        self.put(buffer.format(n).as_bytes())
+        push_number(&mut self.bytes, n)
+    }
+
+    /// The numbers, each behind a space.
+    pub fn numbers(&mut self, ids: &IdList) -> Result<(), Memory>
+        ensures ok { OnOk result (self.new ≡ self.old ++ more (numbers ids.now)) }
+    {
+        push_numbers(&mut self.bytes, ids.items())
+    }
+
+    /// The top-level ids of a snapshot, each behind a space, or a dash. The words of those printed last are copied.
+    pub fn tops(&mut self, ids: &IdList) -> Result<(), Memory>
+        ensures ok { OnOk result (self.new ≡ self.old ++ more (numbers_or_dash ids.now)) }
+    {
+        if ids.items().is_empty() {
+            return self.word(b"-");
+        }
+        self.tops.put(&mut self.bytes, ids.items())
+    }
+
+    /// The same for the ids of subtransactions.
+    pub fn subs(&mut self, ids: &IdList) -> Result<(), Memory>
+        ensures ok { OnOk result (self.new ≡ self.old ++ more (numbers_or_dash ids.now)) }
+    {
+        if ids.items().is_empty() {
+            return self.word(b"-");
+        }
+        self.subs.put(&mut self.bytes, ids.items())
     }
 
     /// A word and a number, each behind a space.
@@ -111,34 +142,14 @@ impl Text {
     }
 }
 
-/// The numbers, each behind a space.
-#[tactic(auto, using(crate::proofs::MoreWords::then_one_number, crate::proofs::MoreWords::no_more))]
-pub fn put_numbers(out: &mut Text, ids: &IdList) -> Result<(), Memory>
-    ensures ok { OnOk result (out.new ≡ out.old ++ more (numbers ids.now)) }
-{
-    for id in ids.items() {
-        out.number(id.number())?;
-    }
-    Ok(())
-}
-
-/// The same, or a dash.
+/// The numbers, each behind a space, or a dash.
 pub fn put_numbers_or_dash(out: &mut Text, ids: &IdList) -> Result<(), Memory>
     ensures ok { OnOk result (out.new ≡ out.old ++ more (numbers_or_dash ids.now)) }
 {
     if ids.items().is_empty() {
         return out.word(b"-");
     }
-    put_numbers(out, ids)
-}
-
-/// A word and then the numbers, or a dash.
-#[tactic(auto, using(crate::proofs::MoreWords::then_more))]
-pub fn put_list(out: &mut Text, word: &[u8], ids: &IdList) -> Result<(), Memory>
-    ensures ok { OnOk result (out.new ≡ out.old ++ more (word.now ∷ numbers_or_dash ids.now)) }
-{
-    out.word(word)?;
-    put_numbers_or_dash(out, ids)
+    out.numbers(ids)
 }
 
 pub fn put_yes_or_no(out: &mut Text, yes: bool) -> Result<(), Memory>

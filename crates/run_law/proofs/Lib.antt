@@ -4,3 +4,5 @@ pub mod Commands
 pub mod Known
 pub mod PartSums
 pub mod AllTurns
+pub mod Lives
+pub mod RunLives

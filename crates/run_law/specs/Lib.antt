@@ -1,4 +1,5 @@
 pub mod Turns
 pub mod Refusals
+pub mod Lives
 pub mod Tool
 pub mod Counting

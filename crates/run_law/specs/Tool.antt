@@ -1,27 +1,20 @@
 -- What a run of the tool says.
-use Rattle.std.specs.Prelude.{◌≡◌, ℕ, Bool, ◌<◌, ◌≤◌, ◌⊎◌, List, [], ◌∷◌, Option, None, Some, Ok, length, codes}
+use Rattle.std.specs.Prelude.{◌≡◌, ℕ, Bool, ◌<◌, ◌≤◌, ◌⊎◌, List, [], ◌∷◌, Option, Some, Ok, length, codes}
 use Rattle.std.specs.Io.KnownBytes.{Consumes, Appends, IsAtEnd}
 use Rattle.tx_model.specs.declared.report.Report.{Report}
-use Rattle.tx_model.specs.declared.report.LifeReport.{LifeReport}
-use Rattle.tx_model.specs.Rounds.{BeginsLog}
-use Rattle.life_law.specs.LawfulLife.{IsLawfulLife}
 use Rattle.script_lines.specs.declared.kind.Kind.{Kind}
 use Rattle.session_lang.specs.declared.script.Script.{Script}
 use Rattle.report_text.specs.ReportText.{report_text}
-use Rattle.session_lang.specs.Rounds.{asked_of}
 use Rattle.session_lang.specs.Script.{read_script}
+use Rattle.run_law.specs.Lives.{AreRunLives, parts_of}
 use Rattle.run_law.specs.Refusals.{refusal_of, refusal_text}
 use Rattle.run_law.specs.Turns.{IsRunnable}
 
--- The report of a run of the script over a new log: one life, from the script's counters, round by round, with the dumps
--- between the rounds. Verdicts are told where the page volumes tell what they hold.
+-- The report of a run of the script over a new log: a life for each part of the script, the first from its counters, with
+-- the dumps between the rounds. Verdicts are told where the page volumes tell what they hold.
 pub record IsReportOf (tells : Bool) (s : Script) (r : Report) : Type 0 where
   pub names : r.names ≡ s.names
-  pub life : LifeReport
-  pub one : r.lives ≡ life ∷ []
-  pub last : life.crash ≡ None
-  pub begins : BeginsLog s.base life.life
-  pub lawful : IsLawfulLife tells s.banks (asked_of s.items) life
+  pub lives : AreRunLives tells s (parts_of s.items) r.lives
 
 -- the most bytes that a run reads: one past the limit of a script
 abbrev pub most_read : ℕ

@@ -51,6 +51,7 @@ MayShow what at size = (has_dump what ≡ true) × IsDump what at size × (1 ≤
 abbrev pub has_item : Item → Bool
 has_item (items.Run session command) = has_command command
 has_item items.Round = true
+has_item (items.Crash how) = true
 has_item (items.Dump what at size) = has_dump what
 has_item _ = false
 
@@ -61,9 +62,14 @@ MayRun sessions items.Round = Unit {0}
 MayRun sessions (items.Dump what at size) = MayShow what at size
 MayRun sessions _ = ⊥
 
--- a script that sessions can run, round by round
+-- a run with so many sessions has the item: one of a life, or a crash between two lives
+abbrev pub MayStand : ℕ → Item → Type 0
+MayStand sessions (items.Crash how) = Unit {0}
+MayStand sessions item = MayRun sessions item
+
+-- a script that sessions can run, life by life and round by round
 pub record IsRunnable (s : Script) : Type 0 where
   pub base : IsBase s.base
-  pub items : All (MayRun (length s.names)) s.items
+  pub items : All (MayStand (length s.names)) s.items
   pub sessions : length s.names ≤ 64
   pub few : length s.items ≤ 2 ^ 24

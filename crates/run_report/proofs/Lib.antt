@@ -4,6 +4,9 @@ pub mod Records
 pub mod Fits
 pub mod Sizes
 pub mod Reaching
-pub mod Whole
+pub mod LifeSteps
+pub mod LifeTold
 pub mod Readings
+pub mod Asking
+pub mod LivesTold
 pub mod Scripts

@@ -67,7 +67,7 @@ unfolding IsDistinct
 front_distinct [] ys d = tt
 front_distinct (x ∷ xs) ys d = (front_all (λ y. same_name x y ≡ false) xs ys d.0, front_distinct xs ys d.1)
 
-front_names : (xs ys : List (List ℕ)) → AreNames (xs ++ ys) → AreNames xs
+pub front_names : (xs ys : List (List ℕ)) → AreNames (xs ++ ys) → AreNames xs
 front_names xs ys a = record { each = front_all IsName xs ys a.each; distinct = front_distinct xs ys a.distinct }
 
 -- a session that was named before

@@ -85,7 +85,7 @@ multi_to oldest = omega arith
 member_to : (oldest : ℕ) → member_stop oldest + 1 ≤ 2 ^ 63
 member_to oldest = omega arith
 
-counters_fit : (c : Counters) → IsBase c → IsFullMulti c.multi → IsFullMulti c.oldest_multi → FitsCounters c
+pub counters_fit : (c : Counters) → IsBase c → IsFullMulti c.multi → IsFullMulti c.oldest_multi → FitsCounters c
 counters_fit c b f g =
     let ids = stop_to c.oldest in
     let multis = multi_to c.oldest_multi in

@@ -1,5 +1,5 @@
 -- A life's log fits a report: each record names ids that were given or announced.
-use Rattle.std.proofs.Common.{◌≡◌, Contains, ℕ, ◌^◌, ◌<◌, List, ◌∷◌, Some, sym, subst, ⊎_elim, arith, length, take, slice_get}
+use Rattle.std.proofs.Common.{◌≡◌, Contains, ℕ, ◌+◌, ◌^◌, ◌<◌, List, ◌∷◌, Some, sym, subst, ⊎_elim, arith, length, take, slice_get}
 use Rattle.std.specs.List.{AllByRecursion}
 use Rattle.tx_events.specs.declared.event.By.{By}
 use Rattle.tx_events.specs.declared.event.Event.{Event}
@@ -45,18 +45,18 @@ record_fits base h (records.Truncate oldest multi offset) b c l p t = λ n.
     (announced_id base h oldest b p t.0, subst FitsMulti (sym t.1) c.oldest_multi, subst (λ z. z < 2 ^ 64) (sym t.2) c.oldest_offset)
 record_fits base h r b c l p t = absurd t
 
--- what a report says of the log of a life that begins with record 0
-pub record LogFits (recs : List Rec) (flushed end : ℕ) : Type 0 where
-  pub few : length recs < 2 ^ 64
+-- what a report says of the log of a life that begins with this record
+pub record LogFits (from : ℕ) (recs : List Rec) (flushed end : ℕ) : Type 0 where
+  pub few : from + length recs < 2 ^ 64
   pub flushed_to : flushed < 2 ^ 64
   pub gate : end < 2 ^ 64
 
-pub log_fits : (base : Counters) (h : List Event) (recs : List Rec) (flushed end : ℕ) → IsLogOf 0 base h recs flushed end → LogFits recs flushed end
-log_fits base h recs flushed end log =
+pub log_fits : (from : ℕ) (base : Counters) (h : List Event) (recs : List Rec) (flushed end : ℕ) → IsLogOf from base h recs flushed end → LogFits from recs flushed end
+log_fits from base h recs flushed end log =
     let count = log.count in
     let within = log.within in
     let gate = log.gate in
     record { few = omega arith; flushed_to = omega arith; gate = omega arith }
 
-pub rest_fits : (base : Counters) (h : List Event) (recs : List Rec) (flushed end : ℕ) → IsBase base → FitsCounters base → IsLegal base h → AllByRecursion AnnouncesFit h → (log : IsLogOf 0 base h recs flushed end) → AllByRecursion RecFits log.rest
-rest_fits base h recs flushed end b c l p log = all_from RecFits log.rest (λ r k. record_fits base h r b c l p (log.each r (has_contains log.rest r k)))
+pub rest_fits : (from : ℕ) (base : Counters) (h : List Event) (recs : List Rec) (flushed end : ℕ) → IsBase base → FitsCounters base → IsLegal base h → AllByRecursion AnnouncesFit h → (log : IsLogOf from base h recs flushed end) → AllByRecursion RecFits log.rest
+rest_fits from base h recs flushed end b c l p log = all_from RecFits log.rest (λ r k. record_fits base h r b c l p (log.each r (has_contains log.rest r k)))

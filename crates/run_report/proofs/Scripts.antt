@@ -1,135 +1,45 @@
--- A script's commands fit a report.
-use Rattle.std.proofs.Common.{◌≡◌, Bool, ℕ, ◌<◌, ◌≤◌, ◌==◌, ◌||◌, Option, List, [], ◌∷◌, ◌++◌, true, Ok, refl, sym, ap, subst, ◌∙◌, arith, length, append-nil, append_assoc}
-use Rattle.std.proofs.lemmas.Bool.{or_right}
-use Rattle.std.proofs.lemmas.Grind.{flat_map-append}
-use Rattle.std.proofs.lemmas.List.{map-append}
-use Rattle.std.specs.List.{AllByRecursion, flat_map}
-use Rattle.tx_events.specs.Base.{IsBase}
-use Rattle.tx_events.specs.Places.{first_seen}
-use Rattle.tx_events.proofs.ListSteps.{all_push, both_all, eqb-refl}
-use Rattle.tx_model.specs.declared.command.Command.{Command}
-use Rattle.tx_model.specs.declared.command.Command.TheVariants as commands
-use Rattle.tx_model.specs.declared.report.DumpOf.{DumpOf}
-use Rattle.tx_model.specs.declared.report.DumpOf.TheVariants as dumps
+-- The report of a run of a script can be read back, and its text is that of no other.
+use Rattle.std.proofs.Common.{◌≡◌, Bool, ℕ, Option, List, [], ◌∷◌, Ok, length, sym, ap, subst, ◌∙◌}
+use Rattle.tx_model.specs.declared.report.LifeReport.{LifeReport}
 use Rattle.tx_model.specs.declared.report.Report.{Report}
-use Rattle.tx_model.specs.Asked as asked
-use Rattle.session_lang.specs.declared.script.Item.{Item}
-use Rattle.session_lang.specs.declared.script.Item.TheVariants as items
 use Rattle.session_lang.specs.declared.script.Script.{Script}
-use Rattle.session_lang.specs.Plain.{IsDump, IsInRange, IsItem}
-use Rattle.session_lang.specs.Rounds.{asked_from, asked_of, asked_round, round_of, rounds_from, sessions_in}
+use Rattle.session_lang.specs.Rounds.{sessions_in}
 use Rattle.session_lang.specs.Script.{read_script}
-use Rattle.session_lang.proofs.Asking.{rounds_asked}
-use Rattle.session_lang.proofs.SeenLemmas.{is_in, old_number}
-use Rattle.report_words.specs.Fits.{FitsCounters}
-use Rattle.report_lines.specs.Fits.{FitsCommand, FitsDump}
+use Rattle.session_lang.proofs.SeenLemmas.{old_number}
 use Rattle.report_text.specs.ReportText.{report_text}
+use Rattle.report_read.specs.AsRead.{as_read, life_as_read, lives_as_read}
 use Rattle.report_read.specs.Reports.{IsReport}
 use Rattle.report_read.proofs.Reading.{one_report}
+use Rattle.report_read.proofs.Untold.{same_text}
+use Rattle.run_law.specs.Lives.{BeginRun}
 use Rattle.run_law.specs.Tool.{IsAnswer, IsReportOf}
+use Rattle.run_report.proofs.Asking.{items_fit}
+use Rattle.run_report.proofs.LivesTold.{told_again}
 use Rattle.run_report.proofs.Readings.{script_read}
-use Rattle.run_report.proofs.Turns.{sessions_of}
-use Rattle.run_report.proofs.Sizes.{AskedFits, TurnFits, sessions_asked}
-use Rattle.run_report.proofs.Whole.{told_again}
 
-command_fits : (c : Command) → IsInRange c → FitsCommand c
-command_fits (commands.Snap name) i = i
-command_fits (commands.DropSnap name) i = i
-command_fits (commands.See name x) i = (i.0, i.1)
-command_fits (commands.Status x) i = i
-command_fits (commands.Did x) i = i
-command_fits (commands.Multi members) i = i
-command_fits (commands.SeeMulti name m) i = (i.0, i.1, i.2)
-command_fits (commands.Freeze x) i = i
-command_fits (commands.MultiFreeze m) i = i
-command_fits c i = tt
-
-dump_fits : (what : DumpOf) (at size : ℕ) → IsDump what at size → 1 ≤ size → size ≤ 64 → FitsDump what at size
-dump_fits dumps.Log at size i low high = (i, low, high)
-dump_fits (dumps.Xact page) at size i low high = (i.0, low, high, i.1)
-dump_fits (dumps.Subtrans page) at size i low high = (i.0, low, high, i.1)
-dump_fits (dumps.Offsets page) at size i low high = (i.0, low, high, i.1)
-dump_fits (dumps.Members page) at size i low high = (i.0, low, high, i.1)
-
-abbrev ItemFits : List (List ℕ) → Item → Type 0
-ItemFits names (items.Run s c) = TurnFits names (s, c)
-ItemFits names (items.Dump what at size) = FitsDump what at size
-ItemFits names _ = Unit {0}
-
-items_fit : (names : List (List ℕ)) (script : List Item) → ((k : ℕ) → is_in k (sessions_in script) ≡ true → k < length names) → AllByRecursion IsItem script → AllByRecursion (ItemFits names) script
-items_fit names [] f r = tt
-items_fit names (items.Run s c ∷ script) f r = (
-  record { session = f s (ap (λ b. b || is_in s (sessions_in script)) (eqb-refl s)); command = command_fits c r.0 },
-  items_fit names script (λ k e. f k (or_right (k == s) (is_in k (sessions_in script)) e)) r.1,
-)
-items_fit names (items.Round ∷ script) f r = (tt, items_fit names script f r.1)
-items_fit names (items.Checkpoint ∷ script) f r = (tt, items_fit names script f r.1)
-items_fit names (items.Crash how ∷ script) f r = (tt, items_fit names script f r.1)
-items_fit names (items.Dump what at size ∷ script) f r = (dump_fits what at size r.0.0 r.0.1 r.0.2, items_fit names script f r.1)
-
-round_fits : (names : List (List ℕ)) (turns : List (ℕ × Command)) → AllByRecursion (TurnFits names) turns → AllByRecursion (AskedFits names) (asked_round turns)
-round_fits names [] a = tt
-round_fits names (t ∷ turns) a = (record { some = λ n. cc; each = a }, tt)
-
-asked_fit : (names : List (List ℕ)) (turns : List (ℕ × Command)) (script : List Item) → AllByRecursion (TurnFits names) turns → AllByRecursion (ItemFits names) script → AllByRecursion (AskedFits names) (asked_from turns script)
-asked_fit names turns [] a f = round_fits names turns a
-asked_fit names turns (items.Run s c ∷ script) a f = asked_fit names (turns ++ (s, c) ∷ []) script (all_push (TurnFits names) turns (s, c) a f.0) f.1
-asked_fit names turns (items.Dump what at size ∷ script) a f = both_all (AskedFits names) (asked_round turns) (asked.dump what at size ∷ asked_from [] script) (round_fits names turns a) (f.0, asked_fit names [] script tt f.1)
-asked_fit names turns (x ∷ script) a f = both_all (AskedFits names) (asked_round turns) (asked_from [] script) (round_fits names turns a) (asked_fit names [] script tt f.1)
-
-one_round : (turns : List (ℕ × Command)) → flat_map sessions_of (round_of turns) ≡ sessions_of turns
-one_round [] = refl
-one_round (t ∷ turns) = append-nil (sessions_of (t ∷ turns))
-
-next_round : (turns : List (ℕ × Command)) (script : List Item) → flat_map sessions_of (rounds_from [] script) ≡ sessions_in script → flat_map sessions_of (round_of turns ++ rounds_from [] script) ≡ sessions_of turns ++ sessions_in script
-next_round turns script e =
-    flat_map-append sessions_of (round_of turns) (rounds_from [] script)
-    ∙ ap (λ t. t ++ flat_map sessions_of (rounds_from [] script)) (one_round turns)
-    ∙ ap (λ t. sessions_of turns ++ t) e
-
-rounds_sessions : (turns : List (ℕ × Command)) (script : List Item) → flat_map sessions_of (rounds_from turns script) ≡ sessions_of turns ++ sessions_in script
-rounds_sessions turns [] = one_round turns ∙ sym (append-nil (sessions_of turns))
-rounds_sessions turns (items.Run s c ∷ script) =
-    rounds_sessions (turns ++ (s, c) ∷ []) script
-    ∙ ap (λ t. t ++ sessions_in script) (map-append (λ (t : ℕ × Command). t.0) turns ((s, c) ∷ []))
-    ∙ append_assoc (sessions_of turns) (s ∷ []) (sessions_in script)
-rounds_sessions turns (items.Round ∷ script) = next_round turns script (rounds_sessions [] script)
-rounds_sessions turns (items.Checkpoint ∷ script) = next_round turns script (rounds_sessions [] script)
-rounds_sessions turns (items.Crash how ∷ script) = next_round turns script (rounds_sessions [] script)
-rounds_sessions turns (items.Dump what at size ∷ script) = next_round turns script (rounds_sessions [] script)
-
-asked_sessions : (script : List Item) → sessions_asked (asked_of script) ≡ sessions_in script
-asked_sessions script = ap (flat_map sessions_of) (rounds_asked script) ∙ rounds_sessions [] script
-
-sessions_short : (script : List Item) → length (sessions_in script) ≤ length script
-sessions_short [] = omega arith
-sessions_short (items.Run s c ∷ script) = let i = sessions_short script in omega arith
-sessions_short (items.Round ∷ script) = let i = sessions_short script in omega arith
-sessions_short (items.Checkpoint ∷ script) = let i = sessions_short script in omega arith
-sessions_short (items.Crash how ∷ script) = let i = sessions_short script in omega arith
-sessions_short (items.Dump what at size ∷ script) = let i = sessions_short script in omega arith
-
-pub script_told_again : (tells : Bool) (bytes : List ℕ) (s : Script) (r : Report) → read_script bytes ≡ Ok s → IsReportOf tells s r → IsReport r
+pub script_told_again : (tells : Bool) (bytes : List ℕ) (s : Script) (r : Report) → read_script bytes ≡ Ok s → IsReportOf tells s r → IsReport (as_read r)
 script_told_again tells bytes s r e ran =
     let read = script_read bytes s e in
-    let base = ran.begins.base_is in
-    subst (λ names. IsReport (record { names = names; lives = r.lives })) (sym ran.names)
-    (subst (λ lives. IsReport (record { names = s.names; lives = lives })) (sym ran.one)
-    (told_again tells s.banks s.names (asked_of s.items) s.base ran.life read.banks ran.begins ran.last ran.lawful
-    (record {
-      names_are = read.names;
-      few = read.sessions;
-      base_is = subst IsBase (sym base) read.base;
-      counters = subst FitsCounters (sym base) read.counters;
-      turns = let all = ap length (asked_sessions s.items) in let few = sessions_short s.items in let m = read.few in omega arith;
-    })
-    (asked_fit s.names [] s.items tt (items_fit s.names s.items (λ k e. old_number k (length s.names) (sessions_in s.items) read.numbered e) read.items))
-    (ap first_seen (asked_sessions s.items) ∙ read.numbered)))
+    subst (λ names. IsReport (record { names = names; lives = lives_as_read r.lives })) (sym ran.names)
+    (told_again tells s.banks s.names read.banks read.names read.sessions s.items s.base r.lives read.base read.counters
+    (items_fit s.names s.items (λ k e. old_number k (length s.names) (sessions_in s.items) read.numbered e) read.items)
+    read.few read.numbered ran.lives.of ran.lives.begin ran.lives.bases)
 
--- The text that a run answers is that of its report, and of no other.
+-- The text that a run answers is that of its report as it is read, and of no other.
 pub answer_of_one : (tells : Bool) (left left' : Option (List ℕ)) (text : List ℕ) (a : IsAnswer tells left left' text)
-    → (text ≡ report_text a.report) × ((r : Report) → IsReport r → text ≡ report_text r → r ≡ a.report)
+    → (text ≡ report_text a.report) × ((r : Report) → IsReport r → text ≡ report_text r → r ≡ as_read a.report)
 answer_of_one tells left left' text a = (
   a.exact,
-  λ r is e. one_report r a.report is (script_told_again tells a.bytes a.script a.report a.spelled a.lawful) (sym e ∙ a.exact),
+  λ r is e. one_report r (as_read a.report) is (script_told_again tells a.bytes a.script a.report a.spelled a.lawful) (sym e ∙ a.exact ∙ sym (same_text a.report)),
 )
+
+-- the first life begins with nothing that the text leaves out
+first_whole : (tells : Bool) (s : Script) (first : LifeReport) → BeginRun s.base (first ∷ []) → life_as_read first ≡ first
+first_whole tells s first begin =
+    ap (λ c. record first { life = record (first.life) { committed = c; recorded = [] } }) (sym begin.committed)
+    ∙ ap (λ c. record first { life = record (first.life) { recorded = c } }) (sym begin.recorded)
+
+pub one_life_whole : (tells : Bool) (s : Script) (r : Report) (life : LifeReport) → IsReportOf tells s r → r.lives ≡ life ∷ [] → as_read r ≡ r
+one_life_whole tells s r life ran one =
+    ap (λ lives. record r { lives = lives })
+    (ap lives_as_read one ∙ ap (λ l. l ∷ []) (first_whole tells s life (subst (BeginRun s.base) one ran.lives.begin)) ∙ sym one)

@@ -53,6 +53,14 @@ climbs_apart k k' (x ∷ xs) ys c = ⊎_elim
     (λ (a : (x ≡ k) × Climbs (suc k) (xs ++ ys) k'). let r = climbs_apart (suc k) k' xs ys a.1 in record { middle = r.middle; front = inr (a.0, r.front); behind = r.behind })
     c
 
+-- no fewer have appeared behind them than before
+pub climbs_up : (k k' : ℕ) (xs : List ℕ) → Climbs k xs k' → k ≤ k'
+climbs_up k k' [] c = let e : k ≡ k' = c in omega arith
+climbs_up k k' (x ∷ xs) c = ⊎_elim
+    (λ (a : (x < k) × Climbs k xs k'). climbs_up k k' xs a.1)
+    (λ (a : (x ≡ k) × Climbs (suc k) xs k'). let l = climbs_up (suc k) k' xs a.1 in omega arith)
+    c
+
 -- ---- a round's commands, session by session
 
 abbrev pub sessions_of : List (ℕ × Command) → List ℕ

@@ -1,5 +1,5 @@
 -- What holds of a generated script as a whole.
-use Rattle.std.proofs.Common.{◌≡◌, ℕ, ◌<◌, ◌≤◌, min, zero, suc, List, [], ◌∷◌, codes, map, take, refl, sym, ap, subst, arith, true, ◌∙◌, inl, inr}
+use Rattle.std.proofs.Common.{◌≡◌, ℕ, ◌<◌, ◌≤◌, min, zero, suc, List, [], ◌∷◌, codes, length, map, take, refl, sym, ap, subst, arith, true, ◌∙◌, inl, inr}
 use Rattle.std.proofs.lemmas.List.{take_min}
 use Rattle.std.specs.List.{AllByRecursion, IsDistinct}
 use Rattle.tx_events.proofs.ListSteps.{le_or_over}
@@ -12,6 +12,7 @@ use Rattle.script_lines.proofs.Bases.{passes_base}
 use Rattle.script_lines.specs.Header.{base_of, is_base, no_header}
 use Rattle.session_lang.specs.Plain.{IsInRange, IsItem}
 use Rattle.session_lang.proofs.PlainText.{plain_text_read}
+use Rattle.run_law.proofs.Lives.{all_may_stand}
 use Rattle.script_gen.specs.Choices.{drawn_from}
 use Rattle.script_gen.specs.Generated.{generated, items_from, session_names}
 use Rattle.script_gen.specs.Laws.{GeneratedScriptsAreSound, GeneratedScriptsRun, GeneratedTextsAreRead, generated_text}
@@ -94,8 +95,10 @@ unfolding generated no_header
 scripts_run seed size l =
     let count = names_count size in
     let few = few_items seed size l in
+    let all = items_run seed size l in
     record {
-      runnable = record { base = base_is; items = items_run seed size l; sessions = omega arith; few = omega arith };
+      runnable = record { base = base_is; items = all_may_stand (length (session_names size)) (items_from 0 (drawn_from 0 size seed)) all; sessions = omega arith; few = omega arith };
+      items = all;
       banks = refl;
       few = few_levels seed size l;
     }

@@ -1,11 +1,11 @@
 -- What holds of every generated script.
 use Rattle.std.specs.Prelude.{◌≡◌, ℕ, ◌<◌, ◌≤◌, ◌*◌, ◌%◌, ◌^◌, List, Ok, length, map}
-use Rattle.std.specs.List.{AllByRecursion, flat_map}
+use Rattle.std.specs.List.{All, AllByRecursion, flat_map}
 use Rattle.report_text.specs.Words.{line_text}
 use Rattle.session_lang.specs.Plain.{IsItem, item_words}
 use Rattle.session_lang.specs.Reading.{IsSound}
 use Rattle.session_lang.specs.Script.{read_script}
-use Rattle.run_law.specs.Turns.{HasFewLevels, IsRunnable}
+use Rattle.run_law.specs.Turns.{HasFewLevels, IsRunnable, MayRun}
 use Rattle.script_gen.specs.Draws.{state_behind}
 use Rattle.script_gen.specs.Generated.{generated}
 
@@ -23,9 +23,11 @@ GeneratedScriptsAreSound =
     (seed size : ℕ) → size ≤ most_transactions
     → IsSound (generated seed size) × AllByRecursion IsItem (generated seed size).items
 
--- Sessions can run it: it has no command and no directive that the run hasn't, and few enough that make a level.
+-- Sessions can run it, in one life: it has no command and no directive that the run hasn't, no crash, and few enough
+-- commands that make a level.
 pub record MayRunWhole (seed size : ℕ) : Type 0 where
   pub runnable : IsRunnable (generated seed size)
+  pub items : All (MayRun (length (generated seed size).names)) (generated seed size).items
   pub banks : (generated seed size).banks ≡ 4
   pub few : HasFewLevels (generated seed size).items
 

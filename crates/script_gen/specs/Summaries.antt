@@ -1,12 +1,15 @@
 -- What the summary of a run says.
-use Rattle.std.specs.Prelude.{◌≡◌, ℕ, Bool, List}
+use Rattle.std.specs.Prelude.{◌≡◌, ℕ, Bool, List, [], ◌∷◌}
+use Rattle.tx_model.specs.declared.report.LifeReport.{LifeReport}
 use Rattle.tx_model.specs.declared.report.Report.{Report}
 use Rattle.session_lang.specs.declared.script.Script.{Script}
 use Rattle.run_law.specs.Tool.{IsReportOf}
 use Rattle.script_gen.specs.Counts.{life_summary, summary_text}
 
--- The text tells the counts of a report of the script: what its history and its replies come to.
+-- The text tells the counts of a report of the script, which has one life: what its history and its replies come to.
 pub record IsSummaryOf (tells : Bool) (s : Script) (text : List ℕ) : Type 0 where
   pub report : Report
   pub lawful : IsReportOf tells s report
-  pub exact : text ≡ summary_text (life_summary lawful.life)
+  pub life : LifeReport
+  pub one : report.lives ≡ life ∷ []
+  pub exact : text ≡ summary_text (life_summary life)

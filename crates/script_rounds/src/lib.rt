@@ -1,4 +1,4 @@
-//! The rounds of a script: which commands of a round are whose, what was told of them, and what is kept of that.
+//! The lives and rounds of a script: which commands of a round are whose, what was told of them, and what is kept of that.
 #![tactic(auto)]
 
 mod keeper;
@@ -12,4 +12,4 @@ pub use keeper::LineKeeper;
 pub use plan::Plan;
 pub use tally::Tally;
 pub use told::ToldLines;
-pub use turns::{command_at, next_round};
+pub use turns::{command_at, next_part, next_round};

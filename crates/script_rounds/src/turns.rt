@@ -1,12 +1,13 @@
-//! The rounds of a script, and the commands of a session in one.
+//! The lives of a script, their rounds, and the commands of a session in one.
 ghost use Rattle.std.specs.Prelude.{◌≡◌, [], ◌∷◌, IfNone, IfOk, IfSome, Some, slice_get};
 ghost use Rattle.session_lang.specs.declared.script.Item.TheVariants as items;
 ghost use Rattle.session_lang.specs.Rounds.{turns_of};
 ghost use Rattle.script_rounds.specs.Plans.{turns_at};
+ghost use Rattle.run_law.specs.Lives.{IsFirstPart};
 ghost use Rattle.run_law.specs.Turns.{IsFirstRound, turns_in};
 
 use session_lang::{Item, Items};
-use tx_model::{Command, Memory};
+use tx_model::{Command, How, Memory};
 
 /// The command, where it is of this session.
 fn command_of(number: u32, item: Item) -> Option<Command>
@@ -42,4 +43,19 @@ pub fn next_round<'a>(items: &Items<'a>) -> (Items<'a>, Items<'a>)
         }
     }
     (items.front(count), items.behind(count))
+}
+
+/// What the script asks of its first life: the items up to the first crash, that crash if there is one, and what stands
+/// behind it.
+pub fn next_part<'a>(items: &Items<'a>) -> (Items<'a>, Option<How>, Items<'a>)
+    ensures { IsFirstPart items.now result.0 result.1 result.2 }
+{
+    let count = items.len();
+    for i in 0..count {
+        let crash = items.crash_at(i);
+        if crash.is_some() {
+            return (items.front(i), crash, items.behind(i + 1));
+        }
+    }
+    (items.front(count), None, items.behind(count))
 }

@@ -18,7 +18,7 @@ use Rattle.session_lang.specs.Rounds.{sessions_in}
 use Rattle.session_lang.specs.Script.{read_script}
 use Rattle.session_lang.proofs.SeenLemmas.{is_in, old_number}
 use Rattle.run_law.specs.Refusals.{refusal_of}
-use Rattle.run_law.specs.Turns.{IsRunnable, MayRun, has_item}
+use Rattle.run_law.specs.Turns.{IsRunnable, MayStand, has_item}
 
 pass_step : (x : Item) (script : List Item) (b : Bool) → has_item x ≡ b → suc (length script) ≤ prefix_len has_item (x ∷ script) → (length script ≤ prefix_len has_item script → AllByRecursion (λ item. has_item item ≡ true) script) → AllByRecursion (λ item. has_item item ≡ true) (x ∷ script)
 pass_step x script true e l rest = let m = rw e at l in (e, rest (omega arith))
@@ -29,22 +29,22 @@ all_pass [] l = tt
 all_pass (x ∷ script) l = pass_step x script (has_item x) refl (omega arith) (all_pass script)
 
 -- each command's session is one of them
-may_run : (n : ℕ) (script : List Item) → ((k : ℕ) → is_in k (sessions_in script) ≡ true → k < n) → AllByRecursion IsItem script → AllByRecursion (λ item. has_item item ≡ true) script → AllByRecursion (MayRun n) script
-may_run n [] f i r = tt
-may_run n (items.Run s c ∷ script) f i r = (
+may_stand : (n : ℕ) (script : List Item) → ((k : ℕ) → is_in k (sessions_in script) ≡ true → k < n) → AllByRecursion IsItem script → AllByRecursion (λ item. has_item item ≡ true) script → AllByRecursion (MayStand n) script
+may_stand n [] f i r = tt
+may_stand n (items.Run s c ∷ script) f i r = (
   (r.0, f s (ap (λ b. b || is_in s (sessions_in script)) (eqb-refl s))),
-  may_run n script (λ k e. f k (or_right (k == s) (is_in k (sessions_in script)) e)) i.1 r.1,
+  may_stand n script (λ k e. f k (or_right (k == s) (is_in k (sessions_in script)) e)) i.1 r.1,
 )
-may_run n (items.Round ∷ script) f i r = (tt, may_run n script f i.1 r.1)
-may_run n (items.Checkpoint ∷ script) f i r = absurd (false≢true r.0)
-may_run n (items.Crash how ∷ script) f i r = absurd (false≢true r.0)
-may_run n (items.Dump what at size ∷ script) f i r = ((r.0, i.0.0, i.0.1, i.0.2), may_run n script f i.1 r.1)
+may_stand n (items.Round ∷ script) f i r = (tt, may_stand n script f i.1 r.1)
+may_stand n (items.Checkpoint ∷ script) f i r = absurd (false≢true r.0)
+may_stand n (items.Crash how ∷ script) f i r = (tt, may_stand n script f i.1 r.1)
+may_stand n (items.Dump what at size ∷ script) f i r = ((r.0, i.0.0, i.0.1, i.0.2), may_stand n script f i.1 r.1)
 
 -- a script all of whose items the run has can be run
 pub script_runs : (s : Script) → IsSound s → AllByRecursion IsItem s.items → length s.items ≤ prefix_len has_item s.items → IsRunnable s
 script_runs s i ranges l = record {
   base = i.base;
-  items = All-from_recursion (MayRun (length s.names)) s.items (may_run (length s.names) s.items (λ k e. old_number k (length s.names) (sessions_in s.items) i.numbered e) ranges (all_pass s.items l));
+  items = All-from_recursion (MayStand (length s.names)) s.items (may_stand (length s.names) s.items (λ k e. old_number k (length s.names) (sessions_in s.items) i.numbered e) ranges (all_pass s.items l));
   sessions = i.sessions;
   few = i.few;
 }

@@ -44,7 +44,7 @@ fn has_item(item: &Item) -> bool
 {
     match item {
         Item::Run { command, .. } => has_command(command),
-        Item::Round => true,
+        Item::Round | Item::Crash { .. } => true,
         Item::Dump { what, .. } => has_dump(what),
         _ => false,
     }

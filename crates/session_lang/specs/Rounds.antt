@@ -2,6 +2,7 @@
 use Rattle.std.specs.Prelude.{ℕ, ◌≤◌, List, [], ◌∷◌, ◌++◌, Option, Some, None, ◌==◌, get_or, length}
 use Rattle.std.specs.List.{filter, filter_map}
 use Rattle.tx_model.specs.declared.command.Command.{Command}
+use Rattle.tx_model.specs.declared.report.How.{How}
 use Rattle.tx_model.specs.Asked as asked
 use Rattle.tx_model.specs.Asked.{Asked}
 use Rattle.session_lang.specs.declared.script.Item.{Item}
@@ -10,6 +11,10 @@ use Rattle.session_lang.specs.declared.script.Item.TheVariants as items
 abbrev pub session_of : Item → Option ℕ
 session_of (items.Run session command) = Some session
 session_of _ = None
+
+abbrev pub crash_in : Item → Option How
+crash_in (items.Crash how) = Some how
+crash_in _ = None
 
 -- the session of each command, in order
 abbrev pub sessions_in : List Item → List ℕ

@@ -4,19 +4,19 @@ ghost use Rattle.session_lang.specs.declared.script.Item.TheVariants as items;
 ghost use Rattle.tx_model.specs.declared.command.Command.TheVariants as commands;
 ghost use Rattle.session_lang.specs.Packed.{IsIdOf, id_command, named_command, plain_command};
 ghost use Rattle.session_lang.specs.Plain.{IsInRange};
-ghost use Rattle.session_lang.specs.Rounds.{asked_at, session_of};
+ghost use Rattle.session_lang.specs.Rounds.{asked_at, crash_in, session_of};
 ghost use Rattle.session_lang.specs.Script.{item_of};
 ghost use Rattle.tx_events.specs.Names.{is_name};
 
 use crate::packed::{
     Apart, Halves, IdCommand, NamedCommand, PackedItem, PlainCommand, Span, dump_parts,
-    packed_dump, packed_session, unpack,
+    packed_crash, packed_dump, packed_session, unpack,
 };
 use crate::script::{Dump, Item};
 use script_lines::Directive;
 use std::alloc::Global;
 use std::marker::Model;
-use tx_model::{Command, DumpOf, Memory, Name, PairList};
+use tx_model::{Command, DumpOf, How, Memory, Name, PairList};
 
 /// The items of a script, in order: twelve bytes for each, the bytes of its name, eight for each of its members, and
 /// twelve more for a dump. That is at most twice the text of any line. A contract sees the list of them.
@@ -287,6 +287,16 @@ impl<'a> Items<'a> {
     {
         match self.packed.get(place) {
             Some(packed) => packed_dump(self.apart, packed),
+            None => None,
+        }
+    }
+
+    /// The crash at this place; None where none stands there.
+    pub fn crash_at(&self, place: usize) -> Option<How>
+        ensures { result ≡ crash_in (get_or self.now place items.Round) }
+    {
+        match self.packed.get(place) {
+            Some(packed) => packed_crash(packed),
             None => None,
         }
     }

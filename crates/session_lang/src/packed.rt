@@ -4,7 +4,7 @@ ghost use Rattle.tx_events.specs.Ids.{IsFullMulti, IsXidNumber};
 ghost use Rattle.session_lang.specs.Packed.{IsIdOf, IsPacked, dump_of, id_command, named_command, plain_command};
 ghost use Rattle.session_lang.specs.Packed.{unpacked, whole};
 ghost use Rattle.session_lang.specs.declared.packed.Apart.{Apart};
-ghost use Rattle.session_lang.specs.Rounds.{asked_in, session_of};
+ghost use Rattle.session_lang.specs.Rounds.{asked_in, crash_in, session_of};
 ghost use Rattle.session_lang.specs.declared.script.Item.TheVariants as items;
 
 use crate::script::{Dump, Item};
@@ -258,6 +258,16 @@ pub fn packed_session(packed: &PackedItem) -> Option<u32>
         | PackedItem::Did { session, .. }
         | PackedItem::OfId { session, .. }
         | PackedItem::Multi { session, .. } => Some(u32::from(*session)),
+        _ => None,
+    }
+}
+
+/// The crash that an item in short asks for, if it does.
+pub fn packed_crash(packed: &PackedItem) -> Option<How>
+    ensures { (apart : Apart) → result ≡ crash_in (unpacked apart packed.now) }
+{
+    match packed {
+        PackedItem::Crash { how } => Some(*how),
         _ => None,
     }
 }

@@ -1,5 +1,5 @@
 -- The log at the end of a life is that of its ends.
-use Rattle.std.proofs.Common.{Bool, Contains, List, None, Option, Some, [], ap, arith, drop, eqb-true, inl, length, map, refl, subst, sym, take, zero, suc, ℕ, ⊎_elim, ◌++◌, ◌-◌, ◌<◌, ◌≡◌, ◌≤◌, ◌∙◌, ◌∷◌, ◌^◌}
+use Rattle.std.proofs.Common.{Bool, Contains, List, None, Option, Some, [], ap, arith, drop, eqb-true, inl, length, map, refl, subst, sym, take, zero, suc, ℕ, ⊎_elim, ◌++◌, ◌+◌, ◌-◌, ◌<◌, ◌≡◌, ◌≤◌, ◌∙◌, ◌∷◌, ◌^◌}
 use Rattle.std.specs.List.{cons_option, slice_get}
 use Rattle.std.proofs.lemmas.List.{length-map}
 use Rattle.std.proofs.lemmas.Option.{same_Some}
@@ -35,7 +35,7 @@ use Rattle.tx_core.proofs.Opening.{sessions_known}
 use Rattle.tx_core.proofs.LogLaws.{flushes_rise}
 use Rattle.tx_core.proofs.Reading.{appended_at, appended_by, appended_is}
 use Rattle.tx_core.proofs.Taking.{get_in_take}
-use Rattle.session_promise.specs.Closing.{BeginsNewLog, IsOver, PromisesMakeLog}
+use Rattle.session_promise.specs.Closing.{BeginsAt, IsOver, PromisesMakeLog}
 use Rattle.session_promise.specs.Promise.{IsOfEnd, recs_of}
 use Rattle.session_promise.specs.Told.{ToldRound}
 use Rattle.session_promise.proofs.RecordPlaces.{has_rec}
@@ -109,7 +109,7 @@ named base h p t session by subs legal own at_p exact =
 
 -- ---- the log
 
-module _ (tells : Bool) (start : Start) (lists : List (List Entry)) (rounds : List ToldRound) (begins : BeginsNewLog start) (over : IsOver tells start lists rounds) (quiet : multi_history lists ≡ []) where
+module _ (tells : Bool) (start : Start) (lists : List (List Entry)) (rounds : List ToldRound) (number : ℕ) (begins : BeginsAt number start) (over : IsOver tells start lists rounds) (quiet : multi_history lists ≡ []) where
   abbrev h : List Event
   h = history lists
 
@@ -178,23 +178,23 @@ module _ (tells : Bool) (start : Start) (lists : List (List Entry)) (rounds : Li
       x.behind ∙ (ap (λ z. length (recs_in (take z es))) same ∙ sym y.behind)
 
   abbrev first_rec : Rec
-  first_rec = records.Checkpoint 0 start.base
+  first_rec = records.Checkpoint number start.base
 
   recs_are : start.logged ++ recs_of lists ≡ first_rec ∷ recs_of lists
   recs_are = ap (λ (rs : List Rec). rs ++ recs_of lists) begins.logged
 
-  committed : (p t : ℕ) (by : By) → slice_get h p ≡ Some (events.Commit by t) → IsAmong (flushed - 0) (start.logged ++ recs_of lists) (records.Commit t (drop 1 (open_ids by.session (take p h))))
+  committed : (p t : ℕ) (by : By) → slice_get h p ≡ Some (events.Commit by t) → IsAmong (flushed - number) (start.logged ++ recs_of lists) (records.Commit t (drop 1 (open_ids by.session (take p h))))
   committed p t by at_p =
       let f = commits_are_flushed start lists by t over.kept (has_contains h (events.Commit by t) (place_has h p (events.Commit by t) at_p)) in
       let rec : Rec = records.Commit t f.2 in
       let exact = over.kept.records.exact by.session t f.2 (appended_at lists by.session rec f.0 f.1 f.3 f.4) in
       let subs : drop 1 (open_ids by.session (take p h)) ≡ f.2 = named start.base h p t by.session by f.2 over.kept.events.legal refl at_p exact in
       let there : slice_get (first_rec ∷ recs_of lists) (suc f.0) ≡ Some rec = at_map (λ (r : By × Rec). r.1) (records_of lists) f.0 (f.1, rec) f.4 in
-      let low : suc f.0 < flushed - 0 = let b = f.5 in let one = begins.from in omega (arith, b, one) in
-      let among : Has (take (flushed - 0) (first_rec ∷ recs_of lists)) rec = place_has (take (flushed - 0) (first_rec ∷ recs_of lists)) (suc f.0) rec (get_in_take (flushed - 0) (suc f.0) (first_rec ∷ recs_of lists) rec low there) in
-      subst (λ (x : List Rec × List ℕ). Contains (take (flushed - 0) x.0) (records.Commit t x.1)) (λ j. (sym recs_are j, sym subs j)) (has_contains (take (flushed - 0) (first_rec ∷ recs_of lists)) rec among)
+      let low : suc f.0 < flushed - number = let b = f.5 in let one = begins.from in omega (arith, b, one) in
+      let among : Has (take (flushed - number) (first_rec ∷ recs_of lists)) rec = place_has (take (flushed - number) (first_rec ∷ recs_of lists)) (suc f.0) rec (get_in_take (flushed - number) (suc f.0) (first_rec ∷ recs_of lists) rec low there) in
+      subst (λ (x : List Rec × List ℕ). Contains (take (flushed - number) x.0) (records.Commit t x.1)) (λ j. (sym recs_are j, sym subs j)) (has_contains (take (flushed - number) (first_rec ∷ recs_of lists)) rec among)
 
-  pub log_of : (end : ℕ) → length (start.logged ++ recs_of lists) < 2 ^ 64 → end < 2 ^ 64 → IsLogOf 0 start.base h (start.logged ++ recs_of lists) flushed end
+  pub log_of : (end : ℕ) → number + length (start.logged ++ recs_of lists) < 2 ^ 64 → end < 2 ^ 64 → IsLogOf number start.base h (start.logged ++ recs_of lists) flushed end
   log_of end count gate =
       let last = flushes_rise start lists over.kept in
       let one = begins.from in
@@ -211,4 +211,4 @@ module _ (tells : Bool) (start : Start) (lists : List (List Entry)) (rounds : Li
       }
 
 pub promises_make_log : PromisesMakeLog
-promises_make_log tells start lists rounds end begins over quiet count gate = log_of tells start lists rounds begins over quiet end count gate
+promises_make_log tells start lists rounds number end begins over quiet count gate = log_of tells start lists rounds number begins over quiet end count gate

@@ -40,7 +40,7 @@ use Rattle.tx_core.specs.declared.entry.Entry.{Entry}
 use Rattle.tx_core.specs.declared.entry.Start.{Start}
 use Rattle.tx_core.specs.Entries.{AreFewIds, history}
 use Rattle.engine_parts.specs.Stages.{pending_in}
-use Rattle.session_promise.specs.Closing.{BeginsNewLog, IsOver, PromisesMakeSteps}
+use Rattle.session_promise.specs.Closing.{BeginsAt, IsOver, PromisesMakeSteps}
 use Rattle.session_promise.specs.Promise.{IsToldWell, recs_of}
 use Rattle.session_promise.specs.Told.{Follow, Told, ToldRound, all_lines, lines_by, lines_of, steps_of, told_by, told_in, told_of}
 use Rattle.session_promise.proofs.Between.{each_between, in_turn_between, lines_of_rounds, step_lines}
@@ -107,7 +107,7 @@ from_logged number counters recs h (l ∷ lines) s old =
 
 -- ---- the lines
 
-module _ (tells : Bool) (start : Start) (lists : List (List Entry)) (rounds : List ToldRound) (begins : BeginsNewLog start) (over : IsOver tells start lists rounds) (few : AreFewIds lists) where
+module _ (tells : Bool) (start : Start) (lists : List (List Entry)) (rounds : List ToldRound) (number : ℕ) (begins : BeginsAt number start) (over : IsOver tells start lists rounds) (few : AreFewIds lists) where
   abbrev h : List Event
   h = history lists
 
@@ -115,7 +115,7 @@ module _ (tells : Bool) (start : Start) (lists : List (List Entry)) (rounds : Li
   f = facts tells start lists rounds over few
 
   logged_same : (before : List Line) (n : ℕ) → pending f.recs h before n ≡ pending (recs_of lists) h before n
-  logged_same before n = ap (λ (rs : List Rec). pending (rs ++ recs_of lists) h before n) begins.logged ∙ from_logged 0 start.base (recs_of lists) h (filter (is_line_of n) before) nothing_yet None
+  logged_same before n = ap (λ (rs : List Rec). pending (rs ++ recs_of lists) h before n) begins.logged ∙ from_logged number start.base (recs_of lists) h (filter (is_line_of n) before) nothing_yet None
 
   -- the round i, and its line q
   module _ (i : ℕ) (r : ToldRound) (at_round : slice_get rounds i ≡ Some r) (q : ℕ) (l : Line) (at_line : slice_get r.lines q ≡ Some l) where
@@ -236,7 +236,7 @@ promises_make_steps tells start lists rounds r begins over few is =
     let same : facts tells start lists rounds over ids ≡ facts_of tells start.banks r.life (all_lines rounds)
     = λ j. record { tells = tells; banks = start.banks; base = sym is.base j; committed = sym is.committed j; events = sym is.events j; recs = sym is.recs j; flushed = sym is.flushed j; log_failed = has_log_fault (all_lines rounds) } in (
       lawful_between (facts_of tells start.banks r.life (all_lines rounds)) r.steps
-          (subst (λ (x : Facts × List Step). AreLawfulSteps x.0 x.1) (λ j. (same j, sym is.steps j)) (lawful tells start lists rounds begins over ids)),
+          (subst (λ (x : Facts × List Step). AreLawfulSteps x.0 x.1) (λ j. (same j, sym is.steps j)) (lawful tells start lists rounds r.life.from begins over ids)),
       in_turn_between r.life.events r.steps
-          (subst (λ (x : List Event × List Step). AreInTurn x.0 x.1) (λ j. (sym is.events j, sym is.steps j)) (in_turn tells start lists rounds begins over ids)),
+          (subst (λ (x : List Event × List Step). AreInTurn x.0 x.1) (λ j. (sym is.events j, sym is.steps j)) (in_turn tells start lists rounds r.life.from begins over ids)),
     )

@@ -26,7 +26,7 @@ use Rattle.engine_parts.specs.declared.session.Stage.{Stage}
 use Rattle.engine_parts.specs.declared.session.Stage.TheVariants as stages
 use Rattle.engine_parts.specs.Sessions.{stance_of}
 use Rattle.engine_parts.specs.Stages.{AreUnaborted, may_be_aborted, may_be_recorded, pending_in}
-use Rattle.session_promise.specs.Closing.{BeginsNewLog, IsOver, MayCallIn}
+use Rattle.session_promise.specs.Closing.{BeginsAt, IsOver, MayCallIn}
 use Rattle.session_promise.specs.Promise.{Promise, recs_of}
 use Rattle.session_promise.specs.Told.{ToldRound, all_lines, lines_of, told_by}
 use Rattle.session_promise.proofs.FewIds.{event_known}
@@ -61,7 +61,7 @@ nil_cons x xs e = cc
 
 -- ---- sessions
 
-module _ (tells : Bool) (start : Start) (lists : List (List Entry)) (rounds : List ToldRound) (begins : BeginsNewLog start) (over : IsOver tells start lists rounds) where
+module _ (tells : Bool) (start : Start) (lists : List (List Entry)) (rounds : List ToldRound) (number : ℕ) (begins : BeginsAt number start) (over : IsOver tells start lists rounds) where
   abbrev h : List Event
   h = history lists
 
@@ -72,7 +72,7 @@ module _ (tells : Bool) (start : Start) (lists : List (List Entry)) (rounds : Li
   lines = all_lines rounds
 
   -- a record that isn't the first one was appended
-  appended : (rec : Rec) → (records.Checkpoint 0 start.base ≡ rec → ⊥) → Contains recs rec → Has (recs_of lists) rec
+  appended : (rec : Rec) → (records.Checkpoint number start.base ≡ rec → ⊥) → Contains recs rec → Has (recs_of lists) rec
   appended rec other c = ⊎_elim (λ e. absurd (other e)) (λ k. k) (subst (λ (rs : List Rec). Has (rs ++ recs_of lists) rec) begins.logged (contains_has recs rec c))
 
   own_lines : (n : ℕ) → lines_of (told_by n rounds) ≡ filter (is_line_of n) lines
@@ -92,7 +92,7 @@ module _ (tells : Bool) (start : Start) (lists : List (List Entry)) (rounds : Li
     pending_here : pending recs h lines n ≡ pending_in s.stage
     pending_here =
         ap (λ (rs : List Rec). pending (rs ++ recs_of lists) h lines n) begins.logged
-        ∙ (from_logged 0 start.base (recs_of lists) h (filter (is_line_of n) lines) nothing_yet None
+        ∙ (from_logged number start.base (recs_of lists) h (filter (is_line_of n) lines) nothing_yet None
         ∙ (ap (pending_from (recs_of lists) h nothing_yet None) (sym (filter_twice (is_line_of n) lines))
         ∙ (ap (λ ls. pending (recs_of lists) h ls n) (sym (own_lines n)) ∙ promise.pending_is)))
 
@@ -140,7 +140,7 @@ module _ (tells : Bool) (start : Start) (lists : List (List Entry)) (rounds : Li
     recorded_told e =
         let known : is_recorded (recs_of lists) (top_level (stance_of s).levels) ≡ may_be_recorded s.stage = subst (λ (l : List (List Entry)). is_recorded (recs_of l) (top_level (stance_of s).levels) ≡ may_be_recorded s.stage) calls.seen (known_of start calls.pass n s calls.may) in
         ap (λ (rs : List Rec). is_recorded (rs ++ recs_of lists) (top_level (stance h lines n).levels)) begins.logged
-        ∙ (recorded_same 0 start.base (recs_of lists) (top_level (stance h lines n).levels)
+        ∙ (recorded_same number start.base (recs_of lists) (top_level (stance h lines n).levels)
         ∙ (ap (λ st. is_recorded (recs_of lists) (top_level st.levels)) stance_here
         ∙ (known ∙ is_recorded_there s.stage (sym pending_here ∙ e))))
 

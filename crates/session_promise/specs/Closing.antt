@@ -1,7 +1,7 @@
 -- What the promises of all sessions make of a life that is over.
 use Rattle.engine_parts.specs.Sessions.{MayCall}
 use Rattle.engine_parts.specs.Holds.{Knowledge}
-use Rattle.std.specs.Prelude.{◌≡◌, ℕ, ◌^◌, ◌<◌, Bool, List, [], ◌∷◌, ◌++◌, length}
+use Rattle.std.specs.Prelude.{◌≡◌, ◌+◌, ℕ, ◌^◌, ◌<◌, Bool, List, [], ◌∷◌, ◌++◌, length}
 use Rattle.std.specs.List.{AllByRecursion, count_by, filter}
 use Rattle.notes.specs.Lists.{at}
 use Rattle.tx_events.specs.declared.record.Rec.TheVariants as records
@@ -45,15 +45,14 @@ LevelsBoundIds =
     (tells : Bool) (start : Start) (lists : List (List Entry)) (rounds : List ToldRound)
     → IsOver tells start lists rounds → AreFewLevels rounds → AreFewIds lists
 
--- the life began over a new log, which has its checkpoint
-pub record BeginsNewLog (start : Start) : Type 0 where
-  pub from : start.from ≡ 1
-  pub logged : start.logged ≡ records.Checkpoint 0 start.base ∷ []
+-- the life began with the checkpoint of this number, which a new log has as its first record
+pub record BeginsAt (number : ℕ) (start : Start) : Type 0 where
+  pub from : start.from ≡ number + 1
+  pub logged : start.logged ≡ records.Checkpoint number start.base ∷ []
 
 -- the report of the life tells these lists and rounds
 pub record IsReportOf (start : Start) (lists : List (List Entry)) (rounds : List ToldRound) (r : LifeReport)
     : Type 0 where
-  pub from : r.life.from ≡ 0
   pub base : r.life.base ≡ start.base
   pub committed : r.life.committed ≡ start.committed
   pub events : r.life.events ≡ history lists
@@ -66,23 +65,23 @@ pub record IsReportOf (start : Start) (lists : List (List Entry)) (rounds : List
 abbrev pub PromisesMakeSteps : Type 0
 PromisesMakeSteps =
     (tells : Bool) (start : Start) (lists : List (List Entry)) (rounds : List ToldRound) (r : LifeReport)
-    → BeginsNewLog start → IsOver tells start lists rounds → AreFewLevels rounds → IsReportOf start lists rounds r
+    → BeginsAt r.life.from start → IsOver tells start lists rounds → AreFewLevels rounds → IsReportOf start lists rounds r
     → AreLawfulSteps (facts_of tells start.banks r.life (all_lines rounds)) r.steps × AreInTurn r.life.events r.steps
 
 -- The log is that of the ends, where no multixact was touched.
 abbrev pub PromisesMakeLog : Type 0
 PromisesMakeLog =
-    (tells : Bool) (start : Start) (lists : List (List Entry)) (rounds : List ToldRound) (end : ℕ)
-    → BeginsNewLog start → IsOver tells start lists rounds → multi_history lists ≡ []
-    → length (start.logged ++ recs_of lists) < 2 ^ 64 → end < 2 ^ 64
-    → IsLogOf 0 start.base (history lists) (start.logged ++ recs_of lists) (flushed_to start (at lists log_lock)) end
+    (tells : Bool) (start : Start) (lists : List (List Entry)) (rounds : List ToldRound) (number end : ℕ)
+    → BeginsAt number start → IsOver tells start lists rounds → multi_history lists ≡ []
+    → number + length (start.logged ++ recs_of lists) < 2 ^ 64 → end < 2 ^ 64
+    → IsLogOf number start.base (history lists) (start.logged ++ recs_of lists) (flushed_to start (at lists log_lock)) end
 
 -- so the life is lawful
 abbrev pub PromisesMakeLife : Type 0
 PromisesMakeLife =
     (tells : Bool) (start : Start) (lists : List (List Entry)) (rounds : List ToldRound)
     (asked : List Asked) (r : LifeReport)
-    → BeginsNewLog start → IsOver tells start lists rounds → AreFewLevels rounds
+    → BeginsAt r.life.from start → IsOver tells start lists rounds → AreFewLevels rounds
     → AreSteps 1 asked r.steps → AreDumpsTold start lists rounds r.steps
-    → IsReportOf start lists rounds r → length r.life.recs < 2 ^ 64 → r.life.end < 2 ^ 64
+    → IsReportOf start lists rounds r → r.life.from + length r.life.recs < 2 ^ 64 → r.life.end < 2 ^ 64
     → IsLawfulLife tells start.banks asked r

@@ -13,22 +13,23 @@ use Rattle.tx_core.specs.declared.entry.Start.{Start}
 use Rattle.tx_core.specs.FaultsRise.{faults_at, faults_told}
 use Rattle.tx_core.specs.Locks.{log_lock, subtrans_lock, xact_lock}
 use Rattle.engine_host.specs.declared.cluster.Cluster.{Cluster}
-use Rattle.engine_host.specs.Opening.{life_of}
+use Rattle.engine_host.specs.Opening.{Beginning, life_from}
 use Rattle.engine_life.specs.declared.life.OpenLife.{OpenLife}
-use Rattle.engine_life.specs.Lives.{HaveCountedTold, IsNewLife, LeaveMultis}
+use Rattle.engine_life.specs.Lives.{HaveCountedTold, LeaveMultis}
 use Rattle.engine_life.proofs.Counts.{there}
 use Rattle.session_promise.specs.Causes.{HasRisenBy, faults_in}
 use Rattle.session_promise.specs.Closing.{IsOver}
 use Rattle.session_promise.specs.Told.{ToldRound, all_lines, lines_by}
 use Rattle.session_promise.proofs.FaultLines.{faults_are_told}
 use Rattle.session_run.specs.Causes.{HasRisenAt, HaveCauses, told_faults}
+use Rattle.session_run.specs.OneLife.{IsOpened}
 
 -- a count has risen by as many from below, and to beyond
 wider : (times before first last now : ℕ) → before ≤ first → last ≤ now → min (first + times) (2 ^ 64 - 1) ≤ last → min (before + times) (2 ^ 64 - 1) ≤ now
 wider times before first last now low high up = grind arith
 
 module _ {L P : Type 0} {l : logs.Ghosts L} {p : disks.Ghosts P} (tells : Bool) (c : Cluster) (start : Start) (lists : List (List Entry)) (rounds : List ToldRound) (life : OpenLife L P l p) (old new : Volumes L P)
-    (over : IsOver tells start lists rounds) (begun : IsNewLife c old life) (starts : start ≡ life_of c begun.faults) (counted : HaveCountedTold l p start lists new) (multis : LeaveMultis old new) (steps : List Step) (lines : flat_map lines_in steps ≡ all_lines rounds) where
+    (over : IsOver tells start lists rounds) (b : Beginning) (faults : List ℕ) (begun : IsOpened c b faults old life) (starts : start ≡ life_from c b faults) (counted : HaveCountedTold l p start lists new) (multis : LeaveMultis old new) (steps : List Step) (lines : flat_map lines_in steps ≡ all_lines rounds) where
   abbrev times : ℕ → ℕ → ℕ
   times session lock = told_faults steps session lock
 
@@ -40,14 +41,14 @@ module _ {L P : Type 0} {l : logs.Ghosts L} {p : disks.Ghosts P} (tells : Bool) 
       subst (λ (ls : List Line). HasRisenBy (faults_in lock (lines_by session ls)) (faults_at start lock) (last lock)) (sym lines)
       (faults_are_told tells start lists rounds session lock over)
 
-  from_first : (lock count : ℕ) → count ≤ get_or begun.faults lock 0 → count ≤ faults_at start lock
-  from_first lock count low = subst (λ (faults : List ℕ). count ≤ get_or faults lock 0) (sym (ap (λ (s : Start). s.faults) starts)) low
+  from_first : (lock count : ℕ) → count ≤ get_or faults lock 0 → count ≤ faults_at start lock
+  from_first lock count low = subst (λ (fs : List ℕ). count ≤ get_or fs lock 0) (sym (ap (λ (s : Start). s.faults) starts)) low
 
   inside : (bank : ℕ) (volumes : List P) → length volumes ≡ c.banks → bank < length volumes → bank < start.banks
   inside bank volumes count low = let banks = ap (λ (s : Start). s.banks) starts in omega (arith, count, low, banks)
 
   -- the volume of a bank
-  risen : (session lock bank : ℕ) (xs ys : List P) → bank < length xs → ((v : P) → slice_get xs bank ≡ Some v → p.faults v ≤ get_or begun.faults lock 0)
+  risen : (session lock bank : ℕ) (xs ys : List P) → bank < length xs → ((v : P) → slice_get xs bank ≡ Some v → p.faults v ≤ get_or faults lock 0)
       → (w : P) × (slice_get ys bank ≡ Some w) × (last lock ≤ p.faults w) → HasRisenAt p.faults (times session lock) bank xs ys
   risen session lock bank xs ys low first k =
       let v = there xs bank low in

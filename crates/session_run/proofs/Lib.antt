@@ -5,10 +5,17 @@ mod Returning
 mod Rounding
 mod Going
 mod RoundCounts
-mod RoundSteps
+pub mod RoundSteps
 mod RoundsRun
 mod LogHeld
 mod StatesHeld
 mod CausesTold
-mod LifeTold
+mod LifeFits
+mod LifeLived
+mod Endings
 mod ToolEnds
+mod Opening
+mod Running
+mod GoingOn
+mod LivesRun
+mod Counted

@@ -23,7 +23,7 @@ use Rattle.script_rounds.specs.declared.keeper.LineKeeper as keepers
 use Rattle.script_rounds.proofs.ListLemmas.{all_front}
 use Rattle.script_rounds.proofs.RoundLemmas.{first_asked, turns_short}
 use Rattle.session_promise.specs.Told.{ToldRound, steps_of}
-use Rattle.session_run.specs.Runs.{with_steps}
+use Rattle.session_run.specs.Parts.{with_steps}
 use Rattle.run_law.proofs.AllTurns.{Turns}
 use Rattle.session_run.proofs.RoundCounts.{AreRoundsOf}
 

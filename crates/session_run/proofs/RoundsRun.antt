@@ -33,7 +33,7 @@ use Rattle.session_promise.specs.Told.{steps_of}
 use Rattle.session_promise.proofs.LawfulDumps.{dumps_stay}
 use Rattle.session_run.specs.Rounds.{AreParked, MayAdd}
 use Rattle.session_run.specs.GoesOn.{AreHome, GoesOn, HasRoundMore}
-use Rattle.session_run.specs.Runs.{HasRun}
+use Rattle.session_run.specs.Parts.{HasRun}
 use Rattle.run_law.proofs.AllTurns.{Turns, turns_of_all}
 use Rattle.session_run.proofs.RoundCounts.{lines_short, own_short, rounds_told}
 use Rattle.session_run.proofs.RoundSteps.{as_many, dump_push, kept_push, round_push, steps_push}

@@ -3,6 +3,12 @@ pub mod Rounds
 pub mod GoesOn
 pub mod Records
 pub mod Causes
+pub mod Parts
+pub mod Fits
+pub mod OneLife
+pub mod Lives
 pub mod Leaves
 pub mod Runs
+pub mod Stops
+pub mod Going
 pub mod Tool

@@ -1,5 +1,5 @@
 -- What a life leaves on the volumes of the log and of pg_xact.
-use Rattle.std.specs.Prelude.{◌≡◌, ◌≤◌, ℕ, ◌-◌, ◌%◌, List, ◌∷◌, ◌++◌, Contains, Some, slice_get}
+use Rattle.std.specs.Prelude.{◌≡◌, ◌≤◌, ◌⊎◌, ℕ, ◌+◌, ◌-◌, ◌%◌, List, ◌∷◌, ◌++◌, Contains, Some, length, slice_get}
 use Rattle.disk_core.specs.declared.log_disk.LogDisk as logs
 use Rattle.disk_core.specs.declared.page_disk.PageDisk as disks
 use Rattle.disk_core.specs.Pages.{Pages}
@@ -15,13 +15,15 @@ use Rattle.recoverable.specs.XactImages.{code_at}
 use Rattle.wal_core.specs.Log.{history_on}
 use Rattle.wal_core.specs.Opening.{History, next_number}
 
--- The volume opens to the life's records, from the first one on and at least to the flushed number.
+-- The volume opens to records that end with the life's own, from the first one on and at least to the flushed number. Those
+-- before it are older ones, which only a life has that goes on from an earlier one.
 pub record HoldsRecords (life : Life) (v : Volume) : Type 0 where
   pub history : History
+  pub older : List Rec
   pub unwritten : List Rec
   pub opens : history_on v ≡ Some history
-  pub first : history.first ≡ life.from
-  pub split : life.recs ≡ history.recs ++ unwritten
+  pub first : history.first + length older ≡ life.from
+  pub split : older ++ life.recs ≡ history.recs ++ unwritten
   pub flushed : life.flushed ≤ next_number history
 
 module _ {L : Type 0} (l : logs.Ghosts L) where
@@ -30,12 +32,16 @@ module _ {L : Type 0} (l : logs.Ghosts L) where
     pub reads : HoldsRecords life (l.reads log)
     pub crashed : (c : Volume) → l.images log c → HoldsRecords life c
 
--- Each place of a bank of pg_xact that says committed or sub-committed is that of an id which a flushed commit record of
--- the life names.
+-- the id was committed before the life, or a flushed commit record of the life names it
+abbrev pub IsCommittedOnDisk : Life → ℕ → Type 0
+IsCommittedOnDisk life id =
+    Contains life.committed id
+    ⊎ ((top : ℕ) × (subs : List ℕ) × IsAmong (life.flushed - life.from) life.recs (records.Commit top subs) × Contains (top ∷ subs) id)
+
+-- Each place of a bank of pg_xact that says committed or sub-committed is that of such an id.
 pub record HoldsStates (life : Life) (banks bank : ℕ) (c : Pages) : Type 0 where
   pub each : (x : ℕ) → xact_page_of x % banks ≡ bank → IsCommitCode (code_at c x)
-      → (top : ℕ) × (subs : List ℕ) × IsAmong (life.flushed - life.from) life.recs (records.Commit top subs)
-      × (y : ℕ) × Contains (top ∷ subs) y × (low_half y ≡ low_half x)
+      → (id : ℕ) × IsCommittedOnDisk life id × (low_half id ≡ low_half x)
 
 module _ {P : Type 0} (p : disks.Ghosts P) where
   -- so the bank's volume among these, as it reads and as any crash would leave it

@@ -4,9 +4,12 @@ use Rattle.std.specs.Fmt.{decimal}
 use Rattle.std.specs.Io.KnownBytes.{Appends}
 use Rattle.disk_core.specs.declared.log_disk.LogDisk as logs
 use Rattle.disk_core.specs.declared.page_disk.PageDisk as disks
+use Rattle.disk_core.specs.declared.media.Crash.{Crash}
 use Rattle.disk_core.specs.declared.media.Volumes.{Volumes}
+use Rattle.tx_model.specs.declared.report.LifeReport.{LifeReport}
 use Rattle.report_text.specs.Words.{line_text}
 use Rattle.session_lang.specs.declared.script.Script.{Script}
+use Rattle.run_law.specs.Lives.{AreLivesBefore, text_so_far}
 use Rattle.run_law.specs.Tool.{IsAnswer, IsNoScript, IsRun}
 use Rattle.script_gen.specs.Generated.{generated}
 use Rattle.script_gen.specs.Laws.{most_transactions}
@@ -18,13 +21,14 @@ use Rattle.script_source.specs.declared.script.NoScript.TheVariants as no_script
 use Rattle.script_source.specs.Sources.{HasScript}
 use Rattle.engine_life.specs.declared.refusal.NoLife.{NoLife}
 use Rattle.engine_life.specs.declared.refusal.NoLife.TheVariants as no_lives
-use Rattle.engine_life.specs.Refusals.{IsUnopened}
 use Rattle.session_run.specs.declared.ending.Ending.{Ending}
 use Rattle.session_run.specs.declared.ending.Ending.TheVariants as endings
+use Rattle.session_run.specs.declared.stop.Stopped.{Stopped}
+use Rattle.session_run.specs.declared.stop.Stopped.TheVariants as stops
 use Rattle.session_run.specs.declared.task.Task.{Task}
 use Rattle.session_run.specs.declared.task.Task.TheVariants as tasks
 use Rattle.session_run.specs.Leaves.{LeavesVolumes}
-use Rattle.session_run.specs.Runs.{cluster_of}
+use Rattle.session_run.specs.Stops.{IsUnwritten, Stops}
 
 -- ---- what is asked for
 
@@ -54,38 +58,71 @@ abbrev pub damage_text : ℕ → List ℕ
 damage_text at = line_text (codes "damaged" ∷ decimal at ∷ [])
 
 module _ {L P : Type 0} (l : logs.Ghosts L) (p : disks.Ghosts P) where
-  -- There was a script to run, but no life was opened for it over the media, which gives such volumes first, with these
-  -- counts of its faults and the volumes that it holds now.
-  abbrev pub IsUnrun : Task → Option (List ℕ) → Option (List ℕ) → (ℕ → Volumes L P → Type 0) → ℕ → ℕ → (Volumes L P → Type 0) → NoLife → Type 0
-  IsUnrun task left left' first before now gives refusal =
-      (s : Script) × IsScriptOf task left left' s × IsUnopened l p (cluster_of s) first before now gives refusal
+  -- There was a script to run, but behind these lives, of which the text is written, the run stopped over the media: it
+  -- gives such volumes first, lets them fall so, and has these counts of its faults and the volumes that it holds now.
+  pub record IsUnrun (task : Task) (left left' : Option (List ℕ)) (first : ℕ → Volumes L P → Type 0) (falls : Crash → Volumes L P → Volumes L P → Type 0)
+      (before now : ℕ) (gives : Volumes L P → Type 0) (written : List ℕ) (refusal : NoLife) : Type 0 where
+    pub script : Script
+    pub of : IsScriptOf task left left' script
+    pub lives : List LifeReport
+    pub are : AreLivesBefore p.tells script lives
+    pub exact : written ≡ text_so_far script.names lives
+    pub stops : Stops l p first falls before now gives script lives refusal
 
-  -- what each ending says: of the source, before and after, with its counts of faults, and so of the media, with the
-  -- volumes that it gives first
-  abbrev pub Ends : Task → Option (List ℕ) → Option (List ℕ) → ℕ → ℕ → (ℕ → Volumes L P → Type 0) → ℕ → ℕ → (Volumes L P → Type 0) → Ending → Type 0
-  Ends task left left' faults faults' first before now gives (endings.Report text) =
+  -- What each ending says, behind what was written before its own text: of the source, before and after, with its counts
+  -- of faults, and so of the media. Where the sink failed, this is the text of which a front was written.
+  abbrev pub Ends : Task → Option (List ℕ) → Option (List ℕ) → ℕ → ℕ → (ℕ → Volumes L P → Type 0) → (Crash → Volumes L P → Volumes L P → Type 0)
+      → ℕ → ℕ → (Volumes L P → Type 0) → List ℕ → Ending → Type 0
+  Ends task left left' faults faults' first falls before now gives written endings.Report =
       (task ≡ tasks.Run)
-      × (answer : IsAnswer p.tells left left' text.items)
-      × LeavesVolumes l p (first answer.script.banks) gives answer.lawful.life
-  Ends task left left' faults faults' first before now gives (endings.Summary text) =
-      (seed size : ℕ) × (task ≡ tasks.Gen seed size)
+      × (answer : IsAnswer p.tells left left' written)
+      × LeavesVolumes l p (first answer.script.banks) falls gives answer.report.lives
+  Ends task left left' faults faults' first falls before now gives written (endings.Summary text) =
+      (written ≡ []) × (seed size : ℕ) × (task ≡ tasks.Gen seed size)
       × (counts : IsSummaryOf p.tells (generated seed size) text.items)
-      × LeavesVolumes l p (first (generated seed size).banks) gives counts.lawful.life
-  Ends task left left' faults faults' first before now gives (endings.NoScript text) =
-      (task ≡ tasks.Run) × IsNoScript left left' text.items
-  Ends task left left' faults faults' first before now gives endings.ReadFault = (task ≡ tasks.Run) × Rose faults faults'
-  Ends task left left' faults faults' first before now gives endings.Memory = Unit {0}
-  Ends task left left' faults faults' first before now gives endings.Device = IsUnrun task left left' first before now gives no_lives.Device
-  Ends task left left' faults faults' first before now gives (endings.Damaged text) =
-      (at : ℕ) × (text.items ≡ damage_text at) × IsUnrun task left left' first before now gives (no_lives.Damaged at)
-  Ends task left left' faults faults' first before now gives endings.Full = IsUnrun task left left' first before now gives no_lives.Full
-  Ends task left left' faults faults' first before now gives endings.OldLog = IsUnrun task left left' first before now gives no_lives.OldLog
+      × LeavesVolumes l p (first (generated seed size).banks) falls gives counts.report.lives
+  Ends task left left' faults faults' first falls before now gives written (endings.NoScript text) =
+      (written ≡ []) × (task ≡ tasks.Run) × IsNoScript left left' text.items
+  Ends task left left' faults faults' first falls before now gives written endings.ReadFault =
+      (written ≡ []) × (task ≡ tasks.Run) × Rose faults faults'
+  Ends task left left' faults faults' first falls before now gives written endings.WriteFault =
+      (task ≡ tasks.Run) × (s : Script) × HasScript left left' s × IsUnwritten l p first falls gives s written
+  Ends task left left' faults faults' first falls before now gives written endings.Memory =
+      (written ≡ []) ⊎ IsUnrun task left left' first falls before now gives written no_lives.Memory
+  Ends task left left' faults faults' first falls before now gives written endings.Device =
+      IsUnrun task left left' first falls before now gives written no_lives.Device
+  Ends task left left' faults faults' first falls before now gives written (endings.Damaged text) =
+      (at : ℕ) × (text.items ≡ damage_text at) × IsUnrun task left left' first falls before now gives written (no_lives.Damaged at)
+  Ends task left left' faults faults' first falls before now gives written endings.Full =
+      IsUnrun task left left' first falls before now gives written no_lives.Full
+  Ends task left left' faults faults' first falls before now gives written endings.OldLog =
+      IsUnrun task left left' first falls before now gives written no_lives.OldLog
 
-  -- there was a script to run for these words, but no life was opened for it
-  abbrev pub IsUnrunBy : List (List ℕ) → Option (List ℕ) → Option (List ℕ) → (ℕ → Volumes L P → Type 0) → ℕ → ℕ → (Volumes L P → Type 0)
-      → NoLife → Type 0
-  IsUnrunBy words left left' first before now gives refusal =
-      (task : Task) × IsTask words task × IsUnrun task left left' first before now gives refusal
+  -- for these words there was a script to run, but the run stopped behind this text, and the sink holds that and this line
+  -- more
+  abbrev pub IsUnrunBy : List (List ℕ) → Option (List ℕ) → Option (List ℕ) → (ℕ → Volumes L P → Type 0) → (Crash → Volumes L P → Volumes L P → Type 0)
+      → ℕ → ℕ → (Volumes L P → Type 0) → Option (List ℕ) → Option (List ℕ) → NoLife → List ℕ → Type 0
+  IsUnrunBy words left left' first falls before now gives held held' refusal line =
+      (task : Task) × IsTask words task × (written : List ℕ)
+      × IsUnrun task left left' first falls before now gives written refusal × Appends held held' (written ++ line)
+
+  -- so where memory was wanting, also before there was a script
+  abbrev pub IsMemoryLast : List (List ℕ) → Option (List ℕ) → Option (List ℕ) → (ℕ → Volumes L P → Type 0) → (Crash → Volumes L P → Volumes L P → Type 0)
+      → ℕ → ℕ → (Volumes L P → Type 0) → Option (List ℕ) → Option (List ℕ) → Type 0
+  IsMemoryLast words left left' first falls before now gives held held' =
+      Appends held held' (codes "memory" ++ 10 ∷ [])
+      ⊎ IsUnrunBy words left left' first falls before now gives held held' no_lives.Memory (codes "memory" ++ 10 ∷ [])
+
+-- an ending that is neither a report nor the sink's
+abbrev pub WritesLast : Ending → Type 0
+WritesLast endings.Report = ⊥
+WritesLast endings.WriteFault = ⊥
+WritesLast ending = Unit {0}
+
+-- the sink holds what was written, or failed, and holds a front of it
+abbrev pub HasWritten : Option (List ℕ) → Option (List ℕ) → ℕ → ℕ → List ℕ → Ending → Type 0
+HasWritten held held' faults faults' written endings.WriteFault = Rose faults faults' × (n : ℕ) × Appends held held' (take n written)
+HasWritten held held' faults faults' written ending = Appends held held' written
 
 -- the ending where the source gave no script
 abbrev pub unread_by : NoScript → Ending
@@ -95,15 +132,21 @@ unread_by no_scripts.Memory = endings.Memory
 
 -- the ending tells why no life was opened, or that memory was wanting for that
 abbrev pub TellsRefusal : NoLife → Ending → Type 0
-TellsRefusal refusal (endings.Report text) = ⊥
+TellsRefusal refusal endings.Report = ⊥
 TellsRefusal refusal (endings.Summary text) = ⊥
 TellsRefusal refusal (endings.NoScript text) = ⊥
 TellsRefusal refusal endings.ReadFault = ⊥
+TellsRefusal refusal endings.WriteFault = ⊥
 TellsRefusal refusal endings.Memory = Unit {0}
 TellsRefusal refusal endings.Device = refusal ≡ no_lives.Device
 TellsRefusal refusal (endings.Damaged text) = (at : ℕ) × (text.items ≡ damage_text at) × (refusal ≡ no_lives.Damaged at)
 TellsRefusal refusal endings.Full = refusal ≡ no_lives.Full
 TellsRefusal refusal endings.OldLog = refusal ≡ no_lives.OldLog
+
+-- so why a run stopped
+abbrev pub TellsStop : Stopped → Ending → Type 0
+TellsStop stops.Sink ending = ending ≡ endings.WriteFault
+TellsStop (stops.NoLife refusal) ending = TellsRefusal refusal ending
 
 -- the source gave no script
 abbrev pub IsUnread : Ending → Type 0
@@ -113,7 +156,7 @@ IsUnread ending = ⊥
 
 -- the ending comes only of volumes that were mounted
 abbrev pub HasMounted : Ending → Type 0
-HasMounted (endings.Report text) = Unit {0}
+HasMounted endings.Report = Unit {0}
 HasMounted (endings.Summary text) = Unit {0}
 HasMounted (endings.Damaged text) = Unit {0}
 HasMounted endings.Full = Unit {0}
@@ -122,22 +165,24 @@ HasMounted ending = ⊥
 
 -- the status that the tool answers
 abbrev pub status_of : Ending → ℕ
-status_of (endings.Report text) = 0
+status_of endings.Report = 0
 status_of (endings.Summary text) = 0
 status_of (endings.NoScript text) = 1
 status_of endings.ReadFault = 3
+status_of endings.WriteFault = 4
 status_of endings.Device = 5
 status_of endings.Memory = 6
 status_of (endings.Damaged text) = 7
 status_of endings.Full = 9
 status_of endings.OldLog = 10
 
--- the text that it writes
+-- the text that it writes last
 abbrev pub text_of : Ending → List ℕ
-text_of (endings.Report text) = text.items
+text_of endings.Report = []
 text_of (endings.Summary text) = text.items
 text_of (endings.NoScript text) = text.items
 text_of endings.ReadFault = codes "read-fault" ++ 10 ∷ []
+text_of endings.WriteFault = []
 text_of endings.Device = codes "device" ++ 10 ∷ []
 text_of endings.Memory = codes "memory" ++ 10 ∷ []
 text_of (endings.Damaged text) = text.items
@@ -151,18 +196,18 @@ pub record IsWholeSummary (tells : Bool) (seed size : ℕ) (held held' : Option 
   pub written : Appends held held' text
 
 module _ {L P : Type 0} (l : logs.Ghosts L) (p : disks.Ghosts P) where
-  -- the text that a run ends with: the line that refuses its words, or that of its ending
-  abbrev pub IsLastText : List (List ℕ) → Option (List ℕ) → Option (List ℕ) → ℕ → ℕ → (ℕ → Volumes L P → Type 0) → ℕ → ℕ → (Volumes L P → Type 0)
-      → List ℕ → Type 0
-  IsLastText words left left' faults faults' first before now gives text =
+  -- all that a run writes: the line that refuses its words, or what it wrote before its ending's text, and that
+  abbrev pub IsWholeText : List (List ℕ) → Option (List ℕ) → Option (List ℕ) → ℕ → ℕ → (ℕ → Volumes L P → Type 0) → (Crash → Volumes L P → Volumes L P → Type 0)
+      → ℕ → ℕ → (Volumes L P → Type 0) → List ℕ → Type 0
+  IsWholeText words left left' faults faults' first falls before now gives text =
       ((IsAccepted words → ⊥) × (text ≡ codes "words" ++ 10 ∷ []))
-      ⊎ ((task : Task) × IsTask words task × (e : Ending)
-      × Ends l p task left left' faults faults' first before now gives e × (text ≡ text_of e))
+      ⊎ ((task : Task) × IsTask words task × (e : Ending) × (written : List ℕ)
+      × Ends l p task left left' faults faults' first falls before now gives written e × (text ≡ written ++ text_of e))
 
   -- The sink holds a front of such a text more.
   pub record HoldsFront (words : List (List ℕ)) (left left' : Option (List ℕ)) (faults faults' : ℕ)
-      (first : ℕ → Volumes L P → Type 0) (before now : ℕ) (gives : Volumes L P → Type 0) (held held' : Option (List ℕ)) : Type 0 where
+      (first : ℕ → Volumes L P → Type 0) (falls : Crash → Volumes L P → Volumes L P → Type 0) (before now : ℕ) (gives : Volumes L P → Type 0) (held held' : Option (List ℕ)) : Type 0 where
     pub text : List ℕ
-    pub whole : IsLastText words left left' faults faults' first before now gives text
+    pub whole : IsWholeText words left left' faults faults' first falls before now gives text
     pub count : ℕ
     pub front : Appends held held' (take count text)

@@ -1,7 +1,8 @@
 //! How a run of the tool ends, with the text that it writes then.
 ghost use Rattle.std.specs.Prelude.{◌≡◌, IfOk};
-ghost use Rattle.session_run.specs.Tool.{TellsRefusal, damage_text, status_of, text_of, unread_by};
+ghost use Rattle.session_run.specs.Tool.{TellsRefusal, TellsStop, damage_text, status_of, text_of, unread_by};
 
+use crate::stop::Stopped;
 use engine_life::NoLife;
 use report_text::Text;
 use script_source::NoScript;
@@ -11,15 +12,17 @@ use tx_model::Memory;
 /// How a run ends.
 #[derive(Drop)]
 pub enum Ending {
-    /// The report's text.
-    Report(Vec<u8>),
+    /// The report is written.
+    Report,
     /// The line that tells what a generated script did.
     Summary(Vec<u8>),
     /// The line that tells where the bytes are refused, and why.
     NoScript(Vec<u8>),
     ReadFault,
+    /// The sink failed.
+    WriteFault,
     Memory,
-    /// The media or a volume failed before the life began.
+    /// The media or a volume failed before a life began, or at its crash.
     Device,
     /// The line that tells at which place the log is damaged.
     Damaged(Vec<u8>),
@@ -35,9 +38,10 @@ impl Ending {
         ensures { result ≡ status_of self.now }
     {
         match self {
-            Ending::Report(_) | Ending::Summary(_) => 0,
+            Ending::Report | Ending::Summary(_) => 0,
             Ending::NoScript(_) => 1,
             Ending::ReadFault => 3,
+            Ending::WriteFault => 4,
             Ending::Device => 5,
             Ending::Memory => 6,
             Ending::Damaged(_) => 7,
@@ -46,12 +50,12 @@ impl Ending {
         }
     }
 
-    /// The text that it writes.
+    /// The text that it writes last.
     pub fn text(&self) -> &[u8]
         ensures { result.now ≡ text_of self.now }
     {
         match self {
-            Ending::Report(text) => text.as_slice(),
+            Ending::Report | Ending::WriteFault => b"",
             Ending::Summary(text) => text.as_slice(),
             Ending::NoScript(text) => text.as_slice(),
             Ending::ReadFault => b"read-fault\n",
@@ -84,6 +88,16 @@ pub fn unread(refusal: NoScript) -> Ending
         NoScript::Refused(text) => Ending::NoScript(text),
         NoScript::ReadFault => Ending::ReadFault,
         NoScript::Memory => Ending::Memory,
+    }
+}
+
+/// The ending where a run stopped.
+pub fn stopped(alloc: Global, stop: Stopped) -> Ending
+    ensures { TellsStop stop result }
+{
+    match stop {
+        Stopped::Sink => Ending::WriteFault,
+        Stopped::NoLife(refusal) => unopened(alloc, refusal),
     }
 }
 

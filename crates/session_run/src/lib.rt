@@ -1,17 +1,19 @@
-//! Runs the sessions of a script on threads over an engine, round by round, and the tool's top call. See
+//! Runs a script over a media, life by life, its sessions on threads over an engine, and the tool's top call. See
 //! `docs/GUARANTEES.md`, `docs/SCRIPT-AND-REPORT.md` and `docs/ENGINE.md`.
 #![tactic(auto)]
 
 mod commands;
+mod ended;
 mod ending;
 mod laws;
+mod life;
 mod member;
 mod round;
 mod rounds;
 mod run;
-mod sessions;
+mod stop;
 mod task;
+mod text;
 mod tool;
 
-pub use run::{count_script, run_script};
 pub use tool::{run_tool, say_out_of_memory};

@@ -5,22 +5,22 @@ ghost use Rattle.engine_host.specs.Hosts.{HasSeenNothing, HoldsAllBut, IsHost, I
 ghost use Rattle.tx_model.specs.Asked as asked;
 ghost use Rattle.tx_model.specs.Asked.{rounds_in};
 ghost use Rattle.session_lang.specs.Rounds.{asked_at, asked_of, asked_round};
-ghost use Rattle.run_law.specs.Turns.{IsRunnable, MayRun, is_command, turns_in};
+ghost use Rattle.run_law.specs.Turns.{MayRun, is_command, turns_in};
 ghost use Rattle.script_rounds.specs.Plans.{IsBlank};
 ghost use Rattle.session_run.specs.Rounds.{MayAdd};
 ghost use Rattle.session_run.specs.GoesOn.{AreHome, GoesOn};
-ghost use Rattle.session_run.specs.Runs.{HasRun, RunsOn, ShowsOn};
+ghost use Rattle.session_run.specs.Parts.{HasRun, RunsOn, ShowsOn};
 
 use crate::laws::{life_begins, life_goes_on};
 use crate::round::run_round;
-use crate::sessions::new_sessions;
 use disk_core::{LogDisk, PageDisk};
 use engine_dumps::show;
 use engine_host::Host;
+use engine_life::new_sessions;
 use engine_parts::{EngineLaw, Session};
 use hall::Hall;
 use script_rounds::{LineKeeper, Plan, next_round};
-use session_lang::{Items, Script};
+use session_lang::Items;
 use std::alloc::Global;
 use std::sync::Wait;
 use std::thread::Threads;
@@ -199,8 +199,8 @@ fn run_each<
     Ok(())
 }
 
-/// Runs the rounds of a script, one after another, and the dumps between them: the sessions of a round on at most so
-/// many threads.
+/// Runs the rounds of a life, one after another, and the dumps between them: the sessions of a round on at most so many
+/// threads.
 pub fn run_rounds<
     R: Threads + Wait + Sync,
     K: LineKeeper + Send + Drop,
@@ -211,7 +211,8 @@ pub fn run_rounds<
     alloc: Global,
     hall: &Hall<EngineLaw<L, P>>,
     host: &mut Host<L, P>,
-    script: &Script,
+    names: &NameList,
+    part: Items,
     kept: &mut K,
     threads: usize,
 ) -> Result<(), Memory>
@@ -219,25 +220,15 @@ pub fn run_rounds<
     requires all { HoldsAllBut host.old [] }
     requires unseen { HasSeenNothing host.old }
     requires parked { (n : ℕ) (s : Session) → n < host.old.cluster.sessions → IsNewSession s → IsParked hall.now host.old n s }
-    requires runnable { IsRunnable script.now }
-    requires count { host.old.cluster.sessions ≡ length script.now.names }
+    requires items { All (MayRun host.old.cluster.sessions) part }
+    requires few { length part ≤ 2 ^ 24 }
     ensures host { IsHost hall.now host.new }
     ensures all { HoldsAllBut host.new [] }
-    ensures ran { OnOk result ((sessions : List Session) × HasRun K.LineKeeper hall.now host.new sessions script.now.names
-        (asked_of script.now.items) kept.old kept.new) }
+    ensures ran { OnOk result ((sessions : List Session) × HasRun K.LineKeeper hall.now host.new sessions names.now
+        (asked_of part.entry) kept.old kept.new) }
 {
     let mut sessions = new_sessions(alloc, host.cluster.sessions)?;
     life_begins(hall);
     let all = sessions.as_mut_slice();
-    run_each(
-        rt,
-        alloc,
-        hall,
-        host,
-        all,
-        script.items.items(),
-        &script.names,
-        kept,
-        threads,
-    )
+    run_each(rt, alloc, hall, host, all, part, names, kept, threads)
 }

@@ -1,33 +1,45 @@
-//! Runs a script over a media, and answers the text of its report, or the counts of what it did.
-ghost use Rattle.std.specs.Prelude.{◌≡◌, ◌^◌, ◌<◌, ◌≤◌, false, IfErr, IfOk, IsTrue, List, OnOk};
-ghost use Rattle.disk_core.specs.Media.{MayBeFirst};
-ghost use Rattle.disk_core.specs.declared.media.Volumes.{Volumes};
+//! Runs a script over a media, life by life, and writes the text of its report; or tells the counts of what it did.
+ghost use Rattle.std.specs.Prelude.{◌≡◌, ◌+◌, ◌≤◌, ℕ, List, IfErr, IfOk, IsTrue, OnErr, OnOk, false, length};
+ghost use Rattle.std.specs.Io.KnownBytes.{Appends};
+ghost use Rattle.disk_core.specs.Media.{HasBanks, MayBeFirst};
+ghost use Rattle.disk_core.specs.declared.media.Volumes.{Volumes as Mounted};
+ghost use Rattle.tx_model.specs.declared.report.LifeReport.{LifeReport};
 ghost use Rattle.tx_model.specs.declared.report.Report.{Report};
-ghost use Rattle.tx_model.specs.declared.report.Step.{Step};
-ghost use Rattle.report_text.specs.ReportText.{front_text, report_text};
+ghost use Rattle.report_text.specs.ReportText.{report_text};
+ghost use Rattle.recoverable.specs.Clusters.{Fit};
+ghost use Rattle.recoverable.specs.Fit.{KeptLog};
+ghost use Rattle.run_law.specs.Lives.{LifePart};
 ghost use Rattle.run_law.specs.Tool.{IsReportOf};
-ghost use Rattle.engine_host.specs.Opening.{IsCluster};
-ghost use Rattle.engine_life.specs.Lives.{IsNewLife, life_told};
-ghost use Rattle.engine_life.specs.Refusals.{IsOfVolumes, IsUnopened};
-ghost use Rattle.wal_core.specs.LogViews.{log_disk};
 ghost use Rattle.script_gen.specs.Summaries.{IsSummaryOf};
-ghost use Rattle.session_run.specs.Leaves.{HasLeft, LeavesVolumes};
-ghost use Rattle.session_run.specs.Runs.{HasLived, IsRestOfReport, IsTaken, cluster_of, report_of, with_steps};
+ghost use Rattle.engine_host.specs.declared.cluster.Cluster.{Cluster as Clustered};
+ghost use Rattle.engine_host.specs.Opening.{Beginning, IsCluster};
+ghost use Rattle.engine_life.specs.Refusals.{IsOfVolumes, IsUnopened};
+ghost use Rattle.session_run.specs.OneLife.{IsOpened, MayRunIn};
+ghost use Rattle.session_run.specs.Parts.{IsTakenPart};
+ghost use Rattle.session_run.specs.Going.{EndsIdle, HasGoneOn, IsCrashed, IsRunning, IsToldLife, PartWent, part_of};
+ghost use Rattle.session_run.specs.Lives.{crash_of};
+ghost use Rattle.session_run.specs.Leaves.{LeavesVolumes};
+ghost use Rattle.session_run.specs.Runs.{IsTaken, IsTakenAlone, cluster_of};
+ghost use Rattle.session_run.specs.Stops.{IsStopped, MountsFirst};
 
-use crate::laws::life_ends;
-use crate::rounds::run_rounds;
-use disk_core::{LogDisk, Media, PageDisk};
+use crate::ended::{Ended, FittedLog, log_left};
+use crate::life::run_life;
+use crate::stop::{Stopped, no_life_of};
+use crate::text::{LifeText, front_of, put_end, put_life};
+use disk_core::{Crash, LogDisk, Media, PageDisk, Volumes};
 use engine_host::Cluster;
-use engine_life::{ClosedLife, NoLife, OpenLife, close_life, end_report, open_life};
-use report_text::{Text, begin_report};
+use engine_life::laws::crash_goes_on;
+use engine_life::{ClosedLife, NoLife, OpenLife, open_life, reopen_life};
+use notes::Note;
+use report_text::Text;
 use script_gen::Summary;
-use script_rounds::{LineKeeper, Tally};
-use session_lang::Script;
+use script_rounds::{LineKeeper, Tally, next_part};
+use session_lang::{Items, Script};
 use std::alloc::Global;
 use std::sync::Wait;
 use std::thread::Threads;
-use tx_model::Memory;
-use wal_core::WalLog;
+use tx_io::{Failed, Sink};
+use tx_model::{How, Memory, NameList};
 
 /// The cluster that a script's header tells of.
 fn cluster_of(script: &Script) -> Cluster
@@ -42,55 +54,19 @@ fn cluster_of(script: &Script) -> Cluster
     }
 }
 
-// A place in a log is below 2^64.
-fn has_64_bits(_place: u64)
-    ensures { _place < 2 ^ 64 }
-{}
-
-// A log's volume as it reads is one of its images.
-fn reads_an_image<L: LogDisk>(_log: &WalLog<L>)
-    ensures { IsTrue L.tells → L.images (log_disk _log.now) (L.reads (log_disk _log.now)) }
-{}
-
-// So a page volume.
-fn pages_read_an_image<P: PageDisk>()
-    ensures { IsTrue P.tells → (v : P) → P.images v (P.pages v) }
-{}
-
-/// Runs a script in a life that begins, closes the life, and keeps its lines.
-fn run_life<
-    R: Threads + Wait + Sync,
-    K: LineKeeper + Send + Drop,
-    L: LogDisk + Send + Sync + Drop,
-    P: PageDisk + Send + Sync + Drop,
->(
-    rt: &R,
-    alloc: Global,
-    life: OpenLife<L, P>,
-    script: &Script,
-    kept: &mut K,
-    threads: usize,
-) -> (ClosedLife<L, P>, Result<(), Memory>)
-    requires taken { IsTaken script.now }
-    requires new { (mounted : Volumes L P) × IsNewLife (cluster_of script.now) mounted life }
-    ensures lived { let told = life_told script.now.base result.0.events result.0.log in
-        OnOk result.1 ((steps : List Step) × HasLived P.tells script.now told steps
-        × (kept.new ≡ with_steps K.LineKeeper script.now.names kept.old steps)
-        × HasLeft L.LogDisk P.PageDisk (cluster_of script.now) life result.0 (report_of told steps)) }
+/// The crash of a media that a script asks for.
+fn crash_of(how: How) -> Crash
+    ensures { result ≡ crash_of how }
 {
-    let mut life = life;
-    life_ends(&life.hall);
-    let ran = run_rounds(rt, alloc, &life.hall, &mut life.host, script, kept, threads);
-    let closed = close_life(life);
-    has_64_bits(closed.log.next());
-    has_64_bits(closed.log.end());
-    reads_an_image(&closed.log);
-    pages_read_an_image::<P>();
-    (closed, ran)
+    match how {
+        How::Lost => Crash::Lost,
+        How::Kept => Crash::Kept,
+        How::Torn => Crash::Torn,
+    }
 }
 
-/// Runs a script in a life that begins, closes the life, and ends the text of its report.
-fn report_life<
+/// Runs a part of a script in a life that is open, the life of this number, closes it, and makes its text.
+fn tell_life<
     R: Threads + Wait + Sync,
     L: LogDisk + Send + Sync + Drop,
     P: PageDisk + Send + Sync + Drop,
@@ -98,98 +74,191 @@ fn report_life<
     rt: &R,
     alloc: Global,
     life: OpenLife<L, P>,
-    script: &Script,
-    text: &mut Text,
+    names: &NameList,
+    part: Items,
+    number: u64,
+    crash: Option<How>,
     threads: usize,
-) -> (ClosedLife<L, P>, Result<(), Memory>)
-    requires taken { IsTaken script.now }
-    requires new { (mounted : Volumes L P) × IsNewLife (cluster_of script.now) mounted life }
-    ensures report { OnOk result.1 ((rest : IsRestOfReport P.tells script.now text.old text.new)
-        × HasLeft L.LogDisk P.PageDisk (cluster_of script.now) life result.0 rest.life) }
+) -> (ClosedLife<L, P>, Result<LifeText, Memory>)
+    requires taken { IsTakenPart (length names.now) part }
+    requires may { MayRunIn (length names.now) life }
+    ensures told { (c : Clustered) (b : Beginning) (faults : List ℕ) (mounted : Mounted L P)
+        → IsOpened c b faults mounted life
+        → IfOk result.1 (IsToldLife L.LogDisk P.PageDisk names.now part.entry number crash c b mounted result.0) }
 {
-    let (closed, ran) = run_life(rt, alloc, life, script, text, threads);
+    let base = life.host.cluster.base.same();
+    let mut rest = Text::new(alloc);
+    let (closed, ran) = run_life(rt, alloc, life, names, part, &mut rest, threads);
     let Ok(()) = ran else {
         return (closed, Err(Memory));
     };
-    let ended = end_report(text, &script.names, closed.events.items(), &closed.log);
-    (closed, ended)
-}
-
-/// Runs a script in a life that begins, closes the life, and tells the counts of what it did.
-fn count_life<
-    R: Threads + Wait + Sync,
-    L: LogDisk + Send + Sync + Drop,
-    P: PageDisk + Send + Sync + Drop,
->(
-    rt: &R,
-    alloc: Global,
-    life: OpenLife<L, P>,
-    script: &Script,
-    threads: usize,
-) -> (ClosedLife<L, P>, Result<Vec<u8>, Memory>)
-    requires taken { IsTaken script.now }
-    requires new { (mounted : Volumes L P) × IsNewLife (cluster_of script.now) mounted life }
-    ensures counts { IfOk result.1 (λ text. (counts : IsSummaryOf P.tells script.now text.items)
-        × HasLeft L.LogDisk P.PageDisk (cluster_of script.now) life result.0 counts.lawful.life) }
-{
-    let mut tally = Tally::none(alloc);
-    let (closed, ran) = run_life(rt, alloc, life, script, &mut tally, threads);
-    let Ok(()) = ran else {
+    let Ok(()) = put_end(&mut rest, names, &closed, crash) else {
         return (closed, Err(Memory));
     };
-    let summary = Summary::of(closed.events.items(), tally.commands(), tally.verdicts());
-    (closed, summary.text(alloc))
+    match front_of(alloc, number, closed.number(), &base) {
+        Ok(front) => (closed, Ok(LifeText { front, rest })),
+        Err(Memory) => (closed, Err(Memory)),
+    }
 }
 
-/// The text before the first round.
-fn front_of(alloc: Global, script: &Script) -> Result<Text, Memory>
-    ensures { IfOk result (λ text. text ≡ front_text script.now.base) }
+/// Crashes the volumes of a closed life, which fit this log, and opens the next one over what that left. A caller picks the
+/// log from its note.
+fn go_on<M: Media>(
+    alloc: Global,
+    media: &mut M,
+    volumes: Volumes<M::Log, M::Pages>,
+    _log: &Note<FittedLog>,
+    how: How,
+    banks: u32,
+    sessions: u32,
+) -> Result<OpenLife<M::Log, M::Pages>, NoLife>
+    ghost kept: { KeptLog }
+    requires banks { HasBanks banks volumes }
+    requires sessions { sessions ≤ 64 }
+    requires fit { IsTrue M.Pages.tells → IsTrue M.Log.tells → Fit M.Log.LogDisk M.Pages.PageDisk kept
+        volumes.log volumes.xact.items }
+    ensures next { IfOk result (HasGoneOn M.Log.LogDisk M.Pages.PageDisk M.falls how kept banks sessions volumes) }
+    ensures mounted { OnOk result (M.is_idle media.new ≡ false) }
+    ensures idle { OnErr result (IsTrue (M.is_idle media.new)) }
+    ensures count { M.faults media.old ≤ M.faults media.new }
+    ensures used { OnErr result (M.is_new media.new ≡ false) }
+    ensures refused { IfErr result (IsCrashed M.Log.LogDisk M.Pages.PageDisk M.falls how
+        (M.faults media.old) (M.faults media.new) volumes (M.gives media.new)) }
 {
-    let mut text = Text::new(alloc);
-    begin_report(&mut text, &script.base)?;
-    Ok(text)
+    match media.crash(volumes, crash_of(how)) {
+        Ok(()) => crash_goes_on::<M::Log, M::Pages>(),
+        Err(_) => return Err(NoLife::Device),
+    }
+    match reopen_life(alloc, media, banks, sessions) {
+        Ok(life) => Ok(life),
+        Err(refusal) => Err(no_life_of(refusal)),
+    }
 }
 
-/// Runs a script in one life over a new media, from the script's counters: its rounds one after another, the sessions of
-/// a round on at most so many threads. Answers the text of the run's report, which is printed as the run goes on. The
-/// media holds its volumes again then, and also after an error.
-pub fn run_script<R: Threads + Wait + Sync, M: Media>(
+/// How a part of a script has ended.
+enum PartEnd<L: LogDisk, P: PageDisk> {
+    /// It was the last one.
+    Last,
+    /// It crashed, and the next life is open.
+    Next(OpenLife<L, P>),
+}
+
+/// Runs a part of a script in a life that is open, the life of this number, and writes its text. Where a crash ends the part,
+/// that is made then, and the next life is opened.
+fn run_part<R: Threads + Wait + Sync, K: Sink, M: Media>(
     rt: &R,
     alloc: Global,
     script: &Script,
+    life: OpenLife<M::Log, M::Pages>,
+    part: Items,
+    number: u64,
+    crash: Option<How>,
+    sink: &mut K,
     media: &mut M,
     threads: usize,
-) -> Result<Vec<u8>, NoLife>
+) -> Result<PartEnd<M::Log, M::Pages>, Stopped>
+where
+    M::Log: Sync,
+    M::Pages: Sync,
+    requires taken { IsTaken script.now }
+    requires part { IsTakenPart (length script.now.names) part }
+    requires running { (begun : Mounted M.Log M.Pages) × (done : List LifePart) × (lives : List LifeReport)
+        × IsRunning script.now begun M.falls done lives life × (number ≡ length lives + 1) }
+    ensures went { (begun : Mounted M.Log M.Pages) (done : List LifePart) (lives : List LifeReport)
+        → IsRunning script.now begun M.falls done lives life → number ≡ length lives + 1
+        → PartWent M.Log.LogDisk M.Pages.PageDisk script.now begun M.falls done lives (part_of part.entry crash)
+        (K.held sink.old) (K.held sink.new) (K.faults sink.old) (K.faults sink.new)
+        (M.faults media.old) (M.faults media.new) (M.gives media.new) result }
+    ensures idle { EndsIdle result → IsTrue (M.is_idle media.new) }
+    ensures used { EndsIdle result → M.is_new media.new ≡ false }
+    ensures count { M.faults media.old ≤ M.faults media.new }
+    ensures sink { K.faults sink.old ≤ K.faults sink.new }
+{
+    let names = &script.names;
+    let start = Note::by(&life.host.start);
+    let (closed, told) = tell_life(rt, alloc, life, names, part, number, crash, threads);
+    let text = match told {
+        Ok(text) => text,
+        Err(Memory) => {
+            media.rest(closed.into_volumes());
+            return Err(Stopped::NoLife(NoLife::Memory));
+        }
+    };
+    match put_life(sink, &text) {
+        Ok(()) => {}
+        Err(Failed) => {
+            media.rest(closed.into_volumes());
+            return Err(Stopped::Sink);
+        }
+    }
+    let how = match crash {
+        Some(how) => how,
+        None => {
+            media.rest(closed.into_volumes());
+            return Ok(PartEnd::Last);
+        }
+    };
+    let ended = Ended { start, closed };
+    let log = log_left(&ended);
+    let Ended { start: _, closed } = ended;
+    let volumes = closed.into_volumes();
+    let sessions = names.items().len() as u32;
+    match go_on(alloc, media, volumes, &log, how, script.banks, sessions) {
+        Ok(life) => Ok(PartEnd::Next(life)),
+        Err(refusal) => Err(Stopped::NoLife(refusal)),
+    }
+}
+
+/// Runs a script over a new media, life by life, from the script's counters, and writes the text of its report: that of a
+/// life before its crash. The media holds its volumes again then, and also after an error.
+pub fn run_script<R: Threads + Wait + Sync, K: Sink, M: Media>(
+    rt: &R,
+    alloc: Global,
+    script: &Script,
+    sink: &mut K,
+    media: &mut M,
+    threads: usize,
+) -> Result<(), Stopped>
 where
     M::Log: Sync,
     M::Pages: Sync,
     requires taken { IsTaken script.now }
     requires idle { IsTrue (M.is_idle media.old) }
     requires new { IsTrue (M.is_new media.old) }
-    ensures report { IfOk result (λ text. (r : Report) × (is : IsReportOf M.Pages.tells script.now r)
-        × (text.items ≡ report_text r)
-        × LeavesVolumes M.Log.LogDisk M.Pages.PageDisk (MayBeFirst (M.begins media.old) script.now.banks)
-        (M.gives media.new) is.life) }
+    ensures report { OnOk result ((r : Report) × (is : IsReportOf M.Pages.tells script.now r)
+        × Appends (K.held sink.old) (K.held sink.new) (report_text r)
+        × LeavesVolumes M.Log.LogDisk M.Pages.PageDisk (MayBeFirst (M.begins media.old) script.now.banks) M.falls
+        (M.gives media.new) r.lives) }
     ensures idle { IsTrue (M.is_idle media.new) }
     ensures count { M.faults media.old ≤ M.faults media.new }
     ensures used { OnOk result (M.is_new media.new ≡ false) }
-    ensures used_so { IfErr result (λ refusal. IsOfVolumes refusal → M.is_new media.new ≡ false) }
-    ensures refused { IfErr result (λ refusal. IsUnopened M.Log.LogDisk M.Pages.PageDisk (cluster_of script.now)
-        (MayBeFirst (M.begins media.old)) (M.faults media.old) (M.faults media.new) (M.gives media.new) refusal) }
+    ensures used_so { IfErr result (λ stop. MountsFirst stop → M.is_new media.new ≡ false) }
+    ensures stopped { IfErr result (IsStopped M.Log.LogDisk M.Pages.PageDisk (MayBeFirst (M.begins media.old)) M.falls
+        (M.faults media.old) (M.faults media.new) (M.gives media.new) script.now (K.held sink.old) (K.held sink.new)
+        (K.faults sink.old) (K.faults sink.new)) }
+    ensures sink { K.faults sink.old ≤ K.faults sink.new }
 {
-    let Ok(mut text) = front_of(alloc, script) else {
-        return Err(NoLife::Memory);
+    let mut life = match open_life(alloc, media, cluster_of(script)) {
+        Ok(life) => life,
+        Err(refusal) => return Err(Stopped::NoLife(refusal)),
     };
-    let life = open_life(alloc, media, cluster_of(script))?;
-    let (closed, ended) = report_life(rt, alloc, life, script, &mut text, threads);
-    media.rest(closed.into_volumes());
-    match ended {
-        Ok(()) => Ok(text.into_bytes()),
-        Err(Memory) => Err(NoLife::Memory),
+    let mut items = script.items.items();
+    let mut number = 1;
+    loop {
+        let (part, crash, behind) = next_part(&items);
+        match run_part(
+            rt, alloc, script, life, part, number, crash, sink, media, threads,
+        )? {
+            PartEnd::Last => return Ok(()),
+            PartEnd::Next(next) => life = next,
+        }
+        items = behind;
+        number += 1;
     }
 }
 
-/// Runs a script as `run_script` does, and answers the line that tells the counts of what it did in place of the report.
+/// Runs a script without a crash over a new media, in one life, and answers the line that tells the counts of what it did in
+/// place of the report.
 pub fn count_script<R: Threads + Wait + Sync, M: Media>(
     rt: &R,
     alloc: Global,
@@ -200,12 +269,12 @@ pub fn count_script<R: Threads + Wait + Sync, M: Media>(
 where
     M::Log: Sync,
     M::Pages: Sync,
-    requires taken { IsTaken script.now }
+    requires taken { IsTakenAlone script.now }
     requires idle { IsTrue (M.is_idle media.old) }
     requires new { IsTrue (M.is_new media.old) }
     ensures counts { IfOk result (λ text. (counts : IsSummaryOf M.Pages.tells script.now text.items)
-        × LeavesVolumes M.Log.LogDisk M.Pages.PageDisk (MayBeFirst (M.begins media.old) script.now.banks)
-        (M.gives media.new) counts.lawful.life) }
+        × LeavesVolumes M.Log.LogDisk M.Pages.PageDisk (MayBeFirst (M.begins media.old) script.now.banks) M.falls
+        (M.gives media.new) counts.report.lives) }
     ensures idle { IsTrue (M.is_idle media.new) }
     ensures count { M.faults media.old ≤ M.faults media.new }
     ensures used { OnOk result (M.is_new media.new ≡ false) }
@@ -214,10 +283,17 @@ where
         (MayBeFirst (M.begins media.old)) (M.faults media.old) (M.faults media.new) (M.gives media.new) refusal) }
 {
     let life = open_life(alloc, media, cluster_of(script))?;
-    let (closed, counted) = count_life(rt, alloc, life, script, threads);
+    let mut tally = Tally::none(alloc);
+    let names = &script.names;
+    let items = script.items.items();
+    let (closed, ran) = run_life(rt, alloc, life, names, items, &mut tally, threads);
+    let summary = Summary::of(closed.events.items(), tally.commands(), tally.verdicts());
     media.rest(closed.into_volumes());
-    match counted {
-        Ok(text) => Ok(text),
+    match ran {
+        Ok(()) => match summary.text(alloc) {
+            Ok(text) => Ok(text),
+            Err(Memory) => Err(NoLife::Memory),
+        },
         Err(Memory) => Err(NoLife::Memory),
     }
 }

@@ -10,9 +10,9 @@ ghost use Rattle.script_gen.specs.Laws.{most_transactions};
 ghost use Rattle.script_gen.specs.Words.{IsGen};
 ghost use Rattle.session_run.specs.declared.task.Task.TheVariants as tasks;
 ghost use Rattle.session_run.specs.Leaves.{LeavesVolumes};
-ghost use Rattle.session_run.specs.Tool.{Ends, HasMounted, HoldsFront, IsAccepted, IsSized, IsUnread, IsUnrunBy, IsWholeSummary, damage_text, status_of, text_of};
+ghost use Rattle.session_run.specs.Tool.{Ends, HasMounted, HasWritten, HoldsFront, IsAccepted, IsMemoryLast, IsSized, IsUnread, IsUnrunBy, IsWholeSummary, WritesLast, damage_text, status_of, text_of};
 
-use crate::ending::{Ending, unopened, unread};
+use crate::ending::{Ending, stopped, unopened, unread};
 use crate::run::{count_script, run_script};
 use crate::task::{Task, task_of};
 use disk_core::Media;
@@ -26,10 +26,11 @@ use tx_io::{Failed, Sink, Source};
 use tx_model::Memory;
 
 /// Reads the source, runs its script over the media, and makes the report.
-fn run_source<R: Threads + Wait + Sync, S: Source, M: Media>(
+fn run_source<R: Threads + Wait + Sync, S: Source, K: Sink, M: Media>(
     rt: &R,
     alloc: Global,
     source: &mut S,
+    sink: &mut K,
     media: &mut M,
     threads: usize,
 ) -> Ending
@@ -38,9 +39,11 @@ where
     M::Pages: Sync,
     requires idle { IsTrue (M.is_idle media.old) }
     requires new { IsTrue (M.is_new media.old) }
-    ensures ends { Ends M.Log.LogDisk M.Pages.PageDisk tasks.Run (S.left source.old) (S.left source.new)
-        (S.faults source.old) (S.faults source.new) (MayBeFirst (M.begins media.old))
-        (M.faults media.old) (M.faults media.new) (M.gives media.new) result }
+    ensures ends { (written : List ℕ) × Ends M.Log.LogDisk M.Pages.PageDisk tasks.Run (S.left source.old) (S.left source.new)
+        (S.faults source.old) (S.faults source.new) (MayBeFirst (M.begins media.old)) M.falls
+        (M.faults media.old) (M.faults media.new) (M.gives media.new) written result
+        × HasWritten (K.held sink.old) (K.held sink.new) (K.faults sink.old) (K.faults sink.new) written result }
+    ensures sink { K.faults sink.old ≤ K.faults sink.new }
     ensures later { S.faults source.old ≤ S.faults source.new }
     ensures amount { ReadsUpTo most_read (S.left source.old) (S.left source.new) }
     ensures idle { IsTrue (M.is_idle media.new) }
@@ -52,9 +55,9 @@ where
         Ok(script) => script,
         Err(refusal) => return unread(refusal),
     };
-    match run_script(rt, alloc, &script, media, threads) {
-        Ok(text) => Ending::Report(text),
-        Err(refusal) => unopened(alloc, refusal),
+    match run_script(rt, alloc, &script, sink, media, threads) {
+        Ok(()) => Ending::Report,
+        Err(stop) => stopped(alloc, stop),
     }
 }
 
@@ -74,8 +77,9 @@ where
     requires idle { IsTrue (M.is_idle media.old) }
     requires new { IsTrue (M.is_new media.old) }
     ensures ends { (left : Option (List ℕ)) (faults : ℕ) → Ends M.Log.LogDisk M.Pages.PageDisk (tasks.Gen seed size)
-        left left faults faults (MayBeFirst (M.begins media.old))
-        (M.faults media.old) (M.faults media.new) (M.gives media.new) result }
+        left left faults faults (MayBeFirst (M.begins media.old)) M.falls
+        (M.faults media.old) (M.faults media.new) (M.gives media.new) [] result }
+    ensures written { WritesLast result }
     ensures idle { IsTrue (M.is_idle media.new) }
     ensures count { M.faults media.old ≤ M.faults media.new }
     ensures used { HasMounted result → M.is_new media.new ≡ false }
@@ -92,11 +96,12 @@ where
 }
 
 /// Does what is asked for.
-fn work<R: Threads + Wait + Sync, S: Source, M: Media>(
+fn work<R: Threads + Wait + Sync, S: Source, K: Sink, M: Media>(
     rt: &R,
     alloc: Global,
     task: Task,
     source: &mut S,
+    sink: &mut K,
     media: &mut M,
     threads: usize,
 ) -> Ending
@@ -106,9 +111,11 @@ where
     requires sized { IsSized task }
     requires idle { IsTrue (M.is_idle media.old) }
     requires new { IsTrue (M.is_new media.old) }
-    ensures ends { Ends M.Log.LogDisk M.Pages.PageDisk task (S.left source.old) (S.left source.new)
-        (S.faults source.old) (S.faults source.new) (MayBeFirst (M.begins media.old))
-        (M.faults media.old) (M.faults media.new) (M.gives media.new) result }
+    ensures ends { (written : List ℕ) × Ends M.Log.LogDisk M.Pages.PageDisk task (S.left source.old) (S.left source.new)
+        (S.faults source.old) (S.faults source.new) (MayBeFirst (M.begins media.old)) M.falls
+        (M.faults media.old) (M.faults media.new) (M.gives media.new) written result
+        × HasWritten (K.held sink.old) (K.held sink.new) (K.faults sink.old) (K.faults sink.new) written result }
+    ensures sink { K.faults sink.old ≤ K.faults sink.new }
     ensures later { S.faults source.old ≤ S.faults source.new }
     ensures amount { ReadsUpTo most_read (S.left source.old) (S.left source.new) }
     ensures untouched { (task ≡ tasks.Run → ⊥) → source.new ≡ source.old }
@@ -118,7 +125,7 @@ where
     ensures used { HasMounted result → M.is_new media.new ≡ false }
 {
     match task {
-        Task::Run => run_source(rt, alloc, source, media, threads),
+        Task::Run => run_source(rt, alloc, source, sink, media, threads),
         Task::Gen { seed, size } => run_generated(rt, alloc, seed, size, media, threads),
     }
 }
@@ -128,6 +135,7 @@ fn finish<K: Sink>(sink: &mut K, text: &[u8], status: u8) -> u8
     ensures ends { ((result ≡ status) × Appends (K.held sink.old) (K.held sink.new) text.now)
         ⊎ ((result ≡ 4) × Rose (K.faults sink.old) (K.faults sink.new)) }
     ensures front { (n : ℕ) × Appends (K.held sink.old) (K.held sink.new) (take n text.now) }
+    ensures later { K.faults sink.old ≤ K.faults sink.new }
 {
     match write_all(sink, text) {
         Ok(()) => status,
@@ -140,6 +148,7 @@ fn put_ending<K: Sink>(sink: &mut K, ending: Ending) -> u8
     ensures ends { ((result ≡ status_of ending) × Appends (K.held sink.old) (K.held sink.new) (text_of ending))
         ⊎ ((result ≡ 4) × Rose (K.faults sink.old) (K.faults sink.new)) }
     ensures front { (n : ℕ) × Appends (K.held sink.old) (K.held sink.new) (take n (text_of ending)) }
+    ensures later { K.faults sink.old ≤ K.faults sink.new }
 {
     finish(sink, ending.text(), ending.status())
 }
@@ -157,9 +166,10 @@ pub fn say_out_of_memory<K: Sink>(sink: &mut K) -> u8
 
 /// Runs the tool over the words of its command line, and answers its status: 0 done, 1 the source's bytes are no
 /// script, or have a line that the run doesn't do yet, and the line `script LINE KIND` is written, 2 the words are
-/// refused, 3 the source failed, 4 the sink failed, 5 the media or a volume failed before the life began, 6 out of
-/// memory, 7 the log is damaged, and the line `damaged AT` is written, 9 the log has no room for the first checkpoint,
-/// 10 the log has records.
+/// refused, 3 the source failed, 4 the sink failed, 5 the media or a volume failed before a life began, or at a crash,
+/// 6 out of memory, 7 the log is damaged, and the line `damaged AT` is written, 9 the log has no room for a life's first
+/// checkpoint, 10 the log isn't new at the first opening. Before the last line of 5, 6, 7, 9 and 10 the text of the lives
+/// before may stand.
 ///
 /// The words are `run`, or `gen SEED SIZE`, SEED being 1 to 10 decimal digits, from 1 to 2147483646, and SIZE as many,
 /// from 1 to 100,000. `run` reads at most 16,777,217 bytes of the source; for other words none is read.
@@ -183,15 +193,15 @@ where
     // of more faults of a volume than it has counted.
     ensures done { result ≡ 0 → IsRun (map string_bytes words.now)
         → (run : IsWholeRun M.Pages.tells (S.left source.old) (S.left source.new) (K.held sink.old) (K.held sink.new))
-        × LeavesVolumes M.Log.LogDisk M.Pages.PageDisk (MayBeFirst (M.begins media.old) run.answer.script.banks)
-        (M.gives media.new) run.answer.lawful.life }
+        × LeavesVolumes M.Log.LogDisk M.Pages.PageDisk (MayBeFirst (M.begins media.old) run.answer.script.banks) M.falls
+        (M.gives media.new) run.answer.report.lives }
 
     // And for `gen`: the line written has the counts of such a report of the generated script.
     ensures counted { result ≡ 0 → (IsRun (map string_bytes words.now) → ⊥) → (seed size : ℕ)
         × IsGen (map string_bytes words.now) seed size
         × (sum : IsWholeSummary M.Pages.tells seed size (K.held sink.old) (K.held sink.new))
-        × LeavesVolumes M.Log.LogDisk M.Pages.PageDisk (MayBeFirst (M.begins media.old) (generated seed size).banks)
-        (M.gives media.new) sum.counts.lawful.life }
+        × LeavesVolumes M.Log.LogDisk M.Pages.PageDisk (MayBeFirst (M.begins media.old) (generated seed size).banks) M.falls
+        (M.gives media.new) sum.counts.report.lives }
 
     // Why it ends otherwise.
     ensures script { result ≡ 1 → IsRun (map string_bytes words.now)
@@ -202,21 +212,27 @@ where
     ensures write { result ≡ 4 → Rose (K.faults sink.old) (K.faults sink.new) }
     ensures front { result ≡ 4 → HoldsFront M.Log.LogDisk M.Pages.PageDisk (map string_bytes words.now)
         (S.left source.old) (S.left source.new) (S.faults source.old) (S.faults source.new)
-        (MayBeFirst (M.begins media.old)) (M.faults media.old) (M.faults media.new) (M.gives media.new)
+        (MayBeFirst (M.begins media.old)) M.falls (M.faults media.old) (M.faults media.new) (M.gives media.new)
         (K.held sink.old) (K.held sink.new) }
     ensures device { result ≡ 5 → IsUnrunBy M.Log.LogDisk M.Pages.PageDisk (map string_bytes words.now)
-        (S.left source.old) (S.left source.new) (MayBeFirst (M.begins media.old))
-        (M.faults media.old) (M.faults media.new) (M.gives media.new) no_lives.Device }
-    ensures damaged { result ≡ 7 → (at : ℕ) × Appends (K.held sink.old) (K.held sink.new) (damage_text at)
+        (S.left source.old) (S.left source.new) (MayBeFirst (M.begins media.old)) M.falls
+        (M.faults media.old) (M.faults media.new) (M.gives media.new) (K.held sink.old) (K.held sink.new)
+        no_lives.Device (codes "device" ++ 10 ∷ []) }
+    ensures memory { result ≡ 6 → IsMemoryLast M.Log.LogDisk M.Pages.PageDisk (map string_bytes words.now)
+        (S.left source.old) (S.left source.new) (MayBeFirst (M.begins media.old)) M.falls
+        (M.faults media.old) (M.faults media.new) (M.gives media.new) (K.held sink.old) (K.held sink.new) }
+    ensures damaged { result ≡ 7 → (at : ℕ)
         × IsUnrunBy M.Log.LogDisk M.Pages.PageDisk (map string_bytes words.now) (S.left source.old) (S.left source.new)
-        (MayBeFirst (M.begins media.old)) (M.faults media.old) (M.faults media.new) (M.gives media.new)
-        (no_lives.Damaged at) }
+        (MayBeFirst (M.begins media.old)) M.falls (M.faults media.old) (M.faults media.new) (M.gives media.new)
+        (K.held sink.old) (K.held sink.new) (no_lives.Damaged at) (damage_text at) }
     ensures full { result ≡ 9 → IsUnrunBy M.Log.LogDisk M.Pages.PageDisk (map string_bytes words.now)
-        (S.left source.old) (S.left source.new) (MayBeFirst (M.begins media.old))
-        (M.faults media.old) (M.faults media.new) (M.gives media.new) no_lives.Full }
+        (S.left source.old) (S.left source.new) (MayBeFirst (M.begins media.old)) M.falls
+        (M.faults media.old) (M.faults media.new) (M.gives media.new) (K.held sink.old) (K.held sink.new)
+        no_lives.Full (codes "log-full" ++ 10 ∷ []) }
     ensures old_log { result ≡ 10 → IsUnrunBy M.Log.LogDisk M.Pages.PageDisk (map string_bytes words.now)
-        (S.left source.old) (S.left source.new) (MayBeFirst (M.begins media.old))
-        (M.faults media.old) (M.faults media.new) (M.gives media.new) no_lives.OldLog }
+        (S.left source.old) (S.left source.new) (MayBeFirst (M.begins media.old)) M.falls
+        (M.faults media.old) (M.faults media.new) (M.gives media.new) (K.held sink.old) (K.held sink.new)
+        no_lives.OldLog (codes "old-log" ++ 10 ∷ []) }
     ensures statuses { (result ≤ 10) × (result ≢ 8) }
 
     // What it reads, and how it leaves the media.
@@ -227,18 +243,13 @@ where
     ensures rested { IsTrue (M.is_idle media.new) }
     ensures used { (result ≡ 0) ⊎ ((result ≡ 7) ⊎ ((result ≡ 9) ⊎ (result ≡ 10))) → M.is_new media.new ≡ false }
 
-    // And the line that it then writes.
+    // And the line that it then writes, where no life ran.
     ensures no_words { result ≡ 2 → Appends (K.held sink.old) (K.held sink.new) (codes "words" ++ 10 ∷ []) }
-    ensures read_fault { result ≡ 3 →
-        Appends (K.held sink.old) (K.held sink.new) (codes "read-fault" ++ 10 ∷ []) }
-    ensures no_device { result ≡ 5 → Appends (K.held sink.old) (K.held sink.new) (codes "device" ++ 10 ∷ []) }
-    ensures no_memory { result ≡ 6 → Appends (K.held sink.old) (K.held sink.new) (codes "memory" ++ 10 ∷ []) }
-    ensures no_room { result ≡ 9 → Appends (K.held sink.old) (K.held sink.new) (codes "log-full" ++ 10 ∷ []) }
-    ensures no_new_log { result ≡ 10 → Appends (K.held sink.old) (K.held sink.new) (codes "old-log" ++ 10 ∷ []) }
+    ensures read_fault { result ≡ 3 → Appends (K.held sink.old) (K.held sink.new) (codes "read-fault" ++ 10 ∷ []) }
 {
     match task_of(words) {
         Some(task) => {
-            let ending = work(rt, alloc, task, source, media, threads);
+            let ending = work(rt, alloc, task, source, sink, media, threads);
             put_ending(sink, ending)
         }
         None => finish(sink, b"words\n", 2),

@@ -16,6 +16,8 @@ mod gen_tests;
 #[cfg(test)]
 mod horizon_tests;
 #[cfg(test)]
+mod lives_tests;
+#[cfg(test)]
 mod round_tests;
 #[cfg(test)]
 mod run_tests;

@@ -24,8 +24,8 @@ leave_quiet-requires-clause-may g c =
 pub leave_quiet-requires-clause-stands : goal.leave_quiet-requires-clause-stands
 leave_quiet-requires-clause-stands g c =
     subst (λ (e : Entry). PartStands (start_of c.args.hall.now) c.args.lock c.args.part (at (view c.args.caller.now.pass).seen c.args.lock ++ e ∷ [])) (sym c.requires.fault)
-    (stands_refused (start_of c.args.hall.now) c.args.lock c.args.part (by_at c.args.caller.now.number c.args.caller.now.session.levels.commands) refused.DiskFault (at (view c.args.caller.now.pass).seen c.args.lock) c.requires.lock c.requires.stands)
+    (stands_refused (start_of c.args.hall.now) c.args.lock c.args.part (by_at c.args.caller.now.number c.args.caller.now.session.levels.commands) refused.DiskFault (at (view c.args.caller.now.pass).seen c.args.lock) c.requires.lock c.requires.built c.requires.stands)
 
 pub leave_looked-requires-clause-stands : goal.leave_looked-requires-clause-stands
 leave_looked-requires-clause-stands g c =
-    stands_refused (start_of c.args.hall.now) c.args.lock c.args.part (by_at c.args.caller.now.number c.args.caller.now.session.levels.commands) (refused.Cut 0) (at (view c.args.caller.now.pass).seen c.args.lock) c.requires.lock c.requires.stands
+    stands_refused (start_of c.args.hall.now) c.args.lock c.args.part (by_at c.args.caller.now.number c.args.caller.now.session.levels.commands) (refused.Cut 0) (at (view c.args.caller.now.pass).seen c.args.lock) c.requires.lock c.requires.built c.requires.stands

@@ -18,6 +18,7 @@ flush_first-requires g c =
     record {
       recs = new.recs ∙ (ap (λ (l : List Rec). l ++ first ∷ []) old.recs ∙ ap (λ (r : Rec). r ∷ []) is);
       next = new.next ∙ ap (λ n. n + 1) old.next;
+      first = new.first ∙ old.first;
       down = new.stays ∙ old.down;
       counters = new.counters ∙ (ap (λ (o : Option Counters). Some (after_record (counters_or_none o) first)) old.counters ∙ (ap (λ (r : Rec). Some (after_record no_counters r)) is ∙ ap (λ (k : Counters). Some k) (raised 0 c.args.cluster.now.base)));
       keeps = λ told. subst (λ (r : Rec). KeepsAll 0 (r ∷ []) g.L.LogDisk.images c.append.new.self) is (new.keeps told 0 [] (old.keeps told));

@@ -7,9 +7,9 @@ use Rattle.replay_core.specs.Volumes.{LeavesFit}
 use Rattle.replay_core.specs.declared.refusal.RecoverRefusal.{RecoverRefusal}
 use Rattle.engine_host.specs.declared.cluster.Cluster.{Cluster}
 use Rattle.engine_host.specs.Opening.{AllShowStates, faults_behind, new_life}
-use Rattle.engine_life.specs.Reopening.{IsBaseAt, behind, cluster_over}
+use Rattle.engine_life.specs.Reopening.{IsBaseAt, KeepsStart, behind, cluster_over}
 use Rattle.engine_life.proofs.Living.{of_err, of_oks}
-use Rattle.engine_life.proofs.Reopened.{base_at_number, before_any, began_right, counted_before, empty_shown, given_before, may_recover, states_shown}
+use Rattle.engine_life.proofs.Reopened.{base_at_number, before_any, began_right, counted_before, empty_shown, given_before, may_recover, start_kept, states_shown}
 use Rattle.engine_life.proofs.old_parts.open_old.Goals as goal
 
 -- With a ghost value the clauses of `requires` have no names: they stand in their order behind what is asked of lifetimes.
@@ -28,15 +28,21 @@ open_recovered-requires g c κs inside =
     let before = before_any p.tells g.kept r.from c.args.sessions (length r.xact.items) r.base (λ told.
     let fit = c.requires.1.1.1.1.1.1 told in
     given_before l p old.log (log_disk r.log) old.xact.items r.xact.items r.from c.args.sessions r.base g.kept e.banks.0 some c.is_full_multi.ensures
-    (g.met.L.LogDisk.reads_image (log_disk r.log) fit.0) (λ d. g.met.P.PageDisk.reads_image d told) (e.recovers fit.0 told g.kept fit.1)) in
+    (g.met.L.LogDisk.reads_image (log_disk r.log) fit.0) (λ d. g.met.P.PageDisk.reads_image d told) (e.recovers fit.0 told g.kept fit.1).0) in
     let states = λ (told : IsTrue p.tells).
     let fit = c.requires.1.1.1.1.1.1 told in
     subst (λ (t : Bool). AllShowStates p (cluster_over r.base (length r.xact.items) c.args.sessions) (behind t g.kept r.from) false 0 r.xact.items) (sym told)
     (states_shown l p old.log (log_disk r.log) old.xact.items r.xact.items r.from c.args.sessions r.base g.kept e.banks.0 some c.is_full_multi.ensures
-    (g.met.L.LogDisk.reads_image (log_disk r.log) fit.0) (λ d. g.met.P.PageDisk.reads_image d told) (e.recovers fit.0 told g.kept fit.1)) in
+    (g.met.L.LogDisk.reads_image (log_disk r.log) fit.0) (λ d. g.met.P.PageDisk.reads_image d told) (e.recovers fit.0 told g.kept fit.1).0) in
     let parents = λ (told : IsTrue p.tells). empty_shown p r.subtrans.items (λ d. g.met.P.PageDisk.reads_image d told) (e.parents told) in
     let durable = e.states in
-    (search (rules, inside), (search (rules, inside), (here, (within, (same, (sessions, (log, (refl, (before, (states, (parents, durable)))))))))))
+    let past = λ (log_tells : IsTrue l.tells) (told : IsTrue p.tells).
+    let fit = c.requires.1.1.1.1.1.1 told in
+    let recovers = e.recovers fit.0 told g.kept fit.1 in
+    subst (λ (t : Bool). KeepsStart (cluster_over r.base (length r.xact.items) c.args.sessions) (behind t g.kept r.from) r.log) (sym told)
+    (start_kept l p old.log (log_disk r.log) old.xact.items r.xact.items r.from c.args.sessions r.base g.kept e.banks.0 some c.is_full_multi.ensures
+    (g.met.L.LogDisk.reads_image (log_disk r.log) fit.0) (λ d. g.met.P.PageDisk.reads_image d told) recovers.0 r.log recovers.1) in
+    (search (rules, inside), (search (rules, inside), (here, (within, (same, (sessions, (log, (refl, (before, (states, (parents, (durable, past))))))))))))
 
 pub returns-in-Ok-clause-start : goal.returns-in-Ok-clause-start
 returns-in-Ok-clause-start g c =
@@ -48,7 +54,7 @@ returns-in-Ok-clause-start g c =
           let fit = c.requires.1.1.1.1.1.1 told in
           subst (λ (k : Cluster). IsBaseAt g.kept r.from k.base) (sym cluster)
           (base_at_number l p old.log (log_disk r.log) old.xact.items r.xact.items r.from c.args.sessions r.base g.kept e.banks.0 c.requires.1.1.0 c.is_full_multi.ensures
-          (g.met.L.LogDisk.reads_image (log_disk r.log) fit.0) (λ d. g.met.P.PageDisk.reads_image d told) (e.recovers fit.0 told g.kept fit.1)),
+          (g.met.L.LogDisk.reads_image (log_disk r.log) fit.0) (λ d. g.met.P.PageDisk.reads_image d told) (e.recovers fit.0 told g.kept fit.1).0),
     ))
     c.open_recovered.ensures.cluster c.open_recovered.ensures.start
 
@@ -58,7 +64,7 @@ returns-in-Ok-clause-right g c told =
     let fit = c.requires.1.1.1.1.1.1 told in
     of_oks c.open_recovered.result _ _ _ (λ parts cluster start.
     let right = began_right l p old.log (log_disk r.log) old.xact.items r.xact.items r.from c.args.sessions r.base g.kept e.banks.0 c.requires.1.1.0 c.is_full_multi.ensures
-    (g.met.L.LogDisk.reads_image (log_disk r.log) fit.0) (λ d. g.met.P.PageDisk.reads_image d told) (e.recovers fit.0 told g.kept fit.1) (map faults_behind parts.locks.items) in
+    (g.met.L.LogDisk.reads_image (log_disk r.log) fit.0) (λ d. g.met.P.PageDisk.reads_image d told) (e.recovers fit.0 told g.kept fit.1).0 (map faults_behind parts.locks.items) in
     subst BeganRight (sym start)
     (subst (λ (k : Cluster). BeganRight (new_life k (behind p.tells g.kept r.from) parts.locks.items)) (sym cluster)
     (subst (λ (t : Bool). BeganRight (new_life (cluster_over r.base (length r.xact.items) c.args.sessions) (behind t g.kept r.from) parts.locks.items)) (sym told) right)))
@@ -73,7 +79,7 @@ returns-in-Ok-clause-again g c told =
     let l = g.L.LogDisk in let p = g.P.PageDisk in let old = c.args.volumes in let r = c.in-Ok.recovered in let e = c.in-Ok.ensures in
     let fit = c.requires.1.1.1.1.1.1 told in
     let left = may_recover l p old.log (log_disk r.log) old.xact.items r.xact.items r.from c.args.sessions r.base g.kept e.banks.0 c.requires.1.1.0 c.is_full_multi.ensures
-    (g.met.L.LogDisk.reads_image (log_disk r.log) fit.0) (λ d. g.met.P.PageDisk.reads_image d told) (e.recovers fit.0 told g.kept fit.1) in
+    (g.met.L.LogDisk.reads_image (log_disk r.log) fit.0) (λ d. g.met.P.PageDisk.reads_image d told) (e.recovers fit.0 told g.kept fit.1).0 in
     of_err c.open_recovered.result _ _ (λ e kept. subst (λ z. LeavesFit l p old.xact.items z e.0.xact.items g.kept) (sym kept.0) (subst (λ xs. LeavesFit l p old.xact.items (log_disk r.log) xs g.kept) (sym kept.1) left)) c.open_recovered.ensures.kept
 
 pub returns-in-Err-clause-again : goal.returns-in-Err-clause-again

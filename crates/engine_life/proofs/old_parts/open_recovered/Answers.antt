@@ -1,7 +1,7 @@
 use Rattle.std.proofs.Common.{[], IsTrue, arith, false, length, rules, subst, sym, ◌∙◌, ◌≡◌}
 use Rattle.engine_parts.specs.Sessions.{AreGivenBefore}
 use Rattle.engine_host.specs.Opening.{AllShowStates, IsCluster, life_from}
-use Rattle.engine_life.specs.Reopening.{cluster_over}
+use Rattle.engine_life.specs.Reopening.{KeepsStart, cluster_over}
 use Rattle.engine_life.proofs.Reopened.{settled_begins}
 use Rattle.engine_life.proofs.old_parts.open_recovered.Goals as goal
 
@@ -19,8 +19,9 @@ open_begun-requires g c =
     let xact = sym banks in
     let subtrans = as_many ∙ sym banks in
     let before = subst (λ n. AreGivenBefore (life_from (cluster_over r.base n c.args.sessions) g.begins [])) (sym banks) c.requires.1.1.1.1.1.1.1.1.0 in
-    let log = settled_begins (cluster_over r.base c.len.result c.args.sessions) g.begins r.from r.log settled c.requires.1.1.1.1.1.1.1.0 in
+    let past = subst (λ n. IsTrue g.L.LogDisk.tells → IsTrue g.begins.told → KeepsStart (cluster_over r.base n c.args.sessions) g.begins r.log) (sym banks) c.requires.1.1.1.1.1.1.1.1.1.1.1.1 in
+    let log = settled_begins (cluster_over r.base c.len.result c.args.sessions) g.begins r.from r.log settled c.requires.1.1.1.1.1.1.1.0 past in
     let states = subst (λ n. IsTrue p.tells → AllShowStates p (cluster_over r.base n c.args.sessions) g.begins false 0 r.xact.items) (sym banks) c.requires.1.1.1.1.1.1.1.1.1.0 in
     let parents = c.requires.1.1.1.1.1.1.1.1.1.1.0 in
-    let durable = c.requires.1.1.1.1.1.1.1.1.1.1.1 in
+    let durable = c.requires.1.1.1.1.1.1.1.1.1.1.1.0 in
     search (rules, cluster, xact, subtrans, before, log, states, parents, durable)

@@ -1,8 +1,9 @@
-use Rattle.std.proofs.Common.{map, subst, sym}
+use Rattle.std.proofs.Common.{map, refl, subst, sym}
+use Rattle.recoverable.proofs.NewBegins.{new_begins}
 use Rattle.tx_core.specs.declared.entry.Start.{Start}
 use Rattle.engine_host.specs.declared.cluster.Cluster.{Cluster}
 use Rattle.engine_host.specs.Counted.{AreCounted}
-use Rattle.engine_host.specs.Opening.{faults_behind}
+use Rattle.engine_host.specs.Opening.{faults_behind, life_of}
 use Rattle.engine_life.specs.declared.refusal.NoLife.{NoLife}
 use Rattle.engine_life.specs.Lives.{IsBegun}
 use Rattle.engine_life.specs.Refusals.{IsNoLife}
@@ -19,6 +20,7 @@ returns-in-Ok-open_new-clause-life g c =
       faults = map faults_behind parts.locks.items;
       counted = subst (λ (s : Start). AreCounted g.L.LogDisk g.P.PageDisk v.log v.xact.items v.subtrans.items s.faults) k.start k.counted;
       begun = subst (λ (s : Start). IsBegun c.args.cluster s life) k.start (subst (λ (d : Cluster). IsBegun d parts.start.value life) k.cluster begun);
+      right = (new_begins (life_of c.args.cluster (map faults_behind parts.locks.items)) refl c.is_full_multi.ensures c.requires.cluster.base refl refl).right;
       offsets = aside.0;
       members = aside.1;
     }) c.begin_life.ensures.life c.begin_life.ensures.aside

@@ -1,4 +1,4 @@
-use Rattle.std.proofs.Common.{◌<◌, ◌++◌, [], ◌∷◌, length, take, map, sym, ap, subst, ◌∙◌, arith}
+use Rattle.std.proofs.Common.{◌<◌, [], ◌∷◌, length, take, map, sym, ap, subst, ◌∙◌, arith}
 use Rattle.tx_events.specs.IdLists.{Ascending}
 use Rattle.history_check.specs.GivenIds.{given_ids, with_place}
 use Rattle.history_check.specs.Opened.{opened_ids}

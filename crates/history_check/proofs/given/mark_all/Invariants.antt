@@ -1,4 +1,4 @@
-use Rattle.std.proofs.Common.{◌≡◌, take, map, length}
+use Rattle.std.proofs.Common.{◌≡◌, take, map}
 use Rattle.history_check.specs.GivenIds.{with_place}
 use Rattle.history_check.specs.Opened.{opened_ids}
 use Rattle.history_check.proofs.given.mark_all.Given as goal

@@ -1,5 +1,4 @@
-use Rattle.std.proofs.Common.{sym, ◌∙◌}
-use Rattle.history_check.proofs.Seeing.{seen_where_kept, unseen_where_missing}
+use Rattle.history_check.proofs.Seeing.{unseen_where_missing}
 use Rattle.history_check.proofs.given.was_committed.Goals as goal
 
 pub returns-in-None : goal.returns-in-None

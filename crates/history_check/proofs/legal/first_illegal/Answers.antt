@@ -1,5 +1,4 @@
-use Rattle.std.proofs.Common.{◌≡◌, ◌∙◌, sym, ap, subst, arith}
-use Rattle.tx_events.specs.History.{IsLegal}
+use Rattle.std.proofs.Common.{◌∙◌, ap, arith}
 use Rattle.history_check.specs.Replays.{Replayed}
 use Rattle.history_check.proofs.TurnLemmas.{illegal_at, one_further}
 use Rattle.history_check.proofs.legal.first_illegal.Goals as goal

@@ -1,5 +1,3 @@
-use Rattle.std.proofs.Common.{sym, subst}
-use Rattle.tx_events.specs.IdLists.{Ascending}
 use Rattle.tx_events.specs.Savepoints.{is_inside}
 use Rattle.history_check.proofs.OpenedSteps.{closed_are_ascending}
 use Rattle.history_check.proofs.opened.closed_by.Goals as goal

@@ -1,5 +1,5 @@
 use Rattle.std.proofs.Common.{Err, Ok, OnOk, ap, subst, ◌∙◌}
-use Rattle.recoverable.specs.LifeBase.{committed_in}
+use Rattle.log_bases.specs.LifeBase.{committed_in}
 use Rattle.replay_core.specs.Redo.{IsNamed}
 use Rattle.replay_core.specs.Restore.{HasBytesOnDisk, RestoresAll, bytes_on}
 use Rattle.replay_core.specs.Banks.{Restoring}

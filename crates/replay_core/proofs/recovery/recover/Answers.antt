@@ -1,12 +1,12 @@
 use Rattle.std.proofs.Common.{Err, List, Ok, Some, ap, arith, subst, sym, ◌∙◌, ◌≡◌, ◌≤◌}
 use Rattle.std.specs.List.{slice_get}
 use Rattle.tx_events.specs.declared.record.Rec.{Rec}
-use Rattle.recoverable.specs.LifeBase.{committed_in}
+use Rattle.log_bases.specs.LifeBase.{committed_in}
 use Rattle.wal_core.specs.LogViews.{log_disk, log_first, log_next}
 use Rattle.replay_core.specs.Redo.{AreNear}
 use Rattle.replay_core.specs.Banks.{NoCountFell}
 use Rattle.replay_core.specs.Replay.{Replays}
-use Rattle.replay_core.specs.Volumes.{LeavesFit, Recovers}
+use Rattle.replay_core.specs.Volumes.{LeavesFit, RecoversLog}
 use Rattle.replay_core.proofs.Joining.{ends_within, still_fits}
 use Rattle.replay_core.proofs.LaterLogs.{ids_near}
 use Rattle.replay_core.proofs.Recovering.{replay_leaves, replay_recovers}
@@ -43,10 +43,10 @@ returns-clause-recovers g c told told' log fit =
     let l = g.L.LogDisk in let p = g.P.PageDisk in let v = c.args.volumes.log in let xact = c.args.volumes.xact.items in let found = c.in-Ok.found in
     let xact' = c.replay.new.xact.items in let subtrans' = c.replay.new.subtrans.items in let b = c.begun.ensures in
     let r = subst (λ (t : List Rec). Replays p t found.base found.log c.replay.new.log xact xact' c.args.volumes.subtrans.items subtrans' (Ok (tt {0}))) c.items.ensures c.in_default.ensures in
-    subst (λ z. Recovers l p v xact (log_disk z) c.begun.result.xact.items c.begun.result.from c.begun.result.base log) (sym b.log)
-    (subst (λ z. Recovers l p v xact (log_disk c.replay.new.log) z.items c.begun.result.from c.begun.result.base log) (sym b.xact)
-    (subst (λ z. Recovers l p v xact (log_disk c.replay.new.log) xact' z c.begun.result.base log) (sym (b.from ∙ c.next-from.ensures))
-    (subst (λ z. Recovers l p v xact (log_disk c.replay.new.log) xact' (log_next found.log) z log) (sym b.base)
+    subst (λ z. RecoversLog l p v xact z c.begun.result.xact.items c.begun.result.from c.begun.result.base log) (sym b.log)
+    (subst (λ z. RecoversLog l p v xact c.replay.new.log z.items c.begun.result.from c.begun.result.base log) (sym b.xact)
+    (subst (λ z. RecoversLog l p v xact c.replay.new.log xact' z c.begun.result.base log) (sym (b.from ∙ c.next-from.ensures))
+    (subst (λ z. RecoversLog l p v xact c.replay.new.log xact' (log_next found.log) z log) (sym b.base)
     (replay_recovers l p v xact xact' c.args.volumes.subtrans.items subtrans' found c.in-Ok.ensures.found c.replay.new.log told told' (g.met.L.LogDisk.reads_image v told) (λ d. g.met.P.PageDisk.reads_image d told') c.requires.some log fit r))))
 
 pub returns-clause-states : goal.returns-clause-states

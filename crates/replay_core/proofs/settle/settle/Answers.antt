@@ -37,14 +37,8 @@ returns-in-Ok-clause-settled g c =
 pub returns-in-Ok-clause-kept : goal.returns-in-Ok-clause-kept
 returns-in-Ok-clause-kept g c told first all k =
     let st = c.in_ok-append_checkpoint.ensures.done in
-    let log1 = c.append_checkpoint.new.log in
-    let log2 = c.flush.new.self in
-    let log3 = c.forget_before_checkpoint.new.self in
     let whole : List Rec = all ++ records.Checkpoint (log_next c.args.log.now) c.args.base ∷ [] in
-    let l = last_is (log_end log1) (log_next c.args.log.now) c.args.base (log_pending log1) (log_counters log1) (log_checkpoint log2) (c.in_default.ensures.checkpoint (λ e. let z : records.Checkpoint (log_next c.args.log.now) c.args.base ∷ [] ≡ [] = sym st.pending ∙ e in absurd cc)) st.pending st.counters in
-    let number : log_first log3 ≡ l.0.number = subst (λ (o : Option LastCheckpoint). IfSome o (λ (k : LastCheckpoint). log_first log3 ≡ k.number)) l.1 (c.in-Ok.ensures.first (λ at e. absurd cc)) in
-    each_kept first whole log3 (log_next c.args.log.now) (log_next c.args.log.now + 1) (number ∙ l.2) (c.in-Ok.ensures.flushed ∙ c.in_default.ensures.ok ∙ st.next)
-    (c.forget_before_checkpoint.ensures.keeps told first whole (c.flush.ensures.keeps told first whole (st.keeps told first all k)))
+    c.forget_before_checkpoint.ensures.keeps told first whole (c.flush.ensures.keeps told first whole (st.keeps told first all k))
 
 pub returns-in-Err-forget_before_checkpoint-clause-left : goal.returns-in-Err-forget_before_checkpoint-clause-left
 returns-in-Err-forget_before_checkpoint-clause-left g c told first all k =

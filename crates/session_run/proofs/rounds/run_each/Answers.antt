@@ -3,7 +3,7 @@ use Rattle.std.proofs.lemmas.List.Elements.{filter_map-append}
 use Rattle.std.specs.List.{All}
 use Rattle.session_lang.specs.Rounds.{asked_at, asked_round}
 use Rattle.tx_model.specs.Asked.{round_in, rounds_in}
-use Rattle.session_run.specs.Runs.{HasRun}
+use Rattle.session_run.specs.Parts.{HasRun}
 use Rattle.run_law.specs.Turns.{MayRun, turns_in}
 use Rattle.session_run.proofs.RoundCounts.{rounds_short}
 use Rattle.session_run.proofs.RoundSteps.{all_parts, asked_on, no_rounds, not_empty, parts_length, rest_shorter, round_short}

@@ -3,7 +3,7 @@ use Rattle.std.specs.List.{All}
 use Rattle.session_lang.specs.Rounds.{asked_of}
 use Rattle.run_law.specs.Turns.{MayRun}
 use Rattle.script_rounds.specs.Plans.{IsBlank}
-use Rattle.session_run.specs.Runs.{HasRun}
+use Rattle.session_run.specs.Parts.{HasRun}
 use Rattle.tx_model.specs.Asked.{Asked, rounds_in}
 use Rattle.session_run.proofs.rounds.run_each.Given as goal
 

@@ -2,7 +2,7 @@ use Rattle.std.proofs.Common.{◌≡◌, true, ◌++◌, arith, length, sym, ap,
 use Rattle.std.proofs.lemmas.List.Elements.{recursion_from_All}
 use Rattle.tx_model.specs.Asked.{rounds_in}
 use Rattle.run_law.specs.Turns.{is_command}
-use Rattle.session_run.specs.Runs.{HasRun}
+use Rattle.session_run.specs.Parts.{HasRun}
 use Rattle.session_run.proofs.RoundSteps.{no_round, not_empty, some_round}
 use Rattle.session_run.proofs.rounds.run_next.Goals as goal
 

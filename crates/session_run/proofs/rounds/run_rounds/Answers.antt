@@ -1,9 +1,7 @@
-use Rattle.std.proofs.Common.{sym, ap, subst, length, ◌≡◌, ◌∙◌}
+use Rattle.std.proofs.Common.{ap, length, subst, sym, ◌≡◌, ◌∙◌}
 use Rattle.std.proofs.lemmas.Result.{on_ok_weaker}
 use Rattle.std.specs.List.{All}
-use Rattle.session_lang.specs.Rounds.{asked_of}
 use Rattle.engine_host.specs.Hosts.{IsNewSession}
-use Rattle.session_run.specs.Runs.{HasRun}
 use Rattle.session_run.proofs.RoundsRun.{new_each, new_home}
 use Rattle.session_run.proofs.rounds.run_rounds.Goals as goal
 
@@ -18,7 +16,4 @@ run_each-requires-clause-begins g c κs within =
     c.requires.unseen (new_each all fresh)
 
 pub returns-clause-ran : goal.returns-clause-ran
-returns-clause-ran g c =
-    on_ok_weaker c.run_each.result
-    (λ r. (c.run_each.new.sessions, subst (λ items. HasRun g.K.LineKeeper c.args.hall.now c.run_each.new.host c.run_each.new.sessions c.args.script.now.names (asked_of items) c.args.kept.now c.run_each.new.kept) c.items.ensures r))
-    c.run_each.ensures.ran
+returns-clause-ran g c = on_ok_weaker c.run_each.result (λ r. (c.run_each.new.sessions, r)) c.run_each.ensures.ran

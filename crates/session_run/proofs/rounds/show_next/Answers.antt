@@ -4,7 +4,7 @@ use Rattle.std.proofs.lemmas.Result.{on_ok_weaker}
 use Rattle.session_lang.specs.declared.script.Item.TheVariants as items
 use Rattle.session_lang.specs.Rounds.{asked_in}
 use Rattle.run_law.specs.Turns.{MayRun}
-use Rattle.session_run.specs.Runs.{HasRun}
+use Rattle.session_run.specs.Parts.{HasRun}
 use Rattle.session_run.proofs.RoundsRun.{asked_may, home_shown, ran_dump, ran_same}
 use Rattle.session_run.proofs.rounds.show_next.Goals as goal
 

@@ -1,15 +1,13 @@
-use Rattle.std.proofs.Common.{◌≡◌, ◌<◌, ◌≤◌, ◌↔◌, IsTrue, ap, sym, subst, refl, ◌∙◌, length, set, arith}
+use Rattle.std.proofs.Common.{◌<◌, ◌≤◌, ap, sym, subst, refl, ◌∙◌, length, set, arith}
 use Rattle.std.specs.Global.{Vec}
 use Rattle.std.proofs.lemmas.List.{length-set}
 use Rattle.history_check.specs.declared.opened.OpenId.{OpenId}
 use Rattle.std.specs.List.{slice_index}
 use Rattle.std.proofs.lemmas.Bool.{false≢true}
 use Rattle.tx_events.specs.declared.event.By.{By}
-use Rattle.tx_events.specs.Events.{by_of}
-use Rattle.proc_table.specs.Table.{InTurn}
 use Rattle.history_check.specs.GivenIds.{AreKept, given_after}
 use Rattle.history_check.specs.Opened.{opened_after, opened_ids}
-use Rattle.history_check.specs.Replays.{IsLawfulNext, IsReplay, Replayed}
+use Rattle.history_check.specs.Replays.{IsLawfulNext, Replayed}
 use Rattle.history_check.proofs.AddLemmas.{replay_roomier, replay_stays, same_default, turn_of, view_after, within_table}
 use Rattle.history_check.proofs.GivenSteps.{kept_ascend}
 use Rattle.history_check.proofs.ReplaySteps.{replay_after}

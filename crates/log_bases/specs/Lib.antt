@@ -1,0 +1,2 @@
+pub mod LifeBase
+pub mod Laws

@@ -1,0 +1,8 @@
+//! Notes of values of which callers know only that there is one: a call finds it, and from then on contracts name it.
+#![tactic(auto)]
+
+mod fact;
+#[cfg(test)]
+mod tests;
+
+pub use fact::{Fact, found};

@@ -1,0 +1,96 @@
+-- Which command may be refused for memory, by a volume or by the log, whatever the history.
+use Rattle.std.specs.Prelude.{◌≡◌, ℕ, ◌+◌, ◌-◌, ◌*◌, ◌^◌, ◌<◌, ◌⊎◌, ◌&&◌, nat_lt, max, Bool, true, false, List, length, drop}
+use Rattle.std.specs.List.{filter, list_any}
+use Rattle.tx_events.specs.declared.event.By.{By}
+use Rattle.tx_events.specs.declared.event.Event.{Event}
+use Rattle.tx_events.specs.declared.refusal.Lock.{Lock}
+use Rattle.tx_events.specs.declared.refusal.Lock.TheVariants as locks
+use Rattle.tx_events.specs.Events.{by_of, is_of}
+use Rattle.tx_events.specs.RecordSize.{records_size}
+use Rattle.tx_events.specs.Running.{open_ids}
+use Rattle.tx_model.specs.declared.command.Command.{Command}
+use Rattle.tx_model.specs.declared.command.Command.TheVariants as commands
+use Rattle.tx_model.specs.declared.report.Life.{Life}
+use Rattle.tx_model.specs.declared.report.Line.{Line}
+use Rattle.tx_model.specs.declared.report.Step.{Step}
+use Rattle.tx_model.specs.declared.report.Step.TheVariants as steps
+use Rattle.life_law.specs.Facts.{has_log_fault, is_log_fault}
+
+abbrev pub can_lack_memory : Command → Bool
+can_lack_memory commands.Save = true
+can_lack_memory commands.Write = true
+can_lack_memory commands.Commit = true
+can_lack_memory commands.Trim = true
+can_lack_memory (commands.Snap name) = true
+can_lack_memory (commands.Status x) = true
+can_lack_memory (commands.Multi members) = true
+can_lack_memory (commands.SeeMulti name multi) = true
+can_lack_memory (commands.Freeze oldest) = true
+can_lack_memory (commands.MultiFreeze multi) = true
+can_lack_memory command = false
+
+-- which stores a command asks; a report doesn't tell how many banks a store has
+abbrev pub can_ask : Command → Lock → Bool
+can_ask commands.Write (locks.Xact bank) = true
+can_ask commands.Write (locks.Subtrans bank) = true
+can_ask commands.Undo (locks.Xact bank) = true
+can_ask commands.Commit (locks.Xact bank) = true
+can_ask commands.Commit (locks.Subtrans bank) = true
+can_ask commands.Abort (locks.Xact bank) = true
+can_ask (commands.See name x) (locks.Xact bank) = true
+can_ask (commands.See name x) (locks.Subtrans bank) = true
+can_ask (commands.Status x) (locks.Xact bank) = true
+can_ask (commands.Did x) (locks.Xact bank) = true
+can_ask (commands.Did x) (locks.Subtrans bank) = true
+can_ask (commands.Multi members) (locks.Offsets bank) = true
+can_ask (commands.Multi members) (locks.Members bank) = true
+can_ask (commands.SeeMulti name multi) (locks.Xact bank) = true
+can_ask (commands.SeeMulti name multi) (locks.Subtrans bank) = true
+can_ask (commands.SeeMulti name multi) (locks.Offsets bank) = true
+can_ask (commands.SeeMulti name multi) (locks.Members bank) = true
+can_ask (commands.MultiFreeze multi) (locks.Offsets bank) = true
+can_ask commands.Trim (locks.Xact bank) = true
+can_ask commands.Trim (locks.Subtrans bank) = true
+can_ask commands.Trim (locks.Offsets bank) = true
+can_ask commands.Trim (locks.Members bank) = true
+can_ask command lock = false
+
+-- which flush the log
+abbrev pub can_flush : Command → Bool
+can_flush commands.Commit = true
+can_flush commands.Trim = true
+can_flush command = false
+
+-- and which append to it
+abbrev pub can_append : Command → Bool
+can_append (commands.Multi members) = true
+can_append command = can_flush command
+
+-- a checkpoint asks every store and flushes the log
+abbrev pub is_page_lock : Lock → Bool
+is_page_lock locks.Log = false
+is_page_lock lock = true
+
+abbrev pub is_checkpoint_fault : Step → Bool
+is_checkpoint_fault (steps.Checkpoint reply) = is_log_fault reply
+is_checkpoint_fault step = false
+
+-- a command or a checkpoint of these steps was told that the log's volume failed
+abbrev pub AreLogFaults : List Line → List Step → Type 0
+AreLogFaults lines steps = (has_log_fault lines ≡ true) ⊎ (list_any is_checkpoint_fault steps ≡ true)
+
+-- the session's events of the commands before
+abbrev pub own_before : By → List Event → List Event
+own_before by h = filter (λ e. is_of by.session e && nat_lt (by_of e).command by.command) h
+
+-- the length of the longest record that the command may append, in bytes. A truncation's record may come before it
+abbrev pub longest_record : By → List Event → Command → ℕ
+longest_record by h commands.Commit = max 25 (13 + 8 * (length (open_ids by.session (own_before by h)) - 1))
+longest_record by h (commands.Multi members) = 21 + 9 * 64
+longest_record by h command = 25
+
+-- the log has no room for so many bytes more, by what it holds at the life's end
+abbrev pub HasNoRoom : Life → ℕ → Type 0
+HasNoRoom life size =
+    (2 ^ 40 < life.end + 6 + records_size (drop (life.flushed - life.from) life.recs) + size)
+    ⊎ (2 ^ 32 - 1 < records_size (drop (life.flushed - life.from) life.recs) + size)

@@ -1,0 +1,13 @@
+pub mod Begun
+pub mod Places
+pub mod Kinds
+pub mod Standing
+pub mod Answers
+pub mod MultiLines
+pub mod Steps
+pub mod Checkpoints
+pub mod Dumps
+pub mod Events
+pub mod Records
+pub mod ReportLines
+pub mod Worked

@@ -1,0 +1,6 @@
+//! Which report is lawful, and which line of one that isn't is the first unlawful one. The rules of one life's commands
+//! that a run promises stand in `life_law`; these here are those of every report that can be read, with many lives,
+//! multixacts, checkpoints and truncations. See docs/SCRIPT-AND-REPORT.md.
+#![tactic(auto)]
+
+pub mod laws;

@@ -1,6 +1,0 @@
-use Rattle.std.proofs.Common.{◌≡◌, ◌++◌, take}
-use Rattle.report_text.specs.Words.{more, numbers}
-use Rattle.report_text.proofs.text.put_numbers.Given as goal
-
-abbrev pub invariant-loop-id : goal.invariant-loop-id
-invariant-loop-id l = l.out ≡ l.fn.out ++ more (numbers (take l.id-index l.id-items))

@@ -1,0 +1,81 @@
+//! A list of ids that was printed, with its words.
+ghost use Rattle.std.specs.Prelude.{◌≡◌, ◌++◌, [], IsTrue, OnOk};
+ghost use Rattle.report_text.specs.Words.{more, numbers};
+
+use crate::numbers::push_numbers;
+use std::alloc::Global;
+use std::marker::Model;
+use tx_events::{FullXid, Memory};
+
+// Shorter lists are printed anew.
+const MANY: usize = 8;
+
+/// The list of ids that was printed last, with its words, so that these need not be made anew for the same list. A
+/// contract sees the ids.
+#[derive(Drop)]
+pub struct Printed {
+    ids: Vec<FullXid>,
+    words: Vec<u8>,
+}
+
+impl Model for Printed {
+    ghost use Rattle.std.specs.Prelude.{◌≡◌, ℕ, List};
+    ghost use Rattle.report_text.specs.Words.{more, numbers};
+
+    ghost Value = { List ℕ };
+
+    ghost view = { λ p. p.ids.items };
+
+    ghost invariant = { λ p. p.words.items ≡ more (numbers p.ids.items) };
+}
+
+impl Printed {
+    /// No ids. Takes no memory.
+    #[tactic(auto, unfolding(crate::specs::Words::more))]
+    pub fn new(alloc: Global) -> Printed
+        ensures { result ≡ [] }
+    {
+        Printed {
+            ids: Vec::new(alloc),
+            words: Vec::new(alloc),
+        }
+    }
+
+    fn is_of(&self, ids: &[FullXid]) -> bool
+        ensures { IsTrue result → self.now ≡ ids.now }
+    {
+        self.ids.as_slice() == ids
+    }
+
+    // Where there is no memory, none are kept.
+    #[tactic(auto, unfolding(crate::specs::Words::more))]
+    fn keep(&mut self, ids: &[FullXid], words: &[u8])
+        requires { words.now ≡ more (numbers ids.now) }
+    {
+        self.ids.clear();
+        self.words.clear();
+        if self.words.extend_from_slice(words).is_err() {
+            return;
+        }
+        if self.ids.extend_from_slice(ids).is_err() {
+            self.words.clear();
+        }
+    }
+
+    /// Adds the numbers to a text, each behind a space.
+    pub fn put(&mut self, bytes: &mut Vec<u8>, ids: &[FullXid]) -> Result<(), Memory>
+        ensures ok { OnOk result (bytes.new.items ≡ bytes.old.items ++ more (numbers ids.now)) }
+    {
+        if ids.len() < MANY {
+            return push_numbers(bytes, ids);
+        }
+        if self.is_of(ids) {
+            bytes.extend_from_slice(self.words.as_slice())?;
+            return Ok(());
+        }
+        let from = bytes.len();
+        push_numbers(bytes, ids)?;
+        self.keep(ids, &bytes[from..]);
+        Ok(())
+    }
+}

@@ -1,0 +1,38 @@
+-- What a later life goes on from.
+use Rattle.std.specs.Prelude.{◌≡◌, ℕ, ◌+◌, List, [], ◌∷◌, ◌++◌, IsTrue, length}
+use Rattle.disk_core.specs.declared.log_disk.LogDisk as logs
+use Rattle.disk_core.specs.declared.page_disk.PageDisk as disks
+use Rattle.tx_events.specs.declared.record.Rec.{Rec}
+use Rattle.tx_events.specs.declared.record.Rec.TheVariants as records
+use Rattle.tx_model.specs.declared.report.Life.{Life}
+use Rattle.log_bases.specs.LifeBase.{base_after}
+use Rattle.lives_law.specs.Lives.{base_of}
+use Rattle.recoverable.specs.Clusters.{Fit}
+use Rattle.recoverable.specs.Fit.{KeptLog, base_at}
+
+-- The log that volumes fit at a life's end has the records last that stand behind the life's checkpoint, and what stands
+-- before them gives its base. All that the life's report tells as flushed is.
+pub record EndsWithLife (life : Life) (kept : KeptLog) : Type 0 where
+  pub past : List Rec
+  pub own : List Rec
+  pub recs : kept.recs ≡ past ++ own
+  pub number : kept.first + length past ≡ life.from + 1
+  pub base : base_after kept.base past ≡ base_of life
+  pub checkpoint : life.recs ≡ records.Checkpoint life.from life.base ∷ own
+  pub flushed : life.flushed ≡ kept.flushed
+
+module _ {L P : Type 0} (l : logs.Ghosts L) (p : disks.Ghosts P) where
+  -- The volumes fit such a log: whatever a crash leaves of them, recovery answers the base at a number of it, from the
+  -- flushed one to its end. None of these bases has a multixact.
+  pub record FitsLife (life : Life) (log : L) (states : List P) (kept : KeptLog) : Type 0 where
+    pub ends : EndsWithLife life kept
+    pub fit : Fit l p kept log states
+    pub unrecorded : (n : ℕ) → (base_at kept n).recorded ≡ []
+
+  -- there is such a log
+  abbrev pub FitLife : Life → L → List P → Type 0
+  FitLife life log states = (kept : KeptLog) × FitsLife life log states kept
+
+  -- where both tell what they hold
+  abbrev pub FitWhereTold : Life → L → List P → KeptLog → Type 0
+  FitWhereTold life log states kept = IsTrue p.tells → IsTrue l.tells → FitsLife life log states kept

@@ -9,10 +9,7 @@ use std::test::Fail;
 use std::thread::Threads;
 
 /// Two commits, a crash of this kind, and a look at both of them in the next life.
-fn two_commits(
-    rt: &impl AllocGlobal,
-    how: &str,
-) -> Result<String, Fail> {
+fn two_commits(rt: &impl AllocGlobal, how: &str) -> Result<String, Fail> {
     let mut script = String::new(rt.alloc());
     script.push_str(
         "a begin

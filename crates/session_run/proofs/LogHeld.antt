@@ -11,6 +11,7 @@ use Rattle.life_law.specs.LifeLog.{IsLogOf}
 use Rattle.tx_core.specs.declared.entry.Entry.{Entry}
 use Rattle.tx_core.specs.declared.entry.Start.{Start}
 use Rattle.tx_core.specs.Entries.{recs_in}
+use Rattle.wal_core.specs.declared.checkpoint.LastCheckpoint.{LastCheckpoint}
 use Rattle.wal_core.specs.Kept.{HasFlushed, HasRecords, KeepsRecords, OpensToRecords}
 use Rattle.wal_core.specs.Log.{history_in}
 use Rattle.wal_core.specs.Opening.{History, Opened, opened}
@@ -67,11 +68,11 @@ module _ (life : Life) (whole : IsLogOf 0 life.base life.events life.recs life.f
 
 -- the log of a life over a new log stands for its list: so its volume, which is one of its images
 pub log_holds : {L : Type 0} (l : logs.Ghosts L) (log : L) (life : Life) (start : Start) (first : Rec) (es : List Entry) (faults next kept : ℕ)
-    (counters : Option Counters) (down : Option ℕ) → start.from ≡ 1 → start.logged ≡ first ∷ []
-    → LogStands start l.tells faults (l.images log) life.recs next kept life.flushed counters down es
+    (counters : Option Counters) (down : Option ℕ) (checkpoint : Option LastCheckpoint) → start.from ≡ 1 → start.logged ≡ first ∷ []
+    → LogStands start l.tells faults (l.images log) life.recs next kept life.flushed counters down checkpoint es
     → life.from ≡ 0 → IsLogOf 0 life.base life.events life.recs life.flushed life.end
     → IsTrue l.tells → l.images log (l.reads log) → LogHolds l life log
-log_holds l log life start first es faults next kept counters down from logged stands new whole tells now =
+log_holds l log life start first es faults next kept counters down checkpoint from logged stands new whole tells now =
     let k = stands.kept tells in
     let size : length life.recs ≡ length (first ∷ recs_in es) = ap (λ (t : List Rec). length t) (stands.recs_are ∙ ap (λ (t : List Rec). t ++ recs_in es) logged) in
     let long : next ≡ length life.recs = (let a = stands.next_is in omega (arith, a, from, size)) in

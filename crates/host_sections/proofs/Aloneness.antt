@@ -1,8 +1,7 @@
 -- A host that has all names learns nothing new at a lock, and adds to the lists what it may.
-use Rattle.std.proofs.Common.{◌≡◌, ℕ, suc, ◌<◌, ◌≤◌, ◌+◌, ◌*◌, ◌==◌, ◌×◌, ⊎_elim, List, [], ◌∷◌, ◌++◌, Contains, Bool, true, false, cond, length, slice_index_or, append-nil, inl, inr, refl, sym, ap, subst, ◌∙◌, arith}
+use Rattle.std.proofs.Common.{◌≡◌, ℕ, suc, ◌<◌, ◌≤◌, ◌+◌, ◌*◌, ◌==◌, ⊎_elim, List, [], ◌∷◌, ◌++◌, Contains, Bool, true, false, cond, length, slice_index_or, append-nil, inl, inr, refl, sym, ap, subst, ◌∙◌, arith}
 use Rattle.std.specs.List.{All, filter}
-use Rattle.std.proofs.lemmas.List.Elements.{filter-append}
-use Rattle.std.proofs.lemmas.List.{length-set}
+use Rattle.std.proofs.lemmas.List.Elements.{All-append, All-cons, All-nil, filter-append}
 use mathlib.Core.Logic.{dite}
 use native.Mathlib.Decide.{ℕ_discrete}
 use Rattle.disk_core.specs.declared.log_disk.LogDisk as logs
@@ -18,16 +17,18 @@ use Rattle.tx_events.specs.declared.event.By.{By}
 use Rattle.tx_events.proofs.ListSteps.{eqb-refl}
 use Rattle.tx_events.proofs.Membership.{contains_has, has_contains, has_right, none_passes}
 use Rattle.tx_core.specs.declared.entry.Entry.{Entry}
+use Rattle.tx_core.specs.declared.entry.Kind.{Kind}
 use Rattle.tx_core.specs.declared.entry.Start.{Start}
 use Rattle.tx_core.specs.Consequences.{IsHosts}
 use Rattle.tx_core.specs.EngineInvariant.{EngineInvariant}
 use Rattle.tx_core.specs.Entries.{session_of}
+use Rattle.tx_core.specs.Laws.{HostKindKeeps}
 use Rattle.tx_core.specs.ProgramOrder.{ComesAfter, IsHostsTurn}
 use Rattle.tx_core.proofs.Opening.{sessions_known}
 use Rattle.engine_parts.specs.declared.part.Part.{Part}
 use Rattle.engine_parts.specs.Holds as holds
 use Rattle.engine_parts.specs.Holds.{Enters, Knowledge}
-use Rattle.engine_parts.specs.Law.{writer_of}
+use Rattle.engine_parts.specs.Law.{MayKeep, writer_of}
 use Rattle.engine_parts.specs.Parts.{PartStands}
 use Rattle.engine_parts.proofs.Holding.{enters, stood}
 use Rattle.host_sections.specs.Alone.{IsAlone, IsIn, Leaves}
@@ -124,3 +125,7 @@ module _ {H L P : Type 0} {l : logs.Ghosts L} {p : disks.Ghosts P} where
   -- whose turn it is, where the host has seen all
   pub turn_of : (hall : Hall H (Part L P l p) Entry Start) (lock : ℕ) (by : By) (old within : Token (Part L P l p) Entry Start) → IsAlone hall by old → IsIn hall lock old within → IsHostsTurn (start_of hall) (at (view within).seen lock) by
   turn_of hall lock by old within alone i = record { known = alone.session; after = subst (λ (z : List (List Entry)). ComesAfter (at z lock) by) (sym i.seen) (alone.turns lock) }
+
+-- an entry of the host's step may be added where the law of its kind says so
+pub may_add : (start : Start) (seen : List (List Entry)) (lock : ℕ) (by : By) (kind : Kind) (e : Entry) → e ≡ record { by = by; kind = kind } → HostKindKeeps start seen lock by kind → IsHostsTurn start (at seen lock) by → MayKeep start seen lock e
+may_add start seen lock by kind e is keeps turn = subst (MayKeep start seen lock) (sym is) (λ lists k knows inside whole. keeps lists k knows inside whole turn)

@@ -1,1 +1,4 @@
 pub mod Aloneness
+pub mod LogSteps
+pub mod BankSteps
+pub mod Refusals

@@ -2,7 +2,7 @@
 ghost use Rattle.std.specs.Prelude.{◌≡◌, ◌<◌};
 ghost use Rattle.hall.specs.Calls.{start_of, view};
 ghost use Rattle.tx_core.specs.Locks.{subtrans_lock, xact_lock};
-ghost use Rattle.host_sections.specs.Alone.{IsAlone, Leaves};
+ghost use Rattle.host_sections.specs.Alone.{IsAlone};
 ghost use Rattle.host_sections.specs.HostEntries.{AddsSync, sync_by};
 
 use crate::home::{take_subtrans, take_xact};
@@ -40,7 +40,8 @@ pub fn sync_xact<R: Wait, L: LogDisk, P: PageDisk>(
     let store = &mut *held;
     match store.flush_all() {
         Ok(()) => {
-            leave(hall, pass, Part::Xact(held), sync_note(by));
+            let sync = sync_note(by);
+            leave(hall, pass, Part::Xact(held), sync);
             Ok(())
         }
         Err(refusal) => {
@@ -70,7 +71,8 @@ pub fn sync_subtrans<R: Wait, L: LogDisk, P: PageDisk>(
     let store = &mut *held;
     match store.flush_all() {
         Ok(()) => {
-            leave(hall, pass, Part::Subtrans(held), sync_note(by));
+            let sync = sync_note(by);
+            leave(hall, pass, Part::Subtrans(held), sync);
             Ok(())
         }
         Err(refusal) => {

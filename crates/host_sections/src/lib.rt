@@ -8,4 +8,4 @@ mod home;
 mod log;
 
 pub use banks::{sync_subtrans, sync_xact};
-pub use log::flush_records;
+pub use log::{append_checkpoint, flush_records, forget_log};

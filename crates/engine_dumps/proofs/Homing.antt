@@ -1,5 +1,5 @@
 -- A host that has all names learns nothing new at a lock.
-use Rattle.std.proofs.Common.{◌≡◌, ℕ, suc, ◌<◌, ◌==◌, ⊎_elim, List, [], ◌∷◌, ◌++◌, Contains, Bool, false, length, slice_index_or, append-nil, inl, inr, refl, sym, ap, subst, ◌∙◌, arith}
+use Rattle.std.proofs.Common.{◌≡◌, ℕ, suc, ◌<◌, ◌≤◌, ◌==◌, ⊎_elim, List, [], ◌∷◌, ◌++◌, Contains, Bool, false, length, slice_index_or, append-nil, inl, inr, refl, sym, ap, subst, ◌∙◌, arith}
 use Rattle.disk_core.specs.declared.log_disk.LogDisk as logs
 use Rattle.disk_core.specs.declared.page_disk.PageDisk as disks
 use Rattle.hall.specs.declared.hall.Hall.{Hall}
@@ -11,6 +11,7 @@ use Rattle.tx_events.proofs.ListSteps.{eqb-refl}
 use Rattle.tx_events.proofs.Membership.{contains_has, has_contains, has_right, none_passes}
 use Rattle.tx_core.specs.declared.entry.Entry.{Entry}
 use Rattle.tx_core.specs.declared.entry.Start.{Start}
+use Rattle.tx_core.specs.Consequences.{IsHosts}
 use Rattle.tx_core.specs.EngineInvariant.{EngineInvariant}
 use Rattle.tx_core.specs.Entries.{session_of}
 use Rattle.tx_core.proofs.Opening.{sessions_known}
@@ -43,14 +44,16 @@ nothing_new seen lists (e ∷ rest) split all =
     absurd (none_passes (λ (f : Entry). session_of f == n) seen (e ∷ rest) same e (inl refl) (eqb-refl n))
 
 -- the lists of a moment at which a pass has all names are those that it has seen
-pub sees_same : (start : Start) (v : Knowledge) (lists : List (List Entry)) → ((n : ℕ) → n < start.sessions → Holds v n) → Moment session_of writer_of EngineInvariant start v lists → lists ≡ v.seen
+pub sees_same : (start : Start) (v : Knowledge) (lists : List (List Entry)) → ((n : ℕ) → n ≤ start.sessions → Holds v n) → Moment session_of writer_of EngineInvariant start v lists → lists ≡ v.seen
 sees_same start v lists all m =
     lists_equal lists v.seen m.long (λ k.
     let b = m.grows.begins k in
-    nothing_new (at v.seen k) (at lists k) b.0 b.1 (λ e c. (m.own_seen (session_of e) (all (session_of e) (sessions_known start lists m.law k e c))).entries k))
+    nothing_new (at v.seen k) (at lists k) b.0 b.1 (λ e c.
+    let within : session_of e ≤ start.sessions = ⊎_elim (λ (low : e.by.session < start.sessions). omega (arith, low)) (λ (his : IsHosts start e). (let same = his.0 in omega (arith, same))) (sessions_known start lists m.law k e c) in
+    (m.own_seen (session_of e) (all (session_of e) within)).entries k))
 
 module _ {H L P : Type 0} {l : logs.Ghosts L} {p : disks.Ghosts P} where
-  has_each : (hall : Hall H (Part L P l p) Entry Start) (host : Host L P l p) → IsHome hall host → (n : ℕ) → n < (start_of hall).sessions → Holds (view host.pass) n
+  has_each : (hall : Hall H (Part L P l p) Entry Start) (host : Host L P l p) → IsHome hall host → (n : ℕ) → n ≤ (start_of hall).sessions → Holds (view host.pass) n
   has_each hall host home n below = ⊎_elim (λ held. held) (λ k. absurd (contains_has [] n k)) (home.all n (omega (arith, below, home.is_host.sessions)))
 
   -- so is what it knows inside a lock
@@ -59,7 +62,7 @@ module _ {H L P : Type 0} {l : logs.Ghosts L} {p : disks.Ghosts P} where
   went_in hall lock old new part v home own cell cluster start looked entered =
       let into : Enters (start_of hall) lock (view old.pass) (view new.pass) = enters PartStands (start_of hall) lock (view old.pass) v (view new.pass) part home.is_host.own.named looked entered in
       let holds : v.holds ≡ (view old.pass).holds = ap (λ (z : Knowledge). z.holds) looked.1 in
-      let all : (n : ℕ) → n < (start_of hall).sessions → Holds v n = λ n below. ap (λ (bs : List Bool). slice_index_or bs n false) holds ∙ has_each hall old home n below in
+      let all : (n : ℕ) → n ≤ (start_of hall).sessions → Holds v n = λ n below. ap (λ (bs : List Bool). slice_index_or bs n false) holds ∙ has_each hall old home n below in
       let same : entered.lists ≡ v.seen = sees_same (start_of hall) v entered.lists all entered.moment in
       record {
         own = own;

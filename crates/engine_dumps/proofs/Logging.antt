@@ -9,7 +9,7 @@ use Rattle.disk_core.specs.Images.{NoMore}
 use Rattle.disk_core.specs.Volume.{IsRead}
 use Rattle.notes.specs.Lists.{at}
 use Rattle.wal_core.specs.Kept.{HasFlushed}
-use Rattle.wal_core.specs.LogViews.{log_counters, log_disk, log_down, log_first, log_flushed, log_next, log_recs}
+use Rattle.wal_core.specs.LogViews.{log_checkpoint, log_counters, log_disk, log_down, log_first, log_flushed, log_next, log_recs}
 use Rattle.wal_core.specs.declared.wal_log.WalLog.{WalLog}
 use Rattle.tx_core.specs.declared.entry.Entry.{Entry}
 use Rattle.tx_core.specs.declared.entry.Start.{Start}
@@ -17,6 +17,7 @@ use Rattle.tx_core.specs.Entries.{recs_in}
 use Rattle.tx_core.specs.Locks.{log_lock}
 use Rattle.engine_parts.specs.declared.part.Part.TheVariants as parts
 use Rattle.engine_parts.specs.Parts.{IsLogOf}
+use Rattle.engine_parts.specs.Stand.{IsFirstKept, MayForgetThere}
 use Rattle.engine_dumps.specs.Shown.{AreLogBytes, HasFailed, ShowsLog}
 
 module _ {D : Type 0} {g : logs.Ghosts D} where
@@ -28,6 +29,7 @@ module _ {D : Type 0} {g : logs.Ghosts D} where
     pub flushed : log_flushed new ≡ log_flushed old
     pub counters : log_counters new ≡ log_counters old
     pub down : log_down new ≡ log_down old
+    pub checkpoint : log_checkpoint new ≡ log_checkpoint old
     pub count : g.faults (log_disk old) ≤ g.faults (log_disk new)
     pub images : IsTrue g.tells → NoMore (g.images (log_disk old)) (g.images (log_disk new))
 
@@ -54,7 +56,8 @@ module _ {D : Type 0} {g : logs.Ghosts D} where
           },
           k.3,
         );
-    first_is = subst (λ z. z < start.from) (sym same.first) s.first_is;
+    first_is = subst (λ z. IsFirstKept start es z) (sym same.first) s.first_is;
+    alone = subst (λ z. MayForgetThere start es z) (sym same.checkpoint) s.alone;
   }
 
   -- what was read is of the volume as it reads, which is what a crash may leave

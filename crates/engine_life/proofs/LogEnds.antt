@@ -1,5 +1,5 @@
 -- The log of a life that is over, as recovery asks of it.
-use Rattle.std.proofs.Common.{Bool, IsTrue, List, Option, Some, [], ap, append-nil, arith, inl, refl, subst, sym, take, ℕ, ◌++◌, ◌+◌, ◌-◌, ◌∙◌, ◌≡◌}
+use Rattle.std.proofs.Common.{Bool, IsTrue, List, Option, Some, [], ap, append-nil, arith, refl, subst, sym, take, ℕ, ◌++◌, ◌+◌, ◌-◌, ◌∙◌, ◌≡◌}
 use Rattle.std.specs.List.{slice_get}
 use Rattle.disk_core.specs.Volume.{Volume}
 use Rattle.notes.specs.Lists.{at}
@@ -14,6 +14,7 @@ use Rattle.tx_core.specs.declared.entry.Start.{Start}
 use Rattle.tx_core.specs.EngineInvariant.{EngineInvariant}
 use Rattle.tx_core.specs.Entries.{flushed_to, recs_in}
 use Rattle.tx_core.specs.Locks.{log_lock}
+use Rattle.wal_core.specs.declared.checkpoint.LastCheckpoint.{LastCheckpoint}
 use Rattle.wal_core.specs.Kept.{KeepsRecords}
 use Rattle.recoverable.specs.Fit.{KeptLog}
 use Rattle.recoverable.specs.Laws.{LogOf}
@@ -48,17 +49,17 @@ module _ (start : Start) (number : ℕ) (past : List Rec) (g : GivesStart start 
       }
 
 -- what the log's value holds when the life ends
-pub log_held : (start : Start) (lists : List (List Entry)) (tells : Bool) (faults : ℕ) (images : Volume → Type 0) (recs : List Rec) (next first flushed : ℕ) (counters : Option Counters) (down : Option ℕ) → EngineInvariant start lists
-    → LogStands start tells faults images recs next first flushed counters down (at lists log_lock) → IsTrue tells → IsTrue start.told
+pub log_held : (start : Start) (lists : List (List Entry)) (tells : Bool) (faults : ℕ) (images : Volume → Type 0) (recs : List Rec) (next first flushed : ℕ) (counters : Option Counters) (down : Option ℕ) (checkpoint : Option LastCheckpoint) → EngineInvariant start lists
+    → LogStands start tells faults images recs next first flushed counters down checkpoint (at lists log_lock) → IsTrue tells → IsTrue start.told
     → (kept : KeptLog) × LogHolds start (at lists log_lock) kept recs next first images × (kept.flushed ≡ flushed_to start (at lists log_lock))
-log_held start lists tells faults images recs next first flushed counters down k s tells_it told =
+log_held start lists tells faults images recs next first flushed counters down checkpoint k s tells_it told =
     let held = s.kept tells_it in
     let g = held.3 told in (
       log_behind start lists (before start held.0 held.1 g),
       record {
         is_of = log_ends start lists (before start held.0 held.1 g) k (begins start held.0 held.1 g);
         keeps = subst (λ z. KeepsRecords held.0 (held.1 ++ recs_in (at lists log_lock)) recs next first z images) s.flushed_is held.2;
-        beginning = inl s.first_is;
+        beginning = s.first_is;
       },
       refl,
     )

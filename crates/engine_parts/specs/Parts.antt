@@ -6,7 +6,7 @@ use Rattle.store_pages.specs.declared.page_rule.PageRule as rules
 use Rattle.slru_bank.specs.declared.bank.SlruBank.{SlruBank}
 use Rattle.slru_bank.specs.Calls.{cutoff_of, faults_of, last_page, pages_of}
 use Rattle.wal_core.specs.declared.wal_log.WalLog.{WalLog}
-use Rattle.wal_core.specs.LogViews.{log_counters, log_disk, log_down, log_first, log_flushed, log_next, log_recs}
+use Rattle.wal_core.specs.LogViews.{log_checkpoint, log_counters, log_disk, log_down, log_first, log_flushed, log_next, log_recs}
 use Rattle.tx_core.specs.declared.entry.Entry.{Entry}
 use Rattle.tx_core.specs.declared.entry.Start.{Start}
 use Rattle.tx_core.specs.Locks.{log_lock, proc_lock, subtrans_lock, xact_lock}
@@ -20,7 +20,7 @@ module _ {D : Type 0} {g : logs.Ghosts D} where
   abbrev pub IsLogOf : Start → WalLog D g → List Entry → Type 0
   IsLogOf start log es =
       LogStands start g.tells (g.faults (log_disk log)) (g.images (log_disk log)) (log_recs log) (log_next log)
-      (log_first log) (log_flushed log) (log_counters log) (log_down log) es
+      (log_first log) (log_flushed log) (log_counters log) (log_down log) (log_checkpoint log) es
 
 module _ {P O : Type 0} {g : disks.Ghosts P} {r : rules.Ghosts O} where
   -- a bank of pg_xact stands for the list of its lock

@@ -10,6 +10,7 @@ use Rattle.tx_model.specs.declared.report.Life.{Life}
 use Rattle.tx_core.specs.declared.entry.Entry.{Entry}
 use Rattle.tx_core.specs.declared.entry.Start.{Start}
 use Rattle.tx_core.specs.Entries.{recs_in}
+use Rattle.wal_core.specs.declared.checkpoint.LastCheckpoint.{LastCheckpoint}
 use Rattle.wal_core.specs.Kept.{HasFlushed, HasRecords, OpensToRecords}
 use Rattle.wal_core.specs.Log.{history_in}
 use Rattle.wal_core.specs.Opening.{History, Opened, opened}
@@ -48,10 +49,10 @@ module _ (life : Life) (number : ℕ) (all earlier : List Rec) (whole : all ≡ 
 
 -- the log of a life stands for its list: so its volume, which is one of its images
 pub log_holds : {L : Type 0} (l : logs.Ghosts L) (log : L) (life : Life) (start : Start) (first : Rec) (es : List Entry) (faults next kept : ℕ)
-    (counters : Option Counters) (down : Option ℕ) → start.from ≡ life.from + 1 → start.logged ≡ first ∷ []
-    → LogStands start l.tells faults (l.images log) life.recs next kept life.flushed counters down es
+    (counters : Option Counters) (down : Option ℕ) (checkpoint : Option LastCheckpoint) → start.from ≡ life.from + 1 → start.logged ≡ first ∷ []
+    → LogStands start l.tells faults (l.images log) life.recs next kept life.flushed counters down checkpoint es
     → life.from < life.flushed → IsTrue l.tells → l.images log (l.reads log) → LogHolds l life log
-log_holds l log life start first es faults next kept counters down from logged stands begun tells now =
+log_holds l log life start first es faults next kept counters down checkpoint from logged stands begun tells now =
     let k = stands.kept tells in
     let own = k.2 in
     let size : length life.recs ≡ length (first ∷ recs_in es) = ap (λ (t : List Rec). length t) (stands.recs_are ∙ ap (λ (t : List Rec). t ++ recs_in es) logged) in

@@ -27,7 +27,7 @@ put_back-requires-clause-stands g c =
     subst (λ (z : ℕ). (z ≡ log_lock) × IsLogOf start c.dump-found.new.self (at within.seen z)) (sym i.cell) (
       refl,
       log_same start c.deref_mut-log.result.now c.dump-found.new.self (at within.seen log_lock)
-          (record { recs = r.recs; next = r.next; first = r.first; flushed = r.flushed; counters = r.counters; down = r.stays; count = r.faults; images = r.crash }) stands,
+          (record { recs = r.recs; next = r.next; first = r.first; flushed = r.flushed; counters = r.counters; down = r.stays; checkpoint = r.checkpoint; count = r.faults; images = r.crash }) stands,
     )
 
 pub returns-clause-stays : goal.returns-clause-stays
@@ -59,7 +59,7 @@ returns-clause-fault g c =
     let i = c.take_log-held.ensures.inside in
     let r = c.dump-found.ensures in
     let log = c.deref_mut-log.result.now in
-    let same : IsSameLog log c.dump-found.new.self = record { recs = r.recs; next = r.next; first = r.first; flushed = r.flushed; counters = r.counters; down = r.stays; count = r.faults; images = r.crash } in
+    let same : IsSameLog log c.dump-found.new.self = record { recs = r.recs; next = r.next; first = r.first; flushed = r.flushed; counters = r.counters; down = r.stays; checkpoint = r.checkpoint; count = r.faults; images = r.crash } in
     on_err_weaker c.dump-found.result (λ f. (
       f.0,
       subst (λ (lists : List (List Entry)). HasFailed g.L.LogDisk g.P.PageDisk start lists log_lock) i.seen

@@ -1,0 +1,4 @@
+pub mod Aloneness
+pub mod LogSteps
+pub mod BankSteps
+pub mod Refusals

@@ -1,5 +1,5 @@
 -- What new parts stand for.
-use Rattle.std.proofs.Common.{Box, Global, ℕ, zero, suc, ◌/◌, option_map, length-append, Result, Ok, Err, is_ok, IsOk, if◌then◌else◌, insert, ◌+◌, ◌*◌, ◌%◌, ◌^◌, ◌<◌, ◌≤◌, ◌≡◌, ◌⊎◌, ⊎_elim, Bool, false, true, cond, IsTrue, List, [], ◌∷◌, ◌++◌, Option, None, Some, Contains, append-nil, drop, length, map, max, get_or, inl, refl, take, sym, ap, subst, ◌∙◌, arith}
+use Rattle.std.proofs.Common.{Box, Global, ℕ, zero, suc, ◌/◌, option_map, length-append, Result, Ok, Err, is_ok, IsOk, if◌then◌else◌, insert, ◌+◌, ◌*◌, ◌%◌, ◌^◌, ◌<◌, ◌≤◌, ◌≡◌, ◌⊎◌, ⊎_elim, Bool, false, true, cond, IsTrue, List, [], ◌∷◌, ◌++◌, Option, None, Some, Contains, append-nil, drop, length, map, max, get_or, inl, refl, take, tt, sym, ap, subst, ◌∙◌, arith}
 use Rattle.std.proofs.lemmas.Option.{slice_get-map, get_or_from_slice_get}
 use Rattle.std.specs.List.{slice_get}
 use Rattle.disk_core.specs.declared.log_disk.LogDisk as logs
@@ -252,7 +252,7 @@ vacant_new L P l p c b bank k few counts reached = record {
   proc = λ e. absurd (omega (arith, e));
   xact = λ n e. absurd (omega (arith, e, few));
   subtrans = λ n e. absurd (omega (arith, e, few));
-  unused = refl;
+  unused = tt;
 }
 
 second_new : (L P : Type 0) (l : logs.Ghosts L) (p : disks.Ghosts P) (c : Cluster) (b : Beginning) → IsNewPart {L = L} {P = P} {l = l} {p = p} c b 2 parts.Vacant
@@ -261,7 +261,7 @@ second_new L P l p c b counts reached = record {
   proc = λ e. absurd (omega (arith, e));
   xact = λ n e. absurd (omega (arith, e));
   subtrans = λ n e. absurd (omega (arith, e));
-  unused = refl;
+  unused = tt;
 }
 
 -- the table of a new life

@@ -16,8 +16,7 @@ use Rattle.tx_core.specs.ProgramOrder.{ComesAfter}
 use Rattle.engine_parts.specs.declared.part.Part.{Part}
 
 module _ {H L P : Type 0} {l : logs.Ghosts L} {p : disks.Ghosts P} where
-  -- The pass is the host's and has the names of all sessions. It is inside no lock, and it is the turn of this step of
-  -- the host at each of them.
+  -- The pass is the host's and has the names of all sessions, and is inside no lock. What the host adds is by this.
   pub record IsAlone (hall : Hall H (Part L P l p) Entry Start) (by : By) (pass : Token (Part L P l p) Entry Start)
       : Type 0 where
     pub own : IsOf hall pass
@@ -27,7 +26,7 @@ module _ {H L P : Type 0} {l : logs.Ghosts L} {p : disks.Ghosts P} where
     pub name : (view pass).name ≡ (start_of hall).sessions
     pub session : by.session ≡ (start_of hall).sessions
     pub all : (n : ℕ) → n ≤ (start_of hall).sessions → Holds (view pass) n
-    pub turns : (lock : ℕ) → ComesAfter (at (view pass).seen lock) by
+    pub no_command : by.command ≡ 0
 
   -- it is inside this lock, and has learned nothing new
   pub record IsIn (hall : Hall H (Part L P l p) Entry Start) (lock : ℕ) (old new : Token (Part L P l p) Entry Start)

@@ -29,8 +29,9 @@ use Rattle.tx_model.specs.Lines.{has_line, span_of}
 use Rattle.tx_model.specs.Replies.{IsWarned}
 use Rattle.life_law.specs.Dumps.{IsLawfulBetween}
 use Rattle.life_law.specs.Facts.{Facts}
+use Rattle.life_law.specs.Checkpoints.{IsLawfulCheckpoint}
 use Rattle.life_law.specs.LawfulLife.{facts_of}
-use Rattle.life_law.specs.Laws.{IsLawful, lines_of}
+use Rattle.life_law.specs.Laws.{IsLawful}
 use Rattle.life_law.specs.LifeLog.{IsAmong, IsLogOf, IsRecordOf, ends_top, IsTransaction}
 use Rattle.life_law.specs.Lines.{IsLawfulLine, IsLawfulRound}
 use Rattle.life_law.specs.Pending.{IsOpenAsTold, pending}
@@ -108,6 +109,10 @@ IsFiled e = Unit {0}
 abbrev IsTopAt : ℕ → ℕ → Type 0
 IsTopAt i id = ((i ≡ 0) × (id ≡ 4)) ⊎ ((i ≡ 1) × (id ≡ 3))
 
+abbrev number_in : Rec → ℕ
+number_in (records.Checkpoint number counters) = number
+number_in rec = 0
+
 its_log : IsLogOf 0 worked_base worked_events (recs_with both_records) 2 80
 its_log = record {
   rest = both_records;
@@ -118,11 +123,20 @@ its_log = record {
       (λ t. ⊎_elim (λ (e : records.Commit 3 [] ≡ rec). subst (IsRecordOf worked_base worked_events) e opened) (λ none. absurd none) t)
       (contains_has both_records rec k);
   once = λ i j id a b e f s t. apart i j id (top_at i a id e s) (top_at j b id f t);
+  numbered = own_number;
   committed = filed;
   count = omega arith;
   gate = omega arith;
 }
   where
+    own_number : (place number : ℕ) (counters : Counters) → slice_get (recs_with both_records) place ≡ Some (records.Checkpoint number counters) → number ≡ 0 + place
+    own_number zero number counters e =
+        let is : records.Checkpoint 0 worked_base ≡ records.Checkpoint number counters = cc in
+        sym (ap number_in is)
+    own_number (suc zero) number counters e = absurd cc
+    own_number (suc (suc zero)) number counters e = absurd cc
+    own_number (suc (suc (suc place))) number counters e = absurd cc
+
     ended : IsTransaction worked_events ends.Commit 4 []
     ended = record { session = 1; root = refl; ids = inr (2, by_at 1 3, refl, refl, refl) }
 
@@ -158,7 +172,7 @@ abbrev its_lines : List Line
 its_lines = flat_map lines_in worked_life.steps
 
 abbrev its_facts : Facts
-its_facts = facts_of true 4 worked_life.life its_lines
+its_facts = facts_of true 4 worked_life.life worked_life.steps
 
 no_abort : (top : ℕ) (subs : List ℕ) → Contains (recs_with both_records) (records.Abort top subs) → ⊥
 no_abort top subs k = ⊎_elim (λ (e : records.Checkpoint 0 worked_base ≡ records.Abort top subs). cc)
@@ -249,6 +263,10 @@ it_is_lawful = record {
       no_other = All-from_recursion (λ e. IsTrue (has_line its_lines e)) worked_events (refl, (refl, (refl, tt)));
     };
     dumps = places (λ before step. IsLawfulBetween its_facts (flat_map lines_in before) step) worked_life.steps (tt, (tt, tt));
+    checkpoints = record {
+      each = places (λ before step. IsLawfulCheckpoint its_facts (flat_map lines_in before) step) worked_life.steps (tt, (tt, tt));
+      left = refl;
+    };
     multis = refl;
     log = its_log;
     opened = its_open;
@@ -263,7 +281,7 @@ it_is_lawful = record {
 
 -- a line of the second round
 second_line : (answer saved again : Reply) (recs : List Rec) (w : IsLawful (life_with answer saved again recs)) (place : ℕ) (l : Line) → slice_get (second_lines answer saved again) place ≡ Some l →
-    IsLawfulLine (facts_of w.tells w.banks (life_with answer saved again recs).life (lines_of (life_with answer saved again recs))) (span_of worked_events first_lines (second_lines answer saved again)) (first_lines ++ take place (second_lines answer saved again)) l
+    IsLawfulLine (facts_of w.tells w.banks (life_with answer saved again recs).life (life_with answer saved again recs).steps) (span_of worked_events first_lines (second_lines answer saved again)) (first_lines ++ take place (second_lines answer saved again)) l
 second_line answer saved again recs w place l at = w.life.lawful.each 1 (steps.Round 2 (second_lines answer saved again)) refl place l at
 
 -- the record of session 1 stands among the first two
@@ -286,7 +304,7 @@ not_twice l = absurd (omega (arith, l))
 
 -- a line of the one round
 short_line : (h : List Event) (lines : List Line) (w : IsLawful (short_life h lines)) (place : ℕ) (l : Line) → slice_get lines place ≡ Some l →
-    IsLawfulLine (facts_of w.tells w.banks (short_life h lines).life (lines_of (short_life h lines))) (span_of h [] lines) (take place lines) l
+    IsLawfulLine (facts_of w.tells w.banks (short_life h lines).life (short_life h lines).steps) (span_of h [] lines) (take place lines) l
 short_line h lines w place l at = w.life.lawful.each 0 (steps.Round 1 lines) refl place l at
 
 -- savepoints that were given no ids have no event

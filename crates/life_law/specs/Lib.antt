@@ -7,6 +7,7 @@ pub mod Replies
 pub mod Lines
 pub mod Dumps
 pub mod LifeLog
+pub mod Checkpoints
 pub mod LawfulLife
 pub mod Laws
 pub mod Worked

@@ -42,6 +42,7 @@ asked_round (t ∷ turns) = asked.round (t ∷ turns) ∷ []
 -- what a directive asks for between two rounds
 abbrev pub asked_in : Item → List Asked
 asked_in (items.Dump what at size) = asked.dump what at size ∷ []
+asked_in items.Checkpoint = asked.checkpoint ∷ []
 asked_in _ = []
 
 -- what is asked for at a place: nothing behind the last item

@@ -77,7 +77,7 @@ opens start lists empty =
 pub sessions_known : SessionsKnown
 sessions_known start lists k lock e c =
     let turn = upheld_has (NeedsTurn start) lists lock e k.order.turns (contains_has (at lists lock) e c) in
-    ⊎_elim (λ (t : IsInTurn start turn.0 e.by). inl t.known) (λ (t : IsHostsTurn start turn.0 e.by × IsOfHost e.kind). inr (t.0.known, t.1)) turn.1
+    ⊎_elim (λ (t : IsInTurn start turn.0 e.by). inl t.known) (λ (t : IsHostsTurn start e.by × IsOfHost e.kind). inr (t.0.known, t.1)) turn.1
 
 pub asked_given : AskedGiven
 asked_given start lists session id state k a =

@@ -64,7 +64,7 @@ KindKeeps start seen lock by kind =
 -- and of one that the life's host adds in its turn
 abbrev pub HostKindKeeps : Start → List (List Entry) → ℕ → By → Kind → Type 0
 HostKindKeeps start seen lock by kind =
-    (lists : List (List Entry)) → EngineInvariant start lists → Knows session_of by.session seen lists → lock < length lists → at seen lock ≡ at lists lock → IsHostsTurn start (at seen lock) by
+    (lists : List (List Entry)) → EngineInvariant start lists → Knows session_of by.session seen lists → lock < length lists → at seen lock ≡ at lists lock → IsHostsTurn start by
     → EngineInvariant start (add lists lock (record { by = by; kind = kind }))
 
 -- before the first entry

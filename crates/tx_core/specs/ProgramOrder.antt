@@ -24,10 +24,10 @@ pub record IsInTurn (start : Start) (before : List Entry) (by : By) : Type 0 whe
   pub known : by.session < start.sessions
   pub after : ComesAfter before by
 
--- and a step of the life's host, whose number is the next one behind the sessions'
-pub record IsHostsTurn (start : Start) (before : List Entry) (by : By) : Type 0 where
+-- and a step of the life's host, whose number is the next one behind the sessions'; it has no commands
+pub record IsHostsTurn (start : Start) (by : By) : Type 0 where
   pub known : by.session ≡ start.sessions
-  pub after : ComesAfter before by
+  pub no_command : by.command ≡ 0
 
 abbrev pub IsCheckpoint : Rec → Type 0
 IsCheckpoint (records.Checkpoint number counters) = Unit {0}
@@ -45,7 +45,7 @@ IsOfHost kinds.Look = Unit {0}
 IsOfHost kind = ⊥
 
 abbrev pub NeedsTurn : Start → List (List Entry) → ℕ → List Entry → Entry → Type 0
-NeedsTurn start lists lock before e = IsInTurn start before e.by ⊎ (IsHostsTurn start before e.by × IsOfHost e.kind)
+NeedsTurn start lists lock before e = IsInTurn start before e.by ⊎ (IsHostsTurn start e.by × IsOfHost e.kind)
 
 -- the lock of the page that a change is made on
 abbrev pub change_lock : Start → Change → ℕ

@@ -14,6 +14,7 @@ pub mod Summing
 pub mod FewIds
 pub mod Standing
 pub mod OneFault
+pub mod HostFaults
 pub mod Between
 pub mod FaultLines
 pub mod LawfulReplies
@@ -23,3 +24,5 @@ pub mod Opened
 pub mod LawfulDumps
 pub mod LawfulLives
 pub mod Rounding
+pub mod PendingStays
+pub mod CheckpointsStay

@@ -1,18 +1,17 @@
 -- Checkpoints that were told stay told while the life goes on, and one more is told with them.
-use Rattle.std.proofs.Common.{Bool, IsTrue, List, None, Option, Some, [], ap, append-nil, append_assoc, arith, cond, eq-eqb, inl, inr, length, map, refl, subst, sym, zero, suc, take, ℕ, ⊎_elim, ◌+◌, ◌++◌, ◌∙◌, ◌∷◌, ◌≡◌, ◌≢◌, ◌⊎◌, ◌<◌, ◌≤◌, ◌==◌}
-use Rattle.std.specs.List.{AllByRecursion, cons_option, count_by, filter, filter_map, slice_get}
+use Rattle.std.proofs.Common.{Bool, List, None, Option, Some, [], ap, append-nil, append_assoc, arith, cond, eq-eqb, length, map, refl, subst, sym, take, ℕ, ⊎_elim, ◌+◌, ◌++◌, ◌∙◌, ◌∷◌, ◌≡◌, ◌<◌, ◌≤◌, ◌==◌}
+use Rattle.std.specs.List.{cons_option, count_by, filter, slice_get}
 use Rattle.std.proofs.lemmas.List.{map-append}
 use Rattle.std.proofs.lemmas.List.Elements.{filter-append, filter_map-append}
 use Rattle.std.proofs.lemmas.List.Sums.{sum_by-append, sum_by-cons}
 use Rattle.std.proofs.lemmas.Option.{slice_get_within}
-use Rattle.notes.specs.Lists.{Begins, Grows, at, own}
+use Rattle.notes.specs.Lists.{Grows, at, own}
 use Rattle.notes.proofs.Growing.{begins_same}
 use Rattle.tx_events.specs.declared.event.By.{By}
 use Rattle.tx_events.specs.declared.event.Event.{Event}
 use Rattle.tx_events.specs.declared.record.Counters.{Counters}
 use Rattle.tx_events.specs.declared.record.Rec.{Rec}
 use Rattle.tx_events.specs.declared.refusal.Refusal.TheVariants as refusals
-use Rattle.tx_events.specs.Places.{EachPlace}
 use Rattle.tx_events.proofs.ListSteps.{filter_all, le_or_over}
 use Rattle.tx_events.proofs.PlaceLemmas.{each_place_none, each_place_push}
 use Rattle.tx_model.specs.declared.reply.Reply.{Reply}
@@ -33,7 +32,7 @@ use Rattle.tx_core.proofs.Lasting.{history_grows}
 use Rattle.engine_parts.specs.declared.session.Session.{Session}
 use Rattle.engine_parts.specs.Stages.{pending_in}
 use Rattle.engine_parts.specs.Stand.{IsDownAt}
-use Rattle.session_promise.specs.Checkpoints.{AddsFor, Appends, AreCheckpointsTold, IsAnsweredIn, IsCheckpointTold, IsCommitting, IsNamed, IsPendingBehind, IsStepLeft, LeftStep, MayLeave, NamesLeast, WentCheckpoint, checkpoint_next, hosts_entries, is_down_fault}
+use Rattle.session_promise.specs.Checkpoints.{AddsFor, Appends, AreCheckpointsTold, IsAnsweredIn, IsCheckpointTold, IsCommitting, IsPendingBehind, IsStepLeft, LeftStep, MayLeave, NamesLeast, WentCheckpoint, checkpoint_next, hosts_entries, is_down_fault}
 use Rattle.session_promise.specs.CheckpointLaws.{CheckpointGoesOn, CheckpointsBegin, CheckpointsStayThroughDump, CheckpointsStayThroughRound, DumpsStayThroughCheckpoint, SoFarThroughCheckpoint}
 use Rattle.session_promise.specs.Promise.{recs_of}
 use Rattle.session_promise.specs.SoFar.{IsSoFar, round_of}

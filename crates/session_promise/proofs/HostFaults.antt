@@ -1,12 +1,11 @@
 -- The faults at which the host put the log down are told by checkpoints, and one at most is told by any step.
-use Rattle.std.proofs.Common.{Bool, inl, List, Some, [], ap, arith, cond, eq-eqb, eqb-true, false, length, refl, subst, sym, true, ℕ, ⊎_elim, ◌+◌, ◌<◌, ◌==◌, ◌||◌, ◌∷◌, ◌≡◌, ◌≤◌, ◌∙◌, IsTrue}
+use Rattle.std.proofs.Common.{Bool, inl, List, [], ap, arith, cond, eq-eqb, eqb-true, false, refl, subst, sym, true, ℕ, ⊎_elim, ◌<◌, ◌==◌, ◌||◌, ◌∷◌, ◌≡◌, ◌≤◌, ◌∙◌, IsTrue}
 use Rattle.std.specs.List.{count_by, filter, flat_map, list_any}
 use Rattle.std.proofs.lemmas.Bool.{false≢true, or_left}
 use Rattle.std.proofs.Math.Bool.{or-true}
 use Rattle.std.proofs.lemmas.List.Sums.{length-filter, sum_by-cons}
 use Rattle.std.proofs.lemmas.Option.{slice_get_within}
 use Rattle.notes.specs.Lists.{at}
-use Rattle.tx_events.specs.declared.event.By.{By}
 use Rattle.tx_events.proofs.ListSteps.{le_or_over}
 use Rattle.tx_events.proofs.Membership.{Has, any_has, contains_has, filter_has, has_any, has_contains, has_filter, has_place, has_right}
 use Rattle.tx_model.specs.declared.report.Line.{Line}

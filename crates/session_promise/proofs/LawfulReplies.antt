@@ -1,6 +1,6 @@
 -- What may be answered in the lists at the end is lawful.
 use Rattle.engine_parts.specs.Stages.{pending_in}
-use Rattle.std.proofs.Common.{Bool, Contains, IsTrue, List, [], ap, append_assoc, arith, inl, refl, subst, sym, zero, suc, ℕ, ◌++◌, ◌≡◌, ◌∙◌, ◌∷◌, is_some, false}
+use Rattle.std.proofs.Common.{Bool, IsTrue, List, [], append_assoc, arith, refl, sym, zero, suc, ℕ, ◌++◌, ◌≡◌, ◌∙◌, ◌∷◌, is_some, false}
 use Rattle.std.specs.List.{flat_map}
 use Rattle.std.proofs.lemmas.Bool.{false≢true, or_left}
 use Rattle.notes.specs.Lists.{Begins, Grows, at}
@@ -8,7 +8,7 @@ use Rattle.tx_events.specs.declared.event.By.{By}
 use Rattle.tx_events.specs.declared.refusal.Lock.{Lock}
 use Rattle.tx_events.specs.declared.refusal.Lock.TheVariants as locks
 use Rattle.tx_events.specs.declared.refusal.Refusal.TheVariants as refusals
-use Rattle.tx_events.proofs.Membership.{Has, any_has, contains_has, has_contains, has_filter, has_right}
+use Rattle.tx_events.proofs.Membership.{contains_has}
 use Rattle.tx_model.specs.declared.command.Command.{Command}
 use Rattle.tx_model.specs.declared.command.Command.TheVariants as commands
 use Rattle.tx_model.specs.declared.reply.Reply.{Reply}

@@ -19,6 +19,7 @@ pub mod Between
 pub mod FaultLines
 pub mod LawfulReplies
 pub mod LawfulSteps
+pub mod LawfulCheckpoints
 pub mod LawfulLog
 pub mod Opened
 pub mod LawfulDumps

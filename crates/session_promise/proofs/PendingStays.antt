@@ -1,12 +1,11 @@
 -- What is pending by the lines of some rounds stays so, while the life goes on.
-use Rattle.std.proofs.Common.{Bool, List, None, Option, Some, [], ap, arith, false, length, refl, subst, suc, sym, zero, ℕ, ⊎_elim, ◌+◌, ◌++◌, ◌<◌, ◌==◌, ◌∙◌, ◌∷◌, ◌≡◌, ◌≤◌, inl, inr}
-use Rattle.std.specs.List.{AllByRecursion, flat_map, slice_get}
+use Rattle.std.proofs.Common.{Bool, List, None, Some, [], ap, arith, false, length, refl, subst, suc, sym, zero, ℕ, ⊎_elim, ◌+◌, ◌++◌, ◌<◌, ◌∙◌, ◌∷◌, ◌≡◌, ◌≤◌, inl, inr}
+use Rattle.std.specs.List.{AllByRecursion, slice_get}
 use Rattle.std.proofs.lemmas.Bool.{false_from_ne_true}
 use Rattle.std.proofs.lemmas.Grind.{flat_map-append}
 use Rattle.notes.specs.Lists.{Grows}
 use Rattle.tx_events.specs.declared.event.Event.{Event}
 use Rattle.tx_events.specs.declared.record.Rec.{Rec}
-use Rattle.tx_events.specs.declared.refusal.Refusal.{Refusal}
 use Rattle.tx_events.specs.Events.{by_of, same_by}
 use Rattle.tx_events.proofs.ListSteps.{below_not, filter_none, le_or_over}
 use Rattle.tx_events.proofs.Membership.{all_from, has_place}
@@ -24,7 +23,7 @@ use Rattle.tx_core.proofs.Lasting.{history_grows}
 use Rattle.engine_parts.specs.declared.session.Session.{Session}
 use Rattle.session_promise.specs.Promise.{Promise, recs_of}
 use Rattle.session_promise.specs.SoFar.{IsSoFar}
-use Rattle.session_promise.specs.Told.{Told, ToldRound, all_lines, lines_by, lines_of, told_by, told_of}
+use Rattle.session_promise.specs.Told.{Told, ToldRound, all_lines, lines_of, told_by, told_of}
 use Rattle.session_promise.proofs.Growing.{all_lines_of, all_places}
 use Rattle.session_promise.proofs.LawfulSteps.{filter_twice}
 use Rattle.session_promise.proofs.PendingGrowth.{AreSettled, IsNotDown, pending_grows}

@@ -1,5 +1,5 @@
 -- Pages that aren't there, of banks to which nothing was done but that they were synced: they show nothing.
-use Rattle.std.proofs.Common.{List, None, Option, [], ap, append-nil, append_assoc, inl, refl, subst, sym, tt, ℕ, ⊎_elim, ◌+◌, ◌++◌, ◌∷◌, ◌≡◌, ◌⊎◌}
+use Rattle.std.proofs.Common.{List, None, Option, [], ap, append-nil, append_assoc, inl, refl, subst, sym, ℕ, ⊎_elim, ◌+◌, ◌++◌, ◌∷◌, ◌≡◌, ◌⊎◌}
 use Rattle.disk_core.specs.Pages.{Pages, page_bytes, zero_page}
 use Rattle.slru_bank.specs.Crash.{mixture_kept}
 use Rattle.tx_events.specs.declared.event.By.{By}

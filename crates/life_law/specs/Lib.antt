@@ -11,3 +11,4 @@ pub mod Checkpoints
 pub mod LawfulLife
 pub mod Laws
 pub mod Worked
+pub mod WorkedCheckpoints

@@ -1,5 +1,5 @@
 -- Pages that aren't there, of banks to which nothing was done but that they were synced: they show nothing.
-use Rattle.std.proofs.Common.{List, None, Option, [], ap, append-nil, append_assoc, inl, refl, subst, sym, ℕ, ⊎_elim, ◌+◌, ◌++◌, ◌∷◌, ◌≡◌, ◌⊎◌}
+use Rattle.std.proofs.Common.{List, None, Option, [], ap, append-nil, append_assoc, refl, subst, sym, ℕ, ⊎_elim, ◌+◌, ◌++◌, ◌∷◌, ◌≡◌, ◌⊎◌}
 use Rattle.disk_core.specs.Pages.{Pages, page_bytes, zero_page}
 use Rattle.slru_bank.specs.Crash.{mixture_kept}
 use Rattle.tx_events.specs.declared.event.By.{By}
@@ -11,7 +11,6 @@ use Rattle.recoverable.specs.Bytes.{StoredBytes}
 use Rattle.bank_follows.specs.Begins.{ShowsFirst}
 use Rattle.bank_follows.specs.Cells.{Cells, ImageShows, IsQuietOn, stored}
 use Rattle.bank_follows.specs.Ends.{IsOnlySynced}
-use Rattle.bank_follows.specs.Making.{IsGivenPage}
 use Rattle.bank_follows.specs.Near.{AreMadeNear}
 use Rattle.bank_follows.specs.Standing.{BankStands, KeepStanding}
 use Rattle.bank_follows.specs.Stores.{IsMemberAt, IsOffsetAt, member_cells, offset_cells}

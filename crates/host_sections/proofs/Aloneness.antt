@@ -23,15 +23,14 @@ use Rattle.tx_core.specs.Consequences.{IsHosts}
 use Rattle.tx_core.specs.EngineInvariant.{EngineInvariant}
 use Rattle.tx_core.specs.Entries.{session_of}
 use Rattle.tx_core.specs.Laws.{HostKindKeeps}
-use Rattle.tx_core.specs.ProgramOrder.{ComesAfter, IsHostsTurn}
+use Rattle.tx_core.specs.ProgramOrder.{IsHostsTurn}
 use Rattle.tx_core.proofs.Opening.{sessions_known}
 use Rattle.engine_parts.specs.declared.part.Part.{Part}
-use Rattle.engine_parts.specs.Holds as holds
-use Rattle.engine_parts.specs.Holds.{Enters, Knowledge}
+use Rattle.engine_parts.specs.Alone.{IsAlone, IsIn, StaysAlone}
+use Rattle.engine_parts.specs.Holds.{Enters, Knowledge, Leaves}
 use Rattle.engine_parts.specs.Law.{MayKeep, writer_of}
 use Rattle.engine_parts.specs.Parts.{PartStands}
 use Rattle.engine_parts.proofs.Holding.{enters, stood}
-use Rattle.host_sections.specs.Alone.{IsAlone, IsIn, Leaves}
 
 -- lists of lists that are the same at each place
 lists_equal : {E : Type 0} → (xs ys : List (List E)) → length xs ≡ length ys → ((k : ℕ) → at xs k ≡ at ys k) → xs ≡ ys
@@ -61,27 +60,11 @@ sees_same start v lists all m =
     let within : session_of e ≤ start.sessions = ⊎_elim (λ (low : e.by.session < start.sessions). omega (arith, low)) (λ (his : IsHosts start e). (let same = his.0 in omega (arith, same))) (sessions_known start lists m.law k e c) in
     (m.own_seen (session_of e) (all (session_of e) within)).entries k))
 
--- a step comes after itself
-after_push : (es : List Entry) (by : By) (e : Entry) → e.by ≡ by → ComesAfter es by → ComesAfter (es ++ e ∷ []) by
-after_push es by e own t =
-    subst (λ (l : List Entry). All (λ f. f.by.command ≤ by.command) l) (sym (filter-append (λ f. f.by.session == by.session) es (e ∷ [])))
-    (All-append (λ f. f.by.command ≤ by.command) (filter (λ f. f.by.session == by.session) es) (filter (λ f. f.by.session == by.session) (e ∷ [])) t (last (e.by.session == by.session)))
-  where
-    last : (b : Bool) → All (λ (f : Entry). f.by.command ≤ by.command) (cond b (e ∷ []) [])
-    last true = All-cons (λ (f : Entry). f.by.command ≤ by.command) e [] (let q : e.by.command ≡ by.command = ap (λ (b : By). b.command) own in omega arith) (All-nil (λ (f : Entry). f.by.command ≤ by.command))
-    last false = All-nil (λ (f : Entry). f.by.command ≤ by.command)
-
-pub after_add : (lists : List (List Entry)) (lock : ℕ) (by : By) (e : Entry) → lock < length lists → e.by ≡ by → ((k : ℕ) → ComesAfter (at lists k) by) → (k : ℕ) → ComesAfter (at (add lists lock e) k) by
-after_add lists lock by e inside own each k =
-    dite (ℕ_discrete k lock)
-    (λ (q : k ≡ lock). subst (λ z. ComesAfter (at (add lists lock e) z) by) (sym q) (subst (λ (t : List Entry). ComesAfter t by) (sym (at_here lists lock e inside)) (after_push (at lists lock) by e own (each lock))))
-    (λ q. subst (λ (t : List Entry). ComesAfter t by) (sym (at_else lists lock k e q)) (each k))
-
 module _ {H L P : Type 0} {l : logs.Ghosts L} {p : disks.Ghosts P} where
   -- so is what the host knows inside a lock
-  pub went_in : (hall : Hall H (Part L P l p) Entry Start) (lock : ℕ) (by : By) (old new : Token (Part L P l p) Entry Start) (part : Part L P l p) (v : Knowledge) → IsAlone hall by old → IsOf hall new → new.cell ≡ lock → Looked (view old) v
+  pub went_in : (hall : Hall H (Part L P l p) Entry Start) (lock : ℕ) (old new : Token (Part L P l p) Entry Start) (part : Part L P l p) (v : Knowledge) → IsAlone hall old → IsOf hall new → new.cell ≡ lock → Looked (view old) v
       → Entered session_of writer_of PartStands EngineInvariant (start_of hall) lock v part (view new) → IsIn hall lock old new
-  went_in hall lock by old new part v alone own cell looked entered =
+  went_in hall lock old new part v alone own cell looked entered =
       let into : Enters (start_of hall) lock (view old) (view new) = enters PartStands (start_of hall) lock (view old) v (view new) part alone.own.named looked entered in
       let held : v.holds ≡ (view old).holds = ap (λ (z : Knowledge). z.holds) looked.1 in
       let all : (n : ℕ) → n ≤ (start_of hall).sessions → Holds v n = λ n within. ap (λ (bs : List Bool). slice_index_or bs n false) held ∙ alone.all n within in
@@ -96,36 +79,30 @@ module _ {H L P : Type 0} {l : logs.Ghosts L} {p : disks.Ghosts P} where
         kept = into.kept;
       }
 
-  module _ (hall : Hall H (Part L P l p) Entry Start) (lock : ℕ) (by : By) (old within new : Token (Part L P l p) Entry Start) (alone : IsAlone hall by old) (i : IsIn hall lock old within) (own : IsOf hall new) where
+  module _ (hall : Hall H (Part L P l p) Entry Start) (lock : ℕ) (old within new : Token (Part L P l p) Entry Start) (alone : IsAlone hall old) (i : IsIn hall lock old within) (own : IsOf hall new) where
     -- alone again, with these lists
-    again : (lists : List (List Entry)) → (view new).stage ≡ (view old).stage → (view new).name ≡ (view within).name → (view new).holds ≡ (view within).holds → (view new).seen ≡ lists → ((k : ℕ) → ComesAfter (at lists k) by) → Leaves hall by lists old new
-    again lists free name held seen turns = record {
+    again : (lists : List (List Entry)) → (view new).stage ≡ (view old).stage → (view new).name ≡ (view within).name → (view new).holds ≡ (view within).holds → (view new).seen ≡ lists → StaysAlone hall lists old new
+    again lists free name held seen = record {
       alone = record {
         own = own;
         free = free ∙ alone.free;
         laid = alone.laid;
         banks = alone.banks;
         name = name ∙ (i.name ∙ alone.name);
-        session = alone.session;
         all = λ n within_all. ap (λ (bs : List Bool). slice_index_or bs n false) (held ∙ i.holds) ∙ alone.all n within_all;
-        turns = λ k. subst (λ (z : List (List Entry)). ComesAfter (at z k) by) (sym seen) (turns k);
       };
       seen = seen;
       holds = held ∙ i.holds;
     }
 
-    -- it left the lock with an entry of its step
-    pub went_out : (e : Entry) → e.by ≡ by → lock < length (view old).seen → holds.Leaves (start_of hall) lock e (view within) (view new) → Leaves hall by (add (view old).seen lock e) old new
-    went_out e mine inside left = again (add (view old).seen lock e) (left.free ∙ sym alone.free) left.name left.holds (left.seen ∙ ap (λ (z : List (List Entry)). add z lock e) i.seen) (after_add (view old).seen lock by e inside mine alone.turns)
+    -- it left the lock with an entry
+    pub went_out : (e : Entry) → Leaves (start_of hall) lock e (view within) (view new) → StaysAlone hall (add (view old).seen lock e) old new
+    went_out e left = again (add (view old).seen lock e) (left.free ∙ sym alone.free) left.name left.holds (left.seen ∙ ap (λ (z : List (List Entry)). add z lock e) i.seen)
 
     -- or with none
-    pub came_out : view new ≡ released (view within) → Leaves hall by (view old).seen old new
-    came_out is = again (view old).seen (ap (λ (z : Knowledge). z.stage) is ∙ sym alone.free) (ap (λ (z : Knowledge). z.name) is) (ap (λ (z : Knowledge). z.holds) is) (ap (λ (z : Knowledge). z.seen) is ∙ i.seen) alone.turns
-
-  -- whose turn it is, where the host has seen all
-  pub turn_of : (hall : Hall H (Part L P l p) Entry Start) (lock : ℕ) (by : By) (old within : Token (Part L P l p) Entry Start) → IsAlone hall by old → IsIn hall lock old within → IsHostsTurn (start_of hall) (at (view within).seen lock) by
-  turn_of hall lock by old within alone i = record { known = alone.session; after = subst (λ (z : List (List Entry)). ComesAfter (at z lock) by) (sym i.seen) (alone.turns lock) }
+    pub came_out : view new ≡ released (view within) → StaysAlone hall (view old).seen old new
+    came_out is = again (view old).seen (ap (λ (z : Knowledge). z.stage) is ∙ sym alone.free) (ap (λ (z : Knowledge). z.name) is) (ap (λ (z : Knowledge). z.holds) is) (ap (λ (z : Knowledge). z.seen) is ∙ i.seen)
 
 -- an entry of the host's step may be added where the law of its kind says so
-pub may_add : (start : Start) (seen : List (List Entry)) (lock : ℕ) (by : By) (kind : Kind) (e : Entry) → e ≡ record { by = by; kind = kind } → HostKindKeeps start seen lock by kind → IsHostsTurn start (at seen lock) by → MayKeep start seen lock e
+pub may_add : (start : Start) (seen : List (List Entry)) (lock : ℕ) (by : By) (kind : Kind) (e : Entry) → e ≡ record { by = by; kind = kind } → HostKindKeeps start seen lock by kind → IsHostsTurn start by → MayKeep start seen lock e
 may_add start seen lock by kind e is keeps turn = subst (MayKeep start seen lock) (sym is) (λ lists k knows inside whole. keeps lists k knows inside whole turn)

@@ -1,5 +1,5 @@
 -- What the host's critical sections add to the lists, by what the log or a bank answered.
-use Rattle.std.specs.Prelude.{◌≡◌, ℕ, ◌+◌, List, length, Result, Ok, Err}
+use Rattle.std.specs.Prelude.{◌≡◌, ℕ, ◌+◌, ◌<◌, ◌⊎◌, List, length, Result, Ok, Err}
 use Rattle.disk_core.specs.Faults.{HasRisen}
 use Rattle.notes.specs.Lists.{add, at}
 use Rattle.tx_events.specs.declared.event.By.{By}
@@ -11,7 +11,7 @@ use Rattle.tx_core.specs.declared.entry.LogCall.TheVariants as calls
 use Rattle.tx_core.specs.declared.entry.Start.{Start}
 use Rattle.tx_core.specs.Entries.{recs_in}
 use Rattle.tx_core.specs.FaultsRise.{faults_told}
-use Rattle.tx_core.specs.Locks.{log_lock}
+use Rattle.tx_core.specs.Locks.{log_lock, members_lock, offsets_lock}
 use Rattle.tx_core.specs.StaysDown.{IsUp}
 use Rattle.slru_bank.specs.declared.refusal.BankRefusal.{BankRefusal}
 use Rattle.slru_bank.specs.declared.refusal.BankRefusal.TheVariants as bank_refusals
@@ -34,6 +34,10 @@ forget_by by number = record { by = by; kind = kinds.Forget number }
 
 abbrev pub forget_fault_by : By → ℕ → ℕ → Entry
 forget_fault_by by number count = record { by = by; kind = kinds.LogFault (calls.Forget number) count }
+
+-- a bank of offsets or of members
+abbrev pub IsMultiBank : Start → ℕ → Type 0
+IsMultiBank start lock = (bank : ℕ) × (bank < start.banks) × ((lock ≡ offsets_lock bank) ⊎ (lock ≡ members_lock bank))
 
 -- the number of the log's next record
 abbrev pub next_number : Start → List (List Entry) → ℕ

@@ -5,12 +5,13 @@ ghost use Rattle.notes.specs.Lists.{at};
 ghost use Rattle.tx_events.specs.declared.record.Rec.TheVariants as records;
 ghost use Rattle.tx_core.specs.Laws.{StaysBase};
 ghost use Rattle.tx_core.specs.Locks.{log_lock};
+ghost use Rattle.tx_core.specs.ProgramOrder.{IsHostsTurn};
 ghost use Rattle.tx_core.specs.RecordsFollow.{CheckpointOf};
 ghost use Rattle.tx_core.specs.SyncsBeforeForgets.{MayForget};
 ghost use Rattle.wal_core.specs.LogViews.{log_disk};
 ghost use Rattle.wal_records.specs.Spelling.{AreCounters};
+ghost use Rattle.engine_parts.specs.Alone.{IsAlone};
 ghost use Rattle.engine_parts.specs.Stand.{EndsInCheckpoint};
-ghost use Rattle.host_sections.specs.Alone.{IsAlone};
 ghost use Rattle.host_sections.specs.HostEntries.{AddsCheckpoint, AddsFlush, AddsForget, checkpoint_by, flush_by, forget_by, forget_fault_by, next_number};
 
 use crate::home::take_log;
@@ -59,12 +60,13 @@ pub fn flush_records<R: Wait, L: LogDisk, P: PageDisk>(
     pass: &mut Pass<EngineLaw<L, P>>,
     by: By,
 ) -> Result<(), LogRefusal>
-    requires alone { IsAlone hall.now by pass.old }
-    ensures alone { IsAlone hall.now by pass.new }
+    requires alone { IsAlone hall.now pass.old }
+    requires turn { IsHostsTurn (start_of hall.now) by }
+    ensures alone { IsAlone hall.now pass.new }
     ensures holds { (view pass.new).holds ≡ (view pass.old).holds }
     ensures adds { AddsFlush (start_of hall.now) by (view pass.old).seen (view pass.new).seen result }
 {
-    let mut held = take_log(rt, hall, pass, by);
+    let mut held = take_log(rt, hall, pass);
     let log = &mut *held;
     let next = log.next();
     match log.flush() {
@@ -95,17 +97,18 @@ pub fn append_checkpoint<R: Wait, L: LogDisk, P: PageDisk>(
     by: By,
     counters: Counters,
 ) -> Result<u64, LogRefusal>
-    requires alone { IsAlone hall.now by pass.old }
+    requires alone { IsAlone hall.now pass.old }
+    requires turn { IsHostsTurn (start_of hall.now) by }
     requires lawful { AreCounters counters }
     requires base { StaysBase (start_of hall.now) (view pass.old).seen
         (records.Checkpoint (next_number (start_of hall.now) (view pass.old).seen) counters) }
     requires follows { CheckpointOf (start_of hall.now) (view pass.old).seen (at (view pass.old).seen log_lock)
         (next_number (start_of hall.now) (view pass.old).seen) counters }
-    ensures alone { IsAlone hall.now by pass.new }
+    ensures alone { IsAlone hall.now pass.new }
     ensures holds { (view pass.new).holds ≡ (view pass.old).holds }
     ensures adds { AddsCheckpoint (start_of hall.now) by counters (view pass.old).seen (view pass.new).seen result }
 {
-    let mut held = take_log(rt, hall, pass, by);
+    let mut held = take_log(rt, hall, pass);
     let log = &mut *held;
     let rec = Rec::Checkpoint {
         number: log.next(),
@@ -134,14 +137,15 @@ pub fn forget_log<R: Wait, L: LogDisk, P: PageDisk>(
     by: By,
     number: u64,
 ) -> Result<(), LogRefusal>
-    requires alone { IsAlone hall.now by pass.old }
+    requires alone { IsAlone hall.now pass.old }
+    requires turn { IsHostsTurn (start_of hall.now) by }
     requires ends { EndsInCheckpoint (start_of hall.now) (at (view pass.old).seen log_lock) number }
     requires may { MayForget (start_of hall.now) (view pass.old).seen (at (view pass.old).seen log_lock) number }
-    ensures alone { IsAlone hall.now by pass.new }
+    ensures alone { IsAlone hall.now pass.new }
     ensures holds { (view pass.new).holds ≡ (view pass.old).holds }
     ensures adds { AddsForget (start_of hall.now) by number (view pass.old).seen (view pass.new).seen result }
 {
-    let mut held = take_log(rt, hall, pass, by);
+    let mut held = take_log(rt, hall, pass);
     let log = &mut *held;
     match log.forget_before_checkpoint() {
         Ok(()) => {

@@ -1,5 +1,5 @@
 -- The worked life is lawful, and the wrong ones aren't.
-use Rattle.std.proofs.Common.{◌∙◌, ◌==◌, ◌≡◌, ◌⊎◌, ◌↔◌, ℕ, zero, suc, ◌<◌, ◌≤◌, List, [], ◌∷◌, ◌++◌, true, false, IsTrue, Contains, None, Some, refl, sym, ap, subst, inl, inr, ⊎_elim, arith, take, append-nil, append_assoc, length, slice_get, drop}
+use Rattle.std.proofs.Common.{◌∙◌, ◌==◌, ◌≡◌, ◌⊎◌, ◌↔◌, ℕ, zero, suc, ◌<◌, ◌≤◌, List, [], ◌∷◌, ◌++◌, ◌+◌, true, false, IsTrue, Contains, None, Some, refl, sym, ap, subst, inl, inr, ⊎_elim, arith, take, length, slice_get, drop}
 use Rattle.std.proofs.lemmas.Bool.{false≢true}
 use Rattle.std.proofs.lemmas.List.Elements.{All-from_recursion}
 use Rattle.std.specs.List.{flat_map}
@@ -13,11 +13,9 @@ use Rattle.tx_events.specs.declared.refusal.Refusal.{Refusal}
 use Rattle.tx_events.specs.declared.refusal.Refusal.TheVariants as refusals
 use Rattle.tx_events.specs.declared.xact_end.XactEnd.TheVariants as ends
 use Rattle.tx_events.specs.History.{ComesInTurn, IsLegal, MayCome}
-use Rattle.tx_events.specs.Places.{EachPlace}
 use Rattle.tx_events.specs.Running.{open_ids}
 use Rattle.tx_events.proofs.ListSteps.{below_not}
 use Rattle.tx_events.proofs.Membership.{Has, contains_has}
-use Rattle.tx_model.specs.declared.command.Command.{Command}
 use Rattle.tx_model.specs.declared.command.Command.TheVariants as commands
 use Rattle.tx_model.specs.declared.reply.Reply.TheVariants as replies
 use Rattle.tx_model.specs.declared.report.Line.{Line}
@@ -28,6 +26,7 @@ use Rattle.tx_model.specs.Asked.{Asked}
 use Rattle.tx_model.specs.Rounds.{StandFirst, lines_in}
 use Rattle.tx_model.specs.Lines.{has_line, span_of}
 use Rattle.tx_model.specs.Replies.{IsWarned}
+use Rattle.life_law.proofs.ByPlace.{places}
 use Rattle.life_law.specs.Dumps.{IsLawfulBetween}
 use Rattle.life_law.specs.Facts.{Facts}
 use Rattle.life_law.specs.Checkpoints.{IsLawfulCheckpoint}
@@ -41,20 +40,6 @@ use Rattle.tx_events.specs.Events.{by_of, given_by}
 use Rattle.tx_events.specs.Horizon.{oldest_id}
 use Rattle.tx_events.specs.Limits.{warn_limit}
 use Rattle.tx_model.specs.declared.reply.Reply.{Reply}
-
--- ---- place by place
-
-abbrev Placed : {X : Type 0} → (List X → X → Type 0) → List X → List X → Type 0
-Placed P before [] = Unit {0}
-Placed P before (x ∷ xs) = P before x × Placed P (before ++ x ∷ []) xs
-
-placed_at : {X : Type 0} (P : List X → X → Type 0) (before xs : List X) → Placed P before xs → (p : ℕ) (x : X) → slice_get xs p ≡ Some x → P (before ++ take p xs) x
-placed_at P before [] a p x e = absurd cc
-placed_at P before (y ∷ xs) a zero x e = let same : y ≡ x = cc in subst (P (before ++ [])) same (subst (λ b. P b y) (sym (append-nil before)) a.0)
-placed_at P before (y ∷ xs) a (suc p) x e = subst (λ b. P b x) (append_assoc before (y ∷ []) (take p xs)) (placed_at P (before ++ y ∷ []) xs a.1 p x e)
-
-places : {X : Type 0} (P : List X → X → Type 0) (xs : List X) → Placed P [] xs → EachPlace xs P
-places P xs a = placed_at P [] xs a
 
 -- ---- the worked life
 

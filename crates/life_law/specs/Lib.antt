@@ -11,3 +11,5 @@ pub mod Checkpoints
 pub mod LawfulLife
 pub mod Laws
 pub mod Worked
+pub mod WorkedCheckpoints
+pub mod WorkedRounds

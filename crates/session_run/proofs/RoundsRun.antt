@@ -76,7 +76,7 @@ module _ {H K L P : Type 0} {l : logs.Ghosts L} {p : disks.Ghosts P} (keep : kee
       }
 
   -- behind a dump
-  pub ran_dump : (hall : Hall H (Part L P l p) Entry Start) (before after : Host L P l p) (sessions : List Session) (names : List (List ℕ)) (what : DumpOf) (from size : ℕ) (reply : Reply) (all : List Asked) (first kept kept' : K) → StaysHome hall before after → AreHome hall after sessions → IsAnswered hall before what size reply → kept' ≡ keep.with_dump names kept (steps.Dump what from size reply) → HasRun keep hall before sessions names all first kept → HasRun keep hall after sessions names (all ++ asked.dump what from size ∷ []) first kept'
+  pub ran_dump : (hall : Hall H (Part L P l p) Entry Start) (before after : Host L P l p) (sessions : List Session) (names : List (List ℕ)) (what : DumpOf) (from size : ℕ) (reply : Reply) (all : List Asked) (first kept kept' : K) → StaysHome hall before after → AreHome hall after sessions → IsAnswered hall before what size reply → kept' ≡ keep.with_step names kept (steps.Dump what from size reply) → HasRun keep hall before sessions names all first kept → HasRun keep hall after sessions names (all ++ asked.dump what from size ∷ []) first kept'
   ran_dump hall before after sessions names what from size reply all first kept kept' stays home answer put r =
       let start = start_of hall in
       let lists = (view before.pass).seen in
@@ -98,7 +98,7 @@ module _ {H K L P : Type 0} {l : logs.Ghosts L} {p : disks.Ghosts P} (keep : kee
         told = dump_push 1 all r.steps what from size reply r.told;
         rounds_are = filter-append is_round r.steps (step ∷ []) ∙ (append-nil (filter is_round r.steps) ∙ r.rounds_are);
         dumps = subst (λ seen. AreDumpsTold start seen r.rounds (r.steps ++ step ∷ [])) (sym stays.seen) more;
-        kept_is = put ∙ ap (λ z. keep.with_dump names z step) r.kept_is ∙ sym (kept_push keep names first r.steps step);
+        kept_is = put ∙ ap (λ z. keep.with_step names z step) r.kept_is ∙ sym (kept_push keep names first r.steps step);
       }
 
   -- where none is asked for

@@ -38,7 +38,7 @@ module _ {K : Type 0} (k : keepers.Ghosts K) where
   with_steps names kept [] = kept
   with_steps names kept (steps.Round number lines ∷ rest) =
       with_steps names (k.with_lines names (k.with_round kept number) lines) rest
-  with_steps names kept (step ∷ rest) = with_steps names (k.with_dump names kept step) rest
+  with_steps names kept (step ∷ rest) = with_steps names (k.with_step names kept step) rest
 
 module _ {H K L P : Type 0} {l : logs.Ghosts L} {p : disks.Ghosts P} (k : keepers.Ghosts K) where
   -- The life goes on behind what was asked of it so far: its steps are the rounds and the dumps of that, and they were

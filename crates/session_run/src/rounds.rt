@@ -154,7 +154,7 @@ fn show_next<R: Wait, K: LineKeeper, L: LogDisk, P: PageDisk>(
         length: dump.length,
         reply,
     };
-    kept.add_dump(names, &step)
+    kept.add_step(names, &step)
 }
 
 /// Runs the rounds of a script, one after another, and the dumps between them, its sessions being these.

@@ -15,11 +15,11 @@ use Rattle.tx_core.specs.Locks.{xact_lock}
 use Rattle.tx_core.proofs.FaultCounts.{risen_past}
 use Rattle.tx_core.proofs.Quiet.{hosts_keep}
 use Rattle.engine_parts.specs.Faults.{fault_by}
-use Rattle.engine_parts.specs.Holds as holds
+use Rattle.engine_parts.specs.Holds.{Leaves}
 use Rattle.engine_parts.specs.Law.{MayKeep}
 use Rattle.engine_parts.specs.Parts.{IsXactOf}
 use Rattle.host_sections.specs.HostEntries.{AddsSync, sync_by}
-use Rattle.host_sections.proofs.Aloneness.{may_add, turn_of, went_out}
+use Rattle.host_sections.proofs.Aloneness.{may_add, went_out}
 use Rattle.host_sections.proofs.BankSteps.{xact_failed, xact_synced}
 use Rattle.host_sections.proofs.Refusals.{same_bank_err}
 use Rattle.host_sections.proofs.banks.sync_xact.Goals as goal
@@ -33,7 +33,7 @@ leave-requires-clause-cell g c = let cell = c.take_xact-held.ensures.inside.cell
 pub leave-requires-clause-session : goal.leave-requires-clause-session
 leave-requires-clause-session g c =
     let a = c.requires.alone in
-    ap session_of c.sync_note-sync.ensures ∙ (a.session ∙ (sym a.name ∙ sym c.take_xact-held.ensures.inside.name))
+    ap session_of c.sync_note-sync.ensures ∙ (c.requires.turn.known ∙ (sym a.name ∙ sym c.take_xact-held.ensures.inside.name))
 
 pub leave-requires-clause-may : goal.leave-requires-clause-may
 leave-requires-clause-may g c =
@@ -44,7 +44,7 @@ leave-requires-clause-may g c =
     subst (λ z. MayKeep start seen z c.sync_note-sync.result.value) (sym i.cell)
     (may_add start seen (xact_lock c.args.bank) c.args.by kinds.Sync c.sync_note-sync.result.value c.sync_note-sync.ensures
     ((hosts_keep start seen c.args.by).sync (xact_lock c.args.bank) (record { from = omega arith; to = omega (arith, low) }))
-    (turn_of c.args.hall.now (xact_lock c.args.bank) c.args.by c.args.pass.now c.take_xact-held.new.pass c.requires.alone i))
+    c.requires.turn)
 
 pub leave-requires-clause-stands : goal.leave-requires-clause-stands
 leave-requires-clause-stands g c =
@@ -68,8 +68,8 @@ returns-in-Ok-clause-alone g c =
     let wide = a.own.wide in
     let laid = a.laid in
     let low = c.requires.bank in
-    (went_out c.args.hall.now (xact_lock c.args.bank) c.args.by c.args.pass.now c.take_xact-held.new.pass c.leave.new.pass a i c.leave.ensures.own c.sync_note-sync.result.value (ap (λ (e : Entry). e.by) c.sync_note-sync.ensures) (omega (arith, wide, laid, low))
-    (subst (λ z. holds.Leaves (start_of c.args.hall.now) z c.sync_note-sync.result.value (view c.take_xact-held.new.pass) (view c.leave.new.pass)) i.cell c.leave.ensures.left)).alone
+    (went_out c.args.hall.now (xact_lock c.args.bank) c.args.pass.now c.take_xact-held.new.pass c.leave.new.pass a i c.leave.ensures.own c.sync_note-sync.result.value
+    (subst (λ z. Leaves (start_of c.args.hall.now) z c.sync_note-sync.result.value (view c.take_xact-held.new.pass) (view c.leave.new.pass)) i.cell c.leave.ensures.left)).alone
 
 pub returns-in-Ok-clause-holds : goal.returns-in-Ok-clause-holds
 returns-in-Ok-clause-holds g c = c.leave.ensures.left.holds ∙ c.take_xact-held.ensures.inside.holds
@@ -89,7 +89,7 @@ leave-requires-in-Err-clause-cell g c = let cell = c.take_xact-held.ensures.insi
 pub leave-requires-in-Err-clause-session : goal.leave-requires-in-Err-clause-session
 leave-requires-in-Err-clause-session g c =
     let a = c.requires.alone in
-    ap session_of c.fault_note-fault.ensures ∙ (a.session ∙ (sym a.name ∙ sym c.take_xact-held.ensures.inside.name))
+    ap session_of c.fault_note-fault.ensures ∙ (c.requires.turn.known ∙ (sym a.name ∙ sym c.take_xact-held.ensures.inside.name))
 
 pub leave-requires-in-Err-clause-may : goal.leave-requires-in-Err-clause-may
 leave-requires-in-Err-clause-may g c =
@@ -107,7 +107,7 @@ leave-requires-in-Err-clause-may g c =
     subst (λ z. MayKeep start seen z c.fault_note-fault.result.value) (sym i.cell)
     (may_add start seen (xact_lock bank) c.args.by (kinds.Fault (c.args.by ∷ []) [] None (faults_of n)) c.fault_note-fault.result.value noted
     ((hosts_keep start seen c.args.by).fault (xact_lock bank) (c.args.by ∷ []) (faults_of n) (record { from = omega arith; to = omega (arith, low) }) (record { own = has_contains (c.args.by ∷ []) c.args.by (inl refl); once = refl; each = tt }) risen)
-    (turn_of c.args.hall.now (xact_lock bank) c.args.by c.args.pass.now c.take_xact-held.new.pass c.requires.alone i))
+    c.requires.turn)
 
 pub leave-requires-in-Err-clause-stands : goal.leave-requires-in-Err-clause-stands
 leave-requires-in-Err-clause-stands g c =
@@ -132,8 +132,8 @@ returns-in-Err-clause-alone g c =
     let wide = a.own.wide in
     let laid = a.laid in
     let low = c.requires.bank in
-    (went_out c.args.hall.now (xact_lock c.args.bank) c.args.by c.args.pass.now c.take_xact-held.new.pass c.leave-in-Err.new.pass a i c.leave-in-Err.ensures.own c.fault_note-fault.result.value (ap (λ (e : Entry). e.by) c.fault_note-fault.ensures) (omega (arith, wide, laid, low))
-    (subst (λ z. holds.Leaves (start_of c.args.hall.now) z c.fault_note-fault.result.value (view c.take_xact-held.new.pass) (view c.leave-in-Err.new.pass)) i.cell c.leave-in-Err.ensures.left)).alone
+    (went_out c.args.hall.now (xact_lock c.args.bank) c.args.pass.now c.take_xact-held.new.pass c.leave-in-Err.new.pass a i c.leave-in-Err.ensures.own c.fault_note-fault.result.value
+    (subst (λ z. Leaves (start_of c.args.hall.now) z c.fault_note-fault.result.value (view c.take_xact-held.new.pass) (view c.leave-in-Err.new.pass)) i.cell c.leave-in-Err.ensures.left)).alone
 
 pub returns-in-Err-clause-holds : goal.returns-in-Err-clause-holds
 returns-in-Err-clause-holds g c = c.leave-in-Err.ensures.left.holds ∙ c.take_xact-held.ensures.inside.holds

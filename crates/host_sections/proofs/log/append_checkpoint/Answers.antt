@@ -17,12 +17,12 @@ use Rattle.tx_core.specs.StaysDown.{IsUp}
 use Rattle.tx_core.proofs.Quiet.{hosts_keep}
 use Rattle.wal_core.specs.Log.{counters_or_none}
 use Rattle.wal_core.specs.LogViews.{log_checkpoint, log_counters, log_disk, log_down, log_first, log_flushed, log_next, log_recs}
-use Rattle.engine_parts.specs.Holds as holds
+use Rattle.engine_parts.specs.Holds.{Leaves}
 use Rattle.engine_parts.specs.Law.{MayKeep}
 use Rattle.engine_parts.specs.Parts.{IsLogOf}
 use Rattle.engine_parts.proofs.Logging.{appends}
 use Rattle.host_sections.specs.HostEntries.{checkpoint_by, next_number}
-use Rattle.host_sections.proofs.Aloneness.{came_out, may_add, turn_of, went_out}
+use Rattle.host_sections.proofs.Aloneness.{came_out, may_add, went_out}
 use Rattle.host_sections.proofs.LogSteps.{log_same, may_append}
 use Rattle.host_sections.proofs.Refusals.{append_refused, not_down, same_err}
 use Rattle.host_sections.proofs.log.append_checkpoint.Goals as goal
@@ -44,7 +44,7 @@ leave-requires-clause-cell g c = let cell = c.take_log-held.ensures.inside.cell 
 pub leave-requires-clause-session : goal.leave-requires-clause-session
 leave-requires-clause-session g c =
     let a = c.requires.alone in
-    ap session_of c.checkpoint_note-mark.ensures ∙ (a.session ∙ (sym a.name ∙ sym c.take_log-held.ensures.inside.name))
+    ap session_of c.checkpoint_note-mark.ensures ∙ (c.requires.turn.known ∙ (sym a.name ∙ sym c.take_log-held.ensures.inside.name))
 
 pub leave-requires-clause-may : goal.leave-requires-clause-may
 leave-requires-clause-may g c =
@@ -60,7 +60,7 @@ leave-requires-clause-may g c =
     subst (λ z. MayKeep start seen z c.checkpoint_note-mark.result.value) (sym i.cell)
     (may_add start seen log_lock c.args.by (kinds.Append (records.Checkpoint c.in-Ok.number c.args.counters)) c.checkpoint_note-mark.result.value c.checkpoint_note-mark.ensures
     ((hosts_keep start seen c.args.by).checkpoint c.in-Ok.number c.args.counters base follows up)
-    (turn_of c.args.hall.now log_lock c.args.by c.args.pass.now c.take_log-held.new.pass c.requires.alone i))
+    c.requires.turn)
 
 pub leave-requires-clause-stands : goal.leave-requires-clause-stands
 leave-requires-clause-stands g c =
@@ -89,8 +89,8 @@ returns-in-Ok-clause-alone g c =
     let i = c.take_log-held.ensures.inside in
     let wide = a.own.wide in
     let laid = a.laid in
-    (went_out c.args.hall.now log_lock c.args.by c.args.pass.now c.take_log-held.new.pass c.leave.new.pass a i c.leave.ensures.own c.checkpoint_note-mark.result.value (ap (λ (e : Entry). e.by) c.checkpoint_note-mark.ensures) (omega (arith, wide, laid))
-    (subst (λ z. holds.Leaves (start_of c.args.hall.now) z c.checkpoint_note-mark.result.value (view c.take_log-held.new.pass) (view c.leave.new.pass)) i.cell c.leave.ensures.left)).alone
+    (went_out c.args.hall.now log_lock c.args.pass.now c.take_log-held.new.pass c.leave.new.pass a i c.leave.ensures.own c.checkpoint_note-mark.result.value
+    (subst (λ z. Leaves (start_of c.args.hall.now) z c.checkpoint_note-mark.result.value (view c.take_log-held.new.pass) (view c.leave.new.pass)) i.cell c.leave.ensures.left)).alone
 
 pub returns-in-Ok-clause-holds : goal.returns-in-Ok-clause-holds
 returns-in-Ok-clause-holds g c = c.leave.ensures.left.holds ∙ c.take_log-held.ensures.inside.holds
@@ -122,11 +122,11 @@ put_back-requires-clause-stands g c =
 
 pub returns-in-Err-clause-alone : goal.returns-in-Err-clause-alone
 returns-in-Err-clause-alone g c =
-    (came_out c.args.hall.now log_lock c.args.by c.args.pass.now c.take_log-held.new.pass c.put_back.new.pass c.requires.alone c.take_log-held.ensures.inside c.put_back.ensures.own.0 c.put_back.ensures.view).alone
+    (came_out c.args.hall.now log_lock c.args.pass.now c.take_log-held.new.pass c.put_back.new.pass c.requires.alone c.take_log-held.ensures.inside c.put_back.ensures.own.0 c.put_back.ensures.view).alone
 
 pub returns-in-Err-clause-holds : goal.returns-in-Err-clause-holds
 returns-in-Err-clause-holds g c =
-    (came_out c.args.hall.now log_lock c.args.by c.args.pass.now c.take_log-held.new.pass c.put_back.new.pass c.requires.alone c.take_log-held.ensures.inside c.put_back.ensures.own.0 c.put_back.ensures.view).holds
+    (came_out c.args.hall.now log_lock c.args.pass.now c.take_log-held.new.pass c.put_back.new.pass c.requires.alone c.take_log-held.ensures.inside c.put_back.ensures.own.0 c.put_back.ensures.view).holds
 
 pub returns-in-Err-clause-adds : goal.returns-in-Err-clause-adds
 returns-in-Err-clause-adds g c =
@@ -134,7 +134,7 @@ returns-in-Err-clause-adds g c =
     let old = (view c.args.pass.now).seen in
     let s = subst (λ l. IsLogOf start l (at old log_lock)) (sym c.deref_mut-log.ensures.value) c.take_log-held.ensures.stands in
     let a = c.in-Err.ensures in
-    let out = came_out c.args.hall.now log_lock c.args.by c.args.pass.now c.take_log-held.new.pass c.put_back.new.pass c.requires.alone c.take_log-held.ensures.inside c.put_back.ensures.own.0 c.put_back.ensures.view in
+    let out = came_out c.args.hall.now log_lock c.args.pass.now c.take_log-held.new.pass c.put_back.new.pass c.requires.alone c.take_log-held.ensures.inside c.put_back.ensures.own.0 c.put_back.ensures.view in
     append_refused start c.args.by c.args.counters old (view c.put_back.new.pass).seen c.in-Err.refusal out.seen
     (λ place q. (s.failed place (a.down place (ap Err q))).0)
     (λ other. s.up (not_down (log_down c.deref_mut-log.result.now) (λ m put. other m (same_err (a.is_down m put)))))

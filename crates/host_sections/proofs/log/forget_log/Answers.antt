@@ -15,11 +15,11 @@ use Rattle.tx_core.proofs.Quiet.{hosts_keep}
 use Rattle.wal_core.specs.LogViews.{log_checkpoint, log_disk, log_down, log_first}
 use Rattle.wal_core.specs.declared.checkpoint.LastCheckpoint.{LastCheckpoint}
 use Rattle.wal_core.specs.declared.refusal.LogRefusal.{LogRefusal}
-use Rattle.engine_parts.specs.Holds as holds
+use Rattle.engine_parts.specs.Holds.{Leaves}
 use Rattle.engine_parts.specs.Law.{MayKeep}
 use Rattle.engine_parts.specs.Parts.{IsLogOf}
 use Rattle.host_sections.specs.HostEntries.{AddsForget, forget_fault_by}
-use Rattle.host_sections.proofs.Aloneness.{came_out, may_add, turn_of, went_out}
+use Rattle.host_sections.proofs.Aloneness.{came_out, may_add, went_out}
 use Rattle.host_sections.proofs.LogSteps.{forget_fails, forgotten_stands, log_same}
 use Rattle.host_sections.proofs.Refusals.{first_is, not_down, refused_down, same_err}
 use Rattle.host_sections.proofs.log.forget_log.Goals as goal
@@ -40,7 +40,7 @@ leave-requires-clause-cell g c = let cell = c.take_log-held.ensures.inside.cell 
 pub leave-requires-clause-session : goal.leave-requires-clause-session
 leave-requires-clause-session g c =
     let a = c.requires.alone in
-    ap session_of c.forget_note-forget.ensures ∙ (a.session ∙ (sym a.name ∙ sym c.take_log-held.ensures.inside.name))
+    ap session_of c.forget_note-forget.ensures ∙ (c.requires.turn.known ∙ (sym a.name ∙ sym c.take_log-held.ensures.inside.name))
 
 pub leave-requires-clause-may : goal.leave-requires-clause-may
 leave-requires-clause-may g c =
@@ -54,7 +54,7 @@ leave-requires-clause-may g c =
     subst (λ z. MayKeep start seen z c.forget_note-forget.result.value) (sym i.cell)
     (may_add start seen log_lock c.args.by (kinds.Forget c.args.number) c.forget_note-forget.result.value c.forget_note-forget.ensures
     ((hosts_keep start seen c.args.by).forget c.args.number may up)
-    (turn_of c.args.hall.now log_lock c.args.by c.args.pass.now c.take_log-held.new.pass c.requires.alone i))
+    c.requires.turn)
 
 pub leave-requires-clause-stands : goal.leave-requires-clause-stands
 leave-requires-clause-stands g c =
@@ -77,8 +77,8 @@ returns-in-Ok-clause-alone g c =
     let i = c.take_log-held.ensures.inside in
     let wide = a.own.wide in
     let laid = a.laid in
-    (went_out c.args.hall.now log_lock c.args.by c.args.pass.now c.take_log-held.new.pass c.leave.new.pass a i c.leave.ensures.own c.forget_note-forget.result.value (ap (λ (e : Entry). e.by) c.forget_note-forget.ensures) (omega (arith, wide, laid))
-    (subst (λ z. holds.Leaves (start_of c.args.hall.now) z c.forget_note-forget.result.value (view c.take_log-held.new.pass) (view c.leave.new.pass)) i.cell c.leave.ensures.left)).alone
+    (went_out c.args.hall.now log_lock c.args.pass.now c.take_log-held.new.pass c.leave.new.pass a i c.leave.ensures.own c.forget_note-forget.result.value
+    (subst (λ z. Leaves (start_of c.args.hall.now) z c.forget_note-forget.result.value (view c.take_log-held.new.pass) (view c.leave.new.pass)) i.cell c.leave.ensures.left)).alone
 
 pub returns-in-Ok-clause-holds : goal.returns-in-Ok-clause-holds
 returns-in-Ok-clause-holds g c = c.leave.ensures.left.holds ∙ c.take_log-held.ensures.inside.holds
@@ -101,7 +101,7 @@ leave-requires-in-LogFault-clause-cell g c = let cell = c.take_log-held.ensures.
 pub leave-requires-in-LogFault-clause-session : goal.leave-requires-in-LogFault-clause-session
 leave-requires-in-LogFault-clause-session g c =
     let a = c.requires.alone in
-    ap session_of c.forget_fault_note-fault.ensures ∙ (a.session ∙ (sym a.name ∙ sym c.take_log-held.ensures.inside.name))
+    ap session_of c.forget_fault_note-fault.ensures ∙ (c.requires.turn.known ∙ (sym a.name ∙ sym c.take_log-held.ensures.inside.name))
 
 pub leave-requires-in-LogFault-clause-may : goal.leave-requires-in-LogFault-clause-may
 leave-requires-in-LogFault-clause-may g c =
@@ -120,7 +120,7 @@ leave-requires-in-LogFault-clause-may g c =
     subst (λ z. MayKeep start seen z c.forget_fault_note-fault.result.value) (sym i.cell)
     (may_add start seen log_lock c.args.by (kinds.LogFault (calls.Forget c.args.number) (d.faults (log_disk n))) c.forget_fault_note-fault.result.value noted
     ((hosts_keep start seen c.args.by).log_fault (calls.Forget c.args.number) (d.faults (log_disk n)) (subst (λ z. MayForget start z (at z log_lock) c.args.number) (sym i.seen) c.requires.may) (λ q. up) risen)
-    (turn_of c.args.hall.now log_lock c.args.by c.args.pass.now c.take_log-held.new.pass c.requires.alone i))
+    c.requires.turn)
 
 pub leave-requires-in-LogFault-clause-stands : goal.leave-requires-in-LogFault-clause-stands
 leave-requires-in-LogFault-clause-stands g c =
@@ -145,8 +145,8 @@ returns-in-LogFault-clause-alone g c =
     let i = c.take_log-held.ensures.inside in
     let wide = a.own.wide in
     let laid = a.laid in
-    (went_out c.args.hall.now log_lock c.args.by c.args.pass.now c.take_log-held.new.pass c.leave-in-LogFault.new.pass a i c.leave-in-LogFault.ensures.own c.forget_fault_note-fault.result.value (ap (λ (e : Entry). e.by) c.forget_fault_note-fault.ensures) (omega (arith, wide, laid))
-    (subst (λ z. holds.Leaves (start_of c.args.hall.now) z c.forget_fault_note-fault.result.value (view c.take_log-held.new.pass) (view c.leave-in-LogFault.new.pass)) i.cell c.leave-in-LogFault.ensures.left)).alone
+    (went_out c.args.hall.now log_lock c.args.pass.now c.take_log-held.new.pass c.leave-in-LogFault.new.pass a i c.leave-in-LogFault.ensures.own c.forget_fault_note-fault.result.value
+    (subst (λ z. Leaves (start_of c.args.hall.now) z c.forget_fault_note-fault.result.value (view c.take_log-held.new.pass) (view c.leave-in-LogFault.new.pass)) i.cell c.leave-in-LogFault.ensures.left)).alone
 
 pub returns-in-LogFault-clause-holds : goal.returns-in-LogFault-clause-holds
 returns-in-LogFault-clause-holds g c = c.leave-in-LogFault.ensures.left.holds ∙ c.take_log-held.ensures.inside.holds
@@ -187,11 +187,11 @@ put_back-requires-clause-stands g c =
 
 pub returns-in_default-clause-alone : goal.returns-in_default-clause-alone
 returns-in_default-clause-alone g c =
-    (came_out c.args.hall.now log_lock c.args.by c.args.pass.now c.take_log-held.new.pass c.put_back.new.pass c.requires.alone c.take_log-held.ensures.inside c.put_back.ensures.own.0 c.put_back.ensures.view).alone
+    (came_out c.args.hall.now log_lock c.args.pass.now c.take_log-held.new.pass c.put_back.new.pass c.requires.alone c.take_log-held.ensures.inside c.put_back.ensures.own.0 c.put_back.ensures.view).alone
 
 pub returns-in_default-clause-holds : goal.returns-in_default-clause-holds
 returns-in_default-clause-holds g c =
-    (came_out c.args.hall.now log_lock c.args.by c.args.pass.now c.take_log-held.new.pass c.put_back.new.pass c.requires.alone c.take_log-held.ensures.inside c.put_back.ensures.own.0 c.put_back.ensures.view).holds
+    (came_out c.args.hall.now log_lock c.args.pass.now c.take_log-held.new.pass c.put_back.new.pass c.requires.alone c.take_log-held.ensures.inside c.put_back.ensures.own.0 c.put_back.ensures.view).holds
 
 pub returns-in_default-clause-adds : goal.returns-in_default-clause-adds
 returns-in_default-clause-adds g c =
@@ -200,6 +200,6 @@ returns-in_default-clause-adds g c =
     let s = subst (λ l. IsLogOf start l (at old log_lock)) (sym c.deref_mut-log.ensures.value) c.take_log-held.ensures.stands in
     let f = c.in-Err.ensures in
     let down = refused_down c.in-Err.refusal c.in_default.not-LogFault (λ q. f.no_other.0 (ap Err q)) (λ q. f.no_other.1 (ap Err q)) (λ place q. f.no_other.2 place (ap Err q)) in
-    let out = came_out c.args.hall.now log_lock c.args.by c.args.pass.now c.take_log-held.new.pass c.put_back.new.pass c.requires.alone c.take_log-held.ensures.inside c.put_back.ensures.own.0 c.put_back.ensures.view in
+    let out = came_out c.args.hall.now log_lock c.args.pass.now c.take_log-held.new.pass c.put_back.new.pass c.requires.alone c.take_log-held.ensures.inside c.put_back.ensures.own.0 c.put_back.ensures.view in
     subst (λ (r : LogRefusal). AddsForget {T = _} start c.args.by c.args.number old (view c.put_back.new.pass).seen (Err r)) (sym down.1)
     (record { same = out.seen; is_down = (s.failed down.0 (f.down down.0 (ap Err down.1))).0 })

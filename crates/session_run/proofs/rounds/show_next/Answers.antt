@@ -29,10 +29,10 @@ returns-clause-home g c = home_shown c.args.hall.now c.args.host.now c.show.new.
 
 pub returns-clause-ran : goal.returns-clause-ran
 returns-clause-ran g c =
-    on_ok_weaker c.add_dump.result (λ put. λ all front r.
+    on_ok_weaker c.add_step.result (λ put. λ all front r.
     let home = home_shown c.args.hall.now c.args.host.now c.show.new.host c.args.sessions.now c.requires.home c.show.ensures.stays in
     let d = c.in-Some.dump in
-    let ran = ran_dump g.K.LineKeeper c.args.hall.now c.args.host.now c.show.new.host c.args.sessions.now c.args.names.now d.what d.at d.length c.in_ok-reply.reply all front c.args.kept.now c.add_dump.new.self
+    let ran = ran_dump g.K.LineKeeper c.args.hall.now c.args.host.now c.show.new.host c.args.sessions.now c.args.names.now d.what d.at d.length c.in_ok-reply.reply all front c.args.kept.now c.add_step.new.self
     c.show.ensures.stays home c.in_ok-reply.ensures.reply put r in
-    subst (λ added. HasRun g.K.LineKeeper c.args.hall.now c.show.new.host c.args.sessions.now c.args.names.now (all ++ added) front c.add_dump.new.self) (sym (ap asked_in c.in-Some.ensures.some)) ran)
-    c.add_dump.ensures
+    subst (λ added. HasRun g.K.LineKeeper c.args.hall.now c.show.new.host c.args.sessions.now c.args.names.now (all ++ added) front c.add_step.new.self) (sym (ap asked_in c.in-Some.ensures.some)) ran)
+    c.add_step.ensures

@@ -7,26 +7,20 @@ use Rattle.hall.specs.declared.pass.Token.{Token}
 use Rattle.hall.specs.declared.view.Stage.TheVariants.{Free, Inside}
 use Rattle.hall.specs.Calls.{IsOf, start_of, view}
 use Rattle.hall.specs.Rule.{Holds}
-use Rattle.notes.specs.Lists.{at}
-use Rattle.tx_events.specs.declared.event.By.{By}
 use Rattle.tx_core.specs.declared.entry.Entry.{Entry}
 use Rattle.tx_core.specs.declared.entry.Start.{Start}
 use Rattle.tx_core.specs.EngineInvariant.{EngineInvariant}
-use Rattle.tx_core.specs.ProgramOrder.{ComesAfter}
 use Rattle.engine_parts.specs.declared.part.Part.{Part}
 
 module _ {H L P : Type 0} {l : logs.Ghosts L} {p : disks.Ghosts P} where
-  -- The pass is the host's and has the names of all sessions, and is inside no lock. What the host adds is by this.
-  pub record IsAlone (hall : Hall H (Part L P l p) Entry Start) (by : By) (pass : Token (Part L P l p) Entry Start)
-      : Type 0 where
+  -- The pass is the host's and has the names of all sessions, and is inside no lock.
+  pub record IsAlone (hall : Hall H (Part L P l p) Entry Start) (pass : Token (Part L P l p) Entry Start) : Type 0 where
     pub own : IsOf hall pass
     pub free : (view pass).stage ≡ Free
     pub laid : hall.cells ≡ 3 + 4 * (start_of hall).banks
     pub banks : (start_of hall).banks ≤ 16
     pub name : (view pass).name ≡ (start_of hall).sessions
-    pub session : by.session ≡ (start_of hall).sessions
     pub all : (n : ℕ) → n ≤ (start_of hall).sessions → Holds (view pass) n
-    pub no_command : by.command ≡ 0
 
   -- it is inside this lock, and has learned nothing new
   pub record IsIn (hall : Hall H (Part L P l p) Entry Start) (lock : ℕ) (old new : Token (Part L P l p) Entry Start)
@@ -39,9 +33,9 @@ module _ {H L P : Type 0} {l : logs.Ghosts L} {p : disks.Ghosts P} where
     pub seen : (view new).seen ≡ (view old).seen
     pub kept : EngineInvariant (start_of hall) (view new).seen
 
-  -- it is alone still, and the lists are these
-  pub record Leaves (hall : Hall H (Part L P l p) Entry Start) (by : By) (lists : List (List Entry))
+  -- it is alone still, with the names that it had, and the lists are these
+  pub record StaysAlone (hall : Hall H (Part L P l p) Entry Start) (lists : List (List Entry))
       (old new : Token (Part L P l p) Entry Start) : Type 0 where
-    pub alone : IsAlone hall by new
+    pub alone : IsAlone hall new
     pub seen : (view new).seen ≡ lists
     pub holds : (view new).holds ≡ (view old).holds

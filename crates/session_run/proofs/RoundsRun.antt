@@ -39,6 +39,10 @@ use Rattle.session_promise.specs.SoFar.{IsSoFar}
 use Rattle.session_promise.specs.Told.{steps_of}
 use Rattle.session_promise.proofs.CheckpointsStay.{checkpoint_goes_on, checkpoints_begin, checkpoints_stay_dump, dumps_stay_checkpoint, so_far_checkpoint}
 use Rattle.session_promise.proofs.LawfulDumps.{dumps_stay}
+use Rattle.session_lang.specs.declared.script.Item.{Item}
+use Rattle.session_lang.specs.declared.script.Item.TheVariants as items
+use Rattle.session_lang.specs.Rounds.{asked_in}
+use Rattle.run_law.specs.Turns.{MayRun, MayShow}
 use Rattle.session_run.specs.Causes.{AreCheckpointsCounted}
 use Rattle.session_run.specs.Rounds.{AreParked, MayAdd}
 use Rattle.session_run.specs.GoesOn.{AreHome, GoesOn, HasRoundMore}
@@ -142,6 +146,10 @@ module _ {H K L P : Type 0} {l : logs.Ghosts L} {p : disks.Ghosts P} (keep : kee
   pub ran_same : (hall : Hall H (Part L P l p) Entry Start) (host : Host L P l p) (sessions : List Session) (names : List (List ℕ)) (all none : List Asked) (first kept : K) → none ≡ [] → HasRun keep hall host sessions names all first kept → HasRun keep hall host sessions names (all ++ none) first kept
   ran_same hall host sessions names all none first kept e r = subst (λ a. HasRun keep hall host sessions names a first kept) (sym (ap (λ n. all ++ n) e ∙ append-nil all)) r
 
+  -- as what is asked for is looked up
+  pub ran_as : (hall : Hall H (Part L P l p) Entry Start) (host : Host L P l p) (sessions : List Session) (names : List (List ℕ)) (all found sought : List Asked) (first kept : K) → found ≡ sought → HasRun keep hall host sessions names (all ++ found) first kept → HasRun keep hall host sessions names (all ++ sought) first kept
+  ran_as hall host sessions names all found sought first kept e r = subst (λ t. HasRun keep hall host sessions names (all ++ t) first kept) e r
+
   -- the sessions have run few commands
   pub ran_few : (hall : Hall H (Part L P l p) Entry Start) (host : Host L P l p) (sessions : List Session) (names : List (List ℕ)) (all : List Asked) (first kept : K) (count : ℕ) → HasRun keep hall host sessions names all first kept → length (turns_of_all (rounds_in all)) + count < 2 ^ 48 → MayAdd count sessions
   ran_few hall host sessions names all first kept count r few n d inside =
@@ -191,6 +199,18 @@ asked_may P [] zero d may a = may
 asked_may P [] (suc k) d may a = may
 asked_may P (x ∷ xs) zero d may a = a.0
 asked_may P (x ∷ xs) (suc k) d may a = asked_may P xs k d may a.1
+
+-- a dump that is found is one that may be shown
+pub dump_asked : (n : ℕ) (x : Item) (what : DumpOf) (from size : ℕ) → MayRun n x → asked.dump what from size ∷ [] ≡ asked_in x → MayShow what from size
+dump_asked n (items.Dump of place count) what from size may e =
+    let one : of ≡ what = cc in
+    let two : place ≡ from = cc in
+    let three : count ≡ size = cc in
+    subst (λ (t : DumpOf × ℕ × ℕ). MayShow t.0 t.1 t.2) (λ j. (one j, two j, three j)) may
+dump_asked n (items.Run s c) what from size may e = absurd cc
+dump_asked n items.Round what from size may e = absurd cc
+dump_asked n items.Checkpoint what from size may e = absurd cc
+dump_asked n (items.Crash how) what from size may e = absurd cc
 
 pub new_each : (sessions : List Session) → All IsNewSession sessions → (n : ℕ) (d : Session) → n < length sessions → IsNewSession (get_or sessions n d)
 new_each sessions new n d inside = All-get_or IsNewSession sessions n d inside new

@@ -67,10 +67,10 @@ module _ {H K L P : Type 0} {l : logs.Ghosts L} {p : disks.Ghosts P} (k : keeper
       → HasRun hall before old names asked first kept
       → HasRun hall after new names (asked ++ added) first kept'
 
-  -- so behind a directive
-  abbrev pub ShowsOn : Hall H (Part L P l p) Entry Start → List (List ℕ) → List Asked → Host L P l p → Host L P l p
+  -- so behind a directive that asks for something
+  abbrev pub AnswersOn : Hall H (Part L P l p) Entry Start → List (List ℕ) → List Asked → Host L P l p → Host L P l p
       → List Session → K → K → Type 0
-  ShowsOn hall names added before after sessions kept kept' =
+  AnswersOn hall names added before after sessions kept kept' =
       (asked : List Asked) (first : K)
       → HasRun hall before sessions names asked first kept
       → HasRun hall after sessions names (asked ++ added) first kept'

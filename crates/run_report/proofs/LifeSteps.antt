@@ -221,7 +221,7 @@ rounds_reach names k k' done told n t (asked.round turns ∷ all) (steps.Round n
     let says = all_apart (Sayable names) lines more y in
     let speak : MaySpeak None [] (speakers lines) = subst (MaySpeak None []) (sym (speakers_are lines ∙ ap sessions_of r.1)) (grouped_speak turns) in
     let spoke : AllByRecursion (λ x. x < cut.middle) (speakers (done ++ lines)) = subst (AllByRecursion (λ x. x < cut.middle)) (sym (map-append (λ (l : Line). l.by.session) done lines))
-        (both_all (λ x. x < cut.middle) (speakers done) (speakers lines) (lower k cut.middle (speakers done) (climbs_up k cut.middle (speakers lines) cut.front) low) (climbs_within k cut.middle (speakers lines) cut.front)) in
+    (both_all (λ x. x < cut.middle) (speakers done) (speakers lines) (lower k cut.middle (speakers done) (climbs_up k cut.middle (speakers lines) cut.front) low) (climbs_within k cut.middle (speakers lines) cut.front)) in
     let first = a_round names k cut.middle done told n t l ls a few b (omega arith) says.0 counted.0 speak cut.front in
     let rest = rounds_reach names cut.middle k' (done ++ lines) (told ++ steps.Round (n + 1) lines ∷ []) (n + 1) first.last all ss a few first.between r.2 f.1 d.1 says.1 counted.1 cut.behind (omega arith) spoke said.1 in
     let same : (told ++ steps.Round (n + 1) lines ∷ []) ++ ss ≡ told ++ steps.Round number lines ∷ ss = append_assoc told (steps.Round (n + 1) lines ∷ []) ss ∙ ap (λ i. told ++ steps.Round i lines ∷ ss) (sym r.0) in

@@ -57,7 +57,7 @@ module _ {I V : Type 0} (s : Cells I V) (Asked : ℕ → Type 0) (keeping : Keep
   through done (e ∷ rest) near all stands =
       let more = near_more done e.by near in
       let step = (keeping.keeps done (sync_of e.by) zeros zeros cutoff last tt tt (λ c left. left) (λ n. stands) more).syncs (quiet e.by) (λ q. refl)
-          (mixture_kept absent moment left_at tt zeros zeros (λ c left. left)) (λ c left q. ap page_bytes (left q)) in
+      (mixture_kept absent moment left_at tt zeros zeros (λ c left. left)) (λ c left q. ap page_bytes (left q)) in
       let whole : Stood ((done ++ sync_of e.by ∷ []) ++ rest) = through (done ++ sync_of e.by ∷ []) rest more all.1 step.behind in
       let same : sync_of e.by ≡ e = λ i. record { by = e.by; kind = sym all.0 i } in
       subst (λ (x : Entry). Stood (done ++ x ∷ rest)) same (subst Stood (append_assoc done (sync_of e.by ∷ []) rest) whole)

@@ -15,8 +15,8 @@ use Rattle.host_sections.proofs.LogSteps.{IsSameLog, log_same}
 use Rattle.engine_dumps.proofs.Logging.{log_failed, shows_log}
 use Rattle.engine_dumps.proofs.log.dump_log.Goals as goal
 
-pub take_log-held-requires-clause-alone : goal.take_log-held-requires-clause-alone
-take_log-held-requires-clause-alone g c = is_alone c.args.hall.now c.args.host.now c.requires.home
+pub take_log-held-requires : goal.take_log-held-requires
+take_log-held-requires g c = record { alone = is_alone c.args.hall.now c.args.host.now c.requires.home }
 
 pub put_back-requires-clause-inside : goal.put_back-requires-clause-inside
 put_back-requires-clause-inside g c = let i = c.take_log-held.ensures.inside in i.inside ∙ ap Inside (sym i.cell)

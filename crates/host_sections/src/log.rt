@@ -12,7 +12,7 @@ ghost use Rattle.wal_core.specs.LogViews.{log_disk};
 ghost use Rattle.wal_records.specs.Spelling.{AreCounters};
 ghost use Rattle.engine_parts.specs.Alone.{IsAlone};
 ghost use Rattle.engine_parts.specs.Stand.{EndsInCheckpoint};
-ghost use Rattle.host_sections.specs.HostEntries.{AddsCheckpoint, AddsFlush, AddsForget, checkpoint_by, flush_by, forget_by, forget_fault_by, next_number};
+ghost use Rattle.host_sections.specs.HostEntries.{AddsCheckpoint, AddsFlush, AddsForget, append_by, flush_by, forget_by, forget_fault_by, next_number};
 
 use crate::home::take_log;
 use disk_core::{LogDisk, PageDisk};
@@ -30,11 +30,11 @@ fn flush_note(by: By, to: u64) -> Note<Entry>
     Note::by(&(by, to))
 }
 
-// The entry of a checkpoint that was appended.
-fn checkpoint_note(by: By, number: u64, counters: Counters) -> Note<Entry>
-    ensures { result.value ≡ checkpoint_by by number counters }
+// The entry of a record that was appended.
+fn append_note(by: By, rec: &Rec) -> Note<Entry>
+    ensures { result.value ≡ append_by by rec.now }
 {
-    Note::by(&(by, number, counters))
+    Note::by(&(by, rec))
 }
 
 // The log is forgotten before this checkpoint.
@@ -95,28 +95,28 @@ pub fn append_checkpoint<R: Wait, L: LogDisk, P: PageDisk>(
     hall: &Hall<EngineLaw<L, P>>,
     pass: &mut Pass<EngineLaw<L, P>>,
     by: By,
-    counters: Counters,
+    counters: &Counters,
 ) -> Result<u64, LogRefusal>
     requires alone { IsAlone hall.now pass.old }
     requires turn { IsHostsTurn (start_of hall.now) by }
-    requires lawful { AreCounters counters }
+    requires lawful { AreCounters counters.now }
     requires base { StaysBase (start_of hall.now) (view pass.old).seen
-        (records.Checkpoint (next_number (start_of hall.now) (view pass.old).seen) counters) }
+        (records.Checkpoint (next_number (start_of hall.now) (view pass.old).seen) counters.now) }
     requires follows { CheckpointOf (start_of hall.now) (view pass.old).seen (at (view pass.old).seen log_lock)
-        (next_number (start_of hall.now) (view pass.old).seen) counters }
+        (next_number (start_of hall.now) (view pass.old).seen) counters.now }
     ensures alone { IsAlone hall.now pass.new }
     ensures holds { (view pass.new).holds ≡ (view pass.old).holds }
-    ensures adds { AddsCheckpoint (start_of hall.now) by counters (view pass.old).seen (view pass.new).seen result }
+    ensures adds { AddsCheckpoint (start_of hall.now) by counters.now (view pass.old).seen (view pass.new).seen result }
 {
     let mut held = take_log(rt, hall, pass);
     let log = &mut *held;
     let rec = Rec::Checkpoint {
         number: log.next(),
-        counters,
+        counters: counters.same(),
     };
     match log.append(&rec) {
         Ok(number) => {
-            let mark = checkpoint_note(by, number, counters);
+            let mark = append_note(by, &rec);
             leave(hall, pass, Part::Log(held), mark);
             Ok(number)
         }

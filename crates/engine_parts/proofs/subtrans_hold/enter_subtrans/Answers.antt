@@ -13,7 +13,7 @@ returns-clause-at g c =
     let e = c.enter-part.ensures.entered in
     let same = c.knock.ensures.same in
     let before : IsAt (start_of c.args.hall.now) (view c.knock.new.caller.pass) c.knock.new.caller.number c.knock.new.caller.session = subst (λ t. IsAt (start_of c.args.hall.now) (view t) c.knock.new.caller.number c.knock.new.caller.session) (sym c.knock.ensures.pass)
-        (subst (λ n. IsAt (start_of c.args.hall.now) (view c.args.caller.now.pass) n c.knock.new.caller.session) (sym same.1) (subst (λ s. IsAt (start_of c.args.hall.now) (view c.args.caller.now.pass) c.args.caller.now.number s) (sym same.0) c.requires.ready.at)) in
+    (subst (λ n. IsAt (start_of c.args.hall.now) (view c.args.caller.now.pass) n c.knock.new.caller.session) (sym same.1) (subst (λ s. IsAt (start_of c.args.hall.now) (view c.args.caller.now.pass) c.args.caller.now.number s) (sym same.0) c.requires.ready.at)) in
     at_on (start_of c.args.hall.now) (view c.knock.new.caller.pass) (view c.enter-part.new.pass) c.knock.new.caller.number c.knock.new.caller.session before e.learns e.kept
 
 pub returns-clause-stands : goal.returns-clause-stands

@@ -16,7 +16,7 @@ use Rattle.engine_dumps.proofs.Logging.{log_failed, shows_log}
 use Rattle.engine_dumps.proofs.log.dump_log.Goals as goal
 
 pub take_log-held-requires : goal.take_log-held-requires
-take_log-held-requires g c = is_alone c.args.hall.now c.args.host.now c.requires.home
+take_log-held-requires g c = record { alone = is_alone c.args.hall.now c.args.host.now c.requires.home }
 
 pub put_back-requires-clause-inside : goal.put_back-requires-clause-inside
 put_back-requires-clause-inside g c = let i = c.take_log-held.ensures.inside in i.inside ∙ ap Inside (sym i.cell)

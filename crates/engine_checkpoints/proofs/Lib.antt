@@ -1,1 +1,4 @@
 pub mod Adding
+pub mod Counting
+pub mod Wrote
+pub mod Forgetting

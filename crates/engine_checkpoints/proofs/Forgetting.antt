@@ -13,6 +13,7 @@ use Rattle.tx_events.specs.declared.multi.MultiEvent.TheVariants as multis
 use Rattle.tx_events.specs.declared.record.Counters.{Counters}
 use Rattle.tx_events.specs.declared.record.Rec.{Rec}
 use Rattle.tx_events.specs.declared.record.Rec.TheVariants as records
+use Rattle.tx_events.specs.Running.{open_ids}
 use Rattle.tx_events.proofs.Membership.{Has, contains_has, has_cases, has_contains, has_right}
 use Rattle.life_law.specs.LifeLog.{counters_behind}
 use Rattle.tx_core.specs.declared.entry.Entry.{Entry}
@@ -21,7 +22,7 @@ use Rattle.tx_core.specs.declared.entry.Start.{Start}
 use Rattle.tx_core.specs.declared.entry.State.TheVariants as states
 use Rattle.tx_core.specs.Consequences.{AreGiven, IsHosts}
 use Rattle.tx_core.specs.EngineInvariant.{EngineInvariant}
-use Rattle.tx_core.specs.Entries.{IsAppended, IsMarked, appended, history, marks, records_in, recs_in}
+use Rattle.tx_core.specs.Entries.{IsAppended, events_in, IsMarked, appended, history, marks, records_in, recs_in}
 use Rattle.tx_core.specs.Locks.{log_lock, members_lock, multi_lock, offsets_lock, proc_lock, xact_lock, xact_lock_of}
 use Rattle.tx_core.specs.MultiEntries.{multi_history, multis_in}
 use Rattle.tx_core.specs.SyncsBeforeForgets.{AreMembersSynced, AreOffsetsSynced, AreStatesSynced, IsBelow, IsMultiBelow, IsNamedBelow, IsSynced, MayForget}
@@ -43,6 +44,18 @@ synced_last : (es : List Entry) (by : By) → IsSynced (es ++ sync_by by ∷ [])
 synced_last es by = record { place = length es; by = by; sync = slice_last es (sync_by by); front = take-append_seam es (sync_by by ∷ []) }
 
 -- ---- all banks are synced while no session is in the midst of a commit
+
+-- nor behind a flush
+pub none_waits : (start : Start) (by : By) (old new : List (List Entry)) (to : ℕ) → AddsAt log_lock (flush_by by to ∷ []) old new → IsNoneWaiting start old → IsNoneWaiting start new
+none_waits start by old new to a none session low top subs appended running =
+    let rec : Rec = records.Commit top subs in
+    let e : Entry = record { by = appended.0; kind = kinds.Append rec } in
+    let has : Has (at old log_lock ++ flush_by by to ∷ []) e = contains_has (at old log_lock ++ flush_by by to ∷ []) e (subst (λ (es : List Entry). Contains es e) a.here appended.2) in
+    let same : history new ≡ history old = ap events_in (a.others proc_lock (λ q. omega (arith, q))) in
+    none session low top subs
+    (appended.0, appended.1, has_contains (at old log_lock) e (⊎_elim (λ h. h) (λ (h : Has (flush_by by to ∷ []) e). ⊎_elim (λ (q : flush_by by to ≡ e). absurd (let z : kinds.Flush to ≡ kinds.Append rec = ap (λ (f : Entry). f.kind) q in cc)) absurd h)
+    (has_cases (at old log_lock) (flush_by by to ∷ []) e has)))
+    (ap (open_ids session) (sym same) ∙ running)
 
 module _ (start : Start) (by : By) (old new : List (List Entry)) (k : EngineInvariant start old) (none : IsNoneWaiting start old) (s : AddsSyncs by 3 (3 + 4 * start.banks) old new) where
   same_log : at new log_lock ≡ at old log_lock

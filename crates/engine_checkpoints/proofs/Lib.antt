@@ -2,3 +2,5 @@ pub mod Adding
 pub mod Counting
 pub mod Wrote
 pub mod Forgetting
+pub mod Hosts
+pub mod Outcomes

@@ -1,5 +1,5 @@
 -- What one step after another adds to the lists.
-use Rattle.std.proofs.Common.{◌≡◌, ◌≢◌, ℕ, ◌+◌, ◌*◌, ◌<◌, ◌≤◌, ◌⊎◌, ⊎_elim, List, [], ◌∷◌, ◌++◌, Err, Ok, Result, append-nil, append_assoc, length, length-set, inl, inr, refl, sym, ap, subst, ◌∙◌, arith}
+use Rattle.std.proofs.Common.{◌≡◌, ◌≢◌, ℕ, ◌+◌, ◌<◌, ◌≤◌, ◌⊎◌, ⊎_elim, List, [], ◌∷◌, ◌++◌, append_assoc, length, length-set, refl, sym, ap, subst, ◌∙◌, arith}
 use mathlib.Core.Logic.{dite}
 use native.Mathlib.Decide.{ℕ_discrete}
 use Rattle.disk_core.specs.Faults.{HasRisen}
@@ -13,7 +13,7 @@ use Rattle.tx_core.specs.FaultsRise.{faults_told}
 use Rattle.tx_core.specs.Locks.{number_of}
 use Rattle.engine_parts.specs.Faults.{fault_by}
 use Rattle.host_sections.specs.HostEntries.{RisenCount, sync_by}
-use Rattle.engine_checkpoints.specs.Added.{AddsAt, AddsSyncs, FailsAt, IsBuiltBank, SyncsBanks}
+use Rattle.engine_checkpoints.specs.Added.{AddsAt, AddsSyncs, FailsAt, IsBuiltBank}
 
 -- one entry
 pub adds_one : (lock : ℕ) (e : Entry) (old new : List (List Entry)) → lock < length old → new ≡ add old lock e → AddsAt lock (e ∷ []) old new

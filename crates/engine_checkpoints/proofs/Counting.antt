@@ -1,9 +1,8 @@
 -- The counters as they stand are those of a base, and a checkpoint of them may come next in the log.
-use Rattle.std.proofs.Common.{◌≡◌, ℕ, ◌+◌, ◌-◌, ◌<◌, ◌≤◌, ◌^◌, ⊎_elim, List, [], length, take, inl, inr, refl, sym, ap, subst, ◌∙◌, arith}
+use Rattle.std.proofs.Common.{◌≡◌, ℕ, ◌+◌, ◌-◌, ◌<◌, ◌≤◌, ◌^◌, ⊎_elim, List, [], length, inl, inr, refl, sym, ap, subst, arith}
 use Rattle.std.proofs.lemmas.List.{length-map}
 use Rattle.notes.specs.Lists.{at}
-use Rattle.tx_events.specs.Ids.{IsFullId, IsXidNumber}
-use Rattle.tx_events.specs.After.{after_record}
+use Rattle.tx_events.specs.Ids.{IsFullId}
 use Rattle.tx_events.specs.Base.{IsBase}
 use Rattle.tx_events.specs.Events.{given}
 use Rattle.tx_events.specs.History.{next_given}
@@ -11,7 +10,6 @@ use Rattle.tx_events.specs.Horizon.{oldest_id}
 use Rattle.tx_events.specs.Multis.{multi_counters}
 use Rattle.tx_events.specs.Limits.{member_stop, multi_stop_limit, stop_limit}
 use Rattle.tx_events.specs.declared.event.By.{By}
-use Rattle.tx_events.specs.declared.event.Event.{Event}
 use Rattle.tx_events.specs.declared.multi.MultiEvent.{MultiEvent}
 use Rattle.tx_events.specs.declared.record.Counters.{Counters}
 use Rattle.tx_events.specs.declared.record.Rec.{Rec}

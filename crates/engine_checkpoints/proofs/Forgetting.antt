@@ -1,11 +1,10 @@
 -- What is on disk before the log is forgotten.
-use Rattle.std.proofs.Common.{◌≡◌, ◌≢◌, ℕ, ◌+◌, ◌-◌, ◌*◌, ◌<◌, ◌≤◌, ⊎_elim, Contains, List, [], ◌∷◌, ◌++◌, Some, length, length-append, map, take, inl, inr, refl, sym, ap, subst, ◌∙◌, arith}
+use Rattle.std.proofs.Common.{◌≡◌, ℕ, ◌+◌, ◌-◌, ◌*◌, ◌<◌, ◌≤◌, ⊎_elim, Contains, List, [], ◌∷◌, ◌++◌, Some, length, inl, inr, refl, sym, ap, subst, ◌∙◌, arith}
 use Rattle.std.proofs.lemmas.List.{length-map}
 use Rattle.std.proofs.lemmas.List.Elements.{filter_map-append}
 use Rattle.std.proofs.Math.Seq.{take-append_seam}
 use Rattle.std.specs.List.{slice_get}
 use Rattle.notes.specs.Lists.{at}
-use Rattle.tx_events.specs.Ids.{IsFullMulti}
 use Rattle.tx_events.specs.declared.event.By.{By}
 use Rattle.tx_events.specs.declared.multi.Member.{Member}
 use Rattle.tx_events.specs.declared.multi.MultiEvent.{MultiEvent}
@@ -20,17 +19,17 @@ use Rattle.tx_core.specs.declared.entry.Entry.{Entry}
 use Rattle.tx_core.specs.declared.entry.Kind.TheVariants as kinds
 use Rattle.tx_core.specs.declared.entry.Start.{Start}
 use Rattle.tx_core.specs.declared.entry.State.TheVariants as states
-use Rattle.tx_core.specs.Consequences.{AreGiven, IsHosts}
+use Rattle.tx_core.specs.Consequences.{IsHosts}
 use Rattle.tx_core.specs.EngineInvariant.{EngineInvariant}
-use Rattle.tx_core.specs.Entries.{IsAppended, events_in, IsMarked, appended, history, marks, records_in, recs_in}
-use Rattle.tx_core.specs.Locks.{log_lock, members_lock, multi_lock, offsets_lock, proc_lock, xact_lock, xact_lock_of}
+use Rattle.tx_core.specs.Entries.{IsAppended, events_in, IsMarked, appended, history, marks, records_in}
+use Rattle.tx_core.specs.Locks.{log_lock, members_lock, multi_lock, offsets_lock, proc_lock, xact_lock}
 use Rattle.tx_core.specs.MultiEntries.{multi_history, multis_in}
 use Rattle.tx_core.specs.SyncsBeforeForgets.{AreMembersSynced, AreOffsetsSynced, AreStatesSynced, IsBelow, IsMultiBelow, IsNamedBelow, IsSynced, MayForget}
 use Rattle.tx_core.proofs.Flushed.{records_shown}
 use Rattle.tx_core.proofs.Once.{records_given}
 use Rattle.tx_core.proofs.Opening.{sessions_known}
 use Rattle.tx_core.proofs.Reading.{record_entry}
-use Rattle.host_sections.specs.HostEntries.{checkpoint_by, flush_by, next_number, sync_by}
+use Rattle.host_sections.specs.HostEntries.{flush_by, next_number, sync_by}
 use Rattle.engine_checkpoints.specs.Added.{AddsAt, AddsSyncs, checkpoint_now}
 use Rattle.engine_checkpoints.specs.Synced.{AreAllSynced, HasSync, IsNamedIn, IsNoneWaiting}
 

@@ -1,12 +1,12 @@
 -- What the host added leaves the sessions' entries as they were.
-use Rattle.std.proofs.Common.{◌≡◌, ◌≢◌, ℕ, ◌+◌, ◌*◌, ◌<◌, ◌≤◌, ◌==◌, ◌⊎◌, ⊎_elim, false, ne_eqb, List, [], ◌∷◌, ◌++◌, append-nil, append_assoc, inl, inr, refl, sym, ap, subst, ◌∙◌, arith}
+use Rattle.std.proofs.Common.{◌≡◌, ℕ, ◌+◌, ◌<◌, ◌≤◌, ◌==◌, ◌⊎◌, ⊎_elim, ne_eqb, List, [], ◌∷◌, ◌++◌, append-nil, append_assoc, inl, inr, sym, ap, subst, ◌∙◌, arith}
 use Rattle.std.proofs.lemmas.List.Elements.{filter-append}
 use Rattle.std.specs.List.{AllByRecursion}
 use mathlib.Core.Logic.{dite}
 use native.Mathlib.Decide.{ℕ_discrete}
 use Rattle.notes.specs.Lists.{Grows, Knows, at, own}
 use Rattle.tx_events.specs.declared.event.By.{By}
-use Rattle.tx_events.proofs.Membership.{Has, all_at, filter_none_on}
+use Rattle.tx_events.proofs.Membership.{all_at, filter_none_on}
 use Rattle.tx_core.specs.declared.entry.Entry.{Entry}
 use Rattle.tx_core.specs.declared.entry.Start.{Start}
 use Rattle.tx_core.specs.Entries.{session_of}

@@ -4,3 +4,4 @@ pub mod Wrote
 pub mod Forgetting
 pub mod Hosts
 pub mod Outcomes
+pub mod Parked

@@ -1,9 +1,8 @@
 -- What a checkpoint did, by where it ended.
-use Rattle.std.proofs.Common.{◌≡◌, ◌≢◌, ℕ, ◌+◌, ◌*◌, ◌<◌, ◌≤◌, List, [], ◌∷◌, ◌++◌, Err, Ok, None, Option, Result, Some, Bool, true, false, append-nil, append_assoc, length, inl, inr, refl, sym, ap, subst, ◌∙◌, arith, ⊎_elim}
+use Rattle.std.proofs.Common.{◌≡◌, ℕ, ◌+◌, ◌*◌, ◌<◌, List, [], ◌∷◌, ◌++◌, Err, Ok, Some, append-nil, append_assoc, length, inl, inr, refl, sym, ap, subst, ◌∙◌, arith, ⊎_elim}
 use Rattle.std.proofs.lemmas.Option.{same_Some}
-use Rattle.std.specs.List.{AllByRecursion}
 use Rattle.disk_core.specs.Faults.{HasRisen}
-use Rattle.notes.specs.Lists.{add, at}
+use Rattle.notes.specs.Lists.{at}
 use Rattle.tx_events.specs.Places.{EachPlace}
 use Rattle.tx_events.specs.declared.event.By.{By}
 use Rattle.tx_events.specs.declared.event.Event.{Event}
@@ -22,7 +21,7 @@ use Rattle.tx_core.specs.declared.entry.Entry.{Entry}
 use Rattle.tx_core.specs.declared.entry.Kind.TheVariants as kinds
 use Rattle.tx_core.specs.declared.entry.Start.{Start}
 use Rattle.tx_core.specs.EngineInvariant.{EngineInvariant}
-use Rattle.tx_core.specs.Entries.{events_in, flushed_in, flushed_to, history, recs_in}
+use Rattle.tx_core.specs.Entries.{events_in, flushed_in, flushed_to, recs_in}
 use Rattle.tx_core.specs.FaultsRise.{count_in, faults_at, faults_told}
 use Rattle.tx_core.specs.Locks.{log_lock, multi_lock, number_of, proc_lock}
 use Rattle.tx_core.specs.StaysDown.{IsUp, UpOf}

@@ -1,5 +1,5 @@
 -- What the steps of writing a checkpoint add to the log's list.
-use Rattle.std.proofs.Common.{◌≡◌, ℕ, ◌+◌, ◌<◌, List, [], ◌∷◌, ◌++◌, Err, Ok, None, Option, Result, Some, Bool, true, false, append_assoc, length, length-append, map, inl, inr, refl, sym, ap, subst, ◌∙◌, arith}
+use Rattle.std.proofs.Common.{◌≡◌, ℕ, ◌+◌, ◌<◌, List, [], ◌∷◌, ◌++◌, Err, Ok, Result, true, false, append_assoc, length, map, inl, inr, refl, sym, ap, subst, ◌∙◌, arith}
 use Rattle.std.proofs.lemmas.Bool.{false≢true}
 use Rattle.std.proofs.lemmas.List.{length_push, map_push}
 use Rattle.std.proofs.lemmas.List.Elements.{filter_map-append}
@@ -23,7 +23,7 @@ use Rattle.wal_core.specs.declared.refusal.LogRefusal.{LogRefusal}
 use Rattle.wal_core.specs.declared.refusal.LogRefusal.TheVariants as refusals
 use Rattle.engine_parts.specs.Faults.{flush_fault_by}
 use Rattle.engine_parts.specs.Stand.{EndsInCheckpoint}
-use Rattle.engine_parts.proofs.Logging.{recs_same, up_more}
+use Rattle.engine_parts.proofs.Logging.{up_more}
 use Rattle.host_sections.specs.HostEntries.{AddsCheckpoint, AddsFlush, AddsForget, checkpoint_by, flush_by, forget_by, forget_fault_by, next_number}
 use Rattle.session_promise.proofs.Settling.{down_is}
 use Rattle.engine_checkpoints.specs.Added.{AddsAt, WritesCheckpoint, checkpoint_now}

@@ -1,5 +1,5 @@
 -- What a checkpoint did, by what it was answered.
-use Rattle.std.specs.Prelude.{◌≡◌, ◌≢◌, ℕ, ◌+◌, ◌*◌, ◌<◌, ◌≤◌, List, [], ◌∷◌, ◌++◌, Option, Some, None}
+use Rattle.std.specs.Prelude.{◌≡◌, ℕ, ◌+◌, ◌*◌, ◌<◌, ◌≤◌, List, [], ◌∷◌, ◌++◌, Option, Some, None}
 use Rattle.std.specs.List.{AllByRecursion}
 use Rattle.disk_core.specs.Faults.{HasRisen}
 use Rattle.notes.specs.Lists.{Grows, Knows, at}
@@ -78,3 +78,8 @@ abbrev pub IsUntouched : List (List Entry) → List (List Entry) → Reply → T
 IsUntouched before after (replies.Pending session refusal) = after ≡ before
 IsUntouched before after (replies.Refused (refusals.LogDown down)) = after ≡ before
 IsUntouched before after reply = Unit {0}
+
+-- no commit was pending
+abbrev pub IsTried : Reply → Type 0
+IsTried (replies.Pending session refusal) = ⊥
+IsTried reply = Unit {0}

@@ -45,16 +45,18 @@ pub fn checkpoint<R: Wait, L: LogDisk, P: PageDisk>(
     ensures up { IsOfUpLog (view host.old.pass).seen result }
     ensures untouched { IsUntouched (view host.old.pass).seen (view host.new.pass).seen result }
 {
-    if let Some(session) = first_committing(sessions) {
-        return Reply::Pending {
+    match first_committing(sessions) {
+        Some(session) => Reply::Pending {
             session,
             refusal: Refusal::CommitPending,
-        };
+        },
+        None => {
+            let by = By {
+                session: host.cluster.sessions,
+                command: 0,
+            };
+            let cluster = host.cluster;
+            make_checkpoint(rt, hall, &mut host.pass, by, cluster)
+        }
     }
-    let by = By {
-        session: host.cluster.sessions,
-        command: 0,
-    };
-    let cluster = host.cluster;
-    make_checkpoint(rt, hall, &mut host.pass, by, cluster)
 }

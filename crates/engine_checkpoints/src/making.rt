@@ -7,7 +7,7 @@ ghost use Rattle.tx_model.specs.declared.reply.Reply.TheVariants as replies;
 ghost use Rattle.tx_core.specs.EngineInvariant.{EngineInvariant};
 ghost use Rattle.tx_core.specs.ProgramOrder.{IsHostsTurn};
 ghost use Rattle.engine_parts.specs.Alone.{IsAlone};
-ghost use Rattle.engine_checkpoints.specs.Made.{HasFailed, IsOfUpLog, IsUntouched, IsWholeCheckpoint, Went, failed_volume};
+ghost use Rattle.engine_checkpoints.specs.Made.{HasFailed, IsOfUpLog, IsTried, IsUntouched, IsWholeCheckpoint, Went, failed_volume};
 ghost use Rattle.engine_checkpoints.specs.Synced.{IsNoneWaiting};
 
 use crate::syncs::sync_all;
@@ -40,6 +40,7 @@ pub(crate) fn make_checkpoint<R: Wait, L: LogDisk, P: PageDisk>(
     ensures alone { IsAlone hall.now pass.new }
     ensures holds { (view pass.new).holds ≡ (view pass.old).holds }
     ensures kept { EngineInvariant (start_of hall.now) (view pass.new).seen }
+    ensures tried { IsTried result }
     ensures went { Went (start_of hall.now) (view pass.old).seen (view pass.new).seen result }
     ensures whole { result ≡ replies.Done
         → IsWholeCheckpoint (start_of hall.now) (view pass.old).seen (view pass.new).seen }

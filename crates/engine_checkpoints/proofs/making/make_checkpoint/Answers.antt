@@ -1,9 +1,8 @@
-use Rattle.std.proofs.Common.{◌≡◌, ◌<◌, ◌+◌, ◌*◌, ◌∙◌, List, arith, length, sym, subst, refl}
+use Rattle.std.proofs.Common.{◌<◌, ◌+◌, ◌*◌, arith, length, subst}
 use Rattle.hall.specs.Calls.{start_of, view}
 use Rattle.tx_core.specs.Locks.{log_lock}
 use Rattle.host_sections.specs.HostEntries.{flush_by, next_number}
-use Rattle.engine_checkpoints.specs.Added.{AddsSyncs, FailsAt}
-use Rattle.engine_checkpoints.specs.Synced.{IsNoneWaiting}
+use Rattle.engine_checkpoints.specs.Added.{AddsSyncs}
 use Rattle.engine_checkpoints.proofs.Adding.{adds_one}
 use Rattle.engine_checkpoints.proofs.Forgetting.{all_synced, none_waits}
 use Rattle.engine_checkpoints.proofs.Outcomes.{done_told, done_whole, flush_told, flushed_late, sync_told, up_late, was_up, write_told}

@@ -1,4 +1,4 @@
-use Rattle.std.proofs.Common.{◌≡◌, ◌<◌, ◌∙◌, List, Err, Ok, ap, arith, length, sym, subst, refl}
+use Rattle.std.proofs.Common.{◌<◌, List, Err, Ok, arith, length, sym, subst}
 use Rattle.hall.specs.Calls.{start_of, view}
 use Rattle.notes.specs.Lists.{at}
 use Rattle.tx_events.specs.declared.record.Counters.{Counters}
@@ -9,13 +9,11 @@ use Rattle.tx_core.specs.EngineInvariant.{EngineInvariant}
 use Rattle.tx_core.specs.Entries.{history}
 use Rattle.tx_core.specs.Laws.{StaysBase}
 use Rattle.tx_core.specs.Locks.{log_lock}
-use Rattle.tx_core.specs.MultiEntries.{multi_history}
 use Rattle.tx_core.specs.RecordsFollow.{CheckpointOf}
 use Rattle.tx_core.specs.SyncsBeforeForgets.{MayForget}
 use Rattle.wal_records.specs.Spelling.{AreCounters}
 use Rattle.engine_parts.specs.Stand.{EndsInCheckpoint}
 use Rattle.host_sections.specs.HostEntries.{AddsCheckpoint, HaveForms, next_number}
-use Rattle.engine_checkpoints.specs.Added.{AddsAt, WritesCheckpoint, checkpoint_now}
 use Rattle.engine_checkpoints.proofs.Counting.{now_follows, now_lawful, now_stays}
 use Rattle.engine_checkpoints.proofs.Forgetting.{may_forget}
 use Rattle.engine_checkpoints.proofs.Wrote.{append_refused, ends, flush_refused, forgot, marked, put_down}

@@ -51,9 +51,12 @@ none_waits start by old new to a none session low top subs appended running =
     let e : Entry = record { by = appended.0; kind = kinds.Append rec } in
     let has : Has (at old log_lock ++ flush_by by to ∷ []) e = contains_has (at old log_lock ++ flush_by by to ∷ []) e (subst (λ (es : List Entry). Contains es e) a.here appended.2) in
     let same : history new ≡ history old = ap events_in (a.others proc_lock (λ q. omega (arith, q))) in
-    none session low top subs
-    (appended.0, appended.1, has_contains (at old log_lock) e (⊎_elim (λ h. h) (λ (h : Has (flush_by by to ∷ []) e). ⊎_elim (λ (q : flush_by by to ≡ e). absurd (let z : kinds.Flush to ≡ kinds.Append rec = ap (λ (f : Entry). f.kind) q in cc)) absurd h)
-    (has_cases (at old log_lock) (flush_by by to ∷ []) e has)))
+    none session low top subs (
+      appended.0,
+      appended.1,
+      has_contains (at old log_lock) e (⊎_elim (λ h. h) (λ (h : Has (flush_by by to ∷ []) e). ⊎_elim (λ (q : flush_by by to ≡ e). absurd (let z : kinds.Flush to ≡ kinds.Append rec = ap (λ (f : Entry). f.kind) q in cc)) absurd h)
+          (has_cases (at old log_lock) (flush_by by to ∷ []) e has)),
+    )
     (ap (open_ids session) (sym same) ∙ running)
 
 module _ (start : Start) (by : By) (old new : List (List Entry)) (k : EngineInvariant start old) (none : IsNoneWaiting start old) (s : AddsSyncs by 3 (3 + 4 * start.banks) old new) where

@@ -83,7 +83,7 @@ hosts_idle start old new a n low = record {
   grows = hosts_grow start old new a;
   own = λ lock.
       let none : own session_of n (a.added lock) ≡ [] = filter_none_on (λ (e : Entry). session_of e == n) (a.added lock) (λ e has.
-          let his : e.by.session ≡ start.sessions = all_at (λ (f : Entry). f.by.session ≡ start.sessions) (a.added lock) e (a.theirs lock) has in
-          ne_eqb (session_of e) n (λ q. omega (arith, his, q, low))) in
+      let his : e.by.session ≡ start.sessions = all_at (λ (f : Entry). f.by.session ≡ start.sessions) (a.added lock) e (a.theirs lock) has in
+      ne_eqb (session_of e) n (λ q. omega (arith, his, q, low))) in
       ap (own session_of n) (a.grown lock) ∙ (filter-append (λ (e : Entry). session_of e == n) (at old lock) (a.added lock) ∙ (ap (λ (es : List Entry). own session_of n (at old lock) ++ es) none ∙ append-nil (own session_of n (at old lock))));
 }

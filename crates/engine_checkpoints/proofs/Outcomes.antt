@@ -100,7 +100,7 @@ module _ (start : Start) (by : By) (old : List (List Entry)) (his : by.session �
   log_failed new before fault count is same risen ends lock named =
       let here : HasRisen (faults_told start log_lock es) (faults_told start log_lock (at new log_lock))
       = subst (λ (t : List Entry). HasRisen (faults_told start log_lock es) (faults_told start log_lock t)) (sym ends)
-        (subst (HasRisen (faults_told start log_lock es)) (sym (number_push count_in (faults_at start log_lock) before fault count is)) risen) in
+      (subst (HasRisen (faults_told start log_lock es)) (sym (number_push count_in (faults_at start log_lock) before fault count is)) risen) in
       subst (HasFailed start old new) (same_Some locks.Log lock named) (record { built = tt; risen = here })
 
   -- ---- the first flush was refused
@@ -233,15 +233,15 @@ module _ (start : Start) (by : By) (old : List (List Entry)) (his : by.session �
       pub write_told : (T : Type 0) (new : List (List Entry)) (refusal : LogRefusal) (r : Refusal) → WritesCheckpoint {T = T} start by late new (Err refusal) → IsRefusalOf refusal r → Told start old new (replies.Refused r)
       write_told T new refused.LogFault r a is =
           let unflushed : AddsAt log_lock (checkpoint_now start by late ∷ flush_fault_by by a.count ∷ []) late new → Told start old new (replies.Refused refusals.LogFault) = λ b.
-              failed new (mark ∷ []) (flush_fault_by by a.count) a.count (his, (his, tt)) refl (subst (λ (m : Entry). AddsAt log_lock (m ∷ flush_fault_by by a.count ∷ []) late new) mark_late b)
-              (ap (faults_told start log_lock) (sym (append_assoc es (flush ∷ []) (mark ∷ []))) ∙ (number_same count_in (faults_at start log_lock) (es ++ flush ∷ []) mark refl ∙ told_flush))
-              a.risen (inr (record { recs_are = refl; faults_are = refl })) in
+          failed new (mark ∷ []) (flush_fault_by by a.count) a.count (his, (his, tt)) refl (subst (λ (m : Entry). AddsAt log_lock (m ∷ flush_fault_by by a.count ∷ []) late new) mark_late b)
+          (ap (faults_told start log_lock) (sym (append_assoc es (flush ∷ []) (mark ∷ []))) ∙ (number_same count_in (faults_at start log_lock) (es ++ flush ∷ []) mark refl ∙ told_flush))
+          a.risen (inr (record { recs_are = refl; faults_are = refl })) in
           let unforgotten : AddsAt log_lock (checkpoint_now start by late ∷ flush_by by (next_number start late + 1) ∷ forget_fault_by by (next_number start late) a.count ∷ []) late new → Told start old new (replies.Refused refusals.LogFault) = λ b.
-              failed new (mark ∷ again ∷ []) (forget_fault_by by n a.count) a.count (his, (his, (his, tt))) refl
-              (subst (λ (z : Entry × ℕ). AddsAt log_lock (z.0 ∷ flush_by by (z.1 + 1) ∷ forget_fault_by by z.1 a.count ∷ []) late new) (λ j. (mark_late j, next_late j)) b)
-              (ap (faults_told start log_lock) (sym (append_assoc es (flush ∷ []) (mark ∷ again ∷ [])) ∙ sym (append_assoc (es ++ flush ∷ []) (mark ∷ []) (again ∷ [])))
-              ∙ (number_same count_in (faults_at start log_lock) ((es ++ flush ∷ []) ++ mark ∷ []) again refl ∙ (number_same count_in (faults_at start log_lock) (es ++ flush ∷ []) mark refl ∙ told_flush)))
-              a.risen (inr (record { recs_are = refl; faults_are = refl })) in
+          failed new (mark ∷ again ∷ []) (forget_fault_by by n a.count) a.count (his, (his, (his, tt))) refl
+          (subst (λ (z : Entry × ℕ). AddsAt log_lock (z.0 ∷ flush_by by (z.1 + 1) ∷ forget_fault_by by z.1 a.count ∷ []) late new) (λ j. (mark_late j, next_late j)) b)
+          (ap (faults_told start log_lock) (sym (append_assoc es (flush ∷ []) (mark ∷ again ∷ [])) ∙ sym (append_assoc (es ++ flush ∷ []) (mark ∷ []) (again ∷ [])))
+          ∙ (number_same count_in (faults_at start log_lock) ((es ++ flush ∷ []) ++ mark ∷ []) again refl ∙ (number_same count_in (faults_at start log_lock) (es ++ flush ∷ []) mark refl ∙ told_flush)))
+          a.risen (inr (record { recs_are = refl; faults_are = refl })) in
           subst (λ (q : Refusal). Told start old new (replies.Refused q)) (sym is) (⊎_elim unflushed unforgotten a.adds)
       write_told T new refused.Full r a is = subst (λ (q : Refusal). Told start old new (replies.Refused q)) (sym is) (stopped new refusals.Full a (record { recs_are = refl; faults_are = refl }) (λ lock q. cc) was_up tt)
       write_told T new refused.Memory r a is = subst (λ (q : Refusal). Told start old new (replies.Refused q)) (sym is) (stopped new refusals.Memory a (record { recs_are = refl; faults_are = refl }) (λ lock q. cc) was_up tt)

@@ -52,8 +52,8 @@ module _ (start : Start) (number : ℕ) (past : List Rec) (g : GivesStart start 
 
 -- what the log says of its first record
 may_begin : (start : Start) (es : List Entry) (n : ℕ) → IsFirstKept start es n → IsBeginningOf start es n
-may_begin start es n = ⊎_elim inl (λ (later : ((by : By) × Contains es (record { by = by; kind = kinds.Forget n })) ⊎ ((count : ℕ) × (by : By) × Contains es (record { by = by; kind = kinds.LogFault (calls.Forget n) count }))).
-    inr (⊎_elim inl (λ (failed : (count : ℕ) × (by : By) × Contains es (record { by = by; kind = kinds.LogFault (calls.Forget n) count })). inr (failed.0, (failed.1, failed.2))) later))
+may_begin start es n kept = ⊎_elim inl (λ (later : ((by : By) × Contains es (record { by = by; kind = kinds.Forget n })) ⊎ ((count : ℕ) × (by : By) × Contains es (record { by = by; kind = kinds.LogFault (calls.Forget n) count }))).
+    inr (⊎_elim inl (λ (failed : (count : ℕ) × (by : By) × Contains es (record { by = by; kind = kinds.LogFault (calls.Forget n) count })). inr (failed.0, (failed.1, failed.2))) later)) kept.one
 
 -- what the log's value holds when the life ends
 pub log_held : (start : Start) (lists : List (List Entry)) (tells : Bool) (faults : ℕ) (images : Volume → Type 0) (recs : List Rec) (next first flushed : ℕ) (counters : Option Counters) (down : Option ℕ) (checkpoint : Option LastCheckpoint) → EngineInvariant start lists

@@ -31,8 +31,8 @@ use Rattle.wal_records.specs.Spelling.{AreCounters}
 use Rattle.wal_core.specs.LogViews.{log_checkpoint, log_counters, log_disk, log_down, log_end, log_first, log_flushed, log_next, log_pending, log_recs}
 use Rattle.wal_core.specs.declared.wal_log.WalLog.{WalLog}
 use Rattle.engine_parts.specs.Parts.{IsLogOf}
-use Rattle.engine_parts.specs.Stand.{IsFirstKept, MayForgetThere}
-use Rattle.engine_parts.proofs.Logging.{failed_here, first_same, flush_alone, goes_on, unflushed, up_more}
+use Rattle.engine_parts.specs.Stand.{IsFirstKept, MayForgetThere, forgotten_in}
+use Rattle.engine_parts.proofs.Logging.{failed_here, first_same, flush_alone, goes_on, not_up, unflushed, up_more}
 use Rattle.host_sections.specs.HostEntries.{flush_by, forget_by}
 
 module _ {D : Type 0} {g : logs.Ghosts D} where
@@ -104,7 +104,7 @@ module _ {D : Type 0} {g : logs.Ghosts D} (start : Start) (old new : WalLog D g)
       (let same : faults_told start log_lock (es ++ e ∷ []) ≡ faults_told start log_lock es = number_same count_in (faults_at start log_lock) es e refl in let before = s.count in omega (arith, same, before, faults))
       (λ m put. absurd (let z : None ≡ Some m = sym up ∙ (sym down ∙ put) in cc))
       (λ none. up_more es e refl (s.up up))
-      (first_same start es e (log_first old) (log_first new) first s.first_is) (flush_alone start old new es by s next alone) keeps
+      (first_same start es e (log_first old) (log_first new) first refl s.first_is) (flush_alone start old new es by s next alone) keeps
 
   -- it was forgotten before a checkpoint
   pub forgotten_stands : (number : ℕ) → log_recs new ≡ log_recs old → log_next new ≡ log_next old → log_counters new ≡ log_counters old → log_flushed new ≡ log_flushed old → log_down new ≡ log_down old → log_down old ≡ None → g.faults (log_disk old) ≤ g.faults (log_disk new) → log_first new ≡ number → Keeps → IsLogOf start new (es ++ forget_by by number ∷ [])
@@ -115,7 +115,7 @@ module _ {D : Type 0} {g : logs.Ghosts D} (start : Start) (old new : WalLog D g)
       (let same : faults_told start log_lock (es ++ e ∷ []) ≡ faults_told start log_lock es = number_same count_in (faults_at start log_lock) es e refl in let before = s.count in omega (arith, same, before, faults))
       (λ m put. absurd (let z : None ≡ Some m = sym up ∙ (sym down ∙ put) in cc))
       (λ none. up_more es e refl (s.up up))
-      (subst (λ n. IsFirstKept start (es ++ e ∷ []) n) (sym first) (inr (inl (by, Contains-push es e)))) (unflushed start es e (log_checkpoint new) refl) keeps
+      (subst (λ n. IsFirstKept start (es ++ e ∷ []) n) (sym first) (record { one = inr (inl (by, Contains-push es e)); behind = λ still. (let here = number_push forgotten_in 0 es e number refl in omega (arith, here)) })) (unflushed start es e (log_checkpoint new) refl) keeps
 
   -- its volume failed, and it is down
   fails : (asked : LogCall) → puts_down asked ≡ true → log_recs new ≡ log_recs old → log_next new ≡ log_next old → log_counters new ≡ log_counters old → log_flushed new ≡ log_flushed old → log_down new ≡ Some (log_flushed old) → IsFirstKept start (es ++ record { by = by; kind = kinds.LogFault asked (g.faults (log_disk new)) } ∷ []) (log_first new) → Keeps
@@ -135,13 +135,13 @@ module _ {D : Type 0} {g : logs.Ghosts D} (start : Start) (old new : WalLog D g)
   pub flush_fails : log_recs new ≡ log_recs old → log_next new ≡ log_next old → log_counters new ≡ log_counters old → log_flushed new ≡ log_flushed old → log_down new ≡ Some (log_flushed old) → log_first new ≡ log_first old → Keeps
       → IsLogOf start new (es ++ record { by = by; kind = kinds.LogFault calls.Flush (g.faults (log_disk new)) } ∷ [])
   flush_fails recs next_same counters flushed down first keeps =
-      fails calls.Flush refl recs next_same counters flushed down (first_same start es (record { by = by; kind = kinds.LogFault calls.Flush (g.faults (log_disk new)) }) (log_first old) (log_first new) first s.first_is) keeps
+      fails calls.Flush refl recs next_same counters flushed down (first_same start es (record { by = by; kind = kinds.LogFault calls.Flush (g.faults (log_disk new)) }) (log_first old) (log_first new) first refl s.first_is) keeps
 
   pub forget_fails : (number : ℕ) → log_recs new ≡ log_recs old → log_next new ≡ log_next old → log_counters new ≡ log_counters old → log_flushed new ≡ log_flushed old → log_down new ≡ Some (log_flushed old) → log_first new ≡ number → Keeps
       → IsLogOf start new (es ++ record { by = by; kind = kinds.LogFault (calls.Forget number) (g.faults (log_disk new)) } ∷ [])
   forget_fails number recs next_same counters flushed down first keeps =
       let e : Entry = record { by = by; kind = kinds.LogFault (calls.Forget number) (g.faults (log_disk new)) } in
-      fails (calls.Forget number) refl recs next_same counters flushed down (subst (λ n. IsFirstKept start (es ++ e ∷ []) n) (sym first) (inr (inr (g.faults (log_disk new), by, Contains-push es e)))) keeps
+      fails (calls.Forget number) refl recs next_same counters flushed down (subst (λ n. IsFirstKept start (es ++ e ∷ []) n) (sym first) (record { one = inr (inr (g.faults (log_disk new), by, Contains-push es e)); behind = λ still. absurd (not_up es e refl still) })) keeps
 
   -- a checkpoint of its own next number may be appended
   pub may_append : (number : ℕ) (counters : Counters) → number ≡ log_next old → number < 2 ^ 64 → AreCounters counters → IsBase (after_record (counters_after start es) (records.Checkpoint number counters)) → MayAppend (log_counters old) (log_next old) (records.Checkpoint number counters)

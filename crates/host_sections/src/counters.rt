@@ -2,6 +2,7 @@
 ghost use Rattle.std.specs.Prelude.{◌≡◌, []};
 ghost use Rattle.hall.specs.Calls.{start_of, view};
 ghost use Rattle.life_law.specs.LifeLog.{counters_behind};
+ghost use Rattle.tx_core.specs.EngineInvariant.{EngineInvariant};
 ghost use Rattle.tx_core.specs.Entries.{history};
 ghost use Rattle.tx_core.specs.MultiEntries.{multi_history};
 ghost use Rattle.engine_parts.specs.Alone.{IsAlone, StaysAlone};
@@ -39,6 +40,7 @@ pub fn read_counters<R: Wait, L: LogDisk, P: PageDisk>(
     requires alone { IsAlone hall.now pass.old }
     requires base { base ≡ (start_of hall.now).base }
     ensures stays { StaysAlone hall.now (view pass.old).seen pass.old pass.new }
+    ensures kept { EngineInvariant (start_of hall.now) (view pass.new).seen }
     ensures none { multi_history (view pass.old).seen ≡ [] }
     ensures counters { result ≡ counters_behind (start_of hall.now).base (history (view pass.old).seen) }
 {

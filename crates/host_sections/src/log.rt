@@ -3,6 +3,7 @@ ghost use Rattle.std.specs.Prelude.{◌≡◌};
 ghost use Rattle.hall.specs.Calls.{start_of, view};
 ghost use Rattle.notes.specs.Lists.{at};
 ghost use Rattle.tx_events.specs.declared.record.Rec.TheVariants as records;
+ghost use Rattle.tx_core.specs.EngineInvariant.{EngineInvariant};
 ghost use Rattle.tx_core.specs.Laws.{StaysBase};
 ghost use Rattle.tx_core.specs.Locks.{log_lock};
 ghost use Rattle.tx_core.specs.ProgramOrder.{IsHostsTurn};
@@ -64,6 +65,7 @@ pub fn flush_records<R: Wait, L: LogDisk, P: PageDisk>(
     requires turn { IsHostsTurn (start_of hall.now) by }
     ensures alone { IsAlone hall.now pass.new }
     ensures holds { (view pass.new).holds ≡ (view pass.old).holds }
+    ensures kept { EngineInvariant (start_of hall.now) (view pass.new).seen }
     ensures adds { AddsFlush (start_of hall.now) by (view pass.old).seen (view pass.new).seen result }
 {
     let mut held = take_log(rt, hall, pass);
@@ -106,6 +108,7 @@ pub fn append_checkpoint<R: Wait, L: LogDisk, P: PageDisk>(
         (next_number (start_of hall.now) (view pass.old).seen) counters.now }
     ensures alone { IsAlone hall.now pass.new }
     ensures holds { (view pass.new).holds ≡ (view pass.old).holds }
+    ensures kept { EngineInvariant (start_of hall.now) (view pass.new).seen }
     ensures adds { AddsCheckpoint (start_of hall.now) by counters.now (view pass.old).seen (view pass.new).seen result }
 {
     let mut held = take_log(rt, hall, pass);
@@ -143,6 +146,7 @@ pub fn forget_log<R: Wait, L: LogDisk, P: PageDisk>(
     requires may { MayForget (start_of hall.now) (view pass.old).seen (at (view pass.old).seen log_lock) number }
     ensures alone { IsAlone hall.now pass.new }
     ensures holds { (view pass.new).holds ≡ (view pass.old).holds }
+    ensures kept { EngineInvariant (start_of hall.now) (view pass.new).seen }
     ensures adds { AddsForget (start_of hall.now) by number (view pass.old).seen (view pass.new).seen result }
 {
     let mut held = take_log(rt, hall, pass);

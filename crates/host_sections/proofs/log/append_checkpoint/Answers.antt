@@ -8,6 +8,7 @@ use Rattle.tx_events.specs.declared.record.Rec.{Rec}
 use Rattle.tx_events.specs.declared.record.Rec.TheVariants as records
 use Rattle.tx_core.specs.declared.entry.Entry.{Entry}
 use Rattle.tx_core.specs.declared.entry.Kind.TheVariants as kinds
+use Rattle.tx_core.specs.EngineInvariant.{EngineInvariant}
 use Rattle.tx_core.specs.Entries.{session_of}
 use Rattle.tx_core.specs.Laws.{StaysBase}
 use Rattle.tx_core.specs.Locks.{log_lock}
@@ -16,7 +17,7 @@ use Rattle.tx_core.specs.StaysDown.{IsUp}
 use Rattle.tx_core.proofs.Quiet.{hosts_keep}
 use Rattle.wal_core.specs.Log.{MayAppend, counters_or_none}
 use Rattle.wal_core.specs.LogViews.{log_checkpoint, log_counters, log_disk, log_down, log_first, log_flushed, log_next, log_recs}
-use Rattle.engine_parts.specs.Holds.{Leaves}
+use Rattle.engine_parts.specs.Holds.{Knowledge, Leaves}
 use Rattle.engine_parts.specs.Law.{MayKeep}
 use Rattle.engine_parts.specs.Parts.{IsLogOf}
 use Rattle.engine_parts.proofs.Logging.{appends}
@@ -144,3 +145,6 @@ returns-clause-adds g c =
     (λ place q. (s.failed place (a.down place (ap Err q))).0)
     (λ other. s.up (not_down (log_down c.deref_mut-log.result.now) (λ m put. other m (same_err (a.is_down m put)))))
     (λ q. a.no_other.0 (ap Err q)) (λ place q. a.no_other.1 place (ap Err q))
+
+pub returns-clause-kept : goal.returns-clause-kept
+returns-clause-kept g c = subst (EngineInvariant (start_of c.args.hall.now)) (sym (ap (λ (z : Knowledge). z.seen) c.put_back.ensures.view)) c.take_log-held.ensures.inside.kept

@@ -8,6 +8,7 @@ use Rattle.tx_events.specs.declared.record.Rec.{Rec}
 use Rattle.tx_core.specs.declared.entry.Entry.{Entry}
 use Rattle.tx_core.specs.declared.entry.Kind.TheVariants as kinds
 use Rattle.tx_core.specs.declared.entry.LogCall.TheVariants as calls
+use Rattle.tx_core.specs.EngineInvariant.{EngineInvariant}
 use Rattle.tx_core.specs.Entries.{records_of, session_of}
 use Rattle.tx_core.specs.FaultsRise.{faults_told}
 use Rattle.tx_core.specs.Locks.{log_lock}
@@ -17,7 +18,7 @@ use Rattle.tx_core.proofs.Quiet.{hosts_keep}
 use Rattle.wal_core.specs.LogViews.{log_disk, log_down}
 use Rattle.engine_parts.specs.Faults.{flush_fault_by}
 use Rattle.wal_core.specs.declared.refusal.LogRefusal.{LogRefusal}
-use Rattle.engine_parts.specs.Holds.{Leaves}
+use Rattle.engine_parts.specs.Holds.{Knowledge, Leaves}
 use Rattle.engine_parts.specs.Law.{MayKeep}
 use Rattle.engine_parts.specs.Parts.{IsLogOf}
 use Rattle.host_sections.specs.HostEntries.{AddsFlush, flush_by, next_number}
@@ -205,3 +206,6 @@ returns-in_default-clause-adds g c =
     let out = came_out c.args.hall.now log_lock c.args.pass.now c.take_log-held.new.pass c.put_back.new.pass c.requires.alone c.take_log-held.ensures.inside c.put_back.ensures.own.0 c.put_back.ensures.view in
     subst (λ (r : LogRefusal). AddsFlush {T = Unit {0}} start c.args.by old (view c.put_back.new.pass).seen (Err r)) (sym down.1)
     (record { same = out.seen; is_down = (s.failed down.0 (f.down down.0 (ap Err down.1))).0 })
+
+pub returns-in_default-clause-kept : goal.returns-in_default-clause-kept
+returns-in_default-clause-kept g c = subst (EngineInvariant (start_of c.args.hall.now)) (sym (ap (λ (z : Knowledge). z.seen) c.put_back.ensures.view)) c.take_log-held.ensures.inside.kept

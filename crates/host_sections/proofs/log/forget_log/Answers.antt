@@ -5,6 +5,7 @@ use Rattle.notes.specs.Lists.{add, at}
 use Rattle.tx_core.specs.declared.entry.Entry.{Entry}
 use Rattle.tx_core.specs.declared.entry.Kind.TheVariants as kinds
 use Rattle.tx_core.specs.declared.entry.LogCall.TheVariants as calls
+use Rattle.tx_core.specs.EngineInvariant.{EngineInvariant}
 use Rattle.tx_core.specs.Entries.{session_of}
 use Rattle.tx_core.specs.FaultsRise.{faults_told}
 use Rattle.tx_core.specs.Locks.{log_lock}
@@ -14,7 +15,7 @@ use Rattle.tx_core.proofs.Quiet.{hosts_keep}
 use Rattle.wal_core.specs.LogViews.{log_checkpoint, log_disk, log_down, log_first}
 use Rattle.wal_core.specs.declared.checkpoint.LastCheckpoint.{LastCheckpoint}
 use Rattle.wal_core.specs.declared.refusal.LogRefusal.{LogRefusal}
-use Rattle.engine_parts.specs.Holds.{Leaves}
+use Rattle.engine_parts.specs.Holds.{Knowledge, Leaves}
 use Rattle.engine_parts.specs.Law.{MayKeep}
 use Rattle.engine_parts.specs.Parts.{IsLogOf}
 use Rattle.host_sections.specs.HostEntries.{AddsForget, forget_fault_by}
@@ -206,3 +207,6 @@ returns-in_default-clause-adds g c =
     let out = came_out c.args.hall.now log_lock c.args.pass.now c.take_log-held.new.pass c.put_back.new.pass c.requires.alone c.take_log-held.ensures.inside c.put_back.ensures.own.0 c.put_back.ensures.view in
     subst (λ (r : LogRefusal). AddsForget {T = Unit {0}} start c.args.by c.args.number old (view c.put_back.new.pass).seen (Err r)) (sym down.1)
     (record { same = out.seen; is_down = (s.failed down.0 (f.down down.0 (ap Err down.1))).0 })
+
+pub returns-in_default-clause-kept : goal.returns-in_default-clause-kept
+returns-in_default-clause-kept g c = subst (EngineInvariant (start_of c.args.hall.now)) (sym (ap (λ (z : Knowledge). z.seen) c.put_back.ensures.view)) c.take_log-held.ensures.inside.kept

@@ -1,5 +1,5 @@
 -- What a checkpoint did, by what it was answered.
-use Rattle.std.specs.Prelude.{◌≡◌, ◌≢◌, ℕ, ◌+◌, ◌*◌, ◌<◌, ◌≤◌, List, [], ◌∷◌, ◌++◌, Option, Some, None}
+use Rattle.std.specs.Prelude.{◌≡◌, ℕ, ◌+◌, ◌*◌, ◌<◌, ◌≤◌, List, [], ◌∷◌, ◌++◌, Option, Some, None}
 use Rattle.std.specs.List.{AllByRecursion}
 use Rattle.disk_core.specs.Faults.{HasRisen}
 use Rattle.notes.specs.Lists.{Grows, Knows, at}
@@ -48,6 +48,7 @@ pub record IsWholeCheckpoint (start : Start) (before after : List (List Entry)) 
       → at after lock ≡ at before lock ++ sync_by (host_by start) ∷ []
   pub proc : at after proc_lock ≡ at before proc_lock
   pub multis : at after multi_lock ≡ at before multi_lock
+  pub words : (place : ℕ) → 3 + 4 * start.banks ≤ place → at after place ≡ at before place
 
 -- the lock whose volume failed
 abbrev pub failed_volume : Reply → Option Lock
@@ -71,3 +72,14 @@ abbrev pub IsOfUpLog : List (List Entry) → Reply → Type 0
 IsOfUpLog before (replies.Pending session refusal) = Unit {0}
 IsOfUpLog before (replies.Refused (refusals.LogDown down)) = Unit {0}
 IsOfUpLog before reply = IsUp (at before log_lock)
+
+-- a commit that is pending, or a log that is down, leaves all as it was
+abbrev pub IsUntouched : List (List Entry) → List (List Entry) → Reply → Type 0
+IsUntouched before after (replies.Pending session refusal) = after ≡ before
+IsUntouched before after (replies.Refused (refusals.LogDown down)) = after ≡ before
+IsUntouched before after reply = Unit {0}
+
+-- no commit was pending
+abbrev pub IsTried : Reply → Type 0
+IsTried (replies.Pending session refusal) = ⊥
+IsTried reply = Unit {0}

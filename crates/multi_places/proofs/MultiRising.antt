@@ -1,12 +1,12 @@
 -- The numbers of the places never fall.
-use Rattle.std.proofs.Common.{◌≡◌, ℕ, ◌+◌, ◌-◌, ◌<◌, ◌≤◌, ◌==◌, Bool, true, false, cond, List, [], ◌∷◌, ◌++◌, take, drop, ap, sym, subst, ◌∙◌, arith, append_assoc, append-nil, take-append-drop, ⊎_elim}
+use Rattle.std.proofs.Common.{◌≡◌, ℕ, ◌+◌, ◌-◌, ◌<◌, ◌≤◌, ◌==◌, Bool, true, false, cond, List, [], ◌∷◌, ◌++◌, take, drop, sym, subst, arith, append_assoc, append-nil, take-append-drop, ⊎_elim}
 use Rattle.std.proofs.lemmas.Bool.{cases_lt}
 use Rattle.tx_events.specs.declared.multi.MultiEvent.{MultiEvent}
 use Rattle.tx_events.specs.declared.record.Counters.{Counters}
 use Rattle.tx_events.specs.Base.{IsBase}
 use Rattle.tx_events.specs.Ids.{low_half}
 use Rattle.tx_events.specs.Limits.{LimitsRise}
-use Rattle.tx_events.specs.Multis.{AreLegalMultis, InBase, MultiMayCome, first_member, free_offset, multi_counters, oldest_multi, oldest_offset}
+use Rattle.tx_events.specs.Multis.{AreLegalMultis, InBase, MultiMayCome, first_member, free_offset, multi_counters, oldest_offset}
 use Rattle.tx_events.proofs.Membership.{by_end}
 use Rattle.tx_events.proofs.PlaceLemmas.{each_place_start}
 use Rattle.multi_store.specs.Generator.{CountersRise}

@@ -1,11 +1,9 @@
 -- What is told of the places of a history of multixacts, in a life of this base.
-use Rattle.std.specs.Prelude.{◌≡◌, ℕ, ◌≤◌, ◌<◌, List, [], ◌∷◌, ◌++◌, Contains, map}
+use Rattle.std.specs.Prelude.{◌≡◌, ℕ, List, [], ◌∷◌, ◌++◌}
 use Rattle.tx_events.specs.declared.multi.MultiEvent.{MultiEvent}
-use Rattle.tx_events.specs.declared.multi.MultiEvent.TheVariants as events
 use Rattle.tx_events.specs.declared.record.Counters.{Counters}
-use Rattle.tx_events.specs.IdLists.{Ascending}
 use Rattle.tx_events.specs.Limits.{member_stop, multi_stop_limit}
-use Rattle.tx_events.specs.Multis.{AreLegalMultis, BaseOffset, first_member, free_offset, next_made, oldest_multi, oldest_offset}
+use Rattle.tx_events.specs.Multis.{AreLegalMultis, first_member, free_offset, next_made, oldest_multi, oldest_offset}
 use Rattle.place_columns.specs.Columns.{IsColumn}
 use Rattle.multi_places.specs.declared.start.Start.{Start}
 use Rattle.multi_places.specs.declared.places.Row.{Row}

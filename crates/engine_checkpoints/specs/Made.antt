@@ -16,6 +16,7 @@ use Rattle.tx_core.specs.Locks.{log_lock, multi_lock, number_of, proc_lock}
 use Rattle.tx_core.specs.StaysDown.{IsUp}
 use Rattle.engine_parts.specs.declared.session.Session.{Session}
 use Rattle.host_sections.specs.HostEntries.{flush_by, forget_by, next_number, sync_by}
+pub use Rattle.session_promise.specs.Causes.{failed_volume}
 use Rattle.session_promise.specs.Checkpoints.{AddsFor, IsCommitting}
 use Rattle.engine_checkpoints.specs.Added.{IsBuiltBank, checkpoint_now, host_by}
 

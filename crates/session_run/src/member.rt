@@ -94,9 +94,7 @@ pub fn run_member<R: Wait, K: LineKeeper, L: LogDisk, P: PageDisk>(
         rt,
         gate: &OpenGate,
     };
-    let ran = run_places(
-        &gated, hall, member, banks, alloc, names, places, round,
-    );
+    let ran = run_places(&gated, hall, member, banks, alloc, names, places, round);
     let Gated { rt: _, gate: _ } = gated;
     member.lost = ran.is_err();
 }

@@ -1,17 +1,16 @@
 -- The volumes of a cluster in which a life ran.
-use Rattle.std.proofs.Common.{List, None, Option, Some, [], ap, arith, length, refl, subst, suc, sym, zero, ℕ, ◌<◌, ◌∙◌, ◌∷◌, ◌≡◌, ◌^◌}
+use Rattle.std.proofs.Common.{List, None, Some, [], ap, arith, length, refl, subst, suc, sym, zero, ℕ, ◌<◌, ◌∙◌, ◌∷◌, ◌≡◌}
 use Rattle.std.specs.List.{slice_get, slice_index}
 use Rattle.disk_core.specs.declared.log_disk.LogDisk as logs
 use Rattle.disk_core.specs.declared.page_disk.PageDisk as disks
-use Rattle.disk_core.specs.Pages.{Pages, page_bytes, zero_page}
+use Rattle.disk_core.specs.Pages.{Pages, page_bytes}
 use Rattle.slru_bank.proofs.ZeroBytes.{zero_byte}
 use Rattle.notes.specs.Lists.{at}
 use Rattle.tx_events.specs.declared.record.Rec.{Rec}
 use Rattle.tx_core.specs.declared.entry.Entry.{Entry}
 use Rattle.tx_core.specs.declared.entry.Start.{Start}
 use Rattle.tx_core.specs.EngineInvariant.{EngineInvariant}
-use Rattle.tx_core.specs.Locks.{xact_lock}
-use Rattle.recoverable.specs.Bytes.{StoredBytes}
+use Rattle.tx_core.specs.Locks.{members_lock, offsets_lock, xact_lock}
 use Rattle.recoverable.specs.Fit.{KeptLog}
 use Rattle.recoverable.specs.MemberImages.{CleanMembers}
 use Rattle.recoverable.specs.OffsetImages.{CleanOffsets}
@@ -20,10 +19,9 @@ use Rattle.recoverable.specs.Whole.{BeganRight, IsShort, LeftFollows, MembersLef
 use Rattle.recoverable.proofs.LifeBases.{list_fits}
 use Rattle.recoverable.proofs.NewBegins.{new_begins}
 use Rattle.recoverable.proofs.Whole.{image_fits}
-use Rattle.bank_follows.specs.Stores.{IsMemberAt, IsOffsetAt, member_cells, offset_cells}
-use Rattle.bank_follows.proofs.Begins.{first_shown, zeros_show_nothing}
 use Rattle.bank_follows.proofs.Stores.{images_follow}
-use Rattle.bank_follows.specs.Ends.{ClusterFits, ClusterHolds}
+use Rattle.bank_follows.proofs.Unmade.{nothing, unmade_members, unmade_offsets}
+use Rattle.bank_follows.specs.Ends.{ClusterFits, ClusterHolds, IsOnlySynced}
 use Rattle.recoverable.specs.Clusters.{IsLeft}
 
 get_at : {X : Type 0} (xs : List X) (n : ℕ) → n < length xs → (x : X) × (slice_get xs n ≡ Some x)
@@ -32,9 +30,6 @@ get_at (x ∷ xs) zero lt = (x, refl)
 get_at (x ∷ xs) (suc n) lt = get_at xs n (omega arith)
 
 -- ---- no multixact: pages that aren't there show nothing
-
-abbrev nothing : ℕ → Option StoredBytes
-nothing = λ x. None
 
 module _ (start : Start) (right : BeganRight start) (none : start.recorded ≡ []) where
   -- the same life with nothing committed: offsets and members don't ask
@@ -51,24 +46,20 @@ module _ (start : Start) (right : BeganRight start) (none : start.recorded ≡ [
       let k = (new_begins bare right.told right.full right.base.counters refl none).members in
       record { before = k.before; in_order = k.in_order; recorded = k.recorded; gap = k.gap; clean = k.clean; behind = k.behind }
 
-  module _ (bank : ℕ) (c : Pages) (absent : (q : ℕ) → c q ≡ None) where
-    zeros : (q : ℕ) → q < 2 ^ 32 → page_bytes (c q) ≡ zero_page
-    zeros q small = ap page_bytes (absent q)
-
-    offsets_left : OffsetsLeft start bank [] c
+  -- of a bank to which nothing was done but that it was synced
+  module _ (bank : ℕ) (es : List Entry) (synced : IsOnlySynced es) (c : Pages) (absent : (q : ℕ) → c q ≡ None) where
+    offsets_left : OffsetsLeft start bank es c
     offsets_left = record {
       shown = nothing;
       clean = clean_offsets;
-      follows = (images_follow start bank [] c).1 nothing
-          (first_shown (offset_cells start nothing) (IsOffsetAt start bank) (λ q. page_bytes (c q)) c (zeros_show_nothing start bank (λ q. page_bytes (c q)) zeros).offsets (λ q. refl));
+      follows = (images_follow start bank es c).1 nothing (unmade_offsets start bank es c synced absent);
     }
 
-    members_left : MembersLeft start bank [] c
+    members_left : MembersLeft start bank es c
     members_left = record {
       shown = nothing;
       clean = clean_members;
-      follows = (images_follow start bank [] c).2 nothing
-          (first_shown (member_cells start nothing) (IsMemberAt start bank) (λ q. page_bytes (c q)) c (zeros_show_nothing start bank (λ q. page_bytes (c q)) zeros).members (λ q. refl));
+      follows = (images_follow start bank es c).2 nothing (unmade_members start bank es c synced absent);
       tails = λ q i small past. ap (λ (b : List ℕ). slice_index b i) (ap page_bytes (absent q)) ∙ zero_byte i;
     }
 
@@ -87,8 +78,8 @@ module _ {L P : Type 0} (l : logs.Ghosts L) (p : disks.Ghosts P) where
     follows = record {
       log_image = record { kept = first; opens = holds.log_holds.keeps.each left.log is.log_image; forgotten = holds.log_holds.beginning };
       states = states_left;
-      offsets_are = λ bank inside. subst (λ (es : List Entry). OffsetsLeft start bank es (left.offsets bank)) (sym (holds.offsets bank inside)) (offsets_left start right holds.recorded bank (left.offsets bank) (is.no_offsets bank));
-      members_are = λ bank inside. subst (λ (es : List Entry). MembersLeft start bank es (left.members bank)) (sym (holds.members bank inside)) (members_left start right holds.recorded bank (left.members bank) (is.no_members bank));
+      offsets_are = λ bank inside. offsets_left start right holds.recorded bank (at lists (offsets_lock bank)) (holds.offsets bank inside) (left.offsets bank) (is.no_offsets bank);
+      members_are = λ bank inside. members_left start right holds.recorded bank (at lists (members_lock bank)) (holds.members bank inside) (left.members bank) (is.no_members bank);
     }
 
     fits : ImageFits start.banks kept left

@@ -16,4 +16,5 @@ pub mod Restored
 pub mod LifeBegins
 pub mod Standing
 pub mod Holding
+pub mod Unmade
 pub mod Ended

@@ -175,7 +175,7 @@ module _ {P O : Type 0} {g : disks.Ghosts P} {r : rules.Ghosts O} where
         cutoff = cutoff;
         crash = crash;
       } in
-      (suc went.0, (old, es, went.1, inr (inr (inr marked))))))
+      (suc went.0, (old, es, went.1, inr (inr (inr (inl marked)))))))
 
 -- an id of a part of the open ids is open
 range_open : (n first past : ℕ) (lists : List (List Entry)) (opened part : List ℕ) → part ≡ slice_range opened first past → open_ids n (history lists) ≡ opened → (id : ℕ) → Contains part id → Contains (open_ids n (history lists)) id

@@ -1,7 +1,9 @@
 -- What a page volume in memory holds, and its moments.
-use Rattle.std.specs.Prelude.{◌≡◌, ℕ}
+use Rattle.std.specs.Prelude.{◌≡◌, ℕ, length}
 use Rattle.std.specs.Ordering.{nat_cmp}
 use Rattle.std.specs.BTreeMap as tree
+use Rattle.disk_core.specs.Images.{Elapses}
+use Rattle.disk_core.specs.Past.{LeftAt}
 use Rattle.disk_core.specs.Pages.{Pages}
 use Rattle.disk_core.specs.MemPages.{AreOutcomes, page_outcome_of}
 use Rattle.disk_core.specs.Media.{PagesCrashed}
@@ -15,16 +17,27 @@ pages_now m q = tree.get nat_cmp m.now q
 abbrev pub pages_synced : MemPages → Pages
 pages_synced m q = tree.get nat_cmp m.synced q
 
+-- what a crash may leave now
+abbrev pub pages_images : MemPages → Pages → Type 0
+pages_images m = AreOutcomes (pages_synced m) (pages_now m)
+
 -- what a crash at a moment may have left
 abbrev pub pages_left : PageMoment → Pages → Type 0
 pages_left m = AreOutcomes (λ q. tree.get nat_cmp m.synced q) (λ q. tree.get nat_cmp m.now q)
+
+-- the same by the number of the moment
+abbrev pub pages_left_at : MemPages → ℕ → Pages → Type 0
+pages_left_at m t = LeftAt pages_left m.past.value (pages_images m) t
+
+abbrev pub PagesElapse : MemPages → MemPages → Type 0
+PagesElapse old new = Elapses (length old.past.value) (length new.past.value) (pages_left_at old) (pages_left_at new) (pages_images new)
 
 -- this moment, for the account
 abbrev pub page_moment : MemPages → PageMoment
 page_moment m = record { now = m.now; synced = m.synced }
 
 abbrev pub pages_crashed : MemPages → MemPages → Type 0
-pages_crashed = PagesCrashed (λ m. pages_now m) (λ m. AreOutcomes (pages_synced m) (pages_now m)) (λ m. m.faults)
+pages_crashed = PagesCrashed (λ m. pages_now m) (λ m. pages_images m) (λ m. m.faults)
 
 -- after a crash of this kind each page is what the kind leaves of it, all of it synced
 pub record PagesFell (how : Crash) (old new : MemPages) : Type 0 where

@@ -81,15 +81,15 @@ pub trait Media {
         ensures kept { OnErr result (is_new self.old ≡ false → (is_new self.new ≡ false) × NoMore (gives self.old) (gives self.new)) }
         ensures cause { CountsMount result (faults self.old) (faults self.new) };
 
-    /// What a crash makes of the volumes, of which the log tells what it holds if the pages do. After an `Err` it isn't said
-    /// what they hold.
+    /// What a crash makes of the volumes, of which the log tells what it holds if the pages do. After an `Err` they are as
+    /// many, and it isn't said what they hold.
     fn crash(&mut self, volumes: Volumes<Self::Log, Self::Pages>, how: Crash) -> Result<(), Failed>
         ensures idle { IsTrue (is_idle self.new) }
         ensures old { is_new self.new ≡ false }
         ensures left { IsTrue Self.Log.tells → IsTrue Self.Pages.tells → OnOk result ((next : Volumes Self.Log Self.Pages) → gives self.new next
             → AllCrashed (LogCrashed Self.Log.reads Self.Log.images Self.Log.faults) (PagesCrashed Self.Pages.pages Self.Pages.images Self.Pages.faults) volumes next) }
         ensures fell { OnOk result ((next : Volumes Self.Log Self.Pages) → gives self.new next → falls how volumes next) }
-        ensures banks { OnOk result ((next : Volumes Self.Log Self.Pages) → gives self.new next → HaveSameBanks volumes next) }
+        ensures banks { (next : Volumes Self.Log Self.Pages) → gives self.new next → HaveSameBanks volumes next }
         ensures tells { OnOk result (IsTrue Self.Pages.tells → IsTrue Self.Log.tells) }
         ensures cause { CountsFault result (faults self.old) (faults self.new) };
 

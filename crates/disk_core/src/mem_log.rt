@@ -1,6 +1,6 @@
 //! A log volume in memory. A crash leaves what was synced, what was written, or a mixture of both.
 ghost use Rattle.std.specs.Prelude.{◌≡◌, ◌⊎◌, ◌+◌, ◌-◌, ◌≤◌, ◌%◌, ◌==◌, ◌++◌, [], length, min, take, drop, replicate, is_ok, OnOk, OnErr, slice_index};
-ghost use Rattle.disk_core.specs.Faults.{CountsFault};
+ghost use Rattle.disk_core.specs.Faults.{CountsFault, counted_by};
 ghost use Rattle.disk_core.specs.Volume.{overlaid, IsRead};
 ghost use Rattle.disk_core.specs.MemLog.{mixed_bytes};
 
@@ -35,6 +35,7 @@ pub struct MemLog {
 pub(crate) fn count(outcome: Result<(), AllocError>, faults: &mut u64) -> Result<(), Failed>
     ensures variant { is_ok result ≡ is_ok outcome }
     ensures cause { CountsFault result faults.old faults.new }
+    ensures counted { faults.new ≡ counted_by result faults.old }
 {
     if outcome.is_err() {
         *faults = faults.saturating_add(1);
@@ -211,35 +212,52 @@ impl MemLog {
 }
 
 impl LogDisk for MemLog {
-    ghost use Rattle.std.specs.Prelude.{◌≡◌, ◌⊎◌, true, refl, length};
+    ghost use Rattle.std.specs.Prelude.{◌≡◌, ◌⊎◌, ◌≤◌, true, refl, length, max, IfOk, OnOk};
     ghost use Rattle.std.proofs.Common.{inl};
-    ghost use Rattle.disk_core.specs.Past.{LeftAt, is_now, only_now};
-    ghost use Rattle.disk_core.specs.MemLog.{IsOutcome};
-    ghost use Rattle.disk_core.specs.MemLogViews.{written, synced, log_left};
+    ghost use Rattle.disk_core.specs.Faults.{CountsFault, counted_by};
+    ghost use Rattle.disk_core.specs.Images.{NoMore, Follows, Only};
+    ghost use Rattle.disk_core.specs.Past.{is_now, only_now};
+    ghost use Rattle.disk_core.specs.Volume.{overlaid, Wrote, Forgot, IsRead};
+    ghost use Rattle.disk_core.specs.MemLogViews.{written, log_images, log_left, log_left_at, LogElapses};
 
     ghost tells = { true };
 
     ghost reads = { λ m. written m };
 
-    ghost images = { λ m. IsOutcome (synced m) (written m) };
+    ghost images = { λ m. log_images m };
 
     ghost moment = { λ m. length m.past.value };
 
-    ghost left_at = { λ m t. LeftAt log_left m.past.value (IsOutcome (synced m) (written m)) t };
+    ghost left_at = { λ m t. log_left_at m t };
 
     ghost faults = { λ m. m.faults };
 
     ghost reads_image = { λ m told. inl refl };
 
-    ghost counts_now = { λ m c told now. is_now log_left m.past.value (IsOutcome (synced m) (written m)) c now };
+    ghost counts_now = { λ m c told now. is_now log_left m.past.value (log_images m) c now };
 
-    ghost only_now = { λ m c told now. only_now log_left m.past.value (IsOutcome (synced m) (written m)) c now };
+    ghost only_now = { λ m c told now. only_now log_left m.past.value (log_images m) c now };
 
-    fn read(&mut self, at: u64, into: &mut [u8]) -> Result<usize, Failed> {
+    fn read(&mut self, at: u64, into: &mut [u8]) -> Result<usize, Failed>
+        ensures count { IfOk result (λ n. n ≤ length into.old) }
+        ensures bytes { IfOk result (λ n. IsRead (written self.old).bytes at into.old n into.new) }
+        ensures same { written self.new ≡ written self.old }
+        ensures crash { NoMore (log_images self.old) (log_images self.new) }
+        ensures time { LogElapses self.old self.new }
+        ensures cause { CountsFault result self.old.faults self.new.faults }
+        ensures counted { self.new.faults ≡ counted_by result self.old.faults }
+    {
         Ok(read_from(&self.bytes, at, into))
     }
 
-    fn write_at(&mut self, at: u64, from: &[u8]) -> Result<(), Failed> {
+    fn write_at(&mut self, at: u64, from: &[u8]) -> Result<(), Failed>
+        ensures written { OnOk result ((written self.new).bytes ≡ overlaid (written self.old).bytes at from.now) }
+        ensures others { Wrote at (length from.now) (written self.old) (written self.new) }
+        ensures crash { Follows (Wrote at (length from.now)) (log_images self.old) (log_images self.new) }
+        ensures time { LogElapses self.old self.new }
+        ensures cause { CountsFault result self.old.faults self.new.faults }
+        ensures counted { self.new.faults ≡ counted_by result self.old.faults }
+    {
         let past = Note::by(&*self);
         let outcome = write_in(
             &mut self.bytes,
@@ -252,21 +270,43 @@ impl LogDisk for MemLog {
         count(outcome, &mut self.faults)
     }
 
-    fn sync(&mut self) -> Result<(), Failed> {
+    fn sync(&mut self) -> Result<(), Failed>
+        ensures durable { OnOk result (Only (written self.old) (log_images self.new)) }
+        ensures same { written self.new ≡ written self.old }
+        ensures crash { NoMore (log_images self.old) (log_images self.new) }
+        ensures time { LogElapses self.old self.new }
+        ensures cause { CountsFault result self.old.faults self.new.faults }
+        ensures counted { self.new.faults ≡ counted_by result self.old.faults }
+    {
         let past = Note::by(&*self);
         self.settle();
         self.past = past;
         Ok(())
     }
 
-    fn forget(&mut self, upto: u64) -> Result<(), Failed> {
+    fn forget(&mut self, upto: u64) -> Result<(), Failed>
+        ensures raised { OnOk result ((written self.new).start ≡ max (written self.old).start upto) }
+        ensures others { Forgot upto (written self.old) (written self.new) }
+        ensures crash { Follows (Forgot upto) (log_images self.old) (log_images self.new) }
+        ensures time { LogElapses self.old self.new }
+        ensures cause { CountsFault result self.old.faults self.new.faults }
+        ensures counted { self.new.faults ≡ counted_by result self.old.faults }
+    {
         let past = Note::by(&*self);
         self.start = self.start.max(upto);
         self.past = past;
         Ok(())
     }
 
-    fn extent(&mut self) -> Result<Extent, Failed> {
+    fn extent(&mut self) -> Result<Extent, Failed>
+        ensures start { IfOk result (λ e. e.start ≡ (written self.old).start) }
+        ensures length { IfOk result (λ e. e.length ≡ length (written self.old).bytes) }
+        ensures same { written self.new ≡ written self.old }
+        ensures crash { NoMore (log_images self.old) (log_images self.new) }
+        ensures time { LogElapses self.old self.new }
+        ensures cause { CountsFault result self.old.faults self.new.faults }
+        ensures counted { self.new.faults ≡ counted_by result self.old.faults }
+    {
         Ok(Extent {
             start: self.start,
             length: self.bytes.len() as u64,
@@ -300,6 +340,7 @@ impl MemLog {
         ensures written { written self.new ≡ outcome_of how (synced self.old) (written self.old) }
         ensures fell { LogFell how self.old self.new }
         ensures crashed { log_crashed self.old self.new }
+        ensures faults { self.new.faults ≡ self.old.faults }
     {
         self.fall_back(how);
     }

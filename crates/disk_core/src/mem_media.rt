@@ -1,6 +1,6 @@
 //! A media in memory.
 ghost use Rattle.std.specs.Prelude.{◌≡◌, ◌≤◌, IfOk, OnOk, OnErr};
-ghost use Rattle.disk_core.specs.Faults.{CountsFault};
+ghost use Rattle.disk_core.specs.Faults.{CountsFault, counted_by};
 ghost use Rattle.disk_core.specs.Media.{AllCrashed, HaveSameBanks};
 ghost use Rattle.disk_core.specs.MemLogViews.{log_crashed, LogFell};
 ghost use Rattle.disk_core.specs.MemMediaViews.{IsFirst};
@@ -30,6 +30,7 @@ impl MemMedia {
         ensures idle { IsTrue (is_idle result) }
         ensures new { IsTrue (is_new result) }
         ensures log { first_log result ≡ [] }
+        ensures faults { result.faults ≡ 0 }
     {
         MemMedia::of_log(alloc, Vec::new(alloc))
     }
@@ -39,6 +40,7 @@ impl MemMedia {
         ensures idle { IsTrue (is_idle result) }
         ensures new { IsTrue (is_new result) }
         ensures log { first_log result ≡ bytes.items }
+        ensures faults { result.faults ≡ 0 }
     {
         MemMedia {
             alloc,
@@ -125,6 +127,7 @@ impl Media for MemMedia {
         ensures still_new { OnErr result (is_new self.new ≡ is_new self.old) }
         ensures same { OnErr result (first_log self.new ≡ first_log self.old) }
         ensures cause { CountsMount result self.old.faults self.new.faults }
+        ensures faults { self.new.faults ≡ self.old.faults }
     {
         if let Some(volumes) = self.held.take() {
             self.is_mounted = true;
@@ -142,8 +145,9 @@ impl Media for MemMedia {
         ensures old { is_new self.new ≡ false }
         ensures left { OnOk result ((next : Volumes MemLog MemPages) → gives self.new next → AllCrashed log_crashed pages_crashed volumes next) }
         ensures fell { OnOk result ((next : Volumes MemLog MemPages) → gives self.new next → AllCrashed (LogFell how) (PagesFell how) volumes next) }
-        ensures banks { OnOk result ((next : Volumes MemLog MemPages) → gives self.new next → HaveSameBanks volumes next) }
+        ensures banks { (next : Volumes MemLog MemPages) → gives self.new next → HaveSameBanks volumes next }
         ensures cause { CountsFault result self.old.faults self.new.faults }
+        ensures counted { self.new.faults ≡ counted_by result self.old.faults }
     {
         let mut volumes = volumes;
         let outcome = crash_all(&mut volumes, how);
@@ -167,6 +171,7 @@ impl Media for MemMedia {
 fn count_failed(outcome: Result<(), Failed>, faults: &mut u64) -> Result<(), Failed>
     ensures same { result ≡ outcome }
     ensures cause { CountsFault result faults.old faults.new }
+    ensures counted { faults.new ≡ counted_by result faults.old }
 {
     if outcome.is_err() {
         *faults = faults.saturating_add(1);

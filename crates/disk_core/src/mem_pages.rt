@@ -2,7 +2,7 @@
 ghost use Rattle.std.specs.Prelude.{◌≡◌, ◌⊎◌, ◌≤◌, ◌<◌, ◌^◌, ℕ, Some, None, IfOk, OnOk, OnErr, is_some, replicate, false, IsNone, IsSome, IfSome, IfNone};
 ghost use Rattle.std.specs.Ordering.{nat_cmp};
 ghost use Rattle.std.specs.BTreeMap as tree;
-ghost use Rattle.disk_core.specs.Faults.{CountsFault};
+ghost use Rattle.disk_core.specs.Faults.{CountsFault, counted_by};
 ghost use Rattle.disk_core.specs.MemLog.{mixed_bytes};
 ghost use Rattle.disk_core.specs.MemPages.{bytes_or_none, mixed_page};
 ghost use Rattle.disk_core.specs.Pages.{HasPage, LacksPage, zero_page, IsPageRead, IsNextPage};
@@ -65,6 +65,7 @@ fn keep_all(copy: &mut Map, map: &Map, faults: &mut u64) -> Result<(), Failed>
     ensures ok { OnOk result ((q : ℕ) → tree.get nat_cmp copy.new q ≡ tree.get nat_cmp map.now q) }
     ensures err { OnErr result ((q : ℕ) → tree.get nat_cmp copy.new q ≡ tree.get nat_cmp copy.old q) }
     ensures cause { CountsFault result faults.old faults.new }
+    ensures counted { faults.new ≡ counted_by result faults.old }
 {
     let outcome = keep_pages(copy, map);
     count(outcome, faults)
@@ -142,6 +143,7 @@ fn tear_all(alloc: Global, now: &mut Map, synced: &Map, faults: &mut u64) -> Res
     ensures ok { OnOk result ((q : ℕ) → tree.get nat_cmp now.new q ≡ mixed_page (tree.get nat_cmp synced.now q) (tree.get nat_cmp now.old q)) }
     ensures err { OnErr result ((q : ℕ) → tree.get nat_cmp now.new q ≡ tree.get nat_cmp now.old q) }
     ensures cause { CountsFault result faults.old faults.new }
+    ensures counted { faults.new ≡ counted_by result faults.old }
 {
     let torn = torn_pages(alloc, synced, now);
     match torn {
@@ -154,53 +156,91 @@ fn tear_all(alloc: Global, now: &mut Map, synced: &Map, faults: &mut u64) -> Res
 }
 
 impl PageDisk for MemPages {
-    ghost use Rattle.std.specs.Prelude.{◌≡◌, ◌⊎◌, true, refl, length};
+    ghost use Rattle.std.specs.Prelude.{◌≡◌, ◌⊎◌, true, refl, length, IfOk, IfSome, OnOk};
     ghost use Rattle.std.proofs.Common.{inl};
-    ghost use Rattle.disk_core.specs.Past.{LeftAt, is_now, only_now};
-    ghost use Rattle.disk_core.specs.MemPages.{AreOutcomes};
-    ghost use Rattle.disk_core.specs.MemPagesViews.{pages_now, pages_synced, pages_left};
+    ghost use Rattle.disk_core.specs.Faults.{CountsFault, counted_by};
+    ghost use Rattle.disk_core.specs.Images.{NoMore, Follows, Only};
+    ghost use Rattle.disk_core.specs.Past.{is_now, only_now};
+    ghost use Rattle.disk_core.specs.Pages.{WrotePage, RemovedPage, HasPage, LacksPage, IsPageRead, IsAfter, IsNextPage};
+    ghost use Rattle.disk_core.specs.MemPagesViews.{pages_now, pages_images, pages_left, pages_left_at, PagesElapse};
 
     ghost tells = { true };
 
     ghost pages = { λ m. pages_now m };
 
-    ghost images = { λ m. AreOutcomes (pages_synced m) (pages_now m) };
+    ghost images = { λ m. pages_images m };
 
     ghost moment = { λ m. length m.past.value };
 
-    ghost left_at = { λ m t. LeftAt pages_left m.past.value (AreOutcomes (pages_synced m) (pages_now m)) t };
+    ghost left_at = { λ m t. pages_left_at m t };
 
     ghost faults = { λ m. m.faults };
 
     ghost reads_image = { λ m told q. inl refl };
 
-    ghost counts_now = { λ m c told now. is_now pages_left m.past.value (AreOutcomes (pages_synced m) (pages_now m)) c now };
+    ghost counts_now = { λ m c told now. is_now pages_left m.past.value (pages_images m) c now };
 
-    ghost only_now = { λ m c told now. only_now pages_left m.past.value (AreOutcomes (pages_synced m) (pages_now m)) c now };
+    ghost only_now = { λ m c told now. only_now pages_left m.past.value (pages_images m) c now };
 
-    fn read_page(&mut self, page: u32, into: &mut [u8; 8192]) -> Result<bool, Failed> {
+    fn read_page(&mut self, page: u32, into: &mut [u8; 8192]) -> Result<bool, Failed>
+        ensures bytes { IfOk result (λ found. IsPageRead found (pages_now self.old page) into.new) }
+        ensures same { pages_now self.new ≡ pages_now self.old }
+        ensures crash { NoMore (pages_images self.old) (pages_images self.new) }
+        ensures time { PagesElapse self.old self.new }
+        ensures cause { CountsFault result self.old.faults self.new.faults }
+        ensures counted { self.new.faults ≡ counted_by result self.old.faults }
+    {
         Ok(read_from(&self.now, page, into))
     }
 
-    fn write_page(&mut self, page: u32, from: &[u8; 8192]) -> Result<(), Failed> {
+    fn write_page(&mut self, page: u32, from: &[u8; 8192]) -> Result<(), Failed>
+        ensures written { OnOk result (HasPage page from.now (pages_now self.old) (pages_now self.new)) }
+        ensures others { WrotePage page from.now (pages_now self.old) (pages_now self.new) }
+        ensures crash { Follows (WrotePage page from.now) (pages_images self.old) (pages_images self.new) }
+        ensures time { PagesElapse self.old self.new }
+        ensures cause { CountsFault result self.old.faults self.new.faults }
+        ensures counted { self.new.faults ≡ counted_by result self.old.faults }
+    {
         let past = Note::by(&*self);
         let outcome = put_page(self.alloc, &mut self.now, page, from);
         self.past = past;
         count(outcome, &mut self.faults)
     }
 
-    fn remove(&mut self, page: u32) -> Result<(), Failed> {
+    fn remove(&mut self, page: u32) -> Result<(), Failed>
+        ensures removed { OnOk result (LacksPage page (pages_now self.old) (pages_now self.new)) }
+        ensures others { RemovedPage page (pages_now self.old) (pages_now self.new) }
+        ensures crash { Follows (RemovedPage page) (pages_images self.old) (pages_images self.new) }
+        ensures time { PagesElapse self.old self.new }
+        ensures cause { CountsFault result self.old.faults self.new.faults }
+        ensures counted { self.new.faults ≡ counted_by result self.old.faults }
+    {
         let past = Note::by(&*self);
         remove_page(&mut self.now, page);
         self.past = past;
         Ok(())
     }
 
-    fn after(&mut self, page: Option<u32>) -> Result<Option<u32>, Failed> {
+    fn after(&mut self, page: Option<u32>) -> Result<Option<u32>, Failed>
+        ensures above { IfOk result (λ next. IfSome next (IsAfter page)) }
+        ensures next { IfOk result (IsNextPage (pages_now self.old) page) }
+        ensures same { pages_now self.new ≡ pages_now self.old }
+        ensures crash { NoMore (pages_images self.old) (pages_images self.new) }
+        ensures time { PagesElapse self.old self.new }
+        ensures cause { CountsFault result self.old.faults self.new.faults }
+        ensures counted { self.new.faults ≡ counted_by result self.old.faults }
+    {
         Ok(next_page(&self.now, page))
     }
 
-    fn sync(&mut self) -> Result<(), Failed> {
+    fn sync(&mut self) -> Result<(), Failed>
+        ensures durable { OnOk result (Only (pages_now self.old) (pages_images self.new)) }
+        ensures same { pages_now self.new ≡ pages_now self.old }
+        ensures crash { NoMore (pages_images self.old) (pages_images self.new) }
+        ensures time { PagesElapse self.old self.new }
+        ensures cause { CountsFault result self.old.faults self.new.faults }
+        ensures counted { self.new.faults ≡ counted_by result self.old.faults }
+    {
         let past = Note::by(&*self);
         self.past = past;
         keep_all(&mut self.synced, &self.now, &mut self.faults)
@@ -232,6 +272,7 @@ impl MemPages {
         ensures now { OnOk result ((q : ℕ) → pages_now self.new q ≡ page_outcome_of how (pages_synced self.old q) (pages_now self.old q)) }
         ensures synced { OnOk result ((q : ℕ) → pages_synced self.new q ≡ pages_now self.new q) }
         ensures cause { CountsFault result self.old.faults self.new.faults }
+        ensures counted { self.new.faults ≡ counted_by result self.old.faults }
     {
         match how {
             Crash::Lost => keep_all(&mut self.now, &self.synced, &mut self.faults),
@@ -249,6 +290,7 @@ impl MemPages {
         ensures fell { OnOk result (PagesFell how self.old self.new) }
         ensures crashed { OnOk result (pages_crashed self.old self.new) }
         ensures cause { CountsFault result self.old.faults self.new.faults }
+        ensures counted { self.new.faults ≡ counted_by result self.old.faults }
     {
         self.fall_back(how)
     }

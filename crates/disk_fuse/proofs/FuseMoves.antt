@@ -33,6 +33,15 @@ module _ {P : Type 0} where
   length-inner_banks [] = refl
   length-inner_banks (f ∷ fs) = ap suc (length-inner_banks fs)
 
+-- the same volumes have as many banks
+pub same_banks : {L P : Type 0} (old next : Volumes L P) → next ≡ old → HaveSameBanks old next
+same_banks old next same = record {
+  xact = ap (λ v. length v.xact.items) same;
+  subtrans = ap (λ v. length v.subtrans.items) same;
+  offsets = ap (λ v. length v.offsets.items) same;
+  members = ap (λ v. length v.members.items) same;
+}
+
 module _ {L P : Type 0} (at : Which) (passes : Option ℕ) (refused : Volumes ℕ ℕ) (v : Volumes L P) (fused : Volumes (FusedLog L) (FusedPages P)) (is : IsFused at passes refused v fused) where
   pub fused_has_banks : (n : ℕ) → HasBanks n v → HasBanks n fused
   fused_has_banks n has = record {

@@ -35,6 +35,7 @@ impl<M: Media> Fuse<M> {
         ensures refused { HaveRefusedNone result.refused }
         ensures idle { result.is_mounted ≡ false }
         ensures held { result.held ≡ None }
+        ensures faults { result.faults ≡ 0 }
     {
         let refused = Volumes {
             log: 0,
@@ -135,8 +136,8 @@ impl<M: Media> Media for Fuse<M> {
             (PagesCrashed (λ f. M.Pages.pages f.inner) (λ f. M.Pages.images f.inner) (λ f. M.Pages.faults f.inner + f.refused)) volumes next) }
         ensures fell { OnOk result ((next : Volumes (FusedLog M.Log) (FusedPages M.Pages))
             → fuse_gives (M.gives self.new.inner) self.new.held self.new.at self.new.passes self.new.refused next → FuseFell (M.falls how) volumes next) }
-        ensures banks { OnOk result ((next : Volumes (FusedLog M.Log) (FusedPages M.Pages))
-            → fuse_gives (M.gives self.new.inner) self.new.held self.new.at self.new.passes self.new.refused next → HaveSameBanks volumes next) }
+        ensures banks { (next : Volumes (FusedLog M.Log) (FusedPages M.Pages))
+            → fuse_gives (M.gives self.new.inner) self.new.held self.new.at self.new.passes self.new.refused next → HaveSameBanks volumes next }
         ensures tells { OnOk result (IsTrue M.Pages.tells → IsTrue M.Log.tells) }
         ensures cause { CountsFault result (M.faults self.old.inner + self.old.faults) (M.faults self.new.inner + self.new.faults) }
     {

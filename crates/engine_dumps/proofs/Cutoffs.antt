@@ -27,7 +27,7 @@ use Rattle.tx_core.specs.EngineInvariant.{EngineInvariant}
 use Rattle.tx_core.specs.Entries.{history, records_of}
 use Rattle.tx_core.specs.Locks.{subtrans_lock, xact_lock}
 use Rattle.tx_core.proofs.Cutting.{cut_says}
-use Rattle.engine_parts.specs.Course.{HasCourse, Looked, Marked, Noted, PageMade, Went}
+use Rattle.engine_parts.specs.Course.{HasCourse, Looked, Marked, Noted, PageMade, Synced, Went}
 use Rattle.engine_parts.specs.Stand.{IsCutoff, first_subtrans_page, first_xact_page}
 use Rattle.engine_host.proofs.Hosting.{xmin_first}
 use Rattle.bank_sections.specs.Sections.{IsSubtransCut, IsXactCut}
@@ -106,7 +106,9 @@ module _ {P O : Type 0} {g : disks.Ghosts P} {r : rules.Ghosts O} where
       (λ (k : Noted w.0 store w.1 es). ap cutoff_of k.same ∙ before)
       (⊎_elim
       (λ (k : PageMade w.0 store w.1 es). k.cutoff ∙ before)
-      (λ (k : Marked start w.0 store w.1 es). k.cutoff ∙ before)))
+      (⊎_elim
+      (λ (k : Marked start w.0 store w.1 es). k.cutoff ∙ before)
+      (λ (k : Synced w.0 store w.1 es). k.cutoff ∙ before))))
       w.3
 
   pub first_told : (start : Start) (bank cutoff : ℕ) (store : SlruBank P O g r) (es : List Entry) → cutoff ≡ cutoff_of store → HasCourse start bank store es → cutoff ≡ xact_cutoff start.base.oldest

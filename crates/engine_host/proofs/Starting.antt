@@ -19,7 +19,9 @@ use Rattle.tx_events.specs.declared.record.Rec.{Rec}
 use Rattle.tx_events.specs.declared.record.Rec.TheVariants as records
 use Rattle.proc_table.specs.Table.{Table, page_of}
 use Rattle.log_bases.specs.LifeBase.{LifeBase, base_after}
+use Rattle.wal_core.specs.declared.checkpoint.LastCheckpoint.{LastCheckpoint}
 use Rattle.wal_core.specs.Kept.{KeepsRecords}
+use Rattle.tx_core.specs.declared.entry.Kind.TheVariants as kinds
 use Rattle.wal_core.specs.Opening.{no_counters}
 use Rattle.tx_events.specs.Ids.{id_before, low_half}
 use Rattle.tx_core.specs.CleanStart.{CleanStart}
@@ -73,11 +75,11 @@ first_gives c = record {
     whole (suc n) counters at = absurd cc
 
 -- one record, which is the checkpoint, and is on disk
-pub log_begins : (c : Cluster) (b : Beginning) (tells : Bool) (faults : ℕ) (images : Volume → Type 0) (recs : List Rec) (next first flushed : ℕ) (counters : Option Counters) (down : Option ℕ) (counts : List ℕ)
+pub log_begins : (c : Cluster) (b : Beginning) (tells : Bool) (faults : ℕ) (images : Volume → Type 0) (recs : List Rec) (next first flushed : ℕ) (counters : Option Counters) (down : Option ℕ) (checkpoint : Option LastCheckpoint) (counts : List ℕ)
     → recs ≡ records.Checkpoint b.number c.base ∷ [] → next ≡ b.number + 1 → flushed ≡ b.number + 1 → counters ≡ Some c.base → down ≡ None → first ≡ b.number → get_or counts log_lock 0 ≤ faults
     → (IsTrue tells → (number : ℕ) × (all : List Rec) × KeepsRecords number all recs next first flushed images × (IsTrue b.told → GivesStart (life_from c b []) number all))
-    → LogStands (life_from c b counts) tells faults images recs next first flushed counters down []
-log_begins c b tells faults images recs next first flushed counters down counts recs_are next_is flushed_is counters_are up low count keeps = record {
+    → LogStands (life_from c b counts) tells faults images recs next first flushed counters down checkpoint []
+log_begins c b tells faults images recs next first flushed counters down checkpoint counts recs_are next_is flushed_is counters_are up low count keeps = record {
   recs_are = recs_are;
   next_is = next_is ∙ none_more (b.number + 1);
   flushed_is = flushed_is;
@@ -88,7 +90,8 @@ log_begins c b tells faults images recs next first flushed counters down counts 
   kept = λ told.
       let k = keeps told in
       (k.0, k.1, subst (λ (t : List Rec). KeepsRecords k.0 t recs next first flushed images) (sym (append-nil k.1)) k.2, λ t. gives_any c b counts k.0 k.1 (k.3 t));
-  first_is = let here : first < b.number + 1 = omega (arith, low) in here;
+  first_is = record { one = inl (let here : first < b.number + 1 = omega (arith, low) in here); behind = λ up. omega arith };
+  alone = λ number ends. absurd (let long = ap (λ (t : List Entry). length t) ends.split in let more = length-append ends.before (record { by = ends.appender; kind = kinds.Append (records.Checkpoint number ends.counters) } ∷ record { by = ends.flusher; kind = kinds.Flush (number + 1) } ∷ []) in omega (arith, long, more));
 }
 
 -- ---- the banks
@@ -249,7 +252,7 @@ vacant_new L P l p c b bank k few counts reached = record {
   proc = λ e. absurd (omega (arith, e));
   xact = λ n e. absurd (omega (arith, e, few));
   subtrans = λ n e. absurd (omega (arith, e, few));
-  unused = refl;
+  unused = tt;
 }
 
 second_new : (L P : Type 0) (l : logs.Ghosts L) (p : disks.Ghosts P) (c : Cluster) (b : Beginning) → IsNewPart {L = L} {P = P} {l = l} {p = p} c b 2 parts.Vacant
@@ -258,7 +261,7 @@ second_new L P l p c b counts reached = record {
   proc = λ e. absurd (omega (arith, e));
   xact = λ n e. absurd (omega (arith, e));
   subtrans = λ n e. absurd (omega (arith, e));
-  unused = refl;
+  unused = tt;
 }
 
 -- the table of a new life

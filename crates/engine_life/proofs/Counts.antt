@@ -11,7 +11,8 @@ use Rattle.tx_core.specs.declared.entry.Entry.{Entry}
 use Rattle.tx_core.specs.declared.entry.Start.{Start}
 use Rattle.tx_core.specs.FaultsRise.{faults_told}
 use Rattle.tx_core.specs.Locks.{multi_lock, subtrans_lock, xact_lock}
-use Rattle.tx_core.specs.MultiEntries.{multi_history, multis_in}
+use Rattle.tx_core.specs.MultiEntries.{multi_history, multi_in, multi_of, multis_in}
+use Rattle.bank_follows.specs.Ends.{IsOnlySynced}
 use Rattle.engine_parts.specs.Parts.{PartStands}
 use Rattle.engine_parts.specs.declared.part.Part.{Part}
 use Rattle.engine_parts.specs.declared.part.Part.TheVariants as parts
@@ -82,6 +83,11 @@ module _ {X Y : Type 0} (f : X → Option Y) where
       (λ k z at_z. some (suc k) z (subst (λ m. slice_get all m ≡ Some z) (sym (on k 3)) at_z))
       n r low less)
 
+-- syncs tell nothing of multixacts
+syncs_tell_none : (es : List Entry) → IsOnlySynced es → multis_in es ≡ []
+syncs_tell_none [] all = refl
+syncs_tell_none (e ∷ es) all = passed_by multi_of e es (ap multi_in all.0) ∙ syncs_tell_none es all.1
+
 -- ---- the parts behind the locks of banks
 
 module _ {L P : Type 0} {l : logs.Ghosts L} {p : disks.Ghosts P} where
@@ -113,8 +119,8 @@ module _ {L P : Type 0} {l : logs.Ghosts L} {p : disks.Ghosts P} where
   no_subtrans start lock es (parts.Subtrans store) other k = absurd (other k.0 k.1)
   no_subtrans start lock es part other k = refl
 
-  -- nothing lies behind the multixacts' lock, so its list has no entries
-  no_multis : (start : Start) (es : List Entry) (part : Part L P l p) → PartStands start multi_lock part es → es ≡ []
+  -- nothing lies behind the multixacts' lock, so its list has no entries but syncs
+  no_multis : (start : Start) (es : List Entry) (part : Part L P l p) → PartStands start multi_lock part es → IsOnlySynced es
   no_multis start es (parts.Log log) k = absurd (let e = k.0 in omega (arith, e))
   no_multis start es (parts.Proc table) k = absurd (let e = k.0 in omega (arith, e))
   no_multis start es (parts.Xact store) k = absurd (let e = k.1 in omega (arith, e))
@@ -122,7 +128,7 @@ module _ {L P : Type 0} {l : logs.Ghosts L} {p : disks.Ghosts P} where
   no_multis start es parts.Vacant k = k.unused
 
   -- nor behind those of the multixacts' banks
-  no_multi_bank : (start : Start) (bank k : ℕ) (es : List Entry) (part : Part L P l p) → k < 2 → PartStands start (5 + 4 * bank + k) part es → es ≡ []
+  no_multi_bank : (start : Start) (bank k : ℕ) (es : List Entry) (part : Part L P l p) → k < 2 → PartStands start (5 + 4 * bank + k) part es → IsOnlySynced es
   no_multi_bank start bank k es (parts.Log log) few is = absurd (let e = is.0 in omega (arith, e))
   no_multi_bank start bank k es (parts.Proc table) few is = absurd (let e = is.0 in omega (arith, e))
   no_multi_bank start bank k es (parts.Xact store) few is = absurd (let e = is.1 in omega (arith, e, few))
@@ -185,9 +191,9 @@ module _ {L P : Type 0} {l : logs.Ghosts L} {p : disks.Ghosts P} where
             ap length (none_first first rest same)
             ∙ fourths subtrans_disk rest (no_subtranses first rest same) (subtranses first rest same) banks 2 (omega arith) (omega (arith, count, e))
 
-    -- nothing was done to the banks of the multixacts' stores
-    pub multi_banks_untold : (banks : ℕ) → start.banks ≡ banks → length locks ≡ 3 + 4 * banks → (bank k : ℕ) → k < 2 → bank < start.banks → at lists (5 + 4 * bank + k) ≡ []
-    multi_banks_untold banks same count bank k few low =
+    -- nothing was done to the banks of the multixacts' stores but that they were synced
+    pub multi_banks_only_synced : (banks : ℕ) → start.banks ≡ banks → length locks ≡ 3 + 4 * banks → (bank k : ℕ) → k < 2 → bank < start.banks → IsOnlySynced (at lists (5 + 4 * bank + k))
+    multi_banks_only_synced banks same count bank k few low =
         let q = there locks (5 + 4 * bank + k) (omega (arith, same, count, few, low)) in
         no_multi_bank start bank k (at lists (5 + 4 * bank + k)) q.0 few (stand (5 + 4 * bank + k) q.0 q.1)
 
@@ -217,4 +223,4 @@ module _ {L P : Type 0} {l : logs.Ghosts L} {p : disks.Ghosts P} where
     pub multis_untold : (banks : ℕ) → length locks ≡ 3 + 4 * banks → multi_history lists ≡ []
     multis_untold banks count =
         let q = there locks multi_lock (omega (arith, count)) in
-        ap multis_in (no_multis start (at lists multi_lock) q.0 (stand multi_lock q.0 q.1))
+        syncs_tell_none (at lists multi_lock) (no_multis start (at lists multi_lock) q.0 (stand multi_lock q.0 q.1))

@@ -33,7 +33,7 @@ use Rattle.bank_follows.proofs.Moments.{xact_moments}
 use Rattle.bank_follows.proofs.Near.{near_before, near_on_made}
 use Rattle.bank_follows.proofs.Standing.{banks_stand}
 use Rattle.bank_follows.proofs.StateSetting.{states_set}
-use Rattle.engine_parts.specs.Course.{HasCourse, IsOpened, Looked, Marked, Noted, PageMade, Step, Went}
+use Rattle.engine_parts.specs.Course.{HasCourse, IsOpened, Looked, Marked, Noted, PageMade, Step, Synced, Went}
 use Rattle.engine_parts.specs.Parts.{PartStands}
 use Rattle.engine_parts.specs.Stand.{number_of_state}
 use Rattle.engine_parts.specs.declared.part.Part.{Part}
@@ -135,8 +135,19 @@ module _ {P : Type 0} (g : disks.Ghosts P) (start : Start) (bank : ℕ) (told : 
         no_sync : (by : By) (state : State) (ids : List ℕ) → kinds.Set (all_set by state ids) ≡ kinds.Sync → ⊥
         no_sync by state ids apart = absurd cc
 
+    synced : (old new : SlruBank P O g r) (before es : List Entry) → Holds old before → Synced old new before es → Holds new es
+    synced old new before es h k =
+        let e : Entry = record { by = k.by; kind = kinds.Sync } in
+        subst (λ (l : List Entry). Holds new l) (sym k.entries) (record {
+          shown = h.shown;
+          clean = h.clean;
+          stands = λ near.
+              subst (λ (z : ℕ × ℕ). Stood h.shown (before ++ e ∷ []) (pages_of new) z.0 z.1 (volume_of new)) (λ j. (sym k.cutoff j, sym k.last j))
+              ((with_entry old new before e h near).syncs (record { sets_none = refl; makes_none = refl }) k.pages (k.crash told) k.durable).behind;
+        })
+
     stepped : (old new : SlruBank P O g r) (before es : List Entry) → Holds old before → Step start old new before es → Holds new es
-    stepped old new before es h = ⊎_elim (looked old new before es h) (⊎_elim (noted old new before es h) (⊎_elim (made old new before es h) (marked old new before es h)))
+    stepped old new before es h = ⊎_elim (looked old new before es h) (⊎_elim (noted old new before es h) (⊎_elim (made old new before es h) (⊎_elim (marked old new before es h) (synced old new before es h))))
 
     holds : (steps : ℕ) (store : SlruBank P O g r) (es : List Entry) → Went start bank steps store es → Holds store es
     holds zero store es k = subst (λ (l : List Entry). Holds store l) (sym k.0) (opened store k.1)

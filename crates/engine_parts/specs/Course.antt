@@ -77,9 +77,20 @@ module _ {P O : Type 0} {g : disks.Ghosts P} {r : rules.Ghosts O} where
     pub cutoff : cutoff_of new ≡ cutoff_of old
     pub crash : CrashKeeps old new
 
+  -- all pages were put on disk
+  pub record Synced (old new : SlruBank P O g r) (before es : List Entry) : Type 0 where
+    pub by : By
+    pub entries : es ≡ before ++ record { by = by; kind = kinds.Sync } ∷ []
+    pub last : last_page new ≡ last_page old
+    pub cutoff : cutoff_of new ≡ cutoff_of old
+    pub pages : SamePages old new
+    pub durable : IsDurable new
+    pub crash : CrashKeeps old new
+
   abbrev pub Step : Start → SlruBank P O g r → SlruBank P O g r → List Entry → List Entry → Type 0
   Step start old new before es =
-      Looked old new before es ⊎ (Noted old new before es ⊎ (PageMade old new before es ⊎ Marked start old new before es))
+      Looked old new before es ⊎ (Noted old new before es ⊎ (PageMade old new before es
+      ⊎ (Marked start old new before es ⊎ Synced old new before es)))
 
   -- so many steps led to this bank and this list
   abbrev pub Went : Start → ℕ → ℕ → SlruBank P O g r → List Entry → Type 0

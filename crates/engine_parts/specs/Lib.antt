@@ -12,3 +12,4 @@ pub mod Answers
 pub mod Calls
 pub mod Steps
 pub mod Faults
+pub mod Alone

@@ -1,13 +1,15 @@
 -- What a part behind a lock stands for.
-use Rattle.std.specs.Prelude.{◌≡◌, ◌≢◌, ℕ, List, []}
+use Rattle.std.specs.Prelude.{◌≡◌, ◌≢◌, ℕ, List}
+use Rattle.std.specs.List.{AllByRecursion}
 use Rattle.disk_core.specs.declared.log_disk.LogDisk as logs
 use Rattle.disk_core.specs.declared.page_disk.PageDisk as disks
 use Rattle.store_pages.specs.declared.page_rule.PageRule as rules
 use Rattle.slru_bank.specs.declared.bank.SlruBank.{SlruBank}
 use Rattle.slru_bank.specs.Calls.{cutoff_of, faults_of, last_page, pages_of}
 use Rattle.wal_core.specs.declared.wal_log.WalLog.{WalLog}
-use Rattle.wal_core.specs.LogViews.{log_counters, log_disk, log_down, log_first, log_flushed, log_next, log_recs}
+use Rattle.wal_core.specs.LogViews.{log_checkpoint, log_counters, log_disk, log_down, log_first, log_flushed, log_next, log_recs}
 use Rattle.tx_core.specs.declared.entry.Entry.{Entry}
+use Rattle.tx_core.specs.declared.entry.Kind.TheVariants as kinds
 use Rattle.tx_core.specs.declared.entry.Start.{Start}
 use Rattle.tx_core.specs.Locks.{log_lock, proc_lock, subtrans_lock, xact_lock}
 use Rattle.engine_parts.specs.declared.part.Part.{Part}
@@ -20,7 +22,7 @@ module _ {D : Type 0} {g : logs.Ghosts D} where
   abbrev pub IsLogOf : Start → WalLog D g → List Entry → Type 0
   IsLogOf start log es =
       LogStands start g.tells (g.faults (log_disk log)) (g.images (log_disk log)) (log_recs log) (log_next log)
-      (log_first log) (log_flushed log) (log_counters log) (log_down log) es
+      (log_first log) (log_flushed log) (log_counters log) (log_down log) (log_checkpoint log) es
 
 module _ {P O : Type 0} {g : disks.Ghosts P} {r : rules.Ghosts O} where
   -- a bank of pg_xact stands for the list of its lock
@@ -34,13 +36,13 @@ module _ {P O : Type 0} {g : disks.Ghosts P} {r : rules.Ghosts O} where
   IsSubtransOf start bank store es =
       SubtransStands start bank g.tells (faults_of store) (last_page store) (cutoff_of store) (pages_of store) es
 
--- the lock of a part that isn't built: none of the others' locks, and its list has no entries
+-- the lock of a part that isn't built: none of the others' locks, and nothing was done to it but syncs
 pub record IsVacant (lock : ℕ) (es : List Entry) : Type 0 where
   pub log : lock ≢ log_lock
   pub proc : lock ≢ proc_lock
   pub xact : (bank : ℕ) → lock ≢ xact_lock bank
   pub subtrans : (bank : ℕ) → lock ≢ subtrans_lock bank
-  pub unused : es ≡ []
+  pub unused : AllByRecursion (λ e. e.kind ≡ kinds.Sync) es
 
 module _ {L P : Type 0} {l : logs.Ghosts L} {p : disks.Ghosts P} where
   -- each kind of part lies behind its locks alone

@@ -1,6 +1,6 @@
 -- What a value behind a lock says, where the lock's list is this one. A record for each kind of value, over plain
 -- numbers, lists and maps.
-use Rattle.std.specs.Prelude.{◌≡◌, ℕ, ◌+◌, ◌*◌, ◌^◌, ◌%◌, ◌<◌, ◌≤◌, ◌⊎◌, Bool, false, IsTrue, List, ◌∷◌, ◌++◌, length, Option, Some, None, Contains, max, slice_get, take, true}
+use Rattle.std.specs.Prelude.{◌≡◌, ℕ, ◌+◌, ◌*◌, ◌^◌, ◌%◌, ◌<◌, ◌≤◌, ◌⊎◌, Bool, false, IsTrue, List, [], ◌∷◌, ◌++◌, length, Option, Some, None, Contains, max, slice_get, take, true}
 use Rattle.std.specs.List.{filter_map, fold}
 use Rattle.disk_core.specs.Volume.{Volume}
 use Rattle.tx_events.specs.declared.event.By.{By}
@@ -10,6 +10,7 @@ use Rattle.tx_events.specs.declared.record.Rec.TheVariants as records
 use Rattle.log_bases.specs.LifeBase.{LifeBase, base_after}
 use Rattle.proc_table.specs.Table.{Table}
 use Rattle.wal_core.specs.Kept.{KeepsRecords}
+use Rattle.wal_core.specs.declared.checkpoint.LastCheckpoint.{LastCheckpoint}
 use Rattle.tx_events.specs.Ids.{IsFullId, id_before}
 use Rattle.tx_events.specs.PageOrder.{Ids, is_cut}
 use Rattle.store_pages.specs.Layouts.{state_in, xact_page_of, xact_place_of, number_in, word_page_of, word_place_of}
@@ -17,11 +18,12 @@ use Rattle.tx_core.specs.declared.entry.Entry.{Entry}
 use Rattle.tx_core.specs.declared.entry.Kind.{Kind}
 use Rattle.tx_core.specs.declared.entry.Kind.TheVariants as kinds
 use Rattle.tx_core.specs.declared.entry.LogCall.{LogCall}
+use Rattle.tx_core.specs.declared.entry.LogCall.TheVariants as calls
 use Rattle.tx_core.specs.declared.entry.Start.{Start}
 use Rattle.tx_core.specs.declared.entry.State.{State}
 use Rattle.tx_core.specs.declared.entry.State.TheVariants as states
 use Rattle.tx_core.specs.CleanStart.{CleanStart}
-use Rattle.tx_core.specs.Entries.{cut_in, events_in, recs_in, flushed_to}
+use Rattle.tx_core.specs.Entries.{cut_in, events_in, flushed_to, last_from, recs_in}
 use Rattle.tx_core.specs.Locks.{subtrans_page, xact_page, log_lock, subtrans_lock, xact_lock}
 use Rattle.tx_core.specs.Pages.{Pages, pages_after, subtrans_store, xact_store}
 use Rattle.tx_core.specs.FaultsRise.{faults_told}
@@ -51,11 +53,46 @@ pub record GivesStart (start : Start) (number : ℕ) (past : List Rec) : Type 0 
   pub whole : (n : ℕ) (counters : Counters) → slice_get past n ≡ Some (records.Checkpoint (number + n) counters)
       → (base_after base (take (n + 1) past)).counters ≡ counters
 
+-- the number of the checkpoint before which the log was forgotten
+abbrev pub forgotten_in : Kind → Option ℕ
+forgotten_in (kinds.Forget number) = Some number
+forgotten_in _ = None
+
+abbrev pub forgotten_to : List Entry → ℕ
+forgotten_to es = last_from 0 (filter_map (λ e. forgotten_in e.kind) es)
+
+-- The first record that each image keeps may be this one: one from before the life, or a checkpoint before which the log
+-- was to be forgotten, also where that failed. Where the log isn't down, it is none from before the last forget.
+pub record IsFirstKept (start : Start) (es : List Entry) (n : ℕ) : Type 0 where
+  pub one : (n < start.from) ⊎ (((by : By) × Contains es (record { by = by; kind = kinds.Forget n }))
+      ⊎ ((count : ℕ) × (by : By) × Contains es (record { by = by; kind = kinds.LogFault (calls.Forget n) count })))
+  pub behind : IsUp es → forgotten_to es ≤ n
+
+-- The last entries put a checkpoint on disk, which has the number of its place and the counters of the log, and all
+-- records before it were on disk.
+pub record EndsInCheckpoint (start : Start) (es : List Entry) (number : ℕ) : Type 0 where
+  pub before : List Entry
+  pub appender : By
+  pub flusher : By
+  pub counters : Counters
+  pub split : es ≡ before ++ record { by = appender; kind = kinds.Append (records.Checkpoint number counters) }
+      ∷ record { by = flusher; kind = kinds.Flush (number + 1) } ∷ []
+  pub place : number ≡ start.from + length (recs_in before)
+  pub flushed : flushed_to start before ≡ number
+  pub whole : counters_after start (before ++ record { by = appender; kind = kinds.Append (records.Checkpoint number counters) } ∷ [])
+      ≡ counters
+
+-- Then the log may be forgotten before it.
+abbrev pub MayForgetThere : Start → List Entry → Option LastCheckpoint → Type 0
+MayForgetThere start es checkpoint = (number : ℕ) → EndsInCheckpoint start es number
+    → (k : LastCheckpoint) × (checkpoint ≡ Some k) × (k.number ≡ number)
+
 -- The log has the records from before and those that were appended. Its flushed number is that of the last flush. It
 -- is down exactly where its list says so, from what was flushed then on. Each image of its volume opens to the records
--- that are flushed, behind those that gave the life's begin, where the volumes told it. In the life nothing was forgotten.
+-- that are flushed, behind those that gave the life's begin, where the volumes told it. What was forgotten the list says.
 pub record LogStands (start : Start) (tells : Bool) (faults : ℕ) (images : Volume → Type 0) (recs : List Rec)
-    (next first flushed : ℕ) (counters : Option Counters) (down : Option ℕ) (es : List Entry) : Type 0 where
+    (next first flushed : ℕ) (counters : Option Counters) (down : Option ℕ) (checkpoint : Option LastCheckpoint)
+    (es : List Entry) : Type 0 where
   pub recs_are : recs ≡ start.logged ++ recs_in es
   pub next_is : next ≡ start.from + length (recs_in es)
   pub flushed_is : flushed ≡ flushed_to start es
@@ -66,7 +103,8 @@ pub record LogStands (start : Start) (tells : Bool) (faults : ℕ) (images : Vol
   pub kept : IsTrue tells → (number : ℕ) × (past : List Rec)
       × KeepsRecords number (past ++ recs_in es) recs next first flushed images
       × (IsTrue start.told → GivesStart start number past)
-  pub first_is : first < start.from
+  pub first_is : IsFirstKept start es first
+  pub alone : MayForgetThere start es checkpoint
 
 -- ---- the ProcArray
 

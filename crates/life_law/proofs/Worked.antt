@@ -1,22 +1,21 @@
 -- The worked life is lawful, and the wrong ones aren't.
-use Rattle.std.proofs.Common.{◌∙◌, ◌==◌, ◌≡◌, ◌⊎◌, ◌↔◌, ℕ, zero, suc, ◌<◌, ◌≤◌, List, [], ◌∷◌, ◌++◌, true, false, IsTrue, Contains, None, Some, refl, sym, ap, subst, inl, inr, ⊎_elim, arith, take, append-nil, append_assoc, length, slice_get, drop}
+use Rattle.std.proofs.Common.{◌∙◌, ◌==◌, ◌≡◌, ◌⊎◌, ◌↔◌, ℕ, zero, suc, ◌<◌, ◌≤◌, List, [], ◌∷◌, ◌++◌, ◌+◌, true, false, IsTrue, Contains, None, Some, refl, sym, ap, subst, inl, inr, ⊎_elim, arith, take, length, slice_get, drop}
 use Rattle.std.proofs.lemmas.Bool.{false≢true}
 use Rattle.std.proofs.lemmas.List.Elements.{All-from_recursion}
 use Rattle.std.specs.List.{flat_map}
 use Rattle.tx_events.specs.declared.event.By.{By}
 use Rattle.tx_events.specs.declared.event.Event.{Event}
 use Rattle.tx_events.specs.declared.event.Event.TheVariants as events
+use Rattle.tx_events.specs.declared.record.Counters.{Counters}
 use Rattle.tx_events.specs.declared.record.Rec.{Rec}
 use Rattle.tx_events.specs.declared.record.Rec.TheVariants as records
 use Rattle.tx_events.specs.declared.refusal.Refusal.{Refusal}
 use Rattle.tx_events.specs.declared.refusal.Refusal.TheVariants as refusals
 use Rattle.tx_events.specs.declared.xact_end.XactEnd.TheVariants as ends
 use Rattle.tx_events.specs.History.{ComesInTurn, IsLegal, MayCome}
-use Rattle.tx_events.specs.Places.{EachPlace}
 use Rattle.tx_events.specs.Running.{open_ids}
 use Rattle.tx_events.proofs.ListSteps.{below_not}
 use Rattle.tx_events.proofs.Membership.{Has, contains_has}
-use Rattle.tx_model.specs.declared.command.Command.{Command}
 use Rattle.tx_model.specs.declared.command.Command.TheVariants as commands
 use Rattle.tx_model.specs.declared.reply.Reply.TheVariants as replies
 use Rattle.tx_model.specs.declared.report.Line.{Line}
@@ -27,10 +26,12 @@ use Rattle.tx_model.specs.Asked.{Asked}
 use Rattle.tx_model.specs.Rounds.{StandFirst, lines_in}
 use Rattle.tx_model.specs.Lines.{has_line, span_of}
 use Rattle.tx_model.specs.Replies.{IsWarned}
+use Rattle.life_law.proofs.ByPlace.{places}
 use Rattle.life_law.specs.Dumps.{IsLawfulBetween}
 use Rattle.life_law.specs.Facts.{Facts}
+use Rattle.life_law.specs.Checkpoints.{IsLawfulCheckpoint}
 use Rattle.life_law.specs.LawfulLife.{facts_of}
-use Rattle.life_law.specs.Laws.{IsLawful, lines_of}
+use Rattle.life_law.specs.Laws.{IsLawful}
 use Rattle.life_law.specs.LifeLog.{IsAmong, IsLogOf, IsRecordOf, ends_top, IsTransaction}
 use Rattle.life_law.specs.Lines.{IsLawfulLine, IsLawfulRound}
 use Rattle.life_law.specs.Pending.{IsOpenAsTold, pending}
@@ -39,20 +40,6 @@ use Rattle.tx_events.specs.Events.{by_of, given_by}
 use Rattle.tx_events.specs.Horizon.{oldest_id}
 use Rattle.tx_events.specs.Limits.{warn_limit}
 use Rattle.tx_model.specs.declared.reply.Reply.{Reply}
-
--- ---- place by place
-
-abbrev Placed : {X : Type 0} → (List X → X → Type 0) → List X → List X → Type 0
-Placed P before [] = Unit {0}
-Placed P before (x ∷ xs) = P before x × Placed P (before ++ x ∷ []) xs
-
-placed_at : {X : Type 0} (P : List X → X → Type 0) (before xs : List X) → Placed P before xs → (p : ℕ) (x : X) → slice_get xs p ≡ Some x → P (before ++ take p xs) x
-placed_at P before [] a p x e = absurd cc
-placed_at P before (y ∷ xs) a zero x e = let same : y ≡ x = cc in subst (P (before ++ [])) same (subst (λ b. P b y) (sym (append-nil before)) a.0)
-placed_at P before (y ∷ xs) a (suc p) x e = subst (λ b. P b x) (append_assoc before (y ∷ []) (take p xs)) (placed_at P (before ++ y ∷ []) xs a.1 p x e)
-
-places : {X : Type 0} (P : List X → X → Type 0) (xs : List X) → Placed P [] xs → EachPlace xs P
-places P xs a = placed_at P [] xs a
 
 -- ---- the worked life
 
@@ -108,6 +95,10 @@ IsFiled e = Unit {0}
 abbrev IsTopAt : ℕ → ℕ → Type 0
 IsTopAt i id = ((i ≡ 0) × (id ≡ 4)) ⊎ ((i ≡ 1) × (id ≡ 3))
 
+abbrev number_in : Rec → ℕ
+number_in (records.Checkpoint number counters) = number
+number_in rec = 0
+
 its_log : IsLogOf 0 worked_base worked_events (recs_with both_records) 2 80
 its_log = record {
   rest = both_records;
@@ -118,11 +109,20 @@ its_log = record {
       (λ t. ⊎_elim (λ (e : records.Commit 3 [] ≡ rec). subst (IsRecordOf worked_base worked_events) e opened) (λ none. absurd none) t)
       (contains_has both_records rec k);
   once = λ i j id a b e f s t. apart i j id (top_at i a id e s) (top_at j b id f t);
+  numbered = own_number;
   committed = filed;
   count = omega arith;
   gate = omega arith;
 }
   where
+    own_number : (place number : ℕ) (counters : Counters) → slice_get (recs_with both_records) place ≡ Some (records.Checkpoint number counters) → number ≡ 0 + place
+    own_number zero number counters e =
+        let is : records.Checkpoint 0 worked_base ≡ records.Checkpoint number counters = cc in
+        sym (ap number_in is)
+    own_number (suc zero) number counters e = absurd cc
+    own_number (suc (suc zero)) number counters e = absurd cc
+    own_number (suc (suc (suc place))) number counters e = absurd cc
+
     ended : IsTransaction worked_events ends.Commit 4 []
     ended = record { session = 1; root = refl; ids = inr (2, by_at 1 3, refl, refl, refl) }
 
@@ -158,7 +158,7 @@ abbrev its_lines : List Line
 its_lines = flat_map lines_in worked_life.steps
 
 abbrev its_facts : Facts
-its_facts = facts_of true 4 worked_life.life its_lines
+its_facts = facts_of true 4 worked_life.life worked_life.steps
 
 no_abort : (top : ℕ) (subs : List ℕ) → Contains (recs_with both_records) (records.Abort top subs) → ⊥
 no_abort top subs k = ⊎_elim (λ (e : records.Checkpoint 0 worked_base ≡ records.Abort top subs). cc)
@@ -249,6 +249,10 @@ it_is_lawful = record {
       no_other = All-from_recursion (λ e. IsTrue (has_line its_lines e)) worked_events (refl, (refl, (refl, tt)));
     };
     dumps = places (λ before step. IsLawfulBetween its_facts (flat_map lines_in before) step) worked_life.steps (tt, (tt, tt));
+    checkpoints = record {
+      each = places (λ before step. IsLawfulCheckpoint its_facts (flat_map lines_in before) step) worked_life.steps (tt, (tt, tt));
+      left = refl;
+    };
     multis = refl;
     log = its_log;
     opened = its_open;
@@ -263,7 +267,7 @@ it_is_lawful = record {
 
 -- a line of the second round
 second_line : (answer saved again : Reply) (recs : List Rec) (w : IsLawful (life_with answer saved again recs)) (place : ℕ) (l : Line) → slice_get (second_lines answer saved again) place ≡ Some l →
-    IsLawfulLine (facts_of w.tells w.banks (life_with answer saved again recs).life (lines_of (life_with answer saved again recs))) (span_of worked_events first_lines (second_lines answer saved again)) (first_lines ++ take place (second_lines answer saved again)) l
+    IsLawfulLine (facts_of w.tells w.banks (life_with answer saved again recs).life (life_with answer saved again recs).steps) (span_of worked_events first_lines (second_lines answer saved again)) (first_lines ++ take place (second_lines answer saved again)) l
 second_line answer saved again recs w place l at = w.life.lawful.each 1 (steps.Round 2 (second_lines answer saved again)) refl place l at
 
 -- the record of session 1 stands among the first two
@@ -286,7 +290,7 @@ not_twice l = absurd (omega (arith, l))
 
 -- a line of the one round
 short_line : (h : List Event) (lines : List Line) (w : IsLawful (short_life h lines)) (place : ℕ) (l : Line) → slice_get lines place ≡ Some l →
-    IsLawfulLine (facts_of w.tells w.banks (short_life h lines).life (lines_of (short_life h lines))) (span_of h [] lines) (take place lines) l
+    IsLawfulLine (facts_of w.tells w.banks (short_life h lines).life (short_life h lines).steps) (span_of h [] lines) (take place lines) l
 short_line h lines w place l at = w.life.lawful.each 0 (steps.Round 1 lines) refl place l at
 
 -- savepoints that were given no ids have no event

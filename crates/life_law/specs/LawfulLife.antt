@@ -5,20 +5,20 @@ use Rattle.tx_events.specs.History.{IsLegal}
 use Rattle.tx_events.specs.Places.{EachPlace}
 use Rattle.tx_model.specs.declared.report.Life.{Life}
 use Rattle.tx_model.specs.declared.report.LifeReport.{LifeReport}
-use Rattle.tx_model.specs.declared.report.Line.{Line}
 use Rattle.tx_model.specs.declared.report.Step.{Step}
 use Rattle.tx_model.specs.Asked.{Asked}
 use Rattle.tx_model.specs.Rounds.{AreInTurn, AreSteps, lines_in}
 use Rattle.tx_model.specs.Lines.{has_line}
+use Rattle.life_law.specs.Checkpoints.{AreLawfulCheckpoints}
 use Rattle.life_law.specs.Dumps.{AreLawfulDumps}
-use Rattle.life_law.specs.Facts.{Facts, has_log_fault, log_faults}
+use Rattle.life_law.specs.Facts.{Facts, has_failed_log, log_faults_in}
 use Rattle.life_law.specs.LifeLog.{IsLogOf}
 use Rattle.life_law.specs.Lines.{IsLawfulRound}
 use Rattle.life_law.specs.Pending.{IsOpenAsTold}
 
--- what a life tells with these lines
-abbrev pub facts_of : Bool → ℕ → Life → List Line → Facts
-facts_of tells banks life lines = record {
+-- what a life tells with these steps
+abbrev pub facts_of : Bool → ℕ → Life → List Step → Facts
+facts_of tells banks life told = record {
   tells = tells;
   banks = banks;
   base = life.base;
@@ -26,7 +26,7 @@ facts_of tells banks life lines = record {
   events = life.events;
   recs = life.recs;
   flushed = life.flushed;
-  log_failed = has_log_fault lines;
+  log_failed = has_failed_log told;
 }
 
 -- each line is lawful in its round, and each event is of a line
@@ -34,17 +34,18 @@ pub record AreLawfulSteps (f : Facts) (steps : List Step) : Type 0 where
   pub each : EachPlace steps (λ before step. IsLawfulRound f (flat_map lines_in before) (lines_in step))
   pub no_other : All (λ e. IsTrue (has_line (flat_map lines_in steps) e)) f.events
 
--- One legal history, round by round; the steps are what was asked, each line lawful, and each dump between two rounds; no
--- multixact; the log of these ends, with truncations to announced ids, and of a transaction that is still open no more
--- than its session's lines tell. The log's volume fails a command once at most, since the log stays down. Each store has
--- so many banks, and verdicts are told where the volumes tell.
+-- One legal history, round by round; the steps are what was asked, each line lawful, and each dump and each checkpoint
+-- between two rounds; no multixact; the log of these ends, with truncations to announced ids, and of a transaction that is
+-- still open no more than its session's lines tell. The log's volume fails once at most, since the log stays down. Each
+-- store has so many banks, and verdicts are told where the volumes tell.
 pub record IsLawfulLife (tells : Bool) (banks : ℕ) (asked : List Asked) (r : LifeReport) : Type 0 where
   pub history : IsLegal r.life.base r.life.events
   pub told : AreSteps 1 asked r.steps
   pub in_turn : AreInTurn r.life.events r.steps
-  pub lawful : AreLawfulSteps (facts_of tells banks r.life (flat_map lines_in r.steps)) r.steps
-  pub dumps : AreLawfulDumps (facts_of tells banks r.life (flat_map lines_in r.steps)) r.steps
+  pub lawful : AreLawfulSteps (facts_of tells banks r.life r.steps) r.steps
+  pub dumps : AreLawfulDumps (facts_of tells banks r.life r.steps) r.steps
+  pub checkpoints : AreLawfulCheckpoints (facts_of tells banks r.life r.steps) r.steps
   pub multis : r.life.multis ≡ []
   pub log : IsLogOf r.life.from r.life.base r.life.events r.life.recs r.life.flushed r.life.end
   pub opened : (session : ℕ) → IsOpenAsTold r.life.recs r.life.events (flat_map lines_in r.steps) session
-  pub log_fails_once : log_faults (flat_map lines_in r.steps) ≤ 1
+  pub log_fails_once : log_faults_in r.steps ≤ 1

@@ -7,6 +7,9 @@ pub mod Replies
 pub mod Lines
 pub mod Dumps
 pub mod LifeLog
+pub mod Checkpoints
 pub mod LawfulLife
 pub mod Laws
 pub mod Worked
+pub mod WorkedCheckpoints
+pub mod WorkedRounds

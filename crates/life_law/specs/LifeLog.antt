@@ -10,6 +10,8 @@ use Rattle.tx_events.specs.declared.record.Rec.TheVariants as records
 use Rattle.tx_events.specs.declared.xact_end.XactEnd.{XactEnd}
 use Rattle.tx_events.specs.declared.xact_end.XactEnd.TheVariants as ends
 use Rattle.tx_events.specs.Families.{is_top}
+use Rattle.tx_events.specs.History.{next_given}
+use Rattle.tx_events.specs.Horizon.{oldest_id}
 use Rattle.tx_events.specs.Running.{open_ids}
 use Rattle.tx_events.specs.XactEnds.{end_event}
 
@@ -26,13 +28,19 @@ pub record IsTransaction (h : List Event) (how : XactEnd) (top : ℕ) (subs : Li
 abbrev pub IsAnnounced : Counters → List Event → ℕ → Type 0
 IsAnnounced base h oldest = (oldest ≡ base.oldest) ⊎ ((by : By) × Contains h (events.Oldest by oldest))
 
+-- the counters that a base has behind a history, where no multixact is touched
+abbrev pub counters_behind : Counters → List Event → Counters
+counters_behind base h = record base { next = next_given base.next h; oldest = oldest_id base.oldest h }
+
 -- A commit or an abort names a transaction whole. A truncation names an oldest id that was announced, and the oldest
--- multixact and offset with which the life began.
+-- multixact and offset with which the life began. A checkpoint has the counters behind some of the events.
 abbrev pub IsRecordOf : Counters → List Event → Rec → Type 0
 IsRecordOf base h (records.Commit top subs) = IsTransaction h ends.Commit top subs
 IsRecordOf base h (records.Abort top subs) = IsTransaction h ends.Abort top subs
 IsRecordOf base h (records.Truncate oldest multi offset) =
     IsAnnounced base h oldest × (multi ≡ base.oldest_multi) × (offset ≡ base.oldest_offset)
+IsRecordOf base h (records.Checkpoint number counters) =
+    (place : ℕ) × (place ≤ length h) × (counters ≡ counters_behind base (take place h))
 IsRecordOf base h _ = ⊥
 
 -- the top that the record ends
@@ -46,8 +54,8 @@ abbrev pub IsAmong : ℕ → List Rec → Rec → Type 0
 IsAmong n recs rec = Contains (take n recs) rec
 
 -- The life's records: first the checkpoint of its base, then at most one of each transaction, each of them whole, and
--- truncations. A transaction that committed has its record, and that is flushed. The next record's number and the next
--- gate's position have 64 bits.
+-- truncations and checkpoints. A checkpoint has its own number. A transaction that committed has its record, and that is
+-- flushed. The next record's number and the next gate's position have 64 bits.
 pub record IsLogOf (from : ℕ) (base : Counters) (h : List Event) (recs : List Rec) (flushed end : ℕ) : Type 0 where
   pub rest : List Rec
   pub split : recs ≡ records.Checkpoint from base ∷ rest
@@ -55,6 +63,7 @@ pub record IsLogOf (from : ℕ) (base : Counters) (h : List Event) (recs : List 
   pub within : flushed ≤ from + length recs
   pub each : (rec : Rec) → Contains rest rec → IsRecordOf base h rec
   pub once : (i j id : ℕ) (a b : Rec) → slice_get rest i ≡ Some a → slice_get rest j ≡ Some b → ends_top a id → ends_top b id → i ≡ j
+  pub numbered : (place number : ℕ) (counters : Counters) → slice_get recs place ≡ Some (records.Checkpoint number counters) → number ≡ from + place
   pub committed : (p top : ℕ) (by : By) → slice_get h p ≡ Some (events.Commit by top)
       → IsAmong (flushed - from) recs (records.Commit top (drop 1 (open_ids by.session (take p h))))
   pub count : from + length recs < 2 ^ 64

@@ -14,7 +14,7 @@ use Rattle.tx_model.specs.declared.report.Life.{Life}
 use Rattle.tx_model.specs.declared.report.Line.{Line}
 use Rattle.tx_model.specs.declared.report.Step.{Step}
 use Rattle.tx_model.specs.declared.report.Step.TheVariants as steps
-use Rattle.life_law.specs.Facts.{has_log_fault, is_log_fault}
+use Rattle.life_law.specs.Facts.{has_log_fault, is_checkpoint_fault}
 
 abbrev pub can_lack_memory : Command → Bool
 can_lack_memory commands.Save = true
@@ -70,10 +70,6 @@ can_append command = can_flush command
 abbrev pub is_page_lock : Lock → Bool
 is_page_lock locks.Log = false
 is_page_lock lock = true
-
-abbrev pub is_checkpoint_fault : Step → Bool
-is_checkpoint_fault (steps.Checkpoint reply) = is_log_fault reply
-is_checkpoint_fault step = false
 
 -- a command or a checkpoint of these steps was told that the log's volume failed
 abbrev pub AreLogFaults : List Line → List Step → Type 0

@@ -19,7 +19,7 @@ rounds_from_asked : (turns : List (ℕ × Command)) (script : List Item) → rou
 rounds_from_asked turns [] = one_asked turns
 rounds_from_asked turns (items.Run s c ∷ script) = rounds_from_asked (turns ++ (s, c) ∷ []) script
 rounds_from_asked turns (items.Round ∷ script) = next_asked turns (asked_of script) (rounds_of script) (rounds_from_asked [] script)
-rounds_from_asked turns (items.Checkpoint ∷ script) = next_asked turns (asked_of script) (rounds_of script) (rounds_from_asked [] script)
+rounds_from_asked turns (items.Checkpoint ∷ script) = next_asked turns (asked.checkpoint ∷ asked_of script) (rounds_of script) (rounds_from_asked [] script)
 rounds_from_asked turns (items.Crash how ∷ script) = next_asked turns (asked_of script) (rounds_of script) (rounds_from_asked [] script)
 rounds_from_asked turns (items.Dump what at size ∷ script) = next_asked turns (asked.dump what at size ∷ asked_of script) (rounds_of script) (rounds_from_asked [] script)
 

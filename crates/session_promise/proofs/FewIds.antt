@@ -1,5 +1,5 @@
 -- A life gives no more ids than its commands made levels.
-use Rattle.std.proofs.Common.{List, None, Option, Some, [], arith, cond, length, refl, subst, sym, ℕ, ◌+◌, ◌<◌, ◌==◌, ◌≡◌, ◌≤◌, ◌∷◌}
+use Rattle.std.proofs.Common.{List, None, Option, Some, [], arith, cond, length, refl, subst, sym, ℕ, ⊎_elim, ◌+◌, ◌<◌, ◌==◌, ◌≡◌, ◌≤◌, ◌∷◌}
 use Rattle.std.specs.List.{cons_option, count_by, filter, sum_by}
 use Rattle.std.proofs.lemmas.List.Sums.{sum_by-cons}
 use Rattle.notes.specs.Lists.{at}
@@ -10,10 +10,14 @@ use Rattle.tx_events.proofs.Membership.{Has, all_from, has_contains, has_filter_
 use Rattle.tx_model.specs.declared.report.Line.{Line}
 use Rattle.tx_core.specs.declared.entry.Entry.{Entry}
 use Rattle.tx_core.specs.declared.entry.Start.{Start}
+use Rattle.tx_core.specs.declared.entry.Kind.{Kind}
+use Rattle.tx_core.specs.declared.entry.Kind.TheVariants as kinds
+use Rattle.tx_core.specs.Consequences.{IsHosts}
 use Rattle.tx_core.specs.EngineInvariant.{EngineInvariant}
-use Rattle.tx_core.specs.Entries.{event_of, history}
+use Rattle.tx_core.specs.Entries.{event_in, event_of, history}
 use Rattle.tx_core.specs.EventsLegal.{NeedsOwn}
 use Rattle.tx_core.specs.Locks.{proc_lock}
+use Rattle.tx_core.specs.ProgramOrder.{IsOfHost}
 use Rattle.tx_core.proofs.Asking.{own_event, upheld_has}
 use Rattle.tx_core.proofs.Opening.{sessions_known}
 use Rattle.session_promise.specs.Closing.{LevelsBoundIds}
@@ -38,12 +42,18 @@ given_length (e ∷ h) =
     one None = omega arith
     one (Some id) = omega arith
 
+-- the host adds none
+hosts_no_event : (kind : Kind) (event : Event) → event_in kind ≡ Some event → IsOfHost kind → ⊥
+hosts_no_event (kinds.Event other) event is his = absurd his
+hosts_no_event _ event is his = absurd cc
+
 -- each event is of one of the sessions
 pub event_known : (start : Start) (lists : List (List Entry)) → EngineInvariant start lists → (e : Event) → Has (history lists) e → (by_of e).session < start.sessions
 event_known start lists k e h =
     let from = has_filter_map event_of (at lists proc_lock) e h in
     let mine = own_event lists proc_lock [] from.0 e (upheld_has NeedsOwn lists proc_lock from.0 k.events.own from.1).1 from.2 in
-    subst (λ (b : By). b.session < start.sessions) (sym mine) (sessions_known start lists k proc_lock from.0 (has_contains (at lists proc_lock) from.0 from.1))
+    subst (λ (b : By). b.session < start.sessions) (sym mine)
+    (⊎_elim (λ (low : from.0.by.session < start.sessions). low) (λ (his : IsHosts start from.0). absurd (hosts_no_event from.0.kind e from.2 his.1)) (sessions_known start lists k proc_lock from.0 (has_contains (at lists proc_lock) from.0 from.1)))
 
 pub levels_bound_ids : LevelsBoundIds
 levels_bound_ids tells start lists rounds over few =

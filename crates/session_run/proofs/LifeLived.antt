@@ -23,7 +23,7 @@ use Rattle.tx_core.specs.declared.entry.Start.{Start}
 use Rattle.tx_core.specs.Entries.{AreFewIds, history, recs_in}
 use Rattle.tx_core.specs.Locks.{log_lock}
 use Rattle.tx_core.specs.MultiEntries.{multi_history}
-use Rattle.wal_core.specs.LogViews.{log_counters, log_disk, log_down, log_end, log_first, log_next, log_recs}
+use Rattle.wal_core.specs.LogViews.{log_checkpoint, log_counters, log_disk, log_down, log_end, log_first, log_next, log_recs}
 use Rattle.engine_parts.specs.declared.part.Part.{Part}
 use Rattle.engine_parts.specs.Parts.{IsLogOf}
 use Rattle.engine_parts.specs.declared.session.Session.{Session}
@@ -93,11 +93,11 @@ module _ {H K L P : Type 0} {l : logs.Ghosts L} {p : disks.Ghosts P} (keep : kee
         steps = r.rounds_are;
       } in
       let lawful : (crash : Option How) → IsLawfulLife p.tells start.banks (asked_of its) (report_of life r.steps crash)
-      = λ crash. promises_make_life p.tells start (view host.pass).seen r.rounds (asked_of its) (report_of life r.steps crash) begins over (few_levels its r.rounds commands taken.levels) r.told r.dumps (report crash) numbers end in (
+      = λ crash. promises_make_life p.tells start (view host.pass).seen r.rounds (asked_of its) (report_of life r.steps crash) begins over (few_levels its r.rounds commands taken.levels) r.told r.dumps r.checkpoints (report crash) numbers end in (
         record {
           lawful = λ crash. subst (λ k. IsLawfulLife p.tells k (asked_of its) (report_of life r.steps crash)) (ap (λ t. t.banks) begun) (lawful crash);
           few = subst (λ (ls : List Line). length ls ≤ 2 ^ 24) (sym (lines_run r.steps r.rounds r.rounds_are)) few;
         },
         log_holds l (log_disk log) life start (records.Checkpoint b.number c.base) es (l.faults (log_disk log)) (log_next log) (log_first log)
-            (log_counters log) (log_down log) begins.from (ap (λ t. t.logged) begun) stands (lawful None).log.begun,
+            (log_counters log) (log_down log) (log_checkpoint log) begins.from (ap (λ t. t.logged) begun) stands (lawful None).log.begun,
       )

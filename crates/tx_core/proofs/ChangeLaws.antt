@@ -1,5 +1,5 @@
 -- The changes of a critical section of a bank keep the invariant.
-use Rattle.std.proofs.Common.{Contains, List, [], ap, arith, inl, inr, refl, subst, sym, ℕ, ⊎_elim, ◌∙◌, ◌∷◌, ◌≡◌}
+use Rattle.std.proofs.Common.{Contains, IfSome, List, None, Option, [], ap, arith, inl, inr, length, refl, subst, sym, ℕ, ⊎_elim, ◌<◌, ◌∙◌, ◌∷◌, ◌≡◌}
 use Rattle.std.specs.List.{AllByRecursion}
 use Rattle.tx_events.specs.declared.event.By.{By}
 use Rattle.tx_events.proofs.Membership.{Has, contains_has, has_contains, all_from}
@@ -10,16 +10,20 @@ use Rattle.tx_core.specs.declared.entry.Start.{Start}
 use Rattle.tx_core.specs.declared.entry.State.{State}
 use Rattle.tx_core.proofs.Keeping.{keeps}
 use Rattle.tx_core.specs.AbortRule.{AskUnrecorded, AskedOf, GivenOf, IsSameAfter}
-use Rattle.tx_core.specs.Entries.{Link, Mark}
-use Rattle.tx_core.specs.Laws.{AbortedKeeps, AreThere, ChangesKeep, CommittedKeeps, FaultKeeps, MayChange, MayLink, MayMark, ParentKeeps, RequestKeeps, SubCommittedKeeps, all_set, links_of, marks_of, offsets_of, slots_of}
-use Rattle.notes.specs.Lists.{at}
-use Rattle.tx_core.specs.Locks.{member_page_in_full, offset_page, subtrans_lock, subtrans_page, xact_lock, xact_lock_of, xact_page}
+use Rattle.tx_core.specs.CutsFollow.{CutBy}
+use Rattle.tx_core.specs.EngineInvariant.{EngineInvariant}
+use Rattle.tx_core.specs.Entries.{Link, Mark, session_of}
+use Rattle.tx_core.specs.FaultsRise.{faults_told}
+use Rattle.tx_core.specs.Laws.{AbortedKeeps, AreThere, ChangesKeep, CommittedKeeps, FaultKeeps, HostKindKeeps, MayChange, MayLink, MayMark, ParentKeeps, RequestKeeps, SubCommittedKeeps, all_set, links_of, marks_of, offsets_of, slots_of}
+use Rattle.disk_core.specs.Faults.{HasRisen}
+use Rattle.notes.specs.Lists.{Knows, add, at}
+use Rattle.tx_core.specs.Locks.{IsPageLock, member_page_in_full, offset_page, subtrans_lock, subtrans_page, xact_lock, xact_lock_of, xact_page}
 use Rattle.tx_core.specs.LogBeforeStatus.{RecordOf, TreeOf}
 use Rattle.tx_core.specs.MultiEntries.{SetOffset, SetSlot}
 use Rattle.tx_core.specs.MembersBeforeOffset.{OffsetOf, SlotOf}
 use Rattle.tx_core.specs.PagesBeforeIds.{WasMade}
 use Rattle.tx_core.specs.ParentsFollow.{IsGivenBelow}
-use Rattle.tx_core.specs.ProgramOrder.{change_lock}
+use Rattle.tx_core.specs.ProgramOrder.{AreCallers, NeedsTurn, change_lock}
 use Rattle.tx_core.specs.declared.entry.Change.TheVariants as changes
 use Rattle.tx_core.specs.declared.entry.Kind.TheVariants as kinds
 use Rattle.tx_core.specs.declared.entry.State.TheVariants as states
@@ -75,7 +79,7 @@ changes_law start seen lock by changes may lists k knows inside whole turn =
       status = record { logged = a.logged; tree = a.tree };
       commits = tt;
       aborts = record { closed = tt; given = a.given; asked = a.asked; unasked = λ here. tt; unrecorded = a.unrecorded; final = record { later = a.later; alike = a.alike } };
-      order = record { turn = turn; stands = may.on };
+      order = record { turn = inl turn; stands = may.on };
       log = record { counters = tt; named = tt; flushed = tt };
       cuts = tt;
       multis = tt;
@@ -88,8 +92,10 @@ changes_law start seen lock by changes may lists k knows inside whole turn =
       ends = record { event = λ here. tt; ids = λ here. tt };
     })
 
-pub fault_law : FaultKeeps
-fault_law start seen lock by callers changes cut count may named truncated risen lists k knows inside whole turn =
+fault_in_turn : (start : Start) (seen : List (List Entry)) (lock : ℕ) (by : By) (callers : List By) (changes : List Change) (cut : Option ℕ) (count : ℕ) → MayChange start seen lock by.session changes → AreCallers by callers changes → IfSome cut (CutBy start seen lock) → HasRisen (faults_told start lock (at seen lock)) count
+    → (lists : List (List Entry)) → EngineInvariant start lists → Knows session_of by.session seen lists → lock < length lists → at seen lock ≡ at lists lock → NeedsTurn start seen lock (at seen lock) (record { by = by; kind = kinds.Fault callers changes cut count })
+    → EngineInvariant start (add lists lock (record { by = by; kind = kinds.Fault callers changes cut count }))
+fault_in_turn start seen lock by callers changes cut count may named truncated risen lists k knows inside whole turn =
     let a = asked_of_each start seen lock by.session changes may in
     keeps start lists seen lock (record { by = by; kind = kinds.Fault callers changes cut count }) k knows inside whole (record {
       events = record { own = tt; rule = λ here. tt };
@@ -112,6 +118,23 @@ fault_law start seen lock by callers changes cut count may named truncated risen
       ends = record { event = λ here. tt; ids = λ here. tt };
     })
 
+pub fault_law : FaultKeeps
+fault_law start seen lock by callers changes cut count may named truncated risen lists k knows inside whole turn = fault_in_turn start seen lock by callers changes cut count may named truncated risen lists k knows inside whole (inl turn)
+
+-- a fault of the host, which changes nothing
+pub host_fault_law : (start : Start) (seen : List (List Entry)) (lock : ℕ) (by : By) (callers : List By) (count : ℕ) → IsPageLock start lock → AreCallers by callers [] → HasRisen (faults_told start lock (at seen lock)) count → HostKindKeeps start seen lock by (kinds.Fault callers [] None count)
+host_fault_law start seen lock by callers count on named risen lists k knows inside whole turn =
+    fault_in_turn start seen lock by callers [] None count
+    (record {
+      on = record { bank = on; pages = tt };
+      marks = λ mark c. absurd (contains_has [] mark c);
+      alike = λ mark other c. absurd (contains_has [] mark c);
+      links = λ link c. absurd (contains_has [] link c);
+      offsets = λ set c. absurd (contains_has [] set c);
+      slots = λ slot c. absurd (contains_has [] slot c);
+    })
+    named tt risen lists k knows inside whole (inr (turn, (refl, refl)))
+
 pub request_law : RequestKeeps
 request_law start seen lock by changes behind given unrecorded lists k knows inside whole turn =
     keeps start lists seen lock (record { by = by; kind = kinds.Request changes }) k knows inside whole (record {
@@ -129,7 +152,7 @@ request_law start seen lock by changes behind given unrecorded lists k knows ins
         unrecorded = all_from (λ mark. AskUnrecorded seen by.session mark.caller.session mark.id mark.state) (marks_of changes) (λ mark k. unrecorded mark (has_contains (marks_of changes) mark k));
         final = record { later = tt; alike = tt };
       };
-      order = record { turn = turn; stands = behind };
+      order = record { turn = inl turn; stands = behind };
       log = record { counters = tt; named = tt; flushed = tt };
       cuts = tt;
       multis = tt;

@@ -1,5 +1,5 @@
 -- The entries of the ProcArray keep the invariant, and so does a commit record.
-use Rattle.std.proofs.Common.{List, refl, ◌≡◌}
+use Rattle.std.proofs.Common.{inl, List, refl, ◌≡◌}
 use Rattle.tx_events.specs.declared.event.By.{By}
 use Rattle.tx_events.specs.declared.event.Event.{Event}
 use Rattle.tx_events.specs.Events.{by_of}
@@ -35,7 +35,7 @@ event_keeps start seen by event own rule pages leaves aborts states closed lists
       status = record { logged = tt; tree = tt };
       commits = states;
       aborts = record { closed = closed; given = tt; asked = tt; unasked = λ here. tt; unrecorded = tt; final = record { later = tt; alike = tt } };
-      order = record { turn = turn; stands = refl };
+      order = record { turn = inl turn; stands = refl };
       log = record { counters = tt; named = tt; flushed = tt };
       cuts = tt;
       multis = tt;
@@ -85,7 +85,7 @@ made_law start seen by id made next lists k knows inside whole turn =
       status = record { logged = tt; tree = tt };
       commits = tt;
       aborts = record { closed = tt; given = tt; asked = tt; unasked = λ here. tt; unrecorded = tt; final = record { later = tt; alike = tt } };
-      order = record { turn = turn; stands = refl };
+      order = record { turn = inl turn; stands = refl };
       log = record { counters = tt; named = tt; flushed = tt };
       cuts = tt;
       multis = tt;
@@ -108,7 +108,7 @@ commit_record_law start seen by top subs opened root parents unasked none unabor
       status = record { logged = tt; tree = tt };
       commits = tt;
       aborts = record { closed = tt; given = tt; asked = tt; unasked = λ here. unasked; unrecorded = tt; final = record { later = tt; alike = tt } };
-      order = record { turn = turn; stands = refl };
+      order = record { turn = inl turn; stands = refl };
       log = record { counters = (base, tt); named = tt; flushed = tt };
       cuts = tt;
       multis = tt;

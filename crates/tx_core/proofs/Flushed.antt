@@ -1,6 +1,6 @@
--- A commit that counts has its record on disk.
+-- A commit that counts has its record on disk, and what a record names is shown once the commit counts.
 use Rattle.std.proofs.lemmas.Option.{same_Some}
-use Rattle.std.proofs.Common.{Contains, List, ap, arith, sym, take, ℕ, ⊎_elim, ◌<◌, ◌∙◌, ◌∷◌, ◌≡◌, ◌≤◌, refl, Some, []}
+use Rattle.std.proofs.Common.{Contains, List, ap, arith, subst, sym, take, ℕ, ⊎_elim, ◌<◌, ◌∙◌, ◌∷◌, ◌≡◌, ◌≤◌, refl, Some, []}
 use Rattle.std.specs.List.{slice_get}
 use Rattle.tx_events.specs.declared.event.By.{By}
 use Rattle.tx_events.specs.declared.event.Event.TheVariants as events
@@ -12,7 +12,11 @@ use Rattle.tx_core.specs.declared.entry.Entry.{Entry}
 use Rattle.tx_core.specs.declared.entry.Kind.TheVariants as kinds
 use Rattle.tx_core.specs.declared.entry.Start.{Start}
 use Rattle.tx_core.specs.declared.entry.State.TheVariants as states
-use Rattle.tx_core.specs.Consequences.{CommitsAreFlushed, IsLastFlush}
+use Rattle.tx_events.specs.Running.{open_ids}
+use Rattle.tx_events.specs.XactEnds.{end_event}
+use Rattle.tx_events.specs.declared.xact_end.XactEnd.TheVariants as ends
+use Rattle.tx_core.specs.declared.entry.Kind.{Kind}
+use Rattle.tx_core.specs.Consequences.{CommitsAreFlushed, IsLastFlush, RecordsShown}
 use Rattle.tx_core.specs.EngineInvariant.{EngineInvariant}
 use Rattle.tx_core.specs.Entries.{IsMarked, Mark, appended, event_of, flushed_to, history, marks, marks_in}
 use Rattle.tx_core.specs.Locks.{log_lock, proc_lock, xact_lock_of}
@@ -80,3 +84,24 @@ commits_are_flushed start lists by top k counts =
     let upto : flushed.1 ≤ flushed_to start (at lists log_lock) = last.greatest flushed.1 flushed.6 in
     let below = flushed.5 in
     (flushed.0, own.0, stated.0, own.1, flushed.4 ∙ ap (λ (e : Entry). appended e) same, omega arith)
+
+-- the subtransactions that a commit record names
+abbrev subs_of : Kind → List ℕ
+subs_of (kinds.Append (records.Commit top subs)) = subs
+subs_of kind = []
+
+pub records_shown : RecordsShown
+records_shown start lists session top subs id k none logged named =
+    ⊎_elim
+    (λ (opened : open_ids session (history lists) ≡ top ∷ subs). absurd (none top subs logged opened))
+    (λ (closed : (p : ℕ) × (by : By) × (by.session ≡ session) × (slice_get (history lists) p ≡ Some (end_event ends.Commit by top)) × (open_ids session (take p (history lists)) ≡ top ∷ subs)).
+    let by : By = closed.1 in
+    let event = has_filter_map event_of (at lists proc_lock) (events.Commit by top) (place_has (history lists) closed.0 (events.Commit by top) closed.3) in
+    let stated : StatesOf start lists (kinds.Event (events.Commit by top)) = states_of start lists proc_lock [] event.0 by top (upheld_has (NeedsStates start) lists proc_lock event.0 k.commits.each event.1).1 event.2 in
+    let own = stated.1 in
+    let in_one : Contains (top ∷ subs) top = (0, omega arith, refl) in
+    let in_other : Contains (top ∷ stated.0) top = (0, omega arith, refl) in
+    let same : commit_by logged.0 top subs ≡ commit_by own.0 top stated.0
+    = one_commit lists top logged.0 own.0 top top subs stated.0 k.once (contains_has (at lists log_lock) (commit_by logged.0 top subs) logged.2) (contains_has (at lists log_lock) (commit_by own.0 top stated.0) own.2) in_one in_other in
+    stated.2 id (subst (λ (l : List ℕ). Contains (top ∷ l) id) (ap (λ (e : Entry). subs_of e.kind) same) named))
+    (k.records.exact session top subs logged).ids

@@ -28,7 +28,7 @@ use Rattle.tx_core.specs.CommitRecordsExact.{CommitRecordsExact, LeavesRecords, 
 use Rattle.tx_core.specs.AbortRecordsExact.{AbortRecordsExact, LeavesAborts}
 use Rattle.tx_core.specs.Wholeness.{IsWholeIn}
 use Rattle.tx_core.specs.EngineInvariant.{EngineInvariant, MayAdd}
-use Rattle.tx_core.specs.Entries.{IsAppended, Mark, asks_in, event_of, events_in, history, session_of}
+use Rattle.tx_core.specs.Entries.{IsAppended, Mark, asks_in, event_in, event_of, events_in, history, session_of}
 use Rattle.tx_core.specs.EventsLegal.{EventsLegal, NeedsOwn}
 use Rattle.notes.specs.Lists.{Knows, add, at, own}
 use Rattle.tx_core.specs.Lists.{IsLasting, Upheld}
@@ -36,7 +36,7 @@ use Rattle.tx_core.specs.Locks.{log_lock, proc_lock}
 use Rattle.tx_core.specs.LogBeforeStatus.{LogBeforeStatus, NeedsRecords, NeedsTree}
 use Rattle.tx_core.specs.PagesBeforeIds.{NeedsPages, NeedsPlace, NeedsZero, PagesBeforeIds}
 use Rattle.tx_core.specs.ParentsFollow.{NeedsSubs}
-use Rattle.tx_core.specs.ProgramOrder.{IsInTurn, NeedsStand, NeedsTurn, ProgramOrder}
+use Rattle.tx_core.specs.ProgramOrder.{ComesAfter, IsHostsTurn, IsInTurn, IsOfHost, NeedsStand, NeedsTurn, ProgramOrder}
 use Rattle.tx_core.specs.RecordsFollow.{NeedsCounters, NeedsFlush, NeedsNamed, RecordsFollow}
 use Rattle.tx_core.specs.CutsFollow.{NeedsCut}
 use Rattle.tx_core.specs.MultisLegal.{NeedsMulti}
@@ -49,6 +49,7 @@ use Rattle.tx_core.specs.RecordsOnce.{NeedsOnce}
 use Rattle.tx_core.proofs.LastingFurther.{counters_lasting, cuts_lasting, down_lasting, faults_lasting, multis_lasting, offsets_lasting, once_lasting, posts_lasting, slots_lasting, syncs_lasting}
 use Rattle.tx_core.specs.StatusBeforeCommit.{NeedsStates}
 use Rattle.tx_events.specs.declared.event.Event.TheVariants as events
+use Rattle.tx_core.specs.declared.entry.Kind.{Kind}
 use Rattle.tx_core.specs.declared.entry.Kind.TheVariants as kinds
 use Rattle.tx_events.specs.declared.record.Rec.TheVariants as records
 use Rattle.tx_core.specs.declared.entry.State.TheVariants as states
@@ -76,15 +77,24 @@ history_here start seen lists lock e s q = ap (λ z. history (add lists z e)) (s
 seen_whole : (start : Start) (seen lists : List (List Entry)) (lock : ℕ) (e : Entry) → Step start seen lists lock e → proc_lock ≡ lock → history seen ≡ history lists
 seen_whole start seen lists lock e s q = ap events_in (subst (λ z. at seen z ≡ at lists z) (sym q) s.whole)
 
+-- the host adds no event
+no_hosts_event : (kind : Kind) (event : Event) → IsOfHost kind → event_in kind ≡ Some event → ⊥
+no_hosts_event (kinds.Event event) other k h = k
+no_hosts_event _ other k h = absurd cc
+
+-- the command of an event comes after its session's earlier ones
+comes_after : (start : Start) (lists : List (List Entry)) (lock : ℕ) (before : List Entry) (e : Entry) (event : Event) → event_of e ≡ Some event → NeedsTurn start lists lock before e → ComesAfter before e.by
+comes_after start lists lock before e event h = ⊎_elim (λ (t : IsInTurn start before e.by). t.after) (λ (t : IsHostsTurn start e.by × IsOfHost e.kind). absurd (no_hosts_event e.kind event t.1 h))
+
 -- a session whose entries go by its commands lets its events go by them
-comes_in_turn : (start : Start) (es : List Entry) (by : By) (event : Event) → ((f : Entry) (other : Event) → Has es f → event_of f ≡ Some other → by_of other ≡ f.by) → IsInTurn start es by → by_of event ≡ by → ComesInTurn (events_in es) event
-comes_in_turn start es by event own turn mine =
+comes_in_turn : (start : Start) (es : List Entry) (by : By) (event : Event) → ((f : Entry) (other : Event) → Has es f → event_of f ≡ Some other → by_of other ≡ f.by) → ComesAfter es by → by_of event ≡ by → ComesInTurn (events_in es) event
+comes_in_turn start es by event own after mine =
     all_has (λ f. (by_of f).command ≤ (by_of event).command) (filter (is_of (by_of event).session) (events_in es)) (λ f k.
     let r = has_filter (is_of (by_of event).session) (events_in es) f k in
     let from = has_filter_map event_of es f r.0 in
     let his : by_of f ≡ from.0.by = own from.0 f from.1 from.2 in
     let session : (from.0.by.session == by.session) ≡ true = ap (λ (z : By). z.session == by.session) (sym his) ∙ ap (λ (z : By). (by_of f).session == z.session) (sym mine) ∙ r.1 in
-    let le : from.0.by.command ≤ by.command = has_all (λ g. g.by.command ≤ by.command) (filter (λ g. g.by.session == by.session) es) turn.after from.0 (filter_has (λ g. g.by.session == by.session) es from.0 from.1 session) in
+    let le : from.0.by.command ≤ by.command = has_all (λ g. g.by.command ≤ by.command) (filter (λ g. g.by.session == by.session) es) after from.0 (filter_has (λ g. g.by.session == by.session) es from.0 from.1 session) in
     subst (λ (z : By). z.command ≤ (by_of event).command) (sym his) (subst (λ (z : By). from.0.by.command ≤ z.command) (sym mine) le))
 
 events_kept : (start : Start) (seen lists : List (List Entry)) (lock : ℕ) (e : Entry) → Step start seen lists lock e → EventsLegal start (add lists lock e)
@@ -97,9 +107,9 @@ events_kept start seen lists lock e s = record {
         | None ↦ λ g. subst (IsLegal start.base) (sym (append-nil (history lists))) s.k.events.legal
         | Some event ↦ λ g. let r = rule_of start seen lock (at seen lock) e event s.may.events (sym q) g in
             let own : NeedsOwn lists lock (at lists lock) e = need_now start seen lists lock e s NeedsOwn own_lasting s.may.events.own in
-            let turn : IsInTurn start (at lists proc_lock) e.by = subst (λ z. IsInTurn start (at lists z) e.by) (sym q) (need_now start seen lists lock e s (NeedsTurn start) (turns_lasting start) s.may.order.turn) in
+            let after : ComesAfter (at lists proc_lock) e.by = subst (λ z. ComesAfter (at lists z) e.by) (sym q) (comes_after start lists lock (at lists lock) e event g (need_now start seen lists lock e s (NeedsTurn start) (turns_lasting start) s.may.order.turn)) in
             legal_push start.base (history lists) event s.k.events.legal (subst (λ t. MayCome start.base t event) same r)
-            (comes_in_turn start (at lists proc_lock) e.by event (λ f other k h. own_event lists proc_lock [] f other (upheld_has NeedsOwn lists proc_lock f s.k.events.own k).1 h) turn (own_event lists lock (at lists lock) e event own g))
+            (comes_in_turn start (at lists proc_lock) e.by event (λ f other k h. own_event lists proc_lock [] f other (upheld_has NeedsOwn lists proc_lock f s.k.events.own k).1 h) after (own_event lists lock (at lists lock) e event own g))
       ] in
       subst (IsLegal start.base) (sym (history_here start seen lists lock e s q)) (step (event_of e) refl))
       (λ n. subst (IsLegal start.base) (sym (history_off lists lock e n)) s.k.events.legal);

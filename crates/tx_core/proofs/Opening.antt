@@ -1,5 +1,5 @@
--- The invariant holds before the first entry. Entries are of the life's sessions, and commits and aborts are apart.
-use Rattle.std.proofs.Common.{Contains, List, None, Some, [], ap, subst, sym, ℕ, ⊎_elim, ◌∙◌, ◌∷◌, ◌≡◌}
+-- The invariant holds before the first entry. Entries are of the life's sessions or its host, and commits and aborts are apart.
+use Rattle.std.proofs.Common.{Contains, List, None, Some, [], ap, inl, inr, subst, sym, ℕ, ⊎_elim, ◌∙◌, ◌∷◌, ◌≡◌}
 use Rattle.std.specs.List.{slice_get}
 use Rattle.tx_events.proofs.GivenIds.{one_session}
 use Rattle.tx_events.proofs.Membership.{Has, contains_has, has_contains, has_flat_map}
@@ -25,7 +25,7 @@ use Rattle.tx_core.specs.Locks.{log_lock, proc_lock, xact_lock_of}
 use Rattle.tx_core.specs.LogBeforeStatus.{NeedsRecords, NeedsTree}
 use Rattle.tx_core.specs.PagesBeforeIds.{NeedsPages, NeedsPlace, NeedsZero}
 use Rattle.tx_core.specs.ParentsFollow.{NeedsSubs}
-use Rattle.tx_core.specs.ProgramOrder.{NeedsStand, NeedsTurn}
+use Rattle.tx_core.specs.ProgramOrder.{IsHostsTurn, IsInTurn, IsOfHost, NeedsStand, NeedsTurn}
 use Rattle.tx_core.specs.RecordsFollow.{NeedsCounters, NeedsFlush, NeedsNamed}
 use Rattle.tx_core.specs.CutsFollow.{NeedsCut}
 use Rattle.tx_core.specs.MultisLegal.{NeedsMulti}
@@ -75,7 +75,9 @@ opens start lists empty =
     }
 
 pub sessions_known : SessionsKnown
-sessions_known start lists k lock e c = (upheld_has (NeedsTurn start) lists lock e k.order.turns (contains_has (at lists lock) e c)).1.known
+sessions_known start lists k lock e c =
+    let turn = upheld_has (NeedsTurn start) lists lock e k.order.turns (contains_has (at lists lock) e c) in
+    ⊎_elim (λ (t : IsInTurn start turn.0 e.by). inl t.known) (λ (t : IsHostsTurn start e.by × IsOfHost e.kind). inr (t.0.known, t.1)) turn.1
 
 pub asked_given : AskedGiven
 asked_given start lists session id state k a =

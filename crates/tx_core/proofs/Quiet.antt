@@ -1,5 +1,5 @@
 -- Entries that say nothing of ids ask for nothing.
-use Rattle.std.proofs.Common.{Bool, IfSome, List, false, refl, true, ℕ, ◌≡◌, ◌⊎◌, Contains, subst, sym, ◌∷◌}
+use Rattle.std.proofs.Common.{Bool, IfSome, List, None, [], false, inl, inr, length, refl, true, ℕ, ◌<◌, ◌≡◌, ◌⊎◌, Contains, subst, sym, ◌∷◌}
 use Rattle.std.specs.List.{AllByRecursion, filter_map}
 use Rattle.tx_events.specs.declared.event.By.{By}
 use Rattle.tx_events.specs.declared.event.Event.{Event}
@@ -12,12 +12,14 @@ use Rattle.tx_events.specs.Events.{given_to}
 use Rattle.tx_core.specs.declared.entry.Entry.{Entry}
 use Rattle.tx_core.specs.declared.entry.Kind.{Kind}
 use Rattle.tx_core.specs.declared.entry.Start.{Start}
+use Rattle.tx_core.proofs.ChangeLaws.{host_fault_law}
 use Rattle.tx_core.proofs.Keeping.{keeps}
 use Rattle.tx_core.specs.AbortRule.{AbortsOf, AskUnrecorded, AskedOf, GivenOf, IsSameAfter, RecordUnasked}
 use Rattle.tx_core.specs.CommitRecordsExact.{LeavesRecords, LinksOf, RecordMay}
-use Rattle.tx_core.specs.Entries.{EachMark, Link, Mark, asked_in, changes_in, cut_in, event_in, events_in, history, link_of, mark_of}
-use Rattle.tx_core.specs.Laws.{AbortRecordKeeps, CheckpointRecordKeeps, CutKeeps, FlushKeeps, ForgetKeeps, KindKeeps, LogFaultKeeps, LookKeeps, MultiEventKeeps, MultiRecordKeeps, SyncKeeps, TruncateRecordKeeps, ZeroKeeps}
-use Rattle.notes.specs.Lists.{at}
+use Rattle.tx_core.specs.Entries.{EachMark, Link, Mark, asked_in, changes_in, cut_in, event_in, events_in, history, link_of, mark_of, session_of}
+use Rattle.tx_core.specs.EngineInvariant.{EngineInvariant}
+use Rattle.tx_core.specs.Laws.{AbortRecordKeeps, CheckpointRecordKeeps, CutKeeps, FlushKeeps, ForgetKeeps, HostKindKeeps, HostsKeep, KindKeeps, LogFaultKeeps, LookKeeps, MultiEventKeeps, MultiRecordKeeps, SyncKeeps, TruncateRecordKeeps, ZeroKeeps}
+use Rattle.notes.specs.Lists.{Knows, add, at}
 use Rattle.tx_core.specs.Locks.{log_lock, member_page_in_full, multi_lock, offset_page, subtrans_page, xact_page}
 use Rattle.tx_core.specs.LogBeforeStatus.{RecordOf, TreeOf}
 use Rattle.tx_core.specs.MultisLegal.{ToldOf}
@@ -37,7 +39,7 @@ use Rattle.disk_core.specs.Faults.{HasRisen}
 use Rattle.tx_core.specs.Locks.{oldest_word, xmin_word}
 use Rattle.tx_events.specs.Multis.{InBase, MultiMayCome, multi_by}
 use Rattle.tx_core.specs.ParentsFollow.{IsGivenBelow}
-use Rattle.tx_core.specs.ProgramOrder.{MayStand}
+use Rattle.tx_core.specs.ProgramOrder.{IsOfHost, MayStand, NeedsTurn}
 use Rattle.tx_core.specs.StatusBeforeCommit.{StatesOf}
 use Rattle.tx_core.specs.declared.entry.Kind.TheVariants as kinds
 use Rattle.tx_events.specs.declared.record.Rec.TheVariants as records
@@ -123,8 +125,9 @@ pub record HasNeeds (start : Start) (seen : List (List Entry)) (lock : ℕ) (by 
   pub ends : AbortMay seen by.session kind
 
 -- so its turn, that it may stand there, and these needs are all that it needs
-pub quiet_keeps : (start : Start) (seen : List (List Entry)) (lock : ℕ) (by : By) (kind : Kind) → is_quiet kind ≡ true → MayStand start lock by kind → HasNeeds start seen lock by kind → KindKeeps start seen lock by kind
-quiet_keeps start seen lock by kind q stands needs lists k knows inside whole turn =
+quiet_in_turn : (start : Start) (seen : List (List Entry)) (lock : ℕ) (by : By) (kind : Kind) → is_quiet kind ≡ true → MayStand start lock by kind → HasNeeds start seen lock by kind → (lists : List (List Entry)) → EngineInvariant start lists → Knows session_of by.session seen lists → lock < length lists → at seen lock ≡ at lists lock
+    → NeedsTurn start seen lock (at seen lock) (record { by = by; kind = kind }) → EngineInvariant start (add lists lock (record { by = by; kind = kind }))
+quiet_in_turn start seen lock by kind q stands needs lists k knows inside whole turn =
     let e : Entry = record { by = by; kind = kind } in
     let before : List Entry = at seen lock in
     keeps start lists seen lock e k knows inside whole (record {
@@ -174,6 +177,14 @@ quiet_keeps start seen lock by kind q stands needs lists k knows inside whole tu
       ends = record { event = λ here. quiet_event (λ event. LeavesAborts seen event) kind q; ids = λ here. needs.ends };
     })
 
+-- of a session
+pub quiet_keeps : (start : Start) (seen : List (List Entry)) (lock : ℕ) (by : By) (kind : Kind) → is_quiet kind ≡ true → MayStand start lock by kind → HasNeeds start seen lock by kind → KindKeeps start seen lock by kind
+quiet_keeps start seen lock by kind q stands needs lists k knows inside whole turn = quiet_in_turn start seen lock by kind q stands needs lists k knows inside whole (inl turn)
+
+-- and of the host
+host_keeps : (start : Start) (seen : List (List Entry)) (lock : ℕ) (by : By) (kind : Kind) → is_quiet kind ≡ true → IsOfHost kind → MayStand start lock by kind → HasNeeds start seen lock by kind → HostKindKeeps start seen lock by kind
+host_keeps start seen lock by kind q his stands needs lists k knows inside whole turn = quiet_in_turn start seen lock by kind q stands needs lists k knows inside whole (inr (turn, his))
+
 pub abort_record_law : AbortRecordKeeps
 abort_record_law start seen by top subs opened root none unaborted base up lists k knows inside whole turn =
     let h = history seen in
@@ -221,3 +232,22 @@ look_law start seen lock by = quiet_keeps start seen lock by kinds.Look refl tt 
 
 pub post_keeps : (start : Start) (seen : List (List Entry)) (lock : ℕ) (by : By) (number : ℕ) → (lock ≡ oldest_word start) ⊎ (lock ≡ xmin_word start) → PostOf start seen lock (at seen lock) number → KindKeeps start seen lock by (kinds.Post number)
 post_keeps start seen lock by number on posted = quiet_keeps start seen lock by (kinds.Post number) refl on (record { made = tt; counters = tt; named = tt; flushed = tt; cuts = tt; multis = tt; syncs = tt; posts = posted; faults = tt; down = tt; once = tt; ends = tt })
+
+-- ---- the host
+
+pub hosts_keep : HostsKeep
+hosts_keep start seen by = record {
+  checkpoint = λ number counters base follows up.
+      host_keeps start seen log_lock by (kinds.Append (records.Checkpoint number counters)) refl tt refl (record { made = tt; counters = (base, follows); named = tt; flushed = tt; cuts = tt; multis = tt; syncs = tt; posts = tt; faults = tt; down = up; once = tt; ends = tt });
+  flush = λ to rises within up.
+      host_keeps start seen log_lock by (kinds.Flush to) refl tt refl (record { made = tt; counters = tt; named = tt; flushed = (rises, within); cuts = tt; multis = tt; syncs = tt; posts = tt; faults = tt; down = up; once = tt; ends = tt });
+  forget = λ number may up.
+      host_keeps start seen log_lock by (kinds.Forget number) refl tt refl (record { made = tt; counters = tt; named = tt; flushed = tt; cuts = tt; multis = tt; syncs = may; posts = tt; faults = tt; down = up; once = tt; ends = tt });
+  log_fault = λ asked count may up risen.
+      host_keeps start seen log_lock by (kinds.LogFault asked count) refl tt refl (record { made = tt; counters = tt; named = tt; flushed = tt; cuts = tt; multis = tt; syncs = may; posts = tt; faults = risen; down = up; once = tt; ends = tt });
+  sync = λ lock on.
+      host_keeps start seen lock by kinds.Sync refl tt on (record { made = tt; counters = tt; named = tt; flushed = tt; cuts = tt; multis = tt; syncs = tt; posts = tt; faults = tt; down = tt; once = tt; ends = tt });
+  fault = λ lock callers count on named risen. host_fault_law start seen lock by callers count on named risen;
+  look = λ lock.
+      host_keeps start seen lock by kinds.Look refl tt tt (record { made = tt; counters = tt; named = tt; flushed = tt; cuts = tt; multis = tt; syncs = tt; posts = tt; faults = tt; down = tt; once = tt; ends = tt });
+}

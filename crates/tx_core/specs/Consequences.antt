@@ -1,5 +1,5 @@
 -- What follows from the invariant, of any lists that keep it.
-use Rattle.std.specs.Prelude.{[], Contains, IsTrue, List, Some, length, min, slice_get, take, true, ℕ, ◌+◌, ◌++◌, ◌-◌, ◌<◌, ◌^◌, ◌∷◌, ◌≡◌, ◌≤◌}
+use Rattle.std.specs.Prelude.{[], Contains, IsTrue, List, Some, length, min, slice_get, take, true, ℕ, ◌+◌, ◌++◌, ◌-◌, ◌<◌, ◌^◌, ◌∷◌, ◌≡◌, ◌≤◌, ◌⊎◌}
 use Rattle.tx_events.specs.declared.event.By.{By}
 use Rattle.tx_events.specs.declared.event.Event.{Event}
 use Rattle.tx_events.specs.declared.event.Event.TheVariants as events
@@ -12,11 +12,13 @@ use Rattle.tx_core.specs.declared.entry.Entry.{Entry}
 use Rattle.tx_core.specs.declared.entry.Start.{Start}
 use Rattle.tx_core.specs.declared.entry.State.{State}
 use Rattle.tx_core.specs.AbortRule.{Asks}
+use Rattle.tx_core.specs.CommitRecordsExact.{HasNoRecord}
 use Rattle.tx_core.specs.EngineInvariant.{EngineInvariant}
 use Rattle.tx_core.specs.Entries.{IsAppended, IsMarked, history, Stands, cut_in, flushed_to, records_of}
 use Rattle.tx_core.specs.FaultsRise.{counts_in, faults_at, faults_told}
 use Rattle.tx_core.specs.StaysDown.{is_down}
 use Rattle.tx_core.specs.MultiEntries.{multi_history}
+use Rattle.tx_core.specs.ProgramOrder.{IsOfHost}
 use Rattle.notes.specs.Lists.{Grows, at}
 use Rattle.tx_core.specs.Locks.{log_lock, oldest_word, subtrans_lock, subtrans_page, xact_lock, xact_page, xmin_word}
 use Rattle.tx_core.specs.RecordsFollow.{AreNotBelow, IsGenOf, counters_after}
@@ -28,9 +30,14 @@ use Rattle.tx_core.specs.declared.entry.Kind.TheVariants as kinds
 use Rattle.tx_events.specs.declared.record.Rec.TheVariants as records
 use Rattle.tx_core.specs.declared.entry.State.TheVariants as states
 
--- each entry is of one of the life's sessions
+-- the entry is of the life's host, and one that it may add
+abbrev pub IsHosts : Start → Entry → Type 0
+IsHosts start e = (e.by.session ≡ start.sessions) × IsOfHost e.kind
+
+-- each entry is of one of the life's sessions, or of its host
 abbrev pub AreOfSessions : Start → List (List Entry) → Type 0
-AreOfSessions start lists = (lock : ℕ) (e : Entry) → Contains (at lists lock) e → e.by.session < start.sessions
+AreOfSessions start lists =
+    (lock : ℕ) (e : Entry) → Contains (at lists lock) e → (e.by.session < start.sessions) ⊎ IsHosts start e
 
 abbrev pub SessionsKnown : Type 0
 SessionsKnown = (start : Start) (lists : List (List Entry)) → EngineInvariant start lists → AreOfSessions start lists
@@ -169,3 +176,10 @@ pub record AreGiven (lists : List (List Entry)) (session : ℕ) : Type 0 where
 
 abbrev pub RecordsGiven : Type 0
 RecordsGiven = (start : Start) (lists : List (List Entry)) (session : ℕ) → EngineInvariant start lists → AreGiven lists session
+
+-- What a commit record names was set committed, unless the record waits for its commit event. So a checkpoint that finds
+-- none waiting puts on disk what the records before it name.
+abbrev pub RecordsShown : Type 0
+RecordsShown = (start : Start) (lists : List (List Entry)) (session top : ℕ) (subs : List ℕ) (id : ℕ) →
+    EngineInvariant start lists → HasNoRecord lists session → IsAppended lists session (records.Commit top subs) → Contains (top ∷ subs) id
+    → IsMarked start lists id states.Committed

@@ -1,6 +1,6 @@
 -- What the laws say: each kind of entry, with what its session needs of the lists that it has seen, keeps the invariant.
 use Rattle.std.specs.List.{filter_map}
-use Rattle.std.specs.Prelude.{Contains, IfSome, List, Option, [], length, map, true, ℕ, ◌+◌, ◌<◌, ◌∷◌, ◌≡◌, ◌≤◌, ◌⊎◌}
+use Rattle.std.specs.Prelude.{Contains, IfSome, List, None, Option, [], length, map, true, ℕ, ◌+◌, ◌<◌, ◌∷◌, ◌≡◌, ◌≤◌, ◌⊎◌}
 use Rattle.tx_events.specs.declared.event.By.{By}
 use Rattle.tx_events.specs.declared.multi.MultiEvent.{MultiEvent}
 use Rattle.tx_events.specs.declared.record.Rec.{Rec}
@@ -32,7 +32,7 @@ use Rattle.tx_core.specs.Locks.{IsPageLock, first_request, log_lock, member_page
 use Rattle.tx_core.specs.LogBeforeStatus.{InTree, IsDurable, RecordOf, TreeOf}
 use Rattle.tx_core.specs.PagesBeforeIds.{IsMade, IsTold, IsWanted, WasMade}
 use Rattle.tx_core.specs.ParentsFollow.{IsGivenBelow}
-use Rattle.tx_core.specs.ProgramOrder.{AreCallers, AreOn, IsInTurn}
+use Rattle.tx_core.specs.ProgramOrder.{AreCallers, AreOn, IsHostsTurn, IsInTurn}
 use Rattle.tx_core.specs.RecordsFollow.{CheckpointOf, IsGenOf, IsMultiAnnounced, IsOldestAnnounced, counters_after}
 use Rattle.tx_core.specs.CutsFollow.{CutBy}
 use Rattle.tx_core.specs.MultisLegal.{ToldOf}
@@ -59,6 +59,12 @@ Keeps =
 abbrev pub KindKeeps : Start → List (List Entry) → ℕ → By → Kind → Type 0
 KindKeeps start seen lock by kind =
     (lists : List (List Entry)) → EngineInvariant start lists → Knows session_of by.session seen lists → lock < length lists → at seen lock ≡ at lists lock → IsInTurn start (at seen lock) by
+    → EngineInvariant start (add lists lock (record { by = by; kind = kind }))
+
+-- and of one that the life's host adds in its turn
+abbrev pub HostKindKeeps : Start → List (List Entry) → ℕ → By → Kind → Type 0
+HostKindKeeps start seen lock by kind =
+    (lists : List (List Entry)) → EngineInvariant start lists → Knows session_of by.session seen lists → lock < length lists → at seen lock ≡ at lists lock → IsHostsTurn start by
     → EngineInvariant start (add lists lock (record { by = by; kind = kind }))
 
 -- before the first entry
@@ -340,3 +346,27 @@ ParentKeeps = (start : Start) (seen : List (List Entry)) (bank : ℕ) (by : By) 
     → WasMade (at seen (subtrans_lock bank)) (subtrans_page start.base.next) (subtrans_page id)
     → IsGivenBelow seen by.session parent id
     → KindKeeps start seen (subtrans_lock bank) by (kinds.Set (changes.Parent by id parent ∷ []))
+
+-- ---- the host
+
+-- What the life's host adds needs what it needs of a session.
+pub record HostKeeps (start : Start) (seen : List (List Entry)) (by : By) : Type 0 where
+  pub checkpoint : (number : ℕ) (counters : Counters) → StaysBase start seen (records.Checkpoint number counters)
+      → CheckpointOf start seen (at seen log_lock) number counters → IsUp (at seen log_lock)
+      → HostKindKeeps start seen log_lock by (kinds.Append (records.Checkpoint number counters))
+  pub flush : (to : ℕ) → flushed_to start (at seen log_lock) ≤ to → to ≤ start.from + length (records_of seen)
+      → IsUp (at seen log_lock) → HostKindKeeps start seen log_lock by (kinds.Flush to)
+  pub forget : (number : ℕ) → MayForget start seen (at seen log_lock) number → IsUp (at seen log_lock)
+      → HostKindKeeps start seen log_lock by (kinds.Forget number)
+  pub log_fault : (asked : LogCall) (count : ℕ) → ForgetOf start seen (at seen log_lock) (kinds.LogFault asked count)
+      → UpOf (at seen log_lock) (kinds.LogFault asked count)
+      → HasRisen (faults_told start log_lock (at seen log_lock)) count
+      → HostKindKeeps start seen log_lock by (kinds.LogFault asked count)
+  pub sync : (lock : ℕ) → IsPageLock start lock → HostKindKeeps start seen lock by kinds.Sync
+  pub fault : (lock : ℕ) (callers : List By) (count : ℕ) → IsPageLock start lock → AreCallers by callers []
+      → HasRisen (faults_told start lock (at seen lock)) count
+      → HostKindKeeps start seen lock by (kinds.Fault callers [] None count)
+  pub look : (lock : ℕ) → HostKindKeeps start seen lock by kinds.Look
+
+abbrev pub HostsKeep : Type 0
+HostsKeep = (start : Start) (seen : List (List Entry)) (by : By) → HostKeeps start seen by

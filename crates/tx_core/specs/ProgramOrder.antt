@@ -1,7 +1,10 @@
--- Entries are of the life's sessions and go by their commands, and each stands where some call may add it.
+-- Entries are of the life's sessions, or of its host, and go by their commands, and each stands where some call may add
+-- it.
 use Rattle.std.specs.List.{All, AllByRecursion, filter}
-use Rattle.std.specs.Prelude.{Contains, List, map, ℕ, ◌==◌, ◌≡◌, ◌<◌, ◌≤◌, ◌⊎◌}
+use Rattle.std.specs.Prelude.{[], Contains, List, None, map, ℕ, ◌==◌, ◌≡◌, ◌<◌, ◌≤◌, ◌⊎◌}
 use Rattle.tx_events.specs.declared.event.By.{By}
+use Rattle.tx_events.specs.declared.record.Rec.{Rec}
+use Rattle.tx_events.specs.declared.record.Rec.TheVariants as records
 use Rattle.tx_events.specs.Places.{first_seen}
 use Rattle.tx_core.specs.declared.entry.Change.{Change}
 use Rattle.tx_core.specs.declared.entry.Entry.{Entry}
@@ -12,13 +15,37 @@ use Rattle.tx_core.specs.Locks.{IsPageLock, first_request, log_lock, members_loc
 use Rattle.tx_core.specs.declared.entry.Change.TheVariants as changes
 use Rattle.tx_core.specs.declared.entry.Kind.TheVariants as kinds
 
--- the command is of one of the life's sessions, and comes after the session's commands before it, or is the last of them
+-- the command comes after its session's commands before it, or is the last of them
+abbrev pub ComesAfter : List Entry → By → Type 0
+ComesAfter before by = All (λ f. f.by.command ≤ by.command) (filter (λ f. f.by.session == by.session) before)
+
+-- so a command of one of the life's sessions
 pub record IsInTurn (start : Start) (before : List Entry) (by : By) : Type 0 where
   pub known : by.session < start.sessions
-  pub after : All (λ f. f.by.command ≤ by.command) (filter (λ f. f.by.session == by.session) before)
+  pub after : ComesAfter before by
+
+-- and a step of the life's host, whose number is the next one behind the sessions'; it has no commands
+pub record IsHostsTurn (start : Start) (by : By) : Type 0 where
+  pub known : by.session ≡ start.sessions
+  pub no_command : by.command ≡ 0
+
+abbrev pub IsCheckpoint : Rec → Type 0
+IsCheckpoint (records.Checkpoint number counters) = Unit {0}
+IsCheckpoint rec = ⊥
+
+-- What the host may add, which makes checkpoints between the sessions' rounds: it touches no transaction and no page.
+abbrev pub IsOfHost : Kind → Type 0
+IsOfHost (kinds.Append rec) = IsCheckpoint rec
+IsOfHost (kinds.Flush to) = Unit {0}
+IsOfHost (kinds.Forget number) = Unit {0}
+IsOfHost (kinds.LogFault asked count) = Unit {0}
+IsOfHost kinds.Sync = Unit {0}
+IsOfHost (kinds.Fault callers changes cut count) = (changes ≡ []) × (cut ≡ None)
+IsOfHost kinds.Look = Unit {0}
+IsOfHost kind = ⊥
 
 abbrev pub NeedsTurn : Start → List (List Entry) → ℕ → List Entry → Entry → Type 0
-NeedsTurn start lists lock before e = IsInTurn start before e.by
+NeedsTurn start lists lock before e = IsInTurn start before e.by ⊎ (IsHostsTurn start e.by × IsOfHost e.kind)
 
 -- the lock of the page that a change is made on
 abbrev pub change_lock : Start → Change → ℕ
@@ -65,8 +92,8 @@ MayStand start lock by kinds.Look = Unit {0}
 abbrev pub NeedsStand : Start → List (List Entry) → ℕ → List Entry → Entry → Type 0
 NeedsStand start lists lock before e = MayStand start lock e.by e.kind
 
--- In each list each entry is of one of the life's sessions, whose command numbers never fall, and of a kind that some
--- call adds there.
+-- In each list each entry is of one of the life's sessions, or of its host, whose command numbers never fall, and of a
+-- kind that some call adds there.
 pub record ProgramOrder (start : Start) (lists : List (List Entry)) : Type 0 where
   pub turns : Upheld (NeedsTurn start) lists
   pub stand : Upheld (NeedsStand start) lists

@@ -1,5 +1,5 @@
-ghost use Rattle.tx_core.specs.Laws.{Keeps, Opens, CommitRecordKeeps, AbortRecordKeeps, MultiRecordKeeps, CheckpointRecordKeeps, TruncateRecordKeeps, FlushKeeps, ForgetKeeps, LogFaultKeeps, IdEventKeeps, SubEventKeeps, UndoEventKeeps, CommitEventKeeps, AbortEventKeeps, SnapEventKeeps, SnapDropKeeps, OldestKeeps, AskKeeps, MadeKeeps, MultiEventKeeps, ChangesKeep, CommittedKeeps, SubCommittedKeeps, AbortedKeeps, ParentKeeps, ZeroKeeps, CutKeeps, SyncKeeps, FaultKeeps, RequestKeeps, LookKeeps, OldestPostKeeps, XminPostKeeps};
-ghost use Rattle.tx_core.specs.Consequences.{SessionsKnown, NeverAborted, CommittedAsked, AskedGiven, OldestRises, PostsGoOn, MultisAreLegal, NextGiven, ParentsKept, StatesKept, HorizonRises, SnapshotsHold, OpenKept, RaisesTold, FaultsCounted, FlushesRise, CommitsAreFlushed, DownStays, LogIsBehind, CheckpointsTell, RecordsGiven};
+ghost use Rattle.tx_core.specs.Laws.{Keeps, Opens, CommitRecordKeeps, AbortRecordKeeps, MultiRecordKeeps, CheckpointRecordKeeps, TruncateRecordKeeps, FlushKeeps, ForgetKeeps, LogFaultKeeps, IdEventKeeps, SubEventKeeps, UndoEventKeeps, CommitEventKeeps, AbortEventKeeps, SnapEventKeeps, SnapDropKeeps, OldestKeeps, AskKeeps, MadeKeeps, MultiEventKeeps, ChangesKeep, CommittedKeeps, SubCommittedKeeps, AbortedKeeps, ParentKeeps, ZeroKeeps, CutKeeps, SyncKeeps, FaultKeeps, RequestKeeps, LookKeeps, OldestPostKeeps, XminPostKeeps, HostsKeep};
+ghost use Rattle.tx_core.specs.Consequences.{SessionsKnown, NeverAborted, CommittedAsked, AskedGiven, OldestRises, PostsGoOn, MultisAreLegal, NextGiven, ParentsKept, StatesKept, HorizonRises, SnapshotsHold, OpenKept, RaisesTold, FaultsCounted, FlushesRise, CommitsAreFlushed, DownStays, LogIsBehind, CheckpointsTell, RecordsGiven, RecordsShown};
 ghost use Rattle.tx_core.specs.Held.{OpenRuns, PagesHeld};
 ghost use Rattle.tx_core.specs.Nearness.{MadeNear};
 ghost use Rattle.tx_core.specs.Pages.{PagesShow, ParentsShow, OffsetsShow, MembersShow};
@@ -176,7 +176,13 @@ pub fn look()
     ensures { LookKeeps }
 {}
 
-/// Each entry is of one of the life's sessions.
+/// The life's host makes a checkpoint between the sessions' rounds (`CreateCheckPoint` in `xlog.c`): what it adds needs
+/// what it needs of a session.
+pub fn hosts_entries()
+    ensures { HostsKeep }
+{}
+
+/// Each entry is of one of the life's sessions, or of its host, which makes checkpoints.
 pub fn sessions_known()
     ensures { SessionsKnown }
 {}
@@ -323,4 +329,10 @@ pub fn checkpoints_tell()
 /// What a session's record names was given to it.
 pub fn records_given()
     ensures { RecordsGiven }
+{}
+
+/// What a commit record names was set committed, once its session's commit counts (a checkpoint waits for commits that are
+/// in between: `DELAY_CHKPT_START` of `xact.c`).
+pub fn records_shown()
+    ensures { RecordsShown }
 {}

@@ -26,6 +26,7 @@ AreSteps n (asked.round turns ∷ more) (steps.Round number lines ∷ rest) =
     (number ≡ n) × AreLinesOf turns lines × AreSteps (n + 1) more rest
 AreSteps n (asked.dump what at size ∷ more) (steps.Dump of from count reply ∷ rest) =
     (of ≡ what) × (from ≡ at) × (count ≡ size) × AreSteps n more rest
+AreSteps n (asked.checkpoint ∷ more) (steps.Checkpoint reply ∷ rest) = AreSteps n more rest
 AreSteps n more rest = ⊥
 
 -- the events of these lines stand before all others

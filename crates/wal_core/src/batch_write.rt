@@ -31,6 +31,7 @@ pub(crate) fn write_batch<D: LogDisk>(disk: &mut D, gate: u64, behind: &[u8]) ->
 
     ensures written { IsTrue D.tells → OnOk result (AtRest (D.reads disk.new) ((walked (D.reads disk.old)).bodies ++ body_in behind.now ∷ []) (gate + length behind.now)) }
     ensures closed { IsTrue D.tells → OnOk result (slice_index (D.reads disk.new).bytes (gate + length behind.now) ≡ 0) }
+    ensures bytes { IsTrue D.tells → OnOk result ((D.reads disk.new).bytes ≡ overlaid (overlaid (D.reads disk.old).bytes (gate + 1) behind.now) gate (1 ∷ [])) }
     ensures synced { IsTrue D.tells → OnOk result (Only (D.reads disk.new) (D.images disk.new)) }
 
     // A crash at any moment, and one after it, leaves the batches of an image from before, with the new one or without.

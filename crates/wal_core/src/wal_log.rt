@@ -78,8 +78,9 @@ impl<D: LogDisk> WalLog<D> {
     ghost use Rattle.tx_events.specs.After.{after_record};
     ghost use Rattle.disk_core.specs.Faults.{HasRisen};
     ghost use Rattle.disk_core.specs.Images.{LeavesOnly, NoMore};
-    ghost use Rattle.disk_core.specs.Volume.{Volume, IsRead};
+    ghost use Rattle.disk_core.specs.Volume.{Volume, IsRead, overlaid};
     ghost use Rattle.wal_core.specs.declared.refusal.LogRefusal.TheVariants.{LogDown, LogFault, Full, Memory, Damaged};
+    ghost use Rattle.wal_core.specs.Opening.{behind_gate};
     ghost use Rattle.wal_core.specs.Log.{OpensFromImage, MayAppend, IsFull, counters_or_none, bytes_of};
     ghost use Rattle.wal_records.specs.Spelling.{rec_bytes};
     ghost use Rattle.wal_core.specs.Checkpoint.{IsLastCheckpoint, OpensOrBegins};
@@ -162,6 +163,9 @@ impl<D: LogDisk> WalLog<D> {
         ensures err_end { OnErr result (log_end self.new ≡ log_end self.old) }
         // The closed gate behind it is a byte 0.
         ensures closed { IsTrue D.tells → OnOk result (log_pending self.old ≢ [] → slice_index (D.reads (log_disk self.new)).bytes (log_end self.new) ≡ 0) }
+        // The batch is written behind the gate, the gate is opened, and every other byte stays.
+        ensures bytes { IsTrue D.tells → OnOk result (log_pending self.old ≢ [] → (D.reads (log_disk self.new)).bytes
+            ≡ overlaid (overlaid (D.reads (log_disk self.old)).bytes (log_end self.old + 1) (behind_gate (bytes_of (log_pending self.old)))) (log_end self.old) (1 ∷ [])) }
 
         // A checkpoint alone, with the counters of the log, may stand first from then on.
         ensures checkpoint { OnOk result (log_pending self.old ≢ [] → IsLastCheckpoint (log_end self.old) (log_pending self.old) (log_counters self.old) (log_checkpoint self.new)) }

@@ -5,11 +5,11 @@ use Rattle.proc_table.specs.Table.{Table}
 use Rattle.tx_core.specs.Locks.{log_lock}
 use Rattle.engine_parts.specs.declared.part.Part.TheVariants as parts
 use Rattle.engine_parts.specs.Parts.{IsLogOf}
-use Rattle.engine_life.proofs.Counts.{multi_banks_untold, multis_untold, subtrans_many, subtrans_told, xact_behind, xact_many, xact_told}
+use Rattle.engine_life.proofs.Counts.{multi_banks_only_synced, multis_untold, subtrans_many, subtrans_told, xact_behind, xact_many, xact_told}
 use Rattle.engine_life.proofs.Fitting.{end_fit}
 use Rattle.engine_life.proofs.Followed.{follows_here}
 use Rattle.engine_life.specs.Lives.{FollowsList}
-use Rattle.wal_core.specs.LogViews.{log_counters, log_disk, log_down, log_first, log_flushed, log_next, log_recs}
+use Rattle.wal_core.specs.LogViews.{log_checkpoint, log_counters, log_disk, log_down, log_first, log_flushed, log_next, log_recs}
 use Rattle.engine_life.proofs.LogEnds.{log_held}
 use Rattle.engine_life.proofs.closed.close_life.Goals as goal
 
@@ -85,8 +85,8 @@ returns-clause-fit g c tells told right none few =
     let banks = c.args.life.host.cluster.banks in
     let log = c.into_inner-log.result in
     let stands = subst (λ z. IsLogOf start z (list_at seen log_lock)) (sym c.into_inner-log.ensures) (closed.stand 0 (parts.Log taken.result.log) taken.ensures.log).1 in
-    let held = log_held start seen d.tells (d.faults (log_disk log)) (d.images (log_disk log)) (log_recs log) (log_next log) (log_first log) (log_flushed log) (log_counters log) (log_down log) closed.kept stands tells right.told in
+    let held = log_held start seen d.tells (d.faults (log_disk log)) (d.images (log_disk log)) (log_recs log) (log_next log) (log_first log) (log_flushed log) (log_counters log) (log_down log) (log_checkpoint log) closed.kept stands tells right.told in
     let states = xact_behind start seen locks closed.stand (FollowsList p start seen) (follows_here p start seen told (λ v x now. g.met.P.PageDisk.only_now v x told now) closed.kept few) banks taken.result.xact.items c.requires.host.banks closed.count taken.ensures.xact in
     let count = xact_many start seen locks closed.stand banks taken.result.xact.items c.requires.host.banks closed.count taken.ensures.xact in
     end_fit d p start seen _ held.0 (log_recs log) (log_next log) (log_first log) closed.kept right none few (multis_untold start seen locks closed.stand banks closed.count)
-    held.1 held.2 count states (multi_banks_untold start seen locks closed.stand banks c.requires.host.banks closed.count)
+    held.1 held.2 count states (multi_banks_only_synced start seen locks closed.stand banks c.requires.host.banks closed.count)

@@ -13,13 +13,13 @@ use Rattle.tx_core.specs.declared.entry.LogCall.TheVariants as calls
 use Rattle.tx_core.specs.Entries.{records_of, flushed_in, flushed_to}
 use Rattle.tx_core.specs.Locks.{log_lock}
 use Rattle.tx_core.proofs.Lasting.{stands_grows}
-use Rattle.wal_core.specs.LogViews.{log_counters, log_disk, log_down, log_first, log_flushed, log_next, log_recs}
+use Rattle.wal_core.specs.LogViews.{log_checkpoint, log_counters, log_disk, log_down, log_first, log_flushed, log_next, log_recs}
 use Rattle.engine_parts.specs.declared.session.Session.{Session}
 use Rattle.engine_parts.specs.Answers.{MetLogFault}
 use Rattle.engine_parts.specs.Faults.{flush_fault_by, look_of}
 use Rattle.engine_parts.specs.Sessions.{by_at, inner_id, look_by}
 use Rattle.engine_parts.proofs.Leaving.{call_left, grown_left, stands_left}
-use Rattle.engine_parts.proofs.Logging.{failed_here, failed_more, flush_stands, goes_on, log_looks, up_more}
+use Rattle.engine_parts.proofs.Logging.{failed_here, failed_more, first_same, flush_alone, flush_stands, goes_on, log_looks, unflushed, up_more}
 use Rattle.engine_parts.proofs.May.{met_log_fault}
 use Rattle.engine_parts.proofs.Sectioning.{same_command, section_of}
 use Rattle.engine_parts.proofs.Stepping.{went_quiet}
@@ -57,11 +57,12 @@ leave_flushed-requires-clause-stands g c =
     let es = at (view u.pass).seen log_lock in
     let by = by_at u.number u.session.levels.commands in
     let flush : Entry = record { by = by; kind = kinds.Flush c.next-next.result } in
-    goes_on start d.tells (d.faults (log_disk o)) (d.faults (log_disk n)) (d.images (log_disk o)) (d.images (log_disk n)) (log_recs o) (log_recs n) (log_next o) (log_next n) (log_first o) (log_first n) (log_flushed o) (log_flushed n) (log_counters o) (log_counters n) (log_down o) (log_down n) es by s (kinds.Flush c.next-next.result) refl
+    goes_on start d.tells (d.faults (log_disk o)) (d.faults (log_disk n)) (d.images (log_disk o)) (d.images (log_disk n)) (log_recs o) (log_recs n) (log_next o) (log_next n) (log_first o) (log_first n) (log_flushed o) (log_flushed n) (log_counters o) (log_counters n) (log_down o) (log_down n) (log_checkpoint o) (log_checkpoint n) es by s (kinds.Flush c.next-next.result) refl
     f.recs f.next f.counters (f.ok ∙ (sym c.next-next.ensures ∙ sym (number_push flushed_in start.from es flush c.next-next.result refl)))
     (let same : faults_told start log_lock (es ++ flush ∷ []) ≡ faults_told start log_lock es = number_same count_in (faults_at start log_lock) es flush refl in let before = s.count in let rises = f.faults in omega arith)
     (λ m is. absurd (let refused = f.is_down m (sym (f.stays (λ q. cc)) ∙ is) in cc))
-    (λ none. up_more es flush refl (s.up (sym (f.stays (λ q. cc)) ∙ none))) f.first f.keeps
+    (λ none. up_more es flush refl (s.up (sym (f.stays (λ q. cc)) ∙ none)))
+    (first_same start es flush (log_first o) (log_first n) f.first refl s.first_is) (flush_alone start o n es by s c.next-next.result f.checkpoint) f.keeps
 
 pub returns-then-flushed-number-clause-may : goal.returns-then-flushed-number-clause-may
 returns-then-flushed-number-clause-may g c =
@@ -133,14 +134,15 @@ leave_failed-requires-clause-stands g c =
     let es = at (view u.pass).seen log_lock in
     let by = by_at u.number u.session.levels.commands in
     let fault : Entry = flush_fault_by by (d.faults (log_disk n)) in
-    goes_on start d.tells (d.faults (log_disk o)) (d.faults (log_disk n)) (d.images (log_disk o)) (d.images (log_disk n)) (log_recs o) (log_recs n) (log_next o) (log_next n) (log_first o) (log_first n) (log_flushed o) (log_flushed n) (log_counters o) (log_counters n) (log_down o) (log_down n) es by s fault.kind refl
+    goes_on start d.tells (d.faults (log_disk o)) (d.faults (log_disk n)) (d.images (log_disk o)) (d.images (log_disk n)) (log_recs o) (log_recs n) (log_next o) (log_next n) (log_first o) (log_first n) (log_flushed o) (log_flushed n) (log_counters o) (log_counters n) (log_down o) (log_down n) (log_checkpoint o) (log_checkpoint n) es by s fault.kind refl
     f.recs f.next f.counters (f.err ∙ (s.flushed_is ∙ sym (number_same flushed_in start.from es fault refl)))
     (let here = number_push count_in (faults_at start log_lock) es fault (d.faults (log_disk n)) refl in omega arith)
     (λ m is.
     let here : m ≡ log_flushed o = same_Some m (log_flushed o) (sym is ∙ f.put_down (ap Err c.in-LogFault.is)) in
     let still = f.err in
     (failed_here start es by calls.Flush (d.faults (log_disk n)) m refl (here ∙ s.flushed_is), omega arith))
-    (λ none. absurd (let some = sym none ∙ f.put_down (ap Err c.in-LogFault.is) in cc)) f.first f.keeps
+    (λ none. absurd (let some = sym none ∙ f.put_down (ap Err c.in-LogFault.is) in cc))
+    (first_same start es fault (log_first o) (log_first n) f.first refl s.first_is) (unflushed start es fault (log_checkpoint n) refl) f.keeps
 
 pub returns-in-LogFault-clause-may : goal.returns-in-LogFault-clause-may
 returns-in-LogFault-clause-may g c =
@@ -188,11 +190,12 @@ leave_looked-requires-in-Err-clause-stands g c =
     let by = by_at u.number u.session.levels.commands in
     let look : Entry = record { by = by; kind = kinds.Look } in (
       refl,
-      goes_on start d.tells (d.faults (log_disk o)) (d.faults (log_disk n)) (d.images (log_disk o)) (d.images (log_disk n)) (log_recs o) (log_recs n) (log_next o) (log_next n) (log_first o) (log_first n) (log_flushed o) (log_flushed n) (log_counters o) (log_counters n) (log_down o) (log_down n) es by s kinds.Look refl
+      goes_on start d.tells (d.faults (log_disk o)) (d.faults (log_disk n)) (d.images (log_disk o)) (d.images (log_disk n)) (log_recs o) (log_recs n) (log_next o) (log_next n) (log_first o) (log_first n) (log_flushed o) (log_flushed n) (log_counters o) (log_counters n) (log_down o) (log_down n) (log_checkpoint o) (log_checkpoint n) es by s kinds.Look refl
           f.recs f.next f.counters (f.err ∙ (s.flushed_is ∙ sym (number_same flushed_in start.from es look refl)))
           (let same : faults_told start log_lock (es ++ look ∷ []) ≡ faults_told start log_lock es = number_same count_in (faults_at start log_lock) es look refl in let before = s.count in let rises = f.faults in omega arith)
           (λ m is. let before = s.failed m (sym (f.stays (λ q. c.in_default.not-LogFault (same_err q))) ∙ is) in let still = f.err in (failed_more start es look m before.0, (let le = before.1 in omega arith)))
-          (λ none. up_more es look refl (s.up (sym (f.stays (λ q. c.in_default.not-LogFault (same_err q))) ∙ none))) f.first f.keeps,
+          (λ none. up_more es look refl (s.up (sym (f.stays (λ q. c.in_default.not-LogFault (same_err q))) ∙ none)))
+          (first_same start es look (log_first o) (log_first n) f.first refl s.first_is) (unflushed start es look (log_checkpoint n) refl) f.keeps,
     )
 
 pub refusal_of-requires : goal.refusal_of-requires

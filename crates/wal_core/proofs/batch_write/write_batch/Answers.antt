@@ -1,4 +1,5 @@
-use Rattle.std.proofs.Common.{◌+◌, length}
+use Rattle.std.proofs.Common.{ℕ, ◌+◌, List, [], ◌∷◌, length, ◌∙◌, ap}
+use Rattle.disk_core.specs.Volume.{overlaid}
 use Rattle.disk_core.specs.Moments.{leaves_weaker, run_then}
 use Rattle.wal_core.specs.Opening.{body_in}
 use Rattle.wal_core.specs.Crash.{IsFromImage, IsWritten}
@@ -42,3 +43,7 @@ returns-clause-closed g c told =
     on_ok c.write_and_sync-2.result (c.write_and_sync-2.ensures.bytes told) (
     zero_at_end (d.images d0) c.args.gate c.args.behind.now c.requires.behind (c.requires.at_rest told) (d.reads d0) (d.reads d1) (g.met.D.LogDisk.reads_image d0 told) (c.write_and_sync.ensures.start told) (c.in_ok-write_and_sync.ensures.bytes told)
     (d.reads c.write_and_sync-2.new.disk) (c.write_and_sync-2.ensures.start told))
+
+pub returns-clause-bytes : goal.returns-clause-bytes
+returns-clause-bytes g c told =
+    on_ok c.write_and_sync-2.result (c.write_and_sync-2.ensures.bytes told) (λ is. is ∙ ap (λ (b : List ℕ). overlaid b c.args.gate (1 ∷ [])) (c.in_ok-write_and_sync.ensures.bytes told))

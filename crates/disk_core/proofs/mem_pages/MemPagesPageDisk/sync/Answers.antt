@@ -7,11 +7,11 @@ use Rattle.disk_core.proofs.MemPagesCrash.{kept_only, kept_no_more}
 use Rattle.disk_core.proofs.mem_pages.MemPagesPageDisk.sync.Goals as goal
 
 pub returns-clause-durable : goal.returns-clause-durable
-returns-clause-durable c told = kept_only c.keep_all.result (λ q. tree.get nat_cmp c.keep_all.new.copy q) (pages_now c.args.self.now) c.keep_all.ensures.ok
+returns-clause-durable c = kept_only c.keep_all.result (λ q. tree.get nat_cmp c.keep_all.new.copy q) (pages_now c.args.self.now) c.keep_all.ensures.ok
 
 pub returns-clause-crash : goal.returns-clause-crash
-returns-clause-crash c told = kept_no_more c.keep_all.result (pages_synced c.args.self.now) (λ q. tree.get nat_cmp c.keep_all.new.copy q) (pages_now c.args.self.now) c.keep_all.ensures.ok c.keep_all.ensures.err
+returns-clause-crash c = kept_no_more c.keep_all.result (pages_synced c.args.self.now) (λ q. tree.get nat_cmp c.keep_all.new.copy q) (pages_now c.args.self.now) c.keep_all.ensures.ok c.keep_all.ensures.err
 
 pub returns-clause-time : goal.returns-clause-time
-returns-clause-time c told =
+returns-clause-time c =
     let d = c.args.self.now in pages_elapse d.past.value c.by-past.result.value (page_moment d) (AreOutcomes (λ q. tree.get nat_cmp c.keep_all.new.copy q) (pages_now d)) c.by-past.ensures

@@ -7,11 +7,11 @@ use Rattle.disk_core.proofs.MemPagesCrash.{wrote_either, follows_either}
 use Rattle.disk_core.proofs.mem_pages.MemPagesPageDisk.write_page.Goals as goal
 
 pub returns-clause-others : goal.returns-clause-others
-returns-clause-others c told = wrote_either c.put_page-outcome.result c.args.page c.args.from.now (pages_now c.args.self.now) (λ q. tree.get nat_cmp c.put_page-outcome.new.map q) c.put_page-outcome.ensures.ok c.put_page-outcome.ensures.err
+returns-clause-others c = wrote_either c.put_page-outcome.result c.args.page c.args.from.now (pages_now c.args.self.now) (λ q. tree.get nat_cmp c.put_page-outcome.new.map q) c.put_page-outcome.ensures.ok c.put_page-outcome.ensures.err
 
 pub returns-clause-crash : goal.returns-clause-crash
-returns-clause-crash c told = follows_either c.put_page-outcome.result c.args.page c.args.from.now (pages_synced c.args.self.now) (pages_now c.args.self.now) (λ q. tree.get nat_cmp c.put_page-outcome.new.map q) c.put_page-outcome.ensures.ok c.put_page-outcome.ensures.err
+returns-clause-crash c = follows_either c.put_page-outcome.result c.args.page c.args.from.now (pages_synced c.args.self.now) (pages_now c.args.self.now) (λ q. tree.get nat_cmp c.put_page-outcome.new.map q) c.put_page-outcome.ensures.ok c.put_page-outcome.ensures.err
 
 pub returns-clause-time : goal.returns-clause-time
-returns-clause-time c told =
+returns-clause-time c =
     let d = c.args.self.now in pages_elapse d.past.value c.by-past.result.value (page_moment d) (AreOutcomes (pages_synced d) (λ q. tree.get nat_cmp c.put_page-outcome.new.map q)) c.by-past.ensures

@@ -1,5 +1,5 @@
-use Rattle.std.proofs.Common.{None}
-use Rattle.disk_fuse.proofs.FuseMoves.{on_ok_map, all_fell, fell_within, fused_same_banks}
+use Rattle.std.proofs.Common.{None, ◌∙◌}
+use Rattle.disk_fuse.proofs.FuseMoves.{on_ok_map, all_fell, fell_within, fused_same_banks, same_banks}
 use Rattle.disk_fuse.proofs.fuse.FuseMedia.crash.Goals as goal
 
 pub returns-in-Ok-clause-left : goal.returns-in-Ok-clause-left
@@ -9,9 +9,12 @@ returns-in-Ok-clause-left g c told told_2 =
     c.in-Ok.ensures.unfused given.2 (each given.0 given.1)) (c.crash.ensures.left told told_2)
 
 pub returns-in-Ok-clause-banks : goal.returns-in-Ok-clause-banks
-returns-in-Ok-clause-banks g c =
-    on_ok_map c.crash.result (λ each next given. fused_same_banks c.args.self.now.at None c.in-Ok.refused given.0 next given.2 c.args.volumes c.in-Ok.inner c.in-Ok.refused
-    c.in-Ok.ensures.unfused (each given.0 given.1)) c.crash.ensures.banks
+returns-in-Ok-clause-banks g c next given =
+    fused_same_banks c.args.self.now.at None c.in-Ok.refused given.0 next given.2 c.args.volumes c.in-Ok.inner c.in-Ok.refused
+    c.in-Ok.ensures.unfused (c.crash.ensures.banks given.0 given.1)
+
+pub returns-in-Err-clause-banks : goal.returns-in-Err-clause-banks
+returns-in-Err-clause-banks g c next given = same_banks c.args.volumes next (given ∙ c.in-Err.ensures.back)
 
 pub returns-in-Ok-clause-fell : goal.returns-in-Ok-clause-fell
 returns-in-Ok-clause-fell g c =

@@ -1,7 +1,7 @@
 use Rattle.std.proofs.Common.{◌≡◌, inl, refl, ℕ, ◌+◌, ◌<◌, List, [], ◌∷◌, ◌++◌, length, drop, slice_index, Option, Some, None, sym, ◌∙◌, ap, subst, arith}
 use Rattle.std.proofs.lemmas.List.{drop_all, length-drop, take_rest}
 use Rattle.tx_events.specs.declared.record.Rec.{Rec}
-use Rattle.disk_core.specs.Volume.{Volume}
+use Rattle.disk_core.specs.Volume.{Volume, overlaid}
 use Rattle.disk_core.specs.Moments.{started, leaves_weaker}
 use Rattle.wal_core.specs.Opening.{walked, AtRest, body_in}
 use Rattle.wal_core.specs.Crash.{IsFromImage}
@@ -176,3 +176,8 @@ pub returns-in-Ok-clause-closed : goal.returns-in-Ok-clause-closed
 returns-in-Ok-clause-closed g c told some =
     let d = g.D.LogDisk in let s = c.args.self.now in
     subst (λ (k : ℕ). slice_index (d.reads c.write_batch.new.disk).bytes (s.gate + k) ≡ 0) (c.deref.ensures.len ∙ sym c.len.ensures) (c.in-Ok.ensures.closed told)
+
+pub returns-in-Ok-clause-bytes : goal.returns-in-Ok-clause-bytes
+returns-in-Ok-clause-bytes g c told some =
+    let s = c.args.self.now in
+    c.in-Ok.ensures.bytes told ∙ ap (λ (b : List ℕ). overlaid (overlaid (g.D.LogDisk.reads s.disk).bytes (s.gate + 1) b) s.gate (1 ∷ [])) (c.deref.ensures.value ∙ s.next_batch.spelled)

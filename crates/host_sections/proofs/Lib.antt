@@ -1,0 +1,5 @@
+pub mod Aloneness
+pub mod LogSteps
+pub mod BankSteps
+pub mod Refusals
+pub mod VacantSteps

@@ -1,0 +1,212 @@
+use Rattle.std.proofs.Common.{Err, IsSome, Option, ◌≡◌, ◌+◌, ℕ, arith, ap, ◌∙◌, subst, sym, refl, ◌++◌, ◌∷◌, []}
+use Rattle.hall.specs.Calls.{start_of, view}
+use Rattle.hall.specs.declared.view.Stage.TheVariants.{Inside}
+use Rattle.notes.specs.Lists.{add, at}
+use Rattle.tx_core.specs.declared.entry.Entry.{Entry}
+use Rattle.tx_core.specs.declared.entry.Kind.TheVariants as kinds
+use Rattle.tx_core.specs.declared.entry.LogCall.TheVariants as calls
+use Rattle.tx_core.specs.EngineInvariant.{EngineInvariant}
+use Rattle.tx_core.specs.Entries.{session_of}
+use Rattle.tx_core.specs.FaultsRise.{faults_told}
+use Rattle.tx_core.specs.Locks.{log_lock}
+use Rattle.tx_core.specs.SyncsBeforeForgets.{MayForget}
+use Rattle.tx_core.proofs.FaultCounts.{risen_past}
+use Rattle.tx_core.proofs.Quiet.{hosts_keep}
+use Rattle.wal_core.specs.LogViews.{log_checkpoint, log_disk, log_down, log_first}
+use Rattle.wal_core.specs.declared.checkpoint.LastCheckpoint.{LastCheckpoint}
+use Rattle.wal_core.specs.declared.refusal.LogRefusal.{LogRefusal}
+use Rattle.engine_parts.specs.Holds.{Knowledge, Leaves}
+use Rattle.engine_parts.specs.Law.{MayKeep}
+use Rattle.engine_parts.specs.Parts.{IsLogOf}
+use Rattle.host_sections.specs.HostEntries.{AddsForget, forget_fault_by}
+use Rattle.host_sections.proofs.Aloneness.{came_out, may_add, went_out}
+use Rattle.host_sections.proofs.LogSteps.{forget_fails, forgotten_stands, log_untouched}
+use Rattle.host_sections.proofs.Refusals.{first_is, not_down, refused_down, same_err}
+use Rattle.host_sections.proofs.log.forget_log.Goals as goal
+
+pub forget_before_checkpoint-requires : goal.forget_before_checkpoint-requires
+forget_before_checkpoint-requires g c =
+    let start = start_of c.args.hall.now in
+    let s = subst (λ l. IsLogOf start l (at (view c.args.pass.now).seen log_lock)) (sym c.deref_mut-log.ensures.value) c.take_log-held.ensures.stands in
+    let k = s.alone c.args.number c.requires.ends in
+    subst (λ (o : Option LastCheckpoint). IsSome o) (sym k.1) refl
+
+pub leave-requires-clause-inside : goal.leave-requires-clause-inside
+leave-requires-clause-inside g c = let i = c.take_log-held.ensures.inside in i.inside ∙ ap Inside (sym i.cell)
+
+pub leave-requires-clause-cell : goal.leave-requires-clause-cell
+leave-requires-clause-cell g c = let cell = c.take_log-held.ensures.inside.cell in let laid = c.requires.alone.laid in omega (arith, cell, laid)
+
+pub leave-requires-clause-session : goal.leave-requires-clause-session
+leave-requires-clause-session g c =
+    let a = c.requires.alone in
+    ap session_of c.forget_note-forget.ensures ∙ (c.requires.turn.known ∙ (sym a.name ∙ sym c.take_log-held.ensures.inside.name))
+
+pub leave-requires-clause-may : goal.leave-requires-clause-may
+leave-requires-clause-may g c =
+    let start = start_of c.args.hall.now in
+    let i = c.take_log-held.ensures.inside in
+    let seen = (view c.take_log-held.new.pass).seen in
+    let s = subst (λ l. IsLogOf start l (at (view c.args.pass.now).seen log_lock)) (sym c.deref_mut-log.ensures.value) c.take_log-held.ensures.stands in
+    let here = subst (λ z. IsLogOf start c.deref_mut-log.result.now (at z log_lock)) (sym i.seen) s in
+    let may = subst (λ z. MayForget start z (at z log_lock) c.args.number) (sym i.seen) c.requires.may in
+    let up = here.up (not_down (log_down c.deref_mut-log.result.now) (λ n put. let refused = c.in-Ok.ensures.is_down n put in cc)) in
+    subst (λ z. MayKeep start seen z c.forget_note-forget.result.value) (sym i.cell)
+    (may_add start seen log_lock c.args.by (kinds.Forget c.args.number) c.forget_note-forget.result.value c.forget_note-forget.ensures
+    ((hosts_keep start seen c.args.by).forget c.args.number may up)
+    c.requires.turn)
+
+pub leave-requires-clause-stands : goal.leave-requires-clause-stands
+leave-requires-clause-stands g c =
+    let start = start_of c.args.hall.now in
+    let i = c.take_log-held.ensures.inside in
+    let seen = (view c.take_log-held.new.pass).seen in
+    let s = subst (λ l. IsLogOf start l (at (view c.args.pass.now).seen log_lock)) (sym c.deref_mut-log.ensures.value) c.take_log-held.ensures.stands in
+    let here = subst (λ z. IsLogOf start c.deref_mut-log.result.now (at z log_lock)) (sym i.seen) s in
+    let o = c.deref_mut-log.result.now in
+    let n = c.forget_before_checkpoint.new.self in
+    let f = c.in-Ok.ensures in
+    let up = not_down (log_down o) (λ m put. let refused = f.is_down m put in cc) in
+    subst (λ (z : ℕ). (z ≡ log_lock) × IsLogOf start n (at seen z ++ c.forget_note-forget.result.value ∷ [])) (sym i.cell) (
+      refl,
+      subst (λ (e : Entry). IsLogOf start n (at seen log_lock ++ e ∷ [])) (sym c.forget_note-forget.ensures)
+          (forgotten_stands start o n (at seen log_lock) c.args.by here c.args.number f.recs f.next f.counters f.flushed (f.stays (λ q. cc)) up f.faults (first_is c.args.number (log_checkpoint o) (log_first n) (s.alone c.args.number c.requires.ends) (f.first (λ place q. cc))) f.keeps),
+    )
+
+pub returns-in-Ok-clause-alone : goal.returns-in-Ok-clause-alone
+returns-in-Ok-clause-alone g c =
+    let a = c.requires.alone in
+    let i = c.take_log-held.ensures.inside in
+    let wide = a.own.wide in
+    let laid = a.laid in
+    (went_out c.args.hall.now log_lock c.args.pass.now c.take_log-held.new.pass c.leave.new.pass a i c.leave.ensures.own c.forget_note-forget.result.value
+    (subst (λ z. Leaves (start_of c.args.hall.now) z c.forget_note-forget.result.value (view c.take_log-held.new.pass) (view c.leave.new.pass)) i.cell c.leave.ensures.left)).alone
+
+pub returns-in-Ok-clause-holds : goal.returns-in-Ok-clause-holds
+returns-in-Ok-clause-holds g c = c.leave.ensures.left.holds ∙ c.take_log-held.ensures.inside.holds
+
+pub returns-in-Ok-clause-adds : goal.returns-in-Ok-clause-adds
+returns-in-Ok-clause-adds g c =
+    let start = start_of c.args.hall.now in
+    let i = c.take_log-held.ensures.inside in
+    let old = (view c.args.pass.now).seen in
+    let s = subst (λ l. IsLogOf start l (at old log_lock)) (sym c.deref_mut-log.ensures.value) c.take_log-held.ensures.stands in
+    c.leave.ensures.left.seen ∙ (λ j. add (i.seen j) (i.cell j) (c.forget_note-forget.ensures j))
+
+-- its volume failed
+pub leave-requires-in-LogFault-clause-inside : goal.leave-requires-in-LogFault-clause-inside
+leave-requires-in-LogFault-clause-inside g c = let i = c.take_log-held.ensures.inside in i.inside ∙ ap Inside (sym i.cell)
+
+pub leave-requires-in-LogFault-clause-cell : goal.leave-requires-in-LogFault-clause-cell
+leave-requires-in-LogFault-clause-cell g c = let cell = c.take_log-held.ensures.inside.cell in let laid = c.requires.alone.laid in omega (arith, cell, laid)
+
+pub leave-requires-in-LogFault-clause-session : goal.leave-requires-in-LogFault-clause-session
+leave-requires-in-LogFault-clause-session g c =
+    let a = c.requires.alone in
+    ap session_of c.forget_fault_note-fault.ensures ∙ (c.requires.turn.known ∙ (sym a.name ∙ sym c.take_log-held.ensures.inside.name))
+
+pub leave-requires-in-LogFault-clause-may : goal.leave-requires-in-LogFault-clause-may
+leave-requires-in-LogFault-clause-may g c =
+    let start = start_of c.args.hall.now in
+    let d = g.L.LogDisk in
+    let i = c.take_log-held.ensures.inside in
+    let seen = (view c.take_log-held.new.pass).seen in
+    let s = subst (λ l. IsLogOf start l (at (view c.args.pass.now).seen log_lock)) (sym c.deref_mut-log.ensures.value) c.take_log-held.ensures.stands in
+    let here = subst (λ z. IsLogOf start c.deref_mut-log.result.now (at z log_lock)) (sym i.seen) s in
+    let o = c.deref_mut-log.result.now in
+    let n = c.forget_before_checkpoint.new.self in
+    let f = c.in-Err.ensures in
+    let noted = c.forget_fault_note-fault.ensures ∙ ap (λ l. forget_fault_by c.args.by c.args.number (d.faults (log_disk l))) c.deref.ensures in
+    let up = here.up (not_down (log_down o) (λ m put. let refused = same_err (f.is_down m put) in let failed = c.in-LogFault.is in cc)) in
+    let risen = risen_past (faults_told start log_lock (at seen log_lock)) (d.faults (log_disk o)) (d.faults (log_disk n)) here.count (f.fault (ap Err c.in-LogFault.is)) in
+    subst (λ z. MayKeep start seen z c.forget_fault_note-fault.result.value) (sym i.cell)
+    (may_add start seen log_lock c.args.by (kinds.LogFault (calls.Forget c.args.number) (d.faults (log_disk n))) c.forget_fault_note-fault.result.value noted
+    ((hosts_keep start seen c.args.by).log_fault (calls.Forget c.args.number) (d.faults (log_disk n)) (subst (λ z. MayForget start z (at z log_lock) c.args.number) (sym i.seen) c.requires.may) (λ q. up) risen)
+    c.requires.turn)
+
+pub leave-requires-in-LogFault-clause-stands : goal.leave-requires-in-LogFault-clause-stands
+leave-requires-in-LogFault-clause-stands g c =
+    let start = start_of c.args.hall.now in
+    let d = g.L.LogDisk in
+    let i = c.take_log-held.ensures.inside in
+    let seen = (view c.take_log-held.new.pass).seen in
+    let s = subst (λ l. IsLogOf start l (at (view c.args.pass.now).seen log_lock)) (sym c.deref_mut-log.ensures.value) c.take_log-held.ensures.stands in
+    let here = subst (λ z. IsLogOf start c.deref_mut-log.result.now (at z log_lock)) (sym i.seen) s in
+    let o = c.deref_mut-log.result.now in
+    let n = c.forget_before_checkpoint.new.self in
+    let f = c.in-Err.ensures in
+    let noted = c.forget_fault_note-fault.ensures ∙ ap (λ l. forget_fault_by c.args.by c.args.number (d.faults (log_disk l))) c.deref.ensures in
+    subst (λ (z : ℕ). (z ≡ log_lock) × IsLogOf start n (at seen z ++ c.forget_fault_note-fault.result.value ∷ [])) (sym i.cell) (
+      refl,
+      subst (λ (e : Entry). IsLogOf start n (at seen log_lock ++ e ∷ [])) (sym noted)
+          (forget_fails start o n (at seen log_lock) c.args.by here c.args.number f.recs f.next f.counters f.flushed (f.put_down (ap Err c.in-LogFault.is))
+          (first_is c.args.number (log_checkpoint o) (log_first n) (s.alone c.args.number c.requires.ends) (f.first (λ place q. let failed = c.in-LogFault.is in let other = same_err q in cc))) f.keeps),
+    )
+
+pub returns-in-LogFault-clause-alone : goal.returns-in-LogFault-clause-alone
+returns-in-LogFault-clause-alone g c =
+    let a = c.requires.alone in
+    let i = c.take_log-held.ensures.inside in
+    let wide = a.own.wide in
+    let laid = a.laid in
+    (went_out c.args.hall.now log_lock c.args.pass.now c.take_log-held.new.pass c.leave-in-LogFault.new.pass a i c.leave-in-LogFault.ensures.own c.forget_fault_note-fault.result.value
+    (subst (λ z. Leaves (start_of c.args.hall.now) z c.forget_fault_note-fault.result.value (view c.take_log-held.new.pass) (view c.leave-in-LogFault.new.pass)) i.cell c.leave-in-LogFault.ensures.left)).alone
+
+pub returns-in-LogFault-clause-holds : goal.returns-in-LogFault-clause-holds
+returns-in-LogFault-clause-holds g c = c.leave-in-LogFault.ensures.left.holds ∙ c.take_log-held.ensures.inside.holds
+
+pub returns-in-LogFault-clause-adds : goal.returns-in-LogFault-clause-adds
+returns-in-LogFault-clause-adds g c =
+    let start = start_of c.args.hall.now in
+    let d = g.L.LogDisk in
+    let i = c.take_log-held.ensures.inside in
+    let old = (view c.args.pass.now).seen in
+    let s = subst (λ l. IsLogOf start l (at old log_lock)) (sym c.deref_mut-log.ensures.value) c.take_log-held.ensures.stands in
+    let o = c.deref_mut-log.result.now in
+    let n = c.forget_before_checkpoint.new.self in
+    let noted = c.forget_fault_note-fault.ensures ∙ ap (λ l. forget_fault_by c.args.by c.args.number (d.faults (log_disk l))) c.deref.ensures in
+    record {
+      count = d.faults (log_disk n);
+      risen = risen_past (faults_told start log_lock (at old log_lock)) (d.faults (log_disk o)) (d.faults (log_disk n)) s.count (c.in-Err.ensures.fault (ap Err c.in-LogFault.is));
+      adds = c.leave-in-LogFault.ensures.left.seen ∙ (λ j. add (i.seen j) (i.cell j) (noted j));
+    }
+
+-- the log was down
+pub put_back-requires-clause-inside : goal.put_back-requires-clause-inside
+put_back-requires-clause-inside g c = let i = c.take_log-held.ensures.inside in i.inside ∙ ap Inside (sym i.cell)
+
+pub put_back-requires-clause-stands : goal.put_back-requires-clause-stands
+put_back-requires-clause-stands g c =
+    let start = start_of c.args.hall.now in
+    let i = c.take_log-held.ensures.inside in
+    let seen = (view c.take_log-held.new.pass).seen in
+    let s = subst (λ l. IsLogOf start l (at (view c.args.pass.now).seen log_lock)) (sym c.deref_mut-log.ensures.value) c.take_log-held.ensures.stands in
+    let here = subst (λ z. IsLogOf start c.deref_mut-log.result.now (at z log_lock)) (sym i.seen) s in
+    let o = c.deref_mut-log.result.now in
+    let n = c.forget_before_checkpoint.new.self in
+    let f = c.in-Err.ensures in
+    let down = refused_down c.in-Err.refusal c.in_default.not-LogFault (λ q. f.no_other.0 (ap Err q)) (λ q. f.no_other.1 (ap Err q)) (λ place q. f.no_other.2 place (ap Err q)) in
+    subst (λ (z : ℕ). (z ≡ log_lock) × IsLogOf start n (at seen z)) (sym i.cell)
+    (refl, log_untouched start o n (at seen log_lock) (f.down_asks_nothing down.0 (f.down down.0 (ap Err down.1))) f.recs f.next (f.first_down down.0 (ap Err down.1)) f.flushed f.counters (f.stays (λ q. c.in_default.not-LogFault (same_err q))) f.checkpoint here)
+
+pub returns-in_default-clause-alone : goal.returns-in_default-clause-alone
+returns-in_default-clause-alone g c =
+    (came_out c.args.hall.now log_lock c.args.pass.now c.take_log-held.new.pass c.put_back.new.pass c.requires.alone c.take_log-held.ensures.inside c.put_back.ensures.own.0 c.put_back.ensures.view).alone
+
+pub returns-in_default-clause-holds : goal.returns-in_default-clause-holds
+returns-in_default-clause-holds g c =
+    (came_out c.args.hall.now log_lock c.args.pass.now c.take_log-held.new.pass c.put_back.new.pass c.requires.alone c.take_log-held.ensures.inside c.put_back.ensures.own.0 c.put_back.ensures.view).holds
+
+pub returns-in_default-clause-adds : goal.returns-in_default-clause-adds
+returns-in_default-clause-adds g c =
+    let start = start_of c.args.hall.now in
+    let old = (view c.args.pass.now).seen in
+    let s = subst (λ l. IsLogOf start l (at old log_lock)) (sym c.deref_mut-log.ensures.value) c.take_log-held.ensures.stands in
+    let f = c.in-Err.ensures in
+    let down = refused_down c.in-Err.refusal c.in_default.not-LogFault (λ q. f.no_other.0 (ap Err q)) (λ q. f.no_other.1 (ap Err q)) (λ place q. f.no_other.2 place (ap Err q)) in
+    let out = came_out c.args.hall.now log_lock c.args.pass.now c.take_log-held.new.pass c.put_back.new.pass c.requires.alone c.take_log-held.ensures.inside c.put_back.ensures.own.0 c.put_back.ensures.view in
+    subst (λ (r : LogRefusal). AddsForget {T = Unit {0}} start c.args.by c.args.number old (view c.put_back.new.pass).seen (Err r)) (sym down.1)
+    (record { same = out.seen; is_down = (s.failed down.0 (f.down down.0 (ap Err down.1))).0 })
+
+pub returns-in_default-clause-kept : goal.returns-in_default-clause-kept
+returns-in_default-clause-kept g c = subst (EngineInvariant (start_of c.args.hall.now)) (sym (ap (λ (z : Knowledge). z.seen) c.put_back.ensures.view)) c.take_log-held.ensures.inside.kept

@@ -19,6 +19,13 @@ fn one_id<R: Abort + AllocGlobal>(rt: &R, id: FullXid) -> IdList {
     ids
 }
 
+fn count_of(told: &Option<Vec<Event>>) -> usize {
+    match told {
+        Some(events) => events.as_slice().len(),
+        None => 0,
+    }
+}
+
 /// The session after its lines `begin`, a write that was given id 3, and `save`.
 fn with_savepoint<R: Abort + AllocGlobal>(rt: &R) -> Standing {
     let three = id(rt, 3);
@@ -39,7 +46,7 @@ fn with_savepoint<R: Abort + AllocGlobal>(rt: &R) -> Standing {
     };
     let events = [event_of(rt, own(2), Act::Id(3))];
     let told = told_events(rt.alloc(), &standing, &write, &events).expect(rt, "memory");
-    assert!(rt; matches!(told, Some(events) if events.as_slice().len() == 1));
+    assert_eq!(rt; count_of(&told), 1);
     assert!(rt; standing.add(&write, &[three]).is_ok());
     let save = Line {
         by: own(3),
@@ -82,7 +89,7 @@ fn a_refused_write_may_have_given_ids(rt: HostRuntime) {
     };
     let events = [event_of(&rt, own(4), Act::Sub(3, 4))];
     let told = told_events(rt.alloc(), &standing, &refused, &events).expect(&rt, "memory");
-    assert!(rt; matches!(told, Some(events) if events.as_slice().len() == 1));
+    assert_eq!(rt; count_of(&told), 1);
 }
 
 #[test]

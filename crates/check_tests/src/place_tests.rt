@@ -1,6 +1,8 @@
 // What the places of a history tell.
 use crate::driver::{Act, event_of, id, new_log};
+use crate::multi_driver;
 use history_places::HistoryPlaces;
+use multi_places::MultiPlaces;
 use own_places::{Own, own_places};
 use place_columns::column_of;
 use tx_events::{By, is_base};
@@ -72,4 +74,16 @@ fn an_id_is_the_next_one_until_it_is_given(rt: HostRuntime) {
     assert_eq!(rt; (three.from, three.end), (0, 1));
     let four = places.where_next(id(&rt, 4));
     assert_eq!(rt; (four.from, four.end), (1, 2));
+}
+
+#[test]
+fn a_multixact_is_the_next_one_until_it_is_given(rt: HostRuntime) {
+    let base = new_log(&rt);
+    assert!(rt; is_base(&base));
+    let starts = Vec::new(rt.alloc());
+    let mut places = MultiPlaces::new(rt.alloc(), base, starts).expect(&rt, "memory");
+    let event = multi_driver::event_of(&rt, 0, multi_driver::Act::Gen(1, 1, 2));
+    assert!(rt; places.add(&event).expect(&rt, "memory"));
+    let one = places.where_next(1);
+    assert_eq!(rt; (one.from, one.end), (0, 1));
 }

@@ -11,12 +11,12 @@ pub(crate) fn path_in(alloc: Global, folder: &str, name: &str) -> Result<String,
     format!(in alloc; "{folder}/{name}")
 }
 
-/// Makes the folder, where it isn't there.
+/// Makes the folder, where it isn't there. An earlier making may have been cut short right behind that, so its own name
+/// is synced either way.
 fn make_folder<R: Files>(rt: &R, alloc: Global, folder: &str) -> io::Result<()> {
     match fs::create_dir(rt, folder) {
-        Ok(()) => sync_at(rt, path_in(alloc, folder, "..")?.as_str()),
-        Err(error) if error.kind() == io::ErrorKind::AlreadyExists => Ok(()),
-        Err(error) => Err(error),
+        Err(error) if error.kind() != io::ErrorKind::AlreadyExists => Err(error),
+        _ => sync_at(rt, path_in(alloc, folder, "..")?.as_str()),
     }
 }
 

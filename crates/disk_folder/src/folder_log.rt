@@ -18,6 +18,8 @@ pub struct FolderLog<R: Files + Drop> {
     start: u64,
     // The start's file was replaced since the names in the folder were synced.
     is_moved: bool,
+    // A sync failed. What was written before it may be lost, and no later one can tell: the system forgets that.
+    is_broken: bool,
     faults: u64,
 }
 
@@ -42,6 +44,7 @@ impl<R: Files + Clone + Drop> FolderLog<R> {
             file,
             start,
             is_moved: false,
+            is_broken: false,
             faults: 0,
         })
     }
@@ -51,11 +54,16 @@ impl<R: Files + Drop> FolderLog<R> {
     fn sync_files(&mut self) -> io::Result<()>
         ensures faults { self.new.faults ≡ self.old.faults }
     {
+        if self.is_broken {
+            return Err(io::ErrorKind::Other.into());
+        }
+        self.is_broken = true;
         self.file.sync_all()?;
         if self.is_moved {
             sync_at(&self.rt, self.folder.as_str())?;
             self.is_moved = false;
         }
+        self.is_broken = false;
         Ok(())
     }
 

@@ -20,6 +20,8 @@ pub struct FolderPages<R: Files + Drop> {
     written: BTreeSet<u32>,
     // A file may have been made or removed since.
     is_changed: bool,
+    // A sync failed. What was written before it may be lost, and no later one can tell: the system forgets that.
+    is_broken: bool,
     faults: u64,
 }
 
@@ -40,6 +42,7 @@ impl<R: Files + Clone + Drop> FolderPages<R> {
             name: format!(in alloc; "{store}.{bank}")?,
             written: BTreeSet::new(alloc),
             is_changed: false,
+            is_broken: false,
             faults: 0,
         })
     }
@@ -136,12 +139,17 @@ impl<R: Files + Drop> FolderPages<R> {
     fn sync_files(&mut self) -> io::Result<()>
         ensures faults { self.new.faults ≡ self.old.faults }
     {
+        if self.is_broken {
+            return Err(io::ErrorKind::Other.into());
+        }
+        self.is_broken = true;
         self.sync_written()?;
         if self.is_changed {
             sync_at(&self.rt, self.folder.as_str())?;
         }
         self.written.clear();
         self.is_changed = false;
+        self.is_broken = false;
         Ok(())
     }
 }

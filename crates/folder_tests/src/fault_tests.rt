@@ -57,7 +57,8 @@ fn a_log_whose_folder_is_gone_fails_and_goes_on(rt: HostRuntime) -> Result<(), F
     assert_eq!(rt; eight_bytes(&mut log, 1)?, (2, [2, 3, 0, 0, 0, 0, 0, 0]));
     fs::create_dir(&rt, path)?;
     forget(&mut log, 2)?;
-    sync(&mut log)?;
+    // After a sync that failed no later one can tell what is on disk.
+    assert_eq!(rt; sync(&mut log), Err(Failed));
     assert_eq!(rt; ends(&mut log)?, (2, 3));
     clear(&rt, path)?;
     Ok(())
@@ -74,7 +75,8 @@ fn pages_whose_files_are_gone_fail_and_go_on(rt: HostRuntime) -> Result<(), Fail
         // A page that was written has to be there at the sync.
         assert_eq!(rt; sync_pages(pages), Err(Failed));
         fill(pages, 2, 6)?;
-        sync_pages(pages)?;
+        // Nor can a later one tell what is on disk.
+        assert_eq!(rt; sync_pages(pages), Err(Failed));
         assert_eq!(rt; both_ends(pages, 2)?, Some((6, 6)));
         // A folder in a page's place.
         fs::create_dir(&rt, "folder_lost/offsets.0.3")?;

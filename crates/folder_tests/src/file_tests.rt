@@ -3,7 +3,7 @@ use crate::volumes::{
     after, bank_counts, both_ends, clear, eight_bytes, ends, fill, folder, forget, open, remove,
     sync, sync_pages, write,
 };
-use disk_core::{Crash, Media};
+use disk_core::{Crash, Failed, Media, PageDisk};
 use std::fs;
 use std::test::Fail;
 
@@ -25,7 +25,18 @@ fn write_all(rt: HostRuntime, path: &str) -> Result<(), Fail> {
         remove(bank, 41)?;
         sync_pages(bank)?;
     }
+    fill_last(&mut volumes.subtrans, 6)?;
+    fill_last(&mut volumes.offsets, 7)?;
+    fill_last(&mut volumes.members, 8)?;
     Ok(())
+}
+
+// Writes page 3 of the last bank.
+fn fill_last<P: PageDisk>(banks: &mut [P], byte: u8) -> Result<(), Failed> {
+    match banks.last_mut() {
+        Some(bank) => fill(bank, 3, byte),
+        None => Err(Failed),
+    }
 }
 
 #[test]
@@ -54,8 +65,8 @@ fn a_folder_that_is_opened_again_has_what_was_written(rt: HostRuntime) -> Result
         assert_eq!(rt; after(bank, Some(5))?, Some(u32::MAX));
         assert_eq!(rt; after(bank, Some(u32::MAX))?, None);
     }
-    for bank in volumes.subtrans.iter_mut() {
-        assert_eq!(rt; after(bank, None)?, None);
+    for (bank, page) in volumes.subtrans.iter_mut().zip([None, Some(3)]) {
+        assert_eq!(rt; after(bank, None)?, page);
     }
     clear(&rt, path)?;
     Ok(())
@@ -71,6 +82,9 @@ fn the_files_are_those_that_the_documents_name(rt: HostRuntime) -> Result<(), Fa
         ("folder_files/start", [2, 0, 0, 0, 0, 0, 0, 0].as_slice()),
         ("folder_files/banks", [2, 0, 0, 0, 0, 0, 0, 0].as_slice()),
         ("folder_files/xact.1.5", [2; 8192].as_slice()),
+        ("folder_files/subtrans.1.3", [6; 8192].as_slice()),
+        ("folder_files/offsets.1.3", [7; 8192].as_slice()),
+        ("folder_files/members.1.3", [8; 8192].as_slice()),
     ] {
         assert_eq!(rt; fs::read(&rt, file)?.as_slice(), want, "{file}");
     }

@@ -2,8 +2,10 @@
 use Rattle.std.specs.Prelude.{◌≡◌, ℕ, ◌+◌, ◌<◌, ◌⊎◌, List, length, Result, Ok, Err}
 use Rattle.disk_core.specs.Faults.{HasRisen}
 use Rattle.notes.specs.Lists.{add, at}
+use Rattle.tx_events.specs.Ids.{IsFullMulti, IsXidNumber}
 use Rattle.tx_events.specs.declared.event.By.{By}
 use Rattle.tx_events.specs.declared.record.Counters.{Counters}
+use Rattle.tx_events.specs.declared.record.Rec.{Rec}
 use Rattle.tx_events.specs.declared.record.Rec.TheVariants as records
 use Rattle.tx_core.specs.declared.entry.Entry.{Entry}
 use Rattle.tx_core.specs.declared.entry.Kind.TheVariants as kinds
@@ -26,8 +28,11 @@ flush_by by to = record { by = by; kind = kinds.Flush to }
 abbrev pub sync_by : By → Entry
 sync_by by = record { by = by; kind = kinds.Sync }
 
+abbrev pub append_by : By → Rec → Entry
+append_by by rec = record { by = by; kind = kinds.Append rec }
+
 abbrev pub checkpoint_by : By → ℕ → Counters → Entry
-checkpoint_by by number counters = record { by = by; kind = kinds.Append (records.Checkpoint number counters) }
+checkpoint_by by number counters = append_by by (records.Checkpoint number counters)
 
 abbrev pub forget_by : By → ℕ → Entry
 forget_by by number = record { by = by; kind = kinds.Forget number }
@@ -86,3 +91,9 @@ AddsSync start by lock old new (Ok done) = new ≡ add old lock (sync_by by)
 AddsSync start by lock old new (Err bank_refusals.DiskFault) =
     RisenCount start old lock (λ count. new ≡ add old lock (fault_by by count))
 AddsSync start by lock old new (Err refusal) = ⊥
+
+-- the numbers have the forms of an id and of multixacts
+pub record HaveForms (c : Counters) : Type 0 where
+  pub oldest : IsXidNumber c.oldest
+  pub multi : IsFullMulti c.multi
+  pub oldest_multi : IsFullMulti c.oldest_multi

@@ -1,23 +1,24 @@
 -- Checkpoints that were told stay told while the life goes on, and one more is told with them.
-use Rattle.std.proofs.Common.{Bool, IsTrue, List, None, Option, Some, [], absurd, ap, append-nil, append_assoc, arith, cond, eq-eqb, inl, inr, length, map, refl, subst, sym, zero, suc, ℕ, ⊎_elim, ◌+◌, ◌++◌, ◌<◌, ◌∙◌, ◌∷◌, ◌≡◌, ◌≢◌, ◌⊎◌}
-use Rattle.std.specs.List.{AllByRecursion, cons_option, count_by, filter, filter_map, slice_get}
+use Rattle.std.proofs.Common.{Bool, List, None, Option, Some, [], ap, append-nil, append_assoc, arith, cond, eq-eqb, length, map, refl, subst, sym, take, ℕ, ⊎_elim, ◌+◌, ◌++◌, ◌∙◌, ◌∷◌, ◌≡◌, ◌<◌, ◌≤◌, ◌==◌}
+use Rattle.std.specs.List.{cons_option, count_by, filter, slice_get}
 use Rattle.std.proofs.lemmas.List.{map-append}
 use Rattle.std.proofs.lemmas.List.Elements.{filter-append, filter_map-append}
 use Rattle.std.proofs.lemmas.List.Sums.{sum_by-append, sum_by-cons}
 use Rattle.std.proofs.lemmas.Option.{slice_get_within}
-use Rattle.notes.specs.Lists.{Begins, Grows, at, own}
-use Rattle.tx_events.specs.declared.by.By.{By}
+use Rattle.notes.specs.Lists.{Grows, at, own}
+use Rattle.notes.proofs.Growing.{begins_same}
+use Rattle.tx_events.specs.declared.event.By.{By}
 use Rattle.tx_events.specs.declared.event.Event.{Event}
 use Rattle.tx_events.specs.declared.record.Counters.{Counters}
 use Rattle.tx_events.specs.declared.record.Rec.{Rec}
 use Rattle.tx_events.specs.declared.refusal.Refusal.TheVariants as refusals
-use Rattle.tx_events.specs.Places.{EachPlace}
-use Rattle.tx_events.proofs.ListSteps.{filter_all}
+use Rattle.tx_events.proofs.ListSteps.{filter_all, le_or_over}
 use Rattle.tx_events.proofs.PlaceLemmas.{each_place_none, each_place_push}
 use Rattle.tx_model.specs.declared.reply.Reply.{Reply}
 use Rattle.tx_model.specs.declared.reply.Reply.TheVariants as replies
 use Rattle.tx_model.specs.declared.report.Step.{Step}
 use Rattle.tx_model.specs.declared.report.Step.TheVariants as steps
+use Rattle.tx_model.specs.Rounds.{is_round}
 use Rattle.life_law.specs.Checkpoints.{checkpoint_in, checkpoints_in}
 use Rattle.life_law.specs.Facts.{is_checkpoint_fault, is_log_fault}
 use Rattle.life_law.specs.LifeLog.{counters_behind}
@@ -31,13 +32,14 @@ use Rattle.tx_core.proofs.Lasting.{history_grows}
 use Rattle.engine_parts.specs.declared.session.Session.{Session}
 use Rattle.engine_parts.specs.Stages.{pending_in}
 use Rattle.engine_parts.specs.Stand.{IsDownAt}
-use Rattle.session_promise.specs.Checkpoints.{AddsFor, Appends, AreCheckpointsTold, IsAnsweredIn, IsCheckpointTold, IsCommitting, IsNamed, IsPendingBehind, IsStepLeft, LeftStep, MayLeave, NamesLeast, WentCheckpoint, hosts_entries, is_down_fault}
+use Rattle.session_promise.specs.Checkpoints.{AddsFor, Appends, AreCheckpointsTold, IsAnsweredIn, IsCheckpointTold, IsCommitting, IsPendingBehind, IsStepLeft, LeftStep, MayLeave, NamesLeast, WentCheckpoint, checkpoint_next, hosts_entries, is_down_fault}
 use Rattle.session_promise.specs.CheckpointLaws.{CheckpointGoesOn, CheckpointsBegin, CheckpointsStayThroughDump, CheckpointsStayThroughRound, DumpsStayThroughCheckpoint, SoFarThroughCheckpoint}
 use Rattle.session_promise.specs.Promise.{recs_of}
 use Rattle.session_promise.specs.SoFar.{IsSoFar, round_of}
-use Rattle.session_promise.specs.Told.{Follow, ToldRound, all_lines, steps_of}
+use Rattle.session_promise.specs.Told.{Follow, ToldRound, all_lines, steps_of, told_by}
+use Rattle.session_promise.specs.Dumps.{AreDumpsTold}
 use Rattle.session_promise.proofs.LawfulDumps.{dumps_stay}
-use Rattle.session_promise.proofs.PendingStays.{none_beyond, own_pending, rounds_stay}
+use Rattle.session_promise.proofs.PendingStays.{none_beyond, own_pending, rounds_stay, there}
 use Rattle.session_promise.proofs.Rounding.{so_far_goes_on, through_idle}
 
 -- ---- lists
@@ -129,7 +131,7 @@ module _ (start : Start) (lists more : List (List Entry)) (rounds added : List T
         omega (arith, f, d, a, b);
   }
     where
-      abbrev P : List LeftStep → LeftStep → Type 0
+      P : List LeftStep → LeftStep → Type 0
       P before x = IsStepLeft start more (rounds ++ added) (map (λ (y : LeftStep). y.0) before) x.0 x.1
 
 -- ---- none yet, and behind a round or a dump

@@ -1,12 +1,11 @@
 -- What is pending by the lines of some rounds stays so, while the life goes on.
-use Rattle.std.proofs.Common.{Bool, List, None, Option, Some, [], ap, arith, length, subst, suc, sym, zero, ℕ, ⊎_elim, ◌+◌, ◌++◌, ◌<◌, ◌==◌, ◌∙◌, ◌∷◌, ◌≡◌, ◌≤◌, inl, inr}
-use Rattle.std.specs.List.{AllByRecursion, flat_map, slice_get}
+use Rattle.std.proofs.Common.{Bool, List, None, Some, [], ap, arith, false, length, refl, subst, suc, sym, zero, ℕ, ⊎_elim, ◌+◌, ◌++◌, ◌<◌, ◌∙◌, ◌∷◌, ◌≡◌, ◌≤◌, inl, inr}
+use Rattle.std.specs.List.{AllByRecursion, slice_get}
 use Rattle.std.proofs.lemmas.Bool.{false_from_ne_true}
 use Rattle.std.proofs.lemmas.Grind.{flat_map-append}
 use Rattle.notes.specs.Lists.{Grows}
 use Rattle.tx_events.specs.declared.event.Event.{Event}
 use Rattle.tx_events.specs.declared.record.Rec.{Rec}
-use Rattle.tx_events.specs.declared.refusal.Refusal.{Refusal}
 use Rattle.tx_events.specs.Events.{by_of, same_by}
 use Rattle.tx_events.proofs.ListSteps.{below_not, filter_none, le_or_over}
 use Rattle.tx_events.proofs.Membership.{all_from, has_place}
@@ -24,7 +23,7 @@ use Rattle.tx_core.proofs.Lasting.{history_grows}
 use Rattle.engine_parts.specs.declared.session.Session.{Session}
 use Rattle.session_promise.specs.Promise.{Promise, recs_of}
 use Rattle.session_promise.specs.SoFar.{IsSoFar}
-use Rattle.session_promise.specs.Told.{Told, ToldRound, all_lines, lines_by, lines_of, told_by, told_of}
+use Rattle.session_promise.specs.Told.{Told, ToldRound, all_lines, lines_of, told_by, told_of}
 use Rattle.session_promise.proofs.Growing.{all_lines_of, all_places}
 use Rattle.session_promise.proofs.LawfulSteps.{filter_twice}
 use Rattle.session_promise.proofs.PendingGrowth.{AreSettled, IsNotDown, pending_grows}
@@ -82,6 +81,12 @@ pub none_beyond : (recs : List Rec) (h : List Event) (sessions : ℕ) (rounds : 
 none_beyond recs h sessions rounds n past known =
     ap (pending_from recs h nothing_yet None) (filter_none (λ (l : Line). l.by.session < sessions) (is_line_of n) (all_lines rounds) (λ l low. below_not l.by.session n (omega (arith, low, past))) known)
 
+-- the session of a number
+pub there : (ss : List Session) (n : ℕ) → n < length ss → (s : Session) × (slice_get ss n ≡ Some s)
+there [] n l = absurd (omega (arith, l))
+there (s ∷ ss) zero l = (s, refl)
+there (s ∷ ss) (suc n) l = there ss n (omega (arith, l))
+
 -- between two rounds, and between two later ones
 pub rounds_stay : (tells : Bool) (start : Start) (before after : List (List Entry)) (old new : List Session) (rounds added : List ToldRound) → ((n : ℕ) → n < start.sessions → EngineInvariant start after) → Grows before after
     → IsSoFar tells start before old rounds → IsSoFar tells start after new (rounds ++ added) → (front behind : List ToldRound) → rounds ≡ front ++ behind → (n : ℕ) → pending (recs_of after) (history after) (all_lines front) n ≡ pending (recs_of before) (history before) (all_lines front) n
@@ -100,8 +105,3 @@ rounds_stay tells start before after old new rounds added kept g a b front behin
     ∙ (own_stays tells start before after n (told_by n rounds) (told_by n added) was.0 is.0 (kept n low) g first last (told_by n front) (told_by n behind) (ap (told_by n) split ∙ flat_map-append (told_of n) front behind)
     ∙ own_pending (recs_of before) (history before) front n))
     (le_or_over start.sessions n)
-  where
-    there : (ss : List Session) (n : ℕ) → n < length ss → (s : Session) × (slice_get ss n ≡ Some s)
-    there [] n l = absurd (omega (arith, l))
-    there (s ∷ ss) zero l = (s, refl)
-    there (s ∷ ss) (suc n) l = there ss n (omega (arith, l))

@@ -99,18 +99,27 @@ as_many (turns ∷ commands) (r ∷ rounds) a = let e = as_many commands rounds 
 as_many [] (r ∷ rounds) a = absurd a
 as_many (turns ∷ commands) [] a = absurd a
 
--- one more round, and one more dump
+-- one more round, one more dump, and one more checkpoint
 pub round_push : (n number : ℕ) (all : List Asked) (ss : List Step) (turns : Turns) (lines : List Line) → AreSteps n all ss → number ≡ n + length (rounds_in all) → AreLinesOf turns lines → AreSteps n (all ++ asked.round turns ∷ []) (ss ++ steps.Round number lines ∷ [])
 round_push n number [] [] turns lines a e l = (omega (arith, e), l, tt)
 round_push n number (asked.round ts ∷ all) (steps.Round m ls ∷ ss) turns lines a e l = (a.0, a.1, round_push (n + 1) number all ss turns lines a.2 (omega (arith, e)) l)
 round_push n number (asked.dump what at size ∷ all) (steps.Dump of from count reply ∷ ss) turns lines a e l = (a.0, a.1, a.2, round_push n number all ss turns lines a.3 e l)
+round_push n number (asked.checkpoint ∷ all) (steps.Checkpoint reply ∷ ss) turns lines a e l = round_push n number all ss turns lines a e l
 round_push n number all ss turns lines a e l = absurd a
 
 pub dump_push : (n : ℕ) (all : List Asked) (ss : List Step) (what : DumpOf) (at size : ℕ) (reply : Reply) → AreSteps n all ss → AreSteps n (all ++ asked.dump what at size ∷ []) (ss ++ steps.Dump what at size reply ∷ [])
 dump_push n [] [] what at size reply a = (refl, refl, refl, tt)
 dump_push n (asked.round ts ∷ all) (steps.Round m ls ∷ ss) what at size reply a = (a.0, a.1, dump_push (n + 1) all ss what at size reply a.2)
 dump_push n (asked.dump w from k ∷ all) (steps.Dump of place count r ∷ ss) what at size reply a = (a.0, a.1, a.2, dump_push n all ss what at size reply a.3)
+dump_push n (asked.checkpoint ∷ all) (steps.Checkpoint r ∷ ss) what at size reply a = dump_push n all ss what at size reply a
 dump_push n all ss what at size reply a = absurd a
+
+pub checkpoint_push : (n : ℕ) (all : List Asked) (ss : List Step) (reply : Reply) → AreSteps n all ss → AreSteps n (all ++ asked.checkpoint ∷ []) (ss ++ steps.Checkpoint reply ∷ [])
+checkpoint_push n [] [] reply a = tt
+checkpoint_push n (asked.round ts ∷ all) (steps.Round m ls ∷ ss) reply a = (a.0, a.1, checkpoint_push (n + 1) all ss reply a.2)
+checkpoint_push n (asked.dump w from k ∷ all) (steps.Dump of place count r ∷ ss) reply a = (a.0, a.1, a.2, checkpoint_push n all ss reply a.3)
+checkpoint_push n (asked.checkpoint ∷ all) (steps.Checkpoint r ∷ ss) reply a = checkpoint_push n all ss reply a
+checkpoint_push n all ss reply a = absurd a
 
 pub steps_push : (n : ℕ) (rounds : List ToldRound) (r : ToldRound) → steps_of n (rounds ++ r ∷ []) ≡ steps_of n rounds ++ steps.Round (n + length rounds) r.lines ∷ []
 steps_push n [] r = ap (λ m. steps.Round m r.lines ∷ []) (sym (add-zero n))

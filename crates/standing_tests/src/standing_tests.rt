@@ -24,6 +24,11 @@ fn may(standing: &Standing, command: Command, reply: Reply, pending: Option<Refu
     is_refused_by_standing(&line_of(command, reply), standing, pending)
 }
 
+/// A commit is pending.
+fn held() -> Option<Refusal> {
+    Some(Refusal::CommitPending)
+}
+
 #[test]
 fn release_and_undo_want_a_savepoint(rt: HostRuntime) {
     let mut standing = Standing::new(rt.alloc());
@@ -56,17 +61,16 @@ fn release_and_undo_want_a_savepoint(rt: HostRuntime) {
     );
     assert!(rt; standing.levels.save().is_ok());
     assert!(rt; may(&standing, Command::Undo, Reply::Done, None));
-    let held = Some(Refusal::CommitPending);
     assert!(rt;
         may(
             &standing,
             Command::Save,
             refused(Refusal::CommitPending),
-            held
+            held()
         )
     );
-    assert!(rt; !may(&standing, Command::Save, Reply::Done, held));
-    assert!(rt; may(&standing, Command::Commit, Reply::Done, held));
+    assert!(rt; !may(&standing, Command::Save, Reply::Done, held()));
+    assert!(rt; may(&standing, Command::Commit, Reply::Done, held()));
 }
 
 #[test]

@@ -32,9 +32,10 @@ use Rattle.engine_parts.specs.Faults.{fault_by, flush_fault_by}
 use Rattle.engine_parts.proofs.Logging.{recs_same, up_more}
 use Rattle.host_sections.specs.HostEntries.{AddsFlush, flush_by, forget_by, forget_fault_by, next_number, sync_by}
 use Rattle.log_sections.specs.LogSections.{IsRefusalOf}
+use Rattle.session_promise.specs.Causes.{failed_volume}
 use Rattle.session_promise.specs.Checkpoints.{AddsFor}
 use Rattle.engine_checkpoints.specs.Added.{AddsAt, AddsSyncs, FailsAt, IsBuiltBank, WritesCheckpoint, checkpoint_now, host_by}
-use Rattle.engine_checkpoints.specs.Made.{HasFailed, IsBuilt, IsOfUpLog, IsUntouched, IsWholeCheckpoint, Went, failed_volume}
+use Rattle.engine_checkpoints.specs.Made.{HasFailed, IsBuilt, IsOfUpLog, IsUntouched, IsWholeCheckpoint, Went}
 use Rattle.engine_checkpoints.proofs.Adding.{adds_one}
 use Rattle.engine_checkpoints.proofs.Hosts.{AddsHosts, AreHosts, hosts_at, hosts_grow, hosts_idle, hosts_none, hosts_syncs, hosts_then}
 

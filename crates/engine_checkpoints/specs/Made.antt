@@ -1,5 +1,5 @@
 -- What a checkpoint did, by what it was answered.
-use Rattle.std.specs.Prelude.{◌≡◌, ℕ, ◌+◌, ◌*◌, ◌<◌, ◌≤◌, List, [], ◌∷◌, ◌++◌, Option, Some, None}
+use Rattle.std.specs.Prelude.{◌≡◌, ℕ, ◌+◌, ◌*◌, ◌<◌, ◌≤◌, List, [], ◌∷◌, ◌++◌}
 use Rattle.std.specs.List.{AllByRecursion}
 use Rattle.disk_core.specs.Faults.{HasRisen}
 use Rattle.notes.specs.Lists.{Grows, Knows, at}
@@ -16,6 +16,7 @@ use Rattle.tx_core.specs.Locks.{log_lock, multi_lock, number_of, proc_lock}
 use Rattle.tx_core.specs.StaysDown.{IsUp}
 use Rattle.engine_parts.specs.declared.session.Session.{Session}
 use Rattle.host_sections.specs.HostEntries.{flush_by, forget_by, next_number, sync_by}
+pub use Rattle.session_promise.specs.Causes.{failed_volume}
 use Rattle.session_promise.specs.Checkpoints.{AddsFor, IsCommitting}
 use Rattle.engine_checkpoints.specs.Added.{IsBuiltBank, checkpoint_now, host_by}
 
@@ -49,12 +50,6 @@ pub record IsWholeCheckpoint (start : Start) (before after : List (List Entry)) 
   pub proc : at after proc_lock ≡ at before proc_lock
   pub multis : at after multi_lock ≡ at before multi_lock
   pub words : (place : ℕ) → 3 + 4 * start.banks ≤ place → at after place ≡ at before place
-
--- the lock whose volume failed
-abbrev pub failed_volume : Reply → Option Lock
-failed_volume (replies.Refused (refusals.DiskFault lock)) = Some lock
-failed_volume (replies.Refused refusals.LogFault) = Some locks.Log
-failed_volume reply = None
 
 -- the volume of the log, or of a bank that is built
 abbrev pub IsBuilt : ℕ → Lock → Type 0

@@ -6,8 +6,9 @@ ghost use Rattle.tx_model.specs.declared.reply.Reply.TheVariants as replies;
 ghost use Rattle.engine_parts.specs.declared.session.Session.{Session};
 ghost use Rattle.engine_host.specs.Homes.{IsHome};
 ghost use Rattle.engine_host.specs.Hosts.{IsParked};
+ghost use Rattle.session_promise.specs.Causes.{failed_volume};
 ghost use Rattle.session_promise.specs.Checkpoints.{WentCheckpoint};
-ghost use Rattle.engine_checkpoints.specs.Made.{HasFailed, IsOfUpLog, IsUntouched, IsWholeCheckpoint, failed_volume};
+ghost use Rattle.engine_checkpoints.specs.Made.{HasFailed, IsOfUpLog, IsUntouched, IsWholeCheckpoint};
 
 use crate::committing::first_committing;
 use crate::making::make_checkpoint;

@@ -7,7 +7,8 @@ ghost use Rattle.tx_model.specs.declared.reply.Reply.TheVariants as replies;
 ghost use Rattle.tx_core.specs.EngineInvariant.{EngineInvariant};
 ghost use Rattle.tx_core.specs.ProgramOrder.{IsHostsTurn};
 ghost use Rattle.engine_parts.specs.Alone.{IsAlone};
-ghost use Rattle.engine_checkpoints.specs.Made.{HasFailed, IsOfUpLog, IsTried, IsUntouched, IsWholeCheckpoint, Went, failed_volume};
+ghost use Rattle.session_promise.specs.Causes.{failed_volume};
+ghost use Rattle.engine_checkpoints.specs.Made.{HasFailed, IsOfUpLog, IsTried, IsUntouched, IsWholeCheckpoint, Went};
 ghost use Rattle.engine_checkpoints.specs.Synced.{IsNoneWaiting};
 
 use crate::syncs::sync_all;

@@ -139,6 +139,19 @@ fn run_members<
     run_beside(rt, hall, all, banks, alloc, names, plan, round, threads);
 }
 
+/// Lets what a member keeps go, where it may be much.
+fn let_lines_go<K: LineKeeper + Drop, L: LogDisk, P: PageDisk>(
+    alloc: Global,
+    member: &mut Member<K, L, P>,
+    much: bool,
+)
+    ensures { member.new.caller ≡ member.old.caller }
+{
+    if much {
+        member.kept = K::none(alloc);
+    }
+}
+
 /// Keeps what the members kept, one member behind another. Where they keep much, each lets it go as soon as it is kept here,
 /// so that no more than one member's lines are held twice.
 fn join_members<K: LineKeeper + Drop, L: LogDisk, P: PageDisk>(
@@ -156,9 +169,7 @@ fn join_members<K: LineKeeper + Drop, L: LogDisk, P: PageDisk>(
             return Err(Memory);
         }
         kept.join(&member.kept)?;
-        if much {
-            member.kept = K::none(alloc);
-        }
+        let_lines_go(alloc, member, much);
     }
     Ok(())
 }

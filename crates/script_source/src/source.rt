@@ -63,6 +63,17 @@ fn script_of(alloc: Global, bytes: &[u8]) -> Result<Script, NoScript>
     Ok(script)
 }
 
+// Large blocks stand in pages of their own, and a list that grows there is moved and not copied: until such a block is
+// freed, when the C library's allocator takes blocks up to its size from its heap. So a script's text is cut down first.
+const SMALL: usize = 65_536;
+
+/// Lets the bytes go, at a size that changes nothing for the lists of the run.
+fn let_go(bytes: Vec<u8>) {
+    let mut bytes = bytes;
+    bytes.clear();
+    bytes.shrink_to(SMALL);
+}
+
 /// Takes a script from a source, and says why where it gives none. Reads at most 16,777,217 bytes. A script has from 1 to
 /// 16 banks, and fewer than 2,900,000 of its commands make a level, as their lines would not fit in so many bytes.
 pub fn take_script<S: Source>(alloc: Global, source: &mut S) -> Result<Script, NoScript>
@@ -75,7 +86,11 @@ pub fn take_script<S: Source>(alloc: Global, source: &mut S) -> Result<Script, N
     ensures amount { ReadsUpTo most_read (S.left source.old) (S.left source.new) }
 {
     match read_all(alloc, source) {
-        Ok(bytes) => script_of(alloc, bytes.as_slice()),
+        Ok(bytes) => {
+            let script = script_of(alloc, bytes.as_slice());
+            let_go(bytes);
+            script
+        }
         Err(ReadStop::Fault) => Err(NoScript::ReadFault),
         Err(ReadStop::TooLong) => Err(refused(alloc, 0, Kind::Size)),
         Err(ReadStop::Memory) => Err(NoScript::Memory),

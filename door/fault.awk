@@ -4,7 +4,7 @@
 # all is well.
 
 BEGIN {
-    # what each command, behind its session's name, and each directive looks like; `later` are those that aren't run yet
+    # what each command, behind its session's name, and each directive looks like; `later` are commands not run yet
     split("begin,save,write,release,undo,commit,abort,snap NAME,drop NAME,see NAME ID,status ID,did ID,horizon,freeze ID", runs, ",")
     split("trim,multi ID:MODE ..,seemulti NAME MULTIXACT,multifreeze MULTIXACT", later, ",")
     split(".start ID,.oldest ID,.multi MULTIXACT,.offset OFFSET,.oldest-multi MULTIXACT,.oldest-offset OFFSET,.banks COUNT", heads, ",")
@@ -142,7 +142,7 @@ function of_byte(line,    at, bare) {
 
 function of_directive() {
     if (!(first in head)) say(quoted(first) " is no directive" nearest(first, head, step), 1, \
-        "directives are .start and .oldest, before all commands, .round, .crash and .dump")
+        "directives are .start and .oldest, before all commands, .round, .checkpoint, .crash and .dump")
     else if (first in line_of) say(quoted(first) " stands in line " line_of[first] " already", 1, "")
     else say(quoted(first) " comes too late: the first command or .round is in line " body, 1, \
         "what a script begins with stands before all commands")
@@ -159,8 +159,8 @@ function is_name(text) { return text ~ /^[a-z][a-z0-9]*$/ && length(text) <= 16 
 function of_command() {
     if (verb == ".dump")
         say(quoted(second) " is not shown yet", 2, "stores that are shown are xact, subtrans and log")
-    else if (verb in form || verb in step || verb in head)
-        say(quoted(verb) " is not run yet", verb == first ? 1 : 2, "commands are " commands)
+    else if (verb in form)
+        say(quoted(verb) " is not run yet", 2, "commands are " commands)
     else if (words == 1 && tolower(first) in form)
         say("a line begins with the name of a session: did you mean \"a " tolower(first) "\"?", 1, "commands are " commands)
     else if (words == 1)

@@ -6,8 +6,12 @@ mod driver;
 #[cfg(test)]
 mod legal_tests;
 #[cfg(test)]
+mod line_tests;
+#[cfg(test)]
 mod multi_driver;
 #[cfg(test)]
 mod multi_tests;
+#[cfg(test)]
+mod place_tests;
 #[cfg(test)]
 mod replay_tests;

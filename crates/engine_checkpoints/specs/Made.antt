@@ -1,5 +1,5 @@
 -- What a checkpoint did, by what it was answered.
-use Rattle.std.specs.Prelude.{◌≡◌, ◌≢◌, ℕ, ◌+◌, ◌*◌, ◌<◌, ◌≤◌, List, [], ◌∷◌, ◌++◌, Option, Some, None}
+use Rattle.std.specs.Prelude.{◌≡◌, ℕ, ◌+◌, ◌*◌, ◌<◌, ◌≤◌, List, [], ◌∷◌, ◌++◌}
 use Rattle.std.specs.List.{AllByRecursion}
 use Rattle.disk_core.specs.Faults.{HasRisen}
 use Rattle.notes.specs.Lists.{Grows, Knows, at}
@@ -16,6 +16,7 @@ use Rattle.tx_core.specs.Locks.{log_lock, multi_lock, number_of, proc_lock}
 use Rattle.tx_core.specs.StaysDown.{IsUp}
 use Rattle.engine_parts.specs.declared.session.Session.{Session}
 use Rattle.host_sections.specs.HostEntries.{flush_by, forget_by, next_number, sync_by}
+pub use Rattle.session_promise.specs.Causes.{failed_volume}
 use Rattle.session_promise.specs.Checkpoints.{AddsFor, IsCommitting}
 use Rattle.engine_checkpoints.specs.Added.{IsBuiltBank, checkpoint_now, host_by}
 
@@ -48,12 +49,7 @@ pub record IsWholeCheckpoint (start : Start) (before after : List (List Entry)) 
       → at after lock ≡ at before lock ++ sync_by (host_by start) ∷ []
   pub proc : at after proc_lock ≡ at before proc_lock
   pub multis : at after multi_lock ≡ at before multi_lock
-
--- the lock whose volume failed
-abbrev pub failed_volume : Reply → Option Lock
-failed_volume (replies.Refused (refusals.DiskFault lock)) = Some lock
-failed_volume (replies.Refused refusals.LogFault) = Some locks.Log
-failed_volume reply = None
+  pub words : (place : ℕ) → 3 + 4 * start.banks ≤ place → at after place ≡ at before place
 
 -- the volume of the log, or of a bank that is built
 abbrev pub IsBuilt : ℕ → Lock → Type 0
@@ -71,3 +67,14 @@ abbrev pub IsOfUpLog : List (List Entry) → Reply → Type 0
 IsOfUpLog before (replies.Pending session refusal) = Unit {0}
 IsOfUpLog before (replies.Refused (refusals.LogDown down)) = Unit {0}
 IsOfUpLog before reply = IsUp (at before log_lock)
+
+-- a commit that is pending, or a log that is down, leaves all as it was
+abbrev pub IsUntouched : List (List Entry) → List (List Entry) → Reply → Type 0
+IsUntouched before after (replies.Pending session refusal) = after ≡ before
+IsUntouched before after (replies.Refused (refusals.LogDown down)) = after ≡ before
+IsUntouched before after reply = Unit {0}
+
+-- no commit was pending
+abbrev pub IsTried : Reply → Type 0
+IsTried (replies.Pending session refusal) = ⊥
+IsTried reply = Unit {0}

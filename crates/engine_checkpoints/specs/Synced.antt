@@ -1,5 +1,5 @@
 -- What is on disk before the log is forgotten.
-use Rattle.std.specs.Prelude.{◌≡◌, ℕ, ◌<◌, List, ◌∷◌, Contains}
+use Rattle.std.specs.Prelude.{ℕ, ◌<◌, List, ◌∷◌, Contains}
 use Rattle.notes.specs.Lists.{at}
 use Rattle.tx_events.specs.declared.record.Rec.TheVariants as records
 use Rattle.tx_core.specs.declared.entry.Entry.{Entry}

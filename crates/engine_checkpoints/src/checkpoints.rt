@@ -6,8 +6,9 @@ ghost use Rattle.tx_model.specs.declared.reply.Reply.TheVariants as replies;
 ghost use Rattle.engine_parts.specs.declared.session.Session.{Session};
 ghost use Rattle.engine_host.specs.Homes.{IsHome};
 ghost use Rattle.engine_host.specs.Hosts.{IsParked};
+ghost use Rattle.session_promise.specs.Causes.{failed_volume};
 ghost use Rattle.session_promise.specs.Checkpoints.{WentCheckpoint};
-ghost use Rattle.engine_checkpoints.specs.Made.{HasFailed, IsOfUpLog, IsWholeCheckpoint, failed_volume};
+ghost use Rattle.engine_checkpoints.specs.Made.{HasFailed, IsOfUpLog, IsUntouched, IsWholeCheckpoint};
 
 use crate::committing::first_committing;
 use crate::making::make_checkpoint;
@@ -43,17 +44,20 @@ pub fn checkpoint<R: Wait, L: LogDisk, P: PageDisk>(
     ensures fault { (lock : Lock) → failed_volume result ≡ Some lock
         → HasFailed (start_of hall.now) (view host.old.pass).seen (view host.new.pass).seen lock }
     ensures up { IsOfUpLog (view host.old.pass).seen result }
+    ensures untouched { IsUntouched (view host.old.pass).seen (view host.new.pass).seen result }
 {
-    if let Some(session) = first_committing(sessions) {
-        return Reply::Pending {
+    match first_committing(sessions) {
+        Some(session) => Reply::Pending {
             session,
             refusal: Refusal::CommitPending,
-        };
+        },
+        None => {
+            let by = By {
+                session: host.cluster.sessions,
+                command: 0,
+            };
+            let cluster = host.cluster;
+            make_checkpoint(rt, hall, &mut host.pass, by, cluster)
+        }
     }
-    let by = By {
-        session: host.cluster.sessions,
-        command: 0,
-    };
-    let cluster = host.cluster;
-    make_checkpoint(rt, hall, &mut host.pass, by, cluster)
 }

@@ -7,7 +7,8 @@ ghost use Rattle.tx_model.specs.declared.reply.Reply.TheVariants as replies;
 ghost use Rattle.tx_core.specs.EngineInvariant.{EngineInvariant};
 ghost use Rattle.tx_core.specs.ProgramOrder.{IsHostsTurn};
 ghost use Rattle.engine_parts.specs.Alone.{IsAlone};
-ghost use Rattle.engine_checkpoints.specs.Made.{HasFailed, IsOfUpLog, IsWholeCheckpoint, Went, failed_volume};
+ghost use Rattle.session_promise.specs.Causes.{failed_volume};
+ghost use Rattle.engine_checkpoints.specs.Made.{HasFailed, IsOfUpLog, IsTried, IsUntouched, IsWholeCheckpoint, Went};
 ghost use Rattle.engine_checkpoints.specs.Synced.{IsNoneWaiting};
 
 use crate::syncs::sync_all;
@@ -40,25 +41,27 @@ pub(crate) fn make_checkpoint<R: Wait, L: LogDisk, P: PageDisk>(
     ensures alone { IsAlone hall.now pass.new }
     ensures holds { (view pass.new).holds ≡ (view pass.old).holds }
     ensures kept { EngineInvariant (start_of hall.now) (view pass.new).seen }
+    ensures tried { IsTried result }
     ensures went { Went (start_of hall.now) (view pass.old).seen (view pass.new).seen result }
     ensures whole { result ≡ replies.Done
         → IsWholeCheckpoint (start_of hall.now) (view pass.old).seen (view pass.new).seen }
     ensures fault { (lock : Lock) → failed_volume result ≡ Some lock
         → HasFailed (start_of hall.now) (view pass.old).seen (view pass.new).seen lock }
     ensures up { IsOfUpLog (view pass.old).seen result }
+    ensures untouched { IsUntouched (view pass.old).seen (view pass.new).seen result }
 {
-    if let Err(refusal) = flush_records(rt, hall, pass, by) {
-        return Reply::Refused {
-            refusal: refusal_of(refusal),
-        };
-    }
-    if let Err(lock) = sync_all(rt, hall, pass, by, cluster.banks) {
-        return Reply::Refused {
-            refusal: Refusal::DiskFault { lock },
-        };
-    }
-    match write_checkpoint(rt, hall, pass, by, cluster.base) {
-        Ok(()) => Reply::Done,
+    match flush_records(rt, hall, pass, by) {
+        Ok(()) => match sync_all(rt, hall, pass, by, cluster.banks) {
+            Ok(()) => match write_checkpoint(rt, hall, pass, by, cluster.base) {
+                Ok(()) => Reply::Done,
+                Err(refusal) => Reply::Refused {
+                    refusal: refusal_of(refusal),
+                },
+            },
+            Err(lock) => Reply::Refused {
+                refusal: Refusal::DiskFault { lock },
+            },
+        },
         Err(refusal) => Reply::Refused {
             refusal: refusal_of(refusal),
         },

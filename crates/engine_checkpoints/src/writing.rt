@@ -44,7 +44,11 @@ pub(crate) fn write_checkpoint<R: Wait, L: LogDisk, P: PageDisk>(
     ensures adds { WritesCheckpoint (start_of hall.now) by (view pass.old).seen (view pass.new).seen result }
 {
     let counters = read_counters(rt, hall, pass, base);
-    let number = append_checkpoint(rt, hall, pass, by, &counters)?;
-    flush_records(rt, hall, pass, by)?;
-    forget_log(rt, hall, pass, by, number)
+    match append_checkpoint(rt, hall, pass, by, &counters) {
+        Ok(number) => match flush_records(rt, hall, pass, by) {
+            Ok(()) => forget_log(rt, hall, pass, by, number),
+            Err(refusal) => Err(refusal),
+        },
+        Err(refusal) => Err(refusal),
+    }
 }

@@ -2,6 +2,7 @@
 use Rattle.std.specs.Prelude.{◌≡◌, ℕ, ◌+◌, ◌<◌, ◌⊎◌, List, length, Result, Ok, Err}
 use Rattle.disk_core.specs.Faults.{HasRisen}
 use Rattle.notes.specs.Lists.{add, at}
+use Rattle.tx_events.specs.Ids.{IsFullMulti, IsXidNumber}
 use Rattle.tx_events.specs.declared.event.By.{By}
 use Rattle.tx_events.specs.declared.record.Counters.{Counters}
 use Rattle.tx_events.specs.declared.record.Rec.{Rec}
@@ -90,3 +91,9 @@ AddsSync start by lock old new (Ok done) = new ≡ add old lock (sync_by by)
 AddsSync start by lock old new (Err bank_refusals.DiskFault) =
     RisenCount start old lock (λ count. new ≡ add old lock (fault_by by count))
 AddsSync start by lock old new (Err refusal) = ⊥
+
+-- the numbers have the forms of an id and of multixacts
+pub record HaveForms (c : Counters) : Type 0 where
+  pub oldest : IsXidNumber c.oldest
+  pub multi : IsFullMulti c.multi
+  pub oldest_multi : IsFullMulti c.oldest_multi

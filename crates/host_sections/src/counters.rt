@@ -6,6 +6,7 @@ ghost use Rattle.tx_core.specs.EngineInvariant.{EngineInvariant};
 ghost use Rattle.tx_core.specs.Entries.{history};
 ghost use Rattle.tx_core.specs.MultiEntries.{multi_history};
 ghost use Rattle.engine_parts.specs.Alone.{IsAlone, StaysAlone};
+ghost use Rattle.host_sections.specs.HostEntries.{HaveForms};
 
 use crate::home::{take_part, take_proc};
 use disk_core::{LogDisk, PageDisk};
@@ -42,6 +43,7 @@ pub fn read_counters<R: Wait, L: LogDisk, P: PageDisk>(
     ensures stays { StaysAlone hall.now (view pass.old).seen pass.old pass.new }
     ensures kept { EngineInvariant (start_of hall.now) (view pass.new).seen }
     ensures none { multi_history (view pass.old).seen ≡ [] }
+    ensures forms { HaveForms result }
     ensures counters { result ≡ counters_behind (start_of hall.now).base (history (view pass.old).seen) }
 {
     look_at_multis(rt, hall, pass);
@@ -49,6 +51,10 @@ pub fn read_counters<R: Wait, L: LogDisk, P: PageDisk>(
     let next = table.next();
     let oldest = table.oldest();
     hall.put_back(pass, Part::Proc(table));
+    // what their types say of these numbers is of use to the caller's proof
+    let _oldest = oldest.number();
+    let _multi = base.multi.number();
+    let _oldest_multi = base.oldest_multi.number();
     Counters {
         next,
         oldest,

@@ -31,7 +31,10 @@ b see s 3
     for part in parts {
         assert!(rt; held.contains(*part), "{passes} calls, {how}: {part}");
     }
-    assert!(rt; held.contains("b 2 see s 3 -> visible\n"), "{passes} calls, {how}");
+    assert!(rt;
+        held.contains("b 2 see s 3 -> visible\n"),
+        "{passes} calls, {how}"
+    );
     assert_eq!(rt; status, 0, "{passes} calls, {how}");
     Ok(())
 }
@@ -215,7 +218,10 @@ checkpoint -> ok
 #[test]
 fn a_checkpoint_syncs_each_bank(rt: HostRuntime) -> Result<(), Fail> {
     for bank in 0..4 {
-        for (at, name) in [(Which::Xact(bank), "xact"), (Which::Subtrans(bank), "subtrans")] {
+        for (at, name) in [
+            (Which::Xact(bank), "xact"),
+            (Which::Subtrans(bank), "subtrans"),
+        ] {
             let fault = format!(in rt.alloc();
                 "
 checkpoint -> disk-fault {name} {bank}

@@ -1,5 +1,5 @@
 //! The first event of a history of multixacts that may not come.
-ghost use Rattle.std.specs.Prelude.{◌≡◌, ◌<◌, ◌≤◌, IfOk, IfSome, IfNone, true, false, [], ◌∷◌, ◌++◌};
+ghost use Rattle.std.specs.Prelude.{◌≡◌, ◌<◌, ◌≤◌, IfOk, IfSome, IfNone, OnErr, true, false, [], ◌∷◌, ◌++◌};
 ghost use Rattle.tx_events.specs.Base.{IsBase};
 ghost use Rattle.tx_events.specs.Multis.{AreLegalMultis, InBase, MultiMayCome};
 ghost use Rattle.multi_store.specs.Generator.{Adds};
@@ -10,10 +10,12 @@ use multi_store::MultiGen;
 use std::alloc::Global;
 use tx_events::{Counters, Memory, MultiEvent, Refusal};
 
-/// Adds the event if it may come next, and tells whether it did.
+/// Adds the event if it may come next, and tells whether it did. Else nothing changed.
 pub fn add_multi(multis: &mut MultiGen, event: &MultiEvent) -> Result<bool, Memory>
     ensures added { IfOk result (λ b. b ≡ true → Adds multis.old multis.new event.now) }
     ensures refused { IfOk result (λ b. b ≡ false → (MultiMayCome multis.old.base (InBase multis.old.base) multis.old.events event.now → ⊥)) }
+    ensures same { IfOk result (λ b. b ≡ false → multis.new ≡ multis.old) }
+    ensures err { OnErr result (multis.new ≡ multis.old) }
 {
     let _legal = multis.events();
     match event {

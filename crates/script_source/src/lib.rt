@@ -1,11 +1,13 @@
-//! Reads the script of a run from a source, and writes its last text to a sink. See `docs/GUARANTEES.md`.
+//! Reads the script of a run from a source, and writes its texts to a sink. See `docs/GUARANTEES.md`.
 #![tactic(auto)]
 
+mod life_text;
 mod other;
 mod script;
 mod source;
 mod stream;
 
+pub use life_text::{LifeText, front_of, put_life};
 pub use script::NoScript;
 pub use source::take_script;
 pub use stream::write_all;

@@ -1,5 +1,5 @@
 -- Each fault that a reply tells of was counted by its volume.
-use Rattle.std.proofs.Common.{Bool, List, Some, ap, arith, get_or, length, max, min, subst, sym, ℕ, ◌+◌, ◌-◌, ◌<◌, ◌^◌, ◌≡◌, ◌≤◌}
+use Rattle.std.proofs.Common.{Bool, List, Some, ap, arith, get_or, length, max, min, subst, sym, ℕ, ◌+◌, ◌-◌, ◌<◌, ◌^◌, ◌∙◌, ◌≡◌, ◌≤◌}
 use Rattle.std.specs.List.{flat_map, slice_get}
 use Rattle.disk_core.specs.declared.log_disk.LogDisk as logs
 use Rattle.disk_core.specs.declared.page_disk.PageDisk as disks
@@ -21,7 +21,7 @@ use Rattle.session_promise.specs.Causes.{HasRisenBy, faults_in}
 use Rattle.session_promise.specs.Closing.{IsOver}
 use Rattle.session_promise.specs.Told.{ToldRound, all_lines, lines_by}
 use Rattle.session_promise.proofs.FaultLines.{faults_are_told}
-use Rattle.session_run.specs.Causes.{HasRisenAt, HaveCauses, checkpoint_faults, told_faults}
+use Rattle.session_run.specs.Causes.{AreOfBuilt, HasRisenAt, HaveCauses, checkpoint_faults, told_faults}
 use Rattle.session_run.specs.OneLife.{IsOpened}
 
 -- a count has risen by as many from below, and to beyond
@@ -33,7 +33,7 @@ by_more : (before m n now : ℕ) → min (before + m) (2 ^ 64 - 1) ≤ now → m
 by_more before m n now first second = grind arith
 
 module _ {L P : Type 0} {l : logs.Ghosts L} {p : disks.Ghosts P} (tells : Bool) (c : Cluster) (start : Start) (lists : List (List Entry)) (rounds : List ToldRound) (life : OpenLife L P l p) (old new : Volumes L P)
-    (over : IsOver tells start lists rounds) (b : Beginning) (faults : List ℕ) (begun : IsOpened c b faults old life) (starts : start ≡ life_from c b faults) (counted : HaveCountedTold l p start lists new) (multis : LeaveMultis old new) (steps : List Step) (lines : flat_map lines_in steps ≡ all_lines rounds) (checkpoints : (lock : ℕ) → HasRisenBy (checkpoint_faults steps lock) (faults_at start lock) (faults_told start lock (at lists lock))) where
+    (over : IsOver tells start lists rounds) (b : Beginning) (faults : List ℕ) (begun : IsOpened c b faults old life) (starts : start ≡ life_from c b faults) (counted : HaveCountedTold l p start lists new) (multis : LeaveMultis old new) (steps : List Step) (lines : flat_map lines_in steps ≡ all_lines rounds) (checkpoints : (lock : ℕ) → HasRisenBy (checkpoint_faults steps lock) (faults_at start lock) (faults_told start lock (at lists lock))) (all_built : AreOfBuilt start.banks steps) where
   abbrev times : ℕ → ℕ → ℕ
   times session lock = told_faults steps session lock
 
@@ -71,4 +71,5 @@ module _ {L P : Type 0} {l : logs.Ghosts L} {p : disks.Ghosts P} (tells : Bool) 
     xact = λ session bank low. risen session (xact_lock bank) bank old.xact.items new.xact.items low (begun.counted.xact bank) (counted.xact bank (inside bank old.xact.items begun.banks.xact low));
     subtrans = λ session bank low. risen session (subtrans_lock bank) bank old.subtrans.items new.subtrans.items low (begun.counted.subtrans bank) (counted.subtrans bank (inside bank old.subtrans.items begun.banks.subtrans low));
     multis = multis;
+    built = subst (λ n. AreOfBuilt n steps) (ap (λ (s : Start). s.banks) starts ∙ sym begun.banks.xact) all_built;
   }

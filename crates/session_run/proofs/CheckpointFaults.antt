@@ -1,17 +1,19 @@
 -- Each fault that a checkpoint tells of was counted by its volume.
 use Rattle.std.proofs.Common.{Bool, IfSome, List, None, Option, Some, [], ap, append-nil, append_assoc, arith, cond, eqb-true, false, min, refl, subst, sym, true, ℕ, ◌++◌, ◌+◌, ◌-◌, ◌==◌, ◌^◌, ◌∙◌, ◌∷◌, ◌≡◌, ◌≤◌}
 use Rattle.disk_core.specs.Faults.{HasRisen}
+use Rattle.engine_checkpoints.specs.Made.{IsBuilt}
 use Rattle.engine_parts.proofs.Leaving.{grows_then}
 use Rattle.notes.specs.Lists.{Begins, Grows, at}
 use Rattle.run_law.proofs.PartSums.{count_push}
 use Rattle.session_promise.specs.Causes.{HasRisenBy, failed_volume, is_behind}
-use Rattle.session_run.specs.Causes.{AreCheckpointsCounted, checkpoint_faults, failed_by}
+use Rattle.session_run.specs.Causes.{AreCheckpointsCounted, AreOfBuilt, checkpoint_faults, failed_by}
 use Rattle.tx_core.proofs.LastNumbers.{number_push, number_same}
 use Rattle.tx_core.specs.EngineInvariant.{EngineInvariant}
 use Rattle.tx_core.specs.FaultsRise.{NeedsCount, count_in, faults_at, faults_told}
 use Rattle.tx_core.specs.Locks.{number_of}
 use Rattle.tx_core.specs.declared.entry.Entry.{Entry}
 use Rattle.tx_core.specs.declared.entry.Start.{Start}
+use Rattle.tx_events.proofs.ListSteps.{all_push}
 use Rattle.tx_events.proofs.PlaceLemmas.{each_place_last, each_place_start}
 use Rattle.tx_events.specs.Places.{EachPlace}
 use Rattle.tx_events.specs.declared.refusal.Lock.{Lock}
@@ -71,6 +73,16 @@ told_grows start before after last lock first then kept =
 pub counted_first : (start : Start) (lists : List (List Entry)) → ((place : ℕ) → at lists place ≡ []) → AreCheckpointsCounted start lists []
 counted_first start lists none last grows kept lock =
     subst (λ es. HasRisenBy 0 (faults_at start lock) (faults_told start lock es)) (sym (none lock)) (none_yet (faults_at start lock))
+
+pub built_on : (banks : ℕ) (told : List Step) (step : Step) → failed_by step ≡ None → AreOfBuilt banks told → AreOfBuilt banks (told ++ step ∷ [])
+built_on banks told step none all = all_push (λ (s : Step). IfSome (failed_by s) (IsBuilt banks)) told step all (subst (λ f. IfSome f (IsBuilt banks)) (sym none) tt)
+
+pub built_checkpoint : (banks : ℕ) (told : List Step) (reply : Reply) → ((failed : Lock) → failed_volume reply ≡ Some failed → IsBuilt banks failed) → AreOfBuilt banks told → AreOfBuilt banks (told ++ steps.Checkpoint reply ∷ [])
+built_checkpoint banks told reply built all = all_push (λ (s : Step). IfSome (failed_by s) (IsBuilt banks)) told (steps.Checkpoint reply) all (by_volume (failed_volume reply) refl)
+  where
+    by_volume : (o : Option Lock) → failed_volume reply ≡ o → IfSome o (IsBuilt banks)
+    by_volume None e = tt
+    by_volume (Some failed) e = built failed e
 
 -- steps that are no checkpoint tell of none
 pub counted_on : (start : Start) (before after : List (List Entry)) (told : List Step) (step : Step) → Grows before after → failed_by step ≡ None → AreCheckpointsCounted start before told → AreCheckpointsCounted start after (told ++ step ∷ [])

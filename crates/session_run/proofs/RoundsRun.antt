@@ -5,10 +5,9 @@ use Rattle.std.proofs.lemmas.Option.{get_or_from_slice_get, slice_get_within}
 use Rattle.std.specs.List.{All, AllByRecursion, filter, slice_get}
 use Rattle.disk_core.specs.declared.log_disk.LogDisk as logs
 use Rattle.disk_core.specs.declared.page_disk.PageDisk as disks
-use Rattle.disk_core.specs.Faults.{HasRisen}
 use Rattle.hall.specs.declared.hall.Hall.{Hall}
 use Rattle.hall.specs.Calls.{start_of, view}
-use Rattle.notes.specs.Lists.{Grows, at}
+use Rattle.notes.specs.Lists.{Grows}
 use Rattle.tx_events.proofs.PlaceLemmas.{each_place_none, each_place_push}
 use Rattle.tx_events.specs.declared.refusal.Lock.{Lock}
 use Rattle.tx_model.specs.declared.reply.Reply.{Reply}
@@ -23,13 +22,12 @@ use Rattle.script_rounds.specs.declared.keeper.LineKeeper as keepers
 use Rattle.tx_core.specs.declared.entry.Entry.{Entry}
 use Rattle.tx_core.specs.declared.entry.Start.{Start}
 use Rattle.tx_core.specs.Entries.{history}
-use Rattle.tx_core.specs.FaultsRise.{faults_told}
-use Rattle.tx_core.specs.Locks.{number_of}
 use Rattle.engine_parts.specs.declared.part.Part.{Part}
 use Rattle.engine_parts.specs.declared.session.Session.{Session}
 use Rattle.engine_host.specs.declared.cluster.Cluster.{Cluster}
 use Rattle.engine_host.specs.declared.host.Host.{Host}
 use Rattle.engine_host.specs.Hosts.{HasSeenNothing, HoldsAllBut, IsHost, IsNewSession, IsParked}
+use Rattle.engine_checkpoints.specs.Made.{HasFailed}
 use Rattle.engine_host.specs.Homes.{IsHome, StaysHome}
 use Rattle.engine_dumps.specs.Dumps.{IsAnswered}
 use Rattle.session_promise.specs.Causes.{failed_volume}
@@ -49,7 +47,7 @@ use Rattle.session_run.specs.GoesOn.{AreHome, GoesOn, HasRoundMore}
 use Rattle.session_run.specs.Parts.{HasRun}
 use Rattle.run_law.proofs.AllTurns.{Turns, turns_of_all}
 use Rattle.session_run.proofs.RoundCounts.{lines_short, own_short, rounds_told}
-use Rattle.session_run.proofs.CheckpointFaults.{counted_checkpoint, counted_first, counted_on}
+use Rattle.session_run.proofs.CheckpointFaults.{built_checkpoint, built_on, counted_checkpoint, counted_first, counted_on}
 use Rattle.session_run.proofs.Returning.{grows_same}
 use Rattle.session_run.proofs.RoundSteps.{as_many, checkpoint_push, dump_push, kept_push, round_push, steps_push}
 
@@ -70,6 +68,7 @@ module _ {H K L P : Type 0} {l : logs.Ghosts L} {p : disks.Ghosts P} (keep : kee
     dumps = each_place_none (λ before step. IsStepTold (start_of hall) (view host.pass).seen [] before step);
     checkpoints = checkpoints_begin (start_of hall) (view host.pass).seen unseen;
     faults = counted_first (start_of hall) (view host.pass).seen unseen;
+    built = tt;
     kept_is = refl;
   }
 
@@ -88,6 +87,7 @@ module _ {H K L P : Type 0} {l : logs.Ghosts L} {p : disks.Ghosts P} (keep : kee
         dumps = dumps_stay (start_of hall) (view before.pass).seen (view after.pass).seen r.rounds (m.round ∷ []) grows r.steps step r.dumps tt;
         checkpoints = m.checkpoints r.steps (rounds + 1) r.checkpoints;
         faults = counted_on (start_of hall) (view before.pass).seen (view after.pass).seen r.steps step grows refl r.faults;
+        built = built_on (start_of hall).banks r.steps step refl r.built;
         kept_is =
             more ∙ ap (keep.with_lines names mid) m.lines_are
             ∙ ap (λ z. keep.with_lines names z m.round.lines) (begun ∙ ap (λ z. keep.with_round z (rounds + 1)) r.kept_is)
@@ -119,12 +119,13 @@ module _ {H K L P : Type 0} {l : logs.Ghosts L} {p : disks.Ghosts P} (keep : kee
         dumps = subst (λ seen. AreDumpsTold start seen r.rounds (r.steps ++ step ∷ [])) (sym stays.seen) more;
         checkpoints = subst (λ seen. AreCheckpointsTold start seen r.rounds (r.steps ++ step ∷ [])) (sym stays.seen) (checkpoints_stay_dump start lists r.rounds r.steps what from size reply r.checkpoints);
         faults = subst (λ seen. AreCheckpointsCounted start seen (r.steps ++ step ∷ [])) (sym stays.seen) (counted_on start lists lists r.steps step (grows_same lists) refl r.faults);
+        built = built_on start.banks r.steps step refl r.built;
         kept_is = put ∙ ap (λ z. keep.with_step names z step) r.kept_is ∙ sym (kept_push keep names first r.steps step);
       }
 
   -- behind a checkpoint
   pub ran_checkpoint : (hall : Hall H (Part L P l p) Entry Start) (before after : Host L P l p) (sessions : List Session) (names : List (List ℕ)) (reply : Reply) (all : List Asked) (first kept kept' : K) → AreHome hall after sessions → WentCheckpoint (start_of hall) sessions (view before.pass).seen (view after.pass).seen reply
-      → ((failed : Lock) → failed_volume reply ≡ Some failed → HasRisen (faults_told (start_of hall) (number_of failed) (at (view before.pass).seen (number_of failed))) (faults_told (start_of hall) (number_of failed) (at (view after.pass).seen (number_of failed))))
+      → ((failed : Lock) → failed_volume reply ≡ Some failed → HasFailed (start_of hall) (view before.pass).seen (view after.pass).seen failed)
       → kept' ≡ keep.with_step names kept (steps.Checkpoint reply) → HasRun keep hall before sessions names all first kept → HasRun keep hall after sessions names (all ++ asked.checkpoint ∷ []) first kept'
   ran_checkpoint hall before after sessions names reply all first kept kept' home went cause put r =
       let start = start_of hall in
@@ -138,7 +139,8 @@ module _ {H K L P : Type 0} {l : logs.Ghosts L} {p : disks.Ghosts P} (keep : kee
         rounds_are = filter-append is_round r.steps (step ∷ []) ∙ (append-nil (filter is_round r.steps) ∙ r.rounds_are);
         dumps = dumps_stay_checkpoint start was is sessions r.rounds r.steps reply went r.dumps;
         checkpoints = checkpoint_goes_on p.tells start was is sessions r.rounds r.steps reply r.goes_on.so_far went r.rounds_are r.checkpoints;
-        faults = counted_checkpoint start was is r.steps reply went.grows cause r.faults;
+        faults = counted_checkpoint start was is r.steps reply went.grows (λ failed e. (cause failed e).risen) r.faults;
+        built = built_checkpoint start.banks r.steps reply (λ failed e. (cause failed e).built) r.built;
         kept_is = put ∙ ap (λ z. keep.with_step names z step) r.kept_is ∙ sym (kept_push keep names first r.steps step);
       }
 

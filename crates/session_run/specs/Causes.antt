@@ -1,6 +1,6 @@
 -- How often a life's replies say that a volume failed, and how often it did.
-use Rattle.std.specs.Prelude.{◌≡◌, ℕ, ◌<◌, List, None, Option, Some, length, max, slice_get}
-use Rattle.std.specs.List.{count_by, flat_map}
+use Rattle.std.specs.Prelude.{◌≡◌, ℕ, ◌<◌, IfSome, List, None, Option, Some, length, max, slice_get}
+use Rattle.std.specs.List.{AllByRecursion, count_by, flat_map}
 use Rattle.disk_core.specs.declared.log_disk.LogDisk as logs
 use Rattle.disk_core.specs.declared.page_disk.PageDisk as disks
 use Rattle.disk_core.specs.declared.media.Volumes.{Volumes}
@@ -14,6 +14,7 @@ use Rattle.tx_core.specs.declared.entry.Start.{Start}
 use Rattle.tx_core.specs.EngineInvariant.{EngineInvariant}
 use Rattle.tx_core.specs.FaultsRise.{faults_at, faults_told}
 use Rattle.tx_core.specs.Locks.{log_lock, subtrans_lock, xact_lock}
+use Rattle.engine_checkpoints.specs.Made.{IsBuilt}
 use Rattle.engine_life.specs.Lives.{LeaveMultis}
 use Rattle.session_promise.specs.Causes.{HasRisenBy, failed_volume, faults_in, is_behind}
 use Rattle.session_promise.specs.Told.{lines_by}
@@ -32,6 +33,10 @@ abbrev pub told_faults : List Step → ℕ → ℕ → ℕ
 told_faults told session lock =
     max (faults_in lock (lines_by session (flat_map lines_in told))) (checkpoint_faults told lock)
 
+-- no checkpoint was told of a fault but of the log's volume, or of one of so many of pg_xact and pg_subtrans each
+abbrev pub AreOfBuilt : ℕ → List Step → Type 0
+AreOfBuilt banks told = AllByRecursion (λ step. IfSome (failed_by step) (IsBuilt banks)) told
+
 -- In lists that go on to such as the engine leaves, each volume's count, as its lock's list tells it, rose by no less than
 -- the checkpoints were told that it failed.
 abbrev pub AreCheckpointsCounted : Start → List (List Entry) → List Step → Type 0
@@ -49,7 +54,8 @@ pub record HasRisenAt {P : Type 0} (faults : P → ℕ) (times place : ℕ) (old
 
 module _ {L P : Type 0} (l : logs.Ghosts L) (p : disks.Ghosts P) where
   -- Since the mounting each volume's count rose by no less than any one session's commands were told that this volume
-  -- failed, and by no less than the checkpoints were. Those of the multixacts' stores are as they were.
+  -- failed, and by no less than the checkpoints were. Those of the multixacts' stores are as they were, and no checkpoint
+  -- was told that one of these failed.
   pub record HaveCauses (told : List Step) (old new : Volumes L P) : Type 0 where
     pub log : (session : ℕ) → HasRisenBy (told_faults told session log_lock) (l.faults old.log) (l.faults new.log)
     pub xact : (session bank : ℕ) → bank < length old.xact.items
@@ -57,3 +63,4 @@ module _ {L P : Type 0} (l : logs.Ghosts L) (p : disks.Ghosts P) where
     pub subtrans : (session bank : ℕ) → bank < length old.subtrans.items
         → HasRisenAt p.faults (told_faults told session (subtrans_lock bank)) bank old.subtrans.items new.subtrans.items
     pub multis : LeaveMultis old new
+    pub built : AreOfBuilt (length old.xact.items) told

@@ -35,7 +35,7 @@ use Rattle.session_run.specs.declared.run.PartEnd.{PartEnd}
 use Rattle.session_run.specs.declared.run.PartEnd.TheVariants as ends
 use Rattle.session_run.specs.declared.stop.Stopped.{Stopped}
 use Rattle.session_run.specs.declared.stop.Stopped.TheVariants as stops
-use Rattle.session_run.specs.declared.text.LifeText.{LifeText}
+use Rattle.script_source.specs.declared.life_text.LifeText.{LifeText}
 use Rattle.session_run.specs.Leaves.{HasLeftLast}
 use Rattle.session_run.specs.Lives.{ComesTo, HasFallen}
 use Rattle.session_run.specs.Runs.{cluster_of}

@@ -21,9 +21,9 @@ crash_of hows.Torn = crashes.Torn
 
 module _ {L P : Type 0} (l : logs.Ghosts L) (p : disks.Ghosts P) where
   -- What a life left of the volumes that it mounted: as many of each kind, and none counted fewer faults in it than any one
-  -- session's commands were told of. If the volumes tell what they hold, the log's has the life's records, those of pg_xact say
-  -- committed only of what is on disk, and they fit a log that ends with the life: so recovery may begin from whatever a
-  -- crash leaves of them.
+  -- session's commands were told of, or its checkpoints. If the volumes tell what they hold, the log's has the life's records,
+  -- from the first one on or from a checkpoint on, those of pg_xact say committed only of what is on disk, and they fit a log
+  -- that ends with the life: so recovery may begin from whatever a crash leaves of them.
   pub record HasEndedOn (r : LifeReport) (mounted left : Volumes L P) : Type 0 where
     pub same : HaveSameBanks mounted left
     pub causes : HaveCauses l p r.steps mounted left

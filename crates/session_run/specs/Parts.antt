@@ -26,7 +26,7 @@ use Rattle.engine_host.specs.declared.host.Host.{Host}
 use Rattle.session_promise.specs.Checkpoints.{AreCheckpointsTold}
 use Rattle.session_promise.specs.Dumps.{AreDumpsTold}
 use Rattle.session_promise.specs.Told.{ToldRound, steps_of}
-use Rattle.session_run.specs.Causes.{AreCheckpointsCounted}
+use Rattle.session_run.specs.Causes.{AreCheckpointsCounted, AreOfBuilt}
 use Rattle.session_run.specs.GoesOn.{GoesOn}
 
 -- items that a life of so many sessions can run
@@ -56,6 +56,7 @@ module _ {H K L P : Type 0} {l : logs.Ghosts L} {p : disks.Ghosts P} (k : keeper
     pub dumps : AreDumpsTold (start_of hall) (view host.pass).seen rounds steps
     pub checkpoints : AreCheckpointsTold (start_of hall) (view host.pass).seen rounds steps
     pub faults : AreCheckpointsCounted (start_of hall) (view host.pass).seen steps
+    pub built : AreOfBuilt (start_of hall).banks steps
     pub kept_is : kept ≡ with_steps k names first steps
 
   -- behind so many rounds it has done this more

@@ -8,10 +8,9 @@ ghost use Rattle.life_law.specs.Replies.{is_told_verdict};
 ghost use Rattle.xact_writes.specs.Writes.{reply_to};
 
 use disk_core::{LogDisk, PageDisk};
-use engine_parts::{Caller, EngineLaw};
+use engine_parts::{Caller, EngineLaw, Passing};
 use hall::Hall;
 use std::alloc::Global;
-use std::sync::Wait;
 use tx_model::{Command, Refusal, Reply, SnapData, Status};
 use xact_ends::{abort, commit, undo};
 use xact_engine::{begin, drop_snap, release, save, snap};
@@ -81,7 +80,7 @@ fn told(answer: Result<bool, Refusal>) -> Reply
 
 /// Runs the session's next command, and answers its reply. `banks` is the number of banks of each store, 1 to 16. The
 /// session has run fewer than 2^48 commands. Want of memory that the command met is its reply too.
-pub fn run_command<R: Wait, L: LogDisk, P: PageDisk>(
+pub fn run_command<R: Passing, L: LogDisk, P: PageDisk>(
     rt: &R,
     hall: &Hall<EngineLaw<L, P>>,
     caller: &mut Caller<L, P>,

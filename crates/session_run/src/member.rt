@@ -10,7 +10,7 @@ ghost use Rattle.session_run.specs.Turns.{Begins, MayGo, RunsNext, RunsRound, co
 
 use crate::commands::run_command;
 use disk_core::{LogDisk, PageDisk};
-use engine_parts::{Caller, EngineLaw, command_of};
+use engine_parts::{Caller, EngineLaw, Gated, OpenGate, Passing, command_of};
 use hall::Hall;
 use script_rounds::{LineKeeper, Plan, ToldLines, command_at};
 use session_lang::Items;
@@ -30,7 +30,7 @@ pub struct Member<K, L: LogDisk, P: PageDisk> {
 }
 
 /// Runs the session's next command and keeps its line. The command ran also where memory was wanting for the line.
-fn run_turn<R: Wait, K: LineKeeper, L: LogDisk, P: PageDisk>(
+fn run_turn<R: Passing, K: LineKeeper, L: LogDisk, P: PageDisk>(
     rt: &R,
     hall: &Hall<EngineLaw<L, P>>,
     member: &mut Member<K, L, P>,
@@ -51,7 +51,7 @@ fn run_turn<R: Wait, K: LineKeeper, L: LogDisk, P: PageDisk>(
 }
 
 /// Runs the session's commands of a round, in their order: those at these places. Where memory is wanting it stops.
-fn run_places<R: Wait, K: LineKeeper, L: LogDisk, P: PageDisk>(
+fn run_places<R: Passing, K: LineKeeper, L: LogDisk, P: PageDisk>(
     rt: &R,
     hall: &Hall<EngineLaw<L, P>>,
     member: &mut Member<K, L, P>,
@@ -74,7 +74,7 @@ fn run_places<R: Wait, K: LineKeeper, L: LogDisk, P: PageDisk>(
     Ok(())
 }
 
-/// Runs the session's commands of a round, at the places that the plan has for it.
+/// Runs the session's commands of a round, at the places that the plan has for it. No gate holds it up.
 pub fn run_member<R: Wait, K: LineKeeper, L: LogDisk, P: PageDisk>(
     rt: &R,
     hall: &Hall<EngineLaw<L, P>>,
@@ -90,6 +90,11 @@ pub fn run_member<R: Wait, K: LineKeeper, L: LogDisk, P: PageDisk>(
     ensures { RunsRound K.LineKeeper hall.now banks names.now round.now (member.new.lost ≡ false) member.old member.new }
 {
     let places = plan.places[member.caller.number as usize].items();
-    let ran = run_places(rt, hall, member, banks, alloc, names, places, round);
+    let gated = Gated {
+        rt,
+        gate: &OpenGate,
+    };
+    let ran = run_places(&gated, hall, member, banks, alloc, names, places, round);
+    let Gated { rt: _, gate: _ } = gated;
     member.lost = ran.is_err();
 }

@@ -156,11 +156,13 @@ a commit
 .dump log 141 4
 .dump xact 0 0 1
 ",
-        &["checkpoint -> ok
+        &[
+            "checkpoint -> ok
 dump log 80 6 -> 01 39 00 00 00 04
 dump log 141 4 -> 00 00
 dump xact 0 0 1 -> 40
 history
-"],
+",
+        ],
     )
 }

@@ -1,8 +1,10 @@
--- The next id isn't past the stop limit of the announced oldest one.
-use Rattle.std.proofs.Common.{List, None, Option, Some, [], ap, arith, cond, false, length, min, nat_lt, refl, subst, suc, sym, true, Bool, ℕ, ◌++◌, ◌+◌, ◌-◌, ◌%◌, ◌^◌, ◌<◌, ◌∙◌, ◌∷◌, ◌≡◌, ◌≤◌}
+-- The next id isn't past the stop limit of the announced oldest one, which was announced or is the first.
+use Rattle.std.proofs.Common.{Contains, List, None, Option, Some, [], ap, arith, cond, inl, inr, ⊎_elim, ◌⊎◌, false, length, min, nat_lt, refl, subst, suc, sym, true, Bool, ℕ, ◌++◌, ◌+◌, ◌-◌, ◌%◌, ◌^◌, ◌<◌, ◌∙◌, ◌∷◌, ◌≡◌, ◌≤◌}
 use Rattle.std.proofs.lemmas.Bool.Decides.{nat_tests}
+use Rattle.std.proofs.lemmas.List.Elements.{Contains-append_left, Contains-push}
 use Rattle.std.specs.List.{cons_option}
 use Rattle.tx_events.specs.Ids.{IsFullId, low_half, next_id}
+use Rattle.tx_events.specs.declared.event.By.{By}
 use Rattle.tx_events.specs.declared.event.Event.{Event}
 use Rattle.tx_events.specs.declared.event.Event.TheVariants as events
 use Rattle.tx_events.specs.declared.record.Counters.{Counters}
@@ -15,6 +17,7 @@ use Rattle.tx_events.proofs.GivenGrowth.{given_none, given_push}
 use Rattle.tx_events.proofs.GivenIds.{may_give}
 use Rattle.tx_events.proofs.HorizonSteps.{oldest_push}
 use Rattle.tx_events.proofs.IdOrder.{next_least}
+use Rattle.tx_events.proofs.Membership.{by_end}
 use Rattle.tx_events.proofs.Soundness.{legal_induction}
 use Rattle.tx_core.proofs.Posting.{announced_rises}
 
@@ -98,3 +101,22 @@ next_within base is = legal_induction base (λ h. next_given base.next h ≤ sto
         one_more : (xs : List ℕ) (x : ℕ) → length (xs ++ x ∷ []) ≡ suc (length xs)
         one_more [] x = refl
         one_more (y ∷ xs) x = ap suc (one_more xs x)
+
+-- the oldest id is the one with which the life began, or one that it announced
+abbrev pub IsFound : ℕ → List Event → Type 0
+IsFound first h = (oldest_id first h ≡ first) ⊎ ((by : By) × Contains h (events.Oldest by (oldest_id first h)))
+
+pub found_announced : (first : ℕ) (h : List Event) → IsFound first h
+found_announced first = by_end (IsFound first) (inl refl) (λ h e before. step h e before)
+  where
+    older : (h : List Event) (e : Event) → oldest_id first (h ++ e ∷ []) ≡ oldest_id first h → IsFound first h → IsFound first (h ++ e ∷ [])
+    older h e same before = ⊎_elim
+        (λ (q : oldest_id first h ≡ first). inl (same ∙ q))
+        (λ (z : (by : By) × Contains h (events.Oldest by (oldest_id first h))).
+        inr (z.0, subst (λ (o : ℕ). Contains (h ++ e ∷ []) (events.Oldest z.0 o)) (sym same) (Contains-append_left h (e ∷ []) (events.Oldest z.0 (oldest_id first h)) z.1)))
+        before
+
+    step : (h : List Event) (e : Event) → IsFound first h → IsFound first (h ++ e ∷ [])
+    step h (events.Oldest by new) before =
+        inr (by, subst (λ (o : ℕ). Contains (h ++ events.Oldest by new ∷ []) (events.Oldest by o)) (sym (oldest_push first h (events.Oldest by new))) (Contains-push h (events.Oldest by new)))
+    step h e before = older h e (oldest_push first h e) before

@@ -1,8 +1,10 @@
 //! `txid_tool run`: reads a script from standard input and writes its report to standard output. `txid_tool gen SEED
-//! SIZE`: runs a generated script and writes its counts. See `docs/SCRIPT-AND-REPORT.md`.
+//! SIZE`: runs a generated script and writes its counts. `--folder NAME` before these words puts the volumes into a
+//! folder. See `docs/SCRIPT-AND-REPORT.md`.
 #![tactic(auto)]
 
 use disk_core::MemMedia;
+use disk_folder::FolderMedia;
 use session_run::{run_tool, say_out_of_memory};
 use std::process::ExitCode;
 use std::thread::{Threads, available_parallelism};
@@ -26,9 +28,18 @@ fn words(rt: &HostRuntime) -> io::Result<Vec<String>> {
     Ok(words)
 }
 
+/// The folder that the first two words name, which are taken away. Other words stay.
+fn take_folder(words: &mut Vec<String>) -> Option<String> {
+    if words.len() < 2 || words[0].as_str() != "--folder" {
+        return None;
+    }
+    words.remove(0);
+    Some(words.remove(0))
+}
+
 fn main(rt: HostRuntime) -> ExitCode {
     let mut sink = StdSink::new(rt.stdout());
-    let words = match words(&rt) {
+    let mut words = match words(&rt) {
         Ok(words) => words,
         Err(error) if error.kind() == io::ErrorKind::OutOfMemory => {
             return ExitCode::from(say_out_of_memory(&mut sink));
@@ -37,15 +48,25 @@ fn main(rt: HostRuntime) -> ExitCode {
         Err(_) => Vec::new(rt.alloc()),
     };
     let mut source = StdSource::new(rt.stdin());
-    let mut media = MemMedia::new(rt.alloc());
-    let status = run_tool(
-        &rt,
-        rt.alloc(),
-        words.as_slice(),
-        &mut source,
-        &mut sink,
-        &mut media,
-        threads(&rt),
-    );
+    let status = match take_folder(&mut words) {
+        Some(path) => run_tool(
+            &rt,
+            rt.alloc(),
+            words.as_slice(),
+            &mut source,
+            &mut sink,
+            &mut FolderMedia::new(rt, rt.alloc(), path),
+            threads(&rt),
+        ),
+        None => run_tool(
+            &rt,
+            rt.alloc(),
+            words.as_slice(),
+            &mut source,
+            &mut sink,
+            &mut MemMedia::new(rt.alloc()),
+            threads(&rt),
+        ),
+    };
     ExitCode::from(status)
 }

@@ -1,4 +1,4 @@
-use Rattle.std.proofs.Common.{arith, inl, inr, refl}
+use Rattle.std.proofs.Common.{inl, inr, refl}
 use Rattle.engine_checkpoints.proofs.syncs.sync_bank.Goals as goal
 
 pub sync_vacant-requires-clause-vacant : goal.sync_vacant-requires-clause-vacant

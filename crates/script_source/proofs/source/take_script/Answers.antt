@@ -8,12 +8,12 @@ use Rattle.script_source.proofs.source.take_script.Goals as goal
 pub returns-in-Ok-clause-script : goal.returns-in-Ok-clause-script
 returns-in-Ok-clause-script g c =
     let ok = c.in-Ok.ensures.ok in
-    has_script _ _ c.in-Ok.bytes.items c.script_of.result ok.0 ok.1 (subst (λ bytes. IfOk c.script_of.result (λ s. (read_script bytes ≡ Ok s) × IsRunnable s)) c.as_slice.ensures.value c.script_of.ensures.script)
+    has_script _ _ c.in-Ok.bytes.items c.script_of-script.result ok.0 ok.1 (subst (λ bytes. IfOk c.script_of-script.result (λ s. (read_script bytes ≡ Ok s) × IsRunnable s)) c.as_slice.ensures.value c.script_of-script.ensures.script)
 
 pub returns-in-Ok-clause-refused : goal.returns-in-Ok-clause-refused
 returns-in-Ok-clause-refused g c =
     let ok = c.in-Ok.ensures.ok in
-    none_of _ _ _ _ c.in-Ok.bytes.items c.script_of.result ok.0 ok.1 (subst (λ bytes. IfErr c.script_of.result (Refuses bytes)) c.as_slice.ensures.value c.script_of.ensures.refused)
+    none_of _ _ _ _ c.in-Ok.bytes.items c.script_of-script.result ok.0 ok.1 (subst (λ bytes. IfErr c.script_of-script.result (Refuses bytes)) c.as_slice.ensures.value c.script_of-script.ensures.refused)
 
 pub returns-in-Err-TooLong-clause-refused : goal.returns-in-Err-TooLong-clause-refused
 returns-in-Err-TooLong-clause-refused g c =

@@ -4,7 +4,7 @@ use Rattle.std.proofs.Math.Seq.{take-append-add}
 use Rattle.std.proofs.lemmas.Result.{on_err_weaker}
 use Rattle.std.specs.Io.KnownBytes.{Appends}
 use Rattle.std.specs.Prelude.{OnErr}
-use Rattle.session_run.proofs.text.put_life.Goals as goal
+use Rattle.script_source.proofs.life_text.put_life.Goals as goal
 
 -- a front of a front is one
 front_within : (n : ℕ) (xs ys : List ℕ) → (k : ℕ) × (take k (xs ++ ys) ≡ take n xs)

@@ -1,0 +1,89 @@
+//! A folder as a whole: how it is made, and how one that was made before is taken.
+ghost use Rattle.std.specs.Prelude.{◌≡◌};
+
+use crate::file_calls::{put_number, read_number, sync_at};
+use std::alloc::{AllocError, Global};
+use std::fs::{self, File, Files, OpenFile, OpenOptions};
+use std::io;
+
+/// The path of a file in a folder.
+pub(crate) fn path_in(alloc: Global, folder: &str, name: &str) -> Result<String, AllocError> {
+    format!(in alloc; "{folder}/{name}")
+}
+
+/// Makes the folder, where it isn't there. An earlier making may have been cut short right behind that, so its own name
+/// is synced either way.
+fn make_folder<R: Files>(rt: &R, alloc: Global, folder: &str) -> io::Result<()> {
+    match fs::create_dir(rt, folder) {
+        Err(error) if error.kind() != io::ErrorKind::AlreadyExists => Err(error),
+        _ => sync_at(rt, path_in(alloc, folder, "..")?.as_str()),
+    }
+}
+
+// What a making leaves that is cut short.
+fn may_be_there(name: &str) -> bool {
+    matches!(name, "log" | "start" | "start.new" | "banks.new")
+}
+
+/// Fails where a folder holds something else, which isn't ours.
+fn check_names<R: Files + Clone + Drop>(rt: &R, alloc: Global, folder: &str) -> io::Result<()> {
+    for entry in fs::read_dir(&(rt.clone()?, alloc), folder)? {
+        if !may_be_there(entry?.file_name()) {
+            return Err(io::ErrorKind::AlreadyExists.into());
+        }
+    }
+    Ok(())
+}
+
+/// Makes an empty log. One that holds something isn't taken.
+fn make_log<R: Files>(rt: &R, path: &str) -> io::Result<()> {
+    let log = OpenOptions::new().write(true).create(true).open(rt, path)?;
+    if log.metadata()?.len() != 0 {
+        return Err(io::ErrorKind::AlreadyExists.into());
+    }
+    log.sync_all()
+}
+
+/// Makes a folder of empty volumes. The number of banks comes last, so that a making that was cut short begins anew.
+fn make<R: Files + Clone + Drop>(
+    rt: &R,
+    alloc: Global,
+    folder: &str,
+    banks: u32,
+) -> io::Result<()> {
+    make_folder(rt, alloc, folder)?;
+    check_names(rt, alloc, folder)?;
+    make_log(rt, path_in(alloc, folder, "log")?.as_str())?;
+    put_number(rt, alloc, path_in(alloc, folder, "start")?.as_str(), 0)?;
+    put_number(
+        rt,
+        alloc,
+        path_in(alloc, folder, "banks")?.as_str(),
+        u64::from(banks),
+    )?;
+    sync_at(rt, folder)
+}
+
+/// Syncs every file of a folder, and its names. An earlier program may have ended with something unsynced, which is read
+/// now and not written again.
+fn settle<R: Files + Clone + Drop>(rt: &R, alloc: Global, folder: &str) -> io::Result<()> {
+    for entry in fs::read_dir(&(rt.clone()?, alloc), folder)? {
+        File::open(rt, entry?.path())?.sync_all()?;
+    }
+    sync_at(rt, folder)
+}
+
+/// Makes a folder of so many banks, or takes the one that is there, which has to have as many.
+pub(crate) fn prepare<R: Files + Clone + Drop>(
+    rt: &R,
+    alloc: Global,
+    folder: &str,
+    banks: u32,
+) -> io::Result<()> {
+    match read_number(rt, path_in(alloc, folder, "banks")?.as_str()) {
+        Ok(found) if found == u64::from(banks) => settle(rt, alloc, folder),
+        Ok(_) => Err(io::ErrorKind::InvalidData.into()),
+        Err(error) if error.kind() == io::ErrorKind::NotFound => make(rt, alloc, folder, banks),
+        Err(error) => Err(error),
+    }
+}

@@ -1,0 +1,17 @@
+use Rattle.std.proofs.Common.{◌∙◌, arith, refl, sym}
+use Rattle.engine_host.proofs.Homing.{stays_parked}
+use Rattle.engine_checkpoints.proofs.Parked.{none_waiting, went_pending}
+use Rattle.engine_checkpoints.proofs.checkpoints.checkpoint.Goals as goal
+
+pub returns-in-Some-clause-went : goal.returns-in-Some-clause-went
+returns-in-Some-clause-went g c = went_pending c.args.hall.now c.args.host.now c.args.sessions.now c.in-Some.session c.requires.parked c.in-Some.ensures
+
+pub make_checkpoint-requires-clause-none : goal.make_checkpoint-requires-clause-none
+make_checkpoint-requires-clause-none g c = none_waiting c.args.hall.now c.args.host.now c.args.sessions.now c.requires.parked (c.requires.count ∙ sym c.requires.home.is_host.sessions) c.in-None.ensures
+
+pub returns-in-None-clause-parked : goal.returns-in-None-clause-parked
+returns-in-None-clause-parked g c n s q =
+    let h = c.requires.home.is_host in
+    let m = c.make_checkpoint.ensures in
+    let long = m.alone.own.wide ∙ sym h.own.wide in
+    stays_parked c.args.hall.now c.args.host.now _ c.requires.home m.alone.own m.alone.free (m.alone.name ∙ (h.sessions ∙ sym h.name)) m.holds refl refl m.kept long n s (m.went.idle n (omega (arith, q.below, h.sessions))) q

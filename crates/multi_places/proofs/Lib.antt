@@ -1,0 +1,4 @@
+pub mod StartFound
+pub mod Beginning
+pub mod MultiRising
+pub mod Along

@@ -1,0 +1,2 @@
+pub mod MultiPlacesRead
+pub mod MultiAnswers

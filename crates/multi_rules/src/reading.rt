@@ -1,0 +1,31 @@
+//! The places at which a command may read the multixacts.
+ghost use Rattle.std.specs.Prelude.{◌≡◌, ◌≤◌, List, map};
+ghost use Rattle.tx_events.specs.declared.multi.MultiEvent.{MultiEvent};
+ghost use Rattle.tx_events.specs.Multis.{multi_by};
+ghost use Rattle.own_places.specs.Owned.{AreInTurn, own_of};
+ghost use Rattle.multi_rules.specs.MultiReadings.{IsMultiReading, span_of};
+
+use own_places::{Own, read_from};
+use tx_events::By;
+
+/// The places from `from` to `to`, where a command may read.
+#[derive(Clone, Copy, Debug, PartialEq, Eq)]
+pub struct MultiReading {
+    pub from: u64,
+    pub to: u64,
+}
+
+/// Where a command may read whose round stands from `start` to `to` among the multixact events. These are its session's.
+pub fn multi_reading_of(own: &[Own], by: By, start: u64, to: u64) -> MultiReading
+    ghost h: { List MultiEvent }
+    requires listed { own.now ≡ own_of by.session (map multi_by h) }
+    requires turn { AreInTurn (map multi_by h) }
+    requires round { start ≤ to }
+    ensures { IsMultiReading h (span_of start to) by result }
+{
+    let from = read_from(own, by, to);
+    MultiReading {
+        from: from.max(start),
+        to,
+    }
+}

@@ -1,0 +1,8 @@
+//! A report's text judged: whether it is that of a lawful report, and else which line is the first unlawful one. It
+//! joins what `report_read` says of a text's form with what `report_law` says of its rules. See
+//! docs/SCRIPT-AND-REPORT.md.
+#![tactic(auto)]
+
+mod law;
+
+pub use law::judged_once;

@@ -1,0 +1,46 @@
+//! The text of a life, from its front to its end, and how it is written.
+ghost use Rattle.std.specs.Prelude.{◌≡◌, ◌++◌, ℕ, IfOk, OnErr, OnOk, take};
+ghost use Rattle.std.specs.Io.KnownBytes.{Appends};
+ghost use Rattle.tx_events.specs.Ids.{IsFullMulti};
+ghost use Rattle.tx_io.specs.Causes.{HasCause};
+ghost use Rattle.run_law.specs.Lives.{IsFrontOf};
+
+use crate::stream::write_all;
+use report_text::{Text, begin_report, put_life_line};
+use std::alloc::Global;
+use tx_io::{Failed, Sink};
+use tx_model::{Counters, Memory};
+
+/// The text of a life: what stands before its steps, and the rest.
+#[derive(Drop)]
+pub struct LifeText {
+    pub front: Text,
+    pub rest: Text,
+}
+
+/// What stands before the steps of the life of this number, the first one of which begins the report.
+pub fn front_of(alloc: Global, number: u64, from: u64, base: &Counters) -> Result<Text, Memory>
+    ensures front { IfOk result (λ text. IsFrontOf number from base.now text) }
+    ensures multis { IsFullMulti base.now.multi × IsFullMulti base.now.oldest_multi }
+{
+    let _next = base.multi.number();
+    let _oldest = base.oldest_multi.number();
+    let mut text = Text::new(alloc);
+    if number == 1 {
+        begin_report(&mut text, base)?;
+    } else {
+        put_life_line(&mut text, number, from, base)?;
+    }
+    Ok(text)
+}
+
+/// Writes the text of a life, or a front of it.
+pub fn put_life<K: Sink>(sink: &mut K, text: &LifeText) -> Result<(), Failed>
+    ensures ok { OnOk result (Appends (K.held sink.old) (K.held sink.new) (text.now.front ++ text.now.rest)) }
+    ensures front { OnErr result ((n : ℕ)
+        × Appends (K.held sink.old) (K.held sink.new) (take n (text.now.front ++ text.now.rest))) }
+    ensures cause { HasCause (K.faults sink.old) (K.faults sink.new) result }
+{
+    write_all(sink, text.front.bytes())?;
+    write_all(sink, text.rest.bytes())
+}

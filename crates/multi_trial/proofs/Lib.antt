@@ -1,0 +1,4 @@
+pub mod Shelving
+pub mod StoredOrder
+pub mod OffsetShelf
+pub mod MemberShelf

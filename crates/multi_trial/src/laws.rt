@@ -1,0 +1,21 @@
+ghost use Rattle.multi_trial.specs.Laws.{MembersKeep, MembersSet, OffsetSet, OffsetsKeep};
+
+/// One entry more of a bank of offsets keeps what the bank stands for.
+pub fn offsets_keep()
+    ensures { OffsetsKeep }
+{}
+
+/// An offset that was set stands on its page.
+pub fn offset_set()
+    ensures { OffsetSet }
+{}
+
+/// One entry more of a bank of members.
+pub fn members_keep()
+    ensures { MembersKeep }
+{}
+
+/// Members that were set stand on their page.
+pub fn members_set()
+    ensures { MembersSet }
+{}

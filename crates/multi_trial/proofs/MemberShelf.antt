@@ -21,9 +21,10 @@ use Rattle.tx_core.specs.MultiEntries.{SetSlot, slot_of}
 use Rattle.recoverable.specs.Bytes.{StoredBytes, byte_of, slot_bytes}
 use Rattle.recoverable.specs.MemberImages.{CleanMembers}
 use Rattle.recoverable.specs.Stored.{slot_bytes_for}
+use Rattle.multi_members.specs.Runs.{SetsMembers}
 use Rattle.multi_trial.specs.Shelf.{IsNearBy, IsRoomFor, IsShelf}
 use Rattle.multi_trial.specs.Shelves.{member_shelf, slot_held, word_held}
-use Rattle.multi_trial.specs.Laws.{MembersKeep, MembersSet, SetsMembers, SetsShown, slots_set}
+use Rattle.multi_trial.specs.Laws.{MembersKeep, MembersSet, SetsShown, slots_set}
 use Rattle.multi_trial.proofs.Shelving.{keep_store}
 use Rattle.multi_trial.proofs.StoredOrder.{ordered, same_order}
 use Rattle.multi_trial.proofs.OffsetShelf.{same_or_not, word_made}
@@ -184,8 +185,8 @@ members_set start by caller offset members old new window from to page lap sets 
       let read : (slice_index (new (member_page_of x)) (mode_place_of x), number_in (new (member_page_of x)) (member_place_of x)) ≡ (mode_number s.member.mode, low_half s.member.id) =
       subst (λ z. (slice_index (new (member_page_of z)) (mode_place_of z), number_in (new (member_page_of z)) (member_place_of z)) ≡ (mode_number s.member.mode, low_half s.member.id)) (sym s.at)
       (λ j. (
-      (subst (λ (z : ℕ × ℕ). slice_index (new z.0) (mode_at z.1) ≡ mode_number s.member.mode) (λ i. (sym r.0 i, sym r.1 i)) (sets.mode s.k s.member s.among)) j,
-      (subst (λ (z : ℕ × ℕ). number_in (new z.0) (id_at z.1) ≡ low_half s.member.id) (λ i. (sym r.0 i, sym r.1 i)) (sets.id s.k s.member s.among)) j)) in
+      (subst (λ (z : ℕ × ℕ). slice_index (new z.0) (mode_at z.1) ≡ mode_number s.member.mode) (λ i. (sym r.0 i, sym r.1 i)) (sets.mode s.k s.member (within members s.k s.member s.among) s.among)) j,
+      (subst (λ (z : ℕ × ℕ). number_in (new z.0) (id_at z.1) ≡ low_half s.member.id) (λ i. (sym r.0 i, sym r.1 i)) (sets.id s.k s.member (within members s.k s.member s.among) s.among)) j)) in
       read ∙ ((λ j. (mode_number s.member.mode, word_made s.member.id j)) ∙ sym (ap slot_held value)))
       (λ (n : IsNoSlot caller offset members x). absurd (let e : last_or None [] ≡ Some v = ap (λ l. last_or None l) (sym n.unsaid) ∙ some in cc))
       (slot_or_not caller offset members x);

@@ -54,6 +54,11 @@ module _ {I V : Type 0} (s : Store I V) where
   last_from_first first a = by_end (λ es. s.page_of first ≤ (pages_after s first a es).last) (omega arith) (λ es e before.
       subst (λ (p : Pages V). s.page_of first ≤ p.last) (sym (pages_push first a es e)) (from_step (zeroed_in e.kind) (s.items_of e) (s.page_of first) (pages_after s first a es) before))
 
+-- a page that is made, or was made before
+abbrev with_page : {I V R : Type 0} → Shelf I V R → List Entry → ℕ → (ℕ → Option V) → Bool → Pages V
+with_page h es page before b =
+    cond b (record { last = page; shows = λ id. cond (h.store.page_of id == page) None (shows_on h before es id) }) (pages_after h.store h.first before es)
+
 -- of these items the last one says what is shown, or none says anything
 last_cases : {V : Type 0} (o : Option V) (vs : List V) → (vs ≡ []) ⊎ ((v : V) × (last_or None vs ≡ Some v) × (last_or o vs ≡ Some v))
 last_cases o [] = inl refl
@@ -166,15 +171,12 @@ module _ {I V R : Type 0} (h : Shelf I V R) (Clean : (ℕ → Option V) → Type
       shown = λ told near. shows (nat_lt (last_on h es) page) refl told near;
     }
       where
-        abbrev with_page : (ℕ → Option V) → Bool → Pages V
-        with_page before b = cond b (record { last = page; shows = λ id. cond (h.store.page_of id == page) None (shows_on h before es id) }) (pages_after h.store h.first before es)
-
-        after_made : (before : ℕ → Option V) (b : Bool) → nat_lt (last_on h es) page ≡ b → pages_after h.store h.first before (es ++ e ∷ []) ≡ with_page before b
+        after_made : (before : ℕ → Option V) (b : Bool) → nat_lt (last_on h es) page ≡ b → pages_after h.store h.first before (es ++ e ∷ []) ≡ with_page h es page before b
         after_made before b q =
             pages_push h.store h.first before es e
             ∙ (ap (λ (o : Option ℕ). zeroed h.store o (set_by h.store (h.store.items_of e) (pages_after h.store h.first before es))) (ap zeroed_in is)
             ∙ (ap (λ (xs : List I). zeroed h.store (Some page) (set_by h.store xs (pages_after h.store h.first before es))) none
-            ∙ ap (λ c. with_page before c) (ap (λ z. nat_lt z page) (last_same h.store h.first before (λ x. None) es) ∙ q)))
+            ∙ ap (λ c. with_page h es page before c) (ap (λ z. nat_lt z page) (last_same h.store h.first before (λ x. None) es) ∙ q)))
 
         last_true : nat_lt (last_on h es) page ≡ true → last_on h (es ++ e ∷ []) ≡ page
         last_true q = ap (λ (p : Pages V). p.last) (after_made (λ x. None) true q)

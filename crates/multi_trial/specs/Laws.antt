@@ -1,15 +1,13 @@
 -- One entry more of a bank's list: what the bank stands for.
-use Rattle.std.specs.Prelude.{◌≡◌, ℕ, ◌+◌, ◌%◌, ◌^◌, ◌<◌, ◌≤◌, ◌≢◌, length, slice_get, slice_index, Bool, true, IsTrue, List, [], ◌∷◌, ◌++◌, Option, None, Some, MatchBool, cond}
+use Rattle.std.specs.Prelude.{◌≡◌, ℕ, ◌+◌, ◌%◌, ◌^◌, ◌<◌, ◌≤◌, length, Bool, true, IsTrue, List, [], ◌∷◌, ◌++◌, Option, None, Some, MatchBool, cond}
 use Rattle.std.specs.List.{filter_map, last_or}
 use Rattle.disk_core.specs.Pages.{zero_page}
-use Rattle.slru_bank.specs.Bank.{OthersStay, PutsPage, StaysAPage}
+use Rattle.slru_bank.specs.Bank.{PutsPage}
 use Rattle.slru_bank.specs.ByteRange.{SetsEntry}
 use Rattle.slru_bank.specs.Crash.{SameMap}
-use Rattle.store_pages.specs.Layouts.{member_page_of, number_in, word_page_of}
-use Rattle.store_pages.specs.Pages.{id_at, mode_at}
-use Rattle.tx_events.specs.Modes.{mode_number}
+use Rattle.store_pages.specs.Layouts.{member_page_of, word_page_of}
 use Rattle.tx_events.specs.declared.multi.Member.{Member}
-use Rattle.multi_members.specs.Changes.{SameSlot}
+use Rattle.multi_members.specs.Runs.{SetsMembers}
 use Rattle.tx_events.specs.Ids.{low_half}
 use Rattle.tx_events.specs.declared.event.By.{By}
 use Rattle.tx_core.specs.declared.entry.Change.{Change}
@@ -87,18 +85,6 @@ abbrev pub MembersKeep : Type 0
 MembersKeep = (start : Start) (bank : ℕ) → start.base.offset ≤ start.base.oldest_offset + 2 ^ 30
     → KeepStore (member_shelf start) (CleanMembers start) start (members_lock bank) bank
 
--- From the place-th slot of one page on the slots have these members, and all other slots and the bytes past the last one
--- are as they were.
-pub record SetsMembers (page place : ℕ) (members : List Member) (old new : ℕ → List ℕ) : Type 0 where
-  pub mode : (k : ℕ) (member : Member) → slice_get members k ≡ Some member
-      → slice_index (new page) (mode_at (place + k)) ≡ mode_number member.mode
-  pub id : (k : ℕ) (member : Member) → slice_get members k ≡ Some member
-      → number_in (new page) (id_at (place + k)) ≡ low_half member.id
-  pub same_page : (k : ℕ) → k < 1636 → ((j : ℕ) → j < length members → k ≢ place + j) → SameSlot k (old page) (new page)
-  pub tail : (i : ℕ) → 8180 ≤ i → slice_index (new page) i ≡ slice_index (old page) i
-  pub pages : StaysAPage page old new
-  pub others : OthersStay page old new
-
 -- these members are set, the first of them at this offset
 abbrev pub slots_set : By → ℕ → List Member → List Change
 slots_set by offset [] = []
@@ -110,5 +96,5 @@ MembersSet = (start : Start) (by caller : By) (offset : ℕ) (members : List Mem
     → start.base.offset ≤ start.base.oldest_offset + 2 ^ 30
     → start.base.oldest_offset ≤ offset → offset + length members ≤ start.base.offset + 2 ^ 30
     → low_half offset % 1636 + length members ≤ 1636 → low_half offset + length members ≤ 2 ^ 32
-    → SetsMembers (member_page_of offset) (low_half offset % 1636) members old new
+    → SetsMembers (member_page_of offset) (low_half offset % 1636) members (length members) old new
     → SetsShown (member_shelf start) (record { by = by; kind = kinds.Set (slots_set caller offset members) }) old new

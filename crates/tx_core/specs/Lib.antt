@@ -25,8 +25,6 @@ pub mod CleanStart
 pub mod EngineInvariant
 pub mod Verdict
 pub mod Pages
-pub mod StoredBytes
-pub mod CleanMultis
 pub mod Nearness
 pub mod Held
 pub mod Laws

@@ -2,3 +2,4 @@ pub mod Shelving
 pub mod StoredOrder
 pub mod OffsetShelf
 pub mod MemberShelf
+pub mod OwnMultis

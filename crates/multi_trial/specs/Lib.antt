@@ -1,3 +1,4 @@
 pub mod Shelf
 pub mod Shelves
 pub mod Laws
+pub mod Makings

@@ -4,6 +4,7 @@ pub mod Leaving
 pub mod Adding
 pub mod May
 pub mod Tabling
+pub mod Multing
 pub mod Logging
 pub mod Cutoffs
 pub mod Banking

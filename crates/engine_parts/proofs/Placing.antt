@@ -14,6 +14,7 @@ module _ {L P : Type 0} {l : logs.Ghosts L} {p : disks.Ghosts P} where
   pub is_xact : (start : Start) (bank : ℕ) (part : Part L P l p) (es : List Entry) → PartStands start (xact_lock bank) part es → ((x : _) → part ≡ parts.Xact x → ⊥) → ⊥
   is_xact start bank (parts.Log log) es s other = let e : 3 + 4 * bank ≡ 0 = s.0 in omega arith
   is_xact start bank (parts.Proc table) es s other = let e : 3 + 4 * bank ≡ 1 = s.0 in omega arith
+  is_xact start bank (parts.Multi gen) es s other = let e : 3 + 4 * bank ≡ 2 = s.0 in omega arith
   is_xact start bank (parts.Xact store) es s other = other store refl
   is_xact start bank (parts.Subtrans store) es s other = let e : 3 + 4 * bank ≡ 4 + 4 * s.0 = s.1 in omega arith
   is_xact start bank parts.Vacant es s other = s.xact bank refl
@@ -22,6 +23,7 @@ module _ {L P : Type 0} {l : logs.Ghosts L} {p : disks.Ghosts P} where
   pub is_subtrans : (start : Start) (bank : ℕ) (part : Part L P l p) (es : List Entry) → PartStands start (subtrans_lock bank) part es → ((x : _) → part ≡ parts.Subtrans x → ⊥) → ⊥
   is_subtrans start bank (parts.Log log) es s other = let e : 4 + 4 * bank ≡ 0 = s.0 in omega arith
   is_subtrans start bank (parts.Proc table) es s other = let e : 4 + 4 * bank ≡ 1 = s.0 in omega arith
+  is_subtrans start bank (parts.Multi gen) es s other = let e : 4 + 4 * bank ≡ 2 = s.0 in omega arith
   is_subtrans start bank (parts.Xact store) es s other = let e : 4 + 4 * bank ≡ 3 + 4 * s.0 = s.1 in omega arith
   is_subtrans start bank (parts.Subtrans store) es s other = other store refl
   is_subtrans start bank parts.Vacant es s other = s.subtrans bank refl

@@ -11,11 +11,11 @@ use Rattle.wal_core.specs.LogViews.{log_checkpoint, log_counters, log_disk, log_
 use Rattle.tx_core.specs.declared.entry.Entry.{Entry}
 use Rattle.tx_core.specs.declared.entry.Kind.TheVariants as kinds
 use Rattle.tx_core.specs.declared.entry.Start.{Start}
-use Rattle.tx_core.specs.Locks.{log_lock, proc_lock, subtrans_lock, xact_lock}
+use Rattle.tx_core.specs.Locks.{log_lock, multi_lock, proc_lock, subtrans_lock, xact_lock}
 use Rattle.engine_parts.specs.declared.part.Part.{Part}
 use Rattle.engine_parts.specs.declared.part.Part.TheVariants as parts
 use Rattle.engine_parts.specs.Course.{HasCourse}
-use Rattle.engine_parts.specs.Stand.{LogStands, ProcStands, SubtransStands, XactStands}
+use Rattle.engine_parts.specs.Stand.{LogStands, MultiStands, ProcStands, SubtransStands, XactStands}
 
 module _ {D : Type 0} {g : logs.Ghosts D} where
   -- the log stands for the list of its lock
@@ -40,6 +40,7 @@ module _ {P O : Type 0} {g : disks.Ghosts P} {r : rules.Ghosts O} where
 pub record IsVacant (lock : ℕ) (es : List Entry) : Type 0 where
   pub log : lock ≢ log_lock
   pub proc : lock ≢ proc_lock
+  pub multi : lock ≢ multi_lock
   pub xact : (bank : ℕ) → lock ≢ xact_lock bank
   pub subtrans : (bank : ℕ) → lock ≢ subtrans_lock bank
   pub unused : AllByRecursion (λ e. e.kind ≡ kinds.Sync) es
@@ -49,6 +50,7 @@ module _ {L P : Type 0} {l : logs.Ghosts L} {p : disks.Ghosts P} where
   abbrev pub PartStands : Start → ℕ → Part L P l p → List Entry → Type 0
   PartStands start lock (parts.Log log) es = (lock ≡ log_lock) × IsLogOf start log.value es
   PartStands start lock (parts.Proc table) es = (lock ≡ proc_lock) × ProcStands start table.value es
+  PartStands start lock (parts.Multi gen) es = (lock ≡ multi_lock) × MultiStands start gen.value es
   PartStands start lock (parts.Xact store) es = (bank : ℕ) × (lock ≡ xact_lock bank) × IsXactOf start bank store.value es
   PartStands start lock (parts.Subtrans store) es =
       (bank : ℕ) × (lock ≡ subtrans_lock bank) × IsSubtransOf start bank store.value es

@@ -8,6 +8,7 @@ use Rattle.tx_events.specs.declared.record.Counters.{Counters}
 use Rattle.tx_events.specs.declared.record.Rec.{Rec}
 use Rattle.tx_events.specs.declared.record.Rec.TheVariants as records
 use Rattle.log_bases.specs.LifeBase.{LifeBase, base_after}
+use Rattle.multi_store.specs.Generator.{Generator}
 use Rattle.proc_table.specs.Table.{Table}
 use Rattle.wal_core.specs.Kept.{KeepsRecords}
 use Rattle.wal_core.specs.declared.checkpoint.LastCheckpoint.{LastCheckpoint}
@@ -25,6 +26,7 @@ use Rattle.tx_core.specs.declared.entry.State.TheVariants as states
 use Rattle.tx_core.specs.CleanStart.{CleanStart}
 use Rattle.tx_core.specs.Entries.{cut_in, events_in, recs_in, flushed_to}
 use Rattle.tx_core.specs.Locks.{subtrans_page, xact_page, log_lock, subtrans_lock, xact_lock}
+use Rattle.tx_core.specs.MultiEntries.{multis_in}
 use Rattle.tx_core.specs.Pages.{Pages, pages_after, subtrans_store, xact_store}
 use Rattle.tx_core.specs.FaultsRise.{faults_told}
 use Rattle.tx_core.specs.StaysDown.{IsUp, puts_down}
@@ -116,6 +118,13 @@ pub record ProcStands (start : Start) (table : Table) (es : List Entry) : Type 0
   pub sessions : table.sessions ≡ start.sessions
   pub events : table.events ≡ events_in es
   pub frontier : table.initialised_up_to ≡ frontier_of start es
+
+-- ---- multixacts
+
+-- the generator's events are the list's
+pub record MultiStands (start : Start) (gen : Generator) (es : List Entry) : Type 0 where
+  pub base : gen.base ≡ start.base
+  pub events : gen.events ≡ multis_in es
 
 -- ---- banks
 

@@ -8,6 +8,7 @@ mod law;
 /// What holds of the promises of all calls. The functions do nothing; their contracts are the laws.
 pub mod laws;
 mod log_hold;
+mod multi_hold;
 mod part;
 mod proc_hold;
 mod quiet;
@@ -19,6 +20,7 @@ pub use fault_notes::{fault_note, flush_fault_note};
 pub use hold::{enter, leave};
 pub use law::EngineLaw;
 pub use log_hold::{enter_log, leave_log};
+pub use multi_hold::{enter_multi, leave_multi};
 pub use part::Part;
 pub use proc_hold::{enter_proc, leave_proc};
 pub use quiet::{leave_looked, leave_quiet};

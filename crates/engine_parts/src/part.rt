@@ -1,5 +1,6 @@
 //! The parts of an engine.
 use disk_core::{LogDisk, PageDisk};
+use multi_store::MultiGen;
 use proc_table::ProcTable;
 use slru_bank::SlruBank;
 use store_pages::{SubtransPages, XactPages};
@@ -12,11 +13,12 @@ pub enum Part<L: LogDisk, P: PageDisk> {
     Log(Box<WalLog<L>>),
     /// The ProcArray with the next id (ProcArrayLock of `procarray.c`, XidGenLock of `varsup.c`).
     Proc(Box<ProcTable>),
+    /// The generator of multixacts with their pins (MultiXactGenLock of `multixact.c`).
+    Multi(Box<MultiGen>),
     /// A bank of pg_xact (XactSLRULock of `clog.c`).
     Xact(Box<SlruBank<P, XactPages>>),
     /// A bank of pg_subtrans (SubtransSLRULock of `subtrans.c`).
     Subtrans(Box<SlruBank<P, SubtransPages>>),
-    /// Nothing yet: behind the locks of the multixacts and of their two stores (MultiXactGenLock and the two locks of
-    /// the SLRUs of `multixact.c`).
+    /// Nothing yet: behind the locks of the two stores of multixacts (the two locks of the SLRUs of `multixact.c`).
     Vacant,
 }

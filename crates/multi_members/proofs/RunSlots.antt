@@ -101,6 +101,7 @@ module _ {P O X Y : Type 0} {g : DiskGhosts P} {r : RuleGhosts O} (page : ℕ) w
     not_asked = c.not_asked;
   }
 
+module _ {P O Y : Type 0} {g : DiskGhosts P} {r : RuleGhosts O} (page : ℕ) where
   pub reads_more : (i : ℕ) (b0 b1 b2 : SlruBank P O g r) (result : Result Y BankRefusal) → (i ≡ 0 → b1 ≡ b0) → (1 ≤ i → CallsBank page b0 b1 (Ok (tt {0}))) → CallsBank page b1 b2 result → CallsBank page b0 b2 result
   reads_more zero b0 b1 b2 result untouched calls call = subst (λ (b : SlruBank P O g r). CallsBank page b b2 result) (untouched refl) call
   reads_more (suc i) b0 b1 b2 result untouched calls call = calls_again page b0 b1 b2 (tt {0}) (Ok (tt {0})) result refl (calls (omega arith)) call

@@ -7,3 +7,5 @@ pub mod Refused
 pub mod Opened
 pub mod Banks
 pub mod Replay
+pub mod RedoMultis
+pub mod LawsMultis

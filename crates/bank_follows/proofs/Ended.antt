@@ -1,5 +1,5 @@
 -- The volumes of a cluster in which a life ran.
-use Rattle.std.proofs.Common.{List, None, Option, Some, [], ap, arith, length, refl, subst, suc, sym, zero, ℕ, ◌<◌, ◌∙◌, ◌∷◌, ◌≡◌, ◌^◌}
+use Rattle.std.proofs.Common.{List, None, Some, [], ap, arith, length, refl, subst, suc, sym, zero, ℕ, ◌<◌, ◌∙◌, ◌∷◌, ◌≡◌}
 use Rattle.std.specs.List.{slice_get, slice_index}
 use Rattle.disk_core.specs.declared.log_disk.LogDisk as logs
 use Rattle.disk_core.specs.declared.page_disk.PageDisk as disks

@@ -1,5 +1,5 @@
 -- Pages that aren't there, of banks to which nothing was done but that they were synced: they show nothing.
-use Rattle.std.proofs.Common.{List, None, Option, [], ap, append-nil, append_assoc, inl, refl, subst, sym, tt, ℕ, ⊎_elim, ◌+◌, ◌++◌, ◌∷◌, ◌≡◌, ◌⊎◌}
+use Rattle.std.proofs.Common.{List, None, Option, [], ap, append-nil, append_assoc, refl, subst, sym, ℕ, ⊎_elim, ◌+◌, ◌++◌, ◌∷◌, ◌≡◌, ◌⊎◌}
 use Rattle.disk_core.specs.Pages.{Pages, page_bytes, zero_page}
 use Rattle.slru_bank.specs.Crash.{mixture_kept}
 use Rattle.tx_events.specs.declared.event.By.{By}
@@ -11,7 +11,6 @@ use Rattle.recoverable.specs.Bytes.{StoredBytes}
 use Rattle.bank_follows.specs.Begins.{ShowsFirst}
 use Rattle.bank_follows.specs.Cells.{Cells, ImageShows, IsQuietOn, stored}
 use Rattle.bank_follows.specs.Ends.{IsOnlySynced}
-use Rattle.bank_follows.specs.Making.{IsGivenPage}
 use Rattle.bank_follows.specs.Near.{AreMadeNear}
 use Rattle.bank_follows.specs.Standing.{BankStands, KeepStanding}
 use Rattle.bank_follows.specs.Stores.{IsMemberAt, IsOffsetAt, member_cells, offset_cells}
@@ -58,7 +57,7 @@ module _ {I V : Type 0} (s : Cells I V) (Asked : ℕ → Type 0) (keeping : Keep
   through done (e ∷ rest) near all stands =
       let more = near_more done e.by near in
       let step = (keeping.keeps done (sync_of e.by) zeros zeros cutoff last tt tt (λ c left. left) (λ n. stands) more).syncs (quiet e.by) (λ q. refl)
-          (mixture_kept absent moment left_at tt zeros zeros (λ c left. left)) (λ c left q. ap page_bytes (left q)) in
+      (mixture_kept absent moment left_at tt zeros zeros (λ c left. left)) (λ c left q. ap page_bytes (left q)) in
       let whole : Stood ((done ++ sync_of e.by ∷ []) ++ rest) = through (done ++ sync_of e.by ∷ []) rest more all.1 step.behind in
       let same : sync_of e.by ≡ e = λ i. record { by = e.by; kind = sym all.0 i } in
       subst (λ (x : Entry). Stood (done ++ x ∷ rest)) same (subst Stood (append_assoc done (sync_of e.by ∷ []) rest) whole)

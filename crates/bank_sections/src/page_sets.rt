@@ -19,10 +19,11 @@ ghost use Rattle.bank_sections.specs.Sets.{AsksOnly, MaySet};
 
 use crate::refused::leave_refused;
 use disk_core::{LogDisk, PageDisk};
-use engine_parts::{Caller, EngineLaw, Part, command_of, enter_xact, fault_note, leave_quiet};
+use engine_parts::{
+    Caller, EngineLaw, Part, Passing, command_of, enter_xact, fault_note, leave_quiet,
+};
 use hall::{Hall, Note};
 use slru_bank::{BankRefusal, set_states};
-use std::sync::Wait;
 use tx_core::{Entry, State};
 use tx_events::{By, FullXid};
 
@@ -46,7 +47,7 @@ fn set_note(by: By, ids: &[FullXid], state: State) -> Note<Entry>
 /// Sets the state of the session's open ids from the `first` one to before the `past` one, which share a page of the
 /// bank (`TransactionIdSetPageStatus` of `clog.c`). After an error none is set. The page isn't cut, in a life of few
 /// ids.
-pub fn set_page<R: Wait, L: LogDisk, P: PageDisk>(
+pub fn set_page<R: Passing, L: LogDisk, P: PageDisk>(
     rt: &R,
     hall: &Hall<EngineLaw<L, P>>,
     caller: &mut Caller<L, P>,

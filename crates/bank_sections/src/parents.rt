@@ -20,11 +20,11 @@ use crate::entries::zeroed_note;
 use crate::refused::leave_refused;
 use disk_core::{LogDisk, PageDisk};
 use engine_parts::{
-    Caller, EngineLaw, Part, command_of, enter_subtrans, fault_note, leave_looked, leave_quiet,
+    Caller, EngineLaw, Part, Passing, command_of, enter_subtrans, fault_note, leave_looked,
+    leave_quiet,
 };
 use hall::{Hall, Note};
 use slru_bank::BankRefusal;
-use std::sync::Wait;
 use store_pages::{subtrans_page, subtrans_page_in_full};
 use subtrans_log::{parent as stored_parent, set_parent};
 use tx_core::Entry;
@@ -33,7 +33,7 @@ use tx_events::{By, FullXid, Xid, near};
 /// Makes the page of the parent of `id`, which was given or comes next, where the bank's last made page is before it
 /// (`ExtendSUBTRANS` of `subtrans.c`). The page of an id that isn't before the oldest xmin isn't cut, in a life of few
 /// ids.
-pub fn make_parents<R: Wait, L: LogDisk, P: PageDisk>(
+pub fn make_parents<R: Passing, L: LogDisk, P: PageDisk>(
     rt: &R,
     hall: &Hall<EngineLaw<L, P>>,
     caller: &mut Caller<L, P>,
@@ -88,7 +88,7 @@ fn linked_note(by: By, id: FullXid, parent: FullXid) -> Note<Entry>
 
 /// Records the parent of `id`, which the session was given below it (`SubTransSetParent` of `subtrans.c`). The page of
 /// an open id isn't cut, in a life of few ids.
-pub fn link_parent<R: Wait, L: LogDisk, P: PageDisk>(
+pub fn link_parent<R: Passing, L: LogDisk, P: PageDisk>(
     rt: &R,
     hall: &Hall<EngineLaw<L, P>>,
     caller: &mut Caller<L, P>,
@@ -152,7 +152,7 @@ fn parent_near(x: FullXid, found: Option<Xid>) -> Option<FullXid>
 
 /// The parent of an id below 2^63 and not special, as its bank has it (`SubTransGetParent` of `subtrans.c`); None where
 /// none was set.
-pub fn read_parent<R: Wait, L: LogDisk, P: PageDisk>(
+pub fn read_parent<R: Passing, L: LogDisk, P: PageDisk>(
     rt: &R,
     hall: &Hall<EngineLaw<L, P>>,
     caller: &mut Caller<L, P>,

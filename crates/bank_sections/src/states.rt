@@ -20,11 +20,10 @@ use crate::entries::zeroed_note;
 use crate::refused::leave_refused;
 use disk_core::{LogDisk, PageDisk};
 use engine_parts::{
-    Caller, EngineLaw, Part, command_of, enter_xact, fault_note, leave_looked, leave_quiet,
+    Caller, EngineLaw, Part, Passing, command_of, enter_xact, fault_note, leave_looked, leave_quiet,
 };
 use hall::Hall;
 use slru_bank::{BankRefusal, state};
-use std::sync::Wait;
 use store_pages::{xact_page, xact_page_in_full};
 use tx_core::State;
 use tx_events::FullXid;
@@ -32,7 +31,7 @@ use tx_events::FullXid;
 /// Makes the page of the state of `id`, which was given or comes next, where the bank's last made page is before it
 /// (`ExtendCLOG` of `clog.c`). The page of an id that isn't before the announced oldest one isn't cut, in a life of few
 /// ids.
-pub fn make_page<R: Wait, L: LogDisk, P: PageDisk>(
+pub fn make_page<R: Passing, L: LogDisk, P: PageDisk>(
     rt: &R,
     hall: &Hall<EngineLaw<L, P>>,
     caller: &mut Caller<L, P>,
@@ -91,7 +90,7 @@ fn named(state: slru_bank::State) -> Option<State>
 }
 
 /// The state of an id, as its bank has it (`TransactionIdGetStatus` of `clog.c`); None where none was set.
-pub fn read_state<R: Wait, L: LogDisk, P: PageDisk>(
+pub fn read_state<R: Passing, L: LogDisk, P: PageDisk>(
     rt: &R,
     hall: &Hall<EngineLaw<L, P>>,
     caller: &mut Caller<L, P>,

@@ -10,10 +10,9 @@ ghost use Rattle.bank_sections.specs.Parents.{linked};
 use crate::parents::link_parent;
 use crate::stalling::stall;
 use disk_core::{LogDisk, PageDisk};
-use engine_parts::{Caller, EngineLaw};
+use engine_parts::{Caller, EngineLaw, Passing};
 use hall::Hall;
 use slru_bank::BankRefusal;
-use std::sync::Wait;
 use store_pages::{bank_of, subtrans_page};
 use tx_events::{Lock, Refusal};
 
@@ -21,7 +20,7 @@ use tx_events::{Lock, Refusal};
 /// `subtrans.c`): one critical section of a bank of pg_subtrans, or none. After a `DiskFault` it is still to be
 /// recorded. Waits for ever where the page is cut, which can't be in a life of few ids. `banks` is the number of banks
 /// of each store.
-pub fn record_parent<R: Wait, L: LogDisk, P: PageDisk>(
+pub fn record_parent<R: Passing, L: LogDisk, P: PageDisk>(
     rt: &R,
     hall: &Hall<EngineLaw<L, P>>,
     caller: &mut Caller<L, P>,

@@ -32,7 +32,7 @@ pub enum Act {
     Ask(u64),
 }
 
-fn event_of<R: Abort>(rt: &R, by: By, act: Act) -> Event
+pub fn event_of<R: Abort>(rt: &R, by: By, act: Act) -> Event
     ensures { by_of result ≡ by }
 {
     match act {
@@ -76,17 +76,22 @@ fn event_of<R: Abort>(rt: &R, by: By, act: Act) -> Event
     }
 }
 
+/// What a new log begins with.
+pub fn new_log<R: Abort>(rt: &R) -> Counters {
+    let multi = FullMulti::new(1).expect(rt, "a multixact id");
+    Counters {
+        next: id(rt, 3),
+        oldest: id(rt, 3),
+        multi,
+        offset: 1,
+        oldest_multi: multi,
+        oldest_offset: 1,
+    }
+}
+
 impl Driver {
     pub fn new<R: Abort + AllocGlobal>(rt: &R) -> Driver {
-        let multi = FullMulti::new(1).expect(rt, "a multixact id");
-        let base = Counters {
-            next: id(rt, 3),
-            oldest: id(rt, 3),
-            multi,
-            offset: 1,
-            oldest_multi: multi,
-            oldest_offset: 1,
-        };
+        let base = new_log(rt);
         assert!(rt; is_base(&base));
         let replay = HistoryReplay::new(rt.alloc(), base, 2).expect(rt, "memory");
         Driver { replay, command: 0 }

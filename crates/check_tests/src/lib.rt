@@ -4,6 +4,8 @@
 #[cfg(test)]
 mod driver;
 #[cfg(test)]
+mod legal_tests;
+#[cfg(test)]
 mod multi_driver;
 #[cfg(test)]
 mod multi_tests;

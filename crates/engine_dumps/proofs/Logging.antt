@@ -1,15 +1,14 @@
 -- A log of which only bytes were read.
-use Rattle.std.proofs.Common.{Box, Global, ◌≡◌, ℕ, ◌-◌, ◌<◌, ◌≤◌, List, ◌++◌, IsTrue, drop, length, length-drop, min, refl, sym, take, ap, subst, ◌∙◌, arith}
+use Rattle.std.proofs.Common.{Box, Global, ◌≡◌, ℕ, ◌-◌, ◌≤◌, List, ◌++◌, IsTrue, drop, length, length-drop, min, refl, sym, take, ap, subst, ◌∙◌, arith}
 use Rattle.std.proofs.lemmas.List.{length-take-le, take_at, take_min}
 use Rattle.std.specs.Box.{with_value}
 use Rattle.disk_core.specs.declared.log_disk.LogDisk as logs
 use Rattle.disk_core.specs.declared.page_disk.PageDisk as disks
 use Rattle.disk_core.specs.Faults.{HasRisen}
-use Rattle.disk_core.specs.Images.{NoMore}
 use Rattle.disk_core.specs.Volume.{IsRead}
 use Rattle.notes.specs.Lists.{at}
 use Rattle.wal_core.specs.Kept.{HasFlushed}
-use Rattle.wal_core.specs.LogViews.{log_checkpoint, log_counters, log_disk, log_down, log_first, log_flushed, log_next, log_recs}
+use Rattle.wal_core.specs.LogViews.{log_disk, log_first}
 use Rattle.wal_core.specs.declared.wal_log.WalLog.{WalLog}
 use Rattle.tx_core.specs.declared.entry.Entry.{Entry}
 use Rattle.tx_core.specs.declared.entry.Start.{Start}
@@ -17,49 +16,10 @@ use Rattle.tx_core.specs.Entries.{recs_in}
 use Rattle.tx_core.specs.Locks.{log_lock}
 use Rattle.engine_parts.specs.declared.part.Part.TheVariants as parts
 use Rattle.engine_parts.specs.Parts.{IsLogOf}
-use Rattle.engine_parts.specs.Stand.{IsFirstKept, MayForgetThere}
+use Rattle.host_sections.proofs.LogSteps.{IsSameLog, log_same}
 use Rattle.engine_dumps.specs.Shown.{AreLogBytes, HasFailed, ShowsLog}
 
 module _ {D : Type 0} {g : logs.Ghosts D} where
-  -- all but the count of its volume stays, and a crash leaves nothing else
-  pub record IsSameLog (old new : WalLog D g) : Type 0 where
-    pub recs : log_recs new ≡ log_recs old
-    pub next : log_next new ≡ log_next old
-    pub first : log_first new ≡ log_first old
-    pub flushed : log_flushed new ≡ log_flushed old
-    pub counters : log_counters new ≡ log_counters old
-    pub down : log_down new ≡ log_down old
-    pub checkpoint : log_checkpoint new ≡ log_checkpoint old
-    pub count : g.faults (log_disk old) ≤ g.faults (log_disk new)
-    pub images : IsTrue g.tells → NoMore (g.images (log_disk old)) (g.images (log_disk new))
-
-  -- it stands for the same list
-  pub log_same : (start : Start) (old new : WalLog D g) (es : List Entry) → IsSameLog old new → IsLogOf start old es → IsLogOf start new es
-  log_same start old new es same s = record {
-    recs_are = same.recs ∙ s.recs_are;
-    next_is = same.next ∙ s.next_is;
-    flushed_is = same.flushed ∙ s.flushed_is;
-    counters_are = same.counters ∙ s.counters_are;
-    failed = λ n is. let f = s.failed n (sym same.down ∙ is) in (f.0, subst (λ z. n ≤ z) (sym same.flushed) f.1);
-    up = λ none. s.up (sym same.down ∙ none);
-    count = (let c = s.count in let m = same.count in omega arith);
-    kept = λ told.
-        let k = s.kept told in
-        let keeps = k.2 in (
-          k.0,
-          k.1,
-          record {
-            earlier = keeps.earlier;
-            whole = keeps.whole ∙ ap (λ z. keeps.earlier ++ z) (sym same.recs);
-            count = keeps.count ∙ sym same.next;
-            each = λ c image. subst (λ (z : ℕ × ℕ). HasFlushed k.0 (k.1 ++ recs_in es) z.0 z.1 c) (λ i. (sym same.first i, sym same.flushed i)) (keeps.each c (same.images told c image));
-          },
-          k.3,
-        );
-    first_is = subst (λ z. IsFirstKept start es z) (sym same.first) s.first_is;
-    alone = subst (λ z. MayForgetThere start es z) (sym same.checkpoint) s.alone;
-  }
-
   -- what was read is of the volume as it reads, which is what a crash may leave
   pub shows_log : (start : Start) (log : WalLog D g) (es : List Entry) (from count : ℕ) (old new : List ℕ) → IsLogOf start log es → IsTrue g.tells → g.images (log_disk log) (g.reads (log_disk log)) → IsRead (g.reads (log_disk log)).bytes from old count new → ShowsLog start es from old count new
   shows_log start log es from count old new s told image read =

@@ -1,3 +1,2 @@
-pub mod Homes
 pub mod Shown
 pub mod Dumps

@@ -5,7 +5,7 @@ ghost use Rattle.tx_model.specs.declared.reply.Reply.TheVariants as replies;
 ghost use Rattle.tx_model.specs.declared.report.DumpOf.TheVariants as dumps;
 ghost use Rattle.life_law.specs.Dumps.{AreBytes};
 ghost use Rattle.run_law.specs.Turns.{MayShow};
-ghost use Rattle.engine_dumps.specs.Homes.{IsHome, StaysHome};
+ghost use Rattle.engine_host.specs.Homes.{IsHome, StaysHome};
 ghost use Rattle.engine_dumps.specs.Dumps.{IsAnswered, IsCutTold, IsFaultCounted, ShowsBytes, refusal_by};
 
 use crate::log::dump_log;

@@ -3,7 +3,6 @@
 #![tactic(auto)]
 
 mod answering;
-mod home;
 mod log;
 mod pages;
 

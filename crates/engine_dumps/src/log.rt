@@ -5,14 +5,14 @@ ghost use Rattle.notes.specs.Lists.{at};
 ghost use Rattle.tx_core.specs.EngineInvariant.{EngineInvariant};
 ghost use Rattle.tx_core.specs.Locks.{log_lock};
 ghost use Rattle.wal_core.specs.declared.refusal.LogRefusal.TheVariants.{LogFault};
-ghost use Rattle.engine_dumps.specs.Homes.{IsHome, StaysHome};
+ghost use Rattle.engine_host.specs.Homes.{IsHome, StaysHome};
 ghost use Rattle.engine_dumps.specs.Shown.{HasFailed, ShowsLog};
 
-use crate::home::take_log;
 use disk_core::{LogDisk, PageDisk};
 use engine_host::Host;
 use engine_parts::{EngineLaw, Part};
 use hall::Hall;
+use host_sections::take_log;
 use std::sync::Wait;
 use wal_core::LogRefusal;
 
@@ -34,7 +34,7 @@ pub fn dump_log<R: Wait, L: LogDisk, P: PageDisk>(
     ensures fault { OnErr result ((result ≡ Err LogFault) × HasFailed L.LogDisk P.PageDisk (start_of hall.now)
         (view host.old.pass).seen log_lock) }
 {
-    let mut held = take_log(rt, hall, host);
+    let mut held = take_log(rt, hall, &mut host.pass);
     let log = &mut *held;
     let found = log.dump(from, into);
     hall.put_back(&mut host.pass, Part::Log(held));

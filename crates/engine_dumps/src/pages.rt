@@ -6,14 +6,14 @@ ghost use Rattle.store_pages.specs.Layouts.{xact_cutoff};
 ghost use Rattle.tx_core.specs.EngineInvariant.{EngineInvariant};
 ghost use Rattle.tx_core.specs.Locks.{subtrans_lock, xact_lock};
 ghost use Rattle.bank_sections.specs.Sections.{IsSubtransCut, IsXactCut};
-ghost use Rattle.engine_dumps.specs.Homes.{IsHome, StaysHome};
+ghost use Rattle.engine_host.specs.Homes.{IsHome, StaysHome};
 ghost use Rattle.engine_dumps.specs.Shown.{HasFailed, IsSubtransUncut, IsXactUncut, ShowsSubtrans, ShowsXact};
 
-use crate::home::{take_subtrans, take_xact};
 use disk_core::{LogDisk, PageDisk};
 use engine_host::Host;
 use engine_parts::{EngineLaw, Part};
 use hall::Hall;
+use host_sections::{take_subtrans, take_xact};
 use slru_bank::BankRefusal;
 use std::sync::Wait;
 use store_pages::bank_of;
@@ -46,7 +46,7 @@ pub fn dump_xact<R: Wait, L: LogDisk, P: PageDisk>(
     ensures err { OnErr result (into.new ≡ into.old) }
 {
     let bank = bank_of(page, host.cluster.banks);
-    let mut held = take_xact(rt, hall, host, bank);
+    let mut held = take_xact(rt, hall, &mut host.pass, bank);
     let store = &mut *held;
     let found = store.read(page, from, into);
     hall.put_back(&mut host.pass, Part::Xact(held));
@@ -77,7 +77,7 @@ pub fn dump_subtrans<R: Wait, L: LogDisk, P: PageDisk>(
     ensures err { OnErr result (into.new ≡ into.old) }
 {
     let bank = bank_of(page, host.cluster.banks);
-    let mut held = take_subtrans(rt, hall, host, bank);
+    let mut held = take_subtrans(rt, hall, &mut host.pass, bank);
     let store = &mut *held;
     let found = store.read(page, from, into);
     hall.put_back(&mut host.pass, Part::Subtrans(held));

@@ -3,3 +3,4 @@ pub mod Hosting
 pub mod Parking
 mod Refusing
 mod Counting
+pub mod Homing

@@ -1,5 +1,5 @@
 -- Sessions that no thread runs: what they may do stays while others are let in and taken back.
-use Rattle.std.proofs.Common.{ℕ, ◌<◌, ◌≡◌, List, length, refl, sym, ap, subst, ◌∙◌, arith}
+use Rattle.std.proofs.Common.{ℕ, ◌<◌, ◌≡◌, List, length, refl, sym, subst, arith}
 use Rattle.disk_core.specs.declared.log_disk.LogDisk as logs
 use Rattle.disk_core.specs.declared.page_disk.PageDisk as disks
 use Rattle.notes.specs.Lists.{Knows}
@@ -60,18 +60,17 @@ parked_still start v w n s seen may = may_by start (given (asking n v)) (given (
 learnt : (start : Start) (v u : Knowledge) (n : ℕ) (lists : List (List Entry)) → Moment session_of writer_of EngineInvariant start v lists → Holds v n → Knows session_of n v.seen lists
 learnt start v u n lists m holds = record { grows = m.grows; own = λ place. (m.own_seen n holds).entries place }
 
+-- so of what it has seen itself
+pub parked_on : (start : Start) (v u : Knowledge) (n : ℕ) (s : Session) → Knows session_of n v.seen u.seen → length u.seen ≡ length v.seen → EngineInvariant start u.seen → MayCall start (given (asking n v)) n s → MayCall start (given (asking n u)) n s
+parked_on start v u n s knows long law may =
+    let to : Knowledge = given (asking n u) in
+    let from : Knowledge = record (given (asking n v)) { holds = to.holds } in
+    let may' : MayCall start from n s = may_by start (given (asking n v)) from n s refl refl refl may in
+    calls_stay start from to n s may' (record { knows = knows; long = long; name = refl; holds = refl }) law refl
+
 pub parked_later : (start : Start) (v u : Knowledge) (n : ℕ) (s : Session) → Moment session_of writer_of EngineInvariant start v u.seen → Holds v n → (w : Knowledge) → w.name ≡ n → w.seen ≡ v.seen → w.stage ≡ Free → MayCall start w n s → MayCall start (given (asking n u)) n s
 parked_later start v u n s m holds w name seen free may =
-    let to : Knowledge = given (asking n u) in
-    let from : Knowledge = record w { holds = to.holds } in
-    let may' : MayCall start from n s = may_by start w from n s refl refl refl may in
-    let knows : Knows session_of n v.seen u.seen = learnt start v u n u.seen m holds in
-    calls_stay start from to n s may' record {
-      knows = subst (λ (z : ℕ × List (List Entry)). Knows session_of z.0 z.1 u.seen) (λ i. (sym name i, sym seen i)) knows;
-      long = m.long ∙ ap length (sym seen);
-      name = sym name;
-      holds = refl;
-    } m.law refl
+    parked_on start v u n s (learnt start v u n u.seen m holds) m.long m.law (may_by start w (given (asking n v)) n s (sym name) (sym seen) (sym free) may)
 
 module _ {H L P : Type 0} {l : logs.Ghosts L} {p : disks.Ghosts P} where
   -- a session that has done nothing may be let in under each name of a host that has seen nothing

@@ -2,3 +2,4 @@ pub mod Opening
 pub mod Hosts
 pub mod Refused
 pub mod Counted
+pub mod Homes

@@ -135,6 +135,7 @@ pub fn admit<L: LogDisk, P: PageDisk>(
         pass,
         number,
         session,
+        holds: 0,
     }
 }
 
@@ -161,6 +162,7 @@ pub fn dismiss<L: LogDisk, P: PageDisk>(
         pass,
         number: _,
         session,
+        holds: _,
     } = caller;
     hall.join(&mut host.pass, pass);
     session

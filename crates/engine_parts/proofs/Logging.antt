@@ -1,9 +1,10 @@
 -- The log stands for its list after each call.
 use Rattle.std.proofs.Common.{Contains, drop, inl, inr, ⊎_elim, ◌≡◌, ◌≢◌, ℕ, ◌+◌, ◌≤◌, ◌<◌, List, [], ◌∷◌, ◌++◌, refl, sym, ap, subst, ◌∙◌, append-nil, append_assoc, length, map, arith, Bool, IsTrue, Option, Some, None, ◌||◌, false, true}
 use Rattle.std.proofs.Math.Seq.{drop-append_seam}
+use Rattle.std.proofs.lemmas.Bool.{false≢true}
 use Rattle.std.proofs.lemmas.List.{map_push, length-append}
 use Rattle.std.proofs.lemmas.List.Elements.{Contains-append_left, Contains-push, filter_map-append}
-use Rattle.std.specs.List.{filter_map, cons_option}
+use Rattle.std.specs.List.{cons_option, filter_map, list_any}
 use Rattle.std.proofs.lemmas.List.Sums.{fold_push}
 use Rattle.disk_core.specs.Volume.{Volume}
 use Rattle.tx_events.specs.declared.event.By.{By}
@@ -33,7 +34,7 @@ use Rattle.tx_core.proofs.LastNumbers.{number_push, number_same}
 use Rattle.wal_core.specs.Checkpoint.{IsLastCheckpoint}
 use Rattle.wal_core.specs.declared.checkpoint.LastCheckpoint.{LastCheckpoint}
 use Rattle.tx_events.specs.declared.record.Rec.TheVariants as records
-use Rattle.engine_parts.specs.Stand.{EndsInCheckpoint, IsDownAt, IsFirstKept, LogStands, MayForgetThere}
+use Rattle.engine_parts.specs.Stand.{EndsInCheckpoint, IsDownAt, IsFirstKept, LogStands, MayForgetThere, forgotten_in}
 
 -- one entry more
 recs_push : (es : List Entry) (e : Entry) (rec : Rec) → appended e ≡ Some (e.by, rec) → recs_in (es ++ e ∷ []) ≡ recs_in es ++ rec ∷ []
@@ -62,16 +63,38 @@ failed_here start es by asked count n down is = record { before = es; rest = [];
 pub up_more : (es : List Entry) (e : Entry) → is_put_down e.kind ≡ false → IsUp es → IsUp (es ++ e ∷ [])
 up_more es e none up = list_any-append (λ (d : Entry). is_put_down d.kind) es (e ∷ []) ∙ (λ j. up j || (none j || false))
 
--- what may be kept first may be so with an entry more
-pub first_more : (start : Start) (es : List Entry) (e : Entry) (n : ℕ) → IsFirstKept start es n → IsFirstKept start (es ++ e ∷ []) n
-first_more start es e n = ⊎_elim
-    (λ (low : n < start.from). inl low)
-    (⊎_elim
-    (λ (k : (by : By) × Contains es (record { by = by; kind = kinds.Forget n })). inr (inl (k.0, Contains-append_left es (e ∷ []) (record { by = k.0; kind = kinds.Forget n }) k.1)))
-    (λ (k : (count : ℕ) × (by : By) × Contains es (record { by = by; kind = kinds.LogFault (calls.Forget n) count })). inr (inr (k.0, k.1, Contains-append_left es (e ∷ []) (record { by = k.1; kind = kinds.LogFault (calls.Forget n) k.0 }) k.2))))
+front_false : (a b : Bool) → (a || b) ≡ false → a ≡ false
+front_false true b e = e
+front_false false b e = refl
 
-pub first_same : (start : Start) (es : List Entry) (e : Entry) (n m : ℕ) → m ≡ n → IsFirstKept start es n → IsFirstKept start (es ++ e ∷ []) m
-first_same start es e n m same k = first_more start es e m (subst (λ z. IsFirstKept start es z) (sym same) k)
+-- a log that isn't down wasn't before its last entry
+up_before : (es : List Entry) (e : Entry) → IsUp (es ++ e ∷ []) → IsUp es
+up_before es e up = front_false (list_any (λ (d : Entry). is_put_down d.kind) es) (list_any (λ (d : Entry). is_put_down d.kind) (e ∷ [])) (sym (list_any-append (λ (d : Entry). is_put_down d.kind) es (e ∷ [])) ∙ up)
+
+-- what may be kept first may be so with an entry more, that forgets nothing
+pub first_more : (start : Start) (es : List Entry) (e : Entry) (n : ℕ) → forgotten_in e.kind ≡ None → IsFirstKept start es n → IsFirstKept start (es ++ e ∷ []) n
+first_more start es e n none kept = record {
+  one = ⊎_elim
+      (λ (low : n < start.from). inl low)
+      (⊎_elim
+      (λ (k : (by : By) × Contains es (record { by = by; kind = kinds.Forget n })). inr (inl (k.0, Contains-append_left es (e ∷ []) (record { by = k.0; kind = kinds.Forget n }) k.1)))
+      (λ (k : (count : ℕ) × (by : By) × Contains es (record { by = by; kind = kinds.LogFault (calls.Forget n) count })). inr (inr (k.0, k.1, Contains-append_left es (e ∷ []) (record { by = k.1; kind = kinds.LogFault (calls.Forget n) k.0 }) k.2))))
+      kept.one;
+  behind = λ up. subst (λ z. z ≤ n) (sym (number_same forgotten_in 0 es e none)) (kept.behind (up_before es e up));
+}
+
+pub first_same : (start : Start) (es : List Entry) (e : Entry) (n m : ℕ) → m ≡ n → forgotten_in e.kind ≡ None → IsFirstKept start es n → IsFirstKept start (es ++ e ∷ []) m
+first_same start es e n m same none k = first_more start es e m none (subst (λ z. IsFirstKept start es z) (sym same) k)
+
+-- a log that its last entry put down is down
+or_true : (a : Bool) → (a || true) ≡ true
+or_true true = refl
+or_true false = refl
+
+pub not_up : (es : List Entry) (e : Entry) → is_put_down e.kind ≡ true → IsUp (es ++ e ∷ []) → ⊥
+not_up es e down up =
+    let any : list_any (λ (d : Entry). is_put_down d.kind) (es ++ e ∷ []) ≡ true = list_any-append (λ (d : Entry). is_put_down d.kind) es (e ∷ []) ∙ (ap (λ b. list_any (λ (d : Entry). is_put_down d.kind) es || (b || false)) down ∙ or_true (list_any (λ (d : Entry). is_put_down d.kind) es)) in
+    false≢true (sym up ∙ any)
 
 -- lists that end alike
 same_end : (xs ys : List Entry) (x y : Entry) → xs ++ x ∷ [] ≡ ys ++ y ∷ [] → (xs ≡ ys) × (x ≡ y)
@@ -115,7 +138,7 @@ module _ (start : Start) (tells : Bool) (faults faults' : ℕ) (images images' :
         kept = λ told.
             let old = s.kept told in
             (old.0, old.1, subst (λ (l : List Rec). KeepsRecords old.0 l recs' next' first' flushed' images') (append_assoc old.1 (recs_in es) (rec ∷ []) ∙ ap (λ (l : List Rec). old.1 ++ l) (sym more)) (k told old.0 (old.1 ++ recs_in es) old.2), old.3);
-        first_is = first_same start es e first first' low s.first_is;
+        first_is = first_same start es e first first' low refl s.first_is;
         alone = unflushed start es e checkpoint' refl;
       }
 
@@ -149,7 +172,7 @@ log_looks {g = g} start log es by s =
     goes_on start g.tells (g.faults (log_disk log)) (g.faults (log_disk log)) (g.images (log_disk log)) (g.images (log_disk log)) (log_recs log) (log_recs log) (log_next log) (log_next log) (log_first log) (log_first log) (log_flushed log) (log_flushed log) (log_counters log) (log_counters log) (log_down log) (log_down log) (log_checkpoint log) (log_checkpoint log) es by s kinds.Look refl refl refl refl
     (s.flushed_is ∙ sym (number_same flushed_in start.from es e refl))
     (let same : faults_told start log_lock (es ++ e ∷ []) ≡ faults_told start log_lock es = number_same count_in (faults_at start log_lock) es e refl in let before = s.count in omega arith)
-    (λ m is. let before = s.failed m is in (failed_more start es e m before.0, before.1)) (λ none. up_more es e refl (s.up none)) (first_more start es e (log_first log) s.first_is) (unflushed start es e (log_checkpoint log) refl) (λ told number all k. k)
+    (λ m is. let before = s.failed m is in (failed_more start es e m before.0, before.1)) (λ none. up_more es e refl (s.up none)) (first_more start es e (log_first log) refl s.first_is) (unflushed start es e (log_checkpoint log) refl) (λ told number all k. k)
 
 -- the flushed number is that of a flush, where it is past the start's
 pub flush_stands : (start : Start) (es : List Entry) (number : ℕ) → start.from ≤ number → number < flushed_to start es → (to : ℕ) × (number < to) × (by : By) × Contains es (record { by = by; kind = kinds.Flush to })

@@ -24,7 +24,7 @@ use Rattle.tx_core.specs.declared.entry.Start.{Start}
 use Rattle.tx_core.specs.declared.entry.State.{State}
 use Rattle.tx_core.specs.declared.entry.State.TheVariants as states
 use Rattle.tx_core.specs.CleanStart.{CleanStart}
-use Rattle.tx_core.specs.Entries.{cut_in, events_in, recs_in, flushed_to}
+use Rattle.tx_core.specs.Entries.{cut_in, events_in, flushed_to, last_from, recs_in}
 use Rattle.tx_core.specs.Locks.{subtrans_page, xact_page, log_lock, subtrans_lock, xact_lock}
 use Rattle.tx_core.specs.MultiEntries.{multis_in}
 use Rattle.tx_core.specs.Pages.{Pages, pages_after, subtrans_store, xact_store}
@@ -55,12 +55,20 @@ pub record GivesStart (start : Start) (number : ℕ) (past : List Rec) : Type 0 
   pub whole : (n : ℕ) (counters : Counters) → slice_get past n ≡ Some (records.Checkpoint (number + n) counters)
       → (base_after base (take (n + 1) past)).counters ≡ counters
 
+-- the number of the checkpoint before which the log was forgotten
+abbrev pub forgotten_in : Kind → Option ℕ
+forgotten_in (kinds.Forget number) = Some number
+forgotten_in _ = None
+
+abbrev pub forgotten_to : List Entry → ℕ
+forgotten_to es = last_from 0 (filter_map (λ e. forgotten_in e.kind) es)
+
 -- The first record that each image keeps may be this one: one from before the life, or a checkpoint before which the log
--- was to be forgotten, also where that failed.
-abbrev pub IsFirstKept : Start → List Entry → ℕ → Type 0
-IsFirstKept start es n =
-    (n < start.from) ⊎ (((by : By) × Contains es (record { by = by; kind = kinds.Forget n }))
-    ⊎ ((count : ℕ) × (by : By) × Contains es (record { by = by; kind = kinds.LogFault (calls.Forget n) count })))
+-- was to be forgotten, also where that failed. Where the log isn't down, it is none from before the last forget.
+pub record IsFirstKept (start : Start) (es : List Entry) (n : ℕ) : Type 0 where
+  pub one : (n < start.from) ⊎ (((by : By) × Contains es (record { by = by; kind = kinds.Forget n }))
+      ⊎ ((count : ℕ) × (by : By) × Contains es (record { by = by; kind = kinds.LogFault (calls.Forget n) count })))
+  pub behind : IsUp es → forgotten_to es ≤ n
 
 -- The last entries put a checkpoint on disk, which has the number of its place and the counters of the log, and all
 -- records before it were on disk.

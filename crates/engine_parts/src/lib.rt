@@ -3,6 +3,7 @@
 #![tactic(auto)]
 
 mod fault_notes;
+mod gate;
 mod hold;
 mod law;
 /// What holds of the promises of all calls. The functions do nothing; their contracts are the laws.
@@ -17,6 +18,7 @@ mod subtrans_hold;
 mod xact_hold;
 
 pub use fault_notes::{fault_note, flush_fault_note};
+pub use gate::{Gate, Gated, OpenGate, Passing};
 pub use hold::{enter, leave};
 pub use law::EngineLaw;
 pub use log_hold::{enter_log, leave_log};

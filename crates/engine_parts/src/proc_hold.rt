@@ -11,18 +11,18 @@ ghost use Rattle.engine_parts.specs.Law.{MayKeep};
 ghost use Rattle.engine_parts.specs.Stand.{ProcStands};
 ghost use Rattle.engine_parts.specs.Sessions.{IsAt, IsReady};
 
+use crate::gate::Passing;
 use crate::hold::{enter, leave};
 use crate::law::EngineLaw;
 use crate::part::Part;
-use crate::session::Caller;
+use crate::session::{Caller, knock};
 use disk_core::{LogDisk, PageDisk};
 use hall::{Hall, Note};
 use proc_table::ProcTable;
-use std::sync::Wait;
 use tx_core::Entry;
 
 /// Waits for the ProcArray (ProcArrayLock and XidGenLock, of which this project has one).
-pub fn enter_proc<R: Wait, L: LogDisk, P: PageDisk>(
+pub fn enter_proc<R: Passing, L: LogDisk, P: PageDisk>(
     rt: &R,
     hall: &Hall<EngineLaw<L, P>>,
     caller: &mut Caller<L, P>,
@@ -37,6 +37,7 @@ pub fn enter_proc<R: Wait, L: LogDisk, P: PageDisk>(
     ensures same { (caller.new.session ≡ caller.old.session) × (caller.new.number ≡ caller.old.number) }
     ensures stands { ProcStands (start_of hall.now) result.value (at (view caller.new.pass).seen proc_lock) }
 {
+    knock(rt, caller);
     let part = enter(rt, hall, &mut caller.pass, 1);
     let Part::Proc(table) = part else {
         unreachable!()

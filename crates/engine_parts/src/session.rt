@@ -4,6 +4,7 @@ ghost use Rattle.engine_parts.specs.Calls.{IsCounted};
 ghost use Rattle.engine_parts.specs.Sessions.{by_at};
 ghost use Rattle.engine_parts.specs.Stages.{pending_in};
 
+use crate::gate::Passing;
 use crate::law::EngineLaw;
 use disk_core::{LogDisk, PageDisk};
 use hall::Pass;
@@ -64,6 +65,8 @@ pub struct Caller<L: LogDisk, P: PageDisk> {
     /// The session's number, below the number of sessions.
     pub number: u32,
     pub session: Session,
+    /// How many critical sections its command has begun.
+    pub holds: u64,
 }
 
 /// The command that the session is at.
@@ -82,4 +85,14 @@ pub fn count<L: LogDisk, P: PageDisk>(caller: &mut Caller<L, P>)
     ensures { IsCounted caller.old caller.new }
 {
     caller.session.levels.commands += 1;
+    caller.holds = 0;
+}
+
+/// The session comes to the gate, before its command's next critical section.
+pub(crate) fn knock<R: Passing, L: LogDisk, P: PageDisk>(rt: &R, caller: &mut Caller<L, P>)
+    ensures pass { caller.new.pass ≡ caller.old.pass }
+    ensures same { (caller.new.session ≡ caller.old.session) × (caller.new.number ≡ caller.old.number) }
+{
+    caller.holds = caller.holds.wrapping_add(1);
+    rt.before(caller.number, caller.session.levels.commands, caller.holds);
 }

@@ -11,19 +11,19 @@ ghost use Rattle.engine_parts.specs.Law.{MayKeep};
 ghost use Rattle.engine_parts.specs.Parts.{IsSubtransOf};
 ghost use Rattle.engine_parts.specs.Sessions.{IsAt, IsReady};
 
+use crate::gate::Passing;
 use crate::hold::{enter, leave};
 use crate::law::EngineLaw;
 use crate::part::Part;
-use crate::session::Caller;
+use crate::session::{Caller, knock};
 use disk_core::{LogDisk, PageDisk};
 use hall::{Hall, Note};
 use slru_bank::SlruBank;
-use std::sync::Wait;
 use store_pages::SubtransPages;
 use tx_core::Entry;
 
 /// Waits for a bank of pg_subtrans (its lock of SubtransSLRU).
-pub fn enter_subtrans<R: Wait, L: LogDisk, P: PageDisk>(
+pub fn enter_subtrans<R: Passing, L: LogDisk, P: PageDisk>(
     rt: &R,
     hall: &Hall<EngineLaw<L, P>>,
     caller: &mut Caller<L, P>,
@@ -41,6 +41,7 @@ pub fn enter_subtrans<R: Wait, L: LogDisk, P: PageDisk>(
     ensures stands { IsSubtransOf (start_of hall.now) bank result.value
         (at (view caller.new.pass).seen (subtrans_lock bank)) }
 {
+    knock(rt, caller);
     let part = enter(rt, hall, &mut caller.pass, 4 + 4 * bank);
     let Part::Subtrans(store) = part else {
         unreachable!()

@@ -11,19 +11,19 @@ ghost use Rattle.engine_parts.specs.Law.{MayKeep};
 ghost use Rattle.engine_parts.specs.Parts.{IsXactOf};
 ghost use Rattle.engine_parts.specs.Sessions.{IsAt, IsReady};
 
+use crate::gate::Passing;
 use crate::hold::{enter, leave};
 use crate::law::EngineLaw;
 use crate::part::Part;
-use crate::session::Caller;
+use crate::session::{Caller, knock};
 use disk_core::{LogDisk, PageDisk};
 use hall::{Hall, Note};
 use slru_bank::SlruBank;
-use std::sync::Wait;
 use store_pages::XactPages;
 use tx_core::Entry;
 
 /// Waits for a bank of pg_xact (its lock of XactSLRU).
-pub fn enter_xact<R: Wait, L: LogDisk, P: PageDisk>(
+pub fn enter_xact<R: Passing, L: LogDisk, P: PageDisk>(
     rt: &R,
     hall: &Hall<EngineLaw<L, P>>,
     caller: &mut Caller<L, P>,
@@ -40,6 +40,7 @@ pub fn enter_xact<R: Wait, L: LogDisk, P: PageDisk>(
     ensures same { (caller.new.session ≡ caller.old.session) × (caller.new.number ≡ caller.old.number) }
     ensures stands { IsXactOf (start_of hall.now) bank result.value (at (view caller.new.pass).seen (xact_lock bank)) }
 {
+    knock(rt, caller);
     let part = enter(rt, hall, &mut caller.pass, 3 + 4 * bank);
     let Part::Xact(store) = part else {
         unreachable!()

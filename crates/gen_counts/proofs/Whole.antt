@@ -104,6 +104,7 @@ module _ (P : ℕ × Command → Type 0) where
   lines_all : (n : ℕ) (more : List Asked) (ss : List Step) → AreSteps n more ss → AllByRecursion P (turns_of_all (rounds_in more)) → AllByRecursion P (map turn_of (flat_map lines_in ss))
   lines_all n [] [] r a = tt
   lines_all n (asked.dump what at size ∷ more) (steps.Dump of from count reply ∷ ss) r a = lines_all n more ss r.3 a
+  lines_all n (asked.checkpoint ∷ more) (steps.Checkpoint reply ∷ ss) r a = lines_all n more ss r a
   lines_all n (asked.round turns ∷ more) (steps.Round number lines ∷ ss) r a =
       let cut = front turns (turns_of_all (rounds_in more)) a in
       subst (AllByRecursion P) (sym (map-append turn_of lines (flat_map lines_in ss)))
@@ -248,7 +249,7 @@ counts tells banks seed size r few begins lawful fine =
     let script = items_from 0 (drawn_from 0 size seed) in
     let ss = r.steps in
     let lines = flat_map lines_in ss in
-    let f : Facts = facts_of tells banks r.life lines in
+    let f : Facts = facts_of tells banks r.life ss in
     let each = lawful.lawful.each in
     let told = lawful.told in
     let has : AllByRecursion (λ e. has_line lines e ≡ true) r.life.events = recursion_from_All (λ e. IsTrue (has_line lines e)) r.life.events lawful.lawful.no_other in

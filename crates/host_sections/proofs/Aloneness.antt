@@ -1,9 +1,5 @@
 -- A host that has all names learns nothing new at a lock, and adds to the lists what it may.
-use Rattle.std.proofs.Common.{◌≡◌, ℕ, suc, ◌<◌, ◌≤◌, ◌+◌, ◌*◌, ◌==◌, ⊎_elim, List, [], ◌∷◌, ◌++◌, Contains, Bool, true, false, cond, length, slice_index_or, append-nil, inl, inr, refl, sym, ap, subst, ◌∙◌, arith}
-use Rattle.std.specs.List.{All, filter}
-use Rattle.std.proofs.lemmas.List.Elements.{All-append, All-cons, All-nil, filter-append}
-use mathlib.Core.Logic.{dite}
-use native.Mathlib.Decide.{ℕ_discrete}
+use Rattle.std.proofs.Common.{◌≡◌, ℕ, suc, ◌<◌, ◌≤◌, ◌+◌, ◌==◌, ⊎_elim, List, [], ◌∷◌, ◌++◌, Contains, Bool, false, length, slice_index_or, append-nil, inl, refl, sym, ap, subst, ◌∙◌, arith}
 use Rattle.disk_core.specs.declared.log_disk.LogDisk as logs
 use Rattle.disk_core.specs.declared.page_disk.PageDisk as disks
 use Rattle.hall.specs.declared.hall.Hall.{Hall}
@@ -11,11 +7,10 @@ use Rattle.hall.specs.declared.pass.Token.{Token}
 use Rattle.hall.specs.Calls.{Entered, IsOf, Looked, start_of, view}
 use Rattle.hall.specs.Rule.{Holds}
 use Rattle.hall.specs.Told.{Moment, released}
-use Rattle.notes.specs.Lists.{Knows, add, at, own}
-use Rattle.notes.proofs.Growing.{at_else, at_here}
+use Rattle.notes.specs.Lists.{add, at, own}
 use Rattle.tx_events.specs.declared.event.By.{By}
 use Rattle.tx_events.proofs.ListSteps.{eqb-refl}
-use Rattle.tx_events.proofs.Membership.{contains_has, has_contains, has_right, none_passes}
+use Rattle.tx_events.proofs.Membership.{has_contains, has_right, none_passes}
 use Rattle.tx_core.specs.declared.entry.Entry.{Entry}
 use Rattle.tx_core.specs.declared.entry.Kind.{Kind}
 use Rattle.tx_core.specs.declared.entry.Start.{Start}
@@ -30,7 +25,7 @@ use Rattle.engine_parts.specs.Alone.{IsAlone, IsIn, StaysAlone}
 use Rattle.engine_parts.specs.Holds.{Enters, Knowledge, Leaves}
 use Rattle.engine_parts.specs.Law.{MayKeep, writer_of}
 use Rattle.engine_parts.specs.Parts.{PartStands}
-use Rattle.engine_parts.proofs.Holding.{enters, stood}
+use Rattle.engine_parts.proofs.Holding.{enters}
 
 -- lists of lists that are the same at each place
 lists_equal : {E : Type 0} → (xs ys : List (List E)) → length xs ≡ length ys → ((k : ℕ) → at xs k ≡ at ys k) → xs ≡ ys

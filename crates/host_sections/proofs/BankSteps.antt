@@ -1,6 +1,5 @@
 -- A bank behind a critical section of the host stands for its list.
 use Rattle.std.proofs.Common.{◌≡◌, ℕ, suc, ◌≤◌, List, [], ◌∷◌, ◌++◌, IsTrue, None, arith, inl, inr, refl}
-use Rattle.disk_core.specs.declared.log_disk.LogDisk as logs
 use Rattle.disk_core.specs.declared.page_disk.PageDisk as disks
 use Rattle.store_pages.specs.declared.page_rule.PageRule as rules
 use Rattle.slru_bank.specs.declared.bank.SlruBank.{SlruBank}

@@ -1,9 +1,10 @@
 -- The log behind a critical section of the host stands for its list.
-use Rattle.std.proofs.Common.{◌≡◌, ◌≢◌, ℕ, ◌+◌, ◌<◌, ◌≤◌, ◌^◌, IsNone, List, [], ◌∷◌, ◌++◌, IsTrue, Option, Some, None, arith, inl, inr, length, refl, sym, ap, subst, ◌∙◌}
+use Rattle.std.proofs.Common.{◌≡◌, ◌≢◌, ℕ, ◌+◌, ◌<◌, ◌≤◌, ◌^◌, IsNone, true, List, [], ◌∷◌, ◌++◌, IsTrue, Option, Some, None, arith, inl, inr, refl, sym, ap, subst, ◌∙◌}
 use Rattle.std.proofs.lemmas.Bool.{false≢true}
 use Rattle.std.proofs.lemmas.List.Elements.{Contains-push}
 use Rattle.std.proofs.lemmas.Option.{same_Some}
 use Rattle.disk_core.specs.declared.log_disk.LogDisk as logs
+use Rattle.disk_core.specs.Images.{NoMore}
 use Rattle.tx_events.proofs.ListSteps.{eqb-refl}
 use Rattle.tx_events.specs.After.{after_record}
 use Rattle.tx_events.specs.Base.{IsBase}
@@ -16,35 +17,82 @@ use Rattle.tx_core.specs.declared.entry.Kind.TheVariants as kinds
 use Rattle.tx_core.specs.declared.entry.LogCall.{LogCall}
 use Rattle.tx_core.specs.declared.entry.LogCall.TheVariants as calls
 use Rattle.tx_core.specs.declared.entry.Start.{Start}
-use Rattle.tx_core.specs.Entries.{flushed_in, flushed_to}
+use Rattle.tx_core.specs.Entries.{flushed_in, recs_in}
 use Rattle.tx_core.specs.FaultsRise.{count_in, faults_at, faults_told}
 use Rattle.tx_core.specs.Locks.{log_lock}
 use Rattle.tx_core.specs.RecordsFollow.{counters_after}
 use Rattle.tx_core.specs.StaysDown.{puts_down}
 use Rattle.tx_core.proofs.LastNumbers.{number_push, number_same}
 use Rattle.wal_core.specs.Checkpoint.{IsLastCheckpoint}
-use Rattle.wal_core.specs.Kept.{KeepsRecords}
+use Rattle.wal_core.specs.Kept.{HasFlushed, KeepsRecords}
 use Rattle.wal_core.specs.Log.{MayAppend, counters_or_none}
 use Rattle.wal_core.specs.Opening.{number_fits}
 use Rattle.wal_records.specs.Spelling.{AreCounters}
 use Rattle.wal_core.specs.LogViews.{log_checkpoint, log_counters, log_disk, log_down, log_end, log_first, log_flushed, log_next, log_pending, log_recs}
-use Rattle.wal_core.specs.declared.checkpoint.LastCheckpoint.{LastCheckpoint}
 use Rattle.wal_core.specs.declared.wal_log.WalLog.{WalLog}
 use Rattle.engine_parts.specs.Parts.{IsLogOf}
-use Rattle.engine_parts.specs.Stand.{IsFirstKept, LogStands}
-use Rattle.engine_parts.proofs.Logging.{failed_here, failed_more, first_same, flush_alone, goes_on, unflushed, up_more}
+use Rattle.engine_parts.specs.Stand.{IsFirstKept, MayForgetThere, forgotten_in}
+use Rattle.engine_parts.proofs.Logging.{failed_here, first_same, flush_alone, goes_on, not_up, unflushed, up_more}
 use Rattle.host_sections.specs.HostEntries.{flush_by, forget_by}
+
+module _ {D : Type 0} {g : logs.Ghosts D} where
+  -- all but the count of its volume stays, and a crash leaves nothing else
+  pub record IsSameLog (old new : WalLog D g) : Type 0 where
+    pub recs : log_recs new ≡ log_recs old
+    pub next : log_next new ≡ log_next old
+    pub first : log_first new ≡ log_first old
+    pub flushed : log_flushed new ≡ log_flushed old
+    pub counters : log_counters new ≡ log_counters old
+    pub down : log_down new ≡ log_down old
+    pub checkpoint : log_checkpoint new ≡ log_checkpoint old
+    pub count : g.faults (log_disk old) ≤ g.faults (log_disk new)
+    pub images : IsTrue g.tells → NoMore (g.images (log_disk old)) (g.images (log_disk new))
+
+  -- it stands for the same list
+  pub log_same : (start : Start) (old new : WalLog D g) (es : List Entry) → IsSameLog old new → IsLogOf start old es → IsLogOf start new es
+  log_same start old new es same s = record {
+    recs_are = same.recs ∙ s.recs_are;
+    next_is = same.next ∙ s.next_is;
+    flushed_is = same.flushed ∙ s.flushed_is;
+    counters_are = same.counters ∙ s.counters_are;
+    failed = λ n is. let f = s.failed n (sym same.down ∙ is) in (f.0, subst (λ z. n ≤ z) (sym same.flushed) f.1);
+    up = λ none. s.up (sym same.down ∙ none);
+    count = (let c = s.count in let m = same.count in omega arith);
+    kept = λ told.
+        let k = s.kept told in
+        let keeps = k.2 in (
+          k.0,
+          k.1,
+          record {
+            earlier = keeps.earlier;
+            whole = keeps.whole ∙ ap (λ z. keeps.earlier ++ z) (sym same.recs);
+            count = keeps.count ∙ sym same.next;
+            each = λ c image. subst (λ (z : ℕ × ℕ). HasFlushed k.0 (k.1 ++ recs_in es) z.0 z.1 c) (λ i. (sym same.first i, sym same.flushed i)) (keeps.each c (same.images told c image));
+          },
+          k.3,
+        );
+    first_is = subst (λ z. IsFirstKept start es z) (sym same.first) s.first_is;
+    alone = subst (λ z. MayForgetThere start es z) (sym same.checkpoint) s.alone;
+  }
+
+  -- so where its volume is as it was
+  pub log_untouched : (start : Start) (old new : WalLog D g) (es : List Entry) → log_disk new ≡ log_disk old → log_recs new ≡ log_recs old → log_next new ≡ log_next old → log_first new ≡ log_first old → log_flushed new ≡ log_flushed old → log_counters new ≡ log_counters old → log_down new ≡ log_down old → log_checkpoint new ≡ log_checkpoint old → IsLogOf start old es → IsLogOf start new es
+  log_untouched start old new es disk recs next first flushed counters down checkpoint = log_same start old new es (record {
+    recs = recs;
+    next = next;
+    first = first;
+    flushed = flushed;
+    counters = counters;
+    down = down;
+    checkpoint = checkpoint;
+    count = (let same : g.faults (log_disk new) ≡ g.faults (log_disk old) = ap g.faults disk in omega (arith, same));
+    images = λ told. subst (λ (d : D). NoMore (g.images (log_disk old)) (g.images d)) (sym disk) (λ c image. image);
+  })
 
 module _ {D : Type 0} {g : logs.Ghosts D} (start : Start) (old new : WalLog D g) (es : List Entry) (by : By) (s : IsLogOf start old es) where
   -- what the log keeps of its records, as before
   abbrev Keeps : Type 0
   Keeps = IsTrue g.tells → (number : ℕ) (all : List Rec) → KeepsRecords number all (log_recs old) (log_next old) (log_first old) (log_flushed old) (g.images (log_disk old)) → KeepsRecords number all (log_recs new) (log_next new) (log_first new) (log_flushed new) (g.images (log_disk new))
-
-  -- nothing was done
-  pub log_same : log_disk new ≡ log_disk old → log_recs new ≡ log_recs old → log_next new ≡ log_next old → log_first new ≡ log_first old → log_flushed new ≡ log_flushed old → log_counters new ≡ log_counters old → log_down new ≡ log_down old → log_checkpoint new ≡ log_checkpoint old → IsLogOf start new es
-  log_same disk recs next first flushed counters down checkpoint =
-      subst (λ (z : D × (List Rec × (ℕ × (ℕ × (ℕ × (Option Counters × (Option ℕ × Option LastCheckpoint))))))). LogStands start g.tells (g.faults z.0) (g.images z.0) z.1 z.2 z.3 z.4 z.5 z.6 z.7 es)
-      (λ j. (sym disk j, (sym recs j, (sym next j, (sym first j, (sym flushed j, (sym counters j, (sym down j, sym checkpoint j)))))))) s
 
   -- all was flushed
   pub flushed_stands : (next : ℕ) → next ≡ log_next old → log_recs new ≡ log_recs old → log_next new ≡ log_next old → log_counters new ≡ log_counters old → log_flushed new ≡ log_next old → log_down new ≡ log_down old → log_down old ≡ None → g.faults (log_disk old) ≤ g.faults (log_disk new) → log_first new ≡ log_first old
@@ -56,7 +104,7 @@ module _ {D : Type 0} {g : logs.Ghosts D} (start : Start) (old new : WalLog D g)
       (let same : faults_told start log_lock (es ++ e ∷ []) ≡ faults_told start log_lock es = number_same count_in (faults_at start log_lock) es e refl in let before = s.count in omega (arith, same, before, faults))
       (λ m put. absurd (let z : None ≡ Some m = sym up ∙ (sym down ∙ put) in cc))
       (λ none. up_more es e refl (s.up up))
-      (first_same start es e (log_first old) (log_first new) first s.first_is) (flush_alone start old new es by s next alone) keeps
+      (first_same start es e (log_first old) (log_first new) first refl s.first_is) (flush_alone start old new es by s next alone) keeps
 
   -- it was forgotten before a checkpoint
   pub forgotten_stands : (number : ℕ) → log_recs new ≡ log_recs old → log_next new ≡ log_next old → log_counters new ≡ log_counters old → log_flushed new ≡ log_flushed old → log_down new ≡ log_down old → log_down old ≡ None → g.faults (log_disk old) ≤ g.faults (log_disk new) → log_first new ≡ number → Keeps → IsLogOf start new (es ++ forget_by by number ∷ [])
@@ -67,7 +115,7 @@ module _ {D : Type 0} {g : logs.Ghosts D} (start : Start) (old new : WalLog D g)
       (let same : faults_told start log_lock (es ++ e ∷ []) ≡ faults_told start log_lock es = number_same count_in (faults_at start log_lock) es e refl in let before = s.count in omega (arith, same, before, faults))
       (λ m put. absurd (let z : None ≡ Some m = sym up ∙ (sym down ∙ put) in cc))
       (λ none. up_more es e refl (s.up up))
-      (subst (λ n. IsFirstKept start (es ++ e ∷ []) n) (sym first) (inr (inl (by, Contains-push es e)))) (unflushed start es e (log_checkpoint new) refl) keeps
+      (subst (λ n. IsFirstKept start (es ++ e ∷ []) n) (sym first) (record { one = inr (inl (by, Contains-push es e)); behind = λ still. (let here = number_push forgotten_in 0 es e number refl in omega (arith, here)) })) (unflushed start es e (log_checkpoint new) refl) keeps
 
   -- its volume failed, and it is down
   fails : (asked : LogCall) → puts_down asked ≡ true → log_recs new ≡ log_recs old → log_next new ≡ log_next old → log_counters new ≡ log_counters old → log_flushed new ≡ log_flushed old → log_down new ≡ Some (log_flushed old) → IsFirstKept start (es ++ record { by = by; kind = kinds.LogFault asked (g.faults (log_disk new)) } ∷ []) (log_first new) → Keeps
@@ -87,13 +135,13 @@ module _ {D : Type 0} {g : logs.Ghosts D} (start : Start) (old new : WalLog D g)
   pub flush_fails : log_recs new ≡ log_recs old → log_next new ≡ log_next old → log_counters new ≡ log_counters old → log_flushed new ≡ log_flushed old → log_down new ≡ Some (log_flushed old) → log_first new ≡ log_first old → Keeps
       → IsLogOf start new (es ++ record { by = by; kind = kinds.LogFault calls.Flush (g.faults (log_disk new)) } ∷ [])
   flush_fails recs next_same counters flushed down first keeps =
-      fails calls.Flush refl recs next_same counters flushed down (first_same start es (record { by = by; kind = kinds.LogFault calls.Flush (g.faults (log_disk new)) }) (log_first old) (log_first new) first s.first_is) keeps
+      fails calls.Flush refl recs next_same counters flushed down (first_same start es (record { by = by; kind = kinds.LogFault calls.Flush (g.faults (log_disk new)) }) (log_first old) (log_first new) first refl s.first_is) keeps
 
   pub forget_fails : (number : ℕ) → log_recs new ≡ log_recs old → log_next new ≡ log_next old → log_counters new ≡ log_counters old → log_flushed new ≡ log_flushed old → log_down new ≡ Some (log_flushed old) → log_first new ≡ number → Keeps
       → IsLogOf start new (es ++ record { by = by; kind = kinds.LogFault (calls.Forget number) (g.faults (log_disk new)) } ∷ [])
   forget_fails number recs next_same counters flushed down first keeps =
       let e : Entry = record { by = by; kind = kinds.LogFault (calls.Forget number) (g.faults (log_disk new)) } in
-      fails (calls.Forget number) refl recs next_same counters flushed down (subst (λ n. IsFirstKept start (es ++ e ∷ []) n) (sym first) (inr (inr (g.faults (log_disk new), by, Contains-push es e)))) keeps
+      fails (calls.Forget number) refl recs next_same counters flushed down (subst (λ n. IsFirstKept start (es ++ e ∷ []) n) (sym first) (record { one = inr (inr (g.faults (log_disk new), by, Contains-push es e)); behind = λ still. absurd (not_up es e refl still) })) keeps
 
   -- a checkpoint of its own next number may be appended
   pub may_append : (number : ℕ) (counters : Counters) → number ≡ log_next old → number < 2 ^ 64 → AreCounters counters → IsBase (after_record (counters_after start es) (records.Checkpoint number counters)) → MayAppend (log_counters old) (log_next old) (records.Checkpoint number counters)

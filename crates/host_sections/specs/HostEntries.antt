@@ -4,6 +4,7 @@ use Rattle.disk_core.specs.Faults.{HasRisen}
 use Rattle.notes.specs.Lists.{add, at}
 use Rattle.tx_events.specs.declared.event.By.{By}
 use Rattle.tx_events.specs.declared.record.Counters.{Counters}
+use Rattle.tx_events.specs.declared.record.Rec.{Rec}
 use Rattle.tx_events.specs.declared.record.Rec.TheVariants as records
 use Rattle.tx_core.specs.declared.entry.Entry.{Entry}
 use Rattle.tx_core.specs.declared.entry.Kind.TheVariants as kinds
@@ -26,8 +27,11 @@ flush_by by to = record { by = by; kind = kinds.Flush to }
 abbrev pub sync_by : By → Entry
 sync_by by = record { by = by; kind = kinds.Sync }
 
+abbrev pub append_by : By → Rec → Entry
+append_by by rec = record { by = by; kind = kinds.Append rec }
+
 abbrev pub checkpoint_by : By → ℕ → Counters → Entry
-checkpoint_by by number counters = record { by = by; kind = kinds.Append (records.Checkpoint number counters) }
+checkpoint_by by number counters = append_by by (records.Checkpoint number counters)
 
 abbrev pub forget_by : By → ℕ → Entry
 forget_by by number = record { by = by; kind = kinds.Forget number }

@@ -2,6 +2,7 @@
 ghost use Rattle.std.specs.Prelude.{◌≡◌, ◌<◌};
 ghost use Rattle.hall.specs.Calls.{start_of, view};
 ghost use Rattle.notes.specs.Lists.{add};
+ghost use Rattle.tx_core.specs.EngineInvariant.{EngineInvariant};
 ghost use Rattle.tx_core.specs.Locks.{subtrans_lock, xact_lock};
 ghost use Rattle.tx_core.specs.ProgramOrder.{IsHostsTurn};
 ghost use Rattle.engine_parts.specs.Alone.{IsAlone};
@@ -37,6 +38,7 @@ pub fn sync_xact<R: Wait, L: LogDisk, P: PageDisk>(
     requires bank { bank < (start_of hall.now).banks }
     ensures alone { IsAlone hall.now pass.new }
     ensures holds { (view pass.new).holds ≡ (view pass.old).holds }
+    ensures kept { EngineInvariant (start_of hall.now) (view pass.new).seen }
     ensures adds { AddsSync (start_of hall.now) by (xact_lock bank) (view pass.old).seen (view pass.new).seen result }
 {
     let mut held = take_xact(rt, hall, pass, bank);
@@ -68,6 +70,7 @@ pub fn sync_subtrans<R: Wait, L: LogDisk, P: PageDisk>(
     requires bank { bank < (start_of hall.now).banks }
     ensures alone { IsAlone hall.now pass.new }
     ensures holds { (view pass.new).holds ≡ (view pass.old).holds }
+    ensures kept { EngineInvariant (start_of hall.now) (view pass.new).seen }
     ensures adds { AddsSync (start_of hall.now) by (subtrans_lock bank) (view pass.old).seen (view pass.new).seen
         result }
 {
@@ -101,6 +104,7 @@ pub fn sync_vacant<R: Wait, L: LogDisk, P: PageDisk>(
     requires vacant { IsMultiBank (start_of hall.now) lock }
     ensures alone { IsAlone hall.now pass.new }
     ensures holds { (view pass.new).holds ≡ (view pass.old).holds }
+    ensures kept { EngineInvariant (start_of hall.now) (view pass.new).seen }
     ensures adds { (view pass.new).seen ≡ add (view pass.old).seen lock (sync_by by) }
 {
     let part = take_part(rt, hall, pass, lock);

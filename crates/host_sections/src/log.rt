@@ -3,6 +3,7 @@ ghost use Rattle.std.specs.Prelude.{◌≡◌};
 ghost use Rattle.hall.specs.Calls.{start_of, view};
 ghost use Rattle.notes.specs.Lists.{at};
 ghost use Rattle.tx_events.specs.declared.record.Rec.TheVariants as records;
+ghost use Rattle.tx_core.specs.EngineInvariant.{EngineInvariant};
 ghost use Rattle.tx_core.specs.Laws.{StaysBase};
 ghost use Rattle.tx_core.specs.Locks.{log_lock};
 ghost use Rattle.tx_core.specs.ProgramOrder.{IsHostsTurn};
@@ -12,7 +13,7 @@ ghost use Rattle.wal_core.specs.LogViews.{log_disk};
 ghost use Rattle.wal_records.specs.Spelling.{AreCounters};
 ghost use Rattle.engine_parts.specs.Alone.{IsAlone};
 ghost use Rattle.engine_parts.specs.Stand.{EndsInCheckpoint};
-ghost use Rattle.host_sections.specs.HostEntries.{AddsCheckpoint, AddsFlush, AddsForget, checkpoint_by, flush_by, forget_by, forget_fault_by, next_number};
+ghost use Rattle.host_sections.specs.HostEntries.{AddsCheckpoint, AddsFlush, AddsForget, append_by, flush_by, forget_by, forget_fault_by, next_number};
 
 use crate::home::take_log;
 use disk_core::{LogDisk, PageDisk};
@@ -30,11 +31,11 @@ fn flush_note(by: By, to: u64) -> Note<Entry>
     Note::by(&(by, to))
 }
 
-// The entry of a checkpoint that was appended.
-fn checkpoint_note(by: By, number: u64, counters: Counters) -> Note<Entry>
-    ensures { result.value ≡ checkpoint_by by number counters }
+// The entry of a record that was appended.
+fn append_note(by: By, rec: &Rec) -> Note<Entry>
+    ensures { result.value ≡ append_by by rec.now }
 {
-    Note::by(&(by, number, counters))
+    Note::by(&(by, rec))
 }
 
 // The log is forgotten before this checkpoint.
@@ -64,6 +65,7 @@ pub fn flush_records<R: Wait, L: LogDisk, P: PageDisk>(
     requires turn { IsHostsTurn (start_of hall.now) by }
     ensures alone { IsAlone hall.now pass.new }
     ensures holds { (view pass.new).holds ≡ (view pass.old).holds }
+    ensures kept { EngineInvariant (start_of hall.now) (view pass.new).seen }
     ensures adds { AddsFlush (start_of hall.now) by (view pass.old).seen (view pass.new).seen result }
 {
     let mut held = take_log(rt, hall, pass);
@@ -95,28 +97,29 @@ pub fn append_checkpoint<R: Wait, L: LogDisk, P: PageDisk>(
     hall: &Hall<EngineLaw<L, P>>,
     pass: &mut Pass<EngineLaw<L, P>>,
     by: By,
-    counters: Counters,
+    counters: &Counters,
 ) -> Result<u64, LogRefusal>
     requires alone { IsAlone hall.now pass.old }
     requires turn { IsHostsTurn (start_of hall.now) by }
-    requires lawful { AreCounters counters }
+    requires lawful { AreCounters counters.now }
     requires base { StaysBase (start_of hall.now) (view pass.old).seen
-        (records.Checkpoint (next_number (start_of hall.now) (view pass.old).seen) counters) }
+        (records.Checkpoint (next_number (start_of hall.now) (view pass.old).seen) counters.now) }
     requires follows { CheckpointOf (start_of hall.now) (view pass.old).seen (at (view pass.old).seen log_lock)
-        (next_number (start_of hall.now) (view pass.old).seen) counters }
+        (next_number (start_of hall.now) (view pass.old).seen) counters.now }
     ensures alone { IsAlone hall.now pass.new }
     ensures holds { (view pass.new).holds ≡ (view pass.old).holds }
-    ensures adds { AddsCheckpoint (start_of hall.now) by counters (view pass.old).seen (view pass.new).seen result }
+    ensures kept { EngineInvariant (start_of hall.now) (view pass.new).seen }
+    ensures adds { AddsCheckpoint (start_of hall.now) by counters.now (view pass.old).seen (view pass.new).seen result }
 {
     let mut held = take_log(rt, hall, pass);
     let log = &mut *held;
     let rec = Rec::Checkpoint {
         number: log.next(),
-        counters,
+        counters: counters.same(),
     };
     match log.append(&rec) {
         Ok(number) => {
-            let mark = checkpoint_note(by, number, counters);
+            let mark = append_note(by, &rec);
             leave(hall, pass, Part::Log(held), mark);
             Ok(number)
         }
@@ -143,6 +146,7 @@ pub fn forget_log<R: Wait, L: LogDisk, P: PageDisk>(
     requires may { MayForget (start_of hall.now) (view pass.old).seen (at (view pass.old).seen log_lock) number }
     ensures alone { IsAlone hall.now pass.new }
     ensures holds { (view pass.new).holds ≡ (view pass.old).holds }
+    ensures kept { EngineInvariant (start_of hall.now) (view pass.new).seen }
     ensures adds { AddsForget (start_of hall.now) by number (view pass.old).seen (view pass.new).seen result }
 {
     let mut held = take_log(rt, hall, pass);

@@ -6,3 +6,4 @@ pub mod WorkedLater
 pub mod DidGrowth
 pub mod PendingSteps
 pub mod IdSteps
+pub mod RoundLimits

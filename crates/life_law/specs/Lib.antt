@@ -12,3 +12,4 @@ pub mod LawfulLife
 pub mod Laws
 pub mod Worked
 pub mod WorkedCheckpoints
+pub mod WorkedRounds

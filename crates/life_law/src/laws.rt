@@ -2,6 +2,7 @@
 ghost use Rattle.life_law.specs.Laws.{AbortedIdsAreUnrecorded, OkAbortsAreUnrecorded, OkCommitsAreFlushed, UncommittedRecordsAreInDoubt, UndoneIdsAreUnrecorded};
 ghost use Rattle.life_law.specs.Worked.{WorkedLives};
 ghost use Rattle.life_law.specs.WorkedCheckpoints.{WorkedCheckpoints};
+ghost use Rattle.life_law.specs.WorkedRounds.{WorkedRounds};
 
 /// A commit that was answered `ok` has its record below the flushed number.
 pub fn ok_commits_are_flushed()
@@ -37,4 +38,10 @@ pub fn worked_lives()
 /// A life with a checkpoint between two rounds is lawful, and wrong reports of it aren't.
 pub fn worked_checkpoints()
     ensures { WorkedCheckpoints }
+{}
+
+/// A life is lawful in which a write is refused at the limit of ids, and reports of a refusal with numbers of a later
+/// round aren't.
+pub fn worked_rounds()
+    ensures { WorkedRounds }
 {}

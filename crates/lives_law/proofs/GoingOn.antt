@@ -1,8 +1,9 @@
 -- One life more.
-use Rattle.std.proofs.Common.{List, [], ap, append-nil, arith, length, length-append, max, suc, sym, take, ℕ, ◌++◌, ◌+◌, ◌-◌, ◌<◌, ◌∙◌, ◌∷◌, ◌≡◌, ◌≤◌}
+use Rattle.std.proofs.Common.{List, [], ap, arith, length, length-append, suc, sym, take, ℕ, ◌++◌, ◌+◌, ◌-◌, ◌<◌, ◌∙◌, ◌∷◌, ◌≡◌, ◌≤◌}
 use Rattle.std.proofs.Math.Seq.{take-append-add}
 use Rattle.log_bases.specs.LifeBase.{LifeBase, base_after}
 use Rattle.log_bases.proofs.Bases.{base_then}
+use Rattle.log_bases.proofs.Settling.{checkpoint_settles}
 use Rattle.tx_events.specs.declared.record.Rec.{Rec}
 use Rattle.tx_events.specs.declared.record.Rec.TheVariants as records
 use Rattle.tx_model.specs.declared.report.Life.{Life}
@@ -18,24 +19,6 @@ pub behind_push : (lives : List LifeReport) (r : LifeReport) (life : Life) → G
 behind_push [] r life goes = goes
 behind_push (a ∷ []) r life goes = goes
 behind_push (a ∷ (b ∷ lives)) r life goes = behind_push (b ∷ lives) r life goes
-
-max_same : (x : ℕ) → max x x ≡ x
-max_same x = grind arith
-
--- a checkpoint of a base's own counters changes nothing
-same_checkpoint : (base : LifeBase) (n : ℕ) → base_after base (records.Checkpoint n base.counters ∷ []) ≡ base
-same_checkpoint base n = λ i. record {
-  counters = record {
-    next = max_same base.counters.next i;
-    oldest = max_same base.counters.oldest i;
-    multi = max_same base.counters.multi i;
-    offset = max_same base.counters.offset i;
-    oldest_multi = max_same base.counters.oldest_multi i;
-    oldest_offset = max_same base.counters.oldest_offset i;
-  };
-  committed = append-nil base.committed i;
-  recorded = append-nil base.recorded i;
-}
 
 -- A log ends with the records of a life, but for the checkpoint of its base, and those before them give that base. Then a
 -- life that begins with what the log gives at a number from the flushed one to its end goes on from that one.
@@ -56,7 +39,7 @@ goes_on_at before after base first past own split number same begun flushed upto
           ∙ (ap (λ n. base_after base (take n (past ++ own))) place
           ∙ (ap (λ (t : List Rec). base_after base t) (take-append-add past own k)
           ∙ (base_then base past (take k own)
-          ∙ (ap (λ (b : LifeBase). base_after b (take k own)) (same ∙ sym (same_checkpoint (base_of before) before.from))
+          ∙ (ap (λ (b : LifeBase). base_after b (take k own)) (same ∙ sym (checkpoint_settles (base_of before) before.from))
           ∙ (sym (base_then (base_of before) (cp ∷ []) (take k own))
           ∙ ap (λ (t : List Rec). base_after (base_of before) t) (sym below))))));
     }

@@ -1,5 +1,5 @@
 -- Each life begins from what the run's one log gives below its first record.
-use Rattle.std.proofs.Common.{List, Some, [], ap, append-nil, arith, length, refl, subst, suc, sym, take, zero, ℕ, ◌++◌, ◌+◌, ◌-◌, ◌<◌, ◌∙◌, ◌∷◌, ◌≡◌, ◌≤◌, slice_get}
+use Rattle.std.proofs.Common.{List, Some, [], ap, append-nil, arith, length, refl, suc, sym, take, zero, ℕ, ◌++◌, ◌+◌, ◌-◌, ◌∙◌, ◌∷◌, ◌≡◌, ◌≤◌, slice_get}
 use Rattle.std.proofs.Math.Seq.{take-append-add}
 use Rattle.std.proofs.lemmas.List.{length-take-le}
 use Rattle.std.proofs.lemmas.Option.{same_Some}

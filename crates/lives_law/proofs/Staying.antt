@@ -1,5 +1,5 @@
 -- A commit that was answered ok stands in each later life.
-use Rattle.std.proofs.Common.{Contains, List, Option, Some, [], ap, arith, length, refl, subst, suc, sym, take, zero, ℕ, ⊎_elim, ◌++◌, ◌+◌, ◌-◌, ◌<◌, ◌∙◌, ◌∷◌, ◌≡◌, ◌≤◌, slice_get}
+use Rattle.std.proofs.Common.{List, Some, [], ap, arith, refl, subst, suc, sym, take, zero, ℕ, ⊎_elim, ◌++◌, ◌+◌, ◌-◌, ◌∙◌, ◌∷◌, ◌≡◌, ◌≤◌, slice_get}
 use Rattle.std.proofs.lemmas.List.{take-take}
 use Rattle.std.proofs.lemmas.Option.{same_Some}
 use Rattle.log_bases.specs.LifeBase.{LifeBase, committed_by, committed_in}

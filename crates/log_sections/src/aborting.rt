@@ -19,10 +19,9 @@ use crate::appending::Appended;
 use crate::refusals::refusal_of;
 use disk_core::{LogDisk, PageDisk};
 use engine_parts::{
-    Caller, EngineLaw, Part, Stage, command_of, enter_log, leave_log, leave_looked,
+    Caller, EngineLaw, Part, Passing, Stage, command_of, enter_log, leave_log, leave_looked,
 };
 use hall::{Hall, Note};
-use std::sync::Wait;
 use tx_events::{Rec, Refusal};
 use wal_core::WalLog;
 
@@ -67,7 +66,7 @@ fn leave_with_abort<L: LogDisk, P: PageDisk>(
 /// on the session's abort is pending.
 ///
 /// Refused with `LogDown`, `Full` or `Memory`; then, and where the log can't take the record, nothing was appended.
-pub fn append_abort<R: Wait, L: LogDisk, P: PageDisk>(
+pub fn append_abort<R: Passing, L: LogDisk, P: PageDisk>(
     rt: &R,
     hall: &Hall<EngineLaw<L, P>>,
     caller: &mut Caller<L, P>,

@@ -18,10 +18,9 @@ ghost use Rattle.log_sections.specs.LogSections.{AppendSection, Appends, IsCommi
 use crate::refusals::refusal_of;
 use disk_core::{LogDisk, PageDisk};
 use engine_parts::{
-    Caller, EngineLaw, Part, Stage, command_of, enter_log, leave_log, leave_looked,
+    Caller, EngineLaw, Part, Passing, Stage, command_of, enter_log, leave_log, leave_looked,
 };
 use hall::{Hall, Note};
-use std::sync::Wait;
 use tx_events::{Rec, Refusal};
 use wal_core::WalLog;
 
@@ -80,7 +79,7 @@ fn leave_appended<L: LogDisk, P: PageDisk>(
 ///
 /// Refused with `LogDown`, or where the log isn't down with `Full` or `Memory`; then, and where the log can't take the
 /// record, nothing was appended.
-pub fn append_commit<R: Wait, L: LogDisk, P: PageDisk>(
+pub fn append_commit<R: Passing, L: LogDisk, P: PageDisk>(
     rt: &R,
     hall: &Hall<EngineLaw<L, P>>,
     caller: &mut Caller<L, P>,

@@ -20,10 +20,10 @@ ghost use Rattle.log_sections.specs.LogSections.{FlushSection, IsFlushedPast, Is
 use crate::refusals::refusal_of;
 use disk_core::{LogDisk, PageDisk};
 use engine_parts::{
-    Caller, EngineLaw, Part, command_of, enter_log, flush_fault_note, leave_looked, leave_quiet,
+    Caller, EngineLaw, Part, Passing, command_of, enter_log, flush_fault_note, leave_looked,
+    leave_quiet,
 };
 use hall::{Hall, Note};
-use std::sync::Wait;
 use tx_core::Entry;
 use tx_events::{By, Refusal};
 use wal_core::{LogRefusal, WalLog};
@@ -103,7 +103,7 @@ fn leave_failed<L: LogDisk, P: PageDisk>(
 ///
 /// Refused with `LogFault`, after which the log is down and the record may be on disk or not, or with `LogDown`, where
 /// the record wasn't on disk when the log went down.
-pub fn flush_log<R: Wait, L: LogDisk, P: PageDisk>(
+pub fn flush_log<R: Passing, L: LogDisk, P: PageDisk>(
     rt: &R,
     hall: &Hall<EngineLaw<L, P>>,
     caller: &mut Caller<L, P>,

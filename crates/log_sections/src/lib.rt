@@ -12,4 +12,5 @@ mod truncating;
 pub use aborting::append_abort;
 pub use appending::{Appended, append_commit};
 pub use flushing::flush_log;
+pub use refusals::refusal_of;
 pub use truncating::append_truncation;

@@ -7,7 +7,7 @@ use tx_events::Refusal;
 use wal_core::LogRefusal;
 
 /// The refusal of a call whose append or flush was refused. A log that was opened isn't damaged.
-pub(crate) fn refusal_of(refusal: LogRefusal) -> Refusal
+pub fn refusal_of(refusal: LogRefusal) -> Refusal
     requires { (place : ℕ) → refusal ≢ refused.Damaged place }
     ensures { IsRefusalOf refusal result }
 {

@@ -16,9 +16,10 @@ ghost use Rattle.log_sections.specs.LogSections.{AppendSection, IsTruncationOf, 
 use crate::appending::Appended;
 use crate::refusals::refusal_of;
 use disk_core::{LogDisk, PageDisk};
-use engine_parts::{Caller, EngineLaw, Part, command_of, enter_log, leave_log, leave_looked};
+use engine_parts::{
+    Caller, EngineLaw, Part, Passing, command_of, enter_log, leave_log, leave_looked,
+};
 use hall::{Hall, Note};
-use std::sync::Wait;
 use tx_events::{Rec, Refusal};
 use wal_core::WalLog;
 
@@ -59,7 +60,7 @@ fn leave_truncated<L: LogDisk, P: PageDisk>(
 ///
 /// Refused with `LogDown`, or where the log isn't down with `Full` or `Memory`; then, and where the log can't take the
 /// record, nothing was appended.
-pub fn append_truncation<R: Wait, L: LogDisk, P: PageDisk>(
+pub fn append_truncation<R: Passing, L: LogDisk, P: PageDisk>(
     rt: &R,
     hall: &Hall<EngineLaw<L, P>>,
     caller: &mut Caller<L, P>,

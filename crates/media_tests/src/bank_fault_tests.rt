@@ -1,34 +1,8 @@
 //! Runs over a bank's volume that passes so many calls, and then fails each.
-use crate::run_help::run_fused;
+use crate::run_help::{check_ways, run_fused};
 use disk_core::Which;
-use std::alloc::{AllocGlobal, Global};
-use std::process::Abort;
-use std::sync::Wait;
+use std::alloc::Global;
 use std::test::Fail;
-use std::thread::Threads;
-
-/// Runs the script over this bank with ever more calls. What the first runs write has the first of these texts,
-/// what the next ones write the next, and so on. The first text is that of runs in which no life is opened.
-fn check_ways(
-    rt: &(impl Abort + AllocGlobal + Threads + Wait + Sync),
-    script: &str,
-    at: Which,
-    most: u64,
-    texts: &[&str],
-) -> Result<(), Fail> {
-    let mut next = 0usize;
-    for passes in 0..most {
-        let (status, written) = run_fused(rt, script, at, passes, 1)?;
-        if !written.contains(*texts.get(next).ok_or("no text")?) {
-            next = next.saturating_add(1);
-        }
-        let text = *texts.get(next).ok_or("another text")?;
-        assert!(rt; written.contains(text), "{passes} calls: {written}");
-        assert_eq!(rt; status, if next > 0 { 0 } else { 5 }, "{passes} calls");
-    }
-    assert_eq!(rt; next.saturating_add(1), texts.len());
-    Ok(())
-}
 
 /// The record is on disk then.
 #[test]

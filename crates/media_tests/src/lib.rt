@@ -7,6 +7,8 @@ mod bank_fault_tests;
 #[cfg(test)]
 mod bank_tests;
 #[cfg(test)]
+mod checkpoint_tests;
+#[cfg(test)]
 mod crash_tests;
 #[cfg(test)]
 mod device_tests;

@@ -5,6 +5,7 @@ use disk_core::{Media, MemMedia, Which};
 use disk_fuse::Fuse;
 use session_run::run_tool;
 use std::alloc::{AllocGlobal, Global};
+use std::process::Abort;
 use std::sync::Wait;
 use std::test::Fail;
 use std::thread::Threads;
@@ -114,4 +115,27 @@ pub fn generate_fused(
     let alloc = rt.alloc();
     let mut media = Fuse::new(alloc, MemMedia::new(alloc), at, passes);
     run_words(rt, &["gen", "1", "1"], "", &mut media, 4)
+}
+
+/// Runs the script over this bank with ever more calls. What the first runs write has the first of these texts,
+/// what the next ones write the next, and so on. The first text is that of runs in which no life is opened.
+pub fn check_ways(
+    rt: &(impl Abort + AllocGlobal + Threads + Wait + Sync),
+    script: &str,
+    at: Which,
+    most: u64,
+    texts: &[&str],
+) -> Result<(), Fail> {
+    let mut next = 0usize;
+    for passes in 0..most {
+        let (status, written) = run_fused(rt, script, at, passes, 1)?;
+        if !written.contains(*texts.get(next).ok_or("no text")?) {
+            next = next.saturating_add(1);
+        }
+        let text = *texts.get(next).ok_or("another text")?;
+        assert!(rt; written.contains(text), "{passes} calls: {written}");
+        assert_eq!(rt; status, if next > 0 { 0 } else { 5 }, "{passes} calls");
+    }
+    assert_eq!(rt; next.saturating_add(1), texts.len());
+    Ok(())
 }

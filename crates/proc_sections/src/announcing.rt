@@ -7,9 +7,10 @@ ghost use Rattle.engine_parts.specs.Sessions.{IsReady};
 ghost use Rattle.proc_sections.specs.Announcements.{AnnounceSection, Announces};
 
 use disk_core::{LogDisk, PageDisk};
-use engine_parts::{Caller, EngineLaw, Part, command_of, enter_proc, leave_looked, leave_proc};
+use engine_parts::{
+    Caller, EngineLaw, Part, Passing, command_of, enter_proc, leave_looked, leave_proc,
+};
 use hall::{Hall, Note};
-use std::sync::Wait;
 use tx_core::Entry;
 use tx_events::{By, FullXid, Refusal};
 
@@ -25,7 +26,7 @@ fn oldest_note(by: By, oldest: FullXid) -> Note<Entry>
 ///
 /// Refused with `Backward` exactly where it is before the announced one, else with `TooNew` exactly where it is past the
 /// oldest xmin, or with `Memory`; then nothing was announced.
-pub fn announce_oldest<R: Wait, L: LogDisk, P: PageDisk>(
+pub fn announce_oldest<R: Passing, L: LogDisk, P: PageDisk>(
     rt: &R,
     hall: &Hall<EngineLaw<L, P>>,
     caller: &mut Caller<L, P>,

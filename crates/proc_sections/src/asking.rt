@@ -8,10 +8,11 @@ ghost use Rattle.engine_parts.specs.Sessions.{IsReady};
 ghost use Rattle.proc_sections.specs.Askings.{AskSection, AsksStatus};
 
 use disk_core::{LogDisk, PageDisk};
-use engine_parts::{Caller, EngineLaw, Part, command_of, enter_proc, leave_looked, leave_proc};
+use engine_parts::{
+    Caller, EngineLaw, Part, Passing, command_of, enter_proc, leave_looked, leave_proc,
+};
 use hall::{Hall, Note};
 use proc_table::Asked;
-use std::sync::Wait;
 use tx_core::Entry;
 use tx_events::{By, FullXid, Memory};
 
@@ -25,7 +26,7 @@ fn ask_note(by: By, x: FullXid) -> Note<Entry>
 /// Asks whether an id runs, and which id is next and which the oldest (`TransactionIdIsInProgress` of
 /// `src/backend/storage/ipc/procarray.c`): one critical section of the ProcArray. The question stands in the history.
 /// The id isn't special: none of these ever runs. After want of memory nothing was asked.
-pub fn ask_status<R: Wait, L: LogDisk, P: PageDisk>(
+pub fn ask_status<R: Passing, L: LogDisk, P: PageDisk>(
     rt: &R,
     hall: &Hall<EngineLaw<L, P>>,
     caller: &mut Caller<L, P>,

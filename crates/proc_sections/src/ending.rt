@@ -9,16 +9,15 @@ ghost use Rattle.engine_parts.specs.Sessions.{MayCall, by_at};
 ghost use Rattle.proc_sections.specs.Endings.{HasEnded, MayEnd};
 
 use disk_core::{LogDisk, PageDisk};
-use engine_parts::{Caller, EngineLaw, Stage, enter_proc, leave_proc};
+use engine_parts::{Caller, EngineLaw, Passing, Stage, enter_proc, leave_proc};
 use hall::{Hall, Note};
-use std::sync::Wait;
 use tx_events::{By, XactEnd};
 
 /// The transaction counts as ended, with all its ids (`ProcArrayEndTransaction` of
 /// `src/backend/storage/ipc/procarray.c`): one critical section of the ProcArray, which takes no memory. It has an id.
 /// Of a commit its record and the committed states of all its ids stand before; of an abort the aborted states, and no
 /// commit record.
-pub fn end_transaction<R: Wait, L: LogDisk, P: PageDisk>(
+pub fn end_transaction<R: Passing, L: LogDisk, P: PageDisk>(
     rt: &R,
     hall: &Hall<EngineLaw<L, P>>,
     caller: &mut Caller<L, P>,

@@ -19,11 +19,10 @@ ghost use Rattle.proc_sections.specs.Givings.{GiveSection, GivesId, HasRoom, IsN
 
 use disk_core::{LogDisk, PageDisk};
 use engine_parts::{
-    Caller, EngineLaw, Part, Session, Unlinked, enter_proc, leave_looked, leave_proc,
+    Caller, EngineLaw, Part, Passing, Session, Unlinked, enter_proc, leave_looked, leave_proc,
 };
 use hall::{Hall, Note};
 use proc_table::{Given, ProcTable};
-use std::sync::Wait;
 use tx_events::{By, FullXid, Refusal};
 
 /// Asks the table for the next id, below a parent where there is one.
@@ -114,7 +113,7 @@ fn name_level<L: LogDisk, P: PageDisk>(
 ///
 /// `NeedPage` where the pages of the next id aren't told yet; then nothing was given. Refused with `Stop` at the stop
 /// limit, or with `Memory`.
-pub fn give_id<R: Wait, L: LogDisk, P: PageDisk>(
+pub fn give_id<R: Passing, L: LogDisk, P: PageDisk>(
     rt: &R,
     hall: &Hall<EngineLaw<L, P>>,
     caller: &mut Caller<L, P>,

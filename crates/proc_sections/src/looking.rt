@@ -10,14 +10,13 @@ ghost use Rattle.engine_parts.specs.Steps.{WentOn};
 ghost use Rattle.proc_sections.specs.Horizons.{AreHorizonsOf, HasForms, truncation_behind};
 
 use disk_core::{LogDisk, PageDisk};
-use engine_parts::{Caller, EngineLaw, Part, enter_proc, leave_looked};
+use engine_parts::{Caller, EngineLaw, Part, Passing, enter_proc, leave_looked};
 use hall::Hall;
-use std::sync::Wait;
 use tx_events::{FullXid, Rec};
 
 /// The announced oldest id (`oldestXid` of `TransamVariables` in `src/backend/access/transam/varsup.c`): one critical
 /// section of the ProcArray.
-pub fn read_oldest<R: Wait, L: LogDisk, P: PageDisk>(
+pub fn read_oldest<R: Passing, L: LogDisk, P: PageDisk>(
     rt: &R,
     hall: &Hall<EngineLaw<L, P>>,
     caller: &mut Caller<L, P>,
@@ -55,7 +54,7 @@ pub struct Horizons {
 /// The next id, the announced oldest one and the oldest xmin (`nextXid` and `oldestXid` of `TransamVariables` in
 /// `src/backend/access/transam/varsup.c`, `TransactionXmin` of `src/backend/utils/time/snapmgr.c`): one critical section
 /// of the ProcArray.
-pub fn read_horizons<R: Wait, L: LogDisk, P: PageDisk>(
+pub fn read_horizons<R: Passing, L: LogDisk, P: PageDisk>(
     rt: &R,
     hall: &Hall<EngineLaw<L, P>>,
     caller: &mut Caller<L, P>,
@@ -85,7 +84,7 @@ pub fn read_horizons<R: Wait, L: LogDisk, P: PageDisk>(
 /// The record of a truncation to what is announced now (`WriteTruncateXlogRec` of `src/backend/access/transam/clog.c`
 /// names it): the announced oldest id, and the oldest multixact and offset with which the life began, as no multixact is
 /// announced yet. One critical section of the ProcArray.
-pub fn read_truncation<R: Wait, L: LogDisk, P: PageDisk>(
+pub fn read_truncation<R: Passing, L: LogDisk, P: PageDisk>(
     rt: &R,
     hall: &Hall<EngineLaw<L, P>>,
     caller: &mut Caller<L, P>,

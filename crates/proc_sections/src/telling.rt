@@ -11,9 +11,8 @@ ghost use Rattle.engine_parts.specs.Steps.{WentOn};
 ghost use Rattle.tx_core.specs.declared.entry.Kind.TheVariants as kinds;
 
 use disk_core::{LogDisk, PageDisk};
-use engine_parts::{Caller, EngineLaw, Part, command_of, enter_proc, leave_quiet};
+use engine_parts::{Caller, EngineLaw, Part, Passing, command_of, enter_proc, leave_quiet};
 use hall::{Hall, Note};
-use std::sync::Wait;
 use tx_core::Entry;
 use tx_events::{By, FullXid};
 
@@ -26,7 +25,7 @@ fn made_note(by: By, id: FullXid) -> Note<Entry>
 
 /// Tells the ProcArray that both pages of an id are made (`ExtendCLOG` of `clog.c` and `ExtendSUBTRANS` of `subtrans.c`
 /// are done), so that the ids on them can be given: one critical section of the ProcArray. The id isn't past the next.
-pub fn tell_made<R: Wait, L: LogDisk, P: PageDisk>(
+pub fn tell_made<R: Passing, L: LogDisk, P: PageDisk>(
     rt: &R,
     hall: &Hall<EngineLaw<L, P>>,
     caller: &mut Caller<L, P>,

@@ -12,9 +12,8 @@ ghost use Rattle.engine_parts.specs.Sessions.{MayCall, by_at, inner_id};
 ghost use Rattle.proc_sections.specs.Undos.{AreRolledBack, HasUndone, unlinked_below};
 
 use disk_core::{LogDisk, PageDisk};
-use engine_parts::{Caller, EngineLaw, Stage, Unlinked, enter_proc, leave_proc};
+use engine_parts::{Caller, EngineLaw, Passing, Stage, Unlinked, enter_proc, leave_proc};
 use hall::{Hall, Note};
-use std::sync::Wait;
 use tx_core::Entry;
 use tx_events::{By, FullXid};
 
@@ -53,7 +52,7 @@ fn still_unlinked(unlinked: Option<Unlinked>, id: FullXid) -> Option<Unlinked>
 /// The innermost savepoint, which has this id, is closed with all ids that were given in it (`XidCacheRemoveRunningXids`
 /// of `src/backend/storage/ipc/procarray.c`): one critical section of the ProcArray, which takes no memory. The undo is
 /// pending, and the aborted states of these ids stand.
-pub fn undo_savepoint<R: Wait, L: LogDisk, P: PageDisk>(
+pub fn undo_savepoint<R: Passing, L: LogDisk, P: PageDisk>(
     rt: &R,
     hall: &Hall<EngineLaw<L, P>>,
     caller: &mut Caller<L, P>,

@@ -11,7 +11,7 @@ use Rattle.tx_core.specs.declared.entry.Kind.TheVariants as kinds
 use Rattle.recoverable.specs.Laws.{LogOf, life_base}
 use Rattle.recoverable.specs.Volumes.{IsWholeAt}
 use Rattle.recoverable.specs.Whole.{NewBegins, NewLogBegins, new_log}
-use Rattle.recoverable.proofs.Settled.{checkpoint_settles}
+use Rattle.log_bases.proofs.Settling.{checkpoint_settles}
 
 module _ {A : Type 0} where
   none_in : (xs : List A) (x : A) → xs ≡ [] → Contains xs x → ⊥

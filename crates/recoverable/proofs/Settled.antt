@@ -1,5 +1,5 @@
 -- What a recovery makes of a log.
-use Rattle.std.proofs.Common.{List, [], ap, append-nil, arith, drop, length, length-append, max, refl, sym, take, ℕ, suc, zero, ⊎_elim, ◌+◌, ◌-◌, ◌<◌, ◌∙◌, ◌∷◌, ◌≡◌, ◌≤◌}
+use Rattle.std.proofs.Common.{List, [], ap, arith, drop, length, length-append, refl, sym, take, ℕ, suc, zero, ⊎_elim, ◌+◌, ◌-◌, ◌<◌, ◌∙◌, ◌∷◌, ◌≡◌, ◌≤◌}
 use Rattle.std.proofs.Math.Seq.{take-length}
 use Rattle.std.proofs.lemmas.List.{drop-take, length-drop, length-take-le, take-append-drop, take-append-le}
 use Rattle.tx_events.proofs.ListSteps.{le_or_over}
@@ -8,24 +8,7 @@ use Rattle.recoverable.specs.Fit.{KeptLog, base_at, log_end, recs_below}
 use Rattle.log_bases.specs.LifeBase.{LifeBase, base_after}
 use Rattle.recoverable.specs.Volumes.{KeepsUpTo, RecoverySettles, RefusalKeeps, checkpoint_of}
 use Rattle.log_bases.proofs.Bases.{base_then}
-
-max_same : (n : ℕ) → max n n ≡ n
-max_same n = grind arith
-
--- a checkpoint with the counters of a base leaves the base as it is
-pub checkpoint_settles : (base : LifeBase) (number : ℕ) → base_after base (checkpoint_of number base) ≡ base
-checkpoint_settles base number = λ i. record {
-  counters = record {
-    next = max_same base.counters.next i;
-    oldest = max_same base.counters.oldest i;
-    multi = max_same base.counters.multi i;
-    offset = max_same base.counters.offset i;
-    oldest_multi = max_same base.counters.oldest_multi i;
-    oldest_offset = max_same base.counters.oldest_offset i;
-  };
-  committed = append-nil base.committed i;
-  recorded = append-nil base.recorded i;
-}
+use Rattle.log_bases.proofs.Settling.{checkpoint_settles}
 
 module _ {A : Type 0} where
   take_shorter : (s t : ℕ) (xs : List A) → s ≤ t → take s (take t xs) ≡ take s xs

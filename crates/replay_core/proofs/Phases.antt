@@ -9,7 +9,7 @@ use Rattle.recoverable.specs.Fit.{KeptLog, base_at, log_end}
 use Rattle.recoverable.specs.Volumes.{checkpoint_of}
 use Rattle.recoverable.proofs.LogBases.{next_grows, oldest_grows}
 use Rattle.log_bases.proofs.Bases.{base_then}
-use Rattle.recoverable.proofs.Settled.{checkpoint_settles}
+use Rattle.log_bases.proofs.Settling.{checkpoint_settles}
 use Rattle.replay_core.specs.Laws.{CheckpointFits, CutFits, end_base, up_to, with_checkpoint}
 
 -- a later base goes on from an earlier one

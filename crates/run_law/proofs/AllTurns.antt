@@ -172,6 +172,7 @@ own_turns k (l ∷ lines) = step (l.by.session == k) refl (own_turns k lines)
 lines_own : (k n : ℕ) (all : List Asked) (ss : List Step) → AreSteps n all ss → turns_of k (map turn_of (flat_map lines_in ss)) ≡ turns_of k (turns_of_all (rounds_in all))
 lines_own k n [] [] r = refl
 lines_own k n (asked.dump what at size ∷ all) (steps.Dump of from count reply ∷ ss) r = lines_own k n all ss r.3
+lines_own k n (asked.checkpoint ∷ all) (steps.Checkpoint reply ∷ ss) r = lines_own k n all ss r
 lines_own k n (asked.round turns ∷ all) (steps.Round number lines ∷ ss) r =
     ap (turns_of k) (map-append turn_of lines (flat_map lines_in ss))
     ∙ filter-append (λ (t : ℕ × Command). t.0 == k) (map turn_of lines) (map turn_of (flat_map lines_in ss))
@@ -183,6 +184,7 @@ lines_own k n all ss r = absurd r
 lines_count : (p : ℕ × Command → Bool) (n : ℕ) (all : List Asked) (ss : List Step) → AreSteps n all ss → count_by p (map turn_of (flat_map lines_in ss)) ≡ count_by p (turns_of_all (rounds_in all))
 lines_count p n [] [] r = refl
 lines_count p n (asked.dump what at size ∷ all) (steps.Dump of from count reply ∷ ss) r = lines_count p n all ss r.3
+lines_count p n (asked.checkpoint ∷ all) (steps.Checkpoint reply ∷ ss) r = lines_count p n all ss r
 lines_count p n (asked.round turns ∷ all) (steps.Round number lines ∷ ss) r =
     let a = ap (count_by p) (map-append turn_of lines (flat_map lines_in ss)) ∙ count_join p (map turn_of lines) (map turn_of (flat_map lines_in ss)) in
     let b = ap (count_by p) r.1 ∙ grouped_count p turns in

@@ -50,17 +50,16 @@ MayShow what at size = (has_dump what ≡ true) × IsDump what at size × (1 ≤
 -- an item that the run has
 abbrev pub has_item : Item → Bool
 has_item (items.Run session command) = has_command command
-has_item items.Round = true
-has_item (items.Crash how) = true
 has_item (items.Dump what at size) = has_dump what
-has_item _ = false
+has_item _ = true
 
 -- a life with so many sessions can run the item
 abbrev pub MayRun : ℕ → Item → Type 0
 MayRun sessions (items.Run session command) = (has_command command ≡ true) × (session < sessions)
 MayRun sessions items.Round = Unit {0}
+MayRun sessions items.Checkpoint = Unit {0}
 MayRun sessions (items.Dump what at size) = MayShow what at size
-MayRun sessions _ = ⊥
+MayRun sessions (items.Crash how) = ⊥
 
 -- a run with so many sessions has the item: one of a life, or a crash between two lives
 abbrev pub MayStand : ℕ → Item → Type 0

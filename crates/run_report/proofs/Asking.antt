@@ -63,6 +63,7 @@ pub asked_fit : (names : List (List ℕ)) (turns : List (ℕ × Command)) (scrip
 asked_fit names turns [] a f = round_fits names turns a
 asked_fit names turns (items.Run s c ∷ script) a f = asked_fit names (turns ++ (s, c) ∷ []) script (all_push (TurnFits names) turns (s, c) a f.0) f.1
 asked_fit names turns (items.Dump what at size ∷ script) a f = both_all (AskedFits names) (asked_round turns) (asked.dump what at size ∷ asked_from [] script) (round_fits names turns a) (f.0, asked_fit names [] script tt f.1)
+asked_fit names turns (items.Checkpoint ∷ script) a f = both_all (AskedFits names) (asked_round turns) (asked.checkpoint ∷ asked_from [] script) (round_fits names turns a) (tt, asked_fit names [] script tt f.1)
 asked_fit names turns (x ∷ script) a f = both_all (AskedFits names) (asked_round turns) (asked_from [] script) (round_fits names turns a) (asked_fit names [] script tt f.1)
 
 one_round : (turns : List (ℕ × Command)) → flat_map sessions_of (round_of turns) ≡ sessions_of turns

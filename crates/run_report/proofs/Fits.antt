@@ -66,7 +66,7 @@ all_taken P (suc n) [] a = tt
 all_taken P (suc n) (x ∷ xs) a = (a.0, all_taken P n xs a.1)
 
 -- the oldest id that is announced at a place
-oldest_after : (base : Counters) (n : ℕ) (h : List Event) → IsBase base → AllByRecursion AnnouncesFit h → FitsId (oldest_id base.oldest (take n h))
+pub oldest_after : (base : Counters) (n : ℕ) (h : List Event) → IsBase base → AllByRecursion AnnouncesFit h → FitsId (oldest_id base.oldest (take n h))
 oldest_after base n h b p = announced_fits base.oldest (take n h) (oldest_fits base b) (all_taken AnnouncesFit n h p)
 
 -- an oldest id that a command may find
@@ -123,7 +123,7 @@ pub record CanTell (f : Facts) : Type 0 where
   pub banks : f.banks ≤ 16
   pub flushed : f.flushed < 2 ^ 64
 
-bank_fits : (banks : ℕ) (lock : Lock) → banks ≤ 16 → IsBank banks lock → FitsLock lock
+pub bank_fits : (banks : ℕ) (lock : Lock) → banks ≤ 16 → IsBank banks lock → FitsLock lock
 bank_fits banks (locks.Xact bank) b i = omega arith
 bank_fits banks (locks.Subtrans bank) b i = omega arith
 bank_fits banks (locks.Offsets bank) b i = omega arith

@@ -1,5 +1,5 @@
 -- The steps of a life: each line can be told, and the lines of all rounds follow each other.
-use Rattle.std.proofs.Common.{◌≡◌, ◌≢◌, ◌==◌, ℕ, suc, ◌+◌, ◌^◌, ◌<◌, ◌≤◌, List, [], ◌∷◌, ◌++◌, Bool, not, None, refl, sym, ap, subst, ◌∙◌, arith, length, map, take, append-nil, append_assoc, length-append}
+use Rattle.std.proofs.Common.{◌≡◌, ◌≢◌, ◌⊎◌, ◌==◌, ℕ, suc, ◌+◌, ◌^◌, ◌<◌, ◌≤◌, List, [], ◌∷◌, ◌++◌, Bool, true, false, cond, not, None, Some, refl, sym, ap, subst, ◌∙◌, inl, inr, ⊎_elim, arith, eqb-true, length, map, take, append-nil, append_assoc, length-append}
 use Rattle.std.proofs.lemmas.List.{map-append}
 use Rattle.std.proofs.lemmas.List.Sums.{count_by-le-length}
 use Rattle.std.specs.List.{AllByRecursion, filter, flat_map}
@@ -7,6 +7,7 @@ use Rattle.tx_events.specs.declared.record.Counters.{Counters}
 use Rattle.tx_events.specs.declared.record.Rec.{Rec}
 use Rattle.tx_events.specs.declared.event.Event.{Event}
 use Rattle.tx_events.specs.declared.refusal.Lock.TheVariants as locks
+use Rattle.tx_events.specs.declared.refusal.Refusal.{Refusal}
 use Rattle.tx_events.specs.declared.refusal.Refusal.TheVariants as refusals
 use Rattle.tx_model.specs.declared.command.Command.{Command}
 use Rattle.tx_model.specs.declared.reply.Reply.{Reply}
@@ -19,24 +20,26 @@ use Rattle.tx_model.specs.declared.report.Step.TheVariants as steps
 use Rattle.tx_events.specs.Events.{events_of}
 use Rattle.tx_events.specs.Places.{EachPlace, first_seen}
 use Rattle.tx_events.proofs.ListSteps.{both_all, all_filter}
-use Rattle.tx_events.proofs.Membership.{all_from, filter_agree_on, has_place}
+use Rattle.tx_events.proofs.Membership.{Has, all_at, all_from, filter_agree_on, has_place}
 use Rattle.tx_model.specs.Asked as asked
 use Rattle.tx_model.specs.Asked.{Asked, rounds_in}
 use Rattle.tx_model.specs.Rounds.{AreSteps, lines_in}
 use Rattle.tx_model.specs.Lines.{grouped, is_line_of, stance, turn_of}
 use Rattle.tx_model.specs.Replies.{RoundSpan}
+use Rattle.tx_model.specs.Stance.{nothing_yet}
 use Rattle.life_law.specs.Dumps.{AreLawfulDumps, IsLawfulBetween, MayDump, events_behind}
 use Rattle.life_law.specs.Facts.{Facts}
 use Rattle.life_law.specs.Lines.{IsLawfulLine}
-use Rattle.life_law.specs.Pending.{pending}
+use Rattle.life_law.specs.Checkpoints.{IsLawfulCheckpoint, MayCheckpoint}
+use Rattle.life_law.specs.Pending.{pending, pending_from}
 use Rattle.session_lang.proofs.SeenLemmas.{is_in, is_in_seen, seen-append}
-use Rattle.report_words.specs.Fits.{AreNames, FitsDumpReply}
+use Rattle.report_words.specs.Fits.{AreNames, FitsCheckpointRefusal, FitsCheckpointReply, FitsDumpReply, IsPending}
 use Rattle.report_lines.specs.Fits.{FitsCommand, FitsDump}
 use Rattle.report_read.specs.declared.told.Told.{Told}
-use Rattle.run_report.proofs.Fits.{CanTell, LineFits, own_named, reply_fits}
+use Rattle.run_report.proofs.Fits.{CanTell, LineFits, bank_fits, own_named, reply_fits}
 use Rattle.run_report.proofs.Sizes.{AskedFits, TurnFits, sessions_asked}
-use Rattle.run_report.proofs.Reaching.{AreCounted, Between, Rounded, Sayable, SoFar, a_dump, a_round, counted_apart, reach_on, speakers, stays}
-use Rattle.run_report.proofs.Turns.{Climbs, Cut, MaySpeak, climbs_apart, grouped_seen, grouped_speak, sessions_of}
+use Rattle.run_report.proofs.Reaching.{AreCounted, Between, Rounded, Sayable, SoFar, a_checkpoint, a_dump, a_round, counted_apart, reach_on, speakers, stays}
+use Rattle.run_report.proofs.Turns.{Climbs, Cut, MaySpeak, climbs_apart, climbs_up, climbs_within, grouped_seen, grouped_speak, sessions_of}
 
 -- ---- lines, each with those before it
 
@@ -98,6 +101,7 @@ lines_said names (l ∷ lines) a = (record { session = a.0.session; command = a.
 pub rounds_said : (names : List (List ℕ)) (n : ℕ) (all : List Asked) (ss : List Step) → AreSteps n all ss → AllByRecursion (AskedFits names) all → AllByRecursion (SaidSo names) (flat_map lines_in ss)
 rounds_said names n [] [] r a = tt
 rounds_said names n (asked.dump what at size ∷ all) (steps.Dump of from count reply ∷ ss) r a = rounds_said names n all ss r.3 a.1
+rounds_said names n (asked.checkpoint ∷ all) (steps.Checkpoint reply ∷ ss) r a = rounds_said names n all ss r a.1
 rounds_said names n (asked.round turns ∷ all) (steps.Round number lines ∷ ss) r a =
     both_all (SaidSo names) lines (flat_map lines_in ss)
     (lines_said names lines (subst (AllByRecursion (TurnFits names)) (sym r.1) (all_blocks (TurnFits names) (λ s t. t.0 == s) turns (first_seen (map (λ t. t.0) turns)) a.0.each)))
@@ -123,6 +127,7 @@ seen_join xs xs' ys ys' e f =
 pub rounds_seen : (n : ℕ) (all : List Asked) (ss : List Step) → AreSteps n all ss → first_seen (speakers (flat_map lines_in ss)) ≡ first_seen (sessions_asked all)
 rounds_seen n [] [] r = refl
 rounds_seen n (asked.dump what at size ∷ all) (steps.Dump of from count reply ∷ ss) r = rounds_seen n all ss r.3
+rounds_seen n (asked.checkpoint ∷ all) (steps.Checkpoint reply ∷ ss) r = rounds_seen n all ss r
 rounds_seen n (asked.round turns ∷ all) (steps.Round number lines ∷ ss) r =
     ap first_seen (map-append (λ (l : Line). l.by.session) lines (flat_map lines_in ss))
     ∙ seen_join (speakers lines) (sessions_of turns) (speakers (flat_map lines_in ss)) (sessions_asked all) (ap first_seen (speakers_are lines ∙ ap sessions_of r.1) ∙ grouped_seen turns) (rounds_seen (n + 1) all ss r.2)
@@ -142,9 +147,36 @@ abbrev pub DumpFits : Step → Type 0
 DumpFits (steps.Dump what at size reply) = FitsDumpReply reply
 DumpFits step = Unit {0}
 
-pub rounds_reach : (names : List (List ℕ)) (k k' : ℕ) (done : List Line) (told : List Step) (n : ℕ) (t : Told) (all : List Asked) (ss : List Step) → AreNames names → length names ≤ 64 → Between names k done told n t → AreSteps (n + 1) all ss → AllByRecursion (AskedFits names) all → AllByRecursion DumpFits ss → AllByRecursion (Sayable names) (flat_map lines_in ss) → AreCounted done (flat_map lines_in ss) → Climbs k (speakers (flat_map lines_in ss)) k' → n + length (rounds_in all) < 2 ^ 64 →
+-- and that of a checkpoint, behind lines in which the session spoke that it names
+abbrev pub CheckpointSaid : List Line → Reply → Type 0
+CheckpointSaid done replies.Done = Unit {0}
+CheckpointSaid done (replies.Pending session refusal) = Has (speakers done) session × IsPending refusal
+CheckpointSaid done (replies.Refused refusal) = FitsCheckpointRefusal refusal
+CheckpointSaid done reply = ⊥
+
+abbrev pub StepSaid : List Line → Step → Type 0
+StepSaid done (steps.Checkpoint reply) = CheckpointSaid done reply
+StepSaid done step = Unit {0}
+
+abbrev pub AllSaid : List Line → List Step → Type 0
+AllSaid done [] = Unit {0}
+AllSaid done (s ∷ ss) = StepSaid done s × AllSaid (done ++ lines_in s) ss
+
+-- a session that spoke is known
+said_fits : (known : List (List ℕ)) (k : ℕ) (done : List Line) (reply : Reply) → length known ≡ k → AllByRecursion (λ x. x < k) (speakers done) → CheckpointSaid done reply → FitsCheckpointReply known reply
+said_fits known k done replies.Done e low said = tt
+said_fits known k done (replies.Pending session refusal) e low said = (subst (λ n. session < n) (sym e) (all_at (λ x. x < k) (speakers done) session low said.0), said.1)
+said_fits known k done (replies.Refused refusal) e low said = said
+said_fits known k done reply e low said = absurd said
+
+-- those that spoke stay low
+lower : (k k' : ℕ) (xs : List ℕ) → k ≤ k' → AllByRecursion (λ x. x < k) xs → AllByRecursion (λ x. x < k') xs
+lower k k' [] up a = tt
+lower k k' (x ∷ xs) up a = (let l = a.0 in omega (arith, l, up), lower k k' xs up a.1)
+
+pub rounds_reach : (names : List (List ℕ)) (k k' : ℕ) (done : List Line) (told : List Step) (n : ℕ) (t : Told) (all : List Asked) (ss : List Step) → AreNames names → length names ≤ 64 → Between names k done told n t → AreSteps (n + 1) all ss → AllByRecursion (AskedFits names) all → AllByRecursion DumpFits ss → AllByRecursion (Sayable names) (flat_map lines_in ss) → AreCounted done (flat_map lines_in ss) → Climbs k (speakers (flat_map lines_in ss)) k' → n + length (rounds_in all) < 2 ^ 64 → AllByRecursion (λ x. x < k) (speakers done) → AllSaid done ss →
     Rounded names k' (done ++ flat_map lines_in ss) (told ++ ss) (n + length (rounds_in all)) t
-rounds_reach names k k' done told n t [] [] a few b r f d y e c small = record {
+rounds_reach names k k' done told n t [] [] a few b r f d y e c small low said = record {
   last = t;
   reach = stays t;
   between = record {
@@ -159,10 +191,10 @@ rounds_reach names k k' done told n t [] [] a few b r f d y e c small = record {
   lives = refl;
   start = refl;
 }
-rounds_reach names k k' done told n t (asked.dump what at size ∷ all) (steps.Dump of from much reply ∷ ss) a few b r f d y e c small =
+rounds_reach names k k' done told n t (asked.dump what at size ∷ all) (steps.Dump of from much reply ∷ ss) a few b r f d y e c small low said =
     let fits : FitsDump of from much = subst (λ (z : DumpOf × ℕ × ℕ). FitsDump z.0 z.1 z.2) (λ j. (sym r.0 j, sym r.1 j, sym r.2 j)) f.0 in
     let first = a_dump names k done told n t of from much reply a b fits d.0 in
-    let rest = rounds_reach names k k' done (told ++ steps.Dump of from much reply ∷ []) n first.last all ss a few first.between r.3 f.1 d.1 y e c small in
+    let rest = rounds_reach names k k' done (told ++ steps.Dump of from much reply ∷ []) n first.last all ss a few first.between r.3 f.1 d.1 y e c small low (subst (λ ls. AllSaid ls ss) (append-nil done) said.1) in
     record {
       last = rest.last;
       reach = reach_on t first.last rest.last first.reach rest.reach;
@@ -170,16 +202,28 @@ rounds_reach names k k' done told n t (asked.dump what at size ∷ all) (steps.D
       lives = rest.lives ∙ first.lives;
       start = rest.start ∙ first.start;
     }
-rounds_reach names k k' done told n t (asked.round turns ∷ all) (steps.Round number [] ∷ ss) a few b r f d y e c small = absurd (no_line turns f.0.some r.1)
-rounds_reach names k k' done told n t (asked.round turns ∷ all) (steps.Round number (l ∷ ls) ∷ ss) a few b r f d y e c small =
+rounds_reach names k k' done told n t (asked.checkpoint ∷ all) (steps.Checkpoint reply ∷ ss) a few b r f d y e c small low said =
+    let first = a_checkpoint names k done told n t reply a few b (said_fits b.known k done reply b.count low said.0) in
+    let rest = rounds_reach names k k' done (told ++ steps.Checkpoint reply ∷ []) n first.last all ss a few first.between r f.1 d.1 y e c small low (subst (λ ls. AllSaid ls ss) (append-nil done) said.1) in
+    record {
+      last = rest.last;
+      reach = reach_on t first.last rest.last first.reach rest.reach;
+      between = subst (λ s. Between names k' (done ++ flat_map lines_in ss) s (n + length (rounds_in all)) rest.last) (append_assoc told (steps.Checkpoint reply ∷ []) ss) rest.between;
+      lives = rest.lives ∙ first.lives;
+      start = rest.start ∙ first.start;
+    }
+rounds_reach names k k' done told n t (asked.round turns ∷ all) (steps.Round number [] ∷ ss) a few b r f d y e c small low said = absurd (no_line turns f.0.some r.1)
+rounds_reach names k k' done told n t (asked.round turns ∷ all) (steps.Round number (l ∷ ls) ∷ ss) a few b r f d y e c small low said =
     let lines : List Line = l ∷ ls in
     let more : List Line = flat_map lines_in ss in
     let cut : Cut k (speakers lines) (speakers more) k' = climbs_apart k k' (speakers lines) (speakers more) (subst (λ xs. Climbs k xs k') (map-append (λ (l : Line). l.by.session) lines more) c) in
     let counted = counted_apart done lines more e in
     let says = all_apart (Sayable names) lines more y in
     let speak : MaySpeak None [] (speakers lines) = subst (MaySpeak None []) (sym (speakers_are lines ∙ ap sessions_of r.1)) (grouped_speak turns) in
+    let spoke : AllByRecursion (λ x. x < cut.middle) (speakers (done ++ lines)) = subst (AllByRecursion (λ x. x < cut.middle)) (sym (map-append (λ (l : Line). l.by.session) done lines))
+    (both_all (λ x. x < cut.middle) (speakers done) (speakers lines) (lower k cut.middle (speakers done) (climbs_up k cut.middle (speakers lines) cut.front) low) (climbs_within k cut.middle (speakers lines) cut.front)) in
     let first = a_round names k cut.middle done told n t l ls a few b (omega arith) says.0 counted.0 speak cut.front in
-    let rest = rounds_reach names cut.middle k' (done ++ lines) (told ++ steps.Round (n + 1) lines ∷ []) (n + 1) first.last all ss a few first.between r.2 f.1 d.1 says.1 counted.1 cut.behind (omega arith) in
+    let rest = rounds_reach names cut.middle k' (done ++ lines) (told ++ steps.Round (n + 1) lines ∷ []) (n + 1) first.last all ss a few first.between r.2 f.1 d.1 says.1 counted.1 cut.behind (omega arith) spoke said.1 in
     let same : (told ++ steps.Round (n + 1) lines ∷ []) ++ ss ≡ told ++ steps.Round number lines ∷ ss = append_assoc told (steps.Round (n + 1) lines ∷ []) ss ∙ ap (λ i. told ++ steps.Round i lines ∷ ss) (sym r.0) in
     let count : n + 1 + length (rounds_in all) ≡ n + length (turns ∷ rounds_in all) = omega arith in
     record {
@@ -195,7 +239,7 @@ rounds_reach names k k' done told n t (asked.round turns ∷ all) (steps.Round n
     all_apart : {X : Type 0} (P : X → Type 0) (xs ys : List X) → AllByRecursion P (xs ++ ys) → AllByRecursion P xs × AllByRecursion P ys
     all_apart P [] ys q = (tt, q)
     all_apart P (x ∷ xs) ys q = let r = all_apart P xs ys q.1 in ((q.0, r.0), r.1)
-rounds_reach names k k' done told n t all ss a few b r f d y e c small = absurd r
+rounds_reach names k k' done told n t all ss a few b r f d y e c small low said = absurd r
 
 -- a lawful dump's reply can be told
 dump_reply_fits : (banks : ℕ) (base : Counters) (recs : List Rec) (h : List Event) (what : DumpOf) (size : ℕ) (reply : Reply) → banks ≤ 16 → MayDump banks base recs h what size reply → FitsDumpReply reply
@@ -216,6 +260,48 @@ step_dump_fits f before (steps.Dump what at size reply) few m = dump_reply_fits 
 
 pub dumps_fit : (f : Facts) (ss : List Step) → f.banks ≤ 16 → AreLawfulDumps f ss → AllByRecursion DumpFits ss
 dumps_fit f ss few d = all_from DumpFits ss (λ step k. let p = has_place ss step k in step_dump_fits f (flat_map lines_in (take p.0 ss)) step few (d p.0 step p.1))
+
+-- ---- checkpoints that can be told
+
+spoke_or_not : (session : ℕ) (lines : List Line) → (filter (is_line_of session) lines ≡ []) ⊎ Has (speakers lines) session
+spoke_or_not session [] = inl refl
+spoke_or_not session (l ∷ lines) = step (l.by.session == session) refl (spoke_or_not session lines)
+  where
+    step : (b : Bool) → (l.by.session == session) ≡ b → (filter (is_line_of session) lines ≡ []) ⊎ Has (speakers lines) session → (cond b (l ∷ filter (is_line_of session) lines) (filter (is_line_of session) lines) ≡ []) ⊎ Has (speakers (l ∷ lines)) session
+    step true q rest = inr (inl (eqb-true l.by.session session q))
+    step false q rest = ⊎_elim (λ (e : filter (is_line_of session) lines ≡ []). inl e) (λ (h : Has (speakers lines) session). inr (inr h)) rest
+
+no_refusal : (r : Refusal) → None ≡ Some r → ⊥
+no_refusal r e = cc
+
+-- a session of which an end is pending has spoken
+pending_spoke : (recs : List Rec) (h : List Event) (lines : List Line) (session : ℕ) (refusal : Refusal) → pending recs h lines session ≡ Some refusal → Has (speakers lines) session
+pending_spoke recs h lines session refusal p = ⊎_elim
+    (λ (e : filter (is_line_of session) lines ≡ []). absurd (no_refusal refusal (sym (ap (pending_from recs h nothing_yet None) e) ∙ p)))
+    (λ (k : Has (speakers lines) session). k)
+    (spoke_or_not session lines)
+
+checkpoint_said : (f : Facts) (before : List Line) (reply : Reply) → CanTell f → MayCheckpoint f before reply → CheckpointSaid before reply
+checkpoint_said f before replies.Done t m = tt
+checkpoint_said f before (replies.Pending session refusals.CommitPending) t m = (pending_spoke f.recs f.events before session refusals.CommitPending m.0, tt)
+checkpoint_said f before (replies.Refused (refusals.DiskFault lock)) t m = bank_fits f.banks lock t.banks m.1
+checkpoint_said f before (replies.Refused refusals.LogFault) t m = tt
+checkpoint_said f before (replies.Refused (refusals.LogDown at)) t m = subst (λ n. n < 2 ^ 64) (sym m.1) t.flushed
+checkpoint_said f before (replies.Refused refusals.Full) t m = tt
+checkpoint_said f before (replies.Refused refusals.Memory) t m = tt
+checkpoint_said f before reply t m = absurd m
+
+step_said : (f : Facts) (before : List Line) (step : Step) → CanTell f → IsLawfulCheckpoint f before step → StepSaid before step
+step_said f before (steps.Round number lines) t m = tt
+step_said f before (steps.Dump what at size reply) t m = tt
+step_said f before (steps.Checkpoint reply) t m = checkpoint_said f before reply t m
+
+pub checkpoints_said : (f : Facts) (done : List Line) (ss : List Step) → CanTell f → EachPlace ss (λ before step. IsLawfulCheckpoint f (done ++ flat_map lines_in before) step) → AllSaid done ss
+checkpoints_said f done [] t each = tt
+checkpoints_said f done (s ∷ ss) t each = (
+  step_said f done s t (subst (λ d. IsLawfulCheckpoint f d s) (append-nil done) (each 0 s refl)),
+  checkpoints_said f (done ++ lines_in s) ss t (λ p x at. subst (λ d. IsLawfulCheckpoint f d x) (sym (append_assoc done (lines_in s) (flat_map lines_in (take p ss)))) (each (suc p) x at)),
+)
 
 -- ---- lines that can be told
 

@@ -28,9 +28,9 @@ use Rattle.report_read.specs.declared.told.Stage.TheVariants as stages
 use Rattle.report_read.specs.declared.told.Told.{Told}
 use Rattle.run_report.proofs.Fits.{CanTell, EventFits, all_event_fit, announces_fit, events_fit}
 use Rattle.run_report.proofs.Ids.{AnnouncesFit, all_ids_fit}
-use Rattle.run_report.proofs.LifeSteps.{EachOn, LineIs, SaidSo, counted_from, dumps_fit, each_steps, lines_fit, lines_sayable, rounds_reach, rounds_said}
-use Rattle.run_report.proofs.Reaching.{AreNumbered, Between, Reaches, all_numbered, events_reach, follows_on, front_names, reach_on, records_reach, speakers, stays}
-use Rattle.run_report.proofs.Records.{log_fits, rest_fits}
+use Rattle.run_report.proofs.LifeSteps.{EachOn, LineIs, SaidSo, checkpoints_said, counted_from, dumps_fit, each_steps, lines_fit, lines_sayable, rounds_reach, rounds_said}
+use Rattle.run_report.proofs.Reaching.{Between, Reaches, events_reach, follows_on, front_names, reach_on, records_reach, speakers, stays}
+use Rattle.run_report.proofs.Records.{AreNumbered, log_fits, rest_fits}
 use Rattle.run_report.proofs.Sizes.{AskedFits, lines_short, rounds_short, sessions_asked}
 use Rattle.run_report.proofs.Turns.{Climbs, climbs_up}
 
@@ -136,7 +136,7 @@ ends_life tells banks names k all r t lawful can are few named ended =
     let fits = events_fit t4.names h named (all_ids_fit r.life.base h can.base_is legal) in
     let announced = all_weaker (EventFits t.names) AnnouncesFit (λ e q. announces_fit e q.named) h named in
     let short = log_fits n r.life.base h r.life.recs r.life.flushed r.life.end log in
-    let numbered : AreNumbered n r.life.recs = subst (AreNumbered n) (sym log.split) ((refl, can.counters), all_numbered (suc n) log.rest (rest_fits n r.life.base h r.life.recs r.life.flushed r.life.end can.base_is can.counters legal announced log)) in
+    let numbered : AreNumbered n r.life.recs = subst (AreNumbered n) (sym log.split) ((refl, can.counters), rest_fits n r.life.base h r.life.recs r.life.flushed r.life.end can.base_is can.counters legal announced log) in
     let from : n ≡ t7.start.from + length t7.recs = let z : t.start.from ≡ n = ap (λ (s : Start). s.from) ended.start in omega arith in
     let history : Follows t items.history t4 = record { stands = ended.begins; rule = refl; told = refl } in
     let multis : Follows t5 items.multis t6 = record { stands = refl; rule = refl; told = refl } in
@@ -206,7 +206,7 @@ pub life_leads : (tells : Bool) (banks : ℕ) (names : List (List ℕ)) (k k' : 
 life_leads tells banks names k k' all r t lives few_banks lawful can_begin small fits climb standing count =
     let h = r.life.events in
     let lines : List Line = flat_map lines_in r.steps in
-    let f : Facts = facts_of tells banks r.life lines in
+    let f : Facts = facts_of tells banks r.life r.steps in
     let start : Start = record { from = r.life.from; base = r.life.base } in
     let each : EachOn (LineIs f) [] lines = each_steps (LineIs f) [] r.steps (λ p step at q l there. record { round = span_of h (flat_map lines_in (take p r.steps)) (lines_in step); lawful = lawful.lawful.each p step at q l there }) in
     let said = rounds_said names 1 all r.steps lawful.told fits in
@@ -218,7 +218,7 @@ life_leads tells banks names k k' all r t lives few_banks lawful can_begin small
     let can : CanTell f = record { base = can_begin.base_is; history = lawful.history; announced = announced; banks = few_banks; flushed = log.flushed_to } in
     let sayable = lines_sayable names f lines can (omega arith) each said in
     let first : length t.lives + 1 < 2 ^ 64 = subst (λ (ls : List LifeReport). length ls + 1 < 2 ^ 64) (sym standing.lives_are) count in
-    let w = rounds_reach names k k' [] [] 0 (begin t start) all r.steps small.names_are small.few (begins_between names k stages.Between lives t start standing) lawful.told fits (dumps_fit f r.steps few_banks lawful.dumps) sayable (counted_from f [] lines each) climb (let s = rounds_short names all fits in let m = small.turns in omega arith) in
+    let w = rounds_reach names k k' [] [] 0 (begin t start) all r.steps small.names_are small.few (begins_between names k stages.Between lives t start standing) lawful.told fits (dumps_fit f r.steps few_banks lawful.dumps) sayable (counted_from f [] lines each) climb (let s = rounds_short names all fits in let m = small.turns in omega arith) tt (checkpoints_said f [] r.steps can lawful.checkpoints.each) in
     let known = w.between.known in
     let same : w.last.names ≡ known = w.between.so_far.told in
     let are : AreNames known = front_names known w.between.rest (subst AreNames w.between.so_far.split small.names_are) in

@@ -22,20 +22,21 @@ use Rattle.tx_model.specs.Lines.{is_line_of}
 use Rattle.tx_model.proofs.LineGrowth.{lines_counted}
 use Rattle.tx_events.specs.Names.{IsName}
 use Rattle.report_text.specs.Words.{name_at}
-use Rattle.report_words.specs.Fits.{AreNames, FitsDumpReply, FitsReply}
+use Rattle.tx_model.specs.declared.reply.Reply.TheVariants as replies
+use Rattle.report_words.specs.Fits.{AreNames, FitsCheckpointReply, FitsDumpReply, FitsReply}
 use Rattle.report_words.specs.Reading.{name_place}
 use Rattle.report_words.specs.Replies.{kind_of}
 use Rattle.report_words.proofs.Places.{place_again}
 use Rattle.report_lines.specs.Fits.{FitsCommand, FitsDump, FitsEvent, FitsLine, FitsRecord}
 use Rattle.report_read.specs.Item.{Item}
 use Rattle.report_read.specs.Item as items
-use Rattle.report_read.specs.Grammar.{Follows, IsNamed, after, begins_step, is_round, may_speak, note, noted, steps_told}
+use Rattle.report_read.specs.Grammar.{AreNamed, Follows, IsNamed, after, begins_step, is_round, may_speak, note, noted, session_of, steps_told}
 use Rattle.report_read.specs.Reports.{IsRun}
 use Rattle.report_read.specs.declared.told.Stage.TheVariants as stages
 use Rattle.report_read.specs.declared.told.Told.{Told}
 use Rattle.run_report.proofs.Fits.{fits_by}
 use Rattle.run_report.proofs.Ids.{front_all}
-use Rattle.run_report.proofs.Records.{RecFits}
+use Rattle.run_report.proofs.Records.{AreNumbered}
 use Rattle.run_report.proofs.Turns.{Climbs, MaySpeak}
 
 -- lines lead from what is told to what is told then
@@ -333,6 +334,39 @@ a_dump names k done told n t what at size reply a b fits answer =
       start = refl;
     }
 
+-- whom a checkpoint's reply names is known
+reply_named : (known : List (List ℕ)) (reply : Reply) → AreNames known → length known ≤ 64 → FitsCheckpointReply known reply → AreNamed known (session_of (steps.Checkpoint reply)) known
+reply_named known (replies.Pending session refusal) are few f = known_named known session are few f.0
+reply_named known replies.Done are few f = refl
+reply_named known (replies.Refused refusal) are few f = refl
+reply_named known reply are few f = absurd f
+
+-- a checkpoint more
+pub a_checkpoint : (names : List (List ℕ)) (k : ℕ) (done : List Line) (told : List Step) (n : ℕ) (t : Told) (reply : Reply) → AreNames names → length names ≤ 64 → (b : Between names k done told n t) → FitsCheckpointReply b.known reply →
+    Rounded names k done (told ++ steps.Checkpoint reply ∷ []) n t
+a_checkpoint names k done told n t reply a few b answer =
+    let step : Step = steps.Checkpoint reply in
+    let mid : Told = after t (items.step step) in
+    let are : AreNames b.known = front_names b.known b.rest (subst AreNames b.so_far.split a) in
+    let short : length b.known ≤ 64 = let l = ap length b.so_far.split in omega (arith, l, few, length-append b.known b.rest) in
+    let named : AreNamed t.names (session_of step) t.names = subst (λ ns. AreNamed ns (session_of step) ns) (sym b.so_far.told) (reply_named b.known reply are short answer) in
+    let first : Follows t (items.step step) mid = record { stands = b.begins; rule = (named, subst AreNames (sym b.so_far.told) are, subst (λ ns. FitsCheckpointReply ns reply) (sym b.so_far.told) answer); told = refl } in
+    record {
+      last = mid;
+      reach = follows_on t mid mid (items.step step) first (stays mid);
+      between = record {
+        known = b.known;
+        rest = b.rest;
+        count = b.count;
+        so_far = record { split = b.so_far.split; told = b.so_far.told; lengths = b.so_far.lengths; counts = b.so_far.counts };
+        begins = refl;
+        steps = ap (λ ss. ss ++ step ∷ []) b.steps;
+        round = b.round;
+      };
+      lives = refl;
+      start = refl;
+    }
+
 -- ---- behind the steps
 
 pub events_reach : (t : Told) (es : List Event) → t.stage ≡ stages.History → AreNames t.names → length t.names ≤ 64 → AllByRecursion (FitsEvent t.names) es → Reaches t (record t { events = t.events ++ es })
@@ -343,15 +377,6 @@ events_reach t (e ∷ es) st a few f =
     let first : Follows t (items.event e) mid = record { stands = rw st refl; rule = (known_named t.names (by_of e).session a few fb.session, f.0); told = refl } in
     subst (λ l. Reaches t (record t { events = l })) (append_assoc t.events (e ∷ []) es)
     (follows_on t mid (record mid { events = mid.events ++ es }) (items.event e) first (events_reach mid es st a few f.1))
-
--- each record fits its number
-abbrev pub AreNumbered : ℕ → List Rec → Type 0
-AreNumbered n [] = Unit {0}
-AreNumbered n (r ∷ rs) = FitsRecord n r × AreNumbered (suc n) rs
-
-pub all_numbered : (n : ℕ) (rs : List Rec) → AllByRecursion RecFits rs → AreNumbered n rs
-all_numbered n [] a = tt
-all_numbered n (r ∷ rs) a = (a.0 n, all_numbered (suc n) rs a.1)
 
 pub records_reach : (t : Told) (rs : List Rec) (n : ℕ) → t.stage ≡ stages.Log → n ≡ t.start.from + length t.recs → n + length rs < 2 ^ 64 → AreNumbered n rs → Reaches t (record t { recs = t.recs ++ rs })
 records_reach t [] n st e l f = subst (λ rs. Reaches t (record t { recs = rs })) (sym (append-nil t.recs)) (stays t)

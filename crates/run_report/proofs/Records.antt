@@ -1,5 +1,5 @@
 -- A life's log fits a report: each record names ids that were given or announced.
-use Rattle.std.proofs.Common.{◌≡◌, Contains, ℕ, ◌+◌, ◌^◌, ◌<◌, List, ◌∷◌, Some, sym, subst, ⊎_elim, arith, length, take, slice_get}
+use Rattle.std.proofs.Common.{◌≡◌, Contains, ℕ, suc, ◌+◌, ◌^◌, ◌<◌, List, [], ◌∷◌, Some, refl, sym, ap, subst, ◌∙◌, ⊎_elim, arith, length, take, slice_get}
 use Rattle.std.specs.List.{AllByRecursion}
 use Rattle.tx_events.specs.declared.event.By.{By}
 use Rattle.tx_events.specs.declared.event.Event.{Event}
@@ -13,11 +13,12 @@ use Rattle.tx_events.specs.History.{IsLegal}
 use Rattle.tx_events.specs.Running.{open_ids}
 use Rattle.tx_events.specs.XactEnds.{end_event}
 use Rattle.tx_events.proofs.GivenIds.{legal_take}
-use Rattle.tx_events.proofs.Membership.{all_at, all_from, contains_has, has_contains}
-use Rattle.life_law.specs.LifeLog.{IsAnnounced, IsLogOf, IsRecordOf, IsTransaction}
+use Rattle.tx_events.proofs.Membership.{all_at, contains_has, has_contains, place_has}
+use Rattle.life_law.specs.LifeLog.{IsAnnounced, IsLogOf, IsRecordOf, IsTransaction, counters_behind}
 use Rattle.report_words.specs.Fits.{FitsCounters, FitsId, FitsMulti}
 use Rattle.report_lines.specs.Fits.{FitsRecord}
-use Rattle.run_report.proofs.Ids.{AnnouncesFit, oldest_fits, open_fits}
+use Rattle.run_report.proofs.Fits.{oldest_after}
+use Rattle.run_report.proofs.Ids.{AnnouncesFit, next_fits, oldest_fits, open_fits}
 
 -- ---- the ids of a record
 
@@ -28,9 +29,6 @@ transaction_all P base h how top subs legal all t = ⊎_elim
     (λ (e : (p : ℕ) × (by : By) × (by.session ≡ t.session) × (slice_get h p ≡ Some (end_event how by top)) × (open_ids t.session (take p h) ≡ top ∷ subs)). subst (AllByRecursion P) e.4 (all (take e.0 h) t.session (legal_take base h e.0 legal)))
     t.ids
 
-abbrev pub RecFits : Rec → Type 0
-RecFits r = (n : ℕ) → FitsRecord n r
-
 -- an oldest id that was announced
 announced_id : (base : Counters) (h : List Event) (oldest : ℕ) → IsBase base → AllByRecursion AnnouncesFit h → IsAnnounced base h oldest → FitsId oldest
 announced_id base h oldest b p a = ⊎_elim
@@ -38,12 +36,29 @@ announced_id base h oldest b p a = ⊎_elim
     (λ (e : (by : By) × Contains h (events.Oldest by oldest)). all_at AnnouncesFit h (events.Oldest e.0 oldest) p (contains_has h (events.Oldest e.0 oldest) e.1))
     a
 
-record_fits : (base : Counters) (h : List Event) (r : Rec) → IsBase base → FitsCounters base → IsLegal base h → AllByRecursion AnnouncesFit h → IsRecordOf base h r → RecFits r
-record_fits base h (records.Commit top subs) b c l p t = λ n. transaction_all FitsId base h _ top subs l (λ g session k. open_fits base g session b k) t
-record_fits base h (records.Abort top subs) b c l p t = λ n. transaction_all FitsId base h _ top subs l (λ g session k. open_fits base g session b k) t
-record_fits base h (records.Truncate oldest multi offset) b c l p t = λ n.
+-- the counters behind some of the events
+behind_fits : (base : Counters) (h : List Event) (place : ℕ) → IsBase base → FitsCounters base → IsLegal base h → AllByRecursion AnnouncesFit h → FitsCounters (counters_behind base (take place h))
+behind_fits base h place b c l p = record {
+  next = next_fits base (take place h) b (legal_take base h place l);
+  oldest = oldest_after base place h b p;
+  multi = c.multi;
+  offset = c.offset;
+  oldest_multi = c.oldest_multi;
+  oldest_offset = c.oldest_offset;
+}
+
+-- a checkpoint has its own number
+abbrev OwnNumber : ℕ → Rec → Type 0
+OwnNumber n (records.Checkpoint number counters) = number ≡ n
+OwnNumber n rec = Unit {0}
+
+record_fits : (base : Counters) (h : List Event) (n : ℕ) (r : Rec) → IsBase base → FitsCounters base → IsLegal base h → AllByRecursion AnnouncesFit h → IsRecordOf base h r → OwnNumber n r → FitsRecord n r
+record_fits base h n (records.Commit top subs) b c l p t own = transaction_all FitsId base h _ top subs l (λ g session k. open_fits base g session b k) t
+record_fits base h n (records.Abort top subs) b c l p t own = transaction_all FitsId base h _ top subs l (λ g session k. open_fits base g session b k) t
+record_fits base h n (records.Truncate oldest multi offset) b c l p t own =
     (announced_id base h oldest b p t.0, subst FitsMulti (sym t.1) c.oldest_multi, subst (λ z. z < 2 ^ 64) (sym t.2) c.oldest_offset)
-record_fits base h r b c l p t = absurd t
+record_fits base h n (records.Checkpoint number counters) b c l p t own = (own, subst FitsCounters (sym t.2) (behind_fits base h t.0 b c l p))
+record_fits base h n (records.Multi multi offset members) b c l p t own = absurd t
 
 -- what a report says of the log of a life that begins with this record
 pub record LogFits (from : ℕ) (recs : List Rec) (flushed end : ℕ) : Type 0 where
@@ -58,5 +73,28 @@ log_fits from base h recs flushed end log =
     let gate = log.gate in
     record { few = omega arith; flushed_to = omega arith; gate = omega arith }
 
-pub rest_fits : (from : ℕ) (base : Counters) (h : List Event) (recs : List Rec) (flushed end : ℕ) → IsBase base → FitsCounters base → IsLegal base h → AllByRecursion AnnouncesFit h → (log : IsLogOf from base h recs flushed end) → AllByRecursion RecFits log.rest
-rest_fits from base h recs flushed end b c l p log = all_from RecFits log.rest (λ r k. record_fits base h r b c l p (log.each r (has_contains log.rest r k)))
+-- each record fits its number
+abbrev pub AreNumbered : ℕ → List Rec → Type 0
+AreNumbered n [] = Unit {0}
+AreNumbered n (r ∷ rs) = FitsRecord n r × AreNumbered (suc n) rs
+
+-- each at its place
+all_numbered : (n : ℕ) (rs : List Rec) → ((i : ℕ) (r : Rec) → slice_get rs i ≡ Some r → FitsRecord (n + i) r) → AreNumbered n rs
+all_numbered n [] at = tt
+all_numbered n (r ∷ rs) at = (
+  subst (λ k. FitsRecord k r) (omega arith) (at 0 r refl),
+  all_numbered (suc n) rs (λ i q k. let e : n + suc i ≡ suc n + i = omega arith in subst (λ m. FitsRecord m q) e (at (suc i) q k)),
+)
+
+pub rest_fits : (from : ℕ) (base : Counters) (h : List Event) (recs : List Rec) (flushed end : ℕ) → IsBase base → FitsCounters base → IsLegal base h → AllByRecursion AnnouncesFit h → (log : IsLogOf from base h recs flushed end) → AreNumbered (suc from) log.rest
+rest_fits from base h recs flushed end b c l p log = all_numbered (suc from) log.rest each
+  where
+    own : (i : ℕ) (r : Rec) → slice_get recs (suc i) ≡ Some r → OwnNumber (suc from + i) r
+    own i (records.Checkpoint number counters) k = let e = log.numbered (suc i) number counters k in omega (arith, e)
+    own i (records.Commit top subs) k = tt
+    own i (records.Abort top subs) k = tt
+    own i (records.Truncate oldest multi offset) k = tt
+    own i (records.Multi multi offset members) k = tt
+
+    each : (i : ℕ) (r : Rec) → slice_get log.rest i ≡ Some r → FitsRecord (suc from + i) r
+    each i r k = record_fits base h (suc from + i) r b c l p (log.each r (has_contains log.rest r (place_has log.rest i r k))) (own i r (ap (λ (rs : List Rec). slice_get rs (suc i)) log.split ∙ k))

@@ -25,6 +25,7 @@ pub record RoundFits (names : List (List ℕ)) (turns : List (ℕ × Command)) :
 abbrev pub AskedFits : List (List ℕ) → Asked → Type 0
 AskedFits names (asked.round turns) = RoundFits names turns
 AskedFits names (asked.dump what at size) = FitsDump what at size
+AskedFits names asked.checkpoint = Unit {0}
 
 -- the sessions of the commands
 abbrev pub sessions_asked : List Asked → List ℕ
@@ -34,6 +35,7 @@ sessions_asked all = flat_map sessions_of (rounds_in all)
 pub lines_short : (n : ℕ) (all : List Asked) (ss : List Step) → AreSteps n all ss → length (flat_map lines_in ss) ≤ length (sessions_asked all)
 lines_short n [] [] r = omega arith
 lines_short n (asked.dump what at size ∷ all) (steps.Dump of from count reply ∷ ss) r = lines_short n all ss r.3
+lines_short n (asked.checkpoint ∷ all) (steps.Checkpoint reply ∷ ss) r = lines_short n all ss r
 lines_short n (asked.round turns ∷ all) (steps.Round number lines ∷ ss) r =
     let rest = lines_short (n + 1) all ss r.2 in
     let told = length-append lines (flat_map lines_in ss) in
@@ -53,6 +55,7 @@ some_turn (t ∷ turns) n = omega arith
 pub rounds_short : (names : List (List ℕ)) (all : List Asked) → AllByRecursion (AskedFits names) all → length (rounds_in all) ≤ length (sessions_asked all)
 rounds_short names [] a = omega arith
 rounds_short names (asked.dump what at size ∷ all) a = rounds_short names all a.1
+rounds_short names (asked.checkpoint ∷ all) a = rounds_short names all a.1
 rounds_short names (asked.round turns ∷ all) a =
     let rest = rounds_short names all a.1 in
     let commands = length-append (sessions_of turns) (sessions_asked all) in

@@ -61,6 +61,14 @@ climbs_up k k' (x ∷ xs) c = ⊎_elim
     (λ (a : (x ≡ k) × Climbs (suc k) xs k'). let l = climbs_up (suc k) k' xs a.1 in omega arith)
     c
 
+-- each that appears is below the number behind them
+pub climbs_within : (k k' : ℕ) (xs : List ℕ) → Climbs k xs k' → AllByRecursion (λ x. x < k') xs
+climbs_within k k' [] c = tt
+climbs_within k k' (x ∷ xs) c = ⊎_elim
+    (λ (a : (x < k) × Climbs k xs k'). let up = climbs_up k k' xs a.1 in let low = a.0 in (omega (arith, up, low), climbs_within k k' xs a.1))
+    (λ (a : (x ≡ k) × Climbs (suc k) xs k'). let up = climbs_up (suc k) k' xs a.1 in let same = a.0 in (omega (arith, up, same), climbs_within (suc k) k' xs a.1))
+    c
+
 -- ---- a round's commands, session by session
 
 abbrev pub sessions_of : List (ℕ × Command) → List ℕ

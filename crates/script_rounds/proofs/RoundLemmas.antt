@@ -116,7 +116,7 @@ get_past (y ∷ xs) d = get_past xs d
 -- what is asked up to the directive that ends a round, by it, and behind it
 asked_then : (turns : List (ℕ × Command)) (round rest : List Item) (d : Item) → AllByRecursion (λ item. is_command item ≡ true) round → is_command d ≡ false → asked_from turns (round ++ d ∷ rest) ≡ asked_round (turns ++ turns_in round) ++ (asked_in d ++ asked_of rest)
 asked_then turns [] rest items.Round a e = ap (λ ts. asked_round ts ++ asked_of rest) (sym (append-nil turns))
-asked_then turns [] rest items.Checkpoint a e = ap (λ ts. asked_round ts ++ asked_of rest) (sym (append-nil turns))
+asked_then turns [] rest items.Checkpoint a e = ap (λ ts. asked_round ts ++ asked.checkpoint ∷ asked_of rest) (sym (append-nil turns))
 asked_then turns [] rest (items.Crash how) a e = ap (λ ts. asked_round ts ++ asked_of rest) (sym (append-nil turns))
 asked_then turns [] rest (items.Dump what at size) a e = ap (λ ts. asked_round ts ++ asked.dump what at size ∷ asked_of rest) (sym (append-nil turns))
 asked_then turns [] rest (items.Run s c) a e = absurd (false≢true (sym e))

@@ -1,7 +1,7 @@
 //! What is kept of the lines of a run.
 ghost use Rattle.std.specs.Prelude.{◌≡◌, ℕ, List, [], ◌∷◌, ◌++◌, OnOk};
 ghost use Rattle.tx_model.specs.declared.report.Line.{Line};
-ghost use Rattle.tx_model.specs.declared.report.Step.{Step as Dumped};
+ghost use Rattle.tx_model.specs.declared.report.Step.{Step as Told};
 
 use report_text::{Text, put_command_line, put_round_line, put_step};
 use std::alloc::Global;
@@ -19,8 +19,8 @@ pub trait LineKeeper {
     /// What is kept where the round of this number has begun.
     ghost with_round: { Self → ℕ → Self };
 
-    /// What is kept where this dump was told, a step between two rounds.
-    ghost with_dump: { List (List ℕ) → Self → Dumped → Self };
+    /// What is kept where this step was told, which stands between two rounds: a checkpoint or a dump.
+    ghost with_step: { List (List ℕ) → Self → Told → Self };
 
     /// What two keep together, the one behind the other.
     ghost joined: { Self → Self → Self };
@@ -47,9 +47,9 @@ pub trait LineKeeper {
     ) -> Result<(), Memory>
         ensures { OnOk result (self.new ≡ with_lines names.now self.old (record { by = by; command = command.now; reply = reply.now } ∷ [])) };
 
-    /// Keeps a dump, which is a step between two rounds.
-    fn add_dump(&mut self, names: &NameList, dump: &Step) -> Result<(), Memory>
-        ensures { OnOk result (self.new ≡ with_dump names.now self.old dump.now) };
+    /// Keeps a step that stands between two rounds: a checkpoint or a dump.
+    fn add_step(&mut self, names: &NameList, step: &Step) -> Result<(), Memory>
+        ensures { OnOk result (self.new ≡ with_step names.now self.old step.now) };
 
     /// Keeps what the other keeps, too.
     fn join(&mut self, other: &Self) -> Result<(), Memory>
@@ -78,7 +78,7 @@ impl LineKeeper for Text {
 
     ghost with_round = { λ kept number. kept ++ round_line number };
 
-    ghost with_dump = { λ names kept dump. kept ++ step_text names dump };
+    ghost with_step = { λ names kept step. kept ++ step_text names step };
 
     ghost joined = { λ kept more. kept ++ more };
 
@@ -110,8 +110,8 @@ impl LineKeeper for Text {
         put_command_line(self, names, by, command, reply)
     }
 
-    fn add_dump(&mut self, names: &NameList, dump: &Step) -> Result<(), Memory> {
-        put_step(self, names, dump)
+    fn add_step(&mut self, names: &NameList, step: &Step) -> Result<(), Memory> {
+        put_step(self, names, step)
     }
 
     fn join(&mut self, other: &Text) -> Result<(), Memory> {

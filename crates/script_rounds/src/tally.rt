@@ -65,7 +65,7 @@ impl LineKeeper for Tally {
 
     ghost with_round = { λ kept number. kept };
 
-    ghost with_dump = { λ names kept dump. kept };
+    ghost with_step = { λ names kept step. kept };
 
     ghost joined = { λ kept more. kept ++ more };
 
@@ -106,7 +106,7 @@ impl LineKeeper for Tally {
         Ok(())
     }
 
-    fn add_dump(&mut self, _names: &NameList, _dump: &Step) -> Result<(), Memory> {
+    fn add_step(&mut self, _names: &NameList, _step: &Step) -> Result<(), Memory> {
         Ok(())
     }
 

@@ -1,5 +1,5 @@
 -- What is read of a script's bytes.
-use Rattle.std.proofs.lemmas.Bool.{false≢true, or_right}
+use Rattle.std.proofs.lemmas.Bool.{or_right}
 use Rattle.std.proofs.lemmas.Bool.Decides.{nat_tests}
 use Rattle.tx_events.proofs.ListSteps.{eqb-refl}
 use Rattle.std.proofs.Common.{◌≡◌, ℕ, suc, ◌<◌, ◌≤◌, ◌==◌, ◌||◌, List, [], ◌∷◌, Some, Ok, Err, Bool, true, false, nat_lt, get_or, refl, sym, ap, ◌∙◌, arith, length}
@@ -36,7 +36,7 @@ may_stand n (items.Run s c ∷ script) f i r = (
   may_stand n script (λ k e. f k (or_right (k == s) (is_in k (sessions_in script)) e)) i.1 r.1,
 )
 may_stand n (items.Round ∷ script) f i r = (tt, may_stand n script f i.1 r.1)
-may_stand n (items.Checkpoint ∷ script) f i r = absurd (false≢true r.0)
+may_stand n (items.Checkpoint ∷ script) f i r = (tt, may_stand n script f i.1 r.1)
 may_stand n (items.Crash how ∷ script) f i r = (tt, may_stand n script f i.1 r.1)
 may_stand n (items.Dump what at size ∷ script) f i r = ((r.0, i.0.0, i.0.1, i.0.2), may_stand n script f i.1 r.1)
 

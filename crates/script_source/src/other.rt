@@ -44,9 +44,8 @@ fn has_item(item: &Item) -> bool
 {
     match item {
         Item::Run { command, .. } => has_command(command),
-        Item::Round | Item::Crash { .. } => true,
+        Item::Round | Item::Checkpoint | Item::Crash { .. } => true,
         Item::Dump { what, .. } => has_dump(what),
-        _ => false,
     }
 }
 

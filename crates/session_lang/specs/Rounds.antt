@@ -5,6 +5,8 @@ use Rattle.tx_model.specs.declared.command.Command.{Command}
 use Rattle.tx_model.specs.declared.report.How.{How}
 use Rattle.tx_model.specs.Asked as asked
 use Rattle.tx_model.specs.Asked.{Asked}
+use Rattle.session_lang.specs.declared.script.Between.{Between}
+use Rattle.session_lang.specs.declared.script.Between.TheVariants as betweens
 use Rattle.session_lang.specs.declared.script.Item.{Item}
 use Rattle.session_lang.specs.declared.script.Item.TheVariants as items
 
@@ -48,6 +50,12 @@ asked_in _ = []
 -- what is asked for at a place: nothing behind the last item
 abbrev pub asked_at : List Item → ℕ → List Asked
 asked_at script place = asked_in (get_or script place items.Round)
+
+-- so as it is looked up
+abbrev pub asked_by : Option Between → List Asked
+asked_by None = []
+asked_by (Some betweens.Checkpoint) = asked.checkpoint ∷ []
+asked_by (Some (betweens.Dump dump)) = asked.dump dump.what dump.at dump.length ∷ []
 
 -- what a life of the script is asked for, in order
 abbrev pub asked_from : List (ℕ × Command) → List Item → List Asked

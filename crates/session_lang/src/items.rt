@@ -1,18 +1,18 @@
 //! The items of a script, in memory in proportion to its text.
-ghost use Rattle.std.specs.Prelude.{◌≡◌, ◌≤◌, ◌↔◌, [], ◌∷◌, ◌++◌, IfNone, IfOk, IfSome, OnOk, drop, get_or, length, slice_get, take, true};
+ghost use Rattle.std.specs.Prelude.{◌≡◌, ◌≤◌, ◌↔◌, [], ◌∷◌, ◌++◌, IfOk, OnOk, drop, get_or, length, slice_get, take, true};
 ghost use Rattle.session_lang.specs.declared.script.Item.TheVariants as items;
 ghost use Rattle.tx_model.specs.declared.command.Command.TheVariants as commands;
 ghost use Rattle.session_lang.specs.Packed.{IsIdOf, id_command, named_command, plain_command};
 ghost use Rattle.session_lang.specs.Plain.{IsInRange};
-ghost use Rattle.session_lang.specs.Rounds.{asked_at, crash_in, session_of};
+ghost use Rattle.session_lang.specs.Rounds.{asked_at, asked_by, crash_in, session_of};
 ghost use Rattle.session_lang.specs.Script.{item_of};
 ghost use Rattle.tx_events.specs.Names.{is_name};
 
 use crate::packed::{
     Apart, Halves, IdCommand, NamedCommand, PackedItem, PlainCommand, Span, dump_parts,
-    packed_crash, packed_dump, packed_session, unpack,
+    packed_between, packed_crash, packed_session, unpack,
 };
-use crate::script::{Dump, Item};
+use crate::script::{Between, Item};
 use script_lines::Directive;
 use std::alloc::Global;
 use std::marker::Model;
@@ -280,13 +280,13 @@ impl<'a> Items<'a> {
         }
     }
 
-    /// The dump that the item at this place asks for; None where none stands there.
-    pub fn dump_at(&self, place: usize) -> Option<Dump>
-        ensures some { IfSome result (λ d. get_or self.now place items.Round ≡ items.Dump d.what d.at d.length) }
-        ensures none { IfNone result (asked_at self.now place ≡ []) }
+    /// What the item at this place asks for between two rounds: a checkpoint or a dump. None where nothing stands there, or
+    /// what asks for neither.
+    pub fn between_at(&self, place: usize) -> Option<Between>
+        ensures { asked_by result ≡ asked_at self.now place }
     {
         match self.packed.get(place) {
-            Some(packed) => packed_dump(self.apart, packed),
+            Some(packed) => packed_between(self.apart, packed),
             None => None,
         }
     }

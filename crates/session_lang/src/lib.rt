@@ -15,5 +15,5 @@ pub use items::{ItemList, Items};
 pub use lines::line_of;
 pub use parser::parse;
 pub use report_text::print_report;
-pub use script::{Dump, Item, ParseRefusal, Script};
+pub use script::{Between, Dump, Item, ParseRefusal, Script};
 pub use script_lines::Kind;

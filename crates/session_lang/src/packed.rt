@@ -1,13 +1,12 @@
 //! An item of a script in twelve bytes, and what stands apart.
-ghost use Rattle.std.specs.Prelude.{◌≡◌, [], IfNone, IfOk, IfSome};
+ghost use Rattle.std.specs.Prelude.{◌≡◌, IfOk};
 ghost use Rattle.tx_events.specs.Ids.{IsFullMulti, IsXidNumber};
 ghost use Rattle.session_lang.specs.Packed.{IsIdOf, IsPacked, dump_of, id_command, named_command, plain_command};
 ghost use Rattle.session_lang.specs.Packed.{unpacked, whole};
 ghost use Rattle.session_lang.specs.declared.packed.Apart.{Apart};
-ghost use Rattle.session_lang.specs.Rounds.{asked_in, crash_in, session_of};
-ghost use Rattle.session_lang.specs.declared.script.Item.TheVariants as items;
+ghost use Rattle.session_lang.specs.Rounds.{asked_by, asked_in, crash_in, session_of};
 
-use crate::script::{Dump, Item};
+use crate::script::{Between, Dump, Item};
 use std::alloc::Global;
 use tx_events::{FullMulti, FullXid, MultiId, Xid};
 use tx_model::{Command, DumpOf, How, Memory, Name, Pair, PairList, Sequence};
@@ -272,21 +271,23 @@ pub fn packed_crash(packed: &PackedItem) -> Option<How>
     }
 }
 
-/// The dump that an item in short asks for, if it does.
-pub fn packed_dump(apart: &Apart, packed: &PackedItem) -> Option<Dump>
+/// What an item in short asks for between two rounds, if it does.
+pub fn packed_between(apart: &Apart, packed: &PackedItem) -> Option<Between>
     requires { IsPacked apart.now packed.now }
-    ensures some { IfSome result (λ d. unpacked apart.now packed.now ≡ items.Dump d.what d.at d.length) }
-    ensures none { IfNone result (asked_in (unpacked apart.now packed.now) ≡ []) }
+    ensures { asked_by result ≡ asked_in (unpacked apart.now packed.now) }
 {
-    let PackedItem::Dump { kind, page, at } = *packed else {
-        return None;
-    };
-    let span = apart.spans[at as usize];
-    Some(Dump {
-        what: dump_of(kind, page),
-        at: span.at.whole(),
-        length: span.length,
-    })
+    match *packed {
+        PackedItem::Checkpoint => Some(Between::Checkpoint),
+        PackedItem::Dump { kind, page, at } => {
+            let span = apart.spans[at as usize];
+            Some(Between::Dump(Dump {
+                what: dump_of(kind, page),
+                at: span.at.whole(),
+                length: span.length,
+            }))
+        }
+        _ => None,
+    }
 }
 
 /// The item that is meant.

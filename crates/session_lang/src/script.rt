@@ -32,6 +32,15 @@ pub struct Dump {
     pub length: u32,
 }
 
+/// What a directive asks for between two rounds.
+#[derive(Clone, Copy, Debug, PartialEq, Eq)]
+pub enum Between {
+    /// A checkpoint.
+    Checkpoint,
+    /// The bytes that a dump shows.
+    Dump(Dump),
+}
+
 /// A script: the counters and the number of banks that its header gives, the sessions' names in the order in which
 /// they appear, and its lines.
 #[derive(Drop)]

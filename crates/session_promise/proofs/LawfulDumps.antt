@@ -3,7 +3,7 @@ use Rattle.std.proofs.Common.{Bool, Contains, List, [], ap, append_assoc, inl, i
 use Rattle.std.proofs.Math.Seq.{take-append_seam}
 use Rattle.std.proofs.lemmas.List.{map-append}
 use Rattle.std.proofs.lemmas.List.Elements.{Contains-append_right}
-use Rattle.std.specs.List.{count_by, flat_map}
+use Rattle.std.specs.List.{count_by, filter, flat_map}
 use Rattle.notes.specs.Lists.{Begins, Grows, at}
 use Rattle.tx_events.specs.declared.event.By.{By}
 use Rattle.tx_events.specs.declared.event.Event.{Event}
@@ -22,7 +22,7 @@ use Rattle.tx_model.specs.declared.report.Line.{Line}
 use Rattle.tx_model.specs.declared.report.Step.{Step}
 use Rattle.tx_model.specs.declared.report.Step.TheVariants as steps
 use Rattle.tx_model.specs.Lines.{has_line}
-use Rattle.tx_model.specs.Rounds.{lines_in}
+use Rattle.tx_model.specs.Rounds.{is_round, lines_in}
 use Rattle.life_law.specs.Dumps.{AreLawfulDumps, IsLawfulBetween, IsXactCutoff, MayDump, events_behind}
 use Rattle.life_law.specs.LawfulLife.{facts_of}
 use Rattle.tx_core.specs.declared.entry.Entry.{Entry}
@@ -34,7 +34,7 @@ use Rattle.tx_core.proofs.Lasting.{history_grows}
 use Rattle.session_promise.specs.Closing.{IsOver, IsReportOf}
 use Rattle.session_promise.specs.Dumps.{AreDumpsTold, IsDumpTold, IsStepTold}
 use Rattle.session_promise.specs.Promise.{recs_of}
-use Rattle.session_promise.specs.Told.{Follow, ToldRound, all_lines}
+use Rattle.session_promise.specs.Told.{Follow, ToldRound, all_lines, steps_of}
 use Rattle.session_promise.proofs.Between.{lines_of_rounds, step_lines}
 use Rattle.session_promise.proofs.Standing.{follow_split, front_counts}
 
@@ -100,23 +100,27 @@ module _ (start : Start) (lists more : List (List Entry)) (rounds added : List T
 
 -- and behind its end
 module _ (tells : Bool) (start : Start) (lists : List (List Entry)) (rounds : List ToldRound) (over : IsOver tells start lists rounds) (r : LifeReport) (is : IsReportOf start lists rounds r) where
+  -- the events of the first rounds stand first
+  pub events_first : (before : List Step) (front behind : List ToldRound) (events : List Event) → rounds ≡ front ++ behind → filter is_round before ≡ steps_of 1 front → Begins events (history lists) → Follow 0 front (length events) → events ≡ events_behind r.life.events (flat_map lines_in before)
+  events_first before front behind events split steps begins places =
+      let h : List Event = history lists in
+      let lines : flat_map lines_in before ≡ all_lines front = sym (lines_of_rounds before) ∙ (ap (flat_map lines_in) steps ∙ step_lines 1 front) in
+      let s = follow_split 0 (length h) front behind (subst (λ (rs : List ToldRound). Follow 0 rs (length h)) split over.places) in
+      let count : count_by (has_line (flat_map lines_in before)) h ≡ length events =
+      ap (λ (ls : List Line). count_by (has_line ls) h) lines ∙ (front_counts tells start lists rounds over front behind s.0 split s.1 s.2 ∙ follow_end 0 s.0 (length events) front s.1 places) in
+      let first : take (length events) h ≡ events = ap (take (length events)) (sym begins.1) ∙ take-append_seam events begins.0 in
+      sym first ∙ (ap (λ n. take n h) (sym count) ∙ ap (λ (t : List Event). events_behind t (flat_map lines_in before)) (sym is.events))
+
   dump_lawful : (before : List Step) (what : DumpOf) (size : ℕ) (reply : Reply) → IsDumpTold start lists rounds before what size reply → MayDump start.banks r.life.base r.life.recs (events_behind r.life.events (flat_map lines_in before)) what size reply
   dump_lawful before what size reply d =
-      let h : List Event = history lists in
-      let lines : flat_map lines_in before ≡ all_lines d.front = sym (lines_of_rounds before) ∙ (ap (flat_map lines_in) d.steps ∙ step_lines 1 d.front) in
-      let s = follow_split 0 (length h) d.front d.behind (subst (λ (rs : List ToldRound). Follow 0 rs (length h)) d.split over.places) in
-      let count : count_by (has_line (flat_map lines_in before)) h ≡ length d.events =
-      ap (λ (ls : List Line). count_by (has_line ls) h) lines ∙ (front_counts tells start lists rounds over d.front d.behind s.0 d.split s.1 s.2 ∙ follow_end 0 s.0 (length d.events) d.front s.1 d.places) in
-      let first : take (length d.events) h ≡ d.events = ap (take (length d.events)) (sym d.begins.1) ∙ take-append_seam d.events d.begins.0 in
-      let events : d.events ≡ events_behind r.life.events (flat_map lines_in before) =
-      sym first ∙ (ap (λ n. take n h) (sym count) ∙ ap (λ (t : List Event). events_behind t (flat_map lines_in before)) (sym is.events)) in
+      let events = events_first before d.front d.behind d.events d.split d.steps d.begins d.places in
       let all = dump_more start.banks start.base (recs_of lists) (start.logged ++ recs_of lists) d.events (λ x c. Contains-append_right start.logged (recs_of lists) x c) what size reply d.answer in
       subst (λ (z : Counters × List Rec × List Event). MayDump start.banks z.0 z.1 z.2 what size reply) (λ j. (sym is.base j, sym is.recs j, events j)) all
 
-  step_lawful : (before : List Step) (step : Step) → IsStepTold start lists rounds before step → IsLawfulBetween (facts_of tells start.banks r.life (flat_map lines_in r.steps)) (flat_map lines_in before) step
+  step_lawful : (before : List Step) (step : Step) → IsStepTold start lists rounds before step → IsLawfulBetween (facts_of tells start.banks r.life r.steps) (flat_map lines_in before) step
   step_lawful before (steps.Round number lines) d = tt
   step_lawful before (steps.Checkpoint reply) d = tt
   step_lawful before (steps.Dump what at size reply) d = dump_lawful before what size reply d
 
-  pub dumps_lawful : AreDumpsTold start lists rounds r.steps → AreLawfulDumps (facts_of tells start.banks r.life (flat_map lines_in r.steps)) r.steps
+  pub dumps_lawful : AreDumpsTold start lists rounds r.steps → AreLawfulDumps (facts_of tells start.banks r.life r.steps) r.steps
   dumps_lawful told p step at = step_lawful (take p r.steps) step (told p step at)

@@ -1,4 +1,4 @@
--- The log at the end of a life is that of its ends.
+-- The log at the end of a life is that of its ends and its checkpoints.
 use Rattle.std.proofs.Common.{Bool, Contains, List, None, Option, Some, [], ap, arith, drop, eqb-true, inl, length, map, refl, subst, sym, take, zero, suc, ℕ, ⊎_elim, ◌++◌, ◌+◌, ◌-◌, ◌<◌, ◌≡◌, ◌≤◌, ◌∙◌, ◌∷◌, ◌^◌}
 use Rattle.std.specs.List.{cons_option, slice_get}
 use Rattle.std.proofs.lemmas.List.{length-map}
@@ -19,14 +19,17 @@ use Rattle.tx_events.specs.Running.{is_open, open_ids}
 use Rattle.tx_events.proofs.Closing.{commit_ends, open_is}
 use Rattle.tx_events.proofs.ListSteps.{le_or_over, not_both}
 use Rattle.tx_events.proofs.Membership.{Has, contains_has, has_contains, has_filter, place_has}
+use Rattle.tx_model.specs.declared.report.Step.{Step}
 use Rattle.life_law.specs.LifeLog.{IsAmong, IsLogOf, IsRecordOf, ends_top}
 use Rattle.tx_core.specs.declared.entry.Entry.{Entry}
 use Rattle.tx_core.specs.declared.entry.Kind.TheVariants as kinds
 use Rattle.tx_core.specs.declared.entry.Start.{Start}
+use Rattle.tx_core.specs.Consequences.{IsHosts}
 use Rattle.tx_core.specs.CommitRecordsExact.{IsExactIn}
 use Rattle.tx_core.specs.Entries.{IsAppended, appended, flushed_to, history, records_in, records_of, recs_in}
 use Rattle.tx_core.specs.Locks.{log_lock}
 use Rattle.tx_core.specs.MultiEntries.{multi_history}
+use Rattle.tx_core.specs.ProgramOrder.{IsCheckpoint}
 use Rattle.tx_core.specs.RecordsFollow.{IsMultiAnnounced, IsOldestAnnounced, NeedsCounters}
 use Rattle.tx_core.specs.RecordsOnce.{OnceIn}
 use Rattle.tx_core.proofs.Asking.{upheld_has}
@@ -35,9 +38,11 @@ use Rattle.tx_core.proofs.Opening.{sessions_known}
 use Rattle.tx_core.proofs.LogLaws.{flushes_rise}
 use Rattle.tx_core.proofs.Reading.{appended_at, appended_by, appended_is}
 use Rattle.tx_core.proofs.Taking.{get_in_take}
+use Rattle.session_promise.specs.Checkpoints.{AreCheckpointsTold}
 use Rattle.session_promise.specs.Closing.{BeginsAt, IsOver, PromisesMakeLog}
 use Rattle.session_promise.specs.Promise.{IsOfEnd, recs_of}
 use Rattle.session_promise.specs.Told.{ToldRound}
+use Rattle.session_promise.proofs.LawfulCheckpoints.{left_behind}
 use Rattle.session_promise.proofs.RecordPlaces.{has_rec}
 
 -- ---- places of records
@@ -109,7 +114,7 @@ named base h p t session by subs legal own at_p exact =
 
 -- ---- the log
 
-module _ (tells : Bool) (start : Start) (lists : List (List Entry)) (rounds : List ToldRound) (number : ℕ) (begins : BeginsAt number start) (over : IsOver tells start lists rounds) (quiet : multi_history lists ≡ []) where
+module _ (tells : Bool) (start : Start) (lists : List (List Entry)) (rounds : List ToldRound) (told : List Step) (number : ℕ) (begins : BeginsAt number start) (over : IsOver tells start lists rounds) (checks : AreCheckpointsTold start lists rounds told) (quiet : multi_history lists ≡ []) where
   abbrev h : List Event
   h = history lists
 
@@ -137,13 +142,20 @@ module _ (tells : Bool) (start : Start) (lists : List (List Entry)) (rounds : Li
       (of.0, same.0, same.1)
   whole session rec is a = absurd is
 
+  -- the host's is a checkpoint
+  whole_hosts : (by : By) (rec : Rec) → IsCheckpoint rec → by.session ≡ start.sessions → Contains es (record { by = by; kind = kinds.Append rec }) → IsRecordOf start.base h rec
+  whole_hosts by (records.Checkpoint place counters) is own stands = left_behind start lists rounds told checks by place counters own (contains_has es _ stands)
+  whole_hosts by rec is own stands = absurd is
+
   each_whole : (rec : Rec) → Contains (recs_of lists) rec → IsRecordOf start.base h rec
   each_whole rec c =
       let r = has_rec lists rec (contains_has (recs_of lists) rec c) in
       let by : By = r.1.0 in
       let stands : Contains es (record { by = by; kind = kinds.Append rec }) = r.1.2 in
-      let low = sessions_known start lists over.kept log_lock (record { by = by; kind = kinds.Append rec }) stands in
-      whole r.0.session rec ((over.each by.session low).1.ends by rec refl stands) r.1
+      ⊎_elim
+      (λ (low : by.session < start.sessions). whole r.0.session rec ((over.each by.session low).1.ends by rec refl stands) r.1)
+      (λ (his : IsHosts start (record { by = by; kind = kinds.Append rec })). whole_hosts by rec his.1 his.0 stands)
+      (sessions_known start lists over.kept log_lock (record { by = by; kind = kinds.Append rec }) stands)
 
   -- an earlier record of the same top is none
   not_twice : (p q id : ℕ) (a b : Rec) (ba bb : By) → slice_get es p ≡ Some (record { by = ba; kind = kinds.Append a }) → slice_get es q ≡ Some (record { by = bb; kind = kinds.Append b }) → ends_top a id → ends_top b id → p < q → ⊥
@@ -194,6 +206,24 @@ module _ (tells : Bool) (start : Start) (lists : List (List Entry)) (rounds : Li
       let among : Has (take (flushed - number) (first_rec ∷ recs_of lists)) rec = place_has (take (flushed - number) (first_rec ∷ recs_of lists)) (suc f.0) rec (get_in_take (flushed - number) (suc f.0) (first_rec ∷ recs_of lists) rec low there) in
       subst (λ (x : List Rec × List ℕ). Contains (take (flushed - number) x.0) (records.Commit t x.1)) (λ j. (sym recs_are j, sym subs j)) (has_contains (take (flushed - number) (first_rec ∷ recs_of lists)) rec among)
 
+  abbrev number_in : Rec → ℕ
+  number_in (records.Checkpoint place counters) = place
+  number_in rec = 0
+
+  -- a checkpoint has its own number
+  numbered : (place own : ℕ) (counters : Counters) → slice_get (start.logged ++ recs_of lists) place ≡ Some (records.Checkpoint own counters) → own ≡ number + place
+  numbered place own counters e = by_place place (subst (λ (rs : List Rec). slice_get rs place ≡ Some (records.Checkpoint own counters)) recs_are e)
+    where
+      by_place : (place : ℕ) → slice_get (first_rec ∷ recs_of lists) place ≡ Some (records.Checkpoint own counters) → own ≡ number + place
+      by_place zero e = let same = ap number_in (same_Some first_rec (records.Checkpoint own counters) e) in omega (arith, same)
+      by_place (suc p) e =
+          let x = entry_of es p (records.Checkpoint own counters) e in
+          let k = (over.kept.log.counters.each log_lock x.place (record { by = x.by; kind = kinds.Append (records.Checkpoint own counters) }) x.at).1.place in
+          let m = length-map (records_in (take x.place es)) (λ (r : By × Rec). r.1) in
+          let b = x.behind in
+          let f = begins.from in
+          omega (arith, k, m, b, f)
+
   pub log_of : (end : ℕ) → number + length (start.logged ++ recs_of lists) < 2 ^ 64 → end < 2 ^ 64 → IsLogOf number start.base h (start.logged ++ recs_of lists) flushed end
   log_of end count gate =
       let last = flushes_rise start lists over.kept in
@@ -205,10 +235,11 @@ module _ (tells : Bool) (start : Start) (lists : List (List Entry)) (rounds : Li
         within = let w = last.within in let m = length-map (records_of lists) (λ (r : By × Rec). r.1) in let n = ap length recs_are in omega (arith, w, one, m, n);
         each = each_whole;
         once = once;
+        numbered = numbered;
         committed = committed;
         count = let few = count in omega (arith, few);
         gate = gate;
       }
 
 pub promises_make_log : PromisesMakeLog
-promises_make_log tells start lists rounds number end begins over quiet count gate = log_of tells start lists rounds number begins over quiet end count gate
+promises_make_log tells start lists rounds told number end begins over checks quiet count gate = log_of tells start lists rounds told number begins over checks quiet end count gate

@@ -1,24 +1,25 @@
 -- What may be answered in the lists at the end is lawful.
 use Rattle.engine_parts.specs.Stages.{pending_in}
-use Rattle.std.proofs.Common.{Bool, Contains, IsTrue, List, [], ap, append_assoc, arith, inl, refl, subst, sym, zero, suc, ℕ, ◌++◌, ◌≡◌, ◌∙◌, ◌∷◌, is_some, false}
+use Rattle.std.proofs.Common.{Bool, IsTrue, List, [], append_assoc, arith, refl, sym, zero, suc, ℕ, ◌++◌, ◌≡◌, ◌∙◌, ◌∷◌, is_some, false}
+use Rattle.std.specs.List.{flat_map}
 use Rattle.std.proofs.lemmas.Bool.{false≢true, or_left}
 use Rattle.notes.specs.Lists.{Begins, Grows, at}
 use Rattle.tx_events.specs.declared.event.By.{By}
 use Rattle.tx_events.specs.declared.refusal.Lock.{Lock}
 use Rattle.tx_events.specs.declared.refusal.Lock.TheVariants as locks
 use Rattle.tx_events.specs.declared.refusal.Refusal.TheVariants as refusals
-use Rattle.tx_events.proofs.Membership.{Has, any_has, contains_has, has_contains, has_filter, has_right}
+use Rattle.tx_events.proofs.Membership.{contains_has}
 use Rattle.tx_model.specs.declared.command.Command.{Command}
 use Rattle.tx_model.specs.declared.command.Command.TheVariants as commands
 use Rattle.tx_model.specs.declared.reply.Reply.{Reply}
 use Rattle.tx_model.specs.declared.reply.Reply.TheVariants as replies
-use Rattle.tx_model.specs.declared.report.Line.{Line}
-use Rattle.tx_model.specs.Lines.{is_line_of}
+use Rattle.tx_model.specs.declared.report.Step.{Step}
+use Rattle.tx_model.specs.Rounds.{lines_in}
 use Rattle.tx_model.specs.Replies.{RoundSpan}
 use Rattle.tx_model.specs.Stance.{Stance, top_level}
 use Rattle.tx_model.proofs.Growth.{known_less}
 use Rattle.life_law.specs.Commands.{has_command}
-use Rattle.life_law.specs.Facts.{Facts, has_log_fault, is_log_fault}
+use Rattle.life_law.specs.Facts.{Facts, has_failed_log}
 use Rattle.life_law.proofs.DidGrowth.{did_less}
 use Rattle.life_law.specs.Replies.{IsBank, IsLawfulReply, may_ask, may_lack_memory, may_need_log, may_append}
 use Rattle.tx_core.specs.declared.entry.Entry.{Entry}
@@ -29,7 +30,6 @@ use Rattle.tx_core.specs.Entries.{AreFewIds, flushed_in, flushed_to, history}
 use Rattle.tx_core.specs.Locks.{IsPageLock, log_lock, number_of}
 use Rattle.tx_core.specs.ProgramOrder.{NeedsStand}
 use Rattle.tx_core.proofs.Asking.{upheld_has}
-use Rattle.tx_core.proofs.Opening.{sessions_known}
 use Rattle.tx_core.proofs.LogLaws.{down_now, down_stays}
 use Rattle.tx_core.proofs.LastNumbers.{number_same}
 use Rattle.engine_parts.specs.declared.session.Stage.{Stage}
@@ -37,10 +37,11 @@ use Rattle.engine_parts.specs.declared.session.Stage.TheVariants as stages
 use Rattle.engine_parts.specs.Answers.{MayAnswer, MetFault}
 use Rattle.engine_parts.specs.Stand.{IsDownAt}
 use Rattle.engine_parts.specs.Standing.{appends, asks_volume, flushes, needs_log, takes_memory}
+use Rattle.session_promise.specs.Checkpoints.{AreCheckpointsTold}
 use Rattle.session_promise.specs.Closing.{IsOver}
 use Rattle.session_promise.specs.Promise.{IsAskedFor, recs_of}
-use Rattle.session_promise.specs.Told.{ToldRound, all_lines, lines_by}
-use Rattle.session_promise.proofs.Telling.{lines_told}
+use Rattle.session_promise.specs.Told.{ToldRound, all_lines}
+use Rattle.session_promise.proofs.HostFaults.{failed}
 
 lacks : (command : Command) (s : Stance) (stage : Stage) → IsTrue (has_command command) → IsTrue (takes_memory command s stage) → IsTrue (may_lack_memory command s (pending_in stage))
 lacks commands.Write s stage h t = t
@@ -112,7 +113,7 @@ fault_at start lists lock by k m =
     bank_of start lock stands.0.bank
 
 -- behind the fault that put it down nothing more is flushed
-down_flushed : (start : Start) (lists : List (List Entry)) (down : ℕ) → EngineInvariant start lists → IsDownAt start (at lists log_lock) down → down ≡ flushed_to start (at lists log_lock)
+pub down_flushed : (start : Start) (lists : List (List Entry)) (down : ℕ) → EngineInvariant start lists → IsDownAt start (at lists log_lock) down → down ≡ flushed_to start (at lists log_lock)
 down_flushed start lists down k d =
     let e : Entry = record { by = d.by; kind = kinds.LogFault d.asked d.count } in
     let front : List Entry = d.before ++ e ∷ [] in
@@ -124,18 +125,7 @@ down_flushed start lists down k d =
     begins front q (suc place) = (at lists (suc place), refl)
 
 -- what the report of a life that is over is judged by
-module _ (tells : Bool) (start : Start) (lists : List (List Entry)) (rounds : List ToldRound) (over : IsOver tells start lists rounds) (few : AreFewIds lists) where
-  -- some line says that the log's volume failed
-  failed : (down : ℕ) → IsDownAt start (at lists log_lock) down → IsTrue (has_log_fault (all_lines rounds))
-  failed down d =
-      let e : Entry = record { by = d.by; kind = kinds.LogFault d.asked d.count } in
-      let there : Has (at lists log_lock) e = subst (λ (t : List Entry). Has t e) (sym d.split) (has_right d.before (e ∷ d.rest) e (inl refl)) in
-      let stands : Contains (at lists log_lock) e = has_contains (at lists log_lock) e there in
-      let n : ℕ = d.by.session in
-      let said = (over.each n (sessions_known start lists over.kept log_lock e stands)).1.faults d.by d.asked d.count refl stands in
-      let mine : Has (lines_by n (all_lines rounds)) said.0 = subst (λ ls. Has ls said.0) (lines_told n rounds) (contains_has _ said.0 said.1) in
-      any_has (λ (l : Line). is_log_fault l.reply) (all_lines rounds) said.0 (has_filter (is_line_of n) (all_lines rounds) said.0 mine).0 (ap is_log_fault said.3)
-
+module _ (tells : Bool) (start : Start) (lists : List (List Entry)) (rounds : List ToldRound) (over : IsOver tells start lists rounds) (few : AreFewIds lists) (told : List Step) (c : AreCheckpointsTold start lists rounds told) (lines : flat_map lines_in told ≡ all_lines rounds) where
   abbrev pub facts : Facts
   facts = record {
     tells = tells;
@@ -145,7 +135,7 @@ module _ (tells : Bool) (start : Start) (lists : List (List Entry)) (rounds : Li
     events = history lists;
     recs = start.logged ++ recs_of lists;
     flushed = flushed_to start (at lists log_lock);
-    log_failed = has_log_fault (all_lines rounds);
+    log_failed = has_failed_log told;
   }
 
   pub lawful_reply : (span : RoundSpan) (by : By) (s : Stance) (stage : Stage) (command : Command) (reply : Reply) → IsAskedFor command reply → MayAnswer tells start lists span by s stage command reply → IsLawfulReply facts span by s (pending_in stage) command reply
@@ -153,7 +143,7 @@ module _ (tells : Bool) (start : Start) (lists : List (List Entry)) (rounds : Li
   lawful_reply span by s stage command (replies.Refused refusals.Full) f a = fills_log command s stage f.0 a
   lawful_reply span by s stage command (replies.Refused (refusals.DiskFault lock)) f a = (asks command s stage lock f.0 a.0, fault_at start lists lock by over.kept a.1)
   lawful_reply span by s stage command (replies.Refused refusals.LogFault) f a = logs command s stage f.0 a.0
-  lawful_reply span by s stage command (replies.Refused (refusals.LogDown down)) f a = (needs command s stage f.0 a.0, down_flushed start lists down over.kept a.1, failed down a.1)
+  lawful_reply span by s stage command (replies.Refused (refusals.LogDown down)) f a = (needs command s stage f.0 a.0, down_flushed start lists down over.kept a.1, failed tells start lists rounds over told c lines down a.1)
   lawful_reply span by s stage command (replies.Refused refusals.CommitPending) f a = tt
   lawful_reply span by s stage command (replies.Refused refusals.AbortPending) f a = tt
   lawful_reply span by s stage command (replies.Refused refusals.UndoPending) f a = tt

@@ -22,6 +22,7 @@ use Rattle.tx_model.specs.declared.command.Command.{Command}
 use Rattle.tx_model.specs.declared.command.Command.TheVariants as commands
 use Rattle.tx_model.specs.declared.reply.Reply.{Reply}
 use Rattle.tx_model.specs.declared.reply.Reply.TheVariants as replies
+use Rattle.tx_model.specs.declared.report.LifeReport.{LifeReport}
 use Rattle.tx_model.specs.declared.report.Line.{Line}
 use Rattle.tx_model.specs.declared.report.Step.{Step}
 use Rattle.tx_model.specs.declared.report.Step.TheVariants as steps
@@ -30,7 +31,7 @@ use Rattle.tx_model.specs.Rounds.{AreInTurn, StandFirst, is_round, lines_in}
 use Rattle.tx_model.specs.Lines.{has_line, is_line_of, span_of, stance}
 use Rattle.tx_model.specs.Replies.{RoundSpan}
 use Rattle.tx_model.specs.Stance.{Stance, after, nothing_yet, stance_from, top_level}
-use Rattle.life_law.specs.Facts.{Facts, has_log_fault}
+use Rattle.life_law.specs.Facts.{Facts, has_failed_log}
 use Rattle.life_law.specs.LawfulLife.{AreLawfulSteps, facts_of}
 use Rattle.life_law.specs.Lines.{IsLawfulLine, IsLawfulRound}
 use Rattle.life_law.specs.Pending.{is_recorded, pending, pending_after, pending_from}
@@ -40,7 +41,8 @@ use Rattle.tx_core.specs.declared.entry.Entry.{Entry}
 use Rattle.tx_core.specs.declared.entry.Start.{Start}
 use Rattle.tx_core.specs.Entries.{AreFewIds, history}
 use Rattle.engine_parts.specs.Stages.{pending_in}
-use Rattle.session_promise.specs.Closing.{BeginsAt, IsOver, PromisesMakeSteps}
+use Rattle.session_promise.specs.Checkpoints.{AreCheckpointsTold}
+use Rattle.session_promise.specs.Closing.{BeginsAt, IsOver, IsReportOf, PromisesMakeSteps}
 use Rattle.session_promise.specs.Promise.{IsToldWell, recs_of}
 use Rattle.session_promise.specs.Told.{Follow, Told, ToldRound, all_lines, lines_by, lines_of, steps_of, told_by, told_in, told_of}
 use Rattle.session_promise.proofs.Between.{each_between, in_turn_between, lines_of_rounds, step_lines}
@@ -57,7 +59,7 @@ split_at [] p x e = absurd cc
 split_at (y ∷ xs) zero x e = let same : y ≡ x = cc in (xs, ap (λ z. z ∷ xs) same)
 split_at (y ∷ xs) (suc p) x e = let r = split_at xs p x e in (r.0, ap (λ t. y ∷ t) r.1)
 
-each_mid : {X : Type 0} (P : List X → X → Type 0) (xs front rest : List X) (x : X) → xs ≡ front ++ x ∷ rest → EachPlace xs P → P front x
+pub each_mid : {X : Type 0} (P : List X → X → Type 0) (xs front rest : List X) (x : X) → xs ≡ front ++ x ∷ rest → EachPlace xs P → P front x
 each_mid P xs front rest x split each =
     let here : slice_get (front ++ x ∷ rest) (length front) ≡ Some x = subst (λ t. slice_get t (length front) ≡ Some x) (append_assoc front (x ∷ []) rest) (slice_get-grows (front ++ x ∷ []) rest x (length front) (last_at front x)) in
     subst (λ t. P t x) (ap (take (length front)) split ∙ take-append_seam front (x ∷ rest)) (each (length front) x (subst (λ t. slice_get t (length front) ≡ Some x) (sym split) here))
@@ -107,12 +109,12 @@ from_logged number counters recs h (l ∷ lines) s old =
 
 -- ---- the lines
 
-module _ (tells : Bool) (start : Start) (lists : List (List Entry)) (rounds : List ToldRound) (number : ℕ) (begins : BeginsAt number start) (over : IsOver tells start lists rounds) (few : AreFewIds lists) where
+module _ (tells : Bool) (start : Start) (lists : List (List Entry)) (rounds : List ToldRound) (number : ℕ) (begins : BeginsAt number start) (over : IsOver tells start lists rounds) (few : AreFewIds lists) (checked : List Step) (c : AreCheckpointsTold start lists rounds checked) (lines_are : flat_map lines_in checked ≡ all_lines rounds) where
   abbrev h : List Event
   h = history lists
 
   abbrev f : Facts
-  f = facts tells start lists rounds over few
+  f = facts tells start lists rounds over few checked c lines_are
 
   logged_same : (before : List Line) (n : ℕ) → pending f.recs h before n ≡ pending (recs_of lists) h before n
   logged_same before n = ap (λ (rs : List Rec). pending (rs ++ recs_of lists) h before n) begins.logged ∙ from_logged number start.base (recs_of lists) h (filter (is_line_of n) before) nothing_yet None
@@ -202,7 +204,7 @@ module _ (tells : Bool) (start : Start) (lists : List (List Entry)) (rounds : Li
       number = told.number ∙ ap (λ k. k + 1) (length-filter (is_line_of n) before);
       events = subst (λ s. HasEvents l.by s l.command l.reply (events_of l.by h)) stance_same told.events;
       standing = told.standing ∙ (ap (λ s. refused_by l.command s (pending_in told.stage)) stance_same ∙ ap (refused_by l.command (stance h before n)) (told.pending_is ∙ pending_same));
-      reply = subst (λ (x : RoundSpan × (Stance × Option Refusal)). IsLawfulReply f x.0 l.by x.1.0 x.1.1 l.command l.reply) (λ j. (span_is j, (stance_same j, (told.pending_is ∙ pending_same) j))) (lawful_reply tells start lists rounds over few r.span l.by (stance h (lines_by n before) n) told.stage l.command l.reply told.fits told.answer);
+      reply = subst (λ (x : RoundSpan × (Stance × Option Refusal)). IsLawfulReply f x.0 l.by x.1.0 x.1.1 l.command l.reply) (λ j. (span_is j, (stance_same j, (told.pending_is ∙ pending_same) j))) (lawful_reply tells start lists rounds over few checked c lines_are r.span l.by (stance h (lines_by n before) n) told.stage l.command l.reply told.fits told.answer);
     }
 
   each_step : EachPlace (steps_of 1 rounds) (λ before step. IsLawfulRound f (flat_map lines_in before) (lines_in step))
@@ -230,13 +232,18 @@ lawful_between f ss a = record {
   no_other = subst (λ ls. All (λ e. IsTrue (has_line ls e)) f.events) (lines_of_rounds ss) a.no_other;
 }
 
+-- the lines of the report's steps are those of the rounds
+pub report_lines : (start : Start) (lists : List (List Entry)) (rounds : List ToldRound) (r : LifeReport) → IsReportOf start lists rounds r → flat_map lines_in r.steps ≡ all_lines rounds
+report_lines start lists rounds r is = sym (lines_of_rounds r.steps) ∙ (ap (flat_map lines_in) is.steps ∙ step_lines 1 rounds)
+
 pub promises_make_steps : PromisesMakeSteps
-promises_make_steps tells start lists rounds r begins over few is =
+promises_make_steps tells start lists rounds r begins over few checks is =
     let ids = levels_bound_ids tells start lists rounds over few in
-    let same : facts tells start lists rounds over ids ≡ facts_of tells start.banks r.life (all_lines rounds)
-    = λ j. record { tells = tells; banks = start.banks; base = sym is.base j; committed = sym is.committed j; events = sym is.events j; recs = sym is.recs j; flushed = sym is.flushed j; log_failed = has_log_fault (all_lines rounds) } in (
-      lawful_between (facts_of tells start.banks r.life (all_lines rounds)) r.steps
-          (subst (λ (x : Facts × List Step). AreLawfulSteps x.0 x.1) (λ j. (same j, sym is.steps j)) (lawful tells start lists rounds r.life.from begins over ids)),
+    let lines : flat_map lines_in r.steps ≡ all_lines rounds = report_lines start lists rounds r is in
+    let same : facts tells start lists rounds over ids r.steps checks lines ≡ facts_of tells start.banks r.life r.steps
+    = λ j. record { tells = tells; banks = start.banks; base = sym is.base j; committed = sym is.committed j; events = sym is.events j; recs = sym is.recs j; flushed = sym is.flushed j; log_failed = has_failed_log r.steps } in (
+      lawful_between (facts_of tells start.banks r.life r.steps) r.steps
+          (subst (λ (x : Facts × List Step). AreLawfulSteps x.0 x.1) (λ j. (same j, sym is.steps j)) (lawful tells start lists rounds r.life.from begins over ids r.steps checks lines)),
       in_turn_between r.life.events r.steps
-          (subst (λ (x : List Event × List Step). AreInTurn x.0 x.1) (λ j. (sym is.events j, sym is.steps j)) (in_turn tells start lists rounds r.life.from begins over ids)),
+          (subst (λ (x : List Event × List Step). AreInTurn x.0 x.1) (λ j. (sym is.events j, sym is.steps j)) (in_turn tells start lists rounds r.life.from begins over ids r.steps checks lines)),
     )

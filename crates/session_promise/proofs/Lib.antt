@@ -14,12 +14,16 @@ pub mod Summing
 pub mod FewIds
 pub mod Standing
 pub mod OneFault
+pub mod HostFaults
 pub mod Between
 pub mod FaultLines
 pub mod LawfulReplies
 pub mod LawfulSteps
+pub mod LawfulCheckpoints
 pub mod LawfulLog
 pub mod Opened
 pub mod LawfulDumps
 pub mod LawfulLives
 pub mod Rounding
+pub mod PendingStays
+pub mod CheckpointsStay

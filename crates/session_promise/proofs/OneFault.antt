@@ -15,11 +15,13 @@ use Rattle.tx_model.specs.declared.report.Line.{Line}
 use Rattle.tx_model.specs.Lines.{is_line_of, stance}
 use Rattle.life_law.specs.Facts.{is_log_fault, log_faults}
 use Rattle.tx_core.specs.declared.entry.Entry.{Entry}
+use Rattle.tx_core.specs.declared.entry.Kind.{Kind}
+use Rattle.tx_core.specs.declared.entry.Kind.TheVariants as kinds
 use Rattle.tx_core.specs.declared.entry.Start.{Start}
 use Rattle.tx_core.specs.EngineInvariant.{EngineInvariant}
 use Rattle.tx_core.specs.Entries.{history}
 use Rattle.tx_core.specs.Locks.{log_lock}
-use Rattle.tx_core.specs.StaysDown.{is_put_down}
+use Rattle.tx_core.specs.StaysDown.{IsUp, UpOf, is_put_down}
 use Rattle.tx_core.proofs.Taking.{get_in_take}
 use Rattle.engine_parts.specs.Answers.{MayAnswer, MetLogFault}
 use Rattle.engine_parts.specs.Faults.{flush_fault_by}
@@ -75,26 +77,32 @@ module _ (start : Start) (lists : List (List Entry)) (k : EngineInvariant start 
   abbrev es : List Entry
   es = at lists log_lock
 
-  -- a fault of a flush stands behind no other
-  not_behind : (p q : ℕ) (a b : By) (m n : ℕ) → slice_get es p ≡ Some (flush_fault_by a m) → slice_get es q ≡ Some (flush_fault_by b n) → p < q → ⊥
-  not_behind p q a b m n at_p at_q low =
-      let d : Entry = flush_fault_by a m in
-      let before : Has (take q es) d = place_has (take q es) p d (get_in_take q p es d low at_p) in
-      let up = k.down.each.each log_lock q (flush_fault_by b n) at_q refl in
-      false≢true (sym up ∙ any_has (λ (e : Entry). is_put_down e.kind) (take q es) d before refl)
+  up_of : (before : List Entry) (kind : Kind) → is_put_down kind ≡ true → UpOf before kind → IsUp before
+  up_of before (kinds.LogFault asked count) t u = u t
+  up_of before kind t u = absurd (false≢true t)
 
-  one_entry : (a b : By) (m n : ℕ) → Has es (flush_fault_by a m) → Has es (flush_fault_by b n) → a ≡ b
-  one_entry a b m n there here =
-      let p = has_place es (flush_fault_by a m) there in
-      let q = has_place es (flush_fault_by b n) here in
-      let same : p.0 ≡ q.0 = ⊎_elim
-      (λ (upto : p.0 ≤ q.0). ⊎_elim
-      (λ (back : q.0 ≤ p.0). omega (arith, upto, back))
-      (λ (below : p.0 < q.0). absurd (not_behind p.0 q.0 a b m n p.1 q.1 below))
-      (le_or_over q.0 p.0))
-      (λ (above : q.0 < p.0). absurd (not_behind q.0 p.0 b a n m q.1 p.1 above))
-      (le_or_over p.0 q.0) in
-      ap (λ (e : Entry). e.by) (same_Some (flush_fault_by a m) (flush_fault_by b n) (sym p.1 ∙ (ap (λ z. slice_get es z) same ∙ q.1)))
+  -- a fault that puts the log down stands behind no other
+  not_behind : (p q : ℕ) (a b : Entry) → slice_get es p ≡ Some a → slice_get es q ≡ Some b → is_put_down a.kind ≡ true → is_put_down b.kind ≡ true → p < q → ⊥
+  not_behind p q a b at_p at_q down_a down_b low =
+      let before : Has (take q es) a = place_has (take q es) p a (get_in_take q p es a low at_p) in
+      let up = up_of (take q es) b.kind down_b (k.down.each.each log_lock q b at_q) in
+      false≢true (sym up ∙ any_has (λ (e : Entry). is_put_down e.kind) (take q es) a before down_a)
+
+  pub down_place : (p q : ℕ) (a b : Entry) → slice_get es p ≡ Some a → slice_get es q ≡ Some b → is_put_down a.kind ≡ true → is_put_down b.kind ≡ true → p ≡ q
+  down_place p q a b at_p at_q down_a down_b = ⊎_elim
+      (λ (upto : p ≤ q). ⊎_elim
+      (λ (back : q ≤ p). omega (arith, upto, back))
+      (λ (below : p < q). absurd (not_behind p q a b at_p at_q down_a down_b below))
+      (le_or_over q p))
+      (λ (above : q < p). absurd (not_behind q p b a at_q at_p down_b down_a above))
+      (le_or_over p q)
+
+  -- so there is one at most
+  pub down_entry : (a b : Entry) → Has es a → Has es b → is_put_down a.kind ≡ true → is_put_down b.kind ≡ true → a ≡ b
+  down_entry a b there here down_a down_b =
+      let p = has_place es a there in
+      let q = has_place es b here in
+      same_Some a b (sym p.1 ∙ (ap (λ z. slice_get es z) (down_place p.0 q.0 a b p.1 q.1 down_a down_b) ∙ q.1))
 
 -- ---- the lines of a session
 
@@ -143,7 +151,7 @@ module _ (tells : Bool) (start : Start) (lists : List (List Entry)) (rounds : Li
       let well = (over.each n low).1.each place t.was t.at in
       ap (λ (x : Line). x.by.command) (sym t.line) ∙ (well.number ∙ ap (λ z. z + 1) t.behind)
 
-  met : (l : Line) → Has all l → is_log_fault l.reply ≡ true → MetLogFault lists l.by
+  pub met : (l : Line) → Has all l → is_log_fault l.reply ≡ true → MetLogFault lists l.by
   met l h fault =
       let t = told_line l h in
       let answer : MayAnswer tells start lists t.told.span t.told.line.by (stance (history lists) t.before l.by.session) t.well.stage t.told.line.command (replies.Refused refusals.LogFault)
@@ -155,8 +163,8 @@ module _ (tells : Bool) (start : Start) (lists : List (List Entry)) (rounds : Li
   one_line l m here there said told =
       let a = met l here said in
       let b = met m there told in
-      one_entry start lists over.kept l.by m.by a.count b.count
-      (contains_has (at lists log_lock) (flush_fault_by l.by a.count) a.stands) (contains_has (at lists log_lock) (flush_fault_by m.by b.count) b.stands)
+      ap (λ (e : Entry). e.by) (down_entry start lists over.kept (flush_fault_by l.by a.count) (flush_fault_by m.by b.count)
+      (contains_has (at lists log_lock) (flush_fault_by l.by a.count) a.stands) (contains_has (at lists log_lock) (flush_fault_by m.by b.count) b.stands) refl refl)
 
   pub faults_once : log_faults all ≤ 1
   faults_once = step (list_any (λ (l : Line). is_log_fault l.reply) all) refl

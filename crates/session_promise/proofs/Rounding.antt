@@ -68,7 +68,7 @@ promise_through tells start before after n past old new lines took kept p =
     promise_stays tells start took.last.seen after n past from r.last (length (history after)) lines new kept took.known (omega (arith, low, longer)) (omega arith) r.promise
 
 -- a session that took no part
-through_idle : (tells : Bool) (start : Start) (before after : List (List Entry)) (n : ℕ) (past : List Told) (s : Session) → EngineInvariant start after → Knows session_of n before after → Promise tells start before n past s → Promise tells start after n past s
+pub through_idle : (tells : Bool) (start : Start) (before after : List (List Entry)) (n : ℕ) (past : List Told) (s : Session) → EngineInvariant start after → Knows session_of n before after → Promise tells start before n past s → Promise tells start after n past s
 through_idle tells start before after n past s kept knows p =
     let none : past ++ told_in (between 0 0) [] ≡ past = append-nil past in
     subst (λ (x : List Told). Promise tells start after n x s) none

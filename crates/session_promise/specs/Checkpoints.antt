@@ -1,25 +1,34 @@
--- What a checkpoint between two rounds did.
-use Rattle.std.specs.Prelude.{◌≡◌, ℕ, ◌+◌, ◌<◌, ◌++◌, ◌⊎◌, Bool, false, true, List, [], ◌∷◌, Some, length, slice_get}
-use Rattle.std.specs.List.{AllByRecursion, count_by}
-use Rattle.notes.specs.Lists.{Grows, Knows, at}
+-- What a checkpoint between two rounds did, and what stays of those that were told.
+use Rattle.std.specs.Prelude.{◌≡◌, ◌≢◌, ℕ, ◌+◌, ◌<◌, ◌++◌, ◌⊎◌, Bool, List, [], ◌∷◌, None, Option, Some, length, map, slice_get}
+use Rattle.std.specs.List.{AllByRecursion, count_by, filter, filter_map}
+use Rattle.notes.specs.Lists.{Begins, Grows, Knows, at, own}
+use Rattle.tx_events.specs.declared.event.Event.{Event}
+use Rattle.tx_events.specs.declared.record.Counters.{Counters}
 use Rattle.tx_events.specs.declared.record.Rec.{Rec}
 use Rattle.tx_events.specs.declared.record.Rec.TheVariants as records
 use Rattle.tx_events.specs.declared.refusal.Refusal.TheVariants as refusals
+use Rattle.tx_events.specs.Places.{EachPlace}
 use Rattle.tx_model.specs.declared.reply.Reply.{Reply}
 use Rattle.tx_model.specs.declared.reply.Reply.TheVariants as replies
+use Rattle.tx_model.specs.declared.report.Step.{Step}
+use Rattle.tx_model.specs.declared.report.Step.TheVariants as steps
+use Rattle.tx_model.specs.Rounds.{is_round}
+use Rattle.life_law.specs.Checkpoints.{MayHaveRecord, checkpoints_in}
+use Rattle.life_law.specs.Facts.{is_checkpoint_fault}
 use Rattle.life_law.specs.LifeLog.{counters_behind}
+use Rattle.life_law.specs.Pending.{pending}
 use Rattle.life_law.specs.Replies.{IsBank}
 use Rattle.tx_core.specs.declared.entry.Entry.{Entry}
-use Rattle.tx_core.specs.declared.entry.Kind.{Kind}
-use Rattle.tx_core.specs.declared.entry.Kind.TheVariants as kinds
 use Rattle.tx_core.specs.declared.entry.Start.{Start}
 use Rattle.tx_core.specs.EngineInvariant.{EngineInvariant}
 use Rattle.tx_core.specs.Entries.{history, recs_in, session_of}
 use Rattle.tx_core.specs.Locks.{log_lock}
+use Rattle.tx_core.specs.StaysDown.{is_put_down}
 use Rattle.engine_parts.specs.declared.session.Session.{Session}
 use Rattle.engine_parts.specs.Stand.{IsDownAt}
 use Rattle.engine_parts.specs.Stages.{pending_in}
 use Rattle.session_promise.specs.Promise.{recs_of}
+use Rattle.session_promise.specs.Told.{Follow, ToldRound, all_lines, steps_of}
 
 -- one of these sessions is in the midst of a commit
 abbrev pub IsCommitting : List Session → ℕ → Type 0
@@ -30,18 +39,14 @@ abbrev pub checkpoint_next : Start → List (List Entry) → Rec
 checkpoint_next start lists =
     records.Checkpoint (start.from + length (recs_of lists)) (counters_behind start.base (history lists))
 
--- whether the entry tells that the log's volume failed
-abbrev pub is_log_fault : Entry → Bool
-is_log_fault e = is_fault e.kind
-  where
-    is_fault : Kind → Bool
-    is_fault (kinds.LogFault asked count) = true
-    is_fault _ = false
+-- whether the entry tells a fault of the log's volume that put the log down
+abbrev pub is_down_fault : Entry → Bool
+is_down_fault e = is_put_down e.kind
 
--- these entries append these records, and tell so many faults of the log's volume
+-- these entries append these records, and tell so many such faults
 pub record Appends (added : List Entry) (recs : List Rec) (faults : ℕ) : Type 0 where
   pub recs_are : recs_in added ≡ recs
-  pub faults_are : count_by is_log_fault added ≡ faults
+  pub faults_are : count_by is_down_fault added ≡ faults
 
 -- What a checkpoint that was answered so, in these lists, added to that of the log.
 abbrev pub AddsFor : Start → List (List Entry) → List Entry → Reply → Type 0
@@ -56,12 +61,16 @@ AddsFor start before added (replies.Refused refusals.Full) = Appends added [] 0
 AddsFor start before added (replies.Refused refusals.Memory) = Appends added [] 0
 AddsFor start before added reply = ⊥
 
+-- The reply names the least session of which this holds, or it holds of none.
+abbrev pub NamesLeast : (ℕ → Type 0) → Reply → Type 0
+NamesLeast Holds (replies.Pending session refusals.CommitPending) =
+    Holds session × ((n : ℕ) → n < session → Holds n → ⊥)
+NamesLeast Holds (replies.Pending session refusal) = ⊥
+NamesLeast Holds reply = (n : ℕ) → Holds n → ⊥
+
 -- It names the least session that is in the midst of a commit, or there is none.
 abbrev pub IsNamed : List Session → Reply → Type 0
-IsNamed sessions (replies.Pending session refusals.CommitPending) =
-    IsCommitting sessions session × ((n : ℕ) → n < session → IsCommitting sessions n → ⊥)
-IsNamed sessions (replies.Pending session refusal) = ⊥
-IsNamed sessions reply = (n : ℕ) → IsCommitting sessions n → ⊥
+IsNamed sessions reply = NamesLeast (IsCommitting sessions) reply
 
 -- A checkpoint that was answered so took the lists from these to those, while these sessions were parked. What it added
 -- is the life's host's, and no event.
@@ -76,3 +85,64 @@ pub record WentCheckpoint (start : Start) (sessions : List Session) (before afte
   pub log : at after log_lock ≡ at before log_lock ++ added
   pub theirs : AllByRecursion (λ e. e.by.session ≡ start.sessions) added
   pub adds : AddsFor start before added reply
+
+-- ---- what was told
+
+-- the session is in the midst of a commit, by the lines of these rounds
+abbrev pub IsPendingBehind : List (List Entry) → List ToldRound → ℕ → Type 0
+IsPendingBehind lists rounds session =
+    pending (recs_of lists) (history lists) (all_lines rounds) session ≡ Some refusals.CommitPending
+
+-- what the lists at any later time show of the reply
+abbrev pub IsAnsweredIn : Start → List (List Entry) → Reply → Type 0
+IsAnsweredIn start lists replies.Done = Unit {0}
+IsAnsweredIn start lists (replies.Pending session refusal) = Unit {0}
+IsAnsweredIn start lists (replies.Refused refusals.LogFault) = Unit {0}
+IsAnsweredIn start lists (replies.Refused (refusals.LogDown down)) = IsDownAt start (at lists log_lock) down
+IsAnsweredIn start lists (replies.Refused (refusals.DiskFault lock)) = IsBank start.banks lock
+IsAnsweredIn start lists (replies.Refused refusals.Full) = Unit {0}
+IsAnsweredIn start lists (replies.Refused refusals.Memory) = Unit {0}
+IsAnsweredIn start lists reply = ⊥
+
+-- a record with these counters may be left by it behind this history, or none
+abbrev pub MayLeave : Start → List Event → Reply → Option Counters → Type 0
+MayLeave start h reply (Some counters) = MayHaveRecord reply × (counters ≡ counters_behind start.base h)
+MayLeave start h reply None = reply ≢ replies.Done
+
+-- The checkpoint was told behind the first of these rounds. With their events the history began. It was answered by which
+-- sessions are in the midst of a commit by their lines, and left these counters in the log, if any.
+pub record IsCheckpointTold (start : Start) (lists : List (List Entry)) (rounds : List ToldRound) (before : List Step)
+    (reply : Reply) (left : Option Counters) : Type 0 where
+  pub front : List ToldRound
+  pub behind : List ToldRound
+  pub split : rounds ≡ front ++ behind
+  pub steps : filter is_round before ≡ steps_of 1 front
+  pub events : List Event
+  pub begins : Begins events (history lists)
+  pub places : Follow 0 front (length events)
+  pub named : NamesLeast (IsPendingBehind lists front) reply
+  pub answer : IsAnsweredIn start lists reply
+  pub leaves : MayLeave start events reply left
+
+-- a step, and the counters that it left in the log, if any
+abbrev pub LeftStep : Type 0
+LeftStep = Step × Option Counters
+
+abbrev pub IsStepLeft : Start → List (List Entry) → List ToldRound → List Step → Step → Option Counters → Type 0
+IsStepLeft start lists rounds before (steps.Checkpoint reply) left =
+    IsCheckpointTold start lists rounds before reply left
+IsStepLeft start lists rounds before step left = left ≡ None
+
+-- the host's entries in the list of the log
+abbrev pub hosts_entries : Start → List (List Entry) → List Entry
+hosts_entries start lists = own session_of start.sessions (at lists log_lock)
+
+-- So each checkpoint among the steps of the life. Together they left the records that the host appended, and told the
+-- faults at which the host put the log down.
+pub record AreCheckpointsTold (start : Start) (lists : List (List Entry)) (rounds : List ToldRound) (told : List Step)
+    : Type 0 where
+  pub left : List LeftStep
+  pub steps_are : map (λ x. x.0) left ≡ told
+  pub each : EachPlace left (λ before x. IsStepLeft start lists rounds (map (λ y. y.0) before) x.0 x.1)
+  pub records : checkpoints_in (recs_in (hosts_entries start lists)) ≡ filter_map (λ x. x.1) left
+  pub faults : count_by is_down_fault (hosts_entries start lists) ≡ count_by is_checkpoint_fault told

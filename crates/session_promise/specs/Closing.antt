@@ -6,6 +6,7 @@ use Rattle.std.specs.List.{AllByRecursion, count_by, filter}
 use Rattle.notes.specs.Lists.{at}
 use Rattle.tx_events.specs.declared.record.Rec.TheVariants as records
 use Rattle.tx_model.specs.declared.report.LifeReport.{LifeReport}
+use Rattle.tx_model.specs.declared.report.Step.{Step}
 use Rattle.tx_model.specs.Asked.{Asked}
 use Rattle.tx_model.specs.Rounds.{AreInTurn, AreSteps, is_round}
 use Rattle.life_law.specs.LawfulLife.{AreLawfulSteps, IsLawfulLife, facts_of}
@@ -18,6 +19,7 @@ use Rattle.tx_core.specs.Locks.{log_lock}
 use Rattle.tx_core.specs.MultiEntries.{multi_history}
 use Rattle.engine_parts.specs.declared.session.Session.{Session}
 use Rattle.session_promise.specs.Promise.{Promise, is_made_level, recs_of}
+use Rattle.session_promise.specs.Checkpoints.{AreCheckpointsTold}
 use Rattle.session_promise.specs.Dumps.{AreDumpsTold}
 use Rattle.session_promise.specs.Told.{Follow, ToldRound, all_lines, steps_of, told_by}
 
@@ -65,14 +67,17 @@ pub record IsReportOf (start : Start) (lists : List (List Entry)) (rounds : List
 abbrev pub PromisesMakeSteps : Type 0
 PromisesMakeSteps =
     (tells : Bool) (start : Start) (lists : List (List Entry)) (rounds : List ToldRound) (r : LifeReport)
-    → BeginsAt r.life.from start → IsOver tells start lists rounds → AreFewLevels rounds → IsReportOf start lists rounds r
-    → AreLawfulSteps (facts_of tells start.banks r.life (all_lines rounds)) r.steps × AreInTurn r.life.events r.steps
+    → BeginsAt r.life.from start → IsOver tells start lists rounds → AreFewLevels rounds
+    → AreCheckpointsTold start lists rounds r.steps → IsReportOf start lists rounds r
+    → AreLawfulSteps (facts_of tells start.banks r.life r.steps) r.steps × AreInTurn r.life.events r.steps
 
--- The log is that of the ends, where no multixact was touched.
+-- The log is that of the ends and of the checkpoints, where no multixact was touched.
 abbrev pub PromisesMakeLog : Type 0
 PromisesMakeLog =
-    (tells : Bool) (start : Start) (lists : List (List Entry)) (rounds : List ToldRound) (number end : ℕ)
-    → BeginsAt number start → IsOver tells start lists rounds → multi_history lists ≡ []
+    (tells : Bool) (start : Start) (lists : List (List Entry)) (rounds : List ToldRound) (told : List Step)
+    (number end : ℕ)
+    → BeginsAt number start → IsOver tells start lists rounds → AreCheckpointsTold start lists rounds told
+    → multi_history lists ≡ []
     → number + length (start.logged ++ recs_of lists) < 2 ^ 64 → end < 2 ^ 64
     → IsLogOf number start.base (history lists) (start.logged ++ recs_of lists) (flushed_to start (at lists log_lock)) end
 
@@ -83,5 +88,6 @@ PromisesMakeLife =
     (asked : List Asked) (r : LifeReport)
     → BeginsAt r.life.from start → IsOver tells start lists rounds → AreFewLevels rounds
     → AreSteps 1 asked r.steps → AreDumpsTold start lists rounds r.steps
+    → AreCheckpointsTold start lists rounds r.steps
     → IsReportOf start lists rounds r → r.life.from + length r.life.recs < 2 ^ 64 → r.life.end < 2 ^ 64
     → IsLawfulLife tells start.banks asked r

@@ -5,4 +5,5 @@ pub mod Dumps
 pub mod Checkpoints
 pub mod Closing
 pub mod SoFar
+pub mod CheckpointLaws
 pub mod Causes

@@ -66,7 +66,7 @@ SoFarBegins =
     → ((n : ℕ) (s : Session) → slice_get sessions n ≡ Some s → IsFresh s.levels × (s.stage ≡ stages.Clear))
     → IsSoFar tells start lists sessions []
 
--- Each session of the round ran its commands, and the others did nothing.
+-- Each session of the round ran its commands, and the others and the host did nothing.
 pub record WentRound (tells : Bool) (start : Start) (before after : List (List Entry)) (old new : List Session)
     (turns : List (ℕ × Command)) (parts : List RoundPart) : Type 0 where
   pub parts_of : ArePartsOf turns parts
@@ -75,6 +75,7 @@ pub record WentRound (tells : Bool) (start : Start) (before after : List (List E
       → slice_get new p.session ≡ Some s' → TookPart tells start before after p.session s s' p.lines
   pub same : (n : ℕ) → (Contains (sessions_of parts) n → ⊥) → slice_get new n ≡ slice_get old n
   pub idle : (n : ℕ) → n < start.sessions → (Contains (sessions_of parts) n → ⊥) → Knows session_of n before after
+  pub hosts : Knows session_of start.sessions before after
   pub grows : Grows before after
   pub count : length new ≡ length old
   pub kept : (n : ℕ) → n < start.sessions → EngineInvariant start after

@@ -1,4 +1,5 @@
 ghost use Rattle.session_promise.specs.Causes.{FaultsAreTold};
+ghost use Rattle.session_promise.specs.CheckpointLaws.{CheckpointGoesOn, CheckpointsBegin, CheckpointsStayThroughDump, CheckpointsStayThroughRound, DumpsStayThroughCheckpoint, SoFarThroughCheckpoint};
 ghost use Rattle.session_promise.specs.Closing.{LevelsBoundIds, PromisesMakeLife, PromisesMakeLog, PromisesMakeSteps};
 ghost use Rattle.session_promise.specs.Promise.{PromiseBegins, PromiseGoesOn, PromiseStays};
 ghost use Rattle.session_promise.specs.Rounds.{PartsMakeRound};
@@ -67,4 +68,34 @@ pub fn promises_make_life()
 /// And no session was told of more faults of a volume than its count rose by.
 pub fn faults_are_told()
     ensures { FaultsAreTold }
+{}
+
+/// Before the first round no checkpoint was told.
+pub fn checkpoints_begin()
+    ensures { CheckpointsBegin }
+{}
+
+/// The checkpoints that were told stay, behind a round.
+pub fn checkpoints_stay_through_round()
+    ensures { CheckpointsStayThroughRound }
+{}
+
+/// And behind a dump.
+pub fn checkpoints_stay_through_dump()
+    ensures { CheckpointsStayThroughDump }
+{}
+
+/// Behind a checkpoint all sessions promise the same.
+pub fn so_far_through_checkpoint()
+    ensures { SoFarThroughCheckpoint }
+{}
+
+/// It is told with the checkpoints before it.
+pub fn checkpoint_goes_on()
+    ensures { CheckpointGoesOn }
+{}
+
+/// The dumps that were told stay, behind a checkpoint.
+pub fn dumps_stay_through_checkpoint()
+    ensures { DumpsStayThroughCheckpoint }
 {}

@@ -1,5 +1,5 @@
 -- Each fault that a reply tells of was counted by its volume.
-use Rattle.std.proofs.Common.{Bool, List, Some, ap, arith, get_or, length, min, subst, sym, ℕ, ◌+◌, ◌-◌, ◌<◌, ◌^◌, ◌≡◌, ◌≤◌}
+use Rattle.std.proofs.Common.{Bool, List, Some, ap, arith, get_or, length, max, min, subst, sym, ℕ, ◌+◌, ◌-◌, ◌<◌, ◌^◌, ◌≡◌, ◌≤◌}
 use Rattle.std.specs.List.{flat_map, slice_get}
 use Rattle.disk_core.specs.declared.log_disk.LogDisk as logs
 use Rattle.disk_core.specs.declared.page_disk.PageDisk as disks
@@ -21,15 +21,19 @@ use Rattle.session_promise.specs.Causes.{HasRisenBy, faults_in}
 use Rattle.session_promise.specs.Closing.{IsOver}
 use Rattle.session_promise.specs.Told.{ToldRound, all_lines, lines_by}
 use Rattle.session_promise.proofs.FaultLines.{faults_are_told}
-use Rattle.session_run.specs.Causes.{HasRisenAt, HaveCauses, told_faults}
+use Rattle.session_run.specs.Causes.{HasRisenAt, HaveCauses, checkpoint_faults, told_faults}
 use Rattle.session_run.specs.OneLife.{IsOpened}
 
 -- a count has risen by as many from below, and to beyond
 wider : (times before first last now : ℕ) → before ≤ first → last ≤ now → min (first + times) (2 ^ 64 - 1) ≤ last → min (before + times) (2 ^ 64 - 1) ≤ now
 wider times before first last now low high up = grind arith
 
+-- a count has risen by the greater of two where it has by each
+by_more : (before m n now : ℕ) → min (before + m) (2 ^ 64 - 1) ≤ now → min (before + n) (2 ^ 64 - 1) ≤ now → min (before + max m n) (2 ^ 64 - 1) ≤ now
+by_more before m n now first second = grind arith
+
 module _ {L P : Type 0} {l : logs.Ghosts L} {p : disks.Ghosts P} (tells : Bool) (c : Cluster) (start : Start) (lists : List (List Entry)) (rounds : List ToldRound) (life : OpenLife L P l p) (old new : Volumes L P)
-    (over : IsOver tells start lists rounds) (b : Beginning) (faults : List ℕ) (begun : IsOpened c b faults old life) (starts : start ≡ life_from c b faults) (counted : HaveCountedTold l p start lists new) (multis : LeaveMultis old new) (steps : List Step) (lines : flat_map lines_in steps ≡ all_lines rounds) where
+    (over : IsOver tells start lists rounds) (b : Beginning) (faults : List ℕ) (begun : IsOpened c b faults old life) (starts : start ≡ life_from c b faults) (counted : HaveCountedTold l p start lists new) (multis : LeaveMultis old new) (steps : List Step) (lines : flat_map lines_in steps ≡ all_lines rounds) (checkpoints : (lock : ℕ) → HasRisenBy (checkpoint_faults steps lock) (faults_at start lock) (faults_told start lock (at lists lock))) where
   abbrev times : ℕ → ℕ → ℕ
   times session lock = told_faults steps session lock
 
@@ -38,8 +42,9 @@ module _ {L P : Type 0} {l : logs.Ghosts L} {p : disks.Ghosts P} (tells : Bool) 
 
   told : (session lock : ℕ) → HasRisenBy (times session lock) (faults_at start lock) (last lock)
   told session lock =
-      subst (λ (ls : List Line). HasRisenBy (faults_in lock (lines_by session ls)) (faults_at start lock) (last lock)) (sym lines)
-      (faults_are_told tells start lists rounds session lock over)
+      let own : HasRisenBy (faults_in lock (lines_by session (flat_map lines_in steps))) (faults_at start lock) (last lock)
+      = subst (λ (ls : List Line). HasRisenBy (faults_in lock (lines_by session ls)) (faults_at start lock) (last lock)) (sym lines) (faults_are_told tells start lists rounds session lock over) in
+      by_more (faults_at start lock) (faults_in lock (lines_by session (flat_map lines_in steps))) (checkpoint_faults steps lock) (last lock) own (checkpoints lock)
 
   from_first : (lock count : ℕ) → count ≤ get_or faults lock 0 → count ≤ faults_at start lock
   from_first lock count low = subst (λ (fs : List ℕ). count ≤ get_or fs lock 0) (sym (ap (λ (s : Start). s.faults) starts)) low

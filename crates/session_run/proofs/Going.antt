@@ -8,6 +8,7 @@ use Rattle.disk_core.specs.declared.page_disk.PageDisk as disks
 use Rattle.hall.specs.declared.hall.Hall.{Hall}
 use Rattle.hall.specs.Calls.{start_of, view}
 use Rattle.hall.specs.Told.{asking, given}
+use Rattle.notes.specs.Lists.{Knows}
 use Rattle.run_law.specs.Turns as runnable
 use Rattle.run_law.specs.Turns.{turns_in}
 use Rattle.session_lang.specs.declared.script.Item.{Item}
@@ -25,6 +26,7 @@ use Rattle.tx_model.specs.Lines.{turn_of}
 use Rattle.life_law.specs.Replies.{is_told_verdict}
 use Rattle.tx_core.specs.declared.entry.Entry.{Entry}
 use Rattle.tx_core.specs.declared.entry.Start.{Start}
+use Rattle.tx_core.specs.Entries.{session_of}
 use Rattle.engine_parts.specs.declared.part.Part.{Part}
 use Rattle.engine_parts.specs.declared.session.Caller.{Caller}
 use Rattle.engine_parts.specs.declared.session.Session.{Session}
@@ -38,6 +40,7 @@ use Rattle.session_promise.specs.Promise.{Answered, IsToAsker}
 use Rattle.session_promise.specs.Rounds.{IsPartOf, RoundPart, lines_of_parts, sessions_of}
 use Rattle.session_promise.specs.SoFar as so_far
 use Rattle.session_promise.specs.SoFar.{AnsweredLines, round_of}
+use Rattle.session_promise.proofs.CheckpointsStay.{checkpoints_stay_round}
 use Rattle.session_promise.proofs.Parting.{parts_make_round}
 use Rattle.session_promise.proofs.Rounding.{so_far_begins, so_far_ends, so_far_goes_on}
 use Rattle.session_run.specs.Rounds.{TookPart, WentRound, is_among}
@@ -81,6 +84,7 @@ no_turns : (round : List Item) → AllByRecursion (runnable.MayRun 0) round → 
 no_turns [] a = refl
 no_turns (items.Run session command ∷ round) a = let low = a.0.1 in absurd (omega (arith, low))
 no_turns (items.Round ∷ round) a = no_turns round a.1
+no_turns (items.Checkpoint ∷ round) a = no_turns round a.1
 no_turns (items.Dump what at size ∷ round) a = no_turns round a.1
 no_turns (item ∷ round) a = absurd a.0
 
@@ -164,6 +168,7 @@ module _ {H L P : Type 0} {l : logs.Ghosts L} {p : disks.Ghosts P} (hall : Hall 
       took = λ q s s' c at_old at_new. took q s s' c at_old at_new;
       same = same;
       idle = λ n low none. w.idle n (let k = home.count in let m = home.is_host.sessions in omega (arith, low, k, m)) (apart n none);
+      hosts = subst (λ n. Knows session_of n (view before.pass).seen (view after.pass).seen) (sym home.is_host.sessions) w.hosts;
       grows = w.grows;
       count = same_count;
       kept = λ n low.
@@ -216,6 +221,7 @@ module _ {H L P : Type 0} {l : logs.Ghosts L} {p : disks.Ghosts P} where
         told = (parts_make_round (turns_in round) ps done.parts_of).told;
         then = record { home = then; so_far = so_far_goes_on (p.tells) (start_of hall) (view before.pass).seen (view after.pass).seen old new (turns_in round) ps rounds on.so_far done };
         lines_are = w.lines_are ∙ parts_lines w.told;
+        checkpoints = λ told number. checkpoints_stay_round (p.tells) (start_of hall) (view before.pass).seen (view after.pass).seen old new (turns_in round) ps rounds told number (lines_of_parts ps) on.so_far done;
       }
 
   pub life_ends : (hall : Hall H (Part L P l p) Entry Start) → LifeEnds hall

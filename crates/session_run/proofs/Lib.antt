@@ -6,6 +6,7 @@ mod Rounding
 mod Going
 mod RoundCounts
 pub mod RoundSteps
+mod CheckpointFaults
 mod RoundsRun
 mod LogHeld
 mod StatesHeld

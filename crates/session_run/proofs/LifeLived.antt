@@ -93,7 +93,7 @@ module _ {H K L P : Type 0} {l : logs.Ghosts L} {p : disks.Ghosts P} (keep : kee
         steps = r.rounds_are;
       } in
       let lawful : (crash : Option How) → IsLawfulLife p.tells start.banks (asked_of its) (report_of life r.steps crash)
-      = λ crash. promises_make_life p.tells start (view host.pass).seen r.rounds (asked_of its) (report_of life r.steps crash) begins over (few_levels its r.rounds commands taken.levels) r.told r.dumps (report crash) numbers end in (
+      = λ crash. promises_make_life p.tells start (view host.pass).seen r.rounds (asked_of its) (report_of life r.steps crash) begins over (few_levels its r.rounds commands taken.levels) r.told r.dumps r.checkpoints (report crash) numbers end in (
         record {
           lawful = λ crash. subst (λ k. IsLawfulLife p.tells k (asked_of its) (report_of life r.steps crash)) (ap (λ t. t.banks) begun) (lawful crash);
           few = subst (λ (ls : List Line). length ls ≤ 2 ^ 24) (sym (lines_run r.steps r.rounds r.rounds_are)) few;

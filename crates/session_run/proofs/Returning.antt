@@ -23,6 +23,7 @@ use Rattle.notes.proofs.Growing.{begins_same}
 use Rattle.script_rounds.proofs.ListLemmas.{all_front}
 use Rattle.engine_parts.specs.Calls.{MayRun}
 use Rattle.engine_parts.specs.Law.{writer_of}
+use Rattle.engine_host.specs.declared.cluster.Cluster.{Cluster}
 use Rattle.engine_host.specs.declared.host.Host.{Host}
 use Rattle.engine_host.specs.Hosts.{HoldsAllBut, IsHost, IsParked, OthersStayParked, without}
 use Rattle.session_run.specs.declared.member.Member.{Member}
@@ -40,7 +41,7 @@ pub last_of : {X : Type 0} (F : X → Type 0) (xs : List X) (x : X) → All F (x
 last_of F xs x a =
     subst F (get_or_push xs x x (length xs) refl) (All-get_or F (xs ++ x ∷ []) (length xs) x (omega (arith, length-append xs (x ∷ []))) a)
 
-grows_same : (a : List (List Entry)) → Grows a a
+pub grows_same : (a : List (List Entry)) → Grows a a
 grows_same a = record { begins = λ q. begins_same (at a q) }
 
 pub knows_then : (n : ℕ) (a b c : List (List Entry)) → Knows session_of n a b → Knows session_of n b c → Knows session_of n a c
@@ -78,6 +79,7 @@ module _ {H K L P : Type 0} {l : logs.Ghosts L} {p : disks.Ghosts P} where
     pub same : (n : ℕ) (d : Session) → is_among (numbers_of all) n ≡ false → get_or sessions n d ≡ get_or start n d
     pub idle : (n : ℕ) → n < length start → is_among (numbers_of all) n ≡ false
         → Knows session_of n (view first.pass).seen (view host.pass).seen
+    pub hosts : Knows session_of first.cluster.sessions (view first.pass).seen (view host.pass).seen
     pub grows : Grows (view first.pass).seen (view host.pass).seen
 
   pub all_coming : (hall : Hall H (Part L P l p) Entry Start) (host : Host L P l p) (start : List Session)
@@ -98,6 +100,7 @@ module _ {H K L P : Type 0} {l : logs.Ghosts L} {p : disks.Ghosts P} where
     back = λ i d m low. absurd (omega (arith, low));
     same = λ n d e. refl;
     idle = λ n low e. record { grows = grows_same (view host.pass).seen; own = λ place. refl };
+    hosts = record { grows = grows_same (view host.pass).seen; own = λ place. refl };
     grows = grows_same (view host.pass).seen;
   }
 
@@ -183,6 +186,10 @@ module _ {H K L P : Type 0} {l : logs.Ghosts L} {p : disks.Ghosts P} where
         idle = λ k inside e.
             knows_then k (view first.pass).seen (view host.pass).seen (view host'.pass).seen (i.idle k inside e)
             (learnt k (i.others k session inside (left_out k e)).held);
+        hosts =
+            let named : Holds (view host.pass) first.cluster.sessions
+            = subst (Holds (view host.pass)) (i.host_is.name ∙ ap (λ (k : Cluster). k.sessions) i.cluster) i.host_is.own.named in
+            knows_then first.cluster.sessions (view first.pass).seen (view host.pass).seen (view host'.pass).seen i.hosts (learnt first.cluster.sessions named);
         grows = grows_then (view first.pass).seen (view host.pass).seen (view host'.pass).seen i.grows (subst (Grows (view host.pass).seen) (sym seen) joined.moment.grows);
       }
 
@@ -196,5 +203,6 @@ module _ {H K L P : Type 0} {l : logs.Ghosts L} {p : disks.Ghosts P} where
         → IsBack host (get_or sessions (get_or xs j m).caller.number d) (get_or xs j m)) i.split (λ j d m inside. (i.back j d m inside).2);
     same = i.same;
     idle = i.idle;
+    hosts = i.hosts;
     grows = i.grows;
   }

@@ -41,6 +41,7 @@ rounds_told n (asked.round turns ∷ more) (steps.Round number lines ∷ ss) (r 
     let rest : filter is_round ss ≡ steps_of (n + 1) rounds = cc in
     (subst (AreLinesOf turns) same a.1, rounds_told (n + 1) more ss rounds a.2 rest)
 rounds_told n (asked.dump what at size ∷ more) (steps.Dump of from count reply ∷ ss) rounds a e = rounds_told n more ss rounds a.3 e
+rounds_told n (asked.checkpoint ∷ more) (steps.Checkpoint reply ∷ ss) rounds a e = rounds_told n more ss rounds a e
 rounds_told n all ss rounds a e = absurd a
 
 module _ (f : ℕ × Command → Bool) where

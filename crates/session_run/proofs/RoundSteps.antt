@@ -99,18 +99,27 @@ as_many (turns ∷ commands) (r ∷ rounds) a = let e = as_many commands rounds 
 as_many [] (r ∷ rounds) a = absurd a
 as_many (turns ∷ commands) [] a = absurd a
 
--- one more round, and one more dump
+-- one more round, one more dump, and one more checkpoint
 pub round_push : (n number : ℕ) (all : List Asked) (ss : List Step) (turns : Turns) (lines : List Line) → AreSteps n all ss → number ≡ n + length (rounds_in all) → AreLinesOf turns lines → AreSteps n (all ++ asked.round turns ∷ []) (ss ++ steps.Round number lines ∷ [])
 round_push n number [] [] turns lines a e l = (omega (arith, e), l, tt)
 round_push n number (asked.round ts ∷ all) (steps.Round m ls ∷ ss) turns lines a e l = (a.0, a.1, round_push (n + 1) number all ss turns lines a.2 (omega (arith, e)) l)
 round_push n number (asked.dump what at size ∷ all) (steps.Dump of from count reply ∷ ss) turns lines a e l = (a.0, a.1, a.2, round_push n number all ss turns lines a.3 e l)
+round_push n number (asked.checkpoint ∷ all) (steps.Checkpoint reply ∷ ss) turns lines a e l = round_push n number all ss turns lines a e l
 round_push n number all ss turns lines a e l = absurd a
 
 pub dump_push : (n : ℕ) (all : List Asked) (ss : List Step) (what : DumpOf) (at size : ℕ) (reply : Reply) → AreSteps n all ss → AreSteps n (all ++ asked.dump what at size ∷ []) (ss ++ steps.Dump what at size reply ∷ [])
 dump_push n [] [] what at size reply a = (refl, refl, refl, tt)
 dump_push n (asked.round ts ∷ all) (steps.Round m ls ∷ ss) what at size reply a = (a.0, a.1, dump_push (n + 1) all ss what at size reply a.2)
 dump_push n (asked.dump w from k ∷ all) (steps.Dump of place count r ∷ ss) what at size reply a = (a.0, a.1, a.2, dump_push n all ss what at size reply a.3)
+dump_push n (asked.checkpoint ∷ all) (steps.Checkpoint r ∷ ss) what at size reply a = dump_push n all ss what at size reply a
 dump_push n all ss what at size reply a = absurd a
+
+pub checkpoint_push : (n : ℕ) (all : List Asked) (ss : List Step) (reply : Reply) → AreSteps n all ss → AreSteps n (all ++ asked.checkpoint ∷ []) (ss ++ steps.Checkpoint reply ∷ [])
+checkpoint_push n [] [] reply a = tt
+checkpoint_push n (asked.round ts ∷ all) (steps.Round m ls ∷ ss) reply a = (a.0, a.1, checkpoint_push (n + 1) all ss reply a.2)
+checkpoint_push n (asked.dump w from k ∷ all) (steps.Dump of place count r ∷ ss) reply a = (a.0, a.1, a.2, checkpoint_push n all ss reply a.3)
+checkpoint_push n (asked.checkpoint ∷ all) (steps.Checkpoint r ∷ ss) reply a = checkpoint_push n all ss reply a
+checkpoint_push n all ss reply a = absurd a
 
 pub steps_push : (n : ℕ) (rounds : List ToldRound) (r : ToldRound) → steps_of n (rounds ++ r ∷ []) ≡ steps_of n rounds ++ steps.Round (n + length rounds) r.lines ∷ []
 steps_push n [] r = ap (λ m. steps.Round m r.lines ∷ []) (sym (add-zero n))
@@ -123,8 +132,8 @@ module _ {K : Type 0} (keep : keepers.Ghosts K) where
   pub kept_push : (names : List (List ℕ)) (kept : K) (ss : List Step) (step : Step) → with_steps keep names kept (ss ++ step ∷ []) ≡ with_steps keep names (with_steps keep names kept ss) (step ∷ [])
   kept_push names kept [] step = refl
   kept_push names kept (steps.Round number lines ∷ ss) step = kept_push names (keep.with_lines names (keep.with_round kept number) lines) ss step
-  kept_push names kept (steps.Checkpoint reply ∷ ss) step = kept_push names (keep.with_dump names kept (steps.Checkpoint reply)) ss step
-  kept_push names kept (steps.Dump what at size reply ∷ ss) step = kept_push names (keep.with_dump names kept (steps.Dump what at size reply)) ss step
+  kept_push names kept (steps.Checkpoint reply ∷ ss) step = kept_push names (keep.with_step names kept (steps.Checkpoint reply)) ss step
+  kept_push names kept (steps.Dump what at size reply ∷ ss) step = kept_push names (keep.with_step names kept (steps.Dump what at size reply)) ss step
 
 -- as their text
 text_behind : (names : List (List ℕ)) (text mid all : List ℕ) (step : Step) (ss : List Step) → mid ≡ text ++ flat_map (step_text names) (step ∷ []) → all ≡ mid ++ flat_map (step_text names) ss → all ≡ text ++ flat_map (step_text names) (step ∷ ss)
@@ -135,8 +144,8 @@ text_behind names text mid all step ss one rest =
     ∙ ap (λ t. text ++ t) (sym (flat_map-append (step_text names) (step ∷ []) ss))
 
 module _ (keep : keepers.Ghosts (List ℕ)) (names : List (List ℕ)) (round : (text : List ℕ) (n : ℕ) → keep.with_round text n ≡ text ++ round_line n)
-    (lines : (text : List ℕ) (ls : List Line) → keep.with_lines names text ls ≡ text ++ flat_map (command_line names) ls) (dump : (text : List ℕ) (step : Step) → keep.with_dump names text step ≡ text ++ step_text names step) where
-  dump_behind : (text : List ℕ) (step : Step) → keep.with_dump names text step ≡ text ++ flat_map (step_text names) (step ∷ [])
+    (lines : (text : List ℕ) (ls : List Line) → keep.with_lines names text ls ≡ text ++ flat_map (command_line names) ls) (dump : (text : List ℕ) (step : Step) → keep.with_step names text step ≡ text ++ step_text names step) where
+  dump_behind : (text : List ℕ) (step : Step) → keep.with_step names text step ≡ text ++ flat_map (step_text names) (step ∷ [])
   dump_behind text step = dump text step ∙ ap (λ t. text ++ t) (sym (append-nil (step_text names step)))
 
   steps_text : (text : List ℕ) (ss : List Step) → with_steps keep names text ss ≡ text ++ flat_map (step_text names) ss
@@ -148,37 +157,37 @@ module _ (keep : keepers.Ghosts (List ℕ)) (names : List (List ℕ)) (round : (
       ∙ append_assoc text (round_line number) (flat_map (command_line names) ls) ∙ ap (λ t. text ++ t) (sym (one_round names number ls)))
       (steps_text mid ss)
   steps_text text (steps.Checkpoint reply ∷ ss) =
-      let mid = keep.with_dump names text (steps.Checkpoint reply) in
+      let mid = keep.with_step names text (steps.Checkpoint reply) in
       text_behind names text mid (with_steps keep names mid ss) (steps.Checkpoint reply) ss (dump_behind text (steps.Checkpoint reply)) (steps_text mid ss)
   steps_text text (steps.Dump what at size reply ∷ ss) =
-      let mid = keep.with_dump names text (steps.Dump what at size reply) in
+      let mid = keep.with_step names text (steps.Dump what at size reply) in
       text_behind names text mid (with_steps keep names mid ss) (steps.Dump what at size reply) ss (dump_behind text (steps.Dump what at size reply)) (steps_text mid ss)
 
 pub kept_text : (keep : keepers.Ghosts (List ℕ)) (names : List (List ℕ)) (front text : List ℕ) (ss : List Step)
     → text ≡ with_steps keep names front ss
     → ((text : List ℕ) (n : ℕ) → keep.with_round text n ≡ text ++ round_line n)
     → ((text : List ℕ) (ls : List Line) → keep.with_lines names text ls ≡ text ++ flat_map (command_line names) ls)
-    → ((text : List ℕ) (step : Step) → keep.with_dump names text step ≡ text ++ step_text names step)
+    → ((text : List ℕ) (step : Step) → keep.with_step names text step ≡ text ++ step_text names step)
     → text ≡ front ++ flat_map (step_text names) ss
 kept_text keep names front text ss e round lines dump = e ∙ steps_text keep names round lines dump front ss
 
 -- as the lines themselves
 module _ (keep : keepers.Ghosts (List Line)) (names : List (List ℕ)) (round : (kept : List Line) (n : ℕ) → keep.with_round kept n ≡ kept)
-    (lines : (kept ls : List Line) → keep.with_lines names kept ls ≡ kept ++ ls) (dump : (kept : List Line) (step : Step) → keep.with_dump names kept step ≡ kept) where
+    (lines : (kept ls : List Line) → keep.with_lines names kept ls ≡ kept ++ ls) (dump : (kept : List Line) (step : Step) → keep.with_step names kept step ≡ kept) where
   steps_lines : (kept : List Line) (ss : List Step) → with_steps keep names kept ss ≡ kept ++ flat_map lines_in ss
   steps_lines kept [] = sym (append-nil kept)
   steps_lines kept (steps.Round number ls ∷ ss) =
       steps_lines (keep.with_lines names (keep.with_round kept number) ls) ss
       ∙ ap (λ t. t ++ flat_map lines_in ss) (lines (keep.with_round kept number) ls ∙ ap (λ t. t ++ ls) (round kept number))
       ∙ append_assoc kept ls (flat_map lines_in ss)
-  steps_lines kept (steps.Checkpoint reply ∷ ss) = steps_lines (keep.with_dump names kept (steps.Checkpoint reply)) ss ∙ ap (λ t. t ++ flat_map lines_in ss) (dump kept (steps.Checkpoint reply))
+  steps_lines kept (steps.Checkpoint reply ∷ ss) = steps_lines (keep.with_step names kept (steps.Checkpoint reply)) ss ∙ ap (λ t. t ++ flat_map lines_in ss) (dump kept (steps.Checkpoint reply))
   steps_lines kept (steps.Dump what at size reply ∷ ss) =
-      steps_lines (keep.with_dump names kept (steps.Dump what at size reply)) ss ∙ ap (λ t. t ++ flat_map lines_in ss) (dump kept (steps.Dump what at size reply))
+      steps_lines (keep.with_step names kept (steps.Dump what at size reply)) ss ∙ ap (λ t. t ++ flat_map lines_in ss) (dump kept (steps.Dump what at size reply))
 
 pub kept_lines : (keep : keepers.Ghosts (List Line)) (names : List (List ℕ)) (first kept : List Line) (ss : List Step)
     → kept ≡ with_steps keep names first ss → first ≡ []
     → ((kept : List Line) (n : ℕ) → keep.with_round kept n ≡ kept)
     → ((kept ls : List Line) → keep.with_lines names kept ls ≡ kept ++ ls)
-    → ((kept : List Line) (step : Step) → keep.with_dump names kept step ≡ kept)
+    → ((kept : List Line) (step : Step) → keep.with_step names kept step ≡ kept)
     → kept ≡ flat_map lines_in ss
 kept_lines keep names first kept ss e none round lines dump = e ∙ steps_lines keep names round lines dump first ss ∙ ap (λ t. t ++ flat_map lines_in ss) none

@@ -28,6 +28,7 @@ use Rattle.engine_parts.specs.declared.part.Part.{Part}
 use Rattle.engine_parts.specs.declared.session.Session.{Session}
 use Rattle.engine_parts.specs.Calls.{MayRun}
 use Rattle.engine_parts.specs.Sessions.{MayCall}
+use Rattle.engine_host.specs.declared.cluster.Cluster.{Cluster}
 use Rattle.engine_host.specs.declared.host.Host.{Host}
 use Rattle.engine_host.specs.Hosts.{IsParked}
 use Rattle.session_run.specs.declared.member.Member.{Member}
@@ -177,11 +178,11 @@ module _ {H K L P : Type 0} {l : logs.Ghosts L} {p : disks.Ghosts P} (keep : kee
 
       -- and were taken back
       pub went : (mid last : Host L P l p) (between final : List Session)
-          → (view mid.pass).seen ≡ (view first.pass).seen
+          → mid.cluster ≡ first.cluster → (view mid.pass).seen ≡ (view first.pass).seen
           → StayBehind hall mid plan.sessions.items start between → AreBack mid last ran between final
           → All (λ (m : Member K L P l p). m.lost ≡ false) ran
           → WentRound hall (turns_in round) first last start final (flat_map (λ (t : ℕ × List Line). t.1) (map told_of ran))
-      went mid last between final seen stay back sufficed =
+      went mid last between final cluster seen stay back sufficed =
           let firsts : map (λ (t : ℕ × List Line). t.0) (map told_of ran) ≡ plan.sessions.items = firsts_told ran ∙ numbers_are in
           let long : length (map told_of ran) ≡ length ran = length-mapped told_of ran in
           let at : (i : ℕ) → i < length (map told_of ran) → i < length ran = λ i low. subst (λ k. i < k) long low in
@@ -224,6 +225,8 @@ module _ {H K L P : Type 0} {l : logs.Ghosts L} {p : disks.Ghosts P} (keep : kee
             idle = λ n low e.
                 subst (λ v. Knows session_of n v (view last.pass).seen) seen
                 (back.idle n (let c = stay.count in omega (arith, c, low)) (ap (λ t. is_among t n) (numbers_are ∙ sym firsts) ∙ e));
+            hosts = subst (λ v. Knows session_of first.cluster.sessions v (view last.pass).seen) seen
+                (subst (λ (k : Cluster). Knows session_of k.sessions (view mid.pass).seen (view last.pass).seen) cluster back.hosts);
             grows = subst (λ v. Grows v (view last.pass).seen) seen back.grows;
             lines_are = refl;
           }

@@ -9,6 +9,8 @@ use Rattle.run_law.specs.Turns.{MayRun, turns_in}
 use Rattle.session_lang.specs.declared.script.Item.{Item}
 use Rattle.tx_model.specs.declared.command.Command.{Command}
 use Rattle.tx_model.specs.declared.report.Line.{Line}
+use Rattle.tx_model.specs.declared.report.Step.{Step}
+use Rattle.tx_model.specs.declared.report.Step.TheVariants as steps
 use Rattle.tx_model.specs.Lines.{AreLinesOf}
 use Rattle.tx_core.specs.declared.entry.Entry.{Entry}
 use Rattle.tx_core.specs.declared.entry.Start.{Start}
@@ -17,6 +19,7 @@ use Rattle.engine_parts.specs.declared.part.Part.{Part}
 use Rattle.engine_parts.specs.declared.session.Session.{Session}
 use Rattle.engine_host.specs.declared.host.Host.{Host}
 use Rattle.engine_host.specs.Hosts.{HasSeenNothing, HoldsAllBut, IsHost, IsNewSession}
+use Rattle.session_promise.specs.Checkpoints.{AreCheckpointsTold}
 use Rattle.session_promise.specs.Closing.{IsOver}
 use Rattle.session_promise.specs.SoFar.{IsSoFar}
 use Rattle.session_promise.specs.Told.{ToldRound}
@@ -45,13 +48,17 @@ module _ {H L P : Type 0} {l : logs.Ghosts L} {p : disks.Ghosts P} where
       → ((n : ℕ) (d : Session) → n < length sessions → IsNewSession (get_or sessions n d))
       → GoesOn hall host sessions []
 
-  -- with a round it has one round more, of these lines
+  -- with a round it has one round more, of these lines, and the checkpoints that were told stay
   pub record HasRoundMore (hall : Hall H (Part L P l p) Entry Start) (turns : List (ℕ × Command))
-      (after : Host L P l p) (new : List Session) (rounds : List ToldRound) (lines : List Line) : Type 0 where
+      (before after : Host L P l p) (new : List Session) (rounds : List ToldRound) (lines : List Line) : Type 0 where
     pub round : ToldRound
     pub told : AreLinesOf turns round.lines
     pub then : GoesOn hall after new (rounds ++ round ∷ [])
     pub lines_are : lines ≡ round.lines
+    pub checkpoints : (so_far : List Step) (number : ℕ)
+        → AreCheckpointsTold (start_of hall) (view before.pass).seen rounds so_far
+        → AreCheckpointsTold (start_of hall) (view after.pass).seen (rounds ++ round ∷ [])
+        (so_far ++ steps.Round number round.lines ∷ [])
 
   abbrev pub LifeGoesOn : Hall H (Part L P l p) Entry Start → Type 0
   LifeGoesOn hall =
@@ -60,7 +67,7 @@ module _ {H L P : Type 0} {l : logs.Ghosts L} {p : disks.Ghosts P} where
       → GoesOn hall before old rounds → AreHome hall after new → length new ≡ length old
       → All (MayRun (length old)) round
       → WentRound hall (turns_in round) before after old new lines
-      → HasRoundMore hall (turns_in round) after new rounds lines
+      → HasRoundMore hall (turns_in round) before after new rounds lines
 
   -- and behind any round it may be over
   abbrev pub LifeEnds : Hall H (Part L P l p) Entry Start → Type 0

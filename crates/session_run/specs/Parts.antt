@@ -1,4 +1,5 @@
--- What a life is asked for: what was run and kept of its rounds and dumps, and what is known of it when it is over.
+-- What a life is asked for: what was run and kept of its rounds, dumps and checkpoints, and what is known of it when it is
+-- over.
 use Rattle.std.specs.Prelude.{◌≡◌, ℕ, ◌^◌, ◌≤◌, Bool, List, [], ◌∷◌, ◌++◌, Option, length}
 use Rattle.std.specs.List.{All, filter, flat_map}
 use Rattle.disk_core.specs.declared.log_disk.LogDisk as logs
@@ -22,8 +23,10 @@ use Rattle.tx_core.specs.declared.entry.Start.{Start}
 use Rattle.engine_parts.specs.declared.part.Part.{Part}
 use Rattle.engine_parts.specs.declared.session.Session.{Session}
 use Rattle.engine_host.specs.declared.host.Host.{Host}
+use Rattle.session_promise.specs.Checkpoints.{AreCheckpointsTold}
 use Rattle.session_promise.specs.Dumps.{AreDumpsTold}
 use Rattle.session_promise.specs.Told.{ToldRound, steps_of}
+use Rattle.session_run.specs.Causes.{AreCheckpointsCounted}
 use Rattle.session_run.specs.GoesOn.{GoesOn}
 
 -- items that a life of so many sessions can run
@@ -38,11 +41,11 @@ module _ {K : Type 0} (k : keepers.Ghosts K) where
   with_steps names kept [] = kept
   with_steps names kept (steps.Round number lines ∷ rest) =
       with_steps names (k.with_lines names (k.with_round kept number) lines) rest
-  with_steps names kept (step ∷ rest) = with_steps names (k.with_dump names kept step) rest
+  with_steps names kept (step ∷ rest) = with_steps names (k.with_step names kept step) rest
 
 module _ {H K L P : Type 0} {l : logs.Ghosts L} {p : disks.Ghosts P} (k : keepers.Ghosts K) where
-  -- The life goes on behind what was asked of it so far: its steps are the rounds and the dumps of that, and they were
-  -- kept behind what was kept first.
+  -- The life goes on behind what was asked of it so far: its steps are the rounds, the dumps and the checkpoints of that,
+  -- and they were kept behind what was kept first.
   pub record HasRun (hall : Hall H (Part L P l p) Entry Start) (host : Host L P l p) (sessions : List Session)
       (names : List (List ℕ)) (asked : List Asked) (first kept : K) : Type 0 where
     pub rounds : List ToldRound
@@ -51,6 +54,8 @@ module _ {H K L P : Type 0} {l : logs.Ghosts L} {p : disks.Ghosts P} (k : keeper
     pub told : AreSteps 1 asked steps
     pub rounds_are : filter is_round steps ≡ steps_of 1 rounds
     pub dumps : AreDumpsTold (start_of hall) (view host.pass).seen rounds steps
+    pub checkpoints : AreCheckpointsTold (start_of hall) (view host.pass).seen rounds steps
+    pub faults : AreCheckpointsCounted (start_of hall) (view host.pass).seen steps
     pub kept_is : kept ≡ with_steps k names first steps
 
   -- behind so many rounds it has done this more
@@ -62,10 +67,10 @@ module _ {H K L P : Type 0} {l : logs.Ghosts L} {p : disks.Ghosts P} (k : keeper
       → HasRun hall before old names asked first kept
       → HasRun hall after new names (asked ++ added) first kept'
 
-  -- so behind a directive
-  abbrev pub ShowsOn : Hall H (Part L P l p) Entry Start → List (List ℕ) → List Asked → Host L P l p → Host L P l p
+  -- so behind a directive that asks for something
+  abbrev pub AnswersOn : Hall H (Part L P l p) Entry Start → List (List ℕ) → List Asked → Host L P l p → Host L P l p
       → List Session → K → K → Type 0
-  ShowsOn hall names added before after sessions kept kept' =
+  AnswersOn hall names added before after sessions kept kept' =
       (asked : List Asked) (first : K)
       → HasRun hall before sessions names asked first kept
       → HasRun hall after sessions names (asked ++ added) first kept'

@@ -44,7 +44,7 @@ module _ {K L P : Type 0} {l : logs.Ghosts L} {p : disks.Ghosts P} where
     pub session : here ≡ m.caller.session
     pub known : Knows session_of m.caller.number (view m.caller.pass).seen (view host.pass).seen
 
-  -- the sessions of these members were taken back, and all others were left alone
+  -- the sessions of these members were taken back, all others were left alone, and the host did nothing
   pub record AreBack (before after : Host L P l p) (members : List (Member K L P l p)) (old new : List Session)
       : Type 0 where
     pub count : length new ≡ length old
@@ -53,6 +53,7 @@ module _ {K L P : Type 0} {l : logs.Ghosts L} {p : disks.Ghosts P} where
     pub same : (n : ℕ) (d : Session) → is_among (numbers_of members) n ≡ false → get_or new n d ≡ get_or old n d
     pub idle : (n : ℕ) → n < length old → is_among (numbers_of members) n ≡ false
         → Knows session_of n (view before.pass).seen (view after.pass).seen
+    pub hosts : Knows session_of before.cluster.sessions (view before.pass).seen (view after.pass).seen
     pub grows : Grows (view before.pass).seen (view after.pass).seen
 
 module _ {H L P : Type 0} {l : logs.Ghosts L} {p : disks.Ghosts P} where
@@ -83,7 +84,7 @@ module _ {H L P : Type 0} {l : logs.Ghosts L} {p : disks.Ghosts P} where
     pub known : Knows session_of n (view last.pass).seen (view after.pass).seen
 
   -- Each session ran its commands of the round, in the order of the report, and these are their lines. The other
-  -- sessions are as they were.
+  -- sessions are as they were, and the host did nothing.
   pub record WentRound (hall : Hall H (Part L P l p) Entry Start) (turns : List (ℕ × Command))
       (before after : Host L P l p) (old new : List Session) (lines : List Line) : Type 0 where
     pub told : List (ℕ × List Line)
@@ -95,6 +96,7 @@ module _ {H L P : Type 0} {l : logs.Ghosts L} {p : disks.Ghosts P} where
     pub same : (n : ℕ) (d : Session) → is_among (map (λ t. t.0) told) n ≡ false → get_or new n d ≡ get_or old n d
     pub idle : (n : ℕ) → n < length old → is_among (map (λ t. t.0) told) n ≡ false
         → Knows session_of n (view before.pass).seen (view after.pass).seen
+    pub hosts : Knows session_of before.cluster.sessions (view before.pass).seen (view after.pass).seen
     pub grows : Grows (view before.pass).seen (view after.pass).seen
     pub lines_are : lines ≡ flat_map (λ t. t.1) told
 

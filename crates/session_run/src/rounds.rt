@@ -1,26 +1,27 @@
-//! Runs the rounds of a script over one lock table, and the dumps between them, and keeps them as they are done.
+//! Runs the rounds of a script over one lock table, and what it asks for between them, and keeps them as they are done.
 ghost use Rattle.std.specs.Prelude.{◌≡◌, ◌+◌, ◌^◌, ◌<◌, ◌≤◌, ◌∷◌, ℕ, List, [], IfOk, OnOk, length, true};
 ghost use Rattle.std.specs.List.{All};
 ghost use Rattle.engine_host.specs.Hosts.{HasSeenNothing, HoldsAllBut, IsHost, IsNewSession, IsParked};
 ghost use Rattle.tx_model.specs.Asked as asked;
 ghost use Rattle.tx_model.specs.Asked.{rounds_in};
 ghost use Rattle.session_lang.specs.Rounds.{asked_at, asked_of, asked_round};
-ghost use Rattle.run_law.specs.Turns.{MayRun, is_command, turns_in};
+ghost use Rattle.run_law.specs.Turns.{MayRun, MayShow, is_command, turns_in};
 ghost use Rattle.script_rounds.specs.Plans.{IsBlank};
 ghost use Rattle.session_run.specs.Rounds.{MayAdd};
 ghost use Rattle.session_run.specs.GoesOn.{AreHome, GoesOn};
-ghost use Rattle.session_run.specs.Parts.{HasRun, RunsOn, ShowsOn};
+ghost use Rattle.session_run.specs.Parts.{AnswersOn, HasRun, RunsOn};
 
 use crate::laws::{life_begins, life_goes_on};
 use crate::round::run_round;
 use disk_core::{LogDisk, PageDisk};
+use engine_checkpoints::checkpoint;
 use engine_dumps::show;
 use engine_host::Host;
 use engine_life::new_sessions;
 use engine_parts::{EngineLaw, Session};
 use hall::Hall;
 use script_rounds::{LineKeeper, Plan, next_round};
-use session_lang::Items;
+use session_lang::{Between, Dump, Items};
 use std::alloc::Global;
 use std::sync::Wait;
 use std::thread::Threads;
@@ -125,8 +126,56 @@ fn run_next<
     Ok(rounds + 1)
 }
 
-/// Answers the dump that the item at this place asks for, if it does, and keeps it.
-fn show_next<R: Wait, K: LineKeeper, L: LogDisk, P: PageDisk>(
+/// Answers a dump, and keeps it. The sessions are all home.
+fn show_dump<R: Wait, K: LineKeeper, L: LogDisk, P: PageDisk>(
+    rt: &R,
+    alloc: Global,
+    hall: &Hall<EngineLaw<L, P>>,
+    host: &mut Host<L, P>,
+    _sessions: &[Session],
+    dump: Dump,
+    names: &NameList,
+    kept: &mut K,
+) -> Result<(), Memory>
+    requires home { AreHome hall.now host.old _sessions.now }
+    requires may { MayShow dump.what dump.at dump.length }
+    ensures home { AreHome hall.now host.new _sessions.now }
+    ensures cluster { host.new.cluster ≡ host.old.cluster }
+    ensures ran { OnOk result (AnswersOn K.LineKeeper hall.now names.now
+        (asked.dump dump.what dump.at dump.length ∷ []) host.old host.new _sessions.now kept.old kept.new) }
+{
+    let reply = show(rt, alloc, hall, host, dump)?;
+    let step = Step::Dump {
+        what: dump.what,
+        at: dump.at,
+        length: dump.length,
+        reply,
+    };
+    kept.add_step(names, &step)
+}
+
+/// Makes a checkpoint, and keeps what it was answered. The sessions are all home.
+fn make_checkpoint<R: Wait, K: LineKeeper, L: LogDisk, P: PageDisk>(
+    rt: &R,
+    hall: &Hall<EngineLaw<L, P>>,
+    host: &mut Host<L, P>,
+    sessions: &[Session],
+    names: &NameList,
+    kept: &mut K,
+) -> Result<(), Memory>
+    requires home { AreHome hall.now host.old sessions.now }
+    ensures home { AreHome hall.now host.new sessions.now }
+    ensures cluster { host.new.cluster ≡ host.old.cluster }
+    ensures ran { OnOk result (AnswersOn K.LineKeeper hall.now names.now (asked.checkpoint ∷ []) host.old host.new
+        sessions.now kept.old kept.new) }
+{
+    let reply = checkpoint(rt, hall, host, sessions);
+    let step = Step::Checkpoint { reply };
+    kept.add_step(names, &step)
+}
+
+/// Answers what the item at this place asks for between two rounds, if it does, and keeps it.
+fn answer_next<R: Wait, K: LineKeeper, L: LogDisk, P: PageDisk>(
     rt: &R,
     alloc: Global,
     hall: &Hall<EngineLaw<L, P>>,
@@ -141,23 +190,19 @@ fn show_next<R: Wait, K: LineKeeper, L: LogDisk, P: PageDisk>(
     requires items { All (MayRun (length sessions.now)) script.now }
     ensures home { AreHome hall.now host.new sessions.now }
     ensures cluster { host.new.cluster ≡ host.old.cluster }
-    ensures ran { OnOk result (ShowsOn K.LineKeeper hall.now names.now (asked_at script.now place) host.old host.new
+    ensures ran { OnOk result (AnswersOn K.LineKeeper hall.now names.now (asked_at script.now place) host.old host.new
         sessions.now kept.old kept.new) }
 {
-    let Some(dump) = script.dump_at(place) else {
-        return Ok(());
-    };
-    let reply = show(rt, alloc, hall, host, dump)?;
-    let step = Step::Dump {
-        what: dump.what,
-        at: dump.at,
-        length: dump.length,
-        reply,
-    };
-    kept.add_dump(names, &step)
+    match script.between_at(place) {
+        Some(Between::Checkpoint) => make_checkpoint(rt, hall, host, sessions, names, kept),
+        Some(Between::Dump(dump)) => {
+            show_dump(rt, alloc, hall, host, sessions, dump, names, kept)
+        }
+        None => Ok(()),
+    }
 }
 
-/// Runs the rounds of a script, one after another, and the dumps between them, its sessions being these.
+/// Runs the rounds of a script, one after another, and answers what it asks for between them, its sessions being these.
 fn run_each<
     R: Threads + Wait + Sync,
     K: LineKeeper + Send + Drop,
@@ -175,6 +220,7 @@ fn run_each<
     threads: usize,
 ) -> Result<(), Memory>
     requires begins { GoesOn hall.now host.old sessions.old [] }
+    requires unseen { HasSeenNothing host.old }
     requires items { All (MayRun (length sessions.old)) script }
     requires few { length script ≤ 2 ^ 24 }
     ensures home { AreHome hall.now host.new sessions.new }
@@ -193,14 +239,14 @@ fn run_each<
             threads,
         )?;
         let place = round.len();
-        show_next(rt, alloc, hall, host, sessions, &rest, place, names, kept)?;
+        answer_next(rt, alloc, hall, host, sessions, &rest, place, names, kept)?;
         rest = behind;
     }
     Ok(())
 }
 
-/// Runs the rounds of a life, one after another, and the dumps between them: the sessions of a round on at most so many
-/// threads.
+/// Runs the rounds of a life, one after another, and answers what is asked for between them: the sessions of a round on at
+/// most so many threads.
 pub fn run_rounds<
     R: Threads + Wait + Sync,
     K: LineKeeper + Send + Drop,

@@ -4,6 +4,8 @@
 #![tactic(auto)]
 
 #[cfg(test)]
+mod checkpoint_tests;
+#[cfg(test)]
 mod command_tests;
 #[cfg(test)]
 mod did_tests;

@@ -37,3 +37,4 @@ pub mod LogBehind
 pub mod OneFault
 pub mod Once
 pub mod Flushed
+pub mod StopLimits

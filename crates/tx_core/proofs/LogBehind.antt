@@ -193,7 +193,7 @@ log_is_behind start lists k is =
 
 -- the counters behind a checkpoint
 
-same_counters : (low high : Counters) (number : ℕ) → AreNotBelow low high → after_record low (records.Checkpoint number high) ≡ high
+pub same_counters : (low high : Counters) (number : ℕ) → AreNotBelow low high → after_record low (records.Checkpoint number high) ≡ high
 same_counters low high number n i = record {
   next = greater low.next high.next n.next i;
   oldest = greater low.oldest high.oldest n.oldest i;

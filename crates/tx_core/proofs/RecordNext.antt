@@ -47,7 +47,7 @@ xmin_upto base h is legal =
     let c : snapshot_xmax base.next h ≤ next_given base.next h = new_past base h legal is.full (positive base.next is.full) in
     omega arith
 
-announced_given : (start : Start) (lists : List (List Entry)) (oldest : ℕ) → EngineInvariant start lists → IsBase start.base → IsOldestAnnounced start lists oldest → oldest ≤ next_given start.base.next (history lists)
+pub announced_given : (start : Start) (lists : List (List Entry)) (oldest : ℕ) → EngineInvariant start lists → IsBase start.base → IsOldestAnnounced start lists oldest → oldest ≤ next_given start.base.next (history lists)
 announced_given start lists oldest k is a =
     let h : List Event = history lists in
     ⊎_elim

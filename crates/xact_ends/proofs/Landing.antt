@@ -19,6 +19,7 @@ use Rattle.tx_core.specs.Entries.{history, recs_in}
 use Rattle.tx_core.specs.Laws.{StaysBase}
 use Rattle.tx_core.specs.Locks.{log_lock}
 use Rattle.tx_core.specs.RecordsFollow.{counters_after}
+use Rattle.tx_core.proofs.StopLimits.{stop_from, stop_rises}
 use Rattle.tx_core.proofs.Posting.{oldest_by_places, oldest_rises}
 use Rattle.wal_records.specs.Spelling.{IsLawful, IsTree}
 use Rattle.session_levels.proofs.HeadLemmas.{head_tail}
@@ -32,7 +33,7 @@ use Rattle.log_sections.specs.declared.appending.Appended.TheVariants as came
 use Rattle.log_sections.specs.LogSections.{AppendSection, Appends, TakesAbort, TakesTruncation}
 use Rattle.proc_sections.specs.Horizons.{HasForms, truncation_behind}
 use Rattle.xact_ends.specs.Logged.{IsNumbered, IsOldestTold}
-use Rattle.xact_ends.proofs.Fitting.{counters_push, counters_rise, ended_base, from_oldest, is_lawful_truncation, log_base, open_tree, open_within, records_raise, stop_from, stop_rises, truncated_base}
+use Rattle.xact_ends.proofs.Fitting.{counters_push, counters_rise, ended_base, from_oldest, is_lawful_truncation, log_base, open_tree, open_within, records_raise, truncated_base}
 
 -- ---- a truncation
 

@@ -1,17 +1,12 @@
 -- A truncation names what is announced, and comes before a commit record.
-use Rattle.std.proofs.Common.{Contains, inl, inr, ⊎_elim, ◌⊎◌, ◌≡◌, ℕ, List, [], ◌∷◌, ◌++◌, Ok, refl, sym, subst, ◌∙◌}
-use Rattle.std.proofs.lemmas.List.Elements.{Contains-append_left, Contains-push}
-use Rattle.tx_events.specs.declared.event.By.{By}
-use Rattle.tx_events.specs.declared.event.Event.{Event}
-use Rattle.tx_events.specs.declared.event.Event.TheVariants as events
+use Rattle.std.proofs.Common.{inl, inr, ◌≡◌, ℕ, List, [], Ok, refl, sym, subst}
 use Rattle.tx_events.specs.declared.record.Rec.{Rec}
 use Rattle.tx_events.specs.Horizon.{oldest_id}
-use Rattle.tx_events.proofs.HorizonSteps.{oldest_push}
-use Rattle.tx_events.proofs.Membership.{by_end}
 use Rattle.tx_core.specs.declared.entry.Entry.{Entry}
 use Rattle.tx_core.specs.declared.entry.Kind.{Kind}
 use Rattle.tx_core.specs.declared.entry.Start.{Start}
 use Rattle.tx_core.specs.Entries.{history}
+use Rattle.tx_core.proofs.StopLimits.{found_announced}
 use Rattle.proc_sections.specs.Horizons.{truncation_behind}
 use Rattle.engine_parts.specs.declared.session.Session.{Session}
 use Rattle.engine_parts.specs.Adding.{IsAbortOf, IsCommitOf, IsOfAbort, IsOfCommit, IsTruncation, MayAdd}
@@ -21,25 +16,6 @@ use Rattle.engine_parts.proofs.Stepping.{went_then}
 use Rattle.log_sections.specs.declared.appending.Appended.{Appended}
 use Rattle.log_sections.specs.declared.appending.Appended.TheVariants as came
 use Rattle.log_sections.specs.LogSections.{Appends, IsTruncationOf, TakesAbort}
-
--- the oldest id is the one with which the life began, or one that it announced
-abbrev IsFound : ℕ → List Event → Type 0
-IsFound first h = (oldest_id first h ≡ first) ⊎ ((by : By) × Contains h (events.Oldest by (oldest_id first h)))
-
-found_announced : (first : ℕ) (h : List Event) → IsFound first h
-found_announced first = by_end (IsFound first) (inl refl) (λ h e before. step h e before)
-  where
-    older : (h : List Event) (e : Event) → oldest_id first (h ++ e ∷ []) ≡ oldest_id first h → IsFound first h → IsFound first (h ++ e ∷ [])
-    older h e same before = ⊎_elim
-        (λ (q : oldest_id first h ≡ first). inl (same ∙ q))
-        (λ (z : (by : By) × Contains h (events.Oldest by (oldest_id first h))).
-        inr (z.0, subst (λ (o : ℕ). Contains (h ++ e ∷ []) (events.Oldest z.0 o)) (sym same) (Contains-append_left h (e ∷ []) (events.Oldest z.0 (oldest_id first h)) z.1)))
-        before
-
-    step : (h : List Event) (e : Event) → IsFound first h → IsFound first (h ++ e ∷ [])
-    step h (events.Oldest by new) before =
-        inr (by, subst (λ (o : ℕ). Contains (h ++ events.Oldest by new ∷ []) (events.Oldest by o)) (sym (oldest_push first h (events.Oldest by new))) (Contains-push h (events.Oldest by new)))
-    step h e before = older h e (oldest_push first h e) before
 
 -- so the truncation that was read names what was announced
 pub truncation_found : (start : Start) (seen : List (List Entry)) (rec : Rec) → rec ≡ truncation_behind start.base (history seen) → IsTruncationOf start seen rec

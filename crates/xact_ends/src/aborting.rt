@@ -14,18 +14,17 @@ use crate::committing::id_list;
 use crate::logging::log_abort_record;
 use bank_sections::{set_page, stall};
 use disk_core::{LogDisk, PageDisk};
-use engine_parts::{Caller, EngineLaw, Stage};
+use engine_parts::{Caller, EngineLaw, Passing, Stage};
 use hall::Hall;
 use proc_sections::end_transaction;
 use slru_bank::{BankRefusal, run_end};
 use std::alloc::Global;
-use std::sync::Wait;
 use store_pages::{bank_of, xact_page};
 use tx_core::State;
 use tx_events::{FullXid, Lock, Memory, Rec, Refusal, XactEnd};
 
 /// Sets the open ids from the `first` one to before the `past` one aborted, which lie on one page.
-fn set_run<R: Wait, L: LogDisk, P: PageDisk>(
+fn set_run<R: Passing, L: LogDisk, P: PageDisk>(
     rt: &R,
     hall: &Hall<EngineLaw<L, P>>,
     caller: &mut Caller<L, P>,
@@ -60,7 +59,7 @@ fn set_run<R: Wait, L: LogDisk, P: PageDisk>(
 }
 
 /// Sets all open ids aborted (`TransactionIdSetTreeStatus` of `clog.c`), those of a page at once.
-fn set_aborted<R: Wait, L: LogDisk, P: PageDisk>(
+fn set_aborted<R: Passing, L: LogDisk, P: PageDisk>(
     rt: &R,
     hall: &Hall<EngineLaw<L, P>>,
     caller: &mut Caller<L, P>,
@@ -99,7 +98,7 @@ fn record_of(alloc: Global, opened: &[FullXid]) -> Result<Rec, Memory>
 
 /// From here on the session's abort is pending. Its record is appended, where there is memory for it and the log takes
 /// it: an abort goes on without one.
-fn log_abort<R: Wait, L: LogDisk, P: PageDisk>(
+fn log_abort<R: Passing, L: LogDisk, P: PageDisk>(
     rt: &R,
     hall: &Hall<EngineLaw<L, P>>,
     caller: &mut Caller<L, P>,
@@ -134,7 +133,7 @@ fn log_abort<R: Wait, L: LogDisk, P: PageDisk>(
 }
 
 /// Begins the abort where none was begun.
-fn start_abort<R: Wait, L: LogDisk, P: PageDisk>(
+fn start_abort<R: Passing, L: LogDisk, P: PageDisk>(
     rt: &R,
     hall: &Hall<EngineLaw<L, P>>,
     caller: &mut Caller<L, P>,
@@ -162,7 +161,7 @@ fn start_abort<R: Wait, L: LogDisk, P: PageDisk>(
 }
 
 /// Aborts a transaction that has an id.
-pub(crate) fn abort_named<R: Wait, L: LogDisk, P: PageDisk>(
+pub(crate) fn abort_named<R: Passing, L: LogDisk, P: PageDisk>(
     rt: &R,
     hall: &Hall<EngineLaw<L, P>>,
     caller: &mut Caller<L, P>,

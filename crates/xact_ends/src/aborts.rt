@@ -10,11 +10,10 @@ ghost use Rattle.engine_parts.specs.Stages.{may_be_recorded};
 use crate::aborting::abort_named;
 use crate::idless::close_idless;
 use disk_core::{LogDisk, PageDisk};
-use engine_parts::{Caller, EngineLaw, Stage, count};
+use engine_parts::{Caller, EngineLaw, Passing, Stage, count};
 use hall::Hall;
 use session_levels::depth;
 use std::alloc::Global;
-use std::sync::Wait;
 use tx_events::Refusal;
 
 /// Whether the commit record of what is open may stand in the log.
@@ -28,7 +27,7 @@ fn is_recorded(stage: Stage) -> bool
 }
 
 /// Aborts a transaction of which no commit is pending. One without an id has no event.
-fn abort_open<R: Wait, L: LogDisk, P: PageDisk>(
+fn abort_open<R: Passing, L: LogDisk, P: PageDisk>(
     rt: &R,
     hall: &Hall<EngineLaw<L, P>>,
     caller: &mut Caller<L, P>,
@@ -57,7 +56,7 @@ fn abort_open<R: Wait, L: LogDisk, P: PageDisk>(
 /// Refused, in this order, with `NoTransaction` where no transaction is open, and with `CommitPending` where its commit
 /// record may stand. Or with `DiskFault` of a bank of pg_xact: then the abort is pending. The session has run fewer
 /// than 2^48 commands.
-pub fn abort<R: Wait, L: LogDisk, P: PageDisk>(
+pub fn abort<R: Passing, L: LogDisk, P: PageDisk>(
     rt: &R,
     hall: &Hall<EngineLaw<L, P>>,
     caller: &mut Caller<L, P>,

@@ -10,15 +10,14 @@ ghost use Rattle.engine_parts.specs.Sessions.{stance_of};
 use crate::committing::{finish, flush_and_finish, start_commit};
 use crate::idless::close_idless;
 use disk_core::{LogDisk, PageDisk};
-use engine_parts::{Caller, EngineLaw, Stage, count};
+use engine_parts::{Caller, EngineLaw, Passing, Stage, count};
 use hall::Hall;
 use session_levels::depth;
 use std::alloc::Global;
-use std::sync::Wait;
 use tx_events::Refusal;
 
 /// Commits a transaction of which no end was begun. One without an id has no record and no event.
-fn commit_anew<R: Wait, L: LogDisk, P: PageDisk>(
+fn commit_anew<R: Passing, L: LogDisk, P: PageDisk>(
     rt: &R,
     hall: &Hall<EngineLaw<L, P>>,
     caller: &mut Caller<L, P>,
@@ -47,7 +46,7 @@ fn commit_anew<R: Wait, L: LogDisk, P: PageDisk>(
 /// where another end was begun. Or, before the record is appended, with `DiskFault` of a bank of pg_subtrans, `Memory`,
 /// `Full` or `LogDown`; before it is on disk with `LogFault` or `LogDown`; and behind that with `DiskFault` of a bank
 /// of pg_xact. Where its record stands, the commit is pending. The session has run fewer than 2^48 commands.
-pub fn commit<R: Wait, L: LogDisk, P: PageDisk>(
+pub fn commit<R: Passing, L: LogDisk, P: PageDisk>(
     rt: &R,
     hall: &Hall<EngineLaw<L, P>>,
     caller: &mut Caller<L, P>,

@@ -11,16 +11,15 @@ use crate::logging::log_commit_record;
 use crate::settling::set_tree;
 use bank_sections::record_parent;
 use disk_core::{LogDisk, PageDisk};
-use engine_parts::{Caller, EngineLaw, Stage};
+use engine_parts::{Caller, EngineLaw, Passing, Stage};
 use hall::Hall;
 use log_sections::{Appended, flush_log};
 use proc_sections::end_transaction;
 use std::alloc::Global;
-use std::sync::Wait;
 use tx_events::{FullXid, IdList, Memory, Rec, Refusal, XactEnd};
 
 /// Sets the states from a step on, and ends the transaction.
-pub(crate) fn finish<R: Wait, L: LogDisk, P: PageDisk>(
+pub(crate) fn finish<R: Passing, L: LogDisk, P: PageDisk>(
     rt: &R,
     hall: &Hall<EngineLaw<L, P>>,
     caller: &mut Caller<L, P>,
@@ -46,7 +45,7 @@ pub(crate) fn finish<R: Wait, L: LogDisk, P: PageDisk>(
 }
 
 /// Puts the record of this number on disk, and goes on.
-pub(crate) fn flush_and_finish<R: Wait, L: LogDisk, P: PageDisk>(
+pub(crate) fn flush_and_finish<R: Passing, L: LogDisk, P: PageDisk>(
     rt: &R,
     hall: &Hall<EngineLaw<L, P>>,
     caller: &mut Caller<L, P>,
@@ -90,7 +89,7 @@ fn record_of(alloc: Global, opened: &[FullXid]) -> Result<Rec, Memory>
 }
 
 /// Appends the record, and goes on.
-fn log_and_finish<R: Wait, L: LogDisk, P: PageDisk>(
+fn log_and_finish<R: Passing, L: LogDisk, P: PageDisk>(
     rt: &R,
     hall: &Hall<EngineLaw<L, P>>,
     caller: &mut Caller<L, P>,
@@ -123,7 +122,7 @@ fn log_and_finish<R: Wait, L: LogDisk, P: PageDisk>(
 }
 
 /// Commits a transaction of which no end was begun and that has an id.
-pub(crate) fn start_commit<R: Wait, L: LogDisk, P: PageDisk>(
+pub(crate) fn start_commit<R: Passing, L: LogDisk, P: PageDisk>(
     rt: &R,
     hall: &Hall<EngineLaw<L, P>>,
     caller: &mut Caller<L, P>,

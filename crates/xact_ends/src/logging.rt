@@ -10,16 +10,15 @@ ghost use Rattle.log_sections.specs.LogSections.{Appends, IsAbortOf, IsAppendRef
 ghost use Rattle.xact_ends.specs.Logged.{IsNumbered, IsOldestTold};
 
 use disk_core::{LogDisk, PageDisk};
-use engine_parts::{Caller, EngineLaw};
+use engine_parts::{Caller, EngineLaw, Passing};
 use hall::Hall;
 use log_sections::{Appended, append_abort, append_commit, append_truncation};
 use proc_sections::read_truncation;
-use std::sync::Wait;
 use tx_events::{Rec, Refusal};
 
 /// Appends the record of a truncation to the announced oldest id, which the log's records may not tell yet. The session
 /// has an id open, and the log can take the record: the open id is from the announced one on, and below its stop limit.
-fn log_truncation<R: Wait, L: LogDisk, P: PageDisk>(
+fn log_truncation<R: Passing, L: LogDisk, P: PageDisk>(
     rt: &R,
     hall: &Hall<EngineLaw<L, P>>,
     caller: &mut Caller<L, P>,
@@ -49,7 +48,7 @@ fn log_truncation<R: Wait, L: LogDisk, P: PageDisk>(
 }
 
 /// Appends the record of a truncation, and then the commit record.
-fn log_commit_behind<R: Wait, L: LogDisk, P: PageDisk>(
+fn log_commit_behind<R: Passing, L: LogDisk, P: PageDisk>(
     rt: &R,
     hall: &Hall<EngineLaw<L, P>>,
     caller: &mut Caller<L, P>,
@@ -83,7 +82,7 @@ fn log_commit_behind<R: Wait, L: LogDisk, P: PageDisk>(
 /// the log then refuses the commit record.
 ///
 /// Refused with `LogDown`, or where the log isn't down with `Full` or `Memory`; then the commit record wasn't appended.
-pub(crate) fn log_commit_record<R: Wait, L: LogDisk, P: PageDisk>(
+pub(crate) fn log_commit_record<R: Passing, L: LogDisk, P: PageDisk>(
     rt: &R,
     hall: &Hall<EngineLaw<L, P>>,
     caller: &mut Caller<L, P>,
@@ -116,7 +115,7 @@ pub(crate) fn log_commit_record<R: Wait, L: LogDisk, P: PageDisk>(
 }
 
 /// Appends the record of a truncation, and then the abort record.
-fn log_abort_behind<R: Wait, L: LogDisk, P: PageDisk>(
+fn log_abort_behind<R: Passing, L: LogDisk, P: PageDisk>(
     rt: &R,
     hall: &Hall<EngineLaw<L, P>>,
     caller: &mut Caller<L, P>,
@@ -150,7 +149,7 @@ fn log_abort_behind<R: Wait, L: LogDisk, P: PageDisk>(
 /// the log then refuses the abort record.
 ///
 /// Refused with `LogDown`, or where the log isn't down with `Full` or `Memory`; then the abort record wasn't appended.
-pub(crate) fn log_abort_record<R: Wait, L: LogDisk, P: PageDisk>(
+pub(crate) fn log_abort_record<R: Passing, L: LogDisk, P: PageDisk>(
     rt: &R,
     hall: &Hall<EngineLaw<L, P>>,
     caller: &mut Caller<L, P>,

@@ -12,10 +12,9 @@ ghost use Rattle.xact_ends.specs.Trees.{IsStepOf, IsStepState, SetsStep, Settles
 
 use bank_sections::{set_page, stall};
 use disk_core::{LogDisk, PageDisk};
-use engine_parts::{Caller, EngineLaw, Stage};
+use engine_parts::{Caller, EngineLaw, Passing, Stage};
 use hall::Hall;
 use slru_bank::{BankRefusal, PlanStep, plan_step};
-use std::sync::Wait;
 use store_pages::bank_of;
 use tx_core::State;
 use tx_events::{FullXid, Lock, Refusal};
@@ -49,7 +48,7 @@ fn first_of(step: &PlanStep) -> usize
 }
 
 /// Sets the states of step `k` (`TransactionIdSetPageStatus` of `clog.c`).
-fn set_step<R: Wait, L: LogDisk, P: PageDisk>(
+fn set_step<R: Passing, L: LogDisk, P: PageDisk>(
     rt: &R,
     hall: &Hall<EngineLaw<L, P>>,
     caller: &mut Caller<L, P>,
@@ -94,7 +93,7 @@ fn set_step<R: Wait, L: LogDisk, P: PageDisk>(
 
 /// Sets the states of a commit whose record is on disk, from the step on that was reached (`TransactionIdSetTreeStatus`
 /// of `clog.c`).
-pub(crate) fn set_tree<R: Wait, L: LogDisk, P: PageDisk>(
+pub(crate) fn set_tree<R: Passing, L: LogDisk, P: PageDisk>(
     rt: &R,
     hall: &Hall<EngineLaw<L, P>>,
     caller: &mut Caller<L, P>,

@@ -9,18 +9,17 @@ ghost use Rattle.xact_ends.specs.Undos.{AreOfSavepoint, Undoes};
 
 use bank_sections::{set_page, stall};
 use disk_core::{LogDisk, PageDisk};
-use engine_parts::{Caller, EngineLaw, Stage};
+use engine_parts::{Caller, EngineLaw, Passing, Stage};
 use hall::Hall;
 use proc_sections::{place_of, undo_savepoint};
 use slru_bank::{BankRefusal, run_end};
-use std::sync::Wait;
 use store_pages::{bank_of, xact_page};
 use tx_core::State;
 use tx_events::{FullXid, Lock, Refusal};
 
 /// Sets the open ids from the `first` one to before the `past` one aborted, which were given in the savepoint that is
 /// undone and lie on one page.
-fn roll_back_run<R: Wait, L: LogDisk, P: PageDisk>(
+fn roll_back_run<R: Passing, L: LogDisk, P: PageDisk>(
     rt: &R,
     hall: &Hall<EngineLaw<L, P>>,
     caller: &mut Caller<L, P>,
@@ -60,7 +59,7 @@ fn roll_back_run<R: Wait, L: LogDisk, P: PageDisk>(
 }
 
 /// Sets the open ids from this place on aborted (`TransactionIdSetTreeStatus` of `clog.c`), those of a page at once.
-fn roll_back<R: Wait, L: LogDisk, P: PageDisk>(
+fn roll_back<R: Passing, L: LogDisk, P: PageDisk>(
     rt: &R,
     hall: &Hall<EngineLaw<L, P>>,
     caller: &mut Caller<L, P>,
@@ -95,7 +94,7 @@ fn roll_back<R: Wait, L: LogDisk, P: PageDisk>(
 }
 
 /// Undoes the innermost savepoint, which has this id. A fault leaves the undo pending.
-pub(crate) fn undo_named<R: Wait, L: LogDisk, P: PageDisk>(
+pub(crate) fn undo_named<R: Passing, L: LogDisk, P: PageDisk>(
     rt: &R,
     hall: &Hall<EngineLaw<L, P>>,
     caller: &mut Caller<L, P>,

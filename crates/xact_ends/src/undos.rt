@@ -12,10 +12,9 @@ ghost use Rattle.xact_ends.specs.Undos.{IsUnwound};
 
 use crate::undoing::undo_named;
 use disk_core::{LogDisk, PageDisk};
-use engine_parts::{Caller, EngineLaw, Stage, count};
+use engine_parts::{Caller, EngineLaw, Passing, Stage, count};
 use hall::Hall;
 use session_levels::depth;
-use std::sync::Wait;
 use tx_events::{FullXid, Refusal};
 
 /// Closes the innermost savepoint, which has no id: the session alone, under no lock.
@@ -34,7 +33,7 @@ fn last_id(ids: &[FullXid]) -> FullXid
 }
 
 /// Undoes the innermost savepoint where no other end was begun.
-fn undo_open<R: Wait, L: LogDisk, P: PageDisk>(
+fn undo_open<R: Passing, L: LogDisk, P: PageDisk>(
     rt: &R,
     hall: &Hall<EngineLaw<L, P>>,
     caller: &mut Caller<L, P>,
@@ -64,7 +63,7 @@ fn undo_open<R: Wait, L: LogDisk, P: PageDisk>(
 ///
 /// Refused, in this order, with `NoSavepoint` where no savepoint is open, with `CommitPending` or `AbortPending` where
 /// another end was begun, and with `DiskFault` of pg_xact. The session has run fewer than 2^48 commands.
-pub fn undo<R: Wait, L: LogDisk, P: PageDisk>(
+pub fn undo<R: Passing, L: LogDisk, P: PageDisk>(
     rt: &R,
     hall: &Hall<EngineLaw<L, P>>,
     caller: &mut Caller<L, P>,

@@ -23,11 +23,10 @@ ghost use Rattle.engine_parts.specs.Stand.{ProcStands};
 ghost use Rattle.xact_engine.specs.Snapshots.{IsTaken};
 
 use disk_core::{LogDisk, PageDisk};
-use engine_parts::{Caller, EngineLaw, Part, count, enter_proc, leave_looked, leave_proc};
+use engine_parts::{Caller, EngineLaw, Part, Passing, count, enter_proc, leave_looked, leave_proc};
 use hall::{Hall, Note};
 use proc_table::ProcTable;
 use session_levels::{RegisteredSnapshot, forget, registered_as};
-use std::sync::Wait;
 use tx_events::{By, Memory, Name, Refusal, SnapData};
 
 /// A session registers at most so many snapshots.
@@ -103,7 +102,7 @@ fn register<L: LogDisk, P: PageDisk>(
 }
 
 /// Takes a snapshot under a name that isn't taken. All memory is taken before the snapshot counts as taken.
-fn take<R: Wait, L: LogDisk, P: PageDisk>(
+fn take<R: Passing, L: LogDisk, P: PageDisk>(
     rt: &R,
     hall: &Hall<EngineLaw<L, P>>,
     caller: &mut Caller<L, P>,
@@ -142,7 +141,7 @@ fn take<R: Wait, L: LogDisk, P: PageDisk>(
 ///
 /// Refused, in this order, with `NameTaken` where the session has a snapshot of this name, and with `SnapLimit` where
 /// it has 64. Or with `Memory`: then nothing was taken. The session has run fewer than 2^48 commands.
-pub fn snap<R: Wait, L: LogDisk, P: PageDisk>(
+pub fn snap<R: Passing, L: LogDisk, P: PageDisk>(
     rt: &R,
     hall: &Hall<EngineLaw<L, P>>,
     caller: &mut Caller<L, P>,
@@ -202,7 +201,7 @@ fn unregister<L: LogDisk, P: PageDisk>(
 }
 
 /// Drops a snapshot that the session has.
-fn drop_registered<R: Wait, L: LogDisk, P: PageDisk>(
+fn drop_registered<R: Passing, L: LogDisk, P: PageDisk>(
     rt: &R,
     hall: &Hall<EngineLaw<L, P>>,
     caller: &mut Caller<L, P>,
@@ -228,7 +227,7 @@ fn drop_registered<R: Wait, L: LogDisk, P: PageDisk>(
 /// section of the ProcArray. Takes no memory.
 ///
 /// Refused with `NoSnapshot` where the session has none of this name. The session has run fewer than 2^48 commands.
-pub fn drop_snap<R: Wait, L: LogDisk, P: PageDisk>(
+pub fn drop_snap<R: Passing, L: LogDisk, P: PageDisk>(
     rt: &R,
     hall: &Hall<EngineLaw<L, P>>,
     caller: &mut Caller<L, P>,

@@ -9,10 +9,9 @@ ghost use Rattle.engine_parts.specs.Calls.{MayRun, Ran, next_command};
 ghost use Rattle.proc_sections.specs.Announcements.{IsNotAnnounced};
 
 use disk_core::{LogDisk, PageDisk};
-use engine_parts::{Caller, EngineLaw, count};
+use engine_parts::{Caller, EngineLaw, Passing, count};
 use hall::Hall;
 use proc_sections::announce_oldest;
-use std::sync::Wait;
 use tx_events::{FullXid, Refusal};
 
 /// Announces the oldest id that is still asked for (`SetTransactionIdLimit` of `src/backend/access/transam/varsup.c`, as
@@ -21,7 +20,7 @@ use tx_events::{FullXid, Refusal};
 ///
 /// Refused with `Backward` where the id is before the announced one, else with `TooNew` where it is past the oldest xmin,
 /// else with `Memory`; then nothing was announced. The session has run fewer than 2^48 commands.
-pub fn freeze<R: Wait, L: LogDisk, P: PageDisk>(
+pub fn freeze<R: Passing, L: LogDisk, P: PageDisk>(
     rt: &R,
     hall: &Hall<EngineLaw<L, P>>,
     caller: &mut Caller<L, P>,

@@ -10,10 +10,9 @@ ghost use Rattle.xact_reads.specs.Readings.{IsTopOf};
 
 use bank_sections::{read_parent, stall};
 use disk_core::{LogDisk, PageDisk};
-use engine_parts::{Caller, EngineLaw};
+use engine_parts::{Caller, EngineLaw, Passing};
 use hall::Hall;
 use slru_bank::BankRefusal;
-use std::sync::Wait;
 use store_pages::{bank_of, subtrans_page};
 use tx_events::{FullXid, Lock, Refusal};
 
@@ -32,7 +31,7 @@ pub(crate) fn below(x: FullXid, parent: Option<FullXid>) -> Option<FullXid>
 
 /// The parent of an id, as pg_subtrans has it: one critical section of a bank. None where none was set. Waits for ever
 /// where the page is cut, which can't be in a life of few ids where the id isn't before the xmin of a live snapshot.
-fn parent_of<R: Wait, L: LogDisk, P: PageDisk>(
+fn parent_of<R: Passing, L: LogDisk, P: PageDisk>(
     rt: &R,
     hall: &Hall<EngineLaw<L, P>>,
     caller: &mut Caller<L, P>,
@@ -72,7 +71,7 @@ fn parent_of<R: Wait, L: LogDisk, P: PageDisk>(
 
 /// The topmost parent of an id, or its first ancestor before the xmin (`SubTransGetTopmostTransaction` of
 /// `src/backend/access/transam/subtrans.c`).
-pub(crate) fn climb<R: Wait, L: LogDisk, P: PageDisk>(
+pub(crate) fn climb<R: Passing, L: LogDisk, P: PageDisk>(
     rt: &R,
     hall: &Hall<EngineLaw<L, P>>,
     caller: &mut Caller<L, P>,

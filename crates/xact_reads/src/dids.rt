@@ -20,11 +20,10 @@ use crate::climbs::below;
 use crate::states::state_of;
 use bank_sections::{read_parent, read_state};
 use disk_core::{LogDisk, PageDisk};
-use engine_parts::{Caller, EngineLaw, count};
+use engine_parts::{Caller, EngineLaw, Passing, count};
 use hall::Hall;
 use proc_sections::{read_horizons, read_oldest};
 use slru_bank::BankRefusal;
-use std::sync::Wait;
 use store_pages::{bank_of, subtrans_page, xact_page};
 use tx_core::State;
 use tx_events::{FullXid, Lock, Refusal, Xid, near};
@@ -52,7 +51,7 @@ fn step_of(state: Option<State>, parent: FullXid) -> Step
 
 /// What an ancestor's state says, where its page isn't cut. Where it is, the transaction ended long ago, and the id that is
 /// asked for didn't commit before this command began; unless that id is too old by now.
-fn ancestor_state<R: Wait, L: LogDisk, P: PageDisk>(
+fn ancestor_state<R: Passing, L: LogDisk, P: PageDisk>(
     rt: &R,
     hall: &Hall<EngineLaw<L, P>>,
     caller: &mut Caller<L, P>,
@@ -93,7 +92,7 @@ fn ancestor_state<R: Wait, L: LogDisk, P: PageDisk>(
 }
 
 /// One step up from a sub-committed id. A page of parents that is cut counts as one without a parent.
-fn step_up<R: Wait, L: LogDisk, P: PageDisk>(
+fn step_up<R: Passing, L: LogDisk, P: PageDisk>(
     rt: &R,
     hall: &Hall<EngineLaw<L, P>>,
     caller: &mut Caller<L, P>,
@@ -136,7 +135,7 @@ fn step_up<R: Wait, L: LogDisk, P: PageDisk>(
 }
 
 /// Whether an ancestor of a sub-committed id has committed, before one that is before the oldest xmin.
-fn ancestors_did<R: Wait, L: LogDisk, P: PageDisk>(
+fn ancestors_did<R: Passing, L: LogDisk, P: PageDisk>(
     rt: &R,
     hall: &Hall<EngineLaw<L, P>>,
     caller: &mut Caller<L, P>,
@@ -177,7 +176,7 @@ fn ancestors_did<R: Wait, L: LogDisk, P: PageDisk>(
 
 /// Whether an id has committed by the stores (`TransactionIdDidCommit` of `src/backend/access/transam/transam.c`): its
 /// state says so, or it is sub-committed and an ancestor's does.
-fn stores_say<R: Wait, L: LogDisk, P: PageDisk>(
+fn stores_say<R: Passing, L: LogDisk, P: PageDisk>(
     rt: &R,
     hall: &Hall<EngineLaw<L, P>>,
     caller: &mut Caller<L, P>,
@@ -220,7 +219,7 @@ fn stores_say<R: Wait, L: LogDisk, P: PageDisk>(
 
 /// What the stores tell of the full id nearest to the next one that the stored id `x` means: `TooOld` where it is before
 /// the oldest one, or there is none. One that wasn't given hasn't committed.
-fn did_near<R: Wait, L: LogDisk, P: PageDisk>(
+fn did_near<R: Passing, L: LogDisk, P: PageDisk>(
     rt: &R,
     hall: &Hall<EngineLaw<L, P>>,
     caller: &mut Caller<L, P>,
@@ -276,7 +275,7 @@ fn did_near<R: Wait, L: LogDisk, P: PageDisk>(
 ///
 /// Refused with `TooOld` where the id is before the announced oldest id, or there is none, and with `DiskFault` of a bank
 /// of pg_xact or pg_subtrans. Takes no memory. The session has run fewer than 2^48 commands.
-pub fn did<R: Wait, L: LogDisk, P: PageDisk>(
+pub fn did<R: Passing, L: LogDisk, P: PageDisk>(
     rt: &R,
     hall: &Hall<EngineLaw<L, P>>,
     caller: &mut Caller<L, P>,

@@ -5,10 +5,9 @@ ghost use Rattle.tx_model.specs.declared.reply.Reply.TheVariants as replies;
 ghost use Rattle.engine_parts.specs.Calls.{MayRun, Ran, next_command};
 
 use disk_core::{LogDisk, PageDisk};
-use engine_parts::{Caller, EngineLaw, count};
+use engine_parts::{Caller, EngineLaw, Passing, count};
 use hall::Hall;
 use proc_sections::read_horizons;
-use std::sync::Wait;
 use tx_events::FullXid;
 
 /// The oldest xmin (`GetOldestNonRemovableTransactionId` of `src/backend/storage/ipc/procarray.c`): the least of the next
@@ -16,7 +15,7 @@ use tx_events::FullXid;
 /// id below it is still asked for. One critical section of the ProcArray.
 ///
 /// Never refused, and takes no memory. The session has run fewer than 2^48 commands.
-pub fn horizon<R: Wait, L: LogDisk, P: PageDisk>(
+pub fn horizon<R: Passing, L: LogDisk, P: PageDisk>(
     rt: &R,
     hall: &Hall<EngineLaw<L, P>>,
     caller: &mut Caller<L, P>,

@@ -16,16 +16,15 @@ ghost use Rattle.xact_reads.specs.Glances.{HasGlanced};
 use crate::glances::{Glance, glance_at};
 use crate::shows::show;
 use disk_core::{LogDisk, PageDisk};
-use engine_parts::{Caller, EngineLaw, count};
+use engine_parts::{Caller, EngineLaw, Passing, count};
 use hall::Hall;
 use proc_sections::read_oldest;
 use session_levels::registered_as;
-use std::sync::Wait;
 use tx_events::{Name, Refusal, Xid};
 
 /// What the session's snapshot of this name shows of the stored id `_x`, for which it was looked there: `TooOld` where
 /// the id is before the oldest one, or there is none.
-fn see_found<R: Wait, L: LogDisk, P: PageDisk>(
+fn see_found<R: Passing, L: LogDisk, P: PageDisk>(
     rt: &R,
     hall: &Hall<EngineLaw<L, P>>,
     caller: &mut Caller<L, P>,
@@ -75,7 +74,7 @@ fn see_found<R: Wait, L: LogDisk, P: PageDisk>(
 /// Refused, in this order, with `NoSnapshot` where the session has none of this name, with `TooOld` where the id is
 /// before the announced oldest id, or there is none, and with `DiskFault` of a bank of pg_xact or pg_subtrans. Takes no
 /// memory. The session has run fewer than 2^48 commands.
-pub fn see<R: Wait, L: LogDisk, P: PageDisk>(
+pub fn see<R: Passing, L: LogDisk, P: PageDisk>(
     rt: &R,
     hall: &Hall<EngineLaw<L, P>>,
     caller: &mut Caller<L, P>,

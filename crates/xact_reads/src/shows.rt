@@ -15,11 +15,10 @@ use crate::climbs::climb;
 use crate::glances::Glance;
 use crate::states::is_committed;
 use disk_core::{LogDisk, PageDisk};
-use engine_parts::{Caller, EngineLaw};
+use engine_parts::{Caller, EngineLaw, Passing};
 use hall::Hall;
 use session_levels::{Session as Levels, registered_as};
 use snap_core::{Sight, sight_of_top};
-use std::sync::Wait;
 use tx_events::{FullXid, Name, Refusal};
 
 /// Whether the session's snapshot of this name shows a committed id of this topmost parent.
@@ -35,7 +34,7 @@ fn shows_top(levels: &Levels, name: &Name, topmost: FullXid) -> bool
 
 /// What the session's snapshot of this name shows of an id, which overflowed: its state is read, and then, where it has
 /// committed, its parents.
-fn ask_parents<R: Wait, L: LogDisk, P: PageDisk>(
+fn ask_parents<R: Passing, L: LogDisk, P: PageDisk>(
     rt: &R,
     hall: &Hall<EngineLaw<L, P>>,
     caller: &mut Caller<L, P>,
@@ -75,7 +74,7 @@ fn ask_parents<R: Wait, L: LogDisk, P: PageDisk>(
 
 /// What the session's snapshot of this name shows of an id: nothing is read of one that it hides by itself
 /// (`HeapTupleSatisfiesMVCC` of `src/backend/access/heap/heapam_visibility.c` asks the snapshot first).
-pub(crate) fn show<R: Wait, L: LogDisk, P: PageDisk>(
+pub(crate) fn show<R: Passing, L: LogDisk, P: PageDisk>(
     rt: &R,
     hall: &Hall<EngineLaw<L, P>>,
     caller: &mut Caller<L, P>,

@@ -10,11 +10,10 @@ ghost use Rattle.xact_reads.specs.Readings.{IsCommittedIn, IsStateUnread};
 
 use bank_sections::{read_state, stall};
 use disk_core::{LogDisk, PageDisk};
-use engine_parts::{Caller, EngineLaw};
+use engine_parts::{Caller, EngineLaw, Passing};
 use hall::Hall;
 use proc_sections::read_oldest;
 use slru_bank::BankRefusal;
-use std::sync::Wait;
 use store_pages::{bank_of, xact_page};
 use tx_core::State;
 use tx_events::{FullXid, Lock, Refusal};
@@ -28,7 +27,7 @@ fn says_committed(state: Option<State>) -> bool
 /// The state of an id (`TransactionLogFetch` of `src/backend/access/transam/transam.c`): one critical section of a bank of
 /// pg_xact; None where none was set. Where the page is cut, the oldest id is read once more, which is past the id by then:
 /// `TooOld`. Waits for ever where it isn't, which can't be in a life of few ids.
-pub(crate) fn state_of<R: Wait, L: LogDisk, P: PageDisk>(
+pub(crate) fn state_of<R: Passing, L: LogDisk, P: PageDisk>(
     rt: &R,
     hall: &Hall<EngineLaw<L, P>>,
     caller: &mut Caller<L, P>,
@@ -69,7 +68,7 @@ pub(crate) fn state_of<R: Wait, L: LogDisk, P: PageDisk>(
 
 /// Whether pg_xact has an id as committed (`TransactionLogFetch` of `src/backend/access/transam/transam.c`), as `state_of`
 /// reads it.
-pub(crate) fn is_committed<R: Wait, L: LogDisk, P: PageDisk>(
+pub(crate) fn is_committed<R: Passing, L: LogDisk, P: PageDisk>(
     rt: &R,
     hall: &Hall<EngineLaw<L, P>>,
     caller: &mut Caller<L, P>,

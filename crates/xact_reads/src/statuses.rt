@@ -19,11 +19,10 @@ ghost use Rattle.proc_sections.specs.Askings.{IsAnswered, question};
 
 use crate::states::is_committed;
 use disk_core::{LogDisk, PageDisk};
-use engine_parts::{Caller, EngineLaw, count};
+use engine_parts::{Caller, EngineLaw, Passing, count};
 use hall::Hall;
 use proc_sections::ask_status;
 use proc_table::Asked;
-use std::sync::Wait;
 use tx_events::{FullXid, Memory, Refusal};
 use tx_model::Status;
 
@@ -52,7 +51,7 @@ fn ended(committed: bool) -> Status
 /// How an id stood at the question that was answered so: what doesn't run has committed where its state says so, and
 /// else it has aborted (`TransactionIdDidCommit` and `TransactionIdDidAbort` of
 /// `src/backend/access/transam/transam.c`).
-fn settle<R: Wait, L: LogDisk, P: PageDisk>(
+fn settle<R: Passing, L: LogDisk, P: PageDisk>(
     rt: &R,
     hall: &Hall<EngineLaw<L, P>>,
     caller: &mut Caller<L, P>,
@@ -106,7 +105,7 @@ fn settle<R: Wait, L: LogDisk, P: PageDisk>(
 /// Refused, in this order, with `Memory`, then nothing was asked; with `TooOld` where the id is before the announced
 /// oldest id; with `Future` where it wasn't given yet; and with `DiskFault` of a bank of pg_xact. The session has run
 /// fewer than 2^48 commands.
-pub fn status<R: Wait, L: LogDisk, P: PageDisk>(
+pub fn status<R: Passing, L: LogDisk, P: PageDisk>(
     rt: &R,
     hall: &Hall<EngineLaw<L, P>>,
     caller: &mut Caller<L, P>,

@@ -10,12 +10,11 @@ ghost use Rattle.xact_writes.specs.Writes.{GivesLevel, HasReserved};
 
 use crate::page_making::make_pages;
 use disk_core::{LogDisk, PageDisk};
-use engine_parts::{Caller, EngineLaw};
+use engine_parts::{Caller, EngineLaw, Passing};
 use hall::Hall;
 use proc_sections::give_id;
 use proc_table::Given;
 use session_levels::Session as Levels;
-use std::sync::Wait;
 use tx_events::{FullXid, Memory, Refusal};
 
 /// Takes the room for one id more.
@@ -30,7 +29,7 @@ fn make_room(levels: &mut Levels) -> Result<(), Memory>
 
 /// Gives an id to the outermost level that lacks one; the room is taken. Makes the id's pages where they are wanted, as
 /// often as others give the ids of these pages away first.
-fn give_level<R: Wait, L: LogDisk, P: PageDisk>(
+fn give_level<R: Passing, L: LogDisk, P: PageDisk>(
     rt: &R,
     hall: &Hall<EngineLaw<L, P>>,
     caller: &mut Caller<L, P>,
@@ -65,7 +64,7 @@ fn give_level<R: Wait, L: LogDisk, P: PageDisk>(
 }
 
 /// Gives an id to the outermost level that lacks one, with the warning.
-pub(crate) fn name_level<R: Wait, L: LogDisk, P: PageDisk>(
+pub(crate) fn name_level<R: Passing, L: LogDisk, P: PageDisk>(
     rt: &R,
     hall: &Hall<EngineLaw<L, P>>,
     caller: &mut Caller<L, P>,

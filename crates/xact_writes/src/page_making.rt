@@ -11,17 +11,16 @@ ghost use Rattle.bank_sections.specs.Faults.{IsBankFault};
 
 use bank_sections::{make_page, make_parents};
 use disk_core::{LogDisk, PageDisk};
-use engine_parts::{Caller, EngineLaw};
+use engine_parts::{Caller, EngineLaw, Passing};
 use hall::Hall;
 use proc_sections::tell_made;
 use slru_bank::BankRefusal;
-use std::sync::Wait;
 use store_pages::{bank_of, subtrans_page, xact_page};
 use tx_events::{FullXid, Lock, Refusal};
 
 /// Makes the pages of an id that came next when the session looked (`ExtendCLOG` of `clog.c` and `ExtendSUBTRANS` of
 /// `subtrans.c`), and tells the ProcArray. A page that is cut isn't wanted any more: others gave the id meanwhile.
-pub(crate) fn make_pages<R: Wait, L: LogDisk, P: PageDisk>(
+pub(crate) fn make_pages<R: Passing, L: LogDisk, P: PageDisk>(
     rt: &R,
     hall: &Hall<EngineLaw<L, P>>,
     caller: &mut Caller<L, P>,

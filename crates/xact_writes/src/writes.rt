@@ -11,11 +11,10 @@ ghost use Rattle.xact_writes.specs.Writes.{IsFiledBehind, IsFresh, reply_to};
 use crate::levels::name_level;
 use bank_sections::record_parent;
 use disk_core::{LogDisk, PageDisk};
-use engine_parts::{Caller, EngineLaw, count};
+use engine_parts::{Caller, EngineLaw, Passing, count};
 use hall::Hall;
 use session_levels::depth;
 use std::alloc::Global;
-use std::sync::Wait;
 use tx_events::{IdList, Refusal};
 
 /// What a write gave.
@@ -29,7 +28,7 @@ pub struct Wrote {
 
 /// Gives an id to each level that lacks one, from the transaction down, behind the parent that is still to be recorded.
 /// The reply's room is taken first.
-fn name_levels<R: Wait, L: LogDisk, P: PageDisk>(
+fn name_levels<R: Passing, L: LogDisk, P: PageDisk>(
     rt: &R,
     hall: &Hall<EngineLaw<L, P>>,
     caller: &mut Caller<L, P>,
@@ -80,7 +79,7 @@ fn name_levels<R: Wait, L: LogDisk, P: PageDisk>(
 /// Refused, in this order, with `NoTransaction` where no transaction is open, and with `CommitPending`, `AbortPending`
 /// or `UndoPending` where an end was begun. Or with `DiskFault` of a bank of pg_xact or pg_subtrans, with `Stop` at the
 /// stop limit, or with `Memory`: then the ids that were given stay. The session has run fewer than 2^48 commands.
-pub fn write<R: Wait, L: LogDisk, P: PageDisk>(
+pub fn write<R: Passing, L: LogDisk, P: PageDisk>(
     rt: &R,
     hall: &Hall<EngineLaw<L, P>>,
     caller: &mut Caller<L, P>,

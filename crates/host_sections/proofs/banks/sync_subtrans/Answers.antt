@@ -1,11 +1,9 @@
-use Rattle.std.proofs.Common.{Err, List, None, Some, ◌≡◌, ◌<◌, ◌≤◌, ◌+◌, ◌*◌, ℕ, arith, ap, ◌∙◌, inl, length, subst, sym, refl, ◌++◌, ◌∷◌, []}
+use Rattle.std.proofs.Common.{Err, None, ◌≡◌, ◌+◌, ℕ, arith, ap, ◌∙◌, inl, subst, sym, refl, ◌++◌, ◌∷◌, []}
 use Rattle.hall.specs.Calls.{start_of, view}
 use Rattle.hall.specs.declared.view.Stage.TheVariants.{Inside}
 use Rattle.notes.specs.Lists.{add, at}
 use Rattle.slru_bank.specs.Calls.{faults_of}
 use Rattle.slru_bank.specs.declared.refusal.BankRefusal.{BankRefusal}
-use Rattle.slru_bank.specs.declared.refusal.BankRefusal.TheVariants as bank_refusals
-use Rattle.tx_events.specs.declared.event.By.{By}
 use Rattle.tx_events.proofs.Membership.{has_contains}
 use Rattle.tx_core.specs.declared.entry.Entry.{Entry}
 use Rattle.tx_core.specs.declared.entry.Kind.TheVariants as kinds
@@ -18,7 +16,7 @@ use Rattle.engine_parts.specs.Faults.{fault_by}
 use Rattle.engine_parts.specs.Holds.{Leaves}
 use Rattle.engine_parts.specs.Law.{MayKeep}
 use Rattle.engine_parts.specs.Parts.{IsSubtransOf}
-use Rattle.host_sections.specs.HostEntries.{AddsSync, sync_by}
+use Rattle.host_sections.specs.HostEntries.{AddsSync}
 use Rattle.host_sections.proofs.Aloneness.{may_add, went_out}
 use Rattle.host_sections.proofs.BankSteps.{subtrans_failed, subtrans_synced}
 use Rattle.host_sections.proofs.Refusals.{same_bank_err}
@@ -57,9 +55,12 @@ leave-requires-clause-stands g c =
     let o = c.deref_mut-store.result.now in
     let n = c.flush_all.new.self in
     let f = c.in-Ok.ensures in
-    subst (λ (z : ℕ). (b : ℕ) × (z ≡ subtrans_lock b) × IsSubtransOf start b n (at seen z ++ c.sync_note-sync.result.value ∷ [])) (sym i.cell)
-    (bank, refl, subst (λ (e : Entry). IsSubtransOf start bank n (at seen (subtrans_lock bank) ++ e ∷ [])) (sym c.sync_note-sync.ensures)
-    (subtrans_synced start bank o n (at seen (subtrans_lock bank)) c.args.by f.bank.last f.cutoff f.bank.count f.same f.crash f.durable here))
+    subst (λ (z : ℕ). (b : ℕ) × (z ≡ subtrans_lock b) × IsSubtransOf start b n (at seen z ++ c.sync_note-sync.result.value ∷ [])) (sym i.cell) (
+      bank,
+      refl,
+      subst (λ (e : Entry). IsSubtransOf start bank n (at seen (subtrans_lock bank) ++ e ∷ [])) (sym c.sync_note-sync.ensures)
+          (subtrans_synced start bank o n (at seen (subtrans_lock bank)) c.args.by f.bank.last f.cutoff f.bank.count f.same f.crash here),
+    )
 
 pub returns-in-Ok-clause-alone : goal.returns-in-Ok-clause-alone
 returns-in-Ok-clause-alone g c =
@@ -103,7 +104,7 @@ leave-requires-in-Err-clause-may g c =
     let o = c.deref_mut-store.result.now in
     let n = c.flush_all.new.self in
     let noted = c.fault_note-fault.ensures ∙ ap (λ b. fault_by c.args.by (faults_of b)) c.deref.ensures in
-    let risen = risen_past (faults_told start (subtrans_lock bank) (at seen (subtrans_lock bank))) (faults_of o) (faults_of n) here.count (c.in-Err.ensures.bank.fault tt).1 in
+    let risen = risen_past (faults_told start (subtrans_lock bank) (at seen (subtrans_lock bank))) (faults_of o) (faults_of n) here.count (c.in-Err.ensures.bank.fault refl).1 in
     subst (λ z. MayKeep start seen z c.fault_note-fault.result.value) (sym i.cell)
     (may_add start seen (subtrans_lock bank) c.args.by (kinds.Fault (c.args.by ∷ []) [] None (faults_of n)) c.fault_note-fault.result.value noted
     ((hosts_keep start seen c.args.by).fault (subtrans_lock bank) (c.args.by ∷ []) (faults_of n) (record { from = omega arith; to = omega (arith, low) }) (record { own = has_contains (c.args.by ∷ []) c.args.by (inl refl); once = refl; each = tt }) risen)
@@ -121,9 +122,12 @@ leave-requires-in-Err-clause-stands g c =
     let n = c.flush_all.new.self in
     let f = c.in-Err.ensures in
     let noted = c.fault_note-fault.ensures ∙ ap (λ b. fault_by c.args.by (faults_of b)) c.deref.ensures in
-    subst (λ (z : ℕ). (b : ℕ) × (z ≡ subtrans_lock b) × IsSubtransOf start b n (at seen z ++ c.fault_note-fault.result.value ∷ [])) (sym i.cell)
-    (bank, refl, subst (λ (e : Entry). IsSubtransOf start bank n (at seen (subtrans_lock bank) ++ e ∷ [])) (sym noted)
-    (subtrans_failed start bank o n (at seen (subtrans_lock bank)) c.args.by f.bank.last f.cutoff f.bank.count f.same f.crash here))
+    subst (λ (z : ℕ). (b : ℕ) × (z ≡ subtrans_lock b) × IsSubtransOf start b n (at seen z ++ c.fault_note-fault.result.value ∷ [])) (sym i.cell) (
+      bank,
+      refl,
+      subst (λ (e : Entry). IsSubtransOf start bank n (at seen (subtrans_lock bank) ++ e ∷ [])) (sym noted)
+          (subtrans_failed start bank o n (at seen (subtrans_lock bank)) c.args.by f.bank.last f.cutoff f.bank.count f.same f.crash here),
+    )
 
 pub returns-in-Err-clause-alone : goal.returns-in-Err-clause-alone
 returns-in-Err-clause-alone g c =
@@ -147,9 +151,9 @@ returns-in-Err-clause-adds g c =
     let s = subst (λ b. IsSubtransOf start bank b (at old (subtrans_lock bank))) (sym c.deref_mut-store.ensures.value) c.take_subtrans-held.ensures.stands in
     let o = c.deref_mut-store.result.now in
     let n = c.flush_all.new.self in
-    let why = c.in-Err.ensures.bank.fault tt in
+    let why = c.in-Err.ensures.bank.fault refl in
     let noted = c.fault_note-fault.ensures ∙ ap (λ b. fault_by c.args.by (faults_of b)) c.deref.ensures in
-    subst (λ (r : BankRefusal). AddsSync {T = _} start c.args.by (subtrans_lock bank) old (view c.leave-in-Err.new.pass).seen (Err r)) (sym (same_bank_err why.0))
+    subst (λ (r : BankRefusal). AddsSync {T = Unit {0}} start c.args.by (subtrans_lock bank) old (view c.leave-in-Err.new.pass).seen (Err r)) (sym (same_bank_err why.0))
     (record {
       count = faults_of n;
       risen = risen_past (faults_told start (subtrans_lock bank) (at old (subtrans_lock bank))) (faults_of o) (faults_of n) s.count why.1;

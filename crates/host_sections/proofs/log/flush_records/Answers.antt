@@ -1,4 +1,4 @@
-use Rattle.std.proofs.Common.{Err, List, None, ◌≡◌, ◌<◌, ◌≤◌, ◌+◌, ℕ, arith, ap, ◌∙◌, length, subst, sym, refl, ◌++◌, ◌∷◌, []}
+use Rattle.std.proofs.Common.{Err, ◌≡◌, ◌+◌, ℕ, arith, ap, ◌∙◌, subst, sym, refl, ◌++◌, ◌∷◌, []}
 use Rattle.std.proofs.lemmas.List.{length-map}
 use Rattle.hall.specs.Calls.{start_of, view}
 use Rattle.hall.specs.declared.view.Stage.TheVariants.{Inside}
@@ -8,21 +8,22 @@ use Rattle.tx_events.specs.declared.record.Rec.{Rec}
 use Rattle.tx_core.specs.declared.entry.Entry.{Entry}
 use Rattle.tx_core.specs.declared.entry.Kind.TheVariants as kinds
 use Rattle.tx_core.specs.declared.entry.LogCall.TheVariants as calls
-use Rattle.tx_core.specs.Entries.{flushed_to, records_of, session_of}
+use Rattle.tx_core.specs.EngineInvariant.{EngineInvariant}
+use Rattle.tx_core.specs.Entries.{records_of, session_of}
 use Rattle.tx_core.specs.FaultsRise.{faults_told}
 use Rattle.tx_core.specs.Locks.{log_lock}
 use Rattle.tx_core.proofs.FaultCounts.{risen_past}
 use Rattle.tx_core.proofs.LogLaws.{flushes_rise}
 use Rattle.tx_core.proofs.Quiet.{hosts_keep}
-use Rattle.wal_core.specs.LogViews.{log_disk, log_down, log_next}
+use Rattle.wal_core.specs.LogViews.{log_disk, log_down}
 use Rattle.engine_parts.specs.Faults.{flush_fault_by}
 use Rattle.wal_core.specs.declared.refusal.LogRefusal.{LogRefusal}
-use Rattle.engine_parts.specs.Holds.{Leaves}
+use Rattle.engine_parts.specs.Holds.{Knowledge, Leaves}
 use Rattle.engine_parts.specs.Law.{MayKeep}
 use Rattle.engine_parts.specs.Parts.{IsLogOf}
 use Rattle.host_sections.specs.HostEntries.{AddsFlush, flush_by, next_number}
 use Rattle.host_sections.proofs.Aloneness.{came_out, may_add, went_out}
-use Rattle.host_sections.proofs.LogSteps.{flush_fails, flushed_stands, log_same}
+use Rattle.host_sections.proofs.LogSteps.{flush_fails, flushed_stands, log_untouched}
 use Rattle.host_sections.proofs.Refusals.{not_down, refused_down, same_err}
 use Rattle.host_sections.proofs.log.flush_records.Goals as goal
 
@@ -65,9 +66,11 @@ leave-requires-clause-stands g c =
     let n = c.flush.new.self in
     let f = c.in-Ok.ensures in
     let up = not_down (log_down o) (λ m put. let refused = f.is_down m put in cc) in
-    subst (λ (z : ℕ). (z ≡ log_lock) × IsLogOf start n (at seen z ++ c.flush_note-flush.result.value ∷ [])) (sym i.cell)
-    (refl, subst (λ (e : Entry). IsLogOf start n (at seen log_lock ++ e ∷ [])) (sym c.flush_note-flush.ensures)
-    (flushed_stands start o n (at seen log_lock) c.args.by here c.next-next.result c.next-next.ensures f.recs f.next f.counters f.ok (f.stays (λ q. cc)) up f.faults f.first f.checkpoint f.keeps))
+    subst (λ (z : ℕ). (z ≡ log_lock) × IsLogOf start n (at seen z ++ c.flush_note-flush.result.value ∷ [])) (sym i.cell) (
+      refl,
+      subst (λ (e : Entry). IsLogOf start n (at seen log_lock ++ e ∷ [])) (sym c.flush_note-flush.ensures)
+          (flushed_stands start o n (at seen log_lock) c.args.by here c.next-next.result c.next-next.ensures f.recs f.next f.counters f.ok (f.stays (λ q. cc)) up f.faults f.first f.checkpoint f.keeps),
+    )
 
 pub returns-in-Ok-clause-alone : goal.returns-in-Ok-clause-alone
 returns-in-Ok-clause-alone g c =
@@ -133,9 +136,11 @@ leave-requires-in-LogFault-clause-stands g c =
     let n = c.flush.new.self in
     let f = c.in-Err.ensures in
     let noted = c.flush_fault_note-fault.ensures ∙ ap (λ l. flush_fault_by c.args.by (d.faults (log_disk l))) c.deref.ensures in
-    subst (λ (z : ℕ). (z ≡ log_lock) × IsLogOf start n (at seen z ++ c.flush_fault_note-fault.result.value ∷ [])) (sym i.cell)
-    (refl, subst (λ (e : Entry). IsLogOf start n (at seen log_lock ++ e ∷ [])) (sym noted)
-    (flush_fails start o n (at seen log_lock) c.args.by here f.recs f.next f.counters f.err (f.put_down (ap Err c.in-LogFault.is)) f.first f.keeps))
+    subst (λ (z : ℕ). (z ≡ log_lock) × IsLogOf start n (at seen z ++ c.flush_fault_note-fault.result.value ∷ [])) (sym i.cell) (
+      refl,
+      subst (λ (e : Entry). IsLogOf start n (at seen log_lock ++ e ∷ [])) (sym noted)
+          (flush_fails start o n (at seen log_lock) c.args.by here f.recs f.next f.counters f.err (f.put_down (ap Err c.in-LogFault.is)) f.first f.keeps),
+    )
 
 pub returns-in-LogFault-clause-alone : goal.returns-in-LogFault-clause-alone
 returns-in-LogFault-clause-alone g c =
@@ -181,7 +186,7 @@ put_back-requires-clause-stands g c =
     let f = c.in-Err.ensures in
     let down = refused_down c.in-Err.refusal c.in_default.not-LogFault (λ q. f.no_other.0 (ap Err q)) (λ q. f.no_other.1 (ap Err q)) (λ place q. f.no_other.2 place (ap Err q)) in
     subst (λ (z : ℕ). (z ≡ log_lock) × IsLogOf start n (at seen z)) (sym i.cell)
-    (refl, log_same start o n (at seen log_lock) c.args.by here (f.down_asks_nothing down.0 (f.down down.0 (ap Err down.1))) f.recs f.next f.first f.err f.counters (f.stays (λ q. c.in_default.not-LogFault (same_err q))) f.err_checkpoint)
+    (refl, log_untouched start o n (at seen log_lock) (f.down_asks_nothing down.0 (f.down down.0 (ap Err down.1))) f.recs f.next f.first f.err f.counters (f.stays (λ q. c.in_default.not-LogFault (same_err q))) f.err_checkpoint here)
 
 pub returns-in_default-clause-alone : goal.returns-in_default-clause-alone
 returns-in_default-clause-alone g c =
@@ -199,5 +204,8 @@ returns-in_default-clause-adds g c =
     let f = c.in-Err.ensures in
     let down = refused_down c.in-Err.refusal c.in_default.not-LogFault (λ q. f.no_other.0 (ap Err q)) (λ q. f.no_other.1 (ap Err q)) (λ place q. f.no_other.2 place (ap Err q)) in
     let out = came_out c.args.hall.now log_lock c.args.pass.now c.take_log-held.new.pass c.put_back.new.pass c.requires.alone c.take_log-held.ensures.inside c.put_back.ensures.own.0 c.put_back.ensures.view in
-    subst (λ (r : LogRefusal). AddsFlush {T = _} start c.args.by old (view c.put_back.new.pass).seen (Err r)) (sym down.1)
+    subst (λ (r : LogRefusal). AddsFlush {T = Unit {0}} start c.args.by old (view c.put_back.new.pass).seen (Err r)) (sym down.1)
     (record { same = out.seen; is_down = (s.failed down.0 (f.down down.0 (ap Err down.1))).0 })
+
+pub returns-in_default-clause-kept : goal.returns-in_default-clause-kept
+returns-in_default-clause-kept g c = subst (EngineInvariant (start_of c.args.hall.now)) (sym (ap (λ (z : Knowledge). z.seen) c.put_back.ensures.view)) c.take_log-held.ensures.inside.kept

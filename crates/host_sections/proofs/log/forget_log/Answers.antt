@@ -1,11 +1,11 @@
-use Rattle.std.proofs.Common.{Err, IsSome, List, None, Option, ◌≡◌, ◌<◌, ◌≤◌, ◌+◌, ℕ, arith, ap, ◌∙◌, length, subst, sym, refl, ◌++◌, ◌∷◌, []}
+use Rattle.std.proofs.Common.{Err, IsSome, Option, ◌≡◌, ◌+◌, ℕ, arith, ap, ◌∙◌, subst, sym, refl, ◌++◌, ◌∷◌, []}
 use Rattle.hall.specs.Calls.{start_of, view}
 use Rattle.hall.specs.declared.view.Stage.TheVariants.{Inside}
 use Rattle.notes.specs.Lists.{add, at}
-use Rattle.tx_events.specs.declared.event.By.{By}
 use Rattle.tx_core.specs.declared.entry.Entry.{Entry}
 use Rattle.tx_core.specs.declared.entry.Kind.TheVariants as kinds
 use Rattle.tx_core.specs.declared.entry.LogCall.TheVariants as calls
+use Rattle.tx_core.specs.EngineInvariant.{EngineInvariant}
 use Rattle.tx_core.specs.Entries.{session_of}
 use Rattle.tx_core.specs.FaultsRise.{faults_told}
 use Rattle.tx_core.specs.Locks.{log_lock}
@@ -15,12 +15,12 @@ use Rattle.tx_core.proofs.Quiet.{hosts_keep}
 use Rattle.wal_core.specs.LogViews.{log_checkpoint, log_disk, log_down, log_first}
 use Rattle.wal_core.specs.declared.checkpoint.LastCheckpoint.{LastCheckpoint}
 use Rattle.wal_core.specs.declared.refusal.LogRefusal.{LogRefusal}
-use Rattle.engine_parts.specs.Holds.{Leaves}
+use Rattle.engine_parts.specs.Holds.{Knowledge, Leaves}
 use Rattle.engine_parts.specs.Law.{MayKeep}
 use Rattle.engine_parts.specs.Parts.{IsLogOf}
 use Rattle.host_sections.specs.HostEntries.{AddsForget, forget_fault_by}
 use Rattle.host_sections.proofs.Aloneness.{came_out, may_add, went_out}
-use Rattle.host_sections.proofs.LogSteps.{forget_fails, forgotten_stands, log_same}
+use Rattle.host_sections.proofs.LogSteps.{forget_fails, forgotten_stands, log_untouched}
 use Rattle.host_sections.proofs.Refusals.{first_is, not_down, refused_down, same_err}
 use Rattle.host_sections.proofs.log.forget_log.Goals as goal
 
@@ -67,9 +67,11 @@ leave-requires-clause-stands g c =
     let n = c.forget_before_checkpoint.new.self in
     let f = c.in-Ok.ensures in
     let up = not_down (log_down o) (λ m put. let refused = f.is_down m put in cc) in
-    subst (λ (z : ℕ). (z ≡ log_lock) × IsLogOf start n (at seen z ++ c.forget_note-forget.result.value ∷ [])) (sym i.cell)
-    (refl, subst (λ (e : Entry). IsLogOf start n (at seen log_lock ++ e ∷ [])) (sym c.forget_note-forget.ensures)
-    (forgotten_stands start o n (at seen log_lock) c.args.by here c.args.number f.recs f.next f.counters f.flushed (f.stays (λ q. cc)) up f.faults (first_is c.args.number (log_checkpoint o) (log_first n) (s.alone c.args.number c.requires.ends) (f.first (λ place q. cc))) f.keeps))
+    subst (λ (z : ℕ). (z ≡ log_lock) × IsLogOf start n (at seen z ++ c.forget_note-forget.result.value ∷ [])) (sym i.cell) (
+      refl,
+      subst (λ (e : Entry). IsLogOf start n (at seen log_lock ++ e ∷ [])) (sym c.forget_note-forget.ensures)
+          (forgotten_stands start o n (at seen log_lock) c.args.by here c.args.number f.recs f.next f.counters f.flushed (f.stays (λ q. cc)) up f.faults (first_is c.args.number (log_checkpoint o) (log_first n) (s.alone c.args.number c.requires.ends) (f.first (λ place q. cc))) f.keeps),
+    )
 
 pub returns-in-Ok-clause-alone : goal.returns-in-Ok-clause-alone
 returns-in-Ok-clause-alone g c =
@@ -134,10 +136,12 @@ leave-requires-in-LogFault-clause-stands g c =
     let n = c.forget_before_checkpoint.new.self in
     let f = c.in-Err.ensures in
     let noted = c.forget_fault_note-fault.ensures ∙ ap (λ l. forget_fault_by c.args.by c.args.number (d.faults (log_disk l))) c.deref.ensures in
-    subst (λ (z : ℕ). (z ≡ log_lock) × IsLogOf start n (at seen z ++ c.forget_fault_note-fault.result.value ∷ [])) (sym i.cell)
-    (refl, subst (λ (e : Entry). IsLogOf start n (at seen log_lock ++ e ∷ [])) (sym noted)
-    (forget_fails start o n (at seen log_lock) c.args.by here c.args.number f.recs f.next f.counters f.flushed (f.put_down (ap Err c.in-LogFault.is))
-    (first_is c.args.number (log_checkpoint o) (log_first n) (s.alone c.args.number c.requires.ends) (f.first (λ place q. let failed = c.in-LogFault.is in let other = same_err q in cc))) f.keeps))
+    subst (λ (z : ℕ). (z ≡ log_lock) × IsLogOf start n (at seen z ++ c.forget_fault_note-fault.result.value ∷ [])) (sym i.cell) (
+      refl,
+      subst (λ (e : Entry). IsLogOf start n (at seen log_lock ++ e ∷ [])) (sym noted)
+          (forget_fails start o n (at seen log_lock) c.args.by here c.args.number f.recs f.next f.counters f.flushed (f.put_down (ap Err c.in-LogFault.is))
+          (first_is c.args.number (log_checkpoint o) (log_first n) (s.alone c.args.number c.requires.ends) (f.first (λ place q. let failed = c.in-LogFault.is in let other = same_err q in cc))) f.keeps),
+    )
 
 pub returns-in-LogFault-clause-alone : goal.returns-in-LogFault-clause-alone
 returns-in-LogFault-clause-alone g c =
@@ -183,7 +187,7 @@ put_back-requires-clause-stands g c =
     let f = c.in-Err.ensures in
     let down = refused_down c.in-Err.refusal c.in_default.not-LogFault (λ q. f.no_other.0 (ap Err q)) (λ q. f.no_other.1 (ap Err q)) (λ place q. f.no_other.2 place (ap Err q)) in
     subst (λ (z : ℕ). (z ≡ log_lock) × IsLogOf start n (at seen z)) (sym i.cell)
-    (refl, log_same start o n (at seen log_lock) c.args.by here (f.down_asks_nothing down.0 (f.down down.0 (ap Err down.1))) f.recs f.next (f.first_down down.0 (ap Err down.1)) f.flushed f.counters (f.stays (λ q. c.in_default.not-LogFault (same_err q))) f.checkpoint)
+    (refl, log_untouched start o n (at seen log_lock) (f.down_asks_nothing down.0 (f.down down.0 (ap Err down.1))) f.recs f.next (f.first_down down.0 (ap Err down.1)) f.flushed f.counters (f.stays (λ q. c.in_default.not-LogFault (same_err q))) f.checkpoint here)
 
 pub returns-in_default-clause-alone : goal.returns-in_default-clause-alone
 returns-in_default-clause-alone g c =
@@ -201,5 +205,8 @@ returns-in_default-clause-adds g c =
     let f = c.in-Err.ensures in
     let down = refused_down c.in-Err.refusal c.in_default.not-LogFault (λ q. f.no_other.0 (ap Err q)) (λ q. f.no_other.1 (ap Err q)) (λ place q. f.no_other.2 place (ap Err q)) in
     let out = came_out c.args.hall.now log_lock c.args.pass.now c.take_log-held.new.pass c.put_back.new.pass c.requires.alone c.take_log-held.ensures.inside c.put_back.ensures.own.0 c.put_back.ensures.view in
-    subst (λ (r : LogRefusal). AddsForget {T = _} start c.args.by c.args.number old (view c.put_back.new.pass).seen (Err r)) (sym down.1)
+    subst (λ (r : LogRefusal). AddsForget {T = Unit {0}} start c.args.by c.args.number old (view c.put_back.new.pass).seen (Err r)) (sym down.1)
     (record { same = out.seen; is_down = (s.failed down.0 (f.down down.0 (ap Err down.1))).0 })
+
+pub returns-in_default-clause-kept : goal.returns-in_default-clause-kept
+returns-in_default-clause-kept g c = subst (EngineInvariant (start_of c.args.hall.now)) (sym (ap (λ (z : Knowledge). z.seen) c.put_back.ensures.view)) c.take_log-held.ensures.inside.kept

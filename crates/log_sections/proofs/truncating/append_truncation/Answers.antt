@@ -97,7 +97,7 @@ leave_looked-requires-in-Err-clause-stands g c =
           (let same : faults_told start log_lock (es ++ look ∷ []) ≡ faults_told start log_lock es = number_same count_in (faults_at start log_lock) es look refl in let before = s.count in let still = ap d.faults a.disk in omega arith)
           (λ m is. let f = s.failed m (sym a.stays ∙ is) in let same = a.flushed in (failed_more start es look m f.0, (let le = f.1 in omega arith)))
           (λ none. up_more es look refl (s.up (sym a.stays ∙ none)))
-          (first_same start es look (log_first o) (log_first n) a.first s.first_is) (unflushed start es look (log_checkpoint n) refl) a.err_keeps,
+          (first_same start es look (log_first o) (log_first n) a.first refl s.first_is) (unflushed start es look (log_checkpoint n) refl) a.err_keeps,
     )
 
 pub refusal_of-requires : goal.refusal_of-requires

@@ -9,6 +9,7 @@ use Rattle.engine_life.specs.Lives.{volumes_left}
 use Rattle.session_run.proofs.CausesTold.{causes_told}
 use Rattle.session_run.proofs.LifeFits.{life_fits}
 use Rattle.session_run.proofs.LifeLived.{ids_few, life_lived, lines_run, number_told}
+use Rattle.session_run.proofs.Returning.{grows_same}
 use Rattle.session_run.proofs.StatesHeld.{bank_holds}
 use Rattle.session_run.proofs.life.run_life.Goals as goal
 
@@ -54,7 +55,7 @@ returns g c =
                   let none = ap (λ (t : Start). t.recorded) opened.begun.start_is ∙ opened.unrecorded in
                   life_fits g.L.LogDisk g.P.PageDisk (start_of life.hall) (view host.pass).seen k b faults left (volumes_left left) opened.begun.start_is closed.log (closed.fit tells told right none few);
               causes = causes_told g.P.PageDisk.tells k (start_of life.hall) (view host.pass).seen ran.1.rounds life mounted (volumes_left left) over b faults opened opened.begun.start_is closed.counted
-                  (record { offsets = closed.offsets ∙ opened.offsets; members = closed.members ∙ opened.members }) ran.1.steps (lines_run ran.1.steps ran.1.rounds ran.1.rounds_are);
+                  (record { offsets = closed.offsets ∙ opened.offsets; members = closed.members ∙ opened.members }) ran.1.steps (lines_run ran.1.steps ran.1.rounds ran.1.rounds_are) (ran.1.faults (view host.pass).seen (grows_same (view host.pass).seen) closed.kept);
             };
           })
           c.run_rounds-ran.ensures.ran;

@@ -61,7 +61,7 @@ returns-clause-went g c =
     let each = subst (All (λ (m : Member _ _ _ _ _). m.lost ≡ false)) same sufficed in (
       _,
       went keep h c.args.host.now c.args.sessions.now c.args.plan.now c.args.round.now c.let_in.new.members.items sent c.requires.plan.0 c.requires.plan.1 names ran c.run_members.ensures
-          c.let_in.new.host c.take_back.new.host c.let_in.new.sessions c.take_back.new.sessions c.let_in.ensures.seen stay c.take_back.ensures.back each,
+          c.let_in.new.host c.take_back.new.host c.let_in.new.sessions c.take_back.new.sessions c.let_in.ensures.cluster c.let_in.ensures.seen stay c.take_back.ensures.back each,
       round_kept keep h c.args.host.now c.args.sessions.now c.args.plan.now c.args.round.now c.let_in.new.members.items sent c.requires.plan.0 c.requires.plan.1 names ran c.run_members.ensures
           laws c.args.kept.now c.join_members-joined.new.kept each (put ∙ ap (with_members keep c.args.kept.now) same),
     ))

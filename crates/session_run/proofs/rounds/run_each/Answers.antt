@@ -15,7 +15,7 @@ loop-rest-init g c = record {
   done = [];
   split = refl;
   number = refl;
-  ran = ran_none g.K.LineKeeper c.args.hall.now c.args.host.now c.args.sessions.now c.args.names.now c.args.kept.now c.requires.begins;
+  ran = ran_none g.K.LineKeeper c.args.hall.now c.args.host.now c.args.sessions.now c.args.names.now c.args.kept.now c.requires.begins c.requires.unseen;
   cluster = refl;
   items = c.requires.items;
   room = omega (arith, c.requires.few);
@@ -36,8 +36,8 @@ run_next-requires-clause-items g c κs within =
     let i = c.loop-rest.invariant in
     (all_parts (MayRun (length c.loop-rest.sessions)) c.loop-rest.rest c.next_round-round.result.0 c.next_round-round.result.1 c.next_round-round.ensures i.items).0
 
-pub show_next-requires-clause-items : goal.show_next-requires-clause-items
-show_next-requires-clause-items g c = subst (λ n. All (MayRun n) c.loop-rest.rest) (sym c.in_ok-rounds.ensures.count) c.loop-rest.invariant.items
+pub answer_next-requires-clause-items : goal.answer_next-requires-clause-items
+answer_next-requires-clause-items g c = subst (λ n. All (MayRun n) c.loop-rest.rest) (sym c.in_ok-rounds.ensures.count) c.loop-rest.invariant.items
 
 pub loop-rest-smaller : goal.loop-rest-smaller
 loop-rest-smaller g c =
@@ -47,7 +47,7 @@ pub loop-rest-preserved : goal.loop-rest-preserved
 loop-rest-preserved g c =
     let i = c.loop-rest.invariant in
     let e = c.in_ok-rounds.ensures in
-    let shown = c.in_ok-show_next.ensures in
+    let answered = c.in_ok-answer_next.ensures in
     let rest = c.loop-rest.rest in
     let round = c.next_round-round.result.0 in
     let behind = c.next_round-round.result.1 in
@@ -63,9 +63,9 @@ loop-rest-preserved g c =
       done = (i.done ++ first) ++ then;
       split = asked_on c.args.script rest round behind i.done i.split f;
       number = omega (arith, sum, i.number, e.rounds);
-      ran = subst (λ k. HasRun g.K.LineKeeper c.args.hall.now c.show_next.new.host c.run_next.new.sessions c.args.names.now ((i.done ++ first) ++ asked_at rest k) c.args.kept.now c.show_next.new.kept) c.len-place.ensures
-          (shown.ran (i.done ++ first) c.args.kept.now (e.ran i.done c.args.kept.now i.number i.ran));
-      cluster = shown.cluster ∙ (e.cluster ∙ i.cluster);
+      ran = subst (λ k. HasRun g.K.LineKeeper c.args.hall.now c.answer_next.new.host c.run_next.new.sessions c.args.names.now ((i.done ++ first) ++ asked_at rest k) c.args.kept.now c.answer_next.new.kept) c.len-place.ensures
+          (answered.ran (i.done ++ first) c.args.kept.now (e.ran i.done c.args.kept.now i.number i.ran));
+      cluster = answered.cluster ∙ (e.cluster ∙ i.cluster);
       items = subst (λ n. All (MayRun n) behind) (sym e.count) (all_parts (MayRun (length c.loop-rest.sessions)) rest round behind f i.items).1;
       room = omega (arith, e.rounds, short, parts, i.room);
       blank = e.plan.0;

@@ -16,7 +16,7 @@ reopen_life-requires g c =
     let sessions = asked.1.0 in
     let fit = asked.1.1 in
     let fell = c.in-Ok.ensures in
-    let holds = may_go_on l p g.kept c.args.banks c.args.volumes (g.M.Media.gives c.crash.new.self) has fell.banks fell.left fell.tells fit c.crash_goes_on.ensures in
+    let holds = may_go_on l p g.kept c.args.banks c.args.volumes (g.M.Media.gives c.crash.new.self) has c.crash.ensures.banks fell.left fell.tells fit c.crash_goes_on.ensures in
     search (rules, some, few, sessions, holds)
 
 pub returns-in-Ok-reopen_life-clause-next : goal.returns-in-Ok-reopen_life-clause-next
@@ -31,10 +31,10 @@ returns-in-Ok-reopen_life-clause-next g c =
       mounted = goes.0;
       fallen = record {
         fell = subst (λ how. g.M.Media.falls how old goes.0) c.crash_of.ensures (fell.fell goes.0 goes.1);
-        banks = fell.banks goes.0 goes.1;
+        banks = c.crash.ensures.banks goes.0 goes.1;
         crashed = λ lt pt. fell.left lt pt goes.0 goes.1;
       };
-      banks_are = same_banks l p c.args.banks old goes.0 c.requires.1.1.1.1.1.0 (fell.banks goes.0 goes.1);
+      banks_are = same_banks l p c.args.banks old goes.0 c.requires.1.1.1.1.1.0 (c.crash.ensures.banks goes.0 goes.1);
       goes = goes.2;
     }
 
@@ -50,5 +50,5 @@ returns-in-Err-reopen_life-clause-refused g c =
     let now = m.faults c.reopen_life.new.media in
     subst (IsCrashed l p m.falls how before now old (m.gives c.reopen_life.new.media)) (sym c.no_life_of.ensures)
     (none_goes_on l p m.falls how old (m.gives c.crash.new.self) (m.gives c.reopen_life.new.media) before (m.faults c.crash.new.self) now fell.cause.0
-    (λ v given. record { fell = subst (λ k. m.falls k old v) c.crash_of.ensures (fell.fell v given); banks = fell.banks v given; crashed = λ lt pt. fell.left lt pt v given })
+    (λ v given. record { fell = subst (λ k. m.falls k old v) c.crash_of.ensures (fell.fell v given); banks = c.crash.ensures.banks v given; crashed = λ lt pt. fell.left lt pt v given })
     g.kept c.requires.1.1.1.1.1.1.1 c.in-Err-reopen_life.refusal c.in-Err-reopen_life.ensures.refused)

@@ -1,0 +1,4 @@
+pub mod Begins
+pub mod Longest
+pub mod Refusing
+pub mod Alone

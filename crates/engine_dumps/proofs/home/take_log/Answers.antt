@@ -1,5 +1,0 @@
-use Rattle.std.proofs.Common.{arith}
-use Rattle.engine_dumps.proofs.home.take_log.Goals as goal
-
-pub take_part-part-requires-clause-lock : goal.take_part-part-requires-clause-lock
-take_part-part-requires-clause-lock g c = omega (arith, c.requires.home.is_host.laid)

@@ -1,5 +1,5 @@
 -- One member more of a run on one page.
-use Rattle.std.proofs.Common.{◌≡◌, ◌≢◌, ◌⊎◌, ⊎_elim, inl, inr, ℕ, zero, suc, ◌+◌, ◌/◌, ◌%◌, ◌<◌, ◌≤◌, List, [], ◌∷◌, ◌++◌, Some, length, refl, sym, ◌∙◌, ap, subst, arith, slice_index_or, Result, Ok}
+use Rattle.std.proofs.Common.{◌≡◌, ◌≢◌, ◌⊎◌, ⊎_elim, inl, inr, ℕ, zero, suc, ◌+◌, ◌/◌, ◌%◌, ◌<◌, ◌≤◌, List, [], ◌∷◌, ◌++◌, Some, length, refl, sym, ◌∙◌, ap, subst, arith, slice_index_or, Result, Err, Ok}
 use Rattle.std.specs.List.{slice_get, slice_index}
 use Rattle.tx_events.specs.Ids.{low_half}
 use Rattle.tx_events.specs.Modes.{mode_number}
@@ -9,9 +9,10 @@ use Rattle.store_pages.specs.Pages.{id_at, member_page, member_place, mode_at}
 use Rattle.disk_core.specs.declared.page_disk.PageDisk.{Ghosts as DiskGhosts}
 use Rattle.store_pages.specs.declared.page_rule.PageRule.{Ghosts as RuleGhosts}
 use Rattle.slru_bank.specs.Bank.{IsPage}
-use Rattle.slru_bank.specs.Calls.{CallsBank, calls_again}
+use Rattle.slru_bank.specs.Calls.{CallsBank, calls_again, cutoff_of}
 use Rattle.slru_bank.specs.declared.bank.SlruBank.{SlruBank}
 use Rattle.slru_bank.specs.declared.refusal.BankRefusal.{BankRefusal}
+use Rattle.slru_bank.specs.declared.refusal.BankRefusal.TheVariants.{Cut, DiskFault}
 use Rattle.multi_members.specs.Changes.{SetsMember}
 use Rattle.multi_members.specs.Runs.{SetsMembers, slots_on}
 use Rattle.multi_members.specs.Slots.{slot_of}
@@ -100,6 +101,31 @@ module _ {P O X Y : Type 0} {g : DiskGhosts P} {r : RuleGhosts O} (page : ℕ) w
     no_fault = λ held e. cc;
     not_asked = c.not_asked;
   }
+
+module _ {P O X Y : Type 0} {g : DiskGhosts P} {r : RuleGhosts O} (page : ℕ) where
+  -- nor what a refusal says
+  pub calls_err : (old new : SlruBank P O g r) (refusal : BankRefusal) → CallsBank page old new (Err {Y} refusal) → CallsBank page old new (Err {X} refusal)
+  calls_err old new refusal c = record {
+    last = c.last;
+    calls = record {
+      cutoff = c.calls.cutoff;
+      cut = λ k. ap (λ z. Err z) (same refusal (Cut (cutoff_of old)) (c.calls.cut k));
+      only_cut = λ cutoff e. c.calls.only_cut cutoff (ap (λ z. Err z) (kind refusal (Cut cutoff) e));
+      cut_asks_nothing = c.calls.cut_asks_nothing;
+      fault = λ e. c.calls.fault (ap (λ z. Err z) (kind refusal DiskFault e));
+      count = c.calls.count;
+      crash = c.calls.crash;
+    };
+    at_hand = tt;
+    no_fault = λ held e. c.no_fault held (ap (λ z. Err z) (kind refusal DiskFault e));
+    not_asked = c.not_asked;
+  }
+    where
+      same : (a b : BankRefusal) → Err {Y} a ≡ Err {Y} b → a ≡ b
+      same a b q = cc
+
+      kind : (a b : BankRefusal) → Err {X} a ≡ Err {X} b → a ≡ b
+      kind a b q = cc
 
 module _ {P O Y : Type 0} {g : DiskGhosts P} {r : RuleGhosts O} (page : ℕ) where
   pub reads_more : (i : ℕ) (b0 b1 b2 : SlruBank P O g r) (result : Result Y BankRefusal) → (i ≡ 0 → b1 ≡ b0) → (1 ≤ i → CallsBank page b0 b1 (Ok (tt {0}))) → CallsBank page b1 b2 result → CallsBank page b0 b2 result

@@ -55,8 +55,10 @@ pub fn read_members<P: PageDisk>(
 {
     let mut i = 0;
     while i < count {
-        let slot = read_member(bank, offset + i)?;
-        into.push_reserved(slot);
+        match read_member(bank, offset + i) {
+            Ok(slot) => into.push_reserved(slot),
+            Err(refusal) => return Err(refusal),
+        }
         i += 1;
     }
     Ok(())

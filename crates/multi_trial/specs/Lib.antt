@@ -1,4 +1,5 @@
 pub mod Shelf
 pub mod Shelves
 pub mod Laws
+pub mod Courses
 pub mod Makings

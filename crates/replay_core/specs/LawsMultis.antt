@@ -60,11 +60,11 @@ OffsetMapFits share log n m = OffsetsFit share.banks share.bank log n (λ q. Som
 abbrev pub FitsWithinOffsets : Type 0
 FitsWithinOffsets = (share : Share) (log : KeptLog) (n : ℕ) (recs : List Rec) (m : ℕ → List ℕ) (c d : Pages) → IsWholeOfMultis log n recs
     → OffsetMapFits share log n m → OffsetsFit share.banks share.bank log n c
-    → MayRestoreOffsets (end_base log).counters.oldest_multi (filter is_multi recs) (clear_multi log n) m c d → OffsetsFit share.banks share.bank log n d
+    → MayRestoreOffsets (end_base log).counters.oldest_multi recs (clear_multi log n) m c d → OffsetsFit share.banks share.bank log n d
 
 abbrev pub ShowsOffsetBase : Type 0
 ShowsOffsetBase = (share : Share) (log : KeptLog) (n : ℕ) (recs : List Rec) (m new : ℕ → List ℕ) → IsWholeOfMultis log n recs → OffsetMapFits share log n m
-    → RestoresOffsets share (end_base log).counters.oldest_multi (filter is_multi recs) (clear_multi log n) (end_base log).counters.multi m new → ShowOffsets share (end_base log) new
+    → RestoresOffsets share (end_base log).counters.oldest_multi recs (clear_multi log n) (end_base log).counters.multi m new → ShowOffsets share (end_base log) new
 
 -- the log's part: as CutFits and CheckpointFits
 abbrev pub CutFitsOffsets : Type 0
@@ -92,8 +92,8 @@ MemberMapFits share log n m = MembersFit share.banks share.bank log n (λ q. Som
 abbrev pub FitsWithinMembers : Type 0
 FitsWithinMembers = (share : Share) (log : KeptLog) (n : ℕ) (recs : List Rec) (m : ℕ → List ℕ) (c d : Pages) → IsWholeOfMultis log n recs
     → MemberMapFits share log n m → MembersFit share.banks share.bank log n c
-    → MayRestoreMembers (end_base log).counters.oldest_multi (filter is_multi recs) (clear_offset log n) m c d → MembersFit share.banks share.bank log n d
+    → MayRestoreMembers (end_base log).counters.oldest_multi recs (clear_offset log n) m c d → MembersFit share.banks share.bank log n d
 
 abbrev pub ShowsMemberBase : Type 0
 ShowsMemberBase = (share : Share) (log : KeptLog) (n : ℕ) (recs : List Rec) (m new : ℕ → List ℕ) → IsWholeOfMultis log n recs → MemberMapFits share log n m
-    → RestoresMembers share (end_base log).counters.oldest_multi (filter is_multi recs) (clear_offset log n) (end_base log).counters.offset m new → ShowMembers share (end_base log) new
+    → RestoresMembers share (end_base log).counters.oldest_multi recs (clear_offset log n) (end_base log).counters.offset m new → ShowMembers share (end_base log) new

@@ -8,4 +8,5 @@ pub mod Opened
 pub mod Banks
 pub mod Replay
 pub mod RedoMultis
+pub mod RestoreMultis
 pub mod LawsMultis

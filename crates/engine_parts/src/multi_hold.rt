@@ -11,18 +11,18 @@ ghost use Rattle.engine_parts.specs.Law.{MayKeep};
 ghost use Rattle.engine_parts.specs.Stand.{MultiStands};
 ghost use Rattle.engine_parts.specs.Sessions.{IsAt, IsReady};
 
+use crate::gate::Passing;
 use crate::hold::{enter, leave};
 use crate::law::EngineLaw;
 use crate::part::Part;
-use crate::session::Caller;
+use crate::session::{Caller, knock};
 use disk_core::{LogDisk, PageDisk};
 use hall::{Hall, Note};
 use multi_store::MultiGen;
-use std::sync::Wait;
 use tx_core::Entry;
 
 /// Waits for the generator of multixacts (MultiXactGenLock).
-pub fn enter_multi<R: Wait, L: LogDisk, P: PageDisk>(
+pub fn enter_multi<R: Passing, L: LogDisk, P: PageDisk>(
     rt: &R,
     hall: &Hall<EngineLaw<L, P>>,
     caller: &mut Caller<L, P>,
@@ -37,6 +37,7 @@ pub fn enter_multi<R: Wait, L: LogDisk, P: PageDisk>(
     ensures same { (caller.new.session ≡ caller.old.session) × (caller.new.number ≡ caller.old.number) }
     ensures stands { MultiStands (start_of hall.now) result.value (at (view caller.new.pass).seen multi_lock) }
 {
+    knock(rt, caller);
     let part = enter(rt, hall, &mut caller.pass, 2);
     let Part::Multi(multis) = part else {
         unreachable!()

@@ -10,14 +10,13 @@ ghost use Rattle.engine_parts.specs.Sessions.{IsReady, look_by};
 ghost use Rattle.multi_sections.specs.Steps.{WentMulti};
 
 use disk_core::{LogDisk, PageDisk};
-use engine_parts::{Caller, EngineLaw, Part, enter_multi, leave_looked};
+use engine_parts::{Caller, EngineLaw, Part, Passing, enter_multi, leave_looked};
 use hall::Hall;
-use std::sync::Wait;
 use tx_events::Counters;
 
 /// The next multixact and offset, and the announced oldest ones, which belong together: one critical section of the
 /// generator. The ids are the base's.
-pub fn read_multis<R: Wait, L: LogDisk, P: PageDisk>(
+pub fn read_multis<R: Passing, L: LogDisk, P: PageDisk>(
     rt: &R,
     hall: &Hall<EngineLaw<L, P>>,
     caller: &mut Caller<L, P>,

@@ -10,10 +10,9 @@ ghost use Rattle.multi_sections.specs.Pinnings.{Pins, TakesPin, hold_event, unho
 
 use crate::leaving::leave_made;
 use disk_core::{LogDisk, PageDisk};
-use engine_parts::{Caller, EngineLaw, Part, command_of, enter_multi, leave_looked};
+use engine_parts::{Caller, EngineLaw, Part, Passing, command_of, enter_multi, leave_looked};
 use hall::{Hall, Note};
 use multi_store::Held;
-use std::sync::Wait;
 use tx_events::{By, FullMulti, MultiEvent, MultiId, Refusal};
 
 /// The event of a pin.
@@ -34,7 +33,7 @@ fn unhold_note(by: By, multi: FullMulti) -> Note<MultiEvent>
 ///
 /// Refused with `MultiTooOld` exactly where the number means none or one below the oldest, with `MultiFuture` exactly where
 /// it means one at or past the next, or with `Memory`; then nothing was pinned.
-pub fn pin_multi<R: Wait, L: LogDisk, P: PageDisk>(
+pub fn pin_multi<R: Passing, L: LogDisk, P: PageDisk>(
     rt: &R,
     hall: &Hall<EngineLaw<L, P>>,
     caller: &mut Caller<L, P>,
@@ -69,7 +68,7 @@ pub fn pin_multi<R: Wait, L: LogDisk, P: PageDisk>(
 }
 
 /// Lets go a multixact that the session pins, once: one critical section of the generator. Takes no memory.
-pub fn unpin_multi<R: Wait, L: LogDisk, P: PageDisk>(
+pub fn unpin_multi<R: Passing, L: LogDisk, P: PageDisk>(
     rt: &R,
     hall: &Hall<EngineLaw<L, P>>,
     caller: &mut Caller<L, P>,

@@ -10,10 +10,9 @@ ghost use Rattle.multi_sections.specs.Raisings.{StartsFreeze, freezing_event};
 use crate::leaving::leave_made;
 use crate::pinning::hold_note;
 use disk_core::{LogDisk, PageDisk};
-use engine_parts::{Caller, EngineLaw, Part, command_of, enter_multi, leave_looked};
+use engine_parts::{Caller, EngineLaw, Part, Passing, command_of, enter_multi, leave_looked};
 use hall::{Hall, Note};
 use multi_store::Held;
-use std::sync::Wait;
 use tx_events::{By, FullMulti, MultiEvent, Refusal};
 
 /// How a freeze begins.
@@ -37,7 +36,7 @@ fn raise_note(by: By, multi: FullMulti, offset: u64) -> Note<MultiEvent>
 ///
 /// Refused with `Backward` exactly where it is below the announced oldest one, else with `Held` where it is past the next
 /// one, or is the next one while an older one is pinned, or with `Memory`; then nothing changed.
-pub fn start_freeze<R: Wait, L: LogDisk, P: PageDisk>(
+pub fn start_freeze<R: Passing, L: LogDisk, P: PageDisk>(
     rt: &R,
     hall: &Hall<EngineLaw<L, P>>,
     caller: &mut Caller<L, P>,

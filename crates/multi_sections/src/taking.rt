@@ -9,10 +9,9 @@ ghost use Rattle.multi_sections.specs.Takings.{Takes, taken_event};
 
 use crate::leaving::leave_made;
 use disk_core::{LogDisk, PageDisk};
-use engine_parts::{Caller, EngineLaw, Part, command_of, enter_multi, leave_looked};
+use engine_parts::{Caller, EngineLaw, Part, Passing, command_of, enter_multi, leave_looked};
 use hall::{Hall, Note};
 use multi_store::MultiGiven;
-use std::sync::Wait;
 use tx_events::{By, MemberList, MultiEvent, Refusal};
 
 /// The event that this multixact was given.
@@ -28,7 +27,7 @@ fn gen_note(by: By, given: &MultiGiven, members: &MemberList) -> Note<MultiEvent
 ///
 /// Refused with `MultiStop` exactly where numbers stop, else with `MemberStop` exactly where the members would reach the
 /// limit of their offsets, or with `Memory`; then nothing was given.
-pub fn take_multi<R: Wait, L: LogDisk, P: PageDisk>(
+pub fn take_multi<R: Passing, L: LogDisk, P: PageDisk>(
     rt: &R,
     hall: &Hall<EngineLaw<L, P>>,
     caller: &mut Caller<L, P>,

@@ -102,9 +102,13 @@ module _ {P O X Y : Type 0} {g : DiskGhosts P} {r : RuleGhosts O} (page : ℕ) w
     not_asked = c.not_asked;
   }
 
+-- a call's refusal, whatever it would have carried
+abbrev pub refused : (X : Type 0) → BankRefusal → Result X BankRefusal
+refused X refusal = Err refusal
+
 module _ {P O X Y : Type 0} {g : DiskGhosts P} {r : RuleGhosts O} (page : ℕ) where
-  -- nor what a refusal says
-  pub calls_err : (old new : SlruBank P O g r) (refusal : BankRefusal) → CallsBank page old new (Err {Y} refusal) → CallsBank page old new (Err {X} refusal)
+  -- a refusal doesn't go by it either
+  pub calls_err : (old new : SlruBank P O g r) (refusal : BankRefusal) → CallsBank page old new (refused Y refusal) → CallsBank page old new (refused X refusal)
   calls_err old new refusal c = record {
     last = c.last;
     calls = record {
@@ -121,10 +125,10 @@ module _ {P O X Y : Type 0} {g : DiskGhosts P} {r : RuleGhosts O} (page : ℕ) w
     not_asked = c.not_asked;
   }
     where
-      same : (a b : BankRefusal) → Err {Y} a ≡ Err {Y} b → a ≡ b
+      same : (a b : BankRefusal) → refused Y a ≡ refused Y b → a ≡ b
       same a b q = cc
 
-      kind : (a b : BankRefusal) → Err {X} a ≡ Err {X} b → a ≡ b
+      kind : (a b : BankRefusal) → refused X a ≡ refused X b → a ≡ b
       kind a b q = cc
 
 module _ {P O Y : Type 0} {g : DiskGhosts P} {r : RuleGhosts O} (page : ℕ) where

@@ -1,4 +1,4 @@
-use Rattle.std.proofs.Common.{◌≡◌, ◌+◌, ◌++◌, ◌∷◌, [], Err, Ok, ℕ, suc, List, ap, append_assoc, arith, length, length-append, rules, subst, sym, ◌∙◌}
+use Rattle.std.proofs.Common.{◌≡◌, ◌+◌, ◌++◌, ◌∷◌, [], Err, Ok, ℕ, suc, List, ap, append_assoc, arith, length, length-append, subst, sym, ◌∙◌}
 use Rattle.std.specs.List.{slice_index}
 use Rattle.store_pages.specs.Layouts.{number_in}
 use Rattle.store_pages.specs.Pages.{id_at, member_page, member_place, mode_at}

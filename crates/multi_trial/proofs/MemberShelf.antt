@@ -164,6 +164,16 @@ within [] k member e = absurd cc
 within (m ∷ ms) zero member e = omega arith
 within (m ∷ ms) (suc k) member e = let r = within ms k member e in omega arith
 
+-- what is read of an offset's slot on a page
+abbrev slot_in : List ℕ → ℕ → ℕ × ℕ
+slot_in bytes x = (slice_index bytes (mode_place_of x), number_in bytes (member_place_of x))
+
+abbrev slot_on : (ℕ → List ℕ) → ℕ → ℕ → ℕ × ℕ
+slot_on m q x = slot_in (m q) x
+
+abbrev slot_wanted : Member → ℕ × ℕ
+slot_wanted member = (mode_number member.mode, low_half member.id)
+
 pub members_set : MembersSet
 members_set start by caller offset members old new window from to page lap sets = record {
   makes_none = refl;
@@ -173,8 +183,8 @@ members_set start by caller offset members old new window from to page lap sets 
       (λ (n : IsNoSlot caller offset members x). ⊎_elim
       (λ (on : member_page_of x ≡ member_page_of offset).
       let slot = sets.same_page (low_half x % 1636) (below (low_half x)) (λ j lt q. n.none j lt (same_as j lt x used on q)) in
-      λ i. subst (λ z. (slice_index (new z) (mode_place_of x), number_in (new z) (member_place_of x)) ≡ (slice_index (old z) (mode_place_of x), number_in (old z) (member_place_of x))) (sym on) (λ j. (slot.mode j, slot.id j)) i)
-      (λ (off : member_page_of x ≢ member_page_of offset). ap (λ (l : List ℕ). (slice_index l (mode_place_of x), number_in l (member_place_of x))) (sets.others (member_page_of x) off))
+      subst (λ (z : ℕ). slot_on new z x ≡ slot_on old z x) (sym on) (λ j. (slot.mode j, slot.id j)))
+      (λ (off : member_page_of x ≢ member_page_of offset). ap (λ (l : List ℕ). slot_in l x) (sets.others (member_page_of x) off))
       (same_or_not (member_page_of x) (member_page_of offset)))
       (slot_or_not caller offset members x);
   set = λ x v used some.
@@ -182,11 +192,12 @@ members_set start by caller offset members old new window from to page lap sets 
       (λ (s : IsSlot caller offset members x).
       let r = run_page offset s.k (length members) (within members s.k s.member s.among) page lap in
       let value : Some v ≡ Some (λ i. slot_bytes s.member i) = sym some ∙ s.shows None in
-      let read : (slice_index (new (member_page_of x)) (mode_place_of x), number_in (new (member_page_of x)) (member_place_of x)) ≡ (mode_number s.member.mode, low_half s.member.id) =
-      subst (λ z. (slice_index (new (member_page_of z)) (mode_place_of z), number_in (new (member_page_of z)) (member_place_of z)) ≡ (mode_number s.member.mode, low_half s.member.id)) (sym s.at)
+      let read : slot_on new (member_page_of x) x ≡ slot_wanted s.member =
+      subst (λ (z : ℕ). slot_on new (member_page_of z) z ≡ slot_wanted s.member) (sym s.at)
       (λ j. (
-      (subst (λ (z : ℕ × ℕ). slice_index (new z.0) (mode_at z.1) ≡ mode_number s.member.mode) (λ i. (sym r.0 i, sym r.1 i)) (sets.mode s.k s.member (within members s.k s.member s.among) s.among)) j,
-      (subst (λ (z : ℕ × ℕ). number_in (new z.0) (id_at z.1) ≡ low_half s.member.id) (λ i. (sym r.0 i, sym r.1 i)) (sets.id s.k s.member (within members s.k s.member s.among) s.among)) j)) in
+        (subst (λ (z : ℕ × ℕ). slice_index (new z.0) (mode_at z.1) ≡ mode_number s.member.mode) (λ i. (sym r.0 i, sym r.1 i)) (sets.mode s.k s.member (within members s.k s.member s.among) s.among)) j,
+        (subst (λ (z : ℕ × ℕ). number_in (new z.0) (id_at z.1) ≡ low_half s.member.id) (λ i. (sym r.0 i, sym r.1 i)) (sets.id s.k s.member (within members s.k s.member s.among) s.among)) j,
+      )) in
       read ∙ ((λ j. (mode_number s.member.mode, word_made s.member.id j)) ∙ sym (ap slot_held value)))
       (λ (n : IsNoSlot caller offset members x). absurd (let e : last_or None [] ≡ Some v = ap (λ l. last_or None l) (sym n.unsaid) ∙ some in cc))
       (slot_or_not caller offset members x);

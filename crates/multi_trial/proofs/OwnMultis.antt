@@ -198,7 +198,7 @@ done_grows start lists more n multi offset members g d =
     }
 
 pub done_stays : DoneStays
-done_stays start n Pending seen lists k knows done multi offset members g =
+done_stays start n pending seen lists k knows done multi offset members g =
     ⊎_elim (λ d. inl (done_grows start seen lists n multi offset members knows.grows d)) inr (done multi offset members (own_gen start n multi offset members seen lists k knows g))
 
 pub making_stays : MakingStays

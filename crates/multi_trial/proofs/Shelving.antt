@@ -60,18 +60,21 @@ with_page h es page before b =
     cond b (record { last = page; shows = λ id. cond (h.store.page_of id == page) None (shows_on h before es id) }) (pages_after h.store h.first before es)
 
 -- of these items the last one says what is shown, or none says anything
-last_cases : {V : Type 0} (o : Option V) (vs : List V) → (vs ≡ []) ⊎ ((v : V) × (last_or None vs ≡ Some v) × (last_or o vs ≡ Some v))
+abbrev LastCases : {V : Type 0} → Option V → List V → Type 0
+LastCases {V = V} o vs = (vs ≡ []) ⊎ ((v : V) × (last_or None vs ≡ Some v) × (last_or o vs ≡ Some v))
+
+last_later : {V : Type 0} (v w : V) (vs : List V) → LastCases (Some v) vs → last_or None vs ≡ Some w → last_or (Some v) vs ≡ Some w
+last_later v w vs cases is = ⊎_elim
+    (λ (none : vs ≡ []). absurd (let no : last_or None vs ≡ None = ap (λ l. last_or None l) none in let bad = sym no ∙ is in cc))
+    (λ some. some.2 ∙ (sym some.1 ∙ is))
+    cases
+
+last_cases : {V : Type 0} (o : Option V) (vs : List V) → LastCases o vs
 last_cases o [] = inl refl
 last_cases o (v ∷ vs) = ⊎_elim
-    (λ (none : vs ≡ []). inr (v, (ap (λ l. last_or (Some v) l) none, ap (λ l. last_or (Some v) l) none)))
-    (λ some. inr (some.0, (later None some.0 some.1, later o some.0 some.1)))
+    (λ (none : vs ≡ []). inr (v, ap (λ l. last_or (Some v) l) none, ap (λ l. last_or (Some v) l) none))
+    (λ some. let is = last_later v some.0 vs (last_cases (Some v) vs) some.1 in inr (some.0, is, is))
     (last_cases o vs)
-  where
-    later : (o : Option _) (w : _) → last_or None vs ≡ Some w → last_or (Some v) vs ≡ Some w
-    later o w is = ⊎_elim
-        (λ (none : vs ≡ []). absurd (let no : last_or None vs ≡ None = ap (λ l. last_or None l) none in let bad = sym no ∙ is in cc))
-        (λ some. some.2 ∙ (sym some.1 ∙ is))
-        (last_cases (Some v) vs)
 
 module _ {I V R : Type 0} (h : Shelf I V R) (Clean : (ℕ → Option V) → Type 0) (start : Start) (lock bank : ℕ) (good : IsShelf h) where
   -- what may be gone, may be gone behind one entry more

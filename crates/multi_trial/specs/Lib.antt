@@ -3,3 +3,4 @@ pub mod Shelves
 pub mod Laws
 pub mod Courses
 pub mod Makings
+pub mod Needed

@@ -1,5 +1,5 @@
 -- The multixacts that a session was given: those that are done, and one that it may still be making.
-use Rattle.std.specs.Prelude.{◌≡◌, ◌⊎◌, ℕ, ◌+◌, ◌<◌, ◌≤◌, ◌==◌, Bool, true, false, List, Some, Contains, slice_get}
+use Rattle.std.specs.Prelude.{◌≡◌, ◌⊎◌, ℕ, ◌+◌, ◌<◌, ◌≤◌, ◌==◌, Bool, true, false, List, Option, Some, Contains, slice_get}
 use Rattle.std.specs.List.{filter}
 use Rattle.notes.specs.Lists.{Grows, Knows, at}
 use Rattle.tx_events.specs.After.{ids_of}
@@ -37,11 +37,11 @@ pub record IsMultiDone (start : Start) (lists : List (List Entry)) (n multi offs
   pub slots : (k : ℕ) (member : Member) → slice_get members k ≡ Some member → IsSlotDone start lists (offset + k) member
   pub begins : IsOffsetSet start lists multi offset ⊎ IsOffsetGone (at lists (offsets_lock_of start multi)) multi
 
--- each multixact that the session was given is done, but those that may be pending
-abbrev pub AreMultisDone : Start → List (List Entry) → ℕ → (ℕ → Type 0) → Type 0
-AreMultisDone start lists n Pending =
+-- each multixact that the session was given is done, but one that may be pending
+abbrev pub AreMultisDone : Start → List (List Entry) → ℕ → Option ℕ → Type 0
+AreMultisDone start lists n pending =
     (multi offset : ℕ) (members : List Member) → IsGenOf lists n multi offset members
-    → IsMultiDone start lists n multi offset members ⊎ Pending multi
+    → IsMultiDone start lists n multi offset members ⊎ (pending ≡ Some multi)
 
 -- The multixact that the session makes: it was given with these members, which are full ids that were given. Its record
 -- stands exactly where it is told so.
@@ -76,8 +76,8 @@ PinsHold = (start : Start) (lists : List (List Entry)) (n multi : ℕ) → Engin
 
 -- what is done stays done, and the session was given no other
 abbrev pub DoneStays : Type 0
-DoneStays = (start : Start) (n : ℕ) (Pending : ℕ → Type 0) (seen lists : List (List Entry)) → EngineInvariant start lists
-    → Knows session_of n seen lists → AreMultisDone start seen n Pending → AreMultisDone start lists n Pending
+DoneStays = (start : Start) (n : ℕ) (pending : Option ℕ) (seen lists : List (List Entry)) → EngineInvariant start lists
+    → Knows session_of n seen lists → AreMultisDone start seen n pending → AreMultisDone start lists n pending
 
 -- and it makes what it made
 abbrev pub MakingStays : Type 0

@@ -1,4 +1,4 @@
--- What the calls of multixacts still need of tx_core: statements, to move there and to be proved. (In no Lib yet.)
+-- What the calls of multixacts still need of tx_core: statements, to move there and to be proved.
 use Rattle.std.specs.Prelude.{◌≡◌, ◌⊎◌, ℕ, ◌+◌, ◌%◌, ◌^◌, ◌<◌, ◌≤◌, false, List, length, Contains, Some, slice_get}
 use Rattle.notes.specs.Lists.{at}
 use Rattle.tx_events.specs.After.{ids_of}

@@ -16,6 +16,8 @@ pub struct FolderPages<R: Files + Drop> {
     alloc: Global,
     folder: String,
     name: String,
+    // The pages that are there, once they were asked for: a walk over all pages reads the folder once.
+    present: Option<BTreeSet<u32>>,
     // The pages that were written since the last sync, and are there.
     written: BTreeSet<u32>,
     // A file may have been made or removed since.
@@ -40,6 +42,7 @@ impl<R: Files + Clone + Drop> FolderPages<R> {
             alloc,
             folder: String::from_str(alloc, folder)?,
             name: format!(in alloc; "{store}.{bank}")?,
+            present: None,
             written: BTreeSet::new(alloc),
             is_changed: false,
             is_broken: false,
@@ -47,17 +50,27 @@ impl<R: Files + Clone + Drop> FolderPages<R> {
         })
     }
 
-    // The least of the volume's pages above the given one.
-    fn next_page(&self, page: Option<u32>) -> io::Result<Option<u32>>
-        ensures { IfOk result (λ next. IfSome next (IsAfter page)) }
-    {
-        let mut next = None;
+    // The volume's pages, as their files are named.
+    fn find_pages(&self) -> io::Result<BTreeSet<u32>> {
+        let mut pages = BTreeSet::new(self.alloc);
         for entry in fs::read_dir(&(self.rt.clone()?, self.alloc), self.folder.as_str())? {
-            let entry = entry?;
-            if let Some(found) = page_of(self.name.as_str(), entry.file_name()) {
-                next = nearer(page, next, found);
+            if let Some(page) = page_of(self.name.as_str(), entry?.file_name()) {
+                pages.insert(page)?;
             }
         }
+        Ok(pages)
+    }
+
+    fn next_page(&mut self, page: Option<u32>) -> io::Result<Option<u32>>
+        ensures above { IfOk result (λ next. IfSome next (IsAfter page)) }
+        ensures faults { self.new.faults ≡ self.old.faults }
+    {
+        if let Some(pages) = &self.present {
+            return Ok(least_above(pages, page));
+        }
+        let pages = self.find_pages()?;
+        let next = least_above(&pages, page);
+        self.present = Some(pages);
         Ok(next)
     }
 }
@@ -70,18 +83,15 @@ fn page_of(volume: &str, name: &str) -> Option<u32> {
         .ok()
 }
 
-/// The lesser one of two pages, where the second is above the given one.
-fn nearer(page: Option<u32>, next: Option<u32>, found: u32) -> Option<u32>
-    requires { IfSome next (IsAfter page) }
+/// The least of the pages above the given one.
+fn least_above(pages: &BTreeSet<u32>, page: Option<u32>) -> Option<u32>
     ensures { IfSome result (IsAfter page) }
 {
-    if page.is_some_and(|page| found <= page) {
-        return next;
-    }
-    match next {
-        Some(next) if next <= found => Some(next),
-        _ => Some(found),
-    }
+    let from = match page {
+        Some(page) => page.checked_add(1)?,
+        None => 0,
+    };
+    pages.range(from..).next().copied()
 }
 
 impl<R: Files + Drop> FolderPages<R> {
@@ -112,6 +122,9 @@ impl<R: Files + Drop> FolderPages<R> {
             .create(true)
             .open(&self.rt, path.as_str())?;
         self.written.insert(page)?;
+        if let Some(present) = &mut self.present {
+            present.insert(page)?;
+        }
         file.write_all(from)
     }
 
@@ -124,6 +137,9 @@ impl<R: Files + Drop> FolderPages<R> {
             Err(error) if error.kind() != io::ErrorKind::NotFound => Err(error),
             _ => {
                 self.written.remove(&page);
+                if let Some(present) = &mut self.present {
+                    present.remove(&page);
+                }
                 Ok(())
             }
         }
@@ -205,7 +221,8 @@ impl<R: Files + Clone + Drop> PageDisk for FolderPages<R> {
         ensures cause { CountsFault result self.old.faults self.new.faults }
         ensures counted { self.new.faults ≡ counted_by result self.old.faults }
     {
-        count(self.next_page(page), &mut self.faults)
+        let outcome = self.next_page(page);
+        count(outcome, &mut self.faults)
     }
 
     fn sync(&mut self) -> Result<(), Failed>

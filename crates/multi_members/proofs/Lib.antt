@@ -1,1 +1,2 @@
 pub mod MemberSlots
+pub mod RunSlots

@@ -4,7 +4,9 @@
 
 mod members;
 mod modes;
+mod runs;
 mod slot;
 
 pub use members::{read_member, trim_members, write_member};
+pub use runs::{read_members, write_members};
 pub use slot::Slot;

@@ -1,4 +1,4 @@
-//! A text has one judgement.
+//! A text has at most one judgement.
 ghost use Rattle.std.specs.Prelude.{ℕ, List};
 ghost use Rattle.report_check.specs.Judgement.{IsJudgedOnce};
 

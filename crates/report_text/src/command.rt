@@ -7,30 +7,38 @@ use crate::member::put_pairs;
 use crate::text::Text;
 use tx_model::{Command, Memory, Name};
 
+/// A command's first word behind a space.
 #[tactic(auto, unfolding(crate::specs::CommandText::command_word))]
-fn command_word(command: &Command) -> &'static [u8]
-    ensures { result.now ≡ command_word command.now }
+fn spaced_word(command: &Command) -> &'static [u8]
+    ensures { result.now ≡ 32 ∷ command_word command.now }
 {
     match command {
-        Command::Begin => b"begin",
-        Command::Save => b"save",
-        Command::Write => b"write",
-        Command::Release => b"release",
-        Command::Undo => b"undo",
-        Command::Commit => b"commit",
-        Command::Abort => b"abort",
-        Command::Trim => b"trim",
-        Command::Horizon => b"horizon",
-        Command::Snap { .. } => b"snap",
-        Command::DropSnap { .. } => b"drop",
-        Command::See { .. } => b"see",
-        Command::Status { .. } => b"status",
-        Command::Did { .. } => b"did",
-        Command::Multi { .. } => b"multi",
-        Command::SeeMulti { .. } => b"seemulti",
-        Command::Freeze { .. } => b"freeze",
-        Command::MultiFreeze { .. } => b"multifreeze",
+        Command::Begin => b" begin",
+        Command::Save => b" save",
+        Command::Write => b" write",
+        Command::Release => b" release",
+        Command::Undo => b" undo",
+        Command::Commit => b" commit",
+        Command::Abort => b" abort",
+        Command::Trim => b" trim",
+        Command::Horizon => b" horizon",
+        Command::Snap { .. } => b" snap",
+        Command::DropSnap { .. } => b" drop",
+        Command::See { .. } => b" see",
+        Command::Status { .. } => b" status",
+        Command::Did { .. } => b" did",
+        Command::Multi { .. } => b" multi",
+        Command::SeeMulti { .. } => b" seemulti",
+        Command::Freeze { .. } => b" freeze",
+        Command::MultiFreeze { .. } => b" multifreeze",
     }
+}
+
+#[tactic(auto, unfolding(crate::specs::Words::more))]
+fn put_command_word(out: &mut Text, command: &Command) -> Result<(), Memory>
+    ensures ok { OnOk result (out.new ≡ out.old ++ more (command_word command.now ∷ [])) }
+{
+    out.put(spaced_word(command))
 }
 
 #[tactic(auto, using(crate::proofs::MoreWords::then_more, crate::proofs::MoreWords::no_more))]
@@ -64,6 +72,6 @@ fn put_command_rest(out: &mut Text, command: &Command) -> Result<(), Memory>
 pub fn put_command(out: &mut Text, command: &Command) -> Result<(), Memory>
     ensures ok { OnOk result (out.new ≡ out.old ++ more (command_words command.now)) }
 {
-    out.word(command_word(command))?;
+    put_command_word(out, command)?;
     put_command_rest(out, command)
 }

@@ -15,6 +15,6 @@ mod text;
 
 pub use event::{put_event, put_multi_event};
 pub use record::put_record_line;
-pub use report::{begin_report, end_report, print_report, put_crash, put_life_line, put_log_line};
+pub use report::{begin_report, print_report, put_crash, put_life_line, put_log_line};
 pub use step::{put_command_line, put_round_line, put_step};
 pub use text::Text;

@@ -10,6 +10,22 @@ use crate::refusal::{put_refusal, refusal_word};
 use crate::text::{Text, name_of, put_numbers_or_dash, put_yes_or_no};
 use tx_model::{ByteList, IdList, Memory, NameList, Reply, SnapData, Status, VerdictList};
 
+/// An arrow behind a space.
+#[tactic(auto, unfolding(crate::specs::Words::more))]
+fn put_arrow(out: &mut Text) -> Result<(), Memory>
+    ensures ok { OnOk result (out.new ≡ out.old ++ more (codes "->" ∷ [])) }
+{
+    out.put(b" ->")
+}
+
+/// An arrow and the first word of most replies, in one piece.
+#[tactic(auto, unfolding(crate::specs::Words::more))]
+fn put_ok(out: &mut Text) -> Result<(), Memory>
+    ensures ok { OnOk result (out.new ≡ out.old ++ more (codes "->" ∷ codes "ok" ∷ [])) }
+{
+    out.put(b" -> ok")
+}
+
 #[tactic(auto, using(crate::proofs::MoreWords::no_more))]
 fn put_warned(out: &mut Text, warn: bool) -> Result<(), Memory>
     ensures ok { OnOk result (out.new ≡ out.old ++ more (warned warn)) }
@@ -19,9 +35,9 @@ fn put_warned(out: &mut Text, warn: bool) -> Result<(), Memory>
 
 #[tactic(auto, using(crate::proofs::MoreWords::then_more))]
 fn put_wrote(out: &mut Text, ids: &IdList, warn: bool) -> Result<(), Memory>
-    ensures ok { OnOk result (out.new ≡ out.old ++ more (codes "ok" ∷ numbers_or_dash ids.now ++ warned warn)) }
+    ensures ok { OnOk result (out.new ≡ out.old ++ more (codes "->" ∷ codes "ok" ∷ numbers_or_dash ids.now ++ warned warn)) }
 {
-    out.word(b"ok")?;
+    put_ok(out)?;
     put_numbers_or_dash(out, ids)?;
     put_warned(out, warn)
 }
@@ -56,9 +72,9 @@ fn put_snapshot(out: &mut Text, lists: &SnapData) -> Result<(), Memory>
 
 #[tactic(auto, using(crate::proofs::MoreWords::then_more))]
 fn put_snapped(out: &mut Text, lists: &SnapData) -> Result<(), Memory>
-    ensures ok { OnOk result (out.new ≡ out.old ++ more (codes "ok" ∷ snapshot_words lists.now)) }
+    ensures ok { OnOk result (out.new ≡ out.old ++ more (codes "->" ∷ codes "ok" ∷ snapshot_words lists.now)) }
 {
-    out.word(b"ok")?;
+    put_ok(out)?;
     put_snapshot(out, lists)
 }
 
@@ -75,18 +91,19 @@ fn status_word(status: Status) -> &'static [u8]
 
 #[tactic(auto, using(crate::proofs::MoreWords::then_more))]
 fn put_multi(out: &mut Text, multi: u64, offset: u64, warn: bool) -> Result<(), Memory>
-    ensures ok { OnOk result (out.new ≡ out.old ++ more (codes "ok" ∷ decimal multi ∷ decimal offset ∷ warned warn)) }
+    ensures ok { OnOk result (out.new ≡ out.old ++ more (codes "->" ∷ codes "ok" ∷ decimal multi ∷ decimal offset ∷ warned warn)) }
 {
-    out.named(b"ok", multi)?;
+    put_ok(out)?;
+    out.number(multi)?;
     out.number(offset)?;
     put_warned(out, warn)
 }
 
 #[tactic(auto, using(crate::proofs::MoreWords::then_more))]
 fn put_looked(out: &mut Text, verdicts: &VerdictList) -> Result<(), Memory>
-    ensures ok { OnOk result (out.new ≡ out.old ++ more (codes "ok" ∷ member_verdict_words verdicts.now)) }
+    ensures ok { OnOk result (out.new ≡ out.old ++ more (codes "->" ∷ codes "ok" ∷ member_verdict_words verdicts.now)) }
 {
-    out.word(b"ok")?;
+    put_ok(out)?;
     put_verdicts(out, verdicts)
 }
 
@@ -135,41 +152,56 @@ fn put_two_words(out: &mut Text, first: &[u8], second: &[u8]) -> Result<(), Memo
     out.word(second)
 }
 
-fn put_reply(out: &mut Text, names: &NameList, reply: &Reply) -> Result<(), Memory>
-    ensures ok { OnOk result (out.new ≡ out.old ++ more (reply_words names.now reply.now)) }
+/// An arrow and the words of a reply, each behind a space.
+#[tactic(auto, using(crate::proofs::MoreWords::then_more))]
+pub fn put_answer(out: &mut Text, names: &NameList, reply: &Reply) -> Result<(), Memory>
+    ensures ok { OnOk result (out.new ≡ out.old ++ more (codes "->" ∷ reply_words names.now reply.now)) }
 {
     match reply {
-        Reply::Done => out.word(b"ok"),
+        Reply::Done => put_ok(out),
         Reply::Wrote { ids, warn } => put_wrote(out, ids, *warn),
         Reply::Snapped { lists } => put_snapped(out, lists),
-        Reply::Seen { visible } => out.word(if *visible {
-            b"visible".as_slice()
-        } else {
-            b"hidden".as_slice()
-        }),
-        Reply::Known { status } => out.word(status_word(*status)),
-        Reply::Did { yes } => put_yes_or_no(out, *yes),
+        Reply::Seen { visible } => {
+            put_arrow(out)?;
+            out.word(if *visible {
+                b"visible".as_slice()
+            } else {
+                b"hidden".as_slice()
+            })
+        }
+        Reply::Known { status } => {
+            put_arrow(out)?;
+            out.word(status_word(*status))
+        }
+        Reply::Did { yes } => {
+            put_arrow(out)?;
+            put_yes_or_no(out, *yes)
+        }
         Reply::Multi {
             multi,
             offset,
             warn,
         } => put_multi(out, multi.number(), *offset, *warn),
         Reply::Verdicts { verdicts } => put_looked(out, verdicts),
-        Reply::Horizon { oldest_xmin } => out.named(b"ok", oldest_xmin.number()),
-        Reply::Bytes { bytes } => put_bytes(out, bytes),
-        Reply::Cut { cutoff } => out.named(b"cut", u64::from(*cutoff)),
+        Reply::Horizon { oldest_xmin } => {
+            put_ok(out)?;
+            out.number(oldest_xmin.number())
+        }
+        Reply::Bytes { bytes } => {
+            put_arrow(out)?;
+            put_bytes(out, bytes)
+        }
+        Reply::Cut { cutoff } => {
+            put_arrow(out)?;
+            out.named(b"cut", u64::from(*cutoff))
+        }
         Reply::Pending { session, refusal } => {
+            put_arrow(out)?;
             put_two_words(out, refusal_word(refusal), name_of(names, *session))
         }
-        Reply::Refused { refusal } => put_refusal(out, refusal),
+        Reply::Refused { refusal } => {
+            put_arrow(out)?;
+            put_refusal(out, refusal)
+        }
     }
-}
-
-/// An arrow and the words of a reply, each behind a space.
-#[tactic(auto, using(crate::proofs::MoreWords::then_more))]
-pub fn put_answer(out: &mut Text, names: &NameList, reply: &Reply) -> Result<(), Memory>
-    ensures ok { OnOk result (out.new ≡ out.old ++ more (codes "->" ∷ reply_words names.now reply.now)) }
-{
-    out.word(b"->")?;
-    put_reply(out, names, reply)
 }

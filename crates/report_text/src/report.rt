@@ -2,7 +2,7 @@
 ghost use Rattle.std.specs.Prelude.{◌≡◌, ◌+◌, [], ◌∷◌, ◌++◌, OnOk, IfOk, codes, Option};
 ghost use Rattle.std.specs.Fmt.{decimal};
 ghost use Rattle.report_text.specs.Words.{more, line_text};
-ghost use Rattle.report_text.specs.ReportText.{crash_text, end_text, front_text, life_line, history_text, multis_text, log_text, life_text, lives_text, report_text, rest_text, title_text};
+ghost use Rattle.report_text.specs.ReportText.{crash_text, front_text, life_line, history_text, multis_text, log_text, life_text, lives_text, report_text, rest_text, title_text};
 
 use crate::event::{put_events, put_multi_events};
 use crate::record::{put_counters, put_records};
@@ -134,23 +134,10 @@ pub fn print_report(alloc: Global, report: &Report) -> Result<Vec<u8>, Memory>
 }
 
 /// Begins the report of a run that goes on while it is printed: all up to the steps of its first life, which begins
-/// with these counters over a new log. The steps follow, and then `end_report`.
+/// with these counters over a new log. The steps follow, then the rest of each life.
 pub fn begin_report(out: &mut Text, base: &Counters) -> Result<(), Memory>
     ensures ok { OnOk result (out.new ≡ out.old ++ front_text base.now) }
 {
     put_title(out)?;
     put_life_line(out, 1, 0, base)
-}
-
-/// Ends such a report: what stands behind the steps of its last life, and the last line.
-pub fn end_report(
-    out: &mut Text,
-    names: &NameList,
-    life: &Life,
-    crash: Option<How>,
-) -> Result<(), Memory>
-    ensures ok { OnOk result (out.new ≡ out.old ++ (rest_text names.now life.now crash ++ end_text)) }
-{
-    put_rest(out, names, life, crash)?;
-    out.short_line(b"end")
 }

@@ -109,7 +109,8 @@ impl Text {
     pub fn end_line(&mut self) -> Result<(), Memory>
         ensures ok { OnOk result (self.new ≡ self.old ++ 10 ∷ []) }
     {
-        self.put(b"\n")
+        self.bytes.push(b'\n')?;
+        Ok(())
     }
 
     /// A line of one word.

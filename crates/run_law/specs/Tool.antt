@@ -11,7 +11,7 @@ use Rattle.run_law.specs.Refusals.{refusal_of, refusal_text}
 use Rattle.run_law.specs.Turns.{IsRunnable}
 
 -- The report of a run of the script over a new log: a life for each part of the script, the first from its counters, with
--- the dumps between the rounds. Verdicts are told where the page volumes tell what they hold.
+-- the dumps and checkpoints between the rounds. Verdicts are told where the page volumes tell what they hold.
 pub record IsReportOf (tells : Bool) (s : Script) (r : Report) : Type 0 where
   pub names : r.names ≡ s.names
   pub lives : AreRunLives tells s (parts_of s.items) r.lives

@@ -85,8 +85,14 @@ fn is_line_byte(b: u8) -> bool
 }
 
 /// Whether a line has no bytes but printable ASCII and tabs.
+#[tactic(auto, using(std::proofs::lemmas::List::Folds::list_all_more, std::proofs::lemmas::List::Folds::list_all_at))]
 pub fn is_plain(line: &[u8]) -> bool
     ensures { result ≡ is_plain line.now }
 {
-    line.iter().all(|b| is_line_byte(*b))
+    for b in line {
+        if !is_line_byte(*b) {
+            return false;
+        }
+    }
+    true
 }

@@ -35,7 +35,7 @@ fn pages_read_an_image<P: PageDisk>()
 {}
 
 /// Runs a part of a script in a life that is open, closes the life, and keeps its lines: its rounds one after another, the
-/// sessions of a round on at most so many threads, and the dumps between them.
+/// sessions of a round on at most so many threads, and the dumps and checkpoints between them.
 pub fn run_life<
     R: Threads + Wait + Sync,
     K: LineKeeper + Send + Drop,

@@ -11,6 +11,7 @@ use crate::laws::life_ends;
 use crate::rounds::run_rounds;
 use disk_core::{LogDisk, PageDisk};
 use engine_life::{ClosedLife, OpenLife, close_life};
+use engine_parts::Gate;
 use script_rounds::LineKeeper;
 use session_lang::Items;
 use std::alloc::Global;
@@ -41,6 +42,7 @@ pub fn run_life<
     K: LineKeeper + Send + Drop,
     L: LogDisk + Send + Sync + Drop,
     P: PageDisk + Send + Sync + Drop,
+    G: Gate + Sync,
 >(
     rt: &R,
     alloc: Global,
@@ -49,6 +51,7 @@ pub fn run_life<
     part: Items,
     kept: &mut K,
     threads: usize,
+    gate: &G,
 ) -> (ClosedLife<L, P>, Result<(), Memory>)
     requires taken { IsTakenPart (length names.now) part }
     requires may { MayRunIn (length names.now) life }
@@ -67,6 +70,7 @@ pub fn run_life<
         part,
         kept,
         threads,
+        gate,
     );
     let closed = close_life(life);
     has_64_bits(closed.log.next());

@@ -12,7 +12,7 @@ ghost use Rattle.session_run.specs.Turns.{MayGo};
 use crate::member::{Member, run_member};
 use disk_core::{LogDisk, PageDisk};
 use engine_host::{Host, admit, dismiss, new_session};
-use engine_parts::{EngineLaw, Session};
+use engine_parts::{EngineLaw, Gate, Session};
 use hall::Hall;
 use script_rounds::{LineKeeper, Plan, ToldLines};
 use session_lang::Items;
@@ -86,6 +86,7 @@ fn run_beside<
     K: LineKeeper + Send,
     L: LogDisk + Send + Sync,
     P: PageDisk + Send + Sync,
+    G: Gate + Sync,
 >(
     rt: &R,
     hall: &Hall<EngineLaw<L, P>>,
@@ -96,6 +97,7 @@ fn run_beside<
     plan: &Plan,
     round: &Items,
     threads: usize,
+    gate: &G,
 )
     requires threads { 0 < threads }
     requires items { All (runnable.MayRun (start_of hall.now).sessions) round.now }
@@ -106,7 +108,7 @@ fn run_beside<
         rt,
         members,
         threads,
-        &|_, member| run_member(rt, hall, member, banks, alloc, names, plan, round),
+        &|_, member| run_member(rt, hall, member, banks, alloc, names, plan, round, gate),
     );
 }
 
@@ -116,6 +118,7 @@ fn run_members<
     K: LineKeeper + Send,
     L: LogDisk + Send + Sync,
     P: PageDisk + Send + Sync,
+    G: Gate + Sync,
 >(
     rt: &R,
     hall: &Hall<EngineLaw<L, P>>,
@@ -126,6 +129,7 @@ fn run_members<
     plan: &Plan,
     round: &Items,
     threads: usize,
+    gate: &G,
 )
     requires threads { 0 < threads }
     requires items { All (runnable.MayRun (start_of hall.now).sessions) round.now }
@@ -133,7 +137,9 @@ fn run_members<
     ensures { AllRan K.LineKeeper hall.now banks names.now round.now members.old.items members.new.items }
 {
     let all = members.as_mut_slice();
-    run_beside(rt, hall, all, banks, alloc, names, plan, round, threads);
+    run_beside(
+        rt, hall, all, banks, alloc, names, plan, round, threads, gate,
+    );
 }
 
 /// Keeps what the members kept, one member behind another.
@@ -198,6 +204,7 @@ pub fn run_round<
     K: LineKeeper + Send + Drop,
     L: LogDisk + Send + Sync,
     P: PageDisk + Send + Sync,
+    G: Gate + Sync,
 >(
     rt: &R,
     alloc: Global,
@@ -210,6 +217,7 @@ pub fn run_round<
     kept: &mut K,
     spare: &mut Vec<K>,
     threads: usize,
+    gate: &G,
 ) -> Result<(), Memory>
     requires threads { 0 < threads }
     requires host { IsHost hall.now host.old }
@@ -250,6 +258,7 @@ pub fn run_round<
         plan,
         round,
         threads,
+        gate,
     );
     let joined = join_members(members.as_slice(), kept);
     take_back(hall, host, &mut members, sessions, spare);

@@ -18,7 +18,7 @@ use engine_checkpoints::checkpoint;
 use engine_dumps::show;
 use engine_host::Host;
 use engine_life::new_sessions;
-use engine_parts::{EngineLaw, Session};
+use engine_parts::{EngineLaw, Gate, Session};
 use hall::Hall;
 use script_rounds::{LineKeeper, Plan, next_round};
 use session_lang::{Between, Dump, Items};
@@ -46,6 +46,7 @@ fn run_numbered<
     K: LineKeeper + Send + Drop,
     L: LogDisk + Send + Sync,
     P: PageDisk + Send + Sync,
+    G: Gate + Sync,
 >(
     rt: &R,
     alloc: Global,
@@ -59,6 +60,7 @@ fn run_numbered<
     kept: &mut K,
     spare: &mut Vec<K>,
     threads: usize,
+    gate: &G,
 ) -> Result<(), Memory>
     requires home { AreHome hall.now host.old sessions.old }
     requires room { MayAdd (length round.now) sessions.old }
@@ -77,7 +79,7 @@ fn run_numbered<
     kept.add_round(rounds + 1)?;
     let count = threads_for(plan, round, threads);
     run_round(
-        rt, alloc, hall, host, sessions, plan, round, names, kept, spare, count,
+        rt, alloc, hall, host, sessions, plan, round, names, kept, spare, count, gate,
     )?;
     plan.clear();
     Ok(())
@@ -89,6 +91,7 @@ fn run_next<
     K: LineKeeper + Send + Drop,
     L: LogDisk + Send + Sync,
     P: PageDisk + Send + Sync,
+    G: Gate + Sync,
 >(
     rt: &R,
     alloc: Global,
@@ -102,6 +105,7 @@ fn run_next<
     kept: &mut K,
     spare: &mut Vec<K>,
     threads: usize,
+    gate: &G,
 ) -> Result<u64, Memory>
     requires home { AreHome hall.now host.old sessions.old }
     requires room { MayAdd (length round.now) sessions.old }
@@ -121,7 +125,7 @@ fn run_next<
         return Ok(rounds);
     }
     run_numbered(
-        rt, alloc, hall, host, sessions, plan, rounds, round, names, kept, spare, threads,
+        rt, alloc, hall, host, sessions, plan, rounds, round, names, kept, spare, threads, gate,
     )?;
     Ok(rounds + 1)
 }
@@ -208,6 +212,7 @@ fn run_each<
     K: LineKeeper + Send + Drop,
     L: LogDisk + Send + Sync,
     P: PageDisk + Send + Sync,
+    G: Gate + Sync,
 >(
     rt: &R,
     alloc: Global,
@@ -218,6 +223,7 @@ fn run_each<
     names: &NameList,
     kept: &mut K,
     threads: usize,
+    gate: &G,
 ) -> Result<(), Memory>
     requires begins { GoesOn hall.now host.old sessions.old [] }
     requires unseen { HasSeenNothing host.old }
@@ -236,7 +242,7 @@ fn run_each<
         let (round, behind) = next_round(&rest);
         rounds = run_next(
             rt, alloc, hall, host, sessions, &mut plan, rounds, &round, names, kept, &mut spare,
-            threads,
+            threads, gate,
         )?;
         let place = round.len();
         answer_next(rt, alloc, hall, host, sessions, &rest, place, names, kept)?;
@@ -252,6 +258,7 @@ pub fn run_rounds<
     K: LineKeeper + Send + Drop,
     L: LogDisk + Send + Sync,
     P: PageDisk + Send + Sync,
+    G: Gate + Sync,
 >(
     rt: &R,
     alloc: Global,
@@ -261,6 +268,7 @@ pub fn run_rounds<
     part: Items,
     kept: &mut K,
     threads: usize,
+    gate: &G,
 ) -> Result<(), Memory>
     requires host { IsHost hall.now host.old }
     requires all { HoldsAllBut host.old [] }
@@ -276,5 +284,5 @@ pub fn run_rounds<
     let mut sessions = new_sessions(alloc, host.cluster.sessions)?;
     life_begins(hall);
     let all = sessions.as_mut_slice();
-    run_each(rt, alloc, hall, host, all, part, names, kept, threads)
+    run_each(rt, alloc, hall, host, all, part, names, kept, threads, gate)
 }

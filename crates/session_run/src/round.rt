@@ -6,7 +6,7 @@ ghost use Rattle.engine_host.specs.Hosts.{HoldsAllBut, IsHost, IsParked};
 ghost use Rattle.run_law.specs.Turns as runnable;
 ghost use Rattle.run_law.specs.Turns.{turns_in};
 ghost use Rattle.script_rounds.specs.Plans.{IsPlanOf};
-ghost use Rattle.session_run.specs.Rounds.{AllRan, AreApart, AreBack, AreParked, AreSent, MayAdd, MayReturn, StayBehind, WentRound, is_among, numbers_of, with_members};
+ghost use Rattle.session_run.specs.Rounds.{AllRan, AreApart, AreBack, AreParked, AreSent, MayAdd, MayReturn, StayBehind, WentRound, callers_of, is_among, numbers_of, with_members};
 ghost use Rattle.session_run.specs.Turns.{MayGo};
 
 use crate::member::{Member, run_member};
@@ -30,6 +30,9 @@ fn keeper_laws<K: LineKeeper>(_names: &NameList)
     ensures join { (kept : K) (lines : List Line)
         → K.joined kept (K.with_lines _names.now K.nothing lines) ≡ K.with_lines _names.now kept lines }
 {}
+
+// The lines of a round of so many commands are worth no room of their own beyond it.
+const MANY_COMMANDS: usize = 4_096;
 
 /// A keeper of nothing, in the room of one that is not used any more, if there is one.
 fn fresh<K: LineKeeper>(alloc: Global, spare: &mut Vec<K>) -> K
@@ -142,19 +145,37 @@ fn run_members<
     );
 }
 
-/// Keeps what the members kept, one member behind another.
-fn join_members<K: LineKeeper, L: LogDisk, P: PageDisk>(
-    members: &[Member<K, L, P>],
-    kept: &mut K,
-) -> Result<(), Memory>
-    ensures sufficed { OnOk result (All (λ m. m.lost ≡ false) members.now) }
-    ensures kept { OnOk result (kept.new ≡ with_members K.LineKeeper kept.old members.now) }
+/// Lets what a member keeps go, where it may be much.
+fn let_lines_go<K: LineKeeper + Drop, L: LogDisk, P: PageDisk>(
+    alloc: Global,
+    member: &mut Member<K, L, P>,
+    much: bool,
+)
+    ensures { member.new.caller ≡ member.old.caller }
 {
-    for member in members {
+    if much {
+        member.kept = K::none(alloc);
+    }
+}
+
+/// Keeps what the members kept, one member behind another. Where they keep much, each lets it go as soon as it is kept here,
+/// so that no more than one member's lines are held twice.
+fn join_members<K: LineKeeper + Drop, L: LogDisk, P: PageDisk>(
+    alloc: Global,
+    members: &mut Vec<Member<K, L, P>>,
+    kept: &mut K,
+    much: bool,
+) -> Result<(), Memory>
+    ensures sufficed { OnOk result (All (λ m. m.lost ≡ false) members.old.items) }
+    ensures kept { OnOk result (kept.new ≡ with_members K.LineKeeper kept.old members.old.items) }
+    ensures callers { callers_of members.new.items ≡ callers_of members.old.items }
+{
+    for member in members.iter_mut() {
         if member.lost {
             return Err(Memory);
         }
         kept.join(&member.kept)?;
+        let_lines_go(alloc, member, much);
     }
     Ok(())
 }
@@ -260,7 +281,8 @@ pub fn run_round<
         threads,
         gate,
     );
-    let joined = join_members(members.as_slice(), kept);
+    let much = round.len() >= MANY_COMMANDS;
+    let joined = join_members(alloc, &mut members, kept, much);
     take_back(hall, host, &mut members, sessions, spare);
     members.destroy_empty();
     joined

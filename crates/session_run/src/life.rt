@@ -8,6 +8,7 @@ ghost use Rattle.session_run.specs.OneLife.{HasRunLife, IsOpened, MayRunIn};
 ghost use Rattle.session_run.specs.Parts.{IsTakenPart};
 
 use crate::laws::life_ends;
+use crate::round_threads::RoundThreads;
 use crate::rounds::run_rounds;
 use disk_core::{LogDisk, PageDisk};
 use engine_life::{ClosedLife, OpenLife, close_life};
@@ -36,7 +37,7 @@ fn pages_read_an_image<P: PageDisk>()
 {}
 
 /// Runs a part of a script in a life that is open, closes the life, and keeps its lines: its rounds one after another, the
-/// sessions of a round on at most so many threads, and the dumps and checkpoints between them.
+/// sessions of a round on such threads, and the dumps and checkpoints between them.
 pub fn run_life<
     R: Threads + Wait + Sync,
     K: LineKeeper + Send + Drop,
@@ -50,7 +51,7 @@ pub fn run_life<
     names: &NameList,
     part: Items,
     kept: &mut K,
-    threads: usize,
+    threads: RoundThreads,
     gate: &G,
 ) -> (ClosedLife<L, P>, Result<(), Memory>)
     requires taken { IsTakenPart (length names.now) part }

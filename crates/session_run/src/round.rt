@@ -158,8 +158,8 @@ fn let_lines_go<K: LineKeeper + Drop, L: LogDisk, P: PageDisk>(
     }
 }
 
-/// Keeps what the members kept, one member behind another. Where they keep much, each lets it go as soon as it is kept here,
-/// so that no more than one member's lines are held twice.
+/// Keeps what the members kept, one member behind another. Where they keep much, each lets it go as soon as it is kept
+/// here, so that no more than one member's lines are held twice.
 fn join_members<K: LineKeeper + Drop, L: LogDisk, P: PageDisk>(
     alloc: Global,
     members: &mut Vec<Member<K, L, P>>,

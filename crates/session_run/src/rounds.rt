@@ -13,6 +13,7 @@ ghost use Rattle.session_run.specs.Parts.{AnswersOn, HasRun, RunsOn};
 
 use crate::laws::{life_begins, life_goes_on};
 use crate::round::run_round;
+use crate::round_threads::RoundThreads;
 use disk_core::{LogDisk, PageDisk};
 use engine_checkpoints::checkpoint;
 use engine_dumps::show;
@@ -26,19 +27,6 @@ use std::alloc::Global;
 use std::sync::Wait;
 use std::thread::Threads;
 use tx_model::{Memory, NameList, Step};
-
-// A round of fewer commands isn't worth its threads: starting them costs as much as some hundred commands.
-const FEW_COMMANDS: usize = 512;
-
-/// How many threads a round takes, of at most so many.
-fn threads_for(plan: &Plan, round: &Items, most: usize) -> usize
-    ensures { 0 < result }
-{
-    if plan.sessions.len() <= 1 || round.len() < FEW_COMMANDS {
-        return 1;
-    }
-    most.max(1)
-}
 
 /// Runs a round that has commands, behind so many rounds, and keeps it.
 fn run_numbered<
@@ -59,7 +47,7 @@ fn run_numbered<
     names: &NameList,
     kept: &mut K,
     spare: &mut Vec<K>,
-    threads: usize,
+    threads: RoundThreads,
     gate: &G,
 ) -> Result<(), Memory>
     requires home { AreHome hall.now host.old sessions.old }
@@ -77,7 +65,7 @@ fn run_numbered<
     life_goes_on(hall);
     plan.fill(round)?;
     kept.add_round(rounds + 1)?;
-    let count = threads_for(plan, round, threads);
+    let count = threads.count(plan, round);
     run_round(
         rt, alloc, hall, host, sessions, plan, round, names, kept, spare, count, gate,
     )?;
@@ -104,7 +92,7 @@ fn run_next<
     names: &NameList,
     kept: &mut K,
     spare: &mut Vec<K>,
-    threads: usize,
+    threads: RoundThreads,
     gate: &G,
 ) -> Result<u64, Memory>
     requires home { AreHome hall.now host.old sessions.old }
@@ -222,7 +210,7 @@ fn run_each<
     script: Items,
     names: &NameList,
     kept: &mut K,
-    threads: usize,
+    threads: RoundThreads,
     gate: &G,
 ) -> Result<(), Memory>
     requires begins { GoesOn hall.now host.old sessions.old [] }
@@ -251,8 +239,8 @@ fn run_each<
     Ok(())
 }
 
-/// Runs the rounds of a life, one after another, and answers what is asked for between them: the sessions of a round on at
-/// most so many threads.
+/// Runs the rounds of a life, one after another, and answers what is asked for between them: the sessions of a round on
+/// such threads.
 pub fn run_rounds<
     R: Threads + Wait + Sync,
     K: LineKeeper + Send + Drop,
@@ -267,7 +255,7 @@ pub fn run_rounds<
     names: &NameList,
     part: Items,
     kept: &mut K,
-    threads: usize,
+    threads: RoundThreads,
     gate: &G,
 ) -> Result<(), Memory>
     requires host { IsHost hall.now host.old }

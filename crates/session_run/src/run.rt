@@ -24,6 +24,7 @@ ghost use Rattle.session_run.specs.Stops.{IsStopped, MountsFirst};
 
 use crate::ended::{Ended, FittedLog, log_left};
 use crate::life::run_life;
+use crate::round_threads::RoundThreads;
 use crate::stop::{Stopped, no_life_of};
 use crate::text::put_end;
 use disk_core::{Crash, LogDisk, Media, PageDisk, Volumes};
@@ -81,7 +82,7 @@ fn tell_life<
     part: Items,
     number: u64,
     crash: Option<How>,
-    threads: usize,
+    threads: RoundThreads,
     gate: &G,
 ) -> (ClosedLife<L, P>, Result<LifeText, Memory>)
     requires taken { IsTakenPart (length names.now) part }
@@ -159,7 +160,7 @@ fn run_part<R: Threads + Wait + Sync, K: Sink, M: Media, G: Gate + Sync>(
     crash: Option<How>,
     sink: &mut K,
     media: &mut M,
-    threads: usize,
+    threads: RoundThreads,
     gate: &G,
 ) -> Result<PartEnd<M::Log, M::Pages>, Stopped>
 where
@@ -222,7 +223,7 @@ pub fn run_script<R: Threads + Wait + Sync, K: Sink, M: Media, G: Gate + Sync>(
     script: &Script,
     sink: &mut K,
     media: &mut M,
-    threads: usize,
+    threads: RoundThreads,
     gate: &G,
 ) -> Result<(), Stopped>
 where
@@ -270,7 +271,7 @@ pub fn count_script<R: Threads + Wait + Sync, M: Media, G: Gate + Sync>(
     alloc: Global,
     script: &Script,
     media: &mut M,
-    threads: usize,
+    threads: RoundThreads,
     gate: &G,
 ) -> Result<Vec<u8>, NoLife>
 where

@@ -13,6 +13,7 @@ ghost use Rattle.session_run.specs.Leaves.{LeavesVolumes};
 ghost use Rattle.session_run.specs.Tool.{Ends, HasMounted, HasWritten, HoldsFront, IsAccepted, IsMemoryLast, IsSized, IsUnread, IsUnrunBy, IsWholeSummary, WritesLast, damage_text, status_of, text_of};
 
 use crate::ending::{Ending, stopped, unopened, unread};
+use crate::round_threads::RoundThreads;
 use crate::run::{count_script, run_script};
 use crate::task::{Task, task_of};
 use disk_core::Media;
@@ -33,7 +34,7 @@ fn run_source<R: Threads + Wait + Sync, S: Source, K: Sink, M: Media, G: Gate + 
     source: &mut S,
     sink: &mut K,
     media: &mut M,
-    threads: usize,
+    threads: RoundThreads,
     gate: &G,
 ) -> Ending
 where
@@ -70,7 +71,7 @@ fn run_generated<R: Threads + Wait + Sync, M: Media, G: Gate + Sync>(
     seed: u32,
     size: u32,
     media: &mut M,
-    threads: usize,
+    threads: RoundThreads,
     gate: &G,
 ) -> Ending
 where
@@ -106,7 +107,7 @@ fn work<R: Threads + Wait + Sync, S: Source, K: Sink, M: Media, G: Gate + Sync>(
     source: &mut S,
     sink: &mut K,
     media: &mut M,
-    threads: usize,
+    threads: RoundThreads,
     gate: &G,
 ) -> Ending
 where
@@ -178,8 +179,8 @@ pub fn say_out_of_memory<K: Sink>(sink: &mut K) -> u8
 /// The words are `run`, or `gen SEED SIZE`, SEED being 1 to 10 decimal digits, from 1 to 2147483646, and SIZE as many,
 /// from 1 to 100,000. `run` reads at most 16,777,217 bytes of the source; for other words none is read.
 ///
-/// Each session of a round passes the gate before each critical section of a command, and may be held there. What is
-/// promised holds for every gate.
+/// Each session of a round passes the gate before each critical section of a command, and may be held there. Where a gate
+/// waits for another session of the round, each needs a thread of its own. What is promised holds for every gate.
 pub fn run_tool<R: Threads + Wait + Sync, S: Source, K: Sink, M: Media, G: Gate + Sync>(
     rt: &R,
     alloc: Global,
@@ -187,7 +188,7 @@ pub fn run_tool<R: Threads + Wait + Sync, S: Source, K: Sink, M: Media, G: Gate 
     source: &mut S,
     sink: &mut K,
     media: &mut M,
-    threads: usize,
+    threads: RoundThreads,
     gate: &G,
 ) -> u8
 where

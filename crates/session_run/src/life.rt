@@ -39,20 +39,18 @@ fn pages_read_an_image<P: PageDisk>()
 /// Runs a part of a script in a life that is open, closes the life, and keeps its lines: its rounds one after another, the
 /// sessions of a round on such threads, and the dumps and checkpoints between them.
 pub fn run_life<
-    R: Threads + Wait + Sync,
     K: LineKeeper + Send + Drop,
     L: LogDisk + Send + Sync + Drop,
     P: PageDisk + Send + Sync + Drop,
-    G: Gate + Sync,
 >(
-    rt: &R,
+    rt: &(impl Threads + Wait + Sync),
     alloc: Global,
     life: OpenLife<L, P>,
     names: &NameList,
     part: Items,
     kept: &mut K,
     threads: RoundThreads,
-    gate: &G,
+    gate: &(impl Gate + Sync),
 ) -> (ClosedLife<L, P>, Result<(), Memory>)
     requires taken { IsTakenPart (length names.now) part }
     requires may { MayRunIn (length names.now) life }

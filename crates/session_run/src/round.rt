@@ -84,14 +84,8 @@ fn let_in<K: LineKeeper, L: LogDisk, P: PageDisk>(
 }
 
 /// Runs the members of a round beside one another, in at most so many threads.
-fn run_beside<
-    R: Threads + Wait + Sync,
-    K: LineKeeper + Send,
-    L: LogDisk + Send + Sync,
-    P: PageDisk + Send + Sync,
-    G: Gate + Sync,
->(
-    rt: &R,
+fn run_beside<K: LineKeeper + Send, L: LogDisk + Send + Sync, P: PageDisk + Send + Sync>(
+    rt: &(impl Threads + Wait + Sync),
     hall: &Hall<EngineLaw<L, P>>,
     members: &mut [Member<K, L, P>],
     banks: u32,
@@ -100,7 +94,7 @@ fn run_beside<
     plan: &Plan,
     round: &Items,
     threads: usize,
-    gate: &G,
+    gate: &(impl Gate + Sync),
 )
     requires threads { 0 < threads }
     requires items { All (runnable.MayRun (start_of hall.now).sessions) round.now }
@@ -116,14 +110,8 @@ fn run_beside<
 }
 
 /// Runs the members of a round.
-fn run_members<
-    R: Threads + Wait + Sync,
-    K: LineKeeper + Send,
-    L: LogDisk + Send + Sync,
-    P: PageDisk + Send + Sync,
-    G: Gate + Sync,
->(
-    rt: &R,
+fn run_members<K: LineKeeper + Send, L: LogDisk + Send + Sync, P: PageDisk + Send + Sync>(
+    rt: &(impl Threads + Wait + Sync),
     hall: &Hall<EngineLaw<L, P>>,
     members: &mut Vec<Member<K, L, P>>,
     banks: u32,
@@ -132,7 +120,7 @@ fn run_members<
     plan: &Plan,
     round: &Items,
     threads: usize,
-    gate: &G,
+    gate: &(impl Gate + Sync),
 )
     requires threads { 0 < threads }
     requires items { All (runnable.MayRun (start_of hall.now).sessions) round.now }
@@ -220,14 +208,8 @@ fn take_back<K: LineKeeper + Drop, L: LogDisk, P: PageDisk>(
 /// order. Keeps their lines, session by session in the order in which they first appear in the round.
 ///
 /// Where memory is wanting for the lines, the run is lost. The sessions are taken back then too.
-pub fn run_round<
-    R: Threads + Wait + Sync,
-    K: LineKeeper + Send + Drop,
-    L: LogDisk + Send + Sync,
-    P: PageDisk + Send + Sync,
-    G: Gate + Sync,
->(
-    rt: &R,
+pub fn run_round<K: LineKeeper + Send + Drop, L: LogDisk + Send + Sync, P: PageDisk + Send + Sync>(
+    rt: &(impl Threads + Wait + Sync),
     alloc: Global,
     hall: &Hall<EngineLaw<L, P>>,
     host: &mut Host<L, P>,
@@ -238,7 +220,7 @@ pub fn run_round<
     kept: &mut K,
     spare: &mut Vec<K>,
     threads: usize,
-    gate: &G,
+    gate: &(impl Gate + Sync),
 ) -> Result<(), Memory>
     requires threads { 0 < threads }
     requires host { IsHost hall.now host.old }
@@ -258,32 +240,16 @@ pub fn run_round<
         × (kept.new ≡ K.with_lines names.now kept.old lines)) }
 {
     keeper_laws::<K>(names);
-    let mut members = Vec::with_capacity(alloc, plan.sessions.len())?;
+    let mut sent = Vec::with_capacity(alloc, plan.sessions.len())?;
     let banks = host.cluster.banks;
-    let_in(
-        hall,
-        alloc,
-        host,
-        plan.sessions.as_slice(),
-        sessions,
-        &mut members,
-        spare,
-    );
+    let numbers = plan.sessions.as_slice();
+    let_in(hall, alloc, host, numbers, sessions, &mut sent, spare);
     run_members(
-        rt,
-        hall,
-        &mut members,
-        banks,
-        alloc,
-        names,
-        plan,
-        round,
-        threads,
-        gate,
+        rt, hall, &mut sent, banks, alloc, names, plan, round, threads, gate,
     );
     let much = round.len() >= MANY_COMMANDS;
-    let joined = join_members(alloc, &mut members, kept, much);
-    take_back(hall, host, &mut members, sessions, spare);
-    members.destroy_empty();
+    let joined = join_members(alloc, &mut sent, kept, much);
+    take_back(hall, host, &mut sent, sessions, spare);
+    sent.destroy_empty();
     joined
 }

@@ -29,14 +29,8 @@ use std::thread::Threads;
 use tx_model::{Memory, NameList, Step};
 
 /// Runs a round that has commands, behind so many rounds, and keeps it.
-fn run_numbered<
-    R: Threads + Wait + Sync,
-    K: LineKeeper + Send + Drop,
-    L: LogDisk + Send + Sync,
-    P: PageDisk + Send + Sync,
-    G: Gate + Sync,
->(
-    rt: &R,
+fn run_numbered<K: LineKeeper + Send + Drop, L: LogDisk + Send + Sync, P: PageDisk + Send + Sync>(
+    rt: &(impl Threads + Wait + Sync),
     alloc: Global,
     hall: &Hall<EngineLaw<L, P>>,
     host: &mut Host<L, P>,
@@ -48,7 +42,7 @@ fn run_numbered<
     kept: &mut K,
     spare: &mut Vec<K>,
     threads: RoundThreads,
-    gate: &G,
+    gate: &(impl Gate + Sync),
 ) -> Result<(), Memory>
     requires home { AreHome hall.now host.old sessions.old }
     requires room { MayAdd (length round.now) sessions.old }
@@ -74,14 +68,8 @@ fn run_numbered<
 }
 
 /// Runs a round behind so many rounds, if it has commands, and answers how many have run then.
-fn run_next<
-    R: Threads + Wait + Sync,
-    K: LineKeeper + Send + Drop,
-    L: LogDisk + Send + Sync,
-    P: PageDisk + Send + Sync,
-    G: Gate + Sync,
->(
-    rt: &R,
+fn run_next<K: LineKeeper + Send + Drop, L: LogDisk + Send + Sync, P: PageDisk + Send + Sync>(
+    rt: &(impl Threads + Wait + Sync),
     alloc: Global,
     hall: &Hall<EngineLaw<L, P>>,
     host: &mut Host<L, P>,
@@ -93,7 +81,7 @@ fn run_next<
     kept: &mut K,
     spare: &mut Vec<K>,
     threads: RoundThreads,
-    gate: &G,
+    gate: &(impl Gate + Sync),
 ) -> Result<u64, Memory>
     requires home { AreHome hall.now host.old sessions.old }
     requires room { MayAdd (length round.now) sessions.old }
@@ -195,14 +183,8 @@ fn answer_next<R: Wait, K: LineKeeper, L: LogDisk, P: PageDisk>(
 }
 
 /// Runs the rounds of a script, one after another, and answers what it asks for between them, its sessions being these.
-fn run_each<
-    R: Threads + Wait + Sync,
-    K: LineKeeper + Send + Drop,
-    L: LogDisk + Send + Sync,
-    P: PageDisk + Send + Sync,
-    G: Gate + Sync,
->(
-    rt: &R,
+fn run_each<K: LineKeeper + Send + Drop, L: LogDisk + Send + Sync, P: PageDisk + Send + Sync>(
+    rt: &(impl Threads + Wait + Sync),
     alloc: Global,
     hall: &Hall<EngineLaw<L, P>>,
     host: &mut Host<L, P>,
@@ -211,7 +193,7 @@ fn run_each<
     names: &NameList,
     kept: &mut K,
     threads: RoundThreads,
-    gate: &G,
+    gate: &(impl Gate + Sync),
 ) -> Result<(), Memory>
     requires begins { GoesOn hall.now host.old sessions.old [] }
     requires unseen { HasSeenNothing host.old }
@@ -241,14 +223,8 @@ fn run_each<
 
 /// Runs the rounds of a life, one after another, and answers what is asked for between them: the sessions of a round on
 /// such threads.
-pub fn run_rounds<
-    R: Threads + Wait + Sync,
-    K: LineKeeper + Send + Drop,
-    L: LogDisk + Send + Sync,
-    P: PageDisk + Send + Sync,
-    G: Gate + Sync,
->(
-    rt: &R,
+pub fn run_rounds<K: LineKeeper + Send + Drop, L: LogDisk + Send + Sync, P: PageDisk + Send + Sync>(
+    rt: &(impl Threads + Wait + Sync),
     alloc: Global,
     hall: &Hall<EngineLaw<L, P>>,
     host: &mut Host<L, P>,
@@ -256,7 +232,7 @@ pub fn run_rounds<
     part: Items,
     kept: &mut K,
     threads: RoundThreads,
-    gate: &G,
+    gate: &(impl Gate + Sync),
 ) -> Result<(), Memory>
     requires host { IsHost hall.now host.old }
     requires all { HoldsAllBut host.old [] }

@@ -69,13 +69,8 @@ fn crash_of(how: How) -> Crash
 }
 
 /// Runs a part of a script in a life that is open, the life of this number, closes it, and makes its text.
-fn tell_life<
-    R: Threads + Wait + Sync,
-    L: LogDisk + Send + Sync + Drop,
-    P: PageDisk + Send + Sync + Drop,
-    G: Gate + Sync,
->(
-    rt: &R,
+fn tell_life<L: LogDisk + Send + Sync + Drop, P: PageDisk + Send + Sync + Drop>(
+    rt: &(impl Threads + Wait + Sync),
     alloc: Global,
     life: OpenLife<L, P>,
     names: &NameList,
@@ -83,7 +78,7 @@ fn tell_life<
     number: u64,
     crash: Option<How>,
     threads: RoundThreads,
-    gate: &G,
+    gate: &(impl Gate + Sync),
 ) -> (ClosedLife<L, P>, Result<LifeText, Memory>)
     requires taken { IsTakenPart (length names.now) part }
     requires may { MayRunIn (length names.now) life }

@@ -68,7 +68,8 @@ b snap t
     Ok((report, gate.ran_out.load(Ordering::SeqCst)))
 }
 
-/// The second session's id is the lower one, and each snapshot stands behind both. Which of the two is first is open.
+/// The second session's id is the lower one, and each snapshot stands behind both: no id has ended, so each is at or past its
+/// xmax. Which of the two is first is open.
 #[test]
 fn two_sessions_interleave(rt: HostRuntime) -> Result<(), Fail> {
     let (report, ran_out) = crossed(&rt, RoundThreads::OneEach)?;
@@ -78,10 +79,10 @@ life 1 from 0 next 3 oldest 3 multi 1 offset 1 oldest-multi 1 oldest-offset 1
 round 1
 a 1 begin -> ok
 a 2 write -> ok 4
-a 3 snap s -> ok xmin 3 xmax 5 xip 3 4 sub - overflow no
+a 3 snap s -> ok xmin 3 xmax 3 xip - sub - overflow no
 b 1 begin -> ok
 b 2 write -> ok 3
-b 3 snap t -> ok xmin 3 xmax 5 xip 3 4 sub - overflow no
+b 3 snap t -> ok xmin 3 xmax 3 xip - sub - overflow no
 history
 id b 2 3
 id a 2 4

@@ -2,23 +2,21 @@
 ghost use Rattle.std.specs.Prelude.{◌≡◌, ◌==◌, ◌≤◌, List, IfOk, length, take};
 ghost use Rattle.std.specs.List.{find};
 ghost use Rattle.tx_events.specs.declared.event.Event.{Event};
-ghost use Rattle.tx_events.specs.declared.record.Counters.{Counters};
-ghost use Rattle.tx_events.specs.History.{IsLegal};
 ghost use Rattle.tx_events.specs.IdLists.{Ascending, has};
 ghost use Rattle.tx_events.specs.Running.{running};
 ghost use Rattle.life_marks.specs.declared.mark.IdMark.{IdMark};
 ghost use Rattle.life_marks.specs.IdMarks.{AreMarks, AreNoted, closed_above, closed_in, earlier, mark_ids};
 
 use crate::mark::{IdMark, note, place_of, runs_at};
+use history_check::HistoryReplay;
 use std::alloc::Global;
-use tx_events::{Event, FullXid, Memory};
+use tx_events::{FullXid, Memory};
 
 /// What each event says by itself: of a top-level id where it ended, of a savepoint's where it was undone.
-fn noted_ids(alloc: Global, events: &[Event]) -> Result<Vec<IdMark>, Memory>
-    ghost base: { Counters }
-    requires { IsLegal base events.now }
-    ensures { IfOk result (λ marks. AreNoted events.now marks.items) }
+fn noted_ids(alloc: Global, replay: &HistoryReplay) -> Result<Vec<IdMark>, Memory>
+    ensures { IfOk result (λ marks. AreNoted replay.now.events marks.items) }
 {
+    let events = replay.events();
     let mut marks = Vec::new(alloc);
     for (place, event) in events.iter().enumerate() {
         note(&mut marks, place as u64, event)?;
@@ -61,14 +59,13 @@ fn closed_above(marks: &[IdMark], parent: Option<FullXid>) -> Option<u64>
     }
 }
 
-/// The marks of all ids that a legal history gave, ascending. Takes the number of its events times the logarithm of that
-/// of its ids. An id is closed with its parent, if not before.
-pub fn id_marks(alloc: Global, events: &[Event]) -> Result<Vec<IdMark>, Memory>
-    ghost base: { Counters }
-    requires { IsLegal base events.now }
-    ensures { IfOk result (λ marks. AreMarks events.now marks.items) }
+/// The marks of all ids that the replay's history gave, ascending. Takes the number of its events times the logarithm of
+/// that of its ids. An id is closed with its parent, if not before.
+pub fn id_marks(alloc: Global, replay: &HistoryReplay) -> Result<Vec<IdMark>, Memory>
+    ensures { IfOk result (λ marks. AreMarks replay.now.events marks.items) }
 {
-    let noted = noted_ids(alloc, events)?;
+    let _legal = replay.events();
+    let noted = noted_ids(alloc, replay)?;
     let mut marks = Vec::new(alloc);
     for mark in &noted {
         let above = closed_above(marks.as_slice(), mark.parent);

@@ -1,1 +1,5 @@
 pub mod Answering
+pub mod Ending
+pub mod OpenAtEnd
+pub mod Keys
+pub mod Counting

@@ -1,1 +1,4 @@
 pub mod Answered
+pub mod Counts
+pub mod Ends
+pub mod Firsts

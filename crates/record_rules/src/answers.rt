@@ -59,7 +59,8 @@ fn abort_after(old: bool, line: &Line) -> bool
 /// Notes one line more. No session from 64 on is asked for.
 fn note_line(answers: &mut [Answers], line: &Line)
     requires { length answers.old ≡ 64 }
-    ensures { (lines : List Line) → AreAnswers lines answers.old → AreAnswers (lines ++ line.now ∷ []) answers.new }
+    ensures size { length answers.new ≡ 64 }
+    ensures noted { (lines : List Line) → AreAnswers lines answers.old → AreAnswers (lines ++ line.now ∷ []) answers.new }
 {
     let session = line.by.session as usize;
     if session < 64 {
@@ -71,11 +72,11 @@ fn note_line(answers: &mut [Answers], line: &Line)
     }
 }
 
-/// Notes the lines of a round, which come behind these.
+/// Notes the lines of a round.
 fn note_lines(answers: &mut [Answers], lines: &[Line])
-    ghost before: { List Line }
-    requires { AreAnswers before answers.old }
-    ensures { AreAnswers (before ++ lines.now) answers.new }
+    requires { length answers.old ≡ 64 }
+    ensures noted { (before : List Line) → AreAnswers before answers.old → AreAnswers (before ++ lines.now) answers.new }
+    ensures size { length answers.new ≡ 64 }
 {
     for line in lines {
         note_line(answers, line);
@@ -83,11 +84,12 @@ fn note_lines(answers: &mut [Answers], lines: &[Line])
 }
 
 /// No session has a line.
+#[tactic(auto, using(crate::proofs::Answering::none_noted))]
 fn no_answers(alloc: Global) -> Result<Vec<Answers>, Memory>
     ensures { IfOk result (λ answers. AreAnswers [] answers.items) }
 {
     let mut answers = Vec::with_capacity(alloc, 64)?;
-    for _n in 0..64 {
+    for _n in 0..64_u32 {
         answers.push(Answers {
             commit: false,
             abort: false,

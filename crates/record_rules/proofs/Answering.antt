@@ -1,20 +1,21 @@
 -- The last answers along the lines.
-use Rattle.std.proofs.Common.{◌≡◌, ℕ, ◌+◌, ◌<◌, List, [], ◌∷◌, ◌++◌, Option, Some, None, Bool, true, false, not, cond, ◌==◌, length, get_or, set, refl, ap, sym, subst, ◌∙◌, ⊎_elim, eqb-true, arith, append-nil, zero, suc}
+use Rattle.std.proofs.Common.{◌≡◌, ℕ, ◌+◌, ◌<◌, List, [], ◌∷◌, ◌++◌, Option, Some, None, Bool, true, false, cond, ◌==◌, length, get_or, set, refl, ap, sym, subst, ◌∙◌, ⊎_elim, eqb-true, arith, append-nil, zero, suc, take, drop}
 use Rattle.std.proofs.lemmas.Bool.{cases_Bool, false≢true}
-use Rattle.std.proofs.lemmas.List.{get_or-set_other, get_or-set_same, length-set}
+use Rattle.std.proofs.lemmas.List.{flat_map_more, get_or-set_other, get_or-set_same, drop_all, length-set, take_all, take_more}
 use Rattle.std.proofs.lemmas.List.Elements.{filter-append}
 use Rattle.std.proofs.lemmas.List.Sums.{fold_push}
-use Rattle.std.specs.List.{AllByRecursion, filter, fold}
-use Rattle.tx_events.specs.declared.xact_end.XactEnd.TheVariants as ends
+use Rattle.std.specs.List.{AllByRecursion, filter, flat_map, fold}
 use Rattle.tx_events.proofs.ListSteps.{eqb-refl}
 use Rattle.tx_model.specs.declared.command.Command.{Command}
 use Rattle.tx_model.specs.declared.command.Command.TheVariants as commands
 use Rattle.tx_model.specs.declared.reply.Reply.{Reply}
 use Rattle.tx_model.specs.declared.report.Line.{Line}
+use Rattle.tx_model.specs.declared.report.Step.{Step}
 use Rattle.tx_model.specs.Lines.{is_line_of}
+use Rattle.tx_model.specs.Rounds.{lines_in}
 use Rattle.report_law.specs.Records.{is_abort, is_commit, last_answer}
 use Rattle.record_rules.specs.declared.answers.Answers.{Answers}
-use Rattle.record_rules.specs.Answered.{AreAnswers, IsAnswered, abort_after, commit_after, is_disk_fault, is_not_done, may_have, was_told}
+use Rattle.record_rules.specs.Answered.{AreAnswers, IsAnswered, abort_after, commit_after, is_disk_fault, is_not_done, was_told}
 
 abbrev pick : Bool → Option Reply → Line → Option Reply
 pick true earlier l = Some l.reply
@@ -127,3 +128,15 @@ none_noted answers size a = record {
   size = size;
   each = λ s l d. subst (IsAnswered [] s) (sym (none_at answers s d a (omega arith))) (record { commit = refl; abort = refl });
 }
+
+pub none_more : (before : List Line) (answers : List Answers) → AreAnswers before answers → AreAnswers (before ++ []) answers
+none_more before answers a = subst (λ (t : List Line). AreAnswers t answers) (sym (append-nil before)) a
+
+pub step_more : (steps : List Step) (i : ℕ) (s : Step) (answers : List Answers) → i < length steps → s ≡ get_or steps i s → AreAnswers (flat_map lines_in (take i steps) ++ lines_in s) answers → AreAnswers (flat_map lines_in (take (i + 1) steps)) answers
+step_more steps i s answers l is a =
+    let more = take_more steps i s l ∙ ap (λ (x : Step). take i steps ++ x ∷ []) (sym is) in
+    subst (λ (t : List Line). AreAnswers t answers) (flat_map_more lines_in [] (take i steps) s ∙ ap (flat_map lines_in) (sym more)) a
+
+pub written_back : (n : ℕ) (xs ys : List Answers) → length xs ≡ length ys → n ≡ length ys → take n (xs ++ drop (length xs) ys) ≡ xs
+written_back n xs ys same is =
+    ap (λ k. take k (xs ++ drop (length xs) ys)) (is ∙ sym same) ∙ ap (λ (t : List Answers). take (length xs) (xs ++ t)) (drop_all (length xs) ys (omega (arith, same))) ∙ ap (take (length xs)) (append-nil xs) ∙ take_all (length xs) xs (omega arith)

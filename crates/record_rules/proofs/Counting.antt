@@ -1,5 +1,5 @@
 -- Counters counted by their keys.
-use Rattle.std.proofs.Common.{◌≡◌, ℕ, ◌+◌, ◌<◌, Bool, true, false, cond, ◌==◌, ◌&&◌, Option, Some, None, Less, Equal, Greater, refl, ap, sym, subst, ◌∙◌, arith, eqb-true, unwrap_or}
+use Rattle.std.proofs.Common.{◌≡◌, ℕ, ◌+◌, Bool, true, false, cond, ◌==◌, ◌&&◌, Option, Some, Less, Equal, Greater, refl, ap, sym, ◌∙◌, arith, eqb-true, unwrap_or}
 use Rattle.std.proofs.lemmas.Bool.{and_parts}
 use Rattle.std.specs.BTreeMap.{BTreeMap, get}
 use Rattle.std.specs.Ordering.{is_eq, nat_cmp, ordering_then}
@@ -39,7 +39,7 @@ key_is k q =
     assoc true false c d e f = refl
     assoc false b c d e f = refl
 
-build : ℕ → ℕ → ℕ → ℕ → ℕ → ℕ → Counters
+abbrev build : ℕ → ℕ → ℕ → ℕ → ℕ → ℕ → Counters
 build a b c d e f = record { next = a; oldest = b; multi = c; offset = d; oldest_multi = e; oldest_offset = f }
 
 pub same_are : (x y : Counters) → same_counters x y ≡ true → x ≡ y
@@ -66,8 +66,9 @@ pub counted_more : (f : Counters → ℕ) (c : Counters) (m n : BTreeMap Counter
 counted_more f c m n count a is now q =
     ap (λ (o : Option ℕ). unwrap_or o 0) (now q ∙ ap (λ b. cond b (Some (count + 1)) (get key_cmp m q)) (key_is (key_of c) q)) ∙ one (same_counters c (counters_of q)) refl
   where
+    plus_zero : (k : ℕ) → k + 0 ≡ k
+    plus_zero k = omega arith
+
     one : (b : Bool) → same_counters c (counters_of q) ≡ b → unwrap_or (cond b (Some (count + 1)) (get key_cmp m q)) 0 ≡ f (counters_of q) + cond b 1 0
     one true e = ap (λ k. k + 1) (is ∙ ap f (same_are c (counters_of q) e))
     one false e = a q ∙ sym (plus_zero (f (counters_of q)))
-    plus_zero : (k : ℕ) → k + 0 ≡ k
-    plus_zero k = omega arith

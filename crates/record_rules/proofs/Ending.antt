@@ -1,9 +1,9 @@
 -- The ends along the history.
-use Rattle.std.proofs.Common.{◌≡◌, ◌≢◌, ◌↔◌, ℕ, zero, suc, ◌+◌, ◌<◌, ◌≤◌, ◌⊎◌, List, [], ◌∷◌, ◌++◌, Option, Some, None, Bool, true, false, not, cond, ◌==◌, ◌||◌, length, get_or, take, is_some, is_none, refl, ap, sym, subst, ◌∙◌, ⊎_elim, inl, inr, eqb-true, arith, Contains, IsTrue}
+use Rattle.std.proofs.Common.{◌≡◌, ◌↔◌, ℕ, zero, suc, ◌<◌, ◌≤◌, List, [], ◌∷◌, ◌++◌, Some, None, Bool, true, false, cond, ◌==◌, ◌||◌, length, take, is_some, refl, ap, sym, subst, ◌∙◌, ⊎_elim, eqb-true, arith, Contains, IsTrue}
 use Rattle.std.proofs.Math.Seq.{take-append_seam}
 use Rattle.std.proofs.lemmas.Bool.{cases_Bool, cases_lt, false≢true}
 use Rattle.std.specs.BTreeMap.{BTreeMap, get}
-use Rattle.std.specs.List.{AllByRecursion, filter, find, slice_get, list_any}
+use Rattle.std.specs.List.{slice_get, list_any}
 use Rattle.std.specs.Ordering.{is_eq, nat_cmp}
 use Rattle.tx_events.specs.declared.event.By.{By}
 use Rattle.tx_events.specs.declared.event.Event.{Event}
@@ -11,27 +11,27 @@ use Rattle.tx_events.specs.declared.event.Event.TheVariants as events
 use Rattle.tx_events.specs.declared.record.Counters.{Counters}
 use Rattle.tx_events.specs.declared.xact_end.XactEnd.{XactEnd}
 use Rattle.tx_events.specs.declared.xact_end.XactEnd.TheVariants as ends
-use Rattle.tx_events.specs.Events.{by_of, given, given_to, is_end_of, is_of}
+use Rattle.tx_events.specs.Events.{given_to, is_end_of}
 use Rattle.tx_events.specs.Families.{is_top, top}
 use Rattle.tx_events.specs.History.{IsLegal, MayCome}
 use Rattle.tx_events.specs.Running.{is_ended, is_open, open_ids}
 use Rattle.tx_events.specs.XactEnds.{end_event}
 use Rattle.tx_events.proofs.Closing.{open_is}
 use Rattle.tx_events.proofs.ListSteps.{eqb-refl}
-use Rattle.tx_events.proofs.Membership.{Has, contains_has, has_filter}
+use Rattle.tx_events.proofs.Membership.{contains_has, has_filter}
 use Rattle.tx_events.proofs.PlaceLemmas.{last_at, slice_get-grows, slice_get-push, take-grows}
 use Rattle.counted_map.proofs.Counted.{cmp_eq}
-use Rattle.report_law.specs.Records.{IsEndedAs, IsOpenOf}
+use Rattle.report_law.specs.Records.{IsEndedAs}
 use Rattle.record_rules.specs.declared.ends.Ended.{Ended}
 use Rattle.record_rules.specs.Ends.{AreEnds, IsEndAt, is_end}
 
 -- the top that an event ends
-end_top : Event → ℕ
+abbrev end_top : Event → ℕ
 end_top (events.Commit by t) = t
 end_top (events.Abort by t) = t
 end_top e = 0
 
-abbrev end_top_of : (how : XactEnd) (by : By) (t : ℕ) → end_top (end_event how by t) ≡ t
+end_top_of : (how : XactEnd) (by : By) (t : ℕ) → end_top (end_event how by t) ≡ t
 end_top_of ends.Commit by t = refl
 end_top_of ends.Abort by t = refl
 

@@ -1,5 +1,5 @@
 -- Keys that the items of a list name, one item after another.
-use Rattle.std.proofs.Common.{◌≡◌, ◌≢◌, ◌↔◌, ℕ, zero, suc, ◌+◌, ◌<◌, List, [], ◌∷◌, ◌++◌, Bool, true, false, not, cond, ◌==◌, ◌||◌, ◌&&◌, Less, Equal, Greater, refl, ap, sym, subst, ◌∙◌, ⊎_elim, inl, inr, eqb-true, arith, IsTrue, Contains}
+use Rattle.std.proofs.Common.{◌≡◌, ◌↔◌, ℕ, List, [], ◌∷◌, ◌++◌, Bool, true, false, not, cond, ◌==◌, ◌||◌, ◌&&◌, Less, Equal, Greater, refl, ap, sym, ◌∙◌, ⊎_elim, inl, inr, eqb-true, IsTrue, Contains}
 use Rattle.std.proofs.Math.Bool.{or-true}
 use Rattle.std.proofs.lemmas.Bool.{and_parts, cases_Bool, false≢true, or_parts}
 use Rattle.std.specs.BTreeSet.{BTreeSet, contains}
@@ -118,6 +118,7 @@ announced_iff h id = (λ e. let f = found h e in (f.0, has_contains h (events.Ol
         (λ (yes : announces id x ≡ true). let i = (id_iff x id).0 yes in (i.0, inl i.1))
         (λ (no : announces id x ≡ false). let f = found h (sym (ap (λ b. b || list_any (announces id) h) no) ∙ e) in (f.0, inr f.1))
         (cases_Bool (announces id x))
+
     there : (h : List Event) (by : By) → Has h (events.Oldest by id) → list_any (announces id) h ≡ true
     there [] by k = absurd k
     there (x ∷ h) by k = ⊎_elim
@@ -145,6 +146,7 @@ raised_iff h k = (λ e. let f = found h e in (f.0, has_contains h (multis.Raise 
         (λ (yes : raises k x ≡ true). let i = (start_iff x k).0 yes in (i.0, inl i.1))
         (λ (no : raises k x ≡ false). let f = found h (sym (ap (λ b. b || list_any (raises k) h) no) ∙ e) in (f.0, inr f.1))
         (cases_Bool (raises k x))
+
     there : (h : List MultiEvent) (by : By) → Has h (multis.Raise by k.multi k.offset) → list_any (raises k) h ≡ true
     there [] by z = absurd z
     there (x ∷ h) by z = ⊎_elim
@@ -159,3 +161,6 @@ then_eq Greater y = refl
 
 pub start_key : (k q : StartKey) → raises q (multis.Raise (record { session = 0; command = 0 }) k.multi k.offset) ≡ is_eq (start_cmp k q)
 start_key k q = sym (then_eq (nat_cmp k.multi q.multi) (nat_cmp k.offset q.offset) ∙ ap (λ b. b && is_eq (nat_cmp k.offset q.offset)) (cmp_eq k.multi q.multi) ∙ ap (λ b. (k.multi == q.multi) && b) (cmp_eq k.offset q.offset))
+
+pub equal_iff : (a b : ℕ) (r : Bool) → r ≡ (a == b) → IsTrue r ↔ (a ≡ b)
+equal_iff a b r is = (λ t. eqb-true a b (sym is ∙ t), λ e. is ∙ ap (λ k. k == b) e ∙ eqb-refl b)

@@ -1,13 +1,12 @@
 -- What sessions have open at the end of a history.
-use Rattle.std.proofs.Common.{◌≡◌, ◌≢◌, ◌↔◌, ℕ, zero, suc, ◌+◌, ◌<◌, ◌≤◌, ◌⊎◌, List, [], ◌∷◌, ◌++◌, Option, Some, None, Bool, true, false, not, cond, ◌==◌, length, get_or, map, take, is_some, is_none, refl, ap, sym, subst, ◌∙◌, ⊎_elim, inl, inr, eqb-true, arith, IsTrue, IfSome, Contains}
-use Rattle.std.proofs.lemmas.Bool.{cases_Bool, cases_lt, false≢true}
-use Rattle.std.specs.List.{AllByRecursion, filter, find}
+use Rattle.std.proofs.Common.{◌≡◌, ◌≢◌, ◌↔◌, ℕ, zero, suc, ◌+◌, ◌<◌, ◌≤◌, List, [], ◌∷◌, ◌++◌, Option, Some, None, Bool, true, false, ◌==◌, length, get_or, is_none, refl, ap, sym, subst, ◌∙◌, ⊎_elim, inl, eqb-true, arith, IsTrue, IfSome, Contains}
+use Rattle.std.proofs.lemmas.Bool.{cases_lt, false≢true}
+use Rattle.std.specs.List.{AllByRecursion, HoldsAt, filter, find, slice_get}
 use Rattle.tx_events.specs.declared.event.Event.{Event}
 use Rattle.tx_events.specs.declared.record.Counters.{Counters}
-use Rattle.tx_events.specs.declared.refusal.Refusal.{Refusal}
 use Rattle.tx_events.specs.declared.refusal.Refusal.TheVariants as refusals
 use Rattle.tx_events.specs.declared.xact_end.XactEnd.TheVariants as ends
-use Rattle.tx_events.specs.Events.{by_of, given, given_to, is_of}
+use Rattle.tx_events.specs.Events.{by_of, given, is_of}
 use Rattle.tx_events.specs.Families.{is_top}
 use Rattle.tx_events.specs.History.{IsLegal}
 use Rattle.tx_events.specs.Running.{is_open, open_ids}
@@ -22,7 +21,7 @@ use Rattle.history_check.proofs.OpenedSteps.{found_top}
 use Rattle.report_law.specs.Records.{IsDiskFault, IsOpenOf, is_abort, is_commit, last_answer}
 use Rattle.record_rules.specs.declared.transactions.OpenXact.{OpenXact}
 use Rattle.record_rules.specs.Answered.{is_disk_fault, is_not_done, may_have, was_told}
-use Rattle.record_rules.specs.Ends.{AreOpenXacts, IsOpenXact}
+use Rattle.record_rules.specs.Ends.{IsOpenXact}
 
 -- ---- the first open id
 
@@ -41,6 +40,33 @@ first_is_top base h s o rest t subs legal a is =
     by_cases true e c f to from = e ∙ sym (to e).1
     by_cases false e true f to from = absurd (false≢true (sym e ∙ from f))
     by_cases false e false f to from = e ∙ sym f
+
+pub begins_top : (base : Counters) (h : List Event) (s : ℕ) (opened : List OpenId) (o : OpenId) (t : ℕ) (subs : List ℕ) → IsLegal base h → AreOpened h s opened → slice_get opened 0 ≡ Some o → open_ids s h ≡ t ∷ subs → is_none o.parent ≡ is_top h t
+begins_top base h s [] o t subs legal a first is = absurd cc
+begins_top base h s (x ∷ rest) o t subs legal a first is =
+    let same : x ≡ o = cc in
+    ap (λ (y : OpenId). is_none y.parent) (sym same) ∙ first_is_top base h s x rest t subs legal a is
+
+-- ---- what one session more has open
+
+get_or-append_left : (xs ys : List OpenXact) (s : ℕ) (d : OpenXact) → s < length xs → get_or (xs ++ ys) s d ≡ get_or xs s d
+get_or-append_left [] ys s d l = absurd (omega arith)
+get_or-append_left (x ∷ xs) ys zero d l = refl
+get_or-append_left (x ∷ xs) ys (suc s) d l = get_or-append_left xs ys s d (omega arith)
+
+get_or_last : (xs : List OpenXact) (x d : OpenXact) → get_or (xs ++ x ∷ []) (length xs) d ≡ x
+get_or_last [] x d = refl
+get_or_last (y ∷ xs) x d = get_or_last xs x d
+
+pub one_xact_more : (h : List Event) (lines : List Line) (xacts : List OpenXact) (x : OpenXact) (n : ℕ) → length xacts ≡ n → ((s : ℕ) → s < n → HoldsAt (IsOpenXact h lines s) xacts s) → IsOpenXact h lines n x → (s : ℕ) → s < n + 1 → HoldsAt (IsOpenXact h lines s) (xacts ++ x ∷ []) s
+one_xact_more h lines xacts x n size each is s l d =
+    ⊎_elim
+    (λ (m : s < n). subst (IsOpenXact h lines s) (sym (get_or-append_left xacts (x ∷ []) s d (subst (λ k. s < k) (sym size) m))) (each s m d))
+    (λ (m : n ≤ s).
+    let same : n ≡ s = omega arith in
+    let at : get_or (xacts ++ x ∷ []) s d ≡ x = ap (λ k. get_or (xacts ++ x ∷ []) k d) (sym same ∙ sym size) ∙ get_or_last xacts x d in
+    subst (IsOpenXact h lines s) (sym at) (subst (λ k. IsOpenXact h lines k x) same is))
+    (cases_lt s n)
 
 -- ---- sessions that have no event
 
@@ -68,7 +94,7 @@ not_done_iff (replies.Wrote ids warn) = (λ e q. absurd cc, λ f. refl)
 not_done_iff (replies.Snapped lists) = (λ e q. absurd cc, λ f. refl)
 not_done_iff (replies.Seen visible) = (λ e q. absurd cc, λ f. refl)
 not_done_iff (replies.Known status) = (λ e q. absurd cc, λ f. refl)
-not_done_iff (replies.Did yes) = (λ e q. absurd cc, λ f. refl)
+not_done_iff (replies.Did answer) = (λ e q. absurd cc, λ f. refl)
 not_done_iff (replies.Multi multi offset warn) = (λ e q. absurd cc, λ f. refl)
 not_done_iff (replies.Verdicts verdicts) = (λ e q. absurd cc, λ f. refl)
 not_done_iff (replies.Horizon oldest_xmin) = (λ e q. absurd cc, λ f. refl)
@@ -83,7 +109,7 @@ fault_iff (replies.Wrote ids warn) = (λ e. absurd cc, λ f. absurd f)
 fault_iff (replies.Snapped lists) = (λ e. absurd cc, λ f. absurd f)
 fault_iff (replies.Seen visible) = (λ e. absurd cc, λ f. absurd f)
 fault_iff (replies.Known status) = (λ e. absurd cc, λ f. absurd f)
-fault_iff (replies.Did yes) = (λ e. absurd cc, λ f. absurd f)
+fault_iff (replies.Did answer) = (λ e. absurd cc, λ f. absurd f)
 fault_iff (replies.Multi multi offset warn) = (λ e. absurd cc, λ f. absurd f)
 fault_iff (replies.Verdicts verdicts) = (λ e. absurd cc, λ f. absurd f)
 fault_iff (replies.Horizon oldest_xmin) = (λ e. absurd cc, λ f. absurd f)

@@ -1,5 +1,5 @@
 -- What the last commit and the last abort of a session were answered.
-use Rattle.std.specs.Prelude.{◌≡◌, ℕ, ◌<◌, not, Bool, true, false, List, Option, Some, None, length}
+use Rattle.std.specs.Prelude.{◌≡◌, ℕ, ◌<◌, Bool, true, false, List, Option, Some, None, length}
 use Rattle.std.specs.List.{HoldsAt}
 use Rattle.tx_events.specs.declared.refusal.Refusal.TheVariants as refusals
 use Rattle.tx_events.specs.declared.xact_end.XactEnd.{XactEnd}

@@ -1,14 +1,18 @@
 //! The oldest numbers that a life announces.
-ghost use Rattle.std.specs.Prelude.{◌≡◌, ◌↔◌, ◌∷◌, ◌++◌, [], List, IfOk, IsTrue, OnOk, cond, true};
+ghost use Rattle.std.specs.Prelude.{◌≡◌, ◌↔◌, ◌∷◌, ◌++◌, [], List, IfOk, IsTrue, OnOk, Contains, cond, true};
 ghost use Rattle.std.specs.BTreeSet.{contains};
 ghost use Rattle.std.specs.Ordering.{is_eq, nat_cmp};
+ghost use Rattle.tx_events.specs.declared.event.By.{By};
 ghost use Rattle.tx_events.specs.declared.event.Event.{Event};
+ghost use Rattle.tx_events.specs.declared.event.Event.TheVariants as events;
 ghost use Rattle.tx_events.specs.declared.multi.MultiEvent.{MultiEvent};
+ghost use Rattle.tx_events.specs.declared.multi.MultiEvent.TheVariants as multis;
 ghost use Rattle.life_law.specs.LifeLog.{IsAnnounced};
 ghost use Rattle.report_law.specs.Records.{IsAnnouncedMulti};
 ghost use Rattle.record_rules.specs.declared.announced.StartKey.{StartKey};
 ghost use Rattle.record_rules.specs.Firsts.{AreAnnounced, HasKeys, announces, raises, start_cmp};
 
+use crate::either::either;
 use crate::firsts::put_id;
 use std::alloc::Global;
 use std::collections::BTreeSet;
@@ -101,11 +105,31 @@ pub fn announced_of(
     Ok(Announced { ids, starts })
 }
 
+fn is_announced_id(ids: &BTreeSet<FullXid>, oldest: FullXid) -> bool
+    ensures { (h : List Event) → HasKeys nat_cmp announces h ids.now → IsTrue result ↔ ((by : By) × Contains h (events.Oldest by oldest)) }
+{
+    ids.contains(&oldest)
+}
+
+fn is_raised(starts: &BTreeSet<StartKey>, start: StartKey) -> bool
+    ensures { (m : List MultiEvent) → HasKeys start_cmp raises m starts.now → IsTrue result ↔ ((by : By) × Contains m (multis.Raise by start.multi start.offset)) }
+{
+    starts.contains(&start)
+}
+
+fn is_first_start(base: &Counters, multi: FullMulti, offset: u64) -> bool
+    ensures { IsTrue result ↔ ((multi ≡ base.now.oldest_multi) × (offset ≡ base.now.oldest_offset)) }
+{
+    multi == base.oldest_multi && offset == base.oldest_offset
+}
+
 /// Whether the id is the life's first oldest one, or is announced.
 pub fn is_announced(announced: &Announced, base: &Counters, oldest: FullXid) -> bool
     ensures { (h : List Event) (m : List MultiEvent) → AreAnnounced h m announced.now → IsTrue result ↔ IsAnnounced base.now h oldest }
 {
-    oldest == base.oldest || announced.ids.contains(&oldest)
+    let first = oldest == base.oldest;
+    let later = is_announced_id(&announced.ids, oldest);
+    either(first, later)
 }
 
 /// Whether the multixact and its offset are the life's first oldest ones, or are announced.
@@ -117,8 +141,7 @@ pub fn is_announced_multi(
 ) -> bool
     ensures { (h : List Event) (m : List MultiEvent) → AreAnnounced h m announced.now → IsTrue result ↔ IsAnnouncedMulti base.now m multi offset }
 {
-    if multi == base.oldest_multi && offset == base.oldest_offset {
-        return true;
-    }
-    announced.starts.contains(&StartKey { multi, offset })
+    let first = is_first_start(base, multi, offset);
+    let later = is_raised(&announced.starts, StartKey { multi, offset });
+    either(first, later)
 }

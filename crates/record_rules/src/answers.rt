@@ -83,6 +83,20 @@ fn note_lines(answers: &mut [Answers], lines: &[Line])
     }
 }
 
+/// Notes the lines of a step.
+#[tactic(auto, using(crate::proofs::Answering::none_more))]
+fn note_step(answers: &mut [Answers], step: &Step)
+    requires { length answers.old ≡ 64 }
+    ensures noted { (before : List Line) → AreAnswers before answers.old → AreAnswers (before ++ lines_in step.now) answers.new }
+    ensures size { length answers.new ≡ 64 }
+{
+    match step {
+        Step::Round { lines, .. } => note_lines(answers, lines.items()),
+        Step::Checkpoint { .. } => (),
+        Step::Dump { .. } => (),
+    }
+}
+
 /// No session has a line.
 #[tactic(auto, using(crate::proofs::Answering::none_noted))]
 fn no_answers(alloc: Global) -> Result<Vec<Answers>, Memory>
@@ -104,9 +118,7 @@ pub fn answers_of(alloc: Global, steps: &[Step]) -> Result<Vec<Answers>, Memory>
 {
     let mut answers = no_answers(alloc)?;
     for step in steps {
-        if let Step::Round { lines, .. } = step {
-            note_lines(answers.as_mut_slice(), lines.items());
-        }
+        note_step(answers.as_mut_slice(), step);
     }
     Ok(answers)
 }

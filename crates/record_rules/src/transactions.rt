@@ -1,6 +1,6 @@
 //! The transactions of a history: those that ended, and those that are open at its end.
 ghost use Rattle.std.specs.Prelude.{◌≡◌, ◌↔◌, ◌⊎◌, ◌<◌, ◌∷◌, ℕ, List, IfOk, IsTrue, false, true, length};
-ghost use Rattle.std.specs.List.{All, flat_map};
+ghost use Rattle.std.specs.List.{All, AllByRecursion, flat_map};
 ghost use Rattle.tx_events.specs.declared.event.Event.{Event};
 ghost use Rattle.tx_events.specs.declared.record.Counters.{Counters};
 ghost use Rattle.tx_events.specs.Base.{IsBase};
@@ -16,6 +16,7 @@ ghost use Rattle.record_rules.specs.Answered.{AreAnswers, IsAnswered, may_have};
 ghost use Rattle.record_rules.specs.Ends.{AreEnds, AreOpenXacts, AreTransactions, IsOpenXact};
 
 use crate::answers::{Answers, answers_of};
+use crate::either::either;
 use crate::ends::{EndedByTop, ids_of, note_end};
 use history_check::{HistoryReplay, OpenId};
 use std::alloc::Global;
@@ -160,28 +161,10 @@ fn has_open(xacts: &[OpenXact], how: XactEnd, top: FullXid, subs: &[FullXid]) ->
     false
 }
 
-fn either(one: bool, other: bool) -> bool
-    ensures yes { IsTrue result → IsTrue one ⊎ IsTrue other }
-    ensures no { result ≡ false → (one ≡ false) × (other ≡ false) }
-{
-    one || other
-}
-
 /// Whether the transaction of this top ended so with these subids, or it is open at the end and its session's last answer
 /// lets the log have its record. Takes the logarithm of how many ended, and looks at 64 sessions.
-pub fn is_end_recorded(
-    xacts: &Transactions,
-    how: XactEnd,
-    top: FullXid,
-    subs: &[FullXid],
-) -> bool
-    ghost base: { Counters }
-    ghost h: { List Event }
-    ghost lines: { List Line }
-    requires legal { IsLegal base h }
-    requires kept { AreTransactions h lines xacts.now }
-    requires each { All (λ e. (by_of e).session < 64) h }
-    ensures { IsTrue result ↔ (IsEndedAs h how top subs.now ⊎ ((s : ℕ) × IsOpenOf h s top subs.now × IsTrue (may_have how lines s))) }
+pub fn is_end_recorded(xacts: &Transactions, how: XactEnd, top: FullXid, subs: &[FullXid]) -> bool
+    ensures { (base : Counters) (h : List Event) (lines : List Line) → IsLegal base h → AllByRecursion (λ e. (by_of e).session < 64) h → AreTransactions h lines xacts.now → IsTrue result ↔ (IsEndedAs h how top subs.now ⊎ ((s : ℕ) × IsOpenOf h s top subs.now × IsTrue (may_have how lines s))) }
 {
     let ended = is_ended_as(&xacts.ends, how, top, subs);
     let open = has_open(xacts.opened.as_slice(), how, top, subs);

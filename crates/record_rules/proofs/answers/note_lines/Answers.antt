@@ -1,6 +1,5 @@
-use Rattle.std.proofs.Common.{◌+◌, ◌++◌, ◌∷◌, [], List, length, take, ap, sym, subst, ◌∙◌, arith}
-use Rattle.std.proofs.Math.Monoid.{append-assoc}
-use Rattle.std.proofs.lemmas.List.{take_all, take_more}
+use Rattle.std.proofs.Common.{◌++◌, ◌∷◌, [], List, take, ap, sym, subst, ◌∙◌, arith}
+use Rattle.std.proofs.lemmas.List.{append_assoc, take_all, take_more}
 use Rattle.tx_model.specs.declared.report.Line.{Line}
 use Rattle.record_rules.specs.Answered.{AreAnswers}
 use Rattle.record_rules.proofs.answers.note_lines.Goals as goal
@@ -10,7 +9,7 @@ loop-line-preserved c = record {
   size = c.note_line.ensures.size;
   noted = λ before a.
       let more = take_more c.args.lines.now c.loop-line.line-index c.line-item.result c.loop-line-test.true ∙ ap (λ (l : Line). take c.loop-line.line-index c.args.lines.now ++ l ∷ []) (sym c.line-item.is) in
-      subst (λ (t : List Line). AreAnswers t c.note_line.new.answers) (append-assoc before (take c.loop-line.line-index c.args.lines.now) (c.line-item.result ∷ []) ∙ ap (λ (t : List Line). before ++ t) (sym more))
+      subst (λ (t : List Line). AreAnswers t c.note_line.new.answers) (append_assoc before (take c.loop-line.line-index c.args.lines.now) (c.line-item.result ∷ []) ∙ ap (λ (t : List Line). before ++ t) (sym more))
       (c.note_line.ensures.noted (before ++ take c.loop-line.line-index c.args.lines.now) (c.loop-line.invariant.noted before a));
 }
 

@@ -4,11 +4,11 @@ use Rattle.std.proofs.lemmas.Bool.Decides.{nat_tests}
 use Rattle.tx_events.specs.Ids.{low_half}
 use Rattle.tx_events.specs.Nearest.{near_id, offset_near}
 
-some_of : (n k : ℕ) (b : Bool) → nat_lt n k ≡ b → (y : ℕ) → cond b None (Some (n - k)) ≡ Some y → (k ≤ n) × (n - k ≡ y)
+pub some_of : (n k : ℕ) (b : Bool) → nat_lt n k ≡ b → (y : ℕ) → cond b None (Some (n - k)) ≡ Some y → (k ≤ n) × (n - k ≡ y)
 some_of n k true t y e = absurd cc
 some_of n k false t y e = (grind (arith, nat_tests), cc)
 
-of_some : (n k : ℕ) (b : Bool) → nat_lt n k ≡ b → k ≤ n → cond b None (Some (n - k)) ≡ Some (n - k)
+pub of_some : (n k : ℕ) (b : Bool) → nat_lt n k ≡ b → k ≤ n → cond b None (Some (n - k)) ≡ Some (n - k)
 of_some n k true t l = absurd (grind (arith, nat_tests))
 of_some n k false t l = refl
 

@@ -45,7 +45,7 @@ bound_of (x ∷ all) (suc p) by e = let l = bound_of all p by e in omega arith
 
 -- ---- a pin
 
-its_by : (all : List MultiEvent) (p : ℕ) (e : MultiEvent) → slice_get all p ≡ Some e → slice_get (map multi_by all) p ≡ Some (multi_by e)
+pub its_by : (all : List MultiEvent) (p : ℕ) (e : MultiEvent) → slice_get all p ≡ Some e → slice_get (map multi_by all) p ≡ Some (multi_by e)
 its_by [] p e s = absurd cc
 its_by (x ∷ all) zero e s = let same : x ≡ e = cc in ap (λ (x : MultiEvent). Some (multi_by x)) same
 its_by (x ∷ all) (suc p) e s = its_by all p e s
@@ -53,7 +53,7 @@ its_by (x ∷ all) (suc p) e s = its_by all p e s
 pub pin_by : (all : List MultiEvent) (by : By) (p : ℕ) → IsPinAt all by p → slice_get (map multi_by all) p ≡ Some by
 pin_by all by p i = its_by all p (multis.Hold by i.0) i.1
 
-stands_at : (all : List MultiEvent) (p : ℕ) (e : MultiEvent) → p < length all → e ≡ get_or all p e → slice_get all p ≡ Some e
+pub stands_at : (all : List MultiEvent) (p : ℕ) (e : MultiEvent) → p < length all → e ≡ get_or all p e → slice_get all p ≡ Some e
 stands_at [] p e l i = absurd (omega arith)
 stands_at (x ∷ all) zero e l i = ap (λ (x : MultiEvent). Some x) (sym i)
 stands_at (x ∷ all) (suc p) e l i = stands_at all p e (omega arith) i

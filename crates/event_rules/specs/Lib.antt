@@ -1,0 +1,3 @@
+pub mod Lined
+pub mod Same
+pub mod Told

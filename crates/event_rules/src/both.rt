@@ -1,0 +1,62 @@
+//! What the rules of both histories ask alike.
+ghost use Rattle.std.specs.Prelude.{◌≡◌, ◌<◌, ◌↔◌, List, IsTrue, Some, length, map, take, slice_get};
+ghost use Rattle.tx_model.specs.declared.report.Step.{Step};
+ghost use Rattle.own_events.specs.Lined.{lines_from, numbered};
+ghost use Rattle.report_law.specs.Events.{StandsAt};
+ghost use Rattle.report_law.specs.Places.{IsNotLate};
+ghost use Rattle.report_law.specs.Steps.{Judged};
+ghost use Rattle.event_rules.specs.Told.{IsToldIn};
+
+use crate::same::Same;
+use own_events::{LineTable, OwnEvents, Owned};
+use tx_events::By;
+
+/// Whether the command has a line.
+pub fn stands(table: &LineTable, by: By) -> bool
+    ghost j: { Judged }
+    requires { table.now ≡ lines_from 0 j.steps }
+    ensures { IsTrue result ↔ StandsAt j by }
+{
+    table.number(by) < table.lines().len() as u64
+}
+
+/// Whether no event before the one at this place is of a later step.
+pub fn is_in_time<E: Owned>(
+    table: &LineTable,
+    own: &OwnEvents,
+    events: &[E],
+    place: u64,
+    by: By,
+) -> bool
+    requires numbers { own.now ≡ numbered table.now (map E.by events.now) }
+    requires within { place < length events.now }
+    ensures { (steps : List Step) → table.now ≡ lines_from 0 steps → IsTrue result ↔ IsNotLate steps (map E.by (take place events.now)) by }
+{
+    match table.lines().get(table.number(by) as usize) {
+        Some(line) => own.latest_at(place) <= line.step,
+        None => true,
+    }
+}
+
+/// Whether this event stands there among those that are told.
+fn is_told_by<E: Same>(list: &[E], rank: u64, event: &E) -> bool
+    ensures { IsTrue result ↔ (slice_get list.now rank ≡ Some event.now) }
+{
+    match list.get(rank as usize) {
+        Some(e) => e.is_same(event),
+        None => false,
+    }
+}
+
+/// Whether this event is the one that is told in this turn, of the line of this number.
+pub fn is_told_in<E: Same>(told: &[Option<Vec<E>>], number: u64, rank: u64, event: &E) -> bool
+    ensures { IsTrue result ↔ IsToldIn told.now number rank event.now }
+{
+    match told.get(number as usize) {
+        Some(line) => match line {
+            Some(list) => is_told_by(list.as_slice(), rank, event),
+            None => false,
+        },
+        None => false,
+    }
+}

@@ -1,0 +1,13 @@
+//! The rules of replies that go by no place of a history: want of memory, faults, what the log has room for and what it
+//! holds, and the replies that how a session stands alone brings. See docs/CHECKER.md.
+#![tactic(auto)]
+
+mod answers;
+mod faults;
+mod plain;
+mod room;
+
+pub use answers::{can_append, can_ask, can_flush, can_lack_memory};
+pub use faults::are_log_faults;
+pub use plain::is_plain_reply;
+pub use room::{Room, room_of};

@@ -7,11 +7,11 @@ use Rattle.tx_model.specs.Rounds.{lines_in}
 use Rattle.life_law.specs.Facts.{has_log_fault, is_checkpoint_fault, is_log_fault}
 use Rattle.report_law.specs.Answers.{AreLogFaults}
 
-either : (a b : Bool) → (a || b) ≡ true → (a ≡ true) ⊎ (b ≡ true)
+pub either : (a b : Bool) → (a || b) ≡ true → (a ≡ true) ⊎ (b ≡ true)
 either true b t = inl refl
 either false b t = inr t
 
-right_true : (a b : Bool) → b ≡ true → (a || b) ≡ true
+pub right_true : (a b : Bool) → b ≡ true → (a || b) ≡ true
 right_true true b t = refl
 right_true false b t = t
 

@@ -1,2 +1,3 @@
 pub mod Plainly
 pub mod Faulty
+pub mod Named

@@ -1,5 +1,7 @@
 -- What is lawful of a reply that goes by no place of a history.
-use Rattle.std.proofs.Common.{◌≡◌, ◌↔◌, false, List, None}
+use Rattle.std.proofs.Common.{◌≡◌, ◌≢◌, ◌↔◌, ℕ, Bool, false, true, List, Option, Some, None, refl, sym, ◌∙◌}
+use Rattle.std.specs.Prelude.{IsTrue, is_some}
+use Rattle.std.proofs.lemmas.Bool.{false≢true}
 use Rattle.tx_events.specs.declared.event.By.{By}
 use Rattle.tx_events.specs.declared.refusal.Refusal.TheVariants as refusals
 use Rattle.tx_model.specs.declared.command.Command.{Command}
@@ -50,3 +52,7 @@ plain_is j before round multi_round by s command (replies.Refused refusals.SnapL
 plain_is j before round multi_round by s command (replies.Refused refusals.NoSnapshot) plain other = absurd cc
 plain_is j before round multi_round by s commands.Save replies.Done plain other = (λ e. e, λ e. e)
 plain_is j before round multi_round by s command reply plain other = (λ e. e, λ e. e)
+
+pub some_is : (b : Bool) (o : Option ℕ) → b ≡ is_some o → IsTrue b ↔ (o ≢ None)
+some_is b None is = (λ t. absurd (false≢true (sym is ∙ t)), λ some. absurd (some refl))
+some_is b (Some n) is = (λ t none. absurd cc, λ some. is)

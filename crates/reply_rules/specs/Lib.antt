@@ -1,3 +1,4 @@
 pub mod Locks
 pub mod Plain
 pub mod Rooms
+pub mod Logs

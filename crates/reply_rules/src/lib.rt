@@ -4,10 +4,14 @@
 
 mod answers;
 mod faults;
+mod logged;
 mod plain;
 mod room;
+mod tops;
 
 pub use answers::{can_append, can_ask, can_flush, can_lack_memory};
 pub use faults::are_log_faults;
+pub use logged::{Logs, is_logged, is_ok_trim, truncations};
 pub use plain::is_plain_reply;
 pub use room::{Room, room_of};
+pub use tops::{commit_tops, recorded_multis};

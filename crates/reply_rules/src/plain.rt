@@ -1,17 +1,31 @@
 //! The replies that go by no place of a history.
-ghost use Rattle.std.specs.Prelude.{◌≡◌, ◌↔◌, IsTrue, List, None, false};
+ghost use Rattle.std.specs.Prelude.{◌≡◌, ◌≢◌, ◌↔◌, IsTrue, List, None, false, is_some};
 ghost use Rattle.tx_events.specs.declared.event.By.{By};
 ghost use Rattle.tx_model.specs.declared.report.Line.{Line};
 ghost use Rattle.tx_model.specs.Replies.{RoundSpan};
+ghost use Rattle.tx_model.specs.Stance.{snap_of};
 ghost use Rattle.life_law.specs.Refused.{by_standing};
 ghost use Rattle.report_law.specs.Steps.{IsLawfulByHistory, Judged};
 ghost use Rattle.reply_rules.specs.Plain.{IsPlainDone, goes_by_places};
 
 use line_stances::Standing;
+use tx_events::Name;
 use tx_model::{Command, Reply};
 
 /// A transaction has at most so many levels: itself and 1,000 savepoints.
 const MOST_LEVELS: u64 = 1001;
+
+fn has_snapshot(name: &Name, standing: &Standing) -> bool
+    ensures { result ≡ is_some (snap_of name.now standing.now) }
+{
+    standing.snaps.command_of(name.items()).is_some()
+}
+
+fn can_drop(name: &Name, standing: &Standing) -> bool
+    ensures { IsTrue result ↔ (snap_of name.now standing.now ≢ None) }
+{
+    has_snapshot(name, standing)
+}
 
 /// Whether the session stands so that the command is answered `ok`.
 fn is_plain_done(standing: &Standing, command: &Command) -> bool
@@ -25,7 +39,7 @@ fn is_plain_done(standing: &Standing, command: &Command) -> bool
         Command::Undo => depth >= 2,
         Command::Commit => depth > 0,
         Command::Abort => depth > 0,
-        Command::DropSnap { name } => standing.snaps.command_of(name.items()).is_some(),
+        Command::DropSnap { name } => can_drop(name, standing),
         Command::Freeze { .. } => true,
         _ => false,
     }

@@ -1,0 +1,5 @@
+pub mod Walks
+pub mod Behind
+pub mod Fronts
+pub mod FrontsAtEvents
+pub mod FrontsOfMultis

@@ -17,10 +17,10 @@ abbrev IsNamed : List Rec → ℕ → Type 0
 IsNamed recs x = (subs : List ℕ) × Contains recs (records.Commit x subs)
 
 named_later : (rec : Rec) (recs : List Rec) (x : ℕ) → IsNamed recs x → IsNamed (rec ∷ recs) x
-named_later rec recs x n = let l = n.1.1 in (n.0, suc n.1.0, omega arith, n.1.2)
+named_later rec recs x n = let l = n.1.1 in (n.0, (suc n.1.0, omega arith, n.1.2))
 
 named_first : (rec : Rec) (recs : List Rec) (x : ℕ) → is_commit_of x rec ≡ true → IsNamed (rec ∷ recs) x
-named_first (records.Commit top subs) recs x t = (subs, 0, omega arith, ap (λ n. records.Commit n subs) (eqb-true top x t))
+named_first (records.Commit top subs) recs x t = (subs, (0, omega arith, ap (λ n. records.Commit n subs) (eqb-true top x t)))
 named_first rec recs x t = absurd cc
 
 is_named : (recs : List Rec) (x : ℕ) → list_any (is_commit_of x) recs ≡ true → IsNamed recs x
@@ -48,10 +48,10 @@ abbrev pub IsGiven : List Rec → ℕ → Type 0
 IsGiven recs x = (at : ℕ) × (members : List Member) × Contains recs (records.Multi x at members)
 
 given_later : (rec : Rec) (recs : List Rec) (x : ℕ) → IsGiven recs x → IsGiven (rec ∷ recs) x
-given_later rec recs x n = let l = n.2.1 in (n.0, n.1, suc n.2.0, omega arith, n.2.2)
+given_later rec recs x n = let l = n.2.1 in (n.0, n.1, (suc n.2.0, omega arith, n.2.2))
 
 given_first : (rec : Rec) (recs : List Rec) (x : ℕ) → is_same_multi x rec ≡ true → IsGiven (rec ∷ recs) x
-given_first (records.Multi multi at members) recs x t = (at, members, 0, omega arith, ap (λ n. records.Multi n at members) (eqb-true multi x t))
+given_first (records.Multi multi at members) recs x t = (at, members, (0, omega arith, ap (λ n. records.Multi n at members) (eqb-true multi x t)))
 given_first rec recs x t = absurd cc
 
 pub is_given : (recs : List Rec) (x : ℕ) → list_any (is_same_multi x) recs ≡ true → IsGiven recs x

@@ -2,3 +2,4 @@ pub mod Locks
 pub mod Plain
 pub mod Rooms
 pub mod Logs
+pub mod Ends

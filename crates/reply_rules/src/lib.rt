@@ -6,6 +6,7 @@ mod answers;
 mod faults;
 mod logged;
 mod plain;
+mod refusals;
 mod room;
 mod tops;
 
@@ -13,5 +14,6 @@ pub use answers::{can_append, can_ask, can_flush, can_lack_memory};
 pub use faults::are_log_faults;
 pub use logged::{Logs, is_logged, is_ok_trim, truncations};
 pub use plain::is_plain_reply;
+pub use refusals::{LogEnd, is_lawful_full_commit, is_lawful_refusal};
 pub use room::{Room, room_of};
 pub use tops::{commit_tops, recorded_multis};

@@ -31,4 +31,4 @@ multi_size command = 25
 
 -- that of a commit of so many open ids, of more than 2^64 - 1 bytes this number
 abbrev pub commit_size : ℕ → ℕ
-commit_size open = min (max 25 (13 + 8 * (open - 1))) (2 ^ 64 - 1)
+commit_size ids = min (max 25 (13 + 8 * (ids - 1))) (2 ^ 64 - 1)

@@ -3,3 +3,4 @@ pub mod Plain
 pub mod Rooms
 pub mod Logs
 pub mod Ends
+pub mod Gens

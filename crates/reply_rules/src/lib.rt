@@ -8,6 +8,7 @@ mod logged;
 mod plain;
 mod refusals;
 mod room;
+mod stray;
 mod tops;
 
 pub use answers::{can_append, can_ask, can_flush, can_lack_memory};
@@ -16,4 +17,5 @@ pub use logged::{Logs, is_logged, is_ok_trim, truncations};
 pub use plain::is_plain_reply;
 pub use refusals::{LogEnd, is_lawful_full_commit, is_lawful_refusal};
 pub use room::{Room, room_of};
+pub use stray::is_any_stray;
 pub use tops::{commit_tops, recorded_multis};

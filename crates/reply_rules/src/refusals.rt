@@ -61,18 +61,18 @@ pub fn is_lawful_refusal(end: LogEnd, command: &Command, refusal: &Refusal) -> b
 }
 
 /// The length of a commit's longest record, where the session has so many ids open.
-fn commit_size(open: u64) -> u64
-    ensures { result ≡ commit_size open }
+fn commit_size(ids: u64) -> u64
+    ensures { result ≡ commit_size ids }
 {
-    let subs = open.saturating_sub(1);
+    let subs = ids.saturating_sub(1);
     let size = 13_u64.saturating_add(subs.saturating_mul(8));
     size.max(25)
 }
 
 /// Whether a commit may be refused since the log is full: where the round isn't judged, or there is no room for the record
 /// of so many ids that the session has open.
-pub fn is_lawful_full_commit(end: LogEnd, judged: bool, open: u64) -> bool
-    ensures { (j : Judged) (rounds lines before : List Line) (round multi_round : RoundSpan) (by : By) (s : Stance) → IsLogEnd j end → (IsTrue judged ↔ AreJudged j rounds lines) → (AreJudged j rounds lines → open ≡ length (open_ids by.session (own_before by (take round.to j.life.events)))) → IsTrue result ↔ IsLawfulReply (AreJudged j rounds lines) j before round multi_round by s commands.Commit (replies.Refused refusals.Full) }
+pub fn is_lawful_full_commit(end: LogEnd, judged: bool, ids: u64) -> bool
+    ensures { (j : Judged) (rounds lines before : List Line) (round multi_round : RoundSpan) (by : By) (s : Stance) → IsLogEnd j end → (IsTrue judged ↔ AreJudged j rounds lines) → (AreJudged j rounds lines → ids ≡ length (open_ids by.session (own_before by (take round.to j.life.events)))) → IsTrue result ↔ IsLawfulReply (AreJudged j rounds lines) j before round multi_round by s commands.Commit (replies.Refused refusals.Full) }
 {
-    !judged || end.room.lacks(commit_size(open))
+    !judged || end.room.lacks(commit_size(ids))
 }

@@ -13,22 +13,23 @@ use Rattle.tx_events.proofs.ListSteps.{eqb-refl}
 use Rattle.tx_model.specs.declared.report.Line.{Line}
 use Rattle.tx_model.specs.Lines.{is_line_of, stance}
 use Rattle.tx_model.specs.Stance.{Stance, after, nothing_yet, stance_from, top_level}
-use Rattle.life_law.specs.Pending.{pending, pending_after, pending_from}
+use Rattle.life_law.specs.Pending.{is_recorded, pending, pending_after, pending_from}
 use Rattle.report_law.specs.Places.{multis_of}
 use Rattle.report_law.specs.Standing.{Unfinished, none, unfinished, unfinished_behind, unfinished_from}
 use Rattle.standing_rules.specs.Told.{told_of}
 use Rattle.life_check.specs.declared.sessions.Session.{Session}
-use Rattle.life_check.specs.Sessions.{AreBehind, IsBehind, IsFresh, Lived, with_line}
+use Rattle.life_check.specs.Sessions.{AreBehind, IsAdded, IsBehind, IsFresh, Lived, with_line}
 
 -- ---- a session's lines
 
 filter_append : (session : ℕ) (xs ys : List Line) → filter (is_line_of session) (xs ++ ys) ≡ filter (is_line_of session) xs ++ filter (is_line_of session) ys
 filter_append session [] ys = refl
-filter_append session (x ∷ xs) ys = step (is_line_of session x)
+filter_append session (x ∷ xs) ys = step (is_line_of session x) (filter_append session xs ys)
   where
-    step : (b : Bool) → cond b (x ∷ filter (is_line_of session) (xs ++ ys)) (filter (is_line_of session) (xs ++ ys)) ≡ cond b (x ∷ filter (is_line_of session) xs) (filter (is_line_of session) xs) ++ filter (is_line_of session) ys
-    step true = ap (λ (l : List Line). x ∷ l) (filter_append session xs ys)
-    step false = filter_append session xs ys
+    step : (b : Bool) → filter (is_line_of session) (xs ++ ys) ≡ filter (is_line_of session) xs ++ filter (is_line_of session) ys
+        → cond b (x ∷ filter (is_line_of session) (xs ++ ys)) (filter (is_line_of session) (xs ++ ys)) ≡ cond b (x ∷ filter (is_line_of session) xs) (filter (is_line_of session) xs) ++ filter (is_line_of session) ys
+    step true e = ap (λ (l : List Line). x ∷ l) e
+    step false e = e
 
 own_line : (l : Line) (xs : List Line) → filter (is_line_of l.by.session) (xs ++ l ∷ []) ≡ filter (is_line_of l.by.session) xs ++ l ∷ []
 own_line l xs = filter_append l.by.session xs (l ∷ []) ∙ ap (λ b. filter (is_line_of l.by.session) xs ++ cond b (l ∷ []) []) (eqb-refl l.by.session)
@@ -58,6 +59,21 @@ pending_more recs h xs l = ap (pending_from recs h nothing_yet None) (own_line l
 
 pub unfinished_more : (h : List MultiEvent) (xs : List Line) (l : Line) → unfinished h (xs ++ l ∷ []) l.by.session ≡ unfinished_behind (unfinished h xs l.by.session) (nat_lt 0 (length (multis_of l.by h))) l.command l.reply
 unfinished_more h xs l = ap (unfinished_from h none) (own_line l xs) ∙ unfinished_push h none (filter (is_line_of l.by.session) xs) l
+
+pub behind_added : (v : Lived) (l : Line) (ids : List ℕ) (gave recorded : Bool) (old new : Session) → IsAdded v l ids gave → IsBehind v l.by.session old → recorded ≡ is_recorded v.recs (top_level old.standing.levels)
+    → new.standing ≡ after old.standing l.by.command l.command l.reply ids
+    → ((recs : List Rec) (s : Stance) → recorded ≡ is_recorded recs (top_level s.levels) → new.pending ≡ pending_after recs s old.pending l.command l.reply)
+    → told_of new.unfinished ≡ unfinished_behind (told_of old.unfinished) gave l.command l.reply → IsBehind (with_line v l) l.by.session new
+behind_added v l ids gave recorded old new added b recorded_is stands held left =
+    let s = stance v.events v.lines l.by.session in
+    record {
+      stands = stands ∙ ap (λ (x : Stance). after x l.by.command l.command l.reply ids) b.stands
+          ∙ ap (after s l.by.command l.command l.reply) added.given_ids ∙ sym (stance_more v.events v.lines l);
+      held = held v.recs s (recorded_is ∙ ap (λ (x : Stance). is_recorded v.recs (top_level x.levels)) b.stands)
+          ∙ ap (λ (o : Option Refusal). pending_after v.recs s o l.command l.reply) b.held ∙ sym (pending_more v.recs v.events v.lines l);
+      left = left ∙ ap (λ (u : Unfinished). unfinished_behind u gave l.command l.reply) b.left
+          ∙ ap (λ (g : Bool). unfinished_behind (unfinished v.multis v.lines l.by.session) g l.command l.reply) added.gave_one ∙ sym (unfinished_more v.multis v.lines l);
+    }
 
 -- ---- another session stands as before
 

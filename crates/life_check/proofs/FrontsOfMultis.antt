@@ -46,105 +46,105 @@ module _ (all : List MultiEvent) (n : ℕ) (round : RoundSpan) (fits : round.to 
   pub stop_all : (base : Counters) (by : By) (next stop : ℕ) → IsMultiStop base (take n all) round by next stop ↔ IsMultiStop base all round by next stop
   stop_all base by next stop = (
     λ s. let e = same_front s.place s.read.not_past in record {
-          place = s.place;
-          read = (read_all by s.place).0 s.read;
-          next_is = s.next_is ∙ ap (next_made base.multi) e;
-          stop_is = s.stop_is ∙ ap (λ (t : List MultiEvent). multi_stop_limit (oldest_multi base.oldest_multi t)) e;
-          reached = s.reached;
-        },
+      place = s.place;
+      read = (read_all by s.place).0 s.read;
+      next_is = s.next_is ∙ ap (next_made base.multi) e;
+      stop_is = s.stop_is ∙ ap (λ (t : List MultiEvent). multi_stop_limit (oldest_multi base.oldest_multi t)) e;
+      reached = s.reached;
+    },
     λ s. let e = sym (same_front s.place s.read.not_past) in record {
-          place = s.place;
-          read = (read_all by s.place).1 s.read;
-          next_is = s.next_is ∙ ap (next_made base.multi) e;
-          stop_is = s.stop_is ∙ ap (λ (t : List MultiEvent). multi_stop_limit (oldest_multi base.oldest_multi t)) e;
-          reached = s.reached;
-        },
+      place = s.place;
+      read = (read_all by s.place).1 s.read;
+      next_is = s.next_is ∙ ap (next_made base.multi) e;
+      stop_is = s.stop_is ∙ ap (λ (t : List MultiEvent). multi_stop_limit (oldest_multi base.oldest_multi t)) e;
+      reached = s.reached;
+    },
   )
 
   pub member_stop_all : (base : Counters) (by : By) (count next stop : ℕ) → IsMemberStop base (take n all) round by count next stop ↔ IsMemberStop base all round by count next stop
   member_stop_all base by count next stop = (
     λ s. let e = same_front s.place s.read.not_past in record {
-          place = s.place;
-          read = (read_all by s.place).0 s.read;
-          next_is = s.next_is ∙ ap (λ (t : List MultiEvent). first_member (free_offset base.offset t)) e;
-          stop_is = s.stop_is ∙ ap (λ (t : List MultiEvent). member_stop (oldest_offset base.oldest_offset t)) e;
-          reached = s.reached;
-        },
+      place = s.place;
+      read = (read_all by s.place).0 s.read;
+      next_is = s.next_is ∙ ap (λ (t : List MultiEvent). first_member (free_offset base.offset t)) e;
+      stop_is = s.stop_is ∙ ap (λ (t : List MultiEvent). member_stop (oldest_offset base.oldest_offset t)) e;
+      reached = s.reached;
+    },
     λ s. let e = sym (same_front s.place s.read.not_past) in record {
-          place = s.place;
-          read = (read_all by s.place).1 s.read;
-          next_is = s.next_is ∙ ap (λ (t : List MultiEvent). first_member (free_offset base.offset t)) e;
-          stop_is = s.stop_is ∙ ap (λ (t : List MultiEvent). member_stop (oldest_offset base.oldest_offset t)) e;
-          reached = s.reached;
-        },
+      place = s.place;
+      read = (read_all by s.place).1 s.read;
+      next_is = s.next_is ∙ ap (λ (t : List MultiEvent). first_member (free_offset base.offset t)) e;
+      stop_is = s.stop_is ∙ ap (λ (t : List MultiEvent). member_stop (oldest_offset base.oldest_offset t)) e;
+      reached = s.reached;
+    },
   )
 
   pub multi_backward_all : (base : Counters) (by : By) (multi now : ℕ) → IsMultiBackward base (take n all) round by multi now ↔ IsMultiBackward base all round by multi now
   multi_backward_all base by multi now = (
     λ s. record {
-          place = s.place;
-          read = (read_all by s.place).0 s.read;
-          now_is = s.now_is ∙ ap (oldest_multi base.oldest_multi) (same_front s.place s.read.not_past);
-          older = s.older;
-        },
+      place = s.place;
+      read = (read_all by s.place).0 s.read;
+      now_is = s.now_is ∙ ap (oldest_multi base.oldest_multi) (same_front s.place s.read.not_past);
+      older = s.older;
+    },
     λ s. record {
-          place = s.place;
-          read = (read_all by s.place).1 s.read;
-          now_is = s.now_is ∙ ap (oldest_multi base.oldest_multi) (sym (same_front s.place s.read.not_past));
-          older = s.older;
-        },
+      place = s.place;
+      read = (read_all by s.place).1 s.read;
+      now_is = s.now_is ∙ ap (oldest_multi base.oldest_multi) (sym (same_front s.place s.read.not_past));
+      older = s.older;
+    },
   )
 
   pub held_all : (base : Counters) (by : By) (multi limit : ℕ) → IsHeldBack base (take n all) round by multi limit ↔ IsHeldBack base all round by multi limit
   held_all base by multi limit = (
     λ s. record {
-          place = s.place;
-          read = (read_all (record by { command = by.command - 1 }) s.place).0 s.read;
-          limit_is = s.limit_is ∙ ap (pin_limit base.multi) (same_front s.place s.read.not_past);
-          past = s.past;
-        },
+      place = s.place;
+      read = (read_all (record by { command = by.command - 1 }) s.place).0 s.read;
+      limit_is = s.limit_is ∙ ap (pin_limit base.multi) (same_front s.place s.read.not_past);
+      past = s.past;
+    },
     λ s. record {
-          place = s.place;
-          read = (read_all (record by { command = by.command - 1 }) s.place).1 s.read;
-          limit_is = s.limit_is ∙ ap (pin_limit base.multi) (sym (same_front s.place s.read.not_past));
-          past = s.past;
-        },
+      place = s.place;
+      read = (read_all (record by { command = by.command - 1 }) s.place).1 s.read;
+      limit_is = s.limit_is ∙ ap (pin_limit base.multi) (sym (same_front s.place s.read.not_past));
+      past = s.past;
+    },
   )
 
   pub multi_old_all : (base : Counters) (by : By) (m oldest : ℕ) → IsMultiTooOld base (take n all) round by m oldest ↔ IsMultiTooOld base all round by m oldest
   multi_old_all base by m oldest = (
     λ s. let e = same_front s.place s.read.not_past in record {
-          place = s.place;
-          read = (read_all by s.place).0 s.read;
-          oldest_is = s.oldest_is ∙ ap (oldest_multi base.oldest_multi) e;
-          older = subst (λ (t : List MultiEvent). IfSome (near_id (next_made base.multi t) m) (λ multi. multi < oldest)) e s.older;
-        },
+      place = s.place;
+      read = (read_all by s.place).0 s.read;
+      oldest_is = s.oldest_is ∙ ap (oldest_multi base.oldest_multi) e;
+      older = subst (λ (t : List MultiEvent). IfSome (near_id (next_made base.multi t) m) (λ multi. multi < oldest)) e s.older;
+    },
     λ s. let e = sym (same_front s.place s.read.not_past) in record {
-          place = s.place;
-          read = (read_all by s.place).1 s.read;
-          oldest_is = s.oldest_is ∙ ap (oldest_multi base.oldest_multi) e;
-          older = subst (λ (t : List MultiEvent). IfSome (near_id (next_made base.multi t) m) (λ multi. multi < oldest)) e s.older;
-        },
+      place = s.place;
+      read = (read_all by s.place).1 s.read;
+      oldest_is = s.oldest_is ∙ ap (oldest_multi base.oldest_multi) e;
+      older = subst (λ (t : List MultiEvent). IfSome (near_id (next_made base.multi t) m) (λ multi. multi < oldest)) e s.older;
+    },
   )
 
   pub multi_future_all : (base : Counters) (by : By) (m next : ℕ) → IsMultiFuture base (take n all) round by m next ↔ IsMultiFuture base all round by m next
   multi_future_all base by m next = (
     λ s. let e = same_front s.place s.read.not_past in record {
-          place = s.place;
-          read = (read_all by s.place).0 s.read;
-          multi = s.multi;
-          near = sym (ap (λ (t : List MultiEvent). near_id (next_made base.multi t) m) e) ∙ s.near;
-          next_is = s.next_is ∙ ap (next_made base.multi) e;
-          past = s.past;
-        },
+      place = s.place;
+      read = (read_all by s.place).0 s.read;
+      multi = s.multi;
+      near = sym (ap (λ (t : List MultiEvent). near_id (next_made base.multi t) m) e) ∙ s.near;
+      next_is = s.next_is ∙ ap (next_made base.multi) e;
+      past = s.past;
+    },
     λ s. let e = same_front s.place s.read.not_past in record {
-          place = s.place;
-          read = (read_all by s.place).1 s.read;
-          multi = s.multi;
-          near = ap (λ (t : List MultiEvent). near_id (next_made base.multi t) m) e ∙ s.near;
-          next_is = s.next_is ∙ ap (next_made base.multi) (sym e);
-          past = s.past;
-        },
+      place = s.place;
+      read = (read_all by s.place).1 s.read;
+      multi = s.multi;
+      near = ap (λ (t : List MultiEvent). near_id (next_made base.multi t) m) e ∙ s.near;
+      next_is = s.next_is ∙ ap (next_made base.multi) (sym e);
+      past = s.past;
+    },
   )
 
 -- ---- verdicts

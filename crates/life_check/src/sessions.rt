@@ -1,6 +1,7 @@
 //! How each session stands, line by line.
 ghost use Rattle.std.specs.Prelude.{◌≡◌, ◌<◌, List, [], IfOk, OnOk, length};
 ghost use Rattle.tx_events.specs.declared.record.Rec.{Rec};
+ghost use Rattle.tx_model.specs.Stance.{top_level};
 ghost use Rattle.life_law.specs.Pending.{is_recorded};
 ghost use Rattle.reply_rules.specs.Logs.{AreTops};
 ghost use Rattle.life_check.specs.Sessions.{AreBehind, IsAdded, IsBehind, Lived, with_line};
@@ -36,7 +37,6 @@ pub fn new_sessions(alloc: Global, count: u32) -> Result<Vec<Session>, Memory>
     Ok(all)
 }
 
-/// Whether a commit record stands of the transaction that the session has open, which has this id.
 fn is_recorded(tops: &BTreeSet<u64>, top: Option<FullXid>) -> bool
     ensures { (recs : List Rec) → AreTops recs tops.now → result ≡ is_recorded recs top }
 {
@@ -44,6 +44,13 @@ fn is_recorded(tops: &BTreeSet<u64>, top: Option<FullXid>) -> bool
         Some(top) => tops.contains(&top.number()),
         None => false,
     }
+}
+
+/// Whether a commit record stands of the transaction that is open, whose records are of these tops.
+fn is_open_recorded(tops: &BTreeSet<u64>, standing: &Standing) -> bool
+    ensures { (recs : List Rec) → AreTops recs tops.now → result ≡ is_recorded recs (top_level standing.now.levels) }
+{
+    is_recorded(tops, standing.levels.top())
 }
 
 /// A session's line more, whose command gave these ids, and a multixact or none.
@@ -56,7 +63,7 @@ fn add_to(
 ) -> Result<(), Memory>
     ensures { (v : Lived) → AreTops v.recs tops.now → IsAdded v line.now ids.now gave → IsBehind v line.now.by.session session.old → OnOk result (IsBehind (with_line v line.now) line.now.by.session session.new) }
 {
-    let recorded = is_recorded(tops, session.standing.levels.top());
+    let recorded = is_open_recorded(tops, &session.standing);
     session.pending = pending_after(recorded, session.pending, &line.command, &line.reply);
     session.unfinished = unfinished_behind(session.unfinished, gave, &line.command, &line.reply);
     session.standing.add(line, ids)
@@ -72,11 +79,17 @@ pub fn add_line(
     gave: bool,
 ) -> Result<(), Memory>
     ghost v: { Lived }
-    requires { line.now.by.session < length sessions.old.items }
-    requires { AreTops v.recs tops.now }
-    requires { IsAdded v line.now ids.now gave }
-    requires { AreBehind v (length sessions.old.items) sessions.old.items }
+    requires session { line.now.by.session < length sessions.old.items }
+    requires tops { AreTops v.recs tops.now }
+    requires added { IsAdded v line.now ids.now gave }
+    requires stand { AreBehind v (length sessions.old.items) sessions.old.items }
     ensures { OnOk result (AreBehind (with_line v line.now) (length sessions.old.items) sessions.new.items) }
 {
-    add_to(&mut sessions[line.by.session as usize], tops, line, ids, gave)
+    add_to(
+        &mut sessions[line.by.session as usize],
+        tops,
+        line,
+        ids,
+        gave,
+    )
 }

@@ -94,8 +94,8 @@ module _ (base : Counters) (h : List Event) (r : Replayed) (f : IsFront base h r
       let at : slice_get (take to h) n ≡ Some one.0 = got n to h past ∙ one.1 in
       let cut : take n (take to h) ≡ take n h = taken n to h (omega arith) in
       absurd (next_amiss one.0 one.1
-        (subst (λ (es : List Event). MayCome base es one.0) cut (whole.rules n one.0 at))
-        (subst (λ (es : List Event). ComesInTurn es one.0) cut (whole.turns n one.0 at))))
+      (subst (λ (es : List Event). MayCome base es one.0) cut (whole.rules n one.0 at))
+      (subst (λ (es : List Event). ComesInTurn es one.0) cut (whole.turns n one.0 at))))
       (λ (u : to ≤ length r.events). u)
       (cases_lt (length r.events) to)
 

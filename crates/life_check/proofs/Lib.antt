@@ -3,3 +3,4 @@ pub mod Behind
 pub mod Fronts
 pub mod FrontsAtEvents
 pub mod FrontsOfMultis
+pub mod Sections

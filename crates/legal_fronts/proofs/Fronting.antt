@@ -1,7 +1,8 @@
 -- How far a history is legal, by its longest legal front.
 use Rattle.std.proofs.Common.{◌≡◌, ◌↔◌, ℕ, zero, suc, ◌+◌, ◌<◌, ◌≤◌, List, [], ◌∷◌, ◌++◌, Option, Some, None, length, take, drop, get_or, refl, sym, ap, subst, ◌∙◌, arith, ⊎_elim}
+use Rattle.std.specs.Prelude.{IsTrue, nat_le, nat_lt}
 use Rattle.std.specs.List.{slice_get}
-use Rattle.std.proofs.lemmas.Bool.{cases_lt}
+use Rattle.std.proofs.lemmas.Bool.{cases_lt, le-leb, leb-true, lt-ltb, ltb-true}
 use Rattle.std.proofs.lemmas.List.{length-take-le, take_more}
 use Rattle.std.proofs.lemmas.Option.{slice_get-get_or, slice_get_within}
 use Rattle.tx_events.specs.declared.event.By.{By}
@@ -68,6 +69,15 @@ same_length [] x [] y s = refl
 same_length [] x (z ∷ ys) y s = absurd (omega arith)
 same_length (z ∷ xs) x [] y s = absurd (omega arith)
 same_length (z ∷ xs) x (w ∷ ys) y s = ap suc (same_length xs x ys y (omega arith))
+
+pub test_lt : (a n m : ℕ) → n ≡ m → IsTrue (nat_lt a n) ↔ (a < m)
+test_lt a n m e = (λ t. let l : a < n = ltb-true a n t in omega arith, λ l. let k : a < n = omega arith in lt-ltb a n k)
+
+pub test_le : (a n m : ℕ) → n ≡ m → IsTrue (nat_le a n) ↔ (a ≤ m)
+test_le a n m e = (λ t. let l : a ≤ n = leb-true a n t in omega arith, λ l. let k : a ≤ n = omega arith in le-leb a n k)
+
+pub both_ways : {A B C : Type 0} → A ↔ B → B ↔ C → A ↔ C
+both_ways f g = (λ a. g.0 (f.0 a), λ c. f.1 (g.1 c))
 
 -- ---- the front
 

@@ -4,3 +4,4 @@ pub mod Fronts
 pub mod FrontsAtEvents
 pub mod FrontsOfMultis
 pub mod Sections
+pub mod Theirs

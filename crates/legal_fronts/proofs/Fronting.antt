@@ -38,10 +38,13 @@ all_taken zero (x ∷ xs) l = absurd (omega arith)
 all_taken {X} (suc n) (x ∷ xs) l = ap (λ (t : List X). x ∷ t) (all_taken n xs (omega arith))
 
 -- one item more
+more_suc : {X : Type 0} (n : ℕ) (xs : List X) (x : X) → slice_get xs n ≡ Some x → take (suc n) xs ≡ take n xs ++ x ∷ []
+more_suc n [] x e = absurd cc
+more_suc {X} zero (y ∷ xs) x e = let same : y ≡ x = cc in ap (λ (z : X). z ∷ []) same
+more_suc {X} (suc n) (y ∷ xs) x e = ap (λ (t : List X). y ∷ t) (more_suc n xs x e)
+
 pub one_more : {X : Type 0} (n : ℕ) (xs : List X) (x : X) → slice_get xs n ≡ Some x → take (n + 1) xs ≡ take n xs ++ x ∷ []
-one_more n [] x e = absurd cc
-one_more {X} zero (y ∷ xs) x e = let same : y ≡ x = cc in ap (λ (z : X). z ∷ []) same
-one_more {X} (suc n) (y ∷ xs) x e = ap (λ (t : List X). y ∷ t) (one_more n xs x e)
+one_more n xs x e = let z : suc n ≡ n + 1 = omega arith in subst (λ k. take k xs ≡ take n xs ++ x ∷ []) z (more_suc n xs x e)
 
 got_push : {X : Type 0} (xs : List X) (x : X) (p : ℕ) → p < length xs → slice_get (xs ++ x ∷ []) p ≡ slice_get xs p
 got_push [] x p l = absurd (omega arith)

@@ -17,15 +17,21 @@ use Rattle.life_check.proofs.Walks.{all_append, broken_first, broken_left, broke
 
 -- ---- one item of a list
 
+split_suc : {X : Type 0} (xs : List X) (p : ℕ) (x : X) → slice_get xs p ≡ Some x → xs ≡ take p xs ++ x ∷ drop (suc p) xs
+split_suc [] p x e = absurd cc
+split_suc {X} (y ∷ xs) zero x e = let same : y ≡ x = cc in ap (λ (z : X). z ∷ xs) same
+split_suc {X} (y ∷ xs) (suc p) x e = ap (λ (t : List X). y ∷ t) (split_suc xs p x e)
+
 split_at : {X : Type 0} (xs : List X) (p : ℕ) (x : X) → slice_get xs p ≡ Some x → xs ≡ take p xs ++ x ∷ drop (p + 1) xs
-split_at [] p x e = absurd cc
-split_at {X} (y ∷ xs) zero x e = let same : y ≡ x = cc in ap (λ (z : X). z ∷ xs) same
-split_at {X} (y ∷ xs) (suc p) x e = ap (λ (t : List X). y ∷ t) (split_at xs p x e)
+split_at xs p x e = let z : suc p ≡ p + 1 = omega arith in subst (λ k. xs ≡ take p xs ++ x ∷ drop k xs) z (split_suc xs p x e)
+
+more_suc : {X : Type 0} (n : ℕ) (xs : List X) (x : X) → slice_get xs n ≡ Some x → take (suc n) xs ≡ take n xs ++ x ∷ []
+more_suc n [] x e = absurd cc
+more_suc {X} zero (y ∷ xs) x e = let same : y ≡ x = cc in ap (λ (z : X). z ∷ []) same
+more_suc {X} (suc n) (y ∷ xs) x e = ap (λ (t : List X). y ∷ t) (more_suc n xs x e)
 
 one_more : {X : Type 0} (n : ℕ) (xs : List X) (x : X) → slice_get xs n ≡ Some x → take (n + 1) xs ≡ take n xs ++ x ∷ []
-one_more n [] x e = absurd cc
-one_more {X} zero (y ∷ xs) x e = let same : y ≡ x = cc in ap (λ (z : X). z ∷ []) same
-one_more {X} (suc n) (y ∷ xs) x e = ap (λ (t : List X). y ∷ t) (one_more n xs x e)
+one_more n xs x e = let z : suc n ≡ n + 1 = omega arith in subst (λ k. take k xs ≡ take n xs ++ x ∷ []) z (more_suc n xs x e)
 
 same_count : (xs : List ReportLine) (m n : ℕ) → m ≡ n → IsFirstBroken xs m → IsFirstBroken xs n
 same_count xs m n e b = subst (λ k. IsFirstBroken xs k) e b
@@ -37,17 +43,19 @@ module _ {X : Type 0} (line : ℕ → X → ReportLine) (xs : List X) where
   placed_next p x a at l =
       let within = slice_get_within xs p x at in
       let size : length (take p xs) ≡ p = length-take-le p xs (omega arith) in
+      let shift : 0 + length (take p xs) ≡ p = omega arith in
       let more : placed line 0 (take (p + 1) xs) ≡ placed line 0 (take p xs) ++ line p x ∷ [] =
-      ap (placed line 0) (one_more p xs x at) ∙ placed_append line 0 (take p xs) (x ∷ []) ∙ ap (λ k. placed line 0 (take p xs) ++ line k x ∷ []) size in
+      ap (placed line 0) (one_more p xs x at) ∙ placed_append line 0 (take p xs) (x ∷ []) ∙ ap (λ k. placed line 0 (take p xs) ++ line k x ∷ []) shift in
       subst (AllByRecursion IsLawfulAt) (sym more) (lawful_next (placed line 0 (take p xs)) (line p x) a l)
 
   pub placed_broken : (p : ℕ) (x : X) → AllByRecursion IsLawfulAt (placed line 0 (take p xs)) → slice_get xs p ≡ Some x → (IsLawfulAt (line p x) → ⊥) → IsFirstBroken (placed line 0 xs) p
   placed_broken p x a at never =
       let within = slice_get_within xs p x at in
       let size : length (take p xs) ≡ p = length-take-le p xs (omega arith) in
+      let shift : 0 + length (take p xs) ≡ p = omega arith in
       let all : placed line 0 xs ≡ placed line 0 (take p xs) ++ line p x ∷ placed line (p + 1) (drop (p + 1) xs) =
       ap (placed line 0) (split_at xs p x at) ∙ placed_append line 0 (take p xs) (x ∷ drop (p + 1) xs)
-      ∙ ap (λ k. placed line 0 (take p xs) ++ placed line k (x ∷ drop (p + 1) xs)) size in
+      ∙ ap (λ k. placed line 0 (take p xs) ++ placed line k (x ∷ drop (p + 1) xs)) shift in
       let many : length (placed line 0 (take p xs)) ≡ p = placed_length line 0 (take p xs) ∙ size in
       subst (λ (l : List ReportLine). IsFirstBroken l p) (sym all)
       (same_count (placed line 0 (take p xs) ++ line p x ∷ placed line (p + 1) (drop (p + 1) xs)) (length (placed line 0 (take p xs))) p many

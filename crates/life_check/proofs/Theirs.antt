@@ -1,6 +1,7 @@
 -- All events of some lines stand in the front that has only these.
-use Rattle.std.proofs.Common.{◌≡◌, ℕ, zero, suc, ◌+◌, ◌<◌, Bool, true, false, cond, List, [], ◌∷◌, Some, take, ◌||◌, ◌&&◌, ◌==◌, refl, sym, ap, subst, ◌∙◌, arith}
+use Rattle.std.proofs.Common.{◌≡◌, ℕ, zero, suc, ◌+◌, ◌<◌, ◌≤◌, Bool, true, false, cond, List, [], ◌∷◌, Some, take, ◌||◌, ◌&&◌, ◌==◌, refl, sym, ap, subst, ◌∙◌, arith}
 use Rattle.std.specs.List.{AllByRecursion, count_by, list_any, slice_get}
+use Rattle.std.proofs.lemmas.List.Sums.{sum_by-cons}
 use Rattle.tx_events.specs.declared.event.By.{By}
 use Rattle.tx_events.specs.declared.event.Event.{Event}
 use Rattle.tx_events.specs.declared.multi.MultiEvent.{MultiEvent}
@@ -13,24 +14,32 @@ use Rattle.report_law.specs.Places.{has_multi_line}
 use Rattle.life_check.proofs.FrontsAtEvents.{AreWithin}
 use Rattle.life_check.proofs.FrontsOfMultis.{AreMultisWithin}
 
-one_yes : (b : Bool) (n m : ℕ) → b ≡ true → cond b 1 0 + n ≡ m → n + 1 ≡ m
-one_yes true n m t e = omega (arith, e)
-one_yes false n m t e = absurd cc
+one_yes : (b : Bool) (n : ℕ) → b ≡ true → cond b 1 0 + n ≡ n + 1
+one_yes true n t = omega arith
+one_yes false n t = absurd cc
+
+-- how many pass of one item more, and of the rest
+count_yes : {X : Type 0} (p : X → Bool) (x : X) (h : List X) → p x ≡ true → count_by p (x ∷ h) ≡ count_by p h + 1
+count_yes {X} p x h t = sum_by-cons (λ (y : X). cond (p y) 1 0) x h ∙ one_yes (p x) (count_by p h) t
+
+count_rest : {X : Type 0} (p : X → Bool) (x : X) (h : List X) → count_by p h ≤ count_by p (x ∷ h)
+count_rest {X} p x h = let e : count_by p (x ∷ h) ≡ cond (p x) 1 0 + count_by p h = sum_by-cons (λ (y : X). cond (p y) 1 0) x h in omega arith
 
 -- a front that has only what passes, and as many as pass, has all of these
 all_in_front : {X : Type 0} (p : X → Bool) (h : List X) (n : ℕ) → AllByRecursion (λ x. p x ≡ true) (take n h) → count_by p h ≡ n → (k : ℕ) (x : X) → slice_get h k ≡ Some x → p x ≡ true → k < n
 all_in_front p [] n a c k x at t = absurd cc
 all_in_front p (y ∷ h) zero a c zero x at t =
     let same : y ≡ x = cc in
-    let here : p y ≡ true = ap p same ∙ t in
-    let more = one_yes (p y) (count_by p h) 0 here c in absurd (omega (arith, more))
+    let more : count_by p (y ∷ h) ≡ count_by p h + 1 = count_yes p y h (ap p same ∙ t) in absurd (omega arith)
 all_in_front p (y ∷ h) zero a c (suc k) x at t =
-    let none : count_by p h ≡ 0 = omega (arith, c) in
-    let l = all_in_front p h zero tt none k x at t in absurd (omega (arith, l))
+    let rest = count_rest p y h in
+    let none : count_by p h ≡ 0 = omega arith in
+    let l : k < 0 = all_in_front p h zero tt none k x at t in absurd (omega arith)
 all_in_front p (y ∷ h) (suc n) a c zero x at t = omega arith
 all_in_front p (y ∷ h) (suc n) a c (suc k) x at t =
-    let rest : count_by p h ≡ n = let m = one_yes (p y) (count_by p h) (suc n) a.0 c in omega (arith, m) in
-    let l = all_in_front p h n a.1 rest k x at t in omega (arith, l)
+    let more : count_by p (y ∷ h) ≡ count_by p h + 1 = count_yes p y h a.0 in
+    let rest : count_by p h ≡ n = omega arith in
+    let l : k < n = all_in_front p h n a.1 rest k x at t in omega arith
 
 both : (s t : Bool) → s ≡ true → t ≡ true → (s && t) ≡ true
 both true t a b = b

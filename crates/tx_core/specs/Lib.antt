@@ -25,6 +25,8 @@ pub mod CleanStart
 pub mod EngineInvariant
 pub mod Verdict
 pub mod Pages
+pub mod StoredBytes
+pub mod CleanMultis
 pub mod Nearness
 pub mod Held
 pub mod Laws

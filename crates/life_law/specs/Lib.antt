@@ -1,6 +1,9 @@
 pub mod Commands
 pub mod Refused
 pub mod Pending
+pub mod MultiPlaces
+pub mod MultiLines
+pub mod MultiStanding
 pub mod Facts
 pub mod DidCommit
 pub mod Replies

@@ -130,6 +130,7 @@ module _ (tells : Bool) (start : Start) (lists : List (List Entry)) (rounds : Li
   facts = record {
     tells = tells;
     banks = start.banks;
+    from = start.from - 1;
     base = start.base;
     committed = start.committed;
     events = history lists;

@@ -27,6 +27,7 @@ pub mod Verdict
 pub mod Pages
 pub mod StoredBytes
 pub mod CleanMultis
+pub mod OwnMultis
 pub mod Nearness
 pub mod Held
 pub mod Laws

@@ -1,5 +1,6 @@
 -- What the pages of offsets and members hold of a number, byte by byte and as it is stored.
-use Rattle.std.specs.Prelude.{ℕ, ◌+◌, ◌/◌, ◌%◌, ◌^◌, ◌<◌, ◌≡◌, ◌==◌, cond, Option, Some, None}
+use Rattle.std.specs.Prelude.{ℕ, ◌+◌, ◌/◌, ◌%◌, ◌^◌, ◌<◌, ◌≤◌, ◌≡◌, ◌==◌, cond, List, slice_index, Option, Some, None}
+use Rattle.store_pages.specs.Layouts.{member_place_of, mode_place_of}
 use Rattle.store_pages.specs.Pages.{member_page_in_full, offset_page}
 use Rattle.tx_events.specs.Modes.{mode_number}
 use Rattle.tx_events.specs.declared.multi.Member.{Member}
@@ -21,6 +22,14 @@ byte_held (Some bytes) i = bytes i
 -- those of a member: the four bytes of its id, and then its mode
 abbrev pub slot_bytes : Member → StoredBytes
 slot_bytes member i = cond (i == 4) (mode_number member.mode) (byte_of member.id i)
+
+-- where the i-th byte of an offset's slot stands on its page: the four bytes of an id, and then the mode
+abbrev pub slot_place_of : ℕ → ℕ → ℕ
+slot_place_of offset i = cond (i == 4) (mode_place_of offset) (member_place_of offset + i)
+
+-- The bytes behind the last slot of a page of members are 0: 409 groups of 20 bytes end at byte 8180.
+abbrev pub HasZeroTails : (ℕ → List ℕ) → Type 0
+HasZeroTails m = (q i : ℕ) → q < 2 ^ 32 → 8180 ≤ i → slice_index (m q) i ≡ 0
 
 -- an offset is stored by the bytes of its low half, the lowest one first
 abbrev pub offset_bytes_for : ℕ → SetOffset → Option StoredBytes

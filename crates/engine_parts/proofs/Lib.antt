@@ -4,8 +4,12 @@ pub mod Leaving
 pub mod Adding
 pub mod May
 pub mod Tabling
+pub mod Multing
 pub mod Logging
 pub mod Cutoffs
+pub mod Shelving
+pub mod OffsetShelf
+pub mod MemberShelf
 pub mod Banking
 pub mod Setting
 pub mod SubBanking

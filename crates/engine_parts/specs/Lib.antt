@@ -1,5 +1,9 @@
 pub mod Stand
 pub mod Course
+pub mod Shelf
+pub mod Shelves
+pub mod ShelfLaws
+pub mod BankCourse
 pub mod Parts
 pub mod Law
 pub mod Holds

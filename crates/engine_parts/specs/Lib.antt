@@ -8,10 +8,13 @@ pub mod Parts
 pub mod Law
 pub mod Holds
 pub mod Stages
+pub mod Makings
 pub mod Sessions
 pub mod New
 pub mod Standing
 pub mod Adding
+pub mod Met
+pub mod MultiAnswers
 pub mod Answers
 pub mod Calls
 pub mod Steps

@@ -30,6 +30,6 @@ pub use offsets_hold::{enter_offsets, leave_offsets};
 pub use part::Part;
 pub use proc_hold::{enter_proc, leave_proc};
 pub use quiet::{leave_looked, leave_quiet};
-pub use session::{Caller, Session, Stage, Unlinked, command_of, count};
+pub use session::{Caller, Making, Session, Stage, Unlinked, command_of, count};
 pub use subtrans_hold::{enter_subtrans, leave_subtrans};
 pub use xact_hold::{enter_xact, leave_xact};

@@ -3,6 +3,7 @@ pub mod Refused
 pub mod Pending
 pub mod MultiPlaces
 pub mod MultiLines
+pub mod MultiReplies
 pub mod MultiStanding
 pub mod Facts
 pub mod DidCommit

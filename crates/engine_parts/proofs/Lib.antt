@@ -1,4 +1,5 @@
 pub mod Holding
+pub mod Made
 pub mod Going
 pub mod Leaving
 pub mod Adding
@@ -15,6 +16,7 @@ pub mod Setting
 pub mod SubBanking
 pub mod Answering
 pub mod Refusing
+pub mod Touching
 pub mod Acting
 pub mod Calling
 pub mod Pending

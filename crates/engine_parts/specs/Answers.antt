@@ -1,5 +1,5 @@
 -- What a call of the engine promises, and keeps promising while others go on.
-use Rattle.std.specs.Prelude.{◌≡◌, ℕ, ◌<◌, ◌≤◌, length, List, ◌++◌, Result, Ok, Err, Option, Some, Bool, Contains, IsTrue}
+use Rattle.std.specs.Prelude.{◌≡◌, ℕ, ◌<◌, ◌≤◌, length, List, [], ◌++◌, Result, Ok, Err, Option, Some, Bool, true, false, Contains, IsTrue}
 use Rattle.std.specs.List.{AllByRecursion, filter}
 use Rattle.notes.specs.Lists.{Grows, at}
 use Rattle.tx_events.specs.declared.event.By.{By}
@@ -84,6 +84,14 @@ MayAnswer tells start lists span by s stage command reply = MayTell tells start 
 abbrev pub alone_multis : List (List Entry) → List (List Entry) → RoundSpan
 alone_multis lists more = record { from = length (multi_history lists); to = length (multi_history more) }
 
+-- the commands that touch multixacts
+abbrev pub touches_multis : Command → Bool
+touches_multis (commands.Multi pairs) = true
+touches_multis (commands.SeeMulti name m) = true
+touches_multis (commands.MultiFreeze multi) = true
+touches_multis commands.Trim = true
+touches_multis command = false
+
 -- whatever the command
 abbrev pub MayAnswerAny : Bool → Start → List (List Entry) → List (List Entry) → By → Stance → Stage → Command → Reply → Type 0
 MayAnswerAny tells start begun lists by s stage (commands.Multi pairs) reply =
@@ -96,6 +104,11 @@ MayAnswerAny tells start begun lists by s stage commands.Trim reply =
     MayAnswerMulti tells start begun lists (alone (history begun) (history lists)) (alone_multis begun lists) by s stage commands.Trim reply
 MayAnswerAny tells start begun lists by s stage command reply =
     MayAnswer tells start lists (alone (history begun) (history lists)) by s stage command reply
+
+-- a command that was answered so has no event of a multixact
+abbrev pub HasNoMultis : Start → List (List Entry) → List (List Entry) → By → Command → Reply → Type 0
+HasNoMultis start lists more by command reply =
+    HasMultiEvents start.base (history more) (alone (history lists) (history more)) (multi_history more) by command reply []
 
 -- What a call did: the lists went on, the session's events are those before and then these, which are the command's
 -- and fit its reply, and so are its events of multixacts. No entry of it but such as this command leaves with this reply.

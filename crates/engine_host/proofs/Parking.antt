@@ -44,6 +44,7 @@ may_by start v w n s name seen stage may =
           clear = a.clear;
           unaborted = a.unaborted;
           filed = a.filed;
+          makes = a.makes;
         };
         free = may.ready.free;
       };

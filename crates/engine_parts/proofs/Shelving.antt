@@ -76,7 +76,7 @@ last_cases o (v ∷ vs) = ⊎_elim
     (λ some. let is = last_later v some.0 vs (last_cases (Some v) vs) some.1 in inr (some.0, is, is))
     (last_cases o vs)
 
-module _ {I V R : Type 0} (h : Shelf I V R) (Clean : (ℕ → Option V) → Type 0) (start : Start) (lock bank : ℕ) (good : IsShelf h) where
+module _ {I V R : Type 0} (h : Shelf I V R) (Clean : (ℕ → Option V) → Type 0) (start : Start) (lock bank : ℕ) where
   -- what may be gone, may be gone behind one entry more
   gone_more : (es : List Entry) (e : Entry) (q : ℕ) → IsGone h es q → IsGone h (es ++ e ∷ []) q
   gone_more es e q g = (g.0, ⊎_elim inl (λ k. inr (k.0, Contains-append_left es (e ∷ []) k.0 k.1, k.2)) g.1, g.2)
@@ -126,7 +126,7 @@ module _ {I V R : Type 0} (h : Shelf I V R) (Clean : (ℕ → Option V) → Type
     unsaid : (x : ℕ) (o : Option V) → h.store.items_of e ≡ [] → last_or o (filter_map (h.store.value_for x) (h.store.items_of e)) ≡ o
     unsaid x o none = ap (λ l. last_or o (filter_map (h.store.value_for x) l)) none
 
-    looked : IsStill h e → last' ≡ last → cutoff' ≡ cutoff → (IsTrue tells → SameMap bytes bytes') → StoreStands h Clean start lock bank tells faults' last' cutoff' bytes' (es ++ e ∷ [])
+    pub looked : IsStill h e → last' ≡ last → cutoff' ≡ cutoff → (IsTrue tells → SameMap bytes bytes') → StoreStands h Clean start lock bank tells faults' last' cutoff' bytes' (es ++ e ∷ [])
     looked still l c same = stood still.makes_none cutoff' l (same_cutoff c)
         (λ told x room here o now. subst (λ (z : Option V). IsReadNow h (es ++ e ∷ []) bytes' z x) (sym (unsaid x o still.sets_none)) (read_more es e bytes bytes' o x (ap (λ (b : List ℕ). h.read b x) (same told (h.page x))) now))
 
@@ -139,104 +139,105 @@ module _ {I V R : Type 0} (h : Shelf I V R) (Clean : (ℕ → Option V) → Type
         (λ (some : (v : V) × (last_or None said ≡ Some v) × (last_or o said ≡ Some v)). subst (λ (z : Option V). IsReadNow h (es ++ e ∷ []) bytes' z x) (sym some.2) (inl ((sets told).set x some.0 room some.1)))
         (last_cases o said))
 
-    cut : (page : ℕ) → cut_in e.kind ≡ Some page → IsStill h e → last' ≡ last → cutoff' ≡ later_cutoff h.shape h.per_page cutoff (page % h.pages) → (IsTrue tells → MayDrop (is_cut h.shape h.per_page cutoff') bytes bytes') → StoreStands h Clean start lock bank tells faults' last' cutoff' bytes' (es ++ e ∷ [])
-    cut page cuts still l later drops = stood still.makes_none cutoff' l kept
-        (λ told x room here o now. subst (λ (z : Option V). IsReadNow h (es ++ e ∷ []) bytes' z x) (sym (unsaid x o still.sets_none)) (dropped (drops told) x o now (is_cut h.shape h.per_page cutoff' (h.page x)) refl))
-      where
-        here : IsKeptAt h.kept (es ++ e ∷ []) page
-        here = inr (e, Contains-push es e, cuts)
+    module _ (good : IsShelf h) where
+      cut : (page : ℕ) → cut_in e.kind ≡ Some page → IsStill h e → last' ≡ last → cutoff' ≡ later_cutoff h.shape h.per_page cutoff (page % h.pages) → (IsTrue tells → MayDrop (is_cut h.shape h.per_page cutoff') bytes bytes') → StoreStands h Clean start lock bank tells faults' last' cutoff' bytes' (es ++ e ∷ [])
+      cut page cuts still l later drops = stood still.makes_none cutoff' l kept
+          (λ told x room here o now. subst (λ (z : Option V). IsReadNow h (es ++ e ∷ []) bytes' z x) (sym (unsaid x o still.sets_none)) (dropped (drops told) x o now (is_cut h.shape h.per_page cutoff' (h.page x)) refl))
+        where
+          here : IsKeptAt h.kept (es ++ e ∷ []) page
+          here = inr (e, Contains-push es e, cuts)
 
-        either : (b : Bool) → IsCutoffOf h (es ++ e ∷ []) (cond b (page % h.pages) cutoff)
-        either true = (page, here, refl)
-        either false = cutoff_more es e cutoff s.cutoff_is
+          either : (b : Bool) → IsCutoffOf h (es ++ e ∷ []) (cond b (page % h.pages) cutoff)
+          either true = (page, here, refl)
+          either false = cutoff_more es e cutoff s.cutoff_is
 
-        kept : IsCutoffOf h (es ++ e ∷ []) cutoff'
-        kept = subst (λ z. IsCutoffOf h (es ++ e ∷ []) z) (sym later) (either (page_precedes h.shape h.per_page cutoff (page % h.pages)))
+          kept : IsCutoffOf h (es ++ e ∷ []) cutoff'
+          kept = subst (λ z. IsCutoffOf h (es ++ e ∷ []) z) (sym later) (either (page_precedes h.shape h.per_page cutoff (page % h.pages)))
 
-        same : (x : ℕ) (o : Option V) → IsReadNow h es bytes o x → bytes' (h.page x) ≡ bytes (h.page x) → IsReadNow h (es ++ e ∷ []) bytes' o x
-        same x o now q = read_more es e bytes bytes' o x (ap (λ (b : List ℕ). h.read b x) q) now
+          same : (x : ℕ) (o : Option V) → IsReadNow h es bytes o x → bytes' (h.page x) ≡ bytes (h.page x) → IsReadNow h (es ++ e ∷ []) bytes' o x
+          same x o now q = read_more es e bytes bytes' o x (ap (λ (b : List ℕ). h.read b x) q) now
 
-        dropped : MayDrop (is_cut h.shape h.per_page cutoff') bytes bytes' → (x : ℕ) (o : Option V) → IsReadNow h es bytes o x → (b : Bool) → is_cut h.shape h.per_page cutoff' (h.page x) ≡ b → IsReadNow h (es ++ e ∷ []) bytes' o x
-        dropped d x o now false q = same x o now (d.stay (h.page x) q)
-        dropped d x o now true q = ⊎_elim
-            (λ (zero : bytes' (h.page x) ≡ zero_page). inr (ap (λ (b : List ℕ). h.read b x) zero ∙ good.zeros x, (kept.0, kept.1, subst (λ z. is_cut h.shape h.per_page z (h.page x) ≡ true) kept.2 q)))
-            (λ (k : bytes' (h.page x) ≡ bytes (h.page x)). same x o now k)
-            (d.zero_or_same (h.page x))
+          dropped : MayDrop (is_cut h.shape h.per_page cutoff') bytes bytes' → (x : ℕ) (o : Option V) → IsReadNow h es bytes o x → (b : Bool) → is_cut h.shape h.per_page cutoff' (h.page x) ≡ b → IsReadNow h (es ++ e ∷ []) bytes' o x
+          dropped d x o now false q = same x o now (d.stay (h.page x) q)
+          dropped d x o now true q = ⊎_elim
+              (λ (zero : bytes' (h.page x) ≡ zero_page). inr (ap (λ (b : List ℕ). h.read b x) zero ∙ good.zeros x, (kept.0, kept.1, subst (λ z. is_cut h.shape h.per_page z (h.page x) ≡ true) kept.2 q)))
+              (λ (k : bytes' (h.page x) ≡ bytes (h.page x)). same x o now k)
+              (d.zero_or_same (h.page x))
 
-    made : (page : ℕ) → e.kind ≡ kinds.Zero page → h.store.items_of e ≡ [] → IsNearBy h page → last' ≡ cond (page_precedes h.shape h.per_page last (page % h.pages)) (page % h.pages) last → cutoff' ≡ cutoff
-        → (IsTrue tells → MatchBool (page_precedes h.shape h.per_page last (page % h.pages)) (PutsPage (page % h.pages) zero_page bytes bytes') (SameMap bytes bytes'))
-        → StoreStands h Clean start lock bank tells faults' last' cutoff' bytes' (es ++ e ∷ [])
-    made page is none nearby ends c puts = record {
-      inside = s.inside;
-      count = counts;
-      last_is = λ near. lasts (nat_lt (last_on h es) page) refl near;
-      cutoff_is = same_cutoff c;
-      shown = λ told near. shows (nat_lt (last_on h es) page) refl told near;
-    }
-      where
-        after_made : (before : ℕ → Option V) (b : Bool) → nat_lt (last_on h es) page ≡ b → pages_after h.store h.first before (es ++ e ∷ []) ≡ with_page h es page before b
-        after_made before b q =
-            pages_push h.store h.first before es e
-            ∙ (ap (λ (o : Option ℕ). zeroed h.store o (set_by h.store (h.store.items_of e) (pages_after h.store h.first before es))) (ap zeroed_in is)
-            ∙ (ap (λ (xs : List I). zeroed h.store (Some page) (set_by h.store xs (pages_after h.store h.first before es))) none
-            ∙ ap (λ c. with_page h es page before c) (ap (λ z. nat_lt z page) (last_same h.store h.first before (λ x. None) es) ∙ q)))
+      made : (page : ℕ) → e.kind ≡ kinds.Zero page → h.store.items_of e ≡ [] → IsNearBy h page → last' ≡ cond (page_precedes h.shape h.per_page last (page % h.pages)) (page % h.pages) last → cutoff' ≡ cutoff
+          → (IsTrue tells → MatchBool (page_precedes h.shape h.per_page last (page % h.pages)) (PutsPage (page % h.pages) zero_page bytes bytes') (SameMap bytes bytes'))
+          → StoreStands h Clean start lock bank tells faults' last' cutoff' bytes' (es ++ e ∷ [])
+      made page is none nearby ends c puts = record {
+        inside = s.inside;
+        count = counts;
+        last_is = λ near. lasts (nat_lt (last_on h es) page) refl near;
+        cutoff_is = same_cutoff c;
+        shown = λ told near. shows (nat_lt (last_on h es) page) refl told near;
+      }
+        where
+          after_made : (before : ℕ → Option V) (b : Bool) → nat_lt (last_on h es) page ≡ b → pages_after h.store h.first before (es ++ e ∷ []) ≡ with_page h es page before b
+          after_made before b q =
+              pages_push h.store h.first before es e
+              ∙ (ap (λ (o : Option ℕ). zeroed h.store o (set_by h.store (h.store.items_of e) (pages_after h.store h.first before es))) (ap zeroed_in is)
+              ∙ (ap (λ (xs : List I). zeroed h.store (Some page) (set_by h.store xs (pages_after h.store h.first before es))) none
+              ∙ ap (λ c. with_page h es page before c) (ap (λ z. nat_lt z page) (last_same h.store h.first before (λ x. None) es) ∙ q)))
 
-        last_true : nat_lt (last_on h es) page ≡ true → last_on h (es ++ e ∷ []) ≡ page
-        last_true q = ap (λ (p : Pages V). p.last) (after_made (λ x. None) true q)
+          last_true : nat_lt (last_on h es) page ≡ true → last_on h (es ++ e ∷ []) ≡ page
+          last_true q = ap (λ (p : Pages V). p.last) (after_made (λ x. None) true q)
 
-        last_false : nat_lt (last_on h es) page ≡ false → last_on h (es ++ e ∷ []) ≡ last_on h es
-        last_false q = ap (λ (p : Pages V). p.last) (after_made (λ x. None) false q)
+          last_false : nat_lt (last_on h es) page ≡ false → last_on h (es ++ e ∷ []) ≡ last_on h es
+          last_false q = ap (λ (p : Pages V). p.last) (after_made (λ x. None) false q)
 
-        near_old : (b : Bool) → nat_lt (last_on h es) page ≡ b → ArePagesNear h (es ++ e ∷ []) → ArePagesNear h es
-        near_old true q near = let lt : last_on h es < page = grind (arith, nat_tests) in let top = nearby.to in omega arith
-        near_old false q near = subst (λ z. z ≤ h.store.page_of (h.first + 2 ^ 29)) (last_false q) near
+          near_old : (b : Bool) → nat_lt (last_on h es) page ≡ b → ArePagesNear h (es ++ e ∷ []) → ArePagesNear h es
+          near_old true q near = let lt : last_on h es < page = grind (arith, nat_tests) in let top = nearby.to in omega arith
+          near_old false q near = subst (λ z. z ≤ h.store.page_of (h.first + 2 ^ 29)) (last_false q) near
 
-        order : (b : Bool) → nat_lt (last_on h es) page ≡ b → ArePagesNear h (es ++ e ∷ []) → page_precedes h.shape h.per_page last (page % h.pages) ≡ b
-        order b q near =
-            let before = near_old b q near in
-            ap (λ z. page_precedes h.shape h.per_page z (page % h.pages)) (s.last_is before)
-            ∙ (good.order (last_on h es) page (record { from = last_from_first h.store h.first (λ x. None) es; to = before }) nearby ∙ q)
+          order : (b : Bool) → nat_lt (last_on h es) page ≡ b → ArePagesNear h (es ++ e ∷ []) → page_precedes h.shape h.per_page last (page % h.pages) ≡ b
+          order b q near =
+              let before = near_old b q near in
+              ap (λ z. page_precedes h.shape h.per_page z (page % h.pages)) (s.last_is before)
+              ∙ (good.order (last_on h es) page (record { from = last_from_first h.store h.first (λ x. None) es; to = before }) nearby ∙ q)
 
-        lasts : (b : Bool) → nat_lt (last_on h es) page ≡ b → ArePagesNear h (es ++ e ∷ []) → last' ≡ last_on h (es ++ e ∷ []) % h.pages
-        lasts true q near = ends ∙ (ap (λ b. cond b (page % h.pages) last) (order true q near) ∙ sym (ap (λ z. z % h.pages) (last_true q)))
-        lasts false q near = ends ∙ (ap (λ b. cond b (page % h.pages) last) (order false q near) ∙ (s.last_is (near_old false q near) ∙ sym (ap (λ z. z % h.pages) (last_false q))))
+          lasts : (b : Bool) → nat_lt (last_on h es) page ≡ b → ArePagesNear h (es ++ e ∷ []) → last' ≡ last_on h (es ++ e ∷ []) % h.pages
+          lasts true q near = ends ∙ (ap (λ b. cond b (page % h.pages) last) (order true q near) ∙ sym (ap (λ z. z % h.pages) (last_true q)))
+          lasts false q near = ends ∙ (ap (λ b. cond b (page % h.pages) last) (order false q near) ∙ (s.last_is (near_old false q near) ∙ sym (ap (λ z. z % h.pages) (last_false q))))
 
-        shows : (b : Bool) → nat_lt (last_on h es) page ≡ b → IsTrue tells → ArePagesNear h (es ++ e ∷ []) → (before : ℕ → Option V) × Clean before × ShowsNow h start.banks bank (es ++ e ∷ []) bytes' (shows_on h before (es ++ e ∷ []))
-        shows true q told near =
-            let old = s.shown told (near_old true q near) in
-            let put : PutsPage (page % h.pages) zero_page bytes bytes' = subst (λ b. MatchBool b (PutsPage (page % h.pages) zero_page bytes bytes') (SameMap bytes bytes')) (order true q near) (puts told) in (
-              old.0,
-              old.1,
-              record {
-                each = λ x room at.
-                    let step : (c : Bool) → (h.store.page_of x == page) ≡ c → IsReadNow h (es ++ e ∷ []) bytes' (cond c None (shows_on h old.0 es x)) x = elim [
-                      | true ↦ λ k.
-                          let on : h.page x ≡ page % h.pages = good.here x ∙ ap (λ z. z % h.pages) (eqb-true (h.store.page_of x) page k) in
-                          inl (ap (λ z. h.read (bytes' z) x) on ∙ (ap (λ (b : List ℕ). h.read b x) put.here ∙ good.zeros x))
-                      | false ↦ λ k.
-                          let off : h.store.page_of x ≢ page = λ (z : h.store.page_of x ≡ page). false≢true (sym k ∙ (ap (λ y. y == page) z ∙ eqb-refl page)) in
-                          read_more es e bytes bytes' (shows_on h old.0 es x) x (ap (λ (b : List ℕ). h.read b x) (put.others (h.page x) (λ (z : h.page x ≡ page % h.pages). off (good.apart page x nearby room z)))) (old.2.each x room at)
-                    ] in
-                    subst (λ (p : Pages V). IsReadNow h (es ++ e ∷ []) bytes' (p.shows x) x) (sym (after_made old.0 true q)) (step (h.store.page_of x == page) refl);
-              },
-            )
-        shows false q told near =
-            let old = s.shown told (near_old false q near) in
-            let same : SameMap bytes bytes' = subst (λ b. MatchBool b (PutsPage (page % h.pages) zero_page bytes bytes') (SameMap bytes bytes')) (order false q near) (puts told) in (
-              old.0,
-              old.1,
-              record {
-                each = λ x room at.
-                    subst (λ (p : Pages V). IsReadNow h (es ++ e ∷ []) bytes' (p.shows x) x) (sym (after_made old.0 false q))
-                    (read_more es e bytes bytes' (shows_on h old.0 es x) x (ap (λ (b : List ℕ). h.read b x) (same (h.page x))) (old.2.each x room at));
-              },
-            )
+          shows : (b : Bool) → nat_lt (last_on h es) page ≡ b → IsTrue tells → ArePagesNear h (es ++ e ∷ []) → (before : ℕ → Option V) × Clean before × ShowsNow h start.banks bank (es ++ e ∷ []) bytes' (shows_on h before (es ++ e ∷ []))
+          shows true q told near =
+              let old = s.shown told (near_old true q near) in
+              let put : PutsPage (page % h.pages) zero_page bytes bytes' = subst (λ b. MatchBool b (PutsPage (page % h.pages) zero_page bytes bytes') (SameMap bytes bytes')) (order true q near) (puts told) in (
+                old.0,
+                old.1,
+                record {
+                  each = λ x room at.
+                      let step : (c : Bool) → (h.store.page_of x == page) ≡ c → IsReadNow h (es ++ e ∷ []) bytes' (cond c None (shows_on h old.0 es x)) x = elim [
+                        | true ↦ λ k.
+                            let on : h.page x ≡ page % h.pages = good.here x ∙ ap (λ z. z % h.pages) (eqb-true (h.store.page_of x) page k) in
+                            inl (ap (λ z. h.read (bytes' z) x) on ∙ (ap (λ (b : List ℕ). h.read b x) put.here ∙ good.zeros x))
+                        | false ↦ λ k.
+                            let off : h.store.page_of x ≢ page = λ (z : h.store.page_of x ≡ page). false≢true (sym k ∙ (ap (λ y. y == page) z ∙ eqb-refl page)) in
+                            read_more es e bytes bytes' (shows_on h old.0 es x) x (ap (λ (b : List ℕ). h.read b x) (put.others (h.page x) (λ (z : h.page x ≡ page % h.pages). off (good.apart page x nearby room z)))) (old.2.each x room at)
+                      ] in
+                      subst (λ (p : Pages V). IsReadNow h (es ++ e ∷ []) bytes' (p.shows x) x) (sym (after_made old.0 true q)) (step (h.store.page_of x == page) refl);
+                },
+              )
+          shows false q told near =
+              let old = s.shown told (near_old false q near) in
+              let same : SameMap bytes bytes' = subst (λ b. MatchBool b (PutsPage (page % h.pages) zero_page bytes bytes') (SameMap bytes bytes')) (order false q near) (puts told) in (
+                old.0,
+                old.1,
+                record {
+                  each = λ x room at.
+                      subst (λ (p : Pages V). IsReadNow h (es ++ e ∷ []) bytes' (p.shows x) x) (sym (after_made old.0 false q))
+                      (read_more es e bytes bytes' (shows_on h old.0 es x) x (ap (λ (b : List ℕ). h.read b x) (same (h.page x))) (old.2.each x room at));
+                },
+              )
 
   -- the law
-  pub keep_store : KeepStore h Clean start lock bank
-  keep_store tells faults faults' last last' cutoff cutoff' bytes bytes' es e s counts = record {
+  pub keep_store : IsShelf h → KeepStore h Clean start lock bank
+  keep_store good tells faults faults' last last' cutoff cutoff' bytes bytes' es e s counts = record {
     looks = looked tells faults faults' last last' cutoff cutoff' bytes bytes' es e s counts;
     sets = set tells faults faults' last last' cutoff cutoff' bytes bytes' es e s counts;
-    makes = made tells faults faults' last last' cutoff cutoff' bytes bytes' es e s counts;
-    cuts = cut tells faults faults' last last' cutoff cutoff' bytes bytes' es e s counts;
+    makes = made tells faults faults' last last' cutoff cutoff' bytes bytes' es e s counts good;
+    cuts = cut tells faults faults' last last' cutoff cutoff' bytes bytes' es e s counts good;
   }

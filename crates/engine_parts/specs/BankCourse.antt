@@ -22,7 +22,7 @@ use Rattle.tx_core.specs.Pages.{zeroed_in}
 use Rattle.tx_core.specs.PagesBeforeIds.{WasMade}
 use Rattle.tx_core.specs.CleanMultis.{CleanMembers, CleanOffsets, IsNearMulti, IsNearOffset}
 use Rattle.tx_core.specs.StoredBytes.{HasZeroTails, StoredBytes, byte_held, slot_place_of}
-use Rattle.engine_parts.specs.Shelf.{Shelf}
+use Rattle.engine_parts.specs.Shelf.{IsRoomFor, Shelf}
 use Rattle.engine_parts.specs.Shelves.{member_shelf, offset_shelf, parent_shelf}
 use Rattle.engine_parts.specs.Stand.{IsInUse, first_subtrans_page, number_of_parent}
 
@@ -49,6 +49,10 @@ module _ {I V R : Type 0} (k : Rack I V R) (Asked : ℕ → Type 0) where
   -- what an entry sets of a number
   abbrev pub set_of : Entry → ℕ → List V
   set_of e x = filter_map (k.shelf.store.value_for x) (k.shelf.store.items_of e)
+
+  -- The pages of a life have room for each number that it sets. Two numbers that are further apart may have one place.
+  abbrev pub HasRoom : Entry → Type 0
+  HasRoom e = (x : ℕ) (v : V) → last_or None (set_of e x) ≡ Some v → IsRoomFor k.shelf x
 
   -- an entry that sets nothing and makes no page
   pub record IsQuiet (e : Entry) : Type 0 where
@@ -103,7 +107,7 @@ module _ {I V R : Type 0} (k : Rack I V R) (Asked : ℕ → Type 0) where
       pub cuts : cut_in entry.kind ≡ None
       pub other : entry.kind ≡ kinds.Sync → ⊥
       pub made : (x : ℕ) (v : V) → last_or None (set_of entry x) ≡ Some v → WasMade before (k.shelf.store.page_of k.shelf.first) (k.shelf.store.page_of x)
-      pub kept : (x i : ℕ) → Asked x → i < k.pieces → set_of entry x ≡ [] → piece_on (pages_of new) x i ≡ piece_on (pages_of old) x i
+      pub kept : HasRoom entry → (x i : ℕ) → Asked x → i < k.pieces → set_of entry x ≡ [] → piece_on (pages_of new) x i ≡ piece_on (pages_of old) x i
       pub set : (x i : ℕ) (v : V) → Asked x → i < k.pieces → last_or None (set_of entry x) ≡ Some v → piece_on (pages_of new) x i ≡ k.held (Some v) i
       pub tails : Tails (pages_of old) → Tails (pages_of new)
       pub last : last_page new ≡ last_page old

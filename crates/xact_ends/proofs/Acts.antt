@@ -361,10 +361,10 @@ module _ {H L P : Type 0} {l : logs.Ghosts L} {p : disks.Ghosts P} (hall : Hall 
       by = by_at u.number u.session.levels.commands
 
       t : Session
-      t = record { levels = record u.session.levels { unnamed = 0 }; stage = stages.Clear; unlinked = u.session.unlinked }
+      t = record { levels = record u.session.levels { unnamed = 0 }; stage = stages.Clear; unlinked = u.session.unlinked; making = u.session.making }
 
       is : new.session ≡ t
-      is = λ j. record { levels = c.levels j; stage = c.stage j; unlinked = c.unlinked j }
+      is = λ j. record { levels = c.levels j; stage = c.stage j; unlinked = c.unlinked j; making = c.making j }
 
       named : u.session.levels.level_ids.items ≡ []
       named = no_names h u.session.levels.open_ids.items u.session.levels.level_ids.items was.ready.at.stands.nest none
@@ -409,6 +409,7 @@ module _ {H L P : Type 0} {l : logs.Ghosts L} {p : disks.Ghosts P} (hall : Hall 
             clear = λ q top subs appended opened. no_top top subs (sym none ∙ (sym a.stands.opened ∙ opened));
             unaborted = λ q id k. absurd (contains_none id (subst (λ (o : List ℕ). Contains o id) none k));
             filed = a.filed;
+            makes = a.makes;
           };
         };
         stage = λ id state k asked. contains_none id (subst (λ (o : List ℕ). Contains o id) none k);

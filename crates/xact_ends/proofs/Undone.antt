@@ -159,10 +159,10 @@ module _ {H L P : Type 0} {l : logs.Ghosts L} {p : disks.Ghosts P} (hall : Hall 
           free
 
       t : Session
-      t = record { levels = record u.session.levels { unnamed = u.session.levels.unnamed - 1 }; stage = u.session.stage; unlinked = u.session.unlinked }
+      t = record { levels = record u.session.levels { unnamed = u.session.levels.unnamed - 1 }; stage = u.session.stage; unlinked = u.session.unlinked; making = u.session.making }
 
       is : new.session ≡ t
-      is = λ j. record { levels = c.levels j; stage = c.stage j; unlinked = c.unlinked j }
+      is = λ j. record { levels = c.levels j; stage = c.stage j; unlinked = c.unlinked j; making = c.making j }
 
       unasked : AreUnasked lists u.number u.session.levels.open_ids.items
       unasked = subst (IsInStage (start_of hall) lists u.number (inner_id u.session) u.session.levels.open_ids.items) clear was.stage
@@ -191,6 +191,7 @@ module _ {H L P : Type 0} {l : logs.Ghosts L} {p : disks.Ghosts P} (hall : Hall 
             clear = a.clear;
             unaborted = a.unaborted;
             filed = a.filed;
+            makes = a.makes;
           };
         };
         stage = subst (IsInStage (start_of hall) lists u.number (inner_id t) u.session.levels.open_ids.items) (sym clear) unasked;

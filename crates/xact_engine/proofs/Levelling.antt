@@ -176,6 +176,7 @@ call_levels start v n s s' new is count stands kept m =
           clear = a.clear;
           unaborted = λ q. subst (λ (z : List ℕ). AreUnaborted v.seen n z) (sym opened) (a.unaborted q);
           filed = subst (λ (z : List ℕ). IsFiled start v.seen n z s.unlinked) (sym opened) a.filed;
+          makes = a.makes;
         };
       };
       stage = subst (λ (z : List ℕ). IsInStage start v.seen n (inner_id t) z s.stage) (sym opened) (stage_kept start v.seen n (inner_id s) (inner_id t) s.levels.open_ids.items s.stage kept m.stage);

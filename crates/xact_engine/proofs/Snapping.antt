@@ -113,7 +113,7 @@ acted_snapped start v u w n s s' name lists e a k learns is l free room held sta
     let event : Event = events.Snap (by_at n s.levels.commands) name in
     let wide = a.wide in let long = learns.long in
     let grown : history w.seen ≡ history u.seen ++ event ∷ [] = history_event start u w e event (ap event_of is) (omega arith) l in
-    acted_event start v u w n s s' (commands.Snap name) (replies.Snapped lists) e event a k learns (ap event_of is) refl (ap (λ (z : Entry). z.by) is) l refl (
+    acted_event start v u w n s s' (commands.Snap name) (replies.Snapped lists) e event a k learns (ap event_of is) refl (ap (λ (z : Entry). z.by) is) l refl refl (
       snap_missing name (stance_of s).levels s.levels.registered.items free,
       omega (arith, length-map s.levels.registered.items told_of),
       length (history u.seen),
@@ -132,7 +132,7 @@ pub acted_dropped : {tells : Bool} (start : Start) (v u w : Knowledge) (n : ℕ)
     → Acted tells start (by_at n s.levels.commands) (stance_of s) s' s.stage (commands.DropSnap name) replies.Done v.seen w.seen
 acted_dropped start v u w n s s' name e a k learns is l registered stance =
     let some = some_found name (stance_of s).levels s.levels.registered.items registered in
-    acted_event start v u w n s s' (commands.DropSnap name) replies.Done e (events.SnapDrop (by_at n s.levels.commands) name) a k learns (ap event_of is) refl (ap (λ (z : Entry). z.by) is) l refl
+    acted_event start v u w n s s' (commands.DropSnap name) replies.Done e (events.SnapDrop (by_at n s.levels.commands) name) a k learns (ap event_of is) refl (ap (λ (z : Entry). z.by) is) l refl refl
     some (sym (ap (λ (b : Bool). then_some b refusals.NoSnapshot) (some_is (snap_of name (stance_of s)) some))) (sym stance)
 
 -- a name is live in the history where the session has it

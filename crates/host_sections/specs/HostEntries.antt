@@ -41,9 +41,6 @@ abbrev pub forget_fault_by : By → ℕ → ℕ → Entry
 forget_fault_by by number count = record { by = by; kind = kinds.LogFault (calls.Forget number) count }
 
 -- a bank of offsets or of members
-abbrev pub IsMultiBank : Start → ℕ → Type 0
-IsMultiBank start lock = (bank : ℕ) × (bank < start.banks) × ((lock ≡ offsets_lock bank) ⊎ (lock ≡ members_lock bank))
-
 -- the number of the log's next record
 abbrev pub next_number : Start → List (List Entry) → ℕ
 next_number start lists = start.from + length (recs_in (at lists log_lock))

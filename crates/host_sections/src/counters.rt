@@ -1,13 +1,12 @@
 //! The counters that a checkpoint keeps.
 ghost use Rattle.std.specs.Prelude.{◌≡◌};
 ghost use Rattle.hall.specs.Calls.{start_of, view};
-ghost use Rattle.life_law.specs.LifeLog.{counters_with};
 ghost use Rattle.tx_events.specs.Multis.{multi_counters};
 ghost use Rattle.tx_core.specs.EngineInvariant.{EngineInvariant};
 ghost use Rattle.tx_core.specs.Entries.{history};
 ghost use Rattle.tx_core.specs.MultiEntries.{multi_history};
 ghost use Rattle.engine_parts.specs.Alone.{IsAlone, StaysAlone};
-ghost use Rattle.host_sections.specs.HostEntries.{HaveForms};
+ghost use Rattle.host_sections.specs.HostEntries.{HaveForms, counters_with};
 
 use crate::home::{take_multi, take_proc};
 use disk_core::{LogDisk, PageDisk};

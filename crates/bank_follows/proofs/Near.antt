@@ -15,7 +15,7 @@ use Rattle.bank_follows.specs.Cells.{Cells}
 use Rattle.bank_follows.specs.Making.{IsGivenPage}
 use Rattle.bank_follows.specs.Near.{AreMadeNear, NearOnMade, ShortMakesNear}
 use Rattle.bank_follows.specs.Stores.{member_cells, offset_cells, parent_cells, xact_cells}
-use Rattle.bank_follows.proofs.Making.{first_on, member_on}
+use Rattle.tx_core.proofs.PageRing.{first_on, member_on}
 
 module _ {I V : Type 0} (s : Cells I V) where
   -- a beginning of the list makes no other pages

@@ -16,6 +16,7 @@ use Rattle.tx_core.specs.declared.entry.Start.{Start}
 use Rattle.tx_core.specs.Locks.{subtrans_page, xact_page, subtrans_lock, xact_lock}
 use Rattle.tx_events.specs.Ids.{low_half}
 use Rattle.tx_events.specs.PageOrder.{Ids, page_precedes}
+use Rattle.engine_parts.specs.BankCourse.{IsParentOn, MadePage, ParentsCame, parent_rack}
 use Rattle.engine_parts.specs.Course.{HasCourse, PageMade}
 use Rattle.engine_parts.specs.Parts.{IsSubtransOf, IsXactOf}
 use Rattle.engine_parts.specs.Stand.{SubtransStands, XactStands}
@@ -73,13 +74,18 @@ module _ {P O : Type 0} {g : disks.Ghosts P} {r : rules.Ghosts O} where
       let made : PageMade old new es (es ++ made_entry by page ∷ []) = record { by = by; page = page; entries = refl; pages = pages told; last = last; cutoff = m.cutoff; crash = crash } in
       (suc k.0, (old, es, k.1, inr (inr (inl made)))))))
 
-  pub subtrans_stands_made : (start : Start) (bank : ℕ) (old new : SlruBank P O g r) (es : List Entry) (by : By) (id page stored : ℕ) (e : Entry) → IsBase start.base → start.base.next ≤ id → e ≡ made_entry by page → page ≡ subtrans_page id → stored ≡ low_half id / 2048 → Makes stored 2048 old new → IsSubtransOf start bank old es
+  pub subtrans_stands_made : (start : Start) (bank : ℕ) (old new : SlruBank P O g r) (es : List Entry) (by : By) (id page stored : ℕ) (e : Entry) → IsBase start.base → start.base.next ≤ id → e ≡ made_entry by page → page ≡ subtrans_page id → stored ≡ low_half id / 2048 → Makes stored 2048 old new → CrashKeeps old new → IsSubtransOf start bank old es
       → IsSubtransOf start bank new (es ++ e ∷ [])
-  subtrans_stands_made start bank old new es by id page stored e base from is page_is stored_is m s =
+  subtrans_stands_made start bank old new es by id page stored e base from is page_is stored_is m crash s =
       let at : stored ≡ page % 2 ^ 21 = subtrans_stored id page stored page_is stored_is in
+      let last : last_page new ≡ cond (page_precedes Ids 2048 (last_page old) (page % 2 ^ 21)) (page % 2 ^ 21) (last_page old) = subst (λ z. last_page new ≡ cond (page_precedes Ids 2048 (last_page old) z) z (last_page old)) at m.last in
+      let pages : IsTrue g.tells → MatchBool (page_precedes Ids 2048 (last_page old) (page % 2 ^ 21)) (PutsPage (page % 2 ^ 21) zero_page (pages_of old) (pages_of new)) (SameMap (pages_of old) (pages_of new)) = λ told.
+      subst (λ z. MatchBool (page_precedes Ids 2048 (last_page old) z) (PutsPage z zero_page (pages_of old) (pages_of new)) (SameMap (pages_of old) (pages_of new))) at (m.pages told) in
       subst (λ (f : Entry). IsSubtransOf start bank new (es ++ f ∷ [])) (sym is)
-      (subst (λ z. SubtransStands start bank g.tells (faults_of new) (last_page new) z (pages_of new) (es ++ made_entry by page ∷ [])) (sym m.cutoff)
-      (sub_made start bank (faults_of old) (last_page old) (cutoff_of old) g.tells (pages_of old) es by page s (base_near start base) (omega arith)
-      (faults_of new) (last_page new) (pages_of new) (subst (λ z. last_page new ≡ cond (page_precedes Ids 2048 (last_page old) z) z (last_page old)) at m.last)
-      (λ told. subst (λ z. MatchBool (page_precedes Ids 2048 (last_page old) z) (PutsPage z zero_page (pages_of old) (pages_of new)) (SameMap (pages_of old) (pages_of new))) at (m.pages told))
-      (made_told start (subtrans_lock bank) by page (faults_of new) es (let c = s.count in let f = m.count in omega arith))))
+      (subst (λ z. SubtransStands start bank g.tells (faults_of new) (last_page new) z (pages_of new) (ParentsCame start bank new) (es ++ made_entry by page ∷ [])) (sym m.cutoff)
+      (sub_made start bank (faults_of old) (last_page old) (cutoff_of old) g.tells (pages_of old) (ParentsCame start bank old) es by page s (base_near start base) (omega arith)
+      (faults_of new) (last_page new) (pages_of new) (ParentsCame start bank new) last pages
+      (made_told start (subtrans_lock bank) by page (faults_of new) es (let c = s.count in let f = m.count in omega arith))
+      (λ told k.
+      let made : MadePage (parent_rack start) (IsParentOn start bank) old new es (es ++ made_entry by page ∷ []) = record { by = by; page = page; entries = refl; pages = pages told; last = last; cutoff = m.cutoff; crash = crash } in
+      (suc k.0, (old, es, k.1, inr (inr (inl made)))))))

@@ -7,6 +7,7 @@ use Rattle.slru_bank.specs.Calls.{CrashKeeps, SamePages, cutoff_of, faults_of, l
 use Rattle.store_pages.specs.Layouts.{number_in, state_in, word_page_of, word_place_of, xact_page_of, xact_place_of}
 use Rattle.tx_core.specs.declared.entry.Entry.{Entry}
 use Rattle.tx_core.specs.declared.entry.Start.{Start}
+use Rattle.engine_parts.specs.BankCourse.{IsParentOn, LookedAt, ParentsCame, parent_rack}
 use Rattle.engine_parts.specs.Course.{HasCourse, Looked}
 use Rattle.engine_parts.specs.Parts.{IsSubtransOf, IsXactOf}
 use Rattle.engine_parts.specs.Stand.{SubtransStands, XactStands}
@@ -35,12 +36,16 @@ module _ {P O : Type 0} {g : disks.Ghosts P} {r : rules.Ghosts O} where
             (suc k.0, (old, es, k.1, inl look));
       })
 
-  pub subtrans_same : (start : Start) (bank : ℕ) (old new : SlruBank P O g r) (es : List Entry) → IsSame old new → IsSubtransOf start bank old es → IsSubtransOf start bank new es
-  subtrans_same start bank old new es same s =
-      subst (λ (z : ℕ × ℕ). SubtransStands start bank g.tells (faults_of new) z.0 z.1 (pages_of new) es) (λ j. (sym same.last j, sym same.cutoff j)) (record {
+  pub subtrans_same : (start : Start) (bank : ℕ) (old new : SlruBank P O g r) (es : List Entry) → IsSame old new → CrashKeeps old new → IsSubtransOf start bank old es → IsSubtransOf start bank new es
+  subtrans_same start bank old new es same crash s =
+      subst (λ (z : ℕ × ℕ). SubtransStands start bank g.tells (faults_of new) z.0 z.1 (pages_of new) (ParentsCame start bank new) es) (λ j. (sym same.last j, sym same.cutoff j)) (record {
         inside = s.inside;
         count = (let c = s.count in let f = same.count in omega arith);
         last_is = s.last_is;
         cutoff_is = s.cutoff_is;
         shown = λ told near. record { each = λ x used here uncut. ap (λ (t : List ℕ). number_in t (word_place_of x)) (same.pages told (word_page_of x)) ∙ (s.shown told near).each x used here uncut };
+        course = λ told.
+            let k = s.course told in
+            let look : LookedAt (parent_rack start) (IsParentOn start bank) old new es es = record { entries = refl; last = same.last; cutoff = same.cutoff; pages = same.pages told; crash = crash } in
+            (suc k.0, (old, es, k.1, inl look));
       })

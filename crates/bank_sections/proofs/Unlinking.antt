@@ -53,6 +53,7 @@ call_linked start v n s u m is done =
             linked = λ id c. ⊎_elim inl (λ t. inl (u.parent, subst (λ z. IsLinked start v.seen z u.parent) (subst (λ o. IsThe o id) is t) done)) (a.filed.linked id c);
             pending = tt;
           };
+          makes = a.makes;
         };
       };
       stage = m.stage;

@@ -23,6 +23,7 @@ use Rattle.engine_parts.proofs.Cutoffs.{cutoff_more}
 use Rattle.engine_parts.proofs.Leaving.{stands_left}
 use Rattle.engine_parts.proofs.Sectioning.{same_command, section_of}
 use Rattle.engine_parts.proofs.Stepping.{went_quiet}
+use Rattle.tx_core.specs.MultiEntries.{multi_of}
 use Rattle.bank_sections.specs.Refusals.{entry_of_refusal}
 use Rattle.bank_sections.specs.Sections.{BankRefused, IsSubtransCut, IsXactCut}
 use Rattle.bank_sections.proofs.Refusing.{met_refusal, refused_quiet}
@@ -54,14 +55,14 @@ subtrans_wanted start lists bank id is = record {
 }
 
 -- one critical section without an event
-pub visited : (start : Start) (v u w : Knowledge) (n lock : ℕ) (s : Session) (e : Entry) → IsAt start v n s → IsPageLock start lock → Enters start lock v u → event_of e ≡ None → asks_in e ≡ [] → Leaves start lock e u w → WentOn n [] v.seen w.seen
-visited start v u w n lock s e a pages entered none asks l = went_quiet start v u w n lock s e a entered.kept entered.learns (below_locks start v n lock s a pages) none asks l
+pub visited : (start : Start) (v u w : Knowledge) (n lock : ℕ) (s : Session) (e : Entry) → IsAt start v n s → IsPageLock start lock → Enters start lock v u → event_of e ≡ None → multi_of e ≡ None → asks_in e ≡ [] → Leaves start lock e u w → WentOn n [] v.seen w.seen
+visited start v u w n lock s e a pages entered none no_multi asks l = went_quiet start v u w n lock s e a entered.kept entered.learns (below_locks start v n lock s a pages) none no_multi asks l
 
 -- and one whose call was refused
 pub visited_refused : (start : Start) (v u w : Knowledge) (n lock : ℕ) (s : Session) (by : By) (count : ℕ) (refusal : BankRefusal) → IsAt start v n s → IsPageLock start lock → Enters start lock v u → Leaves start lock (entry_of_refusal by count refusal) u w → WentOn n [] v.seen w.seen
 visited_refused start v u w n lock s by count refusal a pages entered l =
     let q = refused_quiet by count refusal in
-    visited start v u w n lock s (entry_of_refusal by count refusal) a pages entered q.event q.asks l
+    visited start v u w n lock s (entry_of_refusal by count refusal) a pages entered q.event q.multi q.asks l
 
 -- a fault that the call met
 pub fault_met : (start : Start) (v u w : Knowledge) (n n' lock : ℕ) (s s' : Session) (count : ℕ) (refusal : BankRefusal) → IsAt start v n s → IsPageLock start lock → Enters start lock v u → n' ≡ n → s' ≡ s → Leaves start lock (entry_of_refusal (by_at n' s'.levels.commands) count refusal) u w → refusal ≡ refused.DiskFault → MetFault w.seen lock (by_at n s.levels.commands)

@@ -18,10 +18,11 @@ module _ {L P : Type 0} {l : logs.Ghosts L} {p : disks.Ghosts P} where
   faults_in (parts.Subtrans store) = faults_of store.value
   faults_in _ = 0
 
-  -- it is built
+  -- it is a bank of pg_xact or of pg_subtrans
   abbrev pub IsBuilt : Part L P l p → Type 0
-  IsBuilt parts.Vacant = ⊥
-  IsBuilt _ = Unit {0}
+  IsBuilt (parts.Xact store) = Unit {0}
+  IsBuilt (parts.Subtrans store) = Unit {0}
+  IsBuilt _ = ⊥
 
 -- the fault of the volume, or only a look where the page is cut
 abbrev pub entry_of_refusal : By → ℕ → BankRefusal → Entry

@@ -155,8 +155,8 @@ module _ {S E : Type 0} where
 
 -- what a pass knows that was split off from one that has seen nothing
 pub new_knows : (start : Start) (v w : View Start Entry) (number : ℕ) (s : Session) → IsBase start.base → AreGivenBefore start → ((place : ℕ) → at v.seen place ≡ []) → w ≡ given (asking number v) → number < start.sessions → 3 + 4 * start.banks ≤ length w.seen
-    → IsFresh s.levels → s.stage ≡ stages.Clear → s.unlinked ≡ None → IsNew start w number s
-new_knows start v w number s base earlier unseen is known wide fresh stage unlinked =
+    → IsFresh s.levels → s.stage ≡ stages.Clear → s.unlinked ≡ None → s.making ≡ None → IsNew start w number s
+new_knows start v w number s base earlier unseen is known wide fresh stage unlinked making =
     let bare : (place : ℕ) → at w.seen place ≡ [] = λ place. ap (λ (u : View Start Entry). at u.seen place) is ∙ unseen place in record {
       base = base;
       before = earlier;
@@ -169,4 +169,5 @@ new_knows start v w number s base earlier unseen is known wide fresh stage unlin
       fresh = fresh;
       stage = stage;
       unlinked = unlinked;
+      making = making;
     }

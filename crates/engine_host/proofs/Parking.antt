@@ -44,6 +44,7 @@ may_by start v w n s name seen stage may =
           clear = a.clear;
           unaborted = a.unaborted;
           filed = a.filed;
+          makes = a.makes;
         };
         free = may.ready.free;
       };
@@ -83,6 +84,6 @@ module _ {H L P : Type 0} {l : logs.Ghosts L} {p : disks.Ghosts P} where
       record {
         held = held;
         below = below;
-        may = new_may_call start (given (asking n v)) n s (new_knows start v (given (asking n v)) n s base is.before unseen refl (omega (arith, below, is.sessions)) (omega (arith, is.own.wide, is.laid)) fresh new.1 new.2);
+        may = new_may_call start (given (asking n v)) n s (new_knows start v (given (asking n v)) n s base is.before unseen refl (omega (arith, below, is.sessions)) (omega (arith, is.own.wide, is.laid)) fresh new.1 new.2 new.3);
         few = omega (arith, fresh.0);
       }

@@ -39,7 +39,7 @@ without number numbers = filter (λ n. not (n == number)) numbers
 
 -- the session has done nothing yet
 abbrev pub IsNewSession : Session → Type 0
-IsNewSession s = IsFresh s.levels × (s.stage ≡ stages.Clear) × (s.unlinked ≡ None)
+IsNewSession s = IsFresh s.levels × (s.stage ≡ stages.Clear) × (s.unlinked ≡ None) × (s.making ≡ None)
 
 module _ {L P : Type 0} {l : logs.Ghosts L} {p : disks.Ghosts P} where
   -- of all lists

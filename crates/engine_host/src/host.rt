@@ -104,6 +104,7 @@ pub fn new_session(alloc: Global) -> Session
         levels: Levels::new(alloc),
         stage: Stage::Clear,
         unlinked: None,
+        making: None,
     }
 }
 

@@ -1,5 +1,5 @@
 -- What a command adds, step by step.
-use Rattle.std.proofs.Common.{◌≡◌, ◌≢◌, ℕ, ◌<◌, List, [], ◌∷◌, ◌++◌, Result, Ok, Err, Some, append_assoc, append-nil, refl, sym, ap, subst, ◌∙◌, length, arith, eq-eqb, ◌==◌, cond, IsTrue}
+use Rattle.std.proofs.Common.{◌≡◌, ◌≢◌, ℕ, ◌<◌, Bool, false, true, List, [], ◌∷◌, ◌++◌, Result, Ok, Err, None, Option, Some, append_assoc, append-nil, refl, sym, ap, subst, ◌∙◌, length, arith, eq-eqb, ◌==◌, cond, IsTrue}
 use Rattle.std.specs.List.{AllByRecursion, filter}
 use Rattle.std.proofs.lemmas.List.Elements.{filter-append}
 use mathlib.Core.Logic.{dite}
@@ -21,7 +21,7 @@ use Rattle.tx_core.specs.declared.entry.Kind.TheVariants as kinds
 use Rattle.tx_core.specs.declared.entry.Start.{Start}
 use Rattle.tx_core.specs.Entries.{event_in, session_of}
 use Rattle.engine_parts.specs.declared.session.Stage.{Stage}
-use Rattle.engine_parts.specs.Adding.{Adds, AddsTo, IsPlain, IsRecordBy, MayAdd, MayFault, MayLeave, MayMeet}
+use Rattle.engine_parts.specs.Adding.{Adds, AddsTo, IsPlain, IsRecordBy, MayAdd, MayAddBy, MayFault, MayLeave, MayMeet, MayStopCut, cuts_pages}
 use Rattle.engine_parts.specs.Holds.{Knowledge, Learns, Leaves}
 use Rattle.engine_parts.specs.Standing.{flushes}
 
@@ -56,6 +56,20 @@ adds_wider by May More a b wider f = record {
 
 -- ---- the kinds
 
+-- what may be added without a cut may be added with one
+may_stop : (cuts : Bool) (cut : Option ℕ) → cut ≡ None → MayStopCut cuts cut
+may_stop true cut none = tt
+may_stop false cut none = none
+
+pub may_cut : (cuts : Bool) (Appends : Rec → Type 0) (Flushes : Type 0) (Tells : Refusal → Type 0) (lock : ℕ) (kind : Kind) → MayAdd Appends Flushes Tells lock kind → MayAddBy cuts Appends Flushes Tells lock kind
+may_cut cuts A F T lock (kinds.Append rec) m = m
+may_cut cuts A F T lock (kinds.Flush to) m = m
+may_cut cuts A F T lock (kinds.Forget number) m = absurd m
+may_cut cuts A F T lock (kinds.LogFault asked count) m = m
+may_cut cuts A F T lock (kinds.Fault callers changes cut count) m = (m.0, m.1, m.2, may_stop cuts cut m.3)
+may_cut cuts A F T lock (kinds.Cut page) m = absurd m
+may_cut cuts A F T lock _ m = tt
+
 pub may_wider : (Appends Appends' : Rec → Type 0) (Flushes Flushes' : Type 0) (Tells Tells' : Refusal → Type 0) → ((rec : Rec) → Appends rec → Appends' rec) → (Flushes → Flushes') → ((r : Refusal) → Tells r → Tells' r) → (lock : ℕ) (kind : Kind) → MayAdd Appends Flushes Tells lock kind → MayAdd Appends' Flushes' Tells' lock kind
 may_wider A A' F F' T T' a f t lock (kinds.Append rec) m = a rec m
 may_wider A A' F F' T T' a f t lock (kinds.Flush to) m = f m
@@ -71,12 +85,15 @@ plain_wider A F T = may_wider (λ rec. ⊥) A ⊥ F (λ r. ⊥) T (λ rec m. abs
 
 -- whatever the command and its reply
 pub plain_leaves : (command : Command) (s : Stance) (stage : Stage) (opened : List ℕ) (reply : Reply) (lock : ℕ) (kind : Kind) → IsPlain lock kind → MayLeave command s stage opened reply lock kind
-plain_leaves command s stage opened reply = plain_wider (IsRecordBy command s stage opened) (IsTrue (flushes command s stage)) (λ r. reply ≡ replies.Refused r)
+plain_leaves command s stage opened reply lock kind plain =
+    may_cut (cuts_pages command) (IsRecordBy command s stage opened) (IsTrue (flushes command s stage)) (λ r. reply ≡ replies.Refused r) lock kind
+    (plain_wider (IsRecordBy command s stage opened) (IsTrue (flushes command s stage)) (λ r. reply ≡ replies.Refused r) lock kind plain)
 
 -- a step that met a fault, which the command tells
 pub met_leaves : (command : Command) (s : Stance) (stage : Stage) (opened : List ℕ) (told : Refusal) (lock : ℕ) (kind : Kind) → MayMeet told lock kind → MayLeave command s stage opened (replies.Refused told) lock kind
-met_leaves command s stage opened told =
-    may_wider (λ rec. ⊥) (IsRecordBy command s stage opened) ⊥ (IsTrue (flushes command s stage)) (λ r. told ≡ r) (λ r. replies.Refused told ≡ replies.Refused r) (λ rec m. absurd m) (λ m. absurd m) (λ r is. ap replies.Refused is)
+met_leaves command s stage opened told lock kind met =
+    may_cut (cuts_pages command) (IsRecordBy command s stage opened) (IsTrue (flushes command s stage)) (λ r. replies.Refused told ≡ replies.Refused r) lock kind
+    (may_wider (λ rec. ⊥) (IsRecordBy command s stage opened) ⊥ (IsTrue (flushes command s stage)) (λ r. told ≡ r) (λ r. replies.Refused told ≡ replies.Refused r) (λ rec m. absurd m) (λ m. absurd m) (λ r is. ap replies.Refused is) lock kind met)
 
 -- so a step that is plain where it isn't refused
 pub plain_meets : (told : Refusal) (lock : ℕ) (kind : Kind) → IsPlain lock kind → MayMeet told lock kind

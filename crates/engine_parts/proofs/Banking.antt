@@ -1,6 +1,5 @@
 -- A bank stands for its list after a page is made.
 use Rattle.std.proofs.Common.{zero, suc, ◌≡◌, ◌≢◌, ◌⊎◌, ℕ, ◌+◌, ◌-◌, ◌*◌, ◌/◌, ◌%◌, ◌^◌, ◌≤◌, ◌<◌, ◌==◌, ◌&&◌, nat_lt, cond, List, [], ◌∷◌, ◌++◌, Bool, true, false, IsTrue, Option, Some, None, MatchBool, refl, sym, ap, subst, ◌∙◌, ⊎_elim, arith, eqb-true}
-use Rattle.std.proofs.lemmas.Bool.{le-ltb, lt-leb, le-leb, lt-ltb}
 use Rattle.std.proofs.lemmas.Bool.Decides.{nat_tests}
 use Rattle.std.proofs.lemmas.List.Sums.{fold_push}
 use Rattle.std.specs.List.{filter_map, last_or}
@@ -24,46 +23,9 @@ use Rattle.tx_core.specs.Verdict.{state_for}
 use Rattle.store_pages.specs.Layouts.{bits_at, state_in, xact_page_of, xact_place_of}
 use Rattle.engine_parts.specs.Stand.{ShowsStates, XactStands, number_of_state, xact_pages, first_xact_page}
 use Rattle.engine_parts.proofs.Cutoffs.{cutoff_more}
-use Rattle.tx_events.specs.Order.{ring_before, xid_before}
 use Rattle.tx_core.specs.FaultsRise.{faults_told}
-use Rattle.tx_events.specs.PageOrder.{Ids, page_number, page_precedes}
-
--- before on the ring
-ring_before_by : (a b d : ℕ) → 0 < d → d ≤ 2 ^ 31 → b ≡ a + d → ring_before (a % 2 ^ 32) (b % 2 ^ 32) ≡ true
-ring_before_by a b d some near way =
-    let far : 2 ^ 31 ≤ (a % 2 ^ 32 + (2 ^ 32 - b % 2 ^ 32)) % 2 ^ 32 = omega arith in
-    le-leb (2 ^ 31) ((a % 2 ^ 32 + (2 ^ 32 - b % 2 ^ 32)) % 2 ^ 32) far
-
-ring_not_before : (a b d : ℕ) → d < 2 ^ 31 → a ≡ b + d → ring_before (a % 2 ^ 32) (b % 2 ^ 32) ≡ false
-ring_not_before a b d near way =
-    let far : (a % 2 ^ 32 + (2 ^ 32 - b % 2 ^ 32)) % 2 ^ 32 < 2 ^ 31 = omega arith in
-    lt-leb (2 ^ 31) ((a % 2 ^ 32 + (2 ^ 32 - b % 2 ^ 32)) % 2 ^ 32) far
-
-normal : (a b : ℕ) → 3 ≤ a → 3 ≤ b → xid_before a b ≡ ring_before a b
-normal a b p q = rw (le-ltb a 3 p, le-ltb b 3 q) refl
-
--- stored pages compare as full ones do, within a quarter of the ring
-pub page_order : (a b : ℕ) → a * 32768 < b * 32768 + 2 ^ 30 → b * 32768 < a * 32768 + 2 ^ 30 → page_precedes Ids 32768 (a % 2 ^ 17) (b % 2 ^ 17) ≡ nat_lt a b
-page_order a b p q =
-    let na : ℕ = page_number Ids 32768 (a % 2 ^ 17) in
-    let nb : ℕ = page_number Ids 32768 (b % 2 ^ 17) in
-    let fa : na ≡ (a * 32768 + 4) % 2 ^ 32 = omega arith in
-    let fb : nb ≡ (b * 32768 + 4) % 2 ^ 32 = omega arith in
-    let fc : (nb + 32767) % 2 ^ 32 ≡ (b * 32768 + 4 + 32767) % 2 ^ 32 = omega arith in
-    let first : xid_before na nb ≡ ring_before ((a * 32768 + 4) % 2 ^ 32) ((b * 32768 + 4) % 2 ^ 32) = normal na nb (omega arith) (omega arith) ∙ (λ j. ring_before (fa j) (fb j)) in
-    let second : xid_before na ((nb + 32767) % 2 ^ 32) ≡ ring_before ((a * 32768 + 4) % 2 ^ 32) ((b * 32768 + 4 + 32767) % 2 ^ 32) = normal na ((nb + 32767) % 2 ^ 32) (omega arith) (omega arith) ∙ (λ j. ring_before (fa j) (fc j)) in
-    ⊎_elim
-    (λ (lt : a < b).
-    let one = first ∙ ring_before_by (a * 32768 + 4) (b * 32768 + 4) (b * 32768 - a * 32768) (omega arith) (omega arith) (omega arith) in
-    let two = second ∙ ring_before_by (a * 32768 + 4) (b * 32768 + 4 + 32767) (b * 32768 + 32767 - a * 32768) (omega arith) (omega arith) (omega arith) in
-    (λ j. one j && two j) ∙ sym (lt-ltb a b lt))
-    (λ (ge : b ≤ a).
-    let one = first ∙ ring_not_before (a * 32768 + 4) (b * 32768 + 4) (a * 32768 - b * 32768) (omega arith) (omega arith) in
-    (λ j. one j && xid_before na ((nb + 32767) % 2 ^ 32)) ∙ sym (le-ltb a b ge))
-    (either a b)
-  where
-    either : (a b : ℕ) → (a < b) ⊎ (b ≤ a)
-    either a b = grind arith
+use Rattle.tx_core.proofs.PageRing.{xact_order}
+use Rattle.tx_events.specs.PageOrder.{Ids, page_precedes}
 
 -- ---- one entry more
 
@@ -155,14 +117,14 @@ module _ (start : Start) (bank faults last cutoff : ℕ) (tells : Bool) (bytes :
       let lt : old_last < page = grind (arith, nat_tests) in
       let low = last_from_first start (λ x. None) es in
       let at : last ≡ old_last % 2 ^ 17 = s.last_is (omega arith) in
-      ap (λ z. page_precedes Ids 32768 z (page % 2 ^ 17)) at ∙ (page_order old_last page (omega arith) (omega arith) ∙ is)
+      ap (λ z. page_precedes Ids 32768 z (page % 2 ^ 17)) at ∙ (xact_order old_last page (omega arith) (omega arith) ∙ is)
 
   order_false : nat_lt old_last page ≡ false → old_last * 32768 < start.base.next + 2 ^ 29 → page_precedes Ids 32768 last (page % 2 ^ 17) ≡ false
   order_false is made =
       let ge : page ≤ old_last = grind (arith, nat_tests) in
       let low = last_from_first start (λ x. None) es in
       let at : last ≡ old_last % 2 ^ 17 = s.last_is made in
-      ap (λ z. page_precedes Ids 32768 z (page % 2 ^ 17)) at ∙ (page_order old_last page (omega arith) (omega arith) ∙ is)
+      ap (λ z. page_precedes Ids 32768 z (page % 2 ^ 17)) at ∙ (xact_order old_last page (omega arith) (omega arith) ∙ is)
 
   module _ (faults' last' : ℕ) (bytes' : ℕ → List ℕ) (led' : List Entry → Type 0) (ends : last' ≡ cond (page_precedes Ids 32768 last (page % 2 ^ 17)) (page % 2 ^ 17) last) (puts : IsTrue tells → MatchBool (page_precedes Ids 32768 last (page % 2 ^ 17)) (PutsPage (page % 2 ^ 17) zero_page bytes bytes') (SameMap bytes bytes')) where
     lasts : (b : Bool) → nat_lt old_last page ≡ b → (quiet_pages start (es ++ made_entry ∷ [])).last * 32768 < start.base.next + 2 ^ 29 → last' ≡ (quiet_pages start (es ++ made_entry ∷ [])).last % 2 ^ 17

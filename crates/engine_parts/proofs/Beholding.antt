@@ -18,13 +18,13 @@ use Rattle.engine_parts.specs.Calls.{IsHeldBehind}
 use Rattle.engine_parts.specs.Standing.{flushes, needs_log}
 
 -- a refusal by how the session stands tells nothing of the log
-pub held_standing : (start : Start) (lists : List (List Entry)) (r : Refusal) (new : Stage) → is_by_standing r ≡ true → IsHeldBehind start lists (replies.Refused r) new
-held_standing start lists refusals.LogFault new q = absurd (false≢true q)
-held_standing start lists (refusals.LogDown down) new q = absurd (false≢true q)
-held_standing start lists r new q = tt
+pub held_standing : (start : Start) (lists : List (List Entry)) (command : Command) (r : Refusal) (new : Stage) → is_by_standing r ≡ true → IsHeldBehind start lists command (replies.Refused r) new
+held_standing start lists command refusals.LogFault new q = absurd (false≢true q)
+held_standing start lists command (refusals.LogDown down) new q = absurd (false≢true q)
+held_standing start lists command r new q = tt
 
 -- nor does a command that needs no log
-pub held_unneeded : (tells : Bool) (start : Start) (lists : List (List Entry)) (span : RoundSpan) (by : By) (s : Stance) (old new : Stage) (command : Command) (reply : Reply) → flushes command s old ≡ false → needs_log command s old ≡ false → MayAnswer tells start lists span by s old command reply → IsHeldBehind start lists reply new
+pub held_unneeded : (tells : Bool) (start : Start) (lists : List (List Entry)) (span : RoundSpan) (by : By) (s : Stance) (old new : Stage) (command : Command) (reply : Reply) → flushes command s old ≡ false → needs_log command s old ≡ false → MayAnswer tells start lists span by s old command reply → IsHeldBehind start lists command reply new
 held_unneeded tells start lists span by s old new command (replies.Refused refusals.LogFault) f n a = absurd (false≢true (sym f ∙ a.0))
 held_unneeded tells start lists span by s old new command (replies.Refused (refusals.LogDown down)) f n a = absurd (false≢true (sym n ∙ a.0))
 held_unneeded tells start lists span by s old new command reply f n a = tt

@@ -1,5 +1,5 @@
 -- What a call did, from what it did behind the count of its command.
-use Rattle.std.proofs.Common.{true, ◌≡◌, ℕ, List, refl, sym, ap, subst, ◌∙◌, Some}
+use Rattle.std.proofs.Common.{false, true, ◌≡◌, ℕ, List, refl, sym, ap, subst, ◌∙◌, Some}
 use Rattle.disk_core.specs.declared.log_disk.LogDisk as logs
 use Rattle.disk_core.specs.declared.page_disk.PageDisk as disks
 use Rattle.hall.specs.declared.hall.Hall.{Hall}
@@ -19,7 +19,7 @@ use Rattle.engine_parts.specs.declared.part.Part.{Part}
 use Rattle.engine_parts.specs.declared.session.Caller.{Caller}
 use Rattle.engine_parts.specs.declared.session.Session.{Session}
 use Rattle.engine_parts.specs.declared.session.Stage.{Stage}
-use Rattle.engine_parts.specs.Answers.{Acted, MayAnswer}
+use Rattle.engine_parts.specs.Answers.{Acted, MayAnswer, touches_multis}
 use Rattle.engine_parts.specs.Calls.{IsCounted, MayRun, MayStep, Ran, next_command}
 use Rattle.engine_parts.specs.Holds.{Knowledge}
 use Rattle.engine_parts.specs.Sessions.{MayCall, by_at, stance_of}
@@ -40,7 +40,7 @@ module _ {H L P : Type 0} {l : logs.Ghosts L} {p : disks.Ghosts P} (hall : Hall 
   pub may_counted : {banks : ℕ} (old u : Caller L P l p) → IsCounted old u → MayRun hall banks old → MayCall (start_of hall) (view u.pass) u.number u.session
   may_counted old u c m =
       let t : Session = record old.session { levels = record old.session.levels { commands = next_command old } } in
-      let is : u.session ≡ t = λ j. record { levels = c.levels j; stage = c.stage j; unlinked = c.unlinked j } in
+      let is : u.session ≡ t = λ j. record { levels = c.levels j; stage = c.stage j; unlinked = c.unlinked j; making = c.making j } in
       subst (λ (z : (Knowledge × ℕ) × Session). MayCall (start_of hall) z.0.0 z.0.1 z.1) (λ j. ((view (sym c.pass j), sym c.number j), sym is j))
       (record { ready = ready_next (start_of hall) (view old.pass) old.number old.session t refl m.step.may.ready; stage = m.step.may.stage })
 
@@ -62,22 +62,22 @@ module _ {H L P : Type 0} {l : logs.Ghosts L} {p : disks.Ghosts P} (hall : Hall 
       }
 
   -- a command that is refused before any critical section
-  pub ran_refused : {banks : ℕ} (old u : Caller L P l p) (command : Command) (r : Refusal) → IsCounted old u → MayRun hall banks old → is_by_standing r ≡ true → by_standing (replies.Refused r) ≡ refused_by command (stance_of old.session) (pending_in old.session.stage)
+  pub ran_refused : {banks : ℕ} (old u : Caller L P l p) (command : Command) (r : Refusal) → IsCounted old u → MayRun hall banks old → touches_multis command ≡ false → is_by_standing r ≡ true → by_standing (replies.Refused r) ≡ refused_by command (stance_of old.session) (pending_in old.session.stage)
       → MayAnswer (p.tells) (start_of hall) (view old.pass).seen (alone (history (view old.pass).seen) (history (view old.pass).seen)) (by_at old.number (next_command old)) (stance_of old.session) old.session.stage command (replies.Refused r)
       → Ran hall (next_command old) command (replies.Refused r) old u
-  ran_refused old u command r c m by standing allowed = record {
+  ran_refused old u command r c m untouched by standing allowed = record {
     own = own_counted old u c m.step.own;
     may = may_counted old u c m;
-    acted = acted_refused (start_of hall) (view old.pass).seen (view u.pass).seen old.number (next_command old) (stance_of old.session) (stance_of u.session) old.session.stage command r (ap (λ p. (view p).seen) c.pass) (ap levels.stance_of c.levels) (refused_events (by_at old.number (next_command old)) (stance_of old.session) command r by) allowed standing;
+    acted = acted_refused (start_of hall) (view old.pass).seen (view u.pass).seen old.number (next_command old) (stance_of old.session) (stance_of u.session) old.session.stage command r (ap (λ p. (view p).seen) c.pass) (ap levels.stance_of c.levels) (refused_events (by_at old.number (next_command old)) (stance_of old.session) command r by) untouched allowed standing;
     stage = stands_still command r old.session.stage u.session.stage by c.stage;
-    held = held_standing (start_of hall) (view u.pass).seen r u.session.stage by;
+    held = held_standing (start_of hall) (view u.pass).seen command r u.session.stage by;
     still = λ q is. ap (λ p. (view p).seen) c.pass;
     count = (ap (λ z. z.commands) c.levels, c.number);
   }
 
   -- by an end that was begun
-  pub ran_held : {banks : ℕ} (old u : Caller L P l p) (command : Command) (r : Refusal) → IsCounted old u → MayRun hall banks old → pending_in old.session.stage ≡ Some r → refused_by command (stance_of old.session) (pending_in old.session.stage) ≡ Some r
+  pub ran_held : {banks : ℕ} (old u : Caller L P l p) (command : Command) (r : Refusal) → IsCounted old u → MayRun hall banks old → touches_multis command ≡ false → pending_in old.session.stage ≡ Some r → refused_by command (stance_of old.session) (pending_in old.session.stage) ≡ Some r
       → Ran hall (next_command old) command (replies.Refused r) old u
-  ran_held old u command r c m pending refused =
+  ran_held old u command r c m untouched pending refused =
       let h : List Event = history (view old.pass).seen in
-      ran_refused old u command r c m (is_pending old.session.stage r pending) (pending_stands old.session.stage r pending ∙ sym refused) (pending_answer (p.tells) (start_of hall) (view old.pass) old.number old.session (alone h h) command r m.step.may pending)
+      ran_refused old u command r c m untouched (is_pending old.session.stage r pending) (pending_stands old.session.stage r pending ∙ sym refused) (pending_answer (p.tells) (start_of hall) (view old.pass) old.number old.session (alone h h) command r m.step.may pending)

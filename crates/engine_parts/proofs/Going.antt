@@ -32,6 +32,7 @@ use Rattle.engine_parts.specs.declared.session.Stage.TheVariants as stages
 use Rattle.engine_parts.specs.declared.session.Unlinked.{Unlinked}
 use Rattle.engine_parts.specs.Holds.{Knowledge, Learns}
 use Rattle.engine_parts.specs.Sessions.{CallsStay, IsAt, IsFiled, IsReady, inner_id}
+use Rattle.engine_parts.proofs.Made.{makes_on}
 use Rattle.engine_parts.specs.Stages.{AsksNothing, IsAppendedAt, IsInStage, IsLogged, state_of}
 
 beside_of : (n : ℕ) (es : List Event) → ((e : Event) → Has es e → (by_of e).session ≢ n) → AreBeside n es
@@ -126,6 +127,7 @@ at_on start v w n s a l k =
       clear = λ q top subs appended opened. a.clear q top subs (own_appended n v.seen w.seen (records.Commit top subs) knows appended) (sym (open_seen start n v.seen w.seen k knows) ∙ opened);
       unaborted = λ q id c top subs named among. a.unaborted q id c top subs (own_appended n v.seen w.seen (records.Abort top subs) knows named) among;
       filed = filed_later start v.seen w.seen n s.levels.open_ids.items s.unlinked knows.grows a.filed;
+      makes = makes_on start n s.making v.seen w.seen k knows a.makes;
     }
 
 -- and may call as it might
@@ -155,6 +157,7 @@ ready_next start v n s s' is r =
         clear = a.clear;
         unaborted = a.unaborted;
         filed = a.filed;
+        makes = a.makes;
         turns = λ lock. let t = a.turns lock in record { known = t.known; after = All-weaker (λ (f : Entry). f.by.command ≤ s.levels.commands) (λ (f : Entry). f.by.command ≤ s.levels.commands + 1) (λ f le. omega arith) (filter (λ (f : Entry). f.by.session == n) (at v.seen lock)) t.after };
         stands = record {
           opened = st.opened;

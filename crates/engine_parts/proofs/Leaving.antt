@@ -23,6 +23,10 @@ use Rattle.tx_core.specs.EngineInvariant.{EngineInvariant}
 use Rattle.tx_core.specs.AbortRule.{Asks}
 use Rattle.tx_core.specs.Entries.{IsAppended, Mark, appended, appended_in, asks_in, event_of, history, session_of}
 use Rattle.tx_core.specs.Locks.{log_lock, proc_lock}
+use Rattle.tx_core.specs.MultiEntries.{multi_of}
+use Rattle.tx_events.specs.declared.multi.Member.{Member}
+use Rattle.engine_parts.specs.Makings.{Makes}
+use Rattle.engine_parts.proofs.Made.{makes_left}
 use Rattle.tx_core.specs.ProgramOrder.{IsInTurn}
 use Rattle.tx_core.proofs.Stepping.{appended_cases, asks_cases, history_at, history_off, own_asks}
 use Rattle.session_levels.specs.Stands.{Stands}
@@ -100,8 +104,8 @@ asks_nothing start v u w n lock e name learns inside l none id state a =
 
 -- a session that added an entry stands by what it left of the history, of its records and of its parents
 pub at_left : (start : Start) (v w : Knowledge) (n lock : ℕ) (s s' : Session) (e : Entry) → IsAt start v n s → lock < length v.seen → e.by ≡ by_at n s.levels.commands → s'.levels.commands ≡ s.levels.commands → Leaves start lock e v w
-    → Stands start.base (history w.seen) n s'.levels.commands s'.levels → (may_be_recorded s'.stage ≡ false → HasNoRecord w.seen n) → (may_be_aborted s'.stage ≡ false → AreUnaborted w.seen n s'.levels.open_ids.items) → IsFiled start w.seen n s'.levels.open_ids.items s'.unlinked → IsReady start w n s'
-at_left start v w n lock s s' e a inside own count l st clear unaborted filed =
+    → Stands start.base (history w.seen) n s'.levels.commands s'.levels → (may_be_recorded s'.stage ≡ false → HasNoRecord w.seen n) → (may_be_aborted s'.stage ≡ false → AreUnaborted w.seen n s'.levels.open_ids.items) → IsFiled start w.seen n s'.levels.open_ids.items s'.unlinked → Makes start w.seen n s'.making → IsReady start w n s'
+at_left start v w n lock s s' e a inside own count l st clear unaborted filed makes =
     let turn : (k : ℕ) → IsInTurn start (at (add v.seen lock e) k) (by_at n s.levels.commands) = λ k.
     dite (ℕ_discrete k lock)
     (λ (q : k ≡ lock). subst (λ z. IsInTurn start (at (add v.seen lock e) z) (by_at n s.levels.commands)) (sym q) (subst (λ (t : List Entry). IsInTurn start t (by_at n s.levels.commands)) (sym (at_here v.seen lock e inside)) (turn_push start (at v.seen lock) (by_at n s.levels.commands) e own (a.turns lock))))
@@ -120,6 +124,7 @@ at_left start v w n lock s s' e a inside own count l st clear unaborted filed =
         clear = clear;
         unaborted = unaborted;
         filed = filed;
+        makes = makes;
       };
     }
 
@@ -148,30 +153,35 @@ no_abort e none top subs is = let some = sym (ap (appended_in e.by) is) ∙ none
 pub filed_left : (start : Start) (v w : Knowledge) (n lock : ℕ) (s : Session) (e : Entry) → IsAt start v n s → lock < length v.seen → Leaves start lock e v w → IsFiled start w.seen n s.levels.open_ids.items s.unlinked
 filed_left start v w n lock s e a inside l = filed_later start v.seen w.seen n s.levels.open_ids.items s.unlinked (grown_left start v w lock e inside l) a.filed
 
+-- no record of a multixact
+pub no_multi : (e : Entry) → appended e ≡ None → (multi offset : ℕ) (members : List Member) → e.kind ≡ kinds.Append (records.Multi multi offset members) → ⊥
+no_multi e none multi offset members is = let some = sym (ap (appended_in e.by) is) ∙ none in cc
+
 -- a session that added an entry without an event and without a record stands as before
-pub ready_quiet : (start : Start) (v w : Knowledge) (n n' lock : ℕ) (s s' : Session) (e : Entry) → IsAt start v n s → lock < length v.seen → e.by ≡ by_at n s.levels.commands → event_of e ≡ None → appended e ≡ None → s' ≡ s → n' ≡ n → Leaves start lock e v w → IsReady start w n' s'
-ready_quiet start v w n n' lock s s' e a inside own none no_record same number l =
+pub ready_quiet : (start : Start) (v w : Knowledge) (n n' lock : ℕ) (s s' : Session) (e : Entry) → IsAt start v n s → lock < length v.seen → e.by ≡ by_at n s.levels.commands → event_of e ≡ None → appended e ≡ None → multi_of e ≡ None → s' ≡ s → n' ≡ n → Leaves start lock e v w → IsReady start w n' s'
+ready_quiet start v w n n' lock s s' e a inside own none no_record no_event same number l =
     let still : history w.seen ≡ history v.seen = history_same start v w lock e none inside l in
     subst (λ (z : ℕ × Session). IsReady start w z.0 z.1) (λ j. (sym number j, sym same j))
-    (at_left start v w n lock s s e a inside own refl l (subst (λ (h : List Event). Stands start.base h n s.levels.commands s.levels) (sym still) a.stands) (clear_same start v w n lock s e a inside no_record (ap (open_ids n) still) l) (unaborted_same start v w n lock s e a inside (no_abort e no_record) l) (filed_left start v w n lock s e a inside l))
+    (at_left start v w n lock s s e a inside own refl l (subst (λ (h : List Event). Stands start.base h n s.levels.commands s.levels) (sym still) a.stands) (clear_same start v w n lock s e a inside no_record (ap (open_ids n) still) l) (unaborted_same start v w n lock s e a inside (no_abort e no_record) l) (filed_left start v w n lock s e a inside l) (makes_left start v w n lock s.making e l.kept inside no_event (no_multi e no_record) l a.makes))
 
 -- a session that only looked stands as before
 pub ready_looked : (start : Start) (v w : Knowledge) (n n' lock : ℕ) (s s' : Session) (e : Entry) → IsAt start v n s → lock < length v.seen → e ≡ record { by = by_at n s.levels.commands; kind = kinds.Look } → s' ≡ s → n' ≡ n → Leaves start lock e v w → IsReady start w n' s'
 ready_looked start v w n n' lock s s' e a inside is same number l =
-    ready_quiet start v w n n' lock s s' e a inside (ap (λ (z : Entry). z.by) is) (ap event_of is) (ap appended is) same number l
+    ready_quiet start v w n n' lock s s' e a inside (ap (λ (z : Entry). z.by) is) (ap event_of is) (ap appended is) (ap multi_of is) same number l
 
 same_record : (a b : Rec) → kinds.Append a ≡ kinds.Append b → a ≡ b
 same_record a b q = cc
 
 -- a session whose commit record stands
-pub ready_recorded : (start : Start) (v w : Knowledge) (n n' number : ℕ) (s s' : Session) (rec : Rec) (e : Entry) → IsAt start v n s → log_lock < length v.seen → e ≡ record { by = by_at n s.levels.commands; kind = kinds.Append rec } → ((top : ℕ) (subs : List ℕ) → rec ≡ records.Abort top subs → ⊥) → s.stage ≡ stages.Clear → s' ≡ record s { stage = stages.Logged number } → n' ≡ n → Leaves start log_lock e v w → IsReady start w n' s'
-ready_recorded start v w n n' number s s' rec e a inside is other clear same name l =
+pub ready_recorded : (start : Start) (v w : Knowledge) (n n' number : ℕ) (s s' : Session) (rec : Rec) (e : Entry) → IsAt start v n s → log_lock < length v.seen → e ≡ record { by = by_at n s.levels.commands; kind = kinds.Append rec } → ((top : ℕ) (subs : List ℕ) → rec ≡ records.Abort top subs → ⊥) → ((multi offset : ℕ) (members : List Member) → rec ≡ records.Multi multi offset members → ⊥) → s.stage ≡ stages.Clear → s' ≡ record s { stage = stages.Logged number } → n' ≡ n → Leaves start log_lock e v w → IsReady start w n' s'
+ready_recorded start v w n n' number s s' rec e a inside is other another clear same name l =
     let still : history w.seen ≡ history v.seen = history_same start v w log_lock e (ap event_of is) inside l in
     let t : Session = record s { stage = stages.Logged number } in
     subst (λ (z : ℕ × Session). IsReady start w z.0 z.1) (λ j. (sym name j, sym same j))
     (at_left start v w n log_lock s t e a inside (ap (λ (z : Entry). z.by) is) refl l (subst (λ (h : List Event). Stands start.base h n s.levels.commands s.levels) (sym still) a.stands)
     (λ q. absurd (false≢true (sym q)))
-    (λ q. unaborted_same start v w n log_lock s e a inside (λ top subs k. other top subs (same_record rec (records.Abort top subs) (sym (ap (λ (z : Entry). z.kind) is) ∙ k))) l (ap may_be_aborted clear)) (filed_left start v w n log_lock s e a inside l))
+    (λ q. unaborted_same start v w n log_lock s e a inside (λ top subs k. other top subs (same_record rec (records.Abort top subs) (sym (ap (λ (z : Entry). z.kind) is) ∙ k))) l (ap may_be_aborted clear)) (filed_left start v w n log_lock s e a inside l)
+    (makes_left start v w n log_lock s.making e l.kept inside (ap multi_of is) (λ multi offset members k. another multi offset members (same_record rec (records.Multi multi offset members) (sym (ap (λ (z : Entry). z.kind) is) ∙ k))) l a.makes))
 
 -- a call's session at its end, where its one entry asked for no state and it has the same open ids and stage
 pub call_left : (start : Start) (v u w : Knowledge) (n n' lock : ℕ) (s s' : Session) (e : Entry) → MayCall start v n s → Learns v u → lock < length v.seen → Leaves start lock e u w → asks_in e ≡ []

@@ -11,7 +11,12 @@ use Rattle.tx_events.proofs.Membership.{Has, contains_has}
 use Rattle.tx_core.specs.declared.entry.Entry.{Entry}
 use Rattle.tx_core.specs.declared.entry.Start.{Start}
 use Rattle.tx_core.specs.Entries.{events_in, history, session_of}
-use Rattle.tx_core.specs.Locks.{proc_lock}
+use Rattle.tx_core.specs.Locks.{multi_lock, proc_lock}
+use Rattle.tx_core.specs.MultiEntries.{multi_history, multis_in}
+use Rattle.tx_events.specs.declared.multi.MultiEvent.{MultiEvent}
+use Rattle.tx_events.specs.declared.multi.MultiEvent.TheVariants as multis
+use Rattle.engine_parts.specs.declared.session.Making.{Making}
+use Rattle.engine_parts.specs.Makings.{IsMakingOf}
 use Rattle.tx_core.specs.PagesBeforeIds.{IsMade}
 use Rattle.tx_core.specs.ParentsFollow.{IsGivenBelow}
 use Rattle.tx_core.specs.ProgramOrder.{IsInTurn}
@@ -63,6 +68,10 @@ first_call start v n s w nothing =
             linked = λ id k. absurd (subst (λ (t : List ℕ). Has (drop 1 t) id) w.fresh.3 (contains_has (drop 1 s.levels.open_ids.items) id k));
             pending = subst (λ (o : Option Unlinked). IfSome o (λ u. Contains (drop 1 s.levels.open_ids.items) u.id × IsGivenBelow v.seen n u.parent u.id × IsMade start v.seen u.id)) (sym w.unlinked) tt;
           };
+          makes = record {
+            pending = subst (λ (o : Option Making). IfSome o (IsMakingOf start v.seen n)) (sym w.making) tt;
+            others = λ multi offset members g. absurd (subst (λ (t : List MultiEvent). Has t (multis.Gen g.0 multi offset members)) (ap multis_in (nothing multi_lock)) (contains_has (multi_history v.seen) (multis.Gen g.0 multi offset members) g.2));
+          };
         };
       };
       stage = subst (IsInStage start v.seen n (inner_id s) s.levels.open_ids.items) (sym w.stage) (λ id state c asked. subst (λ (t : List ℕ). Has t id) w.fresh.3 (contains_has s.levels.open_ids.items id c));
@@ -87,6 +96,7 @@ new_may_call start v n s w =
       fresh = w.fresh;
       stage = w.stage;
       unlinked = w.unlinked;
+      making = w.making;
     } in
     let knows : Knows session_of n bare v.seen = record {
       grows = record { begins = λ place. (at v.seen place, ap (λ (t : List Entry). t ++ at v.seen place) (none place)) };

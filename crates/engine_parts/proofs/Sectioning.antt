@@ -10,6 +10,7 @@ use Rattle.tx_core.specs.declared.entry.Kind.{Kind}
 use Rattle.tx_core.specs.declared.entry.Start.{Start}
 use Rattle.tx_core.specs.Entries.{asks_in, event_of}
 use Rattle.tx_core.specs.Locks.{log_lock, proc_lock}
+use Rattle.tx_core.specs.MultiEntries.{multi_of}
 use Rattle.engine_parts.specs.declared.session.Session.{Session}
 use Rattle.engine_parts.specs.Adding.{Adds}
 use Rattle.engine_parts.specs.Answers.{MetFault, MetLogFault}
@@ -47,16 +48,16 @@ module _ (start : Start) (v w : Knowledge) (lock : ℕ) (e : Entry) (s : Section
   section_list = ap (λ (z : List (List Entry)). at z lock) s.leaves.seen ∙ at_here s.within.seen lock e within_is
 
   -- an entry without an event
-  pub section_goes : (n : ℕ) (t : Session) → IsAt start v n t → event_of e ≡ None → GoesOn n [] v.seen w.seen
-  section_goes n t a none = goes_quiet start v s.within w n lock t e a s.enters.kept s.enters.learns inside none s.leaves
+  pub section_goes : (n : ℕ) (t : Session) → IsAt start v n t → event_of e ≡ None → multi_of e ≡ None → GoesOn n [] v.seen w.seen
+  section_goes n t a none no_multi = goes_quiet start v s.within w n lock t e a s.enters.kept s.enters.learns inside none no_multi s.leaves
 
   -- what the command added
   pub section_adds : (by : By) (t : Session) (May : ℕ → Kind → Type 0) → IsAt start v by.session t → e.by ≡ by → May lock e.kind → Adds by May v.seen w.seen
   section_adds by t May a mine may = section_added start v s.within w lock e by May a.name s.enters.learns inside s.leaves mine may
 
   -- and without a state asked for
-  pub section_went : (n : ℕ) (t : Session) → IsAt start v n t → event_of e ≡ None → asks_in e ≡ [] → WentOn n [] v.seen w.seen
-  section_went n t a none asks = went_quiet start v s.within w n lock t e a s.enters.kept s.enters.learns inside none asks s.leaves
+  pub section_went : (n : ℕ) (t : Session) → IsAt start v n t → event_of e ≡ None → multi_of e ≡ None → asks_in e ≡ [] → WentOn n [] v.seen w.seen
+  section_went n t a none no_multi asks = went_quiet start v s.within w n lock t e a s.enters.kept s.enters.learns inside none no_multi asks s.leaves
 
 -- so in one of the three locks that come before the banks'
 pub shared_adds : (start : Start) (v w : Knowledge) (lock : ℕ) (e : Entry) (by : By) (t : Session) (May : ℕ → Kind → Type 0) → lock < 3 → IsAt start v by.session t → Section start lock e v w → e.by ≡ by → May lock e.kind → Adds by May v.seen w.seen

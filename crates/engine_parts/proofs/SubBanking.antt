@@ -1,6 +1,5 @@
 -- A bank of pg_subtrans stands for its list after one entry more.
 use Rattle.std.proofs.Common.{◌≡◌, ◌≢◌, ◌⊎◌, ℕ, ◌+◌, ◌-◌, ◌*◌, ◌%◌, ◌^◌, ◌≤◌, ◌<◌, ◌==◌, ◌&&◌, nat_lt, cond, List, [], ◌∷◌, ◌++◌, Bool, true, false, IsTrue, Option, Some, None, MatchBool, refl, sym, ap, subst, ◌∙◌, ⊎_elim, arith, eqb-true}
-use Rattle.std.proofs.lemmas.Bool.{le-ltb, lt-leb, le-leb, lt-ltb}
 use Rattle.std.proofs.lemmas.Bool.Decides.{nat_tests}
 use Rattle.std.proofs.lemmas.List.Sums.{fold_push}
 use Rattle.std.specs.List.{cons_option, filter_map, last_or}
@@ -26,46 +25,9 @@ use Rattle.store_pages.specs.Layouts.{number_in, word_page_of, word_place_of}
 use Rattle.engine_parts.specs.Stand.{IsInUse, ShowsParents, SubtransStands, number_of_parent, subtrans_pages, first_subtrans_page}
 use Rattle.tx_events.specs.Ids.{low_half}
 use Rattle.engine_parts.proofs.Cutoffs.{cutoff_more}
-use Rattle.tx_events.specs.Order.{ring_before, xid_before}
 use Rattle.tx_core.specs.FaultsRise.{faults_told}
-use Rattle.tx_events.specs.PageOrder.{Ids, page_number, page_precedes}
-
--- before on the ring
-ring_before_by : (a b d : ℕ) → 0 < d → d ≤ 2 ^ 31 → b ≡ a + d → ring_before (a % 2 ^ 32) (b % 2 ^ 32) ≡ true
-ring_before_by a b d some near way =
-    let far : 2 ^ 31 ≤ (a % 2 ^ 32 + (2 ^ 32 - b % 2 ^ 32)) % 2 ^ 32 = omega arith in
-    le-leb (2 ^ 31) ((a % 2 ^ 32 + (2 ^ 32 - b % 2 ^ 32)) % 2 ^ 32) far
-
-ring_not_before : (a b d : ℕ) → d < 2 ^ 31 → a ≡ b + d → ring_before (a % 2 ^ 32) (b % 2 ^ 32) ≡ false
-ring_not_before a b d near way =
-    let far : (a % 2 ^ 32 + (2 ^ 32 - b % 2 ^ 32)) % 2 ^ 32 < 2 ^ 31 = omega arith in
-    lt-leb (2 ^ 31) ((a % 2 ^ 32 + (2 ^ 32 - b % 2 ^ 32)) % 2 ^ 32) far
-
-normal : (a b : ℕ) → 3 ≤ a → 3 ≤ b → xid_before a b ≡ ring_before a b
-normal a b p q = rw (le-ltb a 3 p, le-ltb b 3 q) refl
-
--- stored pages compare as full ones do, within a quarter of the ring
-pub page_order : (a b : ℕ) → a * 2048 < b * 2048 + 2 ^ 30 → b * 2048 < a * 2048 + 2 ^ 30 → page_precedes Ids 2048 (a % 2 ^ 21) (b % 2 ^ 21) ≡ nat_lt a b
-page_order a b p q =
-    let na : ℕ = page_number Ids 2048 (a % 2 ^ 21) in
-    let nb : ℕ = page_number Ids 2048 (b % 2 ^ 21) in
-    let fa : na ≡ (a * 2048 + 4) % 2 ^ 32 = omega arith in
-    let fb : nb ≡ (b * 2048 + 4) % 2 ^ 32 = omega arith in
-    let fc : (nb + 2047) % 2 ^ 32 ≡ (b * 2048 + 4 + 2047) % 2 ^ 32 = omega arith in
-    let first : xid_before na nb ≡ ring_before ((a * 2048 + 4) % 2 ^ 32) ((b * 2048 + 4) % 2 ^ 32) = normal na nb (omega arith) (omega arith) ∙ (λ j. ring_before (fa j) (fb j)) in
-    let second : xid_before na ((nb + 2047) % 2 ^ 32) ≡ ring_before ((a * 2048 + 4) % 2 ^ 32) ((b * 2048 + 4 + 2047) % 2 ^ 32) = normal na ((nb + 2047) % 2 ^ 32) (omega arith) (omega arith) ∙ (λ j. ring_before (fa j) (fc j)) in
-    ⊎_elim
-    (λ (lt : a < b).
-    let one = first ∙ ring_before_by (a * 2048 + 4) (b * 2048 + 4) (b * 2048 - a * 2048) (omega arith) (omega arith) (omega arith) in
-    let two = second ∙ ring_before_by (a * 2048 + 4) (b * 2048 + 4 + 2047) (b * 2048 + 2047 - a * 2048) (omega arith) (omega arith) (omega arith) in
-    (λ j. one j && two j) ∙ sym (lt-ltb a b lt))
-    (λ (ge : b ≤ a).
-    let one = first ∙ ring_not_before (a * 2048 + 4) (b * 2048 + 4) (a * 2048 - b * 2048) (omega arith) (omega arith) in
-    (λ j. one j && xid_before na ((nb + 2047) % 2 ^ 32)) ∙ sym (le-ltb a b ge))
-    (either a b)
-  where
-    either : (a b : ℕ) → (a < b) ⊎ (b ≤ a)
-    either a b = grind arith
+use Rattle.tx_core.proofs.PageRing.{parent_order}
+use Rattle.tx_events.specs.PageOrder.{Ids, page_precedes}
 
 -- ---- one entry more
 
@@ -114,9 +76,10 @@ page_reached start es page made = ⊎_elim (λ (q : page ≡ subtrans_page start
         (has_cases es (e ∷ []) (record { by = by; kind = kinds.Zero page }) k)) es
 
 -- an entry that makes no page and sets no parent
-pub sub_quiet : (start : Start) (bank faults faults' last cutoff : ℕ) (tells : Bool) (bytes bytes' : ℕ → List ℕ) (es : List Entry) (e : Entry) → SubtransStands start bank tells faults last cutoff bytes es → links_in e ≡ [] → zeroed_in e.kind ≡ None → faults_told start (subtrans_lock bank) (es ++ e ∷ []) ≤ faults' → (IsTrue tells → (q : ℕ) → bytes' q ≡ bytes q)
-    → SubtransStands start bank tells faults' last cutoff bytes' (es ++ e ∷ [])
-sub_quiet start bank faults faults' last cutoff tells bytes bytes' es e s sets zeros count same =
+pub sub_quiet : (start : Start) (bank faults faults' last cutoff : ℕ) (tells : Bool) (bytes bytes' : ℕ → List ℕ) (led led' : List Entry → Type 0) (es : List Entry) (e : Entry) → SubtransStands start bank tells faults last cutoff bytes led es → links_in e ≡ [] → zeroed_in e.kind ≡ None → faults_told start (subtrans_lock bank) (es ++ e ∷ []) ≤ faults' → (IsTrue tells → (q : ℕ) → bytes' q ≡ bytes q)
+    → (IsTrue tells → led es → led' (es ++ e ∷ []))
+    → SubtransStands start bank tells faults' last cutoff bytes' led' (es ++ e ∷ [])
+sub_quiet start bank faults faults' last cutoff tells bytes bytes' led led' es e s sets zeros count same leads =
     let still : subtrans_pages start (es ++ e ∷ []) ≡ subtrans_pages start es = links_push start es e ∙ (λ j. zeroed subtrans_store (zeros j) (set_by subtrans_store (sets j) (subtrans_pages start es))) in
     let l : (subtrans_pages start (es ++ e ∷ [])).last ≡ (subtrans_pages start es).last = ap (λ (p : Pages ℕ). p.last) still in record {
       inside = s.inside;
@@ -126,13 +89,15 @@ sub_quiet start bank faults faults' last cutoff tells bytes bytes' es e s sets z
       shown = λ told made.
           let old = s.shown told (omega arith) in
           record { each = λ x used here uncut. ap (λ (b : List ℕ). number_in b (word_place_of x)) (same told (word_page_of x)) ∙ (old.each x used here uncut ∙ sym (ap (λ (p : Pages ℕ). number_of_parent (p.shows x)) still)) };
+      course = λ told. leads told (s.course told);
     }
 
 -- a call that read alone
-pub sub_read : (start : Start) (bank faults faults' last last' cutoff cutoff' : ℕ) (tells : Bool) (bytes bytes' : ℕ → List ℕ) (es : List Entry) (e : Entry) → SubtransStands start bank tells faults last cutoff bytes es → last' ≡ last → cutoff' ≡ cutoff → links_in e ≡ [] → zeroed_in e.kind ≡ None → faults_told start (subtrans_lock bank) (es ++ e ∷ []) ≤ faults' → (IsTrue tells → (q : ℕ) → bytes' q ≡ bytes q)
-    → SubtransStands start bank tells faults' last' cutoff' bytes' (es ++ e ∷ [])
-sub_read start bank faults faults' last last' cutoff cutoff' tells bytes bytes' es e s l c sets zeros count same =
-    subst (λ (z : ℕ × ℕ). SubtransStands start bank tells faults' z.0 z.1 bytes' (es ++ e ∷ [])) (λ j. (sym l j, sym c j)) (sub_quiet start bank faults faults' last cutoff tells bytes bytes' es e s sets zeros count same)
+pub sub_read : (start : Start) (bank faults faults' last last' cutoff cutoff' : ℕ) (tells : Bool) (bytes bytes' : ℕ → List ℕ) (led led' : List Entry → Type 0) (es : List Entry) (e : Entry) → SubtransStands start bank tells faults last cutoff bytes led es → last' ≡ last → cutoff' ≡ cutoff → links_in e ≡ [] → zeroed_in e.kind ≡ None → faults_told start (subtrans_lock bank) (es ++ e ∷ []) ≤ faults' → (IsTrue tells → (q : ℕ) → bytes' q ≡ bytes q)
+    → (IsTrue tells → led es → led' (es ++ e ∷ []))
+    → SubtransStands start bank tells faults' last' cutoff' bytes' led' (es ++ e ∷ [])
+sub_read start bank faults faults' last last' cutoff cutoff' tells bytes bytes' led led' es e s l c sets zeros count same leads =
+    subst (λ (z : ℕ × ℕ). SubtransStands start bank tells faults' z.0 z.1 bytes' led' (es ++ e ∷ [])) (λ j. (sym l j, sym c j)) (sub_quiet start bank faults faults' last cutoff tells bytes bytes' led led' es e s sets zeros count same leads)
 
 -- ---- a page is made
 
@@ -143,7 +108,7 @@ zero_number n = rw (zero_byte n, zero_byte (n + 1), zero_byte (n + 2), zero_byte
 pages_apart : (next oldest p x : ℕ) → next ≤ oldest + 2 ^ 31 → subtrans_page next ≤ p → p * 2048 < next + 2 ^ 29 → oldest ≤ x → x < next + 2 ^ 30 → word_page_of x ≡ p % 2 ^ 21 → subtrans_page x ≡ p
 pages_apart next oldest p x near from to old used same = omega arith
 
-module _ (start : Start) (bank faults last cutoff : ℕ) (tells : Bool) (bytes : ℕ → List ℕ) (es : List Entry) (by : By) (page : ℕ) (s : SubtransStands start bank tells faults last cutoff bytes es) (window : start.base.next ≤ start.base.oldest + 2 ^ 31) (from : subtrans_page start.base.next ≤ page) where
+module _ (start : Start) (bank faults last cutoff : ℕ) (tells : Bool) (bytes : ℕ → List ℕ) (led : List Entry → Type 0) (es : List Entry) (by : By) (page : ℕ) (s : SubtransStands start bank tells faults last cutoff bytes led es) (window : start.base.next ≤ start.base.oldest + 2 ^ 31) (from : subtrans_page start.base.next ≤ page) where
   abbrev made_entry : Entry
   made_entry = record { by = by; kind = kinds.Zero page }
 
@@ -161,16 +126,16 @@ module _ (start : Start) (bank faults last cutoff : ℕ) (tells : Bool) (bytes :
       let lt : old_last < page = grind (arith, nat_tests) in
       let low = last_from_first start es in
       let at : last ≡ old_last % 2 ^ 21 = s.last_is (omega arith) in
-      ap (λ z. page_precedes Ids 2048 z (page % 2 ^ 21)) at ∙ (page_order old_last page (omega arith) (omega arith) ∙ is)
+      ap (λ z. page_precedes Ids 2048 z (page % 2 ^ 21)) at ∙ (parent_order old_last page (omega arith) (omega arith) ∙ is)
 
   order_false : nat_lt old_last page ≡ false → old_last * 2048 < start.base.next + 2 ^ 29 → page_precedes Ids 2048 last (page % 2 ^ 21) ≡ false
   order_false is made =
       let ge : page ≤ old_last = grind (arith, nat_tests) in
       let low = last_from_first start es in
       let at : last ≡ old_last % 2 ^ 21 = s.last_is made in
-      ap (λ z. page_precedes Ids 2048 z (page % 2 ^ 21)) at ∙ (page_order old_last page (omega arith) (omega arith) ∙ is)
+      ap (λ z. page_precedes Ids 2048 z (page % 2 ^ 21)) at ∙ (parent_order old_last page (omega arith) (omega arith) ∙ is)
 
-  module _ (faults' last' : ℕ) (bytes' : ℕ → List ℕ) (ends : last' ≡ cond (page_precedes Ids 2048 last (page % 2 ^ 21)) (page % 2 ^ 21) last) (puts : IsTrue tells → MatchBool (page_precedes Ids 2048 last (page % 2 ^ 21)) (PutsPage (page % 2 ^ 21) zero_page bytes bytes') (SameMap bytes bytes')) where
+  module _ (faults' last' : ℕ) (bytes' : ℕ → List ℕ) (led' : List Entry → Type 0) (ends : last' ≡ cond (page_precedes Ids 2048 last (page % 2 ^ 21)) (page % 2 ^ 21) last) (puts : IsTrue tells → MatchBool (page_precedes Ids 2048 last (page % 2 ^ 21)) (PutsPage (page % 2 ^ 21) zero_page bytes bytes') (SameMap bytes bytes')) where
     lasts : (b : Bool) → nat_lt old_last page ≡ b → (subtrans_pages start (es ++ made_entry ∷ [])).last * 2048 < start.base.next + 2 ^ 29 → last' ≡ (subtrans_pages start (es ++ made_entry ∷ [])).last % 2 ^ 21
     lasts true is made =
         let l : (subtrans_pages start (es ++ made_entry ∷ [])).last ≡ page = ap (λ (p : Pages ℕ). p.last) (after_made true is) in
@@ -207,8 +172,8 @@ module _ (start : Start) (bank faults last cutoff : ℕ) (tells : Bool) (bytes :
         }
 
     -- a page is made, or it was made before
-    pub sub_made : faults_told start (subtrans_lock bank) (es ++ made_entry ∷ []) ≤ faults' → SubtransStands start bank tells faults' last' cutoff bytes' (es ++ made_entry ∷ [])
-    sub_made count = record { inside = s.inside; count = count; last_is = lasts (nat_lt old_last page) refl; cutoff_is = cutoff_more (first_subtrans_page start) (2 ^ 21) es made_entry cutoff s.cutoff_is; shown = shows (nat_lt old_last page) refl }
+    pub sub_made : faults_told start (subtrans_lock bank) (es ++ made_entry ∷ []) ≤ faults' → (IsTrue tells → led es → led' (es ++ made_entry ∷ [])) → SubtransStands start bank tells faults' last' cutoff bytes' led' (es ++ made_entry ∷ [])
+    sub_made count leads = record { inside = s.inside; count = count; last_is = lasts (nat_lt old_last page) refl; cutoff_is = cutoff_more (first_subtrans_page start) (2 ^ 21) es made_entry cutoff s.cutoff_is; shown = shows (nat_lt old_last page) refl; course = λ told. leads told (s.course told) }
 
 -- ---- a parent is set
 
@@ -216,7 +181,7 @@ module _ (start : Start) (bank faults last cutoff : ℕ) (tells : Bool) (bytes :
 apart : (next oldest a b : ℕ) → next ≤ oldest + 2 ^ 31 → oldest ≤ a → a < next + 2 ^ 30 → oldest ≤ b → b < next + 2 ^ 30 → word_page_of a ≡ word_page_of b → low_half a % 2048 ≡ low_half b % 2048 → a ≡ b
 apart next oldest a b near ao an bo bn p q = omega arith
 
-module _ (start : Start) (bank faults last cutoff : ℕ) (tells : Bool) (bytes : ℕ → List ℕ) (es : List Entry) (by : By) (id parent : ℕ) (s : SubtransStands start bank tells faults last cutoff bytes es) (window : start.base.next ≤ start.base.oldest + 2 ^ 31) (full : IsFullId id) (old_id : start.base.oldest ≤ id) (reaches : subtrans_page id ≤ (subtrans_pages start es).last) where
+module _ (start : Start) (bank faults last cutoff : ℕ) (tells : Bool) (bytes : ℕ → List ℕ) (led : List Entry → Type 0) (es : List Entry) (by : By) (id parent : ℕ) (s : SubtransStands start bank tells faults last cutoff bytes led es) (window : start.base.next ≤ start.base.oldest + 2 ^ 31) (full : IsFullId id) (old_id : start.base.oldest ≤ id) (reaches : subtrans_page id ≤ (subtrans_pages start es).last) where
   abbrev set_entry : Entry
   set_entry = record { by = by; kind = kinds.Set (changes.Parent by id parent ∷ []) }
 
@@ -227,10 +192,10 @@ module _ (start : Start) (bank faults last cutoff : ℕ) (tells : Bool) (bytes :
       turned x true = refl
       turned x false = refl
 
-  pub sub_set : (faults' last' cutoff' : ℕ) (bytes' : ℕ → List ℕ) → last' ≡ last → cutoff' ≡ cutoff → faults_told start (subtrans_lock bank) (es ++ set_entry ∷ []) ≤ faults' → (IsTrue tells → SetsEntry (word_page_of id) (low_half id % 2048) (low_half parent) bytes bytes') → SubtransStands start bank tells faults' last' cutoff' bytes' (es ++ set_entry ∷ [])
-  sub_set faults' last' cutoff' bytes' l c count sets =
+  pub sub_set : (faults' last' cutoff' : ℕ) (bytes' : ℕ → List ℕ) (led' : List Entry → Type 0) → last' ≡ last → cutoff' ≡ cutoff → faults_told start (subtrans_lock bank) (es ++ set_entry ∷ []) ≤ faults' → (IsTrue tells → SetsEntry (word_page_of id) (low_half id % 2048) (low_half parent) bytes bytes') → (IsTrue tells → led es → led' (es ++ set_entry ∷ [])) → SubtransStands start bank tells faults' last' cutoff' bytes' led' (es ++ set_entry ∷ [])
+  sub_set faults' last' cutoff' bytes' led' l c count sets leads =
       let same : (subtrans_pages start (es ++ set_entry ∷ [])).last ≡ (subtrans_pages start es).last = ap (λ (p : Pages ℕ). p.last) after_set in
-      subst (λ (z : ℕ × ℕ). SubtransStands start bank tells faults' z.0 z.1 bytes' (es ++ set_entry ∷ [])) (λ j. (sym l j, sym c j)) (record {
+      subst (λ (z : ℕ × ℕ). SubtransStands start bank tells faults' z.0 z.1 bytes' led' (es ++ set_entry ∷ [])) (λ j. (sym l j, sym c j)) (record {
         inside = s.inside;
         count = count;
         last_is = λ made. s.last_is (omega arith) ∙ sym (ap (λ z. z % 2 ^ 21) same);
@@ -251,6 +216,7 @@ module _ (start : Start) (bank faults last cutoff : ℕ) (tells : Bool) (bytes :
                   ] in
                   step (id == x) refl ∙ sym (ap (λ (p : Pages ℕ). number_of_parent (p.shows x)) after_set);
             };
+        course = λ told. leads told (s.course told);
       })
     where
       stays : IsInUse start id → (x : ℕ) → IsInUse start x → SetsEntry (word_page_of id) (low_half id % 2048) (low_half parent) bytes bytes' → id ≢ x → number_in (bytes' (word_page_of x)) (word_place_of x) ≡ number_in (bytes (word_page_of x)) (word_place_of x)

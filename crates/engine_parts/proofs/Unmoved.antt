@@ -1,5 +1,5 @@
 -- What a call did that left its session as it stood.
-use Rattle.std.proofs.Common.{false, ◌≡◌, ◌≤◌, ℕ, List, [], None, length, arith, refl, sym, ap, subst, ◌∙◌}
+use Rattle.std.proofs.Common.{false, append-nil, ◌≡◌, ◌≤◌, ℕ, List, [], None, length, arith, refl, sym, ap, subst, ◌∙◌}
 use Rattle.std.specs.List.{AllByRecursion}
 use Rattle.disk_core.specs.declared.log_disk.LogDisk as logs
 use Rattle.disk_core.specs.declared.page_disk.PageDisk as disks
@@ -26,7 +26,9 @@ use Rattle.engine_parts.specs.declared.part.Part.{Part}
 use Rattle.engine_parts.specs.declared.session.Caller.{Caller}
 use Rattle.engine_parts.specs.declared.session.Session.{Session}
 use Rattle.engine_parts.specs.Adding.{Adds, MayLeave}
-use Rattle.engine_parts.specs.Answers.{MayAnswer}
+use Rattle.engine_parts.specs.Answers.{MayAnswer, touches_multis}
+use Rattle.tx_core.specs.OwnMultis.{own_multis}
+use Rattle.engine_parts.proofs.Touching.{any_answer, no_multis}
 use Rattle.engine_parts.specs.Calls.{IsCounted, MayRun, Ran, next_command}
 use Rattle.engine_parts.specs.Holds.{Knowledge, Section}
 use Rattle.engine_parts.specs.Sessions.{IsAt, IsReady, MayCall, by_at, inner_id, look_by, stance_of}
@@ -65,9 +67,9 @@ module _ {H L P : Type 0} {l : logs.Ghosts L} {p : disks.Ghosts P} (hall : Hall 
       → HasEvents (by_at u.number u.session.levels.commands) (stance_of u.session) command reply added
       → Adds (by_at u.number u.session.levels.commands) (MayLeave command (stance_of u.session) u.session.stage (open_ids u.number (history (view u.pass).seen)) reply) (view u.pass).seen (view new.pass).seen
       → MayAnswer (p.tells) (start_of hall) (view new.pass).seen (alone (history (view u.pass).seen) (history (view new.pass).seen)) (by_at u.number u.session.levels.commands) (stance_of u.session) u.session.stage command reply
-      → by_standing reply ≡ refused_by command (stance_of u.session) (pending_in u.session.stage) → after (stance_of u.session) u.session.levels.commands command reply (given added) ≡ stance_of u.session → moves_end command ≡ false → flushes command (stance_of u.session) u.session.stage ≡ false → needs_log command (stance_of u.session) u.session.stage ≡ false → by_standing reply ≡ None
+      → touches_multis command ≡ false → by_standing reply ≡ refused_by command (stance_of u.session) (pending_in u.session.stage) → after (stance_of u.session) u.session.levels.commands command reply (given added) ≡ stance_of u.session → moves_end command ≡ false → flushes command (stance_of u.session) u.session.stage ≡ false → needs_log command (stance_of u.session) u.session.stage ≡ false → by_standing reply ≡ None
       → Ran hall (next_command old) command reply old new
-  ran_unmoved added old u new command reply each c m own ready went same number fitting adds allowed standing left still unflushed unneeded free =
+  ran_unmoved added old u new command reply each c m own ready went same number fitting adds allowed untouched standing left still unflushed unneeded free =
       ran_counted hall old u new command reply c (record {
         own = own;
         may = call_read (start_of hall) (view u.pass) (view new.pass) u.number new.number u.session new.session (may_counted hall old u c m) went number same ready;
@@ -77,8 +79,12 @@ module _ {H L P : Type 0} {l : logs.Ghosts L} {p : disks.Ghosts P} (hall : Hall 
           own = went.on.own;
           each = each;
           fitting = fitting;
+          multis = [];
+          own_multi = went.on.multis ∙ sym (append-nil (own_multis u.number (view u.pass).seen));
+          each_multi = tt;
+          fitting_multi = no_multis (start_of hall) (view u.pass).seen (view new.pass).seen (by_at u.number u.session.levels.commands) command reply untouched;
           adds = adds;
-          allowed = allowed;
+          allowed = any_answer p.tells (start_of hall) (view u.pass).seen (view new.pass).seen (by_at u.number u.session.levels.commands) (stance_of u.session) u.session.stage command reply untouched allowed;
           standing = standing;
           left = left ∙ sym (ap stance_of same);
         };
@@ -93,6 +99,6 @@ module _ {H L P : Type 0} {l : logs.Ghosts L} {p : disks.Ghosts P} (hall : Hall 
       → HasEvents (by_at u.number u.session.levels.commands) (stance_of u.session) command reply []
       → Adds (by_at u.number u.session.levels.commands) (MayLeave command (stance_of u.session) u.session.stage (open_ids u.number (history (view u.pass).seen)) reply) (view u.pass).seen (view new.pass).seen
       → MayAnswer (p.tells) (start_of hall) (view new.pass).seen (alone (history (view u.pass).seen) (history (view new.pass).seen)) (by_at u.number u.session.levels.commands) (stance_of u.session) u.session.stage command reply
-      → by_standing reply ≡ refused_by command (stance_of u.session) (pending_in u.session.stage) → after (stance_of u.session) u.session.levels.commands command reply [] ≡ stance_of u.session → moves_end command ≡ false → flushes command (stance_of u.session) u.session.stage ≡ false → needs_log command (stance_of u.session) u.session.stage ≡ false → by_standing reply ≡ None
+      → touches_multis command ≡ false → by_standing reply ≡ refused_by command (stance_of u.session) (pending_in u.session.stage) → after (stance_of u.session) u.session.levels.commands command reply [] ≡ stance_of u.session → moves_end command ≡ false → flushes command (stance_of u.session) u.session.stage ≡ false → needs_log command (stance_of u.session) u.session.stage ≡ false → by_standing reply ≡ None
       → Ran hall (next_command old) command reply old new
   ran_read old u new command reply = ran_unmoved [] old u new command reply tt

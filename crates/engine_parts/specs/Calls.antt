@@ -20,15 +20,15 @@ use Rattle.engine_parts.specs.declared.session.Stage.{Stage}
 use Rattle.engine_parts.specs.Answers.{Acted}
 use Rattle.engine_parts.specs.Sessions.{MayCall, by_at, stance_of}
 use Rattle.engine_parts.specs.Stand.{IsDownAt}
-use Rattle.engine_parts.specs.Standing.{IsHeldDown, LeavesStage}
+use Rattle.engine_parts.specs.Standing.{HoldsDown, LeavesStage}
 
--- Behind a log that is down, or that this command's fault put down, a record of the session that stands there is held
--- down: it isn't among those that were on disk by then.
-abbrev pub IsHeldBehind : Start → List (List Entry) → Reply → Stage → Type 0
-IsHeldBehind start lists (replies.Refused refusals.LogFault) new =
-    (down : ℕ) × IsDownAt start (at lists log_lock) down × IsHeldDown new down
-IsHeldBehind start lists (replies.Refused (refusals.LogDown down)) new = IsHeldDown new down
-IsHeldBehind start lists reply new = Unit {0}
+-- Behind a log that is down, or that this command's fault put down, a record of the session's commit that stands there is
+-- held down: it isn't among those that were on disk by then.
+abbrev pub IsHeldBehind : Start → List (List Entry) → Command → Reply → Stage → Type 0
+IsHeldBehind start lists command (replies.Refused refusals.LogFault) new =
+    (down : ℕ) × IsDownAt start (at lists log_lock) down × HoldsDown command new down
+IsHeldBehind start lists command (replies.Refused (refusals.LogDown down)) new = HoldsDown command new down
+IsHeldBehind start lists command reply new = Unit {0}
 
 module _ {L P : Type 0} {l : logs.Ghosts L} {p : disks.Ghosts P} where
   -- the number of the session's next command
@@ -42,6 +42,7 @@ module _ {L P : Type 0} {l : logs.Ghosts L} {p : disks.Ghosts P} where
     pub levels : new.session.levels ≡ record old.session.levels { commands = next_command old }
     pub stage : new.session.stage ≡ old.session.stage
     pub unlinked : new.session.unlinked ≡ old.session.unlinked
+    pub making : new.session.making ≡ old.session.making
 
 module _ {H L P : Type 0} {l : logs.Ghosts L} {p : disks.Ghosts P} where
   -- The session is one of this table, which has the locks of so many banks, and stands between two calls, or between
@@ -65,7 +66,7 @@ module _ {H L P : Type 0} {l : logs.Ghosts L} {p : disks.Ghosts P} where
     pub acted : Acted (p.tells) (start_of hall) (by_at old.number number) (stance_of old.session)
         (stance_of new.session) old.session.stage command reply (view old.pass).seen (view new.pass).seen
     pub stage : LeavesStage command reply old.session.stage new.session.stage
-    pub held : IsHeldBehind (start_of hall) (view new.pass).seen reply new.session.stage
+    pub held : IsHeldBehind (start_of hall) (view new.pass).seen command reply new.session.stage
     -- a command that is refused by how its session stands enters no lock
     pub still : (r : Refusal) → by_standing reply ≡ Some r → (view new.pass).seen ≡ (view old.pass).seen
     pub count : (new.session.levels.commands ≡ number) × (new.number ≡ old.number)

@@ -25,6 +25,7 @@ pub record IsNew (start : Start) (v : Knowledge) (n : ℕ) (s : Session) : Type 
   pub fresh : IsFresh s.levels
   pub stage : s.stage ≡ stages.Clear
   pub unlinked : s.unlinked ≡ None
+  pub making : s.making ≡ None
 
 -- a new session may call
 abbrev pub NewMayCall : Type 0

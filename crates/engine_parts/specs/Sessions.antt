@@ -19,6 +19,7 @@ use Rattle.engine_parts.specs.declared.session.Session.{Session}
 use Rattle.engine_parts.specs.declared.session.Unlinked.{Unlinked}
 use Rattle.engine_parts.specs.Faults.{look_of}
 use Rattle.engine_parts.specs.Holds.{Knowledge, Learns}
+use Rattle.engine_parts.specs.Makings.{Makes}
 use Rattle.engine_parts.specs.Stages.{AreUnaborted, IsInStage, may_be_aborted, may_be_recorded}
 
 abbrev pub by_at : ℕ → ℕ → By
@@ -54,8 +55,8 @@ abbrev pub AreGivenBefore : Start → Type 0
 AreGivenBefore start = (x : ℕ) → Contains start.committed x → (3 ≤ x) × (x < start.base.next)
 
 -- The lists keep the invariant, all entries of the session are of its commands so far, its levels, ids and snapshots
--- are those of the history, and the parents of its open ids are recorded. Between two critical sections and within
--- one.
+-- are those of the history, the parents of its open ids are recorded, and its multixacts are made. Between two critical
+-- sections and within one.
 pub record IsAt (start : Start) (v : Knowledge) (n : ℕ) (s : Session) : Type 0 where
   pub base : IsBase start.base
   pub before : AreGivenBefore start
@@ -68,6 +69,7 @@ pub record IsAt (start : Start) (v : Knowledge) (n : ℕ) (s : Session) : Type 0
   pub clear : may_be_recorded s.stage ≡ false → HasNoRecord v.seen n
   pub unaborted : may_be_aborted s.stage ≡ false → AreUnaborted v.seen n s.levels.open_ids.items
   pub filed : IsFiled start v.seen n s.levels.open_ids.items s.unlinked
+  pub makes : Makes start v.seen n s.making
 
 -- it is inside no lock
 pub record IsReady (start : Start) (v : Knowledge) (n : ℕ) (s : Session) : Type 0 where

@@ -8,6 +8,7 @@ use Rattle.tx_events.specs.declared.record.Counters.{Counters}
 use Rattle.tx_events.specs.declared.record.Rec.{Rec}
 use Rattle.tx_events.specs.declared.record.Rec.TheVariants as records
 use Rattle.log_bases.specs.LifeBase.{LifeBase, base_after}
+use Rattle.multi_store.specs.Generator.{Generator}
 use Rattle.proc_table.specs.Table.{Table}
 use Rattle.wal_core.specs.Kept.{KeepsRecords}
 use Rattle.wal_core.specs.declared.checkpoint.LastCheckpoint.{LastCheckpoint}
@@ -25,6 +26,7 @@ use Rattle.tx_core.specs.declared.entry.State.TheVariants as states
 use Rattle.tx_core.specs.CleanStart.{CleanStart}
 use Rattle.tx_core.specs.Entries.{cut_in, events_in, flushed_to, last_from, recs_in}
 use Rattle.tx_core.specs.Locks.{subtrans_page, xact_page, log_lock, subtrans_lock, xact_lock}
+use Rattle.tx_core.specs.MultiEntries.{multis_in}
 use Rattle.tx_core.specs.Pages.{Pages, pages_after, subtrans_store, xact_store}
 use Rattle.tx_core.specs.FaultsRise.{faults_told}
 use Rattle.tx_core.specs.StaysDown.{IsUp, puts_down}
@@ -125,6 +127,13 @@ pub record ProcStands (start : Start) (table : Table) (es : List Entry) : Type 0
   pub events : table.events ≡ events_in es
   pub frontier : table.initialised_up_to ≡ frontier_of start es
 
+-- ---- multixacts
+
+-- the generator's events are the list's
+pub record MultiStands (start : Start) (gen : Generator) (es : List Entry) : Type 0 where
+  pub base : gen.base ≡ start.base
+  pub events : gen.events ≡ multis_in es
+
 -- ---- banks
 
 -- The cutoff is a stored page: the first one with which the life began, or a later one at which an entry cut the bank.
@@ -201,10 +210,11 @@ pub record ShowsParents (start : Start) (bank cutoff : ℕ) (bytes : ℕ → Lis
 
 -- so a bank of pg_subtrans
 pub record SubtransStands (start : Start) (bank : ℕ) (tells : Bool) (faults last cutoff : ℕ) (bytes : ℕ → List ℕ)
-    (es : List Entry) : Type 0 where
+    (led : List Entry → Type 0) (es : List Entry) : Type 0 where
   pub inside : bank < start.banks
   pub count : faults_told start (subtrans_lock bank) es ≤ faults
   pub last_is : AreSubtransPagesNear start es → last ≡ (subtrans_pages start es).last % 2 ^ 21
   pub cutoff_is : IsCutoff (first_subtrans_page start) (2 ^ 21) es cutoff
   pub shown : IsTrue tells → AreSubtransPagesNear start es
       → ShowsParents start bank cutoff bytes (subtrans_pages start es).shows
+  pub course : IsTrue tells → led es

@@ -92,6 +92,12 @@ abbrev pub IsHeldDown : Stage → ℕ → Type 0
 IsHeldDown (stages.Logged number) down = down ≤ number
 IsHeldDown stage down = Unit {0}
 
+-- So of a commit. Another command that a log which is down refuses says nothing of the session's commit, which may be
+-- pending with its record on disk.
+abbrev pub HoldsDown : Command → Stage → ℕ → Type 0
+HoldsDown commands.Commit stage down = IsHeldDown stage down
+HoldsDown command stage down = Unit {0}
+
 -- the commands that move the session's end
 abbrev pub moves_end : Command → Bool
 moves_end commands.Commit = true

@@ -1,8 +1,9 @@
 //! The parts of an engine.
 use disk_core::{LogDisk, PageDisk};
+use multi_store::MultiGen;
 use proc_table::ProcTable;
 use slru_bank::SlruBank;
-use store_pages::{SubtransPages, XactPages};
+use store_pages::{MemberPages, OffsetPages, SubtransPages, XactPages};
 use wal_core::WalLog;
 
 /// What lies behind a lock of an engine's lock table (the locks by their numbers: `docs/ENGINE.md`). It is moved at each
@@ -12,11 +13,14 @@ pub enum Part<L: LogDisk, P: PageDisk> {
     Log(Box<WalLog<L>>),
     /// The ProcArray with the next id (ProcArrayLock of `procarray.c`, XidGenLock of `varsup.c`).
     Proc(Box<ProcTable>),
+    /// The generator of multixacts with their pins (MultiXactGenLock of `multixact.c`).
+    Multi(Box<MultiGen>),
     /// A bank of pg_xact (XactSLRULock of `clog.c`).
     Xact(Box<SlruBank<P, XactPages>>),
     /// A bank of pg_subtrans (SubtransSLRULock of `subtrans.c`).
     Subtrans(Box<SlruBank<P, SubtransPages>>),
-    /// Nothing yet: behind the locks of the multixacts and of their two stores (MultiXactGenLock and the two locks of
-    /// the SLRUs of `multixact.c`).
-    Vacant,
+    /// A bank of the offsets of multixacts (MultiXactOffsetSLRULock of `multixact.c`).
+    Offsets(Box<SlruBank<P, OffsetPages>>),
+    /// A bank of the members of multixacts (MultiXactMemberSLRULock of `multixact.c`).
+    Members(Box<SlruBank<P, MemberPages>>),
 }

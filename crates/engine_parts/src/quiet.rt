@@ -4,6 +4,7 @@ ghost use Rattle.hall.specs.declared.view.Stage.TheVariants.{Inside};
 ghost use Rattle.hall.specs.Calls.{view, IsOf, start_of};
 ghost use Rattle.notes.specs.Lists.{at};
 ghost use Rattle.tx_core.specs.Entries.{appended, event_of};
+ghost use Rattle.tx_core.specs.MultiEntries.{multi_of};
 ghost use Rattle.engine_parts.specs.Faults.{look_of};
 ghost use Rattle.engine_parts.specs.Holds.{Leaves};
 ghost use Rattle.engine_parts.specs.Law.{MayKeep};
@@ -35,7 +36,7 @@ pub fn leave_quiet<L: LogDisk, P: PageDisk>(
     requires cell { caller.old.pass.cell ≡ _lock }
     requires at { IsAt (start_of hall.now) (view caller.old.pass) caller.old.number caller.old.session }
     requires by { entry.value.by ≡ by_at caller.old.number caller.old.session.levels.commands }
-    requires quiet { (event_of entry.value ≡ None) × (appended entry.value ≡ None) }
+    requires quiet { (event_of entry.value ≡ None) × (appended entry.value ≡ None) × (multi_of entry.value ≡ None) }
     requires may { MayKeep (start_of hall.now) (view caller.old.pass).seen _lock entry.value }
     requires stands { PartStands (start_of hall.now) _lock part
         (at (view caller.old.pass).seen _lock ++ entry.value ∷ []) }

@@ -9,7 +9,7 @@ use crate::law::EngineLaw;
 use disk_core::{LogDisk, PageDisk};
 use hall::Pass;
 use session_levels::Session as Levels;
-use tx_events::{By, FullXid, Refusal};
+use tx_events::{By, FullMulti, FullXid, MemberList, Refusal};
 
 /// How far the end of a session's transaction, or the undo of its savepoint, has come that a fault stopped. A later
 /// command goes on with it.
@@ -48,6 +48,18 @@ pub struct Unlinked {
     pub parent: FullXid,
 }
 
+/// A multixact that the session was given and isn't made wholly yet: a fault stopped it. The session's next call on
+/// multixacts goes on with it.
+#[derive(Drop)]
+pub struct Making {
+    pub multi: FullMulti,
+    /// Where its members begin, in full.
+    pub offset: u64,
+    pub members: MemberList,
+    /// Whether its record stands in the log (`MultiXactIdCreateFromMembers` of `multixact.c` has logged it).
+    pub logged: bool,
+}
+
 /// How a session stands between two critical sections.
 #[derive(Drop)]
 pub struct Session {
@@ -57,6 +69,8 @@ pub struct Session {
     pub stage: Stage,
     /// The id that it was given last, where that id's parent isn't recorded yet.
     pub unlinked: Option<Unlinked>,
+    /// The multixact that it was given last, where that isn't made wholly yet.
+    pub making: Option<Making>,
 }
 
 /// A session with its lock permit (a backend, with its `PGPROC` of `src/include/storage/proc.h`).

@@ -2,4 +2,3 @@ pub mod Aloneness
 pub mod LogSteps
 pub mod BankSteps
 pub mod Refusals
-pub mod VacantSteps

@@ -1,9 +1,14 @@
 -- What the host's critical sections add to the lists, by what the log or a bank answered.
-use Rattle.std.specs.Prelude.{◌≡◌, ℕ, ◌+◌, ◌<◌, ◌⊎◌, List, length, Result, Ok, Err}
+use Rattle.std.specs.Prelude.{◌≡◌, ℕ, ◌+◌, List, length, Result, Ok, Err}
 use Rattle.disk_core.specs.Faults.{HasRisen}
 use Rattle.notes.specs.Lists.{add, at}
 use Rattle.tx_events.specs.Ids.{IsFullMulti, IsXidNumber}
 use Rattle.tx_events.specs.declared.event.By.{By}
+use Rattle.tx_events.specs.declared.event.Event.{Event}
+use Rattle.tx_events.specs.declared.multi.MultiEvent.{MultiEvent}
+use Rattle.tx_events.specs.History.{next_given}
+use Rattle.tx_events.specs.Horizon.{oldest_id}
+use Rattle.tx_events.specs.Multis.{multi_counters}
 use Rattle.tx_events.specs.declared.record.Counters.{Counters}
 use Rattle.tx_events.specs.declared.record.Rec.{Rec}
 use Rattle.tx_events.specs.declared.record.Rec.TheVariants as records
@@ -13,7 +18,7 @@ use Rattle.tx_core.specs.declared.entry.LogCall.TheVariants as calls
 use Rattle.tx_core.specs.declared.entry.Start.{Start}
 use Rattle.tx_core.specs.Entries.{recs_in}
 use Rattle.tx_core.specs.FaultsRise.{faults_told}
-use Rattle.tx_core.specs.Locks.{log_lock, members_lock, offsets_lock}
+use Rattle.tx_core.specs.Locks.{log_lock}
 use Rattle.tx_core.specs.StaysDown.{IsUp}
 use Rattle.slru_bank.specs.declared.refusal.BankRefusal.{BankRefusal}
 use Rattle.slru_bank.specs.declared.refusal.BankRefusal.TheVariants as bank_refusals
@@ -41,9 +46,6 @@ abbrev pub forget_fault_by : By → ℕ → ℕ → Entry
 forget_fault_by by number count = record { by = by; kind = kinds.LogFault (calls.Forget number) count }
 
 -- a bank of offsets or of members
-abbrev pub IsMultiBank : Start → ℕ → Type 0
-IsMultiBank start lock = (bank : ℕ) × (bank < start.banks) × ((lock ≡ offsets_lock bank) ⊎ (lock ≡ members_lock bank))
-
 -- the number of the log's next record
 abbrev pub next_number : Start → List (List Entry) → ℕ
 next_number start lists = start.from + length (recs_in (at lists log_lock))
@@ -91,6 +93,11 @@ AddsSync start by lock old new (Ok done) = new ≡ add old lock (sync_by by)
 AddsSync start by lock old new (Err bank_refusals.DiskFault) =
     RisenCount start old lock (λ count. new ≡ add old lock (fault_by by count))
 AddsSync start by lock old new (Err refusal) = ⊥
+
+-- the counters that a base has behind both histories
+abbrev pub counters_with : Counters → List Event → List MultiEvent → Counters
+counters_with base h all =
+    record (multi_counters base all) { next = next_given base.next h; oldest = oldest_id base.oldest h }
 
 -- the numbers have the forms of an id and of multixacts
 pub record HaveForms (c : Counters) : Type 0 where

@@ -9,7 +9,7 @@ mod counters;
 mod home;
 mod log;
 
-pub use banks::{sync_subtrans, sync_vacant, sync_xact};
+pub use banks::{sync_members, sync_offsets, sync_subtrans, sync_xact};
 pub use counters::read_counters;
-pub use home::{take_log, take_proc, take_subtrans, take_xact};
+pub use home::{take_log, take_members, take_offsets, take_proc, take_subtrans, take_xact};
 pub use log::{append_checkpoint, flush_records, forget_log};

@@ -171,6 +171,7 @@ it_is_lawful = record {
     checkpoints = record {
       each = places (λ before step. IsLawfulCheckpoint its_facts (flat_map lines_in before) step) stopped_life.steps (tt, (tt, tt));
       left = refl;
+      flushed = refl;
     };
     multis = refl;
     log = its_log;

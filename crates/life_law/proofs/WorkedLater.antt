@@ -236,6 +236,7 @@ it_is_lawful = record {
     checkpoints = record {
       each = places (λ before step. IsLawfulCheckpoint its_facts (flat_map lines_in before) step) checked_life.steps (tt, (none_pending, (tt, tt)));
       left = inl (tt, [], refl, refl);
+      flushed = inl (tt, [], refl, refl);
     };
     multis = refl;
     log = its_log;
@@ -268,6 +269,7 @@ pub worked_checkpoints : WorkedCheckpoints
 worked_checkpoints = record {
   lawful = it_is_lawful;
   unkept = λ w. ⊎_elim (λ h. nothing_left checked_counters h.1 h.2) (λ n. not_done n.0) w.life.checkpoints.left;
+  unflushed = λ w. ⊎_elim (λ h. nothing_left checked_counters h.1 h.2) (λ n. not_done n.0) w.life.checkpoints.flushed;
   stale = λ w. ⊎_elim (λ h. other_next h.1 h.2) (λ n. not_done n.0) w.life.checkpoints.left;
   renumbered = λ w. two_one (w.life.log.numbered 1 2 checked_counters refl);
   kept = λ w. ⊎_elim (λ h. h.0) (λ n. nothing_left checked_counters [] (sym n.1)) w.life.checkpoints.left;

@@ -1,5 +1,5 @@
 -- What a checkpoint between two rounds may be answered, and which records the checkpoints of a life leave.
-use Rattle.std.specs.Prelude.{◌≡◌, ◌≢◌, ℕ, ◌<◌, ◌++◌, ◌⊎◌, IsTrue, List, [], ◌∷◌, Option, Some, None, drop}
+use Rattle.std.specs.Prelude.{◌≡◌, ◌≢◌, ℕ, ◌-◌, ◌<◌, ◌++◌, ◌⊎◌, IsTrue, List, [], ◌∷◌, Option, Some, None, drop, take}
 use Rattle.std.specs.List.{filter_map, flat_map}
 use Rattle.tx_events.specs.declared.record.Counters.{Counters}
 use Rattle.tx_events.specs.declared.record.Rec.{Rec}
@@ -70,7 +70,13 @@ LeaveCheckpoints f before (steps.Checkpoint reply ∷ more) left =
     ⊎ ((reply ≢ replies.Done) × LeaveCheckpoints f before more left)
 LeaveCheckpoints f before (step ∷ more) left = LeaveCheckpoints f (before ++ lines_in step) more left
 
--- each checkpoint is lawful, and those in the log behind the life's first record are theirs
+-- the records that are known to be on disk
+abbrev pub flushed_in : Facts → List Rec
+flushed_in f = take (f.flushed - f.from) f.recs
+
+-- Each checkpoint is lawful, and those in the log behind the life's first record are theirs. So are those of them that are
+-- known to be on disk: an `ok` one's is among these.
 pub record AreLawfulCheckpoints (f : Facts) (told : List Step) : Type 0 where
   pub each : EachPlace told (λ before step. IsLawfulCheckpoint f (flat_map lines_in before) step)
   pub left : LeaveCheckpoints f [] told (checkpoints_in (drop 1 f.recs))
+  pub flushed : LeaveCheckpoints f [] told (checkpoints_in (drop 1 (flushed_in f)))

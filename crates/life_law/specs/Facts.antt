@@ -13,10 +13,12 @@ use Rattle.tx_model.specs.declared.report.Step.TheVariants as steps
 use Rattle.tx_model.specs.Rounds.{lines_in}
 
 -- Whether the page volumes told what they hold, how many banks each store has, what the life begins from, its history
--- and its log, and whether a command of the life was answered that the log's volume failed.
+-- and its log, with the number of its first record, and whether a command of the life was answered that the log's volume
+-- failed.
 pub record Facts : Type 0 where
   pub tells : Bool
   pub banks : ℕ
+  pub from : ℕ
   pub base : Counters
   pub committed : List ℕ
   pub events : List Event

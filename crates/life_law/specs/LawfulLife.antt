@@ -21,6 +21,7 @@ abbrev pub facts_of : Bool → ℕ → Life → List Step → Facts
 facts_of tells banks life told = record {
   tells = tells;
   banks = banks;
+  from = life.from;
   base = life.base;
   committed = life.committed;
   events = life.events;

@@ -1,6 +1,10 @@
 pub mod Commands
 pub mod Refused
 pub mod Pending
+pub mod MultiPlaces
+pub mod MultiLines
+pub mod MultiReplies
+pub mod MultiStanding
 pub mod Facts
 pub mod DidCommit
 pub mod Replies

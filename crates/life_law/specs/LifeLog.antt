@@ -4,6 +4,8 @@ use Rattle.std.specs.Prelude.{◌≡◌, ℕ, ◌+◌, ◌-◌, ◌^◌, ◌<◌
 use Rattle.tx_events.specs.declared.event.By.{By}
 use Rattle.tx_events.specs.declared.event.Event.{Event}
 use Rattle.tx_events.specs.declared.event.Event.TheVariants as events
+use Rattle.tx_events.specs.declared.multi.MultiEvent.{MultiEvent}
+use Rattle.tx_events.specs.declared.multi.MultiEvent.TheVariants as multis
 use Rattle.tx_events.specs.declared.record.Counters.{Counters}
 use Rattle.tx_events.specs.declared.record.Rec.{Rec}
 use Rattle.tx_events.specs.declared.record.Rec.TheVariants as records
@@ -27,6 +29,11 @@ pub record IsTransaction (h : List Event) (how : XactEnd) (top : ℕ) (subs : Li
 -- an oldest id that the life announced, or with which it began
 abbrev pub IsAnnounced : Counters → List Event → ℕ → Type 0
 IsAnnounced base h oldest = (oldest ≡ base.oldest) ⊎ ((by : By) × Contains h (events.Oldest by oldest))
+
+-- an oldest multixact and its offset that the life announced, or with which it began
+abbrev pub IsAnnouncedMulti : Counters → List MultiEvent → ℕ → ℕ → Type 0
+IsAnnouncedMulti base h multi offset =
+    ((multi ≡ base.oldest_multi) × (offset ≡ base.oldest_offset)) ⊎ ((by : By) × Contains h (multis.Raise by multi offset))
 
 -- the counters that a base has behind a history, where no multixact is touched
 abbrev pub counters_behind : Counters → List Event → Counters

@@ -54,6 +54,24 @@ checked_life = checked_with replies.Done (records.Checkpoint 1 checked_counters 
 abbrev pub unkept_life : LifeReport
 unkept_life = checked_with replies.Done (records.Commit 3 [] ∷ [])
 
+-- its record isn't on disk
+abbrev pub unflushed_life : LifeReport
+unflushed_life = record {
+  life = record {
+    from = 0;
+    base = worked_base;
+    committed = [];
+    recorded = [];
+    events = events.Id (by_at 0 2) 3 ∷ [];
+    multis = [];
+    recs = records.Checkpoint 0 worked_base ∷ records.Checkpoint 1 checked_counters ∷ [];
+    flushed = 1;
+    end = 90;
+  };
+  steps = steps.Round 1 written_lines ∷ steps.Checkpoint replies.Done ∷ [];
+  crash = None;
+}
+
 -- it has one with the counters of the life's begin
 abbrev pub stale_life : LifeReport
 stale_life = checked_with replies.Done (records.Checkpoint 1 worked_base ∷ records.Commit 3 [] ∷ [])
@@ -92,6 +110,7 @@ hasty_life = record {
 pub record WorkedCheckpoints : Type 0 where
   pub lawful : IsLawful checked_life
   pub unkept : IsLawful unkept_life → ⊥
+  pub unflushed : IsLawful unflushed_life → ⊥
   pub stale : IsLawful stale_life → ⊥
   pub renumbered : IsLawful renumbered_life → ⊥
   pub kept : IsLawful kept_life → ⊥

@@ -1,7 +1,7 @@
 -- What a life starts from, and what records make of it.
 use Rattle.std.specs.Prelude.{◌≡◌, ℕ, ◌+◌, ◌<◌, ◌≤◌, List, [], ◌∷◌, ◌++◌, length, Bool, true, false, Contains}
 use Rattle.std.specs.List.{filter, flat_map}
-use Rattle.tx_events.specs.Ids.{next_multi}
+use Rattle.tx_events.specs.Ids.{low_half, next_multi}
 use Rattle.tx_events.specs.declared.multi.Member.{Member}
 use Rattle.tx_events.specs.declared.record.Counters.{Counters}
 use Rattle.tx_events.specs.declared.record.Rec.{Rec}
@@ -36,7 +36,8 @@ base_after base recs = record {
 }
 
 -- The recorded multixacts from the oldest one on lie in the order of their numbers, from the oldest offset to below the
--- next free one, each right behind the one whose number comes before, and the last up to the next free offset.
+-- next free one, each right behind the one whose number comes before, and the last up to the next free offset. None begins
+-- at an offset of low half 0, which is stored for none.
 pub record AreInOrder (c : Counters) (recorded : List Rec) : Type 0 where
   pub within : (multi offset : ℕ) (members : List Member) → Contains recorded (records.Multi multi offset members) → c.oldest_multi ≤ multi
       → (c.oldest_offset ≤ offset) × (offset + length members ≤ c.offset)
@@ -44,6 +45,7 @@ pub record AreInOrder (c : Counters) (recorded : List Rec) : Type 0 where
   pub behind : (m n x y : ℕ) (ms ns : List Member) → Contains recorded (records.Multi m x ms) → Contains recorded (records.Multi n y ns) → c.oldest_multi ≤ m → n ≡ next_multi m
       → y ≡ first_member (x + length ms)
   pub last : (m x : ℕ) (ms : List Member) → Contains recorded (records.Multi m x ms) → c.oldest_multi ≤ m → next_multi m ≡ c.multi → x + length ms ≡ c.offset
+  pub stored : (m x : ℕ) (ms : List Member) → Contains recorded (records.Multi m x ms) → c.oldest_multi ≤ m → 1 ≤ low_half x
 
 -- what a life may start from: its counters are a base, no id or multixact that it names is past them, no id is a special
 -- one, and the recorded multixacts lie in order

@@ -6,6 +6,9 @@ use Rattle.tx_events.specs.declared.event.Event.{Event}
 use Rattle.tx_events.specs.declared.record.Rec.{Rec}
 use Rattle.tx_events.specs.declared.record.Rec.TheVariants as records
 use Rattle.tx_events.specs.Running.{open_ids}
+use Rattle.tx_events.specs.declared.multi.Member.{Member}
+use Rattle.tx_core.specs.MultiEntries.{multi_of}
+use Rattle.engine_parts.proofs.Made.{makes_left}
 use Rattle.tx_core.specs.declared.entry.Entry.{Entry}
 use Rattle.tx_core.specs.declared.entry.Kind.TheVariants as kinds
 use Rattle.tx_core.specs.declared.entry.Start.{Start}
@@ -36,6 +39,9 @@ may_append_abort start v n s rec e a clear unaborted r base up is =
 no_commit : (r s : ℕ) (subs others : List ℕ) → kinds.Append (records.Abort r subs) ≡ kinds.Append (records.Commit s others) → ⊥
 no_commit r s subs others e = cc
 
+not_multi : (r : ℕ) (subs : List ℕ) (multi offset : ℕ) (members : List Member) → kinds.Append (records.Abort r subs) ≡ kinds.Append (records.Multi multi offset members) → ⊥
+not_multi r subs multi offset members e = cc
+
 -- behind it the session's abort is pending
 pub ready_aborted : (start : Start) (v w : Knowledge) (n n' : ℕ) (s s' : Session) (rec : Rec) (e : Entry) → IsAt start v n s → may_be_recorded s.stage ≡ false → IsAbortOf s.levels.open_ids.items rec → log_lock < length v.seen → e ≡ record { by = by_at n s.levels.commands; kind = kinds.Append rec } → s' ≡ record s { stage = stages.Aborting } → n' ≡ n → Leaves start log_lock e v w → IsReady start w n' s'
 ready_aborted start v w n n' s s' rec e a clear r inside is same number l =
@@ -48,7 +54,8 @@ ready_aborted start v w n n' s s' rec e a clear r inside is same number l =
     (⊎_elim (λ old. old) (λ new. absurd (no_commit r.top top r.subs subs (sym kind ∙ new.2))) (appended_cases v.seen log_lock e n (records.Commit top subs) inside (subst (λ (z : List (List Entry)). IsAppended z n (records.Commit top subs)) l.seen k)))
     (sym (ap (open_ids n) still) ∙ opened))
     (λ q. absurd (false≢true (sym q)))
-    (filed_left start v w n log_lock s e a inside l))
+    (filed_left start v w n log_lock s e a inside l)
+    (makes_left start v w n log_lock s.making e l.kept inside (ap multi_of is) (λ multi offset members k. not_multi r.top r.subs multi offset members (sym kind ∙ k)) l a.makes))
 
 -- and it may call
 pub call_pending : (start : Start) (w : Knowledge) (n n' : ℕ) (s s' : Session) → s' ≡ record s { stage = stages.Aborting } → n' ≡ n → IsReady start w n' s' → MayCall start w n' s'

@@ -8,6 +8,9 @@ use Rattle.tx_events.specs.declared.multi.MultiEvent.TheVariants as multis
 use Rattle.tx_events.specs.declared.record.Rec.{Rec}
 use Rattle.tx_events.specs.declared.record.Rec.TheVariants as records
 use Rattle.tx_events.specs.Running.{open_ids}
+use Rattle.tx_events.specs.declared.multi.Member.{Member}
+use Rattle.tx_core.specs.MultiEntries.{multi_of}
+use Rattle.engine_parts.proofs.Made.{makes_left}
 use Rattle.tx_core.specs.declared.entry.Entry.{Entry}
 use Rattle.tx_core.specs.declared.entry.Kind.TheVariants as kinds
 use Rattle.tx_core.specs.declared.entry.Start.{Start}
@@ -67,6 +70,9 @@ not_commit start lists rec e top subs t is k = let z = sym t.is ∙ same_record 
 not_abort : (start : Start) (lists : List (List Entry)) (rec : Rec) (e : Entry) (top : ℕ) (subs : List ℕ) → IsTruncationOf start lists rec → e.kind ≡ kinds.Append rec → e.kind ≡ kinds.Append (records.Abort top subs) → ⊥
 not_abort start lists rec e top subs t is k = let z = sym t.is ∙ same_record rec (records.Abort top subs) (sym is ∙ k) in cc
 
+not_multi : (start : Start) (lists : List (List Entry)) (rec : Rec) (e : Entry) (multi offset : ℕ) (members : List Member) → IsTruncationOf start lists rec → e.kind ≡ kinds.Append rec → e.kind ≡ kinds.Append (records.Multi multi offset members) → ⊥
+not_multi start lists rec e multi offset members t is k = let z = sym t.is ∙ same_record rec (records.Multi multi offset members) (sym is ∙ k) in cc
+
 -- the session stands as before
 pub ready_truncated : (start : Start) (v w : Knowledge) (n n' : ℕ) (s s' : Session) (rec : Rec) (e : Entry) → IsAt start v n s → log_lock < length v.seen → e ≡ append_entry (by_at n s.levels.commands) rec → IsTruncationOf start v.seen rec → s' ≡ s → n' ≡ n → Leaves start log_lock e v w → IsReady start w n' s'
 ready_truncated start v w n n' s s' rec e a inside is t same number l =
@@ -79,4 +85,5 @@ ready_truncated start v w n n' s s' rec e a inside is t same number l =
     (⊎_elim (λ old. old) (λ new. absurd (not_commit start v.seen rec e top subs t kind new.2)) (appended_cases v.seen log_lock e n (records.Commit top subs) inside (subst (λ (z : List (List Entry)). IsAppended z n (records.Commit top subs)) l.seen k)))
     (sym (ap (open_ids n) still) ∙ opened))
     (λ q. unaborted_same start v w n log_lock s e a inside (λ top subs k. not_abort start v.seen rec e top subs t kind k) l q)
-    (filed_left start v w n log_lock s e a inside l))
+    (filed_left start v w n log_lock s e a inside l)
+    (makes_left start v w n log_lock s.making e l.kept inside (ap multi_of is) (λ multi offset members k. not_multi start v.seen rec e multi offset members t kind k) l a.makes))

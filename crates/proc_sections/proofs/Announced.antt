@@ -24,7 +24,9 @@ use Rattle.engine_parts.specs.Holds.{Knowledge, Leaves}
 use Rattle.engine_parts.specs.Law.{MayKeep}
 use Rattle.engine_parts.specs.Sessions.{IsAt, IsReady, by_at}
 use Rattle.engine_parts.specs.Stand.{ProcStands}
-use Rattle.engine_parts.proofs.Leaving.{at_left, clear_same, filed_left, history_event, no_abort, unaborted_same}
+use Rattle.engine_parts.proofs.Leaving.{at_left, clear_same, filed_left, history_event, no_abort, no_multi, unaborted_same}
+use Rattle.engine_parts.proofs.Made.{makes_left}
+use Rattle.tx_core.specs.MultiEntries.{multi_of}
 use Rattle.proc_sections.specs.Announcements.{IsNotAnnounced}
 
 abbrev pub oldest_entry : By → ℕ → Entry
@@ -54,7 +56,8 @@ ready_announced start v w n n' s s' oldest e a is same number l =
     (subst (λ (t : List Event). Stands start.base t n s.levels.commands s.levels) (sym grown) (stands start.base (h ++ event ∷ []) n s.levels.commands s.levels st))
     (clear_same start v w n proc_lock s e a (omega arith) (ap appended is) (ap (open_ids n) grown ∙ (st.opened_are ∙ sym a.stands.opened)) l)
     (unaborted_same start v w n proc_lock s e a (omega arith) (no_abort e (ap appended is)) l)
-    (filed_left start v w n proc_lock s e a (omega arith) l))
+    (filed_left start v w n proc_lock s e a (omega arith) l)
+    (makes_left start v w n proc_lock s.making e l.kept (omega arith) (ap multi_of is) (no_multi e (ap appended is)) l a.makes))
 
 -- why nothing was announced, by what the table refused
 pub not_announced : (start : Start) (u w : Knowledge) (old : Table) (oldest : ℕ) (r : Refusal) → ProcStands start old (at u.seen proc_lock) → history w.seen ≡ history u.seen → IsNotRaised old oldest r → IsNotAnnounced start.base (history w.seen) oldest r

@@ -28,7 +28,10 @@ use Rattle.engine_parts.specs.declared.session.Stage.TheVariants as stages
 use Rattle.engine_parts.specs.Holds.{Knowledge, Leaves}
 use Rattle.engine_parts.specs.Law.{MayKeep}
 use Rattle.engine_parts.specs.Sessions.{IsAt, IsReady, MayCall, by_at, inner_id}
-use Rattle.engine_parts.proofs.Leaving.{at_left, history_event}
+use Rattle.engine_parts.proofs.Leaving.{at_left, history_event, no_multi}
+use Rattle.engine_parts.proofs.Made.{makes_left}
+use Rattle.tx_core.specs.MultiEntries.{multi_of}
+use Rattle.engine_parts.specs.Makings.{Makes}
 use Rattle.engine_parts.proofs.Pending.{record_of}
 use Rattle.engine_parts.specs.Stages.{AreUnaborted}
 use Rattle.proc_sections.specs.Endings.{MayEnd, end_state}
@@ -65,8 +68,8 @@ marked_on start seen lists opened top subs how g split marked id c = marked_grow
 
 -- the session stands without a transaction
 pub ready_ended : (start : Start) (v w : Knowledge) (n n' : ℕ) (s s' : Session) (how : XactEnd) (top : ℕ) (subs : List ℕ) (e : Entry) → IsAt start v n s → e ≡ end_entry how (by_at n s.levels.commands) top → s.levels.open_ids.items ≡ top ∷ subs → s'.levels.commands ≡ s.levels.commands → s'.levels.level_ids.items ≡ [] → s'.levels.unnamed ≡ 0 → s'.levels.open_ids.items ≡ []
-    → s'.levels.registered ≡ s.levels.registered → s'.unlinked ≡ None → n' ≡ n → Leaves start proc_lock e v w → IsReady start w n' s'
-ready_ended start v w n n' s s' how top subs e a is split count named unnamed opened registered unlinked number l =
+    → s'.levels.registered ≡ s.levels.registered → s'.unlinked ≡ None → s'.making ≡ s.making → n' ≡ n → Leaves start proc_lock e v w → IsReady start w n' s'
+ready_ended start v w n n' s s' how top subs e a is split count named unnamed opened registered unlinked making number l =
     let wide = a.wide in
     let h : List Event = history v.seen in
     let event : Event = end_event how (by_at n s.levels.commands) top in
@@ -77,7 +80,8 @@ ready_ended start v w n n' s s' how top subs e a is split count named unnamed op
     (subst (λ (z : List Event × ℕ). Stands start.base z.0 n z.1 s'.levels) (λ j. (sym grown j, sym count j)) (stands start.base (h ++ event ∷ []) n s.levels.commands s'.levels (rw (opened, named, unnamed, registered) st)))
     (λ q t more k now. absurd (none_open t more (sym st.opened_are ∙ (ap (open_ids n) (sym grown) ∙ now))))
     (λ q. subst (λ (t : List ℕ). AreUnaborted w.seen n t) (sym opened) (λ id c. absurd (contains_has [] id c)))
-    (rw (opened, unlinked) (record { linked = λ id c. absurd (contains_has [] id c); pending = tt })))
+    (rw (opened, unlinked) (record { linked = λ id c. absurd (contains_has [] id c); pending = tt }))
+    (subst (Makes start w.seen n) (sym making) (makes_left start v w n proc_lock s.making e l.kept (omega arith) (ap multi_of is) (no_multi e (ap appended is)) l a.makes)))
   where
     none_open : (t : ℕ) (more : List ℕ) → [] ≡ t ∷ more → ⊥
     none_open t more e = cc

@@ -39,7 +39,10 @@ use Rattle.engine_parts.specs.Holds.{Knowledge, Leaves}
 use Rattle.engine_parts.specs.Law.{MayKeep}
 use Rattle.engine_parts.specs.Sessions.{IsAt, IsFiled, IsReady, IsThe, MayCall, by_at, inner_id}
 use Rattle.engine_parts.specs.Stages.{AreUnaborted, AsksNothing, IsInStage, IsUndoing, may_be_aborted, may_be_recorded}
-use Rattle.engine_parts.proofs.Leaving.{at_left, filed_left, history_event, no_abort, unaborted_same}
+use Rattle.engine_parts.proofs.Leaving.{at_left, filed_left, history_event, no_abort, no_multi, unaborted_same}
+use Rattle.engine_parts.proofs.Made.{makes_left}
+use Rattle.tx_core.specs.MultiEntries.{multi_of}
+use Rattle.engine_parts.specs.Makings.{Makes}
 use Rattle.engine_parts.proofs.Unrecorded.{open_unrecorded}
 use Rattle.tx_core.specs.AbortRecordsExact.{HasNoAbortRecord}
 use Rattle.proc_sections.specs.Undos.{AreRolledBack, IsUndone, unlinked_below}
@@ -129,8 +132,8 @@ no_record e top subs none is = cc
 
 -- the session behind the section, which took the level and its ids off
 pub undone_is : (id from last : ℕ) (s t s' : Session) → t ≡ s → last + 1 ≡ length t.levels.level_ids.items → 2 ≤ length s.levels.level_ids.items → inner_id s ≡ Some id → take from s.levels.open_ids.items ≡ filter (below_of id) s.levels.open_ids.items → s'.levels.level_ids.items ≡ take last t.levels.level_ids.items → s'.levels.unnamed ≡ t.levels.unnamed
-    → s'.levels.open_ids.items ≡ take from t.levels.open_ids.items → s'.levels.registered ≡ t.levels.registered → s'.levels.commands ≡ t.levels.commands → s'.stage ≡ stages.Clear → s'.unlinked ≡ unlinked_below id t.unlinked → IsUndone id s s'
-undone_is id from last s t s' same long two inner cut named unnamed opened registered count stage unlinked = record {
+    → s'.levels.open_ids.items ≡ take from t.levels.open_ids.items → s'.levels.registered ≡ t.levels.registered → s'.levels.commands ≡ t.levels.commands → s'.stage ≡ stages.Clear → s'.unlinked ≡ unlinked_below id t.unlinked → s'.making ≡ t.making → IsUndone id s s'
+undone_is id from last s t s' same long two inner cut named unnamed opened registered count stage unlinked making = record {
   named = popped s.levels.level_ids.items s'.levels.level_ids.items id two (inner_last s.levels.level_ids.items s.levels.unnamed id inner).1 (named ∙ (ap (λ z. take z t.levels.level_ids.items) (less last t.levels.level_ids.items long) ∙ ap (λ (z : Session). take (length z.levels.level_ids.items - 1) z.levels.level_ids.items) same));
   unnamed = unnamed ∙ ap (λ (z : Session). z.levels.unnamed) same;
   opened = opened ∙ (ap (λ (z : Session). take from z.levels.open_ids.items) same ∙ cut);
@@ -138,6 +141,7 @@ undone_is id from last s t s' same long two inner cut named unnamed opened regis
   count = count ∙ ap (λ (z : Session). z.levels.commands) same;
   stage = stage;
   unlinked = unlinked ∙ ap (λ (z : Session). unlinked_below id z.unlinked) same;
+  making = making ∙ ap (λ (z : Session). z.making) same;
 }
   where
     less : (k : ℕ) (xs : List ℕ) → k + 1 ≡ length xs → k ≡ length xs - 1
@@ -212,6 +216,7 @@ module _ (start : Start) (v w : Knowledge) (n : ℕ) (s s' : Session) (id : ℕ)
       (λ q. clear)
       (λ q. subst (λ (z : List ℕ). AreUnaborted w.seen n z) (sym u.opened) unaborted)
       (subst (λ (z : List ℕ × Option Unlinked). IsFiled start w.seen n z.0 z.1) (λ j. (sym u.opened j, sym u.unlinked j)) filed)
+      (subst (Makes start w.seen n) (sym u.making) (makes_left start v w n proc_lock s.making e l.kept inside (ap multi_of is) (no_multi e (ap appended is)) l a.makes))
 
 pub ready_undone_at : (start : Start) (v w : Knowledge) (n n' : ℕ) (s s' : Session) (id : ℕ) (e : Entry) → IsAt start v n s → e ≡ undo_entry (by_at n s.levels.commands) id → s.stage ≡ stages.Undoing → 2 ≤ length s.levels.level_ids.items → IsUndone id s s' → Leaves start proc_lock e v w → n' ≡ n → IsReady start w n' s'
 ready_undone_at start v w n n' s s' id e a is pending two u l q = subst (λ z. IsReady start w z s') (sym q) (ready_undone start v w n s s' id e a is pending two u l)

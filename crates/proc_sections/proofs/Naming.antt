@@ -42,7 +42,10 @@ use Rattle.engine_parts.specs.Holds.{Knowledge, Leaves}
 use Rattle.engine_parts.specs.Law.{MayKeep}
 use Rattle.engine_parts.specs.Sessions.{IsAt, IsFiled, IsReady, IsThe, MayCall, by_at, inner_id}
 use Rattle.engine_parts.specs.Stages.{AreUnasked, AsksNothing, IsInStage, may_be_recorded, AreUnaborted, may_be_aborted}
-use Rattle.engine_parts.proofs.Leaving.{at_left, grown_left, history_event}
+use Rattle.engine_parts.proofs.Leaving.{at_left, grown_left, history_event, no_multi}
+use Rattle.engine_parts.proofs.Made.{makes_left}
+use Rattle.tx_core.specs.MultiEntries.{multi_of}
+use Rattle.engine_parts.specs.Makings.{Makes}
 use Rattle.tx_core.proofs.Asking.{upheld_has}
 use Rattle.tx_core.specs.RecordsFollow.{NeedsNamed}
 use Rattle.tx_core.specs.AbortRecordsExact.{HasNoAbortRecord}
@@ -128,6 +131,7 @@ module _ (start : Start) (v w : Knowledge) (n : ℕ) (s s' : Session) (id : ℕ)
       (λ q. clear)
       (λ q. subst (λ (t : List ℕ). AreUnaborted w.seen n t) (sym g.opened) unaborted)
       (subst (λ (z : List ℕ × Option Unlinked). IsFiled start w.seen n z.0 z.1) (λ j. (sym g.opened j, sym g.unlinked j)) (record { linked = links; pending = pend (last_of s.levels.level_ids.items) refl grown }))
+      (subst (Makes start w.seen n) (sym g.making) (makes_left start v w n proc_lock s.making e l.kept inside (ap multi_of is) (no_multi e (ap appended is)) l a.makes))
     where
       no_open : (named opened : List ℕ) → last_of named ≡ None → 1 ≤ length opened → Nest (history v.seen) opened named → ⊥
       no_open [] opened q some nest = let z : length opened ≡ 0 = ap length nest in omega arith

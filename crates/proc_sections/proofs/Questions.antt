@@ -26,7 +26,9 @@ use Rattle.engine_parts.specs.Holds.{Knowledge, Leaves}
 use Rattle.engine_parts.specs.Law.{MayKeep}
 use Rattle.engine_parts.specs.Sessions.{IsAt, IsReady, by_at}
 use Rattle.engine_parts.specs.Stand.{ProcStands}
-use Rattle.engine_parts.proofs.Leaving.{at_left, clear_same, filed_left, history_event, no_abort, unaborted_same}
+use Rattle.engine_parts.proofs.Leaving.{at_left, clear_same, filed_left, history_event, no_abort, no_multi, unaborted_same}
+use Rattle.engine_parts.proofs.Made.{makes_left}
+use Rattle.tx_core.specs.MultiEntries.{multi_of}
 use Rattle.proc_sections.specs.Askings.{IsAnswered}
 
 abbrev pub ask_entry : By → ℕ → Entry
@@ -49,7 +51,8 @@ ready_asked start v w n n' s s' x e a is same number l =
     (subst (λ (t : List Event). Stands start.base t n s.levels.commands s.levels) (sym grown) (stands start.base (h ++ event ∷ []) n s.levels.commands s.levels st))
     (clear_same start v w n proc_lock s e a (omega arith) (ap appended is) (ap (open_ids n) grown ∙ (st.opened_are ∙ sym a.stands.opened)) l)
     (unaborted_same start v w n proc_lock s e a (omega arith) (no_abort e (ap appended is)) l)
-    (filed_left start v w n proc_lock s e a (omega arith) l))
+    (filed_left start v w n proc_lock s e a (omega arith) l)
+    (makes_left start v w n proc_lock s.making e l.kept (omega arith) (ap multi_of is) (no_multi e (ap appended is)) l a.makes))
 
 -- what was answered, by what the table answered
 pub answered_by : (start : Start) (u w : Knowledge) (by : By) (x : ℕ) (old : Table) (asked : Asked) (e : Entry) → ProcStands start old (at u.seen proc_lock) → IsAsked old x asked → e ≡ ask_entry by x → history w.seen ≡ history u.seen ++ events.Ask by x ∷ [] → IsAnswered start (events.Ask by x) x asked w.seen

@@ -40,3 +40,4 @@ pub record HasEnded (n : ℕ) (how : XactEnd) (s s' : Session) (lists more : Lis
   pub count : s'.levels.commands ≡ s.levels.commands
   pub stage : s'.stage ≡ stages.Clear
   pub unlinked : s'.unlinked ≡ None
+  pub making : s'.making ≡ s.making

@@ -51,6 +51,7 @@ pub record IsNamed (s s' : Session) (id : ℕ) : Type 0 where
   pub count : s'.levels.commands ≡ s.levels.commands
   pub stage : s'.stage ≡ s.stage
   pub unlinked : s'.unlinked ≡ unlinked_of id (last_of s.levels.level_ids.items)
+  pub making : s'.making ≡ s.making
 
 -- The event stands at the end of a history that went on from the one seen by events of others, at which its warning is
 -- right.

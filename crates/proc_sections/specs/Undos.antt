@@ -31,6 +31,7 @@ pub record IsUndone (savepoint : ℕ) (s s' : Session) : Type 0 where
   pub count : s'.levels.commands ≡ s.levels.commands
   pub stage : s'.stage ≡ stages.Clear
   pub unlinked : s'.unlinked ≡ unlinked_below savepoint s.unlinked
+  pub making : s'.making ≡ s.making
 
 -- the undo is the session's only new event
 pub record HasUndone (n savepoint : ℕ) (s s' : Session) (lists more : List (List Entry)) : Type 0 where

@@ -257,6 +257,8 @@ module _ (start : Start) (lists : List (List Entry)) (k : EngineInvariant start 
       last = λ m x ms c le q.
           let a = free_below m x ms (lies m x ms c le) recs each le (omega arith) in
           let b = (below m x ms c).1 in omega arith;
+      stored = λ m x ms c le. let low = from_oldest in
+          ⊎_elim (λ old. is.in_order.stored m x ms old (omega arith)) (λ gen. chain.stored gen.0 m x ms gen.1) (known m x ms c);
     }
 
     normal : (x : ℕ) → Has (committed_in recs) x → 3 ≤ x

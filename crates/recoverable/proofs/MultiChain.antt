@@ -3,7 +3,7 @@ use Rattle.std.proofs.Common.{List, [], ap, arith, length, length-append, append
 use Rattle.std.proofs.lemmas.List.{append-nil}
 use Rattle.std.proofs.lemmas.List.Elements.{filter_map-append}
 use Rattle.std.proofs.lemmas.List.Sums.{fold_push}
-use Rattle.tx_events.specs.Ids.{IsFullMulti, next_multi}
+use Rattle.tx_events.specs.Ids.{IsFullMulti, low_half, next_multi}
 use Rattle.tx_events.specs.declared.event.By.{By}
 use Rattle.tx_events.specs.declared.multi.Member.{Member}
 use Rattle.tx_events.specs.declared.multi.MultiEvent.{MultiEvent}
@@ -18,6 +18,10 @@ use Rattle.tx_core.proofs.MultiOrder.{last_cases, members_in, multi_in, offset_i
 next_full : (n : ℕ) → IsFullMulti (next_multi n)
 next_full n = grind arith
 
+-- members begin at no offset of low half 0
+first_stored : (free : ℕ) → 1 ≤ low_half (first_member free)
+first_stored free = grind arith
+
 -- a full multixact above another isn't before its next one, and has a later next one
 pub next_upto : (m n : ℕ) → m < n → IsFullMulti n → next_multi m ≤ n
 next_upto m n lt full = grind arith
@@ -30,6 +34,7 @@ pub record Chained (base : Counters) (h : List MultiEvent) : Type 0 where
   pub none : next_made base.multi h ≡ base.multi → free_offset base.offset h ≡ base.offset
   pub given : (by : By) (m x : ℕ) (ms : List Member) → Has h (multis.Gen by m x ms) → IsFullMulti m × (base.multi ≤ m) × (m < next_made base.multi h)
   pub first : (by : By) (m x : ℕ) (ms : List Member) → Has h (multis.Gen by m x ms) → m ≡ base.multi → x ≡ first_member base.offset
+  pub stored : (by : By) (m x : ℕ) (ms : List Member) → Has h (multis.Gen by m x ms) → 1 ≤ low_half x
   pub last : (by : By) (m x : ℕ) (ms : List Member) → Has h (multis.Gen by m x ms) → next_multi m ≡ next_made base.multi h → x + length ms ≡ free_offset base.offset h
   pub behind : (a b : By) (m n x y : ℕ) (ms ns : List Member) → Has h (multis.Gen a m x ms) → Has h (multis.Gen b n y ns) → n ≡ next_multi m → y ≡ first_member (x + length ms)
 
@@ -46,6 +51,7 @@ same_chain base h e c same none no_gen =
       none = λ q. free ∙ c.none (sym next ∙ q);
       given = λ by m x ms k. let g = c.given by m x ms (old by m x ms k) in let g2 = g.2 in (g.0, g.1, omega arith);
       first = λ by m x ms k q. c.first by m x ms (old by m x ms k) q;
+      stored = λ by m x ms k. c.stored by m x ms (old by m x ms k);
       last = λ by m x ms k q. c.last by m x ms (old by m x ms k) (q ∙ next) ∙ sym free;
       behind = λ a b m n x y ms ns k l q. c.behind a b m n x y ms ns (old a m x ms k) (old b n y ns l) q;
     }
@@ -72,6 +78,10 @@ chain_step base h (multis.Gen by multi offset members) c rule =
           (λ old. c.first b m x ms old q)
           (λ new. let z : multi ≡ m = ap multi_in new in
           sym (ap offset_in new) ∙ is.first ∙ ap first_member (c.none (sym at ∙ z ∙ q)))
+          (last_cases h e (multis.Gen b m x ms) k);
+      stored = λ b m x ms k. ⊎_elim
+          (λ old. c.stored b m x ms old)
+          (λ new. subst (λ (t : ℕ). 1 ≤ low_half t) (sym is.first ∙ ap offset_in new) (first_stored (free_offset base.offset h)))
           (last_cases h e (multis.Gen b m x ms) k);
       last = λ b m x ms k q. ⊎_elim
           (λ old. let g = c.given b m x ms old in let rise = next_later m (next_made base.multi h) g.2 full in absurd (omega arith))
@@ -100,6 +110,7 @@ chained base full = by_place (MultiMayCome base (InBase base)) (Chained base)
       none = λ q. refl;
       given = λ by m x ms k. absurd k;
       first = λ by m x ms k q. absurd k;
+      stored = λ by m x ms k. absurd k;
       last = λ by m x ms k q. absurd k;
       behind = λ a b m n x y ms ns k l q. absurd k;
     })

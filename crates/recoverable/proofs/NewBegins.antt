@@ -26,6 +26,7 @@ in_order start none = record {
   order = λ m n x y ms ns c. absurd (none_in start.recorded _ none c);
   behind = λ m n x y ms ns c. absurd (none_in start.recorded _ none c);
   last = λ m x ms c. absurd (none_in start.recorded _ none c);
+  stored = λ m x ms c. absurd (none_in start.recorded _ none c);
 }
 
 pub new_begins : NewBegins

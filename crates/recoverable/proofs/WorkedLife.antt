@@ -63,6 +63,7 @@ in_order = record {
       let first : next_multi m ≡ 2 = ap next_multi (long m x ms c).0 in let second = (long n y ns d).0 in
       absurd (omega arith);
   last = λ m x ms c le next. let e = long m x ms c in let e1 = e.1 in let e2 = e.2 in omega arith;
+  stored = λ m x ms c le. let e1 = (long m x ms c).1 in omega arith;
 }
 
 -- from a base whose committed ids are below the next one

@@ -12,8 +12,8 @@ use Rattle.tx_events.specs.declared.multi.Member.{Member}
 use Rattle.tx_events.specs.declared.record.Rec.TheVariants as records
 use Rattle.recoverable.specs.Bytes.{StoredBytes, byte_held, slot_byte, slot_bytes, wanted_byte}
 use Rattle.recoverable.specs.Images.{PageRing, Reading, Since}
-use Rattle.log_bases.specs.LifeBase.{AreInOrder}
-use Rattle.recoverable.specs.Stored.{IsClearBehind, stored_members}
+pub use Rattle.tx_core.specs.CleanMultis.{CleanMembers, IsNearOffset}
+use Rattle.recoverable.specs.Stored.{stored_members}
 
 abbrev pub member_ring : Start → PageRing
 member_ring start = record { shape = Offsets; per_page = 1636; pages = 2625286; kept = member_page_in_full start.base.oldest_offset }
@@ -25,24 +25,6 @@ member_reading start shown = record { store = stored_members; first = start.base
 abbrev pub SlotSince : Start → (ℕ → Option StoredBytes) → List Entry → Pages → ℕ → Type 0
 SlotSince start shown es c offset = (i : ℕ) → i < 5 → Since (member_reading start shown) (wanted_byte i) es offset (member_page_of offset) (slot_byte c offset i)
 
--- of each stored offset one: up to 2^30 past the base's next free one, and 2^32 in all
-pub record IsNearOffset (start : Start) (offset : ℕ) : Type 0 where
-  pub from : start.base.offset + 2 ^ 30 ≤ offset + 2 ^ 32
-  pub to : offset < start.base.offset + 2 ^ 30
-
 -- A crash left a bank of members so.
 abbrev pub MembersFollow : Start → ℕ → (ℕ → Option StoredBytes) → List Entry → Pages → Type 0
 MembersFollow start bank shown es c = (offset : ℕ) → IsNearOffset start offset → members_lock_of start offset ≡ members_lock bank → SlotSince start shown es c offset
-
--- What the pages of members show when a life begins: the recorded multixacts from the oldest one on, which lie in order,
--- have their members. No member shows where an offset of low half 0 comes right behind them, nor at the offsets that
--- come next: ids are 0 there, and modes too on later pages.
-pub record CleanMembers (start : Start) (shown : ℕ → Option StoredBytes) : Type 0 where
-  pub before : (multi offset : ℕ) (members : List Member) → Contains start.recorded (records.Multi multi offset members) → multi < start.base.multi
-  pub in_order : AreInOrder start.base start.recorded
-  pub recorded : (multi offset k : ℕ) (members : List Member) (member : Member) → Contains start.recorded (records.Multi multi offset members) → start.base.oldest_multi ≤ multi
-      → slice_get members k ≡ Some member → (i : ℕ) → i < 5 → byte_held (shown (offset + k)) i ≡ slot_bytes member i
-  pub gap : (multi offset : ℕ) (members : List Member) → Contains start.recorded (records.Multi multi offset members) → start.base.oldest_multi ≤ multi
-      → low_half (offset + length members) ≡ 0 → (i : ℕ) → i < 4 → byte_held (shown (offset + length members)) i ≡ 0
-  pub clean : (x i : ℕ) → start.base.offset ≤ x → x < start.base.offset + 2 ^ 30 → i < 4 → byte_held (shown x) i ≡ 0
-  pub behind : IsClearBehind start.base.offset shown

@@ -14,6 +14,7 @@ use Rattle.tx_events.specs.declared.record.Rec.TheVariants as records
 use Rattle.recoverable.specs.Bytes.{StoredBytes, byte_held, byte_of, offset_byte, wanted_byte}
 use Rattle.recoverable.specs.Images.{PageRing, Reading, Since}
 use Rattle.recoverable.specs.Stored.{stored_offsets}
+pub use Rattle.tx_core.specs.CleanMultis.{CleanOffsets, IsNearMulti}
 
 abbrev pub offset_ring : Start → PageRing
 offset_ring start = record { shape = Multis; per_page = 2048; pages = 2097152; kept = offset_page (multi_before start.base.oldest_multi) }
@@ -26,20 +27,6 @@ offset_reading start shown = record { store = stored_offsets; first = start.base
 abbrev pub ByteSince : Start → (ℕ → Option StoredBytes) → List Entry → Pages → ℕ → ℕ → Type 0
 ByteSince start shown es c multi i = Since (offset_reading start shown) (wanted_byte i) es multi (word_page_of multi) (offset_byte c multi i)
 
--- of each stored number one multixact: up to 2^30 past the base's next one, and 2^32 in all
-pub record IsNearMulti (start : Start) (multi : ℕ) : Type 0 where
-  pub from : start.base.multi + 2 ^ 30 ≤ multi + 2 ^ 32
-  pub to : multi < start.base.multi + 2 ^ 30
-
 -- A crash left a bank of offsets so.
 abbrev pub OffsetsFollow : Start → ℕ → (ℕ → Option StoredBytes) → List Entry → Pages → Type 0
 OffsetsFollow start bank shown es c = (multi i : ℕ) → IsNearMulti start multi → offsets_lock_of start multi ≡ offsets_lock bank → i < 4 → ByteSince start shown es c multi i
-
--- what the pages of offsets show when a life begins: of the multixacts from the oldest one on the recorded ones
--- have their offsets, and the others and those that come next have none
-pub record CleanOffsets (start : Start) (shown : ℕ → Option StoredBytes) : Type 0 where
-  pub before : (multi offset : ℕ) (members : List Member) → Contains start.recorded (records.Multi multi offset members) → multi < start.base.multi
-  pub recorded : (multi offset : ℕ) (members : List Member) → Contains start.recorded (records.Multi multi offset members) → start.base.oldest_multi ≤ multi → (i : ℕ) → i < 4 → byte_held (shown multi) i ≡ byte_of offset i
-  pub other : (multi : ℕ) → IsFullMulti multi → start.base.oldest_multi ≤ multi → multi < start.base.multi
-      → ((offset : ℕ) (members : List Member) → Contains start.recorded (records.Multi multi offset members) → ⊥) → shown multi ≡ None
-  pub clean : IsClearFrom start.base.multi shown

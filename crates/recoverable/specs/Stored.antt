@@ -10,26 +10,8 @@ use Rattle.tx_core.specs.CleanStart.{IsClearFrom}
 use Rattle.tx_core.specs.EngineInvariant.{EngineInvariant}
 use Rattle.tx_core.specs.MultiEntries.{SetOffset, SetSlot, offsets_in, slots_in}
 use Rattle.tx_core.specs.Pages.{Store, pages_after}
-use Rattle.recoverable.specs.Bytes.{StoredBytes, byte_of, slot_bytes}
-
--- an offset is stored by the bytes of its low half, the lowest one first
-abbrev pub offset_bytes_for : ℕ → SetOffset → Option StoredBytes
-offset_bytes_for multi set = cond (set.multi == multi) (Some (λ i. byte_of set.offset i)) None
-
-abbrev pub stored_offsets : Store SetOffset StoredBytes
-stored_offsets = record { page_of = offset_page; items_of = offsets_in; value_for = offset_bytes_for }
-
--- a member by the four bytes of its id, and then its mode
-abbrev pub slot_bytes_for : ℕ → SetSlot → Option StoredBytes
-slot_bytes_for offset slot = cond (slot.offset == offset) (Some (λ i. slot_bytes slot.member i)) None
-
-abbrev pub stored_members : Store SetSlot StoredBytes
-stored_members = record { page_of = member_page_in_full; items_of = slots_in; value_for = slot_bytes_for }
-
--- the pages of members past that of the life's first offset hold nothing
-abbrev pub IsClearBehind : ℕ → (ℕ → Option StoredBytes) → Type 0
-IsClearBehind next shown =
-    (x : ℕ) → member_page_in_full next < member_page_in_full x → x < next + 2 ^ 30 → shown x ≡ None
+use Rattle.recoverable.specs.Bytes.{StoredBytes}
+pub use Rattle.tx_core.specs.StoredBytes.{IsClearBehind, offset_bytes_for, slot_bytes_for, stored_members, stored_offsets}
 
 -- Behind each beginning of the list the pages of offsets hold the bytes of the offset that was set last, however late a
 -- page was made.

@@ -9,15 +9,12 @@ use Rattle.tx_events.specs.After.{after_records}
 use Rattle.tx_events.specs.Base.{IsBase}
 use Rattle.tx_model.specs.declared.report.Life.{Life}
 use Rattle.tx_model.specs.declared.report.LifeReport.{LifeReport}
+pub use Rattle.life_law.specs.MultiPlaces.{Recorded}
 
 -- the ids that the record commits
 abbrev pub committed_by : Rec → List ℕ
 committed_by (records.Commit top subs) = top ∷ subs
 committed_by _ = []
-
--- a multixact that the log has recorded: its number, where its members begin, and these
-abbrev pub Recorded : Type 0
-Recorded = ℕ × ℕ × List Member
 
 abbrev pub recorded_by : Rec → Option Recorded
 recorded_by (records.Multi multi offset members) = Some (multi, offset, members)

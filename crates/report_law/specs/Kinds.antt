@@ -7,6 +7,7 @@ use Rattle.tx_events.specs.declared.event.Event.{Event}
 use Rattle.tx_events.specs.declared.event.Event.TheVariants as events
 use Rattle.tx_events.specs.declared.multi.MultiEvent.{MultiEvent}
 use Rattle.tx_events.specs.declared.multi.MultiEvent.TheVariants as multis
+pub use Rattle.life_law.specs.MultiPlaces.{IsPinAt, IsSnapAt}
 
 -- the event is of the kind that is told, and gives the id that is told
 abbrev pub IsOfKind : Event → Event → Type 0
@@ -36,14 +37,6 @@ BeginAsTold told h = AllZip IsOfKind told (take (length told) h)
 abbrev pub BeginAsToldMultis : List MultiEvent → List MultiEvent → Type 0
 BeginAsToldMultis told h = AllZip IsOfMultiKind told (take (length told) h)
 
--- where the command takes its snapshot, whichever name the event says
-abbrev pub IsSnapAt : List Event → By → ℕ → Type 0
-IsSnapAt h by place = (name : List ℕ) × (slice_get h place ≡ Some (events.Snap by name))
-
 -- where it asks, for whichever id
 abbrev pub IsAskAt : List Event → By → ℕ → Type 0
 IsAskAt h by place = (id : ℕ) × (slice_get h place ≡ Some (events.Ask by id))
-
--- where it pins a multixact, whichever
-abbrev pub IsPinAt : List MultiEvent → By → ℕ → Type 0
-IsPinAt h by place = (multi : ℕ) × (slice_get h place ≡ Some (multis.Hold by multi))

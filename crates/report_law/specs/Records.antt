@@ -27,6 +27,7 @@ use Rattle.tx_model.specs.declared.report.Step.TheVariants as steps
 use Rattle.tx_model.specs.Lines.{is_line_of}
 use Rattle.tx_model.specs.Rounds.{lines_in}
 use Rattle.life_law.specs.LifeLog.{IsAnnounced, ends_top}
+pub use Rattle.life_law.specs.LifeLog.{IsAnnouncedMulti}
 use Rattle.report_law.specs.Checkpoints.{counters_behind}
 use Rattle.report_law.specs.Steps.{Judged, lines_of}
 
@@ -84,11 +85,6 @@ pub record AreOfCheckpoint (j : Judged) (counters : Counters) : Type 0 where
   pub reply : Reply
   pub asked : slice_get j.steps place ≡ Some (steps.Checkpoint reply)
   pub are : counters ≡ counters_behind j (flat_map lines_in (take place j.steps))
-
--- an oldest multixact and its offset that the life announced, or with which it began
-abbrev pub IsAnnouncedMulti : Counters → List MultiEvent → ℕ → ℕ → Type 0
-IsAnnouncedMulti base h multi offset =
-    ((multi ≡ base.oldest_multi) × (offset ≡ base.oldest_offset)) ⊎ ((by : By) × Contains h (multis.Raise by multi offset))
 
 -- what a record behind the first one says is so
 abbrev pub IsTrueRecord : Judged → Rec → Type 0

@@ -1,5 +1,5 @@
 -- The promises of all sessions make lawful lines, round by round.
-use Rattle.std.proofs.Common.{Bool, IsTrue, List, None, Option, Some, [], ap, append-nil, append_assoc, cond, drop, length, refl, subst, sym, take, true, zero, suc, ℕ, ◌+◌, ◌++◌, ◌<◌, ◌≡◌, ◌∙◌, ◌∷◌}
+use Rattle.std.proofs.Common.{Bool, IsTrue, List, None, Option, Some, [], ap, append-nil, append_assoc, arith, cond, drop, length, refl, subst, sym, take, true, zero, suc, ℕ, ◌+◌, ◌++◌, ◌-◌, ◌<◌, ◌≡◌, ◌∙◌, ◌∷◌}
 use Rattle.std.specs.List.{All, count_by, filter, flat_map, slice_get}
 use Rattle.std.proofs.Math.Seq.{take-append_seam}
 use Rattle.std.proofs.lemmas.Grind.{flat_map-append}
@@ -240,8 +240,9 @@ pub promises_make_steps : PromisesMakeSteps
 promises_make_steps tells start lists rounds r begins over few checks is =
     let ids = levels_bound_ids tells start lists rounds over few in
     let lines : flat_map lines_in r.steps ≡ all_lines rounds = report_lines start lists rounds r is in
+    let number : start.from - 1 ≡ r.life.from = let e = begins.from in omega arith in
     let same : facts tells start lists rounds over ids r.steps checks lines ≡ facts_of tells start.banks r.life r.steps
-    = λ j. record { tells = tells; banks = start.banks; base = sym is.base j; committed = sym is.committed j; events = sym is.events j; recs = sym is.recs j; flushed = sym is.flushed j; log_failed = has_failed_log r.steps } in (
+    = λ j. record { tells = tells; banks = start.banks; from = number j; base = sym is.base j; committed = sym is.committed j; events = sym is.events j; recs = sym is.recs j; flushed = sym is.flushed j; log_failed = has_failed_log r.steps } in (
       lawful_between (facts_of tells start.banks r.life r.steps) r.steps
           (subst (λ (x : Facts × List Step). AreLawfulSteps x.0 x.1) (λ j. (same j, sym is.steps j)) (lawful tells start lists rounds r.life.from begins over ids r.steps checks lines)),
       in_turn_between r.life.events r.steps

@@ -38,3 +38,5 @@ pub mod OneFault
 pub mod Once
 pub mod Flushed
 pub mod StopLimits
+pub mod OwnMultis
+pub mod PageRing

@@ -25,6 +25,9 @@ pub mod CleanStart
 pub mod EngineInvariant
 pub mod Verdict
 pub mod Pages
+pub mod StoredBytes
+pub mod CleanMultis
+pub mod OwnMultis
 pub mod Nearness
 pub mod Held
 pub mod Laws

@@ -3,6 +3,7 @@ ghost use Rattle.tx_core.specs.Consequences.{SessionsKnown, NeverAborted, Commit
 ghost use Rattle.tx_core.specs.Held.{OpenRuns, PagesHeld};
 ghost use Rattle.tx_core.specs.Nearness.{MadeNear};
 ghost use Rattle.tx_core.specs.Pages.{PagesShow, ParentsShow, OffsetsShow, MembersShow};
+ghost use Rattle.tx_core.specs.OwnMultis.{DoneStays, MakingStays, OwnMultisStay, PinsHold, PinsStay};
 ghost use Rattle.tx_core.specs.Verdict.{Decides};
 
 /// Any entry that its session may add keeps the engine invariant.
@@ -335,4 +336,17 @@ pub fn records_given()
 /// in between: `DELAY_CHKPT_START` of `xact.c`).
 pub fn records_shown()
     ensures { RecordsShown }
+{}
+
+/// What a session was given, pins and makes of multixacts it keeps while others go on.
+pub fn own_multis_stay()
+    ensures events { OwnMultisStay }
+    ensures pins { PinsStay }
+    ensures done { DoneStays }
+    ensures making { MakingStays }
+{}
+
+/// What is pinned is a multixact from the announced oldest one on, and was given.
+pub fn pins_hold()
+    ensures { PinsHold }
 {}

@@ -1,5 +1,5 @@
 -- What a call did that ends a transaction.
-use Rattle.std.proofs.Common.{◌≡◌, ◌≢◌, ℕ, zero, suc, ◌+◌, ◌≤◌, ◌==◌, Bool, false, true, List, [], ◌∷◌, Option, None, Some, Result, Ok, Err, refl, sym, ap, subst, ◌∙◌, inl, inr, ⊎_elim, length, drop, map, arith, ne_eqb, Contains, IsTrue, is_some}
+use Rattle.std.proofs.Common.{Bool, Contains, Err, IsTrue, List, None, Ok, Option, Result, Some, [], ap, append-nil, arith, drop, false, inl, inr, is_some, length, map, ne_eqb, refl, subst, suc, sym, true, zero, ℕ, ⊎_elim, ◌+◌, ◌==◌, ◌∙◌, ◌∷◌, ◌≡◌, ◌≢◌, ◌≤◌}
 use Rattle.std.proofs.lemmas.Bool.{false≢true}
 use Rattle.std.specs.Bool.{then_some}
 use Rattle.std.specs.List.{slice_index_or}
@@ -34,13 +34,15 @@ use Rattle.session_levels.specs.Stands.{Nest, Stands, levels_of, told_of}
 use Rattle.session_levels.specs.Stands as levels
 use Rattle.session_levels.proofs.HeadLemmas.{first_level, head_tail}
 use Rattle.session_levels.proofs.LevelLemmas.{levels_length, top_of_nameless}
+use Rattle.tx_core.specs.OwnMultis.{own_multis}
+use Rattle.engine_parts.proofs.Touching.{any_answer, no_multis}
 use Rattle.engine_parts.specs.declared.part.Part.{Part}
 use Rattle.engine_parts.specs.declared.session.Caller.{Caller}
 use Rattle.engine_parts.specs.declared.session.Session.{Session}
 use Rattle.engine_parts.specs.declared.session.Stage.{Stage}
 use Rattle.engine_parts.specs.declared.session.Stage.TheVariants as stages
 use Rattle.engine_parts.specs.Adding.{Adds, IsOfCommit, IsRecordBy, IsToldBy, MayAdd, MayLeave}
-use Rattle.engine_parts.specs.Answers.{Acted, MayAnswer, reply_of}
+use Rattle.engine_parts.specs.Answers.{Acted, MayAnswer, reply_of, touches_multis}
 use Rattle.engine_parts.specs.Calls.{Ran, IsHeldBehind}
 use Rattle.engine_parts.specs.Holds.{Knowledge}
 use Rattle.engine_parts.specs.Sessions.{IsAt, MayCall, by_at, stance_of}
@@ -96,6 +98,11 @@ allowed_done : (tells : Bool) (start : Start) (lists : List (List Entry)) (span 
 allowed_done tells start lists span by s stage ends.Commit some = some
 allowed_done tells start lists span by s stage ends.Abort some = some
 
+-- an end touches no multixact
+untouched : (how : XactEnd) → touches_multis (end_command how) ≡ false
+untouched ends.Commit = refl
+untouched ends.Abort = refl
+
 left_done : (how : XactEnd) (s : Stance) (number : ℕ) (ids : List ℕ) → after s number (end_command how) replies.Done ids ≡ record s { levels = [] }
 left_done ends.Commit s number ids = refl
 left_done ends.Abort s number ids = refl
@@ -117,8 +124,12 @@ acted_finished {tells = tells} start n how h s s' stage lists more nest some fre
       own = g.own;
       each = (end_by how by top, tt);
       fitting = fitting_done how by (stance_of s) top level;
+      multis = [];
+      own_multi = g.multis ∙ sym (append-nil (own_multis n lists));
+      each_multi = tt;
+      fitting_multi = no_multis start lists more by (end_command how) replies.Done (untouched how);
       adds = adds;
-      allowed = allowed_done tells start more (alone (history lists) (history more)) by (stance_of s) stage how levelled;
+      allowed = any_answer tells start lists more by (stance_of s) stage (end_command how) replies.Done (untouched how) (allowed_done tells start more (alone (history lists) (history more)) by (stance_of s) stage how levelled);
       standing = sym (not_refused how (stance_of s) stage (some_list (stance_of s).levels levelled) free);
       left = left_done how (stance_of s) s.levels.commands _ ∙ (λ j. record { levels = levels_of (sym f.named j) (sym f.unnamed j); snaps = map told_of ((sym f.registered j).items) });
     }
@@ -174,7 +185,7 @@ stops_stage start lists by old new refusals.Full c = c.1
 stops_stage start lists by old new refusals.Memory c = c.1
 stops_stage start lists by old new _ c = absurd c
 
-stops_held : (start : Start) (lists : List (List Entry)) (by : By) (old new : Stage) (r : Refusal) → Stops start lists by old new r → IsHeldBehind start lists (replies.Refused r) new
+stops_held : (start : Start) (lists : List (List Entry)) (by : By) (old new : Stage) (r : Refusal) → Stops start lists by old new r → IsHeldBehind start lists commands.Commit (replies.Refused r) new
 stops_held start lists by old new refusals.LogFault c = c.2
 stops_held start lists by old new (refusals.LogDown down) c = c.4
 stops_held start lists by old new _ c = tt
@@ -184,18 +195,22 @@ pub else_none : (r : Refusal) → is_by_standing r ≡ false → by_standing (re
 else_none r apart = ap (λ (b : Bool). then_some b r) apart
 
 -- the lists went on, and the command was refused by none of how its session stands
-pub acted_stopped : {tells : Bool} (start : Start) (n : ℕ) (s s' : Session) (stage : Stage) (command : Command) (r : Refusal) (lists more : List (List Entry)) → GoesOn n [] lists more → s'.levels ≡ s.levels → is_by_standing r ≡ false → refused_by command (stance_of s) (pending_in stage) ≡ None → HasEvents (by_at n s.levels.commands) (stance_of s) command (replies.Refused r) []
+pub acted_stopped : {tells : Bool} (start : Start) (n : ℕ) (s s' : Session) (stage : Stage) (command : Command) (r : Refusal) (lists more : List (List Entry)) → GoesOn n [] lists more → s'.levels ≡ s.levels → is_by_standing r ≡ false → refused_by command (stance_of s) (pending_in stage) ≡ None → touches_multis command ≡ false → HasEvents (by_at n s.levels.commands) (stance_of s) command (replies.Refused r) []
     → Adds (by_at n s.levels.commands) (MayLeave command (stance_of s) stage (open_ids n (history lists)) (replies.Refused r)) lists more
     → MayAnswer tells start more (alone (history lists) (history more)) (by_at n s.levels.commands) (stance_of s) stage command (replies.Refused r) → Acted tells start (by_at n s.levels.commands) (stance_of s) (stance_of s') stage command (replies.Refused r) lists more
-acted_stopped start n s s' stage command r lists more goes same apart free fitting adds allowed =
+acted_stopped {tells = tells} start n s s' stage command r lists more goes same apart free alone_ends fitting adds allowed =
     let by = by_at n s.levels.commands in record {
       grows = goes.grows;
       added = [];
       own = goes.own;
       each = tt;
       fitting = fitting;
+      multis = [];
+      own_multi = goes.multis ∙ sym (append-nil (own_multis n lists));
+      each_multi = tt;
+      fitting_multi = no_multis start lists more by command (replies.Refused r) alone_ends;
       adds = adds;
-      allowed = allowed;
+      allowed = any_answer tells start lists more by (stance_of s) stage command (replies.Refused r) alone_ends allowed;
       standing = ap (λ (b : Bool). then_some b r) apart ∙ sym free;
       left = refused_leaves (stance_of s) s.levels.commands command r ∙ sym (ap levels.stance_of same);
     }
@@ -226,9 +241,9 @@ fault_else : (lists : List (List Entry)) (by : By) (r : Refusal) → IsXactFault
 fault_else lists by (refusals.DiskFault (locks.Xact bank)) c = refl
 fault_else lists by _ c = absurd c
 
-pub fault_held : (start : Start) (lists : List (List Entry)) (by : By) (new : Stage) (r : Refusal) → IsXactFault lists by r → IsHeldBehind start lists (replies.Refused r) new
-fault_held start lists by new (refusals.DiskFault (locks.Xact bank)) c = tt
-fault_held start lists by new _ c = absurd c
+pub fault_held : (start : Start) (lists : List (List Entry)) (by : By) (command : Command) (new : Stage) (r : Refusal) → IsXactFault lists by r → IsHeldBehind start lists command (replies.Refused r) new
+fault_held start lists by command new (refusals.DiskFault (locks.Xact bank)) c = tt
+fault_held start lists by command new _ c = absurd c
 
 fault_stage : (lists : List (List Entry)) (by : By) (old new : Stage) (r : Refusal) → new ≡ stages.Aborting → IsXactFault lists by r → LeavesStage commands.Abort (replies.Refused r) old new
 fault_stage lists by old new (refusals.DiskFault (locks.Xact bank)) is c = is
@@ -298,7 +313,7 @@ module _ {H L P : Type 0} {l : logs.Ghosts L} {p : disks.Ghosts P} (hall : Hall 
         own = own;
         may = may;
         acted = acted_stopped (start_of hall) u.number u.session new.session u.session.stage commands.Commit r (view u.pass).seen (view new.pass).seen c.0 c.1 (stops_else (start_of hall) (view new.pass).seen by u.session.stage new.session.stage r c.2)
-            (not_refused ends.Commit (stance_of u.session) u.session.stage (some_list (stance_of u.session).levels (has_top (stance_of u.session).levels (top_open u.session) (levelled h u.session was.ready.at.stands.nest some))) free) refl adds
+            (not_refused ends.Commit (stance_of u.session) u.session.stage (some_list (stance_of u.session).levels (has_top (stance_of u.session).levels (top_open u.session) (levelled h u.session was.ready.at.stands.nest some))) free) refl refl adds
             (stops_answer p.tells (start_of hall) (view new.pass).seen (alone h (history (view new.pass).seen)) by (stance_of u.session) (top_open u.session) u.session.stage new.session.stage r (levelled h u.session was.ready.at.stands.nest some) c.2);
         stage = stops_stage (start_of hall) (view new.pass).seen by u.session.stage new.session.stage r c.2;
         held = stops_held (start_of hall) (view new.pass).seen by u.session.stage new.session.stage r c.2;
@@ -326,10 +341,10 @@ module _ {H L P : Type 0} {l : logs.Ghosts L} {p : disks.Ghosts P} (hall : Hall 
         own = own;
         may = may;
         acted = acted_stopped (start_of hall) u.number u.session new.session u.session.stage commands.Abort r (view u.pass).seen (view new.pass).seen c.0 c.1 (fault_else (view new.pass).seen by r c.3)
-            (not_refused ends.Abort (stance_of u.session) u.session.stage (some_list (stance_of u.session).levels (has_top (stance_of u.session).levels (top_open u.session) (levelled h u.session was.ready.at.stands.nest some))) (abort_free u.session.stage clear)) refl adds
+            (not_refused ends.Abort (stance_of u.session) u.session.stage (some_list (stance_of u.session).levels (has_top (stance_of u.session).levels (top_open u.session) (levelled h u.session was.ready.at.stands.nest some))) (abort_free u.session.stage clear)) refl refl adds
             (fault_answer p.tells (start_of hall) (view new.pass).seen (alone h (history (view new.pass).seen)) by (stance_of u.session) u.session.stage r (some_top (stance_of u.session) (top_open u.session) (levelled h u.session was.ready.at.stands.nest some)) c.3);
         stage = fault_stage (view new.pass).seen by u.session.stage new.session.stage r c.2 c.3;
-        held = fault_held (start_of hall) (view new.pass).seen by new.session.stage r c.3;
+        held = fault_held (start_of hall) (view new.pass).seen by commands.Abort new.session.stage r c.3;
         still = λ q is. not_standing (by_standing (replies.Refused r)) q (else_none r (fault_else (view new.pass).seen by r c.3)) is;
         count = (ap (λ (z : plain.Session). z.commands) c.1, number);
       }
@@ -342,6 +357,7 @@ module _ {H L P : Type 0} {l : logs.Ghosts L} {p : disks.Ghosts P} (hall : Hall 
     may = subst (λ (z : (Knowledge × ℕ) × Session). MayCall (start_of hall) z.0.0 z.0.1 z.1) (λ j. ((view (sym c.pass j), sym c.number j), sym is j)) closed_may;
     acted = acted_nothing (start_of hall) lists (view new.pass).seen u.number u.session.levels.commands (stance_of u.session) (stance_of new.session) u.session.stage (end_command how) replies.Done (ap (λ z. (view z).seen) c.pass)
         (fitting_none how by (stance_of u.session) (ap top_level (ap (λ (t : List ℕ). levels_of t u.session.levels.unnamed) named) ∙ top_of_nameless u.session.levels.unnamed))
+        (untouched how)
         (allowed_done p.tells (start_of hall) lists (alone h h) by (stance_of u.session) u.session.stage how levelled)
         (sym (not_refused how (stance_of u.session) u.session.stage some free))
         (left_done how (stance_of u.session) u.session.levels.commands [] ∙ stance);
@@ -361,10 +377,10 @@ module _ {H L P : Type 0} {l : logs.Ghosts L} {p : disks.Ghosts P} (hall : Hall 
       by = by_at u.number u.session.levels.commands
 
       t : Session
-      t = record { levels = record u.session.levels { unnamed = 0 }; stage = stages.Clear; unlinked = u.session.unlinked }
+      t = record { levels = record u.session.levels { unnamed = 0 }; stage = stages.Clear; unlinked = u.session.unlinked; making = u.session.making }
 
       is : new.session ≡ t
-      is = λ j. record { levels = c.levels j; stage = c.stage j; unlinked = c.unlinked j }
+      is = λ j. record { levels = c.levels j; stage = c.stage j; unlinked = c.unlinked j; making = c.making j }
 
       named : u.session.levels.level_ids.items ≡ []
       named = no_names h u.session.levels.open_ids.items u.session.levels.level_ids.items was.ready.at.stands.nest none
@@ -409,6 +425,7 @@ module _ {H L P : Type 0} {l : logs.Ghosts L} {p : disks.Ghosts P} (hall : Hall 
             clear = λ q top subs appended opened. no_top top subs (sym none ∙ (sym a.stands.opened ∙ opened));
             unaborted = λ q id k. absurd (contains_none id (subst (λ (o : List ℕ). Contains o id) none k));
             filed = a.filed;
+            makes = a.makes;
           };
         };
         stage = λ id state k asked. contains_none id (subst (λ (o : List ℕ). Contains o id) none k);

@@ -99,4 +99,4 @@ rolled_more start lists ids from first past low before then id c =
 pub undone_from : (id : ℕ) (s t s' : Session) → t ≡ record s { stage = stages.Undoing } → IsUndone id t s' → IsUndone id s s'
 undone_from id s t s' is u =
     let b = subst (λ (z : Session). IsUndone id z s') is u in
-    record { named = b.named; unnamed = b.unnamed; opened = b.opened; registered = b.registered; count = b.count; stage = b.stage; unlinked = b.unlinked }
+    record { named = b.named; unnamed = b.unnamed; opened = b.opened; registered = b.registered; count = b.count; stage = b.stage; unlinked = b.unlinked; making = b.making }

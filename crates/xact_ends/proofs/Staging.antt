@@ -32,6 +32,7 @@ ready_staged start v n s stage recorded aborted r =
         clear = λ q. a.clear (recorded q);
         unaborted = λ q. a.unaborted (aborted q);
         filed = a.filed;
+        makes = a.makes;
       };
     }
 

@@ -1,5 +1,5 @@
 -- What a call did that rolls a savepoint back.
-use Rattle.std.proofs.Common.{◌≡◌, ◌⊎◌, ℕ, zero, suc, ◌+◌, ◌-◌, ◌≤◌, nat_le, Bool, false, true, List, [], ◌∷◌, ◌++◌, Option, None, Some, Result, Ok, Err, refl, sym, ap, subst, ◌∙◌, inl, inr, ⊎_elim, length, map, arith, IsTrue, is_some}
+use Rattle.std.proofs.Common.{Bool, Err, IsTrue, List, None, Ok, Option, Result, Some, [], ap, append-nil, arith, false, inl, inr, is_some, length, map, nat_le, refl, subst, suc, sym, true, zero, ℕ, ⊎_elim, ◌++◌, ◌+◌, ◌-◌, ◌∙◌, ◌∷◌, ◌≡◌, ◌≤◌, ◌⊎◌}
 use Rattle.std.proofs.lemmas.Bool.{lt-leb}
 use Rattle.disk_core.specs.declared.log_disk.LogDisk as logs
 use Rattle.disk_core.specs.declared.page_disk.PageDisk as disks
@@ -23,6 +23,7 @@ use Rattle.session_levels.specs.declared.session.Session as plain
 use Rattle.session_levels.specs.Stands.{levels_of, told_of}
 use Rattle.session_levels.proofs.LevelLemmas.{innermost_nameless, level_less, levels_length, named_less}
 use Rattle.bank_sections.specs.Faults.{IsXactFault}
+use Rattle.tx_core.specs.OwnMultis.{own_multis}
 use Rattle.engine_parts.specs.declared.part.Part.{Part}
 use Rattle.engine_parts.specs.declared.session.Caller.{Caller}
 use Rattle.engine_parts.specs.declared.session.Session.{Session}
@@ -97,6 +98,10 @@ module _ {H L P : Type 0} {l : logs.Ghosts L} {p : disks.Ghosts P} (hall : Hall 
           own = g.own;
           each = (refl, tt);
           fitting = sym (ap (undo_event (by_at u.number s.levels.commands)) inner);
+          multis = [];
+          own_multi = g.multis ∙ sym (append-nil (own_multis u.number (view u.pass).seen));
+          each_multi = tt;
+          fitting_multi = refl;
           adds = adds;
           allowed = two;
           standing = sym (not_refused (stance_of s) s.stage two free);
@@ -117,10 +122,10 @@ module _ {H L P : Type 0} {l : logs.Ghosts L} {p : disks.Ghosts P} (hall : Hall 
         own = own;
         may = may;
         acted = acted_stopped (start_of hall) u.number u.session new.session u.session.stage commands.Undo r (view u.pass).seen (view new.pass).seen c.0 c.1 (fault_else (view new.pass).seen by r c.3)
-            (not_refused (stance_of u.session) u.session.stage two free) refl adds
+            (not_refused (stance_of u.session) u.session.stage two free) refl refl adds
             (fault_answer p.tells (start_of hall) (view new.pass).seen (alone h (history (view new.pass).seen)) by (stance_of u.session) u.session.stage r (subst (λ (o : Option ℕ). IsTrue (is_some o)) (sym inner) refl) c.3);
         stage = fault_stage (view new.pass).seen by u.session.stage new.session.stage r c.2 c.3;
-        held = fault_held (start_of hall) (view new.pass).seen by new.session.stage r c.3;
+        held = fault_held (start_of hall) (view new.pass).seen by commands.Undo new.session.stage r c.3;
         still = λ q is. not_standing (by_standing (replies.Refused r)) q (else_none r (fault_else (view new.pass).seen by r c.3)) is;
         count = (ap (λ (z : plain.Session). z.commands) c.1, number);
       }
@@ -132,7 +137,7 @@ module _ {H L P : Type 0} {l : logs.Ghosts L} {p : disks.Ghosts P} (hall : Hall 
     own = subst (λ z. IsOf hall z) (sym c.pass) own;
     may = subst (λ (z : (Knowledge × ℕ) × Session). MayCall (start_of hall) z.0.0 z.0.1 z.1) (λ j. ((view (sym c.pass j), sym c.number j), sym is j)) may;
     acted = acted_nothing (start_of hall) lists (view new.pass).seen u.number u.session.levels.commands (stance_of u.session) (stance_of new.session) u.session.stage commands.Undo replies.Done (ap (λ z. (view z).seen) c.pass)
-        (sym (ap (undo_event (by_at u.number u.session.levels.commands)) none)) two (sym (not_refused (stance_of u.session) u.session.stage two free))
+        (sym (ap (undo_event (by_at u.number u.session.levels.commands)) none)) refl two (sym (not_refused (stance_of u.session) u.session.stage two free))
         ((λ j. record { levels = level_less u.session.levels.level_ids.items u.session.levels.unnamed (u.session.levels.unnamed - 1) fewer j; snaps = map told_of u.session.levels.registered.items }) ∙ sym (ap stance_of is));
     stage = c.stage ∙ clear;
     held = tt;
@@ -159,10 +164,10 @@ module _ {H L P : Type 0} {l : logs.Ghosts L} {p : disks.Ghosts P} (hall : Hall 
           free
 
       t : Session
-      t = record { levels = record u.session.levels { unnamed = u.session.levels.unnamed - 1 }; stage = u.session.stage; unlinked = u.session.unlinked }
+      t = record { levels = record u.session.levels { unnamed = u.session.levels.unnamed - 1 }; stage = u.session.stage; unlinked = u.session.unlinked; making = u.session.making }
 
       is : new.session ≡ t
-      is = λ j. record { levels = c.levels j; stage = c.stage j; unlinked = c.unlinked j }
+      is = λ j. record { levels = c.levels j; stage = c.stage j; unlinked = c.unlinked j; making = c.making j }
 
       unasked : AreUnasked lists u.number u.session.levels.open_ids.items
       unasked = subst (IsInStage (start_of hall) lists u.number (inner_id u.session) u.session.levels.open_ids.items) clear was.stage
@@ -191,6 +196,7 @@ module _ {H L P : Type 0} {l : logs.Ghosts L} {p : disks.Ghosts P} (hall : Hall 
             clear = a.clear;
             unaborted = a.unaborted;
             filed = a.filed;
+            makes = a.makes;
           };
         };
         stage = subst (IsInStage (start_of hall) lists u.number (inner_id t) u.session.levels.open_ids.items) (sym clear) unasked;

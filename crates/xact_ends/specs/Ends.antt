@@ -41,3 +41,4 @@ module _ {L P : Type 0} {l : logs.Ghosts L} {p : disks.Ghosts P} where
     pub levels : new.session.levels ≡ record old.session.levels { unnamed = 0 }
     pub stage : new.session.stage ≡ stages.Clear
     pub unlinked : new.session.unlinked ≡ old.session.unlinked
+    pub making : new.session.making ≡ old.session.making

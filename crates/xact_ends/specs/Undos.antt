@@ -36,3 +36,4 @@ module _ {L P : Type 0} {l : logs.Ghosts L} {p : disks.Ghosts P} where
     pub levels : new.session.levels ≡ record old.session.levels { unnamed = old.session.levels.unnamed - 1 }
     pub stage : new.session.stage ≡ old.session.stage
     pub unlinked : new.session.unlinked ≡ old.session.unlinked
+    pub making : new.session.making ≡ old.session.making

@@ -32,7 +32,7 @@ use Rattle.engine_parts.specs.declared.session.Caller.{Caller}
 use Rattle.engine_parts.specs.declared.session.Session.{Session}
 use Rattle.engine_parts.specs.declared.session.Stage.{Stage}
 use Rattle.engine_parts.specs.declared.session.Stage.TheVariants as stages
-use Rattle.engine_parts.specs.Answers.{Acted, MayAnswer}
+use Rattle.engine_parts.specs.Answers.{Acted, MayAnswer, touches_multis}
 use Rattle.engine_parts.specs.Calls.{IsCounted, MayRun, Ran, next_command}
 use Rattle.engine_parts.specs.Holds.{Knowledge}
 use Rattle.engine_parts.specs.Sessions.{IsFiled, MayCall, by_at, inner_id, stance_of}
@@ -114,6 +114,14 @@ level_reply tells base start lists r span by s stage commands.Release (replies.R
 level_reply tells base start lists r span by s stage commands.Release _ l free a = absurd a
 level_reply tells base start lists r span by s stage command reply l free a = absurd l
 
+-- such a command touches no multixact
+levels_alone : (command : Command) → IsOnLevels command → touches_multis command ≡ false
+levels_alone (commands.Multi pairs) l = absurd l
+levels_alone (commands.SeeMulti name m) l = absurd l
+levels_alone (commands.MultiFreeze multi) l = absurd l
+levels_alone commands.Trim l = absurd l
+levels_alone command l = refl
+
 -- what is said of such a command over no history is said over any
 acted_levels : (tells : Bool) (start : Start) (lists lists' : List (List Entry)) (base : Counters) (n number : ℕ) (s s' : Stance) (stage : Stage) (command : Command) (reply : Reply) → IsOnLevels command → held_by command (pending_in stage) ≡ None → lists' ≡ lists → Acts base (by_at n number) s s' command reply [] []
     → Acted tells start (by_at n number) s s' stage command reply lists lists'
@@ -121,7 +129,7 @@ acted_levels tells start lists lists' base n number s s' stage command reply l f
     let none : a.added ≡ [] = sym a.grown in
     let answer = level_reply tells base start lists (alone [] []) (alone (history lists) (history lists)) (by_at n number) s stage command reply l free a.allowed in
     acted_nothing {tells = tells} start lists lists' n number s s' stage command reply same
-    (subst (λ (es : List Event). HasEvents (by_at n number) s command reply es) none a.fitting) answer.0 answer.1
+    (subst (λ (es : List Event). HasEvents (by_at n number) s command reply es) none a.fitting) (levels_alone command l) answer.0 answer.1
     (sym (ap (λ (es : List Event). after s number command reply (given es)) none) ∙ a.left)
 
 -- the session's innermost level is as before, where an undo is pending of it
@@ -176,6 +184,7 @@ call_levels start v n s s' new is count stands kept m =
           clear = a.clear;
           unaborted = λ q. subst (λ (z : List ℕ). AreUnaborted v.seen n z) (sym opened) (a.unaborted q);
           filed = subst (λ (z : List ℕ). IsFiled start v.seen n z s.unlinked) (sym opened) a.filed;
+          makes = a.makes;
         };
       };
       stage = subst (λ (z : List ℕ). IsInStage start v.seen n (inner_id t) z s.stage) (sym opened) (stage_kept start v.seen n (inner_id s) (inner_id t) s.levels.open_ids.items s.stage kept m.stage);

@@ -44,7 +44,10 @@ use Rattle.engine_parts.specs.Stages.{may_be_recorded, AreUnaborted, may_be_abor
 use Rattle.life_law.specs.Refused.{refused_by}
 use Rattle.engine_parts.proofs.Acting.{acted_event}
 use Rattle.engine_parts.proofs.Refusing.{first_fails}
-use Rattle.engine_parts.proofs.Leaving.{at_left, clear_same, filed_left, history_event, no_abort, unaborted_same}
+use Rattle.engine_parts.proofs.Leaving.{at_left, clear_same, filed_left, history_event, no_abort, no_multi, unaborted_same}
+use Rattle.engine_parts.proofs.Made.{makes_left}
+use Rattle.tx_core.specs.MultiEntries.{multi_of}
+use Rattle.engine_parts.specs.Makings.{Makes}
 use Rattle.xact_engine.proofs.Levelling.{call_levels}
 
 abbrev pub snap_entry : By → List ℕ → Entry
@@ -61,9 +64,9 @@ may_drop start seen by name e is live turn = subst (MayKeep start seen proc_lock
 
 -- The session stands with the snapshots that it has after an event that closes no id.
 ready_event : (start : Start) (v w : Knowledge) (n n' : ℕ) (s s' : Session) (e : Entry) (event : Event) → IsAt start v n s → e ≡ record { by = by_at n s.levels.commands; kind = kinds.Event event }
-    → s'.levels.commands ≡ s.levels.commands → s'.levels.level_ids.items ≡ s.levels.level_ids.items → s'.levels.unnamed ≡ s.levels.unnamed → s'.levels.open_ids.items ≡ s.levels.open_ids.items → s'.stage ≡ s.stage → s'.unlinked ≡ s.unlinked → n' ≡ n
+    → s'.levels.commands ≡ s.levels.commands → s'.levels.level_ids.items ≡ s.levels.level_ids.items → s'.levels.unnamed ≡ s.levels.unnamed → s'.levels.open_ids.items ≡ s.levels.open_ids.items → s'.stage ≡ s.stage → s'.unlinked ≡ s.unlinked → s'.making ≡ s.making → n' ≡ n
     → Stood start.base (history v.seen ++ event ∷ []) n s.levels.commands s.levels.open_ids.items s.levels.level_ids.items s.levels.unnamed s'.levels.registered.items → Leaves start proc_lock e v w → IsReady start w n' s'
-ready_event start v w n n' s s' e event a is count named unnamed opened stage unlinked number st l =
+ready_event start v w n n' s s' e event a is count named unnamed opened stage unlinked making number st l =
     let wide = a.wide in
     let h : List Event = history v.seen in
     let grown : history w.seen ≡ h ++ event ∷ [] = history_event start v w e event (ap event_of is) (omega arith) l in
@@ -72,25 +75,26 @@ ready_event start v w n n' s s' e event a is count named unnamed opened stage un
     (subst (λ (z : List Event × ℕ). Stands start.base z.0 n z.1 s'.levels) (λ j. (sym grown j, sym count j)) (stands start.base (h ++ event ∷ []) n s.levels.commands s'.levels (rw (opened, named, unnamed) st)))
     (λ q. clear_same start v w n proc_lock s e a (omega arith) (ap appended is) (ap (open_ids n) grown ∙ (st.opened_are ∙ sym a.stands.opened)) l (ap may_be_recorded (sym stage) ∙ q))
     (λ q. subst (λ (t : List ℕ). AreUnaborted w.seen n t) (sym opened) (unaborted_same start v w n proc_lock s e a (omega arith) (no_abort e (ap appended is)) l (ap may_be_aborted (sym stage) ∙ q)))
-    (subst (λ (z : List ℕ × Option Unlinked). IsFiled start w.seen n z.0 z.1) (λ j. (sym opened j, sym unlinked j)) (filed_left start v w n proc_lock s e a (omega arith) l)))
+    (subst (λ (z : List ℕ × Option Unlinked). IsFiled start w.seen n z.0 z.1) (λ j. (sym opened j, sym unlinked j)) (filed_left start v w n proc_lock s e a (omega arith) l))
+    (subst (Makes start w.seen n) (sym making) (makes_left start v w n proc_lock s.making e l.kept (omega arith) (ap multi_of is) (no_multi e (ap appended is)) l a.makes)))
 
 -- with one that it took
 pub ready_snapped : (start : Start) (v w : Knowledge) (n n' : ℕ) (s s' : Session) (k : RegisteredSnapshot) (e : Entry) → IsAt start v n s → e ≡ snap_entry (by_at n s.levels.commands) k.name
     → k.command ≡ s.levels.commands → k.place ≡ length (history v.seen) → k.snapshot ≡ snapshot_data start.base.next (history v.seen)
     → s'.levels.commands ≡ s.levels.commands → s'.levels.level_ids.items ≡ s.levels.level_ids.items → s'.levels.unnamed ≡ s.levels.unnamed → s'.levels.open_ids.items ≡ s.levels.open_ids.items → s'.levels.registered.items ≡ s.levels.registered.items ++ k ∷ []
-    → s'.stage ≡ s.stage → s'.unlinked ≡ s.unlinked → n' ≡ n → Leaves start proc_lock e v w → IsReady start w n' s'
-ready_snapped start v w n n' s s' k e a is command place holds count named unnamed opened registered stage unlinked number l =
+    → s'.stage ≡ s.stage → s'.unlinked ≡ s.unlinked → s'.making ≡ s.making → n' ≡ n → Leaves start proc_lock e v w → IsReady start w n' s'
+ready_snapped start v w n n' s s' k e a is command place holds count named unnamed opened registered stage unlinked making number l =
     let by = by_at n s.levels.commands in
-    ready_event start v w n n' s s' e (events.Snap by k.name) a is count named unnamed opened stage unlinked number
+    ready_event start v w n n' s s' e (events.Snap by k.name) a is count named unnamed opened stage unlinked making number
     (rw registered (stood_snapped start.base (history v.seen) by s.levels.open_ids.items s.levels.level_ids.items s.levels.unnamed s.levels.registered.items k command place holds (stood start.base (history v.seen) n s.levels.commands s.levels a.stands))) l
 
 -- without one that it dropped
 pub ready_dropped : (start : Start) (v w : Knowledge) (n n' : ℕ) (s s' : Session) (name : List ℕ) (e : Entry) → IsAt start v n s → e ≡ drop_entry (by_at n s.levels.commands) name
     → s'.levels.commands ≡ s.levels.commands → s'.levels.level_ids.items ≡ s.levels.level_ids.items → s'.levels.unnamed ≡ s.levels.unnamed → s'.levels.open_ids.items ≡ s.levels.open_ids.items
-    → s'.levels.registered.items ≡ filter (λ k. not (same_name k.name name)) s.levels.registered.items → s'.stage ≡ s.stage → s'.unlinked ≡ s.unlinked → n' ≡ n → Leaves start proc_lock e v w → IsReady start w n' s'
-ready_dropped start v w n n' s s' name e a is count named unnamed opened registered stage unlinked number l =
+    → s'.levels.registered.items ≡ filter (λ k. not (same_name k.name name)) s.levels.registered.items → s'.stage ≡ s.stage → s'.unlinked ≡ s.unlinked → s'.making ≡ s.making → n' ≡ n → Leaves start proc_lock e v w → IsReady start w n' s'
+ready_dropped start v w n n' s s' name e a is count named unnamed opened registered stage unlinked making number l =
     let by = by_at n s.levels.commands in
-    ready_event start v w n n' s s' e (events.SnapDrop by name) a is count named unnamed opened stage unlinked number
+    ready_event start v w n n' s s' e (events.SnapDrop by name) a is count named unnamed opened stage unlinked making number
     (rw registered (stood_dropped start.base (history v.seen) by name s.levels.open_ids.items s.levels.level_ids.items s.levels.unnamed s.levels.registered.items (stood start.base (history v.seen) n s.levels.commands s.levels a.stands))) l
 
 -- a name that isn't taken isn't refused, below the limit
@@ -109,7 +113,7 @@ acted_snapped start v u w n s s' name lists e a k learns is l free room held sta
     let event : Event = events.Snap (by_at n s.levels.commands) name in
     let wide = a.wide in let long = learns.long in
     let grown : history w.seen ≡ history u.seen ++ event ∷ [] = history_event start u w e event (ap event_of is) (omega arith) l in
-    acted_event start v u w n s s' (commands.Snap name) (replies.Snapped lists) e event a k learns (ap event_of is) refl (ap (λ (z : Entry). z.by) is) l refl (
+    acted_event start v u w n s s' (commands.Snap name) (replies.Snapped lists) e event a k learns (ap event_of is) refl (ap (λ (z : Entry). z.by) is) l refl refl (
       snap_missing name (stance_of s).levels s.levels.registered.items free,
       omega (arith, length-map s.levels.registered.items told_of),
       length (history u.seen),
@@ -128,7 +132,7 @@ pub acted_dropped : {tells : Bool} (start : Start) (v u w : Knowledge) (n : ℕ)
     → Acted tells start (by_at n s.levels.commands) (stance_of s) s' s.stage (commands.DropSnap name) replies.Done v.seen w.seen
 acted_dropped start v u w n s s' name e a k learns is l registered stance =
     let some = some_found name (stance_of s).levels s.levels.registered.items registered in
-    acted_event start v u w n s s' (commands.DropSnap name) replies.Done e (events.SnapDrop (by_at n s.levels.commands) name) a k learns (ap event_of is) refl (ap (λ (z : Entry). z.by) is) l refl
+    acted_event start v u w n s s' (commands.DropSnap name) replies.Done e (events.SnapDrop (by_at n s.levels.commands) name) a k learns (ap event_of is) refl (ap (λ (z : Entry). z.by) is) l refl refl
     some (sym (ap (λ (b : Bool). then_some b refusals.NoSnapshot) (some_is (snap_of name (stance_of s)) some))) (sym stance)
 
 -- a name is live in the history where the session has it

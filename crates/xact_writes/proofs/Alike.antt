@@ -19,6 +19,7 @@ use Rattle.engine_parts.specs.Holds.{Knowledge}
 use Rattle.engine_parts.specs.Sessions.{IsFiled, MayCall, by_at}
 use Rattle.tx_model.specs.CommandEvents.{innermost}
 use Rattle.engine_parts.specs.Stages.{AreUnaborted, IsInStage, may_be_aborted, may_be_recorded}
+use Rattle.engine_parts.specs.Makings.{Makes}
 use Rattle.engine_parts.specs.Steps.{WentOn}
 use Rattle.proc_sections.specs.Givings.{GivesId, IsGivenIn, IsNamed, naming, unlinked_of}
 use Rattle.xact_writes.specs.Writes.{HasReserved, IsAlike, IsGivenLater}
@@ -27,13 +28,13 @@ pub reserved_from : (s s' : plain.Session) → s' ≡ s → HasReserved s s'
 reserved_from s s' q = record { commands = ap (λ z. z.commands) q; named = ap (λ z. z.level_ids.items) q; unnamed = ap (λ z. z.unnamed) q; opened = ap (λ z. z.open_ids.items) q; registered = ap (λ z. z.registered) q }
 
 pub alike_from : (s s' : Session) → s' ≡ s → IsAlike s s'
-alike_from s s' q = record { levels = reserved_from s.levels s'.levels (ap (λ z. z.levels) q); stage = ap (λ z. z.stage) q; unlinked = ap (λ z. z.unlinked) q }
+alike_from s s' q = record { levels = reserved_from s.levels s'.levels (ap (λ z. z.levels) q); stage = ap (λ z. z.stage) q; unlinked = ap (λ z. z.unlinked) q; making = ap (λ z. z.making) q }
 
 pub reserved_then : (a b c : plain.Session) → HasReserved a b → HasReserved b c → HasReserved a c
 reserved_then a b c p q = record { commands = q.commands ∙ p.commands; named = q.named ∙ p.named; unnamed = q.unnamed ∙ p.unnamed; opened = q.opened ∙ p.opened; registered = q.registered ∙ p.registered }
 
 pub alike_then : (a b c : Session) → IsAlike a b → IsAlike b c → IsAlike a c
-alike_then a b c p q = record { levels = reserved_then a.levels b.levels c.levels p.levels q.levels; stage = q.stage ∙ p.stage; unlinked = q.unlinked ∙ p.unlinked }
+alike_then a b c p q = record { levels = reserved_then a.levels b.levels c.levels p.levels q.levels; stage = q.stage ∙ p.stage; unlinked = q.unlinked ∙ p.unlinked; making = q.making ∙ p.making }
 
 pub call_alike : (start : Start) (v : Knowledge) (n : ℕ) (s s' : Session) → MayCall start v n s → IsAlike s s' → MayCall start v n s'
 call_alike start v n s s' m k =
@@ -57,6 +58,7 @@ call_alike start v n s s' m k =
           clear = λ q. a.clear (ap may_be_recorded (sym k.stage) ∙ q);
           unaborted = λ q. subst (AreUnaborted v.seen n) (sym l.opened) (a.unaborted (ap may_be_aborted (sym k.stage) ∙ q));
           filed = subst (λ (z : List ℕ × Option Unlinked). IsFiled start v.seen n z.0 z.1) (λ j. (sym l.opened j, sym k.unlinked j)) a.filed;
+          makes = subst (Makes start v.seen n) (sym k.making) a.makes;
         };
       };
       stage = subst (λ (z : ((List ℕ × ℕ) × List ℕ) × Stage). IsInStage start v.seen n (innermost (levels_of z.0.0.0 z.0.0.1)) z.0.1 z.1) (λ j. (((sym l.named j, sym l.unnamed j), sym l.opened j), sym k.stage j)) m.stage;
@@ -71,6 +73,7 @@ named_alike a b c id p q = let l = p.levels in record {
   count = q.count ∙ l.commands;
   stage = q.stage ∙ p.stage;
   unlinked = q.unlinked ∙ ap (λ (ids : List ℕ). unlinked_of id (last_of ids)) l.named;
+  making = q.making ∙ p.making;
 }
 
 pub given_alike : (start : Start) (n : ℕ) (a b c : Session) (id : ℕ) (warn : Bool) (lists more : List (List Entry)) → IsAlike a b → GivesId start n b c lists more (Ok (answers.Id id warn)) → GivesId start n a c lists more (Ok (answers.Id id warn))

@@ -1,5 +1,5 @@
 -- A write on its way, and what it did when it is done or refused.
-use Rattle.std.proofs.Common.{◌≡◌, ◌≢◌, ◌↔◌, ℕ, ◌+◌, ◌≤◌, ◌<◌, ◌==◌, List, [], ◌∷◌, ◌++◌, Option, None, Bool, false, IsTrue, ◌||◌, inl, inr, ⊎_elim, refl, sym, ap, subst, ◌∙◌, append-nil, append_assoc, arith, length, map, eq-eqb, ne_eqb, zero, suc, is_none}
+use Rattle.std.proofs.Common.{Bool, IsTrue, List, None, Option, [], ap, append-nil, append_assoc, arith, eq-eqb, false, inl, inr, is_none, length, map, ne_eqb, refl, subst, suc, sym, zero, ℕ, ⊎_elim, ◌++◌, ◌+◌, ◌<◌, ◌==◌, ◌||◌, ◌↔◌, ◌∙◌, ◌∷◌, ◌≡◌, ◌≢◌, ◌≤◌}
 use Rattle.std.specs.List.{AllByRecursion, filter, list_any}
 use Rattle.notes.proofs.Growing.{begins_length}
 use Rattle.tx_events.specs.declared.event.By.{By}
@@ -19,6 +19,7 @@ use Rattle.tx_model.specs.CommandEvents.{giving, level_events}
 use Rattle.tx_model.specs.Replies.{IsWarned, alone}
 use Rattle.tx_model.specs.Stance.{filled}
 use Rattle.tx_model.proofs.Growth.{may_reply_grows}
+use Rattle.tx_core.specs.OwnMultis.{own_multis}
 use Rattle.tx_core.specs.declared.entry.Entry.{Entry}
 use Rattle.tx_core.specs.declared.entry.Start.{Start}
 use Rattle.tx_core.specs.Entries.{history}
@@ -171,6 +172,10 @@ module _ (tells : Bool) (start : Start) (n : ℕ) (s s1 : Session) (ids : List �
     own = k.went.on.own;
     each = events_own by None (levels_of s.levels.level_ids.items s.levels.unnamed) ids;
     fitting = (refl, (let l = k.left in let z = levels_lack s.levels.level_ids.items s.levels.unnamed in omega arith));
+    multis = [];
+    own_multi = k.went.on.multis ∙ sym (append-nil (own_multis n lists));
+    each_multi = tt;
+    fitting_multi = refl;
     adds = plain ids warn adds;
     allowed = (some_levels s.levels.level_ids.items s.levels.unnamed some, k.warned);
     standing = sym (not_refused s clear some);
@@ -185,6 +190,10 @@ module _ (tells : Bool) (start : Start) (n : ℕ) (s s1 : Session) (ids : List �
     own = k.went.on.own;
     each = events_own by None (levels_of s.levels.level_ids.items s.levels.unnamed) ids;
     fitting = inr (ids, refl, (let l = k.left in let z = levels_lack s.levels.level_ids.items s.levels.unnamed in omega arith));
+    multis = [];
+    own_multi = k.went.on.multis ∙ sym (append-nil (own_multis n lists));
+    each_multi = tt;
+    fitting_multi = refl;
     adds = met (refusals.DiskFault (locks.Subtrans bank)) adds;
     allowed = (refl, fault);
     standing = sym (not_refused s clear some);
@@ -200,6 +209,10 @@ module _ (tells : Bool) (start : Start) (n : ℕ) (s s1 : Session) (ids : List �
     own = k.went.on.own;
     each = events_own by None (levels_of s.levels.level_ids.items s.levels.unnamed) ids;
     fitting = inr (ids, refl, (let l = k.left in let z = levels_lack s.levels.level_ids.items s.levels.unnamed in omega arith));
+    multis = [];
+    own_multi = k.went.on.multis ∙ sym (append-nil (own_multis n lists));
+    each_multi = tt;
+    fitting_multi = refl;
     adds = met (refusals.DiskFault (locks.Xact bank)) adds;
     allowed = (lacks_some s.levels.level_ids.items s.levels.unnamed lacked, fault);
     standing = sym (not_refused s clear some);
@@ -216,6 +229,10 @@ module _ (tells : Bool) (start : Start) (n : ℕ) (s s1 : Session) (ids : List �
     own = k.went.on.own;
     each = events_own by None (levels_of s.levels.level_ids.items s.levels.unnamed) ids;
     fitting = inr (ids, refl, (let l = k.left in let z = levels_lack s.levels.level_ids.items s.levels.unnamed in omega arith));
+    multis = [];
+    own_multi = k.went.on.multis ∙ sym (append-nil (own_multis n lists));
+    each_multi = tt;
+    fitting_multi = refl;
     adds = met refusals.Memory adds;
     allowed = lacks_some s.levels.level_ids.items s.levels.unnamed (let l = k.left in omega arith);
     standing = sym (not_refused s clear some);
@@ -236,6 +253,10 @@ module _ (tells : Bool) (start : Start) (n : ℕ) (s s1 : Session) (ids : List �
         own = k.went.on.own;
         each = events_own by None (levels_of s.levels.level_ids.items s.levels.unnamed) ids;
         fitting = inr (ids, refl, omega arith);
+        multis = [];
+        own_multi = k.went.on.multis ∙ sym (append-nil (own_multis n lists));
+        each_multi = tt;
+        fitting_multi = refl;
         adds = met _ (subst (λ (q : Refusal). Adds by (MayMeet q) lists more) p.1 adds);
         allowed = ((let y = levels_lack s.levels.level_ids.items s.levels.unnamed in omega arith), is_stopped start.base by (history lists) (history more) _ _ longer turn refl refl p.0);
         standing = sym (not_refused s clear some);
@@ -247,7 +268,7 @@ module _ (tells : Bool) (start : Start) (n : ℕ) (s s1 : Session) (ids : List �
 -- want of memory before anything was done
 pub acted_at_once : (tells : Bool) (start : Start) (n : ℕ) (s : Session) (lists : List (List Entry)) → s.stage ≡ stages.Clear → 1 ≤ length (levels_of s.levels.level_ids.items s.levels.unnamed) → 1 ≤ s.levels.unnamed → Acted tells start (by_at n s.levels.commands) (stance_of s) (stance_of s) s.stage commands.Write (replies.Refused refusals.Memory) lists lists
 acted_at_once tells start n s lists clear some lacked =
-    acted_refused {tells = tells} start lists lists n s.levels.commands (stance_of s) (stance_of s) s.stage commands.Write refusals.Memory refl refl (inl refl) (lacks_some s.levels.level_ids.items s.levels.unnamed lacked) (sym (not_refused s clear some))
+    acted_refused {tells = tells} start lists lists n s.levels.commands (stance_of s) (stance_of s) s.stage commands.Write refusals.Memory refl refl (inl refl) refl (lacks_some s.levels.level_ids.items s.levels.unnamed lacked) (sym (not_refused s clear some))
 
 -- a session that goes on to its next command has no event of it
 pub fresh_next : (n m : ℕ) (lists : List (List Entry)) → AllByRecursion (λ e. (by_of e).command ≤ m) (filter (is_of n) (history lists)) → IsFresh lists n (m + 1)

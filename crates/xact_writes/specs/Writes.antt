@@ -45,6 +45,7 @@ pub record IsAlike (s s' : Session) : Type 0 where
   pub levels : HasReserved s.levels s'.levels
   pub stage : s'.stage ≡ s.stage
   pub unlinked : s'.unlinked ≡ s.unlinked
+  pub making : s'.making ≡ s.making
 
 -- the id of a level was given, after the lists went on without an event of the session's
 pub record IsGivenLater (start : Start) (n : ℕ) (s s' : Session) (id : ℕ) (warn : Bool)

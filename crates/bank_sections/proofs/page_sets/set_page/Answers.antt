@@ -6,6 +6,7 @@ use Rattle.slru_bank.specs.Calls.{faults_of, cutoff_of}
 use Rattle.tx_events.specs.declared.event.By.{By}
 use Rattle.tx_core.specs.declared.entry.Entry.{Entry}
 use Rattle.tx_core.specs.Entries.{IsMarked, appended, event_of}
+use Rattle.tx_core.specs.MultiEntries.{multi_of}
 use Rattle.tx_core.specs.Locks.{xact_lock}
 use Rattle.tx_core.specs.ProgramOrder.{IsInTurn}
 use Rattle.engine_parts.specs.Sessions.{by_at}
@@ -36,7 +37,7 @@ pub leave_quiet-requires-clause-by : goal.leave_quiet-requires-clause-by
 leave_quiet-requires-clause-by g c = ap (λ (e : Entry). e.by) c.set_note-entry.ensures ∙ c.command_of-by.ensures
 
 pub leave_quiet-requires-clause-quiet : goal.leave_quiet-requires-clause-quiet
-leave_quiet-requires-clause-quiet g c = (ap event_of c.set_note-entry.ensures, ap appended c.set_note-entry.ensures)
+leave_quiet-requires-clause-quiet g c = (ap event_of c.set_note-entry.ensures, ap appended c.set_note-entry.ensures, ap multi_of c.set_note-entry.ensures)
 
 pub leave_quiet-requires-clause-may : goal.leave_quiet-requires-clause-may
 leave_quiet-requires-clause-may g c =
@@ -89,7 +90,7 @@ returns-in-Ok-clause-goes g c =
     let e = c.enter_xact-held.ensures in
     let v = view c.args.caller.now.pass in
     goes_quiet start v (view c.enter_xact-held.new.caller.pass) (view c.leave_quiet.new.caller.pass) c.args.caller.now.number (xact_lock c.args.bank) c.args.caller.now.session c.set_note-entry.result.value
-    c.requires.ready.at e.entered.kept e.entered.learns (below_locks start v c.args.caller.now.number (xact_lock c.args.bank) c.args.caller.now.session c.requires.ready.at (is_xact_lock start c.args.bank c.requires.bank.0)) (ap event_of c.set_note-entry.ensures) c.leave_quiet.ensures.left
+    c.requires.ready.at e.entered.kept e.entered.learns (below_locks start v c.args.caller.now.number (xact_lock c.args.bank) c.args.caller.now.session c.requires.ready.at (is_xact_lock start c.args.bank c.requires.bank.0)) (ap event_of c.set_note-entry.ensures) (ap multi_of c.set_note-entry.ensures) c.leave_quiet.ensures.left
 
 pub returns-in-Ok-clause-asks : goal.returns-in-Ok-clause-asks
 returns-in-Ok-clause-asks g c =

@@ -6,6 +6,7 @@ use Rattle.slru_bank.specs.Calls.{cutoff_of, faults_of, pages_of}
 use Rattle.tx_events.specs.declared.event.By.{By}
 use Rattle.tx_core.specs.declared.entry.Entry.{Entry}
 use Rattle.tx_core.specs.Entries.{appended, asks_in, event_of}
+use Rattle.tx_core.specs.MultiEntries.{multi_of}
 use Rattle.tx_core.specs.Locks.{subtrans_lock}
 use Rattle.tx_core.specs.ParentsFollow.{IsGivenBelow}
 use Rattle.tx_events.specs.PageOrder.{Ids, is_cut}
@@ -31,7 +32,7 @@ pub leave_quiet-requires-clause-by : goal.leave_quiet-requires-clause-by
 leave_quiet-requires-clause-by g c = ap (λ (e : Entry). e.by) c.linked_note-entry.ensures ∙ c.command_of-by.ensures
 
 pub leave_quiet-requires-clause-quiet : goal.leave_quiet-requires-clause-quiet
-leave_quiet-requires-clause-quiet g c = (ap event_of c.linked_note-entry.ensures, ap appended c.linked_note-entry.ensures)
+leave_quiet-requires-clause-quiet g c = (ap event_of c.linked_note-entry.ensures, ap appended c.linked_note-entry.ensures, ap multi_of c.linked_note-entry.ensures)
 
 pub leave_quiet-requires-clause-may : goal.leave_quiet-requires-clause-may
 leave_quiet-requires-clause-may g c =
@@ -63,6 +64,7 @@ leave_quiet-requires-clause-stands g c =
           c.requires.ready.at.base c.linked_note-entry.ensures below.full (omega arith) (below_made start u.seen c.args.caller.now.number c.args.bank c.args.parent c.args.id e.entered.kept given c.requires.here)
           r.bank.last r.bank.calls.cutoff r.bank.calls.count
           (λ told. subst (λ (z : ℕ × ℕ). SetsEntry (z.0 / 2048) (z.0 % 2048) z.1 (pages_of c.deref_mut-store.result.now) (pages_of c.set_parent.new.bank)) (λ j. (c.low.ensures j, c.low-2.ensures j)) (r.ok told))
+          r.bank.calls.crash
           (subst (λ l. IsSubtransOf (start_of c.args.hall.now) c.args.bank l (at (view c.enter_subtrans-held.new.caller.pass).seen (subtrans_lock c.args.bank))) (sym c.deref_mut-store.ensures.value) c.enter_subtrans-held.ensures.stands),
     )
 
@@ -78,13 +80,13 @@ leave_refused-requires-clause-stands g c =
       c.args.bank,
       refl,
       subtrans_same (start_of c.args.hall.now) c.args.bank c.deref_mut-store.result.now c.set_parent.new.bank (at (view c.enter_subtrans-held.new.caller.pass).seen (subtrans_lock c.args.bank))
-          (record { last = r.bank.last; cutoff = r.bank.calls.cutoff; count = r.bank.calls.count; pages = r.err }) (subst (λ l. IsSubtransOf (start_of c.args.hall.now) c.args.bank l (at (view c.enter_subtrans-held.new.caller.pass).seen (subtrans_lock c.args.bank))) (sym c.deref_mut-store.ensures.value) c.enter_subtrans-held.ensures.stands),
+          (record { last = r.bank.last; cutoff = r.bank.calls.cutoff; count = r.bank.calls.count; pages = r.err }) r.bank.calls.crash (subst (λ l. IsSubtransOf (start_of c.args.hall.now) c.args.bank l (at (view c.enter_subtrans-held.new.caller.pass).seen (subtrans_lock c.args.bank))) (sym c.deref_mut-store.ensures.value) c.enter_subtrans-held.ensures.stands),
     )
 
 pub returns-in-Ok-clause-went : goal.returns-in-Ok-clause-went
 returns-in-Ok-clause-went g c =
     visited (start_of c.args.hall.now) (view c.args.caller.now.pass) (view c.enter_subtrans-held.new.caller.pass) (view c.leave_quiet.new.caller.pass) c.args.caller.now.number (subtrans_lock c.args.bank) c.args.caller.now.session c.linked_note-entry.result.value
-    c.requires.ready.at (is_subtrans_lock (start_of c.args.hall.now) c.args.bank c.requires.bank.0) c.enter_subtrans-held.ensures.entered (ap event_of c.linked_note-entry.ensures) (ap asks_in c.linked_note-entry.ensures) c.leave_quiet.ensures.left
+    c.requires.ready.at (is_subtrans_lock (start_of c.args.hall.now) c.args.bank c.requires.bank.0) c.enter_subtrans-held.ensures.entered (ap event_of c.linked_note-entry.ensures) (ap multi_of c.linked_note-entry.ensures) (ap asks_in c.linked_note-entry.ensures) c.leave_quiet.ensures.left
 
 pub returns-in-Ok-clause-linked : goal.returns-in-Ok-clause-linked
 returns-in-Ok-clause-linked g c =

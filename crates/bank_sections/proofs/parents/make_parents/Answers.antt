@@ -5,6 +5,7 @@ use Rattle.slru_bank.specs.Calls.{faults_of, cutoff_of}
 use Rattle.tx_events.specs.declared.event.By.{By}
 use Rattle.tx_core.specs.declared.entry.Entry.{Entry}
 use Rattle.tx_core.specs.Entries.{appended, asks_in, event_of}
+use Rattle.tx_core.specs.MultiEntries.{multi_of}
 use Rattle.tx_core.specs.Locks.{subtrans_lock, subtrans_page}
 use Rattle.tx_core.proofs.Lasting.{wanted_grows}
 use Rattle.engine_parts.specs.Sessions.{by_at}
@@ -31,7 +32,7 @@ pub leave_quiet-requires-clause-by : goal.leave_quiet-requires-clause-by
 leave_quiet-requires-clause-by g c = ap (λ (e : Entry). e.by) c.zeroed_note-entry.ensures ∙ c.command_of-by.ensures
 
 pub leave_quiet-requires-clause-quiet : goal.leave_quiet-requires-clause-quiet
-leave_quiet-requires-clause-quiet g c = (ap event_of c.zeroed_note-entry.ensures, ap appended c.zeroed_note-entry.ensures)
+leave_quiet-requires-clause-quiet g c = (ap event_of c.zeroed_note-entry.ensures, ap appended c.zeroed_note-entry.ensures, ap multi_of c.zeroed_note-entry.ensures)
 
 pub leave_quiet-requires-clause-may : goal.leave_quiet-requires-clause-may
 leave_quiet-requires-clause-may g c =
@@ -49,7 +50,7 @@ leave_quiet-requires-clause-stands g c =
       refl,
       subtrans_stands_made (start_of c.args.hall.now) c.args.bank c.deref_mut-store.result.now c.zero.new.self (at (view c.enter_subtrans-held.new.caller.pass).seen (subtrans_lock c.args.bank)) c.command_of-by.result c.args.id c.subtrans_page_in_full.result c.subtrans_page.result c.zeroed_note-entry.result.value
           c.requires.ready.at.base c.requires.wanted.0 c.zeroed_note-entry.ensures c.subtrans_page_in_full.ensures.page (c.subtrans_page.ensures.page ∙ ap (λ z. z / 2048) c.low.ensures)
-          (record { last = r.last; cutoff = r.calls.cutoff; count = r.calls.count; pages = r.ok }) (subst (λ l. IsSubtransOf (start_of c.args.hall.now) c.args.bank l (at (view c.enter_subtrans-held.new.caller.pass).seen (subtrans_lock c.args.bank))) (sym c.deref_mut-store.ensures.value) c.enter_subtrans-held.ensures.stands),
+          (record { last = r.last; cutoff = r.calls.cutoff; count = r.calls.count; pages = r.ok }) r.calls.crash (subst (λ l. IsSubtransOf (start_of c.args.hall.now) c.args.bank l (at (view c.enter_subtrans-held.new.caller.pass).seen (subtrans_lock c.args.bank))) (sym c.deref_mut-store.ensures.value) c.enter_subtrans-held.ensures.stands),
     )
 
 pub leave_refused-requires-clause-lock : goal.leave_refused-requires-clause-lock
@@ -64,13 +65,13 @@ leave_refused-requires-clause-stands g c =
       c.args.bank,
       refl,
       subtrans_same (start_of c.args.hall.now) c.args.bank c.deref_mut-store.result.now c.zero.new.self (at (view c.enter_subtrans-held.new.caller.pass).seen (subtrans_lock c.args.bank))
-          (record { last = r.last; cutoff = r.calls.cutoff; count = r.calls.count; pages = r.err }) (subst (λ l. IsSubtransOf (start_of c.args.hall.now) c.args.bank l (at (view c.enter_subtrans-held.new.caller.pass).seen (subtrans_lock c.args.bank))) (sym c.deref_mut-store.ensures.value) c.enter_subtrans-held.ensures.stands),
+          (record { last = r.last; cutoff = r.calls.cutoff; count = r.calls.count; pages = r.err }) r.calls.crash (subst (λ l. IsSubtransOf (start_of c.args.hall.now) c.args.bank l (at (view c.enter_subtrans-held.new.caller.pass).seen (subtrans_lock c.args.bank))) (sym c.deref_mut-store.ensures.value) c.enter_subtrans-held.ensures.stands),
     )
 
 pub returns-in-Ok-clause-went : goal.returns-in-Ok-clause-went
 returns-in-Ok-clause-went g c =
     visited (start_of c.args.hall.now) (view c.args.caller.now.pass) (view c.enter_subtrans-held.new.caller.pass) (view c.leave_quiet.new.caller.pass) c.args.caller.now.number (subtrans_lock c.args.bank) c.args.caller.now.session c.zeroed_note-entry.result.value
-    c.requires.ready.at (is_subtrans_lock (start_of c.args.hall.now) c.args.bank c.requires.bank.0) c.enter_subtrans-held.ensures.entered (ap event_of c.zeroed_note-entry.ensures) (ap asks_in c.zeroed_note-entry.ensures) c.leave_quiet.ensures.left
+    c.requires.ready.at (is_subtrans_lock (start_of c.args.hall.now) c.args.bank c.requires.bank.0) c.enter_subtrans-held.ensures.entered (ap event_of c.zeroed_note-entry.ensures) (ap multi_of c.zeroed_note-entry.ensures) (ap asks_in c.zeroed_note-entry.ensures) c.leave_quiet.ensures.left
 
 pub returns-in-Ok-clause-made : goal.returns-in-Ok-clause-made
 returns-in-Ok-clause-made g c =

@@ -28,7 +28,7 @@ leave_looked-requires-clause-stands g c =
       c.args.bank,
       refl,
       subtrans_looked start c.args.bank c.parent.new.bank (by_at c.enter_subtrans-held.new.caller.number c.enter_subtrans-held.new.caller.session.levels.commands) es
-          (subtrans_same start c.args.bank c.deref_mut-store.result.now c.parent.new.bank es (record { last = r.bank.last; cutoff = r.bank.calls.cutoff; count = r.bank.calls.count; pages = r.same }) (subst (λ l. IsSubtransOf (start_of c.args.hall.now) c.args.bank l (at (view c.enter_subtrans-held.new.caller.pass).seen (subtrans_lock c.args.bank))) (sym c.deref_mut-store.ensures.value) c.enter_subtrans-held.ensures.stands)),
+          (subtrans_same start c.args.bank c.deref_mut-store.result.now c.parent.new.bank es (record { last = r.bank.last; cutoff = r.bank.calls.cutoff; count = r.bank.calls.count; pages = r.same }) r.bank.calls.crash (subst (λ l. IsSubtransOf (start_of c.args.hall.now) c.args.bank l (at (view c.enter_subtrans-held.new.caller.pass).seen (subtrans_lock c.args.bank))) (sym c.deref_mut-store.ensures.value) c.enter_subtrans-held.ensures.stands)),
     )
 
 pub leave_refused-requires-clause-lock : goal.leave_refused-requires-clause-lock
@@ -43,13 +43,13 @@ leave_refused-requires-clause-stands g c =
       c.args.bank,
       refl,
       subtrans_same (start_of c.args.hall.now) c.args.bank c.deref_mut-store.result.now c.parent.new.bank (at (view c.enter_subtrans-held.new.caller.pass).seen (subtrans_lock c.args.bank))
-          (record { last = r.bank.last; cutoff = r.bank.calls.cutoff; count = r.bank.calls.count; pages = r.same }) (subst (λ l. IsSubtransOf (start_of c.args.hall.now) c.args.bank l (at (view c.enter_subtrans-held.new.caller.pass).seen (subtrans_lock c.args.bank))) (sym c.deref_mut-store.ensures.value) c.enter_subtrans-held.ensures.stands),
+          (record { last = r.bank.last; cutoff = r.bank.calls.cutoff; count = r.bank.calls.count; pages = r.same }) r.bank.calls.crash (subst (λ l. IsSubtransOf (start_of c.args.hall.now) c.args.bank l (at (view c.enter_subtrans-held.new.caller.pass).seen (subtrans_lock c.args.bank))) (sym c.deref_mut-store.ensures.value) c.enter_subtrans-held.ensures.stands),
     )
 
 pub returns-in-Ok-clause-went : goal.returns-in-Ok-clause-went
 returns-in-Ok-clause-went g c =
     visited (start_of c.args.hall.now) (view c.args.caller.now.pass) (view c.enter_subtrans-held.new.caller.pass) (view c.leave_looked.new.caller.pass) c.args.caller.now.number (subtrans_lock c.args.bank) c.args.caller.now.session _
-    c.requires.ready.at (is_subtrans_lock (start_of c.args.hall.now) c.args.bank c.requires.bank.0) c.enter_subtrans-held.ensures.entered refl refl c.leave_looked.ensures.left
+    c.requires.ready.at (is_subtrans_lock (start_of c.args.hall.now) c.args.bank c.requires.bank.0) c.enter_subtrans-held.ensures.entered refl refl refl c.leave_looked.ensures.left
 
 pub returns-in-Ok-clause-parent : goal.returns-in-Ok-clause-parent
 returns-in-Ok-clause-parent g c told =
@@ -58,7 +58,7 @@ returns-in-Ok-clause-parent g c told =
     let es = at (view c.enter_subtrans-held.new.caller.pass).seen (subtrans_lock c.args.bank) in
     let pages = is_subtrans_lock start c.args.bank c.requires.bank.0 in
     let looked = subtrans_looked start c.args.bank c.parent.new.bank (by_at c.enter_subtrans-held.new.caller.number c.enter_subtrans-held.new.caller.session.levels.commands) es
-    (subtrans_same start c.args.bank c.deref_mut-store.result.now c.parent.new.bank es (record { last = r.bank.last; cutoff = r.bank.calls.cutoff; count = r.bank.calls.count; pages = r.same }) (subst (λ l. IsSubtransOf (start_of c.args.hall.now) c.args.bank l (at (view c.enter_subtrans-held.new.caller.pass).seen (subtrans_lock c.args.bank))) (sym c.deref_mut-store.ensures.value) c.enter_subtrans-held.ensures.stands)) in
+    (subtrans_same start c.args.bank c.deref_mut-store.result.now c.parent.new.bank es (record { last = r.bank.last; cutoff = r.bank.calls.cutoff; count = r.bank.calls.count; pages = r.same }) r.bank.calls.crash (subst (λ l. IsSubtransOf (start_of c.args.hall.now) c.args.bank l (at (view c.enter_subtrans-held.new.caller.pass).seen (subtrans_lock c.args.bank))) (sym c.deref_mut-store.ensures.value) c.enter_subtrans-held.ensures.stands)) in
     let left = list_left start (view c.args.caller.now.pass) (view c.enter_subtrans-held.new.caller.pass) (view c.leave_looked.new.caller.pass) c.args.caller.now.number (subtrans_lock c.args.bank) c.args.caller.now.session (look_by c.enter_subtrans-held.new.caller.number c.enter_subtrans-held.new.caller.session) c.requires.ready.at pages c.enter_subtrans-held.ensures.entered c.leave_looked.ensures.left in
     parent_seen start (view c.leave_looked.new.caller.pass).seen c.args.bank c.parent.new.bank c.args.x c.in-Ok.found c.parent_near.result c.requires.ready.at.base c.leave_looked.ensures.ready.at.kept
     (subst (λ (t : List Entry). IsSubtransOf start c.args.bank c.parent.new.bank t) (sym left) looked) c.requires.here

@@ -4,6 +4,7 @@ use Rattle.notes.specs.Lists.{at}
 use Rattle.slru_bank.specs.declared.refusal.BankRefusal.TheVariants as refused
 use Rattle.tx_core.specs.declared.entry.Entry.{Entry}
 use Rattle.tx_core.specs.Entries.{appended, event_of}
+use Rattle.tx_core.specs.MultiEntries.{multi_of}
 use Rattle.engine_parts.specs.Parts.{PartStands}
 use Rattle.engine_parts.specs.Sessions.{by_at}
 use Rattle.engine_parts.proofs.May.{may_fault}
@@ -15,7 +16,7 @@ pub leave_quiet-requires-clause-by : goal.leave_quiet-requires-clause-by
 leave_quiet-requires-clause-by g c = ap (λ (e : Entry). e.by) c.requires.fault
 
 pub leave_quiet-requires-clause-quiet : goal.leave_quiet-requires-clause-quiet
-leave_quiet-requires-clause-quiet g c = (ap event_of c.requires.fault, ap appended c.requires.fault)
+leave_quiet-requires-clause-quiet g c = (ap event_of c.requires.fault, ap appended c.requires.fault, ap multi_of c.requires.fault)
 
 pub leave_quiet-requires-clause-may : goal.leave_quiet-requires-clause-may
 leave_quiet-requires-clause-may g c =

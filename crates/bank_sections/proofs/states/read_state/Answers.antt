@@ -49,7 +49,7 @@ leave_refused-requires-clause-stands g c =
 pub returns-in-Ok-clause-went : goal.returns-in-Ok-clause-went
 returns-in-Ok-clause-went g c =
     visited (start_of c.args.hall.now) (view c.args.caller.now.pass) (view c.enter_xact-held.new.caller.pass) (view c.leave_looked.new.caller.pass) c.args.caller.now.number (xact_lock c.args.bank) c.args.caller.now.session _
-    c.requires.ready.at (is_xact_lock (start_of c.args.hall.now) c.args.bank c.requires.bank.0) c.enter_xact-held.ensures.entered refl refl c.leave_looked.ensures.left
+    c.requires.ready.at (is_xact_lock (start_of c.args.hall.now) c.args.bank c.requires.bank.0) c.enter_xact-held.ensures.entered refl refl refl c.leave_looked.ensures.left
 
 pub returns-in-Ok-clause-state : goal.returns-in-Ok-clause-state
 returns-in-Ok-clause-state g c told =

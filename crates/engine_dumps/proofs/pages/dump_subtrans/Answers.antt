@@ -42,7 +42,7 @@ put_back-requires-clause-stands g c =
     let bank = c.bank_of-bank.result in
     let i = c.take_subtrans-held.ensures.inside in
     subst (λ (z : ℕ × List (List Entry)). (b : ℕ) × (z.0 ≡ subtrans_lock b) × IsSubtransOf start b now (at z.1 z.0)) (λ j. (sym i.cell j, sym i.seen j))
-    (bank, refl, subtrans_same start bank store now (at seen (subtrans_lock bank)) (read_same c.args.page store now c.read-found.result r.bank r.same) (subst (λ l. IsSubtransOf (start_of c.args.hall.now) c.bank_of-bank.result l (at (view c.args.host.now.pass).seen (subtrans_lock c.bank_of-bank.result))) (sym c.deref_mut-store.ensures.value) c.take_subtrans-held.ensures.stands))
+    (bank, refl, subtrans_same start bank store now (at seen (subtrans_lock bank)) (read_same c.args.page store now c.read-found.result r.bank r.same) r.bank.calls.crash (subst (λ l. IsSubtransOf (start_of c.args.hall.now) c.bank_of-bank.result l (at (view c.args.host.now.pass).seen (subtrans_lock c.bank_of-bank.result))) (sym c.deref_mut-store.ensures.value) c.take_subtrans-held.ensures.stands))
 
 pub returns-clause-stays : goal.returns-clause-stays
 returns-clause-stays g c = came_home c.args.hall.now (subtrans_lock c.bank_of-bank.result) c.args.host.now _ c.take_subtrans-held.new.pass c.requires.home c.take_subtrans-held.ensures.inside c.put_back.ensures.own.0 c.put_back.ensures.view refl refl
@@ -101,7 +101,7 @@ returns-clause-fault g c is =
       before = parts.Subtrans held;
       now = parts.Subtrans (with_value held now);
       stood = (bank, refl, c.take_subtrans-held.ensures.stands);
-      stands = (bank, refl, subtrans_same start bank store now (at seen (subtrans_lock bank)) (read_same c.args.page store now c.read-found.result r.bank r.same) stood);
+      stands = (bank, refl, subtrans_same start bank store now (at seen (subtrans_lock bank)) (read_same c.args.page store now c.read-found.result r.bank r.same) r.bank.calls.crash stood);
       risen = subst (λ l. HasRisen (faults_of l) (faults_of now)) c.deref_mut-store.ensures.value (r.bank.calls.fault is);
     } in
     subst (λ (z : ℕ). HasFailed g.L.LogDisk g.P.PageDisk start seen (subtrans_lock z)) here failed

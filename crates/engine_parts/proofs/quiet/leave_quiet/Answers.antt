@@ -24,7 +24,7 @@ returns-clause-ready g c =
     let laid = c.requires.laid in
     let below = c.requires.lock in
     let l = subst (λ (z : ℕ). Leaves (start_of c.args.hall.now) z c.args.entry.value (view c.args.caller.now.pass) (view c.leave.new.pass)) c.requires.cell c.leave.ensures.left in
-    ready_quiet (start_of c.args.hall.now) (view c.args.caller.now.pass) (view c.leave.new.pass) c.args.caller.now.number c.args.caller.now.number c.args._lock c.args.caller.now.session c.args.caller.now.session c.args.entry.value c.requires.at (omega arith) c.requires.by c.requires.quiet.0 c.requires.quiet.1 refl refl l
+    ready_quiet (start_of c.args.hall.now) (view c.args.caller.now.pass) (view c.leave.new.pass) c.args.caller.now.number c.args.caller.now.number c.args._lock c.args.caller.now.session c.args.caller.now.session c.args.entry.value c.requires.at (omega arith) c.requires.by c.requires.quiet.0 c.requires.quiet.1 c.requires.quiet.2 refl refl l
 
 pub returns-clause-left : goal.returns-clause-left
 returns-clause-left g c = subst (λ (z : ℕ). Leaves (start_of c.args.hall.now) z c.args.entry.value (view c.args.caller.now.pass) (view c.leave.new.pass)) c.requires.cell c.leave.ensures.left

@@ -59,7 +59,7 @@ leave-requires-clause-stands g c =
       bank,
       refl,
       subst (λ (e : Entry). IsSubtransOf start bank n (at seen (subtrans_lock bank) ++ e ∷ [])) (sym c.sync_note-sync.ensures)
-          (subtrans_synced start bank o n (at seen (subtrans_lock bank)) c.args.by f.bank.last f.cutoff f.bank.count f.same f.crash here),
+          (subtrans_synced start bank o n (at seen (subtrans_lock bank)) c.args.by f.bank.last f.cutoff f.bank.count f.same f.crash f.durable here),
     )
 
 pub returns-in-Ok-clause-alone : goal.returns-in-Ok-clause-alone

@@ -47,7 +47,7 @@ pub returns-then-not-may_append-clause-went : goal.returns-then-not-may_append-c
 returns-then-not-may_append-clause-went g c =
     let e = c.enter_log-held.ensures in
     let wide = c.requires.may.ready.at.wide in
-    went_quiet (start_of c.args.hall.now) (view c.args.caller.now.pass) (view c.enter_log-held.new.caller.pass) (view c.leave_looked.new.caller.pass) c.args.caller.now.number log_lock c.args.caller.now.session _ c.requires.may.ready.at e.entered.kept e.entered.learns (omega arith) refl refl c.leave_looked.ensures.left
+    went_quiet (start_of c.args.hall.now) (view c.args.caller.now.pass) (view c.enter_log-held.new.caller.pass) (view c.leave_looked.new.caller.pass) c.args.caller.now.number log_lock c.args.caller.now.session _ c.requires.may.ready.at e.entered.kept e.entered.learns (omega arith) refl refl refl c.leave_looked.ensures.left
 
 -- the record is appended
 pub returns-in-Ok-clause-may : goal.returns-in-Ok-clause-may
@@ -60,7 +60,7 @@ pub returns-in-Ok-clause-went : goal.returns-in-Ok-clause-went
 returns-in-Ok-clause-went g c =
     let e = c.enter_log-held.ensures in
     let wide = c.requires.may.ready.at.wide in
-    went_quiet (start_of c.args.hall.now) (view c.args.caller.now.pass) (view c.enter_log-held.new.caller.pass) (view c.leave_with_abort.new.caller.pass) c.args.caller.now.number log_lock c.args.caller.now.session _ c.requires.may.ready.at e.entered.kept e.entered.learns (omega arith) refl refl c.leave_with_abort.ensures.left
+    went_quiet (start_of c.args.hall.now) (view c.args.caller.now.pass) (view c.enter_log-held.new.caller.pass) (view c.leave_with_abort.new.caller.pass) c.args.caller.now.number log_lock c.args.caller.now.session _ c.requires.may.ready.at e.entered.kept e.entered.learns (omega arith) refl refl refl c.leave_with_abort.ensures.left
 
 pub leave_with_abort-requires-clause-base : goal.leave_with_abort-requires-clause-base
 leave_with_abort-requires-clause-base g c =
@@ -114,7 +114,7 @@ pub returns-in-Err-clause-went : goal.returns-in-Err-clause-went
 returns-in-Err-clause-went g c =
     let e = c.enter_log-held.ensures in
     let wide = c.requires.may.ready.at.wide in
-    went_quiet (start_of c.args.hall.now) (view c.args.caller.now.pass) (view c.enter_log-held.new.caller.pass) (view c.leave_looked-in-Err.new.caller.pass) c.args.caller.now.number log_lock c.args.caller.now.session _ c.requires.may.ready.at e.entered.kept e.entered.learns (omega arith) refl refl c.leave_looked-in-Err.ensures.left
+    went_quiet (start_of c.args.hall.now) (view c.args.caller.now.pass) (view c.enter_log-held.new.caller.pass) (view c.leave_looked-in-Err.new.caller.pass) c.args.caller.now.number log_lock c.args.caller.now.session _ c.requires.may.ready.at e.entered.kept e.entered.learns (omega arith) refl refl refl c.leave_looked-in-Err.ensures.left
 
 -- what came of the record
 pub returns-in-Ok-clause-takes : goal.returns-in-Ok-clause-takes

@@ -26,7 +26,7 @@ returns-clause-ready g c =
     let wide = c.requires.at.wide in
     let same = c.leave_log.ensures.same in
     ready_recorded (start_of c.args.hall.now) (view c.args.caller.now.pass) (view c.leave_log.new.caller.pass) c.args.caller.now.number c.leave_log.new.caller.number c.args.number c.args.caller.now.session _ c.args.rec.now c.by-entry.result.value c.requires.at (omega arith)
-    (c.by-entry.ensures ∙ ap (λ (b : By). append_entry b c.args.rec.now) c.command_of-by.ensures) (λ top subs q. let z = sym c.requires.record.is ∙ q in cc) c.requires.clear (ap (λ (z : Session). record z { stage = stages.Logged c.args.number }) same.0) same.1 c.leave_log.ensures.left
+    (c.by-entry.ensures ∙ ap (λ (b : By). append_entry b c.args.rec.now) c.command_of-by.ensures) (λ top subs q. let z = sym c.requires.record.is ∙ q in cc) (λ multi offset members q. let z = sym c.requires.record.is ∙ q in cc) c.requires.clear (ap (λ (z : Session). record z { stage = stages.Logged c.args.number }) same.0) same.1 c.leave_log.ensures.left
 
 pub leave_log-requires-clause-session : goal.leave_log-requires-clause-session
 leave_log-requires-clause-session g c = ap (λ (e : Entry). e.by.session) (c.by-entry.ensures ∙ ap (λ (b : By). append_entry b c.args.rec.now) c.command_of-by.ensures) ∙ sym c.requires.at.name

@@ -3,6 +3,7 @@ use Rattle.hall.specs.Calls.{view, start_of}
 use Rattle.notes.specs.Lists.{at}
 use Rattle.tx_core.specs.declared.entry.Entry.{Entry}
 use Rattle.tx_core.specs.Entries.{appended, event_of}
+use Rattle.tx_core.specs.MultiEntries.{multi_of}
 use Rattle.tx_core.specs.Locks.{log_lock}
 use Rattle.wal_core.specs.LogViews.{log_disk}
 use Rattle.engine_parts.specs.Holds.{Leaves}
@@ -17,7 +18,7 @@ pub leave_quiet-requires-clause-by : goal.leave_quiet-requires-clause-by
 leave_quiet-requires-clause-by g c = ap (λ (e : Entry). e.by) (c.flush_fault_note-entry.ensures ∙ (ap (λ l. flush_fault_by c.command_of-by.result (g.L.LogDisk.faults (log_disk l))) c.deref.ensures) ∙ ap (λ (b : By). flush_fault_by b (g.L.LogDisk.faults (log_disk c.args.log.value))) c.command_of-by.ensures)
 
 pub leave_quiet-requires-clause-quiet : goal.leave_quiet-requires-clause-quiet
-leave_quiet-requires-clause-quiet g c = (ap event_of (c.flush_fault_note-entry.ensures ∙ (ap (λ l. flush_fault_by c.command_of-by.result (g.L.LogDisk.faults (log_disk l))) c.deref.ensures) ∙ ap (λ (b : By). flush_fault_by b (g.L.LogDisk.faults (log_disk c.args.log.value))) c.command_of-by.ensures), ap appended (c.flush_fault_note-entry.ensures ∙ (ap (λ l. flush_fault_by c.command_of-by.result (g.L.LogDisk.faults (log_disk l))) c.deref.ensures) ∙ ap (λ (b : By). flush_fault_by b (g.L.LogDisk.faults (log_disk c.args.log.value))) c.command_of-by.ensures))
+leave_quiet-requires-clause-quiet g c = (ap event_of (c.flush_fault_note-entry.ensures ∙ (ap (λ l. flush_fault_by c.command_of-by.result (g.L.LogDisk.faults (log_disk l))) c.deref.ensures) ∙ ap (λ (b : By). flush_fault_by b (g.L.LogDisk.faults (log_disk c.args.log.value))) c.command_of-by.ensures), ap appended (c.flush_fault_note-entry.ensures ∙ (ap (λ l. flush_fault_by c.command_of-by.result (g.L.LogDisk.faults (log_disk l))) c.deref.ensures) ∙ ap (λ (b : By). flush_fault_by b (g.L.LogDisk.faults (log_disk c.args.log.value))) c.command_of-by.ensures), ap multi_of (c.flush_fault_note-entry.ensures ∙ (ap (λ l. flush_fault_by c.command_of-by.result (g.L.LogDisk.faults (log_disk l))) c.deref.ensures) ∙ ap (λ (b : By). flush_fault_by b (g.L.LogDisk.faults (log_disk c.args.log.value))) c.command_of-by.ensures))
 
 pub leave_quiet-requires-clause-may : goal.leave_quiet-requires-clause-may
 leave_quiet-requires-clause-may g c =

@@ -3,6 +3,7 @@ use Rattle.hall.specs.Calls.{view, start_of}
 use Rattle.notes.specs.Lists.{at}
 use Rattle.tx_core.specs.declared.entry.Entry.{Entry}
 use Rattle.tx_core.specs.Entries.{appended, event_of}
+use Rattle.tx_core.specs.MultiEntries.{multi_of}
 use Rattle.tx_core.specs.Locks.{log_lock}
 use Rattle.engine_parts.specs.Holds.{Leaves}
 use Rattle.engine_parts.specs.Parts.{IsLogOf}
@@ -16,7 +17,7 @@ pub leave_quiet-requires-clause-by : goal.leave_quiet-requires-clause-by
 leave_quiet-requires-clause-by g c = ap (λ (e : Entry). e.by) (c.flush_note-entry.ensures ∙ ap (λ (b : By). flush_entry b c.args.to) c.command_of-by.ensures)
 
 pub leave_quiet-requires-clause-quiet : goal.leave_quiet-requires-clause-quiet
-leave_quiet-requires-clause-quiet g c = (ap event_of (c.flush_note-entry.ensures ∙ ap (λ (b : By). flush_entry b c.args.to) c.command_of-by.ensures), ap appended (c.flush_note-entry.ensures ∙ ap (λ (b : By). flush_entry b c.args.to) c.command_of-by.ensures))
+leave_quiet-requires-clause-quiet g c = (ap event_of (c.flush_note-entry.ensures ∙ ap (λ (b : By). flush_entry b c.args.to) c.command_of-by.ensures), ap appended (c.flush_note-entry.ensures ∙ ap (λ (b : By). flush_entry b c.args.to) c.command_of-by.ensures), ap multi_of (c.flush_note-entry.ensures ∙ ap (λ (b : By). flush_entry b c.args.to) c.command_of-by.ensures))
 
 pub leave_quiet-requires-clause-may : goal.leave_quiet-requires-clause-may
 leave_quiet-requires-clause-may g c =

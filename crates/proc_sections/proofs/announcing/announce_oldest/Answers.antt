@@ -82,6 +82,6 @@ returns-in-Err-clause-announces g c =
     let w = view c.leave_looked.new.caller.pass in
     let wide = c.requires.ready.at.wide in
     let long = e.entered.learns.long in (
-      went_quiet start (view c.args.caller.now.pass) u w c.args.caller.now.number proc_lock c.args.caller.now.session _ c.requires.ready.at e.entered.kept e.entered.learns (omega arith) refl refl c.leave_looked.ensures.left,
+      went_quiet start (view c.args.caller.now.pass) u w c.args.caller.now.number proc_lock c.args.caller.now.session _ c.requires.ready.at e.entered.kept e.entered.learns (omega arith) refl refl refl c.leave_looked.ensures.left,
       not_announced start u w c.deref_mut-table.result.now c.args.oldest c.in-Err.refusal (subst (λ l. ProcStands (start_of c.args.hall.now) l (at (view c.enter_proc-held.new.caller.pass).seen proc_lock)) (sym c.deref_mut-table.ensures.value) c.enter_proc-held.ensures.stands) (history_same start u w proc_lock _ refl (omega arith) c.leave_looked.ensures.left) c.in-Err.ensures.1,
     )

@@ -85,4 +85,4 @@ pub returns-in-Err-clause-asks : goal.returns-in-Err-clause-asks
 returns-in-Err-clause-asks g c =
     let e = c.enter_proc-held.ensures in
     let wide = c.requires.ready.at.wide in
-    went_quiet (start_of c.args.hall.now) (view c.args.caller.now.pass) (view c.enter_proc-held.new.caller.pass) (view c.leave_looked.new.caller.pass) c.args.caller.now.number proc_lock c.args.caller.now.session _ c.requires.ready.at e.entered.kept e.entered.learns (omega arith) refl refl c.leave_looked.ensures.left
+    went_quiet (start_of c.args.hall.now) (view c.args.caller.now.pass) (view c.enter_proc-held.new.caller.pass) (view c.leave_looked.new.caller.pass) c.args.caller.now.number proc_lock c.args.caller.now.session _ c.requires.ready.at e.entered.kept e.entered.learns (omega arith) refl refl refl c.leave_looked.ensures.left

@@ -59,7 +59,7 @@ returns-clause-may g c =
     call_ended start (view c.leave_proc.new.caller.pass) c.leave_proc.new.caller.number _
     (ready_ended start (view c.enter_proc-held.new.caller.pass) (view c.leave_proc.new.caller.pass) c.enter_proc-held.new.caller.number c.leave_proc.new.caller.number t _ c.args.how top (drop 1 s.levels.open_ids.items) c.by-entry.result.value e.at
     (c.by-entry.ensures ∙ (λ j. end_entry c.args.how (by_at (sym e.same.1 j) (sym e.same.0 j).levels.commands) top)) (ap (λ (z : Session). z.levels.open_ids.items) e.same.0 ∙ split)
-    (ap (λ (z : Session). z.levels.commands) l.0) c.clear.ensures.items refl c.clear-2.ensures.items (ap (λ (z : Session). z.levels.registered) l.0) refl l.1 c.leave_proc.ensures.left)
+    (ap (λ (z : Session). z.levels.commands) l.0) c.clear.ensures.items refl c.clear-2.ensures.items (ap (λ (z : Session). z.levels.registered) l.0) refl (ap (λ (z : Session). z.making) l.0) l.1 c.leave_proc.ensures.left)
     c.clear-2.ensures.items refl
 
 pub returns-clause-ended : goal.returns-clause-ended
@@ -82,6 +82,7 @@ returns-clause-ended g c =
       count = ap (λ (z : Session). z.levels.commands) same;
       stage = refl;
       unlinked = refl;
+      making = ap (λ (z : Session). z.making) same;
     }
 
 pub returns-clause-section : goal.returns-clause-section

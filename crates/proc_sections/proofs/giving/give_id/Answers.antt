@@ -89,7 +89,7 @@ returns-in-Err-clause-gives g c =
     let long = e.entered.learns.long in
     let still = history_same start u w proc_lock _ refl (omega arith) l in
     let st = (subst (λ l. ProcStands (start_of c.args.hall.now) l (at (view c.enter_proc-held.new.caller.pass).seen proc_lock)) (sym c.deref_mut-table.ensures.value) c.enter_proc-held.ensures.stands) in (
-      went_quiet start (view c.args.caller.now.pass) u w c.args.caller.now.number proc_lock c.args.caller.now.session _ c.requires.may.ready.at e.entered.kept e.entered.learns (omega arith) refl refl l,
+      went_quiet start (view c.args.caller.now.pass) u w c.args.caller.now.number proc_lock c.args.caller.now.session _ c.requires.may.ready.at e.entered.kept e.entered.learns (omega arith) refl refl refl l,
       c.leave_looked.ensures.same.0 ∙ e.same.0,
       ⊎_elim (λ m. inl m.1) (λ m. inr (subst (λ (z : Counters × List Event). IsStopIn z.0 z.1 c.in-Err.refusal) (λ j. (st.base j, (st.events ∙ sym still) j)) m)) c.in-Err.ensures.2,
     )
@@ -181,7 +181,7 @@ returns-clause-gives g c =
     let still = history_same start u w proc_lock _ refl (omega arith) l in
     let p = need_page c.deref_mut-table.result.now c.next_id.new.table (λ id. giving by par id) c.in-Ok.given c.in-Ok.ensures c.in_default.not-Id in
     subst (GivesId start c.args.caller.now.number s c.leave_looked-2.new.caller.session v.seen w.seen) (ap Ok (sym p.1)) (
-      went_quiet start v u w c.args.caller.now.number proc_lock s _ c.requires.may.ready.at e.entered.kept e.entered.learns (omega arith) refl refl l,
+      went_quiet start v u w c.args.caller.now.number proc_lock s _ c.requires.may.ready.at e.entered.kept e.entered.learns (omega arith) refl refl refl l,
       p.2 ∙ (λ j. next_given (st.base j).next ((st.events ∙ sym still) j)),
       λ told. untold start c.deref_mut-table.result.now u w p.0 _ (omega arith) refl l st p.3 told,
       c.leave_looked-2.ensures.same.0 ∙ e.same.0,

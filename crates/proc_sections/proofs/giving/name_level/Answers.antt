@@ -33,6 +33,7 @@ returns-clause-named g c =
       registered = ap (λ (z : Session). z.levels.registered) same;
       count = ap (λ (z : Session). z.levels.commands) same;
       stage = ap (λ (z : Session). z.stage) same;
+      making = ap (λ (z : Session). z.making) same;
       unlinked = c.unlinked_id-caller.ensures ∙ ap (λ (o : Option ℕ). unlinked_of c.args.id o) c.requires.parent;
     }
 

@@ -5,6 +5,7 @@ use Rattle.tx_events.specs.declared.event.By.{By}
 use Rattle.tx_events.specs.History.{next_given}
 use Rattle.tx_core.specs.declared.entry.Entry.{Entry}
 use Rattle.tx_core.specs.Entries.{appended, asks_in, event_of}
+use Rattle.tx_core.specs.MultiEntries.{multi_of}
 use Rattle.tx_core.specs.Locks.{proc_lock}
 use Rattle.tx_core.specs.ProgramOrder.{IsInTurn}
 use Rattle.tx_core.proofs.Lasting.{made_grows}
@@ -28,7 +29,7 @@ pub leave_quiet-requires-clause-by : goal.leave_quiet-requires-clause-by
 leave_quiet-requires-clause-by g c = let e = c.enter_proc-held.ensures in ap (λ (z : Entry). z.by) (c.made_note-entry.ensures ∙ ap (λ (b : By). told_entry b c.args.id) c.command_of-by.ensures) ∙ (λ j. by_at (sym e.same.1 j) (sym e.same.0 j).levels.commands)
 
 pub leave_quiet-requires-clause-quiet : goal.leave_quiet-requires-clause-quiet
-leave_quiet-requires-clause-quiet g c = (ap event_of (c.made_note-entry.ensures ∙ ap (λ (b : By). told_entry b c.args.id) c.command_of-by.ensures), ap appended (c.made_note-entry.ensures ∙ ap (λ (b : By). told_entry b c.args.id) c.command_of-by.ensures))
+leave_quiet-requires-clause-quiet g c = (ap event_of (c.made_note-entry.ensures ∙ ap (λ (b : By). told_entry b c.args.id) c.command_of-by.ensures), ap appended (c.made_note-entry.ensures ∙ ap (λ (b : By). told_entry b c.args.id) c.command_of-by.ensures), ap multi_of (c.made_note-entry.ensures ∙ ap (λ (b : By). told_entry b c.args.id) c.command_of-by.ensures))
 
 pub leave_quiet-requires-clause-may : goal.leave_quiet-requires-clause-may
 leave_quiet-requires-clause-may g c =
@@ -64,7 +65,7 @@ pub returns-clause-went : goal.returns-clause-went
 returns-clause-went g c =
     let e = c.enter_proc-held.ensures in
     let wide = c.requires.may.ready.at.wide in
-    went_quiet (start_of c.args.hall.now) (view c.args.caller.now.pass) (view c.enter_proc-held.new.caller.pass) (view c.leave_quiet.new.caller.pass) c.args.caller.now.number proc_lock c.args.caller.now.session c.made_note-entry.result.value c.requires.may.ready.at e.entered.kept e.entered.learns (omega arith) (ap event_of (c.made_note-entry.ensures ∙ ap (λ (b : By). told_entry b c.args.id) c.command_of-by.ensures)) (ap asks_in (c.made_note-entry.ensures ∙ ap (λ (b : By). told_entry b c.args.id) c.command_of-by.ensures)) c.leave_quiet.ensures.left
+    went_quiet (start_of c.args.hall.now) (view c.args.caller.now.pass) (view c.enter_proc-held.new.caller.pass) (view c.leave_quiet.new.caller.pass) c.args.caller.now.number proc_lock c.args.caller.now.session c.made_note-entry.result.value c.requires.may.ready.at e.entered.kept e.entered.learns (omega arith) (ap event_of (c.made_note-entry.ensures ∙ ap (λ (b : By). told_entry b c.args.id) c.command_of-by.ensures)) (ap multi_of (c.made_note-entry.ensures ∙ ap (λ (b : By). told_entry b c.args.id) c.command_of-by.ensures)) (ap asks_in (c.made_note-entry.ensures ∙ ap (λ (b : By). told_entry b c.args.id) c.command_of-by.ensures)) c.leave_quiet.ensures.left
 
 pub returns-clause-told : goal.returns-clause-told
 returns-clause-told g c =

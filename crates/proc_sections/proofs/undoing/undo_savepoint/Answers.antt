@@ -101,7 +101,7 @@ returns-clause-may g c =
     let long : (vec_len c.leave_proc.new.caller.session.levels.level_ids - 1) + 1 ≡ length c.leave_proc.new.caller.session.levels.level_ids.items =
     let two : 2 ≤ length c.leave_proc.new.caller.session.levels.level_ids.items = subst (λ (z : Session). 2 ≤ length z.levels.level_ids.items) (sym (c.leave_proc.ensures.same.0 ∙ e.same.0)) c.requires.savepoint in
     omega (arith, two) in
-    let gone = undone_is id from (vec_len c.leave_proc.new.caller.session.levels.level_ids - 1) s c.leave_proc.new.caller.session _ (l.0 ∙ e.same.0) long c.requires.savepoint c.requires.innermost cut c.pop-id.ensures.rest refl c.truncate.ensures.items refl refl refl c.still_unlinked-caller.ensures in
+    let gone = undone_is id from (vec_len c.leave_proc.new.caller.session.levels.level_ids - 1) s c.leave_proc.new.caller.session _ (l.0 ∙ e.same.0) long c.requires.savepoint c.requires.innermost cut c.pop-id.ensures.rest refl c.truncate.ensures.items refl refl refl c.still_unlinked-caller.ensures refl in
     let went = went_event start v u w by s (undo_entry by id) (events.Undo by id) c.requires.may.ready.at e.entered.kept e.entered.learns refl refl refl (subst (λ (d : Entry). Leaves start proc_lock d u w) c.undo_note-entry.ensures c.leave_proc.ensures.left) in
     let number = l.1 ∙ e.same.1 in
     call_undone start v w n c.leave_proc.new.caller.number s _ id c.requires.may c.requires.pending c.requires.innermost went.asks gone number
@@ -125,5 +125,5 @@ returns-clause-undone g c =
     omega (arith, two) in
     record {
       went = went_event start v u w by s (undo_entry by id) (events.Undo by id) c.requires.may.ready.at e.entered.kept e.entered.learns refl refl refl (subst (λ (d : Entry). Leaves start proc_lock d u w) c.undo_note-entry.ensures c.leave_proc.ensures.left);
-      session = undone_is id from (vec_len c.leave_proc.new.caller.session.levels.level_ids - 1) s c.leave_proc.new.caller.session _ (c.leave_proc.ensures.same.0 ∙ e.same.0) long c.requires.savepoint c.requires.innermost cut c.pop-id.ensures.rest refl c.truncate.ensures.items refl refl refl c.still_unlinked-caller.ensures;
+      session = undone_is id from (vec_len c.leave_proc.new.caller.session.levels.level_ids - 1) s c.leave_proc.new.caller.session _ (c.leave_proc.ensures.same.0 ∙ e.same.0) long c.requires.savepoint c.requires.innermost cut c.pop-id.ensures.rest refl c.truncate.ensures.items refl refl refl c.still_unlinked-caller.ensures refl;
     }

@@ -20,7 +20,7 @@ returns-then-depth-eq0 g c =
     let old = c.args.caller.now in
     let s = stance_of old.session in
     let empty : length s.levels ≡ 0 = let d = c.depth.ensures in let t = c.if-depth-eq0.true in let same = ap (λ z. length (levels.levels_of z.level_ids.items z.unnamed)) c.count.ensures.levels in omega arith in
-    ran_refused c.args.hall.now old c.count.new.caller commands.Abort refusals.NoTransaction c.count.ensures c.requires refl
+    ran_refused c.args.hall.now old c.count.new.caller commands.Abort refusals.NoTransaction c.count.ensures c.requires refl refl
     (sym (first_holds (length s.levels == 0) refusals.NoTransaction _ (eq-eqb (length s.levels) 0 empty))) (nil_from_length s.levels empty)
 
 pub returns-then-is_recorded : goal.returns-then-is_recorded
@@ -30,7 +30,7 @@ returns-then-is_recorded g c =
     let stage = old.session.stage in
     let recorded : may_be_recorded stage ≡ true = ap may_be_recorded (sym c.count.ensures.stage) ∙ (sym c.is_recorded.ensures ∙ c.if-is_recorded.true) in
     let held = abort_held stage recorded in
-    ran_held c.args.hall.now old c.count.new.caller commands.Abort refusals.CommitPending c.count.ensures c.requires held.0
+    ran_held c.args.hall.now old c.count.new.caller commands.Abort refusals.CommitPending c.count.ensures c.requires refl held.0
     (first_fails (length s.levels == 0) refusals.NoTransaction _ (ne_eqb (length s.levels) 0 (λ e. let d = c.depth.ensures in let t = c.if-depth-eq0.false in let same = ap (λ z. length (levels.levels_of z.level_ids.items z.unnamed)) c.count.ensures.levels in omega arith))
     ∙ held_up (held_by commands.Abort (pending_in stage)) refusals.CommitPending _ held.1)
 

@@ -27,7 +27,7 @@ returns-then-depth-eq0 g c =
     let old = c.args.caller.now in
     let s = stance_of old.session in
     let empty : length s.levels ≡ 0 = let d = c.depth.ensures in let t = c.if-depth-eq0.true in let same = ap (λ z. length (levels.levels_of z.level_ids.items z.unnamed)) c.count.ensures.levels in omega arith in
-    ran_refused c.args.hall.now old c.count.new.caller commands.Commit refusals.NoTransaction c.count.ensures c.requires refl
+    ran_refused c.args.hall.now old c.count.new.caller commands.Commit refusals.NoTransaction c.count.ensures c.requires refl refl
     (sym (first_holds (length s.levels == 0) refusals.NoTransaction _ (eq-eqb (length s.levels) 0 empty))) (nil_from_length s.levels empty)
 
 pub commit_anew-requires-clause-step : goal.commit_anew-requires-clause-step
@@ -77,7 +77,7 @@ returns-in-Aborting g c =
     let s = stance_of old.session in
     let stage = old.session.stage in
     let is : stage ≡ stages.Aborting = sym c.count.ensures.stage ∙ c.in-Aborting.is in
-    ran_held c.args.hall.now old c.count.new.caller commands.Commit refusals.AbortPending c.count.ensures c.requires (ap pending_in is)
+    ran_held c.args.hall.now old c.count.new.caller commands.Commit refusals.AbortPending c.count.ensures c.requires refl (ap pending_in is)
     (first_fails (length s.levels == 0) refusals.NoTransaction _ (ne_eqb (length s.levels) 0 (λ e. let d = c.depth.ensures in let t = c.if-depth-eq0.false in let same = ap (λ z. length (levels.levels_of z.level_ids.items z.unnamed)) c.count.ensures.levels in omega arith))
     ∙ held_up (held_by commands.Commit (pending_in stage)) refusals.AbortPending _ (ap (λ (z : Stage). held_by commands.Commit (pending_in z)) is))
 
@@ -87,6 +87,6 @@ returns-in-Undoing g c =
     let s = stance_of old.session in
     let stage = old.session.stage in
     let is : stage ≡ stages.Undoing = sym c.count.ensures.stage ∙ c.in-Undoing.is in
-    ran_held c.args.hall.now old c.count.new.caller commands.Commit refusals.UndoPending c.count.ensures c.requires (ap pending_in is)
+    ran_held c.args.hall.now old c.count.new.caller commands.Commit refusals.UndoPending c.count.ensures c.requires refl (ap pending_in is)
     (first_fails (length s.levels == 0) refusals.NoTransaction _ (ne_eqb (length s.levels) 0 (λ e. let d = c.depth.ensures in let t = c.if-depth-eq0.false in let same = ap (λ z. length (levels.levels_of z.level_ids.items z.unnamed)) c.count.ensures.levels in omega arith))
     ∙ held_up (held_by commands.Commit (pending_in stage)) refusals.UndoPending _ (ap (λ (z : Stage). held_by commands.Commit (pending_in z)) is))

@@ -18,7 +18,7 @@ returns-then-depth-lt2 g c =
     let old = c.args.caller.now in
     let s = stance_of old.session in
     let few : length s.levels ≤ 1 = let d = c.depth.ensures in let t = c.if-depth-lt2.true in let same = ap (λ z. length (levels.levels_of z.level_ids.items z.unnamed)) c.count.ensures.levels in omega arith in
-    ran_refused c.args.hall.now old c.count.new.caller commands.Undo refusals.NoSavepoint c.count.ensures c.requires refl
+    ran_refused c.args.hall.now old c.count.new.caller commands.Undo refusals.NoSavepoint c.count.ensures c.requires refl refl
     (sym (first_holds (nat_le (length s.levels) 1) refusals.NoSavepoint _ (le-leb (length s.levels) 1 few))) few
 
 pub undo_open-requires-clause-may : goal.undo_open-requires-clause-may
@@ -33,7 +33,7 @@ returns-in-Logged g c =
     let s = stance_of old.session in
     let stage = old.session.stage in
     let is : stage ≡ stages.Logged c.in-Logged.number = sym c.count.ensures.stage ∙ c.in-Logged.is in
-    ran_held c.args.hall.now old c.count.new.caller commands.Undo refusals.CommitPending c.count.ensures c.requires (ap pending_in is)
+    ran_held c.args.hall.now old c.count.new.caller commands.Undo refusals.CommitPending c.count.ensures c.requires refl (ap pending_in is)
     (first_fails (nat_le (length s.levels) 1) refusals.NoSavepoint _ (lt-leb (length s.levels) 1 (let d = c.depth.ensures in let t = c.if-depth-lt2.false in let same = ap (λ z. length (levels.levels_of z.level_ids.items z.unnamed)) c.count.ensures.levels in omega arith))
     ∙ held_up (held_by commands.Undo (pending_in stage)) refusals.CommitPending _ (ap (λ (z : Stage). held_by commands.Undo (pending_in z)) is))
 
@@ -43,7 +43,7 @@ returns-in-Settling g c =
     let s = stance_of old.session in
     let stage = old.session.stage in
     let is : stage ≡ stages.Settling c.in-Settling.steps = sym c.count.ensures.stage ∙ c.in-Settling.is in
-    ran_held c.args.hall.now old c.count.new.caller commands.Undo refusals.CommitPending c.count.ensures c.requires (ap pending_in is)
+    ran_held c.args.hall.now old c.count.new.caller commands.Undo refusals.CommitPending c.count.ensures c.requires refl (ap pending_in is)
     (first_fails (nat_le (length s.levels) 1) refusals.NoSavepoint _ (lt-leb (length s.levels) 1 (let d = c.depth.ensures in let t = c.if-depth-lt2.false in let same = ap (λ z. length (levels.levels_of z.level_ids.items z.unnamed)) c.count.ensures.levels in omega arith))
     ∙ held_up (held_by commands.Undo (pending_in stage)) refusals.CommitPending _ (ap (λ (z : Stage). held_by commands.Undo (pending_in z)) is))
 
@@ -53,6 +53,6 @@ returns-in-Aborting g c =
     let s = stance_of old.session in
     let stage = old.session.stage in
     let is : stage ≡ stages.Aborting = sym c.count.ensures.stage ∙ c.in-Aborting.is in
-    ran_held c.args.hall.now old c.count.new.caller commands.Undo refusals.AbortPending c.count.ensures c.requires (ap pending_in is)
+    ran_held c.args.hall.now old c.count.new.caller commands.Undo refusals.AbortPending c.count.ensures c.requires refl (ap pending_in is)
     (first_fails (nat_le (length s.levels) 1) refusals.NoSavepoint _ (lt-leb (length s.levels) 1 (let d = c.depth.ensures in let t = c.if-depth-lt2.false in let same = ap (λ z. length (levels.levels_of z.level_ids.items z.unnamed)) c.count.ensures.levels in omega arith))
     ∙ held_up (held_by commands.Undo (pending_in stage)) refusals.AbortPending _ (ap (λ (z : Stage). held_by commands.Undo (pending_in z)) is))

@@ -32,7 +32,7 @@ returns-then-depth-eq0 g c =
     let old = c.args.caller.now in
     let s = stance_of old.session in
     let empty : length s.levels ≡ 0 = let d = c.depth.ensures in let t = c.if-depth-eq0.true in let same = ap (λ z. length (levels.levels_of z.level_ids.items z.unnamed)) c.count.ensures.levels in omega arith in
-    ran_refused c.args._hall.now old c.count.new.caller commands.Save refusals.NoTransaction c.count.ensures c.requires refl
+    ran_refused c.args._hall.now old c.count.new.caller commands.Save refusals.NoTransaction c.count.ensures c.requires refl refl
     (sym (first_holds (length s.levels == 0) refusals.NoTransaction _ (eq-eqb (length s.levels) 0 empty))) (nil_from_length s.levels empty)
 
 pub returns-in-Some : goal.returns-in-Some
@@ -42,7 +42,7 @@ returns-in-Some g c =
     let stage = old.session.stage in
     let r = c.in-Some.refusal in
     let pending : pending_in stage ≡ Some r = sym (c.pending.ensures ∙ ap pending_in c.count.ensures.stage) ∙ c.in-Some.is in
-    ran_held c.args._hall.now old c.count.new.caller commands.Save r c.count.ensures c.requires pending
+    ran_held c.args._hall.now old c.count.new.caller commands.Save r c.count.ensures c.requires refl pending
     (first_fails (length s.levels == 0) refusals.NoTransaction _ (ne_eqb (length s.levels) 0 (λ e. let d = c.depth.ensures in let t = c.if-depth-eq0.false in let same = ap (λ z. length (levels.levels_of z.level_ids.items z.unnamed)) c.count.ensures.levels in omega arith))
     ∙ held_up (pending_in stage) r _ pending)
 

@@ -18,7 +18,7 @@ returns-in_default g c =
     let u = c.count.new.caller.session in
     let name = c.args.name.now in
     let none : snap_of name s ≡ None = sym (ap (λ z. snap_of name (levels.stance_of z)) c.count.ensures.levels) ∙ snap_missing name (stance_of u).levels u.levels.registered.items c.in_default.ensures.none in
-    ran_refused c.args.hall.now old c.count.new.caller (commands.DropSnap name) refusals.NoSnapshot c.count.ensures c.requires refl
+    ran_refused c.args.hall.now old c.count.new.caller (commands.DropSnap name) refusals.NoSnapshot c.count.ensures c.requires refl refl
     (sym (ap (λ (o : Option ℕ). then_some (is_none o) refusals.NoSnapshot) none)) none
 
 pub drop_registered-requires-clause-own : goal.drop_registered-requires-clause-own

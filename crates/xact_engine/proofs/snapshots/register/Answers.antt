@@ -19,4 +19,4 @@ returns-clause-ready g c =
     ready_snapped (start_of c.args.hall.now) (view c.args.caller.now.pass) (view c.leave_proc.new.caller.pass) c.args.caller.now.number c.leave_proc.new.caller.number s _ c.args.taken c.by-entry.result.value c.requires.at
     (c.by-entry.ensures ∙ ap (λ (b : By). snap_entry b c.args.taken.name) c.requires.by) c.requires.command c.requires.place c.requires.holds
     (ap (λ z. z.levels.commands) same.0) (ap (λ z. z.levels.level_ids.items) same.0) (ap (λ z. z.levels.unnamed) same.0) (ap (λ z. z.levels.open_ids.items) same.0)
-    (c.push_reserved.ensures.items ∙ ap (λ z. z.levels.registered.items ++ c.args.taken ∷ []) same.0) (ap (λ z. z.stage) same.0) (ap (λ z. z.unlinked) same.0) same.1 c.leave_proc.ensures.left
+    (c.push_reserved.ensures.items ∙ ap (λ z. z.levels.registered.items ++ c.args.taken ∷ []) same.0) (ap (λ z. z.stage) same.0) (ap (λ z. z.unlinked) same.0) (ap (λ z. z.making) same.0) same.1 c.leave_proc.ensures.left

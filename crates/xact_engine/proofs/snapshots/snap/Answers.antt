@@ -20,7 +20,7 @@ returns-in-Some g c =
     let u = c.count.new.caller.session in
     let name = c.args.name.now in
     let found : snap_of name s ≡ Some c.in-Some._registered.now.command = sym (ap (λ z. snap_of name (levels.stance_of z)) c.count.ensures.levels) ∙ snap_found name (stance_of u).levels u.levels.registered.items c.in-Some._registered.now c.in-Some.ensures.found in
-    ran_refused c.args.hall.now old c.count.new.caller (commands.Snap name) refusals.NameTaken c.count.ensures c.requires refl
+    ran_refused c.args.hall.now old c.count.new.caller (commands.Snap name) refusals.NameTaken c.count.ensures c.requires refl refl
     (sym (first_holds (is_some (snap_of name s)) refusals.NameTaken _ (ap is_some found))) (λ none. let taken = found in cc)
 
 pub returns-then-len-ge-MOST_SNAPS : goal.returns-then-len-ge-MOST_SNAPS
@@ -31,7 +31,7 @@ returns-then-len-ge-MOST_SNAPS g c =
     let name = c.args.name.now in
     let none : snap_of name s ≡ None = sym (ap (λ z. snap_of name (levels.stance_of z)) c.count.ensures.levels) ∙ snap_missing name (stance_of u).levels u.levels.registered.items c.in_default.ensures.none in
     let many : 64 ≤ length s.snaps = let count = ap (λ z. length (levels.stance_of z).snaps) c.count.ensures.levels in omega (arith, length-map u.levels.registered.items told_of) in
-    ran_refused c.args.hall.now old c.count.new.caller (commands.Snap name) refusals.SnapLimit c.count.ensures c.requires refl
+    ran_refused c.args.hall.now old c.count.new.caller (commands.Snap name) refusals.SnapLimit c.count.ensures c.requires refl refl
     (sym (first_fails (is_some (snap_of name s)) refusals.NameTaken _ (ap is_some none) ∙ first_holds (nat_le 64 (length s.snaps)) refusals.SnapLimit None (le-leb 64 (length s.snaps) many))) (none, many)
 
 pub returns : goal.returns

@@ -49,7 +49,7 @@ returns-in_default g c =
     let s = c.args.caller.now.session in record {
       own = c.requires.own;
       may = call_reserved (start_of c.args.hall.now) (view c.args.caller.now.pass) c.args.caller.now.number s (record s.levels { registered = c.reserve.new.self }) refl c.reserve.ensures.items c.requires.may;
-      acted = acted_refused (start_of c.args.hall.now) (view c.args.caller.now.pass).seen _ c.args.caller.now.number s.levels.commands (stance_of s) _ s.stage (commands.Snap c.args.name.now) refusals.Memory refl (ap (λ z. record { levels = levels_of s.levels.level_ids.items s.levels.unnamed; snaps = map told_of z }) c.reserve.ensures.items) refl refl (sym (not_refused s c.args.name.now c.requires.free c.requires.room));
+      acted = acted_refused (start_of c.args.hall.now) (view c.args.caller.now.pass).seen _ c.args.caller.now.number s.levels.commands (stance_of s) _ s.stage (commands.Snap c.args.name.now) refusals.Memory refl (ap (λ z. record { levels = levels_of s.levels.level_ids.items s.levels.unnamed; snaps = map told_of z }) c.reserve.ensures.items) refl refl refl (sym (not_refused s c.args.name.now c.requires.free c.requires.room));
       stage = refl;
       held = tt;
       still = λ r is. refl;
@@ -89,7 +89,7 @@ returns-in-Err g c =
       may = call_left (start_of c.args.hall.now) (view c.args.caller.now.pass) (view c.enter_proc-held.new.caller.pass) (view c.leave_looked.new.caller.pass) c.args.caller.now.number c.leave_looked.new.caller.number proc_lock c.args.caller.now.session c.leave_looked.new.caller.session _
           c.requires.may e.entered.learns (omega arith) r.left refl (ap (λ z. inner_id z) r.same.0 ∙ ap (λ z. inner_id z) e.same.0) (ap (λ z. z.levels.open_ids.items) r.same.0 ∙ ap (λ z. z.levels.open_ids.items) e.same.0) (ap (λ z. z.stage) r.same.0 ∙ ap (λ z. z.stage) e.same.0) (r.same.1 ∙ e.same.1) r.ready;
       acted = acted_looked (start_of c.args.hall.now) (view c.args.caller.now.pass) (view c.enter_proc-held.new.caller.pass) (view c.leave_looked.new.caller.pass) c.args.caller.now.number proc_lock s (stance_of c.leave_looked.new.caller.session) s.stage (commands.Snap c.args.name.now) (replies.Refused refusals.Memory) _
-          c.requires.may.ready.at e.entered.kept e.entered.learns (omega arith) refl (λ j. by_at (e.same.1 j) (e.same.0 j).levels.commands) tt c.leave_looked.ensures.left refl refl (sym (not_refused s c.args.name.now c.requires.free c.requires.room)) (sym stance);
+          c.requires.may.ready.at e.entered.kept e.entered.learns (omega arith) refl refl (λ j. by_at (e.same.1 j) (e.same.0 j).levels.commands) tt c.leave_looked.ensures.left refl refl refl (sym (not_refused s c.args.name.now c.requires.free c.requires.room)) (sym stance);
       stage = ap (λ z. z.stage) r.same.0 ∙ ap (λ z. z.stage) e.same.0;
       held = tt;
       still = λ q is. not_standing None q refl is;

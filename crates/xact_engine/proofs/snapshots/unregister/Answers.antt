@@ -24,7 +24,7 @@ returns-clause-ready g c =
     ready_dropped (start_of c.args.hall.now) (view c.args.caller.now.pass) (view c.leave_proc.new.caller.pass) c.args.caller.now.number c.leave_proc.new.caller.number s _ c.args.name.now c.by-entry.result.value c.requires.at
     (c.by-entry.ensures ∙ ap (λ (b : By). drop_entry b c.args.name.now) c.requires.by)
     (ap (λ z. z.levels.commands) same.0) (ap (λ z. z.levels.level_ids.items) same.0) (ap (λ z. z.levels.unnamed) same.0) (ap (λ z. z.levels.open_ids.items) same.0)
-    (c.forget.ensures ∙ (λ j. filter (λ k. not (same_name k.name (c.items.ensures j))) (same.0 j).levels.registered.items)) (ap (λ z. z.stage) same.0) (ap (λ z. z.unlinked) same.0) same.1 c.leave_proc.ensures.left
+    (c.forget.ensures ∙ (λ j. filter (λ k. not (same_name k.name (c.items.ensures j))) (same.0 j).levels.registered.items)) (ap (λ z. z.stage) same.0) (ap (λ z. z.unlinked) same.0) (ap (λ z. z.making) same.0) same.1 c.leave_proc.ensures.left
 
 pub returns-clause-stance : goal.returns-clause-stance
 returns-clause-stance g c =

@@ -34,7 +34,7 @@ returns-in-Ok-clause-ran g c =
     let may = may_counted c.args.hall.now old u c.count.ensures c.requires in
     ran_unmoved c.args.hall.now (announcement u.number u.session oldest ∷ []) old u w (commands.Freeze oldest) replies.Done (refl, tt) c.count.ensures c.requires e.own e.ready e.announces e.same.0 e.same.1 refl
     (shared_adds start (view u.pass) (view w.pass) proc_lock _ (by_at u.number u.session.levels.commands) u.session (MayLeave (commands.Freeze oldest) (stance_of u.session) u.session.stage (open_ids u.number (history (view u.pass).seen)) replies.Done) (omega arith) may.ready.at e.section refl tt)
-    tt refl refl refl refl refl refl
+    tt refl refl refl refl refl refl refl
 
 pub returns-in-Err-clause-ran : goal.returns-in-Err-clause-ran
 returns-in-Err-clause-ran g c =
@@ -49,7 +49,7 @@ returns-in-Err-clause-ran g c =
     let answer = refused_answer (g.P.PageDisk.tells) start (view u.pass) (view w.pass) u.number u.session oldest c.in-Err.refusal (at_same start (view w.pass) u.number w.number u.session w.session e.same.1 e.same.0 e.ready) e.announces.0 e.announces.1 in
     ran_read c.args.hall.now old u w (commands.Freeze oldest) reply c.count.ensures c.requires e.own e.ready e.announces.0 e.same.0 e.same.1 refl
     (look_adds start (view u.pass) (view w.pass) u.number u.session (MayLeave (commands.Freeze oldest) (stance_of u.session) u.session.stage (open_ids u.number (history (view u.pass).seen)) reply) may.ready.at tt e.section)
-    answer.0 answer.1 refl refl refl refl answer.1
+    answer.0 refl answer.1 refl refl refl refl answer.1
 
 pub returns-in-Err-clause-refused : goal.returns-in-Err-clause-refused
 returns-in-Err-clause-refused g c = c.in-Err.ensures.announces.1

@@ -22,7 +22,7 @@ returns-then-x-lt3-clause-ran g c =
     let x = c.args.x in
     let may = may_counted c.args.hall.now old u c.count.ensures c.requires in
     ran_read c.args.hall.now old u u (commands.Did x) (replies.Did (not (nat_eq x.number 0))) c.count.ensures c.requires (own_counted c.args.hall.now old u c.count.ensures c.requires.step.own) may.ready (went_nowhere u.number (view u.pass).seen) refl refl refl
-    (adds_nothing (by_at u.number u.session.levels.commands) _ (view u.pass).seen) (λ _. special_told x.number, λ normal. absurd (omega arith)) refl refl refl refl refl refl
+    (adds_nothing (by_at u.number u.session.levels.commands) _ (view u.pass).seen) (λ _. special_told x.number, λ normal. absurd (omega arith)) refl refl refl refl refl refl refl
 
 pub did_near-requires-clause-ready : goal.did_near-requires-clause-ready
 did_near-requires-clause-ready g c = (may_counted c.args.hall.now c.args.caller.now c.count.new.caller c.count.ensures c.requires).ready
@@ -34,7 +34,7 @@ returns-in-Ok-clause-ran g c =
     let reply = replies.Did c.in-Ok.did in
     ran_read c.args.hall.now c.args.caller.now u c.did_near.new.caller (commands.Did c.args.x) reply c.count.ensures c.requires e.own e.ready e.went e.same.0 e.same.1 refl
     (adds_wider (by_at u.number u.session.levels.commands) IsPlain _ (view u.pass).seen (view c.did_near.new.caller.pass).seen (plain_leaves (commands.Did c.args.x) (stance_of u.session) u.session.stage (open_ids u.number (history (view u.pass).seen)) reply) e.adds) e.allowed
-    e.standing refl refl refl refl e.standing
+    refl e.standing refl refl refl refl e.standing
 
 pub returns-in-Err-clause-ran : goal.returns-in-Err-clause-ran
 returns-in-Err-clause-ran g c =
@@ -42,7 +42,7 @@ returns-in-Err-clause-ran g c =
     let u = c.count.new.caller in
     ran_read c.args.hall.now c.args.caller.now u c.did_near.new.caller (commands.Did c.args.x) (replies.Refused c.in-Err.refusal) c.count.ensures c.requires e.own e.ready e.went e.same.0 e.same.1 refl
     (adds_wider (by_at u.number u.session.levels.commands) (MayMeet c.in-Err.refusal) _ (view u.pass).seen (view c.did_near.new.caller.pass).seen (met_leaves (commands.Did c.args.x) (stance_of u.session) u.session.stage (open_ids u.number (history (view u.pass).seen)) c.in-Err.refusal) e.adds) e.allowed
-    e.standing refl refl refl refl e.standing
+    refl e.standing refl refl refl refl e.standing
 
 pub returns-then-x-lt3-clause-said : goal.returns-then-x-lt3-clause-said
 returns-then-x-lt3-clause-said g c normal told = absurd (omega arith)

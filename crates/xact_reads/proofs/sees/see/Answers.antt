@@ -20,7 +20,7 @@ returns-in-None g c =
     let old = c.args.caller.now in
     let u = c.count.new.caller in
     let r = refused_before old.session.levels u.session.levels old.session.stage c.args.name.now c.args.x c.count.ensures.levels c.in-None.ensures.none in
-    ran_refused c.args.hall.now old u (commands.See c.args.name.now c.args.x) refusals.NoSnapshot c.count.ensures c.requires refl r.1 r.0
+    ran_refused c.args.hall.now old u (commands.See c.args.name.now c.args.x) refusals.NoSnapshot c.count.ensures c.requires refl refl r.1 r.0
 
 pub returns-then-x-lt3 : goal.returns-then-x-lt3
 returns-then-x-lt3 g c =
@@ -34,7 +34,7 @@ returns-then-x-lt3 g c =
     ran_read c.args.hall.now old u u (commands.See name c.args.x) (replies.Seen (not (nat_eq c.args.x.number 0))) c.count.ensures c.requires (own_counted c.args.hall.now old u c.count.ensures c.requires.step.own) may.ready went refl refl refl
     (adds_nothing (by_at u.number u.session.levels.commands) _ (view u.pass).seen)
     (special_answer start (view u.pass) (view u.pass) u.number u.session name c.args.x k may.ready.at went c.in-Some.ensures.found (g.P.PageDisk.tells) (omega arith))
-    (sym (not_refused u.session name c.args.x k c.in-Some.ensures.found)) refl refl refl refl refl
+    refl (sym (not_refused u.session name c.args.x k c.in-Some.ensures.found)) refl refl refl refl refl
 
 pub glance_at-found-requires-clause-limits : goal.glance_at-found-requires-clause-limits
 glance_at-found-requires-clause-limits g c =
@@ -52,7 +52,7 @@ returns-in-Ok g c =
     let u = c.count.new.caller in
     ran_read c.args.hall.now c.args.caller.now u c.see_found.new.caller (commands.See c.args.name.now c.args.x) (replies.Seen c.in-Ok.seen) c.count.ensures c.requires e.own e.ready e.went e.same.0 e.same.1 refl
     (adds_wider (by_at u.number u.session.levels.commands) IsPlain _ (view u.pass).seen (view c.see_found.new.caller.pass).seen (plain_leaves (commands.See c.args.name.now c.args.x) (stance_of u.session) u.session.stage (open_ids u.number (history (view u.pass).seen)) (replies.Seen c.in-Ok.seen)) e.adds) e.allowed
-    (e.standing ∙ sym (not_refused u.session c.args.name.now c.args.x c.in-Some.registered.now c.in-Some.ensures.found)) refl refl refl refl e.standing
+    refl (e.standing ∙ sym (not_refused u.session c.args.name.now c.args.x c.in-Some.registered.now c.in-Some.ensures.found)) refl refl refl refl e.standing
 
 pub returns-in-Err : goal.returns-in-Err
 returns-in-Err g c =
@@ -60,4 +60,4 @@ returns-in-Err g c =
     let u = c.count.new.caller in
     ran_read c.args.hall.now c.args.caller.now u c.see_found.new.caller (commands.See c.args.name.now c.args.x) (replies.Refused c.in-Err.refusal) c.count.ensures c.requires e.own e.ready e.went e.same.0 e.same.1 refl
     (adds_wider (by_at u.number u.session.levels.commands) (MayMeet c.in-Err.refusal) _ (view u.pass).seen (view c.see_found.new.caller.pass).seen (met_leaves (commands.See c.args.name.now c.args.x) (stance_of u.session) u.session.stage (open_ids u.number (history (view u.pass).seen)) c.in-Err.refusal) e.adds) e.allowed
-    (e.standing ∙ sym (not_refused u.session c.args.name.now c.args.x c.in-Some.registered.now c.in-Some.ensures.found)) refl refl refl refl e.standing
+    refl (e.standing ∙ sym (not_refused u.session c.args.name.now c.args.x c.in-Some.registered.now c.in-Some.ensures.found)) refl refl refl refl e.standing

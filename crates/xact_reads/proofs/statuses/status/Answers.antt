@@ -31,7 +31,7 @@ returns-then-number-lt3 g c =
     let small : x < 3 = subst (λ z. z < 3) c.number.ensures.value c.if-number-lt3.true in
     let by = by_at u.number u.session.levels.commands in
     ran_read c.args.hall.now old u u (commands.Status x) (replies.Known c.fixed.result) c.count.ensures c.requires (own_counted c.args.hall.now old u c.count.ensures c.requires.step.own) may.ready (went_nowhere u.number (view u.pass).seen) refl refl
-    (unasked by x c.fixed.result small) (adds_nothing by _ (view u.pass).seen) (λ _. c.fixed.ensures, λ normal. absurd (omega arith)) refl refl refl refl refl refl
+    (unasked by x c.fixed.result small) (adds_nothing by _ (view u.pass).seen) (λ _. c.fixed.ensures, λ normal. absurd (omega arith)) refl refl refl refl refl refl refl
 
 pub ask_status-requires-clause-ready : goal.ask_status-requires-clause-ready
 ask_status-requires-clause-ready g c = (may_counted c.args.hall.now c.args.caller.now c.count.new.caller c.count.ensures c.requires).ready
@@ -47,7 +47,7 @@ returns-in-Err g c =
     let normal : 3 ≤ x = subst (λ z. 3 ≤ z) c.number.ensures.value c.if-number-lt3.false in
     ran_read c.args.hall.now old u w (commands.Status x) (replies.Refused refusals.Memory) c.count.ensures c.requires e.own e.ready e.asks e.same.0 e.same.1 refl
     (look_adds (start_of c.args.hall.now) (view u.pass) (view w.pass) u.number u.session (MayLeave (commands.Status x) (stance_of u.session) u.session.stage (open_ids u.number (history (view u.pass).seen)) (replies.Refused refusals.Memory)) may.ready.at tt e.section)
-    (le-leb 3 x normal) refl refl refl refl refl refl
+    (le-leb 3 x normal) refl refl refl refl refl refl refl
 
 pub returns-in-Ok-settle : goal.returns-in-Ok-settle
 returns-in-Ok-settle g c =
@@ -72,7 +72,7 @@ returns-in-Ok-settle g c =
     (shared_adds start (view u.pass) (view t.pass) proc_lock _ by u.session IsPlain (omega arith) may.ready.at a.section refl tt) f.adds))
     (subst (λ (z : ℕ × Session). MayAnswer (g.P.PageDisk.tells) start (view w.pass).seen (alone (history (view u.pass).seen) (history (view w.pass).seen)) (by_at z.0 z.1.levels.commands) (stance_of z.1) z.1.stage (commands.Status x) reply) (λ j. (a.same.1 j, a.same.0 j))
     (f.allowed (history (view u.pass).seen) (went_further u.number event (view u.pass).seen (view t.pass).seen a.asks.0)))
-    f.standing refl refl refl refl f.standing
+    refl f.standing refl refl refl refl f.standing
 
 pub returns-in-Err-settle : goal.returns-in-Err-settle
 returns-in-Err-settle g c =
@@ -98,4 +98,4 @@ returns-in-Err-settle g c =
     (shared_adds start (view u.pass) (view t.pass) proc_lock _ by u.session IsPlain (omega arith) may.ready.at a.section refl tt) f.adds))
     (subst (λ (z : ℕ × Session). MayAnswer (g.P.PageDisk.tells) start (view w.pass).seen (alone (history (view u.pass).seen) (history (view w.pass).seen)) (by_at z.0 z.1.levels.commands) (stance_of z.1) z.1.stage (commands.Status x) reply) (λ j. (a.same.1 j, a.same.0 j))
     (f.allowed (history (view u.pass).seen) (went_further u.number event (view u.pass).seen (view t.pass).seen a.asks.0)))
-    f.standing refl refl refl refl f.standing
+    refl f.standing refl refl refl refl f.standing

@@ -1,5 +1,5 @@
 -- A record of an end stays exact while the history grows.
-use Rattle.std.proofs.Common.{Contains, List, Some, [], ap, arith, drop, get_or, inl, inr, length, refl, subst, sym, take, true, ℕ, ⊎_elim, ◌++◌, ◌==◌, ◌∙◌, ◌∷◌, ◌≡◌, eqb-true}
+use Rattle.std.proofs.Common.{Contains, List, Some, [], ap, arith, drop, inl, inr, length, refl, subst, sym, take, true, ℕ, ⊎_elim, ◌++◌, ◌==◌, ◌∙◌, ◌∷◌, ◌≡◌, eqb-true}
 use Rattle.std.proofs.Math.Seq.{take-append_seam}
 use Rattle.std.proofs.lemmas.List.{take-append-drop}
 use Rattle.std.specs.List.{last_or, slice_get}

@@ -8,7 +8,7 @@ use Rattle.tx_events.specs.declared.event.By.{By}
 use Rattle.tx_events.specs.declared.event.Event.{Event}
 use Rattle.tx_events.specs.declared.record.Rec.{Rec}
 use Rattle.tx_events.proofs.GivenIds.{legal_push}
-use Rattle.tx_events.proofs.Membership.{Has, contains_has, filter_has, has_contains, has_filter, has_filter_map, has_place, place_has}
+use Rattle.tx_events.proofs.Membership.{Has, contains_has, filter_has, has_contains, has_filter, has_filter_map, has_place}
 use Rattle.tx_events.specs.Events.{by_of, is_of}
 use Rattle.tx_events.specs.Families.{is_top, top}
 use Rattle.tx_events.specs.XactEnds.{end_record}

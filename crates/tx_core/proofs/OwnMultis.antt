@@ -1,10 +1,9 @@
 -- A session's multixacts while others go on.
-use Rattle.std.proofs.Common.{Contains, List, None, Option, Some, IfSome, [], ap, append-nil, arith, eq-eqb, eqb-true, inl, inr, min, refl, subst, sym, true, false, Bool, cond, map, ℕ, ⊎_elim, ◌++◌, ◌+◌, ◌<◌, ◌≤◌, ◌==◌, ◌&&◌, ◌∙◌, ◌∷◌, ◌≡◌, ◌≢◌, ◌⊎◌}
+use Rattle.std.proofs.Common.{List, Some, [], ap, append-nil, arith, eq-eqb, eqb-true, inl, inr, refl, subst, sym, true, false, Bool, cond, map, ℕ, ⊎_elim, ◌++◌, ◌+◌, ◌<◌, ◌≤◌, ◌==◌, ◌&&◌, ◌∙◌, ◌∷◌, ◌≡◌, ◌≢◌}
 use Rattle.std.proofs.lemmas.List.Elements.{filter-append, filter_map-append}
 use Rattle.std.proofs.lemmas.List.Sums.{fold-append, fold_push}
-use Rattle.std.specs.List.{filter, filter_map, flat_map, fold}
+use Rattle.std.specs.List.{filter, flat_map, fold}
 use Rattle.notes.specs.Lists.{Grows, Knows, at, own}
-use Rattle.tx_events.specs.History.{next_given}
 use Rattle.tx_events.specs.declared.event.By.{By}
 use Rattle.tx_events.specs.declared.multi.Member.{Member}
 use Rattle.tx_events.specs.declared.multi.MultiEvent.{MultiEvent}
@@ -14,16 +13,13 @@ use Rattle.tx_events.specs.declared.record.Rec.TheVariants as records
 use Rattle.tx_events.proofs.Extremes.{fold_min_has}
 use Rattle.tx_events.proofs.Membership.{Has, contains_has, has_cases, has_contains, has_filter_map, has_left, has_right, map_has, none_passes}
 use Rattle.tx_events.proofs.PlaceLemmas.{by_place}
-use Rattle.tx_events.specs.Multis.{InBase, IsKnown, IsNextMade, IsRaised, MultiMayCome, Pin, multi_by, next_made, oldest_multi, oldest_multi_after, pin_limit, pins, pins_after, same_pin, without_pin}
+use Rattle.tx_events.specs.Multis.{InBase, IsKnown, IsRaised, MultiMayCome, Pin, multi_by, next_made, oldest_multi, oldest_multi_after, pins, pins_after, same_pin, without_pin}
 use Rattle.tx_core.specs.declared.entry.Entry.{Entry}
-use Rattle.tx_core.specs.declared.entry.Kind.{Kind}
-use Rattle.tx_core.specs.declared.entry.Kind.TheVariants as kinds
 use Rattle.tx_core.specs.declared.entry.Start.{Start}
-use Rattle.tx_core.specs.CutsFollow.{IsMemberGone, IsOffsetGone}
 use Rattle.tx_core.specs.EngineInvariant.{EngineInvariant}
-use Rattle.tx_core.specs.Entries.{IsAppended, cut_in, history, session_of}
+use Rattle.tx_core.specs.Entries.{history, session_of}
 use Rattle.tx_core.specs.Locks.{members_lock_of, multi_lock, offsets_lock_of}
-use Rattle.tx_core.specs.MultiEntries.{IsOffsetSet, IsSlotSet, multi_history, multi_in, multi_of, multis_in, offsets_in, slots_in}
+use Rattle.tx_core.specs.MultiEntries.{multi_history, multi_of, multis_in, offsets_in, slots_in}
 use Rattle.tx_core.specs.MultisLegal.{NeedsMulti, ToldOf}
 use Rattle.tx_core.specs.RecordsFollow.{IsGenOf}
 use Rattle.tx_core.proofs.Asking.{if_some, upheld_has}
@@ -31,8 +27,8 @@ use Rattle.tx_core.proofs.Growing.{begins_filter_map, begins_flat_map, contains_
 use Rattle.tx_core.proofs.Lasting.{appended_grows, history_grows}
 use Rattle.tx_core.proofs.Nearness.{multis_are_legal}
 use Rattle.tx_core.proofs.Rising.{given_more, made_more}
-use Rattle.tx_core.proofs.Stepping.{own_appended, own_seen}
-use Rattle.tx_core.specs.OwnMultis.{AreMultisDone, DoneStays, IsMaking, IsMultiDone, IsSlotDone, MakingStays, OwnMultisStay, PinsHold, PinsStay, is_multi_of, own_multis}
+use Rattle.tx_core.proofs.Stepping.{own_appended}
+use Rattle.tx_core.specs.OwnMultis.{DoneStays, IsMultiDone, IsSlotDone, MakingStays, OwnMultisStay, PinsHold, PinsStay, is_multi_of}
 
 -- ---- others' events
 

@@ -1,5 +1,5 @@
 -- Entries that say nothing of ids ask for nothing.
-use Rattle.std.proofs.Common.{Bool, IfSome, List, None, [], false, inl, inr, length, refl, true, ℕ, ◌<◌, ◌≡◌, ◌⊎◌, Contains, subst, sym, ◌∷◌}
+use Rattle.std.proofs.Common.{Bool, IfSome, List, false, inl, inr, length, refl, true, ℕ, ◌<◌, ◌≡◌, ◌⊎◌, Contains, subst, sym, ◌∷◌}
 use Rattle.std.specs.List.{AllByRecursion, filter_map}
 use Rattle.tx_events.specs.declared.event.By.{By}
 use Rattle.tx_events.specs.declared.event.Event.{Event}

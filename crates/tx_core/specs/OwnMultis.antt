@@ -2,7 +2,7 @@
 -- them stays while others go on.
 use Rattle.std.specs.Prelude.{◌≡◌, ◌⊎◌, ℕ, ◌+◌, ◌<◌, ◌≤◌, ◌==◌, Bool, true, false, List, Option, Some, Contains, slice_get}
 use Rattle.std.specs.List.{filter}
-use Rattle.notes.specs.Lists.{Grows, Knows, at}
+use Rattle.notes.specs.Lists.{Knows, at}
 use Rattle.tx_events.specs.After.{ids_of}
 use Rattle.tx_events.specs.History.{next_given}
 use Rattle.tx_events.specs.Ids.{IsFullId}

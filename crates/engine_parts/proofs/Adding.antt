@@ -1,6 +1,5 @@
 -- What a command adds, step by step.
-use Rattle.std.proofs.Common.{◌≡◌, ◌≢◌, ℕ, ◌<◌, Bool, false, true, List, [], ◌∷◌, ◌++◌, Result, Ok, Err, None, Option, Some, append_assoc, append-nil, refl, sym, ap, subst, ◌∙◌, length, arith, eq-eqb, ◌==◌, cond, IsTrue}
-use Rattle.std.specs.List.{AllByRecursion, filter}
+use Rattle.std.proofs.Common.{◌≡◌, ◌≢◌, ℕ, ◌<◌, Bool, false, true, List, [], ◌∷◌, ◌++◌, Result, Ok, Err, None, Option, Some, append_assoc, append-nil, sym, ap, subst, ◌∙◌, length, arith, eq-eqb, ◌==◌, cond, IsTrue}
 use Rattle.std.proofs.lemmas.List.Elements.{filter-append}
 use mathlib.Core.Logic.{dite}
 use native.Mathlib.Decide.{ℕ_discrete}

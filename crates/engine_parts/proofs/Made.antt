@@ -1,5 +1,5 @@
 -- A session's multixacts stay made while the lists go on.
-use Rattle.std.proofs.Common.{Contains, IfSome, List, None, Option, Some, [], ap, append-nil, arith, inl, inr, length, subst, sym, ℕ, ⊎_elim, ◌+◌, ◌++◌, ◌<◌, ◌∙◌, ◌∷◌, ◌≡◌}
+use Rattle.std.proofs.Common.{Contains, IfSome, List, None, Option, Some, [], ap, append-nil, arith, inl, inr, length, subst, sym, ℕ, ⊎_elim, ◌++◌, ◌<◌, ◌∙◌, ◌∷◌, ◌≡◌}
 use Rattle.std.proofs.lemmas.List.Elements.{filter_map-append}
 use Rattle.std.specs.List.{cons_option}
 use mathlib.Core.Logic.{dite}
@@ -17,8 +17,6 @@ use Rattle.tx_core.specs.EngineInvariant.{EngineInvariant}
 use Rattle.tx_core.specs.Entries.{IsAppended, history, session_of}
 use Rattle.tx_core.specs.Locks.{multi_lock}
 use Rattle.tx_core.specs.MultiEntries.{multi_history, multi_of, multis_in}
-use Rattle.tx_core.specs.OwnMultis.{IsMaking}
-use Rattle.tx_core.specs.RecordsFollow.{IsGenOf}
 use Rattle.tx_core.proofs.Lasting.{appended_grows, history_grows}
 use Rattle.tx_core.proofs.OwnMultis.{done_grows, done_stays, making_stays}
 use Rattle.tx_core.proofs.Rising.{given_more}

@@ -5,7 +5,6 @@ use Rattle.tx_events.specs.declared.event.By.{By}
 use Rattle.tx_events.proofs.Membership.{contains_has, has_contains}
 use Rattle.tx_core.specs.declared.entry.Entry.{Entry}
 use Rattle.tx_core.specs.declared.entry.Kind.TheVariants as kinds
-use Rattle.tx_core.specs.declared.entry.LogCall.{LogCall}
 use Rattle.tx_core.specs.declared.entry.LogCall.TheVariants as calls
 use Rattle.tx_core.specs.declared.entry.Start.{Start}
 use Rattle.tx_core.specs.Entries.{records_of, flushed_to}

@@ -8,7 +8,7 @@ use Rattle.tx_events.specs.PageOrder.{Offsets, page_precedes}
 use Rattle.tx_core.specs.declared.entry.Start.{Start}
 use Rattle.tx_core.specs.CleanMultis.{CleanMembers}
 use Rattle.tx_core.specs.Locks.{members_lock}
-use Rattle.tx_core.proofs.PageRing.{first_on, first_rises, member_on, member_order}
+use Rattle.tx_core.proofs.PageRing.{first_rises, member_on, member_order}
 use Rattle.engine_parts.specs.Shelf.{IsShelf}
 use Rattle.engine_parts.specs.ShelfLaws.{MembersKeep}
 use Rattle.engine_parts.specs.Shelves.{member_shelf}

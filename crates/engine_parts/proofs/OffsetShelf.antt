@@ -1,25 +1,21 @@
 -- The offsets on their pages.
-use Rattle.std.proofs.Common.{None, Option, Some, ap, arith, inl, inr, refl, subst, sym, ⊎_elim, Bool, true, false, cond, List, [], ◌∷◌, ℕ, nat_lt, ◌⊎◌, ◌≡◌, ◌≢◌, ◌+◌, ◌-◌, ◌*◌, ◌/◌, ◌%◌, ◌^◌, ◌<◌, ◌≤◌, ◌==◌, ◌∙◌, eqb-true}
+use Rattle.std.proofs.Common.{None, Some, ap, arith, inl, inr, refl, subst, sym, ⊎_elim, Bool, true, false, cond, List, [], ℕ, nat_lt, ◌⊎◌, ◌≡◌, ◌≢◌, ◌+◌, ◌*◌, ◌/◌, ◌%◌, ◌^◌, ◌<◌, ◌≤◌, ◌==◌, ◌∙◌, eqb-true}
 use Rattle.std.proofs.lemmas.Bool.Decides.{nat_tests}
 use Rattle.std.specs.List.{cons_option, last_or}
 use Rattle.tx_events.specs.Ids.{low_half}
 use Rattle.tx_events.specs.PageOrder.{Multis, page_precedes}
 use Rattle.tx_events.proofs.ListSteps.{not_both}
-use Rattle.tx_events.specs.declared.event.By.{By}
 use Rattle.slru_bank.proofs.ZeroBytes.{zero_byte}
-use Rattle.slru_bank.specs.ByteRange.{SetsEntry}
 use Rattle.disk_core.specs.Pages.{zero_page}
 use Rattle.store_pages.specs.Layouts.{number_in, word_page_of, word_place_of}
-use Rattle.tx_core.specs.declared.entry.Change.TheVariants as changes
-use Rattle.tx_core.specs.declared.entry.Kind.TheVariants as kinds
 use Rattle.tx_core.specs.declared.entry.Start.{Start}
 use Rattle.tx_core.specs.Locks.{offset_page, offsets_lock}
 use Rattle.tx_core.specs.CleanMultis.{CleanOffsets}
 use Rattle.tx_core.specs.StoredBytes.{StoredBytes, byte_of}
 use Rattle.tx_core.proofs.PageRing.{offset_order}
-use Rattle.engine_parts.specs.Shelf.{IsNearBy, IsRoomFor, IsShelf}
+use Rattle.engine_parts.specs.Shelf.{IsShelf}
 use Rattle.engine_parts.specs.Shelves.{offset_shelf, word_held}
-use Rattle.engine_parts.specs.ShelfLaws.{OffsetSet, OffsetsKeep, SetsShown}
+use Rattle.engine_parts.specs.ShelfLaws.{OffsetSet, OffsetsKeep}
 use Rattle.engine_parts.proofs.Shelving.{keep_store}
 
 order : (first p q : ℕ) → first / 2048 ≤ p → p ≤ (first + 2 ^ 29) / 2048 → first / 2048 ≤ q → q ≤ (first + 2 ^ 29) / 2048 → page_precedes Multis 2048 (p % 2 ^ 21) (q % 2 ^ 21) ≡ nat_lt p q

@@ -1,5 +1,5 @@
 -- An open id of a session without a commit record of what is open is in none of its commit records.
-use Rattle.std.proofs.Common.{Contains, ⊎_elim, ◌⊎◌, ◌≡◌, ℕ, List, ◌∷◌, take, refl, sym, subst, ◌∙◌, ap, inl, eqb-true, Some}
+use Rattle.std.proofs.Common.{Contains, ⊎_elim, ◌≡◌, ℕ, List, ◌∷◌, take, refl, sym, subst, ◌∙◌, ap, inl, eqb-true, Some}
 use Rattle.std.specs.List.{slice_get}
 use Rattle.tx_events.specs.declared.event.By.{By}
 use Rattle.tx_events.specs.declared.event.Event.{Event}

@@ -1,5 +1,5 @@
 -- What a call of the engine promises, and keeps promising while others go on.
-use Rattle.std.specs.Prelude.{◌≡◌, ℕ, ◌<◌, ◌≤◌, length, List, [], ◌++◌, Result, Ok, Err, Option, Some, Bool, true, false, Contains, IsTrue}
+use Rattle.std.specs.Prelude.{◌≡◌, ℕ, ◌<◌, ◌≤◌, length, List, [], ◌++◌, Result, Ok, Err, Some, Bool, true, false, Contains, IsTrue}
 use Rattle.std.specs.List.{AllByRecursion, filter}
 use Rattle.notes.specs.Lists.{Grows, at}
 use Rattle.tx_events.specs.declared.event.By.{By}

@@ -6,7 +6,7 @@ use Rattle.tx_core.specs.declared.entry.Entry.{Entry}
 use Rattle.tx_core.specs.declared.entry.Start.{Start}
 use Rattle.tx_core.specs.Entries.{cut_in}
 use Rattle.tx_core.specs.FaultsRise.{faults_told}
-use Rattle.tx_core.specs.Pages.{Pages, Store, pages_after}
+use Rattle.tx_core.specs.Pages.{Store, pages_after}
 
 -- The store of the list's entries; the order of its pages, how many numbers are on one, how many pages are stored, and the
 -- page in full from which on they are kept when a life begins; the number from which on they are new, and the oldest one

@@ -1,5 +1,5 @@
 -- The parents of subtransactions and the stores of the multixacts on their pages.
-use Rattle.std.specs.Prelude.{◌≡◌, ℕ, ◌+◌, ◌*◌, ◌^◌, ◌<◌, Bool, List, Option, None, Some}
+use Rattle.std.specs.Prelude.{ℕ, ◌+◌, ◌*◌, ◌^◌, Bool, List, Option, None, Some}
 use Rattle.std.specs.List.{slice_index}
 use Rattle.store_pages.specs.Layouts.{member_page_of, member_place_of, mode_place_of, multi_before, number_in, word_page_of, word_place_of}
 use Rattle.tx_events.specs.PageOrder.{Ids, Multis, Offsets}

@@ -45,7 +45,6 @@ forget_by by number = record { by = by; kind = kinds.Forget number }
 abbrev pub forget_fault_by : By → ℕ → ℕ → Entry
 forget_fault_by by number count = record { by = by; kind = kinds.LogFault (calls.Forget number) count }
 
--- a bank of offsets or of members
 -- the number of the log's next record
 abbrev pub next_number : Start → List (List Entry) → ℕ
 next_number start lists = start.from + length (recs_in (at lists log_lock))

@@ -15,7 +15,7 @@ use Rattle.tx_core.specs.declared.entry.Entry.{Entry}
 use Rattle.tx_core.specs.declared.entry.Kind.TheVariants as kinds
 use Rattle.tx_core.specs.declared.entry.Start.{Start}
 use Rattle.tx_core.specs.CommitRecordsExact.{HasNoRecord}
-use Rattle.tx_core.specs.Entries.{IsAppended, IsMarked, event_of, history}
+use Rattle.tx_core.specs.Entries.{appended, IsAppended, IsMarked, event_of, history}
 use Rattle.tx_core.specs.Locks.{proc_lock}
 use Rattle.tx_core.specs.ProgramOrder.{IsInTurn}
 use Rattle.tx_core.proofs.EventLaws.{abort_event_law, commit_event_law}

@@ -32,7 +32,7 @@ use Rattle.engine_parts.specs.declared.session.Caller.{Caller}
 use Rattle.engine_parts.specs.declared.session.Session.{Session}
 use Rattle.engine_parts.specs.declared.session.Stage.{Stage}
 use Rattle.engine_parts.specs.declared.session.Stage.TheVariants as stages
-use Rattle.engine_parts.specs.Answers.{Acted, MayAnswer, touches_multis}
+use Rattle.engine_parts.specs.Answers.{Acted, MayAnswer, MayAnswerAny, touches_multis}
 use Rattle.engine_parts.specs.Calls.{IsCounted, MayRun, Ran, next_command}
 use Rattle.engine_parts.specs.Holds.{Knowledge}
 use Rattle.engine_parts.specs.Sessions.{IsFiled, MayCall, by_at, inner_id, stance_of}
@@ -122,6 +122,15 @@ levels_alone (commands.MultiFreeze multi) l = absurd l
 levels_alone commands.Trim l = absurd l
 levels_alone command l = refl
 
+-- so it is answered as one that touches none
+levels_answer : (tells : Bool) (start : Start) (begun lists : List (List Entry)) (by : By) (s : Stance) (stage : Stage) (command : Command) (reply : Reply) → IsOnLevels command
+    → MayAnswerAny tells start begun lists by s stage command reply → MayAnswer tells start lists (alone (history begun) (history lists)) by s stage command reply
+levels_answer tells start begun lists by s stage (commands.Multi pairs) reply l a = absurd l
+levels_answer tells start begun lists by s stage (commands.SeeMulti name m) reply l a = absurd l
+levels_answer tells start begun lists by s stage (commands.MultiFreeze multi) reply l a = absurd l
+levels_answer tells start begun lists by s stage commands.Trim reply l a = absurd l
+levels_answer tells start begun lists by s stage command reply l a = a
+
 -- what is said of such a command over no history is said over any
 acted_levels : (tells : Bool) (start : Start) (lists lists' : List (List Entry)) (base : Counters) (n number : ℕ) (s s' : Stance) (stage : Stage) (command : Command) (reply : Reply) → IsOnLevels command → held_by command (pending_in stage) ≡ None → lists' ≡ lists → Acts base (by_at n number) s s' command reply [] []
     → Acted tells start (by_at n number) s s' stage command reply lists lists'
@@ -207,7 +216,7 @@ module _ {H L P : Type 0} {l : logs.Ghosts L} {p : disks.Ghosts P} (hall : Hall 
             (ap (λ (es : List Event). after (levels.stance_of u.session.levels) by.command command reply (given es)) a.grown ∙ a.left) (sym c.stage ∙ q)) (may_counted hall old u c m);
         acted = acts;
         stage = keeps_stage command reply old.session.stage u.session.stage (on_levels_moves command on) c.stage;
-        held = held_unneeded p.tells start (view u.pass).seen (alone (history seen) (history (view u.pass).seen)) by (stance_of old.session) old.session.stage u.session.stage command reply needs.0 needs.1 acts.allowed;
+        held = held_unneeded p.tells start (view u.pass).seen (alone (history seen) (history (view u.pass).seen)) by (stance_of old.session) old.session.stage u.session.stage command reply needs.0 needs.1 (levels_answer p.tells start seen (view u.pass).seen by (stance_of old.session) old.session.stage command reply on acts.allowed);
         still = λ q is. ap (λ p. (view p).seen) c.pass;
         count = (r.count ∙ ap (λ z. z.commands) c.levels, c.number);
       }

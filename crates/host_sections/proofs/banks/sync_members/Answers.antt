@@ -156,6 +156,6 @@ returns-in-Err-clause-adds g c =
     subst (λ (r : BankRefusal). AddsSync {T = Unit {0}} start c.args.by (members_lock bank) old (view c.leave-in-Err.new.pass).seen (Err r)) (sym (same_bank_err why.0))
     (record {
       count = faults_of n;
-      risen = risen_past (faults_told start (members_lock bank) (at old (members_lock bank))) (faults_of o) (faults_of n) s.count why.1;
+      risen = risen_past (faults_told start (members_lock bank) (at old (members_lock bank))) (faults_of o) (faults_of n) s.stands.count why.1;
       adds = c.leave-in-Err.ensures.left.seen ∙ (λ j. add (i.seen j) (i.cell j) (noted j));
     })

@@ -10,14 +10,12 @@ use Rattle.tx_events.specs.declared.event.Event.{Event}
 use Rattle.tx_events.specs.declared.multi.MultiEvent.{MultiEvent}
 use Rattle.tx_events.specs.Events.{by_of, events_of}
 use Rattle.tx_events.specs.Multis.{multi_by}
-use Rattle.tx_model.specs.Lines.{span_of}
-use Rattle.tx_model.specs.Rounds.{lines_in}
 use Rattle.own_events.specs.Lined.{Numbered, lines_from, number_of}
-use Rattle.report_law.specs.Events.{IsCommitLogged, StandsAt, lines_before, rounds_before}
-use Rattle.report_law.specs.Places.{IsNotLate, multis_of}
-use Rattle.report_law.specs.Steps.{HasFirst, HasFirstMultis, Judged, lines_of}
-use Rattle.event_rules.specs.Lined.{AreLinesInOrder, events_in, multis_in, number_at}
-use Rattle.event_rules.specs.Told.{AreToldEvents, AreToldMultis, IsItsEvent, IsItsMulti, IsToldIn}
+use Rattle.report_law.specs.Events.{IsCommitLogged, StandsAt, lines_before}
+use Rattle.report_law.specs.Places.{IsNotLate}
+use Rattle.report_law.specs.Steps.{HasFirst, Judged, lines_of}
+use Rattle.event_rules.specs.Lined.{AreLinesInOrder, events_in, number_at}
+use Rattle.event_rules.specs.Told.{AreToldEvents, IsItsEvent, IsItsMulti, IsToldIn, IsToldMulti}
 use Rattle.event_rules.proofs.Standing.{by_at_line, in_order, line_at_number, within}
 use Rattle.event_rules.proofs.Telling.{told_of}
 
@@ -44,27 +42,6 @@ module _ (j : Judged) (p : ℕ) (order : AreLinesInOrder j) where
   its_event e s own told number rank t is at told_all all number_is rank_is time logged b = (
     λ y. record { command = s; in_time = time; told = (event_told e s own told number rank is at told_all all number_is rank_is).0 (b.0 y); logged = logged },
     λ i. b.1 ((event_told e i.command own told number rank is at told_all all number_is rank_is).1 i.told),
-  )
-
-  multi_told : (e : MultiEvent) (s : StandsAt j (multi_by e)) (own : Numbered) (told : List (Option (Vec MultiEvent))) (number rank : ℕ) → own ≡ multis_in j → slice_get j.life.multis p ≡ Some e
-      → AreToldMultis j told → length told ≡ length (lines_of j)
-      → number ≡ get_or own.numbers p 0 → rank ≡ count_by (λ k. k == get_or own.numbers p 0) (take p own.numbers)
-      → IsToldIn told number rank e ↔ ((es : List MultiEvent) × HasFirstMultis j (span_of j.life.events (rounds_before j (multi_by e) s) (lines_in s.step)) s.line es × (slice_get es (length (multis_of (multi_by e) (take p j.life.multis))) ≡ Some e))
-  multi_told e s own told number rank is at told_all all number_is rank_is =
-      let l = told_within j (multi_by e) s (length told) all in
-      told_of multi_by (HasFirstMultis j (span_of j.life.events (rounds_before j (multi_by e) s) (lines_in s.step)) s.line) (lines_from 0 j.steps) (number_at j (multi_by e) s) j.life.multis p e told number rank
-      (in_order j order) (by_at_line j (multi_by e) s) at l (told_all (multi_by e) s l)
-      (number_is ∙ ap (λ (o : Numbered). get_or o.numbers p 0) is)
-      (rank_is ∙ ap (λ (o : Numbered). count_by (λ k. k == get_or o.numbers p 0) (take p o.numbers)) is)
-
-  pub its_multi : (e : MultiEvent) (s : StandsAt j (multi_by e)) (own : Numbered) (told : List (Option (Vec MultiEvent))) (number rank : ℕ) (t : Bool) → own ≡ multis_in j → slice_get j.life.multis p ≡ Some e
-      → AreToldMultis j told → length told ≡ length (lines_of j)
-      → number ≡ get_or own.numbers p 0 → rank ≡ count_by (λ k. k == get_or own.numbers p 0) (take p own.numbers)
-      → IsNotLate j.steps (map multi_by (take p j.life.multis)) (multi_by e) → IsTrue t ↔ IsToldIn told number rank e
-      → IsTrue t ↔ IsItsMulti j p e
-  its_multi e s own told number rank t is at told_all all number_is rank_is time b = (
-    λ y. record { command = s; in_time = time; told = (multi_told e s own told number rank is at told_all all number_is rank_is).0 (b.0 y) },
-    λ i. b.1 ((multi_told e i.command own told number rank is at told_all all number_is rank_is).1 i.told),
   )
 
 -- ---- with the event as it is read
@@ -108,14 +85,14 @@ whole_event j p order h ev e by own told number rank t is at l read by_is s own_
     (subst (λ (x : Event). IsCommitLogged j x) same logged)
     (subst (λ (x : Event). IsTrue t ↔ IsToldIn told number rank x) same b)
 
-pub whole_multi : (j : Judged) (p : ℕ) (order : AreLinesInOrder j) (h : List MultiEvent) (ev e : MultiEvent) (by : By) (own : Numbered) (told : List (Option (Vec MultiEvent))) (number rank : ℕ) (t : Bool)
-    → h ≡ j.life.multis → slice_get h p ≡ Some e → p < length h → ev ≡ get_or h p ev → by ≡ multi_by ev → StandsAt j by → own ≡ multis_in j
-    → AreToldMultis j told → length told ≡ length (lines_of j)
-    → number ≡ get_or own.numbers p 0 → rank ≡ count_by (λ k. k == get_or own.numbers p 0) (take p own.numbers)
-    → IsNotLate j.steps (map multi_by (take p h)) by → IsTrue t ↔ IsToldIn told number rank ev → IsTrue t ↔ IsItsMulti j p e
-whole_multi j p order h ev e by own told number rank t is at l read by_is s own_is told_all all number_is rank_is time b =
+pub whole_multi : (j : Judged) (p : ℕ) (h : List MultiEvent) (ev e : MultiEvent) (by : By) (told : Bool)
+    → h ≡ j.life.multis → slice_get h p ≡ Some e → p < length h → ev ≡ get_or h p ev → by ≡ multi_by ev → StandsAt j by → IsNotLate j.steps (map multi_by (take p h)) by
+    → ((e : MultiEvent) → slice_get h p ≡ Some e → (s : StandsAt j (multi_by e)) → IsTrue told ↔ IsToldMulti j p e s) → IsTrue told ↔ IsItsMulti j p e
+whole_multi j p h ev e by told is at l read by_is s time told_is =
     let same = read_is h p ev e l read at in
     let by_e : by ≡ multi_by e = by_is ∙ ap (λ (x : MultiEvent). multi_by x) same in
-    its_multi j p order e (subst (λ (b : By). StandsAt j b) by_e s) own told number rank t own_is (subst (λ (t : List MultiEvent). slice_get t p ≡ Some e) is at) told_all all number_is rank_is
-    (subst (λ (t : List MultiEvent). IsNotLate j.steps (map multi_by (take p t)) (multi_by e)) is (subst (λ (b : By). IsNotLate j.steps (map multi_by (take p h)) b) by_e time))
-    (subst (λ (x : MultiEvent). IsTrue t ↔ IsToldIn told number rank x) same b)
+    let stands : StandsAt j (multi_by e) = subst (λ (b : By). StandsAt j b) by_e s in
+    let in_time = subst (λ (t : List MultiEvent). IsNotLate j.steps (map multi_by (take p t)) (multi_by e)) is (subst (λ (b : By). IsNotLate j.steps (map multi_by (take p h)) b) by_e time) in (
+      λ y. record { command = stands; in_time = in_time; told = (told_is e at stands).0 y },
+      λ i. (told_is e at i.command).1 i.told,
+    )

@@ -33,9 +33,11 @@ pub record IsToldIn {X : Type 0} (told : List (Option (Vec X))) (number rank : �
 abbrev pub AreToldEvents : Judged → List (Option (Vec Event)) → Type 0
 AreToldEvents j told = (by : By) (s : StandsAt j by) → number_at j by s < length told → HoldsAt (IsTold (HasFirst j (lines_before j by s) s.line)) told (number_at j by s)
 
-abbrev pub AreToldMultis : Judged → List (Option (Vec MultiEvent)) → Type 0
-AreToldMultis j told = (by : By) (s : StandsAt j by) → number_at j by s < length told
-    → HoldsAt (IsTold (HasFirstMultis j (span_of j.life.events (rounds_before j by s) (lines_in s.step)) s.line)) told (number_at j by s)
+-- the multixact event at this place, whose command stands there, is told by the command's reply in its turn
+abbrev pub IsToldMulti : (j : Judged) → ℕ → (e : MultiEvent) → StandsAt j (multi_by e) → Type 0
+IsToldMulti j p e s =
+    (es : List MultiEvent) × HasFirstMultis j (span_of j.life.events (rounds_before j (multi_by e) s) (lines_in s.step)) s.line es
+    × (slice_get es (length (multis_of (multi_by e) (take p j.life.multis))) ≡ Some e)
 
 -- what an event's line asks but for the rules of the history itself
 pub record IsItsEvent (j : Judged) (p : ℕ) (e : Event) : Type 0 where
@@ -48,5 +50,4 @@ pub record IsItsEvent (j : Judged) (p : ℕ) (e : Event) : Type 0 where
 pub record IsItsMulti (j : Judged) (p : ℕ) (e : MultiEvent) : Type 0 where
   pub command : StandsAt j (multi_by e)
   pub in_time : IsNotLate j.steps (map multi_by (take p j.life.multis)) (multi_by e)
-  pub told : (es : List MultiEvent) × HasFirstMultis j (span_of j.life.events (rounds_before j (multi_by e) command) (lines_in command.step)) command.line es
-      × (slice_get es (length (multis_of (multi_by e) (take p j.life.multis))) ≡ Some e)
+  pub told : IsToldMulti j p e command

@@ -1,6 +1,8 @@
 -- Where an id is closed, by what is noted of it and of its parents.
 use Rattle.std.proofs.Common.{◌≡◌, ℕ, suc, zero, ◌+◌, ◌<◌, ◌≤◌, List, [], ◌∷◌, ◌++◌, length, get_or, take, drop, min, refl, ap, sym, subst, ◌∙◌, arith, inl, inr, ⊎_elim, Bool, true, false, not, ◌&&◌, ◌==◌, nat_lt, cond, Option, Some, None, eq-eqb}
+use Rattle.std.specs.Prelude.{IfSome}
 use Rattle.std.specs.List.{AllByRecursion, find, list_any, slice_get}
+use Rattle.std.proofs.Math.Nat.{min-le_left}
 use Rattle.std.proofs.lemmas.Bool.{eqb-true, false_from_ne_true}
 use Rattle.std.proofs.lemmas.Bool.Decides.{nat_tests}
 use Rattle.std.proofs.lemmas.List.{map-append, take-append-drop, take_all, take_more}
@@ -99,11 +101,24 @@ open_by base h marks m (Some q) p e legal l i a above k =
     ∙ both_before m.closed f.mark.closed p
     ∙ ap (λ t. not (was_before (earlier m.closed t) p)) (sym f.is)
 
+both_within : (n : ℕ) (a b : Option ℕ) → IfSome a (λ q. q < n) → IfSome b (λ q. q < n) → IfSome (earlier a b) (λ q. q < n)
+both_within n None b i j = j
+both_within n (Some a) None i j = i
+both_within n (Some a) (Some b) i j = let l : min a b ≤ a = min-le_left a b in omega arith
+
+above_within : (h : List Event) (marks : List IdMark) (o : Option ℕ) → AllByRecursion (IsMark h) marks → ((q : ℕ) → o ≡ Some q → Has (mark_ids marks) q) → IfSome (closed_above marks o) (λ q. q < length h)
+above_within h marks None a k = tt
+above_within h marks (Some q) a k =
+    let f = found (IsMark h) marks q (k q refl) a in
+    subst (λ (c : Option ℕ). IfSome c (λ p. p < length h)) (sym f.is) f.kept.within
+
 mark_is : (base : Counters) (h : List Event) (marks : List IdMark) (m : IdMark) (above : Option ℕ) → IsLegal base h → IsNoted h m → AllByRecursion (IsMark h) marks → above ≡ closed_above marks m.parent
     → ((q : ℕ) → m.parent ≡ Some q → Has (mark_ids marks) q) → IsMark h (record m { closed = earlier m.closed above })
 mark_is base h marks m above legal i a is has_above = record {
   parent = i.parent;
   given = i.given;
+  within = subst (λ (o : Option ℕ). IfSome (earlier m.closed o) (λ q. q < length h)) (sym is)
+      (both_within (length h) m.closed (closed_above marks m.parent) i.closed_within (above_within h marks m.parent a has_above));
   runs = λ p l.
       has-filter (is_open (take p h)) (given (take p h)) m.id
       ∙ guarded (has (given (take p h)) m.id) (nat_lt m.given p) (is_open (take p h) m.id) (not (was_before (earlier m.closed above) p)) (i.given p l)

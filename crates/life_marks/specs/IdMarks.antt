@@ -30,6 +30,7 @@ runs_at m p = nat_lt m.given p && not (was_before m.closed p)
 pub record IsMark (h : List Event) (m : IdMark) : Type 0 where
   pub parent : m.parent ≡ parent_of h m.id
   pub given : (p : ℕ) → p ≤ length h → has (given (take p h)) m.id ≡ nat_lt m.given p
+  pub within : IfSome m.closed (λ q. q < length h)
   pub runs : (p : ℕ) → p ≤ length h → has (running (take p h)) m.id ≡ runs_at m p
 
 -- all ids that were given have marks, in their order

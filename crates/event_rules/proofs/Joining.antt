@@ -1,16 +1,15 @@
 -- The parts of an event's rule.
-use Rattle.std.proofs.Common.{◌≡◌, ◌↔◌, ℕ, zero, suc, ◌+◌, ◌<◌, ◌≤◌, ◌==◌, List, [], ◌∷◌, length, get_or, map, take, refl, ap, sym, subst, ◌∙◌, arith, Bool, true, false, Some, Option}
+use Rattle.std.proofs.Common.{◌≡◌, ◌↔◌, ℕ, zero, suc, ◌<◌, ◌==◌, List, [], ◌∷◌, length, get_or, map, take, refl, ap, sym, subst, ◌∙◌, arith, Bool, Some, Option}
 use Rattle.std.specs.Global.{Vec}
 use Rattle.std.specs.Prelude.{IsTrue}
 use Rattle.std.specs.List.{count_by, slice_get}
-use Rattle.std.proofs.lemmas.Bool.{false≢true}
 use Rattle.std.proofs.lemmas.Option.{same_Some}
 use Rattle.tx_events.specs.declared.event.By.{By}
 use Rattle.tx_events.specs.declared.event.Event.{Event}
 use Rattle.tx_events.specs.declared.multi.MultiEvent.{MultiEvent}
 use Rattle.tx_events.specs.Events.{by_of, events_of}
 use Rattle.tx_events.specs.Multis.{multi_by}
-use Rattle.own_events.specs.Lined.{Numbered, lines_from, number_of}
+use Rattle.own_events.specs.Lined.{Numbered, lines_from}
 use Rattle.report_law.specs.Events.{IsCommitLogged, StandsAt, lines_before}
 use Rattle.report_law.specs.Places.{IsNotLate}
 use Rattle.report_law.specs.Steps.{HasFirst, Judged, lines_of}
@@ -53,24 +52,6 @@ at_place (x ∷ xs) (suc n) d l = at_place xs n d (omega arith)
 
 read_is : {X : Type 0} (xs : List X) (n : ℕ) (x y : X) → n < length xs → x ≡ get_or xs n x → slice_get xs n ≡ Some y → x ≡ y
 read_is {X} xs n x y l is at = is ∙ same_Some (get_or xs n x) y (sym (at_place xs n x l) ∙ at)
-
-pub late_event : (j : Judged) (p : ℕ) (h : List Event) (ev e : Event) (by : By) → h ≡ j.life.events → slice_get h p ≡ Some e → p < length h → ev ≡ get_or h p ev → by ≡ by_of ev
-    → IsTrue false ↔ IsNotLate j.steps (map by_of (take p h)) by → IsTrue false ↔ IsItsEvent j p e
-late_event j p h ev e by is at l read by_is b =
-    let same = read_is h p ev e l read at in
-    let by_e : by ≡ by_of e = by_is ∙ ap (λ (x : Event). by_of x) same in (
-      λ y. absurd (false≢true y),
-      λ i. absurd (false≢true (b.1 (subst (λ (b : By). IsNotLate j.steps (map by_of (take p h)) b) (sym by_e) (subst (λ (t : List Event). IsNotLate j.steps (map by_of (take p t)) (by_of e)) (sym is) i.in_time)))),
-    )
-
-pub late_multi : (j : Judged) (p : ℕ) (h : List MultiEvent) (ev e : MultiEvent) (by : By) → h ≡ j.life.multis → slice_get h p ≡ Some e → p < length h → ev ≡ get_or h p ev → by ≡ multi_by ev
-    → IsTrue false ↔ IsNotLate j.steps (map multi_by (take p h)) by → IsTrue false ↔ IsItsMulti j p e
-late_multi j p h ev e by is at l read by_is b =
-    let same = read_is h p ev e l read at in
-    let by_e : by ≡ multi_by e = by_is ∙ ap (λ (x : MultiEvent). multi_by x) same in (
-      λ y. absurd (false≢true y),
-      λ i. absurd (false≢true (b.1 (subst (λ (b : By). IsNotLate j.steps (map multi_by (take p h)) b) (sym by_e) (subst (λ (t : List MultiEvent). IsNotLate j.steps (map multi_by (take p t)) (multi_by e)) (sym is) i.in_time)))),
-    )
 
 pub whole_event : (j : Judged) (p : ℕ) (order : AreLinesInOrder j) (h : List Event) (ev e : Event) (by : By) (own : Numbered) (told : List (Option (Vec Event))) (number rank : ℕ) (t : Bool)
     → h ≡ j.life.events → slice_get h p ≡ Some e → p < length h → ev ≡ get_or h p ev → by ≡ by_of ev → StandsAt j by → own ≡ events_in j

@@ -1,5 +1,5 @@
 -- Which events are of the first lines, by the numbers of their lines.
-use Rattle.std.proofs.Common.{◌≡◌, ◌↔◌, ℕ, suc, zero, ◌+◌, ◌<◌, ◌≤◌, List, [], ◌∷◌, length, map, take, refl, ap, sym, subst, ◌∙◌, arith, ⊎_elim, Bool, true, false, cond, not, nat_lt, ◌||◌}
+use Rattle.std.proofs.Common.{◌≡◌, ◌↔◌, ℕ, suc, zero, ◌+◌, ◌<◌, ◌≤◌, List, [], ◌∷◌, length, map, take, refl, ap, sym, subst, ◌∙◌, arith, Bool, true, false, cond, not, nat_lt, ◌||◌}
 use Rattle.std.specs.Prelude.{IsTrue}
 use Rattle.std.specs.List.{AllByRecursion, count_by, list_any}
 use Rattle.std.proofs.lemmas.Bool.Decides.{nat_tests}

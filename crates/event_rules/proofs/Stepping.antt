@@ -1,7 +1,7 @@
 -- The steps of commands, and that no event before is of a later one.
-use Rattle.std.proofs.Common.{◌≡◌, ◌↔◌, ℕ, suc, zero, ◌+◌, ◌<◌, ◌≤◌, List, [], ◌∷◌, ◌++◌, length, get_or, map, take, refl, ap, sym, subst, ◌∙◌, arith, ⊎_elim, Bool, true, false, cond, not, ◌||◌, Some, None, Option, unwrap_or, nat_le}
+use Rattle.std.proofs.Common.{◌≡◌, ◌↔◌, ℕ, suc, zero, ◌+◌, ◌≤◌, List, [], ◌∷◌, ◌++◌, get_or, map, take, refl, ap, sym, subst, ◌∙◌, arith, Bool, true, false, cond, not, ◌||◌, Some, None, Option, unwrap_or, nat_le}
 use Rattle.std.specs.Prelude.{IsTrue}
-use Rattle.std.specs.List.{AllByRecursion, flat_map, list_any, slice_get}
+use Rattle.std.specs.List.{AllByRecursion, list_any, slice_get}
 use Rattle.std.proofs.lemmas.Bool.Decides.{nat_tests}
 use Rattle.tx_events.specs.declared.event.By.{By}
 use Rattle.tx_events.specs.Events.{same_by}

@@ -1,5 +1,5 @@
 -- What is told of an event.
-use Rattle.std.proofs.Common.{◌≡◌, ◌↔◌, ℕ, suc, zero, ◌+◌, ◌<◌, ◌≤◌, ◌==◌, List, [], ◌∷◌, length, get_or, map, take, refl, ap, sym, subst, ◌∙◌, arith, Bool, true, false, cond, Some, None, Option}
+use Rattle.std.proofs.Common.{◌≡◌, ◌↔◌, ℕ, suc, zero, ◌+◌, ◌<◌, ◌≤◌, ◌==◌, List, [], ◌∷◌, length, get_or, map, take, refl, ap, sym, subst, ◌∙◌, arith, Bool, false, cond, Some, None, Option}
 use Rattle.std.specs.Global.{Vec}
 use Rattle.std.specs.List.{HoldsAt, count_by, filter, slice_get}
 use Rattle.std.specs.Prelude.{IsTrue}

@@ -1,9 +1,7 @@
-use Rattle.std.proofs.Common.{◌≡◌, ◌<◌, ◌≤◌, ◌∙◌, ap, length, nat_lt, true, false, Some, None, refl, arith}
+use Rattle.std.proofs.Common.{◌≡◌, ◌<◌, ◌≤◌, length, nat_lt, true, false, Some, None, refl, arith}
 use Rattle.std.specs.List.{slice_get}
 use Rattle.std.proofs.lemmas.Bool.Decides.{nat_tests}
 use Rattle.std.proofs.lemmas.Option.{slice_get_past, slice_get_read}
-use Rattle.own_events.specs.declared.lines.LineAt.{LineAt}
-use Rattle.own_events.specs.Lined.{number_of}
 use Rattle.event_rules.proofs.Stepping.{time_free, time_told, same_table}
 use Rattle.event_rules.proofs.both.is_in_time.Goals as goal
 

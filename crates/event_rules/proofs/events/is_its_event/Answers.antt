@@ -1,6 +1,5 @@
-use Rattle.std.proofs.Common.{refl, subst, sym}
-use Rattle.std.specs.Global.{Vec}
-use Rattle.event_rules.proofs.Joining.{late_event, whole_event}
+use Rattle.std.proofs.Common.{refl}
+use Rattle.event_rules.proofs.Joining.{whole_event}
 use Rattle.event_rules.proofs.events.is_its_event.Goals as goal
 
 pub returns : goal.returns

@@ -1,4 +1,4 @@
-use Rattle.std.proofs.Common.{◌≡◌, drop, length}
+use Rattle.std.proofs.Common.{◌≡◌, drop}
 use Rattle.event_rules.specs.Same.{same_members}
 use Rattle.event_rules.proofs.same.same_members.Given as goal
 

@@ -5,7 +5,7 @@ use Rattle.std.proofs.Math.Seq.{take-append_seam}
 use Rattle.disk_core.specs.declared.log_disk.Failed.{Failed}
 use Rattle.disk_core.specs.Pages.{Pages, page_bytes}
 use Rattle.slru_bank.specs.declared.buffer.Buffer.{Buffer}
-use Rattle.slru_bank.specs.Bank.{holds, buffered, map_of, Distinct, Agrees, AllAgree, FirstHolds, FirstIsClean, StaysUp, WroteHeld, Rearranged, PutsPage, FirstMayHold, AllClean, CleanUpTo, AllEmpty}
+use Rattle.slru_bank.specs.Bank.{holds, buffered, map_of, Distinct, Agrees, AllAgree, FirstHolds, FirstIsClean, StaysUp, WroteHeld, Rearranged, PutsPage, FirstMayHold, AllClean, CleanUpTo, AllEmpty, HasGrown}
 use Rattle.slru_bank.specs.Crash.{IsMixture, byte_at}
 
 pub same_order : (xs : List Buffer) → Distinct xs → Rearranged xs xs
@@ -354,3 +354,47 @@ clean_map pages (b ∷ bs) q clean agree = ⊎_elim
 -- what a call over the slice of a `Vec` leaves in it
 pub written_back : (n : ℕ) (xs ys : List Buffer) → length xs ≡ n → take n (xs ++ drop (length xs) ys) ≡ xs
 written_back n xs ys long = subst (λ (k : ℕ). take k (xs ++ drop (length xs) ys) ≡ xs) long (take-append_seam xs (drop (length xs) ys))
+
+-- one more buffer, without a page, behind the others
+pub grown : (bs : List Buffer) (b : Buffer) → b.page ≡ None → b.changed ≡ false → HasGrown bs (bs ++ b ∷ [])
+grown bs b none clean = record {
+  long = longer bs;
+  has = has bs;
+  map = λ pages q. map bs pages q;
+  distinct = distinct bs;
+  agree = λ pages a. agree bs pages a;
+  first = first bs;
+}
+  where
+    longer : (bs : List Buffer) → length bs ≤ length (bs ++ b ∷ [])
+    longer [] = omega arith
+    longer (x ∷ xs) = let l = longer xs in omega (arith, l)
+
+    not_it : (q : ℕ) → holds b.page q ≡ false
+    not_it q = ap (λ o. holds o q) none
+
+    has : (bs : List Buffer) (q : ℕ) → buffered (bs ++ b ∷ []) q ≡ buffered bs q
+    has [] q = ap (λ (t : Bool). cond t true false) (not_it q)
+    has (x ∷ xs) q = ap (λ (t : Bool). cond (holds x.page q) true t) (has xs q)
+
+    map : (bs : List Buffer) (pages : Pages) (q : ℕ) → map_of pages (bs ++ b ∷ []) q ≡ map_of pages bs q
+    map [] pages q = ap (λ (t : Bool). cond t b.bytes.value (page_bytes (pages q))) (not_it q)
+    map (x ∷ xs) pages q = ap (λ (l : List ℕ). cond (holds x.page q) x.bytes.value l) (map xs pages q)
+
+    none_some : (p : ℕ) → b.page ≡ Some p → ⊥
+    none_some p e = let z : None ≡ Some p = sym none ∙ e in absurd cc
+
+    distinct : (bs : List Buffer) → Distinct bs → Distinct (bs ++ b ∷ [])
+    distinct [] d = (λ p e. absurd (none_some p e), tt)
+    distinct (x ∷ xs) d = (λ p e. has xs p ∙ d.0 p e, distinct xs d.1)
+
+    agree : (bs : List Buffer) (pages : Pages) → AllAgree pages bs → AllAgree pages (bs ++ b ∷ [])
+    agree [] pages a = (λ clean p e. absurd (none_some p e), tt)
+    agree (x ∷ xs) pages a = (a.0, agree xs pages a.1)
+
+    first : (bs : List Buffer) (page : ℕ) → FirstHolds page bs → FirstHolds page (bs ++ b ∷ [])
+    first [] page h = absurd h
+    first (x ∷ xs) page h = h
+
+pub not_grown : (bs : List Buffer) → HasGrown bs bs
+not_grown bs = record { long = omega arith; has = λ q. refl; map = λ pages q. refl; distinct = λ d. d; agree = λ pages a. a; first = λ page h. h }

@@ -1,5 +1,5 @@
 -- A bank as a map of its pages. What a disk tells is given by the pages that it reads.
-use Rattle.std.specs.Prelude.{◌≡◌, ◌≢◌, ◌⊎◌, ℕ, zero, suc, ◌+◌, ◌<◌, Bool, true, false, ◌==◌, if◌then◌else◌, List, [], ◌∷◌, ◌++◌, length, slice_index, take, drop, bit_and, bit_or, ◌-◌, Option, Some, None}
+use Rattle.std.specs.Prelude.{◌≡◌, ◌≢◌, ◌⊎◌, ℕ, zero, suc, ◌+◌, ◌<◌, ◌≤◌, Bool, true, false, ◌==◌, if◌then◌else◌, List, [], ◌∷◌, ◌++◌, length, slice_index, take, drop, bit_and, bit_or, ◌-◌, Option, Some, None}
 use Rattle.std.proofs.Common.{ap, ◌∙◌}
 use Rattle.std.proofs.Props.{props}
 use Rattle.disk_core.specs.Pages.{Pages, page_bytes}
@@ -59,6 +59,15 @@ pub record Rearranged (old new : List Buffer) : Type 0 where
   pub map : (pages : Pages) (q : ℕ) → map_of pages new q ≡ map_of pages old q
   pub distinct : Distinct new
   pub agree : (pages : Pages) → AllAgree pages old → AllAgree pages new
+
+-- the same buffers, and behind them maybe one without a page
+pub record HasGrown (old new : List Buffer) : Type 0 where
+  pub long : length old ≤ length new
+  pub has : (q : ℕ) → buffered new q ≡ buffered old q
+  pub map : (pages : Pages) (q : ℕ) → map_of pages new q ≡ map_of pages old q
+  pub distinct : Distinct old → Distinct new
+  pub agree : (pages : Pages) → AllAgree pages old → AllAgree pages new
+  pub first : (page : ℕ) → FirstHolds page old → FirstHolds page new
 
 -- all but one page stay
 abbrev pub OthersStay : ℕ → (ℕ → List ℕ) → (ℕ → List ℕ) → Type 0

@@ -14,8 +14,8 @@ ghost use Rattle.slru_bank.specs.declared.refusal.BankRefusal.TheVariants.{Cut, 
 use crate::BankRefusal;
 use crate::buffer::Buffer;
 use crate::buffers::{
-    blank_first, clear_first, empty_buffers, make_page, put_first, read_first_bytes, set_first,
-    touch, write_pages,
+    blank_first, clear_first, first_buffer, grow, make_page, put_first, read_first_bytes,
+    set_first, touch, write_pages,
 };
 use crate::removal::{Removal, blank_removed, empty_removed, later_of, lies_before, remove_pages};
 use disk_core::{Failed, Memory, PageDisk};
@@ -33,9 +33,9 @@ pub struct SlruBank<P: PageDisk, O: PageRule> {
     last: u32,
     /// Segments wholly before it are cut.
     cutoff: u32,
-    /// The one used last first.
+    /// The one used last first; up to 16, each made when a page first comes into it (a server makes all at its start).
     buffers: Vec<Buffer>,
-    ghost sixteen: { length buffers.items ≡ 16 },
+    ghost some: { 1 ≤ length buffers.items },
     ghost distinct: { Distinct buffers.items } by { Distinct-prop buffers.items },
     ghost agree: { IsTrue P.tells → AllAgree (P.pages disk) buffers.items } by { Prim.hlevel (props, AllAgree-prop) },
 }
@@ -55,6 +55,7 @@ impl<P: PageDisk, O: PageRule> SlruBank<P, O> {
         ensures others { IsTrue P.tells → (q : ℕ) → buffered self.old.buffers.items q ≡ false → P.pages (volume_of self.new) q ≡ P.pages (volume_of self.old) q }
         ensures crash { CrashKeeps self.old self.new }
     {
+        grow(&mut self.buffers, page);
         touch(&mut self.disk, &mut self.buffers, page)
     }
 
@@ -137,6 +138,7 @@ impl<P: PageDisk, O: PageRule> SlruBank<P, O> {
         if !O::precedes(self.last, page) {
             return Ok(());
         }
+        grow(&mut self.buffers, page);
         make_page(&mut self.disk, &mut self.buffers, page)?;
         blank_first(&mut self.buffers, page);
         self.last = page;
@@ -245,7 +247,7 @@ impl<P: PageDisk + Drop, O: PageRule> SlruBank<P, O> {
         ensures map { IfOk result (λ b. SameMap (λ q. page_bytes (P.pages disk q)) (pages_of b)) }
         ensures err { IfErr result (λ e. e.0 ≡ disk) }
     {
-        match empty_buffers(alloc) {
+        match first_buffer(alloc) {
             Ok(buffers) => Ok(SlruBank {
                 disk,
                 rule: PhantomData,

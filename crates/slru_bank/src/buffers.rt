@@ -2,7 +2,7 @@
 ghost use Rattle.std.specs.Prelude.{◌≡◌, ℕ, ◌+◌, ◌<◌, ◌≤◌, Bool, true, false, List, ◌∷◌, take, drop, slice_index, slice_set, ◌-◌, bit_and, bit_or, length, get_or, remove, OnOk, OnErr, IsOk, IsTrue, Some, None, IfSome, IfNone, is_some, IfOk};
 ghost use Rattle.disk_core.specs.Faults.{CountsFault};
 ghost use Rattle.disk_core.specs.Pages.{Pages, page_bytes, zero_page};
-ghost use Rattle.slru_bank.specs.Bank.{buffered, map_of, Distinct, AllAgree, FirstHolds, FirstIsClean, StaysUp, Rearranged, PutsPage, masked, placed, FirstMayHold, AllClean, CleanUpTo, AllEmpty, IsPage};
+ghost use Rattle.slru_bank.specs.Bank.{HasGrown, buffered, map_of, Distinct, AllAgree, FirstHolds, FirstIsClean, StaysUp, Rearranged, PutsPage, masked, placed, FirstMayHold, AllClean, CleanUpTo, AllEmpty, IsPage};
 ghost use Rattle.slru_bank.specs.Crash.{CrashLeaves, IsMixture};
 ghost use Rattle.slru_bank.specs.Removal.{cleared_from};
 ghost use Rattle.slru_bank.specs.declared.buffer.Buffer.{Buffer as AnyBuffer};
@@ -277,18 +277,52 @@ pub(crate) fn write_pages<P: PageDisk>(
     write_all(disk, buffers)
 }
 
+// A buffer without a page.
+fn empty_buffer(alloc: Global) -> Result<Buffer, AllocError>
+    ensures page { IfOk result (λ b. b.page ≡ None) }
+    ensures clean { IfOk result (λ b. b.changed ≡ false) }
+{
+    Ok(Buffer {
+        page: None,
+        changed: false,
+        bytes: Box::new(alloc, [0; 8192])?,
+    })
+}
+
+// The first buffer of a bank. Further ones are made when pages come that it has no room for.
 #[tactic(auto, using(crate::proofs::BufferLists::empty_push))]
-pub(crate) fn empty_buffers(alloc: Global) -> Result<Vec<Buffer>, AllocError>
-    ensures count { IfOk result (λ v. length v.items ≡ 16) }
+pub(crate) fn first_buffer(alloc: Global) -> Result<Vec<Buffer>, AllocError>
+    ensures some { IfOk result (λ v. 1 ≤ length v.items) }
     ensures empty { IfOk result (λ v. AllEmpty v.items) }
 {
     let mut buffers = Vec::new(alloc);
-    while buffers.len() < 16 {
-        buffers.push(Buffer {
-            page: None,
-            changed: false,
-            bytes: Box::new(alloc, [0; 8192])?,
-        })?;
-    }
+    buffers.push(empty_buffer(alloc)?)?;
     Ok(buffers)
+}
+
+fn add_buffer(buffers: &mut Vec<Buffer>, buffer: Buffer)
+    requires page { buffer.page ≡ None }
+    requires clean { buffer.changed ≡ false }
+    ensures { HasGrown buffers.old.items buffers.new.items }
+{
+    match buffers.push(buffer) {
+        Ok(()) => {}
+        Err(_) => {}
+    }
+}
+
+// Makes one buffer more for a page that none has, as long as there are fewer than 16 and each has a page. Where there is no
+// memory for it, those that there are do.
+pub(crate) fn grow(buffers: &mut Vec<Buffer>, page: u32)
+    requires some { 1 ≤ length buffers.old.items }
+    ensures { HasGrown buffers.old.items buffers.new.items }
+{
+    let count = buffers.len();
+    if count >= 16 || buffers[count - 1].page.is_none() || place_of(buffers, page).is_some() {
+        return;
+    }
+    let alloc = *buffers.allocator();
+    if let Ok(buffer) = empty_buffer(alloc) {
+        add_buffer(buffers, buffer);
+    }
 }

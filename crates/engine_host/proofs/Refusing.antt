@@ -1,23 +1,18 @@
 -- Why no engine was opened, and what its volumes are then.
-use Rattle.std.proofs.Common.{Box, Global, ℕ, zero, suc, ◌≡◌, ◌≢◌, ◌⊎◌, ◌+◌, ◌<◌, ◌≤◌, ◌++◌, ◌∷◌, [], ◌∙◌, ⊎_elim, Bool, IsNone, IsSome, IsTrue, List, None, Ok, Err, Option, Some, ap, append-nil, append_assoc, arith, drop, false, length, length-append, refl, remove, subst, sym, true}
+use Rattle.std.proofs.Common.{Box, Global, ℕ, zero, suc, ◌≡◌, ◌≢◌, ◌⊎◌, ◌+◌, ◌<◌, ◌≤◌, ◌++◌, ◌∷◌, [], ◌∙◌, ⊎_elim, List, None, Option, Some, ap, append-nil, append_assoc, arith, drop, length, length-append, refl, remove, subst, sym}
 use Rattle.std.proofs.lemmas.List.Elements.{filter_map-append}
 use Rattle.std.specs.List.{cons_option, filter_map, slice_get, slice_index_or}
 use Rattle.disk_core.specs.Faults.{HasRisen}
-use Rattle.disk_core.specs.Volume.{Volume}
 use Rattle.disk_core.specs.declared.log_disk.LogDisk as logs
 use Rattle.disk_core.specs.declared.page_disk.PageDisk as disks
-use Rattle.tx_core.proofs.FaultCounts.{risen_past}
-use Rattle.tx_events.specs.declared.record.Counters.{Counters}
 use Rattle.tx_events.specs.declared.record.Rec.{Rec}
 use Rattle.tx_events.specs.declared.record.Rec.TheVariants as records
 use Rattle.tx_events.specs.declared.refusal.Lock.TheVariants as locks
 use Rattle.wal_core.specs.declared.refusal.LogRefusal.{LogRefusal}
 use Rattle.wal_core.specs.declared.refusal.LogRefusal.TheVariants as log_refusals
 use Rattle.wal_core.specs.declared.wal_log.WalLog.{WalLog}
-use Rattle.wal_core.specs.Log.{IsFull, bytes_of, history_in, history_on}
-use Rattle.wal_core.specs.LogContents.{history_with}
+use Rattle.wal_core.specs.Log.{IsFull, bytes_of}
 use Rattle.wal_core.specs.LogViews.{log_disk, log_down, log_end, log_pending, log_recs}
-use Rattle.wal_core.specs.Opening.{opened}
 use Rattle.wal_records.specs.Spelling.{rec_bytes}
 use Rattle.proc_table.specs.Table.{Table}
 use Rattle.tx_core.specs.declared.entry.Entry.{Entry}
@@ -30,7 +25,7 @@ use Rattle.recoverable.specs.declared.cluster.ClusterVolumes.{ClusterVolumes}
 use Rattle.recoverable.specs.Clusters.{HasFailedAt}
 use Rattle.engine_host.specs.declared.refusal.OpenRefusal.{OpenRefusal}
 use Rattle.engine_host.specs.declared.refusal.OpenRefusal.TheVariants as refusals
-use Rattle.engine_host.specs.Refused.{AreInPlace, HaveDisks, IsBankRefusal, IsBeginRefusal, IsRefusal, IsStartRefusal, OpensEmpty, refusal_by, subtrans_disk, subtrans_disks, xact_disk, xact_disks}
+use Rattle.engine_host.specs.Refused.{AreInPlace, HaveDisks, IsBankRefusal, IsBeginRefusal, IsRefusal, refusal_by, subtrans_disk, subtrans_disks, xact_disk, xact_disks}
 
 -- ---- what was popped, or is put at the end
 
@@ -138,29 +133,6 @@ drop_next (suc n) (x ∷ xs) = drop_next n xs
 
 -- ---- the log
 
-pub old_history : (v : Volume) (first gate : ℕ) (recs : List Rec) (counters : Option Counters) (b : Bool)
-    → opened v ≡ Ok (record { history = history_with first recs counters; gate = gate })
-    → ((IsTrue b → IsNone counters) × (IsNone counters → IsTrue b)) → b ≡ false → IsSome (history_on v)
-old_history v first gate recs None b e new old = let z : false ≡ true = sym old ∙ new.1 refl in absurd cc
-old_history v first gate recs (Some c) b e new old = subst IsSome (sym (ap history_in e)) refl
-
-pub new_history : (v : Volume) (first gate : ℕ) (recs : List Rec) (counters : Option Counters) (b : Bool)
-    → opened v ≡ Ok (record { history = history_with first recs counters; gate = gate })
-    → ((IsTrue b → IsNone counters) × (IsNone counters → IsTrue b)) → b ≡ true
-    → opened v ≡ Ok (record { history = None; gate = gate })
-new_history v first gate recs None b e new is = e
-new_history v first gate recs (Some c) b e new is = let none : IsNone (Some c) = new.0 is in absurd cc
-
-pub start_refused : {D : Type 0} (g : logs.Ghosts D) (old new : D) (r : LogRefusal) (told : OpenRefusal) → told ≡ refusal_by r
-    → (IsTrue g.tells → (at : ℕ) → r ≡ log_refusals.Damaged at → opened (g.reads old) ≡ Err at)
-    → (r ≡ log_refusals.LogFault → HasRisen (g.faults old) (g.faults new))
-    → (r ≢ log_refusals.Full) × ((at : ℕ) → r ≢ log_refusals.LogDown at) → IsStartRefusal g old new told
-start_refused g old new (log_refusals.Damaged at) told is damaged fault others = subst (IsStartRefusal g old new) (sym is) (λ t. damaged t at refl)
-start_refused g old new log_refusals.LogFault told is damaged fault others = subst (IsStartRefusal g old new) (sym is) (fault refl)
-start_refused g old new (log_refusals.LogDown at) told is damaged fault others = absurd (others.1 at refl)
-start_refused g old new log_refusals.Full told is damaged fault others = absurd (others.0 refl)
-start_refused g old new log_refusals.Memory told is damaged fault others = subst (IsStartRefusal g old new) (sym is) tt
-
 drop_none : {X : Type 0} (n : ℕ) → drop {A = X} n [] ≡ []
 drop_none zero = refl
 drop_none (suc n) = refl
@@ -262,32 +234,27 @@ module _ {L P : Type 0} {l : logs.Ghosts L} {p : disks.Ghosts P} where
       is_there (parts.Subtrans store) k none = absurd (omega (arith, k.2.1))
       is_there parts.Vacant k none = k.2.proc refl
 
-  pub from_bank : (c : Cluster) (old new : ClusterVolumes L P) (bank : ℕ) (rest : List (Part L P l p)) (xs ys : List P) (r : OpenRefusal)
-      → HaveDisks bank rest → IsBankRefusal p bank (drop bank old.xact.items) xs (drop bank old.subtrans.items) ys r
-      → new.xact.items ≡ xact_disks rest ++ xs → new.subtrans.items ≡ subtrans_disks rest ++ ys → IsRefusal l p c old new r
-  from_bank c old new bank rest xs ys (refusals.Damaged at) have k x y = absurd k
-  from_bank c old new bank rest xs ys refusals.NotNew have k x y = absurd k
-  from_bank c old new bank rest xs ys refusals.LogFault have k x y = absurd k
-  from_bank c old new bank rest xs ys (refusals.DiskFault locks.Log) have k x y = absurd k
-  from_bank c old new bank rest xs ys (refusals.DiskFault locks.Proc) have k x y = absurd k
-  from_bank c old new bank rest xs ys (refusals.DiskFault locks.Multi) have k x y = absurd k
-  from_bank c old new bank rest xs ys (refusals.DiskFault (locks.Xact b)) have k x y =
-      failed_behind p bank b old.xact.items (xact_disks rest) xs new.xact.items k.0 have.xact x k.1
-  from_bank c old new bank rest xs ys (refusals.DiskFault (locks.Subtrans b)) have k x y =
-      failed_behind p bank b old.subtrans.items (subtrans_disks rest) ys new.subtrans.items k.0 have.subtrans y k.1
-  from_bank c old new bank rest xs ys (refusals.DiskFault (locks.Offsets b)) have k x y = absurd k
-  from_bank c old new bank rest xs ys (refusals.DiskFault (locks.Members b)) have k x y = absurd k
-  from_bank c old new bank rest xs ys refusals.Full have k x y = absurd k
-  from_bank c old new bank rest xs ys refusals.Memory have k x y = tt
+  pub from_bank : (c : Cluster) (log : WalLog L l) (old_xact old_subtrans : List P) (new : ClusterVolumes L P) (bank : ℕ) (rest : List (Part L P l p)) (xs ys : List P) (r : OpenRefusal)
+      → HaveDisks bank rest → IsBankRefusal p bank (drop bank old_xact) xs (drop bank old_subtrans) ys r
+      → new.xact.items ≡ xact_disks rest ++ xs → new.subtrans.items ≡ subtrans_disks rest ++ ys → IsRefusal p c log old_xact old_subtrans new r
+  from_bank c log old_xact old_subtrans new bank rest xs ys refusals.LogFault have k x y = absurd k
+  from_bank c log old_xact old_subtrans new bank rest xs ys (refusals.DiskFault locks.Log) have k x y = absurd k
+  from_bank c log old_xact old_subtrans new bank rest xs ys (refusals.DiskFault locks.Proc) have k x y = absurd k
+  from_bank c log old_xact old_subtrans new bank rest xs ys (refusals.DiskFault locks.Multi) have k x y = absurd k
+  from_bank c log old_xact old_subtrans new bank rest xs ys (refusals.DiskFault (locks.Xact b)) have k x y =
+      failed_behind p bank b old_xact (xact_disks rest) xs new.xact.items k.0 have.xact x k.1
+  from_bank c log old_xact old_subtrans new bank rest xs ys (refusals.DiskFault (locks.Subtrans b)) have k x y =
+      failed_behind p bank b old_subtrans (subtrans_disks rest) ys new.subtrans.items k.0 have.subtrans y k.1
+  from_bank c log old_xact old_subtrans new bank rest xs ys (refusals.DiskFault (locks.Offsets b)) have k x y = absurd k
+  from_bank c log old_xact old_subtrans new bank rest xs ys (refusals.DiskFault (locks.Members b)) have k x y = absurd k
+  from_bank c log old_xact old_subtrans new bank rest xs ys refusals.Full have k x y = absurd k
+  from_bank c log old_xact old_subtrans new bank rest xs ys refusals.Memory have k x y = tt
 
 module _ {L P : Type 0} {l : logs.Ghosts L} (p : disks.Ghosts P) where
-  pub from_begin : (c : Cluster) (old new : ClusterVolumes L P) (log log' : WalLog L l) (r : OpenRefusal)
-      → OpensEmpty l old.log (log_end log) → l.faults old.log ≤ l.faults (log_disk log) → new.log ≡ log_disk log'
-      → IsBeginRefusal c log log' r → IsRefusal l p c old new r
-  from_begin c old new log log' (refusals.Damaged at) opens count back k = absurd k
-  from_begin c old new log log' refusals.NotNew opens count back k = absurd k
-  from_begin c old new log log' refusals.LogFault opens count back k =
-      subst (λ (d : L). HasRisen (l.faults old.log) (l.faults d)) (sym back) (risen_past (l.faults old.log) (l.faults (log_disk log)) (l.faults (log_disk log')) count k)
-  from_begin c old new log log' (refusals.DiskFault lock) opens count back k = absurd k
-  from_begin c old new log log' refusals.Full opens count back k = (log_end log, opens, k)
-  from_begin c old new log log' refusals.Memory opens count back k = tt
+  pub from_begin : (c : Cluster) (log log' : WalLog L l) (xact subtrans : List P) (new : ClusterVolumes L P) (r : OpenRefusal)
+      → new.log ≡ log_disk log' → IsBeginRefusal c log log' r → IsRefusal p c log xact subtrans new r
+  from_begin c log log' xact subtrans new refusals.LogFault back k =
+      subst (λ (d : L). HasRisen (l.faults (log_disk log)) (l.faults d)) (sym back) k
+  from_begin c log log' xact subtrans new (refusals.DiskFault lock) back k = absurd k
+  from_begin c log log' xact subtrans new refusals.Full back k = k
+  from_begin c log log' xact subtrans new refusals.Memory back k = tt

@@ -5,3 +5,4 @@ mod Reopened
 mod GoingOn
 mod LogEnds
 mod Fitting
+mod Finding

@@ -63,11 +63,11 @@ state_small bytes place = bits_small (slice_index bytes (place / 4)) (place % 4)
 
 module _ {L P : Type 0} (l : logs.Ghosts L) (p : disks.Ghosts P) where
   -- what reads give of the volumes: a crash may leave just that
-  abbrev pages_read : Option P → Pages
+  abbrev pub pages_read : Option P → Pages
   pages_read None = λ q. None
   pages_read (Some disk) = p.pages disk
 
-  abbrev as_read : L → List P → Left
+  abbrev pub as_read : L → List P → Left
   as_read log xact = record {
     log = l.reads log;
     xact = λ bank. pages_read (slice_get xact bank);
@@ -75,7 +75,7 @@ module _ {L P : Type 0} (l : logs.Ghosts L) (p : disks.Ghosts P) where
     members = λ bank q. None;
   }
 
-  left_as_read : (log : L) (xact : List P) → l.images log (l.reads log) → ((disk : P) → p.images disk (p.pages disk)) → IsLeft l p log xact (as_read log xact)
+  pub left_as_read : (log : L) (xact : List P) → l.images log (l.reads log) → ((disk : P) → p.images disk (p.pages disk)) → IsLeft l p log xact (as_read log xact)
   left_as_read log xact reads each = record {
     log_image = reads;
     states = λ bank disk at. subst (λ (o : Option P). p.images disk (pages_read o)) (sym at) (each disk);

@@ -21,7 +21,7 @@ use Rattle.engine_life.specs.declared.life.OpenLife.{OpenLife}
 use Rattle.engine_life.specs.declared.refusal.NotReopened.{NotReopened}
 use Rattle.engine_life.specs.declared.refusal.NotReopened.TheVariants as not_reopened
 use Rattle.engine_life.specs.Lives.{IsBegun, LeaveMultis}
-use Rattle.engine_life.specs.Reopening.{IsBaseAt, behind}
+use Rattle.engine_life.specs.Reopening.{IsBaseAt, OpensUpTo, behind}
 
 -- the volumes of the engine among those of a media
 abbrev pub cluster_volumes : {L P : Type 0} → Volumes L P → ClusterVolumes L P
@@ -59,7 +59,8 @@ module _ {L P : Type 0} (l : logs.Ghosts L) (p : disks.Ghosts P) where
 
 module _ {L P : Type 0} {l : logs.Ghosts L} {p : disks.Ghosts P} where
   -- The life goes on over these volumes. Where they tell what they hold, and so fit this log, it goes on from the base at a
-  -- number of the log, from the flushed one to its end; where they don't, nothing is known of what was before. It begins at
+  -- number of the log, from the flushed one to its end; where they don't, nothing is known of what was before. That number
+  -- is the one behind the last record to which the log's volume opens, if this tells what it holds. The life begins at
   -- counts of faults that aren't below those of the volumes, and has set those of the multixacts' stores aside.
   pub record GoesOnLife (kept : KeptLog) (sessions : ℕ) (volumes : Volumes L P) (life : OpenLife L P l p) : Type 0 where
     pub number : ℕ
@@ -67,6 +68,7 @@ module _ {L P : Type 0} {l : logs.Ghosts L} {p : disks.Ghosts P} where
     pub banks : cluster.banks ≡ length volumes.xact.items
     pub sessions_are : cluster.sessions ≡ sessions
     pub base : IsTrue p.tells → IsBaseAt kept number cluster.base
+    pub opened_to : IsTrue l.tells → OpensUpTo number cluster.base (l.reads volumes.log)
     pub faults : List ℕ
     pub counted : AreCounted l p volumes.log volumes.xact.items volumes.subtrans.items faults
     pub begun : IsBegun cluster (life_from cluster (behind p.tells kept number) faults) life

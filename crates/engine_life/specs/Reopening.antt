@@ -1,9 +1,11 @@
 -- A life that goes on from a log.
-use Rattle.std.specs.Prelude.{◌≡◌, ℕ, ◌≤◌, Bool, List, [], cond}
+use Rattle.std.specs.Prelude.{◌≡◌, ℕ, ◌≤◌, Bool, List, Ok, Some, [], cond}
+use Rattle.disk_core.specs.Volume.{Volume}
 use Rattle.disk_core.specs.declared.log_disk.LogDisk as logs
 use Rattle.tx_events.specs.declared.record.Counters.{Counters}
 use Rattle.tx_events.specs.declared.record.Rec.{Rec}
 use Rattle.wal_core.specs.LogViews.{KeepsAll}
+use Rattle.wal_core.specs.Opening.{History, next_number, opened}
 use Rattle.wal_core.specs.declared.wal_log.WalLog.{WalLog}
 use Rattle.engine_parts.specs.Stand.{GivesStart}
 use Rattle.recoverable.specs.Fit.{KeptLog, base_at, log_end}
@@ -32,3 +34,11 @@ pub record IsBaseAt (kept : KeptLog) (number : ℕ) (counters : Counters) : Type
   pub flushed : kept.flushed ≤ number
   pub upto : number ≤ log_end kept
   pub counters_are : (base_at kept number).counters ≡ counters
+
+-- the log opens to the records below this number, and these are the counters behind them
+pub record OpensUpTo (number : ℕ) (counters : Counters) (v : Volume) : Type 0 where
+  pub history : History
+  pub gate : ℕ
+  pub opens : opened v ≡ Ok (record { history = Some history; gate = gate })
+  pub next : next_number history ≡ number
+  pub counters_are : history.counters ≡ counters

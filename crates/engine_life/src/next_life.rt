@@ -4,38 +4,17 @@ ghost use Rattle.disk_core.specs.Media.{HasBanks};
 ghost use Rattle.disk_core.specs.declared.media.Volumes.{Volumes as Mounted};
 ghost use Rattle.recoverable.specs.Fit.{KeptLog};
 ghost use Rattle.replay_core.specs.Refused.{IsRefusal};
-ghost use Rattle.replay_core.specs.declared.refusal.RecoverRefusal.TheVariants as refusals;
-ghost use Rattle.engine_host.specs.Opening.{AreParts};
-ghost use Rattle.engine_life.specs.Lives.{IsBegun, LeaveMultis};
+ghost use Rattle.engine_life.specs.Lives.{LeaveMultis};
 ghost use Rattle.engine_life.specs.NextLives.{GoesOnLife, IsNotReopened, MayGoOn, StayFit, WhenRefused, cluster_volumes};
 
+use crate::begun::{new_room, together};
 use crate::life::{Aside, OpenLife};
-use crate::old_parts::open_old;
-use crate::opened::{begin_life, new_room, together};
+use crate::old_life::begin_old;
 use crate::refusal::NotReopened;
 use disk_core::{LogDisk, Media, MountRefusal, PageDisk, Volumes};
-use engine_host::Parts;
 use recoverable::ClusterVolumes;
-use replay_core::RecoverRefusal;
+use replay_core::{FoundLog, RecoverRefusal, find_log};
 use std::alloc::Global;
-
-// Makes the lock table over parts of which the log was recovered.
-fn begin_next<L: LogDisk + Drop, P: PageDisk + Drop>(
-    alloc: Global,
-    parts: Parts<L, P>,
-    aside: Aside<P>,
-) -> Result<OpenLife<L, P>, (Volumes<L, P>, RecoverRefusal)>
-    requires parts { AreParts parts }
-    ensures life { IfOk result (λ life. IsBegun parts.cluster parts.start.value life) }
-    ensures aside { IfOk result (λ life. (life.aside.offsets ≡ aside.offsets) × (life.aside.members ≡ aside.members)) }
-    ensures refused { IfErr result (λ e. e.1 ≡ refusals.Memory) }
-    ensures back { IfErr result (λ e. (e.0.offsets ≡ aside.offsets) × (e.0.members ≡ aside.members)) }
-{
-    match begin_life(alloc, parts, aside) {
-        Ok(life) => Ok(life),
-        Err((volumes, _)) => Err((volumes, RecoverRefusal::Memory)),
-    }
-}
 
 // Goes on over mounted volumes. After an error these come back.
 fn reopen_over<L: LogDisk + Drop, P: PageDisk + Drop>(
@@ -71,14 +50,27 @@ fn reopen_over<L: LogDisk + Drop, P: PageDisk + Drop>(
         xact: xact_room,
         subtrans: subtrans_room,
     };
-    let volumes = ClusterVolumes {
-        log,
-        xact,
-        subtrans,
+    let found = match find_log(alloc, log) {
+        Ok(found) => found,
+        Err((log, refusal)) => {
+            let volumes = ClusterVolumes {
+                log,
+                xact,
+                subtrans,
+            };
+            return Err((together(volumes, aside), refusal));
+        }
     };
-    match open_old(alloc, volumes, sessions) {
-        Ok(parts) => begin_next(alloc, parts, aside),
-        Err((volumes, refusal)) => Err((together(volumes, aside), refusal)),
+    match found {
+        FoundLog::New(log) => {
+            let volumes = ClusterVolumes {
+                log: log.into_disk(),
+                xact,
+                subtrans,
+            };
+            Err((together(volumes, aside), RecoverRefusal::NoRecord))
+        }
+        FoundLog::Old(found) => begin_old(alloc, found, xact, subtrans, aside, sessions),
     }
 }
 

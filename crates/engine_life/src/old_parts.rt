@@ -1,10 +1,11 @@
 //! The parts of an engine over a cluster in which a life ran before.
-ghost use Rattle.std.specs.Prelude.{◌≡◌, ◌≤◌, ℕ, [], false, IfErr, IfOk, IsTrue, length};
+ghost use Rattle.std.specs.Prelude.{◌≡◌, ◌≤◌, [], false, IfErr, IfOk, IsTrue, length};
 ghost use Rattle.recoverable.specs.Fit.{KeptLog};
 ghost use Rattle.recoverable.specs.Whole.{BeganRight};
-ghost use Rattle.wal_core.specs.LogViews.{log_disk};
+ghost use Rattle.wal_core.specs.LogViews.{log_disk, log_next};
 ghost use Rattle.replay_core.specs.Begun.{IsSettled};
-ghost use Rattle.replay_core.specs.Refused.{IsRefusal};
+ghost use Rattle.replay_core.specs.Opened.{IsFound};
+ghost use Rattle.replay_core.specs.Refused.{IsRefusal, volumes_of};
 ghost use Rattle.recoverable.specs.Clusters.{Fit};
 ghost use Rattle.replay_core.specs.Volumes.{LeavesFit};
 ghost use Rattle.replay_core.specs.declared.refusal.RecoverRefusal.TheVariants as refusals;
@@ -13,11 +14,11 @@ ghost use Rattle.engine_host.specs.Counted.{AreCounted};
 ghost use Rattle.engine_host.specs.Opening.{AllOnDisk, AllShowNothing, AllShowStates, AreParts, Beginning, life_from, new_life};
 ghost use Rattle.engine_life.specs.Reopening.{IsBaseAt, KeepsStart, behind, cluster_over};
 
-use crate::opened::is_full_multi;
+use crate::begun::is_full_multi;
 use disk_core::{LogDisk, PageDisk};
 use engine_host::{Cluster, Parts, open_begun};
 use recoverable::ClusterVolumes;
-use replay_core::{RecoverRefusal, Recovered, recover};
+use replay_core::{Found, RecoverRefusal, Recovered, recover};
 use std::alloc::Global;
 
 // The parts over what a recovery left. Only memory may be wanting; the volumes come back then.
@@ -64,38 +65,42 @@ fn open_recovered<L: LogDisk + Drop, P: PageDisk + Drop>(
     }
 }
 
-/// Recovers a cluster and makes its parts (`StartupXLOG` of `xlog.c`, `StartupCLOG` of `clog.c`, `StartupSUBTRANS` of
-/// `subtrans.c`). There is one volume of pg_xact and one of pg_subtrans for each bank, 1 to 16, and there may be so many
-/// sessions, at most 64.
+/// Recovers a cluster of which the log was found on a volume, and makes its parts (`StartupXLOG` of `xlog.c`,
+/// `StartupCLOG` of `clog.c`, `StartupSUBTRANS` of `subtrans.c`). There is one volume of pg_xact and one of pg_subtrans for
+/// each bank, 1 to 16, and there may be so many sessions, at most 64.
 ///
-/// The volumes fit a log, which contracts alone see. The parts stand for lists without entries, in a life that goes on
-/// from the base at a number of that log, from the flushed one to its end: so what was committed below that number is
-/// committed. Of volumes that don't tell what they hold, nothing is known to be committed.
+/// Where the pages tell what they hold, the volumes fit a log, which contracts alone see. The parts stand for lists without
+/// entries, in a life that goes on behind the last record that was found: from the base at its next number, which is one
+/// from the flushed number of that log to its end. So what was committed below it is committed. Of volumes that don't tell
+/// what they hold, nothing is known to be committed.
 pub fn open_old<L: LogDisk + Drop, P: PageDisk + Drop>(
     alloc: Global,
-    volumes: ClusterVolumes<L, P>,
+    found: Found<L>,
+    xact: Vec<P>,
+    subtrans: Vec<P>,
     sessions: u32,
 ) -> Result<Parts<L, P>, (ClusterVolumes<L, P>, RecoverRefusal)>
     ghost kept: { KeptLog }
-    requires some { 1 ≤ length volumes.xact.items }
-    requires few { length volumes.xact.items ≤ 16 }
-    requires as_many { length volumes.subtrans.items ≡ length volumes.xact.items }
+    requires some { 1 ≤ length xact.items }
+    requires few { length xact.items ≤ 16 }
+    requires as_many { length subtrans.items ≡ length xact.items }
     requires sessions { sessions ≤ 64 }
-    requires fits { IsTrue P.tells → IsTrue L.tells × Fit L.LogDisk P.PageDisk kept volumes.log volumes.xact.items }
-    ensures cluster { IfOk result (λ parts. (parts.cluster.banks ≡ length volumes.xact.items) × (parts.cluster.sessions ≡ sessions)) }
+    requires fits { (volume : L) × IsFound volume found
+        × (IsTrue P.tells → IsTrue L.tells × Fit L.LogDisk P.PageDisk kept volume xact.items) }
+    ensures cluster { IfOk result (λ parts. (parts.cluster.banks ≡ length xact.items) × (parts.cluster.sessions ≡ sessions)) }
     ensures parts { IfOk result (λ parts. AreParts parts) }
-    ensures start { IfOk result (λ parts. (number : ℕ)
-        × (parts.start.value ≡ new_life parts.cluster (behind P.tells kept number) parts.locks.items)
-        × (IsTrue P.tells → IsBaseAt kept number parts.cluster.base)) }
-    ensures counted { IfOk result (λ parts. AreCounted L.LogDisk P.PageDisk volumes.log volumes.xact.items
-        volumes.subtrans.items parts.start.value.faults) }
+    ensures start { IfOk result (λ parts. (parts.start.value ≡ new_life parts.cluster (behind P.tells kept (log_next found.log)) parts.locks.items)
+        × (parts.cluster.base ≡ found.base) × (IsTrue P.tells → IsBaseAt kept (log_next found.log) parts.cluster.base)) }
+    ensures counted { (volume : L) → IsFound volume found → IfOk result (λ parts. AreCounted L.LogDisk P.PageDisk volume
+        xact.items subtrans.items parts.start.value.faults) }
     // That is a base from which a life may start, so the laws on its volumes hold of it (`recoverable`).
     ensures right { IsTrue P.tells → IfOk result (λ parts. BeganRight parts.start.value) }
     // After an error the volumes fit what a later recovery may go on from.
-    ensures again { IsTrue P.tells → IfErr result (λ e. LeavesFit L.LogDisk P.PageDisk volumes.xact.items e.0.log e.0.xact.items kept) }
-    ensures refused { IfErr result (λ e. IsRefusal L.LogDisk P.PageDisk volumes e.0 e.1) }
+    ensures again { IsTrue P.tells → IfErr result (λ e. LeavesFit L.LogDisk P.PageDisk xact.items e.0.log e.0.xact.items kept) }
+    ensures refused { (volume : L) → IsFound volume found
+        → IfErr result (λ e. IsRefusal L.LogDisk P.PageDisk (volumes_of volume xact subtrans) e.0 e.1) }
 {
-    match recover(alloc, volumes) {
+    match recover(alloc, found, xact, subtrans) {
         Ok(recovered) => {
             is_full_multi(&recovered.base);
             open_recovered(alloc, recovered, sessions)

@@ -10,7 +10,7 @@ mod BankRows
 mod Multis
 mod Absent
 mod LaterLogs
-mod Joining
+pub mod Joining
 mod Settling
 mod Prefixed
 mod Openings

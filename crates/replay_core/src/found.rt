@@ -1,8 +1,7 @@
-// The log of a cluster is opened.
+//! The log of a media is opened.
 ghost use Rattle.std.specs.Prelude.{◌≡◌, IfErr, IfOk, IsTrue, true, false};
 ghost use Rattle.wal_core.specs.Log.{EndsWithin};
-ghost use Rattle.wal_core.specs.LogViews.{log_disk};
-ghost use Rattle.replay_core.specs.Opened.{HasMulti, HasNone, IsFound, OpensStill};
+ghost use Rattle.replay_core.specs.Opened.{HasMulti, HasNone, IsFoundLog, OpensStill};
 ghost use Rattle.replay_core.specs.Refused.{IsOpenRefusal};
 
 use crate::refusal::{RecoverRefusal, refusal_of};
@@ -11,11 +10,19 @@ use std::alloc::Global;
 use tx_events::{Counters, Rec, RecList};
 use wal_core::{Started, WalLog};
 
-// A log, the records that its volume has, and the counters behind them.
-pub(crate) struct Found<D: LogDisk> {
-    pub(crate) log: WalLog<D>,
-    pub(crate) recs: RecList,
-    pub(crate) base: Counters,
+/// A log, the records that its volume has, and the counters behind them.
+pub struct Found<D: LogDisk> {
+    pub log: WalLog<D>,
+    pub recs: RecList,
+    pub base: Counters,
+}
+
+/// What a log's volume has.
+pub enum FoundLog<D: LogDisk> {
+    /// No record: a new cluster is to be begun on it.
+    New(WalLog<D>),
+    /// Records, none of them of a multixact: the cluster is to be recovered.
+    Old(Found<D>),
 }
 
 // Whether one of the records is of a multixact.
@@ -33,12 +40,13 @@ fn has_multi(recs: &[Rec]) -> bool
     false
 }
 
-/// Opens the log of a volume (`WalLog::start`), where it has records, none of them of a multixact.
-pub(crate) fn open_log<D: LogDisk + Drop>(
+/// Opens the log of a volume (`WalLog::start`), and tells whether it has records. One with a record of a multixact is
+/// refused, as there are no volumes for it. An error hands the volume back.
+pub fn find_log<D: LogDisk + Drop>(
     alloc: Global,
     disk: D,
-) -> Result<Found<D>, (D, RecoverRefusal)>
-    ensures found { IfOk result (λ found. IsFound disk found) }
+) -> Result<FoundLog<D>, (D, RecoverRefusal)>
+    ensures found { IfOk result (IsFoundLog disk) }
     // Whatever is answered, each image opens as one of before.
     ensures still_err { IsTrue D.tells → EndsWithin (D.reads disk) → IfErr result (λ e. OpensStill D.LogDisk disk e.0) }
     ensures refused { IfErr result (λ e. IsOpenRefusal D.LogDisk disk e.0 e.1) }
@@ -51,13 +59,13 @@ pub(crate) fn open_log<D: LogDisk + Drop>(
                 first: _,
             } = started;
             if log.is_new() {
-                return Err((log.into_disk(), RecoverRefusal::NoRecord));
+                return Ok(FoundLog::New(log));
             }
             if has_multi(recs.items()) {
                 return Err((log.into_disk(), RecoverRefusal::HasMultis));
             }
             let base = log.counters();
-            Ok(Found { log, recs, base })
+            Ok(FoundLog::Old(Found { log, recs, base }))
         }
         Err((disk, refusal)) => Err((disk, refusal_of(refusal))),
     }

@@ -18,6 +18,7 @@ mod settle;
 mod share;
 
 pub use cluster::Recovered;
+pub use found::{Found, FoundLog, find_log};
 pub use recovery::recover;
 pub use refusal::RecoverRefusal;
 pub use restore::{RestoreRefusal, restore_states};

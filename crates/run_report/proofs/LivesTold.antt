@@ -2,8 +2,6 @@
 use Rattle.std.proofs.Common.{◌≡◌, ℕ, ◌+◌, ◌^◌, ◌<◌, ◌≤◌, Bool, List, [], ◌∷◌, ◌++◌, None, Some, refl, sym, ap, subst, ◌∙◌, arith, length, append-nil, append_assoc, length-append}
 use Rattle.std.proofs.lemmas.List.Elements.{filter_map-append}
 use Rattle.std.specs.List.{AllByRecursion, flat_map, range_with_len}
-use Rattle.tx_events.specs.declared.record.Counters.{Counters}
-use Rattle.tx_events.specs.Base.{IsBase}
 use Rattle.tx_events.specs.Places.{first_seen}
 use Rattle.tx_events.proofs.ListSteps.{all_push, all_weaker, length_push}
 use Rattle.tx_model.specs.declared.report.How.{How}
@@ -11,14 +9,14 @@ use Rattle.tx_model.specs.declared.report.LifeReport.{LifeReport}
 use Rattle.session_lang.specs.declared.script.Item.{Item}
 use Rattle.session_lang.specs.declared.script.Item.TheVariants as items
 use Rattle.session_lang.specs.Rounds.{asked_of, session_of, sessions_in}
-use Rattle.report_words.specs.Fits.{AreNames, FitsCounters}
+use Rattle.report_words.specs.Fits.{AreNames}
 use Rattle.report_read.specs.AsRead.{life_as_read, lives_as_read}
 use Rattle.report_read.specs.Item as told_items
 use Rattle.report_read.specs.Grammar.{after}
 use Rattle.report_read.specs.Reports.{IsReport, nothing_told}
 use Rattle.report_read.specs.declared.told.Stage.TheVariants as stages
 use Rattle.report_read.specs.declared.told.Told.{Told}
-use Rattle.run_law.specs.Lives.{AreLivesOf, BeginRun, BeginWithBases, BeginsWithBase, LifePart, parts_from, parts_of}
+use Rattle.run_law.specs.Lives.{AreLivesOf, BeginWithBases, BeginsWithBase, LifePart, parts_from, parts_of}
 use Rattle.run_report.proofs.Asking.{ItemFits, asked_fit, asked_sessions, sessions_short}
 use Rattle.run_report.proofs.LifeSteps.{rounds_seen, seen_join}
 use Rattle.run_report.proofs.LifeTold.{CanBegin, IsSmall, Leads, Standing, heard, life_leads, stage_behind}
@@ -98,12 +96,8 @@ lives_seen tells banks (p ∷ parts) [] a = absurd a
 
 -- ---- the lives
 
-all_can : (base : Counters) (lives : List LifeReport) → IsBase base → FitsCounters base → BeginRun base lives → BeginWithBases lives → AllByRecursion CanBegin lives
-all_can base [] b f begin bases = tt
-all_can base (first ∷ lives) b f begin bases = (
-  record { base_is = subst IsBase (sym begin.base_is) b; counters = subst FitsCounters (sym begin.base_is) f },
-  all_weaker BeginsWithBase CanBegin (λ r k. record { base_is = k.is_base; counters = counters_fit r.life.base k.is_base k.multi k.oldest_multi }) lives bases,
-)
+all_can : (lives : List LifeReport) → BeginWithBases lives → AllByRecursion CanBegin lives
+all_can lives bases = all_weaker BeginsWithBase CanBegin (λ r k. record { base_is = k.is_base; counters = counters_fit r.life.base k.is_base k.multi k.oldest_multi }) lives bases
 
 module _ (tells : Bool) (banks : ℕ) (names : List (List ℕ)) (few_banks : banks ≤ 16) (are : AreNames names) (few : length names ≤ 64) where
   small_part : (p : LifePart) → PartFits names p → IsSmall names (asked_of p.items)
@@ -145,11 +139,11 @@ module _ (tells : Bool) (banks : ℕ) (names : List (List ℕ)) (few_banks : ban
   none_left known (n ∷ rest) e l = let k = ap length e in let m = length-append known (n ∷ rest) in absurd (omega arith)
 
   -- lawful lives whose parts are a script's are told by a report that can be read back
-  pub told_again : (script : List Item) (base : Counters) (lives : List LifeReport) → IsBase base → FitsCounters base → AllByRecursion (ItemFits names) script → length script ≤ 2 ^ 25 → first_seen (sessions_in script) ≡ range_with_len 0 (length names)
-      → AreLivesOf tells banks (parts_of script) lives → BeginRun base lives → BeginWithBases lives → IsReport (record { names = names; lives = lives_as_read lives })
-  told_again script base lives is_base counters fit short seen a begin bases =
+  pub told_again : (script : List Item) (lives : List LifeReport) → AllByRecursion (ItemFits names) script → length script ≤ 2 ^ 25 → first_seen (sessions_in script) ≡ range_with_len 0 (length names)
+      → AreLivesOf tells banks (parts_of script) lives → BeginWithBases lives → IsReport (record { names = names; lives = lives_as_read lives })
+  told_again script lives fit short seen a bases =
       let order : first_seen (all_heard lives) ≡ range_with_len 0 (length names) = lives_seen tells banks (parts_of script) lives a ∙ ap first_seen (parts_sessions [] script) ∙ seen in
-      let lead = lives_lead (parts_of script) lives [] 0 (length names) titled a (parts_end [] script) (parts_fit names [] script tt fit (omega (arith, short))) (all_can base lives is_base counters begin bases) (climbs (length names) (all_heard lives) order) title_stands
+      let lead = lives_lead (parts_of script) lives [] 0 (length names) titled a (parts_end [] script) (parts_fit names [] script tt fit (omega (arith, short))) (all_can lives bases) (climbs (length names) (all_heard lives) order) title_stands
       (let n = parts_few [] script in omega arith) in
       let reach = title_reach lead.last lead.reach in
       let known = none_left lead.standing.known lead.standing.rest lead.standing.split lead.standing.count in

@@ -1,33 +1,33 @@
 use Rattle.std.proofs.Common.{[], IsTrue, ap, arith, false, refl, rules, subst, sym, true, ◌+◌, ◌∙◌, ◌≡◌, ◌≤◌}
-use Rattle.wal_core.specs.LogViews.{log_disk, log_end}
+use Rattle.wal_core.specs.LogViews.{log_disk}
 use Rattle.tx_core.specs.declared.entry.Start.{Start}
 use Rattle.tx_events.proofs.Membership.{contains_has}
 use Rattle.engine_parts.specs.Sessions.{AreGivenBefore}
 use Rattle.engine_host.specs.Opening.{AllOnDisk, AllShowNothing, AllShowStates, IsNewLog, life_from, nothing_before}
-use Rattle.engine_host.specs.Refused.{OpensEmpty}
+use Rattle.engine_host.specs.Refused.{IsRefusal}
 use Rattle.engine_host.proofs.Counting.{all_counted}
 use Rattle.engine_host.proofs.Refusing.{from_bank, from_begin}
 use Rattle.engine_host.proofs.Starting.{zeros_show}
 use Rattle.engine_host.proofs.first_parts.open_new.Goals as goal
 
--- the log behind the box is the one that was started
+-- the log behind the box is the one that was handed in
 pub begin_log-requires-clause-new : goal.begin_log-requires-clause-new
 begin_log-requires-clause-new g c =
-    subst (λ l. IsNewLog l) (sym (c.deref_mut-fresh.ensures.value ∙ c.in-Ok-new.ensures.ok)) c.in-Ok.ensures.new
+    subst (λ l. IsNewLog l) (sym (c.deref_mut-fresh.ensures.value ∙ c.in-Ok.ensures.ok)) c.requires.new
 
 -- all pages are removed
 pub add_banks-requires : goal.add_banks-requires
 add_banks-requires g c =
-    let p = g.P.PageDisk in let v = c.args.volumes in let l = c.in-Ok-first_locks.ensures in
+    let p = g.P.PageDisk in let l = c.in-Ok-first_locks.ensures in
     let cluster = c.requires.cluster in
     let volumes = c.requires.volumes in
     let count = l.count in
     let disks = l.disks in
     let room = l.room in
     let stand = l.stand in
-    let states : IsTrue p.tells → AllShowStates p c.args.cluster nothing_before true 0 v.xact.items = λ told bank disk at. zeros_show c.args.cluster nothing_before (0 + bank) c.requires.cluster.base refl in
-    let parents : IsTrue p.tells → AllShowNothing p true v.subtrans.items = λ told bank disk at q small. refl in
-    let durable : IsTrue p.tells → true ≡ false → AllOnDisk p v.xact.items = λ told none. absurd cc in
+    let states : IsTrue p.tells → AllShowStates p c.args.cluster nothing_before true 0 c.args.xact.items = λ told bank disk at. zeros_show c.args.cluster nothing_before (0 + bank) c.requires.cluster.base refl in
+    let parents : IsTrue p.tells → AllShowNothing p true c.args.subtrans.items = λ told bank disk at q small. refl in
+    let durable : IsTrue p.tells → true ≡ false → AllOnDisk p c.args.xact.items = λ told none. absurd cc in
     search (rules, cluster, volumes, count, disks, room, stand, states, parents, durable)
 
 pub gather-requires : goal.gather-requires
@@ -46,25 +46,23 @@ pub returns-in-Err-add_banks-clause-refused : goal.returns-in-Err-add_banks-clau
 returns-in-Err-add_banks-clause-refused g c =
     let k = c.in-Err-add_banks.ensures.refused in
     let t = c.taken_apart.ensures in
-    from_bank c.args.cluster c.args.volumes c.taken_apart.result k.0 c.add_banks.new.locks.items c.add_banks.new.xact.items c.add_banks.new.subtrans.items c.in-Err-add_banks.refusal k.1 k.2 t.xact t.subtrans
+    from_bank c.args.cluster c.args.log c.args.xact.items c.args.subtrans.items c.taken_apart.result k.0 c.add_banks.new.locks.items c.add_banks.new.xact.items c.add_banks.new.subtrans.items c.in-Err-add_banks.refusal k.1 k.2 t.xact t.subtrans
 
 pub returns-in-Err-begin_log-clause-refused : goal.returns-in-Err-begin_log-clause-refused
 returns-in-Err-begin_log-clause-refused g c =
-    let disk = g.L.LogDisk in
-    let v = c.args.volumes in
-    let same = sym (c.deref_mut-fresh.ensures.value ∙ c.in-Ok-new.ensures.ok) in
-    from_begin g.P.PageDisk c.args.cluster v c.taken_apart-in-Err-begin_log.result c.deref_mut-fresh.result.now c.begin_log.new.log c.in-Err-begin_log.refusal
-    (subst (λ l. OpensEmpty disk v.log (log_end l)) same c.in-Ok.ensures.opens) (subst (λ l. disk.faults v.log ≤ disk.faults (log_disk l)) same c.in-Ok.ensures.count)
-    c.taken_apart-in-Err-begin_log.ensures.log c.in-Err-begin_log.ensures.refused
+    let xs = c.args.xact.items in let ys = c.args.subtrans.items in let back = c.taken_apart-in-Err-begin_log.result in
+    let same = c.deref_mut-fresh.ensures.value ∙ c.in-Ok.ensures.ok in
+    subst (λ l. IsRefusal g.P.PageDisk c.args.cluster l xs ys back c.in-Err-begin_log.refusal) same
+    (from_begin g.P.PageDisk c.args.cluster c.deref_mut-fresh.result.now c.begin_log.new.log xs ys back c.in-Err-begin_log.refusal
+    c.taken_apart-in-Err-begin_log.ensures.log c.in-Err-begin_log.ensures.refused)
 
 pub returns-clause-counted : goal.returns-clause-counted
 returns-clause-counted g c =
     let disk = g.L.LogDisk in
     let parts = c.gather.ensures in
-    let v = c.args.volumes in
-    let same = sym (c.deref_mut-fresh.ensures.value ∙ c.in-Ok-new.ensures.ok) in
-    let up : disk.faults v.log ≤ disk.faults (log_disk c.deref_mut-fresh.result.now) = subst (λ l. disk.faults v.log ≤ disk.faults (log_disk l)) same c.in-Ok.ensures.count in
-    let more : disk.faults (log_disk c.deref_mut-fresh.result.now) ≤ disk.faults (log_disk c.begin_log.new.log) = c.begin_log.ensures.count in
-    all_counted disk g.P.PageDisk c.args.cluster.banks v.log c.begin_log.new.log v.xact.items v.subtrans.items c.add_banks.new.locks.items c.gather.result.start.value.faults
-    (omega (arith, up, more)) c.requires.volumes.0 c.requires.volumes.1 c.in_default.ensures.counted
+    let same = c.deref_mut-fresh.ensures.value ∙ c.in-Ok.ensures.ok in
+    let up : disk.faults (log_disk c.args.log) ≤ disk.faults (log_disk c.begin_log.new.log) =
+    subst (λ l. disk.faults (log_disk l) ≤ disk.faults (log_disk c.begin_log.new.log)) same c.begin_log.ensures.count in
+    all_counted disk g.P.PageDisk c.args.cluster.banks (log_disk c.args.log) c.begin_log.new.log c.args.xact.items c.args.subtrans.items c.add_banks.new.locks.items c.gather.result.start.value.faults
+    up c.requires.volumes.0 c.requires.volumes.1 c.in_default.ensures.counted
     (ap (λ (s : Start). s.faults) parts.start ∙ parts.faults)

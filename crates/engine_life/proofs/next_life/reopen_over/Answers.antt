@@ -1,68 +1,49 @@
-use Rattle.std.proofs.Common.{map, rules, subst, sym}
-use Rattle.recoverable.specs.Whole.{BeganRight}
-use Rattle.replay_core.specs.Refused.{IsRefusal}
-use Rattle.replay_core.specs.declared.refusal.RecoverRefusal.{RecoverRefusal}
-use Rattle.tx_core.specs.declared.entry.Start.{Start}
-use Rattle.engine_host.specs.Counted.{AreCounted}
-use Rattle.engine_host.specs.Opening.{faults_behind}
-use Rattle.engine_life.specs.Lives.{IsBegun}
-use Rattle.engine_life.specs.NextLives.{WhenRefused, cluster_volumes}
+use Rattle.std.proofs.Common.{ap, rules, subst, sym, ◌∙◌}
+use Rattle.replay_core.specs.Refused.{IsOpenRefusal}
+use Rattle.engine_life.specs.NextLives.{cluster_volumes}
+use Rattle.engine_life.proofs.Finding.{new_opens, none_fits, not_opened, unopened_fits}
 use Rattle.engine_life.proofs.GoingOn.{fit_together, refused_together, when_fits}
-use Rattle.engine_life.proofs.Living.{of_err, of_oks}
 use Rattle.engine_life.proofs.next_life.reopen_over.Goals as goal
 
 -- With a ghost value the clauses of `requires` have no names: they stand in their order behind what is asked of lifetimes.
 
-pub open_old-requires : goal.open_old-requires
-open_old-requires g c =
-    let h = c.requires.1.1.0 in
-    let some = h.some in
-    let few = h.few in
-    let as_many = h.subtrans in
+pub begin_old-requires : goal.begin_old-requires
+begin_old-requires g c =
     let sessions = c.requires.1.1.1.0 in
-    let fits = c.requires.1.1.1.1 in
-    search (rules, some, few, as_many, sessions, fits)
+    let fits = (c.args.volumes.log, c.in-Ok-find_log.ensures.found, c.requires.1.1.0, c.requires.1.1.1.1) in
+    search (rules, sessions, fits)
 
-pub returns-in-Ok-open_old-clause-life : goal.returns-in-Ok-open_old-clause-life
-returns-in-Ok-open_old-clause-life g c =
-    let parts = c.in-Ok-open_old.parts in
-    let k = c.in-Ok-open_old.ensures in
-    let v = c.args.volumes in
-    of_oks c.begin_next.result _ _ _ (λ life begun aside. record {
-      number = k.start.0;
-      cluster = parts.cluster;
-      banks = k.cluster.0;
-      sessions_are = k.cluster.1;
-      base = k.start.2;
-      faults = map faults_behind parts.locks.items;
-      counted = subst (λ (s : Start). AreCounted g.L.LogDisk g.P.PageDisk v.log v.xact.items v.subtrans.items s.faults) k.start.1 k.counted;
-      begun = subst (λ (s : Start). IsBegun parts.cluster s life) k.start.1 begun;
-      right = λ told. subst BeganRight k.start.1 (k.right told);
-      offsets = aside.0;
-      members = aside.1;
-    }) c.begin_next.ensures.life c.begin_next.ensures.aside
-
-pub returns-in-Ok-open_old-clause-back : goal.returns-in-Ok-open_old-clause-back
-returns-in-Ok-open_old-clause-back g c =
-    of_err c.begin_next.result _ _ (λ e back. record { offsets = back.0; members = back.1 }) c.begin_next.ensures.back
-
-pub returns-in-Ok-open_old-clause-again : goal.returns-in-Ok-open_old-clause-again
-returns-in-Ok-open_old-clause-again g c told =
-    of_err c.begin_next.result _ _ (λ e memory. subst (λ (r : RecoverRefusal). WhenRefused g.L.LogDisk g.P.PageDisk g.kept c.args.volumes e.0 r) (sym memory) tt) c.begin_next.ensures.refused
-
-pub returns-in-Ok-open_old-clause-refused : goal.returns-in-Ok-open_old-clause-refused
-returns-in-Ok-open_old-clause-refused g c =
-    of_err c.begin_next.result _ _ (λ e memory. subst (λ (r : RecoverRefusal). IsRefusal g.L.LogDisk g.P.PageDisk (cluster_volumes c.args.volumes) (cluster_volumes e.0) r) (sym memory) tt) c.begin_next.ensures.refused
-
--- no parts were made: the volumes that came back, put together with those aside
+-- the log wasn't opened
 
 pub returns-in-Err-clause-again : goal.returns-in-Err-clause-again
 returns-in-Err-clause-again g c told =
-    let t = c.together.ensures in
-    when_fits g.L.LogDisk g.P.PageDisk g.kept c.args.volumes c.together.result c.in-Err.refusal
-    (fit_together g.L.LogDisk g.P.PageDisk g.kept c.args.volumes.xact.items c.in-Err.volumes c.together.result t.log t.xact t.subtrans (c.in-Err.ensures.again told))
+    let l = g.L.LogDisk in let p = g.P.PageDisk in let v = c.args.volumes in let fit = c.requires.1.1.1.1 told in let t = c.together.ensures in
+    when_fits l p g.kept v c.together.result c.in-Err.refusal
+    (fit_together l p g.kept v.xact.items _ c.together.result t.log t.xact t.subtrans
+    (unopened_fits l p g.kept v.log v.xact.items fit.1 (g.met.L.LogDisk.reads_image v.log fit.0) (λ d. g.met.P.PageDisk.reads_image d told) c.in-Err.log c.requires.1.1.0.some (c.in-Err.ensures.still_err fit.0)))
 
 pub returns-in-Err-clause-refused : goal.returns-in-Err-clause-refused
 returns-in-Err-clause-refused g c =
-    let t = c.together.ensures in
-    refused_together g.L.LogDisk g.P.PageDisk (cluster_volumes c.args.volumes) c.in-Err.volumes c.together.result c.in-Err.refusal t.log t.xact t.subtrans c.in-Err.ensures.refused
+    let l = g.L.LogDisk in let p = g.P.PageDisk in let v = c.args.volumes in let t = c.together.ensures in
+    not_opened l p (cluster_volumes v) (cluster_volumes c.together.result) c.in-Err.refusal (subst (λ d. IsOpenRefusal l v.log d c.in-Err.refusal) (sym t.log) c.in-Err.ensures.refused)
+
+-- it has no record
+
+pub returns-in-New-clause-again : goal.returns-in-New-clause-again
+returns-in-New-clause-again g c told =
+    let v = c.args.volumes in let fit = c.requires.1.1.1.1 told in
+    absurd (none_fits g.L.LogDisk g.P.PageDisk g.kept v.log v.xact.items fit.1 (g.met.L.LogDisk.reads_image v.log fit.0) (λ d. g.met.P.PageDisk.reads_image d told) c.in-New.log c.in-Ok-find_log.ensures.found fit.0)
+
+pub returns-in-New-clause-refused : goal.returns-in-New-clause-refused
+returns-in-New-clause-refused g c = new_opens g.L.LogDisk c.args.volumes.log c.in-New.log c.in-Ok-find_log.ensures.found
+
+-- it has records
+
+pub returns-clause-life : goal.returns-clause-life
+returns-clause-life g c = c.begin_old.ensures.life c.args.volumes.log c.in-Ok-find_log.ensures.found
+
+pub returns-clause-again : goal.returns-clause-again
+returns-clause-again g c told = c.begin_old.ensures.again told c.args.volumes.log c.in-Ok-find_log.ensures.found
+
+pub returns-clause-refused : goal.returns-clause-refused
+returns-clause-refused g c = c.begin_old.ensures.refused c.args.volumes.log c.in-Ok-find_log.ensures.found

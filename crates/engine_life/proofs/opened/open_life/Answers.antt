@@ -1,11 +1,23 @@
-use Rattle.disk_core.specs.Media.{MayBeFirst}
+use Rattle.std.proofs.Common.{rules, subst, sym, ℕ}
+use Rattle.disk_core.specs.Media.{HasBanks}
+use Rattle.engine_host.specs.declared.cluster.Cluster.{Cluster}
+use Rattle.engine_life.specs.FirstLives.{IsFirstLife, MayMount, with_banks}
+use Rattle.engine_life.specs.Refusals.{IsNoLife}
 use Rattle.engine_life.proofs.Living.{unopened}
 use Rattle.engine_life.proofs.opened.open_life.Goals as goal
 
-pub returns-in-Ok-open_over-clause-life : goal.returns-in-Ok-open_over-clause-life
-returns-in-Ok-open_over-clause-life g c = (c.in-Ok.volumes, (c.in-Ok.ensures.first c.requires.new, c.in-Ok.ensures.begins c.requires.new), c.in-Ok-open_over.ensures.life)
+-- With a ghost value the clauses of `requires` have no names: they stand in their order behind what is asked of lifetimes.
 
-pub returns-in-Err-clause-refused : goal.returns-in-Err-clause-refused
-returns-in-Err-clause-refused g c =
+pub with_banks-cluster-requires : goal.with_banks-cluster-requires
+with_banks-cluster-requires g c =
     let media = g.M.Media in
-    unopened g.M.Log.LogDisk g.M.Pages.PageDisk c.args.cluster (MayBeFirst (media.begins c.args.media.now)) (media.faults c.args.media.now) (media.faults c.rest.new.self) (media.gives c.rest.new.self) c.in-Ok.volumes c.in-Err.volumes c.in-Err.refusal (c.in-Ok.ensures.first c.requires.new, c.in-Ok.ensures.begins c.requires.new) c.rest.ensures.same c.in-Err.ensures.back c.in-Err.ensures.refused
+    let mounted : MayMount (media.is_new c.args.media.now) (media.begins c.args.media.now) (media.gives c.args.media.now) c.args.cluster.banks c.in-Ok.volumes = record {
+      first = λ new. (c.in-Ok.ensures.first new, c.in-Ok.ensures.begins new);
+      again = c.in-Ok.ensures.again;
+    } in
+    let may = c.requires.1.1.1.1 c.in-Ok.volumes mounted in
+    let cluster = c.requires.1.1.0 in
+    let some = may.banks.some in
+    let few = may.banks.few in
+    let count = c.len.ensures in
+    search (rules, cluster, some, few, count)

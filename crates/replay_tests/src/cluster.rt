@@ -1,7 +1,7 @@
 // A cluster of two banks, and what it holds.
 use disk_core::{LogDisk, PageDisk, Volumes};
 use recoverable::ClusterVolumes;
-use replay_core::{RecoverRefusal, Recovered, recover};
+use replay_core::{FoundLog, RecoverRefusal, Recovered, find_log, recover};
 use slru_bank::{SlruBank, State, set_states, state};
 use std::alloc::Global;
 use std::test::Fail;
@@ -180,7 +180,7 @@ pub fn recover_mounted<L: LogDisk + Drop, P: PageDisk + Drop>(
     }
 }
 
-/// Recovers a cluster of two banks.
+/// Recovers a cluster of two banks, of which the log is found first.
 fn recovered<L: LogDisk + Drop, P: PageDisk + Drop>(
     alloc: Global,
     volumes: ClusterVolumes<L, P>,
@@ -188,5 +188,28 @@ fn recovered<L: LogDisk + Drop, P: PageDisk + Drop>(
     if volumes.xact.len() != 2 || volumes.subtrans.len() != 2 {
         return Err("two banks".into());
     }
-    Ok(recover(alloc, volumes))
+    let ClusterVolumes {
+        log,
+        xact,
+        subtrans,
+    } = volumes;
+    match find_log(alloc, log) {
+        Ok(FoundLog::Old(found)) => Ok(recover(alloc, found, xact, subtrans)),
+        Ok(FoundLog::New(log)) => {
+            let volumes = ClusterVolumes {
+                log: log.into_disk(),
+                xact,
+                subtrans,
+            };
+            Ok(Err((volumes, RecoverRefusal::NoRecord)))
+        }
+        Err((log, refusal)) => {
+            let volumes = ClusterVolumes {
+                log,
+                xact,
+                subtrans,
+            };
+            Ok(Err((volumes, refusal)))
+        }
+    }
 }

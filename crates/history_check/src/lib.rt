@@ -10,4 +10,5 @@ mod replay;
 mod turns;
 
 pub use legal::first_illegal;
+pub use opened::OpenId;
 pub use replay::HistoryReplay;

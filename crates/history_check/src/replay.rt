@@ -12,7 +12,7 @@ ghost use Rattle.tx_events.specs.IdLists.{Ascending};
 ghost use Rattle.tx_events.specs.Visible.{is_visible};
 ghost use Rattle.proc_table.specs.Table.{InTurn};
 ghost use Rattle.history_check.specs.GivenIds.{AreKept};
-ghost use Rattle.history_check.specs.Opened.{AreAllOpened, AreClosed};
+ghost use Rattle.history_check.specs.Opened.{AreAllOpened, AreClosed, AreOpened};
 ghost use Rattle.history_check.specs.Replays.{GoesOn, IsLawfulNext, Stays, is_known, with_event};
 
 use crate::given::{GivenId, note_given, was_committed};
@@ -245,6 +245,14 @@ impl HistoryReplay {
         ensures none { IfNone result (open_ids session self.now.events ≡ []) }
     {
         self.table.open_top(session)
+    }
+
+    /// The ids that the session has open, ascending, each with its parent.
+    pub fn open_ids(&self, session: u32) -> &[OpenId]
+        requires { session < self.now.sessions }
+        ensures { AreOpened self.now.events session result.now }
+    {
+        self.opened[session as usize].as_slice()
     }
 
     /// The history so far, which is legal.

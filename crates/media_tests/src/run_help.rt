@@ -3,7 +3,8 @@ ghost use Rattle.std.specs.Prelude.{IsTrue};
 
 use disk_core::{Media, MemMedia, Which};
 use disk_fuse::Fuse;
-use session_run::run_tool;
+use engine_parts::OpenGate;
+use session_run::{RoundThreads, run_tool};
 use std::alloc::{AllocGlobal, Global};
 use std::process::Abort;
 use std::sync::Wait;
@@ -27,7 +28,17 @@ where
     requires idle { IsTrue (M.is_idle media.old) }
     requires new { IsTrue (M.is_new media.old) }
 {
-    run_tool(rt, rt.alloc(), words, source, sink, media, threads)
+    let threads = RoundThreads::AtMost(threads);
+    run_tool(
+        rt,
+        rt.alloc(),
+        words,
+        source,
+        sink,
+        media,
+        threads,
+        &OpenGate,
+    )
 }
 
 /// The words of a command line.

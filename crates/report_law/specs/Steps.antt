@@ -269,7 +269,7 @@ IsLawfulReply judged j before round multi_round by s command (replies.Refused re
 IsLawfulReply judged j before round multi_round by s command (replies.Refused (refusals.DiskFault lock)) = IsTrue (can_ask command lock)
 IsLawfulReply judged j before round multi_round by s command (replies.Refused refusals.LogFault) = IsTrue (can_flush command)
 IsLawfulReply judged j before round multi_round by s commands.Commit (replies.Refused refusals.Full) =
-    judged → HasNoRoom j.life (longest_record by j.life.events commands.Commit)
+    judged → HasNoRoom j.life (longest_record by (take round.to j.life.events) commands.Commit)
 IsLawfulReply judged j before round multi_round by s command (replies.Refused refusals.Full) =
     IsTrue (can_append command) × HasNoRoom j.life (longest_record by j.life.events command)
 IsLawfulReply judged j before round multi_round by s command (replies.Refused (refusals.LogDown at)) =

@@ -3,6 +3,7 @@ mod Among
 mod Letting
 mod Returning
 mod Rounding
+mod Joining
 mod Going
 mod RoundCounts
 pub mod RoundSteps

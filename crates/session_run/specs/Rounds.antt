@@ -39,6 +39,10 @@ module _ {K L P : Type 0} {l : logs.Ghosts L} {p : disks.Ghosts P} where
   abbrev pub numbers_of : List (Member K L P l p) → List ℕ
   numbers_of members = map (λ m. m.caller.number) members
 
+  -- who they call as
+  abbrev pub callers_of : List (Member K L P l p) → List (Caller L P l p)
+  callers_of members = map (λ m. m.caller) members
+
   -- the session of the member was taken back, and the host has seen all of its entries
   pub record IsBack (host : Host L P l p) (here : Session) (m : Member K L P l p) : Type 0 where
     pub session : here ≡ m.caller.session

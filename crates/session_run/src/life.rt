@@ -8,9 +8,11 @@ ghost use Rattle.session_run.specs.OneLife.{HasRunLife, IsOpened, MayRunIn};
 ghost use Rattle.session_run.specs.Parts.{IsTakenPart};
 
 use crate::laws::life_ends;
+use crate::round_threads::RoundThreads;
 use crate::rounds::run_rounds;
 use disk_core::{LogDisk, PageDisk};
 use engine_life::{ClosedLife, OpenLife, close_life};
+use engine_parts::Gate;
 use script_rounds::LineKeeper;
 use session_lang::Items;
 use std::alloc::Global;
@@ -35,20 +37,20 @@ fn pages_read_an_image<P: PageDisk>()
 {}
 
 /// Runs a part of a script in a life that is open, closes the life, and keeps its lines: its rounds one after another, the
-/// sessions of a round on at most so many threads, and the dumps and checkpoints between them.
+/// sessions of a round on such threads, and the dumps and checkpoints between them.
 pub fn run_life<
-    R: Threads + Wait + Sync,
     K: LineKeeper + Send + Drop,
     L: LogDisk + Send + Sync + Drop,
     P: PageDisk + Send + Sync + Drop,
 >(
-    rt: &R,
+    rt: &(impl Threads + Wait + Sync),
     alloc: Global,
     life: OpenLife<L, P>,
     names: &NameList,
     part: Items,
     kept: &mut K,
-    threads: usize,
+    threads: RoundThreads,
+    gate: &(impl Gate + Sync),
 ) -> (ClosedLife<L, P>, Result<(), Memory>)
     requires taken { IsTakenPart (length names.now) part }
     requires may { MayRunIn (length names.now) life }
@@ -67,6 +69,7 @@ pub fn run_life<
         part,
         kept,
         threads,
+        gate,
     );
     let closed = close_life(life);
     has_64_bits(closed.log.next());

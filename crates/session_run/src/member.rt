@@ -10,7 +10,7 @@ ghost use Rattle.session_run.specs.Turns.{Begins, MayGo, RunsNext, RunsRound, co
 
 use crate::commands::run_command;
 use disk_core::{LogDisk, PageDisk};
-use engine_parts::{Caller, EngineLaw, Gated, OpenGate, Passing, command_of};
+use engine_parts::{Caller, EngineLaw, Gate, Gated, Passing, command_of};
 use hall::Hall;
 use script_rounds::{LineKeeper, Plan, ToldLines, command_at};
 use session_lang::Items;
@@ -74,8 +74,9 @@ fn run_places<R: Passing, K: LineKeeper, L: LogDisk, P: PageDisk>(
     Ok(())
 }
 
-/// Runs the session's commands of a round, at the places that the plan has for it. No gate holds it up.
-pub fn run_member<R: Wait, K: LineKeeper, L: LogDisk, P: PageDisk>(
+/// Runs the session's commands of a round, at the places that the plan has for it. It
+/// passes the gate before each critical section.
+pub fn run_member<R: Wait, K: LineKeeper, L: LogDisk, P: PageDisk, G: Gate>(
     rt: &R,
     hall: &Hall<EngineLaw<L, P>>,
     member: &mut Member<K, L, P>,
@@ -84,16 +85,14 @@ pub fn run_member<R: Wait, K: LineKeeper, L: LogDisk, P: PageDisk>(
     names: &NameList,
     plan: &Plan,
     round: &Items,
+    gate: &G,
 )
     requires items { All (runnable.MayRun (start_of hall.now).sessions) round.now }
     requires may { MayGo K.LineKeeper hall.now banks round.now plan.now member.old }
     ensures { RunsRound K.LineKeeper hall.now banks names.now round.now (member.new.lost ≡ false) member.old member.new }
 {
     let places = plan.places[member.caller.number as usize].items();
-    let gated = Gated {
-        rt,
-        gate: &OpenGate,
-    };
+    let gated = Gated { rt, gate };
     let ran = run_places(&gated, hall, member, banks, alloc, names, places, round);
     let Gated { rt: _, gate: _ } = gated;
     member.lost = ran.is_err();

@@ -6,13 +6,13 @@ ghost use Rattle.engine_host.specs.Hosts.{HoldsAllBut, IsHost, IsParked};
 ghost use Rattle.run_law.specs.Turns as runnable;
 ghost use Rattle.run_law.specs.Turns.{turns_in};
 ghost use Rattle.script_rounds.specs.Plans.{IsPlanOf};
-ghost use Rattle.session_run.specs.Rounds.{AllRan, AreApart, AreBack, AreParked, AreSent, MayAdd, MayReturn, StayBehind, WentRound, is_among, numbers_of, with_members};
+ghost use Rattle.session_run.specs.Rounds.{AllRan, AreApart, AreBack, AreParked, AreSent, MayAdd, MayReturn, StayBehind, WentRound, callers_of, is_among, numbers_of, with_members};
 ghost use Rattle.session_run.specs.Turns.{MayGo};
 
 use crate::member::{Member, run_member};
 use disk_core::{LogDisk, PageDisk};
 use engine_host::{Host, admit, dismiss, new_session};
-use engine_parts::{EngineLaw, Session};
+use engine_parts::{EngineLaw, Gate, Session};
 use hall::Hall;
 use script_rounds::{LineKeeper, Plan, ToldLines};
 use session_lang::Items;
@@ -30,6 +30,9 @@ fn keeper_laws<K: LineKeeper>(_names: &NameList)
     ensures join { (kept : K) (lines : List Line)
         → K.joined kept (K.with_lines _names.now K.nothing lines) ≡ K.with_lines _names.now kept lines }
 {}
+
+// The lines of a round of so many commands are worth no room of their own beyond it.
+const MANY_COMMANDS: usize = 4_096;
 
 /// A keeper of nothing, in the room of one that is not used any more, if there is one.
 fn fresh<K: LineKeeper>(alloc: Global, spare: &mut Vec<K>) -> K
@@ -81,13 +84,8 @@ fn let_in<K: LineKeeper, L: LogDisk, P: PageDisk>(
 }
 
 /// Runs the members of a round beside one another, in at most so many threads.
-fn run_beside<
-    R: Threads + Wait + Sync,
-    K: LineKeeper + Send,
-    L: LogDisk + Send + Sync,
-    P: PageDisk + Send + Sync,
->(
-    rt: &R,
+fn run_beside<K: LineKeeper + Send, L: LogDisk + Send + Sync, P: PageDisk + Send + Sync>(
+    rt: &(impl Threads + Wait + Sync),
     hall: &Hall<EngineLaw<L, P>>,
     members: &mut [Member<K, L, P>],
     banks: u32,
@@ -96,6 +94,7 @@ fn run_beside<
     plan: &Plan,
     round: &Items,
     threads: usize,
+    gate: &(impl Gate + Sync),
 )
     requires threads { 0 < threads }
     requires items { All (runnable.MayRun (start_of hall.now).sessions) round.now }
@@ -106,18 +105,13 @@ fn run_beside<
         rt,
         members,
         threads,
-        &|_, member| run_member(rt, hall, member, banks, alloc, names, plan, round),
+        &|_, member| run_member(rt, hall, member, banks, alloc, names, plan, round, gate),
     );
 }
 
 /// Runs the members of a round.
-fn run_members<
-    R: Threads + Wait + Sync,
-    K: LineKeeper + Send,
-    L: LogDisk + Send + Sync,
-    P: PageDisk + Send + Sync,
->(
-    rt: &R,
+fn run_members<K: LineKeeper + Send, L: LogDisk + Send + Sync, P: PageDisk + Send + Sync>(
+    rt: &(impl Threads + Wait + Sync),
     hall: &Hall<EngineLaw<L, P>>,
     members: &mut Vec<Member<K, L, P>>,
     banks: u32,
@@ -126,6 +120,7 @@ fn run_members<
     plan: &Plan,
     round: &Items,
     threads: usize,
+    gate: &(impl Gate + Sync),
 )
     requires threads { 0 < threads }
     requires items { All (runnable.MayRun (start_of hall.now).sessions) round.now }
@@ -133,22 +128,42 @@ fn run_members<
     ensures { AllRan K.LineKeeper hall.now banks names.now round.now members.old.items members.new.items }
 {
     let all = members.as_mut_slice();
-    run_beside(rt, hall, all, banks, alloc, names, plan, round, threads);
+    run_beside(
+        rt, hall, all, banks, alloc, names, plan, round, threads, gate,
+    );
 }
 
-/// Keeps what the members kept, one member behind another.
-fn join_members<K: LineKeeper, L: LogDisk, P: PageDisk>(
-    members: &[Member<K, L, P>],
-    kept: &mut K,
-) -> Result<(), Memory>
-    ensures sufficed { OnOk result (All (λ m. m.lost ≡ false) members.now) }
-    ensures kept { OnOk result (kept.new ≡ with_members K.LineKeeper kept.old members.now) }
+/// Lets what a member keeps go, where it may be much.
+fn let_lines_go<K: LineKeeper + Drop, L: LogDisk, P: PageDisk>(
+    alloc: Global,
+    member: &mut Member<K, L, P>,
+    much: bool,
+)
+    ensures { member.new.caller ≡ member.old.caller }
 {
-    for member in members {
+    if much {
+        member.kept = K::none(alloc);
+    }
+}
+
+/// Keeps what the members kept, one member behind another. Where they keep much, each lets it go as soon as it is kept
+/// here, so that no more than one member's lines are held twice.
+fn join_members<K: LineKeeper + Drop, L: LogDisk, P: PageDisk>(
+    alloc: Global,
+    members: &mut Vec<Member<K, L, P>>,
+    kept: &mut K,
+    much: bool,
+) -> Result<(), Memory>
+    ensures sufficed { OnOk result (All (λ m. m.lost ≡ false) members.old.items) }
+    ensures kept { OnOk result (kept.new ≡ with_members K.LineKeeper kept.old members.old.items) }
+    ensures callers { callers_of members.new.items ≡ callers_of members.old.items }
+{
+    for member in members.iter_mut() {
         if member.lost {
             return Err(Memory);
         }
         kept.join(&member.kept)?;
+        let_lines_go(alloc, member, much);
     }
     Ok(())
 }
@@ -193,13 +208,8 @@ fn take_back<K: LineKeeper + Drop, L: LogDisk, P: PageDisk>(
 /// order. Keeps their lines, session by session in the order in which they first appear in the round.
 ///
 /// Where memory is wanting for the lines, the run is lost. The sessions are taken back then too.
-pub fn run_round<
-    R: Threads + Wait + Sync,
-    K: LineKeeper + Send + Drop,
-    L: LogDisk + Send + Sync,
-    P: PageDisk + Send + Sync,
->(
-    rt: &R,
+pub fn run_round<K: LineKeeper + Send + Drop, L: LogDisk + Send + Sync, P: PageDisk + Send + Sync>(
+    rt: &(impl Threads + Wait + Sync),
     alloc: Global,
     hall: &Hall<EngineLaw<L, P>>,
     host: &mut Host<L, P>,
@@ -210,6 +220,7 @@ pub fn run_round<
     kept: &mut K,
     spare: &mut Vec<K>,
     threads: usize,
+    gate: &(impl Gate + Sync),
 ) -> Result<(), Memory>
     requires threads { 0 < threads }
     requires host { IsHost hall.now host.old }
@@ -229,30 +240,16 @@ pub fn run_round<
         × (kept.new ≡ K.with_lines names.now kept.old lines)) }
 {
     keeper_laws::<K>(names);
-    let mut members = Vec::with_capacity(alloc, plan.sessions.len())?;
+    let mut sent = Vec::with_capacity(alloc, plan.sessions.len())?;
     let banks = host.cluster.banks;
-    let_in(
-        hall,
-        alloc,
-        host,
-        plan.sessions.as_slice(),
-        sessions,
-        &mut members,
-        spare,
-    );
+    let numbers = plan.sessions.as_slice();
+    let_in(hall, alloc, host, numbers, sessions, &mut sent, spare);
     run_members(
-        rt,
-        hall,
-        &mut members,
-        banks,
-        alloc,
-        names,
-        plan,
-        round,
-        threads,
+        rt, hall, &mut sent, banks, alloc, names, plan, round, threads, gate,
     );
-    let joined = join_members(members.as_slice(), kept);
-    take_back(hall, host, &mut members, sessions, spare);
-    members.destroy_empty();
+    let much = round.len() >= MANY_COMMANDS;
+    let joined = join_members(alloc, &mut sent, kept, much);
+    take_back(hall, host, &mut sent, sessions, spare);
+    sent.destroy_empty();
     joined
 }

@@ -13,12 +13,13 @@ ghost use Rattle.session_run.specs.Parts.{AnswersOn, HasRun, RunsOn};
 
 use crate::laws::{life_begins, life_goes_on};
 use crate::round::run_round;
+use crate::round_threads::RoundThreads;
 use disk_core::{LogDisk, PageDisk};
 use engine_checkpoints::checkpoint;
 use engine_dumps::show;
 use engine_host::Host;
 use engine_life::new_sessions;
-use engine_parts::{EngineLaw, Session};
+use engine_parts::{EngineLaw, Gate, Session};
 use hall::Hall;
 use script_rounds::{LineKeeper, Plan, next_round};
 use session_lang::{Between, Dump, Items};
@@ -27,27 +28,9 @@ use std::sync::Wait;
 use std::thread::Threads;
 use tx_model::{Memory, NameList, Step};
 
-// A round of fewer commands isn't worth its threads: starting them costs as much as some hundred commands.
-const FEW_COMMANDS: usize = 512;
-
-/// How many threads a round takes, of at most so many.
-fn threads_for(plan: &Plan, round: &Items, most: usize) -> usize
-    ensures { 0 < result }
-{
-    if plan.sessions.len() <= 1 || round.len() < FEW_COMMANDS {
-        return 1;
-    }
-    most.max(1)
-}
-
 /// Runs a round that has commands, behind so many rounds, and keeps it.
-fn run_numbered<
-    R: Threads + Wait + Sync,
-    K: LineKeeper + Send + Drop,
-    L: LogDisk + Send + Sync,
-    P: PageDisk + Send + Sync,
->(
-    rt: &R,
+fn run_numbered<K: LineKeeper + Send + Drop, L: LogDisk + Send + Sync, P: PageDisk + Send + Sync>(
+    rt: &(impl Threads + Wait + Sync),
     alloc: Global,
     hall: &Hall<EngineLaw<L, P>>,
     host: &mut Host<L, P>,
@@ -58,7 +41,8 @@ fn run_numbered<
     names: &NameList,
     kept: &mut K,
     spare: &mut Vec<K>,
-    threads: usize,
+    threads: RoundThreads,
+    gate: &(impl Gate + Sync),
 ) -> Result<(), Memory>
     requires home { AreHome hall.now host.old sessions.old }
     requires room { MayAdd (length round.now) sessions.old }
@@ -75,22 +59,17 @@ fn run_numbered<
     life_goes_on(hall);
     plan.fill(round)?;
     kept.add_round(rounds + 1)?;
-    let count = threads_for(plan, round, threads);
+    let count = threads.count(plan, round);
     run_round(
-        rt, alloc, hall, host, sessions, plan, round, names, kept, spare, count,
+        rt, alloc, hall, host, sessions, plan, round, names, kept, spare, count, gate,
     )?;
     plan.clear();
     Ok(())
 }
 
 /// Runs a round behind so many rounds, if it has commands, and answers how many have run then.
-fn run_next<
-    R: Threads + Wait + Sync,
-    K: LineKeeper + Send + Drop,
-    L: LogDisk + Send + Sync,
-    P: PageDisk + Send + Sync,
->(
-    rt: &R,
+fn run_next<K: LineKeeper + Send + Drop, L: LogDisk + Send + Sync, P: PageDisk + Send + Sync>(
+    rt: &(impl Threads + Wait + Sync),
     alloc: Global,
     hall: &Hall<EngineLaw<L, P>>,
     host: &mut Host<L, P>,
@@ -101,7 +80,8 @@ fn run_next<
     names: &NameList,
     kept: &mut K,
     spare: &mut Vec<K>,
-    threads: usize,
+    threads: RoundThreads,
+    gate: &(impl Gate + Sync),
 ) -> Result<u64, Memory>
     requires home { AreHome hall.now host.old sessions.old }
     requires room { MayAdd (length round.now) sessions.old }
@@ -121,7 +101,7 @@ fn run_next<
         return Ok(rounds);
     }
     run_numbered(
-        rt, alloc, hall, host, sessions, plan, rounds, round, names, kept, spare, threads,
+        rt, alloc, hall, host, sessions, plan, rounds, round, names, kept, spare, threads, gate,
     )?;
     Ok(rounds + 1)
 }
@@ -203,13 +183,8 @@ fn answer_next<R: Wait, K: LineKeeper, L: LogDisk, P: PageDisk>(
 }
 
 /// Runs the rounds of a script, one after another, and answers what it asks for between them, its sessions being these.
-fn run_each<
-    R: Threads + Wait + Sync,
-    K: LineKeeper + Send + Drop,
-    L: LogDisk + Send + Sync,
-    P: PageDisk + Send + Sync,
->(
-    rt: &R,
+fn run_each<K: LineKeeper + Send + Drop, L: LogDisk + Send + Sync, P: PageDisk + Send + Sync>(
+    rt: &(impl Threads + Wait + Sync),
     alloc: Global,
     hall: &Hall<EngineLaw<L, P>>,
     host: &mut Host<L, P>,
@@ -217,7 +192,8 @@ fn run_each<
     script: Items,
     names: &NameList,
     kept: &mut K,
-    threads: usize,
+    threads: RoundThreads,
+    gate: &(impl Gate + Sync),
 ) -> Result<(), Memory>
     requires begins { GoesOn hall.now host.old sessions.old [] }
     requires unseen { HasSeenNothing host.old }
@@ -236,7 +212,7 @@ fn run_each<
         let (round, behind) = next_round(&rest);
         rounds = run_next(
             rt, alloc, hall, host, sessions, &mut plan, rounds, &round, names, kept, &mut spare,
-            threads,
+            threads, gate,
         )?;
         let place = round.len();
         answer_next(rt, alloc, hall, host, sessions, &rest, place, names, kept)?;
@@ -245,22 +221,18 @@ fn run_each<
     Ok(())
 }
 
-/// Runs the rounds of a life, one after another, and answers what is asked for between them: the sessions of a round on at
-/// most so many threads.
-pub fn run_rounds<
-    R: Threads + Wait + Sync,
-    K: LineKeeper + Send + Drop,
-    L: LogDisk + Send + Sync,
-    P: PageDisk + Send + Sync,
->(
-    rt: &R,
+/// Runs the rounds of a life, one after another, and answers what is asked for between them: the sessions of a round on
+/// such threads.
+pub fn run_rounds<K: LineKeeper + Send + Drop, L: LogDisk + Send + Sync, P: PageDisk + Send + Sync>(
+    rt: &(impl Threads + Wait + Sync),
     alloc: Global,
     hall: &Hall<EngineLaw<L, P>>,
     host: &mut Host<L, P>,
     names: &NameList,
     part: Items,
     kept: &mut K,
-    threads: usize,
+    threads: RoundThreads,
+    gate: &(impl Gate + Sync),
 ) -> Result<(), Memory>
     requires host { IsHost hall.now host.old }
     requires all { HoldsAllBut host.old [] }
@@ -276,5 +248,5 @@ pub fn run_rounds<
     let mut sessions = new_sessions(alloc, host.cluster.sessions)?;
     life_begins(hall);
     let all = sessions.as_mut_slice();
-    run_each(rt, alloc, hall, host, all, part, names, kept, threads)
+    run_each(rt, alloc, hall, host, all, part, names, kept, threads, gate)
 }

@@ -24,12 +24,14 @@ ghost use Rattle.session_run.specs.Stops.{IsStopped, MountsFirst};
 
 use crate::ended::{Ended, FittedLog, log_left};
 use crate::life::run_life;
+use crate::round_threads::RoundThreads;
 use crate::stop::{Stopped, no_life_of};
 use crate::text::put_end;
 use disk_core::{Crash, LogDisk, Media, PageDisk, Volumes};
 use engine_host::Cluster;
 use engine_life::laws::crash_goes_on;
 use engine_life::{ClosedLife, NoLife, OpenLife, open_life, reopen_life};
+use engine_parts::Gate;
 use notes::Note;
 use report_text::Text;
 use script_gen::Summary;
@@ -67,19 +69,16 @@ fn crash_of(how: How) -> Crash
 }
 
 /// Runs a part of a script in a life that is open, the life of this number, closes it, and makes its text.
-fn tell_life<
-    R: Threads + Wait + Sync,
-    L: LogDisk + Send + Sync + Drop,
-    P: PageDisk + Send + Sync + Drop,
->(
-    rt: &R,
+fn tell_life<L: LogDisk + Send + Sync + Drop, P: PageDisk + Send + Sync + Drop>(
+    rt: &(impl Threads + Wait + Sync),
     alloc: Global,
     life: OpenLife<L, P>,
     names: &NameList,
     part: Items,
     number: u64,
     crash: Option<How>,
-    threads: usize,
+    threads: RoundThreads,
+    gate: &(impl Gate + Sync),
 ) -> (ClosedLife<L, P>, Result<LifeText, Memory>)
     requires taken { IsTakenPart (length names.now) part }
     requires may { MayRunIn (length names.now) life }
@@ -89,7 +88,7 @@ fn tell_life<
 {
     let base = life.host.cluster.base.same();
     let mut rest = Text::new(alloc);
-    let (closed, ran) = run_life(rt, alloc, life, names, part, &mut rest, threads);
+    let (closed, ran) = run_life(rt, alloc, life, names, part, &mut rest, threads, gate);
     let Ok(()) = ran else {
         return (closed, Err(Memory));
     };
@@ -146,7 +145,7 @@ enum PartEnd<L: LogDisk, P: PageDisk> {
 
 /// Runs a part of a script in a life that is open, the life of this number, and writes its text. Where a crash ends the part,
 /// that is made then, and the next life is opened.
-fn run_part<R: Threads + Wait + Sync, K: Sink, M: Media>(
+fn run_part<R: Threads + Wait + Sync, K: Sink, M: Media, G: Gate + Sync>(
     rt: &R,
     alloc: Global,
     script: &Script,
@@ -156,7 +155,8 @@ fn run_part<R: Threads + Wait + Sync, K: Sink, M: Media>(
     crash: Option<How>,
     sink: &mut K,
     media: &mut M,
-    threads: usize,
+    threads: RoundThreads,
+    gate: &G,
 ) -> Result<PartEnd<M::Log, M::Pages>, Stopped>
 where
     M::Log: Sync,
@@ -177,7 +177,7 @@ where
 {
     let names = &script.names;
     let start = Note::by(&life.host.start);
-    let (closed, told) = tell_life(rt, alloc, life, names, part, number, crash, threads);
+    let (closed, told) = tell_life(rt, alloc, life, names, part, number, crash, threads, gate);
     let text = match told {
         Ok(text) => text,
         Err(Memory) => {
@@ -212,13 +212,14 @@ where
 
 /// Runs a script over a new media, life by life, from the script's counters, and writes the text of its report: that of a
 /// life before its crash. The media holds its volumes again then, and also after an error.
-pub fn run_script<R: Threads + Wait + Sync, K: Sink, M: Media>(
+pub fn run_script<R: Threads + Wait + Sync, K: Sink, M: Media, G: Gate + Sync>(
     rt: &R,
     alloc: Global,
     script: &Script,
     sink: &mut K,
     media: &mut M,
-    threads: usize,
+    threads: RoundThreads,
+    gate: &G,
 ) -> Result<(), Stopped>
 where
     M::Log: Sync,
@@ -248,7 +249,7 @@ where
     loop {
         let (part, crash, behind) = next_part(&items);
         match run_part(
-            rt, alloc, script, life, part, number, crash, sink, media, threads,
+            rt, alloc, script, life, part, number, crash, sink, media, threads, gate,
         )? {
             PartEnd::Last => return Ok(()),
             PartEnd::Next(next) => life = next,
@@ -260,12 +261,13 @@ where
 
 /// Runs a script without a crash over a new media, in one life, and answers the line that tells the counts of what it did in
 /// place of the report.
-pub fn count_script<R: Threads + Wait + Sync, M: Media>(
+pub fn count_script<R: Threads + Wait + Sync, M: Media, G: Gate + Sync>(
     rt: &R,
     alloc: Global,
     script: &Script,
     media: &mut M,
-    threads: usize,
+    threads: RoundThreads,
+    gate: &G,
 ) -> Result<Vec<u8>, NoLife>
 where
     M::Log: Sync,
@@ -287,7 +289,7 @@ where
     let mut tally = Tally::none(alloc);
     let names = &script.names;
     let items = script.items.items();
-    let (closed, ran) = run_life(rt, alloc, life, names, items, &mut tally, threads);
+    let (closed, ran) = run_life(rt, alloc, life, names, items, &mut tally, threads, gate);
     let summary = Summary::of(closed.events.items(), tally.commands(), tally.verdicts());
     media.rest(closed.into_volumes());
     match ran {

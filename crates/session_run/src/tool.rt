@@ -13,9 +13,11 @@ ghost use Rattle.session_run.specs.Leaves.{LeavesVolumes};
 ghost use Rattle.session_run.specs.Tool.{Ends, HasMounted, HasWritten, HoldsFront, IsAccepted, IsMemoryLast, IsSized, IsUnread, IsUnrunBy, IsWholeSummary, WritesLast, damage_text, status_of, text_of};
 
 use crate::ending::{Ending, stopped, unopened, unread};
+use crate::round_threads::RoundThreads;
 use crate::run::{count_script, run_script};
 use crate::task::{Task, task_of};
 use disk_core::Media;
+use engine_parts::Gate;
 use script_gen::generate;
 use script_gen::laws::generated_scripts_run;
 use script_source::{take_script, write_all};
@@ -26,13 +28,14 @@ use tx_io::{Failed, Sink, Source};
 use tx_model::Memory;
 
 /// Reads the source, runs its script over the media, and makes the report.
-fn run_source<R: Threads + Wait + Sync, S: Source, K: Sink, M: Media>(
+fn run_source<R: Threads + Wait + Sync, S: Source, K: Sink, M: Media, G: Gate + Sync>(
     rt: &R,
     alloc: Global,
     source: &mut S,
     sink: &mut K,
     media: &mut M,
-    threads: usize,
+    threads: RoundThreads,
+    gate: &G,
 ) -> Ending
 where
     M::Log: Sync,
@@ -55,20 +58,21 @@ where
         Ok(script) => script,
         Err(refusal) => return unread(refusal),
     };
-    match run_script(rt, alloc, &script, sink, media, threads) {
+    match run_script(rt, alloc, &script, sink, media, threads, gate) {
         Ok(()) => Ending::Report,
         Err(stop) => stopped(alloc, stop),
     }
 }
 
 /// Runs the script of a seed and a size over the media, and makes its summary. Reads no source.
-fn run_generated<R: Threads + Wait + Sync, M: Media>(
+fn run_generated<R: Threads + Wait + Sync, M: Media, G: Gate + Sync>(
     rt: &R,
     alloc: Global,
     seed: u32,
     size: u32,
     media: &mut M,
-    threads: usize,
+    threads: RoundThreads,
+    gate: &G,
 ) -> Ending
 where
     M::Log: Sync,
@@ -89,21 +93,22 @@ where
         Ok(script) => script,
         Err(Memory) => return Ending::Memory,
     };
-    match count_script(rt, alloc, &script, media, threads) {
+    match count_script(rt, alloc, &script, media, threads, gate) {
         Ok(text) => Ending::Summary(text),
         Err(refusal) => unopened(alloc, refusal),
     }
 }
 
 /// Does what is asked for.
-fn work<R: Threads + Wait + Sync, S: Source, K: Sink, M: Media>(
+fn work<R: Threads + Wait + Sync, S: Source, K: Sink, M: Media, G: Gate + Sync>(
     rt: &R,
     alloc: Global,
     task: Task,
     source: &mut S,
     sink: &mut K,
     media: &mut M,
-    threads: usize,
+    threads: RoundThreads,
+    gate: &G,
 ) -> Ending
 where
     M::Log: Sync,
@@ -125,8 +130,8 @@ where
     ensures used { HasMounted result → M.is_new media.new ≡ false }
 {
     match task {
-        Task::Run => run_source(rt, alloc, source, sink, media, threads),
-        Task::Gen { seed, size } => run_generated(rt, alloc, seed, size, media, threads),
+        Task::Run => run_source(rt, alloc, source, sink, media, threads, gate),
+        Task::Gen { seed, size } => run_generated(rt, alloc, seed, size, media, threads, gate),
     }
 }
 
@@ -173,14 +178,18 @@ pub fn say_out_of_memory<K: Sink>(sink: &mut K) -> u8
 ///
 /// The words are `run`, or `gen SEED SIZE`, SEED being 1 to 10 decimal digits, from 1 to 2147483646, and SIZE as many,
 /// from 1 to 100,000. `run` reads at most 16,777,217 bytes of the source; for other words none is read.
-pub fn run_tool<R: Threads + Wait + Sync, S: Source, K: Sink, M: Media>(
+///
+/// Each session of a round passes the gate before each critical section of a command, and may be held there. Where a gate
+/// waits for another session of the round, each needs a thread of its own. What is promised holds for every gate.
+pub fn run_tool<R: Threads + Wait + Sync, S: Source, K: Sink, M: Media, G: Gate + Sync>(
     rt: &R,
     alloc: Global,
     words: &[String],
     source: &mut S,
     sink: &mut K,
     media: &mut M,
-    threads: usize,
+    threads: RoundThreads,
+    gate: &G,
 ) -> u8
 where
     M::Log: Sync,
@@ -249,7 +258,7 @@ where
 {
     match task_of(words) {
         Some(task) => {
-            let ending = work(rt, alloc, task, source, sink, media, threads);
+            let ending = work(rt, alloc, task, source, sink, media, threads, gate);
             put_ending(sink, ending)
         }
         None => finish(sink, b"words\n", 2),

@@ -14,6 +14,8 @@ mod dump_tests;
 #[cfg(test)]
 mod freeze_tests;
 #[cfg(test)]
+mod gate_tests;
+#[cfg(test)]
 mod gen_tests;
 #[cfg(test)]
 mod horizon_tests;

@@ -1,6 +1,7 @@
 //! What the tests share: runs of the tool on a script in memory, and what they are held against.
 use disk_core::MemMedia;
-use session_run::run_tool;
+use engine_parts::{Gate, OpenGate};
+use session_run::{RoundThreads, run_tool};
 use std::alloc::AllocGlobal;
 use std::process::Abort;
 use std::sync::Wait;
@@ -18,7 +19,41 @@ pub fn status_of<R: AllocGlobal + Threads + Wait + Sync, S: Source, K: Sink>(
 ) -> u8 {
     let alloc = rt.alloc();
     let mut media = MemMedia::new(alloc);
-    run_tool(rt, alloc, words, source, sink, &mut media, 4)
+    let threads = RoundThreads::AtMost(4);
+    run_tool(
+        rt, alloc, words, source, sink, &mut media, threads, &OpenGate,
+    )
+}
+
+/// The report that a run of the script writes, with status 0, its sessions on such threads and past this gate.
+pub fn report_past<G: Gate + Sync>(
+    rt: &(impl AllocGlobal + Threads + Wait + Sync),
+    script: &str,
+    threads: RoundThreads,
+    gate: &G,
+) -> Result<String, Fail> {
+    let alloc = rt.alloc();
+    let mut words = Vec::new(alloc);
+    words.push(String::from_str(alloc, "run")?)?;
+    let mut source = MemSource::new(Vec::from_slice(alloc, script.as_bytes())?, Vec::new(alloc));
+    let mut sink = MemSink::new(alloc, 100_000, Vec::new(alloc))?;
+    let mut media = MemMedia::new(alloc);
+    let words = words.as_slice();
+    let status = run_tool(
+        rt,
+        alloc,
+        words,
+        &mut source,
+        &mut sink,
+        &mut media,
+        threads,
+        gate,
+    );
+    if status != 0 {
+        return Err(Fail::from("the status isn't 0"));
+    }
+    let held = Vec::from_slice(alloc, sink.held())?;
+    Ok(String::from_utf8(held).ok().ok_or("the report isn't text")?)
 }
 
 /// Runs the tool with these words on a script, into a sink with this room, where these reads fail. Answers the status

@@ -5,17 +5,18 @@
 
 use disk_core::MemMedia;
 use disk_folder::FolderMedia;
-use session_run::{run_tool, say_out_of_memory};
+use engine_parts::OpenGate;
+use session_run::{RoundThreads, run_tool, say_out_of_memory};
 use std::process::ExitCode;
 use std::thread::{Threads, available_parallelism};
 use std::{env, io};
 use tx_io::{StdSink, StdSource};
 
-/// How many threads the sessions of a round share at most: one for each processor.
-fn threads(rt: &impl Threads) -> usize {
+/// The sessions of a round share at most one thread for each processor.
+fn threads(rt: &impl Threads) -> RoundThreads {
     match available_parallelism(rt) {
-        Ok(count) => count.get(),
-        Err(_) => 1,
+        Ok(count) => RoundThreads::AtMost(count.get()),
+        Err(_) => RoundThreads::AtMost(1),
     }
 }
 
@@ -57,6 +58,7 @@ fn main(rt: HostRuntime) -> ExitCode {
             &mut sink,
             &mut FolderMedia::new(rt, rt.alloc(), path),
             threads(&rt),
+            &OpenGate,
         ),
         None => run_tool(
             &rt,
@@ -66,6 +68,7 @@ fn main(rt: HostRuntime) -> ExitCode {
             &mut sink,
             &mut MemMedia::new(rt.alloc()),
             threads(&rt),
+            &OpenGate,
         ),
     };
     ExitCode::from(status)

@@ -1,0 +1,6 @@
+pub mod SameData
+pub mod Noting
+pub mod Noted
+pub mod NotedSteps
+pub mod Families
+pub mod Closings

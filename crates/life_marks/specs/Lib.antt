@@ -1,0 +1,2 @@
+pub mod IdMarks
+pub mod SnapMarks

@@ -1,0 +1,11 @@
+//! What a legal history says of each id that it gave, and of its snapshots, so that a place of the past can be asked. See
+//! docs/CHECKER.md.
+#![tactic(auto)]
+
+mod ids;
+mod mark;
+mod snaps;
+
+pub use ids::{id_marks, was_running};
+pub use mark::IdMark;
+pub use snaps::{SnapMark, snap_mark};

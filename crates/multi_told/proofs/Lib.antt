@@ -1,0 +1,5 @@
+pub mod Nearness
+pub mod Reaching
+pub mod Pinning
+pub mod Shaping
+pub mod Telling

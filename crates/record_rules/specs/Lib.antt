@@ -1,0 +1,5 @@
+pub mod Answered
+pub mod AskedFor
+pub mod Counts
+pub mod Ends
+pub mod Firsts

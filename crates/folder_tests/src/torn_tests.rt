@@ -57,7 +57,11 @@ fn a_folder_has_its_own_number_of_banks_whatever_is_asked_for(rt: HostRuntime) -
         assert_eq!(rt; ends(&mut volumes.log)?, (0, 3));
     }
     for banks in [0, 17] {
-        fs::write(&rt, "folder_banks/banks", [banks, 0, 0, 0, 0, 0, 0, 0].as_slice())?;
+        fs::write(
+            &rt,
+            "folder_banks/banks",
+            [banks, 0, 0, 0, 0, 0, 0, 0].as_slice(),
+        )?;
         assert!(rt; is_refused(rt, path, 2), "{banks}");
     }
     clear(&rt, path)?;

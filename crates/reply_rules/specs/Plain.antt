@@ -8,36 +8,6 @@ use Rattle.tx_model.specs.declared.reply.Reply.TheVariants as replies
 use Rattle.tx_model.specs.Replies.{most_levels}
 use Rattle.tx_model.specs.Stance.{Stance, snap_of}
 
--- what some place of a history has to bear out
-abbrev pub goes_by_places : Command → Reply → Bool
-goes_by_places commands.Write (replies.Wrote ids warn) = true
-goes_by_places commands.Write (replies.Refused (refusals.Stop next stop)) = true
-goes_by_places (commands.Snap name) (replies.Snapped lists) = true
-goes_by_places commands.Horizon (replies.Horizon xmin) = true
-goes_by_places (commands.See name x) (replies.Seen visible) = true
-goes_by_places (commands.See name x) (replies.Refused (refusals.TooOld oldest)) = true
-goes_by_places (commands.Status x) (replies.Known status) = true
-goes_by_places (commands.Status x) (replies.Refused (refusals.Future next)) = true
-goes_by_places (commands.Status x) (replies.Refused (refusals.TooOld oldest)) = true
-goes_by_places (commands.Did x) (replies.Did answer) = true
-goes_by_places (commands.Did x) (replies.Refused (refusals.TooOld oldest)) = true
-goes_by_places (commands.Freeze oldest) (replies.Refused (refusals.Backward now)) = true
-goes_by_places (commands.Freeze oldest) (replies.Refused (refusals.TooNew limit)) = true
-goes_by_places (commands.Multi pairs) (replies.Multi multi offset warn) = true
-goes_by_places (commands.Multi pairs) (replies.Refused (refusals.NotGiven x)) = true
-goes_by_places (commands.Multi pairs) (replies.Refused (refusals.TooOld oldest)) = true
-goes_by_places (commands.Multi pairs) (replies.Refused (refusals.MultiStop next stop)) = true
-goes_by_places (commands.Multi pairs) (replies.Refused (refusals.MemberStop next stop)) = true
-goes_by_places (commands.SeeMulti name m) (replies.Verdicts verdicts) = true
-goes_by_places (commands.SeeMulti name m) (replies.Refused (refusals.NotYet multi)) = true
-goes_by_places (commands.SeeMulti name m) (replies.Refused (refusals.MultiTooOld oldest)) = true
-goes_by_places (commands.SeeMulti name m) (replies.Refused (refusals.MultiFuture next)) = true
-goes_by_places (commands.MultiFreeze multi) replies.Done = true
-goes_by_places (commands.MultiFreeze multi) (replies.Refused (refusals.Backward now)) = true
-goes_by_places (commands.MultiFreeze multi) (replies.Refused (refusals.Held limit)) = true
-goes_by_places (commands.MultiFreeze multi) (replies.Refused (refusals.NotYet next)) = true
-goes_by_places command reply = false
-
 -- how a session stands whose command is answered `ok`
 abbrev pub IsPlainDone : Stance → Command → Type 0
 IsPlainDone s commands.Begin = s.levels ≡ []

@@ -90,3 +90,33 @@ abbrev pub HasNoRoom : Life → ℕ → Type 0
 HasNoRoom life size =
     (2 ^ 40 < life.end + 6 + records_size (drop (life.flushed - life.from) life.recs) + size)
     ⊎ (2 ^ 32 - 1 < records_size (drop (life.flushed - life.from) life.recs) + size)
+
+-- What some place of a history has to bear out. An id below 3 has its answer wherever it is asked.
+abbrev pub goes_by_places : Command → Reply → Bool
+goes_by_places commands.Write (replies.Wrote ids warn) = true
+goes_by_places commands.Write (replies.Refused (refusals.Stop next stop)) = true
+goes_by_places (commands.Snap name) (replies.Snapped lists) = true
+goes_by_places commands.Horizon (replies.Horizon xmin) = true
+goes_by_places (commands.See name x) (replies.Seen visible) = true
+goes_by_places (commands.See name x) (replies.Refused (refusals.TooOld oldest)) = true
+goes_by_places (commands.Status x) (replies.Known status) = nat_lt 2 x
+goes_by_places (commands.Status x) (replies.Refused (refusals.Future next)) = nat_lt 2 x
+goes_by_places (commands.Status x) (replies.Refused (refusals.TooOld oldest)) = nat_lt 2 x
+goes_by_places (commands.Did x) (replies.Did answer) = nat_lt 2 x.number
+goes_by_places (commands.Did x) (replies.Refused (refusals.TooOld oldest)) = nat_lt 2 x.number
+goes_by_places (commands.Freeze oldest) (replies.Refused (refusals.Backward now)) = true
+goes_by_places (commands.Freeze oldest) (replies.Refused (refusals.TooNew limit)) = true
+goes_by_places (commands.Multi pairs) (replies.Multi multi offset warn) = true
+goes_by_places (commands.Multi pairs) (replies.Refused (refusals.NotGiven x)) = true
+goes_by_places (commands.Multi pairs) (replies.Refused (refusals.TooOld oldest)) = true
+goes_by_places (commands.Multi pairs) (replies.Refused (refusals.MultiStop next stop)) = true
+goes_by_places (commands.Multi pairs) (replies.Refused (refusals.MemberStop next stop)) = true
+goes_by_places (commands.SeeMulti name m) (replies.Verdicts verdicts) = true
+goes_by_places (commands.SeeMulti name m) (replies.Refused (refusals.NotYet multi)) = true
+goes_by_places (commands.SeeMulti name m) (replies.Refused (refusals.MultiTooOld oldest)) = true
+goes_by_places (commands.SeeMulti name m) (replies.Refused (refusals.MultiFuture next)) = true
+goes_by_places (commands.MultiFreeze multi) replies.Done = true
+goes_by_places (commands.MultiFreeze multi) (replies.Refused (refusals.Backward now)) = true
+goes_by_places (commands.MultiFreeze multi) (replies.Refused (refusals.Held limit)) = true
+goes_by_places (commands.MultiFreeze multi) (replies.Refused (refusals.NotYet next)) = true
+goes_by_places command reply = false

@@ -38,7 +38,7 @@ use Rattle.tx_model.specs.Stance.{Stance, lacking, snap_of, top_level}
 use Rattle.life_law.specs.DidCommit.{IsRecorded, special_did}
 use Rattle.life_law.specs.Pending.{pending}
 use Rattle.life_law.specs.Refused.{by_standing, first_of, refused_by}
-use Rattle.report_law.specs.Answers.{AreLogFaults, HasNoRoom, can_append, can_ask, can_flush, can_lack_memory, longest_record}
+use Rattle.report_law.specs.Answers.{AreLogFaults, HasNoRoom, can_append, can_ask, can_flush, can_lack_memory, goes_by_places, longest_record}
 use Rattle.report_law.specs.Begun.{Begun}
 use Rattle.report_law.specs.MultiLines.{AreVerdicts, HasMultiEvents, IsHeldBack, IsMemberStop, IsMultiBackward, IsMultiFuture, IsMultiStop, IsMultiTooOld, IsMultiWarned, IsNotGiven, IsNotYet, IsOldMember, IsPinnedOrNext, MayCarry, of_records}
 use Rattle.report_law.specs.Kinds.{BeginAsTold, BeginAsToldMultis, IsAskAt, IsSnapAt}
@@ -262,8 +262,8 @@ IsLogged j before s (commands.Multi pairs) (replies.Multi multi offset warn) =
     ((at : ℕ) × (members : List Member) × Contains j.life.recs (records.Multi multi at members)) ⊎ IsStrayMulti j
 IsLogged j before s command reply = Unit {0}
 
--- a reply that neither a session's standing nor its argument alone brings; what goes by the histories is judged where
--- these are lawful up to the end of the round
+-- a reply that neither a session's standing nor its argument alone brings; what goes by places of the histories is judged
+-- where these are lawful up to the end of the round
 abbrev pub IsLawfulReply : Type 0 → Judged → List Line → RoundSpan → RoundSpan → By → Stance → Command → Reply → Type 0
 IsLawfulReply judged j before round multi_round by s command (replies.Refused refusals.Memory) = IsTrue (can_lack_memory command)
 IsLawfulReply judged j before round multi_round by s command (replies.Refused (refusals.DiskFault lock)) = IsTrue (can_ask command lock)
@@ -276,7 +276,7 @@ IsLawfulReply judged j before round multi_round by s command (replies.Refused (r
     IsTrue (can_append command) × (at ≡ j.life.flushed) × AreLogFaults (lines_of j) j.steps
 IsLawfulReply judged j before round multi_round by s commands.Trim replies.Done = Unit {0}
 IsLawfulReply judged j before round multi_round by s command reply =
-    judged → IsLawfulByHistory j before round multi_round by s command reply
+    (IsTrue (goes_by_places command reply) → judged) → IsLawfulByHistory j before round multi_round by s command reply
 
 -- These events are those of the command's reply, and the command's begin with such. One that comes behind them, or has
 -- other words, is unlawful by itself.

@@ -29,15 +29,15 @@ later i n k ks q s = let e = s.1 in (suc s.0, omega arith, s.2)
 
 from_at : (i n : ℕ) (ks : List ℕ) (q : ℕ) → Contains (places_from i n ks) q → StandsFrom i n ks q
 from_at i n [] q c = let b = c.1 in absurd (omega arith)
-from_at i n (k ∷ ks) q c = one (k == i) refl c
+from_at i n (k ∷ ks) q c = one (λ r. from_at i (n + 1) ks q r) (k == i) refl c
   where
-    first : (k == i) ≡ true → (j : ℕ) → j < length (n ∷ places_from i (n + 1) ks) → get_or (n ∷ places_from i (n + 1) ks) j q ≡ q → StandsFrom i n (k ∷ ks) q
-    first is zero b e = let z : q ≡ n + 0 = omega arith in (0, z, ap (λ (x : ℕ). Some x) (eqb-true k i is))
-    first is (suc j) b e = later i n k ks q (from_at i (n + 1) ks q (j, omega arith, e))
+    first : (Contains (places_from i (n + 1) ks) q → StandsFrom i (n + 1) ks q) → (k == i) ≡ true → (j : ℕ) → j < length (n ∷ places_from i (n + 1) ks) → get_or (n ∷ places_from i (n + 1) ks) j q ≡ q → StandsFrom i n (k ∷ ks) q
+    first rest is zero b e = let z : q ≡ n + 0 = omega arith in (0, z, ap (λ (x : ℕ). Some x) (eqb-true k i is))
+    first rest is (suc j) b e = later i n k ks q (rest (j, omega arith, e))
 
-    one : (t : Bool) → (k == i) ≡ t → Contains (cond t (n ∷ places_from i (n + 1) ks) (places_from i (n + 1) ks)) q → StandsFrom i n (k ∷ ks) q
-    one true is c = first is c.0 c.1 c.2
-    one false is c = later i n k ks q (from_at i (n + 1) ks q c)
+    one : (Contains (places_from i (n + 1) ks) q → StandsFrom i (n + 1) ks q) → (t : Bool) → (k == i) ≡ t → Contains (cond t (n ∷ places_from i (n + 1) ks) (places_from i (n + 1) ks)) q → StandsFrom i n (k ∷ ks) q
+    one rest true is c = first rest is c.0 c.1 c.2
+    one rest false is c = later i n k ks q (rest c)
 
 module _ (lines : List LineAt) (i : ℕ) (by : By) (order : AreInOrder (bys_of lines)) (line : slice_get (bys_of lines) i ≡ Some by) where
   its_number : (bys : List By) (p : ℕ) → slice_get bys p ≡ Some by → slice_get (map (number_of lines) bys) p ≡ Some i
@@ -55,9 +55,10 @@ module _ (lines : List LineAt) (i : ℕ) (by : By) (order : AreInOrder (bys_of l
   -- those that the line's number tells are exactly these
   pub its_places : (bys : List By) (p : ℕ) → (slice_get bys p ≡ Some by) ↔ Contains (places_of i (numbered lines bys).numbers) p
   its_places bys p = (
-    λ e. at_from i 0 (map (number_of lines) bys) p (its_number bys p e),
+    λ e. let z : 0 + p ≡ p = omega arith in subst (λ (q : ℕ). Contains (places_of i (map (number_of lines) bys)) q) z (at_from i 0 (map (number_of lines) bys) p (its_number bys p e)),
     λ c.
         let s = from_at i 0 (map (number_of lines) bys) p c in
-        let z : p ≡ s.0 = s.1 in
+        let e = s.1 in
+        let z : p ≡ s.0 = omega arith in
         by_number bys p (subst (λ (q : ℕ). slice_get (map (number_of lines) bys) q ≡ Some i) (sym z) s.2),
   )

@@ -13,12 +13,6 @@ use Rattle.multi_told.specs.Shapes.{AnyPlace, ArePlacesOf, IsPinNear}
 
 -- ---- places
 
-entry_at : (places : List ℕ) (i p : ℕ) → i < length places → p ≡ get_or places i p → Contains places p
-entry_at places i p l e = (i, l, sym e)
-
-pub place_own : (by : By) (bys : List By) (places : List ℕ) (i p : ℕ) → ArePlacesOf by bys places → i < length places → p ≡ get_or places i p → slice_get bys p ≡ Some by
-place_own by bys places i p are l e = (are p).1 (entry_at places i p l e)
-
 any_at : (P : ℕ → Type 0) (places : List ℕ) (k p : ℕ) → k < length places → get_or places k p ≡ p → P p → AnyPlace P places
 any_at P [] k p l e y = absurd (omega arith)
 any_at P (q ∷ places) zero p l e y = inl (subst P (sym e) y)

@@ -144,8 +144,8 @@ none_at (x ∷ limits) zero e = absurd cc
 none_at (x ∷ limits) (suc k) e = let r = none_at limits k e in omega arith
 
 module _ (limits : List LimitAt) (n from to first : ℕ) (order : AreInOrder limits)
-  (below : (k : ℕ) (d : LimitAt) → 0 ≤ k → k < first → is_before n from (slice_index_or limits k d) ≡ true)
-  (behind : (k : ℕ) (d : LimitAt) → first ≤ k → k < length limits → is_before n from (slice_index_or limits k d) ≡ false) where
+    (below : (k : ℕ) (d : LimitAt) → 0 ≤ k → k < first → is_before n from (slice_index_or limits k d) ≡ true)
+    (behind : (k : ℕ) (d : LimitAt) → first ≤ k → k < length limits → is_before n from (slice_index_or limits k d) ≡ false) where
   -- one that is sought isn't before the first
   sought_at : IsLimitWithin limits n from to → (k : ℕ) × (d : LimitAt) × (first ≤ k) × (k < length limits) × ((get_or limits k d).limit ≡ n) × (from ≤ (get_or limits k d).place) × ((get_or limits k d).place ≤ to)
   sought_at z =
@@ -155,11 +155,11 @@ module _ (limits : List LimitAt) (n from to first : ℕ) (order : AreInOrder lim
       let p : (get_or limits k at).place ≡ at.place = ap (λ (x : LimitAt). x.place) same in
       let b = z.3 in let c = z.4 in
       let from_first : first ≤ k = ⊎_elim
-          (λ (u : k < first).
-          let t = before_yes n from (get_or limits k at).limit (get_or limits k at).place (below k at (omega arith) u) in
-          ⊎_elim (λ (v : (get_or limits k at).limit < n). absurd (omega arith)) (λ (v : ((get_or limits k at).limit ≡ n) × ((get_or limits k at).place < from)). let w = v.1 in absurd (omega arith)) t)
-          (λ (u : first ≤ k). u)
-          (cases_lt k first) in
+      (λ (u : k < first).
+      let t = before_yes n from (get_or limits k at).limit (get_or limits k at).place (below k at (omega arith) u) in
+      ⊎_elim (λ (v : (get_or limits k at).limit < n). absurd (omega arith)) (λ (v : ((get_or limits k at).limit ≡ n) × ((get_or limits k at).place < from)). let w = v.1 in absurd (omega arith)) t)
+      (λ (u : first ≤ k). u)
+      (cases_lt k first) in
       (k, at, from_first, z.1.1, a, omega arith, omega arith)
 
   pub within_iff : (at : LimitAt) → slice_get limits first ≡ Some at → ((at.limit ≡ n) × (at.place ≤ to)) ↔ IsLimitWithin limits n from to
@@ -169,9 +169,9 @@ module _ (limits : List LimitAt) (n from to first : ℕ) (order : AreInOrder lim
         λ z.
             let l = z.0 in
             let late : from ≤ at.place = ⊎_elim
-                (λ (u : at.place < from). absurd (false≢true (sym out ∙ before_is n from at.limit at.place (inr (l, u)))))
-                (λ (u : from ≤ at.place). u)
-                (cases_lt at.place from) in
+            (λ (u : at.place < from). absurd (false≢true (sym out ∙ before_is n from at.limit at.place (inr (l, u)))))
+            (λ (u : from ≤ at.place). u)
+            (cases_lt at.place from) in
             (at, (first, g.0, g.1), l, late, z.1),
         λ w.
             let s = sought_at w in
